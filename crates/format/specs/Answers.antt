@@ -1,0 +1,66 @@
+-- The paper's number and values for each case of an answer.
+use Prim.Native.Nat.{ℕ, _*_}
+use mathlib.Core.Bool.{Bool, true, false}
+use mathlib.Core.Option.{Option, none, some}
+use mathlib.Core.List.{List, [], _∷_, _++_}
+use lib.ListN.{length}
+use lib.IntN.{ℤ, pos}
+use mir.Syntax.{w64}
+use mir.Val.{ofZ}
+use Rattle.format.specs.declared.Frame.{Frame}
+use Rattle.format.specs.declared.Frame.the-variants.{Unset, Register}
+use Rattle.format.specs.declared.Rule.{Rule}
+use Rattle.format.specs.declared.Rule.the-variants.{Unstated, Undefined, Saved}
+use Rattle.format.specs.declared.Reading.{Reading}
+use Rattle.format.specs.declared.Reading.the-variants as reading
+use Rattle.format.specs.declared.Outcome.{Outcome}
+use Rattle.format.specs.declared.Outcome.the-variants as outcome
+use Rattle.format.specs.declared.Counts.{Counts}
+use Rattle.format.specs.Writer.{Written}
+use Rattle.format.specs.Lists.{numbersOf}
+use Rattle.format.specs.Put.{put}
+use Rattle.format.specs.Questions.{Answer, refused, empty, accepted}
+
+-- ---- the reader: number (0: answered), frame (0 none, 1 register plus offset), its register and offset, rule (0 unstated, 1 undefined,
+-- 2 saved), its offset, signing. Offsets are 64-bit two's complement; a field without meaning is 0.
+
+unfoldable pub frameNumbers : Frame → List ℕ
+frameNumbers Unset = 0 ∷ 0 ∷ 0 ∷ []
+frameNumbers (Register reg z) = 1 ∷ reg ∷ ofZ w64 z ∷ []
+
+unfoldable pub ruleNumbers : Rule → List ℕ
+ruleNumbers Unstated = 0 ∷ 0 ∷ []
+ruleNumbers Undefined = 1 ∷ 0 ∷ []
+ruleNumbers (Saved z) = 2 ∷ ofZ w64 z ∷ []
+
+unfoldable pub bit : Bool → ℕ
+bit false = 0
+bit true = 1
+
+unfoldable pub readingNumbers : Reading → List ℕ
+readingNumbers (reading.Rules c r s) = 0 ∷ (frameNumbers c ++ (ruleNumbers r ++ (bit s ∷ [])))
+readingNumbers (reading.Refused n) = n ∷ 0 ∷ 0 ∷ 0 ∷ 0 ∷ 0 ∷ 0 ∷ []
+
+-- ---- the writers: number (0: accepted), position, and the counts of header places (or markers), bytes, relocations and call-site (or x64 info) bytes
+
+unfoldable pub outcomeNumbers : Outcome → List ℕ
+outcomeNumbers (outcome.Accepted c) = 0 ∷ 0 ∷ c .places ∷ c .bytes ∷ c .relocations ∷ c .sites ∷ []
+outcomeNumbers outcome.Empty = 0 ∷ 0 ∷ 0 ∷ 0 ∷ 0 ∷ 0 ∷ []
+outcomeNumbers (outcome.Refused n k) = n ∷ k ∷ 0 ∷ 0 ∷ 0 ∷ 0 ∷ []
+
+-- what a writer's function answers, by what the definition answers
+unfoldable pub outcomeOf : Answer → Outcome
+outcomeOf (refused n k) = outcome.Refused n k
+outcomeOf empty = outcome.Empty
+outcomeOf (accepted w) =
+    outcome.Accepted (record { places = length (w .places); bytes = length (w .bytes); relocations = length (w .relocations); sites = length (w .sites) })
+
+-- what a lent buffer holds at exit: on acceptance the result at its front and the rest as it was; else it is unchanged
+unfoldable pub afterwards : (Written → List ℕ) → Answer → List ℕ → List ℕ
+afterwards part (refused n k) old = old
+afterwards part empty old = old
+afterwards part (accepted w) old = put old 0 (part w)
+
+-- the relocations as numbers, five each
+unfoldable pub relocationNumbers : Written → List ℕ
+relocationNumbers w = numbersOf (w .relocations)

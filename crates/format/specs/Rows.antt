@@ -1,0 +1,203 @@
+-- A row's operation in bytes and back (DWARF 5, 6.4.2 and 7.24). Code alignment factor 1, data alignment factor minus word.
+use Prim.Native.Nat.{ℕ, zero, suc, _+_, _-_, _*_, _/_, _%_, _^_}
+use mathlib.Core.Bool.{Bool, true, false, _&&_}
+use mathlib.Core.Option.{Option, none, some}
+use mathlib.Core.List.{List, [], _∷_, _++_}
+use lib.Dec.{leb, ltb, eqb}
+use lib.IntN.{ℤ, pos, negsuc, negℤ, natAbs}
+use Rattle.format.specs.Test.{pick, Read, next}
+use Rattle.format.specs.Leb.{little, readLittle, uleb, sleb, readUleb, readSleb, fits64}
+use Rattle.format.specs.declared.Row.{Row}
+use Rattle.format.specs.declared.Row.the-variants.{DefCfa, DefCfaOffset, DefCfaRegister, Offset, Restore, Undefined, RememberState, RestoreState, NegateRaState}
+use Rattle.format.specs.declared.Operation.{Operation}
+use Rattle.format.specs.declared.Operation.the-variants.{Nop, Step, Does}
+
+-- a row at its offset from the function's start
+abbrev pub Line : Type 0
+Line = ℕ × Row
+
+-- ---- the writer
+
+-- z divided by minus w (DWARF 5, 6.4.1: data_alignment_factor)
+unfoldable pub factor : ℕ → ℤ → ℤ
+factor w (pos n) = negℤ (pos (n / w))
+factor w (negsuc n) = pos (suc n / w)
+
+-- DW_CFA_def_cfa and DW_CFA_def_cfa_offset (6.4.2.2): plain where the offset is not negative, else the form that is signed and factored
+unfoldable pub cfaBytes : ℕ → (plain sf : ℕ) → List ℕ → ℤ → List ℕ
+cfaBytes w plain sf reg (pos n) = plain ∷ (reg ++ uleb n)
+cfaBytes w plain sf reg (negsuc n) = sf ∷ (reg ++ sleb (factor w (negsuc n)))
+
+-- a register to 63 rides in the opcode (7.24, figure 39: high two bits), else it follows
+unfoldable pub withRegister : (short long : ℕ) → ℕ → List ℕ → List ℕ
+withRegister short long reg bs = pick (leb reg 63) ((short + reg) ∷ bs) (long ∷ (uleb reg ++ bs))
+
+-- DW_CFA_offset, DW_CFA_offset_extended and, above the frame address, DW_CFA_offset_extended_sf (6.4.2.3), of a factored offset
+unfoldable pub savedBytes : ℕ → ℤ → List ℕ
+savedBytes reg (pos n) = withRegister 0x80 0x05 reg (uleb n)
+savedBytes reg (negsuc n) = 0x11 ∷ (uleb reg ++ sleb (negsuc n))
+
+-- a row's operation; 0x2d is AArch64's DW_CFA_AARCH64_negate_ra_state (DWARF for AArch64, 5)
+unfoldable pub rowBytes : ℕ → Row → List ℕ
+rowBytes w (DefCfa reg z) = cfaBytes w 0x0c 0x12 (uleb reg) z
+rowBytes w (DefCfaOffset z) = cfaBytes w 0x0e 0x13 [] z
+rowBytes w (DefCfaRegister reg) = 0x0d ∷ uleb reg
+rowBytes w (Offset reg z) = savedBytes reg (factor w z)
+rowBytes w (Restore reg) = withRegister 0xc0 0x06 reg []
+rowBytes w (Undefined reg) = 0x07 ∷ uleb reg
+rowBytes w RememberState = 0x0a ∷ []
+rowBytes w RestoreState = 0x0b ∷ []
+rowBytes w NegateRaState = 0x2d ∷ []
+
+-- The forms of a step (DWARF 5, 6.4.2.1; document 01, "Record"): how many bytes of operand follow the opcode.
+-- DW_CFA_advance_loc holds its number in the opcode; 1, 2 and 4 are advance_loc1, advance_loc2 and advance_loc4.
+unfoldable pub stepIn : ℕ → ℕ → List ℕ
+stepIn zero n = (0x40 + n) ∷ []
+stepIn (suc zero) n = 0x02 ∷ little 1 n
+stepIn (suc (suc zero)) n = 0x03 ∷ little 2 n
+stepIn (suc (suc (suc k))) n = 0x04 ∷ little 4 n
+
+-- the shortest form that holds n
+unfoldable pub stepForm : ℕ → ℕ
+stepForm n = pick (leb n 0x3f) 0 (pick (leb n 0xff) 1 (pick (leb n 0xffff) 2 4))
+
+-- a step of 0 writes nothing
+unfoldable pub stepBytes : ℕ → List ℕ
+stepBytes n = pick (eqb n 0) [] (stepIn (stepForm n) n)
+
+-- rows with the steps between them, from the offset `at` on
+unfoldable pub linesBytes : ℕ → ℕ → List Line → List ℕ
+linesBytes w at [] = []
+linesBytes w at (x ∷ xs) = stepBytes (x .0 - at) ++ (rowBytes w (x .1) ++ linesBytes w (x .0) xs)
+
+-- rows without steps, as a header has them
+unfoldable pub rowsBytes : ℕ → List Row → List ℕ
+rowsBytes w [] = []
+rowsBytes w (r ∷ rs) = rowBytes w r ++ rowsBytes w rs
+
+-- ---- the reader
+
+-- z times minus w
+unfoldable pub unfactor : ℕ → ℤ → ℤ
+unfactor w (pos n) = negℤ (pos (n * w))
+unfactor w (negsuc n) = pos (suc n * w)
+
+-- a register to 65,535
+unfoldable pub readRegister : List ℕ → Read ℕ
+readRegister bs = next (readUleb bs) λ v r. pick (leb v 0xffff) (some (v, r)) none
+
+-- an offset in signed 64 bits
+unfoldable pub inRange : ℤ → List ℕ → Read ℤ
+inRange z r = pick (fits64 z) (some (z, r)) none
+
+-- an offset as it stands; factored, unsigned; factored, signed
+unfoldable pub readOffset : List ℕ → Read ℤ
+readOffset bs = next (readUleb bs) λ v r. inRange (pos v) r
+
+unfoldable pub readFactored : ℕ → List ℕ → Read ℤ
+readFactored w bs = next (readUleb bs) λ v r. inRange (unfactor w (pos v)) r
+
+unfoldable pub readSigned : ℕ → List ℕ → Read ℤ
+readSigned w bs = next (readSleb bs) λ v r. inRange (unfactor w v) r
+
+-- an operation of one operand, and a row of a register and an offset
+unfoldable pub one : {A : Type 0} → Read A → (A → Operation) → Read Operation
+one a f = next a λ v r. some (f v, r)
+
+unfoldable pub two : (List ℕ → Read ℤ) → (ℕ → ℤ → Row) → List ℕ → Read Operation
+two read f bs = next (readRegister bs) λ reg r. one (read r) λ z. Does (f reg z)
+
+-- the operations below 0x40 (7.24, table 7.29), those that the source writes (document 01, question 66)
+unfoldable pub readExtended : ℕ → ℕ → List ℕ → Read Operation
+readExtended w b bs =
+    pick (eqb b 0x00) (some (Nop, bs))
+    (pick (eqb b 0x02) (one (readLittle 1 bs) Step)
+    (pick (eqb b 0x03) (one (readLittle 2 bs) Step)
+    (pick (eqb b 0x04) (one (readLittle 4 bs) Step)
+    (pick (eqb b 0x05) (two (readFactored w) Offset bs)
+    (pick (eqb b 0x06) (one (readRegister bs) λ reg. Does (Restore reg))
+    (pick (eqb b 0x07) (one (readRegister bs) λ reg. Does (Undefined reg))
+    (pick (eqb b 0x0a) (some (Does RememberState, bs))
+    (pick (eqb b 0x0b) (some (Does RestoreState, bs))
+    (pick (eqb b 0x0c) (two readOffset DefCfa bs)
+    (pick (eqb b 0x0d) (one (readRegister bs) λ reg. Does (DefCfaRegister reg))
+    (pick (eqb b 0x0e) (one (readOffset bs) λ z. Does (DefCfaOffset z))
+    (pick (eqb b 0x11) (two (readSigned w) Offset bs)
+    (pick (eqb b 0x12) (two (readSigned w) DefCfa bs)
+    (pick (eqb b 0x13) (one (readSigned w bs) λ z. Does (DefCfaOffset z))
+    (pick (eqb b 0x2d) (some (Does NegateRaState, bs)) none)))))))))))))))
+
+-- one operation; the high two bits of the opcode tell the short forms (7.24)
+unfoldable pub readOperation : ℕ → List ℕ → Read Operation
+readOperation w [] = none
+readOperation w (b ∷ bs) =
+    pick (ltb b 0x40) (readExtended w b bs)
+    (pick (ltb b 0x80) (some (Step (b - 0x40), bs))
+    (pick (ltb b 0xc0) (one (readFactored w bs) λ z. Does (Offset (b - 0x80) z)) (some (Does (Restore (b - 0xc0)), bs))))
+
+-- ---- question 24: what a factored form can hold
+
+-- a multiple of the word
+unfoldable pub whole : ℕ → ℤ → Bool
+whole w z = eqb (natAbs z % w) 0
+
+-- a negative offset is factored, another is not
+unfoldable pub wholeBelow : ℕ → ℤ → Bool
+wholeBelow w (pos n) = true
+wholeBelow w (negsuc n) = whole w (negsuc n)
+
+-- each Offset, and each negative DefCfa or DefCfaOffset, is a multiple of the word
+unfoldable pub rowWhole : ℕ → Row → Bool
+rowWhole w (DefCfa reg z) = wholeBelow w z
+rowWhole w (DefCfaOffset z) = wholeBelow w z
+rowWhole w (DefCfaRegister reg) = true
+rowWhole w (Offset reg z) = whole w z
+rowWhole w (Restore reg) = true
+rowWhole w (Undefined reg) = true
+rowWhole w RememberState = true
+rowWhole w RestoreState = true
+rowWhole w NegateRaState = true
+
+-- two rows are equal
+unfoldable pub sameOffset : ℤ → ℤ → Bool
+sameOffset (pos a) (pos b) = eqb a b
+sameOffset (pos a) (negsuc b) = false
+sameOffset (negsuc a) (pos b) = false
+sameOffset (negsuc a) (negsuc b) = eqb a b
+
+-- a row's kind by its place in document 01's list, its register (or 0) and its offset (or 0)
+unfoldable pub kindOf : Row → ℕ
+kindOf (DefCfa reg z) = 0
+kindOf (DefCfaOffset z) = 1
+kindOf (DefCfaRegister reg) = 2
+kindOf (Offset reg z) = 3
+kindOf (Restore reg) = 4
+kindOf (Undefined reg) = 5
+kindOf RememberState = 6
+kindOf RestoreState = 7
+kindOf NegateRaState = 8
+
+unfoldable pub regOf : Row → ℕ
+regOf (DefCfa reg z) = reg
+regOf (DefCfaOffset z) = 0
+regOf (DefCfaRegister reg) = reg
+regOf (Offset reg z) = reg
+regOf (Restore reg) = reg
+regOf (Undefined reg) = reg
+regOf RememberState = 0
+regOf RestoreState = 0
+regOf NegateRaState = 0
+
+unfoldable pub offsetOf : Row → ℤ
+offsetOf (DefCfa reg z) = z
+offsetOf (DefCfaOffset z) = z
+offsetOf (DefCfaRegister reg) = pos 0
+offsetOf (Offset reg z) = z
+offsetOf (Restore reg) = pos 0
+offsetOf (Undefined reg) = pos 0
+offsetOf RememberState = pos 0
+offsetOf RestoreState = pos 0
+offsetOf NegateRaState = pos 0
+
+unfoldable pub sameRow : Row → Row → Bool
+sameRow a b = eqb (kindOf a) (kindOf b) && eqb (regOf a) (regOf b) && sameOffset (offsetOf a) (offsetOf b)
