@@ -1,0 +1,2 @@
+-- The laws of the definitions.
+pub mod Cases
