@@ -1,2 +1,4 @@
 -- The laws of the definitions.
 pub mod Cases
+pub mod Choice
+pub mod LebBack

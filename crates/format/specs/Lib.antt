@@ -4,6 +4,7 @@ pub mod Put
 pub mod Leb
 pub mod Machine
 pub mod Rows
+pub mod Positions
 pub mod Lists
 pub mod Headers
 pub mod CallSites
