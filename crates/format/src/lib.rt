@@ -15,10 +15,8 @@ pub struct Machine {
     pub map: [u8; 64],
 }
 
-// The integer registers of x86-64 by DWARF number: rax rdx rcx rbx rsi rdi rbp rsp, r8 to r15 (System V psABI, figure 3.36).
-pub const INTEGERS: [u8; 16] = [0, 2, 1, 3, 6, 7, 5, 4, 8, 9, 10, 11, 12, 13, 14, 15];
-
 impl Machine {
+    // The map: DWARF 0 to 15 are rax rdx rcx rbx rsi rdi rbp rsp and r8 to r15 (System V psABI, figure 3.36), 17 to 32 the vectors.
     pub const X86_64: Machine = Machine {
         word: 8,
         pushed: 8,
