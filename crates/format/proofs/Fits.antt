@@ -1,0 +1,40 @@
+-- What an accepted list is known to be: the facts that the laws of a section start from.
+use mathlib.Core.Path.{_≡_}
+use Prim.Native.Nat.{ℕ, _+_, _%_, _^_, _≤_, _<_}
+use mathlib.Core.List.{List, [], _∷_}
+use lib.ListN.{length}
+use lib.Dec.{T}
+use Rattle.format.specs.declared.Machine.{Machine}
+use Rattle.format.specs.Machine.{isWord}
+use Rattle.format.specs.Lists.{Function, mostFunctions, mostRecords}
+use Rattle.format.specs.Writer.{Section}
+use Rattle.format.specs.Questions.{sizeBytes, encodingsOk}
+use Rattle.format.proofs.WalkBack.{LinesOk}
+
+-- question 11, as far as the tables go
+pub record MachineFits (m : Machine) : Type 0 where
+  pub is-word : T (isWord (m .word))
+  pub stack-small : m .stack < 65536
+  pub ret-small : m .ret < 65536
+  pub pushed-small : m .pushed < 2 ^ 31
+  pub pushed-whole : m .pushed % m .word ≡ 0
+
+-- questions 21 to 24 of a function, as the section takes it, with the rows' operands in their fields
+pub record FunctionFits (s : Section) (m : Machine) (f : Function) : Type 0 where
+  pub size-small : f .size < 256 ^ sizeBytes s (m .word)
+  pub encodings : T (encodingsOk (m .word) (f .landings) (f .named))
+  pub lines : LinesOk (m .word) 0 (f .rows)
+
+abbrev pub AllFit : Section → Machine → List Function → Type 0
+AllFit s m [] = Unit {0}
+AllFit s m (f ∷ fs) = FunctionFits s m f × AllFit s m fs
+
+-- rows summed over the functions
+unfoldable pub lineCount : List Function → ℕ
+lineCount [] = 0
+lineCount (f ∷ fs) = length (f .rows) + lineCount fs
+
+-- question 13: counts
+pub record Bounded (fs : List Function) : Type 0 where
+  pub functions : length fs ≤ mostFunctions
+  pub lines : lineCount fs ≤ mostRecords

@@ -1,0 +1,139 @@
+-- Walking the bytes of rows runs the rows.
+use mathlib.Core.Path.{_≡_, refl, ap, _∙_}
+use Prim.Native.Nat.{ℕ, zero, suc, _+_, _-_, _^_, _≤_, _<_}
+use native.Mathlib.Omega.{arith}
+use native.Mathlib.Nat.{le-refl}
+use mathlib.Core.Bool.{Bool, true, false}
+use mathlib.Core.Option.{some}
+use mathlib.Core.List.{List, [], _∷_, _++_, append-assoc}
+use lib.ListN.{length, replicate, length-append, length-replicate}
+use lib.Dec.{leb}
+use Rattle.format.specs.Test.{pick, Result, good, bad, onward}
+use Rattle.format.specs.declared.Row.{Row}
+use Rattle.format.specs.declared.Rule.{Rule}
+use Rattle.format.specs.declared.Operation.{Operation}
+use Rattle.format.specs.declared.Operation.the-variants.{Step, Does}
+use Rattle.format.specs.Rows.{Line, rowBytes, stepBytes, linesBytes, rowsBytes, readExtended, readOperation}
+use Rattle.format.specs.Rules.{Run, act, actAll, while}
+use Rattle.format.specs.Reader.{perform, whenRead, walkF, walk}
+use Rattle.format.proofs.Choice.{if-le, if-gt, either}
+use Rattle.format.proofs.RowBack.{RowFits, row-back, steps-back, step-none}
+
+-- ---- which rows are written
+
+-- offsets from `at` on that do not fall, with steps that 32 bits hold
+abbrev pub LinesOk : ℕ → ℕ → List Line → Type 0
+LinesOk w at [] = Unit
+LinesOk w at (x ∷ xs) = (at ≤ x .0) × (x .0 - at < 2 ^ 32) × RowFits w (x .1) × LinesOk w (x .0) xs
+
+abbrev pub RowsOk : ℕ → List Row → Type 0
+RowsOk w [] = Unit
+RowsOk w (r ∷ rs) = RowFits w r × RowsOk w rs
+
+-- ---- one operation
+
+pub onward-ext : {A B : Type 0} (a : Result A) (k l : A → Result B) → ((t : A) → k t ≡ l t) → onward a k ≡ onward a l
+unfolding onward
+onward-ext (good a) k l h = h a
+onward-ext (bad n) k l h = refl
+
+pub pick-over : {A B : Type 0} (f : A → B) (b : Bool) (x y : A) → pick b (f x) (f y) ≡ f (pick b x y)
+unfolding pick
+pick-over f true x y = refl
+pick-over f false x y = refl
+
+-- the bytes e are read as op, whatever follows
+abbrev Reads : ℕ → List ℕ → Operation → Type 0
+Reads w e op = (rest : List ℕ) → readOperation w (e ++ rest) ≡ some (op, rest)
+
+reads-long : (w : ℕ) (e : List ℕ) (op : Operation) → Reads w e op → 1 ≤ length e
+unfolding readOperation
+reads-long w [] op h = let e = h [] in let z : _≡_ {A = ℕ} 0 1 = cc in omega arith
+reads-long w (b ∷ e) op h = omega arith
+
+module _ (header : Bool) (w p q : ℕ) (init : Rule) where
+  abbrev go : ℕ → ℕ → Run → List ℕ → Result Run
+  go = walkF header w p q init
+
+  walk-op : (f loc : ℕ) (s : Run) (bs : List ℕ) (op : Operation) (r : List ℕ) → readOperation w bs ≡ some (op, r)
+      → go (suc f) loc s bs ≡ perform header p q init op loc s λ loc′ t. go f loc′ t r
+  unfolding walkF whenRead readOperation
+  walk-op f loc s [] op r e = cc
+  walk-op f loc s (b ∷ bs) op r e = rw e
+
+  walk-pad : (n f loc : ℕ) (s : Run) → n ≤ f → go f loc s (replicate n 0) ≡ good s
+  unfolding walkF whenRead readOperation readExtended perform pick
+  walk-pad zero zero loc s h = refl
+  walk-pad zero (suc f) loc s h = refl
+  walk-pad (suc n) zero loc s h = absurd (omega arith)
+  walk-pad (suc n) (suc f) loc s h = walk-pad n f loc s (omega arith)
+
+  -- what a walk of ys finds from loc on
+  abbrev Finds : ℕ → List ℕ → (Run → Result Run) → Type 0
+  Finds loc ys k = (f : ℕ) (s : Run) → length ys ≤ f → go f loc s ys ≡ k s
+
+  -- bytes that are read as op, in front of ys
+  walk-one : (e ys : List ℕ) (op : Operation) (loc : ℕ) (k : Run → Result Run) → Reads w e op
+      → ((f : ℕ) (s : Run) → length ys ≤ f → perform header p q init op loc s (λ loc′ t. go f loc′ t ys) ≡ k s) → Finds loc (e ++ ys) k
+  walk-one e ys op loc k h c zero s len = absurd (omega (arith, length-append e ys, reads-long w e op h))
+  walk-one e ys op loc k h c (suc f) s len =
+      walk-op f loc s (e ++ ys) op ys (h ys) ∙ c f s (omega (arith, length-append e ys, reads-long w e op h))
+
+  walk-row : (r : Row) (loc : ℕ) (ys : List ℕ) (k : Run → Result Run) → RowFits w r → Finds loc ys k
+      → Finds loc (rowBytes w r ++ ys) (λ s. onward (act header q init r s) k)
+  unfolding perform
+  walk-row r loc ys k ok h =
+      walk-one (rowBytes w r) ys (Does r) loc _ (λ rest. row-back w r rest ok) λ f s len. onward-ext (act header q init r s) _ k λ t. h f t len
+
+  walk-rows : (rs : List Row) (n loc : ℕ) → RowsOk w rs → Finds loc (rowsBytes w rs ++ replicate n 0) (actAll header q init rs)
+  unfolding rowsBytes actAll
+  walk-rows [] n loc ok = λ f s len. walk-pad n f loc s (omega (arith, length-replicate {A = ℕ} n 0))
+  walk-rows (r ∷ rs) n loc ok =
+      rw append-assoc (walk-row r loc (rowsBytes w rs ++ replicate n 0) (actAll header q init rs) (ok .0) (walk-rows rs n loc (ok .1)))
+
+module _ (w p q : ℕ) (init : Rule) where
+  -- a step to `to`, not before loc, in front of what is known from `to` on
+  module _ (loc to : ℕ) (ys : List ℕ) (k : Run → Result Run) (hl : loc ≤ to) (ht : to - loc < 2 ^ 32) (hp : loc ≤ p) (h : to ≤ p → Finds false w p q init to ys k) where
+    some-step : 0 < to - loc → Finds false w p q init loc (stepBytes (to - loc) ++ ys) (λ s. pick (leb to p) (k s) (good s))
+    unfolding perform pick
+    some-step l =
+        walk-one false w p q init (stepBytes (to - loc)) ys (Step (to - loc)) loc _ (λ rest. steps-back w (to - loc) rest l ht) λ f s len.
+        let there : loc + (to - loc) ≡ to = omega arith in
+        rw there
+        (either to p (λ a. rw (h a f s len))
+        (λ b. rw (if-gt to p (go false w p q init f to s ys) (good s) b, if-gt to p (k s) (good s) b)))
+
+    no-step : to - loc ≡ 0 → Finds false w p q init loc (stepBytes (to - loc) ++ ys) (λ s. pick (leb to p) (k s) (good s))
+    no-step l f s len =
+        let here : loc ≡ to = omega arith in
+        let near : to ≤ p = omega arith in
+        let none′ : stepBytes (to - loc) ≡ [] = ap stepBytes l ∙ step-none in
+        rw (none′, if-le to p) (rw here (h near f s (rw none′ at len)))
+
+    walk-step : Finds false w p q init loc (stepBytes (to - loc) ++ ys) (λ s. pick (leb to p) (k s) (good s))
+    walk-step = either 1 (to - loc) some-step λ g. no-step (omega arith)
+
+  walk-lines : (xs : List Line) (n loc : ℕ) → LinesOk w loc xs → loc ≤ p
+      → Finds false w p q init loc (linesBytes w loc xs ++ replicate n 0) (λ s. actAll false q init (while p xs) s)
+  unfolding linesBytes while actAll
+  walk-lines [] n loc ok hp f s len = walk-pad false w p q init n f loc s (omega (arith, length-replicate {A = ℕ} n 0))
+  walk-lines (x ∷ xs) n loc ok hp f s len =
+      let zs : List ℕ = linesBytes w (x .0) xs ++ replicate n 0 in
+      let whole : linesBytes w loc (x ∷ xs) ++ replicate n 0 ≡ stepBytes (x .0 - loc) ++ (rowBytes w (x .1) ++ zs) = simp append-assoc in
+      rw whole
+      (walk-step loc (x .0) (rowBytes w (x .1) ++ zs) (λ t. actAll false q init (x .1 ∷ while p xs) t) (ok .0) (ok .1) hp
+      (λ a. walk-row false w p q init (x .1) (x .0) zs (λ t. actAll false q init (while p xs) t) (ok .2) (walk-lines xs n (x .0) (ok .3) a))
+      f s (rw whole at len)
+      ∙ pick-over (λ rs. actAll false q init rs s) (leb (x .0) p) (x .1 ∷ while p xs) [])
+
+-- The bytes of a function's rows and zeros behind them, walked to p for register q: the rows while their offset is at most p.
+pub lines-back : (w p q : ℕ) (init : Rule) (xs : List Line) (n : ℕ) (s : Run) → LinesOk w 0 xs
+    → walk false w p q init s (linesBytes w 0 xs ++ replicate n 0) ≡ actAll false q init (while p xs) s
+unfolding walk
+lines-back w p q init xs n s ok = walk-lines w p q init xs n 0 ok (omega arith) _ s (le-refl _)
+
+-- The bytes of a header's rows and zeros behind them: all of the rows.
+pub rows-back : (w p q : ℕ) (init : Rule) (rs : List Row) (n : ℕ) (s : Run) → RowsOk w rs
+    → walk true w p q init s (rowsBytes w rs ++ replicate n 0) ≡ actAll true q init rs s
+unfolding walk
+rows-back w p q init rs n s ok = walk-rows true w p q init rs n 0 ok _ s (le-refl _)
