@@ -14,3 +14,6 @@ pub mod FieldsBack
 pub mod HeaderBack
 pub mod RecordBack
 pub mod Fits
+pub mod RulesSeen
+pub mod CheckSays
+pub mod GoesBack
