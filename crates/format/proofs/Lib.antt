@@ -2,3 +2,4 @@
 pub mod Cases
 pub mod Choice
 pub mod LebBack
+pub mod PutLaws
