@@ -2,4 +2,6 @@
 pub mod Cases
 pub mod Choice
 pub mod LebBack
+pub mod LebSteps
 pub mod PutLaws
+pub mod PositionLaws
