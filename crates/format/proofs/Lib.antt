@@ -5,3 +5,4 @@ pub mod LebBack
 pub mod LebSteps
 pub mod PutLaws
 pub mod PositionLaws
+pub mod Storing
