@@ -106,3 +106,114 @@ pub fn row_ok(rows: &[u64], i: usize) -> bool
 {
     row_shape(rows[4 * i + 1], rows[4 * i + 2], rows[4 * i + 3])
 }
+
+// ---- questions of one row
+
+// z without its sign.
+fn size(z: i64) -> u64
+    ensures { λ r. ⌜ (r ≡ natAbs z) × (r ≤ 2 ^ 63) ⌝ }
+{
+    if z < 0 {
+        (-1 - z) as u64 + 1
+    } else {
+        z as u64
+    }
+}
+
+// A multiple of the word.
+fn whole(word: u64, z: i64) -> bool
+    requires { ⌜ 0 < word ⌝ }
+    ensures { λ r. ⌜ r ≡ whole word z ⌝ }
+{
+    size(z) % word == 0
+}
+
+fn whole_below(word: u64, z: i64) -> bool
+    requires { ⌜ 0 < word ⌝ }
+    ensures { λ r. ⌜ r ≡ wholeBelow word z ⌝ }
+{
+    if z < 0 {
+        return whole(word, z);
+    }
+    true
+}
+
+// Question 24 of one row: an offset that is written factored is a multiple of the word.
+pub fn row_whole(word: u64, r: Row) -> bool
+    requires { ⌜ 0 < word ⌝ }
+    ensures { λ t. ⌜ t ≡ rowWhole word r ⌝ }
+{
+    match r {
+        Row::DefCfa(_, z) => whole_below(word, z),
+        Row::DefCfaOffset(z) => whole_below(word, z),
+        Row::Offset(_, z) => whole(word, z),
+        Row::DefCfaRegister(_) => true,
+        Row::Restore(_) => true,
+        Row::Undefined(_) => true,
+        Row::RememberState => true,
+        Row::RestoreState => true,
+        Row::NegateRaState => true,
+    }
+}
+
+// A row's kind, register (or 0) and offset (or 0).
+fn kind(r: Row) -> u64
+    ensures { λ n. ⌜ n ≡ kindOf r ⌝ }
+{
+    match r {
+        Row::DefCfa(_, _) => 0,
+        Row::DefCfaOffset(_) => 1,
+        Row::DefCfaRegister(_) => 2,
+        Row::Offset(_, _) => 3,
+        Row::Restore(_) => 4,
+        Row::Undefined(_) => 5,
+        Row::RememberState => 6,
+        Row::RestoreState => 7,
+        Row::NegateRaState => 8,
+    }
+}
+
+fn register(r: Row) -> u16
+    ensures { λ n. ⌜ n ≡ regOf r ⌝ }
+{
+    match r {
+        Row::DefCfa(reg, _) => reg,
+        Row::DefCfaOffset(_) => 0,
+        Row::DefCfaRegister(reg) => reg,
+        Row::Offset(reg, _) => reg,
+        Row::Restore(reg) => reg,
+        Row::Undefined(reg) => reg,
+        Row::RememberState => 0,
+        Row::RestoreState => 0,
+        Row::NegateRaState => 0,
+    }
+}
+
+fn offset(r: Row) -> i64
+    ensures { λ z. ⌜ z ≡ offsetOf r ⌝ }
+{
+    match r {
+        Row::DefCfa(_, z) => z,
+        Row::DefCfaOffset(z) => z,
+        Row::DefCfaRegister(_) => 0,
+        Row::Offset(_, z) => z,
+        Row::Restore(_) => 0,
+        Row::Undefined(_) => 0,
+        Row::RememberState => 0,
+        Row::RestoreState => 0,
+        Row::NegateRaState => 0,
+    }
+}
+
+// Two rows are equal.
+pub fn same_row(a: Row, b: Row) -> bool
+    ensures { λ r. ⌜ r ≡ sameRow a b ⌝ }
+{
+    if kind(a) != kind(b) {
+        return false;
+    }
+    if register(a) != register(b) {
+        return false;
+    }
+    offset(a) == offset(b)
+}
