@@ -1,3 +1,4 @@
 -- The lemmas of this crate's functions.
 pub mod Lists
 pub mod Signs
+pub mod Factors

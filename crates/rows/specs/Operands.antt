@@ -1,2 +1,16 @@
--- What the helpers of rows and operations do.
+-- What the helpers of rows do: the parts that a row's bytes are made of.
 use Prim.Native.Nat.{ℕ}
+use mathlib.Core.List.{List}
+use lib.IntN.{ℤ, pos, negsuc}
+use Rattle.format.specs.Leb.{uleb, sleb}
+use Rattle.format.specs.Rows.{factor}
+
+-- the opcode of a frame address row: the plain one where the offset is not negative, else the signed one
+unfoldable pub bySign : (plain sf : ℕ) → ℤ → ℕ
+bySign plain sf (pos n) = plain
+bySign plain sf (negsuc n) = sf
+
+-- its operand
+unfoldable pub offsetBytes : ℕ → ℤ → List ℕ
+offsetBytes w (pos n) = uleb n
+offsetBytes w (negsuc n) = sleb (factor w (negsuc n))

@@ -8,8 +8,11 @@ ghost use lib.IntN.{natAbs};
 ghost use mir.Syntax.{w32};
 ghost use mir.Val.{toZ};
 ghost use Rattle.format.specs.Lists.{rowStride, field, hasRegister, hasOffset, rowOf, rowOk, lineAt, rowOkAt};
-ghost use Rattle.format.specs.Rows.{whole, wholeBelow, rowWhole, kindOf, regOf, offsetOf, sameRow};
+ghost use Rattle.format.specs.Put.{Wrote};
+ghost use Rattle.format.specs.Leb.{little, uleb};
+ghost use Rattle.format.specs.Rows.{factor, cfaBytes, withRegister, savedBytes, rowBytes, stepIn, stepForm, stepBytes, whole, wholeBelow, rowWhole, kindOf, regOf, offsetOf, sameRow};
 ghost use Rattle.format.specs.Test.{pick};
+ghost use Rattle.rows.specs.Operands.{bySign, offsetBytes};
 use format::Row;
 
 // ---- a row out of the lists
@@ -216,4 +219,45 @@ pub fn same_row(a: Row, b: Row) -> bool
         return false;
     }
     offset(a) == offset(b)
+}
+
+// ---- a row written, and its size
+
+// An offset divided by minus the word.
+fn factored(word: u64, z: i64) -> i64
+    requires { ⌜ (2 ≤ word) × (word ≤ 8) ⌝ }
+    ensures { λ r. ⌜ r ≡ factor word z ⌝ }
+{
+    z / (0 - word as i64)
+}
+
+// One opcode or the other, by the offset's sign.
+fn by_sign(plain: u8, signed: u8, z: i64) -> u8
+    ensures { λ r. ⌜ r ≡ bySign plain signed z ⌝ }
+{
+    if z < 0 {
+        return signed;
+    }
+    plain
+}
+
+// The offset of a frame address: plain, or signed and factored where it is negative.
+fn frame_offset(out: &mut [u8], at: usize, word: u64, z: i64) -> usize
+    requires { ⌜ (2 ≤ word) × (word ≤ 8) × (at + length (offsetBytes word z) ≤ length (now out)) ⌝ }
+    ensures { λ r. ⌜ Wrote (now (out .entry)) (now (out .exit)) at r (offsetBytes word z) ⌝ }
+{
+    if z < 0 {
+        return leb::sleb(out, at, factored(word, z));
+    }
+    leb::uleb(out, at, z as u64)
+}
+
+fn frame_offset_size(word: u64, z: i64) -> usize
+    requires { ⌜ (2 ≤ word) × (word ≤ 8) ⌝ }
+    ensures { λ r. ⌜ r ≡ length (offsetBytes word z) ⌝ }
+{
+    if z < 0 {
+        return leb::sleb_size(factored(word, z));
+    }
+    leb::uleb_size(z as u64)
 }
