@@ -2,3 +2,4 @@
 pub mod Lists
 pub mod Signs
 pub mod Factors
+pub mod Bytes

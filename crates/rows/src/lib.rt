@@ -261,3 +261,73 @@ fn frame_offset_size(word: u64, z: i64) -> usize
     }
     leb::uleb_size(z as u64)
 }
+
+// DW_CFA_def_cfa and DW_CFA_def_cfa_offset.
+fn def_cfa(out: &mut [u8], at: usize, word: u64, reg: u16, z: i64) -> usize
+    requires { ⌜ (2 ≤ word) × (word ≤ 8) × (at + length (cfaBytes word 0x0c 0x12 (uleb reg) z) ≤ length (now out)) ⌝ }
+    ensures { λ r. ⌜ Wrote (now (out .entry)) (now (out .exit)) at r (cfaBytes word 0x0c 0x12 (uleb reg) z) ⌝ }
+{
+    let a = leb::byte(out, at, by_sign(0x0c, 0x12, z));
+    let b = leb::uleb(out, a, reg as u64);
+    frame_offset(out, b, word, z)
+}
+
+fn def_cfa_offset(out: &mut [u8], at: usize, word: u64, z: i64) -> usize
+    requires { ⌜ (2 ≤ word) × (word ≤ 8) × (at + length (cfaBytes word 0x0e 0x13 [] z) ≤ length (now out)) ⌝ }
+    ensures { λ r. ⌜ Wrote (now (out .entry)) (now (out .exit)) at r (cfaBytes word 0x0e 0x13 [] z) ⌝ }
+{
+    let a = leb::byte(out, at, by_sign(0x0e, 0x13, z));
+    frame_offset(out, a, word, z)
+}
+
+// An opcode with its register: to 63 inside it, else behind the long form.
+fn opcode(out: &mut [u8], at: usize, short: u8, long: u8, reg: u16) -> usize
+    requires { ⌜ (short ≤ 192) × (at + length (withRegister short long reg []) ≤ length (now out)) ⌝ }
+    ensures { λ r. ⌜ Wrote (now (out .entry)) (now (out .exit)) at r (withRegister short long reg []) ⌝ }
+{
+    if reg <= 63 {
+        return leb::byte(out, at, short + reg as u8);
+    }
+    let a = leb::byte(out, at, long);
+    leb::uleb(out, a, reg as u64)
+}
+
+fn opcode_size(reg: u16) -> usize
+    ensures { λ r. ⌜ r ≡ length (withRegister 0 0 reg []) ⌝ }
+{
+    if reg <= 63 {
+        return 1;
+    }
+    1 + leb::uleb_size(reg as u64)
+}
+
+// An opcode with its register behind it.
+fn named(out: &mut [u8], at: usize, code: u8, reg: u16) -> usize
+    requires { ⌜ at + 1 + length (uleb reg) ≤ length (now out) ⌝ }
+    ensures { λ r. ⌜ Wrote (now (out .entry)) (now (out .exit)) at r (code ∷ uleb reg) ⌝ }
+{
+    let a = leb::byte(out, at, code);
+    leb::uleb(out, a, reg as u64)
+}
+
+// A register saved at an offset that is factored already.
+pub fn saved(out: &mut [u8], at: usize, reg: u16, z: i64) -> usize
+    requires { ⌜ at + length (savedBytes reg z) ≤ length (now out) ⌝ }
+    ensures { λ r. ⌜ Wrote (now (out .entry)) (now (out .exit)) at r (savedBytes reg z) ⌝ }
+{
+    if z < 0 {
+        let a = named(out, at, 0x11, reg);
+        return leb::sleb(out, a, z);
+    }
+    let a = opcode(out, at, 0x80, 0x05, reg);
+    leb::uleb(out, a, z as u64)
+}
+
+pub fn saved_size(reg: u16, z: i64) -> usize
+    ensures { λ r. ⌜ r ≡ length (savedBytes reg z) ⌝ }
+{
+    if z < 0 {
+        return 1 + leb::uleb_size(reg as u64) + leb::sleb_size(z);
+    }
+    opcode_size(reg) + leb::uleb_size(z as u64)
+}
