@@ -6,6 +6,7 @@ use Prim.Native.Nat.{ℕ, zero, suc, _+_, _-_, _*_, _/_, _^_, _≤_, _<_}
 use native.Mathlib.Omega.{arith}
 use native.Mathlib.Nat.{div-add-mod', mul-le-mul-left}
 use lib.IntN.{ℤ, pos, negsuc, negℤ, _-ℤ_, +ℤ-idl, natAbs}
+use lib.ListN.{length}
 use lib.Signed.{ltZ, mag, quotZ}
 use mir.Syntax.{w64}
 use mir.Val.{SFits, ofZ, toZ}
@@ -14,6 +15,7 @@ use Rattle.format.specs.Leb.{uleb, sleb}
 use Rattle.format.specs.Rows.{factor, cfaBytes}
 use Rattle.rows.specs.Operands.{bySign, offsetBytes}
 use Rattle.rows.proofs.Signs.{passed, negative, positive}
+use Rattle.rows.proofs.Bytes.{uleb-ten, sleb-ten}
 
 -- ---- the quotient
 
@@ -70,3 +72,8 @@ pub frame-bytes : (w plain sf : ℕ) (reg : List ℕ) (z : ℤ) → cfaBytes w p
 unfolding cfaBytes bySign offsetBytes
 frame-bytes w plain sf reg (pos n) = refl
 frame-bytes w plain sf reg (negsuc n) = refl
+
+pub offset-ten : (w : ℕ) (z : ℤ) → 2 ≤ w → mag z < 2 ^ 63 → length (offsetBytes w z) ≤ 10
+unfolding offsetBytes
+offset-ten w (pos n) h f = uleb-ten n (omega arith)
+offset-ten w (negsuc n) h f = sleb-ten (factor w (negsuc n)) (factor-mag w (negsuc n) h f)

@@ -3,3 +3,4 @@ pub mod Lists
 pub mod Signs
 pub mod Factors
 pub mod Bytes
+pub mod Steps

@@ -12,7 +12,7 @@ ghost use Rattle.format.specs.Put.{Wrote};
 ghost use Rattle.format.specs.Leb.{little, uleb};
 ghost use Rattle.format.specs.Rows.{factor, cfaBytes, withRegister, savedBytes, rowBytes, stepIn, stepForm, stepBytes, whole, wholeBelow, rowWhole, kindOf, regOf, offsetOf, sameRow};
 ghost use Rattle.format.specs.Test.{pick};
-ghost use Rattle.rows.specs.Operands.{bySign, offsetBytes};
+ghost use Rattle.rows.specs.Operands.{bySign, offsetBytes, stepOpcode, stepWidth};
 use format::Row;
 
 // ---- a row out of the lists
@@ -330,4 +330,114 @@ pub fn saved_size(reg: u16, z: i64) -> usize
         return 1 + leb::uleb_size(reg as u64) + leb::sleb_size(z);
     }
     opcode_size(reg) + leb::uleb_size(z as u64)
+}
+
+// A row's operation.
+pub fn row(out: &mut [u8], at: usize, word: u64, r: Row) -> usize
+    requires { ⌜ (2 ≤ word) × (word ≤ 8) × (at + length (rowBytes word r) ≤ length (now out)) ⌝ }
+    ensures { λ n. ⌜ Wrote (now (out .entry)) (now (out .exit)) at n (rowBytes word r) ⌝ }
+{
+    match r {
+        Row::DefCfa(reg, z) => def_cfa(out, at, word, reg, z),
+        Row::DefCfaOffset(z) => def_cfa_offset(out, at, word, z),
+        Row::DefCfaRegister(reg) => named(out, at, 0x0d, reg),
+        Row::Offset(reg, z) => saved(out, at, reg, factored(word, z)),
+        Row::Restore(reg) => opcode(out, at, 0xc0, 0x06, reg),
+        Row::Undefined(reg) => named(out, at, 0x07, reg),
+        Row::RememberState => leb::byte(out, at, 0x0a),
+        Row::RestoreState => leb::byte(out, at, 0x0b),
+        Row::NegateRaState => leb::byte(out, at, 0x2d),
+    }
+}
+
+pub fn row_size(word: u64, r: Row) -> usize
+    requires { ⌜ (2 ≤ word) × (word ≤ 8) ⌝ }
+    ensures { λ n. ⌜ n ≡ length (rowBytes word r) ⌝ }
+{
+    match r {
+        Row::DefCfa(reg, z) => 1 + leb::uleb_size(reg as u64) + frame_offset_size(word, z),
+        Row::DefCfaOffset(z) => 1 + frame_offset_size(word, z),
+        Row::DefCfaRegister(reg) => 1 + leb::uleb_size(reg as u64),
+        Row::Offset(reg, z) => saved_size(reg, factored(word, z)),
+        Row::Restore(reg) => opcode_size(reg),
+        Row::Undefined(reg) => 1 + leb::uleb_size(reg as u64),
+        Row::RememberState => 1,
+        Row::RestoreState => 1,
+        Row::NegateRaState => 1,
+    }
+}
+
+// ---- a step written, and its size
+
+// How many bytes of operand the shortest form of a step has.
+pub fn step_form(by: u64) -> u64
+    ensures { λ r. ⌜ r ≡ stepForm by ⌝ }
+{
+    if by <= 0x3f {
+        return 0;
+    }
+    if by <= 0xff {
+        return 1;
+    }
+    if by <= 0xffff {
+        return 2;
+    }
+    4
+}
+
+// The opcode of a form that has an operand, and how long the operand is.
+fn step_opcode(form: u64) -> u8
+    ensures { λ r. ⌜ r ≡ stepOpcode form ⌝ }
+{
+    if form == 1 {
+        return 0x02;
+    }
+    if form == 2 {
+        return 0x03;
+    }
+    0x04
+}
+
+fn step_width(form: u64) -> usize
+    ensures { λ r. ⌜ r ≡ stepWidth form ⌝ }
+{
+    if form == 1 {
+        return 1;
+    }
+    if form == 2 {
+        return 2;
+    }
+    4
+}
+
+// A step in a given form. The form without operand holds 63 at most.
+pub fn step_in(out: &mut [u8], at: usize, form: u64, by: u64) -> usize
+    requires { ⌜ (form ≡ 0 → by ≤ 0x3f) × (at + length (stepIn form by) ≤ length (now out)) ⌝ }
+    ensures { λ r. ⌜ Wrote (now (out .entry)) (now (out .exit)) at r (stepIn form by) ⌝ }
+{
+    if form == 0 {
+        return leb::byte(out, at, 0x40 + by as u8);
+    }
+    let a = leb::byte(out, at, step_opcode(form));
+    leb::le(out, a, step_width(form), by)
+}
+
+// A step in its shortest form; a step of 0 is nothing.
+pub fn advance(out: &mut [u8], at: usize, by: u64) -> usize
+    requires { ⌜ at + length (stepBytes by) ≤ length (now out) ⌝ }
+    ensures { λ r. ⌜ Wrote (now (out .entry)) (now (out .exit)) at r (stepBytes by) ⌝ }
+{
+    if by == 0 {
+        return at;
+    }
+    step_in(out, at, step_form(by), by)
+}
+
+pub fn advance_size(by: u64) -> usize
+    ensures { λ r. ⌜ r ≡ length (stepBytes by) ⌝ }
+{
+    if by == 0 {
+        return 0;
+    }
+    1 + step_form(by) as usize
 }
