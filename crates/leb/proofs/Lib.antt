@@ -2,3 +2,4 @@
 pub mod Fields
 pub mod Signs
 pub mod Sizes
+pub mod GroupLoop

@@ -8,6 +8,7 @@ ghost use Rattle.format.specs.Put.{Wrote};
 ghost use Rattle.format.specs.Leb.{little, uleb, bits7, slebF, sleb};
 ghost use Rattle.format.specs.Positions.{ulebAt, slebAt, littleAt};
 ghost use Rattle.leb.specs.Signs.{isNegative};
+ghost use Rattle.leb.specs.Groups.{GroupsAt};
 use format::Unsigned;
 use format::Signed;
 
@@ -122,4 +123,40 @@ pub fn sleb_size(v: i64) -> usize
     ensures { λ r. ⌜ r ≡ length (sleb v) ⌝ }
 {
     (71 - u64::leading_zeros(magnitude(v)) as usize) / 7
+}
+
+pub fn wide(x: u8) -> u64
+    ensures { λ r. ⌜ (r ≡ x) × (r < 256) ⌝ }
+{
+    x as u64
+}
+
+// A LEB number's last byte, the count of the groups before it, the scale that they stand below, what they make, and the place past the number.
+enum Groups {
+    Last(u64, u64, u64, u64, usize),
+    Bad,
+}
+
+// The bytes of a LEB number: ten at most, and the last is below 128.
+fn last_byte(s: &[u8], at: usize) -> Groups
+    ensures { λ r. ⌜ GroupsAt (now (s .entry)) at r ⌝ }
+{
+    let mut i = at;
+    let mut k = 0u64;
+    let mut scale = 1u64;
+    let mut acc = 0u64;
+    while i < s.len() {
+        let b = wide(s[i]);
+        if b < 128 {
+            return Groups::Last(b, k, scale, acc, i + 1);
+        }
+        if k == 9 {
+            return Groups::Bad;
+        }
+        acc = (b - 128) * scale + acc;
+        scale = scale * 128;
+        k += 1;
+        i += 1;
+    }
+    Groups::Bad
 }
