@@ -115,6 +115,14 @@ signed-groups = record {
   next-group = under-push;
 }
 
+-- ---- the scale of k groups
+
+pub scale-below : (k scale : ℕ) → scale ≡ 128 ^ k → k < 9 → scale * 128 ≤ 2 ^ 63
+scale-below k scale e h = omega (arith, pow-le-pow-right {n = 128} (lit< tt) {i = k} {j = 8} (omega arith))
+
+pub scale-full : (k scale : ℕ) → scale ≡ 128 ^ k → k ≡ 9 → scale ≡ 2 ^ 63
+scale-full k scale e h = e ∙ ap (λ n. 128 ^ n) h
+
 -- ---- what the loop of last_byte knows at each turn
 
 pub record Reading (s : List ℕ) (p i k scale acc : ℕ) : Type 0 where
@@ -163,6 +171,4 @@ module _ {s : List ℕ} {p i k scale acc : ℕ} (c : Reading s p i k scale acc) 
 
     -- what is added stays below 2 ^ 63
     pub room : k < 9 → 128 ≤ b → b < 256 → ((b - 128) * scale + acc < 2 ^ 63) × (scale * 128 ≤ 2 ^ 63)
-    room m l u =
-        let w : scale * 128 ≤ 2 ^ 63 = omega (arith, c .scaled, pow-le-pow-right {n = 128} (lit< tt) {i = k} {j = 8} (omega arith)) in
-        (omega (arith, (turn m l u) .below), w)
+    room m l u = let w = scale-below k scale (c .scaled) m in (omega (arith, (turn m l u) .below), w)

@@ -3,3 +3,5 @@ pub mod Fields
 pub mod Signs
 pub mod Sizes
 pub mod GroupLoop
+pub mod Readings
+pub mod FieldLoop

@@ -1,13 +1,13 @@
 // Numbers as bytes in a lent buffer, and read back. Ported from rucc-asm/src/unwind.rs (uleb, sleb) of tamnd/rucc, changed: see NOTICE.
 ghost use mathlib.Core.Path.{_≡_};
 ghost use mathlib.Core.List.{[], _∷_};
-ghost use Prim.Native.Nat.{_+_, _^_, _≤_, _<_};
+ghost use Prim.Native.Nat.{_+_, _*_, _^_, _≤_, _<_};
 ghost use lib.ListN.{length, replicate};
 ghost use lib.Signed.{mag};
 ghost use Rattle.format.specs.Put.{Wrote};
 ghost use Rattle.format.specs.Leb.{little, uleb, bits7, slebF, sleb};
 ghost use Rattle.format.specs.Positions.{ulebAt, slebAt, littleAt};
-ghost use Rattle.leb.specs.Signs.{isNegative};
+ghost use Rattle.leb.specs.Signs.{isNegative, signed, held};
 ghost use Rattle.leb.specs.Groups.{GroupsAt};
 use format::Unsigned;
 use format::Signed;
@@ -159,4 +159,79 @@ fn last_byte(s: &[u8], at: usize) -> Groups
         i += 1;
     }
     Groups::Bad
+}
+
+// The unsigned LEB number at `at`, of ten bytes at most and below 2^64.
+pub fn read_uleb(s: &[u8], at: usize) -> Unsigned
+    ensures { λ r. ⌜ r ≡ ulebAt (now (s .entry)) at ⌝ }
+{
+    let Groups::Last(b, k, scale, acc, past) = last_byte(s, at) else {
+        return Unsigned::Bad;
+    };
+    if k == 9 {
+        if b < 2 {
+            return Unsigned::Value(b * scale + acc, past);
+        }
+        return Unsigned::Bad;
+    }
+    Unsigned::Value(b * scale + acc, past)
+}
+
+// m, or -(m + 1) where neg is true.
+fn signed_of(neg: bool, m: u64) -> i64
+    requires { ⌜ m < 2 ^ 63 ⌝ }
+    ensures { λ r. ⌜ r ≡ signed neg m ⌝ }
+{
+    if neg { -1 - (m as i64) } else { m as i64 }
+}
+
+// What is read where the last group is `top` and the k groups before it make `low`: the tenth byte holds a sign alone.
+fn signed_past(neg: bool, top: u64, k: u64, scale: u64, low: u64, past: usize) -> Signed
+    requires { ⌜ (k ≤ 9) × (scale ≡ 128 ^ k) × (top < 64) × (low < scale) ⌝ }
+    ensures { λ r. ⌜ r ≡ held neg (top * scale + low) past ⌝ }
+{
+    if k == 9 {
+        if 0 < top {
+            return Signed::Bad;
+        }
+        return Signed::Value(signed_of(neg, low), past);
+    }
+    Signed::Value(signed_of(neg, top * scale + low), past)
+}
+
+// The signed LEB number at `at`, of ten bytes at most and of 64 bits.
+pub fn read_sleb(s: &[u8], at: usize) -> Signed
+    ensures { λ r. ⌜ r ≡ slebAt (now (s .entry)) at ⌝ }
+{
+    let Groups::Last(b, k, scale, acc, past) = last_byte(s, at) else {
+        return Signed::Bad;
+    };
+    if b < 64 {
+        return signed_past(false, b, k, scale, acc, past);
+    }
+    signed_past(true, 127 - b, k, scale, scale - 1 - acc, past)
+}
+
+// The field of n bytes at `at`, the lowest first: it is read from its end.
+pub fn read_le(s: &[u8], at: usize, n: usize) -> Unsigned
+    requires { ⌜ n ≤ 8 ⌝ }
+    ensures { λ r. ⌜ r ≡ littleAt n (now (s .entry)) at ⌝ }
+{
+    if s.len() < at {
+        if n == 0 {
+            return Unsigned::Value(0, s.len());
+        }
+        return Unsigned::Bad;
+    }
+    if s.len() - at < n {
+        return Unsigned::Bad;
+    }
+    let mut left = n;
+    let mut acc = 0u64;
+    while 0 < left {
+        left -= 1;
+        let b = wide(s[at + left]);
+        acc = acc * 256 + b;
+    }
+    Unsigned::Value(acc, at + n)
 }
