@@ -2,7 +2,7 @@
 use mathlib.Core.Path.{_≡_, refl, sym, ap, _∙_}
 use mathlib.Core.Option.{none, some}
 use mathlib.Core.List.{List, [], _∷_}
-use Prim.Native.Nat.{ℕ, zero, suc, _+_, _-_, _*_, _^_, _≤_, _<_}
+use Prim.Native.Nat.{ℕ, suc, _+_, _-_, _*_, _^_, _≤_, _<_}
 use native.Mathlib.Nat.{add-mul, mul-assoc, mul-comm, pow-le-pow-right}
 use native.Mathlib.Numerals.{add-one}
 use native.Mathlib.Omega.{arith}
@@ -15,7 +15,7 @@ use Rattle.format.specs.Test.{pick, Read, next}
 use Rattle.format.specs.Leb.{readUlebF, push, last7, readSlebF}
 use Rattle.format.proofs.Choice.{if-le, if-gt}
 use Rattle.leb.specs.Signs.{under}
-use Rattle.leb.specs.Groups.{Found, GroupsAt}
+use Rattle.leb.specs.Groups.{GroupsAt}
 use Rattle.leb.specs.declared.Groups.the-variants.{Last, Bad}
 
 -- what is read, changed by g
@@ -42,39 +42,39 @@ record Groupwise {A : Type 0} (read : ℕ → List ℕ → Read A) (last : ℕ �
 
 module _ {A : Type 0} {read : ℕ → List ℕ → Read A} {last : ℕ → A} {more : ℕ → A → A} {grown : ℕ → ℕ → A → A} (g : Groupwise read last more grown) (s : List ℕ) (p : ℕ)
   where
-  all-left : read 10 (drop p s) ≡ over (grown 1 0) (read 10 (drop p s))
-  all-left = sym (over-same (grown 1 0) (g .first) (read 10 (drop p s)))
+    all-left : read 10 (drop p s) ≡ over (grown 1 0) (read 10 (drop p s))
+    all-left = sym (over-same (grown 1 0) (g .first) (read 10 (drop p s)))
 
-  -- k groups are read, and what is left says the rest
-  module _ (i k scale acc : ℕ) (few : k ≤ 9) (rest : read 10 (drop p s) ≡ over (grown scale acc) (read (10 - k) (drop i s))) where
-    ten : 10 - k ≡ suc (9 - k)
-    ten = omega arith
+    -- k groups are read, and what is left says the rest
+    module _ (i k scale acc : ℕ) (few : k ≤ 9) (rest : read 10 (drop p s) ≡ over (grown scale acc) (read (10 - k) (drop i s))) where
+      ten : 10 - k ≡ suc (9 - k)
+      ten = omega arith
 
-    at-end : length s ≤ i → read 10 (drop p s) ≡ none
-    unfolding over next
-    at-end h = rest ∙ rw (ten, drop-of-length-le s h, g .ends)
-
-    module _ (b : ℕ) (e : b ≡ getD s i 0) (h : i < length s) where
-      here : read 10 (drop p s) ≡ over (grown scale acc) (pick (ltb b 128) (some (last b, drop (i + 1) s)) (over (more (b - 128)) (read (9 - k) (drop (i + 1) s))))
-      here = rest ∙ rw (add-one i, ten, drop-cons s i 0, ← e, g .byte)
-
-      at-last : b < 128 → read 10 (drop p s) ≡ some (grown scale acc (last b), drop (i + 1) s)
+      at-end : length s ≤ i → read 10 (drop p s) ≡ none
       unfolding over next
-      at-last l = here ∙ rw (if-le (suc b) 128)
+      at-end h = rest ∙ rw (ten, drop-of-length-le s h, g .ends)
 
-      at-more : 128 ≤ b → read 10 (drop p s) ≡ over (grown scale acc) (over (more (b - 128)) (read (9 - k) (drop (i + 1) s)))
-      at-more l = let m : 128 < suc b = omega arith in here ∙ rw (if-gt (suc b) 128)
+      module _ (b : ℕ) (e : b ≡ getD s i 0) (h : i < length s) where
+        here : read 10 (drop p s) ≡ over (grown scale acc) (pick (ltb b 128) (some (last b, drop (i + 1) s)) (over (more (b - 128)) (read (9 - k) (drop (i + 1) s))))
+        here = rest ∙ rw (add-one i, ten, drop-cons s i 0, ← e, g .byte)
 
-      too-long : 9 ≤ k → 128 ≤ b → read 10 (drop p s) ≡ none
-      unfolding over next
-      too-long m l = let z : 9 - k ≡ 0 = omega arith in at-more l ∙ rw (z, g .never)
+        at-last : b < 128 → read 10 (drop p s) ≡ some (grown scale acc (last b), drop (i + 1) s)
+        unfolding over next
+        at-last l = here ∙ rw (if-le (suc b) 128)
 
-      one-less : acc < scale → 128 ≤ b → b < 256 → read 10 (drop p s) ≡ over (grown (scale * 128) ((b - 128) * scale + acc)) (read (10 - (k + 1)) (drop (i + 1) s))
-      one-less l m u =
-          let n : 9 - k ≡ 10 - (k + 1) = omega arith in
-          at-more m
-          ∙ over-over (grown scale acc) (more (b - 128)) (grown (scale * 128) ((b - 128) * scale + acc)) (λ v. g .next-group scale acc (b - 128) v l (omega arith)) (read (9 - k) (drop (i + 1) s))
-          ∙ rw n
+        at-more : 128 ≤ b → read 10 (drop p s) ≡ over (grown scale acc) (over (more (b - 128)) (read (9 - k) (drop (i + 1) s)))
+        at-more l = let m : 128 < suc b = omega arith in here ∙ rw (if-gt (suc b) 128)
+
+        too-long : 9 ≤ k → 128 ≤ b → read 10 (drop p s) ≡ none
+        unfolding over next
+        too-long m l = let z : 9 - k ≡ 0 = omega arith in at-more l ∙ rw (z, g .never)
+
+        one-less : acc < scale → 128 ≤ b → b < 256 → read 10 (drop p s) ≡ over (grown (scale * 128) ((b - 128) * scale + acc)) (read (10 - (k + 1)) (drop (i + 1) s))
+        one-less l m u =
+            let n : 9 - k ≡ 10 - (k + 1) = omega arith in
+            at-more m
+            ∙ over-over (grown scale acc) (more (b - 128)) (grown (scale * 128) ((b - 128) * scale + acc)) (λ v. g .next-group scale acc (b - 128) v l (omega arith)) (read (9 - k) (drop (i + 1) s))
+            ∙ rw n
 
 -- ---- the two readers
 
@@ -117,8 +117,11 @@ signed-groups = record {
 
 -- ---- the scale of k groups
 
+pub scale-most : (k scale : ℕ) → scale ≡ 128 ^ k → k ≤ 9 → scale ≤ 2 ^ 63
+scale-most k scale e h = omega (arith, pow-le-pow-right {n = 128} (lit< tt) {i = k} {j = 9} h)
+
 pub scale-below : (k scale : ℕ) → scale ≡ 128 ^ k → k < 9 → scale * 128 ≤ 2 ^ 63
-scale-below k scale e h = omega (arith, pow-le-pow-right {n = 128} (lit< tt) {i = k} {j = 8} (omega arith))
+scale-below k scale e h = scale-most (suc k) (scale * 128) (omega arith) h
 
 pub scale-full : (k scale : ℕ) → scale ≡ 128 ^ k → k ≡ 9 → scale ≡ 2 ^ 63
 scale-full k scale e h = e ∙ ap (λ n. 128 ^ n) h
@@ -168,7 +171,3 @@ module _ {s : List ℕ} {p i k scale acc : ℕ} (c : Reading s p i k scale acc) 
       unsigned = one-less unsigned-groups s p i k scale acc (c .few) (c .unsigned) b e h (c .below) l u;
       signed = one-less signed-groups s p i k scale acc (c .few) (c .signed) b e h (c .below) l u;
     }
-
-    -- what is added stays below 2 ^ 63
-    pub room : k < 9 → 128 ≤ b → b < 256 → ((b - 128) * scale + acc < 2 ^ 63) × (scale * 128 ≤ 2 ^ 63)
-    room m l u = let w = scale-below k scale (c .scaled) m in (omega (arith, (turn m l u) .below), w)

@@ -1,7 +1,8 @@
 -- What the readers of LEB numbers make of the bytes that last_byte found.
-use mathlib.Core.Path.{_≡_, refl, sym, ap, _∙_}
+use mathlib.Core.Path.{_≡_, refl}
 use mathlib.Core.Bool.{Bool, true, false}
-use mathlib.Core.Option.{none, some}
+use mathlib.Core.Logic.{_≢_}
+use mathlib.Core.Option.{none}
 use mathlib.Core.List.{List}
 use Prim.Native.Nat.{ℕ, suc, _+_, _-_, _*_, _^_, _≤_, _<_}
 use native.Mathlib.Nat.{mul-le-mul-right}
@@ -13,7 +14,7 @@ use mir.Syntax.{w64}
 use mir.Val.{ofZ, toZ}
 use mir.Facts.{toZ-ofZ}
 use lib.ListN.{length, drop, length-drop}
-use Rattle.format.specs.Test.{pick, next}
+use Rattle.format.specs.Test.{next}
 use Rattle.format.specs.Leb.{readUlebF, readUleb, last7, readSlebF, fits64, readSleb}
 use Rattle.format.specs.Positions.{unsignedFrom, signedFrom, ulebAt, slebAt}
 use Rattle.format.specs.declared.Unsigned.the-variants as unsigned
@@ -30,7 +31,7 @@ module _ (k scale top low : ℕ) (e : scale ≡ 128 ^ k) (l : low < scale) where
   pub fits-below : k < 9 → top < 128 → top * scale + low < 2 ^ 63
   fits-below h m = omega (arith, digits-lt {q = top} {m = 128} {r = low} {c = scale} m l, scale-below k scale e h)
 
-  pub fits-tenth : (most : ℕ) → k ≡ 9 → top < most → top * scale + low < most * 2 ^ 63
+  fits-tenth : (most : ℕ) → k ≡ 9 → top < most → top * scale + low < most * 2 ^ 63
   fits-tenth most h m = rw (← scale-full k scale e h) (digits-lt {q = top} {m = most} {r = low} {c = scale} m l)
 
   pub past-tenth : (least : ℕ) → k ≡ 9 → least ≤ top → least * 2 ^ 63 ≤ top * scale + low
@@ -46,13 +47,21 @@ unfolding ulebAt readUleb next unsignedFrom
 uleb-missing s p e = rw e
 
 module _ {s : List ℕ} {p b k scale acc q : ℕ} (c : Found s p b k scale acc q) where
+  pub uleb-low : k ≢ 9 → b * scale + acc < 2 ^ 64
+  uleb-low h = let l : k < 9 = omega (arith, c .few) in omega (arith, fits-below k scale b acc (c .scaled) (c .below) l (c .last))
+
+  pub uleb-tenth : k ≡ 9 → b < 2 → b * scale + acc < 2 ^ 64
+  uleb-tenth h l = fits-tenth k scale b acc (c .scaled) (c .below) 2 h l
+
   pub uleb-value : b * scale + acc < 2 ^ 64 → unsigned.Value (b * scale + acc) q ≡ ulebAt s p
   unfolding ulebAt readUleb next unsignedFrom
   uleb-value h = rw (c .unsigned, if-le (suc (b * scale + acc)) (2 ^ 64), past-drop s q (c .inside))
 
-  pub uleb-over : 2 ^ 64 ≤ b * scale + acc → unsigned.Bad ≡ ulebAt s p
+  pub uleb-over : k ≡ 9 → 2 ≤ b → unsigned.Bad ≡ ulebAt s p
   unfolding ulebAt readUleb next unsignedFrom
-  uleb-over h = let m : 2 ^ 64 < suc (b * scale + acc) = omega arith in rw (c .unsigned, if-gt (suc (b * scale + acc)) (2 ^ 64))
+  uleb-over h l =
+      let m : 2 ^ 64 < suc (b * scale + acc) = omega (arith, past-tenth k scale b acc (c .scaled) (c .below) 2 h l) in
+      rw (c .unsigned, if-gt (suc (b * scale + acc)) (2 ^ 64))
 
 -- ---- signed
 
@@ -91,8 +100,8 @@ module _ {s : List ℕ} {p b k scale acc q : ℕ} (c : Found s p b k scale acc q
   unfolding held slebAt readSleb next signedFrom
   sleb-held neg n e =
       rw (c .signed, e, fits-by-sign neg n)
-      (either (suc n) (2 ^ 63) (λ l. rw (if-le (suc n) (2 ^ 63)) (rw (if-le (suc n) (2 ^ 63), past-drop s q (c .inside))))
-      (λ g. rw (if-gt (suc n) (2 ^ 63)) (rw (if-gt (suc n) (2 ^ 63)))))
+      (either (suc n) (2 ^ 63) (λ l. rw (if-le (suc n) (2 ^ 63) (signed.Value (signed neg n) q), if-le (suc n) (2 ^ 63), past-drop s q (c .inside)))
+      (λ g. rw (if-gt (suc n) (2 ^ 63) (signed.Value (signed neg n) q), if-gt (suc n) (2 ^ 63))))
 
   pub sleb-plain : b < 64 → held false (b * scale + acc) q ≡ slebAt s p
   sleb-plain h = sleb-held false (b * scale + acc) (low-group scale acc b h)

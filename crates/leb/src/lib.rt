@@ -9,10 +9,10 @@ ghost use Rattle.format.specs.Leb.{little, uleb, bits7, slebF, sleb};
 ghost use Rattle.format.specs.Positions.{ulebAt, slebAt, littleAt};
 ghost use Rattle.leb.specs.Signs.{isNegative, signed, held};
 ghost use Rattle.leb.specs.Groups.{GroupsAt};
-use format::Unsigned;
 use format::Signed;
+use format::Unsigned;
 
-// A byte at `at`: the place past it. So do all writers here.
+// A byte at `at`. This and every other writer gives the place past what it stored.
 pub fn byte(out: &mut [u8], at: usize, b: u8) -> usize
     requires { ⌜ at + 1 ≤ length (now out) ⌝ }
     ensures { λ r. ⌜ Wrote (now (out .entry)) (now (out .exit)) at r (b ∷ []) ⌝ }

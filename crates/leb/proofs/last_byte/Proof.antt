@@ -1,8 +1,9 @@
+-- `last_byte` finds what both readers of LEB numbers read.
 use borrow.Author.Needs.{needs}
 use Prim.Native.Nat.{_-_}
 use native.Mathlib.Omega.{arith}
 use lib.ListN.{length}
-use Rattle.leb.proofs.GroupLoop.{Reading, start, ended, found, long, turn, room}
+use Rattle.leb.proofs.GroupLoop.{Reading, start, ended, found, long, turn, scale-most}
 use Rattle.leb.proofs.last_byte.Statement.{statement}
 use Rattle.leb.proofs.last_byte.Tie as tie
 use Rattle.leb.proofs.last_byte.Reads as reads
@@ -39,17 +40,21 @@ returns c = found (c .before .before .before .before .loop .inv) (c .before .wid
 returns-2 : tie.Need-returns-2 Inv-loop μ-loop
 returns-2 c = long (c .before .before .before .before .before .loop .inv) (c .before .before .wide .ensures .0) (c .before .before .before .before .loop-test .taken) (omega arith) (c .before .if1 .left)
 
+-- src/lib.rt:148:5
+loop-again : tie.Need-loop-again Inv-loop μ-loop
+loop-again c = turn (c .before .before .before .before .before .loop .inv) (c .before .before .wide .ensures .0) (c .before .before .before .before .loop-test .taken) (omega (arith, c .if2 .left)) (c .before .if1 .left) (c .before .before .wide .ensures .1)
+
 -- src/lib.rt:156:15
 mul-acc : tie.Need-mul-acc Inv-loop μ-loop
-mul-acc c = omega (arith, room (c .before .before .before .before .before .loop .inv) (c .before .before .wide .ensures .0) (c .before .before .before .before .loop-test .taken) (omega (arith, c .if2 .left)) (c .before .if1 .left) (c .before .before .wide .ensures .1))
+mul-acc c = omega (arith, loop-again c .below, scale-most _ _ (loop-again c .scaled) (loop-again c .few))
 
 -- src/lib.rt:156:15
 add-acc : tie.Need-add-acc Inv-loop μ-loop
-add-acc c = omega (arith, room (c .before .before .before .before .before .loop .inv) (c .before .before .wide .ensures .0) (c .before .before .before .before .loop-test .taken) (omega (arith, c .if2 .left)) (c .before .if1 .left) (c .before .before .wide .ensures .1))
+add-acc c = omega (arith, loop-again c .below, scale-most _ _ (loop-again c .scaled) (loop-again c .few))
 
 -- src/lib.rt:157:17
 mul-scale : tie.Need-mul-scale Inv-loop μ-loop
-mul-scale c = omega (arith, room (c .before .before .before .before .before .loop .inv) (c .before .before .wide .ensures .0) (c .before .before .before .before .loop-test .taken) (omega (arith, c .if2 .left)) (c .before .if1 .left) (c .before .before .wide .ensures .1))
+mul-scale c = omega (arith, loop-again c .below, scale-most _ _ (loop-again c .scaled) (loop-again c .few))
 
 -- src/lib.rt:158:9
 add-k : tie.Need-add-k Inv-loop μ-loop
@@ -62,10 +67,6 @@ add-i c = search needs
 -- src/lib.rt:148:5
 loop-less : tie.Need-loop-less Inv-loop μ-loop
 loop-less c = search needs
-
--- src/lib.rt:148:5
-loop-again : tie.Need-loop-again Inv-loop μ-loop
-loop-again c = turn (c .before .before .before .before .before .loop .inv) (c .before .before .wide .ensures .0) (c .before .before .before .before .loop-test .taken) (omega (arith, c .if2 .left)) (c .before .if1 .left) (c .before .before .wide .ensures .1)
 
 -- src/lib.rt:141:1
 returns-3 : tie.Need-returns-3 Inv-loop μ-loop

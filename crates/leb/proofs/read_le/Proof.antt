@@ -1,3 +1,4 @@
+-- `read_le` reads the field that stands there.
 use borrow.Author.Needs.{needs}
 use native.Mathlib.Omega.{arith}
 use Rattle.leb.proofs.FieldLoop.{Reading, start, turn, room, ended, missing, nothing}

@@ -1,3 +1,4 @@
+-- `read_sleb` reads the signed LEB number that stands there.
 use mathlib.Core.Path.{subst, _∙_}
 use native.Mathlib.Omega.{arith}
 use Rattle.leb.specs.Groups.{GroupsAt}

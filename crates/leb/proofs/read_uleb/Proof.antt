@@ -1,8 +1,9 @@
+-- `read_uleb` reads the unsigned LEB number that stands there.
 use mathlib.Core.Path.{subst}
 use native.Mathlib.Omega.{arith}
 use Rattle.leb.specs.Groups.{GroupsAt}
 use Rattle.leb.specs.declared.Groups.the-variants.{Last, Bad}
-use Rattle.leb.proofs.Readings.{fits-below, fits-tenth, past-tenth, uleb-missing, uleb-value, uleb-over}
+use Rattle.leb.proofs.Readings.{uleb-missing, uleb-low, uleb-tenth, uleb-value, uleb-over}
 use borrow.Author.Needs.{needs}
 use Rattle.leb.proofs.read_uleb.Statement.{statement}
 use Rattle.leb.proofs.read_uleb.Tie as tie
@@ -35,31 +36,31 @@ returns c = uleb-missing _ _ (missing c .0)
 
 -- src/lib.rt:173:36
 mul-t11 : tie.Need-mul-t11
-mul-t11 c = omega (arith, fits-tenth _ _ _ _ ((found (c .before .before)) .scaled) ((found (c .before .before)) .below) 2 (c .before .if1 .taken) (c .if2 .taken))
+mul-t11 c = omega (arith, uleb-tenth (found (c .before .before)) (c .before .if1 .taken) (c .if2 .taken))
 
 -- src/lib.rt:173:36
 add-t12 : tie.Need-add-t12
-add-t12 c = omega (arith, fits-tenth _ _ _ _ ((found (c .before .before)) .scaled) ((found (c .before .before)) .below) 2 (c .before .if1 .taken) (c .if2 .taken))
+add-t12 c = omega (arith, uleb-tenth (found (c .before .before)) (c .before .if1 .taken) (c .if2 .taken))
 
 -- src/lib.rt:173:13
 returns-2 : tie.Need-returns-2
-returns-2 c = uleb-value (found (c .before .before)) (fits-tenth _ _ _ _ ((found (c .before .before)) .scaled) ((found (c .before .before)) .below) 2 (c .before .if1 .taken) (c .if2 .taken))
+returns-2 c = uleb-value (found (c .before .before)) (uleb-tenth (found (c .before .before)) (c .before .if1 .taken) (c .if2 .taken))
 
 -- src/lib.rt:175:9
 returns-3 : tie.Need-returns-3
-returns-3 c = uleb-over (found (c .before .before)) (past-tenth _ _ _ _ ((found (c .before .before)) .scaled) ((found (c .before .before)) .below) 2 (c .before .if1 .taken) (c .if2 .left))
+returns-3 c = uleb-over (found (c .before .before)) (c .before .if1 .taken) (c .if2 .left)
 
 -- src/lib.rt:177:21
 mul-t13 : tie.Need-mul-t13
-mul-t13 c = omega (arith, fits-below _ _ _ _ ((found (c .before)) .scaled) ((found (c .before)) .below) (omega (arith, (found (c .before)), c .if1 .left)) ((found (c .before)) .last))
+mul-t13 c = omega (arith, uleb-low (found (c .before)) (c .if1 .left))
 
 -- src/lib.rt:177:21
 add-t14 : tie.Need-add-t14
-add-t14 c = omega (arith, fits-below _ _ _ _ ((found (c .before)) .scaled) ((found (c .before)) .below) (omega (arith, (found (c .before)), c .if1 .left)) ((found (c .before)) .last))
+add-t14 c = omega (arith, uleb-low (found (c .before)) (c .if1 .left))
 
 -- src/lib.rt:165:1
 returns-4 : tie.Need-returns-4
-returns-4 c = uleb-value (found (c .before)) (omega (arith, fits-below _ _ _ _ ((found (c .before)) .scaled) ((found (c .before)) .below) (omega (arith, (found (c .before)), c .if1 .left)) ((found (c .before)) .last)))
+returns-4 c = uleb-value (found (c .before)) (uleb-low (found (c .before)) (c .if1 .left))
 
 pub read-uleb-spec : {M : Type 1} → statement M
 read-uleb-spec =

@@ -1,4 +1,4 @@
-use Rattle.leb.specs.Signs.{signed}
+-- `signed_of` puts the sign back.
 use Rattle.leb.proofs.Signs.{turned-fits, turned-is, plain-is}
 use borrow.Author.Needs.{needs}
 use Rattle.leb.proofs.signed_of.Statement.{statement}

@@ -1,7 +1,6 @@
-use borrow.Author.Needs.{needs}
-use Prim.Native.Nat.{_+_, _*_, _<_}
+-- `signed_past` answers a number that 64 bits hold, and no other.
+use Prim.Native.Nat.{_+_, _*_, _^_, _<_}
 use native.Mathlib.Omega.{arith}
-use mathlib.Core.Path.{_≡_}
 use Rattle.leb.proofs.GroupLoop.{scale-full}
 use Rattle.leb.proofs.Readings.{fits-below, past-tenth, held-over, held-value, alone}
 use Rattle.leb.proofs.signed_past.Statement.{statement}
@@ -10,36 +9,39 @@ use Rattle.leb.proofs.signed_past.Reads as reads
 use Rattle.leb.proofs.signed_past.Lts as lts
 use Rattle.leb.proofs.signed_of.Reads as signed-of-reads
 
+fits : (c : tie.Else1) → c .before .args .top * c .before .args .scale + c .before .args .low < 2 ^ 63
+fits c = let s = c .before in fits-below _ _ _ _ (s .pre .1) (s .pre .3) (omega (arith, c .if1 .left)) (omega arith)
+
 -- src/lib.rt:195:13
 returns : tie.Need-returns
-returns c = held-over _ _ _ (past-tenth (c .before .before .args .k) (c .before .before .args .scale) (c .before .before .args .top) (c .before .before .args .low) (c .before .before .pre .1) (c .before .before .pre .3) 1 (c .before .if1 .taken) (c .if2 .taken))
+returns c = let s = c .before .before in held-over _ _ _ (past-tenth _ _ _ _ (s .pre .1) (s .pre .3) 1 (c .before .if1 .taken) (c .if2 .taken))
 
 -- src/lib.rt:197:30
 signed-of-requires : tie.Need-signed-of-requires
-signed-of-requires c κs = omega (arith, scale-full (c .before .before .args .k) (c .before .before .args .scale) (c .before .before .pre .1) (c .before .if1 .taken))
+signed-of-requires c κs = let s = c .before .before in omega (arith, scale-full _ _ (s .pre .1) (c .before .if1 .taken))
 
 -- src/lib.rt:197:9
 returns-2 : tie.Need-returns-2
-returns-2 c = 
+returns-2 c =
     let s = c .before .before .before in
     let e = alone (s .args .top) (s .args .scale) (s .args .low) (omega arith) in
-    rw (← e) (held-value _ _ _ (c .signed-of .ensures) (omega (arith, scale-full (s .args .k) (s .args .scale) (s .pre .1) (c .before .before .if1 .taken))))
+    rw (← e) (held-value _ _ _ (c .signed-of .ensures) (omega (arith, scale-full _ _ (s .pre .1) (c .before .before .if1 .taken))))
 
 -- src/lib.rt:199:34
 mul-signed-of : tie.Need-mul-signed-of
-mul-signed-of c = omega (arith, fits-below (c .before .args .k) (c .before .args .scale) (c .before .args .top) (c .before .args .low) (c .before .pre .1) (c .before .pre .3) (omega (arith, c .if1 .left)) (omega arith))
+mul-signed-of c = omega (arith, fits c)
 
 -- src/lib.rt:199:34
 add-signed-of : tie.Need-add-signed-of
-add-signed-of c = omega (arith, fits-below (c .before .args .k) (c .before .args .scale) (c .before .args .top) (c .before .args .low) (c .before .pre .1) (c .before .pre .3) (omega (arith, c .if1 .left)) (omega arith))
+add-signed-of c = omega (arith, fits c)
 
 -- src/lib.rt:199:19
 signed-of-requires-2 : tie.Need-signed-of-requires-2
-signed-of-requires-2 c κs = fits-below (c .before .args .k) (c .before .args .scale) (c .before .args .top) (c .before .args .low) (c .before .pre .1) (c .before .pre .3) (omega (arith, c .if1 .left)) (omega arith)
+signed-of-requires-2 c κs = fits c
 
 -- src/lib.rt:189:1
 returns-3 : tie.Need-returns-3
-returns-3 c = held-value _ _ _ (c .signed-of2 .ensures) (fits-below (c .before .before .args .k) (c .before .before .args .scale) (c .before .before .args .top) (c .before .before .args .low) (c .before .before .pre .1) (c .before .before .pre .3) (omega (arith, c .before .if1 .left)) (omega arith))
+returns-3 c = held-value _ _ _ (c .signed-of2 .ensures) (fits (c .before))
 
 pub signed-past-spec : {M : Type 1} → statement M
 signed-past-spec =
