@@ -2,3 +2,6 @@
 pub mod Fields
 pub mod Signs
 pub mod Sizes
+pub mod GroupLoop
+pub mod Readings
+pub mod FieldLoop

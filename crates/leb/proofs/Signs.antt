@@ -1,8 +1,7 @@
 -- The sign and the magnitude of an i64: the machine holds its 64 bits, `ofZ w64 v`, and what it computes of `toZ w64 (ofZ w64 v)`, which is v.
-use mathlib.Core.Path.{_≡_, refl, sym, ap, _∙_}
+use mathlib.Core.Path.{_≡_, refl, ap, _∙_}
 use mathlib.Core.Bool.{Bool, true, false}
-use mathlib.Core.List.{List}
-use Prim.Native.Nat.{ℕ, zero, suc, _-_, _^_, _≤_, _<_}
+use Prim.Native.Nat.{ℕ, zero, suc, _-_, _^_, _<_}
 use native.Mathlib.Omega.{arith}
 use borrow.Author.Tests.{le-ltb}
 use lib.Dec.{T}
@@ -10,9 +9,9 @@ use lib.IntN.{ℤ, pos, negsuc, _-ℤ_, natAbs}
 use lib.Signed.{ltZ, mag, nonNeg}
 use mir.Syntax.{w64}
 use mir.Val.{SFits, Fits, ofZ, toZ}
-use mir.Facts.{toZ-ofZ}
+use mir.Facts.{toZ-ofZ, toZ-pos}
 use Rattle.format.specs.Leb.{slebF, sleb}
-use Rattle.leb.specs.Signs.{isNegative}
+use Rattle.leb.specs.Signs.{isNegative, signed}
 
 by-sign : (v : ℤ) → sleb v ≡ slebF (isNegative v) 9 (mag v)
 unfolding sleb isNegative
@@ -69,3 +68,29 @@ module _ (v : ℤ) (f : SFits w64 v) where
 
     pub same-is : natAbs (toZ w64 (ofZ w64 v)) ≡ mag v
     same-is = ap natAbs same
+
+-- ---- back: -1 - m, of a number below 2 ^ 63
+
+minus : (m : ℕ) → negsuc 0 -ℤ pos m ≡ negsuc m
+minus zero = refl
+minus (suc m) = ap negsuc (omega arith)
+
+module _ (m : ℕ) (h : m < 2 ^ 63) where
+  turned-back : negsuc 0 -ℤ toZ w64 m ≡ negsuc m
+  turned-back = rw (toZ-pos w64 h) (minus m)
+
+  pub turned-fits : SFits w64 (negsuc 0 -ℤ toZ w64 m)
+  turned-fits = rw turned-back (record { sfits = h })
+
+  pub turned-is : toZ w64 (ofZ w64 (negsuc 0 -ℤ toZ w64 m)) ≡ signed true m
+  unfolding signed
+  turned-is = toZ-ofZ turned-fits ∙ turned-back
+
+  pub plain-is : toZ w64 m ≡ signed false m
+  unfolding signed
+  plain-is = toZ-pos w64 h
+
+pub signed-fits : (neg : Bool) (m : ℕ) → m < 2 ^ 63 → SFits w64 (signed neg m)
+unfolding signed
+signed-fits false m h = record { sfits = h }
+signed-fits true m h = record { sfits = h }

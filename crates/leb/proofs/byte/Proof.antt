@@ -1,3 +1,4 @@
+-- `byte` stores its byte.
 use mathlib.Core.Path.{sym}
 use Rattle.format.proofs.PutLaws.{put-one}
 use borrow.Author.Needs.{needs}

@@ -1,3 +1,4 @@
+-- `fill` stores zeros: a field of the number 0.
 use Rattle.leb.proofs.Fields.{little-zeros}
 use borrow.Author.Needs.{needs}
 use Rattle.leb.proofs.fill.Statement.{statement}

@@ -1,3 +1,4 @@
+-- `group` turns the bits of a negative number.
 use native.Mathlib.Omega.{arith}
 use Rattle.format.specs.Leb.{bits7}
 use borrow.Author.Needs.{needs}

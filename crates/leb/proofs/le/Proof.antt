@@ -1,3 +1,4 @@
+-- `le` stores a field.
 use borrow.Author.Needs.{needs}
 use native.Mathlib.Omega.{arith}
 use Rattle.format.specs.Leb.{little}
@@ -23,13 +24,17 @@ loop-holds c = start (omega (arith, little-length (c .args .n) (c .args .v)))
 cast-out : tie.Need-cast-out Inv-loop μ-loop
 cast-out c = search needs
 
+-- src/lib.rt:92:5
+loop-again : tie.Need-loop-again Inv-loop μ-loop
+loop-again c = turn (rw (little-more (c .before .loop .left) (c .before .loop .x) (c .loop-test .taken)) at (c .before .loop .inv))
+
 -- src/lib.rt:93:9
 slice-write-out : tie.Need-slice-write-out Inv-loop μ-loop
-slice-write-out c = omega (arith, (rw (little-more (c .before .loop .left) (c .before .loop .x) (c .loop-test .taken)) at (c .before .loop .inv)) .room)
+slice-write-out c = omega (arith, loop-again c .kept, loop-again c .room)
 
 -- src/lib.rt:95:9
 add-i : tie.Need-add-i Inv-loop μ-loop
-add-i c = omega (arith, (rw (little-more (c .before .loop .left) (c .before .loop .x) (c .loop-test .taken)) at (c .before .loop .inv)) .room, c .before .loop .inv .kept)
+add-i c = omega (arith, loop-again c .kept, loop-again c .room)
 
 -- src/lib.rt:96:9
 sub-left : tie.Need-sub-left Inv-loop μ-loop
@@ -38,10 +43,6 @@ sub-left c = search needs
 -- src/lib.rt:92:5
 loop-less : tie.Need-loop-less Inv-loop μ-loop
 loop-less c = search needs
-
--- src/lib.rt:92:5
-loop-again : tie.Need-loop-again Inv-loop μ-loop
-loop-again c = turn (rw (little-more (c .before .loop .left) (c .before .loop .x) (c .loop-test .taken)) at (c .before .loop .inv))
 
 -- src/lib.rt:85:1
 same-length : tie.Need-same-length Inv-loop μ-loop

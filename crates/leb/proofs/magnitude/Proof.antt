@@ -1,4 +1,4 @@
-use borrow.Author.Needs.{needs}
+-- `magnitude` is the number without its sign.
 use native.Mathlib.Omega.{arith}
 use Rattle.leb.proofs.Signs.{less-fits, less-cast, less-is, same-cast, same-is}
 use Rattle.leb.proofs.magnitude.Statement.{statement}
@@ -20,11 +20,11 @@ cast-result-2 c = same-cast (c .before .args .v) (c .before .fits .v) (c .if1 .l
 
 -- src/lib.rt:70:1
 returns : tie.Need-returns
-returns c = (less-is (c .before .args .v) (c .before .fits .v) (c .if1 .taken), omega (arith, less-is (c .before .args .v) (c .before .fits .v) (c .if1 .taken), c .before .fits .v .sfits))
+returns c = let e = less-is (c .before .args .v) (c .before .fits .v) (c .if1 .taken) in (e, omega (arith, c .before .fits .v .sfits))
 
 -- src/lib.rt:70:1
 returns-2 : tie.Need-returns-2
-returns-2 c = (same-is (c .before .args .v) (c .before .fits .v) (c .if1 .left), omega (arith, same-is (c .before .args .v) (c .before .fits .v) (c .if1 .left), c .before .fits .v .sfits))
+returns-2 c = let e = same-is (c .before .args .v) (c .before .fits .v) (c .if1 .left) in (e, omega (arith, c .before .fits .v .sfits))
 
 pub magnitude-spec : {M : Type 1} → statement M
 magnitude-spec = tie.close (tie.spec sub-result cast-result cast-result-2 returns returns-2)

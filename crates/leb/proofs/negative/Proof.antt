@@ -1,4 +1,4 @@
-use borrow.Author.Needs.{needs}
+-- `negative` is the sign.
 use Rattle.leb.proofs.Signs.{sign}
 use Rattle.leb.proofs.negative.Statement.{statement}
 use Rattle.leb.proofs.negative.Tie as tie

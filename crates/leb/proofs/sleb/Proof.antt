@@ -1,3 +1,4 @@
+-- `sleb` stores the signed LEB number.
 use Rattle.leb.proofs.Signs.{bytes-of}
 use borrow.Author.Needs.{needs}
 use Rattle.leb.proofs.sleb.Statement.{statement}
@@ -18,7 +19,7 @@ magnitude-requires c κs = search needs
 
 -- src/lib.rt:81:5
 sleb-bits-requires : tie.Need-sleb-bits-requires
-sleb-bits-requires c κs = 
+sleb-bits-requires c κs =
     let s = c .before .before .before .before in
     (c .magnitude .ensures .1, rw (bytes-of (s .args .v) (s .fits .v) (c .before .negative .ensures) (c .magnitude .ensures .0)) (s .pre))
 
@@ -28,7 +29,7 @@ same-length c = search needs
 
 -- src/lib.rt:77:1
 returns : tie.Need-returns
-returns c = 
+returns c =
     let w = c .before .before .before in
     let s = w .before .before .before .before in
     rw (bytes-of (s .args .v) (s .fits .v) (w .before .negative .ensures) (w .magnitude .ensures .0)) at (c .before .before .sleb-bits .ensures)

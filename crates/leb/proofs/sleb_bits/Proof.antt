@@ -1,3 +1,4 @@
+-- `sleb_bits` stores the signed LEB number of a sign and a magnitude.
 use borrow.Author.Needs.{needs}
 use Prim.Native.Nat.{_<_, _^_}
 use native.Mathlib.Omega.{arith}
@@ -33,9 +34,13 @@ group-requires c κs = search needs
 add-out : tie.Need-add-out Inv-loop μ-loop
 add-out c = search needs
 
+-- src/lib.rt:54:5
+loop-again : tie.Need-loop-again Inv-loop μ-loop
+loop-again c = (search needs, turn (rw (sleb-more (c .before .before .before .before .args .neg) (c .before .before .loop .x) (c .before .loop-test .taken) (c .before .before .loop .inv .0), ← c .group .ensures .0) at (c .before .before .loop .inv .1)))
+
 -- src/lib.rt:55:9
 slice-write-out : tie.Need-slice-write-out Inv-loop μ-loop
-slice-write-out c = omega (arith, (rw (sleb-more (c .before .before .before .before .args .neg) (c .before .before .loop .x) (c .before .loop-test .taken) (c .before .before .loop .inv .0), ← c .group .ensures .0) at (c .before .before .loop .inv .1)) .room)
+slice-write-out c = omega (arith, loop-again c .1 .kept, loop-again c .1 .room)
 
 -- src/lib.rt:57:9
 add-i : tie.Need-add-i Inv-loop μ-loop
@@ -45,10 +50,6 @@ add-i c = search needs
 loop-less : tie.Need-loop-less Inv-loop μ-loop
 loop-less c = search needs
 
--- src/lib.rt:54:5
-loop-again : tie.Need-loop-again Inv-loop μ-loop
-loop-again c = (search needs, turn (rw (sleb-more (c .before .before .before .before .args .neg) (c .before .before .loop .x) (c .before .loop-test .taken) (c .before .before .loop .inv .0), ← c .group .ensures .0) at (c .before .before .loop .inv .1)))
-
 -- src/lib.rt:59:25
 cast-group-2 : tie.Need-cast-group-2 Inv-loop μ-loop
 cast-group-2 c = search needs
@@ -57,9 +58,13 @@ cast-group-2 c = search needs
 group-requires-2 : tie.Need-group-requires-2 Inv-loop μ-loop
 group-requires-2 c κs = search needs
 
+-- src/lib.rt:48:1
+returns : tie.Need-returns Inv-loop μ-loop
+returns c = ended (turn (rw (sleb-last (c .before .before .before .before .args .neg) (c .before .before .loop .x) (c .before .loop-test .left), ← c .group2 .ensures .0) at (c .before .before .loop .inv .1)))
+
 -- src/lib.rt:59:5
 slice-write-out-2 : tie.Need-slice-write-out-2 Inv-loop μ-loop
-slice-write-out-2 c = omega (arith, (rw (sleb-last (c .before .before .before .before .args .neg) (c .before .before .loop .x) (c .before .loop-test .left), ← c .group2 .ensures .0) at (c .before .before .loop .inv .1)) .room)
+slice-write-out-2 c = omega (arith, returns c .past)
 
 -- src/lib.rt:60:5
 add-result : tie.Need-add-result Inv-loop μ-loop
@@ -68,10 +73,6 @@ add-result c = search needs
 -- src/lib.rt:48:1
 same-length : tie.Need-same-length Inv-loop μ-loop
 same-length c = search needs
-
--- src/lib.rt:48:1
-returns : tie.Need-returns Inv-loop μ-loop
-returns c = ended (turn (rw (sleb-last (c .before .before .before .before .args .neg) (c .before .before .loop .x) (c .before .loop-test .left), ← c .group2 .ensures .0) at (c .before .before .loop .inv .1)))
 
 pub sleb-bits-spec : {M : Type 1} → statement M
 sleb-bits-spec =

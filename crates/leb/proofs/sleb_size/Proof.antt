@@ -1,3 +1,4 @@
+-- `sleb_size` is the length of the signed LEB number.
 use mathlib.Core.Path.{refl}
 use mir.Syntax.{w64}
 use mir.Val.{ofZ, toZ}
@@ -27,7 +28,7 @@ sub-result c = omega (arith, leading-le 64 (c .magnitude .result))
 
 -- src/lib.rt:128:1
 returns : tie.Need-returns
-returns c = 
+returns c =
     let v = c .before .args .v in
     let m = c .magnitude .result in
     let t = leading-length 64 m (omega arith) in

@@ -1,5 +1,6 @@
+-- `uleb` stores the unsigned LEB number.
 use borrow.Author.Needs.{needs}
-use Prim.Native.Nat.{ℕ, _≤_, _<_, _^_}
+use Prim.Native.Nat.{_<_, _^_}
 use native.Mathlib.Omega.{arith}
 use Rattle.format.specs.Leb.{uleb}
 use Rattle.format.proofs.LebSteps.{uleb-last, uleb-more}
@@ -27,9 +28,13 @@ add-out c = search needs
 cast-out : tie.Need-cast-out Inv-loop μ-loop
 cast-out c = search needs
 
+-- src/lib.rt:29:5
+loop-again : tie.Need-loop-again Inv-loop μ-loop
+loop-again c = (search needs, turn (rw (uleb-more (c .before .loop .x) (c .loop-test .taken) (c .before .loop .inv .0)) at (c .before .loop .inv .1)))
+
 -- src/lib.rt:30:9
 slice-write-out : tie.Need-slice-write-out Inv-loop μ-loop
-slice-write-out c = omega (arith, (rw (uleb-more (c .before .loop .x) (c .loop-test .taken) (c .before .loop .inv .0)) at (c .before .loop .inv .1)) .room)
+slice-write-out c = omega (arith, loop-again c .1 .kept, loop-again c .1 .room)
 
 -- src/lib.rt:32:9
 add-i : tie.Need-add-i Inv-loop μ-loop
@@ -39,17 +44,17 @@ add-i c = search needs
 loop-less : tie.Need-loop-less Inv-loop μ-loop
 loop-less c = search needs
 
--- src/lib.rt:29:5
-loop-again : tie.Need-loop-again Inv-loop μ-loop
-loop-again c = (search needs, turn (rw (uleb-more (c .before .loop .x) (c .loop-test .taken) (c .before .loop .inv .0)) at (c .before .loop .inv .1)))
-
 -- src/lib.rt:34:14
 cast-out-2 : tie.Need-cast-out-2 Inv-loop μ-loop
 cast-out-2 c = search needs
 
+-- src/lib.rt:23:1
+returns : tie.Need-returns Inv-loop μ-loop
+returns c = ended (turn (rw (uleb-last (c .before .loop .x) (c .loop-test .left)) at (c .before .loop .inv .1)))
+
 -- src/lib.rt:34:5
 slice-write-out-2 : tie.Need-slice-write-out-2 Inv-loop μ-loop
-slice-write-out-2 c = omega (arith, (rw (uleb-last (c .before .loop .x) (c .loop-test .left)) at (c .before .loop .inv .1)) .room)
+slice-write-out-2 c = omega (arith, returns c .past)
 
 -- src/lib.rt:35:5
 add-result : tie.Need-add-result Inv-loop μ-loop
@@ -58,10 +63,6 @@ add-result c = search needs
 -- src/lib.rt:23:1
 same-length : tie.Need-same-length Inv-loop μ-loop
 same-length c = search needs
-
--- src/lib.rt:23:1
-returns : tie.Need-returns Inv-loop μ-loop
-returns c = ended (turn (rw (uleb-last (c .before .loop .x) (c .loop-test .left)) at (c .before .loop .inv .1)))
 
 pub uleb-spec : {M : Type 1} → statement M
 uleb-spec =

@@ -1,6 +1,5 @@
-use borrow.Author.Needs.{needs}
+-- `uleb_size` is the length of the unsigned LEB number.
 use native.Mathlib.Omega.{arith}
-use lib.ListN.{length}
 use lib.Count.{leading-le, leading-length}
 use Rattle.format.proofs.LebSteps.{uleb-last}
 use Rattle.leb.proofs.Sizes.{uleb-size}
@@ -23,7 +22,7 @@ returns c = rw (uleb-last (c .before .args .v) (omega arith))
 
 -- src/lib.rt:117:1
 returns-2 : tie.Need-returns-2
-returns-2 c = 
+returns-2 c =
     let v = c .before .args .v in
     let t = leading-length 64 v (c .before .fits .v .fits) in
     omega (arith, uleb-size (t .0) v (t .3) (t .2) (omega arith) (omega (arith, t .1)), t .1)
