@@ -4,16 +4,22 @@ ghost use mathlib.Core.List.{[], _∷_};
 ghost use Prim.Native.Nat.{_+_, _*_, _^_, _≤_, _<_};
 ghost use lib.ListN.{length};
 ghost use lib.Dec.{T};
-ghost use lib.IntN.{natAbs};
+ghost use lib.IntN.{pos, natAbs};
 ghost use mir.Syntax.{w32};
 ghost use mir.Val.{toZ};
 ghost use Rattle.format.specs.Lists.{rowStride, field, hasRegister, hasOffset, rowOf, rowOk, lineAt, rowOkAt};
 ghost use Rattle.format.specs.Put.{Wrote};
 ghost use Rattle.format.specs.Leb.{little, uleb};
-ghost use Rattle.format.specs.Rows.{factor, cfaBytes, withRegister, savedBytes, rowBytes, stepIn, stepForm, stepBytes, whole, wholeBelow, rowWhole, kindOf, regOf, offsetOf, sameRow};
+ghost use Rattle.format.specs.Rows.{factor, unfactor, cfaBytes, withRegister, savedBytes, rowBytes, stepIn, stepForm, stepBytes, whole, wholeBelow, rowWhole, kindOf, regOf, offsetOf, sameRow};
 ghost use Rattle.format.specs.Test.{pick};
+ghost use Rattle.format.specs.Positions.{operationAt};
+ghost use Rattle.rows.specs.Reads.{registerAt, plainAt, factoredAt, signedAt, held, operandAt, registerRow, pairRow, stepAt, registerRowAt, offsetRowAt, pairRowAt, savedAt, extendedAt};
 ghost use Rattle.rows.specs.Operands.{bySign, offsetBytes, stepOpcode, stepWidth};
+use format::Decoded;
+use format::Operation;
 use format::Row;
+use format::Signed;
+use format::Unsigned;
 
 // ---- a row out of the lists
 
@@ -440,4 +446,82 @@ pub fn advance_size(by: u64) -> usize
         return 0;
     }
     1 + step_form(by) as usize
+}
+
+// ---- an operand read
+
+// A register, to 65,535.
+fn register_at(s: &[u8], at: usize) -> Unsigned
+    ensures { λ r. ⌜ r ≡ registerAt (now (s .entry)) at ⌝ }
+{
+    let Unsigned::Value(v, past) = leb::read_uleb(s, at) else {
+        return Unsigned::Bad;
+    };
+    if v <= 0xffff {
+        return Unsigned::Value(v, past);
+    }
+    Unsigned::Bad
+}
+
+// An offset as it stands.
+fn plain_at(s: &[u8], at: usize) -> Signed
+    ensures { λ r. ⌜ r ≡ plainAt (now (s .entry)) at ⌝ }
+{
+    let Unsigned::Value(v, past) = leb::read_uleb(s, at) else {
+        return Signed::Bad;
+    };
+    if v < 9223372036854775808 {
+        return Signed::Value(v as i64, past);
+    }
+    Signed::Bad
+}
+
+// An offset v words below the frame address, where 64 bits hold it.
+fn words_below(word: u64, v: u64, past: usize) -> Signed
+    requires { ⌜ 0 < word ⌝ }
+    ensures { λ r. ⌜ r ≡ held (unfactor word (pos v)) past ⌝ }
+{
+    if v == 0 {
+        return Signed::Value(0, past);
+    }
+    if 9223372036854775808 / word < v {
+        return Signed::Bad;
+    }
+    Signed::Value(-1 - ((v * word - 1) as i64), past)
+}
+
+// An offset m words above it.
+fn words_above(word: u64, m: u64, past: usize) -> Signed
+    requires { ⌜ 0 < word ⌝ }
+    ensures { λ r. ⌜ r ≡ held (pos (m * word)) past ⌝ }
+{
+    if 9223372036854775807 / word < m {
+        return Signed::Bad;
+    }
+    Signed::Value((m * word) as i64, past)
+}
+
+// A factored offset, unsigned.
+fn factored_at(s: &[u8], at: usize, word: u64) -> Signed
+    requires { ⌜ 0 < word ⌝ }
+    ensures { λ r. ⌜ r ≡ factoredAt word (now (s .entry)) at ⌝ }
+{
+    let Unsigned::Value(v, past) = leb::read_uleb(s, at) else {
+        return Signed::Bad;
+    };
+    words_below(word, v, past)
+}
+
+// A factored offset, signed.
+fn signed_at(s: &[u8], at: usize, word: u64) -> Signed
+    requires { ⌜ 0 < word ⌝ }
+    ensures { λ r. ⌜ r ≡ signedAt word (now (s .entry)) at ⌝ }
+{
+    let Signed::Value(z, past) = leb::read_sleb(s, at) else {
+        return Signed::Bad;
+    };
+    if z < 0 {
+        return words_above(word, size(z), past);
+    }
+    words_below(word, z as u64, past)
 }
