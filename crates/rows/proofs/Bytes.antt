@@ -1,11 +1,11 @@
 -- The bytes of a row part by part, as the code writes them, and how long they are.
-use mathlib.Core.Path.{_≡_, refl, ap, _∙_}
+use mathlib.Core.Path.{_≡_}
 use mathlib.Core.Bool.{true, false}
 use mathlib.Core.List.{List, [], _∷_, _++_, append-nil}
-use Prim.Native.Nat.{ℕ, suc, _+_, _^_, _≤_, _<_}
+use Prim.Native.Nat.{ℕ, _+_, _^_, _≤_, _<_}
 use native.Mathlib.Omega.{arith}
 use lib.IntN.{ℤ, pos, negsuc, natAbs}
-use lib.ListN.{length, length-append}
+use lib.ListN.{length}
 use lib.Signed.{ltZ, mag}
 use mir.Syntax.{w64}
 use mir.Val.{SFits, ofZ, toZ}

@@ -1,6 +1,5 @@
 -- A number of words above or below the frame address, tested against 64 bits before it is multiplied.
-use mathlib.Core.Path.{_≡_, refl, ap, _∙_}
-use mathlib.Core.Option.{Option, none, some}
+use mathlib.Core.Path.{_≡_, ap, _∙_}
 use Prim.Native.Nat.{ℕ, zero, suc, _-_, _*_, _/_, _^_, _≤_, _<_}
 use native.Mathlib.Omega.{arith}
 use native.Mathlib.Nat.{zero-mul, mul-le-mul-left, le-div-iff-mul-le, div-lt-iff-lt-mul}

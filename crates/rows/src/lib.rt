@@ -122,11 +122,7 @@ pub fn row_ok(rows: &[u64], i: usize) -> bool
 fn size(z: i64) -> u64
     ensures { λ r. ⌜ (r ≡ natAbs z) × (r ≤ 2 ^ 63) ⌝ }
 {
-    if z < 0 {
-        (-1 - z) as u64 + 1
-    } else {
-        z as u64
-    }
+    if z < 0 { (-1 - z) as u64 + 1 } else { z as u64 }
 }
 
 // A multiple of the word.
@@ -301,10 +297,10 @@ fn opcode(out: &mut [u8], at: usize, short: u8, long: u8, reg: u16) -> usize
 fn opcode_size(reg: u16) -> usize
     ensures { λ r. ⌜ r ≡ length (withRegister 0 0 reg []) ⌝ }
 {
-    if reg <= 63 {
-        return 1;
+    if 63 < reg {
+        return 1 + leb::uleb_size(reg as u64);
     }
-    1 + leb::uleb_size(reg as u64)
+    1
 }
 
 // An opcode with its register behind it.
