@@ -24,14 +24,14 @@ module _ (x : ℕ) (h : x < 2 ^ 32) (l : 2147483648 ≤ x) where
       complement-is (4294967295 - x) (omega arith) ∙ sym (toZ-neg w32 (4294967295 - x) (omega arith)) ∙ ap (toZ w32) e
 
 -- the ranges of a row's numbers
-pick-most : (b : Bool) (n m k : ℕ) → n < pick b m k → k ≤ m → n < m
+below-most : (b : Bool) (n m : ℕ) → T (ltb n (pick b m 1)) → 0 < m → n < m
 unfolding pick
-pick-most true n m k h l = h
-pick-most false n m k h l = omega arith
+below-most true n m t l = ltb→lt n m t
+below-most false n m t l = omega (arith, ltb→lt n 1 t)
 
 pub row-small : (kind reg off : ℕ) → T (rowOk kind reg off) → (kind ≤ 8) × (reg < 65536) × (off < 2 ^ 32)
 unfolding rowOk
 row-small kind reg off t =
     let a = and-yes (leb kind 8 && ltb reg (pick (hasRegister kind) 65536 1)) (ltb off (pick (hasOffset kind) (2 ^ 32) 1)) t in
     let b = and-yes (leb kind 8) (ltb reg (pick (hasRegister kind) 65536 1)) (a .0) in
-    (leb→le kind 8 (b .0), pick-most (hasRegister kind) reg 65536 1 (ltb→lt reg (pick (hasRegister kind) 65536 1) (b .1)) (omega arith), pick-most (hasOffset kind) off (2 ^ 32) 1 (ltb→lt off (pick (hasOffset kind) (2 ^ 32) 1) (a .1)) (omega arith))
+    (leb→le kind 8 (b .0), below-most (hasRegister kind) reg 65536 (b .1) (omega arith), below-most (hasOffset kind) off (2 ^ 32) (a .1) (omega arith))
