@@ -199,19 +199,3 @@ pub struct Counts {
     pub relocations: u64,
     pub sites: u64,
 }
-
-// Where the operations of a record and of its header stand in the section, the record's length and the header's signal mark.
-pub struct Located {
-    pub header: usize,
-    pub header_end: usize,
-    pub record: usize,
-    pub record_end: usize,
-    pub length: u64,
-    pub signal: bool,
-}
-
-// A record found with its header, or a question's number.
-pub enum Location {
-    At(Located),
-    Refused(u64),
-}
