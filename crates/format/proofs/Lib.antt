@@ -17,3 +17,5 @@ pub mod Fits
 pub mod RulesSeen
 pub mod CheckSays
 pub mod GoesBack
+pub mod ListLaws
+pub mod Accepted
