@@ -3,7 +3,7 @@
 -- bytes for two_functions, debug_two and landing_and_named (differential/gas).
 use mathlib.Core.Path.{_≡_, refl}
 use Prim.Native.Nat.{ℕ}
-use mathlib.Core.Bool.{Bool, true, false}
+use mathlib.Core.Bool.{false}
 use mathlib.Core.List.{List, [], _∷_, _++_}
 use lib.ListN.{getD, replicate, set}
 use lib.IntN.{pos, negsuc}
@@ -19,7 +19,6 @@ use Rattle.format.specs.Machine.{registerOf, machineOf, isWord, machineO
 use Rattle.format.specs.Questions.{ask, andThen, perFunction, sizeBytes, isSome, lsdaOk, namedOk, encodingsOk, stepsOk, pairsOk, dwarfAsks, madeOne, prologuesFor, noAt, codeAsks, roomAsks, unless, fitting, dwarfAnswer, codesAnswer, prologuesAnswer, shortOnes, windowsAnswer, givenFunctions, noFunctions, givenAsks, windowsAsks, dwarfGiven, formatAnswer, relaxedTable, relaxedDebugFrame, seh, dwarfWritten, Answer, refused, empty, accepted, Given, Room}
 use Rattle.format.specs.Reader.{readEntry, entriesF, entries, valueOr0, second, isHeader, records, distanceBack, firstAddend, headerPlace, headerAt, strip, spelled, spellings, spellOr, readLetters, readByte, readMany, readCounted, personalityIn, lsdaIn, lettersIn, headerTail, require, parseHeader, recordTail, parseRecord, perform, whenRead, walkF, walk, parsed, locate, walked, readSection, read}
 use Rattle.format.specs.Records.{pointerBlank, namedBlank, lsdaBlank, pointerTo, namedReloc, lsdaReloc, sizeField, recordFields, recordBytes, sumPair, pairFor, setKind, setBytes, setPlace, setPair, stepRelocs, rowRelocs, recordRelocs}
-use Rattle.format.specs.RowCheck.{mayLead, inOrder, rowsOf, rowCheck, rowCheckAt}
 use Rattle.format.specs.Rows.{factor, cfaBytes, withRegister, savedBytes, rowBytes, stepIn, stepForm, stepBytes, linesBytes, rowsBytes, unfactor, readRegister, inRange, readOffset, readFactored, readSigned, one, two, readExtended, readOperation, whole, wholeBelow, rowWhole, sameOffset, kindOf, regOf, offsetOf, sameRow}
 use Rattle.format.specs.Rules.{blank, withFrame, withRule, reoffset, reregister, popped, apply, applyRows, upTo, entryState, rulesAt, seen, start, setFrame, setRule, changeOffset, changeRegister, remember, recall, act, actAll, while, answer, runRows}
 use Rattle.format.specs.Test.{pick, next, after, onward, orElse, all, first, each}

@@ -1,10 +1,9 @@
 -- The paper's number and values for each case of an answer.
-use Prim.Native.Nat.{ℕ, _*_}
+use Prim.Native.Nat.{ℕ}
 use mathlib.Core.Bool.{Bool, true, false}
 use mathlib.Core.Option.{Option, none, some}
 use mathlib.Core.List.{List, [], _∷_, _++_}
 use lib.ListN.{length}
-use lib.IntN.{ℤ, pos}
 use mir.Syntax.{w64}
 use mir.Val.{ofZ}
 use Rattle.format.specs.declared.Frame.{Frame}
@@ -19,7 +18,6 @@ use Rattle.format.specs.declared.Question.{Question}
 use Rattle.format.specs.declared.Question.the-variants as question
 use Rattle.format.specs.declared.Outcome.{Outcome}
 use Rattle.format.specs.declared.Outcome.the-variants as outcome
-use Rattle.format.specs.declared.Counts.{Counts}
 use Rattle.format.specs.Writer.{Written}
 use Rattle.format.specs.Lists.{numbersOf}
 use Rattle.format.specs.Put.{put}

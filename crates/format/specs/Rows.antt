@@ -1,7 +1,7 @@
 -- A row's operation in bytes and back (DWARF 5, 6.4.2 and 7.24). Code alignment factor 1, data alignment factor minus word.
-use Prim.Native.Nat.{ℕ, zero, suc, _+_, _-_, _*_, _/_, _%_, _^_}
+use Prim.Native.Nat.{ℕ, zero, suc, _+_, _-_, _*_, _/_, _%_}
 use mathlib.Core.Bool.{Bool, true, false, _&&_}
-use mathlib.Core.Option.{Option, none, some}
+use mathlib.Core.Option.{none, some}
 use mathlib.Core.List.{List, [], _∷_, _++_}
 use lib.Dec.{leb, ltb, eqb}
 use lib.IntN.{ℤ, pos, negsuc, negℤ, natAbs}
@@ -158,12 +158,7 @@ rowWhole w RememberState = true
 rowWhole w RestoreState = true
 rowWhole w NegateRaState = true
 
--- two rows are equal
-unfoldable pub sameOffset : ℤ → ℤ → Bool
-sameOffset (pos a) (pos b) = eqb a b
-sameOffset (pos a) (negsuc b) = false
-sameOffset (negsuc a) (pos b) = false
-sameOffset (negsuc a) (negsuc b) = eqb a b
+-- ---- a row's parts, and when two rows are equal
 
 -- a row's kind by its place in document 01's list, its register (or 0) and its offset (or 0)
 unfoldable pub kindOf : Row → ℕ
@@ -198,6 +193,13 @@ offsetOf (Undefined reg) = pos 0
 offsetOf RememberState = pos 0
 offsetOf RestoreState = pos 0
 offsetOf NegateRaState = pos 0
+
+-- two offsets are equal, and two rows
+unfoldable pub sameOffset : ℤ → ℤ → Bool
+sameOffset (pos a) (pos b) = eqb a b
+sameOffset (pos a) (negsuc b) = false
+sameOffset (negsuc a) (pos b) = false
+sameOffset (negsuc a) (negsuc b) = eqb a b
 
 unfoldable pub sameRow : Row → Row → Bool
 sameRow a b = eqb (kindOf a) (kindOf b) && eqb (regOf a) (regOf b) && sameOffset (offsetOf a) (offsetOf b)
