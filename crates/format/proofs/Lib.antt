@@ -19,3 +19,6 @@ pub mod CheckSays
 pub mod GoesBack
 pub mod ListLaws
 pub mod Accepted
+pub mod PutLaws
+pub mod PositionLaws
+pub mod Storing

@@ -1,0 +1,3 @@
+-- What the helpers of the LEB numbers do.
+pub mod Signs
+pub mod Groups
