@@ -17,3 +17,4 @@ pub mod Fits
 pub mod RulesSeen
 pub mod CheckSays
 pub mod GoesBack
+pub mod SameKey
