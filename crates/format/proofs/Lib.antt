@@ -18,3 +18,6 @@ pub mod RulesSeen
 pub mod CheckSays
 pub mod GoesBack
 pub mod SameKey
+pub mod Leading
+pub mod Parts
+pub mod SectionSize
