@@ -21,3 +21,4 @@ pub mod SameKey
 pub mod Leading
 pub mod Parts
 pub mod SectionSize
+pub mod SectionTiles
