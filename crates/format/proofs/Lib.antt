@@ -22,3 +22,4 @@ pub mod Leading
 pub mod Parts
 pub mod SectionSize
 pub mod SectionTiles
+pub mod Each

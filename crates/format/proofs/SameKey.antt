@@ -6,8 +6,12 @@ use mathlib.Core.Option.{Option, none, some}
 use mathlib.Core.List.{List, [], _∷_}
 use lib.Dec.{T, eqb}
 use lib.IntN.{ℤ, pos, negsuc}
+use native.Mathlib.Omega.{arith}
 use mir.Facts.{and-yes, eqb-yes}
 use Rattle.format.specs.Test.{pick}
+use Rattle.format.specs.Writer.{Seen, placeIn}
+use Rattle.format.proofs.Choice.{pick-yes, pick-no, tested}
+use Rattle.format.proofs.Each.{Each}
 use Rattle.format.specs.declared.Row.{Row}
 use Rattle.format.specs.declared.Row.the-variants.{DefCfa, DefCfaOffset, DefCfaRegister, Offset, Restore, Undefined, RememberState, RestoreState, NegateRaState}
 use Rattle.format.specs.Rows.{sameOffset, kindOf, regOf, offsetOf, sameRow}
@@ -118,3 +122,16 @@ same-key a b t =
       same-mark (a .signal) (b .signal) (g .1),
       same-rows (a .rows) (b .rows) (h .1),
     )
+
+-- what holds of each earlier key and place holds of a key at the place that is found for it
+pub place-in : (P : Key → ℕ → Type 0) (k : Key) (cie : ℕ) (seen : List Seen) → placeIn k seen ≡ some cie → Each (λ n. P (n .key) (n .place)) seen → P k cie
+unfolding placeIn
+place-in P k cie [] e h = let z : _≡_ {A = ℕ} 0 1 = cc in absurd (omega arith)
+place-in P k cie (n ∷ seen) e h =
+    tested (sameKey (n .key) k)
+    (λ t.
+    let here : some (n .place) ≡ some cie = rw pick-yes at e in
+    let key : n .key ≡ k = same-key (n .key) k t in
+    let place : n .place ≡ cie = cc in
+    rw (← key, ← place) (h .0))
+    (λ t. place-in P k cie seen (rw pick-no at e) (h .1))

@@ -17,11 +17,13 @@ use Rattle.format.specs.Records.{sizeField, recordFields, recordBytes}
 use Rattle.format.specs.Reader.{Entry, entriesF, entries}
 use Rattle.format.specs.Questions.{sizeBytes}
 use Rattle.format.specs.Writer.{Section, isDebug, Seen, partsFrom, joined}
+use Rattle.format.proofs.Each.{Each, each-join, each-then}
 use Rattle.format.proofs.EntryBack.{entry-back, entry-length, padded-behind}
 use Rattle.format.proofs.HeaderBack.{header-long}
 use Rattle.format.proofs.RecordBack.{record-long}
+use Rattle.format.proofs.SameKey.{place-in}
 use Rattle.format.proofs.Fits.{MachineFits, FunctionFits, AllFit, Bounded}
-use Rattle.format.proofs.Parts.{headerBody, recordBody, header-entry, record-entry, Spot, cieOf, spotOf, frontFor, frontOf, placeOf, partBytes, bytesOf, nextAt, nextSites, nextSeen, bytes-none, bytes-more}
+use Rattle.format.proofs.Parts.{headerBody, recordBody, header-entry, record-entry, Spot, placeOr, cieOf, spotOf, frontFor, frontOf, placeOf, partBytes, bytesOf, nextAt, nextSites, nextSeen, bytes-none, bytes-more}
 use Rattle.format.proofs.SectionSize.{section-short}
 
 -- ---- the entries
@@ -47,10 +49,11 @@ module _ (s : Section) (m : Machine) where
 
   -- ---- the fields
 
-  -- those of one function: the two lengths, the distance back to the header, and the function's length
+  -- those of one function: the two lengths, the distance back to the header, which is not 0, and the function's length
   pub record Holds (x : Spot) (f : Function) : Type 0 where
     pub header-length : x .earlier ≡ none → length (headerBody (isDebug s) m (x .align) (x .start) (keyOf m f)) < 2 ^ 32
     pub record-length : length (recordBody (isDebug s) m (x .align) (placeOf s m x f) (cieOf x) f) < 2 ^ 32
+    pub behind : cieOf x < placeOf s m x f
     pub distance : placeOf s m x f + 4 - cieOf x < 2 ^ 32
     pub size : sizeField (f .size) (f .relaxed) < 256 ^ sizeBytes s (m .word)
 
@@ -73,36 +76,50 @@ module _ (s : Section) (m : Machine) where
   unfolding partBytes
   part-length x f = rw (length-append, record-entry, entry-length) (omega arith)
 
-  function-holds : (x : Spot) (f : Function) → FunctionFits s m f → x .start + length (partBytes s m x f) + 4 < 2 ^ 32 → Holds x f
-  unfolding placeOf frontOf
-  function-holds x f ok h =
-      let n = part-length x f in
-      record {
-        header-length = λ e. omega (arith, front-length (x .earlier) (x .align) (x .start) (keyOf m f) e);
-        record-length = omega arith;
-        distance = omega arith;
-        size = size-holds (f .size) (f .relaxed) (ok .size-small);
-      }
-
-  fields-from : (at sites : ℕ) (seen : List Seen) (fs : List Function) → AllFit s m fs → at + length (bytesOf s m at sites seen fs) + 4 < 2 ^ 32
-      → FieldsHold at seen fs
-  unfolding spotOf nextAt
-  fields-from at sites seen [] ok h = tt
-  fields-from at sites seen (f ∷ fs) ok h =
-      let x : Spot = spotOf s m at seen f fs in
-      let later : List ℕ = bytesOf s m (nextAt s m at seen f fs) (nextSites sites f) (nextSeen s m at seen f fs) fs in
-      let n : at + length (partBytes s m x f ++ later) + 4 < 2 ^ 32 = rw (bytes-more s m at sites seen f fs) at h in
-      let l = length-append (partBytes s m x f) later in
-      (function-holds x f (ok .0) (omega arith), fields-from (nextAt s m at seen f fs) (nextSites sites f) (nextSeen s m at seen f fs) fs (ok .1) (omega arith))
-
-  pub fields-hold : (fs : List Function) → MachineFits m → AllFit s m fs → Bounded fs → FieldsHold 0 [] fs
-  unfolding bytesOf
-  fields-hold fs fit ok b = fields-from 0 0 [] fs ok (omega (arith, section-short s m fit 0 0 [] fs ok b))
-
   place-next : (x : Spot) (f : Function)
       → x .start + length (partBytes s m x f) ≡ placeOf s m x f + 4 + length (recordBody (isDebug s) m (x .align) (placeOf s m x f) (cieOf x) f)
   unfolding placeOf
   place-next x f = omega (arith, part-length x f)
+
+  -- a header of one's own, or one that stands before `at`
+  front-behind : (o : Option ℕ) (align at : ℕ) (k : Key) → ((cie : ℕ) → o ≡ some cie → cie < at) → placeOr o at < at + length (frontFor s m o align at k)
+  unfolding placeOr
+  front-behind none align at k h = omega (arith, front-length none align at k refl)
+  front-behind (some cie) align at k h = omega (arith, h cie refl)
+
+  function-holds : (x : Spot) (f : Function) → FunctionFits s m f → ((cie : ℕ) → x .earlier ≡ some cie → cie < x .start) → x .start + length (partBytes s m x f) + 4 < 2 ^ 32 → Holds x f
+  unfolding placeOf cieOf frontOf
+  function-holds x f ok e h =
+      let n = part-length x f in
+      let b = front-behind (x .earlier) (x .align) (x .start) (keyOf m f) e in
+      record {
+        header-length = λ e. omega (arith, front-length (x .earlier) (x .align) (x .start) (keyOf m f) e);
+        record-length = omega arith;
+        behind = b;
+        distance = omega arith;
+        size = size-holds (f .size) (f .relaxed) (ok .size-small);
+      }
+
+  fields-from : (at sites : ℕ) (seen : List Seen) (fs : List Function) → AllFit s m fs → Each (λ n. n .place < at) seen
+      → at + length (bytesOf s m at sites seen fs) + 4 < 2 ^ 32
+      → FieldsHold at seen fs
+  unfolding spotOf nextAt nextSeen
+  fields-from at sites seen [] ok before h = tt
+  fields-from at sites seen (f ∷ fs) ok before h =
+      let x : Spot = spotOf s m at seen f fs in
+      let later : List ℕ = bytesOf s m (nextAt s m at seen f fs) (nextSites sites f) (nextSeen s m at seen f fs) fs in
+      let n : at + length (partBytes s m x f ++ later) + 4 < 2 ^ 32 = rw (bytes-more s m at sites seen f fs) at h in
+      let l = length-append (partBytes s m x f) later in
+      let here : Holds x f = function-holds x f (ok .0) (λ cie e. place-in (λ k n. n < at) (keyOf m f) cie seen e before) (omega arith) in
+      (
+        here,
+        fields-from (nextAt s m at seen f fs) (nextSites sites f) (nextSeen s m at seen f fs) fs (ok .1)
+        (each-join (λ n. n .place < nextAt s m at seen f fs) seen _ (each-then _ _ seen (λ n b. omega arith) before) (omega (arith, here .behind, place-next x f), tt)) (omega arith),
+      )
+
+  pub fields-hold : (fs : List Function) → MachineFits m → AllFit s m fs → Bounded fs → FieldsHold 0 [] fs
+  unfolding bytesOf
+  fields-hold fs fit ok b = fields-from 0 0 [] fs ok tt (omega (arith, section-short s m fit 0 0 [] fs ok b))
 
   -- ---- tiling
 
