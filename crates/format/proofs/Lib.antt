@@ -23,3 +23,5 @@ pub mod Parts
 pub mod SectionSize
 pub mod SectionTiles
 pub mod Each
+pub mod RelocsInside
+pub mod SectionFinds

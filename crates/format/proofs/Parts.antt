@@ -1,6 +1,7 @@
 -- What one function adds to a section, said in one way with a header of its own and without one.
 use mathlib.Core.Path.{_≡_, refl}
-use Prim.Native.Nat.{ℕ, _+_, _-_}
+use Prim.Native.Nat.{ℕ, _+_, _-_, _≤_}
+use native.Mathlib.Omega.{arith}
 use native.Mathlib.Nat.{add-zero}
 use mathlib.Core.Bool.{Bool, true, false}
 use mathlib.Core.Option.{Option, none, some}
@@ -71,6 +72,10 @@ module _ (s : Section) (m : Machine) where
   -- the record's place
   unfoldable pub placeOf : Spot → Function → ℕ
   placeOf x f = x .start + length (frontOf x f)
+
+  pub place-from : (x : Spot) (f : Function) → x .start ≤ placeOf x f
+  unfolding placeOf
+  place-from x f = omega arith
 
   unfoldable pub partBytes : Spot → Function → List ℕ
   partBytes x f = frontOf x f ++ recordBytes (isDebug s) m (x .align) (placeOf x f) (cieOf x) f

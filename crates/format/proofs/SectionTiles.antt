@@ -76,7 +76,7 @@ module _ (s : Section) (m : Machine) where
   unfolding partBytes
   part-length x f = rw (length-append, record-entry, entry-length) (omega arith)
 
-  place-next : (x : Spot) (f : Function)
+  pub place-next : (x : Spot) (f : Function)
       → x .start + length (partBytes s m x f) ≡ placeOf s m x f + 4 + length (recordBody (isDebug s) m (x .align) (placeOf s m x f) (cieOf x) f)
   unfolding placeOf
   place-next x f = omega (arith, part-length x f)
