@@ -25,3 +25,4 @@ pub mod SectionTiles
 pub mod Each
 pub mod RelocsInside
 pub mod SectionFinds
+pub mod SectionBack
