@@ -2,12 +2,12 @@
 use mathlib.Core.Path.{_≡_, refl}
 use Prim.Native.Nat.{ℕ, zero, suc, _+_, _%_, _^_, _≤_, _<_}
 use native.Mathlib.Omega.{arith}
-use mathlib.Core.Bool.{Bool, true, false, not, _&&_}
+use mathlib.Core.Bool.{Bool, true, false, not}
 use mathlib.Core.Logic.{_≢_}
 use mathlib.Core.List.{List, [], _∷_, _++_}
 use lib.ListN.{length, length-append}
 use lib.Dec.{T, eqb}
-use lib.IntN.{pos, negℤ, natAbs}
+use lib.IntN.{pos, negℤ}
 use mir.Facts.{and-yes, eqb-yes, eqb-no, yes-eqb}
 use Rattle.format.specs.Test.{pick}
 use Rattle.format.specs.declared.Machine.{Machine}
@@ -17,7 +17,7 @@ use Rattle.format.specs.Rows.{Line, kindOf, regOf, offsetOf, whole, whol
 use Rattle.format.specs.Lists.{Function}
 use Rattle.format.specs.Headers.{implied, leads, ahead, others, leading}
 use Rattle.format.proofs.Choice.{pick-yes, pick-no, tested}
-use Rattle.format.proofs.RowBack.{Off32, RowFits}
+use Rattle.format.proofs.RowBack.{RowFits}
 use Rattle.format.proofs.WalkBack.{LinesOk, RowsOk}
 use Rattle.format.proofs.Fits.{MachineFits}
 

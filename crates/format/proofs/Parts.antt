@@ -3,7 +3,7 @@ use mathlib.Core.Path.{_≡_, refl}
 use Prim.Native.Nat.{ℕ, _+_, _-_, _≤_}
 use native.Mathlib.Omega.{arith}
 use native.Mathlib.Nat.{add-zero}
-use mathlib.Core.Bool.{Bool, true, false}
+use mathlib.Core.Bool.{Bool}
 use mathlib.Core.Option.{Option, none, some}
 use mathlib.Core.List.{List, [], _∷_, _++_, map}
 use lib.ListN.{length}
@@ -13,7 +13,7 @@ use Rattle.format.specs.Lists.{Function, Relocation}
 use Rattle.format.specs.Headers.{Key, keyOf, others, padded, entry, headerFields, headerBytes, headerRelocs}
 use Rattle.format.specs.Records.{recordFields, recordBytes, recordRelocs}
 use Rattle.format.specs.CallSites.{sitePad, siteAdded}
-use Rattle.format.specs.Writer.{Section, isDebug, alignFor, Part, Seen, placeIn, partWith, partOf, isEmpty, partsFrom, joined}
+use Rattle.format.specs.Writer.{Section, isDebug, alignFor, Seen, placeIn, partWith, partOf, isEmpty, partsFrom, joined}
 
 -- ---- an entry's bytes behind its length
 
@@ -72,6 +72,10 @@ module _ (s : Section) (m : Machine) where
   -- the record's place
   unfoldable pub placeOf : Spot → Function → ℕ
   placeOf x f = x .start + length (frontOf x f)
+
+  -- the record's bytes behind its length
+  abbrev pub bodyOf : Spot → Function → List ℕ
+  bodyOf x f = recordBody (isDebug s) m (x .align) (placeOf x f) (cieOf x) f
 
   pub place-from : (x : Spot) (f : Function) → x .start ≤ placeOf x f
   unfolding placeOf

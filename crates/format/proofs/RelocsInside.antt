@@ -6,11 +6,10 @@ use mathlib.Core.Bool.{Bool, true, false, not, _||_}
 use mathlib.Core.Logic.{_≢_, ⊎-elim}
 use mathlib.Core.Option.{Option, none, some}
 use mathlib.Core.List.{List, [], _∷_, _++_}
-use lib.Dec.{T, leb, ltb, eqb}
+use lib.Dec.{T, ltb, eqb}
 use mir.Facts.{and-yes, or-yes, eqb-yes}
 use lib.ListN.{length, replicate, length-append, length-replicate}
 use Rattle.format.specs.Test.{pick}
-use Rattle.format.specs.Leb.{little}
 use Rattle.format.specs.declared.Machine.{Machine}
 use Rattle.format.specs.declared.Row.{Row}
 use Rattle.format.specs.declared.Operation.the-variants.{Does}
@@ -21,7 +20,7 @@ use Rattle.format.specs.Headers.{Kind, plain, personal, named, Key, keyO
 use Rattle.format.specs.CallSites.{sitePad}
 use Rattle.format.specs.Writer.{Section, isDebug}
 use Rattle.format.specs.Questions.{isSome, lsdaOk, namedOk, encodingsOk}
-use Rattle.format.specs.Records.{pointerBlank, namedBlank, lsdaBlank, pointerTo, namedReloc, lsdaReloc, recordFields, recordBytes, recordRelocs, sumPair, pairFor, setKind, setBytes, setPlace, setPair, stepRelocs, rowRelocs}
+use Rattle.format.specs.Records.{pointerBlank, namedBlank, lsdaBlank, pointerTo, namedReloc, lsdaReloc, recordFields, recordBytes, recordRelocs, sumPair, pairFor, setBytes, setPlace, setPair, stepRelocs, rowRelocs}
 use Rattle.format.proofs.Choice.{if-le, if-gt, if-ne, either}
 use Rattle.format.proofs.Each.{Each, each-join, each-then}
 use Rattle.format.proofs.LebBack.{little-length}
@@ -137,11 +136,10 @@ size-known word e h =
     known-pick e (eqb e 0) (some word) _ (λ a t. (h, λ l. let z : e ≡ 0 = eqb-yes a in absurd (omega arith)))
     (known-pick e _ (some 4) _ (λ a t. (omega arith, λ l. refl))
     (known-pick e (eqb e 0x04 || eqb e 0x0c) (some 8) none
-    (λ a t.
-    (
+    (λ a t. (
       omega arith,
       λ l. absurd
-      (⊎-elim (λ b. let z : e ≡ 4 = eqb-yes b in omega arith) (λ b. let z : e ≡ 12 = eqb-yes b in omega arith) (or-yes (eqb e 0x04) (eqb e 0x0c) a)),
+          (⊎-elim (λ b. let z : e ≡ 4 = eqb-yes b in omega arith) (λ b. let z : e ≡ 12 = eqb-yes b in omega arith) (or-yes (eqb e 0x04) (eqb e 0x0c) a)),
     ))
     λ t. absurd t))
 
@@ -196,8 +194,7 @@ module _ (m : Machine) (word-ok : T (isWord (m .word))) where
   fields-inside true at cie table f ok =
       let w : (0 < word) × (word ≤ 8) = word-small word word-ok in
       let l = debug-length word (at + 4 - cie) f in
-      let end : ℕ = at + 4 + length (recordFields true word (at + 4 - cie) f) in
-      (
+      let end : ℕ = at + 4 + length (recordFields true word (at + 4 - cie) f) in (
         inside _ _ _ _ (omega arith) (omega arith) (omega arith),
         (
           inside _ _ _ _ (omega arith) (omega arith) (omega arith),
@@ -209,12 +206,11 @@ module _ (m : Machine) (word-ok : T (isWord (m .word))) where
       let l = eh-length word (at + 4 - cie) f (w .1) in
       let n : ℕ = lsdaBlank word (f .landings) (f .named) in
       let end : ℕ = at + 4 + length (recordFields false word (at + 4 - cie) f) in
-      let lsda : List Relocation = lsdaReloc word (at + 17) table (f .landings) (f .named) in
-      (
+      let lsda : List Relocation = lsdaReloc word (at + 17) table (f .landings) (f .named) in (
         inside _ _ _ _ (omega arith) (omega arith) (omega arith),
         each-join (Inside at end) lsda (sumPair (at + 12) 4 f (f .relaxed))
-        (wider (at + 17) at (at + 17 + n) end lsda (omega arith) (omega arith) (lsda-inside word (at + 17) table (f .landings) (f .named) (w .0) ok))
-        (sum-pair at end (at + 12) 4 f (f .relaxed) (omega arith) (omega arith) (omega arith)),
+            (wider (at + 17) at (at + 17 + n) end lsda (omega arith) (omega arith) (lsda-inside word (at + 17) table (f .landings) (f .named) (w .0) ok))
+            (sum-pair at end (at + 12) 4 f (f .relaxed) (omega arith) (omega arith) (omega arith)),
       )
 
   pub record-inside : (debug : Bool) (align at cie table : ℕ) (f : Function) → T (encodingsOk word (f .landings) (f .named)) → LinesOk word 0 (f .rows)
@@ -226,7 +222,7 @@ module _ (m : Machine) (word-ok : T (isWord (m .word))) where
       let bytes : List ℕ = linesBytes word 0 (others (f .rows)) in
       let end : ℕ = at + length (entry (padded align at (fields ++ bytes))) in
       let l : ops + length bytes ≤ end =
-          omega (arith, entry-length (padded align at (fields ++ bytes)), padded-length align at (fields ++ bytes), length-append fields bytes) in
+      omega (arith, entry-length (padded align at (fields ++ bytes)), padded-length align at (fields ++ bytes), length-append fields bytes) in
       let rs : List Relocation = rowRelocs word ops (others (f .rows)) (f .relaxed) in
       let first : List Relocation = fieldRelocs debug at cie table f in
       each-join (Inside at end) first rs (wider at at ops end first (omega arith) (omega arith) (fields-inside debug at cie table f ok))

@@ -1,5 +1,5 @@
 -- Reading a section that was written gives what the rows say.
-use mathlib.Core.Path.{_≡_, refl, ap, _∙_}
+use mathlib.Core.Path.{_≡_, refl, ap}
 use Prim.Native.Nat.{ℕ, zero, suc, _+_, _-_, _^_, _≤_, _<_}
 use native.Mathlib.Omega.{arith}
 use mathlib.Core.Bool.{Bool, true, false, not}
@@ -7,15 +7,15 @@ use mathlib.Core.Option.{Option, none, some}
 use mathlib.Core.List.{List, [], _∷_, _++_, map}
 use lib.ListN.{length, replicate, getElem?}
 use lib.Dec.{T}
-use Rattle.format.specs.Test.{pick, after, Result, good, bad, onward, orElse}
+use Rattle.format.specs.Test.{pick, after, good, onward, orElse}
 use Rattle.format.specs.declared.Machine.{Machine}
 use Rattle.format.specs.declared.Rule.the-variants as rule
 use Rattle.format.specs.Rows.{rowsBytes, linesBytes}
 use Rattle.format.specs.Lists.{Function, Relaxed, Relocation}
 use Rattle.format.specs.Headers.{keyOf, kindFor, leading, others, padding, headerFields}
 use Rattle.format.specs.Records.{sizeField, recordFields}
-use Rattle.format.specs.Rules.{Run, start, actAll, while, answer, runRows}
-use Rattle.format.specs.Reader.{Entry, entries, records, distanceBack, firstAddend, headerPlace, headerAt, parseHeader, parseRecord, walk, Found, parsed, locate, walked, readSection}
+use Rattle.format.specs.Rules.{start, answer, runRows}
+use Rattle.format.specs.Reader.{Entry, distanceBack, firstAddend, headerPlace, Found, parsed, locate, walked, readSection}
 use Rattle.format.specs.Questions.{sizeBytes}
 use Rattle.format.specs.Writer.{Section, elf, machO, debug, isDebug, partsFrom, joined}
 use Rattle.format.proofs.Choice.{if-le}
@@ -28,7 +28,7 @@ use Rattle.format.proofs.Fits.{MachineFits, FunctionFits, AllFit, Bound
 use Rattle.format.proofs.Leading.{others-ok, leading-ok}
 use Rattle.format.proofs.Parts.{headerBody, recordBody, Spot, cieOf, placeOf}
 use Rattle.format.proofs.SectionSize.{header-ok}
-use Rattle.format.proofs.SectionTiles.{headerEntry, recordEntry, entriesOf, Holds, section-tiles}
+use Rattle.format.proofs.SectionTiles.{headerEntry, recordEntry, Holds, section-tiles}
 use Rattle.format.proofs.SectionFinds.{spotAt, record-holds, record-found, header-found, header-by-distance, header-by-relocation}
 
 size-bytes : (s : Section) (word : ℕ) → pick (isDebug s) word 4 ≡ sizeBytes s word
@@ -76,16 +76,15 @@ module _ (s : Section) (m : Machine) (fit : MachineFits m) (f : Function) (ok : 
       let d : ℕ = placeOf s m x f + 4 - cieOf x in
       let rows : List ℕ = rowsBytes (m .word) (leading m f) in
       let lines : List ℕ = linesBytes (m .word) 0 (others (f .rows)) in
-      let hs : sizeField (f .size) (f .relaxed) < 256 ^ pick (isDebug s) (m .word) 4 = rw size-bytes (h .size) in
-      (
+      let hs : sizeField (f .size) (f .relaxed) < 256 ^ pick (isDebug s) (m .word) 4 = rw size-bytes (h .size) in (
         padding align (at + 4 + length (headerFields (isDebug s) m (keyOf m f) ++ rows)),
         padding (x .align) (placeOf s m x f + 4 + length (recordFields (isDebug s) (m .word) d f ++ lines)),
         rw (
-          padded-behind,
+          padded-behind align at,
           header-back (isDebug s) m (keyOf m f) _ (header-ok s m fit f ok),
           padded-behind,
           record-back (isDebug s) (m .word) d (pointerIn (isDebug s) (m .word) (kindFor (f .landings) (f .named))) f _ (h .distance) hs
-          (pointer-within (isDebug s) (m .word) (f .landings) (f .named)) (omega (arith, blank-small (m .word) (f .landings) (f .named) (w .1))),
+              (pointer-within (isDebug s) (m .word) (f .landings) (f .named)) (omega (arith, blank-small (m .word) (f .landings) (f .named) (w .1))),
         ),
       )
 

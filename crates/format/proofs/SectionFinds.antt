@@ -1,20 +1,20 @@
 -- Function k's record is record k of a section, and its header is found from it: in eh_frame by its distance, in debug_frame by a relocation.
-use mathlib.Core.Path.{_≡_, refl, ap, _∙_}
-use Prim.Native.Nat.{ℕ, zero, suc, _+_, _-_, _^_, _≤_, _<_}
+use mathlib.Core.Path.{_≡_, refl, _∙_}
+use Prim.Native.Nat.{ℕ, zero, suc, _+_, _-_, _≤_, _<_}
 use native.Mathlib.Omega.{arith}
 use mathlib.Core.Bool.{Bool, true, false, not, _&&_}
 use mathlib.Core.Logic.{_≢_}
 use mathlib.Core.Option.{Option, none, some}
 use mathlib.Core.List.{List, [], _∷_, _++_, append-assoc, map}
-use lib.ListN.{length, length-append, getElem?, drop}
+use lib.ListN.{length, getElem?, drop}
 use lib.Dec.{T, eqb, ltb, eqb-refl}
 use mir.Facts.{yes-and, yes-ltb, no-eqb}
-use Rattle.format.specs.Test.{pick, after, first}
+use Rattle.format.specs.Test.{after}
 use Rattle.format.specs.declared.Machine.{Machine}
 use Rattle.format.specs.Lists.{Function, Relocation}
 use Rattle.format.specs.Headers.{Key, keyOf, reloc, debugFrame, headerRelocs}
 use Rattle.format.specs.Records.{recordRelocs}
-use Rattle.format.specs.Reader.{Entry, second, isHeader, records, distanceBack, firstAddend, headerPlace, headerAt}
+use Rattle.format.specs.Reader.{Entry, isHeader, records, distanceBack, firstAddend, headerAt}
 use Rattle.format.specs.Writer.{Section, isDebug, Seen, placeIn, partsFrom, joined}
 use Rattle.format.proofs.Choice.{pick-yes, pick-no, if-le}
 use Rattle.format.proofs.Each.{Each, each-join, each-then, first-behind}
@@ -22,8 +22,8 @@ use Rattle.format.proofs.EntryBack.{padded-behind}
 use Rattle.format.proofs.HeaderBack.{header-is}
 use Rattle.format.proofs.RecordBack.{record-second-eh, record-is-none}
 use Rattle.format.proofs.SameKey.{place-in}
-use Rattle.format.proofs.Fits.{MachineFits, FunctionFits, AllFit, Bounded}
-use Rattle.format.proofs.Parts.{headerBody, recordBody, Spot, placeOr, cieOf, spotOf, frontFor, relocsFor, frontOf, placeOf, partBytes, partRelocs, relocsOf, place-from, nextAt, nextSites, nextSeen, relocs-more}
+use Rattle.format.proofs.Fits.{MachineFits, AllFit, Bounded}
+use Rattle.format.proofs.Parts.{headerBody, recordBody, Spot, placeOr, cieOf, spotOf, relocsFor, placeOf, partBytes, partRelocs, relocsOf, place-from, nextAt, nextSites, nextSeen, relocs-more}
 use Rattle.format.proofs.SectionTiles.{headerEntry, frontEntries, recordEntry, entriesOf, Holds, FieldsHold, fields-hold, place-next}
 use Rattle.format.proofs.RelocsInside.{Inside, relocations-inside}
 
@@ -86,14 +86,13 @@ module _ (s : Section) (m : Machine) where
 
   stands-here : (pre rest : List Entry) (align at : ℕ) (k : Key) → Each (λ e. e .at < at) pre → Stands (pre ++ (headerEntry (isDebug s) m align at k ∷ rest)) k at
   unfolding headerAt headerEntry
-  stands-here pre rest align at k h =
-      (
-        align,
-        λ before l. first-behind (λ e. eqb (e .at) at && ltb at before && isHeader (isDebug s) e) pre (headerEntry (isDebug s) m align at k) rest
+  stands-here pre rest align at k h = (
+    align,
+    λ before l. first-behind (λ e. eqb (e .at) at && ltb at before && isHeader (isDebug s) e) pre (headerEntry (isDebug s) m align at k) rest
         (each-then (λ e. e .at < at) _ pre (λ e b. let n : e .at ≢ at = λ z. omega arith in no-and (eqb (e .at) at) (ltb at before) (isHeader (isDebug s) e) (no-eqb n)) h)
         (yes-and (eqb at at && ltb at before) (isHeader (isDebug s) (headerEntry (isDebug s) m align at k))
         (yes-and (eqb at at) (ltb at before) (eqb-refl at) (yes-ltb l)) (header-entry-is (isDebug s) m align at k)),
-      )
+  )
 
   -- a function's header is its own, or an earlier one's
   stands-one : (o : Option ℕ) (align at : ℕ) (k : Key) (seen : List Seen) (pre rest es : List Entry) → placeIn k seen ≡ o

@@ -1,6 +1,5 @@
 -- How long a section is: what an accepted list's functions add stays below 2^25 bytes.
-use mathlib.Core.Path.{_≡_, refl}
-use Prim.Native.Nat.{ℕ, _+_, _-_, _*_, _^_, _≤_, _<_, min}
+use Prim.Native.Nat.{ℕ, _+_, _-_, _*_, _^_, _≤_, _<_}
 use native.Mathlib.Omega.{arith}
 use mathlib.Core.Bool.{Bool, true, false}
 use mathlib.Core.Option.{Option, none, some}
@@ -10,7 +9,7 @@ use Rattle.format.specs.Test.{pick}
 use Rattle.format.specs.declared.Machine.{Machine}
 use Rattle.format.specs.Rows.{rowsBytes, linesBytes}
 use Rattle.format.specs.Lists.{Function}
-use Rattle.format.specs.Headers.{keyOf, leading, others, padding, padded, entry, headerFields, headerBytes}
+use Rattle.format.specs.Headers.{keyOf, leading, others, padded, entry, headerFields, headerBytes}
 use Rattle.format.specs.Records.{recordFields, recordBytes}
 use Rattle.format.specs.Writer.{Section, elf, machO, debug, isDebug, alignFor, Seen, isEmpty, partsFrom, joined}
 use Rattle.format.proofs.EntryBack.{entry-length, padding-small, padded-length}

@@ -3,8 +3,7 @@ use mathlib.Core.Path.{_≡_, refl}
 use Prim.Native.Nat.{ℕ, zero, suc, _+_, _-_, _^_, _≤_, _<_}
 use native.Mathlib.Omega.{arith}
 use native.Mathlib.Nat.{le-refl, add-zero}
-use lib.Pow.{pow-pos}
-use mathlib.Core.Bool.{Bool, true, false}
+use mathlib.Core.Bool.{Bool}
 use mathlib.Core.Option.{Option, none, some}
 use mathlib.Core.List.{List, [], _∷_, _++_, append-assoc, map}
 use lib.ListN.{length, length-append}
@@ -12,8 +11,8 @@ use Rattle.format.specs.Test.{next, after}
 use Rattle.format.specs.Leb.{little}
 use Rattle.format.specs.declared.Machine.{Machine}
 use Rattle.format.specs.Lists.{Function, Relaxed}
-use Rattle.format.specs.Headers.{Key, keyOf, entry, padded, headerFields, headerBytes}
-use Rattle.format.specs.Records.{sizeField, recordFields, recordBytes}
+use Rattle.format.specs.Headers.{Key, keyOf, entry, headerBytes}
+use Rattle.format.specs.Records.{sizeField, recordBytes}
 use Rattle.format.specs.Reader.{Entry, entriesF, entries}
 use Rattle.format.specs.Questions.{sizeBytes}
 use Rattle.format.specs.Writer.{Section, isDebug, Seen, partsFrom, joined}
@@ -23,7 +22,7 @@ use Rattle.format.proofs.HeaderBack.{header-long}
 use Rattle.format.proofs.RecordBack.{record-long}
 use Rattle.format.proofs.SameKey.{place-in}
 use Rattle.format.proofs.Fits.{MachineFits, FunctionFits, AllFit, Bounded}
-use Rattle.format.proofs.Parts.{headerBody, recordBody, header-entry, record-entry, Spot, placeOr, cieOf, spotOf, frontFor, frontOf, placeOf, partBytes, bytesOf, nextAt, nextSites, nextSeen, bytes-none, bytes-more}
+use Rattle.format.proofs.Parts.{headerBody, recordBody, header-entry, record-entry, Spot, placeOr, cieOf, spotOf, frontFor, frontOf, placeOf, bodyOf, partBytes, bytesOf, nextAt, nextSites, nextSeen, bytes-none, bytes-more}
 use Rattle.format.proofs.SectionSize.{section-short}
 
 -- ---- the entries
@@ -37,7 +36,7 @@ module _ (s : Section) (m : Machine) where
   frontEntries (some cie) align at k = []
 
   unfoldable pub recordEntry : Spot → Function → Entry
-  recordEntry x f = record { at = placeOf s m x f; body = recordBody (isDebug s) m (x .align) (placeOf s m x f) (cieOf x) f }
+  recordEntry x f = record { at = placeOf s m x f; body = bodyOf s m x f }
 
   -- the header (where one is made) and the record of each function, in order
   unfoldable pub entriesOf : (at : ℕ) → List Seen → List Function → List Entry
@@ -52,7 +51,7 @@ module _ (s : Section) (m : Machine) where
   -- those of one function: the two lengths, the distance back to the header, which is not 0, and the function's length
   pub record Holds (x : Spot) (f : Function) : Type 0 where
     pub header-length : x .earlier ≡ none → length (headerBody (isDebug s) m (x .align) (x .start) (keyOf m f)) < 2 ^ 32
-    pub record-length : length (recordBody (isDebug s) m (x .align) (placeOf s m x f) (cieOf x) f) < 2 ^ 32
+    pub record-length : length (bodyOf s m x f) < 2 ^ 32
     pub behind : cieOf x < placeOf s m x f
     pub distance : placeOf s m x f + 4 - cieOf x < 2 ^ 32
     pub size : sizeField (f .size) (f .relaxed) < 256 ^ sizeBytes s (m .word)
@@ -72,12 +71,12 @@ module _ (s : Section) (m : Machine) where
   front-length (some cie) align at k e = cc
 
   part-length : (x : Spot) (f : Function)
-      → length (partBytes s m x f) ≡ length (frontOf s m x f) + 4 + length (recordBody (isDebug s) m (x .align) (placeOf s m x f) (cieOf x) f)
+      → length (partBytes s m x f) ≡ length (frontOf s m x f) + 4 + length (bodyOf s m x f)
   unfolding partBytes
   part-length x f = rw (length-append, record-entry, entry-length) (omega arith)
 
   pub place-next : (x : Spot) (f : Function)
-      → x .start + length (partBytes s m x f) ≡ placeOf s m x f + 4 + length (recordBody (isDebug s) m (x .align) (placeOf s m x f) (cieOf x) f)
+      → x .start + length (partBytes s m x f) ≡ placeOf s m x f + 4 + length (bodyOf s m x f)
   unfolding placeOf
   place-next x f = omega (arith, part-length x f)
 
@@ -110,11 +109,10 @@ module _ (s : Section) (m : Machine) where
       let later : List ℕ = bytesOf s m (nextAt s m at seen f fs) (nextSites sites f) (nextSeen s m at seen f fs) fs in
       let n : at + length (partBytes s m x f ++ later) + 4 < 2 ^ 32 = rw (bytes-more s m at sites seen f fs) at h in
       let l = length-append (partBytes s m x f) later in
-      let here : Holds x f = function-holds x f (ok .0) (λ cie e. place-in (λ k n. n < at) (keyOf m f) cie seen e before) (omega arith) in
-      (
+      let here : Holds x f = function-holds x f (ok .0) (λ cie e. place-in (λ k n. n < at) (keyOf m f) cie seen e before) (omega arith) in (
         here,
         fields-from (nextAt s m at seen f fs) (nextSites sites f) (nextSeen s m at seen f fs) fs (ok .1)
-        (each-join (λ n. n .place < nextAt s m at seen f fs) seen _ (each-then _ _ seen (λ n b. omega arith) before) (omega (arith, here .behind, place-next x f), tt)) (omega arith),
+            (each-join (λ n. n .place < nextAt s m at seen f fs) seen _ (each-then _ _ seen (λ n b. omega arith) before) (omega (arith, here .behind, place-next x f), tt)) (omega arith),
       )
 
   pub fields-hold : (fs : List Function) → MachineFits m → AllFit s m fs → Bounded fs → FieldsHold 0 [] fs
@@ -159,14 +157,13 @@ module _ (s : Section) (m : Machine) where
   front-tiles (some cie) align at k rest es h t = rw add-zero at t
 
   record-tiles : (x : Spot) (f : Function) (rest : List ℕ) (es : List Entry)
-      → length (recordBody (isDebug s) m (x .align) (placeOf s m x f) (cieOf x) f) < 2 ^ 32
+      → length (bodyOf s m x f) < 2 ^ 32
       → Tiles (x .start + length (partBytes s m x f)) rest es
       → Tiles (placeOf s m x f) (recordBytes (isDebug s) m (x .align) (placeOf s m x f) (cieOf x) f ++ rest) (recordEntry x f ∷ es)
   unfolding recordEntry
   record-tiles x f rest es h t =
-      let body : List ℕ = recordBody (isDebug s) m (x .align) (placeOf s m x f) (cieOf x) f in
-      let there : x .start + length (partBytes s m x f) ≡ placeOf s m x f + 4 + length body = place-next x f in
-      rw record-entry (tile (placeOf s m x f) body rest es (record-body-long (x .align) (placeOf s m x f) (cieOf x) f) h (rw there at t))
+      let there : x .start + length (partBytes s m x f) ≡ placeOf s m x f + 4 + length (bodyOf s m x f) = place-next x f in
+      rw record-entry (tile (placeOf s m x f) (bodyOf s m x f) rest es (record-body-long (x .align) (placeOf s m x f) (cieOf x) f) h (rw there at t))
 
   part-tiles : (x : Spot) (f : Function) (rest : List ℕ) (es : List Entry) → Holds x f
       → Tiles (x .start + length (partBytes s m x f)) rest es
