@@ -22,3 +22,12 @@ pub mod Accepted
 pub mod PutLaws
 pub mod PositionLaws
 pub mod Storing
+pub mod SameKey
+pub mod Leading
+pub mod Parts
+pub mod SectionSize
+pub mod SectionTiles
+pub mod Each
+pub mod RelocsInside
+pub mod SectionFinds
+pub mod SectionBack
