@@ -31,3 +31,4 @@ pub mod Each
 pub mod RelocsInside
 pub mod SectionFinds
 pub mod SectionBack
+pub mod ReadBack
