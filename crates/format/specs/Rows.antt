@@ -28,7 +28,7 @@ unfoldable pub cfaBytes : ℕ → (plain sf : ℕ) → List ℕ → ℤ → List
 cfaBytes w plain sf reg (pos n) = plain ∷ (reg ++ uleb n)
 cfaBytes w plain sf reg (negsuc n) = sf ∷ (reg ++ sleb (factor w (negsuc n)))
 
--- a register to 63 rides in the opcode (7.24, figure 39: high two bits), else it follows
+-- a register to 63 rides in the opcode (7.24, table 7.29: the opcode's high two bits), else it follows
 unfoldable pub withRegister : (short long : ℕ) → ℕ → List ℕ → List ℕ
 withRegister short long reg bs = pick (leb reg 63) ((short + reg) ∷ bs) (long ∷ (uleb reg ++ bs))
 
@@ -37,7 +37,7 @@ unfoldable pub savedBytes : ℕ → ℤ → List ℕ
 savedBytes reg (pos n) = withRegister 0x80 0x05 reg (uleb n)
 savedBytes reg (negsuc n) = 0x11 ∷ (uleb reg ++ sleb (negsuc n))
 
--- a row's operation; 0x2d is AArch64's DW_CFA_AARCH64_negate_ra_state (DWARF for AArch64, 5)
+-- a row's operation; 0x2d is AArch64's DW_CFA_AARCH64_negate_ra_state (DWARF for the Arm 64-bit Architecture)
 unfoldable pub rowBytes : ℕ → Row → List ℕ
 rowBytes w (DefCfa reg z) = cfaBytes w 0x0c 0x12 (uleb reg) z
 rowBytes w (DefCfaOffset z) = cfaBytes w 0x0e 0x13 [] z

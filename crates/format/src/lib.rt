@@ -1,5 +1,5 @@
-// The types of the library: the machine, rows, x64 codes, and every answer. Ported from rucc-asm/src/unwind.rs of tamnd/rucc
-// (CfiOp, Seh, CallRegs), changed: see NOTICE. What they mean is in specs/.
+// Ported from crates/rucc-asm/src/unwind.rs of tamnd/rucc (CfiOp, Seh, CallRegs) and changed; see NOTICE.
+// The types of the library: the machine, rows, x64 codes, and every answer. What they mean is in specs/.
 ghost use mathlib.Core.Path.{_≡_};
 ghost use Rattle.format.specs.Machine.{x8664, machineWith};
 
