@@ -28,7 +28,7 @@ unfoldable pub cfaBytes : ℕ → (plain sf : ℕ) → List ℕ → ℤ → List
 cfaBytes w plain sf reg (pos n) = plain ∷ (reg ++ uleb n)
 cfaBytes w plain sf reg (negsuc n) = sf ∷ (reg ++ sleb (factor w (negsuc n)))
 
--- a register to 63 rides in the opcode (7.24, table 7.29: the opcode's high two bits), else it follows
+-- a register to 63 stands in the opcode (7.24, table 7.29: the opcode's high two bits), else it follows
 unfoldable pub withRegister : (short long : ℕ) → ℕ → List ℕ → List ℕ
 withRegister short long reg bs = pick (leb reg 63) ((short + reg) ∷ bs) (long ∷ (uleb reg ++ bs))
 
