@@ -1,0 +1,8 @@
+-- The lemmas of this crate's functions.
+pub mod Lists
+pub mod Signs
+pub mod Factors
+pub mod Bytes
+pub mod Steps
+pub mod Products
+pub mod Operations
