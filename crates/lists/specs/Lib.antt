@@ -1,0 +1,1 @@
+-- What the records of this crate hold.
