@@ -1,2 +1,4 @@
 -- The lemmas of this crate's functions.
 pub mod Answers
+pub mod Ranges
+pub mod Codes

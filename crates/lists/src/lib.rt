@@ -2,7 +2,7 @@
 ghost use mathlib.Core.Path.{_≡_};
 ghost use Prim.Native.Nat.{_+_, _*_, _/_, _≤_, _<_};
 ghost use lib.ListN.{length};
-ghost use Rattle.format.specs.Lists.{inside, symbolOk, pointerOk};
+ghost use Rattle.format.specs.Lists.{count, pairStride, codeStride, inside, symbolOk, pointerOk, pairOkAt, codeOkAt, allIn};
 
 // A range of n records from `at` lies inside a list of `size` records.
 pub fn inside(at: u64, n: u64, size: u64) -> bool
@@ -32,4 +32,71 @@ fn pointer_ok(encoding: u64, symbol: u64) -> bool
         return false;
     }
     symbol_ok(symbol)
+}
+
+// Both symbols of pair i.
+fn pair_ok(ps: &[u64], i: usize) -> bool
+    requires { ⌜ 4 * i + 4 ≤ length (now ps) ⌝ }
+    ensures { λ r. ⌜ r ≡ pairOkAt (now (ps .entry)) i ⌝ }
+{
+    if !symbol_ok(ps[4 * i + 2]) {
+        return false;
+    }
+    symbol_ok(ps[4 * i + 3])
+}
+
+// The n pairs from `at` on.
+fn pairs_ok(ps: &[u64], at: usize, n: usize) -> bool
+    requires { ⌜ at + n ≤ count pairStride (now ps) ⌝ }
+    ensures { λ r. ⌜ r ≡ allIn (pairOkAt (now (ps .entry))) at n ⌝ }
+{
+    let end = at + n;
+    let mut i = at;
+    while i < end {
+        if !pair_ok(ps, i) {
+            return false;
+        }
+        i += 1;
+    }
+    true
+}
+
+// The operands of code i: only those that its kind has.
+fn code_ok(cs: &[u64], i: usize) -> bool
+    requires { ⌜ 5 * i + 5 ≤ length (now cs) ⌝ }
+    ensures { λ r. ⌜ r ≡ codeOkAt (now (cs .entry)) i ⌝ }
+{
+    let kind = cs[5 * i + 1];
+    if 3 < kind {
+        return false;
+    }
+    if kind == 3 {
+        return cs[5 * i + 3] <= 1;
+    }
+    if cs[5 * i + 3] != 0 {
+        return false;
+    }
+    if kind == 2 {
+        return true;
+    }
+    if kind == 1 {
+        return cs[5 * i + 2] == 0;
+    }
+    cs[5 * i + 4] == 0
+}
+
+// The n codes from `at` on.
+fn codes_in(cs: &[u64], at: usize, n: usize) -> bool
+    requires { ⌜ at + n ≤ count codeStride (now cs) ⌝ }
+    ensures { λ r. ⌜ r ≡ allIn (codeOkAt (now (cs .entry))) at n ⌝ }
+{
+    let end = at + n;
+    let mut i = at;
+    while i < end {
+        if !code_ok(cs, i) {
+            return false;
+        }
+        i += 1;
+    }
+    true
 }

@@ -1,0 +1,34 @@
+-- The check of a code by its kind.
+use mathlib.Core.Path.{_≡_, refl, sym}
+use Prim.Native.Nat.{ℕ, _≤_, _<_}
+use native.Mathlib.Omega.{arith}
+use mathlib.Core.Bool.{Bool, true, false, not, _&&_, _||_, and-true, or-true, or-false, and-false}
+use borrow.Author.Tests.{lt-leb, ne-eqb}
+use lib.Dec.{leb, eqb}
+use Rattle.format.specs.Test.{pick}
+use Rattle.format.specs.Lists.{codeOk}
+
+module _ (kind reg vector value : ℕ) where
+  pub no-kind : 3 < kind → false ≡ codeOk kind reg vector value
+  unfolding codeOk
+  no-kind h = simp (lt-leb kind 3 h)
+
+  pub save : kind ≡ 3 → leb vector 1 ≡ codeOk kind reg vector value
+  unfolding codeOk pick
+  save e = simp (e, or-true, and-true)
+
+  pub no-vector : (kind ≡ 3 → ⊥) → (vector ≡ 0 → ⊥) → false ≡ codeOk kind reg vector value
+  unfolding codeOk pick
+  no-vector e v = let h : 0 < vector = omega arith in simp (ne-eqb kind 3 e, lt-leb vector 0 h, and-false)
+
+  pub frame : kind ≡ 2 → vector ≡ 0 → true ≡ codeOk kind reg vector value
+  unfolding codeOk pick
+  frame e v = simp (e, v, or-true)
+
+  pub alloc : kind ≡ 1 → vector ≡ 0 → eqb reg 0 ≡ codeOk kind reg vector value
+  unfolding codeOk pick
+  alloc e v = simp (e, v, or-true, or-false, and-true)
+
+  pub push : kind ≡ 0 → vector ≡ 0 → eqb value 0 ≡ codeOk kind reg vector value
+  unfolding codeOk pick
+  push e v = simp (e, v, or-true, or-false)
