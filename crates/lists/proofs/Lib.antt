@@ -2,3 +2,4 @@
 pub mod Answers
 pub mod Ranges
 pub mod Codes
+pub mod Sums

@@ -2,7 +2,8 @@
 ghost use mathlib.Core.Path.{_≡_};
 ghost use Prim.Native.Nat.{_+_, _*_, _/_, _≤_, _<_};
 ghost use lib.ListN.{length};
-ghost use Rattle.format.specs.Lists.{count, pairStride, codeStride, inside, symbolOk, pointerOk, pairOkAt, codeOkAt, allIn};
+ghost use lib.Dec.{leb};
+ghost use Rattle.format.specs.Lists.{count, field, pairStride, codeStride, mostRecords, inside, symbolOk, pointerOk, pairOkAt, codeOkAt, allIn, sumOf, pairsIn};
 
 // A range of n records from `at` lies inside a list of `size` records.
 pub fn inside(at: u64, n: u64, size: u64) -> bool
@@ -97,6 +98,53 @@ fn codes_in(cs: &[u64], at: usize, n: usize) -> bool
             return false;
         }
         i += 1;
+    }
+    true
+}
+
+// Number j of n records, summed, is at most the most of records.
+fn sum_ok(xs: &[u64], stride: usize, j: usize, n: usize) -> bool
+    requires { ⌜ (j < stride) × (stride * n ≤ length (now xs)) ⌝ }
+    ensures { λ r. ⌜ r ≡ leb (sumOf (λ k. field stride (now (xs .entry)) k j) 0 n) mostRecords ⌝ }
+{
+    let mut sum = 0;
+    let mut k = 0;
+    while k < n {
+        let x = xs[stride * k + j];
+        if 1048576 - sum < x {
+            return false;
+        }
+        sum += x;
+        k += 1;
+    }
+    true
+}
+
+// How many pairs function k has.
+fn pairs_in(fs: &[u64], k: usize) -> u64
+    requires { ⌜ 18 * k + 18 ≤ length (now fs) ⌝ }
+    ensures { λ r. ⌜ r ≡ pairsIn (now (fs .entry)) k ⌝ }
+{
+    if fs[18 * k + 14] == 0 {
+        return 0;
+    }
+    fs[18 * k + 17]
+}
+
+// The pairs of n functions, summed, are at most the most of records.
+fn pairs_sum_ok(fs: &[u64], n: usize) -> bool
+    requires { ⌜ 18 * n ≤ length (now fs) ⌝ }
+    ensures { λ r. ⌜ r ≡ leb (sumOf (pairsIn (now (fs .entry))) 0 n) mostRecords ⌝ }
+{
+    let mut sum = 0;
+    let mut k = 0;
+    while k < n {
+        let x = pairs_in(fs, k);
+        if 1048576 - sum < x {
+            return false;
+        }
+        sum += x;
+        k += 1;
     }
     true
 }
