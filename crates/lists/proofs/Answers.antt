@@ -3,7 +3,7 @@ use mathlib.Core.Path.{_≡_, sym, _∙_}
 use Prim.Native.Nat.{ℕ, _+_, _-_, _≤_, _<_}
 use native.Mathlib.Omega.{arith}
 use mathlib.Core.Bool.{Bool, true, false, not}
-use borrow.Author.Tests.{le-leb, lt-leb, not-true, not-false}
+use borrow.Author.Tests.{le-leb, lt-leb, leb-true, not-true, not-false}
 use lib.Dec.{leb}
 use Rattle.format.specs.Lists.{inside}
 use Rattle.format.proofs.Choice.{either}
@@ -27,3 +27,7 @@ far at n size h = lt-leb (at + n) size (omega arith)
 pub near : (at n size : ℕ) → at ≤ size → leb n (size - at) ≡ inside at n size
 unfolding inside
 near at n size h = same-leb n (size - at) (at + n) size (λ l. omega arith) (λ l. omega arith)
+
+pub reached : (at n size : ℕ) → inside at n size ≡ true → at + n ≤ size
+unfolding inside
+reached at n size e = leb-true (at + n) size e

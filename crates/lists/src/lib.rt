@@ -3,7 +3,7 @@ ghost use mathlib.Core.Path.{_≡_};
 ghost use Prim.Native.Nat.{_+_, _*_, _/_, _≤_, _<_};
 ghost use lib.ListN.{length};
 ghost use lib.Dec.{leb};
-ghost use Rattle.format.specs.Lists.{count, field, pairStride, codeStride, mostRecords, inside, symbolOk, pointerOk, pairOkAt, codeOkAt, allIn, sumOf, pairsIn};
+ghost use Rattle.format.specs.Lists.{count, field, pairStride, codeStride, mostRecords, inside, symbolOk, pointerOk, pairOkAt, codeOkAt, allIn, sumOf, pairsIn, prologueOkAt, codesOk};
 
 // A range of n records from `at` lies inside a list of `size` records.
 pub fn inside(at: u64, n: u64, size: u64) -> bool
@@ -147,4 +147,49 @@ fn pairs_sum_ok(fs: &[u64], n: usize) -> bool
         k += 1;
     }
     true
+}
+
+// The record of direct codes k, and the codes that it reaches.
+fn prologue_ok(fs: &[u64], codes: &[u64], k: usize) -> bool
+    requires { ⌜ 5 * k + 5 ≤ length (now fs) ⌝ }
+    ensures { λ r. ⌜ r ≡ prologueOkAt (now (fs .entry)) (now (codes .entry)) k ⌝ }
+{
+    if !symbol_ok(fs[5 * k]) {
+        return false;
+    }
+    let at = fs[5 * k + 3];
+    let n = fs[5 * k + 4];
+    if !inside(at, n, (codes.len() / 5) as u64) {
+        return false;
+    }
+    codes_in(codes, at as usize, n as usize)
+}
+
+// The first n records of direct codes.
+fn prologues_ok(fs: &[u64], codes: &[u64], n: usize) -> bool
+    requires { ⌜ 5 * n ≤ length (now fs) ⌝ }
+    ensures { λ r. ⌜ r ≡ allIn (prologueOkAt (now (fs .entry)) (now (codes .entry))) 0 n ⌝ }
+{
+    let mut k = 0;
+    while k < n {
+        if !prologue_ok(fs, codes, k) {
+            return false;
+        }
+        k += 1;
+    }
+    true
+}
+
+// Question 13 of the lists of direct codes.
+pub fn codes_ok(fs: &[u64], codes: &[u64]) -> bool
+    ensures { λ r. ⌜ r ≡ codesOk (now (fs .entry)) (now (codes .entry)) ⌝ }
+{
+    let n = fs.len() / 5;
+    if 65536 < n {
+        return false;
+    }
+    if !sum_ok(fs, 5, 4, n) {
+        return false;
+    }
+    prologues_ok(fs, codes, n)
 }
