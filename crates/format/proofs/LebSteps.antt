@@ -1,10 +1,11 @@
 -- LEB numbers byte by byte: what the last byte is, and what stands behind another.
-use mathlib.Core.Path.{_≡_}
+use mathlib.Core.Path.{_≡_, refl}
 use Prim.Native.Nat.{ℕ, zero, suc, _+_, _*_, _/_, _%_, _^_, _≤_, _<_}
 use native.Mathlib.Omega.{arith}
 use mathlib.Core.Bool.{Bool}
 use mathlib.Core.List.{List, [], _∷_}
-use Rattle.format.specs.Leb.{ulebF, uleb, bits7, slebF}
+use Rattle.format.specs.Test.{pick}
+use Rattle.format.specs.Leb.{ulebF, uleb, bits7, slebF, sleb}
 use Rattle.format.proofs.Choice.{if-le, if-gt, either}
 
 -- ---- unsigned

@@ -17,3 +17,6 @@ pub mod Fits
 pub mod RulesSeen
 pub mod CheckSays
 pub mod GoesBack
+pub mod PutLaws
+pub mod PositionLaws
+pub mod Storing

@@ -1,0 +1,4 @@
+-- The lemmas of this crate's functions.
+pub mod Fields
+pub mod Signs
+pub mod Sizes

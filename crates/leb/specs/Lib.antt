@@ -1,0 +1,2 @@
+-- What the helpers of the signed numbers do.
+pub mod Signs

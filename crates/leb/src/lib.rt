@@ -1,0 +1,125 @@
+// Numbers as bytes in a lent buffer, and read back. Ported from rucc-asm/src/unwind.rs (uleb, sleb) of tamnd/rucc, changed: see NOTICE.
+ghost use mathlib.Core.Path.{_≡_};
+ghost use mathlib.Core.List.{[], _∷_};
+ghost use Prim.Native.Nat.{_+_, _^_, _≤_, _<_};
+ghost use lib.ListN.{length, replicate};
+ghost use lib.Signed.{mag};
+ghost use Rattle.format.specs.Put.{Wrote};
+ghost use Rattle.format.specs.Leb.{little, uleb, bits7, slebF, sleb};
+ghost use Rattle.format.specs.Positions.{ulebAt, slebAt, littleAt};
+ghost use Rattle.leb.specs.Signs.{isNegative};
+use format::Unsigned;
+use format::Signed;
+
+// A byte at `at`: the place past it. So do all writers here.
+pub fn byte(out: &mut [u8], at: usize, b: u8) -> usize
+    requires { ⌜ at + 1 ≤ length (now out) ⌝ }
+    ensures { λ r. ⌜ Wrote (now (out .entry)) (now (out .exit)) at r (b ∷ []) ⌝ }
+{
+    out[at] = b;
+    at + 1
+}
+
+// v as an unsigned LEB number.
+pub fn uleb(out: &mut [u8], at: usize, v: u64) -> usize
+    requires { ⌜ at + length (uleb v) ≤ length (now out) ⌝ }
+    ensures { λ r. ⌜ Wrote (now (out .entry)) (now (out .exit)) at r (uleb v) ⌝ }
+{
+    let mut i = at;
+    let mut x = v;
+    while 128 <= x {
+        out[i] = (x % 128 + 128) as u8;
+        x = x / 128;
+        i += 1;
+    }
+    out[i] = x as u8;
+    i + 1
+}
+
+// Seven bits of a signed number, turned where it is negative.
+fn group(neg: bool, d: u8) -> u8
+    requires { ⌜ d < 128 ⌝ }
+    ensures { λ r. ⌜ (r ≡ bits7 neg d) × (r < 128) ⌝ }
+{
+    if neg { 127 - d } else { d }
+}
+
+// m, or -(m + 1) where neg is true, as a signed LEB number.
+fn sleb_bits(out: &mut [u8], at: usize, neg: bool, m: u64) -> usize
+    requires { ⌜ (m < 2 ^ 63) × (at + length (slebF neg 9 m) ≤ length (now out)) ⌝ }
+    ensures { λ r. ⌜ Wrote (now (out .entry)) (now (out .exit)) at r (slebF neg 9 m) ⌝ }
+{
+    let mut i = at;
+    let mut x = m;
+    while 64 <= x {
+        out[i] = group(neg, (x % 128) as u8) + 128;
+        x = x / 128;
+        i += 1;
+    }
+    out[i] = group(neg, x as u8);
+    i + 1
+}
+
+fn negative(v: i64) -> bool
+    ensures { λ r. ⌜ r ≡ isNegative v ⌝ }
+{
+    v < 0
+}
+
+// v, or -(v + 1) where v is negative.
+fn magnitude(v: i64) -> u64
+    ensures { λ r. ⌜ (r ≡ mag v) × (r < 2 ^ 63) ⌝ }
+{
+    if v < 0 { (-1 - v) as u64 } else { v as u64 }
+}
+
+// v as a signed LEB number.
+pub fn sleb(out: &mut [u8], at: usize, v: i64) -> usize
+    requires { ⌜ at + length (sleb v) ≤ length (now out) ⌝ }
+    ensures { λ r. ⌜ Wrote (now (out .entry)) (now (out .exit)) at r (sleb v) ⌝ }
+{
+    sleb_bits(out, at, negative(v), magnitude(v))
+}
+
+// v as a field of n bytes, the lowest first.
+pub fn le(out: &mut [u8], at: usize, n: usize, v: u64) -> usize
+    requires { ⌜ at + n ≤ length (now out) ⌝ }
+    ensures { λ r. ⌜ Wrote (now (out .entry)) (now (out .exit)) at r (little n v) ⌝ }
+{
+    let mut i = at;
+    let mut x = v;
+    let mut left = n;
+    while 0 < left {
+        out[i] = (x % 256) as u8;
+        x = x / 256;
+        i += 1;
+        left -= 1;
+    }
+    i
+}
+
+// n zeros: padding, and blanks that a linker or a later store fills in.
+pub fn fill(out: &mut [u8], at: usize, n: usize) -> usize
+    requires { ⌜ at + n ≤ length (now out) ⌝ }
+    ensures { λ r. ⌜ Wrote (now (out .entry)) (now (out .exit)) at r (replicate n 0) ⌝ }
+{
+    le(out, at, n, 0)
+}
+
+// How many bytes uleb writes.
+pub fn uleb_size(v: u64) -> usize
+    ensures { λ r. ⌜ r ≡ length (uleb v) ⌝ }
+{
+    if v == 0 {
+        1
+    } else {
+        (70 - u64::leading_zeros(v) as usize) / 7
+    }
+}
+
+// How many bytes sleb writes: the magnitude's bits and a bit of sign, and so one byte for zero.
+pub fn sleb_size(v: i64) -> usize
+    ensures { λ r. ⌜ r ≡ length (sleb v) ⌝ }
+{
+    (71 - u64::leading_zeros(magnitude(v)) as usize) / 7
+}
