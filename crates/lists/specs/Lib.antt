@@ -1,1 +1,2 @@
--- What the records of this crate hold.
+-- What the parts of this crate's functions answer.
+pub mod Parts

@@ -3,7 +3,9 @@ ghost use mathlib.Core.Path.{_≡_};
 ghost use Prim.Native.Nat.{_+_, _*_, _/_, _≤_, _<_};
 ghost use lib.ListN.{length};
 ghost use lib.Dec.{leb};
-ghost use Rattle.format.specs.Lists.{count, field, pairStride, codeStride, mostRecords, inside, symbolOk, pointerOk, pairOkAt, codeOkAt, allIn, sumOf, pairsIn, prologueOkAt, codesOk};
+ghost use Rattle.format.specs.Lists.{count, field, rowStride, pairStride, codeStride, mostRecords, inside, symbolOk, pointerOk, rowOkAt, pairOkAt, codeOkAt, allIn, sumOf, pairsIn, functionOkAt, prologueOkAt, listsOk, codesOk};
+ghost use Rattle.lists.specs.Parts.{namedOkAt, relaxedOkAt};
+use rows::row_ok;
 
 // A range of n records from `at` lies inside a list of `size` records.
 pub fn inside(at: u64, n: u64, size: u64) -> bool
@@ -192,4 +194,59 @@ pub fn codes_ok(fs: &[u64], codes: &[u64]) -> bool
         return false;
     }
     prologues_ok(fs, codes, n)
+}
+
+// The n rows from `at` on.
+pub fn rows_ok(rows: &[u64], at: usize, n: usize) -> bool
+    requires { ⌜ at + n ≤ count rowStride (now rows) ⌝ }
+    ensures { λ r. ⌜ r ≡ allIn (rowOkAt (now (rows .entry))) at n ⌝ }
+{
+    let end = at + n;
+    let mut i = at;
+    while i < end {
+        if !row_ok(rows, i) {
+            return false;
+        }
+        i += 1;
+    }
+    true
+}
+
+// The named personality of function k, where it has one.
+fn named_ok(fs: &[u64], k: usize) -> bool
+    requires { ⌜ 18 * k + 18 ≤ length (now fs) ⌝ }
+    ensures { λ r. ⌜ r ≡ namedOkAt (now (fs .entry)) k ⌝ }
+{
+    if fs[18 * k + 8] == 0 {
+        return true;
+    }
+    if !pointer_ok(fs[18 * k + 9], fs[18 * k + 10]) {
+        return false;
+    }
+    if 1 < fs[18 * k + 11] {
+        return false;
+    }
+    if fs[18 * k + 11] == 0 {
+        return true;
+    }
+    pointer_ok(fs[18 * k + 12], fs[18 * k + 13])
+}
+
+// The relaxing labels of function k, where it has them, and the pairs that they reach.
+fn relaxed_ok(fs: &[u64], pairs: &[u64], k: usize) -> bool
+    requires { ⌜ 18 * k + 18 ≤ length (now fs) ⌝ }
+    ensures { λ r. ⌜ r ≡ relaxedOkAt (now (fs .entry)) (now (pairs .entry)) k ⌝ }
+{
+    if fs[18 * k + 14] == 0 {
+        return true;
+    }
+    if !symbol_ok(fs[18 * k + 15]) {
+        return false;
+    }
+    let at = fs[18 * k + 16];
+    let n = fs[18 * k + 17];
+    if !inside(at, n, (pairs.len() / 4) as u64) {
+        return false;
+    }
+    pairs_ok(pairs, at as usize, n as usize)
 }
