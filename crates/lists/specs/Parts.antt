@@ -2,7 +2,14 @@
 use Prim.Native.Nat.{ℕ}
 use mathlib.Core.Bool.{Bool, _&&_}
 use mathlib.Core.List.{List}
-use Rattle.format.specs.Lists.{field, functionStride, pairStride, count, inside, symbolOk, pointerOk, markOk, whenMarked, pairOkAt, allIn}
+use Rattle.format.specs.Lists.{field, functionStride, rowStride, landingStride, pairStride, count, inside, symbolOk, pointerOk, markOk, whenMarked, rowOkAt, pairOkAt, allIn}
+
+-- function k's symbol, rows and landings
+unfoldable pub rangesOkAt : (fs rows landings : List ℕ) → ℕ → Bool
+rangesOkAt fs rows landings k =
+    let f : ℕ → ℕ = λ j. field functionStride fs k j in
+    symbolOk (f 0) && inside (f 2) (f 3) (count rowStride rows) && allIn (rowOkAt rows) (f 2) (f 3)
+    && inside (f 4) (f 5) (count landingStride landings)
 
 -- a named personality, where function k has one
 unfoldable pub namedOkAt : (fs : List ℕ) → ℕ → Bool

@@ -4,7 +4,7 @@ ghost use Prim.Native.Nat.{_+_, _*_, _/_, _≤_, _<_};
 ghost use lib.ListN.{length};
 ghost use lib.Dec.{leb};
 ghost use Rattle.format.specs.Lists.{count, field, rowStride, pairStride, codeStride, mostRecords, inside, symbolOk, pointerOk, rowOkAt, pairOkAt, codeOkAt, allIn, sumOf, pairsIn, functionOkAt, prologueOkAt, listsOk, codesOk};
-ghost use Rattle.lists.specs.Parts.{namedOkAt, relaxedOkAt};
+ghost use Rattle.lists.specs.Parts.{rangesOkAt, namedOkAt, relaxedOkAt};
 use rows::row_ok;
 
 // A range of n records from `at` lies inside a list of `size` records.
@@ -249,4 +249,84 @@ fn relaxed_ok(fs: &[u64], pairs: &[u64], k: usize) -> bool
         return false;
     }
     pairs_ok(pairs, at as usize, n as usize)
+}
+
+// The symbol of function k, its rows, and where its landings are.
+fn ranges_ok(fs: &[u64], rows: &[u64], landings: &[u64], k: usize) -> bool
+    requires { ⌜ 18 * k + 18 ≤ length (now fs) ⌝ }
+    ensures { λ r. ⌜ r ≡ rangesOkAt (now (fs .entry)) (now (rows .entry)) (now (landings .entry)) k ⌝ }
+{
+    if !symbol_ok(fs[18 * k]) {
+        return false;
+    }
+    let at = fs[18 * k + 2];
+    let n = fs[18 * k + 3];
+    if !inside(at, n, (rows.len() / 4) as u64) {
+        return false;
+    }
+    if !rows_ok(rows, at as usize, n as usize) {
+        return false;
+    }
+    inside(fs[18 * k + 4], fs[18 * k + 5], (landings.len() / 3) as u64)
+}
+
+// Function k, and the records that it reaches.
+fn function_ok(fs: &[u64], rows: &[u64], landings: &[u64], pairs: &[u64], k: usize) -> bool
+    requires { ⌜ 18 * k + 18 ≤ length (now fs) ⌝ }
+    ensures { λ r. ⌜ r ≡ functionOkAt (now (fs .entry)) (now (rows .entry)) (now (landings .entry)) (now (pairs .entry)) k ⌝ }
+{
+    if !ranges_ok(fs, rows, landings, k) {
+        return false;
+    }
+    if 1 < fs[18 * k + 6] {
+        return false;
+    }
+    if 1 < fs[18 * k + 7] {
+        return false;
+    }
+    if 1 < fs[18 * k + 8] {
+        return false;
+    }
+    if !named_ok(fs, k) {
+        return false;
+    }
+    if 1 < fs[18 * k + 14] {
+        return false;
+    }
+    relaxed_ok(fs, pairs, k)
+}
+
+// The first n functions.
+fn functions_ok(fs: &[u64], rows: &[u64], landings: &[u64], pairs: &[u64], n: usize) -> bool
+    requires { ⌜ 18 * n ≤ length (now fs) ⌝ }
+    ensures { λ r. ⌜ r ≡ allIn (functionOkAt (now (fs .entry)) (now (rows .entry)) (now (landings .entry)) (now (pairs .entry))) 0 n ⌝ }
+{
+    let mut k = 0;
+    while k < n {
+        if !function_ok(fs, rows, landings, pairs, k) {
+            return false;
+        }
+        k += 1;
+    }
+    true
+}
+
+// Question 13 of the lists of functions.
+pub fn lists_ok(fs: &[u64], rows: &[u64], landings: &[u64], pairs: &[u64]) -> bool
+    ensures { λ r. ⌜ r ≡ listsOk (now (fs .entry)) (now (rows .entry)) (now (landings .entry)) (now (pairs .entry)) ⌝ }
+{
+    let n = fs.len() / 18;
+    if 65536 < n {
+        return false;
+    }
+    if !sum_ok(fs, 18, 3, n) {
+        return false;
+    }
+    if !sum_ok(fs, 18, 5, n) {
+        return false;
+    }
+    if !pairs_sum_ok(fs, n) {
+        return false;
+    }
+    functions_ok(fs, rows, landings, pairs, n)
 }
