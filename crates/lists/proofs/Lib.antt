@@ -3,3 +3,4 @@ pub mod Answers
 pub mod Ranges
 pub mod Codes
 pub mod Sums
+pub mod Machines

@@ -8,11 +8,11 @@ use Rattle.format.specs.Test.{all, each}
 use Rattle.format.specs.Lists.{allIn}
 use Rattle.lists.proofs.Answers.{accepted, refused}
 
-none-left : (test : ℕ → Bool) (at : ℕ) → allIn test at 0 ≡ true
+pub none-left : (test : ℕ → Bool) (at : ℕ) → allIn test at 0 ≡ true
 unfolding allIn all each
 none-left test at = refl
 
-one-more : (test : ℕ → Bool) (at n : ℕ) → allIn test at (suc n) ≡ test at && allIn test (suc at) n
+pub one-more : (test : ℕ → Bool) (at n : ℕ) → allIn test at (suc n) ≡ test at && allIn test (suc at) n
 unfolding allIn all each
 one-more test at n = refl
 

@@ -1,10 +1,13 @@
 // The machine, functions and codes out of the lists of numbers, and questions 11 and 13. Ported from rucc-asm/src/unwind.rs (Extent, Named, Relaxed) of tamnd/rucc, changed: see NOTICE.
 ghost use mathlib.Core.Path.{_≡_};
 ghost use Prim.Native.Nat.{_+_, _*_, _/_, _≤_, _<_};
-ghost use lib.ListN.{length};
-ghost use lib.Dec.{leb};
+ghost use lib.ListN.{length, take, drop};
+ghost use lib.Dec.{T, leb};
+ghost use Rattle.format.specs.Test.{all};
+ghost use Rattle.format.specs.Machine.{isWord, machineOk, machineOf};
 ghost use Rattle.format.specs.Lists.{count, field, rowStride, pairStride, codeStride, mostRecords, inside, symbolOk, pointerOk, rowOkAt, pairOkAt, codeOkAt, allIn, sumOf, pairsIn, functionOkAt, prologueOkAt, listsOk, codesOk};
 ghost use Rattle.lists.specs.Parts.{rangesOkAt, namedOkAt, relaxedOkAt};
+use format::Machine;
 use rows::row_ok;
 
 // A range of n records from `at` lies inside a list of `size` records.
@@ -329,4 +332,83 @@ pub fn lists_ok(fs: &[u64], rows: &[u64], landings: &[u64], pairs: &[u64]) -> bo
         return false;
     }
     functions_ok(fs, rows, landings, pairs, n)
+}
+
+fn is_word(w: u64) -> bool
+    ensures { λ r. ⌜ r ≡ isWord w ⌝ }
+{
+    if w == 2 {
+        return true;
+    }
+    if w == 4 {
+        return true;
+    }
+    w == 8
+}
+
+// Each number of the map is a byte.
+fn map_ok(ms: &[u64]) -> bool
+    requires { ⌜ 70 ≤ length (now ms) ⌝ }
+    ensures { λ r. ⌜ r ≡ all (λ n. leb n 255) (take 64 (drop 6 (now (ms .entry)))) ⌝ }
+{
+    let mut i = 6;
+    while i < 70 {
+        if 255 < ms[i] {
+            return false;
+        }
+        i += 1;
+    }
+    true
+}
+
+// Question 11.
+pub fn machine_ok(ms: &[u64]) -> bool
+    ensures { λ r. ⌜ r ≡ machineOk (now (ms .entry)) ⌝ }
+{
+    if ms.len() < 70 {
+        return false;
+    }
+    if !is_word(ms[0]) {
+        return false;
+    }
+    if ms[1] % ms[0] != 0 {
+        return false;
+    }
+    if 2147483648 <= ms[1] {
+        return false;
+    }
+    if 65536 <= ms[2] {
+        return false;
+    }
+    if 65536 <= ms[3] {
+        return false;
+    }
+    if 65536 < ms[4] {
+        return false;
+    }
+    if ms[5] != 0 {
+        return false;
+    }
+    map_ok(ms)
+}
+
+// The machine of a list.
+pub fn machine_of(ms: &[u64]) -> Machine
+    requires { ⌜ T (machineOk (now ms)) ⌝ }
+    ensures { λ r. ⌜ r ≡ machineOf (now (ms .entry)) ⌝ }
+{
+    let mut map = [0; 64];
+    let mut i = 0;
+    while i < 64 {
+        map[i] = ms[6 + i] as u8;
+        i += 1;
+    }
+    Machine {
+        word: ms[0],
+        pushed: ms[1],
+        stack: ms[2],
+        ret: ms[3],
+        frame: ms[4],
+        map,
+    }
 }
