@@ -4,3 +4,4 @@ pub mod Ranges
 pub mod Codes
 pub mod Sums
 pub mod Machines
+pub mod Extents

@@ -1,2 +1,3 @@
 -- What the parts of this crate's functions answer.
 pub mod Parts
+pub mod Extents

@@ -7,6 +7,7 @@ ghost use Rattle.format.specs.Test.{all};
 ghost use Rattle.format.specs.Machine.{isWord, machineOk, machineOf};
 ghost use Rattle.format.specs.Lists.{count, field, rowStride, pairStride, codeStride, mostRecords, inside, symbolOk, pointerOk, rowOkAt, pairOkAt, codeOkAt, allIn, sumOf, pairsIn, functionOkAt, prologueOkAt, listsOk, codesOk};
 ghost use Rattle.lists.specs.Parts.{rangesOkAt, namedOkAt, relaxedOkAt};
+ghost use Rattle.lists.specs.Extents.{extentAt};
 use format::Machine;
 use rows::row_ok;
 
@@ -410,5 +411,54 @@ pub fn machine_of(ms: &[u64]) -> Machine
         ret: ms[3],
         frame: ms[4],
         map,
+    }
+}
+
+// Function k of the list: its numbers, with the marks as answers. What they say is functionAt of the definitions.
+pub struct Extent {
+    pub symbol: u64,
+    pub length: u64,
+    pub rows_at: usize,
+    pub rows: usize,
+    pub landings_at: usize,
+    pub landings: usize,
+    pub simple: bool,
+    pub signal: bool,
+    pub personality: bool,
+    pub encoding: u64,
+    pub routine: u64,
+    pub lsda: bool,
+    pub lsda_encoding: u64,
+    pub lsda_symbol: u64,
+    pub relaxed: bool,
+    pub end: u64,
+    pub pairs_at: usize,
+    pub pairs: usize,
+}
+
+pub fn extent_at(fs: &[u64], k: usize) -> Extent
+    requires { ⌜ 18 * k + 18 ≤ length (now fs) ⌝ }
+    ensures { λ r. ⌜ r ≡ extentAt (now (fs .entry)) k ⌝ }
+{
+    let b = 18 * k;
+    Extent {
+        symbol: fs[b],
+        length: fs[b + 1],
+        rows_at: fs[b + 2] as usize,
+        rows: fs[b + 3] as usize,
+        landings_at: fs[b + 4] as usize,
+        landings: fs[b + 5] as usize,
+        simple: fs[b + 6] != 0,
+        signal: fs[b + 7] != 0,
+        personality: fs[b + 8] != 0,
+        encoding: fs[b + 9],
+        routine: fs[b + 10],
+        lsda: fs[b + 11] != 0,
+        lsda_encoding: fs[b + 12],
+        lsda_symbol: fs[b + 13],
+        relaxed: fs[b + 14] != 0,
+        end: fs[b + 15],
+        pairs_at: fs[b + 16] as usize,
+        pairs: fs[b + 17] as usize,
     }
 }
