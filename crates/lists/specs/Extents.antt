@@ -4,8 +4,12 @@ use mathlib.Core.Bool.{Bool}
 use mathlib.Core.List.{List}
 use mathlib.Core.Option.{Option, none, some}
 use Rattle.format.specs.Test.{pick, each}
-use Rattle.format.specs.Lists.{Function, field, functionStride, mark, lineAt, landingAt, pairAt}
+use Rattle.format.specs.Lists.{Function, field, functionStride, landingStride, pairStride, prologueStride, mark, lineAt, landingAt, pairAt, codeAt}
+use Rattle.format.specs.Lists as lists
 use Rattle.lists.specs.declared.Extent.{Extent}
+use Rattle.lists.specs.declared.Landing.{Landing}
+use Rattle.lists.specs.declared.Pair.{Pair}
+use Rattle.lists.specs.declared.Prologue.{Prologue}
 
 -- function k of the list
 unfoldable pub extentAt : (fs : List ℕ) → ℕ → Extent
@@ -52,3 +56,25 @@ meant e rows landings pairs =
           none;
       relaxed = pick (e .relaxed) (some (record { end = e .end; pairs = each (pairAt pairs) (e .«pairs_at») (e .pairs) })) none;
     }
+
+abbrev pub landingIn : (ls : List ℕ) → ℕ → Landing
+landingIn ls i = record { start = field landingStride ls i 0; size = field landingStride ls i 1; pad = field landingStride ls i 2 }
+
+abbrev pub meantLanding : Landing → lists.Landing
+meantLanding l = record { start = l .start; size = l .size; pad = l .pad }
+
+abbrev pub pairIn : (ps : List ℕ) → ℕ → Pair
+pairIn ps i =
+    record { place1 = field pairStride ps i 0; place2 = field pairStride ps i 1; symbol1 = field pairStride ps i 2; symbol2 = field pairStride ps i 3 }
+
+abbrev pub meantPair : Pair → lists.Pair
+meantPair p = record { place1 = p .place1; place2 = p .place2; symbol1 = p .symbol1; symbol2 = p .symbol2 }
+
+abbrev pub prologueIn : (fs : List ℕ) → ℕ → Prologue
+prologueIn fs k =
+    let f : ℕ → ℕ = λ j. field prologueStride fs k j in
+    record { symbol = f 0; length = f 1; end = f 2; «codes_at» = f 3; codes = f 4 }
+
+abbrev pub meantPrologue : Prologue → (codes : List ℕ) → lists.Prologue
+meantPrologue p codes =
+    record { symbol = p .symbol; size = p .length; end = p .end; codes = each (codeAt codes) (p .«codes_at») (p .codes) }

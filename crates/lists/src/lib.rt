@@ -3,12 +3,15 @@ ghost use mathlib.Core.Path.{_≡_};
 ghost use Prim.Native.Nat.{_+_, _*_, _/_, _≤_, _<_};
 ghost use lib.ListN.{length, take, drop};
 ghost use lib.Dec.{T, leb};
+ghost use mir.Syntax.{w64};
+ghost use mir.Val.{toZ};
 ghost use Rattle.format.specs.Test.{all};
 ghost use Rattle.format.specs.Machine.{isWord, machineOk, machineOf};
-ghost use Rattle.format.specs.Lists.{count, field, rowStride, pairStride, codeStride, mostRecords, inside, symbolOk, pointerOk, rowOkAt, pairOkAt, codeOkAt, allIn, sumOf, pairsIn, functionOkAt, prologueOkAt, listsOk, codesOk};
+ghost use Rattle.format.specs.Lists.{count, field, rowStride, pairStride, codeStride, mostRecords, inside, symbolOk, pointerOk, rowOkAt, pairOkAt, codeOkAt, allIn, sumOf, pairsIn, functionOkAt, prologueOkAt, listsOk, codesOk, codeAt};
 ghost use Rattle.lists.specs.Parts.{rangesOkAt, namedOkAt, relaxedOkAt};
-ghost use Rattle.lists.specs.Extents.{extentAt};
+ghost use Rattle.lists.specs.Extents.{extentAt, landingIn, pairIn, prologueIn};
 use format::Machine;
+use format::Seh;
 use rows::row_ok;
 
 // A range of n records from `at` lies inside a list of `size` records.
@@ -461,4 +464,103 @@ pub fn extent_at(fs: &[u64], k: usize) -> Extent
         pairs_at: fs[b + 16] as usize,
         pairs: fs[b + 17] as usize,
     }
+}
+
+// Landing i: a call's start and length and its pad, from the function's start.
+pub struct Landing {
+    pub start: u64,
+    pub size: u64,
+    pub pad: u64,
+}
+
+pub fn landing_at(ls: &[u64], i: usize) -> Landing
+    requires { ⌜ 3 * i + 3 ≤ length (now ls) ⌝ }
+    ensures { λ r. ⌜ r ≡ landingIn (now (ls .entry)) i ⌝ }
+{
+    Landing {
+        start: ls[3 * i],
+        size: ls[3 * i + 1],
+        pad: ls[3 * i + 2],
+    }
+}
+
+// Two places of a function and the label at each.
+pub struct Pair {
+    pub place1: u64,
+    pub place2: u64,
+    pub symbol1: u64,
+    pub symbol2: u64,
+}
+
+pub fn pair_at(ps: &[u64], i: usize) -> Pair
+    requires { ⌜ 4 * i + 4 ≤ length (now ps) ⌝ }
+    ensures { λ r. ⌜ r ≡ pairIn (now (ps .entry)) i ⌝ }
+{
+    Pair {
+        place1: ps[4 * i],
+        place2: ps[4 * i + 1],
+        symbol1: ps[4 * i + 2],
+        symbol2: ps[4 * i + 3],
+    }
+}
+
+// Function k of direct codes.
+pub struct Prologue {
+    pub symbol: u64,
+    pub length: u64,
+    pub end: u64,
+    pub codes_at: usize,
+    pub codes: usize,
+}
+
+pub fn prologue_at(fs: &[u64], k: usize) -> Prologue
+    requires { ⌜ 5 * k + 5 ≤ length (now fs) ⌝ }
+    ensures { λ r. ⌜ r ≡ prologueIn (now (fs .entry)) k ⌝ }
+{
+    Prologue {
+        symbol: fs[5 * k],
+        length: fs[5 * k + 1],
+        end: fs[5 * k + 2],
+        codes_at: fs[5 * k + 3] as usize,
+        codes: fs[5 * k + 4] as usize,
+    }
+}
+
+// The number whose 64 bits, in two's complement, are x.
+fn signed64(x: u64) -> i64
+    ensures { λ r. ⌜ r ≡ toZ w64 x ⌝ }
+{
+    if x < 9223372036854775808 {
+        x as i64
+    } else {
+        -1 - ((18446744073709551615 - x) as i64)
+    }
+}
+
+// The offset where the instruction of code i ends.
+pub fn code_offset_at(cs: &[u64], i: usize) -> u64
+    requires { ⌜ 5 * i + 5 ≤ length (now cs) ⌝ }
+    ensures { λ r. ⌜ r ≡ codeAt (now (cs .entry)) i .0 ⌝ }
+{
+    cs[5 * i]
+}
+
+// Code i.
+pub fn code_at(cs: &[u64], i: usize) -> Seh
+    requires { ⌜ 5 * i + 5 ≤ length (now cs) ⌝ }
+    ensures { λ r. ⌜ r ≡ codeAt (now (cs .entry)) i .1 ⌝ }
+{
+    let kind = cs[5 * i + 1];
+    let reg = cs[5 * i + 2];
+    let value = signed64(cs[5 * i + 4]);
+    if kind == 0 {
+        return Seh::Push(reg);
+    }
+    if kind == 1 {
+        return Seh::Alloc(value);
+    }
+    if kind == 2 {
+        return Seh::Frame(reg, value);
+    }
+    Seh::Save(reg, cs[5 * i + 3] != 0, value)
 }
