@@ -1,15 +1,15 @@
 -- The numbers of a machine's map, asked and copied one after another.
-use mathlib.Core.Path.{_≡_, refl, sym, ap, subst, _∙_}
+use mathlib.Core.Path.{_≡_, refl, sym, subst, _∙_}
 use Prim.Native.Nat.{ℕ, zero, suc, _+_, _≤_, _<_}
 use native.Mathlib.Omega.{arith}
 use native.Mathlib.Numerals.{add-one}
 use native.Mathlib.Nat.{le-of-suc-le-suc}
-use mathlib.Core.Bool.{Bool, true, false, not, _&&_, and-false}
-use mathlib.Core.List.{List, [], _∷_, _++_}
-use borrow.Author.Tests.{lt-leb, ne-eqb, eqb-true}
-use lib.Dec.{T, leb, ltb, eqb, leb→le}
+use mathlib.Core.Bool.{Bool, true, false, not, and-false}
+use mathlib.Core.List.{List, [], _∷_}
+use borrow.Author.Tests.{lt-leb}
+use lib.Dec.{T, leb, leb→le}
 use lib.ListN.{length, getD, take, drop, set, replicate, length-set, length-take, length-drop}
-use lib.Seq.{take-suc, take-suc-set, take-all, drop-cons, getD-take, getD-drop, length-take-le}
+use lib.Seq.{take-suc, take-suc-set, take-all, drop-cons, getD-take, getD-drop}
 use mir.Facts.{and-yes}
 use Rattle.format.specs.Test.{all}
 use Rattle.format.specs.Lists.{allIn}
@@ -58,8 +58,8 @@ module _ (ms : List ℕ) (t : T (machineOk ms)) where
       let map : List ℕ = take 64 (drop 6 ms) in
       tested (all isByte map)
       (λ y.
-        let l : i < length map = simp (length-take, length-drop) (omega (arith, long)) in
-        rw (getD-take 64 (drop 6 ms) i 0, getD-drop 6 ms i 0) at (leb→le (getD map i 0) 255 (each-passes isByte map i y l)))
+      let l : i < length map = simp (length-take, length-drop) (omega (arith, long)) in
+      rw (getD-take 64 (drop 6 ms) i 0, getD-drop 6 ms i 0) at (leb→le (getD map i 0) 255 (each-passes isByte map i y l)))
       (λ n. absurd (simp (is-false (all isByte map) n, and-false) at t))
 
 -- i numbers of the map are copied

@@ -1,8 +1,7 @@
 -- What this crate's structs hold, and what they mean.
 use Prim.Native.Nat.{ℕ}
-use mathlib.Core.Bool.{Bool}
 use mathlib.Core.List.{List}
-use mathlib.Core.Option.{Option, none, some}
+use mathlib.Core.Option.{none, some}
 use Rattle.format.specs.Test.{pick, each}
 use Rattle.format.specs.Lists.{Function, field, functionStride, landingStride, pairStride, prologueStride, mark, lineAt, landingAt, pairAt, codeAt}
 use Rattle.format.specs.Lists as lists

@@ -1,7 +1,6 @@
 -- `lists::codes_in` meets its contract.
 use Prim.Native.Nat.{_-_}
-use Prim.Native.Nat.{_+_, _-_}
-use mathlib.Core.Path.{_≡_, refl}
+use Prim.Native.Nat.{_-_}
 use Rattle.format.specs.Lists.{codeOkAt}
 use Rattle.lists.proofs.Ranges.{Asking, start, turn, stopped, ended}
 use borrow.Author.Needs.{needs}

@@ -1,3 +1,4 @@
+-- `lists::inside` meets its contract.
 use mathlib.Core.Path.{sym}
 use Rattle.lists.proofs.Answers.{far, near}
 use Rattle.lists.proofs.inside.Statement.{statement}

@@ -1,6 +1,5 @@
 -- `lists::is_word` meets its contract.
 use borrow.Author.Tests.{eq-eqb, ne-eqb}
-use mathlib.Core.Bool.{or-true}
 use Rattle.format.specs.Machine.{isWord}
 use Rattle.lists.proofs.is_word.Statement.{statement}
 use Rattle.lists.proofs.is_word.Tie as tie

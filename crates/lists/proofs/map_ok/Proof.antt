@@ -2,7 +2,6 @@
 use Prim.Native.Nat.{ℕ, _-_}
 use mathlib.Core.Path.{refl, ap, _∙_}
 use mathlib.Core.Bool.{not}
-use native.Mathlib.Omega.{arith}
 use borrow.Author.Tests.{le-leb, lt-leb}
 use lib.ListN.{getD}
 use Rattle.lists.proofs.Ranges.{Asking, start, turn, stopped, ended}

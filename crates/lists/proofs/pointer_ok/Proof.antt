@@ -1,22 +1,17 @@
+-- `lists::pointer_ok` meets its contract.
 use borrow.Author.Tests.{le-leb, lt-leb}
 use Rattle.format.specs.Lists.{pointerOk}
 use borrow.Author.Needs.{needs}
 use Rattle.lists.proofs.pointer_ok.Statement.{statement}
 use Rattle.lists.proofs.pointer_ok.Tie as tie
-use Rattle.lists.proofs.pointer_ok.Reads as reads
-use Rattle.lists.proofs.pointer_ok.Lts as lts
-use Rattle.lists.proofs.symbol_ok.Reads as symbol-ok-reads
 
--- src/lib.rt:32:9
 returns : tie.Need-returns
 unfolding pointerOk
 returns c = simp (lt-leb _ _ (c .if1 .taken))
 
--- src/lib.rt:34:5
 symbol-ok-requires : tie.Need-symbol-ok-requires
 symbol-ok-requires c κs = search needs
 
--- src/lib.rt:28:1
 returns-2 : tie.Need-returns-2
 unfolding pointerOk
 returns-2 c = simp (le-leb _ _ (c .before .if1 .left)) (c .symbol-ok .ensures)

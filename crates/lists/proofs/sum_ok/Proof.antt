@@ -1,7 +1,8 @@
 -- `lists::sum_ok` meets its contract.
-use Prim.Native.Nat.{ℕ, _-_}
+use Prim.Native.Nat.{ℕ, _+_, _-_, _*_, _<_}
 use mathlib.Core.Path.{refl}
 use native.Mathlib.Omega.{arith}
+use lib.ListN.{length}
 use Rattle.format.specs.Lists.{field}
 use Rattle.lists.proofs.Sums.{Summing, start, turn, stopped, ended, within}
 use borrow.Author.Needs.{needs}
@@ -17,17 +18,22 @@ abbrev μ-loop : tie.MeasureT-loop
 loop-holds : tie.Need-loop-holds Inv-loop μ-loop
 loop-holds c = start _ _
 
+-- the number that a turn reads lies in the list
+placed : (c : tie.In-loop Inv-loop μ-loop)
+    → c .before .before .args .stride * c .before .loop .k + c .before .before .args .j < length (c .before .before .args .xs .now)
+placed c = within _ _ _ _ _ (c .loop-test .taken) (c .before .before .pre .0) (c .before .before .pre .1)
+
 mul-x : tie.Need-mul-x Inv-loop μ-loop
-mul-x c = omega (arith, (within _ _ _ _ _ (c .loop-test .taken) (c .before .before .pre .0) (c .before .before .pre .1)))
+mul-x c = omega (arith, placed c)
 
 add-x : tie.Need-add-x Inv-loop μ-loop
-add-x c = omega (arith, (within _ _ _ _ _ (c .loop-test .taken) (c .before .before .pre .0) (c .before .before .pre .1)))
+add-x c = omega (arith, placed c)
 
 mul-x-2 : tie.Need-mul-x-2 Inv-loop μ-loop
-mul-x-2 c = omega (arith, (within _ _ _ _ _ (c .loop-test .taken) (c .before .before .pre .0) (c .before .before .pre .1)))
+mul-x-2 c = omega (arith, placed c)
 
 shared-slice-read-x : tie.Need-shared-slice-read-x Inv-loop μ-loop
-shared-slice-read-x c = within _ _ _ _ _ (c .before .loop-test .taken) (c .before .before .before .pre .0) (c .before .before .before .pre .1)
+shared-slice-read-x c = placed (c .before)
 
 sub-if1 : tie.Need-sub-if1 Inv-loop μ-loop
 sub-if1 c = search needs

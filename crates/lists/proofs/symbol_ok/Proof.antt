@@ -1,16 +1,13 @@
+-- `lists::symbol_ok` meets its contract.
 use borrow.Author.Tests.{le-leb, lt-leb}
 use Rattle.format.specs.Lists.{symbolOk}
 use Rattle.lists.proofs.symbol_ok.Statement.{statement}
 use Rattle.lists.proofs.symbol_ok.Tie as tie
-use Rattle.lists.proofs.symbol_ok.Reads as reads
-use Rattle.lists.proofs.symbol_ok.Lts as lts
 
--- src/lib.rt:22:9
 returns : tie.Need-returns
 unfolding symbolOk
 returns c = simp (lt-leb _ _ (c .if1 .taken))
 
--- src/lib.rt:18:1
 returns-2 : tie.Need-returns-2
 unfolding symbolOk
 returns-2 c = simp (le-leb _ _ (c .if1 .left))
