@@ -32,3 +32,4 @@ pub mod RelocsInside
 pub mod SectionFinds
 pub mod SectionBack
 pub mod ReadBack
+pub mod Complements

@@ -5,4 +5,3 @@ pub mod Codes
 pub mod Sums
 pub mod Machines
 pub mod Extents
-pub mod Signs

@@ -1,5 +1,8 @@
 -- `lists::signed64` meets its contract.
-use Rattle.lists.proofs.Signs.{turned-fits, high-bits}
+use Prim.Native.Nat.{_-_}
+use native.Mathlib.Omega.{arith}
+use mir.Syntax.{w64}
+use Rattle.format.proofs.Complements.{complement-fits, high-bits}
 use borrow.Author.Needs.{needs}
 use Rattle.lists.proofs.signed64.Statement.{statement}
 use Rattle.lists.proofs.signed64.Tie as tie
@@ -14,13 +17,13 @@ cast-result-2 : tie.Need-cast-result-2
 cast-result-2 c = search needs
 
 sub-result-2 : tie.Need-sub-result-2
-sub-result-2 c = turned-fits (c .before .args .x) (c .before .fits .x .fits) (c .if1 .left)
+sub-result-2 c = complement-fits (18446744073709551615 - c .before .args .x) (omega arith)
 
 returns : tie.Need-returns
 returns c = search needs
 
 returns-2 : tie.Need-returns-2
-returns-2 c = high-bits (c .before .args .x) (c .before .fits .x .fits) (c .if1 .left)
+returns-2 c = high-bits w64 (c .before .args .x) (c .before .fits .x .fits) (omega arith) (omega arith)
 
 pub signed64-spec : {M : Type 1} → statement M
 signed64-spec =
