@@ -1,0 +1,6 @@
+-- The lemmas of this crate's functions.
+pub mod Lists
+pub mod Signs
+pub mod Factors
+pub mod Bytes
+pub mod Steps

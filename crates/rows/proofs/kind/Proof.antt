@@ -1,0 +1,110 @@
+use Rattle.format.specs.Rows.{kindOf}
+use borrow.Author.Needs.{needs}
+use Rattle.rows.proofs.kind.Statement.{statement}
+use Rattle.rows.proofs.kind.Tie as tie
+use Rattle.rows.proofs.kind.Reads as reads
+use Rattle.rows.proofs.kind.Lts as lts
+
+-- src/lib.rt:164:30
+enum-told : tie.Need-enum-told
+enum-told c = search needs
+
+-- src/lib.rt:165:33
+enum-told-2 : tie.Need-enum-told-2
+enum-told-2 c = search needs
+
+-- src/lib.rt:166:35
+enum-told-3 : tie.Need-enum-told-3
+enum-told-3 c = search needs
+
+-- src/lib.rt:167:30
+enum-told-4 : tie.Need-enum-told-4
+enum-told-4 c = search needs
+
+-- src/lib.rt:168:28
+enum-told-5 : tie.Need-enum-told-5
+enum-told-5 c = search needs
+
+-- src/lib.rt:169:30
+enum-told-6 : tie.Need-enum-told-6
+enum-told-6 c = search needs
+
+-- src/lib.rt:170:31
+enum-told-7 : tie.Need-enum-told-7
+enum-told-7 c = search needs
+
+-- src/lib.rt:171:30
+enum-told-8 : tie.Need-enum-told-8
+enum-told-8 c = search needs
+
+-- src/lib.rt:172:31
+enum-told-9 : tie.Need-enum-told-9
+enum-told-9 c = search needs
+
+-- src/lib.rt:160:1
+returns : tie.Need-returns
+unfolding kindOf
+returns c = rw (c .enum-told .given .1)
+
+-- src/lib.rt:160:1
+returns-2 : tie.Need-returns-2
+unfolding kindOf
+returns-2 c = rw (c .enum-told2 .given .1)
+
+-- src/lib.rt:160:1
+returns-3 : tie.Need-returns-3
+unfolding kindOf
+returns-3 c = rw (c .enum-told3 .given .1)
+
+-- src/lib.rt:160:1
+returns-4 : tie.Need-returns-4
+unfolding kindOf
+returns-4 c = rw (c .enum-told4 .given .1)
+
+-- src/lib.rt:160:1
+returns-5 : tie.Need-returns-5
+unfolding kindOf
+returns-5 c = rw (c .enum-told5 .given .1)
+
+-- src/lib.rt:160:1
+returns-6 : tie.Need-returns-6
+unfolding kindOf
+returns-6 c = rw (c .enum-told6 .given .1)
+
+-- src/lib.rt:160:1
+returns-7 : tie.Need-returns-7
+unfolding kindOf
+returns-7 c = rw (c .enum-told7 .given .1)
+
+-- src/lib.rt:160:1
+returns-8 : tie.Need-returns-8
+unfolding kindOf
+returns-8 c = rw (c .enum-told8 .given .1)
+
+-- src/lib.rt:160:1
+returns-9 : tie.Need-returns-9
+unfolding kindOf
+returns-9 c = rw (c .enum-told9 .given .1)
+
+pub kind-spec : {M : Type 1} → statement M
+kind-spec =
+    tie.close
+    (tie.spec
+    enum-told
+    enum-told-2
+    enum-told-3
+    enum-told-4
+    enum-told-5
+    enum-told-6
+    enum-told-7
+    enum-told-8
+    enum-told-9
+    returns
+    returns-2
+    returns-3
+    returns-4
+    returns-5
+    returns-6
+    returns-7
+    returns-8
+    returns-9)

@@ -1,0 +1,33 @@
+use Rattle.format.specs.Test.{pick}
+use native.Mathlib.Omega.{arith}
+use borrow.Author.Tests.{ne-eqb}
+use Rattle.format.specs.Lists.{hasOffset}
+use Rattle.rows.proofs.offsets.Statement.{statement}
+use Rattle.rows.proofs.offsets.Tie as tie
+use Rattle.rows.proofs.offsets.Reads as reads
+use Rattle.rows.proofs.offsets.Lts as lts
+
+-- src/lib.rt:78:1
+returns : tie.Need-returns
+unfolding hasOffset pick
+returns c = rw (c .match .keys1)
+
+-- src/lib.rt:78:1
+returns-2 : tie.Need-returns-2
+unfolding hasOffset pick
+returns-2 c = rw (c .match .keys2)
+
+-- src/lib.rt:78:1
+returns-3 : tie.Need-returns-3
+unfolding hasOffset pick
+returns-3 c = rw (c .match .keys3)
+
+-- src/lib.rt:78:1
+returns-4 : tie.Need-returns-4
+unfolding hasOffset pick
+returns-4 c = 
+    let k = c .before .args .kind in
+    simp (ne-eqb k 0 (λ q. omega arith), ne-eqb k 1 (λ q. omega arith), ne-eqb k 3 (λ q. omega arith))
+
+pub offsets-spec : {M : Type 1} → statement M
+offsets-spec = tie.close (tie.spec returns returns-2 returns-3 returns-4)

@@ -1,0 +1,43 @@
+use Rattle.format.specs.Test.{pick}
+use native.Mathlib.Omega.{arith}
+use borrow.Author.Tests.{ne-eqb}
+use Rattle.format.specs.Lists.{hasRegister}
+use Rattle.rows.proofs.registers.Statement.{statement}
+use Rattle.rows.proofs.registers.Tie as tie
+use Rattle.rows.proofs.registers.Reads as reads
+use Rattle.rows.proofs.registers.Lts as lts
+
+-- src/lib.rt:65:1
+returns : tie.Need-returns
+unfolding hasRegister pick
+returns c = rw (c .match .keys1)
+
+-- src/lib.rt:65:1
+returns-2 : tie.Need-returns-2
+unfolding hasRegister pick
+returns-2 c = rw (c .match .keys2)
+
+-- src/lib.rt:65:1
+returns-3 : tie.Need-returns-3
+unfolding hasRegister pick
+returns-3 c = rw (c .match .keys3)
+
+-- src/lib.rt:65:1
+returns-4 : tie.Need-returns-4
+unfolding hasRegister pick
+returns-4 c = rw (c .match .keys4)
+
+-- src/lib.rt:65:1
+returns-5 : tie.Need-returns-5
+unfolding hasRegister pick
+returns-5 c = rw (c .match .keys5)
+
+-- src/lib.rt:65:1
+returns-6 : tie.Need-returns-6
+unfolding hasRegister pick
+returns-6 c = 
+    let k = c .before .args .kind in
+    simp (ne-eqb k 0 (λ q. omega arith), ne-eqb k 2 (λ q. omega arith), ne-eqb k 3 (λ q. omega arith), ne-eqb k 4 (λ q. omega arith), ne-eqb k 5 (λ q. omega arith))
+
+pub registers-spec : {M : Type 1} → statement M
+registers-spec = tie.close (tie.spec returns returns-2 returns-3 returns-4 returns-5 returns-6)

@@ -1,0 +1,85 @@
+use borrow.Author.Tests.{ne-eqb}
+use Rattle.rows.proofs.Signs.{passed}
+use mathlib.Core.Path.{_≡_}
+use native.Mathlib.Omega.{arith}
+use mir.Facts.{toZ-ofZ}
+use Rattle.format.specs.Test.{pick}
+use Rattle.format.specs.Lists.{rowOf}
+use Rattle.rows.proofs.Lists.{row-small}
+use Rattle.rows.proofs.row_of.Statement.{statement}
+use Rattle.rows.proofs.row_of.Tie as tie
+use Rattle.rows.proofs.row_of.Reads as reads
+use Rattle.rows.proofs.row_of.Lts as lts
+use Rattle.rows.proofs.signed32.Reads as signed32-reads
+
+-- src/lib.rt:41:13
+cast-g : tie.Need-cast-g
+cast-g c = record { fits = row-small (c .args .kind) (c .args .reg) (c .args .off) (c .pre) .1 }
+
+-- src/lib.rt:42:9
+signed32-requires : tie.Need-signed32-requires
+signed32-requires c κs = row-small (c .args .kind) (c .args .reg) (c .args .off) (c .pre) .2
+
+-- src/lib.rt:37:1
+returns : tie.Need-returns
+unfolding rowOf pick
+returns c = rw (c .match .keys1, passed (c .before .signed32 .result) (c .before .signed32 .ok), c .before .signed32 .ensures)
+
+-- src/lib.rt:37:1
+returns-2 : tie.Need-returns-2
+unfolding rowOf pick
+returns-2 c = rw (c .match .keys2, passed (c .before .signed32 .result) (c .before .signed32 .ok), c .before .signed32 .ensures)
+
+-- src/lib.rt:37:1
+returns-3 : tie.Need-returns-3
+unfolding rowOf pick
+returns-3 c = rw (c .match .keys3)
+
+-- src/lib.rt:37:1
+returns-4 : tie.Need-returns-4
+unfolding rowOf pick
+returns-4 c = rw (c .match .keys4, passed (c .before .signed32 .result) (c .before .signed32 .ok), c .before .signed32 .ensures)
+
+-- src/lib.rt:37:1
+returns-5 : tie.Need-returns-5
+unfolding rowOf pick
+returns-5 c = rw (c .match .keys5)
+
+-- src/lib.rt:37:1
+returns-6 : tie.Need-returns-6
+unfolding rowOf pick
+returns-6 c = rw (c .match .keys6)
+
+-- src/lib.rt:37:1
+returns-7 : tie.Need-returns-7
+unfolding rowOf pick
+returns-7 c = rw (c .match .keys7)
+
+-- src/lib.rt:37:1
+returns-8 : tie.Need-returns-8
+unfolding rowOf pick
+returns-8 c = rw (c .match .keys8)
+
+-- src/lib.rt:37:1
+returns-9 : tie.Need-returns-9
+unfolding rowOf pick
+returns-9 c =
+    let k = c .before .before .args .kind in
+    let n = c .match .rest in
+    simp (ne-eqb k 0 (n .0 .0 .0 .0 .0 .0 .0 .1), ne-eqb k 1 (n .0 .0 .0 .0 .0 .0 .1), ne-eqb k 2 (n .0 .0 .0 .0 .0 .1), ne-eqb k 3 (n .0 .0 .0 .0 .1), ne-eqb k 4 (n .0 .0 .0 .1), ne-eqb k 5 (n .0 .0 .1), ne-eqb k 6 (n .0 .1), ne-eqb k 7 (n .1))
+
+pub row-of-spec : {M : Type 1} → statement M
+row-of-spec =
+    tie.close
+    (tie.spec
+    cast-g
+    signed32-requires
+    returns
+    returns-2
+    returns-3
+    returns-4
+    returns-5
+    returns-6
+    returns-7
+    returns-8
+    returns-9)

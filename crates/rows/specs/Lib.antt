@@ -1,0 +1,2 @@
+-- What the helpers of rows and operations do.
+pub mod Operands

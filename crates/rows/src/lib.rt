@@ -1,0 +1,443 @@
+// A row out of the lists, written, sized, and read back as an operation. Ported from rucc-asm/src/unwind.rs (row, saved, advance) of tamnd/rucc, changed: see NOTICE.
+ghost use mathlib.Core.Path.{_≡_};
+ghost use mathlib.Core.List.{[], _∷_};
+ghost use Prim.Native.Nat.{_+_, _*_, _^_, _≤_, _<_};
+ghost use lib.ListN.{length};
+ghost use lib.Dec.{T};
+ghost use lib.IntN.{natAbs};
+ghost use mir.Syntax.{w32};
+ghost use mir.Val.{toZ};
+ghost use Rattle.format.specs.Lists.{rowStride, field, hasRegister, hasOffset, rowOf, rowOk, lineAt, rowOkAt};
+ghost use Rattle.format.specs.Put.{Wrote};
+ghost use Rattle.format.specs.Leb.{little, uleb};
+ghost use Rattle.format.specs.Rows.{factor, cfaBytes, withRegister, savedBytes, rowBytes, stepIn, stepForm, stepBytes, whole, wholeBelow, rowWhole, kindOf, regOf, offsetOf, sameRow};
+ghost use Rattle.format.specs.Test.{pick};
+ghost use Rattle.rows.specs.Operands.{bySign, offsetBytes, stepOpcode, stepWidth};
+use format::Row;
+
+// ---- a row out of the lists
+
+// The offset of row i.
+pub fn offset_at(rows: &[u64], i: usize) -> u64
+    requires { ⌜ 4 * i + 4 ≤ length (now rows) ⌝ }
+    ensures { λ r. ⌜ r ≡ field rowStride (now (rows .entry)) i 0 ⌝ }
+{
+    rows[4 * i]
+}
+
+// The number whose 32 bits, in two's complement, are x.
+fn signed32(x: u64) -> i64
+    requires { ⌜ x < 2 ^ 32 ⌝ }
+    ensures { λ r. ⌜ r ≡ toZ w32 x ⌝ }
+{
+    if x < 2147483648 {
+        x as i64
+    } else {
+        -1 - ((4294967295 - x) as i64)
+    }
+}
+
+fn row_of(kind: u64, reg: u64, off: u64) -> Row
+    requires { ⌜ T (rowOk kind reg off) ⌝ }
+    ensures { λ r. ⌜ r ≡ rowOf kind reg off ⌝ }
+{
+    let g = reg as u16;
+    let z = signed32(off);
+    match kind {
+        0 => Row::DefCfa(g, z),
+        1 => Row::DefCfaOffset(z),
+        2 => Row::DefCfaRegister(g),
+        3 => Row::Offset(g, z),
+        4 => Row::Restore(g),
+        5 => Row::Undefined(g),
+        6 => Row::RememberState,
+        7 => Row::RestoreState,
+        _ => Row::NegateRaState,
+    }
+}
+
+// Row i.
+pub fn row_at(rows: &[u64], i: usize) -> Row
+    requires { ⌜ (4 * i + 4 ≤ length (now rows)) × T (rowOkAt (now rows) i) ⌝ }
+    ensures { λ r. ⌜ r ≡ lineAt (now (rows .entry)) i .1 ⌝ }
+{
+    row_of(rows[4 * i + 1], rows[4 * i + 2], rows[4 * i + 3])
+}
+
+// How many registers and how many offsets a kind may name.
+fn registers(kind: u64) -> u64
+    ensures { λ r. ⌜ r ≡ pick (hasRegister kind) 65536 1 ⌝ }
+{
+    match kind {
+        0 => 65536,
+        2 => 65536,
+        3 => 65536,
+        4 => 65536,
+        5 => 65536,
+        _ => 1,
+    }
+}
+
+fn offsets(kind: u64) -> u64
+    ensures { λ r. ⌜ r ≡ pick (hasOffset kind) (2 ^ 32) 1 ⌝ }
+{
+    match kind {
+        0 => 4294967296,
+        1 => 4294967296,
+        3 => 4294967296,
+        _ => 1,
+    }
+}
+
+// Three numbers are a row.
+fn row_shape(kind: u64, reg: u64, off: u64) -> bool
+    ensures { λ r. ⌜ r ≡ rowOk kind reg off ⌝ }
+{
+    if 8 < kind {
+        return false;
+    }
+    if registers(kind) <= reg {
+        return false;
+    }
+    off < offsets(kind)
+}
+
+// Row i is one.
+pub fn row_ok(rows: &[u64], i: usize) -> bool
+    requires { ⌜ 4 * i + 4 ≤ length (now rows) ⌝ }
+    ensures { λ r. ⌜ r ≡ rowOkAt (now (rows .entry)) i ⌝ }
+{
+    row_shape(rows[4 * i + 1], rows[4 * i + 2], rows[4 * i + 3])
+}
+
+// ---- questions of one row
+
+// z without its sign.
+fn size(z: i64) -> u64
+    ensures { λ r. ⌜ (r ≡ natAbs z) × (r ≤ 2 ^ 63) ⌝ }
+{
+    if z < 0 {
+        (-1 - z) as u64 + 1
+    } else {
+        z as u64
+    }
+}
+
+// A multiple of the word.
+fn whole(word: u64, z: i64) -> bool
+    requires { ⌜ 0 < word ⌝ }
+    ensures { λ r. ⌜ r ≡ whole word z ⌝ }
+{
+    size(z) % word == 0
+}
+
+fn whole_below(word: u64, z: i64) -> bool
+    requires { ⌜ 0 < word ⌝ }
+    ensures { λ r. ⌜ r ≡ wholeBelow word z ⌝ }
+{
+    if z < 0 {
+        return whole(word, z);
+    }
+    true
+}
+
+// Question 24 of one row: an offset that is written factored is a multiple of the word.
+pub fn row_whole(word: u64, r: Row) -> bool
+    requires { ⌜ 0 < word ⌝ }
+    ensures { λ t. ⌜ t ≡ rowWhole word r ⌝ }
+{
+    match r {
+        Row::DefCfa(_, z) => whole_below(word, z),
+        Row::DefCfaOffset(z) => whole_below(word, z),
+        Row::Offset(_, z) => whole(word, z),
+        Row::DefCfaRegister(_) => true,
+        Row::Restore(_) => true,
+        Row::Undefined(_) => true,
+        Row::RememberState => true,
+        Row::RestoreState => true,
+        Row::NegateRaState => true,
+    }
+}
+
+// A row's kind, register (or 0) and offset (or 0).
+fn kind(r: Row) -> u64
+    ensures { λ n. ⌜ n ≡ kindOf r ⌝ }
+{
+    match r {
+        Row::DefCfa(_, _) => 0,
+        Row::DefCfaOffset(_) => 1,
+        Row::DefCfaRegister(_) => 2,
+        Row::Offset(_, _) => 3,
+        Row::Restore(_) => 4,
+        Row::Undefined(_) => 5,
+        Row::RememberState => 6,
+        Row::RestoreState => 7,
+        Row::NegateRaState => 8,
+    }
+}
+
+fn register(r: Row) -> u16
+    ensures { λ n. ⌜ n ≡ regOf r ⌝ }
+{
+    match r {
+        Row::DefCfa(reg, _) => reg,
+        Row::DefCfaOffset(_) => 0,
+        Row::DefCfaRegister(reg) => reg,
+        Row::Offset(reg, _) => reg,
+        Row::Restore(reg) => reg,
+        Row::Undefined(reg) => reg,
+        Row::RememberState => 0,
+        Row::RestoreState => 0,
+        Row::NegateRaState => 0,
+    }
+}
+
+fn offset(r: Row) -> i64
+    ensures { λ z. ⌜ z ≡ offsetOf r ⌝ }
+{
+    match r {
+        Row::DefCfa(_, z) => z,
+        Row::DefCfaOffset(z) => z,
+        Row::DefCfaRegister(_) => 0,
+        Row::Offset(_, z) => z,
+        Row::Restore(_) => 0,
+        Row::Undefined(_) => 0,
+        Row::RememberState => 0,
+        Row::RestoreState => 0,
+        Row::NegateRaState => 0,
+    }
+}
+
+// Two rows are equal.
+pub fn same_row(a: Row, b: Row) -> bool
+    ensures { λ r. ⌜ r ≡ sameRow a b ⌝ }
+{
+    if kind(a) != kind(b) {
+        return false;
+    }
+    if register(a) != register(b) {
+        return false;
+    }
+    offset(a) == offset(b)
+}
+
+// ---- a row written, and its size
+
+// An offset divided by minus the word.
+fn factored(word: u64, z: i64) -> i64
+    requires { ⌜ (2 ≤ word) × (word ≤ 8) ⌝ }
+    ensures { λ r. ⌜ r ≡ factor word z ⌝ }
+{
+    z / (0 - word as i64)
+}
+
+// One opcode or the other, by the offset's sign.
+fn by_sign(plain: u8, signed: u8, z: i64) -> u8
+    ensures { λ r. ⌜ r ≡ bySign plain signed z ⌝ }
+{
+    if z < 0 {
+        return signed;
+    }
+    plain
+}
+
+// The offset of a frame address: plain, or signed and factored where it is negative.
+fn frame_offset(out: &mut [u8], at: usize, word: u64, z: i64) -> usize
+    requires { ⌜ (2 ≤ word) × (word ≤ 8) × (at + length (offsetBytes word z) ≤ length (now out)) ⌝ }
+    ensures { λ r. ⌜ Wrote (now (out .entry)) (now (out .exit)) at r (offsetBytes word z) ⌝ }
+{
+    if z < 0 {
+        return leb::sleb(out, at, factored(word, z));
+    }
+    leb::uleb(out, at, z as u64)
+}
+
+fn frame_offset_size(word: u64, z: i64) -> usize
+    requires { ⌜ (2 ≤ word) × (word ≤ 8) ⌝ }
+    ensures { λ r. ⌜ r ≡ length (offsetBytes word z) ⌝ }
+{
+    if z < 0 {
+        return leb::sleb_size(factored(word, z));
+    }
+    leb::uleb_size(z as u64)
+}
+
+// DW_CFA_def_cfa and DW_CFA_def_cfa_offset.
+fn def_cfa(out: &mut [u8], at: usize, word: u64, reg: u16, z: i64) -> usize
+    requires { ⌜ (2 ≤ word) × (word ≤ 8) × (at + length (cfaBytes word 0x0c 0x12 (uleb reg) z) ≤ length (now out)) ⌝ }
+    ensures { λ r. ⌜ Wrote (now (out .entry)) (now (out .exit)) at r (cfaBytes word 0x0c 0x12 (uleb reg) z) ⌝ }
+{
+    let a = leb::byte(out, at, by_sign(0x0c, 0x12, z));
+    let b = leb::uleb(out, a, reg as u64);
+    frame_offset(out, b, word, z)
+}
+
+fn def_cfa_offset(out: &mut [u8], at: usize, word: u64, z: i64) -> usize
+    requires { ⌜ (2 ≤ word) × (word ≤ 8) × (at + length (cfaBytes word 0x0e 0x13 [] z) ≤ length (now out)) ⌝ }
+    ensures { λ r. ⌜ Wrote (now (out .entry)) (now (out .exit)) at r (cfaBytes word 0x0e 0x13 [] z) ⌝ }
+{
+    let a = leb::byte(out, at, by_sign(0x0e, 0x13, z));
+    frame_offset(out, a, word, z)
+}
+
+// An opcode with its register: to 63 inside it, else behind the long form.
+fn opcode(out: &mut [u8], at: usize, short: u8, long: u8, reg: u16) -> usize
+    requires { ⌜ (short ≤ 192) × (at + length (withRegister short long reg []) ≤ length (now out)) ⌝ }
+    ensures { λ r. ⌜ Wrote (now (out .entry)) (now (out .exit)) at r (withRegister short long reg []) ⌝ }
+{
+    if reg <= 63 {
+        return leb::byte(out, at, short + reg as u8);
+    }
+    let a = leb::byte(out, at, long);
+    leb::uleb(out, a, reg as u64)
+}
+
+fn opcode_size(reg: u16) -> usize
+    ensures { λ r. ⌜ r ≡ length (withRegister 0 0 reg []) ⌝ }
+{
+    if reg <= 63 {
+        return 1;
+    }
+    1 + leb::uleb_size(reg as u64)
+}
+
+// An opcode with its register behind it.
+fn named(out: &mut [u8], at: usize, code: u8, reg: u16) -> usize
+    requires { ⌜ at + 1 + length (uleb reg) ≤ length (now out) ⌝ }
+    ensures { λ r. ⌜ Wrote (now (out .entry)) (now (out .exit)) at r (code ∷ uleb reg) ⌝ }
+{
+    let a = leb::byte(out, at, code);
+    leb::uleb(out, a, reg as u64)
+}
+
+// A register saved at an offset that is factored already.
+pub fn saved(out: &mut [u8], at: usize, reg: u16, z: i64) -> usize
+    requires { ⌜ at + length (savedBytes reg z) ≤ length (now out) ⌝ }
+    ensures { λ r. ⌜ Wrote (now (out .entry)) (now (out .exit)) at r (savedBytes reg z) ⌝ }
+{
+    if z < 0 {
+        let a = named(out, at, 0x11, reg);
+        return leb::sleb(out, a, z);
+    }
+    let a = opcode(out, at, 0x80, 0x05, reg);
+    leb::uleb(out, a, z as u64)
+}
+
+pub fn saved_size(reg: u16, z: i64) -> usize
+    ensures { λ r. ⌜ r ≡ length (savedBytes reg z) ⌝ }
+{
+    if z < 0 {
+        return 1 + leb::uleb_size(reg as u64) + leb::sleb_size(z);
+    }
+    opcode_size(reg) + leb::uleb_size(z as u64)
+}
+
+// A row's operation.
+pub fn row(out: &mut [u8], at: usize, word: u64, r: Row) -> usize
+    requires { ⌜ (2 ≤ word) × (word ≤ 8) × (at + length (rowBytes word r) ≤ length (now out)) ⌝ }
+    ensures { λ n. ⌜ Wrote (now (out .entry)) (now (out .exit)) at n (rowBytes word r) ⌝ }
+{
+    match r {
+        Row::DefCfa(reg, z) => def_cfa(out, at, word, reg, z),
+        Row::DefCfaOffset(z) => def_cfa_offset(out, at, word, z),
+        Row::DefCfaRegister(reg) => named(out, at, 0x0d, reg),
+        Row::Offset(reg, z) => saved(out, at, reg, factored(word, z)),
+        Row::Restore(reg) => opcode(out, at, 0xc0, 0x06, reg),
+        Row::Undefined(reg) => named(out, at, 0x07, reg),
+        Row::RememberState => leb::byte(out, at, 0x0a),
+        Row::RestoreState => leb::byte(out, at, 0x0b),
+        Row::NegateRaState => leb::byte(out, at, 0x2d),
+    }
+}
+
+pub fn row_size(word: u64, r: Row) -> usize
+    requires { ⌜ (2 ≤ word) × (word ≤ 8) ⌝ }
+    ensures { λ n. ⌜ n ≡ length (rowBytes word r) ⌝ }
+{
+    match r {
+        Row::DefCfa(reg, z) => 1 + leb::uleb_size(reg as u64) + frame_offset_size(word, z),
+        Row::DefCfaOffset(z) => 1 + frame_offset_size(word, z),
+        Row::DefCfaRegister(reg) => 1 + leb::uleb_size(reg as u64),
+        Row::Offset(reg, z) => saved_size(reg, factored(word, z)),
+        Row::Restore(reg) => opcode_size(reg),
+        Row::Undefined(reg) => 1 + leb::uleb_size(reg as u64),
+        Row::RememberState => 1,
+        Row::RestoreState => 1,
+        Row::NegateRaState => 1,
+    }
+}
+
+// ---- a step written, and its size
+
+// How many bytes of operand the shortest form of a step has.
+pub fn step_form(by: u64) -> u64
+    ensures { λ r. ⌜ r ≡ stepForm by ⌝ }
+{
+    if by <= 0x3f {
+        return 0;
+    }
+    if by <= 0xff {
+        return 1;
+    }
+    if by <= 0xffff {
+        return 2;
+    }
+    4
+}
+
+// The opcode of a form that has an operand, and how long the operand is.
+fn step_opcode(form: u64) -> u8
+    ensures { λ r. ⌜ r ≡ stepOpcode form ⌝ }
+{
+    if form == 1 {
+        return 0x02;
+    }
+    if form == 2 {
+        return 0x03;
+    }
+    0x04
+}
+
+fn step_width(form: u64) -> usize
+    ensures { λ r. ⌜ r ≡ stepWidth form ⌝ }
+{
+    if form == 1 {
+        return 1;
+    }
+    if form == 2 {
+        return 2;
+    }
+    4
+}
+
+// A step in a given form. The form without operand holds 63 at most.
+pub fn step_in(out: &mut [u8], at: usize, form: u64, by: u64) -> usize
+    requires { ⌜ (form ≡ 0 → by ≤ 0x3f) × (at + length (stepIn form by) ≤ length (now out)) ⌝ }
+    ensures { λ r. ⌜ Wrote (now (out .entry)) (now (out .exit)) at r (stepIn form by) ⌝ }
+{
+    if form == 0 {
+        return leb::byte(out, at, 0x40 + by as u8);
+    }
+    let a = leb::byte(out, at, step_opcode(form));
+    leb::le(out, a, step_width(form), by)
+}
+
+// A step in its shortest form; a step of 0 is nothing.
+pub fn advance(out: &mut [u8], at: usize, by: u64) -> usize
+    requires { ⌜ at + length (stepBytes by) ≤ length (now out) ⌝ }
+    ensures { λ r. ⌜ Wrote (now (out .entry)) (now (out .exit)) at r (stepBytes by) ⌝ }
+{
+    if by == 0 {
+        return at;
+    }
+    step_in(out, at, step_form(by), by)
+}
+
+pub fn advance_size(by: u64) -> usize
+    ensures { λ r. ⌜ r ≡ length (stepBytes by) ⌝ }
+{
+    if by == 0 {
+        return 0;
+    }
+    1 + step_form(by) as usize
+}
