@@ -1,5 +1,7 @@
 // Runs the leaves over numbers around their boundaries, and prints a line for each. The file stdout is what differential/leaves.py
 // makes of the same numbers without Rattle.
+ghost use Prim.Native.Nat.{_<_};
+use format::Row;
 use format::Signed;
 use format::Unsigned;
 use libc::STDOUT_FILENO;
@@ -38,6 +40,11 @@ const SIGNED: [i64; 17] = [
     9223372036854775807,
     -9223372036854775808,
 ];
+
+const STEPS: [u64; 8] = [1, 63, 64, 255, 256, 65535, 65536, 4294967295];
+
+// An offset of 32 bits, in two's complement.
+const MINUS_16: u64 = 4294967280;
 
 fn number(n: u64) {
     io::write_all(STDOUT_FILENO, b" ");
@@ -119,6 +126,39 @@ fn signed(i: usize, v: i64) {
     read_signed(s);
 }
 
+fn write_row(r: Row) {
+    let size = rows::row_size(8, r);
+    if 9 < size {
+        io::write_all(STDOUT_FILENO, b" long\n");
+        return;
+    }
+    let mut out = [0u8; 9];
+    let n = rows::row(&mut out, 0, 8, r);
+    let s = &out[..n];
+    written(s, size);
+    io::write_all(STDOUT_FILENO, b"\n");
+}
+
+// The second row of a list.
+fn row(i: usize, kind: u64, reg: u64, off: u64) {
+    let list = [7, 5, 9, 0, 0, kind, reg, off];
+    begin(b"row", i);
+    if rows::row_ok(&list, 1) {
+        write_row(rows::row_at(&list, 1));
+    } else {
+        io::write_all(STDOUT_FILENO, b" no row\n");
+    }
+}
+
+fn step(i: usize, by: u64) {
+    let mut out = [0u8; 5];
+    let n = rows::advance(&mut out, 0, by);
+    let s = &out[..n];
+    begin(b"step", i);
+    written(s, rows::advance_size(by));
+    io::write_all(STDOUT_FILENO, b"\n");
+}
+
 fn foreign_unsigned(i: usize, s: &[u8]) {
     begin(b"read uleb", i);
     read_unsigned(s);
@@ -138,6 +178,42 @@ fn all_unsigned() {
 fn all_signed() {
     for i in 0..SIGNED.len() {
         signed(i, SIGNED[i]);
+    }
+}
+
+// Every kind that names a register.
+fn rows_of(first: usize, reg: u64)
+    requires { ⌜ first < 50 ⌝ }
+{
+    row(first, 0, reg, 8);
+    row(first + 1, 0, reg, MINUS_16);
+    row(first + 2, 2, reg, 0);
+    row(first + 3, 3, reg, MINUS_16);
+    row(first + 4, 3, reg, 8);
+    row(first + 5, 4, reg, 0);
+    row(first + 6, 5, reg, 0);
+}
+
+fn all_rows() {
+    rows_of(0, 0);
+    rows_of(7, 63);
+    rows_of(14, 64);
+    rows_of(21, 127);
+    rows_of(28, 128);
+    rows_of(35, 65535);
+    row(42, 1, 0, 0);
+    row(43, 1, 0, 16);
+    row(44, 1, 0, MINUS_16);
+    row(45, 1, 0, 2147483647);
+    row(46, 1, 0, 2147483648);
+    row(47, 6, 0, 0);
+    row(48, 7, 0, 0);
+    row(49, 8, 0, 0);
+}
+
+fn all_steps() {
+    for i in 0..STEPS.len() {
+        step(i, STEPS[i]);
     }
 }
 
@@ -164,5 +240,7 @@ fn foreign() {
 fn main() {
     all_unsigned();
     all_signed();
+    all_rows();
+    all_steps();
     foreign();
 }

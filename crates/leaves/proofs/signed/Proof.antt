@@ -12,10 +12,10 @@ sleb-requires : tie.Need-sleb-requires
 sleb-requires c κs = omega (arith, sleb-room (c .before .args .v) (c .before .fits .v))
 
 array-share-prefix-out : tie.Need-array-share-prefix-out
-array-share-prefix-out c = let s = c .before .before .before in counted (c .before .sleb .ensures) (sleb-room (s .args .v) (s .fits .v)) .0
+array-share-prefix-out c = let s = c .before .before .before in omega (arith, sleb-room (s .args .v) (s .fits .v))
 
 slice-aggregate-s : tie.Need-slice-aggregate-s
-slice-aggregate-s c = let s = c .before .before .before .before in counted (c .before .before .sleb .ensures) (sleb-room (s .args .v) (s .fits .v)) .1
+slice-aggregate-s c = let s = c .before .before .before .before in counted (c .before .before .sleb .ensures) (sleb-room (s .args .v) (s .fits .v))
 
 slice-aggregate-begin : tie.Need-slice-aggregate-begin
 slice-aggregate-begin c = search needs

@@ -1,6 +1,7 @@
 -- `unsigned` writes into room for ten bytes, the most that a number of 64 bits takes.
 use native.Mathlib.Omega.{arith}
-use Rattle.leaves.proofs.Room.{uleb-room, counted}
+use Rattle.format.proofs.LebBack.{uleb-short}
+use Rattle.leaves.proofs.Room.{counted}
 use borrow.Author.Needs.{needs}
 use Rattle.leaves.proofs.unsigned.Statement.{statement}
 use Rattle.leaves.proofs.unsigned.Tie as tie
@@ -9,13 +10,13 @@ slice-aggregate-uleb : tie.Need-slice-aggregate-uleb
 slice-aggregate-uleb c = search needs
 
 uleb-requires : tie.Need-uleb-requires
-uleb-requires c κs = omega (arith, uleb-room (c .before .args .v) (omega arith))
+uleb-requires c κs = omega (arith, uleb-short 9 (c .before .args .v) (omega arith))
 
 array-share-prefix-out : tie.Need-array-share-prefix-out
-array-share-prefix-out c = counted (c .before .uleb .ensures) (uleb-room (c .before .before .before .args .v) (omega arith)) .0
+array-share-prefix-out c = omega (arith, uleb-short 9 (c .before .before .before .args .v) (omega arith))
 
 slice-aggregate-s : tie.Need-slice-aggregate-s
-slice-aggregate-s c = counted (c .before .before .uleb .ensures) (uleb-room (c .before .before .before .before .args .v) (omega arith)) .1
+slice-aggregate-s c = counted (c .before .before .uleb .ensures) (uleb-short 9 (c .before .before .before .before .args .v) (omega arith))
 
 slice-aggregate-begin : tie.Need-slice-aggregate-begin
 slice-aggregate-begin c = search needs
