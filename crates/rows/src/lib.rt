@@ -116,7 +116,11 @@ pub fn row_ok(rows: &[u64], i: usize) -> bool
 fn size(z: i64) -> u64
     ensures { λ r. ⌜ (r ≡ natAbs z) × (r ≤ 2 ^ 63) ⌝ }
 {
-    if z < 0 { (-1 - z) as u64 + 1 } else { z as u64 }
+    if z < 0 {
+        (-1 - z) as u64 + 1
+    } else {
+        z as u64
+    }
 }
 
 // A multiple of the word.

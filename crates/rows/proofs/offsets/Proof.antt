@@ -25,7 +25,7 @@ returns-3 c = rw (c .match .keys3)
 -- src/lib.rt:78:1
 returns-4 : tie.Need-returns-4
 unfolding hasOffset pick
-returns-4 c =
+returns-4 c = 
     let k = c .before .args .kind in
     simp (ne-eqb k 0 (λ q. omega arith), ne-eqb k 1 (λ q. omega arith), ne-eqb k 3 (λ q. omega arith))
 

@@ -35,7 +35,7 @@ returns-5 c = rw (c .match .keys5)
 -- src/lib.rt:65:1
 returns-6 : tie.Need-returns-6
 unfolding hasRegister pick
-returns-6 c =
+returns-6 c = 
     let k = c .before .args .kind in
     simp (ne-eqb k 0 (λ q. omega arith), ne-eqb k 2 (λ q. omega arith), ne-eqb k 3 (λ q. omega arith), ne-eqb k 4 (λ q. omega arith), ne-eqb k 5 (λ q. omega arith))
 
