@@ -4,3 +4,5 @@ pub mod Signs
 pub mod Factors
 pub mod Bytes
 pub mod Steps
+pub mod Products
+pub mod Operations

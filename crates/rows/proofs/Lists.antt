@@ -1,20 +1,16 @@
 -- Rows out of the lists: the 32 bits of an offset, and the ranges of a row's numbers.
-use mathlib.Core.Path.{_≡_, refl, sym, ap, _∙_}
+use mathlib.Core.Path.{_≡_, sym, ap, _∙_}
 use mathlib.Core.Bool.{Bool, true, false, _&&_}
-use Prim.Native.Nat.{ℕ, zero, suc, _-_, _^_, _≤_, _<_}
+use Prim.Native.Nat.{ℕ, suc, _-_, _^_, _≤_, _<_}
 use native.Mathlib.Omega.{arith}
 use lib.Dec.{T, leb, ltb, ltb→lt, leb→le}
-use lib.IntN.{ℤ, pos, negsuc, _-ℤ_}
+use lib.IntN.{negsuc, _-ℤ_}
 use mir.Syntax.{w32, w64}
-use mir.Val.{Fits, SFits, ofZ, toZ}
-use mir.Facts.{toZ-ofZ, toZ-pos, toZ-neg, sfits-toZ, sfits-widen, and-yes}
+use mir.Val.{ofZ, toZ}
+use mir.Facts.{toZ-pos, toZ-neg, and-yes}
 use Rattle.format.specs.Test.{pick}
 use Rattle.format.specs.Lists.{hasRegister, hasOffset, rowOk}
-
--- -1 - k
-flip : (k : ℕ) → negsuc 0 -ℤ pos k ≡ negsuc k
-flip zero = refl
-flip (suc k) = ap negsuc (omega arith)
+use Rattle.rows.proofs.Signs.{complement-is}
 
 -- an offset below 2^31 is itself
 pub low-bits : (x : ℕ) → x < 2147483648 → toZ w64 x ≡ toZ w32 x
@@ -22,16 +18,10 @@ low-bits x h = toZ-pos w64 {n = x} (omega arith) ∙ sym (toZ-pos w32 {n = x} h)
 
 -- another is the complement of its complement
 module _ (x : ℕ) (h : x < 2 ^ 32) (l : 2147483648 ≤ x) where
-  turned : negsuc 0 -ℤ toZ w64 (4294967295 - x) ≡ negsuc (4294967295 - x)
-  turned = rw (toZ-pos w64 {n = 4294967295 - x} (omega arith)) (flip (4294967295 - x))
-
-  pub turned-fits : SFits w64 (negsuc 0 -ℤ toZ w64 (4294967295 - x))
-  turned-fits = rw turned (record { sfits = omega arith })
-
   pub high-bits : toZ w64 (ofZ w64 (negsuc 0 -ℤ toZ w64 (4294967295 - x))) ≡ toZ w32 x
   high-bits =
       let e : 2 ^ 32 - suc (4294967295 - x) ≡ x = omega arith in
-      toZ-ofZ turned-fits ∙ turned ∙ sym (toZ-neg w32 (4294967295 - x) (omega arith)) ∙ ap (toZ w32) e
+      complement-is (4294967295 - x) (omega arith) ∙ sym (toZ-neg w32 (4294967295 - x) (omega arith)) ∙ ap (toZ w32) e
 
 -- the ranges of a row's numbers
 pick-most : (b : Bool) (n m k : ℕ) → n < pick b m k → k ≤ m → n < m

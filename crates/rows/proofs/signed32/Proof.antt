@@ -1,4 +1,7 @@
-use Rattle.rows.proofs.Lists.{low-bits, turned-fits, high-bits}
+use Prim.Native.Nat.{_-_}
+use native.Mathlib.Omega.{arith}
+use Rattle.rows.proofs.Signs.{complement-fits}
+use Rattle.rows.proofs.Lists.{low-bits, high-bits}
 use borrow.Author.Needs.{needs}
 use Rattle.rows.proofs.signed32.Statement.{statement}
 use Rattle.rows.proofs.signed32.Tie as tie
@@ -19,7 +22,7 @@ cast-result-2 c = search needs
 
 -- src/lib.rt:33:9
 sub-result-2 : tie.Need-sub-result-2
-sub-result-2 c = turned-fits (c .before .args .x) (c .before .pre) (c .if1 .left)
+sub-result-2 c = complement-fits (4294967295 - c .before .args .x) (omega arith)
 
 -- src/lib.rt:26:1
 returns : tie.Need-returns

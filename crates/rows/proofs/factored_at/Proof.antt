@@ -1,0 +1,38 @@
+use mathlib.Core.Path.{sym, _∙_}
+use Rattle.rows.proofs.Operations.{factored-none, factored-held}
+use borrow.Author.Needs.{needs}
+use Rattle.rows.proofs.factored_at.Statement.{statement}
+use Rattle.rows.proofs.factored_at.Tie as tie
+use Rattle.rows.proofs.factored_at.Reads as reads
+use Rattle.rows.proofs.factored_at.Lts as lts
+use Rattle.leb.proofs.read_uleb.Reads as read-uleb-reads
+use Rattle.rows.proofs.words_below.Reads as words-below-reads
+
+-- src/lib.rt:509:36
+read-uleb-requires : tie.Need-read-uleb-requires
+read-uleb-requires c κs = search needs
+
+-- src/lib.rt:509:25
+enum-known-v : tie.Need-enum-known-v
+enum-known-v c = search needs
+
+-- src/lib.rt:510:9
+enum-told : tie.Need-enum-told
+enum-told c = search needs
+
+-- src/lib.rt:510:9
+returns : tie.Need-returns
+returns c = sym (factored-none (c .before .before .before .before .args .s .now) (c .before .before .before .before .args .at) (sym (c .before .before .read-uleb .ensures) ∙ c .enum-told .given .1) (c .before .before .before .before .args .word))
+
+-- src/lib.rt:512:5
+words-below-requires : tie.Need-words-below-requires
+words-below-requires c κs = search needs
+
+-- src/lib.rt:505:1
+returns-2 : tie.Need-returns-2
+returns-2 c = c .words-below .ensures ∙ sym (factored-held (c .before .before .before .before .before .before .args .s .now) (c .before .before .before .before .before .before .args .at) (sym (c .before .before .before .before .read-uleb .ensures) ∙ c .before .before .v .given .1) (c .before .before .before .before .before .before .args .word))
+
+pub factored-at-spec : {M : Type 1} → statement M
+factored-at-spec =
+    tie.close
+    (tie.spec read-uleb-requires enum-known-v enum-told returns words-below-requires returns-2)
