@@ -85,9 +85,9 @@ def text():
         made = gas(".sleb128", n)
         out.append(f"sleb {at} {made.hex()} {len(made)} {said_of(n)} {len(made)}")
     for at, (row, made) in enumerate(zip(rows(), records([[(1, *row), (1, 8, 0, 0)] for row in rows()]))):
-        out.append(f"row {at} {made[1:].hex()} {len(made) - 1}")
+        out.append(f"row {at} {made[1:].hex()} {len(made) - 1} {row[0]} {row[1]} {said_of(row[2])} {len(made) - 1}")
     for at, (n, made) in enumerate(zip(STEPS, records([[(n, 8, 0, 0)] for n in STEPS]))):
-        out.append(f"step {at} {made.hex()} {len(made)}")
+        out.append(f"step {at} {made.hex()} {len(made)} {n} {len(made)}")
     for at, data in enumerate(BROKEN_UNSIGNED):
         found = read_leb(data, False)
         out.append(f"read uleb {at} " + (f"{found[0]} {found[1]}" if found else "bad"))

@@ -1,6 +1,8 @@
 // Runs the leaves over numbers around their boundaries, and prints a line for each. The file stdout is what differential/leaves.py
 // makes of the same numbers without Rattle.
 ghost use Prim.Native.Nat.{_<_};
+use format::Decoded;
+use format::Operation;
 use format::Row;
 use format::Signed;
 use format::Unsigned;
@@ -42,6 +44,9 @@ const SIGNED: [i64; 17] = [
 ];
 
 const STEPS: [u64; 8] = [1, 63, 64, 255, 256, 65535, 65536, 4294967295];
+
+// The pointer width that rows are written for.
+const WORD: u64 = 8;
 
 // An offset of 32 bits, in two's complement.
 const MINUS_16: u64 = 4294967280;
@@ -108,6 +113,50 @@ fn read_signed(s: &[u8]) {
     io::write_all(STDOUT_FILENO, b"\n");
 }
 
+// A row's kind, register and offset.
+fn row_parts(kind: u64, reg: u16, z: i64) {
+    number(kind);
+    number(reg as u64);
+    signed_number(z);
+}
+
+fn print_row(r: Row) {
+    match r {
+        Row::DefCfa(reg, z) => row_parts(0, reg, z),
+        Row::DefCfaOffset(z) => row_parts(1, 0, z),
+        Row::DefCfaRegister(reg) => row_parts(2, reg, 0),
+        Row::Offset(reg, z) => row_parts(3, reg, z),
+        Row::Restore(reg) => row_parts(4, reg, 0),
+        Row::Undefined(reg) => row_parts(5, reg, 0),
+        Row::RememberState => row_parts(6, 0, 0),
+        Row::RestoreState => row_parts(7, 0, 0),
+        Row::NegateRaState => row_parts(8, 0, 0),
+    }
+}
+
+fn print_operation(op: Operation) {
+    match op {
+        Operation::Nop => {
+            io::write_all(STDOUT_FILENO, b" nop");
+        }
+        Operation::Step(n) => number(n),
+        Operation::Does(r) => print_row(r),
+    }
+}
+
+fn read_operation(s: &[u8]) {
+    match rows::operation(s, 0, WORD) {
+        Decoded::Operation(op, next) => {
+            print_operation(op);
+            number(next as u64);
+        }
+        Decoded::Bad => {
+            io::write_all(STDOUT_FILENO, b" bad");
+        }
+    }
+    io::write_all(STDOUT_FILENO, b"\n");
+}
+
 fn unsigned(i: usize, v: u64) {
     let mut out = [0u8; 10];
     let n = leb::uleb(&mut out, 0, v);
@@ -126,17 +175,18 @@ fn signed(i: usize, v: i64) {
     read_signed(s);
 }
 
+// Nine bytes hold a row whose offset has 32 bits.
 fn write_row(r: Row) {
-    let size = rows::row_size(8, r);
+    let size = rows::row_size(WORD, r);
     if 9 < size {
         io::write_all(STDOUT_FILENO, b" long\n");
         return;
     }
     let mut out = [0u8; 9];
-    let n = rows::row(&mut out, 0, 8, r);
+    let n = rows::row(&mut out, 0, WORD, r);
     let s = &out[..n];
     written(s, size);
-    io::write_all(STDOUT_FILENO, b"\n");
+    read_operation(s);
 }
 
 // The second row of a list.
@@ -156,7 +206,7 @@ fn step(i: usize, by: u64) {
     let s = &out[..n];
     begin(b"step", i);
     written(s, rows::advance_size(by));
-    io::write_all(STDOUT_FILENO, b"\n");
+    read_operation(s);
 }
 
 fn foreign_unsigned(i: usize, s: &[u8]) {

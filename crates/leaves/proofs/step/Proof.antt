@@ -30,11 +30,8 @@ advance-size-requires c κs = search needs
 written-requires : tie.Need-written-requires
 written-requires c κs = search needs
 
-slice-aggregate-write-all : tie.Need-slice-aggregate-write-all
-slice-aggregate-write-all c = search needs
-
-write-all-requires : tie.Need-write-all-requires
-write-all-requires c κs = search needs
+read-operation-requires : tie.Need-read-operation-requires
+read-operation-requires c κs = search needs
 
 returns : tie.Need-returns
 returns c = search needs
@@ -51,6 +48,5 @@ step-spec =
     begin-requires
     advance-size-requires
     written-requires
-    slice-aggregate-write-all
-    write-all-requires
+    read-operation-requires
     returns)

@@ -32,11 +32,8 @@ slice-aggregate-s c = counted (c .before .before .row .ensures) (omega (arith, c
 written-requires : tie.Need-written-requires
 written-requires c κs = search needs
 
-slice-aggregate-write-all-2 : tie.Need-slice-aggregate-write-all-2
-slice-aggregate-write-all-2 c = search needs
-
-write-all-requires-2 : tie.Need-write-all-requires-2
-write-all-requires-2 c κs = search needs
+read-operation-requires : tie.Need-read-operation-requires
+read-operation-requires c κs = search needs
 
 returns-2 : tie.Need-returns-2
 returns-2 c = search needs
@@ -54,6 +51,5 @@ write-row-spec =
     array-share-prefix-out
     slice-aggregate-s
     written-requires
-    slice-aggregate-write-all-2
-    write-all-requires-2
+    read-operation-requires
     returns-2)
