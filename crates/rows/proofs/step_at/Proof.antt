@@ -1,0 +1,31 @@
+use mathlib.Core.Path.{sym, _∙_}
+use Rattle.rows.proofs.Operations.{step-none, step-some}
+use borrow.Author.Needs.{needs}
+use Rattle.rows.proofs.step_at.Statement.{statement}
+use Rattle.rows.proofs.step_at.Tie as tie
+use Rattle.rows.proofs.step_at.Reads as reads
+use Rattle.rows.proofs.step_at.Lts as lts
+use Rattle.leb.proofs.read_le.Reads as read-le-reads
+
+-- src/lib.rt:578:36
+read-le-requires : tie.Need-read-le-requires
+read-le-requires c κs = search needs
+
+-- src/lib.rt:578:25
+enum-known-v : tie.Need-enum-known-v
+enum-known-v c = search needs
+
+-- src/lib.rt:579:9
+enum-told : tie.Need-enum-told
+enum-told c = search needs
+
+-- src/lib.rt:579:9
+returns : tie.Need-returns
+returns c = sym (step-none (c .before .before .before .before .args .s .now) (c .before .before .before .before .args .at) (c .before .before .before .before .args .n) (sym (c .before .before .read-le .ensures) ∙ c .enum-told .given .1))
+
+-- src/lib.rt:574:1
+returns-2 : tie.Need-returns-2
+returns-2 c = sym (step-some (c .before .before .before .before .before .args .s .now) (c .before .before .before .before .before .args .at) (c .before .before .before .before .before .args .n) (c .before .before .before .before .before .pre .0) (sym (c .before .before .before .read-le .ensures) ∙ c .before .v .given .1))
+
+pub step-at-spec : {M : Type 1} → statement M
+step-at-spec = tie.close (tie.spec read-le-requires enum-known-v enum-told returns returns-2)
