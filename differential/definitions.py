@@ -55,18 +55,22 @@ def cases(path):
     return found
 
 
-def answers():
-    """The Rust's answers by the case's name, as lists of lines."""
+def by_case(said):
+    """Answers by the case's name, as lists of lines."""
     found = {}
-    for name in sorted(os.listdir(os.path.join(HERE, "expected"))):
-        if name.endswith(".debug.txt"):
-            continue
-        for line in lines(os.path.join(HERE, "expected", name)):
-            if line.startswith("case "):
-                now = found.setdefault(line[5:], [])
-            else:
-                now.append(line)
+    for line in said:
+        if line.startswith("case "):
+            now = found.setdefault(line[5:], [])
+        elif found and not line.startswith("#"):
+            now.append(line)
     return found
+
+
+def answers():
+    """The Rust's stored answers, those of the release build."""
+    folder = os.path.join(HERE, "expected")
+    names = [name for name in sorted(os.listdir(folder)) if not name.endswith(".debug.txt")]
+    return by_case(line for name in names for line in lines(os.path.join(folder, name)))
 
 
 def ours():
@@ -130,12 +134,44 @@ def text(claims):
     return "\n".join(head)
 
 
-def main():
-    shutil.rmtree(OUT, ignore_errors=True)
-    crate = os.path.join(ROOT, "crates", "format")
-    for part in ("src", "specs"):
-        shutil.copytree(os.path.join(crate, part), os.path.join(OUT, part))
-    os.makedirs(os.path.join(OUT, "proofs"))
+def differs(case):
+    """Whether a random case falls under a difference of docs/DIFFERENCES.md."""
+    stride, word = (5, 8) if case["entry"] == "seh" else (18, case["machine"][0])
+    functions = [case["functions"][at : at + stride] for at in range(0, len(case["functions"]), stride)]
+    debug = case["entry"] == "relaxed_debug_frame"
+    if case["entry"] == "seh" or case["format"] == 1 and not debug:
+        return any(f[1] >= 2**32 for f in functions) or any(reg > 15 for reg in case["codes"][2::5])
+    rows = [case["rows"][4 * at : 4 * at + 4] for f in functions for at in range(f[2], f[2] + f[3])]
+    pairs = [case["pairs"][4 * at : 4 * at + 4] for f in functions if f[14] for at in range(f[16], f[16] + f[17])]
+    return (
+        debug and any(f[1] >= 256**word for f in functions)
+        or word == 8 and any(f[8] and not f[5] and 0 in (f[9] % 128, f[11] and f[12] % 128) for f in functions)
+        or any(kind in (0, 1) and off >= 2**31 and (2**32 - off) % word for _, kind, _, off in rows)
+        or any(pair[0] == pair[1] for pair in pairs)
+    )
+
+
+def random_claims(count, seed):
+    made = subprocess.run(
+        [sys.executable, os.path.join(HERE, "random.py"), count, "--seed", seed], capture_output=True, text=True, check=True
+    ).stdout
+    path = os.path.join(os.path.dirname(OUT), "random.txt")
+    with open(path, "w") as file:
+        file.write(made)
+    debug, release = (
+        subprocess.run([os.path.join(ROOT, "target", "differential", build, "harness")], input=made, capture_output=True, text=True)
+        for build in ("debug", "release")
+    )
+    in_debug, said = by_case(debug.stdout.split("\n")), by_case(release.stdout.split("\n"))
+    claims = []
+    for case in cases(path):
+        answer = said[case["name"]]
+        if answer == in_debug[case["name"]] and not answer[0].startswith(("panic", "inexpressible")) and not differs(case):
+            claims.append((case["name"].replace("_", "-"), term(case), expected(case, answer, None)))
+    return claims, int(count) - len(claims)
+
+
+def stored_claims():
     said, differing, claims, left = answers(), ours(), [], 0
     folder = os.path.join(HERE, "cases")
     for name in sorted(os.listdir(folder)):
@@ -147,6 +183,15 @@ def main():
                 claims.append((case["name"].replace("_", "-"), term(case), answer))
     if differing:
         sys.exit(f"ours.txt names cases that are not there: {', '.join(differing)}")
+    return claims, left
+
+
+def main():
+    shutil.rmtree(OUT, ignore_errors=True)
+    for part in ("src", "specs"):
+        shutil.copytree(os.path.join(ROOT, "crates", "format", part), os.path.join(OUT, part))
+    os.makedirs(os.path.join(OUT, "proofs"))
+    claims, left = random_claims(*sys.argv[2:]) if sys.argv[1:2] == ["--random"] else stored_claims()
     with open(os.path.join(OUT, "proofs", "Lib.antt"), "w") as file:
         file.write("mod Judged\n")
     with open(os.path.join(OUT, "proofs", "Judged.antt"), "w") as file:
@@ -155,7 +200,8 @@ def main():
     if run.returncode != 0:
         print("\n".join(line[:300] for line in (run.stdout + run.stderr).split("\n") if "error" in line))
         sys.exit("definitions: the check says no")
-    print(f"definitions: {len(claims)} cases computed as the Rust has them or ours.txt says; {left} not compared")
+    kind = "random" if sys.argv[1:] else "stored"
+    print(f"definitions: {len(claims)} {kind} cases computed as expected; {left} not compared")
 
 
 main()

@@ -3,7 +3,7 @@
 -- bytes for two_functions, debug_two and landing_and_named (differential/gas).
 use mathlib.Core.Path.{_≡_, refl}
 use Prim.Native.Nat.{ℕ}
-use mathlib.Core.Bool.{Bool, true, false}
+use mathlib.Core.Bool.{false}
 use mathlib.Core.List.{List, [], _∷_, _++_}
 use lib.ListN.{getD, replicate, set}
 use lib.IntN.{pos, negsuc}
@@ -19,7 +19,6 @@ use Rattle.format.specs.Machine.{registerOf, machineOf, isWord, machineO
 use Rattle.format.specs.Questions.{ask, andThen, perFunction, sizeBytes, isSome, lsdaOk, namedOk, encodingsOk, stepsOk, pairsOk, dwarfAsks, madeOne, prologuesFor, noAt, codeAsks, roomAsks, unless, fitting, dwarfAnswer, codesAnswer, prologuesAnswer, shortOnes, windowsAnswer, givenFunctions, noFunctions, givenAsks, windowsAsks, dwarfGiven, formatAnswer, relaxedTable, relaxedDebugFrame, seh, dwarfWritten, Answer, refused, empty, accepted, Given, Room}
 use Rattle.format.specs.Reader.{readEntry, entriesF, entries, valueOr0, second, isHeader, records, distanceBack, firstAddend, headerPlace, headerAt, strip, spelled, spellings, spellOr, readLetters, readByte, readMany, readCounted, personalityIn, lsdaIn, lettersIn, headerTail, require, parseHeader, recordTail, parseRecord, perform, whenRead, walkF, walk, parsed, locate, walked, readSection, read}
 use Rattle.format.specs.Records.{pointerBlank, namedBlank, lsdaBlank, pointerTo, namedReloc, lsdaReloc, sizeField, recordFields, recordBytes, sumPair, pairFor, setKind, setBytes, setPlace, setPair, stepRelocs, rowRelocs, recordRelocs}
-use Rattle.format.specs.RowCheck.{mayLead, inOrder, rowsOf, rowCheck, rowCheckAt}
 use Rattle.format.specs.Rows.{factor, cfaBytes, withRegister, savedBytes, rowBytes, stepIn, stepForm, stepBytes, linesBytes, rowsBytes, unfactor, readRegister, inRange, readOffset, readFactored, readSigned, one, two, readExtended, readOperation, whole, wholeBelow, rowWhole, sameOffset, kindOf, regOf, offsetOf, sameRow}
 use Rattle.format.specs.Rules.{blank, withFrame, withRule, reoffset, reregister, popped, apply, applyRows, upTo, entryState, rulesAt, seen, start, setFrame, setRule, changeOffset, changeRegister, remember, recall, act, actAll, while, answer, runRows}
 use Rattle.format.specs.Test.{pick, next, after, onward, orElse, all, first, each}
@@ -54,13 +53,6 @@ twoFunctions = on (16 ∷ 6 ∷ 0 ∷ 4 ∷ 0 ∷ 0 ∷ 0 ∷ 0 ∷ 0 ∷ 0 ∷ 
 
 twoFunctions-written : List (List ℕ)
 twoFunctions-written = (0 ∷ 0 ∷ []) ∷ (0x14 ∷ 0x00 ∷ 0x00 ∷ 0x00 ∷ 0x00 ∷ 0x00 ∷ 0x00 ∷ 0x00 ∷ 0x01 ∷ 0x7a ∷ 0x52 ∷ 0x00 ∷ 0x01 ∷ 0x78 ∷ 0x10 ∷ 0x01 ∷ 0x1b ∷ 0x0c ∷ 0x07 ∷ 0x08 ∷ 0x90 ∷ 0x01 ∷ 0x00 ∷ 0x00 ∷ 0x1c ∷ 0x00 ∷ 0x00 ∷ 0x00 ∷ 0x1c ∷ 0x00 ∷ 0x00 ∷ 0x00 ∷ 0x00 ∷ 0x00 ∷ 0x00 ∷ 0x00 ∷ 0x06 ∷ 0x00 ∷ 0x00 ∷ 0x00 ∷ 0x00 ∷ 0x41 ∷ 0x0e ∷ 0x10 ∷ 0x86 ∷ 0x02 ∷ 0x43 ∷ 0x0d ∷ 0x06 ∷ 0x41 ∷ 0x0c ∷ 0x07 ∷ 0x08 ∷ 0x00 ∷ 0x00 ∷ 0x00 ∷ 0x1c ∷ 0x00 ∷ 0x00 ∷ 0x00 ∷ 0x3c ∷ 0x00 ∷ 0x00 ∷ 0x00 ∷ 0x00 ∷ 0x00 ∷ 0x00 ∷ 0x00 ∷ 0x0b ∷ 0x00 ∷ 0x00 ∷ 0x00 ∷ 0x00 ∷ 0x41 ∷ 0x0e ∷ 0x10 ∷ 0x86 ∷ 0x02 ∷ 0x43 ∷ 0x0d ∷ 0x06 ∷ 0x46 ∷ 0x0c ∷ 0x07 ∷ 0x08 ∷ 0x00 ∷ 0x00 ∷ 0x00 ∷ []) ∷ (32 ∷ 16 ∷ 0 ∷ 4 ∷ 0 ∷ 64 ∷ 17 ∷ 0 ∷ 4 ∷ 0 ∷ []) ∷ ([]) ∷ []
-
--- differential/cases: other_signal
-otherSignal : Given
-otherSignal = on (16 ∷ 16 ∷ 0 ∷ 0 ∷ 0 ∷ 0 ∷ 0 ∷ 0 ∷ 0 ∷ 0 ∷ 0 ∷ 0 ∷ 0 ∷ 0 ∷ 0 ∷ 0 ∷ 0 ∷ 0 ∷ 17 ∷ 16 ∷ 0 ∷ 0 ∷ 0 ∷ 0 ∷ 0 ∷ 1 ∷ 0 ∷ 0 ∷ 0 ∷ 0 ∷ 0 ∷ 0 ∷ 0 ∷ 0 ∷ 0 ∷ 0 ∷ []) ([]) ([])
-
-otherSignal-written : List (List ℕ)
-otherSignal-written = (0 ∷ 44 ∷ []) ∷ (0x14 ∷ 0x00 ∷ 0x00 ∷ 0x00 ∷ 0x00 ∷ 0x00 ∷ 0x00 ∷ 0x00 ∷ 0x01 ∷ 0x7a ∷ 0x52 ∷ 0x00 ∷ 0x01 ∷ 0x78 ∷ 0x10 ∷ 0x01 ∷ 0x1b ∷ 0x0c ∷ 0x07 ∷ 0x08 ∷ 0x90 ∷ 0x01 ∷ 0x00 ∷ 0x00 ∷ 0x10 ∷ 0x00 ∷ 0x00 ∷ 0x00 ∷ 0x1c ∷ 0x00 ∷ 0x00 ∷ 0x00 ∷ 0x00 ∷ 0x00 ∷ 0x00 ∷ 0x00 ∷ 0x10 ∷ 0x00 ∷ 0x00 ∷ 0x00 ∷ 0x00 ∷ 0x00 ∷ 0x00 ∷ 0x00 ∷ 0x18 ∷ 0x00 ∷ 0x00 ∷ 0x00 ∷ 0x00 ∷ 0x00 ∷ 0x00 ∷ 0x00 ∷ 0x01 ∷ 0x7a ∷ 0x52 ∷ 0x53 ∷ 0x00 ∷ 0x01 ∷ 0x78 ∷ 0x10 ∷ 0x01 ∷ 0x1b ∷ 0x0c ∷ 0x07 ∷ 0x08 ∷ 0x90 ∷ 0x01 ∷ 0x00 ∷ 0x00 ∷ 0x00 ∷ 0x00 ∷ 0x00 ∷ 0x14 ∷ 0x00 ∷ 0x00 ∷ 0x00 ∷ 0x20 ∷ 0x00 ∷ 0x00 ∷ 0x00 ∷ 0x00 ∷ 0x00 ∷ 0x00 ∷ 0x00 ∷ 0x10 ∷ 0x00 ∷ 0x00 ∷ 0x00 ∷ 0x00 ∷ 0x00 ∷ 0x00 ∷ 0x00 ∷ 0x00 ∷ 0x00 ∷ 0x00 ∷ 0x00 ∷ []) ∷ (32 ∷ 16 ∷ 0 ∷ 4 ∷ 0 ∷ 80 ∷ 17 ∷ 0 ∷ 4 ∷ 0 ∷ []) ∷ ([]) ∷ []
 
 -- differential/cases: last_header_padding
 lastHeader : Given
@@ -114,12 +106,7 @@ two-functions-debug : written-debug twoFunctions ≡ twoFunctions-debug
 unfolding written-debug twoFunctions twoFunctions-debug
 two-functions-debug = refl
 
--- headers that differ in the signal mark alone are two
-other-signal : written 0 otherSignal ample ≡ otherSignal-written
-unfolding written otherSignal otherSignal-written
-other-signal = refl
-
--- the last function's header starts at 44, and is padded to a multiple of 8 from the section's start
+-- a simple function has a header of its own; it starts at 44, and is padded to a multiple of 8 from the section's start
 last-header : written 0 lastHeader ample ≡ lastHeader-written
 unfolding written lastHeader lastHeader-written
 last-header = refl
@@ -164,16 +151,16 @@ unfoldable read-debug : List (List ℕ) → (k q p : ℕ) → Reading
 unfolding pick next after onward orElse all first each little readLittle ulebF uleb bits7 slebF sleb readUlebF readUleb push last7 readSlebF fits64 readSleb factor cfaBytes withRegister savedBytes rowBytes stepIn stepForm stepBytes linesBytes rowsBytes unfactor readRegister inRange readOffset readFactored readSigned one two readExtended readOperation whole wholeBelow rowWhole sameOffset kindOf regOf offsetOf sameRow mark rowOf lineAt landingAt pairAt codeOf codeAt optional functionAt functionsOf prologueAt prologuesOf relocationAt relocationsOf numbersOf inside symbolOk markOk whenMarked hasRegister hasOffset rowOk rowOkAt pairOkAt codeOk codeOkAt allIn pointerOk functionOkAt prologueOkAt sumOf pairsIn listsOk codesOk implied leads ahead others leading encodingOf namedKind kindFor keyOf sameEncoding sameKind sameRows sameKey sizeOf pointerSize sizeOr0 pointerBytes pointerReloc padding padded entry letters augmentation lsdaLetter augmentationData counted headerData headerId dataFactor headerFields headerBytes pointerPlace kindRelocs headerRelocs registerOf machineOf isWord machineOk blank withFrame withRule reoffset reregister popped apply applyRows upTo entryState rulesAt seen start setFrame setRule changeOffset changeRegister remember recall act actAll while answer runRows readEntry entriesF entries valueOr0 second isHeader records distanceBack firstAddend headerPlace headerAt strip spelled spellings spellOr readLetters readByte readMany readCounted personalityIn lsdaIn lettersIn headerTail require parseHeader recordTail parseRecord perform whenRead walkF walk parsed locate walked readSection read
 read-debug w k q p = read (getD w 1 []) (getD w 2 []) 1 8 k q p
 
--- the second function pushes rbp (6) at 1, takes it for its frame at 4 and has left the frame at 10; 11 is past its length
+-- both functions push rbp (6) at 1 and take it for their frame at 4; the second is 11 bytes long
 reads : List Reading
 reads =
-    read-eh twoFunctions-written 1 6 0 ∷ read-eh twoFunctions-written 1 6 1 ∷ read-eh twoFunctions-written 1 16 4
-    ∷ read-eh twoFunctions-written 1 6 10 ∷ read-eh twoFunctions-written 1 6 11 ∷ read-eh twoFunctions-written 2 6 0
-    ∷ read-debug twoFunctions-debug 1 6 4 ∷ read-eh landingNamed-written 1 6 3 ∷ []
+    read-eh twoFunctions-written 1 6 0 ∷ read-eh twoFunctions-written 1 6 2 ∷ read-eh twoFunctions-written 1 16 5
+    ∷ read-eh twoFunctions-written 0 6 3 ∷ read-eh twoFunctions-written 1 6 11 ∷ read-eh twoFunctions-written 2 6 0
+    ∷ read-debug twoFunctions-debug 1 6 5 ∷ read-eh landingNamed-written 1 6 3 ∷ []
 
 reads-are : reads
     ≡ rules (register 7 (pos 8)) unstated false ∷ rules (register 7 (pos 16)) (Saved (negsuc 15)) false
-    ∷ rules (register 6 (pos 16)) (Saved (negsuc 7)) false ∷ rules (register 7 (pos 8)) (Saved (negsuc 15)) false ∷ refusedBy 65
+    ∷ rules (register 6 (pos 16)) (Saved (negsuc 7)) false ∷ rules (register 7 (pos 16)) (Saved (negsuc 15)) false ∷ refusedBy 65
     ∷ refusedBy 62 ∷ rules (register 6 (pos 16)) (Saved (negsuc 15)) false ∷ rules (register 7 (pos 16)) (Saved (negsuc 15)) false ∷ []
 unfolding reads read-eh read-debug twoFunctions-written twoFunctions-debug landingNamed-written
 reads-are = refl

@@ -1,14 +1,14 @@
 -- Fields and LEB numbers, there and back, and how long they are.
-use mathlib.Core.Path.{_≡_, refl, sym, ap, _∙_}
+use mathlib.Core.Path.{_≡_, refl, ap}
 use Prim.Native.Nat.{ℕ, zero, suc, _+_, _-_, _*_, _/_, _%_, _^_, _≤_, _<_}
 use native.Mathlib.Omega.{arith}
 use mathlib.Core.Bool.{Bool, true, false}
-use mathlib.Core.Option.{Option, none, some}
-use mathlib.Core.List.{List, [], _∷_, _++_}
+use mathlib.Core.Option.{some}
+use mathlib.Core.List.{List, _++_}
 use lib.ListN.{length}
 use lib.Dec.{T, ltb→lt}
 use lib.IntN.{ℤ, pos, negsuc}
-use Rattle.format.specs.Test.{pick, Read, next}
+use Rattle.format.specs.Test.{next}
 use Rattle.format.specs.Leb.{little, readLittle, ulebF, uleb, bits7, slebF, sleb, readUlebF, readUleb, push, last7, readSlebF, fits64, readSleb}
 use Rattle.format.proofs.Choice.{if-le, if-gt, either}
 

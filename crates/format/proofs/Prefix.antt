@@ -125,7 +125,7 @@ walked-prefix w p p′ q x h g =
     let l′ : suc p′ ≤ x .found .size = omega arith in
     rw (if-le (suc p′) (x .found .size), header-same w p′ p q)
     (onward-good (walk true w p q rule.Unstated start (x .header .operations)) _ _
-    (λ s. walk-good w p p′ q (s .rule) h s (x .found .operations)) (rw (if-le (suc p) (x .found .size)) at g)))
+    (λ s. walk-good w p p′ q _ h s (x .found .operations)) (rw (if-le (suc p) (x .found .size)) at g)))
     (λ b. absurd (rw (if-gt (suc p) (x .found .size)) at g))
 
 pub prefix : (section relocations : List ℕ) (kind word k q p p′ : ℕ) → p′ ≤ p

@@ -1,14 +1,13 @@
 -- The integer registers of x86-64 are a permutation of 0 to 15, and its vector registers are 0 to 15 in order: tests over the tables, and the rule at each entry.
-use mathlib.Core.Path.{_≡_, refl, subst, ap}
-use mathlib.Core.Bool.{Bool, true, false, _&&_}
-use mathlib.Core.List.{List, [], _∷_, _++_}
+use mathlib.Core.Path.{_≡_, subst}
+use mathlib.Core.Bool.{Bool, true, _&&_}
+use mathlib.Core.List.{List, [], _∷_}
 use Prim.Native.Nat.{ℕ, zero, suc, _+_, _<_}
 use native.Mathlib.Omega.{arith}
-use native.Mathlib.Nat.{add-zero, zero-add}
 use lib.Dec.{T, eqb, ltb, eqb→eq, ltb→lt}
 use lib.ListN.{length, getD}
 use mir.Facts.{and-yes}
-use Rattle.format.specs.Machine.{integers, vectors, x8664}
+use Rattle.format.specs.Machine.{integers, vectors}
 
 -- a test of each entry and its place, counted from `at`
 abbrev every : (ℕ → ℕ → Bool) → ℕ → List ℕ → Bool

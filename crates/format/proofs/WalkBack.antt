@@ -46,7 +46,7 @@ pick-over f false x y = refl
 abbrev Reads : ℕ → List ℕ → Operation → Type 0
 Reads w e op = (rest : List ℕ) → readOperation w (e ++ rest) ≡ some (op, rest)
 
-reads-long : (w : ℕ) (e : List ℕ) (op : Operation) → Reads w e op → 1 ≤ length e
+pub reads-long : (w : ℕ) (e : List ℕ) (op : Operation) → Reads w e op → 1 ≤ length e
 unfolding readOperation
 reads-long w [] op h = let e = h [] in let z : _≡_ {A = ℕ} 0 1 = cc in omega arith
 reads-long w (b ∷ e) op h = omega arith

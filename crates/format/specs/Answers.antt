@@ -1,10 +1,9 @@
 -- The paper's number and values for each case of an answer.
-use Prim.Native.Nat.{ℕ, _*_}
+use Prim.Native.Nat.{ℕ}
 use mathlib.Core.Bool.{Bool, true, false}
 use mathlib.Core.Option.{Option, none, some}
 use mathlib.Core.List.{List, [], _∷_, _++_}
 use lib.ListN.{length}
-use lib.IntN.{ℤ, pos}
 use mir.Syntax.{w64}
 use mir.Val.{ofZ}
 use Rattle.format.specs.declared.Frame.{Frame}
@@ -13,9 +12,12 @@ use Rattle.format.specs.declared.Rule.{Rule}
 use Rattle.format.specs.declared.Rule.the-variants.{Unstated, Undefined, Saved}
 use Rattle.format.specs.declared.Reading.{Reading}
 use Rattle.format.specs.declared.Reading.the-variants as reading
+use Rattle.format.specs.declared.Decoded.{Decoded}
+use Rattle.format.specs.declared.Decoded.the-variants as decoded
+use Rattle.format.specs.declared.Question.{Question}
+use Rattle.format.specs.declared.Question.the-variants as question
 use Rattle.format.specs.declared.Outcome.{Outcome}
 use Rattle.format.specs.declared.Outcome.the-variants as outcome
-use Rattle.format.specs.declared.Counts.{Counts}
 use Rattle.format.specs.Writer.{Written}
 use Rattle.format.specs.Lists.{numbersOf}
 use Rattle.format.specs.Put.{put}
@@ -40,6 +42,22 @@ bit true = 1
 unfoldable pub readingNumbers : Reading → List ℕ
 readingNumbers (reading.Rules c r s) = 0 ∷ (frameNumbers c ++ (ruleNumbers r ++ (bit s ∷ [])))
 readingNumbers (reading.Refused n) = n ∷ 0 ∷ 0 ∷ 0 ∷ 0 ∷ 0 ∷ 0 ∷ []
+
+-- an operation that cannot be read is question 66
+unfoldable pub decodedNumber : Decoded → ℕ
+decodedNumber (decoded.Operation op next) = 0
+decodedNumber decoded.Bad = 66
+
+-- ---- a question: number (0: yes) and position
+
+unfoldable pub questionNumbers : Question → List ℕ
+questionNumbers question.Yes = 0 ∷ 0 ∷ []
+questionNumbers (question.No n k) = n ∷ k ∷ []
+
+-- what a function that asks answers, by what the definition answers
+unfoldable pub questionOf : Option (ℕ × ℕ) → Question
+questionOf none = question.Yes
+questionOf (some x) = question.No (x .0) (x .1)
 
 -- ---- the writers: number (0: accepted), position, and the counts of header places (or markers), bytes, relocations and call-site (or x64 info) bytes
 

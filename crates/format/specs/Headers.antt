@@ -1,11 +1,11 @@
 -- Headers (CIE): leading rows, what makes two headers one, encodings, and a header's bytes (DWARF 5, 6.4.1; LSB, .eh_frame, "The Common Information Entry Format").
-use Prim.Native.Nat.{ℕ, zero, suc, _+_, _-_, _*_, _/_, _%_, _^_}
+use Prim.Native.Nat.{ℕ, _+_, _-_, _%_}
 use mathlib.Core.Bool.{Bool, true, false, not, _&&_, _||_, Bool·beq}
 use mathlib.Core.Option.{Option, none, some}
-use mathlib.Core.List.{List, [], _∷_, _++_, map}
+use mathlib.Core.List.{List, [], _∷_, _++_}
 use lib.ListN.{length, replicate}
 use lib.Dec.{leb, ltb, eqb}
-use lib.IntN.{ℤ, pos, negsuc, negℤ}
+use lib.IntN.{ℤ, pos, negℤ}
 use Rattle.format.specs.Test.{pick}
 use Rattle.format.specs.Leb.{little, uleb, sleb}
 use Rattle.format.specs.declared.Machine.{Machine}

@@ -1,7 +1,7 @@
 -- Numbers as bytes: little-endian fields, and LEB128 (DWARF 5, 7.6): seven bits a byte, the lowest first, bit 7 on every byte but the last.
 use Prim.Native.Nat.{ℕ, zero, suc, _+_, _-_, _*_, _/_, _%_, _^_}
 use mathlib.Core.Bool.{Bool, true, false}
-use mathlib.Core.Option.{Option, none, some}
+use mathlib.Core.Option.{none, some}
 use mathlib.Core.List.{List, [], _∷_}
 use lib.Dec.{ltb}
 use lib.IntN.{ℤ, pos, negsuc}

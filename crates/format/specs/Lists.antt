@@ -1,11 +1,10 @@
 -- Functions, landings, relaxing labels and x64 codes as records, and the lists of numbers that mean them (document 01, "Machine, function and row").
-use Prim.Native.Nat.{ℕ, zero, suc, _+_, _-_, _*_, _/_, _^_}
-use mathlib.Core.Bool.{Bool, true, false, not, _&&_, _||_}
+use Prim.Native.Nat.{ℕ, zero, suc, _+_, _*_, _/_, _^_}
+use mathlib.Core.Bool.{Bool, not, _&&_, _||_}
 use mathlib.Core.Option.{Option, none, some}
-use mathlib.Core.List.{List, [], _∷_, _++_}
+use mathlib.Core.List.{List, [], _∷_}
 use lib.ListN.{length, getD}
 use lib.Dec.{leb, ltb, eqb}
-use lib.IntN.{ℤ, pos, negsuc}
 use mir.Syntax.{w32, w64}
 use mir.Val.{toZ}
 use Rattle.format.specs.Test.{pick, each, all}

@@ -1,6 +1,6 @@
 -- The machine (document 01, "Machine, function and row"): its constant, and what register a DWARF number is.
 use Prim.Native.Nat.{ℕ, _-_, _%_, _^_}
-use mathlib.Core.Bool.{Bool, true, false, not, _&&_, _||_}
+use mathlib.Core.Bool.{Bool, true, false, _&&_, _||_}
 use mathlib.Core.Option.{Option, none, some}
 use mathlib.Core.List.{List, [], _∷_, _++_}
 use lib.ListN.{length, getD, take, drop, replicate}

@@ -1,6 +1,6 @@
 -- What stands at a position of a slice: the readers on the rest of a list, answered with the position past what was read.
 use Prim.Native.Nat.{ℕ, _-_}
-use mathlib.Core.Option.{Option, none, some}
+use mathlib.Core.Option.{none, some}
 use mathlib.Core.List.{List}
 use lib.ListN.{length, drop}
 use lib.IntN.{ℤ}

@@ -1,17 +1,17 @@
 -- The questions in their order, with the number and the position of a no, and what each entry answers (document 01, "Questions, in order, and the number for a no").
-use Prim.Native.Nat.{ℕ, zero, suc, _+_, _-_, _*_, _/_, _^_}
+use Prim.Native.Nat.{ℕ, suc, _-_, _*_, _^_}
 use mathlib.Core.Bool.{Bool, true, false, not, _&&_, _||_}
 use mathlib.Core.Option.{Option, none, some}
-use mathlib.Core.List.{List, [], _∷_, _++_, map}
-use lib.ListN.{length, getD}
+use mathlib.Core.List.{List, [], _∷_, map}
+use lib.ListN.{length}
 use lib.Dec.{leb, ltb, eqb}
 use Rattle.format.specs.Test.{pick, Result, good, bad, onward, all}
 use Rattle.format.specs.declared.Machine.{Machine}
 use Rattle.format.specs.Machine.{machineOf, machineOk}
 use Rattle.format.specs.Rows.{Line, rowWhole}
-use Rattle.format.specs.Lists.{Function, Named, Pointer, Landing, Pair, Relaxed, Prologue, functionStride, prologueStride, count, functionsOf, prologuesOf, listsOk, codesOk}
+use Rattle.format.specs.Lists.{Function, Named, Pointer, Landing, Relaxed, Prologue, functionStride, prologueStride, count, functionsOf, prologuesOf, listsOk, codesOk}
 use Rattle.format.specs.Headers.{pointerSize}
-use Rattle.format.specs.Writer.{Section, elf, machO, debug, Written, dwarf, taken, isEmpty}
+use Rattle.format.specs.Writer.{Section, elf, machO, debug, Written, dwarf, taken}
 use Rattle.format.specs.X64.{codesOf, prologueOf, prologueNo, x64}
 
 -- a question: nothing where the answer is yes, else the number and the function's position

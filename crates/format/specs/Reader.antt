@@ -1,15 +1,13 @@
 -- The reader (document 01, "Rules and row check" and questions 11 and 61 to 69): from the bytes of any section to the rules at a place of a record.
-use Prim.Native.Nat.{ℕ, zero, suc, _+_, _-_, _%_, _≤_, _<_}
-use mathlib.Core.Bool.{Bool, true, false, not, _&&_, _||_}
+use Prim.Native.Nat.{ℕ, zero, suc, _+_, _-_}
+use mathlib.Core.Bool.{Bool, true, false, _&&_}
 use mathlib.Core.Option.{Option, none, some}
-use mathlib.Core.List.{List, [], _∷_, _++_}
+use mathlib.Core.List.{List, [], _∷_}
 use lib.ListN.{length, take, drop, getElem?}
 use lib.Dec.{leb, ltb, eqb}
-use lib.IntN.{ℤ, pos, negsuc}
 use Rattle.format.specs.Test.{pick, Read, next, after, Result, good, bad, onward, orElse, first}
 use Rattle.format.specs.Leb.{readLittle, readUleb, readSleb}
 use Rattle.format.specs.Machine.{isWord}
-use Rattle.format.specs.declared.Row.{Row}
 use Rattle.format.specs.declared.Operation.{Operation}
 use Rattle.format.specs.declared.Operation.the-variants.{Nop, Step, Does}
 use Rattle.format.specs.declared.Rule.{Rule}

@@ -1,17 +1,16 @@
 -- Records (FDE): one for each function (DWARF 5, 6.4.1; LSB, .eh_frame, "The Frame Description Entry Format").
-use Prim.Native.Nat.{ℕ, zero, suc, _+_, _-_, _*_}
+use Prim.Native.Nat.{ℕ, zero, suc, _+_, _-_}
 use mathlib.Core.Bool.{Bool, true, false, _&&_}
 use mathlib.Core.Option.{Option, none, some}
 use mathlib.Core.List.{List, [], _∷_, _++_}
 use lib.ListN.{length, replicate}
 use lib.Dec.{eqb}
 use Rattle.format.specs.Test.{pick, first}
-use Rattle.format.specs.Leb.{little, uleb}
+use Rattle.format.specs.Leb.{little}
 use Rattle.format.specs.declared.Machine.{Machine}
 use Rattle.format.specs.Rows.{Line, rowBytes, stepBytes, stepForm, linesBytes}
 use Rattle.format.specs.Lists.{Function, Landing, Named, Pointer, Pair, Relaxed, Relocation}
 use Rattle.format.specs.Headers.{others, padded, entry, counted, pointerBytes, pointerReloc, reloc, exceptTable, debugFrame}
-use Rattle.format.specs.CallSites.{sitePad}
 
 -- ---- the pointer to the call sites (LSB, `L`): at a place of EXCEPT_TABLE, or named
 

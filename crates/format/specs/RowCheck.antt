@@ -1,16 +1,15 @@
 -- The row check (document 01, "Rules and row check").
-use Prim.Native.Nat.{ℕ, _+_}
+use Prim.Native.Nat.{ℕ}
 use mathlib.Core.Bool.{Bool, true, false, not, _&&_, _||_}
-use mathlib.Core.List.{List, [], _∷_, _++_, map}
+use mathlib.Core.List.{List, [], _∷_, map}
 use lib.ListN.{length}
-use lib.Dec.{leb, ltb, eqb}
-use lib.IntN.{ℤ}
-use Rattle.format.specs.Test.{pick, all, each}
+use lib.Dec.{ltb, eqb}
+use Rattle.format.specs.Test.{all, each}
 use Rattle.format.specs.declared.Row.{Row}
 use Rattle.format.specs.declared.Row.the-variants.{DefCfa, DefCfaOffset, DefCfaRegister, Offset, Restore, Undefined, RememberState, RestoreState, NegateRaState}
 use Rattle.format.specs.Rows.{Line, kindOf}
-use Rattle.format.specs.Lists.{Function, functionStride, rowStride, field, count, inside, allIn, rowOkAt, markOk, mark, lineAt}
-use Rattle.format.specs.Headers.{ahead, others}
+use Rattle.format.specs.Lists.{functionStride, rowStride, field, count, inside, allIn, rowOkAt, markOk, mark, lineAt}
+use Rattle.format.specs.Headers.{ahead}
 
 -- no Restore (4) or RestoreState (7) leads
 unfoldable pub mayLead : Row → Bool

@@ -1,7 +1,7 @@
 -- A row's operation in bytes and back (DWARF 5, 6.4.2 and 7.24). Code alignment factor 1, data alignment factor minus word.
-use Prim.Native.Nat.{ℕ, zero, suc, _+_, _-_, _*_, _/_, _%_, _^_}
+use Prim.Native.Nat.{ℕ, zero, suc, _+_, _-_, _*_, _/_, _%_}
 use mathlib.Core.Bool.{Bool, true, false, _&&_}
-use mathlib.Core.Option.{Option, none, some}
+use mathlib.Core.Option.{none, some}
 use mathlib.Core.List.{List, [], _∷_, _++_}
 use lib.Dec.{leb, ltb, eqb}
 use lib.IntN.{ℤ, pos, negsuc, negℤ, natAbs}
@@ -28,7 +28,7 @@ unfoldable pub cfaBytes : ℕ → (plain sf : ℕ) → List ℕ → ℤ → List
 cfaBytes w plain sf reg (pos n) = plain ∷ (reg ++ uleb n)
 cfaBytes w plain sf reg (negsuc n) = sf ∷ (reg ++ sleb (factor w (negsuc n)))
 
--- a register to 63 rides in the opcode (7.24, figure 39: high two bits), else it follows
+-- a register to 63 stands in the opcode (7.24, table 7.29: the opcode's high two bits), else it follows
 unfoldable pub withRegister : (short long : ℕ) → ℕ → List ℕ → List ℕ
 withRegister short long reg bs = pick (leb reg 63) ((short + reg) ∷ bs) (long ∷ (uleb reg ++ bs))
 
@@ -37,7 +37,7 @@ unfoldable pub savedBytes : ℕ → ℤ → List ℕ
 savedBytes reg (pos n) = withRegister 0x80 0x05 reg (uleb n)
 savedBytes reg (negsuc n) = 0x11 ∷ (uleb reg ++ sleb (negsuc n))
 
--- a row's operation; 0x2d is AArch64's DW_CFA_AARCH64_negate_ra_state (DWARF for AArch64, 5)
+-- a row's operation; 0x2d is AArch64's DW_CFA_AARCH64_negate_ra_state (DWARF for the Arm 64-bit Architecture)
 unfoldable pub rowBytes : ℕ → Row → List ℕ
 rowBytes w (DefCfa reg z) = cfaBytes w 0x0c 0x12 (uleb reg) z
 rowBytes w (DefCfaOffset z) = cfaBytes w 0x0e 0x13 [] z
@@ -158,12 +158,7 @@ rowWhole w RememberState = true
 rowWhole w RestoreState = true
 rowWhole w NegateRaState = true
 
--- two rows are equal
-unfoldable pub sameOffset : ℤ → ℤ → Bool
-sameOffset (pos a) (pos b) = eqb a b
-sameOffset (pos a) (negsuc b) = false
-sameOffset (negsuc a) (pos b) = false
-sameOffset (negsuc a) (negsuc b) = eqb a b
+-- ---- a row's parts, and when two rows are equal
 
 -- a row's kind by its place in document 01's list, its register (or 0) and its offset (or 0)
 unfoldable pub kindOf : Row → ℕ
@@ -198,6 +193,13 @@ offsetOf (Undefined reg) = pos 0
 offsetOf RememberState = pos 0
 offsetOf RestoreState = pos 0
 offsetOf NegateRaState = pos 0
+
+-- two offsets are equal, and two rows
+unfoldable pub sameOffset : ℤ → ℤ → Bool
+sameOffset (pos a) (pos b) = eqb a b
+sameOffset (pos a) (negsuc b) = false
+sameOffset (negsuc a) (pos b) = false
+sameOffset (negsuc a) (negsuc b) = eqb a b
 
 unfoldable pub sameRow : Row → Row → Bool
 sameRow a b = eqb (kindOf a) (kindOf b) && eqb (regOf a) (regOf b) && sameOffset (offsetOf a) (offsetOf b)

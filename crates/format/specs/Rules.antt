@@ -1,8 +1,7 @@
 -- What a function's rows say (document 01, "Rules and row check"; DWARF 5, 6.4.2). Nothing here knows of bytes.
 use Prim.Native.Nat.{ℕ}
 use mathlib.Core.Bool.{Bool, true, false, not}
-use mathlib.Core.Option.{Option, none, some}
-use mathlib.Core.List.{List, [], _∷_, _++_}
+use mathlib.Core.List.{List, [], _∷_}
 use lib.ListN.{length}
 use lib.Dec.{leb, ltb, eqb}
 use lib.IntN.{ℤ}

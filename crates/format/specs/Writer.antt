@@ -1,10 +1,10 @@
 -- The whole DWARF sections: headers and records one behind the other, with their relocations, call sites and header places.
-use Prim.Native.Nat.{ℕ, zero, suc, _+_, _*_, _/_, min}
+use Prim.Native.Nat.{ℕ, _+_, min}
 use mathlib.Core.Bool.{Bool, true, false}
 use mathlib.Core.Option.{Option, none, some}
 use mathlib.Core.List.{List, [], _∷_, _++_, map}
 use lib.ListN.{length}
-use Rattle.format.specs.Test.{pick, after}
+use Rattle.format.specs.Test.{pick}
 use Rattle.format.specs.declared.Machine.{Machine}
 use Rattle.format.specs.Lists.{Function, Relocation}
 use Rattle.format.specs.Headers.{Key, keyOf, sameKey, headerBytes, headerRelocs}

@@ -1,12 +1,12 @@
 -- x64 unwind data (Microsoft, "x64 exception handling"): from a function's rows to codes, and from codes to an UNWIND_INFO and a RUNTIME_FUNCTION.
-use Prim.Native.Nat.{ℕ, zero, suc, _+_, _-_, _*_, _/_, _%_, _^_}
+use Prim.Native.Nat.{ℕ, suc, _+_, _-_, _*_, _/_, _%_, _^_}
 use mathlib.Core.Bool.{Bool, true, false, not, _&&_, _||_}
 use mathlib.Core.Option.{Option, none, some}
 use mathlib.Core.List.{List, [], _∷_, _++_, map}
 use lib.ListN.{length, replicate}
 use lib.Dec.{leb, ltb, eqb}
 use lib.IntN.{ℤ, pos, negsuc, negℤ, _+ℤ_, _-ℤ_}
-use Rattle.format.specs.Test.{pick, after, Result, good, bad, onward}
+use Rattle.format.specs.Test.{pick, Result, good, bad, onward}
 use Rattle.format.specs.Leb.{little}
 use Rattle.format.specs.Machine.{Register, registerOf}
 use Rattle.format.specs.declared.Machine.{Machine}

@@ -1,5 +1,5 @@
-// The types of the library: the machine, rows, x64 codes, and every answer. Ported from rucc-asm/src/unwind.rs of tamnd/rucc
-// (CfiOp, Seh, CallRegs), changed: see NOTICE. What they mean is in specs/.
+// Ported from crates/rucc-asm/src/unwind.rs of tamnd/rucc (CfiOp, Seh, CallRegs) and changed; see NOTICE.
+// The types of the library: the machine, rows, x64 codes, and every answer. What they mean is in specs/.
 ghost use mathlib.Core.Path.{_≡_};
 ghost use Rattle.format.specs.Machine.{x8664, machineWith};
 
@@ -198,20 +198,4 @@ pub struct Counts {
     pub bytes: u64,
     pub relocations: u64,
     pub sites: u64,
-}
-
-// Where the operations of a record and of its header stand in the section, the record's length and the header's signal mark.
-pub struct Located {
-    pub header: usize,
-    pub header_end: usize,
-    pub record: usize,
-    pub record_end: usize,
-    pub length: u64,
-    pub signal: bool,
-}
-
-// A record found with its header, or a question's number.
-pub enum Location {
-    At(Located),
-    Refused(u64),
 }

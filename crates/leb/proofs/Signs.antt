@@ -1,7 +1,7 @@
 -- The sign and the magnitude of an i64: the machine holds its 64 bits, `ofZ w64 v`, and what it computes of `toZ w64 (ofZ w64 v)`, which is v.
 use mathlib.Core.Path.{_≡_, refl, ap, _∙_}
 use mathlib.Core.Bool.{Bool, true, false}
-use Prim.Native.Nat.{ℕ, zero, suc, _-_, _^_, _<_}
+use Prim.Native.Nat.{ℕ, suc, _^_, _<_}
 use native.Mathlib.Omega.{arith}
 use borrow.Author.Tests.{le-ltb}
 use lib.Dec.{T}
@@ -11,6 +11,7 @@ use mir.Syntax.{w64}
 use mir.Val.{SFits, Fits, ofZ, toZ}
 use mir.Facts.{toZ-ofZ, toZ-pos}
 use Rattle.format.specs.Leb.{slebF, sleb}
+use Rattle.format.proofs.Complements.{complement-is, above-zero}
 use Rattle.leb.specs.Signs.{isNegative, signed}
 
 by-sign : (v : ℤ) → sleb v ≡ slebF (isNegative v) 9 (mag v)
@@ -27,10 +28,6 @@ below-zero (negsuc n) = refl
 turned : (v : ℤ) → ltZ v (pos 0) ≡ true → negsuc 0 -ℤ v ≡ pos (mag v)
 turned (pos n) h = let z : _≡_ {A = ℕ} 0 1 = cc (le-ltb n 0 (omega arith)) in absurd (omega arith)
 turned (negsuc n) h = rw (le-ltb (suc n) 1 (omega arith)) (ap pos (omega arith))
-
-kept : (v : ℤ) → ltZ v (pos 0) ≡ false → v ≡ pos (mag v)
-kept (pos n) h = refl
-kept (negsuc n) h = let z : _≡_ {A = ℕ} 0 1 = cc in absurd (omega arith)
 
 -- a number without sign, cast to a u64
 cast : {z : ℤ} {n : ℕ} → z ≡ pos n → n < 2 ^ 63 → T (nonNeg z) × Fits w64 (natAbs z)
@@ -61,7 +58,7 @@ module _ (v : ℤ) (f : SFits w64 v) where
 
   module _ (h : ltZ (toZ w64 (ofZ w64 v)) (pos 0) ≡ false) where
     same : toZ w64 (ofZ w64 v) ≡ pos (mag v)
-    same = toZ-ofZ f ∙ kept v (rw (toZ-ofZ f) at h)
+    same = toZ-ofZ f ∙ above-zero v (rw (toZ-ofZ f) at h)
 
     pub same-cast : T (nonNeg (toZ w64 (ofZ w64 v))) × Fits w64 (natAbs (toZ w64 (ofZ w64 v)))
     same-cast = cast same (f .sfits)
@@ -71,20 +68,10 @@ module _ (v : ℤ) (f : SFits w64 v) where
 
 -- ---- back: -1 - m, of a number below 2 ^ 63
 
-minus : (m : ℕ) → negsuc 0 -ℤ pos m ≡ negsuc m
-minus zero = refl
-minus (suc m) = ap negsuc (omega arith)
-
 module _ (m : ℕ) (h : m < 2 ^ 63) where
-  turned-back : negsuc 0 -ℤ toZ w64 m ≡ negsuc m
-  turned-back = rw (toZ-pos w64 h) (minus m)
-
-  pub turned-fits : SFits w64 (negsuc 0 -ℤ toZ w64 m)
-  turned-fits = rw turned-back (record { sfits = h })
-
   pub turned-is : toZ w64 (ofZ w64 (negsuc 0 -ℤ toZ w64 m)) ≡ signed true m
   unfolding signed
-  turned-is = toZ-ofZ turned-fits ∙ turned-back
+  turned-is = complement-is m h
 
   pub plain-is : toZ w64 m ≡ signed false m
   unfolding signed

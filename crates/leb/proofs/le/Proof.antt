@@ -7,8 +7,6 @@ use Rattle.format.proofs.Storing.{Storing, start, turn, ended}
 use Rattle.leb.proofs.Fields.{little-done, little-more}
 use Rattle.leb.proofs.le.Statement.{statement}
 use Rattle.leb.proofs.le.Tie as tie
-use Rattle.leb.proofs.le.Reads as reads
-use Rattle.leb.proofs.le.Lts as lts
 
 abbrev Inv-loop : tie.InvT-loop
 Inv-loop out₀ at n v i₀ x₀ left₀ out i x left = Storing out₀ out at i (little n v) (little left x)
@@ -16,39 +14,30 @@ Inv-loop out₀ at n v i₀ x₀ left₀ out i x left = Storing out₀ out at i 
 abbrev μ-loop : tie.MeasureT-loop
 μ-loop out₀ at n v i₀ x₀ left₀ out i x left = left
 
--- src/lib.rt:92:5
 loop-holds : tie.Need-loop-holds Inv-loop μ-loop
 loop-holds c = start (omega (arith, little-length (c .args .n) (c .args .v)))
 
--- src/lib.rt:93:18
 cast-out : tie.Need-cast-out Inv-loop μ-loop
 cast-out c = search needs
 
--- src/lib.rt:92:5
 loop-again : tie.Need-loop-again Inv-loop μ-loop
 loop-again c = turn (rw (little-more (c .before .loop .left) (c .before .loop .x) (c .loop-test .taken)) at (c .before .loop .inv))
 
--- src/lib.rt:93:9
 slice-write-out : tie.Need-slice-write-out Inv-loop μ-loop
 slice-write-out c = omega (arith, loop-again c .kept, loop-again c .room)
 
--- src/lib.rt:95:9
 add-i : tie.Need-add-i Inv-loop μ-loop
 add-i c = omega (arith, loop-again c .kept, loop-again c .room)
 
--- src/lib.rt:96:9
 sub-left : tie.Need-sub-left Inv-loop μ-loop
 sub-left c = search needs
 
--- src/lib.rt:92:5
 loop-less : tie.Need-loop-less Inv-loop μ-loop
 loop-less c = search needs
 
--- src/lib.rt:85:1
 same-length : tie.Need-same-length Inv-loop μ-loop
 same-length c = search needs
 
--- src/lib.rt:85:1
 returns : tie.Need-returns Inv-loop μ-loop
 returns c = ended (rw (little-done (c .before .loop .left) (c .before .loop .x) (search needs)) at (c .before .loop .inv))
 

@@ -7,10 +7,6 @@ use Rattle.leb.proofs.Readings.{sleb-missing, sleb-plain, sleb-turned}
 use borrow.Author.Needs.{needs}
 use Rattle.leb.proofs.read_sleb.Statement.{statement}
 use Rattle.leb.proofs.read_sleb.Tie as tie
-use Rattle.leb.proofs.read_sleb.Reads as reads
-use Rattle.leb.proofs.read_sleb.Lts as lts
-use Rattle.leb.proofs.last_byte.Reads as last-byte-reads
-use Rattle.leb.proofs.signed_past.Reads as signed-past-reads
 
 -- what last_byte found, at the place past the match
 found : (c : tie.After-known-told) → GroupsAt (c .before .before .before .before .before .args .s .now) (c .before .before .before .before .before .args .at) (Last (c .before .b .given .0 .0) (c .before .b .given .0 .1 .0) (c .before .b .given .0 .1 .1 .0) (c .before .b .given .0 .1 .1 .1 .0) (c .before .b .given .0 .1 .1 .1 .1 .0))
@@ -19,47 +15,36 @@ found c = subst (GroupsAt _ _) (c .before .b .given .1) (c .before .before .befo
 missing : (c : tie.After-enum-told) → GroupsAt (c .before .before .before .before .args .s .now) (c .before .before .before .before .args .at) Bad
 missing c = subst (GroupsAt _ _) (c .enum-told .given .1) (c .before .before .last-byte .ensures)
 
--- src/lib.rt:206:48
 last-byte-requires : tie.Need-last-byte-requires
 last-byte-requires c κs = search needs
 
--- src/lib.rt:206:22
 enum-known-b : tie.Need-enum-known-b
 enum-known-b c = search needs
 
--- src/lib.rt:207:9
 enum-told : tie.Need-enum-told
 enum-told c = search needs
 
--- src/lib.rt:207:9
 returns : tie.Need-returns
 returns c = sleb-missing _ _ (missing c .1)
 
--- src/lib.rt:210:9
 signed-past-requires : tie.Need-signed-past-requires
 signed-past-requires c κs = ((found (c .before)) .few, (found (c .before)) .scaled, c .if1 .taken, (found (c .before)) .below)
 
--- src/lib.rt:210:9
 returns-2 : tie.Need-returns-2
 returns-2 c = c .signed-past .ensures ∙ sleb-plain (found (c .before .before)) (c .before .if1 .taken)
 
--- src/lib.rt:212:23
 sub-signed-past : tie.Need-sub-signed-past
 sub-signed-past c = omega (arith, (found (c .before)))
 
--- src/lib.rt:212:42
 sub-signed-past-2 : tie.Need-sub-signed-past-2
 sub-signed-past-2 c = omega (arith, (found (c .before)))
 
--- src/lib.rt:212:42
 sub-signed-past-3 : tie.Need-sub-signed-past-3
 sub-signed-past-3 c = omega (arith, (found (c .before)))
 
--- src/lib.rt:212:5
 signed-past-requires-2 : tie.Need-signed-past-requires-2
 signed-past-requires-2 c κs = ((found (c .before)) .few, (found (c .before)) .scaled, omega (arith, c .if1 .left), omega (arith, (found (c .before))))
 
--- src/lib.rt:203:1
 returns-3 : tie.Need-returns-3
 returns-3 c = c .signed-past2 .ensures ∙ sleb-turned (found (c .before .before)) (c .before .if1 .left)
 

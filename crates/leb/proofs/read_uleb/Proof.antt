@@ -7,9 +7,6 @@ use Rattle.leb.proofs.Readings.{uleb-missing, uleb-low, uleb-tenth, ule
 use borrow.Author.Needs.{needs}
 use Rattle.leb.proofs.read_uleb.Statement.{statement}
 use Rattle.leb.proofs.read_uleb.Tie as tie
-use Rattle.leb.proofs.read_uleb.Reads as reads
-use Rattle.leb.proofs.read_uleb.Lts as lts
-use Rattle.leb.proofs.last_byte.Reads as last-byte-reads
 
 -- what last_byte found, at the place past the match
 found : (c : tie.After-known-told) → GroupsAt (c .before .before .before .before .before .args .s .now) (c .before .before .before .before .before .args .at) (Last (c .before .b .given .0 .0) (c .before .b .given .0 .1 .0) (c .before .b .given .0 .1 .1 .0) (c .before .b .given .0 .1 .1 .1 .0) (c .before .b .given .0 .1 .1 .1 .1 .0))
@@ -18,47 +15,36 @@ found c = subst (GroupsAt _ _) (c .before .b .given .1) (c .before .before .befo
 missing : (c : tie.After-enum-told) → GroupsAt (c .before .before .before .before .args .s .now) (c .before .before .before .before .args .at) Bad
 missing c = subst (GroupsAt _ _) (c .enum-told .given .1) (c .before .before .last-byte .ensures)
 
--- src/lib.rt:168:48
 last-byte-requires : tie.Need-last-byte-requires
 last-byte-requires c κs = search needs
 
--- src/lib.rt:168:22
 enum-known-b : tie.Need-enum-known-b
 enum-known-b c = search needs
 
--- src/lib.rt:169:9
 enum-told : tie.Need-enum-told
 enum-told c = search needs
 
--- src/lib.rt:169:9
 returns : tie.Need-returns
 returns c = uleb-missing _ _ (missing c .0)
 
--- src/lib.rt:173:36
 mul-t11 : tie.Need-mul-t11
 mul-t11 c = omega (arith, uleb-tenth (found (c .before .before)) (c .before .if1 .taken) (c .if2 .taken))
 
--- src/lib.rt:173:36
 add-t12 : tie.Need-add-t12
 add-t12 c = omega (arith, uleb-tenth (found (c .before .before)) (c .before .if1 .taken) (c .if2 .taken))
 
--- src/lib.rt:173:13
 returns-2 : tie.Need-returns-2
 returns-2 c = uleb-value (found (c .before .before)) (uleb-tenth (found (c .before .before)) (c .before .if1 .taken) (c .if2 .taken))
 
--- src/lib.rt:175:9
 returns-3 : tie.Need-returns-3
 returns-3 c = uleb-over (found (c .before .before)) (c .before .if1 .taken) (c .if2 .left)
 
--- src/lib.rt:177:21
 mul-t13 : tie.Need-mul-t13
 mul-t13 c = omega (arith, uleb-low (found (c .before)) (c .if1 .left))
 
--- src/lib.rt:177:21
 add-t14 : tie.Need-add-t14
 add-t14 c = omega (arith, uleb-low (found (c .before)) (c .if1 .left))
 
--- src/lib.rt:165:1
 returns-4 : tie.Need-returns-4
 returns-4 c = uleb-value (found (c .before)) (uleb-low (found (c .before)) (c .if1 .left))
 

@@ -5,41 +5,31 @@ use Rattle.leb.proofs.GroupLoop.{scale-full}
 use Rattle.leb.proofs.Readings.{fits-below, past-tenth, held-over, held-value, alone}
 use Rattle.leb.proofs.signed_past.Statement.{statement}
 use Rattle.leb.proofs.signed_past.Tie as tie
-use Rattle.leb.proofs.signed_past.Reads as reads
-use Rattle.leb.proofs.signed_past.Lts as lts
-use Rattle.leb.proofs.signed_of.Reads as signed-of-reads
 
 fits : (c : tie.Else1) → c .before .args .top * c .before .args .scale + c .before .args .low < 2 ^ 63
 fits c = let s = c .before in fits-below _ _ _ _ (s .pre .1) (s .pre .3) (omega (arith, c .if1 .left)) (omega arith)
 
--- src/lib.rt:195:13
 returns : tie.Need-returns
 returns c = let s = c .before .before in held-over _ _ _ (past-tenth _ _ _ _ (s .pre .1) (s .pre .3) 1 (c .before .if1 .taken) (c .if2 .taken))
 
--- src/lib.rt:197:30
 signed-of-requires : tie.Need-signed-of-requires
 signed-of-requires c κs = let s = c .before .before in omega (arith, scale-full _ _ (s .pre .1) (c .before .if1 .taken))
 
--- src/lib.rt:197:9
 returns-2 : tie.Need-returns-2
 returns-2 c =
     let s = c .before .before .before in
     let e = alone (s .args .top) (s .args .scale) (s .args .low) (omega arith) in
     rw (← e) (held-value _ _ _ (c .signed-of .ensures) (omega (arith, scale-full _ _ (s .pre .1) (c .before .before .if1 .taken))))
 
--- src/lib.rt:199:34
 mul-signed-of : tie.Need-mul-signed-of
 mul-signed-of c = omega (arith, fits c)
 
--- src/lib.rt:199:34
 add-signed-of : tie.Need-add-signed-of
 add-signed-of c = omega (arith, fits c)
 
--- src/lib.rt:199:19
 signed-of-requires-2 : tie.Need-signed-of-requires-2
 signed-of-requires-2 c κs = fits c
 
--- src/lib.rt:189:1
 returns-3 : tie.Need-returns-3
 returns-3 c = held-value _ _ _ (c .signed-of2 .ensures) (fits (c .before))
 

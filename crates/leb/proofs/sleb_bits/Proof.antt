@@ -7,9 +7,6 @@ use Rattle.format.proofs.LebSteps.{slebBits, sleb-last, sleb-more}
 use Rattle.format.proofs.Storing.{Storing, start, turn, ended}
 use Rattle.leb.proofs.sleb_bits.Statement.{statement}
 use Rattle.leb.proofs.sleb_bits.Tie as tie
-use Rattle.leb.proofs.sleb_bits.Reads as reads
-use Rattle.leb.proofs.sleb_bits.Lts as lts
-use Rattle.leb.proofs.group.Reads as group-reads
 
 abbrev Inv-loop : tie.InvT-loop
 Inv-loop out₀ at neg m i₀ x₀ out i x = (x < 2 ^ 63) × Storing out₀ out at i (slebF neg 9 m) (slebBits neg x)
@@ -17,60 +14,46 @@ Inv-loop out₀ at neg m i₀ x₀ out i x = (x < 2 ^ 63) × Storing out₀ out 
 abbrev μ-loop : tie.MeasureT-loop
 μ-loop out₀ at neg m i₀ x₀ out i x = x
 
--- src/lib.rt:54:5
 loop-holds : tie.Need-loop-holds Inv-loop μ-loop
 unfolding slebBits
 loop-holds c = (c .before .pre .0, start (c .before .pre .1))
 
--- src/lib.rt:55:29
 cast-group : tie.Need-cast-group Inv-loop μ-loop
 cast-group c = search needs
 
--- src/lib.rt:55:18
 group-requires : tie.Need-group-requires Inv-loop μ-loop
 group-requires c κs = search needs
 
--- src/lib.rt:55:18
 add-out : tie.Need-add-out Inv-loop μ-loop
 add-out c = search needs
 
--- src/lib.rt:54:5
 loop-again : tie.Need-loop-again Inv-loop μ-loop
 loop-again c = (search needs, turn (rw (sleb-more (c .before .before .before .before .args .neg) (c .before .before .loop .x) (c .before .loop-test .taken) (c .before .before .loop .inv .0), ← c .group .ensures .0) at (c .before .before .loop .inv .1)))
 
--- src/lib.rt:55:9
 slice-write-out : tie.Need-slice-write-out Inv-loop μ-loop
 slice-write-out c = omega (arith, loop-again c .1 .kept, loop-again c .1 .room)
 
--- src/lib.rt:57:9
 add-i : tie.Need-add-i Inv-loop μ-loop
 add-i c = search needs
 
--- src/lib.rt:54:5
 loop-less : tie.Need-loop-less Inv-loop μ-loop
 loop-less c = search needs
 
--- src/lib.rt:59:25
 cast-group-2 : tie.Need-cast-group-2 Inv-loop μ-loop
 cast-group-2 c = search needs
 
--- src/lib.rt:59:14
 group-requires-2 : tie.Need-group-requires-2 Inv-loop μ-loop
 group-requires-2 c κs = search needs
 
--- src/lib.rt:48:1
 returns : tie.Need-returns Inv-loop μ-loop
 returns c = ended (turn (rw (sleb-last (c .before .before .before .before .args .neg) (c .before .before .loop .x) (c .before .loop-test .left), ← c .group2 .ensures .0) at (c .before .before .loop .inv .1)))
 
--- src/lib.rt:59:5
 slice-write-out-2 : tie.Need-slice-write-out-2 Inv-loop μ-loop
 slice-write-out-2 c = omega (arith, returns c .past)
 
--- src/lib.rt:60:5
 add-result : tie.Need-add-result Inv-loop μ-loop
 add-result c = search needs
 
--- src/lib.rt:48:1
 same-length : tie.Need-same-length Inv-loop μ-loop
 same-length c = search needs
 

@@ -10,23 +10,16 @@ use Rattle.leb.proofs.Sizes.{sleb-size}
 use borrow.Author.Needs.{needs}
 use Rattle.leb.proofs.sleb_size.Statement.{statement}
 use Rattle.leb.proofs.sleb_size.Tie as tie
-use Rattle.leb.proofs.sleb_size.Reads as reads
-use Rattle.leb.proofs.sleb_size.Lts as lts
-use Rattle.leb.proofs.magnitude.Reads as magnitude-reads
 
--- src/lib.rt:131:30
 magnitude-requires : tie.Need-magnitude-requires
 magnitude-requires c κs = search needs
 
--- src/lib.rt:131:11
 cast-result : tie.Need-cast-result
 cast-result c = omega (arith, leading-le 64 (c .magnitude .result))
 
--- src/lib.rt:131:6
 sub-result : tie.Need-sub-result
 sub-result c = omega (arith, leading-le 64 (c .magnitude .result))
 
--- src/lib.rt:128:1
 returns : tie.Need-returns
 returns c =
     let v = c .before .args .v in

@@ -7,8 +7,6 @@ use Rattle.format.proofs.LebSteps.{uleb-last, uleb-more}
 use Rattle.format.proofs.Storing.{Storing, start, turn, ended}
 use Rattle.leb.proofs.uleb.Statement.{statement}
 use Rattle.leb.proofs.uleb.Tie as tie
-use Rattle.leb.proofs.uleb.Reads as reads
-use Rattle.leb.proofs.uleb.Lts as lts
 
 abbrev Inv-loop : tie.InvT-loop
 Inv-loop out₀ at v i₀ x₀ out i x = (x < 2 ^ 64) × Storing out₀ out at i (uleb v) (uleb x)
@@ -16,51 +14,39 @@ Inv-loop out₀ at v i₀ x₀ out i x = (x < 2 ^ 64) × Storing out₀ out at i
 abbrev μ-loop : tie.MeasureT-loop
 μ-loop out₀ at v i₀ x₀ out i x = x
 
--- src/lib.rt:29:5
 loop-holds : tie.Need-loop-holds Inv-loop μ-loop
 loop-holds c = (search needs, start (c .pre))
 
--- src/lib.rt:30:19
 add-out : tie.Need-add-out Inv-loop μ-loop
 add-out c = search needs
 
--- src/lib.rt:30:18
 cast-out : tie.Need-cast-out Inv-loop μ-loop
 cast-out c = search needs
 
--- src/lib.rt:29:5
 loop-again : tie.Need-loop-again Inv-loop μ-loop
 loop-again c = (search needs, turn (rw (uleb-more (c .before .loop .x) (c .loop-test .taken) (c .before .loop .inv .0)) at (c .before .loop .inv .1)))
 
--- src/lib.rt:30:9
 slice-write-out : tie.Need-slice-write-out Inv-loop μ-loop
 slice-write-out c = omega (arith, loop-again c .1 .kept, loop-again c .1 .room)
 
--- src/lib.rt:32:9
 add-i : tie.Need-add-i Inv-loop μ-loop
 add-i c = search needs
 
--- src/lib.rt:29:5
 loop-less : tie.Need-loop-less Inv-loop μ-loop
 loop-less c = search needs
 
--- src/lib.rt:34:14
 cast-out-2 : tie.Need-cast-out-2 Inv-loop μ-loop
 cast-out-2 c = search needs
 
--- src/lib.rt:23:1
 returns : tie.Need-returns Inv-loop μ-loop
 returns c = ended (turn (rw (uleb-last (c .before .loop .x) (c .loop-test .left)) at (c .before .loop .inv .1)))
 
--- src/lib.rt:34:5
 slice-write-out-2 : tie.Need-slice-write-out-2 Inv-loop μ-loop
 slice-write-out-2 c = omega (arith, returns c .past)
 
--- src/lib.rt:35:5
 add-result : tie.Need-add-result Inv-loop μ-loop
 add-result c = search needs
 
--- src/lib.rt:23:1
 same-length : tie.Need-same-length Inv-loop μ-loop
 same-length c = search needs
 

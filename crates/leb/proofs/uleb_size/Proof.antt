@@ -5,22 +5,16 @@ use Rattle.format.proofs.LebSteps.{uleb-last}
 use Rattle.leb.proofs.Sizes.{uleb-size}
 use Rattle.leb.proofs.uleb_size.Statement.{statement}
 use Rattle.leb.proofs.uleb_size.Tie as tie
-use Rattle.leb.proofs.uleb_size.Reads as reads
-use Rattle.leb.proofs.uleb_size.Lts as lts
 
--- src/lib.rt:123:15
 cast-result : tie.Need-cast-result
 cast-result c = omega (arith, leading-le 64 (c .before .args .v))
 
--- src/lib.rt:123:10
 sub-result : tie.Need-sub-result
 sub-result c = omega (arith, leading-le 64 (c .before .args .v))
 
--- src/lib.rt:117:1
 returns : tie.Need-returns
 returns c = rw (uleb-last (c .before .args .v) (omega arith))
 
--- src/lib.rt:117:1
 returns-2 : tie.Need-returns-2
 returns-2 c =
     let v = c .before .args .v in

@@ -1,0 +1,92 @@
+-- Records in lists of numbers: how many there are, which one stands where, and what a test of all of them says of one.
+use mathlib.Core.Path.{_≡_, refl, ap, subst, _∙_}
+use Prim.Native.Nat.{ℕ, zero, suc, _+_, _*_, _/_, _<_}
+use native.Mathlib.Omega.{arith}
+use mathlib.Core.Bool.{Bool, true, _&&_}
+use mathlib.Core.Option.{some}
+use mathlib.Core.List.{List, [], _∷_, map}
+use lib.ListN.{length, getD, getElem?}
+use lib.Dec.{T}
+use mir.Facts.{and-yes}
+use Rattle.format.specs.Test.{all, each}
+use Rattle.format.specs.Lists.{Relocation, field, relocationStride, relocationAt, relocationsOf, numbersOf, allIn}
+
+-- ---- a function at each number of a range
+
+module _ {A : Type 0} where
+  pub each-length : (f : ℕ → A) (at n : ℕ) → length (each f at n) ≡ n
+  unfolding each
+  each-length f at zero = refl
+  each-length f at (suc n) = ap suc (each-length f (suc at) n)
+
+  pub each-get : (f : ℕ → A) (at n k : ℕ) → k < n → getElem? (each f at n) k ≡ some (f (at + k))
+  unfolding each
+  each-get f at zero k h = absurd (omega arith)
+  each-get f at (suc n) zero h = ap (λ (i : ℕ). some (f i)) (omega arith)
+  each-get f at (suc n) (suc k) h = each-get f (suc at) n k (omega arith) ∙ ap (λ (i : ℕ). some (f i)) (omega arith)
+
+  -- one number further on
+  pub each-shift : (f g : ℕ → A) (at n : ℕ) → ((k : ℕ) → f (suc k) ≡ g k) → each f (suc at) n ≡ each g at n
+  unfolding each
+  each-shift f g at zero h = refl
+  each-shift f g at (suc n) h = rw (h at, each-shift f g (suc at) n h)
+
+  pub get-map : {B : Type 0} (f : A → B) (xs : List A) (k : ℕ) (a : A) → getElem? xs k ≡ some a → getElem? (map f xs) k ≡ some (f a)
+  get-map f [] k a e = let z : _≡_ {A = ℕ} 0 1 = cc in absurd (omega arith)
+  get-map f (x ∷ xs) zero a e = cc
+  get-map f (x ∷ xs) (suc k) a e = get-map f xs k a e
+
+-- ---- relocations, there and back
+
+five-on : (x₀ x₁ x₂ x₃ x₄ : ℕ) (xs : List ℕ) (k j : ℕ)
+    → field relocationStride (x₀ ∷ x₁ ∷ x₂ ∷ x₃ ∷ x₄ ∷ xs) (suc k) j ≡ field relocationStride xs k j
+five-on x₀ x₁ x₂ x₃ x₄ xs k j =
+    let e : 5 * suc k + j ≡ suc (suc (suc (suc (suc (5 * k + j))))) = omega arith in
+    ap (λ (i : ℕ). getD (x₀ ∷ x₁ ∷ x₂ ∷ x₃ ∷ x₄ ∷ xs) i 0) e
+
+relocation-on : (r : Relocation) (rs : List Relocation) (k : ℕ) → relocationAt (numbersOf (r ∷ rs)) (suc k) ≡ relocationAt (numbersOf rs) k
+unfolding relocationAt numbersOf
+relocation-on r rs k = simp (five-on (r .place) (r .symbol) (r .kind) (r .bytes) (r .addend) (numbersOf rs) k)
+
+numbers-length : (rs : List Relocation) → length (numbersOf rs) ≡ 5 * length rs
+unfolding numbersOf
+numbers-length [] = refl
+numbers-length (r ∷ rs) = omega (arith, numbers-length rs)
+
+relocations-each : (rs : List Relocation) → each (relocationAt (numbersOf rs)) 0 (length rs) ≡ rs
+unfolding each relocationAt numbersOf
+relocations-each [] = refl
+relocations-each (r ∷ rs) =
+    ap (λ (l : List Relocation). r ∷ l)
+    (each-shift (relocationAt (numbersOf (r ∷ rs))) (relocationAt (numbersOf rs)) 0 (length rs) (relocation-on r rs) ∙ relocations-each rs)
+
+pub relocations-back : (rs : List Relocation) → relocationsOf (numbersOf rs) ≡ rs
+unfolding relocationsOf
+relocations-back rs =
+    let e : length (numbersOf rs) / 5 ≡ length rs = omega (arith, numbers-length rs) in
+    rw e (relocations-each rs)
+
+-- ---- tests
+
+-- tests that are chained from the left: test k of them
+abbrev pub chain : Bool → List Bool → Bool
+chain a [] = a
+chain a (b ∷ bs) = chain (a && b) bs
+
+pub chained : (a : Bool) (bs : List Bool) (k : ℕ) → T (chain a bs) → T (getD (a ∷ bs) k true)
+chained a [] zero t = t
+chained a [] (suc k) t = tt
+chained a (b ∷ bs) zero t = and-yes a b (chained (a && b) bs 0 t) .0
+chained a (b ∷ bs) (suc zero) t = and-yes a b (chained (a && b) bs 0 t) .1
+chained a (b ∷ bs) (suc (suc k)) t = chained (a && b) bs (suc k) t
+
+-- a test that a range passes, at one of its numbers
+pub in-range : (test : ℕ → Bool) (at n k : ℕ) → T (allIn test at n) → k < n → T (test (at + k))
+unfolding allIn all each
+in-range test at zero k t h = absurd (omega arith)
+in-range test at (suc n) zero t h =
+    let e : at ≡ at + 0 = omega arith in
+    subst (λ (i : ℕ). T (test i)) e (and-yes (test at) (allIn test (suc at) n) t .0)
+in-range test at (suc n) (suc k) t h =
+    let e : suc at + k ≡ at + suc k = omega arith in
+    subst (λ (i : ℕ). T (test i)) e (in-range test (suc at) n k (and-yes (test at) (allIn test (suc at) n) t .1) (omega arith))

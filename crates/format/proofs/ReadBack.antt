@@ -1,0 +1,122 @@
+-- Reading back what was written: for every list that is accepted for DWARF output, in ELF's eh_frame, Mach-O's and ELF's debug_frame.
+use mathlib.Core.Path.{_≡_, refl, ap, _∙_}
+use Prim.Native.Nat.{ℕ, _<_, _≤_}
+use mathlib.Core.Bool.{true, not, _&&_}
+use mathlib.Core.Option.{none, some}
+use mathlib.Core.List.{List, [], map}
+use lib.Dec.{T, leb, eqb}
+use mir.Facts.{yes-and}
+use Rattle.format.specs.Test.{bad}
+use Rattle.format.specs.declared.Machine.{Machine}
+use Rattle.format.specs.declared.Reading.{Reading}
+use Rattle.format.specs.declared.Reading.the-variants.{Refused}
+use Rattle.format.specs.Machine.{machineOf, isWord}
+use Rattle.format.specs.Lists.{Function, Relocation, functionStride, count, numbersOf, relocationsOf}
+use Rattle.format.specs.Writer.{Section, elf, machO, debug, isDebug, taken, Written, dwarf, partsFrom, partsOf, joined}
+use Rattle.format.specs.Questions.{Given, Room, givenFunctions, accepted, dwarfWritten}
+use Rattle.format.specs.Rules.{answer, runRows, rulesAt, seen}
+use Rattle.format.specs.RowCheck.{rowCheckAt}
+use Rattle.format.specs.Reader.{Entry, entries, readSection, read}
+use Rattle.format.proofs.Choice.{pick-yes}
+use Rattle.format.proofs.ListLaws.{relocations-back}
+use Rattle.format.proofs.Accepted.{Accepted, accepted-is, givenFunction, taken-at, taken-size, taken-plain, taken-run, forward, check-at}
+use Rattle.format.proofs.CheckSays.{rules, refuses, Past}
+use Rattle.format.proofs.SectionTiles.{entriesOf, FieldsHold, fields-hold, section-tiles}
+use Rattle.format.proofs.SectionBack.{section-read}
+
+-- the reader's number of a section's kind: 0 eh, 1 debug
+abbrev pub kindOf : Section → ℕ
+kindOf elf = 0
+kindOf machO = 0
+kindOf debug = 1
+
+-- what the reader answers of register q at p in record k, on exactly the section and relocations that were written, with their kind and word
+abbrev pub readBack : Section → Given → Written → (k q p : ℕ) → Reading
+readBack s g w k q p = read (w .bytes) (numbersOf (w .relocations)) (kindOf s) (machineOf (g .machine) .word) k q p
+
+-- what the definitions write for functions, as the section takes them
+abbrev bytesOf : Section → Machine → List Function → List ℕ
+bytesOf s m fs = joined (map (λ p. p .bytes) (partsFrom s m 0 0 [] fs))
+
+abbrev relocsOf : Section → Machine → List Function → List Relocation
+relocsOf s m fs = joined (map (λ p. p .relocations) (partsFrom s m 0 0 [] fs))
+
+-- the reader takes the kind and the word of every written section
+asked : (s : Section) (word : ℕ) → T (isWord word) → T (isWord word && leb (kindOf s) 1)
+asked elf word h = yes-and (isWord word) true h tt
+asked machO word h = yes-and (isWord word) true h tt
+asked debug word h = yes-and (isWord word) true h tt
+
+same-kind : (s : Section) → eqb (kindOf s) 1 ≡ isDebug s
+unfolding isDebug
+same-kind elf = refl
+same-kind machO = refl
+same-kind debug = refl
+
+module _ (s : Section) (g : Given) (r : Room) (w : Written) (e : dwarfWritten s g r ≡ accepted w) where
+  machine : Machine
+  machine = machineOf (g .machine)
+
+  functions : List Function
+  functions = map (taken s) (givenFunctions g)
+
+  a : Accepted s g w
+  a = accepted-is s g r w e
+
+  bytes-are : w .bytes ≡ bytesOf s machine functions
+  unfolding dwarf partsOf machine functions
+  bytes-are = ap (λ (x : Written). x .bytes) (a .written)
+
+  relocations-are : relocationsOf (numbersOf (w .relocations)) ≡ relocsOf s machine functions
+  unfolding dwarf partsOf machine functions
+  relocations-are = relocations-back (w .relocations) ∙ ap (λ (x : Written). x .relocations) (a .written)
+
+  -- The lengths of the entries, each at least 4, tile the section.
+  pub tiles : (es : List Entry) × (entries (w .bytes) ≡ some es)
+  unfolding machine functions
+  tiles = (entriesOf s machine 0 [] functions, ap entries bytes-are ∙ section-tiles s machine functions (a .machine) (a .functions) (a .bounded))
+
+  -- Every field that is written in 4 bytes, or in a word, holds its value: each entry's length, each distance, each function's length.
+  pub fields : FieldsHold s (machineOf (g .machine)) 0 [] (map (taken s) (givenFunctions g))
+  fields = fields-hold s (machineOf (g .machine)) (map (taken s) (givenFunctions g)) (a .machine) (a .functions) (a .bounded)
+
+  -- The general law: for a function k without relaxing labels and p below its length the reader gives what `runRows` gives, an answer or 67, 68 or 69, whatever the other functions hold.
+  pub read-written : (k q p : ℕ) → k < count functionStride (g .functions) → givenFunction g k .relaxed ≡ none → p < givenFunction g k .size
+      → readBack s g w k q p ≡ runRows (machineOf (g .machine)) (givenFunction g k) q p
+  unfolding read machine functions
+  read-written k q p h plain below =
+      let m : Machine = machineOf (g .machine) in
+      let f : Function = givenFunction g k in
+      let near : p < taken s f .size = rw (taken-size s f) below in
+      ap answer
+      (pick-yes _ (readSection (eqb (kindOf s) 1) (relocationsOf (numbersOf (w .relocations))) (m .word) k q p (w .bytes)) (bad 11)
+      (asked s (m .word) (a .machine .is-word)))
+      ∙ rw (same-kind s, relocations-are, bytes-are)
+      (section-read s m functions (a .machine) (a .functions) (a .bounded) k q p (taken s f) (taken-at s g k h) (taken-plain s f plain) near
+      ∙ taken-run s m f q p)
+
+  -- Where the row check says yes the run of the rows never refuses, and its answer is what the rules at p say of the register.
+  pub rules-given : (k q p : ℕ) → k < count functionStride (g .functions) → T (rowCheckAt (g .functions) (g .rows) k)
+      → runRows (machineOf (g .machine)) (givenFunction g k) q p ≡ seen q (rulesAt (machineOf (g .machine)) (givenFunction g k) p)
+  rules-given k q p h check = rules (machineOf (g .machine)) (givenFunction g k) q p (forward a k h) (rw (check-at a k h) at check)
+
+  -- Where it says no, the run refuses with 67, 68 or 69 from the last row on.
+  pub refuses-given : (k q p : ℕ) → k < count functionStride (g .functions) → T (not (rowCheckAt (g .functions) (g .rows) k))
+      → Past p (givenFunction g k .rows)
+      → (n : ℕ) × ((runRows (machineOf (g .machine)) (givenFunction g k) q p ≡ Refused n) × T (leb 67 n && leb n 69))
+  refuses-given k q p h check past =
+      refuses (machineOf (g .machine)) (givenFunction g k) q p (forward a k h) (rw (check-at a k h) at check) past
+
+-- Demand 3. For every list that is accepted for DWARF output the entries' lengths tile the section. And for every function of it without
+-- relaxing labels that passes the row check, at every offset p below its length and for every register from 0 to 65,535, the reader, on
+-- exactly the section and relocations that were written, never refuses and answers exactly the frame address rule, the register's rule and
+-- the signing state that the function's rows give at p.
+pub demand-3 : (s : Section) (g : Given) (r : Room) (w : Written) → dwarfWritten s g r ≡ accepted w
+    → ((es : List Entry) × (entries (w .bytes) ≡ some es))
+    × ((k q p : ℕ) → k < count functionStride (g .functions) → givenFunction g k .relaxed ≡ none
+    → T (rowCheckAt (g .functions) (g .rows) k) → q ≤ 65535 → p < givenFunction g k .size
+    → readBack s g w k q p ≡ seen q (rulesAt (machineOf (g .machine)) (givenFunction g k) p))
+demand-3 s g r w e = (
+  tiles s g r w e,
+  λ k q p h plain check small below. read-written s g r w e k q p h plain below ∙ rules-given s g r w e k q p h check,
+)

@@ -1,0 +1,2 @@
+-- The laws that the proofs of `leaves` cite.
+pub mod Room

@@ -1,0 +1,53 @@
+-- `lists::codes_in` meets its contract.
+use Prim.Native.Nat.{_-_}
+use Prim.Native.Nat.{_-_}
+use Rattle.format.specs.Lists.{codeOkAt}
+use Rattle.lists.proofs.Ranges.{Asking, start, turn, stopped, ended}
+use borrow.Author.Needs.{needs}
+use Rattle.lists.proofs.codes_in.Statement.{statement}
+use Rattle.lists.proofs.codes_in.Tie as tie
+
+abbrev Inv-loop : tie.InvT-loop
+Inv-loop cs at n end i₀ i = Asking (codeOkAt cs) at n i
+
+abbrev μ-loop : tie.MeasureT-loop
+μ-loop cs at n end i₀ i = end - i
+
+add-end : tie.Need-add-end Inv-loop μ-loop
+add-end c = search needs
+
+loop-holds : tie.Need-loop-holds Inv-loop μ-loop
+loop-holds c = start (codeOkAt (c .before .args .cs .now)) (c .before .args .at) (c .before .args .n)
+
+code-ok-requires : tie.Need-code-ok-requires Inv-loop μ-loop
+code-ok-requires c κs = search needs
+
+returns : tie.Need-returns Inv-loop μ-loop
+returns c = stopped (c .before .before .before .loop .inv) (c .before .before .loop-test .taken) (c .before .code-ok .ensures) (c .if1 .taken)
+
+add-i : tie.Need-add-i Inv-loop μ-loop
+add-i c = search needs
+
+loop-less : tie.Need-loop-less Inv-loop μ-loop
+loop-less c = search needs
+
+loop-again : tie.Need-loop-again Inv-loop μ-loop
+loop-again c = turn (c .before .before .before .loop .inv) (c .before .before .loop-test .taken) (c .before .code-ok .ensures) (c .if1 .left)
+
+returns-2 : tie.Need-returns-2 Inv-loop μ-loop
+returns-2 c = ended (c .before .loop .inv) (c .loop-test .left)
+
+pub codes-in-spec : {M : Type 1} → statement M
+codes-in-spec =
+    tie.close
+    (tie.spec
+    Inv-loop
+    μ-loop
+    add-end
+    loop-holds
+    code-ok-requires
+    returns
+    add-i
+    loop-less
+    loop-again
+    returns-2)

@@ -1,0 +1,583 @@
+// The machine, functions and codes out of the lists of numbers, and questions 11, 12 and 13. Ported from rucc-asm/src/unwind.rs (Extent, Named, Relaxed) of tamnd/rucc, changed: see NOTICE.
+ghost use mathlib.Core.Path.{_≡_};
+ghost use Prim.Native.Nat.{_+_, _*_, _≤_, _<_};
+ghost use lib.ListN.{length, take, drop};
+ghost use lib.Dec.{T, leb, eqb};
+ghost use mir.Syntax.{w64};
+ghost use mir.Val.{toZ};
+ghost use Rattle.format.specs.Test.{all};
+ghost use Rattle.format.specs.Machine.{isWord, machineOk, machineOf};
+ghost use Rattle.format.specs.Lists.{count, field, rowStride, pairStride, codeStride, mostRecords, inside, symbolOk, pointerOk, rowOkAt, pairOkAt, codeOkAt, allIn, sumOf, pairsIn, functionOkAt, prologueOkAt, listsOk, codesOk, codeAt};
+ghost use Rattle.lists.specs.Parts.{rangesOkAt, namedOkAt, relaxedOkAt};
+ghost use Rattle.lists.specs.Extents.{extentAt, landingIn, pairIn, prologueIn};
+use format::Machine;
+use format::Seh;
+use rows::row_ok;
+
+// ---- the machine, questions 11 and 12
+
+fn is_word(w: u64) -> bool
+    ensures { λ r. ⌜ r ≡ isWord w ⌝ }
+{
+    if w == 2 {
+        return true;
+    }
+    if w == 4 {
+        return true;
+    }
+    w == 8
+}
+
+// Each number of the map is a byte.
+fn map_ok(ms: &[u64]) -> bool
+    requires { ⌜ 70 ≤ length (now ms) ⌝ }
+    ensures { λ r. ⌜ r ≡ all (λ n. leb n 255) (take 64 (drop 6 (now (ms .entry)))) ⌝ }
+{
+    let mut i = 6;
+    while i < 70 {
+        if 255 < ms[i] {
+            return false;
+        }
+        i += 1;
+    }
+    true
+}
+
+// Question 11.
+pub fn machine_ok(ms: &[u64]) -> bool
+    ensures { λ r. ⌜ r ≡ machineOk (now (ms .entry)) ⌝ }
+{
+    if ms.len() < 70 {
+        return false;
+    }
+    if !is_word(ms[0]) {
+        return false;
+    }
+    if ms[1] % ms[0] != 0 {
+        return false;
+    }
+    if 2147483648 <= ms[1] {
+        return false;
+    }
+    if 65536 <= ms[2] {
+        return false;
+    }
+    if 65536 <= ms[3] {
+        return false;
+    }
+    if 65536 < ms[4] {
+        return false;
+    }
+    if ms[5] != 0 {
+        return false;
+    }
+    map_ok(ms)
+}
+
+// Question 12: x64 has words of 8 bytes.
+pub fn word_ok(m: Machine) -> bool
+    ensures { λ r. ⌜ r ≡ eqb (m .word) 8 ⌝ }
+{
+    m.word == 8
+}
+
+// The machine of a list.
+pub fn machine_of(ms: &[u64]) -> Machine
+    requires { ⌜ T (machineOk (now ms)) ⌝ }
+    ensures { λ r. ⌜ r ≡ machineOf (now (ms .entry)) ⌝ }
+{
+    let mut map = [0; 64];
+    let mut i = 0;
+    while i < 64 {
+        map[i] = ms[6 + i] as u8;
+        i += 1;
+    }
+    Machine {
+        word: ms[0],
+        pushed: ms[1],
+        stack: ms[2],
+        ret: ms[3],
+        frame: ms[4],
+        map,
+    }
+}
+
+// ---- records out of the lists
+
+// Function k of the list: its numbers, with the marks as answers. What they say is functionAt of the definitions.
+pub struct Extent {
+    pub symbol: u64,
+    pub length: u64,
+    pub rows_at: usize,
+    pub rows: usize,
+    pub landings_at: usize,
+    pub landings: usize,
+    pub simple: bool,
+    pub signal: bool,
+    pub personality: bool,
+    pub encoding: u64,
+    pub routine: u64,
+    pub lsda: bool,
+    pub lsda_encoding: u64,
+    pub lsda_symbol: u64,
+    pub relaxed: bool,
+    pub end: u64,
+    pub pairs_at: usize,
+    pub pairs: usize,
+}
+
+pub fn extent_at(fs: &[u64], k: usize) -> Extent
+    requires { ⌜ 18 * k + 18 ≤ length (now fs) ⌝ }
+    ensures { λ r. ⌜ r ≡ extentAt (now (fs .entry)) k ⌝ }
+{
+    let b = 18 * k;
+    Extent {
+        symbol: fs[b],
+        length: fs[b + 1],
+        rows_at: fs[b + 2] as usize,
+        rows: fs[b + 3] as usize,
+        landings_at: fs[b + 4] as usize,
+        landings: fs[b + 5] as usize,
+        simple: fs[b + 6] != 0,
+        signal: fs[b + 7] != 0,
+        personality: fs[b + 8] != 0,
+        encoding: fs[b + 9],
+        routine: fs[b + 10],
+        lsda: fs[b + 11] != 0,
+        lsda_encoding: fs[b + 12],
+        lsda_symbol: fs[b + 13],
+        relaxed: fs[b + 14] != 0,
+        end: fs[b + 15],
+        pairs_at: fs[b + 16] as usize,
+        pairs: fs[b + 17] as usize,
+    }
+}
+
+// Landing i: a call's start and length and its pad, from the function's start.
+pub struct Landing {
+    pub start: u64,
+    pub size: u64,
+    pub pad: u64,
+}
+
+pub fn landing_at(ls: &[u64], i: usize) -> Landing
+    requires { ⌜ 3 * i + 3 ≤ length (now ls) ⌝ }
+    ensures { λ r. ⌜ r ≡ landingIn (now (ls .entry)) i ⌝ }
+{
+    Landing {
+        start: ls[3 * i],
+        size: ls[3 * i + 1],
+        pad: ls[3 * i + 2],
+    }
+}
+
+// Two places of a function and the label at each.
+pub struct Pair {
+    pub place1: u64,
+    pub place2: u64,
+    pub symbol1: u64,
+    pub symbol2: u64,
+}
+
+pub fn pair_at(ps: &[u64], i: usize) -> Pair
+    requires { ⌜ 4 * i + 4 ≤ length (now ps) ⌝ }
+    ensures { λ r. ⌜ r ≡ pairIn (now (ps .entry)) i ⌝ }
+{
+    Pair {
+        place1: ps[4 * i],
+        place2: ps[4 * i + 1],
+        symbol1: ps[4 * i + 2],
+        symbol2: ps[4 * i + 3],
+    }
+}
+
+// Function k of direct codes.
+pub struct Prologue {
+    pub symbol: u64,
+    pub length: u64,
+    pub end: u64,
+    pub codes_at: usize,
+    pub codes: usize,
+}
+
+pub fn prologue_at(fs: &[u64], k: usize) -> Prologue
+    requires { ⌜ 5 * k + 5 ≤ length (now fs) ⌝ }
+    ensures { λ r. ⌜ r ≡ prologueIn (now (fs .entry)) k ⌝ }
+{
+    Prologue {
+        symbol: fs[5 * k],
+        length: fs[5 * k + 1],
+        end: fs[5 * k + 2],
+        codes_at: fs[5 * k + 3] as usize,
+        codes: fs[5 * k + 4] as usize,
+    }
+}
+
+// The number whose 64 bits, in two's complement, are x.
+fn signed64(x: u64) -> i64
+    ensures { λ r. ⌜ r ≡ toZ w64 x ⌝ }
+{
+    if x < 9223372036854775808 {
+        x as i64
+    } else {
+        -1 - ((18446744073709551615 - x) as i64)
+    }
+}
+
+// The offset where the instruction of code i ends.
+pub fn code_offset_at(cs: &[u64], i: usize) -> u64
+    requires { ⌜ 5 * i + 5 ≤ length (now cs) ⌝ }
+    ensures { λ r. ⌜ r ≡ codeAt (now (cs .entry)) i .0 ⌝ }
+{
+    cs[5 * i]
+}
+
+// Code i.
+pub fn code_at(cs: &[u64], i: usize) -> Seh
+    requires { ⌜ 5 * i + 5 ≤ length (now cs) ⌝ }
+    ensures { λ r. ⌜ r ≡ codeAt (now (cs .entry)) i .1 ⌝ }
+{
+    let kind = cs[5 * i + 1];
+    let reg = cs[5 * i + 2];
+    let value = signed64(cs[5 * i + 4]);
+    if kind == 0 {
+        return Seh::Push(reg);
+    }
+    if kind == 1 {
+        return Seh::Alloc(value);
+    }
+    if kind == 2 {
+        return Seh::Frame(reg, value);
+    }
+    Seh::Save(reg, cs[5 * i + 3] != 0, value)
+}
+
+// ---- question 13 of one record
+
+// A range of n records from `at` lies inside a list of `size` records.
+pub fn inside(at: u64, n: u64, size: u64) -> bool
+    ensures { λ r. ⌜ r ≡ inside at n size ⌝ }
+{
+    if size < at {
+        return false;
+    }
+    n <= size - at
+}
+
+// A caller's symbol.
+fn symbol_ok(s: u64) -> bool
+    ensures { λ r. ⌜ r ≡ symbolOk s ⌝ }
+{
+    if s < 16 {
+        return false;
+    }
+    s < 4294967296
+}
+
+// An encoding byte and a symbol.
+fn pointer_ok(encoding: u64, symbol: u64) -> bool
+    ensures { λ r. ⌜ r ≡ pointerOk encoding symbol ⌝ }
+{
+    if 255 < encoding {
+        return false;
+    }
+    symbol_ok(symbol)
+}
+
+// Both symbols of pair i.
+fn pair_ok(ps: &[u64], i: usize) -> bool
+    requires { ⌜ 4 * i + 4 ≤ length (now ps) ⌝ }
+    ensures { λ r. ⌜ r ≡ pairOkAt (now (ps .entry)) i ⌝ }
+{
+    if !symbol_ok(ps[4 * i + 2]) {
+        return false;
+    }
+    symbol_ok(ps[4 * i + 3])
+}
+
+// The operands of code i: only those that its kind has.
+fn code_ok(cs: &[u64], i: usize) -> bool
+    requires { ⌜ 5 * i + 5 ≤ length (now cs) ⌝ }
+    ensures { λ r. ⌜ r ≡ codeOkAt (now (cs .entry)) i ⌝ }
+{
+    let kind = cs[5 * i + 1];
+    if 3 < kind {
+        return false;
+    }
+    if kind == 3 {
+        return cs[5 * i + 3] <= 1;
+    }
+    if cs[5 * i + 3] != 0 {
+        return false;
+    }
+    if kind == 2 {
+        return true;
+    }
+    if kind == 1 {
+        return cs[5 * i + 2] == 0;
+    }
+    cs[5 * i + 4] == 0
+}
+
+// ---- question 13 of the records that a function reaches
+
+// The n rows from `at` on.
+pub fn rows_ok(rows: &[u64], at: usize, n: usize) -> bool
+    requires { ⌜ at + n ≤ count rowStride (now rows) ⌝ }
+    ensures { λ r. ⌜ r ≡ allIn (rowOkAt (now (rows .entry))) at n ⌝ }
+{
+    let end = at + n;
+    let mut i = at;
+    while i < end {
+        if !row_ok(rows, i) {
+            return false;
+        }
+        i += 1;
+    }
+    true
+}
+
+// The n pairs from `at` on.
+fn pairs_ok(ps: &[u64], at: usize, n: usize) -> bool
+    requires { ⌜ at + n ≤ count pairStride (now ps) ⌝ }
+    ensures { λ r. ⌜ r ≡ allIn (pairOkAt (now (ps .entry))) at n ⌝ }
+{
+    let end = at + n;
+    let mut i = at;
+    while i < end {
+        if !pair_ok(ps, i) {
+            return false;
+        }
+        i += 1;
+    }
+    true
+}
+
+// The n codes from `at` on.
+fn codes_in(cs: &[u64], at: usize, n: usize) -> bool
+    requires { ⌜ at + n ≤ count codeStride (now cs) ⌝ }
+    ensures { λ r. ⌜ r ≡ allIn (codeOkAt (now (cs .entry))) at n ⌝ }
+{
+    let end = at + n;
+    let mut i = at;
+    while i < end {
+        if !code_ok(cs, i) {
+            return false;
+        }
+        i += 1;
+    }
+    true
+}
+
+// The symbol of function k, its rows, and where its landings are.
+fn ranges_ok(fs: &[u64], rows: &[u64], landings: &[u64], k: usize) -> bool
+    requires { ⌜ 18 * k + 18 ≤ length (now fs) ⌝ }
+    ensures { λ r. ⌜ r ≡ rangesOkAt (now (fs .entry)) (now (rows .entry)) (now (landings .entry)) k ⌝ }
+{
+    if !symbol_ok(fs[18 * k]) {
+        return false;
+    }
+    let at = fs[18 * k + 2];
+    let n = fs[18 * k + 3];
+    if !inside(at, n, (rows.len() / 4) as u64) {
+        return false;
+    }
+    if !rows_ok(rows, at as usize, n as usize) {
+        return false;
+    }
+    inside(fs[18 * k + 4], fs[18 * k + 5], (landings.len() / 3) as u64)
+}
+
+// The named personality of function k, where it has one.
+fn named_ok(fs: &[u64], k: usize) -> bool
+    requires { ⌜ 18 * k + 18 ≤ length (now fs) ⌝ }
+    ensures { λ r. ⌜ r ≡ namedOkAt (now (fs .entry)) k ⌝ }
+{
+    if fs[18 * k + 8] == 0 {
+        return true;
+    }
+    if !pointer_ok(fs[18 * k + 9], fs[18 * k + 10]) {
+        return false;
+    }
+    if 1 < fs[18 * k + 11] {
+        return false;
+    }
+    if fs[18 * k + 11] == 0 {
+        return true;
+    }
+    pointer_ok(fs[18 * k + 12], fs[18 * k + 13])
+}
+
+// The relaxing labels of function k, where it has them, and the pairs that they reach.
+fn relaxed_ok(fs: &[u64], pairs: &[u64], k: usize) -> bool
+    requires { ⌜ 18 * k + 18 ≤ length (now fs) ⌝ }
+    ensures { λ r. ⌜ r ≡ relaxedOkAt (now (fs .entry)) (now (pairs .entry)) k ⌝ }
+{
+    if fs[18 * k + 14] == 0 {
+        return true;
+    }
+    if !symbol_ok(fs[18 * k + 15]) {
+        return false;
+    }
+    let at = fs[18 * k + 16];
+    let n = fs[18 * k + 17];
+    if !inside(at, n, (pairs.len() / 4) as u64) {
+        return false;
+    }
+    pairs_ok(pairs, at as usize, n as usize)
+}
+
+// Function k, and the records that it reaches.
+fn function_ok(fs: &[u64], rows: &[u64], landings: &[u64], pairs: &[u64], k: usize) -> bool
+    requires { ⌜ 18 * k + 18 ≤ length (now fs) ⌝ }
+    ensures { λ r. ⌜ r ≡ functionOkAt (now (fs .entry)) (now (rows .entry)) (now (landings .entry)) (now (pairs .entry)) k ⌝ }
+{
+    if !ranges_ok(fs, rows, landings, k) {
+        return false;
+    }
+    if 1 < fs[18 * k + 6] {
+        return false;
+    }
+    if 1 < fs[18 * k + 7] {
+        return false;
+    }
+    if 1 < fs[18 * k + 8] {
+        return false;
+    }
+    if !named_ok(fs, k) {
+        return false;
+    }
+    if 1 < fs[18 * k + 14] {
+        return false;
+    }
+    relaxed_ok(fs, pairs, k)
+}
+
+// The record of direct codes k, and the codes that it reaches.
+fn prologue_ok(fs: &[u64], codes: &[u64], k: usize) -> bool
+    requires { ⌜ 5 * k + 5 ≤ length (now fs) ⌝ }
+    ensures { λ r. ⌜ r ≡ prologueOkAt (now (fs .entry)) (now (codes .entry)) k ⌝ }
+{
+    if !symbol_ok(fs[5 * k]) {
+        return false;
+    }
+    let at = fs[5 * k + 3];
+    let n = fs[5 * k + 4];
+    if !inside(at, n, (codes.len() / 5) as u64) {
+        return false;
+    }
+    codes_in(codes, at as usize, n as usize)
+}
+
+// ---- question 13 of the lists
+
+// Number j of n records, summed, is at most the most of records.
+fn sum_ok(xs: &[u64], stride: usize, j: usize, n: usize) -> bool
+    requires { ⌜ (j < stride) × (stride * n ≤ length (now xs)) ⌝ }
+    ensures { λ r. ⌜ r ≡ leb (sumOf (λ k. field stride (now (xs .entry)) k j) 0 n) mostRecords ⌝ }
+{
+    let mut sum = 0;
+    let mut k = 0;
+    while k < n {
+        let x = xs[stride * k + j];
+        if 1048576 - sum < x {
+            return false;
+        }
+        sum += x;
+        k += 1;
+    }
+    true
+}
+
+// How many pairs function k has.
+fn pairs_in(fs: &[u64], k: usize) -> u64
+    requires { ⌜ 18 * k + 18 ≤ length (now fs) ⌝ }
+    ensures { λ r. ⌜ r ≡ pairsIn (now (fs .entry)) k ⌝ }
+{
+    if fs[18 * k + 14] == 0 {
+        return 0;
+    }
+    fs[18 * k + 17]
+}
+
+// The pairs of n functions, summed, are at most the most of records.
+fn pairs_sum_ok(fs: &[u64], n: usize) -> bool
+    requires { ⌜ 18 * n ≤ length (now fs) ⌝ }
+    ensures { λ r. ⌜ r ≡ leb (sumOf (pairsIn (now (fs .entry))) 0 n) mostRecords ⌝ }
+{
+    let mut sum = 0;
+    let mut k = 0;
+    while k < n {
+        let pairs = pairs_in(fs, k);
+        if 1048576 - sum < pairs {
+            return false;
+        }
+        sum += pairs;
+        k += 1;
+    }
+    true
+}
+
+// The first n functions.
+fn functions_ok(fs: &[u64], rows: &[u64], landings: &[u64], pairs: &[u64], n: usize) -> bool
+    requires { ⌜ 18 * n ≤ length (now fs) ⌝ }
+    ensures { λ r. ⌜ r ≡ allIn (functionOkAt (now (fs .entry)) (now (rows .entry)) (now (landings .entry)) (now (pairs .entry))) 0 n ⌝ }
+{
+    let mut k = 0;
+    while k < n {
+        if !function_ok(fs, rows, landings, pairs, k) {
+            return false;
+        }
+        k += 1;
+    }
+    true
+}
+
+// Question 13 of the lists of functions.
+pub fn lists_ok(fs: &[u64], rows: &[u64], landings: &[u64], pairs: &[u64]) -> bool
+    ensures { λ r. ⌜ r ≡ listsOk (now (fs .entry)) (now (rows .entry)) (now (landings .entry)) (now (pairs .entry)) ⌝ }
+{
+    let n = fs.len() / 18;
+    if 65536 < n {
+        return false;
+    }
+    if !sum_ok(fs, 18, 3, n) {
+        return false;
+    }
+    if !sum_ok(fs, 18, 5, n) {
+        return false;
+    }
+    if !pairs_sum_ok(fs, n) {
+        return false;
+    }
+    functions_ok(fs, rows, landings, pairs, n)
+}
+
+// The first n records of direct codes.
+fn prologues_ok(fs: &[u64], codes: &[u64], n: usize) -> bool
+    requires { ⌜ 5 * n ≤ length (now fs) ⌝ }
+    ensures { λ r. ⌜ r ≡ allIn (prologueOkAt (now (fs .entry)) (now (codes .entry))) 0 n ⌝ }
+{
+    let mut k = 0;
+    while k < n {
+        if !prologue_ok(fs, codes, k) {
+            return false;
+        }
+        k += 1;
+    }
+    true
+}
+
+// Question 13 of the lists of direct codes.
+pub fn codes_ok(fs: &[u64], codes: &[u64]) -> bool
+    ensures { λ r. ⌜ r ≡ codesOk (now (fs .entry)) (now (codes .entry)) ⌝ }
+{
+    let n = fs.len() / 5;
+    if 65536 < n {
+        return false;
+    }
+    if !sum_ok(fs, 5, 4, n) {
+        return false;
+    }
+    prologues_ok(fs, codes, n)
+}
