@@ -2,8 +2,9 @@
 use Prim.Native.Nat.{_-_}
 use native.Mathlib.Omega.{arith}
 use borrow.Author.Needs.{needs}
-use Rattle.rows.proofs.Signs.{complement-fits}
-use Rattle.rows.proofs.Lists.{low-bits, high-bits}
+use mir.Syntax.{w32}
+use Rattle.format.proofs.Complements.{complement-fits, high-bits}
+use Rattle.rows.proofs.Lists.{low-bits}
 use Rattle.rows.proofs.signed32.Statement.{statement}
 use Rattle.rows.proofs.signed32.Tie as tie
 
@@ -23,7 +24,7 @@ returns : tie.Need-returns
 returns c = low-bits (c .before .args .x) (c .if1 .taken)
 
 returns-2 : tie.Need-returns-2
-returns-2 c = high-bits (c .before .args .x) (c .before .pre) (c .if1 .left)
+returns-2 c = high-bits w32 (c .before .args .x) (c .before .pre) (omega arith) (omega arith)
 
 pub signed32-spec : {M : Type 1} → statement M
 signed32-spec =

@@ -3,7 +3,7 @@ use mathlib.Core.Path.{sym}
 use Prim.Native.Nat.{_-_, _*_, _<_}
 use native.Mathlib.Omega.{arith}
 use borrow.Author.Needs.{needs}
-use Rattle.rows.proofs.Signs.{complement-fits, complement-is}
+use Rattle.format.proofs.Complements.{complement-fits, complement-is}
 use Rattle.rows.proofs.Products.{within, some-words, words-held, words-over, no-words}
 use Rattle.rows.proofs.words_below.Statement.{statement}
 use Rattle.rows.proofs.words_below.Tie as tie
