@@ -21,6 +21,7 @@ pub mod ListLaws
 pub mod Accepted
 pub mod PutLaws
 pub mod PositionLaws
+pub mod OperationLaws
 pub mod Storing
 pub mod SameKey
 pub mod Leading

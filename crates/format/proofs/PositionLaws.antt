@@ -48,7 +48,7 @@ takes-within l h nothing = nothing
 takes-within l h (taken n v l′ h′ m) = taken n v (omega arith) (omega arith) m
 
 -- what a reader gives without taking
-gives : {A : Type 0} (v : A) (bs : List ℕ) → Takes 0 0 bs (some (v, bs))
+pub gives : {A : Type 0} (v : A) (bs : List ℕ) → Takes 0 0 bs (some (v, bs))
 gives v bs = taken 0 v (omega arith) (omega arith) (omega arith)
 
 -- ---- the readers
@@ -97,7 +97,7 @@ pub record Ahead {A : Type 0} (lo hi : ℕ) (s : List ℕ) (p q : ℕ) (r : Read
 
 -- a reader that takes something reads inside the list
 module _ {lo hi : ℕ} (byte : 0 < lo) (s : List ℕ) (p : ℕ) where
-  ahead : {A : Type 0} (n : ℕ) (w v : A) (q : ℕ) → lo ≤ n → n ≤ hi → n ≤ length (drop p s) → w ≡ v → length s - length (drop n (drop p s)) ≡ q
+  pub ahead : {A : Type 0} (n : ℕ) (w v : A) (q : ℕ) → lo ≤ n → n ≤ hi → n ≤ length (drop p s) → w ≡ v → length s - length (drop n (drop p s)) ≡ q
       → Ahead lo hi s p q (some (w, drop n (drop p s))) v
   ahead n w v q l h m same e =
       let a : q ≡ p + n = omega (arith, length-drop n (drop p s), length-drop p s) in
