@@ -3,10 +3,13 @@
 -- bytes for two_functions, debug_two and landing_and_named (differential/gas).
 use mathlib.Core.Path.{_≡_, refl}
 use Prim.Native.Nat.{ℕ}
-use mathlib.Core.Bool.{false}
+use mathlib.Core.Option.{some}
+use mathlib.Core.Bool.{true, false}
 use mathlib.Core.List.{List, [], _∷_, _++_}
 use lib.ListN.{getD, replicate, set}
 use lib.IntN.{pos, negsuc}
+use Rattle.format.specs.Put.{put}
+use Rattle.format.specs.Answers.{frameNumbers, ruleNumbers, bit, readingNumbers, questionNumbers, questionOf, outcomeNumbers, outcomeOf, afterwards, relocationNumbers}
 use Rattle.format.specs.declared.Frame.the-variants.{Register as register}
 use Rattle.format.specs.declared.Rule.the-variants.{Saved, Unstated as unstated}
 use Rattle.format.specs.declared.Reading.{Reading}
@@ -177,3 +180,20 @@ damaged =
 damaged-are : damaged ≡ refusedBy 61 ∷ refusedBy 64 ∷ refusedBy 63 ∷ refusedBy 63 ∷ refusedBy 11 ∷ []
 unfolding damaged read-eh read-debug twoFunctions-written twoFunctions-debug
 damaged-are = refl
+
+-- ---- the paper's numbers of answers
+
+-- an answer and a refusal of the reader; an accepted and a refused call; what a lent list of relocations holds after the first and a list
+-- of places after the second; a question answered by no
+answers : List (List ℕ)
+answers =
+    readingNumbers (rules (register 7 (pos 16)) (Saved (negsuc 15)) true) ∷ readingNumbers (refusedBy 65)
+    ∷ outcomeNumbers (outcomeOf (relaxedTable 0 twoFunctions ample)) ∷ outcomeNumbers (outcomeOf (refused 24 1))
+    ∷ afterwards relocationNumbers (relaxedTable 0 twoFunctions ample) (replicate 12 9) ∷ afterwards (λ w. w .places) (refused 24 1) (5 ∷ [])
+    ∷ questionNumbers (questionOf (some (23, 4))) ∷ []
+
+answers-are : answers
+    ≡ (0 ∷ 1 ∷ 7 ∷ 16 ∷ 2 ∷ 0xfffffffffffffff0 ∷ 1 ∷ []) ∷ (65 ∷ 0 ∷ 0 ∷ 0 ∷ 0 ∷ 0 ∷ 0 ∷ []) ∷ (0 ∷ 0 ∷ 2 ∷ 88 ∷ 2 ∷ 0 ∷ [])
+    ∷ (24 ∷ 1 ∷ 0 ∷ 0 ∷ 0 ∷ 0 ∷ []) ∷ (32 ∷ 16 ∷ 0 ∷ 4 ∷ 0 ∷ 64 ∷ 17 ∷ 0 ∷ 4 ∷ 0 ∷ 9 ∷ 9 ∷ []) ∷ (5 ∷ []) ∷ (23 ∷ 4 ∷ []) ∷ []
+unfolding answers written twoFunctions put frameNumbers ruleNumbers bit readingNumbers questionNumbers questionOf outcomeNumbers outcomeOf afterwards relocationNumbers
+answers-are = refl
