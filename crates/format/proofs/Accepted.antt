@@ -18,7 +18,9 @@ use Rattle.format.specs.declared.Row.{Row}
 use Rattle.format.specs.Machine.{machineOf, machineOk, machineStride, isWord, noFramePointer}
 use Rattle.format.specs.Rows.{Line, rowWhole, regOf, offsetOf}
 use Rattle.format.specs.Lists.{Function, functionStride, rowStride, landingStride, pairStride, field, count, rowOf, lineAt, functionAt, functionsOf, mostFunctions, mostRecords, inside, symbolOk, markOk, whenMarked, hasRegister, hasOffset, rowOk, rowOkAt, pairOkAt, pointerOk, allIn, functionOkAt, sumOf, pairsIn, listsOk}
-use Rattle.format.specs.Writer.{Section, elf, machO, debug, Written, bare, fixed, taken, dwarf}
+use Rattle.format.specs.declared.Section.{Section}
+use Rattle.format.specs.declared.Section.the-variants.{Elf, MachO, Debug}
+use Rattle.format.specs.Writer.{Written, bare, fixed, taken, dwarf}
 use Rattle.format.specs.Headers.{leading}
 use Rattle.format.specs.Rules.{runRows}
 use Rattle.format.specs.RowCheck.{rowCheck, rowCheckAt}
@@ -32,27 +34,27 @@ use Rattle.format.proofs.ListLaws.{each-length, each-get, get-map, chai
 
 pub taken-size : (s : Section) (f : Function) → taken s f .size ≡ f .size
 unfolding taken bare fixed
-taken-size elf f = refl
-taken-size machO f = refl
-taken-size debug f = refl
+taken-size Elf f = refl
+taken-size MachO f = refl
+taken-size Debug f = refl
 
 pub taken-rows : (s : Section) (f : Function) → taken s f .rows ≡ f .rows
 unfolding taken bare fixed
-taken-rows elf f = refl
-taken-rows machO f = refl
-taken-rows debug f = refl
+taken-rows Elf f = refl
+taken-rows MachO f = refl
+taken-rows Debug f = refl
 
 pub taken-plain : (s : Section) (f : Function) → f .relaxed ≡ none → taken s f .relaxed ≡ none
 unfolding taken bare fixed
-taken-plain elf f e = e
-taken-plain machO f e = refl
-taken-plain debug f e = e
+taken-plain Elf f e = e
+taken-plain MachO f e = refl
+taken-plain Debug f e = e
 
 pub taken-run : (s : Section) (m : Machine) (f : Function) (q p : ℕ) → runRows m (taken s f) q p ≡ runRows m f q p
 unfolding taken bare fixed runRows leading
-taken-run elf m f q p = refl
-taken-run machO m f q p = refl
-taken-run debug m f q p = refl
+taken-run Elf m f q p = refl
+taken-run MachO m f q p = refl
+taken-run Debug m f q p = refl
 
 -- ---- questions
 
@@ -264,9 +266,9 @@ given-is s g r w e =
 
 pub accepted-is : (s : Section) (g : Given) (r : Room) (w : Written) → dwarfWritten s g r ≡ accepted w → Accepted s g w
 unfolding dwarfWritten relaxedTable relaxedDebugFrame formatAnswer pick
-accepted-is elf g r w e = given-is elf g r w (not-empty (noFunctions g) _ w e)
-accepted-is machO g r w e = given-is machO g r w (not-empty (noFunctions g) _ w e)
-accepted-is debug g r w e = given-is debug g r w (not-empty (noFunctions g || false) _ w e)
+accepted-is Elf g r w e = given-is Elf g r w (not-empty (noFunctions g) _ w e)
+accepted-is MachO g r w e = given-is MachO g r w (not-empty (noFunctions g) _ w e)
+accepted-is Debug g r w e = given-is Debug g r w (not-empty (noFunctions g || false) _ w e)
 
 -- ---- function k
 

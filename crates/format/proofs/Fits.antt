@@ -7,7 +7,7 @@ use lib.Dec.{T}
 use Rattle.format.specs.declared.Machine.{Machine}
 use Rattle.format.specs.Machine.{isWord}
 use Rattle.format.specs.Lists.{Function, mostFunctions, mostRecords}
-use Rattle.format.specs.Writer.{Section}
+use Rattle.format.specs.declared.Section.{Section}
 use Rattle.format.specs.Questions.{sizeBytes, encodingsOk}
 use Rattle.format.proofs.WalkBack.{LinesOk}
 

@@ -13,7 +13,8 @@ use Rattle.format.specs.Lists.{Function, Relocation}
 use Rattle.format.specs.Headers.{Key, keyOf, others, padded, entry, headerFields, headerBytes, headerRelocs}
 use Rattle.format.specs.Records.{recordFields, recordBytes, recordRelocs}
 use Rattle.format.specs.CallSites.{sitePad, siteAdded}
-use Rattle.format.specs.Writer.{Section, isDebug, alignFor, Seen, placeIn, partWith, partOf, isEmpty, partsFrom, joined}
+use Rattle.format.specs.declared.Section.{Section}
+use Rattle.format.specs.Writer.{isDebug, alignFor, Seen, placeIn, partWith, partOf, isEmpty, partsFrom, joined}
 
 -- ---- an entry's bytes behind its length
 

@@ -18,7 +18,8 @@ use Rattle.format.specs.Lists.{Function, Relocation, Pair, Relaxed, Land
 use Rattle.format.specs.Machine.{isWord}
 use Rattle.format.specs.Headers.{Kind, plain, personal, named, Key, keyOf, others, sizeOf, pointerSize, sizeOr0, pointerBytes, reloc, pointerReloc, debugFrame, lsdaLetter, augmentationData, headerData, headerFields, headerBytes, pointerPlace, kindRelocs, headerRelocs, padded, entry, counted}
 use Rattle.format.specs.CallSites.{sitePad}
-use Rattle.format.specs.Writer.{Section, isDebug}
+use Rattle.format.specs.declared.Section.{Section}
+use Rattle.format.specs.Writer.{isDebug}
 use Rattle.format.specs.Questions.{isSome, lsdaOk, namedOk, encodingsOk}
 use Rattle.format.specs.Records.{pointerBlank, namedBlank, lsdaBlank, pointerTo, namedReloc, lsdaReloc, recordFields, recordBytes, recordRelocs, sumPair, pairFor, setBytes, setPlace, setPair, stepRelocs, rowRelocs}
 use Rattle.format.proofs.Choice.{if-le, if-gt, if-ne, either}

@@ -17,7 +17,9 @@ use Rattle.format.specs.Records.{sizeField, recordFields}
 use Rattle.format.specs.Rules.{start, answer, runRows}
 use Rattle.format.specs.Reader.{Entry, distanceBack, firstAddend, headerPlace, Found, parsed, locate, walked, readSection}
 use Rattle.format.specs.Questions.{sizeBytes}
-use Rattle.format.specs.Writer.{Section, elf, machO, debug, isDebug, partsFrom, joined}
+use Rattle.format.specs.declared.Section.{Section}
+use Rattle.format.specs.declared.Section.the-variants.{Elf, MachO, Debug}
+use Rattle.format.specs.Writer.{isDebug, partsFrom, joined}
 use Rattle.format.proofs.Choice.{if-le}
 use Rattle.format.proofs.EntryBack.{padded-behind}
 use Rattle.format.proofs.FieldsBack.{word-small}
@@ -33,9 +35,9 @@ use Rattle.format.proofs.SectionFinds.{spotAt, record-holds, record-fou
 
 size-bytes : (s : Section) (word : ℕ) → pick (isDebug s) word 4 ≡ sizeBytes s word
 unfolding isDebug sizeBytes pick
-size-bytes elf word = refl
-size-bytes machO word = refl
-size-bytes debug word = refl
+size-bytes Elf word = refl
+size-bytes MachO word = refl
+size-bytes Debug word = refl
 
 -- without relaxing labels the length field is the function's length
 size-said : (n : ℕ) (r : Option Relaxed) → r ≡ none → sizeField n r ≡ n

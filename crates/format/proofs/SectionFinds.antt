@@ -15,7 +15,8 @@ use Rattle.format.specs.Lists.{Function, Relocation}
 use Rattle.format.specs.Headers.{Key, keyOf, reloc, debugFrame, headerRelocs}
 use Rattle.format.specs.Records.{recordRelocs}
 use Rattle.format.specs.Reader.{Entry, isHeader, records, distanceBack, firstAddend, headerAt}
-use Rattle.format.specs.Writer.{Section, isDebug, Seen, placeIn, partsFrom, joined}
+use Rattle.format.specs.declared.Section.{Section}
+use Rattle.format.specs.Writer.{isDebug, Seen, placeIn, partsFrom, joined}
 use Rattle.format.proofs.Choice.{pick-yes, pick-no, if-le}
 use Rattle.format.proofs.Each.{Each, each-join, each-then, first-behind}
 use Rattle.format.proofs.EntryBack.{padded-behind}

@@ -11,7 +11,9 @@ use Rattle.format.specs.Rows.{rowsBytes, linesBytes}
 use Rattle.format.specs.Lists.{Function}
 use Rattle.format.specs.Headers.{keyOf, leading, others, padded, entry, headerFields, headerBytes}
 use Rattle.format.specs.Records.{recordFields, recordBytes}
-use Rattle.format.specs.Writer.{Section, elf, machO, debug, isDebug, alignFor, Seen, isEmpty, partsFrom, joined}
+use Rattle.format.specs.declared.Section.{Section}
+use Rattle.format.specs.declared.Section.the-variants.{Elf, MachO, Debug}
+use Rattle.format.specs.Writer.{isDebug, alignFor, Seen, isEmpty, partsFrom, joined}
 use Rattle.format.proofs.EntryBack.{entry-length, padding-small, padded-length}
 use Rattle.format.proofs.FieldsBack.{word-small}
 use Rattle.format.proofs.HeaderBack.{HeaderOk, kind-accepted, header-short}
@@ -29,10 +31,10 @@ pub record Aligned (n : ℕ) : Type 0 where
 
 aligned : (s : Section) (word : ℕ) (last : Bool) → 0 < word → word ≤ 8 → Aligned (alignFor s word last)
 unfolding alignFor pick
-aligned elf word true h l = record { some-bytes = h; at-most-8 = l }
-aligned elf word false h l = record { some-bytes = omega arith; at-most-8 = omega arith }
-aligned machO word last h l = record { some-bytes = h; at-most-8 = l }
-aligned debug word last h l = record { some-bytes = h; at-most-8 = l }
+aligned Elf word true h l = record { some-bytes = h; at-most-8 = l }
+aligned Elf word false h l = record { some-bytes = omega arith; at-most-8 = omega arith }
+aligned MachO word last h l = record { some-bytes = h; at-most-8 = l }
+aligned Debug word last h l = record { some-bytes = h; at-most-8 = l }
 
 -- four bytes of length, and at most seven of zeros
 entry-short : (align at : ℕ) (body : List ℕ) → Aligned align → length (entry (padded align at body)) ≤ 11 + length body

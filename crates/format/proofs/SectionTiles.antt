@@ -15,7 +15,8 @@ use Rattle.format.specs.Headers.{Key, keyOf, entry, headerBytes}
 use Rattle.format.specs.Records.{sizeField, recordBytes}
 use Rattle.format.specs.Reader.{Entry, entriesF, entries}
 use Rattle.format.specs.Questions.{sizeBytes}
-use Rattle.format.specs.Writer.{Section, isDebug, Seen, partsFrom, joined}
+use Rattle.format.specs.declared.Section.{Section}
+use Rattle.format.specs.Writer.{isDebug, Seen, partsFrom, joined}
 use Rattle.format.proofs.Each.{Each, each-join, each-then}
 use Rattle.format.proofs.EntryBack.{entry-back, entry-length, padded-behind}
 use Rattle.format.proofs.HeaderBack.{header-long}

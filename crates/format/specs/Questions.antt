@@ -11,7 +11,9 @@ use Rattle.format.specs.Machine.{machineOf, machineOk}
 use Rattle.format.specs.Rows.{Line, rowWhole}
 use Rattle.format.specs.Lists.{Function, Named, Pointer, Landing, Relaxed, Prologue, functionStride, prologueStride, count, functionsOf, prologuesOf, listsOk, codesOk}
 use Rattle.format.specs.Headers.{pointerSize}
-use Rattle.format.specs.Writer.{Section, elf, machO, debug, Written, dwarf, taken}
+use Rattle.format.specs.declared.Section.{Section}
+use Rattle.format.specs.declared.Section.the-variants.{Elf, MachO, Debug}
+use Rattle.format.specs.Writer.{Written, dwarf, taken}
 use Rattle.format.specs.X64.{codesOf, prologueOf, prologueNo, x64}
 
 -- a question: nothing where the answer is yes, else the number and the function's position
@@ -35,9 +37,9 @@ perFunction f at (x ∷ xs) = andThen (f at x) (perFunction f (suc at) xs)
 
 -- 21: the bytes of the length field
 unfoldable pub sizeBytes : Section → ℕ → ℕ
-sizeBytes elf word = 4
-sizeBytes machO word = 4
-sizeBytes debug word = word
+sizeBytes Elf word = 4
+sizeBytes MachO word = 4
+sizeBytes Debug word = word
 
 -- 22: the encodings that are used
 unfoldable pub isSome : {A : Type 0} → Option A → Bool
@@ -177,9 +179,9 @@ dwarfGiven s g r = unless (givenAsks g) (dwarfAnswer s (machineOf (g .machine)) 
 -- formats: 0 ELF, 1 COFF, 2 Mach-O, 3 Wasm, 4 Plan 9; another is 11
 unfoldable pub formatAnswer : ℕ → Given → Room → Answer
 formatAnswer format g r =
-    pick (eqb format 0) (dwarfGiven elf g r)
+    pick (eqb format 0) (dwarfGiven Elf g r)
     (pick (eqb format 1) (unless (windowsAsks g) (windowsAnswer (machineOf (g .machine)) (givenFunctions g) r))
-    (pick (eqb format 2) (dwarfGiven machO g r)
+    (pick (eqb format 2) (dwarfGiven MachO g r)
     (pick (leb format 4) empty (refused 11 0))))
 
 -- an empty list is an empty result before any question
@@ -188,7 +190,7 @@ relaxedTable format g r = pick (noFunctions g) empty (formatAnswer format g r)
 
 -- debug_frame is an empty result outside ELF
 unfoldable pub relaxedDebugFrame : ℕ → Given → Room → Answer
-relaxedDebugFrame format g r = pick (noFunctions g || not (eqb format 0)) empty (dwarfGiven debug g r)
+relaxedDebugFrame format g r = pick (noFunctions g || not (eqb format 0)) empty (dwarfGiven Debug g r)
 
 -- direct codes: 13, 21, the codes, and the room
 unfoldable pub seh : (fs codes : List ℕ) → Room → Answer
@@ -199,6 +201,6 @@ seh fs codes r =
 
 -- a list is accepted for DWARF output when its writer neither refuses nor gives an empty result
 unfoldable pub dwarfWritten : Section → Given → Room → Answer
-dwarfWritten elf g r = relaxedTable 0 g r
-dwarfWritten machO g r = relaxedTable 2 g r
-dwarfWritten debug g r = relaxedDebugFrame 0 g r
+dwarfWritten Elf g r = relaxedTable 0 g r
+dwarfWritten MachO g r = relaxedTable 2 g r
+dwarfWritten Debug g r = relaxedDebugFrame 0 g r

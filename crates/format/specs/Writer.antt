@@ -6,21 +6,17 @@ use mathlib.Core.List.{List, [], _∷_, _++_, map}
 use lib.ListN.{length}
 use Rattle.format.specs.Test.{pick}
 use Rattle.format.specs.declared.Machine.{Machine}
+use Rattle.format.specs.declared.Section.{Section}
+use Rattle.format.specs.declared.Section.the-variants.{Elf, MachO, Debug}
 use Rattle.format.specs.Lists.{Function, Relocation}
 use Rattle.format.specs.Headers.{Key, keyOf, sameKey, headerBytes, headerRelocs}
 use Rattle.format.specs.Records.{recordBytes, recordRelocs}
 use Rattle.format.specs.CallSites.{sitePad, siteAdded}
 
--- ELF's eh_frame, Mach-O's, and ELF's debug_frame
-pub data Section : Type 0 where
-  elf : Section
-  machO : Section
-  debug : Section
-
 unfoldable pub isDebug : Section → Bool
-isDebug elf = false
-isDebug machO = false
-isDebug debug = true
+isDebug Elf = false
+isDebug MachO = false
+isDebug Debug = true
 
 -- what a section takes of a function: debug_frame drops landings and personalities, Mach-O drops relaxing too (document 01, "Header")
 unfoldable pub bare : Function → Function
@@ -32,15 +28,15 @@ fixed f =
     record { symbol = f .symbol; size = f .size; rows = f .rows; landings = f .landings; simple = f .simple; signal = f .signal; named = f .named; relaxed = none }
 
 unfoldable pub taken : Section → Function → Function
-taken elf f = f
-taken machO f = fixed (bare f)
-taken debug f = bare f
+taken Elf f = f
+taken MachO f = fixed (bare f)
+taken Debug f = bare f
 
 -- ELF's eh_frame pads to the smaller of word and 4, but to word for the last function's header and record; the others pad to word
 unfoldable pub alignFor : Section → ℕ → (last : Bool) → ℕ
-alignFor elf word last = pick last word (min word 4)
-alignFor machO word last = word
-alignFor debug word last = word
+alignFor Elf word last = pick last word (min word 4)
+alignFor MachO word last = word
+alignFor Debug word last = word
 
 -- what one function adds: its header's place, bytes, relocations and call sites
 pub record Part : Type 0 where

@@ -154,6 +154,13 @@ pub enum Reading {
     Refused(u64),
 }
 
+// The DWARF sections: ELF's eh_frame, Mach-O's, and ELF's debug_frame.
+pub enum Section {
+    Elf,
+    MachO,
+    Debug,
+}
+
 // An unsigned LEB number and the position past it.
 pub enum Unsigned {
     Value(u64, usize),
