@@ -1,0 +1,2 @@
+-- What a section takes of a function's record, and what its writers may rely on.
+pub mod Functions
