@@ -36,8 +36,12 @@ def two_complement(key, at, n):
 
 
 def cases(path):
+    return parse(lines(path))
+
+
+def parse(text):
     found = []
-    for line in filter(None, (line.strip() for line in lines(path))):
+    for line in filter(None, (line.strip() for line in text if not line.startswith("#"))):
         key, *words = line.split()
         if key == "case":
             found.append({"name": words[0], "format": 0, **{key: [] for key in LISTS}})
@@ -204,4 +208,5 @@ def main():
     print(f"definitions: {len(claims)} {kind} cases computed as expected; {left} not compared")
 
 
-main()
+if __name__ == "__main__":
+    main()

@@ -1,0 +1,211 @@
+#!/usr/bin/env python3
+"""The library's exports against the Rust and against document 01's questions.
+
+    exports.py stored            the cases of cases/
+    exports.py short             every short list (short.py)
+    exports.py wild COUNT SEED   random lists, a third with numbers changed (wild.py)
+
+ours.c hands each case to the library: its answer is compared with the oracle's (oracle.py) where that refuses, and with the Rust's
+bytes, relocations, places and call sites where it accepts. What the Rust says where the oracle refuses is compared too: it must be
+the same refusal, a panic, a case that cannot be handed to it, or a difference that docs/DIFFERENCES.md lists. At the end stand the
+counts, by entry: accepted, empty, and each refusal by its number; 51 to 54 are those of buffers one short."""
+
+import collections
+import os
+import subprocess
+import sys
+
+HERE = os.path.dirname(os.path.abspath(__file__))
+# random.py has the name of a module of the standard library, so this folder is searched last.
+sys.path = [folder for folder in sys.path if os.path.abspath(folder) != HERE] + [HERE]
+
+from definitions import REFUSALS, by_case, parse  # noqa: E402
+from oracle import expected, records  # noqa: E402
+
+ROOT = os.path.dirname(HERE)
+OUT = os.path.join(ROOT, "target", "differential")
+BATCH = 5000
+# An absolute pointer at word 8 has 4 bytes in the Rust where the function isn't the last (docs/DIFFERENCES.md). So that the rest is
+# compared too, the Rust is handed an encoding of 8 bytes that the case does not have, and its byte is put back in the answer.
+EIGHT_BYTES = (0x04, 0x0C)
+# The Rust pads to the word, whatever it is; a wider one is not handed to it.
+WIDEST = 64
+NAMES = {0: "ELF", 1: "COFF", 2: "Mach-O"}
+ENTRIES = ["relaxed_table ELF", "relaxed_table Mach-O", "relaxed_table COFF", "relaxed_table other", "relaxed_debug_frame", "seh"]
+
+
+class Failed(Exception):
+    pass
+
+
+def entry_of(case):
+    if case["entry"] != "relaxed_table":
+        return case["entry"]
+    return f"relaxed_table {NAMES.get(case['format'], 'other')}"
+
+
+def used(case):
+    """Where the encodings that eh_frame uses stand in the list of functions."""
+    for at in range(0, len(case["functions"]) - 17, 18):
+        f = case["functions"][at : at + 18]
+        if f[8] and not f[5]:
+            yield at + 9
+            if f[11]:
+                yield at + 12
+
+
+def stand_in(case):
+    """The encoding that stands for an absolute pointer of 8 bytes: None where there is none to replace, 0 where none is free."""
+    if case["entry"] != "relaxed_table" or case["format"] != 0 or case["machine"][:1] != [8]:
+        return None
+    bytes7 = {case["functions"][at] & 0x7F for at in used(case)}
+    if 0 not in bytes7:
+        return None
+    return next((encoding for encoding in EIGHT_BYTES if encoding not in bytes7), 0)
+
+
+def for_the_rust(case, encoding):
+    lists = dict(case)
+    if encoding:
+        lists["functions"] = list(case["functions"])
+        for at in used(case):
+            if lists["functions"][at] & 0x7F == 0:
+                lists["functions"][at] |= encoding
+    keys = ("machine", "functions", "rows", "landings", "pairs", "codes")
+    head = [f"case {case['name']}", f"entry {case['entry']}", f"format {case['format']}"]
+    return "\n".join([*head, *(f"{key} {' '.join(map(str, lists[key]))}" for key in keys if lists[key]), "end", ""])
+
+
+def put_back(answer, encoding):
+    """The Rust's section with the encoding bytes of its headers as the case has them."""
+    section = bytearray.fromhex(answer[2][6:])
+    at = 0
+    while at < len(section):
+        size = int.from_bytes(section[at : at + 4], "little")
+        if section[at + 4 : at + 8] == bytes(4):
+            end = section.index(0, at + 9)
+            letters = section[at + 9 : end].decode()
+            # Behind the string: the factors of a byte each, the return register, the augmentation's length.
+            here = end + 3
+            while section[here] >= 128:
+                here += 1
+            here += 2
+            for letter in letters[1:]:
+                if letter in "PL":
+                    was = section[here]
+                    section[here] = was & 0x80 if was & 0x7F == encoding else was
+                    here += 1
+                if letter == "P":
+                    here += {0x04: 8, 0x0C: 8}.get(was & 0x7F, 4)
+        at += 4 + size
+    return [*answer[:2], "bytes " + section.hex(), *answer[3:]]
+
+
+def run(program, text):
+    done = subprocess.run([program], input=text, capture_output=True, text=True)
+    if done.returncode:
+        raise Failed(done.stderr[:2000] or f"{program} ended with {done.returncode}")
+    return done.stdout.split("\n")
+
+
+def rust_refusal(case, line):
+    """The number and position of the Rust's own refusal."""
+    symbol, text = line[len("refused s") :].split(": ", 1)
+    stride = 5 if case["entry"] == "seh" else 18
+    number = next(number for words, number in REFUSALS.items() if words in text)
+    return number, [f[0] for f in records(case["functions"], stride)].index(int(symbol))
+
+
+def explained(case, number, position, said):
+    """Whether what the Rust says beside our refusal is one of docs/DIFFERENCES.md."""
+    if said[0].startswith(("panic", "inexpressible")) or said == ["empty"]:
+        return True
+    if said[0] == "accepted":
+        return number in (11, 12, 13, 21, 24, 25, 34)
+    return rust_refusal(case, said[0]) == (number, position) or number in (11, 12, 13, 21, 34)
+
+
+def differs(case, want, said, got, encoding):
+    """What is wrong with our answer, or None."""
+    if want[0] == "source":
+        if said[0].startswith("refused"):
+            want = ("refused", *rust_refusal(case, said[0]))
+        elif said[0] != "accepted":
+            return f"the Rust says {said[0]}"
+    if want[0] == "empty":
+        return None if got[:1] == ["empty"] else f"empty is expected, ours is {got[0]}"
+    if want[0] == "refused":
+        if not explained(case, want[1], want[2], said[:1]):
+            return f"{want[1]} {want[2]} is expected, the Rust says {said[0]}"
+        return None if got[:1] == [f"refused {want[1]} {want[2]}"] else f"{want[1]} {want[2]} is expected, ours is {got[0]}"
+    if got[0] != "accepted":
+        return f"accepted is expected, ours is {got[0]}"
+    if said[0] == "inexpressible relaxing labels behind a function without them" or encoding == 0:
+        return None
+    if said[0] != "accepted":
+        return f"accepted is expected, the Rust says {said[0]}"
+    said = put_back(said, encoding) if encoding else said
+    return None if said[:5] == got[:5] else f"the Rust's answer is {said[:5]}, ours {got[:5]}"
+
+
+def compare(text, counts):
+    cases = parse(text.split("\n"))
+    encodings = [stand_in(case) for case in cases]
+    handed = "".join(for_the_rust(case, encoding) for case, encoding in zip(cases, encodings) if case["machine"][0:1] <= [WIDEST])
+    said = by_case(run(os.path.join(OUT, "release", "harness"), handed))
+    said.update({case["name"]: ["inexpressible"] for case in cases if case["name"] not in said})
+    printed = run(os.path.join(OUT, "ours"), text)
+    got = by_case(printed)
+    for case, encoding in zip(cases, encodings):
+        name, want = case["name"], expected(case)
+        why = differs(case, want, said[name], got[name], encoding)
+        if why:
+            raise Failed(f"{name}: {why}")
+        answer = got[name][0].split()
+        counts[entry_of(case)][" ".join(answer[:2]) if answer[0] == "refused" else answer[0]] += 1
+        counts[entry_of(case)]["not handed to the Rust"] += said[name][0].startswith("inexpressible")
+    for line in printed:
+        if line.startswith("# short"):
+            _, _, number, count, entry = line.split(" ", 4)
+            counts[entry][f"refused {number}"] += int(count)
+
+
+def batches(kind, *words):
+    if kind == "stored":
+        folder = os.path.join(HERE, "cases")
+        for name in sorted(os.listdir(folder)):
+            with open(os.path.join(folder, name)) as file:
+                yield file.read()
+    elif kind == "short":
+        yield made("short.py")
+    else:
+        count, seed = int(words[0]), words[1]
+        for first in range(0, count, BATCH):
+            yield made("wild.py", str(min(BATCH, count - first)), seed, str(first))
+
+
+def made(script, *words):
+    return subprocess.run([sys.executable, os.path.join(HERE, script), *words], capture_output=True, text=True, check=True).stdout
+
+
+def main():
+    counts = collections.defaultdict(collections.Counter)
+    try:
+        for text in batches(*sys.argv[1:]):
+            compare(text, counts)
+    except Failed as why:
+        sys.exit(f"exports: {why}")
+    total = 0
+    for entry in ENTRIES:
+        found = counts[entry]
+        if not found:
+            continue
+        lists = sum(n for what, n in found.items() if what in ("accepted", "empty") or what.startswith("refused") and int(what[8:]) < 51)
+        total += lists
+        said = ", ".join(f"{what} {found[what]}" for what in sorted(found) if found[what])
+        print(f"{entry}: {lists} lists: {said}")
+    print(f"exports: {' '.join(sys.argv[1:])}: {total} lists, no difference")
+
+
+if __name__ == "__main__":
+    main()
