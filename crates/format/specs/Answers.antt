@@ -1,4 +1,5 @@
 -- The paper's number and values for each case of an answer.
+use mathlib.Core.Path.{_≡_}
 use Prim.Native.Nat.{ℕ}
 use mathlib.Core.Bool.{Bool, true, false}
 use mathlib.Core.Option.{Option, none, some}
@@ -82,3 +83,11 @@ afterwards part (accepted w) old = put old 0 (part w)
 -- the relocations as numbers, five each
 unfoldable pub relocationNumbers : Written → List ℕ
 relocationNumbers w = numbersOf (w .relocations)
+
+-- what a writer does, by what the definition answers: its outcome, and what its four lent buffers hold at exit
+pub record Writes (a : Answer) (o : Outcome) (places places′ bytes bytes′ relocations relocations′ sites sites′ : List ℕ) : Type 0 where
+  pub outcome : o ≡ outcomeOf a
+  pub placed : places′ ≡ afterwards (λ w. w .places) a places
+  pub stored : bytes′ ≡ afterwards (λ w. w .bytes) a bytes
+  pub related : relocations′ ≡ afterwards relocationNumbers a relocations
+  pub sited : sites′ ≡ afterwards (λ w. w .sites) a sites

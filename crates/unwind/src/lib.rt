@@ -1,0 +1,2 @@
+// The public library.
+ghost use mathlib.Core.Path.{_≡_};
