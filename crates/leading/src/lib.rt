@@ -1,11 +1,16 @@
 // A function's record as a section takes it, and its leading rows. Ported from rucc-asm/src/unwind.rs (leading, dwarf) of tamnd/rucc, changed: see NOTICE.
 ghost use mathlib.Core.Path.{_≡_};
-ghost use Prim.Native.Nat.{_+_, _*_, _≤_};
-ghost use lib.ListN.{length};
-ghost use Rattle.format.specs.Test.{each};
-ghost use Rattle.format.specs.Headers.{leads, ahead};
+ghost use mathlib.Core.List.{[]};
+ghost use mathlib.Core.Option.{some};
+ghost use Prim.Native.Nat.{_+_, _*_, _≤_, _<_};
+ghost use lib.ListN.{length, getElem?};
+ghost use Rattle.format.specs.Test.{pick, each};
+ghost use Rattle.format.specs.Headers.{implied, leads, ahead, leading};
 ghost use Rattle.format.specs.Lists.{lineAt};
-ghost use Rattle.leading.specs.Functions.{takenIn, RowsReady};
+ghost use Rattle.format.proofs.Fits.{MachineFits};
+ghost use Rattle.leading.specs.Functions.{takenIn, bodyOf, RowsReady};
+use format::Machine;
+use format::Row;
 use format::Section;
 use lists::Extent;
 
@@ -55,4 +60,49 @@ pub fn ahead(rows: &[u64], at: usize, n: usize) -> usize
         i += 1;
     }
     i
+}
+
+// How many rows a call implies: none where the function is simple, and the second only where the call pushes bytes.
+fn implied_count(m: Machine, simple: bool) -> usize
+    ensures { λ r. ⌜ (r ≡ length (pick simple [] (implied m))) × (r ≤ 2) ⌝ }
+{
+    if simple {
+        return 0;
+    }
+    if m.pushed == 0 {
+        return 1;
+    }
+    2
+}
+
+// Row i of those that a call implies.
+fn implied_at(m: Machine, i: usize) -> Row
+    requires { ⌜ MachineFits m × (i < length (implied m)) ⌝ }
+    ensures { λ r. ⌜ some r ≡ getElem? (implied m) i ⌝ }
+{
+    let pushed = m.pushed as i64;
+    if i == 0 {
+        return Row::DefCfa(m.stack as u16, pushed);
+    }
+    Row::Offset(m.ret as u16, 0 - pushed)
+}
+
+// How many leading rows a function has.
+pub fn leading_count(m: Machine, e: Extent, rows: &[u64]) -> usize
+    requires { ⌜ RowsReady (now rows) (e .«rows_at») (e .rows) ⌝ }
+    ensures { λ r. ⌜ r ≡ length (leading m (bodyOf e (now (rows .entry)))) ⌝ }
+{
+    implied_count(m, e.simple) + ahead(rows, e.rows_at, e.rows)
+}
+
+// Leading row i.
+pub fn leading_at(m: Machine, e: Extent, rows: &[u64], i: usize) -> Row
+    requires { ⌜ MachineFits m × RowsReady (now rows) (e .«rows_at») (e .rows) × (i < length (leading m (bodyOf e (now rows)))) ⌝ }
+    ensures { λ r. ⌜ some r ≡ getElem? (leading m (bodyOf e (now (rows .entry)))) i ⌝ }
+{
+    let n = implied_count(m, e.simple);
+    if i < n {
+        return implied_at(m, i);
+    }
+    rows::row_at(rows, e.rows_at + (i - n))
 }
