@@ -1,19 +1,18 @@
 -- The rows that a call implies, as the machine computes them.
 use mathlib.Core.Path.{_≡_, _∙_}
-use mathlib.Core.Option.{some}
 use mathlib.Core.List.{List, [], _∷_}
 use Prim.Native.Nat.{ℕ, zero, suc, _^_, _<_}
 use native.Mathlib.Omega.{arith}
 use lib.Dec.{eqb}
 use lib.IntN.{pos, negℤ, _-ℤ_, +ℤ-idl}
-use lib.ListN.{length, getElem?}
+use lib.ListN.{length, getD}
 use lib.Signed.{mag}
 use mir.Syntax.{w64}
 use mir.Val.{SFits, ofZ, toZ}
 use mir.Facts.{toZ-ofZ, toZ-pos}
 use Rattle.format.specs.declared.Machine.{Machine}
 use Rattle.format.specs.declared.Row.{Row}
-use Rattle.format.specs.declared.Row.the-variants.{DefCfa, Offset}
+use Rattle.format.specs.declared.Row.the-variants.{DefCfa, Offset, RememberState}
 use Rattle.format.specs.Headers.{implied}
 use Rattle.format.proofs.Choice.{pick-yes, pick-no, tested}
 use Rattle.format.proofs.Fits.{MachineFits}
@@ -33,12 +32,12 @@ module _ (n : ℕ) (h : n < 2 ^ 31) where
   below-is = toZ-ofZ below-fits ∙ below
 
 module _ (m : Machine) (fit : MachineFits m) where
-  pub frame-row : (i : ℕ) → i ≡ 0 → some (DefCfa (m .stack) (toZ w64 (m .pushed))) ≡ getElem? (implied m) i
+  pub frame-row : (i : ℕ) → i ≡ 0 → DefCfa (m .stack) (toZ w64 (m .pushed)) ≡ getD (implied m) i RememberState
   unfolding implied
   frame-row i e = rw (e, toZ-pos w64 {n = m .pushed} (omega (arith, fit .pushed-small)))
 
   pub return-row : (i : ℕ) → (i ≡ 0 → ⊥) → i < length (implied m)
-      → some (Offset (m .ret) (toZ w64 (ofZ w64 (pos 0 -ℤ toZ w64 (m .pushed))))) ≡ getElem? (implied m) i
+      → Offset (m .ret) (toZ w64 (ofZ w64 (pos 0 -ℤ toZ w64 (m .pushed)))) ≡ getD (implied m) i RememberState
   unfolding implied
   return-row i e h =
       let r : List Row = Offset (m .ret) (negℤ (pos (m .pushed))) ∷ [] in

@@ -1,10 +1,10 @@
 // A function's record as a section takes it, and its leading rows. Ported from rucc-asm/src/unwind.rs (leading, dwarf) of tamnd/rucc, changed: see NOTICE.
 ghost use mathlib.Core.Path.{_≡_};
 ghost use mathlib.Core.List.{[]};
-ghost use mathlib.Core.Option.{some};
 ghost use Prim.Native.Nat.{_+_, _*_, _≤_, _<_};
-ghost use lib.ListN.{length, getElem?};
+ghost use lib.ListN.{length, getD};
 ghost use Rattle.format.specs.Test.{pick, each};
+ghost use Rattle.format.specs.declared.Row.the-variants.{RememberState};
 ghost use Rattle.format.specs.Headers.{implied, leads, ahead, leading};
 ghost use Rattle.format.specs.Lists.{lineAt};
 ghost use Rattle.format.proofs.Fits.{MachineFits};
@@ -78,7 +78,7 @@ fn implied_count(m: Machine, simple: bool) -> usize
 // Row i of those that a call implies.
 fn implied_at(m: Machine, i: usize) -> Row
     requires { ⌜ MachineFits m × (i < length (implied m)) ⌝ }
-    ensures { λ r. ⌜ some r ≡ getElem? (implied m) i ⌝ }
+    ensures { λ r. ⌜ r ≡ getD (implied m) i RememberState ⌝ }
 {
     let pushed = m.pushed as i64;
     if i == 0 {
@@ -98,7 +98,7 @@ pub fn leading_count(m: Machine, e: Extent, rows: &[u64]) -> usize
 // Leading row i.
 pub fn leading_at(m: Machine, e: Extent, rows: &[u64], i: usize) -> Row
     requires { ⌜ MachineFits m × RowsReady (now rows) (e .«rows_at») (e .rows) × (i < length (leading m (bodyOf e (now rows)))) ⌝ }
-    ensures { λ r. ⌜ some r ≡ getElem? (leading m (bodyOf e (now (rows .entry)))) i ⌝ }
+    ensures { λ r. ⌜ r ≡ getD (leading m (bodyOf e (now (rows .entry)))) i RememberState ⌝ }
 {
     let n = implied_count(m, e.simple);
     if i < n {

@@ -1,10 +1,10 @@
 -- `leading::leading_at` meets its contract.
-use mathlib.Core.Path.{_≡_, sym, ap, _∙_}
-use mathlib.Core.Option.{some}
+use mathlib.Core.Path.{_≡_, sym, _∙_}
 use Prim.Native.Nat.{_+_, _-_, _<_}
 use native.Mathlib.Omega.{arith}
 use borrow.Author.Needs.{needs}
-use lib.ListN.{getElem?}
+use lib.ListN.{getD}
+use Rattle.format.specs.declared.Row.the-variants.{RememberState}
 use Rattle.format.specs.Lists.{lineAt}
 use Rattle.format.specs.Headers.{leading}
 use Rattle.format.proofs.ListLaws.{in-range}
@@ -29,7 +29,7 @@ returns c =
 own : (c : tie.After-struct-known)
     → let s = c .before .before .before .before in
     let j = s .args .i - c .before .before .implied-count .result in
-    (j < s .args .e .rows) × (getElem? (leading (s .args .m) (bodyOf (s .args .e) (s .args .rows .now))) (s .args .i) ≡ some (lineAt (s .args .rows .now) (s .args .e .«rows_at» + j) .1))
+    (j < s .args .e .rows) × (getD (leading (s .args .m) (bodyOf (s .args .e) (s .args .rows .now))) (s .args .i) RememberState ≡ lineAt (s .args .rows .now) (s .args .e .«rows_at» + j) .1)
 own c =
     let s = c .before .before .before .before in
     own-row (s .args .m) (s .args .e) (s .args .rows .now) (s .args .i) _ (c .before .before .implied-count .ensures .0) (c .before .if1 .left) (s .pre .2)
@@ -45,7 +45,7 @@ row-at-requires c κs =
     )
 
 returns-2 : tie.Need-returns-2
-returns-2 c = ap some (c .row-at .ensures) ∙ sym (own (c .before) .1)
+returns-2 c = c .row-at .ensures ∙ sym (own (c .before) .1)
 
 pub leading-at-spec : {M : Type 1} → statement M
 leading-at-spec =
