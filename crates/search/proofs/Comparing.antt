@@ -1,6 +1,6 @@
 -- Two functions' headers, compared part by part and their leading rows one by one.
 use mathlib.Core.Path.{_≡_, refl, sym, ap, _∙_}
-use Prim.Native.Nat.{ℕ, zero, suc, _+_, _-_, _≤_, _<_}
+use Prim.Native.Nat.{ℕ, suc, _+_, _≤_, _<_}
 use native.Mathlib.Omega.{arith}
 use native.Mathlib.Numerals.{add-one}
 use mathlib.Core.Bool.{Bool, true, false, not, _&&_, Bool·beq}
@@ -14,14 +14,14 @@ use Rattle.format.specs.declared.Section.{Section}
 use Rattle.format.specs.declared.Section.the-variants.{Elf, MachO, Debug}
 use Rattle.format.specs.declared.Row.{Row}
 use Rattle.format.specs.declared.Row.the-variants.{RememberState}
-use Rattle.format.specs.Rows.{sameRow}
 use Rattle.format.specs.Lists.{field, functionStride}
-use Rattle.format.specs.Headers.{keyOf, leading, sameKind, sameRows, sameKey}
+use Rattle.format.specs.Headers.{keyOf, sameKind, sameRows, sameKey}
 use Rattle.format.proofs.SameKey.{same-rows}
 use Rattle.lists.specs.declared.Extent.{Extent}
 use Rattle.lists.specs.Extents.{extentAt, meant}
 use Rattle.leading.specs.Functions.{without, takenIn, keyIn, RowsReady}
-use Rattle.search.specs.Owners.{keyAt, kindIn, leadingIn, sameAt}
+use Rattle.search.specs.Owners.{kindIn, leadingIn, sameAt}
+use Rattle.search.proofs.Finding.{shares}
 use Rattle.search.proofs.KindLaws.{kind-means}
 
 -- a function's rows are those of its record, whatever the section takes
@@ -87,15 +87,15 @@ pub record Asked (s : Section) (m : Machine) (fs rows : List ℕ) (j k : ℕ) (a
   pub answer : r ≡ sameKind (kindIn a) (kindIn b) && Bool·beq (a .signal) (b .signal)
 
 module _ {s : Section} {m : Machine} {fs rows : List ℕ} {j k : ℕ} {a b : Extent} {r : Bool} (q : Asked s m fs rows j k a b r) where
-  by-parts : sameKey (keyAt s m fs rows j) (keyAt s m fs rows k) ≡ r && sameRows (leadingIn m a rows) (leadingIn m b rows)
+  by-parts : shares s m fs rows k j ≡ r && sameRows (leadingIn m a rows) (leadingIn m b rows)
   by-parts = rw (← q .first, ← q .second, q .answer) (key-parts m a b rows)
 
-  pub unlike : not r ≡ true → sameKey (keyAt s m fs rows j) (keyAt s m fs rows k) ≡ false
+  pub unlike : not r ≡ true → shares s m fs rows k j ≡ false
   unlike t = by-parts ∙ simp (not-true r t)
 
   module _ (t : not r ≡ false) where
-    pub by-rows : {d : Bool} → sameRows (leadingIn m a rows) (leadingIn m b rows) ≡ d → sameKey (keyAt s m fs rows j) (keyAt s m fs rows k) ≡ d
+    pub by-rows : {d : Bool} → sameRows (leadingIn m a rows) (leadingIn m b rows) ≡ d → shares s m fs rows k j ≡ d
     by-rows f = by-parts ∙ simp (not-false r t, f)
 
-    pub by-counts : {x n : ℕ} → x ≡ length (leadingIn m a rows) → n ≡ length (leadingIn m b rows) → (x ≡ n → ⊥) → sameKey (keyAt s m fs rows j) (keyAt s m fs rows k) ≡ false
+    pub by-counts : {x n : ℕ} → x ≡ length (leadingIn m a rows) → n ≡ length (leadingIn m b rows) → (x ≡ n → ⊥) → shares s m fs rows k j ≡ false
     by-counts p o h = by-rows (uneven (leadingIn m a rows) (leadingIn m b rows) (λ e. h (p ∙ e ∙ sym o)))

@@ -3,15 +3,18 @@ use mathlib.Core.Path.{_≡_, refl, sym, ap, _∙_}
 use Prim.Native.Nat.{ℕ, zero, suc, _+_, _-_, _≤_, _<_}
 use native.Mathlib.Omega.{arith}
 use native.Mathlib.Numerals.{add-one}
-use mathlib.Core.Bool.{Bool, true, false, not}
+use mathlib.Core.Bool.{Bool, true, false}
 use mathlib.Core.List.{List}
-use lib.Dec.{T}
 use Rattle.format.specs.Test.{pick}
 use Rattle.format.specs.declared.Machine.{Machine}
 use Rattle.format.specs.declared.Section.{Section}
 use Rattle.format.specs.Headers.{sameKey}
 use Rattle.format.proofs.Choice.{pick-yes, pick-no, tested}
 use Rattle.search.specs.Owners.{keyAt, firstFrom, owner}
+
+-- function j has the key of function k
+abbrev pub shares : Section → Machine → (fs rows : List ℕ) → (k j : ℕ) → Bool
+shares s m fs rows k j = sameKey (keyAt s m fs rows j) (keyAt s m fs rows k)
 
 -- below number j of k, none passes
 pub record Finding (test : ℕ → Bool) (k j : ℕ) : Type 0 where
@@ -56,4 +59,4 @@ first-low test j (suc n) =
 -- it is no later function
 pub owner-low : (s : Section) (m : Machine) (fs rows : List ℕ) (k : ℕ) → owner s m fs rows k ≤ k
 unfolding owner
-owner-low s m fs rows k = omega (arith, first-low (λ (j : ℕ). sameKey (keyAt s m fs rows j) (keyAt s m fs rows k)) 0 k)
+owner-low s m fs rows k = omega (arith, first-low (shares s m fs rows k) 0 k)

@@ -60,7 +60,7 @@ fn same_kind(a: Extent, b: Extent) -> bool
     !b.personality
 }
 
-// And they agree in the signal mark.
+// Two functions ask for one kind of header and agree in the signal mark.
 fn alike(a: Extent, b: Extent) -> bool
     ensures { λ r. ⌜ r ≡ sameKind (kindIn a) (kindIn b) && Bool·beq (a .signal) (b .signal) ⌝ }
 {

@@ -1,12 +1,12 @@
 -- `search::choose` meets its contract.
-use mathlib.Core.Path.{_∙_, sym}
-use Prim.Native.Nat.{ℕ, _+_, _-_, _<_}
+use mathlib.Core.Path.{_≡_, _∙_, sym}
+use mathlib.Core.Bool.{Bool, false}
+use Prim.Native.Nat.{ℕ, _+_, _-_}
 use native.Mathlib.Omega.{arith}
 use borrow.Author.Needs.{needs}
-use Rattle.format.specs.Headers.{sameKey}
 use Rattle.leading.specs.Functions.{RowsReady}
-use Rattle.search.specs.Owners.{keyAt, leadingIn, owner}
-use Rattle.search.proofs.Finding.{Finding, missed, found}
+use Rattle.search.specs.Owners.{leadingIn, owner}
+use Rattle.search.proofs.Finding.{shares, Finding, missed, found}
 use Rattle.search.proofs.Finding as finding
 use Rattle.search.proofs.Comparing.{Comparing, rows-taken, Asked, turn, differ, unlike, by-rows, by-counts}
 use Rattle.search.proofs.Comparing as comparing
@@ -20,7 +20,7 @@ abbrev μ-rows : tie.MeasureT-rows
 μ-rows s m fs rows k own count next j other i₀ i = count - i
 
 abbrev Inv-functions : tie.InvT-functions
-Inv-functions s m fs rows k own count next₀ next = Finding (λ (j : ℕ). sameKey (keyAt s m fs rows j) (keyAt s m fs rows k)) k next
+Inv-functions s m fs rows k own count next₀ next = Finding (shares s m fs rows k) k next
 
 abbrev μ-functions : tie.MeasureT-functions
 μ-functions s m fs rows k own count next₀ next = k - next
@@ -42,6 +42,14 @@ asked : (c : tie.After-alike Inv-rows μ-rows Inv-functions μ-functions)
     → let s = c .before .before .before .before .before .before .before .before in
     Asked (s .args .s) (s .args .m) (s .args .fs .now) (s .args .rows .now) (c .before .before .before .functions .next) (s .args .k) (c .before .taken-at2 .result) (c .before .before .before .before .before .taken-at .result) (c .alike .result)
 asked c = record { first = c .before .taken-at2 .ensures; second = c .before .before .before .before .before .taken-at .ensures; answer = c .alike .ensures }
+
+-- the next turn, where the function has another key
+on-next : (c : tie.After-alike Inv-rows μ-rows Inv-functions μ-functions)
+    → let s = c .before .before .before .before .before .before .before .before in
+    let test : ℕ → Bool = shares (s .args .s) (s .args .m) (s .args .fs .now) (s .args .rows .now) (s .args .k) in
+    let j = c .before .before .before .functions .next in
+    test j ≡ false → Finding test (s .args .k) (j + 1)
+on-next c e = missed (c .before .before .before .functions .inv) (c .before .before .functions-test .taken) e
 
 taken-at-requires : tie.Need-taken-at-requires Inv-rows μ-rows Inv-functions μ-functions
 taken-at-requires c κs = search needs
@@ -67,8 +75,7 @@ functions-less c = search needs
 functions-again : tie.Need-functions-again Inv-rows μ-rows Inv-functions μ-functions
 functions-again c =
     let a = c .before in
-    missed (a .before .before .before .functions .inv) (a .before .before .functions-test .taken)
-    (unlike (asked a) (c .if1 .taken))
+    on-next a (unlike (asked a) (c .if1 .taken))
 
 leading-count-requires-2 :
     tie.Need-leading-count-requires-2 Inv-rows μ-rows Inv-functions μ-functions
@@ -80,7 +87,7 @@ functions-less-2 c = search needs
 functions-again-2 : tie.Need-functions-again-2 Inv-rows μ-rows Inv-functions μ-functions
 functions-again-2 c =
     let a = c .before .before .before in
-    missed (a .before .before .before .functions .inv) (a .before .before .functions-test .taken)
+    on-next a
     (by-counts (asked a) (c .before .before .if1 .left) (c .before .leading-count2 .ensures) (a .before .before .before .before .leading-count .ensures) (c .if2 .taken))
 
 rows-holds : tie.Need-rows-holds Inv-rows μ-rows Inv-functions μ-functions
@@ -103,7 +110,7 @@ functions-less-3 c = search needs
 functions-again-3 : tie.Need-functions-again-3 Inv-rows μ-rows Inv-functions μ-functions
 functions-again-3 c =
     let a = c .before .before .before .before .before .before .before in
-    missed (a .before .before .before .functions .inv) (a .before .before .functions-test .taken)
+    on-next a
     (by-rows (asked a) (c .before .before .before .before .before .before .if1 .left)
     (differ (c .before .before .before .rows .inv) (c .before .before .rows-test .taken) (c .before .same-leading .ensures) (c .if3 .taken)))
 
