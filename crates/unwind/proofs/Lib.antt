@@ -1,2 +1,0 @@
--- The lemmas of this crate's functions.
-pub mod DebugSites

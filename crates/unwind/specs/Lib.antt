@@ -1,2 +1,0 @@
--- What the public entries are handed.
-pub mod Entries

@@ -1,2 +1,0 @@
-// The public library.
-ghost use mathlib.Core.Path.{_≡_};
