@@ -1,0 +1,2 @@
+-- What the state of the walk means.
+pub mod States
