@@ -1,17 +1,92 @@
 -- What a row does to a state, by what it does to the run that the state means.
-use mathlib.Core.Path.{_≡_, refl}
-use Prim.Native.Nat.{ℕ, _≤_, _<_}
+use mathlib.Core.Path.{_≡_, refl, ap, _∙_}
+use Prim.Native.Nat.{ℕ, zero, suc, _+_, _-_, _≤_, _<_}
 use native.Mathlib.Omega.{arith}
-use Rattle.format.specs.Test.{pick, good, bad}
-use Rattle.format.proofs.Choice.{if-ne}
+use native.Mathlib.Numerals.{add-one}
+use mathlib.Core.List.{List, [], _∷_}
+use lib.ListN.{length, getD, set, length-set}
+use lib.Seq.{getD-set-same, getD-set-other}
+use Rattle.format.specs.Test.{pick, Result, good, bad}
+use Rattle.format.specs.Rules.{Run, remember, recall}
+use Rattle.format.proofs.Choice.{if-le, if-gt, if-ne}
+use Rattle.walk.specs.declared.Kept.{Kept}
 use Rattle.walk.specs.declared.State.{State}
-use Rattle.walk.specs.States.{runOf, resultOf, Acts}
+use Rattle.walk.specs.States.{Held, keptOf, nothing, storedOf, runOf, resultOf, Acts}
 
 -- a row that is accepted, and one that is refused
-pub acted : {s : State} → s .depth ≤ 16 → Acts (record { number = 0; state = s }) (good (runOf s))
+pub acted : {s : State} → Held s → Acts (record { number = 0; state = s }) (good (runOf s))
 unfolding resultOf pick
-acted h = record { says = refl; deep = h }
+acted h = record { says = refl; held = h }
 
-pub denied : {s : State} {n : ℕ} → 0 < n → s .depth ≤ 16 → Acts (record { number = n; state = s }) (bad n)
+pub denied : {s : State} {n : ℕ} → 0 < n → Held s → Acts (record { number = n; state = s }) (bad n)
 unfolding resultOf
-denied {s} {n} l h = record { says = if-ne n 0 (good (runOf s)) (bad n) (λ e. omega arith); deep = h }
+denied {s} {n} l h = record { says = if-ne n 0 (good (runOf s)) (bad n) (λ e. omega arith); held = h }
+
+-- ---- states stored
+
+stored-length : (ks : List Kept) (n : ℕ) → length (storedOf ks n) ≡ n
+unfolding storedOf
+stored-length ks zero = refl
+stored-length ks (suc n) = ap suc (stored-length ks n)
+
+-- one that is stored above leaves the others
+stored-below : (ks : List Kept) (k : Kept) (d n : ℕ) → n ≤ d → storedOf (set ks d k) n ≡ storedOf ks n
+unfolding storedOf
+stored-below ks k d zero h = refl
+stored-below ks k d (suc n) h = rw (getD-set-other ks d n k nothing (λ e. omega arith), stored-below ks k d n (omega arith))
+
+stored-more : (ks : List Kept) (k : Kept) (d : ℕ) → d < length ks → storedOf (set ks d k) (suc d) ≡ keptOf k ∷ storedOf ks d
+unfolding storedOf
+stored-more ks k d h = rw (getD-set-same ks d k nothing h, stored-below ks k d d (omega arith))
+
+module _ (s : State) (h : Held s) where
+  pub full : 16 ≤ s .depth → Acts (record { number = 68; state = s }) (remember (runOf s))
+  unfolding remember runOf
+  full l =
+      let e : 16 < suc (length (storedOf (s .stored) (s .depth))) = rw stored-length (omega arith) in
+      rw (if-gt (suc (length (storedOf (s .stored) (s .depth)))) 16 _ _ e) (denied (omega arith) h)
+
+  pub remembered : s .depth < 16
+      → Acts
+      (record {
+        number = 0;
+        state =
+            record {
+              frame = s .frame;
+              rule = s .rule;
+              signing = s .signing;
+              depth = s .depth + 1;
+              stored = set (s .stored) (s .depth) (record { frame = s .frame; rule = s .rule });
+            };
+      })
+      (remember (runOf s))
+  unfolding remember runOf keptOf
+  remembered l =
+      let k : Kept = record { frame = s .frame; rule = s .rule } in
+      let e : length (storedOf (s .stored) (s .depth)) < 16 = rw stored-length l in
+      rw (if-le (suc (length (storedOf (s .stored) (s .depth)))) 16 _ _ e, ← stored-more (s .stored) k (s .depth) (omega arith), ← add-one (s .depth))
+      (acted (record { deep = omega arith; long = length-set (s .stored) (s .depth) k ∙ h .long }))
+
+  pub empty : s .depth ≡ 0 → Acts (record { number = 67; state = s }) (recall (runOf s .stored) (runOf s))
+  unfolding recall runOf storedOf
+  empty e = rw e (denied (omega arith) (record { deep = omega arith; long = h .long }))
+
+  pub recalled : 0 < s .depth
+      → Acts
+      (record {
+        number = 0;
+        state =
+            record {
+              frame = getD (s .stored) (s .depth - 1) nothing .frame;
+              rule = getD (s .stored) (s .depth - 1) nothing .rule;
+              signing = s .signing;
+              depth = s .depth - 1;
+              stored = s .stored;
+            };
+      })
+      (recall (runOf s .stored) (runOf s))
+  unfolding recall runOf storedOf keptOf
+  recalled l =
+      let e : s .depth ≡ suc (s .depth - 1) = omega arith in
+      let f : storedOf (s .stored) (s .depth) ≡ keptOf (getD (s .stored) (s .depth - 1) nothing) ∷ storedOf (s .stored) (s .depth - 1) = ap (storedOf (s .stored)) e in
+      rw f (acted (record { deep = omega (arith, h .deep); long = h .long }))

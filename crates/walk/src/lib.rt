@@ -1,9 +1,8 @@
 // The walk over the operations of a header and a record: questions 66 to 69 of the reader, which rucc-asm/src/unwind.rs of tamnd/rucc does not have.
 ghost use mathlib.Core.Path.{_≡_};
-ghost use Prim.Native.Nat.{_≤_};
-ghost use Rattle.format.specs.Test.{good};
+ghost use Rattle.format.specs.Test.{pick, good, bad};
 ghost use Rattle.format.specs.Rules.{start, setFrame, setRule, changeOffset, changeRegister, remember, recall};
-ghost use Rattle.walk.specs.States.{runOf, Acts};
+ghost use Rattle.walk.specs.States.{Held, runOf, negated, Acts};
 use format::Frame;
 use format::Row;
 use format::Rule;
@@ -32,7 +31,7 @@ pub struct Acted {
 }
 
 fn start() -> State
-    ensures { λ r. ⌜ (runOf r ≡ start) × (r .depth ≤ 16) ⌝ }
+    ensures { λ r. ⌜ (runOf r ≡ start) × Held r ⌝ }
 {
     let none = Kept {
         frame: Frame::Unset,
@@ -52,7 +51,7 @@ fn start() -> State
 
 // Another frame address rule.
 fn set_frame(s: State, frame: Frame) -> Acted
-    requires { ⌜ s .depth ≤ 16 ⌝ }
+    requires { ⌜ Held s ⌝ }
     ensures { λ r. ⌜ Acts r (good (setFrame frame (runOf s))) ⌝ }
 {
     let rule = s.rule;
@@ -69,7 +68,7 @@ fn set_frame(s: State, frame: Frame) -> Acted
 
 // Another rule of register reg, which counts where it is the followed one.
 fn set_rule(s: State, q: u16, reg: u16, rule: Rule) -> Acted
-    requires { ⌜ s .depth ≤ 16 ⌝ }
+    requires { ⌜ Held s ⌝ }
     ensures { λ r. ⌜ Acts r (good (setRule q reg rule (runOf s))) ⌝ }
 {
     if q != reg {
@@ -89,7 +88,7 @@ fn set_rule(s: State, q: u16, reg: u16, rule: Rule) -> Acted
 
 // Question 69: a frame address rule whose offset, or register, is another now.
 fn change_offset(s: State, z: i64) -> Acted
-    requires { ⌜ s .depth ≤ 16 ⌝ }
+    requires { ⌜ Held s ⌝ }
     ensures { λ r. ⌜ Acts r (changeOffset z (s .frame) (runOf s)) ⌝ }
 {
     let frame = s.frame;
@@ -100,7 +99,7 @@ fn change_offset(s: State, z: i64) -> Acted
 }
 
 fn change_register(s: State, reg: u16) -> Acted
-    requires { ⌜ s .depth ≤ 16 ⌝ }
+    requires { ⌜ Held s ⌝ }
     ensures { λ r. ⌜ Acts r (changeRegister reg (s .frame) (runOf s)) ⌝ }
 {
     let frame = s.frame;
@@ -108,4 +107,73 @@ fn change_register(s: State, reg: u16) -> Acted
         return Acted { number: 69, state: s };
     };
     set_frame(s, Frame::Register(reg, z))
+}
+
+// Question 67: no Restore in a header.
+fn restore(header: bool, s: State, q: u16, reg: u16, initial: Rule) -> Acted
+    requires { ⌜ Held s ⌝ }
+    ensures { λ r. ⌜ Acts r (pick header (bad 67) (good (setRule q reg initial (runOf s)))) ⌝ }
+{
+    if header {
+        return Acted { number: 67, state: s };
+    }
+    set_rule(s, q, reg, initial)
+}
+
+// Question 68: at most 16 stored.
+fn remember(s: State) -> Acted
+    requires { ⌜ Held s ⌝ }
+    ensures { λ r. ⌜ Acts r (remember (runOf s)) ⌝ }
+{
+    let depth = s.depth;
+    if 16 <= depth {
+        return Acted { number: 68, state: s };
+    }
+    let frame = s.frame;
+    let rule = s.rule;
+    let kept = Kept { frame, rule };
+    let mut stored = s.stored;
+    stored[depth] = kept;
+    let state = State {
+        frame,
+        rule,
+        signing: s.signing,
+        depth: depth + 1,
+        stored,
+    };
+    Acted { number: 0, state }
+}
+
+// Question 67: a stored state for a RestoreState. The signing state runs on.
+fn recall(s: State) -> Acted
+    requires { ⌜ Held s ⌝ }
+    ensures { λ r. ⌜ Acts r (recall (runOf s .stored) (runOf s)) ⌝ }
+{
+    let depth = s.depth;
+    if depth == 0 {
+        return Acted { number: 67, state: s };
+    }
+    let last = depth - 1;
+    let stored = s.stored;
+    let kept = stored[last];
+    let frame = kept.frame;
+    let rule = kept.rule;
+    let state = State {
+        frame,
+        rule,
+        signing: s.signing,
+        depth: last,
+        stored,
+    };
+    Acted { number: 0, state }
+}
+
+// The other signing state.
+fn negate(s: State) -> Acted
+    requires { ⌜ Held s ⌝ }
+    ensures { λ r. ⌜ Acts r (good (negated (runOf s))) ⌝ }
+{
+    let mut state = s;
+    state.signing = !s.signing;
+    Acted { number: 0, state }
 }

@@ -1,6 +1,4 @@
 -- `walk::set_rule` meets its contract.
-use mathlib.Core.Path.{sym, ap}
-use Rattle.format.specs.Test.{good}
 use Rattle.format.specs.Rules.{setRule}
 use Rattle.format.proofs.Choice.{if-eq, if-ne}
 use Rattle.walk.specs.States.{runOf}

@@ -8,7 +8,7 @@ use Rattle.walk.proofs.start.Tie as tie
 
 returns : tie.Need-returns
 unfolding runOf storedOf start
-returns c = (refl, omega arith)
+returns c = (refl, record { deep = omega arith; long = refl })
 
 pub start-spec : {M : Type 1} → statement M
 start-spec = tie.close (tie.spec returns)
