@@ -1,7 +1,7 @@
 // The walk over the operations of a header and a record: questions 66 to 69 of the reader, which rucc-asm/src/unwind.rs of tamnd/rucc does not have.
 ghost use mathlib.Core.Path.{_≡_};
 ghost use Rattle.format.specs.Test.{pick, good, bad};
-ghost use Rattle.format.specs.Rules.{start, setFrame, setRule, changeOffset, changeRegister, remember, recall};
+ghost use Rattle.format.specs.Rules.{start, setFrame, setRule, changeOffset, changeRegister, remember, recall, act};
 ghost use Rattle.walk.specs.States.{Held, runOf, negated, Acts};
 use format::Frame;
 use format::Row;
@@ -176,4 +176,22 @@ fn negate(s: State) -> Acted
     let mut state = s;
     state.signing = !s.signing;
     Acted { number: 0, state }
+}
+
+// A row; `initial` is the followed register's rule after the header.
+fn act(header: bool, q: u16, initial: Rule, row: Row, s: State) -> Acted
+    requires { ⌜ Held s ⌝ }
+    ensures { λ r. ⌜ Acts r (act header q initial row (runOf s)) ⌝ }
+{
+    match row {
+        Row::DefCfa(reg, z) => set_frame(s, Frame::Register(reg, z)),
+        Row::DefCfaOffset(z) => change_offset(s, z),
+        Row::DefCfaRegister(reg) => change_register(s, reg),
+        Row::Offset(reg, z) => set_rule(s, q, reg, Rule::Saved(z)),
+        Row::Restore(reg) => restore(header, s, q, reg, initial),
+        Row::Undefined(reg) => set_rule(s, q, reg, Rule::Undefined),
+        Row::RememberState => remember(s),
+        Row::RestoreState => recall(s),
+        Row::NegateRaState => negate(s),
+    }
 }
