@@ -1,9 +1,20 @@
 // The walk over the operations of a header and a record: questions 66 to 69 of the reader, which rucc-asm/src/unwind.rs of tamnd/rucc does not have.
 ghost use mathlib.Core.Path.{_≡_};
-ghost use Rattle.format.specs.Test.{pick, good, bad};
-ghost use Rattle.format.specs.Rules.{start, setFrame, setRule, changeOffset, changeRegister, remember, recall, act};
+ghost use mathlib.Core.Bool.{true, false};
+ghost use Prim.Native.Nat.{_≤_};
+ghost use lib.ListN.{length};
+ghost use lib.Dec.{T};
+ghost use Rattle.format.specs.Test.{pick, good, bad, onward};
+ghost use Rattle.format.specs.Machine.{isWord};
+ghost use Rattle.format.specs.Reader.{walk};
+ghost use Rattle.format.specs.declared.Rule.the-variants as rule;
+ghost use Rattle.format.specs.Rules.{start, setFrame, setRule, changeOffset, changeRegister, remember, recall, act, answer};
+ghost use Rattle.walk.specs.Parts.{part};
 ghost use Rattle.walk.specs.States.{Held, runOf, negated, Acts};
+use format::Decoded;
 use format::Frame;
+use format::Operation;
+use format::Reading;
 use format::Row;
 use format::Rule;
 
@@ -72,7 +83,10 @@ fn set_rule(s: State, q: u16, reg: u16, rule: Rule) -> Acted
     ensures { λ r. ⌜ Acts r (good (setRule q reg rule (runOf s))) ⌝ }
 {
     if q != reg {
-        return Acted { number: 0, state: s };
+        return Acted {
+            number: 0,
+            state: s,
+        };
     }
     let frame = s.frame;
     let stored = s.stored;
@@ -93,7 +107,10 @@ fn change_offset(s: State, z: i64) -> Acted
 {
     let frame = s.frame;
     let Frame::Register(reg, _) = frame else {
-        return Acted { number: 69, state: s };
+        return Acted {
+            number: 69,
+            state: s,
+        };
     };
     set_frame(s, Frame::Register(reg, z))
 }
@@ -104,7 +121,10 @@ fn change_register(s: State, reg: u16) -> Acted
 {
     let frame = s.frame;
     let Frame::Register(_, z) = frame else {
-        return Acted { number: 69, state: s };
+        return Acted {
+            number: 69,
+            state: s,
+        };
     };
     set_frame(s, Frame::Register(reg, z))
 }
@@ -115,7 +135,10 @@ fn restore(header: bool, s: State, q: u16, reg: u16, initial: Rule) -> Acted
     ensures { λ r. ⌜ Acts r (pick header (bad 67) (good (setRule q reg initial (runOf s)))) ⌝ }
 {
     if header {
-        return Acted { number: 67, state: s };
+        return Acted {
+            number: 67,
+            state: s,
+        };
     }
     set_rule(s, q, reg, initial)
 }
@@ -127,7 +150,10 @@ fn remember(s: State) -> Acted
 {
     let depth = s.depth;
     if 16 <= depth {
-        return Acted { number: 68, state: s };
+        return Acted {
+            number: 68,
+            state: s,
+        };
     }
     let frame = s.frame;
     let rule = s.rule;
@@ -151,7 +177,10 @@ fn recall(s: State) -> Acted
 {
     let depth = s.depth;
     if depth == 0 {
-        return Acted { number: 67, state: s };
+        return Acted {
+            number: 67,
+            state: s,
+        };
     }
     let last = depth - 1;
     let stored = s.stored;
@@ -194,4 +223,65 @@ fn act(header: bool, q: u16, initial: Rule, row: Row, s: State) -> Acted
         Row::RestoreState => recall(s),
         Row::NegateRaState => negate(s),
     }
+}
+
+// ---- the operations of two entries
+
+// The header's operations and then the record's, for register q, until a step would pass p.
+pub fn walk(
+    s: &[u8],
+    header: usize,
+    header_end: usize,
+    record: usize,
+    record_end: usize,
+    word: u64,
+    p: u64,
+    q: u16,
+) -> Reading
+    requires { ⌜ T (isWord word) × (header ≤ «header_end») × («header_end» ≤ length (now s)) × («record» ≤ «record_end») × («record_end» ≤ length (now s)) ⌝ }
+    ensures { λ r. ⌜ r ≡ answer (onward (walk true word p q rule.Unstated start (part (now (s .entry)) header «header_end»)) λ t. walk false word p q (t .rule) t (part (now (s .entry)) «record» «record_end»)) ⌝ }
+{
+    let mut state = start();
+    let mut left: usize = 2;
+    let mut from = header;
+    let mut to = header_end;
+    'records: while left != 0 {
+        let ops = &s[from..to];
+        let first = left == 2;
+        let initial = state.rule;
+        left -= 1;
+        from = record;
+        to = record_end;
+        let mut loc = 0;
+        let mut at = 0;
+        'operations: while at < ops.len() {
+            let Decoded::Operation(op, next) = rows::operation(ops, at, word) else {
+                return Reading::Refused(66);
+            };
+            at = next;
+            match op {
+                Operation::Nop => continue 'operations,
+                Operation::Step(n) => {
+                    if first {
+                        return Reading::Refused(66);
+                    }
+                    if p - loc < n {
+                        continue 'records;
+                    }
+                    loc += n;
+                    continue 'operations;
+                }
+                Operation::Does(row) => {
+                    let acted = act(first, q, initial, row, state);
+                    if acted.number != 0 {
+                        return Reading::Refused(acted.number);
+                    }
+                    state = acted.state;
+                }
+            }
+        }
+    }
+    let frame = state.frame;
+    let rule = state.rule;
+    Reading::Rules(frame, rule, state.signing)
 }
