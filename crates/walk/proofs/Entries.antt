@@ -43,14 +43,11 @@ unfolding pick
 picked true s x y u v = refl
 picked false s x y u v = refl
 
-ordered : (b : Bool) {x y u v n : ℕ} → x ≤ y → y ≤ n → u ≤ v → v ≤ n → (pick b x u ≤ pick b y v) × (pick b y v ≤ n)
-unfolding pick
-ordered true a b c d = (a, b)
-ordered false a b c d = (c, d)
-
 -- between two entries: the next one is at `from` up to `to`
 pub record Between (whole : Reading) (word p q : ℕ) (s : List ℕ) (x y u v left from to : ℕ) (state : State) : Type 0 where
   pub high : left ≤ 2
+  pub forward : from ≤ to
+  pub inside : to ≤ length s
   pub starts : from ≡ pick (eqb left 2) x u
   pub ends : to ≡ pick (eqb left 2) y v
   pub held : Held state
@@ -61,14 +58,12 @@ abbrev pub both : (word p q : ℕ) (s : List ℕ) (x y u v : ℕ) → Reading
 both word p q s x y u v = answer (onward (walk true word p q rule.Unstated start (part s x y)) λ t. walk false word p q (t .rule) t (part s u v))
 
 module _ {word p q : ℕ} {s : List ℕ} {x y u v : ℕ} where
-  pub begin : {state : State} → runOf state ≡ start → Held state → Between (both word p q s x y u v) word p q s x y u v 2 x y state
+  pub begin : {state : State} → x ≤ y → y ≤ length s → runOf state ≡ start → Held state
+      → Between (both word p q s x y u v) word p q s x y u v 2 x y state
   unfolding pick remaining start
-  begin e h = record { high = omega arith; starts = refl; ends = refl; held = h; rest = rw e }
+  begin a b e h = record { high = omega arith; forward = a; inside = b; starts = refl; ends = refl; held = h; rest = rw e }
 
   module _ {whole : Reading} {left from to : ℕ} {state : State} (b : Between whole word p q s x y u v left from to state) where
-    pub bounds : x ≤ y → y ≤ length s → u ≤ v → v ≤ length s → (from ≤ to) × (to ≤ length s)
-    bounds h i j k = rw (b .starts, b .ends) (ordered (eqb left 2) h i j k)
-
     pub enter : (left ≡ 0 → ⊥) → Inside whole (eqb left 2) word p q (state .rule) (part s from to) (remaining word p q (part s x y) (part s u v) (left - 1)) 0 0 state
     unfolding walk runOf
     enter n =
@@ -83,11 +78,20 @@ module _ {word p q : ℕ} {s : List ℕ} {x y u v : ℕ} where
         }
 
     -- an entry is done
-    pub again : {after : State} → (left ≡ 0 → ⊥) → Held after → whole ≡ answer (remaining word p q (part s x y) (part s u v) (left - 1) (runOf after))
+    pub again : {after : State} → (left ≡ 0 → ⊥) → u ≤ v → v ≤ length s → Held after
+        → whole ≡ answer (remaining word p q (part s x y) (part s u v) (left - 1) (runOf after))
         → Between whole word p q s x y u v (left - 1) u v after
-    again n h e =
-        let m : left - 1 ≡ 2 → ⊥ = λ f. omega (arith, b .high) in
-        record { high = omega (arith, b .high); starts = sym (if-ne (left - 1) 2 x u m); ends = sym (if-ne (left - 1) 2 y v m); held = h; rest = e }
+    again n f i h e =
+        let m : left - 1 ≡ 2 → ⊥ = λ g. omega (arith, b .high) in
+        record {
+          high = omega (arith, b .high);
+          forward = f;
+          inside = i;
+          starts = sym (if-ne (left - 1) 2 x u m);
+          ends = sym (if-ne (left - 1) 2 y v m);
+          held = h;
+          rest = e;
+        }
 
     pub ended : left ≡ 0 → Rules (state .frame) (state .rule) (state .signing) ≡ whole
     unfolding remaining answer runOf

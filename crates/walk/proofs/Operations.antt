@@ -102,6 +102,10 @@ module _ {whole : Reading} {header : Bool} {word p q : ℕ} {initial : Rule} {op
         (reading header word p q initial (drop at ops) (drop next ops) op loc (runOf state) (operation-rest word ops at e)
         (omega (arith, length-drop at ops, length-drop next ops, operation-ahead word ops at e)))
 
+    -- less is left
+    pub shorter : length ops - next < length ops - at
+    shorter = omega (arith, operation-ahead word ops at e)
+
     pub padding : op ≡ Nop → Inside whole header word p q initial ops k next loc state
     unfolding perform
     padding o = record { near = i .near; held = i .held; rest = rw o at opened }

@@ -8,6 +8,7 @@ ghost use Rattle.format.specs.Test.{pick, good, bad, onward};
 ghost use Rattle.format.specs.Machine.{isWord};
 ghost use Rattle.format.specs.Reader.{walk};
 ghost use Rattle.format.specs.declared.Rule.the-variants as rule;
+ghost use Rattle.format.specs.declared.Reading.the-variants as reading;
 ghost use Rattle.format.specs.Rules.{start, setFrame, setRule, changeOffset, changeRegister, remember, recall, act, answer};
 ghost use Rattle.walk.specs.Parts.{part};
 ghost use Rattle.walk.specs.States.{Held, runOf, negated, Acts};
@@ -225,6 +226,15 @@ fn act(header: bool, q: u16, initial: Rule, row: Row, s: State) -> Acted
     }
 }
 
+// What a state says of the followed register.
+fn answer(s: State) -> Reading
+    ensures { λ r. ⌜ r ≡ reading.Rules (s .frame) (s .rule) (s .signing) ⌝ }
+{
+    let frame = s.frame;
+    let rule = s.rule;
+    Reading::Rules(frame, rule, s.signing)
+}
+
 // ---- the operations of two entries
 
 // The header's operations and then the record's, for register q, until a step would pass p.
@@ -242,6 +252,7 @@ pub fn walk(
     ensures { λ r. ⌜ r ≡ answer (onward (walk true word p q rule.Unstated start (part (now (s .entry)) header «header_end»)) λ t. walk false word p q (t .rule) t (part (now (s .entry)) «record» «record_end»)) ⌝ }
 {
     let mut state = start();
+    // The entries that are left, and where the next one is.
     let mut left: usize = 2;
     let mut from = header;
     let mut to = header_end;
@@ -281,7 +292,5 @@ pub fn walk(
             }
         }
     }
-    let frame = state.frame;
-    let rule = state.rule;
-    Reading::Rules(frame, rule, state.signing)
+    answer(state)
 }

@@ -1,14 +1,12 @@
 -- `walk::walk` meets its contract.
 use mathlib.Core.Path.{sym, _∙_}
 use Prim.Native.Nat.{_-_}
-use native.Mathlib.Omega.{arith}
 use borrow.Author.Needs.{needs}
 use lib.ListN.{length}
 use Rattle.format.proofs.FieldsBack.{word-small}
-use Rattle.format.proofs.OperationLaws.{operation-ahead}
 use Rattle.walk.specs.Parts.{part}
-use Rattle.walk.proofs.Operations.{Inside, bad-operation, all-done, padding, bad-step, far-step, near-step, bad-row, good-row}
-use Rattle.walk.proofs.Entries.{remaining, Between, both, begin, bounds, enter, again, ended}
+use Rattle.walk.proofs.Operations.{Inside, bad-operation, all-done, shorter, padding, bad-step, far-step, near-step, bad-row, good-row}
+use Rattle.walk.proofs.Entries.{remaining, Between, both, begin, enter, again, ended}
 use Rattle.walk.proofs.walk.Statement.{statement}
 use Rattle.walk.proofs.walk.Tie as tie
 
@@ -31,16 +29,16 @@ start-requires : tie.Need-start-requires Inv-operations μ-operations Inv-record
 start-requires c κs = search needs
 
 records-holds : tie.Need-records-holds Inv-operations μ-operations Inv-records μ-records
-records-holds c = begin (c .start .ensures .0) (c .start .ensures .1)
+records-holds c = begin (c .before .before .pre .1) (c .before .before .pre .2) (c .start .ensures .0) (c .start .ensures .1)
 
 sub-ops : tie.Need-sub-ops Inv-operations μ-operations Inv-records μ-records
-sub-ops c = bounds (c .before .records .inv) (c .before .before .before .before .pre .1) (c .before .before .before .before .pre .2) (c .before .before .before .before .pre .3) (c .before .before .before .before .pre .4) .0
+sub-ops c = search needs
 
 part-ops-start : tie.Need-part-ops-start Inv-operations μ-operations Inv-records μ-records
-part-ops-start c = bounds (c .before .records .inv) (c .before .before .before .before .pre .1) (c .before .before .before .before .pre .2) (c .before .before .before .before .pre .3) (c .before .before .before .before .pre .4) .0
+part-ops-start c = search needs
 
 part-ops-end : tie.Need-part-ops-end Inv-operations μ-operations Inv-records μ-records
-part-ops-end c = bounds (c .before .records .inv) (c .before .before .before .before .pre .1) (c .before .before .before .before .pre .2) (c .before .before .before .before .pre .3) (c .before .before .before .before .pre .4) .1
+part-ops-end c = search needs
 
 sub-left : tie.Need-sub-left Inv-operations μ-operations Inv-records μ-records
 sub-left c = search needs
@@ -52,7 +50,7 @@ records-less : tie.Need-records-less Inv-operations μ-operations Inv-records μ
 records-less c = search needs
 
 records-again : tie.Need-records-again Inv-operations μ-operations Inv-records μ-records
-records-again c = again (c .before .before .before .before .records .inv) (c .before .before .before .records-test .taken) (c .before .operations .inv .held) (all-done (c .before .operations .inv) (c .operations-test .left))
+records-again c = again (c .before .before .before .before .records .inv) (c .before .before .before .records-test .taken) (c .before .before .before .before .before .before .before .pre .3) (c .before .before .before .before .before .before .before .pre .4) (c .before .operations .inv .held) (all-done (c .before .operations .inv) (c .operations-test .left))
 
 operation-requires : tie.Need-operation-requires Inv-operations μ-operations Inv-records μ-records
 operation-requires c κs = word-small (c .before .before .before .before .before .before .before .args .word) (c .before .before .before .before .before .before .before .pre .0) .0
@@ -70,7 +68,7 @@ enum-told-2 : tie.Need-enum-told-2 Inv-operations μ-operations Inv-records μ-r
 enum-told-2 c = search needs
 
 operations-less : tie.Need-operations-less Inv-operations μ-operations Inv-records μ-records
-operations-less c = omega (arith, operation-ahead (c .before .before .before .before .before .before .before .before .before .before .before .before .before .args .word) (part (c .before .before .before .before .before .before .before .before .before .before .before .before .before .args .s .now) (c .before .before .before .before .before .before .before .before .before .before .records .from) (c .before .before .before .before .before .before .before .before .before .before .records .to)) (c .before .before .before .before .before .before .before .operations .at) (sym (c .before .before .before .before .before .operation .ensures) ∙ c .before .before .before .op .given .1))
+operations-less c = shorter (c .before .before .before .before .before .before .before .operations .inv) (sym (c .before .before .before .before .before .operation .ensures) ∙ c .before .before .before .op .given .1)
 
 operations-again : tie.Need-operations-again Inv-operations μ-operations Inv-records μ-records
 operations-again c = padding (c .before .before .before .before .before .before .before .operations .inv) (sym (c .before .before .before .before .before .operation .ensures) ∙ c .before .before .before .op .given .1) (c .enum-told2 .given .1)
@@ -88,13 +86,13 @@ records-less-2 : tie.Need-records-less-2 Inv-operations μ-operations Inv-record
 records-less-2 c = search needs
 
 records-again-2 : tie.Need-records-again-2 Inv-operations μ-operations Inv-records μ-records
-records-again-2 c = again (c .before .before .before .before .before .before .before .before .before .before .before .before .before .records .inv) (c .before .before .before .before .before .before .before .before .before .before .before .before .records-test .taken) (c .before .before .before .before .before .before .before .before .before .before .operations .inv .held) (far-step (c .before .before .before .before .before .before .before .before .before .before .operations .inv) (sym (c .before .before .before .before .before .before .before .before .operation .ensures) ∙ c .before .before .before .before .before .before .op .given .1) (c .before .before .before .op2 .given .1) (c .before .if1 .left) (c .if2 .taken))
+records-again-2 c = again (c .before .before .before .before .before .before .before .before .before .before .before .before .before .records .inv) (c .before .before .before .before .before .before .before .before .before .before .before .before .records-test .taken) (c .before .before .before .before .before .before .before .before .before .before .before .before .before .before .before .before .pre .3) (c .before .before .before .before .before .before .before .before .before .before .before .before .before .before .before .before .pre .4) (c .before .before .before .before .before .before .before .before .before .before .operations .inv .held) (far-step (c .before .before .before .before .before .before .before .before .before .before .operations .inv) (sym (c .before .before .before .before .before .before .before .before .operation .ensures) ∙ c .before .before .before .before .before .before .op .given .1) (c .before .before .before .op2 .given .1) (c .before .if1 .left) (c .if2 .taken))
 
 add-loc : tie.Need-add-loc Inv-operations μ-operations Inv-records μ-records
 add-loc c = search needs
 
 operations-less-2 : tie.Need-operations-less-2 Inv-operations μ-operations Inv-records μ-records
-operations-less-2 c = omega (arith, operation-ahead (c .before .before .before .before .before .before .before .before .before .before .before .before .before .before .before .before .args .word) (part (c .before .before .before .before .before .before .before .before .before .before .before .before .before .before .before .before .args .s .now) (c .before .before .before .before .before .before .before .before .before .before .before .before .before .records .from) (c .before .before .before .before .before .before .before .before .before .before .before .before .before .records .to)) (c .before .before .before .before .before .before .before .before .before .before .operations .at) (sym (c .before .before .before .before .before .before .before .before .operation .ensures) ∙ c .before .before .before .before .before .before .op .given .1))
+operations-less-2 c = shorter (c .before .before .before .before .before .before .before .before .before .before .operations .inv) (sym (c .before .before .before .before .before .before .before .before .operation .ensures) ∙ c .before .before .before .before .before .before .op .given .1)
 
 operations-again-2 : tie.Need-operations-again-2 Inv-operations μ-operations Inv-records μ-records
 operations-again-2 c = near-step (c .before .before .before .before .before .before .before .before .before .before .operations .inv) (sym (c .before .before .before .before .before .before .before .before .operation .ensures) ∙ c .before .before .before .before .before .before .op .given .1) (c .before .before .before .op2 .given .1) (c .before .if1 .left) (c .if2 .left)
@@ -109,13 +107,16 @@ returns-3 : tie.Need-returns-3 Inv-operations μ-operations Inv-records μ-recor
 returns-3 c = bad-row (c .before .before .before .before .before .before .before .before .before .before .before .operations .inv) (sym (c .before .before .before .before .before .before .before .before .before .operation .ensures) ∙ c .before .before .before .before .before .before .before .op .given .1) (c .before .before .before .before .op3 .given .1) (c .before .before .act .ensures) (c .if3 .taken)
 
 operations-less-3 : tie.Need-operations-less-3 Inv-operations μ-operations Inv-records μ-records
-operations-less-3 c = omega (arith, operation-ahead (c .before .before .before .before .before .before .before .before .before .before .before .before .before .before .before .before .before .before .args .word) (part (c .before .before .before .before .before .before .before .before .before .before .before .before .before .before .before .before .before .before .args .s .now) (c .before .before .before .before .before .before .before .before .before .before .before .before .before .before .before .records .from) (c .before .before .before .before .before .before .before .before .before .before .before .before .before .before .before .records .to)) (c .before .before .before .before .before .before .before .before .before .before .before .before .operations .at) (sym (c .before .before .before .before .before .before .before .before .before .before .operation .ensures) ∙ c .before .before .before .before .before .before .before .before .op .given .1))
+operations-less-3 c = shorter (c .before .before .before .before .before .before .before .before .before .before .before .before .operations .inv) (sym (c .before .before .before .before .before .before .before .before .before .before .operation .ensures) ∙ c .before .before .before .before .before .before .before .before .op .given .1)
 
 operations-again-3 : tie.Need-operations-again-3 Inv-operations μ-operations Inv-records μ-records
 operations-again-3 c = good-row (c .before .before .before .before .before .before .before .before .before .before .before .before .operations .inv) (sym (c .before .before .before .before .before .before .before .before .before .before .operation .ensures) ∙ c .before .before .before .before .before .before .before .before .op .given .1) (c .before .before .before .before .before .op3 .given .1) (c .before .before .before .act .ensures) (c .before .if3 .left)
 
+answer-requires : tie.Need-answer-requires Inv-operations μ-operations Inv-records μ-records
+answer-requires c κs = search needs
+
 returns-4 : tie.Need-returns-4 Inv-operations μ-operations Inv-records μ-records
-returns-4 c = ended (c .before .records .inv) (c .records-test .left)
+returns-4 c = c .answer .ensures ∙ ended (c .before .before .records .inv) (c .before .records-test .left)
 
 pub walk-spec : {M : Type 1} → statement M
 walk-spec =
@@ -154,4 +155,5 @@ walk-spec =
     returns-3
     operations-less-3
     operations-again-3
+    answer-requires
     returns-4)
