@@ -3,11 +3,11 @@ use mathlib.Core.Path.{_≡_, refl, ap, _∙_}
 use Prim.Native.Nat.{ℕ, zero, suc, _+_, _-_, _≤_, _<_}
 use native.Mathlib.Omega.{arith}
 use native.Mathlib.Numerals.{add-one}
-use mathlib.Core.List.{List, [], _∷_}
+use mathlib.Core.List.{List, _∷_}
 use lib.ListN.{length, getD, set, length-set}
 use lib.Seq.{getD-set-same, getD-set-other}
-use Rattle.format.specs.Test.{pick, Result, good, bad}
-use Rattle.format.specs.Rules.{Run, remember, recall}
+use Rattle.format.specs.Test.{pick, good, bad}
+use Rattle.format.specs.Rules.{remember, recall}
 use Rattle.format.proofs.Choice.{if-le, if-gt, if-ne}
 use Rattle.walk.specs.declared.Kept.{Kept}
 use Rattle.walk.specs.declared.State.{State}

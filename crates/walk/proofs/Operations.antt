@@ -1,5 +1,5 @@
 -- A walk over the operations of one entry: at each operation, what is left of the entry decides.
-use mathlib.Core.Path.{_≡_, refl, sym, ap, _∙_}
+use mathlib.Core.Path.{_≡_, refl, sym, _∙_}
 use Prim.Native.Nat.{ℕ, zero, suc, _+_, _-_, _≤_, _<_}
 use native.Mathlib.Omega.{arith}
 use native.Mathlib.Nat.{le-refl}
@@ -7,7 +7,6 @@ use mathlib.Core.Bool.{Bool, true, false}
 use mathlib.Core.Option.{none, some}
 use mathlib.Core.List.{List, [], _∷_}
 use lib.ListN.{length, drop, length-drop, drop-of-length-le}
-use lib.Dec.{leb}
 use Rattle.format.specs.Test.{pick, Read, Result, good, bad, onward}
 use Rattle.format.specs.declared.Row.{Row}
 use Rattle.format.specs.declared.Rule.{Rule}
