@@ -1,6 +1,6 @@
 -- One row of the row check: it may lead where it does, and it is in order.
 use mathlib.Core.Path.{_≡_, refl, sym, ap, _∙_}
-use Prim.Native.Nat.{ℕ, zero, suc, _+_, _-_, _≤_, _<_}
+use Prim.Native.Nat.{ℕ, suc, _+_, _-_, _≤_, _<_}
 use native.Mathlib.Omega.{arith}
 use native.Mathlib.Numerals.{add-one}
 use mathlib.Core.Bool.{Bool, true, false, not, _&&_, and-true, and-false, and-assoc}
@@ -12,7 +12,7 @@ use borrow.Author.Tests.{le-leb, lt-leb}
 use Rattle.format.specs.Test.{pick, all}
 use Rattle.format.specs.declared.Row.{Row}
 use Rattle.format.specs.declared.Row.the-variants.{RememberState, RestoreState}
-use Rattle.format.specs.Rows.{Line, kindOf}
+use Rattle.format.specs.Rows.{kindOf}
 use Rattle.format.specs.Headers.{leads, ahead}
 use Rattle.format.specs.RowCheck.{mayLead, inOrder, rowsOf}
 use Rattle.rules.specs.declared.Order.{Order}
@@ -108,7 +108,8 @@ module _ (o : Order) (first : Bool) (h : Held o) where
   unfolding passing kindOf inOrder opened
   full l =
       let e : ltb (length opened) 16 ≡ false = lt-leb (suc (length opened)) 16 (omega (arith, full-length)) in
-      decided o first RememberState (passing false o false (o .framed)) false (sym (and-false first)) (rw and-false) (λ rs. rw e) h
+      decided o first RememberState (passing false o false (o .framed)) false (sym (and-false first))
+      (sym (and-false (pick (stillLeads first RememberState) (mayLead RememberState) true))) (λ rs. rw e) h
 
   pub remembered : o .depth < 16
       → Steps o first RememberState
@@ -123,7 +124,9 @@ module _ (o : Order) (first : Bool) (h : Held o) where
   -- a RestoreState, where none is open and where one is
   pub none-open : o .depth ≡ 0 → Steps o first RestoreState (passing false o first (o .framed))
   unfolding passing kindOf inOrder openOf
-  none-open e = decided o first RestoreState (passing false o first (o .framed)) false (sym (and-true first)) (rw and-false) (λ rs. rw e) h
+  none-open e =
+      decided o first RestoreState (passing false o first (o .framed)) false (sym (and-true first))
+      (sym (and-false (pick (stillLeads first RestoreState) (mayLead RestoreState) true))) (λ rs. rw e) h
 
   pub restored : 0 < o .depth
       → Steps o first RestoreState

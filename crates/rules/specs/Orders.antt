@@ -18,6 +18,7 @@ pub record Room (depth : ℕ) (marks : List Bool) : Type 0 where
   pub deep : depth ≤ 16
   pub long : length marks ≡ 16
 
+-- the places of a state
 abbrev pub Held : Order → Type 0
 Held o = Room (o .depth) (o .marks)
 

@@ -1,17 +1,19 @@
 -- What a row does to a state, by what it does to the run that the state means.
 use mathlib.Core.Path.{_≡_, refl, ap, _∙_}
-use Prim.Native.Nat.{ℕ, zero, suc, _+_, _-_, _≤_, _<_}
+use Prim.Native.Nat.{ℕ, suc, _+_, _-_, _≤_, _<_}
 use native.Mathlib.Omega.{arith}
 use native.Mathlib.Numerals.{add-one}
-use mathlib.Core.List.{List, _∷_}
-use lib.ListN.{length, getD, set, length-set}
-use lib.Seq.{getD-set-same, getD-set-other}
+use mathlib.Core.List.{List, _∷_, reverse-append}
+use lib.ListN.{length, getD, set, length-set, length-take, length-map, length-reverse}
+use lib.Seq.{take-suc, take-suc-set}
 use Rattle.format.specs.Test.{pick, good, bad}
+use Rattle.format.specs.declared.Frame.the-variants.{Unset}
+use Rattle.format.specs.declared.Rule.the-variants.{Unstated}
 use Rattle.format.specs.Rules.{remember, recall}
 use Rattle.format.proofs.Choice.{if-le, if-gt, if-ne}
 use Rattle.walk.specs.declared.Kept.{Kept}
 use Rattle.walk.specs.declared.State.{State}
-use Rattle.walk.specs.States.{Held, keptOf, nothing, storedOf, runOf, resultOf, Acts}
+use Rattle.walk.specs.States.{Held, keptOf, storedOf, runOf, resultOf, Acts}
 
 -- a row that is accepted, and one that is refused
 pub acted : {s : State} → Held s → Acts (record { number = 0; state = s }) (good (runOf s))
@@ -24,26 +26,30 @@ denied {s} {n} l h = record { says = if-ne n 0 (good (runOf s)) (bad n) (λ e. o
 
 -- ---- states stored
 
-stored-length : (ks : List Kept) (n : ℕ) → length (storedOf ks n) ≡ n
-unfolding storedOf
-stored-length ks zero = refl
-stored-length ks (suc n) = ap suc (stored-length ks n)
+-- what stands in a place where nothing is stored
+abbrev pub nothing : Kept
+nothing = record { frame = Unset; rule = Unstated }
 
--- one that is stored above leaves the others
-stored-below : (ks : List Kept) (k : Kept) (d n : ℕ) → n ≤ d → storedOf (set ks d k) n ≡ storedOf ks n
+stored-length : (ks : List Kept) (n : ℕ) → n ≤ length ks → length (storedOf ks n) ≡ n
 unfolding storedOf
-stored-below ks k d zero h = refl
-stored-below ks k d (suc n) h = rw (getD-set-other ks d n k nothing (λ e. omega arith), stored-below ks k d n (omega arith))
+stored-length ks n h = simp (length-map, length-reverse, length-take) (omega arith)
 
-stored-more : (ks : List Kept) (k : Kept) (d : ℕ) → d < length ks → storedOf (set ks d k) (suc d) ≡ keptOf k ∷ storedOf ks d
+stored-more : (ks : List Kept) (k : Kept) (n : ℕ) → n < length ks → storedOf (set ks n k) (suc n) ≡ keptOf k ∷ storedOf ks n
 unfolding storedOf
-stored-more ks k d h = rw (getD-set-same ks d k nothing h, stored-below ks k d d (omega arith))
+stored-more ks k n h = rw (take-suc-set ks n k h, reverse-append)
+
+stored-last : (ks : List Kept) (n : ℕ) → n < length ks → storedOf ks (suc n) ≡ keptOf (getD ks n nothing) ∷ storedOf ks n
+unfolding storedOf
+stored-last ks n h = rw (take-suc ks n nothing h, reverse-append)
 
 module _ (s : State) (h : Held s) where
+  room : s .depth ≤ length (s .stored)
+  room = omega (arith, h .deep, h .long)
+
   pub full : 16 ≤ s .depth → Acts (record { number = 68; state = s }) (remember (runOf s))
   unfolding remember runOf
   full l =
-      let e : 16 < suc (length (storedOf (s .stored) (s .depth))) = rw stored-length (omega arith) in
+      let e : 16 < suc (length (storedOf (s .stored) (s .depth))) = rw (stored-length (s .stored) (s .depth) room) (omega arith) in
       rw (if-gt (suc (length (storedOf (s .stored) (s .depth)))) 16 _ _ e) (denied (omega arith) h)
 
   pub remembered : s .depth < 16
@@ -63,7 +69,7 @@ module _ (s : State) (h : Held s) where
   unfolding remember runOf keptOf
   remembered l =
       let k : Kept = record { frame = s .frame; rule = s .rule } in
-      let e : length (storedOf (s .stored) (s .depth)) < 16 = rw stored-length l in
+      let e : length (storedOf (s .stored) (s .depth)) < 16 = rw (stored-length (s .stored) (s .depth) room) l in
       rw (if-le (suc (length (storedOf (s .stored) (s .depth)))) 16 _ _ e, ← stored-more (s .stored) k (s .depth) (omega arith), ← add-one (s .depth))
       (acted (record { deep = omega arith; long = length-set (s .stored) (s .depth) k ∙ h .long }))
 
@@ -88,5 +94,6 @@ module _ (s : State) (h : Held s) where
   unfolding recall runOf storedOf keptOf
   recalled l =
       let e : s .depth ≡ suc (s .depth - 1) = omega arith in
-      let f : storedOf (s .stored) (s .depth) ≡ keptOf (getD (s .stored) (s .depth - 1) nothing) ∷ storedOf (s .stored) (s .depth - 1) = ap (storedOf (s .stored)) e in
+      let f : storedOf (s .stored) (s .depth) ≡ keptOf (getD (s .stored) (s .depth - 1) nothing) ∷ storedOf (s .stored) (s .depth - 1) =
+      ap (storedOf (s .stored)) e ∙ stored-last (s .stored) (s .depth - 1) (omega (arith, h .deep, h .long)) in
       rw f (acted (record { deep = omega (arith, h .deep); long = h .long }))

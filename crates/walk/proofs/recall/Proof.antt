@@ -1,7 +1,6 @@
 -- `walk::recall` meets its contract.
 use native.Mathlib.Omega.{arith}
 use borrow.Author.Needs.{needs}
-use Rattle.walk.specs.States.{nothing}
 use Rattle.walk.proofs.Acting.{empty, recalled}
 use Rattle.walk.proofs.recall.Statement.{statement}
 use Rattle.walk.proofs.recall.Tie as tie
@@ -19,7 +18,6 @@ array-copy-out-kept : tie.Need-array-copy-out-kept
 array-copy-out-kept c = search needs
 
 returns-2 : tie.Need-returns-2
-unfolding nothing
 returns-2 c = recalled (c .before .before .before .args .s) (c .before .before .before .pre) (omega arith)
 
 pub recall-spec : {M : Type 1} → statement M
