@@ -1,0 +1,2 @@
+-- What the state of the row check means.
+pub mod Orders

@@ -1,0 +1,3 @@
+-- What the state of the walk means, and where its bytes are.
+pub mod Parts
+pub mod States
