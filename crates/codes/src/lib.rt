@@ -1,10 +1,13 @@
 // One x64 unwind code: its questions and its bytes. Ported from rucc-asm/src/unwind.rs (nodes, large, slot, describe) of tamnd/rucc, changed: see NOTICE.
 ghost use mathlib.Core.Path.{_≡_};
 ghost use mathlib.Core.Option.{none, some};
-ghost use Prim.Native.Nat.{_≤_};
+ghost use mathlib.Core.List.{_++_};
+ghost use Prim.Native.Nat.{_≤_, _<_};
+ghost use lib.ListN.{length};
 ghost use Rattle.format.specs.Test.{pick};
-ghost use Rattle.format.specs.X64.{size64, registerIn, allocNo, saveNo, operandNo, codeNo, frameOk, frameNo, frameOr};
-ghost use Rattle.codes.specs.Codes.{numberOf};
+ghost use Rattle.format.specs.Leb.{little};
+ghost use Rattle.format.specs.X64.{size64, registerIn, allocNo, saveNo, operandNo, codeNo, frameOk, frameNo, frameOr, node, allocBytes, slotBytes, saveBytes, codeBytes};
+ghost use Rattle.codes.specs.Codes.{Holds, numberOf, isNear, allocSize, saveSize};
 use format::Seh;
 
 // ---- the questions of a code: the number of a no, or 0
@@ -123,5 +126,144 @@ pub fn frame_or(b: u8, code: Seh) -> u8
         Seh::Alloc(_) => b,
         Seh::Frame(reg, z) => (reg + 16 * (size(z) / 16)) as u8,
         Seh::Save(_, _, _) => b,
+    }
+}
+
+// ---- the bytes of a code
+
+// A code's bytes, the first `count` of six.
+pub struct Code {
+    pub bytes: [u8; 6],
+    pub count: usize,
+}
+
+// An operation with its info, and v behind it as a field of n bytes.
+fn form(at: u8, op: u8, info: u8, n: usize, v: u64) -> Code
+    requires { ⌜ (op < 16) × (info < 16) × (n ≤ 4) ⌝ }
+    ensures { λ r. ⌜ Holds r (node at op info ++ little n v) ⌝ }
+{
+    let b = v / 256;
+    let c = b / 256;
+    let d = c / 256;
+    Code {
+        bytes: [
+            at,
+            op + 16 * info,
+            (v % 256) as u8,
+            (b % 256) as u8,
+            (c % 256) as u8,
+            (d % 256) as u8,
+        ],
+        count: 2 + n,
+    }
+}
+
+// An allocation above 128 bytes.
+fn large(at: u8, size: u64) -> Code
+    requires { ⌜ 128 < size ⌝ }
+    ensures { λ r. ⌜ Holds r (allocBytes at size) ⌝ }
+{
+    if size / 8 < 65536 {
+        return form(at, 1, 0, 2, size / 8);
+    }
+    form(at, 1, 1, 4, size)
+}
+
+fn alloc(at: u8, size: u64) -> Code
+    requires { ⌜ 8 ≤ size ⌝ }
+    ensures { λ r. ⌜ Holds r (allocBytes at size) ⌝ }
+{
+    if size <= 128 {
+        return form(at, 2, (size / 8 - 1) as u8, 0, 0);
+    }
+    large(at, size)
+}
+
+// A distance that the near form of a save counts, in units.
+fn is_near(unit: u64, above: u64) -> bool
+    requires { ⌜ 0 < unit ⌝ }
+    ensures { λ r. ⌜ r ≡ isNear unit above ⌝ }
+{
+    if above % unit != 0 {
+        return false;
+    }
+    above / unit < 65536
+}
+
+// A save by its near operation, or by the far one, which is the next.
+fn slot_in(near: u8, unit: u64, at: u8, reg: u8, above: u64) -> Code
+    requires { ⌜ (near < 15) × (0 < unit) × (reg < 16) ⌝ }
+    ensures { λ r. ⌜ Holds r (slotBytes near unit at reg above) ⌝ }
+{
+    if is_near(unit, above) {
+        return form(at, near, reg, 2, above / unit);
+    }
+    form(at, near + 1, reg, 4, above)
+}
+
+fn slot(at: u8, reg: u8, vector: bool, above: u64) -> Code
+    requires { ⌜ reg < 16 ⌝ }
+    ensures { λ r. ⌜ Holds r (saveBytes vector at reg above) ⌝ }
+{
+    if vector {
+        return slot_in(8, 16, at, reg, above);
+    }
+    slot_in(4, 8, at, reg, above)
+}
+
+// One code, as the nodes that say it.
+pub fn nodes(at: u64, code: Seh) -> Code
+    requires { ⌜ codeNo (at, code) ≡ none ⌝ }
+    ensures { λ r. ⌜ Holds r (codeBytes at code) ⌝ }
+{
+    let a = at as u8;
+    match code {
+        Seh::Push(reg) => form(a, 0, reg as u8, 0, 0),
+        Seh::Alloc(z) => alloc(a, size(z)),
+        Seh::Frame(_, _) => form(a, 3, 0, 0, 0),
+        Seh::Save(reg, vector, z) => slot(a, reg as u8, vector, size(z)),
+    }
+}
+
+// How many bytes the nodes of a code have.
+fn alloc_size(size: u64) -> usize
+    ensures { λ r. ⌜ r ≡ allocSize size ⌝ }
+{
+    if size <= 128 {
+        return 2;
+    }
+    if size / 8 < 65536 {
+        return 4;
+    }
+    6
+}
+
+fn slot_size(unit: u64, above: u64) -> usize
+    requires { ⌜ 0 < unit ⌝ }
+    ensures { λ r. ⌜ r ≡ pick (isNear unit above) 4 6 ⌝ }
+{
+    if is_near(unit, above) {
+        return 4;
+    }
+    6
+}
+
+fn save_size(vector: bool, above: u64) -> usize
+    ensures { λ r. ⌜ r ≡ saveSize vector above ⌝ }
+{
+    if vector {
+        return slot_size(16, above);
+    }
+    slot_size(8, above)
+}
+
+pub fn nodes_size(at: u64, code: Seh) -> usize
+    ensures { λ r. ⌜ r ≡ length (codeBytes at code) ⌝ }
+{
+    match code {
+        Seh::Push(_) => 2,
+        Seh::Alloc(z) => alloc_size(size(z)),
+        Seh::Frame(_, _) => 2,
+        Seh::Save(_, vector, z) => save_size(vector, size(z)),
     }
 }
