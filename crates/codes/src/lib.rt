@@ -2,9 +2,10 @@
 ghost use mathlib.Core.Path.{_≡_};
 ghost use mathlib.Core.Option.{none, some};
 ghost use mathlib.Core.List.{_++_};
-ghost use Prim.Native.Nat.{_≤_, _<_};
-ghost use lib.ListN.{length};
+ghost use Prim.Native.Nat.{_+_, _≤_, _<_};
+ghost use lib.ListN.{length, take};
 ghost use Rattle.format.specs.Test.{pick};
+ghost use Rattle.format.specs.Put.{Wrote};
 ghost use Rattle.format.specs.Leb.{little};
 ghost use Rattle.format.specs.X64.{size64, registerIn, allocNo, saveNo, operandNo, codeNo, frameOk, frameNo, frameOr, node, allocBytes, slotBytes, saveBytes, codeBytes};
 ghost use Rattle.codes.specs.Codes.{Holds, numberOf, isNear, allocSize, saveSize};
@@ -266,4 +267,19 @@ pub fn nodes_size(at: u64, code: Seh) -> usize
         Seh::Frame(_, _) => 2,
         Seh::Save(_, vector, z) => save_size(vector, size(z)),
     }
+}
+
+// The nodes of one code, copied to `at`. This gives the place past them.
+pub fn put_nodes(out: &mut [u8], at: usize, n: Code) -> usize
+    requires { ⌜ (n .count ≤ 6) × (at + n .count ≤ length (now out)) ⌝ }
+    ensures { λ r. ⌜ Wrote (now (out .entry)) (now (out .exit)) at r (take (n .count) (n .bytes)) ⌝ }
+{
+    let bytes = n.bytes;
+    let count = n.count;
+    let mut i = 0;
+    while i < count {
+        out[at + i] = bytes[i];
+        i += 1;
+    }
+    at + count
 }
