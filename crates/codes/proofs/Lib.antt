@@ -2,3 +2,5 @@
 pub mod Questions
 pub mod Forms
 pub mod Copies
+pub mod Numbers
+pub mod Sizes
