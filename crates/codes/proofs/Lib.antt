@@ -4,3 +4,4 @@ pub mod Forms
 pub mod Copies
 pub mod Numbers
 pub mod Sizes
+pub mod Walks
