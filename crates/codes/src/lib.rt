@@ -4,12 +4,15 @@ ghost use mathlib.Core.Option.{none, some};
 ghost use mathlib.Core.List.{_++_};
 ghost use Prim.Native.Nat.{_+_, _≤_, _<_};
 ghost use lib.ListN.{length, take};
-ghost use Rattle.format.specs.Test.{pick};
+ghost use Rattle.format.specs.Test.{pick, each};
+ghost use Rattle.format.specs.Lists.{codeStride, count, codeAt};
 ghost use Rattle.format.specs.Put.{Wrote};
 ghost use Rattle.format.specs.Leb.{little};
-ghost use Rattle.format.specs.X64.{size64, registerIn, allocNo, saveNo, operandNo, codeNo, frameOk, frameNo, frameOr, node, allocBytes, slotBytes, saveBytes, codeBytes};
+ghost use Rattle.format.specs.X64.{size64, registerIn, allocNo, saveNo, operandNo, codeNo, firstNo, frameOk, frameNo, frameOr, node, allocBytes, slotBytes, saveBytes, codeBytes, slots, frameByte};
 ghost use Rattle.codes.specs.Codes.{Holds, numberOf, isNear, allocSize, saveSize};
 use format::Seh;
+use lists::code_at;
+use lists::code_offset_at;
 
 // ---- the questions of a code: the number of a no, or 0
 
@@ -282,4 +285,38 @@ pub fn put_nodes(out: &mut [u8], at: usize, n: Code) -> usize
         i += 1;
     }
     at + count
+}
+
+// ---- the codes of a function: n of the list from `first` on
+
+// The first no of 34 to 39.
+fn codes_no(codes: &[u64], first: usize, n: usize) -> u64
+    requires { ⌜ first + n ≤ count codeStride (now codes) ⌝ }
+    ensures { λ r. ⌜ r ≡ numberOf (firstNo codeNo (each (codeAt (now (codes .entry))) first n)) ⌝ }
+{
+    let end = first + n;
+    let mut i = first;
+    while i < end {
+        let k = code_no(code_offset_at(codes, i), code_at(codes, i));
+        if k != 0 {
+            return k;
+        }
+        i += 1;
+    }
+    0
+}
+
+// How many slots of two bytes the codes have.
+fn slots(codes: &[u64], first: usize, n: usize) -> usize
+    requires { ⌜ first + n ≤ count codeStride (now codes) ⌝ }
+    ensures { λ r. ⌜ r ≡ slots (each (codeAt (now (codes .entry))) first n) ⌝ }
+{
+    let end = first + n;
+    let mut sum = 0;
+    let mut i = first;
+    while i < end {
+        sum += nodes_size(code_offset_at(codes, i), code_at(codes, i)) / 2;
+        i += 1;
+    }
+    sum
 }
