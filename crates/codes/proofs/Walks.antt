@@ -14,7 +14,7 @@ use Rattle.format.specs.declared.Seh.{Seh}
 use Rattle.format.specs.X64.{codeBytes, registerIn, codeNo, frameNo, orNo, firstNo, slots, frameOr, frameByte, reversed}
 use Rattle.format.proofs.PutLaws.{put-none, length-put}
 use Rattle.codes.specs.declared.Code.{Code}
-use Rattle.codes.specs.Codes.{numberOf, Holds}
+use Rattle.codes.specs.Codes.{numberOf, frameAsk, Holds}
 use Rattle.codes.proofs.Numbers.{Told, none-of, some-of}
 use Rattle.codes.proofs.Questions.{said}
 use Rattle.codes.proofs.Sizes.{reversed-length}
@@ -92,9 +92,6 @@ unfolding slots
 all-counted c = omega (arith, c .same)
 
 -- ---- the frame byte
-
-abbrev pub frameAsk : ℕ × Seh → Option ℕ
-frameAsk x = frameNo (x .1)
 
 pub record Framing (all rest : List (ℕ × Seh)) (b : ℕ) : Type 0 where
   same : frameByte 0 all ≡ frameByte b rest

@@ -7,12 +7,18 @@ use mathlib.Core.List.{List}
 use lib.Dec.{leb, ltb, eqb}
 use lib.ListN.{length, take}
 use Rattle.format.specs.Test.{pick}
+use Rattle.format.specs.declared.Seh.{Seh}
+use Rattle.format.specs.X64.{frameNo}
 use Rattle.codes.specs.declared.Code.{Code}
 
 -- the question that was answered by no, or 0
 unfoldable pub numberOf : Option ℕ → ℕ
 numberOf none = 0
 numberOf (some n) = n
+
+-- question 41 of a code with its offset
+abbrev pub frameAsk : ℕ × Seh → Option ℕ
+frameAsk x = frameNo (x .1)
 
 -- the nodes are the bytes bs
 pub record Holds (r : Code) (bs : List ℕ) : Type 0 where

@@ -2,14 +2,14 @@
 ghost use mathlib.Core.Path.{_≡_};
 ghost use mathlib.Core.Option.{none, some};
 ghost use mathlib.Core.List.{_++_};
-ghost use Prim.Native.Nat.{_+_, _≤_, _<_};
+ghost use Prim.Native.Nat.{_+_, _*_, _≤_, _<_};
 ghost use lib.ListN.{length, take};
 ghost use Rattle.format.specs.Test.{pick, each};
 ghost use Rattle.format.specs.Lists.{codeStride, count, codeAt};
 ghost use Rattle.format.specs.Put.{Wrote};
 ghost use Rattle.format.specs.Leb.{little};
-ghost use Rattle.format.specs.X64.{size64, registerIn, allocNo, saveNo, operandNo, codeNo, firstNo, frameOk, frameNo, frameOr, node, allocBytes, slotBytes, saveBytes, codeBytes, slots, frameByte};
-ghost use Rattle.codes.specs.Codes.{Holds, numberOf, isNear, allocSize, saveSize};
+ghost use Rattle.format.specs.X64.{size64, registerIn, allocNo, saveNo, operandNo, codeNo, firstNo, frameOk, frameNo, frameOr, node, allocBytes, slotBytes, saveBytes, codeBytes, slots, frameByte, reversed};
+ghost use Rattle.codes.specs.Codes.{Holds, numberOf, frameAsk, isNear, allocSize, saveSize};
 use format::Seh;
 use lists::code_at;
 use lists::code_offset_at;
@@ -319,4 +319,53 @@ fn slots(codes: &[u64], first: usize, n: usize) -> usize
         i += 1;
     }
     sum
+}
+
+// 41 of the codes.
+fn frames_no(codes: &[u64], first: usize, n: usize) -> u64
+    requires { ⌜ first + n ≤ count codeStride (now codes) ⌝ }
+    ensures { λ r. ⌜ r ≡ numberOf (firstNo frameAsk (each (codeAt (now (codes .entry))) first n)) ⌝ }
+{
+    let end = first + n;
+    let mut i = first;
+    while i < end {
+        let k = frame_no(code_at(codes, i));
+        if k != 0 {
+            return k;
+        }
+        i += 1;
+    }
+    0
+}
+
+// The header's byte of the frame register.
+fn frame_byte(codes: &[u64], first: usize, n: usize) -> u8
+    requires { ⌜ (first + n ≤ count codeStride (now codes)) × (firstNo codeNo (each (codeAt (now codes)) first n) ≡ none) × (firstNo frameAsk (each (codeAt (now codes)) first n) ≡ none) ⌝ }
+    ensures { λ r. ⌜ r ≡ frameByte 0 (each (codeAt (now (codes .entry))) first n) ⌝ }
+{
+    let end = first + n;
+    let mut b = 0;
+    let mut i = first;
+    while i < end {
+        b = frame_or(b, code_at(codes, i));
+        i += 1;
+    }
+    b
+}
+
+// The codes in reverse: the first stands last, `held` slots up from `at`, and each other one before it.
+fn put_codes(out: &mut [u8], at: usize, held: usize, codes: &[u64], first: usize, n: usize) -> usize
+    requires { ⌜ (first + n ≤ count codeStride (now codes)) × (firstNo codeNo (each (codeAt (now codes)) first n) ≡ none) × (held ≡ slots (each (codeAt (now codes)) first n)) × (at + 2 * held ≤ length (now out)) ⌝ }
+    ensures { λ r. ⌜ Wrote (now (out .entry)) (now (out .exit)) at r (reversed (each (codeAt (now (codes .entry))) first n)) ⌝ }
+{
+    let end = first + n;
+    let mut to = at + 2 * held;
+    let mut i = first;
+    while i < end {
+        let c = nodes(code_offset_at(codes, i), code_at(codes, i));
+        to -= c.count;
+        put_nodes(out, to, c);
+        i += 1;
+    }
+    at + 2 * held
 }
