@@ -5,3 +5,4 @@ pub mod Copies
 pub mod Numbers
 pub mod Sizes
 pub mod Walks
+pub mod Infos

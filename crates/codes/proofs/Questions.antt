@@ -108,7 +108,7 @@ module _ (n : ℕ) (o : Option ℕ) where
   some-none e = let z : _≡_ {A = ℕ} 0 1 = cc in omega arith
 
   -- a choice between a number and something else is none: which side was taken
-  yes-of : (b : Bool) → pick b o (some n) ≡ none → T b × (o ≡ none)
+  pub yes-of : (b : Bool) → pick b o (some n) ≡ none → T b × (o ≡ none)
   unfolding pick
   yes-of true e = (tt, e)
   yes-of false e = absurd (some-none e)

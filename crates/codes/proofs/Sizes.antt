@@ -66,3 +66,8 @@ pub info-length : (end : ℕ) (cs : List (ℕ × Seh)) → length (infoBytes end
 unfolding infoBytes
 info-length end cs =
     omega (arith, length-append (reversed cs) (replicate (2 * (slots cs % 2)) 0), reversed-length cs, length-replicate {A = ℕ} (2 * (slots cs % 2)) 0)
+
+-- by a count of the slots
+pub info-parts : (end : ℕ) (cs : List (ℕ × Seh)) {held : ℕ} → held ≡ slots cs
+    → (length (infoBytes end cs) ≡ 4 + 2 * held + 2 * (held % 2)) × (length (reversed cs) ≡ 2 * held)
+info-parts end cs e = rw e (info-length end cs, reversed-length cs)

@@ -65,7 +65,7 @@ pub all-asked : {A : Type 0} {f : A → Option ℕ} {all : List A} → Asking f 
 unfolding firstNo numberOf
 all-asked a = sym (ap numberOf (a .same))
 
-ors : (a b : Option ℕ) → orNo a b ≡ none → (a ≡ none) × (b ≡ none)
+pub ors : (a b : Option ℕ) → orNo a b ≡ none → (a ≡ none) × (b ≡ none)
 unfolding orNo
 ors none b e = (refl, e)
 ors (some n) b e = let z : _≡_ {A = ℕ} 0 1 = cc in absurd (omega arith)

@@ -1,14 +1,14 @@
 // One x64 unwind code: its questions and its bytes. Ported from rucc-asm/src/unwind.rs (nodes, large, slot, describe) of tamnd/rucc, changed: see NOTICE.
 ghost use mathlib.Core.Path.{_≡_};
 ghost use mathlib.Core.Option.{none, some};
-ghost use mathlib.Core.List.{_++_};
-ghost use Prim.Native.Nat.{_+_, _*_, _≤_, _<_};
+ghost use mathlib.Core.List.{[], _∷_, _++_};
+ghost use Prim.Native.Nat.{ℕ, _+_, _*_, _≤_, _<_};
 ghost use lib.ListN.{length, take};
 ghost use Rattle.format.specs.Test.{pick, each};
-ghost use Rattle.format.specs.Lists.{codeStride, count, codeAt};
+ghost use Rattle.format.specs.Lists.{codeStride, count, mostRecords, codeAt};
 ghost use Rattle.format.specs.Put.{Wrote};
 ghost use Rattle.format.specs.Leb.{little};
-ghost use Rattle.format.specs.X64.{size64, registerIn, allocNo, saveNo, operandNo, codeNo, firstNo, frameOk, frameNo, frameOr, node, allocBytes, slotBytes, saveBytes, codeBytes, slots, frameByte, reversed};
+ghost use Rattle.format.specs.X64.{size64, registerIn, allocNo, saveNo, operandNo, codeNo, firstNo, frameOk, frameNo, frameOr, node, allocBytes, slotBytes, saveBytes, codeBytes, slots, prologueNo, frameByte, reversed, infoBytes};
 ghost use Rattle.codes.specs.Codes.{Holds, numberOf, frameAsk, isNear, allocSize, saveSize};
 use format::Seh;
 use lists::code_at;
@@ -368,4 +368,56 @@ fn put_codes(out: &mut [u8], at: usize, held: usize, codes: &[u64], first: usize
         i += 1;
     }
     at + 2 * held
+}
+
+// The questions of a function's codes: 34 to 39 of each, 35 of the prologue's end, 40, and 41 of each.
+pub fn prologue_no(codes: &[u64], first: usize, n: usize, end: u64) -> u64
+    requires { ⌜ first + n ≤ count codeStride (now codes) ⌝ }
+    ensures { λ r. ⌜ r ≡ numberOf (prologueNo end (each (codeAt (now (codes .entry))) first n)) ⌝ }
+{
+    let k = codes_no(codes, first, n);
+    if k != 0 {
+        return k;
+    }
+    if 255 < end {
+        return 35;
+    }
+    if 255 < slots(codes, first, n) {
+        return 40;
+    }
+    frames_no(codes, first, n)
+}
+
+// ---- UNWIND_INFO
+
+// How many bytes the record of a function's codes has.
+pub fn info_size(codes: &[u64], first: usize, n: usize) -> usize
+    requires { ⌜ (first + n ≤ count codeStride (now codes)) × (n ≤ mostRecords) ⌝ }
+    ensures { λ r. ⌜ ((end : ℕ) → r ≡ length (infoBytes end (each (codeAt (now (codes .entry))) first n))) ⌝ }
+{
+    let held = slots(codes, first, n);
+    4 + 2 * held + 2 * (held % 2)
+}
+
+// The record's head: version 1 and no flags, the prologue's end, the count of slots, the frame byte.
+pub fn head(out: &mut [u8], at: usize, end: u8, held: u8, frame: u8) -> usize
+    requires { ⌜ at + 4 ≤ length (now out) ⌝ }
+    ensures { λ r. ⌜ Wrote (now (out .entry)) (now (out .exit)) at r (1 ∷ end ∷ held ∷ frame ∷ []) ⌝ }
+{
+    let a = leb::byte(out, at, 1);
+    let b = leb::byte(out, a, end);
+    let c = leb::byte(out, b, held);
+    leb::byte(out, c, frame)
+}
+
+// The record of a function's codes.
+pub fn describe(out: &mut [u8], at: usize, end: u64, codes: &[u64], first: usize, n: usize) -> usize
+    requires { ⌜ (first + n ≤ count codeStride (now codes)) × (prologueNo end (each (codeAt (now codes)) first n) ≡ none) × (at + length (infoBytes end (each (codeAt (now codes)) first n)) ≤ length (now out)) ⌝ }
+    ensures { λ r. ⌜ Wrote (now (out .entry)) (now (out .exit)) at r (infoBytes end (each (codeAt (now (codes .entry))) first n)) ⌝ }
+{
+    let held = slots(codes, first, n);
+    let frame = frame_byte(codes, first, n);
+    let a = head(out, at, end as u8, held as u8, frame);
+    let b = put_codes(out, a, held, codes, first, n);
+    leb::fill(out, b, 2 * (held % 2))
 }
