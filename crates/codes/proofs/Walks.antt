@@ -37,8 +37,9 @@ module _ {A : Type 0} {f : ℕ → A} {first n : ℕ} where
         let e : first + n - i ≡ suc (first + n - suc i) = omega arith in
         rw (add-one i) (rw e at (g .here))
 
-    pub turn : {Q : List A → Type 0} → i < first + n → Q (each f (i + 1) (first + n - (i + 1))) → Going Q f first n (i + 1)
-    turn h q = record { low = omega (arith, g .low); high = omega arith; here = q }
+    -- a step that leads from what is known before a record to what is known behind it
+    pub turn : {Q : List A → Type 0} → i < first + n → (P (f i ∷ each f (i + 1) (first + n - (i + 1))) → Q (each f (i + 1) (first + n - (i + 1)))) → Going Q f first n (i + 1)
+    turn h step = record { low = omega (arith, g .low); high = omega arith; here = step (taken h) }
 
     pub ended : first + n ≤ i → P []
     unfolding each
@@ -53,9 +54,9 @@ pub asking : {A : Type 0} (f : A → Option ℕ) (all : List A) → Asking f all
 asking f all = record { same = refl }
 
 module _ {A : Type 0} {f : A → Option ℕ} {all rest : List A} {x : A} (a : Asking f all (x ∷ rest)) {k : ℕ} (e : k ≡ numberOf (f x)) where
-  pub asked-yes : Told (f x) → k ≡ 0 → Asking f all rest
+  pub asked-yes : ((y : A) → Told (f y)) → k ≡ 0 → Asking f all rest
   unfolding firstNo orNo
-  asked-yes t z = record { same = a .same ∙ rw (none-of (f x) t (sym e ∙ z)) }
+  asked-yes t z = record { same = a .same ∙ rw (none-of (f x) (t x) (sym e ∙ z)) }
 
   pub asked-no : (k ≡ 0 → ⊥) → k ≡ numberOf (firstNo f all)
   unfolding firstNo orNo numberOf

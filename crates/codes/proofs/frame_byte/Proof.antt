@@ -34,9 +34,9 @@ loop-less : tie.Need-loop-less Inv-loop μ-loop
 loop-less c = search needs
 
 loop-again : tie.Need-loop-again Inv-loop μ-loop
-loop-again c = 
+loop-again c =
     let e = rw (c .before .code-at .ensures) at (c .frame-or .ensures) in
-    turn (c .before .before .before .loop .inv) (c .before .before .loop-test .taken) (framed (taken (c .before .before .before .loop .inv) (c .before .before .loop-test .taken)) e)
+    turn (c .before .before .before .loop .inv) (c .before .before .loop-test .taken) (λ w. framed w e)
 
 returns : tie.Need-returns Inv-loop μ-loop
 returns c = all-framed (ended (c .before .loop .inv) (c .loop-test .left))

@@ -28,7 +28,7 @@ frame-no-requires : tie.Need-frame-no-requires Inv-loop μ-loop
 frame-no-requires c κs = search needs
 
 returns : tie.Need-returns Inv-loop μ-loop
-returns c = 
+returns c =
     let e = rw (c .before .before .code-at .ensures) at (c .before .frame-no .ensures) in
     asked-no (taken (c .before .before .before .before .loop .inv) (c .before .before .before .loop-test .taken)) e (c .if1 .taken)
 
@@ -39,10 +39,9 @@ loop-less : tie.Need-loop-less Inv-loop μ-loop
 loop-less c = search needs
 
 loop-again : tie.Need-loop-again Inv-loop μ-loop
-loop-again c = 
+loop-again c =
     let e = rw (c .before .before .code-at .ensures) at (c .before .frame-no .ensures) in
-    turn (c .before .before .before .before .loop .inv) (c .before .before .before .loop-test .taken)
-    (asked-yes (taken (c .before .before .before .before .loop .inv) (c .before .before .before .loop-test .taken)) e (told-frame (codeAt (c .before .before .before .before .before .before .args .codes .now) (c .before .before .before .before .loop .i) .1)) (c .if1 .left))
+    turn (c .before .before .before .before .loop .inv) (c .before .before .before .loop-test .taken) (λ w. asked-yes w e (λ x. told-frame (x .1)) (c .if1 .left))
 
 returns-2 : tie.Need-returns-2 Inv-loop μ-loop
 returns-2 c = all-asked (ended (c .before .loop .inv) (c .loop-test .left))

@@ -1,22 +1,25 @@
 -- `codes::info_size` meets its contract.
-use Prim.Native.Nat.{_*_, _≤_}
-use mathlib.Core.Path.{_≡_, sym, ap, _∙_}
+use Prim.Native.Nat.{ℕ, _*_, _≤_}
+use mathlib.Core.List.{List}
 use native.Mathlib.Omega.{arith}
 use Rattle.format.specs.Test.{each}
 use Rattle.format.specs.Lists.{codeAt}
-use Rattle.format.specs.X64.{slots}
+use Rattle.format.specs.declared.Seh.{Seh}
 use Rattle.format.proofs.ListLaws.{each-length}
 use Rattle.codes.proofs.Sizes.{slots-most, info-length}
 use borrow.Author.Needs.{needs}
 use Rattle.codes.proofs.info_size.Statement.{statement}
 use Rattle.codes.proofs.info_size.Tie as tie
 
+abbrev cs : tie.Start → List (ℕ × Seh)
+cs s = each (codeAt (s .args .codes .now)) (s .args .first) (s .args .n)
+
 slots-requires : tie.Need-slots-requires
 slots-requires c κs = search needs
 
 -- three slots a code at most
 small : (c : tie.After-slots) → c .slots .result ≤ 3 * c .before .before .args .n
-small c = omega (arith, c .slots .ensures, slots-most (each (codeAt (c .before .before .args .codes .now)) (c .before .before .args .first) (c .before .before .args .n)), each-length (codeAt (c .before .before .args .codes .now)) (c .before .before .args .first) (c .before .before .args .n))
+small c = omega (arith, c .slots .ensures, slots-most (cs (c .before .before)), each-length (codeAt (c .before .before .args .codes .now)) (c .before .before .args .first) (c .before .before .args .n))
 
 mul-result : tie.Need-mul-result
 mul-result c = omega (arith, small c)
@@ -31,7 +34,7 @@ add-result-2 : tie.Need-add-result-2
 add-result-2 c = omega (arith, small c)
 
 returns : tie.Need-returns
-returns c = λ end. omega (arith, c .slots .ensures, info-length end (each (codeAt (c .before .before .args .codes .now)) (c .before .before .args .first) (c .before .before .args .n)))
+returns c = λ end. omega (arith, c .slots .ensures, info-length end (cs (c .before .before)))
 
 pub info-size-spec : {M : Type 1} → statement M
 info-size-spec =

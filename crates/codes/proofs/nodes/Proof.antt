@@ -35,7 +35,7 @@ size-requires c κs = search needs
 
 alloc-requires : tie.Need-alloc-requires
 unfolding operandNo
-alloc-requires c κs = 
+alloc-requires c κs =
     let e = c .size .ensures ∙ ap size64 (passed (c .before .before .code2 .given .0 .0) (omega (arith, c .before .known-told2 .given))) in
     let h = alloc-said (c .before .before .code2 .given .0 .0) (rw (c .before .before .code2 .given .1) at (agreed (c .before .before .before .before) .operand)) in
     omega (arith, e, h)

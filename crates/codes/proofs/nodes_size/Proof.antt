@@ -39,7 +39,7 @@ returns c = rw (c .enum-told .given .1)
 
 returns-2 : tie.Need-returns-2
 unfolding codeBytes
-returns-2 c = 
+returns-2 c =
     let e = c .before .size .ensures ∙ ap size64 (passed (c .before .before .before .code .given .0 .0) (omega (arith, c .before .before .known-told .given))) in
     rw (c .before .before .before .code .given .1) (c .alloc-size .ensures ∙ ap allocSize e ∙ sym (alloc-length (c .before .before .before .before .before .args .at) (size64 (c .before .before .before .code .given .0 .0))))
 
@@ -49,7 +49,7 @@ returns-3 c = rw (c .enum-told2 .given .1)
 
 returns-4 : tie.Need-returns-4
 unfolding codeBytes
-returns-4 c = 
+returns-4 c =
     let p = c .before .before .before .code2 .given in
     let e = c .before .size2 .ensures ∙ ap size64 (passed (c .before .before .before .code2 .given .0 .1 .1 .0) (omega (arith, c .before .before .known-told2 .given))) in
     rw (p .1) (c .save-size .ensures ∙ ap (saveSize (p .0 .1 .0)) e ∙ sym (save-length (p .0 .1 .0) (c .before .before .before .before .before .args .at) (p .0 .0) (size64 (p .0 .1 .1 .0))))

@@ -57,9 +57,8 @@ loop-less : tie.Need-loop-less Inv-loop μ-loop
 loop-less c = search needs
 
 loop-again : tie.Need-loop-again Inv-loop μ-loop
-loop-again c = 
-    turn (c .before .before .before .before .before .before .before .before .before .loop .inv) (c .before .before .before .before .before .before .before .before .loop-test .taken)
-    (put-turn (taken (c .before .before .before .before .before .before .before .before .before .loop .inv) (c .before .before .before .before .before .before .before .before .loop-test .taken)) (said (c .before .before .before .before .before)) (c .before .before .put-nodes .ensures))
+loop-again c =
+    turn (c .before .before .before .before .before .before .before .before .before .loop .inv) (c .before .before .before .before .before .before .before .before .loop-test .taken) (λ w. put-turn w (said (c .before .before .before .before .before)) (c .before .before .put-nodes .ensures))
 
 mul-result : tie.Need-mul-result Inv-loop μ-loop
 mul-result c = search needs

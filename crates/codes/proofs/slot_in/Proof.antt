@@ -14,7 +14,7 @@ form-requires : tie.Need-form-requires
 form-requires c κs = search needs
 
 returns : tie.Need-returns
-returns c = 
+returns c =
     let a = c .before .before .before .args in
     rw (slot-near (a .near) (a .unit) (a .at) (a .reg) (a .above) (c .before .before .is-near .ensures) (c .before .if1 .taken)) (c .form .ensures)
 
@@ -25,7 +25,7 @@ form-requires-2 : tie.Need-form-requires-2
 form-requires-2 c κs = search needs
 
 returns-2 : tie.Need-returns-2
-returns-2 c = 
+returns-2 c =
     let a = c .before .before .before .args in
     rw (slot-far (a .near) (a .unit) (a .at) (a .reg) (a .above) (c .before .before .is-near .ensures) (c .before .if1 .left)) (c .form2 .ensures)
 

@@ -36,12 +36,12 @@ nodes-size-requires : tie.Need-nodes-size-requires Inv-loop μ-loop
 nodes-size-requires c κs = search needs
 
 loop-again : tie.Need-loop-again Inv-loop μ-loop
-loop-again c = 
+loop-again c =
     let e = rw (c .before .before .code-offset-at .ensures, c .before .code-at .ensures) at (c .nodes-size .ensures) in
-    turn (c .before .before .before .before .loop .inv) (c .before .before .before .loop-test .taken) (counted (taken (c .before .before .before .before .loop .inv) (c .before .before .before .loop-test .taken)) e)
+    turn (c .before .before .before .before .loop .inv) (c .before .before .before .loop-test .taken) (λ w. counted w e)
 
 add-sum : tie.Need-add-sum Inv-loop μ-loop
-add-sum c = 
+add-sum c =
     let a = c .before .before .before .before .before .before .args in
     let cs = each (codeAt (a .codes .now)) (a .first) (a .n) in
     omega (arith, loop-again c .here .same, slots-most cs, each-length (codeAt (a .codes .now)) (a .first) (a .n))
