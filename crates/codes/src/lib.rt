@@ -1,4 +1,4 @@
-// One x64 unwind code: its questions and its bytes. Ported from rucc-asm/src/unwind.rs (nodes, large, slot, describe) of tamnd/rucc, changed: see NOTICE.
+// x64 unwind codes: the questions and the bytes of one code and of a function's. Ported from rucc-asm/src/unwind.rs (nodes, large, slot, describe) of tamnd/rucc, changed: see NOTICE.
 ghost use mathlib.Core.Path.{_≡_};
 ghost use mathlib.Core.Option.{none, some};
 ghost use mathlib.Core.List.{[], _∷_, _++_};
@@ -230,13 +230,13 @@ pub fn nodes(at: u64, code: Seh) -> Code
 }
 
 // How many bytes the nodes of a code have.
-fn alloc_size(size: u64) -> usize
-    ensures { λ r. ⌜ r ≡ allocSize size ⌝ }
+fn alloc_size(bytes: u64) -> usize
+    ensures { λ r. ⌜ r ≡ allocSize bytes ⌝ }
 {
-    if size <= 128 {
+    if bytes <= 128 {
         return 2;
     }
-    if size / 8 < 65536 {
+    if bytes / 8 < 65536 {
         return 4;
     }
     6

@@ -1,5 +1,5 @@
 -- `codes::codes_no` meets its contract.
-use Prim.Native.Nat.{_+_, _-_}
+use Prim.Native.Nat.{_-_}
 use Rattle.format.specs.Test.{each}
 use Rattle.format.specs.Lists.{codeAt}
 use Rattle.format.specs.X64.{codeNo}

@@ -1,10 +1,10 @@
 -- `codes::put_codes` meets its contract.
-use Prim.Native.Nat.{ℕ, _+_, _-_, _*_}
+use Prim.Native.Nat.{ℕ, _-_}
 use mathlib.Core.List.{List}
 use native.Mathlib.Omega.{arith}
 use Rattle.format.specs.Test.{each}
 use Rattle.format.specs.Lists.{codeAt}
-use Rattle.format.specs.X64.{codeNo, codeBytes}
+use Rattle.format.specs.X64.{codeBytes}
 use Rattle.format.specs.declared.Seh.{Seh}
 use Rattle.codes.specs.Codes.{Holds}
 use Rattle.codes.proofs.Walks.{Going, start, taken, turn, ended, Putting, putting, put-asked, put-low, put-room, put-turn, all-put}

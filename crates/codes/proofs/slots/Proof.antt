@@ -1,11 +1,9 @@
 -- `codes::slots` meets its contract.
-use Prim.Native.Nat.{ℕ, _+_, _-_, _*_, _/_, _≤_}
-use mathlib.Core.Path.{_≡_}
+use Prim.Native.Nat.{ℕ, _-_}
 use mathlib.Core.List.{List}
 use native.Mathlib.Omega.{arith}
 use Rattle.format.specs.Test.{each}
 use Rattle.format.specs.Lists.{codeAt}
-use Rattle.format.specs.X64.{slots}
 use Rattle.format.specs.declared.Seh.{Seh}
 use Rattle.format.proofs.ListLaws.{each-length}
 use Rattle.codes.proofs.Sizes.{slots-most}
