@@ -1,4 +1,5 @@
--- Loops over codes: what is known of the codes that are left, and a loop that takes them from a range of a list of numbers.
+-- Loops over codes: what is known of the codes that are left, by whatever way they are made, and a loop that takes them from a range of records.
+-- A step that yields no code leaves what is known as it is.
 use mathlib.Core.Path.{_≡_, refl, sym, ap, _∙_}
 use Prim.Native.Nat.{ℕ, suc, _+_, _-_, _*_, _/_, _≤_, _<_}
 use native.Mathlib.Omega.{arith}
