@@ -14,7 +14,7 @@ use Rattle.format.specs.Test.{pick, Read, next, after}
 use Rattle.format.specs.Leb.{readLittle}
 use Rattle.format.specs.Positions.{littleAt}
 use Rattle.format.specs.Questions.{isSome}
-use Rattle.format.specs.Reader.{Entry, readEntry, entriesF, entries}
+use Rattle.format.specs.Reader.{Entry, readEntry, entriesF, entries, valueOr0, second}
 use Rattle.format.specs.declared.Unsigned.the-variants as unsigned
 use Rattle.format.proofs.Choice.{pick-yes, pick-no, if-le, tested}
 use Rattle.format.proofs.PositionLaws.{Takes, nothing, taken, takes-little, little-ahead, little-rest, little-none}
@@ -197,3 +197,14 @@ module _ (s : List ℕ) (at : ℕ) (h : at < length s) (t : T (isSome (entriesFr
       let m = tiled-more s at h e in
       let t′ : T (isSome (entriesFrom s q)) = rw (m, tiled-after (entryIn s at q) (entriesFrom s q)) at t in
       record { long = a .long; inside = a .inside; tiled = t′; rest = rw m (listed-after (entryIn s at q) (entriesFrom s q) t′) }
+
+-- ---- an entry's second field
+
+module _ (s : List ℕ) where
+  pub second-is : {v q : ℕ} → littleAt 4 s 0 ≡ unsigned.Value v q → second s ≡ v
+  unfolding second valueOr0
+  second-is e = rw (little-rest s 0 (omega arith) e)
+
+  pub second-none : littleAt 4 s 0 ≡ unsigned.Bad → second s ≡ 0
+  unfolding second valueOr0
+  second-none e = rw (little-none s 0 4 e)

@@ -9,7 +9,9 @@ use Rattle.format.specs.Test.{Read}
 use Rattle.format.specs.Questions.{isSome}
 use Rattle.format.specs.Reader.{Entry, readEntry, entriesF}
 use Rattle.locate.specs.declared.Place.{Place}
-use Rattle.locate.specs.declared.Place.the-variants.{At, Nowhere}
+use Rattle.locate.specs.declared.Place.the-variants as place
+use Rattle.locate.specs.declared.Span.{Span}
+use Rattle.locate.specs.declared.Span.the-variants as span
 
 -- the bytes from a up to b
 abbrev pub part : List ℕ → (a b : ℕ) → List ℕ
@@ -27,10 +29,15 @@ unfoldable pub listed : Option (List Entry) → List Entry
 listed none = []
 listed (some es) = es
 
+-- a position, where there is one
+unfoldable pub placed : Option ℕ → Place
+placed none = place.Nowhere
+placed (some n) = place.At n
+
 -- where the entry at a position ends
 unfoldable pub endFrom : (size : ℕ) → Read (List ℕ) → Place
-endFrom size none = Nowhere
-endFrom size (some x) = At (size - length (x .1))
+endFrom size none = place.Nowhere
+endFrom size (some x) = place.At (size - length (x .1))
 
 unfoldable pub endAt : List ℕ → ℕ → Place
 endAt s p = endFrom (length s) (readEntry (drop p s))
@@ -41,3 +48,13 @@ pub record Ends (s : List ℕ) (at end : ℕ) : Type 0 where
   pub inside : end ≤ length s
   pub tiled : T (isSome (entriesFrom s end))
   pub rest : listed (entriesFrom s at) ≡ entryIn s at end ∷ listed (entriesFrom s end)
+
+-- the entry that was looked for
+pub record Stands (s : List ℕ) (at end : ℕ) (x : Option Entry) : Type 0 where
+  pub long : at + 8 ≤ end
+  pub inside : end ≤ length s
+  pub found : x ≡ some (entryIn s at end)
+
+abbrev pub Spans : List ℕ → Span → Option Entry → Type 0
+Spans s (span.At at end) x = Stands s at end x
+Spans s span.Nothing x = x ≡ none

@@ -1,12 +1,15 @@
 // Where the operations of a record and of its header stand in a section: questions 61 to 64. Added to what is ported from rucc-asm/src/unwind.rs of tamnd/rucc: see NOTICE.
 ghost use mathlib.Core.Path.{_≡_};
+ghost use mathlib.Core.Bool.{_&&_};
 ghost use Prim.Native.Nat.{_+_, _≤_, _<_};
-ghost use lib.ListN.{length};
-ghost use lib.Dec.{T};
+ghost use lib.ListN.{length, getElem?};
+ghost use lib.Dec.{T, eqb, ltb};
 ghost use Rattle.format.specs.Questions.{isSome};
-ghost use Rattle.format.specs.Reader.{second, isHeader, entries};
+ghost use Rattle.format.specs.Reader.{second, isHeader, records, distanceBack, firstAddend, headerPlace, headerAt, entries};
+ghost use Rattle.format.specs.Lists.{relocationsOf};
+ghost use Rattle.format.specs.Test.{after};
 ghost use Rattle.format.specs.Headers.{headerId};
-ghost use Rattle.locate.specs.Spans.{entryIn, entriesFrom, endAt, Ends};
+ghost use Rattle.locate.specs.Spans.{part, entryIn, entriesFrom, listed, placed, endAt, Ends, Spans};
 use format::Unsigned;
 
 // ---- entries
@@ -56,4 +59,148 @@ fn past(s: &[u8], at: usize) -> usize
         return 0;
     };
     end
+}
+
+// The first field of an entry's body.
+fn id_of(body: &[u8]) -> u64
+    ensures { λ r. ⌜ r ≡ second (now (body .entry)) ⌝ }
+{
+    let Unsigned::Value(v, _) = leb::read_le(body, 0, 4) else {
+        return 0;
+    };
+    v
+}
+
+// The second field of the entry from `at` to `end`, whose first is its length.
+fn second(s: &[u8], at: usize, end: usize) -> u64
+    requires { ⌜ (at + 8 ≤ end) × (end ≤ length (now s)) ⌝ }
+    ensures { λ r. ⌜ r ≡ second (part (now (s .entry)) (at + 4) end) ⌝ }
+{
+    let body = at + 4;
+    id_of(&s[body..end])
+}
+
+// What marks a header.
+fn header_id(debug: bool) -> u64
+    ensures { λ r. ⌜ r ≡ headerId debug ⌝ }
+{
+    if debug {
+        return 0xffffffff;
+    }
+    0
+}
+
+fn is_header(s: &[u8], at: usize, end: usize, debug: bool) -> bool
+    requires { ⌜ (at + 8 ≤ end) × (end ≤ length (now s)) ⌝ }
+    ensures { λ r. ⌜ r ≡ isHeader debug (entryIn (now (s .entry)) at end) ⌝ }
+{
+    second(s, at, end) == header_id(debug)
+}
+
+// ---- the record and its header
+
+// An entry by where it starts and ends, where there is one.
+enum Span {
+    At(usize, usize),
+    Nothing,
+}
+
+// Question 62: record k.
+fn record_span(s: &[u8], debug: bool, k: u64) -> Span
+    requires { ⌜ T (isSome (entries (now s))) ⌝ }
+    ensures { λ r. ⌜ Spans (now (s .entry)) r (getElem? (records debug (listed (entries (now (s .entry))))) k) ⌝ }
+{
+    let mut left = k;
+    let mut next = 0;
+    'entries: while next < s.len() {
+        let at = next;
+        next = past(s, at);
+        if is_header(s, at, next, debug) {
+            continue 'entries;
+        }
+        if left == 0 {
+            return Span::At(at, next);
+        }
+        left -= 1;
+    }
+    Span::Nothing
+}
+
+// The addend of the first relocation at a place; a relocation is five numbers, the place first and the addend last.
+fn first_addend(relocs: &[u64], place: u64) -> Place
+    ensures { λ r. ⌜ r ≡ placed (firstAddend place (relocationsOf (now (relocs .entry)))) ⌝ }
+{
+    let n = relocs.len() / 5;
+    let mut i = 0;
+    while i < n {
+        if relocs[5 * i] == place {
+            return Place::At(relocs[5 * i + 4] as usize);
+        }
+        i += 1;
+    }
+    Place::Nowhere
+}
+
+// The place that lies the entry's second field before that field.
+fn distance_back(s: &[u8], at: usize, end: usize) -> Place
+    requires { ⌜ (at + 8 ≤ end) × (end ≤ length (now s)) ⌝ }
+    ensures { λ r. ⌜ r ≡ placed (distanceBack (entryIn (now (s .entry)) at end)) ⌝ }
+{
+    let distance = second(s, at, end) as usize;
+    if at + 4 < distance {
+        return Place::Nowhere;
+    }
+    Place::At(at + 4 - distance)
+}
+
+// Where the header of the record from `at` to `end` starts, as its second field says or, in debug_frame, that field's relocation.
+fn header_place(s: &[u8], relocs: &[u64], debug: bool, at: usize, end: usize) -> Place
+    requires { ⌜ (at + 8 ≤ end) × (end ≤ length (now s)) ⌝ }
+    ensures { λ r. ⌜ r ≡ placed (headerPlace debug (relocationsOf (now (relocs .entry))) (entryIn (now (s .entry)) at end)) ⌝ }
+{
+    if debug {
+        return first_addend(relocs, (at + 4) as u64);
+    }
+    distance_back(s, at, end)
+}
+
+// The entry from `at` to `end` is a header, starts at a place, and that place is earlier than `before`.
+fn starts(s: &[u8], at: usize, end: usize, debug: bool, place: usize, before: usize) -> bool
+    requires { ⌜ (at + 8 ≤ end) × (end ≤ length (now s)) ⌝ }
+    ensures { λ r. ⌜ r ≡ eqb at place && ltb place before && isHeader debug (entryIn (now (s .entry)) at end) ⌝ }
+{
+    if at != place {
+        return false;
+    }
+    if before <= place {
+        return false;
+    }
+    is_header(s, at, end, debug)
+}
+
+// The header that starts at a place earlier than `before`.
+fn header_span(s: &[u8], debug: bool, place: usize, before: usize) -> Span
+    requires { ⌜ T (isSome (entries (now s))) ⌝ }
+    ensures { λ r. ⌜ Spans (now (s .entry)) r (headerAt debug place before (listed (entries (now (s .entry))))) ⌝ }
+{
+    let mut next = 0;
+    while next < s.len() {
+        let at = next;
+        next = past(s, at);
+        if starts(s, at, next, debug, place, before) {
+            return Span::At(at, next);
+        }
+    }
+    Span::Nothing
+}
+
+// Question 63: the header of the record from `at` to `end`.
+fn header_of(s: &[u8], relocs: &[u64], debug: bool, at: usize, end: usize) -> Span
+    requires { ⌜ (at + 8 ≤ end) × (end ≤ length (now s)) × T (isSome (entries (now s))) ⌝ }
+    ensures { λ r. ⌜ Spans (now (s .entry)) r (after (headerPlace debug (relocationsOf (now (relocs .entry))) (entryIn (now (s .entry)) at end)) λ place. headerAt debug place at (listed (entries (now (s .entry))))) ⌝ }
+{
+    let Place::At(place) = header_place(s, relocs, debug, at, end) else {
+        return Span::Nothing;
+    };
+    header_span(s, debug, place, at)
 }
