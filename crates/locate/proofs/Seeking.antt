@@ -120,3 +120,15 @@ module _ {xs : List ℕ} {place i : ℕ} (k : Searching xs place i) where
   pub search-ended : length xs / 5 ≤ i → Nowhere ≡ placed (firstAddend place (relocationsOf xs))
   unfolding placed firstAddend first each after
   search-ended h = let e : length xs / 5 - i ≡ 0 = omega arith in sym (rw (k .rest, e))
+
+-- ---- a position that was found
+
+pub placed-at : (o : Option ℕ) {p : ℕ} → placed o ≡ At p → o ≡ some p
+unfolding placed
+placed-at none e = let z : _≡_ {A = ℕ} 0 1 = cc in absurd (omega arith)
+placed-at (some n) e = cc
+
+pub placed-none : (o : Option ℕ) → placed o ≡ Nowhere → o ≡ none
+unfolding placed
+placed-none none e = refl
+placed-none (some n) e = let z : _≡_ {A = ℕ} 0 1 = cc in absurd (omega arith)
