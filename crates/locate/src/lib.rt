@@ -1,15 +1,16 @@
 // Where the operations of a record and of its header stand in a section: questions 61 to 64. Added to what is ported from rucc-asm/src/unwind.rs of tamnd/rucc: see NOTICE.
 ghost use mathlib.Core.Path.{_≡_};
-ghost use mathlib.Core.Bool.{_&&_};
+ghost use mathlib.Core.Bool.{true, _&&_};
 ghost use Prim.Native.Nat.{_+_, _≤_, _<_};
-ghost use lib.ListN.{length, getElem?};
+ghost use lib.ListN.{length, drop, getElem?};
 ghost use lib.Dec.{T, eqb, ltb};
 ghost use Rattle.format.specs.Questions.{isSome};
-ghost use Rattle.format.specs.Reader.{second, isHeader, records, distanceBack, firstAddend, headerPlace, headerAt, entries};
+ghost use Rattle.format.specs.Reader.{strip, spellings, readLetters, second, isHeader, records, distanceBack, firstAddend, headerPlace, headerAt, entries};
 ghost use Rattle.format.specs.Lists.{relocationsOf};
 ghost use Rattle.format.specs.Test.{after};
-ghost use Rattle.format.specs.Headers.{headerId};
+ghost use Rattle.format.specs.Headers.{headerId, sizeOf, pointerSize};
 ghost use Rattle.locate.specs.Spans.{part, entryIn, entriesFrom, listed, placed, endAt, Ends, Spans};
+ghost use Rattle.locate.specs.Fields.{Spells, widthOf};
 use format::Unsigned;
 
 // ---- entries
@@ -203,4 +204,97 @@ fn header_of(s: &[u8], relocs: &[u64], debug: bool, at: usize, end: usize) -> Sp
         return Span::Nothing;
     };
     header_span(s, debug, place, at)
+}
+
+// ---- the augmentation string of a header
+
+// What the string promises: a personality, a pointer to call sites, a signal frame.
+struct Promise {
+    personality: bool,
+    lsda: bool,
+    signal: bool,
+}
+
+// What a string promises, and the position past it.
+enum Spelled {
+    As(Promise, usize),
+    Nothing,
+}
+
+// The bytes of `text` stand at `at`.
+fn stands(s: &[u8], at: usize, text: &[u8]) -> bool
+    ensures { λ r. ⌜ r ≡ isSome (strip (now (text .entry)) (drop at (now (s .entry)))) ⌝ }
+{
+    let mut i = 0;
+    let mut next = at;
+    while i < text.len() {
+        if s.len() <= next {
+            return false;
+        }
+        if text[i] != s[next] {
+            return false;
+        }
+        i += 1;
+        next += 1;
+    }
+    true
+}
+
+fn promised(personality: bool, lsda: bool, signal: bool) -> Promise
+    ensures { λ r. ⌜ r ≡ record { personality = personality; lsda = lsda; signal = signal } ⌝ }
+{
+    Promise {
+        personality,
+        lsda,
+        signal,
+    }
+}
+
+// debug_frame: nothing, or S.
+fn debug_letters(s: &[u8], at: usize) -> Spelled
+    ensures { λ r. ⌜ Spells (now (s .entry)) r (readLetters (spellings true) (drop at (now (s .entry)))) ⌝ }
+{
+    if stands(s, at, b"\0") {
+        return Spelled::As(promised(false, false, false), at + 1);
+    }
+    if stands(s, at, b"S\0") {
+        return Spelled::As(promised(false, false, true), at + 2);
+    }
+    Spelled::Nothing
+}
+
+// ---- encodings
+
+// How many bytes a pointer has, where its encoding is accepted.
+enum Width {
+    Bytes(u64),
+    Unknown,
+}
+
+fn size_of(word: u64, e: u8) -> Width
+    ensures { λ r. ⌜ r ≡ widthOf (sizeOf word e) ⌝ }
+{
+    match e {
+        0x00 => Width::Bytes(word),
+        0x03 => Width::Bytes(4),
+        0x0b => Width::Bytes(4),
+        0x13 => Width::Bytes(4),
+        0x1b => Width::Bytes(4),
+        0x04 => Width::Bytes(8),
+        0x0c => Width::Bytes(8),
+        _ => Width::Unknown,
+    }
+}
+
+// The indirect bit is taken for a personality only.
+fn pointer_size(indirect: bool, word: u64, e: u8) -> Width
+    ensures { λ r. ⌜ r ≡ widthOf (pointerSize indirect word e) ⌝ }
+{
+    if e < 128 {
+        return size_of(word, e % 128);
+    }
+    if indirect {
+        return size_of(word, e % 128);
+    }
+    Width::Unknown
 }

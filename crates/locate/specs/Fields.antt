@@ -1,0 +1,34 @@
+-- The fields of a header and of a record by positions: what was read, and where the rest stands.
+use mathlib.Core.Path.{_≡_}
+use Prim.Native.Nat.{ℕ, _≤_}
+use mathlib.Core.Option.{Option, none, some}
+use mathlib.Core.List.{List}
+use lib.ListN.{length, drop}
+use Rattle.format.specs.Test.{Read}
+use Rattle.format.specs.Reader.{Letters}
+use Rattle.locate.specs.Spans.{part}
+use Rattle.locate.specs.declared.Promise.{Promise}
+use Rattle.locate.specs.declared.Spelled.{Spelled}
+use Rattle.locate.specs.declared.Spelled.the-variants as spelled
+use Rattle.locate.specs.declared.Width.{Width}
+use Rattle.locate.specs.declared.Width.the-variants as width
+
+-- a value, and at position q the rest
+pub record Rests {A : Type 0} (s : List ℕ) (v : A) (q : ℕ) (x : Read A) : Type 0 where
+  pub inside : q ≤ length s
+  pub read : x ≡ some (v, drop q s)
+
+-- ---- the augmentation string
+
+abbrev pub lettersOf : Promise → Letters
+lettersOf p = record { personality = p .personality; lsda = p .lsda; signal = p .signal }
+
+abbrev pub Spells : List ℕ → Spelled → Read Letters → Type 0
+Spells s (spelled.As p q) x = Rests s (lettersOf p) q x
+Spells s spelled.Nothing x = x ≡ none
+
+-- ---- encodings
+
+unfoldable pub widthOf : Option ℕ → Width
+widthOf none = width.Unknown
+widthOf (some n) = width.Bytes n
