@@ -1,15 +1,16 @@
 -- The fields of a header and of a record by positions: what was read, and where the rest stands.
 use mathlib.Core.Path.{_≡_}
 use Prim.Native.Nat.{ℕ, _≤_}
+use mathlib.Core.Bool.{Bool, true, false}
 use mathlib.Core.Option.{Option, none, some}
-use mathlib.Core.List.{List}
+use mathlib.Core.List.{List, [], _∷_}
 use lib.ListN.{length, drop}
 use Rattle.format.specs.Test.{Read}
-use Rattle.format.specs.Reader.{Letters}
+use Rattle.format.specs.Reader.{Letters, Spelling, spelled}
 use Rattle.locate.specs.Spans.{part}
 use Rattle.locate.specs.declared.Promise.{Promise}
 use Rattle.locate.specs.declared.Spelled.{Spelled}
-use Rattle.locate.specs.declared.Spelled.the-variants as spelled
+use Rattle.locate.specs.declared.Spelled.the-variants as spells
 use Rattle.locate.specs.declared.Width.{Width}
 use Rattle.locate.specs.declared.Width.the-variants as width
 
@@ -23,9 +24,13 @@ pub record Rests {A : Type 0} (s : List ℕ) (v : A) (q : ℕ) (x : Read A) : Ty
 abbrev pub lettersOf : Promise → Letters
 lettersOf p = record { personality = p .personality; lsda = p .lsda; signal = p .signal }
 
+-- a string, and the one that marks a signal frame
+abbrev pub twoOf : (plain signal : List ℕ) (personality lsda : Bool) → List Spelling
+twoOf plain signal personality lsda = spelled plain personality lsda false ∷ spelled signal personality lsda true ∷ []
+
 abbrev pub Spells : List ℕ → Spelled → Read Letters → Type 0
-Spells s (spelled.As p q) x = Rests s (lettersOf p) q x
-Spells s spelled.Nothing x = x ≡ none
+Spells s (spells.As p q) x = Rests s (lettersOf p) q x
+Spells s spells.Nothing x = x ≡ none
 
 -- ---- encodings
 

@@ -1,6 +1,6 @@
 // Where the operations of a record and of its header stand in a section: questions 61 to 64. Added to what is ported from rucc-asm/src/unwind.rs of tamnd/rucc: see NOTICE.
 ghost use mathlib.Core.Path.{_≡_};
-ghost use mathlib.Core.Bool.{true, _&&_};
+ghost use mathlib.Core.Bool.{_&&_};
 ghost use Prim.Native.Nat.{_+_, _≤_, _<_};
 ghost use lib.ListN.{length, drop, getElem?};
 ghost use lib.Dec.{T, eqb, ltb};
@@ -10,7 +10,7 @@ ghost use Rattle.format.specs.Lists.{relocationsOf};
 ghost use Rattle.format.specs.Test.{after};
 ghost use Rattle.format.specs.Headers.{headerId, sizeOf, pointerSize};
 ghost use Rattle.locate.specs.Spans.{part, entryIn, entriesFrom, listed, placed, endAt, Ends, Spans};
-ghost use Rattle.locate.specs.Fields.{Spells, widthOf};
+ghost use Rattle.locate.specs.Fields.{twoOf, Spells, widthOf};
 use format::Unsigned;
 
 // ---- entries
@@ -250,17 +250,35 @@ fn promised(personality: bool, lsda: bool, signal: bool) -> Promise
     }
 }
 
-// debug_frame: nothing, or S.
-fn debug_letters(s: &[u8], at: usize) -> Spelled
-    ensures { λ r. ⌜ Spells (now (s .entry)) r (readLetters (spellings true) (drop at (now (s .entry)))) ⌝ }
+// One string, or the one that marks a signal frame.
+fn marked(s: &[u8], at: usize, plain: &[u8], signal: &[u8], personality: bool, lsda: bool) -> Spelled
+    requires { ⌜ at ≤ length (now s) ⌝ }
+    ensures { λ r. ⌜ Spells (now (s .entry)) r (readLetters (twoOf (now (plain .entry)) (now (signal .entry)) personality lsda) (drop at (now (s .entry)))) ⌝ }
 {
-    if stands(s, at, b"\0") {
-        return Spelled::As(promised(false, false, false), at + 1);
+    if stands(s, at, plain) {
+        return Spelled::As(promised(personality, lsda, false), at + plain.len());
     }
-    if stands(s, at, b"S\0") {
-        return Spelled::As(promised(false, false, true), at + 2);
+    if stands(s, at, signal) {
+        return Spelled::As(promised(personality, lsda, true), at + signal.len());
     }
     Spelled::Nothing
+}
+
+// The string at `at`, one of the source's.
+fn letters(s: &[u8], at: usize, debug: bool) -> Spelled
+    requires { ⌜ at ≤ length (now s) ⌝ }
+    ensures { λ r. ⌜ Spells (now (s .entry)) r (readLetters (spellings debug) (drop at (now (s .entry)))) ⌝ }
+{
+    if debug {
+        return marked(s, at, b"\0", b"S\0", false, false);
+    }
+    if let Spelled::As(p, past) = marked(s, at, b"zR\0", b"zRS\0", false, false) {
+        return Spelled::As(p, past);
+    }
+    if let Spelled::As(p, past) = marked(s, at, b"zPR\0", b"zPRS\0", true, false) {
+        return Spelled::As(p, past);
+    }
+    marked(s, at, b"zPLR\0", b"zPLRS\0", true, true)
 }
 
 // ---- encodings
