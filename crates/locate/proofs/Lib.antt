@@ -2,3 +2,4 @@
 pub mod Entries
 pub mod Seeking
 pub mod Strings
+pub mod Augmentation

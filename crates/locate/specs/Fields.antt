@@ -8,6 +8,12 @@ use lib.ListN.{length, drop}
 use Rattle.format.specs.Test.{Read}
 use Rattle.format.specs.Reader.{Letters, Spelling, spelled}
 use Rattle.locate.specs.Spans.{part}
+use Rattle.format.specs.declared.Unsigned.{Unsigned}
+use Rattle.format.specs.declared.Unsigned.the-variants as unsigned
+use Rattle.locate.specs.declared.Place.{Place}
+use Rattle.locate.specs.declared.Place.the-variants as place
+use Rattle.locate.specs.declared.Span.{Span}
+use Rattle.locate.specs.declared.Span.the-variants as span
 use Rattle.locate.specs.declared.Promise.{Promise}
 use Rattle.locate.specs.declared.Spelled.{Spelled}
 use Rattle.locate.specs.declared.Spelled.the-variants as spells
@@ -37,3 +43,29 @@ Spells s spells.Nothing x = x ≡ none
 unfoldable pub widthOf : Option ℕ → Width
 widthOf none = width.Unknown
 widthOf (some n) = width.Bytes n
+
+-- ---- the augmentation data
+
+-- bytes from `at` up to `end`, and the rest
+pub record Counts (s : List ℕ) (at end : ℕ) (x : Read (List ℕ)) : Type 0 where
+  pub ordered : at ≤ end
+  pub inside : end ≤ length s
+  pub read : x ≡ some (part s at end, drop end s)
+
+abbrev pub CountsIn : List ℕ → Span → Read (List ℕ) → Type 0
+CountsIn s (span.At at end) x = Counts s at end x
+CountsIn s span.Nothing x = x ≡ none
+
+-- what was skipped, and at position q the rest
+pub record Skips (s : List ℕ) (q : ℕ) (x : Option (List ℕ)) : Type 0 where
+  pub inside : q ≤ length s
+  pub rest : x ≡ some (drop q s)
+
+abbrev pub SkipsTo : List ℕ → Place → Option (List ℕ) → Type 0
+SkipsTo s (place.At q) x = Skips s q x
+SkipsTo s place.Nowhere x = x ≡ none
+
+-- a number and the position past it
+abbrev pub Numbers : List ℕ → Unsigned → Read ℕ → Type 0
+Numbers s (unsigned.Value v q) x = Rests s v q x
+Numbers s unsigned.Bad x = x ≡ none

@@ -5,12 +5,12 @@ ghost use Prim.Native.Nat.{_+_, _≤_, _<_};
 ghost use lib.ListN.{length, drop, getElem?};
 ghost use lib.Dec.{T, eqb, ltb};
 ghost use Rattle.format.specs.Questions.{isSome};
-ghost use Rattle.format.specs.Reader.{strip, spellings, readLetters, second, isHeader, records, distanceBack, firstAddend, headerPlace, headerAt, entries};
+ghost use Rattle.format.specs.Reader.{strip, spellings, readLetters, readCounted, personalityIn, lsdaIn, lettersIn, second, isHeader, records, distanceBack, firstAddend, headerPlace, headerAt, entries};
 ghost use Rattle.format.specs.Lists.{relocationsOf};
 ghost use Rattle.format.specs.Test.{after};
 ghost use Rattle.format.specs.Headers.{headerId, sizeOf, pointerSize};
 ghost use Rattle.locate.specs.Spans.{part, entryIn, entriesFrom, listed, placed, endAt, Ends, Spans};
-ghost use Rattle.locate.specs.Fields.{twoOf, Spells, widthOf};
+ghost use Rattle.locate.specs.Fields.{lettersOf, twoOf, Spells, widthOf, CountsIn, SkipsTo, Numbers};
 use format::Unsigned;
 
 // ---- entries
@@ -315,4 +315,74 @@ fn pointer_size(indirect: bool, word: u64, e: u8) -> Width
         return size_of(word, e % 128);
     }
     Width::Unknown
+}
+
+// ---- augmentation data
+
+// A length and as many bytes: where these start and end.
+fn counted(s: &[u8], at: usize) -> Span
+    ensures { λ r. ⌜ CountsIn (now (s .entry)) r (readCounted (drop at (now (s .entry)))) ⌝ }
+{
+    let Unsigned::Value(n, start) = leb::read_uleb(s, at) else {
+        return Span::Nothing;
+    };
+    if s.len() - start < n as usize {
+        return Span::Nothing;
+    }
+    Span::At(start, start + n as usize)
+}
+
+// The position past the personality's encoding and pointer, where there is one `here`.
+fn personality_in(s: &[u8], here: bool, word: u64) -> Place
+    ensures { λ r. ⌜ SkipsTo (now (s .entry)) r (personalityIn here word (now (s .entry))) ⌝ }
+{
+    if !here {
+        return Place::At(0);
+    }
+    if s.len() == 0 {
+        return Place::Nowhere;
+    }
+    let Width::Bytes(n) = pointer_size(true, word, s[0]) else {
+        return Place::Nowhere;
+    };
+    if s.len() - 1 < n as usize {
+        return Place::Nowhere;
+    }
+    Place::At(1 + n as usize)
+}
+
+// The bytes of a record's pointer to call sites by the encoding at `at`, none where there is no encoding `here`.
+fn lsda_in(s: &[u8], at: usize, here: bool, word: u64) -> Unsigned
+    requires { ⌜ at ≤ length (now s) ⌝ }
+    ensures { λ r. ⌜ Numbers (now (s .entry)) r (lsdaIn here word (drop at (now (s .entry)))) ⌝ }
+{
+    if !here {
+        return Unsigned::Value(0, at);
+    }
+    if s.len() <= at {
+        return Unsigned::Bad;
+    }
+    let Width::Bytes(n) = pointer_size(false, word, s[at]) else {
+        return Unsigned::Bad;
+    };
+    Unsigned::Value(n, at + 1)
+}
+
+// The data that the string promises, the records' own encoding last: the bytes of a record's pointer to call sites.
+fn letters_in(s: &[u8], word: u64, p: Promise) -> Width
+    ensures { λ r. ⌜ r ≡ widthOf (lettersIn (lettersOf p) word (now (s .entry))) ⌝ }
+{
+    let Place::At(at) = personality_in(s, p.personality, word) else {
+        return Width::Unknown;
+    };
+    let Unsigned::Value(n, last) = lsda_in(s, at, p.lsda, word) else {
+        return Width::Unknown;
+    };
+    if s.len() <= last {
+        return Width::Unknown;
+    }
+    if s[last] != 0x1b {
+        return Width::Unknown;
+    }
+    Width::Bytes(n)
 }
