@@ -79,12 +79,12 @@ module _ (s : List ℕ) (x : Read (List ℕ)) {r : Span} (m : CountsIn s r x) wh
 
 -- ---- encodings
 
-width-known : (o : Option ℕ) {n : ℕ} → widthOf o ≡ Bytes n → o ≡ some n
+pub width-known : (o : Option ℕ) {n : ℕ} → widthOf o ≡ Bytes n → o ≡ some n
 unfolding widthOf
 width-known none e = let z : _≡_ {A = ℕ} 0 1 = cc in absurd (omega arith)
 width-known (some n) e = cc
 
-width-unknown : (o : Option ℕ) → widthOf o ≡ Unknown → o ≡ none
+pub width-unknown : (o : Option ℕ) → widthOf o ≡ Unknown → o ≡ none
 unfolding widthOf
 width-unknown none e = refl
 width-unknown (some n) e = let z : _≡_ {A = ℕ} 0 1 = cc in absurd (omega arith)

@@ -3,3 +3,5 @@ pub mod Entries
 pub mod Seeking
 pub mod Strings
 pub mod Augmentation
+pub mod Headed
+pub mod Recorded

@@ -5,8 +5,12 @@ use mathlib.Core.Bool.{Bool, true, false}
 use mathlib.Core.Option.{Option, none, some}
 use mathlib.Core.List.{List, [], _∷_}
 use lib.ListN.{length, drop}
-use Rattle.format.specs.Test.{Read}
-use Rattle.format.specs.Reader.{Letters, Spelling, spelled}
+use lib.Dec.{eqb}
+use Rattle.format.specs.Test.{Read, next}
+use Rattle.format.specs.Leb.{readUleb, readSleb}
+use Rattle.format.specs.Rows.{readRegister, sameOffset}
+use Rattle.format.specs.Headers.{dataFactor}
+use Rattle.format.specs.Reader.{Letters, Spelling, spelled, HeaderFields, require, headerTail, RecordFields}
 use Rattle.locate.specs.Spans.{part}
 use Rattle.format.specs.declared.Unsigned.{Unsigned}
 use Rattle.format.specs.declared.Unsigned.the-variants as unsigned
@@ -17,6 +21,10 @@ use Rattle.locate.specs.declared.Span.the-variants as span
 use Rattle.locate.specs.declared.Promise.{Promise}
 use Rattle.locate.specs.declared.Spelled.{Spelled}
 use Rattle.locate.specs.declared.Spelled.the-variants as spells
+use Rattle.locate.specs.declared.Header.{Header}
+use Rattle.locate.specs.declared.Header.the-variants as header
+use Rattle.locate.specs.declared.Record.{Record}
+use Rattle.locate.specs.declared.Record.the-variants as row
 use Rattle.locate.specs.declared.Width.{Width}
 use Rattle.locate.specs.declared.Width.the-variants as width
 
@@ -69,3 +77,29 @@ SkipsTo s place.Nowhere x = x ≡ none
 abbrev pub Numbers : List ℕ → Unsigned → Read ℕ → Type 0
 Numbers s (unsigned.Value v q) x = Rests s v q x
 Numbers s unsigned.Bad x = x ≡ none
+
+-- ---- a header
+
+pub record Heading (s : List ℕ) (q pointer : ℕ) (signal : Bool) (x : Option HeaderFields) : Type 0 where
+  pub inside : q ≤ length s
+  pub read : x ≡ some (record { pointer = pointer; signal = signal; operations = drop q s })
+
+abbrev pub Heads : List ℕ → Header → Option HeaderFields → Type 0
+Heads s (header.Fields q pointer signal) x = Heading s q pointer signal x
+Heads s header.Bad x = x ≡ none
+
+-- from the code alignment factor on
+unfoldable pub headerFactors : (debug : Bool) → Letters → ℕ → List ℕ → Option HeaderFields
+headerFactors debug l word bs =
+    next (readUleb bs) λ code r₃. require (eqb code 1)
+    (next (readSleb r₃) λ z r₄. require (sameOffset z (dataFactor word)) (next (readRegister r₄) λ ra r₅. headerTail debug l word r₅))
+
+-- ---- a record
+
+pub record Recording (s : List ℕ) (q size : ℕ) (x : Option RecordFields) : Type 0 where
+  pub inside : q ≤ length s
+  pub read : x ≡ some (record { size = size; operations = drop q s })
+
+abbrev pub Records : List ℕ → Record → Option RecordFields → Type 0
+Records s (row.Fields q size) x = Recording s q size x
+Records s row.Bad x = x ≡ none

@@ -5,12 +5,15 @@ ghost use Prim.Native.Nat.{_+_, _≤_, _<_};
 ghost use lib.ListN.{length, drop, getElem?};
 ghost use lib.Dec.{T, eqb, ltb};
 ghost use Rattle.format.specs.Questions.{isSome};
-ghost use Rattle.format.specs.Reader.{strip, spellings, readLetters, readCounted, personalityIn, lsdaIn, lettersIn, second, isHeader, records, distanceBack, firstAddend, headerPlace, headerAt, entries};
+ghost use Rattle.format.specs.Reader.{strip, spellings, readLetters, readCounted, personalityIn, lsdaIn, lettersIn, headerTail, parseHeader, recordTail, parseRecord, second, isHeader, records, distanceBack, firstAddend, headerPlace, headerAt, entries};
 ghost use Rattle.format.specs.Lists.{relocationsOf};
-ghost use Rattle.format.specs.Test.{after};
-ghost use Rattle.format.specs.Headers.{headerId, sizeOf, pointerSize};
+ghost use Rattle.format.specs.Test.{pick, after};
+ghost use Rattle.format.specs.Machine.{isWord};
+ghost use Rattle.format.specs.Rows.{sameOffset};
+ghost use Rattle.format.specs.Headers.{headerId, sizeOf, pointerSize, dataFactor};
 ghost use Rattle.locate.specs.Spans.{part, entryIn, entriesFrom, listed, placed, endAt, Ends, Spans};
-ghost use Rattle.locate.specs.Fields.{lettersOf, twoOf, Spells, widthOf, CountsIn, SkipsTo, Numbers};
+ghost use Rattle.locate.specs.Fields.{lettersOf, twoOf, Spells, widthOf, CountsIn, SkipsTo, Numbers, Heads, headerFactors, Records};
+use format::Signed;
 use format::Unsigned;
 
 // ---- entries
@@ -385,4 +388,136 @@ fn letters_in(s: &[u8], word: u64, p: Promise) -> Width
         return Width::Unknown;
     }
     Width::Bytes(n)
+}
+
+// ---- the fields of a header
+
+// Where the operations start, the bytes of a record's pointer to call sites, and the signal mark.
+enum Header {
+    Fields(usize, u64, bool),
+    Bad,
+}
+
+// The augmentation data, of which debug_frame has none; the operations follow it.
+fn header_tail(s: &[u8], at: usize, debug: bool, word: u64, p: Promise) -> Header
+    requires { ⌜ at ≤ length (now s) ⌝ }
+    ensures { λ r. ⌜ Heads (now (s .entry)) r (headerTail debug (lettersOf p) word (drop at (now (s .entry)))) ⌝ }
+{
+    if debug {
+        return Header::Fields(at, 0, p.signal);
+    }
+    let Span::At(start, end) = counted(s, at) else {
+        return Header::Bad;
+    };
+    let Width::Bytes(n) = letters_in(&s[start..end], word, p) else {
+        return Header::Bad;
+    };
+    Header::Fields(end, n, p.signal)
+}
+
+// The data alignment factor is minus the word.
+fn factor_ok(z: i64, word: u64) -> bool
+    requires { ⌜ T (isWord word) ⌝ }
+    ensures { λ r. ⌜ r ≡ sameOffset z (dataFactor word) ⌝ }
+{
+    z == 0 - word as i64
+}
+
+// From the code alignment factor on.
+fn header_factors(s: &[u8], at: usize, debug: bool, word: u64, p: Promise) -> Header
+    requires { ⌜ T (isWord word) ⌝ }
+    ensures { λ r. ⌜ Heads (now (s .entry)) r (headerFactors debug (lettersOf p) word (drop at (now (s .entry)))) ⌝ }
+{
+    let Unsigned::Value(code, data) = leb::read_uleb(s, at) else {
+        return Header::Bad;
+    };
+    if code != 1 {
+        return Header::Bad;
+    }
+    let Signed::Value(z, ret) = leb::read_sleb(s, data) else {
+        return Header::Bad;
+    };
+    if !factor_ok(z, word) {
+        return Header::Bad;
+    }
+    let Unsigned::Value(reg, tail) = leb::read_uleb(s, ret) else {
+        return Header::Bad;
+    };
+    if 0xffff < reg {
+        return Header::Bad;
+    }
+    header_tail(s, tail, debug, word, p)
+}
+
+// Question 64 of a header, by the bytes behind its length.
+fn parse_header(s: &[u8], debug: bool, word: u64) -> Header
+    requires { ⌜ T (isWord word) ⌝ }
+    ensures { λ r. ⌜ Heads (now (s .entry)) r (parseHeader debug word (now (s .entry))) ⌝ }
+{
+    let Unsigned::Value(_, at) = leb::read_le(s, 0, 4) else {
+        return Header::Bad;
+    };
+    if s.len() <= at {
+        return Header::Bad;
+    }
+    if s[at] != 1 {
+        return Header::Bad;
+    }
+    let Spelled::As(p, past) = letters(s, at + 1, debug) else {
+        return Header::Bad;
+    };
+    header_factors(s, past, debug, word, p)
+}
+
+// ---- the fields of a record
+
+// Where the operations start, and the function's length.
+enum Record {
+    Fields(usize, u64),
+    Bad,
+}
+
+// The augmentation of a record holds its pointer to call sites.
+fn record_tail(s: &[u8], at: usize, debug: bool, pointer: u64, size: u64) -> Record
+    requires { ⌜ at ≤ length (now s) ⌝ }
+    ensures { λ r. ⌜ Records (now (s .entry)) r (recordTail debug pointer size (drop at (now (s .entry)))) ⌝ }
+{
+    if debug {
+        return Record::Fields(at, size);
+    }
+    let Span::At(start, end) = counted(s, at) else {
+        return Record::Bad;
+    };
+    if ((end - start) as u64) < pointer {
+        return Record::Bad;
+    }
+    Record::Fields(end, size)
+}
+
+// The bytes of a function's place and of its length.
+fn field_size(debug: bool, word: u64) -> u64
+    ensures { λ r. ⌜ r ≡ pick debug word 4 ⌝ }
+{
+    if debug {
+        return word;
+    }
+    4
+}
+
+// Question 64 of a record, by the bytes behind its length.
+fn parse_record(s: &[u8], debug: bool, word: u64, pointer: u64) -> Record
+    requires { ⌜ T (isWord word) ⌝ }
+    ensures { λ r. ⌜ Records (now (s .entry)) r (parseRecord debug word pointer (now (s .entry))) ⌝ }
+{
+    let n = field_size(debug, word) as usize;
+    let Unsigned::Value(_, place) = leb::read_le(s, 0, 4) else {
+        return Record::Bad;
+    };
+    let Unsigned::Value(_, length) = leb::read_le(s, place, n) else {
+        return Record::Bad;
+    };
+    let Unsigned::Value(size, tail) = leb::read_le(s, length, n) else {
+        return Record::Bad;
+    };
+    record_tail(s, tail, debug, pointer, size)
 }
