@@ -5,3 +5,4 @@ pub mod Strings
 pub mod Augmentation
 pub mod Headed
 pub mod Recorded
+pub mod Whole

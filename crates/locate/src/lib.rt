@@ -5,7 +5,7 @@ ghost use Prim.Native.Nat.{_+_, _≤_, _<_};
 ghost use lib.ListN.{length, drop, getElem?};
 ghost use lib.Dec.{T, eqb, ltb};
 ghost use Rattle.format.specs.Questions.{isSome};
-ghost use Rattle.format.specs.Reader.{strip, spellings, readLetters, readCounted, personalityIn, lsdaIn, lettersIn, headerTail, parseHeader, recordTail, parseRecord, second, isHeader, records, distanceBack, firstAddend, headerPlace, headerAt, entries};
+ghost use Rattle.format.specs.Reader.{strip, spellings, readLetters, readCounted, personalityIn, lsdaIn, lettersIn, headerTail, parseHeader, recordTail, parseRecord, second, isHeader, records, distanceBack, firstAddend, headerPlace, headerAt, entries, parsed, locate};
 ghost use Rattle.format.specs.Lists.{relocationsOf};
 ghost use Rattle.format.specs.Test.{pick, after};
 ghost use Rattle.format.specs.Machine.{isWord};
@@ -13,6 +13,7 @@ ghost use Rattle.format.specs.Rows.{sameOffset};
 ghost use Rattle.format.specs.Headers.{headerId, sizeOf, pointerSize, dataFactor};
 ghost use Rattle.locate.specs.Spans.{part, entryIn, entriesFrom, listed, placed, endAt, Ends, Spans};
 ghost use Rattle.locate.specs.Fields.{lettersOf, twoOf, Spells, widthOf, CountsIn, SkipsTo, Numbers, Heads, headerFactors, Records};
+ghost use Rattle.locate.specs.Finds.{Locates};
 use format::Signed;
 use format::Unsigned;
 
@@ -520,4 +521,64 @@ fn parse_record(s: &[u8], debug: bool, word: u64, pointer: u64) -> Record
         return Record::Bad;
     };
     record_tail(s, tail, debug, pointer, size)
+}
+
+// ---- the whole
+
+// Where the operations of record k and of its header stand, the function's length, and the header's signal mark and pointer size.
+pub struct Located {
+    pub header: usize,
+    pub header_end: usize,
+    pub record: usize,
+    pub record_end: usize,
+    pub size: u64,
+    pub pointer: u64,
+    pub signal: bool,
+}
+
+// That, or the number of the question that was answered by no.
+pub enum Locating {
+    Found(Located),
+    No(u64),
+}
+
+// Question 64 of the header from `cie` to `past`, and then of the record from `at` to `end`.
+fn fields(s: &[u8], debug: bool, word: u64, cie: usize, past: usize, at: usize, end: usize) -> Locating
+    requires { ⌜ T (isWord word) × (cie + 8 ≤ past) × (past ≤ length (now s)) × (at + 8 ≤ end) × (end ≤ length (now s)) ⌝ }
+    ensures { λ r. ⌜ Locates (now (s .entry)) r (parsed debug word (entryIn (now (s .entry)) cie past) (entryIn (now (s .entry)) at end)) ⌝ }
+{
+    let header = cie + 4;
+    let Header::Fields(rules, pointer, signal) = parse_header(&s[header..past], debug, word) else {
+        return Locating::No(64);
+    };
+    let record = at + 4;
+    let Record::Fields(rows, size) = parse_record(&s[record..end], debug, word, pointer) else {
+        return Locating::No(64);
+    };
+    Locating::Found(Located {
+        header: header + rules,
+        header_end: past,
+        record: record + rows,
+        record_end: end,
+        size,
+        pointer,
+        signal,
+    })
+}
+
+// Questions 61 to 64, in this order.
+pub fn locate(s: &[u8], relocs: &[u64], debug: bool, word: u64, k: u64) -> Locating
+    requires { ⌜ T (isWord word) ⌝ }
+    ensures { λ r. ⌜ Locates (now (s .entry)) r (locate debug (relocationsOf (now (relocs .entry))) word k (now (s .entry))) ⌝ }
+{
+    if !tiles(s) {
+        return Locating::No(61);
+    }
+    let Span::At(at, end) = record_span(s, debug, k) else {
+        return Locating::No(62);
+    };
+    let Span::At(cie, past) = header_of(s, relocs, debug, at, end) else {
+        return Locating::No(63);
+    };
+    fields(s, debug, word, cie, past, at, end)
 }
