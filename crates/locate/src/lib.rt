@@ -1,0 +1,584 @@
+// Where the operations of a record and of its header stand in a section: questions 61 to 64. Added to what is ported from rucc-asm/src/unwind.rs of tamnd/rucc: see NOTICE.
+ghost use mathlib.Core.Path.{_≡_};
+ghost use mathlib.Core.Bool.{_&&_};
+ghost use Prim.Native.Nat.{_+_, _≤_, _<_};
+ghost use lib.ListN.{length, drop, getElem?};
+ghost use lib.Dec.{T, eqb, ltb};
+ghost use Rattle.format.specs.Questions.{isSome};
+ghost use Rattle.format.specs.Reader.{strip, spellings, readLetters, readCounted, personalityIn, lsdaIn, lettersIn, headerTail, parseHeader, recordTail, parseRecord, second, isHeader, records, distanceBack, firstAddend, headerPlace, headerAt, entries, parsed, locate};
+ghost use Rattle.format.specs.Lists.{relocationsOf};
+ghost use Rattle.format.specs.Test.{pick, after};
+ghost use Rattle.format.specs.Machine.{isWord};
+ghost use Rattle.format.specs.Rows.{sameOffset};
+ghost use Rattle.format.specs.Headers.{headerId, sizeOf, pointerSize, dataFactor};
+ghost use Rattle.locate.specs.Spans.{part, entryIn, entriesFrom, listed, placed, endAt, Ends, Spans};
+ghost use Rattle.locate.specs.Fields.{lettersOf, twoOf, Spells, widthOf, CountsIn, SkipsTo, Numbers, Heads, headerFactors, Records};
+ghost use Rattle.locate.specs.Finds.{Locates};
+use format::Signed;
+use format::Unsigned;
+
+// ---- entries
+
+// A position, where there is one.
+enum Place {
+    At(usize),
+    Nowhere,
+}
+
+// Where the entry at `at` ends: a 4-byte length, at least 4, and as many bytes.
+fn entry_end(s: &[u8], at: usize) -> Place
+    ensures { λ r. ⌜ r ≡ endAt (now (s .entry)) at ⌝ }
+{
+    let Unsigned::Value(n, body) = leb::read_le(s, at, 4) else {
+        return Place::Nowhere;
+    };
+    if n < 4 {
+        return Place::Nowhere;
+    }
+    if s.len() - body < n as usize {
+        return Place::Nowhere;
+    }
+    Place::At(body + n as usize)
+}
+
+// Question 61: the entries tile the section.
+fn tiles(s: &[u8]) -> bool
+    ensures { λ r. ⌜ r ≡ isSome (entries (now (s .entry))) ⌝ }
+{
+    let mut at = 0;
+    while at < s.len() {
+        let Place::At(end) = entry_end(s, at) else {
+            return false;
+        };
+        at = end;
+    }
+    true
+}
+
+// Where the entry at `at` ends, in a section that is tiled from there on.
+fn past(s: &[u8], at: usize) -> usize
+    requires { ⌜ (at < length (now s)) × T (isSome (entriesFrom (now s) at)) ⌝ }
+    ensures { λ r. ⌜ Ends (now (s .entry)) at r ⌝ }
+{
+    let Place::At(end) = entry_end(s, at) else {
+        return 0;
+    };
+    end
+}
+
+// The first field of an entry's body.
+fn id_of(body: &[u8]) -> u64
+    ensures { λ r. ⌜ r ≡ second (now (body .entry)) ⌝ }
+{
+    let Unsigned::Value(v, _) = leb::read_le(body, 0, 4) else {
+        return 0;
+    };
+    v
+}
+
+// The second field of the entry from `at` to `end`, whose first is its length.
+fn second(s: &[u8], at: usize, end: usize) -> u64
+    requires { ⌜ (at + 8 ≤ end) × (end ≤ length (now s)) ⌝ }
+    ensures { λ r. ⌜ r ≡ second (part (now (s .entry)) (at + 4) end) ⌝ }
+{
+    let body = at + 4;
+    id_of(&s[body..end])
+}
+
+// What marks a header.
+fn header_id(debug: bool) -> u64
+    ensures { λ r. ⌜ r ≡ headerId debug ⌝ }
+{
+    if debug {
+        return 0xffffffff;
+    }
+    0
+}
+
+fn is_header(s: &[u8], at: usize, end: usize, debug: bool) -> bool
+    requires { ⌜ (at + 8 ≤ end) × (end ≤ length (now s)) ⌝ }
+    ensures { λ r. ⌜ r ≡ isHeader debug (entryIn (now (s .entry)) at end) ⌝ }
+{
+    second(s, at, end) == header_id(debug)
+}
+
+// ---- the record and its header
+
+// An entry by where it starts and ends, where there is one.
+enum Span {
+    At(usize, usize),
+    Nothing,
+}
+
+// Question 62: record k.
+fn record_span(s: &[u8], debug: bool, k: u64) -> Span
+    requires { ⌜ T (isSome (entries (now s))) ⌝ }
+    ensures { λ r. ⌜ Spans (now (s .entry)) r (getElem? (records debug (listed (entries (now (s .entry))))) k) ⌝ }
+{
+    let mut left = k;
+    let mut next = 0;
+    'entries: while next < s.len() {
+        let at = next;
+        next = past(s, at);
+        if is_header(s, at, next, debug) {
+            continue 'entries;
+        }
+        if left == 0 {
+            return Span::At(at, next);
+        }
+        left -= 1;
+    }
+    Span::Nothing
+}
+
+// The addend of the first relocation at a place; a relocation is five numbers, the place first and the addend last.
+fn first_addend(relocs: &[u64], place: u64) -> Place
+    ensures { λ r. ⌜ r ≡ placed (firstAddend place (relocationsOf (now (relocs .entry)))) ⌝ }
+{
+    let n = relocs.len() / 5;
+    let mut i = 0;
+    while i < n {
+        if relocs[5 * i] == place {
+            return Place::At(relocs[5 * i + 4] as usize);
+        }
+        i += 1;
+    }
+    Place::Nowhere
+}
+
+// The place that lies the entry's second field before that field.
+fn distance_back(s: &[u8], at: usize, end: usize) -> Place
+    requires { ⌜ (at + 8 ≤ end) × (end ≤ length (now s)) ⌝ }
+    ensures { λ r. ⌜ r ≡ placed (distanceBack (entryIn (now (s .entry)) at end)) ⌝ }
+{
+    let distance = second(s, at, end) as usize;
+    if at + 4 < distance {
+        return Place::Nowhere;
+    }
+    Place::At(at + 4 - distance)
+}
+
+// Where the header of the record from `at` to `end` starts, as its second field says or, in debug_frame, that field's relocation.
+fn header_place(s: &[u8], relocs: &[u64], debug: bool, at: usize, end: usize) -> Place
+    requires { ⌜ (at + 8 ≤ end) × (end ≤ length (now s)) ⌝ }
+    ensures { λ r. ⌜ r ≡ placed (headerPlace debug (relocationsOf (now (relocs .entry))) (entryIn (now (s .entry)) at end)) ⌝ }
+{
+    if debug {
+        return first_addend(relocs, (at + 4) as u64);
+    }
+    distance_back(s, at, end)
+}
+
+// The entry from `at` to `end` is a header, starts at a place, and that place is earlier than `before`.
+fn starts(s: &[u8], at: usize, end: usize, debug: bool, place: usize, before: usize) -> bool
+    requires { ⌜ (at + 8 ≤ end) × (end ≤ length (now s)) ⌝ }
+    ensures { λ r. ⌜ r ≡ eqb at place && ltb place before && isHeader debug (entryIn (now (s .entry)) at end) ⌝ }
+{
+    if at != place {
+        return false;
+    }
+    if before <= place {
+        return false;
+    }
+    is_header(s, at, end, debug)
+}
+
+// The header that starts at a place earlier than `before`.
+fn header_span(s: &[u8], debug: bool, place: usize, before: usize) -> Span
+    requires { ⌜ T (isSome (entries (now s))) ⌝ }
+    ensures { λ r. ⌜ Spans (now (s .entry)) r (headerAt debug place before (listed (entries (now (s .entry))))) ⌝ }
+{
+    let mut next = 0;
+    while next < s.len() {
+        let at = next;
+        next = past(s, at);
+        if starts(s, at, next, debug, place, before) {
+            return Span::At(at, next);
+        }
+    }
+    Span::Nothing
+}
+
+// Question 63: the header of the record from `at` to `end`.
+fn header_of(s: &[u8], relocs: &[u64], debug: bool, at: usize, end: usize) -> Span
+    requires { ⌜ (at + 8 ≤ end) × (end ≤ length (now s)) × T (isSome (entries (now s))) ⌝ }
+    ensures { λ r. ⌜ Spans (now (s .entry)) r (after (headerPlace debug (relocationsOf (now (relocs .entry))) (entryIn (now (s .entry)) at end)) λ place. headerAt debug place at (listed (entries (now (s .entry))))) ⌝ }
+{
+    let Place::At(place) = header_place(s, relocs, debug, at, end) else {
+        return Span::Nothing;
+    };
+    header_span(s, debug, place, at)
+}
+
+// ---- the augmentation string of a header
+
+// What the string promises: a personality, a pointer to call sites, a signal frame.
+struct Promise {
+    personality: bool,
+    lsda: bool,
+    signal: bool,
+}
+
+// What a string promises, and the position past it.
+enum Spelled {
+    As(Promise, usize),
+    Nothing,
+}
+
+// The bytes of `text` stand at `at`.
+fn stands(s: &[u8], at: usize, text: &[u8]) -> bool
+    ensures { λ r. ⌜ r ≡ isSome (strip (now (text .entry)) (drop at (now (s .entry)))) ⌝ }
+{
+    let mut i = 0;
+    let mut next = at;
+    while i < text.len() {
+        if s.len() <= next {
+            return false;
+        }
+        if text[i] != s[next] {
+            return false;
+        }
+        i += 1;
+        next += 1;
+    }
+    true
+}
+
+fn promised(personality: bool, lsda: bool, signal: bool) -> Promise
+    ensures { λ r. ⌜ r ≡ record { personality = personality; lsda = lsda; signal = signal } ⌝ }
+{
+    Promise {
+        personality,
+        lsda,
+        signal,
+    }
+}
+
+// One string, or the one that marks a signal frame.
+fn marked(s: &[u8], at: usize, plain: &[u8], signal: &[u8], personality: bool, lsda: bool) -> Spelled
+    requires { ⌜ at ≤ length (now s) ⌝ }
+    ensures { λ r. ⌜ Spells (now (s .entry)) r (readLetters (twoOf (now (plain .entry)) (now (signal .entry)) personality lsda) (drop at (now (s .entry)))) ⌝ }
+{
+    if stands(s, at, plain) {
+        return Spelled::As(promised(personality, lsda, false), at + plain.len());
+    }
+    if stands(s, at, signal) {
+        return Spelled::As(promised(personality, lsda, true), at + signal.len());
+    }
+    Spelled::Nothing
+}
+
+// The string at `at`, one of the source's.
+fn letters(s: &[u8], at: usize, debug: bool) -> Spelled
+    requires { ⌜ at ≤ length (now s) ⌝ }
+    ensures { λ r. ⌜ Spells (now (s .entry)) r (readLetters (spellings debug) (drop at (now (s .entry)))) ⌝ }
+{
+    if debug {
+        return marked(s, at, b"\0", b"S\0", false, false);
+    }
+    if let Spelled::As(p, past) = marked(s, at, b"zR\0", b"zRS\0", false, false) {
+        return Spelled::As(p, past);
+    }
+    if let Spelled::As(p, past) = marked(s, at, b"zPR\0", b"zPRS\0", true, false) {
+        return Spelled::As(p, past);
+    }
+    marked(s, at, b"zPLR\0", b"zPLRS\0", true, true)
+}
+
+// ---- encodings
+
+// How many bytes a pointer has, where its encoding is accepted.
+enum Width {
+    Bytes(u64),
+    Unknown,
+}
+
+fn size_of(word: u64, e: u8) -> Width
+    ensures { λ r. ⌜ r ≡ widthOf (sizeOf word e) ⌝ }
+{
+    match e {
+        0x00 => Width::Bytes(word),
+        0x03 => Width::Bytes(4),
+        0x0b => Width::Bytes(4),
+        0x13 => Width::Bytes(4),
+        0x1b => Width::Bytes(4),
+        0x04 => Width::Bytes(8),
+        0x0c => Width::Bytes(8),
+        _ => Width::Unknown,
+    }
+}
+
+// The indirect bit is taken for a personality only.
+fn pointer_size(indirect: bool, word: u64, e: u8) -> Width
+    ensures { λ r. ⌜ r ≡ widthOf (pointerSize indirect word e) ⌝ }
+{
+    if e < 128 {
+        return size_of(word, e % 128);
+    }
+    if indirect {
+        return size_of(word, e % 128);
+    }
+    Width::Unknown
+}
+
+// ---- augmentation data
+
+// A length and as many bytes: where these start and end.
+fn counted(s: &[u8], at: usize) -> Span
+    ensures { λ r. ⌜ CountsIn (now (s .entry)) r (readCounted (drop at (now (s .entry)))) ⌝ }
+{
+    let Unsigned::Value(n, start) = leb::read_uleb(s, at) else {
+        return Span::Nothing;
+    };
+    if s.len() - start < n as usize {
+        return Span::Nothing;
+    }
+    Span::At(start, start + n as usize)
+}
+
+// The position past the personality's encoding and pointer, where there is one `here`.
+fn personality_in(s: &[u8], here: bool, word: u64) -> Place
+    ensures { λ r. ⌜ SkipsTo (now (s .entry)) r (personalityIn here word (now (s .entry))) ⌝ }
+{
+    if !here {
+        return Place::At(0);
+    }
+    if s.len() == 0 {
+        return Place::Nowhere;
+    }
+    let Width::Bytes(n) = pointer_size(true, word, s[0]) else {
+        return Place::Nowhere;
+    };
+    if s.len() - 1 < n as usize {
+        return Place::Nowhere;
+    }
+    Place::At(1 + n as usize)
+}
+
+// The bytes of a record's pointer to call sites by the encoding at `at`, none where there is no encoding `here`.
+fn lsda_in(s: &[u8], at: usize, here: bool, word: u64) -> Unsigned
+    requires { ⌜ at ≤ length (now s) ⌝ }
+    ensures { λ r. ⌜ Numbers (now (s .entry)) r (lsdaIn here word (drop at (now (s .entry)))) ⌝ }
+{
+    if !here {
+        return Unsigned::Value(0, at);
+    }
+    if s.len() <= at {
+        return Unsigned::Bad;
+    }
+    let Width::Bytes(n) = pointer_size(false, word, s[at]) else {
+        return Unsigned::Bad;
+    };
+    Unsigned::Value(n, at + 1)
+}
+
+// The data that the string promises, the records' own encoding last: the bytes of a record's pointer to call sites.
+fn letters_in(s: &[u8], word: u64, p: Promise) -> Width
+    ensures { λ r. ⌜ r ≡ widthOf (lettersIn (lettersOf p) word (now (s .entry))) ⌝ }
+{
+    let Place::At(at) = personality_in(s, p.personality, word) else {
+        return Width::Unknown;
+    };
+    let Unsigned::Value(n, last) = lsda_in(s, at, p.lsda, word) else {
+        return Width::Unknown;
+    };
+    if s.len() <= last {
+        return Width::Unknown;
+    }
+    if s[last] != 0x1b {
+        return Width::Unknown;
+    }
+    Width::Bytes(n)
+}
+
+// ---- the fields of a header
+
+// Where the operations start, the bytes of a record's pointer to call sites, and the signal mark.
+enum Header {
+    Fields(usize, u64, bool),
+    Bad,
+}
+
+// The augmentation data, of which debug_frame has none; the operations follow it.
+fn header_tail(s: &[u8], at: usize, debug: bool, word: u64, p: Promise) -> Header
+    requires { ⌜ at ≤ length (now s) ⌝ }
+    ensures { λ r. ⌜ Heads (now (s .entry)) r (headerTail debug (lettersOf p) word (drop at (now (s .entry)))) ⌝ }
+{
+    if debug {
+        return Header::Fields(at, 0, p.signal);
+    }
+    let Span::At(start, end) = counted(s, at) else {
+        return Header::Bad;
+    };
+    let Width::Bytes(n) = letters_in(&s[start..end], word, p) else {
+        return Header::Bad;
+    };
+    Header::Fields(end, n, p.signal)
+}
+
+// The data alignment factor is minus the word.
+fn factor_ok(z: i64, word: u64) -> bool
+    requires { ⌜ T (isWord word) ⌝ }
+    ensures { λ r. ⌜ r ≡ sameOffset z (dataFactor word) ⌝ }
+{
+    z == 0 - word as i64
+}
+
+// From the code alignment factor on.
+fn header_factors(s: &[u8], at: usize, debug: bool, word: u64, p: Promise) -> Header
+    requires { ⌜ T (isWord word) ⌝ }
+    ensures { λ r. ⌜ Heads (now (s .entry)) r (headerFactors debug (lettersOf p) word (drop at (now (s .entry)))) ⌝ }
+{
+    let Unsigned::Value(code, data) = leb::read_uleb(s, at) else {
+        return Header::Bad;
+    };
+    if code != 1 {
+        return Header::Bad;
+    }
+    let Signed::Value(z, ret) = leb::read_sleb(s, data) else {
+        return Header::Bad;
+    };
+    if !factor_ok(z, word) {
+        return Header::Bad;
+    }
+    let Unsigned::Value(reg, tail) = leb::read_uleb(s, ret) else {
+        return Header::Bad;
+    };
+    if 0xffff < reg {
+        return Header::Bad;
+    }
+    header_tail(s, tail, debug, word, p)
+}
+
+// Question 64 of a header, by the bytes behind its length.
+fn parse_header(s: &[u8], debug: bool, word: u64) -> Header
+    requires { ⌜ T (isWord word) ⌝ }
+    ensures { λ r. ⌜ Heads (now (s .entry)) r (parseHeader debug word (now (s .entry))) ⌝ }
+{
+    let Unsigned::Value(_, at) = leb::read_le(s, 0, 4) else {
+        return Header::Bad;
+    };
+    if s.len() <= at {
+        return Header::Bad;
+    }
+    if s[at] != 1 {
+        return Header::Bad;
+    }
+    let Spelled::As(p, past) = letters(s, at + 1, debug) else {
+        return Header::Bad;
+    };
+    header_factors(s, past, debug, word, p)
+}
+
+// ---- the fields of a record
+
+// Where the operations start, and the function's length.
+enum Record {
+    Fields(usize, u64),
+    Bad,
+}
+
+// The augmentation of a record holds its pointer to call sites.
+fn record_tail(s: &[u8], at: usize, debug: bool, pointer: u64, size: u64) -> Record
+    requires { ⌜ at ≤ length (now s) ⌝ }
+    ensures { λ r. ⌜ Records (now (s .entry)) r (recordTail debug pointer size (drop at (now (s .entry)))) ⌝ }
+{
+    if debug {
+        return Record::Fields(at, size);
+    }
+    let Span::At(start, end) = counted(s, at) else {
+        return Record::Bad;
+    };
+    if ((end - start) as u64) < pointer {
+        return Record::Bad;
+    }
+    Record::Fields(end, size)
+}
+
+// The bytes of a function's place and of its length.
+fn field_size(debug: bool, word: u64) -> u64
+    ensures { λ r. ⌜ r ≡ pick debug word 4 ⌝ }
+{
+    if debug {
+        return word;
+    }
+    4
+}
+
+// Question 64 of a record, by the bytes behind its length.
+fn parse_record(s: &[u8], debug: bool, word: u64, pointer: u64) -> Record
+    requires { ⌜ T (isWord word) ⌝ }
+    ensures { λ r. ⌜ Records (now (s .entry)) r (parseRecord debug word pointer (now (s .entry))) ⌝ }
+{
+    let n = field_size(debug, word) as usize;
+    let Unsigned::Value(_, place) = leb::read_le(s, 0, 4) else {
+        return Record::Bad;
+    };
+    let Unsigned::Value(_, length) = leb::read_le(s, place, n) else {
+        return Record::Bad;
+    };
+    let Unsigned::Value(size, tail) = leb::read_le(s, length, n) else {
+        return Record::Bad;
+    };
+    record_tail(s, tail, debug, pointer, size)
+}
+
+// ---- the whole
+
+// Where the operations of record k and of its header stand, the function's length, and the header's signal mark and pointer size.
+pub struct Located {
+    pub header: usize,
+    pub header_end: usize,
+    pub record: usize,
+    pub record_end: usize,
+    pub size: u64,
+    pub pointer: u64,
+    pub signal: bool,
+}
+
+// That, or the number of the question that was answered by no.
+pub enum Locating {
+    Found(Located),
+    No(u64),
+}
+
+// Question 64 of the header from `cie` to `past`, and then of the record from `at` to `end`.
+fn fields(s: &[u8], debug: bool, word: u64, cie: usize, past: usize, at: usize, end: usize) -> Locating
+    requires { ⌜ T (isWord word) × (cie + 8 ≤ past) × (past ≤ length (now s)) × (at + 8 ≤ end) × (end ≤ length (now s)) ⌝ }
+    ensures { λ r. ⌜ Locates (now (s .entry)) r (parsed debug word (entryIn (now (s .entry)) cie past) (entryIn (now (s .entry)) at end)) ⌝ }
+{
+    let header = cie + 4;
+    let Header::Fields(rules, pointer, signal) = parse_header(&s[header..past], debug, word) else {
+        return Locating::No(64);
+    };
+    let record = at + 4;
+    let Record::Fields(rows, size) = parse_record(&s[record..end], debug, word, pointer) else {
+        return Locating::No(64);
+    };
+    Locating::Found(Located {
+        header: header + rules,
+        header_end: past,
+        record: record + rows,
+        record_end: end,
+        size,
+        pointer,
+        signal,
+    })
+}
+
+// Questions 61 to 64, in this order.
+pub fn locate(s: &[u8], relocs: &[u64], debug: bool, word: u64, k: u64) -> Locating
+    requires { ⌜ T (isWord word) ⌝ }
+    ensures { λ r. ⌜ Locates (now (s .entry)) r (locate debug (relocationsOf (now (relocs .entry))) word k (now (s .entry))) ⌝ }
+{
+    if !tiles(s) {
+        return Locating::No(61);
+    }
+    let Span::At(at, end) = record_span(s, debug, k) else {
+        return Locating::No(62);
+    };
+    let Span::At(cie, past) = header_of(s, relocs, debug, at, end) else {
+        return Locating::No(63);
+    };
+    fields(s, debug, word, cie, past, at, end)
+}
