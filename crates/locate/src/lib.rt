@@ -255,7 +255,14 @@ fn promised(personality: bool, lsda: bool, signal: bool) -> Promise
 }
 
 // One string, or the one that marks a signal frame.
-fn marked(s: &[u8], at: usize, plain: &[u8], signal: &[u8], personality: bool, lsda: bool) -> Spelled
+fn marked(
+    s: &[u8],
+    at: usize,
+    plain: &[u8],
+    signal: &[u8],
+    personality: bool,
+    lsda: bool,
+) -> Spelled
     requires { ⌜ at ≤ length (now s) ⌝ }
     ensures { λ r. ⌜ Spells (now (s .entry)) r (readLetters (twoOf (now (plain .entry)) (now (signal .entry)) personality lsda) (drop at (now (s .entry)))) ⌝ }
 {
@@ -543,7 +550,15 @@ pub enum Locating {
 }
 
 // Question 64 of the header from `cie` to `past`, and then of the record from `at` to `end`.
-fn fields(s: &[u8], debug: bool, word: u64, cie: usize, past: usize, at: usize, end: usize) -> Locating
+fn fields(
+    s: &[u8],
+    debug: bool,
+    word: u64,
+    cie: usize,
+    past: usize,
+    at: usize,
+    end: usize,
+) -> Locating
     requires { ⌜ T (isWord word) × (cie + 8 ≤ past) × (past ≤ length (now s)) × (at + 8 ≤ end) × (end ≤ length (now s)) ⌝ }
     ensures { λ r. ⌜ Locates (now (s .entry)) r (parsed debug word (entryIn (now (s .entry)) cie past) (entryIn (now (s .entry)) at end)) ⌝ }
 {
