@@ -1,0 +1,2 @@
+-- The lemmas of this crate's functions.
+pub mod Entries
