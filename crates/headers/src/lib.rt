@@ -1,13 +1,14 @@
 // Headers (CIE): their bytes, sizes and relocations. Ported from rucc-asm/src/unwind.rs (header, personal_header, named_header, pointer, pointer_size, starts, pad) of tamnd/rucc, changed: see NOTICE.
 ghost use mathlib.Core.Path.{_≡_};
-ghost use mathlib.Core.List.{[], _∷_};
+ghost use mathlib.Core.List.{[], _∷_, _++_};
 ghost use Prim.Native.Nat.{_+_, _≤_, _<_};
 ghost use lib.ListN.{length};
 ghost use Rattle.format.specs.Put.{Wrote};
 ghost use Rattle.format.specs.Lists.{numbersOf};
-ghost use Rattle.format.specs.Headers.{padding, sizeOf, sizeOr0, pointerSize, pointerBytes, pointerReloc};
+ghost use Rattle.format.specs.Headers.{padding, sizeOf, sizeOr0, pointerSize, pointerBytes, pointerReloc, letters, named, lsdaLetter, dataFactor};
 ghost use Rattle.format.proofs.SectionSize.{Aligned};
 ghost use Rattle.headers.specs.Entries.{Closed};
+ghost use Rattle.headers.specs.Kinds.{lsdaOf, ending, middle};
 
 // ---- the end of an entry
 
@@ -72,4 +73,36 @@ pub fn pointer(out: &mut [u64], i: usize, word: u64, place: u64, symbol: u64, e:
         return relocs::relocation(out, i, place, symbol, 0, 4, 0);
     }
     relocs::relocation(out, i, place, symbol, 1, pointer_bytes(word, e), 0)
+}
+
+// ---- the fields
+
+// The end of the augmentation string: S for a signal frame, and a 0.
+fn ending(out: &mut [u8], at: usize, signal: bool) -> usize
+    requires { ⌜ at + length (ending signal) ≤ length (now out) ⌝ }
+    ensures { λ r. ⌜ Wrote (now (out .entry)) (now (out .exit)) at r (ending signal) ⌝ }
+{
+    if signal {
+        return leb::le(out, at, 2, 0x53);
+    }
+    leb::byte(out, at, 0)
+}
+
+// The data alignment factor, minus the word.
+fn data_factor(word: u64) -> i64
+    requires { ⌜ word ≤ 8 ⌝ }
+    ensures { λ r. ⌜ r ≡ dataFactor word ⌝ }
+{
+    0 - word as i64
+}
+
+// The string's end, the factors and the return address register.
+fn middle(out: &mut [u8], at: usize, word: u64, ret: u64, signal: bool) -> usize
+    requires { ⌜ (word ≤ 8) × (at + length (middle word ret signal) ≤ length (now out)) ⌝ }
+    ensures { λ r. ⌜ Wrote (now (out .entry)) (now (out .exit)) at r (middle word ret signal) ⌝ }
+{
+    let a = ending(out, at, signal);
+    let b = leb::uleb(out, a, 1);
+    let c = leb::sleb(out, b, data_factor(word));
+    leb::uleb(out, c, ret)
 }
