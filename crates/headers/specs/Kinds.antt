@@ -1,10 +1,11 @@
 -- A header's kind by a function's record, and the parts of its fields.
+use mathlib.Core.Path.{_≡_}
 use Prim.Native.Nat.{ℕ, _<_}
-use mathlib.Core.Bool.{Bool, false}
+use mathlib.Core.Bool.{Bool, true}
 use mathlib.Core.Option.{Option, none, some}
 use mathlib.Core.List.{List, [], _∷_, _++_}
 use lib.ListN.{replicate}
-use lib.Dec.{T, eqb}
+use lib.Dec.{eqb}
 use Rattle.format.specs.Test.{pick}
 use Rattle.format.specs.Leb.{uleb, sleb}
 use Rattle.format.specs.Headers.{Kind, plain, personal, named, Key, pcrelSdata4, letters, lsdaLetter, augmentationData, counted, dataFactor}
@@ -27,7 +28,7 @@ headIn e = record { kind = kindIn e; signal = e .signal; rows = [] }
 
 -- a personality's encoding is a byte
 abbrev pub EncodingFits : Extent → Type 0
-EncodingFits e = T (e .personality) → e .encoding < 256
+EncodingFits e = e .personality ≡ true → e .encoding < 256
 
 -- the end of the augmentation string: the signal mark and a 0
 unfoldable pub ending : Bool → List ℕ
@@ -36,6 +37,17 @@ ending signal = pick signal (0x53 ∷ 0 ∷ []) (0 ∷ [])
 -- between the letters and the augmentation data: the string's end, the factors and the return address register
 unfoldable pub middle : (word ret : ℕ) → Bool → List ℕ
 middle word ret signal = ending signal ++ (uleb 1 ++ (sleb (dataFactor word) ++ uleb ret))
+
+-- 1 where there is an LSDA
+unfoldable pub flag : Bool → ℕ
+flag lsda = pick lsda 1 0
+
+-- the letters and the augmentation data of a named personality, whose pointer has `size` bytes
+unfoldable pub namedLetters : Bool → List ℕ
+namedLetters lsda = pick lsda (0x7a ∷ 0x50 ∷ 0x4c ∷ 0x52 ∷ []) (0x7a ∷ 0x50 ∷ 0x52 ∷ [])
+
+unfoldable pub namedData : (e size : ℕ) → Bool → ℕ → List ℕ
+namedData e size lsda l = e ∷ (replicate size 0 ++ (lsdaLetter (lsdaOf lsda l) ++ (pcrelSdata4 ∷ [])))
 
 -- what follows the version in eh_frame
 unfoldable pub tailOf : (word ret : ℕ) → Bool → Kind → List ℕ

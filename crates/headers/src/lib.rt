@@ -1,14 +1,15 @@
 // Headers (CIE): their bytes, sizes and relocations. Ported from rucc-asm/src/unwind.rs (header, personal_header, named_header, pointer, pointer_size, starts, pad) of tamnd/rucc, changed: see NOTICE.
 ghost use mathlib.Core.Path.{_≡_};
+ghost use mathlib.Core.Bool.{true};
 ghost use mathlib.Core.List.{[], _∷_, _++_};
 ghost use Prim.Native.Nat.{_+_, _≤_, _<_};
 ghost use lib.ListN.{length};
 ghost use Rattle.format.specs.Put.{Wrote};
 ghost use Rattle.format.specs.Lists.{numbersOf};
-ghost use Rattle.format.specs.Headers.{padding, sizeOf, sizeOr0, pointerSize, pointerBytes, pointerReloc, letters, named, lsdaLetter, dataFactor};
+ghost use Rattle.format.specs.Headers.{padding, sizeOf, sizeOr0, pointerSize, pointerBytes, pointerReloc, plain, lsdaLetter, dataFactor};
 ghost use Rattle.format.proofs.SectionSize.{Aligned};
 ghost use Rattle.headers.specs.Entries.{Closed};
-ghost use Rattle.headers.specs.Kinds.{lsdaOf, ending, middle};
+ghost use Rattle.headers.specs.Kinds.{lsdaOf, ending, middle, flag, namedLetters, namedData, tailOf};
 
 // ---- the end of an entry
 
@@ -105,4 +106,42 @@ fn middle(out: &mut [u8], at: usize, word: u64, ret: u64, signal: bool) -> usize
     let b = leb::uleb(out, a, 1);
     let c = leb::sleb(out, b, data_factor(word));
     leb::uleb(out, c, ret)
+}
+
+// z, R; the middle; one byte of data, the records' encoding.
+fn plain_header(out: &mut [u8], at: usize, word: u64, ret: u64, signal: bool) -> usize
+    requires { ⌜ (word ≤ 8) × (at + length (tailOf word ret signal plain) ≤ length (now out)) ⌝ }
+    ensures { λ r. ⌜ Wrote (now (out .entry)) (now (out .exit)) at r (tailOf word ret signal plain) ⌝ }
+{
+    let a = leb::le(out, at, 2, 0x527a);
+    let b = middle(out, a, word, ret, signal);
+    leb::le(out, b, 2, 0x1b01)
+}
+
+fn flag(b: bool) -> u64
+    ensures { λ r. ⌜ (r ≡ flag b) × (r ≤ 1) ⌝ }
+{
+    if b { 1 } else { 0 }
+}
+
+// z, P, L where there is an LSDA, R.
+fn named_letters(out: &mut [u8], at: usize, lsda: bool) -> usize
+    requires { ⌜ at + length (namedLetters lsda) ≤ length (now out) ⌝ }
+    ensures { λ r. ⌜ Wrote (now (out .entry)) (now (out .exit)) at r (namedLetters lsda) ⌝ }
+{
+    if lsda {
+        return leb::le(out, at, 4, 0x524c507a);
+    }
+    leb::le(out, at, 3, 0x52507a)
+}
+
+// The LSDA's encoding.
+fn lsda_letter(out: &mut [u8], at: usize, lsda: bool, l: u64) -> usize
+    requires { ⌜ (lsda ≡ true → l < 256) × (at + length (lsdaLetter (lsdaOf lsda l)) ≤ length (now out)) ⌝ }
+    ensures { λ r. ⌜ Wrote (now (out .entry)) (now (out .exit)) at r (lsdaLetter (lsdaOf lsda l)) ⌝ }
+{
+    if lsda {
+        return leb::byte(out, at, l as u8);
+    }
+    at
 }
