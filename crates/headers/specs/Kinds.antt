@@ -30,6 +30,10 @@ headIn e = record { kind = kindIn e; signal = e .signal; rows = [] }
 abbrev pub EncodingFits : Extent → Type 0
 EncodingFits e = e .personality ≡ true → e .encoding < 256
 
+-- where a personality is named, its encoding and the LSDA's are bytes
+abbrev pub NamedFits : Extent → Type 0
+NamedFits e = e .landings ≡ 0 → e .personality ≡ true → (e .encoding < 256) × (e .lsda ≡ true → e .«lsda_encoding» < 256)
+
 -- the end of the augmentation string: the signal mark and a 0
 unfoldable pub ending : Bool → List ℕ
 ending signal = pick signal (0x53 ∷ 0 ∷ []) (0 ∷ [])

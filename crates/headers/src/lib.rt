@@ -6,10 +6,12 @@ ghost use Prim.Native.Nat.{_+_, _≤_, _<_};
 ghost use lib.ListN.{length};
 ghost use Rattle.format.specs.Put.{Wrote};
 ghost use Rattle.format.specs.Lists.{numbersOf};
-ghost use Rattle.format.specs.Headers.{padding, sizeOf, sizeOr0, pointerSize, pointerBytes, pointerReloc, plain, lsdaLetter, dataFactor};
+ghost use Rattle.format.specs.Headers.{padding, sizeOf, sizeOr0, pointerSize, pointerBytes, pointerReloc, plain, personal, named, lsdaLetter, headerId, dataFactor, headerFields};
 ghost use Rattle.format.proofs.SectionSize.{Aligned};
 ghost use Rattle.headers.specs.Entries.{Closed};
-ghost use Rattle.headers.specs.Kinds.{lsdaOf, ending, middle, flag, namedLetters, namedData, tailOf};
+ghost use Rattle.headers.specs.Kinds.{lsdaOf, kindIn, headIn, NamedFits, ending, middle, flag, namedLetters, namedData, tailOf};
+use format::Machine;
+use lists::Extent;
 
 // ---- the end of an entry
 
@@ -144,4 +146,44 @@ fn lsda_letter(out: &mut [u8], at: usize, lsda: bool, l: u64) -> usize
         return leb::byte(out, at, l as u8);
     }
     at
+}
+
+// The personality's encoding and blank pointer, the LSDA's encoding, the records' encoding.
+fn named_data(out: &mut [u8], at: usize, e: u64, size: usize, lsda: bool, l: u64) -> usize
+    requires { ⌜ (e < 256) × (lsda ≡ true → l < 256) × (at + length (namedData e size lsda l) ≤ length (now out)) ⌝ }
+    ensures { λ r. ⌜ Wrote (now (out .entry)) (now (out .exit)) at r (namedData e size lsda l) ⌝ }
+{
+    let a = leb::byte(out, at, e as u8);
+    let b = leb::fill(out, a, size);
+    let c = lsda_letter(out, b, lsda, l);
+    leb::byte(out, c, 0x1b)
+}
+
+// A personality by its encoding, and an LSDA by its.
+fn named_header(
+    out: &mut [u8],
+    at: usize,
+    word: u64,
+    ret: u64,
+    signal: bool,
+    e: u64,
+    lsda: bool,
+    l: u64,
+) -> usize
+    requires { ⌜ (word ≤ 8) × (e < 256) × (lsda ≡ true → l < 256) × (at + length (tailOf word ret signal (named e 0 (lsdaOf lsda l))) ≤ length (now out)) ⌝ }
+    ensures { λ r. ⌜ Wrote (now (out .entry)) (now (out .exit)) at r (tailOf word ret signal (named e 0 (lsdaOf lsda l))) ⌝ }
+{
+    let a = named_letters(out, at, lsda);
+    let b = middle(out, a, word, ret, signal);
+    let size = pointer_bytes(word, e);
+    let c = leb::uleb(out, b, 2 + size + flag(lsda));
+    named_data(out, c, e, size as usize, lsda, l)
+}
+
+// The personality of functions with landings: indirect, relative, 4 bytes, and so is the LSDA.
+fn personal_header(out: &mut [u8], at: usize, word: u64, ret: u64, signal: bool) -> usize
+    requires { ⌜ (word ≤ 8) × (at + length (tailOf word ret signal personal) ≤ length (now out)) ⌝ }
+    ensures { λ r. ⌜ Wrote (now (out .entry)) (now (out .exit)) at r (tailOf word ret signal personal) ⌝ }
+{
+    named_header(out, at, word, ret, signal, 0x9b, true, 0x1b)
 }
