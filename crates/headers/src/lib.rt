@@ -187,3 +187,45 @@ fn personal_header(out: &mut [u8], at: usize, word: u64, ret: u64, signal: bool)
 {
     named_header(out, at, word, ret, signal, 0x9b, true, 0x1b)
 }
+
+// What follows the version, by the function's record: landings beat a named personality.
+fn tail(out: &mut [u8], at: usize, m: Machine, e: Extent) -> usize
+    requires { ⌜ (m .word ≤ 8) × NamedFits e × (at + length (tailOf (m .word) (m .ret) (e .signal) (kindIn e)) ≤ length (now out)) ⌝ }
+    ensures { λ r. ⌜ Wrote (now (out .entry)) (now (out .exit)) at r (tailOf (m .word) (m .ret) (e .signal) (kindIn e)) ⌝ }
+{
+    if e.landings != 0 {
+        return personal_header(out, at, m.word, m.ret, e.signal);
+    }
+    if e.personality {
+        return named_header(
+            out,
+            at,
+            m.word,
+            m.ret,
+            e.signal,
+            e.encoding,
+            e.lsda,
+            e.lsda_encoding,
+        );
+    }
+    plain_header(out, at, m.word, m.ret, e.signal)
+}
+
+fn header_id(debug: bool) -> u64
+    ensures { λ r. ⌜ r ≡ headerId debug ⌝ }
+{
+    if debug { 0xffffffff } else { 0 }
+}
+
+// The fields in front of the rows. In debug_frame there is no augmentation but the signal mark.
+fn fields(out: &mut [u8], at: usize, debug: bool, m: Machine, e: Extent) -> usize
+    requires { ⌜ (m .word ≤ 8) × NamedFits e × (at + length (headerFields debug m (headIn e)) ≤ length (now out)) ⌝ }
+    ensures { λ r. ⌜ Wrote (now (out .entry)) (now (out .exit)) at r (headerFields debug m (headIn e)) ⌝ }
+{
+    let a = leb::le(out, at, 4, header_id(debug));
+    let b = leb::byte(out, a, 1);
+    if debug {
+        return middle(out, b, m.word, m.ret, e.signal);
+    }
+    tail(out, b, m, e)
+}
