@@ -2,3 +2,5 @@
 pub mod Entries
 pub mod Pointers
 pub mod Tails
+pub mod Turns
+pub mod Words

@@ -5,9 +5,11 @@ ghost use mathlib.Core.List.{[], _∷_, _++_};
 ghost use Prim.Native.Nat.{_+_, _≤_, _<_};
 ghost use lib.ListN.{length};
 ghost use Rattle.format.specs.Put.{Wrote};
+ghost use Rattle.format.specs.Rows.{rowsBytes};
 ghost use Rattle.format.specs.Lists.{numbersOf};
-ghost use Rattle.format.specs.Headers.{padding, sizeOf, sizeOr0, pointerSize, pointerBytes, pointerReloc, plain, personal, named, lsdaLetter, headerId, dataFactor, headerFields};
+ghost use Rattle.format.specs.Headers.{leading, padding, sizeOf, sizeOr0, pointerSize, pointerBytes, pointerReloc, plain, personal, named, lsdaLetter, headerId, dataFactor, headerFields};
 ghost use Rattle.format.proofs.SectionSize.{Aligned};
+ghost use Rattle.leading.specs.Functions.{bodyOf, Sound};
 ghost use Rattle.headers.specs.Entries.{Closed};
 ghost use Rattle.headers.specs.Kinds.{lsdaOf, kindIn, headIn, NamedFits, ending, middle, flag, namedLetters, namedData, tailOf};
 use format::Machine;
@@ -228,4 +230,36 @@ fn fields(out: &mut [u8], at: usize, debug: bool, m: Machine, e: Extent) -> usiz
         return middle(out, b, m.word, m.ret, e.signal);
     }
     tail(out, b, m, e)
+}
+
+// ---- the leading rows
+
+// The leading rows, one after the other.
+fn starts(out: &mut [u8], at: usize, m: Machine, e: Extent, rows: &[u64]) -> usize
+    requires { ⌜ Sound m e (now rows) × (at + length (rowsBytes (m .word) (leading m (bodyOf e (now rows)))) ≤ length (now out)) ⌝ }
+    ensures { λ r. ⌜ Wrote (now (out .entry)) (now (out .exit)) at r (rowsBytes (m .word) (leading m (bodyOf e (now (rows .entry))))) ⌝ }
+{
+    let n = leading::leading_count(m, e, rows);
+    let mut p = at;
+    let mut i = 0;
+    while i < n {
+        p = rows::row(out, p, m.word, leading::leading_at(m, e, rows, i));
+        i += 1;
+    }
+    p
+}
+
+// How many bytes they have.
+fn starts_size(m: Machine, e: Extent, rows: &[u64]) -> usize
+    requires { ⌜ Sound m e (now rows) ⌝ }
+    ensures { λ r. ⌜ r ≡ length (rowsBytes (m .word) (leading m (bodyOf e (now (rows .entry))))) ⌝ }
+{
+    let n = leading::leading_count(m, e, rows);
+    let mut size = 0;
+    let mut i = 0;
+    while i < n {
+        size += rows::row_size(m.word, leading::leading_at(m, e, rows, i));
+        i += 1;
+    }
+    size
 }
