@@ -4,3 +4,4 @@ pub mod Pointers
 pub mod Tails
 pub mod Turns
 pub mod Words
+pub mod Lengths

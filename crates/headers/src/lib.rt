@@ -2,12 +2,12 @@
 ghost use mathlib.Core.Path.{_≡_};
 ghost use mathlib.Core.Bool.{true};
 ghost use mathlib.Core.List.{[], _∷_, _++_};
-ghost use Prim.Native.Nat.{_+_, _≤_, _<_};
+ghost use Prim.Native.Nat.{_+_, _^_, _≤_, _<_};
 ghost use lib.ListN.{length};
 ghost use Rattle.format.specs.Put.{Wrote};
 ghost use Rattle.format.specs.Rows.{rowsBytes};
 ghost use Rattle.format.specs.Lists.{numbersOf};
-ghost use Rattle.format.specs.Headers.{leading, padding, sizeOf, sizeOr0, pointerSize, pointerBytes, pointerReloc, plain, personal, named, lsdaLetter, headerId, dataFactor, headerFields};
+ghost use Rattle.format.specs.Headers.{leading, padding, sizeOf, sizeOr0, pointerSize, pointerBytes, pointerReloc, plain, personal, named, letters, lsdaLetter, augmentationData, headerId, dataFactor, headerFields};
 ghost use Rattle.format.proofs.SectionSize.{Aligned};
 ghost use Rattle.leading.specs.Functions.{bodyOf, Sound};
 ghost use Rattle.headers.specs.Entries.{Closed};
@@ -262,4 +262,53 @@ fn starts_size(m: Machine, e: Extent, rows: &[u64]) -> usize
         i += 1;
     }
     size
+}
+
+// ---- sizes
+
+// How many bytes `middle` stores.
+fn middle_size(word: u64, ret: u64, signal: bool) -> usize
+    requires { ⌜ word ≤ 8 ⌝ }
+    ensures { λ r. ⌜ (r ≡ length (middle word ret signal)) × (r ≤ 23) ⌝ }
+{
+    2 + flag(signal) as usize + leb::sleb_size(data_factor(word)) + leb::uleb_size(ret)
+}
+
+// How many letters the augmentation string has.
+fn letters_size(e: Extent) -> usize
+    ensures { λ r. ⌜ (r ≡ length (letters (kindIn e))) × (r ≤ 4) ⌝ }
+{
+    if e.landings != 0 {
+        return 4;
+    }
+    if e.personality {
+        return 3 + flag(e.lsda) as usize;
+    }
+    2
+}
+
+// How many bytes the augmentation data has.
+fn data_size(word: u64, e: Extent) -> usize
+    requires { ⌜ word ≤ 8 ⌝ }
+    ensures { λ r. ⌜ (r ≡ length (augmentationData word (kindIn e))) × (r ≤ 11) ⌝ }
+{
+    if e.landings != 0 {
+        return 7;
+    }
+    if e.personality {
+        return 2 + pointer_bytes(word, e.encoding) as usize + flag(e.lsda) as usize;
+    }
+    1
+}
+
+// How many bytes `fields` stores; the data's length is one of them.
+fn fields_size(debug: bool, m: Machine, e: Extent) -> usize
+    requires { ⌜ m .word ≤ 8 ⌝ }
+    ensures { λ r. ⌜ (r ≡ length (headerFields debug m (headIn e))) × (r ≤ 44) ⌝ }
+{
+    let n = 5 + middle_size(m.word, m.ret, e.signal);
+    if debug {
+        return n;
+    }
+    n + letters_size(e) + 1 + data_size(m.word, e)
 }
