@@ -5,3 +5,4 @@ pub mod Tails
 pub mod Turns
 pub mod Words
 pub mod Lengths
+pub mod Keys

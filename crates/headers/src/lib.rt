@@ -7,11 +7,11 @@ ghost use lib.ListN.{length};
 ghost use Rattle.format.specs.Put.{Wrote};
 ghost use Rattle.format.specs.Rows.{rowsBytes};
 ghost use Rattle.format.specs.Lists.{numbersOf};
-ghost use Rattle.format.specs.Headers.{leading, padding, sizeOf, sizeOr0, pointerSize, pointerBytes, pointerReloc, plain, personal, named, letters, lsdaLetter, augmentationData, headerId, dataFactor, headerFields};
+ghost use Rattle.format.specs.Headers.{leading, padding, sizeOf, sizeOr0, pointerSize, pointerBytes, pointerReloc, plain, personal, named, letters, lsdaLetter, augmentationData, headerId, dataFactor, headerFields, headerBytes};
 ghost use Rattle.format.proofs.SectionSize.{Aligned};
-ghost use Rattle.leading.specs.Functions.{bodyOf, Sound};
+ghost use Rattle.leading.specs.Functions.{bodyOf, keyIn, Sound};
 ghost use Rattle.headers.specs.Entries.{Closed};
-ghost use Rattle.headers.specs.Kinds.{lsdaOf, kindIn, headIn, NamedFits, ending, middle, flag, namedLetters, namedData, tailOf};
+ghost use Rattle.headers.specs.Kinds.{lsdaOf, kindIn, headIn, EncodingFits, NamedFits, ending, middle, flag, namedLetters, namedData, tailOf};
 use format::Machine;
 use lists::Extent;
 
@@ -311,4 +311,40 @@ fn fields_size(debug: bool, m: Machine, e: Extent) -> usize
         return n;
     }
     n + letters_size(e) + 1 + data_size(m.word, e)
+}
+
+// ---- a header
+
+pub fn header_size(
+    debug: bool,
+    m: Machine,
+    align: usize,
+    at: usize,
+    e: Extent,
+    rows: &[u64],
+) -> usize
+    requires { ⌜ Sound m e (now rows) × Aligned align × (at < 2 ^ 32) ⌝ }
+    ensures { λ r. ⌜ r ≡ length (headerBytes debug m align at (keyIn m e (now (rows .entry)))) ⌝ }
+{
+    let n = 4 + fields_size(debug, m, e) + starts_size(m, e, rows);
+    n + padding(align, at + n)
+}
+
+// The bytes of a header: a blank length, the fields and the leading rows, and what `pad` adds.
+pub fn header(
+    out: &mut [u8],
+    at: usize,
+    debug: bool,
+    m: Machine,
+    align: usize,
+    e: Extent,
+    rows: &[u64],
+) -> usize
+    requires { ⌜ Sound m e (now rows) × EncodingFits e × Aligned align × (at + length (headerBytes debug m align at (keyIn m e (now rows))) ≤ length (now out)) ⌝ }
+    ensures { λ r. ⌜ Wrote (now (out .entry)) (now (out .exit)) at r (headerBytes debug m align at (keyIn m e (now (rows .entry)))) ⌝ }
+{
+    let a = leb::le(out, at, 4, 0);
+    let b = fields(out, a, debug, m, e);
+    let c = starts(out, b, m, e, rows);
+    pad(out, at, c, align)
 }
