@@ -6,3 +6,4 @@ pub mod Turns
 pub mod Words
 pub mod Lengths
 pub mod Keys
+pub mod Personalities
