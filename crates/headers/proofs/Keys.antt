@@ -1,8 +1,8 @@
 -- The key of a function's record: its kind, and what depends on the rows.
-use mathlib.Core.Path.{_≡_, refl, sym, ap, _∙_}
+use mathlib.Core.Path.{_≡_, refl, ap, _∙_}
 use mathlib.Core.Bool.{Bool, true, false}
 use mathlib.Core.Option.{Option, none, some}
-use mathlib.Core.List.{List, [], _∷_, _++_}
+use mathlib.Core.List.{List, [], _++_}
 use Prim.Native.Nat.{ℕ, zero, suc, _+_, _<_}
 use native.Mathlib.Omega.{arith}
 use borrow.Author.Tests.{ne-eqb, le-ltb}
@@ -12,11 +12,11 @@ use Rattle.format.specs.Test.{pick, each}
 use Rattle.format.specs.declared.Machine.{Machine}
 use Rattle.format.specs.Rows.{rowsBytes}
 use Rattle.format.specs.Lists.{Landing, Named, Pointer, landingAt}
-use Rattle.format.specs.Headers.{Kind, plain, personal, named, Key, encodingOf, namedKind, kindFor, keyOf, leading, pointerSize, padding, padded, entry, augmentation, headerFields, headerBytes, pointerPlace, headerRelocs}
+use Rattle.format.specs.Headers.{Kind, plain, personal, named, encodingOf, namedKind, kindFor, keyOf, leading, pointerSize, padding, padded, entry, augmentation, headerFields, headerBytes, pointerPlace, headerRelocs}
 use Rattle.format.specs.Questions.{isSome, encodingsOk}
 use Rattle.format.proofs.Choice.{either}
 use Rattle.format.proofs.EntryBack.{entry-length, padded-length}
-use Rattle.format.proofs.HeaderBack.{LsdaOk, KindOk, kind-accepted}
+use Rattle.format.proofs.HeaderBack.{KindOk, kind-accepted}
 use Rattle.lists.specs.declared.Extent.{Extent}
 use Rattle.lists.specs.Extents.{meant}
 use Rattle.leading.specs.Functions.{bodyOf, keyIn, Sound}

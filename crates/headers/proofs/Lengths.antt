@@ -1,8 +1,6 @@
 -- How many bytes the parts of a header's fields have.
-use mathlib.Core.Path.{_≡_, refl, ap, _∙_}
+use mathlib.Core.Path.{_≡_, refl}
 use mathlib.Core.Bool.{Bool, true, false}
-use mathlib.Core.Option.{Option, none, some}
-use mathlib.Core.List.{List, [], _∷_, _++_}
 use Prim.Native.Nat.{ℕ, suc, _+_, _<_}
 use native.Mathlib.Omega.{arith}
 use lib.ListN.{length, length-append}
@@ -12,8 +10,8 @@ use Rattle.format.specs.declared.Machine.{Machine}
 use Rattle.format.specs.Headers.{named, Key, pointerBytes, letters, augmentationData, counted, dataFactor, headerFields}
 use Rattle.format.proofs.Choice.{if-le}
 use Rattle.format.proofs.LebBack.{little-length}
-use Rattle.headers.specs.Kinds.{lsdaOf, ending, middle, flag, namedLetters, namedData, tailOf}
-use Rattle.headers.proofs.Tails.{named-letters, named-length, fields-debug, fields-eh}
+use Rattle.headers.specs.Kinds.{lsdaOf, ending, middle, flag, namedData, tailOf}
+use Rattle.headers.proofs.Tails.{named-length, fields-debug, fields-eh}
 
 -- a number below 128 is one byte
 uleb-one : (n : ℕ) → n < 128 → length (uleb n) ≡ 1

@@ -7,3 +7,4 @@ pub mod Words
 pub mod Lengths
 pub mod Keys
 pub mod Personalities
+pub mod Encodings

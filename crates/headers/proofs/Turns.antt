@@ -6,13 +6,13 @@ use native.Mathlib.Numerals.{add-one}
 use native.Mathlib.Omega.{arith}
 use lib.ListN.{length, getD, drop, length-append}
 use lib.Seq.{drop-cons}
-use Rattle.format.specs.Put.{put, Wrote}
+use Rattle.format.specs.Put.{Wrote}
 use Rattle.format.specs.declared.Machine.{Machine}
 use Rattle.format.specs.declared.Row.{Row}
 use Rattle.format.specs.declared.Row.the-variants.{RememberState}
 use Rattle.format.specs.Rows.{rowBytes, rowsBytes}
 use Rattle.format.specs.Lists.{lineAt, mostRecords}
-use Rattle.format.specs.Headers.{leading, others}
+use Rattle.format.specs.Headers.{leading}
 use Rattle.format.proofs.PutLaws.{put-append}
 use Rattle.format.proofs.PutLaws as stores
 use Rattle.format.proofs.Storing.{Storing}

@@ -1,7 +1,7 @@
 // Headers (CIE): their bytes, sizes and relocations. Ported from rucc-asm/src/unwind.rs (header, personal_header, named_header, pointer, pointer_size, starts, pad) of tamnd/rucc, changed: see NOTICE.
 ghost use mathlib.Core.Path.{_≡_};
 ghost use mathlib.Core.Bool.{true};
-ghost use mathlib.Core.List.{[], _∷_, _++_};
+ghost use mathlib.Core.List.{[], _∷_};
 ghost use Prim.Native.Nat.{_+_, _*_, _^_, _≤_, _<_};
 ghost use lib.ListN.{length};
 ghost use Rattle.format.specs.Put.{Wrote};

@@ -1,5 +1,4 @@
 -- `flag` is 1 or 0.
-use mathlib.Core.Path.{refl}
 use native.Mathlib.Omega.{arith}
 use Rattle.format.specs.Test.{pick}
 use Rattle.headers.specs.Kinds.{flag}

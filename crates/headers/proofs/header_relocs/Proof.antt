@@ -1,6 +1,5 @@
 -- `header_relocs` stores the personality's relocation, if there is one.
 use mathlib.Core.Path.{_∙_, sym}
-use native.Mathlib.Omega.{arith}
 use borrow.Author.Needs.{needs}
 use Rattle.format.specs.Lists.{numbersOf}
 use Rattle.format.proofs.PutLaws.{idle}

@@ -1,5 +1,4 @@
 -- `middle_size` adds up.
-use mathlib.Core.Path.{_∙_}
 use native.Mathlib.Omega.{arith}
 use borrow.Author.Needs.{needs}
 use Rattle.rows.proofs.Signs.{passed}
