@@ -5,15 +5,18 @@ use native.Mathlib.Omega.{arith}
 use native.Mathlib.Numerals.{add-one}
 use mathlib.Core.List.{List, [], _∷_, _++_}
 use mathlib.Core.Logic.{_≢_}
-use lib.ListN.{length, replicate, length-append}
+use lib.ListN.{length, replicate, length-append, length-replicate}
 use Rattle.format.specs.Test.{each}
 use Rattle.format.specs.Leb.{ulebF, uleb}
 use Rattle.format.specs.Lists.{Landing, landingAt}
 use Rattle.format.specs.CallSites.{siteBytes, sitesBytes, siteTable, sitePad, siteAdded}
 use Rattle.format.specs.Put.{Wrote}
 use Rattle.format.proofs.Choice.{if-le, if-gt, either}
+use Rattle.format.proofs.EntryBack.{padding-small}
 use Rattle.format.proofs.Storing as storing
 use Rattle.format.proofs.Storing.{Storing}
+use Rattle.lists.specs.declared.Extent.{Extent}
+use Rattle.lists.specs.Extents.{meant}
 use Rattle.records.specs.Sites.{sitesIn}
 use Rattle.records.proofs.Chunks.{stored}
 
@@ -113,17 +116,29 @@ module _ {ls : List ℕ} {first n i size : ℕ} (w : Counting ls first n i size)
 
 -- ---- a table, and what a function adds
 
-pub table-length : (ls : List ℕ) (first n : ℕ)
-    → length (siteTable (each (landingAt ls) first n)) ≡ 3 + length (uleb (length (sitesIn ls first n))) + length (sitesIn ls first n)
+pub pad-small : (at : ℕ) → sitePad at < 4
+unfolding sitePad
+pad-small at = padding-small 4 at (omega arith)
+
+pub table-bytes : (ls : List ℕ) (first n : ℕ) → siteTable (each (landingAt ls) first n)
+    ≡ 0xff ∷ 0xff ∷ 0x01 ∷ (uleb (length (sitesIn ls first n)) ++ sitesIn ls first n)
 unfolding siteTable sitesIn
-table-length ls first n = simp length-append (omega arith)
+table-bytes ls first n = refl
 
-added-none : (at : ℕ) (ls : List ℕ) (first n : ℕ) → n ≡ 0 → siteAdded at (each (landingAt ls) first n) ≡ []
-unfolding siteAdded each
-added-none at ls first n e = rw e
+module _ (at : ℕ) (e : Extent) (ls : List ℕ) where
+  pub added-none : e .landings ≡ 0 → siteAdded at (meant e [] ls [] .landings) ≡ []
+  unfolding siteAdded each meant
+  added-none h = rw h
 
-added-some : (at : ℕ) (ls : List ℕ) (first n : ℕ) → n ≢ 0
-    → siteAdded at (each (landingAt ls) first n) ≡ replicate (sitePad at) 0 ++ siteTable (each (landingAt ls) first n)
-unfolding siteAdded each
-added-some at ls first zero h = absurd (h refl)
-added-some at ls first (suc n) h = refl
+  pub added-some : e .landings ≢ 0 → siteAdded at (meant e [] ls [] .landings)
+      ≡ replicate (sitePad at) 0 ++ siteTable (each (landingAt ls) (e .«landings_at») (e .landings))
+  unfolding siteAdded each meant
+  added-some h =
+      let n : ℕ = e .landings - 1 in
+      let k : e .landings ≡ suc n = omega arith in
+      rw k
+
+  module _ (h : e .landings ≢ 0) where
+
+    pub added-length : length (siteAdded at (meant e [] ls [] .landings)) ≡ sitePad at + 3 + length (uleb (length (sitesIn ls (e .«landings_at») (e .landings)))) + length (sitesIn ls (e .«landings_at») (e .landings))
+    added-length = rw (added-some h, table-bytes) (simp (length-append, length-replicate {A = ℕ} (sitePad at) 0) (omega arith))

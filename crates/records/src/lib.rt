@@ -5,6 +5,7 @@ ghost use Prim.Native.Nat.{_+_, _*_, _^_, _≤_, _<_};
 ghost use lib.ListN.{length};
 ghost use Rattle.format.specs.Put.{Wrote};
 ghost use Rattle.format.specs.Test.{each};
+ghost use Rattle.format.specs.Leb.{uleb};
 ghost use Rattle.format.specs.Lists.{landingStride, landingAt, count, mostRecords};
 ghost use Rattle.format.specs.CallSites.{siteBytes, siteTable, sitePad, siteAdded};
 ghost use Rattle.lists.specs.Extents.{meant, meantLanding};
@@ -70,7 +71,7 @@ fn site_pad(at: usize) -> usize
 
 // A function's table: no base for the pads, no types, numbers in ULEB, and the entries behind their length.
 fn site_table(out: &mut [u8], at: usize, landings: &[u64], first: usize, n: usize) -> usize
-    requires { ⌜ (first + n ≤ count landingStride (now landings)) × (n ≤ mostRecords) × (at + length (siteTable (each (landingAt (now landings)) first n)) ≤ length (now out)) ⌝ }
+    requires { ⌜ (first + n ≤ count landingStride (now landings)) × (n ≤ mostRecords) × (at + 3 + length (uleb (length (sitesIn (now landings) first n))) + length (sitesIn (now landings) first n) ≤ length (now out)) ⌝ }
     ensures { λ r. ⌜ Wrote (now (out .entry)) (now (out .exit)) at r (siteTable (each (landingAt (now (landings .entry))) first n)) ⌝ }
 {
     let a = leb::byte(out, at, 0xff);

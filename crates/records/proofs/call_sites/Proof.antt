@@ -1,35 +1,29 @@
+-- `records::call_sites` meets its contract.
+use Rattle.format.proofs.PutLaws.{_then_, idle}
+use Rattle.records.proofs.CallSites.{added-none, added-some, added-length}
+use Prim.Native.Nat.{ℕ}
+use lib.ListN.{length-replicate}
 use borrow.Author.Needs.{needs}
 use Rattle.records.proofs.call_sites.Statement.{statement}
 use Rattle.records.proofs.call_sites.Tie as tie
-use Rattle.records.proofs.call_sites.Reads as reads
-use Rattle.records.proofs.call_sites.Lts as lts
-use Rattle.leb.proofs.fill.Reads as fill-reads
-use Rattle.records.proofs.site_pad.Reads as site-pad-reads
-use Rattle.records.proofs.site_table.Reads as site-table-reads
 
--- src/lib.rt:89:9
 returns : tie.Need-returns
-returns c = ?
+returns c = let h = c .if1 .taken in rw added-none idle
 
--- src/lib.rt:91:32
 site-pad-requires : tie.Need-site-pad-requires
 site-pad-requires c κs = search needs
 
--- src/lib.rt:91:9
 fill-requires : tie.Need-fill-requires
-fill-requires c κs = ?
+fill-requires c κs = let n = c .before .before .if1 .left in let h = rw added-length at (c .before .before .before .before .before .before .pre .1) in rw (c .site-pad .ensures) (search needs)
 
--- src/lib.rt:92:5
 site-table-requires : tie.Need-site-table-requires
-site-table-requires c κs = ?
+site-table-requires c κs = (c .before .before .before .before .before .before .before .before .before .before .pre .0 .inside, c .before .before .before .before .before .before .before .before .before .before .pre .0 .few, let n = c .before .before .before .before .before .before .if1 .left in let h = rw added-length at (c .before .before .before .before .before .before .before .before .before .before .pre .1) in let l = length-replicate {A = ℕ} (c .before .before .before .before .site-pad .result) 0 in search needs)
 
--- src/lib.rt:84:1
 same-length : tie.Need-same-length
 same-length c = search needs
 
--- src/lib.rt:84:1
 returns-2 : tie.Need-returns-2
-returns-2 c = ?
+returns-2 c = let n = c .before .before .before .before .before .before .before .before .before .if1 .left in rw added-some ((rw (c .before .before .before .before .before .before .before .site-pad .ensures) at (c .before .before .before .before .before .before .fill .ensures)) then c .before .before .site-table .ensures)
 
 pub call-sites-spec : {M : Type 1} → statement M
 call-sites-spec =

@@ -1,44 +1,35 @@
+-- `records::site_table` meets its contract.
+use Rattle.format.proofs.PutLaws.{_then_}
+use Rattle.records.proofs.CallSites.{table-bytes}
 use borrow.Author.Needs.{needs}
 use Rattle.records.proofs.site_table.Statement.{statement}
 use Rattle.records.proofs.site_table.Tie as tie
-use Rattle.records.proofs.site_table.Reads as reads
-use Rattle.records.proofs.site_table.Lts as lts
-use Rattle.leb.proofs.byte.Reads as byte-reads
-use Rattle.leb.proofs.uleb.Reads as uleb-reads
-use Rattle.records.proofs.sites.Reads as sites-reads
-use Rattle.records.proofs.sites_size.Reads as sites-size-reads
 
--- src/lib.rt:76:9
 byte-requires : tie.Need-byte-requires
-byte-requires c κs = ?
+byte-requires c κs = search needs
 
--- src/lib.rt:77:9
 byte-requires-2 : tie.Need-byte-requires-2
-byte-requires-2 c κs = ?
+byte-requires-2 c κs = search needs
 
--- src/lib.rt:78:9
 byte-requires-3 : tie.Need-byte-requires-3
-byte-requires-3 c κs = ?
+byte-requires-3 c κs = search needs
 
--- src/lib.rt:79:31
 sites-size-requires : tie.Need-sites-size-requires
 sites-size-requires c κs = search needs
 
--- src/lib.rt:79:9
 uleb-requires : tie.Need-uleb-requires
-uleb-requires c κs = ?
+uleb-requires c κs = rw (c .sites-size .ensures) (search needs)
 
--- src/lib.rt:80:5
 sites-requires : tie.Need-sites-requires
-sites-requires c κs = ?
+sites-requires c κs = (c .before .before .before .before .before .before .before .before .before .before .before .before .before .before .before .before .before .before .before .before .pre .0, let h = rw (c .before .before .before .before .sites-size .ensures) at (c .before .before .before .uleb .ensures) in search needs)
 
--- src/lib.rt:72:1
 same-length : tie.Need-same-length
 same-length c = search needs
 
--- src/lib.rt:72:1
 returns : tie.Need-returns
-returns c = ?
+returns c = 
+    rw table-bytes
+    (c .before .before .before .before .before .before .before .before .before .before .before .before .before .before .before .before .before .before .before .byte .ensures then c .before .before .before .before .before .before .before .before .before .before .before .before .before .before .before .byte2 .ensures then c .before .before .before .before .before .before .before .before .before .before .before .byte3 .ensures then (rw (c .before .before .before .before .before .before .before .sites-size .ensures) at (c .before .before .before .before .before .before .uleb .ensures)) then c .before .before .sites .ensures)
 
 pub site-table-spec : {M : Type 1} → statement M
 site-table-spec =
