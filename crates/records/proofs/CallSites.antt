@@ -9,10 +9,10 @@ use lib.ListN.{length, replicate, length-append, length-replicate}
 use Rattle.format.specs.Test.{each}
 use Rattle.format.specs.Leb.{ulebF, uleb}
 use Rattle.format.specs.Lists.{Landing, landingAt}
+use Rattle.format.specs.Headers.{padding}
 use Rattle.format.specs.CallSites.{siteBytes, sitesBytes, siteTable, sitePad, siteAdded}
 use Rattle.format.specs.Put.{Wrote}
 use Rattle.format.proofs.Choice.{if-le, if-gt, either}
-use Rattle.format.proofs.EntryBack.{padding-small}
 use Rattle.format.proofs.Storing as storing
 use Rattle.format.proofs.Storing.{Storing}
 use Rattle.lists.specs.declared.Extent.{Extent}
@@ -116,10 +116,6 @@ module _ {ls : List ℕ} {first n i size : ℕ} (w : Counting ls first n i size)
 
 -- ---- a table, and what a function adds
 
-pub pad-small : (at : ℕ) → sitePad at < 4
-unfolding sitePad
-pad-small at = padding-small 4 at (omega arith)
-
 pub table-bytes : (ls : List ℕ) (first n : ℕ) → siteTable (each (landingAt ls) first n)
     ≡ 0xff ∷ 0xff ∷ 0x01 ∷ (uleb (length (sitesIn ls first n)) ++ sitesIn ls first n)
 unfolding siteTable sitesIn
@@ -131,8 +127,8 @@ module _ (at : ℕ) (e : Extent) (ls : List ℕ) where
   added-none h = rw h
 
   pub added-some : e .landings ≢ 0 → siteAdded at (meant e [] ls [] .landings)
-      ≡ replicate (sitePad at) 0 ++ siteTable (each (landingAt ls) (e .«landings_at») (e .landings))
-  unfolding siteAdded each meant
+      ≡ replicate (padding 4 at) 0 ++ siteTable (each (landingAt ls) (e .«landings_at») (e .landings))
+  unfolding siteAdded sitePad each meant
   added-some h =
       let n : ℕ = e .landings - 1 in
       let k : e .landings ≡ suc n = omega arith in
@@ -140,5 +136,6 @@ module _ (at : ℕ) (e : Extent) (ls : List ℕ) where
 
   module _ (h : e .landings ≢ 0) where
 
-    pub added-length : length (siteAdded at (meant e [] ls [] .landings)) ≡ sitePad at + 3 + length (uleb (length (sitesIn ls (e .«landings_at») (e .landings)))) + length (sitesIn ls (e .«landings_at») (e .landings))
-    added-length = rw (added-some h, table-bytes) (simp (length-append, length-replicate {A = ℕ} (sitePad at) 0) (omega arith))
+    pub added-length : length (siteAdded at (meant e [] ls [] .landings))
+        ≡ padding 4 at + 3 + length (uleb (length (sitesIn ls (e .«landings_at») (e .landings)))) + length (sitesIn ls (e .«landings_at») (e .landings))
+    added-length = rw (added-some h, table-bytes) (simp (length-append, length-replicate {A = ℕ} (padding 4 at) 0) (omega arith))

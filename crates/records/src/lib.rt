@@ -6,11 +6,12 @@ ghost use lib.ListN.{length};
 ghost use Rattle.format.specs.Put.{Wrote};
 ghost use Rattle.format.specs.Test.{each};
 ghost use Rattle.format.specs.Leb.{uleb};
-ghost use Rattle.format.specs.Lists.{landingStride, landingAt, count, mostRecords};
-ghost use Rattle.format.specs.CallSites.{siteBytes, siteTable, sitePad, siteAdded};
+ghost use Rattle.format.specs.Lists.{landingStride, landingAt, lineAt, count, mostRecords};
+ghost use Rattle.format.specs.CallSites.{siteBytes, siteTable, siteAdded};
 ghost use Rattle.lists.specs.Extents.{meant, meantLanding};
 ghost use Rattle.leading.specs.Functions.{LandingsReady};
 ghost use Rattle.records.specs.Sites.{sitesIn};
+ghost use Rattle.records.specs.Lines.{lineBytes, linesIn, LineReady, LinesReady};
 use lists::Extent;
 use lists::Landing;
 
@@ -62,13 +63,6 @@ fn sites_size(landings: &[u64], first: usize, n: usize) -> usize
     size
 }
 
-// Zeros in front of a table.
-fn site_pad(at: usize) -> usize
-    ensures { λ r. ⌜ r ≡ sitePad at ⌝ }
-{
-    (4 - at % 4) % 4
-}
-
 // A function's table: no base for the pads, no types, numbers in ULEB, and the entries behind their length.
 fn site_table(out: &mut [u8], at: usize, landings: &[u64], first: usize, n: usize) -> usize
     requires { ⌜ (first + n ≤ count landingStride (now landings)) × (n ≤ mostRecords) × (at + 3 + length (uleb (length (sitesIn (now landings) first n))) + length (sitesIn (now landings) first n) ≤ length (now out)) ⌝ }
@@ -89,7 +83,7 @@ pub fn call_sites(out: &mut [u8], at: usize, e: Extent, landings: &[u64]) -> usi
     if e.landings == 0 {
         return at;
     }
-    let a = leb::fill(out, at, site_pad(at));
+    let a = leb::fill(out, at, headers::padding(4, at));
     site_table(out, a, landings, e.landings_at, e.landings)
 }
 
@@ -101,5 +95,56 @@ pub fn call_sites_size(at: usize, e: Extent, landings: &[u64]) -> usize
         return 0;
     }
     let n = sites_size(landings, e.landings_at, e.landings);
-    site_pad(at) + 3 + leb::uleb_size(n as u64) + n
+    headers::padding(4, at) + 3 + leb::uleb_size(n as u64) + n
+}
+
+// ---- rows and the steps between them
+
+// Row i and its step, from the offset `from` on.
+fn line(out: &mut [u8], at: usize, word: u64, from: u64, rows: &[u64], i: usize) -> usize
+    requires { ⌜ LineReady word from (now rows) i × (at + length (lineBytes word from (lineAt (now rows) i)) ≤ length (now out)) ⌝ }
+    ensures { λ r. ⌜ Wrote (now (out .entry)) (now (out .exit)) at r (lineBytes word from (lineAt (now (rows .entry)) i)) ⌝ }
+{
+    let a = rows::advance(out, at, rows::offset_at(rows, i) - from);
+    rows::row(out, a, word, rows::row_at(rows, i))
+}
+
+fn line_size(word: u64, from: u64, rows: &[u64], i: usize) -> usize
+    requires { ⌜ LineReady word from (now rows) i ⌝ }
+    ensures { λ r. ⌜ (r ≡ length (lineBytes word from (lineAt (now (rows .entry)) i))) × (r ≤ 14) ⌝ }
+{
+    rows::advance_size(rows::offset_at(rows, i) - from) + rows::row_size(word, rows::row_at(rows, i))
+}
+
+// n rows from `first` on, with the steps between them.
+fn lines(out: &mut [u8], at: usize, word: u64, rows: &[u64], first: usize, n: usize) -> usize
+    requires { ⌜ LinesReady word (now rows) first n × (at + length (linesIn word 0 (now rows) first n) ≤ length (now out)) ⌝ }
+    ensures { λ r. ⌜ Wrote (now (out .entry)) (now (out .exit)) at r (linesIn word 0 (now (rows .entry)) first n) ⌝ }
+{
+    let end = first + n;
+    let mut i = first;
+    let mut from = 0;
+    let mut p = at;
+    while i < end {
+        p = line(out, p, word, from, rows, i);
+        from = rows::offset_at(rows, i);
+        i += 1;
+    }
+    p
+}
+
+fn lines_size(word: u64, rows: &[u64], first: usize, n: usize) -> usize
+    requires { ⌜ LinesReady word (now rows) first n ⌝ }
+    ensures { λ r. ⌜ r ≡ length (linesIn word 0 (now (rows .entry)) first n) ⌝ }
+{
+    let end = first + n;
+    let mut i = first;
+    let mut from = 0;
+    let mut size = 0;
+    while i < end {
+        size += line_size(word, from, rows, i);
+        from = rows::offset_at(rows, i);
+        i += 1;
+    }
+    size
 }
