@@ -33,7 +33,7 @@ body-length : (align at : ℕ) (us vs bs : List ℕ) → length us ≡ length vs
     → length (entry (padded align at (us ++ bs))) ≡ length (entry (padded align at (vs ++ bs)))
 body-length align at us vs bs h =
     let e : length (us ++ bs) ≡ length (vs ++ bs) = rw (length-append us bs, length-append vs bs, h) in
-    rw (entry-length, entry-length, padded-length, padded-length, e)
+    simp (entry-length, padded-length, e)
 
 pub record-length : (debug : Bool) (m : Machine) (align at cie : ℕ) (f : Function)
     → length (recordBytes debug m align at cie f) ≡ length (recordBytes debug m align at 0 f)

@@ -34,7 +34,7 @@ line-short {w} {from} {rows} {i} r =
 
 -- ---- rows
 
-each-more : {A : Type 0} (f : ℕ → A) (i end : ℕ) → i < end → each f i (end - i) ≡ f i ∷ each f (i + 1) (end - (i + 1))
+pub each-more : {A : Type 0} (f : ℕ → A) (i end : ℕ) → i < end → each f i (end - i) ≡ f i ∷ each f (i + 1) (end - (i + 1))
 unfolding each
 each-more f i end h =
     let e : end - i ≡ suc (end - suc i) = omega arith in

@@ -1,6 +1,7 @@
 // Call sites, and a record's bytes, size and relocations. Ported from rucc-asm/src/unwind.rs (call_sites, record, eh_record, debug_record, relaxed_advance, pair) of tamnd/rucc, changed: see NOTICE.
 ghost use mathlib.Core.Path.{_≡_};
 ghost use mathlib.Core.Bool.{true, false};
+ghost use mathlib.Core.Option.{some};
 ghost use mathlib.Core.List.{[], _∷_};
 ghost use Prim.Native.Nat.{_+_, _*_, _^_, _≤_, _<_};
 ghost use lib.ListN.{length, replicate};
@@ -8,18 +9,20 @@ ghost use Rattle.format.specs.Put.{Wrote};
 ghost use Rattle.format.specs.Test.{each};
 ghost use Rattle.format.specs.Leb.{uleb};
 ghost use Rattle.format.specs.Headers.{counted};
-ghost use Rattle.format.specs.Lists.{landingStride, landingAt, lineAt, count, mostRecords};
+ghost use Rattle.format.specs.Lists.{landingStride, pairStride, landingAt, lineAt, numbersOf, count, mostRecords};
 ghost use Rattle.format.specs.CallSites.{siteBytes, siteTable, siteAdded};
-ghost use Rattle.format.specs.Records.{recordBytes};
+ghost use Rattle.format.specs.Records.{recordBytes, setKind, setBytes, setPlace, setPair};
 ghost use Rattle.format.proofs.SectionSize.{Aligned};
-ghost use Rattle.lists.specs.Extents.{meant, meantLanding};
-ghost use Rattle.leading.specs.Functions.{bodyOf, Sound, LandingsReady};
+ghost use Rattle.lists.specs.Extents.{meant, meantLanding, meantPair};
+ghost use Rattle.leading.specs.Functions.{bodyOf, Sound, RowsReady, LandingsReady, PairsReady};
 ghost use Rattle.records.specs.Sites.{sitesIn};
 ghost use Rattle.records.specs.Lines.{lineBytes, linesIn, LineReady, LinesReady};
 ghost use Rattle.records.specs.Fields.{sizeIn, blankIn, fieldsIn};
+ghost use Rattle.records.specs.Labels.{isFor, foundPair, pairBetween, stepPair, stepsIn};
 use format::Machine;
 use lists::Extent;
 use lists::Landing;
+use lists::Pair;
 
 // ---- call sites
 
@@ -266,4 +269,151 @@ pub fn record(
     let b = fields(out, a, debug, m.word, (at + 4 - cie) as u64, e);
     let c = lines(out, b, m.word, rows, e.rows_at + k, e.rows - k);
     headers::pad(out, at, c, align)
+}
+
+// ---- the relocations of steps
+
+// The pair of a step, if it has one.
+enum Found {
+    At(Pair),
+    Absent,
+}
+
+// A pair is for the step from one place to another.
+fn is_for(p: Pair, from: u64, to: u64) -> bool
+    ensures { λ r. ⌜ r ≡ isFor from to (meantPair p) ⌝ }
+{
+    if p.place1 != from {
+        return false;
+    }
+    p.place2 == to
+}
+
+// The first of the n pairs from `at` on that is for a step.
+fn pair_for(pairs: &[u64], at: usize, n: usize, from: u64, to: u64) -> Found
+    requires { ⌜ at + n ≤ count pairStride (now pairs) ⌝ }
+    ensures { λ r. ⌜ foundPair r ≡ pairBetween from to (now (pairs .entry)) at n ⌝ }
+{
+    let end = at + n;
+    let mut i = at;
+    while i < end {
+        let p = lists::pair_at(pairs, i);
+        if is_for(p, from, to) {
+            return Found::At(p);
+        }
+        i += 1;
+    }
+    Found::Absent
+}
+
+// Where a linker writes a step of a form: on the opcode, or behind it.
+fn set_place(place: u64, form: u64) -> u64
+    requires { ⌜ place < 2 ^ 63 ⌝ }
+    ensures { λ r. ⌜ r ≡ setPlace place form ⌝ }
+{
+    if form == 0 {
+        return place;
+    }
+    place + 1
+}
+
+// The kind of Set for a form; Sub's is one more.
+fn set_kind(form: u64) -> u64
+    ensures { λ r. ⌜ (r ≡ setKind form) × (r ≤ 11) ⌝ }
+{
+    match form {
+        0 => 5,
+        1 => 7,
+        2 => 9,
+        _ => 11,
+    }
+}
+
+fn set_bytes(form: u64) -> u64
+    ensures { λ r. ⌜ r ≡ setBytes form ⌝ }
+{
+    if form == 0 {
+        return 1;
+    }
+    form
+}
+
+// The relocations of a step of a form between the two places of a pair: Set takes the second symbol, Sub the first.
+fn relaxed_advance(out: &mut [u64], i: usize, place: u64, form: u64, p: Pair) -> usize
+    requires { ⌜ (place < 2 ^ 63) × (i + 10 ≤ length (now out)) ⌝ }
+    ensures { λ r. ⌜ Wrote (now (out .entry)) (now (out .exit)) i r (numbersOf (setPair place form (some (meantPair p)))) ⌝ }
+{
+    let at = set_place(place, form);
+    let kind = set_kind(form);
+    let bytes = set_bytes(form);
+    let a = relocs::relocation(out, i, at, p.symbol2, kind, bytes, 0);
+    relocs::relocation(out, a, at, p.symbol1, kind + 1, bytes, 0)
+}
+
+// The relocations of the step from one place to another.
+fn step_pair(out: &mut [u64], i: usize, place: u64, from: u64, to: u64, e: Extent, pairs: &[u64]) -> usize
+    requires { ⌜ PairsReady e (now pairs) × (place < 2 ^ 63) × (from ≤ to) × (i + length (numbersOf (stepPair place from to e (now pairs))) ≤ length (now out)) ⌝ }
+    ensures { λ r. ⌜ Wrote (now (out .entry)) (now (out .exit)) i r (numbersOf (stepPair place from to e (now (pairs .entry)))) ⌝ }
+{
+    let Found::At(p) = pair_for(pairs, e.pairs_at, e.pairs, from, to) else {
+        return i;
+    };
+    relaxed_advance(out, i, place, rows::step_form(to - from), p)
+}
+
+fn step_pair_count(from: u64, to: u64, e: Extent, pairs: &[u64]) -> usize
+    requires { ⌜ PairsReady e (now pairs) ⌝ }
+    ensures { λ r. ⌜ r ≡ length (stepPair 0 from to e (now (pairs .entry))) ⌝ }
+{
+    let Found::At(_) = pair_for(pairs, e.pairs_at, e.pairs, from, to) else {
+        return 0;
+    };
+    2
+}
+
+// Those of n rows from `first` on, whose bytes start at `place`.
+fn step_relocs(
+    out: &mut [u64],
+    i: usize,
+    word: u64,
+    place: u64,
+    rows: &[u64],
+    first: usize,
+    n: usize,
+    e: Extent,
+    pairs: &[u64],
+) -> usize
+    requires { ⌜ LinesReady word (now rows) first n × PairsReady e (now pairs) × (place < 2 ^ 62) × (i + length (numbersOf (stepsIn word place 0 (now rows) first n e (now pairs))) ≤ length (now out)) ⌝ }
+    ensures { λ r. ⌜ Wrote (now (out .entry)) (now (out .exit)) i r (numbersOf (stepsIn word place 0 (now (rows .entry)) first n e (now (pairs .entry)))) ⌝ }
+{
+    let end = first + n;
+    let mut k = first;
+    let mut from = 0;
+    let mut p = place;
+    let mut q = i;
+    while k < end {
+        let to = rows::offset_at(rows, k);
+        q = step_pair(out, q, p, from, to, e, pairs);
+        p += line_size(word, from, rows, k) as u64;
+        from = to;
+        k += 1;
+    }
+    q
+}
+
+fn step_relocs_count(rows: &[u64], first: usize, n: usize, e: Extent, pairs: &[u64]) -> usize
+    requires { ⌜ RowsReady (now rows) first n × (n ≤ mostRecords) × PairsReady e (now pairs) ⌝ }
+    ensures { λ r. ⌜ (r ≡ length (stepsIn 0 0 0 (now (rows .entry)) first n e (now (pairs .entry)))) × (r ≤ 2 * n) ⌝ }
+{
+    let end = first + n;
+    let mut k = first;
+    let mut from = 0;
+    let mut size = 0;
+    while k < end {
+        let to = rows::offset_at(rows, k);
+        size += step_pair_count(from, to, e, pairs);
+        from = to;
+        k += 1;
+    }
+    size
 }
