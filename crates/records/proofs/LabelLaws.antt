@@ -116,7 +116,7 @@ pub steps-count : (w place at : ℕ) (ps : List Pair) (xs : List Line) → lengt
 unfolding stepRelocs
 steps-count w place at ps [] = refl
 steps-count w place at ps (x ∷ xs) =
-    rw (length-append, length-append)
+    simp length-append
     (omega (
       arith,
       set-count place (stepForm (x .0 - at)) (pairFor at (x .0) ps),

@@ -7,3 +7,4 @@ pub mod RowLoops
 pub mod OtherRows
 pub mod FieldLaws
 pub mod RecordLaws
+pub mod FieldRelocs

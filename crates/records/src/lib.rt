@@ -11,13 +11,13 @@ ghost use Rattle.format.specs.Leb.{uleb};
 ghost use Rattle.format.specs.Headers.{counted};
 ghost use Rattle.format.specs.Lists.{landingStride, pairStride, landingAt, lineAt, numbersOf, count, mostRecords};
 ghost use Rattle.format.specs.CallSites.{siteBytes, siteTable, siteAdded};
-ghost use Rattle.format.specs.Records.{recordBytes, setKind, setBytes, setPlace, setPair};
+ghost use Rattle.format.specs.Records.{recordBytes, recordRelocs, setKind, setBytes, setPlace, setPair};
 ghost use Rattle.format.proofs.SectionSize.{Aligned};
 ghost use Rattle.lists.specs.Extents.{meant, meantLanding, meantPair};
 ghost use Rattle.leading.specs.Functions.{bodyOf, Sound, RowsReady, LandingsReady, PairsReady};
 ghost use Rattle.records.specs.Sites.{sitesIn};
 ghost use Rattle.records.specs.Lines.{lineBytes, linesIn, LineReady, LinesReady};
-ghost use Rattle.records.specs.Fields.{sizeIn, blankIn, fieldsIn};
+ghost use Rattle.records.specs.Fields.{sizeIn, blankIn, fieldsIn, sumIn, lsdaIn, debugRelocs, ehRelocs, fieldRelocs};
 ghost use Rattle.records.specs.Labels.{isFor, foundPair, pairBetween, stepPair, stepsIn};
 use format::Machine;
 use lists::Extent;
@@ -416,4 +416,107 @@ fn step_relocs_count(rows: &[u64], first: usize, n: usize, e: Extent, pairs: &[u
         k += 1;
     }
     size
+}
+
+// ---- a record's relocations
+
+// The length as the distance from the function to its end label, where it has relaxing labels.
+fn sum_pair(out: &mut [u64], i: usize, place: u64, bytes: u64, e: Extent) -> usize
+    requires { ⌜ i + length (numbersOf (sumIn place bytes e)) ≤ length (now out) ⌝ }
+    ensures { λ r. ⌜ Wrote (now (out .entry)) (now (out .exit)) i r (numbersOf (sumIn place bytes e)) ⌝ }
+{
+    if !e.relaxed {
+        return i;
+    }
+    let a = relocs::relocation(out, i, place, e.end, 2, bytes, 0);
+    relocs::relocation(out, a, place, e.symbol, 3, bytes, 0)
+}
+
+fn sum_count(e: Extent) -> usize
+    ensures { λ r. ⌜ (r ≡ length (sumIn 0 0 e)) × (r ≤ 2) ⌝ }
+{
+    if e.relaxed {
+        return 2;
+    }
+    0
+}
+
+// The pointer to the call sites: to the function's table, or to what a named personality has.
+fn lsda_reloc(out: &mut [u64], i: usize, word: u64, place: u64, table: u64, e: Extent) -> usize
+    requires { ⌜ i + length (numbersOf (lsdaIn word place table e)) ≤ length (now out) ⌝ }
+    ensures { λ r. ⌜ Wrote (now (out .entry)) (now (out .exit)) i r (numbersOf (lsdaIn word place table e)) ⌝ }
+{
+    if e.landings != 0 {
+        return relocs::relocation(out, i, place, 1, 0, 4, table);
+    }
+    if !e.personality {
+        return i;
+    }
+    if !e.lsda {
+        return i;
+    }
+    headers::pointer(out, i, word, place, e.lsda_symbol, e.lsda_encoding)
+}
+
+fn lsda_count(e: Extent) -> usize
+    ensures { λ r. ⌜ (r ≡ length (lsdaIn 0 0 0 e)) × (r ≤ 1) ⌝ }
+{
+    if e.landings != 0 {
+        return 1;
+    }
+    if !e.personality {
+        return 0;
+    }
+    if !e.lsda {
+        return 0;
+    }
+    1
+}
+
+// In debug_frame the header's place in the section, the function and its length.
+fn debug_relocs(out: &mut [u64], i: usize, word: u64, at: u64, cie: u64, e: Extent) -> usize
+    requires { ⌜ (word ≤ 8) × (at < 2 ^ 32) × (i + length (numbersOf (debugRelocs word at cie e)) ≤ length (now out)) ⌝ }
+    ensures { λ r. ⌜ Wrote (now (out .entry)) (now (out .exit)) i r (numbersOf (debugRelocs word at cie e)) ⌝ }
+{
+    let a = relocs::relocation(out, i, at + 4, 2, 1, 4, cie);
+    let b = relocs::relocation(out, a, at + 8, e.symbol, 1, word, 0);
+    sum_pair(out, b, at + 8 + word, word, e)
+}
+
+// In eh_frame the function, the call sites and the length.
+fn eh_relocs(out: &mut [u64], i: usize, word: u64, at: u64, table: u64, e: Extent) -> usize
+    requires { ⌜ (at < 2 ^ 32) × (i + length (numbersOf (ehRelocs word at table e)) ≤ length (now out)) ⌝ }
+    ensures { λ r. ⌜ Wrote (now (out .entry)) (now (out .exit)) i r (numbersOf (ehRelocs word at table e)) ⌝ }
+{
+    let a = relocs::relocation(out, i, at + 8, e.symbol, 0, 4, 0);
+    let b = lsda_reloc(out, a, word, at + 17, table, e);
+    sum_pair(out, b, at + 12, 4, e)
+}
+
+fn field_relocs(
+    out: &mut [u64],
+    i: usize,
+    debug: bool,
+    word: u64,
+    at: u64,
+    cie: u64,
+    table: u64,
+    e: Extent,
+) -> usize
+    requires { ⌜ (word ≤ 8) × (at < 2 ^ 32) × (i + length (numbersOf (fieldRelocs debug word at cie table e)) ≤ length (now out)) ⌝ }
+    ensures { λ r. ⌜ Wrote (now (out .entry)) (now (out .exit)) i r (numbersOf (fieldRelocs debug word at cie table e)) ⌝ }
+{
+    if debug {
+        return debug_relocs(out, i, word, at, cie, e);
+    }
+    eh_relocs(out, i, word, at, table, e)
+}
+
+fn field_relocs_count(debug: bool, e: Extent) -> usize
+    ensures { λ r. ⌜ (r ≡ length (fieldRelocs debug 0 0 0 0 e)) × (r ≤ 4) ⌝ }
+{
+    if debug {
+        return 2 + sum_count(e);
+    }
+    1 + lsda_count(e) + sum_count(e)
 }
