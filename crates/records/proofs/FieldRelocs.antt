@@ -86,3 +86,8 @@ lsda-counted word place table e = lsda-picked (eqb (e .landings) 0) (e .personal
 pub eh-count : (word at table : ℕ) (e : Extent) → length (ehRelocs word at table e) ≡ 1 + length (lsdaIn 0 0 0 e) + length (sumIn 0 0 e)
 unfolding ehRelocs
 eh-count word at table e = simp length-append (omega (arith, lsda-counted word (at + 17) table e, sum-counted (at + 12) 4 e))
+
+pub field-count : (debug : Bool) (word at cie table : ℕ) (e : Extent) → length (fieldRelocs debug word at cie table e) ≡ length (fieldRelocs debug 0 0 0 0 e)
+unfolding fieldRelocs pick
+field-count true word at cie table e = debug-count word at cie e ∙ sym (debug-count 0 0 0 e)
+field-count false word at cie table e = eh-count word at table e ∙ sym (eh-count 0 0 0 e)

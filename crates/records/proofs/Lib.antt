@@ -8,3 +8,4 @@ pub mod OtherRows
 pub mod FieldLaws
 pub mod RecordLaws
 pub mod FieldRelocs
+pub mod RelocLaws

@@ -64,7 +64,7 @@ word-least w t =
     (or-yes (eqb w 2 || eqb w 4) (eqb w 8) t)
 
 module _ (e : Extent) (rows : List ℕ) {k : ℕ} (q : (k ≡ length (ahead (each (lineAt rows) (e .«rows_at») (e .rows)))) × (k ≤ e .rows)) where
-  others-are : others (bodyOf e rows .rows) ≡ each (lineAt rows) (e .«rows_at» + k) (e .rows - k)
+  pub others-are : others (bodyOf e rows .rows) ≡ each (lineAt rows) (e .«rows_at» + k) (e .rows - k)
   unfolding meant
   others-are = others-from (lineAt rows) (e .«rows_at») (e .rows) k (q .0)
 

@@ -520,3 +520,41 @@ fn field_relocs_count(debug: bool, e: Extent) -> usize
     }
     1 + lsda_count(e) + sum_count(e)
 }
+
+// How many relocations a record has.
+pub fn record_relocs_count(debug: bool, m: Machine, e: Extent, rows: &[u64], pairs: &[u64]) -> usize
+    requires { ⌜ Sound m e (now rows) × (e .relaxed ≡ true → PairsReady e (now pairs)) ⌝ }
+    ensures { λ r. ⌜ r ≡ length (recordRelocs debug m 0 0 0 (meant e (now (rows .entry)) [] (now (pairs .entry)))) ⌝ }
+{
+    let n = field_relocs_count(debug, e);
+    if !e.relaxed {
+        return n;
+    }
+    let k = leading::ahead(rows, e.rows_at, e.rows);
+    n + step_relocs_count(rows, e.rows_at + k, e.rows - k, e, pairs)
+}
+
+// Those of a record at `at` whose header is at `cie`, with the function's call sites at `table`: of the fields, then of the steps.
+pub fn record_relocs(
+    out: &mut [u64],
+    i: usize,
+    debug: bool,
+    m: Machine,
+    at: usize,
+    cie: usize,
+    table: usize,
+    e: Extent,
+    rows: &[u64],
+    pairs: &[u64],
+) -> usize
+    requires { ⌜ Sound m e (now rows) × (e .relaxed ≡ true → PairsReady e (now pairs)) × (at < 2 ^ 32) × (i + 5 * length (recordRelocs debug m at cie table (meant e (now rows) [] (now pairs))) ≤ length (now out)) ⌝ }
+    ensures { λ r. ⌜ Wrote (now (out .entry)) (now (out .exit)) i r (numbersOf (recordRelocs debug m at cie table (meant e (now (rows .entry)) [] (now (pairs .entry))))) ⌝ }
+{
+    let a = field_relocs(out, i, debug, m.word, at as u64, cie as u64, table as u64, e);
+    if !e.relaxed {
+        return a;
+    }
+    let k = leading::ahead(rows, e.rows_at, e.rows);
+    let place = at + 4 + fields_size(debug, m.word, e);
+    step_relocs(out, a, m.word, place as u64, rows, e.rows_at + k, e.rows - k, e, pairs)
+}
