@@ -1,6 +1,6 @@
 -- A record's fields are those of the function that the record means.
 use mathlib.Core.Path.{_≡_, refl}
-use Prim.Native.Nat.{ℕ, zero, suc, _+_, _*_, _≤_}
+use Prim.Native.Nat.{ℕ, zero, suc, _+_, _*_}
 use native.Mathlib.Omega.{arith}
 use mathlib.Core.Bool.{Bool, true, false, not}
 use mathlib.Core.Logic.{_≢_}
@@ -10,7 +10,7 @@ use lib.ListN.{length, replicate, length-append, length-replicate}
 use lib.Dec.{eqb}
 use borrow.Author.Tests.{eq-eqb, ne-eqb, not-true, not-false}
 use Rattle.format.specs.Test.{pick, each}
-use Rattle.format.specs.Leb.{little, uleb}
+use Rattle.format.specs.Leb.{uleb}
 use Rattle.format.specs.Lists.{Landing, Pointer, Relaxed}
 use Rattle.format.specs.Headers.{pointerBytes, counted}
 use Rattle.format.specs.Records.{pointerBlank, namedBlank, lsdaBlank, sizeField, recordFields}

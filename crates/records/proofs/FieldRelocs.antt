@@ -1,15 +1,15 @@
 -- The relocations of a record's fields are those of the function that the record means, and how many there are.
 use mathlib.Core.Path.{_≡_, refl, sym, _∙_}
-use Prim.Native.Nat.{ℕ, zero, suc, _+_, _-_, _*_}
+use Prim.Native.Nat.{ℕ, zero, suc, _+_, _-_}
 use native.Mathlib.Omega.{arith}
 use mathlib.Core.Bool.{Bool, true, false}
 use mathlib.Core.Logic.{_≢_}
-use mathlib.Core.Option.{Option, none, some}
-use mathlib.Core.List.{List, [], _∷_, _++_}
+use mathlib.Core.Option.{none, some}
+use mathlib.Core.List.{[], _∷_, _++_}
 use lib.ListN.{length, length-append}
 use lib.Dec.{eqb}
 use Rattle.format.specs.Test.{pick, each}
-use Rattle.format.specs.Lists.{Function, Landing, Named, Pointer, Relaxed, Relocation, numbersOf}
+use Rattle.format.specs.Lists.{Function, Landing, Pointer, Relaxed, Relocation, numbersOf}
 use Rattle.format.specs.Headers.{pointerReloc, reloc, exceptTable}
 use Rattle.format.specs.Records.{pointerTo, namedReloc, lsdaReloc, sumPair}
 use Rattle.format.proofs.Choice.{if-eq, if-ne}

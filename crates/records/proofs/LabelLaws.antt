@@ -105,13 +105,7 @@ unfolding setPair
 set-most place form none = omega arith
 set-most place form (some p) = omega arith
 
-pub pair-count : (place from to : ℕ) (e : Extent) (pairs : List ℕ) → length (stepPair place from to e pairs) ≡ length (stepPair 0 from to e pairs)
-unfolding stepPair
-pair-count place from to e pairs =
-    set-count place (stepForm (to - from)) (pairBetween from to pairs (e .«pairs_at») (e .pairs))
-    ∙ sym (set-count 0 (stepForm (to - from)) (pairBetween from to pairs (e .«pairs_at») (e .pairs)))
-
--- nor of rows
+-- nor does that of rows
 pub steps-count : (w place at : ℕ) (ps : List Pair) (xs : List Line) → length (stepRelocs w place at ps xs) ≡ length (stepRelocs 0 0 at ps xs)
 unfolding stepRelocs
 steps-count w place at ps [] = refl

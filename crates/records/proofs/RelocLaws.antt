@@ -11,7 +11,7 @@ use Rattle.format.specs.declared.Machine.{Machine}
 use Rattle.format.specs.Rows.{Line}
 use Rattle.format.specs.Lists.{Function, Landing, Named, Pointer, Relaxed, lineAt, numbersOf}
 use Rattle.format.specs.Headers.{ahead, others}
-use Rattle.format.specs.Records.{pointerTo, namedReloc, lsdaReloc, recordFields, sumPair, stepRelocs, rowRelocs, recordRelocs}
+use Rattle.format.specs.Records.{pointerTo, namedReloc, lsdaReloc, recordFields, sumPair, rowRelocs, recordRelocs}
 use Rattle.lists.specs.declared.Extent.{Extent}
 use Rattle.lists.specs.Extents.{meant}
 use Rattle.leading.specs.Functions.{bodyOf}
@@ -88,7 +88,7 @@ module _ (debug : Bool) (m : Machine) (at cie table : ℕ) (e : Extent) (rows pa
   relocs-plain h = relocs-are ∙ simp (h, append-nil)
 
   module _ {k : ℕ} (q : (k ≡ length (ahead (each (lineAt rows) (e .«rows_at») (e .rows)))) × (k ≤ e .rows)) (h : e .relaxed ≡ true) where
-    pub relocs-relaxed : recordRelocs debug m at cie table (meant e rows [] pairs) ≡ fieldRelocs debug (m .word) at cie table e
+    relocs-relaxed : recordRelocs debug m at cie table (meant e rows [] pairs) ≡ fieldRelocs debug (m .word) at cie table e
         ++ stepsIn (m .word) (at + 4 + length (fieldsIn debug (m .word) 0 e)) 0 rows (e .«rows_at» + k) (e .rows - k) e pairs
     unfolding meant rowRelocs stepsIn pick
     relocs-relaxed = relocs-are ∙ simp (h, others-are e rows q)

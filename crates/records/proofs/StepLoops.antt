@@ -1,8 +1,8 @@
 -- The relocations of rows' steps: the loops that write and count them.
-use mathlib.Core.Path.{_≡_, refl, sym, ap, _∙_}
-use Prim.Native.Nat.{ℕ, suc, _+_, _-_, _*_, _≤_, _<_}
+use mathlib.Core.Path.{_≡_, refl}
+use Prim.Native.Nat.{ℕ, _+_, _-_, _*_, _≤_, _<_}
 use native.Mathlib.Omega.{arith}
-use mathlib.Core.List.{List, [], _∷_, _++_}
+use mathlib.Core.List.{List, [], _++_}
 use lib.ListN.{length, length-append}
 use Rattle.format.specs.Test.{each}
 use Rattle.format.specs.Put.{Wrote}
@@ -63,7 +63,7 @@ module _ {xs₀ xs : List ℕ} {w place : ℕ} {rows : List ℕ} {first n : ℕ}
           arith,
           front .room,
           length-append (numbersOf (stepPair p from to e pairs))
-          (numbersOf (stepsIn w (p + length (lineBytes w from (lineAt rows k))) to rows (k + 1) (first + n - (k + 1)) e pairs)),
+              (numbersOf (stepsIn w (p + length (lineBytes w from (lineAt rows k))) to rows (k + 1) (first + n - (k + 1)) e pairs)),
         )
 
     pub turn : {ys : List ℕ} {x r : ℕ} → LinesReady w rows first n → Wrote xs ys q r (numbersOf (stepPair p from to e pairs))

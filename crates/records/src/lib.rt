@@ -2,7 +2,7 @@
 ghost use mathlib.Core.Path.{_≡_};
 ghost use mathlib.Core.Bool.{true, false};
 ghost use mathlib.Core.Option.{some};
-ghost use mathlib.Core.List.{[], _∷_};
+ghost use mathlib.Core.List.{[]};
 ghost use Prim.Native.Nat.{_+_, _*_, _^_, _≤_, _<_};
 ghost use lib.ListN.{length, replicate};
 ghost use Rattle.format.specs.Put.{Wrote};
@@ -122,7 +122,8 @@ fn line_size(word: u64, from: u64, rows: &[u64], i: usize) -> usize
     requires { ⌜ LineReady word from (now rows) i ⌝ }
     ensures { λ r. ⌜ (r ≡ length (lineBytes word from (lineAt (now (rows .entry)) i))) × (r ≤ 14) ⌝ }
 {
-    rows::advance_size(rows::offset_at(rows, i) - from) + rows::row_size(word, rows::row_at(rows, i))
+    rows::advance_size(rows::offset_at(rows, i) - from)
+        + rows::row_size(word, rows::row_at(rows, i))
 }
 
 // n rows from `first` on, with the steps between them.
@@ -241,7 +242,14 @@ fn fields_size(debug: bool, word: u64, e: Extent) -> usize
 // ---- a record
 
 // How many bytes a record at `at` has.
-pub fn record_size(debug: bool, m: Machine, align: usize, at: usize, e: Extent, rows: &[u64]) -> usize
+pub fn record_size(
+    debug: bool,
+    m: Machine,
+    align: usize,
+    at: usize,
+    e: Extent,
+    rows: &[u64],
+) -> usize
     requires { ⌜ Sound m e (now rows) × Aligned align × (at < 2 ^ 32) ⌝ }
     ensures { λ r. ⌜ r ≡ length (recordBytes debug m align at 0 (bodyOf e (now (rows .entry)))) ⌝ }
 {
@@ -351,7 +359,15 @@ fn relaxed_advance(out: &mut [u64], i: usize, place: u64, form: u64, p: Pair) ->
 }
 
 // The relocations of the step from one place to another.
-fn step_pair(out: &mut [u64], i: usize, place: u64, from: u64, to: u64, e: Extent, pairs: &[u64]) -> usize
+fn step_pair(
+    out: &mut [u64],
+    i: usize,
+    place: u64,
+    from: u64,
+    to: u64,
+    e: Extent,
+    pairs: &[u64],
+) -> usize
     requires { ⌜ PairsReady e (now pairs) × (place < 2 ^ 63) × (from ≤ to) × (i + length (numbersOf (stepPair place from to e (now pairs))) ≤ length (now out)) ⌝ }
     ensures { λ r. ⌜ Wrote (now (out .entry)) (now (out .exit)) i r (numbersOf (stepPair place from to e (now (pairs .entry)))) ⌝ }
 {
@@ -420,6 +436,11 @@ fn step_relocs_count(rows: &[u64], first: usize, n: usize, e: Extent, pairs: &[u
 
 // ---- a record's relocations
 
+// The symbols of the sections that a record points to.
+const EXCEPT_TABLE: u64 = 1;
+
+const DEBUG_FRAME: u64 = 2;
+
 // The length as the distance from the function to its end label, where it has relaxing labels.
 fn sum_pair(out: &mut [u64], i: usize, place: u64, bytes: u64, e: Extent) -> usize
     requires { ⌜ i + length (numbersOf (sumIn place bytes e)) ≤ length (now out) ⌝ }
@@ -447,7 +468,7 @@ fn lsda_reloc(out: &mut [u64], i: usize, word: u64, place: u64, table: u64, e: E
     ensures { λ r. ⌜ Wrote (now (out .entry)) (now (out .exit)) i r (numbersOf (lsdaIn word place table e)) ⌝ }
 {
     if e.landings != 0 {
-        return relocs::relocation(out, i, place, 1, 0, 4, table);
+        return relocs::relocation(out, i, place, EXCEPT_TABLE, 0, 4, table);
     }
     if !e.personality {
         return i;
@@ -478,7 +499,7 @@ fn debug_relocs(out: &mut [u64], i: usize, word: u64, at: u64, cie: u64, e: Exte
     requires { ⌜ (word ≤ 8) × (at < 2 ^ 32) × (i + length (numbersOf (debugRelocs word at cie e)) ≤ length (now out)) ⌝ }
     ensures { λ r. ⌜ Wrote (now (out .entry)) (now (out .exit)) i r (numbersOf (debugRelocs word at cie e)) ⌝ }
 {
-    let a = relocs::relocation(out, i, at + 4, 2, 1, 4, cie);
+    let a = relocs::relocation(out, i, at + 4, DEBUG_FRAME, 1, 4, cie);
     let b = relocs::relocation(out, a, at + 8, e.symbol, 1, word, 0);
     sum_pair(out, b, at + 8 + word, word, e)
 }
@@ -550,11 +571,30 @@ pub fn record_relocs(
     requires { ⌜ Sound m e (now rows) × (e .relaxed ≡ true → PairsReady e (now pairs)) × (at < 2 ^ 32) × (i + 5 * length (recordRelocs debug m at cie table (meant e (now rows) [] (now pairs))) ≤ length (now out)) ⌝ }
     ensures { λ r. ⌜ Wrote (now (out .entry)) (now (out .exit)) i r (numbersOf (recordRelocs debug m at cie table (meant e (now (rows .entry)) [] (now (pairs .entry))))) ⌝ }
 {
-    let a = field_relocs(out, i, debug, m.word, at as u64, cie as u64, table as u64, e);
+    let a = field_relocs(
+        out,
+        i,
+        debug,
+        m.word,
+        at as u64,
+        cie as u64,
+        table as u64,
+        e,
+    );
     if !e.relaxed {
         return a;
     }
     let k = leading::ahead(rows, e.rows_at, e.rows);
     let place = at + 4 + fields_size(debug, m.word, e);
-    step_relocs(out, a, m.word, place as u64, rows, e.rows_at + k, e.rows - k, e, pairs)
+    step_relocs(
+        out,
+        a,
+        m.word,
+        place as u64,
+        rows,
+        e.rows_at + k,
+        e.rows - k,
+        e,
+        pairs,
+    )
 }

@@ -27,7 +27,7 @@ is-for-requires c κs = search needs
 
 returns : tie.Need-returns Inv-loop μ-loop
 unfolding foundPair pairAt
-returns c = 
+returns c =
     rw (c .before .before .pair-at .ensures)
     (found (c .before .before .before .before .loop .inv) (c .before .before .before .loop-test .taken) (rw (c .before .before .pair-at .ensures) at (c .before .is-for .ensures)) (c .if1 .taken))
 

@@ -2,7 +2,7 @@
 use native.Mathlib.Omega.{arith}
 use borrow.Author.Tests.{not-true, not-false}
 use Rattle.format.proofs.FieldsBack.{word-small}
-use Rattle.format.proofs.PutLaws.{_then_, kept}
+use Rattle.format.proofs.PutLaws.{_then_}
 use Rattle.records.proofs.OtherRows.{others-ready}
 use Rattle.records.proofs.RelocLaws.{field-room, relocs-plain, relaxed-numbers, relaxed-room}
 use borrow.Author.Needs.{needs}
@@ -31,23 +31,25 @@ add-place-2 : tie.Need-add-place-2
 add-place-2 c = omega (arith, c .before .before .before .before .before .before .before .before .before .before .before .pre .2, c .fields-size .ensures .1)
 
 add-step-relocs : tie.Need-add-step-relocs
-add-step-relocs c = omega (arith, c .before .before .before .before .before .before .before .before .before .before .before .before .before .pre .0 .ready .inside, c .before .before .before .ahead .ensures .1, c .before .before .before .before .before .before .before .before .before .before .before .before .before .good, c .before .before .before .before .before .before .before .before .before .before .before .before .before .fits)
+add-step-relocs c = omega (arith, c .before .before .before .before .before .before .before .before .before .before .before .before .before .pre .0 .ready .inside, c .before .before .before .ahead .ensures .1, c .before .before .before .before .before .before .before .before .before .before .before .before .before .good)
 
 sub-step-relocs : tie.Need-sub-step-relocs
 sub-step-relocs c = omega (arith, c .before .before .before .before .ahead .ensures .1)
 
 step-relocs-requires : tie.Need-step-relocs-requires
-step-relocs-requires c κs = 
-    (others-ready (c .before .before .before .before .before .before .before .before .before .before .before .before .before .before .args .e) (c .before .before .before .before .before .before .before .before .before .before .before .before .before .before .args .rows .now) (c .before .before .before .before .ahead .ensures) (c .before .before .before .before .before .before .before .before .before .before .before .before .before .before .pre .0), c .before .before .before .before .before .before .before .before .before .before .before .before .before .before .pre .1 (not-false (c .before .before .before .before .before .before .before .before .before .before .before .before .before .before .args .e .relaxed) (c .before .before .before .before .before .if1 .left)),
-    omega (arith, c .before .before .before .before .before .before .before .before .before .before .before .before .before .before .pre .2, c .before .before .before .fields-size .ensures .1),
-    let room = relaxed-room (c .before .before .before .before .before .before .before .before .before .before .before .before .before .before .args .debug) (c .before .before .before .before .before .before .before .before .before .before .before .before .before .before .args .m) (c .before .before .before .before .before .before .before .before .before .before .before .before .before .before .args .at) (c .before .before .before .before .before .before .before .before .before .before .before .before .before .before .args .cie) (c .before .before .before .before .before .before .before .before .before .before .before .before .before .before .args .table) (c .before .before .before .before .before .before .before .before .before .before .before .before .before .before .args .e) (c .before .before .before .before .before .before .before .before .before .before .before .before .before .before .args .rows .now) (c .before .before .before .before .before .before .before .before .before .before .before .before .before .before .args .pairs .now) (c .before .before .before .before .ahead .ensures) (not-false (c .before .before .before .before .before .before .before .before .before .before .before .before .before .before .args .e .relaxed) (c .before .before .before .before .before .if1 .left)) in
-    rw (c .before .before .before .fields-size .ensures .0) (omega (arith, c .before .before .before .before .before .before .before .before .before .before .before .before .before .before .pre .3, c .before .before .before .before .before .before .before .before .before .field-relocs .ensures .past, kept (c .before .before .before .before .before .before .before .before .before .field-relocs .ensures))))
+step-relocs-requires c κs = (
+  others-ready (c .before .before .before .before .before .before .before .before .before .before .before .before .before .before .args .e) (c .before .before .before .before .before .before .before .before .before .before .before .before .before .before .args .rows .now) (c .before .before .before .before .ahead .ensures) (c .before .before .before .before .before .before .before .before .before .before .before .before .before .before .pre .0),
+  c .before .before .before .before .before .before .before .before .before .before .before .before .before .before .pre .1 (not-false (c .before .before .before .before .before .before .before .before .before .before .before .before .before .before .args .e .relaxed) (c .before .before .before .before .before .if1 .left)),
+  omega (arith, c .before .before .before .before .before .before .before .before .before .before .before .before .before .before .pre .2, c .before .before .before .fields-size .ensures .1),
+  let room = relaxed-room (c .before .before .before .before .before .before .before .before .before .before .before .before .before .before .args .debug) (c .before .before .before .before .before .before .before .before .before .before .before .before .before .before .args .m) (c .before .before .before .before .before .before .before .before .before .before .before .before .before .before .args .at) (c .before .before .before .before .before .before .before .before .before .before .before .before .before .before .args .cie) (c .before .before .before .before .before .before .before .before .before .before .before .before .before .before .args .table) (c .before .before .before .before .before .before .before .before .before .before .before .before .before .before .args .e) (c .before .before .before .before .before .before .before .before .before .before .before .before .before .before .args .rows .now) (c .before .before .before .before .before .before .before .before .before .before .before .before .before .before .args .pairs .now) (c .before .before .before .before .ahead .ensures) (not-false (c .before .before .before .before .before .before .before .before .before .before .before .before .before .before .args .e .relaxed) (c .before .before .before .before .before .if1 .left)) in
+      rw (c .before .before .before .fields-size .ensures .0) (omega (arith, c .before .before .before .before .before .before .before .before .before .before .before .before .before .before .pre .3, c .before .before .before .before .before .before .before .before .before .field-relocs .ensures .past)),
+)
 
 same-length-2 : tie.Need-same-length-2
 same-length-2 c = search needs
 
 returns-2 : tie.Need-returns-2
-returns-2 c = 
+returns-2 c =
     rw (relaxed-numbers (c .before .before .before .before .before .before .before .before .before .before .before .before .before .before .before .before .before .args .debug) (c .before .before .before .before .before .before .before .before .before .before .before .before .before .before .before .before .before .args .m) (c .before .before .before .before .before .before .before .before .before .before .before .before .before .before .before .before .before .args .at) (c .before .before .before .before .before .before .before .before .before .before .before .before .before .before .before .before .before .args .cie) (c .before .before .before .before .before .before .before .before .before .before .before .before .before .before .before .before .before .args .table) (c .before .before .before .before .before .before .before .before .before .before .before .before .before .before .before .before .before .args .e) (c .before .before .before .before .before .before .before .before .before .before .before .before .before .before .before .before .before .args .rows .now) (c .before .before .before .before .before .before .before .before .before .before .before .before .before .before .before .before .before .args .pairs .now) (c .before .before .before .before .before .before .before .ahead .ensures) (not-false (c .before .before .before .before .before .before .before .before .before .before .before .before .before .before .before .before .before .args .e .relaxed) (c .before .before .before .before .before .before .before .before .if1 .left)))
     (c .before .before .before .before .before .before .before .before .before .before .before .before .field-relocs .ensures then (rw (c .before .before .before .before .before .before .fields-size .ensures .0) at (c .before .before .step-relocs .ensures)))
 

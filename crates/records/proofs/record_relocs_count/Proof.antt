@@ -24,7 +24,7 @@ sub-step-relocs-count : tie.Need-sub-step-relocs-count
 sub-step-relocs-count c = omega (arith, c .before .before .ahead .ensures .1)
 
 step-relocs-count-requires : tie.Need-step-relocs-count-requires
-step-relocs-count-requires c κs = 
+step-relocs-count-requires c κs =
     let r = others-ready (c .before .before .before .before .before .before .before .before .args .e) (c .before .before .before .before .before .before .before .before .args .rows .now) (c .before .before .ahead .ensures) (c .before .before .before .before .before .before .before .before .pre .0) in
     (r .ready, r .few, c .before .before .before .before .before .before .before .before .pre .1 (not-false (c .before .before .before .before .before .before .before .before .args .e .relaxed) (c .before .before .before .if1 .left)))
 

@@ -31,7 +31,7 @@ same-length c = search needs
 
 returns : tie.Need-returns
 unfolding setPair numbersOf
-returns c = 
+returns c =
     rw (← c .before .before .before .before .before .before .before .before .before .before .set-place .ensures, ← c .before .before .before .before .before .before .before .before .before .set-kind .ensures .0, ← c .before .before .before .before .before .before .before .before .set-bytes .ensures)
     (c .before .before .before .before .before .before .relocation .ensures then (rw (add-one (c .before .before .before .before .before .before .before .before .before .set-kind .result)) at (c .before .before .relocation2 .ensures)))
 

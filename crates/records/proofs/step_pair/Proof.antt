@@ -30,7 +30,7 @@ step-form-requires c κs = search needs
 
 relaxed-advance-requires : tie.Need-relaxed-advance-requires
 unfolding foundPair numbersOf setPair
-relaxed-advance-requires c κs = 
+relaxed-advance-requires c κs =
     let h = rw (pair-found _ _ _ (c .before .before .before .before .before .before .before .before .args .e) _ _ (rw (c .before .before .before .p .given .1) at (c .before .before .before .before .before .pair-for .ensures))) at (c .before .before .before .before .before .before .before .before .pre .3) in
     (c .before .before .before .before .before .before .before .before .pre .1, search needs)
 
@@ -39,7 +39,7 @@ same-length c = search needs
 
 returns-2 : tie.Need-returns-2
 unfolding foundPair
-returns-2 c = 
+returns-2 c =
     rw (pair-found _ _ _ (c .before .before .before .before .before .before .before .before .before .before .before .args .e) _ _ (rw (c .before .before .before .before .before .before .p .given .1) at (c .before .before .before .before .before .before .before .before .pair-for .ensures)), ← c .before .before .before .step-form .ensures) (c .before .before .relaxed-advance .ensures)
 
 pub step-pair-spec : {M : Type 1} → statement M

@@ -23,10 +23,12 @@ offset-at-requires : tie.Need-offset-at-requires Inv-loop μ-loop
 offset-at-requires c κs = line-ready (c .before .before .before .before .before .pre .0) (c .before .loop .inv .going) (c .loop-test .taken) .inside
 
 step-pair-requires : tie.Need-step-pair-requires Inv-loop μ-loop
-step-pair-requires c κs = 
-    (c .before .before .before .before .before .before .before .pre .1, omega (arith, c .before .before .before .loop .inv .near, c .before .before .before .before .before .before .before .pre .2, c .before .before .before .before .before .before .before .pre .0 .few, c .before .before .before .loop .inv .going .low, c .before .before .loop-test .taken),
-    omega (arith, line-ready (c .before .before .before .before .before .before .before .pre .0) (c .before .before .before .loop .inv .going) (c .before .before .loop-test .taken) .forward, offset-of (c .before .before .before .before .before .before .before .args .rows .now) (c .before .before .before .loop .k), c .before .offset-at .ensures),
-    room (c .before .before .before .loop .inv) (c .before .before .loop-test .taken) (c .before .offset-at .ensures))
+step-pair-requires c κs = (
+  c .before .before .before .before .before .before .before .pre .1,
+  omega (arith, c .before .before .before .loop .inv .near, c .before .before .before .before .before .before .before .pre .2, c .before .before .before .before .before .before .before .pre .0 .few, c .before .before .before .loop .inv .going .low, c .before .before .loop-test .taken),
+  omega (arith, line-ready (c .before .before .before .before .before .before .before .pre .0) (c .before .before .before .loop .inv .going) (c .before .before .loop-test .taken) .forward, offset-of (c .before .before .before .before .before .before .before .args .rows .now) (c .before .before .before .loop .k), c .before .offset-at .ensures),
+  room (c .before .before .before .loop .inv) (c .before .before .loop-test .taken) (c .before .offset-at .ensures),
+)
 
 line-size-requires : tie.Need-line-size-requires Inv-loop μ-loop
 line-size-requires c κs = line-ready (c .before .before .before .before .before .before .before .before .before .before .pre .0) (c .before .before .before .before .before .before .loop .inv .going) (c .before .before .before .before .before .loop-test .taken)
