@@ -14,8 +14,8 @@ use Rattle.format.specs.Reader.{Letters, Spelling, spelled, HeaderFields, requi
 use Rattle.locate.specs.Spans.{part}
 use Rattle.format.specs.declared.Unsigned.{Unsigned}
 use Rattle.format.specs.declared.Unsigned.the-variants as unsigned
-use Rattle.locate.specs.declared.Place.{Place}
-use Rattle.locate.specs.declared.Place.the-variants as place
+use Rattle.locate.specs.declared.Number.{Number}
+use Rattle.locate.specs.declared.Number.the-variants as number
 use Rattle.locate.specs.declared.Span.{Span}
 use Rattle.locate.specs.declared.Span.the-variants as span
 use Rattle.locate.specs.declared.Promise.{Promise}
@@ -25,8 +25,6 @@ use Rattle.locate.specs.declared.Header.{Header}
 use Rattle.locate.specs.declared.Header.the-variants as header
 use Rattle.locate.specs.declared.Record.{Record}
 use Rattle.locate.specs.declared.Record.the-variants as row
-use Rattle.locate.specs.declared.Width.{Width}
-use Rattle.locate.specs.declared.Width.the-variants as width
 
 -- a value, and at position q the rest
 pub record Rests {A : Type 0} (s : List ℕ) (v : A) (q : ℕ) (x : Read A) : Type 0 where
@@ -46,12 +44,6 @@ abbrev pub Spells : List ℕ → Spelled → Read Letters → Type 0
 Spells s (spells.As p q) x = Rests s (lettersOf p) q x
 Spells s spells.Nothing x = x ≡ none
 
--- ---- encodings
-
-unfoldable pub widthOf : Option ℕ → Width
-widthOf none = width.Unknown
-widthOf (some n) = width.Bytes n
-
 -- ---- the augmentation data
 
 -- bytes from `at` up to `end`, and the rest
@@ -69,9 +61,9 @@ pub record Skips (s : List ℕ) (q : ℕ) (x : Option (List ℕ)) : Type 0 where
   pub inside : q ≤ length s
   pub rest : x ≡ some (drop q s)
 
-abbrev pub SkipsTo : List ℕ → Place → Option (List ℕ) → Type 0
-SkipsTo s (place.At q) x = Skips s q x
-SkipsTo s place.Nowhere x = x ≡ none
+abbrev pub SkipsTo : List ℕ → Number → Option (List ℕ) → Type 0
+SkipsTo s (number.Is q) x = Skips s q x
+SkipsTo s number.Nothing x = x ≡ none
 
 -- a number and the position past it
 abbrev pub Numbers : List ℕ → Unsigned → Read ℕ → Type 0
