@@ -25,6 +25,7 @@ entryIn s at end = record { at = at; body = part s (at + 4) end }
 unfoldable pub entriesFrom : List ℕ → ℕ → Option (List Entry)
 entriesFrom s at = entriesF (suc (length (drop at s))) at (drop at s)
 
+-- these entries, none where they do not tile it
 unfoldable pub listed : Option (List Entry) → List Entry
 listed none = []
 listed (some es) = es
@@ -55,6 +56,7 @@ pub record Stands (s : List ℕ) (at end : ℕ) (x : Option Entry) : Type 0 wher
   pub inside : end ≤ length s
   pub found : x ≡ some (entryIn s at end)
 
+-- that entry, or none
 abbrev pub Spans : List ℕ → Span → Option Entry → Type 0
 Spans s (span.At at end) x = Stands s at end x
 Spans s span.Nothing x = x ≡ none

@@ -104,7 +104,7 @@ fn is_header(s: &[u8], at: usize, end: usize, debug: bool) -> bool
 
 // ---- the record and its header
 
-// An entry by where it starts and ends, where there is one.
+// A part of a slice by where it starts and ends, where there is one.
 enum Span {
     At(usize, usize),
     Nothing,
