@@ -1,30 +1,29 @@
 -- Augmentation data at positions: bytes with their length in front, encodings, and the pointers that they promise.
-use mathlib.Core.Path.{_≡_, refl, ap, subst, _∙_}
+use mathlib.Core.Path.{_≡_, subst}
 use mathlib.Core.Bool.{Bool, true, false, not}
-use mathlib.Core.Option.{Option, none, some}
-use mathlib.Core.List.{List, [], _∷_}
+use mathlib.Core.Option.{none, some}
+use mathlib.Core.List.{List}
 use Prim.Native.Nat.{ℕ, _+_, _-_, _≤_, _<_}
 use native.Mathlib.Omega.{arith}
 use native.Mathlib.Numerals.{add-one}
 use borrow.Author.Tests.{eq-eqb, ne-eqb, le-leb, lt-leb, not-true, not-false}
-use lib.Dec.{leb}
 use lib.ListN.{length, take, drop, getD, length-drop, drop-of-length-le}
 use lib.Seq.{drop-cons, drop-drop}
 use Rattle.format.specs.Test.{pick, Read, next, after}
 use Rattle.format.specs.Positions.{ulebAt}
 use Rattle.format.specs.Headers.{pointerSize}
-use Rattle.format.specs.Reader.{Letters, readByte, readMany, readCounted, personalityIn, lsdaIn, lettersIn}
+use Rattle.format.specs.Reader.{readByte, readMany, readCounted, personalityIn, lsdaIn, lettersIn}
 use Rattle.format.specs.declared.Unsigned.{Unsigned}
 use Rattle.format.specs.declared.Unsigned.the-variants as unsigned
 use Rattle.format.proofs.PositionLaws.{uleb-ahead, uleb-rest, uleb-none}
-use Rattle.locate.specs.Spans.{part}
-use Rattle.locate.specs.Fields.{Rests, lettersOf, widthOf, Counts, CountsIn, Skips, SkipsTo, Numbers}
-use Rattle.locate.specs.declared.Place.{Place}
-use Rattle.locate.specs.declared.Place.the-variants as place
+use Rattle.locate.specs.Spans.{numberOf}
+use Rattle.locate.specs.Fields.{Rests, lettersOf, Counts, CountsIn, Skips, SkipsTo, Numbers}
+use Rattle.locate.specs.declared.Number.{Number}
+use Rattle.locate.specs.declared.Number.the-variants as number
 use Rattle.locate.specs.declared.Span.{Span}
 use Rattle.locate.specs.declared.Span.the-variants as span
 use Rattle.locate.specs.declared.Promise.{Promise}
-use Rattle.locate.specs.declared.Width.the-variants.{Bytes, Unknown}
+use Rattle.locate.proofs.Seeking.{number-is, number-none}
 
 -- ---- a byte, and bytes
 
@@ -38,13 +37,13 @@ module _ (s : List ℕ) (p : ℕ) where
   byte-none h = rw (drop-of-length-le s h)
 
   module _ (n : ℕ) where
-    pub many-there : p + n ≤ length s → readMany n (drop p s) ≡ some (take n (drop p s), drop (p + n) s)
+    many-there : p + n ≤ length s → readMany n (drop p s) ≡ some (take n (drop p s), drop (p + n) s)
     unfolding readMany pick
     many-there h =
         let l : n ≤ length (drop p s) = omega (arith, length-drop p s) in
         simp (le-leb n (length (drop p s)) l, drop-drop)
 
-    pub many-none : length s - p < n → readMany n (drop p s) ≡ none
+    many-none : length s - p < n → readMany n (drop p s) ≡ none
     unfolding readMany pick
     many-none h =
         let l : length (drop p s) < n = omega (arith, length-drop p s) in
@@ -77,18 +76,6 @@ module _ (s : List ℕ) (x : Read (List ℕ)) {r : Span} (m : CountsIn s r x) wh
   pub counts-none : r ≡ span.Nothing → x ≡ none
   counts-none q = subst (λ (r : Span). CountsIn s r x) q m
 
--- ---- encodings
-
-pub width-known : (o : Option ℕ) {n : ℕ} → widthOf o ≡ Bytes n → o ≡ some n
-unfolding widthOf
-width-known none e = let z : _≡_ {A = ℕ} 0 1 = cc in absurd (omega arith)
-width-known (some n) e = cc
-
-pub width-unknown : (o : Option ℕ) → widthOf o ≡ Unknown → o ≡ none
-unfolding widthOf
-width-unknown none e = refl
-width-unknown (some n) e = let z : _≡_ {A = ℕ} 0 1 = cc in absurd (omega arith)
-
 -- ---- the personality
 
 first-byte : (s : List ℕ) → (length s ≡ 0 → ⊥) → readByte s ≡ some (getD s 0 0, drop 1 s)
@@ -105,20 +92,20 @@ module _ (s : List ℕ) (here : Bool) (word : ℕ) where
     personality-empty h = rw (not-false here y, byte-none s 0 (omega arith))
 
     module _ (l : length s ≡ 0 → ⊥) where
-      pub personality-unknown : widthOf (pointerSize true word (getD s 0 0)) ≡ Unknown → personalityIn here word s ≡ none
+      pub personality-unknown : numberOf (pointerSize true word (getD s 0 0)) ≡ number.Nothing → personalityIn here word s ≡ none
       unfolding personalityIn next after
-      personality-unknown e = rw (not-false here y, first-byte s l, width-unknown _ e)
+      personality-unknown e = rw (not-false here y, first-byte s l, number-none _ e)
 
-      module _ {n : ℕ} (e : widthOf (pointerSize true word (getD s 0 0)) ≡ Bytes n) where
+      module _ {n : ℕ} (e : numberOf (pointerSize true word (getD s 0 0)) ≡ number.Is n) where
         pub personality-over : length s - 1 < n → personalityIn here word s ≡ none
         unfolding personalityIn next after
-        personality-over h = rw (not-false here y, first-byte s l, width-known _ e, many-none s 1 n h)
+        personality-over h = rw (not-false here y, first-byte s l, number-is _ e, many-none s 1 n h)
 
         pub personality-there : n ≤ length s - 1 → Skips s (1 + n) (personalityIn here word s)
         unfolding personalityIn next after
         personality-there h =
             let k : 1 + n ≤ length s = omega arith in
-            record { inside = k; rest = rw (not-false here y, first-byte s l, width-known _ e, many-there s 1 n k) }
+            record { inside = k; rest = rw (not-false here y, first-byte s l, number-is _ e, many-there s 1 n k) }
 
 -- ---- the pointer to call sites
 
@@ -133,46 +120,46 @@ module _ (s : List ℕ) (p : ℕ) (here : Bool) (word : ℕ) where
     lsda-empty h = rw (not-false here y, byte-none s p h)
 
     module _ (l : p < length s) where
-      pub lsda-unknown : widthOf (pointerSize false word (getD s p 0)) ≡ Unknown → lsdaIn here word (drop p s) ≡ none
+      pub lsda-unknown : numberOf (pointerSize false word (getD s p 0)) ≡ number.Nothing → lsdaIn here word (drop p s) ≡ none
       unfolding lsdaIn next after
-      lsda-unknown e = rw (not-false here y, byte-there s p l, width-unknown _ e)
+      lsda-unknown e = rw (not-false here y, byte-there s p l, number-none _ e)
 
-      pub lsda-there : {n : ℕ} → widthOf (pointerSize false word (getD s p 0)) ≡ Bytes n → Rests s n (p + 1) (lsdaIn here word (drop p s))
+      pub lsda-there : {n : ℕ} → numberOf (pointerSize false word (getD s p 0)) ≡ number.Is n → Rests s n (p + 1) (lsdaIn here word (drop p s))
       unfolding lsdaIn next after
-      lsda-there e = record { inside = omega arith; read = rw (not-false here y, byte-there s p l, width-known _ e) }
+      lsda-there e = record { inside = omega arith; read = rw (not-false here y, byte-there s p l, number-is _ e) }
 
 -- ---- all of them, and the records' encoding
 
-module _ (s : List ℕ) (word : ℕ) (p : Promise) {r : Place} (m : SkipsTo s r (personalityIn (p .personality) word s)) where
-  pub letters-first : r ≡ place.Nowhere → Unknown ≡ widthOf (lettersIn (lettersOf p) word s)
-  unfolding lettersIn after widthOf
-  letters-first e = rw (subst (λ (r : Place). SkipsTo s r (personalityIn (p .personality) word s)) e m)
+module _ (s : List ℕ) (word : ℕ) (p : Promise) {r : Number} (m : SkipsTo s r (personalityIn (p .personality) word s)) where
+  pub letters-first : r ≡ number.Nothing → number.Nothing ≡ numberOf (lettersIn (lettersOf p) word s)
+  unfolding lettersIn after numberOf
+  letters-first e = rw (subst (λ (r : Number). SkipsTo s r (personalityIn (p .personality) word s)) e m)
 
-  module _ {a : ℕ} (e : r ≡ place.At a) where
+  module _ {a : ℕ} (e : r ≡ number.Is a) where
     skipped : Skips s a (personalityIn (p .personality) word s)
-    skipped = subst (λ (r : Place). SkipsTo s r (personalityIn (p .personality) word s)) e m
+    skipped = subst (λ (r : Number). SkipsTo s r (personalityIn (p .personality) word s)) e m
 
     pub letters-inside : a ≤ length s
     letters-inside = skipped .inside
 
     module _ {v : Unsigned} (k : Numbers s v (lsdaIn (p .lsda) word (drop a s))) where
-      pub letters-second : v ≡ unsigned.Bad → Unknown ≡ widthOf (lettersIn (lettersOf p) word s)
-      unfolding lettersIn after next widthOf
+      pub letters-second : v ≡ unsigned.Bad → number.Nothing ≡ numberOf (lettersIn (lettersOf p) word s)
+      unfolding lettersIn after next numberOf
       letters-second f = rw (skipped .rest, subst (λ (v : Unsigned). Numbers s v (lsdaIn (p .lsda) word (drop a s))) f k)
 
       module _ {n q : ℕ} (f : v ≡ unsigned.Value n q) where
-        number : Rests s n q (lsdaIn (p .lsda) word (drop a s))
-        number = subst (λ (v : Unsigned). Numbers s v (lsdaIn (p .lsda) word (drop a s))) f k
+        lsda-read : Rests s n q (lsdaIn (p .lsda) word (drop a s))
+        lsda-read = subst (λ (v : Unsigned). Numbers s v (lsdaIn (p .lsda) word (drop a s))) f k
 
-        pub letters-ended : length s ≤ q → Unknown ≡ widthOf (lettersIn (lettersOf p) word s)
-        unfolding lettersIn after next widthOf
-        letters-ended h = rw (skipped .rest, number .read, byte-none s q h)
+        pub letters-ended : length s ≤ q → number.Nothing ≡ numberOf (lettersIn (lettersOf p) word s)
+        unfolding lettersIn after next numberOf
+        letters-ended h = rw (skipped .rest, lsda-read .read, byte-none s q h)
 
         module _ (h : q < length s) where
-          pub letters-other : (getD s q 0 ≡ 0x1b → ⊥) → Unknown ≡ widthOf (lettersIn (lettersOf p) word s)
-          unfolding lettersIn after next widthOf pick
-          letters-other d = rw (skipped .rest, number .read, byte-there s q h) (simp (ne-eqb _ _ d))
+          pub letters-other : (getD s q 0 ≡ 0x1b → ⊥) → number.Nothing ≡ numberOf (lettersIn (lettersOf p) word s)
+          unfolding lettersIn after next numberOf pick
+          letters-other d = rw (skipped .rest, lsda-read .read, byte-there s q h) (simp (ne-eqb _ _ d))
 
-          pub letters-there : getD s q 0 ≡ 0x1b → Bytes n ≡ widthOf (lettersIn (lettersOf p) word s)
-          unfolding lettersIn after next widthOf pick
-          letters-there d = rw (skipped .rest, number .read, byte-there s q h) (simp (eq-eqb _ _ d))
+          pub letters-there : getD s q 0 ≡ 0x1b → number.Is n ≡ numberOf (lettersIn (lettersOf p) word s)
+          unfolding lettersIn after next numberOf pick
+          letters-there d = rw (skipped .rest, lsda-read .read, byte-there s q h) (simp (eq-eqb _ _ d))

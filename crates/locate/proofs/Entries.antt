@@ -1,25 +1,23 @@
 -- Entries at positions: where one ends, and what tiles the rest of a section.
-use mathlib.Core.Path.{_≡_, refl, sym, ap, _∙_}
-use mathlib.Core.Bool.{Bool, true, false, not, _&&_}
+use mathlib.Core.Path.{_≡_, refl, sym, _∙_}
+use mathlib.Core.Bool.{Bool, true, false, _&&_}
 use mathlib.Core.Option.{Option, none, some}
 use mathlib.Core.List.{List, [], _∷_}
 use Prim.Native.Nat.{ℕ, zero, suc, _+_, _-_, _≤_, _<_}
 use native.Mathlib.Omega.{arith}
 use borrow.Author.Tests.{le-leb, lt-leb}
 use lib.Dec.{T, leb}
-use lib.ListN.{length, take, drop, length-take, length-drop, drop-of-length-le}
+use lib.ListN.{length, take, drop, length-drop, drop-of-length-le}
 use lib.Seq.{drop-drop, length-take-le}
 use mir.Facts.{and-yes, leb-yes}
 use Rattle.format.specs.Test.{pick, Read, next, after}
-use Rattle.format.specs.Leb.{readLittle}
 use Rattle.format.specs.Positions.{littleAt}
 use Rattle.format.specs.Questions.{isSome}
 use Rattle.format.specs.Reader.{Entry, readEntry, entriesF, entries, valueOr0, second}
 use Rattle.format.specs.declared.Unsigned.the-variants as unsigned
-use Rattle.format.proofs.Choice.{pick-yes, pick-no, if-le, tested}
 use Rattle.format.proofs.PositionLaws.{Takes, nothing, taken, takes-little, little-ahead, little-rest, little-none}
 use Rattle.locate.specs.Spans.{part, entryIn, entriesFrom, listed, endFrom, endAt, Ends}
-use Rattle.locate.specs.declared.Place.the-variants.{At, Nowhere}
+use Rattle.locate.specs.declared.Number.the-variants.{Is, Nothing}
 
 -- ---- an entry of a list: nothing, or at least 8 bytes
 
@@ -40,14 +38,14 @@ taken-held bs (taken k n l h m) =
     let e : k ≡ 4 = omega arith in
     rw e (pick-held bs n (omega arith) (leb 4 n && leb n (length (drop 4 bs))) (λ t. let y = and-yes (leb 4 n) (leb n (length (drop 4 bs))) t in (leb-yes (y .0), leb-yes (y .1))))
 
-pub entry-held : (bs : List ℕ) → Held bs (readEntry bs)
+entry-held : (bs : List ℕ) → Held bs (readEntry bs)
 unfolding readEntry
 entry-held bs = taken-held bs (takes-little 4 bs)
 
 -- ---- where the entry at a position ends
 
 module _ (s : List ℕ) (p : ℕ) where
-  pub end-none : littleAt 4 s p ≡ unsigned.Bad → endAt s p ≡ Nowhere
+  pub end-none : littleAt 4 s p ≡ unsigned.Bad → endAt s p ≡ Nothing
   unfolding endAt endFrom readEntry next
   end-none e = rw (little-none s p 4 e)
 
@@ -59,15 +57,15 @@ module _ (s : List ℕ) (p : ℕ) where
     pub body-inside : q ≤ length s
     body-inside = little-ahead s p (omega arith) e .1
 
-    pub end-short : n < 4 → endAt s p ≡ Nowhere
+    pub end-short : n < 4 → endAt s p ≡ Nothing
     unfolding endFrom pick
     end-short h = opened ∙ simp (lt-leb 4 n h)
 
-    pub end-over : 4 ≤ n → length s - q < n → endAt s p ≡ Nowhere
+    pub end-over : 4 ≤ n → length s - q < n → endAt s p ≡ Nothing
     unfolding endFrom pick
     end-over h l = opened ∙ simp (le-leb 4 n h, length-drop, lt-leb n (length s - q) l)
 
-    pub end-there : 4 ≤ n → n ≤ length s - q → endAt s p ≡ At (q + n)
+    pub end-there : 4 ≤ n → n ≤ length s - q → endAt s p ≡ Is (q + n)
     unfolding endFrom pick
     end-there h l =
         let b = body-inside in
@@ -80,7 +78,7 @@ pub record Entered (s : List ℕ) (p q : ℕ) : Type 0 where
   pub inside : q ≤ length s
   pub read : readEntry (drop p s) ≡ some (part s (p + 4) q, drop q s)
 
-held-entered : (s : List ℕ) (p q : ℕ) {r : Read (List ℕ)} → readEntry (drop p s) ≡ r → Held (drop p s) r → endFrom (length s) r ≡ At q → Entered s p q
+held-entered : (s : List ℕ) (p q : ℕ) {r : Read (List ℕ)} → readEntry (drop p s) ≡ r → Held (drop p s) r → endFrom (length s) r ≡ Is q → Entered s p q
 unfolding endFrom
 held-entered s p q same bare e = let z : _≡_ {A = ℕ} 0 1 = cc in absurd (omega arith)
 held-entered s p q same (held n l h) e =
@@ -89,13 +87,13 @@ held-entered s p q same (held n l h) e =
     let d′ = length-drop (4 + n) (drop p s) in
     let g : q ≡ p + (4 + n) = omega arith in
     let k : n ≡ q - (p + 4) = omega arith in
-    record { long = omega arith; inside = omega arith; read = same ∙ rw (drop-drop, drop-drop, ← g, k) }
+    record { long = omega arith; inside = omega arith; read = same ∙ rw (drop-drop 4 p s, drop-drop (4 + n) p s, ← g, k) }
 
-pub entered : (s : List ℕ) (p : ℕ) {q : ℕ} → endAt s p ≡ At q → Entered s p q
+pub entered : (s : List ℕ) (p : ℕ) {q : ℕ} → endAt s p ≡ Is q → Entered s p q
 unfolding endAt
 entered s p {q} e = held-entered s p q refl (entry-held (drop p s)) e
 
-none-read : (s : List ℕ) (r : Read (List ℕ)) → endFrom (length s) r ≡ Nowhere → r ≡ none
+none-read : (s : List ℕ) (r : Read (List ℕ)) → endFrom (length s) r ≡ Nothing → r ≡ none
 unfolding endFrom
 none-read s none e = refl
 none-read s (some x) e = let z : _≡_ {A = ℕ} 0 1 = cc in absurd (omega arith)
@@ -137,11 +135,11 @@ module _ (s : List ℕ) (p : ℕ) where
     unfolding entriesFrom
     step = one-step (length (drop p s)) p (drop p s) (omega (arith, length-drop p s))
 
-    pub tiled-none : endAt s p ≡ Nowhere → entriesFrom s p ≡ none
+    tiled-none : endAt s p ≡ Nothing → entriesFrom s p ≡ none
     unfolding endAt next
     tiled-none e = step ∙ rw (none-read s (readEntry (drop p s)) e)
 
-    pub tiled-more : {q : ℕ} → endAt s p ≡ At q → entriesFrom s p ≡ after (entriesFrom s q) λ es. some (entryIn s p q ∷ es)
+    tiled-more : {q : ℕ} → endAt s p ≡ Is q → entriesFrom s p ≡ after (entriesFrom s q) λ es. some (entryIn s p q ∷ es)
     unfolding entriesFrom next
     tiled-more {q} e =
         let a = entered s p e in
@@ -169,11 +167,11 @@ start s = record { inside = omega arith; rest = refl }
 
 module _ {s : List ℕ} {at : ℕ} (t : Tiling s at) where
   module _ (h : at < length s) where
-    pub stopped : endAt s at ≡ Nowhere → false ≡ isSome (entries s)
+    pub stopped : endAt s at ≡ Nothing → false ≡ isSome (entries s)
     unfolding isSome
     stopped e = sym (t .rest ∙ rw (tiled-none s at h e))
 
-    pub turn : {q : ℕ} → endAt s at ≡ At q → Tiling s q
+    pub turn : {q : ℕ} → endAt s at ≡ Is q → Tiling s q
     turn {q} e = record { inside = entered s at e .inside; rest = t .rest ∙ rw (tiled-more s at h e) (tiled-after (entryIn s at q) (entriesFrom s q)) }
 
   pub ended : length s ≤ at → true ≡ isSome (entries s)
@@ -187,11 +185,11 @@ listed-after e none t = absurd t
 listed-after e (some es) t = refl
 
 module _ (s : List ℕ) (at : ℕ) (h : at < length s) (t : T (isSome (entriesFrom s at))) where
-  pub ends-somewhere : endAt s at ≡ Nowhere → ⊥
+  pub ends-somewhere : endAt s at ≡ Nothing → ⊥
   unfolding isSome
   ends-somewhere e = absurd (rw (tiled-none s at h e) at t)
 
-  pub ends : {q : ℕ} → endAt s at ≡ At q → Ends s at q
+  pub ends : {q : ℕ} → endAt s at ≡ Is q → Ends s at q
   ends {q} e =
       let a = entered s at e in
       let m = tiled-more s at h e in

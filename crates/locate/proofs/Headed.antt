@@ -1,11 +1,11 @@
 -- A header's fields at positions, from the augmentation data back to the id.
-use mathlib.Core.Path.{_≡_, refl, sym, subst, _∙_}
+use mathlib.Core.Path.{_≡_, subst}
 use mathlib.Core.Bool.{Bool, true, false}
-use mathlib.Core.Option.{Option, none, some}
+use mathlib.Core.Option.{Option, none}
 use mathlib.Core.List.{List}
 use Prim.Native.Nat.{ℕ, zero, suc, _+_, _≤_, _<_}
 use native.Mathlib.Omega.{arith}
-use borrow.Author.Tests.{eq-eqb, ne-eqb, le-leb, lt-leb}
+use borrow.Author.Tests.{ne-eqb, le-leb, lt-leb}
 use lib.ListN.{length, drop, getD}
 use lib.IntN.{ℤ, pos, negℤ, _-ℤ_, +ℤ-idl}
 use lib.Signed.{mag}
@@ -13,26 +13,27 @@ use lib.Dec.{T, eqb}
 use mir.Syntax.{w64}
 use mir.Val.{SFits, ofZ, toZ}
 use mir.Facts.{toZ-pos}
-use Rattle.format.specs.Test.{pick, Read, next, after}
+use Rattle.format.specs.Test.{pick, next, after}
 use Rattle.format.specs.Positions.{ulebAt, slebAt, littleAt}
 use Rattle.format.specs.Machine.{isWord}
 use Rattle.format.specs.Rows.{readRegister, sameOffset}
 use Rattle.format.specs.Headers.{dataFactor}
-use Rattle.format.specs.Reader.{Letters, spellings, readLetters, readCounted, lettersIn, HeaderFields, headerTail, require, parseHeader}
+use Rattle.format.specs.Reader.{spellings, readLetters, readCounted, lettersIn, HeaderFields, headerTail, require, parseHeader}
 use Rattle.format.specs.declared.Unsigned.the-variants as unsigned
 use Rattle.format.specs.declared.Signed.the-variants as signed
 use Rattle.format.proofs.FieldsBack.{word-small}
-use Rattle.format.proofs.PositionLaws.{uleb-ahead, uleb-rest, uleb-none, sleb-rest, sleb-none, little-rest, little-none}
+use Rattle.format.proofs.PositionLaws.{uleb-rest, uleb-none, sleb-rest, sleb-none, little-rest, little-none}
 use Rattle.rows.proofs.Signs.{same-bits}
-use Rattle.locate.specs.Spans.{part}
-use Rattle.locate.specs.Fields.{Rests, lettersOf, Spells, widthOf, Counts, CountsIn, Heading, Heads, headerFactors}
+use Rattle.locate.specs.Spans.{part, numberOf}
+use Rattle.locate.specs.Fields.{Rests, lettersOf, Spells, Counts, CountsIn, Heading, headerFactors}
 use Rattle.locate.specs.declared.Span.{Span}
 use Rattle.locate.specs.declared.Span.the-variants as span
 use Rattle.locate.specs.declared.Promise.{Promise}
 use Rattle.locate.specs.declared.Spelled.{Spelled}
 use Rattle.locate.specs.declared.Spelled.the-variants as spells
-use Rattle.locate.specs.declared.Width.the-variants.{Bytes, Unknown}
-use Rattle.locate.proofs.Augmentation.{byte-there, byte-none, counts, counts-none, width-known, width-unknown}
+use Rattle.locate.specs.declared.Number.the-variants.{Is, Nothing}
+use Rattle.locate.proofs.Augmentation.{byte-there, byte-none, counts, counts-none}
+use Rattle.locate.proofs.Seeking.{number-is, number-none}
 
 -- ---- the augmentation data, and the operations behind it
 
@@ -53,13 +54,13 @@ module _ (s : List ℕ) (p : ℕ) (debug : Bool) (word : ℕ) (l : Promise) wher
       pub tail-counts : Counts s a e (readCounted (drop p s))
       tail-counts = counts s (readCounted (drop p s)) m q
 
-      pub tail-unknown : widthOf (lettersIn (lettersOf l) word (part s a e)) ≡ Unknown → tail ≡ none
+      pub tail-unknown : numberOf (lettersIn (lettersOf l) word (part s a e)) ≡ Nothing → tail ≡ none
       unfolding headerTail next after
-      tail-unknown w = rw (d, tail-counts .read, width-unknown _ w)
+      tail-unknown w = rw (d, tail-counts .read, number-none _ w)
 
-      pub tail-there : {n : ℕ} → widthOf (lettersIn (lettersOf l) word (part s a e)) ≡ Bytes n → Heading s e n (l .signal) tail
+      pub tail-there : {n : ℕ} → numberOf (lettersIn (lettersOf l) word (part s a e)) ≡ Is n → Heading s e n (l .signal) tail
       unfolding headerTail next after
-      tail-there w = record { inside = tail-counts .inside; read = rw (d, tail-counts .read, width-known _ w) }
+      tail-there w = record { inside = tail-counts .inside; read = rw (d, tail-counts .read, number-is _ w) }
 
 -- ---- the factors and the return address register
 

@@ -14,8 +14,8 @@ use Rattle.format.specs.Test.{pick, after, first, each}
 use Rattle.format.specs.Questions.{isSome}
 use Rattle.format.specs.Reader.{Entry, isHeader, records, firstAddend, headerAt, entries}
 use Rattle.format.specs.Lists.{relocationAt, relocationsOf}
-use Rattle.locate.specs.Spans.{entryIn, entriesFrom, listed, placed, Ends, Stands}
-use Rattle.locate.specs.declared.Place.the-variants.{At, Nowhere}
+use Rattle.locate.specs.Spans.{entryIn, entriesFrom, listed, numberOf, Ends, Stands}
+use Rattle.locate.specs.declared.Number.the-variants.{Is, Nothing}
 use Rattle.locate.proofs.Entries.{tiled-end}
 
 -- a search of the entries, `find`, goes on in those from `at` on as `find′`
@@ -109,26 +109,31 @@ module _ {xs : List ℕ} {place i : ℕ} (k : Searching xs place i) where
         let e : length xs / 5 - i ≡ suc (length xs / 5 - (i + 1)) = omega arith in
         k .rest ∙ rw e (simp (add-zero, add-one))
 
-    pub search-met : getD xs (5 * i) 0 ≡ place → At (getD xs (5 * i + 4) 0) ≡ placed (firstAddend place (relocationsOf xs))
-    unfolding placed after pick relocationAt
+    pub search-met : getD xs (5 * i) 0 ≡ place → Is (getD xs (5 * i + 4) 0) ≡ numberOf (firstAddend place (relocationsOf xs))
+    unfolding numberOf after pick relocationAt
     search-met e = sym (rw at-one (simp (eq-eqb _ _ e)))
 
     pub search-turn : (getD xs (5 * i) 0 ≡ place → ⊥) → Searching xs place (i + 1)
     unfolding pick firstAddend
     search-turn n = record { inside = omega arith; rest = at-one ∙ simp (ne-eqb _ _ n) }
 
-  pub search-ended : length xs / 5 ≤ i → Nowhere ≡ placed (firstAddend place (relocationsOf xs))
-  unfolding placed firstAddend first each after
+  pub search-ended : length xs / 5 ≤ i → Nothing ≡ numberOf (firstAddend place (relocationsOf xs))
+  unfolding numberOf firstAddend first each after
   search-ended h = let e : length xs / 5 - i ≡ 0 = omega arith in sym (rw (k .rest, e))
 
--- ---- a position that was found
+-- ---- a number that was found, and a value that was not
 
-pub placed-at : (o : Option ℕ) {p : ℕ} → placed o ≡ At p → o ≡ some p
-unfolding placed
-placed-at none e = let z : _≡_ {A = ℕ} 0 1 = cc in absurd (omega arith)
-placed-at (some n) e = cc
+pub number-is : (o : Option ℕ) {p : ℕ} → numberOf o ≡ Is p → o ≡ some p
+unfolding numberOf
+number-is none e = let z : _≡_ {A = ℕ} 0 1 = cc in absurd (omega arith)
+number-is (some n) e = cc
 
-pub placed-none : (o : Option ℕ) → placed o ≡ Nowhere → o ≡ none
-unfolding placed
-placed-none none e = refl
-placed-none (some n) e = let z : _≡_ {A = ℕ} 0 1 = cc in absurd (omega arith)
+pub number-none : (o : Option ℕ) → numberOf o ≡ Nothing → o ≡ none
+unfolding numberOf
+number-none none e = refl
+number-none (some n) e = let z : _≡_ {A = ℕ} 0 1 = cc in absurd (omega arith)
+
+pub absent : {A : Type 0} (o : Option A) → isSome o ≡ false → o ≡ none
+unfolding isSome
+absent none e = refl
+absent (some a) e = let z : _≡_ {A = ℕ} 0 1 = cc in absurd (omega arith)

@@ -3,7 +3,7 @@ use mathlib.Core.Path.{_≡_, refl, sym, subst, _∙_}
 use mathlib.Core.Bool.{Bool, true, false}
 use mathlib.Core.Option.{Option, none, some}
 use mathlib.Core.List.{List, [], _∷_, _++_}
-use Prim.Native.Nat.{ℕ, zero, suc, _+_, _≤_, _<_}
+use Prim.Native.Nat.{ℕ, _+_, _≤_, _<_}
 use native.Mathlib.Omega.{arith}
 use native.Mathlib.Numerals.{add-one}
 use borrow.Author.Tests.{eq-eqb, ne-eqb}
@@ -18,6 +18,7 @@ use Rattle.locate.specs.Fields.{Rests, lettersOf, twoOf, Spells}
 use Rattle.locate.specs.declared.Promise.{Promise}
 use Rattle.locate.specs.declared.Spelled.{Spelled}
 use Rattle.locate.specs.declared.Spelled.the-variants.{As, Nothing}
+use Rattle.locate.proofs.Seeking.{absent}
 
 -- ---- the loop: i bytes of the text were met
 
@@ -71,11 +72,6 @@ stripped (a ∷ xs) (b ∷ bs) e =
 
 -- ---- the first string of a list
 
-nowhere : (o : Option (List ℕ)) → isSome o ≡ false → o ≡ none
-unfolding isSome
-nowhere none e = refl
-nowhere (some r) e = let z : _≡_ {A = ℕ} 0 1 = cc in absurd (omega arith)
-
 -- strings that stand in a list in front of others
 module _ (ys : List Spelling) (bs : List ℕ) where
   or-none : (l : Letters) (o : Option (List ℕ)) (x y : Read Letters) → spellOr o l x ≡ none → (x ≡ none → y ≡ readLetters ys bs) → spellOr o l y ≡ readLetters ys bs
@@ -83,7 +79,7 @@ module _ (ys : List Spelling) (bs : List ℕ) where
   or-none l none x y e f = f e
   or-none l (some r) x y e f = let z : _≡_ {A = ℕ} 0 1 = cc in absurd (omega arith)
 
-  pub letters-behind : (xs : List Spelling) → readLetters xs bs ≡ none → readLetters (xs ++ ys) bs ≡ readLetters ys bs
+  letters-behind : (xs : List Spelling) → readLetters xs bs ≡ none → readLetters (xs ++ ys) bs ≡ readLetters ys bs
   unfolding readLetters
   letters-behind [] e = refl
   letters-behind (x ∷ xs) e = or-none (x .letters) (strip (x .text) bs) (readLetters xs bs) (readLetters (xs ++ ys) bs) e (letters-behind xs)
@@ -93,7 +89,7 @@ module _ (ys : List Spelling) (bs : List ℕ) where
   or-some l none x y v e f = f e
   or-some l (some r) x y v e f = e
 
-  pub letters-before : (v : Letters × List ℕ) (xs : List Spelling) → readLetters xs bs ≡ some v → readLetters (xs ++ ys) bs ≡ some v
+  letters-before : (v : Letters × List ℕ) (xs : List Spelling) → readLetters xs bs ≡ some v → readLetters (xs ++ ys) bs ≡ some v
   unfolding readLetters
   letters-before v [] e = let z : _≡_ {A = ℕ} 0 1 = cc in absurd (omega arith)
   letters-before v (x ∷ xs) e = or-some (x .letters) (strip (x .text) bs) (readLetters xs bs) (readLetters (xs ++ ys) bs) v e (letters-before v xs)
@@ -109,10 +105,10 @@ module _ {s : List ℕ} {at : ℕ} {all left : List Spelling} {x : Spelling} {r 
     (e : r ≡ isSome (strip (x .text) (drop at s))) where
   pub missed : r ≡ false → Trying s at all left
   unfolding readLetters spellOr
-  missed n = record { same = k .same ∙ rw (nowhere (strip (x .text) (drop at s)) (sym e ∙ n)) }
+  missed n = record { same = k .same ∙ rw (absent (strip (x .text) (drop at s)) (sym e ∙ n)) }
 
   module _ (y : r ≡ true) (h : at ≤ length s) where
-    pub text-inside : at + length (x .text) ≤ length s
+    text-inside : at + length (x .text) ≤ length s
     text-inside = omega (arith, length-drop at s, stripped (x .text) (drop at s) (sym e ∙ y) .inside)
 
     pub met : Rests s (x .letters) (at + length (x .text)) (readLetters all (drop at s))

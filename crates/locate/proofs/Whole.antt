@@ -1,28 +1,26 @@
 -- The questions one after the other: from what each part finds to what is located.
 use mathlib.Core.Path.{_≡_, refl, ap, subst, _∙_}
-use mathlib.Core.Bool.{Bool, true, false, not}
+use mathlib.Core.Bool.{Bool, true, false}
 use mathlib.Core.Option.{Option, none, some}
 use mathlib.Core.List.{List, [], _∷_}
 use Prim.Native.Nat.{ℕ, zero, suc, _+_, _-_, _≤_}
 use native.Mathlib.Omega.{arith}
-use native.Mathlib.Numerals.{unary-clauses}
-use borrow.Author.Tests.{not-true, not-false}
-use lib.Dec.{T}
 use lib.ListN.{length, take, drop, length-drop, getElem?}
-use lib.Seq.{drop-drop, drop-nil, take-nil, length-take-le}
-use Rattle.format.specs.Test.{after, Result, good, bad, onward, orElse}
+use lib.Seq.{drop-drop, take-nil, length-take-le}
+use Rattle.format.specs.Test.{after, Result, bad, onward, orElse}
 use Rattle.format.specs.Questions.{isSome}
 use Rattle.format.specs.Lists.{Relocation}
 use Rattle.format.specs.Reader.{Entry, entries, records, headerPlace, headerAt, parseHeader, parseRecord, Found, parsed, locate}
 use Rattle.locate.specs.Spans.{part, entryIn, listed, Stands, Spans}
 use Rattle.locate.specs.Fields.{Heading, Heads, Recording, Records}
-use Rattle.locate.specs.Finds.{found, Stated}
+use Rattle.locate.specs.Finds.{Stated}
 use Rattle.locate.specs.declared.Span.{Span}
 use Rattle.locate.specs.declared.Span.the-variants as span
 use Rattle.locate.specs.declared.Header.{Header}
 use Rattle.locate.specs.declared.Header.the-variants as header
 use Rattle.locate.specs.declared.Record.{Record}
 use Rattle.locate.specs.declared.Record.the-variants as row
+use Rattle.locate.proofs.Seeking.{absent}
 
 -- ---- what is left of a part
 
@@ -86,11 +84,6 @@ module _ (s : List ℕ) (x : Option Entry) {r : Span} (m : Spans s r x) where
   spans-none : r ≡ span.Nothing → x ≡ none
   spans-none q = subst (λ (r : Span). Spans s r x) q m
 
-untiled : (o : Option (List Entry)) → isSome o ≡ false → o ≡ none
-unfolding isSome
-untiled none e = refl
-untiled (some es) e = let z : _≡_ {A = ℕ} 0 1 = cc in absurd (omega arith)
-
 tiled : (o : Option (List Entry)) → isSome o ≡ true → o ≡ some (listed o)
 unfolding isSome listed
 tiled none e = let z : _≡_ {A = ℕ} 0 1 = cc in absurd (omega arith)
@@ -102,7 +95,7 @@ module _ (s : List ℕ) (rs : List Relocation) (debug : Bool) (word k : ℕ) whe
 
   pub locate-untiled : isSome (entries s) ≡ false → whole ≡ bad 61
   unfolding locate onward orElse
-  locate-untiled e = rw (untiled (entries s) e)
+  locate-untiled e = rw (absent (entries s) e)
 
   abbrev es : List Entry
   es = listed (entries s)

@@ -11,11 +11,11 @@ use Rattle.format.specs.Leb.{readUleb, readSleb}
 use Rattle.format.specs.Rows.{readRegister, sameOffset}
 use Rattle.format.specs.Headers.{dataFactor}
 use Rattle.format.specs.Reader.{Letters, Spelling, spelled, HeaderFields, require, headerTail, RecordFields}
-use Rattle.locate.specs.Spans.{part}
 use Rattle.format.specs.declared.Unsigned.{Unsigned}
 use Rattle.format.specs.declared.Unsigned.the-variants as unsigned
-use Rattle.locate.specs.declared.Place.{Place}
-use Rattle.locate.specs.declared.Place.the-variants as place
+use Rattle.locate.specs.Spans.{part}
+use Rattle.locate.specs.declared.Number.{Number}
+use Rattle.locate.specs.declared.Number.the-variants as number
 use Rattle.locate.specs.declared.Span.{Span}
 use Rattle.locate.specs.declared.Span.the-variants as span
 use Rattle.locate.specs.declared.Promise.{Promise}
@@ -25,8 +25,6 @@ use Rattle.locate.specs.declared.Header.{Header}
 use Rattle.locate.specs.declared.Header.the-variants as header
 use Rattle.locate.specs.declared.Record.{Record}
 use Rattle.locate.specs.declared.Record.the-variants as row
-use Rattle.locate.specs.declared.Width.{Width}
-use Rattle.locate.specs.declared.Width.the-variants as width
 
 -- a value, and at position q the rest
 pub record Rests {A : Type 0} (s : List ℕ) (v : A) (q : ℕ) (x : Read A) : Type 0 where
@@ -35,6 +33,7 @@ pub record Rests {A : Type 0} (s : List ℕ) (v : A) (q : ℕ) (x : Read A) : Ty
 
 -- ---- the augmentation string
 
+-- what the code's struct says
 abbrev pub lettersOf : Promise → Letters
 lettersOf p = record { personality = p .personality; lsda = p .lsda; signal = p .signal }
 
@@ -42,15 +41,10 @@ lettersOf p = record { personality = p .personality; lsda = p .lsda; signal = p 
 abbrev pub twoOf : (plain signal : List ℕ) (personality lsda : Bool) → List Spelling
 twoOf plain signal personality lsda = spelled plain personality lsda false ∷ spelled signal personality lsda true ∷ []
 
+-- a string's letters and the position past it, or none
 abbrev pub Spells : List ℕ → Spelled → Read Letters → Type 0
 Spells s (spells.As p q) x = Rests s (lettersOf p) q x
 Spells s spells.Nothing x = x ≡ none
-
--- ---- encodings
-
-unfoldable pub widthOf : Option ℕ → Width
-widthOf none = width.Unknown
-widthOf (some n) = width.Bytes n
 
 -- ---- the augmentation data
 
@@ -60,30 +54,34 @@ pub record Counts (s : List ℕ) (at end : ℕ) (x : Read (List ℕ)) : Type 0 w
   pub inside : end ≤ length s
   pub read : x ≡ some (part s at end, drop end s)
 
+-- these, or none
 abbrev pub CountsIn : List ℕ → Span → Read (List ℕ) → Type 0
 CountsIn s (span.At at end) x = Counts s at end x
 CountsIn s span.Nothing x = x ≡ none
 
--- what was skipped, and at position q the rest
+-- something is skipped, and the rest stands at position q
 pub record Skips (s : List ℕ) (q : ℕ) (x : Option (List ℕ)) : Type 0 where
   pub inside : q ≤ length s
   pub rest : x ≡ some (drop q s)
 
-abbrev pub SkipsTo : List ℕ → Place → Option (List ℕ) → Type 0
-SkipsTo s (place.At q) x = Skips s q x
-SkipsTo s place.Nowhere x = x ≡ none
+-- that position, or none
+abbrev pub SkipsTo : List ℕ → Number → Option (List ℕ) → Type 0
+SkipsTo s (number.Is q) x = Skips s q x
+SkipsTo s number.Nothing x = x ≡ none
 
--- a number and the position past it
+-- a number and the position past it, or none
 abbrev pub Numbers : List ℕ → Unsigned → Read ℕ → Type 0
 Numbers s (unsigned.Value v q) x = Rests s v q x
 Numbers s unsigned.Bad x = x ≡ none
 
 -- ---- a header
 
+-- its fields, with the operations at position q
 pub record Heading (s : List ℕ) (q pointer : ℕ) (signal : Bool) (x : Option HeaderFields) : Type 0 where
   pub inside : q ≤ length s
   pub read : x ≡ some (record { pointer = pointer; signal = signal; operations = drop q s })
 
+-- these, or none
 abbrev pub Heads : List ℕ → Header → Option HeaderFields → Type 0
 Heads s (header.Fields q pointer signal) x = Heading s q pointer signal x
 Heads s header.Bad x = x ≡ none
@@ -96,10 +94,12 @@ headerFactors debug l word bs =
 
 -- ---- a record
 
+-- its fields, with the operations at position q
 pub record Recording (s : List ℕ) (q size : ℕ) (x : Option RecordFields) : Type 0 where
   pub inside : q ≤ length s
   pub read : x ≡ some (record { size = size; operations = drop q s })
 
+-- these, or none
 abbrev pub Records : List ℕ → Record → Option RecordFields → Type 0
 Records s (row.Fields q size) x = Recording s q size x
 Records s row.Bad x = x ≡ none

@@ -8,8 +8,8 @@ use lib.ListN.{length, take, drop}
 use Rattle.format.specs.Test.{Read}
 use Rattle.format.specs.Questions.{isSome}
 use Rattle.format.specs.Reader.{Entry, readEntry, entriesF}
-use Rattle.locate.specs.declared.Place.{Place}
-use Rattle.locate.specs.declared.Place.the-variants as place
+use Rattle.locate.specs.declared.Number.{Number}
+use Rattle.locate.specs.declared.Number.the-variants as number
 use Rattle.locate.specs.declared.Span.{Span}
 use Rattle.locate.specs.declared.Span.the-variants as span
 
@@ -25,21 +25,22 @@ entryIn s at end = record { at = at; body = part s (at + 4) end }
 unfoldable pub entriesFrom : List ℕ → ℕ → Option (List Entry)
 entriesFrom s at = entriesF (suc (length (drop at s))) at (drop at s)
 
+-- these entries, none where they do not tile it
 unfoldable pub listed : Option (List Entry) → List Entry
 listed none = []
 listed (some es) = es
 
--- a position, where there is one
-unfoldable pub placed : Option ℕ → Place
-placed none = place.Nowhere
-placed (some n) = place.At n
+-- a number, where there is one
+unfoldable pub numberOf : Option ℕ → Number
+numberOf none = number.Nothing
+numberOf (some n) = number.Is n
 
 -- where the entry at a position ends
-unfoldable pub endFrom : (size : ℕ) → Read (List ℕ) → Place
-endFrom size none = place.Nowhere
-endFrom size (some x) = place.At (size - length (x .1))
+unfoldable pub endFrom : (size : ℕ) → Read (List ℕ) → Number
+endFrom size none = number.Nothing
+endFrom size (some x) = number.Is (size - length (x .1))
 
-unfoldable pub endAt : List ℕ → ℕ → Place
+unfoldable pub endAt : List ℕ → ℕ → Number
 endAt s p = endFrom (length s) (readEntry (drop p s))
 
 -- the first of the entries from `at` on ends at `end`, and entries follow
@@ -55,6 +56,7 @@ pub record Stands (s : List ℕ) (at end : ℕ) (x : Option Entry) : Type 0 wher
   pub inside : end ≤ length s
   pub found : x ≡ some (entryIn s at end)
 
+-- that entry, or none
 abbrev pub Spans : List ℕ → Span → Option Entry → Type 0
 Spans s (span.At at end) x = Stands s at end x
 Spans s span.Nothing x = x ≡ none

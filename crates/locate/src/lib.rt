@@ -1,4 +1,4 @@
-// Where the operations of a record and of its header stand in a section: questions 61 to 64. Added to what is ported from rucc-asm/src/unwind.rs of tamnd/rucc: see NOTICE.
+// Where the operations of a record and of its header stand in a section: questions 61 to 64 of the reader. Ported from rucc-asm/src/unwind.rs (pointer_size) of tamnd/rucc, changed: see NOTICE; the rest is added.
 ghost use mathlib.Core.Path.{_≡_};
 ghost use mathlib.Core.Bool.{_&&_};
 ghost use Prim.Native.Nat.{_+_, _≤_, _<_};
@@ -11,34 +11,34 @@ ghost use Rattle.format.specs.Test.{pick, after};
 ghost use Rattle.format.specs.Machine.{isWord};
 ghost use Rattle.format.specs.Rows.{sameOffset};
 ghost use Rattle.format.specs.Headers.{headerId, sizeOf, pointerSize, dataFactor};
-ghost use Rattle.locate.specs.Spans.{part, entryIn, entriesFrom, listed, placed, endAt, Ends, Spans};
-ghost use Rattle.locate.specs.Fields.{lettersOf, twoOf, Spells, widthOf, CountsIn, SkipsTo, Numbers, Heads, headerFactors, Records};
+ghost use Rattle.locate.specs.Spans.{part, entryIn, entriesFrom, listed, numberOf, endAt, Ends, Spans};
+ghost use Rattle.locate.specs.Fields.{lettersOf, twoOf, Spells, CountsIn, SkipsTo, Numbers, Heads, headerFactors, Records};
 ghost use Rattle.locate.specs.Finds.{Locates};
 use format::Signed;
 use format::Unsigned;
 
 // ---- entries
 
-// A position, where there is one.
-enum Place {
-    At(usize),
-    Nowhere,
+// A number, where there is one.
+enum Number {
+    Is(usize),
+    Nothing,
 }
 
 // Where the entry at `at` ends: a 4-byte length, at least 4, and as many bytes.
-fn entry_end(s: &[u8], at: usize) -> Place
+fn entry_end(s: &[u8], at: usize) -> Number
     ensures { λ r. ⌜ r ≡ endAt (now (s .entry)) at ⌝ }
 {
     let Unsigned::Value(n, body) = leb::read_le(s, at, 4) else {
-        return Place::Nowhere;
+        return Number::Nothing;
     };
     if n < 4 {
-        return Place::Nowhere;
+        return Number::Nothing;
     }
     if s.len() - body < n as usize {
-        return Place::Nowhere;
+        return Number::Nothing;
     }
-    Place::At(body + n as usize)
+    Number::Is(body + n as usize)
 }
 
 // Question 61: the entries tile the section.
@@ -47,7 +47,7 @@ fn tiles(s: &[u8]) -> bool
 {
     let mut at = 0;
     while at < s.len() {
-        let Place::At(end) = entry_end(s, at) else {
+        let Number::Is(end) = entry_end(s, at) else {
             return false;
         };
         at = end;
@@ -60,7 +60,7 @@ fn past(s: &[u8], at: usize) -> usize
     requires { ⌜ (at < length (now s)) × T (isSome (entriesFrom (now s) at)) ⌝ }
     ensures { λ r. ⌜ Ends (now (s .entry)) at r ⌝ }
 {
-    let Place::At(end) = entry_end(s, at) else {
+    let Number::Is(end) = entry_end(s, at) else {
         return 0;
     };
     end
@@ -104,7 +104,7 @@ fn is_header(s: &[u8], at: usize, end: usize, debug: bool) -> bool
 
 // ---- the record and its header
 
-// An entry by where it starts and ends, where there is one.
+// A part of a slice by where it starts and ends, where there is one.
 enum Span {
     At(usize, usize),
     Nothing,
@@ -132,36 +132,36 @@ fn record_span(s: &[u8], debug: bool, k: u64) -> Span
 }
 
 // The addend of the first relocation at a place; a relocation is five numbers, the place first and the addend last.
-fn first_addend(relocs: &[u64], place: u64) -> Place
-    ensures { λ r. ⌜ r ≡ placed (firstAddend place (relocationsOf (now (relocs .entry)))) ⌝ }
+fn first_addend(relocs: &[u64], place: u64) -> Number
+    ensures { λ r. ⌜ r ≡ numberOf (firstAddend place (relocationsOf (now (relocs .entry)))) ⌝ }
 {
     let n = relocs.len() / 5;
     let mut i = 0;
     while i < n {
         if relocs[5 * i] == place {
-            return Place::At(relocs[5 * i + 4] as usize);
+            return Number::Is(relocs[5 * i + 4] as usize);
         }
         i += 1;
     }
-    Place::Nowhere
+    Number::Nothing
 }
 
 // The place that lies the entry's second field before that field.
-fn distance_back(s: &[u8], at: usize, end: usize) -> Place
+fn distance_back(s: &[u8], at: usize, end: usize) -> Number
     requires { ⌜ (at + 8 ≤ end) × (end ≤ length (now s)) ⌝ }
-    ensures { λ r. ⌜ r ≡ placed (distanceBack (entryIn (now (s .entry)) at end)) ⌝ }
+    ensures { λ r. ⌜ r ≡ numberOf (distanceBack (entryIn (now (s .entry)) at end)) ⌝ }
 {
     let distance = second(s, at, end) as usize;
     if at + 4 < distance {
-        return Place::Nowhere;
+        return Number::Nothing;
     }
-    Place::At(at + 4 - distance)
+    Number::Is(at + 4 - distance)
 }
 
 // Where the header of the record from `at` to `end` starts, as its second field says or, in debug_frame, that field's relocation.
-fn header_place(s: &[u8], relocs: &[u64], debug: bool, at: usize, end: usize) -> Place
+fn header_place(s: &[u8], relocs: &[u64], debug: bool, at: usize, end: usize) -> Number
     requires { ⌜ (at + 8 ≤ end) × (end ≤ length (now s)) ⌝ }
-    ensures { λ r. ⌜ r ≡ placed (headerPlace debug (relocationsOf (now (relocs .entry))) (entryIn (now (s .entry)) at end)) ⌝ }
+    ensures { λ r. ⌜ r ≡ numberOf (headerPlace debug (relocationsOf (now (relocs .entry))) (entryIn (now (s .entry)) at end)) ⌝ }
 {
     if debug {
         return first_addend(relocs, (at + 4) as u64);
@@ -204,7 +204,7 @@ fn header_of(s: &[u8], relocs: &[u64], debug: bool, at: usize, end: usize) -> Sp
     requires { ⌜ (at + 8 ≤ end) × (end ≤ length (now s)) × T (isSome (entries (now s))) ⌝ }
     ensures { λ r. ⌜ Spans (now (s .entry)) r (after (headerPlace debug (relocationsOf (now (relocs .entry))) (entryIn (now (s .entry)) at end)) λ place. headerAt debug place at (listed (entries (now (s .entry))))) ⌝ }
 {
-    let Place::At(place) = header_place(s, relocs, debug, at, end) else {
+    let Number::Is(place) = header_place(s, relocs, debug, at, end) else {
         return Span::Nothing;
     };
     header_span(s, debug, place, at)
@@ -295,29 +295,24 @@ fn letters(s: &[u8], at: usize, debug: bool) -> Spelled
 // ---- encodings
 
 // How many bytes a pointer has, where its encoding is accepted.
-enum Width {
-    Bytes(u64),
-    Unknown,
-}
-
-fn size_of(word: u64, e: u8) -> Width
-    ensures { λ r. ⌜ r ≡ widthOf (sizeOf word e) ⌝ }
+fn size_of(word: u64, e: u8) -> Number
+    ensures { λ r. ⌜ r ≡ numberOf (sizeOf word e) ⌝ }
 {
     match e {
-        0x00 => Width::Bytes(word),
-        0x03 => Width::Bytes(4),
-        0x0b => Width::Bytes(4),
-        0x13 => Width::Bytes(4),
-        0x1b => Width::Bytes(4),
-        0x04 => Width::Bytes(8),
-        0x0c => Width::Bytes(8),
-        _ => Width::Unknown,
+        0x00 => Number::Is(word as usize),
+        0x03 => Number::Is(4),
+        0x0b => Number::Is(4),
+        0x13 => Number::Is(4),
+        0x1b => Number::Is(4),
+        0x04 => Number::Is(8),
+        0x0c => Number::Is(8),
+        _ => Number::Nothing,
     }
 }
 
 // The indirect bit is taken for a personality only.
-fn pointer_size(indirect: bool, word: u64, e: u8) -> Width
-    ensures { λ r. ⌜ r ≡ widthOf (pointerSize indirect word e) ⌝ }
+fn pointer_size(indirect: bool, word: u64, e: u8) -> Number
+    ensures { λ r. ⌜ r ≡ numberOf (pointerSize indirect word e) ⌝ }
 {
     if e < 128 {
         return size_of(word, e % 128);
@@ -325,7 +320,7 @@ fn pointer_size(indirect: bool, word: u64, e: u8) -> Width
     if indirect {
         return size_of(word, e % 128);
     }
-    Width::Unknown
+    Number::Nothing
 }
 
 // ---- augmentation data
@@ -344,22 +339,22 @@ fn counted(s: &[u8], at: usize) -> Span
 }
 
 // The position past the personality's encoding and pointer, where there is one `here`.
-fn personality_in(s: &[u8], here: bool, word: u64) -> Place
+fn personality_in(s: &[u8], here: bool, word: u64) -> Number
     ensures { λ r. ⌜ SkipsTo (now (s .entry)) r (personalityIn here word (now (s .entry))) ⌝ }
 {
     if !here {
-        return Place::At(0);
+        return Number::Is(0);
     }
     if s.len() == 0 {
-        return Place::Nowhere;
+        return Number::Nothing;
     }
-    let Width::Bytes(n) = pointer_size(true, word, s[0]) else {
-        return Place::Nowhere;
+    let Number::Is(n) = pointer_size(true, word, s[0]) else {
+        return Number::Nothing;
     };
-    if s.len() - 1 < n as usize {
-        return Place::Nowhere;
+    if s.len() - 1 < n {
+        return Number::Nothing;
     }
-    Place::At(1 + n as usize)
+    Number::Is(1 + n)
 }
 
 // The bytes of a record's pointer to call sites by the encoding at `at`, none where there is no encoding `here`.
@@ -373,29 +368,29 @@ fn lsda_in(s: &[u8], at: usize, here: bool, word: u64) -> Unsigned
     if s.len() <= at {
         return Unsigned::Bad;
     }
-    let Width::Bytes(n) = pointer_size(false, word, s[at]) else {
+    let Number::Is(n) = pointer_size(false, word, s[at]) else {
         return Unsigned::Bad;
     };
-    Unsigned::Value(n, at + 1)
+    Unsigned::Value(n as u64, at + 1)
 }
 
 // The data that the string promises, the records' own encoding last: the bytes of a record's pointer to call sites.
-fn letters_in(s: &[u8], word: u64, p: Promise) -> Width
-    ensures { λ r. ⌜ r ≡ widthOf (lettersIn (lettersOf p) word (now (s .entry))) ⌝ }
+fn letters_in(s: &[u8], word: u64, p: Promise) -> Number
+    ensures { λ r. ⌜ r ≡ numberOf (lettersIn (lettersOf p) word (now (s .entry))) ⌝ }
 {
-    let Place::At(at) = personality_in(s, p.personality, word) else {
-        return Width::Unknown;
+    let Number::Is(at) = personality_in(s, p.personality, word) else {
+        return Number::Nothing;
     };
     let Unsigned::Value(n, last) = lsda_in(s, at, p.lsda, word) else {
-        return Width::Unknown;
+        return Number::Nothing;
     };
     if s.len() <= last {
-        return Width::Unknown;
+        return Number::Nothing;
     }
     if s[last] != 0x1b {
-        return Width::Unknown;
+        return Number::Nothing;
     }
-    Width::Bytes(n)
+    Number::Is(n as usize)
 }
 
 // ---- the fields of a header
@@ -417,10 +412,10 @@ fn header_tail(s: &[u8], at: usize, debug: bool, word: u64, p: Promise) -> Heade
     let Span::At(start, end) = counted(s, at) else {
         return Header::Bad;
     };
-    let Width::Bytes(n) = letters_in(&s[start..end], word, p) else {
+    let Number::Is(n) = letters_in(&s[start..end], word, p) else {
         return Header::Bad;
     };
-    Header::Fields(end, n, p.signal)
+    Header::Fields(end, n as u64, p.signal)
 }
 
 // The data alignment factor is minus the word.

@@ -3,7 +3,7 @@ use borrow.Author.Needs.{needs}
 use borrow.Author.Tests.{le-leb, lt-leb}
 use Rattle.format.specs.Test.{pick}
 use Rattle.format.specs.Reader.{distanceBack}
-use Rattle.locate.specs.Spans.{placed}
+use Rattle.locate.specs.Spans.{numberOf}
 use Rattle.locate.proofs.distance_back.Statement.{statement}
 use Rattle.locate.proofs.distance_back.Tie as tie
 
@@ -14,7 +14,7 @@ add-if1 : tie.Need-add-if1
 add-if1 c = search needs
 
 returns : tie.Need-returns
-unfolding distanceBack placed pick
+unfolding distanceBack numberOf pick
 returns c = simp (← c .before .second .ensures, lt-leb _ _ (c .if1 .taken))
 
 add-t6 : tie.Need-add-t6
@@ -24,7 +24,7 @@ sub-t8 : tie.Need-sub-t8
 sub-t8 c = search needs
 
 returns-2 : tie.Need-returns-2
-unfolding distanceBack placed pick
+unfolding distanceBack numberOf pick
 returns-2 c = simp (← c .before .second .ensures, le-leb _ _ (c .if1 .left))
 
 pub distance-back-spec : {M : Type 1} → statement M

@@ -5,7 +5,6 @@ use Rattle.rows.proofs.Signs.{passed}
 use Rattle.format.specs.Headers.{dataFactor}
 use Rattle.format.specs.Rows.{sameOffset}
 use native.Mathlib.Omega.{arith}
-use mathlib.Core.Bool.{true, false}
 use borrow.Author.Tests.{not-true, not-false}
 use Rattle.format.proofs.PositionLaws.{uleb-ahead}
 use Rattle.locate.proofs.Headed.{factors-none, factors-code, factors-open, factors-data, factors-unnamed, factors-over, factors-there}

@@ -2,7 +2,7 @@
 use borrow.Author.Needs.{needs}
 use mathlib.Core.Path.{sym, _∙_}
 use Rattle.format.specs.Test.{after}
-use Rattle.locate.proofs.Seeking.{placed-at, placed-none}
+use Rattle.locate.proofs.Seeking.{number-is, number-none}
 use Rattle.locate.proofs.header_of.Statement.{statement}
 use Rattle.locate.proofs.header_of.Tie as tie
 
@@ -17,14 +17,14 @@ enum-told c = search needs
 
 returns : tie.Need-returns
 unfolding after
-returns c = rw (placed-none _ (sym (c .before .before .header-place .ensures) ∙ c .enum-told .given .1))
+returns c = rw (number-none _ (sym (c .before .before .header-place .ensures) ∙ c .enum-told .given .1))
 
 header-span-requires : tie.Need-header-span-requires
 header-span-requires c κs = search needs
 
 returns-2 : tie.Need-returns-2
 unfolding after
-returns-2 c = rw (placed-at _ (sym (c .before .before .before .before .header-place .ensures) ∙ c .before .before .place .given .1)) (c .header-span .ensures)
+returns-2 c = rw (number-is _ (sym (c .before .before .before .before .header-place .ensures) ∙ c .before .before .place .given .1)) (c .header-span .ensures)
 
 pub header-of-spec : {M : Type 1} → statement M
 header-of-spec =

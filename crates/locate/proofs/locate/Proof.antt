@@ -1,7 +1,6 @@
 -- `locate::locate` meets its contract.
 use borrow.Author.Needs.{needs}
 use mathlib.Core.Path.{sym, _∙_}
-use mathlib.Core.Bool.{true, false}
 use borrow.Author.Tests.{not-true, not-false}
 use Rattle.format.specs.Lists.{relocationsOf}
 use Rattle.locate.proofs.Whole.{locate-untiled, locate-missing, record-stands, locate-headless, header-stands, locate-rest}

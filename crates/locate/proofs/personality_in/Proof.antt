@@ -32,8 +32,8 @@ sub-if3 c = search needs
 returns-4 : tie.Need-returns-4
 returns-4 c = personality-over (c .before .before .before .before .before .before .before .before .before .args .s .now) (c .before .before .before .before .before .before .before .before .before .args .here) (c .before .before .before .before .before .before .before .before .before .args .word) (c .before .before .before .before .before .before .before .if1 .left) (c .before .before .before .before .before .before .if2 .left) (sym (c .before .before .before .before .pointer-size .ensures) ∙ c .before .before .n .given .1) (c .if3 .taken)
 
-add-t10 : tie.Need-add-t10
-add-t10 c = search needs
+add-t6 : tie.Need-add-t6
+add-t6 c = search needs
 
 returns-5 : tie.Need-returns-5
 returns-5 c = personality-there (c .before .before .before .before .before .before .before .before .before .args .s .now) (c .before .before .before .before .before .before .before .before .before .args .here) (c .before .before .before .before .before .before .before .before .before .args .word) (c .before .before .before .before .before .before .before .if1 .left) (c .before .before .before .before .before .before .if2 .left) (sym (c .before .before .before .before .pointer-size .ensures) ∙ c .before .before .n .given .1) (c .if3 .left)
@@ -51,5 +51,5 @@ personality-in-spec =
     returns-3
     sub-if3
     returns-4
-    add-t10
+    add-t6
     returns-5)

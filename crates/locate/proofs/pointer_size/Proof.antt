@@ -3,7 +3,7 @@ use borrow.Author.Needs.{needs}
 use borrow.Author.Tests.{lt-ltb, le-ltb}
 use Rattle.format.specs.Test.{pick}
 use Rattle.format.specs.Headers.{pointerSize}
-use Rattle.locate.specs.Fields.{widthOf}
+use Rattle.locate.specs.Spans.{numberOf}
 use Rattle.locate.proofs.pointer_size.Statement.{statement}
 use Rattle.locate.proofs.pointer_size.Tie as tie
 
@@ -22,7 +22,7 @@ unfolding pointerSize pick
 returns-2 c = simp (le-ltb _ _ (c .before .before .if1 .left), c .before .if2 .taken) (c .size-of2 .ensures)
 
 returns-3 : tie.Need-returns-3
-unfolding pointerSize widthOf pick
+unfolding pointerSize numberOf pick
 returns-3 c = simp (le-ltb _ _ (c .before .if1 .left), c .if2 .left)
 
 pub pointer-size-spec : {M : Type 1} → statement M

@@ -2,40 +2,40 @@
 use borrow.Author.Tests.{ne-eqb}
 use Rattle.format.specs.Test.{pick}
 use Rattle.format.specs.Headers.{sizeOf}
-use Rattle.locate.specs.Fields.{widthOf}
+use Rattle.locate.specs.Spans.{numberOf}
 use Rattle.locate.proofs.size_of.Statement.{statement}
 use Rattle.locate.proofs.size_of.Tie as tie
 
 returns : tie.Need-returns
-unfolding sizeOf widthOf pick
+unfolding sizeOf numberOf pick
 returns c = rw (c .match .keys1)
 
 returns-2 : tie.Need-returns-2
-unfolding sizeOf widthOf pick
+unfolding sizeOf numberOf pick
 returns-2 c = rw (c .match .keys2)
 
 returns-3 : tie.Need-returns-3
-unfolding sizeOf widthOf pick
+unfolding sizeOf numberOf pick
 returns-3 c = rw (c .match .keys3)
 
 returns-4 : tie.Need-returns-4
-unfolding sizeOf widthOf pick
+unfolding sizeOf numberOf pick
 returns-4 c = rw (c .match .keys4)
 
 returns-5 : tie.Need-returns-5
-unfolding sizeOf widthOf pick
+unfolding sizeOf numberOf pick
 returns-5 c = rw (c .match .keys5)
 
 returns-6 : tie.Need-returns-6
-unfolding sizeOf widthOf pick
+unfolding sizeOf numberOf pick
 returns-6 c = rw (c .match .keys6)
 
 returns-7 : tie.Need-returns-7
-unfolding sizeOf widthOf pick
+unfolding sizeOf numberOf pick
 returns-7 c = rw (c .match .keys7)
 
 returns-8 : tie.Need-returns-8
-unfolding sizeOf widthOf pick
+unfolding sizeOf numberOf pick
 returns-8 c =
     let e = c .before .args .e in
     let n = c .match .rest in
