@@ -1,0 +1,47 @@
+-- debug_frame has no call sites, so the room for them does not matter.
+use mathlib.Core.Path.{_≡_, refl, _∙_}
+use Prim.Native.Nat.{ℕ, _+_}
+use mathlib.Core.Bool.{true}
+use lib.ListN.{length}
+use lib.Dec.{leb, leb·zero}
+use mathlib.Core.Option.{Option, none, some}
+use mathlib.Core.List.{List, [], _∷_, map}
+use Rattle.format.specs.declared.Machine.{Machine}
+use Rattle.format.specs.declared.Section.the-variants.{Debug}
+use Rattle.format.specs.Lists.{Function}
+use Rattle.format.specs.Headers.{keyOf}
+use Rattle.format.specs.Machine.{machineOf}
+use Rattle.format.specs.CallSites.{siteAdded}
+use Rattle.format.specs.Questions.{Given, Room, givenFunctions, roomAsks, fitting, dwarfAnswer, dwarfGiven}
+use Rattle.format.specs.Writer.{Seen, Written, taken, bare, partWith, partOf, partsFrom, partsOf, joined, dwarf, placeIn, alignFor, isEmpty}
+
+without-landings : (o : Option ℕ) (m : Machine) (align at sites : ℕ) (f : Function) → partWith o Debug m align at sites (taken Debug f) .sites ≡ []
+unfolding partWith taken bare siteAdded
+without-landings none m align at sites f = refl
+without-landings (some cie) m align at sites f = refl
+
+no-sites-from : (m : Machine) (at sites : ℕ) (seen : List Seen) (fs : List Function)
+    → joined (map (λ p. p .sites) (partsFrom Debug m at sites seen (map (taken Debug) fs))) ≡ []
+unfolding partsFrom partOf joined
+no-sites-from m at sites seen [] = refl
+no-sites-from m at sites seen (f ∷ fs) =
+    rw (without-landings (placeIn (keyOf m (taken Debug f)) seen) m (alignFor Debug (m .word) (isEmpty (map (taken Debug) fs))) at sites f)
+    (no-sites-from m _ _ _ fs)
+
+pub no-sites : (m : Machine) (fs : List Function) → dwarf Debug m fs .sites ≡ []
+unfolding dwarf partsOf
+no-sites m fs = no-sites-from m 0 0 [] fs
+
+none-fit : (w : Written) (a : ℕ) → w .sites ≡ [] → leb (length (w .sites)) a ≡ true
+none-fit w a e = rw e (leb·zero a)
+
+-- the room of three buffers, with some for call sites
+abbrev pub roomWith : (places bytes relocations sites : ℕ) → Room
+roomWith places bytes relocations sites = record { places = places; bytes = bytes; relocations = relocations; sites = sites }
+
+pub any-sites : (g : Given) (places bytes relocations a b : ℕ)
+    → dwarfGiven Debug g (roomWith places bytes relocations a) ≡ dwarfGiven Debug g (roomWith places bytes relocations b)
+unfolding dwarfGiven dwarfAnswer fitting roomAsks
+any-sites g places bytes relocations a b =
+    let w : Written = dwarf Debug (machineOf (g .machine)) (givenFunctions g) in
+    rw (none-fit w a (no-sites (machineOf (g .machine)) (givenFunctions g)), none-fit w b (no-sites (machineOf (g .machine)) (givenFunctions g)))

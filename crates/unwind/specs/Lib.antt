@@ -1,0 +1,2 @@
+-- What the public entries are handed.
+pub mod Entries

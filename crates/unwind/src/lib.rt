@@ -1,0 +1,165 @@
+// The public library: its entries over number lists, and their C interface (include/unwind.h). Ported from rucc-asm/src/unwind.rs (relaxed_table, relaxed_debug_frame, seh) of tamnd/rucc, changed: see NOTICE.
+ghost use mathlib.Core.Path.{_≡_};
+ghost use Rattle.format.specs.RowCheck.{rowCheckAt};
+ghost use Rattle.format.specs.Reader.{read};
+ghost use mathlib.Core.List.{[], _∷_};
+ghost use mir.Syntax.{w64};
+ghost use mir.Val.{ofZ};
+ghost use Rattle.format.specs.declared.Reading.the-variants.{Rules};
+ghost use Rattle.format.specs.Answers.{frameNumbers, ruleNumbers, readingNumbers, bit};
+ghost use Rattle.unwind.specs.Entries.{readNumbers};
+use format::Frame;
+use format::Reading;
+use format::Rule;
+
+// ---- the row check and the reader
+
+// Whether the rows of function k can be run at every offset; no for k past the list.
+pub fn row_check(functions: &[u64], rows: &[u64], k: u64) -> bool
+    ensures { λ r. ⌜ r ≡ rowCheckAt (now (functions .entry)) (now (rows .entry)) k ⌝ }
+{
+    rules::row_check(functions, rows, k)
+}
+
+// The frame address rule, register q's rule and the signing state of record k at offset p of its function, or the number of the question that
+// was answered by no. kind: 0 eh_frame, 1 debug_frame.
+pub fn read(
+    section: &[u8],
+    relocations: &[u64],
+    kind: u64,
+    word: u64,
+    k: u64,
+    q: u16,
+    p: u64,
+) -> Reading
+    ensures { λ r. ⌜ r ≡ read (now (section .entry)) (now (relocations .entry)) kind word k q p ⌝ }
+{
+    reader::read(section, relocations, kind, word, k, q, p)
+}
+
+// ---- the C interface
+
+// What unwind_read answers.
+#[repr(C)]
+pub struct Numbers {
+    pub number: u64,
+    pub frame: u64,
+    pub frame_register: u64,
+    pub frame_offset: u64,
+    pub rule: u64,
+    pub rule_offset: u64,
+    pub signing: u64,
+}
+
+// A frame address rule, and a register's rule, as numbers.
+struct Address {
+    kind: u64,
+    register: u64,
+    offset: u64,
+}
+
+struct Saving {
+    kind: u64,
+    offset: u64,
+}
+
+fn number(b: bool) -> u64
+    ensures { λ r. ⌜ r ≡ bit b ⌝ }
+{
+    if b { 1 } else { 0 }
+}
+
+// The 64 bits of a number, in two's complement.
+fn bits(z: i64) -> u64
+    ensures { λ r. ⌜ r ≡ ofZ w64 z ⌝ }
+{
+    if z < 0 {
+        return 18446744073709551615 - ((-1 - z) as u64);
+    }
+    z as u64
+}
+
+fn address_of(c: Frame) -> Address
+    ensures { λ r. ⌜ r .kind ∷ r .register ∷ r .offset ∷ [] ≡ frameNumbers c ⌝ }
+{
+    match c {
+        Frame::Unset => Address {
+            kind: 0,
+            register: 0,
+            offset: 0,
+        },
+        Frame::Register(reg, z) => Address {
+            kind: 1,
+            register: reg as u64,
+            offset: bits(z),
+        },
+    }
+}
+
+fn saving_of(r: Rule) -> Saving
+    ensures { λ n. ⌜ n .kind ∷ n .offset ∷ [] ≡ ruleNumbers r ⌝ }
+{
+    match r {
+        Rule::Unstated => Saving { kind: 0, offset: 0 },
+        Rule::Undefined => Saving { kind: 1, offset: 0 },
+        Rule::Saved(z) => Saving {
+            kind: 2,
+            offset: bits(z),
+        },
+    }
+}
+
+fn told(c: Frame, r: Rule, signing: bool) -> Numbers
+    ensures { λ n. ⌜ readNumbers n ≡ readingNumbers (Rules c r signing) ⌝ }
+{
+    let a = address_of(c);
+    let b = saving_of(r);
+    Numbers {
+        number: 0,
+        frame: a.kind,
+        frame_register: a.register,
+        frame_offset: a.offset,
+        rule: b.kind,
+        rule_offset: b.offset,
+        signing: number(signing),
+    }
+}
+
+fn numbers_of(r: Reading) -> Numbers
+    ensures { λ n. ⌜ readNumbers n ≡ readingNumbers r ⌝ }
+{
+    match r {
+        Reading::Rules(c, rule, signing) => told(c, rule, signing),
+        Reading::Refused(n) => Numbers {
+            number: n,
+            frame: 0,
+            frame_register: 0,
+            frame_offset: 0,
+            rule: 0,
+            rule_offset: 0,
+            signing: 0,
+        },
+    }
+}
+
+#[no_mangle]
+pub extern "C" fn unwind_row_check(functions: &[u64], rows: &[u64], k: u64) -> u64
+    ensures { λ r. ⌜ r ≡ bit (rowCheckAt (now (functions .entry)) (now (rows .entry)) k) ⌝ }
+{
+    number(row_check(functions, rows, k))
+}
+
+#[no_mangle]
+pub extern "C" fn unwind_read(
+    section: &[u8],
+    relocations: &[u64],
+    kind: u64,
+    word: u64,
+    k: u64,
+    q: u16,
+    p: u64,
+) -> Numbers
+    ensures { λ r. ⌜ readNumbers r ≡ readingNumbers (read (now (section .entry)) (now (relocations .entry)) kind word k q p) ⌝ }
+{
+    numbers_of(read(section, relocations, kind, word, k, q, p))
+}
