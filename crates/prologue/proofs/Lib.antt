@@ -1,0 +1,4 @@
+-- The lemmas of this crate's functions.
+pub mod Instructions
+pub mod Neighbours
+pub mod Prefixes
