@@ -2,3 +2,4 @@
 pub mod Instructions
 pub mod Neighbours
 pub mod Prefixes
+pub mod Walked

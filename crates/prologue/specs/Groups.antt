@@ -24,6 +24,10 @@ joined rows at i = ltb at i && eqb (lineAt rows (i - 1) .0) (lineAt rows i .0)
 unfoldable pub joins : (rows : List ℕ) (i end : ℕ) → Bool
 joins rows i end = ltb (suc i) end && eqb (lineAt rows i .0) (lineAt rows (suc i) .0)
 
+-- row i is of the instruction of the two rows before it
+unfoldable pub third : (rows : List ℕ) (at i : ℕ) → Bool
+third rows at i = joined rows at i && joined rows at (i - 1)
+
 -- ---- what is known so far
 
 -- a question answered by no
@@ -75,12 +79,14 @@ pushIn m a b w =
     pick (eqb (kindOf a) 1 && eqb (kindOf b) 3 && sameOffset (offsetOf a -ℤ w .below) (pos (m .word)) && sameOffset (offsetOf b) (negℤ (offsetOf a)))
     (added m w (push (regOf b)) (offsetOf a)) (refused 33)
 
--- row i of the rows from `at` to `end`: an instruction is read at its last row, and refused at its third
+-- row i, the last of its instruction's: the rows are those from `at` to `end`
+unfoldable pub lastIn : Machine → (rows : List ℕ) → (at end i : ℕ) → Walk → Walk
+lastIn m rows at end i w =
+    pick (joined rows at i) (pushIn m (lineAt rows (i - 1) .1) (lineAt rows i .1) w) (loneIn m (eqb (suc i) end) (lineAt rows i .1) w)
+
+-- row i: an instruction is read at its last row, and refused at its third
 unfoldable pub rowIn : Machine → (rows : List ℕ) → (at end i : ℕ) → Walk → Walk
-rowIn m rows at end i w =
-    pick (joined rows at i && joined rows at (i - 1)) (refused 33)
-    (pick (joins rows i end) w
-    (pick (joined rows at i) (pushIn m (lineAt rows (i - 1) .1) (lineAt rows i .1) w) (loneIn m (eqb (suc i) end) (lineAt rows i .1) w)))
+rowIn m rows at end i w = pick (third rows at i) (refused 33) (pick (joins rows i end) w (lastIn m rows at end i w))
 
 -- n rows from i on, to the first no
 unfoldable pub walkFrom : Machine → (rows : List ℕ) → (at end i n : ℕ) → Walk → Walk
