@@ -11,12 +11,13 @@ use Rattle.format.specs.declared.Machine.{Machine}
 use Rattle.format.specs.Lists.{lineAt}
 use Rattle.format.specs.Writer.{isEmpty}
 use Rattle.format.specs.X64.{Prefix, groups, loneRow, pushRows, readGroups}
-use Rattle.format.proofs.Choice.{tested}
+use Rattle.format.proofs.Choice.{if-gt, tested}
 use Rattle.prologue.specs.declared.Walk.{Walk}
 use Rattle.prologue.specs.Groups.{joined, joins, third, refused, loneIn, pushIn, lastIn, rowIn, walkFrom}
+use Rattle.prologue.specs.Pieces.{endIn}
 use Rattle.prologue.proofs.Instructions.{Parted, read-lone, read-push, read-third}
 use Rattle.prologue.proofs.Neighbours.{joins-last, joins-yes, joins-no, next-yes, next-no}
-use Rattle.prologue.proofs.Prefixes.{walkOf, Reads, refuses, reads, link, past, lone-reads, push-reads}
+use Rattle.prologue.proofs.Prefixes.{walkOf, Ends, Reads, refuses, reads, link, past, lone-reads, push-reads}
 
 -- a test that said yes or no, as an equation
 pub is-true : (b : Bool) → T b → b ≡ true
@@ -34,6 +35,12 @@ pastRow rows at end i s = past (lineAt rows i .0) (joins rows i end) (joined row
 unfoldable pub pastRows : (rows : List ℕ) (at end i n : ℕ) → Prefix → Prefix
 pastRows rows at end i zero s = s
 pastRows rows at end i (suc n) s = pastRows rows at end (suc i) n (pastRow rows at end i s)
+
+end-behind : (rows : List ℕ) (at i : ℕ) → at ≤ i → endIn rows at (suc i) ≡ lineAt rows i .0
+unfolding endIn
+end-behind rows at i h =
+    let e : suc i - 1 ≡ i = omega arith in
+    if-gt (suc i) at 0 (lineAt rows (suc i - 1) .0) (omega arith) ∙ ap (λ (k : ℕ). lineAt rows k .0) e
 
 module _ (m : Machine) (rows : List ℕ) (at end : ℕ) where
   -- ---- one row
@@ -82,7 +89,7 @@ module _ (m : Machine) (rows : List ℕ) (at end : ℕ) where
 
   -- what is to be shown of n rows from i on
   abbrev Said : (i n : ℕ) → Prefix → Type 0
-  Said i n s = Reads m (pastRows rows at end i n s) (readGroups m (groups (each (lineAt rows) i n)) s) (walkFrom m rows at end i n (walkOf m s))
+  Said i n s = Reads m (pastRows rows at end i n s) (endIn rows at end) (readGroups m (groups (each (lineAt rows) i n)) s) (walkFrom m rows at end i n (walkOf m s))
 
   parted : (i n : ℕ) → end ≡ suc i + n → T (not (joins rows i end)) → Parted (lineAt rows i) (each (lineAt rows) (suc i) n)
   unfolding each
@@ -95,7 +102,7 @@ module _ (m : Machine) (rows : List ℕ) (at end : ℕ) where
   none-behind i (suc n) e = sym (ne-eqb i end (λ f. omega arith))
 
   lone-step : (i n : ℕ) → end ≡ suc i + n → joined rows at i ≡ false → T (not (joins rows i end)) → (s : Prefix)
-      → Said (suc i) n (pastRow rows at end i s) → Said i (suc n) s
+      → (Ends (pastRow rows at end i s) (lineAt rows i .0) → Said (suc i) n (pastRow rows at end i s)) → Said i (suc n) s
   unfolding each pastRows
   lone-step i n e j t s rest =
       let L = lineAt rows in
@@ -104,7 +111,7 @@ module _ (m : Machine) (rows : List ℕ) (at end : ℕ) where
       let row = at-last i (walkOf m s) (not-third i j) g ∙ at-lone i (walkOf m s) j in
       let first = lone-reads m (L i .0) s (eqb (suc i) end) (L i .1) in
       rw (read-lone m s (L i) (each L (suc i) n) (parted i n e t), none-behind (suc i) n e, turned i n (walkOf m s) (loneIn m (eqb (suc i) end) (L i .1) (walkOf m s)) row, same)
-      (link (readGroups m (groups (each L (suc i) n))) (walkFrom m rows at end (suc i) n) first (rw same at rest))
+      (link (readGroups m (groups (each L (suc i) n))) (walkFrom m rows at end (suc i) n) first (λ l. rw same at (rest (rw same l))))
 
   -- row i joins row i + 1, and row i + 1 is or is not the third of its instruction
   third-behind : (i : ℕ) → joined rows at (suc i) ≡ true → third rows at (suc i) ≡ joined rows at i
@@ -121,8 +128,14 @@ module _ (m : Machine) (rows : List ℕ) (at end : ℕ) where
   unfolding walkOf pick
   passed i n s e g = turned i n (walkOf m s) (walkOf m s) (at-open i (walkOf m s) e g)
 
+  -- what is left behind two rows
+  abbrev Last : (i n : ℕ) → Prefix → Type 0
+  Last i n s =
+      let t = pastRow rows at end (suc i) (pastRow rows at end i s) in
+      Ends t (lineAt rows i .0) → Said (suc (suc i)) n t
+
   push-step : (i n : ℕ) → end ≡ suc (suc i) + n → at ≤ i → joined rows at i ≡ false → T (joins rows i end) → T (not (joins rows (suc i) end)) → (s : Prefix)
-      → Said (suc (suc i)) n (pastRow rows at end (suc i) (pastRow rows at end i s)) → Said i (suc (suc n)) s
+      → Last i n s → Said i (suc (suc n)) s
   unfolding each pastRows
   push-step i n e h j t t′ s rest =
       let L = lineAt rows in
@@ -135,9 +148,9 @@ module _ (m : Machine) (rows : List ℕ) (at end : ℕ) where
             row-adds (suc i) (pastRow rows at end i s) g′ j′ ∙ ap (past (L (suc i) .0) false true (L (suc i) .1)) (row-adds i s g j) in
       let w = walkOf m s in
       let walk = passed i (suc n) s (not-third i j) g ∙ turned (suc i) n w (pushIn m (L i .1) (L (suc i) .1) w) (push-behind i w j j′ g′) in
-      let first : Reads m u (pushRows m (L i .0) (L i .1) (L (suc i) .1) s) (pushIn m (L i .1) (L (suc i) .1) w) = rw (sym equal) (push-reads m (L i .0) s (L i .1) (L (suc i) .1)) in
+      let first : Reads m u (L i .0) (pushRows m (L i .0) (L i .1) (L (suc i) .1) s) (pushIn m (L i .1) (L (suc i) .1) w) = rw (sym equal) (push-reads m (L i .0) s (L i .1) (L (suc i) .1)) in
       rw (read-push m s (L i) (L (suc i)) (each L (suc (suc i)) n) equal (parted (suc i) n e t′), walk, same)
-      (link (readGroups m (groups (each L (suc (suc i)) n))) (walkFrom m rows at end (suc (suc i)) n) first (rw same at rest))
+      (link (readGroups m (groups (each L (suc (suc i)) n))) (walkFrom m rows at end (suc (suc i)) n) first (λ l. rw same at (rest (rw same l))))
 
   third-step : (i n : ℕ) → at ≤ i → joined rows at i ≡ false → T (joins rows i end) → T (joins rows (suc i) end) → (s : Prefix)
       → Said i (suc (suc (suc n))) s
@@ -158,7 +171,7 @@ module _ (m : Machine) (rows : List ℕ) (at end : ℕ) where
   -- ---- all of them
 
   more-rows : (i n : ℕ) → end ≡ suc (suc i) + n → at ≤ i → joined rows at i ≡ false → T (joins rows i end) → (s : Prefix)
-      → (T (not (joins rows (suc i) end)) → Said (suc (suc i)) n (pastRow rows at end (suc i) (pastRow rows at end i s))) → Said i (suc (suc n)) s
+      → (T (not (joins rows (suc i) end)) → Last i n s) → Said i (suc (suc n)) s
   more-rows i zero e h j t s rest =
       let g′ = joins-last rows (suc i) end (omega arith) in
       let t′ : T (not (joins rows (suc i) end)) = rw g′ tt in
@@ -169,17 +182,17 @@ module _ (m : Machine) (rows : List ℕ) (at end : ℕ) where
   opens-behind : (i n : ℕ) → end ≡ suc i + n → at ≤ i → T (not (joins rows i end)) → 0 < n → joined rows at (suc i) ≡ false
   opens-behind i n e h t l = next-no rows at i h (joins-no rows i end (omega arith) t)
 
-  pub said : (i n : ℕ) → end ≡ i + n → at ≤ i → (0 < n → joined rows at i ≡ false) → (s : Prefix) → Said i n s
+  pub said : (i n : ℕ) → end ≡ i + n → at ≤ i → (0 < n → joined rows at i ≡ false) → (s : Prefix) → Ends s (endIn rows at i) → Said i n s
   unfolding each groups readGroups walkFrom pastRows
-  said i zero e h j s = reads refl refl
-  said i (suc zero) e h j s =
+  said i zero e h j s l = let f : i ≡ end = omega arith in reads refl refl (rw f at l)
+  said i (suc zero) e h j s l =
       let t : T (not (joins rows i end)) = rw (joins-last rows i end (omega arith)) tt in
-      lone-step i zero (omega arith) (j (omega arith)) t s (said (suc i) zero (omega arith) (omega arith) (λ l. absurd (omega arith)) (pastRow rows at end i s))
-  said i (suc (suc n)) e h j s =
+      lone-step i zero (omega arith) (j (omega arith)) t s (λ l′. said (suc i) zero (omega arith) (omega arith) (λ z. absurd (omega arith)) (pastRow rows at end i s) (rw (end-behind rows at i h) l′))
+  said i (suc (suc n)) e h j s l =
       let f = j (omega arith) in
-      let l : end ≡ suc (suc i) + n = omega arith in
+      let last : end ≡ suc (suc i) + n = omega arith in
       tested (joins rows i end)
       (λ t.
-      more-rows i n l h f t s
-      (λ t′. said (suc (suc i)) n l (omega arith) (opens-behind (suc i) n l (omega arith) t′) (pastRow rows at end (suc i) (pastRow rows at end i s))))
-      (λ t. lone-step i (suc n) (omega arith) f t s (said (suc i) (suc n) (omega arith) (omega arith) (opens-behind i (suc n) (omega arith) h t) (pastRow rows at end i s)))
+      more-rows i n last h f t s
+      (λ t′ l′. said (suc (suc i)) n last (omega arith) (opens-behind (suc i) n last (omega arith) t′) (pastRow rows at end (suc i) (pastRow rows at end i s)) (rw (end-behind rows at (suc i) (omega arith), ← joins-yes rows i end t .1) l′)))
+      (λ t. lone-step i (suc n) (omega arith) f t s (λ l′. said (suc i) (suc n) (omega arith) (omega arith) (opens-behind i (suc n) (omega arith) h t) (pastRow rows at end i s) (rw (end-behind rows at i h) l′)))
