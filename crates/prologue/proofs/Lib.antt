@@ -3,3 +3,4 @@ pub mod Instructions
 pub mod Neighbours
 pub mod Prefixes
 pub mod Walked
+pub mod Answers

@@ -43,7 +43,7 @@ count-more reg [] x = refl
 count-more reg (y ∷ []) x = sym (one-or-two (isPush reg (y .1)) (isPush reg (x .1)) .1)
 count-more reg (y ∷ z ∷ ys) x = refl
 
-pub allKnown : Machine → List (ℕ × Step) → Bool
+unfoldable pub allKnown : Machine → List (ℕ × Step) → Bool
 allKnown m xs = all (λ x. known m (x .1)) xs
 
 known-more : (m : Machine) (xs : List (ℕ × Step)) (x : ℕ × Step) → allKnown m (xs ++ (x ∷ [])) ≡ allKnown m xs && known m (x .1)

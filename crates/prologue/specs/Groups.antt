@@ -94,3 +94,11 @@ walkFrom m rows at end i zero w = w
 walkFrom m rows at end i (suc n) w =
     let v : Walk = rowIn m rows at end i w in
     pick (eqb (v .number) 0) (walkFrom m rows at end (suc i) n v) v
+
+-- before the first row
+unfoldable pub start : Machine → Walk
+start m = record { number = 0; below = pos (m .pushed); steps = 0; named = true }
+
+-- all of the questions: those of the instructions, then 34
+unfoldable pub numberOf : Walk → ℕ
+numberOf w = pick (eqb (w .number) 0) (pick (w .named) 0 34) (w .number)

@@ -1,16 +1,19 @@
 -- The codes of a prologue one by one: what a row that ends an instruction yields. Where a row is no prologue's, what it yields means nothing.
-use Prim.Native.Nat.{ℕ, zero, suc, _-_}
+use mathlib.Core.Path.{_≡_}
+use Prim.Native.Nat.{ℕ, zero, suc, _+_, _-_, _^_, _≤_, _<_}
 use mathlib.Core.Bool.{Bool}
 use mathlib.Core.List.{List, [], _∷_, _++_}
 use lib.Dec.{leb, eqb}
-use lib.IntN.{ℤ, _-ℤ_}
-use Rattle.format.specs.Test.{pick, Result, good, bad}
+use lib.IntN.{ℤ, pos, _-ℤ_}
+use lib.Signed.{mag}
+use Rattle.format.specs.Test.{pick, Result, good, bad, each}
 use Rattle.format.specs.declared.Machine.{Machine}
 use Rattle.format.specs.declared.Row.{Row}
 use Rattle.format.specs.declared.Seh.{Seh}
 use Rattle.format.specs.Rows.{kindOf, regOf, offsetOf}
-use Rattle.format.specs.Lists.{lineAt}
-use Rattle.format.specs.X64.{Step, push, alloc, frame, save, codeFor}
+use Rattle.format.specs.Lists.{Function, lineAt}
+use Rattle.format.specs.X64.{Step, push, alloc, frame, save, codeFor, codesOf, endOf}
+use Rattle.prologue.specs.declared.Shape.{Shape}
 use Rattle.prologue.specs.Groups.{joined, joins}
 
 -- the distance behind a row, and behind row i
@@ -52,3 +55,21 @@ piecesFrom m below sofar rows at i end (suc n) = pieceIn m below sofar rows at i
 -- where the prologue of the rows from `at` to `end` ends
 unfoldable pub endIn : (rows : List ℕ) (at end : ℕ) → ℕ
 endIn rows at end = pick (leb end at) 0 (lineAt rows (end - 1) .0)
+
+-- ---- the prologue of n rows from `at` on
+
+-- an offset of a row
+abbrev pub Short : ℤ → Type 0
+Short z = mag z < 2 ^ 31
+
+-- all of the codes
+abbrev pub piecesOf : Machine → (rows : List ℕ) (at : ℕ) → Shape → List (ℕ × Seh)
+piecesOf m rows at r = piecesFrom m (r .below) (pos (m .pushed)) rows at at (r .end) (r .end - at)
+
+-- what a function's codes are, for a function of these rows
+pub record Shaped (m : Machine) (rows : List ℕ) (at n : ℕ) (r : Shape) : Type 0 where
+  pub low : at ≤ r .end
+  pub high : r .end ≤ at + n
+  pub short : Short (r .below)
+  pub codes : (f : Function) → f .rows ≡ each (lineAt rows) at n → codesOf m f ≡ pick (eqb (r .number) 0) (good (piecesOf m rows at r)) (bad (r .number))
+  pub last : r .number ≡ 0 → endOf 0 (piecesOf m rows at r) ≡ endIn rows at (r .end)

@@ -44,3 +44,11 @@ struct Walk {
     steps: u64,
     named: bool,
 }
+
+// What the rows of a function say: 0, or the number of the question that was answered by no; where it is 0, the distance of the
+// frame address above the stack pointer behind the prologue, and the index past the prologue's last row.
+pub struct Shape {
+    pub number: u64,
+    pub below: i64,
+    pub end: usize,
+}
