@@ -4,3 +4,4 @@ pub mod Neighbours
 pub mod Prefixes
 pub mod Walked
 pub mod Answers
+pub mod Registers

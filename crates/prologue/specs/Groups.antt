@@ -12,6 +12,8 @@ use Rattle.format.specs.declared.Row.the-variants.{DefCfa, DefCfaOffset, DefCfa
 use Rattle.format.specs.Rows.{kindOf, regOf, offsetOf, sameOffset}
 use Rattle.format.specs.Lists.{lineAt}
 use Rattle.format.specs.X64.{Step, push, alloc, frame, save, isPush, low16}
+use Rattle.prologue.specs.declared.Found.{Found}
+use Rattle.prologue.specs.declared.Found.the-variants.{Number, Unknown}
 use Rattle.prologue.specs.declared.Walk.{Walk}
 
 -- ---- rows of one instruction
@@ -34,7 +36,12 @@ third rows at i = joined rows at i && joined rows at (i - 1)
 unfoldable pub refused : ℕ → Walk
 refused n = record { number = n; below = pos 0; steps = 0; named = false }
 
--- the machine has a number below 16 for a register
+-- a register's number below 16 on the machine, where it has one
+unfoldable pub foundOf : Result Register → Found
+foundOf (good r) = Number (r .number) (r .vector)
+foundOf (bad n) = Unknown
+
+-- the machine has one
 unfoldable pub isGood : Result Register → Bool
 isGood (good r) = true
 isGood (bad n) = false

@@ -4,12 +4,60 @@ ghost use Prim.Native.Nat.{_+_, _*_, _≤_, _<_};
 ghost use lib.ListN.{length};
 ghost use lib.Dec.{T};
 ghost use Rattle.format.specs.Lists.{rowStride, field, rowOkAt};
-ghost use Rattle.prologue.specs.Groups.{joined, joins};
+ghost use Rattle.format.specs.Machine.{registerOf};
+ghost use Rattle.format.specs.X64.{low16};
+ghost use Rattle.prologue.specs.Groups.{foundOf, knows, joined, joins};
 use format::Machine;
 use format::Row;
 use format::Seh;
 use rows::offset_at;
 use rows::row_at;
+
+// ---- registers
+
+// A register of the machine: its number, below 16, and whether it is a vector register; or none.
+pub enum Found {
+    Number(u64, bool),
+    Unknown,
+}
+
+fn wide(x: u8) -> u64
+    ensures { λ r. ⌜ (r ≡ x) × (r < 256) ⌝ }
+{
+    x as u64
+}
+
+// What register DWARF's number `reg` is. Question 34 is about those that are none.
+fn machine(m: Machine, reg: u64) -> Found
+    requires { ⌜ length (m .map) ≡ 64 ⌝ }
+    ensures { λ r. ⌜ r ≡ foundOf (low16 (registerOf m reg)) ⌝ }
+{
+    if 64 <= reg {
+        return Found::Unknown;
+    }
+    let n = wide(m.map[reg as usize]);
+    if n < 16 {
+        return Found::Number(n, false);
+    }
+    if n < 128 {
+        return Found::Unknown;
+    }
+    if n < 144 {
+        return Found::Number(n - 128, true);
+    }
+    Found::Unknown
+}
+
+// The machine has a number below 16 for it.
+fn knows(m: Machine, reg: u64) -> bool
+    requires { ⌜ length (m .map) ≡ 64 ⌝ }
+    ensures { λ r. ⌜ r ≡ knows m reg ⌝ }
+{
+    let Found::Number(_, _) = machine(m, reg) else {
+        return false;
+    };
+    true
+}
 
 // ---- the rows of one instruction
 
