@@ -10,7 +10,7 @@ use lib.Dec.{T, ltb, eqb}
 use borrow.Author.Tests.{lt-ltb, le-ltb, eq-eqb, ne-eqb}
 use mir.Facts.{and-yes, ltb-yes, eqb-yes, eqb-no}
 use Rattle.format.specs.Lists.{rowStride, field, lineAt}
-use Rattle.prologue.specs.Groups.{joined, joins}
+use Rattle.prologue.specs.Groups.{joined, joins, third}
 
 module _ (rows : List ℕ) where
   pub joined-first : (at i : ℕ) → i ≤ at → joined rows at i ≡ false
@@ -20,6 +20,10 @@ module _ (rows : List ℕ) where
   pub joined-is : (at i : ℕ) → at < i → joined rows at i ≡ eqb (lineAt rows (i - 1) .0) (lineAt rows i .0)
   unfolding joined
   joined-is at i h = simp (lt-ltb at i h)
+
+  pub joined-above : (at i : ℕ) → joined rows at i ≡ true → at < i
+  unfolding joined
+  joined-above at i e = ltb-yes (and-yes (ltb at i) (eqb (lineAt rows (i - 1) .0) (lineAt rows i .0)) (rw e tt) .0)
 
   pub joins-last : (i end : ℕ) → end ≤ suc i → joins rows i end ≡ false
   unfolding joins
@@ -47,6 +51,14 @@ module _ (rows : List ℕ) where
 
   pub next-no : (at i : ℕ) → at ≤ i → lineAt rows i .0 ≢ lineAt rows (suc i) .0 → joined rows at (suc i) ≡ false
   next-no at i h n = next-is at i h ∙ ne-eqb (lineAt rows i .0) (lineAt rows (suc i) .0) n
+
+  pub not-third : (at i : ℕ) → joined rows at i ≡ false → third rows at i ≡ false
+  unfolding third
+  not-third at i e = simp e
+
+  pub is-third : (at i : ℕ) → joined rows at i ≡ true → third rows at i ≡ joined rows at (i - 1)
+  unfolding third
+  is-third at i e = simp e
 
   -- ---- by what the code reads
 

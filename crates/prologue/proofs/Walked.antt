@@ -16,7 +16,7 @@ use Rattle.prologue.specs.declared.Walk.{Walk}
 use Rattle.prologue.specs.Groups.{joined, joins, third, refused, loneIn, pushIn, lastIn, rowIn, walkFrom}
 use Rattle.prologue.specs.Pieces.{endIn}
 use Rattle.prologue.proofs.Instructions.{Parted, read-lone, read-push, read-third}
-use Rattle.prologue.proofs.Neighbours.{joins-last, joins-yes, joins-no, next-yes, next-no}
+use Rattle.prologue.proofs.Neighbours.{joins-last, joins-yes, joins-no, next-yes, next-no, not-third, is-third}
 use Rattle.prologue.proofs.Prefixes.{walkOf, Ends, Reads, refuses, reads, link, past, lone-reads, push-reads}
 
 -- a test that said yes or no, as an equation
@@ -66,14 +66,6 @@ module _ (m : Machine) (rows : List ℕ) (at end : ℕ) where
     unfolding lastIn pick
     at-lone e = rw e
 
-  pub not-third : (i : ℕ) → joined rows at i ≡ false → third rows at i ≡ false
-  unfolding third
-  not-third i e = simp e
-
-  pub is-third : (i : ℕ) → joined rows at i ≡ true → third rows at i ≡ joined rows at (i - 1)
-  unfolding third
-  is-third i e = simp e
-
   -- the walk over one row
   turned : (i n : ℕ) (w v : Walk) → rowIn m rows at end i w ≡ v
       → walkFrom m rows at end i (suc n) w ≡ pick (eqb (v .number) 0) (walkFrom m rows at end (suc i) n v) v
@@ -108,14 +100,14 @@ module _ (m : Machine) (rows : List ℕ) (at end : ℕ) where
       let L = lineAt rows in
       let g = is-false (joins rows i end) t in
       let same : pastRow rows at end i s ≡ past (L i .0) false false (L i .1) s = row-adds i s g j in
-      let row = at-last i (walkOf m s) (not-third i j) g ∙ at-lone i (walkOf m s) j in
+      let row = at-last i (walkOf m s) (not-third rows at i j) g ∙ at-lone i (walkOf m s) j in
       let first = lone-reads m (L i .0) s (eqb (suc i) end) (L i .1) in
       rw (read-lone m s (L i) (each L (suc i) n) (parted i n e t), none-behind (suc i) n e, turned i n (walkOf m s) (loneIn m (eqb (suc i) end) (L i .1) (walkOf m s)) row, same)
       (link (readGroups m (groups (each L (suc i) n))) (walkFrom m rows at end (suc i) n) first (λ l. rw same at (rest (rw same l))))
 
   -- row i joins row i + 1, and row i + 1 is or is not the third of its instruction
   third-behind : (i : ℕ) → joined rows at (suc i) ≡ true → third rows at (suc i) ≡ joined rows at i
-  third-behind i e = let p : suc i - 1 ≡ i = omega arith in is-third (suc i) e ∙ ap (joined rows at) p
+  third-behind i e = let p : suc i - 1 ≡ i = omega arith in is-third rows at (suc i) e ∙ ap (joined rows at) p
 
   push-behind : (i : ℕ) (w : Walk) → joined rows at i ≡ false → joined rows at (suc i) ≡ true → joins rows (suc i) end ≡ false
       → rowIn m rows at end (suc i) w ≡ pushIn m (lineAt rows i .1) (lineAt rows (suc i) .1) w
@@ -147,7 +139,7 @@ module _ (m : Machine) (rows : List ℕ) (at end : ℕ) where
       let same : pastRow rows at end (suc i) (pastRow rows at end i s) ≡ u =
             row-adds (suc i) (pastRow rows at end i s) g′ j′ ∙ ap (past (L (suc i) .0) false true (L (suc i) .1)) (row-adds i s g j) in
       let w = walkOf m s in
-      let walk = passed i (suc n) s (not-third i j) g ∙ turned (suc i) n w (pushIn m (L i .1) (L (suc i) .1) w) (push-behind i w j j′ g′) in
+      let walk = passed i (suc n) s (not-third rows at i j) g ∙ turned (suc i) n w (pushIn m (L i .1) (L (suc i) .1) w) (push-behind i w j j′ g′) in
       let first : Reads m u (L i .0) (pushRows m (L i .0) (L i .1) (L (suc i) .1) s) (pushIn m (L i .1) (L (suc i) .1) w) = rw (sym equal) (push-reads m (L i .0) s (L i .1) (L (suc i) .1)) in
       rw (read-push m s (L i) (L (suc i)) (each L (suc (suc i)) n) equal (parted (suc i) n e t′), walk, same)
       (link (readGroups m (groups (each L (suc (suc i)) n))) (walkFrom m rows at end (suc (suc i)) n) first (λ l. rw same at (rest (rw same l))))
@@ -163,7 +155,7 @@ module _ (m : Machine) (rows : List ℕ) (at end : ℕ) where
       let j″ = next-yes rows at (suc i) (omega arith) equal′ in
       let w = walkOf m s in
       let walk : walkFrom m rows at end i (suc (suc (suc n))) w ≡ refused 33 =
-            passed i (suc (suc n)) s (not-third i j) (is-true (joins rows i end) t)
+            passed i (suc (suc n)) s (not-third rows at i j) (is-true (joins rows i end) t)
             ∙ passed (suc i) (suc n) s (third-behind i j′ ∙ j) (is-true (joins rows (suc i) end) t′)
             ∙ turned (suc (suc i)) n w (refused 33) (at-third (suc (suc i)) w (third-behind (suc i) j″ ∙ j′)) in
       refuses 33 (λ z. omega arith) (read-third m s (L i) (L (suc i)) (L (suc (suc i))) (each L (suc (suc (suc i))) n) equal equal′) walk

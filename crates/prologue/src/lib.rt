@@ -1,12 +1,14 @@
 // From a function's rows to x64 codes: questions 31 to 34, and the codes one by one. Ported from rucc-asm/src/unwind.rs (prologue, machine) of tamnd/rucc, changed: see NOTICE.
 ghost use mathlib.Core.Path.{_≡_};
+ghost use mathlib.Core.Bool.{_&&_};
 ghost use Prim.Native.Nat.{_+_, _*_, _≤_, _<_};
 ghost use lib.ListN.{length};
 ghost use lib.Dec.{T};
 ghost use Rattle.format.specs.Lists.{rowStride, field, rowOkAt};
 ghost use Rattle.format.specs.Machine.{registerOf};
+ghost use Rattle.format.specs.Rows.{sameOffset};
 ghost use Rattle.format.specs.X64.{low16};
-ghost use Rattle.prologue.specs.Groups.{foundOf, knows, joined, joins};
+ghost use Rattle.prologue.specs.Groups.{foundOf, knows, joined, joins, third, refused, counted, stepped};
 use format::Machine;
 use format::Row;
 use format::Seh;
@@ -83,6 +85,19 @@ fn joins(rows: &[u64], i: usize, end: usize) -> bool
     offset_at(rows, i) == offset_at(rows, i + 1)
 }
 
+// Row i is of the instruction of the two rows before it.
+fn third(rows: &[u64], at: usize, i: usize) -> bool
+    requires { ⌜ 4 * i + 4 ≤ length (now rows) ⌝ }
+    ensures { λ r. ⌜ r ≡ third (now (rows .entry)) at i ⌝ }
+{
+    if !joined(rows, at, i) {
+        return false;
+    }
+    joined(rows, at, i - 1)
+}
+
+// ---- what is known so far
+
 // What is known of the rows so far: 0, or the number of the question that was answered by no; the distance of the frame address
 // above the stack pointer; no step (0), the push of the frame pointer (1) or anything else (2); and whether the machine has a
 // number below 16 for each register.
@@ -91,6 +106,56 @@ struct Walk {
     below: i64,
     steps: u64,
     named: bool,
+}
+
+fn refused(number: u64) -> Walk
+    ensures { λ r. ⌜ r ≡ refused number ⌝ }
+{
+    Walk {
+        number,
+        below: 0,
+        steps: 0,
+        named: false,
+    }
+}
+
+fn both(a: bool, b: bool) -> bool
+    ensures { λ r. ⌜ r ≡ a && b ⌝ }
+{
+    if a {
+        return b;
+    }
+    false
+}
+
+fn same(a: i64, b: i64) -> bool
+    ensures { λ r. ⌜ r ≡ sameOffset a b ⌝ }
+{
+    a == b
+}
+
+fn counted(before: u64, pushes: bool) -> u64
+    ensures { λ r. ⌜ r ≡ counted before pushes ⌝ }
+{
+    if before != 0 {
+        return 2;
+    }
+    if pushes {
+        return 1;
+    }
+    2
+}
+
+// One step more: it pushes the frame pointer, or not; the machine knows its register, or not.
+fn stepped(w: Walk, pushes: bool, knows: bool, below: i64) -> Walk
+    ensures { λ r. ⌜ r ≡ stepped w pushes knows below ⌝ }
+{
+    Walk {
+        number: 0,
+        below,
+        steps: counted(w.steps, pushes),
+        named: both(w.named, knows),
+    }
 }
 
 // What the rows of a function say: 0, or the number of the question that was answered by no; where it is 0, the distance of the
