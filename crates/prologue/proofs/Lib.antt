@@ -5,3 +5,5 @@ pub mod Prefixes
 pub mod Walked
 pub mod Answers
 pub mod Registers
+pub mod Distances
+pub mod Frames

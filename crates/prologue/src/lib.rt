@@ -1,14 +1,16 @@
 // From a function's rows to x64 codes: questions 31 to 34, and the codes one by one. Ported from rucc-asm/src/unwind.rs (prologue, machine) of tamnd/rucc, changed: see NOTICE.
 ghost use mathlib.Core.Path.{_≡_};
-ghost use mathlib.Core.Bool.{_&&_};
+ghost use mathlib.Core.Bool.{false, _&&_};
 ghost use Prim.Native.Nat.{_+_, _*_, _≤_, _<_};
 ghost use lib.ListN.{length};
 ghost use lib.Dec.{T};
 ghost use Rattle.format.specs.Lists.{rowStride, field, rowOkAt};
 ghost use Rattle.format.specs.Machine.{registerOf};
 ghost use Rattle.format.specs.Rows.{sameOffset};
-ghost use Rattle.format.specs.X64.{low16};
-ghost use Rattle.prologue.specs.Groups.{foundOf, knows, joined, joins, third, refused, counted, stepped};
+ghost use Rattle.format.specs.X64.{low16, frame};
+ghost use Rattle.format.specs.declared.Row.the-variants.{DefCfa, DefCfaOffset, DefCfaRegister, Offset};
+ghost use Rattle.prologue.specs.Groups.{foundOf, knows, joined, joins, third, refused, counted, stepped, added, loneIn, pushIn};
+ghost use Rattle.prologue.specs.Pieces.{Short};
 use format::Machine;
 use format::Row;
 use format::Seh;
@@ -156,6 +158,65 @@ fn stepped(w: Walk, pushes: bool, knows: bool, below: i64) -> Walk
         steps: counted(w.steps, pushes),
         named: both(w.named, knows),
     }
+}
+
+// ---- what an instruction did
+
+// The frame pointer is set to the stack pointer.
+fn framed(m: Machine, w: Walk) -> Walk
+    requires { ⌜ length (m .map) ≡ 64 ⌝ }
+    ensures { λ r. ⌜ r ≡ added m w frame (w .below) ⌝ }
+{
+    stepped(w, false, knows(m, m.frame), w.below)
+}
+
+// DefCfa alone: the frame pointer at the present distance, or a frame that is counted from another register (32).
+fn frame_set(m: Machine, reg: u64, z: i64, w: Walk) -> Walk
+    requires { ⌜ length (m .map) ≡ 64 ⌝ }
+    ensures { λ r. ⌜ r ≡ loneIn m false (DefCfa reg z) w ⌝ }
+{
+    if reg != m.frame {
+        return refused(32);
+    }
+    if !same(z, w.below) {
+        return refused(32);
+    }
+    framed(m, w)
+}
+
+// DefCfaRegister alone: the frame pointer, pushed by the only step before, and nothing behind it; else it is set before the frame
+// is taken (31).
+fn frame_early(m: Machine, last: bool, reg: u64, w: Walk) -> Walk
+    requires { ⌜ (length (m .map) ≡ 64) × (m .word ≡ 8) ⌝ }
+    ensures { λ r. ⌜ r ≡ loneIn m last (DefCfaRegister reg) w ⌝ }
+{
+    if reg != m.frame {
+        return refused(31);
+    }
+    if !last {
+        return refused(31);
+    }
+    if !same(w.below, (2 * m.word) as i64) {
+        return refused(31);
+    }
+    if w.steps != 1 {
+        return refused(31);
+    }
+    framed(m, w)
+}
+
+// DefCfaOffset, then Offset: a register that is put into the word by which the frame address moved, or no push (33).
+fn pushed(m: Machine, reg: u64, z: i64, y: i64, w: Walk) -> Walk
+    requires { ⌜ (length (m .map) ≡ 64) × (m .word ≡ 8) × Short z × Short (w .below) ⌝ }
+    ensures { λ r. ⌜ r ≡ pushIn m (DefCfaOffset z) (Offset reg y) w ⌝ }
+{
+    if !same(z - w.below, m.word as i64) {
+        return refused(33);
+    }
+    if !same(y, 0 - z) {
+        return refused(33);
+    }
+    stepped(w, reg == m.frame, knows(m, reg), z)
 }
 
 // What the rows of a function say: 0, or the number of the question that was answered by no; where it is 0, the distance of the
