@@ -1,13 +1,19 @@
 -- The frame pointer set, and a register pushed: by the code's tests.
 use mathlib.Core.Path.{_≡_, refl}
 use Prim.Native.Nat.{ℕ, _*_}
-use mathlib.Core.Bool.{Bool, true, false, and-false}
+use mathlib.Core.Bool.{Bool, true, false, not, and-false}
+use mathlib.Core.List.{List, [], _∷_}
 use borrow.Author.Tests.{eq-eqb, ne-eqb}
-use lib.Dec.{eqb}
+use lib.Dec.{T, eqb}
 use lib.IntN.{ℤ, pos, negℤ, _-ℤ_}
+use denote.Enum.Declared.{tagOf}
+use mir.Val.{hasKey}
+use types.Run.{OneOf, miss}
+use Rattle.format.proofs.Row.{the-type}
 use Rattle.format.specs.Test.{pick}
+use Rattle.format.specs.declared.Row.{Row}
 use Rattle.format.specs.declared.Machine.{Machine}
-use Rattle.format.specs.declared.Row.the-variants.{DefCfa, DefCfaOffset, DefCfaRegister, Offset}
+use Rattle.format.specs.declared.Row.the-variants.{DefCfa, DefCfaOffset, DefCfaRegister, Offset, Restore, Undefined, RememberState, RestoreState, NegateRaState}
 use Rattle.format.specs.Rows.{kindOf, regOf, offsetOf, sameOffset}
 use Rattle.format.specs.X64.{frame, isPush}
 use Rattle.prologue.specs.declared.Walk.{Walk}
@@ -63,3 +69,30 @@ module _ (m : Machine) (reg : ℕ) (z y : ℤ) (w : Walk) where
       → stepped w (eqb reg (m .frame)) (knows m reg) z ≡ pushIn m (DefCfaOffset z) (Offset reg y) w
   unfolding pushIn added isPush known kindOf regOf offsetOf pick
   push-yes t u = simp (t, u)
+
+-- ---- two rows that are no push
+
+tag-kind : (r : Row) → tagOf the-type r ≡ kindOf r
+unfolding kindOf
+tag-kind (DefCfa reg z) = refl
+tag-kind (DefCfaOffset z) = refl
+tag-kind (DefCfaRegister reg) = refl
+tag-kind (Offset reg z) = refl
+tag-kind (Restore reg) = refl
+tag-kind (Undefined reg) = refl
+tag-kind RememberState = refl
+tag-kind RestoreState = refl
+tag-kind NegateRaState = refl
+
+-- a row that is of other kinds
+other-kind : (ks : List ℕ) (k : ℕ) (r : Row) → T (not (hasKey ks k)) → OneOf ks (tagOf the-type r) → kindOf r ≡ k → ⊥
+other-kind ks k r t h e = miss ks k t (rw (tag-kind r, e) at h)
+
+module _ (m : Machine) (a b : Row) (w : Walk) where
+  pub push-first : OneOf (0 ∷ 2 ∷ 3 ∷ 4 ∷ 5 ∷ 6 ∷ 7 ∷ 8 ∷ []) (tagOf the-type a) → refused 33 ≡ pushIn m a b w
+  unfolding pushIn pick
+  push-first h = simp (ne-eqb (kindOf a) 1 (other-kind (0 ∷ 2 ∷ 3 ∷ 4 ∷ 5 ∷ 6 ∷ 7 ∷ 8 ∷ []) 1 a tt h))
+
+  pub push-second : OneOf (0 ∷ 1 ∷ 2 ∷ 4 ∷ 5 ∷ 6 ∷ 7 ∷ 8 ∷ []) (tagOf the-type b) → refused 33 ≡ pushIn m a b w
+  unfolding pushIn pick
+  push-second h = simp (ne-eqb (kindOf b) 3 (other-kind (0 ∷ 1 ∷ 2 ∷ 4 ∷ 5 ∷ 6 ∷ 7 ∷ 8 ∷ []) 3 b tt h), and-false)

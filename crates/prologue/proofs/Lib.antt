@@ -7,3 +7,4 @@ pub mod Answers
 pub mod Registers
 pub mod Distances
 pub mod Frames
+pub mod Rows

@@ -1,9 +1,10 @@
 -- The codes of a prologue one by one: what a row that ends an instruction yields. Where a row is no prologue's, what it yields means nothing.
 use mathlib.Core.Path.{_≡_}
-use Prim.Native.Nat.{ℕ, zero, suc, _+_, _-_, _^_, _≤_, _<_}
+use Prim.Native.Nat.{ℕ, zero, suc, _+_, _-_, _*_, _^_, _≤_, _<_}
 use mathlib.Core.Bool.{Bool}
 use mathlib.Core.List.{List, [], _∷_, _++_}
-use lib.Dec.{leb, eqb}
+use lib.ListN.{length}
+use lib.Dec.{T, leb, eqb}
 use lib.IntN.{ℤ, pos, _-ℤ_}
 use lib.Signed.{mag}
 use Rattle.format.specs.Test.{pick, Result, good, bad, each}
@@ -11,10 +12,23 @@ use Rattle.format.specs.declared.Machine.{Machine}
 use Rattle.format.specs.declared.Row.{Row}
 use Rattle.format.specs.declared.Seh.{Seh}
 use Rattle.format.specs.Rows.{kindOf, regOf, offsetOf}
-use Rattle.format.specs.Lists.{Function, lineAt}
+use Rattle.format.specs.Lists.{Function, lineAt, rowOkAt}
 use Rattle.format.specs.X64.{Step, push, alloc, frame, save, codeFor, codesOf, endOf}
 use Rattle.prologue.specs.declared.Shape.{Shape}
 use Rattle.prologue.specs.Groups.{joined, joins}
+
+-- ---- what the lists hold
+
+-- an offset of a row
+abbrev pub Short : ℤ → Type 0
+Short z = mag z < 2 ^ 31
+
+-- the rows from `at` to `end` can be read
+pub record Ready (rows : List ℕ) (at end : ℕ) : Type 0 where
+  pub inside : 4 * end ≤ length rows
+  pub ok : (k : ℕ) → at ≤ k → k < end → T (rowOkAt rows k)
+
+-- ---- a row
 
 -- the distance behind a row, and behind row i
 unfoldable pub movedBy : (sofar : ℤ) → Row → ℤ
@@ -57,10 +71,6 @@ unfoldable pub endIn : (rows : List ℕ) (at end : ℕ) → ℕ
 endIn rows at end = pick (leb end at) 0 (lineAt rows (end - 1) .0)
 
 -- ---- the prologue of n rows from `at` on
-
--- an offset of a row
-abbrev pub Short : ℤ → Type 0
-Short z = mag z < 2 ^ 31
 
 -- all of the codes
 abbrev pub piecesOf : Machine → (rows : List ℕ) (at : ℕ) → Shape → List (ℕ × Seh)

@@ -6,11 +6,11 @@ ghost use lib.ListN.{length};
 ghost use lib.Dec.{T};
 ghost use Rattle.format.specs.Lists.{rowStride, field, rowOkAt};
 ghost use Rattle.format.specs.Machine.{registerOf};
-ghost use Rattle.format.specs.Rows.{sameOffset};
+ghost use Rattle.format.specs.Rows.{offsetOf, sameOffset};
 ghost use Rattle.format.specs.X64.{low16, frame};
 ghost use Rattle.format.specs.declared.Row.the-variants.{DefCfa, DefCfaOffset, DefCfaRegister, Offset};
-ghost use Rattle.prologue.specs.Groups.{foundOf, knows, joined, joins, third, refused, counted, stepped, added, loneIn, pushIn};
-ghost use Rattle.prologue.specs.Pieces.{Short};
+ghost use Rattle.prologue.specs.Groups.{foundOf, knows, joined, joins, third, refused, counted, stepped, added, loneIn, pushIn, lastIn, rowIn};
+ghost use Rattle.prologue.specs.Pieces.{Short, Ready};
 use format::Machine;
 use format::Row;
 use format::Seh;
@@ -217,6 +217,66 @@ fn pushed(m: Machine, reg: u64, z: i64, y: i64, w: Walk) -> Walk
         return refused(33);
     }
     stepped(w, reg == m.frame, knows(m, reg), z)
+}
+
+// An instruction of two rows.
+fn push_rows(m: Machine, a: Row, b: Row, w: Walk) -> Walk
+    requires { ⌜ (length (m .map) ≡ 64) × (m .word ≡ 8) × Short (offsetOf a) × Short (w .below) ⌝ }
+    ensures { λ r. ⌜ r ≡ pushIn m a b w ⌝ }
+{
+    let Row::DefCfaOffset(z) = a else {
+        return refused(33);
+    };
+    let Row::Offset(reg, y) = b else {
+        return refused(33);
+    };
+    pushed(m, reg as u64, z, y, w)
+}
+
+// An instruction of one row; it is the last of the prologue, or not.
+fn lone_row(m: Machine, last: bool, r: Row, w: Walk) -> Walk
+    requires { ⌜ (length (m .map) ≡ 64) × (m .word ≡ 8) ⌝ }
+    ensures { λ v. ⌜ v ≡ loneIn m last r w ⌝ }
+{
+    match r {
+        Row::DefCfa(reg, z) => frame_set(m, reg as u64, z, w),
+        Row::DefCfaOffset(z) => stepped(w, false, true, z),
+        Row::DefCfaRegister(reg) => frame_early(m, last, reg as u64, w),
+        Row::Offset(reg, _) => stepped(w, false, knows(m, reg as u64), w.below),
+        Row::Restore(_) => refused(33),
+        Row::Undefined(_) => refused(33),
+        Row::RememberState => refused(33),
+        Row::RestoreState => refused(33),
+        Row::NegateRaState => refused(33),
+    }
+}
+
+// ---- row by row
+
+// Row i of the rows from `at` to `end`, the last of its instruction's.
+fn read_last(m: Machine, rows: &[u64], at: usize, end: usize, i: usize, w: Walk) -> Walk
+    requires { ⌜ (length (m .map) ≡ 64) × (m .word ≡ 8) × Ready (now rows) at end × (at ≤ i) × (i < end) × Short (w .below) ⌝ }
+    ensures { λ r. ⌜ r ≡ lastIn m (now (rows .entry)) at end i w ⌝ }
+{
+    let r = row_at(rows, i);
+    if joined(rows, at, i) {
+        return push_rows(m, row_at(rows, i - 1), r, w);
+    }
+    lone_row(m, i + 1 == end, r, w)
+}
+
+// Row i: an instruction is read at its last row, and refused at its third.
+fn read_row(m: Machine, rows: &[u64], at: usize, end: usize, i: usize, w: Walk) -> Walk
+    requires { ⌜ (length (m .map) ≡ 64) × (m .word ≡ 8) × Ready (now rows) at end × (at ≤ i) × (i < end) × Short (w .below) ⌝ }
+    ensures { λ r. ⌜ r ≡ rowIn m (now (rows .entry)) at end i w ⌝ }
+{
+    if third(rows, at, i) {
+        return refused(33);
+    }
+    if joins(rows, i, end) {
+        return w;
+    }
+    read_last(m, rows, at, end, i, w)
 }
 
 // What the rows of a function say: 0, or the number of the question that was answered by no; where it is 0, the distance of the
