@@ -1,48 +1,54 @@
+-- `prologue::read_last` meets its contract.
+use mathlib.Core.Path.{sym, _∙_}
+use native.Mathlib.Omega.{arith}
+use native.Mathlib.Numerals.{add-one}
+use Rattle.prologue.proofs.Neighbours.{joined-above}
+use Rattle.prologue.proofs.Rows.{line-short}
+use Rattle.prologue.proofs.Walked.{at-push, at-lone}
 use borrow.Author.Needs.{needs}
 use Rattle.prologue.proofs.read_last.Statement.{statement}
 use Rattle.prologue.proofs.read_last.Tie as tie
-use Rattle.prologue.proofs.read_last.Reads as reads
-use Rattle.prologue.proofs.read_last.Lts as lts
-use Rattle.prologue.proofs.joined.Reads as joined-reads
-use Rattle.prologue.proofs.lone_row.Reads as lone-row-reads
-use Rattle.prologue.proofs.push_rows.Reads as push-rows-reads
-use Rattle.rows.proofs.row_at.Reads as row-at-reads
 
--- src/lib.rt:261:9
 row-at-requires : tie.Need-row-at-requires
-row-at-requires c κs = ?
+row-at-requires c κs = let s = c .before in (omega arith, s .pre .2 .ok (s .args .i) (s .pre .3) (s .pre .4))
 
--- src/lib.rt:262:8
 joined-requires : tie.Need-joined-requires
 joined-requires c κs = search needs
 
--- src/lib.rt:263:42
 sub-row-at : tie.Need-sub-row-at
-sub-row-at c = ?
+sub-row-at c = let s = c .before .before .before .before in omega (arith, joined-above _ (s .args .at) (s .args .i) (sym (c .before .joined .ensures) ∙ c .if1 .taken))
 
--- src/lib.rt:263:29
 row-at-requires-2 : tie.Need-row-at-requires-2
-row-at-requires-2 c κs = ?
+row-at-requires-2 c κs =
+    let s = c .before .before .before .before in
+    let l = joined-above _ (s .args .at) (s .args .i) (sym (c .before .joined .ensures) ∙ c .if1 .taken) in
+    (omega arith, s .pre .2 .ok _ (omega arith) (omega arith))
 
--- src/lib.rt:263:9
 push-rows-requires : tie.Need-push-rows-requires
-push-rows-requires c κs = ?
+push-rows-requires c κs =
+    let s = c .before .before .before .before .before in
+    let l = joined-above _ (s .args .at) (s .args .i) (sym (c .before .before .joined .ensures) ∙ c .before .if1 .taken) in
+    (s .pre .0, s .pre .1, rw (c .row-at2 .ensures) (line-short _ _ (s .pre .2 .ok _ (omega arith) (omega arith))), s .pre .5)
 
--- src/lib.rt:263:9
 returns : tie.Need-returns
-returns c = ?
+returns c =
+    let s = c .before .before .before .before .before .before in
+    let a = c .before .before .before in
+    let e = sym (a .joined .ensures) ∙ c .before .before .if1 .taken in
+    c .push-rows .ensures ∙ rw (c .before .row-at2 .ensures, a .before .row-at .ensures) (sym (at-push (s .args .m) _ (s .args .at) (s .args .end) (s .args .i) (s .args .w) e))
 
--- src/lib.rt:265:17
 add-lone-row : tie.Need-add-lone-row
 add-lone-row c = search needs
 
--- src/lib.rt:265:5
 lone-row-requires : tie.Need-lone-row-requires
 lone-row-requires c κs = search needs
 
--- src/lib.rt:257:1
 returns-2 : tie.Need-returns-2
-returns-2 c = ?
+returns-2 c =
+    let s = c .before .before .before .before .before in
+    let a = c .before .before in
+    let e = sym (a .joined .ensures) ∙ c .before .if1 .left in
+    c .lone-row .ensures ∙ rw (a .before .row-at .ensures, add-one) (sym (at-lone (s .args .m) _ (s .args .at) (s .args .end) (s .args .i) (s .args .w) e))
 
 pub read-last-spec : {M : Type 1} → statement M
 read-last-spec =

@@ -1,40 +1,36 @@
+-- `prologue::read_row` meets its contract.
+use mathlib.Core.Path.{sym, _∙_}
+use Rattle.prologue.proofs.Walked.{at-third, at-open, at-last}
 use borrow.Author.Needs.{needs}
 use Rattle.prologue.proofs.read_row.Statement.{statement}
 use Rattle.prologue.proofs.read_row.Tie as tie
-use Rattle.prologue.proofs.read_row.Reads as reads
-use Rattle.prologue.proofs.read_row.Lts as lts
-use Rattle.prologue.proofs.joins.Reads as joins-reads
-use Rattle.prologue.proofs.read_last.Reads as read-last-reads
-use Rattle.prologue.proofs.refused.Reads as refused-reads
-use Rattle.prologue.proofs.third.Reads as third-reads
 
--- src/lib.rt:273:8
 third-requires : tie.Need-third-requires
 third-requires c κs = search needs
 
--- src/lib.rt:274:9
 refused-requires : tie.Need-refused-requires
 refused-requires c κs = search needs
 
--- src/lib.rt:274:9
 returns : tie.Need-returns
-returns c = ?
+returns c =
+    let s = c .before .before .before .before in
+    c .refused .ensures ∙ sym (at-third (s .args .m) _ (s .args .at) (s .args .end) (s .args .i) (s .args .w) (sym (c .before .before .third .ensures) ∙ c .before .if1 .taken))
 
--- src/lib.rt:276:8
 joins-requires : tie.Need-joins-requires
 joins-requires c κs = search needs
 
--- src/lib.rt:277:9
 returns-2 : tie.Need-returns-2
-returns-2 c = ?
+returns-2 c =
+    let s = c .before .before .before .before .before in
+    sym (at-open (s .args .m) _ (s .args .at) (s .args .end) (s .args .i) (s .args .w) (sym (c .before .before .before .third .ensures) ∙ c .before .before .if1 .left) (sym (c .before .joins .ensures) ∙ c .if2 .taken))
 
--- src/lib.rt:279:5
 read-last-requires : tie.Need-read-last-requires
 read-last-requires c κs = search needs
 
--- src/lib.rt:269:1
 returns-3 : tie.Need-returns-3
-returns-3 c = ?
+returns-3 c =
+    let s = c .before .before .before .before .before .before in
+    c .read-last .ensures ∙ sym (at-last (s .args .m) _ (s .args .at) (s .args .end) (s .args .i) (s .args .w) (sym (c .before .before .before .before .third .ensures) ∙ c .before .before .before .if1 .left) (sym (c .before .before .joins .ensures) ∙ c .before .if2 .left))
 
 pub read-row-spec : {M : Type 1} → statement M
 read-row-spec =
