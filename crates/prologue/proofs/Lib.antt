@@ -8,3 +8,4 @@ pub mod Registers
 pub mod Distances
 pub mod Frames
 pub mod Rows
+pub mod Turns

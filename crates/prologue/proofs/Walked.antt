@@ -67,7 +67,7 @@ module _ (m : Machine) (rows : List ℕ) (at end : ℕ) where
     at-lone e = rw e
 
   -- the walk over one row
-  turned : (i n : ℕ) (w v : Walk) → rowIn m rows at end i w ≡ v
+  pub turned : (i n : ℕ) (w v : Walk) → rowIn m rows at end i w ≡ v
       → walkFrom m rows at end i (suc n) w ≡ pick (eqb (v .number) 0) (walkFrom m rows at end (suc i) n v) v
   unfolding walkFrom
   turned i n w v e = rw e

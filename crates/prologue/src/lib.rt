@@ -1,7 +1,7 @@
 // From a function's rows to x64 codes: questions 31 to 34, and the codes one by one. Ported from rucc-asm/src/unwind.rs (prologue, machine) of tamnd/rucc, changed: see NOTICE.
 ghost use mathlib.Core.Path.{_≡_};
 ghost use mathlib.Core.Bool.{false, _&&_};
-ghost use Prim.Native.Nat.{_+_, _*_, _≤_, _<_};
+ghost use Prim.Native.Nat.{_+_, _-_, _*_, _^_, _≤_, _<_};
 ghost use lib.ListN.{length};
 ghost use lib.Dec.{T};
 ghost use Rattle.format.specs.Lists.{rowStride, field, rowOkAt};
@@ -9,7 +9,7 @@ ghost use Rattle.format.specs.Machine.{registerOf};
 ghost use Rattle.format.specs.Rows.{offsetOf, sameOffset};
 ghost use Rattle.format.specs.X64.{low16, frame};
 ghost use Rattle.format.specs.declared.Row.the-variants.{DefCfa, DefCfaOffset, DefCfaRegister, Offset};
-ghost use Rattle.prologue.specs.Groups.{foundOf, knows, joined, joins, third, refused, counted, stepped, added, loneIn, pushIn, lastIn, rowIn};
+ghost use Rattle.prologue.specs.Groups.{foundOf, knows, joined, joins, third, refused, counted, stepped, added, loneIn, pushIn, lastIn, rowIn, walkFrom, start};
 ghost use Rattle.prologue.specs.Pieces.{Short, Ready};
 use format::Machine;
 use format::Row;
@@ -277,6 +277,28 @@ fn read_row(m: Machine, rows: &[u64], at: usize, end: usize, i: usize, w: Walk) 
         return w;
     }
     read_last(m, rows, at, end, i, w)
+}
+
+// The rows from `at` to `end`, to the first no.
+fn read_rows(m: Machine, rows: &[u64], at: usize, end: usize) -> Walk
+    requires { ⌜ (length (m .map) ≡ 64) × (m .word ≡ 8) × (m .pushed < 2 ^ 31) × Ready (now rows) at end × (at ≤ end) ⌝ }
+    ensures { λ r. ⌜ (r ≡ walkFrom m (now (rows .entry)) at end at (end - at) (start m)) × Short (r .below) ⌝ }
+{
+    let mut w = Walk {
+        number: 0,
+        below: m.pushed as i64,
+        steps: 0,
+        named: true,
+    };
+    let mut i = at;
+    while i < end {
+        w = read_row(m, rows, at, end, i, w);
+        if w.number != 0 {
+            return w;
+        }
+        i += 1;
+    }
+    w
 }
 
 // What the rows of a function say: 0, or the number of the question that was answered by no; where it is 0, the distance of the
