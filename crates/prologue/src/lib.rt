@@ -3,14 +3,17 @@ ghost use mathlib.Core.Path.{_≡_};
 ghost use mathlib.Core.Bool.{false, _&&_};
 ghost use Prim.Native.Nat.{_+_, _-_, _*_, _^_, _≤_, _<_};
 ghost use lib.ListN.{length};
-ghost use lib.Dec.{T};
-ghost use Rattle.format.specs.Lists.{rowStride, field, rowOkAt};
+ghost use lib.Dec.{eqb};
+ghost use Rattle.format.specs.Lists.{rowStride, count, mostRecords, lineAt};
+ghost use Rattle.format.specs.Test.{each};
 ghost use Rattle.format.specs.Machine.{registerOf};
-ghost use Rattle.format.specs.Rows.{offsetOf, sameOffset};
-ghost use Rattle.format.specs.X64.{low16, frame};
+ghost use Rattle.format.specs.Rows.{kindOf, offsetOf, sameOffset};
+ghost use Rattle.format.specs.X64.{low16, frame, beforeRemember};
 ghost use Rattle.format.specs.declared.Row.the-variants.{DefCfa, DefCfaOffset, DefCfaRegister, Offset};
-ghost use Rattle.prologue.specs.Groups.{foundOf, knows, joined, joins, third, refused, counted, stepped, added, loneIn, pushIn, lastIn, rowIn, walkFrom, start};
-ghost use Rattle.prologue.specs.Pieces.{Short, Ready};
+ghost use Rattle.format.proofs.Fits.{MachineFits};
+ghost use Rattle.leading.specs.Functions.{RowsReady};
+ghost use Rattle.prologue.specs.Groups.{foundOf, knows, joined, joins, third, refused, counted, stepped, added, loneIn, pushIn, lastIn, rowIn, walkFrom, start, numberOf};
+ghost use Rattle.prologue.specs.Pieces.{Short, Ready, Shaped};
 use format::Machine;
 use format::Row;
 use format::Seh;
@@ -301,10 +304,63 @@ fn read_rows(m: Machine, rows: &[u64], at: usize, end: usize) -> Walk
     w
 }
 
+// ---- the prologue
+
+// Row i keeps the rules for the epilogues.
+fn remembers(rows: &[u64], i: usize) -> bool
+    requires { ⌜ 4 * i + 4 ≤ length (now rows) ⌝ }
+    ensures { λ r. ⌜ r ≡ eqb (kindOf (lineAt (now (rows .entry)) i .1)) 6 ⌝ }
+{
+    rows[4 * i + 1] == 6
+}
+
+// The index past the last row before the first RememberState, of the n rows from `at` on.
+fn before_remember(rows: &[u64], at: usize, n: usize) -> usize
+    requires { ⌜ at + n ≤ count rowStride (now rows) ⌝ }
+    ensures { λ r. ⌜ (at ≤ r) × (r ≤ at + n) × (beforeRemember (each (lineAt (now (rows .entry))) at n) ≡ each (lineAt (now (rows .entry))) at (r - at)) ⌝ }
+{
+    let end = at + n;
+    let mut i = at;
+    while i < end {
+        if remembers(rows, i) {
+            return i;
+        }
+        i += 1;
+    }
+    end
+}
+
+// Every question of the rows: those of the instructions, then 34.
+fn answer(w: Walk) -> u64
+    ensures { λ r. ⌜ r ≡ numberOf w ⌝ }
+{
+    if w.number != 0 {
+        return w.number;
+    }
+    if w.named {
+        return 0;
+    }
+    34
+}
+
 // What the rows of a function say: 0, or the number of the question that was answered by no; where it is 0, the distance of the
 // frame address above the stack pointer behind the prologue, and the index past the prologue's last row.
 pub struct Shape {
     pub number: u64,
     pub below: i64,
     pub end: usize,
+}
+
+// A function's codes, from the n rows from `at` on.
+pub fn prologue(m: Machine, rows: &[u64], at: usize, n: usize) -> Shape
+    requires { ⌜ MachineFits m × (m .word ≡ 8) × (length (m .map) ≡ 64) × RowsReady (now rows) at n × (n ≤ mostRecords) ⌝ }
+    ensures { λ r. ⌜ Shaped m (now (rows .entry)) at n r ⌝ }
+{
+    let end = before_remember(rows, at, n);
+    let w = read_rows(m, rows, at, end);
+    Shape {
+        number: answer(w),
+        below: w.below,
+        end,
+    }
 }
