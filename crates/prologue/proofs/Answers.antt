@@ -21,7 +21,7 @@ use Rattle.format.proofs.Choice.{if-le}
 use Rattle.prologue.specs.declared.Walk.{Walk}
 use Rattle.prologue.specs.declared.Shape.{Shape}
 use Rattle.prologue.specs.Groups.{isGood, knows, known, refused, start, numberOf, walkFrom}
-use Rattle.prologue.specs.Pieces.{movedIn, stepIn, codeIn, codesIn, pieceIn, piecesFrom, piecesOf, endIn}
+use Rattle.prologue.specs.Pieces.{movedIn, stepIn, codeIn, codesIn, pieceIn, piecesFrom, piecesOf, endIn, Short, Shaped}
 use Rattle.prologue.proofs.Neighbours.{joined-first}
 use Rattle.prologue.proofs.Prefixes.{allKnown, countOf, walkOf, lastOf, Ends, Reads, reads, refuses, past}
 use Rattle.prologue.proofs.Walked.{pastRow, pastRows, said}
@@ -150,3 +150,7 @@ module _ (m : Machine) (rows : List ℕ) (at n end : ℕ) (low : at ≤ end) (hi
 
   pub last : shape .number ≡ 0 → endOf 0 (piecesOf m rows at shape) ≡ endIn rows at end
   last z = rw (← pieces-all (walked .below)) (ends whole z)
+
+  pub shaped : {w : Walk} {number : ℕ} → w ≡ walked → Short (w .below) → number ≡ numberOf w
+      → Shaped m rows at n (record { number = number; below = w .below; end = end })
+  shaped e h f = rw (f, e) (record { low = low; high = high; short = rw e at h; codes = codes; last = last })
