@@ -2,6 +2,7 @@
 ghost use mathlib.Core.Path.{_≡_};
 ghost use mathlib.Core.Bool.{false, _&&_};
 ghost use Prim.Native.Nat.{_+_, _-_, _*_, _^_, _≤_, _<_};
+ghost use lib.IntN.{pos};
 ghost use lib.ListN.{length};
 ghost use lib.Dec.{eqb};
 ghost use Rattle.format.specs.Lists.{rowStride, count, mostRecords, lineAt};
@@ -10,10 +11,11 @@ ghost use Rattle.format.specs.Machine.{registerOf};
 ghost use Rattle.format.specs.Rows.{kindOf, offsetOf, sameOffset};
 ghost use Rattle.format.specs.X64.{low16, frame, beforeRemember};
 ghost use Rattle.format.specs.declared.Row.the-variants.{DefCfa, DefCfaOffset, DefCfaRegister, Offset};
+ghost use Rattle.format.specs.declared.Seh.the-variants.{Push, Frame, Save};
 ghost use Rattle.format.proofs.Fits.{MachineFits};
 ghost use Rattle.leading.specs.Functions.{RowsReady};
 ghost use Rattle.prologue.specs.Groups.{foundOf, knows, joined, joins, third, refused, counted, stepped, added, loneIn, pushIn, lastIn, rowIn, walkFrom, start, numberOf};
-ghost use Rattle.prologue.specs.Pieces.{Short, Ready, Shaped};
+ghost use Rattle.prologue.specs.Pieces.{Short, Ready, Shaped, pieceOf, namedCode};
 use format::Machine;
 use format::Row;
 use format::Seh;
@@ -363,4 +365,42 @@ pub fn prologue(m: Machine, rows: &[u64], at: usize, n: usize) -> Shape
         below: w.below,
         end,
     }
+}
+
+// ---- the codes one by one
+
+// A code and the offset where its instruction ends, or none.
+pub enum Piece {
+    Nothing,
+    Code(u64, Seh),
+}
+
+fn push_code(m: Machine, off: u64, reg: u64) -> Piece
+    requires { ⌜ length (m .map) ≡ 64 ⌝ }
+    ensures { λ r. ⌜ pieceOf r ≡ namedCode m off reg (λ x. Push (x .number)) ⌝ }
+{
+    let Found::Number(n, _) = machine(m, reg) else {
+        return Piece::Nothing;
+    };
+    Piece::Code(off, Seh::Push(n))
+}
+
+fn frame_code(m: Machine, off: u64) -> Piece
+    requires { ⌜ length (m .map) ≡ 64 ⌝ }
+    ensures { λ r. ⌜ pieceOf r ≡ namedCode m off (m .frame) (λ x. Frame (x .number) (pos 0)) ⌝ }
+{
+    let Found::Number(n, _) = machine(m, m.frame) else {
+        return Piece::Nothing;
+    };
+    Piece::Code(off, Seh::Frame(n, 0))
+}
+
+fn save_code(m: Machine, off: u64, reg: u64, above: i64) -> Piece
+    requires { ⌜ length (m .map) ≡ 64 ⌝ }
+    ensures { λ r. ⌜ pieceOf r ≡ namedCode m off reg (λ x. Save (x .number) (x .vector) above) ⌝ }
+{
+    let Found::Number(n, vector) = machine(m, reg) else {
+        return Piece::Nothing;
+    };
+    Piece::Code(off, Seh::Save(n, vector, above))
 }
