@@ -1,9 +1,8 @@
 -- From steps to codes: question 34, the codes one by one, and a function's codes from what its rows say.
 use mathlib.Core.Path.{_≡_, refl, sym, ap, _∙_}
-use Prim.Native.Nat.{ℕ, zero, suc, _+_, _-_, _≤_, _<_}
+use Prim.Native.Nat.{ℕ, zero, suc, _+_, _-_, _≤_}
 use native.Mathlib.Omega.{arith}
-use mathlib.Core.Bool.{Bool, true, false, not, _&&_}
-use mathlib.Core.Logic.{_≢_}
+use mathlib.Core.Bool.{Bool, true, false}
 use mathlib.Core.Option.{Option, none, some}
 use mathlib.Core.List.{List, [], _∷_, _++_, append-nil, append-assoc}
 use lib.Dec.{T, ltb, eqb}
@@ -23,7 +22,7 @@ use Rattle.prologue.specs.declared.Shape.{Shape}
 use Rattle.prologue.specs.Groups.{isGood, knows, known, refused, start, numberOf, walkFrom}
 use Rattle.prologue.specs.Pieces.{movedIn, stepIn, codeIn, codesIn, pieceIn, piecesFrom, piecesOf, endIn, Short, Shaped}
 use Rattle.prologue.proofs.Neighbours.{joined-first}
-use Rattle.prologue.proofs.Prefixes.{allKnown, countOf, walkOf, lastOf, Ends, Reads, reads, refuses, past}
+use Rattle.prologue.proofs.Prefixes.{allKnown, countOf, walkOf, lastOf, Reads, reads, refuses, past}
 use Rattle.prologue.proofs.Walked.{pastRow, pastRows, said}
 
 -- ---- question 34
@@ -98,7 +97,7 @@ module _ (m : Machine) (below : ℤ) where
     pieces-past i (suc n) s =
         pieces-past (suc i) n (pastRow rows at end i s)
         ∙ ap (λ (l : List (ℕ × Seh)). l ++ piecesFrom m below (movedIn (s .below) rows i) rows at (suc i) end n)
-          (codes-append (s .steps) (stepIn (s .below) rows at i end))
+        (codes-append (s .steps) (stepIn (s .below) rows at i end))
         ∙ append-assoc (codesIn m below (s .steps)) (pieceIn m below (s .below) rows at i end) _
 
 -- ---- what a function's rows say
@@ -125,7 +124,7 @@ ends {m} {t} (reads e u l) z = rw u (all-ends m (t .below) 0 (t .steps) (all-nam
 ends (refuses n h e u) z = absurd (h (rw (u, ne-eqb n 0 h) at z))
 
 module _ (m : Machine) (rows : List ℕ) (at n end : ℕ) (low : at ≤ end) (high : end ≤ at + n)
-  (before : beforeRemember (each (lineAt rows) at n) ≡ each (lineAt rows) at (end - at)) where
+    (before : beforeRemember (each (lineAt rows) at n) ≡ each (lineAt rows) at (end - at)) where
   abbrev none-yet : Prefix
   none-yet = record { steps = []; below = pos (m .pushed) }
 

@@ -1,7 +1,5 @@
 -- Rows grouped by instruction: what the first group is, and how the groups behind it are read.
-use mathlib.Core.Path.{_≡_, refl, sym, ap, _∙_}
-use Prim.Native.Nat.{ℕ}
-use mathlib.Core.Bool.{Bool, true, false}
+use mathlib.Core.Path.{_≡_, refl, ap, _∙_}
 use mathlib.Core.Logic.{_≢_}
 use mathlib.Core.List.{List, [], _∷_}
 use lib.Dec.{eqb}
@@ -9,7 +7,7 @@ use mir.Facts.{eqb-yes, eqb-no}
 use Rattle.format.specs.declared.Machine.{Machine}
 use Rattle.format.specs.declared.Row.{Row}
 use Rattle.format.specs.Rows.{Line}
-use Rattle.format.specs.Test.{pick, bad, onward}
+use Rattle.format.specs.Test.{bad, onward}
 use Rattle.format.specs.Writer.{isEmpty}
 use Rattle.format.specs.X64.{Group, joinGroup, groups, Prefix, loneRow, pushRows, readGroup, readGroups}
 use Rattle.format.proofs.Choice.{if-eq, if-ne, tested}

@@ -1,6 +1,6 @@
 -- What a row yields, by its kind, and the pieces of a prologue as a loop goes over them.
-use mathlib.Core.Path.{_≡_, refl, sym, ap, _∙_}
-use Prim.Native.Nat.{ℕ, zero, suc, _+_, _-_, _≤_, _<_}
+use mathlib.Core.Path.{_≡_, refl, _∙_}
+use Prim.Native.Nat.{ℕ, suc, _+_, _-_, _≤_, _<_}
 use native.Mathlib.Omega.{arith}
 use native.Mathlib.Numerals.{add-one}
 use mathlib.Core.Bool.{Bool, true, false}
@@ -8,11 +8,10 @@ use mathlib.Core.List.{List, [], _∷_, _++_, append-nil}
 use lib.Dec.{T}
 use lib.IntN.{ℤ, pos, _+ℤ_, _-ℤ_}
 use borrow.Author.Tests.{ne-eqb, lt-leb}
-use Rattle.format.specs.Test.{pick, good, onward}
+use Rattle.format.specs.Test.{pick}
 use Rattle.format.specs.declared.Machine.{Machine}
 use Rattle.format.specs.declared.Row.{Row}
 use Rattle.format.specs.declared.Row.the-variants.{DefCfa, DefCfaOffset, DefCfaRegister, Offset}
-use Rattle.format.specs.declared.Seh.{Seh}
 use Rattle.format.specs.declared.Seh.the-variants.{Push, Alloc, Frame, Save}
 use Rattle.format.specs.Rows.{kindOf, regOf, offsetOf}
 use Rattle.format.specs.Lists.{field, rowStride, lineAt, rowOkAt}
@@ -65,22 +64,21 @@ module _ (m : Machine) (below sofar : ℤ) (rows : List ℕ) (at i end : ℕ) {r
     unfolding pieceIn stepIn lineAt
     there f = rw (← e, f, o)
 
-    pub set-piece : (reg : ℕ) (z : ℤ) → r ≡ DefCfa reg z → namedCode m off (m .frame) (λ x. Frame (x .number) (pos 0)) ≡ pieceIn m below sofar rows at i end
-    set-piece reg z f = sym (there f ∙ set-step m below sofar off (joins rows i end) (joined rows at i) reg z)
+    pub set-piece : (reg : ℕ) (z : ℤ) → r ≡ DefCfa reg z → pieceIn m below sofar rows at i end ≡ namedCode m off (m .frame) (λ x. Frame (x .number) (pos 0))
+    set-piece reg z f = there f ∙ set-step m below sofar off (joins rows i end) (joined rows at i) reg z
 
-    pub early-piece : (reg : ℕ) → r ≡ DefCfaRegister reg → namedCode m off (m .frame) (λ x. Frame (x .number) (pos 0)) ≡ pieceIn m below sofar rows at i end
-    early-piece reg f = sym (there f ∙ early-step m below sofar off (joins rows i end) (joined rows at i) reg)
+    pub early-piece : (reg : ℕ) → r ≡ DefCfaRegister reg → pieceIn m below sofar rows at i end ≡ namedCode m off (m .frame) (λ x. Frame (x .number) (pos 0))
+    early-piece reg f = there f ∙ early-step m below sofar off (joins rows i end) (joined rows at i) reg
 
-    pub alloc-piece : (z : ℤ) → r ≡ DefCfaOffset z → pick (joins rows i end) [] ((off, Alloc (z -ℤ sofar)) ∷ []) ≡ pieceIn m below sofar rows at i end
-    alloc-piece z f = sym (there f ∙ alloc-step m below sofar off (joins rows i end) (joined rows at i) z)
+    pub alloc-piece : (z : ℤ) → r ≡ DefCfaOffset z → pieceIn m below sofar rows at i end ≡ pick (joins rows i end) [] ((off, Alloc (z -ℤ sofar)) ∷ [])
+    alloc-piece z f = there f ∙ alloc-step m below sofar off (joins rows i end) (joined rows at i) z
 
-    pub slot-piece : (reg : ℕ) (z : ℤ) → r ≡ Offset reg z
-        → pick (joined rows at i) (namedCode m off reg (λ x. Push (x .number))) (namedCode m off reg (λ x. Save (x .number) (x .vector) (below +ℤ z)))
-        ≡ pieceIn m below sofar rows at i end
-    slot-piece reg z f = sym (there f ∙ slot-step m below sofar off (joins rows i end) (joined rows at i) reg z)
+    pub slot-piece : (reg : ℕ) (z : ℤ) → r ≡ Offset reg z → pieceIn m below sofar rows at i end
+        ≡ pick (joined rows at i) (namedCode m off reg (λ x. Push (x .number))) (namedCode m off reg (λ x. Save (x .number) (x .vector) (below +ℤ z)))
+    slot-piece reg z f = there f ∙ slot-step m below sofar off (joins rows i end) (joined rows at i) reg z
 
-    pub no-piece : 4 ≤ kindOf r → [] ≡ pieceIn m below sofar rows at i end
-    no-piece h = sym (there refl ∙ no-step m below sofar off (joins rows i end) (joined rows at i) r h)
+    pub no-piece : 4 ≤ kindOf r → pieceIn m below sofar rows at i end ≡ []
+    no-piece h = there refl ∙ no-step m below sofar off (joins rows i end) (joined rows at i) r h
 
 -- ---- the distance behind a row
 

@@ -1,5 +1,5 @@
 -- What is known of a prologue's steps in a few numbers, and that a row read on these numbers is the row read on the steps.
-use mathlib.Core.Path.{_≡_, refl, sym, _∙_}
+use mathlib.Core.Path.{_≡_, refl, sym}
 use Prim.Native.Nat.{ℕ, _*_}
 use native.Mathlib.Omega.{arith}
 use mathlib.Core.Bool.{Bool, true, false, _&&_, and-assoc, and-true}

@@ -1,12 +1,11 @@
 -- Rows that can be read: their offsets have 32 bits.
 use mathlib.Core.Path.{_≡_, subst}
-use Prim.Native.Nat.{ℕ, _+_, _-_, _*_, _^_, _≤_, _<_}
+use Prim.Native.Nat.{ℕ, _+_, _-_, _≤_}
 use native.Mathlib.Omega.{arith}
 use mathlib.Core.Bool.{Bool, true, false}
 use mathlib.Core.List.{List}
-use lib.ListN.{length}
 use lib.Dec.{T, eqb}
-use lib.IntN.{ℤ, pos}
+use lib.IntN.{pos}
 use mir.Syntax.{w32}
 use mir.Val.{toZ}
 use mir.Facts.{sfits-toZ}

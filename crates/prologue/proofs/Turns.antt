@@ -1,13 +1,11 @@
 -- The loop over a prologue's rows, and the loop to its end.
 use mathlib.Core.Path.{_≡_, refl, sym, ap, _∙_}
-use Prim.Native.Nat.{ℕ, zero, suc, _+_, _-_, _*_, _^_, _≤_, _<_}
+use Prim.Native.Nat.{ℕ, zero, suc, _+_, _-_, _^_, _≤_, _<_}
 use native.Mathlib.Omega.{arith}
 use native.Mathlib.Numerals.{add-one}
-use mathlib.Core.Bool.{Bool, true, false, not}
-use mathlib.Core.Logic.{_≢_}
+use mathlib.Core.Bool.{Bool, true, false}
 use mathlib.Core.List.{List, [], _∷_, _++_, append-nil}
-use lib.Dec.{T, eqb}
-use lib.IntN.{ℤ, pos}
+use lib.Dec.{eqb}
 use borrow.Author.Tests.{eq-eqb, ne-eqb}
 use mir.Facts.{eqb-yes}
 use Rattle.format.specs.Test.{pick, each}
@@ -122,11 +120,11 @@ remember-kind kind reg off =
     let e = is-false (eqb kind 6) t in
     e
     ∙ sym
-      (one-other (eqb kind 0) _ _ refl
-      (one-other (eqb kind 1) _ _ refl
-      (one-other (eqb kind 2) _ _ refl
-      (one-other (eqb kind 3) _ _ refl
-      (one-other (eqb kind 4) _ _ refl (one-other (eqb kind 5) _ _ refl (rw e (one-other (eqb kind 7) _ _ refl refl))))))))) 
+    (one-other (eqb kind 0) _ _ refl
+    (one-other (eqb kind 1) _ _ refl
+    (one-other (eqb kind 2) _ _ refl
+    (one-other (eqb kind 3) _ _ refl
+    (one-other (eqb kind 4) _ _ refl (one-other (eqb kind 5) _ _ refl (rw e (one-other (eqb kind 7) _ _ refl refl)))))))))
 
 pub remembers-is : (rows : List ℕ) (i : ℕ) → eqb (field rowStride rows i 1) 6 ≡ eqb (kindOf (lineAt rows i .1)) 6
 unfolding lineAt

@@ -3,14 +3,14 @@ use mathlib.Core.Path.{_≡_, refl, sym, ap, _∙_}
 use Prim.Native.Nat.{ℕ, zero, suc, _+_, _-_, _≤_, _<_}
 use native.Mathlib.Omega.{arith}
 use mathlib.Core.Bool.{Bool, true, false, not}
-use mathlib.Core.List.{List, [], _∷_}
+use mathlib.Core.List.{List}
 use lib.Dec.{T, eqb}
 use borrow.Author.Tests.{eq-eqb, ne-eqb}
-use Rattle.format.specs.Test.{pick, onward, each}
+use Rattle.format.specs.Test.{pick, each}
 use Rattle.format.specs.declared.Machine.{Machine}
 use Rattle.format.specs.Lists.{lineAt}
 use Rattle.format.specs.Writer.{isEmpty}
-use Rattle.format.specs.X64.{Prefix, groups, loneRow, pushRows, readGroups}
+use Rattle.format.specs.X64.{Prefix, groups, pushRows, readGroups}
 use Rattle.format.proofs.Choice.{if-gt, tested}
 use Rattle.prologue.specs.declared.Walk.{Walk}
 use Rattle.prologue.specs.Groups.{joined, joins, third, refused, loneIn, pushIn, lastIn, rowIn, walkFrom}
@@ -137,7 +137,7 @@ module _ (m : Machine) (rows : List ℕ) (at end : ℕ) where
       let j′ = next-yes rows at i h equal in
       let u : Prefix = past (L (suc i) .0) false true (L (suc i) .1) (past (L i .0) true false (L i .1) s) in
       let same : pastRow rows at end (suc i) (pastRow rows at end i s) ≡ u =
-            row-adds (suc i) (pastRow rows at end i s) g′ j′ ∙ ap (past (L (suc i) .0) false true (L (suc i) .1)) (row-adds i s g j) in
+      row-adds (suc i) (pastRow rows at end i s) g′ j′ ∙ ap (past (L (suc i) .0) false true (L (suc i) .1)) (row-adds i s g j) in
       let w = walkOf m s in
       let walk = passed i (suc n) s (not-third rows at i j) g ∙ turned (suc i) n w (pushIn m (L i .1) (L (suc i) .1) w) (push-behind i w j j′ g′) in
       let first : Reads m u (L i .0) (pushRows m (L i .0) (L i .1) (L (suc i) .1) s) (pushIn m (L i .1) (L (suc i) .1) w) = rw (sym equal) (push-reads m (L i .0) s (L i .1) (L (suc i) .1)) in
@@ -155,9 +155,9 @@ module _ (m : Machine) (rows : List ℕ) (at end : ℕ) where
       let j″ = next-yes rows at (suc i) (omega arith) equal′ in
       let w = walkOf m s in
       let walk : walkFrom m rows at end i (suc (suc (suc n))) w ≡ refused 33 =
-            passed i (suc (suc n)) s (not-third rows at i j) (is-true (joins rows i end) t)
-            ∙ passed (suc i) (suc n) s (third-behind i j′ ∙ j) (is-true (joins rows (suc i) end) t′)
-            ∙ turned (suc (suc i)) n w (refused 33) (at-third (suc (suc i)) w (third-behind (suc i) j″ ∙ j′)) in
+      passed i (suc (suc n)) s (not-third rows at i j) (is-true (joins rows i end) t)
+      ∙ passed (suc i) (suc n) s (third-behind i j′ ∙ j) (is-true (joins rows (suc i) end) t′)
+      ∙ turned (suc (suc i)) n w (refused 33) (at-third (suc (suc i)) w (third-behind (suc i) j″ ∙ j′)) in
       refuses 33 (λ z. omega arith) (read-third m s (L i) (L (suc i)) (L (suc (suc i))) (each L (suc (suc (suc i))) n) equal equal′) walk
 
   -- ---- all of them

@@ -1,7 +1,7 @@
 -- The rows of a prologue read one by one: which are of one instruction, and the few numbers that are known so far.
 use Prim.Native.Nat.{ℕ, zero, suc, _-_, _*_}
 use mathlib.Core.Bool.{Bool, true, false, _&&_}
-use mathlib.Core.List.{List, [], _∷_}
+use mathlib.Core.List.{List}
 use lib.Dec.{ltb, eqb}
 use lib.IntN.{ℤ, pos, negℤ, _-ℤ_}
 use Rattle.format.specs.Test.{pick, Result, good, bad}

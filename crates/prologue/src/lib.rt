@@ -222,7 +222,8 @@ fn pushed(m: Machine, reg: u64, z: i64, y: i64, w: Walk) -> Walk
     if !same(y, 0 - z) {
         return refused(33);
     }
-    stepped(w, reg == m.frame, knows(m, reg), z)
+    let known = knows(m, reg);
+    stepped(w, reg == m.frame, known, z)
 }
 
 // An instruction of two rows.
@@ -418,7 +419,16 @@ fn alloc_code(rows: &[u64], i: usize, end: usize, off: u64, sofar: i64, z: i64) 
 }
 
 // Offset: the second row of a push, or a save. A save counts from the stack pointer at the prologue's end.
-fn slot_code(m: Machine, rows: &[u64], at: usize, i: usize, off: u64, reg: u64, below: i64, z: i64) -> Piece
+fn slot_code(
+    m: Machine,
+    rows: &[u64],
+    at: usize,
+    i: usize,
+    off: u64,
+    reg: u64,
+    below: i64,
+    z: i64,
+) -> Piece
     requires { ⌜ (length (m .map) ≡ 64) × (4 * i + 4 ≤ length (now rows)) × Short below × Short z ⌝ }
     ensures { λ r. ⌜ pieceOf r ≡ pick (joined (now (rows .entry)) at i) (namedCode m off reg (λ x. Push (x .number))) (namedCode m off reg (λ x. Save (x .number) (x .vector) (below +ℤ z))) ⌝ }
 {
@@ -430,7 +440,15 @@ fn slot_code(m: Machine, rows: &[u64], at: usize, i: usize, off: u64, reg: u64, 
 
 // Row i of a prologue's rows from `at` to `end`, with the distance `sofar` in front of it and `below` behind all of them: the
 // code of the instruction that it ends, or none.
-pub fn piece_at(m: Machine, below: i64, sofar: i64, rows: &[u64], at: usize, i: usize, end: usize) -> Piece
+pub fn piece_at(
+    m: Machine,
+    below: i64,
+    sofar: i64,
+    rows: &[u64],
+    at: usize,
+    i: usize,
+    end: usize,
+) -> Piece
     requires { ⌜ (length (m .map) ≡ 64) × Ready (now rows) at end × (at ≤ i) × (i < end) × Short below × Short sofar ⌝ }
     ensures { λ r. ⌜ pieceOf r ≡ pieceIn m below sofar (now (rows .entry)) at i end ⌝ }
 {

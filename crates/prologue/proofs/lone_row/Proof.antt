@@ -2,7 +2,6 @@
 use mathlib.Core.Path.{_∙_}
 use native.Mathlib.Omega.{arith}
 use Rattle.format.specs.X64.{isPush}
-use Rattle.format.specs.Test.{pick}
 use Rattle.rows.proofs.Signs.{passed}
 use Rattle.prologue.specs.Groups.{known, added, loneIn}
 use borrow.Author.Needs.{needs}

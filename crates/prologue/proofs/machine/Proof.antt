@@ -1,6 +1,5 @@
 -- `prologue::machine` meets its contract.
 use Rattle.prologue.proofs.Registers.{past-map, low-integer, high-integer, low-vector, high-vector}
-use native.Mathlib.Omega.{arith}
 use borrow.Author.Needs.{needs}
 use Rattle.prologue.proofs.machine.Statement.{statement}
 use Rattle.prologue.proofs.machine.Tie as tie

@@ -1,5 +1,5 @@
 -- `prologue::moved` meets its contract.
-use mathlib.Core.Path.{sym, _∙_}
+use mathlib.Core.Path.{_∙_}
 use native.Mathlib.Omega.{arith}
 use mathlib.Core.List.{[], _∷_}
 use mir.Facts.{toZ-ofZ}

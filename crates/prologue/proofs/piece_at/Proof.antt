@@ -1,5 +1,4 @@
 -- `prologue::piece_at` meets its contract.
-use mathlib.Core.Path.{sym, _∙_}
 use native.Mathlib.Omega.{arith}
 use borrow.Author.Needs.{needs}
 use Rattle.format.specs.Rows.{kindOf, offsetOf}
@@ -33,7 +32,7 @@ alloc-code-requires c κs =
     let r = c .before .r .given in
     let e = passed (r .0 .0) (omega (arith, c .known-told .given)) in
     let h = line-short _ (s .args .i) (s .pre .1 .ok (s .args .i) (s .pre .2) (s .pre .3)) in
-    (omega arith, s .pre .1 .inside, rw (short-passed (s .args .sofar) (s .pre .5)) (s .pre .5), rw e (rw (← c .before .before .before .row-at .ensures, r .1) at h))
+    (search needs, search needs, search needs, rw e (rw (← c .before .before .before .row-at .ensures, r .1) at h))
 
 enum-told-2 : tie.Need-enum-told-2
 enum-told-2 c = search needs
@@ -54,7 +53,7 @@ slot-code-requires c κs =
     let r = c .before .r2 .given in
     let e = passed (r .0 .1 .0) (omega (arith, c .known-told2 .given)) in
     let h = line-short _ (s .args .i) (s .pre .1 .ok (s .args .i) (s .pre .2) (s .pre .3)) in
-    (s .pre .0, omega arith, rw (short-passed (s .args .below) (s .pre .4)) (s .pre .4), rw e (rw (← c .before .before .before .row-at .ensures, r .1) at h))
+    (search needs, search needs, search needs, rw e (rw (← c .before .before .before .row-at .ensures, r .1) at h))
 
 enum-told-3 : tie.Need-enum-told-3
 enum-told-3 c = search needs
@@ -75,7 +74,7 @@ returns : tie.Need-returns
 returns c =
     let s = c .before .before .before .before .before .before in
     let a = c .before .before .before in
-    c .frame-code .ensures ∙ set-piece (s .args .m) (s .args .below) (s .args .sofar) _ (s .args .at) (s .args .i) (s .args .end) (a .row-at .ensures) (a .before .offset-at .ensures) _ _ (c .before .enum-told .given .1)
+    rw (set-piece (s .args .m) (s .args .below) (s .args .sofar) _ (s .args .at) (s .args .i) (s .args .end) (a .row-at .ensures) (a .before .offset-at .ensures) _ _ (c .before .enum-told .given .1)) (c .frame-code .ensures)
 
 returns-2 : tie.Need-returns-2
 returns-2 c =
@@ -83,14 +82,13 @@ returns-2 c =
     let a = c .before .before .before .before in
     let r = c .before .before .r .given in
     let e = passed (r .0 .0) (omega (arith, c .before .known-told .given)) in
-    (rw (short-passed (s .args .sofar) (s .pre .5), e) at (c .alloc-code .ensures))
-    ∙ alloc-piece (s .args .m) (s .args .below) (s .args .sofar) _ (s .args .at) (s .args .i) (s .args .end) (a .row-at .ensures) (a .before .offset-at .ensures) (r .0 .0) (r .1)
+    rw (alloc-piece (s .args .m) (s .args .below) (s .args .sofar) _ (s .args .at) (s .args .i) (s .args .end) (a .row-at .ensures) (a .before .offset-at .ensures) (r .0 .0) (r .1)) (rw (short-passed (s .args .sofar) (s .pre .5), e) at (c .alloc-code .ensures))
 
 returns-3 : tie.Need-returns-3
 returns-3 c =
     let s = c .before .before .before .before .before .before in
     let a = c .before .before .before in
-    c .frame-code2 .ensures ∙ early-piece (s .args .m) (s .args .below) (s .args .sofar) _ (s .args .at) (s .args .i) (s .args .end) (a .row-at .ensures) (a .before .offset-at .ensures) _ (c .before .enum-told2 .given .1)
+    rw (early-piece (s .args .m) (s .args .below) (s .args .sofar) _ (s .args .at) (s .args .i) (s .args .end) (a .row-at .ensures) (a .before .offset-at .ensures) _ (c .before .enum-told2 .given .1)) (c .frame-code2 .ensures)
 
 returns-4 : tie.Need-returns-4
 returns-4 c =
@@ -98,43 +96,42 @@ returns-4 c =
     let a = c .before .before .before .before in
     let r = c .before .before .r2 .given in
     let e = passed (r .0 .1 .0) (omega (arith, c .before .known-told2 .given)) in
-    (rw (short-passed (s .args .below) (s .pre .4), e) at (c .slot-code .ensures))
-    ∙ slot-piece (s .args .m) (s .args .below) (s .args .sofar) _ (s .args .at) (s .args .i) (s .args .end) (a .row-at .ensures) (a .before .offset-at .ensures) (r .0 .0) (r .0 .1 .0) (r .1)
+    rw (slot-piece (s .args .m) (s .args .below) (s .args .sofar) _ (s .args .at) (s .args .i) (s .args .end) (a .row-at .ensures) (a .before .offset-at .ensures) (r .0 .0) (r .0 .1 .0) (r .1)) (rw (short-passed (s .args .below) (s .pre .4), e) at (c .slot-code .ensures))
 
 returns-5 : tie.Need-returns-5
 unfolding pieceOf kindOf
 returns-5 c =
     let s = c .before .before .before .before .before in
     let a = c .before .before in
-    no-piece (s .args .m) (s .args .below) (s .args .sofar) _ (s .args .at) (s .args .i) (s .args .end) (a .row-at .ensures) (a .before .offset-at .ensures) (rw (c .enum-told3 .given .1) (omega arith))
+    rw (no-piece (s .args .m) (s .args .below) (s .args .sofar) _ (s .args .at) (s .args .i) (s .args .end) (a .row-at .ensures) (a .before .offset-at .ensures) (rw (c .enum-told3 .given .1) (omega arith)))
 
 returns-6 : tie.Need-returns-6
 unfolding pieceOf kindOf
 returns-6 c =
     let s = c .before .before .before .before .before in
     let a = c .before .before in
-    no-piece (s .args .m) (s .args .below) (s .args .sofar) _ (s .args .at) (s .args .i) (s .args .end) (a .row-at .ensures) (a .before .offset-at .ensures) (rw (c .enum-told4 .given .1) (omega arith))
+    rw (no-piece (s .args .m) (s .args .below) (s .args .sofar) _ (s .args .at) (s .args .i) (s .args .end) (a .row-at .ensures) (a .before .offset-at .ensures) (rw (c .enum-told4 .given .1) (omega arith)))
 
 returns-7 : tie.Need-returns-7
 unfolding pieceOf kindOf
 returns-7 c =
     let s = c .before .before .before .before .before in
     let a = c .before .before in
-    no-piece (s .args .m) (s .args .below) (s .args .sofar) _ (s .args .at) (s .args .i) (s .args .end) (a .row-at .ensures) (a .before .offset-at .ensures) (rw (c .enum-told5 .given .1) (omega arith))
+    rw (no-piece (s .args .m) (s .args .below) (s .args .sofar) _ (s .args .at) (s .args .i) (s .args .end) (a .row-at .ensures) (a .before .offset-at .ensures) (rw (c .enum-told5 .given .1) (omega arith)))
 
 returns-8 : tie.Need-returns-8
 unfolding pieceOf kindOf
 returns-8 c =
     let s = c .before .before .before .before .before in
     let a = c .before .before in
-    no-piece (s .args .m) (s .args .below) (s .args .sofar) _ (s .args .at) (s .args .i) (s .args .end) (a .row-at .ensures) (a .before .offset-at .ensures) (rw (c .enum-told6 .given .1) (omega arith))
+    rw (no-piece (s .args .m) (s .args .below) (s .args .sofar) _ (s .args .at) (s .args .i) (s .args .end) (a .row-at .ensures) (a .before .offset-at .ensures) (rw (c .enum-told6 .given .1) (omega arith)))
 
 returns-9 : tie.Need-returns-9
 unfolding pieceOf kindOf
 returns-9 c =
     let s = c .before .before .before .before .before in
     let a = c .before .before in
-    no-piece (s .args .m) (s .args .below) (s .args .sofar) _ (s .args .at) (s .args .i) (s .args .end) (a .row-at .ensures) (a .before .offset-at .ensures) (rw (c .enum-told7 .given .1) (omega arith))
+    rw (no-piece (s .args .m) (s .args .below) (s .args .sofar) _ (s .args .at) (s .args .i) (s .args .end) (a .row-at .ensures) (a .before .offset-at .ensures) (rw (c .enum-told7 .given .1) (omega arith)))
 
 pub piece-at-spec : {M : Type 1} → statement M
 piece-at-spec =

@@ -1,5 +1,4 @@
 -- `prologue::prologue` meets its contract.
-use native.Mathlib.Omega.{arith}
 use borrow.Author.Needs.{needs}
 use Rattle.rows.proofs.Signs.{passed}
 use Rattle.prologue.proofs.Rows.{ready}

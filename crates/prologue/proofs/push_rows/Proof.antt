@@ -4,7 +4,6 @@ use native.Mathlib.Omega.{arith}
 use Rattle.format.specs.Rows.{offsetOf}
 use Rattle.rows.proofs.Signs.{passed}
 use Rattle.prologue.proofs.Frames.{push-first, push-second}
-use Prim.Native.Nat.{ℕ}
 use borrow.Author.Needs.{needs}
 use Rattle.prologue.proofs.push_rows.Statement.{statement}
 use Rattle.prologue.proofs.push_rows.Tie as tie

@@ -55,7 +55,7 @@ returns-3 c =
     let a = c .before .before .before in
     let e = rw (difference-is (s .args .z) (s .args .w .below) (s .pre .2) (s .pre .3), toZ-pos w64 {n = s .args .m .word} (omega arith)) at (accepted (a .before .before .before .same .ensures) (a .before .before .if1 .left)) in
     let f = rw (toZ-ofZ (s .fits .y), opposite-is (s .args .z) (s .pre .2)) at (accepted (a .before .same2 .ensures) (a .if2 .left)) in
-    c .stepped .ensures ∙ rw (short-passed (s .args .z) (s .pre .2), c .before .knows .ensures) (push-yes (s .args .m) (s .args .reg) (s .args .z) (s .args .y) (s .args .w) e f)
+    c .stepped .ensures ∙ rw (short-passed (s .args .z) (s .pre .2), c .before .before .knows .ensures) (push-yes (s .args .m) (s .args .reg) (s .args .z) (s .args .y) (s .args .w) e f)
 
 pub pushed-spec : {M : Type 1} → statement M
 pushed-spec =

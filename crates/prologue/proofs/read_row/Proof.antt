@@ -14,7 +14,7 @@ refused-requires c κs = search needs
 returns : tie.Need-returns
 returns c =
     let s = c .before .before .before .before in
-    c .refused .ensures ∙ sym (at-third (s .args .m) _ (s .args .at) (s .args .end) (s .args .i) (s .args .w) (sym (c .before .before .third .ensures) ∙ c .before .if1 .taken))
+    rw (at-third (s .args .m) _ (s .args .at) (s .args .end) (s .args .i) (s .args .w) (sym (c .before .before .third .ensures) ∙ c .before .if1 .taken)) (c .refused .ensures)
 
 joins-requires : tie.Need-joins-requires
 joins-requires c κs = search needs
@@ -30,7 +30,7 @@ read-last-requires c κs = search needs
 returns-3 : tie.Need-returns-3
 returns-3 c =
     let s = c .before .before .before .before .before .before in
-    c .read-last .ensures ∙ sym (at-last (s .args .m) _ (s .args .at) (s .args .end) (s .args .i) (s .args .w) (sym (c .before .before .before .before .third .ensures) ∙ c .before .before .before .if1 .left) (sym (c .before .before .joins .ensures) ∙ c .before .if2 .left))
+    rw (at-last (s .args .m) _ (s .args .at) (s .args .end) (s .args .i) (s .args .w) (sym (c .before .before .before .before .third .ensures) ∙ c .before .before .before .if1 .left) (sym (c .before .before .joins .ensures) ∙ c .before .if2 .left)) (c .read-last .ensures)
 
 pub read-row-spec : {M : Type 1} → statement M
 read-row-spec =
