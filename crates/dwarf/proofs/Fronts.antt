@@ -1,0 +1,112 @@
+-- A section's parts from the front are the definition's parts.
+use mathlib.Core.Path.{_≡_, refl, sym, ap, _∙_}
+use Prim.Native.Nat.{ℕ, zero, suc, _+_, _≤_, _<_}
+use native.Mathlib.Omega.{arith}
+use native.Mathlib.Nat.{add-zero, zero-add}
+use mathlib.Core.Bool.{Bool, true, false}
+use mathlib.Core.List.{List, [], _∷_, _++_, map, append-assoc, append-nil}
+use borrow.Author.Tests.{eq-eqb, ne-eqb}
+use lib.Dec.{eqb}
+use lib.ListN.{length, length-append, length-map}
+use Rattle.format.specs.Test.{each}
+use Rattle.format.specs.declared.Machine.{Machine}
+use Rattle.format.specs.declared.Section.{Section}
+use Rattle.format.specs.Lists.{Function, functionsOf, numbersOf, Relocation}
+use Rattle.format.specs.Headers.{Key, keyOf}
+use Rattle.format.specs.Writer.{Part, Seen, taken, partOf, isEmpty, partsFrom, partsOf, joined, dwarf, Written}
+use Rattle.dwarf.specs.Parts.{Inputs, countIn, functionIn, placesIn, bytesIn, relocsIn, sitesIn, seenFrom, partBehind, partsTo, writtenIn}
+
+-- ---- lists one behind the other
+
+module _ {A : Type 0} (g : Part → List A) where
+  joined-append : (ps qs : List Part) → joined (map g (ps ++ qs)) ≡ joined (map g ps) ++ joined (map g qs)
+  unfolding joined
+  joined-append [] qs = refl
+  joined-append (p ∷ ps) qs = rw (joined-append ps qs, append-assoc)
+
+  joined-last : (ps : List Part) (p : Part) → joined (map g (ps ++ (p ∷ []))) ≡ joined (map g ps) ++ g p
+  unfolding joined
+  joined-last ps p = joined-append ps (p ∷ []) ∙ rw append-nil
+
+pub bytes-last : (ps : List Part) (p : Part) → bytesIn (ps ++ (p ∷ [])) ≡ bytesIn ps ++ p .bytes
+unfolding bytesIn
+bytes-last ps p = joined-last (λ q. q .bytes) ps p
+
+pub relocs-last : (ps : List Part) (p : Part) → relocsIn (ps ++ (p ∷ [])) ≡ relocsIn ps ++ p .relocations
+unfolding relocsIn
+relocs-last ps p = joined-last (λ q. q .relocations) ps p
+
+pub sites-last : (ps : List Part) (p : Part) → sitesIn (ps ++ (p ∷ [])) ≡ sitesIn ps ++ p .sites
+unfolding sitesIn
+sites-last ps p = joined-last (λ q. q .sites) ps p
+
+pub places-last : (ps : List Part) (p : Part) → placesIn (ps ++ (p ∷ [])) ≡ placesIn ps ++ (p .place ∷ [])
+unfolding placesIn
+places-last [] p = refl
+places-last (q ∷ ps) p = ap (λ (l : List ℕ). q .place ∷ l) (places-last ps p)
+
+seen-last : (key : ℕ → Key) (j : ℕ) (ps : List ℕ) (p : ℕ)
+    → seenFrom key j (ps ++ (p ∷ [])) ≡ seenFrom key j ps ++ (record { key = key (j + length ps); place = p } ∷ [])
+unfolding seenFrom
+seen-last key j [] p = rw add-zero
+seen-last key j (q ∷ ps) p =
+    let e : suc j + length ps ≡ j + length (q ∷ ps) = omega arith in
+    rw (seen-last key (suc j) ps p, e)
+
+-- ---- the parts of the first k functions
+
+pub parts-length : (x : Inputs) (k : ℕ) → length (partsTo x k) ≡ k
+unfolding partsTo
+parts-length x zero = refl
+parts-length x (suc k) = length-append (partsTo x k) _ ∙ omega (arith, parts-length x k)
+
+pub places-length : (x : Inputs) (k : ℕ) → length (placesIn (partsTo x k)) ≡ k
+unfolding placesIn
+places-length x k = length-map (partsTo x k) _ ∙ parts-length x k
+
+last-or-not : (f : ℕ → Function) (k d : ℕ) → isEmpty (each f (suc k) d) ≡ eqb (suc k) (k + suc d)
+unfolding isEmpty each
+last-or-not f k zero = sym (eq-eqb (suc k) (k + 1) (omega arith))
+last-or-not f k (suc d) = sym (ne-eqb (suc k) (k + suc (suc d)) (λ e. omega arith))
+
+-- the next of the functions that are left
+part-next : (x : Inputs) (k d : ℕ) → k + suc d ≡ countIn x
+    → partOf (x .section) (x .machine) (isEmpty (each (functionIn x) (suc k) d)) (length (bytesIn (partsTo x k))) (length (sitesIn (partsTo x k)))
+    (seenFrom (λ j. keyOf (x .machine) (functionIn x j)) 0 (placesIn (partsTo x k))) (functionIn x k)
+    ≡ partBehind x k (partsTo x k)
+unfolding partBehind
+part-next x k d e = rw (last-or-not (functionIn x) k d, e)
+
+-- behind the first k parts stand those of the functions that are left
+parts-left : (x : Inputs) (k d : ℕ) → k + d ≡ countIn x
+    → partsTo x k
+    ++ partsFrom (x .section) (x .machine) (length (bytesIn (partsTo x k))) (length (sitesIn (partsTo x k)))
+    (seenFrom (λ j. keyOf (x .machine) (functionIn x j)) 0 (placesIn (partsTo x k))) (each (functionIn x) k d)
+    ≡ partsTo x (k + d)
+unfolding partsTo partsFrom each
+parts-left x k zero e = rw (append-nil, add-zero)
+parts-left x k (suc d) e =
+    let on : suc k + d ≡ k + suc d = omega arith in
+    let here : 0 + length (placesIn (partsTo x k)) ≡ k = omega (arith, places-length x k) in
+    rw (part-next x k d e)
+    (rw (bytes-last, sites-last, places-last, length-append, length-append, seen-last, here, on, append-assoc) at (parts-left x (suc k) d (omega arith)))
+
+-- ---- all of them
+
+map-each : {A B : Type 0} (g : A → B) (f : ℕ → A) (at n : ℕ) → map g (each f at n) ≡ each (λ i. g (f i)) at n
+unfolding each
+map-each g f at zero = refl
+map-each g f at (suc n) = ap (λ l. g (f at) ∷ l) (map-each g f (suc at) n)
+
+module _ (x : Inputs) where
+  pub functions-each : map (taken (x .section)) (functionsOf (x .functions) (x .rows) (x .landings) (x .pairs)) ≡ each (functionIn x) 0 (countIn x)
+  unfolding functionsOf
+  functions-each = map-each (taken (x .section)) _ 0 (countIn x)
+
+  pub all-parts : partsOf (x .section) (x .machine) (functionsOf (x .functions) (x .rows) (x .landings) (x .pairs)) ≡ partsTo x (countIn x)
+  unfolding partsOf partsTo placesIn bytesIn sitesIn joined seenFrom
+  all-parts = rw functions-each (rw zero-add at (parts-left x 0 (countIn x) (omega arith)))
+
+  pub written-parts : dwarf (x .section) (x .machine) (functionsOf (x .functions) (x .rows) (x .landings) (x .pairs)) ≡ writtenIn (partsTo x (countIn x))
+  unfolding dwarf writtenIn placesIn bytesIn relocsIn sitesIn
+  written-parts = rw all-parts

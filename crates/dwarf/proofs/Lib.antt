@@ -1,0 +1,4 @@
+-- The lemmas of this crate's functions.
+pub mod Fronts
+pub mod Widths
+pub mod Bodies

@@ -1,0 +1,3 @@
+-- What the passes over a list of functions go by.
+pub mod Asks
+pub mod Parts
