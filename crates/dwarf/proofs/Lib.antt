@@ -2,3 +2,4 @@
 pub mod Fronts
 pub mod Widths
 pub mod Bodies
+pub mod Rows

@@ -1,10 +1,19 @@
 // The DWARF sections: questions 21 to 25, sizes, 51 to 54, and the writing of them. Ported from rucc-asm/src/unwind.rs (dwarf, relaxed_debug_frame, Table) of tamnd/rucc, changed: see NOTICE.
 ghost use mathlib.Core.Path.{_≡_};
-ghost use Prim.Native.Nat.{_^_};
-ghost use lib.Dec.{T, ltb};
+ghost use Prim.Native.Nat.{_+_, _*_, _^_, _≤_, _<_};
+ghost use mathlib.Core.Bool.{not};
+ghost use lib.Dec.{T, ltb, eqb};
+ghost use lib.ListN.{length};
+ghost use Rattle.format.specs.Test.{all, each};
 ghost use Rattle.format.specs.Machine.{isWord};
-ghost use Rattle.format.specs.Questions.{sizeBytes};
+ghost use Rattle.format.specs.Rows.{rowWhole};
+ghost use Rattle.format.specs.Lists.{field, rowStride, pairStride, count, lineAt, pairAt};
+ghost use Rattle.format.specs.Questions.{sizeBytes, stepsOk};
+ghost use Rattle.leading.specs.Functions.{RowsReady};
 use format::Section;
+use rows::offset_at;
+use rows::row_at;
+use rows::row_whole;
 
 // ---- questions 21 to 25
 
@@ -32,4 +41,66 @@ fn size_ok(s: Section, word: u64, size: u64) -> bool
         Section::MachO => size < 4294967296,
         Section::Debug => word_holds(word, size),
     }
+}
+
+// Question 23: no row goes back, nor steps above 2^32 - 1.
+fn steps_ok(rows: &[u64], at: usize, n: usize) -> bool
+    requires { ⌜ RowsReady (now rows) at n ⌝ }
+    ensures { λ r. ⌜ r ≡ stepsOk 0 (each (lineAt (now (rows .entry))) at n) ⌝ }
+{
+    let end = at + n;
+    let mut from = 0;
+    let mut i = at;
+    while i < end {
+        let to = offset_at(rows, i);
+        if to < from {
+            return false;
+        }
+        if 4294967296 <= to - from {
+            return false;
+        }
+        from = to;
+        i += 1;
+    }
+    true
+}
+
+// Question 24: each offset that is written factored is a multiple of the word.
+fn rows_whole(word: u64, rows: &[u64], at: usize, n: usize) -> bool
+    requires { ⌜ (0 < word) × RowsReady (now rows) at n ⌝ }
+    ensures { λ r. ⌜ r ≡ all (λ x. rowWhole word (x .1)) (each (lineAt (now (rows .entry))) at n) ⌝ }
+{
+    let end = at + n;
+    let mut i = at;
+    while i < end {
+        if !row_whole(word, row_at(rows, i)) {
+            return false;
+        }
+        i += 1;
+    }
+    true
+}
+
+// The two places of pair i are different.
+fn pair_differs(pairs: &[u64], i: usize) -> bool
+    requires { ⌜ 4 * i + 4 ≤ length (now pairs) ⌝ }
+    ensures { λ r. ⌜ r ≡ not (eqb (pairAt (now (pairs .entry)) i .place1) (pairAt (now (pairs .entry)) i .place2)) ⌝ }
+{
+    pairs[4 * i] != pairs[4 * i + 1]
+}
+
+// Question 25: the two places of each pair are different.
+fn pairs_differ(pairs: &[u64], at: usize, n: usize) -> bool
+    requires { ⌜ at + n ≤ count pairStride (now pairs) ⌝ }
+    ensures { λ r. ⌜ r ≡ all (λ p. not (eqb (p .place1) (p .place2))) (each (pairAt (now (pairs .entry))) at n) ⌝ }
+{
+    let end = at + n;
+    let mut i = at;
+    while i < end {
+        if !pair_differs(pairs, i) {
+            return false;
+        }
+        i += 1;
+    }
+    true
 }
