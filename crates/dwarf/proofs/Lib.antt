@@ -3,3 +3,4 @@ pub mod Fronts
 pub mod Widths
 pub mod Bodies
 pub mod Rows
+pub mod Encodings

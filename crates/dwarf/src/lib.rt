@@ -2,15 +2,18 @@
 ghost use mathlib.Core.Path.{_≡_};
 ghost use Prim.Native.Nat.{_+_, _*_, _^_, _≤_, _<_};
 ghost use mathlib.Core.Bool.{not};
+ghost use mathlib.Core.List.{[]};
 ghost use lib.Dec.{T, ltb, eqb};
 ghost use lib.ListN.{length};
 ghost use Rattle.format.specs.Test.{all, each};
 ghost use Rattle.format.specs.Machine.{isWord};
 ghost use Rattle.format.specs.Rows.{rowWhole};
 ghost use Rattle.format.specs.Lists.{field, rowStride, pairStride, count, lineAt, pairAt};
-ghost use Rattle.format.specs.Questions.{sizeBytes, stepsOk};
-ghost use Rattle.leading.specs.Functions.{RowsReady};
+ghost use Rattle.format.specs.Questions.{sizeBytes, encodingsOk, stepsOk};
+ghost use Rattle.leading.specs.Functions.{bodyOf, RowsReady};
 use format::Section;
+use headers::pointer_size;
+use lists::Extent;
 use rows::offset_at;
 use rows::row_at;
 use rows::row_whole;
@@ -41,6 +44,26 @@ fn size_ok(s: Section, word: u64, size: u64) -> bool
         Section::MachO => size < 4294967296,
         Section::Debug => word_holds(word, size),
     }
+}
+
+// Question 22: the encodings that are used are written.
+fn encodings_ok(word: u64, e: Extent) -> bool
+    requires { ⌜ 0 < word ⌝ }
+    ensures { λ r. ⌜ r ≡ encodingsOk word (bodyOf e [] .landings) (bodyOf e [] .named) ⌝ }
+{
+    if e.landings != 0 {
+        return true;
+    }
+    if !e.personality {
+        return true;
+    }
+    if pointer_size(true, word, e.encoding) == 0 {
+        return false;
+    }
+    if !e.lsda {
+        return true;
+    }
+    pointer_size(false, word, e.lsda_encoding) != 0
 }
 
 // Question 23: no row goes back, nor steps above 2^32 - 1.
