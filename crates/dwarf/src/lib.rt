@@ -9,8 +9,12 @@ ghost use Rattle.format.specs.Test.{all, each};
 ghost use Rattle.format.specs.Machine.{isWord};
 ghost use Rattle.format.specs.Rows.{rowWhole};
 ghost use Rattle.format.specs.Lists.{field, rowStride, pairStride, count, lineAt, pairAt};
-ghost use Rattle.format.specs.Questions.{sizeBytes, encodingsOk, stepsOk};
-ghost use Rattle.leading.specs.Functions.{bodyOf, RowsReady};
+ghost use Rattle.format.specs.Questions.{sizeBytes, encodingsOk, stepsOk, pairsOk, dwarfAsks};
+ghost use Rattle.format.specs.Answers.{questionOf};
+ghost use Rattle.lists.specs.Extents.{meant};
+ghost use Rattle.leading.specs.Functions.{bodyOf, RowsReady, PairsReady};
+ghost use Rattle.dwarf.specs.Asks.{Askable};
+use format::Question;
 use format::Section;
 use headers::pointer_size;
 use lists::Extent;
@@ -126,4 +130,38 @@ fn pairs_differ(pairs: &[u64], at: usize, n: usize) -> bool
         i += 1;
     }
     true
+}
+
+// Question 25 of a function, where it has relaxing labels.
+fn pairs_ok(e: Extent, pairs: &[u64]) -> bool
+    requires { ⌜ (T (e .relaxed) → PairsReady e (now pairs)) ⌝ }
+    ensures { λ r. ⌜ r ≡ pairsOk (meant e [] [] (now (pairs .entry)) .relaxed) ⌝ }
+{
+    if !e.relaxed {
+        return true;
+    }
+    pairs_differ(pairs, e.pairs_at, e.pairs)
+}
+
+// Questions 21 to 25 of function k, as the section takes it.
+fn dwarf_asks(s: Section, word: u64, k: usize, e: Extent, rows: &[u64], pairs: &[u64]) -> Question
+    requires { ⌜ T (isWord word) × Askable e (now rows) (now pairs) ⌝ }
+    ensures { λ r. ⌜ r ≡ questionOf (dwarfAsks s word k (meant e (now (rows .entry)) [] (now (pairs .entry)))) ⌝ }
+{
+    if !size_ok(s, word, e.length) {
+        return Question::No(21, k as u64);
+    }
+    if !encodings_ok(word, e) {
+        return Question::No(22, k as u64);
+    }
+    if !steps_ok(rows, e.rows_at, e.rows) {
+        return Question::No(23, k as u64);
+    }
+    if !rows_whole(word, rows, e.rows_at, e.rows) {
+        return Question::No(24, k as u64);
+    }
+    if !pairs_ok(e, pairs) {
+        return Question::No(25, k as u64);
+    }
+    Question::Yes
 }
