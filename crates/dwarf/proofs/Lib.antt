@@ -4,3 +4,4 @@ pub mod Widths
 pub mod Bodies
 pub mod Rows
 pub mod Encodings
+pub mod Asking

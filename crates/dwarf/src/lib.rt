@@ -8,16 +8,18 @@ ghost use lib.ListN.{length};
 ghost use Rattle.format.specs.Test.{all, each};
 ghost use Rattle.format.specs.Machine.{isWord};
 ghost use Rattle.format.specs.Rows.{rowWhole};
-ghost use Rattle.format.specs.Lists.{field, rowStride, pairStride, count, lineAt, pairAt};
-ghost use Rattle.format.specs.Questions.{sizeBytes, encodingsOk, stepsOk, pairsOk, dwarfAsks};
+ghost use Rattle.format.specs.Lists.{field, rowStride, pairStride, functionStride, count, lineAt, pairAt};
+ghost use Rattle.format.specs.Questions.{sizeBytes, encodingsOk, stepsOk, pairsOk, dwarfAsks, perFunction};
 ghost use Rattle.format.specs.Answers.{questionOf};
 ghost use Rattle.lists.specs.Extents.{meant};
 ghost use Rattle.leading.specs.Functions.{bodyOf, RowsReady, PairsReady};
-ghost use Rattle.dwarf.specs.Asks.{Askable};
+ghost use Rattle.dwarf.specs.Asks.{Askable, AllAskable, askedIn};
 use format::Question;
 use format::Section;
 use headers::pointer_size;
+use leading::taken;
 use lists::Extent;
+use lists::extent_at;
 use rows::offset_at;
 use rows::row_at;
 use rows::row_whole;
@@ -162,6 +164,24 @@ fn dwarf_asks(s: Section, word: u64, k: usize, e: Extent, rows: &[u64], pairs: &
     }
     if !pairs_ok(e, pairs) {
         return Question::No(25, k as u64);
+    }
+    Question::Yes
+}
+
+// Questions 21 to 25, function by function.
+fn all_asks(s: Section, word: u64, fs: &[u64], rows: &[u64], pairs: &[u64]) -> Question
+    requires { ⌜ T (isWord word) × AllAskable s (now fs) (now rows) (now pairs) ⌝ }
+    ensures { λ r. ⌜ r ≡ questionOf (perFunction (dwarfAsks s word) 0 (each (askedIn s (now (fs .entry)) (now (rows .entry)) (now (pairs .entry))) 0 (count functionStride (now (fs .entry))))) ⌝ }
+{
+    let n = fs.len() / 18;
+    let mut k = 0;
+    while k < n {
+        let e = taken(s, extent_at(fs, k));
+        let q = dwarf_asks(s, word, k, e, rows, pairs);
+        let Question::Yes = q else {
+            return q;
+        };
+        k += 1;
     }
     Question::Yes
 }
