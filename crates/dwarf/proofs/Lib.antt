@@ -5,3 +5,4 @@ pub mod Bodies
 pub mod Rows
 pub mod Encodings
 pub mod Asking
+pub mod Passed
