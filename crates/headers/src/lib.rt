@@ -1,13 +1,17 @@
 // Headers (CIE): their bytes, sizes and relocations. Ported from rucc-asm/src/unwind.rs (header, personal_header, named_header, pointer, pointer_size, starts, pad) of tamnd/rucc, changed: see NOTICE.
 ghost use mathlib.Core.Path.{_≡_};
-ghost use mathlib.Core.List.{[], _∷_};
+ghost use mathlib.Core.Bool.{true};
+ghost use mathlib.Core.List.{[], _∷_, _++_};
 ghost use Prim.Native.Nat.{_+_, _≤_, _<_};
 ghost use lib.ListN.{length};
 ghost use Rattle.format.specs.Put.{Wrote};
 ghost use Rattle.format.specs.Lists.{numbersOf};
-ghost use Rattle.format.specs.Headers.{padding, sizeOf, sizeOr0, pointerSize, pointerBytes, pointerReloc};
+ghost use Rattle.format.specs.Headers.{padding, sizeOf, sizeOr0, pointerSize, pointerBytes, pointerReloc, plain, personal, named, lsdaLetter, headerId, dataFactor, headerFields};
 ghost use Rattle.format.proofs.SectionSize.{Aligned};
 ghost use Rattle.headers.specs.Entries.{Closed};
+ghost use Rattle.headers.specs.Kinds.{lsdaOf, kindIn, headIn, NamedFits, ending, middle, flag, namedLetters, namedData, tailOf};
+use format::Machine;
+use lists::Extent;
 
 // ---- the end of an entry
 
@@ -72,4 +76,114 @@ pub fn pointer(out: &mut [u64], i: usize, word: u64, place: u64, symbol: u64, e:
         return relocs::relocation(out, i, place, symbol, 0, 4, 0);
     }
     relocs::relocation(out, i, place, symbol, 1, pointer_bytes(word, e), 0)
+}
+
+// ---- the fields
+
+// The end of the augmentation string: S for a signal frame, and a 0.
+fn ending(out: &mut [u8], at: usize, signal: bool) -> usize
+    requires { ⌜ at + length (ending signal) ≤ length (now out) ⌝ }
+    ensures { λ r. ⌜ Wrote (now (out .entry)) (now (out .exit)) at r (ending signal) ⌝ }
+{
+    if signal {
+        return leb::le(out, at, 2, 0x53);
+    }
+    leb::byte(out, at, 0)
+}
+
+// The data alignment factor, minus the word.
+fn data_factor(word: u64) -> i64
+    requires { ⌜ word ≤ 8 ⌝ }
+    ensures { λ r. ⌜ r ≡ dataFactor word ⌝ }
+{
+    0 - word as i64
+}
+
+// The string's end, the factors and the return address register.
+fn middle(out: &mut [u8], at: usize, word: u64, ret: u64, signal: bool) -> usize
+    requires { ⌜ (word ≤ 8) × (at + length (middle word ret signal) ≤ length (now out)) ⌝ }
+    ensures { λ r. ⌜ Wrote (now (out .entry)) (now (out .exit)) at r (middle word ret signal) ⌝ }
+{
+    let a = ending(out, at, signal);
+    let b = leb::uleb(out, a, 1);
+    let c = leb::sleb(out, b, data_factor(word));
+    leb::uleb(out, c, ret)
+}
+
+// z, R; the middle; one byte of data, the records' encoding.
+fn plain_header(out: &mut [u8], at: usize, word: u64, ret: u64, signal: bool) -> usize
+    requires { ⌜ (word ≤ 8) × (at + length (tailOf word ret signal plain) ≤ length (now out)) ⌝ }
+    ensures { λ r. ⌜ Wrote (now (out .entry)) (now (out .exit)) at r (tailOf word ret signal plain) ⌝ }
+{
+    let a = leb::le(out, at, 2, 0x527a);
+    let b = middle(out, a, word, ret, signal);
+    leb::le(out, b, 2, 0x1b01)
+}
+
+fn flag(b: bool) -> u64
+    ensures { λ r. ⌜ (r ≡ flag b) × (r ≤ 1) ⌝ }
+{
+    if b { 1 } else { 0 }
+}
+
+// z, P, L where there is an LSDA, R.
+fn named_letters(out: &mut [u8], at: usize, lsda: bool) -> usize
+    requires { ⌜ at + length (namedLetters lsda) ≤ length (now out) ⌝ }
+    ensures { λ r. ⌜ Wrote (now (out .entry)) (now (out .exit)) at r (namedLetters lsda) ⌝ }
+{
+    if lsda {
+        return leb::le(out, at, 4, 0x524c507a);
+    }
+    leb::le(out, at, 3, 0x52507a)
+}
+
+// The LSDA's encoding.
+fn lsda_letter(out: &mut [u8], at: usize, lsda: bool, l: u64) -> usize
+    requires { ⌜ (lsda ≡ true → l < 256) × (at + length (lsdaLetter (lsdaOf lsda l)) ≤ length (now out)) ⌝ }
+    ensures { λ r. ⌜ Wrote (now (out .entry)) (now (out .exit)) at r (lsdaLetter (lsdaOf lsda l)) ⌝ }
+{
+    if lsda {
+        return leb::byte(out, at, l as u8);
+    }
+    at
+}
+
+// The personality's encoding and blank pointer, the LSDA's encoding, the records' encoding.
+fn named_data(out: &mut [u8], at: usize, e: u64, size: usize, lsda: bool, l: u64) -> usize
+    requires { ⌜ (e < 256) × (lsda ≡ true → l < 256) × (at + length (namedData e size lsda l) ≤ length (now out)) ⌝ }
+    ensures { λ r. ⌜ Wrote (now (out .entry)) (now (out .exit)) at r (namedData e size lsda l) ⌝ }
+{
+    let a = leb::byte(out, at, e as u8);
+    let b = leb::fill(out, a, size);
+    let c = lsda_letter(out, b, lsda, l);
+    leb::byte(out, c, 0x1b)
+}
+
+// A personality by its encoding, and an LSDA by its.
+fn named_header(
+    out: &mut [u8],
+    at: usize,
+    word: u64,
+    ret: u64,
+    signal: bool,
+    e: u64,
+    lsda: bool,
+    l: u64,
+) -> usize
+    requires { ⌜ (word ≤ 8) × (e < 256) × (lsda ≡ true → l < 256) × (at + length (tailOf word ret signal (named e 0 (lsdaOf lsda l))) ≤ length (now out)) ⌝ }
+    ensures { λ r. ⌜ Wrote (now (out .entry)) (now (out .exit)) at r (tailOf word ret signal (named e 0 (lsdaOf lsda l))) ⌝ }
+{
+    let a = named_letters(out, at, lsda);
+    let b = middle(out, a, word, ret, signal);
+    let size = pointer_bytes(word, e);
+    let c = leb::uleb(out, b, 2 + size + flag(lsda));
+    named_data(out, c, e, size as usize, lsda, l)
+}
+
+// The personality of functions with landings: indirect, relative, 4 bytes, and so is the LSDA.
+fn personal_header(out: &mut [u8], at: usize, word: u64, ret: u64, signal: bool) -> usize
+    requires { ⌜ (word ≤ 8) × (at + length (tailOf word ret signal personal) ≤ length (now out)) ⌝ }
+    ensures { λ r. ⌜ Wrote (now (out .entry)) (now (out .exit)) at r (tailOf word ret signal personal) ⌝ }
+{
+    named_header(out, at, word, ret, signal, 0x9b, true, 0x1b)
 }

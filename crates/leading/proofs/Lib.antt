@@ -1,2 +1,5 @@
 -- The lemmas of this crate's functions.
+pub mod Calls
+pub mod Counting
 pub mod Functions
+pub mod Places

@@ -1,0 +1,45 @@
+-- `records::line_size` meets its contract.
+use native.Mathlib.Omega.{arith}
+use Rattle.format.specs.Lists.{lineAt}
+use Rattle.records.proofs.RowLoops.{offset-of, line-length, line-short}
+use borrow.Author.Needs.{needs}
+use Rattle.records.proofs.line_size.Statement.{statement}
+use Rattle.records.proofs.line_size.Tie as tie
+
+offset-at-requires : tie.Need-offset-at-requires
+offset-at-requires c κs = c .before .pre .inside
+
+sub-advance-size : tie.Need-sub-advance-size
+sub-advance-size c = omega (arith, c .offset-at .ensures, offset-of (c .before .before .args .rows .now) (c .before .before .args .i), c .before .before .pre .forward)
+
+advance-size-requires : tie.Need-advance-size-requires
+advance-size-requires c κs = search needs
+
+row-at-requires : tie.Need-row-at-requires
+row-at-requires c κs = (c .before .before .before .pre .inside, c .before .before .before .pre .ok)
+
+row-size-requires : tie.Need-row-size-requires
+row-size-requires c κs = (c .before .before .before .before .pre .word-low, c .before .before .before .before .pre .word-high)
+
+returns : tie.Need-returns
+returns c = 
+    let e = line-length (c .before .before .before .before .before .args .word) (c .before .before .before .before .before .args .from) (lineAt (c .before .before .before .before .before .args .rows .now) (c .before .before .before .before .before .args .i)) in
+    let a = rw (c .before .before .before .offset-at .ensures, ← offset-of (c .before .before .before .before .before .args .rows .now) (c .before .before .before .before .before .args .i)) at (c .before .before .advance-size .ensures) in
+    let b = rw (c .before .row-at .ensures) at (c .row-size .ensures) in
+    let l = line-short (c .before .before .before .before .before .pre) in
+    (omega arith, omega arith)
+
+add-result : tie.Need-add-result
+add-result c = omega (arith, returns c .1)
+
+pub line-size-spec : {M : Type 1} → statement M
+line-size-spec =
+    tie.close
+    (tie.spec
+    offset-at-requires
+    sub-advance-size
+    advance-size-requires
+    row-at-requires
+    row-size-requires
+    add-result
+    returns)

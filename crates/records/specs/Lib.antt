@@ -1,0 +1,3 @@
+-- What the functions of this crate write and answer, where the definitions have no name for it.
+pub mod Sites
+pub mod Lines

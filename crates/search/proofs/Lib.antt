@@ -1,0 +1,2 @@
+-- The lemmas of this crate's functions, and the laws that callers of the search need.
+pub mod KindLaws

@@ -1,0 +1,2 @@
+-- What the header search says.
+pub mod Owners
