@@ -11,10 +11,13 @@ use lib.ListN.{length, length-append, length-map}
 use Rattle.format.specs.Test.{each}
 use Rattle.format.specs.declared.Machine.{Machine}
 use Rattle.format.specs.declared.Section.{Section}
-use Rattle.format.specs.Lists.{Function, functionsOf, numbersOf, Relocation}
+use Rattle.format.specs.Lists.{Function, functionAt, functionsOf}
 use Rattle.format.specs.Headers.{Key, keyOf}
 use Rattle.format.specs.Writer.{Part, Seen, taken, partOf, isEmpty, partsFrom, partsOf, joined, dwarf, Written}
-use Rattle.dwarf.specs.Parts.{Inputs, countIn, functionIn, placesIn, bytesIn, relocsIn, sitesIn, seenFrom, partBehind, partsTo, writtenIn}
+use Rattle.lists.specs.Extents.{extentAt}
+use Rattle.lists.proofs.Extents.{means}
+use Rattle.leading.proofs.Functions.{taken-means}
+use Rattle.dwarf.specs.Parts.{Inputs, countIn, functionIn, placesIn, bytesIn, relocsIn, sitesIn, seenFrom, earlierIn, partBehind, partsTo, writtenIn}
 
 -- ---- lists one behind the other
 
@@ -74,7 +77,7 @@ part-next : (x : Inputs) (k d : ℕ) → k + suc d ≡ countIn x
     → partOf (x .section) (x .machine) (isEmpty (each (functionIn x) (suc k) d)) (length (bytesIn (partsTo x k))) (length (sitesIn (partsTo x k)))
     (seenFrom (λ j. keyOf (x .machine) (functionIn x j)) 0 (placesIn (partsTo x k))) (functionIn x k)
     ≡ partBehind x k (partsTo x k)
-unfolding partBehind
+unfolding partBehind earlierIn partOf
 part-next x k d e = rw (last-or-not (functionIn x) k d, e)
 
 -- behind the first k parts stand those of the functions that are left
@@ -93,15 +96,25 @@ parts-left x k (suc d) e =
 
 -- ---- all of them
 
+each-same : {A : Type 0} (f g : ℕ → A) (at n : ℕ) → ((i : ℕ) → f i ≡ g i) → each f at n ≡ each g at n
+unfolding each
+each-same f g at zero h = refl
+each-same f g at (suc n) h = rw (h at, each-same f g (suc at) n h)
+
 map-each : {A B : Type 0} (g : A → B) (f : ℕ → A) (at n : ℕ) → map g (each f at n) ≡ each (λ i. g (f i)) at n
 unfolding each
 map-each g f at zero = refl
 map-each g f at (suc n) = ap (λ l. g (f at) ∷ l) (map-each g f (suc at) n)
 
 module _ (x : Inputs) where
+  means-taken : (k : ℕ) → taken (x .section) (functionAt (x .functions) (x .rows) (x .landings) (x .pairs) k) ≡ functionIn x k
+  means-taken k =
+      ap (taken (x .section)) (sym (means (x .functions) (x .rows) (x .landings) (x .pairs) k))
+      ∙ sym (taken-means (x .section) (extentAt (x .functions) k) (x .rows) (x .landings) (x .pairs))
+
   pub functions-each : map (taken (x .section)) (functionsOf (x .functions) (x .rows) (x .landings) (x .pairs)) ≡ each (functionIn x) 0 (countIn x)
   unfolding functionsOf
-  functions-each = map-each (taken (x .section)) _ 0 (countIn x)
+  functions-each = map-each (taken (x .section)) _ 0 (countIn x) ∙ each-same _ (functionIn x) 0 (countIn x) means-taken
 
   pub all-parts : partsOf (x .section) (x .machine) (functionsOf (x .functions) (x .rows) (x .landings) (x .pairs)) ≡ partsTo x (countIn x)
   unfolding partsOf partsTo placesIn bytesIn sitesIn joined seenFrom

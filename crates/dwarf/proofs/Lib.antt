@@ -6,3 +6,6 @@ pub mod Rows
 pub mod Encodings
 pub mod Asking
 pub mod Passed
+pub mod Owners
+pub mod Pieces
+pub mod Sizes

@@ -1,3 +1,4 @@
 -- What the passes over a list of functions go by.
 pub mod Asks
 pub mod Parts
+pub mod Pieces

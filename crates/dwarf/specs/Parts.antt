@@ -1,15 +1,16 @@
 -- The parts of a section from the front: those of the functions behind a pass decide the next one.
 use Prim.Native.Nat.{ℕ, zero, suc}
+use mathlib.Core.Option.{Option}
 use mathlib.Core.List.{List, [], _∷_, _++_, map}
 use lib.ListN.{length}
 use lib.Dec.{eqb}
 use Rattle.format.specs.declared.Machine.{Machine}
 use Rattle.format.specs.declared.Section.{Section}
-use Rattle.format.specs.Lists.{Function, Relocation, count, functionStride, functionAt}
+use Rattle.format.specs.Lists.{Function, Relocation, count, functionStride}
 use Rattle.format.specs.Headers.{Key, keyOf}
-use Rattle.format.specs.Writer.{Part, Seen, Written, taken, partOf, joined}
+use Rattle.format.specs.Writer.{Part, Seen, Written, placeIn, partWith, alignFor, joined}
 use Rattle.lists.specs.declared.Extent.{Extent}
-use Rattle.lists.specs.Extents.{extentAt}
+use Rattle.lists.specs.Extents.{extentAt, meant}
 use Rattle.leading.specs.Functions.{takenIn}
 
 -- what a pass goes over
@@ -24,12 +25,12 @@ pub record Inputs : Type 0 where
 abbrev pub countIn : Inputs → ℕ
 countIn x = count functionStride (x .functions)
 
--- function k as the section takes it, and its record
-abbrev pub functionIn : Inputs → ℕ → Function
-functionIn x k = taken (x .section) (functionAt (x .functions) (x .rows) (x .landings) (x .pairs) k)
-
+-- the record of function k as the section takes it, and the function that it means
 abbrev pub extentIn : Inputs → ℕ → Extent
 extentIn x k = takenIn (x .section) (extentAt (x .functions) k)
+
+abbrev pub functionIn : Inputs → ℕ → Function
+functionIn x k = meant (extentIn x k) (x .rows) (x .landings) (x .pairs)
 
 -- ---- what parts add up to
 
@@ -55,11 +56,15 @@ unfoldable pub seenFrom : (ℕ → Key) → ℕ → List ℕ → List Seen
 seenFrom key j [] = []
 seenFrom key j (p ∷ ps) = record { key = key j; place = p } ∷ seenFrom key (suc j) ps
 
--- the part of function k behind the parts ps
+-- where an earlier function than k has its key, that one's header; the padding of function k; and its part behind the parts ps
+unfoldable pub earlierIn : Inputs → ℕ → List Part → Option ℕ
+earlierIn x k ps = placeIn (keyOf (x .machine) (functionIn x k)) (seenFrom (λ j. keyOf (x .machine) (functionIn x j)) 0 (placesIn ps))
+
+abbrev pub alignIn : Inputs → ℕ → ℕ
+alignIn x k = alignFor (x .section) (x .machine .word) (eqb (suc k) (countIn x))
+
 unfoldable pub partBehind : Inputs → ℕ → List Part → Part
-partBehind x k ps =
-    partOf (x .section) (x .machine) (eqb (suc k) (countIn x)) (length (bytesIn ps)) (length (sitesIn ps))
-    (seenFrom (λ j. keyOf (x .machine) (functionIn x j)) 0 (placesIn ps)) (functionIn x k)
+partBehind x k ps = partWith (earlierIn x k ps) (x .section) (x .machine) (alignIn x k) (length (bytesIn ps)) (length (sitesIn ps)) (functionIn x k)
 
 -- the parts of the first k functions
 unfoldable pub partsTo : Inputs → ℕ → List Part
