@@ -22,7 +22,7 @@ module _ (f g : ℕ → Landing) (at : ℕ) where
   kind-any zero o = refl
   kind-any (suc n) o = refl
 
-  pub encodings-any : (word n : ℕ) (o : Option Named) → encodingsOk word (each f at n) o ≡ encodingsOk word (each g at n) o
+  encodings-any : (word n : ℕ) (o : Option Named) → encodingsOk word (each f at n) o ≡ encodingsOk word (each g at n) o
   unfolding encodingsOk each
   encodings-any word zero o = refl
   encodings-any word (suc n) o = refl
@@ -49,7 +49,7 @@ module _ (e : Extent) (rows landings pairs : List ℕ) where
   unfolding keyOf meant leading
   key-body m = rw (kind-any (landingAt landings) (landingAt []) (e .«landings_at») (e .landings))
 
-  rows-body : meant e rows landings pairs .rows ≡ bodyOf e rows .rows
+  pub rows-body : meant e rows landings pairs .rows ≡ bodyOf e rows .rows
   unfolding meant
   rows-body = refl
 
@@ -57,6 +57,11 @@ module _ (e : Extent) (rows landings pairs : List ℕ) where
   unfolding recordFields meant
   fields-body true word distance = rw (size-any (e .length) (e .relaxed) (record { end = e .end; pairs = each (pairAt pairs) (e .«pairs_at») (e .pairs) }) (record { end = e .end; pairs = each (pairAt []) (e .«pairs_at») (e .pairs) }))
   fields-body false word distance = rw (size-any (e .length) (e .relaxed) (record { end = e .end; pairs = each (pairAt pairs) (e .«pairs_at») (e .pairs) }) (record { end = e .end; pairs = each (pairAt []) (e .«pairs_at») (e .pairs) }), blank-any (landingAt landings) (landingAt []) (e .«landings_at») word (e .landings))
+
+  pub encodings-body : (word : ℕ) → encodingsOk word (meant e rows landings pairs .landings) (meant e rows landings pairs .named)
+      ≡ encodingsOk word (bodyOf e rows .landings) (bodyOf e rows .named)
+  unfolding meant
+  encodings-body word = encodings-any (landingAt landings) (landingAt []) (e .«landings_at») word (e .landings) _
 
   pub record-body : (debug : Bool) (m : Machine) (align at cie : ℕ)
       → recordBytes debug m align at cie (meant e rows landings pairs) ≡ recordBytes debug m align at cie (bodyOf e rows)

@@ -1,6 +1,6 @@
 -- A section's parts from the front are the definition's parts.
 use mathlib.Core.Path.{_≡_, refl, sym, ap, _∙_}
-use Prim.Native.Nat.{ℕ, zero, suc, _+_, _≤_, _<_}
+use Prim.Native.Nat.{ℕ, zero, suc, _+_, _-_, _≤_}
 use native.Mathlib.Omega.{arith}
 use native.Mathlib.Nat.{add-zero, zero-add}
 use mathlib.Core.Bool.{Bool, true, false}
@@ -31,19 +31,19 @@ module _ {A : Type 0} (g : Part → List A) where
   unfolding joined
   joined-last ps p = joined-append ps (p ∷ []) ∙ rw append-nil
 
-pub bytes-last : (ps : List Part) (p : Part) → bytesIn (ps ++ (p ∷ [])) ≡ bytesIn ps ++ p .bytes
+bytes-last : (ps : List Part) (p : Part) → bytesIn (ps ++ (p ∷ [])) ≡ bytesIn ps ++ p .bytes
 unfolding bytesIn
 bytes-last ps p = joined-last (λ q. q .bytes) ps p
 
-pub relocs-last : (ps : List Part) (p : Part) → relocsIn (ps ++ (p ∷ [])) ≡ relocsIn ps ++ p .relocations
+relocs-last : (ps : List Part) (p : Part) → relocsIn (ps ++ (p ∷ [])) ≡ relocsIn ps ++ p .relocations
 unfolding relocsIn
 relocs-last ps p = joined-last (λ q. q .relocations) ps p
 
-pub sites-last : (ps : List Part) (p : Part) → sitesIn (ps ++ (p ∷ [])) ≡ sitesIn ps ++ p .sites
+sites-last : (ps : List Part) (p : Part) → sitesIn (ps ++ (p ∷ [])) ≡ sitesIn ps ++ p .sites
 unfolding sitesIn
 sites-last ps p = joined-last (λ q. q .sites) ps p
 
-pub places-last : (ps : List Part) (p : Part) → placesIn (ps ++ (p ∷ [])) ≡ placesIn ps ++ (p .place ∷ [])
+places-last : (ps : List Part) (p : Part) → placesIn (ps ++ (p ∷ [])) ≡ placesIn ps ++ (p .place ∷ [])
 unfolding placesIn
 places-last [] p = refl
 places-last (q ∷ ps) p = ap (λ (l : List ℕ). q .place ∷ l) (places-last ps p)
@@ -94,6 +94,45 @@ parts-left x k (suc d) e =
     rw (part-next x k d e)
     (rw (bytes-last, sites-last, places-last, length-append, length-append, seen-last, here, on, append-assoc) at (parts-left x (suc k) d (omega arith)))
 
+-- what the first parts add up to, part by part
+pub bytes-next : (x : Inputs) (k : ℕ) → bytesIn (partsTo x (suc k)) ≡ bytesIn (partsTo x k) ++ partBehind x k (partsTo x k) .bytes
+unfolding partsTo
+bytes-next x k = bytes-last (partsTo x k) _
+
+pub relocs-next : (x : Inputs) (k : ℕ) → relocsIn (partsTo x (suc k)) ≡ relocsIn (partsTo x k) ++ partBehind x k (partsTo x k) .relocations
+unfolding partsTo
+relocs-next x k = relocs-last (partsTo x k) _
+
+pub sites-next : (x : Inputs) (k : ℕ) → sitesIn (partsTo x (suc k)) ≡ sitesIn (partsTo x k) ++ partBehind x k (partsTo x k) .sites
+unfolding partsTo
+sites-next x k = sites-last (partsTo x k) _
+
+pub places-next : (x : Inputs) (k : ℕ) → placesIn (partsTo x (suc k)) ≡ placesIn (partsTo x k) ++ (partBehind x k (partsTo x k) .place ∷ [])
+unfolding partsTo
+places-next x k = places-last (partsTo x k) _
+
+-- a number that grows with each part
+grows : (f : ℕ → ℕ) → ((k : ℕ) → f k ≤ f (suc k)) → (k d : ℕ) → f k ≤ f (k + d)
+grows f h k zero = let e : f k ≡ f (k + 0) = ap f (omega arith) in omega arith
+grows f h k (suc d) =
+    let e : f (k + suc d) ≡ f (suc (k + d)) = ap f (omega arith) in
+    omega (arith, h (k + d), grows f h k d)
+
+grown : (f : ℕ → ℕ) → ((k : ℕ) → f k ≤ f (suc k)) → (k n : ℕ) → k ≤ n → f k ≤ f n
+grown f h k n l =
+    let e : k + (n - k) ≡ n = omega arith in
+    rw e at (grows f h k (n - k))
+
+module _ (x : Inputs) (k n : ℕ) (l : k ≤ n) where
+  pub bytes-grow : length (bytesIn (partsTo x k)) ≤ length (bytesIn (partsTo x n))
+  bytes-grow = grown (λ i. length (bytesIn (partsTo x i))) (λ i. rw (bytes-next x i, length-append) (omega arith)) k n l
+
+  pub relocs-grow : length (relocsIn (partsTo x k)) ≤ length (relocsIn (partsTo x n))
+  relocs-grow = grown (λ i. length (relocsIn (partsTo x i))) (λ i. rw (relocs-next x i, length-append) (omega arith)) k n l
+
+  pub sites-grow : length (sitesIn (partsTo x k)) ≤ length (sitesIn (partsTo x n))
+  sites-grow = grown (λ i. length (sitesIn (partsTo x i))) (λ i. rw (sites-next x i, length-append) (omega arith)) k n l
+
 -- ---- all of them
 
 each-same : {A : Type 0} (f g : ℕ → A) (at n : ℕ) → ((i : ℕ) → f i ≡ g i) → each f at n ≡ each g at n
@@ -107,7 +146,7 @@ map-each g f at zero = refl
 map-each g f at (suc n) = ap (λ l. g (f at) ∷ l) (map-each g f (suc at) n)
 
 module _ (x : Inputs) where
-  means-taken : (k : ℕ) → taken (x .section) (functionAt (x .functions) (x .rows) (x .landings) (x .pairs) k) ≡ functionIn x k
+  pub means-taken : (k : ℕ) → taken (x .section) (functionAt (x .functions) (x .rows) (x .landings) (x .pairs) k) ≡ functionIn x k
   means-taken k =
       ap (taken (x .section)) (sym (means (x .functions) (x .rows) (x .landings) (x .pairs) k))
       ∙ sym (taken-means (x .section) (extentAt (x .functions) k) (x .rows) (x .landings) (x .pairs))

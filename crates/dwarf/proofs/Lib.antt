@@ -9,3 +9,4 @@ pub mod Passed
 pub mod Owners
 pub mod Pieces
 pub mod Sizes
+pub mod Cleared

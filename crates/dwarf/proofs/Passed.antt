@@ -163,5 +163,8 @@ module _ (fs rows landings pairs : List ℕ) where
     pub all-askable : (s : Section) → AllAskable s fs rows pairs
     all-askable s = record { each-one = λ k h. askable t k h s }
 
+    pub landings-few-in : sumOf (λ k. field functionStride fs k 5) 0 (count functionStride fs) ≤ mostRecords
+    landings-few-in = all-listed t .landings-few
+
     pub listed : (n : ℕ) → n ≤ count functionStride fs → Listed fs rows n
     listed n h = record { within = omega arith; rows-ready = λ j l. ready t j (omega arith) }

@@ -2,3 +2,4 @@
 pub mod Asks
 pub mod Parts
 pub mod Pieces
+pub mod Sure

@@ -1,0 +1,20 @@
+-- What the questions have made sure of before the passes: of each function, and of the whole.
+use Prim.Native.Nat.{ℕ, suc, _^_, _<_}
+use lib.Dec.{T}
+use lib.ListN.{length}
+use Rattle.format.specs.Lists.{numbersOf}
+use Rattle.leading.specs.Functions.{Sound, LandingsReady, PairsReady, Listed}
+use Rattle.dwarf.specs.Parts.{Inputs, countIn, extentIn, bytesIn, relocsIn, sitesIn, partsTo}
+
+-- function k can be written, and what stands behind it is small
+pub record Sure (x : Inputs) (k : ℕ) : Type 0 where
+  pub sound : Sound (x .machine) (extentIn x k) (x .rows)
+  pub landings-ready : LandingsReady (extentIn x k) (x .landings)
+  pub pairs-ready : T (extentIn x k .relaxed) → PairsReady (extentIn x k) (x .pairs)
+  pub listed : Listed (x .functions) (x .rows) (suc k)
+  pub bytes-few : length (bytesIn (partsTo x (suc k))) < 2 ^ 25
+  pub relocs-few : length (numbersOf (relocsIn (partsTo x (suc k)))) < 2 ^ 25
+  pub sites-few : length (sitesIn (partsTo x (suc k))) < 2 ^ 26
+
+pub record Cleared (x : Inputs) : Type 0 where
+  pub each-one : (k : ℕ) → k < countIn x → Sure x k
