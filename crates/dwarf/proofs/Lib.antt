@@ -10,3 +10,4 @@ pub mod Owners
 pub mod Pieces
 pub mod Sizes
 pub mod Cleared
+pub mod Alignment

@@ -3,3 +3,4 @@ pub mod Asks
 pub mod Parts
 pub mod Pieces
 pub mod Sure
+pub mod Tables

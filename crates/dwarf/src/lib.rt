@@ -10,10 +10,12 @@ ghost use Rattle.format.specs.Machine.{isWord};
 ghost use Rattle.format.specs.Rows.{rowWhole};
 ghost use Rattle.format.specs.Lists.{field, rowStride, pairStride, functionStride, count, lineAt, pairAt};
 ghost use Rattle.format.specs.Questions.{sizeBytes, encodingsOk, stepsOk, pairsOk, dwarfAsks, perFunction};
+ghost use Rattle.format.specs.Writer.{isDebug, alignFor};
 ghost use Rattle.format.specs.Answers.{questionOf};
 ghost use Rattle.lists.specs.Extents.{meant};
 ghost use Rattle.leading.specs.Functions.{bodyOf, RowsReady, PairsReady};
 ghost use Rattle.dwarf.specs.Asks.{Askable, AllAskable, askedIn};
+ghost use Rattle.dwarf.specs.Tables.{roomFor};
 use format::Question;
 use format::Section;
 use headers::pointer_size;
@@ -182,6 +184,61 @@ fn all_asks(s: Section, word: u64, fs: &[u64], rows: &[u64], pairs: &[u64]) -> Q
             return q;
         };
         k += 1;
+    }
+    Question::Yes
+}
+
+// ---- the sizing pass
+
+// What stands in the lent lists of bytes, relocations and call sites by now, in their elements.
+pub struct Table {
+    pub bytes: usize,
+    pub relocations: usize,
+    pub sites: usize,
+}
+
+fn is_debug(s: Section) -> bool
+    ensures { λ r. ⌜ r ≡ isDebug s ⌝ }
+{
+    match s {
+        Section::Elf => false,
+        Section::MachO => false,
+        Section::Debug => true,
+    }
+}
+
+// What a function's entries are padded to.
+fn align_for(s: Section, word: u64, last: bool) -> usize
+    ensures { λ r. ⌜ r ≡ alignFor s word last ⌝ }
+{
+    if last {
+        return word as usize;
+    }
+    if word < 4 {
+        return word as usize;
+    }
+    match s {
+        Section::Elf => 4,
+        Section::MachO => word as usize,
+        Section::Debug => word as usize,
+    }
+}
+
+// Questions 51 to 54: the results of n functions fit the lent lists, whose lengths are `places` and those of `room`.
+fn room(n: usize, t: Table, places: usize, room: Table) -> Question
+    ensures { λ r. ⌜ r ≡ questionOf (roomFor n t places room) ⌝ }
+{
+    if places < n {
+        return Question::No(51, 0);
+    }
+    if room.bytes < t.bytes {
+        return Question::No(52, 0);
+    }
+    if room.relocations < t.relocations {
+        return Question::No(53, 0);
+    }
+    if room.sites < t.sites {
+        return Question::No(54, 0);
     }
     Question::Yes
 }
