@@ -20,7 +20,7 @@ use Rattle.format.proofs.Accepted.{Accepted, accepted-is, function-fits-at}
 use Rattle.format.proofs.Fits.{FunctionFits}
 use Rattle.format.proofs.Parts.{relocsOf}
 use Rattle.dwarf.proofs.Bodies.{rows-body, encodings-body}
-use Rattle.dwarf.proofs.Passed.{askable, rows-few-at, landings-taken, listed, landings-few-in}
+use Rattle.dwarf.proofs.Passed.{askable, encoding-taken, rows-few-at, landings-taken, listed, landings-few-in}
 use Rattle.leading.specs.Functions.{takenIn, without, Sound}
 use Rattle.lists.specs.declared.Extent.{Extent}
 use Rattle.lists.specs.Extents.{extentAt, meant}
@@ -126,6 +126,7 @@ module _ (s : Section) (g : Given) {w : Written} (a : Accepted s g w) where
     sure-at : Sure x k
     sure-at = record {
       sound = sound-at;
+      encoding-fits = encoding-taken (g .functions) (g .rows) (g .landings) (g .pairs) (a .lists) k h s;
       landings-ready = landings-taken (g .functions) (g .rows) (g .landings) (g .pairs) (a .lists) k h s;
       pairs-ready = askable (g .functions) (g .rows) (g .landings) (g .pairs) (a .lists) k h s .paired;
       listed = listed (g .functions) (g .rows) (g .landings) (g .pairs) (a .lists) (suc k) h;

@@ -6,7 +6,7 @@ use mathlib.Core.Bool.{Bool, true, false, not, _&&_, _||_}
 use mathlib.Core.List.{List, [], _∷_}
 use lib.Dec.{T, leb, eqb, leb→le}
 use lib.ListN.{length, getElem?}
-use mir.Facts.{or-yes, eqb-yes, eqb-no}
+use mir.Facts.{and-yes, or-yes, eqb-yes, eqb-no}
 use mathlib.Core.Logic.{⊎-elim}
 use Rattle.format.specs.Test.{pick, each}
 use Rattle.format.specs.Lists.{field, functionStride, rowStride, landingStride, pairStride, count, mark, inside, symbolOk, markOk, whenMarked, rowOkAt, pairOkAt, pointerOk, allIn, functionOkAt, sumOf, pairsIn, listsOk, mostFunctions, mostRecords}
@@ -17,6 +17,7 @@ use Rattle.format.proofs.ListLaws.{chained, in-range}
 use Rattle.lists.specs.declared.Extent.{Extent}
 use Rattle.lists.specs.Extents.{extentAt}
 use Rattle.leading.specs.Functions.{takenIn, without, RowsReady, LandingsReady, PairsReady, Listed}
+use Rattle.headers.specs.Kinds.{EncodingFits}
 use Rattle.dwarf.specs.Asks.{Askable, AllAskable}
 
 -- ---- sums and marks
@@ -55,6 +56,12 @@ taken-landings Elf e landings a = a
 taken-landings MachO e landings a = record { inside = omega (arith, a .inside); few = omega arith }
 taken-landings Debug e landings a = record { inside = omega (arith, a .inside); few = omega arith }
 
+taken-encoding : (s : Section) (e : Extent) → EncodingFits e → EncodingFits (takenIn s e)
+unfolding takenIn without
+taken-encoding Elf e h = h
+taken-encoding MachO e h = λ (p : false ≡ true). let z : _≡_ {A = ℕ} 0 1 = cc in absurd (omega arith)
+taken-encoding Debug e h = λ (p : false ≡ true). let z : _≡_ {A = ℕ} 0 1 = cc in absurd (omega arith)
+
 taken-range : (s : Section) (e : Extent) → (takenIn s e .«rows_at» ≡ e .«rows_at») × (takenIn s e .rows ≡ e .rows)
 unfolding takenIn without
 taken-range Elf e = (refl, refl)
@@ -69,22 +76,26 @@ module _ (fs rows landings pairs : List ℕ) where
     rows-inside : T (inside (field functionStride fs k 2) (field functionStride fs k 3) (count rowStride rows))
     rows-ok : T (allIn (rowOkAt rows) (field functionStride fs k 2) (field functionStride fs k 3))
     landings-inside : T (inside (field functionStride fs k 4) (field functionStride fs k 5) (count landingStride landings))
+    named : T (mark (field functionStride fs k 8)) → T (pointerOk (field functionStride fs k 9) (field functionStride fs k 10))
     relaxed : T (mark (field functionStride fs k 14)) → T (inside (field functionStride fs k 16) (field functionStride fs k 17) (count pairStride pairs))
 
   one-listed : (k : ℕ) → T (functionOkAt fs rows landings pairs k) → OneListed k
   unfolding functionOkAt
   one-listed k t =
       let f : ℕ → ℕ = λ j. field functionStride fs k j in
+      let named : Bool = pointerOk (f 9) (f 10) && markOk (f 11) && whenMarked (f 11) (pointerOk (f 12) (f 13)) in
       let labels : Bool = symbolOk (f 15) && inside (f 16) (f 17) (count pairStride pairs) && allIn (pairOkAt pairs) (f 16) (f 17) in
       let says = chained (symbolOk (f 0)) (
       inside (f 2) (f 3) (count rowStride rows) ∷ allIn (rowOkAt rows) (f 2) (f 3) ∷ inside (f 4) (f 5) (count landingStride landings)
       ∷ markOk (f 6) ∷ markOk (f 7) ∷ markOk (f 8)
-      ∷ whenMarked (f 8) (pointerOk (f 9) (f 10) && markOk (f 11) && whenMarked (f 11) (pointerOk (f 12) (f 13)))
-      ∷ markOk (f 14) ∷ whenMarked (f 14) labels ∷ []) in
+      ∷ whenMarked (f 8) named ∷ markOk (f 14) ∷ whenMarked (f 14) labels ∷ []) in
       record {
         rows-inside = says 1 t;
         rows-ok = says 2 t;
         landings-inside = says 3 t;
+        named =
+            λ m. chained (pointerOk (f 9) (f 10)) (markOk (f 11) ∷ whenMarked (f 11) (pointerOk (f 12) (f 13)) ∷ []) 0
+            (marked (f 8) named (says 7 t) m);
         relaxed =
             λ m. chained (symbolOk (f 15)) (inside (f 16) (f 17) (count pairStride pairs) ∷ allIn (pairOkAt pairs) (f 16) (f 17) ∷ []) 1
             (marked (f 14) labels (says 9 t) m);
@@ -144,6 +155,17 @@ module _ (fs rows landings pairs : List ℕ) where
           inside = within _ _ _ (one .relaxed m);
           few = omega (arith, in-total (pairsIn fs) (count functionStride fs) k h, all-listed t .pairs-few);
         }
+
+    byte : (encoding symbol : ℕ) → T (pointerOk encoding symbol) → encoding < 256
+    unfolding pointerOk
+    byte encoding symbol p = omega (arith, leb→le encoding 255 (and-yes (leb encoding 255) (symbolOk symbol) p .0))
+
+    encoding-at : EncodingFits (extentAt fs k)
+    unfolding extentAt
+    encoding-at e = byte (field functionStride fs k 9) (field functionStride fs k 10) (one .named (subst T (sym e) tt))
+
+    pub encoding-taken : (s : Section) → EncodingFits (takenIn s (extentAt fs k))
+    encoding-taken s = taken-encoding s (extentAt fs k) encoding-at
 
     askable-at : Askable (extentAt fs k) rows pairs
     unfolding extentAt

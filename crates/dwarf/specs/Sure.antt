@@ -4,11 +4,13 @@ use lib.Dec.{T}
 use lib.ListN.{length}
 use Rattle.format.specs.Lists.{numbersOf}
 use Rattle.leading.specs.Functions.{Sound, LandingsReady, PairsReady, Listed}
+use Rattle.headers.specs.Kinds.{EncodingFits}
 use Rattle.dwarf.specs.Parts.{Inputs, countIn, extentIn, bytesIn, relocsIn, sitesIn, partsTo}
 
 -- function k can be written, and what stands behind it is small
 pub record Sure (x : Inputs) (k : ℕ) : Type 0 where
   pub sound : Sound (x .machine) (extentIn x k) (x .rows)
+  pub encoding-fits : EncodingFits (extentIn x k)
   pub landings-ready : LandingsReady (extentIn x k) (x .landings)
   pub pairs-ready : T (extentIn x k .relaxed) → PairsReady (extentIn x k) (x .pairs)
   pub listed : Listed (x .functions) (x .rows) (suc k)
