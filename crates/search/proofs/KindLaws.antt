@@ -92,5 +92,5 @@ pub kind-means : (m : Machine) (e : Extent) (rows : List ℕ) → keyIn m e rows
 unfolding keyOf meant kindIn lsdaIn
 kind-means m e rows =
     by-landings (landingAt []) (e .«landings_at») (e .landings) _
-        ∙ ap (λ (k : Kind). pick (eqb (e .landings) 0) k personal)
-        (by-name (e .personality) (e .lsda) (record { encoding = e .encoding; symbol = e .routine }) (record { encoding = e .«lsda_encoding»; symbol = e .«lsda_symbol» }))
+    ∙ ap (λ (k : Kind). pick (eqb (e .landings) 0) k personal)
+    (by-name (e .personality) (e .lsda) (record { encoding = e .encoding; symbol = e .routine }) (record { encoding = e .«lsda_encoding»; symbol = e .«lsda_symbol» }))

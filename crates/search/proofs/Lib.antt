@@ -1,2 +1,4 @@
 -- The lemmas of this crate's functions, and the laws that callers of the search need.
 pub mod KindLaws
+pub mod Finding
+pub mod Comparing
