@@ -1,4 +1,7 @@
 -- The lemmas of this crate's functions.
 pub mod Entries
 pub mod Pointers
-pub mod Fields
+pub mod Tails
+pub mod Turns
+pub mod Words
+pub mod Lengths

@@ -2,12 +2,14 @@
 ghost use mathlib.Core.Path.{_≡_};
 ghost use mathlib.Core.Bool.{true};
 ghost use mathlib.Core.List.{[], _∷_, _++_};
-ghost use Prim.Native.Nat.{_+_, _≤_, _<_};
+ghost use Prim.Native.Nat.{_+_, _^_, _≤_, _<_};
 ghost use lib.ListN.{length};
 ghost use Rattle.format.specs.Put.{Wrote};
+ghost use Rattle.format.specs.Rows.{rowsBytes};
 ghost use Rattle.format.specs.Lists.{numbersOf};
-ghost use Rattle.format.specs.Headers.{padding, sizeOf, sizeOr0, pointerSize, pointerBytes, pointerReloc, plain, personal, named, lsdaLetter, headerId, dataFactor, headerFields};
+ghost use Rattle.format.specs.Headers.{leading, padding, sizeOf, sizeOr0, pointerSize, pointerBytes, pointerReloc, plain, personal, named, letters, lsdaLetter, augmentationData, headerId, dataFactor, headerFields};
 ghost use Rattle.format.proofs.SectionSize.{Aligned};
+ghost use Rattle.leading.specs.Functions.{bodyOf, Sound};
 ghost use Rattle.headers.specs.Entries.{Closed};
 ghost use Rattle.headers.specs.Kinds.{lsdaOf, kindIn, headIn, NamedFits, ending, middle, flag, namedLetters, namedData, tailOf};
 use format::Machine;
@@ -186,4 +188,127 @@ fn personal_header(out: &mut [u8], at: usize, word: u64, ret: u64, signal: bool)
     ensures { λ r. ⌜ Wrote (now (out .entry)) (now (out .exit)) at r (tailOf word ret signal personal) ⌝ }
 {
     named_header(out, at, word, ret, signal, 0x9b, true, 0x1b)
+}
+
+// What follows the version, by the function's record: landings beat a named personality.
+fn tail(out: &mut [u8], at: usize, m: Machine, e: Extent) -> usize
+    requires { ⌜ (m .word ≤ 8) × NamedFits e × (at + length (tailOf (m .word) (m .ret) (e .signal) (kindIn e)) ≤ length (now out)) ⌝ }
+    ensures { λ r. ⌜ Wrote (now (out .entry)) (now (out .exit)) at r (tailOf (m .word) (m .ret) (e .signal) (kindIn e)) ⌝ }
+{
+    if e.landings != 0 {
+        return personal_header(out, at, m.word, m.ret, e.signal);
+    }
+    if e.personality {
+        return named_header(
+            out,
+            at,
+            m.word,
+            m.ret,
+            e.signal,
+            e.encoding,
+            e.lsda,
+            e.lsda_encoding,
+        );
+    }
+    plain_header(out, at, m.word, m.ret, e.signal)
+}
+
+fn header_id(debug: bool) -> u64
+    ensures { λ r. ⌜ r ≡ headerId debug ⌝ }
+{
+    if debug { 0xffffffff } else { 0 }
+}
+
+// The fields in front of the rows. In debug_frame there is no augmentation but the signal mark.
+fn fields(out: &mut [u8], at: usize, debug: bool, m: Machine, e: Extent) -> usize
+    requires { ⌜ (m .word ≤ 8) × NamedFits e × (at + length (headerFields debug m (headIn e)) ≤ length (now out)) ⌝ }
+    ensures { λ r. ⌜ Wrote (now (out .entry)) (now (out .exit)) at r (headerFields debug m (headIn e)) ⌝ }
+{
+    let a = leb::le(out, at, 4, header_id(debug));
+    let b = leb::byte(out, a, 1);
+    if debug {
+        return middle(out, b, m.word, m.ret, e.signal);
+    }
+    tail(out, b, m, e)
+}
+
+// ---- the leading rows
+
+// The leading rows, one after the other.
+fn starts(out: &mut [u8], at: usize, m: Machine, e: Extent, rows: &[u64]) -> usize
+    requires { ⌜ Sound m e (now rows) × (at + length (rowsBytes (m .word) (leading m (bodyOf e (now rows)))) ≤ length (now out)) ⌝ }
+    ensures { λ r. ⌜ Wrote (now (out .entry)) (now (out .exit)) at r (rowsBytes (m .word) (leading m (bodyOf e (now (rows .entry))))) ⌝ }
+{
+    let n = leading::leading_count(m, e, rows);
+    let mut p = at;
+    let mut i = 0;
+    while i < n {
+        p = rows::row(out, p, m.word, leading::leading_at(m, e, rows, i));
+        i += 1;
+    }
+    p
+}
+
+// How many bytes they have.
+fn starts_size(m: Machine, e: Extent, rows: &[u64]) -> usize
+    requires { ⌜ Sound m e (now rows) ⌝ }
+    ensures { λ r. ⌜ r ≡ length (rowsBytes (m .word) (leading m (bodyOf e (now (rows .entry))))) ⌝ }
+{
+    let n = leading::leading_count(m, e, rows);
+    let mut size = 0;
+    let mut i = 0;
+    while i < n {
+        size += rows::row_size(m.word, leading::leading_at(m, e, rows, i));
+        i += 1;
+    }
+    size
+}
+
+// ---- sizes
+
+// How many bytes `middle` stores.
+fn middle_size(word: u64, ret: u64, signal: bool) -> usize
+    requires { ⌜ word ≤ 8 ⌝ }
+    ensures { λ r. ⌜ (r ≡ length (middle word ret signal)) × (r ≤ 23) ⌝ }
+{
+    2 + flag(signal) as usize + leb::sleb_size(data_factor(word)) + leb::uleb_size(ret)
+}
+
+// How many letters the augmentation string has.
+fn letters_size(e: Extent) -> usize
+    ensures { λ r. ⌜ (r ≡ length (letters (kindIn e))) × (r ≤ 4) ⌝ }
+{
+    if e.landings != 0 {
+        return 4;
+    }
+    if e.personality {
+        return 3 + flag(e.lsda) as usize;
+    }
+    2
+}
+
+// How many bytes the augmentation data has.
+fn data_size(word: u64, e: Extent) -> usize
+    requires { ⌜ word ≤ 8 ⌝ }
+    ensures { λ r. ⌜ (r ≡ length (augmentationData word (kindIn e))) × (r ≤ 11) ⌝ }
+{
+    if e.landings != 0 {
+        return 7;
+    }
+    if e.personality {
+        return 2 + pointer_bytes(word, e.encoding) as usize + flag(e.lsda) as usize;
+    }
+    1
+}
+
+// How many bytes `fields` stores; the data's length is one of them.
+fn fields_size(debug: bool, m: Machine, e: Extent) -> usize
+    requires { ⌜ m .word ≤ 8 ⌝ }
+    ensures { λ r. ⌜ (r ≡ length (headerFields debug m (headIn e))) × (r ≤ 44) ⌝ }
+{
+    let n = 5 + middle_size(m.word, m.ret, e.signal);
+    if debug {
+        return n;
+    }
+    n + letters_size(e) + 1 + data_size(m.word, e)
 }

@@ -1,6 +1,6 @@
 -- `data_factor` is minus the word.
 use borrow.Author.Needs.{needs}
-use Rattle.headers.proofs.Fields.{factor-fits, factor-is}
+use Rattle.headers.proofs.Tails.{factor-fits, factor-is}
 use Rattle.headers.proofs.data_factor.Statement.{statement}
 use Rattle.headers.proofs.data_factor.Tie as tie
 

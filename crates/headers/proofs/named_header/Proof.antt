@@ -3,7 +3,7 @@ use native.Mathlib.Omega.{arith}
 use lib.ListN.{length-append}
 use borrow.Author.Needs.{needs}
 use Rattle.format.proofs.PutLaws.{_then_}
-use Rattle.headers.proofs.Fields.{named-tail}
+use Rattle.headers.proofs.Tails.{named-tail}
 use Rattle.headers.proofs.named_header.Statement.{statement}
 use Rattle.headers.proofs.named_header.Tie as tie
 

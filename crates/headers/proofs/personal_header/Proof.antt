@@ -1,7 +1,7 @@
 -- `personal_header` is a named one with its own encodings.
 use native.Mathlib.Omega.{arith}
 use borrow.Author.Needs.{needs}
-use Rattle.headers.proofs.Fields.{personal-tail}
+use Rattle.headers.proofs.Tails.{personal-tail}
 use Rattle.headers.proofs.personal_header.Statement.{statement}
 use Rattle.headers.proofs.personal_header.Tie as tie
 

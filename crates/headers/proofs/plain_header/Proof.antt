@@ -4,7 +4,7 @@ use lib.ListN.{length-append}
 use borrow.Author.Needs.{needs}
 use Rattle.format.specs.Leb.{little}
 use Rattle.format.proofs.PutLaws.{_then_}
-use Rattle.headers.proofs.Fields.{plain-tail}
+use Rattle.headers.proofs.Tails.{plain-tail}
 use Rattle.headers.proofs.plain_header.Statement.{statement}
 use Rattle.headers.proofs.plain_header.Tie as tie
 

@@ -1,7 +1,8 @@
 -- The parts of a header's fields.
-use mathlib.Core.Path.{_≡_, refl, _∙_}
+use mathlib.Core.Path.{_≡_, refl, sym, _∙_}
+use mathlib.Core.Logic.{_≢_}
 use mathlib.Core.Bool.{Bool, true, false}
-use mathlib.Core.List.{List, [], _∷_, _++_}
+use mathlib.Core.List.{List, [], _∷_, _++_, append-assoc, append-nil}
 use Prim.Native.Nat.{ℕ, zero, suc, _+_, _^_, _≤_, _<_}
 use native.Mathlib.Omega.{arith}
 use lib.ListN.{length, length-append, length-replicate}
@@ -11,9 +12,13 @@ use mir.Syntax.{w64}
 use mir.Val.{SFits, ofZ, toZ}
 use mir.Facts.{toZ-ofZ, toZ-pos}
 use Rattle.format.specs.Test.{pick}
-use Rattle.format.specs.Leb.{ulebF, uleb}
-use Rattle.format.specs.Headers.{plain, personal, named, pcrelSdata4, indirectPcrelSdata4, personalitySymbol, sizeOf, sizeOr0, pointerBytes, letters, lsdaLetter, augmentationData, counted, dataFactor}
-use Rattle.headers.specs.Kinds.{lsdaOf, middle, flag, namedLetters, namedData, tailOf}
+use Rattle.format.specs.Leb.{little, ulebF, uleb}
+use Rattle.format.specs.declared.Machine.{Machine}
+use Rattle.format.specs.Headers.{plain, personal, named, Key, pcrelSdata4, indirectPcrelSdata4, personalitySymbol, sizeOf, sizeOr0, pointerBytes, letters, augmentation, lsdaLetter, augmentationData, counted, headerData, headerId, dataFactor, headerFields}
+use Rattle.format.proofs.Choice.{if-eq, if-ne}
+use Rattle.format.proofs.LebBack.{little-length}
+use Rattle.lists.specs.declared.Extent.{Extent}
+use Rattle.headers.specs.Kinds.{lsdaOf, kindIn, ending, middle, flag, namedLetters, namedData, tailOf}
 
 -- ---- the data alignment factor as the machine computes it
 
@@ -60,3 +65,44 @@ pub personal-tail : (word ret : ℕ) (signal : Bool)
     → tailOf word ret signal personal ≡ tailOf word ret signal (named indirectPcrelSdata4 personalitySymbol (lsdaOf true pcrelSdata4))
 unfolding tailOf letters augmentationData lsdaLetter lsdaOf pointerBytes sizeOf sizeOr0 pick
 personal-tail word ret signal = refl
+
+-- ---- by a function's record
+
+module _ (e : Extent) where
+  pub kind-personal : e .landings ≢ 0 → kindIn e ≡ personal
+  unfolding kindIn
+  kind-personal h = rw (if-ne (e .landings) 0)
+
+  module _ (h : e .landings ≡ 0) where
+    pub kind-named : e .personality ≡ true → kindIn e ≡ named (e .encoding) (e .routine) (lsdaOf (e .lsda) (e .«lsda_encoding»))
+    unfolding kindIn pick
+    kind-named t = rw (if-eq (e .landings) 0, t)
+
+    pub kind-plain : e .personality ≡ false → kindIn e ≡ plain
+    unfolding kindIn pick
+    kind-plain t = rw (if-eq (e .landings) 0, t)
+
+    -- the tail has no symbol
+    pub tail-named : (word ret : ℕ) (signal : Bool) → e .personality ≡ true
+        → tailOf word ret signal (kindIn e) ≡ tailOf word ret signal (named (e .encoding) 0 (lsdaOf (e .lsda) (e .«lsda_encoding»)))
+    tail-named word ret signal t =
+        rw (kind-named t)
+        (named-tail word ret (e .encoding) (e .routine) (e .«lsda_encoding») signal (e .lsda)
+        ∙ sym (named-tail word ret (e .encoding) 0 (e .«lsda_encoding») signal (e .lsda)))
+
+-- ---- the fields
+
+pub fields-debug : (m : Machine) (k : Key)
+    → headerFields true m k ≡ little 4 (headerId true) ++ ((1 ∷ []) ++ middle (m .word) (m .ret) (k .signal))
+unfolding headerFields augmentation headerData middle ending pick
+fields-debug m k = simp append-nil
+
+pub fields-eh : (m : Machine) (k : Key)
+    → headerFields false m k ≡ little 4 (headerId false) ++ ((1 ∷ []) ++ tailOf (m .word) (m .ret) (k .signal) (k .kind))
+unfolding headerFields augmentation headerData tailOf middle ending pick
+fields-eh m k = simp append-assoc
+
+-- an id and a version
+pub fields-long : (debug : Bool) (m : Machine) (k : Key) → 5 ≤ length (headerFields debug m k)
+unfolding headerFields
+fields-long debug m k = simp (length-append, little-length) (omega arith)
