@@ -2,3 +2,6 @@
 pub mod Chunks
 pub mod CallSites
 pub mod RowLoops
+pub mod OtherRows
+pub mod FieldLaws
+pub mod RecordLaws

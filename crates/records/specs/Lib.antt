@@ -1,3 +1,4 @@
 -- What the functions of this crate write and answer, where the definitions have no name for it.
 pub mod Sites
 pub mod Lines
+pub mod Fields

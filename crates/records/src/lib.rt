@@ -1,17 +1,23 @@
 // Call sites, and a record's bytes, size and relocations. Ported from rucc-asm/src/unwind.rs (call_sites, record, eh_record, debug_record, relaxed_advance, pair) of tamnd/rucc, changed: see NOTICE.
 ghost use mathlib.Core.Path.{_≡_};
+ghost use mathlib.Core.Bool.{true, false};
 ghost use mathlib.Core.List.{[], _∷_};
 ghost use Prim.Native.Nat.{_+_, _*_, _^_, _≤_, _<_};
-ghost use lib.ListN.{length};
+ghost use lib.ListN.{length, replicate};
 ghost use Rattle.format.specs.Put.{Wrote};
 ghost use Rattle.format.specs.Test.{each};
 ghost use Rattle.format.specs.Leb.{uleb};
+ghost use Rattle.format.specs.Headers.{counted};
 ghost use Rattle.format.specs.Lists.{landingStride, landingAt, lineAt, count, mostRecords};
 ghost use Rattle.format.specs.CallSites.{siteBytes, siteTable, siteAdded};
+ghost use Rattle.format.specs.Records.{recordBytes};
+ghost use Rattle.format.proofs.SectionSize.{Aligned};
 ghost use Rattle.lists.specs.Extents.{meant, meantLanding};
-ghost use Rattle.leading.specs.Functions.{LandingsReady};
+ghost use Rattle.leading.specs.Functions.{bodyOf, Sound, LandingsReady};
 ghost use Rattle.records.specs.Sites.{sitesIn};
 ghost use Rattle.records.specs.Lines.{lineBytes, linesIn, LineReady, LinesReady};
+ghost use Rattle.records.specs.Fields.{sizeIn, blankIn, fieldsIn};
+use format::Machine;
 use lists::Extent;
 use lists::Landing;
 
@@ -147,4 +153,117 @@ fn lines_size(word: u64, rows: &[u64], first: usize, n: usize) -> usize
         i += 1;
     }
     size
+}
+
+// ---- a record's fields
+
+// The length: a linker fills in that of a function with relaxing labels.
+fn size_field(e: Extent) -> u64
+    ensures { λ r. ⌜ r ≡ sizeIn e ⌝ }
+{
+    if e.relaxed {
+        return 0;
+    }
+    e.length
+}
+
+// The blank bytes of the pointer to the call sites. Landings beat a named personality.
+fn lsda_blank(word: u64, e: Extent) -> usize
+    requires { ⌜ word ≤ 8 ⌝ }
+    ensures { λ r. ⌜ (r ≡ blankIn word e) × (r ≤ 8) ⌝ }
+{
+    if e.landings != 0 {
+        return 4;
+    }
+    if !e.personality {
+        return 0;
+    }
+    if !e.lsda {
+        return 0;
+    }
+    headers::pointer_bytes(word, e.lsda_encoding) as usize
+}
+
+// n blank bytes behind their count.
+fn blanks(out: &mut [u8], at: usize, n: usize) -> usize
+    requires { ⌜ at + length (uleb n) + n ≤ length (now out) ⌝ }
+    ensures { λ r. ⌜ Wrote (now (out .entry)) (now (out .exit)) at r (counted (replicate n 0)) ⌝ }
+{
+    let a = leb::uleb(out, at, n as u64);
+    leb::fill(out, a, n)
+}
+
+// In eh_frame: the distance from this field back to the header, the function's place, its length, the pointer to the call sites.
+fn eh_record(out: &mut [u8], at: usize, word: u64, distance: u64, e: Extent) -> usize
+    requires { ⌜ (word ≤ 8) × (at + 12 + length (uleb (blankIn word e)) + blankIn word e ≤ length (now out)) ⌝ }
+    ensures { λ r. ⌜ Wrote (now (out .entry)) (now (out .exit)) at r (fieldsIn false word distance e) ⌝ }
+{
+    let a = leb::le(out, at, 4, distance);
+    let b = leb::fill(out, a, 4);
+    let c = leb::le(out, b, 4, size_field(e));
+    blanks(out, c, lsda_blank(word, e))
+}
+
+// In debug_frame: the header's place, the function's address and its length.
+fn debug_record(out: &mut [u8], at: usize, word: u64, e: Extent) -> usize
+    requires { ⌜ (word ≤ 8) × (at + 4 + 2 * word ≤ length (now out)) ⌝ }
+    ensures { λ r. ⌜ Wrote (now (out .entry)) (now (out .exit)) at r (fieldsIn true word 0 e) ⌝ }
+{
+    let a = leb::le(out, at, 4, 0);
+    let b = leb::fill(out, a, word as usize);
+    leb::le(out, b, word as usize, size_field(e))
+}
+
+fn fields(out: &mut [u8], at: usize, debug: bool, word: u64, distance: u64, e: Extent) -> usize
+    requires { ⌜ (word ≤ 8) × (at + length (fieldsIn debug word distance e) ≤ length (now out)) ⌝ }
+    ensures { λ r. ⌜ Wrote (now (out .entry)) (now (out .exit)) at r (fieldsIn debug word distance e) ⌝ }
+{
+    if debug {
+        return debug_record(out, at, word, e);
+    }
+    eh_record(out, at, word, distance, e)
+}
+
+fn fields_size(debug: bool, word: u64, e: Extent) -> usize
+    requires { ⌜ word ≤ 8 ⌝ }
+    ensures { λ r. ⌜ (r ≡ length (fieldsIn debug word 0 e)) × (r ≤ 30) ⌝ }
+{
+    if debug {
+        return 4 + 2 * word as usize;
+    }
+    let n = lsda_blank(word, e);
+    12 + leb::uleb_size(n as u64) + n
+}
+
+// ---- a record
+
+// How many bytes a record at `at` has.
+pub fn record_size(debug: bool, m: Machine, align: usize, at: usize, e: Extent, rows: &[u64]) -> usize
+    requires { ⌜ Sound m e (now rows) × Aligned align × (at < 2 ^ 32) ⌝ }
+    ensures { λ r. ⌜ r ≡ length (recordBytes debug m align at 0 (bodyOf e (now (rows .entry)))) ⌝ }
+{
+    let k = leading::ahead(rows, e.rows_at, e.rows);
+    let body = fields_size(debug, m.word, e) + lines_size(m.word, rows, e.rows_at + k, e.rows - k);
+    4 + body + headers::padding(align, at + 4 + body)
+}
+
+// A function's record, whose header is at `cie`: the fields, then the rows that do not lead with the steps between them.
+pub fn record(
+    out: &mut [u8],
+    at: usize,
+    debug: bool,
+    m: Machine,
+    align: usize,
+    cie: usize,
+    e: Extent,
+    rows: &[u64],
+) -> usize
+    requires { ⌜ Sound m e (now rows) × Aligned align × (cie ≤ at + 4) × (at + length (recordBytes debug m align at cie (bodyOf e (now rows))) ≤ length (now out)) ⌝ }
+    ensures { λ r. ⌜ Wrote (now (out .entry)) (now (out .exit)) at r (recordBytes debug m align at cie (bodyOf e (now (rows .entry)))) ⌝ }
+{
+    let k = leading::ahead(rows, e.rows_at, e.rows);
+    let a = leb::le(out, at, 4, 0);
+    let b = fields(out, a, debug, m.word, (at + 4 - cie) as u64, e);
+    let c = lines(out, b, m.word, rows, e.rows_at + k, e.rows - k);
+    headers::pad(out, at, c, align)
 }

@@ -1,0 +1,85 @@
+-- The rows that do not lead: the last of a function's rows, and ready to be written where the function is sound.
+use mathlib.Core.Path.{_≡_, refl, ap, _∙_}
+use Prim.Native.Nat.{ℕ, zero, suc, _+_, _-_, _≤_, _<_}
+use native.Mathlib.Omega.{arith}
+use mathlib.Core.Bool.{Bool, _&&_, _||_}
+use mathlib.Core.Logic.{⊎-elim}
+use mathlib.Core.List.{List, [], _∷_}
+use lib.ListN.{length}
+use lib.Dec.{T, eqb}
+use mir.Facts.{and-yes, or-yes, eqb-yes}
+use Rattle.format.specs.Test.{pick, each}
+use Rattle.format.specs.declared.Machine.{Machine}
+use Rattle.format.specs.Machine.{isWord}
+use Rattle.format.specs.Rows.{Line, linesBytes}
+use Rattle.format.specs.Lists.{lineAt, rowOkAt, allIn}
+use Rattle.format.specs.Headers.{leads, ahead, others}
+use Rattle.format.proofs.Choice.{pick-yes, pick-no, tested}
+use Rattle.format.proofs.FieldsBack.{word-small}
+use Rattle.format.proofs.Leading.{others-ok}
+use Rattle.lists.specs.declared.Extent.{Extent}
+use Rattle.lists.specs.Extents.{meant}
+use Rattle.lists.proofs.Ranges.{one-more}
+use Rattle.leading.specs.Functions.{bodyOf, RowsReady, Sound}
+use Rattle.records.specs.Lines.{linesIn, LinesReady}
+
+-- they start behind those that lead
+others-from : (f : ℕ → Line) (at n k : ℕ) → k ≡ length (ahead (each f at n)) → others (each f at n) ≡ each f (at + k) (n - k)
+unfolding each ahead others
+others-from f at zero k e = let z : k ≡ 0 = e in rw z
+others-from f at (suc n) k e =
+    tested (leads (f at))
+    (λ t.
+    let q = rw (pick-yes (leads (f at)) (f at .1 ∷ ahead (each f (suc at) n)) [] t) at e in
+    let j : suc at + (k - 1) ≡ at + k = omega arith in
+    let m : n - (k - 1) ≡ suc n - k = omega arith in
+    rw (pick-yes (leads (f at)) (others (each f (suc at) n)) (f at ∷ each f (suc at) n) t)
+    (others-from f (suc at) n (k - 1) (omega arith) ∙ ap (λ i. each f i (n - (k - 1))) j ∙ ap (each f (at + k)) m))
+    (λ t.
+    let z : k ≡ 0 = rw (pick-no (leads (f at)) (f at .1 ∷ ahead (each f (suc at) n)) [] t) at e in
+    let j : at ≡ at + k = omega arith in
+    let m : suc n ≡ suc n - k = omega arith in
+    rw (pick-no (leads (f at)) (others (each f (suc at) n)) (f at ∷ each f (suc at) n) t)
+    (ap (each f at) m ∙ ap (λ i. each f i (suc n - k)) j))
+
+-- a test that a range passes, at the last of it
+all-from : (test : ℕ → Bool) (at n k : ℕ) → k ≤ n → T (allIn test at n) → T (allIn test (at + k) (n - k))
+all-from test at n zero h t =
+    let j : at + 0 ≡ at = omega arith in
+    let m : n - 0 ≡ n = omega arith in
+    rw (j, m) t
+all-from test at zero (suc k) h t = absurd (omega arith)
+all-from test at (suc n) (suc k) h t =
+    let j : at + suc k ≡ suc at + k = omega arith in
+    let m : suc n - suc k ≡ n - k = omega arith in
+    rw (j, m) (all-from test (suc at) n k (omega arith) (and-yes (test at) (allIn test (suc at) n) (rw (one-more test at n) at t) .1))
+
+-- a word has two bytes at least
+word-least : (w : ℕ) → T (isWord w) → 2 ≤ w
+unfolding isWord
+word-least w t =
+    ⊎-elim
+    (λ h. ⊎-elim (λ a. let e : w ≡ 2 = eqb-yes a in omega arith) (λ a. let e : w ≡ 4 = eqb-yes a in omega arith) (or-yes (eqb w 2) (eqb w 4) h))
+    (λ a. let e : w ≡ 8 = eqb-yes a in omega arith)
+    (or-yes (eqb w 2 || eqb w 4) (eqb w 8) t)
+
+module _ (e : Extent) (rows : List ℕ) {k : ℕ} (q : (k ≡ length (ahead (each (lineAt rows) (e .«rows_at») (e .rows)))) × (k ≤ e .rows)) where
+  others-are : others (bodyOf e rows .rows) ≡ each (lineAt rows) (e .«rows_at» + k) (e .rows - k)
+  unfolding meant
+  others-are = others-from (lineAt rows) (e .«rows_at») (e .rows) k (q .0)
+
+  pub others-bytes : (w : ℕ) → linesBytes w 0 (others (bodyOf e rows .rows)) ≡ linesIn w 0 rows (e .«rows_at» + k) (e .rows - k)
+  unfolding linesIn
+  others-bytes w = rw others-are
+
+  pub others-ready : {m : Machine} → Sound m e rows → LinesReady (m .word) rows (e .«rows_at» + k) (e .rows - k)
+  others-ready {m} s = record {
+    word-low = word-least (m .word) (s .machine .is-word);
+    word-high = word-small (m .word) (s .machine .is-word) .1;
+    ready = record {
+      inside = omega (arith, q .1, s .ready .inside);
+      ok = all-from (rowOkAt rows) (e .«rows_at») (e .rows) k (q .1) (s .ready .ok);
+    };
+    few = omega (arith, s .few);
+    lines = rw others-are at (others-ok (m .word) (bodyOf e rows .rows) (s .lines));
+  }
