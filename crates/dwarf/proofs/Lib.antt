@@ -11,3 +11,5 @@ pub mod Pieces
 pub mod Sizes
 pub mod Cleared
 pub mod Alignment
+pub mod Totals
+pub mod Stores

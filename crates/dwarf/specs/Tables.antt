@@ -1,20 +1,25 @@
--- How much stands in the lent lists behind a pass, and whether there is room.
-use mathlib.Core.Path.{_≡_}
-use Prim.Native.Nat.{ℕ, _+_, _^_, _<_}
-use mathlib.Core.List.{List}
-use lib.ListN.{length}
-use lib.Dec.{leb}
+-- How much stands in the lent lists behind a pass, whether there is room, and what a function adds to them.
+use Prim.Native.Nat.{ℕ, suc, _+_, _^_, _≤_, _<_}
+use mathlib.Core.Bool.{true, false}
+use mathlib.Core.List.{List, [], _∷_}
+use lib.ListN.{length, getD}
+use lib.Dec.{leb, eqb}
+use Rattle.format.specs.Test.{pick}
+use Rattle.format.specs.Put.{Wrote}
 use Rattle.format.specs.Lists.{numbersOf}
 use Rattle.format.specs.Writer.{Part}
 use Rattle.format.specs.Questions.{Question, ask, andThen}
 use Rattle.dwarf.specs.declared.Table.{Table}
-use Rattle.dwarf.specs.Parts.{bytesIn, relocsIn, sitesIn}
+use Rattle.dwarf.specs.declared.Chosen.{Chosen}
+use Rattle.dwarf.specs.Parts.{Inputs, placesIn, bytesIn, relocsIn, sitesIn, partBehind, partsTo}
 
--- that of parts
+-- ---- sizes
+
+-- what stands behind parts
 unfoldable pub totalsIn : List Part → Table
 totalsIn ps = record { bytes = length (bytesIn ps); relocations = length (numbersOf (relocsIn ps)); sites = length (sitesIn ps) }
 
--- one part more
+-- and behind one more
 unfoldable pub grownBy : Table → Part → Table
 grownBy t p =
     record {
@@ -35,3 +40,29 @@ roomFor n t places room =
     andThen (ask (leb n places) 51 0)
     (andThen (ask (leb (t .bytes) (room .bytes)) 52 0)
     (andThen (ask (leb (t .relocations) (room .relocations)) 53 0) (ask (leb (t .sites) (room .sites)) 54 0)))
+
+-- ---- stores
+
+-- function k's header by its owner o: its own at `at`, or the one whose place stands in the list of places
+unfoldable pub chosenBy : (o k at : ℕ) → (places : List ℕ) → Chosen
+chosenBy o k at places = pick (eqb o k) (record { own = true; cie = at }) (record { own = false; cie = getD places o 0 })
+
+-- what a function stores of its part behind t: bytes, relocations and call sites
+pub record Stored (p : Part) (t u : Table) (bytes bytes′ relocs relocs′ sites sites′ : List ℕ) : Type 0 where
+  pub bytes-stored : Wrote bytes bytes′ (t .bytes) (u .bytes) (p .bytes)
+  pub relocs-stored : Wrote relocs relocs′ (t .relocations) (u .relocations) (numbersOf (p .relocations))
+  pub sites-stored : Wrote sites sites′ (t .sites) (u .sites) (p .sites)
+
+-- the first k functions have been written into lists that were empty, with t behind them
+pub record Written (x : Inputs) (k : ℕ) (t : Table) (places places′ bytes bytes′ relocs relocs′ sites sites′ : List ℕ) : Type 0 where
+  pub places-stored : Wrote places places′ 0 k (placesIn (partsTo x k))
+  pub bytes-stored : Wrote bytes bytes′ 0 (t .bytes) (bytesIn (partsTo x k))
+  pub relocs-stored : Wrote relocs relocs′ 0 (t .relocations) (numbersOf (relocsIn (partsTo x k)))
+  pub sites-stored : Wrote sites sites′ 0 (t .sites) (sitesIn (partsTo x k))
+
+-- the lists have room for the first k functions
+pub record Holds (x : Inputs) (k : ℕ) (places bytes relocs sites : List ℕ) : Type 0 where
+  pub places-fit : k ≤ length places
+  pub bytes-fit : length (bytesIn (partsTo x k)) ≤ length bytes
+  pub relocs-fit : length (numbersOf (relocsIn (partsTo x k))) ≤ length relocs
+  pub sites-fit : length (sitesIn (partsTo x k)) ≤ length sites

@@ -197,6 +197,12 @@ pub struct Table {
     pub sites: usize,
 }
 
+// A function's header: whether it has one of its own, and the header's place.
+pub struct Chosen {
+    pub own: bool,
+    pub cie: usize,
+}
+
 fn is_debug(s: Section) -> bool
     ensures { λ r. ⌜ r ≡ isDebug s ⌝ }
 {
