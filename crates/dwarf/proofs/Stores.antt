@@ -12,15 +12,16 @@ use lib.Seq.{getD-append-add, getD-set-same, getD-set-other}
 use Rattle.format.specs.Test.{pick}
 use Rattle.format.specs.Put.{put, Wrote}
 use Rattle.format.specs.Lists.{numbersOf}
-use Rattle.format.specs.Writer.{Part, isDebug}
+use Rattle.format.specs.Writer.{Part, isDebug, joined}
 use Rattle.format.proofs.Choice.{either}
-use Rattle.format.proofs.PutLaws.{_then_, kept}
+use Rattle.format.proofs.PutLaws.{_then_, idle, kept}
 use Rattle.search.specs.Owners.{owner}
 use Rattle.dwarf.specs.declared.Table.{Table}
 use Rattle.dwarf.specs.declared.Chosen.{Chosen}
 use Rattle.dwarf.specs.Parts.{Inputs, extentIn, alignIn, placesIn, bytesIn, relocsIn, sitesIn, partBehind, partsTo}
 use Rattle.dwarf.specs.Pieces.{partIn}
-use Rattle.dwarf.specs.Tables.{chosenBy, Stored, Written, Holds}
+use Rattle.dwarf.specs.Tables.{nothing, totalsIn, chosenBy, Added, Written, Holds}
+use Rattle.dwarf.proofs.Totals.{numbers-append, numbers-length}
 use Rattle.dwarf.proofs.Fronts.{bytes-next, relocs-next, sites-next, places-next, places-length, bytes-grow, relocs-grow, sites-grow}
 use Rattle.dwarf.proofs.Owners.{owner-bound}
 use Rattle.dwarf.proofs.Pieces.{own-part, found-part}
@@ -91,3 +92,65 @@ module _ (x : Inputs) (k : ℕ) where
         let e : o ≡ k = omega (arith, owner-bound x k) in
         rw (eq-eqb o k e) (omega arith))
         (λ l. rw (ne-eqb o k (λ e. omega arith), held o l) (places-below x k o l))
+
+-- ---- function by function
+
+tableFrom : (bytes relocations sites : ℕ) → Table
+tableFrom bytes relocations sites = record { bytes = bytes; relocations = relocations; sites = sites }
+
+table-again : (t : Table) → tableFrom (t .bytes) (t .relocations) (t .sites) ≡ t
+unfolding tableFrom
+table-again t = refl
+
+module _ (x : Inputs) where
+  pub start : (places bytes relocs sites : List ℕ) → Written x 0 nothing places places bytes bytes relocs relocs sites sites
+  unfolding partsTo placesIn bytesIn relocsIn sitesIn joined numbersOf
+  start places bytes relocs sites = record { places-stored = idle; bytes-stored = idle; relocs-stored = idle; sites-stored = idle }
+
+  module _ {k : ℕ} {t : Table} {places places′ bytes bytes′ relocs relocs′ sites sites′ : List ℕ} (w : Written x k t places places′ bytes bytes′ relocs relocs′ sites sites′) where
+    pub turn : {u : Table} {places″ bytes″ relocs″ sites″ : List ℕ} → Added x k t u places′ places″ bytes′ bytes″ relocs′ relocs″ sites′ sites″
+        → Written x (k + 1) u places places″ bytes bytes″ relocs relocs″ sites sites″
+    turn a =
+        let p : Part = partBehind x k (partsTo x k) in
+        let es : placesIn (partsTo x (k + 1)) ≡ placesIn (partsTo x k) ++ (p .place ∷ []) = rw (add-one k) (places-next x k) in
+        let bs : bytesIn (partsTo x (k + 1)) ≡ bytesIn (partsTo x k) ++ p .bytes = rw (add-one k) (bytes-next x k) in
+        let rs : numbersOf (relocsIn (partsTo x (k + 1))) ≡ numbersOf (relocsIn (partsTo x k)) ++ numbersOf (p .relocations) =
+            rw (add-one k, relocs-next x k) (numbers-append (relocsIn (partsTo x k)) (p .relocations)) in
+        let ss : sitesIn (partsTo x (k + 1)) ≡ sitesIn (partsTo x k) ++ p .sites = rw (add-one k) (sites-next x k) in
+        record {
+          places-stored = rw es (w .places-stored then a .place-stored);
+          bytes-stored = rw bs (w .bytes-stored then a .rest-stored .bytes-stored);
+          relocs-stored = rw rs (w .relocs-stored then a .rest-stored .relocs-stored);
+          sites-stored = rw ss (w .sites-stored then a .rest-stored .sites-stored);
+        }
+
+    -- the places of the functions in front can be read
+    pub held : k ≤ length places → (j : ℕ) → j < k → getD places′ j 0 ≡ getD (placesIn (partsTo x k)) j 0
+    held h j l =
+        let e : 0 + j ≡ j = omega arith in
+        rw (w .places-stored .stored) (rw e at (put-read places 0 (placesIn (partsTo x k)) j (omega (arith, places-length x k)) (omega (arith, places-length x k))))
+
+    -- what stands behind function k
+    pub behind : t ≡ totalsIn (partsTo x k)
+    unfolding totalsIn tableFrom
+    behind =
+        let b : t .bytes ≡ length (bytesIn (partsTo x k)) = omega (arith, w .bytes-stored .past) in
+        let r : t .relocations ≡ length (numbersOf (relocsIn (partsTo x k))) = omega (arith, w .relocs-stored .past) in
+        let s : t .sites ≡ length (sitesIn (partsTo x k)) = omega (arith, w .sites-stored .past) in
+        cc (table-again t)
+
+    pub holds : {n : ℕ} → Holds x n places bytes relocs sites → Holds x n places′ bytes′ relocs′ sites′
+    holds h = record {
+      places-fit = omega (arith, h .places-fit, kept (w .places-stored));
+      bytes-fit = omega (arith, h .bytes-fit, kept (w .bytes-stored));
+      relocs-fit = omega (arith, h .relocs-fit, kept (w .relocs-stored));
+      sites-fit = omega (arith, h .sites-fit, kept (w .sites-stored));
+    }
+
+  pub fewer : {k n : ℕ} {places bytes relocs sites : List ℕ} → k ≤ n → Holds x n places bytes relocs sites → Holds x k places bytes relocs sites
+  fewer {k} {n} l h = record {
+    places-fit = omega (arith, h .places-fit);
+    bytes-fit = omega (arith, h .bytes-fit, bytes-grow x k n l);
+    relocs-fit = omega (arith, h .relocs-fit, relocs-grow x k n l, numbers-length (relocsIn (partsTo x k)), numbers-length (relocsIn (partsTo x n)));
+    sites-fit = omega (arith, h .sites-fit, sites-grow x k n l);
+  }

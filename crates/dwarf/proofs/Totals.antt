@@ -26,7 +26,12 @@ use Rattle.dwarf.proofs.Fronts.{bytes-next, relocs-next, sites-next}
 use Rattle.dwarf.proofs.Owners.{owner-bound}
 use Rattle.dwarf.proofs.Pieces.{own-part, found-part}
 
-numbers-append : (rs ss : List Relocation) → numbersOf (rs ++ ss) ≡ numbersOf rs ++ numbersOf ss
+pub numbers-length : (rs : List Relocation) → length (numbersOf rs) ≡ 5 * length rs
+unfolding numbersOf
+numbers-length [] = refl
+numbers-length (r ∷ rs) = omega (arith, numbers-length rs)
+
+pub numbers-append : (rs ss : List Relocation) → numbersOf (rs ++ ss) ≡ numbersOf rs ++ numbersOf ss
 unfolding numbersOf
 numbers-append [] ss = refl
 numbers-append (r ∷ rs) ss = rw (numbers-append rs ss)

@@ -15,6 +15,9 @@ use Rattle.dwarf.specs.Parts.{Inputs, placesIn, bytesIn, relocsIn, sites
 
 -- ---- sizes
 
+abbrev pub nothing : Table
+nothing = record { bytes = 0; relocations = 0; sites = 0 }
+
 -- what stands behind parts
 unfoldable pub totalsIn : List Part → Table
 totalsIn ps = record { bytes = length (bytesIn ps); relocations = length (numbersOf (relocsIn ps)); sites = length (sitesIn ps) }
@@ -52,6 +55,11 @@ pub record Stored (p : Part) (t u : Table) (bytes bytes′ relocs relocs′ site
   pub bytes-stored : Wrote bytes bytes′ (t .bytes) (u .bytes) (p .bytes)
   pub relocs-stored : Wrote relocs relocs′ (t .relocations) (u .relocations) (numbersOf (p .relocations))
   pub sites-stored : Wrote sites sites′ (t .sites) (u .sites) (p .sites)
+
+-- what function k stores behind t: its header's place and its part
+pub record Added (x : Inputs) (k : ℕ) (t u : Table) (places places′ bytes bytes′ relocs relocs′ sites sites′ : List ℕ) : Type 0 where
+  pub place-stored : Wrote places places′ k (k + 1) (partBehind x k (partsTo x k) .place ∷ [])
+  pub rest-stored : Stored (partBehind x k (partsTo x k)) t u bytes bytes′ relocs relocs′ sites sites′
 
 -- the first k functions have been written into lists that were empty, with t behind them
 pub record Written (x : Inputs) (k : ℕ) (t : Table) (places places′ bytes bytes′ relocs relocs′ sites sites′ : List ℕ) : Type 0 where
