@@ -47,7 +47,7 @@ marked n b t m = ⊎-elim (λ z. absurd (eqb-no {a = n} {b = 0} m (eqb-yes z))) 
 taken-askable : (s : Section) (e : Extent) (rows pairs : List ℕ) → Askable e rows pairs → Askable (takenIn s e) rows pairs
 unfolding takenIn without
 taken-askable Elf e rows pairs a = a
-taken-askable MachO e rows pairs a = record { ready = a .ready; paired = λ t. absurd t }
+taken-askable MachO e rows pairs a = record { ready = a .ready; paired = λ (p : false ≡ true). let z : _≡_ {A = ℕ} 0 1 = cc in absurd (omega arith) }
 taken-askable Debug e rows pairs a = record { ready = a .ready; paired = λ t. record { inside = a .paired t .inside; few = a .paired t .few } }
 
 taken-landings : (s : Section) (e : Extent) (landings : List ℕ) → LandingsReady e landings → LandingsReady (takenIn s e) landings
@@ -147,9 +147,10 @@ module _ (fs rows landings pairs : List ℕ) where
       few = omega (arith, in-total (λ j. field functionStride fs j 5) (count functionStride fs) k h, all-listed t .landings-few);
     }
 
-    pairs-ready : T (extentAt fs k .relaxed) → PairsReady (extentAt fs k) pairs
+    pairs-ready : extentAt fs k .relaxed ≡ true → PairsReady (extentAt fs k) pairs
     unfolding extentAt pairsIn
-    pairs-ready m =
+    pairs-ready e =
+        let m : T (mark (field functionStride fs k 14)) = subst T (sym e) tt in
         let p : pairsIn fs k ≡ field functionStride fs k 17 = pick-yes (mark (field functionStride fs k 14)) _ 0 m in
         record {
           inside = within _ _ _ (one .relaxed m);

@@ -1,7 +1,8 @@
 -- What the questions of one function and of all may rely on.
+use mathlib.Core.Path.{_≡_}
+use mathlib.Core.Bool.{true}
 use Prim.Native.Nat.{ℕ, _<_}
 use mathlib.Core.List.{List, []}
-use lib.Dec.{T}
 use Rattle.format.specs.declared.Section.{Section}
 use Rattle.format.specs.Lists.{Function, count, functionStride}
 use Rattle.lists.specs.declared.Extent.{Extent}
@@ -11,7 +12,7 @@ use Rattle.leading.specs.Functions.{takenIn, RowsReady, PairsReady}
 -- its rows can be read and, where it has relaxing labels, its pairs
 pub record Askable (e : Extent) (rows pairs : List ℕ) : Type 0 where
   pub ready : RowsReady rows (e .«rows_at») (e .rows)
-  pub paired : T (e .relaxed) → PairsReady e pairs
+  pub paired : e .relaxed ≡ true → PairsReady e pairs
 
 pub record AllAskable (s : Section) (fs rows pairs : List ℕ) : Type 0 where
   pub each-one : (k : ℕ) → k < count functionStride fs → Askable (takenIn s (extentAt fs k)) rows pairs

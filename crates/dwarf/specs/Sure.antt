@@ -1,6 +1,7 @@
 -- What the questions have made sure of before the passes: of each function, and of the whole.
+use mathlib.Core.Path.{_≡_}
+use mathlib.Core.Bool.{true}
 use Prim.Native.Nat.{ℕ, suc, _^_, _<_}
-use lib.Dec.{T}
 use lib.ListN.{length}
 use Rattle.format.specs.Lists.{numbersOf}
 use Rattle.leading.specs.Functions.{Sound, LandingsReady, PairsReady, Listed}
@@ -12,7 +13,7 @@ pub record Sure (x : Inputs) (k : ℕ) : Type 0 where
   pub sound : Sound (x .machine) (extentIn x k) (x .rows)
   pub encoding-fits : EncodingFits (extentIn x k)
   pub landings-ready : LandingsReady (extentIn x k) (x .landings)
-  pub pairs-ready : T (extentIn x k .relaxed) → PairsReady (extentIn x k) (x .pairs)
+  pub pairs-ready : extentIn x k .relaxed ≡ true → PairsReady (extentIn x k) (x .pairs)
   pub listed : Listed (x .functions) (x .rows) (suc k)
   pub bytes-few : length (bytesIn (partsTo x (suc k))) < 2 ^ 25
   pub relocs-few : length (numbersOf (relocsIn (partsTo x (suc k)))) < 2 ^ 25

@@ -1,7 +1,7 @@
 // The DWARF sections: questions 21 to 25, sizes, 51 to 54, and the writing of them. Ported from rucc-asm/src/unwind.rs (dwarf, relaxed_debug_frame, Table) of tamnd/rucc, changed: see NOTICE.
 ghost use mathlib.Core.Path.{_≡_};
 ghost use Prim.Native.Nat.{_+_, _*_, _^_, _≤_, _<_};
-ghost use mathlib.Core.Bool.{not};
+ghost use mathlib.Core.Bool.{true, not};
 ghost use mathlib.Core.List.{[]};
 ghost use lib.Dec.{T, ltb, eqb};
 ghost use lib.ListN.{length};
@@ -138,7 +138,7 @@ fn pairs_differ(pairs: &[u64], at: usize, n: usize) -> bool
 
 // Question 25 of a function, where it has relaxing labels.
 fn pairs_ok(e: Extent, pairs: &[u64]) -> bool
-    requires { ⌜ (T (e .relaxed) → PairsReady e (now pairs)) ⌝ }
+    requires { ⌜ (e .relaxed ≡ true → PairsReady e (now pairs)) ⌝ }
     ensures { λ r. ⌜ r ≡ pairsOk (meant e [] [] (now (pairs .entry)) .relaxed) ⌝ }
 {
     if !e.relaxed {

@@ -17,7 +17,7 @@ returns c = simp (not-true (c .before .before .before .args .e .relaxed) (c .if1
 
 -- src/lib.rt:143:5
 pairs-differ-requires : tie.Need-pairs-differ-requires
-pairs-differ-requires c κs = let h = c .before .before .before .pre (subst T (sym (not-false (c .before .before .before .args .e .relaxed) (c .if1 .left))) tt) in h .inside
+pairs-differ-requires c κs = c .before .before .before .pre (not-false (c .before .before .before .args .e .relaxed) (c .if1 .left)) .inside
 
 -- src/lib.rt:136:1
 returns-2 : tie.Need-returns-2
