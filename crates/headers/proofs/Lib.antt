@@ -5,3 +5,5 @@ pub mod Tails
 pub mod Turns
 pub mod Words
 pub mod Lengths
+pub mod Keys
+pub mod Personalities

@@ -56,3 +56,7 @@ namedData e size lsda l = e ∷ (replicate size 0 ++ (lsdaLetter (lsdaOf lsda l)
 -- what follows the version in eh_frame
 unfoldable pub tailOf : (word ret : ℕ) → Bool → Kind → List ℕ
 tailOf word ret signal k = letters k ++ (middle word ret signal ++ counted (augmentationData word k))
+
+-- how many relocations a header has: one where it has a personality, none in debug_frame
+unfoldable pub headerRelocCount : (debug : Bool) → Extent → ℕ
+headerRelocCount debug e = pick debug 0 (pick (eqb (e .landings) 0) (flag (e .personality)) 1)

@@ -2,16 +2,17 @@
 ghost use mathlib.Core.Path.{_≡_};
 ghost use mathlib.Core.Bool.{true};
 ghost use mathlib.Core.List.{[], _∷_, _++_};
-ghost use Prim.Native.Nat.{_+_, _^_, _≤_, _<_};
+ghost use Prim.Native.Nat.{_+_, _*_, _^_, _≤_, _<_};
 ghost use lib.ListN.{length};
 ghost use Rattle.format.specs.Put.{Wrote};
 ghost use Rattle.format.specs.Rows.{rowsBytes};
 ghost use Rattle.format.specs.Lists.{numbersOf};
-ghost use Rattle.format.specs.Headers.{leading, padding, sizeOf, sizeOr0, pointerSize, pointerBytes, pointerReloc, plain, personal, named, letters, lsdaLetter, augmentationData, headerId, dataFactor, headerFields};
+ghost use Rattle.format.specs.Headers.{leading, padding, sizeOf, sizeOr0, pointerSize, pointerBytes, pointerReloc, plain, personal, named, letters, lsdaLetter, augmentationData, headerId, dataFactor, headerFields, headerBytes, pointerPlace, headerRelocs};
+ghost use Rattle.format.proofs.Fits.{MachineFits};
 ghost use Rattle.format.proofs.SectionSize.{Aligned};
-ghost use Rattle.leading.specs.Functions.{bodyOf, Sound};
+ghost use Rattle.leading.specs.Functions.{bodyOf, keyIn, Sound};
 ghost use Rattle.headers.specs.Entries.{Closed};
-ghost use Rattle.headers.specs.Kinds.{lsdaOf, kindIn, headIn, NamedFits, ending, middle, flag, namedLetters, namedData, tailOf};
+ghost use Rattle.headers.specs.Kinds.{lsdaOf, kindIn, headIn, EncodingFits, NamedFits, ending, middle, flag, namedLetters, namedData, tailOf, headerRelocCount};
 use format::Machine;
 use lists::Extent;
 
@@ -311,4 +312,85 @@ fn fields_size(debug: bool, m: Machine, e: Extent) -> usize
         return n;
     }
     n + letters_size(e) + 1 + data_size(m.word, e)
+}
+
+// ---- a header
+
+pub fn header_size(
+    debug: bool,
+    m: Machine,
+    align: usize,
+    at: usize,
+    e: Extent,
+    rows: &[u64],
+) -> usize
+    requires { ⌜ Sound m e (now rows) × Aligned align × (at < 2 ^ 32) ⌝ }
+    ensures { λ r. ⌜ r ≡ length (headerBytes debug m align at (keyIn m e (now (rows .entry)))) ⌝ }
+{
+    let n = 4 + fields_size(debug, m, e) + starts_size(m, e, rows);
+    n + padding(align, at + n)
+}
+
+// The bytes of a header: a blank length, the fields and the leading rows, and what `pad` adds.
+pub fn header(
+    out: &mut [u8],
+    at: usize,
+    debug: bool,
+    m: Machine,
+    align: usize,
+    e: Extent,
+    rows: &[u64],
+) -> usize
+    requires { ⌜ Sound m e (now rows) × EncodingFits e × Aligned align × (at + length (headerBytes debug m align at (keyIn m e (now rows))) ≤ length (now out)) ⌝ }
+    ensures { λ r. ⌜ Wrote (now (out .entry)) (now (out .exit)) at r (headerBytes debug m align at (keyIn m e (now (rows .entry)))) ⌝ }
+{
+    let a = leb::le(out, at, 4, 0);
+    let b = fields(out, a, debug, m, e);
+    let c = starts(out, b, m, e, rows);
+    pad(out, at, c, align)
+}
+
+// ---- its relocation
+
+// How many relocations a header has: one where it names a personality, none in debug_frame.
+pub fn header_relocs_count(debug: bool, e: Extent) -> usize
+    ensures { λ r. ⌜ r ≡ headerRelocCount debug e ⌝ }
+{
+    if debug {
+        return 0;
+    }
+    if e.landings != 0 {
+        return 1;
+    }
+    flag(e.personality) as usize
+}
+
+// The place of the personality's pointer, behind its encoding, the first byte of the augmentation data.
+fn pointer_place(m: Machine, at: usize, e: Extent) -> u64
+    requires { ⌜ (m .word ≤ 8) × (at < 2 ^ 32) ⌝ }
+    ensures { λ r. ⌜ r ≡ pointerPlace m at (headIn e) ⌝ }
+{
+    (at + 4 + fields_size(false, m, e) - data_size(m.word, e) + 1) as u64
+}
+
+// The relocation of a header's personality.
+pub fn header_relocs(
+    out: &mut [u64],
+    i: usize,
+    debug: bool,
+    m: Machine,
+    at: usize,
+    e: Extent,
+) -> usize
+    requires { ⌜ MachineFits m × (at < 2 ^ 32) × (i + 5 * headerRelocCount debug e ≤ length (now out)) ⌝ }
+    ensures { λ r. ⌜ Wrote (now (out .entry)) (now (out .exit)) i r (numbersOf (headerRelocs debug m at (keyIn m e []))) ⌝ }
+{
+    if header_relocs_count(debug, e) == 0 {
+        return i;
+    }
+    let place = pointer_place(m, at, e);
+    if e.landings != 0 {
+        return pointer(out, i, m.word, place, 0, 0x9b);
+    }
+    pointer(out, i, m.word, place, e.routine, e.encoding)
 }
