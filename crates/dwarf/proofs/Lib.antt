@@ -13,3 +13,4 @@ pub mod Cleared
 pub mod Alignment
 pub mod Totals
 pub mod Stores
+pub mod OwnHeaders

@@ -11,15 +11,46 @@ use Rattle.format.specs.Test.{pick}
 use Rattle.format.specs.declared.Machine.{Machine}
 use Rattle.format.specs.declared.Section.{Section}
 use Rattle.format.specs.Writer.{Part, isDebug, partWith}
-use Rattle.format.specs.Headers.{keyOf}
+use Rattle.format.specs.Headers.{headerBytes, headerRelocs}
 use Rattle.lists.specs.declared.Extent.{Extent}
 use Rattle.lists.specs.Extents.{meant}
 use Rattle.leading.specs.Functions.{bodyOf, keyIn}
 use Rattle.search.specs.Owners.{owner}
+use Rattle.headers.specs.Kinds.{headerRelocCount}
+use Rattle.headers.proofs.Personalities.{header-relocs-count, header-relocs-any}
 use Rattle.dwarf.specs.Parts.{Inputs, extentIn, functionIn, alignIn, placesIn, bytesIn, sitesIn, earlierIn, partBehind, partsTo}
 use Rattle.dwarf.specs.Pieces.{frontIn, frontRelocs, partIn}
 use Rattle.dwarf.proofs.Bodies.{key-body, record-body, relocs-body}
 use Rattle.dwarf.proofs.Owners.{own-header, found-header}
+
+-- ---- a function's own header, where it has one
+
+module _ {own : Bool} (debug : Bool) (m : Machine) (align at : ℕ) (e : Extent) (rows : List ℕ) where
+  module _ (o : own ≡ false) where
+    pub no-front : frontIn own debug m align at e rows ≡ []
+    unfolding frontIn pick
+    no-front = rw o
+
+    pub no-relocs : frontRelocs own debug m at e rows ≡ []
+    unfolding frontRelocs pick
+    no-relocs = rw o
+
+  module _ (o : own ≡ true) where
+    pub own-front : frontIn own debug m align at e rows ≡ headerBytes debug m align at (keyIn m e rows)
+    unfolding frontIn pick
+    own-front = rw o
+
+    pub own-relocs : frontRelocs own debug m at e rows ≡ headerRelocs debug m at (keyIn m e [])
+    unfolding frontRelocs pick
+    own-relocs = rw o (header-relocs-any debug m at e rows)
+
+pub front-count : (own debug : Bool) (m : Machine) (at : ℕ) (e : Extent) (rows : List ℕ)
+    → length (frontRelocs own debug m at e rows) ≡ pick own (headerRelocCount debug e) 0
+unfolding frontRelocs pick
+front-count true debug m at e rows = header-relocs-count debug m at e rows
+front-count false debug m at e rows = refl
+
+-- ---- a part
 
 module _ (s : Section) (m : Machine) (align at sites : ℕ) (e : Extent) (rows landings pairs : List ℕ) where
   landings-body : meant e rows landings pairs .landings ≡ meant e [] landings [] .landings

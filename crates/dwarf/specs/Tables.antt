@@ -1,16 +1,22 @@
 -- How much stands in the lent lists behind a pass, whether there is room, and what a function adds to them.
 use Prim.Native.Nat.{ℕ, suc, _+_, _^_, _≤_, _<_}
-use mathlib.Core.Bool.{true, false}
+use mathlib.Core.Bool.{Bool, true, false}
 use mathlib.Core.List.{List, [], _∷_}
 use lib.ListN.{length, getD}
 use lib.Dec.{leb, eqb}
 use Rattle.format.specs.Test.{pick}
 use Rattle.format.specs.Put.{Wrote}
 use Rattle.format.specs.Lists.{numbersOf}
+use Rattle.format.specs.declared.Machine.{Machine}
 use Rattle.format.specs.Writer.{Part}
+use Rattle.format.proofs.SectionSize.{Aligned}
+use Rattle.lists.specs.declared.Extent.{Extent}
+use Rattle.leading.specs.Functions.{Sound}
+use Rattle.headers.specs.Kinds.{EncodingFits}
 use Rattle.format.specs.Questions.{Question, ask, andThen}
 use Rattle.dwarf.specs.declared.Table.{Table}
 use Rattle.dwarf.specs.declared.Chosen.{Chosen}
+use Rattle.dwarf.specs.Pieces.{frontIn, frontRelocs}
 use Rattle.dwarf.specs.Parts.{Inputs, placesIn, bytesIn, relocsIn, sitesIn, partBehind, partsTo}
 
 -- ---- sizes
@@ -49,6 +55,19 @@ roomFor n t places room =
 -- function k's header by its owner o: its own at `at`, or the one whose place stands in the list of places
 unfoldable pub chosenBy : (o k at : ℕ) → (places : List ℕ) → Chosen
 chosenBy o k at places = pick (eqb o k) (record { own = true; cie = at }) (record { own = false; cie = getD places o 0 })
+
+-- a function's own header, where it has one, can be stored behind t, and what is stored then
+pub record FrontReady (own debug : Bool) (m : Machine) (align : ℕ) (e : Extent) (t : Table) (rows bytes relocs : List ℕ) : Type 0 where
+  pub sound : Sound m e rows
+  pub encoding-fits : EncodingFits e
+  pub aligned : Aligned align
+  pub near : t .bytes < 2 ^ 32
+  pub bytes-fit : t .bytes + length (frontIn own debug m align (t .bytes) e rows) ≤ length bytes
+  pub relocs-fit : t .relocations + length (numbersOf (frontRelocs own debug m (t .bytes) e rows)) ≤ length relocs
+
+pub record FrontStored (own debug : Bool) (m : Machine) (align : ℕ) (e : Extent) (t u : Table) (rows bytes bytes′ relocs relocs′ : List ℕ) : Type 0 where
+  pub bytes-stored : Wrote bytes bytes′ (t .bytes) (u .bytes) (frontIn own debug m align (t .bytes) e rows)
+  pub relocs-stored : Wrote relocs relocs′ (t .relocations) (u .relocations) (numbersOf (frontRelocs own debug m (t .bytes) e rows))
 
 -- what a function stores of its part behind t: bytes, relocations and call sites
 pub record Stored (p : Part) (t u : Table) (bytes bytes′ relocs relocs′ sites sites′ : List ℕ) : Type 0 where

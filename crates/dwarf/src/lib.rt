@@ -13,11 +13,17 @@ ghost use Rattle.format.specs.Questions.{sizeBytes, encodingsOk, stepsOk, pairs
 ghost use Rattle.format.specs.Writer.{isDebug, alignFor};
 ghost use Rattle.format.specs.Answers.{questionOf};
 ghost use Rattle.lists.specs.Extents.{meant};
-ghost use Rattle.leading.specs.Functions.{bodyOf, RowsReady, PairsReady};
+ghost use Rattle.format.proofs.SectionSize.{Aligned};
+ghost use Rattle.leading.specs.Functions.{bodyOf, Sound, RowsReady, PairsReady};
 ghost use Rattle.dwarf.specs.Asks.{Askable, AllAskable, askedIn};
-ghost use Rattle.dwarf.specs.Tables.{roomFor};
+ghost use Rattle.dwarf.specs.Tables.{roomFor, FrontReady, FrontStored};
+ghost use Rattle.dwarf.specs.Pieces.{frontIn};
+use format::Machine;
 use format::Question;
 use format::Section;
+use headers::header;
+use headers::header_relocs;
+use headers::header_size;
 use headers::pointer_size;
 use leading::taken;
 use lists::Extent;
@@ -230,6 +236,17 @@ fn align_for(s: Section, word: u64, last: bool) -> usize
     }
 }
 
+// The bytes of a function's own header, where it has one.
+fn front_size(own: bool, debug: bool, m: Machine, align: usize, at: usize, e: Extent, rows: &[u64]) -> usize
+    requires { ⌜ Sound m e (now rows) × Aligned align × (at < 2 ^ 32) ⌝ }
+    ensures { λ r. ⌜ r ≡ length (frontIn own debug m align at e (now (rows .entry))) ⌝ }
+{
+    if own {
+        return header_size(debug, m, align, at, e, rows);
+    }
+    0
+}
+
 // Questions 51 to 54: the results of n functions fit the lent lists, whose lengths are `places` and those of `room`.
 fn room(n: usize, t: Table, places: usize, room: Table) -> Question
     ensures { λ r. ⌜ r ≡ questionOf (roomFor n t places room) ⌝ }
@@ -247,4 +264,33 @@ fn room(n: usize, t: Table, places: usize, room: Table) -> Question
         return Question::No(54, 0);
     }
     Question::Yes
+}
+
+// ---- the writing pass
+
+// A function's own header with its relocation, where it has one.
+fn front(
+    own: bool,
+    debug: bool,
+    m: Machine,
+    align: usize,
+    e: Extent,
+    t: Table,
+    rows: &[u64],
+    bytes: &mut [u8],
+    relocations: &mut [u64],
+) -> Table
+    requires { ⌜ FrontReady own debug m align e t (now rows) (now bytes) (now relocations) ⌝ }
+    ensures { λ r. ⌜ FrontStored own debug m align e t r (now (rows .entry)) (now (bytes .entry)) (now (bytes .exit)) (now (relocations .entry)) (now (relocations .exit)) ⌝ }
+{
+    if !own {
+        return t;
+    }
+    let at = header(bytes, t.bytes, debug, m, align, e, rows);
+    let i = header_relocs(relocations, t.relocations, debug, m, t.bytes, e);
+    Table {
+        bytes: at,
+        relocations: i,
+        sites: t.sites,
+    }
 }
