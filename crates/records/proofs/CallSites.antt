@@ -1,5 +1,5 @@
 -- Call sites: an entry's length, and the loop over the landings.
-use mathlib.Core.Path.{_≡_, refl, ap, _∙_}
+use mathlib.Core.Path.{_≡_, refl}
 use Prim.Native.Nat.{ℕ, zero, suc, _+_, _-_, _*_, _/_, _≤_, _<_}
 use native.Mathlib.Omega.{arith}
 use native.Mathlib.Numerals.{add-one}
@@ -135,7 +135,6 @@ module _ (at : ℕ) (e : Extent) (ls : List ℕ) where
       rw k
 
   module _ (h : e .landings ≢ 0) where
-
     pub added-length : length (siteAdded at (meant e [] ls [] .landings))
         ≡ padding 4 at + 3 + length (uleb (length (sitesIn ls (e .«landings_at») (e .landings)))) + length (sitesIn ls (e .«landings_at») (e .landings))
     added-length = rw (added-some h, table-bytes) (simp (length-append, length-replicate {A = ℕ} (padding 4 at) 0) (omega arith))

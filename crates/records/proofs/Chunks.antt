@@ -1,9 +1,9 @@
 -- A loop that stores a list part by part.
-use mathlib.Core.Path.{_≡_, sym, _∙_}
+use mathlib.Core.Path.{sym, _∙_}
 use mathlib.Core.List.{List, _++_}
 use Prim.Native.Nat.{ℕ}
 use native.Mathlib.Omega.{arith}
-use lib.ListN.{length, length-append}
+use lib.ListN.{length-append}
 use Rattle.format.specs.Put.{Wrote}
 use Rattle.format.proofs.PutLaws.{put-append, kept}
 use Rattle.format.proofs.Storing.{Storing}

@@ -1,15 +1,16 @@
 -- A record's fields are those of the function that the record means.
 use mathlib.Core.Path.{_≡_, refl}
-use Prim.Native.Nat.{ℕ, zero, suc, _+_, _*_, _≤_}
+use Prim.Native.Nat.{ℕ, zero, suc, _+_, _*_}
 use native.Mathlib.Omega.{arith}
-use mathlib.Core.Bool.{Bool, true, false}
+use mathlib.Core.Bool.{Bool, true, false, not}
 use mathlib.Core.Logic.{_≢_}
 use mathlib.Core.Option.{none, some}
 use mathlib.Core.List.{List, _++_}
 use lib.ListN.{length, replicate, length-append, length-replicate}
 use lib.Dec.{eqb}
+use borrow.Author.Tests.{eq-eqb, ne-eqb, not-true, not-false}
 use Rattle.format.specs.Test.{pick, each}
-use Rattle.format.specs.Leb.{little, uleb}
+use Rattle.format.specs.Leb.{uleb}
 use Rattle.format.specs.Lists.{Landing, Pointer, Relaxed}
 use Rattle.format.specs.Headers.{pointerBytes, counted}
 use Rattle.format.specs.Records.{pointerBlank, namedBlank, lsdaBlank, sizeField, recordFields}
@@ -17,7 +18,7 @@ use Rattle.format.proofs.Choice.{if-eq, if-ne}
 use Rattle.format.proofs.LebBack.{little-length}
 use Rattle.lists.specs.declared.Extent.{Extent}
 use Rattle.lists.specs.Extents.{meant}
-use Rattle.records.specs.Fields.{sizeIn, blankIn, fieldsIn}
+use Rattle.records.specs.Fields.{sizeIn, pointed, blankIn, fieldsIn}
 
 -- ---- the fields of a function and those of its record
 
@@ -42,9 +43,29 @@ blank-is f at (suc n) b c word p q = let h : suc n ≢ 0 = λ e. omega arith in 
 
 pub fields-are : (debug : Bool) (word distance : ℕ) (e : Extent) (rows landings pairs : List ℕ)
     → recordFields debug word distance (meant e rows landings pairs) ≡ fieldsIn debug word distance e
-unfolding recordFields fieldsIn meant sizeIn blankIn
+unfolding recordFields fieldsIn meant sizeIn blankIn pointed
 fields-are true word distance e rows landings pairs = simp size-is
 fields-are false word distance e rows landings pairs = simp (size-is, blank-is)
+
+-- ---- the tests of the pointer to the call sites
+
+module _ {X : Type 0} (e : Extent) (without named table : X) where
+  pub by-landings : e .landings ≢ 0 → pointed e without named table ≡ table
+  unfolding pointed pick
+  by-landings h = simp (ne-eqb _ _ h)
+
+  module _ (h : e .landings ≡ 0) where
+    pub by-none : not (e .personality) ≡ true → pointed e without named table ≡ without
+    unfolding pointed pick
+    by-none t = simp (eq-eqb _ _ h, not-true (e .personality) t)
+
+    pub by-no-lsda : not (e .personality) ≡ false → not (e .lsda) ≡ true → pointed e without named table ≡ without
+    unfolding pointed pick
+    by-no-lsda t u = simp (eq-eqb _ _ h, not-false (e .personality) t, not-true (e .lsda) u)
+
+    pub by-lsda : not (e .personality) ≡ false → not (e .lsda) ≡ false → pointed e without named table ≡ named
+    unfolding pointed pick
+    by-lsda t u = simp (eq-eqb _ _ h, not-false (e .personality) t, not-false (e .lsda) u)
 
 -- ---- how long they are
 

@@ -1,7 +1,11 @@
 -- The lemmas of this crate's functions.
 pub mod Chunks
+pub mod LabelLaws
+pub mod StepLoops
 pub mod CallSites
 pub mod RowLoops
 pub mod OtherRows
 pub mod FieldLaws
 pub mod RecordLaws
+pub mod FieldRelocs
+pub mod RelocLaws

@@ -1,14 +1,14 @@
 -- The rows that do not lead: the last of a function's rows, and ready to be written where the function is sound.
-use mathlib.Core.Path.{_≡_, refl, ap, _∙_}
-use Prim.Native.Nat.{ℕ, zero, suc, _+_, _-_, _≤_, _<_}
+use mathlib.Core.Path.{_≡_, ap, _∙_}
+use Prim.Native.Nat.{ℕ, zero, suc, _+_, _-_, _≤_}
 use native.Mathlib.Omega.{arith}
-use mathlib.Core.Bool.{Bool, _&&_, _||_}
+use mathlib.Core.Bool.{Bool, _||_}
 use mathlib.Core.Logic.{⊎-elim}
 use mathlib.Core.List.{List, [], _∷_}
 use lib.ListN.{length}
 use lib.Dec.{T, eqb}
 use mir.Facts.{and-yes, or-yes, eqb-yes}
-use Rattle.format.specs.Test.{pick, each}
+use Rattle.format.specs.Test.{each}
 use Rattle.format.specs.declared.Machine.{Machine}
 use Rattle.format.specs.Machine.{isWord}
 use Rattle.format.specs.Rows.{Line, linesBytes}
@@ -20,7 +20,7 @@ use Rattle.format.proofs.Leading.{others-ok}
 use Rattle.lists.specs.declared.Extent.{Extent}
 use Rattle.lists.specs.Extents.{meant}
 use Rattle.lists.proofs.Ranges.{one-more}
-use Rattle.leading.specs.Functions.{bodyOf, RowsReady, Sound}
+use Rattle.leading.specs.Functions.{bodyOf, Sound}
 use Rattle.records.specs.Lines.{linesIn, LinesReady}
 
 -- they start behind those that lead
@@ -64,7 +64,7 @@ word-least w t =
     (or-yes (eqb w 2 || eqb w 4) (eqb w 8) t)
 
 module _ (e : Extent) (rows : List ℕ) {k : ℕ} (q : (k ≡ length (ahead (each (lineAt rows) (e .«rows_at») (e .rows)))) × (k ≤ e .rows)) where
-  others-are : others (bodyOf e rows .rows) ≡ each (lineAt rows) (e .«rows_at» + k) (e .rows - k)
+  pub others-are : others (bodyOf e rows .rows) ≡ each (lineAt rows) (e .«rows_at» + k) (e .rows - k)
   unfolding meant
   others-are = others-from (lineAt rows) (e .«rows_at») (e .rows) k (q .0)
 

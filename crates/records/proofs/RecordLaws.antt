@@ -1,13 +1,12 @@
 -- A record's bytes: its fields, the rows that do not lead, and how long they are together.
-use mathlib.Core.Path.{_≡_, refl, ap, _∙_}
+use mathlib.Core.Path.{_≡_, refl}
 use Prim.Native.Nat.{ℕ, _+_, _-_, _≤_}
 use native.Mathlib.Omega.{arith}
 use mathlib.Core.Bool.{Bool, true, false}
-use mathlib.Core.List.{List, [], _++_}
+use mathlib.Core.List.{List, _++_}
 use lib.ListN.{length, length-append}
 use Rattle.format.specs.Test.{each}
 use Rattle.format.specs.declared.Machine.{Machine}
-use Rattle.format.specs.Leb.{little}
 use Rattle.format.specs.Rows.{linesBytes}
 use Rattle.format.specs.Lists.{Function, lineAt}
 use Rattle.format.specs.Headers.{ahead, others, padding, padded, entry}
@@ -33,7 +32,7 @@ body-length : (align at : ℕ) (us vs bs : List ℕ) → length us ≡ length vs
     → length (entry (padded align at (us ++ bs))) ≡ length (entry (padded align at (vs ++ bs)))
 body-length align at us vs bs h =
     let e : length (us ++ bs) ≡ length (vs ++ bs) = rw (length-append us bs, length-append vs bs, h) in
-    rw (entry-length, entry-length, padded-length, padded-length, e)
+    simp (entry-length, padded-length, e)
 
 pub record-length : (debug : Bool) (m : Machine) (align at cie : ℕ) (f : Function)
     → length (recordBytes debug m align at cie f) ≡ length (recordBytes debug m align at 0 f)
@@ -51,7 +50,6 @@ module _ (debug : Bool) (m : Machine) (align at cie : ℕ) (e : Extent) (rows : 
       ≡ entry (padded align at (fieldsIn debug (m .word) (at + 4 - cie) e ++ linesIn (m .word) 0 rows (e .«rows_at» + k) (e .rows - k)))
   unfolding recordBytes
   record-bytes = rw (fields-are, others-bytes e rows q)
-
 
   pub record-long : length (recordBytes debug m align at cie (bodyOf e rows))
       ≡ 4 + (length (fieldsIn debug (m .word) 0 e) + length (linesIn (m .word) 0 rows (e .«rows_at» + k) (e .rows - k)))

@@ -1,6 +1,6 @@
 -- Rows and the steps between them: one row, and the loops over rows.
-use mathlib.Core.Path.{_≡_, refl, sym, ap, _∙_}
-use Prim.Native.Nat.{ℕ, zero, suc, _+_, _-_, _*_, _≤_, _<_}
+use mathlib.Core.Path.{_≡_, refl}
+use Prim.Native.Nat.{ℕ, suc, _+_, _-_, _*_, _≤_, _<_}
 use native.Mathlib.Omega.{arith}
 use native.Mathlib.Numerals.{add-one}
 use mathlib.Core.List.{List, [], _∷_, _++_, append-assoc}
@@ -34,7 +34,7 @@ line-short {w} {from} {rows} {i} r =
 
 -- ---- rows
 
-each-more : {A : Type 0} (f : ℕ → A) (i end : ℕ) → i < end → each f i (end - i) ≡ f i ∷ each f (i + 1) (end - (i + 1))
+pub each-more : {A : Type 0} (f : ℕ → A) (i end : ℕ) → i < end → each f i (end - i) ≡ f i ∷ each f (i + 1) (end - (i + 1))
 unfolding each
 each-more f i end h =
     let e : end - i ≡ suc (end - suc i) = omega arith in

@@ -2,3 +2,4 @@
 pub mod Sites
 pub mod Lines
 pub mod Fields
+pub mod Labels

@@ -1,25 +1,28 @@
 // Call sites, and a record's bytes, size and relocations. Ported from rucc-asm/src/unwind.rs (call_sites, record, eh_record, debug_record, relaxed_advance, pair) of tamnd/rucc, changed: see NOTICE.
 ghost use mathlib.Core.Path.{_≡_};
 ghost use mathlib.Core.Bool.{true, false};
-ghost use mathlib.Core.List.{[], _∷_};
+ghost use mathlib.Core.Option.{some};
+ghost use mathlib.Core.List.{[]};
 ghost use Prim.Native.Nat.{_+_, _*_, _^_, _≤_, _<_};
 ghost use lib.ListN.{length, replicate};
 ghost use Rattle.format.specs.Put.{Wrote};
 ghost use Rattle.format.specs.Test.{each};
 ghost use Rattle.format.specs.Leb.{uleb};
 ghost use Rattle.format.specs.Headers.{counted};
-ghost use Rattle.format.specs.Lists.{landingStride, landingAt, lineAt, count, mostRecords};
+ghost use Rattle.format.specs.Lists.{landingStride, pairStride, landingAt, lineAt, numbersOf, count, mostRecords};
 ghost use Rattle.format.specs.CallSites.{siteBytes, siteTable, siteAdded};
-ghost use Rattle.format.specs.Records.{recordBytes};
+ghost use Rattle.format.specs.Records.{recordBytes, recordRelocs, setKind, setBytes, setPlace, setPair};
 ghost use Rattle.format.proofs.SectionSize.{Aligned};
-ghost use Rattle.lists.specs.Extents.{meant, meantLanding};
-ghost use Rattle.leading.specs.Functions.{bodyOf, Sound, LandingsReady};
+ghost use Rattle.lists.specs.Extents.{meant, meantLanding, meantPair};
+ghost use Rattle.leading.specs.Functions.{bodyOf, Sound, RowsReady, LandingsReady, PairsReady};
 ghost use Rattle.records.specs.Sites.{sitesIn};
 ghost use Rattle.records.specs.Lines.{lineBytes, linesIn, LineReady, LinesReady};
-ghost use Rattle.records.specs.Fields.{sizeIn, blankIn, fieldsIn};
+ghost use Rattle.records.specs.Fields.{sizeIn, blankIn, fieldsIn, sumIn, lsdaIn, debugRelocs, ehRelocs, fieldRelocs};
+ghost use Rattle.records.specs.Labels.{isFor, foundPair, pairBetween, stepPair, stepsIn};
 use format::Machine;
 use lists::Extent;
 use lists::Landing;
+use lists::Pair;
 
 // ---- call sites
 
@@ -119,7 +122,8 @@ fn line_size(word: u64, from: u64, rows: &[u64], i: usize) -> usize
     requires { ⌜ LineReady word from (now rows) i ⌝ }
     ensures { λ r. ⌜ (r ≡ length (lineBytes word from (lineAt (now (rows .entry)) i))) × (r ≤ 14) ⌝ }
 {
-    rows::advance_size(rows::offset_at(rows, i) - from) + rows::row_size(word, rows::row_at(rows, i))
+    rows::advance_size(rows::offset_at(rows, i) - from)
+        + rows::row_size(word, rows::row_at(rows, i))
 }
 
 // n rows from `first` on, with the steps between them.
@@ -238,7 +242,14 @@ fn fields_size(debug: bool, word: u64, e: Extent) -> usize
 // ---- a record
 
 // How many bytes a record at `at` has.
-pub fn record_size(debug: bool, m: Machine, align: usize, at: usize, e: Extent, rows: &[u64]) -> usize
+pub fn record_size(
+    debug: bool,
+    m: Machine,
+    align: usize,
+    at: usize,
+    e: Extent,
+    rows: &[u64],
+) -> usize
     requires { ⌜ Sound m e (now rows) × Aligned align × (at < 2 ^ 32) ⌝ }
     ensures { λ r. ⌜ r ≡ length (recordBytes debug m align at 0 (bodyOf e (now (rows .entry)))) ⌝ }
 {
@@ -266,4 +277,324 @@ pub fn record(
     let b = fields(out, a, debug, m.word, (at + 4 - cie) as u64, e);
     let c = lines(out, b, m.word, rows, e.rows_at + k, e.rows - k);
     headers::pad(out, at, c, align)
+}
+
+// ---- the relocations of steps
+
+// The pair of a step, if it has one.
+enum Found {
+    At(Pair),
+    Absent,
+}
+
+// A pair is for the step from one place to another.
+fn is_for(p: Pair, from: u64, to: u64) -> bool
+    ensures { λ r. ⌜ r ≡ isFor from to (meantPair p) ⌝ }
+{
+    if p.place1 != from {
+        return false;
+    }
+    p.place2 == to
+}
+
+// The first of the n pairs from `at` on that is for a step.
+fn pair_for(pairs: &[u64], at: usize, n: usize, from: u64, to: u64) -> Found
+    requires { ⌜ at + n ≤ count pairStride (now pairs) ⌝ }
+    ensures { λ r. ⌜ foundPair r ≡ pairBetween from to (now (pairs .entry)) at n ⌝ }
+{
+    let end = at + n;
+    let mut i = at;
+    while i < end {
+        let p = lists::pair_at(pairs, i);
+        if is_for(p, from, to) {
+            return Found::At(p);
+        }
+        i += 1;
+    }
+    Found::Absent
+}
+
+// Where a linker writes a step of a form: on the opcode, or behind it.
+fn set_place(place: u64, form: u64) -> u64
+    requires { ⌜ place < 2 ^ 63 ⌝ }
+    ensures { λ r. ⌜ r ≡ setPlace place form ⌝ }
+{
+    if form == 0 {
+        return place;
+    }
+    place + 1
+}
+
+// The kind of Set for a form; Sub's is one more.
+fn set_kind(form: u64) -> u64
+    ensures { λ r. ⌜ (r ≡ setKind form) × (r ≤ 11) ⌝ }
+{
+    match form {
+        0 => 5,
+        1 => 7,
+        2 => 9,
+        _ => 11,
+    }
+}
+
+fn set_bytes(form: u64) -> u64
+    ensures { λ r. ⌜ r ≡ setBytes form ⌝ }
+{
+    if form == 0 {
+        return 1;
+    }
+    form
+}
+
+// The relocations of a step of a form between the two places of a pair: Set takes the second symbol, Sub the first.
+fn relaxed_advance(out: &mut [u64], i: usize, place: u64, form: u64, p: Pair) -> usize
+    requires { ⌜ (place < 2 ^ 63) × (i + 10 ≤ length (now out)) ⌝ }
+    ensures { λ r. ⌜ Wrote (now (out .entry)) (now (out .exit)) i r (numbersOf (setPair place form (some (meantPair p)))) ⌝ }
+{
+    let at = set_place(place, form);
+    let kind = set_kind(form);
+    let bytes = set_bytes(form);
+    let a = relocs::relocation(out, i, at, p.symbol2, kind, bytes, 0);
+    relocs::relocation(out, a, at, p.symbol1, kind + 1, bytes, 0)
+}
+
+// The relocations of the step from one place to another.
+fn step_pair(
+    out: &mut [u64],
+    i: usize,
+    place: u64,
+    from: u64,
+    to: u64,
+    e: Extent,
+    pairs: &[u64],
+) -> usize
+    requires { ⌜ PairsReady e (now pairs) × (place < 2 ^ 63) × (from ≤ to) × (i + length (numbersOf (stepPair place from to e (now pairs))) ≤ length (now out)) ⌝ }
+    ensures { λ r. ⌜ Wrote (now (out .entry)) (now (out .exit)) i r (numbersOf (stepPair place from to e (now (pairs .entry)))) ⌝ }
+{
+    let Found::At(p) = pair_for(pairs, e.pairs_at, e.pairs, from, to) else {
+        return i;
+    };
+    relaxed_advance(out, i, place, rows::step_form(to - from), p)
+}
+
+fn step_pair_count(from: u64, to: u64, e: Extent, pairs: &[u64]) -> usize
+    requires { ⌜ PairsReady e (now pairs) ⌝ }
+    ensures { λ r. ⌜ r ≡ length (stepPair 0 from to e (now (pairs .entry))) ⌝ }
+{
+    let Found::At(_) = pair_for(pairs, e.pairs_at, e.pairs, from, to) else {
+        return 0;
+    };
+    2
+}
+
+// Those of n rows from `first` on, whose bytes start at `place`.
+fn step_relocs(
+    out: &mut [u64],
+    i: usize,
+    word: u64,
+    place: u64,
+    rows: &[u64],
+    first: usize,
+    n: usize,
+    e: Extent,
+    pairs: &[u64],
+) -> usize
+    requires { ⌜ LinesReady word (now rows) first n × PairsReady e (now pairs) × (place < 2 ^ 62) × (i + length (numbersOf (stepsIn word place 0 (now rows) first n e (now pairs))) ≤ length (now out)) ⌝ }
+    ensures { λ r. ⌜ Wrote (now (out .entry)) (now (out .exit)) i r (numbersOf (stepsIn word place 0 (now (rows .entry)) first n e (now (pairs .entry)))) ⌝ }
+{
+    let end = first + n;
+    let mut k = first;
+    let mut from = 0;
+    let mut p = place;
+    let mut q = i;
+    while k < end {
+        let to = rows::offset_at(rows, k);
+        q = step_pair(out, q, p, from, to, e, pairs);
+        p += line_size(word, from, rows, k) as u64;
+        from = to;
+        k += 1;
+    }
+    q
+}
+
+fn step_relocs_count(rows: &[u64], first: usize, n: usize, e: Extent, pairs: &[u64]) -> usize
+    requires { ⌜ RowsReady (now rows) first n × (n ≤ mostRecords) × PairsReady e (now pairs) ⌝ }
+    ensures { λ r. ⌜ (r ≡ length (stepsIn 0 0 0 (now (rows .entry)) first n e (now (pairs .entry)))) × (r ≤ 2 * n) ⌝ }
+{
+    let end = first + n;
+    let mut k = first;
+    let mut from = 0;
+    let mut size = 0;
+    while k < end {
+        let to = rows::offset_at(rows, k);
+        size += step_pair_count(from, to, e, pairs);
+        from = to;
+        k += 1;
+    }
+    size
+}
+
+// ---- a record's relocations
+
+// The symbols of the sections that a record points to.
+const EXCEPT_TABLE: u64 = 1;
+
+const DEBUG_FRAME: u64 = 2;
+
+// The length as the distance from the function to its end label, where it has relaxing labels.
+fn sum_pair(out: &mut [u64], i: usize, place: u64, bytes: u64, e: Extent) -> usize
+    requires { ⌜ i + length (numbersOf (sumIn place bytes e)) ≤ length (now out) ⌝ }
+    ensures { λ r. ⌜ Wrote (now (out .entry)) (now (out .exit)) i r (numbersOf (sumIn place bytes e)) ⌝ }
+{
+    if !e.relaxed {
+        return i;
+    }
+    let a = relocs::relocation(out, i, place, e.end, 2, bytes, 0);
+    relocs::relocation(out, a, place, e.symbol, 3, bytes, 0)
+}
+
+fn sum_count(e: Extent) -> usize
+    ensures { λ r. ⌜ (r ≡ length (sumIn 0 0 e)) × (r ≤ 2) ⌝ }
+{
+    if e.relaxed {
+        return 2;
+    }
+    0
+}
+
+// The pointer to the call sites: to the function's table, or to what a named personality has.
+fn lsda_reloc(out: &mut [u64], i: usize, word: u64, place: u64, table: u64, e: Extent) -> usize
+    requires { ⌜ i + length (numbersOf (lsdaIn word place table e)) ≤ length (now out) ⌝ }
+    ensures { λ r. ⌜ Wrote (now (out .entry)) (now (out .exit)) i r (numbersOf (lsdaIn word place table e)) ⌝ }
+{
+    if e.landings != 0 {
+        return relocs::relocation(out, i, place, EXCEPT_TABLE, 0, 4, table);
+    }
+    if !e.personality {
+        return i;
+    }
+    if !e.lsda {
+        return i;
+    }
+    headers::pointer(out, i, word, place, e.lsda_symbol, e.lsda_encoding)
+}
+
+fn lsda_count(e: Extent) -> usize
+    ensures { λ r. ⌜ (r ≡ length (lsdaIn 0 0 0 e)) × (r ≤ 1) ⌝ }
+{
+    if e.landings != 0 {
+        return 1;
+    }
+    if !e.personality {
+        return 0;
+    }
+    if !e.lsda {
+        return 0;
+    }
+    1
+}
+
+// In debug_frame the header's place in the section, the function and its length.
+fn debug_relocs(out: &mut [u64], i: usize, word: u64, at: u64, cie: u64, e: Extent) -> usize
+    requires { ⌜ (word ≤ 8) × (at < 2 ^ 32) × (i + length (numbersOf (debugRelocs word at cie e)) ≤ length (now out)) ⌝ }
+    ensures { λ r. ⌜ Wrote (now (out .entry)) (now (out .exit)) i r (numbersOf (debugRelocs word at cie e)) ⌝ }
+{
+    let a = relocs::relocation(out, i, at + 4, DEBUG_FRAME, 1, 4, cie);
+    let b = relocs::relocation(out, a, at + 8, e.symbol, 1, word, 0);
+    sum_pair(out, b, at + 8 + word, word, e)
+}
+
+// In eh_frame the function, the call sites and the length.
+fn eh_relocs(out: &mut [u64], i: usize, word: u64, at: u64, table: u64, e: Extent) -> usize
+    requires { ⌜ (at < 2 ^ 32) × (i + length (numbersOf (ehRelocs word at table e)) ≤ length (now out)) ⌝ }
+    ensures { λ r. ⌜ Wrote (now (out .entry)) (now (out .exit)) i r (numbersOf (ehRelocs word at table e)) ⌝ }
+{
+    let a = relocs::relocation(out, i, at + 8, e.symbol, 0, 4, 0);
+    let b = lsda_reloc(out, a, word, at + 17, table, e);
+    sum_pair(out, b, at + 12, 4, e)
+}
+
+fn field_relocs(
+    out: &mut [u64],
+    i: usize,
+    debug: bool,
+    word: u64,
+    at: u64,
+    cie: u64,
+    table: u64,
+    e: Extent,
+) -> usize
+    requires { ⌜ (word ≤ 8) × (at < 2 ^ 32) × (i + length (numbersOf (fieldRelocs debug word at cie table e)) ≤ length (now out)) ⌝ }
+    ensures { λ r. ⌜ Wrote (now (out .entry)) (now (out .exit)) i r (numbersOf (fieldRelocs debug word at cie table e)) ⌝ }
+{
+    if debug {
+        return debug_relocs(out, i, word, at, cie, e);
+    }
+    eh_relocs(out, i, word, at, table, e)
+}
+
+fn field_relocs_count(debug: bool, e: Extent) -> usize
+    ensures { λ r. ⌜ (r ≡ length (fieldRelocs debug 0 0 0 0 e)) × (r ≤ 4) ⌝ }
+{
+    if debug {
+        return 2 + sum_count(e);
+    }
+    1 + lsda_count(e) + sum_count(e)
+}
+
+// How many relocations a record has.
+pub fn record_relocs_count(debug: bool, m: Machine, e: Extent, rows: &[u64], pairs: &[u64]) -> usize
+    requires { ⌜ Sound m e (now rows) × (e .relaxed ≡ true → PairsReady e (now pairs)) ⌝ }
+    ensures { λ r. ⌜ r ≡ length (recordRelocs debug m 0 0 0 (meant e (now (rows .entry)) [] (now (pairs .entry)))) ⌝ }
+{
+    let n = field_relocs_count(debug, e);
+    if !e.relaxed {
+        return n;
+    }
+    let k = leading::ahead(rows, e.rows_at, e.rows);
+    n + step_relocs_count(rows, e.rows_at + k, e.rows - k, e, pairs)
+}
+
+// Those of a record at `at` whose header is at `cie`, with the function's call sites at `table`: of the fields, then of the steps.
+pub fn record_relocs(
+    out: &mut [u64],
+    i: usize,
+    debug: bool,
+    m: Machine,
+    at: usize,
+    cie: usize,
+    table: usize,
+    e: Extent,
+    rows: &[u64],
+    pairs: &[u64],
+) -> usize
+    requires { ⌜ Sound m e (now rows) × (e .relaxed ≡ true → PairsReady e (now pairs)) × (at < 2 ^ 32) × (i + 5 * length (recordRelocs debug m at cie table (meant e (now rows) [] (now pairs))) ≤ length (now out)) ⌝ }
+    ensures { λ r. ⌜ Wrote (now (out .entry)) (now (out .exit)) i r (numbersOf (recordRelocs debug m at cie table (meant e (now (rows .entry)) [] (now (pairs .entry))))) ⌝ }
+{
+    let a = field_relocs(
+        out,
+        i,
+        debug,
+        m.word,
+        at as u64,
+        cie as u64,
+        table as u64,
+        e,
+    );
+    if !e.relaxed {
+        return a;
+    }
+    let k = leading::ahead(rows, e.rows_at, e.rows);
+    let place = at + 4 + fields_size(debug, m.word, e);
+    step_relocs(
+        out,
+        a,
+        m.word,
+        place as u64,
+        rows,
+        e.rows_at + k,
+        e.rows - k,
+        e,
+        pairs,
+    )
 }

@@ -25,7 +25,7 @@ same-length c = search needs
 
 returns : tie.Need-returns
 unfolding fieldsIn
-returns c = 
+returns c =
     c .before .before .before .before .before .before .before .before .before .before .before .le .ensures then c .before .before .before .before .before .before .before .fill .ensures then (rw (c .before .before .before .size-field .ensures) at (c .before .before .le2 .ensures))
 
 pub debug-record-spec : {M : Type 1} → statement M

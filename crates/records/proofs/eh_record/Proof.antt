@@ -24,7 +24,7 @@ lsda-blank-requires : tie.Need-lsda-blank-requires
 lsda-blank-requires c κs = search needs
 
 blanks-requires : tie.Need-blanks-requires
-blanks-requires c κs = 
+blanks-requires c κs =
     let l = little-length 4 (c .before .before .before .before .before .before .before .before .before .before .before .before .before .before .before .before .args .distance) in
     let k = length-replicate {A = ℕ} 4 0 in
     let j = little-length 4 (c .before .before .before .before .before .size-field .result) in
@@ -35,7 +35,7 @@ same-length c = search needs
 
 returns : tie.Need-returns
 unfolding fieldsIn
-returns c = 
+returns c =
     c .before .before .before .before .before .before .before .before .before .before .before .before .before .before .before .before .le .ensures then c .before .before .before .before .before .before .before .before .before .before .before .before .fill .ensures then (rw (c .before .before .before .before .before .before .before .before .size-field .ensures) at (c .before .before .before .before .before .before .before .le2 .ensures)) then (rw (c .before .before .before .lsda-blank .ensures .0) at (c .before .before .blanks .ensures))
 
 pub eh-record-spec : {M : Type 1} → statement M

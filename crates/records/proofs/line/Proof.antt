@@ -21,10 +21,12 @@ row-at-requires : tie.Need-row-at-requires
 row-at-requires c κs = (c .before .before .before .before .before .before .before .before .pre .0 .inside, c .before .before .before .before .before .before .before .before .pre .0 .ok)
 
 row-requires : tie.Need-row-requires
-row-requires c κs = 
-    (c .before .before .before .before .before .before .before .before .before .pre .0 .word-low, c .before .before .before .before .before .before .before .before .before .pre .0 .word-high,
-    let h = rw (line-length, offset-of, ← c .before .before .before .before .before .offset-at .ensures) at (c .before .before .before .before .before .before .before .before .before .pre .1) in
-    rw (c .row-at .ensures) (search needs))
+row-requires c κs = (
+  c .before .before .before .before .before .before .before .before .before .pre .0 .word-low,
+  c .before .before .before .before .before .before .before .before .before .pre .0 .word-high,
+  let h = rw (line-length, offset-of, ← c .before .before .before .before .before .offset-at .ensures) at (c .before .before .before .before .before .before .before .before .before .pre .1) in
+      rw (c .row-at .ensures) (search needs),
+)
 
 same-length : tie.Need-same-length
 same-length c = search needs

@@ -22,7 +22,7 @@ row-size-requires : tie.Need-row-size-requires
 row-size-requires c κs = (c .before .before .before .before .pre .word-low, c .before .before .before .before .pre .word-high)
 
 returns : tie.Need-returns
-returns c = 
+returns c =
     let e = line-length (c .before .before .before .before .before .args .word) (c .before .before .before .before .before .args .from) (lineAt (c .before .before .before .before .before .args .rows .now) (c .before .before .before .before .before .args .i)) in
     let a = rw (c .before .before .before .offset-at .ensures, ← offset-of (c .before .before .before .before .before .args .rows .now) (c .before .before .before .before .before .args .i)) at (c .before .before .advance-size .ensures) in
     let b = rw (c .before .row-at .ensures) at (c .row-size .ensures) in

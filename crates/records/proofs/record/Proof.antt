@@ -25,29 +25,31 @@ sub-fields : tie.Need-sub-fields
 sub-fields c = omega (arith, c .before .before .before .before .before .before .before .before .pre .2)
 
 fields-requires : tie.Need-fields-requires
-fields-requires c κs = 
-    (word-small _ (c .before .before .before .before .before .before .before .before .pre .0 .machine .is-word) .1,
-    let h = rw (record-long (c .before .before .before .before .before .before .before .before .args .debug) (c .before .before .before .before .before .before .before .before .args .m) (c .before .before .before .before .before .before .before .before .args .align) (c .before .before .before .before .before .before .before .before .args .at) (c .before .before .before .before .before .before .before .before .args .cie) (c .before .before .before .before .before .before .before .before .args .e) (c .before .before .before .before .before .before .before .before .args .rows .now) (c .before .before .before .before .before .ahead .ensures)) at (c .before .before .before .before .before .before .before .before .pre .3) in
-    let f = fields-length (c .before .before .before .before .before .before .before .before .args .debug) (c .before .before .before .before .before .before .before .before .args .m .word) (c .before .before .before .before .before .before .before .before .args .at + 4 - c .before .before .before .before .before .before .before .before .args .cie) (c .before .before .before .before .before .before .before .before .args .e) in
-    let l = little-length 4 0 in
-    search needs)
+fields-requires c κs = (
+  word-small _ (c .before .before .before .before .before .before .before .before .pre .0 .machine .is-word) .1,
+  let h = rw (record-long (c .before .before .before .before .before .before .before .before .args .debug) (c .before .before .before .before .before .before .before .before .args .m) (c .before .before .before .before .before .before .before .before .args .align) (c .before .before .before .before .before .before .before .before .args .at) (c .before .before .before .before .before .before .before .before .args .cie) (c .before .before .before .before .before .before .before .before .args .e) (c .before .before .before .before .before .before .before .before .args .rows .now) (c .before .before .before .before .before .ahead .ensures)) at (c .before .before .before .before .before .before .before .before .pre .3) in
+      let f = fields-length (c .before .before .before .before .before .before .before .before .args .debug) (c .before .before .before .before .before .before .before .before .args .m .word) (c .before .before .before .before .before .before .before .before .args .at + 4 - c .before .before .before .before .before .before .before .before .args .cie) (c .before .before .before .before .before .before .before .before .args .e) in
+      let l = little-length 4 0 in
+      search needs,
+)
 
 add-lines : tie.Need-add-lines
-add-lines c = omega (arith, c .before .before .before .before .before .before .before .before .before .before .before .before .before .pre .0 .ready .inside, c .before .before .before .before .before .before .before .before .before .before .ahead .ensures .1, c .before .before .before .before .before .before .before .before .before .before .before .before .before .good, c .before .before .before .before .before .before .before .before .before .before .before .before .before .fits)
+add-lines c = omega (arith, c .before .before .before .before .before .before .before .before .before .before .before .before .before .pre .0 .ready .inside, c .before .before .before .before .before .before .before .before .before .before .ahead .ensures .1, c .before .before .before .before .before .before .before .before .before .before .before .before .before .good)
 
 sub-lines : tie.Need-sub-lines
 sub-lines c = omega (arith, c .before .before .before .before .before .before .before .before .before .before .before .ahead .ensures .1)
 
 lines-requires : tie.Need-lines-requires
-lines-requires c κs = 
-    (others-ready (c .before .before .before .before .before .before .before .before .before .before .before .before .before .before .args .e) (c .before .before .before .before .before .before .before .before .before .before .before .before .before .before .args .rows .now) (c .before .before .before .before .before .before .before .before .before .before .before .ahead .ensures) (c .before .before .before .before .before .before .before .before .before .before .before .before .before .before .pre .0),
-    let h = rw (record-long (c .before .before .before .before .before .before .before .before .before .before .before .before .before .before .args .debug) (c .before .before .before .before .before .before .before .before .before .before .before .before .before .before .args .m) (c .before .before .before .before .before .before .before .before .before .before .before .before .before .before .args .align) (c .before .before .before .before .before .before .before .before .before .before .before .before .before .before .args .at) (c .before .before .before .before .before .before .before .before .before .before .before .before .before .before .args .cie) (c .before .before .before .before .before .before .before .before .before .before .before .before .before .before .args .e) (c .before .before .before .before .before .before .before .before .before .before .before .before .before .before .args .rows .now) (c .before .before .before .before .before .before .before .before .before .before .before .ahead .ensures)) at (c .before .before .before .before .before .before .before .before .before .before .before .before .before .before .pre .3) in
-    let f = fields-length (c .before .before .before .before .before .before .before .before .before .before .before .before .before .before .args .debug) (c .before .before .before .before .before .before .before .before .before .before .before .before .before .before .args .m .word) (c .before .before .before .before .before .before .before .before .before .before .before .before .before .before .args .at + 4 - c .before .before .before .before .before .before .before .before .before .before .before .before .before .before .args .cie) (c .before .before .before .before .before .before .before .before .before .before .before .before .before .before .args .e) in
-    let l = little-length 4 0 in
-    search needs)
+lines-requires c κs = (
+  others-ready (c .before .before .before .before .before .before .before .before .before .before .before .before .before .before .args .e) (c .before .before .before .before .before .before .before .before .before .before .before .before .before .before .args .rows .now) (c .before .before .before .before .before .before .before .before .before .before .before .ahead .ensures) (c .before .before .before .before .before .before .before .before .before .before .before .before .before .before .pre .0),
+  let h = rw (record-long (c .before .before .before .before .before .before .before .before .before .before .before .before .before .before .args .debug) (c .before .before .before .before .before .before .before .before .before .before .before .before .before .before .args .m) (c .before .before .before .before .before .before .before .before .before .before .before .before .before .before .args .align) (c .before .before .before .before .before .before .before .before .before .before .before .before .before .before .args .at) (c .before .before .before .before .before .before .before .before .before .before .before .before .before .before .args .cie) (c .before .before .before .before .before .before .before .before .before .before .before .before .before .before .args .e) (c .before .before .before .before .before .before .before .before .before .before .before .before .before .before .args .rows .now) (c .before .before .before .before .before .before .before .before .before .before .before .ahead .ensures)) at (c .before .before .before .before .before .before .before .before .before .before .before .before .before .before .pre .3) in
+      let f = fields-length (c .before .before .before .before .before .before .before .before .before .before .before .before .before .before .args .debug) (c .before .before .before .before .before .before .before .before .before .before .before .before .before .before .args .m .word) (c .before .before .before .before .before .before .before .before .before .before .before .before .before .before .args .at + 4 - c .before .before .before .before .before .before .before .before .before .before .before .before .before .before .args .cie) (c .before .before .before .before .before .before .before .before .before .before .before .before .before .before .args .e) in
+      let l = little-length 4 0 in
+      search needs,
+)
 
 pad-requires : tie.Need-pad-requires
-pad-requires c κs = 
+pad-requires c κs =
     let room = rw (record-bytes (c .before .before .before .before .before .before .before .before .before .before .before .before .before .before .before .before .before .before .args .debug) (c .before .before .before .before .before .before .before .before .before .before .before .before .before .before .before .before .before .before .args .m) (c .before .before .before .before .before .before .before .before .before .before .before .before .before .before .before .before .before .before .args .align) (c .before .before .before .before .before .before .before .before .before .before .before .before .before .before .before .before .before .before .args .at) (c .before .before .before .before .before .before .before .before .before .before .before .before .before .before .before .before .before .before .args .cie) (c .before .before .before .before .before .before .before .before .before .before .before .before .before .before .before .before .before .before .args .e) (c .before .before .before .before .before .before .before .before .before .before .before .before .before .before .before .before .before .before .args .rows .now) (c .before .before .before .before .before .before .before .before .before .before .before .before .before .before .before .ahead .ensures)) at (c .before .before .before .before .before .before .before .before .before .before .before .before .before .before .before .before .before .before .pre .3) in
     let fits = closes (c .before .before .before .before .before .before .before .before .before .before .before .before .before .before .before .before .before .before .args .align) _ (c .before .before .before .before .before .before .before .before .before .before .before .before .before .le .ensures then c .before .before .before .before .before .before .before .before .before .fields .ensures then c .before .before .before .lines .ensures) room in
     (c .before .before .before .before .before .before .before .before .before .before .before .before .before .before .before .before .before .before .pre .1, fits .0, fits .1)
@@ -56,7 +58,7 @@ same-length : tie.Need-same-length
 same-length c = search needs
 
 returns : tie.Need-returns
-returns c = 
+returns c =
     rw (record-bytes (c .before .before .before .before .before .before .before .before .before .before .before .before .before .before .before .before .before .before .before .before .before .args .debug) (c .before .before .before .before .before .before .before .before .before .before .before .before .before .before .before .before .before .before .before .before .before .args .m) (c .before .before .before .before .before .before .before .before .before .before .before .before .before .before .before .before .before .before .before .before .before .args .align) (c .before .before .before .before .before .before .before .before .before .before .before .before .before .before .before .before .before .before .before .before .before .args .at) (c .before .before .before .before .before .before .before .before .before .before .before .before .before .before .before .before .before .before .before .before .before .args .cie) (c .before .before .before .before .before .before .before .before .before .before .before .before .before .before .before .before .before .before .before .before .before .args .e) (c .before .before .before .before .before .before .before .before .before .before .before .before .before .before .before .before .before .before .before .before .before .args .rows .now) (c .before .before .before .before .before .before .before .before .before .before .before .before .before .before .before .before .before .before .ahead .ensures))
     (closed (c .before .before .before .before .before .before .before .before .before .before .before .before .before .before .before .before .before .before .before .before .before .args .align) _ (c .before .before .before .before .before .before .before .before .before .before .before .before .before .before .before .before .le .ensures then c .before .before .before .before .before .before .before .before .before .before .before .before .fields .ensures then c .before .before .before .before .before .before .lines .ensures) (c .before .before .pad .ensures))
 

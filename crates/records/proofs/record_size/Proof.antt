@@ -43,7 +43,7 @@ add-result-2 : tie.Need-add-result-2
 add-result-2 c = omega (arith, lines-most (others-ready (c .before .before .before .before .before .before .before .args .e) (c .before .before .before .before .before .before .before .args .rows .now) (c .before .before .before .before .before .ahead .ensures) (c .before .before .before .before .before .before .before .pre .0)), c .before .lines-size .ensures, c .before .before .before .before .fields-size .ensures .1, c .before .before .before .before .before .before .before .pre .0 .few, c .padding .ensures, padding-small (c .before .before .before .before .before .before .before .args .align) (c .before .before .before .before .before .before .before .args .at + 4 + (c .before .before .before .before .fields-size .result + c .before .lines-size .result)) (c .before .before .before .before .before .before .before .pre .1 .some-bytes), c .before .before .before .before .before .before .before .pre .1 .at-most-8)
 
 returns : tie.Need-returns
-returns c = 
+returns c =
     rw (record-long (c .before .before .before .before .before .before .before .args .debug) (c .before .before .before .before .before .before .before .args .m) (c .before .before .before .before .before .before .before .args .align) (c .before .before .before .before .before .before .before .args .at) 0 (c .before .before .before .before .before .before .before .args .e) (c .before .before .before .before .before .before .before .args .rows .now) (c .before .before .before .before .before .ahead .ensures), ← c .before .before .before .before .fields-size .ensures .0, ← c .before .lines-size .ensures)
     (omega (arith, c .padding .ensures))
 

@@ -27,7 +27,7 @@ same-length : tie.Need-same-length
 same-length c = search needs
 
 returns : tie.Need-returns
-returns c = 
+returns c =
     rw table-bytes
     (c .before .before .before .before .before .before .before .before .before .before .before .before .before .before .before .before .before .before .before .byte .ensures then c .before .before .before .before .before .before .before .before .before .before .before .before .before .before .before .byte2 .ensures then c .before .before .before .before .before .before .before .before .before .before .before .byte3 .ensures then (rw (c .before .before .before .before .before .before .before .sites-size .ensures) at (c .before .before .before .before .before .before .uleb .ensures)) then c .before .before .sites .ensures)
 

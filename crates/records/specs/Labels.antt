@@ -1,0 +1,35 @@
+-- The relocations of steps between places with labels, over lists of numbers.
+use Prim.Native.Nat.{ℕ, _-_}
+use mathlib.Core.Bool.{Bool, _&&_}
+use mathlib.Core.Option.{Option, none, some}
+use mathlib.Core.List.{List}
+use lib.Dec.{eqb}
+use Rattle.format.specs.Test.{each}
+use Rattle.format.specs.Rows.{stepForm}
+use Rattle.format.specs.Lists.{Pair, Relocation, lineAt, pairAt}
+use Rattle.format.specs.Records.{pairFor, setPair, stepRelocs}
+use Rattle.lists.specs.declared.Extent.{Extent}
+use Rattle.lists.specs.Extents.{meantPair}
+use Rattle.records.specs.declared.Found.{Found}
+use Rattle.records.specs.declared.Found.the-variants.{At, Absent}
+
+-- a pair is for the step from one place to another
+unfoldable pub isFor : (from to : ℕ) → Pair → Bool
+isFor from to p = eqb (p .place1) from && eqb (p .place2) to
+
+-- what a search for a pair found
+unfoldable pub foundPair : Found → Option Pair
+foundPair (At p) = some (meantPair p)
+foundPair Absent = none
+
+-- the pair of a step, of n pairs from `at` on
+unfoldable pub pairBetween : (from to : ℕ) (pairs : List ℕ) (at n : ℕ) → Option Pair
+pairBetween from to pairs at n = pairFor from to (each (pairAt pairs) at n)
+
+-- the relocations of the step, of a function's pairs
+unfoldable pub stepPair : (place from to : ℕ) → Extent → (pairs : List ℕ) → List Relocation
+stepPair place from to e pairs = setPair place (stepForm (to - from)) (pairBetween from to pairs (e .«pairs_at») (e .pairs))
+
+-- and those of n rows from `at` on, the first of them from the offset `from` on
+unfoldable pub stepsIn : (w place from : ℕ) (rows : List ℕ) (at n : ℕ) → Extent → (pairs : List ℕ) → List Relocation
+stepsIn w place from rows at n e pairs = stepRelocs w place from (each (pairAt pairs) (e .«pairs_at») (e .pairs)) (each (lineAt rows) at n)
