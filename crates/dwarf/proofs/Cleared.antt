@@ -29,6 +29,7 @@ use Rattle.dwarf.specs.Sure.{Sure, Cleared}
 use Rattle.format.proofs.ListLaws.{each-length}
 use Rattle.format.proofs.SectionSize.{section-short}
 use Rattle.dwarf.proofs.Fronts.{all-parts, functions-each, means-taken, bytes-grow, relocs-grow, sites-grow}
+use Rattle.records.proofs.LabelLaws.{numbers-length}
 use Rattle.dwarf.proofs.Sizes.{landingCount, relocs-few, sites-few}
 
 -- ---- acceptance with room enough
@@ -69,11 +70,6 @@ unfolding takenIn without
 taken-few Elf e = omega arith
 taken-few MachO e = omega arith
 taken-few Debug e = omega arith
-
-numbers-length : (rs : List Relocation) → length (numbersOf rs) ≡ 5 * length rs
-unfolding numbersOf
-numbers-length [] = refl
-numbers-length (r ∷ rs) = omega (arith, numbers-length rs)
 
 module _ (x : Inputs) where
   landings-at : (k : ℕ) → length (functionIn x k .landings) ≤ field functionStride (x .functions) k 5

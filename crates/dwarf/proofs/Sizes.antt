@@ -21,6 +21,7 @@ use Rattle.format.proofs.Leading.{others-count}
 use Rattle.format.proofs.Fits.{lineCount}
 use Rattle.format.proofs.Parts.{Spot, cieOf, relocsFor, placeOf, partRelocs, relocsOf, relocs-more, spotOf, nextAt, nextSites, nextSeen}
 use Rattle.records.proofs.CallSites.{uleb-most}
+use Rattle.records.proofs.LabelLaws.{steps-most}
 
 -- ---- relocations
 
@@ -30,7 +31,7 @@ kind-few word place plain = omega arith
 kind-few word place personal = omega arith
 kind-few word place (named e s l) = omega arith
 
-header-few : (debug : Bool) (m : Machine) (at : ℕ) (k : Key) → length (headerRelocs debug m at k) ≤ 1
+pub header-few : (debug : Bool) (m : Machine) (at : ℕ) (k : Key) → length (headerRelocs debug m at k) ≤ 1
 unfolding headerRelocs pick
 header-few true m at k = omega arith
 header-few false m at k = kind-few (m .word) _ (k .kind)
@@ -60,24 +61,12 @@ unfolding sumPair
 sum-few place bytes f none = omega arith
 sum-few place bytes f (some r) = omega arith
 
-set-few : (place form : ℕ) (o : Option Pair) → length (setPair place form o) ≤ 2
-unfolding setPair
-set-few place form none = omega arith
-set-few place form (some p) = omega arith
-
-steps-few : (w place at : ℕ) (ps : List Pair) (xs : List Line) → length (stepRelocs w place at ps xs) ≤ 2 * length xs
-unfolding stepRelocs
-steps-few w place at ps [] = omega arith
-steps-few w place at ps (x ∷ xs) =
-    let next : ℕ = place + length (stepBytes (x .0 - at)) + length (rowBytes w (x .1)) in
-    rw length-append (omega (arith, set-few place (stepForm (x .0 - at)) (pairFor at (x .0) ps), steps-few w next (x .0) ps xs))
-
 rows-few : (w place : ℕ) (xs : List Line) (o : Option Relaxed) → length (rowRelocs w place xs o) ≤ 2 * length xs
 unfolding rowRelocs
 rows-few w place xs none = omega arith
-rows-few w place xs (some r) = steps-few w place 0 (r .pairs) xs
+rows-few w place xs (some r) = steps-most w place 0 (r .pairs) xs
 
-record-few : (debug : Bool) (m : Machine) (at cie table : ℕ) (f : Function) → length (recordRelocs debug m at cie table f) ≤ 4 + 2 * length (f .rows)
+pub record-few : (debug : Bool) (m : Machine) (at cie table : ℕ) (f : Function) → length (recordRelocs debug m at cie table f) ≤ 4 + 2 * length (f .rows)
 unfolding recordRelocs pick
 record-few true m at cie table f =
     let ops : ℕ = at + 4 + length (recordFields true (m .word) (at + 4 - cie) f) in

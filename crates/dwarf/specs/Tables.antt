@@ -1,4 +1,5 @@
 -- How much stands in the lent lists behind a pass, whether there is room, and what a function adds to them.
+use mathlib.Core.Path.{_≡_}
 use Prim.Native.Nat.{ℕ, suc, _+_, _^_, _≤_, _<_}
 use mathlib.Core.Bool.{Bool, true, false}
 use mathlib.Core.List.{List, [], _∷_}
@@ -11,12 +12,12 @@ use Rattle.format.specs.declared.Machine.{Machine}
 use Rattle.format.specs.Writer.{Part}
 use Rattle.format.proofs.SectionSize.{Aligned}
 use Rattle.lists.specs.declared.Extent.{Extent}
-use Rattle.leading.specs.Functions.{Sound}
+use Rattle.leading.specs.Functions.{Sound, LandingsReady, PairsReady}
 use Rattle.headers.specs.Kinds.{EncodingFits}
 use Rattle.format.specs.Questions.{Question, ask, andThen}
 use Rattle.dwarf.specs.declared.Table.{Table}
 use Rattle.dwarf.specs.declared.Chosen.{Chosen}
-use Rattle.dwarf.specs.Pieces.{frontIn, frontRelocs}
+use Rattle.dwarf.specs.Pieces.{frontIn, frontRelocs, partIn}
 use Rattle.dwarf.specs.Parts.{Inputs, placesIn, bytesIn, relocsIn, sitesIn, partBehind, partsTo}
 
 -- ---- sizes
@@ -42,6 +43,14 @@ pub record Small (t : Table) : Type 0 where
   pub bytes : t .bytes < 2 ^ 32
   pub relocations : t .relocations < 2 ^ 32
   pub sites : t .sites < 2 ^ 32
+
+-- a function behind t can be sized
+pub record SizeReady (own debug : Bool) (m : Machine) (align : ℕ) (e : Extent) (t : Table) (rows landings pairs : List ℕ) : Type 0 where
+  pub sound : Sound m e rows
+  pub aligned : Aligned align
+  pub landings-ready : LandingsReady e landings
+  pub pairs-ready : e .relaxed ≡ true → PairsReady e pairs
+  pub small : Small (grownBy t (partIn own debug m align (t .bytes) 0 (t .sites) e rows landings pairs))
 
 -- questions 51 to 54 by numbers: n header places and t, into lists of such lengths
 unfoldable pub roomFor : (n : ℕ) → Table → (places : ℕ) → Table → Question

@@ -9,6 +9,7 @@ ghost use Rattle.format.specs.Test.{all, each};
 ghost use Rattle.format.specs.Machine.{isWord};
 ghost use Rattle.format.specs.Rows.{rowWhole};
 ghost use Rattle.format.specs.Lists.{field, rowStride, pairStride, functionStride, count, lineAt, pairAt};
+ghost use Rattle.format.specs.Records.{recordRelocs};
 ghost use Rattle.format.specs.Questions.{sizeBytes, encodingsOk, stepsOk, pairsOk, dwarfAsks, perFunction};
 ghost use Rattle.format.specs.Writer.{isDebug, alignFor};
 ghost use Rattle.format.specs.Answers.{questionOf};
@@ -16,18 +17,22 @@ ghost use Rattle.lists.specs.Extents.{meant};
 ghost use Rattle.format.proofs.SectionSize.{Aligned};
 ghost use Rattle.leading.specs.Functions.{bodyOf, Sound, RowsReady, PairsReady};
 ghost use Rattle.dwarf.specs.Asks.{Askable, AllAskable, askedIn};
-ghost use Rattle.dwarf.specs.Tables.{roomFor, FrontReady, FrontStored};
-ghost use Rattle.dwarf.specs.Pieces.{frontIn};
+ghost use Rattle.dwarf.specs.Tables.{grownBy, SizeReady, roomFor, FrontReady, FrontStored};
+ghost use Rattle.dwarf.specs.Pieces.{frontIn, frontRelocs, partIn};
 use format::Machine;
 use format::Question;
 use format::Section;
 use headers::header;
 use headers::header_relocs;
+use headers::header_relocs_count;
 use headers::header_size;
 use headers::pointer_size;
 use leading::taken;
 use lists::Extent;
 use lists::extent_at;
+use records::call_sites_size;
+use records::record_relocs_count;
+use records::record_size;
 use rows::offset_at;
 use rows::row_at;
 use rows::row_whole;
@@ -245,6 +250,41 @@ fn front_size(own: bool, debug: bool, m: Machine, align: usize, at: usize, e: Ex
         return header_size(debug, m, align, at, e, rows);
     }
     0
+}
+
+// The numbers of a function's relocations, five each.
+fn relocs_size(own: bool, debug: bool, m: Machine, e: Extent, rows: &[u64], pairs: &[u64]) -> usize
+    requires { ⌜ Sound m e (now rows) × (e .relaxed ≡ true → PairsReady e (now pairs)) ⌝ }
+    ensures { λ r. ⌜ r ≡ 5 * (length (frontRelocs own debug m 0 e (now (rows .entry))) + length (recordRelocs debug m 0 0 0 (meant e (now (rows .entry)) [] (now (pairs .entry))))) ⌝ }
+{
+    let n = record_relocs_count(debug, m, e, rows, pairs);
+    if own {
+        return 5 * (header_relocs_count(debug, e) + n);
+    }
+    5 * n
+}
+
+// What stands behind a function that is behind t. The place of a header that it does not own does not matter.
+fn sized(
+    own: bool,
+    debug: bool,
+    m: Machine,
+    align: usize,
+    e: Extent,
+    t: Table,
+    rows: &[u64],
+    landings: &[u64],
+    pairs: &[u64],
+) -> Table
+    requires { ⌜ SizeReady own debug m align e t (now rows) (now landings) (now pairs) ⌝ }
+    ensures { λ r. ⌜ r ≡ grownBy t (partIn own debug m align (t .bytes) 0 (t .sites) e (now (rows .entry)) (now (landings .entry)) (now (pairs .entry))) ⌝ }
+{
+    let behind = t.bytes + front_size(own, debug, m, align, t.bytes, e, rows);
+    Table {
+        bytes: behind + record_size(debug, m, align, behind, e, rows),
+        relocations: t.relocations + relocs_size(own, debug, m, e, rows, pairs),
+        sites: t.sites + call_sites_size(t.sites, e, landings),
+    }
 }
 
 // Questions 51 to 54: the results of n functions fit the lent lists, whose lengths are `places` and those of `room`.
