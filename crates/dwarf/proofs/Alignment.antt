@@ -8,6 +8,9 @@ use Rattle.format.specs.declared.Machine.{Machine}
 use Rattle.format.specs.declared.Section.{Section}
 use Rattle.format.specs.declared.Section.the-variants.{Elf, MachO, Debug}
 use Rattle.format.specs.Writer.{alignFor}
+use Rattle.format.proofs.FieldsBack.{word-small}
+use Rattle.format.proofs.Fits.{MachineFits}
+use Rattle.format.proofs.SectionSize.{Aligned}
 
 pub at-last : (s : Section) (word : ℕ) {last : Bool} → last ≡ true → word ≡ alignFor s word last
 unfolding alignFor pick
@@ -33,3 +36,10 @@ in-macho word last = refl
 pub in-debug : (word : ℕ) (last : Bool) → word ≡ alignFor Debug word last
 unfolding alignFor
 in-debug word last = refl
+
+pub align-ok : (s : Section) (m : Machine) → MachineFits m → (last : Bool) → Aligned (alignFor s (m .word) last)
+unfolding alignFor pick
+align-ok Elf m fit true = let w = word-small (m .word) (fit .is-word) in record { some-bytes = w .0; at-most-8 = w .1 }
+align-ok Elf m fit false = let w = word-small (m .word) (fit .is-word) in record { some-bytes = omega arith; at-most-8 = omega arith }
+align-ok MachO m fit last = let w = word-small (m .word) (fit .is-word) in record { some-bytes = w .0; at-most-8 = w .1 }
+align-ok Debug m fit last = let w = word-small (m .word) (fit .is-word) in record { some-bytes = w .0; at-most-8 = w .1 }

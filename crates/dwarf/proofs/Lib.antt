@@ -8,9 +8,10 @@ pub mod Asking
 pub mod Passed
 pub mod Owners
 pub mod Pieces
-pub mod Sizes
+pub mod Bounds
 pub mod Cleared
 pub mod Alignment
 pub mod Totals
 pub mod Stores
 pub mod OwnHeaders
+pub mod Sizing

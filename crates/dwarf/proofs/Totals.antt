@@ -28,7 +28,7 @@ use Rattle.dwarf.specs.Pieces.{frontIn, frontRelocs, partIn}
 use Rattle.headers.specs.Kinds.{headerRelocCount}
 use Rattle.headers.proofs.Personalities.{header-relocs-count}
 use Rattle.format.proofs.ListLaws.{each-length}
-use Rattle.dwarf.proofs.Sizes.{header-few, record-few}
+use Rattle.dwarf.proofs.Bounds.{header-few, record-few}
 use Rattle.dwarf.specs.Tables.{totalsIn, grownBy, SizeReady}
 use Rattle.dwarf.proofs.Fronts.{bytes-next, relocs-next, sites-next}
 use Rattle.dwarf.proofs.Owners.{owner-bound}

@@ -22,6 +22,10 @@ pub record Inputs : Type 0 where
   pub landings : List ℕ
   pub pairs : List ℕ
 
+abbrev pub inputs : Section → Machine → (functions rows landings pairs : List ℕ) → Inputs
+inputs s m functions rows landings pairs =
+    record { section = s; machine = m; functions = functions; rows = rows; landings = landings; pairs = pairs }
+
 abbrev pub countIn : Inputs → ℕ
 countIn x = count functionStride (x .functions)
 

@@ -6,6 +6,8 @@ use lib.ListN.{length}
 use Rattle.format.specs.Lists.{numbersOf}
 use Rattle.leading.specs.Functions.{Sound, LandingsReady, PairsReady, Listed}
 use Rattle.headers.specs.Kinds.{EncodingFits}
+use Rattle.dwarf.specs.declared.Table.{Table}
+use Rattle.dwarf.specs.Tables.{totalsIn}
 use Rattle.dwarf.specs.Parts.{Inputs, countIn, extentIn, bytesIn, relocsIn, sitesIn, partsTo}
 
 -- function k can be written, and what stands behind it is small
@@ -21,3 +23,9 @@ pub record Sure (x : Inputs) (k : ℕ) : Type 0 where
 
 pub record Cleared (x : Inputs) : Type 0 where
   pub each-one : (k : ℕ) → k < countIn x → Sure x k
+
+-- function k of n comes next, behind t
+pub record Next (x : Inputs) (k n : ℕ) (t : Table) : Type 0 where
+  pub sure : Sure x k
+  pub counted : n ≡ countIn x
+  pub behind : t ≡ totalsIn (partsTo x k)

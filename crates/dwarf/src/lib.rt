@@ -17,7 +17,9 @@ ghost use Rattle.lists.specs.Extents.{meant};
 ghost use Rattle.format.proofs.SectionSize.{Aligned};
 ghost use Rattle.leading.specs.Functions.{bodyOf, Sound, RowsReady, PairsReady};
 ghost use Rattle.dwarf.specs.Asks.{Askable, AllAskable, askedIn};
-ghost use Rattle.dwarf.specs.Tables.{grownBy, SizeReady, roomFor, FrontReady, FrontStored};
+ghost use Rattle.dwarf.specs.Parts.{inputs, partsTo};
+ghost use Rattle.dwarf.specs.Sure.{Cleared, Next};
+ghost use Rattle.dwarf.specs.Tables.{totalsIn, grownBy, SizeReady, roomFor, FrontReady, FrontStored};
 ghost use Rattle.dwarf.specs.Pieces.{frontIn, frontRelocs, partIn};
 use format::Machine;
 use format::Question;
@@ -36,6 +38,7 @@ use records::record_size;
 use rows::offset_at;
 use rows::row_at;
 use rows::row_whole;
+use search::choose;
 
 // ---- questions 21 to 25
 
@@ -285,6 +288,46 @@ fn sized(
         relocations: t.relocations + relocs_size(own, debug, m, e, rows, pairs),
         sites: t.sites + call_sites_size(t.sites, e, landings),
     }
+}
+
+// What stands behind function k of n, behind t.
+fn size_next(
+    s: Section,
+    m: Machine,
+    fs: &[u64],
+    rows: &[u64],
+    landings: &[u64],
+    pairs: &[u64],
+    k: usize,
+    n: usize,
+    t: Table,
+) -> Table
+    requires { ⌜ Next (inputs s m (now fs) (now rows) (now landings) (now pairs)) k n t ⌝ }
+    ensures { λ r. ⌜ r ≡ totalsIn (partsTo (inputs s m (now (fs .entry)) (now (rows .entry)) (now (landings .entry)) (now (pairs .entry))) (k + 1)) ⌝ }
+{
+    let e = taken(s, extent_at(fs, k));
+    let own = choose(s, m, fs, rows, k) == k;
+    let align = align_for(s, m.word, k + 1 == n);
+    sized(own, is_debug(s), m, align, e, t, rows, landings, pairs)
+}
+
+// What stands behind all functions.
+fn sizes(s: Section, m: Machine, fs: &[u64], rows: &[u64], landings: &[u64], pairs: &[u64]) -> Table
+    requires { ⌜ Cleared (inputs s m (now fs) (now rows) (now landings) (now pairs)) ⌝ }
+    ensures { λ r. ⌜ r ≡ totalsIn (partsTo (inputs s m (now (fs .entry)) (now (rows .entry)) (now (landings .entry)) (now (pairs .entry))) (count functionStride (now (fs .entry)))) ⌝ }
+{
+    let n = fs.len() / 18;
+    let mut t = Table {
+        bytes: 0,
+        relocations: 0,
+        sites: 0,
+    };
+    let mut k = 0;
+    while k < n {
+        t = size_next(s, m, fs, rows, landings, pairs, k, n, t);
+        k += 1;
+    }
+    t
 }
 
 // Questions 51 to 54: the results of n functions fit the lent lists, whose lengths are `places` and those of `room`.
