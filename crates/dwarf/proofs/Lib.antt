@@ -15,3 +15,4 @@ pub mod Totals
 pub mod Stores
 pub mod OwnHeaders
 pub mod Sizing
+pub mod PartStores

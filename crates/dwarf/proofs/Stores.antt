@@ -66,6 +66,15 @@ places-below x (suc k) j h =
     let e : j < length (placesIn (partsTo x k)) = omega (arith, places-length x k) in
     rw (places-next x k, List·getD-append) (omega (arith, places-below x k j l)))
 
+module _ {i o k : ℕ} (e : i ≡ o) (at : ℕ) (places : List ℕ) where
+  pub chosen-own : i ≡ k → record { own = true; cie = at } ≡ chosenBy o k at places
+  unfolding chosenBy pick
+  chosen-own h = rw (eq-eqb o k (sym e ∙ h))
+
+  pub chosen-other : (i ≡ k → ⊥) → record { own = false; cie = getD places i 0 } ≡ chosenBy o k at places
+  unfolding chosenBy pick
+  chosen-other h = rw (e, ne-eqb o k (λ q. h (e ∙ q)))
+
 module _ (x : Inputs) (k : ℕ) where
   abbrev chosen : List ℕ → Chosen
   chosen places = chosenBy (owner (x .section) (x .machine) (x .functions) (x .rows) k) k (length (bytesIn (partsTo x k))) places

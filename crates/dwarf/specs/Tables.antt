@@ -78,6 +78,19 @@ pub record FrontStored (own debug : Bool) (m : Machine) (align : ℕ) (e : Exten
   pub bytes-stored : Wrote bytes bytes′ (t .bytes) (u .bytes) (frontIn own debug m align (t .bytes) e rows)
   pub relocs-stored : Wrote relocs relocs′ (t .relocations) (u .relocations) (numbersOf (frontRelocs own debug m (t .bytes) e rows))
 
+-- a function's part, with its header at `cie`, can be stored behind t
+pub record PieceReady (own debug : Bool) (m : Machine) (align cie : ℕ) (e : Extent) (t : Table) (rows landings pairs bytes relocs sites : List ℕ) : Type 0 where
+  pub sound : Sound m e rows
+  pub encoding-fits : EncodingFits e
+  pub aligned : Aligned align
+  pub landings-ready : LandingsReady e landings
+  pub pairs-ready : e .relaxed ≡ true → PairsReady e pairs
+  pub near : cie ≤ t .bytes
+  pub small : Small (grownBy t (partIn own debug m align (t .bytes) cie (t .sites) e rows landings pairs))
+  pub bytes-fit : t .bytes + length (partIn own debug m align (t .bytes) cie (t .sites) e rows landings pairs .bytes) ≤ length bytes
+  pub relocs-fit : t .relocations + length (numbersOf (partIn own debug m align (t .bytes) cie (t .sites) e rows landings pairs .relocations)) ≤ length relocs
+  pub sites-fit : t .sites + length (partIn own debug m align (t .bytes) cie (t .sites) e rows landings pairs .sites) ≤ length sites
+
 -- what a function stores of its part behind t: bytes, relocations and call sites
 pub record Stored (p : Part) (t u : Table) (bytes bytes′ relocs relocs′ sites sites′ : List ℕ) : Type 0 where
   pub bytes-stored : Wrote bytes bytes′ (t .bytes) (u .bytes) (p .bytes)

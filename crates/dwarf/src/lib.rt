@@ -14,12 +14,14 @@ ghost use Rattle.format.specs.Questions.{sizeBytes, encodingsOk, stepsOk, pairs
 ghost use Rattle.format.specs.Writer.{isDebug, alignFor};
 ghost use Rattle.format.specs.Answers.{questionOf};
 ghost use Rattle.lists.specs.Extents.{meant};
+ghost use Rattle.format.proofs.Fits.{MachineFits};
 ghost use Rattle.format.proofs.SectionSize.{Aligned};
-ghost use Rattle.leading.specs.Functions.{bodyOf, Sound, RowsReady, PairsReady};
+ghost use Rattle.leading.specs.Functions.{bodyOf, Sound, Listed, RowsReady, PairsReady};
 ghost use Rattle.dwarf.specs.Asks.{Askable, AllAskable, askedIn};
 ghost use Rattle.dwarf.specs.Parts.{inputs, partsTo};
 ghost use Rattle.dwarf.specs.Sure.{Cleared, Next};
-ghost use Rattle.dwarf.specs.Tables.{totalsIn, grownBy, SizeReady, roomFor, FrontReady, FrontStored};
+ghost use Rattle.dwarf.specs.Tables.{totalsIn, grownBy, SizeReady, roomFor, FrontReady, FrontStored, PieceReady, Stored, chosenBy};
+ghost use Rattle.search.specs.Owners.{owner};
 ghost use Rattle.dwarf.specs.Pieces.{frontIn, frontRelocs, partIn};
 use format::Machine;
 use format::Question;
@@ -28,11 +30,15 @@ use headers::header;
 use headers::header_relocs;
 use headers::header_relocs_count;
 use headers::header_size;
+use headers::padding;
 use headers::pointer_size;
 use leading::taken;
 use lists::Extent;
 use lists::extent_at;
+use records::call_sites;
 use records::call_sites_size;
+use records::record;
+use records::record_relocs;
 use records::record_relocs_count;
 use records::record_size;
 use rows::offset_at;
@@ -375,5 +381,54 @@ fn front(
         bytes: at,
         relocations: i,
         sites: t.sites,
+    }
+}
+
+// A function's part behind t: its own header, where it has one, its record and its call sites.
+fn piece(
+    c: Chosen,
+    debug: bool,
+    m: Machine,
+    align: usize,
+    e: Extent,
+    t: Table,
+    rows: &[u64],
+    landings: &[u64],
+    pairs: &[u64],
+    bytes: &mut [u8],
+    relocations: &mut [u64],
+    sites: &mut [u8],
+) -> Table
+    requires { ⌜ PieceReady (c .own) debug m align (c .cie) e t (now rows) (now landings) (now pairs) (now bytes) (now relocations) (now sites) ⌝ }
+    ensures { λ r. ⌜ Stored (partIn (c .own) debug m align (t .bytes) (c .cie) (t .sites) e (now (rows .entry)) (now (landings .entry)) (now (pairs .entry))) t r (now (bytes .entry)) (now (bytes .exit)) (now (relocations .entry)) (now (relocations .exit)) (now (sites .entry)) (now (sites .exit)) ⌝ }
+{
+    let cie = c.cie;
+    let u = front(c.own, debug, m, align, e, t, rows, bytes, relocations);
+    let at = record(bytes, u.bytes, debug, m, align, cie, e, rows);
+    let table = t.sites + padding(4, t.sites);
+    let i = record_relocs(relocations, u.relocations, debug, m, u.bytes, cie, table, e, rows, pairs);
+    let end = call_sites(sites, t.sites, e, landings);
+    Table {
+        bytes: at,
+        relocations: i,
+        sites: end,
+    }
+}
+
+// The header of function k, behind `at` bytes: its own, or that of the first earlier function of its key.
+fn header_for(s: Section, m: Machine, fs: &[u64], rows: &[u64], k: usize, at: usize, places: &[u64]) -> Chosen
+    requires { ⌜ MachineFits m × Listed (now fs) (now rows) (k + 1) × (k ≤ length (now places)) ⌝ }
+    ensures { λ r. ⌜ r ≡ chosenBy (owner s m (now (fs .entry)) (now (rows .entry)) k) k at (now (places .entry)) ⌝ }
+{
+    let o = choose(s, m, fs, rows, k);
+    if o == k {
+        return Chosen {
+            own: true,
+            cie: at,
+        };
+    }
+    Chosen {
+        own: false,
+        cie: places[o] as usize,
     }
 }
