@@ -16,3 +16,4 @@ pub mod Stores
 pub mod OwnHeaders
 pub mod Sizing
 pub mod PartStores
+pub mod Writing

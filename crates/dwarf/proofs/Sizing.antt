@@ -34,7 +34,7 @@ module _ {x : Inputs} {k n : ℕ} {t : Table} (c : Next x k n t) where
   pub align-is : {a : ℕ} → a ≡ alignFor (x .section) (x .machine .word) (eqb (k + 1) n) → a ≡ alignIn x k
   align-is e = rw (add-one k, c .counted) at e
 
-  small-next : Small (totalsIn (partsTo x (k + 1)))
+  pub small-next : Small (totalsIn (partsTo x (k + 1)))
   unfolding totalsIn
   small-next = rw (add-one k) (record {
     bytes = omega (arith, c .sure .bytes-few);
