@@ -20,13 +20,14 @@ use Rattle.dwarf.specs.declared.Table.{Table}
 use Rattle.dwarf.specs.declared.Chosen.{Chosen}
 use Rattle.dwarf.specs.Parts.{Inputs, countIn, extentIn, alignIn, placesIn, bytesIn, relocsIn, sitesIn, partBehind, partsTo}
 use Rattle.dwarf.specs.Pieces.{partIn}
-use Rattle.dwarf.specs.Tables.{totalsIn, grownBy, Small, chosenBy, PieceReady, Stored, Added, Holds}
-use Rattle.dwarf.specs.Sure.{Sure, Next, PartReady}
+use Rattle.dwarf.specs.Tables.{totalsIn, grownBy, Small, chosenBy, PieceReady, nothing, Stored, Added, Written, Holds}
+use Rattle.dwarf.specs.Sure.{Cleared, PartReady}
 use Rattle.dwarf.proofs.Alignment.{align-ok}
 use Rattle.dwarf.proofs.Fronts.{bytes-next, relocs-next, sites-next}
 use Rattle.dwarf.proofs.Totals.{totals-next}
 use Rattle.dwarf.proofs.Sizing.{align-is, searchable, small-next}
 use Rattle.dwarf.proofs.Stores.{chosen-part, chosen-near}
+use Rattle.dwarf.proofs.Stores as stores
 
 module _ {x : Inputs} {k n : ℕ} {t : Table} {places bytes relocs sites : List ℕ} (r : PartReady x k n t places bytes relocs sites) where
   pub choosable : MachineFits (x .machine) × Listed (x .functions) (x .rows) (k + 1) × (k ≤ length places)
@@ -89,3 +90,33 @@ module _ {x : Inputs} {k n : ℕ} {t : Table} {places bytes relocs sites : List 
       place-stored = record { past = refl; stored = rw place-is (sym (put-one places k (c .cie))) };
       rest-stored = rw piece-is at s;
     }
+
+-- ---- all of them
+
+-- k of n functions have been written into lists with room for all
+pub record Going (x : Inputs) (n k : ℕ) (t : Table) (places places′ bytes bytes′ relocs relocs′ sites sites′ : List ℕ) : Type 0 where
+  pub counted : n ≡ countIn x
+  pub high : k ≤ n
+  pub fit : Holds x n places bytes relocs sites
+  pub done : Written x k t places places′ bytes bytes′ relocs relocs′ sites sites′
+
+pub start : (x : Inputs) {places bytes relocs sites : List ℕ} → Holds x (countIn x) places bytes relocs sites
+    → Going x (countIn x) 0 nothing places places bytes bytes relocs relocs sites sites
+start x h = record { counted = refl; high = omega arith; fit = h; done = stores.start x _ _ _ _ }
+
+module _ {x : Inputs} {n k : ℕ} {t : Table} {places places′ bytes bytes′ relocs relocs′ sites sites′ : List ℕ} (g : Going x n k t places places′ bytes bytes′ relocs relocs′ sites sites′) where
+  pub ready : Cleared x → k < n → PartReady x k n t places′ bytes′ relocs′ sites′
+  ready s h = record {
+    coming = record { sure = s .each-one k (omega (arith, g .counted)); counted = g .counted; behind = stores.behind x (g .done) };
+    fit = stores.fewer x h (stores.holds x (g .done) (g .fit));
+    held = stores.held x (g .done) (omega (arith, g .fit .places-fit));
+  }
+
+  pub turn : {u : Table} {places″ bytes″ relocs″ sites″ : List ℕ} → k < n → Added x k t u places′ places″ bytes′ bytes″ relocs′ relocs″ sites′ sites″
+      → Going x n (k + 1) u places places″ bytes bytes″ relocs relocs″ sites sites″
+  turn h a = record { counted = g .counted; high = omega arith; fit = g .fit; done = stores.turn x (g .done) a }
+
+  pub ended : n ≤ k → Written x (countIn x) t places places′ bytes bytes′ relocs relocs′ sites sites′
+  ended h =
+      let e : k ≡ countIn x = omega (arith, g .high, g .counted) in
+      rw e at (g .done)

@@ -19,8 +19,8 @@ ghost use Rattle.format.proofs.SectionSize.{Aligned};
 ghost use Rattle.leading.specs.Functions.{bodyOf, Sound, Listed, RowsReady, PairsReady};
 ghost use Rattle.dwarf.specs.Asks.{Askable, AllAskable, askedIn};
 ghost use Rattle.dwarf.specs.Parts.{inputs, partsTo};
-ghost use Rattle.dwarf.specs.Sure.{Cleared, Next};
-ghost use Rattle.dwarf.specs.Tables.{totalsIn, grownBy, SizeReady, roomFor, FrontReady, FrontStored, PieceReady, Stored, chosenBy};
+ghost use Rattle.dwarf.specs.Sure.{Cleared, Next, PartReady};
+ghost use Rattle.dwarf.specs.Tables.{totalsIn, grownBy, SizeReady, roomFor, FrontReady, FrontStored, PieceReady, Stored, Added, Written, Holds, chosenBy};
 ghost use Rattle.search.specs.Owners.{owner};
 ghost use Rattle.dwarf.specs.Pieces.{frontIn, frontRelocs, partIn};
 use format::Machine;
@@ -431,4 +431,60 @@ fn header_for(s: Section, m: Machine, fs: &[u64], rows: &[u64], k: usize, at: us
         own: false,
         cie: places[o] as usize,
     }
+}
+
+// Function k of n, behind t.
+fn part(
+    s: Section,
+    m: Machine,
+    fs: &[u64],
+    rows: &[u64],
+    landings: &[u64],
+    pairs: &[u64],
+    k: usize,
+    n: usize,
+    t: Table,
+    places: &mut [u64],
+    bytes: &mut [u8],
+    relocations: &mut [u64],
+    sites: &mut [u8],
+) -> Table
+    requires { ⌜ PartReady (inputs s m (now fs) (now rows) (now landings) (now pairs)) k n t (now places) (now bytes) (now relocations) (now sites) ⌝ }
+    ensures { λ r. ⌜ Added (inputs s m (now (fs .entry)) (now (rows .entry)) (now (landings .entry)) (now (pairs .entry))) k t r (now (places .entry)) (now (places .exit)) (now (bytes .entry)) (now (bytes .exit)) (now (relocations .entry)) (now (relocations .exit)) (now (sites .entry)) (now (sites .exit)) ⌝ }
+{
+    let e = taken(s, extent_at(fs, k));
+    let c = header_for(s, m, fs, rows, k, t.bytes, places);
+    let align = align_for(s, m.word, k + 1 == n);
+    places[k] = c.cie as u64;
+    piece(c, is_debug(s), m, align, e, t, rows, landings, pairs, bytes, relocations, sites)
+}
+
+// All functions.
+fn store(
+    s: Section,
+    m: Machine,
+    fs: &[u64],
+    rows: &[u64],
+    landings: &[u64],
+    pairs: &[u64],
+    places: &mut [u64],
+    bytes: &mut [u8],
+    relocations: &mut [u64],
+    sites: &mut [u8],
+) -> Table
+    requires { ⌜ Cleared (inputs s m (now fs) (now rows) (now landings) (now pairs)) × Holds (inputs s m (now fs) (now rows) (now landings) (now pairs)) (count functionStride (now fs)) (now places) (now bytes) (now relocations) (now sites) ⌝ }
+    ensures { λ r. ⌜ Written (inputs s m (now (fs .entry)) (now (rows .entry)) (now (landings .entry)) (now (pairs .entry))) (count functionStride (now (fs .entry))) r (now (places .entry)) (now (places .exit)) (now (bytes .entry)) (now (bytes .exit)) (now (relocations .entry)) (now (relocations .exit)) (now (sites .entry)) (now (sites .exit)) ⌝ }
+{
+    let n = fs.len() / 18;
+    let mut t = Table {
+        bytes: 0,
+        relocations: 0,
+        sites: 0,
+    };
+    let mut k = 0;
+    while k < n {
+        t = part(s, m, fs, rows, landings, pairs, k, n, t, places, bytes, relocations, sites);
+        k += 1;
+    }
+    t
 }
