@@ -22,7 +22,7 @@ module _ (f g : ℕ → Landing) (at : ℕ) where
   kind-any zero o = refl
   kind-any (suc n) o = refl
 
-  encodings-any : (word n : ℕ) (o : Option Named) → encodingsOk word (each f at n) o ≡ encodingsOk word (each g at n) o
+  pub encodings-any : (word n : ℕ) (o : Option Named) → encodingsOk word (each f at n) o ≡ encodingsOk word (each g at n) o
   unfolding encodingsOk each
   encodings-any word zero o = refl
   encodings-any word (suc n) o = refl

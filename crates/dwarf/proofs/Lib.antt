@@ -17,3 +17,4 @@ pub mod OwnHeaders
 pub mod Sizing
 pub mod PartStores
 pub mod Writing
+pub mod Outcomes
