@@ -10,7 +10,7 @@ ghost use Rattle.format.specs.Machine.{isWord};
 ghost use Rattle.format.specs.Rows.{rowWhole};
 ghost use Rattle.format.specs.Lists.{field, rowStride, pairStride, functionStride, count, lineAt, pairAt};
 ghost use Rattle.format.specs.Records.{recordRelocs};
-ghost use Rattle.format.specs.Questions.{sizeBytes, encodingsOk, stepsOk, pairsOk, dwarfAsks, perFunction};
+ghost use Rattle.format.specs.Questions.{sizeBytes, encodingsOk, stepsOk, pairsOk, dwarfAsks, perFunction, fitting};
 ghost use Rattle.format.specs.Writer.{isDebug, alignFor};
 ghost use Rattle.format.specs.Answers.{questionOf};
 ghost use Rattle.lists.specs.Extents.{meant};
@@ -18,12 +18,15 @@ ghost use Rattle.format.proofs.Fits.{MachineFits};
 ghost use Rattle.format.proofs.SectionSize.{Aligned};
 ghost use Rattle.leading.specs.Functions.{bodyOf, Sound, Listed, RowsReady, PairsReady};
 ghost use Rattle.dwarf.specs.Asks.{Askable, AllAskable, askedIn};
-ghost use Rattle.dwarf.specs.Parts.{inputs, partsTo};
+ghost use Rattle.dwarf.specs.Parts.{inputs, writtenIn, partsTo};
 ghost use Rattle.dwarf.specs.Sure.{Cleared, Next, PartReady};
+ghost use Rattle.dwarf.specs.Delivered.{roomIn, Delivered};
 ghost use Rattle.dwarf.specs.Tables.{totalsIn, grownBy, SizeReady, roomFor, FrontReady, FrontStored, PieceReady, Stored, Added, Written, Holds, chosenBy};
 ghost use Rattle.search.specs.Owners.{owner};
 ghost use Rattle.dwarf.specs.Pieces.{frontIn, frontRelocs, partIn};
+use format::Counts;
 use format::Machine;
+use format::Outcome;
 use format::Question;
 use format::Section;
 use headers::header;
@@ -487,4 +490,42 @@ fn store(
         k += 1;
     }
     t
+}
+
+// ---- the whole
+
+// The functions sized and, where there is room, written.
+fn fitted(
+    s: Section,
+    m: Machine,
+    fs: &[u64],
+    rows: &[u64],
+    landings: &[u64],
+    pairs: &[u64],
+    places: &mut [u64],
+    bytes: &mut [u8],
+    relocations: &mut [u64],
+    sites: &mut [u8],
+) -> Outcome
+    requires { ⌜ Cleared (inputs s m (now fs) (now rows) (now landings) (now pairs)) ⌝ }
+    ensures { λ r. ⌜ Delivered (fitting (roomIn (now (places .entry)) (now (bytes .entry)) (now (relocations .entry)) (now (sites .entry))) (writtenIn (partsTo (inputs s m (now (fs .entry)) (now (rows .entry)) (now (landings .entry)) (now (pairs .entry))) (count functionStride (now (fs .entry)))))) r (now (places .entry)) (now (places .exit)) (now (bytes .entry)) (now (bytes .exit)) (now (relocations .entry)) (now (relocations .exit)) (now (sites .entry)) (now (sites .exit)) ⌝ }
+{
+    let n = fs.len() / 18;
+    let t = sizes(s, m, fs, rows, landings, pairs);
+    let lent = Table {
+        bytes: bytes.len(),
+        relocations: relocations.len(),
+        sites: sites.len(),
+    };
+    let q = room(n, t, places.len(), lent);
+    if let Question::No(number, position) = q {
+        return Outcome::Refused(number, position);
+    }
+    store(s, m, fs, rows, landings, pairs, places, bytes, relocations, sites);
+    Outcome::Accepted(Counts {
+        places: n as u64,
+        bytes: t.bytes as u64,
+        relocations: (t.relocations / 5) as u64,
+        sites: t.sites as u64,
+    })
 }
