@@ -138,34 +138,32 @@ module _ (s : Section) (g : Given) where
   unfolding givenFunctions
   written-is = written-parts x
 
+  module _ (m : machineOk (g .machine) ≡ true) (l : listsOk (g .functions) (g .rows) (g .landings) (g .pairs) ≡ true) where
+    pub given-yes : givenAsks g ≡ none
+    unfolding givenAsks ask andThen pick
+    given-yes = rw (m, l)
+
+    module _ {q : declared.Question} {word : ℕ} (w : word ≡ machineOf (g .machine) .word) (k : q ≡ questionOf (perFunction (dwarfAsks s word) 0 (each (askedIn s (g .functions) (g .rows) (g .pairs)) 0 (countIn x)))) where
+      told : q ≡ questionOf (perFunction (dwarfAsks s (machineOf (g .machine) .word)) 0 (map (taken s) (givenFunctions g)))
+      told = k ∙ ap questionOf (rw w (sym (asks-are (machineOf (g .machine) .word))))
+
+      pub functions-yes : q ≡ Yes → perFunction (dwarfAsks s (machineOf (g .machine) .word)) 0 (map (taken s) (givenFunctions g)) ≡ none
+      functions-yes y = said-yes _ (sym told ∙ y)
+
+      module _ (r : Room) where
+        pub no-function : {i j : ℕ} → q ≡ No i j → dwarfGiven s g r ≡ refused i j
+        unfolding dwarfGiven dwarfAnswer unless
+        no-function n = rw given-yes (no-decides _ _ (sym told ∙ n))
+
+        pub all-yes : q ≡ Yes → dwarfGiven s g r ≡ fitting r (writtenIn (partsTo x (countIn x)))
+        unfolding dwarfGiven dwarfAnswer unless
+        all-yes y = rw (given-yes, functions-yes y) (ap (fitting r) written-is)
+
   module _ (r : Room) where
     pub no-machine : machineOk (g .machine) ≡ false → dwarfGiven s g r ≡ refused 11 0
     unfolding dwarfGiven givenAsks ask andThen unless pick
     no-machine m = rw m
 
-    module _ (m : machineOk (g .machine) ≡ true) where
-      pub no-lists : listsOk (g .functions) (g .rows) (g .landings) (g .pairs) ≡ false → dwarfGiven s g r ≡ refused 13 0
-      unfolding dwarfGiven givenAsks ask andThen unless pick
-      no-lists l = rw (m, l)
-
-      module _ (l : listsOk (g .functions) (g .rows) (g .landings) (g .pairs) ≡ true) where
-        pub given-yes : givenAsks g ≡ none
-        unfolding givenAsks ask andThen pick
-        given-yes = rw (m, l)
-
-        module _ {q : declared.Question} {word : ℕ} (w : word ≡ machineOf (g .machine) .word) (k : q ≡ questionOf (perFunction (dwarfAsks s word) 0 (each (askedIn s (g .functions) (g .rows) (g .pairs)) 0 (countIn x)))) where
-          told : q ≡ questionOf (perFunction (dwarfAsks s (machineOf (g .machine) .word)) 0 (map (taken s) (givenFunctions g)))
-          told = k ∙ ap questionOf (rw w (sym (asks-are (machineOf (g .machine) .word))))
-
-          pub no-function : {i j : ℕ} → q ≡ No i j → dwarfGiven s g r ≡ refused i j
-          unfolding dwarfGiven dwarfAnswer unless
-          no-function n = rw given-yes (no-decides _ _ (sym told ∙ n))
-
-          module _ (y : q ≡ Yes) where
-            pub functions-yes : perFunction (dwarfAsks s (machineOf (g .machine) .word)) 0 (map (taken s) (givenFunctions g)) ≡ none
-            functions-yes = said-yes _ (sym told ∙ y)
-
-            pub all-yes : dwarfGiven s g r ≡ fitting r (writtenIn (partsTo x (countIn x)))
-            unfolding dwarfGiven dwarfAnswer unless
-            all-yes = rw (given-yes, functions-yes) (ap (fitting r) written-is)
-
+    pub no-lists : machineOk (g .machine) ≡ true → listsOk (g .functions) (g .rows) (g .landings) (g .pairs) ≡ false → dwarfGiven s g r ≡ refused 13 0
+    unfolding dwarfGiven givenAsks ask andThen unless pick
+    no-lists m l = rw (m, l)
