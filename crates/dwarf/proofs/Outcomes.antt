@@ -1,22 +1,19 @@
 -- From the passes to the answer: refusals leave all as it was, and acceptance stores the whole.
-use mathlib.Core.Path.{_≡_, refl, sym, ap, subst, _∙_}
-use Prim.Native.Nat.{ℕ, zero, suc, _+_, _*_, _/_, _≤_, _<_}
+use mathlib.Core.Path.{_≡_, refl, sym, ap, _∙_}
+use Prim.Native.Nat.{ℕ, zero, suc, _/_}
 use native.Mathlib.Omega.{arith}
 use mathlib.Core.Bool.{Bool, true, false}
 use mathlib.Core.Option.{none, some}
-use mathlib.Core.List.{List, [], _∷_, map}
-use borrow.Author.Tests.{leb-true}
-use lib.Dec.{T, leb, leb→le}
+use mathlib.Core.List.{List, [], map}
+use lib.Dec.{T, leb→le}
 use lib.ListN.{length}
 use Rattle.format.specs.Test.{pick, each}
 use Rattle.format.specs.declared.Section.{Section}
-use Rattle.format.specs.declared.Counts.{Counts}
-use Rattle.format.specs.declared.Outcome.{Outcome}
 use Rattle.format.specs.declared.Outcome.the-variants as outcome
 use Rattle.format.specs.declared.Question as declared
 use Rattle.format.specs.declared.Question.the-variants.{Yes, No}
 use Rattle.format.specs.Machine.{machineOf, machineOk}
-use Rattle.format.specs.Lists.{numbersOf, landingAt, functionsOf, listsOk}
+use Rattle.format.specs.Lists.{numbersOf, landingAt, listsOk}
 use Rattle.format.specs.Questions.{Question, ask, andThen, perFunction, dwarfAsks, Given, Room, Answer, refused, accepted, unless, fitting, roomAsks, givenAsks, givenFunctions, dwarfAnswer, dwarfGiven}
 use Rattle.format.specs.Answers.{questionOf, outcomeOf, afterwards, relocationNumbers}
 use Rattle.format.specs.Writer.{taken, dwarf}
