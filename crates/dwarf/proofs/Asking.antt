@@ -1,10 +1,9 @@
 -- Questions 21 to 25 asked function by function, up to the first no.
 use mathlib.Core.Path.{_≡_, refl, sym, ap, _∙_}
-use Prim.Native.Nat.{ℕ, zero, suc, _+_, _-_, _≤_, _<_}
+use Prim.Native.Nat.{ℕ, suc, _+_, _-_, _≤_, _<_}
 use native.Mathlib.Omega.{arith}
 use native.Mathlib.Numerals.{add-one}
 use mathlib.Core.Option.{none, some}
-use mathlib.Core.List.{List, [], _∷_}
 use Rattle.format.specs.Test.{each}
 use Rattle.format.specs.Answers.{questionOf}
 use Rattle.format.specs.declared.Question as declared

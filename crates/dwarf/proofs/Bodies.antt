@@ -3,12 +3,12 @@ use mathlib.Core.Path.{_≡_, refl, sym, _∙_}
 use Prim.Native.Nat.{ℕ, zero, suc, _+_, _-_}
 use mathlib.Core.Bool.{Bool, true, false}
 use mathlib.Core.Option.{Option, none, some}
-use mathlib.Core.List.{List, [], _∷_}
+use mathlib.Core.List.{List, []}
 use Rattle.format.specs.Test.{pick, each}
 use Rattle.format.specs.declared.Machine.{Machine}
 use Rattle.format.specs.Lists.{Landing, Named, Relaxed, landingAt, pairAt}
-use Rattle.format.specs.Headers.{Key, keyOf, kindFor, leading}
-use Rattle.format.specs.Records.{lsdaBlank, lsdaReloc, sizeField, sumPair, rowRelocs, recordFields, recordBytes, recordRelocs}
+use Rattle.format.specs.Headers.{keyOf, kindFor, leading}
+use Rattle.format.specs.Records.{lsdaBlank, lsdaReloc, sizeField, sumPair, recordFields, recordBytes, recordRelocs}
 use Rattle.format.specs.Questions.{encodingsOk}
 use Rattle.lists.specs.declared.Extent.{Extent}
 use Rattle.lists.specs.Extents.{meant}

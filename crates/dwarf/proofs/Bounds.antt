@@ -1,6 +1,6 @@
 -- How many relocations and call-site bytes an accepted list can have.
 use mathlib.Core.Path.{_≡_, refl, ap}
-use Prim.Native.Nat.{ℕ, zero, suc, _+_, _-_, _*_, _^_, _≤_, _<_}
+use Prim.Native.Nat.{ℕ, _+_, _-_, _*_, _≤_}
 use native.Mathlib.Omega.{arith}
 use mathlib.Core.Bool.{Bool, true, false}
 use mathlib.Core.Option.{Option, none, some}
@@ -9,12 +9,11 @@ use lib.ListN.{length, length-append, length-replicate}
 use Rattle.format.specs.Test.{pick}
 use Rattle.format.specs.declared.Machine.{Machine}
 use Rattle.format.specs.declared.Section.{Section}
-use Rattle.format.specs.Rows.{Line, stepForm, stepBytes, rowBytes}
-use Rattle.format.specs.Lists.{Function, Landing, Named, Pointer, Pair, Relaxed, Relocation}
+use Rattle.format.specs.Rows.{Line}
+use Rattle.format.specs.Lists.{Function, Landing, Named, Pointer, Relaxed}
 use Rattle.format.specs.Headers.{Kind, plain, personal, named, Key, keyOf, others, kindRelocs, headerRelocs, padding}
-use Rattle.format.specs.Records.{pointerTo, namedReloc, lsdaReloc, sumPair, pairFor, setPair, stepRelocs, rowRelocs, recordFields, recordRelocs}
+use Rattle.format.specs.Records.{pointerTo, namedReloc, lsdaReloc, sumPair, rowRelocs, recordFields, recordRelocs}
 use Rattle.format.specs.CallSites.{siteBytes, sitesBytes, siteTable, sitePad, siteAdded}
-use Rattle.format.specs.Leb.{uleb}
 use Rattle.format.specs.Writer.{isDebug, Seen, Part, partsFrom, partOf, isEmpty, joined, partWith}
 use Rattle.format.proofs.EntryBack.{padding-small}
 use Rattle.format.proofs.Leading.{others-count}

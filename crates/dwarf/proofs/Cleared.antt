@@ -1,21 +1,20 @@
 -- From the answers of questions 11 to 25 to what the passes rely on.
-use mathlib.Core.Path.{_≡_, refl, sym, ap, subst, _∙_}
-use Prim.Native.Nat.{ℕ, zero, suc, _+_, _*_, _^_, _≤_, _<_}
+use mathlib.Core.Path.{_≡_, _∙_}
+use Prim.Native.Nat.{ℕ, zero, suc, _*_, _^_, _≤_, _<_}
 use native.Mathlib.Omega.{arith}
-use mathlib.Core.Bool.{Bool, true, false}
-use mathlib.Core.Option.{none, some}
-use mathlib.Core.List.{List, [], _∷_, _++_, map}
+use mathlib.Core.Bool.{true, false}
+use mathlib.Core.Option.{none}
+use mathlib.Core.List.{List, [], map}
 use borrow.Author.Tests.{le-leb, ne-eqb}
-use lib.Dec.{T, leb, eqb}
-use lib.ListN.{length, length-append, length-map}
+use lib.Dec.{leb}
+use lib.ListN.{length}
 use Rattle.format.specs.Test.{pick, each}
-use Rattle.format.specs.declared.Machine.{Machine}
 use Rattle.format.specs.declared.Section.{Section}
 use Rattle.format.specs.declared.Section.the-variants.{Elf, MachO, Debug}
 use Rattle.format.specs.Machine.{machineOf}
-use Rattle.format.specs.Lists.{Function, Relocation, functionStride, field, count, sumOf, functionsOf, listsOk, numbersOf}
-use Rattle.format.specs.Writer.{Part, Written, taken, partsOf, dwarf, joined}
-use Rattle.format.specs.Questions.{Given, Room, Answer, accepted, ask, andThen, roomAsks, unless, fitting, dwarfAsks, perFunction, dwarfAnswer, dwarfGiven, givenAsks, givenFunctions, noFunctions, formatAnswer, relaxedTable, relaxedDebugFrame, dwarfWritten}
+use Rattle.format.specs.Lists.{Function, functionStride, field, count, sumOf, functionsOf}
+use Rattle.format.specs.Writer.{Written, taken, partsOf, dwarf}
+use Rattle.format.specs.Questions.{Given, Room, accepted, ask, andThen, roomAsks, unless, fitting, dwarfAsks, perFunction, dwarfAnswer, dwarfGiven, givenAsks, givenFunctions, noFunctions, formatAnswer, relaxedTable, relaxedDebugFrame, dwarfWritten}
 use Rattle.format.proofs.Accepted.{Accepted, accepted-is, function-fits-at}
 use Rattle.format.proofs.Fits.{FunctionFits}
 use Rattle.format.proofs.Parts.{relocsOf}

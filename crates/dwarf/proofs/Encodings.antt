@@ -1,14 +1,14 @@
 -- Question 22 by a function's marks.
-use mathlib.Core.Path.{_≡_, refl, sym, ap, _∙_}
-use Prim.Native.Nat.{ℕ, zero, suc, _%_, _≤_, _<_}
+use mathlib.Core.Path.{_≡_, refl, sym, _∙_}
+use Prim.Native.Nat.{ℕ, zero, suc, _<_}
 use native.Mathlib.Omega.{arith}
-use mathlib.Core.Bool.{Bool, true, false, not, _&&_, _||_}
+use mathlib.Core.Bool.{Bool, true, false, not}
 use mathlib.Core.Option.{Option, none, some}
-use mathlib.Core.List.{List, []}
-use borrow.Author.Tests.{eq-eqb, ne-eqb}
-use lib.Dec.{T, eqb, ltb}
+use mathlib.Core.List.{[]}
+use borrow.Author.Tests.{ne-eqb}
+use lib.Dec.{eqb}
 use Rattle.format.specs.Test.{pick, each}
-use Rattle.format.specs.Lists.{Named, Pointer, Landing, landingAt}
+use Rattle.format.specs.Lists.{Named, Landing, landingAt}
 use Rattle.format.specs.Headers.{sizeOf, pointerSize, sizeOr0}
 use Rattle.format.specs.Questions.{isSome, lsdaOk, namedOk, encodingsOk}
 use Rattle.lists.specs.declared.Extent.{Extent}

@@ -3,17 +3,14 @@ use mathlib.Core.Path.{_≡_, refl, sym, ap, _∙_}
 use Prim.Native.Nat.{ℕ, zero, suc, _+_, _-_, _≤_}
 use native.Mathlib.Omega.{arith}
 use native.Mathlib.Nat.{add-zero, zero-add}
-use mathlib.Core.Bool.{Bool, true, false}
 use mathlib.Core.List.{List, [], _∷_, _++_, map, append-assoc, append-nil}
 use borrow.Author.Tests.{eq-eqb, ne-eqb}
 use lib.Dec.{eqb}
 use lib.ListN.{length, length-append, length-map}
 use Rattle.format.specs.Test.{each}
-use Rattle.format.specs.declared.Machine.{Machine}
-use Rattle.format.specs.declared.Section.{Section}
 use Rattle.format.specs.Lists.{Function, functionAt, functionsOf}
 use Rattle.format.specs.Headers.{Key, keyOf}
-use Rattle.format.specs.Writer.{Part, Seen, taken, partOf, isEmpty, partsFrom, partsOf, joined, dwarf, Written}
+use Rattle.format.specs.Writer.{Part, taken, partOf, isEmpty, partsFrom, partsOf, joined, dwarf}
 use Rattle.lists.specs.Extents.{extentAt}
 use Rattle.lists.proofs.Extents.{means}
 use Rattle.leading.proofs.Functions.{taken-means}

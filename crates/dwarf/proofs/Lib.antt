@@ -18,3 +18,4 @@ pub mod Sizing
 pub mod PartStores
 pub mod Writing
 pub mod Outcomes
+pub mod Whole

@@ -1,22 +1,19 @@
 -- From the passes to the answer: refusals leave all as it was, and acceptance stores the whole.
-use mathlib.Core.Path.{_≡_, refl, sym, ap, subst, _∙_}
-use Prim.Native.Nat.{ℕ, zero, suc, _+_, _*_, _/_, _≤_, _<_}
+use mathlib.Core.Path.{_≡_, refl, sym, ap, _∙_}
+use Prim.Native.Nat.{ℕ, zero, suc, _/_}
 use native.Mathlib.Omega.{arith}
 use mathlib.Core.Bool.{Bool, true, false}
 use mathlib.Core.Option.{none, some}
-use mathlib.Core.List.{List, [], _∷_, map}
-use borrow.Author.Tests.{leb-true}
-use lib.Dec.{T, leb, leb→le}
+use mathlib.Core.List.{List, [], map}
+use lib.Dec.{T, leb→le}
 use lib.ListN.{length}
 use Rattle.format.specs.Test.{pick, each}
 use Rattle.format.specs.declared.Section.{Section}
-use Rattle.format.specs.declared.Counts.{Counts}
-use Rattle.format.specs.declared.Outcome.{Outcome}
 use Rattle.format.specs.declared.Outcome.the-variants as outcome
 use Rattle.format.specs.declared.Question as declared
 use Rattle.format.specs.declared.Question.the-variants.{Yes, No}
 use Rattle.format.specs.Machine.{machineOf, machineOk}
-use Rattle.format.specs.Lists.{numbersOf, landingAt, functionsOf, listsOk}
+use Rattle.format.specs.Lists.{numbersOf, landingAt, listsOk}
 use Rattle.format.specs.Questions.{Question, ask, andThen, perFunction, dwarfAsks, Given, Room, Answer, refused, accepted, unless, fitting, roomAsks, givenAsks, givenFunctions, dwarfAnswer, dwarfGiven}
 use Rattle.format.specs.Answers.{questionOf, outcomeOf, afterwards, relocationNumbers}
 use Rattle.format.specs.Writer.{taken, dwarf}
@@ -138,34 +135,32 @@ module _ (s : Section) (g : Given) where
   unfolding givenFunctions
   written-is = written-parts x
 
+  module _ (m : machineOk (g .machine) ≡ true) (l : listsOk (g .functions) (g .rows) (g .landings) (g .pairs) ≡ true) where
+    pub given-yes : givenAsks g ≡ none
+    unfolding givenAsks ask andThen pick
+    given-yes = rw (m, l)
+
+    module _ {q : declared.Question} {word : ℕ} (w : word ≡ machineOf (g .machine) .word) (k : q ≡ questionOf (perFunction (dwarfAsks s word) 0 (each (askedIn s (g .functions) (g .rows) (g .pairs)) 0 (countIn x)))) where
+      told : q ≡ questionOf (perFunction (dwarfAsks s (machineOf (g .machine) .word)) 0 (map (taken s) (givenFunctions g)))
+      told = k ∙ ap questionOf (rw w (sym (asks-are (machineOf (g .machine) .word))))
+
+      pub functions-yes : q ≡ Yes → perFunction (dwarfAsks s (machineOf (g .machine) .word)) 0 (map (taken s) (givenFunctions g)) ≡ none
+      functions-yes y = said-yes _ (sym told ∙ y)
+
+      module _ (r : Room) where
+        pub no-function : {i j : ℕ} → q ≡ No i j → dwarfGiven s g r ≡ refused i j
+        unfolding dwarfGiven dwarfAnswer unless
+        no-function n = rw given-yes (no-decides _ _ (sym told ∙ n))
+
+        pub all-yes : q ≡ Yes → dwarfGiven s g r ≡ fitting r (writtenIn (partsTo x (countIn x)))
+        unfolding dwarfGiven dwarfAnswer unless
+        all-yes y = rw (given-yes, functions-yes y) (ap (fitting r) written-is)
+
   module _ (r : Room) where
     pub no-machine : machineOk (g .machine) ≡ false → dwarfGiven s g r ≡ refused 11 0
     unfolding dwarfGiven givenAsks ask andThen unless pick
     no-machine m = rw m
 
-    module _ (m : machineOk (g .machine) ≡ true) where
-      pub no-lists : listsOk (g .functions) (g .rows) (g .landings) (g .pairs) ≡ false → dwarfGiven s g r ≡ refused 13 0
-      unfolding dwarfGiven givenAsks ask andThen unless pick
-      no-lists l = rw (m, l)
-
-      module _ (l : listsOk (g .functions) (g .rows) (g .landings) (g .pairs) ≡ true) where
-        pub given-yes : givenAsks g ≡ none
-        unfolding givenAsks ask andThen pick
-        given-yes = rw (m, l)
-
-        module _ {q : declared.Question} {word : ℕ} (w : word ≡ machineOf (g .machine) .word) (k : q ≡ questionOf (perFunction (dwarfAsks s word) 0 (each (askedIn s (g .functions) (g .rows) (g .pairs)) 0 (countIn x)))) where
-          told : q ≡ questionOf (perFunction (dwarfAsks s (machineOf (g .machine) .word)) 0 (map (taken s) (givenFunctions g)))
-          told = k ∙ ap questionOf (rw w (sym (asks-are (machineOf (g .machine) .word))))
-
-          pub no-function : {i j : ℕ} → q ≡ No i j → dwarfGiven s g r ≡ refused i j
-          unfolding dwarfGiven dwarfAnswer unless
-          no-function n = rw given-yes (no-decides _ _ (sym told ∙ n))
-
-          module _ (y : q ≡ Yes) where
-            pub functions-yes : perFunction (dwarfAsks s (machineOf (g .machine) .word)) 0 (map (taken s) (givenFunctions g)) ≡ none
-            functions-yes = said-yes _ (sym told ∙ y)
-
-            pub all-yes : dwarfGiven s g r ≡ fitting r (writtenIn (partsTo x (countIn x)))
-            unfolding dwarfGiven dwarfAnswer unless
-            all-yes = rw (given-yes, functions-yes) (ap (fitting r) written-is)
-
+    pub no-lists : machineOk (g .machine) ≡ true → listsOk (g .functions) (g .rows) (g .landings) (g .pairs) ≡ false → dwarfGiven s g r ≡ refused 13 0
+    unfolding dwarfGiven givenAsks ask andThen unless pick
+    no-lists m l = rw (m, l)

@@ -9,7 +9,7 @@ use lib.ListN.{length, getD}
 use Rattle.format.specs.declared.Machine.{Machine}
 use Rattle.format.specs.declared.Section.{Section}
 use Rattle.format.specs.Headers.{Key, keyOf, sameKey}
-use Rattle.format.specs.Writer.{Part, placeIn}
+use Rattle.format.specs.Writer.{placeIn}
 use Rattle.format.proofs.Choice.{pick-yes, pick-no, tested}
 use Rattle.search.specs.Owners.{firstFrom, owner, keyAt}
 use Rattle.dwarf.specs.Parts.{Inputs, inputs, functionIn, extentIn, placesIn, seenFrom, earlierIn, partsTo}

@@ -1,18 +1,16 @@
 -- What questions 11 to 25, answered by yes, say of each function.
-use mathlib.Core.Path.{_≡_, refl, sym, ap, subst, _∙_}
-use Prim.Native.Nat.{ℕ, zero, suc, _+_, _*_, _^_, _≤_, _<_}
+use mathlib.Core.Path.{_≡_, refl, sym, ap, subst}
+use Prim.Native.Nat.{ℕ, zero, suc, _+_, _≤_, _<_}
 use native.Mathlib.Omega.{arith}
-use mathlib.Core.Bool.{Bool, true, false, not, _&&_, _||_}
+use mathlib.Core.Bool.{Bool, true, false, _&&_}
 use mathlib.Core.List.{List, [], _∷_}
 use lib.Dec.{T, leb, eqb, leb→le}
-use lib.ListN.{length, getElem?}
 use mir.Facts.{and-yes, or-yes, eqb-yes, eqb-no}
 use mathlib.Core.Logic.{⊎-elim}
-use Rattle.format.specs.Test.{pick, each}
 use Rattle.format.specs.Lists.{field, functionStride, rowStride, landingStride, pairStride, count, mark, inside, symbolOk, markOk, whenMarked, rowOkAt, pairOkAt, pointerOk, allIn, functionOkAt, sumOf, pairsIn, listsOk, mostFunctions, mostRecords}
 use Rattle.format.specs.declared.Section.{Section}
 use Rattle.format.specs.declared.Section.the-variants.{Elf, MachO, Debug}
-use Rattle.format.proofs.Choice.{pick-yes, tested}
+use Rattle.format.proofs.Choice.{pick-yes}
 use Rattle.format.proofs.ListLaws.{chained, in-range}
 use Rattle.lists.specs.declared.Extent.{Extent}
 use Rattle.lists.specs.Extents.{extentAt}
@@ -103,7 +101,6 @@ module _ (fs rows landings pairs : List ℕ) where
 
   -- and of all of them together
   record AllListed : Type 0 where
-    functions-few : count functionStride fs ≤ mostFunctions
     rows-few : sumOf (λ k. field functionStride fs k 3) 0 (count functionStride fs) ≤ mostRecords
     landings-few : sumOf (λ k. field functionStride fs k 5) 0 (count functionStride fs) ≤ mostRecords
     pairs-few : sumOf (pairsIn fs) 0 (count functionStride fs) ≤ mostRecords
@@ -117,7 +114,6 @@ module _ (fs rows landings pairs : List ℕ) where
       leb (sumOf (λ k. field functionStride fs k 3) 0 n) mostRecords ∷ leb (sumOf (λ k. field functionStride fs k 5) 0 n) mostRecords
       ∷ leb (sumOf (pairsIn fs) 0 n) mostRecords ∷ allIn (functionOkAt fs rows landings pairs) 0 n ∷ []) in
       record {
-        functions-few = leb→le n mostFunctions (says 0 t);
         rows-few = leb→le (sumOf (λ k. field functionStride fs k 3) 0 n) mostRecords (says 1 t);
         landings-few = leb→le (sumOf (λ k. field functionStride fs k 5) 0 n) mostRecords (says 2 t);
         pairs-few = leb→le (sumOf (pairsIn fs) 0 n) mostRecords (says 3 t);

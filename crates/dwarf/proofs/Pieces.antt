@@ -1,11 +1,10 @@
 -- A function's part by its record is its part behind those of the functions in front of it.
-use mathlib.Core.Path.{_≡_, refl, sym, ap, _∙_}
-use Prim.Native.Nat.{ℕ, suc, _+_, _≤_, _<_}
-use native.Mathlib.Omega.{arith}
+use mathlib.Core.Path.{_≡_, refl}
+use Prim.Native.Nat.{ℕ, _<_}
 use native.Mathlib.Nat.{add-zero}
 use mathlib.Core.Bool.{Bool, true, false}
-use mathlib.Core.Option.{Option, none, some}
-use mathlib.Core.List.{List, [], _∷_, _++_}
+use mathlib.Core.Option.{none, some}
+use mathlib.Core.List.{List, []}
 use lib.ListN.{length, getD}
 use Rattle.format.specs.Test.{pick}
 use Rattle.format.specs.declared.Machine.{Machine}
@@ -14,11 +13,11 @@ use Rattle.format.specs.Writer.{Part, isDebug, partWith}
 use Rattle.format.specs.Headers.{headerBytes, headerRelocs}
 use Rattle.lists.specs.declared.Extent.{Extent}
 use Rattle.lists.specs.Extents.{meant}
-use Rattle.leading.specs.Functions.{bodyOf, keyIn}
+use Rattle.leading.specs.Functions.{keyIn}
 use Rattle.search.specs.Owners.{owner}
 use Rattle.headers.specs.Kinds.{headerRelocCount}
 use Rattle.headers.proofs.Personalities.{header-relocs-count, header-relocs-any}
-use Rattle.dwarf.specs.Parts.{Inputs, extentIn, functionIn, alignIn, placesIn, bytesIn, sitesIn, earlierIn, partBehind, partsTo}
+use Rattle.dwarf.specs.Parts.{Inputs, extentIn, alignIn, placesIn, bytesIn, sitesIn, partBehind, partsTo}
 use Rattle.dwarf.specs.Pieces.{frontIn, frontRelocs, partIn}
 use Rattle.dwarf.proofs.Bodies.{key-body, record-body, relocs-body}
 use Rattle.dwarf.proofs.Owners.{own-header, found-header}

@@ -1,13 +1,10 @@
 -- The sizing pass, function by function.
-use mathlib.Core.Path.{_≡_, refl, sym, ap, _∙_}
-use Prim.Native.Nat.{ℕ, suc, _+_, _*_, _≤_, _<_}
+use mathlib.Core.Path.{_≡_, refl, _∙_}
+use Prim.Native.Nat.{ℕ, _+_, _≤_, _<_}
 use native.Mathlib.Omega.{arith}
 use native.Mathlib.Numerals.{add-one}
 use mathlib.Core.Bool.{Bool}
-use mathlib.Core.List.{List}
 use lib.Dec.{eqb}
-use lib.ListN.{length}
-use Rattle.format.specs.declared.Machine.{Machine}
 use Rattle.format.specs.Writer.{isDebug, alignFor, joined}
 use Rattle.format.specs.Lists.{numbersOf}
 use Rattle.format.proofs.Fits.{MachineFits}
@@ -18,16 +15,13 @@ use Rattle.dwarf.specs.declared.Table.{Table}
 use Rattle.dwarf.specs.Parts.{Inputs, countIn, extentIn, alignIn, bytesIn, relocsIn, sitesIn, partsTo}
 use Rattle.dwarf.specs.Pieces.{partIn}
 use Rattle.dwarf.specs.Tables.{nothing, totalsIn, grownBy, Small, SizeReady}
-use Rattle.dwarf.specs.Sure.{Sure, Cleared, Next}
+use Rattle.dwarf.specs.Sure.{Cleared, Next}
 use Rattle.dwarf.proofs.Alignment.{align-ok}
 use Rattle.dwarf.proofs.Totals.{sized-next}
 
 -- ---- function k
 
 module _ {x : Inputs} {k n : ℕ} {t : Table} (c : Next x k n t) where
-  pub record-inside : 18 * k + 18 ≤ length (x .functions)
-  record-inside = omega (arith, c .sure .listed .within)
-
   pub searchable : MachineFits (x .machine) × Listed (x .functions) (x .rows) (k + 1)
   searchable = (c .sure .sound .machine, rw (add-one k) (c .sure .listed))
 

@@ -1,16 +1,15 @@
 -- The writing pass: what each function stores behind those in front of it.
-use mathlib.Core.Path.{_≡_, refl, sym, ap, _∙_}
+use mathlib.Core.Path.{_≡_, refl, sym, _∙_}
 use Prim.Native.Nat.{ℕ, zero, suc, _+_, _≤_, _<_}
 use native.Mathlib.Omega.{arith}
 use native.Mathlib.Numerals.{add-one}
-use mathlib.Core.Bool.{Bool, true, false}
+use mathlib.Core.Bool.{true, false}
 use mathlib.Core.List.{List, [], _∷_, _++_}
 use borrow.Author.Tests.{eq-eqb, ne-eqb}
-use lib.Dec.{eqb}
-use lib.ListN.{length, getD, set, length-append, length-set, List·getD-append}
+use lib.ListN.{length, getD, set, length-set, List·getD-append}
 use lib.Seq.{getD-append-add, getD-set-same, getD-set-other}
 use Rattle.format.specs.Test.{pick}
-use Rattle.format.specs.Put.{put, Wrote}
+use Rattle.format.specs.Put.{put}
 use Rattle.format.specs.Lists.{numbersOf}
 use Rattle.format.specs.Writer.{Part, isDebug, joined}
 use Rattle.format.proofs.Choice.{either}

@@ -1,10 +1,10 @@
 -- The sizing pass: what stands behind each function, whatever the place of an earlier header is.
-use mathlib.Core.Path.{_≡_, refl, sym, ap, _∙_}
+use mathlib.Core.Path.{_≡_, refl, sym, _∙_}
 use Prim.Native.Nat.{ℕ, suc, _+_, _*_, _^_, _≤_, _<_}
 use native.Mathlib.Omega.{arith}
 use native.Mathlib.Numerals.{add-one}
 use mathlib.Core.Bool.{Bool, true, false}
-use mathlib.Core.List.{List, [], _∷_, _++_}
+use mathlib.Core.List.{List, []}
 use borrow.Author.Tests.{eq-eqb, ne-eqb}
 use lib.Dec.{eqb}
 use lib.ListN.{length, getD, length-append}
@@ -23,7 +23,7 @@ use Rattle.records.proofs.LabelLaws.{numbers-append, numbers-length}
 use Rattle.records.proofs.RecordLaws.{record-length}
 use Rattle.records.proofs.RelocLaws.{relocs-count}
 use Rattle.dwarf.specs.declared.Table.{Table}
-use Rattle.dwarf.specs.Parts.{Inputs, extentIn, alignIn, placesIn, bytesIn, relocsIn, sitesIn, partBehind, partsTo}
+use Rattle.dwarf.specs.Parts.{Inputs, extentIn, alignIn, placesIn, bytesIn, sitesIn, partBehind, partsTo}
 use Rattle.dwarf.specs.Pieces.{frontIn, frontRelocs, partIn}
 use Rattle.headers.specs.Kinds.{headerRelocCount}
 use Rattle.headers.proofs.Personalities.{header-relocs-count}

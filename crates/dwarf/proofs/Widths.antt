@@ -1,7 +1,6 @@
 -- Question 21: a word of 8 bytes holds every length.
 use mathlib.Core.Path.{_≡_, sym}
 use Prim.Native.Nat.{ℕ, suc, _^_, _<_}
-use native.Mathlib.Omega.{arith}
 use mathlib.Core.Bool.{true, _||_}
 use mathlib.Core.Logic.{⊎-elim}
 use borrow.Author.Tests.{le-leb}

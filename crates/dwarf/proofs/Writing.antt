@@ -1,13 +1,12 @@
 -- The writing pass: function k from what is ready to what it adds.
-use mathlib.Core.Path.{_≡_, refl, sym, ap, _∙_}
-use Prim.Native.Nat.{ℕ, suc, _+_, _*_, _≤_, _<_}
+use mathlib.Core.Path.{_≡_, refl, sym, ap}
+use Prim.Native.Nat.{ℕ, _+_, _≤_, _<_}
 use native.Mathlib.Omega.{arith}
 use native.Mathlib.Numerals.{add-one}
 use mathlib.Core.Bool.{Bool}
-use mathlib.Core.List.{List, [], _∷_}
+use mathlib.Core.List.{List}
 use lib.Dec.{eqb}
-use lib.ListN.{length, getD, set, length-append}
-use Rattle.format.specs.Put.{Wrote}
+use lib.ListN.{length, set, length-append}
 use Rattle.format.specs.Lists.{numbersOf}
 use Rattle.format.specs.Writer.{Part, isDebug, alignFor}
 use Rattle.format.proofs.Fits.{MachineFits}
@@ -18,9 +17,9 @@ use Rattle.search.specs.Owners.{owner}
 use Rattle.records.proofs.LabelLaws.{numbers-append}
 use Rattle.dwarf.specs.declared.Table.{Table}
 use Rattle.dwarf.specs.declared.Chosen.{Chosen}
-use Rattle.dwarf.specs.Parts.{Inputs, countIn, extentIn, alignIn, placesIn, bytesIn, relocsIn, sitesIn, partBehind, partsTo}
+use Rattle.dwarf.specs.Parts.{Inputs, countIn, extentIn, bytesIn, relocsIn, sitesIn, partBehind, partsTo}
 use Rattle.dwarf.specs.Pieces.{partIn}
-use Rattle.dwarf.specs.Tables.{totalsIn, grownBy, Small, chosenBy, PieceReady, nothing, Stored, Added, Written, Holds}
+use Rattle.dwarf.specs.Tables.{totalsIn, chosenBy, PieceReady, nothing, Stored, Added, Written, Holds}
 use Rattle.dwarf.specs.Sure.{Cleared, PartReady}
 use Rattle.dwarf.proofs.Alignment.{align-ok}
 use Rattle.dwarf.proofs.Fronts.{bytes-next, relocs-next, sites-next}

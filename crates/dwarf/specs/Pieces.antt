@@ -5,7 +5,7 @@ use mathlib.Core.List.{List, [], _++_}
 use lib.ListN.{length}
 use Rattle.format.specs.Test.{pick}
 use Rattle.format.specs.declared.Machine.{Machine}
-use Rattle.format.specs.Lists.{Relocation, numbersOf}
+use Rattle.format.specs.Lists.{Relocation}
 use Rattle.format.specs.Headers.{headerBytes, headerRelocs}
 use Rattle.format.specs.Records.{recordBytes, recordRelocs}
 use Rattle.format.specs.CallSites.{sitePad, siteAdded}

@@ -10,7 +10,7 @@ ghost use Rattle.format.specs.Machine.{isWord};
 ghost use Rattle.format.specs.Rows.{rowWhole};
 ghost use Rattle.format.specs.Lists.{field, rowStride, pairStride, functionStride, count, lineAt, pairAt};
 ghost use Rattle.format.specs.Records.{recordRelocs};
-ghost use Rattle.format.specs.Questions.{sizeBytes, encodingsOk, stepsOk, pairsOk, dwarfAsks, perFunction, fitting};
+ghost use Rattle.format.specs.Questions.{sizeBytes, encodingsOk, stepsOk, pairsOk, dwarfAsks, perFunction, fitting, dwarfGiven};
 ghost use Rattle.format.specs.Writer.{isDebug, alignFor};
 ghost use Rattle.format.specs.Answers.{questionOf};
 ghost use Rattle.lists.specs.Extents.{meant};
@@ -20,7 +20,7 @@ ghost use Rattle.leading.specs.Functions.{bodyOf, Sound, Listed, RowsReady, Pai
 ghost use Rattle.dwarf.specs.Asks.{Askable, AllAskable, askedIn};
 ghost use Rattle.dwarf.specs.Parts.{inputs, writtenIn, partsTo};
 ghost use Rattle.dwarf.specs.Sure.{Cleared, Next, PartReady};
-ghost use Rattle.dwarf.specs.Delivered.{roomIn, Delivered};
+ghost use Rattle.dwarf.specs.Delivered.{givenOf, roomIn, Delivered};
 ghost use Rattle.dwarf.specs.Tables.{totalsIn, grownBy, SizeReady, roomFor, FrontReady, FrontStored, PieceReady, Stored, Added, Written, Holds, chosenBy};
 ghost use Rattle.search.specs.Owners.{owner};
 ghost use Rattle.dwarf.specs.Pieces.{frontIn, frontRelocs, partIn};
@@ -38,6 +38,9 @@ use headers::pointer_size;
 use leading::taken;
 use lists::Extent;
 use lists::extent_at;
+use lists::lists_ok;
+use lists::machine_of;
+use lists::machine_ok;
 use records::call_sites;
 use records::call_sites_size;
 use records::record;
@@ -528,4 +531,34 @@ fn fitted(
         relocations: (t.relocations / 5) as u64,
         sites: t.sites as u64,
     })
+}
+
+// A DWARF section of functions: headers and records, their relocations, the call sites, and each function's header place. A
+// refusal writes nothing.
+pub fn dwarf(
+    s: Section,
+    machine: &[u64],
+    functions: &[u64],
+    rows: &[u64],
+    landings: &[u64],
+    pairs: &[u64],
+    places: &mut [u64],
+    bytes: &mut [u8],
+    relocations: &mut [u64],
+    sites: &mut [u8],
+) -> Outcome
+    ensures { λ r. ⌜ Delivered (dwarfGiven s (givenOf (now (machine .entry)) (now (functions .entry)) (now (rows .entry)) (now (landings .entry)) (now (pairs .entry))) (roomIn (now (places .entry)) (now (bytes .entry)) (now (relocations .entry)) (now (sites .entry)))) r (now (places .entry)) (now (places .exit)) (now (bytes .entry)) (now (bytes .exit)) (now (relocations .entry)) (now (relocations .exit)) (now (sites .entry)) (now (sites .exit)) ⌝ }
+{
+    if !machine_ok(machine) {
+        return Outcome::Refused(11, 0);
+    }
+    if !lists_ok(functions, rows, landings, pairs) {
+        return Outcome::Refused(13, 0);
+    }
+    let m = machine_of(machine);
+    let q = all_asks(s, m.word, functions, rows, pairs);
+    if let Question::No(number, position) = q {
+        return Outcome::Refused(number, position);
+    }
+    fitted(s, m, functions, rows, landings, pairs, places, bytes, relocations, sites)
 }

@@ -1,39 +1,30 @@
+-- `dwarf::align_for` meets its contract.
 use Rattle.dwarf.proofs.Alignment.{at-last, small-word, in-elf, in-macho, in-debug}
 use borrow.Author.Needs.{needs}
 use Rattle.dwarf.proofs.align_for.Statement.{statement}
 use Rattle.dwarf.proofs.align_for.Tie as tie
-use Rattle.dwarf.proofs.align_for.Reads as reads
-use Rattle.dwarf.proofs.align_for.Lts as lts
 
--- src/lib.rt:215:9
 returns : tie.Need-returns
 returns c = at-last _ _ (c .if1 .taken)
 
--- src/lib.rt:218:9
 returns-2 : tie.Need-returns-2
 returns-2 c = small-word _ _ _ (c .if2 .taken)
 
--- src/lib.rt:221:25
 enum-told : tie.Need-enum-told
 enum-told c = search needs
 
--- src/lib.rt:222:27
 enum-told-2 : tie.Need-enum-told-2
 enum-told-2 c = search needs
 
--- src/lib.rt:223:27
 enum-told-3 : tie.Need-enum-told-3
 enum-told-3 c = search needs
 
--- src/lib.rt:211:1
 returns-3 : tie.Need-returns-3
 returns-3 c = rw (c .enum-told .given .1) (in-elf _ (c .before .before .before .if1 .left) (c .before .before .if2 .left))
 
--- src/lib.rt:211:1
 returns-4 : tie.Need-returns-4
 returns-4 c = rw (c .enum-told2 .given .1) (in-macho _ _)
 
--- src/lib.rt:211:1
 returns-5 : tie.Need-returns-5
 returns-5 c = rw (c .enum-told3 .given .1) (in-debug _ _)
 

@@ -1,37 +1,28 @@
+-- `dwarf::encodings_ok` meets its contract.
 use borrow.Author.Tests.{not-true, not-false}
 use Rattle.dwarf.proofs.Encodings.{landed, unnamed, unknown, bare, both}
 use borrow.Author.Needs.{needs}
 use Rattle.dwarf.proofs.encodings_ok.Statement.{statement}
 use Rattle.dwarf.proofs.encodings_ok.Tie as tie
-use Rattle.dwarf.proofs.encodings_ok.Reads as reads
-use Rattle.dwarf.proofs.encodings_ok.Lts as lts
-use Rattle.headers.proofs.pointer_size.Reads as pointer-size-reads
 
--- src/lib.rt:55:9
 returns : tie.Need-returns
 returns c = landed _ _ (c .if1 .taken)
 
--- src/lib.rt:58:9
 returns-2 : tie.Need-returns-2
 returns-2 c = unnamed _ _ (c .before .before .if1 .left) (not-true _ (c .if2 .taken))
 
--- src/lib.rt:60:8
 pointer-size-requires : tie.Need-pointer-size-requires
 pointer-size-requires c κs = search needs
 
--- src/lib.rt:61:9
 returns-3 : tie.Need-returns-3
 returns-3 c = unknown _ _ (c .before .before .before .before .if1 .left) (not-false _ (c .before .before .if2 .left)) (search needs) (c .before .pointer-size .ensures) (c .if3 .taken)
 
--- src/lib.rt:64:9
 returns-4 : tie.Need-returns-4
 returns-4 c = bare _ _ (c .before .before .before .before .before .before .if1 .left) (not-false _ (c .before .before .before .before .if2 .left)) (search needs) (c .before .before .before .pointer-size .ensures) (c .before .before .if3 .left) (not-true _ (c .if4 .taken))
 
--- src/lib.rt:66:5
 pointer-size-requires-2 : tie.Need-pointer-size-requires-2
 pointer-size-requires-2 c κs = search needs
 
--- src/lib.rt:50:1
 returns-5 : tie.Need-returns-5
 returns-5 c = both _ _ (c .before .before .before .before .before .before .before .if1 .left) (not-false _ (c .before .before .before .before .before .if2 .left)) (search needs) (c .before .before .before .before .pointer-size .ensures) (c .before .before .before .if3 .left) (not-false _ (c .before .if4 .left)) (c .pointer-size2 .ensures)
 

@@ -1,34 +1,25 @@
+-- `dwarf::front` meets its contract.
 use Rattle.dwarf.proofs.OwnHeaders.{without-own, header-room, relocs-room, with-own}
 use borrow.Author.Tests.{not-true, not-false}
 use borrow.Author.Needs.{needs}
 use Rattle.dwarf.proofs.front.Statement.{statement}
 use Rattle.dwarf.proofs.front.Tie as tie
-use Rattle.dwarf.proofs.front.Reads as reads
-use Rattle.dwarf.proofs.front.Lts as lts
-use Rattle.headers.proofs.header.Reads as header-reads
-use Rattle.headers.proofs.header_relocs.Reads as header-relocs-reads
 
--- src/lib.rt:287:9
 returns : tie.Need-returns
 returns c = without-own (c .before .before .before .before .pre) (not-true _ (c .if1 .taken))
 
--- src/lib.rt:289:9
 header-requires : tie.Need-header-requires
 header-requires c κs = header-room (c .before .before .before .before .before .pre) (not-false _ (c .before .if1 .left))
 
--- src/lib.rt:290:9
 header-relocs-requires : tie.Need-header-relocs-requires
 header-relocs-requires c κs = relocs-room (c .before .before .before .before .before .before .before .before .before .pre) (not-false _ (c .before .before .before .before .before .if1 .left))
 
--- src/lib.rt:272:1
 same-length : tie.Need-same-length
 same-length c = search needs
 
--- src/lib.rt:272:1
 same-length-2 : tie.Need-same-length-2
 same-length-2 c = search needs
 
--- src/lib.rt:272:1
 returns-2 : tie.Need-returns-2
 returns-2 c = with-own (c .before .before .before .before .before .before .before .before .before .before .before .before .pre) (not-false _ (c .before .before .before .before .before .before .before .before .if1 .left)) (c .before .before .before .before .before .before .header .ensures) (c .before .before .header-relocs .ensures)
 

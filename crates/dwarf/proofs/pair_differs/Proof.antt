@@ -1,40 +1,31 @@
+-- `dwarf::pair_differs` meets its contract.
 use native.Mathlib.Nat.{add-zero}
 use Rattle.format.specs.Lists.{pairAt}
 use borrow.Author.Needs.{needs}
 use Rattle.dwarf.proofs.pair_differs.Statement.{statement}
 use Rattle.dwarf.proofs.pair_differs.Tie as tie
-use Rattle.dwarf.proofs.pair_differs.Reads as reads
-use Rattle.dwarf.proofs.pair_differs.Lts as lts
 
--- src/lib.rt:89:11
 mul-result : tie.Need-mul-result
 mul-result c = search needs
 
--- src/lib.rt:89:5
 mul-result-2 : tie.Need-mul-result-2
 mul-result-2 c = search needs
 
--- src/lib.rt:89:5
 shared-slice-read-result : tie.Need-shared-slice-read-result
 shared-slice-read-result c = search needs
 
--- src/lib.rt:89:27
 mul-result-3 : tie.Need-mul-result-3
 mul-result-3 c = search needs
 
--- src/lib.rt:89:27
 add-result : tie.Need-add-result
 add-result c = search needs
 
--- src/lib.rt:89:21
 mul-result-4 : tie.Need-mul-result-4
 mul-result-4 c = search needs
 
--- src/lib.rt:89:21
 shared-slice-read-result-2 : tie.Need-shared-slice-read-result-2
 shared-slice-read-result-2 c = search needs
 
--- src/lib.rt:85:1
 returns : tie.Need-returns
 unfolding pairAt
 returns c = rw add-zero

@@ -1,3 +1,4 @@
+-- `dwarf::pairs_differ` meets its contract.
 use borrow.Author.Needs.{needs}
 use mathlib.Core.Path.{_∙_}
 use mathlib.Core.Bool.{not}
@@ -8,9 +9,6 @@ use Rattle.lists.proofs.Ranges.{Asking, start, turn, stopped, ended}
 use Rattle.dwarf.proofs.Rows.{all-in}
 use Rattle.dwarf.proofs.pairs_differ.Statement.{statement}
 use Rattle.dwarf.proofs.pairs_differ.Tie as tie
-use Rattle.dwarf.proofs.pairs_differ.Reads as reads
-use Rattle.dwarf.proofs.pairs_differ.Lts as lts
-use Rattle.dwarf.proofs.pair_differs.Reads as pair-differs-reads
 
 abbrev Inv-loop : tie.InvT-loop
 Inv-loop pairs at n end i₀ i = Asking (λ j. not (eqb (pairAt pairs j .place1) (pairAt pairs j .place2))) at n i
@@ -18,35 +16,27 @@ Inv-loop pairs at n end i₀ i = Asking (λ j. not (eqb (pairAt pairs j .place1)
 abbrev μ-loop : tie.MeasureT-loop
 μ-loop pairs at n end i₀ i = end - i
 
--- src/lib.rt:97:15
 add-end : tie.Need-add-end Inv-loop μ-loop
 add-end c = search needs
 
--- src/lib.rt:99:5
 loop-holds : tie.Need-loop-holds Inv-loop μ-loop
 loop-holds c = start _ _ _
 
--- src/lib.rt:100:13
 pair-differs-requires : tie.Need-pair-differs-requires Inv-loop μ-loop
 pair-differs-requires c κs = search needs
 
--- src/lib.rt:101:13
 returns : tie.Need-returns Inv-loop μ-loop
 returns c = stopped (c .before .before .before .loop .inv) (c .before .before .loop-test .taken) (c .before .pair-differs .ensures) (c .if1 .taken) ∙ all-in _ _ _ _
 
--- src/lib.rt:103:9
 add-i : tie.Need-add-i Inv-loop μ-loop
 add-i c = search needs
 
--- src/lib.rt:99:5
 loop-less : tie.Need-loop-less Inv-loop μ-loop
 loop-less c = search needs
 
--- src/lib.rt:99:5
 loop-again : tie.Need-loop-again Inv-loop μ-loop
 loop-again c = turn (c .before .before .before .loop .inv) (c .before .before .loop-test .taken) (c .before .pair-differs .ensures) (c .if1 .left)
 
--- src/lib.rt:93:1
 returns-2 : tie.Need-returns-2 Inv-loop μ-loop
 returns-2 c = ended (c .before .loop .inv) (c .loop-test .left) ∙ all-in _ _ _ _
 

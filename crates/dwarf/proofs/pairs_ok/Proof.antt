@@ -1,25 +1,18 @@
+-- `dwarf::pairs_ok` meets its contract.
 use borrow.Author.Tests.{not-true, not-false}
-use lib.Dec.{T}
-use mathlib.Core.Path.{sym, subst}
 use Rattle.format.specs.Test.{pick}
 use Rattle.format.specs.Questions.{pairsOk}
 use Rattle.lists.specs.Extents.{meant}
 use Rattle.dwarf.proofs.pairs_ok.Statement.{statement}
 use Rattle.dwarf.proofs.pairs_ok.Tie as tie
-use Rattle.dwarf.proofs.pairs_ok.Reads as reads
-use Rattle.dwarf.proofs.pairs_ok.Lts as lts
-use Rattle.dwarf.proofs.pairs_differ.Reads as pairs-differ-reads
 
--- src/lib.rt:141:9
 returns : tie.Need-returns
 unfolding pairsOk meant pick
 returns c = simp (not-true (c .before .before .before .args .e .relaxed) (c .if1 .taken))
 
--- src/lib.rt:143:5
 pairs-differ-requires : tie.Need-pairs-differ-requires
 pairs-differ-requires c κs = c .before .before .before .pre (not-false (c .before .before .before .args .e .relaxed) (c .if1 .left)) .inside
 
--- src/lib.rt:136:1
 returns-2 : tie.Need-returns-2
 unfolding pairsOk meant pick
 returns-2 c = simp (not-false (c .before .before .before .before .args .e .relaxed) (c .before .if1 .left)) (c .pairs-differ .ensures)

@@ -1,3 +1,4 @@
+-- `dwarf::rows_whole` meets its contract.
 use borrow.Author.Needs.{needs}
 use mathlib.Core.Path.{ap, _∙_}
 use Prim.Native.Nat.{_-_}
@@ -7,10 +8,6 @@ use Rattle.lists.proofs.Ranges.{Asking, start, turn, stopped, ended}
 use Rattle.dwarf.proofs.Rows.{all-in, row-ready}
 use Rattle.dwarf.proofs.rows_whole.Statement.{statement}
 use Rattle.dwarf.proofs.rows_whole.Tie as tie
-use Rattle.dwarf.proofs.rows_whole.Reads as reads
-use Rattle.dwarf.proofs.rows_whole.Lts as lts
-use Rattle.rows.proofs.row_at.Reads as row-at-reads
-use Rattle.rows.proofs.row_whole.Reads as row-whole-reads
 
 abbrev Inv-loop : tie.InvT-loop
 Inv-loop word rows at n end i₀ i = Asking (λ j. rowWhole word (lineAt rows j .1)) at n i
@@ -18,39 +15,30 @@ Inv-loop word rows at n end i₀ i = Asking (λ j. rowWhole word (lineAt rows j 
 abbrev μ-loop : tie.MeasureT-loop
 μ-loop word rows at n end i₀ i = end - i
 
--- src/lib.rt:73:15
 add-end : tie.Need-add-end Inv-loop μ-loop
 add-end c = search needs
 
--- src/lib.rt:75:5
 loop-holds : tie.Need-loop-holds Inv-loop μ-loop
 loop-holds c = start _ _ _
 
--- src/lib.rt:76:29
 row-at-requires : tie.Need-row-at-requires Inv-loop μ-loop
 row-at-requires c κs = (search needs, row-ready (c .before .before .before .pre .1) _ (search needs) (search needs))
 
--- src/lib.rt:76:13
 row-whole-requires : tie.Need-row-whole-requires Inv-loop μ-loop
 row-whole-requires c κs = search needs
 
--- src/lib.rt:77:13
 returns : tie.Need-returns Inv-loop μ-loop
 returns c = stopped (c .before .before .before .before .loop .inv) (c .before .before .before .loop-test .taken) (c .before .row-whole .ensures ∙ ap (rowWhole _) (c .before .before .row-at .ensures)) (c .if1 .taken) ∙ all-in _ _ _ _
 
--- src/lib.rt:79:9
 add-i : tie.Need-add-i Inv-loop μ-loop
 add-i c = search needs
 
--- src/lib.rt:75:5
 loop-less : tie.Need-loop-less Inv-loop μ-loop
 loop-less c = search needs
 
--- src/lib.rt:75:5
 loop-again : tie.Need-loop-again Inv-loop μ-loop
 loop-again c = turn (c .before .before .before .before .loop .inv) (c .before .before .before .loop-test .taken) (c .before .row-whole .ensures ∙ ap (rowWhole _) (c .before .before .row-at .ensures)) (c .if1 .left)
 
--- src/lib.rt:69:1
 returns-2 : tie.Need-returns-2 Inv-loop μ-loop
 returns-2 c = ended (c .before .loop .inv) (c .loop-test .left) ∙ all-in _ _ _ _
 

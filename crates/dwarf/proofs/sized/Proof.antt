@@ -1,48 +1,34 @@
+-- `dwarf::sized` meets its contract.
 use native.Mathlib.Omega.{arith}
 use Rattle.dwarf.proofs.Totals.{near, sites-near, behind-near, end-near, relocs-near, sites-end, sized-is}
 use borrow.Author.Needs.{needs}
 use Rattle.dwarf.proofs.sized.Statement.{statement}
 use Rattle.dwarf.proofs.sized.Tie as tie
-use Rattle.dwarf.proofs.sized.Reads as reads
-use Rattle.dwarf.proofs.sized.Lts as lts
-use Rattle.dwarf.proofs.front_size.Reads as front-size-reads
-use Rattle.dwarf.proofs.relocs_size.Reads as relocs-size-reads
-use Rattle.records.proofs.call_sites_size.Reads as call-sites-size-reads
-use Rattle.records.proofs.record_size.Reads as record-size-reads
 
--- src/lib.rt:282:28
 front-size-requires : tie.Need-front-size-requires
 front-size-requires c κs = (c .before .before .before .pre .sound, c .before .before .before .pre .aligned, near (c .before .before .before .pre))
 
--- src/lib.rt:282:18
 add-behind : tie.Need-add-behind
 add-behind c = omega (arith, behind-near (c .before .before .before .before .before .pre) (c .before .front-size .ensures))
 
--- src/lib.rt:284:25
 record-size-requires : tie.Need-record-size-requires
 record-size-requires c κs = (c .before .before .before .before .before .pre .sound, c .before .before .before .before .before .pre .aligned, behind-near (c .before .before .before .before .before .pre) (c .before .front-size .ensures))
 
--- src/lib.rt:284:16
 add-t12 : tie.Need-add-t12
 add-t12 c = omega (arith, end-near (c .before .before .before .before .before .before .pre) (c .before .before .front-size .ensures) (c .record-size .ensures))
 
--- src/lib.rt:285:38
 relocs-size-requires : tie.Need-relocs-size-requires
 relocs-size-requires c κs = search needs
 
--- src/lib.rt:285:22
 add-t14 : tie.Need-add-t14
 add-t14 c = omega (arith, relocs-near (c .before .before .before .before .before .before .before .before .pre) (c .before .relocs-size .ensures))
 
--- src/lib.rt:286:26
 call-sites-size-requires : tie.Need-call-sites-size-requires
 call-sites-size-requires c κs = (c .before .before .before .before .before .before .before .before .pre .landings-ready, sites-near (c .before .before .before .before .before .before .before .before .pre))
 
--- src/lib.rt:286:16
 add-t16 : tie.Need-add-t16
 add-t16 c = omega (arith, sites-end (c .before .before .before .before .before .before .before .before .before .before .pre) (c .before .call-sites-size .ensures))
 
--- src/lib.rt:268:1
 returns : tie.Need-returns
 returns c = sized-is (c .before .before .before .before .before .before .before .before .before .before .pre) (c .before .before .before .before .before .before .front-size .ensures) (c .before .before .before .before .record-size .ensures) (c .before .before .before .relocs-size .ensures) (c .before .call-sites-size .ensures)
 

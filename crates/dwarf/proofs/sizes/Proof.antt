@@ -1,12 +1,10 @@
+-- `dwarf::sizes` meets its contract.
 use borrow.Author.Needs.{needs}
 use Prim.Native.Nat.{_-_}
 use Rattle.dwarf.specs.Parts.{inputs}
 use Rattle.dwarf.proofs.Sizing.{Sizing, start, next, turn, ended}
 use Rattle.dwarf.proofs.sizes.Statement.{statement}
 use Rattle.dwarf.proofs.sizes.Tie as tie
-use Rattle.dwarf.proofs.sizes.Reads as reads
-use Rattle.dwarf.proofs.sizes.Lts as lts
-use Rattle.dwarf.proofs.size_next.Reads as size-next-reads
 
 abbrev Inv-loop : tie.InvT-loop
 Inv-loop s m fs rows landings pairs n t₀ k₀ t k = Sizing (inputs s m fs rows landings pairs) n k t
@@ -14,27 +12,21 @@ Inv-loop s m fs rows landings pairs n t₀ k₀ t k = Sizing (inputs s m fs rows
 abbrev μ-loop : tie.MeasureT-loop
 μ-loop s m fs rows landings pairs n t₀ k₀ t k = n - k
 
--- src/lib.rt:326:5
 loop-holds : tie.Need-loop-holds Inv-loop μ-loop
 loop-holds c = start _
 
--- src/lib.rt:327:9
 size-next-requires : tie.Need-size-next-requires Inv-loop μ-loop
 size-next-requires c κs = next (c .before .loop .inv) (c .before .before .before .before .before .before .pre) (c .loop-test .taken)
 
--- src/lib.rt:328:9
 add-k : tie.Need-add-k Inv-loop μ-loop
 add-k c = search needs
 
--- src/lib.rt:326:5
 loop-less : tie.Need-loop-less Inv-loop μ-loop
 loop-less c = search needs
 
--- src/lib.rt:326:5
 loop-again : tie.Need-loop-again Inv-loop μ-loop
 loop-again c = turn (c .before .before .loop .inv) (c .before .loop-test .taken) (c .size-next .ensures)
 
--- src/lib.rt:315:1
 returns : tie.Need-returns Inv-loop μ-loop
 returns c = ended (c .before .loop .inv) (c .loop-test .left)
 

@@ -1,11 +1,9 @@
+-- `dwarf::steps_ok` meets its contract.
 use borrow.Author.Needs.{needs}
 use Prim.Native.Nat.{_-_}
 use Rattle.dwarf.proofs.Rows.{Stepping, start, turn, back, far, ended}
 use Rattle.dwarf.proofs.steps_ok.Statement.{statement}
 use Rattle.dwarf.proofs.steps_ok.Tie as tie
-use Rattle.dwarf.proofs.steps_ok.Reads as reads
-use Rattle.dwarf.proofs.steps_ok.Lts as lts
-use Rattle.rows.proofs.offset_at.Reads as offset-at-reads
 
 abbrev Inv-loop : tie.InvT-loop
 Inv-loop rows at n end from₀ i₀ from i = Stepping rows at n from i
@@ -13,39 +11,30 @@ Inv-loop rows at n end from₀ i₀ from i = Stepping rows at n from i
 abbrev μ-loop : tie.MeasureT-loop
 μ-loop rows at n end from₀ i₀ from i = end - i
 
--- src/lib.rt:51:15
 add-end : tie.Need-add-end Inv-loop μ-loop
 add-end c = search needs
 
--- src/lib.rt:54:5
 loop-holds : tie.Need-loop-holds Inv-loop μ-loop
 loop-holds c = start _ _ _
 
--- src/lib.rt:55:13
 offset-at-requires : tie.Need-offset-at-requires Inv-loop μ-loop
 offset-at-requires c κs = search needs
 
--- src/lib.rt:57:13
 returns : tie.Need-returns Inv-loop μ-loop
 returns c = back (c .before .before .before .loop .inv) (c .before .before .loop-test .taken) (c .before .offset-at .ensures) (c .if1 .taken)
 
--- src/lib.rt:60:13
 returns-2 : tie.Need-returns-2 Inv-loop μ-loop
 returns-2 c = far (c .before .before .before .before .loop .inv) (c .before .before .before .loop-test .taken) (c .before .before .offset-at .ensures) (c .before .if1 .left) (c .if2 .taken)
 
--- src/lib.rt:63:9
 add-i : tie.Need-add-i Inv-loop μ-loop
 add-i c = search needs
 
--- src/lib.rt:54:5
 loop-less : tie.Need-loop-less Inv-loop μ-loop
 loop-less c = search needs
 
--- src/lib.rt:54:5
 loop-again : tie.Need-loop-again Inv-loop μ-loop
 loop-again c = turn (c .before .before .before .before .loop .inv) (c .before .before .before .loop-test .taken) (c .before .before .offset-at .ensures) (c .before .if1 .left) (c .if2 .left)
 
--- src/lib.rt:47:1
 returns-3 : tie.Need-returns-3 Inv-loop μ-loop
 returns-3 c = ended (c .before .loop .inv) (c .loop-test .left)
 

@@ -1,3 +1,4 @@
+-- `dwarf::store` meets its contract.
 use native.Mathlib.Omega.{arith}
 use borrow.Author.Needs.{needs}
 use Prim.Native.Nat.{_-_}
@@ -6,9 +7,6 @@ use Rattle.dwarf.specs.Parts.{inputs}
 use Rattle.dwarf.proofs.Writing.{Going, start, ready, turn, ended}
 use Rattle.dwarf.proofs.store.Statement.{statement}
 use Rattle.dwarf.proofs.store.Tie as tie
-use Rattle.dwarf.proofs.store.Reads as reads
-use Rattle.dwarf.proofs.store.Lts as lts
-use Rattle.dwarf.proofs.part.Reads as part-reads
 
 abbrev Inv-loop : tie.InvT-loop
 Inv-loop s m fs rows landings pairs places₀ bytes₀ relocations₀ sites₀ n t₀ k₀ places bytes relocations sites t k =
@@ -18,43 +16,33 @@ abbrev μ-loop : tie.MeasureT-loop
 μ-loop s m fs rows landings pairs places₀ bytes₀ relocations₀ sites₀ n t₀ k₀ places bytes relocations sites t k =
     n - k
 
--- src/lib.rt:485:5
 loop-holds : tie.Need-loop-holds Inv-loop μ-loop
 loop-holds c = start _ (c .before .before .before .before .before .before .before .before .pre .1)
 
--- src/lib.rt:486:9
 part-requires : tie.Need-part-requires Inv-loop μ-loop
 part-requires c κs = ready (c .before .before .before .before .before .loop .inv) (c .before .before .before .before .before .before .before .before .before .before .before .before .before .before .pre .0) (c .before .before .before .before .loop-test .taken)
 
--- src/lib.rt:487:9
 add-k : tie.Need-add-k Inv-loop μ-loop
 add-k c = omega (arith, c .before .before .before .before .before .before .before .before .before .before .before .before .before .loop-test .taken, c .before .before .before .before .before .before .before .before .before .before .before .before .before .before .before .before .before .before .before .before .before .before .before .good .1 .1 .0)
 
--- src/lib.rt:485:5
 loop-less : tie.Need-loop-less Inv-loop μ-loop
 loop-less c = search needs
 
--- src/lib.rt:485:5
 loop-again : tie.Need-loop-again Inv-loop μ-loop
 loop-again c = turn (c .before .before .before .before .before .before .before .before .before .before .before .before .before .before .loop .inv) (c .before .before .before .before .before .before .before .before .before .before .before .before .before .loop-test .taken) (c .before .before .before .before .before .before .before .before .part .ensures)
 
--- src/lib.rt:463:1
 same-length : tie.Need-same-length Inv-loop μ-loop
 same-length c = kept (c .before .loop .inv .done .places-stored)
 
--- src/lib.rt:463:1
 same-length-2 : tie.Need-same-length-2 Inv-loop μ-loop
 same-length-2 c = kept (c .before .loop .inv .done .bytes-stored)
 
--- src/lib.rt:463:1
 same-length-3 : tie.Need-same-length-3 Inv-loop μ-loop
 same-length-3 c = kept (c .before .loop .inv .done .relocs-stored)
 
--- src/lib.rt:463:1
 same-length-4 : tie.Need-same-length-4 Inv-loop μ-loop
 same-length-4 c = kept (c .before .loop .inv .done .sites-stored)
 
--- src/lib.rt:463:1
 returns : tie.Need-returns Inv-loop μ-loop
 returns c = ended (c .before .loop .inv) (c .loop-test .left)
 
