@@ -257,7 +257,15 @@ fn align_for(s: Section, word: u64, last: bool) -> usize
 }
 
 // The bytes of a function's own header, where it has one.
-fn front_size(own: bool, debug: bool, m: Machine, align: usize, at: usize, e: Extent, rows: &[u64]) -> usize
+fn front_size(
+    own: bool,
+    debug: bool,
+    m: Machine,
+    align: usize,
+    at: usize,
+    e: Extent,
+    rows: &[u64],
+) -> usize
     requires { ⌜ Sound m e (now rows) × Aligned align × (at < 2 ^ 32) ⌝ }
     ensures { λ r. ⌜ r ≡ length (frontIn own debug m align at e (now (rows .entry))) ⌝ }
 {
@@ -412,7 +420,18 @@ fn piece(
     let u = front(c.own, debug, m, align, e, t, rows, bytes, relocations);
     let at = record(bytes, u.bytes, debug, m, align, cie, e, rows);
     let table = t.sites + padding(4, t.sites);
-    let i = record_relocs(relocations, u.relocations, debug, m, u.bytes, cie, table, e, rows, pairs);
+    let i = record_relocs(
+        relocations,
+        u.relocations,
+        debug,
+        m,
+        u.bytes,
+        cie,
+        table,
+        e,
+        rows,
+        pairs,
+    );
     let end = call_sites(sites, t.sites, e, landings);
     Table {
         bytes: at,
@@ -422,16 +441,21 @@ fn piece(
 }
 
 // The header of function k, behind `at` bytes: its own, or that of the first earlier function of its key.
-fn header_for(s: Section, m: Machine, fs: &[u64], rows: &[u64], k: usize, at: usize, places: &[u64]) -> Chosen
+fn header_for(
+    s: Section,
+    m: Machine,
+    fs: &[u64],
+    rows: &[u64],
+    k: usize,
+    at: usize,
+    places: &[u64],
+) -> Chosen
     requires { ⌜ MachineFits m × Listed (now fs) (now rows) (k + 1) × (k ≤ length (now places)) ⌝ }
     ensures { λ r. ⌜ r ≡ chosenBy (owner s m (now (fs .entry)) (now (rows .entry)) k) k at (now (places .entry)) ⌝ }
 {
     let o = choose(s, m, fs, rows, k);
     if o == k {
-        return Chosen {
-            own: true,
-            cie: at,
-        };
+        return Chosen { own: true, cie: at };
     }
     Chosen {
         own: false,
@@ -462,7 +486,20 @@ fn part(
     let c = header_for(s, m, fs, rows, k, t.bytes, places);
     let align = align_for(s, m.word, k + 1 == n);
     places[k] = c.cie as u64;
-    piece(c, is_debug(s), m, align, e, t, rows, landings, pairs, bytes, relocations, sites)
+    piece(
+        c,
+        is_debug(s),
+        m,
+        align,
+        e,
+        t,
+        rows,
+        landings,
+        pairs,
+        bytes,
+        relocations,
+        sites,
+    )
 }
 
 // All functions.
@@ -489,7 +526,21 @@ fn store(
     };
     let mut k = 0;
     while k < n {
-        t = part(s, m, fs, rows, landings, pairs, k, n, t, places, bytes, relocations, sites);
+        t = part(
+            s,
+            m,
+            fs,
+            rows,
+            landings,
+            pairs,
+            k,
+            n,
+            t,
+            places,
+            bytes,
+            relocations,
+            sites,
+        );
         k += 1;
     }
     t
@@ -524,7 +575,18 @@ fn fitted(
     if let Question::No(number, position) = q {
         return Outcome::Refused(number, position);
     }
-    store(s, m, fs, rows, landings, pairs, places, bytes, relocations, sites);
+    store(
+        s,
+        m,
+        fs,
+        rows,
+        landings,
+        pairs,
+        places,
+        bytes,
+        relocations,
+        sites,
+    );
     Outcome::Accepted(Counts {
         places: n as u64,
         bytes: t.bytes as u64,
@@ -560,5 +622,16 @@ pub fn dwarf(
     if let Question::No(number, position) = q {
         return Outcome::Refused(number, position);
     }
-    fitted(s, m, functions, rows, landings, pairs, places, bytes, relocations, sites)
+    fitted(
+        s,
+        m,
+        functions,
+        rows,
+        landings,
+        pairs,
+        places,
+        bytes,
+        relocations,
+        sites,
+    )
 }

@@ -40,7 +40,18 @@ pub fn relaxed_debug_frame(
     }
     // debug_frame has no call sites: nothing is stored here.
     let mut sites = [0u8; 1];
-    dwarf::dwarf(Section::Debug, machine, functions, rows, landings, pairs, places, bytes, relocations, &mut sites)
+    dwarf::dwarf(
+        Section::Debug,
+        machine,
+        functions,
+        rows,
+        landings,
+        pairs,
+        places,
+        bytes,
+        relocations,
+        &mut sites,
+    )
 }
 
 // ---- the row check and the reader
@@ -229,7 +240,17 @@ pub extern "C" fn unwind_relaxed_debug_frame(
 ) -> Written
     ensures { λ r. ⌜ Exports (relaxedDebugFrame format (given (now (machine .entry)) (now (functions .entry)) (now (rows .entry)) (now (landings .entry)) (now (pairs .entry))) (room (now (places .entry)) (now (bytes .entry)) (now (relocations .entry)) [])) r (now (places .entry)) (now (places .exit)) (now (bytes .entry)) (now (bytes .exit)) (now (relocations .entry)) (now (relocations .exit)) [] [] ⌝ }
 {
-    written_of(relaxed_debug_frame(machine, format, functions, rows, landings, pairs, places, bytes, relocations))
+    written_of(relaxed_debug_frame(
+        machine,
+        format,
+        functions,
+        rows,
+        landings,
+        pairs,
+        places,
+        bytes,
+        relocations,
+    ))
 }
 
 #[no_mangle]
