@@ -99,16 +99,16 @@ module _ {own debug : Bool} {m : Machine} {align cie : ℕ} {e : Extent} {t : Ta
       r .pairs-ready,
       omega (arith, behind, ends, bytes-long),
       rw behind
-      (omega (
-        arith,
-        relocs-long,
-        r .relocs-fit,
-        f .relocs-stored .past,
-        kept (f .relocs-stored),
-        numbers-length (relocs-at (t .bytes + length front) (t .sites + padding 4 (t .sites))),
-        relocs-count debug m (t .bytes + length front) cie (t .sites + padding 4 (t .sites)) (meant e rows [] pairs),
-        relocs-count debug m (t .bytes + length front) cie table (meant e rows [] pairs),
-      )),
+          (omega (
+            arith,
+            relocs-long,
+            r .relocs-fit,
+            f .relocs-stored .past,
+            kept (f .relocs-stored),
+            numbers-length (relocs-at (t .bytes + length front) (t .sites + padding 4 (t .sites))),
+            relocs-count debug m (t .bytes + length front) cie (t .sites + padding 4 (t .sites)) (meant e rows [] pairs),
+            relocs-count debug m (t .bytes + length front) cie table (meant e rows [] pairs),
+          )),
     )
 
     pub stored : {pad b i q : ℕ} {bytes₂ relocs₂ sites₁ : List ℕ} → pad ≡ padding 4 (t .sites)

@@ -123,7 +123,7 @@ module _ (x : Inputs) where
         let es : placesIn (partsTo x (k + 1)) ≡ placesIn (partsTo x k) ++ (p .place ∷ []) = rw (add-one k) (places-next x k) in
         let bs : bytesIn (partsTo x (k + 1)) ≡ bytesIn (partsTo x k) ++ p .bytes = rw (add-one k) (bytes-next x k) in
         let rs : numbersOf (relocsIn (partsTo x (k + 1))) ≡ numbersOf (relocsIn (partsTo x k)) ++ numbersOf (p .relocations) =
-            rw (add-one k, relocs-next x k) (numbers-append (relocsIn (partsTo x k)) (p .relocations)) in
+        rw (add-one k, relocs-next x k) (numbers-append (relocsIn (partsTo x k)) (p .relocations)) in
         let ss : sitesIn (partsTo x (k + 1)) ≡ sitesIn (partsTo x k) ++ p .sites = rw (add-one k) (sites-next x k) in
         record {
           places-stored = rw es (w .places-stored then a .place-stored);

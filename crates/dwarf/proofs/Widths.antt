@@ -12,6 +12,6 @@ pub all-hold : (word size : ℕ) → T (isWord word) → (word ≡ 2 → ⊥) �
 unfolding isWord
 all-hold word size t a b h =
     let e : word ≡ 8 =
-        ⊎-elim (λ u. ⊎-elim (λ v. absurd (a (eqb-yes v))) (λ v. absurd (b (eqb-yes v))) (or-yes (eqb word 2) (eqb word 4) u)) (λ u. eqb-yes u)
-        (or-yes (eqb word 2 || eqb word 4) (eqb word 8) t) in
+    ⊎-elim (λ u. ⊎-elim (λ v. absurd (a (eqb-yes v))) (λ v. absurd (b (eqb-yes v))) (or-yes (eqb word 2) (eqb word 4) u)) (λ u. eqb-yes u)
+    (or-yes (eqb word 2 || eqb word 4) (eqb word 8) t) in
     rw e (sym (le-leb (suc size) (256 ^ 8) h))

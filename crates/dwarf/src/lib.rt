@@ -223,6 +223,14 @@ pub struct Table {
     pub sites: usize,
 }
 
+impl Table {
+    const NOTHING: Table = Table {
+        bytes: 0,
+        relocations: 0,
+        sites: 0,
+    };
+}
+
 // A function's header: whether it has one of its own, and the header's place.
 pub struct Chosen {
     pub own: bool,
@@ -257,7 +265,15 @@ fn align_for(s: Section, word: u64, last: bool) -> usize
 }
 
 // The bytes of a function's own header, where it has one.
-fn front_size(own: bool, debug: bool, m: Machine, align: usize, at: usize, e: Extent, rows: &[u64]) -> usize
+fn front_size(
+    own: bool,
+    debug: bool,
+    m: Machine,
+    align: usize,
+    at: usize,
+    e: Extent,
+    rows: &[u64],
+) -> usize
     requires { ⌜ Sound m e (now rows) × Aligned align × (at < 2 ^ 32) ⌝ }
     ensures { λ r. ⌜ r ≡ length (frontIn own debug m align at e (now (rows .entry))) ⌝ }
 {
@@ -329,11 +345,7 @@ fn sizes(s: Section, m: Machine, fs: &[u64], rows: &[u64], landings: &[u64], pai
     ensures { λ r. ⌜ r ≡ totalsIn (partsTo (inputs s m (now (fs .entry)) (now (rows .entry)) (now (landings .entry)) (now (pairs .entry))) (count functionStride (now (fs .entry)))) ⌝ }
 {
     let n = fs.len() / 18;
-    let mut t = Table {
-        bytes: 0,
-        relocations: 0,
-        sites: 0,
-    };
+    let mut t = Table::NOTHING;
     let mut k = 0;
     while k < n {
         t = size_next(s, m, fs, rows, landings, pairs, k, n, t);
@@ -372,17 +384,17 @@ fn front(
     e: Extent,
     t: Table,
     rows: &[u64],
-    bytes: &mut [u8],
-    relocations: &mut [u64],
+    out: &mut [u8],
+    relocs: &mut [u64],
 ) -> Table
-    requires { ⌜ FrontReady own debug m align e t (now rows) (now bytes) (now relocations) ⌝ }
-    ensures { λ r. ⌜ FrontStored own debug m align e t r (now (rows .entry)) (now (bytes .entry)) (now (bytes .exit)) (now (relocations .entry)) (now (relocations .exit)) ⌝ }
+    requires { ⌜ FrontReady own debug m align e t (now rows) (now out) (now relocs) ⌝ }
+    ensures { λ r. ⌜ FrontStored own debug m align e t r (now (rows .entry)) (now (out .entry)) (now (out .exit)) (now (relocs .entry)) (now (relocs .exit)) ⌝ }
 {
     if !own {
         return t;
     }
-    let at = header(bytes, t.bytes, debug, m, align, e, rows);
-    let i = header_relocs(relocations, t.relocations, debug, m, t.bytes, e);
+    let at = header(out, t.bytes, debug, m, align, e, rows);
+    let i = header_relocs(relocs, t.relocations, debug, m, t.bytes, e);
     Table {
         bytes: at,
         relocations: i,
@@ -401,18 +413,28 @@ fn piece(
     rows: &[u64],
     landings: &[u64],
     pairs: &[u64],
-    bytes: &mut [u8],
-    relocations: &mut [u64],
+    out: &mut [u8],
+    relocs: &mut [u64],
     sites: &mut [u8],
 ) -> Table
-    requires { ⌜ PieceReady (c .own) debug m align (c .cie) e t (now rows) (now landings) (now pairs) (now bytes) (now relocations) (now sites) ⌝ }
-    ensures { λ r. ⌜ Stored (partIn (c .own) debug m align (t .bytes) (c .cie) (t .sites) e (now (rows .entry)) (now (landings .entry)) (now (pairs .entry))) t r (now (bytes .entry)) (now (bytes .exit)) (now (relocations .entry)) (now (relocations .exit)) (now (sites .entry)) (now (sites .exit)) ⌝ }
+    requires { ⌜ PieceReady (c .own) debug m align (c .cie) e t (now rows) (now landings) (now pairs) (now out) (now relocs) (now sites) ⌝ }
+    ensures { λ r. ⌜ Stored (partIn (c .own) debug m align (t .bytes) (c .cie) (t .sites) e (now (rows .entry)) (now (landings .entry)) (now (pairs .entry))) t r (now (out .entry)) (now (out .exit)) (now (relocs .entry)) (now (relocs .exit)) (now (sites .entry)) (now (sites .exit)) ⌝ }
 {
-    let cie = c.cie;
-    let u = front(c.own, debug, m, align, e, t, rows, bytes, relocations);
-    let at = record(bytes, u.bytes, debug, m, align, cie, e, rows);
+    let u = front(c.own, debug, m, align, e, t, rows, out, relocs);
+    let at = record(out, u.bytes, debug, m, align, c.cie, e, rows);
     let table = t.sites + padding(4, t.sites);
-    let i = record_relocs(relocations, u.relocations, debug, m, u.bytes, cie, table, e, rows, pairs);
+    let i = record_relocs(
+        relocs,
+        u.relocations,
+        debug,
+        m,
+        u.bytes,
+        c.cie,
+        table,
+        e,
+        rows,
+        pairs,
+    );
     let end = call_sites(sites, t.sites, e, landings);
     Table {
         bytes: at,
@@ -422,16 +444,21 @@ fn piece(
 }
 
 // The header of function k, behind `at` bytes: its own, or that of the first earlier function of its key.
-fn header_for(s: Section, m: Machine, fs: &[u64], rows: &[u64], k: usize, at: usize, places: &[u64]) -> Chosen
+fn header_for(
+    s: Section,
+    m: Machine,
+    fs: &[u64],
+    rows: &[u64],
+    k: usize,
+    at: usize,
+    places: &[u64],
+) -> Chosen
     requires { ⌜ MachineFits m × Listed (now fs) (now rows) (k + 1) × (k ≤ length (now places)) ⌝ }
     ensures { λ r. ⌜ r ≡ chosenBy (owner s m (now (fs .entry)) (now (rows .entry)) k) k at (now (places .entry)) ⌝ }
 {
     let o = choose(s, m, fs, rows, k);
     if o == k {
-        return Chosen {
-            own: true,
-            cie: at,
-        };
+        return Chosen { own: true, cie: at };
     }
     Chosen {
         own: false,
@@ -451,18 +478,31 @@ fn part(
     n: usize,
     t: Table,
     places: &mut [u64],
-    bytes: &mut [u8],
-    relocations: &mut [u64],
+    out: &mut [u8],
+    relocs: &mut [u64],
     sites: &mut [u8],
 ) -> Table
-    requires { ⌜ PartReady (inputs s m (now fs) (now rows) (now landings) (now pairs)) k n t (now places) (now bytes) (now relocations) (now sites) ⌝ }
-    ensures { λ r. ⌜ Added (inputs s m (now (fs .entry)) (now (rows .entry)) (now (landings .entry)) (now (pairs .entry))) k t r (now (places .entry)) (now (places .exit)) (now (bytes .entry)) (now (bytes .exit)) (now (relocations .entry)) (now (relocations .exit)) (now (sites .entry)) (now (sites .exit)) ⌝ }
+    requires { ⌜ PartReady (inputs s m (now fs) (now rows) (now landings) (now pairs)) k n t (now places) (now out) (now relocs) (now sites) ⌝ }
+    ensures { λ r. ⌜ Added (inputs s m (now (fs .entry)) (now (rows .entry)) (now (landings .entry)) (now (pairs .entry))) k t r (now (places .entry)) (now (places .exit)) (now (out .entry)) (now (out .exit)) (now (relocs .entry)) (now (relocs .exit)) (now (sites .entry)) (now (sites .exit)) ⌝ }
 {
     let e = taken(s, extent_at(fs, k));
     let c = header_for(s, m, fs, rows, k, t.bytes, places);
     let align = align_for(s, m.word, k + 1 == n);
     places[k] = c.cie as u64;
-    piece(c, is_debug(s), m, align, e, t, rows, landings, pairs, bytes, relocations, sites)
+    piece(
+        c,
+        is_debug(s),
+        m,
+        align,
+        e,
+        t,
+        rows,
+        landings,
+        pairs,
+        out,
+        relocs,
+        sites,
+    )
 }
 
 // All functions.
@@ -474,22 +514,32 @@ fn store(
     landings: &[u64],
     pairs: &[u64],
     places: &mut [u64],
-    bytes: &mut [u8],
-    relocations: &mut [u64],
+    out: &mut [u8],
+    relocs: &mut [u64],
     sites: &mut [u8],
 ) -> Table
-    requires { ⌜ Cleared (inputs s m (now fs) (now rows) (now landings) (now pairs)) × Holds (inputs s m (now fs) (now rows) (now landings) (now pairs)) (count functionStride (now fs)) (now places) (now bytes) (now relocations) (now sites) ⌝ }
-    ensures { λ r. ⌜ Written (inputs s m (now (fs .entry)) (now (rows .entry)) (now (landings .entry)) (now (pairs .entry))) (count functionStride (now (fs .entry))) r (now (places .entry)) (now (places .exit)) (now (bytes .entry)) (now (bytes .exit)) (now (relocations .entry)) (now (relocations .exit)) (now (sites .entry)) (now (sites .exit)) ⌝ }
+    requires { ⌜ Cleared (inputs s m (now fs) (now rows) (now landings) (now pairs)) × Holds (inputs s m (now fs) (now rows) (now landings) (now pairs)) (count functionStride (now fs)) (now places) (now out) (now relocs) (now sites) ⌝ }
+    ensures { λ r. ⌜ Written (inputs s m (now (fs .entry)) (now (rows .entry)) (now (landings .entry)) (now (pairs .entry))) (count functionStride (now (fs .entry))) r (now (places .entry)) (now (places .exit)) (now (out .entry)) (now (out .exit)) (now (relocs .entry)) (now (relocs .exit)) (now (sites .entry)) (now (sites .exit)) ⌝ }
 {
     let n = fs.len() / 18;
-    let mut t = Table {
-        bytes: 0,
-        relocations: 0,
-        sites: 0,
-    };
+    let mut t = Table::NOTHING;
     let mut k = 0;
     while k < n {
-        t = part(s, m, fs, rows, landings, pairs, k, n, t, places, bytes, relocations, sites);
+        t = part(
+            s,
+            m,
+            fs,
+            rows,
+            landings,
+            pairs,
+            k,
+            n,
+            t,
+            places,
+            out,
+            relocs,
+            sites,
+        );
         k += 1;
     }
     t
@@ -506,25 +556,25 @@ fn fitted(
     landings: &[u64],
     pairs: &[u64],
     places: &mut [u64],
-    bytes: &mut [u8],
-    relocations: &mut [u64],
+    out: &mut [u8],
+    relocs: &mut [u64],
     sites: &mut [u8],
 ) -> Outcome
     requires { ⌜ Cleared (inputs s m (now fs) (now rows) (now landings) (now pairs)) ⌝ }
-    ensures { λ r. ⌜ Delivered (fitting (roomIn (now (places .entry)) (now (bytes .entry)) (now (relocations .entry)) (now (sites .entry))) (writtenIn (partsTo (inputs s m (now (fs .entry)) (now (rows .entry)) (now (landings .entry)) (now (pairs .entry))) (count functionStride (now (fs .entry)))))) r (now (places .entry)) (now (places .exit)) (now (bytes .entry)) (now (bytes .exit)) (now (relocations .entry)) (now (relocations .exit)) (now (sites .entry)) (now (sites .exit)) ⌝ }
+    ensures { λ r. ⌜ Delivered (fitting (roomIn (now (places .entry)) (now (out .entry)) (now (relocs .entry)) (now (sites .entry))) (writtenIn (partsTo (inputs s m (now (fs .entry)) (now (rows .entry)) (now (landings .entry)) (now (pairs .entry))) (count functionStride (now (fs .entry)))))) r (now (places .entry)) (now (places .exit)) (now (out .entry)) (now (out .exit)) (now (relocs .entry)) (now (relocs .exit)) (now (sites .entry)) (now (sites .exit)) ⌝ }
 {
     let n = fs.len() / 18;
     let t = sizes(s, m, fs, rows, landings, pairs);
     let lent = Table {
-        bytes: bytes.len(),
-        relocations: relocations.len(),
+        bytes: out.len(),
+        relocations: relocs.len(),
         sites: sites.len(),
     };
     let q = room(n, t, places.len(), lent);
     if let Question::No(number, position) = q {
         return Outcome::Refused(number, position);
     }
-    store(s, m, fs, rows, landings, pairs, places, bytes, relocations, sites);
+    store(s, m, fs, rows, landings, pairs, places, out, relocs, sites);
     Outcome::Accepted(Counts {
         places: n as u64,
         bytes: t.bytes as u64,
@@ -560,5 +610,16 @@ pub fn dwarf(
     if let Question::No(number, position) = q {
         return Outcome::Refused(number, position);
     }
-    fitted(s, m, functions, rows, landings, pairs, places, bytes, relocations, sites)
+    fitted(
+        s,
+        m,
+        functions,
+        rows,
+        landings,
+        pairs,
+        places,
+        bytes,
+        relocations,
+        sites,
+    )
 }
