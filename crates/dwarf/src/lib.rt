@@ -354,20 +354,20 @@ fn sizes(s: Section, m: Machine, fs: &[u64], rows: &[u64], landings: &[u64], pai
     t
 }
 
-// Questions 51 to 54: the results of n functions fit the lent lists, whose lengths are `places` and those of `room`.
-fn room(n: usize, t: Table, places: usize, room: Table) -> Question
-    ensures { λ r. ⌜ r ≡ questionOf (roomFor n t places room) ⌝ }
+// Questions 51 to 54: n header places and t fit the lists that are lent, of `places` elements and as many as `lent` says.
+fn room(n: usize, t: Table, places: usize, lent: Table) -> Question
+    ensures { λ r. ⌜ r ≡ questionOf (roomFor n t places lent) ⌝ }
 {
     if places < n {
         return Question::No(51, 0);
     }
-    if room.bytes < t.bytes {
+    if lent.bytes < t.bytes {
         return Question::No(52, 0);
     }
-    if room.relocations < t.relocations {
+    if lent.relocations < t.relocations {
         return Question::No(53, 0);
     }
-    if room.sites < t.sites {
+    if lent.sites < t.sites {
         return Question::No(54, 0);
     }
     Question::Yes
@@ -521,10 +521,10 @@ fn store(
     requires { ⌜ Cleared (inputs s m (now fs) (now rows) (now landings) (now pairs)) × Holds (inputs s m (now fs) (now rows) (now landings) (now pairs)) (count functionStride (now fs)) (now places) (now out) (now relocs) (now sites) ⌝ }
     ensures { λ r. ⌜ Written (inputs s m (now (fs .entry)) (now (rows .entry)) (now (landings .entry)) (now (pairs .entry))) (count functionStride (now (fs .entry))) r (now (places .entry)) (now (places .exit)) (now (out .entry)) (now (out .exit)) (now (relocs .entry)) (now (relocs .exit)) (now (sites .entry)) (now (sites .exit)) ⌝ }
 {
-    let n = fs.len() / 18;
+    let functions = fs.len() / 18;
     let mut t = Table::NOTHING;
     let mut k = 0;
-    while k < n {
+    while k < functions {
         t = part(
             s,
             m,
@@ -533,7 +533,7 @@ fn store(
             landings,
             pairs,
             k,
-            n,
+            functions,
             t,
             places,
             out,
