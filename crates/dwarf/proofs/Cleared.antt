@@ -101,7 +101,8 @@ module _ (s : Section) (g : Given) {w : Written} (a : Accepted s g w) where
   unfolding sitesIn partsOf givenFunctions
   sites-whole =
       let fs : List Function = map (taken s) (functionsOf (g .functions) (g .rows) (g .landings) (g .pairs)) in
-      let n : landingCount fs ≤ 1048576 = rw (functions-each x) (omega (arith, landings-counted x 0 (countIn x), landings-few-in (g .functions) (g .rows) (g .landings) (g .pairs) (a .lists))) in
+      let few = landings-few-in (g .functions) (g .rows) (g .landings) (g .pairs) (a .lists) in
+      let n : landingCount fs ≤ 1048576 = rw (functions-each x) (omega (arith, landings-counted x 0 (countIn x))) in
       rw (← all-parts x) (omega (arith, sites-few s (machineOf (g .machine)) 0 0 [] fs, a .bounded .functions))
 
   module _ (k : ℕ) (h : k < countIn x) where

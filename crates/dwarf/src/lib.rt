@@ -9,7 +9,6 @@ ghost use Rattle.format.specs.Test.{all, each};
 ghost use Rattle.format.specs.Machine.{isWord};
 ghost use Rattle.format.specs.Rows.{rowWhole};
 ghost use Rattle.format.specs.Lists.{field, rowStride, pairStride, functionStride, count, lineAt, pairAt};
-ghost use Rattle.format.specs.Records.{recordRelocs};
 ghost use Rattle.format.specs.Questions.{sizeBytes, encodingsOk, stepsOk, pairsOk, dwarfAsks, perFunction, fitting, dwarfGiven};
 ghost use Rattle.format.specs.Writer.{isDebug, alignFor};
 ghost use Rattle.format.specs.Answers.{questionOf};
@@ -23,7 +22,7 @@ ghost use Rattle.dwarf.specs.Sure.{Cleared, Next, PartReady};
 ghost use Rattle.dwarf.specs.Delivered.{givenOf, roomIn, Delivered};
 ghost use Rattle.dwarf.specs.Tables.{totalsIn, grownBy, SizeReady, roomFor, FrontReady, FrontStored, PieceReady, Stored, Added, Written, Holds, chosenBy};
 ghost use Rattle.search.specs.Owners.{owner};
-ghost use Rattle.dwarf.specs.Pieces.{frontIn, frontRelocs, partIn};
+ghost use Rattle.dwarf.specs.Pieces.{frontIn, relocNumbers, partIn};
 use format::Counts;
 use format::Machine;
 use format::Outcome;
@@ -286,7 +285,7 @@ fn front_size(
 // The numbers of a function's relocations, five each.
 fn relocs_size(own: bool, debug: bool, m: Machine, e: Extent, rows: &[u64], pairs: &[u64]) -> usize
     requires { ⌜ Sound m e (now rows) × (e .relaxed ≡ true → PairsReady e (now pairs)) ⌝ }
-    ensures { λ r. ⌜ r ≡ 5 * (length (frontRelocs own debug m 0 e (now (rows .entry))) + length (recordRelocs debug m 0 0 0 (meant e (now (rows .entry)) [] (now (pairs .entry))))) ⌝ }
+    ensures { λ r. ⌜ r ≡ relocNumbers own debug m e (now (rows .entry)) (now (pairs .entry)) ⌝ }
 {
     let n = record_relocs_count(debug, m, e, rows, pairs);
     if own {
