@@ -6,7 +6,7 @@ use mathlib.Core.Option.{Option, none, some}
 use mathlib.Core.List.{List, []}
 use Rattle.format.specs.Test.{pick, each}
 use Rattle.format.specs.declared.Machine.{Machine}
-use Rattle.format.specs.Lists.{Landing, Named, Relaxed, landingAt, pairAt}
+use Rattle.format.specs.Lists.{Landing, Named, Relaxed, landingAt}
 use Rattle.format.specs.Headers.{keyOf, kindFor, leading}
 use Rattle.format.specs.Records.{lsdaBlank, lsdaReloc, sizeField, sumPair, recordFields, recordBytes, recordRelocs}
 use Rattle.format.specs.Questions.{encodingsOk}
@@ -53,10 +53,20 @@ module _ (e : Extent) (rows landings pairs : List ℕ) where
   unfolding meant
   rows-body = refl
 
-  fields-body : (debug : Bool) (word distance : ℕ) → recordFields debug word distance (meant e rows landings pairs) ≡ recordFields debug word distance (bodyOf e rows)
+  size-body : sizeField (e .length) (meant e rows landings pairs .relaxed) ≡ sizeField (e .length) (bodyOf e rows .relaxed)
+  unfolding meant
+  size-body = size-any (e .length) (e .relaxed) _ _
+
+  blank-body : (word : ℕ) → lsdaBlank word (meant e rows landings pairs .landings) (meant e rows landings pairs .named)
+      ≡ lsdaBlank word (bodyOf e rows .landings) (bodyOf e rows .named)
+  unfolding meant
+  blank-body word = blank-any (landingAt landings) (landingAt []) (e .«landings_at») word (e .landings) _
+
+  fields-body : (debug : Bool) (word distance : ℕ)
+      → recordFields debug word distance (meant e rows landings pairs) ≡ recordFields debug word distance (bodyOf e rows)
   unfolding recordFields meant
-  fields-body true word distance = rw (size-any (e .length) (e .relaxed) (record { end = e .end; pairs = each (pairAt pairs) (e .«pairs_at») (e .pairs) }) (record { end = e .end; pairs = each (pairAt []) (e .«pairs_at») (e .pairs) }))
-  fields-body false word distance = rw (size-any (e .length) (e .relaxed) (record { end = e .end; pairs = each (pairAt pairs) (e .«pairs_at») (e .pairs) }) (record { end = e .end; pairs = each (pairAt []) (e .«pairs_at») (e .pairs) }), blank-any (landingAt landings) (landingAt []) (e .«landings_at») word (e .landings))
+  fields-body true word distance = rw size-body
+  fields-body false word distance = rw (size-body, blank-body word)
 
   pub encodings-body : (word : ℕ) → encodingsOk word (meant e rows landings pairs .landings) (meant e rows landings pairs .named)
       ≡ encodingsOk word (bodyOf e rows .landings) (bodyOf e rows .named)
@@ -68,21 +78,30 @@ module _ (e : Extent) (rows landings pairs : List ℕ) where
   unfolding recordBytes
   record-body debug m align at cie = rw (fields-body, rows-body)
 
-  sum-body : (place bytes : ℕ) (o : Option Relaxed) → sumPair place bytes (meant e rows landings pairs) o ≡ sumPair place bytes (meant e rows [] pairs) o
+  sum-body : (place bytes : ℕ) (o : Option Relaxed)
+      → sumPair place bytes (meant e rows landings pairs) o ≡ sumPair place bytes (meant e rows [] pairs) o
   unfolding sumPair meant
   sum-body place bytes none = refl
   sum-body place bytes (some r) = refl
 
 module _ (e : Extent) (rows landings pairs : List ℕ) (m : Machine) (at cie table : ℕ) where
-  -- the length of a record's fields, which its steps stand behind
-  fields-same : (debug : Bool) → recordFields debug (m .word) (at + 4 - cie) (meant e rows landings pairs) ≡ recordFields debug (m .word) (at + 4 - cie) (meant e rows [] pairs)
-  fields-same debug = fields-body e rows landings pairs debug (m .word) (at + 4 - cie) ∙ sym (fields-body e rows [] pairs debug (m .word) (at + 4 - cie))
+  fields-same : (debug : Bool) → recordFields debug (m .word) (at + 4 - cie) (meant e rows landings pairs)
+      ≡ recordFields debug (m .word) (at + 4 - cie) (meant e rows [] pairs)
+  fields-same debug =
+      fields-body e rows landings pairs debug (m .word) (at + 4 - cie) ∙ sym (fields-body e rows [] pairs debug (m .word) (at + 4 - cie))
 
   lsda-same : (word place : ℕ) → lsdaReloc word place table (meant e rows landings pairs .landings) (meant e rows landings pairs .named)
       ≡ lsdaReloc word place table (meant e rows [] pairs .landings) (meant e rows [] pairs .named)
   unfolding meant
   lsda-same word place = reloc-any (landingAt landings) (landingAt []) (e .«landings_at») word place table (e .landings) _
 
-  pub relocs-body : (debug : Bool) → recordRelocs debug m at cie table (meant e rows landings pairs) ≡ recordRelocs debug m at cie table (meant e rows [] pairs)
+  pub relocs-body : (debug : Bool)
+      → recordRelocs debug m at cie table (meant e rows landings pairs) ≡ recordRelocs debug m at cie table (meant e rows [] pairs)
   unfolding recordRelocs meant
-  relocs-body debug = rw (fields-same debug, lsda-same (m .word) (at + 17), sum-body e rows landings pairs (at + 8 + m .word) (m .word), sum-body e rows landings pairs (at + 12) 4)
+  relocs-body debug =
+      rw (
+        fields-same debug,
+        lsda-same (m .word) (at + 17),
+        sum-body e rows landings pairs (at + 8 + m .word) (m .word),
+        sum-body e rows landings pairs (at + 12) 4,
+      )

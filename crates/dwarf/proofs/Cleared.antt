@@ -23,7 +23,7 @@ use Rattle.dwarf.proofs.Passed.{askable, encoding-taken, rows-few-at, l
 use Rattle.leading.specs.Functions.{takenIn, without, Sound}
 use Rattle.lists.specs.declared.Extent.{Extent}
 use Rattle.lists.specs.Extents.{extentAt, meant}
-use Rattle.dwarf.specs.Parts.{Inputs, countIn, extentIn, functionIn, bytesIn, relocsIn, sitesIn, partsTo}
+use Rattle.dwarf.specs.Parts.{Inputs, inputs, countIn, extentIn, functionIn, bytesIn, relocsIn, sitesIn, partsTo}
 use Rattle.dwarf.specs.Sure.{Sure, Cleared}
 use Rattle.format.proofs.ListLaws.{each-length}
 use Rattle.format.proofs.SectionSize.{section-short}
@@ -81,8 +81,7 @@ module _ (x : Inputs) where
   landings-counted at (suc n) = omega (arith, landings-at at, landings-counted (suc at) n)
 
 abbrev pub inputsOf : Section → Given → Inputs
-inputsOf s g =
-    record { section = s; machine = machineOf (g .machine); functions = g .functions; rows = g .rows; landings = g .landings; pairs = g .pairs }
+inputsOf s g = inputs s (machineOf (g .machine)) (g .functions) (g .rows) (g .landings) (g .pairs)
 
 module _ (s : Section) (g : Given) {w : Written} (a : Accepted s g w) where
   abbrev x : Inputs
@@ -102,7 +101,8 @@ module _ (s : Section) (g : Given) {w : Written} (a : Accepted s g w) where
   unfolding sitesIn partsOf givenFunctions
   sites-whole =
       let fs : List Function = map (taken s) (functionsOf (g .functions) (g .rows) (g .landings) (g .pairs)) in
-      let n : landingCount fs ≤ 1048576 = rw (functions-each x) (omega (arith, landings-counted x 0 (countIn x), landings-few-in (g .functions) (g .rows) (g .landings) (g .pairs) (a .lists))) in
+      let few = landings-few-in (g .functions) (g .rows) (g .landings) (g .pairs) (a .lists) in
+      let n : landingCount fs ≤ 1048576 = rw (functions-each x) (omega (arith, landings-counted x 0 (countIn x))) in
       rw (← all-parts x) (omega (arith, sites-few s (machineOf (g .machine)) 0 0 [] fs, a .bounded .functions))
 
   module _ (k : ℕ) (h : k < countIn x) where

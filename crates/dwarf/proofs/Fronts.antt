@@ -89,7 +89,7 @@ parts-left x k (suc d) e =
     let on : suc k + d ≡ k + suc d = omega arith in
     let here : 0 + length (placesIn (partsTo x k)) ≡ k = omega (arith, places-length x k) in
     rw (part-next x k d e)
-    (rw (bytes-last, sites-last, places-last, length-append, length-append, seen-last, here, on, append-assoc) at (parts-left x (suc k) d (omega arith)))
+    (rw (bytes-last, sites-last, places-last, length-append (bytesIn (partsTo x k)), length-append (sitesIn (partsTo x k)), seen-last, here, on, append-assoc) at (parts-left x (suc k) d (omega arith)))
 
 -- what the first parts add up to, part by part
 pub bytes-next : (x : Inputs) (k : ℕ) → bytesIn (partsTo x (suc k)) ≡ bytesIn (partsTo x k) ++ partBehind x k (partsTo x k) .bytes

@@ -9,6 +9,7 @@ use lib.Dec.{T, leb→le}
 use lib.ListN.{length}
 use Rattle.format.specs.Test.{pick, each}
 use Rattle.format.specs.declared.Section.{Section}
+use Rattle.format.specs.declared.Counts.{Counts}
 use Rattle.format.specs.declared.Outcome.the-variants as outcome
 use Rattle.format.specs.declared.Question as declared
 use Rattle.format.specs.declared.Question.the-variants.{Yes, No}
@@ -22,16 +23,18 @@ use Rattle.lists.specs.Extents.{meant}
 use Rattle.records.proofs.LabelLaws.{numbers-length}
 use Rattle.dwarf.specs.declared.Table.{Table}
 use Rattle.dwarf.specs.Asks.{askedIn}
-use Rattle.dwarf.specs.Parts.{Inputs, inputs, countIn, extentIn, functionIn, placesIn, bytesIn, relocsIn, sitesIn, writtenIn, partsTo}
+use Rattle.dwarf.specs.Parts.{Inputs, countIn, extentIn, functionIn, placesIn, bytesIn, relocsIn, sitesIn, writtenIn, partsTo}
 use Rattle.dwarf.specs.Tables.{totalsIn, roomFor, Written, Holds}
 use Rattle.dwarf.specs.Delivered.{roomIn, Delivered}
 use Rattle.dwarf.proofs.Asking.{said-yes}
+use Rattle.dwarf.proofs.Cleared.{inputsOf}
 use Rattle.dwarf.proofs.Bodies.{encodings-any}
 use Rattle.dwarf.proofs.Fronts.{places-length, functions-each, written-parts}
 
 -- ---- refusals
 
-pub unchanged : (n k : ℕ) (places bytes relocs sites : List ℕ) → Delivered (refused n k) (outcome.Refused n k) places places bytes bytes relocs relocs sites sites
+pub unchanged : (n k : ℕ) (places bytes relocs sites : List ℕ)
+    → Delivered (refused n k) (outcome.Refused n k) places places bytes bytes relocs relocs sites sites
 unfolding outcomeOf afterwards
 unchanged n k places bytes relocs sites = record { answer = refl; places-after = refl; bytes-after = refl; relocations-after = refl; sites-after = refl }
 
@@ -67,7 +70,7 @@ module _ (x : Inputs) {t : Table} (e : t ≡ totalsIn (partsTo x (countIn x))) (
   module _ {q : declared.Question} (k : q ≡ questionOf (roomFor (countIn x) t (length places) lent)) where
     pub refuses : {i j : ℕ} → q ≡ No i j → Delivered answer (outcome.Refused i j) places places bytes bytes relocs relocs sites sites
     unfolding fitting
-    refuses {i} {j} n = rw (no-decides (roomAsks (roomIn places bytes relocs sites) (writtenIn (partsTo x (countIn x)))) (accepted (writtenIn (partsTo x (countIn x)))) (sym (ap questionOf room-is) ∙ (sym k ∙ n))) (unchanged i j places bytes relocs sites)
+    refuses {i} {j} n = rw (no-decides _ (accepted (writtenIn (partsTo x (countIn x)))) (sym (ap questionOf room-is) ∙ (sym k ∙ n))) (unchanged i j places bytes relocs sites)
 
     module _ (y : q ≡ Yes) where
       fits : roomFor (countIn x) t (length places) lent ≡ none
@@ -90,8 +93,11 @@ module _ (x : Inputs) {t : Table} (e : t ≡ totalsIn (partsTo x (countIn x))) (
             sites-fit = rw e at (leb→le (t .sites) (length sites) (asked _ _ _ (c .1)));
           }
 
+      abbrev counts : Counts
+      counts = record { places = countIn x; bytes = t .bytes; relocations = t .relocations / 5; sites = t .sites }
+
       pub delivers : {u : Table} {places′ bytes′ relocs′ sites′ : List ℕ} → Written x (countIn x) u places places′ bytes bytes′ relocs relocs′ sites sites′
-          → Delivered answer (outcome.Accepted (record { places = countIn x; bytes = t .bytes; relocations = t .relocations / 5; sites = t .sites })) places places′ bytes bytes′ relocs relocs′ sites sites′
+          → Delivered answer (outcome.Accepted counts) places places′ bytes bytes′ relocs relocs′ sites sites′
       unfolding outcomeOf afterwards relocationNumbers writtenIn totalsIn
       delivers w =
           let n : countIn x ≡ length (placesIn (partsTo x (countIn x))) = sym (places-length x (countIn x)) in
@@ -122,7 +128,7 @@ per-same ask f g at (suc n) h = rw (h at, per-same ask f g (suc at) n h)
 
 module _ (s : Section) (g : Given) where
   abbrev x : Inputs
-  x = inputs s (machineOf (g .machine)) (g .functions) (g .rows) (g .landings) (g .pairs)
+  x = inputsOf s g
 
   asks-are : (word : ℕ) → perFunction (dwarfAsks s word) 0 (map (taken s) (givenFunctions g))
       ≡ perFunction (dwarfAsks s word) 0 (each (askedIn s (g .functions) (g .rows) (g .pairs)) 0 (countIn x))
@@ -140,7 +146,8 @@ module _ (s : Section) (g : Given) where
     unfolding givenAsks ask andThen pick
     given-yes = rw (m, l)
 
-    module _ {q : declared.Question} {word : ℕ} (w : word ≡ machineOf (g .machine) .word) (k : q ≡ questionOf (perFunction (dwarfAsks s word) 0 (each (askedIn s (g .functions) (g .rows) (g .pairs)) 0 (countIn x)))) where
+    module _ {q : declared.Question} {word : ℕ} (w : word ≡ machineOf (g .machine) .word)
+        (k : q ≡ questionOf (perFunction (dwarfAsks s word) 0 (each (askedIn s (g .functions) (g .rows) (g .pairs)) 0 (countIn x)))) where
       told : q ≡ questionOf (perFunction (dwarfAsks s (machineOf (g .machine) .word)) 0 (map (taken s) (givenFunctions g)))
       told = k ∙ ap questionOf (rw w (sym (asks-are (machineOf (g .machine) .word))))
 
@@ -161,6 +168,7 @@ module _ (s : Section) (g : Given) where
     unfolding dwarfGiven givenAsks ask andThen unless pick
     no-machine m = rw m
 
-    pub no-lists : machineOk (g .machine) ≡ true → listsOk (g .functions) (g .rows) (g .landings) (g .pairs) ≡ false → dwarfGiven s g r ≡ refused 13 0
+    pub no-lists : machineOk (g .machine) ≡ true → listsOk (g .functions) (g .rows) (g .landings) (g .pairs) ≡ false
+        → dwarfGiven s g r ≡ refused 13 0
     unfolding dwarfGiven givenAsks ask andThen unless pick
     no-lists m l = rw (m, l)

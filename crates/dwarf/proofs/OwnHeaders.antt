@@ -21,7 +21,8 @@ use Rattle.dwarf.specs.Tables.{FrontReady, FrontStored}
 use Rattle.dwarf.proofs.Pieces.{no-front, no-relocs, own-front, own-relocs}
 use Rattle.records.proofs.LabelLaws.{numbers-length}
 
-module _ {own debug : Bool} {m : Machine} {align : ℕ} {e : Extent} {t : Table} {rows bytes relocs : List ℕ} (r : FrontReady own debug m align e t rows bytes relocs) where
+module _ {own debug : Bool} {m : Machine} {align : ℕ} {e : Extent} {t : Table} {rows bytes relocs : List ℕ}
+    (r : FrontReady own debug m align e t rows bytes relocs) where
   pub without-own : own ≡ false → FrontStored own debug m align e t t rows bytes bytes relocs relocs
   unfolding numbersOf
   without-own o =

@@ -24,7 +24,8 @@ use Rattle.dwarf.specs.declared.Table.{Table}
 use Rattle.dwarf.specs.Pieces.{frontIn, frontRelocs, partIn}
 use Rattle.dwarf.specs.Tables.{grownBy, FrontReady, FrontStored, PieceReady, Stored}
 
-module _ {own debug : Bool} {m : Machine} {align cie : ℕ} {e : Extent} {t : Table} {rows landings pairs bytes relocs sites : List ℕ} (r : PieceReady own debug m align cie e t rows landings pairs bytes relocs sites) where
+module _ {own debug : Bool} {m : Machine} {align cie : ℕ} {e : Extent} {t : Table} {rows landings pairs bytes relocs sites : List ℕ}
+    (r : PieceReady own debug m align cie e t rows landings pairs bytes relocs sites) where
   abbrev front : List ℕ
   front = frontIn own debug m align (t .bytes) e rows
 

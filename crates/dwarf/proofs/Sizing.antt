@@ -36,8 +36,12 @@ module _ {x : Inputs} {k n : ℕ} {t : Table} (c : Next x k n t) where
     sites = omega (arith, c .sure .sites-few);
   })
 
-  module _ {i align : ℕ} {debug : Bool} {e : Extent} (o : i ≡ owner (x .section) (x .machine) (x .functions) (x .rows) k) (d : debug ≡ isDebug (x .section)) (a : align ≡ alignFor (x .section) (x .machine .word) (eqb (k + 1) n)) (q : e ≡ extentIn x k) where
-    grown-is : grownBy t (partIn (eqb i k) debug (x .machine) align (t .bytes) 0 (t .sites) e (x .rows) (x .landings) (x .pairs)) ≡ totalsIn (partsTo x (k + 1))
+  module _ {i align : ℕ} {debug : Bool} {e : Extent} (o : i ≡ owner (x .section) (x .machine) (x .functions) (x .rows) k) (d : debug ≡ isDebug (x .section))
+      (a : align ≡ alignFor (x .section) (x .machine .word) (eqb (k + 1) n)) (q : e ≡ extentIn x k) where
+    abbrev after : Table
+    after = grownBy t (partIn (eqb i k) debug (x .machine) align (t .bytes) 0 (t .sites) e (x .rows) (x .landings) (x .pairs))
+
+    grown-is : after ≡ totalsIn (partsTo x (k + 1))
     grown-is = rw (o, d, align-is a, q) (sized-next x k t (c .behind))
 
     pub size-ready : SizeReady (eqb i k) debug (x .machine) align e t (x .rows) (x .landings) (x .pairs)
@@ -49,7 +53,7 @@ module _ {x : Inputs} {k n : ℕ} {t : Table} (c : Next x k n t) where
       small = rw grown-is small-next;
     }
 
-    pub size-done : {r : Table} → r ≡ grownBy t (partIn (eqb i k) debug (x .machine) align (t .bytes) 0 (t .sites) e (x .rows) (x .landings) (x .pairs)) → r ≡ totalsIn (partsTo x (k + 1))
+    pub size-done : {r : Table} → r ≡ after → r ≡ totalsIn (partsTo x (k + 1))
     size-done h = h ∙ grown-is
 
 -- ---- all of them

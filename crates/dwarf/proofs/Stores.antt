@@ -115,7 +115,8 @@ module _ (x : Inputs) where
   unfolding partsTo placesIn bytesIn relocsIn sitesIn joined numbersOf
   start places bytes relocs sites = record { places-stored = idle; bytes-stored = idle; relocs-stored = idle; sites-stored = idle }
 
-  module _ {k : ℕ} {t : Table} {places places′ bytes bytes′ relocs relocs′ sites sites′ : List ℕ} (w : Written x k t places places′ bytes bytes′ relocs relocs′ sites sites′) where
+  module _ {k : ℕ} {t : Table} {places places′ bytes bytes′ relocs relocs′ sites sites′ : List ℕ}
+      (w : Written x k t places places′ bytes bytes′ relocs relocs′ sites sites′) where
     pub turn : {u : Table} {places″ bytes″ relocs″ sites″ : List ℕ} → Added x k t u places′ places″ bytes′ bytes″ relocs′ relocs″ sites′ sites″
         → Written x (k + 1) u places places″ bytes bytes″ relocs relocs″ sites sites″
     turn a =

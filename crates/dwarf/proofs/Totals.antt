@@ -24,7 +24,7 @@ use Rattle.records.proofs.RecordLaws.{record-length}
 use Rattle.records.proofs.RelocLaws.{relocs-count}
 use Rattle.dwarf.specs.declared.Table.{Table}
 use Rattle.dwarf.specs.Parts.{Inputs, extentIn, alignIn, placesIn, bytesIn, sitesIn, partBehind, partsTo}
-use Rattle.dwarf.specs.Pieces.{frontIn, frontRelocs, partIn}
+use Rattle.dwarf.specs.Pieces.{frontIn, frontRelocs, relocNumbers, partIn}
 use Rattle.headers.specs.Kinds.{headerRelocCount}
 use Rattle.headers.proofs.Personalities.{header-relocs-count}
 use Rattle.format.proofs.ListLaws.{each-length}
@@ -51,8 +51,7 @@ module _ (own debug : Bool) (m : Machine) (align at sites : ℕ) (e : Extent) (r
   unfolding partIn
   bytes-size cie = length-append (frontIn own debug m align at e rows) _ ∙ rw (record-length debug m align behind cie (bodyOf e rows))
 
-  relocs-size : (cie : ℕ) → length (numbersOf (piece cie .relocations))
-      ≡ 5 * (length (frontRelocs own debug m 0 e rows) + length (recordRelocs debug m 0 0 0 (meant e rows [] pairs)))
+  relocs-size : (cie : ℕ) → length (numbersOf (piece cie .relocations)) ≡ relocNumbers own debug m e rows pairs
   unfolding partIn
   relocs-size cie =
       rw (
@@ -110,12 +109,11 @@ module _ (debug : Bool) (m : Machine) (e : Extent) (rows pairs : List ℕ) {n : 
   relocs-few s = omega (arith, s .few, record-few debug m 0 0 0 (meant e rows [] pairs), each-length (lineAt rows) (e .«rows_at») (e .rows))
 
   module _ {own : Bool} where
-    pub own-numbers : {h : ℕ} → own ≡ true → h ≡ headerRelocCount debug e
-        → 5 * (h + n) ≡ 5 * (length (frontRelocs own debug m 0 e rows) + length (recordRelocs debug m 0 0 0 (meant e rows [] pairs)))
+    pub own-numbers : {h : ℕ} → own ≡ true → h ≡ headerRelocCount debug e → 5 * (h + n) ≡ relocNumbers own debug m e rows pairs
     unfolding pick
     own-numbers o k = rw (front-count own debug m 0 e rows, o, k, q)
 
-    pub bare-numbers : own ≡ false → 5 * n ≡ 5 * (length (frontRelocs own debug m 0 e rows) + length (recordRelocs debug m 0 0 0 (meant e rows [] pairs)))
+    pub bare-numbers : own ≡ false → 5 * n ≡ relocNumbers own debug m e rows pairs
     unfolding pick
     bare-numbers o = rw (front-count own debug m 0 e rows, o, q) (omega arith)
 
@@ -123,7 +121,8 @@ pub header-one : (debug : Bool) (m : Machine) (e : Extent) {h : ℕ} → h ≡ h
 header-one debug m e k = omega (arith, header-few debug m 0 (keyIn m e []), header-relocs-count debug m 0 e [])
 
 -- and all of it
-module _ {own debug : Bool} {m : Machine} {align : ℕ} {e : Extent} {t : Table} {rows landings pairs : List ℕ} (r : SizeReady own debug m align e t rows landings pairs) where
+module _ {own debug : Bool} {m : Machine} {align : ℕ} {e : Extent} {t : Table} {rows landings pairs : List ℕ}
+    (r : SizeReady own debug m align e t rows landings pairs) where
   abbrev whole : Table
   whole = grownBy t (partIn own debug m align (t .bytes) 0 (t .sites) e rows landings pairs)
 
@@ -132,7 +131,7 @@ module _ {own debug : Bool} {m : Machine} {align : ℕ} {e : Extent} {t : Table}
   unfolding grownBy
   whole-bytes = omega (arith, bytes-size own debug m align (t .bytes) (t .sites) e rows landings pairs 0)
 
-  whole-relocs : whole .relocations ≡ t .relocations + 5 * (length (frontRelocs own debug m 0 e rows) + length (recordRelocs debug m 0 0 0 (meant e rows [] pairs)))
+  whole-relocs : whole .relocations ≡ t .relocations + relocNumbers own debug m e rows pairs
   unfolding grownBy
   whole-relocs = omega (arith, relocs-size own debug m align (t .bytes) (t .sites) e rows landings pairs 0)
 
@@ -157,14 +156,15 @@ module _ {own debug : Bool} {m : Machine} {align : ℕ} {e : Extent} {t : Table}
       pub end-near : t .bytes + f + b < 2 ^ 32
       end-near = omega (arith, r .small .bytes, end-is)
 
-      module _ {i s : ℕ} (d : i ≡ 5 * (length (frontRelocs own debug m 0 e rows) + length (recordRelocs debug m 0 0 0 (meant e rows [] pairs)))) (g : s ≡ length (siteAdded (t .sites) (meant e [] landings [] .landings))) where
+      module _ {i s : ℕ} (d : i ≡ relocNumbers own debug m e rows pairs)
+          (g : s ≡ length (siteAdded (t .sites) (meant e [] landings [] .landings))) where
         pub sized-is : record { bytes = t .bytes + f + b; relocations = t .relocations + i; sites = t .sites + s } ≡ whole
         sized-is =
             let j : t .relocations + i ≡ whole .relocations = omega (arith, whole-relocs) in
             let k : t .sites + s ≡ whole .sites = omega (arith, whole-sites) in
             rw (end-is, j, k)
 
-  pub relocs-near : {i : ℕ} → i ≡ 5 * (length (frontRelocs own debug m 0 e rows) + length (recordRelocs debug m 0 0 0 (meant e rows [] pairs))) → t .relocations + i < 2 ^ 32
+  pub relocs-near : {i : ℕ} → i ≡ relocNumbers own debug m e rows pairs → t .relocations + i < 2 ^ 32
   relocs-near d = omega (arith, r .small .relocations, whole-relocs)
 
   pub sites-end : {s : ℕ} → s ≡ length (siteAdded (t .sites) (meant e [] landings [] .landings)) → t .sites + s < 2 ^ 32

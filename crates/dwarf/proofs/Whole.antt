@@ -15,6 +15,7 @@ use Rattle.format.specs.declared.Question.the-variants.{Yes, No}
 use Rattle.format.specs.Machine.{machineOf, machineOk, machineStride, isWord, noFramePointer}
 use Rattle.format.specs.Lists.{functionStride, count, listsOk}
 use Rattle.format.specs.Questions.{dwarfAsks, perFunction, Given, Room, fitting, dwarfGiven}
+use Rattle.format.specs.Writer.{Written}
 use Rattle.format.specs.Answers.{questionOf}
 use Rattle.format.proofs.ListLaws.{chained}
 use Rattle.dwarf.specs.Asks.{askedIn, AllAskable}
@@ -41,11 +42,13 @@ ap-word e = ap (λ (m : Machine). m .word) e
 
 -- ---- what the questions make sure of
 
-module _ (s : Section) (machine functions rows landings pairs : List ℕ) (a : machineOk machine ≡ true) (b : listsOk functions rows landings pairs ≡ true) {m : Machine} (e : m ≡ machineOf machine) where
+module _ (s : Section) (machine functions rows landings pairs : List ℕ)
+    (a : machineOk machine ≡ true) (b : listsOk functions rows landings pairs ≡ true) {m : Machine} (e : m ≡ machineOf machine) where
   pub askable-is : T (isWord (m .word)) × AllAskable s functions rows pairs
   askable-is = (rw e (word-yes machine (is-yes a)), all-askable functions rows landings pairs (is-yes b) s)
 
-  pub cleared-is : {q : Question} → q ≡ questionOf (perFunction (dwarfAsks s (m .word)) 0 (each (askedIn s functions rows pairs) 0 (count functionStride functions))) → q ≡ Yes
+  pub cleared-is : {q : Question}
+      → q ≡ questionOf (perFunction (dwarfAsks s (m .word)) 0 (each (askedIn s functions rows pairs) 0 (count functionStride functions))) → q ≡ Yes
       → Cleared (inputs s m functions rows landings pairs)
   cleared-is k y =
       let g : Given = givenOf machine functions rows landings pairs in
@@ -57,7 +60,8 @@ module _ (s : Section) (g : Given) (places bytes relocs sites : List ℕ) where
   abbrev room : Room
   room = roomIn places bytes relocs sites
 
-  pub says-11 : machineOk (g .machine) ≡ false → Delivered (dwarfGiven s g room) (outcome.Refused 11 0) places places bytes bytes relocs relocs sites sites
+  pub says-11 : machineOk (g .machine) ≡ false
+      → Delivered (dwarfGiven s g room) (outcome.Refused 11 0) places places bytes bytes relocs relocs sites sites
   says-11 n = rw (no-machine s g room n) (unchanged 11 0 places bytes relocs sites)
 
   module _ (a : machineOk (g .machine) ≡ true) where
@@ -65,11 +69,15 @@ module _ (s : Section) (g : Given) (places bytes relocs sites : List ℕ) where
         → Delivered (dwarfGiven s g room) (outcome.Refused 13 0) places places bytes bytes relocs relocs sites sites
     says-13 n = rw (no-lists s g room a n) (unchanged 13 0 places bytes relocs sites)
 
-    module _ (b : listsOk (g .functions) (g .rows) (g .landings) (g .pairs) ≡ true) {m : Machine} (e : m ≡ machineOf (g .machine)) {q : Question} (k : q ≡ questionOf (perFunction (dwarfAsks s (m .word)) 0 (each (askedIn s (g .functions) (g .rows) (g .pairs)) 0 (count functionStride (g .functions))))) where
+    module _ (b : listsOk (g .functions) (g .rows) (g .landings) (g .pairs) ≡ true) {m : Machine} (e : m ≡ machineOf (g .machine)) {q : Question}
+        (k : q ≡ questionOf (perFunction (dwarfAsks s (m .word)) 0 (each (askedIn s (g .functions) (g .rows) (g .pairs)) 0 (count functionStride (g .functions))))) where
       pub says-no : {i j : ℕ} → q ≡ No i j → Delivered (dwarfGiven s g room) (outcome.Refused i j) places places bytes bytes relocs relocs sites sites
       says-no {i} {j} n = rw (no-function s g a b (ap-word e) k room n) (unchanged i j places bytes relocs sites)
 
+      abbrev whole : Written
+      whole = writtenIn (partsTo (inputs s m (g .functions) (g .rows) (g .landings) (g .pairs)) (count functionStride (g .functions)))
+
       pub says-all : q ≡ Yes → {r : Outcome} {places′ bytes′ relocs′ sites′ : List ℕ}
-          → Delivered (fitting room (writtenIn (partsTo (inputs s m (g .functions) (g .rows) (g .landings) (g .pairs)) (count functionStride (g .functions))))) r places places′ bytes bytes′ relocs relocs′ sites sites′
+          → Delivered (fitting room whole) r places places′ bytes bytes′ relocs relocs′ sites sites′
           → Delivered (dwarfGiven s g room) r places places′ bytes bytes′ relocs relocs′ sites sites′
       says-all y d = rw (all-yes s g a b (ap-word e) k room y) (rw e at d)

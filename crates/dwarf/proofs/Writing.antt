@@ -44,7 +44,9 @@ module _ {x : Inputs} {k n : ℕ} {t : Table} {places bytes relocs sites : List 
   unfolding totalsIn
   sites-behind = ap (λ (u : Table). u .sites) (r .coming .behind)
 
-  module _ {c : Chosen} {debug : Bool} {align : ℕ} {e : Extent} (h : c ≡ chosenBy (owner (x .section) (x .machine) (x .functions) (x .rows) k) k (t .bytes) places) (d : debug ≡ isDebug (x .section)) (a : align ≡ alignFor (x .section) (x .machine .word) (eqb (k + 1) n)) (q : e ≡ extentIn x k) where
+  module _ {c : Chosen} {debug : Bool} {align : ℕ} {e : Extent}
+      (h : c ≡ chosenBy (owner (x .section) (x .machine) (x .functions) (x .rows) k) k (t .bytes) places) (d : debug ≡ isDebug (x .section))
+      (a : align ≡ alignFor (x .section) (x .machine .word) (eqb (k + 1) n)) (q : e ≡ extentIn x k) where
     abbrev piece : Part
     piece = partIn (c .own) debug (x .machine) align (t .bytes) (c .cie) (t .sites) e (x .rows) (x .landings) (x .pairs)
 
@@ -65,7 +67,9 @@ module _ {x : Inputs} {k n : ℕ} {t : Table} {places bytes relocs sites : List 
           pairs-ready = rw q (r .coming .sure .pairs-ready);
           near = near;
           small = rw (piece-is, r .coming .behind, totals-next x k, ← add-one k) (small-next (r .coming));
-          bytes-fit = rw piece-is (omega (arith, bytes-behind, r .fit .bytes-fit, ap length (bytes-next x k), length-append (bytesIn (partsTo x k)) (p .bytes)));
+          bytes-fit =
+              rw piece-is
+              (omega (arith, bytes-behind, r .fit .bytes-fit, ap length (bytes-next x k), length-append (bytesIn (partsTo x k)) (p .bytes)));
           relocs-fit =
               rw piece-is
               (omega (
@@ -76,7 +80,9 @@ module _ {x : Inputs} {k n : ℕ} {t : Table} {places bytes relocs sites : List 
                 ap length (numbers-append (relocsIn (partsTo x k)) (p .relocations)),
                 length-append (numbersOf (relocsIn (partsTo x k))) (numbersOf (p .relocations)),
               ));
-          sites-fit = rw piece-is (omega (arith, sites-behind, r .fit .sites-fit, ap length (sites-next x k), length-append (sitesIn (partsTo x k)) (p .sites)));
+          sites-fit =
+              rw piece-is
+              (omega (arith, sites-behind, r .fit .sites-fit, ap length (sites-next x k), length-append (sitesIn (partsTo x k)) (p .sites)));
         }
 
     place-is : partBehind x k (partsTo x k) .place ≡ c .cie
@@ -103,7 +109,8 @@ pub start : (x : Inputs) {places bytes relocs sites : List ℕ} → Holds x (cou
     → Going x (countIn x) 0 nothing places places bytes bytes relocs relocs sites sites
 start x h = record { counted = refl; high = omega arith; fit = h; done = stores.start x _ _ _ _ }
 
-module _ {x : Inputs} {n k : ℕ} {t : Table} {places places′ bytes bytes′ relocs relocs′ sites sites′ : List ℕ} (g : Going x n k t places places′ bytes bytes′ relocs relocs′ sites sites′) where
+module _ {x : Inputs} {n k : ℕ} {t : Table} {places places′ bytes bytes′ relocs relocs′ sites sites′ : List ℕ}
+    (g : Going x n k t places places′ bytes bytes′ relocs relocs′ sites sites′) where
   pub ready : Cleared x → k < n → PartReady x k n t places′ bytes′ relocs′ sites′
   ready s h = record {
     coming = record { sure = s .each-one k (omega (arith, g .counted)); counted = g .counted; behind = stores.behind x (g .done) };

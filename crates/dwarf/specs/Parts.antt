@@ -13,7 +13,7 @@ use Rattle.lists.specs.declared.Extent.{Extent}
 use Rattle.lists.specs.Extents.{extentAt, meant}
 use Rattle.leading.specs.Functions.{takenIn}
 
--- what a pass goes over
+-- what a pass goes over: a section of a machine's functions
 pub record Inputs : Type 0 where
   pub section : Section
   pub machine : Machine
@@ -60,13 +60,15 @@ unfoldable pub seenFrom : (ℕ → Key) → ℕ → List ℕ → List Seen
 seenFrom key j [] = []
 seenFrom key j (p ∷ ps) = record { key = key j; place = p } ∷ seenFrom key (suc j) ps
 
--- where an earlier function than k has its key, that one's header; the padding of function k; and its part behind the parts ps
+-- the header's place of the first function in front of k that has its key
 unfoldable pub earlierIn : Inputs → ℕ → List Part → Option ℕ
 earlierIn x k ps = placeIn (keyOf (x .machine) (functionIn x k)) (seenFrom (λ j. keyOf (x .machine) (functionIn x j)) 0 (placesIn ps))
 
+-- what function k is padded to
 abbrev pub alignIn : Inputs → ℕ → ℕ
 alignIn x k = alignFor (x .section) (x .machine .word) (eqb (suc k) (countIn x))
 
+-- its part behind the parts ps
 unfoldable pub partBehind : Inputs → ℕ → List Part → Part
 partBehind x k ps = partWith (earlierIn x k ps) (x .section) (x .machine) (alignIn x k) (length (bytesIn ps)) (length (sitesIn ps)) (functionIn x k)
 

@@ -1,5 +1,5 @@
 -- One function's part by its record: whether it has a header of its own, and the place of its header.
-use Prim.Native.Nat.{ℕ, _+_}
+use Prim.Native.Nat.{ℕ, _+_, _*_}
 use mathlib.Core.Bool.{Bool}
 use mathlib.Core.List.{List, [], _++_}
 use lib.ListN.{length}
@@ -20,6 +20,10 @@ frontIn own debug m align at e rows = pick own (headerBytes debug m align at (ke
 
 unfoldable pub frontRelocs : (own debug : Bool) → Machine → (at : ℕ) → Extent → (rows : List ℕ) → List Relocation
 frontRelocs own debug m at e rows = pick own (headerRelocs debug m at (keyIn m e rows)) []
+
+-- how many numbers its relocations are, its own header's among them; where they and the header stand does not matter
+abbrev pub relocNumbers : (own debug : Bool) → Machine → Extent → (rows pairs : List ℕ) → ℕ
+relocNumbers own debug m e rows pairs = 5 * (length (frontRelocs own debug m 0 e rows) + length (recordRelocs debug m 0 0 0 (meant e rows [] pairs)))
 
 -- a function at `at`, where `sites` call-site bytes stand already, with its header at `cie`
 unfoldable pub partIn : (own debug : Bool) → Machine → (align at cie sites : ℕ) → Extent → (rows landings pairs : List ℕ) → Part

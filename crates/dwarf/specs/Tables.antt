@@ -22,6 +22,7 @@ use Rattle.dwarf.specs.Parts.{Inputs, placesIn, bytesIn, relocsIn, sites
 
 -- ---- sizes
 
+-- an empty table
 abbrev pub nothing : Table
 nothing = record { bytes = 0; relocations = 0; sites = 0 }
 
@@ -54,10 +55,10 @@ pub record SizeReady (own debug : Bool) (m : Machine) (align : ℕ) (e : Extent)
 
 -- questions 51 to 54 by numbers: n header places and t, into lists of such lengths
 unfoldable pub roomFor : (n : ℕ) → Table → (places : ℕ) → Table → Question
-roomFor n t places room =
+roomFor n t places lent =
     andThen (ask (leb n places) 51 0)
-    (andThen (ask (leb (t .bytes) (room .bytes)) 52 0)
-    (andThen (ask (leb (t .relocations) (room .relocations)) 53 0) (ask (leb (t .sites) (room .sites)) 54 0)))
+    (andThen (ask (leb (t .bytes) (lent .bytes)) 52 0)
+    (andThen (ask (leb (t .relocations) (lent .relocations)) 53 0) (ask (leb (t .sites) (lent .sites)) 54 0)))
 
 -- ---- stores
 
@@ -102,7 +103,7 @@ pub record Added (x : Inputs) (k : ℕ) (t u : Table) (places places′ bytes by
   pub place-stored : Wrote places places′ k (k + 1) (partBehind x k (partsTo x k) .place ∷ [])
   pub rest-stored : Stored (partBehind x k (partsTo x k)) t u bytes bytes′ relocs relocs′ sites sites′
 
--- the first k functions have been written into lists that were empty, with t behind them
+-- the first k functions have been written to the front of the lists, and t stands behind them
 pub record Written (x : Inputs) (k : ℕ) (t : Table) (places places′ bytes bytes′ relocs relocs′ sites sites′ : List ℕ) : Type 0 where
   pub places-stored : Wrote places places′ 0 k (placesIn (partsTo x k))
   pub bytes-stored : Wrote bytes bytes′ 0 (t .bytes) (bytesIn (partsTo x k))

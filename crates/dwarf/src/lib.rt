@@ -9,7 +9,6 @@ ghost use Rattle.format.specs.Test.{all, each};
 ghost use Rattle.format.specs.Machine.{isWord};
 ghost use Rattle.format.specs.Rows.{rowWhole};
 ghost use Rattle.format.specs.Lists.{field, rowStride, pairStride, functionStride, count, lineAt, pairAt};
-ghost use Rattle.format.specs.Records.{recordRelocs};
 ghost use Rattle.format.specs.Questions.{sizeBytes, encodingsOk, stepsOk, pairsOk, dwarfAsks, perFunction, fitting, dwarfGiven};
 ghost use Rattle.format.specs.Writer.{isDebug, alignFor};
 ghost use Rattle.format.specs.Answers.{questionOf};
@@ -23,7 +22,7 @@ ghost use Rattle.dwarf.specs.Sure.{Cleared, Next, PartReady};
 ghost use Rattle.dwarf.specs.Delivered.{givenOf, roomIn, Delivered};
 ghost use Rattle.dwarf.specs.Tables.{totalsIn, grownBy, SizeReady, roomFor, FrontReady, FrontStored, PieceReady, Stored, Added, Written, Holds, chosenBy};
 ghost use Rattle.search.specs.Owners.{owner};
-ghost use Rattle.dwarf.specs.Pieces.{frontIn, frontRelocs, partIn};
+ghost use Rattle.dwarf.specs.Pieces.{frontIn, relocNumbers, partIn};
 use format::Counts;
 use format::Machine;
 use format::Outcome;
@@ -223,6 +222,14 @@ pub struct Table {
     pub sites: usize,
 }
 
+impl Table {
+    const NOTHING: Table = Table {
+        bytes: 0,
+        relocations: 0,
+        sites: 0,
+    };
+}
+
 // A function's header: whether it has one of its own, and the header's place.
 pub struct Chosen {
     pub own: bool,
@@ -278,7 +285,7 @@ fn front_size(
 // The numbers of a function's relocations, five each.
 fn relocs_size(own: bool, debug: bool, m: Machine, e: Extent, rows: &[u64], pairs: &[u64]) -> usize
     requires { ⌜ Sound m e (now rows) × (e .relaxed ≡ true → PairsReady e (now pairs)) ⌝ }
-    ensures { λ r. ⌜ r ≡ 5 * (length (frontRelocs own debug m 0 e (now (rows .entry))) + length (recordRelocs debug m 0 0 0 (meant e (now (rows .entry)) [] (now (pairs .entry))))) ⌝ }
+    ensures { λ r. ⌜ r ≡ relocNumbers own debug m e (now (rows .entry)) (now (pairs .entry)) ⌝ }
 {
     let n = record_relocs_count(debug, m, e, rows, pairs);
     if own {
@@ -337,11 +344,7 @@ fn sizes(s: Section, m: Machine, fs: &[u64], rows: &[u64], landings: &[u64], pai
     ensures { λ r. ⌜ r ≡ totalsIn (partsTo (inputs s m (now (fs .entry)) (now (rows .entry)) (now (landings .entry)) (now (pairs .entry))) (count functionStride (now (fs .entry)))) ⌝ }
 {
     let n = fs.len() / 18;
-    let mut t = Table {
-        bytes: 0,
-        relocations: 0,
-        sites: 0,
-    };
+    let mut t = Table::NOTHING;
     let mut k = 0;
     while k < n {
         t = size_next(s, m, fs, rows, landings, pairs, k, n, t);
@@ -350,20 +353,20 @@ fn sizes(s: Section, m: Machine, fs: &[u64], rows: &[u64], landings: &[u64], pai
     t
 }
 
-// Questions 51 to 54: the results of n functions fit the lent lists, whose lengths are `places` and those of `room`.
-fn room(n: usize, t: Table, places: usize, room: Table) -> Question
-    ensures { λ r. ⌜ r ≡ questionOf (roomFor n t places room) ⌝ }
+// Questions 51 to 54: n header places and t fit the lists that are lent, of `places` elements and as many as `lent` says.
+fn room(n: usize, t: Table, places: usize, lent: Table) -> Question
+    ensures { λ r. ⌜ r ≡ questionOf (roomFor n t places lent) ⌝ }
 {
     if places < n {
         return Question::No(51, 0);
     }
-    if room.bytes < t.bytes {
+    if lent.bytes < t.bytes {
         return Question::No(52, 0);
     }
-    if room.relocations < t.relocations {
+    if lent.relocations < t.relocations {
         return Question::No(53, 0);
     }
-    if room.sites < t.sites {
+    if lent.sites < t.sites {
         return Question::No(54, 0);
     }
     Question::Yes
@@ -380,17 +383,17 @@ fn front(
     e: Extent,
     t: Table,
     rows: &[u64],
-    bytes: &mut [u8],
-    relocations: &mut [u64],
+    out: &mut [u8],
+    relocs: &mut [u64],
 ) -> Table
-    requires { ⌜ FrontReady own debug m align e t (now rows) (now bytes) (now relocations) ⌝ }
-    ensures { λ r. ⌜ FrontStored own debug m align e t r (now (rows .entry)) (now (bytes .entry)) (now (bytes .exit)) (now (relocations .entry)) (now (relocations .exit)) ⌝ }
+    requires { ⌜ FrontReady own debug m align e t (now rows) (now out) (now relocs) ⌝ }
+    ensures { λ r. ⌜ FrontStored own debug m align e t r (now (rows .entry)) (now (out .entry)) (now (out .exit)) (now (relocs .entry)) (now (relocs .exit)) ⌝ }
 {
     if !own {
         return t;
     }
-    let at = header(bytes, t.bytes, debug, m, align, e, rows);
-    let i = header_relocs(relocations, t.relocations, debug, m, t.bytes, e);
+    let at = header(out, t.bytes, debug, m, align, e, rows);
+    let i = header_relocs(relocs, t.relocations, debug, m, t.bytes, e);
     Table {
         bytes: at,
         relocations: i,
@@ -409,24 +412,23 @@ fn piece(
     rows: &[u64],
     landings: &[u64],
     pairs: &[u64],
-    bytes: &mut [u8],
-    relocations: &mut [u64],
+    out: &mut [u8],
+    relocs: &mut [u64],
     sites: &mut [u8],
 ) -> Table
-    requires { ⌜ PieceReady (c .own) debug m align (c .cie) e t (now rows) (now landings) (now pairs) (now bytes) (now relocations) (now sites) ⌝ }
-    ensures { λ r. ⌜ Stored (partIn (c .own) debug m align (t .bytes) (c .cie) (t .sites) e (now (rows .entry)) (now (landings .entry)) (now (pairs .entry))) t r (now (bytes .entry)) (now (bytes .exit)) (now (relocations .entry)) (now (relocations .exit)) (now (sites .entry)) (now (sites .exit)) ⌝ }
+    requires { ⌜ PieceReady (c .own) debug m align (c .cie) e t (now rows) (now landings) (now pairs) (now out) (now relocs) (now sites) ⌝ }
+    ensures { λ r. ⌜ Stored (partIn (c .own) debug m align (t .bytes) (c .cie) (t .sites) e (now (rows .entry)) (now (landings .entry)) (now (pairs .entry))) t r (now (out .entry)) (now (out .exit)) (now (relocs .entry)) (now (relocs .exit)) (now (sites .entry)) (now (sites .exit)) ⌝ }
 {
-    let cie = c.cie;
-    let u = front(c.own, debug, m, align, e, t, rows, bytes, relocations);
-    let at = record(bytes, u.bytes, debug, m, align, cie, e, rows);
+    let u = front(c.own, debug, m, align, e, t, rows, out, relocs);
+    let at = record(out, u.bytes, debug, m, align, c.cie, e, rows);
     let table = t.sites + padding(4, t.sites);
     let i = record_relocs(
-        relocations,
+        relocs,
         u.relocations,
         debug,
         m,
         u.bytes,
-        cie,
+        c.cie,
         table,
         e,
         rows,
@@ -475,12 +477,12 @@ fn part(
     n: usize,
     t: Table,
     places: &mut [u64],
-    bytes: &mut [u8],
-    relocations: &mut [u64],
+    out: &mut [u8],
+    relocs: &mut [u64],
     sites: &mut [u8],
 ) -> Table
-    requires { ⌜ PartReady (inputs s m (now fs) (now rows) (now landings) (now pairs)) k n t (now places) (now bytes) (now relocations) (now sites) ⌝ }
-    ensures { λ r. ⌜ Added (inputs s m (now (fs .entry)) (now (rows .entry)) (now (landings .entry)) (now (pairs .entry))) k t r (now (places .entry)) (now (places .exit)) (now (bytes .entry)) (now (bytes .exit)) (now (relocations .entry)) (now (relocations .exit)) (now (sites .entry)) (now (sites .exit)) ⌝ }
+    requires { ⌜ PartReady (inputs s m (now fs) (now rows) (now landings) (now pairs)) k n t (now places) (now out) (now relocs) (now sites) ⌝ }
+    ensures { λ r. ⌜ Added (inputs s m (now (fs .entry)) (now (rows .entry)) (now (landings .entry)) (now (pairs .entry))) k t r (now (places .entry)) (now (places .exit)) (now (out .entry)) (now (out .exit)) (now (relocs .entry)) (now (relocs .exit)) (now (sites .entry)) (now (sites .exit)) ⌝ }
 {
     let e = taken(s, extent_at(fs, k));
     let c = header_for(s, m, fs, rows, k, t.bytes, places);
@@ -496,8 +498,8 @@ fn part(
         rows,
         landings,
         pairs,
-        bytes,
-        relocations,
+        out,
+        relocs,
         sites,
     )
 }
@@ -511,21 +513,17 @@ fn store(
     landings: &[u64],
     pairs: &[u64],
     places: &mut [u64],
-    bytes: &mut [u8],
-    relocations: &mut [u64],
+    out: &mut [u8],
+    relocs: &mut [u64],
     sites: &mut [u8],
 ) -> Table
-    requires { ⌜ Cleared (inputs s m (now fs) (now rows) (now landings) (now pairs)) × Holds (inputs s m (now fs) (now rows) (now landings) (now pairs)) (count functionStride (now fs)) (now places) (now bytes) (now relocations) (now sites) ⌝ }
-    ensures { λ r. ⌜ Written (inputs s m (now (fs .entry)) (now (rows .entry)) (now (landings .entry)) (now (pairs .entry))) (count functionStride (now (fs .entry))) r (now (places .entry)) (now (places .exit)) (now (bytes .entry)) (now (bytes .exit)) (now (relocations .entry)) (now (relocations .exit)) (now (sites .entry)) (now (sites .exit)) ⌝ }
+    requires { ⌜ Cleared (inputs s m (now fs) (now rows) (now landings) (now pairs)) × Holds (inputs s m (now fs) (now rows) (now landings) (now pairs)) (count functionStride (now fs)) (now places) (now out) (now relocs) (now sites) ⌝ }
+    ensures { λ r. ⌜ Written (inputs s m (now (fs .entry)) (now (rows .entry)) (now (landings .entry)) (now (pairs .entry))) (count functionStride (now (fs .entry))) r (now (places .entry)) (now (places .exit)) (now (out .entry)) (now (out .exit)) (now (relocs .entry)) (now (relocs .exit)) (now (sites .entry)) (now (sites .exit)) ⌝ }
 {
-    let n = fs.len() / 18;
-    let mut t = Table {
-        bytes: 0,
-        relocations: 0,
-        sites: 0,
-    };
+    let functions = fs.len() / 18;
+    let mut t = Table::NOTHING;
     let mut k = 0;
-    while k < n {
+    while k < functions {
         t = part(
             s,
             m,
@@ -534,11 +532,11 @@ fn store(
             landings,
             pairs,
             k,
-            n,
+            functions,
             t,
             places,
-            bytes,
-            relocations,
+            out,
+            relocs,
             sites,
         );
         k += 1;
@@ -557,36 +555,25 @@ fn fitted(
     landings: &[u64],
     pairs: &[u64],
     places: &mut [u64],
-    bytes: &mut [u8],
-    relocations: &mut [u64],
+    out: &mut [u8],
+    relocs: &mut [u64],
     sites: &mut [u8],
 ) -> Outcome
     requires { ⌜ Cleared (inputs s m (now fs) (now rows) (now landings) (now pairs)) ⌝ }
-    ensures { λ r. ⌜ Delivered (fitting (roomIn (now (places .entry)) (now (bytes .entry)) (now (relocations .entry)) (now (sites .entry))) (writtenIn (partsTo (inputs s m (now (fs .entry)) (now (rows .entry)) (now (landings .entry)) (now (pairs .entry))) (count functionStride (now (fs .entry)))))) r (now (places .entry)) (now (places .exit)) (now (bytes .entry)) (now (bytes .exit)) (now (relocations .entry)) (now (relocations .exit)) (now (sites .entry)) (now (sites .exit)) ⌝ }
+    ensures { λ r. ⌜ Delivered (fitting (roomIn (now (places .entry)) (now (out .entry)) (now (relocs .entry)) (now (sites .entry))) (writtenIn (partsTo (inputs s m (now (fs .entry)) (now (rows .entry)) (now (landings .entry)) (now (pairs .entry))) (count functionStride (now (fs .entry)))))) r (now (places .entry)) (now (places .exit)) (now (out .entry)) (now (out .exit)) (now (relocs .entry)) (now (relocs .exit)) (now (sites .entry)) (now (sites .exit)) ⌝ }
 {
     let n = fs.len() / 18;
     let t = sizes(s, m, fs, rows, landings, pairs);
     let lent = Table {
-        bytes: bytes.len(),
-        relocations: relocations.len(),
+        bytes: out.len(),
+        relocations: relocs.len(),
         sites: sites.len(),
     };
     let q = room(n, t, places.len(), lent);
     if let Question::No(number, position) = q {
         return Outcome::Refused(number, position);
     }
-    store(
-        s,
-        m,
-        fs,
-        rows,
-        landings,
-        pairs,
-        places,
-        bytes,
-        relocations,
-        sites,
-    );
+    store(s, m, fs, rows, landings, pairs, places, out, relocs, sites);
     Outcome::Accepted(Counts {
         places: n as u64,
         bytes: t.bytes as u64,
