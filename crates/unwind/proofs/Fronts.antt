@@ -5,7 +5,7 @@ use native.Mathlib.Omega.{arith}
 use native.Mathlib.Nat.{add-zero, zero-add}
 use native.Mathlib.Numerals.{add-one}
 use mathlib.Core.List.{List, [], _∷_, _++_, append-assoc, append-nil}
-use lib.ListN.{length, take, set, length-set}
+use lib.ListN.{length, take, getD, set, length-set}
 use lib.Seq.{take-suc-set}
 use Rattle.format.specs.Put.{put}
 use Rattle.format.specs.declared.Outcome.{Outcome}
@@ -56,3 +56,8 @@ fronts (accepted v) o p p′ b b′ r r′ s s′ w f =
       bytes-are = front b (v .bytes) (x .bytes);
       relocations-are = rw (sym n) (front r (numbersOf (v .relocations)) (omega (arith, n, x .relocations)));
     })
+
+-- a number of an empty list
+pub none-there : (xs : List ℕ) → length xs ≡ 0 → 0 ≡ getD xs 0 0
+none-there [] e = refl
+none-there (x ∷ xs) e = absurd (omega arith)
