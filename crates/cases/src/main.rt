@@ -2,7 +2,24 @@
 // lines there say what form it has.
 ghost use Prim.Native.Nat.{_≤_};
 ghost use lib.ListN.{length};
+use format::Counts;
+use format::Outcome;
 use format::Unsigned;
+use libc::STDIN_FILENO;
+use libc::STDOUT_FILENO;
+
+// What the lent buffers hold before a call.
+const NUMBER: u64 = 11936128518282651045;
+const BYTE: u8 = 165;
+
+// What a list turned out to be, or that none is left.
+enum Step {
+    End,
+    Accepted,
+    Refused,
+    Empty,
+    Different,
+}
 
 // The elements of a counted list.
 struct Range {
@@ -76,6 +93,113 @@ fn decode(s: &[u8], numbers: &mut [u64]) -> usize
         k += 1;
     }
     k
+}
+
+// Element i of a list, or the other number behind its end.
+fn element(list: &[u64], i: usize, other: u64) -> u64 {
+    if i < list.len() { list[i] } else { other }
+}
+
+// Whether a buffer holds these numbers, and behind them what it held before.
+fn same_numbers(found: &[u64; 4000], list: &[u64]) -> bool {
+    for i in 0..4000 {
+        if found[i] != element(list, i, NUMBER) {
+            return false;
+        }
+    }
+    list.len() <= 4000
+}
+
+fn same_bytes(found: &[u8; 4000], list: &[u64]) -> bool {
+    for i in 0..4000 {
+        if leb::wide(found[i]) != element(list, i, leb::wide(BYTE)) {
+            return false;
+        }
+    }
+    list.len() <= 4000
+}
+
+// What the fixed answer is: two numbers, not 0 in a refusal, and four results, none in an empty answer.
+fn kind(answer: &[u64]) -> Step {
+    if element(answer, 0, 0) != 0 {
+        return Step::Refused;
+    }
+    if answer.len() <= 6 {
+        return Step::Empty;
+    }
+    Step::Accepted
+}
+
+// Whether these are the counts of the fixed results.
+fn same_counts(c: Counts, answer: &[u64]) -> bool {
+    let relocations = list(answer, 2).len() as u64;
+    if relocations / 5 != c.relocations || relocations % 5 != 0 {
+        return false;
+    }
+    c.places == list(answer, 0).len() as u64
+        && c.bytes == list(answer, 1).len() as u64
+        && c.sites == list(answer, 3).len() as u64
+}
+
+fn same_outcome(said: Outcome, answer: &[u64]) -> bool {
+    match said {
+        Outcome::Accepted(c) => element(answer, 0, 0) == 0 && 6 < answer.len() && same_counts(c, answer),
+        Outcome::Empty => element(answer, 0, 0) == 0 && answer.len() <= 6,
+        Outcome::Refused(n, k) => 0 < n && n == element(answer, 0, 0) && k == element(answer, 1, 0),
+    }
+}
+
+// Says what differs, and gives back whether nothing does.
+fn report(index: u64, what: &[u8], same: bool) -> bool {
+    if !same {
+        io::write_all(STDOUT_FILENO, b"list ");
+        io::print_decimal(STDOUT_FILENO, index);
+        io::write_all(STDOUT_FILENO, what);
+    }
+    same
+}
+
+// Whether the library answers as the fixed answer says, with nothing stored past its results and nothing at all where it refuses.
+fn compare(
+    index: u64,
+    answer: &[u64],
+    said: Outcome,
+    places: &[u64; 4000],
+    bytes: &[u8; 4000],
+    relocations: &[u64; 4000],
+    sites: &[u8; 4000],
+) -> bool {
+    let a = report(index, b": another outcome\n", same_outcome(said, answer));
+    let b = report(index, b": other places\n", same_numbers(places, list(answer, 0)));
+    let c = report(index, b": other bytes\n", same_bytes(bytes, list(answer, 1)));
+    let d = report(index, b": other relocations\n", same_numbers(relocations, list(answer, 2)));
+    let e = report(index, b": other sites\n", same_bytes(sites, list(answer, 3)));
+    a && b && c && d && e
+}
+
+// The library's answer to a block's question.
+fn ask(
+    numbers: &[u64],
+    places: &mut [u64],
+    bytes: &mut [u8],
+    relocations: &mut [u64],
+    sites: &mut [u8],
+) -> Outcome {
+    Outcome::Empty
+}
+
+fn replay(index: u64, numbers: &[u64]) -> Step {
+    let mut places = [NUMBER; 4000];
+    let mut bytes = [BYTE; 4000];
+    let mut relocations = [NUMBER; 4000];
+    let mut sites = [BYTE; 4000];
+    let said = ask(numbers, &mut places, &mut bytes, &mut relocations, &mut sites);
+    let at = start(numbers, 6);
+    let answer = &numbers[at..];
+    if compare(index, answer, said, &places, &bytes, &relocations, &sites) {
+        return kind(answer);
+    }
+    Step::Different
 }
 
 fn main() {
