@@ -1,7 +1,8 @@
 // Replays a fixed list of the Rust's answers on the library and compares. The file stdin is what differential/fixed.py stored; its first
 // lines there say what form it has.
-ghost use Prim.Native.Nat.{_≤_};
+ghost use Prim.Native.Nat.{_+_, _≤_, _<_};
 ghost use lib.ListN.{length};
+ghost use Rattle.cases.specs.Total.{total};
 use format::Counts;
 use format::Outcome;
 use format::Unsigned;
@@ -12,13 +13,22 @@ use libc::STDOUT_FILENO;
 const NUMBER: u64 = 11936128518282651045;
 const BYTE: u8 = 165;
 
-// What a list turned out to be, or that none is left.
+// What a list turned out to be; that none is left; or that the rest cannot be read.
 enum Step {
     End,
+    Broken,
     Accepted,
     Refused,
     Empty,
     Different,
+}
+
+// How many lists of each kind there were.
+struct Sums {
+    accepted: u64,
+    refused: u64,
+    empty: u64,
+    different: u64,
 }
 
 // The elements of a counted list.
@@ -202,5 +212,111 @@ fn replay(index: u64, numbers: &[u64]) -> Step {
     Step::Different
 }
 
+fn broken(index: u64) -> Step {
+    report(index, b": cut off, or too long\n", false);
+    Step::Broken
+}
+
+// The block of this size that is next on the input.
+fn block(index: u64, size: usize) -> Step
+    requires { ⌜ size ≤ 60000 ⌝ }
+{
+    let mut bytes = io::large_buffer();
+    let n = io::read_full(STDIN_FILENO, &mut bytes[..size]);
+    if n < size {
+        return broken(index);
+    }
+    let mut numbers = [0u64; 40014];
+    let k = decode(&bytes[..size], &mut numbers);
+    replay(index, &numbers[..k])
+}
+
+// The next block, behind its size in 4 bytes. A size of 0 ends the input.
+fn next(index: u64) -> Step {
+    let mut head = [0u8; 4];
+    let n = io::read_full(STDIN_FILENO, &mut head);
+    let Unsigned::Value(size, _) = leb::read_le(&head[..n], 0, 4) else {
+        return broken(index);
+    };
+    if size == 0 {
+        return Step::End;
+    }
+    if 60000 < size {
+        return broken(index);
+    }
+    block(index, size as usize)
+}
+
+fn is_last(step: Step) -> bool {
+    match step {
+        Step::End | Step::Broken => true,
+        Step::Accepted | Step::Refused | Step::Empty | Step::Different => false,
+    }
+}
+
+// The sums with one list more.
+fn add(s: Sums, step: Step) -> Sums
+    requires { ⌜ total s < 1000000 ⌝ }
+    ensures { λ r. ⌜ total r ≤ total s + 1 ⌝ }
+{
+    let mut r = s;
+    match step {
+        Step::End => r,
+        Step::Accepted => {
+            r.accepted += 1;
+            r
+        }
+        Step::Refused => {
+            r.refused += 1;
+            r
+        }
+        Step::Empty => {
+            r.empty += 1;
+            r
+        }
+        Step::Different | Step::Broken => {
+            r.different += 1;
+            r
+        }
+    }
+}
+
+// Every block of the input.
+fn all() -> Sums
+    ensures { λ r. ⌜ total r ≤ 1000000 ⌝ }
+{
+    let mut sums = Sums {
+        accepted: 0,
+        refused: 0,
+        empty: 0,
+        different: 0,
+    };
+    let mut index = 0u64;
+    while index < 1000000 {
+        let step = next(index);
+        sums = add(sums, step);
+        if is_last(step) {
+            return sums;
+        }
+        index += 1;
+    }
+    sums
+}
+
+fn counted_as(n: u64, what: &[u8]) {
+    io::print_decimal(STDOUT_FILENO, n);
+    io::write_all(STDOUT_FILENO, what);
+}
+
 fn main() {
+    let s = all();
+    counted_as(s.accepted + s.refused + s.empty + s.different, b" lists: ");
+    counted_as(s.accepted, b" accepted, ");
+    counted_as(s.refused, b" refused, ");
+    counted_as(s.empty, b" empty\n");
+    if s.different == 0 {
+        io::write_all(STDOUT_FILENO, b"all answers are the Rust's, or document 01's where it refuses\n");
+    } else {
+        counted_as(s.different, b" lists are answered differently\n");
+    }
 }
