@@ -11,6 +11,7 @@ use libc::STDOUT_FILENO;
 
 // What the lent buffers hold before a call.
 const NUMBER: u64 = 11936128518282651045;
+
 const BYTE: u8 = 165;
 
 // What a list turned out to be; that none is left; or that the rest cannot be read.
@@ -153,7 +154,9 @@ fn same_counts(c: Counts, answer: &[u64]) -> bool {
 
 fn same_outcome(said: Outcome, answer: &[u64]) -> bool {
     match said {
-        Outcome::Accepted(c) => element(answer, 0, 0) == 0 && 6 < answer.len() && same_counts(c, answer),
+        Outcome::Accepted(c) => element(answer, 0, 0) == 0
+            && 6 < answer.len()
+            && same_counts(c, answer),
         Outcome::Empty => element(answer, 0, 0) == 0 && answer.len() <= 6,
         Outcome::Refused(n, k) => 0 < n && n == element(answer, 0, 0) && k == element(answer, 1, 0),
     }
@@ -180,11 +183,79 @@ fn compare(
     sites: &[u8; 4000],
 ) -> bool {
     let a = report(index, b": another outcome\n", same_outcome(said, answer));
-    let b = report(index, b": other places\n", same_numbers(places, list(answer, 0)));
-    let c = report(index, b": other bytes\n", same_bytes(bytes, list(answer, 1)));
-    let d = report(index, b": other relocations\n", same_numbers(relocations, list(answer, 2)));
-    let e = report(index, b": other sites\n", same_bytes(sites, list(answer, 3)));
+    let b = report(
+        index,
+        b": other places\n",
+        same_numbers(places, list(answer, 0)),
+    );
+    let c = report(
+        index,
+        b": other bytes\n",
+        same_bytes(bytes, list(answer, 1)),
+    );
+    let d = report(
+        index,
+        b": other relocations\n",
+        same_numbers(relocations, list(answer, 2)),
+    );
+    let e = report(
+        index,
+        b": other sites\n",
+        same_bytes(sites, list(answer, 3)),
+    );
     a && b && c && d && e
+}
+
+fn table(
+    numbers: &[u64],
+    places: &mut [u64],
+    bytes: &mut [u8],
+    relocations: &mut [u64],
+    sites: &mut [u8],
+) -> Outcome {
+    let machine = list(numbers, 0);
+    let format = element(numbers, 1, 0);
+    let functions = list(numbers, 1);
+    let rows = list(numbers, 2);
+    let landings = list(numbers, 3);
+    let pairs = list(numbers, 4);
+    relaxed_table(
+        machine,
+        format,
+        functions,
+        rows,
+        landings,
+        pairs,
+        places,
+        bytes,
+        relocations,
+        sites,
+    )
+}
+
+fn debug_frame(
+    numbers: &[u64],
+    places: &mut [u64],
+    bytes: &mut [u8],
+    relocations: &mut [u64],
+) -> Outcome {
+    let machine = list(numbers, 0);
+    let format = element(numbers, 1, 0);
+    let functions = list(numbers, 1);
+    let rows = list(numbers, 2);
+    let landings = list(numbers, 3);
+    let pairs = list(numbers, 4);
+    relaxed_debug_frame(
+        machine,
+        format,
+        functions,
+        rows,
+        landings,
+        pairs,
+        places,
+        bytes,
+        relocations,
+    )
 }
 
 // The library's answer to a block's question.
@@ -195,7 +266,16 @@ fn ask(
     relocations: &mut [u64],
     sites: &mut [u8],
 ) -> Outcome {
-    Outcome::Empty
+    let entry = element(numbers, 0, 0);
+    if entry == 0 {
+        return table(numbers, places, bytes, relocations, sites);
+    }
+    if entry == 1 {
+        return debug_frame(numbers, places, bytes, relocations);
+    }
+    let functions = list(numbers, 1);
+    let codes = list(numbers, 5);
+    seh(functions, codes, places, bytes, relocations, sites)
 }
 
 fn replay(index: u64, numbers: &[u64]) -> Step {
@@ -203,7 +283,13 @@ fn replay(index: u64, numbers: &[u64]) -> Step {
     let mut bytes = [BYTE; 4000];
     let mut relocations = [NUMBER; 4000];
     let mut sites = [BYTE; 4000];
-    let said = ask(numbers, &mut places, &mut bytes, &mut relocations, &mut sites);
+    let said = ask(
+        numbers,
+        &mut places,
+        &mut bytes,
+        &mut relocations,
+        &mut sites,
+    );
     let at = start(numbers, 6);
     let answer = &numbers[at..];
     if compare(index, answer, said, &places, &bytes, &relocations, &sites) {
@@ -303,20 +389,63 @@ fn all() -> Sums
     sums
 }
 
-fn counted_as(n: u64, what: &[u8]) {
+fn print_count(n: u64, what: &[u8]) {
     io::print_decimal(STDOUT_FILENO, n);
     io::write_all(STDOUT_FILENO, what);
 }
 
 fn main() {
     let s = all();
-    counted_as(s.accepted + s.refused + s.empty + s.different, b" lists: ");
-    counted_as(s.accepted, b" accepted, ");
-    counted_as(s.refused, b" refused, ");
-    counted_as(s.empty, b" empty\n");
+    print_count(s.accepted + s.refused + s.empty + s.different, b" lists: ");
+    print_count(s.accepted, b" accepted, ");
+    print_count(s.refused, b" refused, ");
+    print_count(s.empty, b" empty\n");
     if s.different == 0 {
-        io::write_all(STDOUT_FILENO, b"all answers are the Rust's, or document 01's where it refuses\n");
+        io::write_all(
+            STDOUT_FILENO,
+            b"all answers are the Rust's, or document 01's where it refuses\n",
+        );
     } else {
-        counted_as(s.different, b" lists are answered differently\n");
+        print_count(s.different, b" lists are answered differently\n");
     }
+}
+
+fn relaxed_table(
+    machine: &[u64],
+    format: u64,
+    functions: &[u64],
+    rows: &[u64],
+    landings: &[u64],
+    pairs: &[u64],
+    places: &mut [u64],
+    bytes: &mut [u8],
+    relocations: &mut [u64],
+    sites: &mut [u8],
+) -> Outcome {
+    Outcome::Empty
+}
+
+fn relaxed_debug_frame(
+    machine: &[u64],
+    format: u64,
+    functions: &[u64],
+    rows: &[u64],
+    landings: &[u64],
+    pairs: &[u64],
+    places: &mut [u64],
+    bytes: &mut [u8],
+    relocations: &mut [u64],
+) -> Outcome {
+    Outcome::Empty
+}
+
+fn seh(
+    functions: &[u64],
+    codes: &[u64],
+    markers: &mut [u64],
+    bytes: &mut [u8],
+    relocations: &mut [u64],
+    info: &mut [u8],
+) -> Outcome {
+    Outcome::Empty
 }
