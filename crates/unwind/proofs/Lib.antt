@@ -1,3 +1,5 @@
 -- The lemmas of this crate's functions.
 pub mod DebugSites
 pub mod Signs
+pub mod Together
+pub mod Fronts

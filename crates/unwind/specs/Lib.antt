@@ -1,2 +1,3 @@
 -- What the public entries are handed.
 pub mod Entries
+pub mod Together

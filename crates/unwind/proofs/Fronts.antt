@@ -1,0 +1,58 @@
+-- What a writer wrote stands at the fronts of its buffers, where the reader is lent it.
+use mathlib.Core.Path.{_≡_, refl, sym, ap, subst, _∙_}
+use Prim.Native.Nat.{ℕ, suc, _+_, _*_, _≤_, _<_}
+use native.Mathlib.Omega.{arith}
+use native.Mathlib.Nat.{add-zero, zero-add}
+use native.Mathlib.Numerals.{add-one}
+use mathlib.Core.List.{List, [], _∷_, _++_, append-assoc, append-nil}
+use lib.ListN.{length, take, set, length-set}
+use lib.Seq.{take-suc-set}
+use Rattle.format.specs.Put.{put}
+use Rattle.format.specs.declared.Outcome.{Outcome}
+use Rattle.format.specs.declared.Outcome.the-variants as outcome
+use Rattle.format.specs.Lists.{Relocation, numbersOf}
+use Rattle.format.specs.Writer.{Written}
+use Rattle.format.specs.Questions.{Room, Answer, refused, empty, accepted}
+use Rattle.format.specs.Answers.{Writes, outcomeOf, afterwards, relocationNumbers}
+use Rattle.format.proofs.PutLaws.{put-none, put-cons, length-put}
+use Rattle.unwind.specs.Entries.{room, bytesIn, relocsIn}
+use Rattle.unwind.specs.Together.{bytesOf, relocsOf}
+use Rattle.unwind.proofs.Together.{FitsIn}
+
+front-from : (xs : List ℕ) (p : ℕ) (bs : List ℕ) → p + length bs ≤ length xs → take (p + length bs) (put xs p bs) ≡ take p xs ++ bs
+front-from xs p [] h = rw (add-zero, put-none, append-nil) refl
+front-from xs p (b ∷ bs) h =
+    let e : p + length (b ∷ bs) ≡ suc p + length bs = omega arith in
+    rw (e, put-cons, add-one p)
+    (front-from (set xs p b) (suc p) bs (omega (arith, length-set xs p b)) ∙ rw (take-suc-set xs p b (omega arith), append-assoc) refl)
+
+front : (xs bs : List ℕ) → length bs ≤ length xs → take (length bs) (put xs 0 bs) ≡ bs
+front xs bs h = rw (zero-add (length bs)) at (front-from xs 0 bs (omega arith))
+
+numbers-length : (rs : List Relocation) → length (numbersOf rs) ≡ 5 * length rs
+unfolding numbersOf
+numbers-length [] = refl
+numbers-length (r ∷ rs) = omega (arith, numbers-length rs)
+
+pub record Fronts (a : Answer) (o : Outcome) (bytes relocations : List ℕ) : Type 0 where
+  pub bytes-fit : bytesIn o ≤ length bytes
+  pub relocations-fit : 5 * relocsIn o ≤ length relocations
+  pub bytes-are : take (bytesIn o) bytes ≡ bytesOf a
+  pub relocations-are : take (5 * relocsIn o) relocations ≡ relocsOf a
+
+pub fronts : (a : Answer) (o : Outcome) (p p′ b b′ r r′ s s′ : List ℕ) → Writes a o p p′ b b′ r r′ s s′ → FitsIn (room p b r s) a → Fronts a o b′ r′
+unfolding outcomeOf afterwards bytesIn relocsIn bytesOf relocsOf relocationNumbers room
+fronts (refused n k) o p p′ b b′ r r′ s s′ w f =
+    rw (w .outcome) (record { bytes-fit = omega arith; relocations-fit = omega arith; bytes-are = refl; relocations-are = refl })
+fronts empty o p p′ b b′ r r′ s s′ w f =
+    rw (w .outcome) (record { bytes-fit = omega arith; relocations-fit = omega arith; bytes-are = refl; relocations-are = refl })
+fronts (accepted v) o p p′ b b′ r r′ s s′ w f =
+    let x = f v refl in
+    let n = numbers-length (v .relocations) in
+    rw (w .outcome, w .stored, w .related)
+    (record {
+      bytes-fit = rw (length-put b 0 (v .bytes)) (x .bytes);
+      relocations-fit = rw (length-put r 0 (numbersOf (v .relocations))) (x .relocations);
+      bytes-are = front b (v .bytes) (x .bytes);
+      relocations-are = rw (sym n) (front r (numbersOf (v .relocations)) (omega (arith, n, x .relocations)));
+    })
