@@ -130,7 +130,7 @@ fn same_bytes(found: &[u8; 4000], list: &[u64]) -> bool {
     list.len() <= 4000
 }
 
-// What the fixed answer is: two numbers, not 0 in a refusal, and four results, none in an empty answer.
+// What the fixed answer is: its number is not 0 in a refusal, and an empty answer has no results.
 fn kind(answer: &[u64]) -> Step {
     if element(answer, 0, 0) != 0 {
         return Step::Refused;
@@ -147,18 +147,22 @@ fn same_counts(c: Counts, answer: &[u64]) -> bool {
     if relocations / 5 != c.relocations || relocations % 5 != 0 {
         return false;
     }
-    c.places == list(answer, 0).len() as u64
+    element(answer, 0, 0) == 0
+        && c.places == list(answer, 0).len() as u64
         && c.bytes == list(answer, 1).len() as u64
         && c.sites == list(answer, 3).len() as u64
 }
 
+fn same_refusal(number: u64, position: u64, answer: &[u64]) -> bool {
+    0 < number && number == element(answer, 0, 0) && position == element(answer, 1, 0)
+}
+
+// Whether this is the fixed answer: two numbers, and four results, of which only an acceptance has an element.
 fn same_outcome(said: Outcome, answer: &[u64]) -> bool {
     match said {
-        Outcome::Accepted(c) => element(answer, 0, 0) == 0
-            && 6 < answer.len()
-            && same_counts(c, answer),
-        Outcome::Empty => element(answer, 0, 0) == 0 && answer.len() <= 6,
-        Outcome::Refused(n, k) => 0 < n && n == element(answer, 0, 0) && k == element(answer, 1, 0),
+        Outcome::Accepted(c) => 6 < answer.len() && same_counts(c, answer),
+        Outcome::Empty => answer.len() == 6 && element(answer, 0, 0) == 0,
+        Outcome::Refused(n, k) => answer.len() == 6 && same_refusal(n, k, answer),
     }
 }
 
@@ -213,19 +217,13 @@ fn table(
     relocations: &mut [u64],
     sites: &mut [u8],
 ) -> Outcome {
-    let machine = list(numbers, 0);
-    let format = element(numbers, 1, 0);
-    let functions = list(numbers, 1);
-    let rows = list(numbers, 2);
-    let landings = list(numbers, 3);
-    let pairs = list(numbers, 4);
     relaxed_table(
-        machine,
-        format,
-        functions,
-        rows,
-        landings,
-        pairs,
+        list(numbers, 0),
+        element(numbers, 1, 0),
+        list(numbers, 1),
+        list(numbers, 2),
+        list(numbers, 3),
+        list(numbers, 4),
         places,
         bytes,
         relocations,
@@ -239,26 +237,20 @@ fn debug_frame(
     bytes: &mut [u8],
     relocations: &mut [u64],
 ) -> Outcome {
-    let machine = list(numbers, 0);
-    let format = element(numbers, 1, 0);
-    let functions = list(numbers, 1);
-    let rows = list(numbers, 2);
-    let landings = list(numbers, 3);
-    let pairs = list(numbers, 4);
     relaxed_debug_frame(
-        machine,
-        format,
-        functions,
-        rows,
-        landings,
-        pairs,
+        list(numbers, 0),
+        element(numbers, 1, 0),
+        list(numbers, 1),
+        list(numbers, 2),
+        list(numbers, 3),
+        list(numbers, 4),
         places,
         bytes,
         relocations,
     )
 }
 
-// The library's answer to a block's question.
+// The library's answer to a block.
 fn ask(
     numbers: &[u64],
     places: &mut [u64],
@@ -273,9 +265,14 @@ fn ask(
     if entry == 1 {
         return debug_frame(numbers, places, bytes, relocations);
     }
-    let functions = list(numbers, 1);
-    let codes = list(numbers, 5);
-    seh(functions, codes, places, bytes, relocations, sites)
+    seh(
+        list(numbers, 1),
+        list(numbers, 5),
+        places,
+        bytes,
+        relocations,
+        sites,
+    )
 }
 
 fn replay(index: u64, numbers: &[u64]) -> Step {
@@ -299,7 +296,7 @@ fn replay(index: u64, numbers: &[u64]) -> Step {
 }
 
 fn broken(index: u64) -> Step {
-    report(index, b": cut off, or too long\n", false);
+    report(index, b": no block\n", false);
     Step::Broken
 }
 
@@ -314,6 +311,9 @@ fn block(index: u64, size: usize) -> Step
     }
     let mut numbers = [0u64; 40014];
     let k = decode(&bytes[..size], &mut numbers);
+    if k == 0 {
+        return broken(index);
+    }
     replay(index, &numbers[..k])
 }
 

@@ -35,6 +35,12 @@ slice-aggregate-decode-2 c = search needs
 decode-requires : tie.Need-decode-requires
 decode-requires c κs = search needs
 
+broken-requires-2 : tie.Need-broken-requires-2
+broken-requires-2 c κs = search needs
+
+returns-2 : tie.Need-returns-2
+returns-2 c = search needs
+
 array-share-prefix-numbers : tie.Need-array-share-prefix-numbers
 array-share-prefix-numbers c = search needs
 
@@ -44,8 +50,8 @@ slice-aggregate-replay c = simp length-take (omega arith)
 replay-requires : tie.Need-replay-requires
 replay-requires c κs = search needs
 
-returns-2 : tie.Need-returns-2
-returns-2 c = search needs
+returns-3 : tie.Need-returns-3
+returns-3 c = search needs
 
 pub block-spec : {M : Type 1} → statement M
 block-spec =
@@ -61,7 +67,9 @@ block-spec =
     slice-aggregate-decode
     slice-aggregate-decode-2
     decode-requires
+    broken-requires-2
+    returns-2
     array-share-prefix-numbers
     slice-aggregate-replay
     replay-requires
-    returns-2)
+    returns-3)
