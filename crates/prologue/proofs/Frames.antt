@@ -1,14 +1,14 @@
 -- The frame pointer set, and a register pushed: by the code's tests.
 use mathlib.Core.Path.{_≡_, refl}
-use Prim.Native.Nat.{ℕ, _*_}
-use mathlib.Core.Bool.{Bool, true, false, not, and-false}
-use mathlib.Core.List.{List, [], _∷_}
+use Prim.Native.Nat.{ℕ, _*_, _≤_}
+use native.Mathlib.Omega.{arith}
+use mathlib.Core.Bool.{Bool, true, false, and-false}
+use mathlib.Core.List.{[], _∷_}
 use borrow.Author.Tests.{eq-eqb, ne-eqb}
-use lib.Dec.{T, eqb}
+use lib.Dec.{eqb}
 use lib.IntN.{ℤ, pos, negℤ, _-ℤ_}
 use denote.Enum.Declared.{tagOf}
-use mir.Val.{hasKey}
-use types.Run.{OneOf, miss}
+use types.Run.{OneOf}
 use Rattle.format.proofs.Row.{the-type}
 use Rattle.format.specs.Test.{pick}
 use Rattle.format.specs.declared.Row.{Row}
@@ -18,6 +18,7 @@ use Rattle.format.specs.Rows.{kindOf, regOf, offsetOf, sameOffset}
 use Rattle.format.specs.X64.{frame, isPush}
 use Rattle.prologue.specs.declared.Walk.{Walk}
 use Rattle.prologue.specs.Groups.{refused, knows, known, stepped, added, loneIn, pushIn}
+use Rattle.prologue.proofs.Arms.{other-kind}
 
 module _ (m : Machine) (reg : ℕ) (w : Walk) where
   pub set-other : (z : ℤ) → (reg ≡ m .frame → ⊥) → refused 32 ≡ loneIn m false (DefCfa reg z) w
@@ -72,22 +73,6 @@ module _ (m : Machine) (reg : ℕ) (z y : ℤ) (w : Walk) where
 
 -- ---- two rows that are no push
 
-tag-kind : (r : Row) → tagOf the-type r ≡ kindOf r
-unfolding kindOf
-tag-kind (DefCfa reg z) = refl
-tag-kind (DefCfaOffset z) = refl
-tag-kind (DefCfaRegister reg) = refl
-tag-kind (Offset reg z) = refl
-tag-kind (Restore reg) = refl
-tag-kind (Undefined reg) = refl
-tag-kind RememberState = refl
-tag-kind RestoreState = refl
-tag-kind NegateRaState = refl
-
--- a row that is of other kinds
-pub other-kind : (ks : List ℕ) (k : ℕ) (r : Row) → T (not (hasKey ks k)) → OneOf ks (tagOf the-type r) → kindOf r ≡ k → ⊥
-other-kind ks k r t h e = miss ks k t (rw (tag-kind r, e) at h)
-
 module _ (m : Machine) (a b : Row) (w : Walk) where
   pub push-first : OneOf (0 ∷ 2 ∷ 3 ∷ 4 ∷ 5 ∷ 6 ∷ 7 ∷ 8 ∷ []) (tagOf the-type a) → refused 33 ≡ pushIn m a b w
   unfolding pushIn pick
@@ -96,3 +81,17 @@ module _ (m : Machine) (a b : Row) (w : Walk) where
   pub push-second : OneOf (0 ∷ 1 ∷ 2 ∷ 4 ∷ 5 ∷ 6 ∷ 7 ∷ 8 ∷ []) (tagOf the-type b) → refused 33 ≡ pushIn m a b w
   unfolding pushIn pick
   push-second h = simp (ne-eqb (kindOf b) 3 (other-kind (0 ∷ 1 ∷ 2 ∷ 4 ∷ 5 ∷ 6 ∷ 7 ∷ 8 ∷ []) 3 b tt h), and-false)
+
+-- ---- a row that no instruction of a prologue has alone
+
+pub lone-other : (m : Machine) (last : Bool) (r : Row) (w : Walk) → 4 ≤ kindOf r → loneIn m last r w ≡ refused 33
+unfolding loneIn kindOf
+lone-other m last (DefCfa reg z) w h = absurd (omega arith)
+lone-other m last (DefCfaOffset z) w h = absurd (omega arith)
+lone-other m last (DefCfaRegister reg) w h = absurd (omega arith)
+lone-other m last (Offset reg z) w h = absurd (omega arith)
+lone-other m last (Restore reg) w h = refl
+lone-other m last (Undefined reg) w h = refl
+lone-other m last RememberState w h = refl
+lone-other m last RestoreState w h = refl
+lone-other m last NegateRaState w h = refl

@@ -6,6 +6,7 @@ pub mod Walked
 pub mod Answers
 pub mod Registers
 pub mod Distances
+pub mod Arms
 pub mod Frames
 pub mod Rows
 pub mod Turns

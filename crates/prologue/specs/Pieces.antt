@@ -73,7 +73,7 @@ piecesFrom m below sofar rows at i end (suc n) = pieceIn m below sofar rows at i
 unfoldable pub endIn : (rows : List ℕ) (at end : ℕ) → ℕ
 endIn rows at end = pick (leb end at) 0 (lineAt rows (end - 1) .0)
 
--- what an answer of `piece` holds
+-- what an answer of `piece_at` holds
 unfoldable pub pieceOf : Piece → List (ℕ × Seh)
 pieceOf Nothing = []
 pieceOf (Code off c) = (off, c) ∷ []

@@ -26,11 +26,12 @@ use rows::row_at;
 // ---- registers
 
 // A register of the machine: its number, below 16, and whether it is a vector register; or none.
-pub enum Found {
+enum Found {
     Number(u64, bool),
     Unknown,
 }
 
+// An entry of the map.
 fn wide(x: u8) -> u64
     ensures { λ r. ⌜ (r ≡ x) × (r < 256) ⌝ }
 {
@@ -116,6 +117,7 @@ struct Walk {
     named: bool,
 }
 
+// A question answered by no.
 fn refused(number: u64) -> Walk
     ensures { λ r. ⌜ r ≡ refused number ⌝ }
 {
@@ -127,6 +129,7 @@ fn refused(number: u64) -> Walk
     }
 }
 
+// Both tests say yes.
 fn both(a: bool, b: bool) -> bool
     ensures { λ r. ⌜ r ≡ a && b ⌝ }
 {
@@ -136,12 +139,14 @@ fn both(a: bool, b: bool) -> bool
     false
 }
 
+// Two offsets are equal.
 fn same(a: i64, b: i64) -> bool
     ensures { λ r. ⌜ r ≡ sameOffset a b ⌝ }
 {
     a == b
 }
 
+// How many steps there are with one more, as a walk counts them.
 fn counted(before: u64, pushes: bool) -> u64
     ensures { λ r. ⌜ r ≡ counted before pushes ⌝ }
 {
@@ -250,11 +255,7 @@ fn lone_row(m: Machine, last: bool, r: Row, w: Walk) -> Walk
         Row::DefCfaOffset(z) => stepped(w, false, true, z),
         Row::DefCfaRegister(reg) => frame_early(m, last, reg as u64, w),
         Row::Offset(reg, _) => stepped(w, false, knows(m, reg as u64), w.below),
-        Row::Restore(_) => refused(33),
-        Row::Undefined(_) => refused(33),
-        Row::RememberState => refused(33),
-        Row::RestoreState => refused(33),
-        Row::NegateRaState => refused(33),
+        _ => refused(33),
     }
 }
 
@@ -377,6 +378,7 @@ pub enum Piece {
     Code(u64, Seh),
 }
 
+// The code of a push, of a frame and of a save, where the machine has the register.
 fn push_code(m: Machine, off: u64, reg: u64) -> Piece
     requires { ⌜ length (m .map) ≡ 64 ⌝ }
     ensures { λ r. ⌜ pieceOf r ≡ namedCode m off reg (λ x. Push (x .number)) ⌝ }
@@ -459,11 +461,7 @@ pub fn piece_at(
         Row::DefCfaOffset(z) => alloc_code(rows, i, end, off, sofar, z),
         Row::DefCfaRegister(_) => frame_code(m, off),
         Row::Offset(reg, z) => slot_code(m, rows, at, i, off, reg as u64, below, z),
-        Row::Restore(_) => Piece::Nothing,
-        Row::Undefined(_) => Piece::Nothing,
-        Row::RememberState => Piece::Nothing,
-        Row::RestoreState => Piece::Nothing,
-        Row::NegateRaState => Piece::Nothing,
+        _ => Piece::Nothing,
     }
 }
 

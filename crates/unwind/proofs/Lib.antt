@@ -3,3 +3,4 @@ pub mod DebugSites
 pub mod Signs
 pub mod Together
 pub mod Fronts
+pub mod Formats

@@ -1,9 +1,11 @@
 -- `prologue::lone_row` meets its contract.
-use mathlib.Core.Path.{_∙_}
+use mathlib.Core.Path.{sym, _∙_}
 use native.Mathlib.Omega.{arith}
 use Rattle.format.specs.X64.{isPush}
 use Rattle.rows.proofs.Signs.{passed}
 use Rattle.prologue.specs.Groups.{known, added, loneIn}
+use Rattle.prologue.proofs.Arms.{high-kind}
+use Rattle.prologue.proofs.Frames.{lone-other}
 use borrow.Author.Needs.{needs}
 use Rattle.prologue.proofs.lone_row.Statement.{statement}
 use Rattle.prologue.proofs.lone_row.Tie as tie
@@ -44,35 +46,8 @@ knows-requires c κs = search needs
 stepped-requires-2 : tie.Need-stepped-requires-2
 stepped-requires-2 c κs = search needs
 
-enum-told : tie.Need-enum-told
-enum-told c = search needs
-
 refused-requires : tie.Need-refused-requires
 refused-requires c κs = search needs
-
-enum-told-2 : tie.Need-enum-told-2
-enum-told-2 c = search needs
-
-refused-requires-2 : tie.Need-refused-requires-2
-refused-requires-2 c κs = search needs
-
-enum-told-3 : tie.Need-enum-told-3
-enum-told-3 c = search needs
-
-refused-requires-3 : tie.Need-refused-requires-3
-refused-requires-3 c κs = search needs
-
-enum-told-4 : tie.Need-enum-told-4
-enum-told-4 c = search needs
-
-refused-requires-4 : tie.Need-refused-requires-4
-refused-requires-4 c κs = search needs
-
-enum-told-5 : tie.Need-enum-told-5
-enum-told-5 c = search needs
-
-refused-requires-5 : tie.Need-refused-requires-5
-refused-requires-5 c κs = search needs
 
 returns : tie.Need-returns
 unfolding loneIn
@@ -97,24 +72,9 @@ returns-4 c =
     rw (s .r4 .given .1) (c .stepped2 .ensures ∙ rw (e, c .before .before .knows .ensures))
 
 returns-5 : tie.Need-returns-5
-unfolding loneIn
-returns-5 c = rw (c .before .enum-told .given .1) (c .refused .ensures)
-
-returns-6 : tie.Need-returns-6
-unfolding loneIn
-returns-6 c = rw (c .before .enum-told2 .given .1) (c .refused2 .ensures)
-
-returns-7 : tie.Need-returns-7
-unfolding loneIn
-returns-7 c = rw (c .before .enum-told3 .given .1) (c .refused3 .ensures)
-
-returns-8 : tie.Need-returns-8
-unfolding loneIn
-returns-8 c = rw (c .before .enum-told4 .given .1) (c .refused4 .ensures)
-
-returns-9 : tie.Need-returns-9
-unfolding loneIn
-returns-9 c = rw (c .before .enum-told5 .given .1) (c .refused5 .ensures)
+returns-5 c =
+    let s = c .before .before in
+    c .refused .ensures ∙ sym (lone-other (s .args .m) (s .args .last) (s .args .r) (s .args .w) (high-kind (s .args .r) (c .before .match .keys5)))
 
 pub lone-row-spec : {M : Type 1} → statement M
 lone-row-spec =
@@ -132,22 +92,9 @@ lone-row-spec =
     cast-knows
     knows-requires
     stepped-requires-2
-    enum-told
     refused-requires
-    enum-told-2
-    refused-requires-2
-    enum-told-3
-    refused-requires-3
-    enum-told-4
-    refused-requires-4
-    enum-told-5
-    refused-requires-5
     returns
     returns-2
     returns-3
     returns-4
-    returns-5
-    returns-6
-    returns-7
-    returns-8
-    returns-9)
+    returns-5)

@@ -4,7 +4,7 @@ use native.Mathlib.Omega.{arith}
 use mathlib.Core.List.{[], _∷_}
 use mir.Facts.{toZ-ofZ}
 use Rattle.rows.proofs.Signs.{passed}
-use Rattle.prologue.proofs.Frames.{other-kind}
+use Rattle.prologue.proofs.Arms.{other-kind}
 use Rattle.prologue.proofs.Pieced.{moved-by, stays}
 use borrow.Author.Needs.{needs}
 use Rattle.prologue.proofs.moved.Statement.{statement}

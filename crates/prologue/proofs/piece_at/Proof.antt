@@ -1,12 +1,13 @@
 -- `prologue::piece_at` meets its contract.
 use native.Mathlib.Omega.{arith}
 use borrow.Author.Needs.{needs}
-use Rattle.format.specs.Rows.{kindOf, offsetOf}
+use Rattle.format.specs.Rows.{offsetOf}
 use Rattle.rows.proofs.Signs.{passed}
 use Rattle.prologue.specs.Pieces.{pieceOf}
 use Rattle.prologue.proofs.Distances.{short-passed}
 use Rattle.prologue.proofs.Rows.{line-short}
 use Rattle.prologue.proofs.Pieced.{set-piece, early-piece, alloc-piece, slot-piece, no-piece}
+use Rattle.prologue.proofs.Arms.{high-kind}
 use Rattle.prologue.proofs.piece_at.Statement.{statement}
 use Rattle.prologue.proofs.piece_at.Tie as tie
 
@@ -55,21 +56,6 @@ slot-code-requires c κs =
     let h = line-short _ (s .args .i) (s .pre .1 .ok (s .args .i) (s .pre .2) (s .pre .3)) in
     (search needs, search needs, search needs, rw e (rw (← c .before .before .before .row-at .ensures, r .1) at h))
 
-enum-told-3 : tie.Need-enum-told-3
-enum-told-3 c = search needs
-
-enum-told-4 : tie.Need-enum-told-4
-enum-told-4 c = search needs
-
-enum-told-5 : tie.Need-enum-told-5
-enum-told-5 c = search needs
-
-enum-told-6 : tie.Need-enum-told-6
-enum-told-6 c = search needs
-
-enum-told-7 : tie.Need-enum-told-7
-enum-told-7 c = search needs
-
 returns : tie.Need-returns
 returns c =
     let s = c .before .before .before .before .before .before in
@@ -99,39 +85,10 @@ returns-4 c =
     rw (slot-piece (s .args .m) (s .args .below) (s .args .sofar) _ (s .args .at) (s .args .i) (s .args .end) (a .row-at .ensures) (a .before .offset-at .ensures) (r .0 .0) (r .0 .1 .0) (r .1)) (rw (short-passed (s .args .below) (s .pre .4), e) at (c .slot-code .ensures))
 
 returns-5 : tie.Need-returns-5
-unfolding pieceOf kindOf
+unfolding pieceOf
 returns-5 c =
-    let s = c .before .before .before .before .before in
-    let a = c .before .before in
-    rw (no-piece (s .args .m) (s .args .below) (s .args .sofar) _ (s .args .at) (s .args .i) (s .args .end) (a .row-at .ensures) (a .before .offset-at .ensures) (rw (c .enum-told3 .given .1) (omega arith)))
-
-returns-6 : tie.Need-returns-6
-unfolding pieceOf kindOf
-returns-6 c =
-    let s = c .before .before .before .before .before in
-    let a = c .before .before in
-    rw (no-piece (s .args .m) (s .args .below) (s .args .sofar) _ (s .args .at) (s .args .i) (s .args .end) (a .row-at .ensures) (a .before .offset-at .ensures) (rw (c .enum-told4 .given .1) (omega arith)))
-
-returns-7 : tie.Need-returns-7
-unfolding pieceOf kindOf
-returns-7 c =
-    let s = c .before .before .before .before .before in
-    let a = c .before .before in
-    rw (no-piece (s .args .m) (s .args .below) (s .args .sofar) _ (s .args .at) (s .args .i) (s .args .end) (a .row-at .ensures) (a .before .offset-at .ensures) (rw (c .enum-told5 .given .1) (omega arith)))
-
-returns-8 : tie.Need-returns-8
-unfolding pieceOf kindOf
-returns-8 c =
-    let s = c .before .before .before .before .before in
-    let a = c .before .before in
-    rw (no-piece (s .args .m) (s .args .below) (s .args .sofar) _ (s .args .at) (s .args .i) (s .args .end) (a .row-at .ensures) (a .before .offset-at .ensures) (rw (c .enum-told6 .given .1) (omega arith)))
-
-returns-9 : tie.Need-returns-9
-unfolding pieceOf kindOf
-returns-9 c =
-    let s = c .before .before .before .before .before in
-    let a = c .before .before in
-    rw (no-piece (s .args .m) (s .args .below) (s .args .sofar) _ (s .args .at) (s .args .i) (s .args .end) (a .row-at .ensures) (a .before .offset-at .ensures) (rw (c .enum-told7 .given .1) (omega arith)))
+    let s = c .before .before .before .before in
+    rw (no-piece (s .args .m) (s .args .below) (s .args .sofar) _ (s .args .at) (s .args .i) (s .args .end) (c .before .row-at .ensures) (c .before .before .offset-at .ensures) (high-kind (c .before .row-at .result) (c .match .keys5)))
 
 pub piece-at-spec : {M : Type 1} → statement M
 piece-at-spec =
@@ -148,17 +105,8 @@ piece-at-spec =
     enum-known-r-2
     cast-slot-code
     slot-code-requires
-    enum-told-3
-    enum-told-4
-    enum-told-5
-    enum-told-6
-    enum-told-7
     returns
     returns-2
     returns-3
     returns-4
-    returns-5
-    returns-6
-    returns-7
-    returns-8
-    returns-9)
+    returns-5)
