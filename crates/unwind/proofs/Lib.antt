@@ -4,3 +4,4 @@ pub mod Signs
 pub mod Together
 pub mod Fronts
 pub mod Formats
+pub mod Delivering

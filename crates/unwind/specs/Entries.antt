@@ -1,11 +1,14 @@
 -- The lists and the room that an entry is handed, as the definitions take them.
+use mathlib.Core.Path.{_≡_}
 use Prim.Native.Nat.{ℕ}
 use mathlib.Core.List.{List, [], _∷_}
 use lib.ListN.{length}
-use Rattle.format.specs.Questions.{Given, Room}
+use Rattle.format.specs.Questions.{Given, Room, Answer}
+use Rattle.format.specs.Answers.{outcomeOf, outcomeNumbers, afterwards, relocationNumbers}
 use Rattle.format.specs.declared.Outcome.{Outcome}
 use Rattle.format.specs.declared.Outcome.the-variants as outcome
 use Rattle.unwind.specs.declared.Numbers.{Numbers}
+use Rattle.unwind.specs.declared.Written.{Written}
 
 unfoldable pub given : (machine functions rows landings pairs : List ℕ) → Given
 given machine functions rows landings pairs =
@@ -30,3 +33,15 @@ unfoldable pub relocsIn : Outcome → ℕ
 relocsIn (outcome.Accepted c) = c .relocations
 relocsIn outcome.Empty = 0
 relocsIn (outcome.Refused n k) = 0
+
+-- the numbers of an outcome, in the order of include/unwind.h
+abbrev pub writtenNumbers : Written → List ℕ
+writtenNumbers r = r .number ∷ r .position ∷ r .places ∷ r .bytes ∷ r .relocations ∷ r .sites ∷ []
+
+-- what an exported writer does: as a writer, its outcome as numbers
+pub record Exports (a : Answer) (o : Written) (places places′ bytes bytes′ relocations relocations′ sites sites′ : List ℕ) : Type 0 where
+  pub numbers : writtenNumbers o ≡ outcomeNumbers (outcomeOf a)
+  pub placed : places′ ≡ afterwards (λ w. w .places) a places
+  pub stored : bytes′ ≡ afterwards (λ w. w .bytes) a bytes
+  pub related : relocations′ ≡ afterwards relocationNumbers a relocations
+  pub sited : sites′ ≡ afterwards (λ w. w .sites) a sites

@@ -1,16 +1,58 @@
 // The public library: its entries over number lists, and their C interface (include/unwind.h). Ported from rucc-asm/src/unwind.rs (relaxed_table, relaxed_debug_frame, seh) of tamnd/rucc, changed: see NOTICE.
 ghost use mathlib.Core.Path.{_≡_};
+ghost use Rattle.format.specs.Questions.{relaxedDebugFrame};
 ghost use Rattle.format.specs.RowCheck.{rowCheckAt};
 ghost use Rattle.format.specs.Reader.{read};
 ghost use mathlib.Core.List.{[], _∷_};
 ghost use mir.Syntax.{w64};
 ghost use mir.Val.{ofZ};
 ghost use Rattle.format.specs.declared.Reading.the-variants.{Rules};
-ghost use Rattle.format.specs.Answers.{frameNumbers, ruleNumbers, readingNumbers, bit};
-ghost use Rattle.unwind.specs.Entries.{readNumbers};
+ghost use Rattle.format.specs.Answers.{frameNumbers, ruleNumbers, readingNumbers, bit, outcomeNumbers, Writes};
+ghost use Rattle.unwind.specs.Entries.{given, room, readNumbers, writtenNumbers, Exports};
 use format::Frame;
+use format::Outcome;
 use format::Reading;
 use format::Rule;
+use format::Section;
+
+// ---- the writers
+
+// The same rows as a debugger's copy, debug_frame of ELF (0); an empty result of any other format and of an empty list. Landings and
+// personalities are not looked at but by question 13.
+pub fn relaxed_debug_frame(
+    machine: &[u64],
+    format: u64,
+    functions: &[u64],
+    rows: &[u64],
+    landings: &[u64],
+    pairs: &[u64],
+    places: &mut [u64],
+    bytes: &mut [u8],
+    relocations: &mut [u64],
+) -> Outcome
+    ensures { λ r. ⌜ Writes (relaxedDebugFrame format (given (now (machine .entry)) (now (functions .entry)) (now (rows .entry)) (now (landings .entry)) (now (pairs .entry))) (room (now (places .entry)) (now (bytes .entry)) (now (relocations .entry)) [])) r (now (places .entry)) (now (places .exit)) (now (bytes .entry)) (now (bytes .exit)) (now (relocations .entry)) (now (relocations .exit)) [] [] ⌝ }
+{
+    if functions.len() / 18 == 0 {
+        return Outcome::Empty;
+    }
+    if format != 0 {
+        return Outcome::Empty;
+    }
+    // debug_frame has no call sites: nothing is stored here.
+    let mut sites = [0u8; 1];
+    dwarf::dwarf(
+        Section::Debug,
+        machine,
+        functions,
+        rows,
+        landings,
+        pairs,
+        places,
+        bytes,
+        relocations,
+        &mut sites,
+    )
+}
 
 // ---- the row check and the reader
 
@@ -49,6 +91,17 @@ pub struct Numbers {
     pub rule: u64,
     pub rule_offset: u64,
     pub signing: u64,
+}
+
+// What the writers answer.
+#[repr(C)]
+pub struct Written {
+    pub number: u64,
+    pub position: u64,
+    pub places: u64,
+    pub bytes: u64,
+    pub relocations: u64,
+    pub sites: u64,
 }
 
 // A frame address rule, and a register's rule, as numbers.
@@ -140,6 +193,64 @@ fn numbers_of(r: Reading) -> Numbers
             signing: 0,
         },
     }
+}
+
+fn written_of(o: Outcome) -> Written
+    ensures { λ n. ⌜ writtenNumbers n ≡ outcomeNumbers o ⌝ }
+{
+    match o {
+        Outcome::Accepted(c) => Written {
+            number: 0,
+            position: 0,
+            places: c.places,
+            bytes: c.bytes,
+            relocations: c.relocations,
+            sites: c.sites,
+        },
+        Outcome::Empty => Written {
+            number: 0,
+            position: 0,
+            places: 0,
+            bytes: 0,
+            relocations: 0,
+            sites: 0,
+        },
+        Outcome::Refused(n, k) => Written {
+            number: n,
+            position: k,
+            places: 0,
+            bytes: 0,
+            relocations: 0,
+            sites: 0,
+        },
+    }
+}
+
+#[no_mangle]
+pub extern "C" fn unwind_relaxed_debug_frame(
+    machine: &[u64],
+    format: u64,
+    functions: &[u64],
+    rows: &[u64],
+    landings: &[u64],
+    pairs: &[u64],
+    places: &mut [u64],
+    bytes: &mut [u8],
+    relocations: &mut [u64],
+) -> Written
+    ensures { λ r. ⌜ Exports (relaxedDebugFrame format (given (now (machine .entry)) (now (functions .entry)) (now (rows .entry)) (now (landings .entry)) (now (pairs .entry))) (room (now (places .entry)) (now (bytes .entry)) (now (relocations .entry)) [])) r (now (places .entry)) (now (places .exit)) (now (bytes .entry)) (now (bytes .exit)) (now (relocations .entry)) (now (relocations .exit)) [] [] ⌝ }
+{
+    written_of(relaxed_debug_frame(
+        machine,
+        format,
+        functions,
+        rows,
+        landings,
+        pairs,
+        places,
+        bytes,
+        relocations,
+    ))
 }
 
 #[no_mangle]

@@ -1,0 +1,161 @@
+-- How many relocations and call-site bytes an accepted list can have.
+use mathlib.Core.Path.{_≡_, refl, ap}
+use Prim.Native.Nat.{ℕ, _+_, _-_, _*_, _≤_}
+use native.Mathlib.Omega.{arith}
+use mathlib.Core.Bool.{Bool, true, false}
+use mathlib.Core.Option.{Option, none, some}
+use mathlib.Core.List.{List, [], _∷_, _++_, map}
+use lib.ListN.{length, length-append, length-replicate}
+use Rattle.format.specs.Test.{pick}
+use Rattle.format.specs.declared.Machine.{Machine}
+use Rattle.format.specs.declared.Section.{Section}
+use Rattle.format.specs.Rows.{Line}
+use Rattle.format.specs.Lists.{Function, Landing, Named, Pointer, Relaxed}
+use Rattle.format.specs.Headers.{Kind, plain, personal, named, Key, keyOf, others, kindRelocs, headerRelocs, padding}
+use Rattle.format.specs.Records.{pointerTo, namedReloc, lsdaReloc, sumPair, rowRelocs, recordFields, recordRelocs}
+use Rattle.format.specs.CallSites.{siteBytes, sitesBytes, siteTable, sitePad, siteAdded}
+use Rattle.format.specs.Writer.{isDebug, Seen, Part, partsFrom, partOf, isEmpty, joined, partWith}
+use Rattle.format.proofs.EntryBack.{padding-small}
+use Rattle.format.proofs.Leading.{others-count}
+use Rattle.format.proofs.Fits.{lineCount}
+use Rattle.format.proofs.Parts.{Spot, cieOf, relocsFor, placeOf, partRelocs, relocsOf, relocs-more, spotOf, nextAt, nextSites, nextSeen}
+use Rattle.records.proofs.CallSites.{uleb-most}
+use Rattle.records.proofs.LabelLaws.{steps-most}
+
+-- ---- relocations
+
+kind-few : (word place : ℕ) (k : Kind) → length (kindRelocs word place k) ≤ 1
+unfolding kindRelocs
+kind-few word place plain = omega arith
+kind-few word place personal = omega arith
+kind-few word place (named e s l) = omega arith
+
+pub header-few : (debug : Bool) (m : Machine) (at : ℕ) (k : Key) → length (headerRelocs debug m at k) ≤ 1
+unfolding headerRelocs pick
+header-few true m at k = omega arith
+header-few false m at k = kind-few (m .word) _ (k .kind)
+
+front-few : (s : Section) (m : Machine) (o : Option ℕ) (at : ℕ) (k : Key) → length (relocsFor s m o at k) ≤ 1
+unfolding relocsFor
+front-few s m none at k = header-few (isDebug s) m at k
+front-few s m (some cie) at k = omega arith
+
+to-few : (word place : ℕ) (o : Option Pointer) → length (pointerTo word place o) ≤ 1
+unfolding pointerTo
+to-few word place none = omega arith
+to-few word place (some p) = omega arith
+
+named-few : (word place : ℕ) (o : Option Named) → length (namedReloc word place o) ≤ 1
+unfolding namedReloc
+named-few word place none = omega arith
+named-few word place (some n) = to-few word place (n .lsda)
+
+lsda-few : (word place table : ℕ) (ls : List Landing) (o : Option Named) → length (lsdaReloc word place table ls o) ≤ 1
+unfolding lsdaReloc
+lsda-few word place table [] o = named-few word place o
+lsda-few word place table (l ∷ ls) o = omega arith
+
+sum-few : (place bytes : ℕ) (f : Function) (o : Option Relaxed) → length (sumPair place bytes f o) ≤ 2
+unfolding sumPair
+sum-few place bytes f none = omega arith
+sum-few place bytes f (some r) = omega arith
+
+rows-few : (w place : ℕ) (xs : List Line) (o : Option Relaxed) → length (rowRelocs w place xs o) ≤ 2 * length xs
+unfolding rowRelocs
+rows-few w place xs none = omega arith
+rows-few w place xs (some r) = steps-most w place 0 (r .pairs) xs
+
+pub record-few : (debug : Bool) (m : Machine) (at cie table : ℕ) (f : Function) → length (recordRelocs debug m at cie table f) ≤ 4 + 2 * length (f .rows)
+unfolding recordRelocs pick
+record-few true m at cie table f =
+    let ops : ℕ = at + 4 + length (recordFields true (m .word) (at + 4 - cie) f) in
+    simp length-append
+    (omega (
+      arith,
+      sum-few (at + 8 + m .word) (m .word) f (f .relaxed),
+      rows-few (m .word) ops (others (f .rows)) (f .relaxed),
+      others-count (f .rows),
+    ))
+record-few false m at cie table f =
+    let ops : ℕ = at + 4 + length (recordFields false (m .word) (at + 4 - cie) f) in
+    simp length-append
+    (omega (
+      arith,
+      lsda-few (m .word) (at + 17) table (f .landings) (f .named),
+      sum-few (at + 12) 4 f (f .relaxed),
+      rows-few (m .word) ops (others (f .rows)) (f .relaxed),
+      others-count (f .rows),
+    ))
+
+module _ (s : Section) (m : Machine) where
+  part-few : (x : Spot) (sites : ℕ) (f : Function) → length (partRelocs s m x sites f) ≤ 5 + 2 * length (f .rows)
+  unfolding partRelocs
+  part-few x sites f =
+      rw length-append
+      (omega (
+        arith,
+        front-few s m (x .earlier) (x .start) (keyOf m f),
+        record-few (isDebug s) m (placeOf s m x f) (cieOf x) (sites + sitePad sites) f,
+      ))
+
+  relocs-none : (at sites : ℕ) (seen : List Seen) → relocsOf s m at sites seen [] ≡ []
+  unfolding relocsOf partsFrom joined
+  relocs-none at sites seen = refl
+
+  pub relocs-few : (at sites : ℕ) (seen : List Seen) (fs : List Function)
+      → length (relocsOf s m at sites seen fs) ≤ 5 * length fs + 2 * lineCount fs
+  unfolding lineCount
+  relocs-few at sites seen [] = rw (relocs-none at sites seen) (omega arith)
+  relocs-few at sites seen (f ∷ fs) =
+      rw (relocs-more s m at sites seen f fs, length-append)
+      (omega (
+        arith,
+        part-few (spotOf s m at seen f fs) sites f,
+        relocs-few (nextAt s m at seen f fs) (nextSites sites f) (nextSeen s m at seen f fs) fs,
+      ))
+
+-- ---- call sites
+
+sites-most : (ls : List Landing) → length (sitesBytes ls) ≤ 40 * length ls
+unfolding sitesBytes siteBytes
+sites-most [] = omega arith
+sites-most (l ∷ ls) =
+    simp length-append
+    (omega (arith, uleb-most (l .start), uleb-most (l .size), uleb-most (l .pad), uleb-most 0, sites-most ls))
+
+added-few : (at : ℕ) (ls : List Landing) → length (siteAdded at ls) ≤ 17 + 40 * length ls
+unfolding siteAdded siteTable sitePad
+added-few at [] = omega arith
+added-few at (l ∷ ls) =
+    simp (length-append, length-replicate {A = ℕ} (padding 4 at) 0)
+    (omega (arith, padding-small 4 at (omega arith), uleb-most (length (sitesBytes (l ∷ ls))), sites-most (l ∷ ls)))
+
+-- landings summed over the functions
+unfoldable pub landingCount : List Function → ℕ
+landingCount [] = 0
+landingCount (f ∷ fs) = length (f .landings) + landingCount fs
+
+part-sites : (o : Option ℕ) (s : Section) (m : Machine) (align at sites : ℕ) (f : Function) → partWith o s m align at sites f .sites ≡ siteAdded sites (f .landings)
+unfolding partWith
+part-sites none s m align at sites f = refl
+part-sites (some cie) s m align at sites f = refl
+
+module _ (s : Section) (m : Machine) where
+  sites-of : (at sites : ℕ) (seen : List Seen) (f : Function) (fs : List Function)
+      → partOf s m (isEmpty fs) at sites seen f .sites ≡ siteAdded sites (f .landings)
+  unfolding partOf
+  sites-of at sites seen f fs = part-sites _ s m _ at sites f
+
+  pub sites-few : (at sites : ℕ) (seen : List Seen) (fs : List Function)
+      → length (joined (map (λ p. p .sites) (partsFrom s m at sites seen fs))) ≤ 17 * length fs + 40 * landingCount fs
+  unfolding partsFrom joined landingCount
+  sites-few at sites seen [] = omega arith
+  sites-few at sites seen (f ∷ fs) =
+      let p : Part = partOf s m (isEmpty fs) at sites seen f in
+      rw length-append
+      (omega (
+        arith,
+        ap length (sites-of at sites seen f fs),
+        added-few sites (f .landings),
+        sites-few (at + length (p .bytes)) (sites + length (p .sites)) (seen ++ (record { key = keyOf m f; place = p .place } ∷ [])) fs,
+      ))

@@ -1,0 +1,135 @@
+-- From the answers of questions 11 to 25 to what the passes rely on.
+use mathlib.Core.Path.{_≡_, _∙_}
+use Prim.Native.Nat.{ℕ, zero, suc, _*_, _^_, _≤_, _<_}
+use native.Mathlib.Omega.{arith}
+use mathlib.Core.Bool.{true, false}
+use mathlib.Core.Option.{none}
+use mathlib.Core.List.{List, [], map}
+use borrow.Author.Tests.{le-leb, ne-eqb}
+use lib.Dec.{leb}
+use lib.ListN.{length}
+use Rattle.format.specs.Test.{pick, each}
+use Rattle.format.specs.declared.Section.{Section}
+use Rattle.format.specs.declared.Section.the-variants.{Elf, MachO, Debug}
+use Rattle.format.specs.Machine.{machineOf}
+use Rattle.format.specs.Lists.{Function, functionStride, field, count, sumOf, functionsOf}
+use Rattle.format.specs.Writer.{Written, taken, partsOf, dwarf}
+use Rattle.format.specs.Questions.{Given, Room, accepted, ask, andThen, roomAsks, unless, fitting, dwarfAsks, perFunction, dwarfAnswer, dwarfGiven, givenAsks, givenFunctions, noFunctions, formatAnswer, relaxedTable, relaxedDebugFrame, dwarfWritten}
+use Rattle.format.proofs.Accepted.{Accepted, accepted-is, function-fits-at}
+use Rattle.format.proofs.Fits.{FunctionFits}
+use Rattle.format.proofs.Parts.{relocsOf}
+use Rattle.dwarf.proofs.Bodies.{rows-body, encodings-body}
+use Rattle.dwarf.proofs.Passed.{askable, encoding-taken, rows-few-at, landings-taken, listed, landings-few-in}
+use Rattle.leading.specs.Functions.{takenIn, without, Sound}
+use Rattle.lists.specs.declared.Extent.{Extent}
+use Rattle.lists.specs.Extents.{extentAt, meant}
+use Rattle.dwarf.specs.Parts.{Inputs, countIn, extentIn, functionIn, bytesIn, relocsIn, sitesIn, partsTo}
+use Rattle.dwarf.specs.Sure.{Sure, Cleared}
+use Rattle.format.proofs.ListLaws.{each-length}
+use Rattle.format.proofs.SectionSize.{section-short}
+use Rattle.dwarf.proofs.Fronts.{all-parts, functions-each, means-taken, bytes-grow, relocs-grow, sites-grow}
+use Rattle.records.proofs.LabelLaws.{numbers-length}
+use Rattle.dwarf.proofs.Bounds.{landingCount, relocs-few, sites-few}
+
+-- ---- acceptance with room enough
+
+room-of : Written → Room
+room-of w = record { places = length (w .places); bytes = length (w .bytes); relocations = 5 * length (w .relocations); sites = length (w .sites) }
+
+fits-exactly : (w : Written) → roomAsks (room-of w) w ≡ none
+unfolding roomAsks room-of ask andThen pick
+fits-exactly w =
+    let le : (n : ℕ) → leb n n ≡ true = λ n. le-leb n n (omega arith) in
+    simp (le (length (w .places)), le (length (w .bytes)), le (5 * length (w .relocations)), le (length (w .sites)))
+
+module _ (g : Given) (some-functions : 0 < count functionStride (g .functions)) where
+  there : noFunctions g ≡ false
+  unfolding noFunctions
+  there = ne-eqb (count functionStride (g .functions)) 0 (λ e. omega arith)
+
+  taken-up : (s : Section) (r : Room) → dwarfWritten s g r ≡ dwarfGiven s g r
+  unfolding dwarfWritten relaxedTable relaxedDebugFrame formatAnswer pick
+  taken-up Elf r = rw there
+  taken-up MachO r = rw there
+  taken-up Debug r = rw there
+
+  module _ (s : Section) (asked : givenAsks g ≡ none) (told : perFunction (dwarfAsks s (machineOf (g .machine) .word)) 0 (map (taken s) (givenFunctions g)) ≡ none) where
+    accepts : let w : Written = dwarf s (machineOf (g .machine)) (givenFunctions g) in dwarfGiven s g (room-of w) ≡ accepted w
+    unfolding dwarfGiven dwarfAnswer fitting unless
+    accepts = rw (asked, told, fits-exactly)
+
+    is-accepted : Accepted s g (dwarf s (machineOf (g .machine)) (givenFunctions g))
+    is-accepted = accepted-is s g (room-of (dwarf s (machineOf (g .machine)) (givenFunctions g))) _ (taken-up s _ ∙ accepts)
+
+-- ---- what follows
+
+-- landings, as their list counts them
+taken-few : (s : Section) (e : Extent) → takenIn s e .landings ≤ e .landings
+unfolding takenIn without
+taken-few Elf e = omega arith
+taken-few MachO e = omega arith
+taken-few Debug e = omega arith
+
+module _ (x : Inputs) where
+  landings-at : (k : ℕ) → length (functionIn x k .landings) ≤ field functionStride (x .functions) k 5
+  unfolding meant extentAt
+  landings-at k = rw each-length (taken-few (x .section) (extentAt (x .functions) k))
+
+  landings-counted : (at n : ℕ) → landingCount (each (functionIn x) at n) ≤ sumOf (λ k. field functionStride (x .functions) k 5) at n
+  unfolding landingCount sumOf each
+  landings-counted at zero = omega arith
+  landings-counted at (suc n) = omega (arith, landings-at at, landings-counted (suc at) n)
+
+abbrev pub inputsOf : Section → Given → Inputs
+inputsOf s g =
+    record { section = s; machine = machineOf (g .machine); functions = g .functions; rows = g .rows; landings = g .landings; pairs = g .pairs }
+
+module _ (s : Section) (g : Given) {w : Written} (a : Accepted s g w) where
+  abbrev x : Inputs
+  x = inputsOf s g
+
+  bytes-whole : length (bytesIn (partsTo x (countIn x))) < 2 ^ 25
+  unfolding bytesIn partsOf givenFunctions
+  bytes-whole = rw (← all-parts x) (section-short s (machineOf (g .machine)) (a .machine) 0 0 [] _ (a .functions) (a .bounded))
+
+  relocs-whole : length (relocsIn (partsTo x (countIn x))) ≤ 2424832
+  unfolding relocsIn partsOf givenFunctions relocsOf
+  relocs-whole =
+      rw (← all-parts x)
+      (omega (arith, relocs-few s (machineOf (g .machine)) 0 0 [] (map (taken s) (functionsOf (g .functions) (g .rows) (g .landings) (g .pairs))), a .bounded .functions, a .bounded .lines))
+
+  sites-whole : length (sitesIn (partsTo x (countIn x))) ≤ 43057152
+  unfolding sitesIn partsOf givenFunctions
+  sites-whole =
+      let fs : List Function = map (taken s) (functionsOf (g .functions) (g .rows) (g .landings) (g .pairs)) in
+      let n : landingCount fs ≤ 1048576 = rw (functions-each x) (omega (arith, landings-counted x 0 (countIn x), landings-few-in (g .functions) (g .rows) (g .landings) (g .pairs) (a .lists))) in
+      rw (← all-parts x) (omega (arith, sites-few s (machineOf (g .machine)) 0 0 [] fs, a .bounded .functions))
+
+  module _ (k : ℕ) (h : k < countIn x) where
+    fits : FunctionFits s (x .machine) (functionIn x k)
+    fits = rw (means-taken x k) at (function-fits-at a k h)
+
+    sound-at : Sound (x .machine) (extentIn x k) (x .rows)
+    sound-at = record {
+      machine = a .machine;
+      ready = askable (g .functions) (g .rows) (g .landings) (g .pairs) (a .lists) k h s .ready;
+      few = rows-few-at (g .functions) (g .rows) (g .landings) (g .pairs) (a .lists) k h s;
+      lines = rw (rows-body (extentIn x k) (x .rows) (x .landings) (x .pairs)) at (fits .lines);
+      encodings = rw (encodings-body (extentIn x k) (x .rows) (x .landings) (x .pairs) (x .machine .word)) at (fits .encodings);
+    }
+
+    sure-at : Sure x k
+    sure-at = record {
+      sound = sound-at;
+      encoding-fits = encoding-taken (g .functions) (g .rows) (g .landings) (g .pairs) (a .lists) k h s;
+      landings-ready = landings-taken (g .functions) (g .rows) (g .landings) (g .pairs) (a .lists) k h s;
+      pairs-ready = askable (g .functions) (g .rows) (g .landings) (g .pairs) (a .lists) k h s .paired;
+      listed = listed (g .functions) (g .rows) (g .landings) (g .pairs) (a .lists) (suc k) h;
+      bytes-few = omega (arith, bytes-whole, bytes-grow x (suc k) (countIn x) h);
+      relocs-few = omega (arith, relocs-whole, relocs-grow x (suc k) (countIn x) h, numbers-length (relocsIn (partsTo x (suc k))));
+      sites-few = omega (arith, sites-whole, sites-grow x (suc k) (countIn x) h);
+    }
+
+pub cleared : (s : Section) (g : Given) → givenAsks g ≡ none
+    → perFunction (dwarfAsks s (machineOf (g .machine) .word)) 0 (map (taken s) (givenFunctions g)) ≡ none → Cleared (inputsOf s g)
+cleared s g asked told = record { each-one = λ k h. sure-at s g (is-accepted g (omega arith) s asked told) k h }

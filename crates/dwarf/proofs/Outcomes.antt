@@ -1,0 +1,166 @@
+-- From the passes to the answer: refusals leave all as it was, and acceptance stores the whole.
+use mathlib.Core.Path.{_≡_, refl, sym, ap, _∙_}
+use Prim.Native.Nat.{ℕ, zero, suc, _/_}
+use native.Mathlib.Omega.{arith}
+use mathlib.Core.Bool.{Bool, true, false}
+use mathlib.Core.Option.{none, some}
+use mathlib.Core.List.{List, [], map}
+use lib.Dec.{T, leb→le}
+use lib.ListN.{length}
+use Rattle.format.specs.Test.{pick, each}
+use Rattle.format.specs.declared.Section.{Section}
+use Rattle.format.specs.declared.Outcome.the-variants as outcome
+use Rattle.format.specs.declared.Question as declared
+use Rattle.format.specs.declared.Question.the-variants.{Yes, No}
+use Rattle.format.specs.Machine.{machineOf, machineOk}
+use Rattle.format.specs.Lists.{numbersOf, landingAt, listsOk}
+use Rattle.format.specs.Questions.{Question, ask, andThen, perFunction, dwarfAsks, Given, Room, Answer, refused, accepted, unless, fitting, roomAsks, givenAsks, givenFunctions, dwarfAnswer, dwarfGiven}
+use Rattle.format.specs.Answers.{questionOf, outcomeOf, afterwards, relocationNumbers}
+use Rattle.format.specs.Writer.{taken, dwarf}
+use Rattle.lists.specs.declared.Extent.{Extent}
+use Rattle.lists.specs.Extents.{meant}
+use Rattle.records.proofs.LabelLaws.{numbers-length}
+use Rattle.dwarf.specs.declared.Table.{Table}
+use Rattle.dwarf.specs.Asks.{askedIn}
+use Rattle.dwarf.specs.Parts.{Inputs, inputs, countIn, extentIn, functionIn, placesIn, bytesIn, relocsIn, sitesIn, writtenIn, partsTo}
+use Rattle.dwarf.specs.Tables.{totalsIn, roomFor, Written, Holds}
+use Rattle.dwarf.specs.Delivered.{roomIn, Delivered}
+use Rattle.dwarf.proofs.Asking.{said-yes}
+use Rattle.dwarf.proofs.Bodies.{encodings-any}
+use Rattle.dwarf.proofs.Fronts.{places-length, functions-each, written-parts}
+
+-- ---- refusals
+
+pub unchanged : (n k : ℕ) (places bytes relocs sites : List ℕ) → Delivered (refused n k) (outcome.Refused n k) places places bytes bytes relocs relocs sites sites
+unfolding outcomeOf afterwards
+unchanged n k places bytes relocs sites = record { answer = refl; places-after = refl; bytes-after = refl; relocations-after = refl; sites-after = refl }
+
+-- a question that says no decides
+pub no-decides : (o : Question) (a : Answer) {i j : ℕ} → questionOf o ≡ No i j → unless o a ≡ refused i j
+unfolding questionOf unless
+no-decides none a e = let z : _≡_ {A = ℕ} 0 1 = cc in absurd (omega arith)
+no-decides (some r) a e = cc
+
+-- ---- room
+
+asked : (b : Bool) (n k : ℕ) → ask b n k ≡ none → T b
+unfolding ask pick
+asked true n k e = tt
+asked false n k e = let z : _≡_ {A = ℕ} 0 1 = cc in absurd (omega arith)
+
+both : (p q : Question) → andThen p q ≡ none → (p ≡ none) × (q ≡ none)
+unfolding andThen
+both none q e = (refl, e)
+both (some r) q e = let z : _≡_ {A = ℕ} 0 1 = cc in absurd (omega arith)
+
+module _ (x : Inputs) {t : Table} (e : t ≡ totalsIn (partsTo x (countIn x))) (places bytes relocs sites : List ℕ) where
+  abbrev lent : Table
+  lent = record { bytes = length bytes; relocations = length relocs; sites = length sites }
+
+  room-is : roomFor (countIn x) t (length places) lent ≡ roomAsks (roomIn places bytes relocs sites) (writtenIn (partsTo x (countIn x)))
+  unfolding roomFor roomAsks writtenIn totalsIn
+  room-is = rw (e, places-length x (countIn x), numbers-length (relocsIn (partsTo x (countIn x))))
+
+  abbrev answer : Answer
+  answer = fitting (roomIn places bytes relocs sites) (writtenIn (partsTo x (countIn x)))
+
+  module _ {q : declared.Question} (k : q ≡ questionOf (roomFor (countIn x) t (length places) lent)) where
+    pub refuses : {i j : ℕ} → q ≡ No i j → Delivered answer (outcome.Refused i j) places places bytes bytes relocs relocs sites sites
+    unfolding fitting
+    refuses {i} {j} n = rw (no-decides (roomAsks (roomIn places bytes relocs sites) (writtenIn (partsTo x (countIn x)))) (accepted (writtenIn (partsTo x (countIn x)))) (sym (ap questionOf room-is) ∙ (sym k ∙ n))) (unchanged i j places bytes relocs sites)
+
+    module _ (y : q ≡ Yes) where
+      fits : roomFor (countIn x) t (length places) lent ≡ none
+      fits = said-yes _ (sym k ∙ y)
+
+      accepts : answer ≡ accepted (writtenIn (partsTo x (countIn x)))
+      unfolding fitting unless
+      accepts = rw (sym room-is ∙ fits)
+
+      pub room-for-all : Holds x (countIn x) places bytes relocs sites
+      unfolding roomFor totalsIn
+      room-for-all =
+          let a = both _ _ fits in
+          let b = both _ _ (a .1) in
+          let c = both _ _ (b .1) in
+          record {
+            places-fit = leb→le (countIn x) (length places) (asked _ _ _ (a .0));
+            bytes-fit = rw e at (leb→le (t .bytes) (length bytes) (asked _ _ _ (b .0)));
+            relocs-fit = rw e at (leb→le (t .relocations) (length relocs) (asked _ _ _ (c .0)));
+            sites-fit = rw e at (leb→le (t .sites) (length sites) (asked _ _ _ (c .1)));
+          }
+
+      pub delivers : {u : Table} {places′ bytes′ relocs′ sites′ : List ℕ} → Written x (countIn x) u places places′ bytes bytes′ relocs relocs′ sites sites′
+          → Delivered answer (outcome.Accepted (record { places = countIn x; bytes = t .bytes; relocations = t .relocations / 5; sites = t .sites })) places places′ bytes bytes′ relocs relocs′ sites sites′
+      unfolding outcomeOf afterwards relocationNumbers writtenIn totalsIn
+      delivers w =
+          let n : countIn x ≡ length (placesIn (partsTo x (countIn x))) = sym (places-length x (countIn x)) in
+          let b : t .bytes ≡ length (bytesIn (partsTo x (countIn x))) = ap (λ (v : Table). v .bytes) e in
+          let i : t .relocations ≡ length (numbersOf (relocsIn (partsTo x (countIn x)))) = ap (λ (v : Table). v .relocations) e in
+          let r : t .relocations / 5 ≡ length (relocsIn (partsTo x (countIn x))) = omega (arith, numbers-length (relocsIn (partsTo x (countIn x)))) in
+          let s : t .sites ≡ length (sitesIn (partsTo x (countIn x))) = ap (λ (v : Table). v .sites) e in
+          rw accepts (record {
+            answer = cc;
+            places-after = w .places-stored .stored;
+            bytes-after = w .bytes-stored .stored;
+            relocations-after = w .relocs-stored .stored;
+            sites-after = w .sites-stored .stored;
+          })
+
+-- ---- the questions in front of them
+
+asks-same : (s : Section) (word k : ℕ) (e : Extent) (rows landings pairs : List ℕ)
+    → dwarfAsks s word k (meant e rows landings pairs) ≡ dwarfAsks s word k (meant e rows [] pairs)
+unfolding dwarfAsks meant
+asks-same s word k e rows landings pairs = rw (encodings-any (landingAt landings) (landingAt []) (e .«landings_at») word (e .landings))
+
+per-same : {A : Type 0} (ask : ℕ → A → Question) (f g : ℕ → A) (at n : ℕ) → ((k : ℕ) → ask k (f k) ≡ ask k (g k))
+    → perFunction ask at (each f at n) ≡ perFunction ask at (each g at n)
+unfolding perFunction each
+per-same ask f g at zero h = refl
+per-same ask f g at (suc n) h = rw (h at, per-same ask f g (suc at) n h)
+
+module _ (s : Section) (g : Given) where
+  abbrev x : Inputs
+  x = inputs s (machineOf (g .machine)) (g .functions) (g .rows) (g .landings) (g .pairs)
+
+  asks-are : (word : ℕ) → perFunction (dwarfAsks s word) 0 (map (taken s) (givenFunctions g))
+      ≡ perFunction (dwarfAsks s word) 0 (each (askedIn s (g .functions) (g .rows) (g .pairs)) 0 (countIn x))
+  unfolding givenFunctions
+  asks-are word =
+      rw (functions-each x)
+      (per-same (dwarfAsks s word) (functionIn x) _ 0 (countIn x) (λ k. asks-same s word k (extentIn x k) (g .rows) (g .landings) (g .pairs)))
+
+  written-is : dwarf s (machineOf (g .machine)) (givenFunctions g) ≡ writtenIn (partsTo x (countIn x))
+  unfolding givenFunctions
+  written-is = written-parts x
+
+  module _ (m : machineOk (g .machine) ≡ true) (l : listsOk (g .functions) (g .rows) (g .landings) (g .pairs) ≡ true) where
+    pub given-yes : givenAsks g ≡ none
+    unfolding givenAsks ask andThen pick
+    given-yes = rw (m, l)
+
+    module _ {q : declared.Question} {word : ℕ} (w : word ≡ machineOf (g .machine) .word) (k : q ≡ questionOf (perFunction (dwarfAsks s word) 0 (each (askedIn s (g .functions) (g .rows) (g .pairs)) 0 (countIn x)))) where
+      told : q ≡ questionOf (perFunction (dwarfAsks s (machineOf (g .machine) .word)) 0 (map (taken s) (givenFunctions g)))
+      told = k ∙ ap questionOf (rw w (sym (asks-are (machineOf (g .machine) .word))))
+
+      pub functions-yes : q ≡ Yes → perFunction (dwarfAsks s (machineOf (g .machine) .word)) 0 (map (taken s) (givenFunctions g)) ≡ none
+      functions-yes y = said-yes _ (sym told ∙ y)
+
+      module _ (r : Room) where
+        pub no-function : {i j : ℕ} → q ≡ No i j → dwarfGiven s g r ≡ refused i j
+        unfolding dwarfGiven dwarfAnswer unless
+        no-function n = rw given-yes (no-decides _ _ (sym told ∙ n))
+
+        pub all-yes : q ≡ Yes → dwarfGiven s g r ≡ fitting r (writtenIn (partsTo x (countIn x)))
+        unfolding dwarfGiven dwarfAnswer unless
+        all-yes y = rw (given-yes, functions-yes y) (ap (fitting r) written-is)
+
+  module _ (r : Room) where
+    pub no-machine : machineOk (g .machine) ≡ false → dwarfGiven s g r ≡ refused 11 0
+    unfolding dwarfGiven givenAsks ask andThen unless pick
+    no-machine m = rw m
+
+    pub no-lists : machineOk (g .machine) ≡ true → listsOk (g .functions) (g .rows) (g .landings) (g .pairs) ≡ false → dwarfGiven s g r ≡ refused 13 0
+    unfolding dwarfGiven givenAsks ask andThen unless pick
+    no-lists m l = rw (m, l)

@@ -1,0 +1,65 @@
+-- `dwarf::dwarf_asks` meets its contract.
+use Rattle.format.specs.Test.{pick}
+use Rattle.format.specs.Answers.{questionOf}
+use Rattle.format.specs.Questions.{ask, andThen, dwarfAsks}
+use Rattle.format.proofs.FieldsBack.{word-small}
+use Rattle.lists.specs.Extents.{meant}
+use Rattle.lists.proofs.Answers.{accepted, refused}
+use borrow.Author.Needs.{needs}
+use Rattle.dwarf.proofs.dwarf_asks.Statement.{statement}
+use Rattle.dwarf.proofs.dwarf_asks.Tie as tie
+
+size-ok-requires : tie.Need-size-ok-requires
+size-ok-requires c κs = search needs
+
+returns : tie.Need-returns
+unfolding dwarfAsks meant ask andThen questionOf pick
+returns c = simp (refused (c .before .size-ok .ensures) (c .if1 .taken))
+
+encodings-ok-requires : tie.Need-encodings-ok-requires
+encodings-ok-requires c κs = word-small _ (c .before .before .before .before .pre .0) .0
+
+returns-2 : tie.Need-returns-2
+unfolding dwarfAsks meant ask andThen questionOf pick
+returns-2 c = simp (accepted (c .before .before .before .size-ok .ensures) (c .before .before .if1 .left), refused (c .before .encodings-ok .ensures) (c .if2 .taken))
+
+steps-ok-requires : tie.Need-steps-ok-requires
+steps-ok-requires c κs = search needs
+
+returns-3 : tie.Need-returns-3
+unfolding dwarfAsks meant ask andThen questionOf pick
+returns-3 c = simp (accepted (c .before .before .before .before .before .size-ok .ensures) (c .before .before .before .before .if1 .left), accepted (c .before .before .before .encodings-ok .ensures) (c .before .before .if2 .left), refused (c .before .steps-ok .ensures) (c .if3 .taken))
+
+rows-whole-requires : tie.Need-rows-whole-requires
+rows-whole-requires c κs = (word-small _ (c .before .before .before .before .before .before .before .before .pre .0) .0, c .before .before .before .before .before .before .before .before .pre .1 .ready)
+
+returns-4 : tie.Need-returns-4
+unfolding dwarfAsks meant ask andThen questionOf pick
+returns-4 c = simp (accepted (c .before .before .before .before .before .before .before .size-ok .ensures) (c .before .before .before .before .before .before .if1 .left), accepted (c .before .before .before .before .before .encodings-ok .ensures) (c .before .before .before .before .if2 .left), accepted (c .before .before .before .steps-ok .ensures) (c .before .before .if3 .left), refused (c .before .rows-whole .ensures) (c .if4 .taken))
+
+pairs-ok-requires : tie.Need-pairs-ok-requires
+pairs-ok-requires c κs = search needs
+
+returns-5 : tie.Need-returns-5
+unfolding dwarfAsks meant ask andThen questionOf pick
+returns-5 c = simp (accepted (c .before .before .before .before .before .before .before .before .before .size-ok .ensures) (c .before .before .before .before .before .before .before .before .if1 .left), accepted (c .before .before .before .before .before .before .before .encodings-ok .ensures) (c .before .before .before .before .before .before .if2 .left), accepted (c .before .before .before .before .before .steps-ok .ensures) (c .before .before .before .before .if3 .left), accepted (c .before .before .before .rows-whole .ensures) (c .before .before .if4 .left), refused (c .before .pairs-ok .ensures) (c .if5 .taken))
+
+returns-6 : tie.Need-returns-6
+unfolding dwarfAsks meant ask andThen questionOf pick
+returns-6 c = simp (accepted (c .before .before .before .before .before .before .before .before .before .size-ok .ensures) (c .before .before .before .before .before .before .before .before .if1 .left), accepted (c .before .before .before .before .before .before .before .encodings-ok .ensures) (c .before .before .before .before .before .before .if2 .left), accepted (c .before .before .before .before .before .steps-ok .ensures) (c .before .before .before .before .if3 .left), accepted (c .before .before .before .rows-whole .ensures) (c .before .before .if4 .left), accepted (c .before .pairs-ok .ensures) (c .if5 .left))
+
+pub dwarf-asks-spec : {M : Type 1} → statement M
+dwarf-asks-spec =
+    tie.close
+    (tie.spec
+    size-ok-requires
+    returns
+    encodings-ok-requires
+    returns-2
+    steps-ok-requires
+    returns-3
+    rows-whole-requires
+    returns-4
+    pairs-ok-requires
+    returns-5
+    returns-6)

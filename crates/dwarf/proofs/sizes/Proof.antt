@@ -1,0 +1,36 @@
+-- `dwarf::sizes` meets its contract.
+use borrow.Author.Needs.{needs}
+use Prim.Native.Nat.{_-_}
+use Rattle.dwarf.specs.Parts.{inputs}
+use Rattle.dwarf.proofs.Sizing.{Sizing, start, next, turn, ended}
+use Rattle.dwarf.proofs.sizes.Statement.{statement}
+use Rattle.dwarf.proofs.sizes.Tie as tie
+
+abbrev Inv-loop : tie.InvT-loop
+Inv-loop s m fs rows landings pairs n t₀ k₀ t k = Sizing (inputs s m fs rows landings pairs) n k t
+
+abbrev μ-loop : tie.MeasureT-loop
+μ-loop s m fs rows landings pairs n t₀ k₀ t k = n - k
+
+loop-holds : tie.Need-loop-holds Inv-loop μ-loop
+loop-holds c = start _
+
+size-next-requires : tie.Need-size-next-requires Inv-loop μ-loop
+size-next-requires c κs = next (c .before .loop .inv) (c .before .before .before .before .before .before .pre) (c .loop-test .taken)
+
+add-k : tie.Need-add-k Inv-loop μ-loop
+add-k c = search needs
+
+loop-less : tie.Need-loop-less Inv-loop μ-loop
+loop-less c = search needs
+
+loop-again : tie.Need-loop-again Inv-loop μ-loop
+loop-again c = turn (c .before .before .loop .inv) (c .before .loop-test .taken) (c .size-next .ensures)
+
+returns : tie.Need-returns Inv-loop μ-loop
+returns c = ended (c .before .loop .inv) (c .loop-test .left)
+
+pub sizes-spec : {M : Type 1} → statement M
+sizes-spec =
+    tie.close
+    (tie.spec Inv-loop μ-loop loop-holds size-next-requires add-k loop-less loop-again returns)

@@ -1,0 +1,7 @@
+-- What the passes over a list of functions go by.
+pub mod Asks
+pub mod Parts
+pub mod Pieces
+pub mod Sure
+pub mod Tables
+pub mod Delivered

@@ -1,0 +1,637 @@
+// The DWARF sections: questions 21 to 25, sizes, 51 to 54, and the writing of them. Ported from rucc-asm/src/unwind.rs (dwarf, relaxed_debug_frame, Table) of tamnd/rucc, changed: see NOTICE.
+ghost use mathlib.Core.Path.{_≡_};
+ghost use Prim.Native.Nat.{_+_, _*_, _^_, _≤_, _<_};
+ghost use mathlib.Core.Bool.{true, not};
+ghost use mathlib.Core.List.{[]};
+ghost use lib.Dec.{T, ltb, eqb};
+ghost use lib.ListN.{length};
+ghost use Rattle.format.specs.Test.{all, each};
+ghost use Rattle.format.specs.Machine.{isWord};
+ghost use Rattle.format.specs.Rows.{rowWhole};
+ghost use Rattle.format.specs.Lists.{field, rowStride, pairStride, functionStride, count, lineAt, pairAt};
+ghost use Rattle.format.specs.Records.{recordRelocs};
+ghost use Rattle.format.specs.Questions.{sizeBytes, encodingsOk, stepsOk, pairsOk, dwarfAsks, perFunction, fitting, dwarfGiven};
+ghost use Rattle.format.specs.Writer.{isDebug, alignFor};
+ghost use Rattle.format.specs.Answers.{questionOf};
+ghost use Rattle.lists.specs.Extents.{meant};
+ghost use Rattle.format.proofs.Fits.{MachineFits};
+ghost use Rattle.format.proofs.SectionSize.{Aligned};
+ghost use Rattle.leading.specs.Functions.{bodyOf, Sound, Listed, RowsReady, PairsReady};
+ghost use Rattle.dwarf.specs.Asks.{Askable, AllAskable, askedIn};
+ghost use Rattle.dwarf.specs.Parts.{inputs, writtenIn, partsTo};
+ghost use Rattle.dwarf.specs.Sure.{Cleared, Next, PartReady};
+ghost use Rattle.dwarf.specs.Delivered.{givenOf, roomIn, Delivered};
+ghost use Rattle.dwarf.specs.Tables.{totalsIn, grownBy, SizeReady, roomFor, FrontReady, FrontStored, PieceReady, Stored, Added, Written, Holds, chosenBy};
+ghost use Rattle.search.specs.Owners.{owner};
+ghost use Rattle.dwarf.specs.Pieces.{frontIn, frontRelocs, partIn};
+use format::Counts;
+use format::Machine;
+use format::Outcome;
+use format::Question;
+use format::Section;
+use headers::header;
+use headers::header_relocs;
+use headers::header_relocs_count;
+use headers::header_size;
+use headers::padding;
+use headers::pointer_size;
+use leading::taken;
+use lists::Extent;
+use lists::extent_at;
+use lists::lists_ok;
+use lists::machine_of;
+use lists::machine_ok;
+use records::call_sites;
+use records::call_sites_size;
+use records::record;
+use records::record_relocs;
+use records::record_relocs_count;
+use records::record_size;
+use rows::offset_at;
+use rows::row_at;
+use rows::row_whole;
+use search::choose;
+
+// ---- questions 21 to 25
+
+// A length fits a word.
+fn word_holds(word: u64, size: u64) -> bool
+    requires { ⌜ T (isWord word) ⌝ }
+    ensures { λ r. ⌜ r ≡ ltb size (256 ^ word) ⌝ }
+{
+    if word == 2 {
+        return size < 65536;
+    }
+    if word == 4 {
+        return size < 4294967296;
+    }
+    true
+}
+
+// Question 21: a length fits its field.
+fn size_ok(s: Section, word: u64, size: u64) -> bool
+    requires { ⌜ T (isWord word) ⌝ }
+    ensures { λ r. ⌜ r ≡ ltb size (256 ^ sizeBytes s word) ⌝ }
+{
+    match s {
+        Section::Elf => size < 4294967296,
+        Section::MachO => size < 4294967296,
+        Section::Debug => word_holds(word, size),
+    }
+}
+
+// Question 22: the encodings that are used are written.
+fn encodings_ok(word: u64, e: Extent) -> bool
+    requires { ⌜ 0 < word ⌝ }
+    ensures { λ r. ⌜ r ≡ encodingsOk word (bodyOf e [] .landings) (bodyOf e [] .named) ⌝ }
+{
+    if e.landings != 0 {
+        return true;
+    }
+    if !e.personality {
+        return true;
+    }
+    if pointer_size(true, word, e.encoding) == 0 {
+        return false;
+    }
+    if !e.lsda {
+        return true;
+    }
+    pointer_size(false, word, e.lsda_encoding) != 0
+}
+
+// Question 23: no row goes back, nor steps above 2^32 - 1.
+fn steps_ok(rows: &[u64], at: usize, n: usize) -> bool
+    requires { ⌜ RowsReady (now rows) at n ⌝ }
+    ensures { λ r. ⌜ r ≡ stepsOk 0 (each (lineAt (now (rows .entry))) at n) ⌝ }
+{
+    let end = at + n;
+    let mut from = 0;
+    let mut i = at;
+    while i < end {
+        let to = offset_at(rows, i);
+        if to < from {
+            return false;
+        }
+        if 4294967296 <= to - from {
+            return false;
+        }
+        from = to;
+        i += 1;
+    }
+    true
+}
+
+// Question 24: each offset that is written factored is a multiple of the word.
+fn rows_whole(word: u64, rows: &[u64], at: usize, n: usize) -> bool
+    requires { ⌜ (0 < word) × RowsReady (now rows) at n ⌝ }
+    ensures { λ r. ⌜ r ≡ all (λ x. rowWhole word (x .1)) (each (lineAt (now (rows .entry))) at n) ⌝ }
+{
+    let end = at + n;
+    let mut i = at;
+    while i < end {
+        if !row_whole(word, row_at(rows, i)) {
+            return false;
+        }
+        i += 1;
+    }
+    true
+}
+
+// The two places of pair i are different.
+fn pair_differs(pairs: &[u64], i: usize) -> bool
+    requires { ⌜ 4 * i + 4 ≤ length (now pairs) ⌝ }
+    ensures { λ r. ⌜ r ≡ not (eqb (pairAt (now (pairs .entry)) i .place1) (pairAt (now (pairs .entry)) i .place2)) ⌝ }
+{
+    pairs[4 * i] != pairs[4 * i + 1]
+}
+
+// Question 25: the two places of each pair are different.
+fn pairs_differ(pairs: &[u64], at: usize, n: usize) -> bool
+    requires { ⌜ at + n ≤ count pairStride (now pairs) ⌝ }
+    ensures { λ r. ⌜ r ≡ all (λ p. not (eqb (p .place1) (p .place2))) (each (pairAt (now (pairs .entry))) at n) ⌝ }
+{
+    let end = at + n;
+    let mut i = at;
+    while i < end {
+        if !pair_differs(pairs, i) {
+            return false;
+        }
+        i += 1;
+    }
+    true
+}
+
+// Question 25 of a function, where it has relaxing labels.
+fn pairs_ok(e: Extent, pairs: &[u64]) -> bool
+    requires { ⌜ (e .relaxed ≡ true → PairsReady e (now pairs)) ⌝ }
+    ensures { λ r. ⌜ r ≡ pairsOk (meant e [] [] (now (pairs .entry)) .relaxed) ⌝ }
+{
+    if !e.relaxed {
+        return true;
+    }
+    pairs_differ(pairs, e.pairs_at, e.pairs)
+}
+
+// Questions 21 to 25 of function k, as the section takes it.
+fn dwarf_asks(s: Section, word: u64, k: usize, e: Extent, rows: &[u64], pairs: &[u64]) -> Question
+    requires { ⌜ T (isWord word) × Askable e (now rows) (now pairs) ⌝ }
+    ensures { λ r. ⌜ r ≡ questionOf (dwarfAsks s word k (meant e (now (rows .entry)) [] (now (pairs .entry)))) ⌝ }
+{
+    if !size_ok(s, word, e.length) {
+        return Question::No(21, k as u64);
+    }
+    if !encodings_ok(word, e) {
+        return Question::No(22, k as u64);
+    }
+    if !steps_ok(rows, e.rows_at, e.rows) {
+        return Question::No(23, k as u64);
+    }
+    if !rows_whole(word, rows, e.rows_at, e.rows) {
+        return Question::No(24, k as u64);
+    }
+    if !pairs_ok(e, pairs) {
+        return Question::No(25, k as u64);
+    }
+    Question::Yes
+}
+
+// Questions 21 to 25, function by function.
+fn all_asks(s: Section, word: u64, fs: &[u64], rows: &[u64], pairs: &[u64]) -> Question
+    requires { ⌜ T (isWord word) × AllAskable s (now fs) (now rows) (now pairs) ⌝ }
+    ensures { λ r. ⌜ r ≡ questionOf (perFunction (dwarfAsks s word) 0 (each (askedIn s (now (fs .entry)) (now (rows .entry)) (now (pairs .entry))) 0 (count functionStride (now (fs .entry))))) ⌝ }
+{
+    let n = fs.len() / 18;
+    let mut k = 0;
+    while k < n {
+        let e = taken(s, extent_at(fs, k));
+        let q = dwarf_asks(s, word, k, e, rows, pairs);
+        let Question::Yes = q else {
+            return q;
+        };
+        k += 1;
+    }
+    Question::Yes
+}
+
+// ---- the sizing pass
+
+// What stands in the lent lists of bytes, relocations and call sites by now, in their elements.
+pub struct Table {
+    pub bytes: usize,
+    pub relocations: usize,
+    pub sites: usize,
+}
+
+// A function's header: whether it has one of its own, and the header's place.
+pub struct Chosen {
+    pub own: bool,
+    pub cie: usize,
+}
+
+fn is_debug(s: Section) -> bool
+    ensures { λ r. ⌜ r ≡ isDebug s ⌝ }
+{
+    match s {
+        Section::Elf => false,
+        Section::MachO => false,
+        Section::Debug => true,
+    }
+}
+
+// What a function's entries are padded to.
+fn align_for(s: Section, word: u64, last: bool) -> usize
+    ensures { λ r. ⌜ r ≡ alignFor s word last ⌝ }
+{
+    if last {
+        return word as usize;
+    }
+    if word < 4 {
+        return word as usize;
+    }
+    match s {
+        Section::Elf => 4,
+        Section::MachO => word as usize,
+        Section::Debug => word as usize,
+    }
+}
+
+// The bytes of a function's own header, where it has one.
+fn front_size(
+    own: bool,
+    debug: bool,
+    m: Machine,
+    align: usize,
+    at: usize,
+    e: Extent,
+    rows: &[u64],
+) -> usize
+    requires { ⌜ Sound m e (now rows) × Aligned align × (at < 2 ^ 32) ⌝ }
+    ensures { λ r. ⌜ r ≡ length (frontIn own debug m align at e (now (rows .entry))) ⌝ }
+{
+    if own {
+        return header_size(debug, m, align, at, e, rows);
+    }
+    0
+}
+
+// The numbers of a function's relocations, five each.
+fn relocs_size(own: bool, debug: bool, m: Machine, e: Extent, rows: &[u64], pairs: &[u64]) -> usize
+    requires { ⌜ Sound m e (now rows) × (e .relaxed ≡ true → PairsReady e (now pairs)) ⌝ }
+    ensures { λ r. ⌜ r ≡ 5 * (length (frontRelocs own debug m 0 e (now (rows .entry))) + length (recordRelocs debug m 0 0 0 (meant e (now (rows .entry)) [] (now (pairs .entry))))) ⌝ }
+{
+    let n = record_relocs_count(debug, m, e, rows, pairs);
+    if own {
+        return 5 * (header_relocs_count(debug, e) + n);
+    }
+    5 * n
+}
+
+// What stands behind a function that is behind t. The place of a header that it does not own does not matter.
+fn sized(
+    own: bool,
+    debug: bool,
+    m: Machine,
+    align: usize,
+    e: Extent,
+    t: Table,
+    rows: &[u64],
+    landings: &[u64],
+    pairs: &[u64],
+) -> Table
+    requires { ⌜ SizeReady own debug m align e t (now rows) (now landings) (now pairs) ⌝ }
+    ensures { λ r. ⌜ r ≡ grownBy t (partIn own debug m align (t .bytes) 0 (t .sites) e (now (rows .entry)) (now (landings .entry)) (now (pairs .entry))) ⌝ }
+{
+    let behind = t.bytes + front_size(own, debug, m, align, t.bytes, e, rows);
+    Table {
+        bytes: behind + record_size(debug, m, align, behind, e, rows),
+        relocations: t.relocations + relocs_size(own, debug, m, e, rows, pairs),
+        sites: t.sites + call_sites_size(t.sites, e, landings),
+    }
+}
+
+// What stands behind function k of n, behind t.
+fn size_next(
+    s: Section,
+    m: Machine,
+    fs: &[u64],
+    rows: &[u64],
+    landings: &[u64],
+    pairs: &[u64],
+    k: usize,
+    n: usize,
+    t: Table,
+) -> Table
+    requires { ⌜ Next (inputs s m (now fs) (now rows) (now landings) (now pairs)) k n t ⌝ }
+    ensures { λ r. ⌜ r ≡ totalsIn (partsTo (inputs s m (now (fs .entry)) (now (rows .entry)) (now (landings .entry)) (now (pairs .entry))) (k + 1)) ⌝ }
+{
+    let e = taken(s, extent_at(fs, k));
+    let own = choose(s, m, fs, rows, k) == k;
+    let align = align_for(s, m.word, k + 1 == n);
+    sized(own, is_debug(s), m, align, e, t, rows, landings, pairs)
+}
+
+// What stands behind all functions.
+fn sizes(s: Section, m: Machine, fs: &[u64], rows: &[u64], landings: &[u64], pairs: &[u64]) -> Table
+    requires { ⌜ Cleared (inputs s m (now fs) (now rows) (now landings) (now pairs)) ⌝ }
+    ensures { λ r. ⌜ r ≡ totalsIn (partsTo (inputs s m (now (fs .entry)) (now (rows .entry)) (now (landings .entry)) (now (pairs .entry))) (count functionStride (now (fs .entry)))) ⌝ }
+{
+    let n = fs.len() / 18;
+    let mut t = Table {
+        bytes: 0,
+        relocations: 0,
+        sites: 0,
+    };
+    let mut k = 0;
+    while k < n {
+        t = size_next(s, m, fs, rows, landings, pairs, k, n, t);
+        k += 1;
+    }
+    t
+}
+
+// Questions 51 to 54: the results of n functions fit the lent lists, whose lengths are `places` and those of `room`.
+fn room(n: usize, t: Table, places: usize, room: Table) -> Question
+    ensures { λ r. ⌜ r ≡ questionOf (roomFor n t places room) ⌝ }
+{
+    if places < n {
+        return Question::No(51, 0);
+    }
+    if room.bytes < t.bytes {
+        return Question::No(52, 0);
+    }
+    if room.relocations < t.relocations {
+        return Question::No(53, 0);
+    }
+    if room.sites < t.sites {
+        return Question::No(54, 0);
+    }
+    Question::Yes
+}
+
+// ---- the writing pass
+
+// A function's own header with its relocation, where it has one.
+fn front(
+    own: bool,
+    debug: bool,
+    m: Machine,
+    align: usize,
+    e: Extent,
+    t: Table,
+    rows: &[u64],
+    bytes: &mut [u8],
+    relocations: &mut [u64],
+) -> Table
+    requires { ⌜ FrontReady own debug m align e t (now rows) (now bytes) (now relocations) ⌝ }
+    ensures { λ r. ⌜ FrontStored own debug m align e t r (now (rows .entry)) (now (bytes .entry)) (now (bytes .exit)) (now (relocations .entry)) (now (relocations .exit)) ⌝ }
+{
+    if !own {
+        return t;
+    }
+    let at = header(bytes, t.bytes, debug, m, align, e, rows);
+    let i = header_relocs(relocations, t.relocations, debug, m, t.bytes, e);
+    Table {
+        bytes: at,
+        relocations: i,
+        sites: t.sites,
+    }
+}
+
+// A function's part behind t: its own header, where it has one, its record and its call sites.
+fn piece(
+    c: Chosen,
+    debug: bool,
+    m: Machine,
+    align: usize,
+    e: Extent,
+    t: Table,
+    rows: &[u64],
+    landings: &[u64],
+    pairs: &[u64],
+    bytes: &mut [u8],
+    relocations: &mut [u64],
+    sites: &mut [u8],
+) -> Table
+    requires { ⌜ PieceReady (c .own) debug m align (c .cie) e t (now rows) (now landings) (now pairs) (now bytes) (now relocations) (now sites) ⌝ }
+    ensures { λ r. ⌜ Stored (partIn (c .own) debug m align (t .bytes) (c .cie) (t .sites) e (now (rows .entry)) (now (landings .entry)) (now (pairs .entry))) t r (now (bytes .entry)) (now (bytes .exit)) (now (relocations .entry)) (now (relocations .exit)) (now (sites .entry)) (now (sites .exit)) ⌝ }
+{
+    let cie = c.cie;
+    let u = front(c.own, debug, m, align, e, t, rows, bytes, relocations);
+    let at = record(bytes, u.bytes, debug, m, align, cie, e, rows);
+    let table = t.sites + padding(4, t.sites);
+    let i = record_relocs(
+        relocations,
+        u.relocations,
+        debug,
+        m,
+        u.bytes,
+        cie,
+        table,
+        e,
+        rows,
+        pairs,
+    );
+    let end = call_sites(sites, t.sites, e, landings);
+    Table {
+        bytes: at,
+        relocations: i,
+        sites: end,
+    }
+}
+
+// The header of function k, behind `at` bytes: its own, or that of the first earlier function of its key.
+fn header_for(
+    s: Section,
+    m: Machine,
+    fs: &[u64],
+    rows: &[u64],
+    k: usize,
+    at: usize,
+    places: &[u64],
+) -> Chosen
+    requires { ⌜ MachineFits m × Listed (now fs) (now rows) (k + 1) × (k ≤ length (now places)) ⌝ }
+    ensures { λ r. ⌜ r ≡ chosenBy (owner s m (now (fs .entry)) (now (rows .entry)) k) k at (now (places .entry)) ⌝ }
+{
+    let o = choose(s, m, fs, rows, k);
+    if o == k {
+        return Chosen { own: true, cie: at };
+    }
+    Chosen {
+        own: false,
+        cie: places[o] as usize,
+    }
+}
+
+// Function k of n, behind t.
+fn part(
+    s: Section,
+    m: Machine,
+    fs: &[u64],
+    rows: &[u64],
+    landings: &[u64],
+    pairs: &[u64],
+    k: usize,
+    n: usize,
+    t: Table,
+    places: &mut [u64],
+    bytes: &mut [u8],
+    relocations: &mut [u64],
+    sites: &mut [u8],
+) -> Table
+    requires { ⌜ PartReady (inputs s m (now fs) (now rows) (now landings) (now pairs)) k n t (now places) (now bytes) (now relocations) (now sites) ⌝ }
+    ensures { λ r. ⌜ Added (inputs s m (now (fs .entry)) (now (rows .entry)) (now (landings .entry)) (now (pairs .entry))) k t r (now (places .entry)) (now (places .exit)) (now (bytes .entry)) (now (bytes .exit)) (now (relocations .entry)) (now (relocations .exit)) (now (sites .entry)) (now (sites .exit)) ⌝ }
+{
+    let e = taken(s, extent_at(fs, k));
+    let c = header_for(s, m, fs, rows, k, t.bytes, places);
+    let align = align_for(s, m.word, k + 1 == n);
+    places[k] = c.cie as u64;
+    piece(
+        c,
+        is_debug(s),
+        m,
+        align,
+        e,
+        t,
+        rows,
+        landings,
+        pairs,
+        bytes,
+        relocations,
+        sites,
+    )
+}
+
+// All functions.
+fn store(
+    s: Section,
+    m: Machine,
+    fs: &[u64],
+    rows: &[u64],
+    landings: &[u64],
+    pairs: &[u64],
+    places: &mut [u64],
+    bytes: &mut [u8],
+    relocations: &mut [u64],
+    sites: &mut [u8],
+) -> Table
+    requires { ⌜ Cleared (inputs s m (now fs) (now rows) (now landings) (now pairs)) × Holds (inputs s m (now fs) (now rows) (now landings) (now pairs)) (count functionStride (now fs)) (now places) (now bytes) (now relocations) (now sites) ⌝ }
+    ensures { λ r. ⌜ Written (inputs s m (now (fs .entry)) (now (rows .entry)) (now (landings .entry)) (now (pairs .entry))) (count functionStride (now (fs .entry))) r (now (places .entry)) (now (places .exit)) (now (bytes .entry)) (now (bytes .exit)) (now (relocations .entry)) (now (relocations .exit)) (now (sites .entry)) (now (sites .exit)) ⌝ }
+{
+    let n = fs.len() / 18;
+    let mut t = Table {
+        bytes: 0,
+        relocations: 0,
+        sites: 0,
+    };
+    let mut k = 0;
+    while k < n {
+        t = part(
+            s,
+            m,
+            fs,
+            rows,
+            landings,
+            pairs,
+            k,
+            n,
+            t,
+            places,
+            bytes,
+            relocations,
+            sites,
+        );
+        k += 1;
+    }
+    t
+}
+
+// ---- the whole
+
+// The functions sized and, where there is room, written.
+fn fitted(
+    s: Section,
+    m: Machine,
+    fs: &[u64],
+    rows: &[u64],
+    landings: &[u64],
+    pairs: &[u64],
+    places: &mut [u64],
+    bytes: &mut [u8],
+    relocations: &mut [u64],
+    sites: &mut [u8],
+) -> Outcome
+    requires { ⌜ Cleared (inputs s m (now fs) (now rows) (now landings) (now pairs)) ⌝ }
+    ensures { λ r. ⌜ Delivered (fitting (roomIn (now (places .entry)) (now (bytes .entry)) (now (relocations .entry)) (now (sites .entry))) (writtenIn (partsTo (inputs s m (now (fs .entry)) (now (rows .entry)) (now (landings .entry)) (now (pairs .entry))) (count functionStride (now (fs .entry)))))) r (now (places .entry)) (now (places .exit)) (now (bytes .entry)) (now (bytes .exit)) (now (relocations .entry)) (now (relocations .exit)) (now (sites .entry)) (now (sites .exit)) ⌝ }
+{
+    let n = fs.len() / 18;
+    let t = sizes(s, m, fs, rows, landings, pairs);
+    let lent = Table {
+        bytes: bytes.len(),
+        relocations: relocations.len(),
+        sites: sites.len(),
+    };
+    let q = room(n, t, places.len(), lent);
+    if let Question::No(number, position) = q {
+        return Outcome::Refused(number, position);
+    }
+    store(
+        s,
+        m,
+        fs,
+        rows,
+        landings,
+        pairs,
+        places,
+        bytes,
+        relocations,
+        sites,
+    );
+    Outcome::Accepted(Counts {
+        places: n as u64,
+        bytes: t.bytes as u64,
+        relocations: (t.relocations / 5) as u64,
+        sites: t.sites as u64,
+    })
+}
+
+// A DWARF section of functions: headers and records, their relocations, the call sites, and each function's header place. A
+// refusal writes nothing.
+pub fn dwarf(
+    s: Section,
+    machine: &[u64],
+    functions: &[u64],
+    rows: &[u64],
+    landings: &[u64],
+    pairs: &[u64],
+    places: &mut [u64],
+    bytes: &mut [u8],
+    relocations: &mut [u64],
+    sites: &mut [u8],
+) -> Outcome
+    ensures { λ r. ⌜ Delivered (dwarfGiven s (givenOf (now (machine .entry)) (now (functions .entry)) (now (rows .entry)) (now (landings .entry)) (now (pairs .entry))) (roomIn (now (places .entry)) (now (bytes .entry)) (now (relocations .entry)) (now (sites .entry)))) r (now (places .entry)) (now (places .exit)) (now (bytes .entry)) (now (bytes .exit)) (now (relocations .entry)) (now (relocations .exit)) (now (sites .entry)) (now (sites .exit)) ⌝ }
+{
+    if !machine_ok(machine) {
+        return Outcome::Refused(11, 0);
+    }
+    if !lists_ok(functions, rows, landings, pairs) {
+        return Outcome::Refused(13, 0);
+    }
+    let m = machine_of(machine);
+    let q = all_asks(s, m.word, functions, rows, pairs);
+    if let Question::No(number, position) = q {
+        return Outcome::Refused(number, position);
+    }
+    fitted(
+        s,
+        m,
+        functions,
+        rows,
+        landings,
+        pairs,
+        places,
+        bytes,
+        relocations,
+        sites,
+    )
+}
