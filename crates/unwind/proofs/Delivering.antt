@@ -13,8 +13,11 @@ use Rattle.format.specs.Questions.{Given, Answer, refused, empty, accepted, dwa
 use Rattle.format.specs.Answers.{Writes, outcomeOf, outcomeNumbers, afterwards}
 use Rattle.dwarf.specs.Delivered.{Delivered, givenOf, roomIn}
 use Rattle.unwind.specs.declared.Written as declared
-use Rattle.unwind.specs.Entries.{given, room, writtenNumbers, Exports}
-use Rattle.unwind.proofs.DebugSites.{any-sites}
+use Rattle.format.specs.Test.{pick}
+use mathlib.Core.Bool.{true, false}
+use Rattle.unwind.specs.Entries.{given, room, dwarfTable, writtenNumbers, Exports}
+use Rattle.unwind.specs.Together.{answerFor}
+use Rattle.unwind.proofs.DebugSites.{roomWith, any-sites, debug-any, debug-same}
 use Rattle.unwind.proofs.Formats.{debug-given, same-answer}
 
 pub writes : {a : Answer} {o : Outcome} {p p′ b b′ r r′ s s′ : List ℕ} → Delivered a o p p′ b b′ r r′ s s′ → Writes a o p p′ b b′ r r′ s s′
@@ -50,3 +53,23 @@ pub exports : {a : Answer} {o : Outcome} {n : declared.Written} {p p′ b b′ r
     → writtenNumbers n ≡ outcomeNumbers o → Writes a o p p′ b b′ r r′ s s′ → Exports a n p p′ b b′ r r′ s s′
 exports e w =
     record { numbers = e ∙ ap outcomeNumbers (w .outcome); placed = w .placed; stored = w .stored; related = w .related; sited = w .sited }
+
+-- debug_frame's writer beside a buffer for call sites, which stays as it is
+pub debug-beside : (format : ℕ) (g : Given) {o : Outcome} {p p′ b b′ r r′ : List ℕ} (s : List ℕ)
+    → Writes (relaxedDebugFrame format g (room p b r [])) o p p′ b b′ r r′ [] [] → Writes (answerFor true format g (room p b r s)) o p p′ b b′ r r′ s s
+unfolding answerFor pick room
+debug-beside format g {o} {p} {p′} {b} {b′} {r} {r′} s w =
+    let e = debug-any format g (length p) (length b) (length r) (length s) 0 in
+    same-answer e
+    (record {
+      outcome = w .outcome;
+      placed = w .placed;
+      stored = w .stored;
+      related = w .related;
+      sited = debug-same s format g (roomWith (length p) (length b) (length r) 0);
+    })
+
+pub eh-beside : (format : ℕ) (g : Given) {o : Outcome} {p p′ b b′ r r′ s s′ : List ℕ}
+    → Writes (dwarfTable format g (room p b r s)) o p p′ b b′ r r′ s s′ → Writes (answerFor false format g (room p b r s)) o p p′ b b′ r r′ s s′
+unfolding answerFor pick
+eh-beside format g w = w

@@ -4,12 +4,11 @@ ghost use Rattle.format.specs.Questions.{relaxedDebugFrame};
 ghost use Rattle.format.specs.RowCheck.{rowCheckAt};
 ghost use Rattle.format.specs.Reader.{read};
 ghost use mathlib.Core.List.{[], _∷_};
-ghost use lib.ListN.{getD};
 ghost use mir.Syntax.{w64};
 ghost use mir.Val.{ofZ};
 ghost use Rattle.format.specs.declared.Reading.the-variants.{Rules};
 ghost use Rattle.format.specs.Answers.{frameNumbers, ruleNumbers, readingNumbers, bit, outcomeNumbers, Writes};
-ghost use Rattle.unwind.specs.Entries.{given, room, dwarfTable, readNumbers, writtenNumbers, Exports, bytesIn, relocsIn};
+ghost use Rattle.unwind.specs.Entries.{given, room, dwarfTable, readNumbers, writtenNumbers, Exports};
 use format::Frame;
 use format::Outcome;
 use format::Reading;
@@ -126,39 +125,6 @@ pub fn read(
     ensures { λ r. ⌜ r ≡ read (now (section .entry)) (now (relocations .entry)) kind word k q p ⌝ }
 {
     reader::read(section, relocations, kind, word, k, q, p)
-}
-
-// ---- a writer and then the reader
-
-// How many bytes, and how many relocations, were written.
-fn bytes_in(o: Outcome) -> usize
-    ensures { λ r. ⌜ r ≡ bytesIn o ⌝ }
-{
-    match o {
-        Outcome::Accepted(c) => c.bytes as usize,
-        Outcome::Empty => 0,
-        Outcome::Refused(_, _) => 0,
-    }
-}
-
-fn relocs_in(o: Outcome) -> usize
-    ensures { λ r. ⌜ r ≡ relocsIn o ⌝ }
-{
-    match o {
-        Outcome::Accepted(c) => c.relocations as usize,
-        Outcome::Empty => 0,
-        Outcome::Refused(_, _) => 0,
-    }
-}
-
-// The machine's word, or 0 where there is no machine.
-fn word_in(machine: &[u64]) -> u64
-    ensures { λ r. ⌜ r ≡ getD (now (machine .entry)) 0 0 ⌝ }
-{
-    if machine.len() == 0 {
-        return 0;
-    }
-    machine[0]
 }
 
 // ---- the C interface
