@@ -9,7 +9,7 @@ ghost use mir.Syntax.{w64};
 ghost use mir.Val.{ofZ};
 ghost use Rattle.format.specs.declared.Reading.the-variants.{Rules};
 ghost use Rattle.format.specs.Answers.{frameNumbers, ruleNumbers, readingNumbers, bit, outcomeNumbers, Writes};
-ghost use Rattle.unwind.specs.Entries.{given, room, readNumbers, writtenNumbers, Exports, bytesIn, relocsIn};
+ghost use Rattle.unwind.specs.Entries.{given, room, dwarfTable, readNumbers, writtenNumbers, Exports, bytesIn, relocsIn};
 use format::Frame;
 use format::Outcome;
 use format::Reading;
@@ -17,6 +17,54 @@ use format::Rule;
 use format::Section;
 
 // ---- the writers
+
+// eh_frame of ELF (0) and Mach-O (2); an empty result of any other format and of an empty list. It refuses by document 01's numbers, and
+// then no buffer is changed; else the results stand at the buffers' fronts and the rest is as it was.
+pub fn dwarf_table(
+    machine: &[u64],
+    format: u64,
+    functions: &[u64],
+    rows: &[u64],
+    landings: &[u64],
+    pairs: &[u64],
+    places: &mut [u64],
+    bytes: &mut [u8],
+    relocations: &mut [u64],
+    sites: &mut [u8],
+) -> Outcome
+    ensures { λ r. ⌜ Writes (dwarfTable format (given (now (machine .entry)) (now (functions .entry)) (now (rows .entry)) (now (landings .entry)) (now (pairs .entry))) (room (now (places .entry)) (now (bytes .entry)) (now (relocations .entry)) (now (sites .entry)))) r (now (places .entry)) (now (places .exit)) (now (bytes .entry)) (now (bytes .exit)) (now (relocations .entry)) (now (relocations .exit)) (now (sites .entry)) (now (sites .exit)) ⌝ }
+{
+    if functions.len() / 18 == 0 {
+        return Outcome::Empty;
+    }
+    match format {
+        0 => dwarf::dwarf(
+            Section::Elf,
+            machine,
+            functions,
+            rows,
+            landings,
+            pairs,
+            places,
+            bytes,
+            relocations,
+            sites,
+        ),
+        2 => dwarf::dwarf(
+            Section::MachO,
+            machine,
+            functions,
+            rows,
+            landings,
+            pairs,
+            places,
+            bytes,
+            relocations,
+            sites,
+        ),
+        _ => Outcome::Empty,
+    }
+}
 
 // The same rows as a debugger's copy, debug_frame of ELF (0); an empty result of any other format and of an empty list. Landings and
 // personalities are not looked at but by question 13.
@@ -258,6 +306,35 @@ fn written_of(o: Outcome) -> Written
             sites: 0,
         },
     }
+}
+
+#[no_mangle]
+pub extern "C" fn unwind_dwarf_table(
+    machine: &[u64],
+    format: u64,
+    functions: &[u64],
+    rows: &[u64],
+    landings: &[u64],
+    pairs: &[u64],
+    places: &mut [u64],
+    bytes: &mut [u8],
+    relocations: &mut [u64],
+    sites: &mut [u8],
+) -> Written
+    ensures { λ r. ⌜ Exports (dwarfTable format (given (now (machine .entry)) (now (functions .entry)) (now (rows .entry)) (now (landings .entry)) (now (pairs .entry))) (room (now (places .entry)) (now (bytes .entry)) (now (relocations .entry)) (now (sites .entry)))) r (now (places .entry)) (now (places .exit)) (now (bytes .entry)) (now (bytes .exit)) (now (relocations .entry)) (now (relocations .exit)) (now (sites .entry)) (now (sites .exit)) ⌝ }
+{
+    written_of(dwarf_table(
+        machine,
+        format,
+        functions,
+        rows,
+        landings,
+        pairs,
+        places,
+        bytes,
+        relocations,
+        sites,
+    ))
 }
 
 #[no_mangle]
