@@ -1,0 +1,2 @@
+-- What the leaves of x64 codes answer.
+pub mod Codes
