@@ -1,0 +1,51 @@
+-- Rows that can be read: their offsets have 32 bits.
+use mathlib.Core.Path.{_≡_, subst}
+use Prim.Native.Nat.{ℕ, _+_, _-_, _*_, _^_, _≤_, _<_}
+use native.Mathlib.Omega.{arith}
+use mathlib.Core.Bool.{Bool, true, false}
+use mathlib.Core.List.{List}
+use lib.ListN.{length}
+use lib.Dec.{T, eqb}
+use lib.IntN.{ℤ, pos}
+use mir.Syntax.{w32}
+use mir.Val.{toZ}
+use mir.Facts.{sfits-toZ}
+use Rattle.format.specs.Test.{pick}
+use Rattle.format.specs.declared.Row.{Row}
+use Rattle.format.specs.Rows.{offsetOf}
+use Rattle.format.specs.Lists.{field, rowStride, rowOf, rowOk, rowOkAt, lineAt}
+use Rattle.format.proofs.ListLaws.{in-range}
+use Rattle.leading.specs.Functions.{RowsReady}
+use Rattle.rows.proofs.Lists.{row-small}
+use Rattle.prologue.specs.Pieces.{Short, Ready}
+
+-- of n rows from `at` on, those up to `end`
+pub ready : (rows : List ℕ) (at n end : ℕ) → RowsReady rows at n → end ≤ at + n → Ready rows at end
+ready rows at n end r h =
+    record {
+      inside = omega (arith, r .inside);
+      ok =
+          λ k l u.
+          let e : at + (k - at) ≡ k = omega arith in
+          subst (λ (i : ℕ). T (rowOkAt rows i)) e (in-range (rowOkAt rows) at n (k - at) (r .ok) (omega arith));
+    }
+
+one-short : (b : Bool) (x y : Row) → Short (offsetOf x) → Short (offsetOf y) → Short (offsetOf (pick b x y))
+unfolding pick
+one-short true x y h k = h
+one-short false x y h k = k
+
+row-short : (kind reg off : ℕ) → T (rowOk kind reg off) → Short (offsetOf (rowOf kind reg off))
+unfolding rowOf offsetOf
+row-short kind reg off t =
+    let h : Short (toZ w32 off) = sfits-toZ {w = w32} {n = off} (record { fits = row-small kind reg off t .2 }) .sfits in
+    let o : Short (pos 0) = omega arith in
+    one-short (eqb kind 0) _ _ h
+    (one-short (eqb kind 1) _ _ h
+    (one-short (eqb kind 2) _ _ o
+    (one-short (eqb kind 3) _ _ h
+    (one-short (eqb kind 4) _ _ o (one-short (eqb kind 5) _ _ o (one-short (eqb kind 6) _ _ o (one-short (eqb kind 7) _ _ o o)))))))
+
+pub line-short : (rows : List ℕ) (i : ℕ) → T (rowOkAt rows i) → Short (offsetOf (lineAt rows i .1))
+unfolding rowOkAt lineAt
+line-short rows i t = row-short (field rowStride rows i 1) (field rowStride rows i 2) (field rowStride rows i 3) t

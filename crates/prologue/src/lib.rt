@@ -1,0 +1,366 @@
+// From a function's rows to x64 codes: questions 31 to 34, and the codes one by one. Ported from rucc-asm/src/unwind.rs (prologue, machine) of tamnd/rucc, changed: see NOTICE.
+ghost use mathlib.Core.Path.{_≡_};
+ghost use mathlib.Core.Bool.{false, _&&_};
+ghost use Prim.Native.Nat.{_+_, _-_, _*_, _^_, _≤_, _<_};
+ghost use lib.ListN.{length};
+ghost use lib.Dec.{eqb};
+ghost use Rattle.format.specs.Lists.{rowStride, count, mostRecords, lineAt};
+ghost use Rattle.format.specs.Test.{each};
+ghost use Rattle.format.specs.Machine.{registerOf};
+ghost use Rattle.format.specs.Rows.{kindOf, offsetOf, sameOffset};
+ghost use Rattle.format.specs.X64.{low16, frame, beforeRemember};
+ghost use Rattle.format.specs.declared.Row.the-variants.{DefCfa, DefCfaOffset, DefCfaRegister, Offset};
+ghost use Rattle.format.proofs.Fits.{MachineFits};
+ghost use Rattle.leading.specs.Functions.{RowsReady};
+ghost use Rattle.prologue.specs.Groups.{foundOf, knows, joined, joins, third, refused, counted, stepped, added, loneIn, pushIn, lastIn, rowIn, walkFrom, start, numberOf};
+ghost use Rattle.prologue.specs.Pieces.{Short, Ready, Shaped};
+use format::Machine;
+use format::Row;
+use format::Seh;
+use rows::offset_at;
+use rows::row_at;
+
+// ---- registers
+
+// A register of the machine: its number, below 16, and whether it is a vector register; or none.
+pub enum Found {
+    Number(u64, bool),
+    Unknown,
+}
+
+fn wide(x: u8) -> u64
+    ensures { λ r. ⌜ (r ≡ x) × (r < 256) ⌝ }
+{
+    x as u64
+}
+
+// What register DWARF's number `reg` is. Question 34 is about those that are none.
+fn machine(m: Machine, reg: u64) -> Found
+    requires { ⌜ length (m .map) ≡ 64 ⌝ }
+    ensures { λ r. ⌜ r ≡ foundOf (low16 (registerOf m reg)) ⌝ }
+{
+    if 64 <= reg {
+        return Found::Unknown;
+    }
+    let n = wide(m.map[reg as usize]);
+    if n < 16 {
+        return Found::Number(n, false);
+    }
+    if n < 128 {
+        return Found::Unknown;
+    }
+    if n < 144 {
+        return Found::Number(n - 128, true);
+    }
+    Found::Unknown
+}
+
+// The machine has a number below 16 for it.
+fn knows(m: Machine, reg: u64) -> bool
+    requires { ⌜ length (m .map) ≡ 64 ⌝ }
+    ensures { λ r. ⌜ r ≡ knows m reg ⌝ }
+{
+    let Found::Number(_, _) = machine(m, reg) else {
+        return false;
+    };
+    true
+}
+
+// ---- the rows of one instruction
+
+// Row i is of the instruction of the row before it, where that is one of the function's rows, which start at `at`.
+fn joined(rows: &[u64], at: usize, i: usize) -> bool
+    requires { ⌜ 4 * i + 4 ≤ length (now rows) ⌝ }
+    ensures { λ r. ⌜ r ≡ joined (now (rows .entry)) at i ⌝ }
+{
+    if i <= at {
+        return false;
+    }
+    offset_at(rows, i - 1) == offset_at(rows, i)
+}
+
+// Row i + 1 is of the instruction of row i, where that is one of the prologue's rows, which stop at `end`.
+fn joins(rows: &[u64], i: usize, end: usize) -> bool
+    requires { ⌜ (4 * i + 4 ≤ length (now rows)) × (4 * end ≤ length (now rows)) ⌝ }
+    ensures { λ r. ⌜ r ≡ joins (now (rows .entry)) i end ⌝ }
+{
+    if end <= i + 1 {
+        return false;
+    }
+    offset_at(rows, i) == offset_at(rows, i + 1)
+}
+
+// Row i is of the instruction of the two rows before it.
+fn third(rows: &[u64], at: usize, i: usize) -> bool
+    requires { ⌜ 4 * i + 4 ≤ length (now rows) ⌝ }
+    ensures { λ r. ⌜ r ≡ third (now (rows .entry)) at i ⌝ }
+{
+    if !joined(rows, at, i) {
+        return false;
+    }
+    joined(rows, at, i - 1)
+}
+
+// ---- what is known so far
+
+// What is known of the rows so far: 0, or the number of the question that was answered by no; the distance of the frame address
+// above the stack pointer; no step (0), the push of the frame pointer (1) or anything else (2); and whether the machine has a
+// number below 16 for each register.
+struct Walk {
+    number: u64,
+    below: i64,
+    steps: u64,
+    named: bool,
+}
+
+fn refused(number: u64) -> Walk
+    ensures { λ r. ⌜ r ≡ refused number ⌝ }
+{
+    Walk {
+        number,
+        below: 0,
+        steps: 0,
+        named: false,
+    }
+}
+
+fn both(a: bool, b: bool) -> bool
+    ensures { λ r. ⌜ r ≡ a && b ⌝ }
+{
+    if a {
+        return b;
+    }
+    false
+}
+
+fn same(a: i64, b: i64) -> bool
+    ensures { λ r. ⌜ r ≡ sameOffset a b ⌝ }
+{
+    a == b
+}
+
+fn counted(before: u64, pushes: bool) -> u64
+    ensures { λ r. ⌜ r ≡ counted before pushes ⌝ }
+{
+    if before != 0 {
+        return 2;
+    }
+    if pushes {
+        return 1;
+    }
+    2
+}
+
+// One step more: it pushes the frame pointer, or not; the machine knows its register, or not.
+fn stepped(w: Walk, pushes: bool, knows: bool, below: i64) -> Walk
+    ensures { λ r. ⌜ r ≡ stepped w pushes knows below ⌝ }
+{
+    Walk {
+        number: 0,
+        below,
+        steps: counted(w.steps, pushes),
+        named: both(w.named, knows),
+    }
+}
+
+// ---- what an instruction did
+
+// The frame pointer is set to the stack pointer.
+fn framed(m: Machine, w: Walk) -> Walk
+    requires { ⌜ length (m .map) ≡ 64 ⌝ }
+    ensures { λ r. ⌜ r ≡ added m w frame (w .below) ⌝ }
+{
+    stepped(w, false, knows(m, m.frame), w.below)
+}
+
+// DefCfa alone: the frame pointer at the present distance, or a frame that is counted from another register (32).
+fn frame_set(m: Machine, reg: u64, z: i64, w: Walk) -> Walk
+    requires { ⌜ length (m .map) ≡ 64 ⌝ }
+    ensures { λ r. ⌜ r ≡ loneIn m false (DefCfa reg z) w ⌝ }
+{
+    if reg != m.frame {
+        return refused(32);
+    }
+    if !same(z, w.below) {
+        return refused(32);
+    }
+    framed(m, w)
+}
+
+// DefCfaRegister alone: the frame pointer, pushed by the only step before, and nothing behind it; else it is set before the frame
+// is taken (31).
+fn frame_early(m: Machine, last: bool, reg: u64, w: Walk) -> Walk
+    requires { ⌜ (length (m .map) ≡ 64) × (m .word ≡ 8) ⌝ }
+    ensures { λ r. ⌜ r ≡ loneIn m last (DefCfaRegister reg) w ⌝ }
+{
+    if reg != m.frame {
+        return refused(31);
+    }
+    if !last {
+        return refused(31);
+    }
+    if !same(w.below, (2 * m.word) as i64) {
+        return refused(31);
+    }
+    if w.steps != 1 {
+        return refused(31);
+    }
+    framed(m, w)
+}
+
+// DefCfaOffset, then Offset: a register that is put into the word by which the frame address moved, or no push (33).
+fn pushed(m: Machine, reg: u64, z: i64, y: i64, w: Walk) -> Walk
+    requires { ⌜ (length (m .map) ≡ 64) × (m .word ≡ 8) × Short z × Short (w .below) ⌝ }
+    ensures { λ r. ⌜ r ≡ pushIn m (DefCfaOffset z) (Offset reg y) w ⌝ }
+{
+    if !same(z - w.below, m.word as i64) {
+        return refused(33);
+    }
+    if !same(y, 0 - z) {
+        return refused(33);
+    }
+    stepped(w, reg == m.frame, knows(m, reg), z)
+}
+
+// An instruction of two rows.
+fn push_rows(m: Machine, a: Row, b: Row, w: Walk) -> Walk
+    requires { ⌜ (length (m .map) ≡ 64) × (m .word ≡ 8) × Short (offsetOf a) × Short (w .below) ⌝ }
+    ensures { λ r. ⌜ r ≡ pushIn m a b w ⌝ }
+{
+    let Row::DefCfaOffset(z) = a else {
+        return refused(33);
+    };
+    let Row::Offset(reg, y) = b else {
+        return refused(33);
+    };
+    pushed(m, reg as u64, z, y, w)
+}
+
+// An instruction of one row; it is the last of the prologue, or not.
+fn lone_row(m: Machine, last: bool, r: Row, w: Walk) -> Walk
+    requires { ⌜ (length (m .map) ≡ 64) × (m .word ≡ 8) ⌝ }
+    ensures { λ v. ⌜ v ≡ loneIn m last r w ⌝ }
+{
+    match r {
+        Row::DefCfa(reg, z) => frame_set(m, reg as u64, z, w),
+        Row::DefCfaOffset(z) => stepped(w, false, true, z),
+        Row::DefCfaRegister(reg) => frame_early(m, last, reg as u64, w),
+        Row::Offset(reg, _) => stepped(w, false, knows(m, reg as u64), w.below),
+        Row::Restore(_) => refused(33),
+        Row::Undefined(_) => refused(33),
+        Row::RememberState => refused(33),
+        Row::RestoreState => refused(33),
+        Row::NegateRaState => refused(33),
+    }
+}
+
+// ---- row by row
+
+// Row i of the rows from `at` to `end`, the last of its instruction's.
+fn read_last(m: Machine, rows: &[u64], at: usize, end: usize, i: usize, w: Walk) -> Walk
+    requires { ⌜ (length (m .map) ≡ 64) × (m .word ≡ 8) × Ready (now rows) at end × (at ≤ i) × (i < end) × Short (w .below) ⌝ }
+    ensures { λ r. ⌜ r ≡ lastIn m (now (rows .entry)) at end i w ⌝ }
+{
+    let r = row_at(rows, i);
+    if joined(rows, at, i) {
+        return push_rows(m, row_at(rows, i - 1), r, w);
+    }
+    lone_row(m, i + 1 == end, r, w)
+}
+
+// Row i: an instruction is read at its last row, and refused at its third.
+fn read_row(m: Machine, rows: &[u64], at: usize, end: usize, i: usize, w: Walk) -> Walk
+    requires { ⌜ (length (m .map) ≡ 64) × (m .word ≡ 8) × Ready (now rows) at end × (at ≤ i) × (i < end) × Short (w .below) ⌝ }
+    ensures { λ r. ⌜ r ≡ rowIn m (now (rows .entry)) at end i w ⌝ }
+{
+    if third(rows, at, i) {
+        return refused(33);
+    }
+    if joins(rows, i, end) {
+        return w;
+    }
+    read_last(m, rows, at, end, i, w)
+}
+
+// The rows from `at` to `end`, to the first no.
+fn read_rows(m: Machine, rows: &[u64], at: usize, end: usize) -> Walk
+    requires { ⌜ (length (m .map) ≡ 64) × (m .word ≡ 8) × (m .pushed < 2 ^ 31) × Ready (now rows) at end × (at ≤ end) ⌝ }
+    ensures { λ r. ⌜ (r ≡ walkFrom m (now (rows .entry)) at end at (end - at) (start m)) × Short (r .below) ⌝ }
+{
+    let mut w = Walk {
+        number: 0,
+        below: m.pushed as i64,
+        steps: 0,
+        named: true,
+    };
+    let mut i = at;
+    while i < end {
+        w = read_row(m, rows, at, end, i, w);
+        if w.number != 0 {
+            return w;
+        }
+        i += 1;
+    }
+    w
+}
+
+// ---- the prologue
+
+// Row i keeps the rules for the epilogues.
+fn remembers(rows: &[u64], i: usize) -> bool
+    requires { ⌜ 4 * i + 4 ≤ length (now rows) ⌝ }
+    ensures { λ r. ⌜ r ≡ eqb (kindOf (lineAt (now (rows .entry)) i .1)) 6 ⌝ }
+{
+    rows[4 * i + 1] == 6
+}
+
+// The index past the last row before the first RememberState, of the n rows from `at` on.
+fn before_remember(rows: &[u64], at: usize, n: usize) -> usize
+    requires { ⌜ at + n ≤ count rowStride (now rows) ⌝ }
+    ensures { λ r. ⌜ (at ≤ r) × (r ≤ at + n) × (beforeRemember (each (lineAt (now (rows .entry))) at n) ≡ each (lineAt (now (rows .entry))) at (r - at)) ⌝ }
+{
+    let end = at + n;
+    let mut i = at;
+    while i < end {
+        if remembers(rows, i) {
+            return i;
+        }
+        i += 1;
+    }
+    end
+}
+
+// Every question of the rows: those of the instructions, then 34.
+fn answer(w: Walk) -> u64
+    ensures { λ r. ⌜ r ≡ numberOf w ⌝ }
+{
+    if w.number != 0 {
+        return w.number;
+    }
+    if w.named {
+        return 0;
+    }
+    34
+}
+
+// What the rows of a function say: 0, or the number of the question that was answered by no; where it is 0, the distance of the
+// frame address above the stack pointer behind the prologue, and the index past the prologue's last row.
+pub struct Shape {
+    pub number: u64,
+    pub below: i64,
+    pub end: usize,
+}
+
+// A function's codes, from the n rows from `at` on.
+pub fn prologue(m: Machine, rows: &[u64], at: usize, n: usize) -> Shape
+    requires { ⌜ MachineFits m × (m .word ≡ 8) × (length (m .map) ≡ 64) × RowsReady (now rows) at n × (n ≤ mostRecords) ⌝ }
+    ensures { λ r. ⌜ Shaped m (now (rows .entry)) at n r ⌝ }
+{
+    let end = before_remember(rows, at, n);
+    let w = read_rows(m, rows, at, end);
+    Shape {
+        number: answer(w),
+        below: w.below,
+        end,
+    }
+}
