@@ -85,7 +85,7 @@ tag-kind RestoreState = refl
 tag-kind NegateRaState = refl
 
 -- a row that is of other kinds
-other-kind : (ks : List ℕ) (k : ℕ) (r : Row) → T (not (hasKey ks k)) → OneOf ks (tagOf the-type r) → kindOf r ≡ k → ⊥
+pub other-kind : (ks : List ℕ) (k : ℕ) (r : Row) → T (not (hasKey ks k)) → OneOf ks (tagOf the-type r) → kindOf r ≡ k → ⊥
 other-kind ks k r t h e = miss ks k t (rw (tag-kind r, e) at h)
 
 module _ (m : Machine) (a b : Row) (w : Walk) where

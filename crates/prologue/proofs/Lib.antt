@@ -9,3 +9,4 @@ pub mod Distances
 pub mod Frames
 pub mod Rows
 pub mod Turns
+pub mod Pieced

@@ -7,13 +7,16 @@ use lib.ListN.{length}
 use lib.Dec.{T, leb, eqb}
 use lib.IntN.{ℤ, pos, _-ℤ_}
 use lib.Signed.{mag}
-use Rattle.format.specs.Test.{pick, Result, good, bad, each}
+use Rattle.format.specs.Test.{pick, Result, good, bad, onward, each}
 use Rattle.format.specs.declared.Machine.{Machine}
+use Rattle.format.specs.Machine.{Register, registerOf}
 use Rattle.format.specs.declared.Row.{Row}
 use Rattle.format.specs.declared.Seh.{Seh}
 use Rattle.format.specs.Rows.{kindOf, regOf, offsetOf}
 use Rattle.format.specs.Lists.{Function, lineAt, rowOkAt}
-use Rattle.format.specs.X64.{Step, push, alloc, frame, save, codeFor, codesOf, endOf}
+use Rattle.format.specs.X64.{Step, push, alloc, frame, save, low16, codeFor, codesOf, endOf}
+use Rattle.prologue.specs.declared.Piece.{Piece}
+use Rattle.prologue.specs.declared.Piece.the-variants.{Nothing, Code}
 use Rattle.prologue.specs.declared.Shape.{Shape}
 use Rattle.prologue.specs.Groups.{joined, joins}
 
@@ -69,6 +72,15 @@ piecesFrom m below sofar rows at i end (suc n) = pieceIn m below sofar rows at i
 -- where the prologue of the rows from `at` to `end` ends
 unfoldable pub endIn : (rows : List ℕ) (at end : ℕ) → ℕ
 endIn rows at end = pick (leb end at) 0 (lineAt rows (end - 1) .0)
+
+-- what an answer of `piece` holds
+unfoldable pub pieceOf : Piece → List (ℕ × Seh)
+pieceOf Nothing = []
+pieceOf (Code off c) = (off, c) ∷ []
+
+-- a code that names a register
+unfoldable pub namedCode : Machine → (off reg : ℕ) → (Register → Seh) → List (ℕ × Seh)
+namedCode m off reg f = codeIn off (onward (low16 (registerOf m reg)) λ r. good (f r))
 
 -- ---- the prologue of n rows from `at` on
 

@@ -1,19 +1,22 @@
 // From a function's rows to x64 codes: questions 31 to 34, and the codes one by one. Ported from rucc-asm/src/unwind.rs (prologue, machine) of tamnd/rucc, changed: see NOTICE.
 ghost use mathlib.Core.Path.{_≡_};
 ghost use mathlib.Core.Bool.{false, _&&_};
+ghost use mathlib.Core.List.{[], _∷_};
 ghost use Prim.Native.Nat.{_+_, _-_, _*_, _^_, _≤_, _<_};
+ghost use lib.IntN.{pos, _+ℤ_, _-ℤ_};
 ghost use lib.ListN.{length};
-ghost use lib.Dec.{eqb};
-ghost use Rattle.format.specs.Lists.{rowStride, count, mostRecords, lineAt};
-ghost use Rattle.format.specs.Test.{each};
+ghost use lib.Dec.{T, eqb};
+ghost use Rattle.format.specs.Lists.{rowStride, count, mostRecords, lineAt, rowOkAt};
+ghost use Rattle.format.specs.Test.{pick, each};
 ghost use Rattle.format.specs.Machine.{registerOf};
 ghost use Rattle.format.specs.Rows.{kindOf, offsetOf, sameOffset};
 ghost use Rattle.format.specs.X64.{low16, frame, beforeRemember};
 ghost use Rattle.format.specs.declared.Row.the-variants.{DefCfa, DefCfaOffset, DefCfaRegister, Offset};
+ghost use Rattle.format.specs.declared.Seh.the-variants.{Push, Alloc, Frame, Save};
 ghost use Rattle.format.proofs.Fits.{MachineFits};
 ghost use Rattle.leading.specs.Functions.{RowsReady};
 ghost use Rattle.prologue.specs.Groups.{foundOf, knows, joined, joins, third, refused, counted, stepped, added, loneIn, pushIn, lastIn, rowIn, walkFrom, start, numberOf};
-ghost use Rattle.prologue.specs.Pieces.{Short, Ready, Shaped};
+ghost use Rattle.prologue.specs.Pieces.{Short, Ready, Shaped, pieceOf, namedCode, movedIn, pieceIn, endIn};
 use format::Machine;
 use format::Row;
 use format::Seh;
@@ -363,4 +366,107 @@ pub fn prologue(m: Machine, rows: &[u64], at: usize, n: usize) -> Shape
         below: w.below,
         end,
     }
+}
+
+// ---- the codes one by one
+
+// A code and the offset where its instruction ends, or none.
+pub enum Piece {
+    Nothing,
+    Code(u64, Seh),
+}
+
+fn push_code(m: Machine, off: u64, reg: u64) -> Piece
+    requires { ⌜ length (m .map) ≡ 64 ⌝ }
+    ensures { λ r. ⌜ pieceOf r ≡ namedCode m off reg (λ x. Push (x .number)) ⌝ }
+{
+    let Found::Number(n, _) = machine(m, reg) else {
+        return Piece::Nothing;
+    };
+    Piece::Code(off, Seh::Push(n))
+}
+
+fn frame_code(m: Machine, off: u64) -> Piece
+    requires { ⌜ length (m .map) ≡ 64 ⌝ }
+    ensures { λ r. ⌜ pieceOf r ≡ namedCode m off (m .frame) (λ x. Frame (x .number) (pos 0)) ⌝ }
+{
+    let Found::Number(n, _) = machine(m, m.frame) else {
+        return Piece::Nothing;
+    };
+    Piece::Code(off, Seh::Frame(n, 0))
+}
+
+fn save_code(m: Machine, off: u64, reg: u64, above: i64) -> Piece
+    requires { ⌜ length (m .map) ≡ 64 ⌝ }
+    ensures { λ r. ⌜ pieceOf r ≡ namedCode m off reg (λ x. Save (x .number) (x .vector) above) ⌝ }
+{
+    let Found::Number(n, vector) = machine(m, reg) else {
+        return Piece::Nothing;
+    };
+    Piece::Code(off, Seh::Save(n, vector, above))
+}
+
+// DefCfaOffset: an allocation, or the first row of a push.
+fn alloc_code(rows: &[u64], i: usize, end: usize, off: u64, sofar: i64, z: i64) -> Piece
+    requires { ⌜ (4 * i + 4 ≤ length (now rows)) × (4 * end ≤ length (now rows)) × Short sofar × Short z ⌝ }
+    ensures { λ r. ⌜ pieceOf r ≡ pick (joins (now (rows .entry)) i end) [] ((off, Alloc (z -ℤ sofar)) ∷ []) ⌝ }
+{
+    if joins(rows, i, end) {
+        return Piece::Nothing;
+    }
+    Piece::Code(off, Seh::Alloc(z - sofar))
+}
+
+// Offset: the second row of a push, or a save. A save counts from the stack pointer at the prologue's end.
+fn slot_code(m: Machine, rows: &[u64], at: usize, i: usize, off: u64, reg: u64, below: i64, z: i64) -> Piece
+    requires { ⌜ (length (m .map) ≡ 64) × (4 * i + 4 ≤ length (now rows)) × Short below × Short z ⌝ }
+    ensures { λ r. ⌜ pieceOf r ≡ pick (joined (now (rows .entry)) at i) (namedCode m off reg (λ x. Push (x .number))) (namedCode m off reg (λ x. Save (x .number) (x .vector) (below +ℤ z))) ⌝ }
+{
+    if joined(rows, at, i) {
+        return push_code(m, off, reg);
+    }
+    save_code(m, off, reg, below + z)
+}
+
+// Row i of a prologue's rows from `at` to `end`, with the distance `sofar` in front of it and `below` behind all of them: the
+// code of the instruction that it ends, or none.
+pub fn piece_at(m: Machine, below: i64, sofar: i64, rows: &[u64], at: usize, i: usize, end: usize) -> Piece
+    requires { ⌜ (length (m .map) ≡ 64) × Ready (now rows) at end × (at ≤ i) × (i < end) × Short below × Short sofar ⌝ }
+    ensures { λ r. ⌜ pieceOf r ≡ pieceIn m below sofar (now (rows .entry)) at i end ⌝ }
+{
+    let off = offset_at(rows, i);
+    let r = row_at(rows, i);
+    match r {
+        Row::DefCfa(_, _) => frame_code(m, off),
+        Row::DefCfaOffset(z) => alloc_code(rows, i, end, off, sofar, z),
+        Row::DefCfaRegister(_) => frame_code(m, off),
+        Row::Offset(reg, z) => slot_code(m, rows, at, i, off, reg as u64, below, z),
+        Row::Restore(_) => Piece::Nothing,
+        Row::Undefined(_) => Piece::Nothing,
+        Row::RememberState => Piece::Nothing,
+        Row::RestoreState => Piece::Nothing,
+        Row::NegateRaState => Piece::Nothing,
+    }
+}
+
+// The distance behind row i.
+pub fn moved(sofar: i64, rows: &[u64], i: usize) -> i64
+    requires { ⌜ (4 * i + 4 ≤ length (now rows)) × T (rowOkAt (now rows) i) ⌝ }
+    ensures { λ r. ⌜ r ≡ movedIn sofar (now (rows .entry)) i ⌝ }
+{
+    let Row::DefCfaOffset(z) = row_at(rows, i) else {
+        return sofar;
+    };
+    z
+}
+
+// Where the prologue of the rows from `at` to `end` ends: at the last one's offset, which is the last code's.
+pub fn prologue_end(rows: &[u64], at: usize, end: usize) -> u64
+    requires { ⌜ 4 * end ≤ length (now rows) ⌝ }
+    ensures { λ r. ⌜ r ≡ endIn (now (rows .entry)) at end ⌝ }
+{
+    if end <= at {
+        return 0;
+    }
+    offset_at(rows, end - 1)
 }
