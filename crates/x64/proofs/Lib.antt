@@ -1,3 +1,5 @@
 -- The lemmas of this crate's functions.
 pub mod Stored
 pub mod Walks
+pub mod Leaves
+pub mod Asked

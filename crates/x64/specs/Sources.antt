@@ -69,18 +69,23 @@ pub record Found (s : Source) (fs list : List ℕ) (k : ℕ) (p : Span) : Type 0
   pub readable : Readable s list p
   pub said : resultAt s fs list k ≡ pick (eqb (p .number) 0) (good (meantBy s list p)) (bad (p .number))
 
--- the first n functions of the lists can be read
-pub record Listed (s : Source) (fs list : List ℕ) (n : ℕ) : Type 0 where
-  pub within : strideOf s * n ≤ length fs
-  pub most : n ≤ mostFunctions
-  pub symbols : (k : ℕ) → k < n → field (strideOf s) fs k 0 < 2 ^ 32
+-- function k of the lists can be read
+pub record Askable (s : Source) (fs list : List ℕ) (k : ℕ) : Type 0 where
+  pub within : strideOf s * k + strideOf s ≤ length fs
+  pub symbol : field (strideOf s) fs k 0 < 2 ^ 32
   pub pushed : s .machine .pushed < 2 ^ 31
   pub map : length (s .machine .map) ≡ 64
-  pub codes : s .direct ≡ true → (k : ℕ) → k < n
+  pub codes : s .direct ≡ true
       → (field prologueStride fs k 3 + field prologueStride fs k 4 ≤ count codeStride list) × (field prologueStride fs k 4 ≤ mostRecords)
-  pub rows : s .direct ≡ false → (k : ℕ) → k < n
+  pub rows : s .direct ≡ false
       → RowsReady list (field functionStride fs k 2) (field functionStride fs k 3) × (field functionStride fs k 3 ≤ mostRecords)
   pub machine : s .direct ≡ false → MachineFits (s .machine) × (s .machine .word ≡ 8)
+
+-- and the first n
+pub record Listed (s : Source) (fs list : List ℕ) (n : ℕ) : Type 0 where
+  pub most : n ≤ mostFunctions
+  pub whole : strideOf s * n ≤ length fs
+  pub each-one : (k : ℕ) → k < n → Askable s fs list k
 
 -- ---- the questions of a function
 
@@ -110,3 +115,8 @@ orNone (bad n) = record { symbol = 0; size = 0; end = 0; codes = [] }
 
 abbrev pub foundAt : Source → (fs list : List ℕ) → ℕ → Prologue
 foundAt s fs list k = orNone (resultAt s fs list k)
+
+-- every question of the first n functions is answered by yes
+pub record Sure (s : Source) (fs list : List ℕ) (n : ℕ) : Type 0 where
+  pub listed : Listed s fs list n
+  pub agreed : (k : ℕ) → k < n → codesNo (resultAt s fs list k) ≡ none

@@ -1,16 +1,33 @@
 // Windows x64 unwind data, from direct codes and from rows. Ported from rucc-asm/src/unwind.rs (windows, seh, describe) of tamnd/rucc, changed: see NOTICE.
 ghost use mathlib.Core.Path.{_≡_};
 ghost use Prim.Native.Nat.{ℕ, _+_, _*_, _^_, _≤_, _<_};
+ghost use mathlib.Core.Option.{none};
+ghost use lib.IntN.{pos};
 ghost use lib.ListN.{length};
 ghost use Rattle.format.specs.Test.{each};
 ghost use Rattle.format.specs.Put.{Wrote};
 ghost use Rattle.format.specs.Lists.{field, numbersOf, mostFunctions};
 ghost use Rattle.format.specs.Answers.{questionOf};
-ghost use Rattle.format.specs.X64.{runtimeRelocs, runtimeFrom};
+ghost use Rattle.format.specs.X64.{runtimeRelocs, runtimeFrom, codeNo, firstNo, slots, frameByte, reversed};
+ghost use Rattle.codes.specs.Codes.{Holds, numberOf, frameAsk};
+ghost use Rattle.prologue.specs.Pieces.{Short, pieceOf};
+ghost use Rattle.x64.specs.Sources.{Readable, pieceAt, movedAt, codesIn};
 ghost use Rattle.x64.specs.Answers.{named, namedAt, roomFor};
+use codes::Code;
+use codes::code_no;
+use codes::frame_no;
+use codes::frame_or;
+use codes::nodes;
+use codes::nodes_size;
+use codes::put_nodes;
 use format::Counts;
 use format::Machine;
 use format::Question;
+use lists::code_at;
+use lists::code_offset_at;
+use prologue::Piece;
+use prologue::moved;
+use prologue::piece_at;
 use relocs::relocation;
 
 // ---- RUNTIME_FUNCTION
@@ -88,4 +105,182 @@ struct Span {
     first: usize,
     past: usize,
     below: i64,
+}
+
+// What record i of a function yields, with the distance `sofar` in front of it.
+fn piece_in(s: Source, list: &[u64], p: Span, sofar: i64, i: usize) -> Piece
+    requires { ⌜ Readable s (now list) p × (p .first ≤ i) × (i < p .past) × Short sofar ⌝ }
+    ensures { λ r. ⌜ pieceOf r ≡ pieceAt s (now (list .entry)) p sofar i ⌝ }
+{
+    if s.direct {
+        return Piece::Code(code_offset_at(list, i), code_at(list, i));
+    }
+    let m = s.machine;
+    piece_at(m, p.below, sofar, list, p.first, i, p.past)
+}
+
+// The distance in front of the first record, and behind record i.
+fn start(s: Source) -> i64
+    requires { ⌜ s .machine .pushed < 2 ^ 31 ⌝ }
+    ensures { λ r. ⌜ r ≡ pos (s .machine .pushed) ⌝ }
+{
+    let m = s.machine;
+    m.pushed as i64
+}
+
+fn moved_in(s: Source, list: &[u64], p: Span, sofar: i64, i: usize) -> i64
+    requires { ⌜ Readable s (now list) p × (p .first ≤ i) × (i < p .past) × Short sofar ⌝ }
+    ensures { λ r. ⌜ (r ≡ movedAt s (now (list .entry)) sofar i) × Short r ⌝ }
+{
+    if s.direct {
+        return sofar;
+    }
+    moved(sofar, list, i)
+}
+
+// ---- what a loop takes from a piece
+
+// 34 to 39.
+fn piece_no(c: Piece) -> u64
+    ensures { λ r. ⌜ r ≡ numberOf (firstNo codeNo (pieceOf c)) ⌝ }
+{
+    match c {
+        Piece::Nothing => 0,
+        Piece::Code(at, code) => code_no(at, code),
+    }
+}
+
+// 41.
+fn piece_frame_no(c: Piece) -> u64
+    ensures { λ r. ⌜ r ≡ numberOf (firstNo frameAsk (pieceOf c)) ⌝ }
+{
+    match c {
+        Piece::Nothing => 0,
+        Piece::Code(_, code) => frame_no(code),
+    }
+}
+
+fn piece_slots(c: Piece) -> usize
+    ensures { λ r. ⌜ r ≡ slots (pieceOf c) ⌝ }
+{
+    match c {
+        Piece::Nothing => 0,
+        Piece::Code(at, code) => nodes_size(at, code) / 2,
+    }
+}
+
+fn piece_frame(b: u8, c: Piece) -> u8
+    requires { ⌜ (firstNo codeNo (pieceOf c) ≡ none) × (firstNo frameAsk (pieceOf c) ≡ none) ⌝ }
+    ensures { λ r. ⌜ r ≡ frameByte b (pieceOf c) ⌝ }
+{
+    match c {
+        Piece::Nothing => b,
+        Piece::Code(_, code) => frame_or(b, code),
+    }
+}
+
+fn piece_nodes(c: Piece) -> Code
+    requires { ⌜ firstNo codeNo (pieceOf c) ≡ none ⌝ }
+    ensures { λ r. ⌜ Holds r (reversed (pieceOf c)) ⌝ }
+{
+    match c {
+        Piece::Nothing => Code {
+            bytes: [0, 0, 0, 0, 0, 0],
+            count: 0,
+        },
+        Piece::Code(at, code) => nodes(at, code),
+    }
+}
+
+// ---- the codes of a function
+
+// The first no of 34 to 39.
+fn codes_no(s: Source, list: &[u64], p: Span) -> u64
+    requires { ⌜ Readable s (now list) p ⌝ }
+    ensures { λ r. ⌜ r ≡ numberOf (firstNo codeNo (codesIn s (now (list .entry)) p)) ⌝ }
+{
+    let past = p.past;
+    let mut sofar = start(s);
+    let mut i = p.first;
+    while i < past {
+        let k = piece_no(piece_in(s, list, p, sofar, i));
+        if k != 0 {
+            return k;
+        }
+        sofar = moved_in(s, list, p, sofar, i);
+        i += 1;
+    }
+    0
+}
+
+// How many slots of two bytes the codes have.
+fn slots(s: Source, list: &[u64], p: Span) -> usize
+    requires { ⌜ Readable s (now list) p ⌝ }
+    ensures { λ r. ⌜ r ≡ slots (codesIn s (now (list .entry)) p) ⌝ }
+{
+    let past = p.past;
+    let mut sum = 0;
+    let mut sofar = start(s);
+    let mut i = p.first;
+    while i < past {
+        sum += piece_slots(piece_in(s, list, p, sofar, i));
+        sofar = moved_in(s, list, p, sofar, i);
+        i += 1;
+    }
+    sum
+}
+
+// 41 of the codes.
+fn frames_no(s: Source, list: &[u64], p: Span) -> u64
+    requires { ⌜ Readable s (now list) p ⌝ }
+    ensures { λ r. ⌜ r ≡ numberOf (firstNo frameAsk (codesIn s (now (list .entry)) p)) ⌝ }
+{
+    let past = p.past;
+    let mut sofar = start(s);
+    let mut i = p.first;
+    while i < past {
+        let k = piece_frame_no(piece_in(s, list, p, sofar, i));
+        if k != 0 {
+            return k;
+        }
+        sofar = moved_in(s, list, p, sofar, i);
+        i += 1;
+    }
+    0
+}
+
+// The header's byte of the frame register.
+fn frame_byte(s: Source, list: &[u64], p: Span) -> u8
+    requires { ⌜ Readable s (now list) p × (firstNo codeNo (codesIn s (now list) p) ≡ none) × (firstNo frameAsk (codesIn s (now list) p) ≡ none) ⌝ }
+    ensures { λ r. ⌜ r ≡ frameByte 0 (codesIn s (now (list .entry)) p) ⌝ }
+{
+    let past = p.past;
+    let mut b = 0;
+    let mut sofar = start(s);
+    let mut i = p.first;
+    while i < past {
+        b = piece_frame(b, piece_in(s, list, p, sofar, i));
+        sofar = moved_in(s, list, p, sofar, i);
+        i += 1;
+    }
+    b
+}
+
+// The codes in reverse: the first stands last, `held` slots up from `at`, and each other one before it.
+fn put_codes(out: &mut [u8], at: usize, held: usize, s: Source, list: &[u64], p: Span) -> usize
+    requires { ⌜ Readable s (now list) p × (firstNo codeNo (codesIn s (now list) p) ≡ none) × (held ≡ slots (codesIn s (now list) p)) × (at + 2 * held ≤ length (now out)) ⌝ }
+    ensures { λ r. ⌜ Wrote (now (out .entry)) (now (out .exit)) at r (reversed (codesIn s (now (list .entry)) p)) ⌝ }
+{
+    let past = p.past;
+    let mut to = at + 2 * held;
+    let mut sofar = start(s);
+    let mut i = p.first;
+    while i < past {
+        let c = piece_nodes(piece_in(s, list, p, sofar, i));
+        to -= c.count;
+        put_nodes(out, to, c);
+        sofar = moved_in(s, list, p, sofar, i);
+        i += 1;
+    }
+    at + 2 * held
 }
