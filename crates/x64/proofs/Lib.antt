@@ -3,3 +3,5 @@ pub mod Stored
 pub mod Walks
 pub mod Leaves
 pub mod Asked
+pub mod Infos
+pub mod Spans

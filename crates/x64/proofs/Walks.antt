@@ -8,6 +8,8 @@ use mathlib.Core.List.{List, [], _∷_, _++_, append-nil, append-assoc}
 use lib.ListN.{length, take, set, length-append}
 use lib.Seq.{set-comm}
 use lib.IntN.{ℤ, pos}
+use mir.Syntax.{w64}
+use mir.Val.{toZ, ofZ}
 use native.Mathlib.Nat.{add-zero}
 use Rattle.format.specs.Put.{put, Wrote}
 use Rattle.format.specs.declared.Seh.{Seh}
@@ -18,6 +20,7 @@ use Rattle.codes.specs.Codes.{numberOf, frameAsk, Holds}
 use Rattle.codes.proofs.Numbers.{Told, none-of, some-of, told-first}
 use Rattle.codes.proofs.Sizes.{reversed-length}
 use Rattle.prologue.specs.Pieces.{Short}
+use Rattle.prologue.proofs.Distances.{short-passed}
 use Rattle.x64.specs.declared.Source.{Source}
 use Rattle.x64.specs.declared.Span.{Span}
 use Rattle.x64.specs.Sources.{pieceAt, movedAt, codesFrom, codesIn, Readable}
@@ -35,8 +38,10 @@ pub record Going (P : List (ℕ × Seh) → Type 0) (s : Source) (list : List �
   pub here : P (codesFrom s list p sofar i (p .past - i))
 
 module _ {s : Source} {list : List ℕ} {p : Span} where
-  pub start : {P : List (ℕ × Seh) → Type 0} {z : ℤ} → Readable s list p → z ≡ pos (s .machine .pushed) → P (codesIn s list p) → Going P s list p z (p .first)
-  start r e h = record { low = omega arith; high = r .order; short = rw e (r .pushed); here = rw e h }
+  pub start : {P : List (ℕ × Seh) → Type 0} {z : ℤ} → Readable s list p → z ≡ pos (s .machine .pushed) → P (codesIn s list p) → Going P s list p (toZ w64 (ofZ w64 z)) (p .first)
+  start {P} {z} r e h =
+      let k : Short z = rw e (r .pushed) in
+      rw (short-passed z k) (record { low = omega arith; high = r .order; short = k; here = rw e h })
 
   module _ {P : List (ℕ × Seh) → Type 0} {sofar : ℤ} {i : ℕ} (g : Going P s list p sofar i) where
     module _ {ps : List (ℕ × Seh)} (h : i < p .past) (e : ps ≡ pieceAt s list p sofar i) where
@@ -49,8 +54,9 @@ module _ {s : Source} {list : List ℕ} {p : Span} where
       -- a step that leads from what is known in front of a record to what is known behind it
       pub turn : {Q : List (ℕ × Seh) → Type 0} {z : ℤ} → z ≡ movedAt s list sofar i → Short z
           → (Front P ps (codesFrom s list p (movedAt s list sofar i) (i + 1) (p .past - (i + 1))) → Q (codesFrom s list p (movedAt s list sofar i) (i + 1) (p .past - (i + 1))))
-          → Going Q s list p z (i + 1)
-      turn m k step = record { low = omega (arith, g .low); high = omega arith; short = k; here = rw m (step taken) }
+          → Going Q s list p (toZ w64 (ofZ w64 z)) (i + 1)
+      turn {Q} {z} m k step =
+          rw (short-passed z k) (record { low = omega (arith, g .low); high = omega arith; short = k; here = rw m (step taken) })
 
     pub ended : p .past ≤ i → P []
     unfolding codesFrom

@@ -14,7 +14,7 @@ use Rattle.format.specs.Lists.{Function, Prologue, field, functionStride, prolo
 use Rattle.format.specs.X64.{codesOf, prologueOf, prologueNo}
 use Rattle.format.proofs.Fits.{MachineFits}
 use Rattle.leading.specs.Functions.{RowsReady}
-use Rattle.prologue.specs.Pieces.{Short, Ready, pieceIn, movedIn}
+use Rattle.prologue.specs.Pieces.{Short, Ready, pieceIn, movedIn, endIn, Shaped}
 use Rattle.x64.specs.declared.Source.{Source}
 use Rattle.x64.specs.declared.Span.{Span}
 
@@ -60,6 +60,20 @@ byRows m f = onward (codesOf m f) λ cs. good (prologueOf f cs)
 -- function k's prologue
 unfoldable pub resultAt : Source → (fs list : List ℕ) → ℕ → Result Prologue
 resultAt s fs list k = pick (s .direct) (good (prologueAt fs list k)) (byRows (s .machine) (functionAt fs list [] [] k))
+
+-- function k of direct codes
+abbrev pub directSpan : (fs : List ℕ) → ℕ → Span
+directSpan fs k =
+    let f : ℕ → ℕ = λ j. field prologueStride fs k j in
+    record { number = 0; symbol = f 0; length = f 1; end = f 2; first = f 3; past = f 3 + f 4; below = pos 0 }
+
+-- function k by its rows
+pub record RowsSpan (m : Machine) (fs rows : List ℕ) (k : ℕ) (p : Span) : Type 0 where
+  pub symbol : p .symbol ≡ field functionStride fs k 0
+  pub size : p .length ≡ field functionStride fs k 1
+  pub first : p .first ≡ field functionStride fs k 2
+  pub end : p .end ≡ endIn rows (p .first) (p .past)
+  pub shaped : Shaped m rows (field functionStride fs k 2) (field functionStride fs k 3) (record { number = p .number; below = p .below; end = p .past })
 
 unfoldable pub strideOf : Source → ℕ
 strideOf s = pick (s .direct) prologueStride functionStride

@@ -6,28 +6,36 @@ ghost use lib.IntN.{pos};
 ghost use lib.ListN.{length};
 ghost use Rattle.format.specs.Test.{each};
 ghost use Rattle.format.specs.Put.{Wrote};
-ghost use Rattle.format.specs.Lists.{field, numbersOf, mostFunctions};
+ghost use Rattle.format.specs.Lists.{field, numbersOf, functionStride, prologueStride, mostFunctions, mostRecords};
 ghost use Rattle.format.specs.Answers.{questionOf};
-ghost use Rattle.format.specs.X64.{runtimeRelocs, runtimeFrom, codeNo, firstNo, slots, frameByte, reversed};
+ghost use Rattle.format.specs.X64.{runtimeRelocs, runtimeFrom, codeNo, firstNo, slots, prologueNo, frameByte, reversed, infoBytes};
+ghost use Rattle.format.proofs.Fits.{MachineFits};
+ghost use Rattle.leading.specs.Functions.{RowsReady};
 ghost use Rattle.codes.specs.Codes.{Holds, numberOf, frameAsk};
 ghost use Rattle.prologue.specs.Pieces.{Short, pieceOf};
-ghost use Rattle.x64.specs.Sources.{Readable, pieceAt, movedAt, codesIn};
-ghost use Rattle.x64.specs.Answers.{named, namedAt, roomFor};
+ghost use Rattle.x64.specs.Sources.{Readable, pieceAt, movedAt, codesIn, directSpan, RowsSpan, Askable, Found, Listed, strideOf, longNo, passNo};
+ghost use Rattle.x64.specs.Answers.{named, namedAt, roomFor, saidBy, askEach};
 use codes::Code;
 use codes::code_no;
 use codes::frame_no;
 use codes::frame_or;
+use codes::head;
 use codes::nodes;
 use codes::nodes_size;
 use codes::put_nodes;
 use format::Counts;
 use format::Machine;
 use format::Question;
+use leb::fill;
 use lists::code_at;
 use lists::code_offset_at;
+use lists::extent_at;
+use lists::prologue_at;
 use prologue::Piece;
 use prologue::moved;
 use prologue::piece_at;
+use prologue::prologue;
+use prologue::prologue_end;
 use relocs::relocation;
 
 // ---- RUNTIME_FUNCTION
@@ -276,11 +284,158 @@ fn put_codes(out: &mut [u8], at: usize, held: usize, s: Source, list: &[u64], p:
     let mut sofar = start(s);
     let mut i = p.first;
     while i < past {
-        let c = piece_nodes(piece_in(s, list, p, sofar, i));
+        let j = i;
+        i += 1;
+        let c = piece_nodes(piece_in(s, list, p, sofar, j));
         to -= c.count;
         put_nodes(out, to, c);
-        sofar = moved_in(s, list, p, sofar, i);
-        i += 1;
+        sofar = moved_in(s, list, p, sofar, j);
     }
     at + 2 * held
+}
+
+// The questions of a function's codes: 34 to 39 of each, 35 of the prologue's end, 40, and 41 of each.
+fn prologue_no(s: Source, list: &[u64], p: Span) -> u64
+    requires { ⌜ Readable s (now list) p ⌝ }
+    ensures { λ r. ⌜ r ≡ numberOf (prologueNo (p .end) (codesIn s (now (list .entry)) p)) ⌝ }
+{
+    let k = codes_no(s, list, p);
+    if k != 0 {
+        return k;
+    }
+    if 255 < p.end {
+        return 35;
+    }
+    if 255 < slots(s, list, p) {
+        return 40;
+    }
+    frames_no(s, list, p)
+}
+
+// ---- UNWIND_INFO
+
+// How many bytes the record of a function's codes has.
+fn info_size(s: Source, list: &[u64], p: Span) -> usize
+    requires { ⌜ Readable s (now list) p × (prologueNo (p .end) (codesIn s (now list) p) ≡ none) ⌝ }
+    ensures { λ r. ⌜ r ≡ length (infoBytes (p .end) (codesIn s (now (list .entry)) p)) ⌝ }
+{
+    let held = slots(s, list, p);
+    4 + 2 * held + 2 * (held % 2)
+}
+
+// The record of a function's codes.
+fn describe(out: &mut [u8], at: usize, s: Source, list: &[u64], p: Span) -> usize
+    requires { ⌜ Readable s (now list) p × (prologueNo (p .end) (codesIn s (now list) p) ≡ none) × (at + length (infoBytes (p .end) (codesIn s (now list) p)) ≤ length (now out)) ⌝ }
+    ensures { λ r. ⌜ Wrote (now (out .entry)) (now (out .exit)) at r (infoBytes (p .end) (codesIn s (now (list .entry)) p)) ⌝ }
+{
+    let held = slots(s, list, p);
+    let frame = frame_byte(s, list, p);
+    let a = head(out, at, p.end as u8, held as u8, frame);
+    let b = put_codes(out, a, held, s, list, p);
+    fill(out, b, 2 * (held % 2))
+}
+
+// ---- functions
+
+// Function k of direct codes.
+fn direct_span(fs: &[u64], k: usize) -> Span
+    requires { ⌜ (5 * k + 5 ≤ length (now fs)) × (field prologueStride (now fs) k 3 + field prologueStride (now fs) k 4 < 2 ^ 64) ⌝ }
+    ensures { λ r. ⌜ r ≡ directSpan (now (fs .entry)) k ⌝ }
+{
+    let p = prologue_at(fs, k);
+    Span {
+        number: 0,
+        symbol: p.symbol,
+        length: p.length,
+        end: p.end,
+        first: p.codes_at,
+        past: p.codes_at + p.codes,
+        below: 0,
+    }
+}
+
+// Function k by its rows.
+fn rows_span(m: Machine, fs: &[u64], rows: &[u64], k: usize) -> Span
+    requires { ⌜ (18 * k + 18 ≤ length (now fs)) × MachineFits m × (m .word ≡ 8) × (length (m .map) ≡ 64) × RowsReady (now rows) (field functionStride (now fs) k 2) (field functionStride (now fs) k 3) × (field functionStride (now fs) k 3 ≤ mostRecords) ⌝ }
+    ensures { λ r. ⌜ RowsSpan m (now (fs .entry)) (now (rows .entry)) k r ⌝ }
+{
+    let e = extent_at(fs, k);
+    let r = prologue(m, rows, e.rows_at, e.rows);
+    Span {
+        number: r.number,
+        symbol: e.symbol,
+        length: e.length,
+        end: prologue_end(rows, e.rows_at, r.end),
+        first: e.rows_at,
+        past: r.end,
+        below: r.below,
+    }
+}
+
+// Function k.
+fn span_at(s: Source, fs: &[u64], list: &[u64], k: usize) -> Span
+    requires { ⌜ Askable s (now fs) (now list) k ⌝ }
+    ensures { λ r. ⌜ Found s (now (fs .entry)) (now (list .entry)) k r ⌝ }
+{
+    if s.direct {
+        return direct_span(fs, k);
+    }
+    let m = s.machine;
+    rows_span(m, fs, list, k)
+}
+
+// How many numbers the record of a function has.
+fn stride(s: Source) -> usize
+    ensures { λ r. ⌜ r ≡ strideOf s ⌝ }
+{
+    if s.direct {
+        return 5;
+    }
+    18
+}
+
+// ---- the questions of all functions
+
+// 21.
+fn long_no(size: u64) -> u64
+    ensures { λ r. ⌜ longNo size ≡ saidBy r ⌝ }
+{
+    if size < 4294967296 {
+        return 0;
+    }
+    21
+}
+
+// The questions of function k in a pass: 0 its length, 1 its rows, 2 its codes.
+fn pass_no(pass: u64, s: Source, fs: &[u64], list: &[u64], k: usize) -> u64
+    requires { ⌜ Askable s (now fs) (now list) k ⌝ }
+    ensures { λ r. ⌜ passNo pass s (now (fs .entry)) (now (list .entry)) k ≡ saidBy r ⌝ }
+{
+    if pass == 0 {
+        return long_no(number_at(fs, stride(s), k, 1));
+    }
+    let p = span_at(s, fs, list, k);
+    if p.number != 0 {
+        return p.number;
+    }
+    if pass == 1 {
+        return 0;
+    }
+    prologue_no(s, list, p)
+}
+
+// A pass over n functions.
+fn first_no(pass: u64, s: Source, fs: &[u64], list: &[u64], n: usize) -> Question
+    requires { ⌜ Listed s (now fs) (now list) n ⌝ }
+    ensures { λ r. ⌜ r ≡ questionOf (askEach (passNo pass s (now (fs .entry)) (now (list .entry))) 0 n) ⌝ }
+{
+    let mut k = 0;
+    while k < n {
+        let r = pass_no(pass, s, fs, list, k);
+        if r != 0 {
+            return Question::No(r, k as u64);
+        }
+        k += 1;
+    }
+    Question::Yes
 }

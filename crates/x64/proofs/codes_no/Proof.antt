@@ -1,57 +1,52 @@
+-- `x64::codes_no` meets its contract.
+use mir.Val.{toZ}
+use mir.Syntax.{w64}
+use borrow.Author.Needs.{needs}
+use Rattle.x64.proofs.Walks.{Going, start, taken, turn, ended, Asking, asking, asked-yes, asked-no, all-asked}
+use Rattle.x64.specs.Sources.{codesIn}
+use Rattle.codes.proofs.Numbers.{told-code, told-frame}
+use Rattle.codes.specs.Codes.{frameAsk}
+use Rattle.format.specs.X64.{codeNo}
+use Prim.Native.Nat.{_-_}
+use mathlib.Core.Path.{_∙_}
 use Rattle.x64.proofs.codes_no.Statement.{statement}
 use Rattle.x64.proofs.codes_no.Tie as tie
-use Rattle.x64.proofs.codes_no.Reads as reads
-use Rattle.x64.proofs.codes_no.Lts as lts
-use Rattle.x64.proofs.moved_in.Reads as moved-in-reads
-use Rattle.x64.proofs.piece_in.Reads as piece-in-reads
-use Rattle.x64.proofs.piece_no.Reads as piece-no-reads
-use Rattle.x64.proofs.start.Reads as start-reads
 
 abbrev Inv-loop : tie.InvT-loop
-Inv-loop s list p past sofar₀ i₀ sofar i = ?
+Inv-loop s list p past sofar₀ i₀ sofar i = Going (Asking codeNo (codesIn s list p)) s list p (toZ w64 sofar) i
 
 abbrev μ-loop : tie.MeasureT-loop
-μ-loop s list p past sofar₀ i₀ sofar i = ?
+μ-loop s list p past sofar₀ i₀ sofar i = past - i
 
--- src/lib.rt:203:9
 start-requires : tie.Need-start-requires Inv-loop μ-loop
-start-requires c κs = ?
+start-requires c κs = c .before .pre .pushed
 
--- src/lib.rt:205:5
 loop-holds : tie.Need-loop-holds Inv-loop μ-loop
-loop-holds c = ?
+loop-holds c = let s = c .before .before in start (s .pre) (c .start .ensures) (asking codeNo (codesIn (s .args .s) (s .args .list .now) (s .args .p)))
 
--- src/lib.rt:206:26
 piece-in-requires : tie.Need-piece-in-requires Inv-loop μ-loop
-piece-in-requires c κs = ?
+piece-in-requires c κs = let s = c .before .before .before .before in let g = c .before .loop .inv in (s .pre, g .low, c .loop-test .taken, g .short)
 
--- src/lib.rt:206:13
 piece-no-requires : tie.Need-piece-no-requires Inv-loop μ-loop
-piece-no-requires c κs = ?
+piece-no-requires c κs = search needs
 
--- src/lib.rt:208:13
 returns : tie.Need-returns Inv-loop μ-loop
-returns c = ?
+returns c = let g = c .before .before .before .before .loop .inv in asked-no (taken g (c .before .before .before .loop-test .taken) (c .before .before .piece-in .ensures)) (c .before .piece-no .ensures) (c .if1 .taken)
 
--- src/lib.rt:210:9
 moved-in-requires : tie.Need-moved-in-requires Inv-loop μ-loop
-moved-in-requires c κs = ?
+moved-in-requires c κs = let s = c .before .before .before .before .before .before .before in let g = c .before .before .before .before .loop .inv in (s .pre, g .low, c .before .before .before .loop-test .taken, g .short)
 
--- src/lib.rt:211:9
 add-i : tie.Need-add-i Inv-loop μ-loop
-add-i c = ?
+add-i c = search needs
 
--- src/lib.rt:205:5
 loop-less : tie.Need-loop-less Inv-loop μ-loop
-loop-less c = ?
+loop-less c = search needs
 
--- src/lib.rt:205:5
 loop-again : tie.Need-loop-again Inv-loop μ-loop
-loop-again c = ?
+loop-again c = turn (c .before .before .before .before .before .loop .inv) (c .before .before .before .before .loop-test .taken) (c .before .before .before .piece-in .ensures) (c .moved-in .ensures .0) (c .moved-in .ensures .1) (λ w. asked-yes w (c .before .before .piece-no .ensures) told-code (c .before .if1 .left))
 
--- src/lib.rt:198:1
 returns-2 : tie.Need-returns-2 Inv-loop μ-loop
-returns-2 c = ?
+returns-2 c = all-asked (ended (c .before .loop .inv) (c .loop-test .left))
 
 pub codes-no-spec : {M : Type 1} → statement M
 codes-no-spec =

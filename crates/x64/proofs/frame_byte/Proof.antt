@@ -1,53 +1,47 @@
+-- `x64::frame_byte` meets its contract.
+use borrow.Author.Needs.{needs}
+use Rattle.x64.proofs.Walks.{Going, start, taken, turn, ended, Framing, framing, frame-asked, framed, all-framed}
+use Rattle.x64.specs.Sources.{codesIn}
+use Rattle.format.specs.declared.Seh.{Seh}
+use mir.Val.{toZ}
+use mir.Syntax.{w64}
+use Prim.Native.Nat.{ℕ, _-_}
+use mathlib.Core.List.{List}
 use Rattle.x64.proofs.frame_byte.Statement.{statement}
 use Rattle.x64.proofs.frame_byte.Tie as tie
-use Rattle.x64.proofs.frame_byte.Reads as reads
-use Rattle.x64.proofs.frame_byte.Lts as lts
-use Rattle.x64.proofs.moved_in.Reads as moved-in-reads
-use Rattle.x64.proofs.piece_frame.Reads as piece-frame-reads
-use Rattle.x64.proofs.piece_in.Reads as piece-in-reads
-use Rattle.x64.proofs.start.Reads as start-reads
 
 abbrev Inv-loop : tie.InvT-loop
-Inv-loop s list p past b₀ sofar₀ i₀ b sofar i = ?
+Inv-loop s list p past b₀ sofar₀ i₀ b sofar i = Going (λ (l : List (ℕ × Seh)). Framing (codesIn s list p) l b) s list p (toZ w64 sofar) i
 
 abbrev μ-loop : tie.MeasureT-loop
-μ-loop s list p past b₀ sofar₀ i₀ b sofar i = ?
+μ-loop s list p past b₀ sofar₀ i₀ b sofar i = past - i
 
--- src/lib.rt:259:9
 start-requires : tie.Need-start-requires Inv-loop μ-loop
-start-requires c κs = ?
+start-requires c κs = c .before .pre .0 .pushed
 
--- src/lib.rt:261:5
 loop-holds : tie.Need-loop-holds Inv-loop μ-loop
-loop-holds c = ?
+loop-holds c = let s = c .before .before in start (s .pre .0) (c .start .ensures) (framing (s .pre .1) (s .pre .2))
 
--- src/lib.rt:262:28
 piece-in-requires : tie.Need-piece-in-requires Inv-loop μ-loop
-piece-in-requires c κs = ?
+piece-in-requires c κs = let s = c .before .before .before .before in let g = c .before .loop .inv in (s .pre .0, g .low, c .loop-test .taken, g .short)
 
--- src/lib.rt:262:9
 piece-frame-requires : tie.Need-piece-frame-requires Inv-loop μ-loop
-piece-frame-requires c κs = ?
+piece-frame-requires c κs = frame-asked (taken (c .before .before .loop .inv) (c .before .loop-test .taken) (c .piece-in .ensures))
 
--- src/lib.rt:263:9
 moved-in-requires : tie.Need-moved-in-requires Inv-loop μ-loop
-moved-in-requires c κs = ?
+moved-in-requires c κs = let s = c .before .before .before .before .before .before in let g = c .before .before .before .loop .inv in (s .pre .0, g .low, c .before .before .loop-test .taken, g .short)
 
--- src/lib.rt:264:9
 add-i : tie.Need-add-i Inv-loop μ-loop
-add-i c = ?
+add-i c = search needs
 
--- src/lib.rt:261:5
 loop-less : tie.Need-loop-less Inv-loop μ-loop
-loop-less c = ?
+loop-less c = search needs
 
--- src/lib.rt:261:5
 loop-again : tie.Need-loop-again Inv-loop μ-loop
-loop-again c = ?
+loop-again c = turn (c .before .before .before .before .loop .inv) (c .before .before .before .loop-test .taken) (c .before .before .piece-in .ensures) (c .moved-in .ensures .0) (c .moved-in .ensures .1) (λ w. framed w (c .before .piece-frame .ensures))
 
--- src/lib.rt:253:1
 returns : tie.Need-returns Inv-loop μ-loop
-returns c = ?
+returns c = all-framed (ended (c .before .loop .inv) (c .loop-test .left))
 
 pub frame-byte-spec : {M : Type 1} → statement M
 frame-byte-spec =

@@ -1,82 +1,69 @@
+-- `x64::put_codes` meets its contract.
+use borrow.Author.Needs.{needs}
+use Rattle.x64.proofs.Walks.{Going, start, taken, turn, ended, Putting, putting, put-asked, put-low, put-room, put-turn, all-put}
+use Rattle.x64.specs.Sources.{codesIn}
+use Rattle.format.specs.declared.Seh.{Seh}
+use mir.Val.{toZ}
+use mir.Syntax.{w64}
+use native.Mathlib.Omega.{arith}
+use Prim.Native.Nat.{ℕ, _-_, _+_, _*_}
+use mathlib.Core.List.{List}
 use Rattle.x64.proofs.put_codes.Statement.{statement}
 use Rattle.x64.proofs.put_codes.Tie as tie
-use Rattle.x64.proofs.put_codes.Reads as reads
-use Rattle.x64.proofs.put_codes.Lts as lts
-use Rattle.codes.proofs.put_nodes.Reads as put-nodes-reads
-use Rattle.x64.proofs.moved_in.Reads as moved-in-reads
-use Rattle.x64.proofs.piece_in.Reads as piece-in-reads
-use Rattle.x64.proofs.piece_nodes.Reads as piece-nodes-reads
-use Rattle.x64.proofs.start.Reads as start-reads
 
 abbrev Inv-loop : tie.InvT-loop
-Inv-loop out₀ at held s list p past to₀ sofar₀ i₀ out to sofar i = ?
+Inv-loop out₀ at held s list p past to₀ sofar₀ i₀ out to sofar i = Going (Putting out₀ out at to (codesIn s list p)) s list p (toZ w64 sofar) i
 
 abbrev μ-loop : tie.MeasureT-loop
-μ-loop out₀ at held s list p past to₀ sofar₀ i₀ out to sofar i = ?
+μ-loop out₀ at held s list p past to₀ sofar₀ i₀ out to sofar i = past - i
 
--- src/lib.rt:275:23
 mul-to : tie.Need-mul-to Inv-loop μ-loop
-mul-to c = ?
+mul-to c = search needs
 
--- src/lib.rt:275:18
 add-to : tie.Need-add-to Inv-loop μ-loop
-add-to c = ?
+add-to c = search needs
 
--- src/lib.rt:276:9
 start-requires : tie.Need-start-requires Inv-loop μ-loop
-start-requires c κs = ?
+start-requires c κs = c .before .before .pre .0 .pushed
 
--- src/lib.rt:278:5
 loop-holds : tie.Need-loop-holds Inv-loop μ-loop
-loop-holds c = ?
+loop-holds c = let s = c .before .before .before in start (s .pre .0) (c .start .ensures) (putting (omega (arith, s .pre .2)) (s .pre .3) (s .pre .1))
 
--- src/lib.rt:279:29
 piece-in-requires : tie.Need-piece-in-requires Inv-loop μ-loop
-piece-in-requires c κs = ?
+piece-in-requires c κs = let s = c .before .before .before .before .before in let g = c .before .loop .inv in (s .pre .0, g .low, c .loop-test .taken, g .short)
 
--- src/lib.rt:279:13
 piece-nodes-requires : tie.Need-piece-nodes-requires Inv-loop μ-loop
-piece-nodes-requires c κs = ?
+piece-nodes-requires c κs = put-asked (taken (c .before .before .loop .inv) (c .before .loop-test .taken) (c .piece-in .ensures))
 
--- src/lib.rt:280:9
 sub-to : tie.Need-sub-to Inv-loop μ-loop
-sub-to c = ?
+sub-to c = put-low (taken (c .before .before .before .before .loop .inv) (c .before .before .before .loop-test .taken) (c .before .before .piece-in .ensures)) (c .before .piece-nodes .ensures)
 
--- src/lib.rt:281:9
 put-nodes-requires : tie.Need-put-nodes-requires Inv-loop μ-loop
-put-nodes-requires c κs = ?
+put-nodes-requires c κs = (c .before .before .piece-nodes .ensures .most, put-room (taken (c .before .before .before .before .before .loop .inv) (c .before .before .before .before .loop-test .taken) (c .before .before .before .piece-in .ensures)) (c .before .before .piece-nodes .ensures))
 
--- src/lib.rt:282:9
 moved-in-requires : tie.Need-moved-in-requires Inv-loop μ-loop
-moved-in-requires c κs = ?
+moved-in-requires c κs = let s = c .before .before .before .before .before .before .before .before .before .before .before .before in let g = c .before .before .before .before .before .before .before .before .loop .inv in (s .pre .0, g .low, c .before .before .before .before .before .before .before .loop-test .taken, g .short)
 
--- src/lib.rt:283:9
 add-i : tie.Need-add-i Inv-loop μ-loop
-add-i c = ?
+add-i c = search needs
 
--- src/lib.rt:278:5
 loop-less : tie.Need-loop-less Inv-loop μ-loop
-loop-less c = ?
+loop-less c = search needs
 
--- src/lib.rt:278:5
 loop-again : tie.Need-loop-again Inv-loop μ-loop
-loop-again c = ?
+loop-again c = turn (c .before .before .before .before .before .before .before .before .before .loop .inv) (c .before .before .before .before .before .before .before .before .loop-test .taken) (c .before .before .before .before .before .before .before .piece-in .ensures) (c .moved-in .ensures .0) (c .moved-in .ensures .1) (λ w. put-turn w (c .before .before .before .before .before .before .piece-nodes .ensures) (c .before .before .before .put-nodes .ensures))
 
--- src/lib.rt:285:10
 mul-result : tie.Need-mul-result Inv-loop μ-loop
-mul-result c = ?
+mul-result c = search needs
 
--- src/lib.rt:285:5
 add-result : tie.Need-add-result Inv-loop μ-loop
-add-result c = ?
+add-result c = search needs
 
--- src/lib.rt:270:1
 same-length : tie.Need-same-length Inv-loop μ-loop
-same-length c = ?
+same-length c = c .before .loop .inv .here .kept
 
--- src/lib.rt:270:1
 returns : tie.Need-returns Inv-loop μ-loop
-returns c = ?
+returns c = rw (c .before .before .before .before .before .pre .2) (all-put (ended (c .before .loop .inv) (c .loop-test .left)))
 
 pub put-codes-spec : {M : Type 1} → statement M
 put-codes-spec =
@@ -88,12 +75,12 @@ put-codes-spec =
     add-to
     start-requires
     loop-holds
+    add-i
     piece-in-requires
     piece-nodes-requires
     sub-to
     put-nodes-requires
     moved-in-requires
-    add-i
     loop-less
     loop-again
     mul-result

@@ -1,57 +1,52 @@
+-- `x64::slots` meets its contract.
+use borrow.Author.Needs.{needs}
+use Rattle.x64.proofs.Walks.{Going, start, taken, turn, ended, Counting, counting, counted, all-counted}
+use Rattle.x64.proofs.Leaves.{slots-few}
+use Rattle.x64.specs.Sources.{codesIn}
+use Rattle.format.specs.declared.Seh.{Seh}
+use mir.Val.{toZ}
+use mir.Syntax.{w64}
+use native.Mathlib.Omega.{arith}
+use Prim.Native.Nat.{ℕ, _-_, _*_, _≤_}
+use mathlib.Core.List.{List}
 use Rattle.x64.proofs.slots.Statement.{statement}
 use Rattle.x64.proofs.slots.Tie as tie
-use Rattle.x64.proofs.slots.Reads as reads
-use Rattle.x64.proofs.slots.Lts as lts
-use Rattle.x64.proofs.moved_in.Reads as moved-in-reads
-use Rattle.x64.proofs.piece_in.Reads as piece-in-reads
-use Rattle.x64.proofs.piece_slots.Reads as piece-slots-reads
-use Rattle.x64.proofs.start.Reads as start-reads
 
 abbrev Inv-loop : tie.InvT-loop
-Inv-loop s list p past sum₀ sofar₀ i₀ sum sofar i = ?
+Inv-loop s list p past sum₀ sofar₀ i₀ sum sofar i = Going (λ (l : List (ℕ × Seh)). Counting (codesIn s list p) l sum) s list p (toZ w64 sofar) i × (sum ≤ 3 * (i - p .first))
 
 abbrev μ-loop : tie.MeasureT-loop
-μ-loop s list p past sum₀ sofar₀ i₀ sum sofar i = ?
+μ-loop s list p past sum₀ sofar₀ i₀ sum sofar i = past - i
 
--- src/lib.rt:223:9
 start-requires : tie.Need-start-requires Inv-loop μ-loop
-start-requires c κs = ?
+start-requires c κs = c .before .pre .pushed
 
--- src/lib.rt:225:5
 loop-holds : tie.Need-loop-holds Inv-loop μ-loop
-loop-holds c = ?
+loop-holds c = let s = c .before .before in (start (s .pre) (c .start .ensures) (counting (codesIn (s .args .s) (s .args .list .now) (s .args .p))), omega arith)
 
--- src/lib.rt:226:28
 piece-in-requires : tie.Need-piece-in-requires Inv-loop μ-loop
-piece-in-requires c κs = ?
+piece-in-requires c κs = let s = c .before .before .before .before in let g = c .before .loop .inv .0 in (s .pre, g .low, c .loop-test .taken, g .short)
 
--- src/lib.rt:226:16
 piece-slots-requires : tie.Need-piece-slots-requires Inv-loop μ-loop
-piece-slots-requires c κs = ?
+piece-slots-requires c κs = search needs
 
--- src/lib.rt:226:9
 add-sum : tie.Need-add-sum Inv-loop μ-loop
-add-sum c = ?
+add-sum c = let s = c .before .before .before .before .before .before in omega (arith, slots-few (c .before .piece-in .result), c .piece-slots .ensures, c .before .before .before .loop .inv .1, c .before .before .before .loop .inv .0 .low, c .before .before .loop-test .taken, s .pre .few)
 
--- src/lib.rt:227:9
 moved-in-requires : tie.Need-moved-in-requires Inv-loop μ-loop
-moved-in-requires c κs = ?
+moved-in-requires c κs = let s = c .before .before .before .before .before .before in let g = c .before .before .before .loop .inv .0 in (s .pre, g .low, c .before .before .loop-test .taken, g .short)
 
--- src/lib.rt:228:9
 add-i : tie.Need-add-i Inv-loop μ-loop
-add-i c = ?
+add-i c = search needs
 
--- src/lib.rt:225:5
 loop-less : tie.Need-loop-less Inv-loop μ-loop
-loop-less c = ?
+loop-less c = search needs
 
--- src/lib.rt:225:5
 loop-again : tie.Need-loop-again Inv-loop μ-loop
-loop-again c = ?
+loop-again c = let g = c .before .before .before .before .loop .inv in (turn (g .0) (c .before .before .before .loop-test .taken) (c .before .before .piece-in .ensures) (c .moved-in .ensures .0) (c .moved-in .ensures .1) (λ w. counted w (c .before .piece-slots .ensures)), omega (arith, slots-few (c .before .before .piece-in .result), c .before .piece-slots .ensures, g .1, g .0 .low))
 
--- src/lib.rt:217:1
 returns : tie.Need-returns Inv-loop μ-loop
-returns c = ?
+returns c = all-counted (ended (c .before .loop .inv .0) (c .loop-test .left))
 
 pub slots-spec : {M : Type 1} → statement M
 slots-spec =
