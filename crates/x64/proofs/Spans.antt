@@ -18,12 +18,23 @@ use Rattle.format.specs.X64.{codesOf, endOf, prologueOf, prologueNo}
 use Rattle.format.proofs.Choice.{either}
 use Rattle.prologue.specs.Pieces.{Short, Shaped, piecesOf, endIn}
 use Rattle.prologue.proofs.Rows.{ready}
-use Rattle.codes.proofs.Numbers.{Told}
+use Rattle.codes.specs.Codes.{numberOf}
+use Rattle.codes.proofs.Numbers.{told-prologue}
 use Rattle.x64.specs.declared.Source.{Source}
 use Rattle.x64.specs.declared.Span.{Span}
 use Rattle.x64.specs.Answers.{saidBy}
-use Rattle.x64.specs.Sources.{codesIn, codesFrom, Readable, meantBy, byRows, resultAt, directSpan, RowsSpan, strideOf, Found, Askable, rowsNo, codesNo, orNone, foundAt}
+use Rattle.x64.specs.Sources.{codesIn, codesFrom, Readable, meantBy, byRows, resultAt, directSpan, RowsSpan, strideOf, Found, Askable, rowsNo, codesNo, longNo, passNo, orNone, foundAt}
+use Rattle.x64.proofs.Asked.{said-none, said-some, said-of}
 use Rattle.x64.proofs.Leaves.{direct-codes, rows-codes}
+
+by-source : (d : Bool) → 2 ≤ pick d 5 18
+unfolding pick
+by-source true = omega arith
+by-source false = omega arith
+
+pub stride-most : (s : Source) → 2 ≤ strideOf s
+unfolding strideOf
+stride-most s = by-source (s .direct)
 
 no-both : true ≡ false → ⊥
 no-both z = let w : _≡_ {A = ℕ} 0 1 = cc in omega arith
@@ -62,11 +73,11 @@ module _ {s : Source} {fs list : List ℕ} {k : ℕ} (a : Askable s fs list k) w
     direct-found = record { readable = direct-readable; said = direct-said }
 
   -- rows
-  module _ (d : s .direct ≡ false) {p : Span} (h : RowsSpan (s .machine) fs list k p) where
-    pub rows-stride : strideOf s ≡ 18
-    unfolding strideOf pick
-    rows-stride = rw d
+  pub rows-stride : s .direct ≡ false → strideOf s ≡ 18
+  unfolding strideOf pick
+  rows-stride d = rw d
 
+  module _ (d : s .direct ≡ false) {p : Span} (h : RowsSpan (s .machine) fs list k p) where
     f : Function
     f = functionAt fs list [] [] k
 
@@ -155,3 +166,31 @@ module _ {s : Source} {fs list : List ℕ} {k : ℕ} {p : Span} (h : Found s fs 
 
     pub codes-yes : prologueNo (p .end) (codesIn s list p) ≡ none
     codes-yes = sym (codes-are number-zero) ∙ y
+
+-- ---- a pass
+
+module _ (s : Source) (fs list : List ℕ) (k : ℕ) {pass : ℕ} where
+  pub pass-zero : pass ≡ 0 → passNo pass s fs list k ≡ longNo (field (strideOf s) fs k 1)
+  unfolding passNo pick
+  pass-zero z = rw z
+
+  pass-one : pass ≡ 1 → passNo pass s fs list k ≡ rowsNo (resultAt s fs list k)
+  unfolding passNo pick
+  pass-one z = rw z
+
+  pass-two : (pass ≡ 0 → ⊥) → (pass ≡ 1 → ⊥) → passNo pass s fs list k ≡ codesNo (resultAt s fs list k)
+  unfolding passNo pick
+  pass-two n m = rw (ne-eqb pass 0 n, ne-eqb pass 1 m)
+
+module _ {s : Source} {fs list : List ℕ} {k pass : ℕ} {p : Span} (h : Found s fs list k p) (n : pass ≡ 0 → ⊥) where
+  pub pass-refused : (p .number ≡ 0 → ⊥) → passNo pass s fs list k ≡ saidBy (p .number)
+  pass-refused m =
+      either pass 1 (λ l. pass-one s fs list k (omega arith) ∙ rows-refused h m ∙ sym (said-some m))
+      (λ l. pass-two s fs list k n (λ z. omega arith) ∙ codes-refused h m ∙ sym (said-some m))
+
+  module _ (z : p .number ≡ 0) where
+    pub pass-rows : pass ≡ 1 → passNo pass s fs list k ≡ saidBy 0
+    pass-rows o = pass-one s fs list k o ∙ rows-agreed h z ∙ sym (said-none refl)
+
+    pub pass-codes : {r : ℕ} → (pass ≡ 1 → ⊥) → r ≡ numberOf (prologueNo (p .end) (codesIn s list p)) → passNo pass s fs list k ≡ saidBy r
+    pass-codes o e = pass-two s fs list k n o ∙ codes-are h z ∙ said-of (prologueNo (p .end) (codesIn s list p)) (told-prologue (p .end) (codesIn s list p)) e

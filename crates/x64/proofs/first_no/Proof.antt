@@ -1,42 +1,37 @@
+-- `x64::first_no` meets its contract.
+use borrow.Author.Needs.{needs}
+use Rattle.x64.proofs.Asked.{Passing, start, turn, stopped, ended}
+use Rattle.x64.specs.Sources.{passNo}
+use Prim.Native.Nat.{_-_}
 use Rattle.x64.proofs.first_no.Statement.{statement}
 use Rattle.x64.proofs.first_no.Tie as tie
-use Rattle.x64.proofs.first_no.Reads as reads
-use Rattle.x64.proofs.first_no.Lts as lts
-use Rattle.x64.proofs.pass_no.Reads as pass-no-reads
 
 abbrev Inv-loop : tie.InvT-loop
-Inv-loop pass s fs list n k₀ k = ?
+Inv-loop pass s fs list n k₀ k = Passing (passNo pass s fs list) n k
 
 abbrev μ-loop : tie.MeasureT-loop
-μ-loop pass s fs list n k₀ k = ?
+μ-loop pass s fs list n k₀ k = n - k
 
--- src/lib.rt:433:5
 loop-holds : tie.Need-loop-holds Inv-loop μ-loop
-loop-holds c = ?
+loop-holds c = start _ _
 
--- src/lib.rt:434:13
 pass-no-requires : tie.Need-pass-no-requires Inv-loop μ-loop
-pass-no-requires c κs = ?
+pass-no-requires c κs = c .before .before .before .before .pre .each-one _ (c .loop-test .taken)
 
--- src/lib.rt:436:13
 returns : tie.Need-returns Inv-loop μ-loop
-returns c = ?
+returns c = stopped (c .before .before .before .loop .inv) (c .before .before .loop-test .taken) (c .before .pass-no .ensures) (c .if1 .taken)
 
--- src/lib.rt:438:9
 add-k : tie.Need-add-k Inv-loop μ-loop
-add-k c = ?
+add-k c = search needs
 
--- src/lib.rt:433:5
 loop-less : tie.Need-loop-less Inv-loop μ-loop
-loop-less c = ?
+loop-less c = search needs
 
--- src/lib.rt:433:5
 loop-again : tie.Need-loop-again Inv-loop μ-loop
-loop-again c = ?
+loop-again c = turn (c .before .before .before .loop .inv) (c .before .before .loop-test .taken) (c .before .pass-no .ensures) (c .if1 .left)
 
--- src/lib.rt:428:1
 returns-2 : tie.Need-returns-2 Inv-loop μ-loop
-returns-2 c = ?
+returns-2 c = ended (c .before .loop .inv) (c .loop-test .left)
 
 pub first-no-spec : {M : Type 1} → statement M
 first-no-spec =

@@ -1,15 +1,17 @@
+-- `x64::stride` meets its contract.
+use Rattle.x64.specs.Sources.{strideOf}
+use Rattle.format.specs.Test.{pick}
+use mathlib.Core.Path.{sym}
 use Rattle.x64.proofs.stride.Statement.{statement}
 use Rattle.x64.proofs.stride.Tie as tie
-use Rattle.x64.proofs.stride.Reads as reads
-use Rattle.x64.proofs.stride.Lts as lts
 
--- src/lib.rt:392:9
 returns : tie.Need-returns
-returns c = ?
+unfolding strideOf pick
+returns c = rw (c .if1 .taken)
 
--- src/lib.rt:388:1
 returns-2 : tie.Need-returns-2
-returns-2 c = ?
+unfolding strideOf pick
+returns-2 c = rw (c .if1 .left)
 
 pub stride-spec : {M : Type 1} → statement M
 stride-spec = tie.close (tie.spec returns returns-2)
