@@ -5,3 +5,4 @@ pub mod Leaves
 pub mod Asked
 pub mod Infos
 pub mod Spans
+pub mod Results

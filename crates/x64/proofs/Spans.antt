@@ -14,7 +14,7 @@ use Rattle.format.specs.Test.{pick, Result, good, bad, onward, each}
 use Rattle.format.specs.declared.Machine.{Machine}
 use Rattle.format.specs.declared.Seh.{Seh}
 use Rattle.format.specs.Lists.{Function, Prologue, field, functionStride, prologueStride, codeStride, count, codeAt, lineAt, functionAt, prologueAt}
-use Rattle.format.specs.X64.{codesOf, endOf, prologueOf, prologueNo}
+use Rattle.format.specs.X64.{codesOf, endOf, prologueOf, prologueNo, infoBytes}
 use Rattle.format.proofs.Choice.{either}
 use Rattle.prologue.specs.Pieces.{Short, Shaped, piecesOf, endIn}
 use Rattle.prologue.proofs.Rows.{ready}
@@ -166,6 +166,9 @@ module _ {s : Source} {fs list : List ℕ} {k : ℕ} {p : Span} (h : Found s fs 
 
     pub codes-yes : prologueNo (p .end) (codesIn s list p) ≡ none
     codes-yes = sym (codes-are number-zero) ∙ y
+
+    pub info-is : infoBytes (p .end) (codesIn s list p) ≡ infoBytes (foundAt s fs list k .end) (foundAt s fs list k .codes)
+    info-is = rw (found-is number-zero)
 
 -- ---- a pass
 

@@ -1,11 +1,16 @@
 -- Both writers' answers by the numbers of functions one after another.
+use mathlib.Core.Path.{_≡_}
 use Prim.Native.Nat.{ℕ, zero, suc}
 use mathlib.Core.Option.{Option, none, some}
-use mathlib.Core.List.{List, [], _∷_}
+use mathlib.Core.List.{List, [], _∷_, map}
 use lib.Dec.{leb, eqb}
-use Rattle.format.specs.Test.{pick, Result, good, bad}
+use Rattle.format.specs.Test.{pick}
 use Rattle.format.specs.Lists.{Prologue, field}
-use Rattle.format.specs.Questions.{Question, ask, andThen, noAt, Room}
+use Rattle.format.specs.Questions.{Question, ask, andThen, noAt}
+use Rattle.format.specs.Answers.{relocationNumbers}
+use Rattle.format.specs.Put.{put}
+use Rattle.format.specs.Writer.{Written, joined}
+use Rattle.format.specs.X64.{infoBytes}
 use Rattle.format.specs.declared.Counts.{Counts}
 
 -- what a RUNTIME_FUNCTION names: a symbol and a length; and those of function k
@@ -30,3 +35,14 @@ saidBy n = pick (eqb n 0) none (some n)
 unfoldable pub askEach : (ℕ → Option ℕ) → (at n : ℕ) → Question
 askEach f at zero = none
 askEach f at (suc n) = andThen (noAt at (f at)) (askEach f (suc at) n)
+
+-- the records of some prologues, one behind the other
+unfoldable pub infosOf : List Prologue → List ℕ
+infosOf ps = joined (map (λ f. infoBytes (f .end) (f .codes)) ps)
+
+-- the lent lists hold what was written
+pub record Filled (w : Written) (places places′ bytes bytes′ relocations relocations′ sites sites′ : List ℕ) : Type 0 where
+  pub placed : places′ ≡ put places 0 (w .places)
+  pub stored : bytes′ ≡ put bytes 0 (w .bytes)
+  pub related : relocations′ ≡ put relocations 0 (relocationNumbers w)
+  pub sited : sites′ ≡ put sites 0 (w .sites)

@@ -5,16 +5,16 @@ ghost use mathlib.Core.Option.{none};
 ghost use lib.IntN.{pos};
 ghost use lib.ListN.{length};
 ghost use Rattle.format.specs.Test.{each};
-ghost use Rattle.format.specs.Put.{Wrote};
+ghost use Rattle.format.specs.Put.{put, Wrote};
 ghost use Rattle.format.specs.Lists.{field, numbersOf, functionStride, prologueStride, mostFunctions, mostRecords};
 ghost use Rattle.format.specs.Answers.{questionOf};
-ghost use Rattle.format.specs.X64.{runtimeRelocs, runtimeFrom, codeNo, firstNo, slots, prologueNo, frameByte, reversed, infoBytes};
+ghost use Rattle.format.specs.X64.{runtimeRelocs, runtimeFrom, markersFrom, codeNo, firstNo, slots, prologueNo, frameByte, reversed, infoBytes};
 ghost use Rattle.format.proofs.Fits.{MachineFits};
 ghost use Rattle.leading.specs.Functions.{RowsReady};
 ghost use Rattle.codes.specs.Codes.{Holds, numberOf, frameAsk};
 ghost use Rattle.prologue.specs.Pieces.{Short, pieceOf};
-ghost use Rattle.x64.specs.Sources.{Readable, pieceAt, movedAt, codesIn, directSpan, RowsSpan, Askable, Found, Listed, strideOf, longNo, passNo};
-ghost use Rattle.x64.specs.Answers.{named, namedAt, roomFor, saidBy, askEach};
+ghost use Rattle.x64.specs.Sources.{Readable, pieceAt, movedAt, codesIn, directSpan, RowsSpan, Askable, Found, Listed, Sure, strideOf, longNo, passNo, foundAt};
+ghost use Rattle.x64.specs.Answers.{named, namedAt, roomFor, saidBy, askEach, infosOf};
 use codes::Code;
 use codes::code_no;
 use codes::frame_no;
@@ -36,6 +36,7 @@ use prologue::moved;
 use prologue::piece_at;
 use prologue::prologue;
 use prologue::prologue_end;
+use relocs::number;
 use relocs::relocation;
 
 // ---- RUNTIME_FUNCTION
@@ -438,4 +439,37 @@ fn first_no(pass: u64, s: Source, fs: &[u64], list: &[u64], n: usize) -> Questio
         k += 1;
     }
     Question::Yes
+}
+
+// ---- the results
+
+// How many bytes the records of n functions have.
+fn total(s: Source, fs: &[u64], list: &[u64], n: usize) -> usize
+    requires { ⌜ Sure s (now fs) (now list) n ⌝ }
+    ensures { λ r. ⌜ r ≡ length (infosOf (each (foundAt s (now (fs .entry)) (now (list .entry))) 0 n)) ⌝ }
+{
+    let mut sum = 0;
+    let mut k = 0;
+    while k < n {
+        sum += info_size(s, list, span_at(s, fs, list, k));
+        k += 1;
+    }
+    sum
+}
+
+// The records of n functions, and where each stands.
+fn put_infos(markers: &mut [u64], info: &mut [u8], s: Source, fs: &[u64], list: &[u64], n: usize) -> usize
+    requires { ⌜ Sure s (now fs) (now list) n × (n ≤ length (now markers)) × (length (infosOf (each (foundAt s (now fs) (now list)) 0 n)) ≤ length (now info)) ⌝ }
+    ensures { λ r. ⌜ (now (markers .exit) ≡ put (now (markers .entry)) 0 (markersFrom 0 (each (foundAt s (now (fs .entry)) (now (list .entry))) 0 n))) × (now (info .exit) ≡ put (now (info .entry)) 0 (infosOf (each (foundAt s (now (fs .entry)) (now (list .entry))) 0 n))) ⌝ }
+{
+    let mut at = 0;
+    let mut k = 0;
+    while k < n {
+        let j = k;
+        k += 1;
+        let p = span_at(s, fs, list, j);
+        number(markers, j, at as u64);
+        at = describe(info, at, s, list, p);
+    }
+    at
 }
