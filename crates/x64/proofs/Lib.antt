@@ -6,3 +6,5 @@ pub mod Asked
 pub mod Infos
 pub mod Spans
 pub mod Results
+pub mod Writing
+pub mod Entries

@@ -1,17 +1,17 @@
 -- Both writers' answers by the numbers of functions one after another.
-use mathlib.Core.Path.{_≡_}
 use Prim.Native.Nat.{ℕ, zero, suc}
+use mathlib.Core.Bool.{Bool, true, false}
 use mathlib.Core.Option.{Option, none, some}
 use mathlib.Core.List.{List, [], _∷_, map}
 use lib.Dec.{leb, eqb}
 use Rattle.format.specs.Test.{pick}
 use Rattle.format.specs.Lists.{Prologue, field}
 use Rattle.format.specs.Questions.{Question, ask, andThen, noAt}
-use Rattle.format.specs.Answers.{relocationNumbers}
-use Rattle.format.specs.Put.{put}
-use Rattle.format.specs.Writer.{Written, joined}
+use Rattle.format.specs.Writer.{joined}
 use Rattle.format.specs.X64.{infoBytes}
 use Rattle.format.specs.declared.Counts.{Counts}
+use Rattle.format.specs.declared.Question as declared
+use Rattle.format.specs.declared.Question.the-variants.{Yes, No}
 
 -- what a RUNTIME_FUNCTION names: a symbol and a length; and those of function k
 abbrev pub named : (symbol size : ℕ) → Prologue
@@ -40,9 +40,7 @@ askEach f at (suc n) = andThen (noAt at (f at)) (askEach f (suc at) n)
 unfoldable pub infosOf : List Prologue → List ℕ
 infosOf ps = joined (map (λ f. infoBytes (f .end) (f .codes)) ps)
 
--- the lent lists hold what was written
-pub record Filled (w : Written) (places places′ bytes bytes′ relocations relocations′ sites sites′ : List ℕ) : Type 0 where
-  pub placed : places′ ≡ put places 0 (w .places)
-  pub stored : bytes′ ≡ put bytes 0 (w .bytes)
-  pub related : relocations′ ≡ put relocations 0 (relocationNumbers w)
-  pub sited : sites′ ≡ put sites 0 (w .sites)
+-- a yes
+unfoldable pub isYes : declared.Question → Bool
+isYes Yes = true
+isYes (No n k) = false

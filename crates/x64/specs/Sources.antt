@@ -7,14 +7,17 @@ use mathlib.Core.List.{List, [], _∷_, _++_}
 use lib.ListN.{length}
 use lib.Dec.{T, ltb, eqb}
 use lib.IntN.{ℤ, pos}
-use Rattle.format.specs.Test.{pick, Result, good, bad, onward}
+use Rattle.format.specs.Test.{pick, Result, good, bad, onward, each}
 use Rattle.format.specs.declared.Machine.{Machine}
 use Rattle.format.specs.declared.Seh.{Seh}
 use Rattle.format.specs.Lists.{Function, Prologue, field, functionStride, prologueStride, codeStride, rowStride, count, mostRecords, mostFunctions, codeAt, functionAt, prologueAt}
-use Rattle.format.specs.X64.{codesOf, prologueOf, prologueNo}
+use Rattle.format.specs.X64.{codesOf, prologueOf, prologueNo, x64}
+use Rattle.format.specs.Questions.{Question, Room, andThen}
+use Rattle.format.specs.Writer.{Written}
 use Rattle.format.proofs.Fits.{MachineFits}
 use Rattle.leading.specs.Functions.{RowsReady}
 use Rattle.prologue.specs.Pieces.{Short, Ready, pieceIn, movedIn, endIn, Shaped}
+use Rattle.x64.specs.Answers.{askEach}
 use Rattle.x64.specs.declared.Source.{Source}
 use Rattle.x64.specs.declared.Span.{Span}
 
@@ -134,3 +137,15 @@ foundAt s fs list k = orNone (resultAt s fs list k)
 pub record Sure (s : Source) (fs list : List ℕ) (n : ℕ) : Type 0 where
   pub listed : Listed s fs list n
   pub agreed : (k : ℕ) → k < n → codesNo (resultAt s fs list k) ≡ none
+
+-- all questions but those of the room, and what is written
+unfoldable pub asksOf : Source → (fs list : List ℕ) → ℕ → Question
+asksOf s fs list n =
+    andThen (askEach (passNo 0 s fs list) 0 n) (andThen (askEach (passNo 1 s fs list) 0 n) (askEach (passNo 2 s fs list) 0 n))
+
+abbrev pub tableOf : Source → (fs list : List ℕ) → ℕ → Written
+tableOf s fs list n = x64 (each (foundAt s fs list) 0 n)
+
+abbrev pub roomIn : (places bytes relocations sites : List ℕ) → Room
+roomIn places bytes relocations sites =
+    record { places = length places; bytes = length bytes; relocations = length relocations; sites = length sites }

@@ -7,14 +7,15 @@ ghost use lib.ListN.{length};
 ghost use Rattle.format.specs.Test.{each};
 ghost use Rattle.format.specs.Put.{put, Wrote};
 ghost use Rattle.format.specs.Lists.{field, numbersOf, functionStride, prologueStride, mostFunctions, mostRecords};
-ghost use Rattle.format.specs.Answers.{questionOf};
+ghost use Rattle.format.specs.Answers.{questionOf, Writes};
 ghost use Rattle.format.specs.X64.{runtimeRelocs, runtimeFrom, markersFrom, codeNo, firstNo, slots, prologueNo, frameByte, reversed, infoBytes};
+ghost use Rattle.format.specs.Questions.{accepted, unless, fitting, seh};
 ghost use Rattle.format.proofs.Fits.{MachineFits};
 ghost use Rattle.leading.specs.Functions.{RowsReady};
 ghost use Rattle.codes.specs.Codes.{Holds, numberOf, frameAsk};
 ghost use Rattle.prologue.specs.Pieces.{Short, pieceOf};
-ghost use Rattle.x64.specs.Sources.{Readable, pieceAt, movedAt, codesIn, directSpan, RowsSpan, Askable, Found, Listed, Sure, strideOf, longNo, passNo, foundAt};
-ghost use Rattle.x64.specs.Answers.{named, namedAt, roomFor, saidBy, askEach, infosOf};
+ghost use Rattle.x64.specs.Sources.{Readable, pieceAt, movedAt, codesIn, directSpan, RowsSpan, Askable, Found, Listed, Sure, strideOf, longNo, passNo, foundAt, asksOf, tableOf, roomIn};
+ghost use Rattle.x64.specs.Answers.{named, namedAt, roomFor, saidBy, askEach, infosOf, isYes};
 use codes::Code;
 use codes::code_no;
 use codes::frame_no;
@@ -25,10 +26,12 @@ use codes::nodes_size;
 use codes::put_nodes;
 use format::Counts;
 use format::Machine;
+use format::Outcome;
 use format::Question;
 use leb::fill;
 use lists::code_at;
 use lists::code_offset_at;
+use lists::codes_ok;
 use lists::extent_at;
 use lists::prologue_at;
 use prologue::Piece;
@@ -472,4 +475,100 @@ fn put_infos(markers: &mut [u64], info: &mut [u8], s: Source, fs: &[u64], list: 
         at = describe(info, at, s, list, p);
     }
     at
+}
+
+// All results of n functions, where they have room.
+fn put_all(s: Source, fs: &[u64], list: &[u64], n: usize, sites: usize, markers: &mut [u64], bytes: &mut [u8], relocations: &mut [u64], info: &mut [u8]) -> Outcome
+    requires { ⌜ Sure s (now fs) (now list) n × (sites ≡ length (infosOf (each (foundAt s (now fs) (now list)) 0 n))) × (n ≤ length (now markers)) × (12 * n ≤ length (now bytes)) × (15 * n ≤ length (now relocations)) × (sites ≤ length (now info)) ⌝ }
+    ensures { λ r. ⌜ Writes (accepted (tableOf s (now (fs .entry)) (now (list .entry)) n)) r (now (markers .entry)) (now (markers .exit)) (now (bytes .entry)) (now (bytes .exit)) (now (relocations .entry)) (now (relocations .exit)) (now (info .entry)) (now (info .exit)) ⌝ }
+{
+    fill(bytes, 0, 12 * n);
+    put_runtime(relocations, fs, stride(s), n);
+    put_infos(markers, info, s, fs, list, n);
+    Outcome::Accepted(Counts {
+        places: n as u64,
+        bytes: (12 * n) as u64,
+        relocations: (3 * n) as u64,
+        sites: sites as u64,
+    })
+}
+
+// ---- the answer
+
+fn is_yes(q: Question) -> bool
+    ensures { λ r. ⌜ r ≡ isYes q ⌝ }
+{
+    match q {
+        Question::Yes => true,
+        Question::No(_, _) => false,
+    }
+}
+
+// The passes over n functions.
+fn asks(s: Source, fs: &[u64], list: &[u64], n: usize) -> Question
+    requires { ⌜ Listed s (now fs) (now list) n ⌝ }
+    ensures { λ r. ⌜ r ≡ questionOf (asksOf s (now (fs .entry)) (now (list .entry)) n) ⌝ }
+{
+    let a = first_no(0, s, fs, list, n);
+    if !is_yes(a) {
+        return a;
+    }
+    let b = first_no(1, s, fs, list, n);
+    if !is_yes(b) {
+        return b;
+    }
+    first_no(2, s, fs, list, n)
+}
+
+// The results, where they have room.
+fn write(s: Source, fs: &[u64], list: &[u64], n: usize, markers: &mut [u64], bytes: &mut [u8], relocations: &mut [u64], info: &mut [u8]) -> Outcome
+    requires { ⌜ Sure s (now fs) (now list) n ⌝ }
+    ensures { λ r. ⌜ Writes (fitting (roomIn (now (markers .entry)) (now (bytes .entry)) (now (relocations .entry)) (now (info .entry))) (tableOf s (now (fs .entry)) (now (list .entry)) n)) r (now (markers .entry)) (now (markers .exit)) (now (bytes .entry)) (now (bytes .exit)) (now (relocations .entry)) (now (relocations .exit)) (now (info .entry)) (now (info .exit)) ⌝ }
+{
+    let sites = total(s, fs, list, n);
+    let needed = Counts {
+        places: n as u64,
+        bytes: (12 * n) as u64,
+        relocations: (15 * n) as u64,
+        sites: sites as u64,
+    };
+    let lent = Counts {
+        places: markers.len() as u64,
+        bytes: bytes.len() as u64,
+        relocations: relocations.len() as u64,
+        sites: info.len() as u64,
+    };
+    match room(needed, lent) {
+        Question::Yes => put_all(s, fs, list, n, sites, markers, bytes, relocations, info),
+        Question::No(a, k) => Outcome::Refused(a, k),
+    }
+}
+
+// The questions of n functions, and the results.
+fn answer(s: Source, fs: &[u64], list: &[u64], n: usize, markers: &mut [u64], bytes: &mut [u8], relocations: &mut [u64], info: &mut [u8]) -> Outcome
+    requires { ⌜ Listed s (now fs) (now list) n ⌝ }
+    ensures { λ r. ⌜ Writes (unless (asksOf s (now (fs .entry)) (now (list .entry)) n) (fitting (roomIn (now (markers .entry)) (now (bytes .entry)) (now (relocations .entry)) (now (info .entry))) (tableOf s (now (fs .entry)) (now (list .entry)) n))) r (now (markers .entry)) (now (markers .exit)) (now (bytes .entry)) (now (bytes .exit)) (now (relocations .entry)) (now (relocations .exit)) (now (info .entry)) (now (info .exit)) ⌝ }
+{
+    match asks(s, fs, list, n) {
+        Question::Yes => write(s, fs, list, n, markers, bytes, relocations, info),
+        Question::No(a, k) => Outcome::Refused(a, k),
+    }
+}
+
+// x64 unwind data from direct codes.
+pub fn seh(functions: &[u64], codes: &[u64], markers: &mut [u64], bytes: &mut [u8], relocations: &mut [u64], info: &mut [u8]) -> Outcome
+    ensures { λ r. ⌜ Writes (seh (now (functions .entry)) (now (codes .entry)) (roomIn (now (markers .entry)) (now (bytes .entry)) (now (relocations .entry)) (now (info .entry)))) r (now (markers .entry)) (now (markers .exit)) (now (bytes .entry)) (now (bytes .exit)) (now (relocations .entry)) (now (relocations .exit)) (now (info .entry)) (now (info .exit)) ⌝ }
+{
+    let n = functions.len() / 5;
+    if n == 0 {
+        return Outcome::Empty;
+    }
+    if !codes_ok(functions, codes) {
+        return Outcome::Refused(13, 0);
+    }
+    let s = Source {
+        direct: true,
+        machine: Machine::X86_64,
+    };
+    answer(s, functions, codes, n, markers, bytes, relocations, info)
 }
