@@ -24,16 +24,16 @@ use Rattle.x64.specs.Sources.{byRows, resultAt, strideOf, Askable, Liste
 
 -- ---- questions
 
-unless-then : (a b : Question) (x : Answer) → unless (andThen a b) x ≡ unless a (unless b x)
+pub unless-then : (a b : Question) (x : Answer) → unless (andThen a b) x ≡ unless a (unless b x)
 unfolding unless andThen
 unless-then none b x = refl
 unless-then (some r) b x = refl
 
-per-each : {A : Type 0} (q : ℕ → A → Question) (f : ℕ → A) (g : ℕ → Option ℕ) (at n : ℕ) → ((k : ℕ) → q k (f k) ≡ noAt k (g k))
+pub per-each : {A : Type 0} (q : ℕ → A → Question) (f : ℕ → A) (g : ℕ → Option ℕ) (at n : ℕ) → ((k : ℕ) → k < at + n → q k (f k) ≡ noAt k (g k))
     → perFunction q at (each f at n) ≡ askEach g at n
 unfolding perFunction each askEach
 per-each q f g at zero h = refl
-per-each q f g at (suc n) h = rw (h at, per-each q f g (suc at) n h)
+per-each q f g at (suc n) h = rw (h at (omega arith), per-each q f g (suc at) n (λ k l. h k (omega arith)))
 
 none-each : (g : ℕ → Option ℕ) (at n : ℕ) → ((k : ℕ) → g k ≡ none) → askEach g at n ≡ none
 unfolding askEach noAt andThen
@@ -45,7 +45,7 @@ unfolding ask pick noAt
 ask-pick true k = refl
 ask-pick false k = refl
 
-ask-long : (size k : ℕ) → ask (ltb size (2 ^ 32)) 21 k ≡ noAt k (longNo size)
+pub ask-long : (size k : ℕ) → ask (ltb size (2 ^ 32)) 21 k ≡ noAt k (longNo size)
 unfolding longNo
 ask-long size k = ask-pick (ltb size (2 ^ 32)) k
 
@@ -84,7 +84,7 @@ module _ (m : Machine) (fs codes : List ℕ) where
 
   direct-long : shortOnes (λ p. p .size) (prologuesOf fs codes) ≡ askEach (passNo 0 (directly m) fs codes) 0 n
   unfolding shortOnes prologuesOf passNo pick strideOf prologueAt
-  direct-long = per-each _ (prologueAt fs codes) (passNo 0 (directly m) fs codes) 0 n (λ k. ask-long (field prologueStride fs k 1) k)
+  direct-long = per-each _ (prologueAt fs codes) (passNo 0 (directly m) fs codes) 0 n (λ k l. ask-long (field prologueStride fs k 1) k)
 
   direct-rows : askEach (passNo 1 (directly m) fs codes) 0 n ≡ none
   unfolding passNo pick resultAt rowsNo
@@ -92,7 +92,7 @@ module _ (m : Machine) (fs codes : List ℕ) where
 
   direct-codes : codeAsks (prologuesOf fs codes) ≡ askEach (passNo 2 (directly m) fs codes) 0 n
   unfolding codeAsks prologuesOf passNo pick resultAt codesNo
-  direct-codes = per-each _ (prologueAt fs codes) (passNo 2 (directly m) fs codes) 0 n (λ k. refl)
+  direct-codes = per-each _ (prologueAt fs codes) (passNo 2 (directly m) fs codes) 0 n (λ k l. refl)
 
   direct-table : x64 (prologuesOf fs codes) ≡ tableOf (directly m) fs codes n
   unfolding prologuesOf resultAt pick orNone
