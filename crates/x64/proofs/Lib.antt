@@ -8,4 +8,4 @@ pub mod Spans
 pub mod Results
 pub mod Writing
 pub mod Entries
-pub mod Windows
+pub mod ByRows

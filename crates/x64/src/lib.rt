@@ -9,7 +9,8 @@ ghost use Rattle.format.specs.Put.{put, Wrote};
 ghost use Rattle.format.specs.Lists.{field, numbersOf, functionStride, prologueStride, mostFunctions, mostRecords};
 ghost use Rattle.format.specs.Answers.{questionOf, Writes};
 ghost use Rattle.format.specs.X64.{runtimeRelocs, runtimeFrom, markersFrom, codeNo, firstNo, slots, prologueNo, frameByte, reversed, infoBytes};
-ghost use Rattle.format.specs.Questions.{accepted, unless, fitting, seh};
+ghost use Rattle.format.specs.Questions.{accepted, unless, fitting, givenFunctions, windowsAsks, windowsAnswer, seh};
+ghost use Rattle.format.specs.Machine.{machineOf};
 ghost use Rattle.format.proofs.Fits.{MachineFits};
 ghost use Rattle.leading.specs.Functions.{RowsReady};
 ghost use Rattle.codes.specs.Codes.{Holds, numberOf, frameAsk};
@@ -33,7 +34,11 @@ use lists::code_at;
 use lists::code_offset_at;
 use lists::codes_ok;
 use lists::extent_at;
+use lists::lists_ok;
+use lists::machine_of;
+use lists::machine_ok;
 use lists::prologue_at;
+use lists::word_ok;
 use prologue::Piece;
 use prologue::moved;
 use prologue::piece_at;
@@ -571,4 +576,25 @@ pub fn seh(functions: &[u64], codes: &[u64], markers: &mut [u64], bytes: &mut [u
         machine: Machine::X86_64,
     };
     answer(s, functions, codes, n, markers, bytes, relocations, info)
+}
+
+// x64 unwind data from rows.
+pub fn windows(machine: &[u64], functions: &[u64], rows: &[u64], landings: &[u64], pairs: &[u64], markers: &mut [u64], bytes: &mut [u8], relocations: &mut [u64], info: &mut [u8]) -> Outcome
+    ensures { λ r. ⌜ Writes (unless (windowsAsks (record { machine = now (machine .entry); functions = now (functions .entry); rows = now (rows .entry); landings = now (landings .entry); pairs = now (pairs .entry) })) (windowsAnswer (machineOf (now (machine .entry))) (givenFunctions (record { machine = now (machine .entry); functions = now (functions .entry); rows = now (rows .entry); landings = now (landings .entry); pairs = now (pairs .entry) })) (roomIn (now (markers .entry)) (now (bytes .entry)) (now (relocations .entry)) (now (info .entry))))) r (now (markers .entry)) (now (markers .exit)) (now (bytes .entry)) (now (bytes .exit)) (now (relocations .entry)) (now (relocations .exit)) (now (info .entry)) (now (info .exit)) ⌝ }
+{
+    if !machine_ok(machine) {
+        return Outcome::Refused(11, 0);
+    }
+    let m = machine_of(machine);
+    if !word_ok(m) {
+        return Outcome::Refused(12, 0);
+    }
+    if !lists_ok(functions, rows, landings, pairs) {
+        return Outcome::Refused(13, 0);
+    }
+    let s = Source {
+        direct: false,
+        machine: m,
+    };
+    answer(s, functions, rows, functions.len() / 18, markers, bytes, relocations, info)
 }
