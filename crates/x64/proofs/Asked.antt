@@ -1,16 +1,12 @@
 -- Questions asked function by function, up to the first no, and the answer that they lead to.
 use mathlib.Core.Path.{_≡_, refl, sym, ap, _∙_}
-use Prim.Native.Nat.{ℕ, zero, suc, _+_, _-_, _*_, _^_, _≤_, _<_}
+use Prim.Native.Nat.{ℕ, zero, suc, _+_, _-_, _≤_, _<_}
 use native.Mathlib.Omega.{arith}
 use native.Mathlib.Numerals.{add-one}
-use mathlib.Core.Bool.{Bool, true, false}
 use mathlib.Core.Option.{Option, none, some}
-use mathlib.Core.List.{List, [], _∷_}
-use Rattle.format.specs.Test.{pick, Result, good, bad, each}
 use Rattle.format.specs.Answers.{questionOf}
-use Rattle.format.specs.declared.Question as declared
 use Rattle.format.specs.declared.Question.the-variants.{Yes, No}
-use Rattle.format.specs.Questions.{Question, andThen, noAt, perFunction}
+use Rattle.format.specs.Questions.{Question, andThen, noAt}
 use Rattle.format.proofs.Choice.{if-eq, if-ne}
 use Rattle.codes.specs.Codes.{numberOf}
 use Rattle.codes.proofs.Numbers.{Told}

@@ -1,20 +1,20 @@
 -- The definitions' answer for rows by the passes over the functions, and what questions 11 to 13 say.
 use mathlib.Core.Path.{_≡_, refl, sym, ap, _∙_}
-use Prim.Native.Nat.{ℕ, zero, suc, _+_, _*_, _/_, _%_, _^_, _≤_, _<_}
+use Prim.Native.Nat.{ℕ, zero, suc, _%_, _^_, _<_}
 use native.Mathlib.Omega.{arith}
-use mathlib.Core.Bool.{Bool, true, false, _&&_}
-use mathlib.Core.Option.{Option, none, some}
+use mathlib.Core.Bool.{true, false, _&&_}
+use mathlib.Core.Option.{none, some}
 use mathlib.Core.List.{List, [], _∷_}
 use lib.Dec.{T, leb, ltb, eqb, leb→le, ltb→lt, eqb→eq}
-use lib.ListN.{length, getD, take, drop, length-drop}
+use lib.ListN.{length, getD, drop, length-drop}
 use lib.Seq.{length-take-le}
-use Rattle.format.specs.Test.{pick, Result, good, bad, onward, all, each}
+use Rattle.format.specs.Test.{pick, Result, good, bad, all, each}
 use Rattle.format.specs.declared.Machine.{Machine}
 use Rattle.format.specs.declared.Outcome.the-variants as outcome
 use Rattle.format.specs.Machine.{machineOf, machineOk, machineStride, isWord, noFramePointer}
 use Rattle.format.specs.Lists.{Function, Prologue, field, count, functionStride, rowStride, landingStride, pairStride, mostFunctions, mostRecords, sumOf, pairsIn, inside, symbolOk, pointerOk, markOk, whenMarked, allIn, rowOkAt, pairOkAt, functionOkAt, listsOk, functionAt, functionsOf}
-use Rattle.format.specs.X64.{codesOf, prologueOf, prologueNo, x64}
-use Rattle.format.specs.Questions.{Question, Room, Answer, Prologues, made, stopped, madeOne, prologuesFor, prologuesAnswer, windowsAnswer, windowsAsks, Given, givenFunctions, ask, andThen, noAt, unless, fitting, perFunction, codeAsks, codesAnswer, shortOnes}
+use Rattle.format.specs.X64.{codesOf, prologueOf, prologueNo}
+use Rattle.format.specs.Questions.{Question, Room, Answer, Prologues, made, stopped, madeOne, prologuesFor, prologuesAnswer, windowsAnswer, windowsAsks, Given, givenFunctions, ask, andThen, noAt, unless, fitting, codeAsks, codesAnswer, shortOnes}
 use Rattle.format.specs.Answers.{outcomeOf, afterwards, Writes}
 use Rattle.format.proofs.Fits.{MachineFits}
 use Rattle.format.proofs.ListLaws.{chained}

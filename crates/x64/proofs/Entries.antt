@@ -1,26 +1,25 @@
 -- The definitions' answers by the passes over the functions, for direct codes and for rows.
-use mathlib.Core.Path.{_≡_, refl, sym, ap, _∙_}
-use Prim.Native.Nat.{ℕ, zero, suc, _+_, _*_, _/_, _%_, _^_, _≤_, _<_}
+use mathlib.Core.Path.{_≡_, refl, sym}
+use Prim.Native.Nat.{ℕ, zero, suc, _+_, _^_, _≤_, _<_}
 use native.Mathlib.Omega.{arith}
 use mathlib.Core.Bool.{Bool, true, false}
 use mathlib.Core.Option.{Option, none, some}
 use mathlib.Core.List.{List, [], _∷_}
-use lib.Dec.{T, leb, ltb, eqb, leb→le, ltb→lt, eqb→eq}
-use lib.ListN.{length, getD, take, drop}
+use lib.Dec.{T, leb, ltb, leb→le, ltb→lt}
+use lib.ListN.{length, getD}
 use borrow.Author.Tests.{eq-eqb, ne-eqb}
 use mir.Facts.{and-yes}
-use Rattle.format.specs.Test.{pick, Result, good, bad, onward, all, each}
+use Rattle.format.specs.Test.{pick, each}
 use Rattle.format.specs.declared.Machine.{Machine}
-use Rattle.format.specs.Machine.{machineOf, machineOk, machineStride, isWord, noFramePointer, x8664}
-use Rattle.format.specs.Lists.{Function, Prologue, field, count, functionStride, prologueStride, codeStride, rowStride, mostFunctions, mostRecords, sumOf, inside, symbolOk, allIn, codeOkAt, prologueOkAt, codesOk, functionAt, prologueAt, prologuesOf, functionsOf}
-use Rattle.format.specs.X64.{codesOf, prologueOf, prologueNo, x64}
+use Rattle.format.specs.Lists.{field, count, prologueStride, codeStride, mostFunctions, mostRecords, sumOf, inside, symbolOk, allIn, codeOkAt, prologueOkAt, codesOk, prologueAt, prologuesOf}
+use Rattle.format.specs.X64.{x64}
 use Rattle.format.specs.Questions.{Question, Room, Answer, ask, andThen, noAt, unless, fitting, perFunction, codeAsks, codesAnswer, shortOnes, seh}
 use Rattle.format.specs.declared.Outcome.the-variants as outcome
 use Rattle.format.specs.Answers.{outcomeOf, afterwards, Writes}
 use Rattle.format.proofs.ListLaws.{chained, in-range}
 use Rattle.x64.specs.declared.Source.{Source}
 use Rattle.x64.specs.Answers.{askEach}
-use Rattle.x64.specs.Sources.{byRows, resultAt, strideOf, Askable, Listed, longNo, rowsNo, codesNo, passNo, orNone, foundAt, asksOf, tableOf}
+use Rattle.x64.specs.Sources.{resultAt, strideOf, Listed, longNo, rowsNo, codesNo, passNo, orNone, asksOf, tableOf}
 
 -- ---- questions
 

@@ -1,29 +1,25 @@
 -- What is found for a function is its prologue by the definitions.
 use mathlib.Core.Path.{_≡_, refl, sym, ap, _∙_}
-use Prim.Native.Nat.{ℕ, _+_, _-_, _*_, _/_, _^_, _≤_, _<_}
+use Prim.Native.Nat.{ℕ, _+_, _-_, _≤_}
 use native.Mathlib.Omega.{arith}
 use mathlib.Core.Bool.{Bool, true, false}
-use mathlib.Core.Option.{Option, none, some}
-use mathlib.Core.List.{List, [], _∷_}
+use mathlib.Core.Option.{none, some}
+use mathlib.Core.List.{List, []}
 use borrow.Author.Tests.{eq-eqb, ne-eqb}
-use lib.Dec.{T, eqb}
-use lib.ListN.{length}
-use lib.IntN.{ℤ, pos}
-use native.Mathlib.Nat.{eq-zero-or-pos}
-use Rattle.format.specs.Test.{pick, Result, good, bad, onward, each}
-use Rattle.format.specs.declared.Machine.{Machine}
-use Rattle.format.specs.declared.Seh.{Seh}
-use Rattle.format.specs.Lists.{Function, Prologue, field, functionStride, prologueStride, codeStride, count, codeAt, lineAt, functionAt, prologueAt}
+use lib.Dec.{eqb}
+use lib.IntN.{pos}
+use Rattle.format.specs.Test.{pick, good, bad, onward}
+use Rattle.format.specs.Lists.{Function, field, functionStride, prologueStride, functionAt, prologueAt}
 use Rattle.format.specs.X64.{codesOf, endOf, prologueOf, prologueNo, infoBytes}
 use Rattle.format.proofs.Choice.{either}
-use Rattle.prologue.specs.Pieces.{Short, Shaped, piecesOf, endIn}
+use Rattle.prologue.specs.Pieces.{Shaped, piecesOf}
 use Rattle.prologue.proofs.Rows.{ready}
 use Rattle.codes.specs.Codes.{numberOf}
 use Rattle.codes.proofs.Numbers.{told-prologue}
 use Rattle.x64.specs.declared.Source.{Source}
 use Rattle.x64.specs.declared.Span.{Span}
 use Rattle.x64.specs.Answers.{saidBy}
-use Rattle.x64.specs.Sources.{codesIn, codesFrom, Readable, meantBy, byRows, resultAt, directSpan, RowsSpan, strideOf, Found, Askable, rowsNo, codesNo, longNo, passNo, orNone, foundAt}
+use Rattle.x64.specs.Sources.{codesIn, Readable, meantBy, byRows, resultAt, directSpan, RowsSpan, strideOf, Found, Askable, rowsNo, codesNo, longNo, passNo, orNone, foundAt}
 use Rattle.x64.proofs.Asked.{said-none, said-some, said-of}
 use Rattle.x64.proofs.Leaves.{direct-codes, rows-codes}
 

@@ -1,12 +1,12 @@
 -- Loops that store function after function: what is still to be stored.
-use mathlib.Core.Path.{_≡_, refl, sym, ap, _∙_}
-use Prim.Native.Nat.{ℕ, zero, suc, _+_, _-_, _*_, _≤_, _<_}
+use mathlib.Core.Path.{_≡_, refl, sym, _∙_}
+use Prim.Native.Nat.{ℕ, suc, _+_, _-_, _*_, _≤_, _<_}
 use native.Mathlib.Omega.{arith}
 use native.Mathlib.Numerals.{add-one}
 use mathlib.Core.List.{List, [], _∷_, _++_}
 use lib.ListN.{length, length-append}
 use Rattle.format.specs.Test.{each}
-use Rattle.format.specs.Put.{put, Wrote}
+use Rattle.format.specs.Put.{Wrote}
 use Rattle.format.specs.Lists.{Prologue, Relocation, numbersOf}
 use Rattle.format.specs.X64.{runtimeRelocs, runtimeFrom}
 use Rattle.format.proofs.PutLaws.{put-append, kept}

@@ -13,7 +13,7 @@ use mir.Val.{toZ, ofZ}
 use native.Mathlib.Nat.{add-zero}
 use Rattle.format.specs.Put.{put, Wrote}
 use Rattle.format.specs.declared.Seh.{Seh}
-use Rattle.format.specs.X64.{codeBytes, codeNo, orNo, firstNo, slots, frameOr, frameByte, reversed}
+use Rattle.format.specs.X64.{codeNo, orNo, firstNo, slots, frameOr, frameByte, reversed}
 use Rattle.format.proofs.PutLaws.{put-none, length-put}
 use Rattle.codes.specs.declared.Code.{Code}
 use Rattle.codes.specs.Codes.{numberOf, frameAsk, Holds}

@@ -3,7 +3,7 @@ use mathlib.Core.Path.{_≡_, refl, sym, ap, _∙_}
 use Prim.Native.Nat.{ℕ, zero, suc, _+_, _-_, _*_, _≤_, _<_}
 use native.Mathlib.Omega.{arith}
 use mathlib.Core.Bool.{Bool, true, false, not}
-use mathlib.Core.Option.{Option, none, some}
+use mathlib.Core.Option.{none, some}
 use mathlib.Core.List.{List, [], _∷_}
 use lib.Dec.{leb}
 use lib.ListN.{length, replicate, length-replicate}
@@ -16,16 +16,15 @@ use Rattle.format.specs.declared.Question.the-variants.{Yes, No}
 use Rattle.format.specs.declared.Outcome.{Outcome}
 use Rattle.format.specs.declared.Outcome.the-variants as outcome
 use Rattle.format.specs.Put.{put, Wrote}
-use Rattle.format.specs.Lists.{Function, Prologue, Relocation, field, functionAt, prologueAt, numbersOf}
-use Rattle.format.specs.Writer.{Written}
+use Rattle.format.specs.Lists.{Function, Prologue, field, functionAt, prologueAt, numbersOf}
 use Rattle.format.specs.X64.{codesOf, prologueOf, markersFrom, runtimeRelocs, runtimeFrom, x64}
-use Rattle.format.specs.Questions.{Question, Room, Answer, accepted, unless, ask, andThen, roomAsks, fitting}
+use Rattle.format.specs.Questions.{Question, Room, Answer, accepted, unless, ask, andThen, roomAsks}
 use Rattle.format.specs.Answers.{questionOf, outcomeOf, afterwards, relocationNumbers, Writes}
 use Rattle.format.proofs.Choice.{either, if-gt}
 use Rattle.format.proofs.ListLaws.{each-length}
 use Rattle.x64.specs.declared.Source.{Source}
 use Rattle.x64.specs.Answers.{namedAt, roomFor, askEach, infosOf, isYes}
-use Rattle.x64.specs.Sources.{byRows, resultAt, strideOf, Listed, Sure, codesNo, passNo, orNone, foundAt, asksOf, tableOf, roomIn}
+use Rattle.x64.specs.Sources.{byRows, resultAt, strideOf, Listed, Sure, codesNo, passNo, orNone, foundAt, asksOf, tableOf}
 use Rattle.x64.proofs.Asked.{said-yes, each-yes}
 use Rattle.x64.proofs.Results.{markers-length}
 

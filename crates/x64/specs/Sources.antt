@@ -1,16 +1,16 @@
 -- Where the codes of a function come from: direct codes, or the rows of its prologue.
 use mathlib.Core.Path.{_≡_}
 use Prim.Native.Nat.{ℕ, zero, suc, _+_, _-_, _*_, _^_, _≤_, _<_}
-use mathlib.Core.Bool.{Bool, true, false}
+use mathlib.Core.Bool.{true, false}
 use mathlib.Core.Option.{Option, none, some}
 use mathlib.Core.List.{List, [], _∷_, _++_}
 use lib.ListN.{length}
-use lib.Dec.{T, ltb, eqb}
+use lib.Dec.{ltb, eqb}
 use lib.IntN.{ℤ, pos}
 use Rattle.format.specs.Test.{pick, Result, good, bad, onward, each}
 use Rattle.format.specs.declared.Machine.{Machine}
 use Rattle.format.specs.declared.Seh.{Seh}
-use Rattle.format.specs.Lists.{Function, Prologue, field, functionStride, prologueStride, codeStride, rowStride, count, mostRecords, mostFunctions, codeAt, functionAt, prologueAt}
+use Rattle.format.specs.Lists.{Function, Prologue, field, functionStride, prologueStride, codeStride, count, mostRecords, mostFunctions, codeAt, functionAt, prologueAt}
 use Rattle.format.specs.X64.{codesOf, prologueOf, prologueNo, x64}
 use Rattle.format.specs.Questions.{Question, Room, andThen}
 use Rattle.format.specs.Writer.{Written}

@@ -466,7 +466,14 @@ fn total(s: Source, fs: &[u64], list: &[u64], n: usize) -> usize
 }
 
 // The records of n functions, and where each stands.
-fn put_infos(markers: &mut [u64], info: &mut [u8], s: Source, fs: &[u64], list: &[u64], n: usize) -> usize
+fn put_infos(
+    markers: &mut [u64],
+    info: &mut [u8],
+    s: Source,
+    fs: &[u64],
+    list: &[u64],
+    n: usize,
+) -> usize
     requires { ⌜ Sure s (now fs) (now list) n × (n ≤ length (now markers)) × (length (infosOf (each (foundAt s (now fs) (now list)) 0 n)) ≤ length (now info)) ⌝ }
     ensures { λ r. ⌜ (now (markers .exit) ≡ put (now (markers .entry)) 0 (markersFrom 0 (each (foundAt s (now (fs .entry)) (now (list .entry))) 0 n))) × (now (info .exit) ≡ put (now (info .entry)) 0 (infosOf (each (foundAt s (now (fs .entry)) (now (list .entry))) 0 n))) ⌝ }
 {
@@ -483,7 +490,17 @@ fn put_infos(markers: &mut [u64], info: &mut [u8], s: Source, fs: &[u64], list: 
 }
 
 // All results of n functions, where they have room.
-fn put_all(s: Source, fs: &[u64], list: &[u64], n: usize, sites: usize, markers: &mut [u64], bytes: &mut [u8], relocations: &mut [u64], info: &mut [u8]) -> Outcome
+fn put_all(
+    s: Source,
+    fs: &[u64],
+    list: &[u64],
+    n: usize,
+    sites: usize,
+    markers: &mut [u64],
+    bytes: &mut [u8],
+    relocations: &mut [u64],
+    info: &mut [u8],
+) -> Outcome
     requires { ⌜ Sure s (now fs) (now list) n × (sites ≡ length (infosOf (each (foundAt s (now fs) (now list)) 0 n))) × (n ≤ length (now markers)) × (12 * n ≤ length (now bytes)) × (15 * n ≤ length (now relocations)) × (sites ≤ length (now info)) ⌝ }
     ensures { λ r. ⌜ Writes (accepted (tableOf s (now (fs .entry)) (now (list .entry)) n)) r (now (markers .entry)) (now (markers .exit)) (now (bytes .entry)) (now (bytes .exit)) (now (relocations .entry)) (now (relocations .exit)) (now (info .entry)) (now (info .exit)) ⌝ }
 {
@@ -526,7 +543,16 @@ fn asks(s: Source, fs: &[u64], list: &[u64], n: usize) -> Question
 }
 
 // The results, where they have room.
-fn write(s: Source, fs: &[u64], list: &[u64], n: usize, markers: &mut [u64], bytes: &mut [u8], relocations: &mut [u64], info: &mut [u8]) -> Outcome
+fn write(
+    s: Source,
+    fs: &[u64],
+    list: &[u64],
+    n: usize,
+    markers: &mut [u64],
+    bytes: &mut [u8],
+    relocations: &mut [u64],
+    info: &mut [u8],
+) -> Outcome
     requires { ⌜ Sure s (now fs) (now list) n ⌝ }
     ensures { λ r. ⌜ Writes (fitting (roomIn (now (markers .entry)) (now (bytes .entry)) (now (relocations .entry)) (now (info .entry))) (tableOf s (now (fs .entry)) (now (list .entry)) n)) r (now (markers .entry)) (now (markers .exit)) (now (bytes .entry)) (now (bytes .exit)) (now (relocations .entry)) (now (relocations .exit)) (now (info .entry)) (now (info .exit)) ⌝ }
 {
@@ -550,7 +576,16 @@ fn write(s: Source, fs: &[u64], list: &[u64], n: usize, markers: &mut [u64], byt
 }
 
 // The questions of n functions, and the results.
-fn answer(s: Source, fs: &[u64], list: &[u64], n: usize, markers: &mut [u64], bytes: &mut [u8], relocations: &mut [u64], info: &mut [u8]) -> Outcome
+fn answer(
+    s: Source,
+    fs: &[u64],
+    list: &[u64],
+    n: usize,
+    markers: &mut [u64],
+    bytes: &mut [u8],
+    relocations: &mut [u64],
+    info: &mut [u8],
+) -> Outcome
     requires { ⌜ Listed s (now fs) (now list) n ⌝ }
     ensures { λ r. ⌜ Writes (unless (asksOf s (now (fs .entry)) (now (list .entry)) n) (fitting (roomIn (now (markers .entry)) (now (bytes .entry)) (now (relocations .entry)) (now (info .entry))) (tableOf s (now (fs .entry)) (now (list .entry)) n))) r (now (markers .entry)) (now (markers .exit)) (now (bytes .entry)) (now (bytes .exit)) (now (relocations .entry)) (now (relocations .exit)) (now (info .entry)) (now (info .exit)) ⌝ }
 {
@@ -561,7 +596,14 @@ fn answer(s: Source, fs: &[u64], list: &[u64], n: usize, markers: &mut [u64], by
 }
 
 // x64 unwind data from direct codes.
-pub fn seh(functions: &[u64], codes: &[u64], markers: &mut [u64], bytes: &mut [u8], relocations: &mut [u64], info: &mut [u8]) -> Outcome
+pub fn seh(
+    functions: &[u64],
+    codes: &[u64],
+    markers: &mut [u64],
+    bytes: &mut [u8],
+    relocations: &mut [u64],
+    info: &mut [u8],
+) -> Outcome
     ensures { λ r. ⌜ Writes (seh (now (functions .entry)) (now (codes .entry)) (roomIn (now (markers .entry)) (now (bytes .entry)) (now (relocations .entry)) (now (info .entry)))) r (now (markers .entry)) (now (markers .exit)) (now (bytes .entry)) (now (bytes .exit)) (now (relocations .entry)) (now (relocations .exit)) (now (info .entry)) (now (info .exit)) ⌝ }
 {
     let n = functions.len() / 5;
@@ -579,7 +621,17 @@ pub fn seh(functions: &[u64], codes: &[u64], markers: &mut [u64], bytes: &mut [u
 }
 
 // x64 unwind data from rows.
-pub fn windows(machine: &[u64], functions: &[u64], rows: &[u64], landings: &[u64], pairs: &[u64], markers: &mut [u64], bytes: &mut [u8], relocations: &mut [u64], info: &mut [u8]) -> Outcome
+pub fn windows(
+    machine: &[u64],
+    functions: &[u64],
+    rows: &[u64],
+    landings: &[u64],
+    pairs: &[u64],
+    markers: &mut [u64],
+    bytes: &mut [u8],
+    relocations: &mut [u64],
+    info: &mut [u8],
+) -> Outcome
     ensures { λ r. ⌜ Writes (unless (windowsAsks (record { machine = now (machine .entry); functions = now (functions .entry); rows = now (rows .entry); landings = now (landings .entry); pairs = now (pairs .entry) })) (windowsAnswer (machineOf (now (machine .entry))) (givenFunctions (record { machine = now (machine .entry); functions = now (functions .entry); rows = now (rows .entry); landings = now (landings .entry); pairs = now (pairs .entry) })) (roomIn (now (markers .entry)) (now (bytes .entry)) (now (relocations .entry)) (now (info .entry))))) r (now (markers .entry)) (now (markers .exit)) (now (bytes .entry)) (now (bytes .exit)) (now (relocations .entry)) (now (relocations .exit)) (now (info .entry)) (now (info .exit)) ⌝ }
 {
     if !machine_ok(machine) {
@@ -596,5 +648,14 @@ pub fn windows(machine: &[u64], functions: &[u64], rows: &[u64], landings: &[u64
         direct: false,
         machine: m,
     };
-    answer(s, functions, rows, functions.len() / 18, markers, bytes, relocations, info)
+    answer(
+        s,
+        functions,
+        rows,
+        functions.len() / 18,
+        markers,
+        bytes,
+        relocations,
+        info,
+    )
 }

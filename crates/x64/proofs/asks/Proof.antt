@@ -1,8 +1,6 @@
 -- `x64::asks` meets its contract.
 use Rattle.x64.proofs.Writing.{not-yes, is-yes}
-use Rattle.x64.specs.Sources.{passNo, asksOf}
-use Rattle.x64.specs.Answers.{askEach}
-use mathlib.Core.Bool.{not}
+use Rattle.x64.specs.Sources.{asksOf}
 use mathlib.Core.Path.{_∙_}
 use borrow.Author.Needs.{needs}
 use Rattle.x64.proofs.asks.Statement.{statement}

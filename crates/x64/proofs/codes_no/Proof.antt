@@ -4,11 +4,9 @@ use mir.Syntax.{w64}
 use borrow.Author.Needs.{needs}
 use Rattle.x64.proofs.Walks.{Going, start, taken, turn, ended, Asking, asking, asked-yes, asked-no, all-asked}
 use Rattle.x64.specs.Sources.{codesIn}
-use Rattle.codes.proofs.Numbers.{told-code, told-frame}
-use Rattle.codes.specs.Codes.{frameAsk}
+use Rattle.codes.proofs.Numbers.{told-code}
 use Rattle.format.specs.X64.{codeNo}
 use Prim.Native.Nat.{_-_}
-use mathlib.Core.Path.{_∙_}
 use Rattle.x64.proofs.codes_no.Statement.{statement}
 use Rattle.x64.proofs.codes_no.Tie as tie
 

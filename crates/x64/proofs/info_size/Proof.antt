@@ -3,7 +3,6 @@ use Rattle.x64.proofs.Infos.{Agreed, agreed}
 use Rattle.codes.proofs.Sizes.{info-parts}
 use Rattle.x64.specs.Sources.{codesIn}
 use mathlib.Core.Path.{sym}
-use native.Mathlib.Omega.{arith}
 use borrow.Author.Needs.{needs}
 use Rattle.x64.proofs.info_size.Statement.{statement}
 use Rattle.x64.proofs.info_size.Tie as tie

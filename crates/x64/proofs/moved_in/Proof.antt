@@ -3,7 +3,6 @@ use Rattle.prologue.specs.Pieces.{movedIn}
 use Rattle.x64.proofs.Leaves.{direct-moved, rows-moved, moved-short}
 use Rattle.prologue.proofs.Distances.{short-passed}
 use native.Mathlib.Omega.{arith}
-use mathlib.Core.Path.{_∙_}
 use Rattle.x64.proofs.moved_in.Statement.{statement}
 use Rattle.x64.proofs.moved_in.Tie as tie
 

@@ -1,6 +1,5 @@
 -- `x64::pass_no` meets its contract.
 use Rattle.x64.proofs.Spans.{stride-most, pass-zero, pass-refused, pass-rows, pass-codes}
-use Rattle.x64.specs.Sources.{strideOf}
 use native.Mathlib.Omega.{arith}
 use mathlib.Core.Path.{_∙_}
 use borrow.Author.Needs.{needs}

@@ -2,7 +2,7 @@
 use Rattle.x64.proofs.Leaves.{of-one}
 use Rattle.prologue.specs.Pieces.{pieceOf}
 use Rattle.codes.specs.Codes.{numberOf, frameAsk}
-use Rattle.format.specs.X64.{codeNo, firstNo}
+use Rattle.format.specs.X64.{firstNo}
 use mathlib.Core.Path.{ap, _∙_}
 use borrow.Author.Needs.{needs}
 use Rattle.x64.proofs.piece_frame_no.Statement.{statement}

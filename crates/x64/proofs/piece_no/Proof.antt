@@ -1,7 +1,7 @@
 -- `x64::piece_no` meets its contract.
 use Rattle.x64.proofs.Leaves.{of-one}
 use Rattle.prologue.specs.Pieces.{pieceOf}
-use Rattle.codes.specs.Codes.{numberOf, frameAsk}
+use Rattle.codes.specs.Codes.{numberOf}
 use Rattle.format.specs.X64.{codeNo, firstNo}
 use mathlib.Core.Path.{ap, _∙_}
 use borrow.Author.Needs.{needs}

@@ -2,7 +2,6 @@
 use Rattle.prologue.specs.Pieces.{pieceOf}
 use Rattle.format.specs.X64.{slots}
 use native.Mathlib.Omega.{arith}
-use mathlib.Core.Path.{_∙_}
 use borrow.Author.Needs.{needs}
 use Rattle.x64.proofs.piece_slots.Statement.{statement}
 use Rattle.x64.proofs.piece_slots.Tie as tie

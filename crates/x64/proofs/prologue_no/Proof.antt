@@ -1,10 +1,7 @@
 -- `x64::prologue_no` meets its contract.
 use Rattle.x64.proofs.Infos.{no-code, no-end, no-slots, no-frame}
 use Rattle.x64.specs.Sources.{codesIn}
-use Rattle.format.specs.declared.Seh.{Seh}
 use mathlib.Core.Path.{_∙_}
-use mathlib.Core.List.{List}
-use Prim.Native.Nat.{ℕ}
 use borrow.Author.Needs.{needs}
 use Rattle.x64.proofs.prologue_no.Statement.{statement}
 use Rattle.x64.proofs.prologue_no.Tie as tie

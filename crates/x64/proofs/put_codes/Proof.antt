@@ -2,12 +2,10 @@
 use borrow.Author.Needs.{needs}
 use Rattle.x64.proofs.Walks.{Going, start, taken, turn, ended, Putting, putting, put-asked, put-low, put-room, put-turn, all-put}
 use Rattle.x64.specs.Sources.{codesIn}
-use Rattle.format.specs.declared.Seh.{Seh}
 use mir.Val.{toZ}
 use mir.Syntax.{w64}
 use native.Mathlib.Omega.{arith}
-use Prim.Native.Nat.{ℕ, _-_, _+_, _*_}
-use mathlib.Core.List.{List}
+use Prim.Native.Nat.{_-_}
 use Rattle.x64.proofs.put_codes.Statement.{statement}
 use Rattle.x64.proofs.put_codes.Tie as tie
 

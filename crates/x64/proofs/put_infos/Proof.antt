@@ -3,8 +3,7 @@ use borrow.Author.Needs.{needs}
 use Rattle.x64.proofs.Spans.{codes-yes, info-is}
 use Rattle.x64.proofs.Results.{Describing, describing, mark-room, info-room, described, all-marked, all-described}
 use Rattle.x64.specs.Sources.{foundAt}
-use lib.ListN.{length}
-use Prim.Native.Nat.{_-_, _+_, _≤_}
+use Prim.Native.Nat.{_-_}
 use Rattle.x64.proofs.put_infos.Statement.{statement}
 use Rattle.x64.proofs.put_infos.Tie as tie
 

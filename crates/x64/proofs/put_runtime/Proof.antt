@@ -5,10 +5,8 @@ use Rattle.x64.specs.Answers.{namedAt}
 use Rattle.lists.proofs.Sums.{within}
 use Rattle.format.proofs.ListLaws.{each-length}
 use Rattle.format.specs.Test.{each}
-use Rattle.format.specs.Lists.{numbersOf}
 use native.Mathlib.Omega.{arith}
 use Prim.Native.Nat.{_-_}
-use mathlib.Core.Path.{_∙_}
 use Rattle.x64.proofs.put_runtime.Statement.{statement}
 use Rattle.x64.proofs.put_runtime.Tie as tie
 

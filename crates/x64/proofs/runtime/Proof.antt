@@ -6,9 +6,6 @@ use Rattle.format.proofs.PutLaws.{_then_, kept}
 use borrow.Author.Needs.{needs}
 use Rattle.x64.proofs.runtime.Statement.{statement}
 use Rattle.x64.proofs.runtime.Tie as tie
-use Rattle.x64.proofs.runtime.Reads as reads
-use Rattle.x64.proofs.runtime.Lts as lts
-use Rattle.relocs.proofs.relocation.Reads as relocation-reads
 
 -- src/lib.rt:22:9
 relocation-requires : tie.Need-relocation-requires

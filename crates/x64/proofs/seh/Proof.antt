@@ -4,7 +4,7 @@ use Rattle.x64.specs.Sources.{roomIn}
 use Rattle.lists.proofs.Answers.{accepted, refused}
 use Rattle.format.specs.Machine.{x8664}
 use native.Mathlib.Omega.{arith}
-use mathlib.Core.Path.{refl, _∙_}
+use mathlib.Core.Path.{refl}
 use borrow.Author.Needs.{needs}
 use Rattle.x64.proofs.seh.Statement.{statement}
 use Rattle.x64.proofs.seh.Tie as tie

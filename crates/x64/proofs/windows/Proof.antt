@@ -6,8 +6,6 @@ use Rattle.lists.proofs.Answers.{accepted, refused}
 use Rattle.format.specs.Questions.{Given, Room}
 use Rattle.format.specs.Machine.{machineOf}
 use lib.Dec.{eqb→eq}
-use native.Mathlib.Omega.{arith}
-use mathlib.Core.Path.{_∙_}
 use borrow.Author.Needs.{needs}
 use Rattle.x64.proofs.windows.Statement.{statement}
 use Rattle.x64.proofs.windows.Tie as tie

@@ -4,7 +4,6 @@ use Rattle.x64.proofs.Asked.{said-yes}
 use Rattle.x64.specs.Sources.{tableOf, roomIn}
 use Rattle.format.specs.Questions.{accepted, roomAsks, fitting}
 use Rattle.format.specs.Answers.{questionOf}
-use native.Mathlib.Omega.{arith}
 use mathlib.Core.Path.{sym, ap, _∙_}
 use borrow.Author.Needs.{needs}
 use Rattle.x64.proofs.write.Statement.{statement}
