@@ -7,37 +7,29 @@ use borrow.Author.Needs.{needs}
 use Rattle.x64.proofs.runtime.Statement.{statement}
 use Rattle.x64.proofs.runtime.Tie as tie
 
--- src/lib.rt:22:9
 relocation-requires : tie.Need-relocation-requires
 relocation-requires c κs = search needs
 
--- src/lib.rt:23:32
 add-relocation : tie.Need-add-relocation
 add-relocation c = search needs
 
--- src/lib.rt:23:9
 relocation-requires-2 : tie.Need-relocation-requires-2
 unfolding numbersOf
 relocation-requires-2 c κs = omega (arith, c .before .before .before .relocation .ensures .past, kept (c .before .before .before .relocation .ensures))
 
--- src/lib.rt:24:24
 add-relocation-2 : tie.Need-add-relocation-2
 add-relocation-2 c = search needs
 
--- src/lib.rt:24:35
 add-relocation-3 : tie.Need-add-relocation-3
 add-relocation-3 c = search needs
 
--- src/lib.rt:24:5
 relocation-requires-3 : tie.Need-relocation-requires-3
 unfolding numbersOf
 relocation-requires-3 c κs = omega (arith, c .before .before .before .relocation2 .ensures .past, kept (c .before .before .before .relocation2 .ensures), c .before .before .before .before .before .before .before .relocation .ensures .past, kept (c .before .before .before .before .before .before .before .relocation .ensures))
 
--- src/lib.rt:18:1
 same-length : tie.Need-same-length
 same-length c = search needs
 
--- src/lib.rt:18:1
 returns : tie.Need-returns
 unfolding numbersOf runtimeRelocs
 returns c = c .before .before .before .before .before .before .before .before .before .before .relocation .ensures then c .before .before .before .before .before .before .relocation2 .ensures then c .before .before .relocation3 .ensures
