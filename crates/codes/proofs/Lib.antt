@@ -4,5 +4,3 @@ pub mod Forms
 pub mod Copies
 pub mod Numbers
 pub mod Sizes
-pub mod Walks
-pub mod Infos

@@ -82,14 +82,3 @@ told-prologue end cs =
     told-or (firstNo codeNo cs) _ (told-first codeNo told-code cs)
     (told-or _ _ (told-end (leb end 255) 35 (lit< tt))
     (told-or _ _ (told-end (leb (slots cs) 255) 40 (lit< tt)) (told-first (λ c. frameNo (c .1)) (λ c. told-frame (c .1)) cs)))
-
--- ---- 0 is a yes
-
-pub code-yes : (x : ℕ × Seh) → numberOf (codeNo x) ≡ 0 → codeNo x ≡ none
-code-yes x e = none-of (codeNo x) (told-code x) e
-
-pub frame-yes : (code : Seh) → numberOf (frameNo code) ≡ 0 → frameNo code ≡ none
-frame-yes code e = none-of (frameNo code) (told-frame code) e
-
-pub prologue-yes : (end : ℕ) (cs : List (ℕ × Seh)) → numberOf (prologueNo end cs) ≡ 0 → prologueNo end cs ≡ none
-prologue-yes end cs e = none-of (prologueNo end cs) (told-prologue end cs) e

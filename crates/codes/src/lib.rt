@@ -1,18 +1,16 @@
-// x64 unwind codes: the questions and the bytes of one code and of a function's. Ported from rucc-asm/src/unwind.rs (nodes, large, slot, describe) of tamnd/rucc, changed: see NOTICE.
+// One x64 unwind code: its questions and its bytes. Ported from rucc-asm/src/unwind.rs (nodes, large, slot) of tamnd/rucc, changed: see NOTICE.
 ghost use mathlib.Core.Path.{_≡_};
 ghost use mathlib.Core.Option.{none, some};
 ghost use mathlib.Core.List.{[], _∷_, _++_};
-ghost use Prim.Native.Nat.{ℕ, _+_, _*_, _≤_, _<_};
+ghost use Prim.Native.Nat.{_+_, _*_, _≤_, _<_};
 ghost use lib.ListN.{length, take};
-ghost use Rattle.format.specs.Test.{pick, each};
-ghost use Rattle.format.specs.Lists.{codeStride, count, mostRecords, codeAt};
+ghost use Rattle.format.specs.Test.{pick};
+ghost use Rattle.format.specs.Lists.{count};
 ghost use Rattle.format.specs.Put.{Wrote};
 ghost use Rattle.format.specs.Leb.{little};
-ghost use Rattle.format.specs.X64.{size64, registerIn, allocNo, saveNo, operandNo, codeNo, firstNo, frameOk, frameNo, frameOr, node, allocBytes, slotBytes, saveBytes, codeBytes, slots, prologueNo, frameByte, reversed, infoBytes};
-ghost use Rattle.codes.specs.Codes.{Holds, numberOf, frameAsk, isNear, allocSize, saveSize};
+ghost use Rattle.format.specs.X64.{size64, registerIn, allocNo, saveNo, operandNo, codeNo, frameOk, frameNo, frameOr, node, allocBytes, slotBytes, saveBytes, codeBytes};
+ghost use Rattle.codes.specs.Codes.{Holds, numberOf, isNear, allocSize, saveSize};
 use format::Seh;
-use lists::code_at;
-use lists::code_offset_at;
 
 // ---- the questions of a code: the number of a no, or 0
 
@@ -230,13 +228,13 @@ pub fn nodes(at: u64, code: Seh) -> Code
 }
 
 // How many bytes the nodes of a code have.
-fn alloc_size(bytes: u64) -> usize
-    ensures { λ r. ⌜ r ≡ allocSize bytes ⌝ }
+fn alloc_size(size: u64) -> usize
+    ensures { λ r. ⌜ r ≡ allocSize size ⌝ }
 {
-    if bytes <= 128 {
+    if size <= 128 {
         return 2;
     }
-    if bytes / 8 < 65536 {
+    if size / 8 < 65536 {
         return 4;
     }
     6
@@ -287,117 +285,7 @@ pub fn put_nodes(out: &mut [u8], at: usize, n: Code) -> usize
     at + count
 }
 
-// ---- the codes of a function: n of the list from `first` on
-
-// The first no of 34 to 39.
-fn codes_no(codes: &[u64], first: usize, n: usize) -> u64
-    requires { ⌜ first + n ≤ count codeStride (now codes) ⌝ }
-    ensures { λ r. ⌜ r ≡ numberOf (firstNo codeNo (each (codeAt (now (codes .entry))) first n)) ⌝ }
-{
-    let end = first + n;
-    let mut i = first;
-    while i < end {
-        let k = code_no(code_offset_at(codes, i), code_at(codes, i));
-        if k != 0 {
-            return k;
-        }
-        i += 1;
-    }
-    0
-}
-
-// How many slots of two bytes the codes have.
-fn slots(codes: &[u64], first: usize, n: usize) -> usize
-    requires { ⌜ first + n ≤ count codeStride (now codes) ⌝ }
-    ensures { λ r. ⌜ r ≡ slots (each (codeAt (now (codes .entry))) first n) ⌝ }
-{
-    let end = first + n;
-    let mut sum = 0;
-    let mut i = first;
-    while i < end {
-        sum += nodes_size(code_offset_at(codes, i), code_at(codes, i)) / 2;
-        i += 1;
-    }
-    sum
-}
-
-// 41 of the codes.
-fn frames_no(codes: &[u64], first: usize, n: usize) -> u64
-    requires { ⌜ first + n ≤ count codeStride (now codes) ⌝ }
-    ensures { λ r. ⌜ r ≡ numberOf (firstNo frameAsk (each (codeAt (now (codes .entry))) first n)) ⌝ }
-{
-    let end = first + n;
-    let mut i = first;
-    while i < end {
-        let k = frame_no(code_at(codes, i));
-        if k != 0 {
-            return k;
-        }
-        i += 1;
-    }
-    0
-}
-
-// The header's byte of the frame register.
-fn frame_byte(codes: &[u64], first: usize, n: usize) -> u8
-    requires { ⌜ (first + n ≤ count codeStride (now codes)) × (firstNo codeNo (each (codeAt (now codes)) first n) ≡ none) × (firstNo frameAsk (each (codeAt (now codes)) first n) ≡ none) ⌝ }
-    ensures { λ r. ⌜ r ≡ frameByte 0 (each (codeAt (now (codes .entry))) first n) ⌝ }
-{
-    let end = first + n;
-    let mut b = 0;
-    let mut i = first;
-    while i < end {
-        b = frame_or(b, code_at(codes, i));
-        i += 1;
-    }
-    b
-}
-
-// The codes in reverse: the first stands last, `held` slots up from `at`, and each other one before it.
-fn put_codes(out: &mut [u8], at: usize, held: usize, codes: &[u64], first: usize, n: usize) -> usize
-    requires { ⌜ (first + n ≤ count codeStride (now codes)) × (firstNo codeNo (each (codeAt (now codes)) first n) ≡ none) × (held ≡ slots (each (codeAt (now codes)) first n)) × (at + 2 * held ≤ length (now out)) ⌝ }
-    ensures { λ r. ⌜ Wrote (now (out .entry)) (now (out .exit)) at r (reversed (each (codeAt (now (codes .entry))) first n)) ⌝ }
-{
-    let end = first + n;
-    let mut to = at + 2 * held;
-    let mut i = first;
-    while i < end {
-        let c = nodes(code_offset_at(codes, i), code_at(codes, i));
-        to -= c.count;
-        put_nodes(out, to, c);
-        i += 1;
-    }
-    at + 2 * held
-}
-
-// The questions of a function's codes: 34 to 39 of each, 35 of the prologue's end, 40, and 41 of each.
-pub fn prologue_no(codes: &[u64], first: usize, n: usize, end: u64) -> u64
-    requires { ⌜ first + n ≤ count codeStride (now codes) ⌝ }
-    ensures { λ r. ⌜ r ≡ numberOf (prologueNo end (each (codeAt (now (codes .entry))) first n)) ⌝ }
-{
-    let k = codes_no(codes, first, n);
-    if k != 0 {
-        return k;
-    }
-    if 255 < end {
-        return 35;
-    }
-    if 255 < slots(codes, first, n) {
-        return 40;
-    }
-    frames_no(codes, first, n)
-}
-
 // ---- UNWIND_INFO
-
-// How many bytes the record of a function's codes has.
-pub fn info_size(codes: &[u64], first: usize, n: usize) -> usize
-    requires { ⌜ (first + n ≤ count codeStride (now codes)) × (n ≤ mostRecords) ⌝ }
-    ensures { λ r. ⌜ ((end : ℕ) → r ≡ length (infoBytes end (each (codeAt (now (codes .entry))) first n))) ⌝ }
-{
-    let held = slots(codes, first, n);
-    4 + 2 * held + 2 * (held % 2)
-}
 
 // The record's head: version 1 and no flags, the prologue's end, the count of slots, the frame byte.
 pub fn head(out: &mut [u8], at: usize, end: u8, held: u8, frame: u8) -> usize
@@ -408,16 +296,4 @@ pub fn head(out: &mut [u8], at: usize, end: u8, held: u8, frame: u8) -> usize
     let b = leb::byte(out, a, end);
     let c = leb::byte(out, b, held);
     leb::byte(out, c, frame)
-}
-
-// The record of a function's codes.
-pub fn describe(out: &mut [u8], at: usize, end: u64, codes: &[u64], first: usize, n: usize) -> usize
-    requires { ⌜ (first + n ≤ count codeStride (now codes)) × (prologueNo end (each (codeAt (now codes)) first n) ≡ none) × (at + length (infoBytes end (each (codeAt (now codes)) first n)) ≤ length (now out)) ⌝ }
-    ensures { λ r. ⌜ Wrote (now (out .entry)) (now (out .exit)) at r (infoBytes end (each (codeAt (now (codes .entry))) first n)) ⌝ }
-{
-    let held = slots(codes, first, n);
-    let frame = frame_byte(codes, first, n);
-    let a = head(out, at, end as u8, held as u8, frame);
-    let b = put_codes(out, a, held, codes, first, n);
-    leb::fill(out, b, 2 * (held % 2))
 }

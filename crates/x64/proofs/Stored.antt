@@ -1,0 +1,63 @@
+-- Loops that store function after function: what is still to be stored.
+use mathlib.Core.Path.{_≡_, refl, sym, _∙_}
+use Prim.Native.Nat.{ℕ, suc, _+_, _-_, _*_, _≤_, _<_}
+use native.Mathlib.Omega.{arith}
+use native.Mathlib.Numerals.{add-one}
+use mathlib.Core.List.{List, [], _∷_, _++_}
+use lib.ListN.{length, length-append}
+use Rattle.format.specs.Test.{each}
+use Rattle.format.specs.Put.{Wrote}
+use Rattle.format.specs.Lists.{Prologue, Relocation, numbersOf}
+use Rattle.format.specs.X64.{runtimeRelocs, runtimeFrom}
+use Rattle.format.proofs.PutLaws.{put-append, kept}
+use Rattle.format.proofs.Storing as storing
+use Rattle.format.proofs.Storing.{Storing}
+
+-- a part that is stored
+pub part : {xs₀ xs ys : List ℕ} {p i q : ℕ} {all bs left : List ℕ} → Storing xs₀ xs p i all (bs ++ left) → Wrote xs ys i q bs → Storing xs₀ ys p q all left
+part {xs₀} {xs} {ys} {p} {i} {q} {all} {bs} {left} c w = record {
+  kept = kept w ∙ c .kept;
+  place = omega (arith, c .place, w .past, length-append bs left);
+  room = omega (arith, c .room, w .past, length-append bs left, kept w);
+  same = rw (w .stored, w .past) (sym (put-append xs i bs left) ∙ c .same);
+}
+
+-- ---- relocations
+
+numbers-append : (xs ys : List Relocation) → numbersOf (xs ++ ys) ≡ numbersOf xs ++ numbersOf ys
+unfolding numbersOf
+numbers-append [] ys = refl
+numbers-append (x ∷ xs) ys = rw (numbers-append xs ys)
+
+pub runtime-length : (at : ℕ) (fs : List Prologue) → length (numbersOf (runtimeFrom at fs)) ≡ 15 * length fs
+unfolding runtimeFrom runtimeRelocs numbersOf
+runtime-length at [] = refl
+runtime-length at (f ∷ fs) = omega (arith, runtime-length (at + 12) fs)
+
+-- those of the functions from k on, of n, are still to be stored, from `to` on
+pub record Relating (f : ℕ → Prologue) (n : ℕ) (out₀ out : List ℕ) (k to : ℕ) : Type 0 where
+  pub high : k ≤ n
+  pub left : Storing out₀ out 0 to (numbersOf (runtimeFrom 0 (each f 0 n))) (numbersOf (runtimeFrom (12 * k) (each f k (n - k))))
+
+pub relating : (f : ℕ → Prologue) {n : ℕ} {out : List ℕ} → length (numbersOf (runtimeFrom 0 (each f 0 n))) ≤ length out → Relating f n out out 0 0
+relating f {n} h = let e : n - 0 ≡ n = omega arith in record { high = omega arith; left = rw e (storing.start (omega arith)) }
+
+module _ {f : ℕ → Prologue} {n : ℕ} {out₀ out : List ℕ} {k to : ℕ} (r : Relating f n out₀ out k to) where
+  pub next : k < n
+      → Storing out₀ out 0 to (numbersOf (runtimeFrom 0 (each f 0 n))) (numbersOf (runtimeRelocs (12 * k) (f k)) ++ numbersOf (runtimeFrom (12 * (k + 1)) (each f (k + 1) (n - (k + 1)))))
+  unfolding runtimeFrom each
+  next h =
+      let e : n - k ≡ suc (n - suc k) = omega arith in
+      let t : 12 * k + 12 ≡ 12 * suc k = omega arith in
+      rw (add-one k) (rw (e, numbers-append, t) at (r .left))
+
+  pub related : {new : List ℕ} {q : ℕ} → k < n → Wrote out new to q (numbersOf (runtimeRelocs (12 * k) (f k))) → Relating f n out₀ new (k + 1) q
+  related h w = record { high = omega arith; left = part (next h) w }
+
+  pub room : k < n → to + 15 ≤ length out
+  unfolding runtimeRelocs numbersOf
+  room h = omega (arith, next h .room)
+
+  pub all-related : n ≤ k → Wrote out₀ out 0 to (numbersOf (runtimeFrom 0 (each f 0 n)))
+  unfolding runtimeFrom each numbersOf
+  all-related h = let e : n - k ≡ 0 = omega arith in storing.ended (rw e at (r .left))
