@@ -1,5 +1,5 @@
 #!/usr/bin/env python3
-"""What llvm-readobj and objdump read in x64 records that the library wrote: `windows.py ANSWERS CASES` (texts in the form of README.md).
+"""What llvm-readobj and objdump read in x64 records: `windows.py ANSWERS CASES` (texts in the form of README.md).
 
 Each accepted list of direct codes (entry seh) becomes a COFF object with .text, .pdata and .xdata. Both tools then list every function's
 codes, prologue size, frame register and count of slots, and the harness holds them to the codes that the list has."""
