@@ -31,7 +31,7 @@ EIGHT_BYTES = (0x04, 0x0C)
 # The Rust pads to the word, whatever it is; a wider one is not handed to it.
 WIDEST = 64
 NAMES = {0: "ELF", 1: "COFF", 2: "Mach-O"}
-ENTRIES = ["relaxed_table ELF", "relaxed_table Mach-O", "relaxed_table other", "relaxed_debug_frame"]
+ENTRIES = ["relaxed_table ELF", "relaxed_table Mach-O", "relaxed_table COFF", "relaxed_table other", "relaxed_debug_frame", "seh"]
 
 
 class Failed(Exception):
@@ -42,11 +42,6 @@ def entry_of(case):
     if case["entry"] != "relaxed_table":
         return case["entry"]
     return f"relaxed_table {NAMES.get(case['format'], 'other')}"
-
-
-def exported(case):
-    """Whether an export serves the case: debug_frame, and the DWARF part of relaxed_table with the formats that have no table."""
-    return case["entry"] == "relaxed_debug_frame" or case["entry"] == "relaxed_table" and case["format"] in (0, 2, 3, 4)
 
 
 def used(case):
@@ -154,12 +149,12 @@ def differs(case, want, said, got, encoding):
 
 
 def compare(text, counts):
-    cases = [case for case in parse(text.split("\n")) if exported(case)]
+    cases = parse(text.split("\n"))
     encodings = [stand_in(case) for case in cases]
     handed = "".join(for_the_rust(case, encoding) for case, encoding in zip(cases, encodings) if case["machine"][0:1] <= [WIDEST])
     said = by_case(run(os.path.join(OUT, "release", "harness"), handed))
     said.update({case["name"]: ["inexpressible"] for case in cases if case["name"] not in said})
-    printed = run(os.path.join(OUT, "ours"), "".join(for_the_rust(case, None) for case in cases))
+    printed = run(os.path.join(OUT, "ours"), text)
     got = by_case(printed)
     for case, encoding in zip(cases, encodings):
         name, want = case["name"], expected(case)

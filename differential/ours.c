@@ -93,13 +93,16 @@ static unwind_written call(const a_case *c, lent *b) {
     const list *l = c->lists;
     switch (c->entry) {
     case TABLE:
-        return unwind_dwarf_table(l[MACHINE].at, l[MACHINE].count, c->format, l[FUNCTIONS].at, l[FUNCTIONS].count,
+        return unwind_relaxed_table(l[MACHINE].at, l[MACHINE].count, c->format, l[FUNCTIONS].at, l[FUNCTIONS].count,
             l[ROWS].at, l[ROWS].count, l[LANDINGS].at, l[LANDINGS].count, l[PAIRS].at, l[PAIRS].count,
             b->at[0], b->count[0], b->at[1], b->count[1], b->at[2], b->count[2], b->at[3], b->count[3]);
-    default:
+    case DEBUG_FRAME:
         return unwind_relaxed_debug_frame(l[MACHINE].at, l[MACHINE].count, c->format, l[FUNCTIONS].at, l[FUNCTIONS].count,
             l[ROWS].at, l[ROWS].count, l[LANDINGS].at, l[LANDINGS].count, l[PAIRS].at, l[PAIRS].count,
             b->at[0], b->count[0], b->at[1], b->count[1], b->at[2], b->count[2]);
+    default:
+        return unwind_seh(l[FUNCTIONS].at, l[FUNCTIONS].count, l[CODES].at, l[CODES].count,
+            b->at[0], b->count[0], b->at[1], b->count[1], b->at[2], b->count[2], b->at[3], b->count[3]);
     }
 }
 

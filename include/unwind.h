@@ -1,4 +1,4 @@
-/* Unwind tables: the writers of ELF's eh_frame and debug_frame and of Mach-O's eh_frame, the row check and the reader.
+/* Unwind tables: the writers of ELF's eh_frame and debug_frame, Mach-O's eh_frame and Windows x64 unwind data.
  *
  * Every function takes every input: a refusal comes back as the number of the question that was answered by no, and every
  * lent buffer is then as it was. An accepted call leaves what lies past its results as it was.
@@ -25,6 +25,8 @@ extern "C" {
  *                    2 DefCfaRegister, 3 Offset, 4 Restore, 5 Undefined, 6 RememberState, 7 RestoreState, 8 NegateRaState
  *   landings      3: start, length, pad
  *   pairs         4: first place, second place, first symbol, second symbol
+ *   functions of direct codes   5: symbol, length, prologue end, codes_at, codes
+ *   codes         5: offset, kind (0 Push, 1 Alloc, 2 Frame, 3 Save), register, vector mark, value (64-bit two's complement)
  *   relocations   5: place, symbol, kind, size, addend
  *
  * Formats: 0 ELF, 1 COFF, 2 Mach-O, 3 Wasm, 4 Plan 9. */
@@ -35,21 +37,24 @@ typedef struct {
     uint64_t number, position, places, bytes, relocations, sites;
 } unwind_written;
 
-/* eh_frame of ELF (0) and Mach-O (2); an empty result of any other format. */
-unwind_written unwind_dwarf_table(
+unwind_written unwind_relaxed_table(
     const uint64_t *machine, size_t machine_n, uint64_t format,
     const uint64_t *functions, size_t functions_n, const uint64_t *rows, size_t rows_n,
     const uint64_t *landings, size_t landings_n, const uint64_t *pairs, size_t pairs_n,
     uint64_t *places, size_t places_n, uint8_t *bytes, size_t bytes_n,
     uint64_t *relocations, size_t relocations_n, uint8_t *sites, size_t sites_n);
 
-/* debug_frame of ELF (0); an empty result of any other format. */
 unwind_written unwind_relaxed_debug_frame(
     const uint64_t *machine, size_t machine_n, uint64_t format,
     const uint64_t *functions, size_t functions_n, const uint64_t *rows, size_t rows_n,
     const uint64_t *landings, size_t landings_n, const uint64_t *pairs, size_t pairs_n,
     uint64_t *places, size_t places_n, uint8_t *bytes, size_t bytes_n,
     uint64_t *relocations, size_t relocations_n);
+
+unwind_written unwind_seh(
+    const uint64_t *functions, size_t functions_n, const uint64_t *codes, size_t codes_n,
+    uint64_t *markers, size_t markers_n, uint8_t *bytes, size_t bytes_n,
+    uint64_t *relocations, size_t relocations_n, uint8_t *info, size_t info_n);
 
 /* 1 where the rows of function k pass the row check, else 0; also 0 for k past the list. */
 uint64_t unwind_row_check(const uint64_t *functions, size_t functions_n, const uint64_t *rows, size_t rows_n, uint64_t k);

@@ -9,13 +9,13 @@ use Rattle.format.specs.declared.Outcome.{Outcome}
 use Rattle.format.specs.declared.Section.the-variants.{Debug}
 use Rattle.format.specs.Lists.{count, functionStride}
 use Rattle.format.specs.Writer.{Written}
-use Rattle.format.specs.Questions.{Given, Answer, refused, empty, accepted, dwarfGiven, relaxedDebugFrame}
+use Rattle.format.specs.Questions.{Given, Answer, refused, empty, accepted, dwarfGiven, relaxedTable, relaxedDebugFrame}
 use Rattle.format.specs.Answers.{Writes, outcomeOf, outcomeNumbers, afterwards}
 use Rattle.dwarf.specs.Delivered.{Delivered, givenOf, roomIn}
 use Rattle.unwind.specs.declared.Written as declared
 use Rattle.format.specs.Test.{pick}
 use mathlib.Core.Bool.{true, false}
-use Rattle.unwind.specs.Entries.{given, room, dwarfTable, writtenNumbers, Exports}
+use Rattle.unwind.specs.Entries.{given, room, writtenNumbers, Exports}
 use Rattle.unwind.specs.Together.{answerFor}
 use Rattle.unwind.proofs.DebugSites.{roomWith, any-sites, debug-any, debug-same}
 use Rattle.unwind.proofs.Formats.{debug-given, same-answer}
@@ -70,6 +70,6 @@ debug-beside format g {o} {p} {p′} {b} {b′} {r} {r′} s w =
     })
 
 pub eh-beside : (format : ℕ) (g : Given) {o : Outcome} {p p′ b b′ r r′ s s′ : List ℕ}
-    → Writes (dwarfTable format g (room p b r s)) o p p′ b b′ r r′ s s′ → Writes (answerFor false format g (room p b r s)) o p p′ b b′ r r′ s s′
+    → Writes (relaxedTable format g (room p b r s)) o p p′ b b′ r r′ s s′ → Writes (answerFor false format g (room p b r s)) o p p′ b b′ r r′ s s′
 unfolding answerFor pick
 eh-beside format g w = w

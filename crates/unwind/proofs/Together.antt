@@ -15,12 +15,11 @@ use Rattle.format.specs.declared.Reading.{Reading}
 use Rattle.format.specs.Machine.{machineOf}
 use Rattle.format.specs.Lists.{count, functionStride}
 use Rattle.format.specs.Writer.{Written}
-use Rattle.format.specs.Questions.{Given, Room, Question, Answer, refused, empty, accepted, unless, ask, andThen, roomAsks, fitting, dwarfAnswer, dwarfGiven, formatAnswer, dwarfWritten, relaxedTable, relaxedDebugFrame}
+use Rattle.format.specs.Questions.{Given, Room, Question, Answer, refused, empty, accepted, unless, ask, andThen, roomAsks, fitting, dwarfAnswer, dwarfGiven, Prologues, made, stopped, codesAnswer, prologuesAnswer, windowsAsks, windowsAnswer, givenFunctions, formatAnswer, dwarfWritten, relaxedTable, relaxedDebugFrame}
 use Rattle.format.specs.Rules.{rulesAt, seen}
 use Rattle.format.specs.Answers.{bit, relocationNumbers}
 use Rattle.format.proofs.Choice.{pick-yes, pick-no, tested}
 use Rattle.format.proofs.ReadBack.{kindOf, readBack, demand-3}
-use Rattle.unwind.specs.Entries.{dwarfTable}
 use Rattle.unwind.specs.Together.{answerFor, sectionFor, bytesOf, relocsOf, readingFor, Demand, Demanded}
 
 -- ---- what was accepted fits
@@ -92,10 +91,20 @@ module _ (r : Room) where
   unfolding dwarfGiven dwarfAnswer
   dwarf-fits s g = unless-fits _ _ λ e. unless-fits _ _ λ e′. fitting-fits _
 
-  table-fits : (format : ℕ) (g : Given) → FitsIn r (dwarfTable format g r)
-  unfolding dwarfTable
+  codes-fit : (ps : Prologues) → FitsIn r (prologuesAnswer ps r)
+  unfolding prologuesAnswer codesAnswer
+  codes-fit (stopped n k) = no-fits r _ tt
+  codes-fit (made ps) = unless-fits _ _ λ e. fitting-fits _
+
+  windows-fits : (g : Given) → FitsIn r (unless (windowsAsks g) (windowsAnswer (machineOf (g .machine)) (givenFunctions g) r))
+  unfolding windowsAnswer
+  windows-fits g = unless-fits _ _ λ e. unless-fits _ _ λ e′. codes-fit _
+
+  table-fits : (format : ℕ) (g : Given) → FitsIn r (relaxedTable format g r)
+  unfolding relaxedTable formatAnswer
   table-fits format g =
-      pick-fits _ _ _ (no-fits r _ tt) (pick-fits _ _ _ (dwarf-fits Elf g) (pick-fits _ _ _ (dwarf-fits MachO g) (no-fits r _ tt)))
+      pick-fits _ _ _ (no-fits r _ tt)
+      (pick-fits _ _ _ (dwarf-fits Elf g) (pick-fits _ _ _ (windows-fits g) (pick-fits _ _ _ (dwarf-fits MachO g) (pick-fits _ _ _ (no-fits r _ tt) (no-fits r _ tt)))))
 
   pub answer-fits : (debug : Bool) (format : ℕ) (g : Given) → FitsIn r (answerFor debug format g r)
   unfolding answerFor relaxedDebugFrame
@@ -136,7 +145,7 @@ demand s debug format g r w a k q p small e d b =
 
 pub demanded : (debug : Bool) (format : ℕ) (g : Given) (r : Room) (k q p : ℕ) → q ≤ 65535
     → Demanded debug format g (answerFor debug format g r) k q p (readingFor debug g (answerFor debug format g r) k q p)
-unfolding answerFor pick dwarfWritten dwarfTable relaxedTable formatAnswer bit
+unfolding answerFor pick dwarfWritten bit
 demanded true format g r k q p small s w section e =
     debug-section format s section λ f d. rw (sym d) (demand Debug true format g r w _ k q p small e (rw f refl) refl)
 demanded false format g r k q p small s w section e =

@@ -2,11 +2,8 @@
 use mathlib.Core.Path.{_≡_}
 use Prim.Native.Nat.{ℕ}
 use mathlib.Core.List.{List, [], _∷_}
-use lib.Dec.{eqb}
 use lib.ListN.{length}
-use Rattle.format.specs.Test.{pick}
-use Rattle.format.specs.declared.Section.the-variants.{Elf, MachO}
-use Rattle.format.specs.Questions.{Given, Room, Answer, empty, noFunctions, dwarfGiven}
+use Rattle.format.specs.Questions.{Given, Room, Answer}
 use Rattle.format.specs.Answers.{outcomeOf, outcomeNumbers, afterwards, relocationNumbers}
 use Rattle.format.specs.declared.Outcome.{Outcome}
 use Rattle.format.specs.declared.Outcome.the-variants as outcome
@@ -48,8 +45,3 @@ pub record Exports (a : Answer) (o : Written) (places places′ bytes bytes′ r
   pub stored : bytes′ ≡ afterwards (λ w. w .bytes) a bytes
   pub related : relocations′ ≡ afterwards relocationNumbers a relocations
   pub sited : sites′ ≡ afterwards (λ w. w .sites) a sites
-
--- The DWARF part of relaxed_table: eh_frame of ELF (0) and Mach-O (2), of which it is all there is; an empty result of any other format.
-unfoldable pub dwarfTable : ℕ → Given → Room → Answer
-dwarfTable format g r =
-    pick (noFunctions g) empty (pick (eqb format 0) (dwarfGiven Elf g r) (pick (eqb format 2) (dwarfGiven MachO g r) empty))

@@ -13,17 +13,16 @@ use Rattle.format.specs.declared.Reading.{Reading}
 use Rattle.format.specs.Machine.{machineOf}
 use Rattle.format.specs.Lists.{count, functionStride}
 use Rattle.format.specs.Writer.{Written}
-use Rattle.format.specs.Questions.{Given, Room, Answer, refused, empty, accepted, relaxedDebugFrame}
+use Rattle.format.specs.Questions.{Given, Room, Answer, refused, empty, accepted, relaxedTable, relaxedDebugFrame}
 use Rattle.format.specs.Answers.{bit, relocationNumbers}
 use Rattle.format.specs.Rules.{rulesAt, seen}
 use Rattle.format.specs.RowCheck.{rowCheckAt}
 use Rattle.format.specs.Reader.{Entry, entries, read}
 use Rattle.format.proofs.Accepted.{givenFunction}
-use Rattle.unwind.specs.Entries.{dwarfTable}
 
--- the writer of debug_frame, or of eh_frame
+-- the writer of debug_frame, or the other
 unfoldable pub answerFor : (debug : Bool) (format : ℕ) → Given → Room → Answer
-answerFor debug format g r = pick debug (relaxedDebugFrame format g r) (dwarfTable format g r)
+answerFor debug format g r = pick debug (relaxedDebugFrame format g r) (relaxedTable format g r)
 
 -- the DWARF section that it writes, where it writes one
 unfoldable pub sectionFor : (debug : Bool) (format : ℕ) → Option Section

@@ -1,6 +1,6 @@
 // The public library: its entries over number lists, and their C interface (include/unwind.h). Ported from rucc-asm/src/unwind.rs (relaxed_table, relaxed_debug_frame, seh) of tamnd/rucc, changed: see NOTICE.
 ghost use mathlib.Core.Path.{_≡_};
-ghost use Rattle.format.specs.Questions.{relaxedDebugFrame};
+ghost use Rattle.format.specs.Questions.{relaxedTable, relaxedDebugFrame, seh};
 ghost use Rattle.format.specs.RowCheck.{rowCheckAt};
 ghost use Rattle.format.specs.Reader.{read};
 ghost use mathlib.Core.List.{[], _∷_};
@@ -8,7 +8,7 @@ ghost use mir.Syntax.{w64};
 ghost use mir.Val.{ofZ};
 ghost use Rattle.format.specs.declared.Reading.the-variants.{Rules};
 ghost use Rattle.format.specs.Answers.{frameNumbers, ruleNumbers, readingNumbers, bit, outcomeNumbers, Writes};
-ghost use Rattle.unwind.specs.Entries.{given, room, dwarfTable, readNumbers, writtenNumbers, Exports};
+ghost use Rattle.unwind.specs.Entries.{given, room, readNumbers, writtenNumbers, Exports};
 use format::Frame;
 use format::Outcome;
 use format::Reading;
@@ -17,9 +17,10 @@ use format::Section;
 
 // ---- the writers
 
-// eh_frame of ELF (0) and Mach-O (2); an empty result of any other format and of an empty list. It refuses by document 01's numbers, and
-// then no buffer is changed; else the results stand at the buffers' fronts and the rest is as it was.
-pub fn dwarf_table(
+// The table of a list of functions: eh_frame of ELF (0) and Mach-O (2), x64 unwind data of COFF (1); an empty result of Wasm (3), Plan 9 (4)
+// and an empty list. It refuses by document 01's numbers, and then no buffer is changed; else the results stand at the buffers' fronts and
+// the rest is as it was. `places` takes the header places, in COFF the markers; `sites` the call sites, in COFF the x64 info.
+pub fn relaxed_table(
     machine: &[u64],
     format: u64,
     functions: &[u64],
@@ -31,7 +32,7 @@ pub fn dwarf_table(
     relocations: &mut [u64],
     sites: &mut [u8],
 ) -> Outcome
-    ensures { λ r. ⌜ Writes (dwarfTable format (given (now (machine .entry)) (now (functions .entry)) (now (rows .entry)) (now (landings .entry)) (now (pairs .entry))) (room (now (places .entry)) (now (bytes .entry)) (now (relocations .entry)) (now (sites .entry)))) r (now (places .entry)) (now (places .exit)) (now (bytes .entry)) (now (bytes .exit)) (now (relocations .entry)) (now (relocations .exit)) (now (sites .entry)) (now (sites .exit)) ⌝ }
+    ensures { λ r. ⌜ Writes (relaxedTable format (given (now (machine .entry)) (now (functions .entry)) (now (rows .entry)) (now (landings .entry)) (now (pairs .entry))) (room (now (places .entry)) (now (bytes .entry)) (now (relocations .entry)) (now (sites .entry)))) r (now (places .entry)) (now (places .exit)) (now (bytes .entry)) (now (bytes .exit)) (now (relocations .entry)) (now (relocations .exit)) (now (sites .entry)) (now (sites .exit)) ⌝ }
 {
     if functions.len() / 18 == 0 {
         return Outcome::Empty;
@@ -39,6 +40,17 @@ pub fn dwarf_table(
     match format {
         0 => dwarf::dwarf(
             Section::Elf,
+            machine,
+            functions,
+            rows,
+            landings,
+            pairs,
+            places,
+            bytes,
+            relocations,
+            sites,
+        ),
+        1 => x64::windows(
             machine,
             functions,
             rows,
@@ -61,8 +73,24 @@ pub fn dwarf_table(
             relocations,
             sites,
         ),
-        _ => Outcome::Empty,
+        3 => Outcome::Empty,
+        4 => Outcome::Empty,
+        _ => Outcome::Refused(11, 0),
     }
+}
+
+// Windows x64 unwind data from direct codes, with the markers and infos as in COFF. An empty list is an empty result.
+pub fn seh(
+    functions: &[u64],
+    codes: &[u64],
+    markers: &mut [u64],
+    bytes: &mut [u8],
+    relocations: &mut [u64],
+    info: &mut [u8],
+) -> Outcome
+    ensures { λ r. ⌜ Writes (seh (now (functions .entry)) (now (codes .entry)) (room (now (markers .entry)) (now (bytes .entry)) (now (relocations .entry)) (now (info .entry)))) r (now (markers .entry)) (now (markers .exit)) (now (bytes .entry)) (now (bytes .exit)) (now (relocations .entry)) (now (relocations .exit)) (now (info .entry)) (now (info .exit)) ⌝ }
+{
+    x64::seh(functions, codes, markers, bytes, relocations, info)
 }
 
 // The same rows as a debugger's copy, debug_frame of ELF (0); an empty result of any other format and of an empty list. Landings and
@@ -275,7 +303,7 @@ fn written_of(o: Outcome) -> Written
 }
 
 #[no_mangle]
-pub extern "C" fn unwind_dwarf_table(
+pub extern "C" fn unwind_relaxed_table(
     machine: &[u64],
     format: u64,
     functions: &[u64],
@@ -287,9 +315,9 @@ pub extern "C" fn unwind_dwarf_table(
     relocations: &mut [u64],
     sites: &mut [u8],
 ) -> Written
-    ensures { λ r. ⌜ Exports (dwarfTable format (given (now (machine .entry)) (now (functions .entry)) (now (rows .entry)) (now (landings .entry)) (now (pairs .entry))) (room (now (places .entry)) (now (bytes .entry)) (now (relocations .entry)) (now (sites .entry)))) r (now (places .entry)) (now (places .exit)) (now (bytes .entry)) (now (bytes .exit)) (now (relocations .entry)) (now (relocations .exit)) (now (sites .entry)) (now (sites .exit)) ⌝ }
+    ensures { λ r. ⌜ Exports (relaxedTable format (given (now (machine .entry)) (now (functions .entry)) (now (rows .entry)) (now (landings .entry)) (now (pairs .entry))) (room (now (places .entry)) (now (bytes .entry)) (now (relocations .entry)) (now (sites .entry)))) r (now (places .entry)) (now (places .exit)) (now (bytes .entry)) (now (bytes .exit)) (now (relocations .entry)) (now (relocations .exit)) (now (sites .entry)) (now (sites .exit)) ⌝ }
 {
-    written_of(dwarf_table(
+    written_of(relaxed_table(
         machine,
         format,
         functions,
@@ -328,6 +356,20 @@ pub extern "C" fn unwind_relaxed_debug_frame(
         bytes,
         relocations,
     ))
+}
+
+#[no_mangle]
+pub extern "C" fn unwind_seh(
+    functions: &[u64],
+    codes: &[u64],
+    markers: &mut [u64],
+    bytes: &mut [u8],
+    relocations: &mut [u64],
+    info: &mut [u8],
+) -> Written
+    ensures { λ r. ⌜ Exports (seh (now (functions .entry)) (now (codes .entry)) (room (now (markers .entry)) (now (bytes .entry)) (now (relocations .entry)) (now (info .entry)))) r (now (markers .entry)) (now (markers .exit)) (now (bytes .entry)) (now (bytes .exit)) (now (relocations .entry)) (now (relocations .exit)) (now (info .entry)) (now (info .exit)) ⌝ }
+{
+    written_of(seh(functions, codes, markers, bytes, relocations, info))
 }
 
 #[no_mangle]

@@ -1,11 +1,11 @@
--- `unwind::unwind_dwarf_table` meets its contract.
+-- `unwind::unwind_relaxed_table` meets its contract.
 use Rattle.unwind.proofs.Delivering.{exports}
 use borrow.Author.Needs.{needs}
-use Rattle.unwind.proofs.unwind_dwarf_table.Statement.{statement}
-use Rattle.unwind.proofs.unwind_dwarf_table.Tie as tie
+use Rattle.unwind.proofs.unwind_relaxed_table.Statement.{statement}
+use Rattle.unwind.proofs.unwind_relaxed_table.Tie as tie
 
-dwarf-table-requires : tie.Need-dwarf-table-requires
-dwarf-table-requires c κs = search needs
+relaxed-table-requires : tie.Need-relaxed-table-requires
+relaxed-table-requires c κs = search needs
 
 written-of-requires : tie.Need-written-of-requires
 written-of-requires c κs = search needs
@@ -23,13 +23,13 @@ same-length-4 : tie.Need-same-length-4
 same-length-4 c = search needs
 
 returns : tie.Need-returns
-returns c = exports (c .written-of .ensures) (c .before .before .before .before .before .before .before .before .before .dwarf-table .ensures)
+returns c = exports (c .written-of .ensures) (c .before .before .before .before .before .before .before .before .before .relaxed-table .ensures)
 
-pub unwind-dwarf-table-spec : {M : Type 1} → statement M
-unwind-dwarf-table-spec =
+pub unwind-relaxed-table-spec : {M : Type 1} → statement M
+unwind-relaxed-table-spec =
     tie.close
     (tie.spec
-    dwarf-table-requires
+    relaxed-table-requires
     written-of-requires
     same-length
     same-length-2
