@@ -22,7 +22,6 @@ enum Step {
     Refused,
     Empty,
     Different,
-    Passed,
 }
 
 // How many lists of each kind there were.
@@ -31,7 +30,6 @@ struct Sums {
     refused: u64,
     empty: u64,
     different: u64,
-    passed: u64,
 }
 
 // The elements of a counted list.
@@ -219,7 +217,7 @@ fn table(
     relocations: &mut [u64],
     sites: &mut [u8],
 ) -> Outcome {
-    unwind::dwarf_table(
+    unwind::relaxed_table(
         list(numbers, 0),
         element(numbers, 1, 0),
         list(numbers, 1),
@@ -260,23 +258,24 @@ fn ask(
     relocations: &mut [u64],
     sites: &mut [u8],
 ) -> Outcome {
-    if element(numbers, 0, 0) == 0 {
+    let entry = element(numbers, 0, 0);
+    if entry == 0 {
         return table(numbers, places, bytes, relocations, sites);
     }
-    debug_frame(numbers, places, bytes, relocations)
-}
-
-// x64 output, and a format that there is not.
-fn is_passed(numbers: &[u64]) -> bool {
-    let entry = element(numbers, 0, 0);
-    let format = element(numbers, 1, 0);
-    1 < entry || entry == 0 && (format == 1 || 4 < format)
+    if entry == 1 {
+        return debug_frame(numbers, places, bytes, relocations);
+    }
+    unwind::seh(
+        list(numbers, 1),
+        list(numbers, 5),
+        places,
+        bytes,
+        relocations,
+        sites,
+    )
 }
 
 fn replay(index: u64, numbers: &[u64]) -> Step {
-    if is_passed(numbers) {
-        return Step::Passed;
-    }
     let mut places = [NUMBER; 4000];
     let mut bytes = [BYTE; 4000];
     let mut relocations = [NUMBER; 4000];
@@ -337,7 +336,7 @@ fn next(index: u64) -> Step {
 fn is_last(step: Step) -> bool {
     match step {
         Step::End | Step::Broken => true,
-        Step::Accepted | Step::Refused | Step::Empty | Step::Different | Step::Passed => false,
+        Step::Accepted | Step::Refused | Step::Empty | Step::Different => false,
     }
 }
 
@@ -361,10 +360,6 @@ fn add(s: Sums, step: Step) -> Sums
             r.empty += 1;
             r
         }
-        Step::Passed => {
-            r.passed += 1;
-            r
-        }
         Step::Different | Step::Broken => {
             r.different += 1;
             r
@@ -381,7 +376,6 @@ fn all() -> Sums
         refused: 0,
         empty: 0,
         different: 0,
-        passed: 0,
     };
     let mut index = 0u64;
     while index < 1000000 {
@@ -406,7 +400,6 @@ fn main() {
     print_count(s.accepted, b" accepted, ");
     print_count(s.refused, b" refused, ");
     print_count(s.empty, b" empty\n");
-    print_count(s.passed, b" lists of x64 or of no format passed over\n");
     if s.different == 0 {
         io::write_all(
             STDOUT_FILENO,
