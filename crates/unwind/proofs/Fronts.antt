@@ -4,19 +4,22 @@ use Prim.Native.Nat.{ℕ, suc, _+_, _*_, _≤_, _<_}
 use native.Mathlib.Omega.{arith}
 use native.Mathlib.Nat.{add-zero, zero-add}
 use native.Mathlib.Numerals.{add-one}
+use mathlib.Core.Bool.{Bool}
 use mathlib.Core.List.{List, [], _∷_, _++_, append-assoc, append-nil}
 use lib.ListN.{length, take, getD, set, length-set}
 use lib.Seq.{take-suc-set}
 use Rattle.format.specs.Put.{put}
+use Rattle.format.specs.declared.Counts.{Counts}
 use Rattle.format.specs.declared.Outcome.{Outcome}
 use Rattle.format.specs.declared.Outcome.the-variants as outcome
 use Rattle.format.specs.Lists.{Relocation, numbersOf}
 use Rattle.format.specs.Writer.{Written}
-use Rattle.format.specs.Questions.{Room, Answer, refused, empty, accepted}
-use Rattle.format.specs.Answers.{Writes, outcomeOf, afterwards, relocationNumbers}
+use Rattle.format.specs.Reader.{read}
+use Rattle.format.specs.Questions.{Given, Room, Answer, refused, empty, accepted}
+use Rattle.format.specs.Answers.{Writes, outcomeOf, afterwards, relocationNumbers, bit}
 use Rattle.format.proofs.PutLaws.{put-none, put-cons, length-put}
 use Rattle.unwind.specs.Entries.{room, bytesIn, relocsIn}
-use Rattle.unwind.specs.Together.{bytesOf, relocsOf}
+use Rattle.unwind.specs.Together.{bytesOf, relocsOf, readingFor}
 use Rattle.unwind.proofs.Together.{FitsIn}
 
 front-from : (xs : List ℕ) (p : ℕ) (bs : List ℕ) → p + length bs ≤ length xs → take (p + length bs) (put xs p bs) ≡ take p xs ++ bs
@@ -61,3 +64,15 @@ fronts (accepted v) o p p′ b b′ r r′ s s′ w f =
 pub none-there : (xs : List ℕ) → length xs ≡ 0 → 0 ≡ getD xs 0 0
 none-there [] e = refl
 none-there (x ∷ xs) e = absurd (omega arith)
+
+-- the reader on those fronts, with the writer's kind and word
+pub reading-of : (debug : Bool) (g : Given) (a : Answer) (o : Outcome) (bytes relocations : List ℕ) (n m kind word k q p : ℕ) → Fronts a o bytes relocations
+    → n ≡ bytesIn o → m ≡ 5 * relocsIn o → kind ≡ bit debug → word ≡ getD (g .machine) 0 0
+    → read (take n bytes) (take m relocations) kind word k q p ≡ readingFor debug g a k q p
+unfolding readingFor
+reading-of debug g a o bytes relocations n m kind word k q p f en em ek ew = rw (en, em, ek, ew, f .bytes-are, f .relocations-are) refl
+
+-- the relocations of an accepted list
+pub accepted-relocs : (o : Outcome) (k : Counts) → o ≡ outcome.Accepted k → relocsIn o ≡ k .relocations
+unfolding relocsIn
+accepted-relocs o k e = rw e refl

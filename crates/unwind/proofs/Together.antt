@@ -151,3 +151,8 @@ demanded true format g r k q p small s w section e =
 demanded false format g r k q p small s w section e =
     eh-section format s section (λ f d. rw (sym d) (demand Elf false format g r w _ k q p small e (rw f refl) refl))
     (λ f d. rw (sym d) (demand MachO false format g r w _ k q p small e (rw f refl) refl))
+
+-- what is demanded of a reading is demanded of an equal one
+pub demanded-of : {debug : Bool} {format : ℕ} {g : Given} {a : Answer} {k q p : ℕ} {x y : Reading} → x ≡ y
+    → Demanded debug format g a k q p y → Demanded debug format g a k q p x
+demanded-of {debug} {format} {g} {a} {k} {q} {p} e d = subst (λ (z : Reading). Demanded debug format g a k q p z) (sym e) d

@@ -1,14 +1,17 @@
 // The public library: its entries over number lists, and their C interface (include/unwind.h). Ported from rucc-asm/src/unwind.rs (relaxed_table, relaxed_debug_frame, seh) of tamnd/rucc, changed: see NOTICE.
 ghost use mathlib.Core.Path.{_≡_};
+ghost use Prim.Native.Nat.{_*_, _≤_};
 ghost use Rattle.format.specs.Questions.{relaxedTable, relaxedDebugFrame, seh};
 ghost use Rattle.format.specs.RowCheck.{rowCheckAt};
 ghost use Rattle.format.specs.Reader.{read};
 ghost use mathlib.Core.List.{[], _∷_};
+ghost use lib.ListN.{getD};
 ghost use mir.Syntax.{w64};
 ghost use mir.Val.{ofZ};
 ghost use Rattle.format.specs.declared.Reading.the-variants.{Rules};
 ghost use Rattle.format.specs.Answers.{frameNumbers, ruleNumbers, readingNumbers, bit, outcomeNumbers, Writes};
-ghost use Rattle.unwind.specs.Entries.{given, room, readNumbers, writtenNumbers, Exports};
+ghost use Rattle.unwind.specs.Together.{answerFor, readingFor, Demanded};
+ghost use Rattle.unwind.specs.Entries.{given, room, readNumbers, writtenNumbers, Exports, bytesIn, relocsIn};
 use format::Frame;
 use format::Outcome;
 use format::Reading;
@@ -153,6 +156,141 @@ pub fn read(
     ensures { λ r. ⌜ r ≡ read (now (section .entry)) (now (relocations .entry)) kind word k q p ⌝ }
 {
     reader::read(section, relocations, kind, word, k, q, p)
+}
+
+// ---- a writer and then the reader
+
+// How many bytes, and how many numbers of relocations, were written.
+fn bytes_in(o: Outcome) -> usize
+    ensures { λ r. ⌜ r ≡ bytesIn o ⌝ }
+{
+    match o {
+        Outcome::Accepted(c) => c.bytes as usize,
+        Outcome::Empty => 0,
+        Outcome::Refused(_, _) => 0,
+    }
+}
+
+fn numbers_in(o: Outcome, room: usize) -> usize
+    requires { ⌜ 5 * relocsIn o ≤ room ⌝ }
+    ensures { λ r. ⌜ r ≡ 5 * relocsIn o ⌝ }
+{
+    match o {
+        Outcome::Accepted(c) => 5 * (c.relocations as usize),
+        Outcome::Empty => 0,
+        Outcome::Refused(_, _) => 0,
+    }
+}
+
+// The machine's word, or 0 where there is no machine.
+fn word_in(machine: &[u64]) -> u64
+    ensures { λ r. ⌜ r ≡ getD (now (machine .entry)) 0 0 ⌝ }
+{
+    if machine.len() == 0 {
+        return 0;
+    }
+    machine[0]
+}
+
+// debug_frame's writer, or the other.
+fn write(
+    debug: bool,
+    machine: &[u64],
+    format: u64,
+    functions: &[u64],
+    rows: &[u64],
+    landings: &[u64],
+    pairs: &[u64],
+    places: &mut [u64],
+    bytes: &mut [u8],
+    relocations: &mut [u64],
+    sites: &mut [u8],
+) -> Outcome
+    ensures { λ r. ⌜ Writes (answerFor debug format (given (now (machine .entry)) (now (functions .entry)) (now (rows .entry)) (now (landings .entry)) (now (pairs .entry))) (room (now (places .entry)) (now (bytes .entry)) (now (relocations .entry)) (now (sites .entry)))) r (now (places .entry)) (now (places .exit)) (now (bytes .entry)) (now (bytes .exit)) (now (relocations .entry)) (now (relocations .exit)) (now (sites .entry)) (now (sites .exit)) ⌝ }
+{
+    if debug {
+        return relaxed_debug_frame(
+            machine,
+            format,
+            functions,
+            rows,
+            landings,
+            pairs,
+            places,
+            bytes,
+            relocations,
+        );
+    }
+    relaxed_table(
+        machine,
+        format,
+        functions,
+        rows,
+        landings,
+        pairs,
+        places,
+        bytes,
+        relocations,
+        sites,
+    )
+}
+
+// What a writer answered, and what the reader answered of what it wrote.
+pub struct WrittenAndRead {
+    pub outcome: Outcome,
+    pub reading: Reading,
+}
+
+// A writer, debug_frame's or the other, and then the reader on exactly what was written, with the writer's kind and word: demand 3 on running
+// code. Where the list was accepted the entries tile; and where function k has no relaxing labels and passes the row check and p is below its
+// length, the reading is what the function's rows give at p for register q. Where the writer refused, the reader is handed nothing.
+pub fn write_and_read(
+    debug: bool,
+    machine: &[u64],
+    format: u64,
+    functions: &[u64],
+    rows: &[u64],
+    landings: &[u64],
+    pairs: &[u64],
+    places: &mut [u64],
+    bytes: &mut [u8],
+    relocations: &mut [u64],
+    sites: &mut [u8],
+    k: u64,
+    q: u16,
+    p: u64,
+) -> WrittenAndRead
+    ensures { λ r. ⌜ Writes (answerFor debug format (given (now (machine .entry)) (now (functions .entry)) (now (rows .entry)) (now (landings .entry)) (now (pairs .entry))) (room (now (places .entry)) (now (bytes .entry)) (now (relocations .entry)) (now (sites .entry)))) (r .outcome) (now (places .entry)) (now (places .exit)) (now (bytes .entry)) (now (bytes .exit)) (now (relocations .entry)) (now (relocations .exit)) (now (sites .entry)) (now (sites .exit)) ⌝ }
+    ensures { λ r. ⌜ r .reading ≡ readingFor debug (given (now (machine .entry)) (now (functions .entry)) (now (rows .entry)) (now (landings .entry)) (now (pairs .entry))) (answerFor debug format (given (now (machine .entry)) (now (functions .entry)) (now (rows .entry)) (now (landings .entry)) (now (pairs .entry))) (room (now (places .entry)) (now (bytes .entry)) (now (relocations .entry)) (now (sites .entry)))) k q p ⌝ }
+    ensures { λ r. ⌜ Demanded debug format (given (now (machine .entry)) (now (functions .entry)) (now (rows .entry)) (now (landings .entry)) (now (pairs .entry))) (answerFor debug format (given (now (machine .entry)) (now (functions .entry)) (now (rows .entry)) (now (landings .entry)) (now (pairs .entry))) (room (now (places .entry)) (now (bytes .entry)) (now (relocations .entry)) (now (sites .entry)))) k q p (r .reading) ⌝ }
+{
+    let outcome = write(
+        debug,
+        machine,
+        format,
+        functions,
+        rows,
+        landings,
+        pairs,
+        places,
+        bytes,
+        relocations,
+        sites,
+    );
+    let n = bytes_in(outcome);
+    let m = numbers_in(outcome, relocations.len());
+    let written = &bytes[..];
+    let related = &relocations[..];
+    let reading = read(
+        &written[..n],
+        &related[..m],
+        number(debug),
+        word_in(machine),
+        k,
+        q,
+        p,
+    );
+    WrittenAndRead { outcome, reading }
 }
 
 // ---- the C interface
