@@ -1,0 +1,2 @@
+-- What the structs mean.
+pub mod Structs
