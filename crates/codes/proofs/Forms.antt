@@ -12,7 +12,6 @@ use Rattle.format.specs.Leb.{little}
 use Rattle.format.specs.X64.{node, allocBytes, slotBytes, saveBytes}
 use Rattle.format.proofs.Choice.{if-le, if-gt}
 use Rattle.format.proofs.LebBack.{little-length}
-use Rattle.codes.specs.declared.Code.{Code}
 use Rattle.codes.specs.Codes.{Holds, isNear, allocSize, saveSize}
 
 length-pick : (b : Bool) (xs ys : List ℕ) → length (pick b xs ys) ≡ pick b (length xs) (length ys)

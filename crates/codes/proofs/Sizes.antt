@@ -3,13 +3,13 @@ use mathlib.Core.Path.{_≡_, refl}
 use Prim.Native.Nat.{ℕ, _+_, _*_, _/_, _%_, _≤_}
 use native.Mathlib.Omega.{arith}
 use mathlib.Core.Bool.{Bool, true, false}
-use mathlib.Core.List.{List, [], _∷_, _++_}
+use mathlib.Core.List.{List, [], _∷_}
 use lib.Dec.{leb, ltb}
 use lib.ListN.{length, length-append, replicate, length-replicate}
 use Rattle.format.specs.Test.{pick}
 use Rattle.format.specs.declared.Seh.{Seh}
 use Rattle.format.specs.declared.Seh.the-variants.{Push, Alloc, Frame, Save}
-use Rattle.format.specs.X64.{node, size64, codeBytes, slots, frameByte, reversed, infoBytes}
+use Rattle.format.specs.X64.{node, size64, codeBytes, slots, reversed, infoBytes}
 use Rattle.codes.specs.Codes.{isNear, allocSize, saveSize}
 use Rattle.codes.proofs.Forms.{alloc-length, save-length}
 

@@ -28,7 +28,7 @@ use Rattle.dwarf.specs.Sure.{Sure, Cleared}
 use Rattle.format.proofs.ListLaws.{each-length}
 use Rattle.format.proofs.SectionSize.{section-short}
 use Rattle.dwarf.proofs.Fronts.{all-parts, functions-each, means-taken, bytes-grow, relocs-grow, sites-grow}
-use Rattle.records.proofs.LabelLaws.{numbers-length}
+use Rattle.format.proofs.ListLaws.{numbers-length}
 use Rattle.dwarf.proofs.Bounds.{landingCount, relocs-few, sites-few}
 
 -- ---- acceptance with room enough

@@ -2,10 +2,10 @@
 use mathlib.Core.Path.{_≡_, refl, sym, ap, _∙_}
 use Prim.Native.Nat.{ℕ, zero, suc, _/_}
 use native.Mathlib.Omega.{arith}
-use mathlib.Core.Bool.{Bool, true, false}
+use mathlib.Core.Bool.{true, false}
 use mathlib.Core.Option.{none, some}
 use mathlib.Core.List.{List, [], map}
-use lib.Dec.{T, leb→le}
+use lib.Dec.{leb→le}
 use lib.ListN.{length}
 use Rattle.format.specs.Test.{pick, each}
 use Rattle.format.specs.declared.Section.{Section}
@@ -15,17 +15,17 @@ use Rattle.format.specs.declared.Question as declared
 use Rattle.format.specs.declared.Question.the-variants.{Yes, No}
 use Rattle.format.specs.Machine.{machineOf, machineOk}
 use Rattle.format.specs.Lists.{numbersOf, landingAt, listsOk}
-use Rattle.format.specs.Questions.{Question, ask, andThen, perFunction, dwarfAsks, Given, Room, Answer, refused, accepted, unless, fitting, roomAsks, givenAsks, givenFunctions, dwarfAnswer, dwarfGiven}
-use Rattle.format.specs.Answers.{questionOf, outcomeOf, afterwards, relocationNumbers}
+use Rattle.format.specs.Questions.{Question, ask, andThen, perFunction, dwarfAsks, Given, Room, roomIn, Answer, refused, accepted, unless, fitting, roomAsks, givenAsks, givenFunctions, dwarfAnswer, dwarfGiven}
+use Rattle.format.specs.Answers.{questionOf, outcomeOf, afterwards, relocationNumbers, Writes}
 use Rattle.format.specs.Writer.{taken, dwarf}
 use Rattle.lists.specs.declared.Extent.{Extent}
 use Rattle.lists.specs.Extents.{meant}
-use Rattle.records.proofs.LabelLaws.{numbers-length}
+use Rattle.format.proofs.Accepted.{asked, both}
+use Rattle.format.proofs.ListLaws.{numbers-length}
 use Rattle.dwarf.specs.declared.Table.{Table}
 use Rattle.dwarf.specs.Asks.{askedIn}
 use Rattle.dwarf.specs.Parts.{Inputs, countIn, extentIn, functionIn, placesIn, bytesIn, relocsIn, sitesIn, writtenIn, partsTo}
 use Rattle.dwarf.specs.Tables.{totalsIn, roomFor, Written, Holds}
-use Rattle.dwarf.specs.Delivered.{roomIn, Delivered}
 use Rattle.dwarf.proofs.Asking.{said-yes}
 use Rattle.dwarf.proofs.Cleared.{inputsOf}
 use Rattle.dwarf.proofs.Bodies.{encodings-any}
@@ -34,9 +34,9 @@ use Rattle.dwarf.proofs.Fronts.{places-length, functions-each, written-
 -- ---- refusals
 
 pub unchanged : (n k : ℕ) (places bytes relocs sites : List ℕ)
-    → Delivered (refused n k) (outcome.Refused n k) places places bytes bytes relocs relocs sites sites
+    → Writes (refused n k) (outcome.Refused n k) places places bytes bytes relocs relocs sites sites
 unfolding outcomeOf afterwards
-unchanged n k places bytes relocs sites = record { answer = refl; places-after = refl; bytes-after = refl; relocations-after = refl; sites-after = refl }
+unchanged n k places bytes relocs sites = record { outcome = refl; placed = refl; stored = refl; related = refl; sited = refl }
 
 -- a question that says no decides
 pub no-decides : (o : Question) (a : Answer) {i j : ℕ} → questionOf o ≡ No i j → unless o a ≡ refused i j
@@ -45,16 +45,6 @@ no-decides none a e = let z : _≡_ {A = ℕ} 0 1 = cc in absurd (omega arith)
 no-decides (some r) a e = cc
 
 -- ---- room
-
-asked : (b : Bool) (n k : ℕ) → ask b n k ≡ none → T b
-unfolding ask pick
-asked true n k e = tt
-asked false n k e = let z : _≡_ {A = ℕ} 0 1 = cc in absurd (omega arith)
-
-both : (p q : Question) → andThen p q ≡ none → (p ≡ none) × (q ≡ none)
-unfolding andThen
-both none q e = (refl, e)
-both (some r) q e = let z : _≡_ {A = ℕ} 0 1 = cc in absurd (omega arith)
 
 module _ (x : Inputs) {t : Table} (e : t ≡ totalsIn (partsTo x (countIn x))) (places bytes relocs sites : List ℕ) where
   abbrev lent : Table
@@ -68,7 +58,7 @@ module _ (x : Inputs) {t : Table} (e : t ≡ totalsIn (partsTo x (countIn x))) (
   answer = fitting (roomIn places bytes relocs sites) (writtenIn (partsTo x (countIn x)))
 
   module _ {q : declared.Question} (k : q ≡ questionOf (roomFor (countIn x) t (length places) lent)) where
-    pub refuses : {i j : ℕ} → q ≡ No i j → Delivered answer (outcome.Refused i j) places places bytes bytes relocs relocs sites sites
+    pub refuses : {i j : ℕ} → q ≡ No i j → Writes answer (outcome.Refused i j) places places bytes bytes relocs relocs sites sites
     unfolding fitting
     refuses {i} {j} n = rw (no-decides _ (accepted (writtenIn (partsTo x (countIn x)))) (sym (ap questionOf room-is) ∙ (sym k ∙ n))) (unchanged i j places bytes relocs sites)
 
@@ -97,7 +87,7 @@ module _ (x : Inputs) {t : Table} (e : t ≡ totalsIn (partsTo x (countIn x))) (
       counts = record { places = countIn x; bytes = t .bytes; relocations = t .relocations / 5; sites = t .sites }
 
       pub delivers : {u : Table} {places′ bytes′ relocs′ sites′ : List ℕ} → Written x (countIn x) u places places′ bytes bytes′ relocs relocs′ sites sites′
-          → Delivered answer (outcome.Accepted counts) places places′ bytes bytes′ relocs relocs′ sites sites′
+          → Writes answer (outcome.Accepted counts) places places′ bytes bytes′ relocs relocs′ sites sites′
       unfolding outcomeOf afterwards relocationNumbers writtenIn totalsIn
       delivers w =
           let n : countIn x ≡ length (placesIn (partsTo x (countIn x))) = sym (places-length x (countIn x)) in
@@ -106,11 +96,11 @@ module _ (x : Inputs) {t : Table} (e : t ≡ totalsIn (partsTo x (countIn x))) (
           let r : t .relocations / 5 ≡ length (relocsIn (partsTo x (countIn x))) = omega (arith, numbers-length (relocsIn (partsTo x (countIn x)))) in
           let s : t .sites ≡ length (sitesIn (partsTo x (countIn x))) = ap (λ (v : Table). v .sites) e in
           rw accepts (record {
-            answer = cc;
-            places-after = w .places-stored .stored;
-            bytes-after = w .bytes-stored .stored;
-            relocations-after = w .relocs-stored .stored;
-            sites-after = w .sites-stored .stored;
+            outcome = cc;
+            placed = w .places-stored .stored;
+            stored = w .bytes-stored .stored;
+            related = w .relocs-stored .stored;
+            sited = w .sites-stored .stored;
           })
 
 -- ---- the questions in front of them

@@ -19,7 +19,7 @@ use Rattle.headers.proofs.Personalities.{header-relocs-count}
 use Rattle.dwarf.specs.declared.Table.{Table}
 use Rattle.dwarf.specs.Tables.{FrontReady, FrontStored}
 use Rattle.dwarf.proofs.Pieces.{no-front, no-relocs, own-front, own-relocs}
-use Rattle.records.proofs.LabelLaws.{numbers-length}
+use Rattle.format.proofs.ListLaws.{numbers-length}
 
 module _ {own debug : Bool} {m : Machine} {align : ℕ} {e : Extent} {t : Table} {rows bytes relocs : List ℕ}
     (r : FrontReady own debug m align e t rows bytes relocs) where

@@ -19,7 +19,8 @@ use Rattle.lists.specs.declared.Extent.{Extent}
 use Rattle.lists.specs.Extents.{meant}
 use Rattle.leading.specs.Functions.{bodyOf, keyIn, Sound}
 use Rattle.search.specs.Owners.{owner}
-use Rattle.records.proofs.LabelLaws.{numbers-append, numbers-length}
+use Rattle.format.proofs.ListLaws.{numbers-length}
+use Rattle.records.proofs.LabelLaws.{numbers-append}
 use Rattle.records.proofs.RecordLaws.{record-length}
 use Rattle.records.proofs.RelocLaws.{relocs-count}
 use Rattle.dwarf.specs.declared.Table.{Table}

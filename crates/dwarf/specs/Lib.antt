@@ -4,4 +4,3 @@ pub mod Parts
 pub mod Pieces
 pub mod Sure
 pub mod Tables
-pub mod Delivered

@@ -58,12 +58,12 @@ taken-run Debug m f q p = refl
 
 -- ---- questions
 
-asked : (b : Bool) (n k : ℕ) → ask b n k ≡ none → T b
+pub asked : (b : Bool) (n k : ℕ) → ask b n k ≡ none → T b
 unfolding ask pick
 asked true n k e = tt
 asked false n k e = let z : _≡_ {A = ℕ} 0 1 = cc in absurd (omega arith)
 
-both : (p q : Question) → andThen p q ≡ none → (p ≡ none) × (q ≡ none)
+pub both : (p q : Question) → andThen p q ≡ none → (p ≡ none) × (q ≡ none)
 unfolding andThen
 both none q e = (refl, e)
 both (some r) q e = let z : _≡_ {A = ℕ} 0 1 = cc in absurd (omega arith)
@@ -80,7 +80,7 @@ not-empty false a w e = e
 
 -- ---- question 11
 
-machine-fits : (ms : List ℕ) → T (machineOk ms) → MachineFits (machineOf ms)
+pub machine-fits : (ms : List ℕ) → T (machineOk ms) → MachineFits (machineOf ms)
 unfolding machineOk
 machine-fits ms t =
     let m : Machine = machineOf ms in

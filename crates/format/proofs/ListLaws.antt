@@ -48,7 +48,7 @@ relocation-on : (r : Relocation) (rs : List Relocation) (k : ℕ) → relocation
 unfolding relocationAt numbersOf
 relocation-on r rs k = simp (five-on (r .place) (r .symbol) (r .kind) (r .bytes) (r .addend) (numbersOf rs) k)
 
-numbers-length : (rs : List Relocation) → length (numbersOf rs) ≡ 5 * length rs
+pub numbers-length : (rs : List Relocation) → length (numbersOf rs) ≡ 5 * length rs
 unfolding numbersOf
 numbers-length [] = refl
 numbers-length (r ∷ rs) = omega (arith, numbers-length rs)

@@ -107,6 +107,11 @@ pub record Room : Type 0 where
   pub relocations : ℕ
   pub sites : ℕ
 
+-- the room of four lent lists
+abbrev pub roomIn : (places bytes relocations sites : List ℕ) → Room
+roomIn places bytes relocations sites =
+    record { places = length places; bytes = length bytes; relocations = length relocations; sites = length sites }
+
 unfoldable pub roomAsks : Room → Written → Question
 roomAsks r w =
     andThen (ask (leb (length (w .places)) (r .places)) 51 0)
@@ -154,6 +159,10 @@ pub record Given : Type 0 where
   pub rows : List ℕ
   pub landings : List ℕ
   pub pairs : List ℕ
+
+abbrev pub givenOf : (machine functions rows landings pairs : List ℕ) → Given
+givenOf machine functions rows landings pairs =
+    record { machine = machine; functions = functions; rows = rows; landings = landings; pairs = pairs }
 
 unfoldable pub givenFunctions : Given → List Function
 givenFunctions g = functionsOf (g .functions) (g .rows) (g .landings) (g .pairs)

@@ -7,13 +7,13 @@ use lib.ListN.{length}
 use Rattle.format.specs.declared.Machine.{Machine}
 use Rattle.format.specs.declared.Section.{Section}
 use Rattle.format.specs.declared.Section.the-variants.{Elf, MachO, Debug}
-use Rattle.format.specs.Lists.{Function, Landing, Named, field, functionStride, rowStride, landingStride, pairStride, count, rowOkAt, allIn, mostRecords}
+use Rattle.format.specs.Lists.{Function, field, functionStride, rowStride, landingStride, pairStride, count, rowOkAt, allIn, mostRecords}
 use Rattle.format.specs.Headers.{Key, keyOf}
 use Rattle.format.specs.Questions.{encodingsOk}
 use Rattle.format.proofs.Fits.{MachineFits}
 use Rattle.format.proofs.WalkBack.{LinesOk}
 use Rattle.lists.specs.declared.Extent.{Extent}
-use Rattle.lists.specs.Extents.{extentAt, meant}
+use Rattle.lists.specs.Extents.{meant}
 
 -- landings and pairs by count, personality and relaxing labels by mark; the rest as it is
 unfoldable pub without : (landings : ℕ) (personality relaxed : Bool) → Extent → Extent

@@ -4,14 +4,14 @@ use Prim.Native.Nat.{ℕ, suc, _≤_, _<_}
 use native.Mathlib.Omega.{arith}
 use mathlib.Core.Bool.{Bool, true, false, _&&_}
 use mathlib.Core.List.{List}
-use lib.Dec.{leb, ltb, eqb}
+use lib.Dec.{eqb}
 use borrow.Author.Tests.{le-leb, lt-leb}
 use Rattle.format.specs.Test.{pick, Result, good, bad, onward}
 use Rattle.format.specs.Machine.{isWord}
 use Rattle.format.specs.declared.Reading.the-variants.{Refused}
 use Rattle.format.specs.declared.Rule.the-variants as rule
 use Rattle.format.specs.Lists.{relocationsOf}
-use Rattle.format.specs.Rules.{Run, start, answer}
+use Rattle.format.specs.Rules.{start, answer}
 use Rattle.format.specs.Reader.{Found, walk, walked, locate, readSection, read}
 use Rattle.locate.specs.declared.Located.{Located}
 use Rattle.locate.specs.declared.Locating.{Locating}

@@ -22,11 +22,6 @@ unfolding numbersOf
 numbers-append [] ss = refl
 numbers-append (r ∷ rs) ss = rw (numbers-append rs ss)
 
-pub numbers-length : (rs : List Relocation) → length (numbersOf rs) ≡ 5 * length rs
-unfolding numbersOf
-numbers-length [] = refl
-numbers-length (r ∷ rs) = omega (arith, numbers-length rs)
-
 -- ---- a step's form
 
 pub kind-wide : (form : ℕ) → 3 ≤ form → setKind form ≡ 11

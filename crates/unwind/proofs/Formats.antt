@@ -1,12 +1,9 @@
 -- What the writers answer, format by format.
 use mathlib.Core.Path.{_≡_, refl, sym, subst, _∙_}
-use Prim.Native.Nat.{ℕ, _/_, _≤_, _<_}
+use Prim.Native.Nat.{ℕ, _≤_, _<_}
 use native.Mathlib.Omega.{arith}
 use mathlib.Core.Logic.{_≢_}
-use mathlib.Core.Bool.{Bool, true, false, not, _||_}
-use mathlib.Core.List.{List, []}
-use lib.Dec.{eqb, leb}
-use lib.ListN.{length}
+use mathlib.Core.List.{List}
 use borrow.Author.Tests.{eq-eqb, ne-eqb, le-leb, lt-leb}
 use Rattle.format.specs.Test.{pick}
 use Rattle.format.specs.declared.Outcome.{Outcome}
@@ -14,7 +11,7 @@ use Rattle.format.specs.declared.Outcome.the-variants as outcome
 use Rattle.format.specs.declared.Section.the-variants.{Elf, MachO, Debug}
 use Rattle.format.specs.Machine.{machineOf}
 use Rattle.format.specs.Lists.{count, functionStride}
-use Rattle.format.specs.Questions.{Given, Room, Answer, refused, empty, accepted, unless, noFunctions, dwarfGiven, windowsAsks, windowsAnswer, givenFunctions, formatAnswer, relaxedTable, relaxedDebugFrame}
+use Rattle.format.specs.Questions.{Given, Room, Answer, refused, empty, unless, noFunctions, dwarfGiven, windowsAsks, windowsAnswer, givenFunctions, formatAnswer, relaxedTable, relaxedDebugFrame}
 use Rattle.format.proofs.Choice.{either}
 use Rattle.format.specs.Answers.{Writes, outcomeOf, afterwards}
 

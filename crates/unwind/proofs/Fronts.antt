@@ -1,6 +1,6 @@
 -- What a writer wrote stands at the fronts of its buffers, where the reader is lent it.
-use mathlib.Core.Path.{_≡_, refl, sym, ap, subst, _∙_}
-use Prim.Native.Nat.{ℕ, suc, _+_, _*_, _≤_, _<_}
+use mathlib.Core.Path.{_≡_, refl, sym, _∙_}
+use Prim.Native.Nat.{ℕ, suc, _+_, _*_, _≤_}
 use native.Mathlib.Omega.{arith}
 use native.Mathlib.Nat.{add-zero, zero-add}
 use native.Mathlib.Numerals.{add-one}
@@ -12,13 +12,13 @@ use Rattle.format.specs.Put.{put}
 use Rattle.format.specs.declared.Counts.{Counts}
 use Rattle.format.specs.declared.Outcome.{Outcome}
 use Rattle.format.specs.declared.Outcome.the-variants as outcome
-use Rattle.format.specs.Lists.{Relocation, numbersOf}
-use Rattle.format.specs.Writer.{Written}
+use Rattle.format.specs.Lists.{numbersOf}
 use Rattle.format.specs.Reader.{read}
-use Rattle.format.specs.Questions.{Given, Room, Answer, refused, empty, accepted}
+use Rattle.format.specs.Questions.{Given, roomIn, Answer, refused, empty, accepted}
 use Rattle.format.specs.Answers.{Writes, outcomeOf, afterwards, relocationNumbers, bit}
+use Rattle.format.proofs.ListLaws.{numbers-length}
 use Rattle.format.proofs.PutLaws.{put-none, put-cons, length-put}
-use Rattle.unwind.specs.Entries.{room, bytesIn, relocsIn}
+use Rattle.unwind.specs.Entries.{bytesIn, relocsIn}
 use Rattle.unwind.specs.Together.{bytesOf, relocsOf, readingFor}
 use Rattle.unwind.proofs.Together.{FitsIn}
 
@@ -32,19 +32,14 @@ front-from xs p (b ∷ bs) h =
 front : (xs bs : List ℕ) → length bs ≤ length xs → take (length bs) (put xs 0 bs) ≡ bs
 front xs bs h = rw (zero-add (length bs)) at (front-from xs 0 bs (omega arith))
 
-numbers-length : (rs : List Relocation) → length (numbersOf rs) ≡ 5 * length rs
-unfolding numbersOf
-numbers-length [] = refl
-numbers-length (r ∷ rs) = omega (arith, numbers-length rs)
-
 pub record Fronts (a : Answer) (o : Outcome) (bytes relocations : List ℕ) : Type 0 where
   pub bytes-fit : bytesIn o ≤ length bytes
   pub relocations-fit : 5 * relocsIn o ≤ length relocations
   pub bytes-are : take (bytesIn o) bytes ≡ bytesOf a
   pub relocations-are : take (5 * relocsIn o) relocations ≡ relocsOf a
 
-pub fronts : (a : Answer) (o : Outcome) (p p′ b b′ r r′ s s′ : List ℕ) → Writes a o p p′ b b′ r r′ s s′ → FitsIn (room p b r s) a → Fronts a o b′ r′
-unfolding outcomeOf afterwards bytesIn relocsIn bytesOf relocsOf relocationNumbers room
+pub fronts : (a : Answer) (o : Outcome) (p p′ b b′ r r′ s s′ : List ℕ) → Writes a o p p′ b b′ r r′ s s′ → FitsIn (roomIn p b r s) a → Fronts a o b′ r′
+unfolding outcomeOf afterwards bytesIn relocsIn bytesOf relocsOf relocationNumbers
 fronts (refused n k) o p p′ b b′ r r′ s s′ w f =
     rw (w .outcome) (record { bytes-fit = omega arith; relocations-fit = omega arith; bytes-are = refl; relocations-are = refl })
 fronts empty o p p′ b b′ r r′ s s′ w f =

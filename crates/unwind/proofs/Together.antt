@@ -1,23 +1,19 @@
 -- What was accepted fits and is read back from the buffers' fronts, and demand 3 of a writer and the reader behind it.
 use mathlib.Core.Path.{_≡_, refl, sym, ap, subst, _∙_}
-use Prim.Native.Nat.{ℕ, _+_, _*_, _≤_, _<_}
-use native.Mathlib.Omega.{arith}
-use mathlib.Core.Bool.{Bool, true, false, not, _||_}
+use Prim.Native.Nat.{ℕ, _*_, _≤_}
+use mathlib.Core.Bool.{Bool, true, false, not}
 use mathlib.Core.Option.{Option, none, some}
-use mathlib.Core.List.{List, [], _∷_}
-use lib.Dec.{T, eqb, leb, eqb→eq}
-use borrow.Author.Tests.{leb-true}
-use lib.ListN.{length, getD}
+use lib.Dec.{T, eqb, leb→le, eqb→eq}
+use lib.ListN.{length}
 use Rattle.format.specs.Test.{pick}
 use Rattle.format.specs.declared.Section.{Section}
 use Rattle.format.specs.declared.Section.the-variants.{Elf, MachO, Debug}
 use Rattle.format.specs.declared.Reading.{Reading}
 use Rattle.format.specs.Machine.{machineOf}
-use Rattle.format.specs.Lists.{count, functionStride}
 use Rattle.format.specs.Writer.{Written}
-use Rattle.format.specs.Questions.{Given, Room, Question, Answer, refused, empty, accepted, unless, ask, andThen, roomAsks, fitting, dwarfAnswer, dwarfGiven, Prologues, made, stopped, codesAnswer, prologuesAnswer, windowsAsks, windowsAnswer, givenFunctions, formatAnswer, dwarfWritten, relaxedTable, relaxedDebugFrame}
-use Rattle.format.specs.Rules.{rulesAt, seen}
+use Rattle.format.specs.Questions.{Given, Room, Question, Answer, refused, empty, accepted, unless, roomAsks, fitting, dwarfAnswer, dwarfGiven, Prologues, made, stopped, codesAnswer, prologuesAnswer, windowsAsks, windowsAnswer, givenFunctions, formatAnswer, dwarfWritten, relaxedTable, relaxedDebugFrame}
 use Rattle.format.specs.Answers.{bit, relocationNumbers}
+use Rattle.format.proofs.Accepted.{asked, both}
 use Rattle.format.proofs.Choice.{pick-yes, pick-no, tested}
 use Rattle.format.proofs.ReadBack.{kindOf, readBack, demand-3}
 use Rattle.unwind.specs.Together.{answerFor, sectionFor, bytesOf, relocsOf, readingFor, Demand, Demanded}
@@ -52,23 +48,13 @@ writtenOr d (accepted w) = w
 no-fits : (r : Room) (a : Answer) → T (not (isAccepted a)) → FitsIn r a
 no-fits r a t w e = absurd (subst (λ (b : Answer). T (not (isAccepted b))) e t)
 
-and-none : (p q : Question) → andThen p q ≡ none → (p ≡ none) × (q ≡ none)
-unfolding andThen
-and-none none q e = (refl, e)
-and-none (some x) q e = nothing x (sym e)
-
-ask-none : (test : Bool) (n k : ℕ) → ask test n k ≡ none → test ≡ true
-unfolding ask pick
-ask-none true n k e = refl
-ask-none false n k e = nothing (n, k) (sym e)
-
 room-yes : (r : Room) (w : Written) → roomAsks r w ≡ none → Fitting r w
 unfolding roomAsks
 room-yes r w e =
-    let x = and-none _ _ (and-none _ _ e .1) in
+    let x = both _ _ (both _ _ e .1) in
     record {
-      bytes = leb-true _ _ (ask-none _ 52 0 (x .0));
-      relocations = leb-true _ _ (ask-none _ 53 0 (and-none _ _ (x .1) .0));
+      bytes = leb→le (length (w .bytes)) (r .bytes) (asked _ 52 0 (x .0));
+      relocations = leb→le (5 * length (w .relocations)) (r .relocations) (asked _ 53 0 (both _ _ (x .1) .0));
     }
 
 module _ (r : Room) where

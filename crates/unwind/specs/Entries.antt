@@ -1,23 +1,13 @@
--- The lists and the room that an entry is handed, as the definitions take them.
+-- What the exports answer, as numbers.
 use mathlib.Core.Path.{_≡_}
 use Prim.Native.Nat.{ℕ}
 use mathlib.Core.List.{List, [], _∷_}
-use lib.ListN.{length}
-use Rattle.format.specs.Questions.{Given, Room, Answer}
+use Rattle.format.specs.Questions.{Answer}
 use Rattle.format.specs.Answers.{outcomeOf, outcomeNumbers, afterwards, relocationNumbers}
 use Rattle.format.specs.declared.Outcome.{Outcome}
 use Rattle.format.specs.declared.Outcome.the-variants as outcome
 use Rattle.unwind.specs.declared.Numbers.{Numbers}
 use Rattle.unwind.specs.declared.Written.{Written}
-
-unfoldable pub given : (machine functions rows landings pairs : List ℕ) → Given
-given machine functions rows landings pairs =
-    record { machine = machine; functions = functions; rows = rows; landings = landings; pairs = pairs }
-
--- the room of four lent buffers is what they hold
-unfoldable pub room : (places bytes relocations sites : List ℕ) → Room
-room places bytes relocations sites =
-    record { places = length places; bytes = length bytes; relocations = length relocations; sites = length sites }
 
 -- the numbers of a reading, in the order of include/unwind.h
 abbrev pub readNumbers : Numbers → List ℕ

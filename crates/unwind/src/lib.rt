@@ -1,7 +1,7 @@
 // The public library: its entries over number lists, and their C interface (include/unwind.h). Ported from rucc-asm/src/unwind.rs (relaxed_table, relaxed_debug_frame, seh) of tamnd/rucc, changed: see NOTICE.
 ghost use mathlib.Core.Path.{_≡_};
 ghost use Prim.Native.Nat.{_*_, _≤_};
-ghost use Rattle.format.specs.Questions.{relaxedTable, relaxedDebugFrame, seh};
+ghost use Rattle.format.specs.Questions.{relaxedTable, relaxedDebugFrame, seh, givenOf, roomIn};
 ghost use Rattle.format.specs.RowCheck.{rowCheckAt};
 ghost use Rattle.format.specs.Reader.{read};
 ghost use mathlib.Core.List.{[], _∷_};
@@ -11,7 +11,7 @@ ghost use mir.Val.{ofZ};
 ghost use Rattle.format.specs.declared.Reading.the-variants.{Rules};
 ghost use Rattle.format.specs.Answers.{frameNumbers, ruleNumbers, readingNumbers, bit, outcomeNumbers, Writes};
 ghost use Rattle.unwind.specs.Together.{answerFor, readingFor, Demanded};
-ghost use Rattle.unwind.specs.Entries.{given, room, readNumbers, writtenNumbers, Exports, bytesIn, relocsIn};
+ghost use Rattle.unwind.specs.Entries.{readNumbers, writtenNumbers, Exports, bytesIn, relocsIn};
 use format::Frame;
 use format::Outcome;
 use format::Reading;
@@ -35,7 +35,7 @@ pub fn relaxed_table(
     relocations: &mut [u64],
     sites: &mut [u8],
 ) -> Outcome
-    ensures { λ r. ⌜ Writes (relaxedTable format (given (now (machine .entry)) (now (functions .entry)) (now (rows .entry)) (now (landings .entry)) (now (pairs .entry))) (room (now (places .entry)) (now (bytes .entry)) (now (relocations .entry)) (now (sites .entry)))) r (now (places .entry)) (now (places .exit)) (now (bytes .entry)) (now (bytes .exit)) (now (relocations .entry)) (now (relocations .exit)) (now (sites .entry)) (now (sites .exit)) ⌝ }
+    ensures { λ r. ⌜ Writes (relaxedTable format (givenOf (now (machine .entry)) (now (functions .entry)) (now (rows .entry)) (now (landings .entry)) (now (pairs .entry))) (roomIn (now (places .entry)) (now (bytes .entry)) (now (relocations .entry)) (now (sites .entry)))) r (now (places .entry)) (now (places .exit)) (now (bytes .entry)) (now (bytes .exit)) (now (relocations .entry)) (now (relocations .exit)) (now (sites .entry)) (now (sites .exit)) ⌝ }
 {
     if functions.len() / 18 == 0 {
         return Outcome::Empty;
@@ -91,7 +91,7 @@ pub fn seh(
     relocations: &mut [u64],
     info: &mut [u8],
 ) -> Outcome
-    ensures { λ r. ⌜ Writes (seh (now (functions .entry)) (now (codes .entry)) (room (now (markers .entry)) (now (bytes .entry)) (now (relocations .entry)) (now (info .entry)))) r (now (markers .entry)) (now (markers .exit)) (now (bytes .entry)) (now (bytes .exit)) (now (relocations .entry)) (now (relocations .exit)) (now (info .entry)) (now (info .exit)) ⌝ }
+    ensures { λ r. ⌜ Writes (seh (now (functions .entry)) (now (codes .entry)) (roomIn (now (markers .entry)) (now (bytes .entry)) (now (relocations .entry)) (now (info .entry)))) r (now (markers .entry)) (now (markers .exit)) (now (bytes .entry)) (now (bytes .exit)) (now (relocations .entry)) (now (relocations .exit)) (now (info .entry)) (now (info .exit)) ⌝ }
 {
     x64::seh(functions, codes, markers, bytes, relocations, info)
 }
@@ -109,7 +109,7 @@ pub fn relaxed_debug_frame(
     bytes: &mut [u8],
     relocations: &mut [u64],
 ) -> Outcome
-    ensures { λ r. ⌜ Writes (relaxedDebugFrame format (given (now (machine .entry)) (now (functions .entry)) (now (rows .entry)) (now (landings .entry)) (now (pairs .entry))) (room (now (places .entry)) (now (bytes .entry)) (now (relocations .entry)) [])) r (now (places .entry)) (now (places .exit)) (now (bytes .entry)) (now (bytes .exit)) (now (relocations .entry)) (now (relocations .exit)) [] [] ⌝ }
+    ensures { λ r. ⌜ Writes (relaxedDebugFrame format (givenOf (now (machine .entry)) (now (functions .entry)) (now (rows .entry)) (now (landings .entry)) (now (pairs .entry))) (roomIn (now (places .entry)) (now (bytes .entry)) (now (relocations .entry)) [])) r (now (places .entry)) (now (places .exit)) (now (bytes .entry)) (now (bytes .exit)) (now (relocations .entry)) (now (relocations .exit)) [] [] ⌝ }
 {
     if functions.len() / 18 == 0 {
         return Outcome::Empty;
@@ -206,7 +206,7 @@ fn write(
     relocations: &mut [u64],
     sites: &mut [u8],
 ) -> Outcome
-    ensures { λ r. ⌜ Writes (answerFor debug format (given (now (machine .entry)) (now (functions .entry)) (now (rows .entry)) (now (landings .entry)) (now (pairs .entry))) (room (now (places .entry)) (now (bytes .entry)) (now (relocations .entry)) (now (sites .entry)))) r (now (places .entry)) (now (places .exit)) (now (bytes .entry)) (now (bytes .exit)) (now (relocations .entry)) (now (relocations .exit)) (now (sites .entry)) (now (sites .exit)) ⌝ }
+    ensures { λ r. ⌜ Writes (answerFor debug format (givenOf (now (machine .entry)) (now (functions .entry)) (now (rows .entry)) (now (landings .entry)) (now (pairs .entry))) (roomIn (now (places .entry)) (now (bytes .entry)) (now (relocations .entry)) (now (sites .entry)))) r (now (places .entry)) (now (places .exit)) (now (bytes .entry)) (now (bytes .exit)) (now (relocations .entry)) (now (relocations .exit)) (now (sites .entry)) (now (sites .exit)) ⌝ }
 {
     if debug {
         return relaxed_debug_frame(
@@ -260,9 +260,9 @@ pub fn write_and_read(
     q: u16,
     p: u64,
 ) -> WrittenAndRead
-    ensures { λ r. ⌜ Writes (answerFor debug format (given (now (machine .entry)) (now (functions .entry)) (now (rows .entry)) (now (landings .entry)) (now (pairs .entry))) (room (now (places .entry)) (now (bytes .entry)) (now (relocations .entry)) (now (sites .entry)))) (r .outcome) (now (places .entry)) (now (places .exit)) (now (bytes .entry)) (now (bytes .exit)) (now (relocations .entry)) (now (relocations .exit)) (now (sites .entry)) (now (sites .exit)) ⌝ }
-    ensures { λ r. ⌜ r .reading ≡ readingFor debug (given (now (machine .entry)) (now (functions .entry)) (now (rows .entry)) (now (landings .entry)) (now (pairs .entry))) (answerFor debug format (given (now (machine .entry)) (now (functions .entry)) (now (rows .entry)) (now (landings .entry)) (now (pairs .entry))) (room (now (places .entry)) (now (bytes .entry)) (now (relocations .entry)) (now (sites .entry)))) k q p ⌝ }
-    ensures { λ r. ⌜ Demanded debug format (given (now (machine .entry)) (now (functions .entry)) (now (rows .entry)) (now (landings .entry)) (now (pairs .entry))) (answerFor debug format (given (now (machine .entry)) (now (functions .entry)) (now (rows .entry)) (now (landings .entry)) (now (pairs .entry))) (room (now (places .entry)) (now (bytes .entry)) (now (relocations .entry)) (now (sites .entry)))) k q p (r .reading) ⌝ }
+    ensures { λ r. ⌜ Writes (answerFor debug format (givenOf (now (machine .entry)) (now (functions .entry)) (now (rows .entry)) (now (landings .entry)) (now (pairs .entry))) (roomIn (now (places .entry)) (now (bytes .entry)) (now (relocations .entry)) (now (sites .entry)))) (r .outcome) (now (places .entry)) (now (places .exit)) (now (bytes .entry)) (now (bytes .exit)) (now (relocations .entry)) (now (relocations .exit)) (now (sites .entry)) (now (sites .exit)) ⌝ }
+    ensures { λ r. ⌜ r .reading ≡ readingFor debug (givenOf (now (machine .entry)) (now (functions .entry)) (now (rows .entry)) (now (landings .entry)) (now (pairs .entry))) (answerFor debug format (givenOf (now (machine .entry)) (now (functions .entry)) (now (rows .entry)) (now (landings .entry)) (now (pairs .entry))) (roomIn (now (places .entry)) (now (bytes .entry)) (now (relocations .entry)) (now (sites .entry)))) k q p ⌝ }
+    ensures { λ r. ⌜ Demanded debug format (givenOf (now (machine .entry)) (now (functions .entry)) (now (rows .entry)) (now (landings .entry)) (now (pairs .entry))) (answerFor debug format (givenOf (now (machine .entry)) (now (functions .entry)) (now (rows .entry)) (now (landings .entry)) (now (pairs .entry))) (roomIn (now (places .entry)) (now (bytes .entry)) (now (relocations .entry)) (now (sites .entry)))) k q p (r .reading) ⌝ }
 {
     let outcome = write(
         debug,
@@ -453,7 +453,7 @@ pub extern "C" fn unwind_relaxed_table(
     relocations: &mut [u64],
     sites: &mut [u8],
 ) -> Written
-    ensures { λ r. ⌜ Exports (relaxedTable format (given (now (machine .entry)) (now (functions .entry)) (now (rows .entry)) (now (landings .entry)) (now (pairs .entry))) (room (now (places .entry)) (now (bytes .entry)) (now (relocations .entry)) (now (sites .entry)))) r (now (places .entry)) (now (places .exit)) (now (bytes .entry)) (now (bytes .exit)) (now (relocations .entry)) (now (relocations .exit)) (now (sites .entry)) (now (sites .exit)) ⌝ }
+    ensures { λ r. ⌜ Exports (relaxedTable format (givenOf (now (machine .entry)) (now (functions .entry)) (now (rows .entry)) (now (landings .entry)) (now (pairs .entry))) (roomIn (now (places .entry)) (now (bytes .entry)) (now (relocations .entry)) (now (sites .entry)))) r (now (places .entry)) (now (places .exit)) (now (bytes .entry)) (now (bytes .exit)) (now (relocations .entry)) (now (relocations .exit)) (now (sites .entry)) (now (sites .exit)) ⌝ }
 {
     written_of(relaxed_table(
         machine,
@@ -481,7 +481,7 @@ pub extern "C" fn unwind_relaxed_debug_frame(
     bytes: &mut [u8],
     relocations: &mut [u64],
 ) -> Written
-    ensures { λ r. ⌜ Exports (relaxedDebugFrame format (given (now (machine .entry)) (now (functions .entry)) (now (rows .entry)) (now (landings .entry)) (now (pairs .entry))) (room (now (places .entry)) (now (bytes .entry)) (now (relocations .entry)) [])) r (now (places .entry)) (now (places .exit)) (now (bytes .entry)) (now (bytes .exit)) (now (relocations .entry)) (now (relocations .exit)) [] [] ⌝ }
+    ensures { λ r. ⌜ Exports (relaxedDebugFrame format (givenOf (now (machine .entry)) (now (functions .entry)) (now (rows .entry)) (now (landings .entry)) (now (pairs .entry))) (roomIn (now (places .entry)) (now (bytes .entry)) (now (relocations .entry)) [])) r (now (places .entry)) (now (places .exit)) (now (bytes .entry)) (now (bytes .exit)) (now (relocations .entry)) (now (relocations .exit)) [] [] ⌝ }
 {
     written_of(relaxed_debug_frame(
         machine,
@@ -505,7 +505,7 @@ pub extern "C" fn unwind_seh(
     relocations: &mut [u64],
     info: &mut [u8],
 ) -> Written
-    ensures { λ r. ⌜ Exports (seh (now (functions .entry)) (now (codes .entry)) (room (now (markers .entry)) (now (bytes .entry)) (now (relocations .entry)) (now (info .entry)))) r (now (markers .entry)) (now (markers .exit)) (now (bytes .entry)) (now (bytes .exit)) (now (relocations .entry)) (now (relocations .exit)) (now (info .entry)) (now (info .exit)) ⌝ }
+    ensures { λ r. ⌜ Exports (seh (now (functions .entry)) (now (codes .entry)) (roomIn (now (markers .entry)) (now (bytes .entry)) (now (relocations .entry)) (now (info .entry)))) r (now (markers .entry)) (now (markers .exit)) (now (bytes .entry)) (now (bytes .exit)) (now (relocations .entry)) (now (relocations .exit)) (now (info .entry)) (now (info .exit)) ⌝ }
 {
     written_of(seh(functions, codes, markers, bytes, relocations, info))
 }

@@ -1,22 +1,22 @@
 -- The definitions' answer for rows by the passes over the functions, and what questions 11 to 13 say.
 use mathlib.Core.Path.{_≡_, refl, sym, ap, _∙_}
-use Prim.Native.Nat.{ℕ, zero, suc, _%_, _^_, _<_}
+use Prim.Native.Nat.{ℕ, zero, suc, _<_}
 use native.Mathlib.Omega.{arith}
 use mathlib.Core.Bool.{true, false, _&&_}
 use mathlib.Core.Option.{none, some}
 use mathlib.Core.List.{List, [], _∷_}
-use lib.Dec.{T, leb, ltb, eqb, leb→le, ltb→lt, eqb→eq}
+use lib.Dec.{T, leb, eqb, leb→le}
 use lib.ListN.{length, getD, drop, length-drop}
 use lib.Seq.{length-take-le}
-use Rattle.format.specs.Test.{pick, Result, good, bad, all, each}
+use Rattle.format.specs.Test.{pick, Result, good, bad, each}
 use Rattle.format.specs.declared.Machine.{Machine}
 use Rattle.format.specs.declared.Outcome.the-variants as outcome
-use Rattle.format.specs.Machine.{machineOf, machineOk, machineStride, isWord, noFramePointer}
+use Rattle.format.specs.Machine.{machineOf, machineOk}
 use Rattle.format.specs.Lists.{Function, Prologue, field, count, functionStride, rowStride, landingStride, pairStride, mostFunctions, mostRecords, sumOf, pairsIn, inside, symbolOk, pointerOk, markOk, whenMarked, allIn, rowOkAt, pairOkAt, functionOkAt, listsOk, functionAt, functionsOf}
 use Rattle.format.specs.X64.{codesOf, prologueOf, prologueNo}
 use Rattle.format.specs.Questions.{Question, Room, Answer, Prologues, made, stopped, madeOne, prologuesFor, prologuesAnswer, windowsAnswer, windowsAsks, Given, givenFunctions, ask, andThen, noAt, unless, fitting, codeAsks, codesAnswer, shortOnes}
 use Rattle.format.specs.Answers.{outcomeOf, afterwards, Writes}
-use Rattle.format.proofs.Fits.{MachineFits}
+use Rattle.format.proofs.Accepted.{machine-fits}
 use Rattle.format.proofs.ListLaws.{chained}
 use Rattle.lists.proofs.Machines.{long}
 use Rattle.x64.specs.declared.Source.{Source}
@@ -101,21 +101,6 @@ module _ (m : Machine) (fs rows landings pairs : List ℕ) where
       ∙ sym (unless-then a (andThen b c) w)
 
 -- ---- questions 11 to 13
-
-pub machine-fits : (ms : List ℕ) → T (machineOk ms) → MachineFits (machineOf ms)
-unfolding machineOk
-machine-fits ms t =
-    let m : Machine = machineOf ms in
-    let says = chained (leb machineStride (length ms)) (
-    isWord (m .word) ∷ eqb (m .pushed % m .word) 0 ∷ ltb (m .pushed) (2 ^ 31) ∷ ltb (m .stack) 65536 ∷ ltb (m .ret) 65536
-    ∷ leb (m .frame) noFramePointer ∷ eqb (getD ms 5 0) 0 ∷ all (λ n. leb n 255) (m .map) ∷ []) in
-    record {
-      is-word = says 1 t;
-      stack-small = ltb→lt (m .stack) 65536 (says 4 t);
-      ret-small = ltb→lt (m .ret) 65536 (says 5 t);
-      pushed-small = ltb→lt (m .pushed) (2 ^ 31) (says 3 t);
-      pushed-whole = eqb→eq (m .pushed % m .word) 0 (says 2 t);
-    }
 
 map-long : (ms : List ℕ) → T (machineOk ms) → length (machineOf ms .map) ≡ 64
 unfolding machineOf

@@ -5,7 +5,7 @@ use native.Mathlib.Omega.{arith}
 use mathlib.Core.Bool.{Bool, true, false, not}
 use mathlib.Core.Option.{none, some}
 use mathlib.Core.List.{List, [], _∷_}
-use lib.Dec.{leb}
+use lib.Dec.{leb, leb→le}
 use lib.ListN.{length, replicate, length-replicate}
 use Rattle.format.specs.Test.{pick, Result, good, bad, onward, each}
 use Rattle.format.specs.declared.Machine.{Machine}
@@ -19,8 +19,8 @@ use Rattle.format.specs.Put.{put, Wrote}
 use Rattle.format.specs.Lists.{Function, Prologue, field, functionAt, prologueAt, numbersOf}
 use Rattle.format.specs.X64.{codesOf, prologueOf, markersFrom, runtimeRelocs, runtimeFrom, x64}
 use Rattle.format.specs.Questions.{Question, Room, Answer, accepted, unless, ask, andThen, roomAsks}
+use Rattle.format.proofs.Accepted.{asked as said, both}
 use Rattle.format.specs.Answers.{questionOf, outcomeOf, afterwards, relocationNumbers, Writes}
-use Rattle.format.proofs.Choice.{either, if-gt}
 use Rattle.format.proofs.ListLaws.{each-length}
 use Rattle.x64.specs.declared.Source.{Source}
 use Rattle.x64.specs.Answers.{namedAt, roomFor, askEach, infosOf, isYes}
@@ -175,16 +175,8 @@ module _ {s : Source} {fs list : List ℕ} {n : ℕ} (a : Sure s fs list n) wher
 
 -- ---- room
 
-both : (p q : Question) → andThen p q ≡ none → (p ≡ none) × (q ≡ none)
-unfolding andThen
-both none q e = (refl, e)
-both (some r) q e = let w : _≡_ {A = ℕ} 0 1 = cc in absurd (omega arith)
-
 asked-one : (a b n k : ℕ) → ask (leb a b) n k ≡ none → a ≤ b
-unfolding ask
-asked-one a b n k e =
-    either a b (λ l. l)
-    (λ l. let z : some (n, k) ≡ none = sym (if-gt a b none (some (n, k)) l) ∙ e in let w : _≡_ {A = ℕ} 0 1 = cc in absurd (omega arith))
+asked-one a b n k e = leb→le a b (said (leb a b) n k e)
 
 asked : (a b n k : ℕ) (q : Question) → andThen (ask (leb a b) n k) q ≡ none → (a ≤ b) × (q ≡ none)
 asked a b n k q e = let d = both (ask (leb a b) n k) q e in (asked-one a b n k (d .0), d .1)

@@ -12,7 +12,7 @@ use Rattle.format.specs.declared.Machine.{Machine}
 use Rattle.format.specs.declared.Seh.{Seh}
 use Rattle.format.specs.Lists.{Function, Prologue, field, functionStride, prologueStride, codeStride, count, mostRecords, mostFunctions, codeAt, functionAt, prologueAt}
 use Rattle.format.specs.X64.{codesOf, prologueOf, prologueNo, x64}
-use Rattle.format.specs.Questions.{Question, Room, andThen}
+use Rattle.format.specs.Questions.{Question, andThen}
 use Rattle.format.specs.Writer.{Written}
 use Rattle.format.proofs.Fits.{MachineFits}
 use Rattle.leading.specs.Functions.{RowsReady}
@@ -145,7 +145,3 @@ asksOf s fs list n =
 
 abbrev pub tableOf : Source → (fs list : List ℕ) → ℕ → Written
 tableOf s fs list n = x64 (each (foundAt s fs list) 0 n)
-
-abbrev pub roomIn : (places bytes relocations sites : List ℕ) → Room
-roomIn places bytes relocations sites =
-    record { places = length places; bytes = length bytes; relocations = length relocations; sites = length sites }

@@ -9,13 +9,13 @@ ghost use Rattle.format.specs.Put.{put, Wrote};
 ghost use Rattle.format.specs.Lists.{field, numbersOf, functionStride, prologueStride, mostFunctions, mostRecords};
 ghost use Rattle.format.specs.Answers.{questionOf, Writes};
 ghost use Rattle.format.specs.X64.{runtimeRelocs, runtimeFrom, markersFrom, codeNo, firstNo, slots, prologueNo, frameByte, reversed, infoBytes};
-ghost use Rattle.format.specs.Questions.{accepted, unless, fitting, givenFunctions, windowsAsks, windowsAnswer, seh};
+ghost use Rattle.format.specs.Questions.{accepted, unless, fitting, givenFunctions, windowsAsks, windowsAnswer, seh, givenOf, roomIn};
 ghost use Rattle.format.specs.Machine.{machineOf};
 ghost use Rattle.format.proofs.Fits.{MachineFits};
 ghost use Rattle.leading.specs.Functions.{RowsReady};
 ghost use Rattle.codes.specs.Codes.{Holds, numberOf, frameAsk};
 ghost use Rattle.prologue.specs.Pieces.{Short, pieceOf};
-ghost use Rattle.x64.specs.Sources.{Readable, pieceAt, movedAt, codesIn, directSpan, RowsSpan, Askable, Found, Listed, Sure, strideOf, longNo, passNo, foundAt, asksOf, tableOf, roomIn};
+ghost use Rattle.x64.specs.Sources.{Readable, pieceAt, movedAt, codesIn, directSpan, RowsSpan, Askable, Found, Listed, Sure, strideOf, longNo, passNo, foundAt, asksOf, tableOf};
 ghost use Rattle.x64.specs.Answers.{named, namedAt, roomFor, saidBy, askEach, infosOf, isYes};
 use codes::Code;
 use codes::code_no;
@@ -632,7 +632,7 @@ pub fn windows(
     relocations: &mut [u64],
     info: &mut [u8],
 ) -> Outcome
-    ensures { λ r. ⌜ Writes (unless (windowsAsks (record { machine = now (machine .entry); functions = now (functions .entry); rows = now (rows .entry); landings = now (landings .entry); pairs = now (pairs .entry) })) (windowsAnswer (machineOf (now (machine .entry))) (givenFunctions (record { machine = now (machine .entry); functions = now (functions .entry); rows = now (rows .entry); landings = now (landings .entry); pairs = now (pairs .entry) })) (roomIn (now (markers .entry)) (now (bytes .entry)) (now (relocations .entry)) (now (info .entry))))) r (now (markers .entry)) (now (markers .exit)) (now (bytes .entry)) (now (bytes .exit)) (now (relocations .entry)) (now (relocations .exit)) (now (info .entry)) (now (info .exit)) ⌝ }
+    ensures { λ r. ⌜ Writes (unless (windowsAsks (givenOf (now (machine .entry)) (now (functions .entry)) (now (rows .entry)) (now (landings .entry)) (now (pairs .entry)))) (windowsAnswer (machineOf (now (machine .entry))) (givenFunctions (givenOf (now (machine .entry)) (now (functions .entry)) (now (rows .entry)) (now (landings .entry)) (now (pairs .entry)))) (roomIn (now (markers .entry)) (now (bytes .entry)) (now (relocations .entry)) (now (info .entry))))) r (now (markers .entry)) (now (markers .exit)) (now (bytes .entry)) (now (bytes .exit)) (now (relocations .entry)) (now (relocations .exit)) (now (info .entry)) (now (info .exit)) ⌝ }
 {
     if !machine_ok(machine) {
         return Outcome::Refused(11, 0);

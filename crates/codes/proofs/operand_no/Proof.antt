@@ -1,7 +1,6 @@
 -- `codes::operand_no` meets its contract.
 use native.Mathlib.Omega.{arith}
-use mathlib.Core.Path.{ap, _∙_}
-use Rattle.format.specs.X64.{operandNo, allocNo, saveNo}
+use Rattle.format.specs.X64.{operandNo}
 use Rattle.rows.proofs.Signs.{passed}
 use Rattle.codes.specs.Codes.{numberOf}
 use borrow.Author.Needs.{needs}

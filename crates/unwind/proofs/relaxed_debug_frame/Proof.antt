@@ -1,5 +1,4 @@
 -- `unwind::relaxed_debug_frame` meets its contract.
-use Rattle.unwind.specs.Entries.{given}
 use Rattle.unwind.proofs.Formats.{none-given-debug, other-debug, writes-empty}
 use Rattle.unwind.proofs.Delivering.{debug-writes}
 use borrow.Author.Needs.{needs}
@@ -7,11 +6,9 @@ use Rattle.unwind.proofs.relaxed_debug_frame.Statement.{statement}
 use Rattle.unwind.proofs.relaxed_debug_frame.Tie as tie
 
 returns : tie.Need-returns
-unfolding given
 returns c = writes-empty _ (none-given-debug _ _ _ (c .if1 .taken))
 
 returns-2 : tie.Need-returns-2
-unfolding given
 returns-2 c = writes-empty _ (other-debug _ _ _ (c .before .if1 .left) (c .if2 .taken))
 
 slice-aggregate-dwarf : tie.Need-slice-aggregate-dwarf

@@ -1,14 +1,11 @@
 -- `unwind::relaxed_table` meets its contract.
 use native.Mathlib.Omega.{arith}
-use Rattle.unwind.specs.Entries.{given, room}
 use Rattle.unwind.proofs.Formats.{none-given, elf-given, coff-given, mach-o-given, no-table, no-format, above-four, writes-empty, writes-refused, same-answer}
-use Rattle.unwind.proofs.Delivering.{writes}
 use borrow.Author.Needs.{needs}
 use Rattle.unwind.proofs.relaxed_table.Statement.{statement}
 use Rattle.unwind.proofs.relaxed_table.Tie as tie
 
 returns : tie.Need-returns
-unfolding given room
 returns c = writes-empty _ (none-given _ _ _ (c .if1 .taken))
 
 dwarf-requires : tie.Need-dwarf-requires
@@ -33,8 +30,7 @@ same-length-4 : tie.Need-same-length-4
 same-length-4 c = search needs
 
 returns-2 : tie.Need-returns-2
-unfolding given room
-returns-2 c = same-answer (elf-given _ _ _ (c .before .before .before .before .before .before .before .before .before .before .before .before .before .before .if1 .left) (c .before .before .before .before .before .before .before .before .before .before .before .before .before .match .keys1)) (writes (c .before .before .before .before .before .before .before .before .dwarf .ensures))
+returns-2 c = same-answer (elf-given _ _ _ (c .before .before .before .before .before .before .before .before .before .before .before .before .before .before .if1 .left) (c .before .before .before .before .before .before .before .before .before .before .before .before .before .match .keys1)) (c .before .before .before .before .before .before .before .before .dwarf .ensures)
 
 same-length-5 : tie.Need-same-length-5
 same-length-5 c = search needs
@@ -49,7 +45,6 @@ same-length-8 : tie.Need-same-length-8
 same-length-8 c = search needs
 
 returns-3 : tie.Need-returns-3
-unfolding given room
 returns-3 c = same-answer (coff-given _ _ _ (c .before .before .before .before .before .before .before .before .before .before .before .before .before .before .if1 .left) (c .before .before .before .before .before .before .before .before .before .before .before .before .before .match .keys2)) (c .before .before .before .before .before .before .before .before .windows .ensures)
 
 same-length-9 : tie.Need-same-length-9
@@ -65,19 +60,15 @@ same-length-12 : tie.Need-same-length-12
 same-length-12 c = search needs
 
 returns-4 : tie.Need-returns-4
-unfolding given room
-returns-4 c = same-answer (mach-o-given _ _ _ (c .before .before .before .before .before .before .before .before .before .before .before .before .before .before .if1 .left) (c .before .before .before .before .before .before .before .before .before .before .before .before .before .match .keys3)) (writes (c .before .before .before .before .before .before .before .before .dwarf2 .ensures))
+returns-4 c = same-answer (mach-o-given _ _ _ (c .before .before .before .before .before .before .before .before .before .before .before .before .before .before .if1 .left) (c .before .before .before .before .before .before .before .before .before .before .before .before .before .match .keys3)) (c .before .before .before .before .before .before .before .before .dwarf2 .ensures)
 
 returns-5 : tie.Need-returns-5
-unfolding given room
 returns-5 c = writes-empty _ (no-table _ _ _ (c .before .if1 .left) (omega (arith, c .match .keys4)) (omega (arith, c .match .keys4)))
 
 returns-6 : tie.Need-returns-6
-unfolding given room
 returns-6 c = writes-empty _ (no-table _ _ _ (c .before .if1 .left) (omega (arith, c .match .keys5)) (omega (arith, c .match .keys5)))
 
 returns-7 : tie.Need-returns-7
-unfolding given room
 returns-7 c = writes-refused _ 11 0 (no-format _ _ _ (c .before .if1 .left) (above-four _ (c .match .rest .0 .0 .0 .0 .1) (c .match .rest .0 .0 .0 .1) (c .match .rest .0 .0 .1) (c .match .rest .0 .1) (c .match .rest .1)))
 
 pub relaxed-table-spec : {M : Type 1} → statement M

@@ -1,5 +1,4 @@
 -- `unwind::seh` meets its contract.
-use Rattle.unwind.specs.Entries.{room}
 use borrow.Author.Needs.{needs}
 use Rattle.unwind.proofs.seh.Statement.{statement}
 use Rattle.unwind.proofs.seh.Tie as tie
@@ -20,7 +19,6 @@ same-length-4 : tie.Need-same-length-4
 same-length-4 c = search needs
 
 returns : tie.Need-returns
-unfolding room
 returns c = c .before .before .before .before .before .before .before .before .seh .ensures
 
 pub seh-spec : {M : Type 1} → statement M

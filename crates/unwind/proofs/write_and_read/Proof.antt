@@ -2,7 +2,6 @@
 use mathlib.Core.Path.{sym, _∙_}
 use native.Mathlib.Omega.{arith}
 use lib.Seq.{length-take-le}
-use Rattle.unwind.specs.Entries.{given}
 use Rattle.unwind.proofs.Together.{answer-fits, demanded, demanded-of}
 use Rattle.unwind.proofs.Fronts.{fronts, reading-of}
 use borrow.Author.Needs.{needs}
@@ -52,7 +51,6 @@ same-length-4 : tie.Need-same-length-4
 same-length-4 c = search needs
 
 returns : tie.Need-returns
-unfolding given
 returns c =
     let f = fronts _ _ _ _ _ _ _ _ _ _ (c .before .before .before .before .before .before .before .before .before .before .before .before .before .before .before .before .before .write .ensures) (answer-fits _ _ _ _) in
     let e = c .read .ensures ∙ reading-of _ _ _ _ _ _ _ _ _ _ _ _ _ f (c .before .before .before .before .before .before .before .before .bytes-in .ensures) (c .before .before .before .before .before .before .before .numbers-in .ensures) (c .before .before .number .ensures) (c .before .word-in .ensures) in

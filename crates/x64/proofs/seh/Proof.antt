@@ -1,6 +1,6 @@
 -- `x64::seh` meets its contract.
 use Rattle.x64.proofs.Entries.{seh-empty, seh-refused, seh-answers, direct-listed, is-true}
-use Rattle.x64.specs.Sources.{roomIn}
+use Rattle.format.specs.Questions.{roomIn}
 use Rattle.lists.proofs.Answers.{accepted, refused}
 use Rattle.format.specs.Machine.{x8664}
 use native.Mathlib.Omega.{arith}

@@ -1,7 +1,7 @@
 -- `x64::windows` meets its contract.
 use Rattle.x64.proofs.ByRows.{no-machine, no-word, no-lists, rows-answers, rows-listed}
 use Rattle.x64.proofs.Entries.{is-true}
-use Rattle.x64.specs.Sources.{roomIn}
+use Rattle.format.specs.Questions.{roomIn}
 use Rattle.lists.proofs.Answers.{accepted, refused}
 use Rattle.format.specs.Questions.{Given, Room}
 use Rattle.format.specs.Machine.{machineOf}

@@ -1,7 +1,8 @@
 -- `x64::write` meets its contract.
 use Rattle.x64.proofs.Writing.{stays, goes, room-same, room-says}
 use Rattle.x64.proofs.Asked.{said-yes}
-use Rattle.x64.specs.Sources.{tableOf, roomIn}
+use Rattle.format.specs.Questions.{roomIn}
+use Rattle.x64.specs.Sources.{tableOf}
 use Rattle.format.specs.Questions.{accepted, roomAsks, fitting}
 use Rattle.format.specs.Answers.{questionOf}
 use mathlib.Core.Path.{sym, ap, _∙_}
