@@ -82,6 +82,34 @@ pub fn relaxed_table(
     }
 }
 
+// The table of functions without pairs of relaxing labels: `relaxed_table` with an empty list of them, as in the source.
+pub fn table(
+    machine: &[u64],
+    format: u64,
+    functions: &[u64],
+    rows: &[u64],
+    landings: &[u64],
+    places: &mut [u64],
+    bytes: &mut [u8],
+    relocations: &mut [u64],
+    sites: &mut [u8],
+) -> Outcome
+    ensures { λ r. ⌜ Writes (relaxedTable format (givenOf (now (machine .entry)) (now (functions .entry)) (now (rows .entry)) (now (landings .entry)) []) (roomIn (now (places .entry)) (now (bytes .entry)) (now (relocations .entry)) (now (sites .entry)))) r (now (places .entry)) (now (places .exit)) (now (bytes .entry)) (now (bytes .exit)) (now (relocations .entry)) (now (relocations .exit)) (now (sites .entry)) (now (sites .exit)) ⌝ }
+{
+    relaxed_table(
+        machine,
+        format,
+        functions,
+        rows,
+        landings,
+        &rows[..0],
+        places,
+        bytes,
+        relocations,
+        sites,
+    )
+}
+
 // Windows x64 unwind data from direct codes, with the markers and infos as in COFF. An empty list is an empty result.
 pub fn seh(
     functions: &[u64],
@@ -130,6 +158,32 @@ pub fn relaxed_debug_frame(
         bytes,
         relocations,
         &mut sites,
+    )
+}
+
+// The same of functions without pairs of relaxing labels, as in the source.
+pub fn debug_frame(
+    machine: &[u64],
+    format: u64,
+    functions: &[u64],
+    rows: &[u64],
+    landings: &[u64],
+    places: &mut [u64],
+    bytes: &mut [u8],
+    relocations: &mut [u64],
+) -> Outcome
+    ensures { λ r. ⌜ Writes (relaxedDebugFrame format (givenOf (now (machine .entry)) (now (functions .entry)) (now (rows .entry)) (now (landings .entry)) []) (roomIn (now (places .entry)) (now (bytes .entry)) (now (relocations .entry)) [])) r (now (places .entry)) (now (places .exit)) (now (bytes .entry)) (now (bytes .exit)) (now (relocations .entry)) (now (relocations .exit)) [] [] ⌝ }
+{
+    relaxed_debug_frame(
+        machine,
+        format,
+        functions,
+        rows,
+        landings,
+        &rows[..0],
+        places,
+        bytes,
+        relocations,
     )
 }
 
