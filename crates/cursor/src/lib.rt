@@ -45,9 +45,31 @@ pub fn entry_at(section: &[u8], debug: bool, at: usize) -> Entry
     }
 }
 
-// What stands at a position of a slice, by a cursor made for it.
+// ---- the cursor
+
+// A section and a position in it. The borrow checker covers no function over it, so the few below are proved by walks of their own; the work is `entry_at`'s.
+pub struct Cursor<'a> {
+    pub section: &'a [u8],
+    pub at: usize,
+}
+
+// At the first entry.
+pub fn new<'a>(section: &'a [u8]) -> Cursor<'a>
+    ensures { λ r. ⌜ (r .section ≡ section .entry) × (r .at ≡ 0) ⌝ }
+{
+    Cursor { section, at: 0 }
+}
+
+// What stands at the cursor; the answer says where the next entry stands.
+pub fn next<'a>(c: Cursor<'a>, debug: bool) -> Entry
+    ensures { λ r. ⌜ r ≡ entryAt debug (now (c .entry .section)) (c .entry .at) ⌝ }
+{
+    entry_at(c.section, debug, c.at)
+}
+
+// What stands at a position, by a cursor made for it: callers of this one need no walk.
 pub fn next_entry(section: &[u8], debug: bool, at: usize) -> Entry
     ensures { λ r. ⌜ r ≡ entryAt debug (now (section .entry)) at ⌝ }
 {
-    entry_at(section, debug, at)
+    next(Cursor { section, at }, debug)
 }
