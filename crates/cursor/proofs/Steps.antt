@@ -70,5 +70,8 @@ module _ (debug : Bool) (s : List ℕ) (p : ℕ) where
   at-number Nothing e h n = rw (at-none debug s p h e) (ended-no 61 (omega arith) (rw (at-none debug s p h e) at n))
   at-number (Is q) e h n = let a = entered s p e in rw (at-there debug s p h e) (spanned-fits debug s p q (a .long) (a .inside))
 
-  pub entry-fits : entryAt debug s p .number ≡ 0 → Fits s p (entryAt debug s p)
-  entry-fits = either (length s) p (λ h. rw (at-end debug s p h) (ended-no 62 (omega arith))) (λ h. at-number (endAt s p) refl h)
+  here-fits : entryAt debug s p .number ≡ 0 → Fits s p (entryAt debug s p)
+  here-fits = either (length s) p (λ h. rw (at-end debug s p h) (ended-no 62 (omega arith))) (λ h. at-number (endAt s p) refl h)
+
+  pub entry-fits : {e : Entry} → e ≡ entryAt debug s p → e .number ≡ 0 → Fits s p e
+  entry-fits same n = rw same (here-fits (rw same at n))
