@@ -4,7 +4,7 @@ use Prim.Native.Nat.{ℕ, suc, _+_, _-_, _/_, _≤_, _<_}
 use native.Mathlib.Omega.{arith}
 use native.Mathlib.Numerals.{add-one}
 use mathlib.Core.Bool.{Bool, true, false, not, _&&_}
-use mathlib.Core.List.{List}
+use mathlib.Core.List.{List, []}
 use borrow.Author.Tests.{not-true, not-false}
 use lib.ListN.{length}
 use lib.Dec.{T, eqb}
@@ -45,12 +45,17 @@ unfolding pick
 done true = refl
 done false = refl
 
+-- no row is left
+pub follow-none : (o : Order) → follow o [] ≡ true
+unfolding follow leadersOk all ahead rowsOf inOrder
+follow-none o = done (o .leading)
+
 module _ {rows : List ℕ} {at n i : ℕ} {simple : Bool} {o : Order} (c : Checking rows at n simple i o) where
   pub ended : at + n ≤ i → true ≡ rowCheck simple (each (lineAt rows) at n)
-  unfolding each follow leadersOk all ahead rowsOf inOrder
+  unfolding each
   ended h =
       let e : at + n - i ≡ 0 = omega arith in
-      sym (c .rest ∙ rw e (done (o .leading)))
+      sym (c .rest ∙ rw e (follow-none o))
 
   module _ (h : i < at + n) where
     left : at + n - i ≡ suc (at + n - (i + 1))

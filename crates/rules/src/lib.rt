@@ -26,7 +26,7 @@ pub struct Stepped {
 }
 
 // Unless simple a frame address rule leads.
-fn start(simple: bool) -> Order
+pub fn start(simple: bool) -> Order
     ensures { λ r. ⌜ Starts simple r ⌝ }
 {
     let marks = [false; 16];
@@ -39,7 +39,7 @@ fn start(simple: bool) -> Order
 }
 
 // A row is at offset 0, behind rows that all lead.
-fn at_start(leading: bool, offset: u64) -> bool
+pub fn at_start(leading: bool, offset: u64) -> bool
     ensures { λ r. ⌜ r ≡ leading && eqb offset 0 ⌝ }
 {
     if leading {
@@ -103,7 +103,7 @@ fn closes(o: Order, first: bool) -> Stepped
 }
 
 // A row, `first` where it is at offset 0 behind rows that all lead.
-fn step(o: Order, first: bool, row: Row) -> Stepped
+pub fn step(o: Order, first: bool, row: Row) -> Stepped
     requires { ⌜ Held o ⌝ }
     ensures { λ r. ⌜ Steps o first row r ⌝ }
 {

@@ -1,0 +1,5 @@
+-- The lemmas of this crate's functions.
+pub mod Signs
+pub mod Meaning
+pub mod Going
+pub mod Agrees

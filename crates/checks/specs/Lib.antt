@@ -1,0 +1,2 @@
+-- What the row check of row structs answers.
+pub mod Checks
