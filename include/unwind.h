@@ -1,10 +1,11 @@
-/* Unwind tables: the writers of ELF's eh_frame and debug_frame, Mach-O's eh_frame and Windows x64 unwind data.
+/* Unwind tables: the writers of ELF's eh_frame and debug_frame, Mach-O's eh_frame and Windows x64 unwind data, the row check,
+ * and the reader of the DWARF sections.
  *
  * Every function takes every input: a refusal comes back as the number of the question that was answered by no, and every
- * lent buffer is then as it was. An accepted call leaves what lies past its results as it was.
+ * lent buffer is then as it was. An accepted call leaves what lies past its results as it was. No input is changed.
  *
- * What the caller owes, and no contract can say: each pointer is valid for its count of elements and aligned, and no lent
- * buffer overlaps another or an input. An empty slice may come as a null pointer with the count 0. */
+ * What the caller owes, and no contract can say: each pointer is valid for its count of elements and aligned while the call
+ * lasts, and no lent buffer overlaps another or an input. An empty slice may come as a null pointer with the count 0. */
 #ifndef UNWIND_H
 #define UNWIND_H
 
@@ -17,26 +18,45 @@ extern "C" {
 
 /* The lists are slices of 64-bit numbers; an incomplete last record of a list is no record.
  *
- *   machine      70: word, pushed bytes, stack pointer, return address, frame pointer (65,536: none), 0, then what each
- *                    of DWARF 0 to 63 maps to (below 128 an integer register, below 255 vector register n - 128, 255 none)
+ *   machine      70: word (2, 4 or 8), pushed bytes, stack pointer, return address, frame pointer (65,536: none), 0, then what
+ *                    each of DWARF 0 to 63 maps to (below 128 an integer register, below 255 vector register n - 128, 255
+ *                    none). Of more than 70 numbers the first 70 count
  *   functions    18: symbol, length, rows_at, rows, landings_at, landings, simple, signal, personality, its encoding,
- *                    its symbol, lsda, its encoding, its symbol, relaxed, end symbol, pairs_at, pairs
+ *                    its symbol, lsda, its encoding, its symbol, relaxed, end symbol, pairs_at, pairs. Marks are 0 or 1; of
+ *                    an absent option (personality, lsda, relaxed) the numbers behind its mark are not looked at
  *   rows          4: offset, kind, register, offset operand (32-bit two's complement). Kinds: 0 DefCfa, 1 DefCfaOffset,
  *                    2 DefCfaRegister, 3 Offset, 4 Restore, 5 Undefined, 6 RememberState, 7 RestoreState, 8 NegateRaState
  *   landings      3: start, length, pad
  *   pairs         4: first place, second place, first symbol, second symbol
  *   functions of direct codes   5: symbol, length, prologue end, codes_at, codes
  *   codes         5: offset, kind (0 Push, 1 Alloc, 2 Frame, 3 Save), register, vector mark, value (64-bit two's complement)
- *   relocations   5: place, symbol, kind, size, addend
+ *   relocations   5: place, symbol, kind, size, addend. Kinds: 0 Data, 1 Address, 2 Sum plus, 3 Sum minus, 4 Image,
+ *                    5 to 12 Set6, Sub6, Set8, Sub8, Set16, Sub16, Set32, Sub32
  *
- * Formats: 0 ELF, 1 COFF, 2 Mach-O, 3 Wasm, 4 Plan 9. */
+ * An operand that a row's or a code's kind does not have is 0. Symbols of the caller are 16 to 2^32 - 1; in relocations 0 is
+ * the personality reference, 1 the table of call sites, 2 .debug_frame, and 2^32 + s the marker of s.
+ * Formats: 0 ELF, 1 COFF, 2 Mach-O, 3 Wasm, 4 Plan 9.
+ *
+ * The questions, by the number of a no:
+ *   11 machine, format, kind or word   12 x64: word is 8   13 counts, ranges, symbols, and numbers that their fields hold
+ *   21 length fits its field   22 encodings   23 no row goes back or steps above 2^32 - 1   24 offsets are multiples of word
+ *   25 a pair's places differ
+ *   31 frame pointer set after the frame is taken   32 frame not counted from a scratch register   33 group readable
+ *   34 registers below 16   35 offsets to 255   36 allocation positive, a multiple of 8   37 below 2^32   38 save not below the
+ *   frame   39 below 2^32   40 slots to 255   41 frame offset 0 to 240, a multiple of 16
+ *   51 places or markers fit   52 bytes   53 relocations   54 call sites or x64 info
+ *   61 lengths tile   62 record k   63 its header   64 fields of both   65 p below the length   66 operations
+ *   67 a state to restore, no Restore in a header   68 at most 16 states stored   69 a frame address rule to change */
 
-/* What a writer answers. `number` is 0 where the call was accepted (or its result is empty by document 01), else the
- * question's; `position` is the function's. The counts are 0 on a refusal; relocations are counted in fives. */
+/* What a writer answers. `number` is 0 where the call was accepted, and where the result is empty: of an empty list, Wasm,
+ * Plan 9, and debug_frame in any format but ELF. Else it is the question's, and `position` is the function's, from 0 (0 for 11
+ * to 13 and 51 to 54). The counts are 0 on a refusal; relocations are counted in fives. */
 typedef struct {
     uint64_t number, position, places, bytes, relocations, sites;
 } unwind_written;
 
+/* eh_frame of ELF and Mach-O, x64 unwind data of COFF. `places` takes the header places, in COFF the markers; `sites` the call
+ * sites, in COFF the x64 info. */
 unwind_written unwind_relaxed_table(
     const uint64_t *machine, size_t machine_n, uint64_t format,
     const uint64_t *functions, size_t functions_n, const uint64_t *rows, size_t rows_n,
@@ -44,6 +64,7 @@ unwind_written unwind_relaxed_table(
     uint64_t *places, size_t places_n, uint8_t *bytes, size_t bytes_n,
     uint64_t *relocations, size_t relocations_n, uint8_t *sites, size_t sites_n);
 
+/* debug_frame. Landings and personalities are looked at by question 13 alone. */
 unwind_written unwind_relaxed_debug_frame(
     const uint64_t *machine, size_t machine_n, uint64_t format,
     const uint64_t *functions, size_t functions_n, const uint64_t *rows, size_t rows_n,
@@ -51,6 +72,7 @@ unwind_written unwind_relaxed_debug_frame(
     uint64_t *places, size_t places_n, uint8_t *bytes, size_t bytes_n,
     uint64_t *relocations, size_t relocations_n);
 
+/* x64 unwind data of direct codes. */
 unwind_written unwind_seh(
     const uint64_t *functions, size_t functions_n, const uint64_t *codes, size_t codes_n,
     uint64_t *markers, size_t markers_n, uint8_t *bytes, size_t bytes_n,

@@ -1,0 +1,283 @@
+//! The entries over lists of numbers and buffers that the caller lends: include/unwind.h with slices.
+//!
+//! Nothing is allocated by these. The header says what the lists hold; [`Packed`] and [`PackedCodes`] make them of this crate's types.
+//! A refusal leaves every lent buffer as it was, and an accepted call leaves what lies past its results as it was.
+
+use alloc::vec::Vec;
+
+use crate::sys;
+use crate::{Frame, Function, Prologue, Refusal, Row, Rule, Rules};
+
+/// What question 13 allows.
+const MOST_FUNCTIONS: usize = 65_536;
+const MOST_RECORDS: usize = 1_048_576;
+
+/// The lists that the two DWARF writers and COFF's take.
+#[derive(Clone, Copy, Debug, Default)]
+pub struct Lists<'a> {
+    /// 18 numbers a function.
+    pub functions: &'a [u64],
+    /// 4 numbers a row.
+    pub rows: &'a [u64],
+    /// 3 numbers a landing.
+    pub landings: &'a [u64],
+    /// 4 numbers a pair.
+    pub pairs: &'a [u64],
+}
+
+/// The buffers that a writer stores its results in, each at its front.
+#[derive(Debug, Default)]
+pub struct Lent<'a> {
+    /// Header places; in COFF and `seh` the markers.
+    pub places: &'a mut [u64],
+    /// The section.
+    pub bytes: &'a mut [u8],
+    /// Relocations, 5 numbers each.
+    pub relocations: &'a mut [u64],
+    /// Call sites; in COFF and `seh` the x64 info.
+    pub sites: &'a mut [u8],
+}
+
+/// How much was written. All four are 0 where the result is empty.
+#[derive(Clone, Copy, Debug, Default, PartialEq, Eq)]
+pub struct Counts {
+    /// Header places or markers.
+    pub places: usize,
+    /// Bytes of the section.
+    pub bytes: usize,
+    /// Relocations, not their numbers.
+    pub relocations: usize,
+    /// Bytes of call sites or x64 info.
+    pub sites: usize,
+}
+
+/// The counts are at most those of the lent slices, so each fits.
+fn counts(w: &sys::Written) -> Result<Counts, Refusal> {
+    if w.number != 0 {
+        return Err(Refusal { number: w.number, position: w.position });
+    }
+    Ok(Counts {
+        places: w.places as usize,
+        bytes: w.bytes as usize,
+        relocations: w.relocations as usize,
+        sites: w.sites as usize,
+    })
+}
+
+/// The table of a list of functions. Formats: 0 ELF, 1 COFF, 2 Mach-O, 3 Wasm, 4 Plan 9.
+///
+/// # Errors
+/// The question that was answered by no; every lent buffer is then as it was.
+pub fn relaxed_table(machine: &[u64], format: u64, lists: Lists<'_>, lent: &mut Lent<'_>) -> Result<Counts, Refusal> {
+    // SAFETY: each pointer and count come from one slice, so they are valid and aligned; the four lent slices are unique
+    // references, so they overlap neither one another nor an input. The function takes every number.
+    let written = unsafe {
+        sys::unwind_relaxed_table(
+            machine.as_ptr(),
+            machine.len(),
+            format,
+            lists.functions.as_ptr(),
+            lists.functions.len(),
+            lists.rows.as_ptr(),
+            lists.rows.len(),
+            lists.landings.as_ptr(),
+            lists.landings.len(),
+            lists.pairs.as_ptr(),
+            lists.pairs.len(),
+            lent.places.as_mut_ptr(),
+            lent.places.len(),
+            lent.bytes.as_mut_ptr(),
+            lent.bytes.len(),
+            lent.relocations.as_mut_ptr(),
+            lent.relocations.len(),
+            lent.sites.as_mut_ptr(),
+            lent.sites.len(),
+        )
+    };
+    counts(&written)
+}
+
+/// debug_frame of a list of functions; an empty result of any format but 0. `lent.sites` is not used.
+///
+/// # Errors
+/// The question that was answered by no; every lent buffer is then as it was.
+pub fn relaxed_debug_frame(machine: &[u64], format: u64, lists: Lists<'_>, lent: &mut Lent<'_>) -> Result<Counts, Refusal> {
+    // SAFETY: each pointer and count come from one slice, so they are valid and aligned; the three lent slices are unique
+    // references, so they overlap neither one another nor an input. The function takes every number.
+    let written = unsafe {
+        sys::unwind_relaxed_debug_frame(
+            machine.as_ptr(),
+            machine.len(),
+            format,
+            lists.functions.as_ptr(),
+            lists.functions.len(),
+            lists.rows.as_ptr(),
+            lists.rows.len(),
+            lists.landings.as_ptr(),
+            lists.landings.len(),
+            lists.pairs.as_ptr(),
+            lists.pairs.len(),
+            lent.places.as_mut_ptr(),
+            lent.places.len(),
+            lent.bytes.as_mut_ptr(),
+            lent.bytes.len(),
+            lent.relocations.as_mut_ptr(),
+            lent.relocations.len(),
+        )
+    };
+    counts(&written)
+}
+
+/// Windows x64 unwind data of direct codes: 5 numbers a function, 5 a code.
+///
+/// # Errors
+/// The question that was answered by no; every lent buffer is then as it was.
+pub fn seh(functions: &[u64], codes: &[u64], lent: &mut Lent<'_>) -> Result<Counts, Refusal> {
+    // SAFETY: each pointer and count come from one slice, so they are valid and aligned; the four lent slices are unique
+    // references, so they overlap neither one another nor an input. The function takes every number.
+    let written = unsafe {
+        sys::unwind_seh(
+            functions.as_ptr(),
+            functions.len(),
+            codes.as_ptr(),
+            codes.len(),
+            lent.places.as_mut_ptr(),
+            lent.places.len(),
+            lent.bytes.as_mut_ptr(),
+            lent.bytes.len(),
+            lent.relocations.as_mut_ptr(),
+            lent.relocations.len(),
+            lent.sites.as_mut_ptr(),
+            lent.sites.len(),
+        )
+    };
+    counts(&written)
+}
+
+/// Whether the rows of function `k` pass the row check; no for `k` past the list.
+#[must_use]
+pub fn row_check(functions: &[u64], rows: &[u64], k: u64) -> bool {
+    // SAFETY: each pointer and count come from one slice, and nothing is lent. The function takes every number.
+    let said = unsafe { sys::unwind_row_check(functions.as_ptr(), functions.len(), rows.as_ptr(), rows.len(), k) };
+    said == 1
+}
+
+/// The rules of record `k` at offset `p` of its function, for one register. `kind`: 0 eh_frame, 1 debug_frame.
+///
+/// # Errors
+/// The question that was answered by no: 11, or 61 to 69.
+pub fn read(
+    section: &[u8],
+    relocations: &[u64],
+    kind: u64,
+    word: u64,
+    k: u64,
+    register: u16,
+    p: u64,
+) -> Result<Rules, Refusal> {
+    // SAFETY: each pointer and count come from one slice, and nothing is lent. The function takes every number.
+    let r = unsafe {
+        sys::unwind_read(section.as_ptr(), section.len(), relocations.as_ptr(), relocations.len(), kind, word, k, register, p)
+    };
+    if r.number != 0 {
+        return Err(Refusal { number: r.number, position: 0 });
+    }
+    // Registers have 16 bits by question 66, and offsets are 64-bit two's complement.
+    let frame = match r.frame {
+        0 => Frame::Unset,
+        _ => Frame::Register { register: r.frame_register as u16, offset: r.frame_offset as i64 },
+    };
+    let rule = match r.rule {
+        0 => Rule::Unstated,
+        1 => Rule::Undefined,
+        _ => Rule::Saved(r.rule_offset as i64),
+    };
+    Ok(Rules { frame, rule, signing: r.signing != 0 })
+}
+
+/// Adds records to a list. The answer is their range: where the first one stands, and how many they are.
+///
+/// Past what question 13 allows nothing is added, so that a slice which many functions share cannot fill the memory. The range
+/// then lies outside the list, and the answer is 13 as it would be with the records.
+fn add<T, const N: usize>(list: &mut Vec<u64>, records: &[T], numbers: impl Fn(&T) -> [u64; N]) -> [u64; 2] {
+    let at = list.len().checked_div(N).unwrap_or(0);
+    if at.saturating_add(records.len()) <= MOST_RECORDS {
+        list.extend(records.iter().flat_map(numbers));
+    }
+    [at as u64, records.len() as u64]
+}
+
+/// Functions as lists of numbers.
+#[derive(Clone, Debug, Default)]
+pub struct Packed {
+    functions: Vec<u64>,
+    rows: Vec<u64>,
+    landings: Vec<u64>,
+    pairs: Vec<u64>,
+}
+
+impl Packed {
+    /// The lists of these functions. Of a list that is too long for question 13 only so much is taken that the answer is the same.
+    #[must_use]
+    pub fn new(functions: &[Function<'_>]) -> Packed {
+        let mut packed = Packed::default();
+        for function in functions.iter().take(MOST_FUNCTIONS.saturating_add(1)) {
+            packed.push(function);
+        }
+        packed
+    }
+
+    fn push(&mut self, f: &Function<'_>) {
+        let [rows_at, rows] = add(&mut self.rows, f.rows, Row::numbers);
+        let [landings_at, landings] = add(&mut self.landings, f.landings, |l| [l.start, l.length, l.pad]);
+        let personality = f.personality.map_or([0; 3], |p| p.pointer.numbers());
+        let lsda = f.personality.and_then(|p| p.lsda).map_or([0; 3], |l| l.numbers());
+        let [relaxed, end, pairs_at, pairs] = f.relaxed.map_or([0; 4], |r| {
+            let [at, count] =
+                add(&mut self.pairs, r.pairs, |p| [p.first, p.second, u64::from(p.first_symbol), u64::from(p.second_symbol)]);
+            [1, u64::from(r.end), at, count]
+        });
+        self.functions.extend([u64::from(f.symbol), f.length, rows_at, rows, landings_at, landings]);
+        self.functions.extend([u64::from(f.simple), u64::from(f.signal)]);
+        self.functions.extend(personality.into_iter().chain(lsda));
+        self.functions.extend([relaxed, end, pairs_at, pairs]);
+    }
+
+    /// The lists, to be handed to an entry.
+    #[must_use]
+    pub fn lists(&self) -> Lists<'_> {
+        Lists { functions: &self.functions, rows: &self.rows, landings: &self.landings, pairs: &self.pairs }
+    }
+}
+
+/// Functions of direct codes as lists of numbers.
+#[derive(Clone, Debug, Default)]
+pub struct PackedCodes {
+    functions: Vec<u64>,
+    codes: Vec<u64>,
+}
+
+impl PackedCodes {
+    /// The lists of these functions. Of a list that is too long for question 13 only so much is taken that the answer is the same.
+    #[must_use]
+    pub fn new(functions: &[Prologue<'_>]) -> PackedCodes {
+        let mut packed = PackedCodes::default();
+        for f in functions.iter().take(MOST_FUNCTIONS.saturating_add(1)) {
+            let [at, count] = add(&mut packed.codes, f.codes, |code| code.numbers());
+            packed.functions.extend([u64::from(f.symbol), f.length, f.end, at, count]);
+        }
+        packed
+    }
+
+    /// 5 numbers a function.
+    #[must_use]
+    pub fn functions(&self) -> &[u64] {
+        &self.functions
+    }
+
+    /// 5 numbers a code.
+    #[must_use]
+    pub fn codes(&self) -> &[u64] {
+        &self.codes
+    }
+}

@@ -1,0 +1,76 @@
+//! Refusals: a question that was answered by no.
+
+use core::error::Error;
+use core::fmt;
+
+/// A call was refused: a question was answered by no, and nothing was written.
+#[derive(Clone, Copy, Debug, PartialEq, Eq, Hash)]
+pub struct Refusal {
+    /// The question's number: 11 to 13, 21 to 25, 31 to 41, 51 to 54 or 61 to 69.
+    pub number: u64,
+    /// The function's position in its list, from 0; 0 for 11 to 13, for 51 to 54, and for the reader's.
+    pub position: u64,
+}
+
+impl Refusal {
+    /// The question in words, or `None` for a number that is no question's.
+    #[must_use]
+    pub const fn question(&self) -> Option<&'static str> {
+        Some(match self.number {
+            11 => "is the machine one (word, pushed bytes, register numbers, map), and are format and section kind known?",
+            12 => "is the word 8, for x64 unwind data?",
+            13 => "are there no more functions and records than allowed, each range inside its list, and every symbol and number one?",
+            21 => "does the function's length fit its field?",
+            22 => "are the encodings of personality and LSDA ones that can be written?",
+            23 => "does no row go back, nor step above 2^32 - 1?",
+            24 => "is each Offset, and each negative DefCfa or DefCfaOffset, a multiple of the word?",
+            25 => "are the two places of each pair different?",
+            31 => "is the frame pointer set after the frame is taken?",
+            32 => "is the frame not counted from a scratch register?",
+            33 => "can the group of rows be read as prologue codes?",
+            34 => "is each register one of the machine's below 16?",
+            35 => "is each code's offset, and the prologue's end, at most 255?",
+            36 => "is the allocation positive and a multiple of 8?",
+            37 => "is the allocation below 2^32?",
+            38 => "is the register not saved below the frame?",
+            39 => "is the register saved below 2^32?",
+            40 => "are there at most 255 slots?",
+            41 => "is the frame's offset 0 to 240 and a multiple of 16?",
+            51 => "do the header places or markers fit their buffer?",
+            52 => "do the bytes fit their buffer?",
+            53 => "do the relocations fit their buffer?",
+            54 => "do the call sites or the x64 info fit their buffer?",
+            61 => "do the entries' lengths tile the section?",
+            62 => "is there a record of that number?",
+            63 => "does the record's header start where a header starts, and earlier?",
+            64 => "are the fields of record and header complete and ones that can be read?",
+            65 => "is the offset below the function's length?",
+            66 => "is each operation known, complete, allowed where it stands, and its numbers in range?",
+            67 => "has each RestoreState a stored state, and is no Restore in a header?",
+            68 => "are at most 16 states stored?",
+            69 => "is there a frame address rule to change?",
+            _ => return None,
+        })
+    }
+
+    /// Whether the refusal is about one function, so that `position` says which.
+    #[must_use]
+    pub const fn is_of_a_function(&self) -> bool {
+        matches!(self.number, 21..=41)
+    }
+}
+
+impl fmt::Display for Refusal {
+    fn fmt(&self, f: &mut fmt::Formatter<'_>) -> fmt::Result {
+        write!(f, "refused by question {}", self.number)?;
+        if self.is_of_a_function() {
+            write!(f, " at function {}", self.position)?;
+        }
+        match self.question() {
+            Some(words) => write!(f, ": {words}"),
+            None => Ok(()),
+        }
+    }
+}
+
+impl Error for Refusal {}

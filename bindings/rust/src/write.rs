@@ -1,0 +1,179 @@
+//! The writers that make their own buffers, and the row check and the reader over this crate's types.
+
+use alloc::vec;
+use alloc::vec::Vec;
+
+use crate::lists::{self, Counts, Lent, Packed, PackedCodes};
+use crate::{Format, Function, Machine, Prologue, Refusal, Relocation, Row, Rules, Section, Word};
+
+/// No result of a writer has as many elements: question 13 keeps each below this.
+const MOST: usize = 1 << 25;
+
+/// What a writer wrote. All four are empty where the format has no table or the list has no function.
+#[derive(Clone, Debug, Default, PartialEq, Eq)]
+pub struct Table {
+    /// The place of each function's header; in COFF and of [`seh`] the markers, the place of each function's info.
+    pub places: Vec<u64>,
+    /// The section.
+    pub bytes: Vec<u8>,
+    /// The section's relocations.
+    pub relocations: Vec<Relocation>,
+    /// The call sites; in COFF and of [`seh`] the x64 info.
+    pub sites: Vec<u8>,
+}
+
+impl Table {
+    fn of_room(room: [usize; 4]) -> Table {
+        let [places, bytes, relocations, sites] = room;
+        Table {
+            places: vec![0; places],
+            bytes: vec![0; bytes],
+            relocations: vec![Relocation::default(); relocations],
+            sites: vec![0; sites],
+        }
+    }
+
+    fn lend(&mut self) -> Lent<'_> {
+        Lent {
+            places: &mut self.places,
+            bytes: &mut self.bytes,
+            relocations: Relocation::numbers_mut(&mut self.relocations),
+            sites: &mut self.sites,
+        }
+    }
+
+    fn cut(mut self, to: Counts) -> Table {
+        self.places.truncate(to.places);
+        self.bytes.truncate(to.bytes);
+        self.relocations.truncate(to.relocations);
+        self.sites.truncate(to.sites);
+        self
+    }
+}
+
+/// Twice the room of the buffer that was too small, or `None` where that was not the question or no more room can be needed.
+fn larger(room: [usize; 4], number: u64) -> Option<[usize; 4]> {
+    let mut larger = room;
+    let at = usize::try_from(number.checked_sub(51)?).ok()?;
+    let slot = larger.get_mut(at)?;
+    if *slot >= MOST {
+        return None;
+    }
+    *slot = slot.saturating_mul(2).clamp(1, MOST);
+    Some(larger)
+}
+
+/// Calls a writer until its results fit. A refusal writes nothing, so it can be called again.
+fn grow(first: [usize; 4], mut write: impl FnMut(&mut Lent<'_>) -> Result<Counts, Refusal>) -> Result<Table, Refusal> {
+    let mut room = first;
+    loop {
+        let mut table = Table::of_room(room);
+        match write(&mut table.lend()) {
+            Ok(counts) => return Ok(table.cut(counts)),
+            Err(refusal) => room = larger(room, refusal.number).ok_or(refusal)?,
+        }
+    }
+}
+
+/// Room for a usual list: places exactly, of the rest what most lists need. At most [`MOST`] each.
+fn usual(functions: usize, records: usize) -> [usize; 4] {
+    let of = |each: usize, record: usize| {
+        let sum = functions.saturating_mul(each).saturating_add(records.saturating_mul(record));
+        sum.saturating_add(64).min(MOST)
+    };
+    [functions.min(MOST), of(40, 5), of(3, 0), of(8, 4)]
+}
+
+/// The table of these functions: eh_frame of ELF and Mach-O, x64 unwind data of COFF, nothing of Wasm and Plan 9.
+///
+/// # Errors
+/// The question that was answered by no. 51 to 54 do not occur: the buffers grow until the results fit.
+///
+/// ```
+/// use unwind::{relaxed_table, Format, Function, Machine, Op, Row};
+///
+/// let rows = [Row::new(1, Op::DefCfaOffset(16)), Row::new(1, Op::Offset(6, -16))];
+/// let table = relaxed_table(&Machine::X86_64, Format::Elf, &[Function::new(16, 9, &rows)])?;
+/// assert_eq!(table.bytes.len(), 48);
+/// assert_eq!(table.relocations[0].place, 32);
+/// # Ok::<(), unwind::Refusal>(())
+/// ```
+pub fn relaxed_table(machine: &Machine, format: Format, functions: &[Function<'_>]) -> Result<Table, Refusal> {
+    let packed = Packed::new(functions);
+    let (machine, lists) = (machine.numbers(), packed.lists());
+    grow(usual_of(functions, &packed), |lent| lists::relaxed_table(&machine, format.number(), lists, lent))
+}
+
+/// The same rows as a debugger's copy: debug_frame of ELF, nothing of any other format.
+///
+/// # Errors
+/// The question that was answered by no. 51 to 54 do not occur: the buffers grow until the results fit.
+pub fn relaxed_debug_frame(machine: &Machine, format: Format, functions: &[Function<'_>]) -> Result<Table, Refusal> {
+    let packed = Packed::new(functions);
+    let (machine, lists) = (machine.numbers(), packed.lists());
+    grow(usual_of(functions, &packed), |lent| lists::relaxed_debug_frame(&machine, format.number(), lists, lent))
+}
+
+fn usual_of(functions: &[Function<'_>], packed: &Packed) -> [usize; 4] {
+    let lists = packed.lists();
+    usual(functions.len(), lists.rows.len().saturating_add(lists.landings.len()).wrapping_div(3))
+}
+
+/// Windows x64 unwind data of direct codes.
+///
+/// # Errors
+/// The question that was answered by no. 51 to 54 do not occur: the buffers grow until the results fit.
+///
+/// ```
+/// use unwind::{seh, Code, CodeOp, Prologue};
+///
+/// let codes = [Code::new(4, CodeOp::Alloc(128))];
+/// let table = seh(&[Prologue { symbol: 16, length: 9, end: 4, codes: &codes }])?;
+/// assert_eq!(table.sites, [1, 4, 1, 0, 4, 0xf2, 0, 0]);
+/// # Ok::<(), unwind::Refusal>(())
+/// ```
+pub fn seh(functions: &[Prologue<'_>]) -> Result<Table, Refusal> {
+    let packed = PackedCodes::new(functions);
+    let room = usual(functions.len(), packed.codes().len().wrapping_div(5));
+    grow(room, |lent| lists::seh(packed.functions(), packed.codes(), lent))
+}
+
+/// Whether a function's rows can be run at every offset: where the answer is yes and the function has no relaxing labels,
+/// [`read`] answers at every offset below its length what the rows state.
+#[must_use]
+pub fn row_check(function: &Function<'_>) -> bool {
+    let rows: Vec<u64> = function.rows.iter().flat_map(Row::numbers).collect();
+    let mut record = [0; 18];
+    let [_, _, _, count, _, _, simple, ..] = &mut record;
+    *count = function.rows.len() as u64;
+    *simple = u64::from(function.simple);
+    lists::row_check(&record, &rows, 0)
+}
+
+/// The rules of record `k` at offset `p` of its function, for one register (a DWARF number). Records are counted from 0: in a
+/// section that a writer wrote, record `k` is function `k`'s. Nothing is allocated.
+///
+/// # Errors
+/// The question that was answered by no, 61 to 69; the section may be any bytes.
+///
+/// ```
+/// use unwind::{read, relaxed_table, Format, Frame, Function, Machine, Op, Row, Rule, Section, Word};
+///
+/// let rows = [Row::new(1, Op::DefCfaOffset(16)), Row::new(1, Op::Offset(6, -16))];
+/// let table = relaxed_table(&Machine::X86_64, Format::Elf, &[Function::new(16, 9, &rows)])?;
+/// let rules = read(&table.bytes, &table.relocations, Section::Eh, Word::Eight, 0, 6, 3)?;
+/// assert_eq!(rules.frame, Frame::Register { register: 7, offset: 16 });
+/// assert_eq!(rules.rule, Rule::Saved(-16));
+/// # Ok::<(), unwind::Refusal>(())
+/// ```
+pub fn read(
+    section: &[u8],
+    relocations: &[Relocation],
+    kind: Section,
+    word: Word,
+    k: u64,
+    register: u16,
+    p: u64,
+) -> Result<Rules, Refusal> {
+    lists::read(section, Relocation::numbers(relocations), kind.number(), word.bytes(), k, register, p)
+}

@@ -1,0 +1,113 @@
+/* A trap in a small firmware: writes the table of its three functions, checks their rows, and prints by which rules the caller
+ * is found from each frame of the chain. It prints what bindings/rust/examples/trap.rs prints.
+ *
+ *     rt staticlib unwind
+ *     gcc -O2 -Wall -Wextra -Werror -o target/trap examples/c/trap.c target/staticlib/libunwind.a
+ *     target/trap */
+#include <inttypes.h>
+#include <stdio.h>
+
+#include "../../include/unwind.h"
+
+enum { DEF_CFA, DEF_CFA_OFFSET, DEF_CFA_REGISTER, OFFSET, RESTORE, UNDEFINED, REMEMBER_STATE, RESTORE_STATE };
+enum { RBX = 3, RBP = 6, RSP = 7, RETURN_ADDRESS = 16, NONE = 255, VECTOR = 128 };
+enum { ELF = 0, EH_FRAME = 0, WORD = 8, FUNCTIONS = 3 };
+#define LENGTH(list) (sizeof(list) / sizeof *(list))
+
+/* x86-64: word, pushed bytes, stack pointer, return address, frame pointer, 0, and what DWARF 0 to 63 map to. */
+static const uint64_t machine[70] = {
+    WORD, 8, RSP, RETURN_ADDRESS, RBP, 0,
+    0, 2, 1, 3, 6, 7, 5, 4, 8, 9, 10, 11, 12, 13, 14, 15, NONE,
+    VECTOR, VECTOR + 1, VECTOR + 2, VECTOR + 3, VECTOR + 4, VECTOR + 5, VECTOR + 6, VECTOR + 7,
+    VECTOR + 8, VECTOR + 9, VECTOR + 10, VECTOR + 11, VECTOR + 12, VECTOR + 13, VECTOR + 14, VECTOR + 15,
+    NONE, NONE, NONE, NONE, NONE, NONE, NONE, NONE, NONE, NONE, NONE, NONE, NONE, NONE, NONE, NONE,
+    NONE, NONE, NONE, NONE, NONE, NONE, NONE, NONE, NONE, NONE, NONE, NONE, NONE, NONE, NONE,
+};
+
+/* An offset operand is 32-bit two's complement. */
+static const uint64_t rows[] = {
+    /* reset */
+    0, UNDEFINED, RETURN_ADDRESS, 0,
+    /* control */
+    1, DEF_CFA_OFFSET, 0, 16,
+    1, OFFSET, RBP, (uint32_t)-16,
+    4, DEF_CFA_REGISTER, RBP, 0,
+    60, DEF_CFA, RSP, 8,
+    60, RESTORE, RBP, 0,
+    /* sample */
+    1, DEF_CFA_OFFSET, 0, 16,
+    1, OFFSET, RBX, (uint32_t)-16,
+    5, DEF_CFA_OFFSET, 0, 48,
+    30, REMEMBER_STATE, 0, 0,
+    34, DEF_CFA_OFFSET, 0, 16,
+    35, DEF_CFA_OFFSET, 0, 8,
+    36, RESTORE_STATE, 0, 0,
+};
+
+/* Symbol, length, the first row and how many; no landings, marks, personality or relaxing labels. */
+static const uint64_t functions[18 * FUNCTIONS] = {
+    16, 14, 0, 1, 0, 0, 0, 0, 0, 0, 0, 0, 0, 0, 0, 0, 0, 0,
+    17, 61, 1, 5, 0, 0, 0, 0, 0, 0, 0, 0, 0, 0, 0, 0, 0, 0,
+    18, 50, 6, 7, 0, 0, 0, 0, 0, 0, 0, 0, 0, 0, 0, 0, 0, 0,
+};
+
+static const char *const names[FUNCTIONS] = {"reset", "control", "sample"};
+
+/* The trap stands at offset 20 of sample, called by control at 31, called by reset at 12. */
+static const struct {
+    uint64_t k, p;
+} chain[] = {{2, 20}, {1, 31}, {0, 12}};
+
+/* The registers that are asked about, by their DWARF numbers. */
+static const struct {
+    const char *name;
+    uint16_t number;
+} registers[] = {{"rbx", RBX}, {"rbp", RBP}, {"return address", RETURN_ADDRESS}};
+
+static uint64_t places[FUNCTIONS], relocations[5 * 8];
+static uint8_t bytes[512];
+
+static void print_frame(const unwind_reading *r) {
+    if (r->frame) printf("  frame address: register %" PRIu64 " plus %" PRId64 "\n", r->frame_register, (int64_t)r->frame_offset);
+    else printf("  no frame address\n");
+}
+
+static void print_rule(const char *name, const unwind_reading *r) {
+    if (r->rule == 2) printf("  %s: at the frame address plus %" PRId64 "\n", name, (int64_t)r->rule_offset);
+    else printf("  %s: %s\n", name, r->rule == 1 ? "gone" : "as it is");
+}
+
+/* The rules at offset p of function k, or the number of the question that was answered by no. */
+static uint64_t print_rules(const unwind_written *table, uint64_t k, uint64_t p) {
+    printf("%s at %" PRIu64 ":\n", names[k], p);
+    for (size_t i = 0; i < LENGTH(registers); i++) {
+        unwind_reading r = unwind_read(bytes, table->bytes, relocations, 5 * table->relocations, EH_FRAME, WORD, k,
+            registers[i].number, p);
+        if (r.number) return r.number;
+        if (i == 0) print_frame(&r);
+        print_rule(registers[i].name, &r);
+    }
+    return 0;
+}
+
+static int refused(uint64_t number, uint64_t position) {
+    fprintf(stderr, "refused by question %" PRIu64 " at function %" PRIu64 "\n", number, position);
+    return 1;
+}
+
+int main(void) {
+    for (uint64_t k = 0; k < FUNCTIONS; k++) {
+        uint64_t yes = unwind_row_check(functions, LENGTH(functions), rows, LENGTH(rows), k);
+        printf("%s: row check %s\n", names[k], yes ? "yes" : "no");
+    }
+    /* There are no landings and pairs, and no call sites. */
+    unwind_written table = unwind_relaxed_table(machine, LENGTH(machine), ELF, functions, LENGTH(functions), rows, LENGTH(rows),
+        NULL, 0, NULL, 0, places, LENGTH(places), bytes, LENGTH(bytes), relocations, LENGTH(relocations), NULL, 0);
+    if (table.number) return refused(table.number, table.position);
+    printf("eh_frame: %" PRIu64 " bytes, %" PRIu64 " relocations\n", table.bytes, table.relocations);
+    for (size_t i = 0; i < LENGTH(chain); i++) {
+        uint64_t number = print_rules(&table, chain[i].k, chain[i].p);
+        if (number) return refused(number, chain[i].k);
+    }
+    return 0;
+}
