@@ -3,7 +3,7 @@
 use alloc::vec;
 use alloc::vec::Vec;
 
-use crate::lists::{self, Counts, Lent, Packed, PackedCodes};
+use crate::lists::{self, Counts, Lent, Lists, Packed, PackedCodes};
 use crate::{Format, Function, Machine, Prologue, Refusal, Relocation, Row, Rules, Section, Word};
 
 /// No result of a writer has as many elements: question 13 keeps each below this.
@@ -75,13 +75,18 @@ fn grow(first: [usize; 4], mut write: impl FnMut(&mut Lent<'_>) -> Result<Counts
     }
 }
 
-/// Room for a usual list: places exactly, of the rest what most lists need. At most [`MOST`] each.
+/// Room for a usual list: places exactly, of the rest what most lists need.
 fn usual(functions: usize, records: usize) -> [usize; 4] {
     let of = |each: usize, record: usize| {
         let sum = functions.saturating_mul(each).saturating_add(records.saturating_mul(record));
         sum.saturating_add(64).min(MOST)
     };
-    [functions.min(MOST), of(40, 5), of(3, 0), of(8, 4)]
+    [functions, of(40, 5), of(3, 0), of(8, 4)]
+}
+
+/// The same, of packed functions; they are no more than question 13 allows, and one.
+fn usual_of(lists: &Lists<'_>) -> [usize; 4] {
+    usual(lists.functions.len() / 18, (lists.rows.len() / 4).saturating_add(lists.landings.len() / 3))
 }
 
 /// The table of these functions: eh_frame of ELF and Mach-O, x64 unwind data of COFF, nothing of Wasm and Plan 9.
@@ -101,7 +106,7 @@ fn usual(functions: usize, records: usize) -> [usize; 4] {
 pub fn relaxed_table(machine: &Machine, format: Format, functions: &[Function<'_>]) -> Result<Table, Refusal> {
     let packed = Packed::new(functions);
     let (machine, lists) = (machine.numbers(), packed.lists());
-    grow(usual_of(functions, &packed), |lent| lists::relaxed_table(&machine, format.number(), lists, lent))
+    grow(usual_of(&lists), |lent| lists::relaxed_table(&machine, format.number(), lists, lent))
 }
 
 /// The same rows as a debugger's copy: debug_frame of ELF, nothing of any other format.
@@ -111,12 +116,7 @@ pub fn relaxed_table(machine: &Machine, format: Format, functions: &[Function<'_
 pub fn relaxed_debug_frame(machine: &Machine, format: Format, functions: &[Function<'_>]) -> Result<Table, Refusal> {
     let packed = Packed::new(functions);
     let (machine, lists) = (machine.numbers(), packed.lists());
-    grow(usual_of(functions, &packed), |lent| lists::relaxed_debug_frame(&machine, format.number(), lists, lent))
-}
-
-fn usual_of(functions: &[Function<'_>], packed: &Packed) -> [usize; 4] {
-    let lists = packed.lists();
-    usual(functions.len(), lists.rows.len().saturating_add(lists.landings.len()).wrapping_div(3))
+    grow(usual_of(&lists), |lent| lists::relaxed_debug_frame(&machine, format.number(), lists, lent))
 }
 
 /// Windows x64 unwind data of direct codes.
@@ -134,7 +134,7 @@ fn usual_of(functions: &[Function<'_>], packed: &Packed) -> [usize; 4] {
 /// ```
 pub fn seh(functions: &[Prologue<'_>]) -> Result<Table, Refusal> {
     let packed = PackedCodes::new(functions);
-    let room = usual(functions.len(), packed.codes().len().wrapping_div(5));
+    let room = usual(packed.functions().len() / 5, packed.codes().len() / 5);
     grow(room, |lent| lists::seh(packed.functions(), packed.codes(), lent))
 }
 

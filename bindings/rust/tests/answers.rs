@@ -157,6 +157,15 @@ fn long_lists() {
     assert_eq!(seh(&prologues[..5000]).map(|t| t.places.len()), Ok(5000));
 }
 
+/// As many landings as question 13 allows, each as long as one can be: the buffer grows to its last size, 2^25 bytes.
+#[test]
+fn the_longest_call_sites() {
+    let landings = vec![Landing { start: 1 << 63, length: 1 << 63, pad: 1 << 63 }; 1 << 20];
+    let landed = Function { landings: &landings, ..Function::new(16, 1, &[]) };
+    let sites = relaxed_table(X86, Format::Elf, &[landed]).unwrap().sites;
+    assert!(sites.len() >= 31 << 20 && sites.len() < 1 << 25);
+}
+
 /// A refusal leaves the lent buffers as they were, and an accepted call what lies past its results.
 #[test]
 fn lent_buffers() {
