@@ -1,8 +1,8 @@
 -- What the tests of room say: no sum or product of them passes what the machine holds.
-use mathlib.Core.Path.{_≡_, sym, subst}
+use mathlib.Core.Path.{_≡_, sym}
 use mathlib.Core.Bool.{true, false}
 use Prim.Native.Nat.{ℕ, _+_, _*_, _-_, _/_, _≤_, _<_}
-use native.Mathlib.Nat.{mul-comm, mul-zero, zero-mul, le-div-iff-mul-le, not-le-of-lt, lt-of-not-le}
+use native.Mathlib.Nat.{mul-comm, zero-mul, le-div-iff-mul-le, not-le-of-lt, lt-of-not-le}
 use native.Mathlib.Omega.{arith}
 use borrow.Author.Tests.{le-leb, lt-leb}
 use lib.Dec.{leb}
