@@ -1,18 +1,18 @@
 -- Laws of what is stored where it fits, for one struct and for a list of them.
 use mathlib.Core.Path.{_≡_, refl, sym, ap, _∙_}
-use mathlib.Core.Bool.{true, false}
+use mathlib.Core.Bool.{Bool, true, false, not}
 use mathlib.Core.List.{List, [], _∷_}
 use Prim.Native.Nat.{ℕ, zero, suc, _+_, _*_, _≤_, _<_}
 use native.Mathlib.Nat.{mul-suc, mul-zero}
 use native.Mathlib.Omega.{arith}
 use borrow.Author.Tests.{leb-true, leb-false}
-use lib.Dec.{leb}
+use lib.Dec.{T, leb}
 use lib.ListN.{length, getD, take, length-append}
 use Rattle.format.specs.Put.{put, Wrote}
 use Rattle.format.proofs.Choice.{if-le, if-gt, either}
 use Rattle.format.proofs.PutLaws.{put-none, put-append, length-put}
 use Rattle.structs.specs.Structs.{numbersOf}
-use Rattle.structs.specs.Packed.{stored, storedAll}
+use Rattle.structs.specs.Packed.{stored, storedAll, Packs}
 
 -- ---- one struct's numbers
 
@@ -77,3 +77,18 @@ module _ {A : Type 0} (one : A → List ℕ) where
         let e : p + stride * suc i ≡ p + length (one y) + stride * i = omega (arith, even y, mul-suc stride i) in
         ap (λ k. stored (storedAll one (stored xs p (one y)) (p + length (one y)) (take i ys)) k (one (getD ys i d))) e
         ∙ next (stored xs p (one y)) (p + length (one y)) ys i d (omega arith)
+
+    -- what the test of room, t, says of a list that is packed
+    module _ (ys : List A) (xs : List ℕ) where
+      pub refused : (t : Bool) → t ≡ leb (stride * length ys) (length xs) → T (not t) → Packs (numbersOf one ys) xs xs 54
+      refused true e h = absurd h
+      refused false e _ =
+          let h : length xs < length (numbersOf one ys) = omega (arith, length-numbers ys, leb-false (stride * length ys) (length xs) (sym e)) in
+          record { answer = sym (if-gt (length (numbersOf one ys)) (length xs) 0 54 h); list = sym (over xs 0 (numbersOf one ys) (omega (arith, h))) }
+
+      pub accepted : (t : Bool) → t ≡ leb (stride * length ys) (length xs) → T (not (not t)) → {zs : List ℕ} → zs ≡ storedAll one xs 0 ys → Packs (numbersOf one ys) xs zs 0
+      accepted false e h s = absurd h
+      accepted true e _ s =
+          let h : length (numbersOf one ys) ≤ length xs = omega (arith, length-numbers ys, leb-true (stride * length ys) (length xs) (sym e)) in
+          let g : 0 + length (numbersOf one ys) ≤ length xs = omega (arith, h) in
+          record { answer = sym (if-le (length (numbersOf one ys)) (length xs) 0 54 h); list = s ∙ together xs 0 ys g ∙ sym (fitting xs 0 (numbersOf one ys) g) }
