@@ -1,5 +1,4 @@
 -- The lemmas of this crate's functions.
-pub mod Signs
 pub mod Meaning
 pub mod Going
 pub mod Agrees

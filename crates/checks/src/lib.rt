@@ -1,23 +1,11 @@
 // The row check of a function whose rows are a lent slice of structs. It holds them to the check over lists of numbers, in crate rules.
 ghost use mathlib.Core.Path.{_≡_};
-ghost use mir.Syntax.{w32};
-ghost use mir.Val.{ofZ};
 ghost use Rattle.format.specs.Answers.{bit};
 ghost use Rattle.structs.specs.Structs.{lineNumbers};
 ghost use Rattle.rules.specs.Orders.{Held};
 ghost use Rattle.checks.specs.Checks.{Opens, Goes, checkOf};
 use rules::Stepped;
 use structs::Line;
-
-// The 32 bits of a number, in two's complement.
-fn bits(z: i32) -> u64
-    ensures { λ r. ⌜ r ≡ ofZ w32 z ⌝ }
-{
-    if z < 0 {
-        return 4294967295 - ((-1 - z) as u64);
-    }
-    z as u64
-}
 
 // The numbers that a row means.
 fn numbers(x: Line) -> [u64; 4]
@@ -26,7 +14,7 @@ fn numbers(x: Line) -> [u64; 4]
     let offset = x.offset;
     let kind = x.kind as u64;
     let register = x.register as u64;
-    let value = bits(x.value);
+    let value = structs::bits(x.value);
     [offset, kind, register, value]
 }
 

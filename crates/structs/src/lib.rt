@@ -60,7 +60,7 @@ pub struct Function {
 }
 
 // The 32 bits of a number, in two's complement.
-fn bits(z: i32) -> u64
+pub fn bits(z: i32) -> u64
     ensures { λ r. ⌜ r ≡ ofZ w32 z ⌝ }
 {
     let w = z as i64;
