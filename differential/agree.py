@@ -37,4 +37,5 @@ def main():
     print(f"{len(debug)} cases, debug and release agree on {len(debug) - sum(reasons.values())}{known}")
 
 
-main()
+if __name__ == "__main__":
+    main()

@@ -4,11 +4,14 @@
     exports.py stored            the cases of cases/
     exports.py short             every short list (short.py)
     exports.py wild COUNT SEED   random lists, a third with numbers changed (wild.py)
+    exports.py x64 COUNT SEED    the same, only COFF and direct codes; both builds of the Rust are asked
 
 ours.c hands each case to the library: its answer is compared with the oracle's (oracle.py) where that refuses, and with the Rust's
 bytes, relocations, places and call sites where it accepts. What the Rust says where the oracle refuses is compared too: it must be
 the same refusal, a panic, a case that cannot be handed to it, or a difference that docs/DIFFERENCES.md lists. At the end stand the
-counts, by entry: accepted, empty, and each refusal by its number; 51 to 54 are those of buffers one short."""
+counts, by entry: accepted, empty, and each refusal by its number; 51 to 54 are those of buffers one short. Then, by the Rust's build, how
+often it has the very same answer; where not, how often it cannot be handed the list, panics or has another answer beside each of ours
+(docs/DIFFERENCES.md)."""
 
 import collections
 import os
@@ -64,10 +67,27 @@ def stand_in(case):
     return next((encoding for encoding in EIGHT_BYTES if encoding not in bytes7), 0)
 
 
+def stride_of(case):
+    return 5 if case["entry"] == "seh" else 18
+
+
+def symbols(case):
+    return [f[0] for f in records(case["functions"], stride_of(case))]
+
+
+def without_labels(case):
+    """COFF has no relaxing labels, and the Rust cannot be handed them behind a function without them: there they are left out."""
+    if case["entry"] != "relaxed_table" or case["format"] != 1:
+        return case["functions"]
+    functions, marks = list(case["functions"]), case["functions"][14::18]
+    if set(marks) == {0, 1} and marks != sorted(marks, reverse=True):
+        functions[14::18] = [0] * len(marks)
+    return functions
+
+
 def for_the_rust(case, encoding):
-    lists = dict(case)
+    lists = {**case, "functions": list(without_labels(case))}
     if encoding:
-        lists["functions"] = list(case["functions"])
         for at in used(case):
             if lists["functions"][at] & 0x7F == 0:
                 lists["functions"][at] |= encoding
@@ -109,11 +129,10 @@ def run(program, text):
 
 
 def rust_refusal(case, line):
-    """The number and position of the Rust's own refusal."""
+    """The number and position of the Rust's own refusal, which names the function by the symbol that the Rust was handed."""
     symbol, text = line[len("refused s") :].split(": ", 1)
-    stride = 5 if case["entry"] == "seh" else 18
     number = next(number for words, number in REFUSALS.items() if words in text)
-    return number, [f[0] for f in records(case["functions"], stride)].index(int(symbol))
+    return number, case.get("handed", symbols(case)).index(int(symbol))
 
 
 def explained(case, number, position, said):
@@ -148,22 +167,53 @@ def differs(case, want, said, got, encoding):
     return None if said[:5] == got[:5] else f"the Rust's answer is {said[:5]}, ours {got[:5]}"
 
 
-def compare(text, counts):
+def asked(build, cases, encodings):
+    """What a build of the Rust says, by the case's name."""
+    harness = os.path.join(OUT, build, "harness")
+    handed = "".join(for_the_rust(case, encoding) for case, encoding in zip(cases, encodings) if case["machine"][0:1] <= [WIDEST])
+    said = by_case(run(harness, handed))
+    said.update({case["name"]: ["inexpressible"] for case in cases if case["name"] not in said})
+    # Where two functions have one symbol, a refusal does not say which is meant: the list is handed over again with symbols of their own.
+    for case in cases:
+        given = symbols(case)
+        if said[case["name"]][0].startswith("refused") and len(set(given)) < len(given):
+            apart = list(case["functions"])
+            apart[0 :: stride_of(case)] = range(16, 16 + len(apart[0 :: stride_of(case)]))
+            case["handed"] = list(range(16, 16 + len(given)))
+            said.update(by_case(run(harness, for_the_rust({**case, "functions": apart}, None))))
+    return said
+
+
+def beside(case, said, got, encoding):
+    """The Rust's answer beside ours, which `differs` let pass; where it is another, with the number of our refusal."""
+    ours = got[0].split()[1] if got[0].startswith("refused") else got[0]
+    if said[0].startswith("inexpressible"):
+        return f"not handed over beside {ours}"
+    if said[0].startswith("panic"):
+        return f"panic beside {ours}"
+    if said[0].startswith("refused"):
+        said = ["refused {} {}".format(*rust_refusal(case, said[0])), *said[1:]]
+    elif said[0] == "accepted" and encoding:
+        said = put_back(said, encoding)
+    return "the same" if said[: said.index("end")] == got[: got.index("end")] else f"another beside {ours}"
+
+
+def compare(text, counts, builds):
     cases = parse(text.split("\n"))
     encodings = [stand_in(case) for case in cases]
-    handed = "".join(for_the_rust(case, encoding) for case, encoding in zip(cases, encodings) if case["machine"][0:1] <= [WIDEST])
-    said = by_case(run(os.path.join(OUT, "release", "harness"), handed))
-    said.update({case["name"]: ["inexpressible"] for case in cases if case["name"] not in said})
     printed = run(os.path.join(OUT, "ours"), text)
     got = by_case(printed)
-    for case, encoding in zip(cases, encodings):
-        name, want = case["name"], expected(case)
-        why = differs(case, want, said[name], got[name], encoding)
-        if why:
-            raise Failed(f"{name}: {why}")
-        answer = got[name][0].split()
+    for build in builds:
+        said = asked(build, cases, encodings)
+        for case, encoding in zip(cases, encodings):
+            name = case["name"]
+            why = differs(case, expected(case), said[name], got[name], encoding)
+            if why:
+                raise Failed(f"{name}, {build} build: {why}")
+            counts[f"{entry_of(case)}, {build}"][beside(case, said[name], got[name], encoding)] += 1
+    for case in cases:
+        answer = got[case["name"]][0].split()
         counts[entry_of(case)][" ".join(answer[:2]) if answer[0] == "refused" else answer[0]] += 1
-        counts[entry_of(case)]["not handed to the Rust"] += said[name][0].startswith("inexpressible")
     for line in printed:
         if line.startswith("# short"):
             _, _, number, count, entry = line.split(" ", 4)
@@ -181,18 +231,23 @@ def batches(kind, *words):
     else:
         count, seed = int(words[0]), words[1]
         for first in range(0, count, BATCH):
-            yield made("wild.py", str(min(BATCH, count - first)), seed, str(first))
+            yield made("wild.py", str(min(BATCH, count - first)), seed, str(first), *(["x64"] if kind == "x64" else []))
 
 
 def made(script, *words):
     return subprocess.run([sys.executable, os.path.join(HERE, script), *words], capture_output=True, text=True, check=True).stdout
 
 
+def listed(found):
+    return ", ".join(f"{what} {found[what]}" for what in sorted(found) if found[what])
+
+
 def main():
     counts = collections.defaultdict(collections.Counter)
+    builds = ["release", "debug"] if sys.argv[1] == "x64" else ["release"]
     try:
         for text in batches(*sys.argv[1:]):
-            compare(text, counts)
+            compare(text, counts, builds)
     except Failed as why:
         sys.exit(f"exports: {why}")
     total = 0
@@ -202,8 +257,9 @@ def main():
             continue
         lists = sum(n for what, n in found.items() if what in ("accepted", "empty") or what.startswith("refused") and int(what[8:]) < 51)
         total += lists
-        said = ", ".join(f"{what} {found[what]}" for what in sorted(found) if found[what])
-        print(f"{entry}: {lists} lists: {said}")
+        print(f"{entry}: {lists} lists: {listed(found)}")
+        for build in builds:
+            print(f"    the Rust's answer, {build} build: {listed(counts[f'{entry}, {build}'])}")
     print(f"exports: {' '.join(sys.argv[1:])}: {total} lists, no difference")
 
 

@@ -197,6 +197,12 @@ def random_case(seed, number):
     return Maker(rng, entry, form).text(f"random_{seed}_{number}")
 
 
+def x64_case(seed, number):
+    """A case whose result is x64 unwind data: rows in COFF, or direct codes."""
+    rng = random.Random(f"x64 {seed} {number}")
+    return Maker(rng, rng.choice(["relaxed_table", "seh"]), 1).text(f"x64_{seed}_{number}")
+
+
 def many(name, functions, rows):
     """Plain functions, the rows all in the first."""
     lines = [f"case {name}", "entry relaxed_table", "format 0", "machine x86_64"]

@@ -1,5 +1,7 @@
 #!/usr/bin/env python3
-"""Random cases by a seed, a third of them with numbers changed so that they may be no lists: `wild.py COUNT SEED [FIRST]`."""
+"""Random cases by a seed, a third of them with numbers changed so that they may be no lists: `wild.py COUNT SEED [FIRST [x64]]`.
+
+With the word x64 only those of COFF and of direct codes, a fifth of them with a number a little off."""
 
 import importlib.util
 import os
@@ -11,6 +13,7 @@ maker = importlib.util.module_from_spec(loaded)
 loaded.loader.exec_module(maker)
 
 ODD = [0, 1, 2, 3, 5, 9, 15, 16, 17, 255, 256, 65535, 65536, 65537, 2**31, 2**32 - 1, 2**32, 2**63, 2**64 - 1]
+NEAR = [-256, -128, -16, -8, -4, -1, 1, 4, 8, 16, 128, 256]
 
 
 def numbers(lines, key):
@@ -48,25 +51,43 @@ def long_prologue(rng, lines):
     lines[-1:] = [*added, "end"]
 
 
-def wild(seed, number):
-    lines = maker.random_case(seed, number).split("\n")
-    rng = maker.random.Random(f"wild {seed} {number}")
+def nudge(rng, lines):
+    """A number of a row or a code, a little more or less."""
+    found = [(at, line.split()) for at, line in enumerate(lines) if line.startswith(("rows ", "codes "))]
+    if not found:
+        return
+    at, words = rng.choice(found)
+    i = rng.randrange(1, len(words))
+    words[i] = str(max(int(words[i]) + rng.choice(NEAR), 0 if i < len(words) - 1 else -(2**31)))
+    lines[at] = " ".join(words)
+
+
+def changed(rng, lines, only_x64):
+    """The lines of a case, changed by chance."""
     x64 = "entry seh" in lines or "entry relaxed_table" in lines and "format 1" in lines
     if x64 and rng.random() < 0.01:
         long_prologue(rng, lines)
     if x64 and rng.random() < 0.01:
         lines = [f"machine 4 4 7 16 6 0 {' '.join(map(str, maker.X86_64))}" if line.startswith("machine") else line for line in lines]
-    if rng.random() < 0.02:
+    if not only_x64 and rng.random() < 0.02:
         lines = [f"format {rng.choice([3, 4, 5, 2**64 - 1])}" if line.startswith("format") else line for line in lines]
+    if only_x64 and rng.random() < 0.2:
+        nudge(rng, lines)
     while rng.random() < 0.33:
         change(rng, lines)
-    return "\n".join(lines)
+    return lines
+
+
+def wild(seed, number, only_x64=False):
+    make = maker.x64_case if only_x64 else maker.random_case
+    rng = maker.random.Random(f"wild {seed} {number}")
+    return "\n".join(changed(rng, make(seed, number).split("\n"), only_x64))
 
 
 def main():
     count, seed, first = int(sys.argv[1]), sys.argv[2], int(sys.argv[3]) if len(sys.argv) > 3 else 0
     for number in range(first, first + count):
-        print(wild(seed, number))
+        print(wild(seed, number, sys.argv[4:] == ["x64"]))
 
 
 if __name__ == "__main__":
