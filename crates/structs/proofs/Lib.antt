@@ -2,4 +2,6 @@
 pub mod Signs
 pub mod Rooms
 pub mod Stored
+pub mod Strides
 pub mod Lending
+pub mod Walking

@@ -71,7 +71,7 @@ pub fn bits(z: i32) -> u64
 }
 
 // Whether `count` records of `stride` numbers fit a list of `room` numbers.
-fn fits(count: usize, stride: usize, room: usize) -> bool
+pub fn fits(count: usize, stride: usize, room: usize) -> bool
     ensures { λ r. ⌜ r ≡ leb (stride * count) room ⌝ }
 {
     if stride == 0 {
