@@ -93,7 +93,7 @@ fn has_room(at: usize, i: usize, stride: usize, room: usize) -> bool
     stride <= room - at - stride * i
 }
 
-// Three numbers from `at` on. This and `four` give the place past what they stored.
+// Three numbers from `at` on. This and `four` give the place past what they stored; their sums stand as the definition `put` has them.
 fn three(numbers: &mut [u64], at: usize, a: u64, b: u64, c: u64) -> usize
     requires { ⌜ at + 3 ≤ length (now numbers) ⌝ }
     ensures { λ r. ⌜ Wrote (now (numbers .entry)) (now (numbers .exit)) at r (a ∷ b ∷ c ∷ []) ⌝ }
@@ -115,7 +115,7 @@ fn four(numbers: &mut [u64], at: usize, a: u64, b: u64, c: u64, d: u64) -> usize
     at + 4
 }
 
-// Struct i of those that are stored from `at` on, where it fits; so too the next three.
+// Struct i of those that are stored from `at` on, where it fits; so too put_landing, put_pair and put_function.
 fn put_line(numbers: &mut [u64], at: usize, i: usize, x: Line)
     ensures { λ _. ⌜ now (numbers .exit) ≡ stored (now (numbers .entry)) (at + 4 * i) (lineNumbers x) ⌝ }
 {

@@ -1,3 +1,4 @@
+-- The walk of `unwind_pack_rows`, for landings: a landing has 3 numbers.
 -- `unwind::unwind_pack_landings` meets its contract: a walk of its MIR, by hand, with a test and two calls. Where the test of room fails nothing is stored; else the numbers are lent to `put_landings`.
 -- All that is known of the two callees is that they meet their contracts. Assumes nothing.
 use mathlib.Core.Path.{_≡_, refl, ap}
