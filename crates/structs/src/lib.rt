@@ -7,8 +7,8 @@ ghost use lib.Dec.{leb};
 ghost use mir.Syntax.{w32};
 ghost use mir.Val.{ofZ};
 ghost use Rattle.format.specs.Put.{Wrote};
-ghost use Rattle.structs.specs.Structs.{lineNumbers, landingNumbers, pairNumbers, functionNumbers, numbersOf};
-ghost use Rattle.structs.specs.Packed.{stored, storedAll, Packs};
+ghost use Rattle.structs.specs.Structs.{lineNumbers, landingNumbers, pairNumbers, functionNumbers};
+ghost use Rattle.structs.specs.Packed.{stored, storedAll};
 
 // A row of a function: its offset, its kind (0 to 8 in document 01's order) and its operands; one that the kind does not have is 0.
 #[repr(C)]
@@ -235,50 +235,4 @@ pub fn put_functions(functions: &[Function], numbers: &mut [u64], at: usize)
         put_function(numbers, at, i, functions[i]);
         i += 1;
     }
-}
-
-// The numbers of a list at the front of a lent list, as the other entries take them: 0, or 54 where they do not fit; so too the
-// next three.
-#[no_mangle]
-pub extern "C" fn unwind_pack_rows(rows: &[Line], numbers: &mut [u64]) -> u64
-    ensures { λ r. ⌜ Packs (numbersOf lineNumbers (now (rows .entry))) (now (numbers .entry)) (now (numbers .exit)) r ⌝ }
-{
-    if !fits(rows.len(), 4, numbers.len()) {
-        return 54;
-    }
-    put_lines(rows, numbers, 0);
-    0
-}
-
-#[no_mangle]
-pub extern "C" fn unwind_pack_landings(landings: &[Landing], numbers: &mut [u64]) -> u64
-    ensures { λ r. ⌜ Packs (numbersOf landingNumbers (now (landings .entry))) (now (numbers .entry)) (now (numbers .exit)) r ⌝ }
-{
-    if !fits(landings.len(), 3, numbers.len()) {
-        return 54;
-    }
-    put_landings(landings, numbers, 0);
-    0
-}
-
-#[no_mangle]
-pub extern "C" fn unwind_pack_pairs(pairs: &[Pair], numbers: &mut [u64]) -> u64
-    ensures { λ r. ⌜ Packs (numbersOf pairNumbers (now (pairs .entry))) (now (numbers .entry)) (now (numbers .exit)) r ⌝ }
-{
-    if !fits(pairs.len(), 4, numbers.len()) {
-        return 54;
-    }
-    put_pairs(pairs, numbers, 0);
-    0
-}
-
-#[no_mangle]
-pub extern "C" fn unwind_pack_functions(functions: &[Function], numbers: &mut [u64]) -> u64
-    ensures { λ r. ⌜ Packs (numbersOf functionNumbers (now (functions .entry))) (now (numbers .entry)) (now (numbers .exit)) r ⌝ }
-{
-    if !fits(functions.len(), 18, numbers.len()) {
-        return 54;
-    }
-    put_functions(functions, numbers, 0);
-    0
 }

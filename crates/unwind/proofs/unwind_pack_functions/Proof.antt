@@ -1,5 +1,5 @@
 -- The walk of `unwind_pack_rows`, for functions: a function has 18 numbers.
--- `structs::unwind_pack_functions` meets its contract: a walk of its MIR, by hand, with a test and two calls. Where the test of room fails nothing is stored; else the numbers are lent to `put_functions`.
+-- `unwind::unwind_pack_functions` meets its contract: a walk of its MIR, by hand, with a test and two calls. Where the test of room fails nothing is stored; else the numbers are lent to `put_functions`.
 -- All that is known of the two callees is that they meet their contracts. Assumes nothing.
 use mathlib.Core.Path.{_≡_, refl, ap}
 use Prim.Native.Nat.{ℕ, _*_, _<_, _^_}
@@ -40,28 +40,28 @@ use denote.Triple.Clauses.{ensured, lasts}
 use denote.Triple.Table.{entered, cited}
 use denote.Triple.Walked.{says, Stays, stay-none-slice, stay-slice, walkOf, goes-none-slice, goes-slice, Walks, ends-at, walked, walk-meets}
 use denote.Exit.{yes}
 use Rattle.structs.specs.Structs.{functionNumbers, numbersOf}
 use Rattle.structs.specs.Packed.{storedAll, Packs}
 use Rattle.structs.specs.declared.Function.{Function}
 use Rattle.structs.proofs.Function as T
 use Rattle.structs.proofs.Function.Laws as T′
 use Rattle.structs.proofs.Stored.{refused, accepted}
 use Rattle.structs.proofs.Strides.{function-stride}
 use Rattle.structs.proofs.Lending.{Kept, lends, comes-home}
 use Rattle.structs.proofs.Walking.{word, listTy, numbersTy, lentRef, front}
 use Rattle.structs.proofs.fits as fits
 use Rattle.structs.proofs.fits.Symbol as fits-def
 use Rattle.structs.proofs.fits.Symbol.{name as #structs·fits}
 use Rattle.structs.proofs.fits.Met as fits-thm
 use Rattle.structs.proofs.put_functions as put
 use Rattle.structs.proofs.put_functions.Symbol as put-def
 use Rattle.structs.proofs.put_functions.Symbol.{name as #structs·put-functions}
 use Rattle.structs.proofs.put_functions.Met as put-thm
-use Rattle.structs.proofs.unwind_pack_functions.Key.{name as #structs·unwind-pack-functions}
-use Rattle.structs.proofs.unwind_pack_functions as this
-use Rattle.structs.proofs.unwind_pack_functions.Statement as stated
-use Rattle.structs.proofs.unwind_pack_functions.Code as code
-use Rattle.structs.proofs.unwind_pack_functions.Code.Mir as mir
+use Rattle.unwind.proofs.unwind_pack_functions.Key.{name as #unwind·unwind-pack-functions}
+use Rattle.unwind.proofs.unwind_pack_functions as this
+use Rattle.unwind.proofs.unwind_pack_functions.Statement as stated
+use Rattle.unwind.proofs.unwind_pack_functions.Code as code
+use Rattle.unwind.proofs.unwind_pack_functions.Code.Mir as mir
 
 abbrev stayed : Stays (this.ended .signature .params) (this.ended .kept)
 stayed = (stay-none-slice (0 ∷ []) tt (plain (λ _. T.the-row)) yes, (stay-slice (1 ∷ []) tt (plain (λ _. u64)), tt))
@@ -238,7 +238,7 @@ pub unwind-pack-functions-spec : {M : Type 1} → stated.statement M
 unfolding code.routine tablesOf
 unwind-pack-functions-spec 𝓤 H 𝓜 𝓖 𝓡 =
     entered 𝓤 H (tripleOf 𝓤 H (𝓖 .A) this.signature (this.spec 𝓤 H (𝓖 .A) (𝓜 .mem) (𝓡 .run)))
-    (tables 𝓤 H 𝓜 𝓡 code.env .C) (tables 𝓤 H 𝓜 𝓡 code.env .Λ) #structs·unwind-pack-functions code.function (code.unfolded 𝓤 H 𝓜 𝓡)
+    (tables 𝓤 H 𝓜 𝓡 code.env .C) (tables 𝓤 H 𝓜 𝓡 code.env .Λ) #unwind·unwind-pack-functions code.function (code.unfolded 𝓤 H 𝓜 𝓡)
     (this-meets 𝓤 H (𝓖 .A) (givenOf 𝓤 H 𝓜 𝓖) (𝓜 .mem) (𝓡 .run) (tablesOf 𝓤 H 𝓜 (tables 𝓤 H 𝓜 𝓡 code.env))
     (cited 𝓤 H (Fits 𝓤 H (𝓖 .A) (𝓜 .mem) (𝓡 .run)) 𝓜 𝓡 code.env #structs·fits fits-def.routine code.calls-structs·fits (fits-thm.met 𝓤 H 𝓜 𝓖 𝓡))
     (cited 𝓤 H (Put 𝓤 H (𝓖 .A) (𝓜 .mem) (𝓡 .run)) 𝓜 𝓡 code.env #structs·put-functions put-def.routine code.calls-structs·put-functions (put-thm.met 𝓤 H 𝓜 𝓖 𝓡)))
