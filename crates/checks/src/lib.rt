@@ -1,9 +1,9 @@
-// The row check of a function whose rows are a lent slice of structs. It holds them to the check over lists of numbers, in crate rules.
+// The row check of a function whose rows are structs, row by row. It holds them to the check over lists of numbers, in crate rules; the entry that walks a list of them stands in crate unwind.
 ghost use mathlib.Core.Path.{_≡_};
 ghost use Rattle.format.specs.Answers.{bit};
 ghost use Rattle.structs.specs.Structs.{lineNumbers};
 ghost use Rattle.rules.specs.Orders.{Held};
-ghost use Rattle.checks.specs.Checks.{Opens, Goes, checkOf};
+ghost use Rattle.checks.specs.Checks.{Opens, Goes};
 use rules::Stepped;
 use structs::Line;
 
@@ -19,7 +19,7 @@ fn numbers(x: Line) -> [u64; 4]
 }
 
 // Before the first row. A simple mark above 1 is a no.
-fn opening(simple: u64) -> Stepped
+pub fn opening(simple: u64) -> Stepped
     ensures { λ r. ⌜ Opens simple r ⌝ }
 {
     let after = rules::start(simple != 0);
@@ -30,7 +30,7 @@ fn opening(simple: u64) -> Stepped
 }
 
 // A row more. A no stays, and a struct that is no row is one.
-fn go(s: Stepped, x: Line) -> Stepped
+pub fn go(s: Stepped, x: Line) -> Stepped
     requires { ⌜ Held (s .after) ⌝ }
     ensures { λ r. ⌜ Goes s x r ⌝ }
 {
@@ -46,22 +46,8 @@ fn go(s: Stepped, x: Line) -> Stepped
     rules::step(after, first, rows::row_at(&ns, 0))
 }
 
-fn answer(s: Stepped) -> u64
+pub fn answer(s: Stepped) -> u64
     ensures { λ r. ⌜ r ≡ bit (s .ok) ⌝ }
 {
     if s.ok { 1 } else { 0 }
-}
-
-// Whether the rows state rules at each place, 1 or 0, as unwind_row_check says of the numbers that they mean.
-#[no_mangle]
-pub extern "C" fn unwind_row_check_of(simple: u64, rows: &[Line]) -> u64
-    ensures { λ r. ⌜ r ≡ bit (checkOf simple (now (rows .entry))) ⌝ }
-{
-    let mut s = opening(simple);
-    let mut i = 0;
-    while i < rows.len() {
-        s = go(s, rows[i]);
-        i += 1;
-    }
-    answer(s)
 }

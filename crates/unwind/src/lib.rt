@@ -10,6 +10,7 @@ ghost use mir.Syntax.{w64};
 ghost use mir.Val.{ofZ};
 ghost use Rattle.format.specs.declared.Reading.the-variants.{Rules};
 ghost use Rattle.format.specs.Answers.{frameNumbers, ruleNumbers, readingNumbers, bit, outcomeNumbers, Writes};
+ghost use Rattle.checks.specs.Checks.{checkOf};
 ghost use Rattle.structs.specs.Structs.{lineNumbers, landingNumbers, pairNumbers, functionNumbers, numbersOf};
 ghost use Rattle.structs.specs.Packed.{Packs};
 ghost use Rattle.unwind.specs.Together.{answerFor, readingFor, Demanded};
@@ -638,4 +639,18 @@ pub extern "C" fn unwind_pack_functions(functions: &[Function], numbers: &mut [u
     }
     structs::put_functions(functions, numbers, 0);
     0
+}
+
+// Whether the rows state rules at each place, 1 or 0, as unwind_row_check says of the numbers that they mean.
+#[no_mangle]
+pub extern "C" fn unwind_row_check_of(simple: u64, rows: &[Line]) -> u64
+    ensures { λ r. ⌜ r ≡ bit (checkOf simple (now (rows .entry))) ⌝ }
+{
+    let mut s = checks::opening(simple);
+    let mut i = 0;
+    while i < rows.len() {
+        s = checks::go(s, rows[i]);
+        i += 1;
+    }
+    checks::answer(s)
 }

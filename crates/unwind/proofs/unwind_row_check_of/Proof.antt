@@ -1,4 +1,4 @@
--- `checks::unwind_row_check_of` meets its contract: a walk of its MIR, by hand, with a loop and three calls. Before turn i the state is `Going .. i`.
+-- `unwind::unwind_row_check_of` meets its contract: a walk of its MIR, by hand, with a loop and three calls. Before turn i the state is `Going .. i`.
 -- A turn copies row i out of the rows and passes it to `go` with the state. All that is known of the callees is that they meet their contracts.
 use mathlib.Core.Path.{_≡_, refl, sym, ap, subst, _∙_}
 use Prim.Native.Nat.{ℕ, _+_, _*_, _-_, _<_, _≤_, _^_}
@@ -54,26 +54,26 @@ use Rattle.structs.proofs.Line.Laws as T′
 use Rattle.rules.specs.declared.Stepped.{Stepped}
 use Rattle.rules.proofs.Stepped as S
 use Rattle.rules.proofs.Stepped.Laws as S′
 use Rattle.checks.specs.Checks.{checkOf, Opens, Goes}
 use Rattle.checks.proofs.Meaning.{none}
 use Rattle.checks.proofs.Going.{Going, start, turn, ended}
 use Rattle.checks.proofs.opening as opening
 use Rattle.checks.proofs.opening.Symbol as opening-def
 use Rattle.checks.proofs.opening.Symbol.{name as #checks·opening}
 use Rattle.checks.proofs.opening.Met as opening-thm
 use Rattle.checks.proofs.go as go
 use Rattle.checks.proofs.go.Symbol as go-def
 use Rattle.checks.proofs.go.Symbol.{name as #checks·go}
 use Rattle.checks.proofs.go.Met as go-thm
 use Rattle.checks.proofs.answer as answer
 use Rattle.checks.proofs.answer.Symbol as answer-def
 use Rattle.checks.proofs.answer.Symbol.{name as #checks·answer}
 use Rattle.checks.proofs.answer.Met as answer-thm
-use Rattle.checks.proofs.unwind_row_check_of.Key.{name as #checks·entry}
-use Rattle.checks.proofs.unwind_row_check_of as entry
-use Rattle.checks.proofs.unwind_row_check_of.Statement as stated
-use Rattle.checks.proofs.unwind_row_check_of.Code as code
-use Rattle.checks.proofs.unwind_row_check_of.Code.Mir as mir
+use Rattle.unwind.proofs.unwind_row_check_of.Key.{name as #unwind·entry}
+use Rattle.unwind.proofs.unwind_row_check_of as entry
+use Rattle.unwind.proofs.unwind_row_check_of.Statement as stated
+use Rattle.unwind.proofs.unwind_row_check_of.Code as code
+use Rattle.unwind.proofs.unwind_row_check_of.Code.Mir as mir
 
 abbrev stayed : Stays (entry.ended .signature .params) (entry.ended .kept)
 stayed = (stay-none (λ _. u64) yes, (stay-none-slice (0 ∷ []) tt (plain (λ _. T.the-row)) yes, tt))
@@ -300,7 +300,7 @@ pub unwind-row-check-of-spec : {M : Type 1} → stated.statement M
 unfolding code.routine tablesOf
 unwind-row-check-of-spec 𝓤 H 𝓜 𝓖 𝓡 =
     entered 𝓤 H (tripleOf 𝓤 H (𝓖 .A) entry.signature (entry.spec 𝓤 H (𝓖 .A) (𝓜 .mem) (𝓡 .run)))
-    (tables 𝓤 H 𝓜 𝓡 code.env .C) (tables 𝓤 H 𝓜 𝓡 code.env .Λ) #checks·entry code.function (code.unfolded 𝓤 H 𝓜 𝓡)
+    (tables 𝓤 H 𝓜 𝓡 code.env .C) (tables 𝓤 H 𝓜 𝓡 code.env .Λ) #unwind·entry code.function (code.unfolded 𝓤 H 𝓜 𝓡)
     (entry-meets 𝓤 H (𝓖 .A) (givenOf 𝓤 H 𝓜 𝓖) (𝓜 .mem) (𝓡 .run) (tablesOf 𝓤 H 𝓜 (tables 𝓤 H 𝓜 𝓡 code.env))
     (cited 𝓤 H (Opening 𝓤 H (𝓖 .A) (𝓜 .mem) (𝓡 .run)) 𝓜 𝓡 code.env #checks·opening opening-def.routine code.calls-checks·opening (opening-thm.met 𝓤 H 𝓜 𝓖 𝓡))
     (cited 𝓤 H (Go 𝓤 H (𝓖 .A) (𝓜 .mem) (𝓡 .run)) 𝓜 𝓡 code.env #checks·go go-def.routine code.calls-checks·go (go-thm.met 𝓤 H 𝓜 𝓖 𝓡))
