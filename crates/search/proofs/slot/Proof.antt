@@ -18,7 +18,7 @@ digest-requires c κs =
     let s = c .before .before .before in (
       s .pre .0,
       rows-taken (s .args .s) (s .args .fs .now) (s .args .rows .now) (s .args .k) (c .taken-at .result) (c .taken-at .ensures)
-      (s .pre .1 .rows-ready (s .args .k) (omega arith)),
+          (s .pre .1 .rows-ready (s .args .k) (omega arith)),
     )
 
 rem-result : tie.Need-rem-result
