@@ -29,35 +29,35 @@ const CODE: usize = 5;
 
 /// A case as it was read: number lists, nothing checked.
 #[derive(Default)]
-struct Case {
-    name: String,
-    entry: String,
-    format: u64,
-    machine: Vec<u64>,
-    functions: Vec<u64>,
-    rows: Vec<u64>,
-    landings: Vec<u64>,
-    pairs: Vec<u64>,
-    codes: Vec<u64>,
+pub(crate) struct Case {
+    pub(crate) name: String,
+    pub(crate) entry: String,
+    pub(crate) format: u64,
+    pub(crate) machine: Vec<u64>,
+    pub(crate) functions: Vec<u64>,
+    pub(crate) rows: Vec<u64>,
+    pub(crate) landings: Vec<u64>,
+    pub(crate) pairs: Vec<u64>,
+    pub(crate) codes: Vec<u64>,
 }
 
 /// What the source was handed, in its own types.
-struct Input {
-    funcs: Vec<Extent>,
-    rows: Vec<Rows>,
-    named: Vec<Option<Named>>,
-    begins: Vec<Begins>,
-    relaxed: Vec<Relaxed>,
+pub(crate) struct Input {
+    pub(crate) funcs: Vec<Extent>,
+    pub(crate) rows: Vec<Rows>,
+    pub(crate) named: Vec<Option<Named>>,
+    pub(crate) begins: Vec<Begins>,
+    pub(crate) relaxed: Vec<Relaxed>,
 }
 
-struct Written {
-    places: Vec<u64>,
-    bytes: Vec<u8>,
-    relocs: Vec<Reloc>,
-    sites: Vec<u8>,
+pub(crate) struct Written {
+    pub(crate) places: Vec<u64>,
+    pub(crate) bytes: Vec<u8>,
+    pub(crate) relocs: Vec<Reloc>,
+    pub(crate) sites: Vec<u8>,
 }
 
-enum Answer {
+pub(crate) enum Answer {
     Accepted(Written),
     Empty,
     Refused(String),
@@ -66,7 +66,7 @@ enum Answer {
 }
 
 /// A value, or why the Rust interface cannot be handed it.
-type Fits<T> = Result<T, String>;
+pub(crate) type Fits<T> = Result<T, String>;
 
 thread_local! {
     static PANIC: RefCell<String> = const { RefCell::new(String::new()) };
@@ -101,7 +101,7 @@ fn main() {
 // Reading
 
 /// Takes one line into the case. The answer is whether the case ended.
-fn read_line(case: &mut Case, line: &str) -> Result<bool, String> {
+pub(crate) fn read_line(case: &mut Case, line: &str) -> Result<bool, String> {
     let line = line.trim();
     if line.is_empty() || line.starts_with('#') {
         return Ok(false);
@@ -192,7 +192,7 @@ fn range<'a>(
     }
 }
 
-fn machine(list: &[u64]) -> Fits<CallRegs> {
+pub(crate) fn machine(list: &[u64]) -> Fits<CallRegs> {
     if list.len() < MACHINE {
         return Err(format!("a machine of {} numbers", list.len()));
     }
@@ -285,7 +285,7 @@ fn relaxed(case: &Case, f: &[u64]) -> Fits<Option<Relaxed>> {
     Ok(Some(Relaxed { end: symbol(f[15]), pairs }))
 }
 
-fn input(case: &Case) -> Fits<Input> {
+pub(crate) fn input(case: &Case) -> Fits<Input> {
     let mut out = Input {
         funcs: Vec::new(),
         rows: Vec::new(),
@@ -400,7 +400,7 @@ fn refused(error: Error) -> Answer {
     Answer::Refused(format!("{func}: {why}"))
 }
 
-fn table_answer(out: Unwind, x64: bool) -> Answer {
+pub(crate) fn table_answer(out: Unwind, x64: bool) -> Answer {
     if out.bytes.is_empty() {
         return Answer::Empty;
     }
@@ -472,7 +472,7 @@ fn print_hex(out: &mut impl Write, key: &str, bytes: &[u8]) -> std::io::Result<(
 }
 
 /// A relocation as document 01 numbers it.
-fn five(reloc: &Reloc) -> [u64; 5] {
+pub(crate) fn five(reloc: &Reloc) -> [u64; 5] {
     assert_eq!(reloc.after, 0, "a table has nothing behind the field");
     let (kind, size) = match reloc.kind {
         Reference::Data => (0, 4),

@@ -6,20 +6,20 @@ use mathlib.Core.Bool.{true, false}
 use mathlib.Core.Option.{none}
 use mathlib.Core.List.{List, [], map}
 use borrow.Author.Tests.{le-leb, ne-eqb}
-use lib.Dec.{leb}
+use lib.Dec.{T, leb}
 use lib.ListN.{length}
 use Rattle.format.specs.Test.{pick, each}
 use Rattle.format.specs.declared.Section.{Section}
 use Rattle.format.specs.declared.Section.the-variants.{Elf, MachO, Debug}
 use Rattle.format.specs.Machine.{machineOf}
-use Rattle.format.specs.Lists.{Function, functionStride, field, count, sumOf, functionsOf}
+use Rattle.format.specs.Lists.{Function, functionStride, field, count, sumOf, functionsOf, listsOk}
 use Rattle.format.specs.Writer.{Written, taken, partsOf, dwarf}
 use Rattle.format.specs.Questions.{Given, Room, accepted, ask, andThen, roomAsks, unless, fitting, dwarfAsks, perFunction, dwarfAnswer, dwarfGiven, givenAsks, givenFunctions, noFunctions, formatAnswer, relaxedTable, relaxedDebugFrame, dwarfWritten}
 use Rattle.format.proofs.Accepted.{Accepted, accepted-is, function-fits-at}
 use Rattle.format.proofs.Fits.{FunctionFits}
 use Rattle.format.proofs.Parts.{relocsOf}
 use Rattle.dwarf.proofs.Bodies.{rows-body, encodings-body}
-use Rattle.dwarf.proofs.Passed.{askable, encoding-taken, rows-few-at, landings-taken, listed, landings-few-in}
+use Rattle.dwarf.proofs.Passed.{askable, encoding-taken, rows-few-at, landings-taken, listed, functions-few, landings-few-in}
 use Rattle.leading.specs.Functions.{takenIn, without, Sound}
 use Rattle.lists.specs.declared.Extent.{Extent}
 use Rattle.lists.specs.Extents.{extentAt, meant}
@@ -130,6 +130,10 @@ module _ (s : Section) (g : Given) {w : Written} (a : Accepted s g w) where
       sites-few = omega (arith, sites-whole, sites-grow x (suc k) (countIn x) h);
     }
 
-pub cleared : (s : Section) (g : Given) → givenAsks g ≡ none
+pub cleared : (s : Section) (g : Given) → T (listsOk (g .functions) (g .rows) (g .landings) (g .pairs)) → givenAsks g ≡ none
     → perFunction (dwarfAsks s (machineOf (g .machine) .word)) 0 (map (taken s) (givenFunctions g)) ≡ none → Cleared (inputsOf s g)
-cleared s g asked told = record { each-one = λ k h. sure-at s g (is-accepted g (omega arith) s asked told) k h }
+cleared s g ok asked told = record {
+  each-one = λ k h. sure-at s g (is-accepted g (omega arith) s asked told) k h;
+  listed = listed (g .functions) (g .rows) (g .landings) (g .pairs) ok (count functionStride (g .functions)) (omega arith);
+  few = functions-few (g .functions) (g .rows) (g .landings) (g .pairs) ok;
+}

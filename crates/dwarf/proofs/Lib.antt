@@ -19,3 +19,4 @@ pub mod PartStores
 pub mod Writing
 pub mod Outcomes
 pub mod Whole
+pub mod Working

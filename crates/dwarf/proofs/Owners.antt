@@ -6,13 +6,11 @@ use mathlib.Core.Bool.{Bool}
 use mathlib.Core.Option.{none, some}
 use mathlib.Core.List.{List, [], _∷_}
 use lib.ListN.{length, getD}
-use Rattle.format.specs.declared.Machine.{Machine}
-use Rattle.format.specs.declared.Section.{Section}
 use Rattle.format.specs.Headers.{Key, keyOf, sameKey}
 use Rattle.format.specs.Writer.{placeIn}
 use Rattle.format.proofs.Choice.{pick-yes, pick-no, tested}
 use Rattle.search.specs.Owners.{firstFrom, owner, keyAt}
-use Rattle.dwarf.specs.Parts.{Inputs, inputs, functionIn, extentIn, placesIn, seenFrom, earlierIn, partsTo}
+use Rattle.dwarf.specs.Parts.{Inputs, functionIn, extentIn, placesIn, seenFrom, earlierIn, partsTo}
 use Rattle.dwarf.proofs.Fronts.{places-length}
 use Rattle.dwarf.proofs.Bodies.{key-body}
 
@@ -81,7 +79,3 @@ module _ (x : Inputs) (k : ℕ) where
       some-before (λ j. keyOf (x .machine) (functionIn x j)) (keyOf (x .machine) (functionIn x k)) 0 (placesIn (partsTo x k))
       (omega (arith, owns, places-length x k))
       ∙ ap (λ (i : ℕ). some (getD (placesIn (partsTo x k)) i 0)) (omega (arith, owns))
-
--- where a search ended
-pub owner-near : (s : Section) (m : Machine) (fs rows : List ℕ) (k : ℕ) {i : ℕ} → i ≡ owner s m fs rows k → i ≤ k
-owner-near s m fs rows k e = omega (arith, owner-bound (inputs s m fs rows [] []) k)

@@ -104,6 +104,7 @@ module _ (fs rows landings pairs : List ℕ) where
     rows-few : sumOf (λ k. field functionStride fs k 3) 0 (count functionStride fs) ≤ mostRecords
     landings-few : sumOf (λ k. field functionStride fs k 5) 0 (count functionStride fs) ≤ mostRecords
     pairs-few : sumOf (pairsIn fs) 0 (count functionStride fs) ≤ mostRecords
+    functions-at-most : count functionStride fs ≤ mostFunctions
     ones : T (allIn (functionOkAt fs rows landings pairs) 0 (count functionStride fs))
 
   all-listed : T (listsOk fs rows landings pairs) → AllListed
@@ -114,6 +115,7 @@ module _ (fs rows landings pairs : List ℕ) where
       leb (sumOf (λ k. field functionStride fs k 3) 0 n) mostRecords ∷ leb (sumOf (λ k. field functionStride fs k 5) 0 n) mostRecords
       ∷ leb (sumOf (pairsIn fs) 0 n) mostRecords ∷ allIn (functionOkAt fs rows landings pairs) 0 n ∷ []) in
       record {
+        functions-at-most = leb→le n mostFunctions (says 0 t);
         rows-few = leb→le (sumOf (λ k. field functionStride fs k 3) 0 n) mostRecords (says 1 t);
         landings-few = leb→le (sumOf (λ k. field functionStride fs k 5) 0 n) mostRecords (says 2 t);
         pairs-few = leb→le (sumOf (pairsIn fs) 0 n) mostRecords (says 3 t);
@@ -181,6 +183,9 @@ module _ (fs rows landings pairs : List ℕ) where
   module _ (t : T (listsOk fs rows landings pairs)) where
     pub all-askable : (s : Section) → AllAskable s fs rows pairs
     all-askable s = record { each-one = λ k h. askable t k h s }
+
+    pub functions-few : count functionStride fs ≤ mostFunctions
+    functions-few = all-listed t .functions-at-most
 
     pub landings-few-in : sumOf (λ k. field functionStride fs k 5) 0 (count functionStride fs) ≤ mostRecords
     landings-few-in = all-listed t .landings-few

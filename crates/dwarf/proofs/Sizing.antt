@@ -4,13 +4,15 @@ use Prim.Native.Nat.{ℕ, _+_, _≤_, _<_}
 use native.Mathlib.Omega.{arith}
 use native.Mathlib.Numerals.{add-one}
 use mathlib.Core.Bool.{Bool}
+use mathlib.Core.List.{List}
 use lib.Dec.{eqb}
+use Rattle.format.specs.declared.Machine.{Machine}
+use Rattle.format.specs.declared.Section.{Section}
 use Rattle.format.specs.Writer.{isDebug, alignFor, joined}
 use Rattle.format.specs.Lists.{numbersOf}
-use Rattle.format.proofs.Fits.{MachineFits}
 use Rattle.lists.specs.declared.Extent.{Extent}
-use Rattle.leading.specs.Functions.{Listed}
 use Rattle.search.specs.Owners.{owner}
+use Rattle.search.specs.Chains.{Owned}
 use Rattle.dwarf.specs.declared.Table.{Table}
 use Rattle.dwarf.specs.Parts.{Inputs, countIn, extentIn, alignIn, bytesIn, relocsIn, sitesIn, partsTo}
 use Rattle.dwarf.specs.Pieces.{partIn}
@@ -22,9 +24,6 @@ use Rattle.dwarf.proofs.Totals.{sized-next}
 -- ---- function k
 
 module _ {x : Inputs} {k n : ℕ} {t : Table} (c : Next x k n t) where
-  pub searchable : MachineFits (x .machine) × Listed (x .functions) (x .rows) (k + 1)
-  searchable = (c .sure .sound .machine, rw (add-one k) (c .sure .listed))
-
   pub align-is : {a : ℕ} → a ≡ alignFor (x .section) (x .machine .word) (eqb (k + 1) n) → a ≡ alignIn x k
   align-is e = rw (add-one k, c .counted) at e
 
@@ -57,6 +56,10 @@ module _ {x : Inputs} {k n : ℕ} {t : Table} (c : Next x k n t) where
     size-done h = h ∙ grown-is
 
 -- ---- all of them
+
+-- the owners of all, and of the first k + 1
+pub owned-to : {s : Section} {m : Machine} {fs rows owners : List ℕ} {n k : ℕ} → k < n → Owned s m fs rows n owners → Owned s m fs rows (k + 1) owners
+owned-to h o = record { long = omega (arith, o .long); each-one = λ j l. o .each-one j (omega arith) }
 
 pub record Sizing (x : Inputs) (n k : ℕ) (t : Table) : Type 0 where
   pub counted : n ≡ countIn x

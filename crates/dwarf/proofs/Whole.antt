@@ -42,7 +42,7 @@ module _ (s : Section) (machine functions rows landings pairs : List ℕ)
       → Cleared (inputs s m functions rows landings pairs)
   cleared-is k y =
       let g : Given = givenOf machine functions rows landings pairs in
-      rw e (cleared s g (given-yes s g a b) (functions-yes s g a b (ap-word e) k y))
+      rw e (cleared s g (is-yes b) (given-yes s g a b) (functions-yes s g a b (ap-word e) k y))
 
 -- ---- the answers
 

@@ -1,19 +1,18 @@
 -- The writing pass: function k from what is ready to what it adds.
-use mathlib.Core.Path.{_≡_, refl, sym, ap}
+use mathlib.Core.Path.{_≡_, refl, sym, ap, _∙_}
 use Prim.Native.Nat.{ℕ, _+_, _≤_, _<_}
 use native.Mathlib.Omega.{arith}
 use native.Mathlib.Numerals.{add-one}
 use mathlib.Core.Bool.{Bool}
 use mathlib.Core.List.{List}
 use lib.Dec.{eqb}
-use lib.ListN.{length, set, length-append}
+use lib.ListN.{length, getD, set, length-append}
 use Rattle.format.specs.Lists.{numbersOf}
 use Rattle.format.specs.Writer.{Part, isDebug, alignFor}
-use Rattle.format.proofs.Fits.{MachineFits}
 use Rattle.format.proofs.PutLaws.{put-one}
 use Rattle.lists.specs.declared.Extent.{Extent}
-use Rattle.leading.specs.Functions.{Listed}
 use Rattle.search.specs.Owners.{owner}
+use Rattle.search.specs.Chains.{Owned}
 use Rattle.records.proofs.LabelLaws.{numbers-append}
 use Rattle.dwarf.specs.declared.Table.{Table}
 use Rattle.dwarf.specs.declared.Chosen.{Chosen}
@@ -21,16 +20,22 @@ use Rattle.dwarf.specs.Parts.{Inputs, countIn, extentIn, bytesIn, relocs
 use Rattle.dwarf.specs.Pieces.{partIn}
 use Rattle.dwarf.specs.Tables.{totalsIn, chosenBy, PieceReady, nothing, Stored, Added, Written, Holds}
 use Rattle.dwarf.specs.Sure.{Cleared, PartReady}
+use Rattle.dwarf.proofs.Owners.{owner-bound}
 use Rattle.dwarf.proofs.Alignment.{align-ok}
 use Rattle.dwarf.proofs.Fronts.{bytes-next, relocs-next, sites-next}
 use Rattle.dwarf.proofs.Totals.{totals-next}
-use Rattle.dwarf.proofs.Sizing.{align-is, searchable, small-next}
+use Rattle.dwarf.proofs.Sizing.{align-is, small-next}
 use Rattle.dwarf.proofs.Stores.{chosen-part, chosen-near}
 use Rattle.dwarf.proofs.Stores as stores
 
 module _ {x : Inputs} {k n : ℕ} {t : Table} {places bytes relocs sites : List ℕ} (r : PartReady x k n t places bytes relocs sites) where
-  pub choosable : MachineFits (x .machine) × Listed (x .functions) (x .rows) (k + 1) × (k ≤ length places)
-  choosable = (searchable (r .coming) .0, searchable (r .coming) .1, omega (arith, r .fit .places-fit))
+  module _ {owners : List ℕ} (o : Owned (x .section) (x .machine) (x .functions) (x .rows) (k + 1) owners) where
+    pub choosable : (k < length owners) × (getD owners k 0 ≤ k) × (k ≤ length places)
+    choosable = (omega (arith, o .long), omega (arith, o .each-one k (omega arith), owner-bound x k), omega (arith, r .fit .places-fit))
+
+    pub chosen-by : (at : ℕ) {c : Chosen} → c ≡ chosenBy (getD owners k 0) k at places
+        → c ≡ chosenBy (owner (x .section) (x .machine) (x .functions) (x .rows) k) k at places
+    chosen-by at e = e ∙ ap (λ (i : ℕ). chosenBy i k at places) (o .each-one k (omega arith))
 
   bytes-behind : t .bytes ≡ length (bytesIn (partsTo x k))
   unfolding totalsIn

@@ -1,10 +1,10 @@
 -- What the questions have made sure of before the passes: of each function, and of the whole.
 use mathlib.Core.Path.{_≡_}
 use mathlib.Core.Bool.{true}
-use Prim.Native.Nat.{ℕ, suc, _^_, _<_}
+use Prim.Native.Nat.{ℕ, suc, _^_, _≤_, _<_}
 use mathlib.Core.List.{List}
 use lib.ListN.{length, getD}
-use Rattle.format.specs.Lists.{numbersOf}
+use Rattle.format.specs.Lists.{numbersOf, mostFunctions}
 use Rattle.leading.specs.Functions.{Sound, LandingsReady, PairsReady, Listed}
 use Rattle.headers.specs.Kinds.{EncodingFits}
 use Rattle.dwarf.specs.declared.Table.{Table}
@@ -24,6 +24,8 @@ pub record Sure (x : Inputs) (k : ℕ) : Type 0 where
 
 pub record Cleared (x : Inputs) : Type 0 where
   pub each-one : (k : ℕ) → k < countIn x → Sure x k
+  pub listed : Listed (x .functions) (x .rows) (countIn x)
+  pub few : countIn x ≤ mostFunctions
 
 -- function k of n comes next, behind t
 pub record Next (x : Inputs) (k n : ℕ) (t : Table) : Type 0 where

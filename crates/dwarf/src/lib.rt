@@ -4,7 +4,7 @@ ghost use Prim.Native.Nat.{_+_, _*_, _^_, _≤_, _<_};
 ghost use mathlib.Core.Bool.{true, not};
 ghost use mathlib.Core.List.{[]};
 ghost use lib.Dec.{T, ltb, eqb};
-ghost use lib.ListN.{length};
+ghost use lib.ListN.{length, getD};
 ghost use Rattle.format.specs.Test.{all, each};
 ghost use Rattle.format.specs.Machine.{isWord};
 ghost use Rattle.format.specs.Rows.{rowWhole};
@@ -15,12 +15,12 @@ ghost use Rattle.format.specs.Answers.{questionOf, Writes};
 ghost use Rattle.lists.specs.Extents.{meant};
 ghost use Rattle.format.proofs.Fits.{MachineFits};
 ghost use Rattle.format.proofs.SectionSize.{Aligned};
-ghost use Rattle.leading.specs.Functions.{bodyOf, Sound, Listed, RowsReady, PairsReady};
+ghost use Rattle.leading.specs.Functions.{bodyOf, Sound, RowsReady, PairsReady};
 ghost use Rattle.dwarf.specs.Asks.{Askable, AllAskable, askedIn};
 ghost use Rattle.dwarf.specs.Parts.{inputs, writtenIn, partsTo};
 ghost use Rattle.dwarf.specs.Sure.{Cleared, Next, PartReady};
 ghost use Rattle.dwarf.specs.Tables.{totalsIn, grownBy, SizeReady, roomFor, FrontReady, FrontStored, PieceReady, Stored, Added, Written, Holds, chosenBy};
-ghost use Rattle.search.specs.Owners.{owner};
+ghost use Rattle.search.specs.Chains.{Owned};
 ghost use Rattle.dwarf.specs.Pieces.{frontIn, relocNumbers, partIn};
 use format::Counts;
 use format::Machine;
@@ -48,7 +48,7 @@ use records::record_size;
 use rows::offset_at;
 use rows::row_at;
 use rows::row_whole;
-use search::choose;
+use search::wide;
 
 // ---- questions 21 to 25
 
@@ -324,29 +324,38 @@ fn size_next(
     rows: &[u64],
     landings: &[u64],
     pairs: &[u64],
+    owners: &[u16],
     k: usize,
     n: usize,
     t: Table,
 ) -> Table
-    requires { ⌜ Next (inputs s m (now fs) (now rows) (now landings) (now pairs)) k n t ⌝ }
+    requires { ⌜ Next (inputs s m (now fs) (now rows) (now landings) (now pairs)) k n t × Owned s m (now fs) (now rows) (k + 1) (now owners) ⌝ }
     ensures { λ r. ⌜ r ≡ totalsIn (partsTo (inputs s m (now (fs .entry)) (now (rows .entry)) (now (landings .entry)) (now (pairs .entry))) (k + 1)) ⌝ }
 {
     let e = taken(s, extent_at(fs, k));
-    let own = choose(s, m, fs, rows, k) == k;
+    let own = wide(owners[k]) == k;
     let align = align_for(s, m.word, k + 1 == n);
     sized(own, is_debug(s), m, align, e, t, rows, landings, pairs)
 }
 
 // What stands behind all functions.
-fn sizes(s: Section, m: Machine, fs: &[u64], rows: &[u64], landings: &[u64], pairs: &[u64]) -> Table
-    requires { ⌜ Cleared (inputs s m (now fs) (now rows) (now landings) (now pairs)) ⌝ }
+fn sizes(
+    s: Section,
+    m: Machine,
+    fs: &[u64],
+    rows: &[u64],
+    landings: &[u64],
+    pairs: &[u64],
+    owners: &[u16],
+) -> Table
+    requires { ⌜ Cleared (inputs s m (now fs) (now rows) (now landings) (now pairs)) × Owned s m (now fs) (now rows) (count functionStride (now fs)) (now owners) ⌝ }
     ensures { λ r. ⌜ r ≡ totalsIn (partsTo (inputs s m (now (fs .entry)) (now (rows .entry)) (now (landings .entry)) (now (pairs .entry))) (count functionStride (now (fs .entry)))) ⌝ }
 {
     let n = fs.len() / 18;
     let mut t = Table::NOTHING;
     let mut k = 0;
     while k < n {
-        t = size_next(s, m, fs, rows, landings, pairs, k, n, t);
+        t = size_next(s, m, fs, rows, landings, pairs, owners, k, n, t);
         k += 1;
     }
     t
@@ -441,20 +450,12 @@ fn piece(
     }
 }
 
-// The header of function k, behind `at` bytes: its own, or that of the first earlier function of its key.
-fn header_for(
-    s: Section,
-    m: Machine,
-    fs: &[u64],
-    rows: &[u64],
-    k: usize,
-    at: usize,
-    places: &[u64],
-) -> Chosen
-    requires { ⌜ MachineFits m × Listed (now fs) (now rows) (k + 1) × (k ≤ length (now places)) ⌝ }
-    ensures { λ r. ⌜ r ≡ chosenBy (owner s m (now (fs .entry)) (now (rows .entry)) k) k at (now (places .entry)) ⌝ }
+// The header of function k, behind `at` bytes: its own, or that of its owner.
+fn header_for(k: usize, at: usize, owners: &[u16], places: &[u64]) -> Chosen
+    requires { ⌜ (k < length (now owners)) × (getD (now owners) k 0 ≤ k) × (k ≤ length (now places)) ⌝ }
+    ensures { λ r. ⌜ r ≡ chosenBy (getD (now (owners .entry)) k 0) k at (now (places .entry)) ⌝ }
 {
-    let o = choose(s, m, fs, rows, k);
+    let o = wide(owners[k]);
     if o == k {
         return Chosen { own: true, cie: at };
     }
@@ -472,6 +473,7 @@ fn part(
     rows: &[u64],
     landings: &[u64],
     pairs: &[u64],
+    owners: &[u16],
     k: usize,
     n: usize,
     t: Table,
@@ -480,11 +482,11 @@ fn part(
     relocs: &mut [u64],
     sites: &mut [u8],
 ) -> Table
-    requires { ⌜ PartReady (inputs s m (now fs) (now rows) (now landings) (now pairs)) k n t (now places) (now out) (now relocs) (now sites) ⌝ }
+    requires { ⌜ PartReady (inputs s m (now fs) (now rows) (now landings) (now pairs)) k n t (now places) (now out) (now relocs) (now sites) × Owned s m (now fs) (now rows) (k + 1) (now owners) ⌝ }
     ensures { λ r. ⌜ Added (inputs s m (now (fs .entry)) (now (rows .entry)) (now (landings .entry)) (now (pairs .entry))) k t r (now (places .entry)) (now (places .exit)) (now (out .entry)) (now (out .exit)) (now (relocs .entry)) (now (relocs .exit)) (now (sites .entry)) (now (sites .exit)) ⌝ }
 {
     let e = taken(s, extent_at(fs, k));
-    let c = header_for(s, m, fs, rows, k, t.bytes, places);
+    let c = header_for(k, t.bytes, owners, places);
     let align = align_for(s, m.word, k + 1 == n);
     places[k] = c.cie as u64;
     piece(
@@ -511,12 +513,13 @@ fn store(
     rows: &[u64],
     landings: &[u64],
     pairs: &[u64],
+    owners: &[u16],
     places: &mut [u64],
     out: &mut [u8],
     relocs: &mut [u64],
     sites: &mut [u8],
 ) -> Table
-    requires { ⌜ Cleared (inputs s m (now fs) (now rows) (now landings) (now pairs)) × Holds (inputs s m (now fs) (now rows) (now landings) (now pairs)) (count functionStride (now fs)) (now places) (now out) (now relocs) (now sites) ⌝ }
+    requires { ⌜ Cleared (inputs s m (now fs) (now rows) (now landings) (now pairs)) × Holds (inputs s m (now fs) (now rows) (now landings) (now pairs)) (count functionStride (now fs)) (now places) (now out) (now relocs) (now sites) × Owned s m (now fs) (now rows) (count functionStride (now fs)) (now owners) ⌝ }
     ensures { λ r. ⌜ Written (inputs s m (now (fs .entry)) (now (rows .entry)) (now (landings .entry)) (now (pairs .entry))) (count functionStride (now (fs .entry))) r (now (places .entry)) (now (places .exit)) (now (out .entry)) (now (out .exit)) (now (relocs .entry)) (now (relocs .exit)) (now (sites .entry)) (now (sites .exit)) ⌝ }
 {
     let functions = fs.len() / 18;
@@ -530,6 +533,7 @@ fn store(
             rows,
             landings,
             pairs,
+            owners,
             k,
             functions,
             t,
@@ -545,8 +549,190 @@ fn store(
 
 // ---- the whole
 
-// The functions sized and, where there is room, written.
+// The functions, whose owners are known, sized and, where there is room, written.
 fn fitted(
+    s: Section,
+    m: Machine,
+    fs: &[u64],
+    rows: &[u64],
+    landings: &[u64],
+    pairs: &[u64],
+    owners: &[u16],
+    places: &mut [u64],
+    out: &mut [u8],
+    relocs: &mut [u64],
+    sites: &mut [u8],
+) -> Outcome
+    requires { ⌜ Cleared (inputs s m (now fs) (now rows) (now landings) (now pairs)) × Owned s m (now fs) (now rows) (count functionStride (now fs)) (now owners) ⌝ }
+    ensures { λ r. ⌜ Delivered (fitting (roomIn (now (places .entry)) (now (out .entry)) (now (relocs .entry)) (now (sites .entry))) (writtenIn (partsTo (inputs s m (now (fs .entry)) (now (rows .entry)) (now (landings .entry)) (now (pairs .entry))) (count functionStride (now (fs .entry)))))) r (now (places .entry)) (now (places .exit)) (now (out .entry)) (now (out .exit)) (now (relocs .entry)) (now (relocs .exit)) (now (sites .entry)) (now (sites .exit)) ⌝ }
+{
+    let n = fs.len() / 18;
+    let t = sizes(s, m, fs, rows, landings, pairs, owners);
+    let lent = Table {
+        bytes: out.len(),
+        relocations: relocs.len(),
+        sites: sites.len(),
+    };
+    let q = room(n, t, places.len(), lent);
+    if let Question::No(number, position) = q {
+        return Outcome::Refused(number, position);
+    }
+    store(
+        s,
+        m,
+        fs,
+        rows,
+        landings,
+        pairs,
+        owners,
+        places,
+        out,
+        relocs,
+        sites,
+    );
+    Outcome::Accepted(Counts {
+        places: n as u64,
+        bytes: t.bytes as u64,
+        relocations: (t.relocations / 5) as u64,
+        sites: t.sites as u64,
+    })
+}
+
+// 64 functions at most.
+fn fitted_64(
+    s: Section,
+    m: Machine,
+    fs: &[u64],
+    rows: &[u64],
+    landings: &[u64],
+    pairs: &[u64],
+    places: &mut [u64],
+    out: &mut [u8],
+    relocs: &mut [u64],
+    sites: &mut [u8],
+) -> Outcome
+    requires { ⌜ Cleared (inputs s m (now fs) (now rows) (now landings) (now pairs)) × (count functionStride (now fs) ≤ 64) ⌝ }
+    ensures { λ r. ⌜ Delivered (fitting (roomIn (now (places .entry)) (now (out .entry)) (now (relocs .entry)) (now (sites .entry))) (writtenIn (partsTo (inputs s m (now (fs .entry)) (now (rows .entry)) (now (landings .entry)) (now (pairs .entry))) (count functionStride (now (fs .entry)))))) r (now (places .entry)) (now (places .exit)) (now (out .entry)) (now (out .exit)) (now (relocs .entry)) (now (relocs .exit)) (now (sites .entry)) (now (sites .exit)) ⌝ }
+{
+    let mut heads = [0u16; 61];
+    let mut links = [0u16; 64];
+    let mut owners = [0u16; 64];
+    search::owners(
+        s,
+        m,
+        fs,
+        rows,
+        fs.len() / 18,
+        &mut heads,
+        &mut links,
+        &mut owners,
+    );
+    fitted(
+        s,
+        m,
+        fs,
+        rows,
+        landings,
+        pairs,
+        &owners,
+        places,
+        out,
+        relocs,
+        sites,
+    )
+}
+
+// 2,048 at most.
+fn fitted_2048(
+    s: Section,
+    m: Machine,
+    fs: &[u64],
+    rows: &[u64],
+    landings: &[u64],
+    pairs: &[u64],
+    places: &mut [u64],
+    out: &mut [u8],
+    relocs: &mut [u64],
+    sites: &mut [u8],
+) -> Outcome
+    requires { ⌜ Cleared (inputs s m (now fs) (now rows) (now landings) (now pairs)) × (count functionStride (now fs) ≤ 2048) ⌝ }
+    ensures { λ r. ⌜ Delivered (fitting (roomIn (now (places .entry)) (now (out .entry)) (now (relocs .entry)) (now (sites .entry))) (writtenIn (partsTo (inputs s m (now (fs .entry)) (now (rows .entry)) (now (landings .entry)) (now (pairs .entry))) (count functionStride (now (fs .entry)))))) r (now (places .entry)) (now (places .exit)) (now (out .entry)) (now (out .exit)) (now (relocs .entry)) (now (relocs .exit)) (now (sites .entry)) (now (sites .exit)) ⌝ }
+{
+    let mut heads = [0u16; 2039];
+    let mut links = [0u16; 2048];
+    let mut owners = [0u16; 2048];
+    search::owners(
+        s,
+        m,
+        fs,
+        rows,
+        fs.len() / 18,
+        &mut heads,
+        &mut links,
+        &mut owners,
+    );
+    fitted(
+        s,
+        m,
+        fs,
+        rows,
+        landings,
+        pairs,
+        &owners,
+        places,
+        out,
+        relocs,
+        sites,
+    )
+}
+
+// As many as there may be.
+fn fitted_65536(
+    s: Section,
+    m: Machine,
+    fs: &[u64],
+    rows: &[u64],
+    landings: &[u64],
+    pairs: &[u64],
+    places: &mut [u64],
+    out: &mut [u8],
+    relocs: &mut [u64],
+    sites: &mut [u8],
+) -> Outcome
+    requires { ⌜ Cleared (inputs s m (now fs) (now rows) (now landings) (now pairs)) × (count functionStride (now fs) ≤ 65536) ⌝ }
+    ensures { λ r. ⌜ Delivered (fitting (roomIn (now (places .entry)) (now (out .entry)) (now (relocs .entry)) (now (sites .entry))) (writtenIn (partsTo (inputs s m (now (fs .entry)) (now (rows .entry)) (now (landings .entry)) (now (pairs .entry))) (count functionStride (now (fs .entry)))))) r (now (places .entry)) (now (places .exit)) (now (out .entry)) (now (out .exit)) (now (relocs .entry)) (now (relocs .exit)) (now (sites .entry)) (now (sites .exit)) ⌝ }
+{
+    let mut heads = [0u16; 65521];
+    let mut links = [0u16; 65536];
+    let mut owners = [0u16; 65536];
+    search::owners(
+        s,
+        m,
+        fs,
+        rows,
+        fs.len() / 18,
+        &mut heads,
+        &mut links,
+        &mut owners,
+    );
+    fitted(
+        s,
+        m,
+        fs,
+        rows,
+        landings,
+        pairs,
+        &owners,
+        places,
+        out,
+        relocs,
+        sites,
+    )
+}
+
+// The functions sized and, where there is room, written. The lists that the search works in lie on the stack, and clearing them
+// for a few functions is to cost little.
+fn deliver(
     s: Section,
     m: Machine,
     fs: &[u64],
@@ -562,23 +748,13 @@ fn fitted(
     ensures { λ r. ⌜ Writes (fitting (roomIn (now (places .entry)) (now (out .entry)) (now (relocs .entry)) (now (sites .entry))) (writtenIn (partsTo (inputs s m (now (fs .entry)) (now (rows .entry)) (now (landings .entry)) (now (pairs .entry))) (count functionStride (now (fs .entry)))))) r (now (places .entry)) (now (places .exit)) (now (out .entry)) (now (out .exit)) (now (relocs .entry)) (now (relocs .exit)) (now (sites .entry)) (now (sites .exit)) ⌝ }
 {
     let n = fs.len() / 18;
-    let t = sizes(s, m, fs, rows, landings, pairs);
-    let lent = Table {
-        bytes: out.len(),
-        relocations: relocs.len(),
-        sites: sites.len(),
-    };
-    let q = room(n, t, places.len(), lent);
-    if let Question::No(number, position) = q {
-        return Outcome::Refused(number, position);
+    if n <= 64 {
+        return fitted_64(s, m, fs, rows, landings, pairs, places, out, relocs, sites);
     }
-    store(s, m, fs, rows, landings, pairs, places, out, relocs, sites);
-    Outcome::Accepted(Counts {
-        places: n as u64,
-        bytes: t.bytes as u64,
-        relocations: (t.relocations / 5) as u64,
-        sites: t.sites as u64,
-    })
+    if n <= 2048 {
+        return fitted_2048(s, m, fs, rows, landings, pairs, places, out, relocs, sites);
+    }
+    fitted_65536(s, m, fs, rows, landings, pairs, places, out, relocs, sites)
 }
 
 // A DWARF section of functions: headers and records, their relocations, the call sites, and each function's header place. A
@@ -608,7 +784,7 @@ pub fn dwarf(
     if let Question::No(number, position) = q {
         return Outcome::Refused(number, position);
     }
-    fitted(
+    deliver(
         s,
         m,
         functions,

@@ -119,7 +119,7 @@ pub fn row_ok(rows: &[u64], i: usize) -> bool
 // ---- questions of one row
 
 // z without its sign.
-fn size(z: i64) -> u64
+pub fn size(z: i64) -> u64
     ensures { λ r. ⌜ (r ≡ natAbs z) × (r ≤ 2 ^ 63) ⌝ }
 {
     if z < 0 { (-1 - z) as u64 + 1 } else { z as u64 }
@@ -162,7 +162,7 @@ pub fn row_whole(word: u64, r: Row) -> bool
 }
 
 // A row's kind, register (or 0) and offset (or 0).
-fn kind(r: Row) -> u64
+pub fn kind(r: Row) -> u64
     ensures { λ n. ⌜ n ≡ kindOf r ⌝ }
 {
     match r {
@@ -178,7 +178,7 @@ fn kind(r: Row) -> u64
     }
 }
 
-fn register(r: Row) -> u16
+pub fn register(r: Row) -> u16
     ensures { λ n. ⌜ n ≡ regOf r ⌝ }
 {
     match r {
@@ -194,7 +194,7 @@ fn register(r: Row) -> u16
     }
 }
 
-fn offset(r: Row) -> i64
+pub fn offset(r: Row) -> i64
     ensures { λ z. ⌜ z ≡ offsetOf r ⌝ }
 {
     match r {

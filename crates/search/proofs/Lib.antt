@@ -2,3 +2,7 @@
 pub mod KindLaws
 pub mod Finding
 pub mod Comparing
+pub mod Firsts
+pub mod Walking
+pub mod Digests
+pub mod Claims

@@ -1,2 +1,3 @@
 -- What the header search says.
 pub mod Owners
+pub mod Chains

@@ -32,8 +32,8 @@ returns-3 c = says-no _ _ _ _ _ _ (accepted (c .before .before .before .before .
 enum-told : tie.Need-enum-told
 enum-told c = search needs
 
-fitted-requires : tie.Need-fitted-requires
-fitted-requires c κs = cleared-is _ _ _ _ _ _ (accepted (c .before .before .before .before .before .before .before .before .before .before .before .machine-ok .ensures) (c .before .before .before .before .before .before .before .before .before .before .if1 .left)) (accepted (c .before .before .before .before .before .before .before .before .before .lists-ok .ensures) (c .before .before .before .before .before .before .before .before .if2 .left)) (c .before .before .before .before .before .before .before .machine-of .ensures) (c .before .before .before .before .before .before .all-asks .ensures) (c .before .before .before .before .enum-told .given .1)
+deliver-requires : tie.Need-deliver-requires
+deliver-requires c κs = cleared-is _ _ _ _ _ _ (accepted (c .before .before .before .before .before .before .before .before .before .before .before .machine-ok .ensures) (c .before .before .before .before .before .before .before .before .before .before .if1 .left)) (accepted (c .before .before .before .before .before .before .before .before .before .lists-ok .ensures) (c .before .before .before .before .before .before .before .before .if2 .left)) (c .before .before .before .before .before .before .before .machine-of .ensures) (c .before .before .before .before .before .before .all-asks .ensures) (c .before .before .before .before .enum-told .given .1)
 
 same-length : tie.Need-same-length
 same-length c = search needs
@@ -48,7 +48,7 @@ same-length-4 : tie.Need-same-length-4
 same-length-4 c = search needs
 
 returns-4 : tie.Need-returns-4
-returns-4 c = says-all _ _ _ _ _ _ (accepted (c .before .before .before .before .before .before .before .before .before .before .before .before .before .before .before .before .before .before .before .before .machine-ok .ensures) (c .before .before .before .before .before .before .before .before .before .before .before .before .before .before .before .before .before .before .before .if1 .left)) (accepted (c .before .before .before .before .before .before .before .before .before .before .before .before .before .before .before .before .before .before .lists-ok .ensures) (c .before .before .before .before .before .before .before .before .before .before .before .before .before .before .before .before .before .if2 .left)) (c .before .before .before .before .before .before .before .before .before .before .before .before .before .before .before .before .machine-of .ensures) (c .before .before .before .before .before .before .before .before .before .before .before .before .before .before .before .all-asks .ensures) (c .before .before .before .before .before .before .before .before .before .before .before .before .before .enum-told .given .1) (c .before .before .before .before .before .before .before .before .fitted .ensures)
+returns-4 c = says-all _ _ _ _ _ _ (accepted (c .before .before .before .before .before .before .before .before .before .before .before .before .before .before .before .before .before .before .before .before .machine-ok .ensures) (c .before .before .before .before .before .before .before .before .before .before .before .before .before .before .before .before .before .before .before .if1 .left)) (accepted (c .before .before .before .before .before .before .before .before .before .before .before .before .before .before .before .before .before .before .lists-ok .ensures) (c .before .before .before .before .before .before .before .before .before .before .before .before .before .before .before .before .before .if2 .left)) (c .before .before .before .before .before .before .before .before .before .before .before .before .before .before .before .before .machine-of .ensures) (c .before .before .before .before .before .before .before .before .before .before .before .before .before .before .before .all-asks .ensures) (c .before .before .before .before .before .before .before .before .before .before .before .before .before .enum-told .given .1) (c .before .before .before .before .before .before .before .before .deliver .ensures)
 
 pub dwarf-spec : {M : Type 1} → statement M
 dwarf-spec =
@@ -63,7 +63,7 @@ dwarf-spec =
     enum-known-q
     returns-3
     enum-told
-    fitted-requires
+    deliver-requires
     same-length
     same-length-2
     same-length-3

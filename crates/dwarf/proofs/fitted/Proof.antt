@@ -20,7 +20,7 @@ enum-told : tie.Need-enum-told
 enum-told c = search needs
 
 store-requires : tie.Need-store-requires
-store-requires c κs = (c .before .before .before .before .before .before .before .before .before .before .before .before .before .before .before .before .pre, room-for-all _ (c .before .before .before .before .before .before .before .sizes .ensures) _ _ _ _ (c .before .before .before .before .before .before .room .ensures) (c .before .before .before .before .enum-told .given .1))
+store-requires c κs = (c .before .before .before .before .before .before .before .before .before .before .before .before .before .before .before .before .before .pre .0, room-for-all _ (c .before .before .before .before .before .before .before .sizes .ensures) _ _ _ _ (c .before .before .before .before .before .before .room .ensures) (c .before .before .before .before .enum-told .given .1), c .before .before .before .before .before .before .before .before .before .before .before .before .before .before .before .before .before .pre .1)
 
 same-length : tie.Need-same-length
 same-length c = search needs

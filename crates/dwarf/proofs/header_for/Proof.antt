@@ -1,26 +1,38 @@
 -- `dwarf::header_for` meets its contract.
-use native.Mathlib.Omega.{arith}
-use Rattle.dwarf.proofs.Owners.{owner-near}
 use Rattle.dwarf.proofs.Stores.{chosen-own, chosen-other}
 use borrow.Author.Needs.{needs}
 use Rattle.dwarf.proofs.header_for.Statement.{statement}
 use Rattle.dwarf.proofs.header_for.Tie as tie
 
-choose-requires : tie.Need-choose-requires
-choose-requires c κs = search needs
+mul-wide : tie.Need-mul-wide
+mul-wide c = search needs
+
+shared-slice-read-wide : tie.Need-shared-slice-read-wide
+shared-slice-read-wide c = search needs
+
+wide-requires : tie.Need-wide-requires
+wide-requires c κs = search needs
 
 returns : tie.Need-returns
-returns c = chosen-own (c .before .choose .ensures) _ _ (c .if1 .taken)
+returns c = chosen-own (c .before .wide .ensures .0) _ _ (c .if1 .taken)
 
-mul-t10 : tie.Need-mul-t10
-mul-t10 c = omega (arith, owner-near _ _ _ _ _ (c .before .choose .ensures), c .before .before .before .before .before .pre .2, c .if1 .left)
+mul-t6 : tie.Need-mul-t6
+mul-t6 c = search needs
 
-shared-slice-read-t12 : tie.Need-shared-slice-read-t12
-shared-slice-read-t12 c = omega (arith, owner-near _ _ _ _ _ (c .before .before .choose .ensures), c .before .before .before .before .before .before .pre .2, c .before .if1 .left)
+shared-slice-read-t11 : tie.Need-shared-slice-read-t11
+shared-slice-read-t11 c = search needs
 
 returns-2 : tie.Need-returns-2
-returns-2 c = chosen-other (c .before .before .choose .ensures) _ _ (c .before .if1 .left)
+returns-2 c = chosen-other (c .before .before .wide .ensures .0) _ _ (c .before .if1 .left)
 
 pub header-for-spec : {M : Type 1} → statement M
 header-for-spec =
-    tie.close (tie.spec choose-requires returns mul-t10 shared-slice-read-t12 returns-2)
+    tie.close
+    (tie.spec
+    mul-wide
+    shared-slice-read-wide
+    wide-requires
+    returns
+    mul-t6
+    shared-slice-read-t11
+    returns-2)

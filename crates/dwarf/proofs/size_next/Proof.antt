@@ -1,22 +1,36 @@
 -- `dwarf::size_next` meets its contract.
-use mathlib.Core.Path.{ap, _∙_}
+use mathlib.Core.Path.{_≡_, ap, _∙_}
+use native.Mathlib.Omega.{arith}
 use Rattle.leading.specs.Functions.{takenIn}
-use Rattle.dwarf.proofs.Sizing.{searchable, size-ready, size-done}
+use Rattle.search.specs.Owners.{owner}
+use Rattle.dwarf.proofs.Sizing.{size-ready, size-done}
 use borrow.Author.Needs.{needs}
 use Rattle.dwarf.proofs.size_next.Statement.{statement}
 use Rattle.dwarf.proofs.size_next.Tie as tie
 
+-- the owner that was looked up is function k's
+owner-is : (c : tie.After-wide) → let s = c .before .before .before .before .before .before .before .before .before in c .wide .result ≡ owner (s .args .s) (s .args .m) (s .args .fs .now) (s .args .rows .now) (s .args .k)
+owner-is c =
+    let s = c .before .before .before .before .before .before .before .before .before in
+    c .wide .ensures .0 ∙ s .pre .1 .each-one (s .args .k) (omega arith)
+
 extent-at-requires : tie.Need-extent-at-requires
-extent-at-requires c κs = search needs
+extent-at-requires c κs = omega (arith, c .before .before .before .before .before .pre .0 .sure .listed .within)
 
 taken-requires : tie.Need-taken-requires
 taken-requires c κs = search needs
 
-choose-requires : tie.Need-choose-requires
-choose-requires c κs = searchable (c .before .before .before .before .before .before .pre)
+mul-wide : tie.Need-mul-wide
+mul-wide c = search (needs, c .before .before .before .before .before .before .before .pre .1 .long)
+
+shared-slice-read-wide : tie.Need-shared-slice-read-wide
+shared-slice-read-wide c = omega (arith, c .before .before .before .before .before .before .before .before .pre .1 .long)
+
+wide-requires : tie.Need-wide-requires
+wide-requires c κs = search needs
 
 add-align-for : tie.Need-add-align-for
-add-align-for c = search needs
+add-align-for c = search (needs, c .before .before .before .before .before .before .before .before .before .pre .1 .long)
 
 align-for-requires : tie.Need-align-for-requires
 align-for-requires c κs = search needs
@@ -25,10 +39,14 @@ is-debug-requires : tie.Need-is-debug-requires
 is-debug-requires c κs = search needs
 
 sized-requires : tie.Need-sized-requires
-sized-requires c κs = size-ready (c .before .before .before .before .before .before .before .before .before .pre) (c .before .before .choose .ensures) (c .is-debug .ensures) (c .before .align-for .ensures) (c .before .before .before .taken .ensures ∙ ap (takenIn _) (c .before .before .before .before .extent-at .ensures))
+sized-requires c κs =
+    size-ready (c .before .before .before .before .before .before .before .before .before .before .before .pre .0) (owner-is (c .before .before)) (c .is-debug .ensures) (c .before .align-for .ensures)
+    (c .before .before .before .before .taken .ensures ∙ ap (takenIn _) (c .before .before .before .before .before .extent-at .ensures))
 
 returns : tie.Need-returns
-returns c = size-done (c .before .before .before .before .before .before .before .before .before .before .pre) (c .before .before .before .choose .ensures) (c .before .is-debug .ensures) (c .before .before .align-for .ensures) (c .before .before .before .before .taken .ensures ∙ ap (takenIn _) (c .before .before .before .before .before .extent-at .ensures)) (c .sized .ensures)
+returns c =
+    size-done (c .before .before .before .before .before .before .before .before .before .before .before .before .pre .0) (owner-is (c .before .before .before)) (c .before .is-debug .ensures) (c .before .before .align-for .ensures)
+    (c .before .before .before .before .before .taken .ensures ∙ ap (takenIn _) (c .before .before .before .before .before .before .extent-at .ensures)) (c .sized .ensures)
 
 pub size-next-spec : {M : Type 1} → statement M
 size-next-spec =
@@ -36,7 +54,9 @@ size-next-spec =
     (tie.spec
     extent-at-requires
     taken-requires
-    choose-requires
+    mul-wide
+    shared-slice-read-wide
+    wide-requires
     add-align-for
     align-for-requires
     is-debug-requires

@@ -1,22 +1,25 @@
 -- `dwarf::sizes` meets its contract.
+use native.Mathlib.Omega.{arith}
 use borrow.Author.Needs.{needs}
 use Prim.Native.Nat.{_-_}
 use Rattle.dwarf.specs.Parts.{inputs}
-use Rattle.dwarf.proofs.Sizing.{Sizing, start, next, turn, ended}
+use Rattle.dwarf.proofs.Sizing.{Sizing, start, next, turn, ended, owned-to}
 use Rattle.dwarf.proofs.sizes.Statement.{statement}
 use Rattle.dwarf.proofs.sizes.Tie as tie
 
 abbrev Inv-loop : tie.InvT-loop
-Inv-loop s m fs rows landings pairs n t₀ k₀ t k = Sizing (inputs s m fs rows landings pairs) n k t
+Inv-loop s m fs rows landings pairs owners n t₀ k₀ t k = Sizing (inputs s m fs rows landings pairs) n k t
 
 abbrev μ-loop : tie.MeasureT-loop
-μ-loop s m fs rows landings pairs n t₀ k₀ t k = n - k
+μ-loop s m fs rows landings pairs owners n t₀ k₀ t k = n - k
 
 loop-holds : tie.Need-loop-holds Inv-loop μ-loop
 loop-holds c = start _
 
 size-next-requires : tie.Need-size-next-requires Inv-loop μ-loop
-size-next-requires c κs = next (c .before .loop .inv) (c .before .before .before .before .before .before .pre) (c .loop-test .taken)
+size-next-requires c κs =
+    let s = c .before .before .before .before .before .before .before in
+    (next (c .before .loop .inv) (s .pre .0) (c .loop-test .taken), owned-to (omega (arith, c .loop-test .taken, c .before .loop .inv .counted)) (s .pre .1))
 
 add-k : tie.Need-add-k Inv-loop μ-loop
 add-k c = search needs

@@ -4,26 +4,29 @@ use borrow.Author.Needs.{needs}
 use Prim.Native.Nat.{_-_}
 use Rattle.format.proofs.PutLaws.{kept}
 use Rattle.dwarf.specs.Parts.{inputs}
+use Rattle.dwarf.proofs.Sizing.{owned-to}
 use Rattle.dwarf.proofs.Writing.{Going, start, ready, turn, ended}
 use Rattle.dwarf.proofs.store.Statement.{statement}
 use Rattle.dwarf.proofs.store.Tie as tie
 
 abbrev Inv-loop : tie.InvT-loop
-Inv-loop s m fs rows landings pairs places₀ bytes₀ relocations₀ sites₀ n t₀ k₀ places bytes relocations sites t k =
+Inv-loop s m fs rows landings pairs owners places₀ bytes₀ relocations₀ sites₀ n t₀ k₀ places bytes relocations sites t k =
     Going (inputs s m fs rows landings pairs) n k t places₀ places bytes₀ bytes relocations₀ relocations sites₀ sites
 
 abbrev μ-loop : tie.MeasureT-loop
-μ-loop s m fs rows landings pairs places₀ bytes₀ relocations₀ sites₀ n t₀ k₀ places bytes relocations sites t k =
+μ-loop s m fs rows landings pairs owners places₀ bytes₀ relocations₀ sites₀ n t₀ k₀ places bytes relocations sites t k =
     n - k
 
 loop-holds : tie.Need-loop-holds Inv-loop μ-loop
-loop-holds c = start _ (c .before .before .before .before .before .before .before .before .pre .1)
+loop-holds c = start _ (c .before .before .before .before .before .before .before .before .before .pre .1)
 
 part-requires : tie.Need-part-requires Inv-loop μ-loop
-part-requires c κs = ready (c .before .before .before .before .before .loop .inv) (c .before .before .before .before .before .before .before .before .before .before .before .before .before .before .pre .0) (c .before .before .before .before .loop-test .taken)
+part-requires c κs =
+    let s = c .before .before .before .before .before .before .before .before .before .before .before .before .before .before .before in
+    (ready (c .before .before .before .before .before .loop .inv) (s .pre .0) (c .before .before .before .before .loop-test .taken), owned-to (omega (arith, c .before .before .before .before .loop-test .taken, c .before .before .before .before .before .loop .inv .counted)) (s .pre .2))
 
 add-k : tie.Need-add-k Inv-loop μ-loop
-add-k c = omega (arith, c .before .before .before .before .before .before .before .before .before .before .before .before .before .loop-test .taken, c .before .before .before .before .before .before .before .before .before .before .before .before .before .before .before .before .before .before .before .before .before .before .before .good .1 .1 .0)
+add-k c = omega (arith, c .before .before .before .before .before .before .before .before .before .before .before .before .before .loop-test .taken, c .before .before .before .before .before .before .before .before .before .before .before .before .before .before .before .before .before .before .before .before .before .before .before .before .good .1 .1 .0)
 
 loop-less : tie.Need-loop-less Inv-loop μ-loop
 loop-less c = search needs
