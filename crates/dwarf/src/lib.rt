@@ -564,7 +564,7 @@ fn fitted(
     sites: &mut [u8],
 ) -> Outcome
     requires { ⌜ Cleared (inputs s m (now fs) (now rows) (now landings) (now pairs)) × Owned s m (now fs) (now rows) (count functionStride (now fs)) (now owners) ⌝ }
-    ensures { λ r. ⌜ Delivered (fitting (roomIn (now (places .entry)) (now (out .entry)) (now (relocs .entry)) (now (sites .entry))) (writtenIn (partsTo (inputs s m (now (fs .entry)) (now (rows .entry)) (now (landings .entry)) (now (pairs .entry))) (count functionStride (now (fs .entry)))))) r (now (places .entry)) (now (places .exit)) (now (out .entry)) (now (out .exit)) (now (relocs .entry)) (now (relocs .exit)) (now (sites .entry)) (now (sites .exit)) ⌝ }
+    ensures { λ r. ⌜ Writes (fitting (roomIn (now (places .entry)) (now (out .entry)) (now (relocs .entry)) (now (sites .entry))) (writtenIn (partsTo (inputs s m (now (fs .entry)) (now (rows .entry)) (now (landings .entry)) (now (pairs .entry))) (count functionStride (now (fs .entry)))))) r (now (places .entry)) (now (places .exit)) (now (out .entry)) (now (out .exit)) (now (relocs .entry)) (now (relocs .exit)) (now (sites .entry)) (now (sites .exit)) ⌝ }
 {
     let n = fs.len() / 18;
     let t = sizes(s, m, fs, rows, landings, pairs, owners);
@@ -612,7 +612,7 @@ fn fitted_64(
     sites: &mut [u8],
 ) -> Outcome
     requires { ⌜ Cleared (inputs s m (now fs) (now rows) (now landings) (now pairs)) × (count functionStride (now fs) ≤ 64) ⌝ }
-    ensures { λ r. ⌜ Delivered (fitting (roomIn (now (places .entry)) (now (out .entry)) (now (relocs .entry)) (now (sites .entry))) (writtenIn (partsTo (inputs s m (now (fs .entry)) (now (rows .entry)) (now (landings .entry)) (now (pairs .entry))) (count functionStride (now (fs .entry)))))) r (now (places .entry)) (now (places .exit)) (now (out .entry)) (now (out .exit)) (now (relocs .entry)) (now (relocs .exit)) (now (sites .entry)) (now (sites .exit)) ⌝ }
+    ensures { λ r. ⌜ Writes (fitting (roomIn (now (places .entry)) (now (out .entry)) (now (relocs .entry)) (now (sites .entry))) (writtenIn (partsTo (inputs s m (now (fs .entry)) (now (rows .entry)) (now (landings .entry)) (now (pairs .entry))) (count functionStride (now (fs .entry)))))) r (now (places .entry)) (now (places .exit)) (now (out .entry)) (now (out .exit)) (now (relocs .entry)) (now (relocs .exit)) (now (sites .entry)) (now (sites .exit)) ⌝ }
 {
     let mut heads = [0u16; 61];
     let mut links = [0u16; 64];
@@ -656,7 +656,7 @@ fn fitted_2048(
     sites: &mut [u8],
 ) -> Outcome
     requires { ⌜ Cleared (inputs s m (now fs) (now rows) (now landings) (now pairs)) × (count functionStride (now fs) ≤ 2048) ⌝ }
-    ensures { λ r. ⌜ Delivered (fitting (roomIn (now (places .entry)) (now (out .entry)) (now (relocs .entry)) (now (sites .entry))) (writtenIn (partsTo (inputs s m (now (fs .entry)) (now (rows .entry)) (now (landings .entry)) (now (pairs .entry))) (count functionStride (now (fs .entry)))))) r (now (places .entry)) (now (places .exit)) (now (out .entry)) (now (out .exit)) (now (relocs .entry)) (now (relocs .exit)) (now (sites .entry)) (now (sites .exit)) ⌝ }
+    ensures { λ r. ⌜ Writes (fitting (roomIn (now (places .entry)) (now (out .entry)) (now (relocs .entry)) (now (sites .entry))) (writtenIn (partsTo (inputs s m (now (fs .entry)) (now (rows .entry)) (now (landings .entry)) (now (pairs .entry))) (count functionStride (now (fs .entry)))))) r (now (places .entry)) (now (places .exit)) (now (out .entry)) (now (out .exit)) (now (relocs .entry)) (now (relocs .exit)) (now (sites .entry)) (now (sites .exit)) ⌝ }
 {
     let mut heads = [0u16; 2039];
     let mut links = [0u16; 2048];
@@ -700,7 +700,7 @@ fn fitted_65536(
     sites: &mut [u8],
 ) -> Outcome
     requires { ⌜ Cleared (inputs s m (now fs) (now rows) (now landings) (now pairs)) × (count functionStride (now fs) ≤ 65536) ⌝ }
-    ensures { λ r. ⌜ Delivered (fitting (roomIn (now (places .entry)) (now (out .entry)) (now (relocs .entry)) (now (sites .entry))) (writtenIn (partsTo (inputs s m (now (fs .entry)) (now (rows .entry)) (now (landings .entry)) (now (pairs .entry))) (count functionStride (now (fs .entry)))))) r (now (places .entry)) (now (places .exit)) (now (out .entry)) (now (out .exit)) (now (relocs .entry)) (now (relocs .exit)) (now (sites .entry)) (now (sites .exit)) ⌝ }
+    ensures { λ r. ⌜ Writes (fitting (roomIn (now (places .entry)) (now (out .entry)) (now (relocs .entry)) (now (sites .entry))) (writtenIn (partsTo (inputs s m (now (fs .entry)) (now (rows .entry)) (now (landings .entry)) (now (pairs .entry))) (count functionStride (now (fs .entry)))))) r (now (places .entry)) (now (places .exit)) (now (out .entry)) (now (out .exit)) (now (relocs .entry)) (now (relocs .exit)) (now (sites .entry)) (now (sites .exit)) ⌝ }
 {
     let mut heads = [0u16; 65521];
     let mut links = [0u16; 65536];
