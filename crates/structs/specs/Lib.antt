@@ -1,2 +1,3 @@
--- What the structs mean.
+-- What the structs mean, and how lists of them are stored as numbers.
 pub mod Structs
+pub mod Packed
