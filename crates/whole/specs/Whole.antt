@@ -1,7 +1,7 @@
 -- Lists of structs, handed to the writers by way of a lent list of numbers.
 use Prim.Native.Nat.{ℕ, _+_, _*_}
 use mathlib.Core.Bool.{Bool, _&&_}
-use mathlib.Core.List.{List}
+use mathlib.Core.List.{List, _++_}
 use lib.Dec.{leb, eqb}
 use lib.ListN.{length, take, drop}
 use Rattle.format.specs.Test.{all}
@@ -37,17 +37,25 @@ packed machine xs f r l p =
 
 -- ---- the entries
 
+-- the numbers of the four lists of structs, one list after the other
+unfoldable pub numbersIn : List Function → List Line → List Landing → List Pair → List ℕ
+numbersIn fs rs ls ps = numbersOf functionNumbers fs ++ (numbersOf lineNumbers rs ++ (numbersOf landingNumbers ls ++ numbersOf pairNumbers ps))
+
 -- what the structs mean
 unfoldable pub meant : List ℕ → List Function → List Line → List Landing → List Pair → Given
 meant machine fs rs ls ps =
     given machine (numbersOf functionNumbers fs) (numbersOf lineNumbers rs) (numbersOf landingNumbers ls) (numbersOf pairNumbers ps)
 
--- 54 where the lent list is not as it is to be, asked first
-unfoldable pub onceReady : List ℕ → List Function → List Line → List Landing → List Pair → Answer → Answer
-onceReady xs fs rs ls ps a = unless (ask (readyFor xs (length fs) (length rs) (length ls) (length ps)) 54 0) a
+-- 54 where the lent list is not ready, asked first
+unfoldable pub onceReady : Bool → Answer → Answer
+onceReady ready a = unless (ask ready 54 0) a
 
-unfoldable pub tableOf : List ℕ → (format : ℕ) → List ℕ → List Function → List Line → List Landing → List Pair → Room → Answer
-tableOf xs format machine fs rs ls ps r = onceReady xs fs rs ls ps (relaxedTable format (meant machine fs rs ls ps) r)
+-- what a writer answers of structs: 54, or what it says of the numbers that they mean
+unfoldable pub answerOf : (Given → Room → Answer) → (machine numbers : List ℕ) → List Function → List Line → List Landing → List Pair → Room → Answer
+answerOf answer machine xs fs rs ls ps r = onceReady (readyFor xs (length fs) (length rs) (length ls) (length ps)) (answer (meant machine fs rs ls ps) r)
 
-unfoldable pub debugFrameOf : List ℕ → (format : ℕ) → List ℕ → List Function → List Line → List Landing → List Pair → Room → Answer
-debugFrameOf xs format machine fs rs ls ps r = onceReady xs fs rs ls ps (relaxedDebugFrame format (meant machine fs rs ls ps) r)
+unfoldable pub relaxedTableOf : (format : ℕ) (machine numbers : List ℕ) → List Function → List Line → List Landing → List Pair → Room → Answer
+relaxedTableOf format = answerOf (relaxedTable format)
+
+unfoldable pub relaxedDebugFrameOf : (format : ℕ) (machine numbers : List ℕ) → List Function → List Line → List Landing → List Pair → Room → Answer
+relaxedDebugFrameOf format = answerOf (relaxedDebugFrame format)
