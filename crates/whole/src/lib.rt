@@ -57,13 +57,7 @@ fn all_zero(numbers: &[u64]) -> bool
 
 // Whether the list is long enough for so many structs and all zero. It is lent as the functions that store in it are: the entries are proved by
 // hand, and so lend it in one way only.
-pub fn ready(
-    numbers: &mut [u64],
-    functions: usize,
-    rows: usize,
-    landings: usize,
-    pairs: usize,
-) -> bool
+fn ready(numbers: &mut [u64], functions: usize, rows: usize, landings: usize, pairs: usize) -> bool
     ensures { λ r. ⌜ (r ≡ readyFor (now (numbers .entry)) functions rows landings pairs) × (now (numbers .exit) ≡ now (numbers .entry)) ⌝ }
 {
     if !long_enough(numbers.len(), functions, rows, landings, pairs) {
@@ -84,7 +78,7 @@ fn clear(numbers: &mut [u64])
 
 // ---- the writers, on the four lists that stand in the lent one
 
-pub fn packed_table(
+fn packed_table(
     numbers: &mut [u64],
     functions: usize,
     rows: usize,
@@ -122,7 +116,7 @@ pub fn packed_table(
     unwind::written_of(outcome)
 }
 
-pub fn packed_debug_frame(
+fn packed_debug_frame(
     numbers: &mut [u64],
     functions: usize,
     rows: usize,
@@ -165,7 +159,7 @@ fn no_room() -> Written
 }
 
 // The same where the list was ready; else 54, and nothing is changed.
-pub fn table_in(
+fn table_in(
     ok: bool,
     numbers: &mut [u64],
     functions: usize,
@@ -200,7 +194,7 @@ pub fn table_in(
     )
 }
 
-pub fn debug_frame_in(
+fn debug_frame_in(
     ok: bool,
     numbers: &mut [u64],
     functions: usize,
@@ -236,7 +230,7 @@ pub fn debug_frame_in(
 // ---- the lists of structs
 
 // The structs stored in the list, one list after the other, where it is ready for them: whether it is.
-pub fn pack(
+fn pack(
     functions: &[Function],
     rows: &[Line],
     landings: &[Landing],

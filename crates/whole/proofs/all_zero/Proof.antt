@@ -1,7 +1,6 @@
 -- `whole::all_zero` meets its contract: what is left to be looked at says what the whole list does.
 use mathlib.Core.Path.{_≡_, sym, _∙_}
 use Prim.Native.Nat.{_-_}
-use native.Mathlib.Omega.{arith}
 use lib.ListN.{length, drop}
 use Rattle.format.specs.Test.{all}
 use Rattle.whole.specs.Whole.{isZero}
