@@ -29,7 +29,7 @@ front-from xs p (b ∷ bs) h =
     rw (e, put-cons, add-one p)
     (front-from (set xs p b) (suc p) bs (omega (arith, length-set xs p b)) ∙ rw (take-suc-set xs p b (omega arith), append-assoc) refl)
 
-front : (xs bs : List ℕ) → length bs ≤ length xs → take (length bs) (put xs 0 bs) ≡ bs
+pub front : (xs bs : List ℕ) → length bs ≤ length xs → take (length bs) (put xs 0 bs) ≡ bs
 front xs bs h = rw (zero-add (length bs)) at (front-from xs 0 bs (omega arith))
 
 pub record Fronts (a : Answer) (o : Outcome) (bytes relocations : List ℕ) : Type 0 where

@@ -470,7 +470,7 @@ fn numbers_of(r: Reading) -> Numbers
     }
 }
 
-fn written_of(o: Outcome) -> Written
+pub fn written_of(o: Outcome) -> Written
     ensures { λ n. ⌜ writtenNumbers n ≡ outcomeNumbers o ⌝ }
 {
     match o {

@@ -1,0 +1,2 @@
+-- What the entries over lists of structs answer.
+pub mod Whole
