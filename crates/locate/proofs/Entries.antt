@@ -93,7 +93,7 @@ pub entered : (s : List ℕ) (p : ℕ) {q : ℕ} → endAt s p ≡ Is q → Ente
 unfolding endAt
 entered s p {q} e = held-entered s p q refl (entry-held (drop p s)) e
 
-none-read : (s : List ℕ) (r : Read (List ℕ)) → endFrom (length s) r ≡ Nothing → r ≡ none
+pub none-read : (s : List ℕ) (r : Read (List ℕ)) → endFrom (length s) r ≡ Nothing → r ≡ none
 unfolding endFrom
 none-read s none e = refl
 none-read s (some x) e = let z : _≡_ {A = ℕ} 0 1 = cc in absurd (omega arith)
@@ -135,11 +135,11 @@ module _ (s : List ℕ) (p : ℕ) where
     unfolding entriesFrom
     step = one-step (length (drop p s)) p (drop p s) (omega (arith, length-drop p s))
 
-    tiled-none : endAt s p ≡ Nothing → entriesFrom s p ≡ none
+    pub tiled-none : endAt s p ≡ Nothing → entriesFrom s p ≡ none
     unfolding endAt next
     tiled-none e = step ∙ rw (none-read s (readEntry (drop p s)) e)
 
-    tiled-more : {q : ℕ} → endAt s p ≡ Is q → entriesFrom s p ≡ after (entriesFrom s q) λ es. some (entryIn s p q ∷ es)
+    pub tiled-more : {q : ℕ} → endAt s p ≡ Is q → entriesFrom s p ≡ after (entriesFrom s q) λ es. some (entryIn s p q ∷ es)
     unfolding entriesFrom next
     tiled-more {q} e =
         let a = entered s p e in

@@ -20,13 +20,13 @@ use format::Unsigned;
 // ---- entries
 
 // A number, where there is one.
-enum Number {
+pub enum Number {
     Is(usize),
     Nothing,
 }
 
 // Where the entry at `at` ends: a 4-byte length, at least 4, and as many bytes.
-fn entry_end(s: &[u8], at: usize) -> Number
+pub fn entry_end(s: &[u8], at: usize) -> Number
     ensures { λ r. ⌜ r ≡ endAt (now (s .entry)) at ⌝ }
 {
     let Unsigned::Value(n, body) = leb::read_le(s, at, 4) else {
@@ -95,7 +95,7 @@ fn header_id(debug: bool) -> u64
     0
 }
 
-fn is_header(s: &[u8], at: usize, end: usize, debug: bool) -> bool
+pub fn is_header(s: &[u8], at: usize, end: usize, debug: bool) -> bool
     requires { ⌜ (at + 8 ≤ end) × (end ≤ length (now s)) ⌝ }
     ensures { λ r. ⌜ r ≡ isHeader debug (entryIn (now (s .entry)) at end) ⌝ }
 {

@@ -1,0 +1,2 @@
+-- What stands at a position of a section.
+pub mod Listing
