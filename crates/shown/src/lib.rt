@@ -141,11 +141,7 @@ pub fn question(out: &mut [u8], at: usize, n: u64) -> usize
     ensures { λ r. ⌜ Counts r (now (out .exit)) ⌝ }
 {
     match n {
-        11 => text(
-            out,
-            at,
-            b"the word is 2, 4 or 8 and the kind eh or debug",
-        ),
+        11 => text(out, at, b"the word is 2, 4 or 8 and the kind eh or debug"),
         61 => text(
             out,
             at,
@@ -162,11 +158,7 @@ pub fn question(out: &mut [u8], at: usize, n: u64) -> usize
             at,
             b"a fixed field or the augmentation of header or record is cut off or not one that these tables have",
         ),
-        65 => text(
-            out,
-            at,
-            b"the offset is not below the function's length",
-        ),
+        65 => text(out, at, b"the offset is not below the function's length"),
         66 => text(
             out,
             at,
