@@ -39,7 +39,7 @@ fn width(word: u64) -> usize {
 }
 
 // An address as the word holds it.
-fn held(x: u64, word: u64) -> u64 {
+fn fitted(x: u64, word: u64) -> u64 {
     match word {
         2 => x % 65536,
         4 => x % 4294967296,
@@ -52,7 +52,7 @@ fn sum(a: u64, b: u64) -> u64 {
 }
 
 fn address(out: &mut [u8], at: usize, x: u64, word: u64) -> usize {
-    hex(out, at, held(x, word), width(word))
+    hex(out, at, fitted(x, word), width(word))
 }
 
 // A field of 32 bits with its sign, in 64.
@@ -321,8 +321,8 @@ fn column_cell(out: &mut [u8], at: usize, reg: u64, ra: u64, x86_64: bool) -> us
 }
 
 fn heading(out: &mut [u8], at: usize, regs: &[u64], ra: u64, v: View) -> usize {
-    let a = shown::cell(out, at, b"   LOC", width(v.word) + 1);
-    let mut past = text(out, a, b"CFA      ");
+    let a = shown::cell(out, at, b"   LOC", width(v.word));
+    let mut past = text(out, a, b" CFA      ");
     let mut i = 0;
     while i < regs.len() {
         past = column_cell(out, past, regs[i], ra, v.x86_64);
@@ -549,15 +549,15 @@ fn augmented(out: &mut [u8], at: usize, s: &[u8], from: usize, end: usize, debug
 }
 
 // The factors and the return address of a header.
-struct Factors {
+struct Alignment {
     code: u64,
     words: i64,
     ra: u64,
     next: usize,
 }
 
-fn no_factors(s: &[u8]) -> Factors {
-    Factors {
+fn no_factors(s: &[u8]) -> Alignment {
+    Alignment {
         code: 0,
         words: 0,
         ra: 65536,
@@ -566,7 +566,7 @@ fn no_factors(s: &[u8]) -> Factors {
 }
 
 // Those behind the string of the header at `at`; 0 and no register where they are cut off.
-fn factors(s: &[u8], at: usize) -> Factors {
+fn factors(s: &[u8], at: usize) -> Alignment {
     let string = string_end(s, entries::further(s, at, 9));
     let Unsigned::Value(code, a) = leb::read_uleb(s, entries::further(s, string, 1)) else {
         return no_factors(s);
@@ -577,7 +577,7 @@ fn factors(s: &[u8], at: usize) -> Factors {
     let Unsigned::Value(ra, next) = leb::read_uleb(s, b) else {
         return no_factors(s);
     };
-    Factors {
+    Alignment {
         code,
         words,
         ra,
@@ -585,7 +585,7 @@ fn factors(s: &[u8], at: usize) -> Factors {
     }
 }
 
-fn factor_fields(out: &mut [u8], at: usize, f: Factors) -> usize {
+fn factor_fields(out: &mut [u8], at: usize, f: Alignment) -> usize {
     let a = text(out, at, b" cf=");
     let b = decimal(out, a, f.code);
     let c = text(out, b, b" df=");
