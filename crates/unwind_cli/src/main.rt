@@ -12,6 +12,7 @@ use libc::STDOUT_FILENO;
 use listing::View;
 use locate::Located;
 use locate::Locating;
+use numbers::Numbers;
 use shown::Parsed;
 use shown::byte;
 use shown::decimal;
@@ -52,21 +53,44 @@ fn complain(what: &[u8], why: &[u8]) {
     io::write_all(STDERR_FILENO, b"\n");
 }
 
-// The same with a question's number in words. The buffer holds the longest path and more.
-fn complain_number(file: &[u8], what: &[u8], place: u64, number: u64) {
-    let mut line = [0u8; 8192];
+// The same with a question's number in words. The buffer holds any such line.
+fn complain_number(file: &[u8], what: &[u8], number: u64) {
+    let mut line = io::buffer();
     let a = text(&mut line, 0, what);
-    let b = hex(&mut line, a, place, 8);
-    let c = text(&mut line, b, b" is ");
-    let d = listing::refusal(&mut line, c, number);
-    complain_line(file, &line, d);
-}
-
-fn complain_line(file: &[u8], line: &[u8], n: usize) {
+    let b = text(&mut line, a, b" is ");
+    let c = listing::refusal(&mut line, b, number);
     io::write_all(STDERR_FILENO, b"unwind: ");
     io::write_all(STDERR_FILENO, file);
     io::write_all(STDERR_FILENO, b": ");
-    io::write_all(STDERR_FILENO, entries::span(line, 0, n));
+    io::write_all(STDERR_FILENO, entries::span(&line, 0, c));
+}
+
+// Question 61, by the place where no entry fits.
+fn complain_entry(file: &[u8], place: usize) {
+    let mut what = [0u8; 64];
+    let a = text(&mut what, 0, b"the entry at ");
+    let b = hex(&mut what, a, place as u64, 8);
+    complain_number(file, entries::span(&what, 0, b), 61);
+}
+
+// A record by its place.
+fn complain_record(file: &[u8], k: u64, place: usize, number: u64) {
+    let mut what = [0u8; 64];
+    let a = text(&mut what, 0, b"record ");
+    let b = decimal(&mut what, a, k);
+    let c = text(&mut what, b, b" at ");
+    let d = hex(&mut what, c, place as u64, 8);
+    complain_number(file, entries::span(&what, 0, d), number);
+}
+
+// A record at an offset of its function.
+fn complain_offset(file: &[u8], k: u64, p: u64, number: u64) {
+    let mut what = [0u8; 64];
+    let a = text(&mut what, 0, b"record ");
+    let b = decimal(&mut what, a, k);
+    let c = text(&mut what, b, b", offset ");
+    let d = decimal(&mut what, c, p);
+    complain_number(file, entries::span(&what, 0, d), number);
 }
 
 // ---- arguments
@@ -250,70 +274,22 @@ fn whole(room: &[u8]) -> usize
 
 // ---- a list of relocations
 
-fn is_space(b: u8) -> bool {
-    b <= 32
-}
-
-// The next place from `at` on that is, or is not, a space; the end where there is none.
-fn skip(s: &[u8], at: usize, spaces: bool) -> usize {
-    let mut i = at;
-    while i < s.len() {
-        if is_space(s[i]) != spaces {
-            return i;
-        }
-        i += 1;
-    }
-    s.len()
-}
-
-// How many numbers a text has; none is said where something else stands in it, or where they are too many.
-struct Read {
-    ok: bool,
-    n: usize,
-}
-
-// The numbers of a text, apart by spaces. Each has a byte at least, so that the count suffices.
-fn numbers(s: &[u8], out: &mut [u64]) -> Read
-    ensures { λ r. ⌜ r .n ≤ length (now (out .exit)) ⌝ }
-{
-    let mut at = skip(s, 0, true);
-    let mut n = 0;
-    let mut left = s.len();
-    while 0 < left {
-        if s.len() <= at {
-            return Read { ok: true, n };
-        }
-        if out.len() <= n {
-            return Read { ok: false, n: 0 };
-        }
-        let end = skip(s, at, false);
-        let Parsed::Is(v) = shown::parse(entries::span(s, at, end)) else {
-            return Read { ok: false, n: 0 };
-        };
-        out[n] = v;
-        n += 1;
-        at = skip(s, end, true);
-        left -= 1;
-    }
-    Read { ok: true, n }
-}
-
 // The relocations of the file behind --relocations; none where the option does not stand.
-fn relocations(out: &mut [u64]) -> Read
+fn relocations(out: &mut [u64]) -> Numbers
     ensures { λ r. ⌜ r .n ≤ length (now (out .exit)) ⌝ }
 {
     let i = option(b"--relocations");
     if i == 0 {
-        return Read { ok: true, n: 0 };
+        return Numbers { ok: true, n: 0 };
     }
     let mut path = io::buffer();
     let k = os::arg(i + 1, &mut path);
     let mut room = small_space();
     let n = load(&path[..k], &mut room);
     if 1048576 < n {
-        return Read { ok: false, n: 0 };
+        return Numbers { ok: false, n: 0 };
     }
-    let r = numbers(&room[..n], out);
+    let r = numbers::read(&room[..n], out);
     if !r.ok {
         complain(
             &path[..k],
@@ -321,6 +297,22 @@ fn relocations(out: &mut [u64]) -> Read
         );
     }
     r
+}
+
+// ---- the section's end
+
+// Says where a linked section ends.
+fn note(end: usize, n: usize) {
+    if n <= end {
+        return;
+    }
+    let mut out = io::buffer();
+    let a = text(&mut out, 0, b"The section ends at ");
+    let b = hex(&mut out, a, end as u64, 8);
+    let c = text(&mut out, b, b", before a length of 0; bytes left out: ");
+    let d = decimal(&mut out, c, (n - end) as u64);
+    let e = byte(&mut out, d, b'\n');
+    shown::flush(&mut out, e);
 }
 
 // ---- check
@@ -431,22 +423,18 @@ fn told_refusal(file: &[u8], t: Sums) {
         );
         return;
     }
-    let mut line = [0u8; 4096];
-    let a = text(&mut line, 0, b"record ");
-    let b = decimal(&mut line, a, t.refused);
-    let c = text(&mut line, b, b" at ");
-    let d = entries::span(&line, 0, c);
-    complain_number(file, d, t.place as u64, t.number);
+    complain_record(file, t.refused, t.place, t.number);
 }
 
 // Checks a section that ends where the file or a length of 0 does.
-fn check(file: &[u8], s: &[u8], relocs: &[u64], marks: &mut [u8], v: View) {
+fn check(file: &[u8], total: usize, s: &[u8], relocs: &[u64], marks: &mut [u8], v: View) {
     let t = tally(s, relocs, marks, v);
     progress_done();
     if t.end < s.len() {
-        complain_number(file, b"the entry at ", t.end as u64, 61);
+        complain_entry(file, t.end);
         return;
     }
+    note(s.len(), total);
     told(file, s.len(), t);
 }
 
@@ -467,12 +455,13 @@ fn fits(s: &[u8], debug: bool) -> usize {
     at
 }
 
-fn dump(file: &[u8], s: &[u8], relocs: &[u64], marks: &mut [u8], v: View) {
+fn dump(file: &[u8], total: usize, s: &[u8], relocs: &[u64], marks: &mut [u8], v: View) {
     let end = fits(s, v.debug);
     if end < s.len() {
-        complain_number(file, b"the entry at ", end as u64, 61);
+        complain_entry(file, end);
         return;
     }
+    note(end, total);
     let mut out = io::large_buffer();
     let n = listing::section(&mut out, 0, s, relocs, marks, v);
     if !shown::flush(&mut out, n) {
@@ -563,13 +552,13 @@ fn signing(out: &mut [u8], at: usize, on: bool) -> usize {
 }
 
 // The rules of a record that was found, at an offset.
-fn answer(file: &[u8], s: &[u8], l: Located, v: View, p: u64, reg: u64) {
+fn answer(file: &[u8], s: &[u8], l: Located, v: View, k: u64, p: u64, reg: u64) {
     if l.size <= p {
-        complain_number(file, b"the offset ", p, 65);
+        complain_offset(file, k, p, 65);
         return;
     }
     match entries::rules(s, l, v.word, p, 0) {
-        Reading::Refused(n) => complain_number(file, b"the offset ", p, n),
+        Reading::Refused(n) => complain_offset(file, k, p, n),
         Reading::Rules(f, _, on) => {
             let mut out = io::buffer();
             let a = frame(&mut out, 0, f, v.x86_64);
@@ -602,26 +591,12 @@ fn found(file: &[u8], s: &[u8], relocs: &[u64], v: View, k: u64, p: u64, reg: u6
         return;
     }
     match locate::locate(s, relocs, v.debug, v.word, k) {
-        Locating::Found(l) => answer(file, s, l, v, p, reg),
-        Locating::No(n) => complain_number(file, b"record ", k, n),
+        Locating::Found(l) => answer(file, s, l, v, k, p, reg),
+        Locating::No(n) => complain_offset(file, k, p, n),
     }
 }
 
 // ---- the commands
-
-// Says where a linked section ends.
-fn note(end: usize, n: usize) {
-    if n <= end {
-        return;
-    }
-    let mut out = io::buffer();
-    let a = text(&mut out, 0, b"The section ends at ");
-    let b = hex(&mut out, a, end as u64, 8);
-    let c = text(&mut out, b, b", before a length of 0; bytes left out: ");
-    let d = decimal(&mut out, c, (n - end) as u64);
-    let e = byte(&mut out, d, b'\n');
-    shown::flush(&mut out, e);
-}
 
 // A command on the section of a file.
 fn run(command: u64, file: &[u8], s: &[u8], v: View) {
@@ -633,14 +608,13 @@ fn run(command: u64, file: &[u8], s: &[u8], v: View) {
     }
     let n = r.n;
     let end = entries::end_of(s, v.debug);
-    note(end, s.len());
     let section = &s[..end];
     let relocs = &room[..n];
     if command == 0 {
-        return dump(file, section, relocs, &mut marks, v);
+        return dump(file, s.len(), section, relocs, &mut marks, v);
     }
     if command == 1 {
-        return check(file, section, relocs, &mut marks, v);
+        return check(file, s.len(), section, relocs, &mut marks, v);
     }
     rules(file, section, relocs, v)
 }
@@ -701,6 +675,10 @@ fn main() {
     }
     if is_argument(1, b"rules") {
         return with_file(2);
+    }
+    if is_argument(1, b"example") {
+        firmware::example();
+        return;
     }
     if arguments() < 2 {
         return usage();

@@ -1,11 +1,11 @@
--- `numbers` stores within its room and ends: the measure counts down from the bytes of the text.
+-- `read` stores within its room and ends: the measure counts down from the bytes of the text.
 use Prim.Native.Nat.{_≤_}
 use mathlib.Core.Path.{_≡_}
 use native.Mathlib.Omega.{arith}
 use lib.ListN.{length, length-set}
 use borrow.Author.Needs.{needs}
-use Rattle.unwind_cli.proofs.numbers.Statement.{statement}
-use Rattle.unwind_cli.proofs.numbers.Tie as tie
+use Rattle.numbers.proofs.read.Statement.{statement}
+use Rattle.numbers.proofs.read.Tie as tie
 
 abbrev Inv-loop : tie.InvT-loop
 Inv-loop s out₀ at₀ n₀ left₀ out at n left = (n ≤ length out) × (length out ≡ length out₀)
@@ -79,8 +79,8 @@ same-length-4 c = search needs
 returns-4 : tie.Need-returns-4 Inv-loop μ-loop
 returns-4 c = search needs
 
-pub numbers-spec : {M : Type 1} → statement M
-numbers-spec =
+pub read-spec : {M : Type 1} → statement M
+read-spec =
     tie.close
     (tie.spec
     Inv-loop

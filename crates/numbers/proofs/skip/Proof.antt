@@ -2,8 +2,8 @@
 use Prim.Native.Nat.{_-_}
 use lib.ListN.{length}
 use borrow.Author.Needs.{needs}
-use Rattle.unwind_cli.proofs.skip.Statement.{statement}
-use Rattle.unwind_cli.proofs.skip.Tie as tie
+use Rattle.numbers.proofs.skip.Statement.{statement}
+use Rattle.numbers.proofs.skip.Tie as tie
 
 abbrev Inv-loop : tie.InvT-loop
 Inv-loop s at spaces i₀ i = Unit
