@@ -159,7 +159,7 @@ fn distance_back(s: &[u8], at: usize, end: usize) -> Number
 }
 
 // Where the header of the record from `at` to `end` starts, as its second field says or, in debug_frame, that field's relocation.
-fn header_place(s: &[u8], relocs: &[u64], debug: bool, at: usize, end: usize) -> Number
+pub fn header_place(s: &[u8], relocs: &[u64], debug: bool, at: usize, end: usize) -> Number
     requires { ⌜ (at + 8 ≤ end) × (end ≤ length (now s)) ⌝ }
     ensures { λ r. ⌜ r ≡ numberOf (headerPlace debug (relocationsOf (now (relocs .entry))) (entryIn (now (s .entry)) at end)) ⌝ }
 {
@@ -396,7 +396,7 @@ fn letters_in(s: &[u8], word: u64, p: Promise) -> Number
 // ---- the fields of a header
 
 // Where the operations start, the bytes of a record's pointer to call sites, and the signal mark.
-enum Header {
+pub enum Header {
     Fields(usize, u64, bool),
     Bad,
 }
@@ -453,7 +453,7 @@ fn header_factors(s: &[u8], at: usize, debug: bool, word: u64, p: Promise) -> He
 }
 
 // Question 64 of a header, by the bytes behind its length.
-fn parse_header(s: &[u8], debug: bool, word: u64) -> Header
+pub fn parse_header(s: &[u8], debug: bool, word: u64) -> Header
     requires { ⌜ T (isWord word) ⌝ }
     ensures { λ r. ⌜ Heads (now (s .entry)) r (parseHeader debug word (now (s .entry))) ⌝ }
 {
@@ -545,7 +545,7 @@ pub enum Locating {
 }
 
 // Question 64 of the header from `cie` to `past`, and then of the record from `at` to `end`.
-fn fields(
+pub fn fields(
     s: &[u8],
     debug: bool,
     word: u64,

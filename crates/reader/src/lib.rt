@@ -11,7 +11,7 @@ use format::Reading;
 use locate::Located;
 use locate::Locating;
 
-fn is_word(w: u64) -> bool
+pub fn is_word(w: u64) -> bool
     ensures { λ r. ⌜ r ≡ isWord w ⌝ }
 {
     if w == 2 {

@@ -1,0 +1,43 @@
+-- `rules` asks what it lends the section for: the word, and places within it.
+use mathlib.Core.Path.{sym, _∙_}
+use borrow.Author.Tests.{not-false}
+use borrow.Author.Needs.{needs}
+use Rattle.entries.proofs.rules.Statement.{statement}
+use Rattle.entries.proofs.rules.Tie as tie
+
+returns : tie.Need-returns
+returns c = search needs
+
+returns-2 : tie.Need-returns-2
+returns-2 c = search needs
+
+returns-3 : tie.Need-returns-3
+returns-3 c = search needs
+
+returns-4 : tie.Need-returns-4
+returns-4 c = search needs
+
+is-word-requires : tie.Need-is-word-requires
+is-word-requires c κs = search needs
+
+returns-5 : tie.Need-returns-5
+returns-5 c = search needs
+
+walk-requires : tie.Need-walk-requires
+walk-requires c κs = (rw (sym (c .before .is-word .ensures) ∙ not-false _ (c .if5 .left)) tt, search needs, search needs, search needs, search needs)
+
+returns-6 : tie.Need-returns-6
+returns-6 c = search needs
+
+pub rules-spec : {M : Type 1} → statement M
+rules-spec =
+    tie.close
+    (tie.spec
+    returns
+    returns-2
+    returns-3
+    returns-4
+    is-word-requires
+    returns-5
+    walk-requires
+    returns-6)

@@ -1,0 +1,67 @@
+-- `lines` ends: the measure counts down from the bytes of the operations.
+use mathlib.Core.Path.{_≡_}
+use lib.ListN.{length}
+use borrow.Author.Needs.{needs}
+use Rattle.listing.proofs.lines.Statement.{statement}
+use Rattle.listing.proofs.lines.Tie as tie
+
+abbrev Inv-loop : tie.InvT-loop
+Inv-loop out₀ at s l v start regs ops past₀ i₀ loc₀ left₀ out past i loc left = length out ≡ length out₀
+
+abbrev μ-loop : tie.MeasureT-loop
+μ-loop out₀ at s l v start regs ops past₀ i₀ loc₀ left₀ out past i loc left = left
+
+span-requires : tie.Need-span-requires Inv-loop μ-loop
+span-requires c κs = search needs
+
+loop-holds : tie.Need-loop-holds Inv-loop μ-loop
+loop-holds c = search needs
+
+line-requires : tie.Need-line-requires Inv-loop μ-loop
+line-requires c κs = search needs
+
+same-length : tie.Need-same-length Inv-loop μ-loop
+same-length c = search needs
+
+returns : tie.Need-returns Inv-loop μ-loop
+returns c = search needs
+
+turn-requires : tie.Need-turn-requires Inv-loop μ-loop
+turn-requires c κs = search needs
+
+sub-left : tie.Need-sub-left Inv-loop μ-loop
+sub-left c = search needs
+
+loop-less : tie.Need-loop-less Inv-loop μ-loop
+loop-less c = search needs
+
+loop-again : tie.Need-loop-again Inv-loop μ-loop
+loop-again c = search needs
+
+line-requires-2 : tie.Need-line-requires-2 Inv-loop μ-loop
+line-requires-2 c κs = search needs
+
+same-length-2 : tie.Need-same-length-2 Inv-loop μ-loop
+same-length-2 c = search needs
+
+returns-2 : tie.Need-returns-2 Inv-loop μ-loop
+returns-2 c = search needs
+
+pub lines-spec : {M : Type 1} → statement M
+lines-spec =
+    tie.close
+    (tie.spec
+    Inv-loop
+    μ-loop
+    span-requires
+    loop-holds
+    line-requires
+    same-length
+    returns
+    turn-requires
+    sub-left
+    loop-less
+    loop-again
+    line-requires-2
+    same-length-2
+    returns-2)

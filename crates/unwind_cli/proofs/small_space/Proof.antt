@@ -1,0 +1,12 @@
+-- `small_space` has the length that it says.
+use Prim.Native.Nat.{ℕ}
+use mathlib.Core.Path.{sym}
+use lib.ListN.{length-replicate}
+use Rattle.unwind_cli.proofs.small_space.Statement.{statement}
+use Rattle.unwind_cli.proofs.small_space.Tie as tie
+
+returns : tie.Need-returns
+returns c = sym (length-replicate {A = ℕ} 1048577 0)
+
+pub small-space-spec : {M : Type 1} → statement M
+small-space-spec = tie.close (tie.spec returns)
