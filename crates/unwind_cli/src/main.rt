@@ -499,7 +499,7 @@ fn rule(out: &mut [u8], at: usize, r: Rule) -> usize {
 fn register(out: &mut [u8], at: usize, s: &[u8], l: Located, v: View, p: u64, reg: u64) -> usize {
     let a = shown::register(out, at, reg, v.x86_64);
     if 65535 < reg {
-        return text(out, a, b": no register\n");
+        return a;
     }
     match entries::rules(s, l, v.word, p, reg as u16) {
         Reading::Rules(_, r, _) => rule(out, a, r),
@@ -552,7 +552,7 @@ fn signing(out: &mut [u8], at: usize, on: bool) -> usize {
 }
 
 // The rules of a record that was found, at an offset.
-fn answer(file: &[u8], s: &[u8], l: Located, v: View, k: u64, p: u64, reg: u64) {
+fn answer(file: &[u8], total: usize, s: &[u8], l: Located, v: View, k: u64, p: u64, reg: u64) {
     if l.size <= p {
         complain_offset(file, k, p, 65);
         return;
@@ -560,6 +560,7 @@ fn answer(file: &[u8], s: &[u8], l: Located, v: View, k: u64, p: u64, reg: u64) 
     match entries::rules(s, l, v.word, p, 0) {
         Reading::Refused(n) => complain_offset(file, k, p, n),
         Reading::Rules(f, _, on) => {
+            note(s.len(), total);
             let mut out = io::buffer();
             let a = frame(&mut out, 0, f, v.x86_64);
             let b = asked_registers(&mut out, a, s, l, v, p, reg);
@@ -569,7 +570,7 @@ fn answer(file: &[u8], s: &[u8], l: Located, v: View, k: u64, p: u64, reg: u64) 
     }
 }
 
-fn rules(file: &[u8], s: &[u8], relocs: &[u64], v: View) {
+fn rules(file: &[u8], total: usize, s: &[u8], relocs: &[u64], v: View) {
     if option(b"--record") == 0 || option(b"--at") == 0 {
         complain(b"rules", b"--record K and --at P are asked for");
         return;
@@ -583,15 +584,19 @@ fn rules(file: &[u8], s: &[u8], relocs: &[u64], v: View) {
     let Parsed::Is(reg) = number(b"--register", 65536) else {
         return;
     };
-    found(file, s, relocs, v, k, p, reg);
+    if 65535 < reg && option(b"--register") != 0 {
+        complain(b"--register", b"registers are 0 to 65535");
+        return;
+    }
+    found(file, total, s, relocs, v, k, p, reg);
 }
 
-fn found(file: &[u8], s: &[u8], relocs: &[u64], v: View, k: u64, p: u64, reg: u64) {
+fn found(file: &[u8], total: usize, s: &[u8], relocs: &[u64], v: View, k: u64, p: u64, reg: u64) {
     if !reader::is_word(v.word) {
         return;
     }
     match locate::locate(s, relocs, v.debug, v.word, k) {
-        Locating::Found(l) => answer(file, s, l, v, k, p, reg),
+        Locating::Found(l) => answer(file, total, s, l, v, k, p, reg),
         Locating::No(n) => complain_offset(file, k, p, n),
     }
 }
@@ -616,7 +621,7 @@ fn run(command: u64, file: &[u8], s: &[u8], v: View) {
     if command == 1 {
         return check(file, s.len(), section, relocs, &mut marks, v);
     }
-    rules(file, section, relocs, v)
+    rules(file, s.len(), section, relocs, v)
 }
 
 fn with_file(command: u64) {

@@ -23,11 +23,8 @@ answer-requires c κs = search needs
 enum-known-n : tie.Need-enum-known-n
 enum-known-n c = search needs
 
-slice-aggregate-complain-number : tie.Need-slice-aggregate-complain-number
-slice-aggregate-complain-number c = search needs
-
-complain-number-requires : tie.Need-complain-number-requires
-complain-number-requires c κs = search needs
+complain-offset-requires : tie.Need-complain-offset-requires
+complain-offset-requires c κs = search needs
 
 returns-2 : tie.Need-returns-2
 returns-2 c = search needs
@@ -45,7 +42,6 @@ found-spec =
     enum-known-l
     answer-requires
     enum-known-n
-    slice-aggregate-complain-number
-    complain-number-requires
+    complain-offset-requires
     returns-2
     returns-3)

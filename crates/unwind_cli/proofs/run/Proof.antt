@@ -23,9 +23,6 @@ returns c = search needs
 end-of-requires : tie.Need-end-of-requires
 end-of-requires c κs = search needs
 
-note-requires : tie.Need-note-requires
-note-requires c κs = search needs
-
 slice-aggregate-section : tie.Need-slice-aggregate-section
 slice-aggregate-section c = simp length-take (omega arith)
 
@@ -69,7 +66,6 @@ run-spec =
     relocations-requires
     returns
     end-of-requires
-    note-requires
     slice-aggregate-section
     array-share-prefix-room
     slice-aggregate-relocs
