@@ -3,7 +3,8 @@
 
 Our own sections become ELF objects of no machine, as in frames.py; the program's eh_frame is taken out by objcopy. Both listings are read
 into entries: place, length, kind, fields and the rules by location, and the operations by name against readelf's plain listing. Where a
-record holds an operation that our tables never use, what stands before it is compared. What is left out: with readelf unstated and
+record holds an operation that our tables never use, what stands before it is compared. What is left out: entries that the reader refuses
+by their fields; with readelf unstated and
 undefined are written alike, a record of padding alone has no table, and a register that it keeps no column for makes it lose others."""
 
 import collections
@@ -43,7 +44,7 @@ class Differs(Exception):
 class Entry:
     def __init__(self, place, length, kind, fields):
         self.place, self.length, self.kind, self.fields = place, length, kind, fields
-        self.columns, self.rows, self.operations, self.foreign = [], {}, [], False
+        self.columns, self.rows, self.operations, self.foreign, self.refused = [], {}, [], False, False
 
 
 def entries(text):
@@ -51,17 +52,19 @@ def entries(text):
     found = []
     for line in text.split("\n"):
         header = re.match(r'([0-9a-f]{8}) ([0-9a-f]+) [0-9a-f]{8} CIE "(.*)" cf=(\d+) df=(-?\d+) ra=(\d+)$', line)
-        record = re.match(r"([0-9a-f]{8}) ([0-9a-f]+) [0-9a-f]{8} FDE cie=([0-9a-f]+) pc=([0-9a-f]+)\.\.([0-9a-f]+)$", line)
+        record = re.match(r"([0-9a-f]{8}) ([0-9a-f]+) [0-9a-f]{8} FDE cie=([0-9a-f]+) pc=([0-9a-f]+)(?:\.\.([0-9a-f]+))?$", line)
         plain = re.match(r"([0-9a-f]{8}) ([0-9a-f]+) [0-9a-f]{8} CIE$", line)
         row = re.match(r"([0-9a-f]{4,16}) (\S.*)$", line)
         for match, kind in ((header, "CIE"), (record, "FDE"), (plain, "CIE")):
             if match:
                 place, length, *fields = match.groups()
                 found.append(Entry(int(place, 16), int(length, 16), kind, fields))
-        if header or record or plain or not found:
+        if header or record or plain or not found or "ZERO terminator" in line:
             continue
-        if "not one that these tables use" in line:
+        if "passed over" in line:
             found[-1].foreign = True
+        elif line.startswith("  refused"):
+            found[-1].refused = True
         elif line.startswith("  DW_CFA"):
             found[-1].operations.append(line.strip())
         elif line.startswith("   LOC"):
@@ -107,6 +110,9 @@ def compare(ours, theirs, plain, counts):
     for mine, other, listed in zip(ours, theirs, plain):
         if (mine.kind, mine.length) != (other.kind, other.length):
             raise Differs(f"entry {mine.place:x}: readelf says {other.kind} {other.length:x}, ours is {mine.kind} {mine.length:x}")
+        if mine.refused:
+            counts["refused"] += 1
+            continue
         if mine.fields != other.fields:
             raise Differs(f"entry {mine.place:x}: readelf says {other.fields}, ours are {mine.fields}")
         compare_rows(mine, other, counts)
@@ -176,7 +182,7 @@ def main():
         sys.exit(f"dump: {why}")
     print(
         f"dump: listed as readelf lists them: {counts['lists']} lists and {counts['programs']} programs, {counts['entries']} entries, "
-        f"{counts['operations']} operations, {counts['locations']} locations, {counts['rules']} rules"
+        f"{counts['operations']} operations, {counts['locations']} locations, {counts['rules']} rules; entries refused: {counts['refused']}"
     )
 
 

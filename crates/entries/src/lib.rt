@@ -69,7 +69,7 @@ pub fn end_of(s: &[u8], debug: bool) -> usize
         if n == 0 {
             return further(s, at, 0);
         }
-        let e = cursor::entry_at(s, debug, at);
+        let e = cursor::next_entry(s, debug, at);
         if e.number != 0 {
             return s.len();
         }
@@ -229,14 +229,14 @@ pub fn mark(marks: &mut [u8], at: usize) {
     }
 }
 
-// The record from `at` to `end`: where its header starts, and what `fields` says. A header is one that was marked.
+// The record from `at` to `end`: where its header starts, 0 where it has none, and what `fields` says. A header is one that was marked.
 pub struct Held {
     pub header: usize,
     pub located: Located,
     pub number: u64,
 }
 
-fn refused(number: u64) -> Held {
+fn refused(header: usize, number: u64) -> Held {
     let located = Located {
         header: 0,
         header_end: 0,
@@ -247,7 +247,7 @@ fn refused(number: u64) -> Held {
         signal: false,
     };
     Held {
-        header: 0,
+        header,
         located,
         number,
     }
@@ -263,19 +263,19 @@ pub fn record(
     end: usize,
 ) -> Held {
     let Number::Is(place) = header_place(s, relocations, debug, at, end) else {
-        return refused(63);
+        return refused(0, 63);
     };
     if byte_at(marks, place) == 0 {
-        return refused(63);
+        return refused(0, 63);
     }
-    let e = cursor::entry_at(s, debug, place);
+    let e = cursor::next_entry(s, debug, place);
     match fields(s, debug, word, place, e.next, at, end) {
         Locating::Found(located) => Held {
             header: place,
             located,
             number: 0,
         },
-        Locating::No(n) => refused(n),
+        Locating::No(n) => refused(place, n),
     }
 }
 

@@ -719,7 +719,7 @@ pub fn section(
     let mut place = 0;
     let mut left = s.len();
     while 0 < left {
-        let e = cursor::entry_at(s, v.debug, place);
+        let e = cursor::next_entry(s, v.debug, place);
         if e.number != 0 {
             return past;
         }

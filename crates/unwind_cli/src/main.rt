@@ -390,7 +390,7 @@ fn tally(s: &[u8], relocs: &[u64], marks: &mut [u8], v: View) -> Sums {
     };
     let mut left = s.len();
     while 0 < left {
-        let e = cursor::entry_at(s, v.debug, t.end);
+        let e = cursor::next_entry(s, v.debug, t.end);
         if e.number != 0 {
             return t;
         }
@@ -445,7 +445,7 @@ fn fits(s: &[u8], debug: bool) -> usize {
     let mut at = 0;
     let mut left = s.len();
     while 0 < left {
-        let e = cursor::entry_at(s, debug, at);
+        let e = cursor::next_entry(s, debug, at);
         if e.number != 0 {
             return at;
         }

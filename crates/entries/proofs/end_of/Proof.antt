@@ -30,8 +30,8 @@ further-requires c κs = search needs
 returns-2 : tie.Need-returns-2 Inv-loop μ-loop
 returns-2 c = search needs
 
-entry-at-requires : tie.Need-entry-at-requires Inv-loop μ-loop
-entry-at-requires c κs = search needs
+next-entry-requires : tie.Need-next-entry-requires Inv-loop μ-loop
+next-entry-requires c κs = search needs
 
 returns-3 : tie.Need-returns-3 Inv-loop μ-loop
 returns-3 c = search needs
@@ -61,7 +61,7 @@ end-of-spec =
     returns
     further-requires
     returns-2
-    entry-at-requires
+    next-entry-requires
     returns-3
     sub-left
     loop-less
