@@ -218,6 +218,10 @@ def compare(text, counts, builds):
         if line.startswith("# short"):
             _, _, number, count, entry = line.split(" ", 4)
             counts[entry][f"refused {number}"] += int(count)
+        elif line.startswith("# structs"):
+            _, _, compared, _, passed, *_ = line.split()
+            counts["structs"]["compared"] += int(compared)
+            counts["structs"]["passed over"] += int(passed)
 
 
 def batches(kind, *words):
@@ -260,6 +264,8 @@ def main():
         print(f"{entry}: {lists} lists: {listed(found)}")
         for build in builds:
             print(f"    the Rust's answer, {build} build: {listed(counts[f'{entry}, {build}'])}")
+    structs = counts["structs"]
+    print(f"as structs too: {structs['compared']} lists, and {structs['passed over']} that no structs mean")
     print(f"exports: {' '.join(sys.argv[1:])}: {total} lists, no difference")
 
 

@@ -2,13 +2,15 @@
  *
  * Each case is called several times: with more room than it needs; where it is accepted with buffers exactly full, with
  * four numbers behind the last relocation, and with each buffer one short. Every buffer is compared with what it held
- * before, and the elements behind the lent ones too. A line on standard error and status 1 say what went wrong. */
+ * before, and the elements behind the lent ones too. The same list goes to the entries over structs (structs.c). A line on
+ * standard error and status 1 say what went wrong. */
 #include <inttypes.h>
 #include <stdio.h>
 #include <stdlib.h>
 #include <string.h>
 
 #include "../include/unwind.h"
+#include "structs.h"
 
 enum { MACHINE, FUNCTIONS, ROWS, LANDINGS, PAIRS, CODES, LISTS };
 static const char *const KEYS[LISTS] = {"machine", "functions", "rows", "landings", "pairs", "codes"};
@@ -187,6 +189,19 @@ static size_t reached(const list *l, size_t stride, size_t j) {
     return sum;
 }
 
+/* The entries over structs say the same. */
+static void check_structs(const a_case *c, const size_t room[4]) {
+    const list *l = c->lists;
+    structs_case s = {
+        c->entry == DEBUG_FRAME, l[MACHINE].at, l[MACHINE].count, c->format,
+        {l[FUNCTIONS].at, l[ROWS].at, l[LANDINGS].at, l[PAIRS].at},
+        {l[FUNCTIONS].count, l[ROWS].count, l[LANDINGS].count, l[PAIRS].count},
+        {room[0], room[1], room[2], room[3]},
+    };
+    const char *what = structs_differ(&s);
+    if (what) wrong(c, what);
+}
+
 static void ask(const a_case *c) {
     static lent b;
     const list *f = &c->lists[FUNCTIONS];
@@ -200,6 +215,7 @@ static void ask(const a_case *c) {
         size_t want[4] = {n + 3, 160 * n + 14 * rows + 3, 5 * (8 * n + 2 * rows) + 3, 16 * n + 32 * landings + 8 * rows + 3};
         memcpy(room, want, sizeof room);
     }
+    if (c->entry != SEH) check_structs(c, room);
     lend(&b, room);
     unwind_written w = call(c, &b);
     printf("case %s\n", c->name);
@@ -278,5 +294,6 @@ int main(void) {
     size_t room = 0;
     while (getline(&line, &room, stdin) != -1) read_line(&c, line);
     print_short();
+    printf("# structs %" PRIu64 " compared, %" PRIu64 " passed over\n", structs_compared, structs_passed_over);
     return failed;
 }

@@ -1,4 +1,4 @@
-//! Links libunwind.a, from the folder that UNWIND_LIB_DIR names or from ../../target/staticlib, where `rt staticlib unwind` puts it.
+//! Links libunwind.a, from the folder that UNWIND_LIB_DIR names or from ../../target/lib, where bindings/archive puts it.
 
 use std::path::PathBuf;
 use std::{env, process};
@@ -8,12 +8,12 @@ fn main() {
     let named = env::var_os("UNWIND_LIB_DIR").map(PathBuf::from);
     let folder = named.unwrap_or_else(|| {
         let here = env::var_os("CARGO_MANIFEST_DIR").map_or_else(PathBuf::new, PathBuf::from);
-        here.join("../../target/staticlib")
+        here.join("../../target/lib")
     });
     let archive = folder.join("libunwind.a");
     if !archive.is_file() {
         eprintln!("no {}", archive.display());
-        eprintln!("`rt staticlib unwind` in the repository's folder makes it; UNWIND_LIB_DIR names another folder.");
+        eprintln!("bindings/archive in the repository's folder makes it; UNWIND_LIB_DIR names another folder.");
         process::exit(1);
     }
     println!("cargo:rerun-if-changed={}", archive.display());

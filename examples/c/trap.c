@@ -1,8 +1,8 @@
 /* A trap in a small firmware: writes the table of its three functions, checks their rows, and prints by which rules the caller
  * is found from each frame of the chain. It prints what bindings/rust/examples/trap.rs prints.
  *
- *     rt staticlib unwind
- *     gcc -O2 -Wall -Wextra -Werror -o target/trap examples/c/trap.c target/staticlib/libunwind.a
+ *     bindings/archive
+ *     gcc -O2 -Wall -Wextra -Werror -o target/trap examples/c/trap.c target/lib/libunwind.a
  *     target/trap */
 #include <inttypes.h>
 #include <stdio.h>

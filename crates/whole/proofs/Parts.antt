@@ -7,12 +7,12 @@ use native.Mathlib.Nat.{add-sub-cancel-left}
 use lib.ListN.{take, drop}
 use lib.Dec.{T}
 use Rattle.format.specs.declared.Outcome.{Outcome}
-use Rattle.format.specs.Questions.{Given, Room, Answer, ask, unless}
+use Rattle.format.specs.Questions.{Given, Room, Answer, ask, unless, givenOf}
 use Rattle.format.specs.declared.Outcome.the-variants.{Refused}
 use Rattle.format.specs.Test.{pick}
 use Rattle.format.specs.Answers.{Writes, outcomeOf, outcomeNumbers, afterwards}
 use Rattle.unwind.specs.declared.Written.{Written}
-use Rattle.unwind.specs.Entries.{given, writtenNumbers, Exports}
+use Rattle.unwind.specs.Entries.{writtenNumbers, Exports}
 use Rattle.unwind.proofs.Delivering.{exports}
 use Rattle.unwind.proofs.Formats.{same-answer}
 use Rattle.whole.specs.Whole.{part, packed, onceReady}
@@ -21,7 +21,7 @@ module _ (machine xs : List ℕ) (f r l p : ℕ) where
   -- the lists as the code cuts them
   abbrev cut : Given
   cut =
-      given machine (take (18 * f) xs) (take (18 * f + 4 * r - 18 * f) (drop (18 * f) xs))
+      givenOf machine (take (18 * f) xs) (take (18 * f + 4 * r - 18 * f) (drop (18 * f) xs))
       (take (18 * f + 4 * r + 3 * l - (18 * f + 4 * r)) (drop (18 * f + 4 * r) xs))
       (take (18 * f + 4 * r + 3 * l + 4 * p - (18 * f + 4 * r + 3 * l)) (drop (18 * f + 4 * r + 3 * l) xs))
 

@@ -5,13 +5,12 @@ use mathlib.Core.List.{List, _++_}
 use lib.Dec.{leb, eqb}
 use lib.ListN.{length, take, drop}
 use Rattle.format.specs.Test.{all}
-use Rattle.format.specs.Questions.{Given, Room, Answer, ask, unless, relaxedTable, relaxedDebugFrame}
+use Rattle.format.specs.Questions.{Given, Room, Answer, ask, unless, relaxedTable, relaxedDebugFrame, givenOf}
 use Rattle.structs.specs.declared.Line.{Line}
 use Rattle.structs.specs.declared.Landing.{Landing}
 use Rattle.structs.specs.declared.Pair.{Pair}
 use Rattle.structs.specs.declared.Function.{Function}
 use Rattle.structs.specs.Structs.{lineNumbers, landingNumbers, pairNumbers, functionNumbers, numbersOf}
-use Rattle.unwind.specs.Entries.{given}
 
 -- ---- the lent list
 
@@ -33,7 +32,7 @@ part xs p n = take n (drop p xs)
 -- the four lists that stand in it, one after the other
 unfoldable pub packed : List ℕ → List ℕ → (functions rows landings pairs : ℕ) → Given
 packed machine xs f r l p =
-    given machine (part xs 0 (18 * f)) (part xs (18 * f) (4 * r)) (part xs (18 * f + 4 * r) (3 * l)) (part xs (18 * f + 4 * r + 3 * l) (4 * p))
+    givenOf machine (part xs 0 (18 * f)) (part xs (18 * f) (4 * r)) (part xs (18 * f + 4 * r) (3 * l)) (part xs (18 * f + 4 * r + 3 * l) (4 * p))
 
 -- ---- the entries
 
@@ -44,7 +43,7 @@ numbersIn fs rs ls ps = numbersOf functionNumbers fs ++ (numbersOf lineNumbers r
 -- what the structs mean
 unfoldable pub meant : List ℕ → List Function → List Line → List Landing → List Pair → Given
 meant machine fs rs ls ps =
-    given machine (numbersOf functionNumbers fs) (numbersOf lineNumbers rs) (numbersOf landingNumbers ls) (numbersOf pairNumbers ps)
+    givenOf machine (numbersOf functionNumbers fs) (numbersOf lineNumbers rs) (numbersOf landingNumbers ls) (numbersOf pairNumbers ps)
 
 -- 54 where the lent list is not ready, asked first
 unfoldable pub onceReady : Bool → Answer → Answer

@@ -7,9 +7,9 @@ ghost use lib.Dec.{leb};
 ghost use lib.ListN.{length, replicate};
 ghost use Rattle.format.specs.Put.{put};
 ghost use Rattle.format.specs.Test.{all, pick};
-ghost use Rattle.format.specs.Questions.{relaxedTable, relaxedDebugFrame};
+ghost use Rattle.format.specs.Questions.{relaxedTable, relaxedDebugFrame, roomIn};
 ghost use Rattle.format.specs.Answers.{outcomeNumbers};
-ghost use Rattle.unwind.specs.Entries.{room, writtenNumbers, Exports};
+ghost use Rattle.unwind.specs.Entries.{writtenNumbers, Exports};
 ghost use Rattle.whole.specs.Whole.{needed, isZero, readyFor, packed, onceReady, numbersIn, relaxedTableOf, relaxedDebugFrameOf};
 use format::Outcome;
 use structs::Function;
@@ -92,7 +92,7 @@ fn packed_table(
     sites: &mut [u8],
 ) -> Written
     requires { ⌜ needed functions rows landings pairs ≤ length (now numbers) ⌝ }
-    ensures { λ r. ⌜ Exports (relaxedTable format (packed (now (machine .entry)) (now (numbers .entry)) functions rows landings pairs) (room (now (places .entry)) (now (bytes .entry)) (now (relocations .entry)) (now (sites .entry)))) r (now (places .entry)) (now (places .exit)) (now (bytes .entry)) (now (bytes .exit)) (now (relocations .entry)) (now (relocations .exit)) (now (sites .entry)) (now (sites .exit)) ⌝ }
+    ensures { λ r. ⌜ Exports (relaxedTable format (packed (now (machine .entry)) (now (numbers .entry)) functions rows landings pairs) (roomIn (now (places .entry)) (now (bytes .entry)) (now (relocations .entry)) (now (sites .entry)))) r (now (places .entry)) (now (places .exit)) (now (bytes .entry)) (now (bytes .exit)) (now (relocations .entry)) (now (relocations .exit)) (now (sites .entry)) (now (sites .exit)) ⌝ }
     ensures { λ r. ⌜ now (numbers .exit) ≡ replicate (length (now (numbers .entry))) 0 ⌝ }
 {
     let a = 18 * functions;
@@ -129,7 +129,7 @@ fn packed_debug_frame(
     relocations: &mut [u64],
 ) -> Written
     requires { ⌜ needed functions rows landings pairs ≤ length (now numbers) ⌝ }
-    ensures { λ r. ⌜ Exports (relaxedDebugFrame format (packed (now (machine .entry)) (now (numbers .entry)) functions rows landings pairs) (room (now (places .entry)) (now (bytes .entry)) (now (relocations .entry)) [])) r (now (places .entry)) (now (places .exit)) (now (bytes .entry)) (now (bytes .exit)) (now (relocations .entry)) (now (relocations .exit)) [] [] ⌝ }
+    ensures { λ r. ⌜ Exports (relaxedDebugFrame format (packed (now (machine .entry)) (now (numbers .entry)) functions rows landings pairs) (roomIn (now (places .entry)) (now (bytes .entry)) (now (relocations .entry)) [])) r (now (places .entry)) (now (places .exit)) (now (bytes .entry)) (now (bytes .exit)) (now (relocations .entry)) (now (relocations .exit)) [] [] ⌝ }
     ensures { λ r. ⌜ now (numbers .exit) ≡ replicate (length (now (numbers .entry))) 0 ⌝ }
 {
     let a = 18 * functions;
@@ -174,7 +174,7 @@ fn table_in(
     sites: &mut [u8],
 ) -> Written
     requires { ⌜ (ok ≡ true → needed functions rows landings pairs ≤ length (now numbers)) ⌝ }
-    ensures { λ r. ⌜ Exports (onceReady ok (relaxedTable format (packed (now (machine .entry)) (now (numbers .entry)) functions rows landings pairs) (room (now (places .entry)) (now (bytes .entry)) (now (relocations .entry)) (now (sites .entry))))) r (now (places .entry)) (now (places .exit)) (now (bytes .entry)) (now (bytes .exit)) (now (relocations .entry)) (now (relocations .exit)) (now (sites .entry)) (now (sites .exit)) × (now (numbers .exit) ≡ pick ok (replicate (length (now (numbers .entry))) 0) (now (numbers .entry))) ⌝ }
+    ensures { λ r. ⌜ Exports (onceReady ok (relaxedTable format (packed (now (machine .entry)) (now (numbers .entry)) functions rows landings pairs) (roomIn (now (places .entry)) (now (bytes .entry)) (now (relocations .entry)) (now (sites .entry))))) r (now (places .entry)) (now (places .exit)) (now (bytes .entry)) (now (bytes .exit)) (now (relocations .entry)) (now (relocations .exit)) (now (sites .entry)) (now (sites .exit)) × (now (numbers .exit) ≡ pick ok (replicate (length (now (numbers .entry))) 0) (now (numbers .entry))) ⌝ }
 {
     if !ok {
         return no_room();
@@ -208,7 +208,7 @@ fn debug_frame_in(
     relocations: &mut [u64],
 ) -> Written
     requires { ⌜ (ok ≡ true → needed functions rows landings pairs ≤ length (now numbers)) ⌝ }
-    ensures { λ r. ⌜ Exports (onceReady ok (relaxedDebugFrame format (packed (now (machine .entry)) (now (numbers .entry)) functions rows landings pairs) (room (now (places .entry)) (now (bytes .entry)) (now (relocations .entry)) []))) r (now (places .entry)) (now (places .exit)) (now (bytes .entry)) (now (bytes .exit)) (now (relocations .entry)) (now (relocations .exit)) [] [] × (now (numbers .exit) ≡ pick ok (replicate (length (now (numbers .entry))) 0) (now (numbers .entry))) ⌝ }
+    ensures { λ r. ⌜ Exports (onceReady ok (relaxedDebugFrame format (packed (now (machine .entry)) (now (numbers .entry)) functions rows landings pairs) (roomIn (now (places .entry)) (now (bytes .entry)) (now (relocations .entry)) []))) r (now (places .entry)) (now (places .exit)) (now (bytes .entry)) (now (bytes .exit)) (now (relocations .entry)) (now (relocations .exit)) [] [] × (now (numbers .exit) ≡ pick ok (replicate (length (now (numbers .entry))) 0) (now (numbers .entry))) ⌝ }
 {
     if !ok {
         return no_room();
@@ -271,7 +271,7 @@ pub extern "C" fn unwind_relaxed_table_of(
     relocations: &mut [u64],
     sites: &mut [u8],
 ) -> Written
-    ensures { λ r. ⌜ Exports (relaxedTableOf format (now (machine .entry)) (now (numbers .entry)) (now (functions .entry)) (now (rows .entry)) (now (landings .entry)) (now (pairs .entry)) (room (now (places .entry)) (now (bytes .entry)) (now (relocations .entry)) (now (sites .entry)))) r (now (places .entry)) (now (places .exit)) (now (bytes .entry)) (now (bytes .exit)) (now (relocations .entry)) (now (relocations .exit)) (now (sites .entry)) (now (sites .exit)) × (now (numbers .exit) ≡ now (numbers .entry)) ⌝ }
+    ensures { λ r. ⌜ Exports (relaxedTableOf format (now (machine .entry)) (now (numbers .entry)) (now (functions .entry)) (now (rows .entry)) (now (landings .entry)) (now (pairs .entry)) (roomIn (now (places .entry)) (now (bytes .entry)) (now (relocations .entry)) (now (sites .entry)))) r (now (places .entry)) (now (places .exit)) (now (bytes .entry)) (now (bytes .exit)) (now (relocations .entry)) (now (relocations .exit)) (now (sites .entry)) (now (sites .exit)) × (now (numbers .exit) ≡ now (numbers .entry)) ⌝ }
 {
     let ok = pack(functions, rows, landings, pairs, numbers);
     table_in(
@@ -304,7 +304,7 @@ pub extern "C" fn unwind_relaxed_debug_frame_of(
     bytes: &mut [u8],
     relocations: &mut [u64],
 ) -> Written
-    ensures { λ r. ⌜ Exports (relaxedDebugFrameOf format (now (machine .entry)) (now (numbers .entry)) (now (functions .entry)) (now (rows .entry)) (now (landings .entry)) (now (pairs .entry)) (room (now (places .entry)) (now (bytes .entry)) (now (relocations .entry)) [])) r (now (places .entry)) (now (places .exit)) (now (bytes .entry)) (now (bytes .exit)) (now (relocations .entry)) (now (relocations .exit)) [] [] × (now (numbers .exit) ≡ now (numbers .entry)) ⌝ }
+    ensures { λ r. ⌜ Exports (relaxedDebugFrameOf format (now (machine .entry)) (now (numbers .entry)) (now (functions .entry)) (now (rows .entry)) (now (landings .entry)) (now (pairs .entry)) (roomIn (now (places .entry)) (now (bytes .entry)) (now (relocations .entry)) [])) r (now (places .entry)) (now (places .exit)) (now (bytes .entry)) (now (bytes .exit)) (now (relocations .entry)) (now (relocations .exit)) [] [] × (now (numbers .exit) ≡ now (numbers .entry)) ⌝ }
 {
     let ok = pack(functions, rows, landings, pairs, numbers);
     debug_frame_in(

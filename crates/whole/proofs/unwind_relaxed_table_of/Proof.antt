@@ -41,7 +41,7 @@ use denote.Triple.Walked.{says, Stays, stay-none, stay-none-slice, gave-slice, w
 use denote.Exit.{yes}
 use Rattle.format.specs.Put.{put}
 use Rattle.format.specs.Test.{pick as choose}
-use Rattle.format.specs.Questions.{relaxedTable}
+use Rattle.format.specs.Questions.{relaxedTable, roomIn}
 use Rattle.structs.specs.declared.Function.{Function}
 use Rattle.structs.specs.declared.Line.{Line}
 use Rattle.structs.specs.declared.Landing.{Landing}
@@ -52,7 +52,7 @@ use Rattle.structs.proofs.Landing as T₃
 use Rattle.structs.proofs.Pair as T₄
 use Rattle.structs.proofs.Lending.{Kept, lends, comes-home}
 use Rattle.unwind.specs.declared.Written.{Written}
-use Rattle.unwind.specs.Entries.{room, Exports}
+use Rattle.unwind.specs.Entries.{Exports}
 use Rattle.unwind.proofs.Written as R
 use Rattle.unwind.proofs.Written.Laws as R′
 use Rattle.whole.specs.Whole.{needed, readyFor, packed, onceReady, numbersIn, relaxedTableOf}
@@ -308,7 +308,7 @@ module _ {M : Type 1} (𝓤 : URA M) (H : Heap 𝓤) (A : Atoms 𝓤) (W : Given
       owned ! usize (Is usize) (uint-makes 𝓤 H A W w64) n₂ _ (refl, f₂) $ fjoin ! $ owned ! usize (Is usize) (uint-makes 𝓤 H A W w64) n₁ _ (refl, f₁) $ fjoin ! $ move ! (2 ∷ 0 ∷ []) $
       fjoin ! $ owned ! Boolean (Is Boolean) (bool-makes 𝓤 H A W) t _ refl $ fjoin ! $ move ! (1 ∷ 0 ∷ []) $ frame ! $ done !
 
-  exits : (r : Written) (w : Val) (u u₅ u₆ u₇ u₈ : List ℕ) → Exports (relaxedTableOf φ (x₀ .now) xs (x₁ .now) (x₂ .now) (x₃ .now) (x₄ .now) (room (x₅ .now) (x₆ .now) (x₇ .now)
+  exits : (r : Written) (w : Val) (u u₅ u₆ u₇ u₈ : List ℕ) → Exports (relaxedTableOf φ (x₀ .now) xs (x₁ .now) (x₂ .now) (x₃ .now) (x₄ .now) (roomIn (x₅ .now) (x₆ .now) (x₇ .now)
       (x₈ .now))) r (x₅ .now) u₅ (x₆ .now) u₆ (x₇ .now) u₇ (x₈ .now) u₈ × (u ≡ xs) → length u ≡ length xs → length u₅ ≡ length (x₅ .now) → length u₆ ≡ length (x₆ .now) →
       length u₇ ≡ length (x₇ .now) → length u₈ ≡ length (x₈ .now) → φ < 2 ^ 64
       → ent 𝓤 (⋆ 𝓤 H A (‵ (flft κ₀ q₀) ∷ ‵ (flft κ₁ q₁) ∷ ‵ (flft κ₂ q₂) ∷ ‵ (flft κ₃ q₃) ∷ ‵ (flft κ₄ q₄) ∷ ‵ (flft κ q) ∷ ‵ (flft κ₅ q₅) ∷ ‵ (flft κ₆ q₆) ∷ ‵ (flft κ₇ q₇)
@@ -440,10 +440,10 @@ module _ {M : Type 1} (𝓤 : URA M) (H : Heap 𝓤) (A : Atoms 𝓤) (W : Given
         ∷ []))) ⊛ raw (ensured 𝓤 H A writer.ended (writer.clauses 𝓤 H A mem run) (κ, (κ₀, (κ₅, (κ₆, (κ₇, (κ₈, tt)))))) (handed t) tt r)))) (id⊢ 𝓤 _) $ await ! tt $ pick ! (λ r.
         split ! $ move ! (1 ∷ []) $ use1 W (some (λ (vs : Unit {0} × (List ℕ × (Unit {0} × (Unit {0} × (Unit {0} × (Unit {0} × (Unit {0} × (Unit {0} × (List ℕ × (List ℕ × (List ℕ ×
         (List ℕ × Unit {0})))))))))))). ‵ (lasts writer.ended (κ, (κ₀, (κ₅, (κ₆, (κ₇, (κ₈, tt)))))) (handed t) vs) ⊛ raw (fact 𝓤 (Exports (onceReady t (relaxedTable φ (packed (x₀ .now)
-        (zs t) n₁ n₂ n₃ n₄) (room (x₅ .now) (x₆ .now) (x₇ .now) (x₈ .now)))) r (x₅ .now) (vs .1 .1 .1 .1 .1 .1 .1 .1 .0) (x₆ .now) (vs .1 .1 .1 .1 .1 .1 .1 .1 .1 .0) (x₇ .now)
+        (zs t) n₁ n₂ n₃ n₄) (roomIn (x₅ .now) (x₆ .now) (x₇ .now) (x₈ .now)))) r (x₅ .now) (vs .1 .1 .1 .1 .1 .1 .1 .1 .0) (x₆ .now) (vs .1 .1 .1 .1 .1 .1 .1 .1 .1 .0) (x₇ .now)
         (vs .1 .1 .1 .1 .1 .1 .1 .1 .1 .1 .0) (x₈ .now) (vs .1 .1 .1 .1 .1 .1 .1 .1 .1 .1 .1 .0) × (vs .1 .0 ≡ choose t (replicate (length (zs t)) 0) (zs t)))))) (id⊢ 𝓤 _) $
         pick ! (λ vs.
-        split ! $ move ! (1 ∷ []) $ heard ! (Exports (onceReady t (relaxedTable φ (packed (x₀ .now) (zs t) n₁ n₂ n₃ n₄) (room (x₅ .now) (x₆ .now) (x₇ .now) (x₈ .now)))) r (x₅ .now)
+        split ! $ move ! (1 ∷ []) $ heard ! (Exports (onceReady t (relaxedTable φ (packed (x₀ .now) (zs t) n₁ n₂ n₃ n₄) (roomIn (x₅ .now) (x₆ .now) (x₇ .now) (x₈ .now)))) r (x₅ .now)
         (vs .1 .1 .1 .1 .1 .1 .1 .1 .0) (x₆ .now) (vs .1 .1 .1 .1 .1 .1 .1 .1 .1 .0) (x₇ .now) (vs .1 .1 .1 .1 .1 .1 .1 .1 .1 .1 .0) (x₈ .now) (vs .1 .1 .1 .1 .1 .1 .1 .1 .1 .1 .1 .0) ×
         (vs .1 .0 ≡ choose t (replicate (length (zs t)) 0) (zs t))) (λ e′. fsplit ! $ drop ! $ fsplit ! $ fsplit ! $ move ! (1 ∷ []) $ feqL ! (λ m. move ! (1 ∷ []) $ fsplit ! $ drop ! $
         fsplit ! $ drop ! $ fsplit ! $ drop ! $ fsplit ! $ drop ! $ fsplit ! $ drop ! $ fsplit ! $ drop ! $ fsplit ! $ fsplit ! $ move ! (1 ∷ []) $ feqL ! (λ m₅. move ! (1 ∷ []) $
@@ -464,7 +464,7 @@ module _ {M : Type 1} (𝓤 : URA M) (H : Heap 𝓤) (A : Atoms 𝓤) (W : Given
         move ! (35 ∷ 36 ∷ []) $ free1 ! $ move ! (33 ∷ 34 ∷ []) $ free1 ! $ move ! (31 ∷ 32 ∷ []) $ free1 ! $ move ! (29 ∷ 30 ∷ []) $ free1 ! $ free0 ! $
         keep ! (5 ∷ 18 ∷ 17 ∷ 16 ∷ 15 ∷ 6 ∷ 4 ∷ 3 ∷ 2 ∷ 0 ∷ 25 ∷ 24 ∷ 23 ∷ 22 ∷ 21 ∷ 13 ∷ 12 ∷ 11 ∷ 10 ∷ 8 ∷ 7 ∷ []) $
         by ! (exits r w′ (vs .1 .0) (vs .1 .1 .1 .1 .1 .1 .1 .1 .0) (vs .1 .1 .1 .1 .1 .1 .1 .1 .1 .0) (vs .1 .1 .1 .1 .1 .1 .1 .1 .1 .1 .0) (vs .1 .1 .1 .1 .1 .1 .1 .1 .1 .1 .1 .0)
-        (table-finished xs (x₁ .now) (x₂ .now) (x₃ .now) (x₄ .now) t (e .0) φ (x₀ .now) (room (x₅ .now) (x₆ .now) (x₇ .now) (x₈ .now)) refl e′) (m ∙ long t
+        (table-finished xs (x₁ .now) (x₂ .now) (x₃ .now) (x₄ .now) t (e .0) φ (x₀ .now) (roomIn (x₅ .now) (x₆ .now) (x₇ .now) (x₈ .now)) refl e′) (m ∙ long t
         (e .0)) m₅ m₆ m₇ m₈ f))))))))))))))))))))))))))))))))))))))))))))))))
 
 module _ {M : Type 1} (𝓤 : URA M) (H : Heap 𝓤) (A : Atoms 𝓤) (W : Given 𝓤 H A) (mem : Memory → SProp 𝓤) (run : Routine →
