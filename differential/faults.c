@@ -1,8 +1,9 @@
 /* Faults put between fuzz.c and the library, to see that fuzz.c finds them. Linked with both by
  *
- *     gcc -Wl,--wrap=unwind_relaxed_table,--wrap=unwind_read ..
+ *     gcc -Wl,--wrap=unwind_relaxed_table,--wrap=unwind_read,--wrap=unwind_pack_rows,--wrap=unwind_row_check_of,\
+ *         --wrap=unwind_relaxed_table_of ..
  *
- * The number in UNWIND_FAULT, 1 to 16, says which one a seventh of the calls has. */
+ * The number in UNWIND_FAULT, 1 to 22, says which one a seventh of the calls has. */
 #include <stdlib.h>
 
 #include "../include/unwind.h"
@@ -24,7 +25,13 @@ enum {
     READS_PAST_RELOCATIONS,
     REFUSES_GOOD_OPERATION,
     REFUSAL_WITH_RULE,
-    NO_SUCH_READING
+    NO_SUCH_READING,
+    READS_PAST_STRUCTS,
+    PACKS_ONE_MORE,
+    REFUSED_PACK_STORES,
+    OTHER_ROW_CHECK,
+    NUMBERS_NOT_CLEARED,
+    OTHER_QUESTION_FIRST
 };
 
 /* The fault of this call, if it has one. */
@@ -42,6 +49,17 @@ unwind_reading __real_unwind_read(
     const uint8_t *, size_t, const uint64_t *, size_t, uint64_t, uint64_t, uint64_t, uint16_t, uint64_t);
 unwind_reading __wrap_unwind_read(
     const uint8_t *, size_t, const uint64_t *, size_t, uint64_t, uint64_t, uint64_t, uint16_t, uint64_t);
+
+uint64_t __real_unwind_pack_rows(const unwind_line *, size_t, uint64_t *, size_t);
+uint64_t __wrap_unwind_pack_rows(const unwind_line *, size_t, uint64_t *, size_t);
+uint64_t __real_unwind_row_check_of(uint64_t, const unwind_line *, size_t);
+uint64_t __wrap_unwind_row_check_of(uint64_t, const unwind_line *, size_t);
+unwind_written __real_unwind_relaxed_table_of(const uint64_t *, size_t, uint64_t, const unwind_function *, size_t, const unwind_line *,
+    size_t, const unwind_landing *, size_t, const unwind_pair *, size_t, uint64_t *, size_t, uint64_t *, size_t, uint8_t *, size_t,
+    uint64_t *, size_t, uint8_t *, size_t);
+unwind_written __wrap_unwind_relaxed_table_of(const uint64_t *, size_t, uint64_t, const unwind_function *, size_t, const unwind_line *,
+    size_t, const unwind_landing *, size_t, const unwind_pair *, size_t, uint64_t *, size_t, uint64_t *, size_t, uint8_t *, size_t,
+    uint64_t *, size_t, uint8_t *, size_t);
 
 unwind_written __wrap_unwind_relaxed_table(const uint64_t *machine, size_t machine_n, uint64_t format, const uint64_t *functions,
     size_t functions_n, const uint64_t *rows, size_t rows_n, const uint64_t *landings, size_t landings_n, const uint64_t *pairs,
@@ -114,4 +132,46 @@ unwind_reading __wrap_unwind_read(const uint8_t *section, size_t section_n, cons
     }
     (void)seen;
     return r;
+}
+
+uint64_t __wrap_unwind_pack_rows(const unwind_line *rows, size_t rows_n, uint64_t *numbers, size_t numbers_n) {
+    uint64_t number = __real_unwind_pack_rows(rows, rows_n, numbers, numbers_n);
+    volatile uint64_t seen = 0;
+    switch (fault()) {
+    case READS_PAST_STRUCTS:
+        if (rows_n) seen = rows[rows_n].offset;
+        break;
+    case PACKS_ONE_MORE:
+        if (!number && 4 * rows_n < numbers_n) numbers[4 * rows_n] = 0;
+        break;
+    case REFUSED_PACK_STORES:
+        if (number && numbers_n) numbers[0] = rows[0].offset;
+        break;
+    default: break;
+    }
+    (void)seen;
+    return number;
+}
+
+uint64_t __wrap_unwind_row_check_of(uint64_t simple, const unwind_line *rows, size_t rows_n) {
+    uint64_t yes = __real_unwind_row_check_of(simple, rows, rows_n);
+    return fault() == OTHER_ROW_CHECK && yes && rows_n ? 0 : yes;
+}
+
+unwind_written __wrap_unwind_relaxed_table_of(const uint64_t *machine, size_t machine_n, uint64_t format,
+    const unwind_function *functions, size_t functions_n, const unwind_line *rows, size_t rows_n, const unwind_landing *landings,
+    size_t landings_n, const unwind_pair *pairs, size_t pairs_n, uint64_t *numbers, size_t numbers_n, uint64_t *places, size_t places_n,
+    uint8_t *bytes, size_t bytes_n, uint64_t *relocations, size_t relocations_n, uint8_t *sites, size_t sites_n) {
+    unwind_written w = __real_unwind_relaxed_table_of(machine, machine_n, format, functions, functions_n, rows, rows_n, landings,
+        landings_n, pairs, pairs_n, numbers, numbers_n, places, places_n, bytes, bytes_n, relocations, relocations_n, sites, sites_n);
+    switch (fault()) {
+    case NUMBERS_NOT_CLEARED:
+        if (!w.number && functions_n) numbers[0] = functions[0].symbol;
+        break;
+    case OTHER_QUESTION_FIRST:
+        if (w.number == 54 && numbers_n < 18 * functions_n) w.number = 13;
+        break;
+    default: break;
+    }
+    return w;
 }

@@ -12,6 +12,11 @@
  * entry. An accepted list is written again into buffers of about its size, where 51 to 54 or the same results are owed, and what
  * was written is read back: where the row check says yes the reader answers.
  *
+ * The entries over structs get the structs that such a list means, then with bytes replaced, lists cut, and all bytes random; what
+ * lies between the fields is random too. A pack stores the numbers and nothing past them, or answers 54 and stores nothing. The
+ * row check and the writers answer as they do to the numbers, into the same buffers; where the list that is lent for the numbers is
+ * short or not all zero, the answer is 54, and the list is always as it was.
+ *
  * The same seed makes the same calls. At the end stand the counts by entry and number, and a sum over all answers and results. */
 #include <inttypes.h>
 #include <signal.h>
@@ -26,10 +31,15 @@
 #define LENGTH(list) (sizeof(list) / sizeof *(list))
 #define PICK(list) ((list)[below(LENGTH(list))])
 
-enum { ELF, COFF, MACH_O, OTHER, DEBUG_FRAME, SEH, ROW_CHECK, READ, ENTRIES };
+/* From OF_STRUCTS on the first five again, over structs; from PACKS on the packs of the four lists. */
+enum { ELF, COFF, MACH_O, OTHER, DEBUG_FRAME, SEH, ROW_CHECK, READ, OF_STRUCTS, PACKS = OF_STRUCTS + SEH, ROW_CHECK_OF = PACKS + 4,
+    ENTRIES };
 static const char *const ENTRY[ENTRIES] = {"relaxed_table ELF", "relaxed_table COFF", "relaxed_table Mach-O",
-    "relaxed_table other", "relaxed_debug_frame", "seh", "row_check", "read"};
-/* The numbers that document 01 has for each entry, beside 0. 37, 39 and 41 are met through direct codes alone. */
+    "relaxed_table other", "relaxed_debug_frame", "seh", "row_check", "read", "relaxed_table_of ELF", "relaxed_table_of COFF",
+    "relaxed_table_of Mach-O", "relaxed_table_of other", "relaxed_debug_frame_of", "pack_functions", "pack_rows", "pack_landings",
+    "pack_pairs", "row_check_of"};
+/* The numbers that document 01 has for each entry, beside 0. 37, 39 and 41 are met through direct codes alone; to structs every
+ * writer answers 54 where the list lent for the numbers is not ready. */
 static const uint8_t NUMBERS[ENTRIES][24] = {
     {11, 13, 21, 22, 23, 24, 25, 51, 52, 53, 54},
     {11, 12, 13, 21, 31, 32, 33, 34, 35, 36, 38, 40, 51, 52, 53, 54},
@@ -39,6 +49,16 @@ static const uint8_t NUMBERS[ENTRIES][24] = {
     {13, 21, 34, 35, 36, 37, 38, 39, 40, 41, 51, 52, 53, 54},
     {1},
     {11, 61, 62, 63, 64, 65, 66, 67, 68, 69},
+    {11, 13, 21, 22, 23, 24, 25, 51, 52, 53, 54},
+    {11, 12, 13, 21, 31, 32, 33, 34, 35, 36, 38, 40, 51, 52, 53, 54},
+    {11, 13, 21, 23, 24, 51, 52, 53, 54},
+    {11, 54},
+    {11, 13, 21, 23, 24, 25, 51, 52, 53, 54},
+    {54},
+    {54},
+    {54},
+    {54},
+    {1},
 };
 enum { EMPTY = 70, KNOWN };
 static uint64_t counts[ENTRIES][KNOWN];
@@ -81,7 +101,7 @@ static void add(const void *at, size_t bytes) {
 
 /* ---- slices between guard pages */
 
-enum { SLOTS = 9, PLACES = 5, ROOM = 16 << 20, PAGE = 4096, CANARIES = 256 };
+enum { PLACES = 5, SPARE = 9, SLOTS, ROOM = 16 << 20, PAGE = 4096, CANARIES = 256 };
 
 typedef struct {
     uint8_t *base, *at, *canary;
@@ -138,7 +158,8 @@ static void check_around(int from, int to) {
         const slot *s = &slots[i];
         for (size_t j = 0; j < CANARIES; j++)
             if (s->canary[j] != mark(i, 3 * j)) wrong("a byte beside a slice changed");
-        if (s->source && s->bytes && memcmp(s->at, s->source, s->bytes)) wrong("an input changed");
+        if (s->source && s->bytes && memcmp(s->at, s->source, s->bytes))
+            wrong(i == SPARE ? "the list lent for the numbers is not as it was" : "an input changed");
     }
 }
 
@@ -389,6 +410,99 @@ static void make_case(void) {
     while (chance(30)) damage();
 }
 
+/* ---- lists of structs */
+
+_Static_assert(sizeof(unwind_function) == 112 && sizeof(unwind_line) == 16, "functions and rows");
+_Static_assert(sizeof(unwind_landing) == 24 && sizeof(unwind_pair) == 32, "landings and pairs");
+
+static struct {
+    unwind_function functions[MOST / 18];
+    unwind_line rows[MOST / 4];
+    unwind_landing landings[MOST / 3];
+    unwind_pair pairs[MOST / 4];
+} given;
+static void *const GIVEN[] = {NULL, given.functions, given.rows, given.landings, given.pairs};
+static const size_t SIZE[] = {0, sizeof *given.functions, sizeof *given.rows, sizeof *given.landings, sizeof *given.pairs};
+
+/* A record's numbers in a struct, each as far as its field holds it; what lies between the fields stays. */
+static void fill(int key, size_t i) {
+    const uint64_t *n = lists[key].at + STRIDE[key] * i;
+    if (key == LANDINGS || key == PAIRS) memcpy((uint8_t *)GIVEN[key] + SIZE[key] * i, n, SIZE[key]);
+    if (key == ROWS) {
+        unwind_line *r = &given.rows[i];
+        r->offset = n[0], r->kind = (uint8_t)n[1], r->reg = (uint16_t)n[2], r->value = (int32_t)(uint32_t)n[3];
+    }
+    if (key != FUNCTIONS) return;
+    unwind_function *f = &given.functions[i];
+    f->symbol = n[0], f->length = n[1], f->rows_at = n[2], f->rows = n[3], f->landings_at = n[4], f->landings = n[5];
+    f->simple = (uint8_t)n[6], f->signal = (uint8_t)n[7], f->personality = (uint8_t)n[8], f->encoding = (uint8_t)n[9];
+    f->routine = n[10], f->lsda = (uint8_t)n[11], f->lsda_encoding = (uint8_t)n[12], f->lsda_symbol = n[13];
+    f->relaxed = (uint8_t)n[14], f->end = n[15], f->pairs_at = n[16], f->pairs = n[17];
+}
+
+/* The numbers of a struct, as include/unwind.h orders them. */
+static void push_numbers(int key, size_t i) {
+    const unwind_function *f = &given.functions[i];
+    const unwind_line *r = &given.rows[i];
+    const unwind_landing *l = &given.landings[i];
+    const unwind_pair *p = &given.pairs[i];
+    switch (key) {
+    case FUNCTIONS:
+        put(key, 18, (uint64_t[]){f->symbol, f->length, f->rows_at, f->rows, f->landings_at, f->landings, f->simple, f->signal,
+            f->personality, f->encoding, f->routine, f->lsda, f->lsda_encoding, f->lsda_symbol, f->relaxed, f->end, f->pairs_at,
+            f->pairs});
+        break;
+    case ROWS: put(key, 4, (uint64_t[]){r->offset, r->kind, r->reg, (uint32_t)r->value}); break;
+    case LANDINGS: put(key, 3, (uint64_t[]){l->start, l->length, l->pad}); break;
+    default: put(key, 4, (uint64_t[]){p->place1, p->place2, p->symbol1, p->symbol2});
+    }
+}
+
+/* Structs of the lists, at times damaged or random, and the lists then as the structs mean them. */
+static void make_structs(void) {
+    for (int key = FUNCTIONS; key <= PAIRS; key++) {
+        size_t n = records(key);
+        int random = chance(2);
+        uint8_t *at = GIVEN[key];
+        if (random) n = below(6);
+        for (size_t i = 0; i < n * SIZE[key]; i++) at[i] = (uint8_t)any();
+        for (size_t i = 0; i < n && !random; i++) fill(key, i);
+        if (n && chance(3)) n -= chance(60) ? 1 : below(n + 1);
+        while (n && chance(6)) {
+            uint8_t byte = (uint8_t)(chance(50) ? below(10) : any());
+            at[below(n * SIZE[key])] = byte;
+        }
+        lists[key].count = 0;
+        for (size_t i = 0; i < n; i++) push_numbers(key, i);
+    }
+}
+
+static uint64_t call_pack(int key, const void *at, size_t n, uint64_t *numbers, size_t room) {
+    switch (key) {
+    case FUNCTIONS: return unwind_pack_functions(at, n, numbers, room);
+    case ROWS: return unwind_pack_rows(at, n, numbers, room);
+    case LANDINGS: return unwind_pack_landings(at, n, numbers, room);
+    default: return unwind_pack_pairs(at, n, numbers, room);
+    }
+}
+
+/* The structs packed into a list that they fill, or that is one short, a little larger, or of any smaller size. */
+static void pack(int key) {
+    size_t n = lists[key].count;
+    unsigned how = (unsigned)below(8);
+    size_t room = how < 3 ? n : how < 4 && n ? n - 1 : how < 7 ? n + below(20) : below(n + 1);
+    const void *at = hand(0, GIVEN[key], records(key) * SIZE[key]);
+    uint64_t *numbers = lend(1, 8 * room);
+    calls++;
+    uint64_t number = call_pack(key, at, records(key), numbers, room);
+    check_around(0, 2);
+    if (number != (room < n ? 54 : 0)) wrong("a pack that fits is refused, or one that doesn't is not");
+    if (number ? !untouched(1, 0) : !untouched(1, 8 * n)) wrong("a pack stored past its numbers, or a refused one stored");
+    if (!number && n && memcmp(numbers, lists[key].at, 8 * n)) wrong("other numbers are packed");
+    add(slots[1].at, number ? 0 : 8 * n);
+    tally(PACKS + key - FUNCTIONS, number, 0);
+}
+
 /* ---- the writers */
 
 static const size_t WIDTH[4] = {8, 1, 8, 1};
@@ -399,6 +513,11 @@ static struct {
 } kept;
 
 static const uint64_t *hand_list(int slot_at, int key) { return hand(slot_at, lists[key].at, 8 * lists[key].count); }
+
+/* Whether the writers are called by structs, and how much of the list that is all zero they are lent for the numbers. */
+static int by_structs;
+static uint64_t zeros[MOST];
+static size_t lent_zeros;
 
 static unwind_written call_seh(void *const b[4], const size_t room[4]) {
     const uint64_t *functions = hand_list(0, FUNCTIONS), *codes = hand_list(1, CODES);
@@ -414,6 +533,18 @@ static unwind_written call_table(void *const b[4], const size_t room[4]) {
             at[3], lists[3].count, at[4], lists[4].count, b[0], room[0], b[1], room[1], b[2], room[2]);
     return unwind_relaxed_table(at[0], lists[0].count, format, at[1], lists[1].count, at[2], lists[2].count,
         at[3], lists[3].count, at[4], lists[4].count, b[0], room[0], b[1], room[1], b[2], room[2], b[3], room[3]);
+}
+
+static unwind_written call_structs(void *const b[4], const size_t room[4]) {
+    const uint64_t *machine = hand_list(0, MACHINE);
+    const void *at[5];
+    uint64_t *numbers = hand(SPARE, zeros, 8 * lent_zeros);
+    for (int i = FUNCTIONS; i <= PAIRS; i++) at[i] = hand(i, GIVEN[i], records(i) * SIZE[i]);
+    if (entry == DEBUG_FRAME)
+        return unwind_relaxed_debug_frame_of(machine, lists[0].count, format, at[1], records(1), at[2], records(2), at[3], records(3),
+            at[4], records(4), numbers, lent_zeros, b[0], room[0], b[1], room[1], b[2], room[2]);
+    return unwind_relaxed_table_of(machine, lists[0].count, format, at[1], records(1), at[2], records(2), at[3], records(3), at[4],
+        records(4), numbers, lent_zeros, b[0], room[0], b[1], room[1], b[2], room[2], b[3], room[3]);
 }
 
 static void check_answer(const unwind_written *w, const size_t room[4]) {
@@ -434,12 +565,13 @@ static unwind_written written(const size_t room[4]) {
     unwind_written w;
     for (int i = 0; i < 4; i++) b[i] = lend(PLACES + i, room[i] * WIDTH[i]);
     for (int i = 0; i < PLACES; i++) place(i, 0);
+    place(SPARE, 0);
     calls++;
-    w = entry == SEH ? call_seh(b, room) : call_table(b, room);
+    w = entry == SEH ? call_seh(b, room) : by_structs ? call_structs(b, room) : call_table(b, room);
     check_around(0, SLOTS);
     check_answer(&w, room);
     add(&w, sizeof w);
-    tally(entry, w.number, !w.number && !w.places);
+    tally(by_structs ? OF_STRUCTS + entry : entry, w.number, !w.number && !w.places);
     return w;
 }
 
@@ -493,17 +625,69 @@ static void write_again(void) {
         if (memcmp(kept.results[i], slots[PLACES + i].at, kept.elements[i] * WIDTH[i])) wrong("other results in smaller buffers");
 }
 
+/* How much is lent for the numbers: as many as there are, a few more, or too few; at times one of them is not zero. The answer
+ * is the place of that one, or MOST. */
+static size_t lend_numbers(int *ready) {
+    size_t n = lists[FUNCTIONS].count + lists[ROWS].count + lists[LANDINGS].count + lists[PAIRS].count;
+    uint64_t how = below(10);
+    lent_zeros = how < 5 || (how < 7 && !n) ? n : how < 6 ? n - 1 : how < 7 ? below(n) : n + below(5);
+    size_t at = how == 9 && lent_zeros ? below(lent_zeros) : MOST;
+    *ready = lent_zeros >= n && at == MOST;
+    return at;
+}
+
+/* The structs by numbers, and by structs into buffers of the same size; then, where they were accepted, into smaller ones. */
+static void write_structs(void) {
+    size_t room[4];
+    int ready;
+    ample(room);
+    size_t small = below(20), few = below(9);
+    if (small < 4) room[small] = few;
+    unwind_written w = written(room);
+    keep(&w);
+    by_structs = 1;
+    size_t at = lend_numbers(&ready);
+    if (at < MOST) zeros[at] = chance(50) ? 1 : 1ull << below(64);
+    unwind_written x = written(room);
+    if (at < MOST) zeros[at] = 0;
+    if (!ready && (x.number != 54 || x.position)) wrong("an answer without a list for the numbers");
+    if (ready && memcmp(&w, &x, sizeof w)) wrong("another answer to structs");
+    for (int i = 0; i < 4 && ready; i++)
+        if (memcmp(kept.results[i], slots[PLACES + i].at, kept.elements[i] * WIDTH[i])) wrong("other results of structs");
+    if (ready && w.number == 0 && w.places) write_again();
+    by_structs = 0;
+}
+
 /* ---- the row check */
 
-static int row_check(uint64_t k) {
-    const uint64_t *functions = hand_list(0, FUNCTIONS), *rows = hand_list(1, ROWS);
+static int row_check_in(const uint64_t *functions, size_t n, uint64_t k) {
+    const uint64_t *at = hand(0, functions, 8 * n), *rows = hand_list(1, ROWS);
     calls++;
-    uint64_t yes = unwind_row_check(functions, lists[FUNCTIONS].count, rows, lists[ROWS].count, k);
+    uint64_t yes = unwind_row_check(at, n, rows, lists[ROWS].count, k);
     check_around(0, 2);
-    if (yes && k >= records(FUNCTIONS)) wrong("the row check says yes of no function");
+    if (yes && k >= n / 18) wrong("the row check says yes of no function");
     add(&yes, sizeof yes);
     tally(ROW_CHECK, yes, 0);
     return yes == 1;
+}
+
+static int row_check(uint64_t k) { return row_check_in(lists[FUNCTIONS].at, lists[FUNCTIONS].count, k); }
+
+/* The rows of some function, or any that stand together, as structs and as numbers. */
+static void check_structs(void) {
+    size_t functions = records(FUNCTIONS);
+    const uint64_t *some = lists[FUNCTIONS].at + 18 * below(functions ? functions : 1);
+    uint64_t all = records(ROWS), from = below(all + 1), n = below(all - from + 1), simple = chance(90) ? below(2) : PICK(ODD);
+    if (functions && chance(70) && some[2] <= all && some[3] <= all - some[2]) from = some[2], n = some[3];
+    uint64_t f[18] = {16, 9, from, n, 0, 0, simple};
+    int want = row_check_in(f, 18, 0);
+    const unwind_line *rows = hand(0, given.rows + from, n * sizeof *rows);
+    calls++;
+    uint64_t yes = unwind_row_check_of(simple, rows, n);
+    check_around(0, 1);
+    if (yes != (uint64_t)want) wrong("another row check of structs");
+    add(&yes, sizeof yes);
+    tally(ROW_CHECK_OF, yes, 0);
 }
 
 /* ---- the reader */
@@ -665,6 +849,11 @@ static void turn(void) {
         }
     } else if (entry != SEH) row_check(chance(90) ? below(records(FUNCTIONS) + 1) : PICK(ODD));
     for (int i = 0; pooled && i < 4; i++) read_damaged();
+    if (entry == SEH) return;
+    make_structs();
+    for (int key = FUNCTIONS; key <= PAIRS; key++) pack(key);
+    check_structs();
+    write_structs();
 }
 
 static void print_counts(void) {
@@ -672,12 +861,13 @@ static void print_counts(void) {
         uint64_t all = 0;
         for (int n = 0; n < KNOWN; n++) all += counts[e][n];
         printf("%s: %" PRIu64 " calls:", ENTRY[e], all);
-        const char *first = e == READ ? "answered" : e == ROW_CHECK ? "no" : "accepted", *between = "";
+        int check = e == ROW_CHECK || e == ROW_CHECK_OF;
+        const char *first = e == READ ? "answered" : check ? "no" : "accepted", *between = "";
         for (int n = 0; n < KNOWN; n++) {
             if (!counts[e][n]) continue;
             if (n == 0) printf("%s %s", between, first);
             else if (n == EMPTY) printf("%s empty", between);
-            else if (e == ROW_CHECK) printf("%s yes", between);
+            else if (check) printf("%s yes", between);
             else printf("%s refused %d", between, n);
             printf(" %" PRIu64, counts[e][n]);
             between = ",";

@@ -3,7 +3,7 @@
 //!
 //! Every function takes every input. A refusal is a [`Refusal`]: the number of the question that was answered by no, and the
 //! function's position. The writers of this page make their own buffers; [`lists`] has the same entries over lists of numbers
-//! and buffers that the caller lends.
+//! and buffers that the caller lends, and [`structs`] over lists of structs.
 //!
 //! ```
 //! use unwind::{read, relaxed_table, row_check, Format, Function, Machine, Op, Row, Rule, Section, Word};
@@ -32,6 +32,7 @@ extern crate alloc;
 
 pub mod lists;
 mod refusal;
+pub mod structs;
 mod sys;
 mod types;
 mod write;

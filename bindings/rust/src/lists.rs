@@ -52,7 +52,7 @@ pub struct Counts {
 }
 
 /// The counts are at most those of the lent slices, so each fits.
-fn counts(w: &sys::Written) -> Result<Counts, Refusal> {
+pub(crate) fn counts(w: &sys::Written) -> Result<Counts, Refusal> {
     if w.number != 0 {
         return Err(Refusal { number: w.number, position: w.position });
     }

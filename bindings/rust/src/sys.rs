@@ -1,5 +1,7 @@
 //! include/unwind.h, as it stands there.
 
+use crate::structs::{Function, Landing, Line, Pair};
+
 /// What a writer answers.
 #[repr(C)]
 pub(crate) struct Written {
@@ -94,4 +96,66 @@ extern "C" {
         reg: u16,
         p: u64,
     ) -> Reading;
+
+    pub(crate) fn unwind_pack_functions(
+        functions: *const Function,
+        functions_n: usize,
+        numbers: *mut u64,
+        numbers_n: usize,
+    ) -> u64;
+
+    pub(crate) fn unwind_pack_rows(rows: *const Line, rows_n: usize, numbers: *mut u64, numbers_n: usize) -> u64;
+
+    pub(crate) fn unwind_pack_landings(landings: *const Landing, landings_n: usize, numbers: *mut u64, numbers_n: usize)
+        -> u64;
+
+    pub(crate) fn unwind_pack_pairs(pairs: *const Pair, pairs_n: usize, numbers: *mut u64, numbers_n: usize) -> u64;
+
+    pub(crate) fn unwind_row_check_of(simple: u64, rows: *const Line, rows_n: usize) -> u64;
+
+    pub(crate) fn unwind_relaxed_table_of(
+        machine: *const u64,
+        machine_n: usize,
+        format: u64,
+        functions: *const Function,
+        functions_n: usize,
+        rows: *const Line,
+        rows_n: usize,
+        landings: *const Landing,
+        landings_n: usize,
+        pairs: *const Pair,
+        pairs_n: usize,
+        numbers: *mut u64,
+        numbers_n: usize,
+        places: *mut u64,
+        places_n: usize,
+        bytes: *mut u8,
+        bytes_n: usize,
+        relocations: *mut u64,
+        relocations_n: usize,
+        sites: *mut u8,
+        sites_n: usize,
+    ) -> Written;
+
+    pub(crate) fn unwind_relaxed_debug_frame_of(
+        machine: *const u64,
+        machine_n: usize,
+        format: u64,
+        functions: *const Function,
+        functions_n: usize,
+        rows: *const Line,
+        rows_n: usize,
+        landings: *const Landing,
+        landings_n: usize,
+        pairs: *const Pair,
+        pairs_n: usize,
+        numbers: *mut u64,
+        numbers_n: usize,
+        places: *mut u64,
+        places_n: usize,
+        bytes: *mut u8,
+        bytes_n: usize,
+        relocations: *mut u64,
+        relocations_n: usize,
+    ) -> Written;
 }
