@@ -4,7 +4,7 @@
 Our own sections become ELF objects of no machine, as in frames.py; the program's eh_frame is taken out by objcopy. Both listings are read
 into entries: place, length, kind, fields and the rules by location, and the operations by name against readelf's plain listing. Where a
 record holds an operation that our tables never use, what stands before it is compared. What is left out: entries that the reader refuses
-by their fields; with readelf unstated and
+by their fields; sections with a return address above 127, which readelf reads from one byte; with readelf unstated and
 undefined are written alike, a record of padding alone has no table, and a register that it keeps no column for makes it lose others."""
 
 import collections
@@ -149,6 +149,9 @@ def own(kind, word, section, numbers, counts):
         return
     words = ["dump", SECTION, "--word", str(word), "--kind", "debug" if debug else "eh"]
     ours = entries(unwind(*words, *(["--relocations", NUMBERS] if debug else [])))
+    # In version 1 readelf takes the return address's register from one byte; the tables have an unsigned LEB number there.
+    if any(e.kind == "CIE" and int(e.fields[3]) > 127 for e in ours):
+        return
     compare(ours, said, plain, counts)
     counts["lists"] += 1
 

@@ -1,6 +1,5 @@
 // Lists the entries of a section for people, in the manner of readelf: each header and record with its fields, its operations by name and
 // its rules by location. Each function that stores takes the place in the output buffer and gives the place past what it stored.
-ghost use lib.ListN.{length};
 ghost use Rattle.io.specs.Counts.{Counts};
 use cursor::Entry;
 use entries::Held;
@@ -653,19 +652,19 @@ fn record_end(out: &mut [u8], at: usize, end: u64, word: u64) -> usize {
     byte(out, b, b'\n')
 }
 
-// Where the augmentation of the record at `at` starts.
-fn record_tail(s: &[u8], v: View, at: usize) -> usize {
-    if v.debug {
-        return entries::further(s, at, 8);
-    }
-    entries::further(s, at, 16)
-}
-
+// What a record holds behind where its function starts. In eh_frame its fields have 4 bytes each, and the augmentation follows them.
 fn record_rest(out: &mut [u8], at: usize, s: &[u8], e: Entry, v: View, r: Held) -> usize {
     let l = r.located;
     let from = start(s, v, e.place);
     let a = record_end(out, at, sum(from, l.size), v.word);
-    let b = augmented(out, a, s, record_tail(s, v, e.place), l.record, v.debug);
+    let b = augmented(
+        out,
+        a,
+        s,
+        entries::further(s, e.place, 16),
+        l.record,
+        v.debug,
+    );
     let ops = entries::span(s, l.record, l.record_end);
     let c = operations(out, b, ops, v, from);
     table(out, c, s, l, v, from, factors(s, r.header).ra)
