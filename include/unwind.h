@@ -44,7 +44,7 @@ extern "C" {
  *   31 frame pointer set after the frame is taken   32 frame not counted from a scratch register   33 group readable
  *   34 registers below 16   35 offsets to 255   36 allocation positive, a multiple of 8   37 below 2^32   38 save not below the
  *   frame   39 below 2^32   40 slots to 255   41 frame offset 0 to 240, a multiple of 16
- *   51 places or markers fit   52 bytes   53 relocations   54 call sites or x64 info
+ *   51 places or markers fit   52 bytes   53 relocations   54 call sites or x64 info; structs: the list for numbers
  *   61 lengths tile   62 record k   63 its header   64 fields of both   65 p below the length   66 operations
  *   67 a state to restore, no Restore in a header   68 at most 16 states stored   69 a frame address rule to change */
 
@@ -131,8 +131,8 @@ uint64_t unwind_pack_pairs(const unwind_pair *pairs, size_t pairs_n, uint64_t *n
 uint64_t unwind_row_check_of(uint64_t simple, const unwind_line *rows, size_t rows_n);
 
 /* The writers of DWARF and COFF over structs. `numbers` is room for their numbers: 18 a function, 4 a row, 3 a landing and 4 a
- * pair. It comes in all zero and at least so long, else the answer is 54, asked before any other question; it goes back all
- * zero, whatever the answer is. */
+ * pair. It comes in all zero and at least so long, else the answer is 54, asked before any other question; it goes back as
+ * it came, whatever the answer is. */
 unwind_written unwind_relaxed_table_of(
     const uint64_t *machine, size_t machine_n, uint64_t format,
     const unwind_function *functions, size_t functions_n, const unwind_line *rows, size_t rows_n,
