@@ -126,11 +126,22 @@ pub fn size(z: i64) -> u64
 }
 
 // A multiple of the word.
-fn whole(word: u64, z: i64) -> bool
+fn multiple(word: u64, z: i64) -> bool
     requires { ⌜ 0 < word ⌝ }
     ensures { λ r. ⌜ r ≡ whole word z ⌝ }
 {
     size(z) % word == 0
+}
+
+// The same; by 8 without a division.
+fn whole(word: u64, z: i64) -> bool
+    requires { ⌜ 0 < word ⌝ }
+    ensures { λ r. ⌜ r ≡ whole word z ⌝ }
+{
+    if word == 8 {
+        return multiple(8, z);
+    }
+    multiple(word, z)
 }
 
 fn whole_below(word: u64, z: i64) -> bool
@@ -226,11 +237,22 @@ pub fn same_row(a: Row, b: Row) -> bool
 // ---- a row written, and its size
 
 // An offset divided by minus the word.
-fn factored(word: u64, z: i64) -> i64
+fn divided(word: u64, z: i64) -> i64
     requires { ⌜ (2 ≤ word) × (word ≤ 8) ⌝ }
     ensures { λ r. ⌜ r ≡ factor word z ⌝ }
 {
     z / (0 - word as i64)
+}
+
+// The same; by 8 without a division.
+fn factored(word: u64, z: i64) -> i64
+    requires { ⌜ (2 ≤ word) × (word ≤ 8) ⌝ }
+    ensures { λ r. ⌜ r ≡ factor word z ⌝ }
+{
+    if word == 8 {
+        return divided(8, z);
+    }
+    divided(word, z)
 }
 
 // One opcode or the other, by the offset's sign.
