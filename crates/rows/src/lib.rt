@@ -237,22 +237,11 @@ pub fn same_row(a: Row, b: Row) -> bool
 // ---- a row written, and its size
 
 // An offset divided by minus the word.
-fn divided(word: u64, z: i64) -> i64
-    requires { ⌜ (2 ≤ word) × (word ≤ 8) ⌝ }
-    ensures { λ r. ⌜ r ≡ factor word z ⌝ }
-{
-    z / (0 - word as i64)
-}
-
-// The same; by 8 without a division.
 fn factored(word: u64, z: i64) -> i64
     requires { ⌜ (2 ≤ word) × (word ≤ 8) ⌝ }
     ensures { λ r. ⌜ r ≡ factor word z ⌝ }
 {
-    if word == 8 {
-        return divided(8, z);
-    }
-    divided(word, z)
+    z / (0 - word as i64)
 }
 
 // One opcode or the other, by the offset's sign.
