@@ -105,8 +105,8 @@ fn write(case: &Case, runs: usize) {
     }
     let (theirs, ours) = (times(theirs), times(ours));
     println!(
-        "{:<20} {:>9} bytes  Rust {:>9.3} ms (least {:>9.3})  library {:>9.3} ms (least {:>9.3})  ratio {:.2}",
-        case.name, expected.bytes.len(), theirs.0, theirs.1, ours.0, ours.1, ours.0 / theirs.0
+        "{:<20} {:>8} bytes  Rust {:>8.3} ms, least {:>8.3}  library {:>8.3} ms, least {:>8.3}  ratio {:.2}, of the least {:.2}",
+        case.name, expected.bytes.len(), theirs.0, theirs.1, ours.0, ours.1, ours.0 / theirs.0, ours.1 / theirs.1
     );
 }
 
@@ -190,7 +190,7 @@ fn read(case: &Case, runs: usize) {
     }
     let (median, least) = times(each);
     println!(
-        "{:<20} {:>9} bytes  one read {:>9.4} ms (least {:>9.4})",
+        "{:<20} {:>8} bytes  one read {:>8.4} ms, least {:>8.4}",
         case.name, lent.bytes.len(), median, least
     );
 }

@@ -702,7 +702,7 @@ fn fitted_65536(
     requires { ⌜ Cleared (inputs s m (now fs) (now rows) (now landings) (now pairs)) × (count functionStride (now fs) ≤ 65536) ⌝ }
     ensures { λ r. ⌜ Writes (fitting (roomIn (now (places .entry)) (now (out .entry)) (now (relocs .entry)) (now (sites .entry))) (writtenIn (partsTo (inputs s m (now (fs .entry)) (now (rows .entry)) (now (landings .entry)) (now (pairs .entry))) (count functionStride (now (fs .entry)))))) r (now (places .entry)) (now (places .exit)) (now (out .entry)) (now (out .exit)) (now (relocs .entry)) (now (relocs .exit)) (now (sites .entry)) (now (sites .exit)) ⌝ }
 {
-    let mut heads = [0u16; 65521];
+    let mut heads = [0u16; 16381];
     let mut links = [0u16; 65536];
     let mut owners = [0u16; 65536];
     search::owners(

@@ -19,11 +19,25 @@ use lists::Extent;
 // ---- the end of an entry
 
 // Zeros after n bytes of a section, up to the alignment.
-pub fn padding(align: usize, n: usize) -> usize
+fn gap(align: usize, n: usize) -> usize
     requires { ⌜ 0 < align ⌝ }
     ensures { λ r. ⌜ r ≡ padding align n ⌝ }
 {
     (align - n % align) % align
+}
+
+// The same; to 4 and 8 without a division.
+pub fn padding(align: usize, n: usize) -> usize
+    requires { ⌜ 0 < align ⌝ }
+    ensures { λ r. ⌜ r ≡ padding align n ⌝ }
+{
+    if align == 4 {
+        return gap(4, n);
+    }
+    if align == 8 {
+        return gap(8, n);
+    }
+    gap(align, n)
 }
 
 // Zeros up to the alignment, which counts from the section's start, and the length into the 4 bytes at `start`.

@@ -126,11 +126,22 @@ pub fn size(z: i64) -> u64
 }
 
 // A multiple of the word.
-fn whole(word: u64, z: i64) -> bool
+fn multiple(word: u64, z: i64) -> bool
     requires { ⌜ 0 < word ⌝ }
     ensures { λ r. ⌜ r ≡ whole word z ⌝ }
 {
     size(z) % word == 0
+}
+
+// The same; by 8 without a division.
+fn whole(word: u64, z: i64) -> bool
+    requires { ⌜ 0 < word ⌝ }
+    ensures { λ r. ⌜ r ≡ whole word z ⌝ }
+{
+    if word == 8 {
+        return multiple(8, z);
+    }
+    multiple(word, z)
 }
 
 fn whole_below(word: u64, z: i64) -> bool

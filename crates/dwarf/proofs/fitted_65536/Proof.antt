@@ -17,7 +17,7 @@ slice-aggregate-owners-3 c = search needs
 owners-requires : tie.Need-owners-requires
 owners-requires c κs =
     let s = c .before .before .before .before .before .before .before .before .before .before .before in
-    (s .pre .0 .listed, unused _ 65521 65536 (s .pre .0 .few) (omega arith) (s .pre .1), λ h. s .pre .0 .each-one 0 h .sound .machine)
+    (s .pre .0 .listed, unused _ 16381 65536 (s .pre .0 .few) (omega arith) (s .pre .1), λ h. s .pre .0 .each-one 0 h .sound .machine)
 
 slice-aggregate-fitted : tie.Need-slice-aggregate-fitted
 slice-aggregate-fitted c = search needs

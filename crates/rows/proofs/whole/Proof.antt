@@ -1,24 +1,28 @@
 -- `rows::whole` meets its contract.
+use mathlib.Core.Path.{sym, ap, _∙_}
+use Prim.Native.Nat.{ℕ}
 use mir.Facts.{toZ-ofZ}
-use mathlib.Core.Path.{ap}
-use Prim.Native.Nat.{ℕ, _%_}
-use lib.Dec.{eqb}
 use borrow.Author.Needs.{needs}
 use Rattle.format.specs.Rows.{whole}
 use Rattle.rows.proofs.whole.Statement.{statement}
 use Rattle.rows.proofs.whole.Tie as tie
 
-size-requires : tie.Need-size-requires
-size-requires c κs = search needs
-
-rem-result : tie.Need-rem-result
-rem-result c = search needs
+multiple-requires : tie.Need-multiple-requires
+multiple-requires c κs = search needs
 
 returns : tie.Need-returns
-unfolding whole
 returns c =
-    let e = rw (toZ-ofZ (c .before .fits .z)) at (c .size .ensures .0) in
-    ap (λ (n : ℕ). eqb (n % c .before .args .word) 0) e
+    let s = c .before .before in
+    let e = rw (toZ-ofZ (s .fits .z)) at (c .multiple .ensures) in
+    e ∙ ap (λ (w : ℕ). whole w (s .args .z)) (sym (c .before .if1 .taken))
+
+multiple-requires-2 : tie.Need-multiple-requires-2
+multiple-requires-2 c κs = search needs
+
+returns-2 : tie.Need-returns-2
+returns-2 c =
+    let s = c .before .before in
+    rw (toZ-ofZ (s .fits .z)) at (c .multiple2 .ensures)
 
 pub whole-spec : {M : Type 1} → statement M
-whole-spec = tie.close (tie.spec size-requires rem-result returns)
+whole-spec = tie.close (tie.spec multiple-requires returns multiple-requires-2 returns-2)
