@@ -1,8 +1,7 @@
 -- The lists that the search works in, before it: as they were cleared.
-use mathlib.Core.Path.{sym}
 use Prim.Native.Nat.{ℕ, _≤_, _<_}
 use native.Mathlib.Omega.{arith}
-use lib.ListN.{length, replicate, getD-replicate, length-replicate}
+use lib.ListN.{replicate, getD-replicate, length-replicate}
 use Rattle.search.specs.Chains.{Unused}
 
 pub unused : (n slots room : ℕ) → n ≤ 65536 → 0 < slots → n ≤ room → Unused n (replicate slots 0) (replicate room 0) (replicate room 0)

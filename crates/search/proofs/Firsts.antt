@@ -15,7 +15,7 @@ use Rattle.format.specs.Headers.{Key, sameKey}
 use Rattle.format.proofs.Choice.{pick-yes, pick-no, tested, either}
 use Rattle.format.proofs.SameKey.{same-key}
 use Rattle.search.specs.Owners.{keyAt, firstFrom, owner}
-use Rattle.search.specs.Chains.{digestOf, slotAt, lastIn, heldIn, lastHeld}
+use Rattle.search.specs.Chains.{slotAt, lastIn, heldIn, lastHeld}
 use Rattle.search.proofs.Finding.{shares, Finding, start, missed, found, ended}
 
 is-no : (b : Bool) → T (not b) → b ≡ false
