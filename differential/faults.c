@@ -50,14 +50,14 @@ unwind_reading __real_unwind_read(
 unwind_reading __wrap_unwind_read(
     const uint8_t *, size_t, const uint64_t *, size_t, uint64_t, uint64_t, uint64_t, uint16_t, uint64_t);
 
-uint64_t __real_unwind_pack_rows(const unwind_line *, size_t, uint64_t *, size_t);
-uint64_t __wrap_unwind_pack_rows(const unwind_line *, size_t, uint64_t *, size_t);
-uint64_t __real_unwind_row_check_of(uint64_t, const unwind_line *, size_t);
-uint64_t __wrap_unwind_row_check_of(uint64_t, const unwind_line *, size_t);
-unwind_written __real_unwind_relaxed_table_of(const uint64_t *, size_t, uint64_t, const unwind_function *, size_t, const unwind_line *,
+uint64_t __real_unwind_pack_rows(const unwind_row *, size_t, uint64_t *, size_t);
+uint64_t __wrap_unwind_pack_rows(const unwind_row *, size_t, uint64_t *, size_t);
+uint64_t __real_unwind_row_check_of(uint64_t, const unwind_row *, size_t);
+uint64_t __wrap_unwind_row_check_of(uint64_t, const unwind_row *, size_t);
+unwind_written __real_unwind_relaxed_table_of(const uint64_t *, size_t, uint64_t, const unwind_function *, size_t, const unwind_row *,
     size_t, const unwind_landing *, size_t, const unwind_pair *, size_t, uint64_t *, size_t, uint64_t *, size_t, uint8_t *, size_t,
     uint64_t *, size_t, uint8_t *, size_t);
-unwind_written __wrap_unwind_relaxed_table_of(const uint64_t *, size_t, uint64_t, const unwind_function *, size_t, const unwind_line *,
+unwind_written __wrap_unwind_relaxed_table_of(const uint64_t *, size_t, uint64_t, const unwind_function *, size_t, const unwind_row *,
     size_t, const unwind_landing *, size_t, const unwind_pair *, size_t, uint64_t *, size_t, uint64_t *, size_t, uint8_t *, size_t,
     uint64_t *, size_t, uint8_t *, size_t);
 
@@ -134,7 +134,7 @@ unwind_reading __wrap_unwind_read(const uint8_t *section, size_t section_n, cons
     return r;
 }
 
-uint64_t __wrap_unwind_pack_rows(const unwind_line *rows, size_t rows_n, uint64_t *numbers, size_t numbers_n) {
+uint64_t __wrap_unwind_pack_rows(const unwind_row *rows, size_t rows_n, uint64_t *numbers, size_t numbers_n) {
     uint64_t number = __real_unwind_pack_rows(rows, rows_n, numbers, numbers_n);
     volatile uint64_t seen = 0;
     switch (fault()) {
@@ -153,13 +153,13 @@ uint64_t __wrap_unwind_pack_rows(const unwind_line *rows, size_t rows_n, uint64_
     return number;
 }
 
-uint64_t __wrap_unwind_row_check_of(uint64_t simple, const unwind_line *rows, size_t rows_n) {
+uint64_t __wrap_unwind_row_check_of(uint64_t simple, const unwind_row *rows, size_t rows_n) {
     uint64_t yes = __real_unwind_row_check_of(simple, rows, rows_n);
     return fault() == OTHER_ROW_CHECK && yes && rows_n ? 0 : yes;
 }
 
 unwind_written __wrap_unwind_relaxed_table_of(const uint64_t *machine, size_t machine_n, uint64_t format,
-    const unwind_function *functions, size_t functions_n, const unwind_line *rows, size_t rows_n, const unwind_landing *landings,
+    const unwind_function *functions, size_t functions_n, const unwind_row *rows, size_t rows_n, const unwind_landing *landings,
     size_t landings_n, const unwind_pair *pairs, size_t pairs_n, uint64_t *numbers, size_t numbers_n, uint64_t *places, size_t places_n,
     uint8_t *bytes, size_t bytes_n, uint64_t *relocations, size_t relocations_n, uint8_t *sites, size_t sites_n) {
     unwind_written w = __real_unwind_relaxed_table_of(machine, machine_n, format, functions, functions_n, rows, rows_n, landings,

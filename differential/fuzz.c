@@ -412,12 +412,12 @@ static void make_case(void) {
 
 /* ---- lists of structs */
 
-_Static_assert(sizeof(unwind_function) == 112 && sizeof(unwind_line) == 16, "functions and rows");
+_Static_assert(sizeof(unwind_function) == 112 && sizeof(unwind_row) == 16, "functions and rows");
 _Static_assert(sizeof(unwind_landing) == 24 && sizeof(unwind_pair) == 32, "landings and pairs");
 
 static struct {
     unwind_function functions[MOST / 18];
-    unwind_line rows[MOST / 4];
+    unwind_row rows[MOST / 4];
     unwind_landing landings[MOST / 3];
     unwind_pair pairs[MOST / 4];
 } given;
@@ -429,7 +429,7 @@ static void fill(int key, size_t i) {
     const uint64_t *n = lists[key].at + STRIDE[key] * i;
     if (key == LANDINGS || key == PAIRS) memcpy((uint8_t *)GIVEN[key] + SIZE[key] * i, n, SIZE[key]);
     if (key == ROWS) {
-        unwind_line *r = &given.rows[i];
+        unwind_row *r = &given.rows[i];
         r->offset = n[0], r->kind = (uint8_t)n[1], r->reg = (uint16_t)n[2], r->value = (int32_t)(uint32_t)n[3];
     }
     if (key != FUNCTIONS) return;
@@ -443,7 +443,7 @@ static void fill(int key, size_t i) {
 /* The numbers of a struct, as include/unwind.h orders them. */
 static void push_numbers(int key, size_t i) {
     const unwind_function *f = &given.functions[i];
-    const unwind_line *r = &given.rows[i];
+    const unwind_row *r = &given.rows[i];
     const unwind_landing *l = &given.landings[i];
     const unwind_pair *p = &given.pairs[i];
     switch (key) {
@@ -681,7 +681,7 @@ static void check_structs(void) {
     if (functions && chance(70) && some[2] <= all && some[3] <= all - some[2]) from = some[2], n = some[3];
     uint64_t f[18] = {16, 9, from, n, 0, 0, simple};
     int want = row_check_in(f, 18, 0);
-    const unwind_line *rows = hand(0, given.rows + from, n * sizeof *rows);
+    const unwind_row *rows = hand(0, given.rows + from, n * sizeof *rows);
     calls++;
     uint64_t yes = unwind_row_check_of(simple, rows, n);
     check_around(0, 1);

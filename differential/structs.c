@@ -15,7 +15,7 @@ uint64_t structs_compared, structs_passed_over;
 
 typedef struct {
     unwind_function *functions;
-    unwind_line *rows;
+    unwind_row *rows;
     unwind_landing *landings;
     unwind_pair *pairs;
     size_t count[LISTS];
@@ -36,9 +36,9 @@ static int functions_of(const uint64_t *n, size_t count, unwind_function *to) {
     return 1;
 }
 
-static int rows_of(const uint64_t *n, size_t count, unwind_line *to) {
+static int rows_of(const uint64_t *n, size_t count, unwind_row *to) {
     for (size_t i = 0; i < count; i++, n += 4) {
-        to[i] = (unwind_line){n[0], (uint8_t)n[1], (uint16_t)n[2], (int32_t)(uint32_t)n[3]};
+        to[i] = (unwind_row){n[0], (uint8_t)n[1], (uint16_t)n[2], (int32_t)(uint32_t)n[3]};
         if (n[1] > 255 || n[2] > 65535 || n[3] > 4294967295) return 0;
     }
     return 1;

@@ -5,10 +5,10 @@
 //!
 //! ```
 //! use unwind::lists::Lent;
-//! use unwind::structs::{relaxed_table_of, row_check_of, Function, Line, Lists};
+//! use unwind::structs::{relaxed_table_of, row_check_of, Function, RowAt, Lists};
 //! use unwind::Machine;
 //!
-//! let rows = [Line { offset: 1, kind: 1, value: 16, ..Line::default() }, Line { offset: 1, kind: 3, register: 6, value: -16 }];
+//! let rows = [RowAt { offset: 1, kind: 1, value: 16, ..RowAt::default() }, RowAt { offset: 1, kind: 3, register: 6, value: -16 }];
 //! let functions = [Function { symbol: 16, length: 9, rows: 2, ..Function::default() }];
 //! assert!(row_check_of(false, &rows));
 //! let lists = Lists { functions: &functions, rows: &rows, ..Lists::default() };
@@ -25,7 +25,7 @@ use crate::{sys, Refusal};
 /// A row: its kind is 0 to 8 in the header's order, and an operand that the kind does not have is 0. Another kind is question 13.
 #[repr(C)]
 #[derive(Clone, Copy, Debug, Default, PartialEq, Eq, Hash)]
-pub struct Line {
+pub struct RowAt {
     /// From which offset of the function on.
     pub offset: u64,
     /// 0 DefCfa, 1 DefCfaOffset, 2 DefCfaRegister, 3 Offset, 4 Restore, 5 Undefined, 6 RememberState, 7 RestoreState,
@@ -112,7 +112,7 @@ pub struct Lists<'a> {
     /// The functions.
     pub functions: &'a [Function],
     /// Their rows.
-    pub rows: &'a [Line],
+    pub rows: &'a [RowAt],
     /// Their landings.
     pub landings: &'a [Landing],
     /// Their pairs.
@@ -152,7 +152,7 @@ pub fn pack_functions(functions: &[Function], numbers: &mut [u64]) -> Result<(),
 ///
 /// # Errors
 /// 54 where they do not fit; the list is then as it was.
-pub fn pack_rows(rows: &[Line], numbers: &mut [u64]) -> Result<(), Refusal> {
+pub fn pack_rows(rows: &[RowAt], numbers: &mut [u64]) -> Result<(), Refusal> {
     // SAFETY: each pointer and count come from one slice, so they are valid and aligned; the lent slice is a unique reference, so
     // it does not overlap the structs, whose layout is the header's.
     packed(unsafe { sys::unwind_pack_rows(rows.as_ptr(), rows.len(), numbers.as_mut_ptr(), numbers.len()) })
@@ -180,7 +180,7 @@ pub fn pack_pairs(pairs: &[Pair], numbers: &mut [u64]) -> Result<(), Refusal> {
 
 /// Whether the rows of one function, with its simple mark, pass the row check.
 #[must_use]
-pub fn row_check_of(simple: bool, rows: &[Line]) -> bool {
+pub fn row_check_of(simple: bool, rows: &[RowAt]) -> bool {
     // SAFETY: pointer and count come from one slice of structs whose layout is the header's, and nothing is lent.
     let said = unsafe { sys::unwind_row_check_of(u64::from(simple), rows.as_ptr(), rows.len()) };
     said == 1

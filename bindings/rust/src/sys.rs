@@ -1,6 +1,6 @@
 //! include/unwind.h, as it stands there.
 
-use crate::structs::{Function, Landing, Line, Pair};
+use crate::structs::{Function, Landing, RowAt, Pair};
 
 /// What a writer answers.
 #[repr(C)]
@@ -104,14 +104,14 @@ extern "C" {
         numbers_n: usize,
     ) -> u64;
 
-    pub(crate) fn unwind_pack_rows(rows: *const Line, rows_n: usize, numbers: *mut u64, numbers_n: usize) -> u64;
+    pub(crate) fn unwind_pack_rows(rows: *const RowAt, rows_n: usize, numbers: *mut u64, numbers_n: usize) -> u64;
 
     pub(crate) fn unwind_pack_landings(landings: *const Landing, landings_n: usize, numbers: *mut u64, numbers_n: usize)
         -> u64;
 
     pub(crate) fn unwind_pack_pairs(pairs: *const Pair, pairs_n: usize, numbers: *mut u64, numbers_n: usize) -> u64;
 
-    pub(crate) fn unwind_row_check_of(simple: u64, rows: *const Line, rows_n: usize) -> u64;
+    pub(crate) fn unwind_row_check_of(simple: u64, rows: *const RowAt, rows_n: usize) -> u64;
 
     pub(crate) fn unwind_relaxed_table_of(
         machine: *const u64,
@@ -119,7 +119,7 @@ extern "C" {
         format: u64,
         functions: *const Function,
         functions_n: usize,
-        rows: *const Line,
+        rows: *const RowAt,
         rows_n: usize,
         landings: *const Landing,
         landings_n: usize,
@@ -143,7 +143,7 @@ extern "C" {
         format: u64,
         functions: *const Function,
         functions_n: usize,
-        rows: *const Line,
+        rows: *const RowAt,
         rows_n: usize,
         landings: *const Landing,
         landings_n: usize,

@@ -6,15 +6,15 @@ use std::mem::{offset_of, size_of};
 use unwind::lists::{self, Counts, Lent};
 use unwind::structs::{
     pack_functions, pack_landings, pack_pairs, pack_rows, relaxed_debug_frame_of, relaxed_table_of, row_check_of, Function,
-    Landing, Line, Lists, Pair,
+    Landing, RowAt, Lists, Pair,
 };
 use unwind::{Machine, Refusal};
 
-const ROWS: [Line; 4] = [
-    Line { offset: 1, kind: 1, register: 0, value: 16 },
-    Line { offset: 1, kind: 3, register: 6, value: -16 },
-    Line { offset: 4, kind: 2, register: 6, value: 0 },
-    Line { offset: 5, kind: 0, register: 7, value: 8 },
+const ROWS: [RowAt; 4] = [
+    RowAt { offset: 1, kind: 1, register: 0, value: 16 },
+    RowAt { offset: 1, kind: 3, register: 6, value: -16 },
+    RowAt { offset: 4, kind: 2, register: 6, value: 0 },
+    RowAt { offset: 5, kind: 0, register: 7, value: 8 },
 ];
 const LANDINGS: [Landing; 1] = [Landing { start: 1, length: 2, pad: 3 }];
 const PAIRS: [Pair; 1] = [Pair { place1: 1, place2: 4, symbol1: 20, symbol2: 21 }];
@@ -57,8 +57,8 @@ const NO_ROOM: Refusal = Refusal { number: 54, position: 0 };
 
 #[test]
 fn layout() {
-    assert_eq!((size_of::<Line>(), size_of::<Landing>(), size_of::<Pair>(), size_of::<Function>()), (16, 24, 32, 112));
-    assert_eq!((offset_of!(Line, kind), offset_of!(Line, register), offset_of!(Line, value)), (8, 10, 12));
+    assert_eq!((size_of::<RowAt>(), size_of::<Landing>(), size_of::<Pair>(), size_of::<Function>()), (16, 24, 32, 112));
+    assert_eq!((offset_of!(RowAt, kind), offset_of!(RowAt, register), offset_of!(RowAt, value)), (8, 10, 12));
     assert_eq!((offset_of!(Function, simple), offset_of!(Function, routine), offset_of!(Function, lsda)), (48, 56, 64));
     assert_eq!((offset_of!(Function, lsda_symbol), offset_of!(Function, relaxed), offset_of!(Function, end)), (72, 80, 88));
 }
@@ -103,7 +103,7 @@ fn packed_pairs() {
 
 #[test]
 fn the_row_check() {
-    let stored = Line { offset: 1, kind: 6, ..Line::default() };
+    let stored = RowAt { offset: 1, kind: 6, ..RowAt::default() };
     assert!(row_check_of(false, &ROWS));
     assert!(!row_check_of(true, &ROWS));
     assert!(row_check_of(false, &[stored; 16]));

@@ -8,11 +8,11 @@ use lib.ListN.{length}
 use borrow.Author.Tests.{le-leb, lt-ltb}
 use Rattle.format.specs.Lists.{functionStride, field, count, inside, markOk}
 use Rattle.format.specs.RowCheck.{rowCheckAt}
-use Rattle.structs.specs.declared.Line.{Line}
+use Rattle.structs.specs.declared.RowAt.{RowAt}
 use Rattle.checks.specs.Checks.{checkNumbers, checkOf}
 use Rattle.checks.proofs.Meaning.{all-of, row-count}
 
-pub agrees : (fs : List ℕ) (ys : List Line) (k : ℕ) → k < count functionStride fs → field functionStride fs k 2 ≡ 0 → field functionStride fs k 3 ≡ length ys
+pub agrees : (fs : List ℕ) (ys : List RowAt) (k : ℕ) → k < count functionStride fs → field functionStride fs k 2 ≡ 0 → field functionStride fs k 3 ≡ length ys
     → rowCheckAt fs (all-of ys) k ≡ checkOf (field functionStride fs k 6) ys
 unfolding rowCheckAt checkOf checkNumbers inside
 agrees fs ys k h a b =

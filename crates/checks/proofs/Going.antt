@@ -8,18 +8,18 @@ use mathlib.Core.List.{List}
 use lib.ListN.{length, getD}
 use lib.Dec.{eqb}
 use borrow.Author.Tests.{not-true, not-false}
-use Rattle.format.specs.Test.{each}
-use Rattle.format.specs.Lists.{allIn, rowOkAt, lineAt, markOk, mark}
+use Rattle.format.specs.Prelude.{each}
+use Rattle.format.specs.Lists.{allIn, rowOkAt, rowAt, markOk, mark}
 use Rattle.format.specs.RowCheck.{rowCheck}
 use Rattle.lists.proofs.Answers.{accepted, refused}
 use Rattle.lists.proofs.Ranges.{none-left, one-more}
-use Rattle.structs.specs.declared.Line.{Line}
-use Rattle.structs.specs.Structs.{lineNumbers}
+use Rattle.structs.specs.declared.RowAt.{RowAt}
+use Rattle.structs.specs.Structs.{rowNumbers}
 use Rattle.rules.specs.declared.Stepped.{Stepped}
 use Rattle.rules.specs.Orders.{Held, follow, Steps}
 use Rattle.rules.proofs.Checking.{follow-none}
 use Rattle.checks.specs.Checks.{checkNumbers, checkOf, Opens, Goes}
-use Rattle.checks.proofs.Meaning.{none, all-of, row-count, row-ok, row-line}
+use Rattle.checks.proofs.Meaning.{none, all-of, row-count, row-ok, row-at-here}
 
 -- what decides with a test decides with one more beside it
 drawn : (a b c d e : Bool) (f : Bool) → a && (b && c) ≡ d && e → a && (b && f && c) ≡ d && (f && e)
@@ -28,32 +28,32 @@ drawn a b c d e false h = rw (and-false b, and-false a, and-false d)
 
 -- ---- one row
 
-module _ {s : Stepped} {x : Line} (h : Held (s .after)) where
+module _ {s : Stepped} {x : RowAt} (h : Held (s .after)) where
   -- a no stays
   pub stays : not (s .ok) ≡ true → Goes s x s
   stays t = record { decides = λ xs. rw (not-true (s .ok) t); held = h }
 
   module _ (t : not (s .ok) ≡ false) where
-    pub no-row : {ok : Bool} → ok ≡ rowOkAt (lineNumbers x) 0 → not ok ≡ true → Goes s x (record { ok = false; after = s .after })
+    pub no-row : {ok : Bool} → ok ≡ rowOkAt (rowNumbers x) 0 → not ok ≡ true → Goes s x (record { ok = false; after = s .after })
     no-row e u = record { decides = λ xs. rw (not-false (s .ok) t, refused e u); held = h }
 
-    pub one-row : {ok first : Bool} {r : Stepped} → ok ≡ rowOkAt (lineNumbers x) 0 → not ok ≡ false → first ≡ s .after .leading && eqb (x .offset) 0
-        → Steps (s .after) first (lineAt (lineNumbers x) 0 .1) r → Goes s x r
-    unfolding lineAt lineNumbers
+    pub one-row : {ok first : Bool} {r : Stepped} → ok ≡ rowOkAt (rowNumbers x) 0 → not ok ≡ false → first ≡ s .after .leading && eqb (x .offset) 0
+        → Steps (s .after) first (rowAt (rowNumbers x) 0 .1) r → Goes s x r
+    unfolding rowAt rowNumbers
     one-row e u f g = record { decides = λ xs. rw (not-false (s .ok) t, accepted e u) (g .decides (x .offset) f xs); held = g .held }
 
 -- ---- the loop
 
 -- the n rows from i on, behind a state
 abbrev left : Stepped → List ℕ → (i n : ℕ) → Bool
-left s ns i n = s .ok && (allIn (rowOkAt ns) i n && follow (s .after) (each (lineAt ns) i n))
+left s ns i n = s .ok && (allIn (rowOkAt ns) i n && follow (s .after) (each (rowAt ns) i n))
 
 -- before row i
-pub record Going (simple : ℕ) (ys : List Line) (i : ℕ) (s : Stepped) : Type 0 where
+pub record Going (simple : ℕ) (ys : List RowAt) (i : ℕ) (s : Stepped) : Type 0 where
   pub held : Held (s .after)
   pub rest : checkOf simple ys ≡ left s (all-of ys) i (length ys - i)
 
-module _ {simple : ℕ} {ys : List Line} where
+module _ {simple : ℕ} {ys : List RowAt} where
   pub start : {s : Stepped} → Opens simple s → Going simple ys 0 s
   unfolding checkOf checkNumbers
   start {s} o =
@@ -64,8 +64,8 @@ module _ {simple : ℕ} {ys : List Line} where
         held = o .held;
         rest =
             rw (row-count ys, e)
-            (drawn true (markOk simple) (rowCheck (mark simple) (each (lineAt ns) 0 n)) (s .ok) (follow (s .after) (each (lineAt ns) 0 n)) (allIn (rowOkAt ns) 0 n)
-            (o .whole (each (lineAt ns) 0 n)));
+            (drawn true (markOk simple) (rowCheck (mark simple) (each (rowAt ns) 0 n)) (s .ok) (follow (s .after) (each (rowAt ns) 0 n)) (allIn (rowOkAt ns) 0 n)
+            (o .whole (each (rowAt ns) 0 n)));
       }
 
   pub turn : {i : ℕ} {s r : Stepped} → Going simple ys i s → i < length ys → Goes s (getD ys i none) r → Going simple ys (i + 1) r
@@ -77,9 +77,9 @@ module _ {simple : ℕ} {ys : List Line} where
       record {
         held = t .held;
         rest =
-            g .rest ∙ rw (e, one-more (rowOkAt ns) i n, row-ok ys i h, row-line ys i h, ← add-one i)
-            (drawn (s .ok) (rowOkAt (lineNumbers (getD ys i none)) 0) _ (r .ok) (follow (r .after) (each (lineAt ns) (i + 1) n)) (allIn (rowOkAt ns) (i + 1) n)
-            (t .decides (each (lineAt ns) (i + 1) n)));
+            g .rest ∙ rw (e, one-more (rowOkAt ns) i n, row-ok ys i h, row-at-here ys i h, ← add-one i)
+            (drawn (s .ok) (rowOkAt (rowNumbers (getD ys i none)) 0) _ (r .ok) (follow (r .after) (each (rowAt ns) (i + 1) n)) (allIn (rowOkAt ns) (i + 1) n)
+            (t .decides (each (rowAt ns) (i + 1) n)));
       }
 
   pub ended : {s : Stepped} → Going simple ys (length ys) s → s .ok ≡ checkOf simple ys

@@ -1,15 +1,15 @@
 // The row check of a function whose rows are structs, row by row. It holds them to the check over lists of numbers, in crate rules; the entry that walks a list of them stands in crate unwind.
 ghost use mathlib.Core.Path.{_≡_};
 ghost use Rattle.format.specs.Answers.{bit};
-ghost use Rattle.structs.specs.Structs.{lineNumbers};
+ghost use Rattle.structs.specs.Structs.{rowNumbers};
 ghost use Rattle.rules.specs.Orders.{Held};
 ghost use Rattle.checks.specs.Checks.{Opens, Goes};
 use rules::Stepped;
-use structs::Line;
+use structs::RowAt;
 
 // The numbers that a row means.
-fn numbers(x: Line) -> [u64; 4]
-    ensures { λ r. ⌜ r ≡ lineNumbers x ⌝ }
+fn numbers(x: RowAt) -> [u64; 4]
+    ensures { λ r. ⌜ r ≡ rowNumbers x ⌝ }
 {
     let offset = x.offset;
     let kind = x.kind as u64;
@@ -30,7 +30,7 @@ pub fn opening(simple: u64) -> Stepped
 }
 
 // A row more. A no stays, and a struct that is no row is one.
-pub fn go(s: Stepped, x: Line) -> Stepped
+pub fn go(s: Stepped, x: RowAt) -> Stepped
     requires { ⌜ Held (s .after) ⌝ }
     ensures { λ r. ⌜ Goes s x r ⌝ }
 {

@@ -7,7 +7,7 @@ use mathlib.Core.Bool.{Bool, true, false, _&&_}
 use mathlib.Core.List.{List, [], _∷_, _++_}
 use lib.Dec.{leb, ltb, eqb}
 use lib.ListN.{length, take}
-use Rattle.format.specs.Test.{pick}
+use Rattle.format.specs.Prelude.{pick}
 use Rattle.format.specs.Leb.{little}
 use Rattle.format.specs.X64.{node, allocBytes, slotBytes, saveBytes}
 use Rattle.format.proofs.Choice.{if-le, if-gt}

@@ -11,7 +11,7 @@ use lib.Signed.{ltZ}
 use mir.Syntax.{w64}
 use mir.Val.{SFits, ofZ, toZ}
 use mir.Facts.{toZ-ofZ, and-yes, or-no, eqb-no, T-not-not}
-use Rattle.format.specs.Test.{pick}
+use Rattle.format.specs.Prelude.{pick}
 use Rattle.format.specs.declared.Seh.{Seh}
 use Rattle.format.specs.declared.Seh.the-variants.{Frame}
 use Rattle.format.specs.X64.{size64, registerIn, allocNo, saveNo, operandNo, codeNo, frameOk, frameNo}

@@ -6,7 +6,7 @@ use mathlib.Core.Bool.{Bool, true, false}
 use mathlib.Core.List.{List, [], _∷_}
 use lib.Dec.{leb, ltb}
 use lib.ListN.{length, length-append, replicate, length-replicate}
-use Rattle.format.specs.Test.{pick}
+use Rattle.format.specs.Prelude.{pick}
 use Rattle.format.specs.declared.Seh.{Seh}
 use Rattle.format.specs.declared.Seh.the-variants.{Push, Alloc, Frame, Save}
 use Rattle.format.specs.X64.{node, size64, codeBytes, slots, reversed, infoBytes}

@@ -4,7 +4,7 @@ use Prim.Native.Nat.{ℕ}
 use mathlib.Core.Bool.{Bool, true, false}
 use mathlib.Core.Option.{none, some}
 use mathlib.Core.List.{List, [], _∷_, _++_}
-use Rattle.format.specs.Test.{pick, next, after}
+use Rattle.format.specs.Prelude.{pick, next, after}
 use Rattle.format.specs.Leb.{readLittle}
 use Rattle.format.specs.Headers.{headerId}
 use Rattle.format.specs.Reader.{readEntry, valueOr0, second, isHeader}

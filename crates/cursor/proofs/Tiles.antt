@@ -6,7 +6,7 @@ use mathlib.Core.List.{List, [], _∷_, map}
 use Prim.Native.Nat.{ℕ, zero, suc, _+_, _≤_, _<_}
 use native.Mathlib.Omega.{arith}
 use lib.ListN.{length}
-use Rattle.format.specs.Test.{pick, after}
+use Rattle.format.specs.Prelude.{pick, after}
 use Rattle.format.specs.Reader.{entries}
 use Rattle.format.specs.Reader as reader
 use Rattle.format.proofs.Choice.{either}

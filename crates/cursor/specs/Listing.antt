@@ -5,7 +5,7 @@ use mathlib.Core.Option.{Option, none, some}
 use mathlib.Core.List.{List, [], _∷_}
 use lib.ListN.{length, drop}
 use lib.Dec.{eqb}
-use Rattle.format.specs.Test.{pick, Read, after}
+use Rattle.format.specs.Prelude.{pick, Read, after}
 use Rattle.format.specs.Reader.{readEntry, isHeader}
 use Rattle.format.specs.Reader as reader
 use Rattle.cursor.specs.declared.Entry.{Entry}

@@ -6,10 +6,10 @@ use mathlib.Core.Bool.{Bool, true, false}
 use mathlib.Core.Option.{Option, none, some}
 use mathlib.Core.List.{List, [], _∷_, _++_, map}
 use lib.ListN.{length, length-append, length-replicate}
-use Rattle.format.specs.Test.{pick}
+use Rattle.format.specs.Prelude.{pick}
 use Rattle.format.specs.declared.Machine.{Machine}
 use Rattle.format.specs.declared.Section.{Section}
-use Rattle.format.specs.Rows.{Line}
+use Rattle.format.specs.Rows.{RowAt}
 use Rattle.format.specs.Lists.{Function, Landing, Named, Pointer, Relaxed}
 use Rattle.format.specs.Headers.{Kind, plain, personal, named, Key, keyOf, others, kindRelocs, headerRelocs, padding}
 use Rattle.format.specs.Records.{pointerTo, namedReloc, lsdaReloc, sumPair, rowRelocs, recordFields, recordRelocs}
@@ -17,7 +17,7 @@ use Rattle.format.specs.CallSites.{siteBytes, sitesBytes, siteTable, sitePad, s
 use Rattle.format.specs.Writer.{isDebug, Seen, Part, partsFrom, partOf, isEmpty, joined, partWith}
 use Rattle.format.proofs.EntryBack.{padding-small}
 use Rattle.format.proofs.Leading.{others-count}
-use Rattle.format.proofs.Fits.{lineCount}
+use Rattle.format.proofs.Fits.{rowCount}
 use Rattle.format.proofs.Parts.{Spot, cieOf, relocsFor, placeOf, partRelocs, relocsOf, relocs-more, spotOf, nextAt, nextSites, nextSeen}
 use Rattle.records.proofs.CallSites.{uleb-most}
 use Rattle.records.proofs.LabelLaws.{steps-most}
@@ -60,7 +60,7 @@ unfolding sumPair
 sum-few place bytes f none = omega arith
 sum-few place bytes f (some r) = omega arith
 
-rows-few : (w place : ℕ) (xs : List Line) (o : Option Relaxed) → length (rowRelocs w place xs o) ≤ 2 * length xs
+rows-few : (w place : ℕ) (xs : List RowAt) (o : Option Relaxed) → length (rowRelocs w place xs o) ≤ 2 * length xs
 unfolding rowRelocs
 rows-few w place xs none = omega arith
 rows-few w place xs (some r) = steps-most w place 0 (r .pairs) xs
@@ -103,8 +103,8 @@ module _ (s : Section) (m : Machine) where
   relocs-none at sites seen = refl
 
   pub relocs-few : (at sites : ℕ) (seen : List Seen) (fs : List Function)
-      → length (relocsOf s m at sites seen fs) ≤ 5 * length fs + 2 * lineCount fs
-  unfolding lineCount
+      → length (relocsOf s m at sites seen fs) ≤ 5 * length fs + 2 * rowCount fs
+  unfolding rowCount
   relocs-few at sites seen [] = rw (relocs-none at sites seen) (omega arith)
   relocs-few at sites seen (f ∷ fs) =
       rw (relocs-more s m at sites seen f fs, length-append)

@@ -8,7 +8,7 @@ use mathlib.Core.List.{List, [], map}
 use borrow.Author.Tests.{le-leb, ne-eqb}
 use lib.Dec.{T, leb}
 use lib.ListN.{length}
-use Rattle.format.specs.Test.{pick, each}
+use Rattle.format.specs.Prelude.{pick, each}
 use Rattle.format.specs.declared.Section.{Section}
 use Rattle.format.specs.declared.Section.the-variants.{Elf, MachO, Debug}
 use Rattle.format.specs.Machine.{machineOf}

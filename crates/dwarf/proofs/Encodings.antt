@@ -7,7 +7,7 @@ use mathlib.Core.Option.{Option, none, some}
 use mathlib.Core.List.{[]}
 use borrow.Author.Tests.{ne-eqb}
 use lib.Dec.{eqb}
-use Rattle.format.specs.Test.{pick, each}
+use Rattle.format.specs.Prelude.{pick, each}
 use Rattle.format.specs.Lists.{Named, Landing, landingAt}
 use Rattle.format.specs.Headers.{sizeOf, pointerSize, sizeOr0}
 use Rattle.format.specs.Questions.{isSome, lsdaOk, namedOk, encodingsOk}

@@ -7,7 +7,7 @@ use mathlib.Core.List.{List, [], _∷_, _++_, map, append-assoc, append-nil}
 use borrow.Author.Tests.{eq-eqb, ne-eqb}
 use lib.Dec.{eqb}
 use lib.ListN.{length, length-append, length-map}
-use Rattle.format.specs.Test.{each}
+use Rattle.format.specs.Prelude.{each}
 use Rattle.format.specs.Lists.{Function, functionAt, functionsOf}
 use Rattle.format.specs.Headers.{Key, keyOf}
 use Rattle.format.specs.Writer.{Part, taken, partOf, isEmpty, partsFrom, partsOf, joined, dwarf}

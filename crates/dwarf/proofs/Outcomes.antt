@@ -7,7 +7,7 @@ use mathlib.Core.Option.{none, some}
 use mathlib.Core.List.{List, [], map}
 use lib.Dec.{leb→le}
 use lib.ListN.{length}
-use Rattle.format.specs.Test.{pick, each}
+use Rattle.format.specs.Prelude.{pick, each}
 use Rattle.format.specs.declared.Section.{Section}
 use Rattle.format.specs.declared.Counts.{Counts}
 use Rattle.format.specs.declared.Outcome.the-variants as outcome

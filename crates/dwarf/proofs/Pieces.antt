@@ -6,7 +6,7 @@ use mathlib.Core.Bool.{Bool, true, false}
 use mathlib.Core.Option.{none, some}
 use mathlib.Core.List.{List, []}
 use lib.ListN.{length, getD}
-use Rattle.format.specs.Test.{pick}
+use Rattle.format.specs.Prelude.{pick}
 use Rattle.format.specs.declared.Machine.{Machine}
 use Rattle.format.specs.declared.Section.{Section}
 use Rattle.format.specs.Writer.{Part, isDebug, partWith}

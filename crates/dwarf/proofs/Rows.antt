@@ -7,8 +7,8 @@ use mathlib.Core.Bool.{Bool, true, false, _&&_}
 use mathlib.Core.List.{List}
 use borrow.Author.Tests.{le-leb, lt-leb}
 use lib.Dec.{T, leb, ltb}
-use Rattle.format.specs.Test.{all, each}
-use Rattle.format.specs.Lists.{field, rowStride, lineAt, allIn, rowOkAt}
+use Rattle.format.specs.Prelude.{all, each}
+use Rattle.format.specs.Lists.{field, rowStride, rowAt, allIn, rowOkAt}
 use Rattle.format.specs.Questions.{stepsOk}
 use Rattle.format.proofs.ListLaws.{in-range}
 use Rattle.leading.specs.Functions.{RowsReady}
@@ -29,15 +29,15 @@ row-ready {rows} {at} {n} r i l h =
 pub record Stepping (rows : List ℕ) (at n from i : ℕ) : Type 0 where
   pub low : at ≤ i
   pub high : i ≤ at + n
-  pub rest : stepsOk 0 (each (lineAt rows) at n) ≡ stepsOk from (each (lineAt rows) i (at + n - i))
+  pub rest : stepsOk 0 (each (rowAt rows) at n) ≡ stepsOk from (each (rowAt rows) i (at + n - i))
 
 pub start : (rows : List ℕ) (at n : ℕ) → Stepping rows at n 0 at
 start rows at n =
-    record { low = omega arith; high = omega arith; rest = let e : n ≡ at + n - at = omega arith in ap (λ (k : ℕ). stepsOk 0 (each (lineAt rows) at k)) e }
+    record { low = omega arith; high = omega arith; rest = let e : n ≡ at + n - at = omega arith in ap (λ (k : ℕ). stepsOk 0 (each (rowAt rows) at k)) e }
 
 module _ {rows : List ℕ} {at n from i to : ℕ} (a : Stepping rows at n from i) (h : i < at + n) (e : to ≡ field rowStride rows i 0) where
-  here : stepsOk 0 (each (lineAt rows) at n) ≡ leb from to && ltb (to - from) (2 ^ 32) && stepsOk to (each (lineAt rows) (i + 1) (at + n - (i + 1)))
-  unfolding stepsOk each lineAt
+  here : stepsOk 0 (each (rowAt rows) at n) ≡ leb from to && ltb (to - from) (2 ^ 32) && stepsOk to (each (rowAt rows) (i + 1) (at + n - (i + 1)))
+  unfolding stepsOk each rowAt
   here =
       let l : at + n - i ≡ suc (at + n - suc i) = omega arith in
       a .rest ∙ rw (add-one i, l, e)
@@ -45,13 +45,13 @@ module _ {rows : List ℕ} {at n from i to : ℕ} (a : Stepping rows at n from i
   pub turn : from ≤ to → to - from < 2 ^ 32 → Stepping rows at n to (i + 1)
   turn f g = record { low = omega arith; high = omega arith; rest = here ∙ simp (le-leb from to f, le-leb (suc (to - from)) (2 ^ 32) g) }
 
-  pub back : to < from → false ≡ stepsOk 0 (each (lineAt rows) at n)
+  pub back : to < from → false ≡ stepsOk 0 (each (rowAt rows) at n)
   back f = sym (here ∙ simp (lt-leb from to f))
 
-  pub far : from ≤ to → 2 ^ 32 ≤ to - from → false ≡ stepsOk 0 (each (lineAt rows) at n)
+  pub far : from ≤ to → 2 ^ 32 ≤ to - from → false ≡ stepsOk 0 (each (rowAt rows) at n)
   far f g = sym (here ∙ simp (le-leb from to f, lt-leb (suc (to - from)) (2 ^ 32) (omega arith)))
 
-pub ended : {rows : List ℕ} {at n from i : ℕ} → Stepping rows at n from i → at + n ≤ i → true ≡ stepsOk 0 (each (lineAt rows) at n)
+pub ended : {rows : List ℕ} {at n from i : ℕ} → Stepping rows at n from i → at + n ≤ i → true ≡ stepsOk 0 (each (rowAt rows) at n)
 unfolding stepsOk each
 ended {rows} {at} {n} {from} {i} a h =
     let e : at + n - i ≡ 0 = omega arith in

@@ -8,7 +8,7 @@ use mathlib.Core.List.{List, [], _∷_, _++_}
 use borrow.Author.Tests.{eq-eqb, ne-eqb}
 use lib.ListN.{length, getD, set, length-set, List·getD-append}
 use lib.Seq.{getD-append-add, getD-set-same, getD-set-other}
-use Rattle.format.specs.Test.{pick}
+use Rattle.format.specs.Prelude.{pick}
 use Rattle.format.specs.Put.{put}
 use Rattle.format.specs.Lists.{numbersOf}
 use Rattle.format.specs.Writer.{Part, isDebug, joined}

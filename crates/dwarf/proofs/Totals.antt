@@ -8,9 +8,9 @@ use mathlib.Core.List.{List, []}
 use borrow.Author.Tests.{eq-eqb, ne-eqb}
 use lib.Dec.{eqb}
 use lib.ListN.{length, getD, length-append}
-use Rattle.format.specs.Test.{pick}
+use Rattle.format.specs.Prelude.{pick}
 use Rattle.format.specs.declared.Machine.{Machine}
-use Rattle.format.specs.Lists.{lineAt, numbersOf}
+use Rattle.format.specs.Lists.{rowAt, numbersOf}
 use Rattle.format.specs.Records.{recordBytes, recordRelocs}
 use Rattle.format.specs.CallSites.{sitePad, siteAdded}
 use Rattle.format.specs.Writer.{Part, isDebug}
@@ -107,7 +107,7 @@ sized-next x k t e =
 module _ (debug : Bool) (m : Machine) (e : Extent) (rows pairs : List ℕ) {n : ℕ} (q : n ≡ length (recordRelocs debug m 0 0 0 (meant e rows [] pairs))) where
   pub relocs-few : Sound m e rows → n ≤ 2097156
   unfolding meant
-  relocs-few s = omega (arith, s .few, record-few debug m 0 0 0 (meant e rows [] pairs), each-length (lineAt rows) (e .«rows_at») (e .rows))
+  relocs-few s = omega (arith, s .few, record-few debug m 0 0 0 (meant e rows [] pairs), each-length (rowAt rows) (e .«rows_at») (e .rows))
 
   module _ {own : Bool} where
     pub own-numbers : {h : ℕ} → own ≡ true → h ≡ headerRelocCount debug e → 5 * (h + n) ≡ relocNumbers own debug m e rows pairs

@@ -4,7 +4,7 @@ use Prim.Native.Nat.{ℕ}
 use mathlib.Core.Bool.{Bool, true, false}
 use mathlib.Core.List.{List}
 use lib.Dec.{T}
-use Rattle.format.specs.Test.{each}
+use Rattle.format.specs.Prelude.{each}
 use Rattle.format.specs.declared.Machine.{Machine}
 use Rattle.format.specs.declared.Section.{Section}
 use Rattle.format.specs.declared.Outcome.{Outcome}

@@ -5,10 +5,10 @@ ghost use mathlib.Core.Bool.{true, not};
 ghost use mathlib.Core.List.{[]};
 ghost use lib.Dec.{T, ltb, eqb};
 ghost use lib.ListN.{length, getD};
-ghost use Rattle.format.specs.Test.{all, each};
+ghost use Rattle.format.specs.Prelude.{all, each};
 ghost use Rattle.format.specs.Machine.{isWord};
 ghost use Rattle.format.specs.Rows.{rowWhole};
-ghost use Rattle.format.specs.Lists.{field, pairStride, functionStride, count, lineAt, pairAt};
+ghost use Rattle.format.specs.Lists.{field, pairStride, functionStride, count, rowAt, pairAt};
 ghost use Rattle.format.specs.Questions.{sizeBytes, encodingsOk, stepsOk, pairsOk, dwarfAsks, perFunction, fitting, dwarfGiven, givenOf, roomIn};
 ghost use Rattle.format.specs.Writer.{isDebug, alignFor};
 ghost use Rattle.format.specs.Answers.{questionOf, Writes};
@@ -100,7 +100,7 @@ fn encodings_ok(word: u64, e: Extent) -> bool
 // Question 23: no row goes back, nor steps above 2^32 - 1.
 fn steps_ok(rows: &[u64], at: usize, n: usize) -> bool
     requires { ⌜ RowsReady (now rows) at n ⌝ }
-    ensures { λ r. ⌜ r ≡ stepsOk 0 (each (lineAt (now (rows .entry))) at n) ⌝ }
+    ensures { λ r. ⌜ r ≡ stepsOk 0 (each (rowAt (now (rows .entry))) at n) ⌝ }
 {
     let end = at + n;
     let mut from = 0;
@@ -122,7 +122,7 @@ fn steps_ok(rows: &[u64], at: usize, n: usize) -> bool
 // Question 24: each offset that is written factored is a multiple of the word.
 fn rows_whole(word: u64, rows: &[u64], at: usize, n: usize) -> bool
     requires { ⌜ (0 < word) × RowsReady (now rows) at n ⌝ }
-    ensures { λ r. ⌜ r ≡ all (λ x. rowWhole word (x .1)) (each (lineAt (now (rows .entry))) at n) ⌝ }
+    ensures { λ r. ⌜ r ≡ all (λ x. rowWhole word (x .1)) (each (rowAt (now (rows .entry))) at n) ⌝ }
 {
     let end = at + n;
     let mut i = at;

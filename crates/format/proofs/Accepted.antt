@@ -12,12 +12,12 @@ use lib.Signed.{mag}
 use mir.Syntax.{w32}
 use mir.Val.{toZ}
 use mir.Facts.{and-yes, yes-and, yes-leb, yes-ltb, sfits-toZ}
-use Rattle.format.specs.Test.{pick, all, each}
+use Rattle.format.specs.Prelude.{pick, all, each}
 use Rattle.format.specs.declared.Machine.{Machine}
 use Rattle.format.specs.declared.Row.{Row}
 use Rattle.format.specs.Machine.{machineOf, machineOk, machineStride, isWord, noFramePointer}
-use Rattle.format.specs.Rows.{Line, rowWhole, regOf, offsetOf}
-use Rattle.format.specs.Lists.{Function, functionStride, rowStride, landingStride, pairStride, field, count, rowOf, lineAt, functionAt, functionsOf, mostFunctions, mostRecords, inside, symbolOk, markOk, whenMarked, hasRegister, hasOffset, rowOk, rowOkAt, pairOkAt, pointerOk, allIn, functionOkAt, sumOf, pairsIn, listsOk}
+use Rattle.format.specs.Rows.{RowAt, rowWhole, regOf, offsetOf}
+use Rattle.format.specs.Lists.{Function, functionStride, rowStride, landingStride, pairStride, field, count, rowOf, rowAt, functionAt, functionsOf, mostFunctions, mostRecords, inside, symbolOk, markOk, whenMarked, hasRegister, hasOffset, rowOk, rowOkAt, pairOkAt, pointerOk, allIn, functionOkAt, sumOf, pairsIn, listsOk}
 use Rattle.format.specs.declared.Section.{Section}
 use Rattle.format.specs.declared.Section.the-variants.{Elf, MachO, Debug}
 use Rattle.format.specs.Writer.{Written, bare, fixed, taken, dwarf}
@@ -26,8 +26,8 @@ use Rattle.format.specs.Rules.{runRows}
 use Rattle.format.specs.RowCheck.{rowCheck, rowCheckAt}
 use Rattle.format.specs.Questions.{Question, ask, andThen, perFunction, sizeBytes, stepsOk, dwarfAsks, Room, Answer, empty, accepted, unless, fitting, dwarfAnswer, Given, givenFunctions, noFunctions, givenAsks, dwarfGiven, formatAnswer, relaxedTable, relaxedDebugFrame, dwarfWritten}
 use Rattle.format.proofs.RowBack.{Off32}
-use Rattle.format.proofs.WalkBack.{LinesOk}
-use Rattle.format.proofs.Fits.{MachineFits, FunctionFits, AllFit, lineCount, Bounded}
+use Rattle.format.proofs.WalkBack.{RowsAtOk}
+use Rattle.format.proofs.Fits.{MachineFits, FunctionFits, AllFit, rowCount, Bounded}
 use Rattle.format.proofs.ListLaws.{each-length, each-get, get-map, chained, in-range}
 
 -- ---- what a section takes of a function
@@ -143,13 +143,13 @@ row-operands kind reg off t =
 
 -- ---- one function
 
-lines-ok : (rows : List ℕ) (word at n from : ℕ) → T (allIn (rowOkAt rows) at n) → T (stepsOk from (each (lineAt rows) at n))
-    → T (all (λ x. rowWhole word (x .1)) (each (lineAt rows) at n)) → LinesOk word from (each (lineAt rows) at n)
-unfolding allIn all each stepsOk rowOkAt lineAt
-lines-ok rows word at zero from t u v = tt
-lines-ok rows word at (suc n) from t u v =
-    let x : Line = lineAt rows at in
-    let xs : List Line = each (lineAt rows) (suc at) n in
+rows-at-ok : (rows : List ℕ) (word at n from : ℕ) → T (allIn (rowOkAt rows) at n) → T (stepsOk from (each (rowAt rows) at n))
+    → T (all (λ x. rowWhole word (x .1)) (each (rowAt rows) at n)) → RowsAtOk word from (each (rowAt rows) at n)
+unfolding allIn all each stepsOk rowOkAt rowAt
+rows-at-ok rows word at zero from t u v = tt
+rows-at-ok rows word at (suc n) from t u v =
+    let x : RowAt = rowAt rows at in
+    let xs : List RowAt = each (rowAt rows) (suc at) n in
     let ok = and-yes (rowOkAt rows at) (allIn (rowOkAt rows) (suc at) n) t in
     let whole = and-yes (rowWhole word (x .1)) (all (λ y. rowWhole word (y .1)) xs) v in
     let steps = chained (leb from (x .0)) (ltb (x .0 - from) (2 ^ 32) ∷ stepsOk (x .0) xs ∷ []) in
@@ -157,7 +157,7 @@ lines-ok rows word at (suc n) from t u v =
       leb→le from (x .0) (steps 0 u),
       ltb→lt (x .0 - from) (2 ^ 32) (steps 1 u),
       record { reg = fits .reg; off = fits .off; whole = whole .0 },
-      lines-ok rows word (suc at) n (x .0) (ok .1) (steps 2 u) (whole .1),
+      rows-at-ok rows word (suc at) n (x .0) (ok .1) (steps 2 u) (whole .1),
     )
 
 -- what question 13 says of a function's rows and its simple mark
@@ -194,7 +194,7 @@ module _ (fs rows landings pairs : List ℕ) where
         encodings = asked _ _ _ (e₂ .0);
         lines =
             rw (taken-rows s f)
-            (lines-ok rows (m .word) (field functionStride fs k 2) (field functionStride fs k 3) 0 (l .known)
+            (rows-at-ok rows (m .word) (field functionStride fs k 2) (field functionStride fs k 3) 0 (l .known)
             (rw (taken-rows s f) at (asked _ _ _ (e₃ .0))) (rw (taken-rows s f) at (asked _ _ _ (e₄ .0))));
       }
 
@@ -211,11 +211,11 @@ module _ (fs rows landings pairs : List ℕ) where
       (function-fits s m at at (listed at (h .0)) (d .0), all-fit s m (suc at) n (h .1) (d .1))
 
   -- the rows of the functions, as their list counts them
-  lines-counted : (s : Section) (at n : ℕ)
-      → lineCount (map (taken s) (each (functionAt fs rows landings pairs) at n)) ≡ sumOf (λ k. field functionStride fs k 3) at n
-  unfolding each lineCount sumOf functionAt
-  lines-counted s at zero = refl
-  lines-counted s at (suc n) = rw (taken-rows, each-length, lines-counted s (suc at) n)
+  rows-at-counted : (s : Section) (at n : ℕ)
+      → rowCount (map (taken s) (each (functionAt fs rows landings pairs) at n)) ≡ sumOf (λ k. field functionStride fs k 3) at n
+  unfolding each rowCount sumOf functionAt
+  rows-at-counted s at zero = refl
+  rows-at-counted s at (suc n) = rw (taken-rows, each-length, rows-at-counted s (suc at) n)
 
   lists-say : T (listsOk fs rows landings pairs)
       → (count functionStride fs ≤ mostFunctions) × (sumOf (λ k. field functionStride fs k 3) 0 (count functionStride fs) ≤ mostRecords)
@@ -234,7 +234,7 @@ module _ (fs rows landings pairs : List ℕ) where
       let h = lists-say t in
       record {
         functions = rw (length-map, each-length) (h .0);
-        lines = rw (lines-counted s 0 (count functionStride fs)) (h .1);
+        lines = rw (rows-at-counted s 0 (count functionStride fs)) (h .1);
       }
 
 -- ---- an accepted list
@@ -291,13 +291,13 @@ fits-at s m (x ∷ xs) zero f a e = let z : x ≡ f = cc in rw z at (a .0)
 fits-at s m (x ∷ xs) (suc k) f a e = fits-at s m xs k f (a .1) e
 
 -- lines that are in order go forward
-lines-forward : (word from : ℕ) (xs : List Line) → LinesOk word from xs → T (stepsOk from xs)
+rows-at-forward : (word from : ℕ) (xs : List RowAt) → RowsAtOk word from xs → T (stepsOk from xs)
 unfolding stepsOk
-lines-forward word from [] ok = tt
-lines-forward word from (x ∷ xs) ok =
+rows-at-forward word from [] ok = tt
+rows-at-forward word from (x ∷ xs) ok =
     yes-and (leb from (x .0) && ltb (x .0 - from) (2 ^ 32)) (stepsOk (x .0) xs)
     (yes-and (leb from (x .0)) (ltb (x .0 - from) (2 ^ 32)) (yes-leb (ok .0)) (yes-ltb (ok .1)))
-    (lines-forward word (x .0) xs (ok .3))
+    (rows-at-forward word (x .0) xs (ok .3))
 
 and-right : (a b : Bool) → T a → a && b ≡ b
 and-right true b t = refl
@@ -309,7 +309,7 @@ module _ {s : Section} {g : Given} {w : Written} (a : Accepted s g w) (k : ℕ) 
 
   pub forward : T (stepsOk 0 (givenFunction g k .rows))
   forward =
-      lines-forward (machineOf (g .machine) .word) 0 (givenFunction g k .rows) (rw (taken-rows s (givenFunction g k)) at (function-fits-at .lines))
+      rows-at-forward (machineOf (g .machine) .word) 0 (givenFunction g k .rows) (rw (taken-rows s (givenFunction g k)) at (function-fits-at .lines))
 
   listed-at : Listed (g .functions) (g .rows) k
   listed-at =

@@ -4,7 +4,7 @@ use mathlib.Core.Bool.{false}
 use Prim.Native.Nat.{ℕ}
 use mathlib.Core.List.{List, [], _∷_, map}
 use lib.IntN.{pos, negsuc}
-use Rattle.format.specs.Test.{pick}
+use Rattle.format.specs.Prelude.{pick}
 use Rattle.format.specs.Leb.{little, ulebF, uleb, bits7, slebF, sleb}
 use Rattle.format.specs.Machine.{x8664}
 use Rattle.format.specs.declared.Row.the-variants.{DefCfa, Offset}

@@ -6,12 +6,12 @@ use mathlib.Core.Bool.{Bool, true, false, not, _&&_, _||_}
 use mathlib.Core.List.{List, [], _∷_, _++_, append-nil, append-assoc}
 use lib.Dec.{T, T-not, leb, ltb, eqb, leb→le}
 use mir.Facts.{and-yes, yes-and}
-use Rattle.format.specs.Test.{pick, all}
+use Rattle.format.specs.Prelude.{pick, all}
 use Rattle.format.specs.declared.Machine.{Machine}
 use Rattle.format.specs.declared.Row.{Row}
 use Rattle.format.specs.declared.Row.the-variants.{DefCfa, DefCfaOffset, DefCfaRegister, Offset, Restore, Undefined, RememberState, RestoreState, NegateRaState}
 use Rattle.format.specs.declared.Reading.the-variants.{Refused}
-use Rattle.format.specs.Rows.{Line, kindOf}
+use Rattle.format.specs.Rows.{RowAt, kindOf}
 use Rattle.format.specs.Lists.{Function}
 use Rattle.format.specs.Headers.{implied, leads, ahead, others, leading}
 use Rattle.format.specs.Questions.{stepsOk}
@@ -23,13 +23,13 @@ use Rattle.format.proofs.RulesSeen.{allowed, ran-yes, ran-no, whole}
 -- ---- rows in order of their offsets
 
 -- the steps of the rows behind the first, and that the first does not go back
-stepped : (at : ℕ) (x : Line) (xs : List Line) → T (stepsOk at (x ∷ xs)) → (at ≤ x .0) × T (stepsOk (x .0) xs)
+stepped : (at : ℕ) (x : RowAt) (xs : List RowAt) → T (stepsOk at (x ∷ xs)) → (at ≤ x .0) × T (stepsOk (x .0) xs)
 unfolding stepsOk
 stepped at x xs t =
     let h = and-yes (leb at (x .0) && ltb (x .0 - at) (2 ^ 32)) (stepsOk (x .0) xs) t in
     (leb→le at (x .0) (and-yes (leb at (x .0)) (ltb (x .0 - at) (2 ^ 32)) (h .0) .0), h .1)
 
-none-later : (p at : ℕ) (xs : List Line) → T (stepsOk at xs) → p < at → upTo p xs ≡ []
+none-later : (p at : ℕ) (xs : List RowAt) → T (stepsOk at xs) → p < at → upTo p xs ≡ []
 unfolding upTo
 none-later p at [] t h = refl
 none-later p at (x ∷ xs) t h =
@@ -37,7 +37,7 @@ none-later p at (x ∷ xs) t h =
     let l : p < x .0 = omega arith in
     rw (if-gt (x .0) p) (none-later p (x .0) xs (s .1) l)
 
-while-upTo : (p at : ℕ) (xs : List Line) → T (stepsOk at xs) → while p xs ≡ upTo p xs
+while-upTo : (p at : ℕ) (xs : List RowAt) → T (stepsOk at xs) → while p xs ≡ upTo p xs
 unfolding while upTo
 while-upTo p at [] t = refl
 while-upTo p at (x ∷ xs) t =
@@ -47,21 +47,21 @@ while-upTo p at (x ∷ xs) t =
     (λ g. rw (if-gt (x .0) p, if-gt (x .0) p, none-later p (x .0) xs (s .1)))
 
 -- the offset of the last row, where there is one, else `at`
-abbrev pub lastAt : ℕ → List Line → ℕ
+abbrev pub lastAt : ℕ → List RowAt → ℕ
 lastAt at [] = at
 lastAt at (x ∷ xs) = lastAt (x .0) xs
 
 -- p is at or past the last row
-abbrev pub Past : ℕ → List Line → Type 0
+abbrev pub Past : ℕ → List RowAt → Type 0
 Past p xs = lastAt 0 xs ≤ p
 
-last-after : (at : ℕ) (xs : List Line) → T (stepsOk at xs) → at ≤ lastAt at xs
+last-after : (at : ℕ) (xs : List RowAt) → T (stepsOk at xs) → at ≤ lastAt at xs
 last-after at [] t = omega arith
 last-after at (x ∷ xs) t =
     let s : (at ≤ x .0) × T (stepsOk (x .0) xs) = stepped at x xs t in
     omega (arith, last-after (x .0) xs (s .1))
 
-while-all : (p at : ℕ) (xs : List Line) → T (stepsOk at xs) → lastAt at xs ≤ p → while p xs ≡ rowsOf xs
+while-all : (p at : ℕ) (xs : List RowAt) → T (stepsOk at xs) → lastAt at xs ≤ p → while p xs ≡ rowsOf xs
 unfolding while rowsOf
 while-all p at [] t h = refl
 while-all p at (x ∷ xs) t h =
@@ -70,7 +70,7 @@ while-all p at (x ∷ xs) t h =
     rw (if-le (x .0) p) (ap (λ (rs : List Row). x .1 ∷ rs) (while-all p (x .0) xs (s .1) h))
 
 -- the rows that a run comes to, and those that it does not
-cut : (p : ℕ) (xs : List Line) → (rs : List Row) × (rowsOf xs ≡ while p xs ++ rs)
+cut : (p : ℕ) (xs : List RowAt) → (rs : List Row) × (rowsOf xs ≡ while p xs ++ rs)
 unfolding while rowsOf
 cut p [] = ([], refl)
 cut p (x ∷ xs) =
@@ -81,13 +81,13 @@ cut p (x ∷ xs) =
 -- ---- leading rows and the others
 
 -- the others are a function's rows from some row on
-others-steps : (at : ℕ) (xs : List Line) → T (stepsOk at xs) → (b : ℕ) × (T (stepsOk b (others xs)) × (lastAt b (others xs) ≡ lastAt at xs))
+others-steps : (at : ℕ) (xs : List RowAt) → T (stepsOk at xs) → (b : ℕ) × (T (stepsOk b (others xs)) × (lastAt b (others xs) ≡ lastAt at xs))
 unfolding others
 others-steps at [] t = (at, (t, refl))
 others-steps at (x ∷ xs) t =
     tested (leads x) (λ l. rw (pick-yes (leads x)) (others-steps (x .0) xs (stepped at x xs t .1))) (λ l. rw (pick-no (leads x)) (at, (t, refl)))
 
-rows-split : (xs : List Line) → rowsOf xs ≡ ahead xs ++ rowsOf (others xs)
+rows-split : (xs : List RowAt) → rowsOf xs ≡ ahead xs ++ rowsOf (others xs)
 unfolding rowsOf ahead others
 rows-split [] = refl
 rows-split (x ∷ xs) =
@@ -97,7 +97,7 @@ rows-split (x ∷ xs) =
 abbrev noRemember : Row → Bool
 noRemember r = not (eqb (kindOf r) 6)
 
-ahead-none : (xs : List Line) → T (all noRemember (ahead xs))
+ahead-none : (xs : List RowAt) → T (all noRemember (ahead xs))
 unfolding ahead leads all
 ahead-none [] = tt
 ahead-none (x ∷ xs) =

@@ -7,7 +7,7 @@ use native.Mathlib.Nat.{lt-of-not-le}
 use native.Mathlib.Decide.{decLe}
 use lib.Dec.{T, leb, eqb}
 use mir.Facts.{yes-leb, no-leb, yes-eqb, no-eqb}
-use Rattle.format.specs.Test.{pick}
+use Rattle.format.specs.Prelude.{pick}
 
 pub pick-yes {ℓ} : {X : Type ℓ} (b : Bool) (x y : X) → T b → pick b x y ≡ x
 unfolding pick

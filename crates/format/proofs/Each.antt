@@ -4,7 +4,7 @@ use mathlib.Core.Bool.{Bool, not}
 use mathlib.Core.Option.{some}
 use mathlib.Core.List.{List, [], _∷_, _++_}
 use lib.Dec.{T}
-use Rattle.format.specs.Test.{first}
+use Rattle.format.specs.Prelude.{first}
 use Rattle.format.proofs.Choice.{pick-yes, pick-no}
 
 abbrev pub Each : {A : Type 0} → (A → Type 0) → List A → Type 0

@@ -10,7 +10,7 @@ use lib.ListN.{length, replicate, length-append, length-replicate}
 use lib.Seq.{take-at, drop-at}
 use lib.Dec.{T, leb}
 use mir.Facts.{yes-and, yes-leb}
-use Rattle.format.specs.Test.{next}
+use Rattle.format.specs.Prelude.{next}
 use Rattle.format.specs.Headers.{padding, padded, entry}
 use Rattle.format.specs.Reader.{readEntry}
 use Rattle.format.proofs.Choice.{pick-yes}

@@ -10,7 +10,7 @@ use lib.ListN.{length, replicate, length-append}
 use lib.Seq.{take-at, drop-at}
 use lib.Dec.{T, eqb}
 use mir.Facts.{or-yes, eqb-yes}
-use Rattle.format.specs.Test.{pick, next}
+use Rattle.format.specs.Prelude.{pick, next}
 use Rattle.format.specs.Leb.{little, readLittle}
 use Rattle.format.specs.Machine.{isWord}
 use Rattle.format.specs.Headers.{sizeOf, pointerSize, sizeOr0, pointerBytes, counted}

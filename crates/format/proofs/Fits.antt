@@ -9,7 +9,7 @@ use Rattle.format.specs.Machine.{isWord}
 use Rattle.format.specs.Lists.{Function, mostFunctions, mostRecords}
 use Rattle.format.specs.declared.Section.{Section}
 use Rattle.format.specs.Questions.{sizeBytes, encodingsOk}
-use Rattle.format.proofs.WalkBack.{LinesOk}
+use Rattle.format.proofs.WalkBack.{RowsAtOk}
 
 -- question 11, as far as the tables go
 pub record MachineFits (m : Machine) : Type 0 where
@@ -23,18 +23,18 @@ pub record MachineFits (m : Machine) : Type 0 where
 pub record FunctionFits (s : Section) (m : Machine) (f : Function) : Type 0 where
   pub size-small : f .size < 256 ^ sizeBytes s (m .word)
   pub encodings : T (encodingsOk (m .word) (f .landings) (f .named))
-  pub lines : LinesOk (m .word) 0 (f .rows)
+  pub lines : RowsAtOk (m .word) 0 (f .rows)
 
 abbrev pub AllFit : Section → Machine → List Function → Type 0
 AllFit s m [] = Unit {0}
 AllFit s m (f ∷ fs) = FunctionFits s m f × AllFit s m fs
 
 -- rows summed over the functions
-unfoldable pub lineCount : List Function → ℕ
-lineCount [] = 0
-lineCount (f ∷ fs) = length (f .rows) + lineCount fs
+unfoldable pub rowCount : List Function → ℕ
+rowCount [] = 0
+rowCount (f ∷ fs) = length (f .rows) + rowCount fs
 
 -- question 13: counts
 pub record Bounded (fs : List Function) : Type 0 where
   pub functions : length fs ≤ mostFunctions
-  pub lines : lineCount fs ≤ mostRecords
+  pub lines : rowCount fs ≤ mostRecords

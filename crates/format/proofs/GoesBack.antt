@@ -5,7 +5,7 @@ use mathlib.Core.Bool.{true, false}
 use mathlib.Core.Option.{none}
 use mathlib.Core.List.{[], _∷_}
 use lib.Dec.{T}
-use Rattle.format.specs.Test.{pick, onward, all}
+use Rattle.format.specs.Prelude.{pick, onward, all}
 use Rattle.format.specs.declared.Machine.{Machine}
 use Rattle.format.specs.declared.Row.the-variants.{NegateRaState}
 use Rattle.format.specs.declared.Frame.the-variants.{Unset}

@@ -9,7 +9,7 @@ use lib.ListN.{length, replicate, length-append, length-replicate}
 use lib.Dec.{T, eqb-refl, lt→ltb}
 use lib.IntN.{ℤ, pos, negsuc}
 use mir.Facts.{and-yes, yes-eqb}
-use Rattle.format.specs.Test.{pick, next, after}
+use Rattle.format.specs.Prelude.{pick, next, after}
 use Rattle.format.specs.Leb.{uleb, sleb, fits64}
 use Rattle.format.specs.declared.Machine.{Machine}
 use Rattle.format.specs.Machine.{isWord}

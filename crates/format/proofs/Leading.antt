@@ -9,40 +9,40 @@ use lib.ListN.{length, length-append}
 use lib.Dec.{T, eqb}
 use lib.IntN.{pos, negℤ}
 use mir.Facts.{and-yes, eqb-yes, eqb-no, yes-eqb}
-use Rattle.format.specs.Test.{pick}
+use Rattle.format.specs.Prelude.{pick}
 use Rattle.format.specs.declared.Machine.{Machine}
 use Rattle.format.specs.declared.Row.{Row}
 use Rattle.format.specs.declared.Row.the-variants.{DefCfa, Offset}
-use Rattle.format.specs.Rows.{Line, kindOf, regOf, offsetOf, whole, wholeBelow, rowWhole}
+use Rattle.format.specs.Rows.{RowAt, kindOf, regOf, offsetOf, whole, wholeBelow, rowWhole}
 use Rattle.format.specs.Lists.{Function}
 use Rattle.format.specs.Headers.{implied, leads, ahead, others, leading}
 use Rattle.format.proofs.Choice.{pick-yes, pick-no, tested}
 use Rattle.format.proofs.RowBack.{RowFits}
-use Rattle.format.proofs.WalkBack.{LinesOk, RowsOk}
+use Rattle.format.proofs.WalkBack.{RowsAtOk, RowsOk}
 use Rattle.format.proofs.Fits.{MachineFits}
 
 -- ---- a function's own rows
 
 -- a leading row is at offset 0, so what follows it still counts from 0
-leads-at-0 : (w : ℕ) (x : Line) (xs : List Line) → T (leads x) → LinesOk w (x .0) xs → LinesOk w 0 xs
+leads-at-0 : (w : ℕ) (x : RowAt) (xs : List RowAt) → T (leads x) → RowsAtOk w (x .0) xs → RowsAtOk w 0 xs
 unfolding leads
 leads-at-0 w x xs t ok = let e : x .0 ≡ 0 = eqb-yes (and-yes (eqb (x .0) 0) (not (eqb (kindOf (x .1)) 6)) t .0) in rw e at ok
 
-ahead-ok : (w : ℕ) (xs : List Line) → LinesOk w 0 xs → RowsOk w (ahead xs)
+ahead-ok : (w : ℕ) (xs : List RowAt) → RowsAtOk w 0 xs → RowsOk w (ahead xs)
 unfolding ahead
 ahead-ok w [] ok = tt
 ahead-ok w (x ∷ xs) ok =
     tested (leads x) (λ t. rw (pick-yes (leads x) (x .1 ∷ ahead xs) [] t) (ok .2, ahead-ok w xs (leads-at-0 w x xs t (ok .3))))
     (λ t. rw (pick-no (leads x) (x .1 ∷ ahead xs) [] t) tt)
 
-pub others-ok : (w : ℕ) (xs : List Line) → LinesOk w 0 xs → LinesOk w 0 (others xs)
+pub others-ok : (w : ℕ) (xs : List RowAt) → RowsAtOk w 0 xs → RowsAtOk w 0 (others xs)
 unfolding others
 others-ok w [] ok = tt
 others-ok w (x ∷ xs) ok =
     tested (leads x) (λ t. rw (pick-yes (leads x) (others xs) (x ∷ xs) t) (others-ok w xs (leads-at-0 w x xs t (ok .3))))
     (λ t. rw (pick-no (leads x) (others xs) (x ∷ xs) t) ok)
 
-ahead-count : (xs : List Line) → length (ahead xs) + length (others xs) ≡ length xs
+ahead-count : (xs : List RowAt) → length (ahead xs) + length (others xs) ≡ length xs
 unfolding ahead others
 ahead-count [] = refl
 ahead-count (x ∷ xs) =
@@ -50,7 +50,7 @@ ahead-count (x ∷ xs) =
     (λ t. rw (pick-yes (leads x) (x .1 ∷ ahead xs) [] t, pick-yes (leads x) (others xs) (x ∷ xs) t) (omega (arith, ahead-count xs)))
     (λ t. rw (pick-no (leads x) (x .1 ∷ ahead xs) [] t, pick-no (leads x) (others xs) (x ∷ xs) t) (omega arith))
 
-pub others-count : (xs : List Line) → length (others xs) ≤ length xs
+pub others-count : (xs : List RowAt) → length (others xs) ≤ length xs
 others-count xs = omega (arith, ahead-count xs)
 
 -- ---- those that a call implies
@@ -88,7 +88,7 @@ unfolding pick
 given-ok true m fit = (tt, omega arith)
 given-ok false m fit = implied-ok m fit
 
-pub leading-ok : (m : Machine) (f : Function) → MachineFits m → LinesOk (m .word) 0 (f .rows) → RowsOk (m .word) (leading m f)
+pub leading-ok : (m : Machine) (f : Function) → MachineFits m → RowsAtOk (m .word) 0 (f .rows) → RowsOk (m .word) (leading m f)
 unfolding leading
 leading-ok m f fit ok = rows-join (m .word) (pick (f .simple) [] (implied m)) (ahead (f .rows)) (given-ok (f .simple) m fit .0) (ahead-ok (m .word) (f .rows) ok)
 

@@ -8,7 +8,7 @@ use mathlib.Core.List.{List, _++_}
 use lib.ListN.{length}
 use lib.Dec.{T, ltb→lt}
 use lib.IntN.{ℤ, pos, negsuc}
-use Rattle.format.specs.Test.{next}
+use Rattle.format.specs.Prelude.{next}
 use Rattle.format.specs.Leb.{little, readLittle, ulebF, uleb, bits7, slebF, sleb, readUlebF, readUleb, push, last7, readSlebF, fits64, readSleb}
 use Rattle.format.proofs.Choice.{if-le, if-gt, either}
 

@@ -8,7 +8,7 @@ use mathlib.Core.List.{List, [], _∷_, map}
 use lib.ListN.{length, getD, getElem?}
 use lib.Dec.{T}
 use mir.Facts.{and-yes}
-use Rattle.format.specs.Test.{all, each}
+use Rattle.format.specs.Prelude.{all, each}
 use Rattle.format.specs.Lists.{Relocation, field, relocationStride, relocationAt, relocationsOf, numbersOf, allIn}
 
 -- ---- a function at each number of a range

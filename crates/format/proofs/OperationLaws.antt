@@ -7,7 +7,7 @@ use mathlib.Core.List.{List, [], _∷_}
 use lib.ListN.{length, drop}
 use lib.Dec.{leb, ltb, eqb}
 use lib.IntN.{ℤ, pos}
-use Rattle.format.specs.Test.{Read}
+use Rattle.format.specs.Prelude.{Read}
 use Rattle.format.specs.Leb.{fits64}
 use Rattle.format.specs.declared.Row.{Row}
 use Rattle.format.specs.declared.Row.the-variants.{DefCfa, DefCfaOffset, DefCfaRegister, Offset, Restore, Undefined, RememberState, RestoreState, NegateRaState}

@@ -8,7 +8,7 @@ use mathlib.Core.Option.{Option, none, some}
 use mathlib.Core.List.{List, [], _∷_, _++_, map}
 use lib.ListN.{length}
 use Rattle.format.specs.declared.Machine.{Machine}
-use Rattle.format.specs.Rows.{rowsBytes, linesBytes}
+use Rattle.format.specs.Rows.{rowsBytes, steppedBytes}
 use Rattle.format.specs.Lists.{Function, Relocation}
 use Rattle.format.specs.Headers.{Key, keyOf, others, padded, entry, headerFields, headerBytes, headerRelocs}
 use Rattle.format.specs.Records.{recordFields, recordBytes, recordRelocs}
@@ -23,7 +23,7 @@ headerBody debug m align at k = padded align at (headerFields debug m k ++ rowsB
 
 unfoldable pub recordBody : (debug : Bool) → Machine → (align at cie : ℕ) → Function → List ℕ
 recordBody debug m align at cie f =
-    padded align at (recordFields debug (m .word) (at + 4 - cie) f ++ linesBytes (m .word) 0 (others (f .rows)))
+    padded align at (recordFields debug (m .word) (at + 4 - cie) f ++ steppedBytes (m .word) 0 (others (f .rows)))
 
 pub header-entry : (debug : Bool) (m : Machine) (align at : ℕ) (k : Key) → headerBytes debug m align at k ≡ entry (headerBody debug m align at k)
 unfolding headerBytes headerBody

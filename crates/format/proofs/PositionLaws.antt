@@ -9,7 +9,7 @@ use lib.ListN.{length, drop, length-drop}
 use lib.Seq.{drop-drop}
 use lib.Dec.{ltb}
 use lib.IntN.{ℤ}
-use Rattle.format.specs.Test.{pick, Read, next}
+use Rattle.format.specs.Prelude.{pick, Read, next}
 use Rattle.format.specs.Leb.{readLittle, readUlebF, readUleb, push, last7, readSlebF, fits64, readSleb}
 use Rattle.format.specs.Positions.{unsignedFrom, signedFrom, ulebAt, slebAt, littleAt}
 use Rattle.format.specs.declared.Unsigned.the-variants as unsigned

@@ -7,7 +7,7 @@ use mathlib.Core.Option.{none, some}
 use mathlib.Core.List.{List, [], _∷_}
 use lib.ListN.{length}
 use lib.Dec.{leb, eqb}
-use Rattle.format.specs.Test.{pick, Read, Result, good, bad, onward}
+use Rattle.format.specs.Prelude.{pick, Read, Result, good, bad, onward}
 use Rattle.format.specs.Machine.{isWord}
 use Rattle.format.specs.declared.Rule.{Rule}
 use Rattle.format.specs.declared.Rule.the-variants as rule

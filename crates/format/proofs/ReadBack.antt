@@ -6,7 +6,7 @@ use mathlib.Core.Option.{none, some}
 use mathlib.Core.List.{List, [], map}
 use lib.Dec.{T, leb, eqb}
 use mir.Facts.{yes-and}
-use Rattle.format.specs.Test.{bad}
+use Rattle.format.specs.Prelude.{bad}
 use Rattle.format.specs.declared.Machine.{Machine}
 use Rattle.format.specs.declared.Reading.{Reading}
 use Rattle.format.specs.declared.Reading.the-variants.{Refused}

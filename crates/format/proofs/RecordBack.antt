@@ -9,7 +9,7 @@ use mathlib.Core.List.{List, [], _∷_, _++_, append-assoc}
 use lib.ListN.{length, replicate, length-append, length-replicate}
 use lib.Dec.{T}
 use mir.Facts.{no-eqb}
-use Rattle.format.specs.Test.{pick, next}
+use Rattle.format.specs.Prelude.{pick, next}
 use Rattle.format.specs.Lists.{Function, Landing, Named, Pointer}
 use Rattle.format.specs.Headers.{named, headerId, encodingOf, namedKind, kindFor, counted}
 use Rattle.format.specs.Records.{pointerBlank, namedBlank, lsdaBlank, sizeField, recordFields}

@@ -9,11 +9,11 @@ use mathlib.Core.List.{List, [], _∷_, _++_}
 use lib.Dec.{T, ltb, eqb}
 use mir.Facts.{and-yes, or-yes, eqb-yes}
 use lib.ListN.{length, replicate, length-append, length-replicate}
-use Rattle.format.specs.Test.{pick}
+use Rattle.format.specs.Prelude.{pick}
 use Rattle.format.specs.declared.Machine.{Machine}
 use Rattle.format.specs.declared.Row.{Row}
 use Rattle.format.specs.declared.Operation.the-variants.{Does}
-use Rattle.format.specs.Rows.{Line, rowBytes, stepIn, stepForm, stepBytes, linesBytes, rowsBytes}
+use Rattle.format.specs.Rows.{RowAt, rowBytes, stepIn, stepForm, stepBytes, steppedBytes, rowsBytes}
 use Rattle.format.specs.Lists.{Function, Relocation, Pair, Relaxed, Landing, Named, Pointer}
 use Rattle.format.specs.Machine.{isWord}
 use Rattle.format.specs.Headers.{Kind, plain, personal, named, Key, keyOf, others, sizeOf, pointerSize, sizeOr0, pointerBytes, reloc, pointerReloc, debugFrame, lsdaLetter, augmentationData, headerData, headerFields, headerBytes, pointerPlace, kindRelocs, headerRelocs, padded, entry, counted}
@@ -27,7 +27,7 @@ use Rattle.format.proofs.Each.{Each, each-join, each-then}
 use Rattle.format.proofs.LebBack.{little-length}
 use Rattle.format.proofs.LebSteps.{uleb-last}
 use Rattle.format.proofs.RowBack.{RowFits, row-back}
-use Rattle.format.proofs.WalkBack.{LinesOk, reads-long}
+use Rattle.format.proofs.WalkBack.{RowsAtOk, reads-long}
 use Rattle.format.proofs.FieldsBack.{word-small}
 use Rattle.format.proofs.HeaderBack.{KindOk}
 use Rattle.format.proofs.RecordBack.{blank-small}
@@ -87,22 +87,22 @@ set-pair place form (some p) end h =
     let l = set-place place form in
     (inside _ _ _ _ (l .0) (l .1) h, (inside _ _ _ _ (l .0) (l .1) h, tt))
 
-steps-inside : (w place at : ℕ) (ps : List Pair) (xs : List Line) → LinesOk w at xs
-    → Each (Inside place (place + length (linesBytes w at xs))) (stepRelocs w place at ps xs)
-unfolding stepRelocs linesBytes
+steps-inside : (w place at : ℕ) (ps : List Pair) (xs : List RowAt) → RowsAtOk w at xs
+    → Each (Inside place (place + length (steppedBytes w at xs))) (stepRelocs w place at ps xs)
+unfolding stepRelocs steppedBytes
 steps-inside w place at ps [] ok = tt
 steps-inside w place at ps (x ∷ xs) ok =
     let d : ℕ = x .0 - at in
     let later : ℕ = place + length (stepBytes d) + length (rowBytes w (x .1)) in
-    let end : ℕ = place + length (stepBytes d ++ (rowBytes w (x .1) ++ linesBytes w (x .0) xs)) in
-    let l : end ≡ later + length (linesBytes w (x .0) xs) = simp length-append (omega arith) in
+    let end : ℕ = place + length (stepBytes d ++ (rowBytes w (x .1) ++ steppedBytes w (x .0) xs)) in
+    let l : end ≡ later + length (steppedBytes w (x .0) xs) = simp length-append (omega arith) in
     let rs : List Relocation = stepRelocs w later (x .0) ps xs in
     each-join (Inside place end) (setPair place (stepForm d) (pairFor at (x .0) ps)) rs
     (set-pair place (stepForm d) (pairFor at (x .0) ps) end (omega (arith, set-ahead w place d (x .1) (ok .2))))
-    (wider later place (later + length (linesBytes w (x .0) xs)) end rs (omega arith) (omega arith) (steps-inside w later (x .0) ps xs (ok .3)))
+    (wider later place (later + length (steppedBytes w (x .0) xs)) end rs (omega arith) (omega arith) (steps-inside w later (x .0) ps xs (ok .3)))
 
-rows-inside : (w place : ℕ) (xs : List Line) (r : Option Relaxed) → LinesOk w 0 xs
-    → Each (Inside place (place + length (linesBytes w 0 xs))) (rowRelocs w place xs r)
+rows-inside : (w place : ℕ) (xs : List RowAt) (r : Option Relaxed) → RowsAtOk w 0 xs
+    → Each (Inside place (place + length (steppedBytes w 0 xs))) (rowRelocs w place xs r)
 unfolding rowRelocs
 rows-inside w place xs none ok = tt
 rows-inside w place xs (some r) ok = steps-inside w place 0 (r .pairs) xs ok
@@ -214,13 +214,13 @@ module _ (m : Machine) (word-ok : T (isWord (m .word))) where
             (sum-pair at end (at + 12) 4 f (f .relaxed) (omega arith) (omega arith) (omega arith)),
       )
 
-  pub record-inside : (debug : Bool) (align at cie table : ℕ) (f : Function) → T (encodingsOk word (f .landings) (f .named)) → LinesOk word 0 (f .rows)
+  pub record-inside : (debug : Bool) (align at cie table : ℕ) (f : Function) → T (encodingsOk word (f .landings) (f .named)) → RowsAtOk word 0 (f .rows)
       → Each (Inside at (at + length (recordBytes debug m align at cie f))) (recordRelocs debug m at cie table f)
   unfolding recordRelocs recordBytes
   record-inside debug align at cie table f ok lines =
       let fields : List ℕ = recordFields debug word (at + 4 - cie) f in
       let ops : ℕ = at + 4 + length fields in
-      let bytes : List ℕ = linesBytes word 0 (others (f .rows)) in
+      let bytes : List ℕ = steppedBytes word 0 (others (f .rows)) in
       let end : ℕ = at + length (entry (padded align at (fields ++ bytes))) in
       let l : ops + length bytes ≤ end =
       omega (arith, entry-length (padded align at (fields ++ bytes)), padded-length align at (fields ++ bytes), length-append fields bytes) in

@@ -8,7 +8,7 @@ use mathlib.Core.Option.{some}
 use mathlib.Core.List.{List, [], _∷_, _++_, append-assoc}
 use lib.Dec.{T, ltb→lt, lt→ltb, eqb→eq}
 use lib.IntN.{ℤ, pos, negsuc, negℤ}
-use Rattle.format.specs.Test.{pick, next}
+use Rattle.format.specs.Prelude.{pick, next}
 use Rattle.format.specs.Leb.{uleb, sleb, fits64}
 use Rattle.format.specs.declared.Row.{Row}
 use Rattle.format.specs.declared.Row.the-variants.{DefCfa, DefCfaOffset, DefCfaRegister, Offset, Restore, Undefined, RememberState, RestoreState, NegateRaState}

@@ -7,7 +7,7 @@ use lib.ListN.{length, length-map}
 use lib.Dec.{T, leb, ltb, eqb, eqb→eq}
 use lib.IntN.{ℤ}
 use mir.Facts.{and-yes, yes-and}
-use Rattle.format.specs.Test.{pick, Result, good, bad, onward, all}
+use Rattle.format.specs.Prelude.{pick, Result, good, bad, onward, all}
 use Rattle.format.specs.declared.Row.{Row}
 use Rattle.format.specs.declared.Row.the-variants.{DefCfa, DefCfaOffset, DefCfaRegister, Offset, Restore, Undefined, RememberState, RestoreState, NegateRaState}
 use Rattle.format.specs.declared.Frame.{Frame}

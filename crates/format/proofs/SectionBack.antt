@@ -7,10 +7,10 @@ use mathlib.Core.Option.{Option, none, some}
 use mathlib.Core.List.{List, [], _∷_, _++_, map}
 use lib.ListN.{length, replicate, getElem?}
 use lib.Dec.{T}
-use Rattle.format.specs.Test.{pick, after, good, onward, orElse}
+use Rattle.format.specs.Prelude.{pick, after, good, onward, orElse}
 use Rattle.format.specs.declared.Machine.{Machine}
 use Rattle.format.specs.declared.Rule.the-variants as rule
-use Rattle.format.specs.Rows.{rowsBytes, linesBytes}
+use Rattle.format.specs.Rows.{rowsBytes, steppedBytes}
 use Rattle.format.specs.Lists.{Function, Relaxed, Relocation}
 use Rattle.format.specs.Headers.{keyOf, kindFor, leading, others, padding, headerFields}
 use Rattle.format.specs.Records.{sizeField, recordFields}
@@ -25,7 +25,7 @@ use Rattle.format.proofs.EntryBack.{padded-behind}
 use Rattle.format.proofs.FieldsBack.{word-small}
 use Rattle.format.proofs.HeaderBack.{pointerIn, header-back}
 use Rattle.format.proofs.RecordBack.{record-back, pointer-within, blank-small}
-use Rattle.format.proofs.WalkBack.{onward-ext, lines-back, rows-back}
+use Rattle.format.proofs.WalkBack.{onward-ext, rows-at-back, rows-back}
 use Rattle.format.proofs.Fits.{MachineFits, FunctionFits, AllFit, Bounded}
 use Rattle.format.proofs.Leading.{others-ok, leading-ok}
 use Rattle.format.proofs.Parts.{headerBody, recordBody, Spot, cieOf, placeOf}
@@ -67,7 +67,7 @@ module _ (s : Section) (m : Machine) (fit : MachineFits m) (f : Function) (ok : 
               signal = f .signal;
               operations = rowsBytes (m .word) (leading m f) ++ replicate a 0;
             };
-        found = record { size = sizeField (f .size) (f .relaxed); operations = linesBytes (m .word) 0 (others (f .rows)) ++ replicate b 0 };
+        found = record { size = sizeField (f .size) (f .relaxed); operations = steppedBytes (m .word) 0 (others (f .rows)) ++ replicate b 0 };
       }
 
   parsed-back : (align at : ℕ) (x : Spot) → Holds s m x f
@@ -77,7 +77,7 @@ module _ (s : Section) (m : Machine) (fit : MachineFits m) (f : Function) (ok : 
       let w : (0 < m .word) × (m .word ≤ 8) = word-small (m .word) (fit .is-word) in
       let d : ℕ = placeOf s m x f + 4 - cieOf x in
       let rows : List ℕ = rowsBytes (m .word) (leading m f) in
-      let lines : List ℕ = linesBytes (m .word) 0 (others (f .rows)) in
+      let lines : List ℕ = steppedBytes (m .word) 0 (others (f .rows)) in
       let hs : sizeField (f .size) (f .relaxed) < 256 ^ pick (isDebug s) (m .word) 4 = rw size-bytes (h .size) in (
         padding align (at + 4 + length (headerFields (isDebug s) m (keyOf m f) ++ rows)),
         padding (x .align) (placeOf s m x f + 4 + length (recordFields (isDebug s) (m .word) d f ++ lines)),
@@ -96,7 +96,7 @@ module _ (s : Section) (m : Machine) (fit : MachineFits m) (f : Function) (ok : 
       ap answer
       (let l : p < sizeField (f .size) (f .relaxed) = rw (size-said (f .size) (f .relaxed) r) h in
       rw (if-le (suc p) (sizeField (f .size) (f .relaxed)), rows-back (m .word) p q rule.Unstated (leading m f) a start (leading-ok m f fit (ok .lines)))
-      (onward-ext _ _ _ λ t. lines-back (m .word) p q (t .rule) (others (f .rows)) b t (others-ok (m .word) (f .rows) (ok .lines))))
+      (onward-ext _ _ _ λ t. rows-at-back (m .word) p q (t .rule) (others (f .rows)) b t (others-ok (m .word) (f .rows) (ok .lines))))
 
 -- For the functions that a section takes and a p below a function's length, reading what was written is running the rows.
 -- Whatever the other functions hold; only the function that is asked about has no relaxing labels.

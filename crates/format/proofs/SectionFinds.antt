@@ -9,7 +9,7 @@ use mathlib.Core.List.{List, [], _∷_, _++_, append-assoc, map}
 use lib.ListN.{length, getElem?, drop}
 use lib.Dec.{T, eqb, ltb, eqb-refl}
 use mir.Facts.{yes-and, yes-ltb, no-eqb}
-use Rattle.format.specs.Test.{after}
+use Rattle.format.specs.Prelude.{after}
 use Rattle.format.specs.declared.Machine.{Machine}
 use Rattle.format.specs.Lists.{Function, Relocation}
 use Rattle.format.specs.Headers.{Key, keyOf, reloc, debugFrame, headerRelocs}

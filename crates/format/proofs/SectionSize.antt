@@ -5,9 +5,9 @@ use mathlib.Core.Bool.{Bool, true, false}
 use mathlib.Core.Option.{Option, none, some}
 use mathlib.Core.List.{List, [], _∷_, _++_, map}
 use lib.ListN.{length, length-append}
-use Rattle.format.specs.Test.{pick}
+use Rattle.format.specs.Prelude.{pick}
 use Rattle.format.specs.declared.Machine.{Machine}
-use Rattle.format.specs.Rows.{rowsBytes, linesBytes}
+use Rattle.format.specs.Rows.{rowsBytes, steppedBytes}
 use Rattle.format.specs.Lists.{Function}
 use Rattle.format.specs.Headers.{keyOf, leading, others, padded, entry, headerFields, headerBytes}
 use Rattle.format.specs.Records.{recordFields, recordBytes}
@@ -18,8 +18,8 @@ use Rattle.format.proofs.EntryBack.{entry-length, padding-small, padded
 use Rattle.format.proofs.FieldsBack.{word-small}
 use Rattle.format.proofs.HeaderBack.{HeaderOk, kind-accepted, header-short}
 use Rattle.format.proofs.RecordBack.{record-short}
-use Rattle.format.proofs.Sizes.{rows-short, lines-short}
-use Rattle.format.proofs.Fits.{MachineFits, FunctionFits, AllFit, lineCount, Bounded}
+use Rattle.format.proofs.Sizes.{rows-short, rows-at-short}
+use Rattle.format.proofs.Fits.{MachineFits, FunctionFits, AllFit, rowCount, Bounded}
 use Rattle.format.proofs.Leading.{others-ok, others-count, leading-ok, leading-count}
 use Rattle.format.proofs.Parts.{Spot, cieOf, spotOf, frontFor, frontOf, placeOf, partBytes, bytesOf, nextAt, nextSites, nextSeen, bytes-none, bytes-more}
 
@@ -73,7 +73,7 @@ module _ (s : Section) (m : Machine) (fit : MachineFits m) where
       let at : ℕ = placeOf s m x f in
       let w : (0 < m .word) × (m .word ≤ 8) = word-small (m .word) (fit .is-word) in
       let fields : List ℕ = recordFields (isDebug s) (m .word) (at + 4 - cieOf x) f in
-      let lines : List ℕ = linesBytes (m .word) 0 (others (f .rows)) in
+      let lines : List ℕ = steppedBytes (m .word) 0 (others (f .rows)) in
       rw length-append
       (omega (
         arith,
@@ -81,7 +81,7 @@ module _ (s : Section) (m : Machine) (fit : MachineFits m) where
         entry-short (x .align) at (fields ++ lines) a,
         length-append fields lines,
         record-short (isDebug s) (m .word) (at + 4 - cieOf x) f (w .1),
-        lines-short (m .word) 0 (others (f .rows)) (others-ok (m .word) (f .rows) (ok .lines)),
+        rows-at-short (m .word) 0 (others (f .rows)) (others-ok (m .word) (f .rows) (ok .lines)),
         leading-count m f fit,
         others-count (f .rows),
       ))
@@ -89,8 +89,8 @@ module _ (s : Section) (m : Machine) (fit : MachineFits m) where
   -- ---- all functions
 
   parts-short : (at sites : ℕ) (seen : List Seen) (fs : List Function) → AllFit s m fs
-      → length (bytesOf s m at sites seen fs) ≤ 96 * length fs + 14 * lineCount fs
-  unfolding lineCount
+      → length (bytesOf s m at sites seen fs) ≤ 96 * length fs + 14 * rowCount fs
+  unfolding rowCount
   parts-short at sites seen [] ok = rw (bytes-none s m at sites seen) (omega arith)
   parts-short at sites seen (f ∷ fs) ok =
       rw (bytes-more s m at sites seen f fs, length-append)

@@ -7,7 +7,7 @@ use mathlib.Core.Bool.{Bool}
 use mathlib.Core.Option.{Option, none, some}
 use mathlib.Core.List.{List, [], _∷_, _++_, append-assoc, map}
 use lib.ListN.{length, length-append}
-use Rattle.format.specs.Test.{next, after}
+use Rattle.format.specs.Prelude.{next, after}
 use Rattle.format.specs.Leb.{little}
 use Rattle.format.specs.declared.Machine.{Machine}
 use Rattle.format.specs.Lists.{Function, Relaxed}

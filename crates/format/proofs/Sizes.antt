@@ -10,15 +10,15 @@ use lib.Dec.{leb, eqb}
 use lib.IntN.{ℤ, pos, negsuc}
 use lib.Pow.{pow-mono, pow-add}
 use lib.Count.{leadingZeros, leading-top}
-use Rattle.format.specs.Test.{pick}
+use Rattle.format.specs.Prelude.{pick}
 use Rattle.format.specs.Leb.{ulebF, uleb}
 use Rattle.format.specs.declared.Row.{Row}
 use Rattle.format.specs.declared.Row.the-variants.{DefCfa, DefCfaOffset, DefCfaRegister, Offset, Restore, Undefined, RememberState, RestoreState, NegateRaState}
-use Rattle.format.specs.Rows.{Line, factor, cfaBytes, withRegister, savedBytes, rowBytes, stepIn, stepForm, stepBytes, linesBytes, rowsBytes, regOf, offsetOf}
+use Rattle.format.specs.Rows.{RowAt, factor, cfaBytes, withRegister, savedBytes, rowBytes, stepIn, stepForm, stepBytes, steppedBytes, rowsBytes, regOf, offsetOf}
 use Rattle.format.proofs.Choice.{if-le, if-gt, either}
 use Rattle.format.proofs.LebBack.{little-length, uleb-short, sleb-short-pos, sleb-short-neg}
 use Rattle.format.proofs.RowBack.{Off32, RowFits, Small, factor-small}
-use Rattle.format.proofs.WalkBack.{LinesOk, RowsOk}
+use Rattle.format.proofs.WalkBack.{RowsAtOk, RowsOk}
 
 -- ---- rows and steps
 
@@ -71,11 +71,11 @@ pub step-short : (n : ℕ) → length (stepBytes n) ≤ 5
 unfolding stepBytes
 step-short n = pick-short (eqb n 0) [] (stepIn (stepForm n) n) 5 (omega arith) (step-in-short (stepForm n) n)
 
-pub lines-short : (w at : ℕ) (xs : List Line) → LinesOk w at xs → length (linesBytes w at xs) ≤ 14 * length xs
-unfolding linesBytes
-lines-short w at [] ok = omega arith
-lines-short w at (x ∷ xs) ok =
-    simp length-append (omega (arith, step-short (x .0 - at), row-short w (x .1) (ok .2), lines-short w (x .0) xs (ok .3)))
+pub rows-at-short : (w at : ℕ) (xs : List RowAt) → RowsAtOk w at xs → length (steppedBytes w at xs) ≤ 14 * length xs
+unfolding steppedBytes
+rows-at-short w at [] ok = omega arith
+rows-at-short w at (x ∷ xs) ok =
+    simp length-append (omega (arith, step-short (x .0 - at), row-short w (x .1) (ok .2), rows-at-short w (x .0) xs (ok .3)))
 
 pub rows-short : (w : ℕ) (rs : List Row) → RowsOk w rs → length (rowsBytes w rs) ≤ 9 * length rs
 unfolding rowsBytes

@@ -8,12 +8,12 @@ use mathlib.Core.Option.{some}
 use mathlib.Core.List.{List, [], _∷_, _++_, append-assoc}
 use lib.ListN.{length, replicate, length-append, length-replicate}
 use lib.Dec.{leb}
-use Rattle.format.specs.Test.{pick, Result, good, bad, onward}
+use Rattle.format.specs.Prelude.{pick, Result, good, bad, onward}
 use Rattle.format.specs.declared.Row.{Row}
 use Rattle.format.specs.declared.Rule.{Rule}
 use Rattle.format.specs.declared.Operation.{Operation}
 use Rattle.format.specs.declared.Operation.the-variants.{Step, Does}
-use Rattle.format.specs.Rows.{Line, rowBytes, stepBytes, linesBytes, rowsBytes, readExtended, readOperation}
+use Rattle.format.specs.Rows.{RowAt, rowBytes, stepBytes, steppedBytes, rowsBytes, readExtended, readOperation}
 use Rattle.format.specs.Rules.{Run, act, actAll, while}
 use Rattle.format.specs.Reader.{perform, whenRead, walkF, walk}
 use Rattle.format.proofs.Choice.{if-le, if-gt, either}
@@ -22,9 +22,9 @@ use Rattle.format.proofs.RowBack.{RowFits, row-back, steps-back, step-n
 -- ---- which rows are written
 
 -- offsets from `at` on that do not fall, with steps that 32 bits hold
-abbrev pub LinesOk : ℕ → ℕ → List Line → Type 0
-LinesOk w at [] = Unit
-LinesOk w at (x ∷ xs) = (at ≤ x .0) × (x .0 - at < 2 ^ 32) × RowFits w (x .1) × LinesOk w (x .0) xs
+abbrev pub RowsAtOk : ℕ → ℕ → List RowAt → Type 0
+RowsAtOk w at [] = Unit
+RowsAtOk w at (x ∷ xs) = (at ≤ x .0) × (x .0 - at < 2 ^ 32) × RowFits w (x .1) × RowsAtOk w (x .0) xs
 
 abbrev pub RowsOk : ℕ → List Row → Type 0
 RowsOk w [] = Unit
@@ -113,24 +113,24 @@ module _ (w p q : ℕ) (init : Rule) where
     walk-step : Finds false w p q init loc (stepBytes (to - loc) ++ ys) (λ s. pick (leb to p) (k s) (good s))
     walk-step = either 1 (to - loc) some-step λ g. no-step (omega arith)
 
-  walk-lines : (xs : List Line) (n loc : ℕ) → LinesOk w loc xs → loc ≤ p
-      → Finds false w p q init loc (linesBytes w loc xs ++ replicate n 0) (λ s. actAll false q init (while p xs) s)
-  unfolding linesBytes while actAll
-  walk-lines [] n loc ok hp f s len = walk-pad false w p q init n f loc s (omega (arith, length-replicate {A = ℕ} n 0))
-  walk-lines (x ∷ xs) n loc ok hp f s len =
-      let zs : List ℕ = linesBytes w (x .0) xs ++ replicate n 0 in
-      let whole : linesBytes w loc (x ∷ xs) ++ replicate n 0 ≡ stepBytes (x .0 - loc) ++ (rowBytes w (x .1) ++ zs) = simp append-assoc in
+  walk-rows-at : (xs : List RowAt) (n loc : ℕ) → RowsAtOk w loc xs → loc ≤ p
+      → Finds false w p q init loc (steppedBytes w loc xs ++ replicate n 0) (λ s. actAll false q init (while p xs) s)
+  unfolding steppedBytes while actAll
+  walk-rows-at [] n loc ok hp f s len = walk-pad false w p q init n f loc s (omega (arith, length-replicate {A = ℕ} n 0))
+  walk-rows-at (x ∷ xs) n loc ok hp f s len =
+      let zs : List ℕ = steppedBytes w (x .0) xs ++ replicate n 0 in
+      let whole : steppedBytes w loc (x ∷ xs) ++ replicate n 0 ≡ stepBytes (x .0 - loc) ++ (rowBytes w (x .1) ++ zs) = simp append-assoc in
       rw whole
       (walk-step loc (x .0) (rowBytes w (x .1) ++ zs) (λ t. actAll false q init (x .1 ∷ while p xs) t) (ok .0) (ok .1) hp
-      (λ a. walk-row false w p q init (x .1) (x .0) zs (λ t. actAll false q init (while p xs) t) (ok .2) (walk-lines xs n (x .0) (ok .3) a))
+      (λ a. walk-row false w p q init (x .1) (x .0) zs (λ t. actAll false q init (while p xs) t) (ok .2) (walk-rows-at xs n (x .0) (ok .3) a))
       f s (rw whole at len)
       ∙ pick-over (λ rs. actAll false q init rs s) (leb (x .0) p) (x .1 ∷ while p xs) [])
 
 -- The bytes of a function's rows and zeros behind them, walked to p for register q: the rows while their offset is at most p.
-pub lines-back : (w p q : ℕ) (init : Rule) (xs : List Line) (n : ℕ) (s : Run) → LinesOk w 0 xs
-    → walk false w p q init s (linesBytes w 0 xs ++ replicate n 0) ≡ actAll false q init (while p xs) s
+pub rows-at-back : (w p q : ℕ) (init : Rule) (xs : List RowAt) (n : ℕ) (s : Run) → RowsAtOk w 0 xs
+    → walk false w p q init s (steppedBytes w 0 xs ++ replicate n 0) ≡ actAll false q init (while p xs) s
 unfolding walk
-lines-back w p q init xs n s ok = walk-lines w p q init xs n 0 ok (omega arith) _ s (le-refl _)
+rows-at-back w p q init xs n s ok = walk-rows-at w p q init xs n 0 ok (omega arith) _ s (le-refl _)
 
 -- The bytes of a header's rows and zeros behind them: all of the rows.
 pub rows-back : (w p q : ℕ) (init : Rule) (rs : List Row) (n : ℕ) (s : Run) → RowsOk w rs

@@ -6,12 +6,12 @@ use mathlib.Core.List.{List, [], _∷_, _++_}
 use lib.ListN.{length, replicate}
 use lib.Dec.{leb, ltb, eqb}
 use lib.IntN.{ℤ, pos, negℤ}
-use Rattle.format.specs.Test.{pick}
+use Rattle.format.specs.Prelude.{pick}
 use Rattle.format.specs.Leb.{little, uleb, sleb}
 use Rattle.format.specs.declared.Machine.{Machine}
 use Rattle.format.specs.declared.Row.{Row}
 use Rattle.format.specs.declared.Row.the-variants.{DefCfa, Offset}
-use Rattle.format.specs.Rows.{Line, kindOf, rowsBytes, sameRow}
+use Rattle.format.specs.Rows.{RowAt, kindOf, rowsBytes, sameRow}
 use Rattle.format.specs.Lists.{Function, Named, Pointer, Landing, Relocation}
 
 -- ---- leading rows
@@ -22,15 +22,15 @@ implied m =
     DefCfa (m .stack) (pos (m .pushed)) ∷ pick (eqb (m .pushed) 0) [] (Offset (m .ret) (negℤ (pos (m .pushed))) ∷ [])
 
 -- a row leads where it is at offset 0 and no RememberState
-unfoldable pub leads : Line → Bool
+unfoldable pub leads : RowAt → Bool
 leads x = eqb (x .0) 0 && not (eqb (kindOf (x .1)) 6)
 
 -- a function's rows up to the first that does not lead; and the others
-unfoldable pub ahead : List Line → List Row
+unfoldable pub ahead : List RowAt → List Row
 ahead [] = []
 ahead (x ∷ xs) = pick (leads x) (x .1 ∷ ahead xs) []
 
-unfoldable pub others : List Line → List Line
+unfoldable pub others : List RowAt → List RowAt
 others [] = []
 others (x ∷ xs) = pick (leads x) (others xs) (x ∷ xs)
 

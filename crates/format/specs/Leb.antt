@@ -5,7 +5,7 @@ use mathlib.Core.Option.{none, some}
 use mathlib.Core.List.{List, [], _∷_}
 use lib.Dec.{ltb}
 use lib.IntN.{ℤ, pos, negsuc}
-use Rattle.format.specs.Test.{pick, Read, next}
+use Rattle.format.specs.Prelude.{pick, Read, next}
 
 -- ---- little-endian fields
 

@@ -1,5 +1,5 @@
 -- The definitions that every contract and law of the library speaks of, written from the documents. Read them in this order.
-pub mod Test
+pub mod Prelude
 pub mod Put
 pub mod Leb
 pub mod Machine

@@ -7,12 +7,12 @@ use lib.ListN.{length, getD}
 use lib.Dec.{leb, ltb, eqb}
 use mir.Syntax.{w32, w64}
 use mir.Val.{toZ}
-use Rattle.format.specs.Test.{pick, each, all}
+use Rattle.format.specs.Prelude.{pick, each, all}
 use Rattle.format.specs.declared.Row.{Row}
 use Rattle.format.specs.declared.Row.the-variants.{DefCfa, DefCfaOffset, DefCfaRegister, Offset, Restore, Undefined, RememberState, RestoreState, NegateRaState}
 use Rattle.format.specs.declared.Seh.{Seh}
 use Rattle.format.specs.declared.Seh.the-variants.{Push, Alloc, Frame, Save}
-use Rattle.format.specs.Rows.{Line}
+use Rattle.format.specs.Rows.{RowAt}
 
 -- ---- what a function is
 
@@ -47,7 +47,7 @@ pub record Relaxed : Type 0 where
 pub record Function : Type 0 where
   pub symbol : ℕ
   pub size : ℕ
-  pub rows : List Line
+  pub rows : List RowAt
   pub landings : List Landing
   pub simple : Bool
   pub signal : Bool
@@ -115,8 +115,8 @@ rowOf kind reg off =
     (pick (eqb kind 6) RememberState
     (pick (eqb kind 7) RestoreState NegateRaState)))))))
 
-unfoldable pub lineAt : List ℕ → ℕ → Line
-lineAt rows i = (field rowStride rows i 0, rowOf (field rowStride rows i 1) (field rowStride rows i 2) (field rowStride rows i 3))
+unfoldable pub rowAt : List ℕ → ℕ → RowAt
+rowAt rows i = (field rowStride rows i 0, rowOf (field rowStride rows i 1) (field rowStride rows i 2) (field rowStride rows i 3))
 
 unfoldable pub landingAt : List ℕ → ℕ → Landing
 landingAt ls i = record { start = field landingStride ls i 0; size = field landingStride ls i 1; pad = field landingStride ls i 2 }
@@ -147,7 +147,7 @@ functionAt fs rows landings pairs k =
     record {
       symbol = f 0;
       size = f 1;
-      rows = each (lineAt rows) (f 2) (f 3);
+      rows = each (rowAt rows) (f 2) (f 3);
       landings = each (landingAt landings) (f 4) (f 5);
       simple = mark (f 6);
       signal = mark (f 7);

@@ -5,7 +5,7 @@ use mathlib.Core.Option.{Option, none, some}
 use mathlib.Core.List.{List, [], _∷_, _++_}
 use lib.ListN.{length, getD, take, drop, replicate}
 use lib.Dec.{leb, ltb, eqb}
-use Rattle.format.specs.Test.{pick, all}
+use Rattle.format.specs.Prelude.{pick, all}
 use Rattle.format.specs.declared.Machine.{Machine}
 
 abbrev pub machineWith : (word pushed stack ret frame : ℕ) (map : List ℕ) → Machine

@@ -4,7 +4,7 @@ use mathlib.Core.Option.{none, some}
 use mathlib.Core.List.{List}
 use lib.ListN.{length, drop}
 use lib.IntN.{ℤ}
-use Rattle.format.specs.Test.{Read}
+use Rattle.format.specs.Prelude.{Read}
 use Rattle.format.specs.Leb.{readLittle, readUleb, readSleb}
 use Rattle.format.specs.Rows.{readOperation}
 use Rattle.format.specs.declared.Unsigned.{Unsigned}

@@ -5,10 +5,10 @@ use mathlib.Core.Option.{Option, none, some}
 use mathlib.Core.List.{List, [], _∷_, map}
 use lib.ListN.{length}
 use lib.Dec.{leb, ltb, eqb}
-use Rattle.format.specs.Test.{pick, Result, good, bad, onward, all}
+use Rattle.format.specs.Prelude.{pick, Result, good, bad, onward, all}
 use Rattle.format.specs.declared.Machine.{Machine}
 use Rattle.format.specs.Machine.{machineOf, machineOk}
-use Rattle.format.specs.Rows.{Line, rowWhole}
+use Rattle.format.specs.Rows.{RowAt, rowWhole}
 use Rattle.format.specs.Lists.{Function, Named, Pointer, Landing, Relaxed, Prologue, functionStride, prologueStride, count, functionsOf, prologuesOf, listsOk, codesOk}
 use Rattle.format.specs.Headers.{pointerSize}
 use Rattle.format.specs.declared.Section.{Section}
@@ -59,7 +59,7 @@ encodingsOk word [] n = namedOk word n
 encodingsOk word (l ∷ ls) n = true
 
 -- 23: no row goes back, nor steps above 2^32 - 1
-unfoldable pub stepsOk : ℕ → List Line → Bool
+unfoldable pub stepsOk : ℕ → List RowAt → Bool
 stepsOk at [] = true
 stepsOk at (x ∷ xs) = leb at (x .0) && ltb (x .0 - at) (2 ^ 32) && stepsOk (x .0) xs
 

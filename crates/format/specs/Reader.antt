@@ -5,7 +5,7 @@ use mathlib.Core.Option.{Option, none, some}
 use mathlib.Core.List.{List, [], _∷_}
 use lib.ListN.{length, take, drop, getElem?}
 use lib.Dec.{leb, ltb, eqb}
-use Rattle.format.specs.Test.{pick, Read, next, after, Result, good, bad, onward, orElse, first}
+use Rattle.format.specs.Prelude.{pick, Read, next, after, Result, good, bad, onward, orElse, first}
 use Rattle.format.specs.Leb.{readLittle, readUleb, readSleb}
 use Rattle.format.specs.Machine.{isWord}
 use Rattle.format.specs.declared.Operation.{Operation}

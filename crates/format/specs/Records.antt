@@ -5,10 +5,10 @@ use mathlib.Core.Option.{Option, none, some}
 use mathlib.Core.List.{List, [], _∷_, _++_}
 use lib.ListN.{length, replicate}
 use lib.Dec.{eqb}
-use Rattle.format.specs.Test.{pick, first}
+use Rattle.format.specs.Prelude.{pick, first}
 use Rattle.format.specs.Leb.{little}
 use Rattle.format.specs.declared.Machine.{Machine}
-use Rattle.format.specs.Rows.{Line, rowBytes, stepBytes, stepForm, linesBytes}
+use Rattle.format.specs.Rows.{RowAt, rowBytes, stepBytes, stepForm, steppedBytes}
 use Rattle.format.specs.Lists.{Function, Landing, Named, Pointer, Pair, Relaxed, Relocation}
 use Rattle.format.specs.Headers.{others, padded, entry, counted, pointerBytes, pointerReloc, reloc, exceptTable, debugFrame}
 
@@ -58,7 +58,7 @@ recordFields false word distance f =
 -- a record at `at` whose header is at `cie`: the fields, then the rows that do not lead with the steps between them
 unfoldable pub recordBytes : (debug : Bool) → Machine → (align at cie : ℕ) → Function → List ℕ
 recordBytes debug m align at cie f =
-    entry (padded align at (recordFields debug (m .word) (at + 4 - cie) f ++ linesBytes (m .word) 0 (others (f .rows))))
+    entry (padded align at (recordFields debug (m .word) (at + 4 - cie) f ++ steppedBytes (m .word) 0 (others (f .rows))))
 
 -- ---- a record's relocations
 
@@ -94,13 +94,13 @@ setPair place form (some p) =
     ∷ reloc (setPlace place form) (p .symbol1) (suc (setKind form)) (setBytes form) 0 ∷ []
 
 -- those of the rows: `place` is where the row's step stands in the section
-unfoldable pub stepRelocs : ℕ → (place at : ℕ) → List Pair → List Line → List Relocation
+unfoldable pub stepRelocs : ℕ → (place at : ℕ) → List Pair → List RowAt → List Relocation
 stepRelocs w place at ps [] = []
 stepRelocs w place at ps (x ∷ xs) =
     setPair place (stepForm (x .0 - at)) (pairFor at (x .0) ps)
     ++ stepRelocs w (place + length (stepBytes (x .0 - at)) + length (rowBytes w (x .1))) (x .0) ps xs
 
-unfoldable pub rowRelocs : ℕ → (place : ℕ) → List Line → Option Relaxed → List Relocation
+unfoldable pub rowRelocs : ℕ → (place : ℕ) → List RowAt → Option Relaxed → List Relocation
 rowRelocs w place xs none = []
 rowRelocs w place xs (some r) = stepRelocs w place 0 (r .pairs) xs
 

@@ -4,11 +4,11 @@ use mathlib.Core.Bool.{Bool, true, false, not, _&&_, _||_}
 use mathlib.Core.List.{List, [], _∷_, map}
 use lib.ListN.{length}
 use lib.Dec.{ltb, eqb}
-use Rattle.format.specs.Test.{all, each}
+use Rattle.format.specs.Prelude.{all, each}
 use Rattle.format.specs.declared.Row.{Row}
 use Rattle.format.specs.declared.Row.the-variants.{DefCfa, DefCfaOffset, DefCfaRegister, Offset, Restore, Undefined, RememberState, RestoreState, NegateRaState}
-use Rattle.format.specs.Rows.{Line, kindOf}
-use Rattle.format.specs.Lists.{functionStride, rowStride, field, count, inside, allIn, rowOkAt, markOk, mark, lineAt}
+use Rattle.format.specs.Rows.{RowAt, kindOf}
+use Rattle.format.specs.Lists.{functionStride, rowStride, field, count, inside, allIn, rowOkAt, markOk, mark, rowAt}
 use Rattle.format.specs.Headers.{ahead}
 
 -- no Restore (4) or RestoreState (7) leads
@@ -30,11 +30,11 @@ inOrder framed [] (RestoreState ∷ rs) = false
 inOrder framed (b ∷ opened) (RestoreState ∷ rs) = inOrder b opened rs
 inOrder framed opened (NegateRaState ∷ rs) = inOrder framed opened rs
 
-unfoldable pub rowsOf : List Line → List Row
+unfoldable pub rowsOf : List RowAt → List Row
 rowsOf xs = map (λ x. x .1) xs
 
 -- the check of a function: unless simple a frame address rule leads
-unfoldable pub rowCheck : (simple : Bool) → List Line → Bool
+unfoldable pub rowCheck : (simple : Bool) → List RowAt → Bool
 rowCheck simple xs = all mayLead (ahead xs) && inOrder (not simple) [] (rowsOf xs)
 
 -- function k of the lists; k past the list, a simple mark above 1, rows outside their list and numbers that are no row are a no
@@ -42,4 +42,4 @@ unfoldable pub rowCheckAt : (fs rows : List ℕ) → ℕ → Bool
 rowCheckAt fs rows k =
     let f : ℕ → ℕ = λ j. field functionStride fs k j in
     ltb k (count functionStride fs) && markOk (f 6) && inside (f 2) (f 3) (count rowStride rows) && allIn (rowOkAt rows) (f 2) (f 3)
-    && rowCheck (mark (f 6)) (each (lineAt rows) (f 2) (f 3))
+    && rowCheck (mark (f 6)) (each (rowAt rows) (f 2) (f 3))

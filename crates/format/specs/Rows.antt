@@ -5,7 +5,7 @@ use mathlib.Core.Option.{none, some}
 use mathlib.Core.List.{List, [], _∷_, _++_}
 use lib.Dec.{leb, ltb, eqb}
 use lib.IntN.{ℤ, pos, negsuc, negℤ, natAbs}
-use Rattle.format.specs.Test.{pick, Read, next}
+use Rattle.format.specs.Prelude.{pick, Read, next}
 use Rattle.format.specs.Leb.{little, readLittle, uleb, sleb, readUleb, readSleb, fits64}
 use Rattle.format.specs.declared.Row.{Row}
 use Rattle.format.specs.declared.Row.the-variants.{DefCfa, DefCfaOffset, DefCfaRegister, Offset, Restore, Undefined, RememberState, RestoreState, NegateRaState}
@@ -13,8 +13,8 @@ use Rattle.format.specs.declared.Operation.{Operation}
 use Rattle.format.specs.declared.Operation.the-variants.{Nop, Step, Does}
 
 -- a row at its offset from the function's start
-abbrev pub Line : Type 0
-Line = ℕ × Row
+abbrev pub RowAt : Type 0
+RowAt = ℕ × Row
 
 -- ---- the writer
 
@@ -66,9 +66,9 @@ unfoldable pub stepBytes : ℕ → List ℕ
 stepBytes n = pick (eqb n 0) [] (stepIn (stepForm n) n)
 
 -- rows with the steps between them, from the offset `at` on
-unfoldable pub linesBytes : ℕ → ℕ → List Line → List ℕ
-linesBytes w at [] = []
-linesBytes w at (x ∷ xs) = stepBytes (x .0 - at) ++ (rowBytes w (x .1) ++ linesBytes w (x .0) xs)
+unfoldable pub steppedBytes : ℕ → ℕ → List RowAt → List ℕ
+steppedBytes w at [] = []
+steppedBytes w at (x ∷ xs) = stepBytes (x .0 - at) ++ (rowBytes w (x .1) ++ steppedBytes w (x .0) xs)
 
 -- rows without steps, as a header has them
 unfoldable pub rowsBytes : ℕ → List Row → List ℕ

@@ -5,7 +5,7 @@ use mathlib.Core.List.{List, [], _∷_}
 use lib.ListN.{length}
 use lib.Dec.{leb, ltb, eqb}
 use lib.IntN.{ℤ}
-use Rattle.format.specs.Test.{pick, Result, good, bad, onward}
+use Rattle.format.specs.Prelude.{pick, Result, good, bad, onward}
 use Rattle.format.specs.declared.Machine.{Machine}
 use Rattle.format.specs.declared.Row.{Row}
 use Rattle.format.specs.declared.Row.the-variants.{DefCfa, DefCfaOffset, DefCfaRegister, Offset, Restore, Undefined, RememberState, RestoreState, NegateRaState}
@@ -15,7 +15,7 @@ use Rattle.format.specs.declared.Rule.{Rule}
 use Rattle.format.specs.declared.Rule.the-variants as rule
 use Rattle.format.specs.declared.Reading.{Reading}
 use Rattle.format.specs.declared.Reading.the-variants.{Rules, Refused}
-use Rattle.format.specs.Rows.{Line}
+use Rattle.format.specs.Rows.{RowAt}
 use Rattle.format.specs.Lists.{Function}
 use Rattle.format.specs.Headers.{leading, others}
 
@@ -74,7 +74,7 @@ applyRows initial [] s = s
 applyRows initial (r ∷ rs) s = applyRows initial rs (apply initial r s)
 
 -- the rows with an offset of at most p
-unfoldable pub upTo : ℕ → List Line → List Row
+unfoldable pub upTo : ℕ → List RowAt → List Row
 upTo p [] = []
 upTo p (x ∷ xs) = pick (leb (x .0) p) (x .1 ∷ upTo p xs) (upTo p xs)
 
@@ -151,7 +151,7 @@ actAll header q initial [] s = good s
 actAll header q initial (r ∷ rs) s = onward (act header q initial r s) (actAll header q initial rs)
 
 -- the rows while their offset is at most p
-unfoldable pub while : ℕ → List Line → List Row
+unfoldable pub while : ℕ → List RowAt → List Row
 while p [] = []
 while p (x ∷ xs) = pick (leb (x .0) p) (x .1 ∷ while p xs) []
 

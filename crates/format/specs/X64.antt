@@ -6,7 +6,7 @@ use mathlib.Core.List.{List, [], _∷_, _++_, map}
 use lib.ListN.{length, replicate}
 use lib.Dec.{leb, ltb, eqb}
 use lib.IntN.{ℤ, pos, negsuc, negℤ, _+ℤ_, _-ℤ_}
-use Rattle.format.specs.Test.{pick, Result, good, bad, onward}
+use Rattle.format.specs.Prelude.{pick, Result, good, bad, onward}
 use Rattle.format.specs.Leb.{little}
 use Rattle.format.specs.Machine.{Register, registerOf}
 use Rattle.format.specs.declared.Machine.{Machine}
@@ -14,7 +14,7 @@ use Rattle.format.specs.declared.Row.{Row}
 use Rattle.format.specs.declared.Row.the-variants.{DefCfa, DefCfaOffset, DefCfaRegister, Offset, Restore, Undefined, RememberState, RestoreState, NegateRaState}
 use Rattle.format.specs.declared.Seh.{Seh}
 use Rattle.format.specs.declared.Seh.the-variants.{Push, Alloc, Frame, Save}
-use Rattle.format.specs.Rows.{Line, kindOf, regOf, offsetOf, sameOffset}
+use Rattle.format.specs.Rows.{RowAt, kindOf, regOf, offsetOf, sameOffset}
 use Rattle.format.specs.Lists.{Function, Prologue, Relocation}
 use Rattle.format.specs.Headers.{reloc}
 use Rattle.format.specs.Writer.{Written, joined, isEmpty}
@@ -22,7 +22,7 @@ use Rattle.format.specs.Writer.{Written, joined, isEmpty}
 -- ---- from rows to steps (document 01, "x64 codes")
 
 -- the rows before the first RememberState
-unfoldable pub beforeRemember : List Line → List Line
+unfoldable pub beforeRemember : List RowAt → List RowAt
 beforeRemember [] = []
 beforeRemember (x ∷ xs) = pick (eqb (kindOf (x .1)) 6) [] (x ∷ beforeRemember xs)
 
@@ -32,13 +32,13 @@ pub record Group : Type 0 where
   pub rows : List Row
 
 -- a row in front of the groups of the rest: it joins the first of them where the offsets are equal
-unfoldable pub joinGroup : Line → List Group → List Group
+unfoldable pub joinGroup : RowAt → List Group → List Group
 joinGroup x [] = record { at = x .0; rows = x .1 ∷ [] } ∷ []
 joinGroup x (g ∷ gs) =
     pick (eqb (x .0) (g .at)) (record { at = x .0; rows = x .1 ∷ g .rows } ∷ gs) (record { at = x .0; rows = x .1 ∷ [] } ∷ g ∷ gs)
 
 -- runs of equal offset
-unfoldable pub groups : List Line → List Group
+unfoldable pub groups : List RowAt → List Group
 groups [] = []
 groups (x ∷ xs) = joinGroup x (groups xs)
 

@@ -8,7 +8,7 @@ use native.Mathlib.Omega.{arith}
 use borrow.Author.Tests.{ne-eqb, le-ltb}
 use lib.ListN.{length, length-append}
 use lib.Dec.{T, eqb}
-use Rattle.format.specs.Test.{pick, each}
+use Rattle.format.specs.Prelude.{pick, each}
 use Rattle.format.specs.declared.Machine.{Machine}
 use Rattle.format.specs.Rows.{rowsBytes}
 use Rattle.format.specs.Lists.{Landing, Named, Pointer, landingAt}

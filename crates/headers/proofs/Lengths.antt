@@ -4,7 +4,7 @@ use mathlib.Core.Bool.{Bool, true, false}
 use Prim.Native.Nat.{ℕ, suc, _+_, _<_}
 use native.Mathlib.Omega.{arith}
 use lib.ListN.{length, length-append}
-use Rattle.format.specs.Test.{pick}
+use Rattle.format.specs.Prelude.{pick}
 use Rattle.format.specs.Leb.{ulebF, uleb, sleb}
 use Rattle.format.specs.declared.Machine.{Machine}
 use Rattle.format.specs.Headers.{named, Key, pointerBytes, letters, augmentationData, counted, dataFactor, headerFields}

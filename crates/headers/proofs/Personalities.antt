@@ -8,7 +8,7 @@ use Prim.Native.Nat.{ℕ}
 use native.Mathlib.Omega.{arith}
 use lib.ListN.{length}
 use lib.Dec.{eqb}
-use Rattle.format.specs.Test.{pick}
+use Rattle.format.specs.Prelude.{pick}
 use Rattle.format.specs.declared.Machine.{Machine}
 use Rattle.format.specs.Lists.{Relocation}
 use Rattle.format.specs.Headers.{plain, personal, named, personalitySymbol, indirectPcrelSdata4, pointerReloc, pointerPlace, kindRelocs, headerRelocs}

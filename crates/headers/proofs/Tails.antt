@@ -11,7 +11,7 @@ use lib.Signed.{mag}
 use mir.Syntax.{w64}
 use mir.Val.{SFits, ofZ, toZ}
 use mir.Facts.{toZ-ofZ, toZ-pos}
-use Rattle.format.specs.Test.{pick}
+use Rattle.format.specs.Prelude.{pick}
 use Rattle.format.specs.Leb.{little, ulebF, uleb}
 use Rattle.format.specs.declared.Machine.{Machine}
 use Rattle.format.specs.Headers.{plain, personal, named, Key, pcrelSdata4, indirectPcrelSdata4, personalitySymbol, sizeOf, sizeOr0, pointerBytes, letters, augmentation, lsdaLetter, augmentationData, counted, headerData, headerId, dataFactor, headerFields}

@@ -11,7 +11,7 @@ use Rattle.format.specs.declared.Machine.{Machine}
 use Rattle.format.specs.declared.Row.{Row}
 use Rattle.format.specs.declared.Row.the-variants.{RememberState}
 use Rattle.format.specs.Rows.{rowBytes, rowsBytes}
-use Rattle.format.specs.Lists.{lineAt, mostRecords}
+use Rattle.format.specs.Lists.{rowAt, mostRecords}
 use Rattle.format.specs.Headers.{leading}
 use Rattle.format.proofs.PutLaws.{put-append}
 use Rattle.format.proofs.PutLaws as stores
@@ -95,7 +95,7 @@ module _ {w : ℕ} {rs : List Row} {size i : ℕ} (c : Sizing w rs size i) where
 module _ (m : Machine) (e : Extent) (rows : List ℕ) (s : Sound m e rows) where
   pub starts-few : length (leading m (bodyOf e rows)) ≤ 2 + mostRecords
   unfolding meant
-  starts-few = omega (arith, leading-count m (bodyOf e rows) (s .machine), each-length (lineAt rows) (e .«rows_at») (e .rows), s .few)
+  starts-few = omega (arith, leading-count m (bodyOf e rows) (s .machine), each-length (rowAt rows) (e .«rows_at») (e .rows), s .few)
 
   pub starts-short : length (rowsBytes (m .word) (leading m (bodyOf e rows))) ≤ 9 * (2 + mostRecords)
   starts-short = omega (arith, starts-few, rows-short (m .word) (leading m (bodyOf e rows)) (leading-ok m (bodyOf e rows) (s .machine) (s .lines)))

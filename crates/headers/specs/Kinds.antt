@@ -6,7 +6,7 @@ use mathlib.Core.Option.{Option, none, some}
 use mathlib.Core.List.{List, [], _∷_, _++_}
 use lib.ListN.{replicate}
 use lib.Dec.{eqb}
-use Rattle.format.specs.Test.{pick}
+use Rattle.format.specs.Prelude.{pick}
 use Rattle.format.specs.Leb.{uleb, sleb}
 use Rattle.format.specs.Headers.{Kind, plain, personal, named, Key, pcrelSdata4, letters, lsdaLetter, augmentationData, counted, dataFactor}
 use Rattle.lists.specs.declared.Extent.{Extent}

@@ -8,8 +8,8 @@ use lib.Dec.{T, ltb, eqb}
 use mir.Facts.{ltb-yes}
 use borrow.Author.Tests.{ne-eqb}
 use lib.ListN.{length}
-use Rattle.format.specs.Test.{pick, each}
-use Rattle.format.specs.Rows.{Line, kindOf}
+use Rattle.format.specs.Prelude.{pick, each}
+use Rattle.format.specs.Rows.{RowAt, kindOf}
 use Rattle.format.specs.Lists.{rowOf}
 use Rattle.format.specs.Headers.{leads, ahead}
 use Rattle.lists.proofs.Answers.{accepted, refused}
@@ -31,17 +31,17 @@ remembers (suc (suc (suc (suc (suc (suc (suc zero))))))) reg off = refl
 remembers (suc (suc (suc (suc (suc (suc (suc (suc k)))))))) reg off = simp (past k 0 tt, past k 1 tt, past k 2 tt, past k 3 tt, past k 4 tt, past k 5 tt, past k 6 tt, past k 7 tt)
 
 -- at row i of the n from `at` on, all before it lead
-pub record Counting (f : ℕ → Line) (at n i : ℕ) : Type 0 where
+pub record Counting (f : ℕ → RowAt) (at n i : ℕ) : Type 0 where
   pub high : i ≤ n
   pub rest : length (ahead (each f at n)) ≡ i + length (ahead (each f (at + i) (n - i)))
 
-pub start : (f : ℕ → Line) (at n : ℕ) → Counting f at n 0
+pub start : (f : ℕ → RowAt) (at n : ℕ) → Counting f at n 0
 start f at n =
     let e : n ≡ n - 0 = omega arith in
     let a : at ≡ at + 0 = omega arith in
     record { high = omega arith; rest = ap (λ k. length (ahead (each f at k))) e ∙ ap (λ k. length (ahead (each f k (n - 0)))) a ∙ (omega arith) }
 
-module _ {f : ℕ → Line} {at n i : ℕ} (l : Counting f at n i) where
+module _ {f : ℕ → RowAt} {at n i : ℕ} (l : Counting f at n i) where
   module _ {r : Bool} (h : i < n) (e : r ≡ leads (f (at + i))) where
     here : each f (at + i) (n - i) ≡ f (at + i) ∷ each f (at + (i + 1)) (n - (i + 1))
     unfolding each

@@ -11,7 +11,7 @@ use Rattle.format.specs.Lists.{Function, field, functionStride, rowStride, land
 use Rattle.format.specs.Headers.{Key, keyOf}
 use Rattle.format.specs.Questions.{encodingsOk}
 use Rattle.format.proofs.Fits.{MachineFits}
-use Rattle.format.proofs.WalkBack.{LinesOk}
+use Rattle.format.proofs.WalkBack.{RowsAtOk}
 use Rattle.lists.specs.declared.Extent.{Extent}
 use Rattle.lists.specs.Extents.{meant}
 
@@ -62,7 +62,7 @@ pub record Sound (m : Machine) (e : Extent) (rows : List ℕ) : Type 0 where
   pub machine : MachineFits m
   pub ready : RowsReady rows (e .«rows_at») (e .rows)
   pub few : e .rows ≤ mostRecords
-  pub lines : LinesOk (m .word) 0 (bodyOf e rows .rows)
+  pub lines : RowsAtOk (m .word) 0 (bodyOf e rows .rows)
   pub encodings : T (encodingsOk (m .word) (bodyOf e rows .landings) (bodyOf e rows .named))
 
 -- as far as its call sites and its relaxing labels go

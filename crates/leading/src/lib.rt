@@ -3,10 +3,10 @@ ghost use mathlib.Core.Path.{_≡_};
 ghost use mathlib.Core.List.{[]};
 ghost use Prim.Native.Nat.{_+_, _*_, _≤_, _<_};
 ghost use lib.ListN.{length, getD};
-ghost use Rattle.format.specs.Test.{pick, each};
+ghost use Rattle.format.specs.Prelude.{pick, each};
 ghost use Rattle.format.specs.declared.Row.the-variants.{RememberState};
 ghost use Rattle.format.specs.Headers.{implied, leads, ahead, leading};
-ghost use Rattle.format.specs.Lists.{lineAt};
+ghost use Rattle.format.specs.Lists.{rowAt};
 ghost use Rattle.format.proofs.Fits.{MachineFits};
 ghost use Rattle.leading.specs.Functions.{takenIn, bodyOf, RowsReady};
 use format::Machine;
@@ -39,7 +39,7 @@ pub fn taken(s: Section, e: Extent) -> Extent
 // Row i is at offset 0 and no RememberState.
 fn leads_at(rows: &[u64], i: usize) -> bool
     requires { ⌜ 4 * i + 4 ≤ length (now rows) ⌝ }
-    ensures { λ r. ⌜ r ≡ leads (lineAt (now (rows .entry)) i) ⌝ }
+    ensures { λ r. ⌜ r ≡ leads (rowAt (now (rows .entry)) i) ⌝ }
 {
     if rows::offset_at(rows, i) != 0 {
         return false;
@@ -50,7 +50,7 @@ fn leads_at(rows: &[u64], i: usize) -> bool
 // How many of the n rows from `at` on lead.
 pub fn ahead(rows: &[u64], at: usize, n: usize) -> usize
     requires { ⌜ RowsReady (now rows) at n ⌝ }
-    ensures { λ r. ⌜ (r ≡ length (ahead (each (lineAt (now (rows .entry))) at n))) × (r ≤ n) ⌝ }
+    ensures { λ r. ⌜ (r ≡ length (ahead (each (rowAt (now (rows .entry))) at n))) × (r ≤ n) ⌝ }
 {
     let mut i = 0;
     while i < n {

@@ -11,7 +11,7 @@ use lib.Dec.{ltb, lit<}
 use lib.IntN.{ℤ, pos, negsuc}
 use lib.ListN.{length, getD, drop, drop-of-length-le}
 use lib.Seq.{drop-cons}
-use Rattle.format.specs.Test.{pick, Read, next}
+use Rattle.format.specs.Prelude.{pick, Read, next}
 use Rattle.format.specs.Leb.{readUlebF, push, last7, readSlebF}
 use Rattle.format.proofs.Choice.{if-le, if-gt}
 use Rattle.leb.specs.Signs.{under}

@@ -14,7 +14,7 @@ use mir.Syntax.{w64}
 use mir.Val.{ofZ, toZ}
 use mir.Facts.{toZ-ofZ}
 use lib.ListN.{length, drop, length-drop}
-use Rattle.format.specs.Test.{next}
+use Rattle.format.specs.Prelude.{next}
 use Rattle.format.specs.Leb.{readUlebF, readUleb, last7, readSlebF, fits64, readSleb}
 use Rattle.format.specs.Positions.{unsignedFrom, signedFrom, ulebAt, slebAt}
 use Rattle.format.specs.declared.Unsigned.the-variants as unsigned

@@ -11,7 +11,7 @@ use lib.Dec.{T, leb, leb→le}
 use lib.ListN.{length, getD, take, drop, set, replicate, length-set, length-take, length-drop}
 use lib.Seq.{take-suc, take-suc-set, take-all, drop-cons, getD-take, getD-drop}
 use mir.Facts.{and-yes}
-use Rattle.format.specs.Test.{all}
+use Rattle.format.specs.Prelude.{all}
 use Rattle.format.specs.Lists.{allIn}
 use Rattle.format.specs.Machine.{isWord, machineOf, machineOk}
 use Rattle.format.proofs.Choice.{either, tested}

@@ -4,7 +4,7 @@ use Prim.Native.Nat.{ℕ, suc, _+_, _-_, _≤_, _<_}
 use native.Mathlib.Omega.{arith}
 use native.Mathlib.Numerals.{add-one}
 use mathlib.Core.Bool.{Bool, true, false, not, _&&_}
-use Rattle.format.specs.Test.{all, each}
+use Rattle.format.specs.Prelude.{all, each}
 use Rattle.format.specs.Lists.{allIn}
 use Rattle.lists.proofs.Answers.{accepted, refused}
 

@@ -2,8 +2,8 @@
 use Prim.Native.Nat.{ℕ}
 use mathlib.Core.List.{List}
 use mathlib.Core.Option.{none, some}
-use Rattle.format.specs.Test.{pick, each}
-use Rattle.format.specs.Lists.{Function, field, functionStride, landingStride, pairStride, prologueStride, mark, lineAt, landingAt, pairAt, codeAt}
+use Rattle.format.specs.Prelude.{pick, each}
+use Rattle.format.specs.Lists.{Function, field, functionStride, landingStride, pairStride, prologueStride, mark, rowAt, landingAt, pairAt, codeAt}
 use Rattle.format.specs.Lists as lists
 use Rattle.lists.specs.declared.Extent.{Extent}
 use Rattle.lists.specs.declared.Landing.{Landing}
@@ -41,7 +41,7 @@ meant e rows landings pairs =
     record {
       symbol = e .symbol;
       size = e .length;
-      rows = each (lineAt rows) (e .«rows_at») (e .rows);
+      rows = each (rowAt rows) (e .«rows_at») (e .rows);
       landings = each (landingAt landings) (e .«landings_at») (e .landings);
       simple = e .simple;
       signal = e .signal;

@@ -5,7 +5,7 @@ ghost use lib.ListN.{length, take, drop};
 ghost use lib.Dec.{T, leb, eqb};
 ghost use mir.Syntax.{w64};
 ghost use mir.Val.{toZ};
-ghost use Rattle.format.specs.Test.{all};
+ghost use Rattle.format.specs.Prelude.{all};
 ghost use Rattle.format.specs.Machine.{isWord, machineOk, machineOf};
 ghost use Rattle.format.specs.Lists.{count, field, rowStride, pairStride, codeStride, mostRecords, inside, symbolOk, pointerOk, rowOkAt, pairOkAt, codeOkAt, allIn, sumOf, pairsIn, functionOkAt, prologueOkAt, listsOk, codesOk, codeAt};
 ghost use Rattle.lists.specs.Parts.{rangesOkAt, namedOkAt, relaxedOkAt};

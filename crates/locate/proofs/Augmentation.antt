@@ -9,7 +9,7 @@ use native.Mathlib.Numerals.{add-one}
 use borrow.Author.Tests.{eq-eqb, ne-eqb, le-leb, lt-leb, not-true, not-false}
 use lib.ListN.{length, take, drop, getD, length-drop, drop-of-length-le}
 use lib.Seq.{drop-cons, drop-drop}
-use Rattle.format.specs.Test.{pick, Read, next, after}
+use Rattle.format.specs.Prelude.{pick, Read, next, after}
 use Rattle.format.specs.Positions.{ulebAt}
 use Rattle.format.specs.Headers.{pointerSize}
 use Rattle.format.specs.Reader.{readByte, readMany, readCounted, personalityIn, lsdaIn, lettersIn}

@@ -10,7 +10,7 @@ use lib.Dec.{T, leb}
 use lib.ListN.{length, take, drop, length-drop, drop-of-length-le}
 use lib.Seq.{drop-drop, length-take-le}
 use mir.Facts.{and-yes, leb-yes}
-use Rattle.format.specs.Test.{pick, Read, next, after}
+use Rattle.format.specs.Prelude.{pick, Read, next, after}
 use Rattle.format.specs.Positions.{littleAt}
 use Rattle.format.specs.Questions.{isSome}
 use Rattle.format.specs.Reader.{Entry, readEntry, entriesF, entries, valueOr0, second}

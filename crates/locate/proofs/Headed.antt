@@ -13,7 +13,7 @@ use lib.Dec.{T, eqb}
 use mir.Syntax.{w64}
 use mir.Val.{SFits, ofZ, toZ}
 use mir.Facts.{toZ-pos}
-use Rattle.format.specs.Test.{pick, next, after}
+use Rattle.format.specs.Prelude.{pick, next, after}
 use Rattle.format.specs.Positions.{ulebAt, slebAt, littleAt}
 use Rattle.format.specs.Machine.{isWord}
 use Rattle.format.specs.Rows.{readRegister, sameOffset}

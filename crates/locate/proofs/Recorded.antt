@@ -9,7 +9,7 @@ use borrow.Author.Tests.{le-leb, lt-leb}
 use lib.Dec.{T}
 use lib.ListN.{length, drop, length-drop}
 use lib.Seq.{length-take-le}
-use Rattle.format.specs.Test.{pick, next}
+use Rattle.format.specs.Prelude.{pick, next}
 use Rattle.format.specs.Positions.{littleAt}
 use Rattle.format.specs.Machine.{isWord}
 use Rattle.format.specs.Reader.{readCounted, RecordFields, require, recordTail, parseRecord}

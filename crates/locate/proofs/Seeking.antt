@@ -10,7 +10,7 @@ use native.Mathlib.Numerals.{add-one}
 use borrow.Author.Tests.{eq-eqb, ne-eqb}
 use lib.Dec.{T, eqb, ltb}
 use lib.ListN.{length, getD, getElem?}
-use Rattle.format.specs.Test.{pick, after, first, each}
+use Rattle.format.specs.Prelude.{pick, after, first, each}
 use Rattle.format.specs.Questions.{isSome}
 use Rattle.format.specs.Reader.{Entry, isHeader, records, firstAddend, headerAt, entries}
 use Rattle.format.specs.Lists.{relocationAt, relocationsOf}

@@ -10,7 +10,7 @@ use borrow.Author.Tests.{eq-eqb, ne-eqb}
 use lib.Dec.{eqb}
 use lib.ListN.{length, drop, getD, length-drop, drop-of-length-le}
 use lib.Seq.{drop-cons, drop-drop}
-use Rattle.format.specs.Test.{pick, Read}
+use Rattle.format.specs.Prelude.{pick, Read}
 use Rattle.format.specs.Questions.{isSome}
 use Rattle.format.specs.Reader.{Letters, Spelling, strip, spellings, spellOr, readLetters}
 use Rattle.format.proofs.Choice.{pick-yes, pick-no, tested}

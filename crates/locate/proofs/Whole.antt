@@ -7,7 +7,7 @@ use Prim.Native.Nat.{ℕ, zero, suc, _+_, _-_, _≤_}
 use native.Mathlib.Omega.{arith}
 use lib.ListN.{length, take, drop, length-drop, getElem?}
 use lib.Seq.{drop-drop, take-nil, length-take-le}
-use Rattle.format.specs.Test.{after, Result, bad, onward, orElse}
+use Rattle.format.specs.Prelude.{after, Result, bad, onward, orElse}
 use Rattle.format.specs.Questions.{isSome}
 use Rattle.format.specs.Lists.{Relocation}
 use Rattle.format.specs.Reader.{Entry, entries, records, headerPlace, headerAt, parseHeader, parseRecord, Found, parsed, locate}

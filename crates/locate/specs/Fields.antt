@@ -6,7 +6,7 @@ use mathlib.Core.Option.{Option, none, some}
 use mathlib.Core.List.{List, [], _∷_}
 use lib.ListN.{length, drop}
 use lib.Dec.{eqb}
-use Rattle.format.specs.Test.{Read, next}
+use Rattle.format.specs.Prelude.{Read, next}
 use Rattle.format.specs.Leb.{readUleb, readSleb}
 use Rattle.format.specs.Rows.{readRegister, sameOffset}
 use Rattle.format.specs.Headers.{dataFactor}

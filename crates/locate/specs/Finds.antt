@@ -3,7 +3,7 @@ use mathlib.Core.Path.{_≡_}
 use Prim.Native.Nat.{ℕ, _≤_}
 use mathlib.Core.List.{List}
 use lib.ListN.{length}
-use Rattle.format.specs.Test.{Result, good, bad}
+use Rattle.format.specs.Prelude.{Result, good, bad}
 use Rattle.format.specs.Reader.{Found}
 use Rattle.locate.specs.Spans.{part}
 use Rattle.locate.specs.declared.Located.{Located}

@@ -5,7 +5,7 @@ use mathlib.Core.Option.{Option, none, some}
 use mathlib.Core.List.{List, [], _∷_}
 use lib.Dec.{T}
 use lib.ListN.{length, take, drop}
-use Rattle.format.specs.Test.{Read}
+use Rattle.format.specs.Prelude.{Read}
 use Rattle.format.specs.Questions.{isSome}
 use Rattle.format.specs.Reader.{Entry, readEntry, entriesF}
 use Rattle.locate.specs.declared.Number.{Number}

@@ -7,7 +7,7 @@ ghost use lib.Dec.{T, eqb, ltb};
 ghost use Rattle.format.specs.Questions.{isSome};
 ghost use Rattle.format.specs.Reader.{strip, spellings, readLetters, readCounted, personalityIn, lsdaIn, lettersIn, headerTail, parseHeader, recordTail, parseRecord, second, isHeader, records, distanceBack, firstAddend, headerPlace, headerAt, entries, parsed, locate};
 ghost use Rattle.format.specs.Lists.{relocationsOf};
-ghost use Rattle.format.specs.Test.{pick, after};
+ghost use Rattle.format.specs.Prelude.{pick, after};
 ghost use Rattle.format.specs.Machine.{isWord};
 ghost use Rattle.format.specs.Rows.{sameOffset};
 ghost use Rattle.format.specs.Headers.{headerId, sizeOf, pointerSize, dataFactor};

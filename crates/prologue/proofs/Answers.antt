@@ -9,12 +9,12 @@ use lib.Dec.{T, ltb, eqb}
 use lib.IntN.{ℤ, pos, _+ℤ_}
 use borrow.Author.Tests.{ne-eqb}
 use mir.Facts.{and-yes}
-use Rattle.format.specs.Test.{pick, Result, good, bad, onward, all, each}
+use Rattle.format.specs.Prelude.{pick, Result, good, bad, onward, all, each}
 use Rattle.format.specs.declared.Machine.{Machine}
 use Rattle.format.specs.Machine.{Register, registerOf}
 use Rattle.format.specs.declared.Seh.{Seh}
 use Rattle.format.specs.declared.Seh.the-variants.{Push, Frame, Save}
-use Rattle.format.specs.Lists.{Function, lineAt}
+use Rattle.format.specs.Lists.{Function, rowAt}
 use Rattle.format.specs.X64.{Step, push, alloc, frame, save, Prefix, beforeRemember, groups, readGroups, low16, codeFor, codesFor, codesOf, endOf}
 use Rattle.format.proofs.Choice.{if-le}
 use Rattle.prologue.specs.declared.Walk.{Walk}
@@ -124,7 +124,7 @@ ends {m} {t} (reads e u l) z = rw u (all-ends m (t .below) 0 (t .steps) (all-nam
 ends (refuses n h e u) z = absurd (h (rw (u, ne-eqb n 0 h) at z))
 
 module _ (m : Machine) (rows : List ℕ) (at n end : ℕ) (low : at ≤ end) (high : end ≤ at + n)
-    (before : beforeRemember (each (lineAt rows) at n) ≡ each (lineAt rows) at (end - at)) where
+    (before : beforeRemember (each (rowAt rows) at n) ≡ each (rowAt rows) at (end - at)) where
   abbrev none-yet : Prefix
   none-yet = record { steps = []; below = pos (m .pushed) }
 
@@ -134,7 +134,7 @@ module _ (m : Machine) (rows : List ℕ) (at n end : ℕ) (low : at ≤ end) (hi
   abbrev shape : Shape
   shape = record { number = numberOf walked; below = walked .below; end = end }
 
-  whole : Reads m (pastRows rows at end at (end - at) none-yet) (endIn rows at end) (readGroups m (groups (each (lineAt rows) at (end - at))) none-yet) walked
+  whole : Reads m (pastRows rows at end at (end - at) none-yet) (endIn rows at end) (readGroups m (groups (each (rowAt rows) at (end - at))) none-yet) walked
   unfolding start walkOf countOf allKnown all lastOf endIn
   whole = said m rows at end at (end - at) (omega arith) (omega arith) (λ l. joined-first rows at at (omega arith)) none-yet (sym (if-le at at 0 _ (omega arith)))
 
@@ -142,7 +142,7 @@ module _ (m : Machine) (rows : List ℕ) (at n end : ℕ) (low : at ≤ end) (hi
   unfolding codesIn
   pieces-all below = pieces-past m below rows at end at (end - at) none-yet
 
-  pub codes : (f : Function) → f .rows ≡ each (lineAt rows) at n
+  pub codes : (f : Function) → f .rows ≡ each (rowAt rows) at n
       → codesOf m f ≡ pick (eqb (shape .number) 0) (good (piecesOf m rows at shape)) (bad (shape .number))
   unfolding codesOf
   codes f e = rw (e, before, ← pieces-all (walked .below)) (says whole)

@@ -10,7 +10,7 @@ use lib.IntN.{ℤ, pos, negℤ, _-ℤ_}
 use denote.Enum.Declared.{tagOf}
 use types.Run.{OneOf}
 use Rattle.format.proofs.Row.{the-type}
-use Rattle.format.specs.Test.{pick}
+use Rattle.format.specs.Prelude.{pick}
 use Rattle.format.specs.declared.Row.{Row}
 use Rattle.format.specs.declared.Machine.{Machine}
 use Rattle.format.specs.declared.Row.the-variants.{DefCfa, DefCfaOffset, DefCfaRegister, Offset, Restore, Undefined, RememberState, RestoreState, NegateRaState}

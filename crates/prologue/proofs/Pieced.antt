@@ -8,17 +8,17 @@ use mathlib.Core.List.{List, [], _∷_, _++_, append-nil}
 use lib.Dec.{T}
 use lib.IntN.{ℤ, pos, _+ℤ_, _-ℤ_}
 use borrow.Author.Tests.{ne-eqb, lt-leb}
-use Rattle.format.specs.Test.{pick}
+use Rattle.format.specs.Prelude.{pick}
 use Rattle.format.specs.declared.Machine.{Machine}
 use Rattle.format.specs.declared.Row.{Row}
 use Rattle.format.specs.declared.Row.the-variants.{DefCfa, DefCfaOffset, DefCfaRegister, Offset}
 use Rattle.format.specs.declared.Seh.the-variants.{Push, Alloc, Frame, Save}
 use Rattle.format.specs.Rows.{kindOf, regOf, offsetOf}
-use Rattle.format.specs.Lists.{field, rowStride, lineAt, rowOkAt}
+use Rattle.format.specs.Lists.{field, rowStride, rowAt, rowOkAt}
 use Rattle.format.specs.X64.{Step, push, alloc, frame, save, codeFor}
 use Rattle.prologue.specs.Groups.{joined, joins}
 use Rattle.prologue.specs.Pieces.{Short, rowStep, stepIn, movedBy, movedIn, codeIn, codesIn, pieceIn, piecesFrom, namedCode}
-use Rattle.prologue.proofs.Rows.{line-short}
+use Rattle.prologue.proofs.Rows.{row-at-short}
 
 -- ---- one row
 
@@ -58,10 +58,10 @@ module _ (m : Machine) (below sofar : ℤ) (off : ℕ) (a b : Bool) where
   no-step r h = simp (ne-eqb (kindOf r) 1 (λ e. omega arith), ne-eqb (kindOf r) 3 (λ e. omega arith), lt-leb (kindOf r) 2 (omega arith))
 
 -- row i by what was read of it
-module _ (m : Machine) (below sofar : ℤ) (rows : List ℕ) (at i end : ℕ) {r : Row} (e : r ≡ lineAt rows i .1) where
+module _ (m : Machine) (below sofar : ℤ) (rows : List ℕ) (at i end : ℕ) {r : Row} (e : r ≡ rowAt rows i .1) where
   module _ {off : ℕ} (o : off ≡ field rowStride rows i 0) where
     there : {s : Row} → r ≡ s → pieceIn m below sofar rows at i end ≡ codesIn m below (rowStep off sofar (joins rows i end) (joined rows at i) s)
-    unfolding pieceIn stepIn lineAt
+    unfolding pieceIn stepIn rowAt
     there f = rw (← e, f, o)
 
     pub set-piece : (reg : ℕ) (z : ℤ) → r ≡ DefCfa reg z → pieceIn m below sofar rows at i end ≡ namedCode m off (m .frame) (λ x. Frame (x .number) (pos 0))
@@ -82,11 +82,11 @@ module _ (m : Machine) (below sofar : ℤ) (rows : List ℕ) (at i end : ℕ) {r
 
 -- ---- the distance behind a row
 
-pub moved-by : (sofar : ℤ) (rows : List ℕ) (i : ℕ) {r : Row} (z : ℤ) → r ≡ lineAt rows i .1 → r ≡ DefCfaOffset z → z ≡ movedIn sofar rows i
+pub moved-by : (sofar : ℤ) (rows : List ℕ) (i : ℕ) {r : Row} (z : ℤ) → r ≡ rowAt rows i .1 → r ≡ DefCfaOffset z → z ≡ movedIn sofar rows i
 unfolding movedIn movedBy kindOf offsetOf pick
 moved-by sofar rows i z e f = rw (← e, f)
 
-pub stays : (sofar : ℤ) (rows : List ℕ) (i : ℕ) {r : Row} → r ≡ lineAt rows i .1 → (kindOf r ≡ 1 → ⊥) → sofar ≡ movedIn sofar rows i
+pub stays : (sofar : ℤ) (rows : List ℕ) (i : ℕ) {r : Row} → r ≡ rowAt rows i .1 → (kindOf r ≡ 1 → ⊥) → sofar ≡ movedIn sofar rows i
 unfolding movedIn movedBy pick
 stays sofar rows i {r} e n = rw (← e, ne-eqb (kindOf r) 1 n)
 
@@ -97,7 +97,7 @@ either-moved false y z h k = k
 
 pub moved-short : (sofar : ℤ) (rows : List ℕ) (i : ℕ) → T (rowOkAt rows i) → Short sofar → Short (movedIn sofar rows i)
 unfolding movedIn movedBy
-moved-short sofar rows i t h = either-moved _ _ _ (line-short rows i t) h
+moved-short sofar rows i t h = either-moved _ _ _ (row-at-short rows i t) h
 
 -- ---- the pieces from row i on
 

@@ -9,7 +9,7 @@ use lib.Dec.{T, eqb}
 use borrow.Author.Tests.{ne-eqb}
 use lib.IntN.{ℤ, pos, negℤ, _-ℤ_}
 use mir.Facts.{and-yes, eqb-yes}
-use Rattle.format.specs.Test.{pick, Result, good, bad, onward, all}
+use Rattle.format.specs.Prelude.{pick, Result, good, bad, onward, all}
 use Rattle.format.specs.declared.Machine.{Machine}
 use Rattle.format.specs.declared.Row.{Row}
 use Rattle.format.specs.declared.Row.the-variants.{DefCfa, DefCfaOffset, DefCfaRegister, Offset, Restore, Undefined, RememberState, RestoreState, NegateRaState}

@@ -6,7 +6,7 @@ use mathlib.Core.Bool.{Bool, true, false}
 use mathlib.Core.List.{List, [], _∷_}
 use lib.ListN.{length, getD, List·getD-eq-default}
 use borrow.Author.Tests.{lt-ltb, le-ltb}
-use Rattle.format.specs.Test.{pick, Result, good, bad, onward}
+use Rattle.format.specs.Prelude.{pick, Result, good, bad, onward}
 use Rattle.format.specs.declared.Machine.{Machine}
 use Rattle.format.specs.Machine.{Register, registerOf}
 use Rattle.format.specs.declared.Seh.{Seh}

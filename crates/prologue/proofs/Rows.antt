@@ -9,10 +9,10 @@ use lib.IntN.{pos}
 use mir.Syntax.{w32}
 use mir.Val.{toZ}
 use mir.Facts.{sfits-toZ}
-use Rattle.format.specs.Test.{pick}
+use Rattle.format.specs.Prelude.{pick}
 use Rattle.format.specs.declared.Row.{Row}
 use Rattle.format.specs.Rows.{offsetOf}
-use Rattle.format.specs.Lists.{field, rowStride, rowOf, rowOk, rowOkAt, lineAt}
+use Rattle.format.specs.Lists.{field, rowStride, rowOf, rowOk, rowOkAt, rowAt}
 use Rattle.format.proofs.ListLaws.{in-range}
 use Rattle.leading.specs.Functions.{RowsReady}
 use Rattle.rows.proofs.Lists.{row-small}
@@ -45,6 +45,6 @@ row-short kind reg off t =
     (one-short (eqb kind 3) _ _ h
     (one-short (eqb kind 4) _ _ o (one-short (eqb kind 5) _ _ o (one-short (eqb kind 6) _ _ o (one-short (eqb kind 7) _ _ o o)))))))
 
-pub line-short : (rows : List ℕ) (i : ℕ) → T (rowOkAt rows i) → Short (offsetOf (lineAt rows i .1))
-unfolding rowOkAt lineAt
-line-short rows i t = row-short (field rowStride rows i 1) (field rowStride rows i 2) (field rowStride rows i 3) t
+pub row-at-short : (rows : List ℕ) (i : ℕ) → T (rowOkAt rows i) → Short (offsetOf (rowAt rows i .1))
+unfolding rowOkAt rowAt
+row-at-short rows i t = row-short (field rowStride rows i 1) (field rowStride rows i 2) (field rowStride rows i 3) t

@@ -8,19 +8,19 @@ use mathlib.Core.List.{List, [], _∷_, _++_, append-nil}
 use lib.Dec.{eqb}
 use borrow.Author.Tests.{eq-eqb, ne-eqb}
 use mir.Facts.{eqb-yes}
-use Rattle.format.specs.Test.{pick, each}
+use Rattle.format.specs.Prelude.{pick, each}
 use Rattle.format.specs.declared.Machine.{Machine}
 use Rattle.format.specs.declared.Row.{Row}
 use Rattle.format.specs.declared.Row.the-variants.{DefCfa, DefCfaOffset, DefCfaRegister, Offset, Restore, Undefined, RememberState, RestoreState, NegateRaState}
-use Rattle.format.specs.Rows.{Line, kindOf, offsetOf}
-use Rattle.format.specs.Lists.{field, rowStride, rowOf, lineAt}
+use Rattle.format.specs.Rows.{RowAt, kindOf, offsetOf}
+use Rattle.format.specs.Lists.{field, rowStride, rowOf, rowAt}
 use Rattle.format.specs.X64.{beforeRemember}
 use Rattle.format.proofs.Choice.{tested}
 use Rattle.prologue.specs.declared.Walk.{Walk}
 use Rattle.prologue.specs.Groups.{joined, joins, third, refused, stepped, added, loneIn, pushIn, lastIn, rowIn, walkFrom, start}
 use Rattle.prologue.specs.Pieces.{Short, Ready}
 use Rattle.prologue.proofs.Neighbours.{joined-above}
-use Rattle.prologue.proofs.Rows.{line-short}
+use Rattle.prologue.proofs.Rows.{row-at-short}
 use Rattle.prologue.proofs.Walked.{is-true, is-false, at-push, at-lone, turned}
 
 -- ---- the distance keeps to 32 bits
@@ -58,9 +58,9 @@ module _ (m : Machine) (w : Walk) (h : Short (w .below)) where
         (λ t.
         let e = is-true (joined rows at i) t in
         let l = joined-above rows at i e in
-        rw (at-push m rows at end i w e) (push-short (lineAt rows (i - 1) .1) (lineAt rows i .1) (line-short rows (i - 1) (r .ok (i - 1) (omega arith) (omega arith)))))
+        rw (at-push m rows at end i w e) (push-short (rowAt rows (i - 1) .1) (rowAt rows i .1) (row-at-short rows (i - 1) (r .ok (i - 1) (omega arith) (omega arith)))))
         (λ t.
-        rw (at-lone m rows at end i w (is-false (joined rows at i) t)) (lone-short (eqb (suc i) end) (lineAt rows i .1) (line-short rows i (r .ok i low high))))
+        rw (at-lone m rows at end i w (is-false (joined rows at i) t)) (lone-short (eqb (suc i) end) (rowAt rows i .1) (row-at-short rows i (r .ok i low high))))
 
     row-in-short : Short (rowIn m rows at end i w .below)
     unfolding rowIn
@@ -126,8 +126,8 @@ remember-kind kind reg off =
     (one-other (eqb kind 3) _ _ refl
     (one-other (eqb kind 4) _ _ refl (one-other (eqb kind 5) _ _ refl (rw e (one-other (eqb kind 7) _ _ refl refl)))))))))
 
-pub remembers-is : (rows : List ℕ) (i : ℕ) → eqb (field rowStride rows i 1) 6 ≡ eqb (kindOf (lineAt rows i .1)) 6
-unfolding lineAt
+pub remembers-is : (rows : List ℕ) (i : ℕ) → eqb (field rowStride rows i 1) 6 ≡ eqb (kindOf (rowAt rows i .1)) 6
+unfolding rowAt
 remembers-is rows i = remember-kind (field rowStride rows i 1) (field rowStride rows i 2) (field rowStride rows i 3)
 
 each-one : {A : Type 0} (f : ℕ → A) (at n : ℕ) (ys : List A) → each f at n ++ (f (at + n) ∷ ys) ≡ each f at (suc n) ++ ys
@@ -139,7 +139,7 @@ each-one f at (suc n) ys = let e : at + suc n ≡ suc at + n = omega arith in rw
 pub record Seeking (rows : List ℕ) (at n i : ℕ) : Type 0 where
   pub low : at ≤ i
   pub high : i ≤ at + n
-  pub rest : beforeRemember (each (lineAt rows) at n) ≡ each (lineAt rows) at (i - at) ++ beforeRemember (each (lineAt rows) i (at + n - i))
+  pub rest : beforeRemember (each (rowAt rows) at n) ≡ each (rowAt rows) at (i - at) ++ beforeRemember (each (rowAt rows) i (at + n - i))
 
 pub seek-start : (rows : List ℕ) (at n : ℕ) → Seeking rows at n at
 unfolding each
@@ -149,32 +149,32 @@ seek-start rows at n =
     record { low = omega arith; high = omega arith; rest = rw (e, f) }
 
 module _ {rows : List ℕ} {at n i : ℕ} (c : Seeking rows at n i) where
-  next-row : i < at + n → beforeRemember (each (lineAt rows) i (at + n - i))
-      ≡ pick (eqb (kindOf (lineAt rows i .1)) 6) [] (lineAt rows i ∷ beforeRemember (each (lineAt rows) (i + 1) (at + n - (i + 1))))
+  next-row : i < at + n → beforeRemember (each (rowAt rows) i (at + n - i))
+      ≡ pick (eqb (kindOf (rowAt rows i .1)) 6) [] (rowAt rows i ∷ beforeRemember (each (rowAt rows) (i + 1) (at + n - (i + 1))))
   unfolding beforeRemember each
   next-row h = let e : at + n - i ≡ suc (at + n - suc i) = omega arith in rw (e, add-one)
 
-  module _ {r : Bool} (h : i < at + n) (e : r ≡ eqb (kindOf (lineAt rows i .1)) 6) where
+  module _ {r : Bool} (h : i < at + n) (e : r ≡ eqb (kindOf (rowAt rows i .1)) 6) where
     pub seek-turn : r ≡ false → Seeking rows at n (i + 1)
     unfolding pick
     seek-turn t =
         let k : at + (i - at) ≡ i = omega (arith, c .low) in
         let l : i + 1 - at ≡ suc (i - at) = omega (arith, c .low) in
-        let L = lineAt rows in
-        let more : List Line = beforeRemember (each L (i + 1) (at + n - (i + 1))) in
+        let L = rowAt rows in
+        let more : List RowAt = beforeRemember (each L (i + 1) (at + n - (i + 1))) in
         record {
           low = omega (arith, c .low);
           high = omega arith;
           rest = c .rest ∙ rw (next-row h, ← e, t, l) (ap (λ (j : ℕ). each L at (i - at) ++ (L j ∷ more)) (sym k) ∙ each-one L at (i - at) more);
         }
 
-    pub seek-found : r ≡ true → beforeRemember (each (lineAt rows) at n) ≡ each (lineAt rows) at (i - at)
+    pub seek-found : r ≡ true → beforeRemember (each (rowAt rows) at n) ≡ each (rowAt rows) at (i - at)
     unfolding pick
-    seek-found t = c .rest ∙ rw (next-row h, ← e, t) (append-nil (each (lineAt rows) at (i - at)))
+    seek-found t = c .rest ∙ rw (next-row h, ← e, t) (append-nil (each (rowAt rows) at (i - at)))
 
-  pub seek-ended : at + n ≤ i → beforeRemember (each (lineAt rows) at n) ≡ each (lineAt rows) at (at + n - at)
+  pub seek-ended : at + n ≤ i → beforeRemember (each (rowAt rows) at n) ≡ each (rowAt rows) at (at + n - at)
   unfolding beforeRemember each
   seek-ended h =
       let e : at + n - i ≡ 0 = omega arith in
       let f : i ≡ at + n = omega (arith, c .high) in
-      c .rest ∙ rw e (append-nil (each (lineAt rows) at (i - at))) ∙ ap (λ (j : ℕ). each (lineAt rows) at (j - at)) f
+      c .rest ∙ rw e (append-nil (each (rowAt rows) at (i - at))) ∙ ap (λ (j : ℕ). each (rowAt rows) at (j - at)) f

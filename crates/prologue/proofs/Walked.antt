@@ -6,9 +6,9 @@ use mathlib.Core.Bool.{Bool, true, false, not}
 use mathlib.Core.List.{List}
 use lib.Dec.{T, eqb}
 use borrow.Author.Tests.{eq-eqb, ne-eqb}
-use Rattle.format.specs.Test.{pick, each}
+use Rattle.format.specs.Prelude.{pick, each}
 use Rattle.format.specs.declared.Machine.{Machine}
-use Rattle.format.specs.Lists.{lineAt}
+use Rattle.format.specs.Lists.{rowAt}
 use Rattle.format.specs.Writer.{isEmpty}
 use Rattle.format.specs.X64.{Prefix, groups, pushRows, readGroups}
 use Rattle.format.proofs.Choice.{if-gt, tested}
@@ -30,17 +30,17 @@ is-false false t = refl
 
 -- what a row adds, and what n rows from i on add
 unfoldable pub pastRow : (rows : List ℕ) (at end i : ℕ) → Prefix → Prefix
-pastRow rows at end i s = past (lineAt rows i .0) (joins rows i end) (joined rows at i) (lineAt rows i .1) s
+pastRow rows at end i s = past (rowAt rows i .0) (joins rows i end) (joined rows at i) (rowAt rows i .1) s
 
 unfoldable pub pastRows : (rows : List ℕ) (at end i n : ℕ) → Prefix → Prefix
 pastRows rows at end i zero s = s
 pastRows rows at end i (suc n) s = pastRows rows at end (suc i) n (pastRow rows at end i s)
 
-end-behind : (rows : List ℕ) (at i : ℕ) → at ≤ i → endIn rows at (suc i) ≡ lineAt rows i .0
+end-behind : (rows : List ℕ) (at i : ℕ) → at ≤ i → endIn rows at (suc i) ≡ rowAt rows i .0
 unfolding endIn
 end-behind rows at i h =
     let e : suc i - 1 ≡ i = omega arith in
-    if-gt (suc i) at 0 (lineAt rows (suc i - 1) .0) (omega arith) ∙ ap (λ (k : ℕ). lineAt rows k .0) e
+    if-gt (suc i) at 0 (rowAt rows (suc i - 1) .0) (omega arith) ∙ ap (λ (k : ℕ). rowAt rows k .0) e
 
 module _ (m : Machine) (rows : List ℕ) (at end : ℕ) where
   -- ---- one row
@@ -58,11 +58,11 @@ module _ (m : Machine) (rows : List ℕ) (at end : ℕ) where
     unfolding rowIn pick
     at-last e g = rw (e, g)
 
-    pub at-push : joined rows at i ≡ true → lastIn m rows at end i w ≡ pushIn m (lineAt rows (i - 1) .1) (lineAt rows i .1) w
+    pub at-push : joined rows at i ≡ true → lastIn m rows at end i w ≡ pushIn m (rowAt rows (i - 1) .1) (rowAt rows i .1) w
     unfolding lastIn pick
     at-push e = rw e
 
-    pub at-lone : joined rows at i ≡ false → lastIn m rows at end i w ≡ loneIn m (eqb (suc i) end) (lineAt rows i .1) w
+    pub at-lone : joined rows at i ≡ false → lastIn m rows at end i w ≡ loneIn m (eqb (suc i) end) (rowAt rows i .1) w
     unfolding lastIn pick
     at-lone e = rw e
 
@@ -73,7 +73,7 @@ module _ (m : Machine) (rows : List ℕ) (at end : ℕ) where
   turned i n w v e = rw e
 
   row-adds : (i : ℕ) (s : Prefix) {a b : Bool} → joins rows i end ≡ a → joined rows at i ≡ b
-      → pastRow rows at end i s ≡ past (lineAt rows i .0) a b (lineAt rows i .1) s
+      → pastRow rows at end i s ≡ past (rowAt rows i .0) a b (rowAt rows i .1) s
   unfolding pastRow
   row-adds i s g j = rw (g, j)
 
@@ -81,23 +81,23 @@ module _ (m : Machine) (rows : List ℕ) (at end : ℕ) where
 
   -- what is to be shown of n rows from i on
   abbrev Said : (i n : ℕ) → Prefix → Type 0
-  Said i n s = Reads m (pastRows rows at end i n s) (endIn rows at end) (readGroups m (groups (each (lineAt rows) i n)) s) (walkFrom m rows at end i n (walkOf m s))
+  Said i n s = Reads m (pastRows rows at end i n s) (endIn rows at end) (readGroups m (groups (each (rowAt rows) i n)) s) (walkFrom m rows at end i n (walkOf m s))
 
-  parted : (i n : ℕ) → end ≡ suc i + n → T (not (joins rows i end)) → Parted (lineAt rows i) (each (lineAt rows) (suc i) n)
+  parted : (i n : ℕ) → end ≡ suc i + n → T (not (joins rows i end)) → Parted (rowAt rows i) (each (rowAt rows) (suc i) n)
   unfolding each
   parted i zero e t = tt
   parted i (suc n) e t = joins-no rows i end (omega arith) t
 
-  none-behind : (i n : ℕ) → end ≡ i + n → isEmpty (each (lineAt rows) i n) ≡ eqb i end
+  none-behind : (i n : ℕ) → end ≡ i + n → isEmpty (each (rowAt rows) i n) ≡ eqb i end
   unfolding each isEmpty
   none-behind i zero e = sym (eq-eqb i end (omega arith))
   none-behind i (suc n) e = sym (ne-eqb i end (λ f. omega arith))
 
   lone-step : (i n : ℕ) → end ≡ suc i + n → joined rows at i ≡ false → T (not (joins rows i end)) → (s : Prefix)
-      → (Ends (pastRow rows at end i s) (lineAt rows i .0) → Said (suc i) n (pastRow rows at end i s)) → Said i (suc n) s
+      → (Ends (pastRow rows at end i s) (rowAt rows i .0) → Said (suc i) n (pastRow rows at end i s)) → Said i (suc n) s
   unfolding each pastRows
   lone-step i n e j t s rest =
-      let L = lineAt rows in
+      let L = rowAt rows in
       let g = is-false (joins rows i end) t in
       let same : pastRow rows at end i s ≡ past (L i .0) false false (L i .1) s = row-adds i s g j in
       let row = at-last i (walkOf m s) (not-third rows at i j) g ∙ at-lone i (walkOf m s) j in
@@ -110,10 +110,10 @@ module _ (m : Machine) (rows : List ℕ) (at end : ℕ) where
   third-behind i e = let p : suc i - 1 ≡ i = omega arith in is-third rows at (suc i) e ∙ ap (joined rows at) p
 
   push-behind : (i : ℕ) (w : Walk) → joined rows at i ≡ false → joined rows at (suc i) ≡ true → joins rows (suc i) end ≡ false
-      → rowIn m rows at end (suc i) w ≡ pushIn m (lineAt rows i .1) (lineAt rows (suc i) .1) w
+      → rowIn m rows at end (suc i) w ≡ pushIn m (rowAt rows i .1) (rowAt rows (suc i) .1) w
   push-behind i w j e g =
       let p : suc i - 1 ≡ i = omega arith in
-      at-last (suc i) w (third-behind i e ∙ j) g ∙ at-push (suc i) w e ∙ ap (λ (k : ℕ). pushIn m (lineAt rows k .1) (lineAt rows (suc i) .1) w) p
+      at-last (suc i) w (third-behind i e ∙ j) g ∙ at-push (suc i) w e ∙ ap (λ (k : ℕ). pushIn m (rowAt rows k .1) (rowAt rows (suc i) .1) w) p
 
   passed : (i n : ℕ) (s : Prefix) → third rows at i ≡ false → joins rows i end ≡ true
       → walkFrom m rows at end i (suc n) (walkOf m s) ≡ walkFrom m rows at end (suc i) n (walkOf m s)
@@ -124,13 +124,13 @@ module _ (m : Machine) (rows : List ℕ) (at end : ℕ) where
   abbrev Last : (i n : ℕ) → Prefix → Type 0
   Last i n s =
       let t = pastRow rows at end (suc i) (pastRow rows at end i s) in
-      Ends t (lineAt rows i .0) → Said (suc (suc i)) n t
+      Ends t (rowAt rows i .0) → Said (suc (suc i)) n t
 
   push-step : (i n : ℕ) → end ≡ suc (suc i) + n → at ≤ i → joined rows at i ≡ false → T (joins rows i end) → T (not (joins rows (suc i) end)) → (s : Prefix)
       → Last i n s → Said i (suc (suc n)) s
   unfolding each pastRows
   push-step i n e h j t t′ s rest =
-      let L = lineAt rows in
+      let L = rowAt rows in
       let g = is-true (joins rows i end) t in
       let g′ = is-false (joins rows (suc i) end) t′ in
       let equal = joins-yes rows i end t .1 in
@@ -148,7 +148,7 @@ module _ (m : Machine) (rows : List ℕ) (at end : ℕ) where
       → Said i (suc (suc (suc n))) s
   unfolding each pastRows refused pick
   third-step i n h j t t′ s =
-      let L = lineAt rows in
+      let L = rowAt rows in
       let equal = joins-yes rows i end t .1 in
       let equal′ = joins-yes rows (suc i) end t′ .1 in
       let j′ = next-yes rows at i h equal in

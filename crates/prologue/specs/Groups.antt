@@ -4,13 +4,13 @@ use mathlib.Core.Bool.{Bool, true, false, _&&_}
 use mathlib.Core.List.{List}
 use lib.Dec.{ltb, eqb}
 use lib.IntN.{ℤ, pos, negℤ, _-ℤ_}
-use Rattle.format.specs.Test.{pick, Result, good, bad}
+use Rattle.format.specs.Prelude.{pick, Result, good, bad}
 use Rattle.format.specs.declared.Machine.{Machine}
 use Rattle.format.specs.Machine.{Register, registerOf}
 use Rattle.format.specs.declared.Row.{Row}
 use Rattle.format.specs.declared.Row.the-variants.{DefCfa, DefCfaOffset, DefCfaRegister, Offset, Restore, Undefined, RememberState, RestoreState, NegateRaState}
 use Rattle.format.specs.Rows.{kindOf, regOf, offsetOf, sameOffset}
-use Rattle.format.specs.Lists.{lineAt}
+use Rattle.format.specs.Lists.{rowAt}
 use Rattle.format.specs.X64.{Step, push, alloc, frame, save, isPush, low16}
 use Rattle.prologue.specs.declared.Found.{Found}
 use Rattle.prologue.specs.declared.Found.the-variants.{Number, Unknown}
@@ -20,11 +20,11 @@ use Rattle.prologue.specs.declared.Walk.{Walk}
 
 -- row i is of the instruction of the row before it, where that is one of the function's
 unfoldable pub joined : (rows : List ℕ) (at i : ℕ) → Bool
-joined rows at i = ltb at i && eqb (lineAt rows (i - 1) .0) (lineAt rows i .0)
+joined rows at i = ltb at i && eqb (rowAt rows (i - 1) .0) (rowAt rows i .0)
 
 -- row i + 1 is of the instruction of row i, where that is one of the prologue's
 unfoldable pub joins : (rows : List ℕ) (i end : ℕ) → Bool
-joins rows i end = ltb (suc i) end && eqb (lineAt rows i .0) (lineAt rows (suc i) .0)
+joins rows i end = ltb (suc i) end && eqb (rowAt rows i .0) (rowAt rows (suc i) .0)
 
 -- row i is of the instruction of the two rows before it
 unfoldable pub third : (rows : List ℕ) (at i : ℕ) → Bool
@@ -89,7 +89,7 @@ pushIn m a b w =
 -- row i, the last of its instruction's: the rows are those from `at` to `end`
 unfoldable pub lastIn : Machine → (rows : List ℕ) → (at end i : ℕ) → Walk → Walk
 lastIn m rows at end i w =
-    pick (joined rows at i) (pushIn m (lineAt rows (i - 1) .1) (lineAt rows i .1) w) (loneIn m (eqb (suc i) end) (lineAt rows i .1) w)
+    pick (joined rows at i) (pushIn m (rowAt rows (i - 1) .1) (rowAt rows i .1) w) (loneIn m (eqb (suc i) end) (rowAt rows i .1) w)
 
 -- row i: an instruction is read at its last row, and refused at its third
 unfoldable pub rowIn : Machine → (rows : List ℕ) → (at end i : ℕ) → Walk → Walk

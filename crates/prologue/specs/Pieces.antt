@@ -7,13 +7,13 @@ use lib.ListN.{length}
 use lib.Dec.{T, leb, eqb}
 use lib.IntN.{ℤ, pos, _-ℤ_}
 use lib.Signed.{mag}
-use Rattle.format.specs.Test.{pick, Result, good, bad, onward, each}
+use Rattle.format.specs.Prelude.{pick, Result, good, bad, onward, each}
 use Rattle.format.specs.declared.Machine.{Machine}
 use Rattle.format.specs.Machine.{Register, registerOf}
 use Rattle.format.specs.declared.Row.{Row}
 use Rattle.format.specs.declared.Seh.{Seh}
 use Rattle.format.specs.Rows.{kindOf, regOf, offsetOf}
-use Rattle.format.specs.Lists.{Function, lineAt, rowOkAt}
+use Rattle.format.specs.Lists.{Function, rowAt, rowOkAt}
 use Rattle.format.specs.X64.{Step, push, alloc, frame, save, low16, codeFor, codesOf, endOf}
 use Rattle.prologue.specs.declared.Piece.{Piece}
 use Rattle.prologue.specs.declared.Piece.the-variants.{Nothing, Code}
@@ -38,7 +38,7 @@ unfoldable pub movedBy : (sofar : ℤ) → Row → ℤ
 movedBy sofar r = pick (eqb (kindOf r) 1) (offsetOf r) sofar
 
 unfoldable pub movedIn : (sofar : ℤ) (rows : List ℕ) (i : ℕ) → ℤ
-movedIn sofar rows i = movedBy sofar (lineAt rows i .1)
+movedIn sofar rows i = movedBy sofar (rowAt rows i .1)
 
 -- The step that a row ends: DefCfaOffset an allocation, or none where Offset follows; Offset a push behind DefCfaOffset, else a save;
 -- DefCfa and DefCfaRegister a frame.
@@ -49,7 +49,7 @@ rowStep off sofar joins joined r =
     (pick (leb (kindOf r) 2) ((off, frame) ∷ []) []))
 
 unfoldable pub stepIn : (sofar : ℤ) (rows : List ℕ) (at i end : ℕ) → List (ℕ × Step)
-stepIn sofar rows at i end = rowStep (lineAt rows i .0) sofar (joins rows i end) (joined rows at i) (lineAt rows i .1)
+stepIn sofar rows at i end = rowStep (rowAt rows i .0) sofar (joins rows i end) (joined rows at i) (rowAt rows i .1)
 
 -- a code, where the machine has its register
 unfoldable pub codeIn : (off : ℕ) → Result Seh → List (ℕ × Seh)
@@ -71,7 +71,7 @@ piecesFrom m below sofar rows at i end (suc n) = pieceIn m below sofar rows at i
 
 -- where the prologue of the rows from `at` to `end` ends
 unfoldable pub endIn : (rows : List ℕ) (at end : ℕ) → ℕ
-endIn rows at end = pick (leb end at) 0 (lineAt rows (end - 1) .0)
+endIn rows at end = pick (leb end at) 0 (rowAt rows (end - 1) .0)
 
 -- what an answer of `piece_at` holds
 unfoldable pub pieceOf : Piece → List (ℕ × Seh)
@@ -93,5 +93,5 @@ pub record Shaped (m : Machine) (rows : List ℕ) (at n : ℕ) (r : Shape) : Typ
   pub low : at ≤ r .end
   pub high : r .end ≤ at + n
   pub short : Short (r .below)
-  pub codes : (f : Function) → f .rows ≡ each (lineAt rows) at n → codesOf m f ≡ pick (eqb (r .number) 0) (good (piecesOf m rows at r)) (bad (r .number))
+  pub codes : (f : Function) → f .rows ≡ each (rowAt rows) at n → codesOf m f ≡ pick (eqb (r .number) 0) (good (piecesOf m rows at r)) (bad (r .number))
   pub last : r .number ≡ 0 → endOf 0 (piecesOf m rows at r) ≡ endIn rows at (r .end)

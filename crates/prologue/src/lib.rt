@@ -6,8 +6,8 @@ ghost use Prim.Native.Nat.{_+_, _-_, _*_, _^_, _≤_, _<_};
 ghost use lib.IntN.{pos, _+ℤ_, _-ℤ_};
 ghost use lib.ListN.{length};
 ghost use lib.Dec.{T, eqb};
-ghost use Rattle.format.specs.Lists.{rowStride, count, mostRecords, lineAt, rowOkAt};
-ghost use Rattle.format.specs.Test.{pick, each};
+ghost use Rattle.format.specs.Lists.{rowStride, count, mostRecords, rowAt, rowOkAt};
+ghost use Rattle.format.specs.Prelude.{pick, each};
 ghost use Rattle.format.specs.Machine.{registerOf};
 ghost use Rattle.format.specs.Rows.{kindOf, offsetOf, sameOffset};
 ghost use Rattle.format.specs.X64.{low16, frame, beforeRemember};
@@ -314,7 +314,7 @@ fn read_rows(m: Machine, rows: &[u64], at: usize, end: usize) -> Walk
 // Row i keeps the rules for the epilogues.
 fn remembers(rows: &[u64], i: usize) -> bool
     requires { ⌜ 4 * i + 4 ≤ length (now rows) ⌝ }
-    ensures { λ r. ⌜ r ≡ eqb (kindOf (lineAt (now (rows .entry)) i .1)) 6 ⌝ }
+    ensures { λ r. ⌜ r ≡ eqb (kindOf (rowAt (now (rows .entry)) i .1)) 6 ⌝ }
 {
     rows[4 * i + 1] == 6
 }
@@ -322,7 +322,7 @@ fn remembers(rows: &[u64], i: usize) -> bool
 // The index past the last row before the first RememberState, of the n rows from `at` on.
 fn before_remember(rows: &[u64], at: usize, n: usize) -> usize
     requires { ⌜ at + n ≤ count rowStride (now rows) ⌝ }
-    ensures { λ r. ⌜ (at ≤ r) × (r ≤ at + n) × (beforeRemember (each (lineAt (now (rows .entry))) at n) ≡ each (lineAt (now (rows .entry))) at (r - at)) ⌝ }
+    ensures { λ r. ⌜ (at ≤ r) × (r ≤ at + n) × (beforeRemember (each (rowAt (now (rows .entry))) at n) ≡ each (rowAt (now (rows .entry))) at (r - at)) ⌝ }
 {
     let end = at + n;
     let mut i = at;

@@ -6,7 +6,7 @@ use native.Mathlib.Numerals.{add-one}
 use mathlib.Core.List.{List, [], _∷_, _++_}
 use mathlib.Core.Logic.{_≢_}
 use lib.ListN.{length, replicate, length-append, length-replicate}
-use Rattle.format.specs.Test.{each}
+use Rattle.format.specs.Prelude.{each}
 use Rattle.format.specs.Leb.{ulebF, uleb}
 use Rattle.format.specs.Lists.{Landing, landingAt}
 use Rattle.format.specs.Headers.{padding}

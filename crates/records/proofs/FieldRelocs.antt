@@ -8,7 +8,7 @@ use mathlib.Core.Option.{none, some}
 use mathlib.Core.List.{[], _∷_, _++_}
 use lib.ListN.{length, length-append}
 use lib.Dec.{eqb}
-use Rattle.format.specs.Test.{pick, each}
+use Rattle.format.specs.Prelude.{pick, each}
 use Rattle.format.specs.Lists.{Function, Landing, Pointer, Relaxed, Relocation, numbersOf}
 use Rattle.format.specs.Headers.{pointerReloc, reloc, exceptTable}
 use Rattle.format.specs.Records.{pointerTo, namedReloc, lsdaReloc, sumPair}

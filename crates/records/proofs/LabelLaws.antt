@@ -8,8 +8,8 @@ use mathlib.Core.Logic.{_≢_}
 use mathlib.Core.Option.{Option, none, some}
 use mathlib.Core.List.{List, [], _∷_, _++_}
 use lib.ListN.{length, length-append}
-use Rattle.format.specs.Test.{pick, first, each}
-use Rattle.format.specs.Rows.{Line, rowBytes, stepBytes, stepForm}
+use Rattle.format.specs.Prelude.{pick, first, each}
+use Rattle.format.specs.Rows.{RowAt, rowBytes, stepBytes, stepForm}
 use Rattle.format.specs.Lists.{Pair, Relocation, pairAt, numbersOf}
 use Rattle.format.specs.Records.{pairFor, setKind, setBytes, setPlace, setPair, stepRelocs}
 use Rattle.lists.specs.declared.Extent.{Extent}
@@ -101,7 +101,7 @@ set-most place form none = omega arith
 set-most place form (some p) = omega arith
 
 -- nor does that of rows
-pub steps-count : (w place at : ℕ) (ps : List Pair) (xs : List Line) → length (stepRelocs w place at ps xs) ≡ length (stepRelocs 0 0 at ps xs)
+pub steps-count : (w place at : ℕ) (ps : List Pair) (xs : List RowAt) → length (stepRelocs w place at ps xs) ≡ length (stepRelocs 0 0 at ps xs)
 unfolding stepRelocs
 steps-count w place at ps [] = refl
 steps-count w place at ps (x ∷ xs) =
@@ -114,7 +114,7 @@ steps-count w place at ps (x ∷ xs) =
       steps-count 0 (0 + length (stepBytes (x .0 - at)) + length (rowBytes 0 (x .1))) (x .0) ps xs,
     ))
 
-pub steps-most : (w place at : ℕ) (ps : List Pair) (xs : List Line) → length (stepRelocs w place at ps xs) ≤ 2 * length xs
+pub steps-most : (w place at : ℕ) (ps : List Pair) (xs : List RowAt) → length (stepRelocs w place at ps xs) ≤ 2 * length xs
 unfolding stepRelocs
 steps-most w place at ps [] = omega arith
 steps-most w place at ps (x ∷ xs) =

@@ -8,11 +8,11 @@ use mathlib.Core.List.{List, [], _∷_}
 use lib.ListN.{length}
 use lib.Dec.{T, eqb}
 use mir.Facts.{and-yes, or-yes, eqb-yes}
-use Rattle.format.specs.Test.{each}
+use Rattle.format.specs.Prelude.{each}
 use Rattle.format.specs.declared.Machine.{Machine}
 use Rattle.format.specs.Machine.{isWord}
-use Rattle.format.specs.Rows.{Line, linesBytes}
-use Rattle.format.specs.Lists.{lineAt, rowOkAt, allIn}
+use Rattle.format.specs.Rows.{RowAt, steppedBytes}
+use Rattle.format.specs.Lists.{rowAt, rowOkAt, allIn}
 use Rattle.format.specs.Headers.{leads, ahead, others}
 use Rattle.format.proofs.Choice.{pick-yes, pick-no, tested}
 use Rattle.format.proofs.FieldsBack.{word-small}
@@ -21,10 +21,10 @@ use Rattle.lists.specs.declared.Extent.{Extent}
 use Rattle.lists.specs.Extents.{meant}
 use Rattle.lists.proofs.Ranges.{one-more}
 use Rattle.leading.specs.Functions.{bodyOf, Sound}
-use Rattle.records.specs.Lines.{linesIn, LinesReady}
+use Rattle.records.specs.Stepped.{rowsIn, SteppedReady}
 
 -- they start behind those that lead
-others-from : (f : ℕ → Line) (at n k : ℕ) → k ≡ length (ahead (each f at n)) → others (each f at n) ≡ each f (at + k) (n - k)
+others-from : (f : ℕ → RowAt) (at n k : ℕ) → k ≡ length (ahead (each f at n)) → others (each f at n) ≡ each f (at + k) (n - k)
 unfolding each ahead others
 others-from f at zero k e = let z : k ≡ 0 = e in rw z
 others-from f at (suc n) k e =
@@ -63,16 +63,16 @@ word-least w t =
     (λ a. let e : w ≡ 8 = eqb-yes a in omega arith)
     (or-yes (eqb w 2 || eqb w 4) (eqb w 8) t)
 
-module _ (e : Extent) (rows : List ℕ) {k : ℕ} (q : (k ≡ length (ahead (each (lineAt rows) (e .«rows_at») (e .rows)))) × (k ≤ e .rows)) where
-  pub others-are : others (bodyOf e rows .rows) ≡ each (lineAt rows) (e .«rows_at» + k) (e .rows - k)
+module _ (e : Extent) (rows : List ℕ) {k : ℕ} (q : (k ≡ length (ahead (each (rowAt rows) (e .«rows_at») (e .rows)))) × (k ≤ e .rows)) where
+  pub others-are : others (bodyOf e rows .rows) ≡ each (rowAt rows) (e .«rows_at» + k) (e .rows - k)
   unfolding meant
-  others-are = others-from (lineAt rows) (e .«rows_at») (e .rows) k (q .0)
+  others-are = others-from (rowAt rows) (e .«rows_at») (e .rows) k (q .0)
 
-  pub others-bytes : (w : ℕ) → linesBytes w 0 (others (bodyOf e rows .rows)) ≡ linesIn w 0 rows (e .«rows_at» + k) (e .rows - k)
-  unfolding linesIn
+  pub others-bytes : (w : ℕ) → steppedBytes w 0 (others (bodyOf e rows .rows)) ≡ rowsIn w 0 rows (e .«rows_at» + k) (e .rows - k)
+  unfolding rowsIn
   others-bytes w = rw others-are
 
-  pub others-ready : {m : Machine} → Sound m e rows → LinesReady (m .word) rows (e .«rows_at» + k) (e .rows - k)
+  pub others-ready : {m : Machine} → Sound m e rows → SteppedReady (m .word) rows (e .«rows_at» + k) (e .rows - k)
   others-ready {m} s = record {
     word-low = word-least (m .word) (s .machine .is-word);
     word-high = word-small (m .word) (s .machine .is-word) .1;

@@ -5,17 +5,17 @@ use native.Mathlib.Omega.{arith}
 use mathlib.Core.Bool.{Bool, true, false}
 use mathlib.Core.List.{List, _++_}
 use lib.ListN.{length, length-append}
-use Rattle.format.specs.Test.{each}
+use Rattle.format.specs.Prelude.{each}
 use Rattle.format.specs.declared.Machine.{Machine}
-use Rattle.format.specs.Rows.{linesBytes}
-use Rattle.format.specs.Lists.{Function, lineAt}
+use Rattle.format.specs.Rows.{steppedBytes}
+use Rattle.format.specs.Lists.{Function, rowAt}
 use Rattle.format.specs.Headers.{ahead, others, padding, padded, entry}
 use Rattle.format.specs.Records.{recordFields, recordBytes}
 use Rattle.format.proofs.LebBack.{little-length}
 use Rattle.format.proofs.EntryBack.{entry-length, padded-length}
 use Rattle.lists.specs.declared.Extent.{Extent}
 use Rattle.leading.specs.Functions.{bodyOf}
-use Rattle.records.specs.Lines.{linesIn}
+use Rattle.records.specs.Stepped.{rowsIn}
 use Rattle.records.specs.Fields.{fieldsIn}
 use Rattle.records.proofs.OtherRows.{others-bytes}
 use Rattle.records.proofs.FieldLaws.{fields-are, fields-length}
@@ -40,18 +40,18 @@ unfolding recordBytes
 record-length debug m align at cie f =
     let h = distance-length debug (m .word) (at + 4 - cie) f in
     let k = distance-length debug (m .word) (at + 4 - 0) f in
-    body-length align at (recordFields debug (m .word) (at + 4 - cie) f) (recordFields debug (m .word) (at + 4 - 0) f) (linesBytes (m .word) 0 (others (f .rows))) (cc)
+    body-length align at (recordFields debug (m .word) (at + 4 - cie) f) (recordFields debug (m .word) (at + 4 - 0) f) (steppedBytes (m .word) 0 (others (f .rows))) (cc)
 
 -- ---- the function of a record, k of whose rows lead
 
 module _ (debug : Bool) (m : Machine) (align at cie : ℕ) (e : Extent) (rows : List ℕ) {k : ℕ}
-    (q : (k ≡ length (ahead (each (lineAt rows) (e .«rows_at») (e .rows)))) × (k ≤ e .rows)) where
+    (q : (k ≡ length (ahead (each (rowAt rows) (e .«rows_at») (e .rows)))) × (k ≤ e .rows)) where
   pub record-bytes : recordBytes debug m align at cie (bodyOf e rows)
-      ≡ entry (padded align at (fieldsIn debug (m .word) (at + 4 - cie) e ++ linesIn (m .word) 0 rows (e .«rows_at» + k) (e .rows - k)))
+      ≡ entry (padded align at (fieldsIn debug (m .word) (at + 4 - cie) e ++ rowsIn (m .word) 0 rows (e .«rows_at» + k) (e .rows - k)))
   unfolding recordBytes
   record-bytes = rw (fields-are, others-bytes e rows q)
 
   pub record-long : length (recordBytes debug m align at cie (bodyOf e rows))
-      ≡ 4 + (length (fieldsIn debug (m .word) 0 e) + length (linesIn (m .word) 0 rows (e .«rows_at» + k) (e .rows - k)))
-      + padding align (at + 4 + (length (fieldsIn debug (m .word) 0 e) + length (linesIn (m .word) 0 rows (e .«rows_at» + k) (e .rows - k))))
+      ≡ 4 + (length (fieldsIn debug (m .word) 0 e) + length (rowsIn (m .word) 0 rows (e .«rows_at» + k) (e .rows - k)))
+      + padding align (at + 4 + (length (fieldsIn debug (m .word) 0 e) + length (rowsIn (m .word) 0 rows (e .«rows_at» + k) (e .rows - k))))
   record-long = rw (record-bytes, entry-length, padded-length, length-append, fields-length debug (m .word) (at + 4 - cie) e) (omega arith)

@@ -6,10 +6,10 @@ use mathlib.Core.Bool.{Bool, true, false}
 use mathlib.Core.Option.{Option, none, some}
 use mathlib.Core.List.{List, [], _∷_, _++_, append-nil}
 use lib.ListN.{length, length-append}
-use Rattle.format.specs.Test.{pick, each}
+use Rattle.format.specs.Prelude.{pick, each}
 use Rattle.format.specs.declared.Machine.{Machine}
-use Rattle.format.specs.Rows.{Line}
-use Rattle.format.specs.Lists.{Function, Landing, Named, Pointer, Relaxed, lineAt, numbersOf}
+use Rattle.format.specs.Rows.{RowAt}
+use Rattle.format.specs.Lists.{Function, Landing, Named, Pointer, Relaxed, rowAt, numbersOf}
 use Rattle.format.specs.Headers.{ahead, others}
 use Rattle.format.proofs.ListLaws.{numbers-length}
 use Rattle.format.specs.Records.{pointerTo, namedReloc, lsdaReloc, recordFields, sumPair, rowRelocs, recordRelocs}
@@ -42,7 +42,7 @@ lsda-count word place table [] none = refl
 lsda-count word place table [] (some n) = pointer-count word place (n .lsda)
 lsda-count word place table (l ∷ ls) o = refl
 
-row-count : (w place : ℕ) (xs : List Line) (o : Option Relaxed) → length (rowRelocs w place xs o) ≡ length (rowRelocs w 0 xs o)
+row-count : (w place : ℕ) (xs : List RowAt) (o : Option Relaxed) → length (rowRelocs w place xs o) ≡ length (rowRelocs w 0 xs o)
 unfolding rowRelocs
 row-count w place xs none = refl
 row-count w place xs (some r) = steps-count w place 0 (r .pairs) xs ∙ sym (steps-count w 0 0 (r .pairs) xs)
@@ -88,7 +88,7 @@ module _ (debug : Bool) (m : Machine) (at cie table : ℕ) (e : Extent) (rows pa
   unfolding meant rowRelocs pick
   relocs-plain h = relocs-are ∙ simp (h, append-nil)
 
-  module _ {k : ℕ} (q : (k ≡ length (ahead (each (lineAt rows) (e .«rows_at») (e .rows)))) × (k ≤ e .rows)) (h : e .relaxed ≡ true) where
+  module _ {k : ℕ} (q : (k ≡ length (ahead (each (rowAt rows) (e .«rows_at») (e .rows)))) × (k ≤ e .rows)) (h : e .relaxed ≡ true) where
     relocs-relaxed : recordRelocs debug m at cie table (meant e rows [] pairs) ≡ fieldRelocs debug (m .word) at cie table e
         ++ stepsIn (m .word) (at + 4 + length (fieldsIn debug (m .word) 0 e)) 0 rows (e .«rows_at» + k) (e .rows - k) e pairs
     unfolding meant rowRelocs stepsIn pick

@@ -4,7 +4,7 @@ use mathlib.Core.Bool.{Bool, true, false}
 use mathlib.Core.List.{List, [], _∷_, _++_}
 use lib.ListN.{replicate}
 use lib.Dec.{eqb}
-use Rattle.format.specs.Test.{pick}
+use Rattle.format.specs.Prelude.{pick}
 use Rattle.format.specs.Leb.{little}
 use Rattle.format.specs.Lists.{Relocation}
 use Rattle.format.specs.Headers.{counted, pointerBytes, pointerReloc, reloc, exceptTable, debugFrame}

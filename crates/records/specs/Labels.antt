@@ -4,9 +4,9 @@ use mathlib.Core.Bool.{Bool, _&&_}
 use mathlib.Core.Option.{Option, none, some}
 use mathlib.Core.List.{List}
 use lib.Dec.{eqb}
-use Rattle.format.specs.Test.{each}
+use Rattle.format.specs.Prelude.{each}
 use Rattle.format.specs.Rows.{stepForm}
-use Rattle.format.specs.Lists.{Pair, Relocation, lineAt, pairAt}
+use Rattle.format.specs.Lists.{Pair, Relocation, rowAt, pairAt}
 use Rattle.format.specs.Records.{pairFor, setPair, stepRelocs}
 use Rattle.lists.specs.declared.Extent.{Extent}
 use Rattle.lists.specs.Extents.{meantPair}
@@ -32,4 +32,4 @@ stepPair place from to e pairs = setPair place (stepForm (to - from)) (pairBetwe
 
 -- and those of n rows from `at` on, the first of them from the offset `from` on
 unfoldable pub stepsIn : (w place from : ℕ) (rows : List ℕ) (at n : ℕ) → Extent → (pairs : List ℕ) → List Relocation
-stepsIn w place from rows at n e pairs = stepRelocs w place from (each (pairAt pairs) (e .«pairs_at») (e .pairs)) (each (lineAt rows) at n)
+stepsIn w place from rows at n e pairs = stepRelocs w place from (each (pairAt pairs) (e .«pairs_at») (e .pairs)) (each (rowAt rows) at n)

@@ -1,7 +1,7 @@
 -- Call sites of landings in a list of numbers.
 use Prim.Native.Nat.{ℕ}
 use mathlib.Core.List.{List}
-use Rattle.format.specs.Test.{each}
+use Rattle.format.specs.Prelude.{each}
 use Rattle.format.specs.Lists.{landingAt}
 use Rattle.format.specs.CallSites.{sitesBytes}
 

@@ -6,17 +6,17 @@ ghost use mathlib.Core.List.{[]};
 ghost use Prim.Native.Nat.{_+_, _*_, _^_, _≤_, _<_};
 ghost use lib.ListN.{length, replicate};
 ghost use Rattle.format.specs.Put.{Wrote};
-ghost use Rattle.format.specs.Test.{each};
+ghost use Rattle.format.specs.Prelude.{each};
 ghost use Rattle.format.specs.Leb.{uleb};
 ghost use Rattle.format.specs.Headers.{counted};
-ghost use Rattle.format.specs.Lists.{landingStride, pairStride, landingAt, lineAt, numbersOf, count, mostRecords};
+ghost use Rattle.format.specs.Lists.{landingStride, pairStride, landingAt, rowAt, numbersOf, count, mostRecords};
 ghost use Rattle.format.specs.CallSites.{siteBytes, siteTable, siteAdded};
 ghost use Rattle.format.specs.Records.{recordBytes, recordRelocs, setKind, setBytes, setPlace, setPair};
 ghost use Rattle.format.proofs.SectionSize.{Aligned};
 ghost use Rattle.lists.specs.Extents.{meant, meantLanding, meantPair};
 ghost use Rattle.leading.specs.Functions.{bodyOf, Sound, RowsReady, LandingsReady, PairsReady};
 ghost use Rattle.records.specs.Sites.{sitesIn};
-ghost use Rattle.records.specs.Lines.{lineBytes, linesIn, LineReady, LinesReady};
+ghost use Rattle.records.specs.Stepped.{steppedRowBytes, rowsIn, SteppedRowReady, SteppedReady};
 ghost use Rattle.records.specs.Fields.{sizeIn, blankIn, fieldsIn, sumIn, lsdaIn, debugRelocs, ehRelocs, fieldRelocs};
 ghost use Rattle.records.specs.Labels.{isFor, foundPair, pairBetween, stepPair, stepsIn};
 use format::Machine;
@@ -110,49 +110,49 @@ pub fn call_sites_size(at: usize, e: Extent, landings: &[u64]) -> usize
 // ---- rows and the steps between them
 
 // Row i and its step, from the offset `from` on.
-fn line(out: &mut [u8], at: usize, word: u64, from: u64, rows: &[u64], i: usize) -> usize
-    requires { ⌜ LineReady word from (now rows) i × (at + length (lineBytes word from (lineAt (now rows) i)) ≤ length (now out)) ⌝ }
-    ensures { λ r. ⌜ Wrote (now (out .entry)) (now (out .exit)) at r (lineBytes word from (lineAt (now (rows .entry)) i)) ⌝ }
+fn stepped_row(out: &mut [u8], at: usize, word: u64, from: u64, rows: &[u64], i: usize) -> usize
+    requires { ⌜ SteppedRowReady word from (now rows) i × (at + length (steppedRowBytes word from (rowAt (now rows) i)) ≤ length (now out)) ⌝ }
+    ensures { λ r. ⌜ Wrote (now (out .entry)) (now (out .exit)) at r (steppedRowBytes word from (rowAt (now (rows .entry)) i)) ⌝ }
 {
     let a = rows::advance(out, at, rows::offset_at(rows, i) - from);
     rows::row(out, a, word, rows::row_at(rows, i))
 }
 
-fn line_size(word: u64, from: u64, rows: &[u64], i: usize) -> usize
-    requires { ⌜ LineReady word from (now rows) i ⌝ }
-    ensures { λ r. ⌜ (r ≡ length (lineBytes word from (lineAt (now (rows .entry)) i))) × (r ≤ 14) ⌝ }
+fn stepped_row_size(word: u64, from: u64, rows: &[u64], i: usize) -> usize
+    requires { ⌜ SteppedRowReady word from (now rows) i ⌝ }
+    ensures { λ r. ⌜ (r ≡ length (steppedRowBytes word from (rowAt (now (rows .entry)) i))) × (r ≤ 14) ⌝ }
 {
     rows::advance_size(rows::offset_at(rows, i) - from)
         + rows::row_size(word, rows::row_at(rows, i))
 }
 
 // n rows from `first` on, with the steps between them.
-fn lines(out: &mut [u8], at: usize, word: u64, rows: &[u64], first: usize, n: usize) -> usize
-    requires { ⌜ LinesReady word (now rows) first n × (at + length (linesIn word 0 (now rows) first n) ≤ length (now out)) ⌝ }
-    ensures { λ r. ⌜ Wrote (now (out .entry)) (now (out .exit)) at r (linesIn word 0 (now (rows .entry)) first n) ⌝ }
+fn stepped_rows(out: &mut [u8], at: usize, word: u64, rows: &[u64], first: usize, n: usize) -> usize
+    requires { ⌜ SteppedReady word (now rows) first n × (at + length (rowsIn word 0 (now rows) first n) ≤ length (now out)) ⌝ }
+    ensures { λ r. ⌜ Wrote (now (out .entry)) (now (out .exit)) at r (rowsIn word 0 (now (rows .entry)) first n) ⌝ }
 {
     let end = first + n;
     let mut i = first;
     let mut from = 0;
     let mut p = at;
     while i < end {
-        p = line(out, p, word, from, rows, i);
+        p = stepped_row(out, p, word, from, rows, i);
         from = rows::offset_at(rows, i);
         i += 1;
     }
     p
 }
 
-fn lines_size(word: u64, rows: &[u64], first: usize, n: usize) -> usize
-    requires { ⌜ LinesReady word (now rows) first n ⌝ }
-    ensures { λ r. ⌜ r ≡ length (linesIn word 0 (now (rows .entry)) first n) ⌝ }
+fn stepped_rows_size(word: u64, rows: &[u64], first: usize, n: usize) -> usize
+    requires { ⌜ SteppedReady word (now rows) first n ⌝ }
+    ensures { λ r. ⌜ r ≡ length (rowsIn word 0 (now (rows .entry)) first n) ⌝ }
 {
     let end = first + n;
     let mut i = first;
     let mut from = 0;
     let mut size = 0;
     while i < end {
-        size += line_size(word, from, rows, i);
+        size += stepped_row_size(word, from, rows, i);
         from = rows::offset_at(rows, i);
         i += 1;
     }
@@ -254,7 +254,8 @@ pub fn record_size(
     ensures { λ r. ⌜ r ≡ length (recordBytes debug m align at 0 (bodyOf e (now (rows .entry)))) ⌝ }
 {
     let k = leading::ahead(rows, e.rows_at, e.rows);
-    let body = fields_size(debug, m.word, e) + lines_size(m.word, rows, e.rows_at + k, e.rows - k);
+    let body = fields_size(debug, m.word, e)
+        + stepped_rows_size(m.word, rows, e.rows_at + k, e.rows - k);
     4 + body + headers::padding(align, at + 4 + body)
 }
 
@@ -275,7 +276,7 @@ pub fn record(
     let k = leading::ahead(rows, e.rows_at, e.rows);
     let a = leb::le(out, at, 4, 0);
     let b = fields(out, a, debug, m.word, (at + 4 - cie) as u64, e);
-    let c = lines(out, b, m.word, rows, e.rows_at + k, e.rows - k);
+    let c = stepped_rows(out, b, m.word, rows, e.rows_at + k, e.rows - k);
     headers::pad(out, at, c, align)
 }
 
@@ -399,7 +400,7 @@ fn step_relocs(
     e: Extent,
     pairs: &[u64],
 ) -> usize
-    requires { ⌜ LinesReady word (now rows) first n × PairsReady e (now pairs) × (place < 2 ^ 62) × (i + length (numbersOf (stepsIn word place 0 (now rows) first n e (now pairs))) ≤ length (now out)) ⌝ }
+    requires { ⌜ SteppedReady word (now rows) first n × PairsReady e (now pairs) × (place < 2 ^ 62) × (i + length (numbersOf (stepsIn word place 0 (now rows) first n e (now pairs))) ≤ length (now out)) ⌝ }
     ensures { λ r. ⌜ Wrote (now (out .entry)) (now (out .exit)) i r (numbersOf (stepsIn word place 0 (now (rows .entry)) first n e (now (pairs .entry)))) ⌝ }
 {
     let end = first + n;
@@ -410,7 +411,7 @@ fn step_relocs(
     while k < end {
         let to = rows::offset_at(rows, k);
         q = step_pair(out, q, p, from, to, e, pairs);
-        p += line_size(word, from, rows, k) as u64;
+        p += stepped_row_size(word, from, rows, k) as u64;
         from = to;
         k += 1;
     }

@@ -7,7 +7,7 @@ use lib.Dec.{T, leb, ltb, ltb→lt, leb→le}
 use mir.Syntax.{w32, w64}
 use mir.Val.{toZ}
 use mir.Facts.{toZ-pos, and-yes}
-use Rattle.format.specs.Test.{pick}
+use Rattle.format.specs.Prelude.{pick}
 use Rattle.format.specs.Lists.{hasRegister, hasOffset, rowOk}
 
 -- an offset below 2^31 is itself

@@ -9,7 +9,7 @@ use lib.Dec.{leb, ltb, eqb, leb→le}
 use lib.IntN.{ℤ, pos}
 use lib.ListN.{length, drop, getD, length-drop, drop-of-length-le}
 use lib.Seq.{drop-cons}
-use Rattle.format.specs.Test.{pick, Read, next}
+use Rattle.format.specs.Prelude.{pick, Read, next}
 use Rattle.format.specs.Leb.{fits64}
 use Rattle.format.specs.Rows.{unfactor, readRegister, inRange, readOffset, readFactored, readSigned, one, two, readOperation}
 use Rattle.format.specs.Positions.{unsignedFrom, signedFrom, decodedFrom, ulebAt, slebAt, littleAt, operationAt}

@@ -5,7 +5,7 @@ use mathlib.Core.Logic.{_≢_}
 use Prim.Native.Nat.{ℕ, zero, suc, _+_, _≤_, _<_}
 use native.Mathlib.Omega.{arith}
 use lib.ListN.{length}
-use Rattle.format.specs.Test.{pick}
+use Rattle.format.specs.Prelude.{pick}
 use Rattle.format.specs.Leb.{little}
 use Rattle.format.specs.Rows.{stepIn, stepForm, stepBytes}
 use Rattle.format.proofs.Choice.{if-le, if-gt, if-eq, if-ne, either}

@@ -4,7 +4,7 @@ use mathlib.Core.List.{List}
 use lib.Dec.{eqb}
 use lib.IntN.{ℤ}
 use lib.ListN.{length, drop}
-use Rattle.format.specs.Test.{pick, Read}
+use Rattle.format.specs.Prelude.{pick, Read}
 use Rattle.format.specs.Leb.{readLittle, fits64}
 use Rattle.format.specs.Rows.{readRegister, readOffset, readFactored, readSigned, one, two, readExtended}
 use Rattle.format.specs.Positions.{unsignedFrom, signedFrom, decodedFrom}

@@ -7,11 +7,11 @@ ghost use lib.Dec.{T};
 ghost use lib.IntN.{pos, natAbs};
 ghost use mir.Syntax.{w32};
 ghost use mir.Val.{toZ};
-ghost use Rattle.format.specs.Lists.{rowStride, field, hasRegister, hasOffset, rowOf, rowOk, lineAt, rowOkAt};
+ghost use Rattle.format.specs.Lists.{rowStride, field, hasRegister, hasOffset, rowOf, rowOk, rowAt, rowOkAt};
 ghost use Rattle.format.specs.Put.{Wrote};
 ghost use Rattle.format.specs.Leb.{uleb};
 ghost use Rattle.format.specs.Rows.{factor, unfactor, cfaBytes, withRegister, savedBytes, rowBytes, stepIn, stepForm, stepBytes, whole, wholeBelow, rowWhole, kindOf, regOf, offsetOf, sameRow};
-ghost use Rattle.format.specs.Test.{pick};
+ghost use Rattle.format.specs.Prelude.{pick};
 ghost use Rattle.format.specs.Positions.{operationAt};
 ghost use Rattle.rows.specs.Reads.{registerAt, plainAt, factoredAt, signedAt, held, operandAt, registerRow, pairRow, stepAt, registerRowAt, offsetRowAt, pairRowAt, savedAt, extendedAt};
 ghost use Rattle.rows.specs.Operands.{bySign, offsetBytes, stepOpcode, stepWidth};
@@ -65,7 +65,7 @@ fn row_of(kind: u64, reg: u64, off: u64) -> Row
 // Row i.
 pub fn row_at(rows: &[u64], i: usize) -> Row
     requires { ⌜ (4 * i + 4 ≤ length (now rows)) × T (rowOkAt (now rows) i) ⌝ }
-    ensures { λ r. ⌜ r ≡ lineAt (now (rows .entry)) i .1 ⌝ }
+    ensures { λ r. ⌜ r ≡ rowAt (now (rows .entry)) i .1 ⌝ }
 {
     row_of(rows[4 * i + 1], rows[4 * i + 2], rows[4 * i + 3])
 }

@@ -9,8 +9,8 @@ use borrow.Author.Tests.{not-true, not-false}
 use lib.ListN.{length}
 use lib.Dec.{T, eqb}
 use mir.Facts.{and-yes}
-use Rattle.format.specs.Test.{pick, all, each}
-use Rattle.format.specs.Lists.{count, field, rowStride, lineAt, rowOkAt, allIn}
+use Rattle.format.specs.Prelude.{pick, all, each}
+use Rattle.format.specs.Lists.{count, field, rowStride, rowAt, rowOkAt, allIn}
 use Rattle.format.specs.Headers.{ahead}
 use Rattle.format.specs.RowCheck.{inOrder, rowsOf, rowCheck}
 use Rattle.lists.proofs.Ranges.{one-more}
@@ -25,7 +25,7 @@ pub record Checking (rows : List ℕ) (at n : ℕ) (simple : Bool) (i : ℕ) (o 
   pub inside : at + n ≤ length rows / 4
   pub shaped : T (allIn (rowOkAt rows) i (at + n - i))
   pub held : Held o
-  pub rest : rowCheck simple (each (lineAt rows) at n) ≡ follow o (each (lineAt rows) i (at + n - i))
+  pub rest : rowCheck simple (each (rowAt rows) at n) ≡ follow o (each (rowAt rows) i (at + n - i))
 
 pub start : {rows : List ℕ} {at n : ℕ} {simple : Bool} {o : Order} → at + n ≤ count rowStride rows → T (allIn (rowOkAt rows) at n) → Starts simple o
     → Checking rows at n simple at o
@@ -37,7 +37,7 @@ start {rows} {at} {n} {o = o} h t s =
       inside = h;
       shaped = rw e at t;
       held = s .held;
-      rest = s .whole (each (lineAt rows) at n) ∙ ap (λ m. follow o (each (lineAt rows) at m)) e;
+      rest = s .whole (each (rowAt rows) at n) ∙ ap (λ m. follow o (each (rowAt rows) at m)) e;
     }
 
 done : (b : Bool) → pick b true true && true ≡ true
@@ -51,7 +51,7 @@ unfolding follow leadersOk all ahead rowsOf inOrder
 follow-none o = done (o .leading)
 
 module _ {rows : List ℕ} {at n i : ℕ} {simple : Bool} {o : Order} (c : Checking rows at n simple i o) where
-  pub ended : at + n ≤ i → true ≡ rowCheck simple (each (lineAt rows) at n)
+  pub ended : at + n ≤ i → true ≡ rowCheck simple (each (rowAt rows) at n)
   unfolding each
   ended h =
       let e : at + n - i ≡ 0 = omega arith in
@@ -64,14 +64,14 @@ module _ {rows : List ℕ} {at n i : ℕ} {simple : Bool} {o : Order} (c : Check
     pub shape : T (rowOkAt rows i) × T (allIn (rowOkAt rows) (i + 1) (at + n - (i + 1)))
     shape = and-yes (rowOkAt rows i) (allIn (rowOkAt rows) (i + 1) (at + n - (i + 1))) (rw (left, one-more, ← add-one i) at (c .shaped))
 
-    module _ {first : Bool} {s : Stepped} (f : first ≡ o .leading && eqb (field rowStride rows i 0) 0) (g : Steps o first (lineAt rows i .1) s) where
-      here : rowCheck simple (each (lineAt rows) at n) ≡ s .ok && follow (s .after) (each (lineAt rows) (i + 1) (at + n - (i + 1)))
-      unfolding each lineAt
-      here = c .rest ∙ rw (left, ← add-one i) (g .decides (field rowStride rows i 0) f (each (lineAt rows) (i + 1) (at + n - (i + 1))))
+    module _ {first : Bool} {s : Stepped} (f : first ≡ o .leading && eqb (field rowStride rows i 0) 0) (g : Steps o first (rowAt rows i .1) s) where
+      here : rowCheck simple (each (rowAt rows) at n) ≡ s .ok && follow (s .after) (each (rowAt rows) (i + 1) (at + n - (i + 1)))
+      unfolding each rowAt
+      here = c .rest ∙ rw (left, ← add-one i) (g .decides (field rowStride rows i 0) f (each (rowAt rows) (i + 1) (at + n - (i + 1))))
 
       pub turn : not (s .ok) ≡ false → Checking rows at n simple (i + 1) (s .after)
       turn t =
           record { low = omega (arith, c .low); high = omega arith; inside = c .inside; shaped = shape .1; held = g .held; rest = here ∙ rw (not-false (s .ok) t) }
 
-      pub stopped : not (s .ok) ≡ true → false ≡ rowCheck simple (each (lineAt rows) at n)
+      pub stopped : not (s .ok) ≡ true → false ≡ rowCheck simple (each (rowAt rows) at n)
       stopped t = sym (here ∙ rw (not-true (s .ok) t))

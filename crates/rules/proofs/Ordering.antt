@@ -9,7 +9,7 @@ use lib.ListN.{length, getD, set, length-set, length-take, length-reverse}
 use lib.Seq.{take-suc, take-suc-set}
 use lib.Dec.{eqb, ltb}
 use borrow.Author.Tests.{le-leb, lt-leb}
-use Rattle.format.specs.Test.{pick, all}
+use Rattle.format.specs.Prelude.{pick, all}
 use Rattle.format.specs.declared.Row.{Row}
 use Rattle.format.specs.declared.Row.the-variants.{RememberState, RestoreState}
 use Rattle.format.specs.Rows.{kindOf}

@@ -3,8 +3,8 @@ ghost use mathlib.Core.Path.{_≡_};
 ghost use mathlib.Core.Bool.{Bool, _&&_};
 ghost use Prim.Native.Nat.{_+_, _≤_};
 ghost use lib.Dec.{T, eqb};
-ghost use Rattle.format.specs.Test.{each};
-ghost use Rattle.format.specs.Lists.{count, rowStride, lineAt, rowOkAt, allIn};
+ghost use Rattle.format.specs.Prelude.{each};
+ghost use Rattle.format.specs.Lists.{count, rowStride, rowAt, rowOkAt, allIn};
 ghost use Rattle.format.specs.RowCheck.{rowCheck, rowCheckAt};
 ghost use Rattle.format.specs.declared.Row.the-variants as row;
 ghost use Rattle.rules.specs.Orders.{Held, Starts, passing, Steps};
@@ -123,7 +123,7 @@ pub fn step(o: Order, first: bool, row: Row) -> Stepped
 // The n rows from `at` on.
 fn rows_check(rows: &[u64], at: usize, n: usize, simple: bool) -> bool
     requires { ⌜ (at + n ≤ count rowStride (now rows)) × T (allIn (rowOkAt (now rows)) at n) ⌝ }
-    ensures { λ r. ⌜ r ≡ rowCheck simple (each (lineAt (now (rows .entry))) at n) ⌝ }
+    ensures { λ r. ⌜ r ≡ rowCheck simple (each (rowAt (now (rows .entry))) at n) ⌝ }
 {
     let end = at + n;
     let mut o = start(simple);

@@ -6,7 +6,7 @@ use mathlib.Core.List.{List, [], _∷_}
 use lib.Dec.{eqb}
 use lib.IntN.{natAbs}
 use lib.ListN.{length, getD}
-use Rattle.format.specs.Test.{pick}
+use Rattle.format.specs.Prelude.{pick}
 use Rattle.format.specs.declared.Machine.{Machine}
 use Rattle.format.specs.declared.Row.{Row}
 use Rattle.format.specs.declared.Section.{Section}

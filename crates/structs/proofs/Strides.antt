@@ -1,15 +1,15 @@
 -- How many numbers a struct has.
 use mathlib.Core.Path.{_≡_, refl}
 use lib.ListN.{length}
-use Rattle.structs.specs.Structs.{lineNumbers, landingNumbers, pairNumbers, functionNumbers}
-use Rattle.structs.specs.declared.Line.{Line}
+use Rattle.structs.specs.Structs.{rowNumbers, landingNumbers, pairNumbers, functionNumbers}
+use Rattle.structs.specs.declared.RowAt.{RowAt}
 use Rattle.structs.specs.declared.Landing.{Landing}
 use Rattle.structs.specs.declared.Pair.{Pair}
 use Rattle.structs.specs.declared.Function.{Function}
 
-pub line-stride : (x : Line) → length (lineNumbers x) ≡ 4
-unfolding lineNumbers
-line-stride x = refl
+pub row-stride : (x : RowAt) → length (rowNumbers x) ≡ 4
+unfolding rowNumbers
+row-stride x = refl
 
 pub landing-stride : (x : Landing) → length (landingNumbers x) ≡ 3
 unfolding landingNumbers

@@ -3,13 +3,13 @@ use Prim.Native.Nat.{ℕ}
 use mathlib.Core.List.{List, [], _∷_, _++_}
 use mir.Syntax.{w32}
 use mir.Val.{ofZ}
-use Rattle.structs.specs.declared.Line.{Line}
+use Rattle.structs.specs.declared.RowAt.{RowAt}
 use Rattle.structs.specs.declared.Landing.{Landing}
 use Rattle.structs.specs.declared.Pair.{Pair}
 use Rattle.structs.specs.declared.Function.{Function}
 
-unfoldable pub lineNumbers : Line → List ℕ
-lineNumbers x = x .offset ∷ x .kind ∷ x .register ∷ ofZ w32 (x .value) ∷ []
+unfoldable pub rowNumbers : RowAt → List ℕ
+rowNumbers x = x .offset ∷ x .kind ∷ x .register ∷ ofZ w32 (x .value) ∷ []
 
 unfoldable pub landingNumbers : Landing → List ℕ
 landingNumbers x = x .start ∷ x .length ∷ x .pad ∷ []

@@ -7,12 +7,12 @@ ghost use lib.Dec.{leb};
 ghost use mir.Syntax.{w32};
 ghost use mir.Val.{ofZ};
 ghost use Rattle.format.specs.Put.{Wrote};
-ghost use Rattle.structs.specs.Structs.{lineNumbers, landingNumbers, pairNumbers, functionNumbers};
+ghost use Rattle.structs.specs.Structs.{rowNumbers, landingNumbers, pairNumbers, functionNumbers};
 ghost use Rattle.structs.specs.Packed.{stored, storedAll};
 
 // A row of a function: its offset, its kind (0 to 8 in document 01's order) and its operands; one that the kind does not have is 0.
 #[repr(C)]
-pub struct Line {
+pub struct RowAt {
     pub offset: u64,
     pub kind: u8,
     pub register: u16,
@@ -116,8 +116,8 @@ fn four(numbers: &mut [u64], at: usize, a: u64, b: u64, c: u64, d: u64) -> usize
 }
 
 // Struct i of those that are stored from `at` on, where it fits; so too put_landing, put_pair and put_function.
-fn put_line(numbers: &mut [u64], at: usize, i: usize, x: Line)
-    ensures { λ _. ⌜ now (numbers .exit) ≡ stored (now (numbers .entry)) (at + 4 * i) (lineNumbers x) ⌝ }
+fn put_row(numbers: &mut [u64], at: usize, i: usize, x: RowAt)
+    ensures { λ _. ⌜ now (numbers .exit) ≡ stored (now (numbers .entry)) (at + 4 * i) (rowNumbers x) ⌝ }
 {
     if !has_room(at, i, 4, numbers.len()) {
         return;
@@ -197,12 +197,12 @@ fn put_function(numbers: &mut [u64], at: usize, i: usize, x: Function)
 }
 
 // The structs of a list, one after the other from `at` on, each where it fits; so too the next three.
-pub fn put_lines(lines: &[Line], numbers: &mut [u64], at: usize)
-    ensures { λ _. ⌜ now (numbers .exit) ≡ storedAll lineNumbers (now (numbers .entry)) at (now (lines .entry)) ⌝ }
+pub fn put_rows(rows: &[RowAt], numbers: &mut [u64], at: usize)
+    ensures { λ _. ⌜ now (numbers .exit) ≡ storedAll rowNumbers (now (numbers .entry)) at (now (rows .entry)) ⌝ }
 {
     let mut i = 0;
-    while i < lines.len() {
-        put_line(numbers, at, i, lines[i]);
+    while i < rows.len() {
+        put_row(numbers, at, i, rows[i]);
         i += 1;
     }
 }

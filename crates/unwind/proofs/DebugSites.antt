@@ -12,7 +12,7 @@ use Rattle.format.specs.Lists.{Function}
 use Rattle.format.specs.Headers.{keyOf}
 use Rattle.format.specs.Machine.{machineOf}
 use Rattle.format.specs.CallSites.{siteAdded}
-use Rattle.format.specs.Test.{pick}
+use Rattle.format.specs.Prelude.{pick}
 use Rattle.format.specs.Put.{put}
 use Rattle.format.specs.Answers.{afterwards}
 use Rattle.format.specs.Questions.{Given, Room, Question, Answer, empty, accepted, unless, givenFunctions, roomAsks, fitting, dwarfAnswer, dwarfGiven, relaxedDebugFrame}

@@ -12,7 +12,7 @@ use Rattle.format.specs.Writer.{Written}
 use Rattle.format.specs.Questions.{Given, givenOf, roomIn, Answer, refused, empty, accepted, dwarfGiven, relaxedTable, relaxedDebugFrame}
 use Rattle.format.specs.Answers.{Writes, outcomeNumbers, afterwards}
 use Rattle.unwind.specs.declared.Written as declared
-use Rattle.format.specs.Test.{pick}
+use Rattle.format.specs.Prelude.{pick}
 use mathlib.Core.Bool.{true, false}
 use Rattle.unwind.specs.Entries.{writtenNumbers, Exports}
 use Rattle.unwind.specs.Together.{answerFor}

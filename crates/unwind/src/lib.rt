@@ -11,7 +11,7 @@ ghost use mir.Val.{ofZ};
 ghost use Rattle.format.specs.declared.Reading.the-variants.{Rules};
 ghost use Rattle.format.specs.Answers.{frameNumbers, ruleNumbers, readingNumbers, bit, outcomeNumbers, Writes};
 ghost use Rattle.checks.specs.Checks.{checkOf};
-ghost use Rattle.structs.specs.Structs.{lineNumbers, landingNumbers, pairNumbers, functionNumbers, numbersOf};
+ghost use Rattle.structs.specs.Structs.{rowNumbers, landingNumbers, pairNumbers, functionNumbers, numbersOf};
 ghost use Rattle.structs.specs.Packed.{Packs};
 ghost use Rattle.unwind.specs.Together.{answerFor, readingFor, Demanded};
 ghost use Rattle.unwind.specs.Entries.{readNumbers, writtenNumbers, Exports, bytesIn, relocsIn};
@@ -22,8 +22,8 @@ use format::Rule;
 use format::Section;
 use structs::Function;
 use structs::Landing;
-use structs::Line;
 use structs::Pair;
+use structs::RowAt;
 
 // ---- the writers
 
@@ -598,13 +598,13 @@ pub extern "C" fn unwind_read(
 // The numbers of a list at the front of a lent list, as the other entries take them: 0, or 54 where they do not fit; so too the
 // next three.
 #[no_mangle]
-pub extern "C" fn unwind_pack_rows(rows: &[Line], numbers: &mut [u64]) -> u64
-    ensures { λ r. ⌜ Packs (numbersOf lineNumbers (now (rows .entry))) (now (numbers .entry)) (now (numbers .exit)) r ⌝ }
+pub extern "C" fn unwind_pack_rows(rows: &[RowAt], numbers: &mut [u64]) -> u64
+    ensures { λ r. ⌜ Packs (numbersOf rowNumbers (now (rows .entry))) (now (numbers .entry)) (now (numbers .exit)) r ⌝ }
 {
     if !structs::fits(rows.len(), 4, numbers.len()) {
         return 54;
     }
-    structs::put_lines(rows, numbers, 0);
+    structs::put_rows(rows, numbers, 0);
     0
 }
 
@@ -643,7 +643,7 @@ pub extern "C" fn unwind_pack_functions(functions: &[Function], numbers: &mut [u
 
 // Whether the rows state rules at each place, 1 or 0, as unwind_row_check says of the numbers that they mean.
 #[no_mangle]
-pub extern "C" fn unwind_row_check_of(simple: u64, rows: &[Line]) -> u64
+pub extern "C" fn unwind_row_check_of(simple: u64, rows: &[RowAt]) -> u64
     ensures { λ r. ⌜ r ≡ bit (checkOf simple (now (rows .entry))) ⌝ }
 {
     let mut s = checks::opening(simple);

@@ -6,7 +6,7 @@ use native.Mathlib.Numerals.{add-one}
 use mathlib.Core.List.{List, _∷_, reverse-append}
 use lib.ListN.{length, getD, set, length-set, length-take, length-map, length-reverse}
 use lib.Seq.{take-suc, take-suc-set}
-use Rattle.format.specs.Test.{pick, good, bad}
+use Rattle.format.specs.Prelude.{pick, good, bad}
 use Rattle.format.specs.declared.Frame.the-variants.{Unset}
 use Rattle.format.specs.declared.Rule.the-variants.{Unstated}
 use Rattle.format.specs.Rules.{remember, recall}

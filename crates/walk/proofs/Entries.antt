@@ -6,7 +6,7 @@ use mathlib.Core.Bool.{Bool, true, false}
 use mathlib.Core.List.{List}
 use lib.ListN.{length}
 use lib.Dec.{eqb}
-use Rattle.format.specs.Test.{pick, Result, good, bad, onward}
+use Rattle.format.specs.Prelude.{pick, Result, good, bad, onward}
 use Rattle.format.specs.declared.Rule.the-variants as rule
 use Rattle.format.specs.declared.Reading.{Reading}
 use Rattle.format.specs.declared.Reading.the-variants.{Rules}

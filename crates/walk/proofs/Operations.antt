@@ -7,7 +7,7 @@ use mathlib.Core.Bool.{Bool, true, false}
 use mathlib.Core.Option.{none, some}
 use mathlib.Core.List.{List, [], _∷_}
 use lib.ListN.{length, drop, length-drop, drop-of-length-le}
-use Rattle.format.specs.Test.{pick, Read, Result, good, bad, onward}
+use Rattle.format.specs.Prelude.{pick, Read, Result, good, bad, onward}
 use Rattle.format.specs.declared.Row.{Row}
 use Rattle.format.specs.declared.Rule.{Rule}
 use Rattle.format.specs.declared.Operation.{Operation}

@@ -5,7 +5,7 @@ use mathlib.Core.Bool.{not}
 use mathlib.Core.List.{List, map, reverse}
 use lib.ListN.{length, take}
 use lib.Dec.{eqb}
-use Rattle.format.specs.Test.{pick, Result, good, bad}
+use Rattle.format.specs.Prelude.{pick, Result, good, bad}
 use Rattle.format.specs.Rules.{Run, Kept1}
 use Rattle.walk.specs.declared.Kept.{Kept}
 use Rattle.walk.specs.declared.State.{State}

@@ -4,7 +4,7 @@ ghost use mathlib.Core.Bool.{true, false};
 ghost use Prim.Native.Nat.{_≤_};
 ghost use lib.ListN.{length};
 ghost use lib.Dec.{T};
-ghost use Rattle.format.specs.Test.{pick, good, bad, onward};
+ghost use Rattle.format.specs.Prelude.{pick, good, bad, onward};
 ghost use Rattle.format.specs.Machine.{isWord};
 ghost use Rattle.format.specs.Reader.{walk};
 ghost use Rattle.format.specs.declared.Rule.the-variants as rule;

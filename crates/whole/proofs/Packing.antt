@@ -10,14 +10,14 @@ use lib.ListN.{length, take, drop, replicate, length-append, take-append-drop}
 use lib.Seq.{take-at, drop-at}
 use borrow.Author.Tests.{leb-true}
 use Rattle.format.specs.Put.{put}
-use Rattle.format.specs.Test.{pick, all}
+use Rattle.format.specs.Prelude.{pick, all}
 use Rattle.format.specs.Questions.{Given, Room, Answer, ask, unless, relaxedTable, relaxedDebugFrame}
 use Rattle.format.proofs.PutLaws.{length-put, put-append}
-use Rattle.structs.specs.declared.Line.{Line}
+use Rattle.structs.specs.declared.RowAt.{RowAt}
 use Rattle.structs.specs.declared.Landing.{Landing}
 use Rattle.structs.specs.declared.Pair.{Pair}
 use Rattle.structs.specs.declared.Function.{Function}
-use Rattle.structs.specs.Structs.{lineNumbers, landingNumbers, pairNumbers, functionNumbers, numbersOf}
+use Rattle.structs.specs.Structs.{rowNumbers, landingNumbers, pairNumbers, functionNumbers, numbersOf}
 use Rattle.structs.specs.Packed.{storedAll}
 use Rattle.structs.proofs.Stored.{together, length-numbers}
 use Rattle.unwind.specs.declared.Written.{Written}
@@ -55,9 +55,9 @@ functions-long : (fs : List Function) → length (numbersOf functionNumbers fs) 
 unfolding functionNumbers
 functions-long = length-numbers functionNumbers (λ x. refl)
 
-lines-long : (rs : List Line) → length (numbersOf lineNumbers rs) ≡ 4 * length rs
-unfolding lineNumbers
-lines-long = length-numbers lineNumbers (λ x. refl)
+rows-at-long : (rs : List RowAt) → length (numbersOf rowNumbers rs) ≡ 4 * length rs
+unfolding rowNumbers
+rows-at-long = length-numbers rowNumbers (λ x. refl)
 
 landings-long : (ls : List Landing) → length (numbersOf landingNumbers ls) ≡ 3 * length ls
 unfolding landingNumbers
@@ -85,12 +85,12 @@ front-piece : (zs us vs : List ℕ) (n : ℕ) → zs ≡ us ++ vs → length us 
 unfolding part
 front-piece zs us vs n e h = ap (take n) e ∙ take-at us vs n h
 
-module _ (xs : List ℕ) (fs : List Function) (rs : List Line) (ls : List Landing) (ps : List Pair) where
+module _ (xs : List ℕ) (fs : List Function) (rs : List RowAt) (ls : List Landing) (ps : List Pair) where
   abbrev F : List ℕ
   F = numbersOf functionNumbers fs
 
   abbrev R : List ℕ
-  R = numbersOf lineNumbers rs
+  R = numbersOf rowNumbers rs
 
   abbrev L : List ℕ
   L = numbersOf landingNumbers ls
@@ -115,7 +115,7 @@ module _ (xs : List ℕ) (fs : List Function) (rs : List Line) (ls : List Landin
   stored₁ = storedAll functionNumbers xs 0 fs
 
   abbrev pub stored₂ : List ℕ
-  stored₂ = storedAll lineNumbers stored₁ (18 * f) rs
+  stored₂ = storedAll rowNumbers stored₁ (18 * f) rs
 
   abbrev pub stored₃ : List ℕ
   stored₃ = storedAll landingNumbers stored₂ (18 * f + 4 * r) ls
@@ -127,13 +127,13 @@ module _ (xs : List ℕ) (fs : List Function) (rs : List Line) (ls : List Landin
   unfolding needed numbersIn
   packs h =
       let a : length F ≡ 18 * f = functions-long fs in
-      let b : length R ≡ 4 * r = lines-long rs in
+      let b : length R ≡ 4 * r = rows-at-long rs in
       let c : length L ≡ 3 * l = landings-long ls in
       let d : length P ≡ 4 * p = pairs-long ps in
       let ab : length (F ++ R) ≡ 18 * f + 4 * r = length-append F R ∙ (cc) in
       let abc : length ((F ++ R) ++ L) ≡ 18 * f + 4 * r + 3 * l = length-append (F ++ R) L ∙ (cc) in
       let one : stored₁ ≡ put xs 0 F = together functionNumbers xs 0 fs (omega arith) in
-      let two : stored₂ ≡ put xs 0 (F ++ R) = ap (λ (zs : List ℕ). storedAll lineNumbers zs (18 * f) rs) one ∙ after lineNumbers xs F (18 * f) rs a (omega arith) in
+      let two : stored₂ ≡ put xs 0 (F ++ R) = ap (λ (zs : List ℕ). storedAll rowNumbers zs (18 * f) rs) one ∙ after rowNumbers xs F (18 * f) rs a (omega arith) in
       let three : stored₃ ≡ put xs 0 ((F ++ R) ++ L) =
       ap (λ (zs : List ℕ). storedAll landingNumbers zs (18 * f + 4 * r) ls) two ∙ after landingNumbers xs (F ++ R) (18 * f + 4 * r) ls ab (omega arith) in
       ap (λ (zs : List ℕ). storedAll pairNumbers zs (18 * f + 4 * r + 3 * l) ps) three
@@ -142,7 +142,7 @@ module _ (xs : List ℕ) (fs : List Function) (rs : List Line) (ls : List Landin
   numbers-long : length (numbersIn fs rs ls ps) ≡ needed f r l p
   unfolding needed numbersIn
   numbers-long =
-      omega (arith, functions-long fs, lines-long rs, landings-long ls, pairs-long ps, length-append F (R ++ (L ++ P)), length-append R (L ++ P), length-append L P)
+      omega (arith, functions-long fs, rows-at-long rs, landings-long ls, pairs-long ps, length-append F (R ++ (L ++ P)), length-append R (L ++ P), length-append L P)
 
   -- the parts of the list are the four lists
   pub means : (machine : List ℕ) → needed f r l p ≤ length xs → packed machine (put xs 0 (numbersIn fs rs ls ps)) f r l p ≡ meant machine fs rs ls ps
@@ -153,7 +153,7 @@ module _ (xs : List ℕ) (fs : List Function) (rs : List Line) (ls : List Landin
       let whole : zs ≡ (F ++ (R ++ (L ++ P))) ++ drop n zs =
       sym (take-append-drop n zs) ∙ ap (λ (us : List ℕ). us ++ drop n zs) (front xs (F ++ (R ++ (L ++ P))) (omega (arith, numbers-long))) in
       let a : length F ≡ 18 * f = functions-long fs in
-      let b : length R ≡ 4 * r = lines-long rs in
+      let b : length R ≡ 4 * r = rows-at-long rs in
       let c : length L ≡ 3 * l = landings-long ls in
       let d : length P ≡ 4 * p = pairs-long ps in
       let ab : length (F ++ R) ≡ 18 * f + 4 * r = length-append F R ∙ (cc) in

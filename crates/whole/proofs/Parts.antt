@@ -9,7 +9,7 @@ use lib.Dec.{T}
 use Rattle.format.specs.declared.Outcome.{Outcome}
 use Rattle.format.specs.Questions.{Given, Room, Answer, ask, unless, givenOf}
 use Rattle.format.specs.declared.Outcome.the-variants.{Refused}
-use Rattle.format.specs.Test.{pick}
+use Rattle.format.specs.Prelude.{pick}
 use Rattle.format.specs.Answers.{Writes, outcomeOf, outcomeNumbers, afterwards}
 use Rattle.unwind.specs.declared.Written.{Written}
 use Rattle.unwind.specs.Entries.{writtenNumbers, Exports}

@@ -9,7 +9,7 @@ use lib.Dec.{T, leb, eqb}
 use lib.ListN.{length, getD, take, drop, set, replicate, drop-of-length-le, replicate-append-replicate}
 use lib.Seq.{drop-cons, take-suc-set, take-all}
 use borrow.Author.Tests.{eqb-true, eq-eqb, ne-eqb, not-true, not-false}
-use Rattle.format.specs.Test.{all}
+use Rattle.format.specs.Prelude.{all}
 use Rattle.whole.specs.Whole.{needed, isZero, readyFor}
 
 module _ (xs : List ℕ) (i : ℕ) where

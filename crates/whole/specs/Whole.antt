@@ -4,13 +4,13 @@ use mathlib.Core.Bool.{Bool, _&&_}
 use mathlib.Core.List.{List, _++_}
 use lib.Dec.{leb, eqb}
 use lib.ListN.{length, take, drop}
-use Rattle.format.specs.Test.{all}
+use Rattle.format.specs.Prelude.{all}
 use Rattle.format.specs.Questions.{Given, Room, Answer, ask, unless, relaxedTable, relaxedDebugFrame, givenOf}
-use Rattle.structs.specs.declared.Line.{Line}
+use Rattle.structs.specs.declared.RowAt.{RowAt}
 use Rattle.structs.specs.declared.Landing.{Landing}
 use Rattle.structs.specs.declared.Pair.{Pair}
 use Rattle.structs.specs.declared.Function.{Function}
-use Rattle.structs.specs.Structs.{lineNumbers, landingNumbers, pairNumbers, functionNumbers, numbersOf}
+use Rattle.structs.specs.Structs.{rowNumbers, landingNumbers, pairNumbers, functionNumbers, numbersOf}
 
 -- ---- the lent list
 
@@ -37,24 +37,24 @@ packed machine xs f r l p =
 -- ---- the entries
 
 -- the numbers of the four lists of structs, one list after the other
-unfoldable pub numbersIn : List Function → List Line → List Landing → List Pair → List ℕ
-numbersIn fs rs ls ps = numbersOf functionNumbers fs ++ (numbersOf lineNumbers rs ++ (numbersOf landingNumbers ls ++ numbersOf pairNumbers ps))
+unfoldable pub numbersIn : List Function → List RowAt → List Landing → List Pair → List ℕ
+numbersIn fs rs ls ps = numbersOf functionNumbers fs ++ (numbersOf rowNumbers rs ++ (numbersOf landingNumbers ls ++ numbersOf pairNumbers ps))
 
 -- what the structs mean
-unfoldable pub meant : List ℕ → List Function → List Line → List Landing → List Pair → Given
+unfoldable pub meant : List ℕ → List Function → List RowAt → List Landing → List Pair → Given
 meant machine fs rs ls ps =
-    givenOf machine (numbersOf functionNumbers fs) (numbersOf lineNumbers rs) (numbersOf landingNumbers ls) (numbersOf pairNumbers ps)
+    givenOf machine (numbersOf functionNumbers fs) (numbersOf rowNumbers rs) (numbersOf landingNumbers ls) (numbersOf pairNumbers ps)
 
 -- 54 where the lent list is not ready, asked first
 unfoldable pub onceReady : Bool → Answer → Answer
 onceReady ready a = unless (ask ready 54 0) a
 
 -- what a writer answers of structs: 54, or what it says of the numbers that they mean
-unfoldable pub answerOf : (Given → Room → Answer) → (machine numbers : List ℕ) → List Function → List Line → List Landing → List Pair → Room → Answer
+unfoldable pub answerOf : (Given → Room → Answer) → (machine numbers : List ℕ) → List Function → List RowAt → List Landing → List Pair → Room → Answer
 answerOf answer machine xs fs rs ls ps r = onceReady (readyFor xs (length fs) (length rs) (length ls) (length ps)) (answer (meant machine fs rs ls ps) r)
 
-unfoldable pub relaxedTableOf : (format : ℕ) (machine numbers : List ℕ) → List Function → List Line → List Landing → List Pair → Room → Answer
+unfoldable pub relaxedTableOf : (format : ℕ) (machine numbers : List ℕ) → List Function → List RowAt → List Landing → List Pair → Room → Answer
 relaxedTableOf format = answerOf (relaxedTable format)
 
-unfoldable pub relaxedDebugFrameOf : (format : ℕ) (machine numbers : List ℕ) → List Function → List Line → List Landing → List Pair → Room → Answer
+unfoldable pub relaxedDebugFrameOf : (format : ℕ) (machine numbers : List ℕ) → List Function → List RowAt → List Landing → List Pair → Room → Answer
 relaxedDebugFrameOf format = answerOf (relaxedDebugFrame format)

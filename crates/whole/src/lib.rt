@@ -6,7 +6,7 @@ ghost use Prim.Native.Nat.{_≤_};
 ghost use lib.Dec.{leb};
 ghost use lib.ListN.{length, replicate};
 ghost use Rattle.format.specs.Put.{put};
-ghost use Rattle.format.specs.Test.{all, pick};
+ghost use Rattle.format.specs.Prelude.{all, pick};
 ghost use Rattle.format.specs.Questions.{relaxedTable, relaxedDebugFrame, roomIn};
 ghost use Rattle.format.specs.Answers.{outcomeNumbers};
 ghost use Rattle.unwind.specs.Entries.{writtenNumbers, Exports};
@@ -14,8 +14,8 @@ ghost use Rattle.whole.specs.Whole.{needed, isZero, readyFor, packed, on
 use format::Outcome;
 use structs::Function;
 use structs::Landing;
-use structs::Line;
 use structs::Pair;
+use structs::RowAt;
 use unwind::Written;
 
 // ---- the lent list
@@ -232,7 +232,7 @@ fn debug_frame_in(
 // The structs stored in the list, one list after the other, where it is ready for them: whether it is.
 fn pack(
     functions: &[Function],
-    rows: &[Line],
+    rows: &[RowAt],
     landings: &[Landing],
     pairs: &[Pair],
     numbers: &mut [u64],
@@ -249,7 +249,7 @@ fn pack(
     let b = a + 4 * r;
     let c = b + 3 * l;
     structs::put_functions(functions, numbers, 0);
-    structs::put_lines(rows, numbers, a);
+    structs::put_rows(rows, numbers, a);
     structs::put_landings(landings, numbers, b);
     structs::put_pairs(pairs, numbers, c);
     true
@@ -262,7 +262,7 @@ pub extern "C" fn unwind_relaxed_table_of(
     machine: &[u64],
     format: u64,
     functions: &[Function],
-    rows: &[Line],
+    rows: &[RowAt],
     landings: &[Landing],
     pairs: &[Pair],
     numbers: &mut [u64],
@@ -296,7 +296,7 @@ pub extern "C" fn unwind_relaxed_debug_frame_of(
     machine: &[u64],
     format: u64,
     functions: &[Function],
-    rows: &[Line],
+    rows: &[RowAt],
     landings: &[Landing],
     pairs: &[Pair],
     numbers: &mut [u64],

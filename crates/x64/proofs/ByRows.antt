@@ -8,7 +8,7 @@ use mathlib.Core.List.{List, [], _∷_}
 use lib.Dec.{T, leb, eqb, leb→le}
 use lib.ListN.{length, getD, drop, length-drop}
 use lib.Seq.{length-take-le}
-use Rattle.format.specs.Test.{pick, Result, good, bad, each}
+use Rattle.format.specs.Prelude.{pick, Result, good, bad, each}
 use Rattle.format.specs.declared.Machine.{Machine}
 use Rattle.format.specs.declared.Outcome.the-variants as outcome
 use Rattle.format.specs.Machine.{machineOf, machineOk}

@@ -9,7 +9,7 @@ use lib.Dec.{T, leb, ltb, leb→le, ltb→lt}
 use lib.ListN.{length, getD}
 use borrow.Author.Tests.{eq-eqb, ne-eqb}
 use mir.Facts.{and-yes}
-use Rattle.format.specs.Test.{pick, each}
+use Rattle.format.specs.Prelude.{pick, each}
 use Rattle.format.specs.declared.Machine.{Machine}
 use Rattle.format.specs.Lists.{field, count, prologueStride, codeStride, mostFunctions, mostRecords, sumOf, inside, symbolOk, allIn, codeOkAt, prologueOkAt, codesOk, prologueAt, prologuesOf}
 use Rattle.format.specs.X64.{x64}

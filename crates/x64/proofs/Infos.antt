@@ -6,7 +6,7 @@ use mathlib.Core.Option.{none, some}
 use mathlib.Core.List.{List, [], _∷_}
 use lib.Dec.{leb, leb→le}
 use lib.ListN.{length, replicate}
-use Rattle.format.specs.Test.{pick}
+use Rattle.format.specs.Prelude.{pick}
 use Rattle.format.specs.Put.{Wrote}
 use Rattle.format.specs.declared.Seh.{Seh}
 use Rattle.format.specs.X64.{codeNo, orNo, firstNo, slots, prologueNo, frameByte, reversed, infoBytes}

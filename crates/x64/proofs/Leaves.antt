@@ -7,16 +7,16 @@ use mathlib.Core.Option.{Option, none, some}
 use mathlib.Core.List.{List, [], _∷_}
 use lib.Dec.{T, eqb}
 use lib.IntN.{ℤ}
-use Rattle.format.specs.Test.{pick, each}
+use Rattle.format.specs.Prelude.{pick, each}
 use Rattle.format.specs.declared.Seh.{Seh}
 use Rattle.format.specs.Rows.{kindOf, offsetOf}
-use Rattle.format.specs.Lists.{codeAt, lineAt, rowOkAt}
+use Rattle.format.specs.Lists.{codeAt, rowAt, rowOkAt}
 use Rattle.format.specs.X64.{orNo, firstNo, slots}
 use Rattle.codes.proofs.Sizes.{slots-most}
 use Rattle.prologue.specs.declared.Piece.{Piece}
 use Rattle.prologue.specs.declared.Piece.the-variants as piece
 use Rattle.prologue.specs.Pieces.{Short, pieceOf, pieceIn, movedBy, movedIn, piecesFrom}
-use Rattle.prologue.proofs.Rows.{line-short}
+use Rattle.prologue.proofs.Rows.{row-at-short}
 use Rattle.x64.specs.declared.Source.{Source}
 use Rattle.x64.specs.declared.Span.{Span}
 use Rattle.x64.specs.Sources.{pieceAt, movedAt, codesFrom}
@@ -57,7 +57,7 @@ short-pick false x y h k = k
 
 pub moved-short : (sofar : ℤ) (rows : List ℕ) (i : ℕ) → T (rowOkAt rows i) → Short sofar → Short (movedIn sofar rows i)
 unfolding movedIn movedBy
-moved-short sofar rows i t h = short-pick (eqb (kindOf (lineAt rows i .1)) 1) (offsetOf (lineAt rows i .1)) sofar (line-short rows i t) h
+moved-short sofar rows i t h = short-pick (eqb (kindOf (rowAt rows i .1)) 1) (offsetOf (rowAt rows i .1)) sofar (row-at-short rows i t) h
 
 -- a record has at most three slots
 pub slots-few : (q : Piece) → slots (pieceOf q) ≤ 3

@@ -5,7 +5,7 @@ use native.Mathlib.Omega.{arith}
 use native.Mathlib.Numerals.{add-one}
 use mathlib.Core.List.{List, [], _∷_, _++_}
 use lib.ListN.{length, length-append}
-use Rattle.format.specs.Test.{each}
+use Rattle.format.specs.Prelude.{each}
 use Rattle.format.specs.Put.{put, Wrote}
 use Rattle.format.specs.Lists.{Prologue}
 use Rattle.format.specs.Writer.{joined}

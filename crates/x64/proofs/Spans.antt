@@ -8,7 +8,7 @@ use mathlib.Core.List.{List, []}
 use borrow.Author.Tests.{eq-eqb, ne-eqb}
 use lib.Dec.{eqb}
 use lib.IntN.{pos}
-use Rattle.format.specs.Test.{pick, good, bad, onward}
+use Rattle.format.specs.Prelude.{pick, good, bad, onward}
 use Rattle.format.specs.Lists.{Function, field, functionStride, prologueStride, functionAt, prologueAt}
 use Rattle.format.specs.X64.{codesOf, endOf, prologueOf, prologueNo, infoBytes}
 use Rattle.format.proofs.Choice.{either}

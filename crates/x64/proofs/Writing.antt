@@ -7,7 +7,7 @@ use mathlib.Core.Option.{none, some}
 use mathlib.Core.List.{List, [], _∷_}
 use lib.Dec.{leb, leb→le}
 use lib.ListN.{length, replicate, length-replicate}
-use Rattle.format.specs.Test.{pick, Result, good, bad, onward, each}
+use Rattle.format.specs.Prelude.{pick, Result, good, bad, onward, each}
 use Rattle.format.specs.declared.Machine.{Machine}
 use Rattle.format.specs.declared.Seh.{Seh}
 use Rattle.format.specs.declared.Counts.{Counts}

@@ -4,7 +4,7 @@ use mathlib.Core.Bool.{Bool, true, false}
 use mathlib.Core.Option.{Option, none, some}
 use mathlib.Core.List.{List, [], map}
 use lib.Dec.{leb, eqb}
-use Rattle.format.specs.Test.{pick}
+use Rattle.format.specs.Prelude.{pick}
 use Rattle.format.specs.Lists.{Prologue, field}
 use Rattle.format.specs.Questions.{Question, ask, andThen, noAt}
 use Rattle.format.specs.Writer.{joined}

@@ -7,7 +7,7 @@ use mathlib.Core.List.{List, [], _∷_, _++_}
 use lib.ListN.{length}
 use lib.Dec.{ltb, eqb}
 use lib.IntN.{ℤ, pos}
-use Rattle.format.specs.Test.{pick, Result, good, bad, onward, each}
+use Rattle.format.specs.Prelude.{pick, Result, good, bad, onward, each}
 use Rattle.format.specs.declared.Machine.{Machine}
 use Rattle.format.specs.declared.Seh.{Seh}
 use Rattle.format.specs.Lists.{Function, Prologue, field, functionStride, prologueStride, codeStride, count, mostRecords, mostFunctions, codeAt, functionAt, prologueAt}

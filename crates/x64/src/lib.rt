@@ -4,7 +4,7 @@ ghost use Prim.Native.Nat.{ℕ, _+_, _*_, _^_, _≤_, _<_};
 ghost use mathlib.Core.Option.{none};
 ghost use lib.IntN.{pos};
 ghost use lib.ListN.{length};
-ghost use Rattle.format.specs.Test.{each};
+ghost use Rattle.format.specs.Prelude.{each};
 ghost use Rattle.format.specs.Put.{put, Wrote};
 ghost use Rattle.format.specs.Lists.{field, numbersOf, functionStride, prologueStride, mostFunctions, mostRecords};
 ghost use Rattle.format.specs.Answers.{questionOf, Writes};

@@ -6,7 +6,7 @@ use borrow.Author.Needs.{needs}
 use mir.Syntax.{w32}
 use mir.Val.{ofZ}
 use mir.Facts.{toZ-ofZ}
-use Rattle.structs.specs.Structs.{lineNumbers}
+use Rattle.structs.specs.Structs.{rowNumbers}
 use Rattle.checks.proofs.numbers.Statement.{statement}
 use Rattle.checks.proofs.numbers.Tie as tie
 
@@ -20,7 +20,7 @@ bits-requires : tie.Need-bits-requires
 bits-requires c κs = search needs
 
 returns : tie.Need-returns
-unfolding lineNumbers
+unfolding rowNumbers
 returns c =
     let x = c .before .before .before .before .args .x in
     let same = toZ-ofZ {w = w32} {z = x .value} (record { sfits = c .before .struct-told .given .1 .1 .1 .0 .1 }) in

@@ -1,6 +1,6 @@
 -- `codes::slot_size` meets its contract.
 use mathlib.Core.Path.{sym, _∙_}
-use Rattle.format.specs.Test.{pick}
+use Rattle.format.specs.Prelude.{pick}
 use borrow.Author.Needs.{needs}
 use Rattle.codes.proofs.slot_size.Statement.{statement}
 use Rattle.codes.proofs.slot_size.Tie as tie

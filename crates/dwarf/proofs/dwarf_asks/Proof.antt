@@ -1,5 +1,5 @@
 -- `dwarf::dwarf_asks` meets its contract.
-use Rattle.format.specs.Test.{pick}
+use Rattle.format.specs.Prelude.{pick}
 use Rattle.format.specs.Answers.{questionOf}
 use Rattle.format.specs.Questions.{ask, andThen, dwarfAsks}
 use Rattle.format.proofs.FieldsBack.{word-small}

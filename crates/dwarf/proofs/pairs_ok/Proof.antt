@@ -1,6 +1,6 @@
 -- `dwarf::pairs_ok` meets its contract.
 use borrow.Author.Tests.{not-true, not-false}
-use Rattle.format.specs.Test.{pick}
+use Rattle.format.specs.Prelude.{pick}
 use Rattle.format.specs.Questions.{pairsOk}
 use Rattle.lists.specs.Extents.{meant}
 use Rattle.dwarf.proofs.pairs_ok.Statement.{statement}

@@ -1,6 +1,6 @@
 -- `dwarf::room` meets its contract.
 use borrow.Author.Tests.{le-leb, lt-leb}
-use Rattle.format.specs.Test.{pick}
+use Rattle.format.specs.Prelude.{pick}
 use Rattle.format.specs.Answers.{questionOf}
 use Rattle.format.specs.Questions.{ask, andThen}
 use Rattle.dwarf.specs.Tables.{roomFor}

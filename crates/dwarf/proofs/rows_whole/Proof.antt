@@ -3,14 +3,14 @@ use borrow.Author.Needs.{needs}
 use mathlib.Core.Path.{ap, _∙_}
 use Prim.Native.Nat.{_-_}
 use Rattle.format.specs.Rows.{rowWhole}
-use Rattle.format.specs.Lists.{lineAt}
+use Rattle.format.specs.Lists.{rowAt}
 use Rattle.lists.proofs.Ranges.{Asking, start, turn, stopped, ended}
 use Rattle.dwarf.proofs.Rows.{all-in, row-ready}
 use Rattle.dwarf.proofs.rows_whole.Statement.{statement}
 use Rattle.dwarf.proofs.rows_whole.Tie as tie
 
 abbrev Inv-loop : tie.InvT-loop
-Inv-loop word rows at n end i₀ i = Asking (λ j. rowWhole word (lineAt rows j .1)) at n i
+Inv-loop word rows at n end i₀ i = Asking (λ j. rowWhole word (rowAt rows j .1)) at n i
 
 abbrev μ-loop : tie.MeasureT-loop
 μ-loop word rows at n end i₀ i = end - i

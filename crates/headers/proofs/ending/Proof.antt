@@ -1,7 +1,7 @@
 -- `ending` stores the signal mark and the string's end.
 use native.Mathlib.Omega.{arith}
 use borrow.Author.Needs.{needs}
-use Rattle.format.specs.Test.{pick}
+use Rattle.format.specs.Prelude.{pick}
 use Rattle.format.specs.Leb.{little}
 use Rattle.headers.specs.Kinds.{ending}
 use Rattle.headers.proofs.ending.Statement.{statement}

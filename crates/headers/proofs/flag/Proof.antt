@@ -1,6 +1,6 @@
 -- `flag` is 1 or 0.
 use native.Mathlib.Omega.{arith}
-use Rattle.format.specs.Test.{pick}
+use Rattle.format.specs.Prelude.{pick}
 use Rattle.headers.specs.Kinds.{flag}
 use Rattle.headers.proofs.flag.Statement.{statement}
 use Rattle.headers.proofs.flag.Tie as tie

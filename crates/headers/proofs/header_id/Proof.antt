@@ -1,5 +1,5 @@
 -- `header_id` is what marks a header.
-use Rattle.format.specs.Test.{pick}
+use Rattle.format.specs.Prelude.{pick}
 use Rattle.format.specs.Headers.{headerId}
 use Rattle.headers.proofs.header_id.Statement.{statement}
 use Rattle.headers.proofs.header_id.Tie as tie

@@ -1,7 +1,7 @@
 -- `header_relocs_count` counts.
 use borrow.Author.Needs.{needs}
 use borrow.Author.Tests.{eq-eqb, ne-eqb}
-use Rattle.format.specs.Test.{pick}
+use Rattle.format.specs.Prelude.{pick}
 use Rattle.headers.specs.Kinds.{headerRelocCount}
 use Rattle.headers.proofs.header_relocs_count.Statement.{statement}
 use Rattle.headers.proofs.header_relocs_count.Tie as tie

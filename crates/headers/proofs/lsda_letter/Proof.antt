@@ -1,7 +1,7 @@
 -- `lsda_letter` stores the LSDA's encoding, if there is one.
 use native.Mathlib.Omega.{arith}
 use borrow.Author.Needs.{needs}
-use Rattle.format.specs.Test.{pick}
+use Rattle.format.specs.Prelude.{pick}
 use Rattle.format.specs.Headers.{lsdaLetter}
 use Rattle.format.proofs.PutLaws.{idle}
 use Rattle.headers.specs.Kinds.{lsdaOf}

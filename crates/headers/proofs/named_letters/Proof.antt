@@ -1,7 +1,7 @@
 -- `named_letters` stores the letters of a named personality.
 use native.Mathlib.Omega.{arith}
 use borrow.Author.Needs.{needs}
-use Rattle.format.specs.Test.{pick}
+use Rattle.format.specs.Prelude.{pick}
 use Rattle.format.specs.Leb.{little}
 use Rattle.headers.specs.Kinds.{namedLetters}
 use Rattle.headers.proofs.named_letters.Statement.{statement}

@@ -2,7 +2,7 @@
 use borrow.Author.Needs.{needs}
 use borrow.Author.Tests.{le-leb, lt-leb}
 use Prim.Native.Nat.{_%_}
-use Rattle.format.specs.Test.{pick}
+use Rattle.format.specs.Prelude.{pick}
 use Rattle.format.specs.Headers.{pointerReloc}
 use Rattle.headers.proofs.pointer.Statement.{statement}
 use Rattle.headers.proofs.pointer.Tie as tie

@@ -1,7 +1,7 @@
 -- `pointer_size` takes the indirect bit where it is told to.
 use borrow.Author.Needs.{needs}
 use borrow.Author.Tests.{lt-ltb, le-ltb}
-use Rattle.format.specs.Test.{pick}
+use Rattle.format.specs.Prelude.{pick}
 use Rattle.format.specs.Headers.{sizeOr0, pointerSize}
 use Rattle.headers.proofs.pointer_size.Statement.{statement}
 use Rattle.headers.proofs.pointer_size.Tie as tie

@@ -1,7 +1,7 @@
 -- `size_of` goes by the encodings of the definition.
 use mathlib.Core.Logic.{inl, inr, ⊎-elim}
 use borrow.Author.Tests.{ne-eqb}
-use Rattle.format.specs.Test.{pick}
+use Rattle.format.specs.Prelude.{pick}
 use Rattle.format.specs.Headers.{sizeOf, sizeOr0}
 use Rattle.headers.proofs.size_of.Statement.{statement}
 use Rattle.headers.proofs.size_of.Tie as tie

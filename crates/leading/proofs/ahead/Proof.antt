@@ -1,13 +1,13 @@
 -- `leading::ahead` meets its contract.
 use Prim.Native.Nat.{_-_}
-use Rattle.format.specs.Lists.{lineAt}
+use Rattle.format.specs.Lists.{rowAt}
 use Rattle.leading.proofs.Counting.{Counting, start, turn, stopped, ended}
 use borrow.Author.Needs.{needs}
 use Rattle.leading.proofs.ahead.Statement.{statement}
 use Rattle.leading.proofs.ahead.Tie as tie
 
 abbrev Inv-loop : tie.InvT-loop
-Inv-loop rows at n i₀ i = Counting (lineAt rows) at n i
+Inv-loop rows at n i₀ i = Counting (rowAt rows) at n i
 
 abbrev μ-loop : tie.MeasureT-loop
 μ-loop rows at n i₀ i = n - i

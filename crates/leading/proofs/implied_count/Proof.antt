@@ -1,7 +1,7 @@
 -- `leading::implied_count` meets its contract.
 use native.Mathlib.Omega.{arith}
 use borrow.Author.Tests.{eq-eqb, ne-eqb}
-use Rattle.format.specs.Test.{pick}
+use Rattle.format.specs.Prelude.{pick}
 use Rattle.format.specs.Headers.{implied}
 use Rattle.leading.proofs.implied_count.Statement.{statement}
 use Rattle.leading.proofs.implied_count.Tie as tie

@@ -5,7 +5,7 @@ use native.Mathlib.Omega.{arith}
 use borrow.Author.Needs.{needs}
 use lib.ListN.{getD}
 use Rattle.format.specs.declared.Row.the-variants.{RememberState}
-use Rattle.format.specs.Lists.{lineAt}
+use Rattle.format.specs.Lists.{rowAt}
 use Rattle.format.specs.Headers.{leading}
 use Rattle.format.proofs.ListLaws.{in-range}
 use Rattle.leading.specs.Functions.{bodyOf}
@@ -29,7 +29,7 @@ returns c =
 own : (c : tie.After-struct-known)
     → let s = c .before .before .before .before in
     let j = s .args .i - c .before .before .implied-count .result in
-    (j < s .args .e .rows) × (getD (leading (s .args .m) (bodyOf (s .args .e) (s .args .rows .now))) (s .args .i) RememberState ≡ lineAt (s .args .rows .now) (s .args .e .«rows_at» + j) .1)
+    (j < s .args .e .rows) × (getD (leading (s .args .m) (bodyOf (s .args .e) (s .args .rows .now))) (s .args .i) RememberState ≡ rowAt (s .args .rows .now) (s .args .e .«rows_at» + j) .1)
 own c =
     let s = c .before .before .before .before in
     own-row (s .args .m) (s .args .e) (s .args .rows .now) (s .args .i) _ (c .before .before .implied-count .ensures .0) (c .before .if1 .left) (s .pre .2)

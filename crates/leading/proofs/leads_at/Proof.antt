@@ -1,7 +1,7 @@
 -- `leading::leads_at` meets its contract.
 use borrow.Author.Tests.{eq-eqb, ne-eqb}
 use borrow.Author.Needs.{needs}
-use Rattle.format.specs.Lists.{lineAt}
+use Rattle.format.specs.Lists.{rowAt}
 use Rattle.format.specs.Headers.{leads}
 use Rattle.leading.proofs.Counting.{remembers}
 use Rattle.leading.proofs.leads_at.Statement.{statement}
@@ -11,7 +11,7 @@ offset-at-requires : tie.Need-offset-at-requires
 offset-at-requires c κs = search needs
 
 returns : tie.Need-returns
-unfolding leads lineAt
+unfolding leads rowAt
 returns c = simp (← c .before .offset-at .ensures, ne-eqb _ _ (c .if1 .taken))
 
 mul-result : tie.Need-mul-result
@@ -27,7 +27,7 @@ shared-slice-read-result : tie.Need-shared-slice-read-result
 shared-slice-read-result c = search needs
 
 returns-2 : tie.Need-returns-2
-unfolding leads lineAt
+unfolding leads rowAt
 returns-2 c = simp (← c .before .before .offset-at .ensures, eq-eqb _ _ (c .before .if1 .left), remembers)
 
 pub leads-at-spec : {M : Type 1} → statement M

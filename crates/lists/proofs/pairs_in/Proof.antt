@@ -1,6 +1,6 @@
 -- `lists::pairs_in` meets its contract.
 use borrow.Author.Tests.{eq-eqb, ne-eqb}
-use Rattle.format.specs.Test.{pick}
+use Rattle.format.specs.Prelude.{pick}
 use Rattle.format.specs.Lists.{mark, pairsIn}
 use borrow.Author.Needs.{needs}
 use Rattle.lists.proofs.pairs_in.Statement.{statement}

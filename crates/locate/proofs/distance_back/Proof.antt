@@ -1,7 +1,7 @@
 -- `locate::distance_back` meets its contract.
 use borrow.Author.Needs.{needs}
 use borrow.Author.Tests.{le-leb, lt-leb}
-use Rattle.format.specs.Test.{pick}
+use Rattle.format.specs.Prelude.{pick}
 use Rattle.format.specs.Reader.{distanceBack}
 use Rattle.locate.specs.Spans.{numberOf}
 use Rattle.locate.proofs.distance_back.Statement.{statement}

@@ -1,5 +1,5 @@
 -- `locate::field_size` meets its contract.
-use Rattle.format.specs.Test.{pick}
+use Rattle.format.specs.Prelude.{pick}
 use Rattle.locate.proofs.field_size.Statement.{statement}
 use Rattle.locate.proofs.field_size.Tie as tie
 

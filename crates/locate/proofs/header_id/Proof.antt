@@ -1,6 +1,6 @@
 -- `locate::header_id` meets its contract.
 use Rattle.format.specs.Headers.{headerId}
-use Rattle.format.specs.Test.{pick}
+use Rattle.format.specs.Prelude.{pick}
 use Rattle.locate.proofs.header_id.Statement.{statement}
 use Rattle.locate.proofs.header_id.Tie as tie
 

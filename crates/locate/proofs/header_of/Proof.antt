@@ -1,7 +1,7 @@
 -- `locate::header_of` meets its contract.
 use borrow.Author.Needs.{needs}
 use mathlib.Core.Path.{sym, _∙_}
-use Rattle.format.specs.Test.{after}
+use Rattle.format.specs.Prelude.{after}
 use Rattle.locate.proofs.Seeking.{number-is, number-none}
 use Rattle.locate.proofs.header_of.Statement.{statement}
 use Rattle.locate.proofs.header_of.Tie as tie

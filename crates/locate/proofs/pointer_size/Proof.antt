@@ -1,7 +1,7 @@
 -- `locate::pointer_size` meets its contract.
 use borrow.Author.Needs.{needs}
 use borrow.Author.Tests.{lt-ltb, le-ltb}
-use Rattle.format.specs.Test.{pick}
+use Rattle.format.specs.Prelude.{pick}
 use Rattle.format.specs.Headers.{pointerSize}
 use Rattle.locate.specs.Spans.{numberOf}
 use Rattle.locate.proofs.pointer_size.Statement.{statement}

@@ -1,6 +1,6 @@
 -- `locate::size_of` meets its contract.
 use borrow.Author.Tests.{ne-eqb}
-use Rattle.format.specs.Test.{pick}
+use Rattle.format.specs.Prelude.{pick}
 use Rattle.format.specs.Headers.{sizeOf}
 use Rattle.locate.specs.Spans.{numberOf}
 use Rattle.locate.proofs.size_of.Statement.{statement}

@@ -1,6 +1,6 @@
 -- `prologue::alloc_code` meets its contract.
 use mathlib.Core.Path.{sym, _∙_}
-use Rattle.format.specs.Test.{pick}
+use Rattle.format.specs.Prelude.{pick}
 use Rattle.prologue.specs.Pieces.{pieceOf}
 use Rattle.prologue.proofs.Distances.{difference-fits, difference-is}
 use borrow.Author.Needs.{needs}

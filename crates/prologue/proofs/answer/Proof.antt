@@ -1,5 +1,5 @@
 -- `prologue::answer` meets its contract.
-use Rattle.format.specs.Test.{pick}
+use Rattle.format.specs.Prelude.{pick}
 use borrow.Author.Tests.{eq-eqb, ne-eqb}
 use Rattle.prologue.specs.Groups.{numberOf}
 use Rattle.prologue.proofs.answer.Statement.{statement}

@@ -1,5 +1,5 @@
 -- `prologue::counted` meets its contract.
-use Rattle.format.specs.Test.{pick}
+use Rattle.format.specs.Prelude.{pick}
 use Rattle.prologue.specs.Groups.{counted}
 use borrow.Author.Tests.{eq-eqb, ne-eqb}
 use Rattle.prologue.proofs.counted.Statement.{statement}

@@ -5,7 +5,7 @@ use Rattle.format.specs.Rows.{offsetOf}
 use Rattle.rows.proofs.Signs.{passed}
 use Rattle.prologue.specs.Pieces.{pieceOf}
 use Rattle.prologue.proofs.Distances.{short-passed}
-use Rattle.prologue.proofs.Rows.{line-short}
+use Rattle.prologue.proofs.Rows.{row-at-short}
 use Rattle.prologue.proofs.Pieced.{set-piece, early-piece, alloc-piece, slot-piece, no-piece}
 use Rattle.prologue.proofs.Arms.{high-kind}
 use Rattle.prologue.proofs.piece_at.Statement.{statement}
@@ -32,7 +32,7 @@ alloc-code-requires c κs =
     let s = c .before .before .before .before .before .before in
     let r = c .before .r .given in
     let e = passed (r .0 .0) (omega (arith, c .known-told .given)) in
-    let h = line-short _ (s .args .i) (s .pre .1 .ok (s .args .i) (s .pre .2) (s .pre .3)) in
+    let h = row-at-short _ (s .args .i) (s .pre .1 .ok (s .args .i) (s .pre .2) (s .pre .3)) in
     (search needs, search needs, search needs, rw e (rw (← c .before .before .before .row-at .ensures, r .1) at h))
 
 enum-told-2 : tie.Need-enum-told-2
@@ -53,7 +53,7 @@ slot-code-requires c κs =
     let s = c .before .before .before .before .before .before in
     let r = c .before .r2 .given in
     let e = passed (r .0 .1 .0) (omega (arith, c .known-told2 .given)) in
-    let h = line-short _ (s .args .i) (s .pre .1 .ok (s .args .i) (s .pre .2) (s .pre .3)) in
+    let h = row-at-short _ (s .args .i) (s .pre .1 .ok (s .args .i) (s .pre .2) (s .pre .3)) in
     (search needs, search needs, search needs, rw e (rw (← c .before .before .before .row-at .ensures, r .1) at h))
 
 returns : tie.Need-returns

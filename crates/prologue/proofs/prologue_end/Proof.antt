@@ -1,6 +1,6 @@
 -- `prologue::prologue_end` meets its contract.
 use mathlib.Core.Path.{sym, _∙_}
-use Rattle.format.specs.Lists.{lineAt}
+use Rattle.format.specs.Lists.{rowAt}
 use Rattle.format.proofs.Choice.{if-le, if-gt}
 use Rattle.prologue.specs.Pieces.{endIn}
 use borrow.Author.Needs.{needs}
@@ -18,7 +18,7 @@ offset-at-requires : tie.Need-offset-at-requires
 offset-at-requires c κs = search needs
 
 returns-2 : tie.Need-returns-2
-unfolding endIn lineAt
+unfolding endIn rowAt
 returns-2 c = let s = c .before .before .before in c .offset-at .ensures ∙ sym (if-gt (s .args .end) (s .args .at) 0 _ (c .before .if1 .left))
 
 pub prologue-end-spec : {M : Type 1} → statement M

@@ -3,7 +3,7 @@ use mathlib.Core.Path.{sym, _∙_}
 use native.Mathlib.Omega.{arith}
 use native.Mathlib.Numerals.{add-one}
 use Rattle.prologue.proofs.Neighbours.{joined-above}
-use Rattle.prologue.proofs.Rows.{line-short}
+use Rattle.prologue.proofs.Rows.{row-at-short}
 use Rattle.prologue.proofs.Walked.{at-push, at-lone}
 use borrow.Author.Needs.{needs}
 use Rattle.prologue.proofs.read_last.Statement.{statement}
@@ -28,7 +28,7 @@ push-rows-requires : tie.Need-push-rows-requires
 push-rows-requires c κs =
     let s = c .before .before .before .before .before in
     let l = joined-above _ (s .args .at) (s .args .i) (sym (c .before .before .joined .ensures) ∙ c .before .if1 .taken) in
-    (s .pre .0, s .pre .1, rw (c .row-at2 .ensures) (line-short _ _ (s .pre .2 .ok _ (omega arith) (omega arith))), s .pre .5)
+    (s .pre .0, s .pre .1, rw (c .row-at2 .ensures) (row-at-short _ _ (s .pre .2 .ok _ (omega arith) (omega arith))), s .pre .5)
 
 returns : tie.Need-returns
 returns c =

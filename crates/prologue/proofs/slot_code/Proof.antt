@@ -1,6 +1,6 @@
 -- `prologue::slot_code` meets its contract.
 use mathlib.Core.Path.{sym, _∙_}
-use Rattle.format.specs.Test.{pick}
+use Rattle.format.specs.Prelude.{pick}
 use Rattle.prologue.proofs.Distances.{sum-fits, sum-is}
 use borrow.Author.Needs.{needs}
 use Rattle.prologue.proofs.slot_code.Statement.{statement}

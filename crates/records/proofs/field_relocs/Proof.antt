@@ -1,5 +1,5 @@
 -- `records::field_relocs` meets its contract.
-use Rattle.format.specs.Test.{pick}
+use Rattle.format.specs.Prelude.{pick}
 use Rattle.records.specs.Fields.{fieldRelocs}
 use borrow.Author.Needs.{needs}
 use Rattle.records.proofs.field_relocs.Statement.{statement}

@@ -1,6 +1,6 @@
 -- `records::field_relocs_count` meets its contract.
 use native.Mathlib.Omega.{arith}
-use Rattle.format.specs.Test.{pick}
+use Rattle.format.specs.Prelude.{pick}
 use Rattle.records.specs.Fields.{fieldRelocs}
 use Rattle.records.proofs.FieldRelocs.{debug-count, eh-count}
 use borrow.Author.Needs.{needs}

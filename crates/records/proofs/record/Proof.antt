@@ -33,14 +33,14 @@ fields-requires c κs = (
       search needs,
 )
 
-add-lines : tie.Need-add-lines
-add-lines c = omega (arith, c .before .before .before .before .before .before .before .before .before .before .before .before .before .pre .0 .ready .inside, c .before .before .before .before .before .before .before .before .before .before .ahead .ensures .1, c .before .before .before .before .before .before .before .before .before .before .before .before .before .good)
+add-stepped-rows : tie.Need-add-stepped-rows
+add-stepped-rows c = omega (arith, c .before .before .before .before .before .before .before .before .before .before .before .before .before .pre .0 .ready .inside, c .before .before .before .before .before .before .before .before .before .before .ahead .ensures .1, c .before .before .before .before .before .before .before .before .before .before .before .before .before .good)
 
-sub-lines : tie.Need-sub-lines
-sub-lines c = omega (arith, c .before .before .before .before .before .before .before .before .before .before .before .ahead .ensures .1)
+sub-stepped-rows : tie.Need-sub-stepped-rows
+sub-stepped-rows c = omega (arith, c .before .before .before .before .before .before .before .before .before .before .before .ahead .ensures .1)
 
-lines-requires : tie.Need-lines-requires
-lines-requires c κs = (
+stepped-rows-requires : tie.Need-stepped-rows-requires
+stepped-rows-requires c κs = (
   others-ready (c .before .before .before .before .before .before .before .before .before .before .before .before .before .before .args .e) (c .before .before .before .before .before .before .before .before .before .before .before .before .before .before .args .rows .now) (c .before .before .before .before .before .before .before .before .before .before .before .ahead .ensures) (c .before .before .before .before .before .before .before .before .before .before .before .before .before .before .pre .0),
   let h = rw (record-long (c .before .before .before .before .before .before .before .before .before .before .before .before .before .before .args .debug) (c .before .before .before .before .before .before .before .before .before .before .before .before .before .before .args .m) (c .before .before .before .before .before .before .before .before .before .before .before .before .before .before .args .align) (c .before .before .before .before .before .before .before .before .before .before .before .before .before .before .args .at) (c .before .before .before .before .before .before .before .before .before .before .before .before .before .before .args .cie) (c .before .before .before .before .before .before .before .before .before .before .before .before .before .before .args .e) (c .before .before .before .before .before .before .before .before .before .before .before .before .before .before .args .rows .now) (c .before .before .before .before .before .before .before .before .before .before .before .ahead .ensures)) at (c .before .before .before .before .before .before .before .before .before .before .before .before .before .before .pre .3) in
       let f = fields-length (c .before .before .before .before .before .before .before .before .before .before .before .before .before .before .args .debug) (c .before .before .before .before .before .before .before .before .before .before .before .before .before .before .args .m .word) (c .before .before .before .before .before .before .before .before .before .before .before .before .before .before .args .at + 4 - c .before .before .before .before .before .before .before .before .before .before .before .before .before .before .args .cie) (c .before .before .before .before .before .before .before .before .before .before .before .before .before .before .args .e) in
@@ -51,7 +51,7 @@ lines-requires c κs = (
 pad-requires : tie.Need-pad-requires
 pad-requires c κs =
     let room = rw (record-bytes (c .before .before .before .before .before .before .before .before .before .before .before .before .before .before .before .before .before .before .args .debug) (c .before .before .before .before .before .before .before .before .before .before .before .before .before .before .before .before .before .before .args .m) (c .before .before .before .before .before .before .before .before .before .before .before .before .before .before .before .before .before .before .args .align) (c .before .before .before .before .before .before .before .before .before .before .before .before .before .before .before .before .before .before .args .at) (c .before .before .before .before .before .before .before .before .before .before .before .before .before .before .before .before .before .before .args .cie) (c .before .before .before .before .before .before .before .before .before .before .before .before .before .before .before .before .before .before .args .e) (c .before .before .before .before .before .before .before .before .before .before .before .before .before .before .before .before .before .before .args .rows .now) (c .before .before .before .before .before .before .before .before .before .before .before .before .before .before .before .ahead .ensures)) at (c .before .before .before .before .before .before .before .before .before .before .before .before .before .before .before .before .before .before .pre .3) in
-    let fits = closes (c .before .before .before .before .before .before .before .before .before .before .before .before .before .before .before .before .before .before .args .align) _ (c .before .before .before .before .before .before .before .before .before .before .before .before .before .le .ensures then c .before .before .before .before .before .before .before .before .before .fields .ensures then c .before .before .before .lines .ensures) room in
+    let fits = closes (c .before .before .before .before .before .before .before .before .before .before .before .before .before .before .before .before .before .before .args .align) _ (c .before .before .before .before .before .before .before .before .before .before .before .before .before .le .ensures then c .before .before .before .before .before .before .before .before .before .fields .ensures then c .before .before .before .stepped-rows .ensures) room in
     (c .before .before .before .before .before .before .before .before .before .before .before .before .before .before .before .before .before .before .pre .1, fits .0, fits .1)
 
 same-length : tie.Need-same-length
@@ -60,7 +60,7 @@ same-length c = search needs
 returns : tie.Need-returns
 returns c =
     rw (record-bytes (c .before .before .before .before .before .before .before .before .before .before .before .before .before .before .before .before .before .before .before .before .before .args .debug) (c .before .before .before .before .before .before .before .before .before .before .before .before .before .before .before .before .before .before .before .before .before .args .m) (c .before .before .before .before .before .before .before .before .before .before .before .before .before .before .before .before .before .before .before .before .before .args .align) (c .before .before .before .before .before .before .before .before .before .before .before .before .before .before .before .before .before .before .before .before .before .args .at) (c .before .before .before .before .before .before .before .before .before .before .before .before .before .before .before .before .before .before .before .before .before .args .cie) (c .before .before .before .before .before .before .before .before .before .before .before .before .before .before .before .before .before .before .before .before .before .args .e) (c .before .before .before .before .before .before .before .before .before .before .before .before .before .before .before .before .before .before .before .before .before .args .rows .now) (c .before .before .before .before .before .before .before .before .before .before .before .before .before .before .before .before .before .before .ahead .ensures))
-    (closed (c .before .before .before .before .before .before .before .before .before .before .before .before .before .before .before .before .before .before .before .before .before .args .align) _ (c .before .before .before .before .before .before .before .before .before .before .before .before .before .before .before .before .le .ensures then c .before .before .before .before .before .before .before .before .before .before .before .before .fields .ensures then c .before .before .before .before .before .before .lines .ensures) (c .before .before .pad .ensures))
+    (closed (c .before .before .before .before .before .before .before .before .before .before .before .before .before .before .before .before .before .before .before .before .before .args .align) _ (c .before .before .before .before .before .before .before .before .before .before .before .before .before .before .before .before .le .ensures then c .before .before .before .before .before .before .before .before .before .before .before .before .fields .ensures then c .before .before .before .before .before .before .stepped-rows .ensures) (c .before .before .pad .ensures))
 
 pub record-spec : {M : Type 1} → statement M
 record-spec =
@@ -71,9 +71,9 @@ record-spec =
     add-fields
     sub-fields
     fields-requires
-    add-lines
-    sub-lines
-    lines-requires
+    add-stepped-rows
+    sub-stepped-rows
+    stepped-rows-requires
     pad-requires
     same-length
     returns)

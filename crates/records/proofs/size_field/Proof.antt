@@ -1,5 +1,5 @@
 -- `records::size_field` meets its contract.
-use Rattle.format.specs.Test.{pick}
+use Rattle.format.specs.Prelude.{pick}
 use Rattle.records.specs.Fields.{sizeIn}
 use Rattle.records.proofs.size_field.Statement.{statement}
 use Rattle.records.proofs.size_field.Tie as tie

@@ -1,7 +1,7 @@
 -- `records::step_relocs` meets its contract.
 use native.Mathlib.Omega.{arith}
 use Prim.Native.Nat.{_-_}
-use Rattle.records.proofs.RowLoops.{offset-of, line-ready}
+use Rattle.records.proofs.RowLoops.{offset-of, row-at-ready}
 use Rattle.records.proofs.StepLoops.{Relocating, start, room, turn, ended}
 use borrow.Author.Needs.{needs}
 use Rattle.records.proofs.step_relocs.Statement.{statement}
@@ -20,21 +20,21 @@ loop-holds : tie.Need-loop-holds Inv-loop μ-loop
 loop-holds c = start (c .before .before .before .pre .0) (c .before .before .before .pre .3)
 
 offset-at-requires : tie.Need-offset-at-requires Inv-loop μ-loop
-offset-at-requires c κs = line-ready (c .before .before .before .before .before .pre .0) (c .before .loop .inv .going) (c .loop-test .taken) .inside
+offset-at-requires c κs = row-at-ready (c .before .before .before .before .before .pre .0) (c .before .loop .inv .going) (c .loop-test .taken) .inside
 
 step-pair-requires : tie.Need-step-pair-requires Inv-loop μ-loop
 step-pair-requires c κs = (
   c .before .before .before .before .before .before .before .pre .1,
   omega (arith, c .before .before .before .loop .inv .near, c .before .before .before .before .before .before .before .pre .2, c .before .before .before .before .before .before .before .pre .0 .few, c .before .before .before .loop .inv .going .low, c .before .before .loop-test .taken),
-  omega (arith, line-ready (c .before .before .before .before .before .before .before .pre .0) (c .before .before .before .loop .inv .going) (c .before .before .loop-test .taken) .forward, offset-of (c .before .before .before .before .before .before .before .args .rows .now) (c .before .before .before .loop .k), c .before .offset-at .ensures),
+  omega (arith, row-at-ready (c .before .before .before .before .before .before .before .pre .0) (c .before .before .before .loop .inv .going) (c .before .before .loop-test .taken) .forward, offset-of (c .before .before .before .before .before .before .before .args .rows .now) (c .before .before .before .loop .k), c .before .offset-at .ensures),
   room (c .before .before .before .loop .inv) (c .before .before .loop-test .taken) (c .before .offset-at .ensures),
 )
 
-line-size-requires : tie.Need-line-size-requires Inv-loop μ-loop
-line-size-requires c κs = line-ready (c .before .before .before .before .before .before .before .before .before .before .pre .0) (c .before .before .before .before .before .before .loop .inv .going) (c .before .before .before .before .before .loop-test .taken)
+stepped-row-size-requires : tie.Need-stepped-row-size-requires Inv-loop μ-loop
+stepped-row-size-requires c κs = row-at-ready (c .before .before .before .before .before .before .before .before .before .before .pre .0) (c .before .before .before .before .before .before .loop .inv .going) (c .before .before .before .before .before .loop-test .taken)
 
 add-p : tie.Need-add-p Inv-loop μ-loop
-add-p c = omega (arith, c .before .before .before .before .before .before .before .loop .inv .near, c .before .before .before .before .before .before .before .before .before .before .before .pre .2, c .before .before .before .before .before .before .before .before .before .before .before .pre .0 .few, c .before .before .before .before .before .before .before .loop .inv .going .low, c .before .before .before .before .before .before .loop-test .taken, c .line-size .ensures .1)
+add-p c = omega (arith, c .before .before .before .before .before .before .before .loop .inv .near, c .before .before .before .before .before .before .before .before .before .before .before .pre .2, c .before .before .before .before .before .before .before .before .before .before .before .pre .0 .few, c .before .before .before .before .before .before .before .loop .inv .going .low, c .before .before .before .before .before .before .loop-test .taken, c .stepped-row-size .ensures .1)
 
 add-k : tie.Need-add-k Inv-loop μ-loop
 add-k c = search needs
@@ -43,7 +43,7 @@ loop-less : tie.Need-loop-less Inv-loop μ-loop
 loop-less c = search needs
 
 loop-again : tie.Need-loop-again Inv-loop μ-loop
-loop-again c = turn (c .before .before .before .before .before .before .before .loop .inv) (c .before .before .before .before .before .before .loop-test .taken) (c .before .before .before .before .before .offset-at .ensures) (c .before .before .before .before .before .before .before .before .before .before .before .pre .0) (c .before .before .before .step-pair .ensures) (c .line-size .ensures .0)
+loop-again c = turn (c .before .before .before .before .before .before .before .loop .inv) (c .before .before .before .before .before .before .loop-test .taken) (c .before .before .before .before .before .offset-at .ensures) (c .before .before .before .before .before .before .before .before .before .before .before .pre .0) (c .before .before .before .step-pair .ensures) (c .stepped-row-size .ensures .0)
 
 same-length : tie.Need-same-length Inv-loop μ-loop
 same-length c = search needs
@@ -61,7 +61,7 @@ step-relocs-spec =
     loop-holds
     offset-at-requires
     step-pair-requires
-    line-size-requires
+    stepped-row-size-requires
     add-p
     add-k
     loop-less

@@ -1,6 +1,6 @@
 -- `records::sum_count` meets its contract.
 use native.Mathlib.Omega.{arith}
-use Rattle.format.specs.Test.{pick}
+use Rattle.format.specs.Prelude.{pick}
 use Rattle.records.specs.Fields.{sumIn}
 use Rattle.records.proofs.sum_count.Statement.{statement}
 use Rattle.records.proofs.sum_count.Tie as tie

@@ -1,6 +1,6 @@
 -- `records::sum_pair` meets its contract.
 use borrow.Author.Tests.{not-true, not-false}
-use Rattle.format.specs.Test.{pick}
+use Rattle.format.specs.Prelude.{pick}
 use Rattle.format.specs.Lists.{numbersOf}
 use Rattle.format.proofs.PutLaws.{_then_, idle}
 use Rattle.records.specs.Fields.{sumIn}

@@ -2,7 +2,7 @@
 use mathlib.Core.Path.{sym}
 use borrow.Author.Tests.{ne-eqb}
 use borrow.Author.Needs.{needs}
-use Rattle.format.specs.Test.{pick}
+use Rattle.format.specs.Prelude.{pick}
 use Rattle.format.specs.Rows.{readExtended}
 use Rattle.format.specs.Positions.{decodedFrom}
 use Rattle.format.specs.declared.Row.the-variants.{RememberState, RestoreState, NegateRaState}

@@ -1,7 +1,7 @@
 -- `rows::offsets` meets its contract.
 use native.Mathlib.Omega.{arith}
 use borrow.Author.Tests.{ne-eqb}
-use Rattle.format.specs.Test.{pick}
+use Rattle.format.specs.Prelude.{pick}
 use Rattle.format.specs.Lists.{hasOffset}
 use Rattle.rows.proofs.offsets.Statement.{statement}
 use Rattle.rows.proofs.offsets.Tie as tie

@@ -1,7 +1,7 @@
 -- `rows::registers` meets its contract.
 use native.Mathlib.Omega.{arith}
 use borrow.Author.Tests.{ne-eqb}
-use Rattle.format.specs.Test.{pick}
+use Rattle.format.specs.Prelude.{pick}
 use Rattle.format.specs.Lists.{hasRegister}
 use Rattle.rows.proofs.registers.Statement.{statement}
 use Rattle.rows.proofs.registers.Tie as tie

@@ -1,6 +1,6 @@
 -- `rows::row_at` meets its contract.
 use borrow.Author.Needs.{needs}
-use Rattle.format.specs.Lists.{rowOkAt, lineAt}
+use Rattle.format.specs.Lists.{rowOkAt, rowAt}
 use Rattle.rows.proofs.row_at.Statement.{statement}
 use Rattle.rows.proofs.row_at.Tie as tie
 
@@ -45,7 +45,7 @@ unfolding rowOkAt
 row-of-requires c κs = c .before .before .before .before .pre .1
 
 returns : tie.Need-returns
-unfolding lineAt
+unfolding rowAt
 returns c = c .row-of .ensures
 
 pub row-at-spec : {M : Type 1} → statement M

@@ -1,6 +1,6 @@
 -- `rows::row_of` meets its contract.
 use borrow.Author.Tests.{ne-eqb}
-use Rattle.format.specs.Test.{pick}
+use Rattle.format.specs.Prelude.{pick}
 use Rattle.format.specs.Lists.{rowOf}
 use Rattle.rows.proofs.Signs.{passed}
 use Rattle.rows.proofs.Lists.{row-small}

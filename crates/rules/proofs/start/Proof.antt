@@ -1,7 +1,7 @@
 -- `rules::start` meets its contract.
 use mathlib.Core.Path.{refl}
 use native.Mathlib.Omega.{arith}
-use Rattle.format.specs.Test.{pick}
+use Rattle.format.specs.Prelude.{pick}
 use Rattle.format.specs.RowCheck.{rowCheck}
 use Rattle.rules.specs.Orders.{openOf, leadersOk, follow}
 use Rattle.rules.proofs.start.Statement.{statement}

@@ -1,4 +1,4 @@
--- The walk of `put_lines`, for functions: a function has 112 bytes and 18 numbers.
+-- The walk of `put_rows`, for functions: a function has 112 bytes and 18 numbers.
 -- `structs::put_functions` meets its contract: a walk of its MIR, by hand, with a loop. The invariant at i: the first i structs are stored.
 -- A turn copies struct i out of the list, and lends the numbers to `put_function` for a lifetime of the call. All that is known of `put_function` is that it meets its contract. Assumes nothing.
 use mathlib.Core.Path.{_≡_, refl, sym, ap, subst, _∙_}

@@ -1,4 +1,4 @@
--- The walk of `put_lines`, for landings: a landing has 24 bytes and 3 numbers.
+-- The walk of `put_rows`, for landings: a landing has 24 bytes and 3 numbers.
 -- `structs::put_landings` meets its contract: a walk of its MIR, by hand, with a loop. The invariant at i: the first i structs are stored.
 -- A turn copies struct i out of the list, and lends the numbers to `put_landing` for a lifetime of the call. All that is known of `put_landing` is that it meets its contract. Assumes nothing.
 use mathlib.Core.Path.{_≡_, refl, sym, ap, subst, _∙_}

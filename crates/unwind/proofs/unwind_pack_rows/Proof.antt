@@ -1,4 +1,4 @@
--- `unwind::unwind_pack_rows` meets its contract: a walk of its MIR, by hand, with a test and two calls. Where the test of room fails nothing is stored; else the numbers are lent to `put_lines`.
+-- `unwind::unwind_pack_rows` meets its contract: a walk of its MIR, by hand, with a test and two calls. Where the test of room fails nothing is stored; else the numbers are lent to `put_rows`.
 -- All that is known of the two callees is that they meet their contracts. Assumes nothing.
 use mathlib.Core.Path.{_≡_, refl, ap}
 use Prim.Native.Nat.{ℕ, _*_, _<_, _^_}
@@ -39,23 +39,23 @@ use denote.Triple.Clauses.{ensured, lasts}
 use denote.Triple.Table.{entered, cited}
 use denote.Triple.Walked.{says, Stays, stay-none-slice, stay-slice, walkOf, goes-none-slice, goes-slice, Walks, ends-at, walked, walk-meets}
 use denote.Exit.{yes}
-use Rattle.structs.specs.Structs.{lineNumbers, numbersOf}
+use Rattle.structs.specs.Structs.{rowNumbers, numbersOf}
 use Rattle.structs.specs.Packed.{storedAll, Packs}
-use Rattle.structs.specs.declared.Line.{Line}
-use Rattle.structs.proofs.Line as T
-use Rattle.structs.proofs.Line.Laws as T′
+use Rattle.structs.specs.declared.RowAt.{RowAt}
+use Rattle.structs.proofs.RowAt as T
+use Rattle.structs.proofs.RowAt.Laws as T′
 use Rattle.structs.proofs.Stored.{refused, accepted}
-use Rattle.structs.proofs.Strides.{line-stride}
+use Rattle.structs.proofs.Strides.{row-stride}
 use Rattle.structs.proofs.Lending.{Kept, lends, comes-home}
 use Rattle.structs.proofs.Walking.{word, listTy, numbersTy, lentRef, front}
 use Rattle.structs.proofs.fits as fits
 use Rattle.structs.proofs.fits.Symbol as fits-def
 use Rattle.structs.proofs.fits.Symbol.{name as #structs·fits}
 use Rattle.structs.proofs.fits.Met as fits-thm
-use Rattle.structs.proofs.put_lines as put
-use Rattle.structs.proofs.put_lines.Symbol as put-def
-use Rattle.structs.proofs.put_lines.Symbol.{name as #structs·put-lines}
-use Rattle.structs.proofs.put_lines.Met as put-thm
+use Rattle.structs.proofs.put_rows as put
+use Rattle.structs.proofs.put_rows.Symbol as put-def
+use Rattle.structs.proofs.put_rows.Symbol.{name as #structs·put-rows}
+use Rattle.structs.proofs.put_rows.Met as put-thm
 use Rattle.unwind.proofs.unwind_pack_rows.Key.{name as #unwind·unwind-pack-rows}
 use Rattle.unwind.proofs.unwind_pack_rows as this
 use Rattle.unwind.proofs.unwind_pack_rows.Statement as stated
@@ -73,11 +73,11 @@ module _ {M : Type 1} (𝓤 : URA M) (H : Heap 𝓤) (A : Atoms 𝓤) (mem : Mem
   abbrev Put : Contract 𝓤
   Put = tripleOf 𝓤 H A put.signature (put.spec 𝓤 H A mem run)
 
-module _ {M : Type 1} (𝓤 : URA M) (H : Heap 𝓤) (A : Atoms 𝓤) (W : Given 𝓤 H A) (mem : Memory → SProp 𝓤) (run : Routine → Fun 𝓤) (κ κ′ : Lft) (q q′ : Share) (x₁ : RefT (List Line)) (b o : ℕ) (γ : GName) (xs : List ℕ) where
+module _ {M : Type 1} (𝓤 : URA M) (H : Heap 𝓤) (A : Atoms 𝓤) (W : Given 𝓤 H A) (mem : Memory → SProp 𝓤) (run : Routine → Fun 𝓤) (κ κ′ : Lft) (q q′ : Share) (x₁ : RefT (List RowAt)) (b o : ℕ) (γ : GName) (xs : List ℕ) where
   abbrev κs : Lft × (Lft × Unit {0})
   κs = (κ, (κ′, tt))
 
-  abbrev ys : List Line
+  abbrev ys : List RowAt
   ys = x₁ .now
 
   abbrev n : ℕ
@@ -90,7 +90,7 @@ module _ {M : Type 1} (𝓤 : URA M) (H : Heap 𝓤) (A : Atoms 𝓤) (W : Given
   abbrev x₂ : GName → List ℕ → RefT (List ℕ)
   x₂ δ l = record { ptr = (b, o); name = δ; now = l }
 
-  abbrev a : RefT (List Line) × (RefT (List ℕ) × Unit {0})
+  abbrev a : RefT (List RowAt) × (RefT (List ℕ) × Unit {0})
   a = (x₁, (x₂ γ xs, tt))
 
   abbrev s₁ : Val
@@ -130,7 +130,7 @@ module _ {M : Type 1} (𝓤 : URA M) (H : Heap 𝓤) (A : Atoms 𝓤) (W : Given
       qed W [] ∵ nothing ! $ nothing ! $ owned ! usize (Is usize) (uint-makes 𝓤 H A W w64) m _ (refl, m-fits) $ fjoin ! $ owned ! usize (Is usize) (uint-makes 𝓤 H A W w64) 4 _ (refl, lit< tt) $ fjoin ! $
       owned ! usize (Is usize) (uint-makes 𝓤 H A W w64) n _ (refl, n-fits) $ fjoin ! $ move ! (1 ∷ 0 ∷ []) $ join ! $ frame ! $ done !
 
-  abbrev handed : GName → RefT (List Line) × (RefT (List ℕ) × (ℕ × Unit {0}))
+  abbrev handed : GName → RefT (List RowAt) × (RefT (List ℕ) × (ℕ × Unit {0}))
   handed δ = (x₁, (x₂ δ xs, (0, tt)))
 
   abbrev to-put : ℕ → GName → Put 𝓤 H A mem run .Ghost
@@ -141,7 +141,7 @@ module _ {M : Type 1} (𝓤 : URA M) (H : Heap 𝓤) (A : Atoms 𝓤) (W : Given
       qed W (‵ (flft (ν ∷ []) fullShare) ∷ ‵ (Lent ν δ) ∷ ‵ (flft κ q) ∷ ‵ OwnList ∷ []) ∵ nothing ! $ move ! (1 ∷ 0 ∷ []) $ join ! $ move ! (2 ∷ 0 ∷ []) $ join ! $
       nothing ! $ owned ! usize (Is usize) (uint-makes 𝓤 H A W w64) 0 _ (refl, lit< tt) $ fjoin ! $ move ! (2 ∷ 0 ∷ []) $ fjoin ! $ move ! (2 ∷ 0 ∷ []) $ fjoin ! $ move ! (1 ∷ 0 ∷ []) $ join ! $ frame ! $ done !
 
-  exits : (r : ℕ) (l : List ℕ) → r < 2 ^ 64 → length l ≡ m → Packs (numbersOf lineNumbers ys) xs l r
+  exits : (r : ℕ) (l : List ℕ) → r < 2 ^ 64 → length l ≡ m → Packs (numbersOf rowNumbers ys) xs l r
       → ent 𝓤 (⋆ 𝓤 H A (‵ (flft κ q) ∷ ‵ (flft κ′ q′) ∷ ‵ OwnList ∷ ‵ (OwnNumbers l) ∷ [])) (Post (vint w64 r))
   exits r l r-fits long packs =
       qed W (‵ (flft κ q) ∷ ‵ (flft κ′ q′) ∷ ‵ OwnList ∷ ‵ (OwnNumbers l) ∷ []) ∵
@@ -149,7 +149,7 @@ module _ {M : Type 1} (𝓤 : URA M) (H : Heap 𝓤) (A : Atoms 𝓤) (W : Given
       nothing ! $ move ! (2 ∷ 0 ∷ []) $ join ! $ move ! (1 ∷ 0 ∷ []) $ join ! $
       nothing ! $ move ! (3 ∷ 0 ∷ []) $ fjoin ! $ move ! (2 ∷ 0 ∷ []) $ fjoin ! $ move ! (1 ∷ 0 ∷ []) $ frame ! $ frame ! $ owned ! u64 (Is u64) (uint-makes 𝓤 H A W w64) r _ (refl, r-fits) $ done !
 
-  module _ (𝓣 : Tables 𝓤 H) (known-fits : Triple 𝓤 (𝓣 .C #structs·fits) (Fits 𝓤 H A mem run)) (known-put : Triple 𝓤 (𝓣 .C #structs·put-lines) (Put 𝓤 H A mem run)) (room₁ : Room T.the-row n) (room₂ : Room u64 m) (l₀ l₁ l₂ l₃ l₄ l₅ l₆ l₇ l₈ l₉ : ℕ) where
+  module _ (𝓣 : Tables 𝓤 H) (known-fits : Triple 𝓤 (𝓣 .C #structs·fits) (Fits 𝓤 H A mem run)) (known-put : Triple 𝓤 (𝓣 .C #structs·put-rows) (Put 𝓤 H A mem run)) (room₁ : Room T.the-row n) (room₂ : Room u64 m) (l₀ l₁ l₂ l₃ l₄ l₅ l₆ l₇ l₈ l₉ : ℕ) where
     abbrev C : Calls 𝓤 H
     C = 𝓣 .C
 
@@ -179,8 +179,8 @@ module _ {M : Type 1} (𝓤 : URA M) (H : Heap 𝓤) (A : Atoms 𝓤) (W : Given
         -- [what the callee asks; what is kept; the list; the locals from 3 on]
         calls-at ! (fmOf 𝓤 H (W .laws) 𝓣) (Put 𝓤 H A mem run) known-put (to-put ν δ) (and-then ! (load ! (from ! (stop !)) (look ! 19 refl)) (and-then ! (load ! (from ! (stop !)) (look ! 3 refl)) (and-then ! (lit ! tt) (no-more !)))) (λ w.
         use1 W (later (some (λ (r : Unit {0}). ((‵ (flft κ q) ⊛ ‵ (flft (ν ∷ []) fullShare) ⊛ ‵ ftrue) ⊛ ‵ (unit .own r (w ∷ []))) ⊛ raw (ensured 𝓤 H A put.ended (put.clauses 𝓤 H A mem run) (κ, (ν ∷ [], tt)) (handed δ) tt r)))) (id⊢ 𝓤 _) $ await ! tt $ pick ! (λ r.
-        split ! $ move ! (1 ∷ []) $ use1 W (some (λ (ws : Unit {0} × (List ℕ × (Unit {0} × Unit {0}))). ‵ (lasts put.ended (κ, (ν ∷ [], tt)) (handed δ) ws) ⊛ raw (fact 𝓤 (ws .1 .0 ≡ storedAll lineNumbers xs 0 ys)))) (id⊢ 𝓤 _) $ pick ! (λ ws.
-        split ! $ move ! (1 ∷ []) $ heard ! (ws .1 .0 ≡ storedAll lineNumbers xs 0 ys) (λ e. fsplit ! $ drop ! $ fsplit ! $ fsplit ! $ move ! (1 ∷ []) $ feqL ! (λ l.
+        split ! $ move ! (1 ∷ []) $ use1 W (some (λ (ws : Unit {0} × (List ℕ × (Unit {0} × Unit {0}))). ‵ (lasts put.ended (κ, (ν ∷ [], tt)) (handed δ) ws) ⊛ raw (fact 𝓤 (ws .1 .0 ≡ storedAll rowNumbers xs 0 ys)))) (id⊢ 𝓤 _) $ pick ! (λ ws.
+        split ! $ move ! (1 ∷ []) $ heard ! (ws .1 .0 ≡ storedAll rowNumbers xs 0 ys) (λ e. fsplit ! $ drop ! $ fsplit ! $ fsplit ! $ move ! (1 ∷ []) $ feqL ! (λ l.
         -- [the last list; true; the tokens and the result; what is kept; the list; the locals from 5 on]
         move ! (2 ∷ []) $ split ! $ move ! (1 ∷ []) $ peeks ! unit (Is unit) (shows 𝓤 H A unit) r (w ∷ []) (λ is.
         land ! (from ! (stop !)) (init ! 10 refl (nothing-lawful 𝓤 H A W .typed r _ is .0)) $
@@ -191,10 +191,10 @@ module _ {M : Type 1} (𝓤 : URA M) (H : Heap 𝓤) (A : Atoms 𝓤) (W : Given
         assigns ! (of-opd ! (lit ! tt)) (from ! (stop !)) (init ! 25 refl (tt, record { fits = lit< tt })) $
         returns ! (look ! 25 refl) $ forget ! 7 refl $ forget ! 9 refl $ forget ! 11 refl $ forget ! 13 refl $ forget ! 15 refl $ forget ! 17 refl $ forget ! 19 refl $ forget ! 21 refl $ forget ! 23 refl $ forget ! 25 refl $
         move ! (25 ∷ 26 ∷ []) $ free1 ! $ move ! (23 ∷ 24 ∷ []) $ free1 ! $ move ! (21 ∷ 22 ∷ []) $ free1 ! $ move ! (19 ∷ 20 ∷ []) $ free1 ! $ move ! (17 ∷ 18 ∷ []) $ free1 ! $ move ! (15 ∷ 16 ∷ []) $ free1 ! $ move ! (13 ∷ 14 ∷ []) $ free1 ! $ move ! (11 ∷ 12 ∷ []) $ free1 ! $ move ! (9 ∷ 10 ∷ []) $ free1 ! $ move ! (7 ∷ 8 ∷ []) $ free1 ! $ free0 ! $
-        keep ! (3 ∷ 1 ∷ 6 ∷ 0 ∷ []) $ by ! (exits 0 (ws .1 .0) (lit< tt) l (accepted lineNumbers line-stride ys xs t said held e))))))))))
+        keep ! (3 ∷ 1 ∷ 6 ∷ 0 ∷ []) $ by ! (exits 0 (ws .1 .0) (lit< tt) l (accepted rowNumbers row-stride ys xs t said held e))))))))))
 
     refuses : (t : Bool) → t ≡ leb (4 * n) m → T (not t) → ent 𝓤 (⋆ 𝓤 H A (‵ (flft κ q) ∷ ‵ (flft κ′ q′) ∷ ‵ OwnList ∷ ‵ (OwnNumbers xs) ∷ [])) (Post (vint w64 54))
-    refuses t said held = exits 54 xs (lit< tt) refl (refused lineNumbers line-stride ys xs t said held)
+    refuses t said held = exits 54 xs (lit< tt) refl (refused rowNumbers row-stride ys xs t said held)
 
     tests : (t : Bool) → t ≡ leb (4 * n) m → Sq W (At t) (runs C Λ En mir.t-5 (atRet En Post))
     tests t said =
@@ -204,7 +204,7 @@ module _ {M : Type 1} (𝓤 : URA M) (H : Heap 𝓤) (A : Atoms 𝓤) (W : Given
         move ! (18 ∷ 19 ∷ []) $ free1 ! $ move ! (16 ∷ 17 ∷ []) $ free1 ! $ move ! (14 ∷ 15 ∷ []) $ free1 ! $ move ! (12 ∷ 13 ∷ []) $ free1 ! $ move ! (10 ∷ 11 ∷ []) $ free1 ! $ move ! (8 ∷ 9 ∷ []) $ free1 ! $ move ! (6 ∷ 7 ∷ []) $ free1 ! $ move ! (4 ∷ 5 ∷ []) $ free1 ! $ move ! (2 ∷ 3 ∷ []) $ free1 ! $ free1 ! $ free0 ! $ by ! (refuses t said no))
         (λ held. skips ! $ exec ! C Λ En mir.t-6 (atRet En Post) $ stores t said held)
 
-  walk : (𝓣 : Tables 𝓤 H) → Triple 𝓤 (𝓣 .C #structs·fits) (Fits 𝓤 H A mem run) → Triple 𝓤 (𝓣 .C #structs·put-lines) (Put 𝓤 H A mem run) → Room T.the-row n → Room u64 m
+  walk : (𝓣 : Tables 𝓤 H) → Triple 𝓤 (𝓣 .C #structs·fits) (Fits 𝓤 H A mem run) → Triple 𝓤 (𝓣 .C #structs·put-rows) (Put 𝓤 H A mem run) → Room T.the-row n → Room u64 m
       → ent 𝓤 (onEntry 𝓤 H A this.signature κs (q, (q′, tt)) a at) (WpFn 𝓤 H (𝓣 .C) (𝓣 .Λ) code.function (s₁ ∷ s₂ ∷ []) Post)
   walk 𝓣 known-fits known-put room₁ room₂ =
       qed W ((‵ (flft κ q) ⊛ ‵ (flft κ′ q′) ⊛ ‵ ftrue) ∷ ‵ (owns (ShrSlice (named 0) κ T.the-row ∷ MutSlice (named 1) κ′ u64 ∷ []) a at) ∷ []) ∵ enter ! (𝓣 .C) (𝓣 .Λ) code.function (s₁ ∷ s₂ ∷ []) _ $
@@ -224,7 +224,7 @@ module _ {M : Type 1} (𝓤 : URA M) (H : Heap 𝓤) (A : Atoms 𝓤) (W : Given
       keep ! (9 ∷ 10 ∷ 11 ∷ 12 ∷ 13 ∷ 14 ∷ 15 ∷ 16 ∷ 17 ∷ 18 ∷ 19 ∷ 20 ∷ 21 ∷ 22 ∷ 23 ∷ 24 ∷ 25 ∷ 26 ∷ 27 ∷ 28 ∷ 8 ∷ 6 ∷ 5 ∷ 3 ∷ []) $
       assigns ! (un ! (load ! (from ! (stop !)) (look ! 12 refl)) tt) (from ! (stop !)) (init ! 6 refl (tt, tt)) $ tests 𝓣 known-fits known-put room₁ room₂ l₀ l₁ l₂ l₃ l₄ l₅ l₆ l₇ l₈ l₉ t said)))))))))))))))
 
-module _ {M : Type 1} (𝓤 : URA M) (H : Heap 𝓤) (A : Atoms 𝓤) (W : Given 𝓤 H A) (mem : Memory → SProp 𝓤) (run : Routine → Fun 𝓤) (𝓣 : Tables 𝓤 H) (known-fits : Triple 𝓤 (𝓣 .C #structs·fits) (Fits 𝓤 H A mem run)) (known-put : Triple 𝓤 (𝓣 .C #structs·put-lines) (Put 𝓤 H A mem run)) where
+module _ {M : Type 1} (𝓤 : URA M) (H : Heap 𝓤) (A : Atoms 𝓤) (W : Given 𝓤 H A) (mem : Memory → SProp 𝓤) (run : Routine → Fun 𝓤) (𝓣 : Tables 𝓤 H) (known-fits : Triple 𝓤 (𝓣 .C #structs·fits) (Fits 𝓤 H A mem run)) (known-put : Triple 𝓤 (𝓣 .C #structs·put-rows) (Put 𝓤 H A mem run)) where
   this-walks : Walks 𝓤 H A this.ended stayed (WpFn 𝓤 H (𝓣 .C) (𝓣 .Λ) code.function) (this.clauses 𝓤 H A mem run)
   this-walks = walked 𝓤 H A this.ended stayed (this.clauses 𝓤 H A mem run) (WpFn 𝓤 H (𝓣 .C) (𝓣 .Λ) code.function) (λ κs. (slice-vals, (slice-vals, tt))) (λ κs. (shr-slice-tells (named 0) (κs .0) T.the-row, (mut-slice-tells (named 1) (κs .1 .0) u64, tt)))
       (λ κs qs bounds a g are. via 𝓤 _ (fst∗ 𝓤 _ (emp 𝓤))
@@ -240,4 +240,4 @@ unwind-pack-rows-spec 𝓤 H 𝓜 𝓖 𝓡 =
     (tables 𝓤 H 𝓜 𝓡 code.env .C) (tables 𝓤 H 𝓜 𝓡 code.env .Λ) #unwind·unwind-pack-rows code.function (code.unfolded 𝓤 H 𝓜 𝓡)
     (this-meets 𝓤 H (𝓖 .A) (givenOf 𝓤 H 𝓜 𝓖) (𝓜 .mem) (𝓡 .run) (tablesOf 𝓤 H 𝓜 (tables 𝓤 H 𝓜 𝓡 code.env))
     (cited 𝓤 H (Fits 𝓤 H (𝓖 .A) (𝓜 .mem) (𝓡 .run)) 𝓜 𝓡 code.env #structs·fits fits-def.routine code.calls-structs·fits (fits-thm.met 𝓤 H 𝓜 𝓖 𝓡))
-    (cited 𝓤 H (Put 𝓤 H (𝓖 .A) (𝓜 .mem) (𝓡 .run)) 𝓜 𝓡 code.env #structs·put-lines put-def.routine code.calls-structs·put-lines (put-thm.met 𝓤 H 𝓜 𝓖 𝓡)))
+    (cited 𝓤 H (Put 𝓤 H (𝓖 .A) (𝓜 .mem) (𝓡 .run)) 𝓜 𝓡 code.env #structs·put-rows put-def.routine code.calls-structs·put-rows (put-thm.met 𝓤 H 𝓜 𝓖 𝓡)))

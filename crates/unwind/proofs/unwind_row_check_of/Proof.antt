@@ -48,9 +48,9 @@ use denote.Exit.{yes}
 use borrow.Author.Needs.{zero≤}
 use borrow.Author.Tests.{ltb-true, ltb-false, lt-ltb, le-ltb}
 use Rattle.format.specs.Answers.{bit}
-use Rattle.structs.specs.declared.Line.{Line}
-use Rattle.structs.proofs.Line as T
-use Rattle.structs.proofs.Line.Laws as T′
+use Rattle.structs.specs.declared.RowAt.{RowAt}
+use Rattle.structs.proofs.RowAt as T
+use Rattle.structs.proofs.RowAt.Laws as T′
 use Rattle.rules.specs.declared.Stepped.{Stepped}
 use Rattle.rules.proofs.Stepped as S
 use Rattle.rules.proofs.Stepped.Laws as S′
@@ -78,7 +78,7 @@ use Rattle.unwind.proofs.unwind_row_check_of.Code.Mir as mir
 abbrev stayed : Stays (entry.ended .signature .params) (entry.ended .kept)
 stayed = (stay-none (λ _. u64) yes, (stay-none-slice (0 ∷ []) tt (plain (λ _. T.the-row)) yes, tt))
 
-abbrev vals : Line → List Val
+abbrev vals : RowAt → List Val
 vals = LL.vals T.the-type T′.the-laws
 
 -- the locals' types
@@ -89,7 +89,7 @@ abbrev rowsTy : Ty
 rowsTy = sliceTy (tyRef (named 0) imm (pointee (T.the-row .written)))
 
 -- before a turn: i, the state and its machine value
-record Turn (m : ℕ) (ys : List Line) : Type 0 where
+record Turn (m : ℕ) (ys : List RowAt) : Type 0 where
   i : ℕ
   s : Stepped
   w : Val
@@ -111,23 +111,23 @@ module _ {M : Type 1} (𝓤 : URA M) (H : Heap 𝓤) (A : Atoms 𝓤) (mem : Mem
   opened-of : (m : ℕ) (r : Stepped) → ent 𝓤 (ensured 𝓤 H A opening.ended (opening.clauses 𝓤 H A mem run) tt (m, tt) tt r) (fact 𝓤 (Opens m r))
   opened-of m r = exE 𝓤 _ (λ ws. snd∗ 𝓤 (sem 𝓤 H A (lasts opening.ended tt (m, tt) ws)) (fact 𝓤 (Opens m r)))
 
-  went-of : (s : Stepped) (x : Line) (r : Stepped) → ent 𝓤 (ensured 𝓤 H A go.ended (go.clauses 𝓤 H A mem run) tt (s, (x, tt)) tt r) (fact 𝓤 (Goes s x r))
+  went-of : (s : Stepped) (x : RowAt) (r : Stepped) → ent 𝓤 (ensured 𝓤 H A go.ended (go.clauses 𝓤 H A mem run) tt (s, (x, tt)) tt r) (fact 𝓤 (Goes s x r))
   went-of s x r = exE 𝓤 _ (λ ws. snd∗ 𝓤 (sem 𝓤 H A (lasts go.ended tt (s, (x, tt)) ws)) (fact 𝓤 (Goes s x r)))
 
   answered-of : (s : Stepped) (r : ℕ) → ent 𝓤 (ensured 𝓤 H A answer.ended (answer.clauses 𝓤 H A mem run) tt (s, tt) tt r) (fact 𝓤 (r ≡ bit (s .ok)))
   answered-of s r = exE 𝓤 _ (λ ws. snd∗ 𝓤 (sem 𝓤 H A (lasts answer.ended tt (s, tt) ws)) (fact 𝓤 (r ≡ bit (s .ok))))
 
-module _ {M : Type 1} (𝓤 : URA M) (H : Heap 𝓤) (A : Atoms 𝓤) (W : Given 𝓤 H A) (mem : Memory → SProp 𝓤) (run : Routine → Fun 𝓤) (κ : Lft) (q : Share) (m : ℕ) (fits : m < 2 ^ 64) (b o : ℕ) (γ : GName) (ys : List Line) where
+module _ {M : Type 1} (𝓤 : URA M) (H : Heap 𝓤) (A : Atoms 𝓤) (W : Given 𝓤 H A) (mem : Memory → SProp 𝓤) (run : Routine → Fun 𝓤) (κ : Lft) (q : Share) (m : ℕ) (fits : m < 2 ^ 64) (b o : ℕ) (γ : GName) (ys : List RowAt) where
   abbrev κs : Lft × Unit {0}
   κs = (κ, tt)
 
   abbrev n : ℕ
   n = length ys
 
-  abbrev x₁ : RefT (List Line)
+  abbrev x₁ : RefT (List RowAt)
   x₁ = record { ptr = (b, o); name = γ; now = ys }
 
-  abbrev a : ℕ × (RefT (List Line) × Unit {0})
+  abbrev a : ℕ × (RefT (List RowAt) × Unit {0})
   a = (m, (x₁, tt))
 
   abbrev s₁ : Val
@@ -136,7 +136,7 @@ module _ {M : Type 1} (𝓤 : URA M) (H : Heap 𝓤) (A : Atoms 𝓤) (W : Given
   abbrev at : Vals entry.signature κs
   at = (vint w64 m ∷ [], (s₁ ∷ [], tt))
 
-  abbrev elem : ℕ → Line
+  abbrev elem : ℕ → RowAt
   elem i = getD ys i none
 
   abbrev OwnRows : Fml

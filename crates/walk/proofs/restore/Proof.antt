@@ -1,7 +1,7 @@
 -- `walk::restore` meets its contract.
 use native.Mathlib.Omega.{arith}
 use borrow.Author.Needs.{needs}
-use Rattle.format.specs.Test.{pick}
+use Rattle.format.specs.Prelude.{pick}
 use Rattle.walk.proofs.Acting.{denied}
 use Rattle.walk.proofs.restore.Statement.{statement}
 use Rattle.walk.proofs.restore.Tie as tie

@@ -2,7 +2,7 @@
 use mathlib.Core.Path.{_≡_, sym, _∙_}
 use Prim.Native.Nat.{_-_}
 use lib.ListN.{length, drop}
-use Rattle.format.specs.Test.{all}
+use Rattle.format.specs.Prelude.{all}
 use Rattle.whole.specs.Whole.{isZero}
 use Rattle.whole.proofs.Zeros.{zero-turn, zero-not, zero-ended}
 use borrow.Author.Needs.{needs}

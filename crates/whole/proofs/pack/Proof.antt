@@ -42,14 +42,14 @@ use denote.Triple.Table.{entered, cited}
 use denote.Triple.Walked.{says, Stays, stay-none-slice, stay-slice, walkOf, goes-none-slice, goes-slice, Walks, ends-at, walked, walk-meets}
 use denote.Exit.{yes}
 use Rattle.format.specs.Put.{put}
-use Rattle.format.specs.Test.{pick as choose}
+use Rattle.format.specs.Prelude.{pick as choose}
 use Rattle.structs.specs.declared.Function.{Function}
-use Rattle.structs.specs.declared.Line.{Line}
+use Rattle.structs.specs.declared.RowAt.{RowAt}
 use Rattle.structs.specs.declared.Landing.{Landing}
 use Rattle.structs.specs.declared.Pair.{Pair}
-use Rattle.structs.specs.Structs.{functionNumbers, lineNumbers, landingNumbers, pairNumbers}
+use Rattle.structs.specs.Structs.{functionNumbers, rowNumbers, landingNumbers, pairNumbers}
 use Rattle.structs.proofs.Function as T₁
-use Rattle.structs.proofs.Line as T₂
+use Rattle.structs.proofs.RowAt as T₂
 use Rattle.structs.proofs.Landing as T₃
 use Rattle.structs.proofs.Pair as T₄
 use Rattle.structs.proofs.Stored.{length-all}
@@ -58,10 +58,10 @@ use Rattle.structs.proofs.put_functions as put₁
 use Rattle.structs.proofs.put_functions.Symbol as put₁-def
 use Rattle.structs.proofs.put_functions.Symbol.{name as #structs·put-functions}
 use Rattle.structs.proofs.put_functions.Met as put₁-thm
-use Rattle.structs.proofs.put_lines as put₂
-use Rattle.structs.proofs.put_lines.Symbol as put₂-def
-use Rattle.structs.proofs.put_lines.Symbol.{name as #structs·put-lines}
-use Rattle.structs.proofs.put_lines.Met as put₂-thm
+use Rattle.structs.proofs.put_rows as put₂
+use Rattle.structs.proofs.put_rows.Symbol as put₂-def
+use Rattle.structs.proofs.put_rows.Symbol.{name as #structs·put-rows}
+use Rattle.structs.proofs.put_rows.Met as put₂-thm
 use Rattle.structs.proofs.put_landings as put₃
 use Rattle.structs.proofs.put_landings.Symbol as put₃-def
 use Rattle.structs.proofs.put_landings.Symbol.{name as #structs·put-landings}
@@ -131,7 +131,7 @@ module _ {M : Type 1} (𝓤 : URA M) (H : Heap 𝓤) (A : Atoms 𝓤) (mem : Mem
   Put₄ = tripleOf 𝓤 H A put₄.signature (put₄.spec 𝓤 H A mem run)
 
 module _ {M : Type 1} (𝓤 : URA M) (H : Heap 𝓤) (A : Atoms 𝓤) (W : Given 𝓤 H A) (mem : Memory → SProp 𝓤) (run : Routine → Fun 𝓤) (κ₁ κ₂ κ₃ κ₄ κ₅ : Lft) (q₁ q₂ q₃ q₄ q₅ : Share)
-    (x₁ : RefT (List Function)) (x₂ : RefT (List Line)) (x₃ : RefT (List Landing)) (x₄ : RefT (List Pair)) (b o : ℕ) (γ : GName) (xs : List ℕ) where
+    (x₁ : RefT (List Function)) (x₂ : RefT (List RowAt)) (x₃ : RefT (List Landing)) (x₄ : RefT (List Pair)) (b o : ℕ) (γ : GName) (xs : List ℕ) where
   abbrev κs : Lft × (Lft × (Lft × (Lft × (Lft × Unit {0}))))
   κs = (κ₁, (κ₂, (κ₃, (κ₄, (κ₅, tt)))))
 
@@ -152,7 +152,7 @@ module _ {M : Type 1} (𝓤 : URA M) (H : Heap 𝓤) (A : Atoms 𝓤) (W : Given
   abbrev x : GName → List ℕ → RefT (List ℕ)
   x δ l = record { ptr = (b, o); name = δ; now = l }
 
-  abbrev a : RefT (List Function) × (RefT (List Line) × (RefT (List Landing) × (RefT (List Pair) × (RefT (List ℕ) × Unit {0}))))
+  abbrev a : RefT (List Function) × (RefT (List RowAt) × (RefT (List Landing) × (RefT (List Pair) × (RefT (List ℕ) × Unit {0}))))
   a = (x₁, (x₂, (x₃, (x₄, (x γ xs, tt)))))
 
   abbrev s₁ : Val
@@ -208,7 +208,7 @@ module _ {M : Type 1} (𝓤 : URA M) (H : Heap 𝓤) (A : Atoms 𝓤) (W : Given
   long₁ = length-all functionNumbers zs₀ p₁ (x₁ .now) ∙ long₀
 
   long₂ : length zs₂ ≡ length xs
-  long₂ = length-all lineNumbers zs₁ p₂ (x₂ .now) ∙ long₁
+  long₂ = length-all rowNumbers zs₁ p₂ (x₂ .now) ∙ long₁
 
   long₃ : length zs₃ ≡ length xs
   long₃ = length-all landingNumbers zs₂ p₃ (x₃ .now) ∙ long₂
@@ -310,7 +310,7 @@ module _ {M : Type 1} (𝓤 : URA M) (H : Heap 𝓤) (A : Atoms 𝓤) (W : Given
       frame ! $ done !
 
   module _ (C : Calls 𝓤 H) (Λ : Loops 𝓤 H) (fm : FmC 𝓤 H (W .laws) C) (known : Triple 𝓤 (C #whole·ready) (Ready 𝓤 H A mem run))
-      (known₁ : Triple 𝓤 (C #structs·put-functions) (Put₁ 𝓤 H A mem run)) (known₂ : Triple 𝓤 (C #structs·put-lines) (Put₂ 𝓤 H A mem run)) (known₃ : Triple 𝓤 (C #structs·put-landings)
+      (known₁ : Triple 𝓤 (C #structs·put-functions) (Put₁ 𝓤 H A mem run)) (known₂ : Triple 𝓤 (C #structs·put-rows) (Put₂ 𝓤 H A mem run)) (known₃ : Triple 𝓤 (C #structs·put-landings)
       (Put₃ 𝓤 H A mem run)) (known₄ : Triple 𝓤 (C #structs·put-pairs) (Put₄ 𝓤 H A mem run))
       (room₁ : Room T₁.the-row n₁) (room₂ : Room T₂.the-row n₂) (room₃ : Room T₃.the-row n₃) (room₄ : Room T₄.the-row n₄) (room : Room u64 (length xs)) where
     module _ (l₀ l₁ l₂ l₃ l₄ l₅ l₆ l₇ l₈ l₉ l₁₀ l₁₁ l₁₂ l₁₃ l₁₄ l₁₅ l₁₆ l₁₇ l₁₈ l₁₉ l₂₀ l₂₁ l₂₂ l₂₃ l₂₄ l₂₅ : ℕ) where
@@ -557,7 +557,7 @@ module _ {M : Type 1} (𝓤 : URA M) (H : Heap 𝓤) (A : Atoms 𝓤) (W : Given
 
 module _ {M : Type 1} (𝓤 : URA M) (H : Heap 𝓤) (A : Atoms 𝓤) (W : Given 𝓤 H A) (mem : Memory → SProp 𝓤) (run : Routine →
     Fun 𝓤) (𝓣 : Tables 𝓤 H) (known : Triple 𝓤 (𝓣 .C #whole·ready) (Ready 𝓤 H A mem run))
-    (known₁ : Triple 𝓤 (𝓣 .C #structs·put-functions) (Put₁ 𝓤 H A mem run)) (known₂ : Triple 𝓤 (𝓣 .C #structs·put-lines) (Put₂ 𝓤 H A mem run)) (known₃ : Triple 𝓤
+    (known₁ : Triple 𝓤 (𝓣 .C #structs·put-functions) (Put₁ 𝓤 H A mem run)) (known₂ : Triple 𝓤 (𝓣 .C #structs·put-rows) (Put₂ 𝓤 H A mem run)) (known₃ : Triple 𝓤
     (𝓣 .C #structs·put-landings) (Put₃ 𝓤 H A mem run)) (known₄ : Triple 𝓤 (𝓣 .C #structs·put-pairs) (Put₄ 𝓤 H A mem run)) where
   this-walks : Walks 𝓤 H A this.ended stayed (WpFn 𝓤 H (𝓣 .C) (𝓣 .Λ) code.function) (this.clauses 𝓤 H A mem run)
   this-walks =
@@ -608,6 +608,6 @@ pack-spec 𝓤 H 𝓜 𝓖 𝓡 =
     (this-meets 𝓤 H (𝓖 .A) (givenOf 𝓤 H 𝓜 𝓖) (𝓜 .mem) (𝓡 .run) (tablesOf 𝓤 H 𝓜 (tables 𝓤 H 𝓜 𝓡 code.env))
     (cited 𝓤 H (Ready 𝓤 H (𝓖 .A) (𝓜 .mem) (𝓡 .run)) 𝓜 𝓡 code.env #whole·ready ready-def.routine code.calls-whole·ready (ready-thm.met 𝓤 H 𝓜 𝓖 𝓡))
     (cited 𝓤 H (Put₁ 𝓤 H (𝓖 .A) (𝓜 .mem) (𝓡 .run)) 𝓜 𝓡 code.env #structs·put-functions put₁-def.routine code.calls-structs·put-functions (put₁-thm.met 𝓤 H 𝓜 𝓖 𝓡))
-    (cited 𝓤 H (Put₂ 𝓤 H (𝓖 .A) (𝓜 .mem) (𝓡 .run)) 𝓜 𝓡 code.env #structs·put-lines put₂-def.routine code.calls-structs·put-lines (put₂-thm.met 𝓤 H 𝓜 𝓖 𝓡))
+    (cited 𝓤 H (Put₂ 𝓤 H (𝓖 .A) (𝓜 .mem) (𝓡 .run)) 𝓜 𝓡 code.env #structs·put-rows put₂-def.routine code.calls-structs·put-rows (put₂-thm.met 𝓤 H 𝓜 𝓖 𝓡))
     (cited 𝓤 H (Put₃ 𝓤 H (𝓖 .A) (𝓜 .mem) (𝓡 .run)) 𝓜 𝓡 code.env #structs·put-landings put₃-def.routine code.calls-structs·put-landings (put₃-thm.met 𝓤 H 𝓜 𝓖 𝓡))
     (cited 𝓤 H (Put₄ 𝓤 H (𝓖 .A) (𝓜 .mem) (𝓡 .run)) 𝓜 𝓡 code.env #structs·put-pairs put₄-def.routine code.calls-structs·put-pairs (put₄-thm.met 𝓤 H 𝓜 𝓖 𝓡)))

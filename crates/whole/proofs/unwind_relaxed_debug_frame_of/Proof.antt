@@ -40,14 +40,14 @@ use denote.Triple.Table.{entered, cited}
 use denote.Triple.Walked.{says, Stays, stay-none, stay-none-slice, gave-slice, walkOf, goes-none, goes-none-slice, goes-gave-slice, Walks, ends-at, walked, walk-meets}
 use denote.Exit.{yes}
 use Rattle.format.specs.Put.{put}
-use Rattle.format.specs.Test.{pick as choose}
+use Rattle.format.specs.Prelude.{pick as choose}
 use Rattle.format.specs.Questions.{relaxedDebugFrame, roomIn}
 use Rattle.structs.specs.declared.Function.{Function}
-use Rattle.structs.specs.declared.Line.{Line}
+use Rattle.structs.specs.declared.RowAt.{RowAt}
 use Rattle.structs.specs.declared.Landing.{Landing}
 use Rattle.structs.specs.declared.Pair.{Pair}
 use Rattle.structs.proofs.Function as T₁
-use Rattle.structs.proofs.Line as T₂
+use Rattle.structs.proofs.RowAt as T₂
 use Rattle.structs.proofs.Landing as T₃
 use Rattle.structs.proofs.Pair as T₄
 use Rattle.structs.proofs.Lending.{Kept, lends, comes-home}
@@ -107,7 +107,7 @@ module _ {M : Type 1} (𝓤 : URA M) (H : Heap 𝓤) (A : Atoms 𝓤) (mem : Mem
 -- the machine is x₀, the format φ, the lists of structs x₁ to x₄, and the buffers beside the numbers x₅ to x₇
 module _ {M : Type 1} (𝓤 : URA M) (H : Heap 𝓤) (A : Atoms 𝓤) (W : Given 𝓤 H A) (mem : Memory → SProp 𝓤) (run : Routine →
     Fun 𝓤) (κ₀ κ₁ κ₂ κ₃ κ₄ κ κ₅ κ₆ κ₇ : Lft) (q₀ q₁ q₂ q₃ q₄ q q₅ q₆ q₇ : Share)
-    (x₀ : RefT (List ℕ)) (φ : ℕ) (x₁ : RefT (List Function)) (x₂ : RefT (List Line)) (x₃ : RefT (List Landing)) (x₄ : RefT (List Pair)) (b o : ℕ) (γ : GName) (xs : List ℕ) (x₅ x₆ x₇ : RefT
+    (x₀ : RefT (List ℕ)) (φ : ℕ) (x₁ : RefT (List Function)) (x₂ : RefT (List RowAt)) (x₃ : RefT (List Landing)) (x₄ : RefT (List Pair)) (b o : ℕ) (γ : GName) (xs : List ℕ) (x₅ x₆ x₇ : RefT
     (List ℕ)) where
   abbrev κs : Lft × (Lft × (Lft × (Lft × (Lft × (Lft × (Lft × (Lft × (Lft × (Unit {0})))))))))
   κs = (κ₀, (κ₁, (κ₂, (κ₃, (κ₄, (κ, (κ₅, (κ₆, (κ₇, tt)))))))))
@@ -128,7 +128,7 @@ module _ {M : Type 1} (𝓤 : URA M) (H : Heap 𝓤) (A : Atoms 𝓤) (W : Given
   abbrev x : GName → List ℕ → RefT (List ℕ)
   x δ l = record { ptr = (b, o); name = δ; now = l }
 
-  abbrev a : RefT (List ℕ) × (ℕ × (RefT (List Function) × (RefT (List Line) × (RefT (List Landing) × (RefT (List Pair) × (RefT (List ℕ) × (RefT (List ℕ) × (RefT (List ℕ) × (RefT
+  abbrev a : RefT (List ℕ) × (ℕ × (RefT (List Function) × (RefT (List RowAt) × (RefT (List Landing) × (RefT (List Pair) × (RefT (List ℕ) × (RefT (List ℕ) × (RefT (List ℕ) × (RefT
       (List ℕ) × Unit {0})))))))))
   a = (x₀, (φ, (x₁, (x₂, (x₃, (x₄, (x γ xs, (x₅, (x₆, (x₇, tt))))))))))
 

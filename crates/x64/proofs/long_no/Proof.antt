@@ -2,7 +2,7 @@
 use Rattle.x64.specs.Sources.{longNo}
 use Rattle.x64.specs.Answers.{saidBy}
 use Rattle.format.proofs.Choice.{if-le, if-gt}
-use Rattle.format.specs.Test.{pick}
+use Rattle.format.specs.Prelude.{pick}
 use mathlib.Core.Option.{none, some}
 use Prim.Native.Nat.{suc, _^_}
 use native.Mathlib.Omega.{arith}

@@ -4,7 +4,7 @@ use Rattle.x64.proofs.Stored.{Relating, relating, related, room, all-re
 use Rattle.x64.specs.Answers.{namedAt}
 use Rattle.lists.proofs.Sums.{within}
 use Rattle.format.proofs.ListLaws.{each-length}
-use Rattle.format.specs.Test.{each}
+use Rattle.format.specs.Prelude.{each}
 use native.Mathlib.Omega.{arith}
 use Prim.Native.Nat.{_-_}
 use Rattle.x64.proofs.put_runtime.Statement.{statement}

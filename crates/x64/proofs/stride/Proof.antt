@@ -1,6 +1,6 @@
 -- `x64::stride` meets its contract.
 use Rattle.x64.specs.Sources.{strideOf}
-use Rattle.format.specs.Test.{pick}
+use Rattle.format.specs.Prelude.{pick}
 use Rattle.x64.proofs.stride.Statement.{statement}
 use Rattle.x64.proofs.stride.Tie as tie
 

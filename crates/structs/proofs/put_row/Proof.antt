@@ -1,4 +1,4 @@
--- `structs::put_line` stores its line where it fits.
+-- `structs::put_row` stores its row where it fits.
 use mathlib.Core.Path.{_≡_, ap, _∙_}
 use mathlib.Core.List.{[], _∷_}
 use Prim.Native.Nat.{_+_, _*_, _≤_}
@@ -10,16 +10,16 @@ use mir.Val.{ofZ}
 use mir.Facts.{toZ-ofZ}
 use Rattle.lists.proofs.Answers.{accepted, refused}
 use Rattle.structs.specs.Packed.{stored}
-use Rattle.structs.specs.Structs.{lineNumbers}
+use Rattle.structs.specs.Structs.{rowNumbers}
 use Rattle.structs.proofs.Stored.{no-room, room}
-use Rattle.structs.proofs.put_line.Statement.{statement}
-use Rattle.structs.proofs.put_line.Tie as tie
+use Rattle.structs.proofs.put_row.Statement.{statement}
+use Rattle.structs.proofs.put_row.Tie as tie
 
 has-room-requires : tie.Need-has-room-requires
 has-room-requires c κs = search needs
 
 returns : tie.Need-returns
-unfolding lineNumbers
+unfolding rowNumbers
 returns c = no-room _ _ _ (refused (c .before .has-room .ensures) (c .if1 .taken))
 
 inside : (c : tie.Else1) → c .before .before .before .args .at + 4 * c .before .before .before .args .i + 4 ≤ length (c .before .before .before .args .numbers .now)
@@ -51,13 +51,13 @@ value : (c : tie.After-bits) → c .bits .result ≡ ofZ w32 (c .before .before 
 value c = c .bits .ensures ∙ ap (ofZ w32) (toZ-ofZ {w = w32} {z = c .before .before .before .before .before .args .x .value} (record { sfits = c .before .struct-told .given .1 .1 .1 .0 .1 }))
 
 returns-2 : tie.Need-returns-2
-unfolding lineNumbers
+unfolding rowNumbers
 returns-2 c =
     let x = c .before .before .before .before .before .before .before .before .before .before .before .args .x in
     room (accepted (c .before .before .before .before .before .before .before .before .before .has-room .ensures) (c .before .before .before .before .before .before .before .before .if1 .left)) (c .before .before .four .ensures)
     ∙ ap (λ d. stored (c .before .before .before .before .before .before .before .before .before .before .before .args .numbers .now) (c .before .before .before .before .before .before .before .before .before .before .before .args .at + 4 * c .before .before .before .before .before .before .before .before .before .before .before .args .i) (x .offset ∷ x .kind ∷ x .register ∷ d ∷ [])) (value (c .before .before .before .before .before .before))
 
-pub put-line-spec : {M : Type 1} → statement M
-put-line-spec =
+pub put-row-spec : {M : Type 1} → statement M
+put-row-spec =
     tie.close
     (tie.spec has-room-requires returns mul-p add-p bits-requires cast-four cast-four-2 four-requires same-length returns-2)

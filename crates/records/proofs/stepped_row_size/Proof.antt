@@ -1,10 +1,10 @@
--- `records::line_size` meets its contract.
+-- `records::stepped_row_size` meets its contract.
 use native.Mathlib.Omega.{arith}
-use Rattle.format.specs.Lists.{lineAt}
-use Rattle.records.proofs.RowLoops.{offset-of, line-length, line-short}
+use Rattle.format.specs.Lists.{rowAt}
+use Rattle.records.proofs.RowLoops.{offset-of, row-at-length, row-at-short}
 use borrow.Author.Needs.{needs}
-use Rattle.records.proofs.line_size.Statement.{statement}
-use Rattle.records.proofs.line_size.Tie as tie
+use Rattle.records.proofs.stepped_row_size.Statement.{statement}
+use Rattle.records.proofs.stepped_row_size.Tie as tie
 
 offset-at-requires : tie.Need-offset-at-requires
 offset-at-requires c κs = c .before .pre .inside
@@ -23,17 +23,17 @@ row-size-requires c κs = (c .before .before .before .before .pre .word-low, c .
 
 returns : tie.Need-returns
 returns c =
-    let e = line-length (c .before .before .before .before .before .args .word) (c .before .before .before .before .before .args .from) (lineAt (c .before .before .before .before .before .args .rows .now) (c .before .before .before .before .before .args .i)) in
+    let e = row-at-length (c .before .before .before .before .before .args .word) (c .before .before .before .before .before .args .from) (rowAt (c .before .before .before .before .before .args .rows .now) (c .before .before .before .before .before .args .i)) in
     let a = rw (c .before .before .before .offset-at .ensures, ← offset-of (c .before .before .before .before .before .args .rows .now) (c .before .before .before .before .before .args .i)) at (c .before .before .advance-size .ensures) in
     let b = rw (c .before .row-at .ensures) at (c .row-size .ensures) in
-    let l = line-short (c .before .before .before .before .before .pre) in
+    let l = row-at-short (c .before .before .before .before .before .pre) in
     (omega arith, omega arith)
 
 add-result : tie.Need-add-result
 add-result c = omega (arith, returns c .1)
 
-pub line-size-spec : {M : Type 1} → statement M
-line-size-spec =
+pub stepped-row-size-spec : {M : Type 1} → statement M
+stepped-row-size-spec =
     tie.close
     (tie.spec
     offset-at-requires

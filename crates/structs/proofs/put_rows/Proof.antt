@@ -1,5 +1,5 @@
--- `structs::put_lines` meets its contract: a walk of its MIR, by hand, with a loop. The invariant at i: the first i structs are stored.
--- A turn copies struct i out of the list, and lends the numbers to `put_line` for a lifetime of the call. All that is known of `put_line` is that it meets its contract. Assumes nothing.
+-- `structs::put_rows` meets its contract: a walk of its MIR, by hand, with a loop. The invariant at i: the first i structs are stored.
+-- A turn copies struct i out of the list, and lends the numbers to `put_row` for a lifetime of the call. All that is known of `put_row` is that it meets its contract. Assumes nothing.
 use mathlib.Core.Path.{_≡_, refl, sym, ap, subst, _∙_}
 use Prim.Native.Nat.{ℕ, _+_, _*_, _<_, _^_}
 use native.Mathlib.Omega.{arith}
@@ -47,50 +47,50 @@ use denote.Triple.Walked.{says, Stays, stay-none, stay-none-slice, stay-slice, w
 use denote.Exit.{yes}
 use borrow.Author.Needs.{zero≤}
 use borrow.Author.Tests.{ltb-true, ltb-false, lt-ltb, le-ltb}
-use Rattle.structs.specs.Structs.{lineNumbers}
+use Rattle.structs.specs.Structs.{rowNumbers}
 use Rattle.structs.specs.Packed.{stored, storedAll}
-use Rattle.structs.specs.declared.Line.{Line}
-use Rattle.structs.proofs.Line as T
-use Rattle.structs.proofs.Line.Laws as T′
+use Rattle.structs.specs.declared.RowAt.{RowAt}
+use Rattle.structs.proofs.RowAt as T
+use Rattle.structs.proofs.RowAt.Laws as T′
 use Rattle.structs.proofs.Stored.{any, length-all, none-yet, next}
-use Rattle.structs.proofs.Strides.{line-stride}
+use Rattle.structs.proofs.Strides.{row-stride}
 use Rattle.structs.proofs.Lending.{Kept, lends, comes-home}
 use Rattle.structs.proofs.Walking.{word, listTy, numbersTy, lentRef, Upto, Nearer, nearer-wf}
-use Rattle.structs.proofs.put_line as leaf
-use Rattle.structs.proofs.put_line.Symbol as leaf-def
-use Rattle.structs.proofs.put_line.Symbol.{name as #structs·put-line}
-use Rattle.structs.proofs.put_line.Met as leaf-thm
-use Rattle.structs.proofs.put_lines.Key.{name as #structs·put-lines}
-use Rattle.structs.proofs.put_lines as this
-use Rattle.structs.proofs.put_lines.Statement as stated
-use Rattle.structs.proofs.put_lines.Code as code
-use Rattle.structs.proofs.put_lines.Code.Mir as mir
+use Rattle.structs.proofs.put_row as leaf
+use Rattle.structs.proofs.put_row.Symbol as leaf-def
+use Rattle.structs.proofs.put_row.Symbol.{name as #structs·put-row}
+use Rattle.structs.proofs.put_row.Met as leaf-thm
+use Rattle.structs.proofs.put_rows.Key.{name as #structs·put-rows}
+use Rattle.structs.proofs.put_rows as this
+use Rattle.structs.proofs.put_rows.Statement as stated
+use Rattle.structs.proofs.put_rows.Code as code
+use Rattle.structs.proofs.put_rows.Code.Mir as mir
 
 abbrev stayed : Stays (this.ended .signature .params) (this.ended .kept)
 stayed = (stay-none-slice (0 ∷ []) tt (plain (λ _. T.the-row)) yes, (stay-slice (1 ∷ []) tt (plain (λ _. u64)), (stay-none (λ _. usize) yes, tt)))
 
-abbrev vals : Line → List Val
+abbrev vals : RowAt → List Val
 vals = LL.vals T.the-type T′.the-laws
 
 -- the contract that the proof cites
 abbrev Leaf : {M : Type 1} (𝓤 : URA M) (H : Heap 𝓤) (A : Atoms 𝓤) (mem : Memory → SProp 𝓤) (run : Routine → Fun 𝓤) → Contract 𝓤
 Leaf 𝓤 H A mem run = tripleOf 𝓤 H A leaf.signature (leaf.spec 𝓤 H A mem run)
 
-module _ {M : Type 1} (𝓤 : URA M) (H : Heap 𝓤) (A : Atoms 𝓤) (W : Given 𝓤 H A) (mem : Memory → SProp 𝓤) (run : Routine → Fun 𝓤) (κ κ′ : Lft) (q q′ : Share) (b o : ℕ) (γ : GName) (ys : List Line) (b′ o′ : ℕ) (γ′ : GName) (xs : List ℕ) (p : ℕ) where
+module _ {M : Type 1} (𝓤 : URA M) (H : Heap 𝓤) (A : Atoms 𝓤) (W : Given 𝓤 H A) (mem : Memory → SProp 𝓤) (run : Routine → Fun 𝓤) (κ κ′ : Lft) (q q′ : Share) (b o : ℕ) (γ : GName) (ys : List RowAt) (b′ o′ : ℕ) (γ′ : GName) (xs : List ℕ) (p : ℕ) where
   abbrev κs : Lft × (Lft × Unit {0})
   κs = (κ, (κ′, tt))
 
   abbrev n : ℕ
   n = length ys
 
-  abbrev x₁ : RefT (List Line)
+  abbrev x₁ : RefT (List RowAt)
   x₁ = record { ptr = (b, o); name = γ; now = ys }
 
   -- the numbers, under the name δ at the list l
   abbrev x₂ : GName → List ℕ → RefT (List ℕ)
   x₂ δ l = record { ptr = (b′, o′); name = δ; now = l }
 
-  abbrev a : RefT (List Line) × (RefT (List ℕ) × (ℕ × Unit {0}))
+  abbrev a : RefT (List RowAt) × (RefT (List ℕ) × (ℕ × Unit {0}))
   a = (x₁, (x₂ γ′ xs, (p, tt)))
 
   abbrev s₁ : Val
@@ -107,10 +107,10 @@ module _ {M : Type 1} (𝓤 : URA M) (H : Heap 𝓤) (A : Atoms 𝓤) (W : Given
 
   -- the numbers after i turns
   abbrev zs : ℕ → List ℕ
-  zs i = storedAll lineNumbers xs p (take i ys)
+  zs i = storedAll rowNumbers xs p (take i ys)
 
   long : (i : ℕ) → length (zs i) ≡ length xs
-  long i = length-all lineNumbers xs p (take i ys)
+  long i = length-all rowNumbers xs p (take i ys)
 
   abbrev OwnList : Fml
   OwnList = ShrSlice (named 0) κ T.the-row .own x₁ (s₁ ∷ [])
@@ -130,13 +130,13 @@ module _ {M : Type 1} (𝓤 : URA M) (H : Heap 𝓤) (A : Atoms 𝓤) (W : Given
   Post = walkOf 𝓤 H A this.ended stayed (this.clauses 𝓤 H A mem run) .post bound
 
   -- what the callee is handed, and what its triple binds outside
-  abbrev handed : GName → ℕ → Line → RefT (List ℕ) × (ℕ × (ℕ × (Line × Unit {0})))
+  abbrev handed : GName → ℕ → RowAt → RefT (List ℕ) × (ℕ × (ℕ × (RowAt × Unit {0})))
   handed δ i x = (x₂ δ (zs i), (p, (i, (x, tt))))
 
-  abbrev to : ℕ → GName → ℕ → Line → Leaf 𝓤 H A mem run .Ghost
+  abbrev to : ℕ → GName → ℕ → RowAt → Leaf 𝓤 H A mem run .Ghost
   to ν δ i x = (((ν ∷ [], tt), (fullShare, tt), tt, handed δ i x, (s₂ ∷ [], (s₃ ∷ [], (vint w64 i ∷ [], (vals x, tt))))), tt)
 
-  asked : (ν : ℕ) (δ : GName) (i : ℕ) (x : Line) → p < 2 ^ 64 → i < 2 ^ 64 → Is T.the-row x (vals x)
+  asked : (ν : ℕ) (δ : GName) (i : ℕ) (x : RowAt) → p < 2 ^ 64 → i < 2 ^ 64 → Is T.the-row x (vals x)
       → ent 𝓤 (sep 𝓤 (A .lft (ν ∷ []) fullShare) (sem 𝓤 H A (Lent ν δ i))) (Leaf 𝓤 H A mem run .pre (to ν δ i x))
   asked ν δ i x p-fits i-fits g =
       qed W (‵ (flft (ν ∷ []) fullShare) ∷ ‵ (Lent ν δ i) ∷ []) ∵ nothing ! $ move ! (1 ∷ 0 ∷ []) $ join ! $
@@ -146,12 +146,12 @@ module _ {M : Type 1} (𝓤 : URA M) (H : Heap 𝓤) (A : Atoms 𝓤) (W : Given
   exits : p < 2 ^ 64 → ent 𝓤 (⋆ 𝓤 H A (‵ (flft κ q) ∷ ‵ (flft κ′ q′) ∷ ‵ OwnList ∷ ‵ (OwnNumbers (zs n)) ∷ [])) (Post vunit)
   exits p-fits =
       qed W (‵ (flft κ q) ∷ ‵ (flft κ′ q′) ∷ ‵ OwnList ∷ ‵ (OwnNumbers (zs n)) ∷ []) ∵
-      suffices ! _ (ends-at 𝓤 H A this.ended stayed (this.clauses 𝓤 H A mem run) W bound vunit tt (tt, (zs n, (tt, tt))) (tt, (long n, (tt, tt)))) $ says ! (ap (storedAll lineNumbers xs p) (take-length ys)) $
+      suffices ! _ (ends-at 𝓤 H A this.ended stayed (this.clauses 𝓤 H A mem run) W bound vunit tt (tt, (zs n, (tt, tt))) (tt, (long n, (tt, tt)))) $ says ! (ap (storedAll rowNumbers xs p) (take-length ys)) $
       nothing ! $ move ! (2 ∷ 0 ∷ []) $ join ! $ move ! (1 ∷ 0 ∷ []) $ join ! $
       nothing ! $ owned ! usize (Is usize) (uint-makes 𝓤 H A W w64) p _ (refl, p-fits) $ fjoin ! $ move ! (3 ∷ 0 ∷ []) $ fjoin ! $ move ! (2 ∷ 0 ∷ []) $ fjoin ! $ move ! (1 ∷ 0 ∷ []) $ frame ! $ frame ! $
       feqI ! (List Val) (vunit ∷ []) (vunit ∷ []) refl $ done !
 
-  module _ (𝓣 : Tables 𝓤 H) (known : Triple 𝓤 (𝓣 .C #structs·put-line) (Leaf 𝓤 H A mem run)) (room₁ : Room T.the-row n) (room₂ : Room u64 (length xs)) (p-fits : p < 2 ^ 64) (l₀ l₁ l₂ l₃ l₄ l₅ l₆ l₇ l₈ l₉ l₁₀ l₁₁ : ℕ) where
+  module _ (𝓣 : Tables 𝓤 H) (known : Triple 𝓤 (𝓣 .C #structs·put-row) (Leaf 𝓤 H A mem run)) (room₁ : Room T.the-row n) (room₂ : Room u64 (length xs)) (p-fits : p < 2 ^ 64) (l₀ l₁ l₂ l₃ l₄ l₅ l₆ l₇ l₈ l₉ l₁₀ l₁₁ : ℕ) where
     abbrev C : Calls 𝓤 H
     C = 𝓣 .C
 
@@ -208,17 +208,17 @@ module _ {M : Type 1} (𝓤 : URA M) (H : Heap 𝓤) (A : Atoms 𝓤) (W : Given
         -- [the numbers; κ′; true; the result; true; the list; κ; the locals from 7 on]
         assigns-last ! (bin ! (load ! (from ! (stop !)) (look ! 21 refl)) (lit ! tt) (record { fits = next-fits })) (from ! (stop !)) (store ! 21 refl (tt, record { fits = next-fits })) $
         forget ! 7 refl $ forget ! 9 refl $ forget ! 11 refl $ forget ! 13 refl $ forget ! 15 refl $ forget ! 17 refl $ forget ! 19 refl $
-        rewrite ! 0 (λ (k : List ℕ). ‵ (OwnNumbers k)) (e ∙ next lineNumbers line-stride xs p ys (i .0) d less ∙ ap zs (sym (add-one (i .0)))) refl $
+        rewrite ! 0 (λ (k : List ℕ). ‵ (OwnNumbers k)) (e ∙ next rowNumbers row-stride xs p ys (i .0) d less ∙ ap zs (sym (add-one (i .0)))) refl $
         keep ! (7 ∷ 8 ∷ 9 ∷ 10 ∷ 11 ∷ 12 ∷ 13 ∷ 14 ∷ 15 ∷ 16 ∷ 17 ∷ 18 ∷ 19 ∷ 20 ∷ 21 ∷ 22 ∷ 23 ∷ 24 ∷ 25 ∷ 26 ∷ 27 ∷ 28 ∷ 29 ∷ 30 ∷ 6 ∷ 1 ∷ 5 ∷ 0 ∷ []) $ again ! (Nearer n) At i (i .0 + 1, omega (arith, less)) (omega (arith, less))))))))))))
       where
-        d : Line
+        d : RowAt
         d = any ys less
 
-        x : Line
+        x : RowAt
         x = getD ys (i .0) d
 
         Left : List ℕ → Type 0
-        Left l = l ≡ stored (zs (i .0)) (p + 4 * i .0) (lineNumbers x)
+        Left l = l ≡ stored (zs (i .0)) (p + 4 * i .0) (rowNumbers x)
 
         i-fits : i .0 < 2 ^ 64
         i-fits = omega (arith, less, room₁ .0)
@@ -251,7 +251,7 @@ module _ {M : Type 1} (𝓤 : URA M) (H : Heap 𝓤) (A : Atoms 𝓤) (W : Given
     turns : (i : Upto n) → Sq W (At i) (runs C Λ En mir.turn-1 (anyQ (Turned i)))
     turns i = tested i (ltb (i .0) n) refl
 
-  walk : (𝓣 : Tables 𝓤 H) → Triple 𝓤 (𝓣 .C #structs·put-line) (Leaf 𝓤 H A mem run) → Room T.the-row n → Room u64 (length xs) → p < 2 ^ 64
+  walk : (𝓣 : Tables 𝓤 H) → Triple 𝓤 (𝓣 .C #structs·put-row) (Leaf 𝓤 H A mem run) → Room T.the-row n → Room u64 (length xs) → p < 2 ^ 64
       → ent 𝓤 (onEntry 𝓤 H A this.signature κs (q, (q′, tt)) a at) (WpFn 𝓤 H (𝓣 .C) (𝓣 .Λ) code.function (s₁ ∷ s₂ ∷ s₃ ∷ []) Post)
   walk 𝓣 known room₁ room₂ p-fits =
       qed W ((‵ (flft κ q) ⊛ ‵ (flft κ′ q′) ⊛ ‵ ftrue) ∷ ‵ (owns (ShrSlice (named 0) κ T.the-row ∷ MutSlice (named 1) κ′ u64 ∷ usize ∷ []) a at) ∷ []) ∵ enter ! (𝓣 .C) (𝓣 .Λ) code.function (s₁ ∷ s₂ ∷ s₃ ∷ []) _ $
@@ -260,11 +260,11 @@ module _ {M : Type 1} (𝓤 : URA M) (H : Heap 𝓤) (A : Atoms 𝓤) (W : Given
       assigns ! (of-opd ! (lit ! tt)) (from ! (stop !)) (init ! 14 refl (tt, record { fits = lit< tt })) $
       move ! (25 ∷ []) $ fsplit ! $ move ! (1 ∷ []) $ fsplit ! $ move ! (27 ∷ []) $ split ! $ move ! (1 ∷ []) $ split ! $
       -- [κ′; true; κ; the numbers; the place; the list; the locals from 6 on]
-      rewrite ! 3 (λ (l : List ℕ). ‵ (OwnNumbers l)) (sym (none-yet lineNumbers xs p ys)) refl $
+      rewrite ! 3 (λ (l : List ℕ). ‵ (OwnNumbers l)) (sym (none-yet rowNumbers xs p ys)) refl $
       keep ! (6 ∷ 7 ∷ 8 ∷ 9 ∷ 10 ∷ 11 ∷ 12 ∷ 13 ∷ 14 ∷ 15 ∷ 16 ∷ 17 ∷ 18 ∷ 19 ∷ 20 ∷ 21 ∷ 22 ∷ 23 ∷ 24 ∷ 25 ∷ 26 ∷ 27 ∷ 28 ∷ 29 ∷ 2 ∷ 0 ∷ 5 ∷ 3 ∷ []) $ first ! $ blocks ! $
       loops ! 𝓣 (Nearer n) (nearer-wf n) (At 𝓣 known room₁ room₂ p-fits l₀ l₁ l₂ l₃ l₄ l₅ l₆ l₇ l₈ l₉ l₁₀ l₁₁) (turns 𝓣 known room₁ room₂ p-fits l₀ l₁ l₂ l₃ l₄ l₅ l₆ l₇ l₈ l₉ l₁₀ l₁₁) (0, zero≤)))))))))))))
 
-module _ {M : Type 1} (𝓤 : URA M) (H : Heap 𝓤) (A : Atoms 𝓤) (W : Given 𝓤 H A) (mem : Memory → SProp 𝓤) (run : Routine → Fun 𝓤) (𝓣 : Tables 𝓤 H) (known : Triple 𝓤 (𝓣 .C #structs·put-line) (Leaf 𝓤 H A mem run)) where
+module _ {M : Type 1} (𝓤 : URA M) (H : Heap 𝓤) (A : Atoms 𝓤) (W : Given 𝓤 H A) (mem : Memory → SProp 𝓤) (run : Routine → Fun 𝓤) (𝓣 : Tables 𝓤 H) (known : Triple 𝓤 (𝓣 .C #structs·put-row) (Leaf 𝓤 H A mem run)) where
   this-walks : Walks 𝓤 H A this.ended stayed (WpFn 𝓤 H (𝓣 .C) (𝓣 .Λ) code.function) (this.clauses 𝓤 H A mem run)
   this-walks = walked 𝓤 H A this.ended stayed (this.clauses 𝓤 H A mem run) (WpFn 𝓤 H (𝓣 .C) (𝓣 .Λ) code.function) (λ κs. (slice-vals, (slice-vals, (uint-vals w64, tt)))) (λ κs. (shr-slice-tells (named 0) (κs .0) T.the-row, (mut-slice-tells (named 1) (κs .1 .0) u64, (uint-tells w64, tt))))
       (λ κs qs bounds a g are. via 𝓤 _ (fst∗ 𝓤 _ (emp 𝓤))
@@ -273,10 +273,10 @@ module _ {M : Type 1} (𝓤 : URA M) (H : Heap 𝓤) (A : Atoms 𝓤) (W : Given
   this-meets : Meets 𝓤 H A this.signature (WpFn 𝓤 H (𝓣 .C) (𝓣 .Λ) code.function) (this.spec 𝓤 H A mem run)
   this-meets = walk-meets 𝓤 H A this.ended stayed W (goes-none-slice 𝓤 H A W 2 (0 ∷ []) tt (plain (λ _. T.the-row)) yes, (goes-slice 𝓤 H A W 2 1 tt (plain (λ _. u64)), (goes-none 𝓤 H A W 2 (λ _. usize) yes (λ κs y f. refl), tt))) (this.clauses 𝓤 H A mem run) (WpFn 𝓤 H (𝓣 .C) (𝓣 .Λ) code.function) (WpFn-mono 𝓤 H (W .laws) 𝓣 code.function) this-walks
 
-pub put-lines-spec : {M : Type 1} → stated.statement M
+pub put-rows-spec : {M : Type 1} → stated.statement M
 unfolding code.routine tablesOf
-put-lines-spec 𝓤 H 𝓜 𝓖 𝓡 =
+put-rows-spec 𝓤 H 𝓜 𝓖 𝓡 =
     entered 𝓤 H (tripleOf 𝓤 H (𝓖 .A) this.signature (this.spec 𝓤 H (𝓖 .A) (𝓜 .mem) (𝓡 .run)))
-    (tables 𝓤 H 𝓜 𝓡 code.env .C) (tables 𝓤 H 𝓜 𝓡 code.env .Λ) #structs·put-lines code.function (code.unfolded 𝓤 H 𝓜 𝓡)
+    (tables 𝓤 H 𝓜 𝓡 code.env .C) (tables 𝓤 H 𝓜 𝓡 code.env .Λ) #structs·put-rows code.function (code.unfolded 𝓤 H 𝓜 𝓡)
     (this-meets 𝓤 H (𝓖 .A) (givenOf 𝓤 H 𝓜 𝓖) (𝓜 .mem) (𝓡 .run) (tablesOf 𝓤 H 𝓜 (tables 𝓤 H 𝓜 𝓡 code.env))
-    (cited 𝓤 H (Leaf 𝓤 H (𝓖 .A) (𝓜 .mem) (𝓡 .run)) 𝓜 𝓡 code.env #structs·put-line leaf-def.routine code.calls-structs·put-line (leaf-thm.met 𝓤 H 𝓜 𝓖 𝓡)))
+    (cited 𝓤 H (Leaf 𝓤 H (𝓖 .A) (𝓜 .mem) (𝓡 .run)) 𝓜 𝓡 code.env #structs·put-row leaf-def.routine code.calls-structs·put-row (leaf-thm.met 𝓤 H 𝓜 𝓖 𝓡)))

@@ -1,0 +1,36 @@
+-- Rows and the steps between them, in a list of numbers.
+use Prim.Native.Nat.{ℕ, _+_, _-_, _*_, _≤_}
+use mathlib.Core.List.{List, _++_}
+use lib.Dec.{T}
+use lib.ListN.{length}
+use Rattle.format.specs.Prelude.{each}
+use Rattle.format.specs.Rows.{RowAt, rowBytes, stepBytes, steppedBytes}
+use Rattle.format.specs.Lists.{rowAt, rowOkAt, mostRecords}
+use Rattle.format.proofs.RowBack.{RowFits}
+use Rattle.format.proofs.WalkBack.{RowsAtOk}
+use Rattle.leading.specs.Functions.{RowsReady}
+
+-- a row and its step, from the offset `from` on
+unfoldable pub steppedRowBytes : (w from : ℕ) → RowAt → List ℕ
+steppedRowBytes w from x = stepBytes (x .0 - from) ++ rowBytes w (x .1)
+
+-- n rows from `at` on, the first of them from the offset `from` on
+unfoldable pub rowsIn : (w from : ℕ) (rows : List ℕ) (at n : ℕ) → List ℕ
+rowsIn w from rows at n = steppedBytes w from (each (rowAt rows) at n)
+
+-- row i can be written, from the offset `from` on
+pub record SteppedRowReady (w from : ℕ) (rows : List ℕ) (i : ℕ) : Type 0 where
+  pub word-low : 2 ≤ w
+  pub word-high : w ≤ 8
+  pub inside : 4 * i + 4 ≤ length rows
+  pub ok : T (rowOkAt rows i)
+  pub forward : from ≤ rowAt rows i .0
+  pub fits : RowFits w (rowAt rows i .1)
+
+-- and n rows from `at` on, the first of them from the function's start on
+pub record SteppedReady (w : ℕ) (rows : List ℕ) (at n : ℕ) : Type 0 where
+  pub word-low : 2 ≤ w
+  pub word-high : w ≤ 8
+  pub ready : RowsReady rows at n
+  pub few : n ≤ mostRecords
+  pub lines : RowsAtOk w 0 (each (rowAt rows) at n)
