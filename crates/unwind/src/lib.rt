@@ -44,7 +44,8 @@ pub fn relaxed_table(
 ) -> Outcome
     ensures { λ r. ⌜ Writes (relaxedTable format (givenOf (now (machine .entry)) (now (functions .entry)) (now (rows .entry)) (now (landings .entry)) (now (pairs .entry))) (roomIn (now (places .entry)) (now (bytes .entry)) (now (relocations .entry)) (now (sites .entry)))) r (now (places .entry)) (now (places .exit)) (now (bytes .entry)) (now (bytes .exit)) (now (relocations .entry)) (now (relocations .exit)) (now (sites .entry)) (now (sites .exit)) ⌝ }
 {
-    if functions.len() / 18 == 0 {
+    let listed = functions.len() / 18;
+    if listed == 0 {
         return Outcome::Empty;
     }
     match format {
