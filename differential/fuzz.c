@@ -38,12 +38,12 @@ static const char *const ENTRY[ENTRIES] = {"relaxed_table ELF", "relaxed_table C
     "relaxed_table other", "relaxed_debug_frame", "seh", "row_check", "read", "relaxed_table_of ELF", "relaxed_table_of COFF",
     "relaxed_table_of Mach-O", "relaxed_table_of other", "relaxed_debug_frame_of", "pack_functions", "pack_rows", "pack_landings",
     "pack_pairs", "row_check_of"};
-/* The numbers that document 01 has for each entry, beside 0. 37, 39 and 41 are met through direct codes alone; to structs every
+/* The numbers that document 01 and the change requests have for each entry, beside 0. 37, 39 and 41 are met through direct codes alone; to structs every
  * writer answers 54 where the list lent for the numbers is not ready. */
 static const uint8_t NUMBERS[ENTRIES][24] = {
     {11, 13, 21, 22, 23, 24, 25, 51, 52, 53, 54},
     {11, 12, 13, 21, 31, 32, 33, 34, 35, 36, 38, 40, 51, 52, 53, 54},
-    {11, 13, 21, 23, 24, 51, 52, 53},
+    {78},
     {11},
     {11, 13, 21, 23, 24, 25, 51, 52, 53},
     {13, 21, 34, 35, 36, 37, 38, 39, 40, 41, 51, 52, 53, 54},
@@ -51,7 +51,7 @@ static const uint8_t NUMBERS[ENTRIES][24] = {
     {11, 61, 62, 63, 64, 65, 66, 67, 68, 69},
     {11, 13, 21, 22, 23, 24, 25, 51, 52, 53, 54},
     {11, 12, 13, 21, 31, 32, 33, 34, 35, 36, 38, 40, 51, 52, 53, 54},
-    {11, 13, 21, 23, 24, 51, 52, 53, 54},
+    {54, 78},
     {11, 54},
     {11, 13, 21, 23, 24, 25, 51, 52, 53, 54},
     {54},
@@ -60,7 +60,7 @@ static const uint8_t NUMBERS[ENTRIES][24] = {
     {54},
     {1},
 };
-enum { EMPTY = 70, KNOWN };
+enum { EMPTY = 99, KNOWN };
 static uint64_t counts[ENTRIES][KNOWN];
 static uint64_t calls, wanted, seed, sum = 1469598103934665603u;
 
@@ -394,7 +394,7 @@ static void damage(void) {
 }
 
 static void make_case(void) {
-    static const int entries[] = {ELF, ELF, ELF, COFF, COFF, MACH_O, MACH_O, DEBUG_FRAME, DEBUG_FRAME, SEH, SEH};
+    static const int entries[] = {ELF, ELF, ELF, ELF, COFF, COFF, MACH_O, DEBUG_FRAME, DEBUG_FRAME, SEH, SEH};
     static const uint64_t many[] = {1, 1, 2, 3, 5}, others[] = {3, 4, 5, UINT64_MAX};
     uint64_t functions = chance(98) ? PICK(many) : chance(50) ? 0 : below(200);
     for (int i = 0; i < LISTS; i++) lists[i].count = 0;
@@ -843,7 +843,7 @@ static void turn(void) {
         keep(&w);
         write_again();
         write_again();
-        if (entry == ELF || entry == MACH_O || entry == DEBUG_FRAME) {
+        if (entry == ELF || entry == DEBUG_FRAME) {
             const section *s = pool_kept();
             for (int i = 0; s && i < 3; i++) read_back(s);
         }

@@ -1,4 +1,5 @@
-"""Document 01's questions, asked of the number lists of a case; written from the document, apart from the definitions and the code.
+"""Document 01's questions and those of the change requests, asked of the number lists of a case; written from the documents, apart from
+the definitions and the code.
 
 `expected(case)` is ("empty",), ("refused", number, position), ("accepted",), or ("source",) where only the source's own branches
 decide: the groups and codes of COFF (31 to 41)."""
@@ -76,11 +77,16 @@ def row_whole(word, row):
     return not factored or signed(off) % word == 0
 
 
-def dwarf_number(case, f, word, elf, debug):
+def mach_o(case):
+    """A format that is not written any more (W-210); the Rust is not asked about it."""
+    return case["entry"] == "relaxed_table" and case["format"] == 2
+
+
+def dwarf_number(case, f, word, debug):
     """21 to 25 of one function, or None."""
     if f[1] >= (256**word if debug else 2**32):
         return 21
-    if elf and not debug and f[5] == 0 and f[8]:
+    if not debug and f[5] == 0 and f[8]:
         if not encoding_ok(f[9], True) or f[11] and not encoding_ok(f[12], False):
             return 22
     rows, at = reached(case, "rows", f[2], f[3]), 0
@@ -90,7 +96,7 @@ def dwarf_number(case, f, word, elf, debug):
         at = row[0]
     if not all(row_whole(word, row) for row in rows):
         return 24
-    if elf and f[14] and any(p[0] == p[1] for p in reached(case, "pairs", f[16], f[17])):
+    if f[14] and any(p[0] == p[1] for p in reached(case, "pairs", f[16], f[17])):
         return 25
     return None
 
@@ -99,6 +105,8 @@ def table(case, debug):
     functions, form = records(case["functions"], 18), case["format"]
     if not functions or form in (3, 4) and not debug or form != 0 and debug:
         return ("empty",)
+    if mach_o(case):
+        return ("refused", 78, 0)
     if form > 4 or not machine_ok(case["machine"]):
         return ("refused", 11, 0)
     word = case["machine"][0]
@@ -109,7 +117,7 @@ def table(case, debug):
     if form == 1:
         return next((("refused", 21, k) for k, f in enumerate(functions) if f[1] >= 2**32), ("source",))
     for k, f in enumerate(functions):
-        number = dwarf_number(case, f, word, form == 0, debug)
+        number = dwarf_number(case, f, word, debug)
         if number is not None:
             return ("refused", number, k)
     return ("accepted",)

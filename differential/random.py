@@ -191,7 +191,7 @@ class Maker:
 def random_case(seed, number):
     rng = random.Random(f"{seed} {number}")
     entry = rng.choice(["relaxed_table"] * 6 + ["relaxed_debug_frame"] * 2 + ["seh"] * 2)
-    form = rng.choice([0, 0, 0, 0, 1, 1, 2, 2, 3 if rng.random() < 0.2 else 0, 4 if rng.random() < 0.2 else 0])
+    form = rng.choice([0, 0, 0, 0, 1, 1, 2 if rng.random() < 0.2 else 0, 3 if rng.random() < 0.2 else 0, 4 if rng.random() < 0.2 else 0])
     if entry == "relaxed_debug_frame" and rng.random() < 0.95:
         form = 0
     return Maker(rng, entry, form).text(f"random_{seed}_{number}")

@@ -18,6 +18,7 @@ sys.path = [folder for folder in sys.path if os.path.abspath(folder) != HERE] + 
 
 from definitions import by_case, parse  # noqa: E402
 from exports import OUT, batches, for_the_rust, run  # noqa: E402
+from oracle import mach_o  # noqa: E402
 from reader import DEBUG, EH, read  # noqa: E402
 
 SMALL = 80
@@ -28,7 +29,7 @@ FLIPS = (1, 2, 4, 8, 16, 32, 64, 128, 255)
 def sections(texts):
     """Kind, word, count of functions, section and relocations of each accepted list."""
     for text in texts:
-        cases = [case for case in parse(text.split("\n")) if case["machine"][:1] <= [8] and case["entry"] != "seh"]
+        cases = [case for case in parse(text.split("\n")) if case["machine"][:1] <= [8] and case["entry"] != "seh" and not mach_o(case)]
         said = by_case(run(os.path.join(OUT, "release", "harness"), "".join(for_the_rust(case, None) for case in cases)))
         for case in cases:
             answer = said[case["name"]]

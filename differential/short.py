@@ -7,7 +7,7 @@ import itertools
 OPERANDS = [(0, 7, 16), (0, 64, -8), (1, 0, 24), (2, 6, 0), (3, 6, -16), (3, 6, 8), (4, 3, 0), (5, 16, 0), (6, 0, 0), (7, 0, 0), (8, 0, 0)]
 ROWS = [(at, *operand) for at in (0, 1) for operand in OPERANDS]
 MACHINES = [(word, word * pushed) for word in (2, 4, 8) for pushed in (0, 1)]
-SECTIONS = [("relaxed_table", 0), ("relaxed_table", 2), ("relaxed_debug_frame", 0)]
+SECTIONS = [("relaxed_table", 0), ("relaxed_debug_frame", 0)]
 
 
 def machine(word, pushed):

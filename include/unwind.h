@@ -1,4 +1,4 @@
-/* Unwind tables: the writers of ELF's eh_frame and debug_frame, Mach-O's eh_frame and Windows x64 unwind data, the row check,
+/* Unwind tables: the writers of ELF's eh_frame and debug_frame and of Windows x64 unwind data, the row check,
  * and the reader of the DWARF sections.
  *
  * Every function takes every input: a refusal comes back as the number of the question that was answered by no, and every
@@ -37,7 +37,7 @@ extern "C" {
  *
  * An operand that a row's or a code's kind does not have is 0. Symbols of the caller are 16 to 2^32 - 1; in relocations 0 is
  * the personality reference, 1 the table of call sites, 2 .debug_frame, and 2^32 + s the marker of s.
- * Formats: 0 ELF, 1 COFF, 2 Mach-O, 3 Wasm, 4 Plan 9.
+ * Formats: 0 ELF, 1 COFF, 2 Mach-O (read, and not written any more), 3 Wasm, 4 Plan 9.
  *
  * The questions, by the number of a no:
  *   11 machine, format, kind or word   12 x64: word is 8   13 counts, ranges, symbols, and numbers that their fields hold
@@ -48,7 +48,8 @@ extern "C" {
  *   frame   39 below 2^32   40 slots to 255   41 frame offset 0 to 240, a multiple of 16
  *   51 places or markers fit   52 bytes   53 relocations   54 call sites or x64 info; structs: the list for numbers
  *   61 lengths tile   62 record k   63 its header   64 fields of both   65 p below the length   66 operations
- *   67 a state to restore, no Restore in a header   68 at most 16 states stored   69 a frame address rule to change */
+ *   67 a state to restore, no Restore in a header   68 at most 16 states stored   69 a frame address rule to change
+ *   78 eh_frame of a format that is written: not Mach-O */
 
 /* The ready x86-64 (System V psABI) at the front of a lent list of 70 numbers or more: 0, or 54 where there are fewer, and the list
  * is then as it was. */
@@ -56,12 +57,12 @@ uint64_t unwind_machine_x86_64(uint64_t *machine, size_t machine_n);
 
 /* What a writer answers. `number` is 0 where the call was accepted, and where the result is empty: of an empty list, Wasm,
  * Plan 9, and debug_frame in any format but ELF. Else it is the question's, and `position` is the function's, from 0 (0 for 11
- * to 13 and 51 to 54). The counts are 0 on a refusal; relocations are counted in fives. */
+ * to 13 and from 51 on). The counts are 0 on a refusal; relocations are counted in fives. */
 typedef struct {
     uint64_t number, position, places, bytes, relocations, sites;
 } unwind_written;
 
-/* eh_frame of ELF and Mach-O, x64 unwind data of COFF. `places` takes the header places, in COFF the markers; `sites` the call
+/* eh_frame of ELF, x64 unwind data of COFF. `places` takes the header places, in COFF the markers; `sites` the call
  * sites, in COFF the x64 info. */
 unwind_written unwind_relaxed_table(
     const uint64_t *machine, size_t machine_n, uint64_t format,

@@ -1,4 +1,4 @@
-//! Unwind tables: writers of ELF's eh_frame and debug_frame, Mach-O's eh_frame and Windows x64 unwind data, and a reader of the
+//! Unwind tables: writers of ELF's eh_frame and debug_frame and of Windows x64 unwind data, and a reader of the
 //! DWARF ones. Safe wrappers over libunwind.a, whose functions are proved to give exactly what their specification says.
 //!
 //! Every function takes every input. A refusal is a [`Refusal`]: the number of the question that was answered by no, and the

@@ -73,7 +73,7 @@ pub fn machine_x86_64() -> [u64; 70] {
     machine
 }
 
-/// The table of a list of functions. Formats: 0 ELF, 1 COFF, 2 Mach-O, 3 Wasm, 4 Plan 9.
+/// The table of a list of functions. Formats: 0 ELF, 1 COFF, 2 Mach-O (refused by 78), 3 Wasm, 4 Plan 9.
 ///
 /// # Errors
 /// The question that was answered by no; every lent buffer is then as it was.

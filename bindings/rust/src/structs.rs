@@ -186,7 +186,7 @@ pub fn row_check_of(simple: bool, rows: &[RowAt]) -> bool {
     said == 1
 }
 
-/// The table of a list of functions. Formats: 0 ELF, 1 COFF, 2 Mach-O, 3 Wasm, 4 Plan 9. `numbers` is room for at least
+/// The table of a list of functions. Formats: 0 ELF, 1 COFF, 2 Mach-O (refused by 78), 3 Wasm, 4 Plan 9. `numbers` is room for at least
 /// [`Lists::numbers`] numbers, all zero; it comes back as it was, whatever the answer is.
 ///
 /// # Errors

@@ -110,7 +110,7 @@ pub enum Format {
     Elf,
     /// Windows x64 unwind data.
     Coff,
-    /// eh_frame without call sites, personalities and relaxing.
+    /// Not written any more: a list that is not empty is refused by 78. Its sections are read as eh_frame.
     MachO,
     /// No table.
     Wasm,

@@ -89,7 +89,7 @@ fn usual_of(lists: &Lists<'_>) -> [usize; 4] {
     usual(lists.functions.len() / 18, (lists.rows.len() / 4).saturating_add(lists.landings.len() / 3))
 }
 
-/// The table of these functions: eh_frame of ELF and Mach-O, x64 unwind data of COFF, nothing of Wasm and Plan 9.
+/// The table of these functions: eh_frame of ELF, x64 unwind data of COFF, nothing of Wasm and Plan 9.
 ///
 /// # Errors
 /// The question that was answered by no. 51 to 54 do not occur: the buffers grow until the results fit.

@@ -10,7 +10,7 @@ use lib.Dec.{T, leb}
 use lib.ListN.{length}
 use Rattle.format.specs.Prelude.{pick, each}
 use Rattle.format.specs.declared.Section.{Section}
-use Rattle.format.specs.declared.Section.the-variants.{Elf, MachO, Debug}
+use Rattle.format.specs.declared.Section.the-variants.{Elf, Debug}
 use Rattle.format.specs.Machine.{machineOf}
 use Rattle.format.specs.Lists.{Function, functionStride, field, count, sumOf, functionsOf, listsOk}
 use Rattle.format.specs.Writer.{Written, taken, partsOf, dwarf}
@@ -50,7 +50,6 @@ module _ (g : Given) (some-functions : 0 < count functionStride (g .functions)) 
   taken-up : (s : Section) (r : Room) → dwarfWritten s g r ≡ dwarfGiven s g r
   unfolding dwarfWritten relaxedTable relaxedDebugFrame formatAnswer pick
   taken-up Elf r = rw there
-  taken-up MachO r = rw there
   taken-up Debug r = rw there
 
   module _ (s : Section) (asked : givenAsks g ≡ none) (told : perFunction (dwarfAsks s (machineOf (g .machine) .word)) 0 (map (taken s) (givenFunctions g)) ≡ none) where
@@ -67,7 +66,6 @@ module _ (g : Given) (some-functions : 0 < count functionStride (g .functions)) 
 taken-few : (s : Section) (e : Extent) → takenIn s e .landings ≤ e .landings
 unfolding takenIn without
 taken-few Elf e = omega arith
-taken-few MachO e = omega arith
 taken-few Debug e = omega arith
 
 module _ (x : Inputs) where

@@ -9,7 +9,7 @@ use mir.Facts.{and-yes, or-yes, eqb-yes, eqb-no}
 use mathlib.Core.Logic.{⊎-elim}
 use Rattle.format.specs.Lists.{field, functionStride, rowStride, landingStride, pairStride, count, mark, inside, symbolOk, markOk, whenMarked, rowOkAt, pairOkAt, pointerOk, allIn, functionOkAt, sumOf, pairsIn, listsOk, mostFunctions, mostRecords}
 use Rattle.format.specs.declared.Section.{Section}
-use Rattle.format.specs.declared.Section.the-variants.{Elf, MachO, Debug}
+use Rattle.format.specs.declared.Section.the-variants.{Elf, Debug}
 use Rattle.format.proofs.Choice.{pick-yes}
 use Rattle.format.proofs.ListLaws.{chained, in-range}
 use Rattle.lists.specs.declared.Extent.{Extent}
@@ -45,25 +45,21 @@ marked n b t m = ⊎-elim (λ z. absurd (eqb-no {a = n} {b = 0} m (eqb-yes z))) 
 taken-askable : (s : Section) (e : Extent) (rows pairs : List ℕ) → Askable e rows pairs → Askable (takenIn s e) rows pairs
 unfolding takenIn without
 taken-askable Elf e rows pairs a = a
-taken-askable MachO e rows pairs a = record { ready = a .ready; paired = λ (p : false ≡ true). let z : _≡_ {A = ℕ} 0 1 = cc in absurd (omega arith) }
 taken-askable Debug e rows pairs a = record { ready = a .ready; paired = λ t. record { inside = a .paired t .inside; few = a .paired t .few } }
 
 taken-landings : (s : Section) (e : Extent) (landings : List ℕ) → LandingsReady e landings → LandingsReady (takenIn s e) landings
 unfolding takenIn without
 taken-landings Elf e landings a = a
-taken-landings MachO e landings a = record { inside = omega (arith, a .inside); few = omega arith }
 taken-landings Debug e landings a = record { inside = omega (arith, a .inside); few = omega arith }
 
 taken-encoding : (s : Section) (e : Extent) → EncodingFits e → EncodingFits (takenIn s e)
 unfolding takenIn without
 taken-encoding Elf e h = h
-taken-encoding MachO e h = λ (p : false ≡ true). let z : _≡_ {A = ℕ} 0 1 = cc in absurd (omega arith)
 taken-encoding Debug e h = λ (p : false ≡ true). let z : _≡_ {A = ℕ} 0 1 = cc in absurd (omega arith)
 
 taken-range : (s : Section) (e : Extent) → (takenIn s e .«rows_at» ≡ e .«rows_at») × (takenIn s e .rows ≡ e .rows)
 unfolding takenIn without
 taken-range Elf e = (refl, refl)
-taken-range MachO e = (refl, refl)
 taken-range Debug e = (refl, refl)
 
 -- ---- question 13

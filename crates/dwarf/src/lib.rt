@@ -72,7 +72,6 @@ fn size_ok(s: Section, word: u64, size: u64) -> bool
 {
     match s {
         Section::Elf => size < 4294967296,
-        Section::MachO => size < 4294967296,
         Section::Debug => word_holds(word, size),
     }
 }
@@ -239,7 +238,6 @@ fn is_debug(s: Section) -> bool
 {
     match s {
         Section::Elf => false,
-        Section::MachO => false,
         Section::Debug => true,
     }
 }
@@ -256,7 +254,6 @@ fn align_for(s: Section, word: u64, last: bool) -> usize
     }
     match s {
         Section::Elf => 4,
-        Section::MachO => word as usize,
         Section::Debug => word as usize,
     }
 }

@@ -19,8 +19,8 @@ use Rattle.format.specs.Machine.{machineOf, machineOk, machineStride, is
 use Rattle.format.specs.Rows.{RowAt, rowWhole, regOf, offsetOf}
 use Rattle.format.specs.Lists.{Function, functionStride, rowStride, landingStride, pairStride, field, count, rowOf, rowAt, functionAt, functionsOf, mostFunctions, mostRecords, inside, symbolOk, markOk, whenMarked, hasRegister, hasOffset, rowOk, rowOkAt, pairOkAt, pointerOk, allIn, functionOkAt, sumOf, pairsIn, listsOk}
 use Rattle.format.specs.declared.Section.{Section}
-use Rattle.format.specs.declared.Section.the-variants.{Elf, MachO, Debug}
-use Rattle.format.specs.Writer.{Written, bare, fixed, taken, dwarf}
+use Rattle.format.specs.declared.Section.the-variants.{Elf, Debug}
+use Rattle.format.specs.Writer.{Written, bare, taken, dwarf}
 use Rattle.format.specs.Headers.{leading}
 use Rattle.format.specs.Rules.{runRows}
 use Rattle.format.specs.RowCheck.{rowCheck, rowCheckAt}
@@ -33,27 +33,23 @@ use Rattle.format.proofs.ListLaws.{each-length, each-get, get-map, chai
 -- ---- what a section takes of a function
 
 pub taken-size : (s : Section) (f : Function) → taken s f .size ≡ f .size
-unfolding taken bare fixed
+unfolding taken bare
 taken-size Elf f = refl
-taken-size MachO f = refl
 taken-size Debug f = refl
 
 pub taken-rows : (s : Section) (f : Function) → taken s f .rows ≡ f .rows
-unfolding taken bare fixed
+unfolding taken bare
 taken-rows Elf f = refl
-taken-rows MachO f = refl
 taken-rows Debug f = refl
 
 pub taken-plain : (s : Section) (f : Function) → f .relaxed ≡ none → taken s f .relaxed ≡ none
-unfolding taken bare fixed
+unfolding taken bare
 taken-plain Elf f e = e
-taken-plain MachO f e = refl
 taken-plain Debug f e = e
 
 pub taken-run : (s : Section) (m : Machine) (f : Function) (q p : ℕ) → runRows m (taken s f) q p ≡ runRows m f q p
-unfolding taken bare fixed runRows leading
+unfolding taken bare runRows leading
 taken-run Elf m f q p = refl
-taken-run MachO m f q p = refl
 taken-run Debug m f q p = refl
 
 -- ---- questions
@@ -267,7 +263,6 @@ given-is s g r w e =
 pub accepted-is : (s : Section) (g : Given) (r : Room) (w : Written) → dwarfWritten s g r ≡ accepted w → Accepted s g w
 unfolding dwarfWritten relaxedTable relaxedDebugFrame formatAnswer pick
 accepted-is Elf g r w e = given-is Elf g r w (not-empty (noFunctions g) _ w e)
-accepted-is MachO g r w e = given-is MachO g r w (not-empty (noFunctions g) _ w e)
 accepted-is Debug g r w e = given-is Debug g r w (not-empty (noFunctions g || false) _ w e)
 
 -- ---- function k

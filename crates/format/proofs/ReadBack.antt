@@ -1,4 +1,4 @@
--- Reading back what was written: for every list that is accepted for DWARF output, in ELF's eh_frame, Mach-O's and ELF's debug_frame.
+-- Reading back what was written: for every list that is accepted for DWARF output, in ELF's eh_frame and debug_frame.
 use mathlib.Core.Path.{_≡_, refl, ap, _∙_}
 use Prim.Native.Nat.{ℕ, _<_, _≤_}
 use mathlib.Core.Bool.{true, not, _&&_}
@@ -13,7 +13,7 @@ use Rattle.format.specs.declared.Reading.the-variants.{Refused}
 use Rattle.format.specs.Machine.{machineOf, isWord}
 use Rattle.format.specs.Lists.{Function, Relocation, functionStride, count, numbersOf, relocationsOf}
 use Rattle.format.specs.declared.Section.{Section}
-use Rattle.format.specs.declared.Section.the-variants.{Elf, MachO, Debug}
+use Rattle.format.specs.declared.Section.the-variants.{Elf, Debug}
 use Rattle.format.specs.Writer.{isDebug, taken, Written, dwarf, partsFrom, partsOf, joined}
 use Rattle.format.specs.Questions.{Given, Room, givenFunctions, accepted, dwarfWritten}
 use Rattle.format.specs.Rules.{answer, runRows, rulesAt, seen}
@@ -29,7 +29,6 @@ use Rattle.format.proofs.SectionBack.{section-read}
 -- the reader's number of a section's kind: 0 eh, 1 debug
 abbrev pub kindOf : Section → ℕ
 kindOf Elf = 0
-kindOf MachO = 0
 kindOf Debug = 1
 
 -- what the reader answers of register q at p in record k, on exactly the section and relocations that were written, with their kind and word
@@ -46,13 +45,11 @@ relocsOf s m fs = joined (map (λ p. p .relocations) (partsFrom s m 0 0 [] fs))
 -- the reader takes the kind and the word of every written section
 asked : (s : Section) (word : ℕ) → T (isWord word) → T (isWord word && leb (kindOf s) 1)
 asked Elf word h = yes-and (isWord word) true h tt
-asked MachO word h = yes-and (isWord word) true h tt
 asked Debug word h = yes-and (isWord word) true h tt
 
 same-kind : (s : Section) → eqb (kindOf s) 1 ≡ isDebug s
 unfolding isDebug
 same-kind Elf = refl
-same-kind MachO = refl
 same-kind Debug = refl
 
 module _ (s : Section) (g : Given) (r : Room) (w : Written) (e : dwarfWritten s g r ≡ accepted w) where

@@ -18,7 +18,7 @@ use Rattle.format.specs.Rules.{start, answer, runRows}
 use Rattle.format.specs.Reader.{Entry, distanceBack, firstAddend, headerPlace, Found, parsed, locate, walked, readSection}
 use Rattle.format.specs.Questions.{sizeBytes}
 use Rattle.format.specs.declared.Section.{Section}
-use Rattle.format.specs.declared.Section.the-variants.{Elf, MachO, Debug}
+use Rattle.format.specs.declared.Section.the-variants.{Elf, Debug}
 use Rattle.format.specs.Writer.{isDebug, partsFrom, joined}
 use Rattle.format.proofs.Choice.{if-le}
 use Rattle.format.proofs.EntryBack.{padded-behind}
@@ -36,7 +36,6 @@ use Rattle.format.proofs.SectionFinds.{spotAt, record-holds, record-fou
 size-bytes : (s : Section) (word : ℕ) → pick (isDebug s) word 4 ≡ sizeBytes s word
 unfolding isDebug sizeBytes pick
 size-bytes Elf word = refl
-size-bytes MachO word = refl
 size-bytes Debug word = refl
 
 -- without relaxing labels the length field is the function's length

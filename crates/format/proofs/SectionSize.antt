@@ -12,7 +12,7 @@ use Rattle.format.specs.Lists.{Function}
 use Rattle.format.specs.Headers.{keyOf, leading, others, padded, entry, headerFields, headerBytes}
 use Rattle.format.specs.Records.{recordFields, recordBytes}
 use Rattle.format.specs.declared.Section.{Section}
-use Rattle.format.specs.declared.Section.the-variants.{Elf, MachO, Debug}
+use Rattle.format.specs.declared.Section.the-variants.{Elf, Debug}
 use Rattle.format.specs.Writer.{isDebug, alignFor, Seen, isEmpty, partsFrom, joined}
 use Rattle.format.proofs.EntryBack.{entry-length, padding-small, padded-length}
 use Rattle.format.proofs.FieldsBack.{word-small}
@@ -33,7 +33,6 @@ aligned : (s : Section) (word : ℕ) (last : Bool) → 0 < word → word ≤ 8 �
 unfolding alignFor pick
 aligned Elf word true h l = record { some-bytes = h; at-most-8 = l }
 aligned Elf word false h l = record { some-bytes = omega arith; at-most-8 = omega arith }
-aligned MachO word last h l = record { some-bytes = h; at-most-8 = l }
 aligned Debug word last h l = record { some-bytes = h; at-most-8 = l }
 
 -- four bytes of length, and at most seven of zeros

@@ -12,7 +12,7 @@ use Rattle.format.specs.Rows.{RowAt, rowWhole}
 use Rattle.format.specs.Lists.{Function, Named, Pointer, Landing, Relaxed, Prologue, functionStride, prologueStride, count, functionsOf, prologuesOf, listsOk, codesOk}
 use Rattle.format.specs.Headers.{pointerSize}
 use Rattle.format.specs.declared.Section.{Section}
-use Rattle.format.specs.declared.Section.the-variants.{Elf, MachO, Debug}
+use Rattle.format.specs.declared.Section.the-variants.{Elf, Debug}
 use Rattle.format.specs.Writer.{Written, dwarf, taken}
 use Rattle.format.specs.X64.{codesOf, prologueOf, prologueNo, x64}
 
@@ -38,7 +38,6 @@ perFunction f at (x ∷ xs) = andThen (f at x) (perFunction f (suc at) xs)
 -- 21: the bytes of the length field
 unfoldable pub sizeBytes : Section → ℕ → ℕ
 sizeBytes Elf word = 4
-sizeBytes MachO word = 4
 sizeBytes Debug word = word
 
 -- 22: the encodings that are used
@@ -185,12 +184,12 @@ windowsAsks g =
 unfoldable pub dwarfGiven : Section → Given → Room → Answer
 dwarfGiven s g r = unless (givenAsks g) (dwarfAnswer s (machineOf (g .machine)) (givenFunctions g) r)
 
--- formats: 0 ELF, 1 COFF, 2 Mach-O, 3 Wasm, 4 Plan 9; another is 11
+-- formats: 0 ELF, 1 COFF, 2 Mach-O, which is not written any more (78), 3 Wasm, 4 Plan 9; another is 11
 unfoldable pub formatAnswer : ℕ → Given → Room → Answer
 formatAnswer format g r =
     pick (eqb format 0) (dwarfGiven Elf g r)
     (pick (eqb format 1) (unless (windowsAsks g) (windowsAnswer (machineOf (g .machine)) (givenFunctions g) r))
-    (pick (eqb format 2) (dwarfGiven MachO g r)
+    (pick (eqb format 2) (refused 78 0)
     (pick (leb format 4) empty (refused 11 0))))
 
 -- an empty list is an empty result before any question
@@ -211,5 +210,4 @@ seh fs codes r =
 -- a list is accepted for DWARF output when its writer neither refuses nor gives an empty result
 unfoldable pub dwarfWritten : Section → Given → Room → Answer
 dwarfWritten Elf g r = relaxedTable 0 g r
-dwarfWritten MachO g r = relaxedTable 2 g r
 dwarfWritten Debug g r = relaxedDebugFrame 0 g r

@@ -7,7 +7,7 @@ use lib.ListN.{length}
 use Rattle.format.specs.Prelude.{pick}
 use Rattle.format.specs.declared.Machine.{Machine}
 use Rattle.format.specs.declared.Section.{Section}
-use Rattle.format.specs.declared.Section.the-variants.{Elf, MachO, Debug}
+use Rattle.format.specs.declared.Section.the-variants.{Elf, Debug}
 use Rattle.format.specs.Lists.{Function, Relocation}
 use Rattle.format.specs.Headers.{Key, keyOf, sameKey, headerBytes, headerRelocs}
 use Rattle.format.specs.Records.{recordBytes, recordRelocs}
@@ -15,27 +15,20 @@ use Rattle.format.specs.CallSites.{sitePad, siteAdded}
 
 unfoldable pub isDebug : Section → Bool
 isDebug Elf = false
-isDebug MachO = false
 isDebug Debug = true
 
--- what a section takes of a function: debug_frame drops landings and personalities, Mach-O drops relaxing too (document 01, "Header")
+-- what a section takes of a function: debug_frame drops landings and personalities (document 01, "Header")
 unfoldable pub bare : Function → Function
 bare f =
     record { symbol = f .symbol; size = f .size; rows = f .rows; landings = []; simple = f .simple; signal = f .signal; named = none; relaxed = f .relaxed }
 
-unfoldable pub fixed : Function → Function
-fixed f =
-    record { symbol = f .symbol; size = f .size; rows = f .rows; landings = f .landings; simple = f .simple; signal = f .signal; named = f .named; relaxed = none }
-
 unfoldable pub taken : Section → Function → Function
 taken Elf f = f
-taken MachO f = fixed (bare f)
 taken Debug f = bare f
 
--- ELF's eh_frame pads to the smaller of word and 4, but to word for the last function's header and record; the others pad to word
+-- ELF's eh_frame pads to the smaller of word and 4, but to word for the last function's header and record; debug_frame pads to word
 unfoldable pub alignFor : Section → ℕ → (last : Bool) → ℕ
 alignFor Elf word last = pick last word (min word 4)
-alignFor MachO word last = word
 alignFor Debug word last = word
 
 -- what one function adds: its header's place, bytes, relocations and call sites

@@ -154,10 +154,9 @@ pub enum Reading {
     Refused(u64),
 }
 
-// The DWARF sections: ELF's eh_frame, Mach-O's, and ELF's debug_frame.
+// The DWARF sections: ELF's eh_frame and ELF's debug_frame.
 pub enum Section {
     Elf,
-    MachO,
     Debug,
 }
 

@@ -7,7 +7,7 @@ use native.Mathlib.Omega.{arith}
 use lib.Dec.{T, leb, eqb}
 use mir.Facts.{and-yes, leb-yes}
 use Rattle.format.specs.declared.Section.{Section}
-use Rattle.format.specs.declared.Section.the-variants.{Elf, MachO, Debug}
+use Rattle.format.specs.declared.Section.the-variants.{Elf, Debug}
 use Rattle.format.specs.Lists.{field, functionStride, rowStride, landingStride, pairStride, count, mark, inside, symbolOk, markOk, whenMarked, pointerOk, rowOkAt, pairOkAt, allIn, functionOkAt}
 use Rattle.format.proofs.ListLaws.{chained}
 use Rattle.lists.specs.declared.Extent.{Extent}
@@ -40,5 +40,4 @@ encoding-listed fs rows landings pairs k t e =
 pub encoding-taken : (s : Section) (e : Extent) → EncodingFits e → EncodingFits (takenIn s e)
 unfolding takenIn without
 encoding-taken Elf e h = h
-encoding-taken MachO e h = false-true
 encoding-taken Debug e h = false-true

@@ -1,12 +1,12 @@
 -- A function's record as a section takes it, and what the questions have made sure of before anything of it is written.
 use Prim.Native.Nat.{ℕ, _+_, _*_, _≤_, _<_}
-use mathlib.Core.Bool.{Bool, false}
+use mathlib.Core.Bool.{false}
 use mathlib.Core.List.{List, []}
 use lib.Dec.{T}
 use lib.ListN.{length}
 use Rattle.format.specs.declared.Machine.{Machine}
 use Rattle.format.specs.declared.Section.{Section}
-use Rattle.format.specs.declared.Section.the-variants.{Elf, MachO, Debug}
+use Rattle.format.specs.declared.Section.the-variants.{Elf, Debug}
 use Rattle.format.specs.Lists.{Function, field, functionStride, rowStride, landingStride, pairStride, count, rowOkAt, allIn, mostRecords}
 use Rattle.format.specs.Headers.{Key, keyOf}
 use Rattle.format.specs.Questions.{encodingsOk}
@@ -15,25 +15,25 @@ use Rattle.format.proofs.WalkBack.{RowsAtOk}
 use Rattle.lists.specs.declared.Extent.{Extent}
 use Rattle.lists.specs.Extents.{meant}
 
--- landings and pairs by count, personality and relaxing labels by mark; the rest as it is
-unfoldable pub without : (landings : ℕ) (personality relaxed : Bool) → Extent → Extent
-without landings personality relaxed e =
+-- the record without its landings and its personality
+unfoldable pub without : Extent → Extent
+without e =
     record {
       symbol = e .symbol;
       length = e .length;
       «rows_at» = e .«rows_at»;
       rows = e .rows;
       «landings_at» = e .«landings_at»;
-      landings = landings;
+      landings = 0;
       simple = e .simple;
       signal = e .signal;
-      personality = personality;
+      personality = false;
       encoding = e .encoding;
       routine = e .routine;
       lsda = e .lsda;
       «lsda_encoding» = e .«lsda_encoding»;
       «lsda_symbol» = e .«lsda_symbol»;
-      relaxed = relaxed;
+      relaxed = e .relaxed;
       end = e .end;
       «pairs_at» = e .«pairs_at»;
       pairs = e .pairs;
@@ -42,8 +42,7 @@ without landings personality relaxed e =
 -- what a section takes of a function's record (`taken` of the definitions)
 unfoldable pub takenIn : Section → Extent → Extent
 takenIn Elf e = e
-takenIn MachO e = without 0 false false e
-takenIn Debug e = without 0 false (e .relaxed) e
+takenIn Debug e = without e
 
 -- the function without its landings and pairs: all that header and record bytes depend on
 abbrev pub bodyOf : Extent → (rows : List ℕ) → Function

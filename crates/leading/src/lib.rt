@@ -14,18 +14,13 @@ use format::Row;
 use format::Section;
 use lists::Extent;
 
-// What a section takes of a function: debug_frame and Mach-O have no landings and no personality, Mach-O no relaxing labels.
+// What a section takes of a function: debug_frame has no landings and no personality.
 pub fn taken(s: Section, e: Extent) -> Extent
     ensures { λ r. ⌜ r ≡ takenIn s e ⌝ }
 {
     let mut t = e;
     match s {
         Section::Elf => {}
-        Section::MachO => {
-            t.landings = 0;
-            t.personality = false;
-            t.relaxed = false;
-        }
         Section::Debug => {
             t.landings = 0;
             t.personality = false;

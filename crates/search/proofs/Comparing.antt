@@ -11,7 +11,7 @@ use lib.ListN.{length, drop, getD, drop-of-length-le}
 use lib.Seq.{drop-cons}
 use Rattle.format.specs.declared.Machine.{Machine}
 use Rattle.format.specs.declared.Section.{Section}
-use Rattle.format.specs.declared.Section.the-variants.{Elf, MachO, Debug}
+use Rattle.format.specs.declared.Section.the-variants.{Elf, Debug}
 use Rattle.format.specs.declared.Row.{Row}
 use Rattle.format.specs.declared.Row.the-variants.{RememberState}
 use Rattle.format.specs.Lists.{field, functionStride}
@@ -29,7 +29,6 @@ pub rows-taken : (s : Section) (fs rows : List ℕ) (k : ℕ) (e : Extent) → e
     → RowsReady rows (field functionStride fs k 2) (field functionStride fs k 3) → RowsReady rows (e .«rows_at») (e .rows)
 unfolding takenIn without extentAt
 rows-taken Elf fs rows k e q r = rw q r
-rows-taken MachO fs rows k e q r = rw q r
 rows-taken Debug fs rows k e q r = rw q r
 
 -- ---- rows

@@ -8,7 +8,7 @@ use borrow.Author.Tests.{eq-eqb, ne-eqb, le-leb, lt-leb}
 use Rattle.format.specs.Prelude.{pick}
 use Rattle.format.specs.declared.Outcome.{Outcome}
 use Rattle.format.specs.declared.Outcome.the-variants as outcome
-use Rattle.format.specs.declared.Section.the-variants.{Elf, MachO, Debug}
+use Rattle.format.specs.declared.Section.the-variants.{Elf, Debug}
 use Rattle.format.specs.Machine.{machineOf}
 use Rattle.format.specs.Lists.{count, functionStride}
 use Rattle.format.specs.Questions.{Given, Room, Answer, refused, empty, unless, noFunctions, dwarfGiven, windowsAsks, windowsAnswer, givenFunctions, formatAnswer, relaxedTable, relaxedDebugFrame}
@@ -60,7 +60,7 @@ module _ (format : ℕ) (g : Given) (r : Room) where
     unfolding formatAnswer pick
     coff-given e = by-format ∙ rw e refl
 
-    pub mach-o-given : format ≡ 2 → relaxedTable format g r ≡ dwarfGiven MachO g r
+    pub mach-o-given : format ≡ 2 → relaxedTable format g r ≡ refused 78 0
     unfolding formatAnswer pick
     mach-o-given e = by-format ∙ rw e refl
 

@@ -7,7 +7,7 @@ use lib.Dec.{T, eqb, leb→le, eqb→eq}
 use lib.ListN.{length}
 use Rattle.format.specs.Prelude.{pick}
 use Rattle.format.specs.declared.Section.{Section}
-use Rattle.format.specs.declared.Section.the-variants.{Elf, MachO, Debug}
+use Rattle.format.specs.declared.Section.the-variants.{Elf, Debug}
 use Rattle.format.specs.declared.Reading.{Reading}
 use Rattle.format.specs.Machine.{machineOf}
 use Rattle.format.specs.Writer.{Written}
@@ -90,7 +90,7 @@ module _ (r : Room) where
   unfolding relaxedTable formatAnswer
   table-fits format g =
       pick-fits _ _ _ (no-fits r _ tt)
-      (pick-fits _ _ _ (dwarf-fits Elf g) (pick-fits _ _ _ (windows-fits g) (pick-fits _ _ _ (dwarf-fits MachO g) (pick-fits _ _ _ (no-fits r _ tt) (no-fits r _ tt)))))
+      (pick-fits _ _ _ (dwarf-fits Elf g) (pick-fits _ _ _ (windows-fits g) (pick-fits _ _ _ (no-fits r _ tt) (pick-fits _ _ _ (no-fits r _ tt) (no-fits r _ tt)))))
 
   pub answer-fits : (debug : Bool) (format : ℕ) (g : Given) → FitsIn r (answerFor debug format g r)
   unfolding answerFor relaxedDebugFrame
@@ -102,20 +102,11 @@ abbrev sectionOr : Section → Option Section → Section
 sectionOr d none = d
 sectionOr d (some s) = s
 
-module _ {X : Type 0} (format : ℕ) (s : Section) where
-  debug-section : sectionFor true format ≡ some s → (format ≡ 0 → Debug ≡ s → X) → X
-  unfolding sectionFor
-  debug-section e f =
-      tested (eqb format 0) (λ t. f (eqb→eq format 0 t) (ap (sectionOr Debug) (sym (pick-yes _ (some Debug) none t) ∙ e)))
-      (λ t. nothing s (sym (pick-no _ (some Debug) none t) ∙ e))
-
-  eh-section : sectionFor false format ≡ some s → (format ≡ 0 → Elf ≡ s → X) → (format ≡ 2 → MachO ≡ s → X) → X
-  unfolding sectionFor
-  eh-section e f h =
-      tested (eqb format 0) (λ t. f (eqb→eq format 0 t) (ap (sectionOr Elf) (sym (pick-yes _ (some Elf) _ t) ∙ e))) λ t.
-      let e′ : pick (eqb format 2) (some MachO) none ≡ some s = sym (pick-no _ (some Elf) _ t) ∙ e in
-      tested (eqb format 2) (λ u. h (eqb→eq format 2 u) (ap (sectionOr MachO) (sym (pick-yes _ (some MachO) none u) ∙ e′)))
-      (λ u. nothing s (sym (pick-no _ (some MachO) none u) ∙ e′))
+-- ELF's section, where there is one
+in-elf : {X : Type 0} (format : ℕ) (s o : Section) → pick (eqb format 0) (some o) none ≡ some s → (format ≡ 0 → o ≡ s → X) → X
+in-elf format s o e f =
+    tested (eqb format 0) (λ t. f (eqb→eq format 0 t) (ap (sectionOr o) (sym (pick-yes _ (some o) none t) ∙ e)))
+    (λ t. nothing s (sym (pick-no _ (some o) none t) ∙ e))
 
 -- the reader's answer on what an accepted call wrote
 read-accepted : (debug : Bool) (g : Given) (a : Answer) (w : Written) (k q p : ℕ) (s : Section) → a ≡ accepted w → kindOf s ≡ bit debug
@@ -131,12 +122,11 @@ demand s debug format g r w a k q p small e d b =
 
 pub demanded : (debug : Bool) (format : ℕ) (g : Given) (r : Room) (k q p : ℕ) → q ≤ 65535
     → Demanded debug format g (answerFor debug format g r) k q p (readingFor debug g (answerFor debug format g r) k q p)
-unfolding answerFor pick dwarfWritten bit
+unfolding answerFor sectionFor pick dwarfWritten bit
 demanded true format g r k q p small s w section e =
-    debug-section format s section λ f d. rw (sym d) (demand Debug true format g r w _ k q p small e (rw f refl) refl)
+    in-elf format s Debug section λ f d. rw (sym d) (demand Debug true format g r w _ k q p small e (rw f refl) refl)
 demanded false format g r k q p small s w section e =
-    eh-section format s section (λ f d. rw (sym d) (demand Elf false format g r w _ k q p small e (rw f refl) refl))
-    (λ f d. rw (sym d) (demand MachO false format g r w _ k q p small e (rw f refl) refl))
+    in-elf format s Elf section λ f d. rw (sym d) (demand Elf false format g r w _ k q p small e (rw f refl) refl)
 
 -- what is demanded of a reading is demanded of an equal one
 pub demanded-of : {debug : Bool} {format : ℕ} {g : Given} {a : Answer} {k q p : ℕ} {x y : Reading} → x ≡ y

@@ -8,7 +8,7 @@ use lib.Dec.{T, eqb}
 use lib.ListN.{getD}
 use Rattle.format.specs.Prelude.{pick}
 use Rattle.format.specs.declared.Section.{Section}
-use Rattle.format.specs.declared.Section.the-variants.{Elf, MachO, Debug}
+use Rattle.format.specs.declared.Section.the-variants.{Elf, Debug}
 use Rattle.format.specs.declared.Reading.{Reading}
 use Rattle.format.specs.Machine.{machineOf}
 use Rattle.format.specs.Lists.{count, functionStride}
@@ -27,7 +27,7 @@ answerFor debug format g r = pick debug (relaxedDebugFrame format g r) (relaxedT
 -- the DWARF section that it writes, where it writes one
 unfoldable pub sectionFor : (debug : Bool) (format : ℕ) → Option Section
 sectionFor true format = pick (eqb format 0) (some Debug) none
-sectionFor false format = pick (eqb format 0) (some Elf) (pick (eqb format 2) (some MachO) none)
+sectionFor false format = pick (eqb format 0) (some Elf) none
 
 -- exactly what was written: nothing, on a refusal or an empty result
 unfoldable pub bytesOf : Answer → List ℕ

@@ -1,5 +1,5 @@
 -- `dwarf::align_for` meets its contract.
-use Rattle.dwarf.proofs.Alignment.{at-last, small-word, in-elf, in-macho, in-debug}
+use Rattle.dwarf.proofs.Alignment.{at-last, small-word, in-elf, in-debug}
 use borrow.Author.Needs.{needs}
 use Rattle.dwarf.proofs.align_for.Statement.{statement}
 use Rattle.dwarf.proofs.align_for.Tie as tie
@@ -16,19 +16,13 @@ enum-told c = search needs
 enum-told-2 : tie.Need-enum-told-2
 enum-told-2 c = search needs
 
-enum-told-3 : tie.Need-enum-told-3
-enum-told-3 c = search needs
-
 returns-3 : tie.Need-returns-3
 returns-3 c = rw (c .enum-told .given .1) (in-elf _ (c .before .before .before .if1 .left) (c .before .before .if2 .left))
 
 returns-4 : tie.Need-returns-4
-returns-4 c = rw (c .enum-told2 .given .1) (in-macho _ _)
-
-returns-5 : tie.Need-returns-5
-returns-5 c = rw (c .enum-told3 .given .1) (in-debug _ _)
+returns-4 c = rw (c .enum-told2 .given .1) (in-debug _ _)
 
 pub align-for-spec : {M : Type 1} → statement M
 align-for-spec =
     tie.close
-    (tie.spec returns returns-2 enum-told enum-told-2 enum-told-3 returns-3 returns-4 returns-5)
+    (tie.spec returns returns-2 enum-told enum-told-2 returns-3 returns-4)

@@ -10,9 +10,6 @@ enum-told c = search needs
 enum-told-2 : tie.Need-enum-told-2
 enum-told-2 c = search needs
 
-enum-told-3 : tie.Need-enum-told-3
-enum-told-3 c = search needs
-
 word-holds-requires : tie.Need-word-holds-requires
 word-holds-requires c κs = search needs
 
@@ -22,13 +19,7 @@ returns c = rw (c .enum-told .given .1)
 
 returns-2 : tie.Need-returns-2
 unfolding sizeBytes
-returns-2 c = rw (c .enum-told2 .given .1)
-
-returns-3 : tie.Need-returns-3
-unfolding sizeBytes
-returns-3 c = rw (c .before .enum-told3 .given .1) (c .word-holds .ensures)
+returns-2 c = rw (c .before .enum-told2 .given .1) (c .word-holds .ensures)
 
 pub size-ok-spec : {M : Type 1} → statement M
-size-ok-spec =
-    tie.close
-    (tie.spec enum-told enum-told-2 enum-told-3 word-holds-requires returns returns-2 returns-3)
+size-ok-spec = tie.close (tie.spec enum-told enum-told-2 word-holds-requires returns returns-2)

@@ -14,9 +14,6 @@ dwarf-requires c κs = search needs
 windows-requires : tie.Need-windows-requires
 windows-requires c κs = search needs
 
-dwarf-requires-2 : tie.Need-dwarf-requires-2
-dwarf-requires-2 c κs = search needs
-
 same-length : tie.Need-same-length
 same-length c = search needs
 
@@ -47,20 +44,8 @@ same-length-8 c = search needs
 returns-3 : tie.Need-returns-3
 returns-3 c = same-answer (coff-given _ _ _ (c .before .before .before .before .before .before .before .before .before .before .before .before .before .before .if1 .left) (c .before .before .before .before .before .before .before .before .before .before .before .before .before .match .keys2)) (c .before .before .before .before .before .before .before .before .windows .ensures)
 
-same-length-9 : tie.Need-same-length-9
-same-length-9 c = search needs
-
-same-length-10 : tie.Need-same-length-10
-same-length-10 c = search needs
-
-same-length-11 : tie.Need-same-length-11
-same-length-11 c = search needs
-
-same-length-12 : tie.Need-same-length-12
-same-length-12 c = search needs
-
 returns-4 : tie.Need-returns-4
-returns-4 c = same-answer (mach-o-given _ _ _ (c .before .before .before .before .before .before .before .before .before .before .before .before .before .before .if1 .left) (c .before .before .before .before .before .before .before .before .before .before .before .before .before .match .keys3)) (c .before .before .before .before .before .before .before .before .dwarf2 .ensures)
+returns-4 c = writes-refused _ 78 0 (mach-o-given _ _ _ (c .before .if1 .left) (c .match .keys3))
 
 returns-5 : tie.Need-returns-5
 returns-5 c = writes-empty _ (no-table _ _ _ (c .before .if1 .left) (omega (arith, c .match .keys4)) (omega (arith, c .match .keys4)))
@@ -78,7 +63,6 @@ relaxed-table-spec =
     returns
     dwarf-requires
     windows-requires
-    dwarf-requires-2
     same-length
     same-length-2
     same-length-3
@@ -89,10 +73,6 @@ relaxed-table-spec =
     same-length-7
     same-length-8
     returns-3
-    same-length-9
-    same-length-10
-    same-length-11
-    same-length-12
     returns-4
     returns-5
     returns-6
