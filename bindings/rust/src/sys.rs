@@ -1,6 +1,6 @@
 //! include/unwind.h, as it stands there.
 
-use crate::structs::{Function, Landing, RowAt, Pair};
+use crate::structs::{Function, RowAt};
 
 /// What a writer answers.
 #[repr(C)]
@@ -106,11 +106,6 @@ extern "C" {
 
     pub(crate) fn unwind_pack_rows(rows: *const RowAt, rows_n: usize, numbers: *mut u64, numbers_n: usize) -> u64;
 
-    pub(crate) fn unwind_pack_landings(landings: *const Landing, landings_n: usize, numbers: *mut u64, numbers_n: usize)
-        -> u64;
-
-    pub(crate) fn unwind_pack_pairs(pairs: *const Pair, pairs_n: usize, numbers: *mut u64, numbers_n: usize) -> u64;
-
     pub(crate) fn unwind_row_check_of(simple: u64, rows: *const RowAt, rows_n: usize) -> u64;
 
     pub(crate) fn unwind_relaxed_table_of(
@@ -121,9 +116,9 @@ extern "C" {
         functions_n: usize,
         rows: *const RowAt,
         rows_n: usize,
-        landings: *const Landing,
+        landings: *const u64,
         landings_n: usize,
-        pairs: *const Pair,
+        pairs: *const u64,
         pairs_n: usize,
         numbers: *mut u64,
         numbers_n: usize,
@@ -145,9 +140,9 @@ extern "C" {
         functions_n: usize,
         rows: *const RowAt,
         rows_n: usize,
-        landings: *const Landing,
+        landings: *const u64,
         landings_n: usize,
-        pairs: *const Pair,
+        pairs: *const u64,
         pairs_n: usize,
         numbers: *mut u64,
         numbers_n: usize,

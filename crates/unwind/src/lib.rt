@@ -10,9 +10,6 @@ ghost use mir.Syntax.{w64};
 ghost use mir.Val.{ofZ};
 ghost use Rattle.format.specs.declared.Reading.the-variants.{Rules};
 ghost use Rattle.format.specs.Answers.{frameNumbers, ruleNumbers, readingNumbers, bit, outcomeNumbers, Writes};
-ghost use Rattle.checks.specs.Checks.{checkOf};
-ghost use Rattle.structs.specs.Structs.{rowNumbers, landingNumbers, pairNumbers, functionNumbers, numbersOf};
-ghost use Rattle.structs.specs.Packed.{Packs};
 ghost use Rattle.unwind.specs.Together.{answerFor, readingFor, Demanded};
 ghost use Rattle.unwind.specs.Entries.{readNumbers, writtenNumbers, Exports, bytesIn, relocsIn};
 use format::Frame;
@@ -20,10 +17,6 @@ use format::Outcome;
 use format::Reading;
 use format::Rule;
 use format::Section;
-use structs::Function;
-use structs::Landing;
-use structs::Pair;
-use structs::RowAt;
 
 // ---- the writers
 
@@ -591,66 +584,4 @@ pub extern "C" fn unwind_read(
     ensures { λ r. ⌜ readNumbers r ≡ readingNumbers (read (now (section .entry)) (now (relocations .entry)) kind word k q p) ⌝ }
 {
     numbers_of(read(section, relocations, kind, word, k, q, p))
-}
-
-// ---- lists of structs
-
-// The numbers of a list at the front of a lent list, as the other entries take them: 0, or 54 where they do not fit; so too the
-// next three.
-#[no_mangle]
-pub extern "C" fn unwind_pack_rows(rows: &[RowAt], numbers: &mut [u64]) -> u64
-    ensures { λ r. ⌜ Packs (numbersOf rowNumbers (now (rows .entry))) (now (numbers .entry)) (now (numbers .exit)) r ⌝ }
-{
-    if !structs::fits(rows.len(), 4, numbers.len()) {
-        return 54;
-    }
-    structs::put_rows(rows, numbers, 0);
-    0
-}
-
-#[no_mangle]
-pub extern "C" fn unwind_pack_landings(landings: &[Landing], numbers: &mut [u64]) -> u64
-    ensures { λ r. ⌜ Packs (numbersOf landingNumbers (now (landings .entry))) (now (numbers .entry)) (now (numbers .exit)) r ⌝ }
-{
-    if !structs::fits(landings.len(), 3, numbers.len()) {
-        return 54;
-    }
-    structs::put_landings(landings, numbers, 0);
-    0
-}
-
-#[no_mangle]
-pub extern "C" fn unwind_pack_pairs(pairs: &[Pair], numbers: &mut [u64]) -> u64
-    ensures { λ r. ⌜ Packs (numbersOf pairNumbers (now (pairs .entry))) (now (numbers .entry)) (now (numbers .exit)) r ⌝ }
-{
-    if !structs::fits(pairs.len(), 4, numbers.len()) {
-        return 54;
-    }
-    structs::put_pairs(pairs, numbers, 0);
-    0
-}
-
-#[no_mangle]
-pub extern "C" fn unwind_pack_functions(functions: &[Function], numbers: &mut [u64]) -> u64
-    ensures { λ r. ⌜ Packs (numbersOf functionNumbers (now (functions .entry))) (now (numbers .entry)) (now (numbers .exit)) r ⌝ }
-{
-    if !structs::fits(functions.len(), 18, numbers.len()) {
-        return 54;
-    }
-    structs::put_functions(functions, numbers, 0);
-    0
-}
-
-// Whether the rows state rules at each place, 1 or 0, as unwind_row_check says of the numbers that they mean.
-#[no_mangle]
-pub extern "C" fn unwind_row_check_of(simple: u64, rows: &[RowAt]) -> u64
-    ensures { λ r. ⌜ r ≡ bit (checkOf simple (now (rows .entry))) ⌝ }
-{
-    let mut s = checks::opening(simple);
-    let mut i = 0;
-    while i < rows.len() {
-        s = checks::go(s, rows[i]);
-        i += 1;
-    }
-    checks::answer(s)
 }
