@@ -26,6 +26,7 @@ pub(crate) struct Reading {
 }
 
 extern "C" {
+    pub(crate) fn unwind_machine_x86_64(machine: *mut u64, machine_n: usize) -> u64;
     pub(crate) fn unwind_relaxed_table(
         machine: *const u64,
         machine_n: usize,

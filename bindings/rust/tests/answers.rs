@@ -256,3 +256,8 @@ fn questions_in_words() {
     );
     assert_eq!(Refusal { number: 62, position: 0 }.to_string(), "refused by question 62: is there a record of that number?");
 }
+
+#[test]
+fn the_ready_machine_is_the_librarys() {
+    assert_eq!(Machine::X86_64.numbers(), lists::machine_x86_64());
+}

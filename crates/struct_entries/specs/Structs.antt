@@ -1,4 +1,4 @@
--- A struct means a record of the lists of numbers (document 01, "Functions and rows come in as lent lists of records"; D2 in docs/DECISIONS.md).
+-- A struct means a record of the lists of numbers (document 01, "Functions and rows come in as lent lists of records"; D54).
 use Prim.Native.Nat.{ℕ}
 use mathlib.Core.List.{List, [], _∷_, _++_}
 use mir.Syntax.{w32}
