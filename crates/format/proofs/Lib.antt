@@ -18,7 +18,9 @@ pub mod RulesSeen
 pub mod CheckSays
 pub mod GoesBack
 pub mod ListLaws
+pub mod Asked
 pub mod Accepted
+pub mod Wrote
 pub mod PutLaws
 pub mod PositionLaws
 pub mod OperationLaws

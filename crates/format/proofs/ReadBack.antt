@@ -15,13 +15,13 @@ use Rattle.format.specs.Lists.{Function, Relocation, functionStride, cou
 use Rattle.format.specs.declared.Section.{Section}
 use Rattle.format.specs.declared.Section.the-variants.{Elf, MachO, Debug}
 use Rattle.format.specs.Writer.{isDebug, taken, Written, dwarf, partsFrom, partsOf, joined}
-use Rattle.format.specs.Questions.{Given, Room, givenFunctions, accepted, dwarfWritten}
+use Rattle.format.specs.Questions.{Given, Room, givenFunctions, givenFunction, accepted}
 use Rattle.format.specs.Rules.{answer, runRows, rulesAt, seen}
 use Rattle.format.specs.RowCheck.{rowCheckAt}
 use Rattle.format.specs.Reader.{Entry, entries, readSection, read}
 use Rattle.format.proofs.Choice.{pick-yes}
 use Rattle.format.proofs.ListLaws.{relocations-back}
-use Rattle.format.proofs.Accepted.{Accepted, accepted-is, givenFunction, taken-at, taken-size, taken-plain, taken-run, forward, check-at}
+use Rattle.format.proofs.Accepted.{dwarfWritten, Accepted, accepted-is, taken-at, taken-size, taken-plain, taken-run, forward, check-at}
 use Rattle.format.proofs.CheckSays.{rules, refuses, Past}
 use Rattle.format.proofs.SectionTiles.{entriesOf, FieldsHold, fields-hold, section-tiles}
 use Rattle.format.proofs.SectionBack.{section-read}

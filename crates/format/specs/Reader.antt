@@ -15,7 +15,8 @@ use Rattle.format.specs.declared.Rule.the-variants as rule
 use Rattle.format.specs.declared.Reading.{Reading}
 use Rattle.format.specs.Rows.{readRegister, readOperation, sameOffset}
 use Rattle.format.specs.Lists.{Relocation, relocationsOf}
-use Rattle.format.specs.Headers.{headerId, pcrelSdata4, pointerSize, dataFactor}
+use Rattle.format.specs.Constants.{pcrelSdata4}
+use Rattle.format.specs.Headers.{headerId, pointerSize, dataFactor}
 use Rattle.format.specs.Rules.{Run, start, act, answer}
 
 -- ---- entries (61): a 4-byte length, at least 4, and as many bytes

@@ -19,18 +19,18 @@ isDebug MachO = false
 isDebug Debug = true
 
 -- what a section takes of a function: debug_frame drops landings and personalities, Mach-O drops relaxing too (document 01, "Header")
-unfoldable pub bare : Function → Function
-bare f =
+unfoldable pub withoutExceptions : Function → Function
+withoutExceptions f =
     record { symbol = f .symbol; size = f .size; rows = f .rows; landings = []; simple = f .simple; signal = f .signal; named = none; relaxed = f .relaxed }
 
-unfoldable pub fixed : Function → Function
-fixed f =
+unfoldable pub withoutRelaxing : Function → Function
+withoutRelaxing f =
     record { symbol = f .symbol; size = f .size; rows = f .rows; landings = f .landings; simple = f .simple; signal = f .signal; named = f .named; relaxed = none }
 
 unfoldable pub taken : Section → Function → Function
 taken Elf f = f
-taken MachO f = fixed (bare f)
-taken Debug f = bare f
+taken MachO f = withoutRelaxing (withoutExceptions f)
+taken Debug f = withoutExceptions f
 
 -- ELF's eh_frame pads to the smaller of word and 4, but to word for the last function's header and record; the others pad to word
 unfoldable pub alignFor : Section → ℕ → (last : Bool) → ℕ

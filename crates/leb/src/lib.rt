@@ -4,7 +4,7 @@ ghost use mathlib.Core.List.{[], _∷_};
 ghost use Prim.Native.Nat.{_+_, _*_, _^_, _≤_, _<_};
 ghost use lib.ListN.{length, replicate};
 ghost use lib.Signed.{mag};
-ghost use Rattle.format.specs.Put.{Wrote};
+ghost use Rattle.format.proofs.Wrote.{Wrote};
 ghost use Rattle.format.specs.Leb.{little, uleb, bits7, slebF, sleb};
 ghost use Rattle.format.specs.Positions.{ulebAt, slebAt, littleAt};
 ghost use Rattle.leb.specs.Signs.{isNegative, signed, held};

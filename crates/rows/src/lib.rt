@@ -8,7 +8,7 @@ ghost use lib.IntN.{pos, natAbs};
 ghost use mir.Syntax.{w32};
 ghost use mir.Val.{toZ};
 ghost use Rattle.format.specs.Lists.{rowStride, field, hasRegister, hasOffset, rowOf, rowOk, rowAt, rowOkAt};
-ghost use Rattle.format.specs.Put.{Wrote};
+ghost use Rattle.format.proofs.Wrote.{Wrote};
 ghost use Rattle.format.specs.Leb.{uleb};
 ghost use Rattle.format.specs.Rows.{factor, unfactor, cfaBytes, withRegister, savedBytes, rowBytes, stepIn, stepForm, stepBytes, whole, wholeBelow, rowWhole, kindOf, regOf, offsetOf, sameRow};
 ghost use Rattle.format.specs.Prelude.{pick};

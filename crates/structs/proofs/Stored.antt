@@ -8,7 +8,8 @@ use native.Mathlib.Omega.{arith}
 use borrow.Author.Tests.{leb-true, leb-false}
 use lib.Dec.{T, leb}
 use lib.ListN.{length, getD, take, length-append}
-use Rattle.format.specs.Put.{put, Wrote}
+use Rattle.format.specs.Put.{put}
+use Rattle.format.proofs.Wrote.{Wrote}
 use Rattle.format.proofs.Choice.{if-le, if-gt, either}
 use Rattle.format.proofs.PutLaws.{put-none, put-append, length-put}
 use Rattle.structs.specs.Structs.{numbersOf}

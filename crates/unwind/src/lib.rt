@@ -13,8 +13,9 @@ ghost use Rattle.format.specs.Answers.{frameNumbers, ruleNumbers, readingNumber
 ghost use Rattle.checks.specs.Checks.{checkOf};
 ghost use Rattle.structs.specs.Structs.{rowNumbers, landingNumbers, pairNumbers, functionNumbers, numbersOf};
 ghost use Rattle.structs.specs.Packed.{Packs};
-ghost use Rattle.unwind.specs.Together.{answerFor, readingFor, Demanded};
-ghost use Rattle.unwind.specs.Entries.{readNumbers, writtenNumbers, Exports, bytesIn, relocsIn};
+ghost use Rattle.unwind.specs.Demand.{Demanded};
+ghost use Rattle.unwind.specs.Together.{answerFor, bytesIn, relocsIn, readingFor};
+ghost use Rattle.unwind.specs.Entries.{readNumbers, writtenNumbers, Exports};
 use format::Frame;
 use format::Outcome;
 use format::Reading;
@@ -322,8 +323,8 @@ pub fn write_and_read(
     p: u64,
 ) -> WrittenAndRead
     ensures { λ r. ⌜ Writes (answerFor debug format (givenOf (now (machine .entry)) (now (functions .entry)) (now (rows .entry)) (now (landings .entry)) (now (pairs .entry))) (roomIn (now (places .entry)) (now (bytes .entry)) (now (relocations .entry)) (now (sites .entry)))) (r .outcome) (now (places .entry)) (now (places .exit)) (now (bytes .entry)) (now (bytes .exit)) (now (relocations .entry)) (now (relocations .exit)) (now (sites .entry)) (now (sites .exit)) ⌝ }
-    ensures { λ r. ⌜ r .reading ≡ readingFor debug (givenOf (now (machine .entry)) (now (functions .entry)) (now (rows .entry)) (now (landings .entry)) (now (pairs .entry))) (answerFor debug format (givenOf (now (machine .entry)) (now (functions .entry)) (now (rows .entry)) (now (landings .entry)) (now (pairs .entry))) (roomIn (now (places .entry)) (now (bytes .entry)) (now (relocations .entry)) (now (sites .entry)))) k q p ⌝ }
-    ensures { λ r. ⌜ Demanded debug format (givenOf (now (machine .entry)) (now (functions .entry)) (now (rows .entry)) (now (landings .entry)) (now (pairs .entry))) (answerFor debug format (givenOf (now (machine .entry)) (now (functions .entry)) (now (rows .entry)) (now (landings .entry)) (now (pairs .entry))) (roomIn (now (places .entry)) (now (bytes .entry)) (now (relocations .entry)) (now (sites .entry)))) k q p (r .reading) ⌝ }
+    ensures { λ r. ⌜ r .reading ≡ readingFor debug (now (machine .entry)) (r .outcome) (now (bytes .exit)) (now (relocations .exit)) k q p ⌝ }
+    ensures { λ r. ⌜ Demanded debug format (givenOf (now (machine .entry)) (now (functions .entry)) (now (rows .entry)) (now (landings .entry)) (now (pairs .entry))) (r .outcome) (now (bytes .exit)) k q p (r .reading) ⌝ }
 {
     let outcome = write(
         debug,
@@ -437,7 +438,7 @@ fn saving_of(r: Rule) -> Saving
     }
 }
 
-fn told(c: Frame, r: Rule, signing: bool) -> Numbers
+fn rules_numbers(c: Frame, r: Rule, signing: bool) -> Numbers
     ensures { λ n. ⌜ readNumbers n ≡ readingNumbers (Rules c r signing) ⌝ }
 {
     let a = address_of(c);
@@ -457,7 +458,7 @@ fn numbers_of(r: Reading) -> Numbers
     ensures { λ n. ⌜ readNumbers n ≡ readingNumbers r ⌝ }
 {
     match r {
-        Reading::Rules(c, rule, signing) => told(c, rule, signing),
+        Reading::Rules(c, rule, signing) => rules_numbers(c, rule, signing),
         Reading::Refused(n) => Numbers {
             number: n,
             frame: 0,
