@@ -16,7 +16,7 @@ ROOT = os.path.dirname(HERE)
 OUT = os.path.join(ROOT, "target", "differential", "definitions", "format")
 X86_64 = [8, 8, 7, 16, 6, 0, 0, 2, 1, 3, 6, 7, 5, 4, *range(8, 16), 255, *range(128, 144), *[255] * 31]
 LISTS = ("machine", "functions", "rows", "landings", "pairs", "codes")
-WRITERS = ("Test", "Leb", "Machine", "Rows", "Lists", "Headers", "CallSites", "Records", "X64", "Questions", "Writer")
+WRITERS = ("Prelude", "Leb", "Machine", "Rows", "Lists", "Headers", "CallSites", "Records", "X64", "Questions", "Writer")
 # The words of the source's errors, and the number of the question.
 REFUSALS = {
     "established before the frame": 31, "walked a page at a time": 32, "prologue row this cannot read": 33,
