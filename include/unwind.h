@@ -84,9 +84,9 @@ unwind_written unwind_seh(
 uint64_t unwind_row_check(const uint64_t *functions, size_t functions_n, const uint64_t *rows, size_t rows_n, uint64_t k);
 
 /* What the reader answers: `number` is 0, or the question's. frame: 0 none, 1 register plus offset. rule: 0 unstated,
- * 1 undefined, 2 saved at the frame address plus offset. Offsets are 64-bit two's complement. A field without meaning is 0. */
+ * 1 undefined, 2 saved at the frame address plus rule_value. Offsets are 64-bit two's complement. A field without meaning is 0. */
 typedef struct {
-    uint64_t number, frame, frame_register, frame_offset, rule, rule_offset, signing;
+    uint64_t number, frame, frame_register, frame_offset, rule, rule_value, signing;
 } unwind_reading;
 
 /* The rules of record k at offset p of its function, for one register. kind: 0 eh_frame, 1 debug_frame. */

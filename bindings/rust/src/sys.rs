@@ -21,7 +21,7 @@ pub(crate) struct Reading {
     pub frame_register: u64,
     pub frame_offset: u64,
     pub rule: u64,
-    pub rule_offset: u64,
+    pub rule_value: u64,
     pub signing: u64,
 }
 

@@ -22,7 +22,7 @@ use Rattle.format.specs.declared.Section.{Section}
 use Rattle.format.specs.declared.Section.the-variants.{Elf, MachO, Debug}
 use Rattle.format.specs.Writer.{Written, bare, fixed, taken, dwarf}
 use Rattle.format.specs.Headers.{leading}
-use Rattle.format.specs.Rules.{runRows}
+use Rattle.format.proofs.RowsRun.{runRows}
 use Rattle.format.specs.RowCheck.{rowCheck, rowCheckAt}
 use Rattle.format.specs.Questions.{Question, ask, andThen, perFunction, sizeBytes, stepsOk, dwarfAsks, Room, Answer, empty, accepted, unless, fitting, dwarfAnswer, Given, givenFunctions, noFunctions, givenAsks, dwarfGiven, formatAnswer, relaxedTable, relaxedDebugFrame, dwarfWritten}
 use Rattle.format.proofs.RowBack.{Off32}
@@ -50,11 +50,11 @@ taken-plain Elf f e = e
 taken-plain MachO f e = refl
 taken-plain Debug f e = e
 
-pub taken-run : (s : Section) (m : Machine) (f : Function) (q p : ℕ) → runRows m (taken s f) q p ≡ runRows m f q p
+pub taken-run : (s : Section) (m : Machine) (f : Function) (p : ℕ) → runRows m (taken s f) p ≡ runRows m f p
 unfolding taken bare fixed runRows leading
-taken-run Elf m f q p = refl
-taken-run MachO m f q p = refl
-taken-run Debug m f q p = refl
+taken-run Elf m f p = refl
+taken-run MachO m f p = refl
+taken-run Debug m f p = refl
 
 -- ---- questions
 

@@ -6,9 +6,11 @@ pub mod Registers
 pub mod LebBack
 pub mod LebSteps
 pub mod RowBack
+pub mod RowsRun
 pub mod WalkBack
 pub mod Sizes
 pub mod Prefix
+pub mod RegisterFree
 pub mod EntryBack
 pub mod FieldsBack
 pub mod HeaderBack

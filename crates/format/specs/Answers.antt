@@ -7,14 +7,12 @@ use mathlib.Core.List.{List, [], _∷_, _++_}
 use lib.ListN.{length}
 use mir.Syntax.{w64}
 use mir.Val.{ofZ}
-use Rattle.format.specs.declared.Frame.{Frame}
-use Rattle.format.specs.declared.Frame.the-variants.{Unset, Register}
+use Rattle.format.specs.declared.CfaRule.{CfaRule}
+use Rattle.format.specs.declared.CfaRule.the-variants.{Unset, Register}
 use Rattle.format.specs.declared.Rule.{Rule}
 use Rattle.format.specs.declared.Rule.the-variants.{Unstated, Undefined, Saved}
 use Rattle.format.specs.declared.Reading.{Reading}
 use Rattle.format.specs.declared.Reading.the-variants as reading
-use Rattle.format.specs.declared.Decoded.{Decoded}
-use Rattle.format.specs.declared.Decoded.the-variants as decoded
 use Rattle.format.specs.declared.Question.{Question}
 use Rattle.format.specs.declared.Question.the-variants as question
 use Rattle.format.specs.declared.Outcome.{Outcome}
@@ -27,9 +25,9 @@ use Rattle.format.specs.Questions.{Answer, refused, empty, accepted}
 -- ---- the reader: number (0: answered), frame (0 none, 1 register plus offset), its register and offset, rule (0 unstated, 1 undefined,
 -- 2 saved), its offset, signing. Offsets are 64-bit two's complement; a field without meaning is 0.
 
-unfoldable pub frameNumbers : Frame → List ℕ
-frameNumbers Unset = 0 ∷ 0 ∷ 0 ∷ []
-frameNumbers (Register reg z) = 1 ∷ reg ∷ ofZ w64 z ∷ []
+unfoldable pub cfaNumbers : CfaRule → List ℕ
+cfaNumbers Unset = 0 ∷ 0 ∷ 0 ∷ []
+cfaNumbers (Register reg z) = 1 ∷ reg ∷ ofZ w64 z ∷ []
 
 unfoldable pub ruleNumbers : Rule → List ℕ
 ruleNumbers Unstated = 0 ∷ 0 ∷ []
@@ -41,13 +39,8 @@ bit false = 0
 bit true = 1
 
 unfoldable pub readingNumbers : Reading → List ℕ
-readingNumbers (reading.Rules c r s) = 0 ∷ (frameNumbers c ++ (ruleNumbers r ++ (bit s ∷ [])))
+readingNumbers (reading.Answered a) = 0 ∷ (cfaNumbers (a .cfa) ++ (ruleNumbers (a .rule) ++ (bit (a .signing) ∷ [])))
 readingNumbers (reading.Refused n) = n ∷ 0 ∷ 0 ∷ 0 ∷ 0 ∷ 0 ∷ 0 ∷ []
-
--- an operation that cannot be read is question 66
-unfoldable pub decodedNumber : Decoded → ℕ
-decodedNumber (decoded.Operation op next) = 0
-decodedNumber decoded.Bad = 66
 
 -- ---- a question: number (0: yes) and position
 

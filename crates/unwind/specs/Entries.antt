@@ -11,7 +11,7 @@ use Rattle.unwind.specs.declared.Written.{Written}
 
 -- the numbers of a reading, in the order of include/unwind.h
 abbrev pub readNumbers : Numbers → List ℕ
-readNumbers r = r .number ∷ r .frame ∷ r .«frame_register» ∷ r .«frame_offset» ∷ r .rule ∷ r .«rule_offset» ∷ r .signing ∷ []
+readNumbers r = r .number ∷ r .frame ∷ r .«frame_register» ∷ r .«frame_offset» ∷ r .rule ∷ r .«rule_value» ∷ r .signing ∷ []
 
 -- how many bytes, and how many relocations, an outcome says were written
 unfoldable pub bytesIn : Outcome → ℕ

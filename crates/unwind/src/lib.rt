@@ -8,14 +8,14 @@ ghost use mathlib.Core.List.{[], _∷_};
 ghost use lib.ListN.{getD};
 ghost use mir.Syntax.{w64};
 ghost use mir.Val.{ofZ};
-ghost use Rattle.format.specs.declared.Reading.the-variants.{Rules};
-ghost use Rattle.format.specs.Answers.{frameNumbers, ruleNumbers, readingNumbers, bit, outcomeNumbers, Writes};
+ghost use Rattle.format.specs.declared.Reading.the-variants.{Answered};
+ghost use Rattle.format.specs.Answers.{cfaNumbers, ruleNumbers, readingNumbers, bit, outcomeNumbers, Writes};
 ghost use Rattle.checks.specs.Checks.{checkOf};
 ghost use Rattle.structs.specs.Structs.{rowNumbers, landingNumbers, pairNumbers, functionNumbers, numbersOf};
 ghost use Rattle.structs.specs.Packed.{Packs};
 ghost use Rattle.unwind.specs.Together.{answerFor, readingFor, Demanded};
 ghost use Rattle.unwind.specs.Entries.{readNumbers, writtenNumbers, Exports, bytesIn, relocsIn};
-use format::Frame;
+use format::CfaRule;
 use format::Outcome;
 use format::Reading;
 use format::Rule;
@@ -364,7 +364,7 @@ pub struct Numbers {
     pub frame_register: u64,
     pub frame_offset: u64,
     pub rule: u64,
-    pub rule_offset: u64,
+    pub rule_value: u64,
     pub signing: u64,
 }
 
@@ -407,16 +407,16 @@ fn bits(z: i64) -> u64
     z as u64
 }
 
-fn address_of(c: Frame) -> Address
-    ensures { λ r. ⌜ r .kind ∷ r .register ∷ r .offset ∷ [] ≡ frameNumbers c ⌝ }
+fn address_of(c: CfaRule) -> Address
+    ensures { λ r. ⌜ r .kind ∷ r .register ∷ r .offset ∷ [] ≡ cfaNumbers c ⌝ }
 {
     match c {
-        Frame::Unset => Address {
+        CfaRule::Unset => Address {
             kind: 0,
             register: 0,
             offset: 0,
         },
-        Frame::Register(reg, z) => Address {
+        CfaRule::Register(reg, z) => Address {
             kind: 1,
             register: reg as u64,
             offset: bits(z),
@@ -437,8 +437,8 @@ fn saving_of(r: Rule) -> Saving
     }
 }
 
-fn told(c: Frame, r: Rule, signing: bool) -> Numbers
-    ensures { λ n. ⌜ readNumbers n ≡ readingNumbers (Rules c r signing) ⌝ }
+fn rules_numbers(c: CfaRule, r: Rule, signing: bool) -> Numbers
+    ensures { λ n. ⌜ readNumbers n ≡ readingNumbers (Answered (record { cfa = c; rule = r; signing = signing })) ⌝ }
 {
     let a = address_of(c);
     let b = saving_of(r);
@@ -448,7 +448,7 @@ fn told(c: Frame, r: Rule, signing: bool) -> Numbers
         frame_register: a.register,
         frame_offset: a.offset,
         rule: b.kind,
-        rule_offset: b.offset,
+        rule_value: b.offset,
         signing: number(signing),
     }
 }
@@ -457,14 +457,18 @@ fn numbers_of(r: Reading) -> Numbers
     ensures { λ n. ⌜ readNumbers n ≡ readingNumbers r ⌝ }
 {
     match r {
-        Reading::Rules(c, rule, signing) => told(c, rule, signing),
+        Reading::Answered(rules) => {
+            let cfa = rules.cfa;
+            let rule = rules.rule;
+            rules_numbers(cfa, rule, rules.signing)
+        }
         Reading::Refused(n) => Numbers {
             number: n,
             frame: 0,
             frame_register: 0,
             frame_offset: 0,
             rule: 0,
-            rule_offset: 0,
+            rule_value: 0,
             signing: 0,
         },
     }
