@@ -17,27 +17,27 @@ use Rattle.leading.specs.Functions.{bodyOf}
 
 -- ---- an accepted encoding has some bytes
 
-Told : Option ℕ → Type 0
-Told o = not (eqb (sizeOr0 o) 0) ≡ isSome o
+ZeroForNone : Option ℕ → Type 0
+ZeroForNone o = not (eqb (sizeOr0 o) 0) ≡ isSome o
 
-told-none : Told none
-unfolding Told sizeOr0 isSome
-told-none = refl
+zero-none : ZeroForNone none
+unfolding ZeroForNone sizeOr0 isSome
+zero-none = refl
 
-told-some : (n : ℕ) → 0 < n → Told (some n)
-unfolding Told sizeOr0 isSome
-told-some n h = rw (ne-eqb n 0 (λ e. omega arith))
+zero-some : (n : ℕ) → 0 < n → ZeroForNone (some n)
+unfolding ZeroForNone sizeOr0 isSome
+zero-some n h = rw (ne-eqb n 0 (λ e. omega arith))
 
-told-pick : (b : Bool) (o p : Option ℕ) → Told o → Told p → Told (pick b o p)
+zero-pick : (b : Bool) (o p : Option ℕ) → ZeroForNone o → ZeroForNone p → ZeroForNone (pick b o p)
 unfolding pick
-told-pick true o p h k = h
-told-pick false o p h k = k
+zero-pick true o p h k = h
+zero-pick false o p h k = k
 
-told : (indirect : Bool) (word e : ℕ) → 0 < word → not (eqb (sizeOr0 (pointerSize indirect word e)) 0) ≡ isSome (pointerSize indirect word e)
-unfolding pointerSize sizeOf Told
-told indirect word e h =
-    told-pick _ _ _
-    (told-pick _ _ _ (told-some word h) (told-pick _ _ _ (told-some 4 (omega arith)) (told-pick _ _ _ (told-some 8 (omega arith)) told-none))) told-none
+zero-for-none : (indirect : Bool) (word e : ℕ) → 0 < word → not (eqb (sizeOr0 (pointerSize indirect word e)) 0) ≡ isSome (pointerSize indirect word e)
+unfolding pointerSize sizeOf ZeroForNone
+zero-for-none indirect word e h =
+    zero-pick _ _ _
+    (zero-pick _ _ _ (zero-some word h) (zero-pick _ _ _ (zero-some 4 (omega arith)) (zero-pick _ _ _ (zero-some 8 (omega arith)) zero-none))) zero-none
 
 -- ---- a function's encodings
 
@@ -64,16 +64,16 @@ module _ (word : ℕ) (e : Extent) where
       unfolding meant each encodingsOk namedOk pick
       unknown {r} q z =
           let k : sizeOr0 (pointerSize true word (e .encoding)) ≡ 0 = sym q ∙ z in
-          rw (n, p, ← told true word (e .encoding) w, k)
+          rw (n, p, ← zero-for-none true word (e .encoding) w, k)
 
       module _ {r : ℕ} (q : r ≡ sizeOr0 (pointerSize true word (e .encoding))) (z : r ≡ 0 → ⊥) where
         known : isSome (pointerSize true word (e .encoding)) ≡ true
-        known = sym (told true word (e .encoding) w) ∙ rw (ne-eqb (sizeOr0 (pointerSize true word (e .encoding))) 0 (λ k. z (q ∙ k)))
+        known = sym (zero-for-none true word (e .encoding) w) ∙ rw (ne-eqb (sizeOr0 (pointerSize true word (e .encoding))) 0 (λ k. z (q ∙ k)))
 
-        pub bare : e .lsda ≡ false → true ≡ ok word e
+        pub no-lsda : e .lsda ≡ false → true ≡ ok word e
         unfolding meant each encodingsOk namedOk lsdaOk pick
-        bare l = rw (n, p, l, known)
+        no-lsda l = rw (n, p, l, known)
 
         pub both : e .lsda ≡ true → {t : ℕ} → t ≡ sizeOr0 (pointerSize false word (e .«lsda_encoding»)) → not (eqb t 0) ≡ ok word e
         unfolding meant each encodingsOk namedOk lsdaOk pick
-        both l {t} u = rw (n, p, l, known, u) (told false word (e .«lsda_encoding») w)
+        both l {t} u = rw (n, p, l, known, u) (zero-for-none false word (e .«lsda_encoding») w)

@@ -13,13 +13,14 @@ ghost use Rattle.format.specs.Questions.{sizeBytes, encodingsOk, stepsOk, pairs
 ghost use Rattle.format.specs.Writer.{isDebug, alignFor};
 ghost use Rattle.format.specs.Answers.{questionOf, Writes};
 ghost use Rattle.lists.specs.Extents.{meant};
+ghost use Rattle.lists.specs.Room.{roomFor};
 ghost use Rattle.format.proofs.SectionSize.{Aligned};
 ghost use Rattle.leading.specs.Functions.{bodyOf, Sound, RowsReady, PairsReady};
 ghost use Rattle.dwarf.specs.Asks.{Askable, AllAskable, askedIn};
 ghost use Rattle.dwarf.specs.Parts.{inputs, writtenIn, partsTo};
-ghost use Rattle.dwarf.specs.Sure.{Cleared, Next, PartReady};
-ghost use Rattle.dwarf.specs.Tables.{totalsIn, grownBy, SizeReady, roomFor, FrontReady, FrontStored, PieceReady, Stored, Added, Written, Holds, chosenBy};
-ghost use Rattle.search.specs.Chains.{Owned};
+ghost use Rattle.dwarf.specs.Writable.{Cleared, Next, PartReady};
+ghost use Rattle.dwarf.specs.Tables.{totalsIn, grownBy, SizeReady, countsOf, FrontReady, FrontStored, PieceReady, Stored, Added, Written, Holds, chosenBy};
+ghost use Rattle.owners.specs.Chains.{Owned};
 ghost use Rattle.dwarf.specs.Pieces.{frontIn, relocNumbers, partIn};
 use format::Counts;
 use format::Machine;
@@ -38,6 +39,7 @@ use lists::extent_at;
 use lists::lists_ok;
 use lists::machine_of;
 use lists::machine_ok;
+use owners::position;
 use records::call_sites;
 use records::call_sites_size;
 use records::record;
@@ -47,7 +49,6 @@ use records::record_size;
 use rows::offset_at;
 use rows::row_at;
 use rows::row_whole;
-use search::wide;
 
 // ---- questions 21 to 25
 
@@ -197,7 +198,7 @@ fn all_asks(s: Section, word: u64, fs: &[u64], rows: &[u64], pairs: &[u64]) -> Q
     requires { ⌜ T (isWord word) × AllAskable s (now fs) (now rows) (now pairs) ⌝ }
     ensures { λ r. ⌜ r ≡ questionOf (perFunction (dwarfAsks s word) 0 (each (askedIn s (now (fs .entry)) (now (rows .entry)) (now (pairs .entry))) 0 (count functionStride (now (fs .entry))))) ⌝ }
 {
-    let n = fs.len() / 18;
+    let n = fs.len() / lists::FUNCTION_STRIDE;
     let mut k = 0;
     while k < n {
         let e = taken(s, extent_at(fs, k));
@@ -329,7 +330,7 @@ fn size_next(
     ensures { λ r. ⌜ r ≡ totalsIn (partsTo (inputs s m (now (fs .entry)) (now (rows .entry)) (now (landings .entry)) (now (pairs .entry))) (k + 1)) ⌝ }
 {
     let e = taken(s, extent_at(fs, k));
-    let own = wide(owners[k]) == k;
+    let own = position(owners[k]) == k;
     let align = align_for(s, m.word, k + 1 == n);
     sized(own, is_debug(s), m, align, e, t, rows, landings, pairs)
 }
@@ -347,7 +348,7 @@ fn sizes(
     requires { ⌜ Cleared (inputs s m (now fs) (now rows) (now landings) (now pairs)) × Owned s m (now fs) (now rows) (count functionStride (now fs)) (now owners) ⌝ }
     ensures { λ r. ⌜ r ≡ totalsIn (partsTo (inputs s m (now (fs .entry)) (now (rows .entry)) (now (landings .entry)) (now (pairs .entry))) (count functionStride (now (fs .entry)))) ⌝ }
 {
-    let n = fs.len() / 18;
+    let n = fs.len() / lists::FUNCTION_STRIDE;
     let mut t = Table::NOTHING;
     let mut k = 0;
     while k < n {
@@ -357,23 +358,23 @@ fn sizes(
     t
 }
 
+// A table's counts behind n header places, in the elements of the lent lists.
+fn counts(n: usize, t: Table) -> Counts
+    ensures { λ r. ⌜ r ≡ countsOf n t ⌝ }
+{
+    Counts {
+        places: n as u64,
+        bytes: t.bytes as u64,
+        relocations: t.relocations as u64,
+        sites: t.sites as u64,
+    }
+}
+
 // Questions 51 to 54: n header places and t fit the lists that are lent, of `places` elements and as many as `lent` says.
 fn room(n: usize, t: Table, places: usize, lent: Table) -> Question
-    ensures { λ r. ⌜ r ≡ questionOf (roomFor n t places lent) ⌝ }
+    ensures { λ r. ⌜ r ≡ questionOf (roomFor (countsOf n t) (countsOf places lent)) ⌝ }
 {
-    if places < n {
-        return Question::No(51, 0);
-    }
-    if lent.bytes < t.bytes {
-        return Question::No(52, 0);
-    }
-    if lent.relocations < t.relocations {
-        return Question::No(53, 0);
-    }
-    if lent.sites < t.sites {
-        return Question::No(54, 0);
-    }
-    Question::Yes
+    lists::room(counts(n, t), counts(places, lent))
 }
 
 // ---- the writing pass
@@ -451,7 +452,7 @@ fn header_for(k: usize, at: usize, owners: &[u16], places: &[u64]) -> Chosen
     requires { ⌜ (k < length (now owners)) × (getD (now owners) k 0 ≤ k) × (k ≤ length (now places)) ⌝ }
     ensures { λ r. ⌜ r ≡ chosenBy (getD (now (owners .entry)) k 0) k at (now (places .entry)) ⌝ }
 {
-    let o = wide(owners[k]);
+    let o = position(owners[k]);
     if o == k {
         return Chosen { own: true, cie: at };
     }
@@ -518,7 +519,7 @@ fn store(
     requires { ⌜ Cleared (inputs s m (now fs) (now rows) (now landings) (now pairs)) × Holds (inputs s m (now fs) (now rows) (now landings) (now pairs)) (count functionStride (now fs)) (now places) (now out) (now relocs) (now sites) × Owned s m (now fs) (now rows) (count functionStride (now fs)) (now owners) ⌝ }
     ensures { λ r. ⌜ Written (inputs s m (now (fs .entry)) (now (rows .entry)) (now (landings .entry)) (now (pairs .entry))) (count functionStride (now (fs .entry))) r (now (places .entry)) (now (places .exit)) (now (out .entry)) (now (out .exit)) (now (relocs .entry)) (now (relocs .exit)) (now (sites .entry)) (now (sites .exit)) ⌝ }
 {
-    let functions = fs.len() / 18;
+    let functions = fs.len() / lists::FUNCTION_STRIDE;
     let mut t = Table::NOTHING;
     let mut k = 0;
     while k < functions {
@@ -562,7 +563,7 @@ fn fitted(
     requires { ⌜ Cleared (inputs s m (now fs) (now rows) (now landings) (now pairs)) × Owned s m (now fs) (now rows) (count functionStride (now fs)) (now owners) ⌝ }
     ensures { λ r. ⌜ Writes (fitting (roomIn (now (places .entry)) (now (out .entry)) (now (relocs .entry)) (now (sites .entry))) (writtenIn (partsTo (inputs s m (now (fs .entry)) (now (rows .entry)) (now (landings .entry)) (now (pairs .entry))) (count functionStride (now (fs .entry)))))) r (now (places .entry)) (now (places .exit)) (now (out .entry)) (now (out .exit)) (now (relocs .entry)) (now (relocs .exit)) (now (sites .entry)) (now (sites .exit)) ⌝ }
 {
-    let n = fs.len() / 18;
+    let n = fs.len() / lists::FUNCTION_STRIDE;
     let t = sizes(s, m, fs, rows, landings, pairs, owners);
     let lent = Table {
         bytes: out.len(),
@@ -613,12 +614,12 @@ fn fitted_64(
     let mut heads = [0u16; 61];
     let mut links = [0u16; 64];
     let mut owners = [0u16; 64];
-    search::owners(
+    owners::owners(
         s,
         m,
         fs,
         rows,
-        fs.len() / 18,
+        fs.len() / lists::FUNCTION_STRIDE,
         &mut heads,
         &mut links,
         &mut owners,
@@ -657,12 +658,12 @@ fn fitted_2048(
     let mut heads = [0u16; 2039];
     let mut links = [0u16; 2048];
     let mut owners = [0u16; 2048];
-    search::owners(
+    owners::owners(
         s,
         m,
         fs,
         rows,
-        fs.len() / 18,
+        fs.len() / lists::FUNCTION_STRIDE,
         &mut heads,
         &mut links,
         &mut owners,
@@ -701,12 +702,12 @@ fn fitted_65536(
     let mut heads = [0u16; 16381];
     let mut links = [0u16; 65536];
     let mut owners = [0u16; 65536];
-    search::owners(
+    owners::owners(
         s,
         m,
         fs,
         rows,
-        fs.len() / 18,
+        fs.len() / lists::FUNCTION_STRIDE,
         &mut heads,
         &mut links,
         &mut owners,
@@ -743,7 +744,7 @@ fn deliver(
     requires { ⌜ Cleared (inputs s m (now fs) (now rows) (now landings) (now pairs)) ⌝ }
     ensures { λ r. ⌜ Writes (fitting (roomIn (now (places .entry)) (now (out .entry)) (now (relocs .entry)) (now (sites .entry))) (writtenIn (partsTo (inputs s m (now (fs .entry)) (now (rows .entry)) (now (landings .entry)) (now (pairs .entry))) (count functionStride (now (fs .entry)))))) r (now (places .entry)) (now (places .exit)) (now (out .entry)) (now (out .exit)) (now (relocs .entry)) (now (relocs .exit)) (now (sites .entry)) (now (sites .exit)) ⌝ }
 {
-    let n = fs.len() / 18;
+    let n = fs.len() / lists::FUNCTION_STRIDE;
     if n <= 64 {
         return fitted_64(s, m, fs, rows, landings, pairs, places, out, relocs, sites);
     }

@@ -20,7 +20,7 @@ use Rattle.format.specs.Rows.{RowAt, rowWhole, regOf, offsetOf}
 use Rattle.format.specs.Lists.{Function, functionStride, rowStride, landingStride, pairStride, field, count, rowOf, rowAt, functionAt, functionsOf, mostFunctions, mostRecords, inside, symbolOk, markOk, whenMarked, hasRegister, hasOffset, rowOk, rowOkAt, pairOkAt, pointerOk, allIn, functionOkAt, sumOf, pairsIn, listsOk}
 use Rattle.format.specs.declared.Section.{Section}
 use Rattle.format.specs.declared.Section.the-variants.{Elf, Debug}
-use Rattle.format.specs.Writer.{Written, bare, taken, dwarf}
+use Rattle.format.specs.Writer.{Written, withoutHandlers, taken, dwarf}
 use Rattle.format.specs.Headers.{leading}
 use Rattle.format.specs.Rules.{runRows}
 use Rattle.format.specs.RowCheck.{rowCheck, rowCheckAt}
@@ -33,22 +33,22 @@ use Rattle.format.proofs.ListLaws.{each-length, each-get, get-map, chai
 -- ---- what a section takes of a function
 
 pub taken-size : (s : Section) (f : Function) → taken s f .size ≡ f .size
-unfolding taken bare
+unfolding taken withoutHandlers
 taken-size Elf f = refl
 taken-size Debug f = refl
 
 pub taken-rows : (s : Section) (f : Function) → taken s f .rows ≡ f .rows
-unfolding taken bare
+unfolding taken withoutHandlers
 taken-rows Elf f = refl
 taken-rows Debug f = refl
 
 pub taken-plain : (s : Section) (f : Function) → f .relaxed ≡ none → taken s f .relaxed ≡ none
-unfolding taken bare
+unfolding taken withoutHandlers
 taken-plain Elf f e = e
 taken-plain Debug f e = e
 
 pub taken-run : (s : Section) (m : Machine) (f : Function) (q p : ℕ) → runRows m (taken s f) q p ≡ runRows m f q p
-unfolding taken bare runRows leading
+unfolding taken withoutHandlers runRows leading
 taken-run Elf m f q p = refl
 taken-run Debug m f q p = refl
 

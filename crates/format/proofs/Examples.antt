@@ -25,7 +25,7 @@ use Rattle.format.specs.Records.{pointerBlank, namedBlank, lsdaBlank, po
 use Rattle.format.specs.Rows.{factor, cfaBytes, withRegister, savedBytes, rowBytes, stepIn, stepForm, stepBytes, steppedBytes, rowsBytes, unfactor, readRegister, inRange, readOffset, readFactored, readSigned, one, two, readExtended, readOperation, whole, wholeBelow, rowWhole, sameOffset, kindOf, regOf, offsetOf, sameRow}
 use Rattle.format.specs.Rules.{blank, withFrame, withRule, reoffset, reregister, popped, apply, applyRows, upTo, entryState, rulesAt, seen, start, setFrame, setRule, changeOffset, changeRegister, remember, recall, act, actAll, while, answer, runRows}
 use Rattle.format.specs.Prelude.{pick, next, after, onward, orElse, all, first, each}
-use Rattle.format.specs.Writer.{isDebug, bare, taken, alignFor, placeIn, partWith, partOf, isEmpty, partsFrom, joined, partsOf, dwarf}
+use Rattle.format.specs.Writer.{isDebug, withoutHandlers, taken, alignFor, placeIn, partWith, partOf, isEmpty, partsFrom, joined, partsOf, dwarf}
 use Rattle.format.specs.X64.{beforeRemember, joinGroup, groups, more, isPush, onlyPush, loneRow, pushRows, readGroup, readGroups, low16, codeFor, codesFor, codesOf, endOf, node, allocBytes, slotBytes, saveBytes, size64, codeBytes, registerIn, allocNo, saveNo, operandNo, codeNo, frameOk, frameNo, orNo, firstNo, slots, prologueNo, frameOr, frameByte, reversed, infoBytes, runtimeRelocs, markersFrom, runtimeFrom, x64, prologueOf}
 
 -- ---- LEB numbers
@@ -92,11 +92,11 @@ view (accepted w) = w .places ∷ w .bytes ∷ numbersOf (w .relocations) ∷ w 
 
 -- what the writers' definitions give
 unfoldable written : ℕ → Given → Room → List (List ℕ)
-unfolding view x8664-list on ample pick next after onward orElse all first each little readLittle ulebF uleb bits7 slebF sleb readUlebF readUleb push last7 readSlebF fits64 readSleb registerOf machineOf isWord machineOk factor cfaBytes withRegister savedBytes rowBytes stepIn stepForm stepBytes steppedBytes rowsBytes unfactor readRegister inRange readOffset readFactored readSigned one two readExtended readOperation whole wholeBelow rowWhole sameOffset kindOf regOf offsetOf sameRow mark rowOf rowAt landingAt pairAt codeOf codeAt optional functionAt functionsOf prologueAt prologuesOf relocationAt relocationsOf numbersOf inside symbolOk markOk whenMarked hasRegister hasOffset rowOk rowOkAt pairOkAt codeOk codeOkAt allIn pointerOk functionOkAt prologueOkAt sumOf pairsIn listsOk codesOk implied leads ahead others leading encodingOf namedKind kindFor keyOf sameEncoding sameKind sameRows sameKey sizeOf pointerSize sizeOr0 pointerBytes pointerReloc padding padded entry letters augmentation lsdaLetter augmentationData counted headerData headerId dataFactor headerFields headerBytes pointerPlace kindRelocs headerRelocs siteBytes sitesBytes siteTable sitePad siteAdded pointerBlank namedBlank lsdaBlank pointerTo namedReloc lsdaReloc sizeField recordFields recordBytes sumPair pairFor setKind setBytes setPlace setPair stepRelocs rowRelocs recordRelocs beforeRemember joinGroup groups more isPush onlyPush loneRow pushRows readGroup readGroups low16 codeFor codesFor codesOf endOf node allocBytes slotBytes saveBytes size64 codeBytes registerIn allocNo saveNo operandNo codeNo frameOk frameNo orNo firstNo slots prologueNo frameOr frameByte reversed infoBytes runtimeRelocs markersFrom runtimeFrom x64 prologueOf ask andThen perFunction sizeBytes isSome lsdaOk namedOk encodingsOk stepsOk pairsOk dwarfAsks madeOne prologuesFor noAt codeAsks roomAsks unless fitting dwarfAnswer codesAnswer prologuesAnswer shortOnes windowsAnswer givenFunctions noFunctions givenAsks windowsAsks dwarfGiven formatAnswer relaxedTable relaxedDebugFrame seh dwarfWritten isDebug bare taken alignFor placeIn partWith partOf isEmpty partsFrom joined partsOf dwarf
+unfolding view x8664-list on ample pick next after onward orElse all first each little readLittle ulebF uleb bits7 slebF sleb readUlebF readUleb push last7 readSlebF fits64 readSleb registerOf machineOf isWord machineOk factor cfaBytes withRegister savedBytes rowBytes stepIn stepForm stepBytes steppedBytes rowsBytes unfactor readRegister inRange readOffset readFactored readSigned one two readExtended readOperation whole wholeBelow rowWhole sameOffset kindOf regOf offsetOf sameRow mark rowOf rowAt landingAt pairAt codeOf codeAt optional functionAt functionsOf prologueAt prologuesOf relocationAt relocationsOf numbersOf inside symbolOk markOk whenMarked hasRegister hasOffset rowOk rowOkAt pairOkAt codeOk codeOkAt allIn pointerOk functionOkAt prologueOkAt sumOf pairsIn listsOk codesOk implied leads ahead others leading encodingOf namedKind kindFor keyOf sameEncoding sameKind sameRows sameKey sizeOf pointerSize sizeOr0 pointerBytes pointerReloc padding padded entry letters augmentation lsdaLetter augmentationData counted headerData headerId dataFactor headerFields headerBytes pointerPlace kindRelocs headerRelocs siteBytes sitesBytes siteTable sitePad siteAdded pointerBlank namedBlank lsdaBlank pointerTo namedReloc lsdaReloc sizeField recordFields recordBytes sumPair pairFor setKind setBytes setPlace setPair stepRelocs rowRelocs recordRelocs beforeRemember joinGroup groups more isPush onlyPush loneRow pushRows readGroup readGroups low16 codeFor codesFor codesOf endOf node allocBytes slotBytes saveBytes size64 codeBytes registerIn allocNo saveNo operandNo codeNo frameOk frameNo orNo firstNo slots prologueNo frameOr frameByte reversed infoBytes runtimeRelocs markersFrom runtimeFrom x64 prologueOf ask andThen perFunction sizeBytes isSome lsdaOk namedOk encodingsOk stepsOk pairsOk dwarfAsks madeOne prologuesFor noAt codeAsks roomAsks unless fitting dwarfAnswer codesAnswer prologuesAnswer shortOnes windowsAnswer givenFunctions noFunctions givenAsks windowsAsks dwarfGiven formatAnswer relaxedTable relaxedDebugFrame seh dwarfWritten isDebug withoutHandlers taken alignFor placeIn partWith partOf isEmpty partsFrom joined partsOf dwarf
 written format g r = view (relaxedTable format g r)
 
 unfoldable written-debug : Given → List (List ℕ)
-unfolding view x8664-list on ample pick next after onward orElse all first each little readLittle ulebF uleb bits7 slebF sleb readUlebF readUleb push last7 readSlebF fits64 readSleb registerOf machineOf isWord machineOk factor cfaBytes withRegister savedBytes rowBytes stepIn stepForm stepBytes steppedBytes rowsBytes unfactor readRegister inRange readOffset readFactored readSigned one two readExtended readOperation whole wholeBelow rowWhole sameOffset kindOf regOf offsetOf sameRow mark rowOf rowAt landingAt pairAt codeOf codeAt optional functionAt functionsOf prologueAt prologuesOf relocationAt relocationsOf numbersOf inside symbolOk markOk whenMarked hasRegister hasOffset rowOk rowOkAt pairOkAt codeOk codeOkAt allIn pointerOk functionOkAt prologueOkAt sumOf pairsIn listsOk codesOk implied leads ahead others leading encodingOf namedKind kindFor keyOf sameEncoding sameKind sameRows sameKey sizeOf pointerSize sizeOr0 pointerBytes pointerReloc padding padded entry letters augmentation lsdaLetter augmentationData counted headerData headerId dataFactor headerFields headerBytes pointerPlace kindRelocs headerRelocs siteBytes sitesBytes siteTable sitePad siteAdded pointerBlank namedBlank lsdaBlank pointerTo namedReloc lsdaReloc sizeField recordFields recordBytes sumPair pairFor setKind setBytes setPlace setPair stepRelocs rowRelocs recordRelocs beforeRemember joinGroup groups more isPush onlyPush loneRow pushRows readGroup readGroups low16 codeFor codesFor codesOf endOf node allocBytes slotBytes saveBytes size64 codeBytes registerIn allocNo saveNo operandNo codeNo frameOk frameNo orNo firstNo slots prologueNo frameOr frameByte reversed infoBytes runtimeRelocs markersFrom runtimeFrom x64 prologueOf ask andThen perFunction sizeBytes isSome lsdaOk namedOk encodingsOk stepsOk pairsOk dwarfAsks madeOne prologuesFor noAt codeAsks roomAsks unless fitting dwarfAnswer codesAnswer prologuesAnswer shortOnes windowsAnswer givenFunctions noFunctions givenAsks windowsAsks dwarfGiven formatAnswer relaxedTable relaxedDebugFrame seh dwarfWritten isDebug bare taken alignFor placeIn partWith partOf isEmpty partsFrom joined partsOf dwarf
+unfolding view x8664-list on ample pick next after onward orElse all first each little readLittle ulebF uleb bits7 slebF sleb readUlebF readUleb push last7 readSlebF fits64 readSleb registerOf machineOf isWord machineOk factor cfaBytes withRegister savedBytes rowBytes stepIn stepForm stepBytes steppedBytes rowsBytes unfactor readRegister inRange readOffset readFactored readSigned one two readExtended readOperation whole wholeBelow rowWhole sameOffset kindOf regOf offsetOf sameRow mark rowOf rowAt landingAt pairAt codeOf codeAt optional functionAt functionsOf prologueAt prologuesOf relocationAt relocationsOf numbersOf inside symbolOk markOk whenMarked hasRegister hasOffset rowOk rowOkAt pairOkAt codeOk codeOkAt allIn pointerOk functionOkAt prologueOkAt sumOf pairsIn listsOk codesOk implied leads ahead others leading encodingOf namedKind kindFor keyOf sameEncoding sameKind sameRows sameKey sizeOf pointerSize sizeOr0 pointerBytes pointerReloc padding padded entry letters augmentation lsdaLetter augmentationData counted headerData headerId dataFactor headerFields headerBytes pointerPlace kindRelocs headerRelocs siteBytes sitesBytes siteTable sitePad siteAdded pointerBlank namedBlank lsdaBlank pointerTo namedReloc lsdaReloc sizeField recordFields recordBytes sumPair pairFor setKind setBytes setPlace setPair stepRelocs rowRelocs recordRelocs beforeRemember joinGroup groups more isPush onlyPush loneRow pushRows readGroup readGroups low16 codeFor codesFor codesOf endOf node allocBytes slotBytes saveBytes size64 codeBytes registerIn allocNo saveNo operandNo codeNo frameOk frameNo orNo firstNo slots prologueNo frameOr frameByte reversed infoBytes runtimeRelocs markersFrom runtimeFrom x64 prologueOf ask andThen perFunction sizeBytes isSome lsdaOk namedOk encodingsOk stepsOk pairsOk dwarfAsks madeOne prologuesFor noAt codeAsks roomAsks unless fitting dwarfAnswer codesAnswer prologuesAnswer shortOnes windowsAnswer givenFunctions noFunctions givenAsks windowsAsks dwarfGiven formatAnswer relaxedTable relaxedDebugFrame seh dwarfWritten isDebug withoutHandlers taken alignFor placeIn partWith partOf isEmpty partsFrom joined partsOf dwarf
 written-debug g = view (relaxedDebugFrame 0 g ample)
 
 -- two functions share one header

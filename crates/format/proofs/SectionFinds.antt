@@ -133,16 +133,16 @@ module _ (s : Section) (m : Machine) where
 
   -- ---- the relocation
 
-  front-bare : (o : Option ℕ) (at : ℕ) (k : Key) → T (isDebug s) → relocsFor s m o at k ≡ []
+  no-front-relocs : (o : Option ℕ) (at : ℕ) (k : Key) → T (isDebug s) → relocsFor s m o at k ≡ []
   unfolding relocsFor headerRelocs
-  front-bare none at k d = pick-yes (isDebug s) _ _ d
-  front-bare (some cie) at k d = refl
+  no-front-relocs none at k d = pick-yes (isDebug s) _ _ d
+  no-front-relocs (some cie) at k d = refl
 
   -- the first relocation of a part of debug_frame fills the record's second field
   field-first : (x : Spot) (sites : ℕ) (f : Function) → T (isDebug s)
       → partRelocs s m x sites f ≡ reloc (placeOf s m x f + 4) debugFrame 1 4 (cieOf x) ∷ drop 1 (partRelocs s m x sites f)
   unfolding partRelocs recordRelocs
-  field-first x sites f d = rw (front-bare (x .earlier) (x .start) (keyOf m f) d, pick-yes (isDebug s) _ _ d)
+  field-first x sites f d = rw (no-front-relocs (x .earlier) (x .start) (keyOf m f) d, pick-yes (isDebug s) _ _ d)
 
   addend-found : (pre later : List Relocation) (place cie : ℕ) → Each (λ r. r .place < place) pre
       → firstAddend place (pre ++ (reloc place debugFrame 1 4 cie ∷ later)) ≡ some cie

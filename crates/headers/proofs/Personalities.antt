@@ -15,21 +15,22 @@ use Rattle.format.specs.Headers.{plain, personal, named, personalitySymbol, ind
 use Rattle.format.proofs.Choice.{if-eq}
 use Rattle.lists.specs.declared.Extent.{Extent}
 use Rattle.leading.specs.Functions.{keyIn}
-use Rattle.headers.specs.Kinds.{lsdaOf, kindIn, headIn, flag, headerRelocCount}
+use Rattle.leading.specs.Kinds.{lsdaOf, lsdaIn, kindIn}
+use Rattle.headers.specs.Kinds.{headIn, flag, headerRelocCount}
 use Rattle.headers.proofs.Tails.{kind-personal, kind-named}
 use Rattle.headers.proofs.Keys.{relocs-head}
 
 -- ---- how many there are
 
-kind-count : (word place : ℕ) (bare has : Bool) (e s : ℕ) (l : Option ℕ)
-    → length (kindRelocs word place (pick bare (pick has (named e s l) plain) personal)) ≡ pick bare (flag has) 1
+kind-count : (word place : ℕ) (no-landings has : Bool) (e s : ℕ) (l : Option ℕ)
+    → length (kindRelocs word place (pick no-landings (pick has (named e s l) plain) personal)) ≡ pick no-landings (flag has) 1
 unfolding kindRelocs flag pick
 kind-count word place false has e s l = refl
 kind-count word place true false e s l = refl
 kind-count word place true true e s l = refl
 
 head-count : (debug : Bool) (m : Machine) (at : ℕ) (e : Extent) → length (headerRelocs debug m at (headIn e)) ≡ headerRelocCount debug e
-unfolding headerRelocs headerRelocCount headIn kindIn pick
+unfolding headerRelocs headerRelocCount headIn kindIn lsdaIn pick
 head-count true m at e = refl
 head-count false m at e =
     kind-count (m .word) (pointerPlace m at (headIn e)) (eqb (e .landings) 0) (e .personality) (e .encoding) (e .routine) (lsdaOf (e .lsda) (e .«lsda_encoding»))

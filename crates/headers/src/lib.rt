@@ -12,7 +12,8 @@ ghost use Rattle.format.proofs.Fits.{MachineFits};
 ghost use Rattle.format.proofs.SectionSize.{Aligned};
 ghost use Rattle.leading.specs.Functions.{bodyOf, keyIn, Sound};
 ghost use Rattle.headers.specs.Entries.{Closed};
-ghost use Rattle.headers.specs.Kinds.{lsdaOf, kindIn, headIn, EncodingFits, NamedFits, ending, middle, flag, namedLetters, namedData, tailOf, headerRelocCount};
+ghost use Rattle.leading.specs.Kinds.{lsdaOf, kindIn};
+ghost use Rattle.headers.specs.Kinds.{headIn, EncodingFits, NamedFits, ending, middle, flag, namedLetters, namedData, tailOf, headerRelocCount};
 use format::Machine;
 use lists::Extent;
 
@@ -52,6 +53,11 @@ pub fn pad(out: &mut [u8], start: usize, at: usize, align: usize) -> usize
 
 // ---- pointers by their encodings
 
+// DW_EH_PE_pcrel | DW_EH_PE_sdata4, and the same read through a pointer (DW_EH_PE_indirect).
+const PCREL_SDATA4: u64 = 0x1b;
+
+const INDIRECT_PCREL_SDATA4: u64 = 0x9b;
+
 // The bytes of a pointer: 0 where the encoding is none that is written.
 fn size_of(word: u64, e: u64) -> u64
     ensures { λ r. ⌜ r ≡ sizeOr0 (sizeOf word e) ⌝ }
@@ -90,9 +96,17 @@ pub fn pointer(out: &mut [u64], i: usize, word: u64, place: u64, symbol: u64, e:
     ensures { λ r. ⌜ Wrote (now (out .entry)) (now (out .exit)) i r (numbersOf (pointerReloc word place symbol e ∷ [])) ⌝ }
 {
     if 16 <= e % 128 {
-        return relocs::relocation(out, i, place, symbol, 0, 4, 0);
+        return relocs::relocation(out, i, place, symbol, relocs::DATA, 4, 0);
     }
-    relocs::relocation(out, i, place, symbol, 1, pointer_bytes(word, e), 0)
+    relocs::relocation(
+        out,
+        i,
+        place,
+        symbol,
+        relocs::ADDRESS,
+        pointer_bytes(word, e),
+        0,
+    )
 }
 
 // ---- the fields
@@ -173,7 +187,7 @@ fn named_data(out: &mut [u8], at: usize, e: u64, size: usize, lsda: bool, l: u64
     let a = leb::byte(out, at, e as u8);
     let b = leb::fill(out, a, size);
     let c = lsda_letter(out, b, lsda, l);
-    leb::byte(out, c, 0x1b)
+    leb::byte(out, c, PCREL_SDATA4 as u8)
 }
 
 // A personality by its encoding, and an LSDA by its.
@@ -202,7 +216,16 @@ fn personal_header(out: &mut [u8], at: usize, word: u64, ret: u64, signal: bool)
     requires { ⌜ (word ≤ 8) × (at + length (tailOf word ret signal personal) ≤ length (now out)) ⌝ }
     ensures { λ r. ⌜ Wrote (now (out .entry)) (now (out .exit)) at r (tailOf word ret signal personal) ⌝ }
 {
-    named_header(out, at, word, ret, signal, 0x9b, true, 0x1b)
+    named_header(
+        out,
+        at,
+        word,
+        ret,
+        signal,
+        INDIRECT_PCREL_SDATA4,
+        true,
+        PCREL_SDATA4,
+    )
 }
 
 // What follows the version, by the function's record: landings beat a named personality.
@@ -404,7 +427,14 @@ pub fn header_relocs(
     }
     let place = pointer_place(m, at, e);
     if e.landings != 0 {
-        return pointer(out, i, m.word, place, 0, 0x9b);
+        return pointer(
+            out,
+            i,
+            m.word,
+            place,
+            relocs::PERSONALITY,
+            INDIRECT_PCREL_SDATA4,
+        );
     }
     pointer(out, i, m.word, place, e.routine, e.encoding)
 }

@@ -31,6 +31,9 @@ pub fn taken(s: Section, e: Extent) -> Extent
 
 // ---- leading rows
 
+// The kind of a RememberState.
+const REMEMBER_STATE: u64 = 6;
+
 // Row i is at offset 0 and no RememberState.
 fn leads_at(rows: &[u64], i: usize) -> bool
     requires { ⌜ 4 * i + 4 ≤ length (now rows) ⌝ }
@@ -39,7 +42,7 @@ fn leads_at(rows: &[u64], i: usize) -> bool
     if rows::offset_at(rows, i) != 0 {
         return false;
     }
-    rows[4 * i + 1] != 6
+    rows[rows::ROW_STRIDE * i + 1] != REMEMBER_STATE
 }
 
 // How many of the n rows from `at` on lead.

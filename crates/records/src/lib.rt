@@ -331,10 +331,10 @@ fn set_kind(form: u64) -> u64
     ensures { λ r. ⌜ (r ≡ setKind form) × (r ≤ 11) ⌝ }
 {
     match form {
-        0 => 5,
-        1 => 7,
-        2 => 9,
-        _ => 11,
+        0 => relocs::SET6,
+        1 => relocs::SET8,
+        2 => relocs::SET16,
+        _ => relocs::SET32,
     }
 }
 
@@ -437,11 +437,6 @@ fn step_relocs_count(rows: &[u64], first: usize, n: usize, e: Extent, pairs: &[u
 
 // ---- a record's relocations
 
-// The symbols of the sections that a record points to.
-const EXCEPT_TABLE: u64 = 1;
-
-const DEBUG_FRAME: u64 = 2;
-
 // The length as the distance from the function to its end label, where it has relaxing labels.
 fn sum_pair(out: &mut [u64], i: usize, place: u64, bytes: u64, e: Extent) -> usize
     requires { ⌜ i + length (numbersOf (sumIn place bytes e)) ≤ length (now out) ⌝ }
@@ -450,8 +445,8 @@ fn sum_pair(out: &mut [u64], i: usize, place: u64, bytes: u64, e: Extent) -> usi
     if !e.relaxed {
         return i;
     }
-    let a = relocs::relocation(out, i, place, e.end, 2, bytes, 0);
-    relocs::relocation(out, a, place, e.symbol, 3, bytes, 0)
+    let a = relocs::relocation(out, i, place, e.end, relocs::SUM_PLUS, bytes, 0);
+    relocs::relocation(out, a, place, e.symbol, relocs::SUM_MINUS, bytes, 0)
 }
 
 fn sum_count(e: Extent) -> usize
@@ -469,7 +464,7 @@ fn lsda_reloc(out: &mut [u64], i: usize, word: u64, place: u64, table: u64, e: E
     ensures { λ r. ⌜ Wrote (now (out .entry)) (now (out .exit)) i r (numbersOf (lsdaIn word place table e)) ⌝ }
 {
     if e.landings != 0 {
-        return relocs::relocation(out, i, place, EXCEPT_TABLE, 0, 4, table);
+        return relocs::relocation(out, i, place, relocs::EXCEPT_TABLE, relocs::DATA, 4, table);
     }
     if !e.personality {
         return i;
@@ -500,8 +495,8 @@ fn debug_relocs(out: &mut [u64], i: usize, word: u64, at: u64, cie: u64, e: Exte
     requires { ⌜ (word ≤ 8) × (at < 2 ^ 32) × (i + length (numbersOf (debugRelocs word at cie e)) ≤ length (now out)) ⌝ }
     ensures { λ r. ⌜ Wrote (now (out .entry)) (now (out .exit)) i r (numbersOf (debugRelocs word at cie e)) ⌝ }
 {
-    let a = relocs::relocation(out, i, at + 4, DEBUG_FRAME, 1, 4, cie);
-    let b = relocs::relocation(out, a, at + 8, e.symbol, 1, word, 0);
+    let a = relocs::relocation(out, i, at + 4, relocs::DEBUG_FRAME, relocs::ADDRESS, 4, cie);
+    let b = relocs::relocation(out, a, at + 8, e.symbol, relocs::ADDRESS, word, 0);
     sum_pair(out, b, at + 8 + word, word, e)
 }
 
@@ -510,7 +505,7 @@ fn eh_relocs(out: &mut [u64], i: usize, word: u64, at: u64, table: u64, e: Exten
     requires { ⌜ (at < 2 ^ 32) × (i + length (numbersOf (ehRelocs word at table e)) ≤ length (now out)) ⌝ }
     ensures { λ r. ⌜ Wrote (now (out .entry)) (now (out .exit)) i r (numbersOf (ehRelocs word at table e)) ⌝ }
 {
-    let a = relocs::relocation(out, i, at + 8, e.symbol, 0, 4, 0);
+    let a = relocs::relocation(out, i, at + 8, e.symbol, relocs::DATA, 4, 0);
     let b = lsda_reloc(out, a, word, at + 17, table, e);
     sum_pair(out, b, at + 12, 4, e)
 }

@@ -21,6 +21,9 @@ use format::Row;
 use format::Signed;
 use format::Unsigned;
 
+// How many numbers a row has in a list.
+pub const ROW_STRIDE: usize = 4;
+
 // ---- a row out of the lists
 
 // The offset of row i.
@@ -236,6 +239,44 @@ pub fn same_row(a: Row, b: Row) -> bool
 
 // ---- a row written, and its size
 
+// Opcodes (DWARF 5, table 7.29; the last by the AArch64 DWARF document). The first three carry a number in their low six
+// bits.
+const DW_CFA_ADVANCE_LOC: u8 = 0x40;
+
+const DW_CFA_OFFSET: u8 = 0x80;
+
+const DW_CFA_RESTORE: u8 = 0xc0;
+
+const DW_CFA_ADVANCE_LOC1: u8 = 0x02;
+
+const DW_CFA_ADVANCE_LOC2: u8 = 0x03;
+
+const DW_CFA_ADVANCE_LOC4: u8 = 0x04;
+
+const DW_CFA_OFFSET_EXTENDED: u8 = 0x05;
+
+const DW_CFA_RESTORE_EXTENDED: u8 = 0x06;
+
+const DW_CFA_UNDEFINED: u8 = 0x07;
+
+const DW_CFA_REMEMBER_STATE: u8 = 0x0a;
+
+const DW_CFA_RESTORE_STATE: u8 = 0x0b;
+
+const DW_CFA_DEF_CFA: u8 = 0x0c;
+
+const DW_CFA_DEF_CFA_REGISTER: u8 = 0x0d;
+
+const DW_CFA_DEF_CFA_OFFSET: u8 = 0x0e;
+
+const DW_CFA_OFFSET_EXTENDED_SF: u8 = 0x11;
+
+const DW_CFA_DEF_CFA_SF: u8 = 0x12;
+
+const DW_CFA_DEF_CFA_OFFSET_SF: u8 = 0x13;
+
+const DW_CFA_NEGATE_RA_STATE: u8 = 0x2d;
+
 // An offset divided by minus the word.
 fn factored(word: u64, z: i64) -> i64
     requires { ⌜ (2 ≤ word) × (word ≤ 8) ⌝ }
@@ -280,7 +321,7 @@ fn def_cfa(out: &mut [u8], at: usize, word: u64, reg: u16, z: i64) -> usize
     requires { ⌜ (2 ≤ word) × (word ≤ 8) × (at + length (cfaBytes word 0x0c 0x12 (uleb reg) z) ≤ length (now out)) ⌝ }
     ensures { λ r. ⌜ Wrote (now (out .entry)) (now (out .exit)) at r (cfaBytes word 0x0c 0x12 (uleb reg) z) ⌝ }
 {
-    let a = leb::byte(out, at, by_sign(0x0c, 0x12, z));
+    let a = leb::byte(out, at, by_sign(DW_CFA_DEF_CFA, DW_CFA_DEF_CFA_SF, z));
     let b = leb::uleb(out, a, reg as u64);
     frame_offset(out, b, word, z)
 }
@@ -289,7 +330,11 @@ fn def_cfa_offset(out: &mut [u8], at: usize, word: u64, z: i64) -> usize
     requires { ⌜ (2 ≤ word) × (word ≤ 8) × (at + length (cfaBytes word 0x0e 0x13 [] z) ≤ length (now out)) ⌝ }
     ensures { λ r. ⌜ Wrote (now (out .entry)) (now (out .exit)) at r (cfaBytes word 0x0e 0x13 [] z) ⌝ }
 {
-    let a = leb::byte(out, at, by_sign(0x0e, 0x13, z));
+    let a = leb::byte(
+        out,
+        at,
+        by_sign(DW_CFA_DEF_CFA_OFFSET, DW_CFA_DEF_CFA_OFFSET_SF, z),
+    );
     frame_offset(out, a, word, z)
 }
 
@@ -329,10 +374,10 @@ pub fn saved(out: &mut [u8], at: usize, reg: u16, z: i64) -> usize
     ensures { λ r. ⌜ Wrote (now (out .entry)) (now (out .exit)) at r (savedBytes reg z) ⌝ }
 {
     if z < 0 {
-        let a = named(out, at, 0x11, reg);
+        let a = named(out, at, DW_CFA_OFFSET_EXTENDED_SF, reg);
         return leb::sleb(out, a, z);
     }
-    let a = opcode(out, at, 0x80, 0x05, reg);
+    let a = opcode(out, at, DW_CFA_OFFSET, DW_CFA_OFFSET_EXTENDED, reg);
     leb::uleb(out, a, z as u64)
 }
 
@@ -353,13 +398,13 @@ pub fn row(out: &mut [u8], at: usize, word: u64, r: Row) -> usize
     match r {
         Row::DefCfa(reg, z) => def_cfa(out, at, word, reg, z),
         Row::DefCfaOffset(z) => def_cfa_offset(out, at, word, z),
-        Row::DefCfaRegister(reg) => named(out, at, 0x0d, reg),
+        Row::DefCfaRegister(reg) => named(out, at, DW_CFA_DEF_CFA_REGISTER, reg),
         Row::Offset(reg, z) => saved(out, at, reg, factored(word, z)),
-        Row::Restore(reg) => opcode(out, at, 0xc0, 0x06, reg),
-        Row::Undefined(reg) => named(out, at, 0x07, reg),
-        Row::RememberState => leb::byte(out, at, 0x0a),
-        Row::RestoreState => leb::byte(out, at, 0x0b),
-        Row::NegateRaState => leb::byte(out, at, 0x2d),
+        Row::Restore(reg) => opcode(out, at, DW_CFA_RESTORE, DW_CFA_RESTORE_EXTENDED, reg),
+        Row::Undefined(reg) => named(out, at, DW_CFA_UNDEFINED, reg),
+        Row::RememberState => leb::byte(out, at, DW_CFA_REMEMBER_STATE),
+        Row::RestoreState => leb::byte(out, at, DW_CFA_RESTORE_STATE),
+        Row::NegateRaState => leb::byte(out, at, DW_CFA_NEGATE_RA_STATE),
     }
 }
 
@@ -403,12 +448,12 @@ fn step_opcode(form: u64) -> u8
     ensures { λ r. ⌜ r ≡ stepOpcode form ⌝ }
 {
     if form == 1 {
-        return 0x02;
+        return DW_CFA_ADVANCE_LOC1;
     }
     if form == 2 {
-        return 0x03;
+        return DW_CFA_ADVANCE_LOC2;
     }
-    0x04
+    DW_CFA_ADVANCE_LOC4
 }
 
 fn step_width(form: u64) -> usize
@@ -429,7 +474,7 @@ pub fn step_in(out: &mut [u8], at: usize, form: u64, by: u64) -> usize
     ensures { λ r. ⌜ Wrote (now (out .entry)) (now (out .exit)) at r (stepIn form by) ⌝ }
 {
     if form == 0 {
-        return leb::byte(out, at, 0x40 + by as u8);
+        return leb::byte(out, at, DW_CFA_ADVANCE_LOC + by as u8);
     }
     let a = leb::byte(out, at, step_opcode(form));
     leb::le(out, a, step_width(form), by)

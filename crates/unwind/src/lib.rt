@@ -44,7 +44,7 @@ pub fn relaxed_table(
 ) -> Outcome
     ensures { λ r. ⌜ Writes (relaxedTable format (givenOf (now (machine .entry)) (now (functions .entry)) (now (rows .entry)) (now (landings .entry)) (now (pairs .entry))) (roomIn (now (places .entry)) (now (bytes .entry)) (now (relocations .entry)) (now (sites .entry)))) r (now (places .entry)) (now (places .exit)) (now (bytes .entry)) (now (bytes .exit)) (now (relocations .entry)) (now (relocations .exit)) (now (sites .entry)) (now (sites .exit)) ⌝ }
 {
-    let listed = functions.len() / 18;
+    let listed = functions.len() / lists::FUNCTION_STRIDE;
     if listed == 0 {
         return Outcome::Empty;
     }
@@ -136,7 +136,7 @@ pub fn relaxed_debug_frame(
 ) -> Outcome
     ensures { λ r. ⌜ Writes (relaxedDebugFrame format (givenOf (now (machine .entry)) (now (functions .entry)) (now (rows .entry)) (now (landings .entry)) (now (pairs .entry))) (roomIn (now (places .entry)) (now (bytes .entry)) (now (relocations .entry)) [])) r (now (places .entry)) (now (places .exit)) (now (bytes .entry)) (now (bytes .exit)) (now (relocations .entry)) (now (relocations .exit)) [] [] ⌝ }
 {
-    if functions.len() / 18 == 0 {
+    if functions.len() / lists::FUNCTION_STRIDE == 0 {
         return Outcome::Empty;
     }
     if format != 0 {

@@ -20,13 +20,6 @@ named symbol size = record { symbol = symbol; size = size; end = 0; codes = [] }
 abbrev pub namedAt : (stride : ℕ) (fs : List ℕ) → ℕ → Prologue
 namedAt stride fs k = named (field stride fs k 0) (field stride fs k 1)
 
--- 51 to 54, by counts
-unfoldable pub roomFor : (needed room : Counts) → Question
-roomFor c r =
-    andThen (ask (leb (c .places) (r .places)) 51 0)
-    (andThen (ask (leb (c .bytes) (r .bytes)) 52 0)
-    (andThen (ask (leb (c .relocations) (r .relocations)) 53 0) (ask (leb (c .sites) (r .sites)) 54 0)))
-
 -- a no by its number, or a yes (0)
 unfoldable pub saidBy : ℕ → Option ℕ
 saidBy n = pick (eqb n 0) none (some n)

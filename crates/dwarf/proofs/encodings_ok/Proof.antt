@@ -1,6 +1,6 @@
 -- `dwarf::encodings_ok` meets its contract.
 use borrow.Author.Tests.{not-true, not-false}
-use Rattle.dwarf.proofs.Encodings.{landed, unnamed, unknown, bare, both}
+use Rattle.dwarf.proofs.Encodings.{landed, unnamed, unknown, no-lsda, both}
 use borrow.Author.Needs.{needs}
 use Rattle.dwarf.proofs.encodings_ok.Statement.{statement}
 use Rattle.dwarf.proofs.encodings_ok.Tie as tie
@@ -18,7 +18,7 @@ returns-3 : tie.Need-returns-3
 returns-3 c = unknown _ _ (c .before .before .before .before .if1 .left) (not-false _ (c .before .before .if2 .left)) (search needs) (c .before .pointer-size .ensures) (c .if3 .taken)
 
 returns-4 : tie.Need-returns-4
-returns-4 c = bare _ _ (c .before .before .before .before .before .before .if1 .left) (not-false _ (c .before .before .before .before .if2 .left)) (search needs) (c .before .before .before .pointer-size .ensures) (c .before .before .if3 .left) (not-true _ (c .if4 .taken))
+returns-4 c = no-lsda _ _ (c .before .before .before .before .before .before .if1 .left) (not-false _ (c .before .before .before .before .if2 .left)) (search needs) (c .before .before .before .pointer-size .ensures) (c .before .before .if3 .left) (not-true _ (c .if4 .taken))
 
 pointer-size-requires-2 : tie.Need-pointer-size-requires-2
 pointer-size-requires-2 c κs = search needs
