@@ -55,10 +55,10 @@ uint64_t __wrap_unwind_pack_rows(const unwind_row *, size_t, uint64_t *, size_t)
 uint64_t __real_unwind_row_check_of(uint64_t, const unwind_row *, size_t);
 uint64_t __wrap_unwind_row_check_of(uint64_t, const unwind_row *, size_t);
 unwind_written __real_unwind_relaxed_table_of(const uint64_t *, size_t, uint64_t, const unwind_function *, size_t, const unwind_row *,
-    size_t, const unwind_landing *, size_t, const unwind_pair *, size_t, uint64_t *, size_t, uint64_t *, size_t, uint8_t *, size_t,
+    size_t, const uint64_t *, size_t, const uint64_t *, size_t, uint64_t *, size_t, uint64_t *, size_t, uint8_t *, size_t,
     uint64_t *, size_t, uint8_t *, size_t);
 unwind_written __wrap_unwind_relaxed_table_of(const uint64_t *, size_t, uint64_t, const unwind_function *, size_t, const unwind_row *,
-    size_t, const unwind_landing *, size_t, const unwind_pair *, size_t, uint64_t *, size_t, uint64_t *, size_t, uint8_t *, size_t,
+    size_t, const uint64_t *, size_t, const uint64_t *, size_t, uint64_t *, size_t, uint64_t *, size_t, uint8_t *, size_t,
     uint64_t *, size_t, uint8_t *, size_t);
 
 unwind_written __wrap_unwind_relaxed_table(const uint64_t *machine, size_t machine_n, uint64_t format, const uint64_t *functions,
@@ -159,8 +159,8 @@ uint64_t __wrap_unwind_row_check_of(uint64_t simple, const unwind_row *rows, siz
 }
 
 unwind_written __wrap_unwind_relaxed_table_of(const uint64_t *machine, size_t machine_n, uint64_t format,
-    const unwind_function *functions, size_t functions_n, const unwind_row *rows, size_t rows_n, const unwind_landing *landings,
-    size_t landings_n, const unwind_pair *pairs, size_t pairs_n, uint64_t *numbers, size_t numbers_n, uint64_t *places, size_t places_n,
+    const unwind_function *functions, size_t functions_n, const unwind_row *rows, size_t rows_n, const uint64_t *landings,
+    size_t landings_n, const uint64_t *pairs, size_t pairs_n, uint64_t *numbers, size_t numbers_n, uint64_t *places, size_t places_n,
     uint8_t *bytes, size_t bytes_n, uint64_t *relocations, size_t relocations_n, uint8_t *sites, size_t sites_n) {
     unwind_written w = __real_unwind_relaxed_table_of(machine, machine_n, format, functions, functions_n, rows, rows_n, landings,
         landings_n, pairs, pairs_n, numbers, numbers_n, places, places_n, bytes, bytes_n, relocations, relocations_n, sites, sites_n);

@@ -31,15 +31,14 @@
 #define LENGTH(list) (sizeof(list) / sizeof *(list))
 #define PICK(list) ((list)[below(LENGTH(list))])
 
-/* From OF_STRUCTS on the first five again, over structs; from PACKS on the packs of the four lists. */
-enum { ELF, COFF, MACH_O, OTHER, DEBUG_FRAME, SEH, ROW_CHECK, READ, OF_STRUCTS, PACKS = OF_STRUCTS + SEH, ROW_CHECK_OF = PACKS + 4,
+/* From OF_STRUCTS on the first five again, over structs; from PACKS on the packs of the two lists. */
+enum { ELF, COFF, MACH_O, OTHER, DEBUG_FRAME, SEH, ROW_CHECK, READ, OF_STRUCTS, PACKS = OF_STRUCTS + SEH, ROW_CHECK_OF = PACKS + 2,
     ENTRIES };
 static const char *const ENTRY[ENTRIES] = {"relaxed_table ELF", "relaxed_table COFF", "relaxed_table Mach-O",
     "relaxed_table other", "relaxed_debug_frame", "seh", "row_check", "read", "relaxed_table_of ELF", "relaxed_table_of COFF",
-    "relaxed_table_of Mach-O", "relaxed_table_of other", "relaxed_debug_frame_of", "pack_functions", "pack_rows", "pack_landings",
-    "pack_pairs", "row_check_of"};
+    "relaxed_table_of Mach-O", "relaxed_table_of other", "relaxed_debug_frame_of", "pack_functions", "pack_rows", "row_check_of"};
 /* The numbers that document 01 and the change requests have for each entry, beside 0. 37, 39 and 41 are met through direct codes alone; to structs every
- * writer answers 54 where the list lent for the numbers is not ready. */
+ * writer with a table answers 54 where the list lent for the numbers is not ready. */
 static const uint8_t NUMBERS[ENTRIES][24] = {
     {11, 13, 21, 22, 23, 24, 25, 51, 52, 53, 54},
     {11, 12, 13, 21, 31, 32, 33, 34, 35, 36, 38, 40, 51, 52, 53, 54},
@@ -51,11 +50,9 @@ static const uint8_t NUMBERS[ENTRIES][24] = {
     {11, 61, 62, 63, 64, 65, 66, 67, 68, 69},
     {11, 13, 21, 22, 23, 24, 25, 51, 52, 53, 54},
     {11, 12, 13, 21, 31, 32, 33, 34, 35, 36, 38, 40, 51, 52, 53, 54},
-    {54, 78},
-    {11, 54},
+    {78},
+    {11},
     {11, 13, 21, 23, 24, 25, 51, 52, 53, 54},
-    {54},
-    {54},
     {54},
     {54},
     {1},
@@ -413,21 +410,17 @@ static void make_case(void) {
 /* ---- lists of structs */
 
 _Static_assert(sizeof(unwind_function) == 112 && sizeof(unwind_row) == 16, "functions and rows");
-_Static_assert(sizeof(unwind_landing) == 24 && sizeof(unwind_pair) == 32, "landings and pairs");
 
 static struct {
     unwind_function functions[MOST / 18];
     unwind_row rows[MOST / 4];
-    unwind_landing landings[MOST / 3];
-    unwind_pair pairs[MOST / 4];
 } given;
-static void *const GIVEN[] = {NULL, given.functions, given.rows, given.landings, given.pairs};
-static const size_t SIZE[] = {0, sizeof *given.functions, sizeof *given.rows, sizeof *given.landings, sizeof *given.pairs};
+static void *const GIVEN[] = {NULL, given.functions, given.rows};
+static const size_t SIZE[] = {0, sizeof *given.functions, sizeof *given.rows};
 
 /* A record's numbers in a struct, each as far as its field holds it; what lies between the fields stays. */
 static void fill(int key, size_t i) {
     const uint64_t *n = lists[key].at + STRIDE[key] * i;
-    if (key == LANDINGS || key == PAIRS) memcpy((uint8_t *)GIVEN[key] + SIZE[key] * i, n, SIZE[key]);
     if (key == ROWS) {
         unwind_row *r = &given.rows[i];
         r->offset = n[0], r->kind = (uint8_t)n[1], r->reg = (uint16_t)n[2], r->value = (int32_t)(uint32_t)n[3];
@@ -444,23 +437,16 @@ static void fill(int key, size_t i) {
 static void push_numbers(int key, size_t i) {
     const unwind_function *f = &given.functions[i];
     const unwind_row *r = &given.rows[i];
-    const unwind_landing *l = &given.landings[i];
-    const unwind_pair *p = &given.pairs[i];
-    switch (key) {
-    case FUNCTIONS:
+    if (key == FUNCTIONS)
         put(key, 18, (uint64_t[]){f->symbol, f->length, f->rows_at, f->rows, f->landings_at, f->landings, f->simple, f->signal,
             f->personality, f->encoding, f->routine, f->lsda, f->lsda_encoding, f->lsda_symbol, f->relaxed, f->end, f->pairs_at,
             f->pairs});
-        break;
-    case ROWS: put(key, 4, (uint64_t[]){r->offset, r->kind, r->reg, (uint32_t)r->value}); break;
-    case LANDINGS: put(key, 3, (uint64_t[]){l->start, l->length, l->pad}); break;
-    default: put(key, 4, (uint64_t[]){p->place1, p->place2, p->symbol1, p->symbol2});
-    }
+    else put(key, 4, (uint64_t[]){r->offset, r->kind, r->reg, (uint32_t)r->value});
 }
 
 /* Structs of the lists, at times damaged or random, and the lists then as the structs mean them. */
 static void make_structs(void) {
-    for (int key = FUNCTIONS; key <= PAIRS; key++) {
+    for (int key = FUNCTIONS; key <= ROWS; key++) {
         size_t n = records(key);
         int random = chance(2);
         uint8_t *at = GIVEN[key];
@@ -478,12 +464,7 @@ static void make_structs(void) {
 }
 
 static uint64_t call_pack(int key, const void *at, size_t n, uint64_t *numbers, size_t room) {
-    switch (key) {
-    case FUNCTIONS: return unwind_pack_functions(at, n, numbers, room);
-    case ROWS: return unwind_pack_rows(at, n, numbers, room);
-    case LANDINGS: return unwind_pack_landings(at, n, numbers, room);
-    default: return unwind_pack_pairs(at, n, numbers, room);
-    }
+    return key == FUNCTIONS ? unwind_pack_functions(at, n, numbers, room) : unwind_pack_rows(at, n, numbers, room);
 }
 
 /* The structs packed into a list that they fill, or that is one short, a little larger, or of any smaller size. */
@@ -537,14 +518,15 @@ static unwind_written call_table(void *const b[4], const size_t room[4]) {
 
 static unwind_written call_structs(void *const b[4], const size_t room[4]) {
     const uint64_t *machine = hand_list(0, MACHINE);
-    const void *at[5];
+    const uint64_t *landings = hand_list(LANDINGS, LANDINGS), *pairs = hand_list(PAIRS, PAIRS);
+    const void *at[3];
     uint64_t *numbers = hand(SPARE, zeros, 8 * lent_zeros);
-    for (int i = FUNCTIONS; i <= PAIRS; i++) at[i] = hand(i, GIVEN[i], records(i) * SIZE[i]);
+    for (int i = FUNCTIONS; i <= ROWS; i++) at[i] = hand(i, GIVEN[i], records(i) * SIZE[i]);
     if (entry == DEBUG_FRAME)
-        return unwind_relaxed_debug_frame_of(machine, lists[0].count, format, at[1], records(1), at[2], records(2), at[3], records(3),
-            at[4], records(4), numbers, lent_zeros, b[0], room[0], b[1], room[1], b[2], room[2]);
-    return unwind_relaxed_table_of(machine, lists[0].count, format, at[1], records(1), at[2], records(2), at[3], records(3), at[4],
-        records(4), numbers, lent_zeros, b[0], room[0], b[1], room[1], b[2], room[2], b[3], room[3]);
+        return unwind_relaxed_debug_frame_of(machine, lists[0].count, format, at[1], records(1), at[2], records(2), landings,
+            lists[3].count, pairs, lists[4].count, numbers, lent_zeros, b[0], room[0], b[1], room[1], b[2], room[2]);
+    return unwind_relaxed_table_of(machine, lists[0].count, format, at[1], records(1), at[2], records(2), landings, lists[3].count,
+        pairs, lists[4].count, numbers, lent_zeros, b[0], room[0], b[1], room[1], b[2], room[2], b[3], room[3]);
 }
 
 static void check_answer(const unwind_written *w, const size_t room[4]) {
@@ -628,11 +610,11 @@ static void write_again(void) {
 /* How much is lent for the numbers: as many as there are, a few more, or too few; at times one of them is not zero. The answer
  * is the place of that one, or MOST. */
 static size_t lend_numbers(int *ready) {
-    size_t n = lists[FUNCTIONS].count + lists[ROWS].count + lists[LANDINGS].count + lists[PAIRS].count;
+    size_t n = lists[FUNCTIONS].count + lists[ROWS].count;
     uint64_t how = below(10);
     lent_zeros = how < 5 || (how < 7 && !n) ? n : how < 6 ? n - 1 : how < 7 ? below(n) : n + below(5);
     size_t at = how == 9 && lent_zeros ? below(lent_zeros) : MOST;
-    *ready = lent_zeros >= n && at == MOST;
+    *ready = lent_zeros >= n && (at == MOST || at >= n);
     return at;
 }
 
@@ -650,8 +632,9 @@ static void write_structs(void) {
     if (at < MOST) zeros[at] = chance(50) ? 1 : 1ull << below(64);
     unwind_written x = written(room);
     if (at < MOST) zeros[at] = 0;
-    if (!ready && (x.number != 54 || x.position)) wrong("an answer without a list for the numbers");
-    if (ready && memcmp(&w, &x, sizeof w)) wrong("another answer to structs");
+    int first = w.number == 11 || w.number == 12 || w.number == 78 || (!w.number && !w.places);
+    if (!ready && !first && (x.number != 54 || x.position)) wrong("an answer without a list for the numbers");
+    if ((ready || first) && memcmp(&w, &x, sizeof w)) wrong("another answer to structs");
     for (int i = 0; i < 4 && ready; i++)
         if (memcmp(kept.results[i], slots[PLACES + i].at, kept.elements[i] * WIDTH[i])) wrong("other results of structs");
     if (ready && w.number == 0 && w.places) write_again();
@@ -704,10 +687,10 @@ static section pool[POOL], damaged;
 static size_t pooled;
 
 static void check_reading(const unwind_reading *r) {
-    uint64_t all = r->frame | r->frame_register | r->frame_offset | r->rule | r->rule_offset | r->signing;
+    uint64_t all = r->frame | r->frame_register | r->frame_offset | r->rule | r->rule_value | r->signing;
     if (r->number ? all != 0 : r->frame > 1 || r->rule > 2 || r->signing > 1) wrong("a reading with a field that has no meaning");
     if (!r->frame && (r->frame_register || r->frame_offset)) wrong("a frame address without a rule");
-    if (r->frame_register > 65535 || (r->rule != 2 && r->rule_offset)) wrong("a rule that cannot be");
+    if (r->frame_register > 65535 || (r->rule != 2 && r->rule_value)) wrong("a rule that cannot be");
 }
 
 static uint64_t ask(const section *s, uint64_t kind, uint64_t width, uint64_t k, uint64_t reg, uint64_t p) {
@@ -851,7 +834,7 @@ static void turn(void) {
     for (int i = 0; pooled && i < 4; i++) read_damaged();
     if (entry == SEH) return;
     make_structs();
-    for (int key = FUNCTIONS; key <= PAIRS; key++) pack(key);
+    for (int key = FUNCTIONS; key <= ROWS; key++) pack(key);
     check_structs();
     write_structs();
 }

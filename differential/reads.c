@@ -40,7 +40,7 @@ static void ask(void) {
     }
     unwind_reading r = unwind_read(section, bytes, relocations, numbers, n[0], n[1], n[2], (uint16_t)n[3], n[4]);
     printf("%" PRIu64 " %" PRIu64 " %" PRIu64 " %" PRIu64 " %" PRIu64 " %" PRIu64 " %" PRIu64 "\n",
-        r.number, r.frame, r.frame_register, r.frame_offset, r.rule, r.rule_offset, r.signing);
+        r.number, r.frame, r.frame_register, r.frame_offset, r.rule, r.rule_value, r.signing);
 }
 
 int main(void) {

@@ -33,7 +33,7 @@ struct Reading {
     frame_register: u64,
     frame_offset: u64,
     rule: u64,
-    rule_offset: u64,
+    rule_value: u64,
     signing: u64,
 }
 

@@ -89,9 +89,9 @@ unwind_written unwind_seh(
 uint64_t unwind_row_check(const uint64_t *functions, size_t functions_n, const uint64_t *rows, size_t rows_n, uint64_t k);
 
 /* What the reader answers: `number` is 0, or the question's. frame: 0 none, 1 register plus offset. rule: 0 unstated,
- * 1 undefined, 2 saved at the frame address plus offset. Offsets are 64-bit two's complement. A field without meaning is 0. */
+ * 1 undefined, 2 saved at the frame address plus rule_value. Offsets are 64-bit two's complement. A field without meaning is 0. */
 typedef struct {
-    uint64_t number, frame, frame_register, frame_offset, rule, rule_offset, signing;
+    uint64_t number, frame, frame_register, frame_offset, rule, rule_value, signing;
 } unwind_reading;
 
 /* The rules of record k at offset p of its function, for one register. kind: 0 eh_frame, 1 debug_frame. */
@@ -99,24 +99,16 @@ unwind_reading unwind_read(
     const uint8_t *section, size_t section_n, const uint64_t *relocations, size_t relocations_n,
     uint64_t kind, uint64_t word, uint64_t k, uint16_t reg, uint64_t p);
 
-/* ---- the same lists as structs
+/* ---- functions and rows as structs
  *
  * Each field is the number of the same name above; a number that the field cannot hold does not occur, and a mark above 1 or a
- * kind above 8 is question 13. */
+ * kind above 8 is question 13. Landings and pairs, all 64-bit numbers, are the lists above. */
 typedef struct {
     uint64_t offset;
     uint8_t kind;
     uint16_t reg;
     int32_t value;
 } unwind_row;
-
-typedef struct {
-    uint64_t start, length, pad;
-} unwind_landing;
-
-typedef struct {
-    uint64_t place1, place2, symbol1, symbol2;
-} unwind_pair;
 
 typedef struct {
     uint64_t symbol, length, rows_at, rows, landings_at, landings;
@@ -131,26 +123,24 @@ typedef struct {
 /* The numbers of structs at the front of a lent list: 0, or 54 where they do not fit, and the list is then as it was. */
 uint64_t unwind_pack_functions(const unwind_function *functions, size_t functions_n, uint64_t *numbers, size_t numbers_n);
 uint64_t unwind_pack_rows(const unwind_row *rows, size_t rows_n, uint64_t *numbers, size_t numbers_n);
-uint64_t unwind_pack_landings(const unwind_landing *landings, size_t landings_n, uint64_t *numbers, size_t numbers_n);
-uint64_t unwind_pack_pairs(const unwind_pair *pairs, size_t pairs_n, uint64_t *numbers, size_t numbers_n);
 
 /* The row check of one function whose rows are these, with its simple mark. */
 uint64_t unwind_row_check_of(uint64_t simple, const unwind_row *rows, size_t rows_n);
 
-/* The writers of DWARF and COFF over structs. `numbers` is room for their numbers: 18 a function, 4 a row, 3 a landing and 4 a
- * pair. It comes in all zero and at least so long, else the answer is 54, asked before any other question; it goes back as
- * it came, whatever the answer is. */
+/* The writers of DWARF and COFF over structs. `numbers` is room for their numbers: 18 a function and 4 a row. It comes in at
+ * least so long and zero so far, else the answer is 54, asked behind the empty result, 11 and 12; it goes back as it came,
+ * whatever the answer is. */
 unwind_written unwind_relaxed_table_of(
     const uint64_t *machine, size_t machine_n, uint64_t format,
     const unwind_function *functions, size_t functions_n, const unwind_row *rows, size_t rows_n,
-    const unwind_landing *landings, size_t landings_n, const unwind_pair *pairs, size_t pairs_n, uint64_t *numbers, size_t numbers_n,
+    const uint64_t *landings, size_t landings_n, const uint64_t *pairs, size_t pairs_n, uint64_t *numbers, size_t numbers_n,
     uint64_t *places, size_t places_n, uint8_t *bytes, size_t bytes_n,
     uint64_t *relocations, size_t relocations_n, uint8_t *sites, size_t sites_n);
 
 unwind_written unwind_relaxed_debug_frame_of(
     const uint64_t *machine, size_t machine_n, uint64_t format,
     const unwind_function *functions, size_t functions_n, const unwind_row *rows, size_t rows_n,
-    const unwind_landing *landings, size_t landings_n, const unwind_pair *pairs, size_t pairs_n, uint64_t *numbers, size_t numbers_n,
+    const uint64_t *landings, size_t landings_n, const uint64_t *pairs, size_t pairs_n, uint64_t *numbers, size_t numbers_n,
     uint64_t *places, size_t places_n, uint8_t *bytes, size_t bytes_n,
     uint64_t *relocations, size_t relocations_n);
 

@@ -63,7 +63,7 @@ static void print_frame(const unwind_reading *r) {
 }
 
 static void print_rule(const char *name, const unwind_reading *r) {
-    if (r->rule == 2) printf("  %s: at the frame address plus %" PRId64 "\n", name, (int64_t)r->rule_offset);
+    if (r->rule == 2) printf("  %s: at the frame address plus %" PRId64 "\n", name, (int64_t)r->rule_value);
     else printf("  %s: %s\n", name, r->rule == 1 ? "gone" : "as it is");
 }
 

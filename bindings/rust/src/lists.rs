@@ -199,7 +199,7 @@ pub fn read(
     let rule = match r.rule {
         0 => Rule::Unstated,
         1 => Rule::Undefined,
-        _ => Rule::Saved(r.rule_offset as i64),
+        _ => Rule::Saved(r.rule_value as i64),
     };
     Ok(Rules { frame, rule, signing: r.signing != 0 })
 }

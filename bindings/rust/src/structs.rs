@@ -1,4 +1,4 @@
-//! The entries over lists of structs and buffers that the caller lends: include/unwind.h's structs with slices.
+//! The entries over functions and rows as structs and buffers that the caller lends: include/unwind.h's structs with slices.
 //!
 //! Nothing is allocated by these. Each field is the number of the same name in the header's lists. A refusal leaves every lent
 //! buffer as it was, and an accepted call leaves what lies past its results as it was.
@@ -35,32 +35,6 @@ pub struct RowAt {
     pub register: u16,
     /// The offset operand.
     pub value: i32,
-}
-
-/// A landing: where a call in a range of the function goes when it unwinds.
-#[repr(C)]
-#[derive(Clone, Copy, Debug, Default, PartialEq, Eq, Hash)]
-pub struct Landing {
-    /// Where the range starts.
-    pub start: u64,
-    /// How long it is.
-    pub length: u64,
-    /// The place of the landing pad.
-    pub pad: u64,
-}
-
-/// Two places of a function between which the linker may take bytes out.
-#[repr(C)]
-#[derive(Clone, Copy, Debug, Default, PartialEq, Eq, Hash)]
-pub struct Pair {
-    /// The offset of the first place.
-    pub place1: u64,
-    /// The offset of the second.
-    pub place2: u64,
-    /// The first place's symbol.
-    pub symbol1: u64,
-    /// The second place's symbol.
-    pub symbol2: u64,
 }
 
 /// A function: its rows, landings and pairs are ranges of the lists beside it. A mark is 0 or 1, and another number is question 13;
@@ -106,17 +80,17 @@ pub struct Function {
     pub pairs: u64,
 }
 
-/// The lists that the two DWARF writers and COFF's take, as structs.
+/// The lists that the two DWARF writers and COFF's take: functions and rows as structs, landings and pairs as numbers.
 #[derive(Clone, Copy, Debug, Default)]
 pub struct Lists<'a> {
     /// The functions.
     pub functions: &'a [Function],
     /// Their rows.
     pub rows: &'a [RowAt],
-    /// Their landings.
-    pub landings: &'a [Landing],
-    /// Their pairs.
-    pub pairs: &'a [Pair],
+    /// Their landings, 3 numbers each.
+    pub landings: &'a [u64],
+    /// Their pairs, 4 numbers each.
+    pub pairs: &'a [u64],
 }
 
 impl Lists<'_> {
@@ -125,9 +99,7 @@ impl Lists<'_> {
     pub const fn numbers(&self) -> usize {
         let functions = self.functions.len().saturating_mul(18);
         let rows = self.rows.len().saturating_mul(4);
-        let landings = self.landings.len().saturating_mul(3);
-        let pairs = self.pairs.len().saturating_mul(4);
-        functions.saturating_add(rows).saturating_add(landings).saturating_add(pairs)
+        functions.saturating_add(rows)
     }
 }
 
@@ -158,26 +130,6 @@ pub fn pack_rows(rows: &[RowAt], numbers: &mut [u64]) -> Result<(), Refusal> {
     packed(unsafe { sys::unwind_pack_rows(rows.as_ptr(), rows.len(), numbers.as_mut_ptr(), numbers.len()) })
 }
 
-/// The numbers of landings at the front of a lent list, 3 each.
-///
-/// # Errors
-/// 54 where they do not fit; the list is then as it was.
-pub fn pack_landings(landings: &[Landing], numbers: &mut [u64]) -> Result<(), Refusal> {
-    // SAFETY: each pointer and count come from one slice, so they are valid and aligned; the lent slice is a unique reference, so
-    // it does not overlap the structs, whose layout is the header's.
-    packed(unsafe { sys::unwind_pack_landings(landings.as_ptr(), landings.len(), numbers.as_mut_ptr(), numbers.len()) })
-}
-
-/// The numbers of pairs at the front of a lent list, 4 each.
-///
-/// # Errors
-/// 54 where they do not fit; the list is then as it was.
-pub fn pack_pairs(pairs: &[Pair], numbers: &mut [u64]) -> Result<(), Refusal> {
-    // SAFETY: each pointer and count come from one slice, so they are valid and aligned; the lent slice is a unique reference, so
-    // it does not overlap the structs, whose layout is the header's.
-    packed(unsafe { sys::unwind_pack_pairs(pairs.as_ptr(), pairs.len(), numbers.as_mut_ptr(), numbers.len()) })
-}
-
 /// Whether the rows of one function, with its simple mark, pass the row check.
 #[must_use]
 pub fn row_check_of(simple: bool, rows: &[RowAt]) -> bool {
@@ -187,11 +139,11 @@ pub fn row_check_of(simple: bool, rows: &[RowAt]) -> bool {
 }
 
 /// The table of a list of functions. Formats: 0 ELF, 1 COFF, 2 Mach-O (refused by 78), 3 Wasm, 4 Plan 9. `numbers` is room for at least
-/// [`Lists::numbers`] numbers, all zero; it comes back as it was, whatever the answer is.
+/// [`Lists::numbers`] numbers, zero so far; it comes back as it was, whatever the answer is.
 ///
 /// # Errors
-/// The question that was answered by no, and before any other 54 where `numbers` is too short or not all zero; every lent buffer
-/// is then as it was.
+/// The question that was answered by no, and behind 11 and 12 first 54 where `numbers` is too short or not zero so far; every lent
+/// buffer is then as it was.
 pub fn relaxed_table_of(
     machine: &[u64],
     format: u64,
@@ -234,8 +186,8 @@ pub fn relaxed_table_of(
 /// `lent.sites` is not used.
 ///
 /// # Errors
-/// The question that was answered by no, and before any other 54 where `numbers` is too short or not all zero; every lent buffer
-/// is then as it was.
+/// The question that was answered by no, and behind 11 and 12 first 54 where `numbers` is too short or not zero so far; every lent
+/// buffer is then as it was.
 pub fn relaxed_debug_frame_of(
     machine: &[u64],
     format: u64,

@@ -1,6 +1,6 @@
 //! include/unwind.h, as it stands there.
 
-use crate::structs::{Function, Landing, RowAt, Pair};
+use crate::structs::{Function, RowAt};
 
 /// What a writer answers.
 #[repr(C)]
@@ -21,12 +21,13 @@ pub(crate) struct Reading {
     pub frame_register: u64,
     pub frame_offset: u64,
     pub rule: u64,
-    pub rule_offset: u64,
+    pub rule_value: u64,
     pub signing: u64,
 }
 
 extern "C" {
     pub(crate) fn unwind_machine_x86_64(machine: *mut u64, machine_n: usize) -> u64;
+
     pub(crate) fn unwind_relaxed_table(
         machine: *const u64,
         machine_n: usize,
@@ -107,11 +108,6 @@ extern "C" {
 
     pub(crate) fn unwind_pack_rows(rows: *const RowAt, rows_n: usize, numbers: *mut u64, numbers_n: usize) -> u64;
 
-    pub(crate) fn unwind_pack_landings(landings: *const Landing, landings_n: usize, numbers: *mut u64, numbers_n: usize)
-        -> u64;
-
-    pub(crate) fn unwind_pack_pairs(pairs: *const Pair, pairs_n: usize, numbers: *mut u64, numbers_n: usize) -> u64;
-
     pub(crate) fn unwind_row_check_of(simple: u64, rows: *const RowAt, rows_n: usize) -> u64;
 
     pub(crate) fn unwind_relaxed_table_of(
@@ -122,9 +118,9 @@ extern "C" {
         functions_n: usize,
         rows: *const RowAt,
         rows_n: usize,
-        landings: *const Landing,
+        landings: *const u64,
         landings_n: usize,
-        pairs: *const Pair,
+        pairs: *const u64,
         pairs_n: usize,
         numbers: *mut u64,
         numbers_n: usize,
@@ -146,9 +142,9 @@ extern "C" {
         functions_n: usize,
         rows: *const RowAt,
         rows_n: usize,
-        landings: *const Landing,
+        landings: *const u64,
         landings_n: usize,
-        pairs: *const Pair,
+        pairs: *const u64,
         pairs_n: usize,
         numbers: *mut u64,
         numbers_n: usize,
@@ -159,4 +155,5 @@ extern "C" {
         relocations: *mut u64,
         relocations_n: usize,
     ) -> Written;
+
 }

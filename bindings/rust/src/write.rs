@@ -1,4 +1,4 @@
-//! The writers that make their own buffers, and the row check and the reader over this crate's types.
+//! The writers that make their own buffers, and the row check and the readers over this crate's types.
 
 use alloc::vec;
 use alloc::vec::Vec;

@@ -3,9 +3,9 @@
 
 use unwind::lists::{self, Lent, Packed};
 use unwind::{
-    read, relaxed_debug_frame, relaxed_table, row_check, seh, Code, CodeOp, Format, Frame, Function, Kind, Landing, Machine,
-    MachineRegister, Op, Pair, Personality, Pointer, Prologue, Refusal, Relaxed, Relocation, Row, Rule, Rules, Section, Table,
-    Target, Word,
+    read, relaxed_debug_frame, relaxed_table, row_check, seh, Code, CodeOp, Format, Frame, Function, Kind, Landing,
+    Machine, MachineRegister, Op, Pair, Personality, Pointer, Prologue, Refusal, Relaxed, Relocation, Row, Rule, Rules,
+    Section, Table, Target, Word,
 };
 
 const X86: &Machine = &Machine::X86_64;
@@ -245,7 +245,7 @@ fn the_row_check() {
 
 #[test]
 fn questions_in_words() {
-    let numbers = [11..=13, 21..=25, 31..=41, 51..=54, 61..=69];
+    let numbers = [11..=13, 21..=25, 31..=41, 51..=54, 61..=69, 78..=78];
     for number in 0..100 {
         let known = numbers.iter().any(|range| range.contains(&number));
         assert_eq!(Refusal { number, position: 0 }.question().is_some(), known);

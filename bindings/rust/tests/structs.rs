@@ -5,8 +5,7 @@ use std::mem::{offset_of, size_of};
 
 use unwind::lists::{self, Counts, Lent};
 use unwind::structs::{
-    pack_functions, pack_landings, pack_pairs, pack_rows, relaxed_debug_frame_of, relaxed_table_of, row_check_of, Function,
-    Landing, RowAt, Lists, Pair,
+    pack_functions, pack_rows, relaxed_debug_frame_of, relaxed_table_of, row_check_of, Function, Lists, RowAt,
 };
 use unwind::{Machine, Refusal};
 
@@ -16,8 +15,8 @@ const ROWS: [RowAt; 4] = [
     RowAt { offset: 4, kind: 2, register: 6, value: 0 },
     RowAt { offset: 5, kind: 0, register: 7, value: 8 },
 ];
-const LANDINGS: [Landing; 1] = [Landing { start: 1, length: 2, pad: 3 }];
-const PAIRS: [Pair; 1] = [Pair { place1: 1, place2: 4, symbol1: 20, symbol2: 21 }];
+const LANDINGS: [u64; 3] = [1, 2, 3];
+const PAIRS: [u64; 4] = [1, 4, 20, 21];
 
 /// Each field another number, so that an exchange would be seen.
 const ODD: Function = Function {
@@ -57,7 +56,7 @@ const NO_ROOM: Refusal = Refusal { number: 54, position: 0 };
 
 #[test]
 fn layout() {
-    assert_eq!((size_of::<RowAt>(), size_of::<Landing>(), size_of::<Pair>(), size_of::<Function>()), (16, 24, 32, 112));
+    assert_eq!((size_of::<RowAt>(), size_of::<Function>()), (16, 112));
     assert_eq!((offset_of!(RowAt, kind), offset_of!(RowAt, register), offset_of!(RowAt, value)), (8, 10, 12));
     assert_eq!((offset_of!(Function, simple), offset_of!(Function, routine), offset_of!(Function, lsda)), (48, 56, 64));
     assert_eq!((offset_of!(Function, lsda_symbol), offset_of!(Function, relaxed), offset_of!(Function, end)), (72, 80, 88));
@@ -83,25 +82,6 @@ fn packed_rows() {
 }
 
 #[test]
-fn packed_landings() {
-    let mut numbers = [77; 4];
-    assert_eq!(pack_landings(&LANDINGS, &mut numbers[..2]), Err(NO_ROOM));
-    assert_eq!(numbers, [77; 4]);
-    assert_eq!(pack_landings(&LANDINGS, &mut numbers), Ok(()));
-    assert_eq!(numbers, [1, 2, 3, 77]);
-}
-
-#[test]
-fn packed_pairs() {
-    let mut numbers = [77; 5];
-    assert_eq!(pack_pairs(&PAIRS, &mut numbers[..3]), Err(NO_ROOM));
-    assert_eq!(numbers, [77; 5]);
-    assert_eq!(pack_pairs(&PAIRS, &mut numbers), Ok(()));
-    assert_eq!(numbers, [1, 4, 20, 21, 77]);
-    assert_eq!(pack_pairs(&[], &mut []), Ok(()));
-}
-
-#[test]
 fn the_row_check() {
     let stored = RowAt { offset: 1, kind: 6, ..RowAt::default() };
     assert!(row_check_of(false, &ROWS));
@@ -121,7 +101,8 @@ fn lend(write: impl FnOnce(&mut Lent<'_>) -> Result<Counts, Refusal>) -> Written
     (said, places, bytes, relocations, sites)
 }
 
-/// A writer over structs beside the one over numbers; `numbers` comes back all zero, and 54 is asked before any other question.
+/// A writer over structs beside the one over numbers; `numbers` comes back as it was, and where it is not ready 54 is asked behind
+/// the empty result, 11 and 12.
 fn the_same(
     of_structs: impl Fn(&[u64], u64, Lists<'_>, &mut [u64], &mut Lent<'_>) -> Result<Counts, Refusal>,
     of_numbers: impl Fn(&[u64], u64, lists::Lists<'_>, &mut Lent<'_>) -> Result<Counts, Refusal>,
@@ -131,24 +112,28 @@ fn the_same(
     let back = Function { length: 1 << 32, ..good[0] };
     for functions in [good, [good[0], back], [ODD, ODD]] {
         let structs = given(&functions);
-        assert_eq!(structs.numbers(), 59);
-        let mut packed = [0; 59];
+        assert_eq!(structs.numbers(), 52);
+        let mut packed = [0; 52];
         pack_functions(structs.functions, &mut packed[..36]).unwrap();
-        pack_rows(structs.rows, &mut packed[36..52]).unwrap();
-        pack_landings(structs.landings, &mut packed[52..55]).unwrap();
-        pack_pairs(structs.pairs, &mut packed[55..]).unwrap();
-        let numbers =
-            lists::Lists { functions: &packed[..36], rows: &packed[36..52], landings: &packed[52..55], pairs: &packed[55..] };
+        pack_rows(structs.rows, &mut packed[36..]).unwrap();
+        let numbers = lists::Lists { functions: &packed[..36], rows: &packed[36..], landings: &LANDINGS, pairs: &PAIRS };
         for format in 0..6 {
-            let mut room = [0; 60];
+            let mut room = [0; 53];
+            room[52] = 1;
+            let before = room;
             let said = lend(|lent| of_structs(&machine, format, structs, &mut room, lent));
             assert_eq!(said, lend(|lent| of_numbers(&machine, format, numbers, lent)));
-            assert_eq!(room, [0; 60]);
-            let refused = lend(|_| Err(NO_ROOM));
-            assert_eq!(lend(|lent| of_structs(&machine, format, structs, &mut room[..58], lent)), refused);
-            room[59] = 1;
-            assert_eq!(lend(|lent| of_structs(&machine, format, structs, &mut room, lent)), refused);
-            assert_eq!((&room[..59], room[59]), (&[0; 59][..], 1));
+            assert_eq!(room, before);
+            let first = match said.0 {
+                Ok(counts) => counts.places == 0,
+                Err(refusal) => refusal.number < 13 || refusal.number == 78,
+            };
+            let unready = if first { said } else { lend(|_| Err(NO_ROOM)) };
+            assert_eq!(lend(|lent| of_structs(&machine, format, structs, &mut room[..51], lent)), unready);
+            room[51] = 1;
+            let before = room;
+            assert_eq!(lend(|lent| of_structs(&machine, format, structs, &mut room, lent)), unready);
+            assert_eq!(room, before);
         }
     }
 }
@@ -158,7 +143,7 @@ fn tables_of_structs() {
     the_same(relaxed_table_of, lists::relaxed_table);
     let functions = functions();
     let machine = Machine::X86_64.numbers();
-    let (said, ..) = lend(|lent| relaxed_table_of(&machine, 0, given(&functions), &mut [0; 59], lent));
+    let (said, ..) = lend(|lent| relaxed_table_of(&machine, 0, given(&functions), &mut [0; 52], lent));
     assert_eq!(said.map(|counts| counts.places), Ok(2));
 }
 
@@ -167,6 +152,18 @@ fn debug_frames_of_structs() {
     the_same(relaxed_debug_frame_of, lists::relaxed_debug_frame);
     let functions = functions();
     let machine = Machine::X86_64.numbers();
-    let (said, ..) = lend(|lent| relaxed_debug_frame_of(&machine, 0, given(&functions), &mut [0; 59], lent));
+    let (said, ..) = lend(|lent| relaxed_debug_frame_of(&machine, 0, given(&functions), &mut [0; 52], lent));
     assert_eq!(said.map(|counts| counts.places), Ok(2));
+}
+
+#[test]
+fn the_machine_comes_first() {
+    let functions = functions();
+    let mut coff = Machine::X86_64.numbers();
+    coff[..2].copy_from_slice(&[4, 4]);
+    let said = |machine: &[u64], format, given| lend(|lent| relaxed_table_of(machine, format, given, &mut [], lent)).0;
+    assert_eq!(said(&[], 0, given(&functions)), Err(Refusal { number: 11, position: 0 }));
+    assert_eq!(said(&coff, 1, given(&functions)), Err(Refusal { number: 12, position: 0 }));
+    assert_eq!(said(&coff, 0, given(&functions)), Err(NO_ROOM));
+    assert_eq!(said(&[], 0, given(&[])).map(|counts| counts.places), Ok(0));
 }

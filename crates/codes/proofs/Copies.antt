@@ -6,7 +6,7 @@ use native.Mathlib.Numerals.{add-one}
 use mathlib.Core.List.{List, [], _∷_}
 use lib.ListN.{length, take, drop, getD, set}
 use lib.Seq.{length-take-le, drop-cons, getD-take, drop-length}
-use Rattle.format.specs.Put.{Wrote}
+use Rattle.format.proofs.Wrote.{Wrote}
 use Rattle.format.proofs.Storing as storing
 use Rattle.format.proofs.Storing.{Storing}
 

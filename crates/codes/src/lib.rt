@@ -6,7 +6,7 @@ ghost use Prim.Native.Nat.{_+_, _*_, _≤_, _<_};
 ghost use lib.ListN.{length, take};
 ghost use Rattle.format.specs.Prelude.{pick};
 ghost use Rattle.format.specs.Lists.{count};
-ghost use Rattle.format.specs.Put.{Wrote};
+ghost use Rattle.format.proofs.Wrote.{Wrote};
 ghost use Rattle.format.specs.Leb.{little};
 ghost use Rattle.format.specs.X64.{size64, registerIn, allocNo, saveNo, operandNo, codeNo, frameOk, frameNo, frameOr, node, allocBytes, slotBytes, saveBytes, codeBytes};
 ghost use Rattle.codes.specs.Codes.{Holds, numberOf, isNear, allocSize, saveSize};

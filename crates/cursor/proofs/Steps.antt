@@ -8,10 +8,10 @@ use lib.ListN.{length, drop, length-drop, drop-of-length-le}
 use lib.Seq.{length-take-le}
 use Rattle.format.specs.Reader.{readEntry, isHeader}
 use Rattle.format.proofs.Choice.{either}
-use Rattle.locate.specs.Spans.{part, entryIn, endAt}
-use Rattle.locate.specs.declared.Number.{Number}
-use Rattle.locate.specs.declared.Number.the-variants.{Is, Nothing}
-use Rattle.locate.proofs.Entries.{entered, none-read}
+use Rattle.reader.specs.Spans.{part, entryIn, endAt}
+use Rattle.reader.specs.declared.entries.Number.{Number}
+use Rattle.reader.specs.declared.entries.Number.the-variants.{Is, Nothing}
+use Rattle.reader.proofs.Tiling.{entered, none-read}
 use Rattle.cursor.specs.Listing.{stopped, shown, entryRead, entryFrom, entryAt}
 use Rattle.cursor.specs.declared.Entry.{Entry}
 

@@ -10,10 +10,10 @@ use Rattle.format.specs.Prelude.{pick, after}
 use Rattle.format.specs.Reader.{entries}
 use Rattle.format.specs.Reader as reader
 use Rattle.format.proofs.Choice.{either}
-use Rattle.locate.specs.Spans.{entryIn, entriesFrom, endAt}
-use Rattle.locate.specs.declared.Number.{Number}
-use Rattle.locate.specs.declared.Number.the-variants.{Is, Nothing}
-use Rattle.locate.proofs.Entries.{Entered, entered, tiled-end, tiled-none, tiled-more}
+use Rattle.reader.specs.Spans.{entryIn, entriesFrom, endAt}
+use Rattle.reader.specs.declared.entries.Number.{Number}
+use Rattle.reader.specs.declared.entries.Number.the-variants.{Is, Nothing}
+use Rattle.reader.proofs.Tiling.{Entered, entered, tiled-end, tiled-none, tiled-more}
 use Rattle.cursor.specs.Listing.{stopped, shown, entryAt, joined, listingF, listing}
 use Rattle.cursor.specs.declared.Entry.{Entry}
 use Rattle.cursor.proofs.Steps.{spanned, shown-span, at-end, at-none, at-there}

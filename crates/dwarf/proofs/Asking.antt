@@ -5,7 +5,7 @@ use native.Mathlib.Omega.{arith}
 use native.Mathlib.Numerals.{add-one}
 use mathlib.Core.Option.{none, some}
 use Rattle.format.specs.Prelude.{each}
-use Rattle.format.specs.Answers.{questionOf}
+use Rattle.format.proofs.Asked.{questionOf}
 use Rattle.format.specs.declared.Question as declared
 use Rattle.format.specs.declared.Question.the-variants.{Yes, No}
 use Rattle.format.specs.Questions.{Question, andThen, perFunction}

@@ -14,7 +14,8 @@ use Rattle.format.specs.declared.Section.the-variants.{Elf, Debug}
 use Rattle.format.specs.Machine.{machineOf}
 use Rattle.format.specs.Lists.{Function, functionStride, field, count, sumOf, functionsOf, listsOk}
 use Rattle.format.specs.Writer.{Written, taken, partsOf, dwarf}
-use Rattle.format.specs.Questions.{Given, Room, accepted, ask, andThen, roomAsks, unless, fitting, dwarfAsks, perFunction, dwarfAnswer, dwarfGiven, givenAsks, givenFunctions, noFunctions, formatAnswer, relaxedTable, relaxedDebugFrame, dwarfWritten}
+use Rattle.format.specs.Questions.{Given, Room, accepted, ask, andThen, roomAsks, unless, fitting, dwarfAsks, perFunction, dwarfAnswer, dwarfGiven, givenAsks, givenFunctions, noFunctions, formatAnswer, relaxedTable, relaxedDebugFrame}
+use Rattle.format.proofs.Accepted.{dwarfWritten}
 use Rattle.format.proofs.Accepted.{Accepted, accepted-is, function-fits-at}
 use Rattle.format.proofs.Fits.{FunctionFits}
 use Rattle.format.proofs.Parts.{relocsOf}

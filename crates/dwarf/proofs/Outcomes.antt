@@ -16,7 +16,8 @@ use Rattle.format.specs.declared.Question.the-variants.{Yes, No}
 use Rattle.format.specs.Machine.{machineOf, machineOk}
 use Rattle.format.specs.Lists.{numbersOf, landingAt, listsOk}
 use Rattle.format.specs.Questions.{Question, ask, andThen, perFunction, dwarfAsks, Given, Room, roomIn, Answer, refused, accepted, unless, fitting, roomAsks, givenAsks, givenFunctions, dwarfAnswer, dwarfGiven}
-use Rattle.format.specs.Answers.{questionOf, outcomeOf, afterwards, relocationNumbers, Writes}
+use Rattle.format.specs.Answers.{outcomeOf, afterwards, relocationNumbers, Writes}
+use Rattle.format.proofs.Asked.{questionOf}
 use Rattle.format.specs.Writer.{taken, dwarf}
 use Rattle.lists.specs.declared.Extent.{Extent}
 use Rattle.lists.specs.Extents.{meant}

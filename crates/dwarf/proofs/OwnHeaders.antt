@@ -5,7 +5,7 @@ use native.Mathlib.Omega.{arith}
 use mathlib.Core.Bool.{Bool, true, false}
 use mathlib.Core.List.{List, []}
 use lib.ListN.{length}
-use Rattle.format.specs.Put.{Wrote}
+use Rattle.format.proofs.Wrote.{Wrote}
 use Rattle.format.specs.declared.Machine.{Machine}
 use Rattle.format.specs.Lists.{numbersOf}
 use Rattle.format.specs.Headers.{headerBytes, headerRelocs}

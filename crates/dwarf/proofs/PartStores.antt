@@ -5,7 +5,7 @@ use native.Mathlib.Omega.{arith}
 use mathlib.Core.Bool.{Bool, true}
 use mathlib.Core.List.{List, [], _++_}
 use lib.ListN.{length, length-append}
-use Rattle.format.specs.Put.{Wrote}
+use Rattle.format.proofs.Wrote.{Wrote}
 use Rattle.format.specs.declared.Machine.{Machine}
 use Rattle.format.specs.Lists.{Relocation, numbersOf}
 use Rattle.format.specs.Headers.{padding}

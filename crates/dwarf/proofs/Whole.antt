@@ -15,7 +15,8 @@ use Rattle.format.specs.Machine.{machineOf, machineOk, isWord}
 use Rattle.format.specs.Lists.{functionStride, count, listsOk}
 use Rattle.format.specs.Questions.{dwarfAsks, perFunction, Given, Room, fitting, dwarfGiven, givenOf, roomIn}
 use Rattle.format.specs.Writer.{Written}
-use Rattle.format.specs.Answers.{questionOf, Writes}
+use Rattle.format.specs.Answers.{Writes}
+use Rattle.format.proofs.Asked.{questionOf}
 use Rattle.format.proofs.Accepted.{machine-fits}
 use Rattle.dwarf.specs.Asks.{askedIn, AllAskable}
 use Rattle.dwarf.specs.Parts.{inputs, writtenIn, partsTo}

@@ -6,7 +6,7 @@ use mathlib.Core.List.{List, [], _∷_}
 use lib.ListN.{length, getD}
 use lib.Dec.{leb, eqb}
 use Rattle.format.specs.Prelude.{pick}
-use Rattle.format.specs.Put.{Wrote}
+use Rattle.format.proofs.Wrote.{Wrote}
 use Rattle.format.specs.Lists.{numbersOf}
 use Rattle.format.specs.declared.Machine.{Machine}
 use Rattle.format.specs.Writer.{Part}

@@ -7,10 +7,10 @@ use format::Operation;
 use format::Reading;
 use format::Row;
 use format::Unsigned;
-use locate::Header;
-use locate::Located;
-use locate::Locating;
-use locate::Number;
+use reader::entries::Number;
+use reader::fields::Header;
+use reader::location::Located;
+use reader::location::Locating;
 
 // ---- parts of a section
 
@@ -166,7 +166,7 @@ pub fn header(s: &[u8], debug: bool, word: u64, at: usize, end: usize) -> Header
     if !reader::is_word(word) {
         return Header::Bad;
     }
-    locate::parse_header(span(s, further(s, at, 4), end), debug, word)
+    reader::fields::parse_header(span(s, further(s, at, 4), end), debug, word)
 }
 
 // Where the operations of a header and a record stand.
@@ -200,7 +200,7 @@ pub fn fields(
     if !reader::is_word(word) {
         return Locating::No(11);
     }
-    locate::fields(s, debug, word, cie, past, at, end)
+    reader::location::parse(s, debug, word, cie, past, at, end)
 }
 
 // Where the record from `at` to `end` says that its header starts. In a linked debug_frame, which has no relocations, its field says so.
@@ -219,7 +219,7 @@ fn header_place(s: &[u8], relocations: &[u64], debug: bool, at: usize, end: usiz
             return Number::Is(field(s, at + 4, 4) as usize);
         }
     }
-    locate::header_place(s, relocations, debug, at, end)
+    reader::location::header_place(s, relocations, debug, at, end)
 }
 
 // Marks that a header starts at a place.
@@ -245,6 +245,7 @@ fn refused(header: usize, number: u64) -> Held {
         size: 0,
         pointer: 0,
         signal: false,
+        word: 0,
     };
     Held {
         header,
@@ -298,7 +299,7 @@ pub fn rules(s: &[u8], l: Located, word: u64, p: u64, q: u16) -> Reading {
     if !reader::is_word(word) {
         return Reading::Refused(11);
     }
-    walk::walk(
+    reader::run::run(
         s,
         l.header,
         l.header_end,
@@ -321,7 +322,7 @@ pub fn refusal(s: &[u8], r: Held, word: u64) -> u64 {
         return 0;
     }
     match rules(s, l, word, l.size - 1, 0) {
-        Reading::Rules(_, _, _) => 0,
+        Reading::Answered(_) => 0,
         Reading::Refused(n) => n,
     }
 }

@@ -1,14 +1,14 @@
 // An example: the table of a small firmware of five functions is written, listed, checked and read.
 ghost use Prim.Native.Nat.{_≤_};
+use format::CfaRule;
 use format::Decoded;
-use format::Frame;
 use format::Operation;
 use format::Outcome;
 use format::Reading;
 use format::Row;
 use format::Rule;
 use listing::View;
-use locate::Locating;
+use reader::location::Locating;
 use shown::byte;
 use shown::decimal;
 use shown::text;
@@ -205,11 +205,11 @@ fn sources(
     byte(out, b, b'\n')
 }
 
-fn frame(out: &mut [u8], at: usize, c: Frame) -> usize {
+fn frame(out: &mut [u8], at: usize, c: CfaRule) -> usize {
     let a = text(out, at, b"  frame address = ");
     match c {
-        Frame::Unset => text(out, a, b"unknown"),
-        Frame::Register(reg, z) => {
+        CfaRule::Unset => text(out, a, b"unknown"),
+        CfaRule::Register(reg, z) => {
             let b = shown::register(out, a, reg as u64, false);
             shown::offset(out, b, z)
         }
@@ -244,7 +244,7 @@ fn header_of(section: &[u8], k: u64) -> &[u8] {
     if !reader::is_word(word) {
         return &section[..0];
     }
-    match locate::locate(section, &[], false, word, k) {
+    match reader::location::locate(section, &[], false, word, k) {
         Locating::Found(l) => entries::span(section, l.header, l.header_end),
         Locating::No(_) => &section[..0],
     }
@@ -263,7 +263,8 @@ fn ask_register(
 ) -> usize {
     match unwind::read(section, &[], 0, 8, k, reg, p) {
         Reading::Refused(n) => listing::refusal(out, at, n),
-        Reading::Rules(_, r, _) => {
+        Reading::Answered(rules) => {
+            let r = rules.rule;
             let a = rule(out, at, reg as u64, r);
             sources(
                 out,
@@ -291,11 +292,12 @@ fn ask_frame(
 ) -> usize {
     match unwind::read(section, &[], 0, 8, k, 30, p) {
         Reading::Refused(n) => listing::refusal(out, at, n),
-        Reading::Rules(c, _, on) => {
+        Reading::Answered(rules) => {
             let header = header_of(section, k);
-            let a = frame(out, at, c);
+            let cfa = rules.cfa;
+            let a = frame(out, at, cfa);
             let b = sources(out, a, functions, rows, header, k, p, FRAME);
-            let d = signing(out, b, on);
+            let d = signing(out, b, rules.signing);
             sources(out, d, functions, rows, header, k, p, SIGNING)
         }
     }

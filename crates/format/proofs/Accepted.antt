@@ -20,37 +20,42 @@ use Rattle.format.specs.Rows.{RowAt, rowWhole, regOf, offsetOf}
 use Rattle.format.specs.Lists.{Function, functionStride, rowStride, landingStride, pairStride, field, count, rowOf, rowAt, functionAt, functionsOf, mostFunctions, mostRecords, inside, symbolOk, markOk, whenMarked, hasRegister, hasOffset, rowOk, rowOkAt, pairOkAt, pointerOk, allIn, functionOkAt, sumOf, pairsIn, listsOk}
 use Rattle.format.specs.declared.Section.{Section}
 use Rattle.format.specs.declared.Section.the-variants.{Elf, Debug}
-use Rattle.format.specs.Writer.{Written, bare, taken, dwarf}
+use Rattle.format.specs.Writer.{Written, withoutExceptions, taken, dwarf}
 use Rattle.format.specs.Headers.{leading}
-use Rattle.format.specs.Rules.{runRows}
+use Rattle.format.proofs.RowsRun.{runRows}
 use Rattle.format.specs.RowCheck.{rowCheck, rowCheckAt}
-use Rattle.format.specs.Questions.{Question, ask, andThen, perFunction, sizeBytes, stepsOk, dwarfAsks, Room, Answer, empty, accepted, unless, fitting, dwarfAnswer, Given, givenFunctions, noFunctions, givenAsks, dwarfGiven, formatAnswer, relaxedTable, relaxedDebugFrame, dwarfWritten}
+use Rattle.format.specs.Questions.{Question, ask, andThen, perFunction, sizeBytes, stepsOk, dwarfAsks, Room, Answer, empty, accepted, unless, fitting, dwarfAnswer, Given, givenFunctions, givenFunction, noFunctions, givenAsks, dwarfGiven, formatAnswer, relaxedTable, relaxedDebugFrame}
 use Rattle.format.proofs.RowBack.{Off32}
 use Rattle.format.proofs.WalkBack.{RowsAtOk}
 use Rattle.format.proofs.Fits.{MachineFits, FunctionFits, AllFit, rowCount, Bounded}
 use Rattle.format.proofs.ListLaws.{each-length, each-get, get-map, chained, in-range}
 
+-- a list is accepted for DWARF output when its writer neither refuses nor gives an empty result
+unfoldable pub dwarfWritten : Section → Given → Room → Answer
+dwarfWritten Elf g r = relaxedTable 0 g r
+dwarfWritten Debug g r = relaxedDebugFrame 0 g r
+
 -- ---- what a section takes of a function
 
 pub taken-size : (s : Section) (f : Function) → taken s f .size ≡ f .size
-unfolding taken bare
+unfolding taken withoutExceptions
 taken-size Elf f = refl
 taken-size Debug f = refl
 
 pub taken-rows : (s : Section) (f : Function) → taken s f .rows ≡ f .rows
-unfolding taken bare
+unfolding taken withoutExceptions
 taken-rows Elf f = refl
 taken-rows Debug f = refl
 
 pub taken-plain : (s : Section) (f : Function) → f .relaxed ≡ none → taken s f .relaxed ≡ none
-unfolding taken bare
+unfolding taken withoutExceptions
 taken-plain Elf f e = e
 taken-plain Debug f e = e
 
-pub taken-run : (s : Section) (m : Machine) (f : Function) (q p : ℕ) → runRows m (taken s f) q p ≡ runRows m f q p
-unfolding taken bare runRows leading
-taken-run Elf m f q p = refl
-taken-run Debug m f q p = refl
+pub taken-run : (s : Section) (m : Machine) (f : Function) (p : ℕ) → runRows m (taken s f) p ≡ runRows m f p
+unfolding taken withoutExceptions runRows leading
+taken-run Elf m f p = refl
+taken-run Debug m f p = refl
 
 -- ---- questions
 
@@ -266,10 +271,6 @@ accepted-is Elf g r w e = given-is Elf g r w (not-empty (noFunctions g) _ w e)
 accepted-is Debug g r w e = given-is Debug g r w (not-empty (noFunctions g || false) _ w e)
 
 -- ---- function k
-
--- function k of the lists
-abbrev pub givenFunction : Given → ℕ → Function
-givenFunction g k = functionAt (g .functions) (g .rows) (g .landings) (g .pairs) k
 
 pub function-at : (g : Given) (k : ℕ) → k < count functionStride (g .functions) → getElem? (givenFunctions g) k ≡ some (givenFunction g k)
 unfolding givenFunctions functionsOf

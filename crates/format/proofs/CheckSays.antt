@@ -6,18 +6,18 @@ use mathlib.Core.Bool.{Bool, true, false, not, _&&_, _||_}
 use mathlib.Core.List.{List, [], _∷_, _++_, append-nil, append-assoc}
 use lib.Dec.{T, T-not, leb, ltb, eqb, leb→le}
 use mir.Facts.{and-yes, yes-and}
-use Rattle.format.specs.Prelude.{pick, all}
+use Rattle.format.specs.Prelude.{pick, good, bad, all}
 use Rattle.format.specs.declared.Machine.{Machine}
 use Rattle.format.specs.declared.Row.{Row}
 use Rattle.format.specs.declared.Row.the-variants.{DefCfa, DefCfaOffset, DefCfaRegister, Offset, Restore, Undefined, RememberState, RestoreState, NegateRaState}
-use Rattle.format.specs.declared.Reading.the-variants.{Refused}
 use Rattle.format.specs.Rows.{RowAt, kindOf}
 use Rattle.format.specs.Lists.{Function}
 use Rattle.format.specs.Headers.{implied, leads, ahead, others, leading}
 use Rattle.format.specs.Questions.{stepsOk}
 use Rattle.format.specs.RowCheck.{mayLead, inOrder, rowsOf, rowCheck}
-use Rattle.format.specs.Rules.{upTo, entryState, rulesAt, seen, while, answer, runRows}
+use Rattle.format.specs.Rules.{upTo, entryState, rulesAt}
 use Rattle.format.proofs.Choice.{tested, pick-yes, pick-no, if-le, if-gt, either}
+use Rattle.format.proofs.RowsRun.{while, runRows}
 use Rattle.format.proofs.RulesSeen.{allowed, ran-yes, ran-no, whole}
 
 -- ---- rows in order of their offsets
@@ -173,23 +173,23 @@ module _ (m : Machine) (f : Function) where
       (asked (not (f .simple)) (ahead (f .rows)) (rowsOf (others (f .rows))) (ahead-none (f .rows)) (rw allows at a) (rw rows-split at o′)) o′
 
 -- where the check says yes, the run gives the rules at p
-pub rules : (m : Machine) (f : Function) (q p : ℕ) → T (stepsOk 0 (f .rows)) → T (rowCheck (f .simple) (f .rows)) → runRows m f q p ≡ seen q (rulesAt m f p)
-unfolding runRows rulesAt entryState seen answer
-rules m f q p steps t =
+pub rules : (m : Machine) (f : Function) (p : ℕ) → T (stepsOk 0 (f .rows)) → T (rowCheck (f .simple) (f .rows)) → runRows m f p ≡ good (rulesAt m f p)
+unfolding runRows rulesAt entryState
+rules m f p steps t =
     let rs : List Row = while p (others (f .rows)) in
     let h = says-yes m f t in
     let c = cut p (others (f .rows)) in
     let s = others-steps 0 (f .rows) steps in
-    rw (ran-yes (whole q (leading m f) rs (c .0)) (yes-and (all (allowed true) (leading m f)) (all (allowed false) rs) (h .0) (any rs)) (rw (← (c .1)) (h .1)))
+    rw (ran-yes (whole (leading m f) rs (c .0)) (yes-and (all (allowed true) (leading m f)) (all (allowed false) rs) (h .0) (any rs)) (rw (← (c .1)) (h .1)))
     (rw (while-upTo p (s .0) (others (f .rows)) (s .1 .0)))
 
 -- where it says no, the run refuses at the last row and past it
-pub refuses : (m : Machine) (f : Function) (q p : ℕ) → T (stepsOk 0 (f .rows)) → T (not (rowCheck (f .simple) (f .rows))) → Past p (f .rows)
-    → (n : ℕ) × ((runRows m f q p ≡ Refused n) × T (leb 67 n && leb n 69))
+pub refuses : (m : Machine) (f : Function) (p : ℕ) → T (stepsOk 0 (f .rows)) → T (not (rowCheck (f .simple) (f .rows))) → Past p (f .rows)
+    → (n : ℕ) × ((runRows m f p ≡ bad n) × T (leb 67 n && leb n 69))
 unfolding runRows inOrder
-refuses m f q p steps t past =
+refuses m f p steps t past =
     let rs : List Row = while p (others (f .rows)) in
     let s = others-steps 0 (f .rows) steps in
     let e : rs ≡ rowsOf (others (f .rows)) = while-all p (s .0) (others (f .rows)) (s .1 .0) (omega (arith, s .1 .1)) in
-    ran-no (whole q (leading m f) rs [])
+    ran-no (whole (leading m f) rs [])
     (λ a o. T-not (rowCheck (f .simple) (f .rows)) t (yes-says m f (and-yes (all (allowed true) (leading m f)) (all (allowed false) rs) a .0) (rw (append-nil, e) at o)))

@@ -4,28 +4,31 @@
 use mathlib.Core.Path.{_≡_, refl}
 use Prim.Native.Nat.{ℕ}
 use mathlib.Core.Option.{some}
-use mathlib.Core.Bool.{true, false}
+use mathlib.Core.Bool.{Bool, true, false}
 use mathlib.Core.List.{List, [], _∷_, _++_}
 use lib.ListN.{getD, replicate, set}
 use lib.IntN.{pos, negsuc}
 use Rattle.format.specs.Put.{put}
-use Rattle.format.specs.Answers.{frameNumbers, ruleNumbers, bit, readingNumbers, questionNumbers, questionOf, outcomeNumbers, outcomeOf, afterwards, relocationNumbers}
-use Rattle.format.specs.declared.Frame.the-variants.{Register as register}
+use Rattle.format.specs.Answers.{cfaNumbers, ruleNumbers, bit, readingNumbers, outcomeNumbers, outcomeOf, afterwards, relocationNumbers}
+use Rattle.format.specs.declared.CfaRule.the-variants.{Register as register}
 use Rattle.format.specs.declared.Rule.the-variants.{Saved, Unstated as unstated}
 use Rattle.format.specs.declared.Reading.{Reading}
-use Rattle.format.specs.declared.Reading.the-variants.{Rules as rules, Refused as refusedBy}
+use Rattle.format.specs.declared.CfaRule.{CfaRule}
+use Rattle.format.specs.declared.Rule.{Rule}
+use Rattle.format.specs.declared.Reading.the-variants.{Answered, Refused as refusedBy}
 use Rattle.format.specs.CallSites.{siteBytes, sitesBytes, siteTable, sitePad, siteAdded}
 use Rattle.format.specs.Headers.{implied, leads, ahead, others, leading, encodingOf, namedKind, kindFor, keyOf, sameEncoding, sameKind, sameRows, sameKey, sizeOf, pointerSize, sizeOr0, pointerBytes, pointerReloc, padding, padded, entry, letters, augmentation, lsdaLetter, augmentationData, counted, headerData, headerId, dataFactor, headerFields, headerBytes, pointerPlace, kindRelocs, headerRelocs}
 use Rattle.format.specs.Leb.{little, readLittle, ulebF, uleb, bits7, slebF, sleb, readUlebF, readUleb, push, last7, readSlebF, fits64, readSleb}
 use Rattle.format.specs.Lists.{mark, rowOf, rowAt, landingAt, pairAt, codeOf, codeAt, optional, functionAt, functionsOf, prologueAt, prologuesOf, relocationAt, relocationsOf, numbersOf, inside, symbolOk, markOk, whenMarked, hasRegister, hasOffset, rowOk, rowOkAt, pairOkAt, codeOk, codeOkAt, allIn, pointerOk, functionOkAt, prologueOkAt, sumOf, pairsIn, listsOk, codesOk}
 use Rattle.format.specs.Machine.{registerOf, machineOf, isWord, machineOk, x8664}
-use Rattle.format.specs.Questions.{ask, andThen, perFunction, sizeBytes, isSome, lsdaOk, namedOk, encodingsOk, stepsOk, pairsOk, dwarfAsks, madeOne, prologuesFor, noAt, codeAsks, roomAsks, unless, fitting, dwarfAnswer, codesAnswer, prologuesAnswer, shortOnes, windowsAnswer, givenFunctions, noFunctions, givenAsks, windowsAsks, dwarfGiven, formatAnswer, relaxedTable, relaxedDebugFrame, seh, dwarfWritten, Answer, refused, empty, accepted, Given, Room}
-use Rattle.format.specs.Reader.{readEntry, entriesF, entries, valueOr0, second, isHeader, records, distanceBack, firstAddend, headerPlace, headerAt, strip, spelled, spellings, spellOr, readLetters, readByte, readMany, readCounted, personalityIn, lsdaIn, lettersIn, headerTail, require, parseHeader, recordTail, parseRecord, perform, whenRead, walkF, walk, parsed, locate, walked, readSection, read}
+use Rattle.format.specs.Questions.{ask, andThen, perFunction, sizeBytes, isSome, lsdaOk, namedOk, encodingsOk, stepsOk, pairsOk, dwarfAsks, madeOne, prologuesFor, noAt, codeAsks, roomAsks, unless, fitting, dwarfAnswer, codesAnswer, prologuesAnswer, shortOnes, windowsAnswer, givenFunctions, noFunctions, givenAsks, windowsAsks, dwarfGiven, formatAnswer, relaxedTable, relaxedDebugFrame, seh, Answer, refused, empty, accepted, Given, Room}
+use Rattle.format.proofs.Accepted.{dwarfWritten}
+use Rattle.format.specs.Reader.{readEntry, entriesF, entries, valueOr0, second, isHeader, records, distanceBack, firstAddend, headerPlace, headerAt, strip, spelled, spellings, spellOr, readLetters, readByte, readMany, readCounted, personalityIn, lsdaIn, lettersIn, headerTail, require, parseHeader, recordTail, parseRecord, perform, whenRead, runF, run, parsed, locate, runTo, readSection, read}
 use Rattle.format.specs.Records.{pointerBlank, namedBlank, lsdaBlank, pointerTo, namedReloc, lsdaReloc, sizeField, recordFields, recordBytes, sumPair, pairFor, setKind, setBytes, setPlace, setPair, stepRelocs, rowRelocs, recordRelocs}
 use Rattle.format.specs.Rows.{factor, cfaBytes, withRegister, savedBytes, rowBytes, stepIn, stepForm, stepBytes, steppedBytes, rowsBytes, unfactor, readRegister, inRange, readOffset, readFactored, readSigned, one, two, readExtended, readOperation, whole, wholeBelow, rowWhole, sameOffset, kindOf, regOf, offsetOf, sameRow}
-use Rattle.format.specs.Rules.{blank, withFrame, withRule, reoffset, reregister, popped, apply, applyRows, upTo, entryState, rulesAt, seen, start, setFrame, setRule, changeOffset, changeRegister, remember, recall, act, actAll, while, answer, runRows}
+use Rattle.format.specs.Rules.{blank, withCfa, withRule, reoffset, reregister, restored, negated, apply, rulesFor, seen, withoutCfa, withoutStored, refusal, unlessRefused, act, answer}
 use Rattle.format.specs.Prelude.{pick, next, after, onward, orElse, all, first, each}
-use Rattle.format.specs.Writer.{isDebug, bare, taken, alignFor, placeIn, partWith, partOf, isEmpty, partsFrom, joined, partsOf, dwarf}
+use Rattle.format.specs.Writer.{isDebug, withoutExceptions, taken, alignFor, placeIn, partWith, partOf, isEmpty, partsFrom, joined, partsOf, dwarf}
 use Rattle.format.specs.X64.{beforeRemember, joinGroup, groups, more, isPush, onlyPush, loneRow, pushRows, readGroup, readGroups, low16, codeFor, codesFor, codesOf, endOf, node, allocBytes, slotBytes, saveBytes, size64, codeBytes, registerIn, allocNo, saveNo, operandNo, codeNo, frameOk, frameNo, orNo, firstNo, slots, prologueNo, frameOr, frameByte, reversed, infoBytes, runtimeRelocs, markersFrom, runtimeFrom, x64, prologueOf}
 
 -- ---- LEB numbers
@@ -92,11 +95,11 @@ view (accepted w) = w .places ∷ w .bytes ∷ numbersOf (w .relocations) ∷ w 
 
 -- what the writers' definitions give
 unfoldable written : ℕ → Given → Room → List (List ℕ)
-unfolding view x8664-list on ample pick next after onward orElse all first each little readLittle ulebF uleb bits7 slebF sleb readUlebF readUleb push last7 readSlebF fits64 readSleb registerOf machineOf isWord machineOk factor cfaBytes withRegister savedBytes rowBytes stepIn stepForm stepBytes steppedBytes rowsBytes unfactor readRegister inRange readOffset readFactored readSigned one two readExtended readOperation whole wholeBelow rowWhole sameOffset kindOf regOf offsetOf sameRow mark rowOf rowAt landingAt pairAt codeOf codeAt optional functionAt functionsOf prologueAt prologuesOf relocationAt relocationsOf numbersOf inside symbolOk markOk whenMarked hasRegister hasOffset rowOk rowOkAt pairOkAt codeOk codeOkAt allIn pointerOk functionOkAt prologueOkAt sumOf pairsIn listsOk codesOk implied leads ahead others leading encodingOf namedKind kindFor keyOf sameEncoding sameKind sameRows sameKey sizeOf pointerSize sizeOr0 pointerBytes pointerReloc padding padded entry letters augmentation lsdaLetter augmentationData counted headerData headerId dataFactor headerFields headerBytes pointerPlace kindRelocs headerRelocs siteBytes sitesBytes siteTable sitePad siteAdded pointerBlank namedBlank lsdaBlank pointerTo namedReloc lsdaReloc sizeField recordFields recordBytes sumPair pairFor setKind setBytes setPlace setPair stepRelocs rowRelocs recordRelocs beforeRemember joinGroup groups more isPush onlyPush loneRow pushRows readGroup readGroups low16 codeFor codesFor codesOf endOf node allocBytes slotBytes saveBytes size64 codeBytes registerIn allocNo saveNo operandNo codeNo frameOk frameNo orNo firstNo slots prologueNo frameOr frameByte reversed infoBytes runtimeRelocs markersFrom runtimeFrom x64 prologueOf ask andThen perFunction sizeBytes isSome lsdaOk namedOk encodingsOk stepsOk pairsOk dwarfAsks madeOne prologuesFor noAt codeAsks roomAsks unless fitting dwarfAnswer codesAnswer prologuesAnswer shortOnes windowsAnswer givenFunctions noFunctions givenAsks windowsAsks dwarfGiven formatAnswer relaxedTable relaxedDebugFrame seh dwarfWritten isDebug bare taken alignFor placeIn partWith partOf isEmpty partsFrom joined partsOf dwarf
+unfolding view x8664-list on ample pick next after onward orElse all first each little readLittle ulebF uleb bits7 slebF sleb readUlebF readUleb push last7 readSlebF fits64 readSleb registerOf machineOf isWord machineOk factor cfaBytes withRegister savedBytes rowBytes stepIn stepForm stepBytes steppedBytes rowsBytes unfactor readRegister inRange readOffset readFactored readSigned one two readExtended readOperation whole wholeBelow rowWhole sameOffset kindOf regOf offsetOf sameRow mark rowOf rowAt landingAt pairAt codeOf codeAt optional functionAt functionsOf prologueAt prologuesOf relocationAt relocationsOf numbersOf inside symbolOk markOk whenMarked hasRegister hasOffset rowOk rowOkAt pairOkAt codeOk codeOkAt allIn pointerOk functionOkAt prologueOkAt sumOf pairsIn listsOk codesOk implied leads ahead others leading encodingOf namedKind kindFor keyOf sameEncoding sameKind sameRows sameKey sizeOf pointerSize sizeOr0 pointerBytes pointerReloc padding padded entry letters augmentation lsdaLetter augmentationData counted headerData headerId dataFactor headerFields headerBytes pointerPlace kindRelocs headerRelocs siteBytes sitesBytes siteTable sitePad siteAdded pointerBlank namedBlank lsdaBlank pointerTo namedReloc lsdaReloc sizeField recordFields recordBytes sumPair pairFor setKind setBytes setPlace setPair stepRelocs rowRelocs recordRelocs beforeRemember joinGroup groups more isPush onlyPush loneRow pushRows readGroup readGroups low16 codeFor codesFor codesOf endOf node allocBytes slotBytes saveBytes size64 codeBytes registerIn allocNo saveNo operandNo codeNo frameOk frameNo orNo firstNo slots prologueNo frameOr frameByte reversed infoBytes runtimeRelocs markersFrom runtimeFrom x64 prologueOf ask andThen perFunction sizeBytes isSome lsdaOk namedOk encodingsOk stepsOk pairsOk dwarfAsks madeOne prologuesFor noAt codeAsks roomAsks unless fitting dwarfAnswer codesAnswer prologuesAnswer shortOnes windowsAnswer givenFunctions noFunctions givenAsks windowsAsks dwarfGiven formatAnswer relaxedTable relaxedDebugFrame seh dwarfWritten isDebug withoutExceptions taken alignFor placeIn partWith partOf isEmpty partsFrom joined partsOf dwarf
 written format g r = view (relaxedTable format g r)
 
 unfoldable written-debug : Given → List (List ℕ)
-unfolding view x8664-list on ample pick next after onward orElse all first each little readLittle ulebF uleb bits7 slebF sleb readUlebF readUleb push last7 readSlebF fits64 readSleb registerOf machineOf isWord machineOk factor cfaBytes withRegister savedBytes rowBytes stepIn stepForm stepBytes steppedBytes rowsBytes unfactor readRegister inRange readOffset readFactored readSigned one two readExtended readOperation whole wholeBelow rowWhole sameOffset kindOf regOf offsetOf sameRow mark rowOf rowAt landingAt pairAt codeOf codeAt optional functionAt functionsOf prologueAt prologuesOf relocationAt relocationsOf numbersOf inside symbolOk markOk whenMarked hasRegister hasOffset rowOk rowOkAt pairOkAt codeOk codeOkAt allIn pointerOk functionOkAt prologueOkAt sumOf pairsIn listsOk codesOk implied leads ahead others leading encodingOf namedKind kindFor keyOf sameEncoding sameKind sameRows sameKey sizeOf pointerSize sizeOr0 pointerBytes pointerReloc padding padded entry letters augmentation lsdaLetter augmentationData counted headerData headerId dataFactor headerFields headerBytes pointerPlace kindRelocs headerRelocs siteBytes sitesBytes siteTable sitePad siteAdded pointerBlank namedBlank lsdaBlank pointerTo namedReloc lsdaReloc sizeField recordFields recordBytes sumPair pairFor setKind setBytes setPlace setPair stepRelocs rowRelocs recordRelocs beforeRemember joinGroup groups more isPush onlyPush loneRow pushRows readGroup readGroups low16 codeFor codesFor codesOf endOf node allocBytes slotBytes saveBytes size64 codeBytes registerIn allocNo saveNo operandNo codeNo frameOk frameNo orNo firstNo slots prologueNo frameOr frameByte reversed infoBytes runtimeRelocs markersFrom runtimeFrom x64 prologueOf ask andThen perFunction sizeBytes isSome lsdaOk namedOk encodingsOk stepsOk pairsOk dwarfAsks madeOne prologuesFor noAt codeAsks roomAsks unless fitting dwarfAnswer codesAnswer prologuesAnswer shortOnes windowsAnswer givenFunctions noFunctions givenAsks windowsAsks dwarfGiven formatAnswer relaxedTable relaxedDebugFrame seh dwarfWritten isDebug bare taken alignFor placeIn partWith partOf isEmpty partsFrom joined partsOf dwarf
+unfolding view x8664-list on ample pick next after onward orElse all first each little readLittle ulebF uleb bits7 slebF sleb readUlebF readUleb push last7 readSlebF fits64 readSleb registerOf machineOf isWord machineOk factor cfaBytes withRegister savedBytes rowBytes stepIn stepForm stepBytes steppedBytes rowsBytes unfactor readRegister inRange readOffset readFactored readSigned one two readExtended readOperation whole wholeBelow rowWhole sameOffset kindOf regOf offsetOf sameRow mark rowOf rowAt landingAt pairAt codeOf codeAt optional functionAt functionsOf prologueAt prologuesOf relocationAt relocationsOf numbersOf inside symbolOk markOk whenMarked hasRegister hasOffset rowOk rowOkAt pairOkAt codeOk codeOkAt allIn pointerOk functionOkAt prologueOkAt sumOf pairsIn listsOk codesOk implied leads ahead others leading encodingOf namedKind kindFor keyOf sameEncoding sameKind sameRows sameKey sizeOf pointerSize sizeOr0 pointerBytes pointerReloc padding padded entry letters augmentation lsdaLetter augmentationData counted headerData headerId dataFactor headerFields headerBytes pointerPlace kindRelocs headerRelocs siteBytes sitesBytes siteTable sitePad siteAdded pointerBlank namedBlank lsdaBlank pointerTo namedReloc lsdaReloc sizeField recordFields recordBytes sumPair pairFor setKind setBytes setPlace setPair stepRelocs rowRelocs recordRelocs beforeRemember joinGroup groups more isPush onlyPush loneRow pushRows readGroup readGroups low16 codeFor codesFor codesOf endOf node allocBytes slotBytes saveBytes size64 codeBytes registerIn allocNo saveNo operandNo codeNo frameOk frameNo orNo firstNo slots prologueNo frameOr frameByte reversed infoBytes runtimeRelocs markersFrom runtimeFrom x64 prologueOf ask andThen perFunction sizeBytes isSome lsdaOk namedOk encodingsOk stepsOk pairsOk dwarfAsks madeOne prologuesFor noAt codeAsks roomAsks unless fitting dwarfAnswer codesAnswer prologuesAnswer shortOnes windowsAnswer givenFunctions noFunctions givenAsks windowsAsks dwarfGiven formatAnswer relaxedTable relaxedDebugFrame seh dwarfWritten isDebug withoutExceptions taken alignFor placeIn partWith partOf isEmpty partsFrom joined partsOf dwarf
 written-debug g = view (relaxedDebugFrame 0 g ample)
 
 -- two functions share one header
@@ -147,12 +150,15 @@ refusals-are = refl
 
 -- what the reader's definition gives of register q at p in record k of eh_frame and of debug_frame at word 8
 unfoldable read-eh : List (List ℕ) → (k q p : ℕ) → Reading
-unfolding pick next after onward orElse all first each little readLittle ulebF uleb bits7 slebF sleb readUlebF readUleb push last7 readSlebF fits64 readSleb factor cfaBytes withRegister savedBytes rowBytes stepIn stepForm stepBytes steppedBytes rowsBytes unfactor readRegister inRange readOffset readFactored readSigned one two readExtended readOperation whole wholeBelow rowWhole sameOffset kindOf regOf offsetOf sameRow mark rowOf rowAt landingAt pairAt codeOf codeAt optional functionAt functionsOf prologueAt prologuesOf relocationAt relocationsOf numbersOf inside symbolOk markOk whenMarked hasRegister hasOffset rowOk rowOkAt pairOkAt codeOk codeOkAt allIn pointerOk functionOkAt prologueOkAt sumOf pairsIn listsOk codesOk implied leads ahead others leading encodingOf namedKind kindFor keyOf sameEncoding sameKind sameRows sameKey sizeOf pointerSize sizeOr0 pointerBytes pointerReloc padding padded entry letters augmentation lsdaLetter augmentationData counted headerData headerId dataFactor headerFields headerBytes pointerPlace kindRelocs headerRelocs registerOf machineOf isWord machineOk blank withFrame withRule reoffset reregister popped apply applyRows upTo entryState rulesAt seen start setFrame setRule changeOffset changeRegister remember recall act actAll while answer runRows readEntry entriesF entries valueOr0 second isHeader records distanceBack firstAddend headerPlace headerAt strip spelled spellings spellOr readLetters readByte readMany readCounted personalityIn lsdaIn lettersIn headerTail require parseHeader recordTail parseRecord perform whenRead walkF walk parsed locate walked readSection read
+unfolding pick next after onward orElse all first each little readLittle ulebF uleb bits7 slebF sleb readUlebF readUleb push last7 readSlebF fits64 readSleb factor cfaBytes withRegister savedBytes rowBytes stepIn stepForm stepBytes steppedBytes rowsBytes unfactor readRegister inRange readOffset readFactored readSigned one two readExtended readOperation whole wholeBelow rowWhole sameOffset kindOf regOf offsetOf sameRow mark rowOf rowAt landingAt pairAt codeOf codeAt optional functionAt functionsOf prologueAt prologuesOf relocationAt relocationsOf numbersOf inside symbolOk markOk whenMarked hasRegister hasOffset rowOk rowOkAt pairOkAt codeOk codeOkAt allIn pointerOk functionOkAt prologueOkAt sumOf pairsIn listsOk codesOk implied leads ahead others leading encodingOf namedKind kindFor keyOf sameEncoding sameKind sameRows sameKey sizeOf pointerSize sizeOr0 pointerBytes pointerReloc padding padded entry letters augmentation lsdaLetter augmentationData counted headerData headerId dataFactor headerFields headerBytes pointerPlace kindRelocs headerRelocs registerOf machineOf isWord machineOk blank withCfa withRule reoffset reregister restored negated apply rulesFor seen withoutCfa withoutStored refusal unlessRefused act answer readEntry entriesF entries valueOr0 second isHeader records distanceBack firstAddend headerPlace headerAt strip spelled spellings spellOr readLetters readByte readMany readCounted personalityIn lsdaIn lettersIn headerTail require parseHeader recordTail parseRecord perform whenRead runF run parsed locate runTo readSection read
 read-eh w k q p = read (getD w 1 []) (getD w 2 []) 0 8 k q p
 
 unfoldable read-debug : List (List ℕ) → (k q p : ℕ) → Reading
-unfolding pick next after onward orElse all first each little readLittle ulebF uleb bits7 slebF sleb readUlebF readUleb push last7 readSlebF fits64 readSleb factor cfaBytes withRegister savedBytes rowBytes stepIn stepForm stepBytes steppedBytes rowsBytes unfactor readRegister inRange readOffset readFactored readSigned one two readExtended readOperation whole wholeBelow rowWhole sameOffset kindOf regOf offsetOf sameRow mark rowOf rowAt landingAt pairAt codeOf codeAt optional functionAt functionsOf prologueAt prologuesOf relocationAt relocationsOf numbersOf inside symbolOk markOk whenMarked hasRegister hasOffset rowOk rowOkAt pairOkAt codeOk codeOkAt allIn pointerOk functionOkAt prologueOkAt sumOf pairsIn listsOk codesOk implied leads ahead others leading encodingOf namedKind kindFor keyOf sameEncoding sameKind sameRows sameKey sizeOf pointerSize sizeOr0 pointerBytes pointerReloc padding padded entry letters augmentation lsdaLetter augmentationData counted headerData headerId dataFactor headerFields headerBytes pointerPlace kindRelocs headerRelocs registerOf machineOf isWord machineOk blank withFrame withRule reoffset reregister popped apply applyRows upTo entryState rulesAt seen start setFrame setRule changeOffset changeRegister remember recall act actAll while answer runRows readEntry entriesF entries valueOr0 second isHeader records distanceBack firstAddend headerPlace headerAt strip spelled spellings spellOr readLetters readByte readMany readCounted personalityIn lsdaIn lettersIn headerTail require parseHeader recordTail parseRecord perform whenRead walkF walk parsed locate walked readSection read
+unfolding pick next after onward orElse all first each little readLittle ulebF uleb bits7 slebF sleb readUlebF readUleb push last7 readSlebF fits64 readSleb factor cfaBytes withRegister savedBytes rowBytes stepIn stepForm stepBytes steppedBytes rowsBytes unfactor readRegister inRange readOffset readFactored readSigned one two readExtended readOperation whole wholeBelow rowWhole sameOffset kindOf regOf offsetOf sameRow mark rowOf rowAt landingAt pairAt codeOf codeAt optional functionAt functionsOf prologueAt prologuesOf relocationAt relocationsOf numbersOf inside symbolOk markOk whenMarked hasRegister hasOffset rowOk rowOkAt pairOkAt codeOk codeOkAt allIn pointerOk functionOkAt prologueOkAt sumOf pairsIn listsOk codesOk implied leads ahead others leading encodingOf namedKind kindFor keyOf sameEncoding sameKind sameRows sameKey sizeOf pointerSize sizeOr0 pointerBytes pointerReloc padding padded entry letters augmentation lsdaLetter augmentationData counted headerData headerId dataFactor headerFields headerBytes pointerPlace kindRelocs headerRelocs registerOf machineOf isWord machineOk blank withCfa withRule reoffset reregister restored negated apply rulesFor seen withoutCfa withoutStored refusal unlessRefused act answer readEntry entriesF entries valueOr0 second isHeader records distanceBack firstAddend headerPlace headerAt strip spelled spellings spellOr readLetters readByte readMany readCounted personalityIn lsdaIn lettersIn headerTail require parseHeader recordTail parseRecord perform whenRead runF run parsed locate runTo readSection read
 read-debug w k q p = read (getD w 1 []) (getD w 2 []) 1 8 k q p
+
+abbrev rules : CfaRule → Rule → Bool → Reading
+rules c r s = Answered (record { cfa = c; rule = r; signing = s })
 
 -- both functions push rbp (6) at 1 and take it for their frame at 4; the second is 11 bytes long
 reads : List Reading
@@ -181,19 +187,18 @@ damaged-are : damaged ≡ refusedBy 61 ∷ refusedBy 64 ∷ refusedBy 63 ∷ ref
 unfolding damaged read-eh read-debug twoFunctions-written twoFunctions-debug
 damaged-are = refl
 
--- ---- the paper's numbers of answers
+-- ---- answers as numbers
 
 -- an answer and a refusal of the reader; an accepted and a refused call; what a lent list of relocations holds after the first and a list
--- of places after the second; a question answered by no
+-- of places after the second
 answers : List (List ℕ)
 answers =
     readingNumbers (rules (register 7 (pos 16)) (Saved (negsuc 15)) true) ∷ readingNumbers (refusedBy 65)
     ∷ outcomeNumbers (outcomeOf (relaxedTable 0 twoFunctions ample)) ∷ outcomeNumbers (outcomeOf (refused 24 1))
-    ∷ afterwards relocationNumbers (relaxedTable 0 twoFunctions ample) (replicate 12 9) ∷ afterwards (λ w. w .places) (refused 24 1) (5 ∷ [])
-    ∷ questionNumbers (questionOf (some (23, 4))) ∷ []
+    ∷ afterwards relocationNumbers (relaxedTable 0 twoFunctions ample) (replicate 12 9) ∷ afterwards (λ w. w .places) (refused 24 1) (5 ∷ []) ∷ []
 
 answers-are : answers
     ≡ (0 ∷ 1 ∷ 7 ∷ 16 ∷ 2 ∷ 0xfffffffffffffff0 ∷ 1 ∷ []) ∷ (65 ∷ 0 ∷ 0 ∷ 0 ∷ 0 ∷ 0 ∷ 0 ∷ []) ∷ (0 ∷ 0 ∷ 2 ∷ 88 ∷ 2 ∷ 0 ∷ [])
-    ∷ (24 ∷ 1 ∷ 0 ∷ 0 ∷ 0 ∷ 0 ∷ []) ∷ (32 ∷ 16 ∷ 0 ∷ 4 ∷ 0 ∷ 64 ∷ 17 ∷ 0 ∷ 4 ∷ 0 ∷ 9 ∷ 9 ∷ []) ∷ (5 ∷ []) ∷ (23 ∷ 4 ∷ []) ∷ []
-unfolding answers written twoFunctions put frameNumbers ruleNumbers bit readingNumbers questionNumbers questionOf outcomeNumbers outcomeOf afterwards relocationNumbers
+    ∷ (24 ∷ 1 ∷ 0 ∷ 0 ∷ 0 ∷ 0 ∷ []) ∷ (32 ∷ 16 ∷ 0 ∷ 4 ∷ 0 ∷ 64 ∷ 17 ∷ 0 ∷ 4 ∷ 0 ∷ 9 ∷ 9 ∷ []) ∷ (5 ∷ []) ∷ []
+unfolding answers written twoFunctions put cfaNumbers ruleNumbers bit readingNumbers outcomeNumbers outcomeOf afterwards relocationNumbers
 answers-are = refl

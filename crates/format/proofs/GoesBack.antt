@@ -8,13 +8,14 @@ use lib.Dec.{T}
 use Rattle.format.specs.Prelude.{pick, onward, all}
 use Rattle.format.specs.declared.Machine.{Machine}
 use Rattle.format.specs.declared.Row.the-variants.{NegateRaState}
-use Rattle.format.specs.declared.Frame.the-variants.{Unset}
+use Rattle.format.specs.declared.CfaRule.the-variants.{Unset}
 use Rattle.format.specs.declared.Rule.the-variants as rule
-use Rattle.format.specs.declared.Reading.the-variants.{Rules}
+use Rattle.format.specs.declared.Reading.the-variants.{Answered}
 use Rattle.format.specs.Lists.{Function}
 use Rattle.format.specs.Headers.{leads, ahead, others, leading}
 use Rattle.format.specs.RowCheck.{inOrder, rowsOf, rowCheck}
-use Rattle.format.specs.Rules.{blank, apply, applyRows, upTo, entryState, rulesAt, seen, start, actAll, while, answer, runRows}
+use Rattle.format.specs.Rules.{blank, negated, apply, applyRows, upTo, entryState, rulesAt, rulesFor, seen, answer}
+use Rattle.format.proofs.RowsRun.{actAll, while, runRows}
 
 -- signing flips at 1, and then at 0
 abbrev pub flips : Function
@@ -26,11 +27,11 @@ unfolding rowCheck all ahead leads inOrder rowsOf pick
 checked = tt
 
 -- the run stops at the first row, which is past 0
-pub goes-back : (m : Machine) (q : ℕ) → runRows m flips q 0 ≡ Rules Unset rule.Unstated false
-unfolding runRows answer onward actAll leading others ahead leads start while pick
+pub goes-back : (m : Machine) (q : ℕ) → answer q (runRows m flips 0) ≡ Answered (record { cfa = Unset; rule = rule.Unstated; signing = false })
+unfolding runRows answer seen rulesFor onward actAll leading others ahead leads blank while pick
 goes-back m q = refl
 
 -- the second row has an offset of at most 0
-pub goes-back-rules : (m : Machine) (q : ℕ) → seen q (rulesAt m flips 0) ≡ Rules Unset rule.Unstated true
-unfolding seen rulesAt entryState applyRows apply blank leading others ahead leads upTo pick
+pub goes-back-rules : (m : Machine) (q : ℕ) → seen q (rulesAt m flips 0) ≡ Answered (record { cfa = Unset; rule = rule.Unstated; signing = true })
+unfolding seen rulesFor negated rulesAt entryState applyRows apply blank leading others ahead leads upTo pick
 goes-back-rules m q = refl

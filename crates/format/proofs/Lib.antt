@@ -6,9 +6,11 @@ pub mod Registers
 pub mod LebBack
 pub mod LebSteps
 pub mod RowBack
+pub mod RowsRun
 pub mod WalkBack
 pub mod Sizes
 pub mod Prefix
+pub mod RegisterFree
 pub mod EntryBack
 pub mod FieldsBack
 pub mod HeaderBack
@@ -18,8 +20,11 @@ pub mod RulesSeen
 pub mod CheckSays
 pub mod GoesBack
 pub mod ListLaws
+pub mod Asked
 pub mod Accepted
+pub mod Wrote
 pub mod PutLaws
+pub mod Positions
 pub mod PositionLaws
 pub mod OperationLaws
 pub mod Storing

@@ -15,7 +15,7 @@ use Rattle.format.specs.declared.Operation.{Operation}
 use Rattle.format.specs.declared.Operation.the-variants.{Nop, Step, Does}
 use Rattle.format.specs.declared.Decoded.the-variants as decoded
 use Rattle.format.specs.Rows.{unfactor, readRegister, inRange, readOffset, readFactored, readSigned, one, two, readExtended, readOperation}
-use Rattle.format.specs.Positions.{decodedFrom, operationAt}
+use Rattle.format.proofs.Positions.{decodedFrom, operationAt}
 use Rattle.format.proofs.PositionLaws.{Takes, nothing, taken, takes-pick, takes-byte, takes-next, takes-within, gives, takes-little, takes-uleb, takes-sleb, Ahead, ahead}
 
 -- ---- operands

@@ -11,7 +11,7 @@ use lib.Dec.{ltb}
 use lib.IntN.{ℤ}
 use Rattle.format.specs.Prelude.{pick, Read, next}
 use Rattle.format.specs.Leb.{readLittle, readUlebF, readUleb, push, last7, readSlebF, fits64, readSleb}
-use Rattle.format.specs.Positions.{unsignedFrom, signedFrom, ulebAt, slebAt, littleAt}
+use Rattle.format.proofs.Positions.{unsignedFrom, signedFrom, ulebAt, slebAt, littleAt}
 use Rattle.format.specs.declared.Unsigned.the-variants as unsigned
 use Rattle.format.specs.declared.Signed.the-variants as signed
 

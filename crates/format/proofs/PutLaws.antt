@@ -6,7 +6,8 @@ use native.Mathlib.Nat.{add-zero}
 use native.Mathlib.Omega.{arith}
 use lib.ListN.{length, set, length-set, length-append}
 use lib.Seq.{set-comm, set-set}
-use Rattle.format.specs.Put.{put, Wrote}
+use Rattle.format.specs.Put.{put}
+use Rattle.format.proofs.Wrote.{Wrote}
 
 -- ---- put
 

@@ -6,22 +6,22 @@ use mathlib.Core.Option.{none, some}
 use mathlib.Core.List.{List, [], map}
 use lib.Dec.{T, leb, eqb}
 use mir.Facts.{yes-and}
-use Rattle.format.specs.Prelude.{bad}
+use Rattle.format.specs.Prelude.{good, bad}
 use Rattle.format.specs.declared.Machine.{Machine}
 use Rattle.format.specs.declared.Reading.{Reading}
-use Rattle.format.specs.declared.Reading.the-variants.{Refused}
 use Rattle.format.specs.Machine.{machineOf, isWord}
 use Rattle.format.specs.Lists.{Function, Relocation, functionStride, count, numbersOf, relocationsOf}
 use Rattle.format.specs.declared.Section.{Section}
 use Rattle.format.specs.declared.Section.the-variants.{Elf, Debug}
 use Rattle.format.specs.Writer.{isDebug, taken, Written, dwarf, partsFrom, partsOf, joined}
-use Rattle.format.specs.Questions.{Given, Room, givenFunctions, accepted, dwarfWritten}
-use Rattle.format.specs.Rules.{answer, runRows, rulesAt, seen}
+use Rattle.format.specs.Questions.{Given, Room, givenFunctions, givenFunction, accepted}
+use Rattle.format.specs.Rules.{answer, rulesAt, seen}
 use Rattle.format.specs.RowCheck.{rowCheckAt}
 use Rattle.format.specs.Reader.{Entry, entries, readSection, read}
 use Rattle.format.proofs.Choice.{pick-yes}
+use Rattle.format.proofs.RowsRun.{runRows}
 use Rattle.format.proofs.ListLaws.{relocations-back}
-use Rattle.format.proofs.Accepted.{Accepted, accepted-is, givenFunction, taken-at, taken-size, taken-plain, taken-run, forward, check-at}
+use Rattle.format.proofs.Accepted.{dwarfWritten, Accepted, accepted-is, taken-at, taken-size, taken-plain, taken-run, forward, check-at}
 use Rattle.format.proofs.CheckSays.{rules, refuses, Past}
 use Rattle.format.proofs.SectionTiles.{entriesOf, FieldsHold, fields-hold, section-tiles}
 use Rattle.format.proofs.SectionBack.{section-read}
@@ -81,30 +81,30 @@ module _ (s : Section) (g : Given) (r : Room) (w : Written) (e : dwarfWritten s 
 
   -- The general law: for a function k without relaxing labels and p below its length the reader gives what `runRows` gives, an answer or 67, 68 or 69, whatever the other functions hold.
   pub read-written : (k q p : ℕ) → k < count functionStride (g .functions) → givenFunction g k .relaxed ≡ none → p < givenFunction g k .size
-      → readBack s g w k q p ≡ runRows (machineOf (g .machine)) (givenFunction g k) q p
+      → readBack s g w k q p ≡ answer q (runRows (machineOf (g .machine)) (givenFunction g k) p)
   unfolding read machine functions
   read-written k q p h plain below =
       let m : Machine = machineOf (g .machine) in
       let f : Function = givenFunction g k in
       let near : p < taken s f .size = rw (taken-size s f) below in
-      ap answer
-      (pick-yes _ (readSection (eqb (kindOf s) 1) (relocationsOf (numbersOf (w .relocations))) (m .word) k q p (w .bytes)) (bad 11)
-      (asked s (m .word) (a .machine .is-word)))
+      ap (answer q)
+      (pick-yes _ (readSection (eqb (kindOf s) 1) (relocationsOf (numbersOf (w .relocations))) (m .word) k p (w .bytes)) (bad 11)
+      (asked s (m .word) (a .machine .is-word))
       ∙ rw (same-kind s, relocations-are, bytes-are)
-      (section-read s m functions (a .machine) (a .functions) (a .bounded) k q p (taken s f) (taken-at s g k h) (taken-plain s f plain) near
-      ∙ taken-run s m f q p)
+      (section-read s m functions (a .machine) (a .functions) (a .bounded) k p (taken s f) (taken-at s g k h) (taken-plain s f plain) near
+      ∙ taken-run s m f p))
 
-  -- Where the row check says yes the run of the rows never refuses, and its answer is what the rules at p say of the register.
-  pub rules-given : (k q p : ℕ) → k < count functionStride (g .functions) → T (rowCheckAt (g .functions) (g .rows) k)
-      → runRows (machineOf (g .machine)) (givenFunction g k) q p ≡ seen q (rulesAt (machineOf (g .machine)) (givenFunction g k) p)
-  rules-given k q p h check = rules (machineOf (g .machine)) (givenFunction g k) q p (forward a k h) (rw (check-at a k h) at check)
+  -- Where the row check says yes the run of the rows never refuses, and it comes to the rules at p.
+  pub rules-given : (k p : ℕ) → k < count functionStride (g .functions) → T (rowCheckAt (g .functions) (g .rows) k)
+      → runRows (machineOf (g .machine)) (givenFunction g k) p ≡ good (rulesAt (machineOf (g .machine)) (givenFunction g k) p)
+  rules-given k p h check = rules (machineOf (g .machine)) (givenFunction g k) p (forward a k h) (rw (check-at a k h) at check)
 
   -- Where it says no, the run refuses with 67, 68 or 69 from the last row on.
-  pub refuses-given : (k q p : ℕ) → k < count functionStride (g .functions) → T (not (rowCheckAt (g .functions) (g .rows) k))
+  pub refuses-given : (k p : ℕ) → k < count functionStride (g .functions) → T (not (rowCheckAt (g .functions) (g .rows) k))
       → Past p (givenFunction g k .rows)
-      → (n : ℕ) × ((runRows (machineOf (g .machine)) (givenFunction g k) q p ≡ Refused n) × T (leb 67 n && leb n 69))
-  refuses-given k q p h check past =
-      refuses (machineOf (g .machine)) (givenFunction g k) q p (forward a k h) (rw (check-at a k h) at check) past
+      → (n : ℕ) × ((runRows (machineOf (g .machine)) (givenFunction g k) p ≡ bad n) × T (leb 67 n && leb n 69))
+  refuses-given k p h check past =
+      refuses (machineOf (g .machine)) (givenFunction g k) p (forward a k h) (rw (check-at a k h) at check) past
 
 -- Demand 3. For every list that is accepted for DWARF output the entries' lengths tile the section. And for every function of it without
 -- relaxing labels that passes the row check, at every offset p below its length and for every register from 0 to 65,535, the reader, on
@@ -115,7 +115,8 @@ pub demand-3 : (s : Section) (g : Given) (r : Room) (w : Written) → dwarfWritt
     × ((k q p : ℕ) → k < count functionStride (g .functions) → givenFunction g k .relaxed ≡ none
     → T (rowCheckAt (g .functions) (g .rows) k) → q ≤ 65535 → p < givenFunction g k .size
     → readBack s g w k q p ≡ seen q (rulesAt (machineOf (g .machine)) (givenFunction g k) p))
+unfolding answer
 demand-3 s g r w e = (
   tiles s g r w e,
-  λ k q p h plain check small below. read-written s g r w e k q p h plain below ∙ rules-given s g r w e k q p h check,
+  λ k q p h plain check small below. read-written s g r w e k q p h plain below ∙ ap (answer q) (rules-given s g r w e k p h check),
 )

@@ -16,7 +16,8 @@ use Rattle.format.specs.declared.Operation.the-variants.{Does}
 use Rattle.format.specs.Rows.{RowAt, rowBytes, stepIn, stepForm, stepBytes, steppedBytes, rowsBytes}
 use Rattle.format.specs.Lists.{Function, Relocation, Pair, Relaxed, Landing, Named, Pointer}
 use Rattle.format.specs.Machine.{isWord}
-use Rattle.format.specs.Headers.{Kind, plain, personal, named, Key, keyOf, others, sizeOf, pointerSize, sizeOr0, pointerBytes, reloc, pointerReloc, debugFrame, lsdaLetter, augmentationData, headerData, headerFields, headerBytes, pointerPlace, kindRelocs, headerRelocs, padded, entry, counted}
+use Rattle.format.specs.Constants.{debugFrame}
+use Rattle.format.specs.Headers.{Kind, plain, personal, named, Key, keyOf, others, sizeOf, pointerSize, sizeOr0, pointerBytes, reloc, pointerReloc, lsdaLetter, augmentationData, headerData, headerFields, headerBytes, pointerPlace, kindRelocs, headerRelocs, padded, entry, counted}
 use Rattle.format.specs.CallSites.{sitePad}
 use Rattle.format.specs.declared.Section.{Section}
 use Rattle.format.specs.Writer.{isDebug}

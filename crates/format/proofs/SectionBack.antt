@@ -9,13 +9,13 @@ use lib.ListN.{length, replicate, getElem?}
 use lib.Dec.{T}
 use Rattle.format.specs.Prelude.{pick, after, good, onward, orElse}
 use Rattle.format.specs.declared.Machine.{Machine}
-use Rattle.format.specs.declared.Rule.the-variants as rule
 use Rattle.format.specs.Rows.{rowsBytes, steppedBytes}
 use Rattle.format.specs.Lists.{Function, Relaxed, Relocation}
 use Rattle.format.specs.Headers.{keyOf, kindFor, leading, others, padding, headerFields}
 use Rattle.format.specs.Records.{sizeField, recordFields}
-use Rattle.format.specs.Rules.{start, answer, runRows}
-use Rattle.format.specs.Reader.{Entry, distanceBack, firstAddend, headerPlace, Found, parsed, locate, walked, readSection}
+use Rattle.format.specs.Rules.{blank}
+use Rattle.format.specs.Reader.{Entry, distanceBack, firstAddend, headerPlace, Found, parsed, locate, runTo, readSection}
+use Rattle.format.proofs.RowsRun.{runRows}
 use Rattle.format.specs.Questions.{sizeBytes}
 use Rattle.format.specs.declared.Section.{Section}
 use Rattle.format.specs.declared.Section.the-variants.{Elf, Debug}
@@ -89,23 +89,21 @@ module _ (s : Section) (m : Machine) (fit : MachineFits m) (f : Function) (ok : 
         ),
       )
 
-  walked-back : (a b q p : ℕ) → f .relaxed ≡ none → p < f .size → answer (walked (m .word) p q (whatFound a b)) ≡ runRows m f q p
-  unfolding walked whatFound runRows
-  walked-back a b q p r h =
-      ap answer
-      (let l : p < sizeField (f .size) (f .relaxed) = rw (size-said (f .size) (f .relaxed) r) h in
-      rw (if-le (suc p) (sizeField (f .size) (f .relaxed)), rows-back (m .word) p q rule.Unstated (leading m f) a start (leading-ok m f fit (ok .lines)))
-      (onward-ext _ _ _ λ t. rows-at-back (m .word) p q (t .rule) (others (f .rows)) b t (others-ok (m .word) (f .rows) (ok .lines))))
+  runTo-back : (a b p : ℕ) → f .relaxed ≡ none → p < f .size → runTo (m .word) p (whatFound a b) ≡ runRows m f p
+  unfolding runTo whatFound runRows
+  runTo-back a b p r h =
+      let l : p < sizeField (f .size) (f .relaxed) = rw (size-said (f .size) (f .relaxed) r) h in
+      rw (if-le (suc p) (sizeField (f .size) (f .relaxed)), rows-back (m .word) p (blank .current .rules) (leading m f) a blank (leading-ok m f fit (ok .lines)))
+      (onward-ext _ _ _ λ t. rows-at-back (m .word) p (t .current .rules) (others (f .rows)) b t (others-ok (m .word) (f .rows) (ok .lines)))
 
 -- For the functions that a section takes and a p below a function's length, reading what was written is running the rows.
 -- Whatever the other functions hold; only the function that is asked about has no relaxing labels.
 pub section-read : (s : Section) (m : Machine) (fs : List Function) → MachineFits m → AllFit s m fs → Bounded fs
-    → (k q p : ℕ) (f : Function) → getElem? fs k ≡ some f → f .relaxed ≡ none → p < f .size
-    → answer
-    (readSection (isDebug s) (joined (map (λ a. a .relocations) (partsFrom s m 0 0 [] fs))) (m .word) k q p (joined (map (λ a. a .bytes) (partsFrom s m 0 0 [] fs))))
-    ≡ runRows m f q p
+    → (k p : ℕ) (f : Function) → getElem? fs k ≡ some f → f .relaxed ≡ none → p < f .size
+    → readSection (isDebug s) (joined (map (λ a. a .relocations) (partsFrom s m 0 0 [] fs))) (m .word) k p (joined (map (λ a. a .bytes) (partsFrom s m 0 0 [] fs)))
+    ≡ runRows m f p
 unfolding readSection locate onward orElse after recordEntry
-section-read s m fs fit ok bound k q p f at-k relaxed below =
+section-read s m fs fit ok bound k p f at-k relaxed below =
     let x : Spot = spotAt s m 0 [] fs k in
     let h : Holds s m x f = record-holds s m fs fit ok bound k f at-k in
     let head = header-found s m fs fit ok bound k f at-k in
@@ -117,4 +115,4 @@ section-read s m fs fit ok bound k q p f at-k relaxed below =
       head .1,
       fields .2,
     )
-    (walked-back s m fit f (fits-at s m fs k f ok at-k) (fields .0) (fields .1) q p relaxed below)
+    (runTo-back s m fit f (fits-at s m fs k f ok at-k) (fields .0) (fields .1) p relaxed below)

@@ -12,7 +12,8 @@ use mir.Facts.{yes-and, yes-ltb, no-eqb}
 use Rattle.format.specs.Prelude.{after}
 use Rattle.format.specs.declared.Machine.{Machine}
 use Rattle.format.specs.Lists.{Function, Relocation}
-use Rattle.format.specs.Headers.{Key, keyOf, reloc, debugFrame, headerRelocs}
+use Rattle.format.specs.Constants.{debugFrame}
+use Rattle.format.specs.Headers.{Key, keyOf, reloc, headerRelocs}
 use Rattle.format.specs.Records.{recordRelocs}
 use Rattle.format.specs.Reader.{Entry, isHeader, records, distanceBack, firstAddend, headerAt}
 use Rattle.format.specs.declared.Section.{Section}

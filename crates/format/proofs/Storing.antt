@@ -4,7 +4,8 @@ use mathlib.Core.List.{List, [], _∷_}
 use Prim.Native.Nat.{ℕ, _+_, _≤_}
 use native.Mathlib.Omega.{arith}
 use lib.ListN.{length, set, length-set}
-use Rattle.format.specs.Put.{put, Wrote}
+use Rattle.format.specs.Put.{put}
+use Rattle.format.proofs.Wrote.{Wrote}
 use Rattle.format.proofs.PutLaws.{put-none, put-cons}
 
 -- xs₀ is xs by now, i is the next place, and of `all`, which goes from p on, `left` is still to be stored

@@ -1,22 +1,17 @@
--- The paper's number and values for each case of an answer.
+-- Document 01's number and values for each case of an answer.
 use mathlib.Core.Path.{_≡_}
 use Prim.Native.Nat.{ℕ}
 use mathlib.Core.Bool.{Bool, true, false}
-use mathlib.Core.Option.{Option, none, some}
 use mathlib.Core.List.{List, [], _∷_, _++_}
 use lib.ListN.{length}
 use mir.Syntax.{w64}
 use mir.Val.{ofZ}
-use Rattle.format.specs.declared.Frame.{Frame}
-use Rattle.format.specs.declared.Frame.the-variants.{Unset, Register}
+use Rattle.format.specs.declared.CfaRule.{CfaRule}
+use Rattle.format.specs.declared.CfaRule.the-variants.{Unset, Register}
 use Rattle.format.specs.declared.Rule.{Rule}
 use Rattle.format.specs.declared.Rule.the-variants.{Unstated, Undefined, Saved}
 use Rattle.format.specs.declared.Reading.{Reading}
 use Rattle.format.specs.declared.Reading.the-variants as reading
-use Rattle.format.specs.declared.Decoded.{Decoded}
-use Rattle.format.specs.declared.Decoded.the-variants as decoded
-use Rattle.format.specs.declared.Question.{Question}
-use Rattle.format.specs.declared.Question.the-variants as question
 use Rattle.format.specs.declared.Outcome.{Outcome}
 use Rattle.format.specs.declared.Outcome.the-variants as outcome
 use Rattle.format.specs.Writer.{Written}
@@ -27,9 +22,9 @@ use Rattle.format.specs.Questions.{Answer, refused, empty, accepted}
 -- ---- the reader: number (0: answered), frame (0 none, 1 register plus offset), its register and offset, rule (0 unstated, 1 undefined,
 -- 2 saved), its offset, signing. Offsets are 64-bit two's complement; a field without meaning is 0.
 
-unfoldable pub frameNumbers : Frame → List ℕ
-frameNumbers Unset = 0 ∷ 0 ∷ 0 ∷ []
-frameNumbers (Register reg z) = 1 ∷ reg ∷ ofZ w64 z ∷ []
+unfoldable pub cfaNumbers : CfaRule → List ℕ
+cfaNumbers Unset = 0 ∷ 0 ∷ 0 ∷ []
+cfaNumbers (Register reg z) = 1 ∷ reg ∷ ofZ w64 z ∷ []
 
 unfoldable pub ruleNumbers : Rule → List ℕ
 ruleNumbers Unstated = 0 ∷ 0 ∷ []
@@ -41,24 +36,8 @@ bit false = 0
 bit true = 1
 
 unfoldable pub readingNumbers : Reading → List ℕ
-readingNumbers (reading.Rules c r s) = 0 ∷ (frameNumbers c ++ (ruleNumbers r ++ (bit s ∷ [])))
+readingNumbers (reading.Answered a) = 0 ∷ (cfaNumbers (a .cfa) ++ (ruleNumbers (a .rule) ++ (bit (a .signing) ∷ [])))
 readingNumbers (reading.Refused n) = n ∷ 0 ∷ 0 ∷ 0 ∷ 0 ∷ 0 ∷ 0 ∷ []
-
--- an operation that cannot be read is question 66
-unfoldable pub decodedNumber : Decoded → ℕ
-decodedNumber (decoded.Operation op next) = 0
-decodedNumber decoded.Bad = 66
-
--- ---- a question: number (0: yes) and position
-
-unfoldable pub questionNumbers : Question → List ℕ
-questionNumbers question.Yes = 0 ∷ 0 ∷ []
-questionNumbers (question.No n k) = n ∷ k ∷ []
-
--- what a function that asks answers, by what the definition answers
-unfoldable pub questionOf : Option (ℕ × ℕ) → Question
-questionOf none = question.Yes
-questionOf (some x) = question.No (x .0) (x .1)
 
 -- ---- the writers: number (0: accepted), position, and the counts of header places (or markers), bytes, relocations and call-site (or x64 info) bytes
 

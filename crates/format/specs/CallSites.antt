@@ -2,6 +2,7 @@
 use Prim.Native.Nat.{ℕ}
 use mathlib.Core.List.{List, [], _∷_, _++_}
 use lib.ListN.{length, replicate}
+use Rattle.format.specs.Constants.{«DW_EH_PE_omit», «DW_EH_PE_uleb128»}
 use Rattle.format.specs.Leb.{uleb}
 use Rattle.format.specs.Lists.{Landing}
 use Rattle.format.specs.Headers.{padding}
@@ -15,9 +16,9 @@ unfoldable pub sitesBytes : List Landing → List ℕ
 sitesBytes [] = []
 sitesBytes (l ∷ ls) = siteBytes l ++ sitesBytes ls
 
--- DW_EH_PE_omit for the landing pad base, and for the type table; call site numbers are ULEB; the length of the entries
+-- no landing pad base and no type table; call site numbers are ULEB; the length of the entries
 unfoldable pub siteTable : List Landing → List ℕ
-siteTable ls = 0xff ∷ 0xff ∷ 0x01 ∷ (uleb (length (sitesBytes ls)) ++ sitesBytes ls)
+siteTable ls = «DW_EH_PE_omit» ∷ «DW_EH_PE_omit» ∷ «DW_EH_PE_uleb128» ∷ (uleb (length (sitesBytes ls)) ++ sitesBytes ls)
 
 -- zeros in front of a table, up to a multiple of 4 (document 01, "Call sites")
 unfoldable pub sitePad : ℕ → ℕ

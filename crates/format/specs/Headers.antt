@@ -7,6 +7,8 @@ use lib.ListN.{length, replicate}
 use lib.Dec.{leb, ltb, eqb}
 use lib.IntN.{ℤ, pos, negℤ}
 use Rattle.format.specs.Prelude.{pick}
+use Rattle.format.specs.Constants.{rememberStateKind, dataReloc, addressReloc, personalitySymbol, letterZ, letterP, letterL, letterR, letterS}
+use Rattle.format.specs.Constants.{«DW_EH_PE_absptr», «DW_EH_PE_udata4», «DW_EH_PE_udata8», «DW_EH_PE_sdata4», «DW_EH_PE_sdata8», «DW_EH_PE_pcrel», «DW_EH_PE_indirect», pcrelUdata4, pcrelSdata4, indirectPcrelSdata4}
 use Rattle.format.specs.Leb.{little, uleb, sleb}
 use Rattle.format.specs.declared.Machine.{Machine}
 use Rattle.format.specs.declared.Row.{Row}
@@ -23,7 +25,7 @@ implied m =
 
 -- a row leads where it is at offset 0 and no RememberState
 unfoldable pub leads : RowAt → Bool
-leads x = eqb (x .0) 0 && not (eqb (kindOf (x .1)) 6)
+leads x = eqb (x .0) 0 && not (eqb (kindOf (x .1)) rememberStateKind)
 
 -- a function's rows up to the first that does not lead; and the others
 unfoldable pub ahead : List RowAt → List Row
@@ -96,23 +98,16 @@ sameKey a b = sameKind (a .kind) (b .kind) && Bool·beq (a .signal) (b .signal) 
 
 -- ---- encodings (LSB, "DWARF Exception Header Encoding"; the source's pointer_size)
 
--- DW_EH_PE_pcrel | DW_EH_PE_sdata4, and the same read through a pointer (DW_EH_PE_indirect)
-abbrev pub pcrelSdata4 : ℕ
-pcrelSdata4 = 0x1b
-
-abbrev pub indirectPcrelSdata4 : ℕ
-indirectPcrelSdata4 = 0x9b
-
--- bytes of a pointer by its encoding without the indirect bit: absptr is a word; udata4 and sdata4, absolute or pcrel, are 4; udata8 and sdata8 are 8
+-- bytes of a pointer by its encoding without the indirect bit
 unfoldable pub sizeOf : ℕ → ℕ → Option ℕ
 sizeOf word e =
-    pick (eqb e 0x00) (some word)
-    (pick (eqb e 0x03 || eqb e 0x0b || eqb e 0x13 || eqb e 0x1b) (some 4)
-    (pick (eqb e 0x04 || eqb e 0x0c) (some 8) none))
+    pick (eqb e «DW_EH_PE_absptr») (some word)
+    (pick (eqb e «DW_EH_PE_udata4» || eqb e «DW_EH_PE_sdata4» || eqb e pcrelUdata4 || eqb e pcrelSdata4) (some 4)
+    (pick (eqb e «DW_EH_PE_udata8» || eqb e «DW_EH_PE_sdata8») (some 8) none))
 
--- the indirect bit, 0x80, is taken for a personality only
+-- the indirect bit is taken for a personality only
 unfoldable pub pointerSize : (indirect : Bool) → ℕ → ℕ → Option ℕ
-pointerSize indirect word e = pick (ltb e 128 || indirect) (sizeOf word (e % 128)) none
+pointerSize indirect word e = pick (ltb e «DW_EH_PE_indirect» || indirect) (sizeOf word (e % «DW_EH_PE_indirect»)) none
 
 unfoldable pub sizeOr0 : Option ℕ → ℕ
 sizeOr0 none = 0
@@ -120,28 +115,17 @@ sizeOr0 (some n) = n
 
 -- the bytes that are written for a pointer; question 22 lets no other encoding through
 unfoldable pub pointerBytes : ℕ → ℕ → ℕ
-pointerBytes word e = sizeOr0 (sizeOf word (e % 128))
+pointerBytes word e = sizeOr0 (sizeOf word (e % «DW_EH_PE_indirect»))
 
--- ---- relocations: place, symbol, kind, size, addend
+-- ---- relocations
 
--- kinds 0 Data, 1 Address, 2 Sum plus, 3 Sum minus, 4 Image, 5 to 12 Set6, Sub6, Set8, Sub8, Set16, Sub16, Set32, Sub32
 abbrev pub reloc : (place symbol kind bytes addend : ℕ) → Relocation
 reloc place symbol kind bytes addend = record { place = place; symbol = symbol; kind = kind; bytes = bytes; addend = addend }
 
 -- a pointer by its encoding: Data (a distance of 4 bytes) where it is pcrel, else Address of its size
 unfoldable pub pointerReloc : (word place symbol encoding : ℕ) → Relocation
 pointerReloc word place symbol e =
-    pick (leb 16 (e % 128)) (reloc place symbol 0 4 0) (reloc place symbol 1 (pointerBytes word e) 0)
-
--- the symbols that are not the caller's: the personality reference, EXCEPT_TABLE and .debug_frame; 2^32 + s is the `$unwind$` marker of s
-abbrev pub personalitySymbol : ℕ
-personalitySymbol = 0
-
-abbrev pub exceptTable : ℕ
-exceptTable = 1
-
-abbrev pub debugFrame : ℕ
-debugFrame = 2
+    pick (leb «DW_EH_PE_pcrel» (e % «DW_EH_PE_indirect»)) (reloc place symbol dataReloc 4 0) (reloc place symbol addressReloc (pointerBytes word e) 0)
 
 -- ---- an entry
 
@@ -159,16 +143,15 @@ entry body = little 4 (length body) ++ body
 -- ---- a header's bytes
 
 -- Augmentation strings (LSB, "Augmentation String Format"): z, P with a personality, L with an LSDA, R, S for a signal frame; the final 0 is part of it.
--- z 7a, P 50, L 4c, R 52, S 53
 unfoldable pub letters : Kind → List ℕ
-letters plain = 0x7a ∷ 0x52 ∷ []
-letters personal = 0x7a ∷ 0x50 ∷ 0x4c ∷ 0x52 ∷ []
-letters (named e s none) = 0x7a ∷ 0x50 ∷ 0x52 ∷ []
-letters (named e s (some l)) = 0x7a ∷ 0x50 ∷ 0x4c ∷ 0x52 ∷ []
+letters plain = letterZ ∷ letterR ∷ []
+letters personal = letterZ ∷ letterP ∷ letterL ∷ letterR ∷ []
+letters (named e s none) = letterZ ∷ letterP ∷ letterR ∷ []
+letters (named e s (some l)) = letterZ ∷ letterP ∷ letterL ∷ letterR ∷ []
 
 -- debug_frame's header has no augmentation but the signal mark
 unfoldable pub augmentation : (debug : Bool) → Key → List ℕ
-augmentation debug k = pick debug [] (letters (k .kind)) ++ pick (k .signal) (0x53 ∷ 0 ∷ []) (0 ∷ [])
+augmentation debug k = pick debug [] (letters (k .kind)) ++ pick (k .signal) (letterS ∷ 0 ∷ []) (0 ∷ [])
 
 -- the L and R of a named personality: the LSDA's encoding, if any, and the record's
 unfoldable pub lsdaLetter : Option ℕ → List ℕ
@@ -216,7 +199,7 @@ pointerPlace m at k =
 
 unfoldable pub kindRelocs : ℕ → (place : ℕ) → Kind → List Relocation
 kindRelocs word place plain = []
-kindRelocs word place personal = reloc place personalitySymbol 0 4 0 ∷ []
+kindRelocs word place personal = reloc place personalitySymbol dataReloc 4 0 ∷ []
 kindRelocs word place (named e s l) = pointerReloc word place s e ∷ []
 
 unfoldable pub headerRelocs : (debug : Bool) → Machine → (at : ℕ) → Key → List Relocation

@@ -8,6 +8,7 @@ use lib.Dec.{leb, ltb, eqb}
 use mir.Syntax.{w32, w64}
 use mir.Val.{toZ}
 use Rattle.format.specs.Prelude.{pick, each, all}
+use Rattle.format.specs.Constants.{defCfaKind, defCfaOffsetKind, defCfaRegisterKind, offsetKind, restoreKind, undefinedKind, rememberStateKind, restoreStateKind, negateRaStateKind, pushKind, allocKind, frameKind, saveKind}
 use Rattle.format.specs.declared.Row.{Row}
 use Rattle.format.specs.declared.Row.the-variants.{DefCfa, DefCfaOffset, DefCfaRegister, Offset, Restore, Undefined, RememberState, RestoreState, NegateRaState}
 use Rattle.format.specs.declared.Seh.{Seh}
@@ -103,17 +104,17 @@ count stride xs = length xs / stride
 unfoldable pub mark : ℕ → Bool
 mark n = not (eqb n 0)
 
--- a row by its kind, 0 to 8 in document 01's order, its register and its offset in 32 bits, two's complement
+-- a row by its kind, its register and its offset in 32 bits, two's complement
 unfoldable pub rowOf : (kind reg off : ℕ) → Row
 rowOf kind reg off =
-    pick (eqb kind 0) (DefCfa reg (toZ w32 off))
-    (pick (eqb kind 1) (DefCfaOffset (toZ w32 off))
-    (pick (eqb kind 2) (DefCfaRegister reg)
-    (pick (eqb kind 3) (Offset reg (toZ w32 off))
-    (pick (eqb kind 4) (Restore reg)
-    (pick (eqb kind 5) (Undefined reg)
-    (pick (eqb kind 6) RememberState
-    (pick (eqb kind 7) RestoreState NegateRaState)))))))
+    pick (eqb kind defCfaKind) (DefCfa reg (toZ w32 off))
+    (pick (eqb kind defCfaOffsetKind) (DefCfaOffset (toZ w32 off))
+    (pick (eqb kind defCfaRegisterKind) (DefCfaRegister reg)
+    (pick (eqb kind offsetKind) (Offset reg (toZ w32 off))
+    (pick (eqb kind restoreKind) (Restore reg)
+    (pick (eqb kind undefinedKind) (Undefined reg)
+    (pick (eqb kind rememberStateKind) RememberState
+    (pick (eqb kind restoreStateKind) RestoreState NegateRaState)))))))
 
 unfoldable pub rowAt : List ℕ → ℕ → RowAt
 rowAt rows i = (field rowStride rows i 0, rowOf (field rowStride rows i 1) (field rowStride rows i 2) (field rowStride rows i 3))
@@ -125,12 +126,12 @@ unfoldable pub pairAt : List ℕ → ℕ → Pair
 pairAt ps i =
     record { place1 = field pairStride ps i 0; place2 = field pairStride ps i 1; symbol1 = field pairStride ps i 2; symbol2 = field pairStride ps i 3 }
 
--- a code by its kind, 0 Push, 1 Alloc, 2 Frame, 3 Save, its register, vector mark and value in 64 bits, two's complement
+-- a code by its kind, its register, vector mark and value in 64 bits, two's complement
 unfoldable pub codeOf : (kind reg vector value : ℕ) → Seh
 codeOf kind reg vector value =
-    pick (eqb kind 0) (Push reg)
-    (pick (eqb kind 1) (Alloc (toZ w64 value))
-    (pick (eqb kind 2) (Frame reg (toZ w64 value)) (Save reg (mark vector) (toZ w64 value))))
+    pick (eqb kind pushKind) (Push reg)
+    (pick (eqb kind allocKind) (Alloc (toZ w64 value))
+    (pick (eqb kind frameKind) (Frame reg (toZ w64 value)) (Save reg (mark vector) (toZ w64 value))))
 
 unfoldable pub codeAt : List ℕ → ℕ → ℕ × Seh
 codeAt cs i = (field codeStride cs i 0, codeOf (field codeStride cs i 1) (field codeStride cs i 2) (field codeStride cs i 3) (field codeStride cs i 4))
@@ -216,14 +217,15 @@ whenMarked n test = eqb n 0 || test
 
 -- a kind has a register; a kind has an offset
 unfoldable pub hasRegister : ℕ → Bool
-hasRegister kind = eqb kind 0 || eqb kind 2 || eqb kind 3 || eqb kind 4 || eqb kind 5
+hasRegister kind =
+    eqb kind defCfaKind || eqb kind defCfaRegisterKind || eqb kind offsetKind || eqb kind restoreKind || eqb kind undefinedKind
 
 unfoldable pub hasOffset : ℕ → Bool
-hasOffset kind = eqb kind 0 || eqb kind 1 || eqb kind 3
+hasOffset kind = eqb kind defCfaKind || eqb kind defCfaOffsetKind || eqb kind offsetKind
 
--- a kind from 0 to 8, a 16-bit register and a 32-bit offset; an operand that the kind does not have is 0
+-- a kind, a 16-bit register and a 32-bit offset; an operand that the kind does not have is 0
 unfoldable pub rowOk : (kind reg off : ℕ) → Bool
-rowOk kind reg off = leb kind 8 && ltb reg (pick (hasRegister kind) 65536 1) && ltb off (pick (hasOffset kind) (2 ^ 32) 1)
+rowOk kind reg off = leb kind negateRaStateKind && ltb reg (pick (hasRegister kind) 65536 1) && ltb off (pick (hasOffset kind) (2 ^ 32) 1)
 
 unfoldable pub rowOkAt : List ℕ → ℕ → Bool
 rowOkAt rows i = rowOk (field rowStride rows i 1) (field rowStride rows i 2) (field rowStride rows i 3)
@@ -231,10 +233,10 @@ rowOkAt rows i = rowOk (field rowStride rows i 1) (field rowStride rows i 2) (fi
 unfoldable pub pairOkAt : List ℕ → ℕ → Bool
 pairOkAt ps i = symbolOk (field pairStride ps i 2) && symbolOk (field pairStride ps i 3)
 
--- a kind from 0 to 3; Alloc has no register, only Save a vector mark, Push no value
+-- a kind; Alloc has no register, only Save a vector mark, Push no value
 unfoldable pub codeOk : (kind reg vector value : ℕ) → Bool
 codeOk kind reg vector value =
-    leb kind 3 && (eqb reg 0 || not (eqb kind 1)) && leb vector (pick (eqb kind 3) 1 0) && (eqb value 0 || not (eqb kind 0))
+    leb kind saveKind && (eqb reg 0 || not (eqb kind allocKind)) && leb vector (pick (eqb kind saveKind) 1 0) && (eqb value 0 || not (eqb kind pushKind))
 
 unfoldable pub codeOkAt : List ℕ → ℕ → Bool
 codeOkAt cs i = codeOk (field codeStride cs i 1) (field codeStride cs i 2) (field codeStride cs i 3) (field codeStride cs i 4)

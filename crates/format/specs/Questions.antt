@@ -6,10 +6,11 @@ use mathlib.Core.List.{List, [], _∷_, map}
 use lib.ListN.{length}
 use lib.Dec.{leb, ltb, eqb}
 use Rattle.format.specs.Prelude.{pick, Result, good, bad, onward, all}
+use Rattle.format.specs.Constants.{elf, coff, machO, plan9}
 use Rattle.format.specs.declared.Machine.{Machine}
 use Rattle.format.specs.Machine.{machineOf, machineOk}
 use Rattle.format.specs.Rows.{RowAt, rowWhole}
-use Rattle.format.specs.Lists.{Function, Named, Pointer, Landing, Relaxed, Prologue, functionStride, prologueStride, count, functionsOf, prologuesOf, listsOk, codesOk}
+use Rattle.format.specs.Lists.{Function, Named, Pointer, Landing, Relaxed, Prologue, functionStride, prologueStride, count, functionAt, functionsOf, prologuesOf, listsOk, codesOk}
 use Rattle.format.specs.Headers.{pointerSize}
 use Rattle.format.specs.declared.Section.{Section}
 use Rattle.format.specs.declared.Section.the-variants.{Elf, Debug}
@@ -166,6 +167,10 @@ givenOf machine functions rows landings pairs =
 unfoldable pub givenFunctions : Given → List Function
 givenFunctions g = functionsOf (g .functions) (g .rows) (g .landings) (g .pairs)
 
+-- function k of them
+abbrev pub givenFunction : Given → ℕ → Function
+givenFunction g k = functionAt (g .functions) (g .rows) (g .landings) (g .pairs) k
+
 unfoldable pub noFunctions : Given → Bool
 noFunctions g = eqb (count functionStride (g .functions)) 0
 
@@ -184,13 +189,13 @@ windowsAsks g =
 unfoldable pub dwarfGiven : Section → Given → Room → Answer
 dwarfGiven s g r = unless (givenAsks g) (dwarfAnswer s (machineOf (g .machine)) (givenFunctions g) r)
 
--- formats: 0 ELF, 1 COFF, 2 Mach-O, which is not written any more (78), 3 Wasm, 4 Plan 9; another is 11
+-- Mach-O is not written any more; Wasm and Plan 9 have no table; a number that is no format is 11
 unfoldable pub formatAnswer : ℕ → Given → Room → Answer
 formatAnswer format g r =
-    pick (eqb format 0) (dwarfGiven Elf g r)
-    (pick (eqb format 1) (unless (windowsAsks g) (windowsAnswer (machineOf (g .machine)) (givenFunctions g) r))
-    (pick (eqb format 2) (refused 78 0)
-    (pick (leb format 4) empty (refused 11 0))))
+    pick (eqb format elf) (dwarfGiven Elf g r)
+    (pick (eqb format coff) (unless (windowsAsks g) (windowsAnswer (machineOf (g .machine)) (givenFunctions g) r))
+    (pick (eqb format machO) (refused 78 0)
+    (pick (leb format plan9) empty (refused 11 0))))
 
 -- an empty list is an empty result before any question
 unfoldable pub relaxedTable : ℕ → Given → Room → Answer
@@ -198,7 +203,7 @@ relaxedTable format g r = pick (noFunctions g) empty (formatAnswer format g r)
 
 -- debug_frame is an empty result outside ELF
 unfoldable pub relaxedDebugFrame : ℕ → Given → Room → Answer
-relaxedDebugFrame format g r = pick (noFunctions g || not (eqb format 0)) empty (dwarfGiven Debug g r)
+relaxedDebugFrame format g r = pick (noFunctions g || not (eqb format elf)) empty (dwarfGiven Debug g r)
 
 -- direct codes: 13, 21, the codes, and the room
 unfoldable pub seh : (fs codes : List ℕ) → Room → Answer
@@ -206,8 +211,3 @@ seh fs codes r =
     pick (eqb (count prologueStride fs) 0) empty
     (unless (ask (codesOk fs codes) 13 0)
     (unless (shortOnes (λ p. p .size) (prologuesOf fs codes)) (codesAnswer (prologuesOf fs codes) r)))
-
--- a list is accepted for DWARF output when its writer neither refuses nor gives an empty result
-unfoldable pub dwarfWritten : Section → Given → Room → Answer
-dwarfWritten Elf g r = relaxedTable 0 g r
-dwarfWritten Debug g r = relaxedDebugFrame 0 g r

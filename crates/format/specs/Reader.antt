@@ -11,12 +11,12 @@ use Rattle.format.specs.Machine.{isWord}
 use Rattle.format.specs.declared.Operation.{Operation}
 use Rattle.format.specs.declared.Operation.the-variants.{Nop, Step, Does}
 use Rattle.format.specs.declared.Rule.{Rule}
-use Rattle.format.specs.declared.Rule.the-variants as rule
 use Rattle.format.specs.declared.Reading.{Reading}
 use Rattle.format.specs.Rows.{readRegister, readOperation, sameOffset}
 use Rattle.format.specs.Lists.{Relocation, relocationsOf}
-use Rattle.format.specs.Headers.{headerId, pcrelSdata4, pointerSize, dataFactor}
-use Rattle.format.specs.Rules.{Run, start, act, answer}
+use Rattle.format.specs.Constants.{pcrelSdata4}
+use Rattle.format.specs.Headers.{headerId, pointerSize, dataFactor}
+use Rattle.format.specs.Rules.{State, blank, act, answer}
 
 -- ---- entries (61): a 4-byte length, at least 4, and as many bytes
 
@@ -180,28 +180,28 @@ parseRecord debug word pointer bs =
     next (readLittle 4 bs) λ id r₀. next (readLittle n r₀) λ place r₁. next (readLittle n r₁) λ size r₂.
     recordTail debug pointer size r₂
 
--- ---- the walk (66 to 69)
+-- ---- the run of the operations (66 to 69)
 
--- the place, the state and the bytes left after an operation go on in `more`; in a header a step is 66; in a record a step that would pass p ends the walk
-unfoldable pub perform : (header : Bool) (p q : ℕ) (initial : Rule) → Operation → ℕ → Run → (ℕ → Run → Result Run) → Result Run
-perform header p q initial Nop loc s more = more loc s
-perform header p q initial (Step n) loc s more = pick header (bad 66) (pick (leb (loc + n) p) (more (loc + n) s) (good s))
-perform header p q initial (Does row) loc s more = onward (act header q initial row s) (more loc)
+-- the place, the state and the bytes left after an operation go on in `more`; in a header a step is 66; in a record a step that would pass p ends the run
+unfoldable pub perform : (header : Bool) (p : ℕ) (initial : ℕ → Rule) → Operation → ℕ → State → (ℕ → State → Result State) → Result State
+perform header p initial Nop loc s more = more loc s
+perform header p initial (Step n) loc s more = pick header (bad 66) (pick (leb (loc + n) p) (more (loc + n) s) (good s))
+perform header p initial (Does row) loc s more = onward (act header initial row s) (more loc)
 
 -- 66: an operation that cannot be read
-unfoldable pub whenRead : {A : Type 0} → Read A → (A → List ℕ → Result Run) → Result Run
+unfoldable pub whenRead : {A : Type 0} → Read A → (A → List ℕ → Result State) → Result State
 whenRead none k = bad 66
 whenRead (some x) k = k (x .0) (x .1)
 
 -- an operation has a byte at least, so the length is fuel enough
-unfoldable pub walkF : (header : Bool) (word p q : ℕ) (initial : Rule) → ℕ → ℕ → Run → List ℕ → Result Run
-walkF header word p q initial zero loc s bs = good s
-walkF header word p q initial (suc f) loc s [] = good s
-walkF header word p q initial (suc f) loc s (b ∷ bs) =
-    whenRead (readOperation word (b ∷ bs)) λ op r. perform header p q initial op loc s λ loc′ t. walkF header word p q initial f loc′ t r
+unfoldable pub runF : (header : Bool) (word p : ℕ) (initial : ℕ → Rule) → ℕ → ℕ → State → List ℕ → Result State
+runF header word p initial zero loc s bs = good s
+runF header word p initial (suc f) loc s [] = good s
+runF header word p initial (suc f) loc s (b ∷ bs) =
+    whenRead (readOperation word (b ∷ bs)) λ op r. perform header p initial op loc s λ loc′ t. runF header word p initial f loc′ t r
 
-unfoldable pub walk : (header : Bool) (word p q : ℕ) (initial : Rule) → Run → List ℕ → Result Run
-walk header word p q initial s bs = walkF header word p q initial (length bs) 0 s bs
+unfoldable pub run : (header : Bool) (word p : ℕ) (initial : ℕ → Rule) → State → List ℕ → Result State
+run header word p initial s bs = runF header word p initial (length bs) 0 s bs
 
 -- ---- the whole
 
@@ -222,17 +222,18 @@ locate debug rs word k section =
     onward (orElse (after (headerPlace debug rs e) λ place. headerAt debug place (e .at) es) 63) λ h.
     parsed debug word h e
 
--- 65, then the header's operations, then the record's; one walk, so what a header stores lives on
-unfoldable pub walked : (word p q : ℕ) → Found → Result Run
-walked word p q x =
+-- 65, then the header's operations, then the record's; one run, so what a header stores lives on
+unfoldable pub runTo : (word p : ℕ) → Found → Result State
+runTo word p x =
     pick (ltb p (x .found .size))
-    (onward (walk true word p q rule.Unstated start (x .header .operations)) λ s. walk false word p q (s .rule) s (x .found .operations))
+    (onward (run true word p (blank .current .rules) blank (x .header .operations)) λ s.
+    run false word p (s .current .rules) s (x .found .operations))
     (bad 65)
 
-unfoldable pub readSection : (debug : Bool) → List Relocation → (word k q p : ℕ) → List ℕ → Result Run
-readSection debug rs word k q p section = onward (locate debug rs word k section) (walked word p q)
+unfoldable pub readSection : (debug : Bool) → List Relocation → (word k p : ℕ) → List ℕ → Result State
+readSection debug rs word k p section = onward (locate debug rs word k section) (runTo word p)
 
 -- 11: word 2, 4 or 8, and kind 0 (eh) or 1 (debug)
 unfoldable pub read : (section relocations : List ℕ) (kind word k q p : ℕ) → Reading
 read section relocations kind word k q p =
-    answer (pick (isWord word && leb kind 1) (readSection (eqb kind 1) (relocationsOf relocations) word k q p section) (bad 11))
+    answer q (pick (isWord word && leb kind 1) (readSection (eqb kind 1) (relocationsOf relocations) word k p section) (bad 11))

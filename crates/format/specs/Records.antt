@@ -6,11 +6,12 @@ use mathlib.Core.List.{List, [], _∷_, _++_}
 use lib.ListN.{length, replicate}
 use lib.Dec.{eqb}
 use Rattle.format.specs.Prelude.{pick, first}
+use Rattle.format.specs.Constants.{dataReloc, addressReloc, sumPlusReloc, sumMinusReloc, set6Reloc, set8Reloc, set16Reloc, set32Reloc, exceptTable, debugFrame}
 use Rattle.format.specs.Leb.{little}
 use Rattle.format.specs.declared.Machine.{Machine}
 use Rattle.format.specs.Rows.{RowAt, rowBytes, stepBytes, stepForm, steppedBytes}
 use Rattle.format.specs.Lists.{Function, Landing, Named, Pointer, Pair, Relaxed, Relocation}
-use Rattle.format.specs.Headers.{others, padded, entry, counted, pointerBytes, pointerReloc, reloc, exceptTable, debugFrame}
+use Rattle.format.specs.Headers.{others, padded, entry, counted, pointerBytes, pointerReloc, reloc}
 
 -- ---- the pointer to the call sites (LSB, `L`): at a place of EXCEPT_TABLE, or named
 
@@ -39,7 +40,7 @@ namedReloc word place (some n) = pointerTo word place (n .lsda)
 -- landings beat a named personality; `table` is the place of the function's table in EXCEPT_TABLE
 unfoldable pub lsdaReloc : (word place table : ℕ) → List Landing → Option Named → List Relocation
 lsdaReloc word place table [] n = namedReloc word place n
-lsdaReloc word place table (l ∷ ls) n = reloc place exceptTable 0 4 table ∷ []
+lsdaReloc word place table (l ∷ ls) n = reloc place exceptTable dataReloc 4 table ∷ []
 
 -- ---- a record's fields
 
@@ -65,7 +66,7 @@ recordBytes debug m align at cie f =
 -- relaxing: the length is the distance from the function to its end label, Sum plus and Sum minus in the field's bytes
 unfoldable pub sumPair : (place bytes : ℕ) → Function → Option Relaxed → List Relocation
 sumPair place bytes f none = []
-sumPair place bytes f (some r) = reloc place (r .end) 2 bytes 0 ∷ reloc place (f .symbol) 3 bytes 0 ∷ []
+sumPair place bytes f (some r) = reloc place (r .end) sumPlusReloc bytes 0 ∷ reloc place (f .symbol) sumMinusReloc bytes 0 ∷ []
 
 -- the first pair whose places are a step's two ends
 unfoldable pub pairFor : (from to : ℕ) → List Pair → Option Pair
@@ -73,10 +74,10 @@ pairFor from to ps = first (λ p. eqb (p .place1) from && eqb (p .place2) to) ps
 
 -- the kind of Set for a step's form, and the size of its field: Set6 on the opcode byte, else one behind it; Sub's kind is one more
 unfoldable pub setKind : ℕ → ℕ
-setKind zero = 5
-setKind (suc zero) = 7
-setKind (suc (suc zero)) = 9
-setKind (suc (suc (suc k))) = 11
+setKind zero = set6Reloc
+setKind (suc zero) = set8Reloc
+setKind (suc (suc zero)) = set16Reloc
+setKind (suc (suc (suc k))) = set32Reloc
 
 unfoldable pub setBytes : ℕ → ℕ
 setBytes zero = 1
@@ -111,6 +112,6 @@ recordRelocs debug m at cie table f =
     let word : ℕ = m .word in
     let ops : ℕ = at + 4 + length (recordFields debug word (at + 4 - cie) f) in
     pick debug
-    (reloc (at + 4) debugFrame 1 4 cie ∷ reloc (at + 8) (f .symbol) 1 word 0 ∷ sumPair (at + 8 + word) word f (f .relaxed))
-    (reloc (at + 8) (f .symbol) 0 4 0 ∷ (lsdaReloc word (at + 17) table (f .landings) (f .named) ++ sumPair (at + 12) 4 f (f .relaxed)))
+    (reloc (at + 4) debugFrame addressReloc 4 cie ∷ reloc (at + 8) (f .symbol) addressReloc word 0 ∷ sumPair (at + 8 + word) word f (f .relaxed))
+    (reloc (at + 8) (f .symbol) dataReloc 4 0 ∷ (lsdaReloc word (at + 17) table (f .landings) (f .named) ++ sumPair (at + 12) 4 f (f .relaxed)))
     ++ rowRelocs word ops (others (f .rows)) (f .relaxed)

@@ -6,6 +6,8 @@ use mathlib.Core.List.{List, [], _∷_, _++_}
 use lib.Dec.{leb, ltb, eqb}
 use lib.IntN.{ℤ, pos, negsuc, negℤ, natAbs}
 use Rattle.format.specs.Prelude.{pick, Read, next}
+use Rattle.format.specs.Constants.{defCfaKind, defCfaOffsetKind, defCfaRegisterKind, offsetKind, restoreKind, undefinedKind, rememberStateKind, restoreStateKind, negateRaStateKind}
+use Rattle.format.specs.Constants.{«DW_CFA_advance_loc», «DW_CFA_offset», «DW_CFA_restore», «DW_CFA_nop», «DW_CFA_advance_loc1», «DW_CFA_advance_loc2», «DW_CFA_advance_loc4», «DW_CFA_offset_extended», «DW_CFA_restore_extended», «DW_CFA_undefined», «DW_CFA_remember_state», «DW_CFA_restore_state», «DW_CFA_def_cfa», «DW_CFA_def_cfa_register», «DW_CFA_def_cfa_offset», «DW_CFA_offset_extended_sf», «DW_CFA_def_cfa_sf», «DW_CFA_def_cfa_offset_sf», «DW_CFA_AARCH64_negate_ra_state»}
 use Rattle.format.specs.Leb.{little, readLittle, uleb, sleb, readUleb, readSleb, fits64}
 use Rattle.format.specs.declared.Row.{Row}
 use Rattle.format.specs.declared.Row.the-variants.{DefCfa, DefCfaOffset, DefCfaRegister, Offset, Restore, Undefined, RememberState, RestoreState, NegateRaState}
@@ -32,30 +34,29 @@ cfaBytes w plain sf reg (negsuc n) = sf ∷ (reg ++ sleb (factor w (negsuc n)))
 unfoldable pub withRegister : (short long : ℕ) → ℕ → List ℕ → List ℕ
 withRegister short long reg bs = pick (leb reg 63) ((short + reg) ∷ bs) (long ∷ (uleb reg ++ bs))
 
--- DW_CFA_offset, DW_CFA_offset_extended and, above the frame address, DW_CFA_offset_extended_sf (6.4.2.3), of a factored offset
+-- a saved register (6.4.2.3), of a factored offset; the signed form is for one above the frame address
 unfoldable pub savedBytes : ℕ → ℤ → List ℕ
-savedBytes reg (pos n) = withRegister 0x80 0x05 reg (uleb n)
-savedBytes reg (negsuc n) = 0x11 ∷ (uleb reg ++ sleb (negsuc n))
+savedBytes reg (pos n) = withRegister «DW_CFA_offset» «DW_CFA_offset_extended» reg (uleb n)
+savedBytes reg (negsuc n) = «DW_CFA_offset_extended_sf» ∷ (uleb reg ++ sleb (negsuc n))
 
--- a row's operation; 0x2d is AArch64's DW_CFA_AARCH64_negate_ra_state (DWARF for the Arm 64-bit Architecture)
+-- a row's operation
 unfoldable pub rowBytes : ℕ → Row → List ℕ
-rowBytes w (DefCfa reg z) = cfaBytes w 0x0c 0x12 (uleb reg) z
-rowBytes w (DefCfaOffset z) = cfaBytes w 0x0e 0x13 [] z
-rowBytes w (DefCfaRegister reg) = 0x0d ∷ uleb reg
+rowBytes w (DefCfa reg z) = cfaBytes w «DW_CFA_def_cfa» «DW_CFA_def_cfa_sf» (uleb reg) z
+rowBytes w (DefCfaOffset z) = cfaBytes w «DW_CFA_def_cfa_offset» «DW_CFA_def_cfa_offset_sf» [] z
+rowBytes w (DefCfaRegister reg) = «DW_CFA_def_cfa_register» ∷ uleb reg
 rowBytes w (Offset reg z) = savedBytes reg (factor w z)
-rowBytes w (Restore reg) = withRegister 0xc0 0x06 reg []
-rowBytes w (Undefined reg) = 0x07 ∷ uleb reg
-rowBytes w RememberState = 0x0a ∷ []
-rowBytes w RestoreState = 0x0b ∷ []
-rowBytes w NegateRaState = 0x2d ∷ []
+rowBytes w (Restore reg) = withRegister «DW_CFA_restore» «DW_CFA_restore_extended» reg []
+rowBytes w (Undefined reg) = «DW_CFA_undefined» ∷ uleb reg
+rowBytes w RememberState = «DW_CFA_remember_state» ∷ []
+rowBytes w RestoreState = «DW_CFA_restore_state» ∷ []
+rowBytes w NegateRaState = «DW_CFA_AARCH64_negate_ra_state» ∷ []
 
 -- The forms of a step (DWARF 5, 6.4.2.1; document 01, "Record"): how many bytes of operand follow the opcode.
--- DW_CFA_advance_loc holds its number in the opcode; 1, 2 and 4 are advance_loc1, advance_loc2 and advance_loc4.
 unfoldable pub stepIn : ℕ → ℕ → List ℕ
-stepIn zero n = (0x40 + n) ∷ []
-stepIn (suc zero) n = 0x02 ∷ little 1 n
-stepIn (suc (suc zero)) n = 0x03 ∷ little 2 n
-stepIn (suc (suc (suc k))) n = 0x04 ∷ little 4 n
+stepIn zero n = («DW_CFA_advance_loc» + n) ∷ []
+stepIn (suc zero) n = «DW_CFA_advance_loc1» ∷ little 1 n
+stepIn (suc (suc zero)) n = «DW_CFA_advance_loc2» ∷ little 2 n
+stepIn (suc (suc (suc k))) n = «DW_CFA_advance_loc4» ∷ little 4 n
 
 -- the shortest form that holds n
 unfoldable pub stepForm : ℕ → ℕ
@@ -107,33 +108,34 @@ one a f = next a λ v r. some (f v, r)
 unfoldable pub two : (List ℕ → Read ℤ) → (ℕ → ℤ → Row) → List ℕ → Read Operation
 two read f bs = next (readRegister bs) λ reg r. one (read r) λ z. Does (f reg z)
 
--- the operations below 0x40 (7.24, table 7.29), those that the source writes (document 01, question 66)
+-- the operations without a number in the opcode (7.24, table 7.29), those that the source writes (document 01, question 66)
 unfoldable pub readExtended : ℕ → ℕ → List ℕ → Read Operation
 readExtended w b bs =
-    pick (eqb b 0x00) (some (Nop, bs))
-    (pick (eqb b 0x02) (one (readLittle 1 bs) Step)
-    (pick (eqb b 0x03) (one (readLittle 2 bs) Step)
-    (pick (eqb b 0x04) (one (readLittle 4 bs) Step)
-    (pick (eqb b 0x05) (two (readFactored w) Offset bs)
-    (pick (eqb b 0x06) (one (readRegister bs) λ reg. Does (Restore reg))
-    (pick (eqb b 0x07) (one (readRegister bs) λ reg. Does (Undefined reg))
-    (pick (eqb b 0x0a) (some (Does RememberState, bs))
-    (pick (eqb b 0x0b) (some (Does RestoreState, bs))
-    (pick (eqb b 0x0c) (two readOffset DefCfa bs)
-    (pick (eqb b 0x0d) (one (readRegister bs) λ reg. Does (DefCfaRegister reg))
-    (pick (eqb b 0x0e) (one (readOffset bs) λ z. Does (DefCfaOffset z))
-    (pick (eqb b 0x11) (two (readSigned w) Offset bs)
-    (pick (eqb b 0x12) (two (readSigned w) DefCfa bs)
-    (pick (eqb b 0x13) (one (readSigned w bs) λ z. Does (DefCfaOffset z))
-    (pick (eqb b 0x2d) (some (Does NegateRaState, bs)) none)))))))))))))))
+    pick (eqb b «DW_CFA_nop») (some (Nop, bs))
+    (pick (eqb b «DW_CFA_advance_loc1») (one (readLittle 1 bs) Step)
+    (pick (eqb b «DW_CFA_advance_loc2») (one (readLittle 2 bs) Step)
+    (pick (eqb b «DW_CFA_advance_loc4») (one (readLittle 4 bs) Step)
+    (pick (eqb b «DW_CFA_offset_extended») (two (readFactored w) Offset bs)
+    (pick (eqb b «DW_CFA_restore_extended») (one (readRegister bs) λ reg. Does (Restore reg))
+    (pick (eqb b «DW_CFA_undefined») (one (readRegister bs) λ reg. Does (Undefined reg))
+    (pick (eqb b «DW_CFA_remember_state») (some (Does RememberState, bs))
+    (pick (eqb b «DW_CFA_restore_state») (some (Does RestoreState, bs))
+    (pick (eqb b «DW_CFA_def_cfa») (two readOffset DefCfa bs)
+    (pick (eqb b «DW_CFA_def_cfa_register») (one (readRegister bs) λ reg. Does (DefCfaRegister reg))
+    (pick (eqb b «DW_CFA_def_cfa_offset») (one (readOffset bs) λ z. Does (DefCfaOffset z))
+    (pick (eqb b «DW_CFA_offset_extended_sf») (two (readSigned w) Offset bs)
+    (pick (eqb b «DW_CFA_def_cfa_sf») (two (readSigned w) DefCfa bs)
+    (pick (eqb b «DW_CFA_def_cfa_offset_sf») (one (readSigned w bs) λ z. Does (DefCfaOffset z))
+    (pick (eqb b «DW_CFA_AARCH64_negate_ra_state») (some (Does NegateRaState, bs)) none)))))))))))))))
 
 -- one operation; the high two bits of the opcode tell the short forms (7.24)
 unfoldable pub readOperation : ℕ → List ℕ → Read Operation
 readOperation w [] = none
 readOperation w (b ∷ bs) =
-    pick (ltb b 0x40) (readExtended w b bs)
-    (pick (ltb b 0x80) (some (Step (b - 0x40), bs))
-    (pick (ltb b 0xc0) (one (readFactored w bs) λ z. Does (Offset (b - 0x80) z)) (some (Does (Restore (b - 0xc0)), bs))))
+    pick (ltb b «DW_CFA_advance_loc») (readExtended w b bs)
+    (pick (ltb b «DW_CFA_offset») (some (Step (b - «DW_CFA_advance_loc»), bs))
+    (pick (ltb b «DW_CFA_restore») (one (readFactored w bs) λ z. Does (Offset (b - «DW_CFA_offset») z))
+    (some (Does (Restore (b - «DW_CFA_restore»)), bs))))
 
 -- ---- question 24: what a factored form can hold
 
@@ -160,17 +162,17 @@ rowWhole w NegateRaState = true
 
 -- ---- a row's parts, and when two rows are equal
 
--- a row's kind by its place in document 01's list, its register (or 0) and its offset (or 0)
+-- a row's kind, its register (or 0) and its offset (or 0)
 unfoldable pub kindOf : Row → ℕ
-kindOf (DefCfa reg z) = 0
-kindOf (DefCfaOffset z) = 1
-kindOf (DefCfaRegister reg) = 2
-kindOf (Offset reg z) = 3
-kindOf (Restore reg) = 4
-kindOf (Undefined reg) = 5
-kindOf RememberState = 6
-kindOf RestoreState = 7
-kindOf NegateRaState = 8
+kindOf (DefCfa reg z) = defCfaKind
+kindOf (DefCfaOffset z) = defCfaOffsetKind
+kindOf (DefCfaRegister reg) = defCfaRegisterKind
+kindOf (Offset reg z) = offsetKind
+kindOf (Restore reg) = restoreKind
+kindOf (Undefined reg) = undefinedKind
+kindOf RememberState = rememberStateKind
+kindOf RestoreState = restoreStateKind
+kindOf NegateRaState = negateRaStateKind
 
 unfoldable pub regOf : Row → ℕ
 regOf (DefCfa reg z) = reg

@@ -7,6 +7,8 @@ use lib.ListN.{length, replicate}
 use lib.Dec.{leb, ltb, eqb}
 use lib.IntN.{ℤ, pos, negsuc, negℤ, _+ℤ_, _-ℤ_}
 use Rattle.format.specs.Prelude.{pick, Result, good, bad, onward}
+use Rattle.format.specs.Constants.{defCfaOffsetKind, offsetKind, rememberStateKind, imageReloc}
+use Rattle.format.specs.Constants.{«UWOP_PUSH_NONVOL», «UWOP_ALLOC_LARGE», «UWOP_ALLOC_SMALL», «UWOP_SET_FPREG», «UWOP_SAVE_NONVOL», «UWOP_SAVE_XMM128»}
 use Rattle.format.specs.Leb.{little}
 use Rattle.format.specs.Machine.{Register, registerOf}
 use Rattle.format.specs.declared.Machine.{Machine}
@@ -24,7 +26,7 @@ use Rattle.format.specs.Writer.{Written, joined, isEmpty}
 -- the rows before the first RememberState
 unfoldable pub beforeRemember : List RowAt → List RowAt
 beforeRemember [] = []
-beforeRemember (x ∷ xs) = pick (eqb (kindOf (x .1)) 6) [] (x ∷ beforeRemember xs)
+beforeRemember (x ∷ xs) = pick (eqb (kindOf (x .1)) rememberStateKind) [] (x ∷ beforeRemember xs)
 
 -- the rows of one instruction
 pub record Group : Type 0 where
@@ -86,7 +88,9 @@ loneRow m last at NegateRaState s = bad 33
 -- a group of two rows is a push: DefCfaOffset moves the frame address up by a word, and Offset puts the register in that word
 unfoldable pub pushRows : Machine → ℕ → Row → Row → Prefix → Result Prefix
 pushRows m at a b s =
-    pick (eqb (kindOf a) 1 && eqb (kindOf b) 3 && sameOffset (offsetOf a -ℤ s .below) (pos (m .word)) && sameOffset (offsetOf b) (negℤ (offsetOf a)))
+    pick
+    (eqb (kindOf a) defCfaOffsetKind && eqb (kindOf b) offsetKind && sameOffset (offsetOf a -ℤ s .below) (pos (m .word))
+    && sameOffset (offsetOf b) (negℤ (offsetOf a)))
     (good (more s at (push (regOf b)) (offsetOf a))) (bad 33)
 
 -- the question of a group: 31, 32 or 33, by the source's branches
@@ -135,31 +139,30 @@ endOf n (x ∷ xs) = endOf (x .0) xs
 unfoldable pub node : (at op info : ℕ) → List ℕ
 node at op info = at ∷ (op + 16 * info) ∷ []
 
--- UWOP_ALLOC_SMALL (2) up to 128; UWOP_ALLOC_LARGE (1): info 0, a 16-bit count of eights; info 1, 32 bits
+-- small up to 128; large with info 0, a 16-bit count of eights, or info 1, 32 bits
 unfoldable pub allocBytes : (at size : ℕ) → List ℕ
 allocBytes at size =
-    pick (leb size 128) (node at 2 (size / 8 - 1))
-    (pick (ltb (size / 8) 65536) (node at 1 0 ++ little 2 (size / 8)) (node at 1 1 ++ little 4 size))
+    pick (leb size 128) (node at «UWOP_ALLOC_SMALL» (size / 8 - 1))
+    (pick (ltb (size / 8) 65536) (node at «UWOP_ALLOC_LARGE» 0 ++ little 2 (size / 8)) (node at «UWOP_ALLOC_LARGE» 1 ++ little 4 size))
 
--- UWOP_SAVE_NONVOL (4) and _FAR (5); UWOP_SAVE_XMM128 (8) and _FAR (9): near counts in `unit`s of 8 or 16 where 16 bits hold it, far in bytes
+-- a save: near counts in `unit`s of 8 or 16 where 16 bits hold it, far in bytes
 unfoldable pub slotBytes : (near unit at reg above : ℕ) → List ℕ
 slotBytes near unit at reg above =
     pick (eqb (above % unit) 0 && ltb (above / unit) 65536) (node at near reg ++ little 2 (above / unit)) (node at (suc near) reg ++ little 4 above)
 
 unfoldable pub saveBytes : (vector : Bool) → (at reg above : ℕ) → List ℕ
-saveBytes false = slotBytes 4 8
-saveBytes true = slotBytes 8 16
+saveBytes false = slotBytes «UWOP_SAVE_NONVOL» 8
+saveBytes true = slotBytes «UWOP_SAVE_XMM128» 16
 
 -- what a size or an offset is where it is not negative
 unfoldable pub size64 : ℤ → ℕ
 size64 (pos n) = n
 size64 (negsuc n) = 0
 
--- UWOP_PUSH_NONVOL (0), UWOP_SET_FPREG (3)
 unfoldable pub codeBytes : ℕ → Seh → List ℕ
-codeBytes at (Push reg) = node at 0 reg
+codeBytes at (Push reg) = node at «UWOP_PUSH_NONVOL» reg
 codeBytes at (Alloc z) = allocBytes at (size64 z)
-codeBytes at (Frame reg z) = node at 3 0
+codeBytes at (Frame reg z) = node at «UWOP_SET_FPREG» 0
 codeBytes at (Save reg vector z) = saveBytes vector at reg (size64 z)
 
 -- ---- the questions of a code, 34 to 39, and of its function, 35, 40, 41
@@ -249,7 +252,8 @@ marker s = 2 ^ 32 + s
 
 unfoldable pub runtimeRelocs : (at : ℕ) → Prologue → List Relocation
 runtimeRelocs at f =
-    reloc at (f .symbol) 4 4 0 ∷ reloc (at + 4) (f .symbol) 4 4 (f .size) ∷ reloc (at + 8) (marker (f .symbol)) 4 4 0 ∷ []
+    reloc at (f .symbol) imageReloc 4 0 ∷ reloc (at + 4) (f .symbol) imageReloc 4 (f .size)
+    ∷ reloc (at + 8) (marker (f .symbol)) imageReloc 4 0 ∷ []
 
 -- the places of the infos, from `at` on; the relocations of the rows, from `at` on
 unfoldable pub markersFrom : ℕ → List Prologue → List ℕ

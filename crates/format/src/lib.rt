@@ -135,8 +135,8 @@ pub enum Seh {
     Save(u64, bool, i64),
 }
 
-// The frame address rule (CFA): none, or a register plus an offset.
-pub enum Frame {
+// The rule of the canonical frame address (CFA): none, or a register plus an offset.
+pub enum CfaRule {
     Unset,
     Register(u16, i64),
 }
@@ -148,9 +148,16 @@ pub enum Rule {
     Saved(i64),
 }
 
-// What the reader answers: the frame address rule, the register's rule and the signing state, or a question's number.
+// What holds at a place, for one register: the CFA rule, the register's rule and the signing state.
+pub struct Rules {
+    pub cfa: CfaRule,
+    pub rule: Rule,
+    pub signing: bool,
+}
+
+// What the reader answers: the rules, or a question's number.
 pub enum Reading {
-    Rules(Frame, Rule, bool),
+    Answered(Rules),
     Refused(u64),
 }
 

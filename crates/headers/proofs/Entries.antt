@@ -5,7 +5,8 @@ use Prim.Native.Nat.{ℕ, _+_, _-_, _≤_}
 use native.Mathlib.Omega.{arith}
 use lib.ListN.{length, replicate, length-append, length-replicate}
 use Rattle.format.specs.Leb.{little}
-use Rattle.format.specs.Put.{put, Wrote}
+use Rattle.format.specs.Put.{put}
+use Rattle.format.proofs.Wrote.{Wrote}
 use Rattle.format.specs.Headers.{padding, padded, entry}
 use Rattle.format.proofs.LebBack.{little-length}
 use Rattle.format.proofs.EntryBack.{entry-length, padded-length}

@@ -11,7 +11,8 @@ use lib.Dec.{eqb}
 use Rattle.format.specs.Prelude.{pick}
 use Rattle.format.specs.declared.Machine.{Machine}
 use Rattle.format.specs.Lists.{Relocation}
-use Rattle.format.specs.Headers.{plain, personal, named, personalitySymbol, indirectPcrelSdata4, pointerReloc, pointerPlace, kindRelocs, headerRelocs}
+use Rattle.format.specs.Constants.{personalitySymbol, indirectPcrelSdata4}
+use Rattle.format.specs.Headers.{plain, personal, named, pointerReloc, pointerPlace, kindRelocs, headerRelocs}
 use Rattle.format.proofs.Choice.{if-eq}
 use Rattle.lists.specs.declared.Extent.{Extent}
 use Rattle.leading.specs.Functions.{keyIn}

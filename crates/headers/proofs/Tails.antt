@@ -14,7 +14,8 @@ use mir.Facts.{toZ-ofZ, toZ-pos}
 use Rattle.format.specs.Prelude.{pick}
 use Rattle.format.specs.Leb.{little, ulebF, uleb}
 use Rattle.format.specs.declared.Machine.{Machine}
-use Rattle.format.specs.Headers.{plain, personal, named, Key, pcrelSdata4, indirectPcrelSdata4, personalitySymbol, sizeOf, sizeOr0, pointerBytes, letters, augmentation, lsdaLetter, augmentationData, counted, headerData, headerId, dataFactor, headerFields}
+use Rattle.format.specs.Constants.{pcrelSdata4, indirectPcrelSdata4, personalitySymbol}
+use Rattle.format.specs.Headers.{plain, personal, named, Key, sizeOf, sizeOr0, pointerBytes, letters, augmentation, lsdaLetter, augmentationData, counted, headerData, headerId, dataFactor, headerFields}
 use Rattle.format.proofs.Choice.{if-eq, if-ne}
 use Rattle.format.proofs.LebBack.{little-length}
 use Rattle.lists.specs.declared.Extent.{Extent}

@@ -8,7 +8,8 @@ use lib.ListN.{replicate}
 use lib.Dec.{eqb}
 use Rattle.format.specs.Prelude.{pick}
 use Rattle.format.specs.Leb.{uleb, sleb}
-use Rattle.format.specs.Headers.{Kind, plain, personal, named, Key, pcrelSdata4, letters, lsdaLetter, augmentationData, counted, dataFactor}
+use Rattle.format.specs.Constants.{pcrelSdata4}
+use Rattle.format.specs.Headers.{Kind, plain, personal, named, Key, letters, lsdaLetter, augmentationData, counted, dataFactor}
 use Rattle.lists.specs.declared.Extent.{Extent}
 
 -- the LSDA's encoding, if there is an LSDA

@@ -4,7 +4,7 @@ ghost use mathlib.Core.Bool.{true};
 ghost use mathlib.Core.List.{[], _∷_};
 ghost use Prim.Native.Nat.{_+_, _*_, _^_, _≤_, _<_};
 ghost use lib.ListN.{length};
-ghost use Rattle.format.specs.Put.{Wrote};
+ghost use Rattle.format.proofs.Wrote.{Wrote};
 ghost use Rattle.format.specs.Rows.{rowsBytes};
 ghost use Rattle.format.specs.Lists.{numbersOf};
 ghost use Rattle.format.specs.Headers.{leading, padding, sizeOf, sizeOr0, pointerSize, pointerBytes, pointerReloc, plain, personal, named, letters, lsdaLetter, augmentationData, headerId, dataFactor, headerFields, headerBytes, pointerPlace, headerRelocs};

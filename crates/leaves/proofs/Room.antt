@@ -8,7 +8,7 @@ use lib.IntN.{ℤ, pos, negsuc}
 use mir.Syntax.{w64}
 use mir.Val.{SFits, ofZ, toZ}
 use mir.Facts.{toZ-ofZ}
-use Rattle.format.specs.Put.{Wrote}
+use Rattle.format.proofs.Wrote.{Wrote}
 use Rattle.format.specs.Leb.{sleb}
 use Rattle.format.proofs.PutLaws.{kept}
 use Rattle.format.proofs.LebBack.{sleb-short-pos, sleb-short-neg}

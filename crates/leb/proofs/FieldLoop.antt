@@ -10,7 +10,7 @@ use lib.ListN.{length, getD, drop, length-drop}
 use lib.Seq.{drop-cons}
 use Rattle.format.specs.Prelude.{next}
 use Rattle.format.specs.Leb.{readLittle}
-use Rattle.format.specs.Positions.{unsignedFrom, littleAt}
+use Rattle.format.proofs.Positions.{unsignedFrom, littleAt}
 use Rattle.format.specs.declared.Unsigned.the-variants.{Value, Bad}
 
 -- ---- the loop

@@ -16,7 +16,7 @@ use mir.Facts.{toZ-ofZ}
 use lib.ListN.{length, drop, length-drop}
 use Rattle.format.specs.Prelude.{next}
 use Rattle.format.specs.Leb.{readUlebF, readUleb, last7, readSlebF, fits64, readSleb}
-use Rattle.format.specs.Positions.{unsignedFrom, signedFrom, ulebAt, slebAt}
+use Rattle.format.proofs.Positions.{unsignedFrom, signedFrom, ulebAt, slebAt}
 use Rattle.format.specs.declared.Unsigned.the-variants as unsigned
 use Rattle.format.specs.declared.Signed.the-variants as signed
 use Rattle.format.proofs.Choice.{if-le, if-gt, either}

@@ -3,16 +3,16 @@
 ghost use Rattle.io.specs.Counts.{Counts};
 use cursor::Entry;
 use entries::Held;
+use format::CfaRule;
 use format::Decoded;
-use format::Frame;
 use format::Operation;
 use format::Reading;
 use format::Row;
 use format::Rule;
 use format::Signed;
 use format::Unsigned;
-use locate::Header;
-use locate::Located;
+use reader::fields::Header;
+use reader::location::Located;
 use shown::byte;
 use shown::decimal;
 use shown::hex;
@@ -257,12 +257,12 @@ fn operations(out: &mut [u8], at: usize, ops: &[u8], v: View, start: u64) -> usi
 
 // ---- rules by location
 
-fn frame_text(out: &mut [u8], frame: Frame, x86_64: bool) -> usize
+fn frame_text(out: &mut [u8], frame: CfaRule, x86_64: bool) -> usize
     ensures { λ r. ⌜ Counts r (now (out .exit)) ⌝ }
 {
     match frame {
-        Frame::Unset => text(out, 0, b"none"),
-        Frame::Register(reg, z) => frame_sum(out, reg, z, x86_64),
+        CfaRule::Unset => text(out, 0, b"none"),
+        CfaRule::Register(reg, z) => frame_sum(out, reg, z, x86_64),
     }
 }
 
@@ -274,7 +274,7 @@ fn frame_sum(out: &mut [u8], reg: u16, z: i64, x86_64: bool) -> usize
 }
 
 // The frame address rule in its column.
-fn frame_cell(out: &mut [u8], at: usize, frame: Frame, x86_64: bool) -> usize {
+fn frame_cell(out: &mut [u8], at: usize, frame: CfaRule, x86_64: bool) -> usize {
     let mut cell = [0u8; 64];
     let n = frame_text(&mut cell, frame, x86_64);
     shown::cell(out, at, &cell[..n], 9)
@@ -336,7 +336,7 @@ fn rule_at(s: &[u8], l: Located, word: u64, p: u64, reg: u64) -> Rule {
         return Rule::Unstated;
     }
     match entries::rules(s, l, word, p, reg as u16) {
-        Reading::Rules(_, rule, _) => rule,
+        Reading::Answered(rules) => rules.rule,
         Reading::Refused(_) => Rule::Unstated,
     }
 }
@@ -390,10 +390,11 @@ fn line(
     let b = byte(out, a, b' ');
     match entries::rules(s, l, v.word, p, 0) {
         Reading::Refused(n) => refusal(out, b, n),
-        Reading::Rules(frame, _, signing) => {
-            let c = frame_cell(out, b, frame, v.x86_64);
+        Reading::Answered(rules) => {
+            let cfa = rules.cfa;
+            let c = frame_cell(out, b, cfa, v.x86_64);
             let d = rules_at(out, c, s, l, v.word, p, regs);
-            line_end(out, d, signing)
+            line_end(out, d, rules.signing)
         }
     }
 }
@@ -613,6 +614,7 @@ fn header_only(from: usize, end: usize) -> Located {
         size: 0,
         pointer: 0,
         signal: false,
+        word: 0,
     }
 }
 

@@ -4,7 +4,8 @@ use Prim.Native.Nat.{ℕ, _+_, _≤_, _<_}
 use native.Mathlib.Omega.{arith}
 use mathlib.Core.List.{List, [], _∷_, _++_}
 use lib.ListN.{length}
-use Rattle.format.specs.Put.{put, Wrote}
+use Rattle.format.specs.Put.{put}
+use Rattle.format.proofs.Wrote.{Wrote}
 use Rattle.format.specs.declared.Machine.{Machine}
 use Rattle.format.specs.Machine.{x8664}
 use Rattle.format.proofs.Choice.{if-le, if-gt}

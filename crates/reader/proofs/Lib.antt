@@ -1,2 +1,13 @@
 -- The lemmas of this crate's functions.
+pub mod Tiling
+pub mod Seeking
+pub mod Strings
+pub mod Augmentation
+pub mod Headed
+pub mod Recorded
+pub mod Whole
+pub mod Seen
+pub mod Acting
+pub mod Operations
+pub mod Both
 pub mod Asked

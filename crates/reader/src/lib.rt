@@ -1,15 +1,17 @@
-// The rules of a record at an offset: where its operations stand, then the walk over them.
+// The reader: from the bytes of a section to the rules at an offset of a record's function. entries, fields and location find the record
+// and its header (61 to 64), run goes over their operations (65 to 69).
 ghost use mathlib.Core.Path.{_≡_};
-ghost use Prim.Native.Nat.{_≤_};
-ghost use lib.ListN.{length};
-ghost use lib.Dec.{T};
 ghost use Rattle.format.specs.Machine.{isWord};
-ghost use Rattle.format.specs.Rules.{answer};
-ghost use Rattle.format.specs.Reader.{walked, read};
-ghost use Rattle.locate.specs.Finds.{found};
+ghost use Rattle.format.specs.Reader.{read};
+ghost use Rattle.reader.specs.Finds.{Locates, locateIn, inSection, rulesFrom};
+use crate::location::Located;
+use crate::location::Locating;
 use format::Reading;
-use locate::Located;
-use locate::Locating;
+
+pub mod entries;
+pub mod fields;
+pub mod location;
+pub mod run;
 
 pub fn is_word(w: u64) -> bool
     ensures { λ r. ⌜ r ≡ isWord w ⌝ }
@@ -23,27 +25,63 @@ pub fn is_word(w: u64) -> bool
     w == 8
 }
 
-// Question 65, and then the walk.
-fn rules_at(s: &[u8], l: Located, word: u64, p: u64, q: u16) -> Reading
-    requires { ⌜ T (isWord word) × (l .header ≤ l .«header_end») × (l .«header_end» ≤ length (now s)) × (l .«record» ≤ l .«record_end») × (l .«record_end» ≤ length (now s)) ⌝ }
-    ensures { λ r. ⌜ r ≡ answer (walked word p q (found (now (s .entry)) l)) ⌝ }
+// Where the operations of record k and of its header are: questions 11 and 61 to 64. A caller who asks for several registers or offsets of
+// one record passes over the section once.
+pub fn locate(section: &[u8], relocations: &[u64], kind: u64, word: u64, k: u64) -> Locating
+    ensures { λ r. ⌜ Locates (now (section .entry)) word r (locateIn (now (section .entry)) (now (relocations .entry)) kind word k) ⌝ }
 {
+    if !is_word(word) {
+        return Locating::No(11);
+    }
+    if 1 < kind {
+        return Locating::No(11);
+    }
+    location::locate(section, relocations, kind == 1, word, k)
+}
+
+// Numbers whose positions lie in the section, and whose word is one.
+fn in_section(section: &[u8], l: Located) -> bool
+    ensures { λ r. ⌜ r ≡ inSection (now (section .entry)) l ⌝ }
+{
+    if l.header_end < l.header {
+        return false;
+    }
+    if section.len() < l.header_end {
+        return false;
+    }
+    if l.record_end < l.record {
+        return false;
+    }
+    if section.len() < l.record_end {
+        return false;
+    }
+    is_word(l.word)
+}
+
+// The CFA rule, register q's rule and the signing state at offset p from what `locate` found: questions 65 to 69. Other numbers than its
+// answers are taken too; those that lie in no section are 64.
+pub fn rules_at(section: &[u8], l: Located, q: u16, p: u64) -> Reading
+    ensures { λ r. ⌜ r ≡ rulesFrom (now (section .entry)) l q p ⌝ }
+{
+    if !in_section(section, l) {
+        return Reading::Refused(64);
+    }
     if l.size <= p {
         return Reading::Refused(65);
     }
-    walk::walk(
-        s,
+    run::run(
+        section,
         l.header,
         l.header_end,
         l.record,
         l.record_end,
-        word,
+        l.word,
         p,
         q,
     )
 }
 
-// The frame address rule, register q's rule and the signing state of record k at offset p, or the number of the question answered by no.
+// The rules of record k at offset p, or the number of the question answered by no.
 pub fn read(
     section: &[u8],
     relocations: &[u64],
@@ -55,14 +93,8 @@ pub fn read(
 ) -> Reading
     ensures { λ r. ⌜ r ≡ read (now (section .entry)) (now (relocations .entry)) kind word k q p ⌝ }
 {
-    if !is_word(word) {
-        return Reading::Refused(11);
-    }
-    if 1 < kind {
-        return Reading::Refused(11);
-    }
-    match locate::locate(section, relocations, kind == 1, word, k) {
-        Locating::Found(l) => rules_at(section, l, word, p, q),
+    match locate(section, relocations, kind, word, k) {
+        Locating::Found(l) => rules_at(section, l, q, p),
         Locating::No(n) => Reading::Refused(n),
     }
 }

@@ -11,7 +11,7 @@ use Rattle.format.specs.Leb.{ulebF, uleb}
 use Rattle.format.specs.Lists.{Landing, landingAt}
 use Rattle.format.specs.Headers.{padding}
 use Rattle.format.specs.CallSites.{siteBytes, sitesBytes, siteTable, sitePad, siteAdded}
-use Rattle.format.specs.Put.{Wrote}
+use Rattle.format.proofs.Wrote.{Wrote}
 use Rattle.format.proofs.Choice.{if-le, if-gt, either}
 use Rattle.format.proofs.Storing as storing
 use Rattle.format.proofs.Storing.{Storing}

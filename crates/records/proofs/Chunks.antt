@@ -4,7 +4,7 @@ use mathlib.Core.List.{List, _++_}
 use Prim.Native.Nat.{ℕ}
 use native.Mathlib.Omega.{arith}
 use lib.ListN.{length-append}
-use Rattle.format.specs.Put.{Wrote}
+use Rattle.format.proofs.Wrote.{Wrote}
 use Rattle.format.proofs.PutLaws.{put-append, kept}
 use Rattle.format.proofs.Storing.{Storing}
 

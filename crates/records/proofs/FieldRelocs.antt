@@ -10,7 +10,8 @@ use lib.ListN.{length, length-append}
 use lib.Dec.{eqb}
 use Rattle.format.specs.Prelude.{pick, each}
 use Rattle.format.specs.Lists.{Function, Landing, Pointer, Relaxed, Relocation, numbersOf}
-use Rattle.format.specs.Headers.{pointerReloc, reloc, exceptTable}
+use Rattle.format.specs.Constants.{exceptTable}
+use Rattle.format.specs.Headers.{pointerReloc, reloc}
 use Rattle.format.specs.Records.{pointerTo, namedReloc, lsdaReloc, sumPair}
 use Rattle.format.proofs.Choice.{if-eq, if-ne}
 use Rattle.lists.specs.declared.Extent.{Extent}

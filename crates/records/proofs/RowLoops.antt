@@ -7,7 +7,7 @@ use mathlib.Core.List.{List, [], _∷_, _++_, append-assoc}
 use lib.ListN.{length, length-append}
 use lib.Dec.{T}
 use Rattle.format.specs.Prelude.{each}
-use Rattle.format.specs.Put.{Wrote}
+use Rattle.format.proofs.Wrote.{Wrote}
 use Rattle.format.specs.Rows.{RowAt, rowBytes, stepBytes, steppedBytes}
 use Rattle.format.specs.Lists.{field, rowStride, rowAt, rowOkAt}
 use Rattle.format.proofs.ListLaws.{each-length, in-range}

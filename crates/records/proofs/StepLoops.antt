@@ -5,7 +5,7 @@ use native.Mathlib.Omega.{arith}
 use mathlib.Core.List.{List, [], _++_}
 use lib.ListN.{length, length-append}
 use Rattle.format.specs.Prelude.{each}
-use Rattle.format.specs.Put.{Wrote}
+use Rattle.format.proofs.Wrote.{Wrote}
 use Rattle.format.specs.Rows.{rowBytes, stepBytes}
 use Rattle.format.specs.Lists.{field, rowStride, rowAt, pairAt, numbersOf}
 use Rattle.format.specs.Records.{stepRelocs}

@@ -7,7 +7,8 @@ use lib.Dec.{eqb}
 use Rattle.format.specs.Prelude.{pick}
 use Rattle.format.specs.Leb.{little}
 use Rattle.format.specs.Lists.{Relocation}
-use Rattle.format.specs.Headers.{counted, pointerBytes, pointerReloc, reloc, exceptTable, debugFrame}
+use Rattle.format.specs.Constants.{exceptTable, debugFrame}
+use Rattle.format.specs.Headers.{counted, pointerBytes, pointerReloc, reloc}
 use Rattle.lists.specs.declared.Extent.{Extent}
 
 -- the length field: a linker fills in that of a function with relaxing labels

@@ -5,7 +5,7 @@ ghost use mathlib.Core.Option.{some};
 ghost use mathlib.Core.List.{[]};
 ghost use Prim.Native.Nat.{_+_, _*_, _^_, _≤_, _<_};
 ghost use lib.ListN.{length, replicate};
-ghost use Rattle.format.specs.Put.{Wrote};
+ghost use Rattle.format.proofs.Wrote.{Wrote};
 ghost use Rattle.format.specs.Prelude.{each};
 ghost use Rattle.format.specs.Leb.{uleb};
 ghost use Rattle.format.specs.Headers.{counted};

@@ -2,7 +2,7 @@
 ghost use mathlib.Core.List.{[], _∷_};
 ghost use Prim.Native.Nat.{_+_, _≤_};
 ghost use lib.ListN.{length};
-ghost use Rattle.format.specs.Put.{Wrote};
+ghost use Rattle.format.proofs.Wrote.{Wrote};
 ghost use Rattle.format.specs.Lists.{numbersOf};
 ghost use Rattle.format.specs.Headers.{reloc};
 

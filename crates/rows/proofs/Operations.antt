@@ -12,7 +12,7 @@ use lib.Seq.{drop-cons}
 use Rattle.format.specs.Prelude.{pick, Read, next}
 use Rattle.format.specs.Leb.{fits64}
 use Rattle.format.specs.Rows.{unfactor, readRegister, inRange, readOffset, readFactored, readSigned, one, two, readOperation}
-use Rattle.format.specs.Positions.{unsignedFrom, signedFrom, decodedFrom, ulebAt, slebAt, littleAt, operationAt}
+use Rattle.format.proofs.Positions.{unsignedFrom, signedFrom, decodedFrom, ulebAt, slebAt, littleAt, operationAt}
 use Rattle.format.specs.declared.Row.the-variants.{DefCfaOffset, Offset, Restore}
 use Rattle.format.specs.declared.Unsigned.the-variants as unsigned
 use Rattle.format.specs.declared.Signed.the-variants as signed

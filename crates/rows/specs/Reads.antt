@@ -7,7 +7,7 @@ use lib.ListN.{length, drop}
 use Rattle.format.specs.Prelude.{pick, Read}
 use Rattle.format.specs.Leb.{readLittle, fits64}
 use Rattle.format.specs.Rows.{readRegister, readOffset, readFactored, readSigned, one, two, readExtended}
-use Rattle.format.specs.Positions.{unsignedFrom, signedFrom, decodedFrom}
+use Rattle.format.proofs.Positions.{unsignedFrom, signedFrom, decodedFrom}
 use Rattle.format.specs.declared.Row.{Row}
 use Rattle.format.specs.declared.Row.the-variants.{DefCfa, DefCfaOffset, DefCfaRegister, Offset, Restore, Undefined}
 use Rattle.format.specs.declared.Operation.the-variants.{Step, Does}

@@ -16,10 +16,10 @@ use Rattle.format.specs.Prelude.{pick}
 use Rattle.format.specs.Put.{put}
 use Rattle.format.specs.Answers.{afterwards}
 use Rattle.format.specs.Questions.{Given, Room, Question, Answer, empty, accepted, unless, givenFunctions, roomAsks, fitting, dwarfAnswer, dwarfGiven, relaxedDebugFrame}
-use Rattle.format.specs.Writer.{Seen, Written, taken, bare, partWith, partOf, partsFrom, partsOf, joined, dwarf, placeIn, alignFor, isEmpty}
+use Rattle.format.specs.Writer.{Seen, Written, taken, withoutExceptions, partWith, partOf, partsFrom, partsOf, joined, dwarf, placeIn, alignFor, isEmpty}
 
 without-landings : (o : Option ℕ) (m : Machine) (align at sites : ℕ) (f : Function) → partWith o Debug m align at sites (taken Debug f) .sites ≡ []
-unfolding partWith taken bare siteAdded
+unfolding partWith taken withoutExceptions siteAdded
 without-landings none m align at sites f = refl
 without-landings (some cie) m align at sites f = refl
 

@@ -14,13 +14,23 @@ use Rattle.format.specs.declared.Outcome.{Outcome}
 use Rattle.format.specs.declared.Outcome.the-variants as outcome
 use Rattle.format.specs.Lists.{numbersOf}
 use Rattle.format.specs.Reader.{read}
-use Rattle.format.specs.Questions.{Given, roomIn, Answer, refused, empty, accepted}
+use Rattle.format.specs.Questions.{roomIn, Answer, refused, empty, accepted}
 use Rattle.format.specs.Answers.{Writes, outcomeOf, afterwards, relocationNumbers, bit}
 use Rattle.format.proofs.ListLaws.{numbers-length}
 use Rattle.format.proofs.PutLaws.{put-none, put-cons, length-put}
-use Rattle.unwind.specs.Entries.{bytesIn, relocsIn}
-use Rattle.unwind.specs.Together.{bytesOf, relocsOf, readingFor}
-use Rattle.unwind.proofs.Together.{FitsIn}
+use Rattle.unwind.specs.Together.{bytesIn, relocsIn, readingFor}
+use Rattle.unwind.proofs.Fitting.{FitsIn}
+
+-- what an answer says was written: nothing, on a refusal or an empty result
+unfoldable pub bytesOf : Answer → List ℕ
+bytesOf (refused n k) = []
+bytesOf empty = []
+bytesOf (accepted w) = w .bytes
+
+unfoldable pub relocsOf : Answer → List ℕ
+relocsOf (refused n k) = []
+relocsOf empty = []
+relocsOf (accepted w) = relocationNumbers w
 
 front-from : (xs : List ℕ) (p : ℕ) (bs : List ℕ) → p + length bs ≤ length xs → take (p + length bs) (put xs p bs) ≡ take p xs ++ bs
 front-from xs p [] h = rw (add-zero, put-none, append-nil) refl
@@ -61,11 +71,11 @@ none-there [] e = refl
 none-there (x ∷ xs) e = absurd (omega arith)
 
 -- the reader on those fronts, with the writer's kind and word
-pub reading-of : (debug : Bool) (g : Given) (a : Answer) (o : Outcome) (bytes relocations : List ℕ) (n m kind word k q p : ℕ) → Fronts a o bytes relocations
-    → n ≡ bytesIn o → m ≡ 5 * relocsIn o → kind ≡ bit debug → word ≡ getD (g .machine) 0 0
-    → read (take n bytes) (take m relocations) kind word k q p ≡ readingFor debug g a k q p
+pub reading-of : (debug : Bool) (machine : List ℕ) (o : Outcome) (bytes relocations : List ℕ) (n m kind word k q p : ℕ)
+    → n ≡ bytesIn o → m ≡ 5 * relocsIn o → kind ≡ bit debug → word ≡ getD machine 0 0
+    → read (take n bytes) (take m relocations) kind word k q p ≡ readingFor debug machine o bytes relocations k q p
 unfolding readingFor
-reading-of debug g a o bytes relocations n m kind word k q p f en em ek ew = rw (en, em, ek, ew, f .bytes-are, f .relocations-are) refl
+reading-of debug machine o bytes relocations n m kind word k q p en em ek ew = rw (en, em, ek, ew) refl
 
 -- the relocations of an accepted list
 pub accepted-relocs : (o : Outcome) (k : Counts) → o ≡ outcome.Accepted k → relocsIn o ≡ k .relocations

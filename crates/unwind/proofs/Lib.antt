@@ -1,7 +1,8 @@
 -- The lemmas of this crate's functions.
 pub mod DebugSites
 pub mod Signs
-pub mod Together
+pub mod Fitting
 pub mod Fronts
+pub mod Demands
 pub mod Formats
 pub mod Delivering

@@ -4,25 +4,12 @@ use Prim.Native.Nat.{ℕ}
 use mathlib.Core.List.{List, [], _∷_}
 use Rattle.format.specs.Questions.{Answer}
 use Rattle.format.specs.Answers.{outcomeOf, outcomeNumbers, afterwards, relocationNumbers}
-use Rattle.format.specs.declared.Outcome.{Outcome}
-use Rattle.format.specs.declared.Outcome.the-variants as outcome
 use Rattle.unwind.specs.declared.Numbers.{Numbers}
 use Rattle.unwind.specs.declared.Written.{Written}
 
 -- the numbers of a reading, in the order of include/unwind.h
 abbrev pub readNumbers : Numbers → List ℕ
-readNumbers r = r .number ∷ r .frame ∷ r .«frame_register» ∷ r .«frame_offset» ∷ r .rule ∷ r .«rule_offset» ∷ r .signing ∷ []
-
--- how many bytes, and how many relocations, an outcome says were written
-unfoldable pub bytesIn : Outcome → ℕ
-bytesIn (outcome.Accepted c) = c .bytes
-bytesIn outcome.Empty = 0
-bytesIn (outcome.Refused n k) = 0
-
-unfoldable pub relocsIn : Outcome → ℕ
-relocsIn (outcome.Accepted c) = c .relocations
-relocsIn outcome.Empty = 0
-relocsIn (outcome.Refused n k) = 0
+readNumbers r = r .number ∷ r .frame ∷ r .«frame_register» ∷ r .«frame_offset» ∷ r .rule ∷ r .«rule_value» ∷ r .signing ∷ []
 
 -- the numbers of an outcome, in the order of include/unwind.h
 abbrev pub writtenNumbers : Written → List ℕ

@@ -1,3 +1,4 @@
--- What the public entries are handed.
-pub mod Entries
+-- What the public entries over lists of numbers promise, beyond crates/format/specs.
+pub mod Demand
 pub mod Together
+pub mod Entries

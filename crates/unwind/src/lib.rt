@@ -8,22 +8,16 @@ ghost use mathlib.Core.List.{[], _∷_};
 ghost use lib.ListN.{getD};
 ghost use mir.Syntax.{w64};
 ghost use mir.Val.{ofZ};
-ghost use Rattle.format.specs.declared.Reading.the-variants.{Rules};
-ghost use Rattle.format.specs.Answers.{frameNumbers, ruleNumbers, readingNumbers, bit, outcomeNumbers, Writes};
-ghost use Rattle.checks.specs.Checks.{checkOf};
-ghost use Rattle.structs.specs.Structs.{rowNumbers, landingNumbers, pairNumbers, functionNumbers, numbersOf};
-ghost use Rattle.structs.specs.Packed.{Packs};
-ghost use Rattle.unwind.specs.Together.{answerFor, readingFor, Demanded};
-ghost use Rattle.unwind.specs.Entries.{readNumbers, writtenNumbers, Exports, bytesIn, relocsIn};
-use format::Frame;
+ghost use Rattle.format.specs.declared.Reading.the-variants.{Answered};
+ghost use Rattle.format.specs.Answers.{cfaNumbers, ruleNumbers, readingNumbers, bit, outcomeNumbers, Writes};
+ghost use Rattle.unwind.specs.Demand.{Demanded};
+ghost use Rattle.unwind.specs.Together.{answerFor, bytesIn, relocsIn, readingFor};
+ghost use Rattle.unwind.specs.Entries.{readNumbers, writtenNumbers, Exports};
+use format::CfaRule;
 use format::Outcome;
 use format::Reading;
 use format::Rule;
 use format::Section;
-use structs::Function;
-use structs::Landing;
-use structs::Pair;
-use structs::RowAt;
 
 // ---- the writers
 
@@ -312,8 +306,8 @@ pub fn write_and_read(
     p: u64,
 ) -> WrittenAndRead
     ensures { λ r. ⌜ Writes (answerFor debug format (givenOf (now (machine .entry)) (now (functions .entry)) (now (rows .entry)) (now (landings .entry)) (now (pairs .entry))) (roomIn (now (places .entry)) (now (bytes .entry)) (now (relocations .entry)) (now (sites .entry)))) (r .outcome) (now (places .entry)) (now (places .exit)) (now (bytes .entry)) (now (bytes .exit)) (now (relocations .entry)) (now (relocations .exit)) (now (sites .entry)) (now (sites .exit)) ⌝ }
-    ensures { λ r. ⌜ r .reading ≡ readingFor debug (givenOf (now (machine .entry)) (now (functions .entry)) (now (rows .entry)) (now (landings .entry)) (now (pairs .entry))) (answerFor debug format (givenOf (now (machine .entry)) (now (functions .entry)) (now (rows .entry)) (now (landings .entry)) (now (pairs .entry))) (roomIn (now (places .entry)) (now (bytes .entry)) (now (relocations .entry)) (now (sites .entry)))) k q p ⌝ }
-    ensures { λ r. ⌜ Demanded debug format (givenOf (now (machine .entry)) (now (functions .entry)) (now (rows .entry)) (now (landings .entry)) (now (pairs .entry))) (answerFor debug format (givenOf (now (machine .entry)) (now (functions .entry)) (now (rows .entry)) (now (landings .entry)) (now (pairs .entry))) (roomIn (now (places .entry)) (now (bytes .entry)) (now (relocations .entry)) (now (sites .entry)))) k q p (r .reading) ⌝ }
+    ensures { λ r. ⌜ r .reading ≡ readingFor debug (now (machine .entry)) (r .outcome) (now (bytes .exit)) (now (relocations .exit)) k q p ⌝ }
+    ensures { λ r. ⌜ Demanded format (givenOf (now (machine .entry)) (now (functions .entry)) (now (rows .entry)) (now (landings .entry)) (now (pairs .entry))) (r .outcome) (now (bytes .exit)) k q p (r .reading) ⌝ }
 {
     let outcome = write(
         debug,
@@ -354,7 +348,7 @@ pub struct Numbers {
     pub frame_register: u64,
     pub frame_offset: u64,
     pub rule: u64,
-    pub rule_offset: u64,
+    pub rule_value: u64,
     pub signing: u64,
 }
 
@@ -397,16 +391,16 @@ fn bits(z: i64) -> u64
     z as u64
 }
 
-fn address_of(c: Frame) -> Address
-    ensures { λ r. ⌜ r .kind ∷ r .register ∷ r .offset ∷ [] ≡ frameNumbers c ⌝ }
+fn address_of(c: CfaRule) -> Address
+    ensures { λ r. ⌜ r .kind ∷ r .register ∷ r .offset ∷ [] ≡ cfaNumbers c ⌝ }
 {
     match c {
-        Frame::Unset => Address {
+        CfaRule::Unset => Address {
             kind: 0,
             register: 0,
             offset: 0,
         },
-        Frame::Register(reg, z) => Address {
+        CfaRule::Register(reg, z) => Address {
             kind: 1,
             register: reg as u64,
             offset: bits(z),
@@ -427,8 +421,8 @@ fn saving_of(r: Rule) -> Saving
     }
 }
 
-fn told(c: Frame, r: Rule, signing: bool) -> Numbers
-    ensures { λ n. ⌜ readNumbers n ≡ readingNumbers (Rules c r signing) ⌝ }
+fn rules_numbers(c: CfaRule, r: Rule, signing: bool) -> Numbers
+    ensures { λ n. ⌜ readNumbers n ≡ readingNumbers (Answered (record { cfa = c; rule = r; signing = signing })) ⌝ }
 {
     let a = address_of(c);
     let b = saving_of(r);
@@ -438,7 +432,7 @@ fn told(c: Frame, r: Rule, signing: bool) -> Numbers
         frame_register: a.register,
         frame_offset: a.offset,
         rule: b.kind,
-        rule_offset: b.offset,
+        rule_value: b.offset,
         signing: number(signing),
     }
 }
@@ -447,14 +441,18 @@ fn numbers_of(r: Reading) -> Numbers
     ensures { λ n. ⌜ readNumbers n ≡ readingNumbers r ⌝ }
 {
     match r {
-        Reading::Rules(c, rule, signing) => told(c, rule, signing),
+        Reading::Answered(rules) => {
+            let cfa = rules.cfa;
+            let rule = rules.rule;
+            rules_numbers(cfa, rule, rules.signing)
+        }
         Reading::Refused(n) => Numbers {
             number: n,
             frame: 0,
             frame_register: 0,
             frame_offset: 0,
             rule: 0,
-            rule_offset: 0,
+            rule_value: 0,
             signing: 0,
         },
     }
@@ -581,66 +579,4 @@ pub extern "C" fn unwind_read(
     ensures { λ r. ⌜ readNumbers r ≡ readingNumbers (read (now (section .entry)) (now (relocations .entry)) kind word k q p) ⌝ }
 {
     numbers_of(read(section, relocations, kind, word, k, q, p))
-}
-
-// ---- lists of structs
-
-// The numbers of a list at the front of a lent list, as the other entries take them: 0, or 54 where they do not fit; so too the
-// next three.
-#[no_mangle]
-pub extern "C" fn unwind_pack_rows(rows: &[RowAt], numbers: &mut [u64]) -> u64
-    ensures { λ r. ⌜ Packs (numbersOf rowNumbers (now (rows .entry))) (now (numbers .entry)) (now (numbers .exit)) r ⌝ }
-{
-    if !structs::fits(rows.len(), 4, numbers.len()) {
-        return 54;
-    }
-    structs::put_rows(rows, numbers, 0);
-    0
-}
-
-#[no_mangle]
-pub extern "C" fn unwind_pack_landings(landings: &[Landing], numbers: &mut [u64]) -> u64
-    ensures { λ r. ⌜ Packs (numbersOf landingNumbers (now (landings .entry))) (now (numbers .entry)) (now (numbers .exit)) r ⌝ }
-{
-    if !structs::fits(landings.len(), 3, numbers.len()) {
-        return 54;
-    }
-    structs::put_landings(landings, numbers, 0);
-    0
-}
-
-#[no_mangle]
-pub extern "C" fn unwind_pack_pairs(pairs: &[Pair], numbers: &mut [u64]) -> u64
-    ensures { λ r. ⌜ Packs (numbersOf pairNumbers (now (pairs .entry))) (now (numbers .entry)) (now (numbers .exit)) r ⌝ }
-{
-    if !structs::fits(pairs.len(), 4, numbers.len()) {
-        return 54;
-    }
-    structs::put_pairs(pairs, numbers, 0);
-    0
-}
-
-#[no_mangle]
-pub extern "C" fn unwind_pack_functions(functions: &[Function], numbers: &mut [u64]) -> u64
-    ensures { λ r. ⌜ Packs (numbersOf functionNumbers (now (functions .entry))) (now (numbers .entry)) (now (numbers .exit)) r ⌝ }
-{
-    if !structs::fits(functions.len(), 18, numbers.len()) {
-        return 54;
-    }
-    structs::put_functions(functions, numbers, 0);
-    0
-}
-
-// Whether the rows state rules at each place, 1 or 0, as unwind_row_check says of the numbers that they mean.
-#[no_mangle]
-pub extern "C" fn unwind_row_check_of(simple: u64, rows: &[RowAt]) -> u64
-    ensures { λ r. ⌜ r ≡ bit (checkOf simple (now (rows .entry))) ⌝ }
-{
-    let mut s = checks::opening(simple);
-    let mut i = 0;
-    while i < rows.len() {
-        s = checks::go(s, rows[i]);
-        i += 1;
-    }
-    checks::answer(s)
 }

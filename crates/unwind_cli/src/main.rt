@@ -4,15 +4,15 @@ ghost use Prim.Native.Nat.{_≤_};
 ghost use lib.ListN.{length};
 ghost use Rattle.io.specs.Counts.{Counts};
 use cursor::Entry;
-use format::Frame;
+use format::CfaRule;
 use format::Reading;
 use format::Rule;
 use libc::STDERR_FILENO;
 use libc::STDOUT_FILENO;
 use listing::View;
-use locate::Located;
-use locate::Locating;
 use numbers::Numbers;
+use reader::location::Located;
+use reader::location::Locating;
 use shown::Parsed;
 use shown::byte;
 use shown::decimal;
@@ -471,11 +471,11 @@ fn dump(file: &[u8], total: usize, s: &[u8], relocs: &[u64], marks: &mut [u8], v
 
 // ---- rules
 
-fn frame(out: &mut [u8], at: usize, f: Frame, x86_64: bool) -> usize {
+fn frame(out: &mut [u8], at: usize, f: CfaRule, x86_64: bool) -> usize {
     let a = text(out, at, b"frame address: ");
     match f {
-        Frame::Unset => text(out, a, b"no rule\n"),
-        Frame::Register(reg, z) => {
+        CfaRule::Unset => text(out, a, b"no rule\n"),
+        CfaRule::Register(reg, z) => {
             let b = shown::register(out, a, reg as u64, x86_64);
             let c = shown::offset(out, b, z);
             byte(out, c, b'\n')
@@ -502,7 +502,10 @@ fn register(out: &mut [u8], at: usize, s: &[u8], l: Located, v: View, p: u64, re
         return a;
     }
     match entries::rules(s, l, v.word, p, reg as u16) {
-        Reading::Rules(_, r, _) => rule(out, a, r),
+        Reading::Answered(rules) => {
+            let r = rules.rule;
+            rule(out, a, r)
+        }
         Reading::Refused(_) => a,
     }
 }
@@ -559,12 +562,13 @@ fn answer(file: &[u8], total: usize, s: &[u8], l: Located, v: View, k: u64, p: u
     }
     match entries::rules(s, l, v.word, p, 0) {
         Reading::Refused(n) => complain_offset(file, k, p, n),
-        Reading::Rules(f, _, on) => {
+        Reading::Answered(rules) => {
             note(s.len(), total);
             let mut out = io::buffer();
-            let a = frame(&mut out, 0, f, v.x86_64);
+            let cfa = rules.cfa;
+            let a = frame(&mut out, 0, cfa, v.x86_64);
             let b = asked_registers(&mut out, a, s, l, v, p, reg);
-            let c = signing(&mut out, b, on);
+            let c = signing(&mut out, b, rules.signing);
             shown::flush(&mut out, c);
         }
     }
@@ -595,7 +599,7 @@ fn found(file: &[u8], total: usize, s: &[u8], relocs: &[u64], v: View, k: u64, p
     if !reader::is_word(v.word) {
         return;
     }
-    match locate::locate(s, relocs, v.debug, v.word, k) {
+    match reader::location::locate(s, relocs, v.debug, v.word, k) {
         Locating::Found(l) => answer(file, total, s, l, v, k, p, reg),
         Locating::No(n) => complain_offset(file, k, p, n),
     }

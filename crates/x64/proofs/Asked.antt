@@ -4,7 +4,7 @@ use Prim.Native.Nat.{ℕ, zero, suc, _+_, _-_, _≤_, _<_}
 use native.Mathlib.Omega.{arith}
 use native.Mathlib.Numerals.{add-one}
 use mathlib.Core.Option.{Option, none, some}
-use Rattle.format.specs.Answers.{questionOf}
+use Rattle.format.proofs.Asked.{questionOf}
 use Rattle.format.specs.declared.Question.the-variants.{Yes, No}
 use Rattle.format.specs.Questions.{Question, andThen, noAt}
 use Rattle.format.proofs.Choice.{if-eq, if-ne}

@@ -7,7 +7,7 @@ use mathlib.Core.List.{List, [], _∷_}
 use lib.Dec.{leb, leb→le}
 use lib.ListN.{length, replicate}
 use Rattle.format.specs.Prelude.{pick}
-use Rattle.format.specs.Put.{Wrote}
+use Rattle.format.proofs.Wrote.{Wrote}
 use Rattle.format.specs.declared.Seh.{Seh}
 use Rattle.format.specs.X64.{codeNo, orNo, firstNo, slots, prologueNo, frameByte, reversed, infoBytes}
 use Rattle.format.proofs.Choice.{if-le, if-gt}

@@ -6,7 +6,8 @@ use native.Mathlib.Numerals.{add-one}
 use mathlib.Core.List.{List, [], _∷_, _++_}
 use lib.ListN.{length, length-append}
 use Rattle.format.specs.Prelude.{each}
-use Rattle.format.specs.Put.{put, Wrote}
+use Rattle.format.specs.Put.{put}
+use Rattle.format.proofs.Wrote.{Wrote}
 use Rattle.format.specs.Lists.{Prologue}
 use Rattle.format.specs.Writer.{joined}
 use Rattle.format.specs.X64.{infoBytes, markersFrom}

@@ -6,7 +6,7 @@ use native.Mathlib.Numerals.{add-one}
 use mathlib.Core.List.{List, [], _∷_, _++_}
 use lib.ListN.{length, length-append}
 use Rattle.format.specs.Prelude.{each}
-use Rattle.format.specs.Put.{Wrote}
+use Rattle.format.proofs.Wrote.{Wrote}
 use Rattle.format.specs.Lists.{Prologue, Relocation, numbersOf}
 use Rattle.format.specs.X64.{runtimeRelocs, runtimeFrom}
 use Rattle.format.proofs.PutLaws.{put-append, kept}

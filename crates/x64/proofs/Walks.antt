@@ -11,7 +11,8 @@ use lib.IntN.{ℤ, pos}
 use mir.Syntax.{w64}
 use mir.Val.{toZ, ofZ}
 use native.Mathlib.Nat.{add-zero}
-use Rattle.format.specs.Put.{put, Wrote}
+use Rattle.format.specs.Put.{put}
+use Rattle.format.proofs.Wrote.{Wrote}
 use Rattle.format.specs.declared.Seh.{Seh}
 use Rattle.format.specs.X64.{codeNo, orNo, firstNo, slots, frameOr, frameByte, reversed}
 use Rattle.format.proofs.PutLaws.{put-none, length-put}

@@ -15,12 +15,14 @@ use Rattle.format.specs.declared.Question as declared
 use Rattle.format.specs.declared.Question.the-variants.{Yes, No}
 use Rattle.format.specs.declared.Outcome.{Outcome}
 use Rattle.format.specs.declared.Outcome.the-variants as outcome
-use Rattle.format.specs.Put.{put, Wrote}
+use Rattle.format.specs.Put.{put}
+use Rattle.format.proofs.Wrote.{Wrote}
 use Rattle.format.specs.Lists.{Function, Prologue, field, functionAt, prologueAt, numbersOf}
 use Rattle.format.specs.X64.{codesOf, prologueOf, markersFrom, runtimeRelocs, runtimeFrom, x64}
 use Rattle.format.specs.Questions.{Question, Room, Answer, accepted, unless, ask, andThen, roomAsks}
 use Rattle.format.proofs.Accepted.{asked as said, both}
-use Rattle.format.specs.Answers.{questionOf, outcomeOf, afterwards, relocationNumbers, Writes}
+use Rattle.format.specs.Answers.{outcomeOf, afterwards, relocationNumbers, Writes}
+use Rattle.format.proofs.Asked.{questionOf}
 use Rattle.format.proofs.ListLaws.{each-length}
 use Rattle.x64.specs.declared.Source.{Source}
 use Rattle.x64.specs.Answers.{namedAt, roomFor, askEach, infosOf, isYes}

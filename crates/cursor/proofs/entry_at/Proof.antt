@@ -2,7 +2,7 @@
 use mathlib.Core.Path.{sym, _∙_}
 use native.Mathlib.Omega.{arith}
 use borrow.Author.Needs.{needs}
-use Rattle.locate.proofs.Entries.{entered}
+use Rattle.reader.proofs.Tiling.{entered}
 use Rattle.cursor.proofs.Steps.{at-end, at-none, at-there}
 use Rattle.cursor.proofs.entry_at.Statement.{statement}
 use Rattle.cursor.proofs.entry_at.Tie as tie

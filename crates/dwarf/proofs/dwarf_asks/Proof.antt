@@ -1,6 +1,6 @@
 -- `dwarf::dwarf_asks` meets its contract.
 use Rattle.format.specs.Prelude.{pick}
-use Rattle.format.specs.Answers.{questionOf}
+use Rattle.format.proofs.Asked.{questionOf}
 use Rattle.format.specs.Questions.{ask, andThen, dwarfAsks}
 use Rattle.format.proofs.FieldsBack.{word-small}
 use Rattle.lists.specs.Extents.{meant}

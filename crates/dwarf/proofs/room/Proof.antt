@@ -1,7 +1,7 @@
 -- `dwarf::room` meets its contract.
 use borrow.Author.Tests.{le-leb, lt-leb}
 use Rattle.format.specs.Prelude.{pick}
-use Rattle.format.specs.Answers.{questionOf}
+use Rattle.format.proofs.Asked.{questionOf}
 use Rattle.format.specs.Questions.{ask, andThen}
 use Rattle.dwarf.specs.Tables.{roomFor}
 use Rattle.dwarf.proofs.room.Statement.{statement}

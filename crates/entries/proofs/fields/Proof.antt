@@ -29,8 +29,8 @@ is-word-requires c κs = search needs
 returns-7 : tie.Need-returns-7
 returns-7 c = search needs
 
-fields-requires : tie.Need-fields-requires
-fields-requires c κs = (rw (sym (c .before .is-word .ensures) ∙ not-false _ (c .if7 .left)) tt, search needs, search needs, search needs, search needs)
+parse-requires : tie.Need-parse-requires
+parse-requires c κs = (rw (sym (c .before .is-word .ensures) ∙ not-false _ (c .if7 .left)) tt, search needs, search needs, search needs, search needs)
 
 returns-8 : tie.Need-returns-8
 returns-8 c = search needs
@@ -47,5 +47,5 @@ fields-spec =
     returns-6
     is-word-requires
     returns-7
-    fields-requires
+    parse-requires
     returns-8)

@@ -23,8 +23,8 @@ is-word-requires c κs = search needs
 returns-5 : tie.Need-returns-5
 returns-5 c = search needs
 
-walk-requires : tie.Need-walk-requires
-walk-requires c κs = (rw (sym (c .before .is-word .ensures) ∙ not-false _ (c .if5 .left)) tt, search needs, search needs, search needs, search needs)
+run-requires : tie.Need-run-requires
+run-requires c κs = (rw (sym (c .before .is-word .ensures) ∙ not-false _ (c .if5 .left)) tt, search needs, search needs, search needs, search needs)
 
 returns-6 : tie.Need-returns-6
 returns-6 c = search needs
@@ -39,5 +39,5 @@ rules-spec =
     returns-4
     is-word-requires
     returns-5
-    walk-requires
+    run-requires
     returns-6)

@@ -4,7 +4,7 @@ use borrow.Author.Tests.{ne-eqb}
 use borrow.Author.Needs.{needs}
 use Rattle.format.specs.Prelude.{pick}
 use Rattle.format.specs.Rows.{readExtended}
-use Rattle.format.specs.Positions.{decodedFrom}
+use Rattle.format.proofs.Positions.{decodedFrom}
 use Rattle.format.specs.declared.Row.the-variants.{RememberState, RestoreState, NegateRaState}
 use Rattle.format.specs.declared.Operation.the-variants.{Nop, Does}
 use Rattle.rows.specs.Reads.{readOperand, registerRow, pairRow, stepAt, registerRowAt, offsetRowAt, pairRowAt, extendedAt}

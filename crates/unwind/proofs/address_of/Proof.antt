@@ -2,7 +2,7 @@
 use mathlib.Core.Path.{refl}
 use native.Mathlib.Omega.{arith}
 use Rattle.rows.proofs.Signs.{passed}
-use Rattle.format.specs.Answers.{frameNumbers}
+use Rattle.format.specs.Answers.{cfaNumbers}
 use borrow.Author.Needs.{needs}
 use Rattle.unwind.proofs.address_of.Statement.{statement}
 use Rattle.unwind.proofs.address_of.Tie as tie
@@ -20,11 +20,11 @@ bits-requires : tie.Need-bits-requires
 bits-requires c κs = search needs
 
 returns : tie.Need-returns
-unfolding frameNumbers
+unfolding cfaNumbers
 returns c = rw (c .enum-told .given .1) refl
 
 returns-2 : tie.Need-returns-2
-unfolding frameNumbers
+unfolding cfaNumbers
 returns-2 c =
     let e = passed (c .before .before .c .given .0 .1 .0) (omega (arith, c .before .known-told .given)) in
     rw (c .before .before .c .given .1, rw e at (c .bits .ensures)) refl

@@ -1,6 +1,6 @@
 -- `unwind::bytes_in` meets its contract.
 use mathlib.Core.Path.{refl}
-use Rattle.unwind.specs.Entries.{bytesIn}
+use Rattle.unwind.specs.Together.{bytesIn}
 use borrow.Author.Needs.{needs}
 use Rattle.unwind.proofs.bytes_in.Statement.{statement}
 use Rattle.unwind.proofs.bytes_in.Tie as tie

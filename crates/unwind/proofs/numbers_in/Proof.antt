@@ -1,7 +1,7 @@
 -- `unwind::numbers_in` meets its contract.
 use mathlib.Core.Path.{refl}
 use native.Mathlib.Omega.{arith}
-use Rattle.unwind.specs.Entries.{relocsIn}
+use Rattle.unwind.specs.Together.{relocsIn}
 use Rattle.unwind.proofs.Fronts.{accepted-relocs}
 use borrow.Author.Needs.{needs}
 use Rattle.unwind.proofs.numbers_in.Statement.{statement}

@@ -2,8 +2,9 @@
 use mathlib.Core.Path.{sym, _∙_}
 use native.Mathlib.Omega.{arith}
 use lib.Seq.{length-take-le}
-use Rattle.unwind.proofs.Together.{answer-fits, demanded, demanded-of}
+use Rattle.unwind.proofs.Fitting.{answer-fits}
 use Rattle.unwind.proofs.Fronts.{fronts, reading-of}
+use Rattle.unwind.proofs.Demands.{demanded}
 use borrow.Author.Needs.{needs}
 use Rattle.unwind.proofs.write_and_read.Statement.{statement}
 use Rattle.unwind.proofs.write_and_read.Tie as tie
@@ -52,9 +53,10 @@ same-length-4 c = search needs
 
 returns : tie.Need-returns
 returns c =
-    let f = fronts _ _ _ _ _ _ _ _ _ _ (c .before .before .before .before .before .before .before .before .before .before .before .before .before .before .before .before .before .write .ensures) (answer-fits _ _ _ _) in
-    let e = c .read .ensures ∙ reading-of _ _ _ _ _ _ _ _ _ _ _ _ _ f (c .before .before .before .before .before .before .before .before .bytes-in .ensures) (c .before .before .before .before .before .before .before .numbers-in .ensures) (c .before .before .number .ensures) (c .before .word-in .ensures) in
-    (c .before .before .before .before .before .before .before .before .before .before .before .before .before .before .before .before .before .write .ensures, (e, demanded-of e (demanded _ _ _ _ _ _ _ (omega (arith, c .before .before .before .before .before .before .before .before .before .before .before .before .before .before .before .before .before .before .before .before .before .before .before .before .before .before .before .before .before .before .before .fits .q .fits)))))
+    let w = c .before .before .before .before .before .before .before .before .before .before .before .before .before .before .before .before .before .write .ensures in
+    let f = fronts _ _ _ _ _ _ _ _ _ _ w (answer-fits _ _ _ _) in
+    let e = c .read .ensures ∙ reading-of _ _ _ _ _ _ _ _ _ _ _ _ (c .before .before .before .before .before .before .before .before .bytes-in .ensures) (c .before .before .before .before .before .before .before .numbers-in .ensures) (c .before .before .number .ensures) (c .before .word-in .ensures) in
+    (w, (e, demanded _ _ _ _ _ _ _ _ _ _ _ (omega (arith, c .before .before .before .before .before .before .before .before .before .before .before .before .before .before .before .before .before .before .before .before .before .before .before .before .before .before .before .before .before .before .before .fits .q .fits)) (w .outcome) f e))
 
 pub write-and-read-spec : {M : Type 1} → statement M
 write-and-read-spec =

@@ -4,7 +4,7 @@ use Rattle.x64.proofs.Asked.{said-yes}
 use Rattle.format.specs.Questions.{roomIn}
 use Rattle.x64.specs.Sources.{tableOf}
 use Rattle.format.specs.Questions.{accepted, roomAsks, fitting}
-use Rattle.format.specs.Answers.{questionOf}
+use Rattle.format.proofs.Asked.{questionOf}
 use mathlib.Core.Path.{sym, ap, _∙_}
 use borrow.Author.Needs.{needs}
 use Rattle.x64.proofs.write.Statement.{statement}

@@ -1,4 +1,0 @@
--- The lemmas of this crate's functions.
-pub mod Meaning
-pub mod Going
-pub mod Agrees

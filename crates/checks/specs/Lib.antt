@@ -1,2 +1,0 @@
--- What the row check of row structs answers.
-pub mod Checks

@@ -1,0 +1,150 @@
+-- A header's fields at positions, from the augmentation data back to the id.
+use mathlib.Core.Path.{_≡_, subst}
+use mathlib.Core.Bool.{Bool, true, false}
+use mathlib.Core.Option.{Option, none}
+use mathlib.Core.List.{List}
+use Prim.Native.Nat.{ℕ, zero, suc, _+_, _≤_, _<_}
+use native.Mathlib.Omega.{arith}
+use borrow.Author.Tests.{ne-eqb, le-leb, lt-leb}
+use lib.ListN.{length, drop, getD}
+use lib.IntN.{ℤ, pos, negℤ, _-ℤ_, +ℤ-idl}
+use lib.Signed.{mag}
+use lib.Dec.{T, eqb}
+use mir.Syntax.{w64}
+use mir.Val.{SFits, ofZ, toZ}
+use mir.Facts.{toZ-pos}
+use Rattle.format.specs.Prelude.{pick, next, after}
+use Rattle.format.proofs.Positions.{ulebAt, slebAt, littleAt}
+use Rattle.format.specs.Machine.{isWord}
+use Rattle.format.specs.Rows.{readRegister, sameOffset}
+use Rattle.format.specs.Headers.{dataFactor}
+use Rattle.format.specs.Reader.{spellings, readLetters, readCounted, lettersIn, HeaderFields, headerTail, require, parseHeader}
+use Rattle.format.specs.declared.Unsigned.the-variants as unsigned
+use Rattle.format.specs.declared.Signed.the-variants as signed
+use Rattle.format.proofs.FieldsBack.{word-small}
+use Rattle.format.proofs.PositionLaws.{uleb-rest, uleb-none, sleb-rest, sleb-none, little-rest, little-none}
+use Rattle.rows.proofs.Signs.{same-bits}
+use Rattle.reader.specs.Spans.{part, numberOf}
+use Rattle.reader.specs.Fields.{Rests, lettersOf, Spells, Counts, CountsIn, Heading, headerFactors}
+use Rattle.reader.specs.declared.entries.Span.{Span}
+use Rattle.reader.specs.declared.entries.Span.the-variants as span
+use Rattle.reader.specs.declared.fields.Promise.{Promise}
+use Rattle.reader.specs.declared.fields.Spelled.{Spelled}
+use Rattle.reader.specs.declared.fields.Spelled.the-variants as spells
+use Rattle.reader.specs.declared.entries.Number.the-variants.{Is, Nothing}
+use Rattle.reader.proofs.Augmentation.{byte-there, byte-none, counts, counts-none}
+use Rattle.reader.proofs.Seeking.{number-is, number-none}
+
+-- ---- the augmentation data, and the operations behind it
+
+module _ (s : List ℕ) (p : ℕ) (debug : Bool) (word : ℕ) (l : Promise) where
+  abbrev tail : Option HeaderFields
+  tail = headerTail debug (lettersOf l) word (drop p s)
+
+  pub tail-debug : debug ≡ true → p ≤ length s → Heading s p 0 (l .signal) tail
+  unfolding headerTail
+  tail-debug d h = record { inside = h; read = rw d }
+
+  module _ (d : debug ≡ false) {r : Span} (m : CountsIn s r (readCounted (drop p s))) where
+    pub tail-none : r ≡ span.Nothing → tail ≡ none
+    unfolding headerTail next
+    tail-none e = rw (d, counts-none s (readCounted (drop p s)) m e)
+
+    module _ {a e : ℕ} (q : r ≡ span.At a e) where
+      pub tail-counts : Counts s a e (readCounted (drop p s))
+      tail-counts = counts s (readCounted (drop p s)) m q
+
+      pub tail-unknown : numberOf (lettersIn (lettersOf l) word (part s a e)) ≡ Nothing → tail ≡ none
+      unfolding headerTail next after
+      tail-unknown w = rw (d, tail-counts .read, number-none _ w)
+
+      pub tail-there : {n : ℕ} → numberOf (lettersIn (lettersOf l) word (part s a e)) ≡ Is n → Heading s e n (l .signal) tail
+      unfolding headerTail next after
+      tail-there w = record { inside = tail-counts .inside; read = rw (d, tail-counts .read, number-is _ w) }
+
+-- ---- the factors and the return address register
+
+module _ (w : ℕ) (t : T (isWord w)) where
+  small : (0 < w) × (w ≤ 8)
+  small = word-small w t
+
+  minus : pos 0 -ℤ toZ w64 w ≡ dataFactor w
+  unfolding dataFactor
+  minus = rw (toZ-pos w64 {n = w} (omega (arith, small .1))) (+ℤ-idl (negℤ (pos w)))
+
+  factor-mag : (w : ℕ) → w ≤ 8 → mag (dataFactor w) < 8
+  unfolding dataFactor
+  factor-mag zero h = omega arith
+  factor-mag (suc w) h = omega arith
+
+  pub factor-fits : SFits w64 (pos 0 -ℤ toZ w64 w)
+  factor-fits = rw minus (record { sfits = omega (arith, factor-mag w (small .1)) })
+
+  pub factor-same : (z : ℤ) → SFits w64 z → eqb (ofZ w64 z) (ofZ w64 (pos 0 -ℤ toZ w64 w)) ≡ sameOffset z (dataFactor w)
+  factor-same z f = rw minus (same-bits z (dataFactor w) (f .sfits) (omega (arith, factor-mag w (small .1))))
+
+module _ (s : List ℕ) (p : ℕ) (debug : Bool) (word : ℕ) (l : Promise) where
+  abbrev factors : Option HeaderFields
+  factors = headerFactors debug (lettersOf l) word (drop p s)
+
+  pub factors-none : ulebAt s p ≡ unsigned.Bad → factors ≡ none
+  unfolding headerFactors next
+  factors-none e = rw (uleb-none s p e)
+
+  module _ {code q : ℕ} (e : ulebAt s p ≡ unsigned.Value code q) where
+    pub factors-code : (code ≡ 1 → ⊥) → factors ≡ none
+    unfolding headerFactors next require pick
+    factors-code n = rw (uleb-rest s p e) (simp (ne-eqb code 1 n))
+
+    module _ (one : code ≡ 1) where
+      pub factors-open : slebAt s q ≡ signed.Bad → factors ≡ none
+      unfolding headerFactors next require pick
+      factors-open f = rw (uleb-rest s p e, one, sleb-none s q f)
+
+      module _ {z : ℤ} {t : ℕ} (f : slebAt s q ≡ signed.Value z t) where
+        pub factors-data : sameOffset z (dataFactor word) ≡ false → factors ≡ none
+        unfolding headerFactors next require pick
+        factors-data g = rw (uleb-rest s p e, one, sleb-rest s q f) (simp g)
+
+        module _ (g : sameOffset z (dataFactor word) ≡ true) where
+          pub factors-unnamed : ulebAt s t ≡ unsigned.Bad → factors ≡ none
+          unfolding headerFactors readRegister next require pick
+          factors-unnamed k = rw (uleb-rest s p e, one, sleb-rest s q f, uleb-none s t k) (simp g)
+
+          module _ {v u : ℕ} (k : ulebAt s t ≡ unsigned.Value v u) where
+            pub factors-over : 0xffff < v → factors ≡ none
+            unfolding headerFactors readRegister next require pick
+            factors-over h = rw (uleb-rest s p e, one, sleb-rest s q f, uleb-rest s t k) (simp (g, lt-leb v 0xffff h))
+
+            pub factors-there : v ≤ 0xffff → factors ≡ headerTail debug (lettersOf l) word (drop u s)
+            unfolding headerFactors readRegister next require pick
+            factors-there h = rw (uleb-rest s p e, one, sleb-rest s q f, uleb-rest s t k) (simp (g, le-leb v 0xffff h))
+
+-- ---- the id, the version and the string
+
+module _ (s : List ℕ) (debug : Bool) (word : ℕ) where
+  pub parse-none : littleAt 4 s 0 ≡ unsigned.Bad → parseHeader debug word s ≡ none
+  unfolding parseHeader next
+  parse-none e = rw (little-none s 0 4 e)
+
+  module _ {id p : ℕ} (e : littleAt 4 s 0 ≡ unsigned.Value id p) where
+    pub parse-ended : length s ≤ p → parseHeader debug word s ≡ none
+    unfolding parseHeader next
+    parse-ended h = rw (little-rest s 0 (omega arith) e, byte-none s p h)
+
+    module _ (h : p < length s) where
+      pub parse-version : (getD s p 0 ≡ 1 → ⊥) → parseHeader debug word s ≡ none
+      unfolding parseHeader next require pick
+      parse-version n = rw (little-rest s 0 (omega arith) e, byte-there s p h) (simp (ne-eqb _ _ n))
+
+      module _ (v : getD s p 0 ≡ 1) {r : Spelled} (m : Spells s r (readLetters (spellings debug) (drop (p + 1) s))) where
+        pub parse-string : r ≡ spells.Nothing → parseHeader debug word s ≡ none
+        unfolding parseHeader next require pick
+        parse-string f =
+            rw (little-rest s 0 (omega arith) e, byte-there s p h, v, subst (λ (r : Spelled). Spells s r (readLetters (spellings debug) (drop (p + 1) s))) f m)
+
+        pub parse-rest : {l : Promise} {q : ℕ} → r ≡ spells.As l q → parseHeader debug word s ≡ headerFactors debug (lettersOf l) word (drop q s)
+        unfolding parseHeader headerFactors next require pick
+        parse-rest {l} {q} f =
+            let k : Rests s (lettersOf l) q (readLetters (spellings debug) (drop (p + 1) s)) = subst (λ (r : Spelled). Spells s r (readLetters (spellings debug) (drop (p + 1) s))) f m in
+            rw (little-rest s 0 (omega arith) e, byte-there s p h, v, k .read)

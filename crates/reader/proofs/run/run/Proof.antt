@@ -1,0 +1,155 @@
+-- `reader::run::run` meets its contract.
+use mathlib.Core.Path.{sym, _∙_}
+use Prim.Native.Nat.{_-_}
+use borrow.Author.Needs.{needs}
+use lib.ListN.{length}
+use Rattle.format.proofs.FieldsBack.{word-small}
+use Rattle.reader.specs.Spans.{part}
+use Rattle.reader.proofs.Operations.{Inside, bad-operation, all-done, shorter, padding, bad-step, far-step, near-step, bad-row, good-row}
+use Rattle.reader.proofs.Both.{remaining, Between, both, begin, enter, again, ended}
+use Rattle.reader.proofs.run.run.Statement.{statement}
+use Rattle.reader.proofs.run.run.Tie as tie
+
+abbrev Inv-operations : tie.InvT-operations
+Inv-operations s header header-end «record» record-end word p q state₀ left from to ops first initial loc₀ at₀ state loc at =
+    Inside (both word p q s header header-end «record» record-end) first word p q initial ops
+    (remaining word p (part s header header-end) (part s «record» record-end) left) at loc state
+
+abbrev μ-operations : tie.MeasureT-operations
+μ-operations s header header-end «record» record-end word p q state₀ left from to ops first initial loc₀ at₀ state loc at = length ops - at
+
+abbrev Inv-records : tie.InvT-records
+Inv-records s header header-end «record» record-end word p q state₀ left₀ from₀ to₀ state left from to =
+    Between (both word p q s header header-end «record» record-end) word p q s header header-end «record» record-end left from to state
+
+abbrev μ-records : tie.MeasureT-records
+μ-records s header header-end «record» record-end word p q state₀ left₀ from₀ to₀ state left from to = left
+
+start-requires : tie.Need-start-requires Inv-operations μ-operations Inv-records μ-records
+start-requires c κs = search needs
+
+records-holds : tie.Need-records-holds Inv-operations μ-operations Inv-records μ-records
+records-holds c = begin (c .before .before .pre .1) (c .before .before .pre .2) (c .start .ensures .0) (c .start .ensures .1)
+
+sub-ops : tie.Need-sub-ops Inv-operations μ-operations Inv-records μ-records
+sub-ops c = search needs
+
+part-ops-start : tie.Need-part-ops-start Inv-operations μ-operations Inv-records μ-records
+part-ops-start c = search needs
+
+part-ops-end : tie.Need-part-ops-end Inv-operations μ-operations Inv-records μ-records
+part-ops-end c = search needs
+
+sub-left : tie.Need-sub-left Inv-operations μ-operations Inv-records μ-records
+sub-left c = search needs
+
+operations-holds : tie.Need-operations-holds Inv-operations μ-operations Inv-records μ-records
+operations-holds c = enter (c .before .before .before .records .inv) (c .before .before .records-test .taken)
+
+records-less : tie.Need-records-less Inv-operations μ-operations Inv-records μ-records
+records-less c = search needs
+
+records-again : tie.Need-records-again Inv-operations μ-operations Inv-records μ-records
+records-again c = again (c .before .before .before .before .before .records .inv) (c .before .before .before .before .records-test .taken) (c .before .before .before .before .before .before .before .before .pre .3) (c .before .before .before .before .before .before .before .before .pre .4) (c .before .operations .inv .held) (c .before .operations .inv .all) (c .before .operations .inv .seen) (all-done (c .before .operations .inv) (c .operations-test .left))
+
+operation-requires : tie.Need-operation-requires Inv-operations μ-operations Inv-records μ-records
+operation-requires c κs = word-small (c .before .before .before .before .before .before .before .before .args .word) (c .before .before .before .before .before .before .before .before .pre .0) .0
+
+enum-known-op : tie.Need-enum-known-op Inv-operations μ-operations Inv-records μ-records
+enum-known-op c = search needs
+
+enum-told : tie.Need-enum-told Inv-operations μ-operations Inv-records μ-records
+enum-told c = search needs
+
+returns : tie.Need-returns Inv-operations μ-operations Inv-records μ-records
+returns c = bad-operation (c .before .before .before .before .operations .inv) (c .before .before .before .operations-test .taken) (sym (c .before .before .operation .ensures) ∙ c .enum-told .given .1)
+
+enum-told-2 : tie.Need-enum-told-2 Inv-operations μ-operations Inv-records μ-records
+enum-told-2 c = search needs
+
+operations-less : tie.Need-operations-less Inv-operations μ-operations Inv-records μ-records
+operations-less c = shorter (c .before .before .before .before .before .before .before .operations .inv) (sym (c .before .before .before .before .before .operation .ensures) ∙ c .before .before .before .op .given .1)
+
+operations-again : tie.Need-operations-again Inv-operations μ-operations Inv-records μ-records
+operations-again c = padding (c .before .before .before .before .before .before .before .operations .inv) (sym (c .before .before .before .before .before .operation .ensures) ∙ c .before .before .before .op .given .1) (c .enum-told2 .given .1)
+
+enum-known-op-2 : tie.Need-enum-known-op-2 Inv-operations μ-operations Inv-records μ-records
+enum-known-op-2 c = search needs
+
+returns-2 : tie.Need-returns-2 Inv-operations μ-operations Inv-records μ-records
+returns-2 c = bad-step (c .before .before .before .before .before .before .before .before .before .operations .inv) (sym (c .before .before .before .before .before .before .before .operation .ensures) ∙ c .before .before .before .before .before .op .given .1) (c .before .before .op2 .given .1) (c .if1 .taken)
+
+sub-if2 : tie.Need-sub-if2 Inv-operations μ-operations Inv-records μ-records
+sub-if2 c = c .before .before .before .before .before .before .before .before .before .operations .inv .near
+
+records-less-2 : tie.Need-records-less-2 Inv-operations μ-operations Inv-records μ-records
+records-less-2 c = search needs
+
+records-again-2 : tie.Need-records-again-2 Inv-operations μ-operations Inv-records μ-records
+records-again-2 c = again (c .before .before .before .before .before .before .before .before .before .before .before .before .before .before .records .inv) (c .before .before .before .before .before .before .before .before .before .before .before .before .before .records-test .taken) (c .before .before .before .before .before .before .before .before .before .before .before .before .before .before .before .before .before .pre .3) (c .before .before .before .before .before .before .before .before .before .before .before .before .before .before .before .before .before .pre .4) (c .before .before .before .before .before .before .before .before .before .before .operations .inv .held) (c .before .before .before .before .before .before .before .before .before .before .operations .inv .all) (c .before .before .before .before .before .before .before .before .before .before .operations .inv .seen) (far-step (c .before .before .before .before .before .before .before .before .before .before .operations .inv) (sym (c .before .before .before .before .before .before .before .before .operation .ensures) ∙ c .before .before .before .before .before .before .op .given .1) (c .before .before .before .op2 .given .1) (c .before .if1 .left) (c .if2 .taken))
+
+add-loc : tie.Need-add-loc Inv-operations μ-operations Inv-records μ-records
+add-loc c = search needs
+
+operations-less-2 : tie.Need-operations-less-2 Inv-operations μ-operations Inv-records μ-records
+operations-less-2 c = shorter (c .before .before .before .before .before .before .before .before .before .before .operations .inv) (sym (c .before .before .before .before .before .before .before .before .operation .ensures) ∙ c .before .before .before .before .before .before .op .given .1)
+
+operations-again-2 : tie.Need-operations-again-2 Inv-operations μ-operations Inv-records μ-records
+operations-again-2 c = near-step (c .before .before .before .before .before .before .before .before .before .before .operations .inv) (sym (c .before .before .before .before .before .before .before .before .operation .ensures) ∙ c .before .before .before .before .before .before .op .given .1) (c .before .before .before .op2 .given .1) (c .before .if1 .left) (c .if2 .left)
+
+enum-known-op-3 : tie.Need-enum-known-op-3 Inv-operations μ-operations Inv-records μ-records
+enum-known-op-3 c = search needs
+
+act-requires : tie.Need-act-requires Inv-operations μ-operations Inv-records μ-records
+act-requires c κs = c .before .before .before .before .before .before .before .before .operations .inv .held
+
+returns-3 : tie.Need-returns-3 Inv-operations μ-operations Inv-records μ-records
+returns-3 c = bad-row (c .before .before .before .before .before .before .before .before .before .before .before .operations .inv) (sym (c .before .before .before .before .before .before .before .before .before .operation .ensures) ∙ c .before .before .before .before .before .before .before .op .given .1) (c .before .before .before .before .op3 .given .1) (c .before .before .act .ensures) (c .if3 .taken)
+
+operations-less-3 : tie.Need-operations-less-3 Inv-operations μ-operations Inv-records μ-records
+operations-less-3 c = shorter (c .before .before .before .before .before .before .before .before .before .before .before .before .operations .inv) (sym (c .before .before .before .before .before .before .before .before .before .before .operation .ensures) ∙ c .before .before .before .before .before .before .before .before .op .given .1)
+
+operations-again-3 : tie.Need-operations-again-3 Inv-operations μ-operations Inv-records μ-records
+operations-again-3 c = good-row (c .before .before .before .before .before .before .before .before .before .before .before .before .operations .inv) (sym (c .before .before .before .before .before .before .before .before .before .before .operation .ensures) ∙ c .before .before .before .before .before .before .before .before .op .given .1) (c .before .before .before .before .before .op3 .given .1) (c .before .before .before .act .ensures) (c .before .if3 .left)
+
+returns-4 : tie.Need-returns-4 Inv-operations μ-operations Inv-records μ-records
+returns-4 c = ended (c .before .before .records .inv) (c .before .records-test .left)
+
+pub run-spec : {M : Type 1} → statement M
+run-spec =
+    tie.close
+    (tie.spec
+    Inv-operations
+    μ-operations
+    Inv-records
+    μ-records
+    start-requires
+    records-holds
+    sub-ops
+    part-ops-start
+    part-ops-end
+    sub-left
+    operations-holds
+    records-less
+    records-again
+    operation-requires
+    enum-known-op
+    enum-told
+    returns
+    enum-told-2
+    operations-less
+    operations-again
+    enum-known-op-2
+    returns-2
+    sub-if2
+    records-less-2
+    records-again-2
+    add-loc
+    operations-less-2
+    operations-again-2
+    enum-known-op-3
+    act-requires
+    returns-3
+    operations-less-3
+    operations-again-3
+    returns-4)

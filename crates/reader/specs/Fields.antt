@@ -1,0 +1,105 @@
+-- The fields of a header and of a record by positions: what was read, and where the rest stands.
+use mathlib.Core.Path.{_≡_}
+use Prim.Native.Nat.{ℕ, _≤_}
+use mathlib.Core.Bool.{Bool, true, false}
+use mathlib.Core.Option.{Option, none, some}
+use mathlib.Core.List.{List, [], _∷_}
+use lib.ListN.{length, drop}
+use lib.Dec.{eqb}
+use Rattle.format.specs.Prelude.{Read, next}
+use Rattle.format.specs.Leb.{readUleb, readSleb}
+use Rattle.format.specs.Rows.{readRegister, sameOffset}
+use Rattle.format.specs.Headers.{dataFactor}
+use Rattle.format.specs.Reader.{Letters, Spelling, spelled, HeaderFields, require, headerTail, RecordFields}
+use Rattle.format.specs.declared.Unsigned.{Unsigned}
+use Rattle.format.specs.declared.Unsigned.the-variants as unsigned
+use Rattle.reader.specs.Spans.{part}
+use Rattle.reader.specs.declared.entries.Number.{Number}
+use Rattle.reader.specs.declared.entries.Number.the-variants as number
+use Rattle.reader.specs.declared.entries.Span.{Span}
+use Rattle.reader.specs.declared.entries.Span.the-variants as span
+use Rattle.reader.specs.declared.fields.Promise.{Promise}
+use Rattle.reader.specs.declared.fields.Spelled.{Spelled}
+use Rattle.reader.specs.declared.fields.Spelled.the-variants as spells
+use Rattle.reader.specs.declared.fields.Header.{Header}
+use Rattle.reader.specs.declared.fields.Header.the-variants as header
+use Rattle.reader.specs.declared.fields.Record.{Record}
+use Rattle.reader.specs.declared.fields.Record.the-variants as row
+
+-- a value, and at position q the rest
+pub record Rests {A : Type 0} (s : List ℕ) (v : A) (q : ℕ) (x : Read A) : Type 0 where
+  pub inside : q ≤ length s
+  pub read : x ≡ some (v, drop q s)
+
+-- ---- the augmentation string
+
+-- what the code's struct says
+abbrev pub lettersOf : Promise → Letters
+lettersOf p = record { personality = p .personality; lsda = p .lsda; signal = p .signal }
+
+-- a string, and the one that marks a signal frame
+abbrev pub twoOf : (plain signal : List ℕ) (personality lsda : Bool) → List Spelling
+twoOf plain signal personality lsda = spelled plain personality lsda false ∷ spelled signal personality lsda true ∷ []
+
+-- a string's letters and the position past it, or none
+abbrev pub Spells : List ℕ → Spelled → Read Letters → Type 0
+Spells s (spells.As p q) x = Rests s (lettersOf p) q x
+Spells s spells.Nothing x = x ≡ none
+
+-- ---- the augmentation data
+
+-- bytes from `at` up to `end`, and the rest
+pub record Counts (s : List ℕ) (at end : ℕ) (x : Read (List ℕ)) : Type 0 where
+  pub ordered : at ≤ end
+  pub inside : end ≤ length s
+  pub read : x ≡ some (part s at end, drop end s)
+
+-- these, or none
+abbrev pub CountsIn : List ℕ → Span → Read (List ℕ) → Type 0
+CountsIn s (span.At at end) x = Counts s at end x
+CountsIn s span.Nothing x = x ≡ none
+
+-- something is skipped, and the rest stands at position q
+pub record Skips (s : List ℕ) (q : ℕ) (x : Option (List ℕ)) : Type 0 where
+  pub inside : q ≤ length s
+  pub rest : x ≡ some (drop q s)
+
+-- that position, or none
+abbrev pub SkipsTo : List ℕ → Number → Option (List ℕ) → Type 0
+SkipsTo s (number.Is q) x = Skips s q x
+SkipsTo s number.Nothing x = x ≡ none
+
+-- a number and the position past it, or none
+abbrev pub Numbers : List ℕ → Unsigned → Read ℕ → Type 0
+Numbers s (unsigned.Value v q) x = Rests s v q x
+Numbers s unsigned.Bad x = x ≡ none
+
+-- ---- a header
+
+-- its fields, with the operations at position q
+pub record Heading (s : List ℕ) (q pointer : ℕ) (signal : Bool) (x : Option HeaderFields) : Type 0 where
+  pub inside : q ≤ length s
+  pub read : x ≡ some (record { pointer = pointer; signal = signal; operations = drop q s })
+
+-- these, or none
+abbrev pub Heads : List ℕ → Header → Option HeaderFields → Type 0
+Heads s (header.Fields q pointer signal) x = Heading s q pointer signal x
+Heads s header.Bad x = x ≡ none
+
+-- from the code alignment factor on
+unfoldable pub headerFactors : (debug : Bool) → Letters → ℕ → List ℕ → Option HeaderFields
+headerFactors debug l word bs =
+    next (readUleb bs) λ code r₃. require (eqb code 1)
+    (next (readSleb r₃) λ z r₄. require (sameOffset z (dataFactor word)) (next (readRegister r₄) λ ra r₅. headerTail debug l word r₅))
+
+-- ---- a record
+
+-- its fields, with the operations at position q
+pub record Recording (s : List ℕ) (q size : ℕ) (x : Option RecordFields) : Type 0 where
+  pub inside : q ≤ length s
+  pub read : x ≡ some (record { size = size; operations = drop q s })
+
+-- these, or none
+abbrev pub Records : List ℕ → Record → Option RecordFields → Type 0
+Records s (row.Fields q size) x = Recording s q size x
+Records s row.Bad x = x ≡ none

@@ -1,0 +1,332 @@
+// The fields of headers and records: question 64. Ported from rucc-asm/src/unwind.rs (pointer_size) of tamnd/rucc, changed: see NOTICE; the rest is added.
+ghost use mathlib.Core.Path.{_≡_};
+ghost use Prim.Native.Nat.{_≤_};
+ghost use lib.ListN.{length, drop};
+ghost use lib.Dec.{T};
+ghost use Rattle.format.specs.Questions.{isSome};
+ghost use Rattle.format.specs.Reader.{strip, spellings, readLetters, readCounted, personalityIn, lsdaIn, lettersIn, headerTail, parseHeader, recordTail, parseRecord};
+ghost use Rattle.format.specs.Prelude.{pick};
+ghost use Rattle.format.specs.Machine.{isWord};
+ghost use Rattle.format.specs.Rows.{sameOffset};
+ghost use Rattle.format.specs.Headers.{sizeOf, pointerSize, dataFactor};
+ghost use Rattle.reader.specs.Spans.{numberOf};
+ghost use Rattle.reader.specs.Fields.{lettersOf, twoOf, Spells, CountsIn, SkipsTo, Numbers, Heads, headerFactors, Records};
+use crate::entries::Number;
+use crate::entries::Span;
+use format::Signed;
+use format::Unsigned;
+
+// ---- the augmentation string of a header
+
+// What the string promises: a personality, a pointer to call sites, a signal frame.
+struct Promise {
+    personality: bool,
+    lsda: bool,
+    signal: bool,
+}
+
+// What a string promises, and the position past it.
+enum Spelled {
+    As(Promise, usize),
+    Nothing,
+}
+
+// The bytes of `text` stand at `at`.
+fn stands(s: &[u8], at: usize, text: &[u8]) -> bool
+    ensures { λ r. ⌜ r ≡ isSome (strip (now (text .entry)) (drop at (now (s .entry)))) ⌝ }
+{
+    let mut i = 0;
+    let mut next = at;
+    while i < text.len() {
+        if s.len() <= next {
+            return false;
+        }
+        if text[i] != s[next] {
+            return false;
+        }
+        i += 1;
+        next += 1;
+    }
+    true
+}
+
+fn promised(personality: bool, lsda: bool, signal: bool) -> Promise
+    ensures { λ r. ⌜ r ≡ record { personality = personality; lsda = lsda; signal = signal } ⌝ }
+{
+    Promise {
+        personality,
+        lsda,
+        signal,
+    }
+}
+
+// One string, or the one that marks a signal frame.
+fn marked(
+    s: &[u8],
+    at: usize,
+    plain: &[u8],
+    signal: &[u8],
+    personality: bool,
+    lsda: bool,
+) -> Spelled
+    requires { ⌜ at ≤ length (now s) ⌝ }
+    ensures { λ r. ⌜ Spells (now (s .entry)) r (readLetters (twoOf (now (plain .entry)) (now (signal .entry)) personality lsda) (drop at (now (s .entry)))) ⌝ }
+{
+    if stands(s, at, plain) {
+        return Spelled::As(promised(personality, lsda, false), at + plain.len());
+    }
+    if stands(s, at, signal) {
+        return Spelled::As(promised(personality, lsda, true), at + signal.len());
+    }
+    Spelled::Nothing
+}
+
+// The string at `at`, one of the source's.
+fn letters(s: &[u8], at: usize, debug: bool) -> Spelled
+    requires { ⌜ at ≤ length (now s) ⌝ }
+    ensures { λ r. ⌜ Spells (now (s .entry)) r (readLetters (spellings debug) (drop at (now (s .entry)))) ⌝ }
+{
+    if debug {
+        return marked(s, at, b"\0", b"S\0", false, false);
+    }
+    if let Spelled::As(p, past) = marked(s, at, b"zR\0", b"zRS\0", false, false) {
+        return Spelled::As(p, past);
+    }
+    if let Spelled::As(p, past) = marked(s, at, b"zPR\0", b"zPRS\0", true, false) {
+        return Spelled::As(p, past);
+    }
+    marked(s, at, b"zPLR\0", b"zPLRS\0", true, true)
+}
+
+// ---- encodings
+
+// How many bytes a pointer has, where its encoding is accepted.
+fn size_of(word: u64, e: u8) -> Number
+    ensures { λ r. ⌜ r ≡ numberOf (sizeOf word e) ⌝ }
+{
+    match e {
+        0x00 => Number::Is(word as usize),
+        0x03 => Number::Is(4),
+        0x0b => Number::Is(4),
+        0x13 => Number::Is(4),
+        0x1b => Number::Is(4),
+        0x04 => Number::Is(8),
+        0x0c => Number::Is(8),
+        _ => Number::Nothing,
+    }
+}
+
+// The indirect bit is taken for a personality only.
+fn pointer_size(indirect: bool, word: u64, e: u8) -> Number
+    ensures { λ r. ⌜ r ≡ numberOf (pointerSize indirect word e) ⌝ }
+{
+    if e < 128 {
+        return size_of(word, e % 128);
+    }
+    if indirect {
+        return size_of(word, e % 128);
+    }
+    Number::Nothing
+}
+
+// ---- augmentation data
+
+// A length and as many bytes: where these start and end.
+fn counted(s: &[u8], at: usize) -> Span
+    ensures { λ r. ⌜ CountsIn (now (s .entry)) r (readCounted (drop at (now (s .entry)))) ⌝ }
+{
+    let Unsigned::Value(n, start) = leb::read_uleb(s, at) else {
+        return Span::Nothing;
+    };
+    if s.len() - start < n as usize {
+        return Span::Nothing;
+    }
+    Span::At(start, start + n as usize)
+}
+
+// The position past the personality's encoding and pointer, where there is one `here`.
+fn personality_in(s: &[u8], here: bool, word: u64) -> Number
+    ensures { λ r. ⌜ SkipsTo (now (s .entry)) r (personalityIn here word (now (s .entry))) ⌝ }
+{
+    if !here {
+        return Number::Is(0);
+    }
+    if s.len() == 0 {
+        return Number::Nothing;
+    }
+    let Number::Is(n) = pointer_size(true, word, s[0]) else {
+        return Number::Nothing;
+    };
+    if s.len() - 1 < n {
+        return Number::Nothing;
+    }
+    Number::Is(1 + n)
+}
+
+// The bytes of a record's pointer to call sites by the encoding at `at`, none where there is no encoding `here`.
+fn lsda_in(s: &[u8], at: usize, here: bool, word: u64) -> Unsigned
+    requires { ⌜ at ≤ length (now s) ⌝ }
+    ensures { λ r. ⌜ Numbers (now (s .entry)) r (lsdaIn here word (drop at (now (s .entry)))) ⌝ }
+{
+    if !here {
+        return Unsigned::Value(0, at);
+    }
+    if s.len() <= at {
+        return Unsigned::Bad;
+    }
+    let Number::Is(n) = pointer_size(false, word, s[at]) else {
+        return Unsigned::Bad;
+    };
+    Unsigned::Value(n as u64, at + 1)
+}
+
+// The data that the string promises, the records' own encoding last: the bytes of a record's pointer to call sites.
+fn letters_in(s: &[u8], word: u64, p: Promise) -> Number
+    ensures { λ r. ⌜ r ≡ numberOf (lettersIn (lettersOf p) word (now (s .entry))) ⌝ }
+{
+    let Number::Is(at) = personality_in(s, p.personality, word) else {
+        return Number::Nothing;
+    };
+    let Unsigned::Value(n, last) = lsda_in(s, at, p.lsda, word) else {
+        return Number::Nothing;
+    };
+    if s.len() <= last {
+        return Number::Nothing;
+    }
+    if s[last] != 0x1b {
+        return Number::Nothing;
+    }
+    Number::Is(n as usize)
+}
+
+// ---- the fields of a header
+
+// Where the operations start, the bytes of a record's pointer to call sites, and the signal mark.
+pub enum Header {
+    Fields(usize, u64, bool),
+    Bad,
+}
+
+// The augmentation data, of which debug_frame has none; the operations follow it.
+fn header_tail(s: &[u8], at: usize, debug: bool, word: u64, p: Promise) -> Header
+    requires { ⌜ at ≤ length (now s) ⌝ }
+    ensures { λ r. ⌜ Heads (now (s .entry)) r (headerTail debug (lettersOf p) word (drop at (now (s .entry)))) ⌝ }
+{
+    if debug {
+        return Header::Fields(at, 0, p.signal);
+    }
+    let Span::At(start, end) = counted(s, at) else {
+        return Header::Bad;
+    };
+    let Number::Is(n) = letters_in(&s[start..end], word, p) else {
+        return Header::Bad;
+    };
+    Header::Fields(end, n as u64, p.signal)
+}
+
+// The data alignment factor is minus the word.
+fn factor_ok(z: i64, word: u64) -> bool
+    requires { ⌜ T (isWord word) ⌝ }
+    ensures { λ r. ⌜ r ≡ sameOffset z (dataFactor word) ⌝ }
+{
+    z == 0 - word as i64
+}
+
+// From the code alignment factor on.
+fn header_factors(s: &[u8], at: usize, debug: bool, word: u64, p: Promise) -> Header
+    requires { ⌜ T (isWord word) ⌝ }
+    ensures { λ r. ⌜ Heads (now (s .entry)) r (headerFactors debug (lettersOf p) word (drop at (now (s .entry)))) ⌝ }
+{
+    let Unsigned::Value(code, data) = leb::read_uleb(s, at) else {
+        return Header::Bad;
+    };
+    if code != 1 {
+        return Header::Bad;
+    }
+    let Signed::Value(z, ret) = leb::read_sleb(s, data) else {
+        return Header::Bad;
+    };
+    if !factor_ok(z, word) {
+        return Header::Bad;
+    }
+    let Unsigned::Value(reg, tail) = leb::read_uleb(s, ret) else {
+        return Header::Bad;
+    };
+    if 0xffff < reg {
+        return Header::Bad;
+    }
+    header_tail(s, tail, debug, word, p)
+}
+
+// Question 64 of a header, by the bytes behind its length.
+pub fn parse_header(s: &[u8], debug: bool, word: u64) -> Header
+    requires { ⌜ T (isWord word) ⌝ }
+    ensures { λ r. ⌜ Heads (now (s .entry)) r (parseHeader debug word (now (s .entry))) ⌝ }
+{
+    let Unsigned::Value(_, at) = leb::read_le(s, 0, 4) else {
+        return Header::Bad;
+    };
+    if s.len() <= at {
+        return Header::Bad;
+    }
+    if s[at] != 1 {
+        return Header::Bad;
+    }
+    let Spelled::As(p, past) = letters(s, at + 1, debug) else {
+        return Header::Bad;
+    };
+    header_factors(s, past, debug, word, p)
+}
+
+// ---- the fields of a record
+
+// Where the operations start, and the function's length.
+pub enum Record {
+    Fields(usize, u64),
+    Bad,
+}
+
+// The augmentation of a record holds its pointer to call sites.
+fn record_tail(s: &[u8], at: usize, debug: bool, pointer: u64, size: u64) -> Record
+    requires { ⌜ at ≤ length (now s) ⌝ }
+    ensures { λ r. ⌜ Records (now (s .entry)) r (recordTail debug pointer size (drop at (now (s .entry)))) ⌝ }
+{
+    if debug {
+        return Record::Fields(at, size);
+    }
+    let Span::At(start, end) = counted(s, at) else {
+        return Record::Bad;
+    };
+    if ((end - start) as u64) < pointer {
+        return Record::Bad;
+    }
+    Record::Fields(end, size)
+}
+
+// The bytes of a function's place and of its length.
+fn field_size(debug: bool, word: u64) -> u64
+    ensures { λ r. ⌜ r ≡ pick debug word 4 ⌝ }
+{
+    if debug {
+        return word;
+    }
+    4
+}
+
+// Question 64 of a record, by the bytes behind its length.
+pub fn parse_record(s: &[u8], debug: bool, word: u64, pointer: u64) -> Record
+    requires { ⌜ T (isWord word) ⌝ }
+    ensures { λ r. ⌜ Records (now (s .entry)) r (parseRecord debug word pointer (now (s .entry))) ⌝ }
+{
+    let n = field_size(debug, word) as usize;
+    let Unsigned::Value(_, place) = leb::read_le(s, 0, 4) else {
+        return Record::Bad;
+    };
+    let Unsigned::Value(_, length) = leb::read_le(s, place, n) else {
+        return Record::Bad;
+    };
+    let Unsigned::Value(size, tail) = leb::read_le(s, length, n) else {
+        return Record::Bad;
+    };
+    record_tail(s, tail, debug, pointer, size)
+}

@@ -1,7 +1,0 @@
--- Laws of the structs as numbers, and what the walks by hand have in common.
-pub mod Signs
-pub mod Rooms
-pub mod Stored
-pub mod Strides
-pub mod Lending
-pub mod Walking

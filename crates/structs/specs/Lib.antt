@@ -1,3 +1,0 @@
--- What the structs mean, and how lists of them are stored as numbers.
-pub mod Structs
-pub mod Packed

@@ -1,2 +1,0 @@
--- What the entries over lists of structs answer.
-pub mod Whole
