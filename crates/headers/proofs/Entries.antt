@@ -21,9 +21,9 @@ close {xs} {ys} {zs} {start} {at} {align} a b = record {
   stored = b .stored ∙ rw (a .stored);
 }
 
-module _ {xs ys : List ℕ} {start at : ℕ} (align : ℕ) (body : List ℕ) (w : Wrote xs ys start at (little 4 0 ++ body)) where
+module _ {xs ys : List ℕ} {start at : ℕ} (align : ℕ) (body : List ℕ) (w : Wrote xs ys start at (_++_ {A = ℕ} (replicate 4 0) body)) where
   body-past : at ≡ start + 4 + length body
-  body-past = omega (arith, w .past, length-append (little 4 0) body, little-length 4 0)
+  body-past = omega (arith, w .past, length-append {A = ℕ} (replicate 4 0) body)
 
   -- what `pad` requires
   pub closes : start + length (entry (padded align start body)) ≤ length xs → (start + 4 ≤ at) × (at + padding align at ≤ length ys)
@@ -40,4 +40,4 @@ module _ {xs ys : List ℕ} {start at : ℕ} (align : ℕ) (body : List ℕ) (w 
       let filled : Wrote ys (put ys at zeros) at r zeros = record { past = omega (arith, c .past, length-replicate {A = ℕ} (padding align at) 0); stored = refl } in
       let size : Wrote (put ys at zeros) zs start (start + 4) (little 4 (r - start - 4)) = record { past = rw little-length; stored = c .stored } in
       rw (← e, ← n)
-      (again (little 4 0) (little 4 (r - start - 4)) (body ++ zeros) (simp little-length) (rw append-assoc at (w then filled)) size)
+      (again (replicate 4 0) (little 4 (r - start - 4)) (body ++ zeros) (simp little-length) (rw append-assoc at (w then filled)) size)

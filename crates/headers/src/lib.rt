@@ -358,7 +358,7 @@ pub fn header(
     requires { ⌜ Sound m e (now rows) × EncodingFits e × Aligned align × (at + length (headerBytes debug m align at (keyIn m e (now rows))) ≤ length (now out)) ⌝ }
     ensures { λ r. ⌜ Wrote (now (out .entry)) (now (out .exit)) at r (headerBytes debug m align at (keyIn m e (now (rows .entry)))) ⌝ }
 {
-    let a = leb::le(out, at, 4, 0);
+    let a = leb::fill(out, at, 4);
     let b = fields(out, a, debug, m, e);
     let c = starts(out, b, m, e, rows);
     pad(out, at, c, align)

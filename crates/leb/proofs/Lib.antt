@@ -5,3 +5,4 @@ pub mod Sizes
 pub mod GroupLoop
 pub mod Readings
 pub mod FieldLoop
+pub mod Zeros

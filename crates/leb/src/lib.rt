@@ -1,7 +1,7 @@
 // Numbers as bytes in a lent buffer, and read back. Ported from rucc-asm/src/unwind.rs (uleb, sleb) of tamnd/rucc, changed: see NOTICE.
 ghost use mathlib.Core.Path.{_≡_};
 ghost use mathlib.Core.List.{[], _∷_};
-ghost use Prim.Native.Nat.{_+_, _*_, _^_, _≤_, _<_};
+ghost use Prim.Native.Nat.{_+_, _*_, _/_, _%_, _^_, _≤_, _<_};
 ghost use lib.ListN.{length, replicate};
 ghost use lib.Signed.{mag};
 ghost use Rattle.format.proofs.Wrote.{Wrote};
@@ -99,12 +99,58 @@ pub fn le(out: &mut [u8], at: usize, n: usize, v: u64) -> usize
     i
 }
 
+// Zeros, four in a turn, while four or more of n are left. It answers its turns.
+fn fill_fours(out: &mut [u8], at: usize, n: usize) -> usize
+    requires { ⌜ at + n ≤ length (now out) ⌝ }
+    ensures { λ r. ⌜ (r ≡ n / 4) × Wrote (now (out .entry)) (now (out .exit)) at (at + 4 * r) (replicate (4 * r) 0) ⌝ }
+{
+    let mut i = at;
+    let mut left = n;
+    let mut turns = 0;
+    while 4 <= left {
+        out[i] = 0;
+        out[i + 1] = 0;
+        out[i + 2] = 0;
+        out[i + 3] = 0;
+        i += 4;
+        left -= 4;
+        turns += 1;
+    }
+    turns
+}
+
+// n zeros, one in a turn. It answers its turns.
+fn fill_ones(out: &mut [u8], at: usize, n: usize) -> usize
+    requires { ⌜ at + n ≤ length (now out) ⌝ }
+    ensures { λ r. ⌜ (r ≡ n) × Wrote (now (out .entry)) (now (out .exit)) at (at + n) (replicate n 0) ⌝ }
+{
+    let mut i = at;
+    let mut turns = 0;
+    while turns < n {
+        out[i] = 0;
+        i += 1;
+        turns += 1;
+    }
+    turns
+}
+
+// The core of `fill`: four zeros in a turn, then the remainder singly. It answers its turns.
+fn fill_turns(out: &mut [u8], at: usize, n: usize) -> usize
+    requires { ⌜ at + n ≤ length (now out) ⌝ }
+    ensures { λ r. ⌜ (r ≡ n / 4 + n % 4) × Wrote (now (out .entry)) (now (out .exit)) at (at + n) (replicate n 0) ⌝ }
+{
+    let fours = fill_fours(out, at, n);
+    let ones = fill_ones(out, at + 4 * fours, n - 4 * fours);
+    fours + ones
+}
+
 // n zeros: padding, and blanks that a linker or a later store fills in.
 pub fn fill(out: &mut [u8], at: usize, n: usize) -> usize
     requires { ⌜ at + n ≤ length (now out) ⌝ }
     ensures { λ r. ⌜ Wrote (now (out .entry)) (now (out .exit)) at r (replicate n 0) ⌝ }
 {
-    le(out, at, n, 0)
+    fill_turns(out, at, n);
+    at + n
 }
 
 // How many bytes uleb writes.

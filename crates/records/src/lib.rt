@@ -213,7 +213,7 @@ fn debug_record(out: &mut [u8], at: usize, word: u64, e: Extent) -> usize
     requires { ⌜ (word ≤ 8) × (at + 4 + 2 * word ≤ length (now out)) ⌝ }
     ensures { λ r. ⌜ Wrote (now (out .entry)) (now (out .exit)) at r (fieldsIn true word 0 e) ⌝ }
 {
-    let a = leb::le(out, at, 4, 0);
+    let a = leb::fill(out, at, 4);
     let b = leb::fill(out, a, word as usize);
     leb::le(out, b, word as usize, size_field(e))
 }
@@ -274,7 +274,7 @@ pub fn record(
     ensures { λ r. ⌜ Wrote (now (out .entry)) (now (out .exit)) at r (recordBytes debug m align at cie (bodyOf e (now (rows .entry)))) ⌝ }
 {
     let k = leading::ahead(rows, e.rows_at, e.rows);
-    let a = leb::le(out, at, 4, 0);
+    let a = leb::fill(out, at, 4);
     let b = fields(out, a, debug, m.word, (at + 4 - cie) as u64, e);
     let c = stepped_rows(out, b, m.word, rows, e.rows_at + k, e.rows - k);
     headers::pad(out, at, c, align)
