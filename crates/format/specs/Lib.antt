@@ -10,6 +10,7 @@ pub mod Headers
 pub mod CallSites
 pub mod Records
 pub mod X64
+pub mod X64Reader
 pub mod Questions
 pub mod Writer
 pub mod Rules
