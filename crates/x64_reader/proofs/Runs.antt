@@ -20,14 +20,14 @@ use Rattle.x64_reader.specs.Reads.{fieldNumbers, CodeThere, orFrame, cou
 -- ---- one step of the definition
 
 module _ (frame : ℕ) where
-  codes-step : (fuel : ℕ) (cs : List (ℕ × Seh)) (bs : List ℕ) → 0 < fuel → 0 < length bs
+  pub codes-step : (fuel : ℕ) (cs : List (ℕ × Seh)) (bs : List ℕ) → 0 < fuel → 0 < length bs
       → readCodesF fuel frame cs bs ≡ next (readCode frame bs) (λ c rest. readCodesF (fuel - 1) frame (c ∷ cs) rest)
   unfolding readCodesF
   codes-step zero cs bs h l = absurd (omega arith)
   codes-step (suc f) cs [] h l = absurd (omega arith)
   codes-step (suc f) cs (b ∷ bs) h l = let e : suc f - 1 ≡ f = omega arith in rw e
 
-  codes-done : (fuel : ℕ) (cs : List (ℕ × Seh)) → 0 < fuel → readCodesF fuel frame cs [] ≡ some cs
+  pub codes-done : (fuel : ℕ) (cs : List (ℕ × Seh)) → 0 < fuel → readCodesF fuel frame cs [] ≡ some cs
   unfolding readCodesF
   codes-done zero cs h = absurd (omega arith)
   codes-done (suc f) cs h = refl
