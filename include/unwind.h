@@ -52,6 +52,10 @@ extern "C" {
  *   67 a state to restore, no Restore in a header   68 at most 16 states stored   69 a frame address rule to change
  *   76 x64 header: version 1, no flags, all four bytes and all slots there   77 x64 codes: complete, operations that unwind_seh writes */
 
+/* The ready x86-64 (System V psABI) at the front of a lent list of 70 numbers or more: 0, or 54 where there are fewer, and the list
+ * is then as it was. */
+uint64_t unwind_machine_x86_64(uint64_t *machine, size_t machine_n);
+
 /* What a writer answers. `number` is 0 where the call was accepted, and where the result is empty: of an empty list, Wasm,
  * Plan 9, and debug_frame in any format but ELF. Else it is the question's, and `position` is the function's, from 0 (0 for 11
  * to 13 and 51 to 54). The counts are 0 on a refusal; relocations are counted in fives. */

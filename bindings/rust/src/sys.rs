@@ -39,6 +39,8 @@ pub(crate) struct X64Reading {
 extern "C" {
     pub(crate) fn unwind_read_x64(info: *const u8, info_n: usize, place: u64, codes: *mut u64, codes_n: usize) -> X64Reading;
 
+    pub(crate) fn unwind_machine_x86_64(machine: *mut u64, machine_n: usize) -> u64;
+
     pub(crate) fn unwind_relaxed_table(
         machine: *const u64,
         machine_n: usize,

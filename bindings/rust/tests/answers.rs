@@ -271,3 +271,8 @@ fn x64_record() {
     assert_eq!(lists::read_x64(&info, 0, &mut held).unwrap_err().number, 54);
     assert_eq!(held, [7; 14]);
 }
+
+#[test]
+fn the_ready_machine_is_the_librarys() {
+    assert_eq!(Machine::X86_64.numbers(), lists::machine_x86_64());
+}
