@@ -1,5 +1,5 @@
-/* Unwind tables: the writers of ELF's eh_frame and debug_frame and of Windows x64 unwind data, the row check,
- * and the reader of the DWARF sections.
+/* Unwind tables: the writers of ELF's eh_frame and debug_frame and of Windows x64 unwind data, the row check, the reader of the
+ * DWARF sections, and the reader of x64 unwind data.
  *
  * Every function takes every input: a refusal comes back as the number of the question that was answered by no, and every
  * lent buffer is then as it was. An accepted call leaves what lies past its results as it was. No input is changed.
@@ -46,9 +46,11 @@ extern "C" {
  *   31 frame pointer set after the frame is taken   32 frame not counted from a scratch register   33 group readable
  *   34 registers below 16   35 offsets to 255   36 allocation positive, a multiple of 8   37 below 2^32   38 save not below the
  *   frame   39 below 2^32   40 slots to 255   41 frame offset 0 to 240, a multiple of 16
- *   51 places or markers fit   52 bytes   53 relocations   54 call sites or x64 info; structs: the list for numbers
+ *   51 places or markers fit   52 bytes   53 relocations   54 call sites or x64 info; structs: the list for numbers; x64
+ *   reader: the list for codes
  *   61 lengths tile   62 record k   63 its header   64 fields of both   65 p below the length   66 operations
  *   67 a state to restore, no Restore in a header   68 at most 16 states stored   69 a frame address rule to change
+ *   76 x64 header: version 1, no flags, all four bytes and all slots there   77 x64 codes: complete, operations that unwind_seh writes
  *   78 eh_frame of a format that is written: not Mach-O */
 
 /* The ready x86-64 (System V psABI) at the front of a lent list of 70 numbers or more: 0, or 54 where there are fewer, and the list
@@ -98,6 +100,18 @@ typedef struct {
 unwind_reading unwind_read(
     const uint8_t *section, size_t section_n, const uint64_t *relocations, size_t relocations_n,
     uint64_t kind, uint64_t word, uint64_t k, uint16_t reg, uint64_t p);
+
+/* What the reader of x64 records answers: `number` is 0, or the question's (76, 77, then 54). end: the prologue's. frame: 1 where a
+ * code sets the frame register, else 0. frame_register and frame_offset are the header's, always. codes: how many. All are 0 on a
+ * refusal. */
+typedef struct {
+    uint64_t number, end, frame, frame_register, frame_offset, codes;
+} unwind_x64_reading;
+
+/* The record at a place of the x64 info: its codes in prologue order, five numbers each as unwind_seh takes them. A pushed vector
+ * register reads as the integer one of its number. */
+unwind_x64_reading unwind_read_x64(
+    const uint8_t *info, size_t info_n, uint64_t place, uint64_t *codes, size_t codes_n);
 
 /* ---- functions and rows as structs
  *

@@ -204,6 +204,42 @@ pub fn read(
     Ok(Rules { frame, rule, signing: r.signing != 0 })
 }
 
+/// What the x64 record at a place of the info says beside its codes.
+#[derive(Clone, Copy, Debug, Default, PartialEq, Eq)]
+pub struct X64Header {
+    /// Where the prologue ends.
+    pub end: u8,
+    /// Whether a code sets the frame register.
+    pub frame: bool,
+    /// The header's frame register, also where no code sets it.
+    pub frame_register: u8,
+    /// The header's frame offset in bytes.
+    pub frame_offset: u8,
+    /// How many codes there are.
+    pub codes: usize,
+}
+
+/// The x64 record at a place of the info; its codes in prologue order, 5 numbers each, at the front of `codes`.
+///
+/// # Errors
+/// The question that was answered by no: 76, 77 or 54. `codes` is then as it was.
+pub fn read_x64(info: &[u8], place: u64, codes: &mut [u64]) -> Result<X64Header, Refusal> {
+    // SAFETY: each pointer and count come from one slice, so they are valid and aligned; `codes` is a unique reference, so it
+    // does not overlap `info`. The function takes every number.
+    let r = unsafe { sys::unwind_read_x64(info.as_ptr(), info.len(), place, codes.as_mut_ptr(), codes.len()) };
+    if r.number != 0 {
+        return Err(Refusal { number: r.number, position: 0 });
+    }
+    // The header has a byte for the end, and one for a register to 15 and an offset to 240; the codes are in the lent slice.
+    Ok(X64Header {
+        end: r.end as u8,
+        frame: r.frame != 0,
+        frame_register: r.frame_register as u8,
+        frame_offset: r.frame_offset as u8,
+        codes: r.codes as usize,
+    })
+}
+
 /// Adds records to a list. The answer is their range: where the first one stands, and how many they are.
 ///
 /// Past what question 13 allows nothing is added, so that a slice which many functions share cannot fill the memory. The range

@@ -6,7 +6,7 @@ use core::fmt;
 /// A call was refused: a question was answered by no, and nothing was written.
 #[derive(Clone, Copy, Debug, PartialEq, Eq, Hash)]
 pub struct Refusal {
-    /// The question's number: 11 to 13, 21 to 25, 31 to 41, 51 to 54, 61 to 69 or 78.
+    /// The question's number: 11 to 13, 21 to 25, 31 to 41, 51 to 54, 61 to 69, 76 to 78.
     pub number: u64,
     /// The function's position in its list, from 0; 0 for 11 to 13, for 51 to 54, and for the reader's.
     pub position: u64,
@@ -39,7 +39,7 @@ impl Refusal {
             51 => "do the header places or markers fit their buffer?",
             52 => "do the bytes fit their buffer?",
             53 => "do the relocations fit their buffer?",
-            54 => "do the call sites, the x64 info or the numbers of structs fit their buffer, and is that of the numbers zero so far?",
+            54 => "do the call sites, the x64 info, the codes that were read or the numbers of structs fit their buffer, and is that of the numbers zero so far?",
             61 => "do the entries' lengths tile the section?",
             62 => "is there a record of that number?",
             63 => "does the record's header start where a header starts, and earlier?",
@@ -49,6 +49,8 @@ impl Refusal {
             67 => "has each RestoreState a stored state, and is no Restore in a header?",
             68 => "are at most 16 states stored?",
             69 => "is there a frame address rule to change?",
+            76 => "is the x64 header's version 1 without flags, and are its four bytes and its slots all there?",
+            77 => "is each x64 code complete, and its operation one that can be written?",
             78 => "is the format one that is written? Mach-O is not any more.",
             _ => return None,
         })

@@ -25,8 +25,21 @@ pub(crate) struct Reading {
     pub signing: u64,
 }
 
+/// What the reader of x64 records answers.
+#[repr(C)]
+pub(crate) struct X64Reading {
+    pub number: u64,
+    pub end: u64,
+    pub frame: u64,
+    pub frame_register: u64,
+    pub frame_offset: u64,
+    pub codes: u64,
+}
+
 extern "C" {
     pub(crate) fn unwind_machine_x86_64(machine: *mut u64, machine_n: usize) -> u64;
+
+    pub(crate) fn unwind_read_x64(info: *const u8, info_n: usize, place: u64, codes: *mut u64, codes_n: usize) -> X64Reading;
 
     pub(crate) fn unwind_relaxed_table(
         machine: *const u64,

@@ -1,5 +1,7 @@
 //! What is handed in and what comes out.
 
+use alloc::vec::Vec;
+
 /// The width of a machine's pointers, in bytes.
 #[derive(Clone, Copy, Debug, PartialEq, Eq, Hash)]
 pub enum Word {
@@ -326,6 +328,20 @@ impl Code {
         Code { offset, op }
     }
 
+    /// The code of a record of its list, as the x64 reader stores it: registers to 15, and values below 2^63.
+    pub(crate) fn of(numbers: &[u64; 5]) -> Code {
+        let [offset, kind, register, vector, value] = *numbers;
+        let (register, value) = (register as u16, value as i64);
+        let op = match (kind, vector) {
+            (0, _) => CodeOp::Push(register),
+            (1, _) => CodeOp::Alloc(value),
+            (2, _) => CodeOp::Frame(register, value),
+            (_, 0) => CodeOp::Save(register, value),
+            _ => CodeOp::SaveVector(register, value),
+        };
+        Code { offset, op }
+    }
+
     /// The code as a record of its list.
     pub(crate) fn numbers(&self) -> [u64; 5] {
         // A value's number is its 64-bit two's complement.
@@ -351,6 +367,17 @@ pub struct Prologue<'a> {
     pub end: u64,
     /// The codes, in the order of the instructions.
     pub codes: &'a [Code],
+}
+
+/// An x64 record, read.
+#[derive(Clone, Debug, PartialEq, Eq)]
+pub struct X64Record {
+    /// Where the prologue ends.
+    pub end: u8,
+    /// The header's frame register and its offset. They are meant where a code is [`CodeOp::Frame`], and 0 in most records without one.
+    pub frame: (u8, u8),
+    /// The codes, in the order of the instructions.
+    pub codes: Vec<Code>,
 }
 
 /// The kind of a relocation.

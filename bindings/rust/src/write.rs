@@ -4,7 +4,7 @@ use alloc::vec;
 use alloc::vec::Vec;
 
 use crate::lists::{self, Counts, Lent, Lists, Packed, PackedCodes};
-use crate::{Format, Function, Machine, Prologue, Refusal, Relocation, Row, Rules, Section, Word};
+use crate::{Code, Format, Function, Machine, Prologue, Refusal, Relocation, Row, Rules, Section, Word, X64Record};
 
 /// No result of a writer has as many elements: question 13 keeps each below this.
 const MOST: usize = 1 << 25;
@@ -176,4 +176,29 @@ pub fn read(
     p: u64,
 ) -> Result<Rules, Refusal> {
     lists::read(section, Relocation::numbers(relocations), kind.number(), word.bytes(), k, register, p)
+}
+
+/// The codes of a record are at most as many as its slots.
+const MOST_CODES: usize = 255;
+
+/// The x64 record at a place of the info: [`seh`]'s and COFF's markers are such places. The bytes may be any.
+///
+/// # Errors
+/// The question that was answered by no: 76 or 77.
+///
+/// ```
+/// use unwind::{read_x64, seh, Code, CodeOp, Prologue};
+///
+/// let codes = [Code::new(1, CodeOp::Push(5)), Code::new(4, CodeOp::Frame(5, 0)), Code::new(8, CodeOp::Alloc(32))];
+/// let table = seh(&[Prologue { symbol: 16, length: 99, end: 8, codes: &codes }])?;
+/// let record = read_x64(&table.sites, table.places[0])?;
+/// assert_eq!((record.end, record.frame), (8, (5, 0)));
+/// assert_eq!(record.codes, codes);
+/// # Ok::<(), unwind::Refusal>(())
+/// ```
+pub fn read_x64(info: &[u8], place: u64) -> Result<X64Record, Refusal> {
+    let mut numbers = [[0u64; 5]; MOST_CODES];
+    let header = lists::read_x64(info, place, numbers.as_flattened_mut())?;
+    let codes = numbers.iter().take(header.codes).map(Code::of).collect();
+    Ok(X64Record { end: header.end, frame: (header.frame_register, header.frame_offset), codes })
 }

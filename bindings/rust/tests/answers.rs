@@ -245,7 +245,7 @@ fn the_row_check() {
 
 #[test]
 fn questions_in_words() {
-    let numbers = [11..=13, 21..=25, 31..=41, 51..=54, 61..=69, 78..=78];
+    let numbers = [11..=13, 21..=25, 31..=41, 51..=54, 61..=69, 76..=78];
     for number in 0..100 {
         let known = numbers.iter().any(|range| range.contains(&number));
         assert_eq!(Refusal { number, position: 0 }.question().is_some(), known);
@@ -260,4 +260,19 @@ fn questions_in_words() {
 #[test]
 fn the_ready_machine_is_the_librarys() {
     assert_eq!(Machine::X86_64.numbers(), lists::machine_x86_64());
+}
+
+/// The prologue `push rbp; mov rbp, rsp; sub rsp, 32`, as GNU and LLVM compilers write it, and a refusal of each kind.
+#[test]
+fn x64_record() {
+    let info = hex("01080305 0832 0403 0150 0000");
+    let record = unwind::read_x64(&info, 0).unwrap();
+    assert_eq!((record.end, record.frame), (8, (5, 0)));
+    let codes = [Code::new(1, CodeOp::Push(5)), Code::new(4, CodeOp::Frame(5, 0)), Code::new(8, CodeOp::Alloc(32))];
+    assert_eq!(record.codes, codes);
+    assert_eq!(unwind::read_x64(&info, 9).unwrap_err().number, 76);
+    assert_eq!(unwind::read_x64(&hex("01000100 0406"), 0).unwrap_err().number, 77);
+    let mut held = [7; 14];
+    assert_eq!(lists::read_x64(&info, 0, &mut held).unwrap_err().number, 54);
+    assert_eq!(held, [7; 14]);
 }

@@ -37,7 +37,7 @@ put-append xs p (u ∷ us) bs =
     put-append (set xs p u) (p + 1) us bs ∙ ap (λ (n : ℕ). put (put (set xs p u) (p + 1) us) n bs) e
 
 -- a store in front of a run may go first
-set-put : (xs : List ℕ) (p v q : ℕ) (bs : List ℕ) → p < q → set (put xs q bs) p v ≡ put (set xs p v) q bs
+pub set-put : (xs : List ℕ) (p v q : ℕ) (bs : List ℕ) → p < q → set (put xs q bs) p v ≡ put (set xs p v) q bs
 unfolding put
 set-put xs p v q [] h = refl
 set-put xs p v q (b ∷ bs) h =

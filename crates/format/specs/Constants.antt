@@ -220,5 +220,11 @@ abbrev pub «UWOP_SET_FPREG» : ℕ
 abbrev pub «UWOP_SAVE_NONVOL» : ℕ
 «UWOP_SAVE_NONVOL» = 4
 
+abbrev pub «UWOP_SAVE_NONVOL_FAR» : ℕ
+«UWOP_SAVE_NONVOL_FAR» = 5
+
 abbrev pub «UWOP_SAVE_XMM128» : ℕ
 «UWOP_SAVE_XMM128» = 8
+
+abbrev pub «UWOP_SAVE_XMM128_FAR» : ℕ
+«UWOP_SAVE_XMM128_FAR» = 9

@@ -11,6 +11,7 @@ pub mod CallSites
 pub mod Records
 pub mod Writer
 pub mod X64
+pub mod X64Reader
 pub mod Questions
 pub mod Rules
 pub mod RowCheck
