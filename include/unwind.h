@@ -48,7 +48,9 @@ extern "C" {
  *   frame   39 below 2^32   40 slots to 255   41 frame offset 0 to 240, a multiple of 16
  *   51 places or markers fit   52 bytes   53 relocations   54 call sites or x64 info; structs: the list for numbers
  *   61 lengths tile   62 record k   63 its header   64 fields of both   65 p below the length   66 operations
- *   67 a state to restore, no Restore in a header   68 at most 16 states stored   69 a frame address rule to change */
+ *   67 a state to restore, no Restore in a header   68 at most 16 states stored   69 a frame address rule to change
+ *   79 relocations of the writers' kinds and sizes, with their partners and addresses, fields inside, values that fit
+ *   80 the distance of a Set and Sub pair fits */
 
 /* What a writer answers. `number` is 0 where the call was accepted, and where the result is empty: of an empty list, Wasm,
  * Plan 9, and debug_frame in any format but ELF. Else it is the question's, and `position` is the function's, from 0 (0 for 11
@@ -93,6 +95,13 @@ typedef struct {
 unwind_reading unwind_read(
     const uint8_t *section, size_t section_n, const uint64_t *relocations, size_t relocations_n,
     uint64_t kind, uint64_t word, uint64_t k, uint16_t reg, uint64_t p);
+
+/* Puts a section in place: `bytes` with its relocations applied, in list order, at the front of `out`. `addresses` are two
+ * numbers each, a symbol and its address; of a symbol that is listed twice the first counts. `section` is the address of the
+ * first byte of `bytes`. Answers 0, or 52 where `out` is shorter than `bytes`, then 79, then 80. */
+uint64_t unwind_apply(
+    const uint8_t *bytes, size_t bytes_n, const uint64_t *relocations, size_t relocations_n,
+    const uint64_t *addresses, size_t addresses_n, uint64_t section, uint64_t image, uint8_t *out, size_t out_n);
 
 /* ---- the same lists as structs
  *

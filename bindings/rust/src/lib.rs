@@ -39,4 +39,4 @@ mod write;
 
 pub use refusal::Refusal;
 pub use types::*;
-pub use write::{read, relaxed_debug_frame, relaxed_table, row_check, seh, Table};
+pub use write::{apply, read, relaxed_debug_frame, relaxed_table, row_check, seh, Table};

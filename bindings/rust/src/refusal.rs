@@ -6,7 +6,7 @@ use core::fmt;
 /// A call was refused: a question was answered by no, and nothing was written.
 #[derive(Clone, Copy, Debug, PartialEq, Eq, Hash)]
 pub struct Refusal {
-    /// The question's number: 11 to 13, 21 to 25, 31 to 41, 51 to 54 or 61 to 69.
+    /// The question's number: 11 to 13, 21 to 25, 31 to 41, 51 to 54, 61 to 69, 79 or 80.
     pub number: u64,
     /// The function's position in its list, from 0; 0 for 11 to 13, for 51 to 54, and for the reader's.
     pub position: u64,
@@ -49,6 +49,8 @@ impl Refusal {
             67 => "has each RestoreState a stored state, and is no Restore in a header?",
             68 => "are at most 16 states stored?",
             69 => "is there a frame address rule to change?",
+            79 => "is each relocation of a kind and size that is written, with its partner and address, its field inside, and its value in range?",
+            80 => "does the distance of each Set and Sub pair fit its field?",
             _ => return None,
         })
     }

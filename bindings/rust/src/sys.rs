@@ -1,6 +1,6 @@
 //! include/unwind.h, as it stands there.
 
-use crate::structs::{Function, Landing, RowAt, Pair};
+use crate::structs::{Function, Landing, Pair, RowAt};
 
 /// What a writer answers.
 #[repr(C)]
@@ -158,4 +158,17 @@ extern "C" {
         relocations: *mut u64,
         relocations_n: usize,
     ) -> Written;
+
+    pub(crate) fn unwind_apply(
+        bytes: *const u8,
+        bytes_n: usize,
+        relocations: *const u64,
+        relocations_n: usize,
+        addresses: *const u64,
+        addresses_n: usize,
+        section: u64,
+        image: u64,
+        out: *mut u8,
+        out_n: usize,
+    ) -> u64;
 }
