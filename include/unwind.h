@@ -52,6 +52,10 @@ extern "C" {
  *   79 relocations of the writers' kinds and sizes, with their partners and addresses, fields inside, values that fit
  *   80 the distance of a Set and Sub pair fits */
 
+/* The ready x86-64 (System V psABI) at the front of a lent list of 70 numbers or more: 0, or 54 where there are fewer, and the list
+ * is then as it was. */
+uint64_t unwind_machine_x86_64(uint64_t *machine, size_t machine_n);
+
 /* What a writer answers. `number` is 0 where the call was accepted, and where the result is empty: of an empty list, Wasm,
  * Plan 9, and debug_frame in any format but ELF. Else it is the question's, and `position` is the function's, from 0 (0 for 11
  * to 13 and 51 to 54). The counts are 0 on a refusal; relocations are counted in fives. */

@@ -10,19 +10,9 @@
 #include "../../include/unwind.h"
 
 enum { DEF_CFA, DEF_CFA_OFFSET, DEF_CFA_REGISTER, OFFSET, RESTORE, UNDEFINED, REMEMBER_STATE, RESTORE_STATE };
-enum { RBX = 3, RBP = 6, RSP = 7, RETURN_ADDRESS = 16, NONE = 255, VECTOR = 128 };
+enum { RBX = 3, RBP = 6, RSP = 7, RETURN_ADDRESS = 16 };
 enum { ELF = 0, EH_FRAME = 0, WORD = 8, FUNCTIONS = 3 };
 #define LENGTH(list) (sizeof(list) / sizeof *(list))
-
-/* x86-64: word, pushed bytes, stack pointer, return address, frame pointer, 0, and what DWARF 0 to 63 map to. */
-static const uint64_t machine[70] = {
-    WORD, 8, RSP, RETURN_ADDRESS, RBP, 0,
-    0, 2, 1, 3, 6, 7, 5, 4, 8, 9, 10, 11, 12, 13, 14, 15, NONE,
-    VECTOR, VECTOR + 1, VECTOR + 2, VECTOR + 3, VECTOR + 4, VECTOR + 5, VECTOR + 6, VECTOR + 7,
-    VECTOR + 8, VECTOR + 9, VECTOR + 10, VECTOR + 11, VECTOR + 12, VECTOR + 13, VECTOR + 14, VECTOR + 15,
-    NONE, NONE, NONE, NONE, NONE, NONE, NONE, NONE, NONE, NONE, NONE, NONE, NONE, NONE, NONE, NONE,
-    NONE, NONE, NONE, NONE, NONE, NONE, NONE, NONE, NONE, NONE, NONE, NONE, NONE, NONE, NONE,
-};
 
 /* An offset operand is 32-bit two's complement. */
 static const uint64_t rows[] = {
@@ -100,6 +90,8 @@ int main(void) {
         uint64_t yes = unwind_row_check(functions, LENGTH(functions), rows, LENGTH(rows), k);
         printf("%s: row check %s\n", names[k], yes ? "yes" : "no");
     }
+    uint64_t machine[70];
+    unwind_machine_x86_64(machine, LENGTH(machine));
     /* There are no landings and pairs, and no call sites. */
     unwind_written table = unwind_relaxed_table(machine, LENGTH(machine), ELF, functions, LENGTH(functions), rows, LENGTH(rows),
         NULL, 0, NULL, 0, places, LENGTH(places), bytes, LENGTH(bytes), relocations, LENGTH(relocations), NULL, 0);

@@ -64,6 +64,15 @@ pub(crate) fn counts(w: &sys::Written) -> Result<Counts, Refusal> {
     })
 }
 
+/// The list of the ready x86-64 (System V psABI).
+#[must_use]
+pub fn machine_x86_64() -> [u64; 70] {
+    let mut machine = [0; 70];
+    // SAFETY: the pointer is valid for the list's 70 numbers and nothing else refers to it; 70 are enough, so the answer is 0.
+    unsafe { sys::unwind_machine_x86_64(machine.as_mut_ptr(), machine.len()) };
+    machine
+}
+
 /// The table of a list of functions. Formats: 0 ELF, 1 COFF, 2 Mach-O, 3 Wasm, 4 Plan 9.
 ///
 /// # Errors

@@ -1,6 +1,6 @@
 //! include/unwind.h, as it stands there.
 
-use crate::structs::{Function, Landing, Pair, RowAt};
+use crate::structs::{Function, Landing, RowAt, Pair};
 
 /// What a writer answers.
 #[repr(C)]
@@ -26,6 +26,7 @@ pub(crate) struct Reading {
 }
 
 extern "C" {
+    pub(crate) fn unwind_machine_x86_64(machine: *mut u64, machine_n: usize) -> u64;
     pub(crate) fn unwind_relaxed_table(
         machine: *const u64,
         machine_n: usize,

@@ -268,3 +268,8 @@ fn relocations_applied() {
     assert_eq!(at(&[(17, 0x1000)], 0x2000).unwrap_err().number, 79);
     assert_eq!(at(&[(16, 0)], 1 << 32).unwrap_err().number, 79);
 }
+
+#[test]
+fn the_ready_machine_is_the_librarys() {
+    assert_eq!(Machine::X86_64.numbers(), lists::machine_x86_64());
+}

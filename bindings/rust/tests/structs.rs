@@ -6,7 +6,7 @@ use std::mem::{offset_of, size_of};
 use unwind::lists::{self, Counts, Lent};
 use unwind::structs::{
     pack_functions, pack_landings, pack_pairs, pack_rows, relaxed_debug_frame_of, relaxed_table_of, row_check_of, Function,
-    Landing, Lists, Pair, RowAt,
+    Landing, RowAt, Lists, Pair,
 };
 use unwind::{Machine, Refusal};
 

@@ -1,0 +1,3 @@
+mod Stores
+mod Filled
+mod Means
