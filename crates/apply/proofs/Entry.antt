@@ -19,15 +19,12 @@ use Rattle.apply.specs.declared.Width.{Width}
 use Rattle.apply.specs.declared.Kind.{Kind}
 use Rattle.apply.specs.declared.Kind.the-variants.{Data, Address, SumPlus, SumMinus, Image, Set, Sub, Unknown}
 use Rattle.apply.specs.Kinds.{kindOf}
-use Rattle.apply.specs.Fields.{inField, setIn, subIn, wholeIn}
+use Rattle.apply.specs.Fields.{setIn, subIn, wholeIn}
 use Rattle.apply.specs.Values.{Layout, layoutOf, sumOf, valueAs, storeAs, storeOf}
 use Rattle.apply.specs.Apply.{front, everywhere, sound, near, stores, apply, numberIn, bufferIn, Applies}
+use Rattle.apply.proofs.Distances.{in-length}
 
 -- ---- stores keep the length
-
-in-length : (w : Width) (bs : List ℕ) (p v : ℕ) → length (inField w bs p v) ≡ length bs
-unfolding inField
-in-length w bs p v = length-put bs p _
 
 set-length : (w : Width) (bs : List ℕ) (p : ℕ) (o : Option ℤ) → length (setIn w bs p o) ≡ length bs
 unfolding setIn

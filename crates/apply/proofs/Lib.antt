@@ -5,6 +5,8 @@ pub mod Sums
 pub mod Wrap
 pub mod Patches
 pub mod Loops
+pub mod Distances
+pub mod Outside
 pub mod Copies
 pub mod Entry
 pub mod Vectors
