@@ -51,7 +51,9 @@ extern "C" {
  *   61 lengths tile   62 record k   63 its header   64 fields of both   65 p below the length   66 operations
  *   67 a state to restore, no Restore in a header   68 at most 16 states stored   69 a frame address rule to change
  *   76 x64 header: version 1, no flags, all four bytes and all slots there   77 x64 codes: complete, operations that unwind_seh writes
- *   78 eh_frame of a format that is written: not Mach-O */
+ *   78 eh_frame of a format that is written: not Mach-O
+ *   79 relocations of the writers' kinds and sizes, with their partners and addresses, fields inside, values that fit
+ *   80 the distance of a Set and Sub pair fits */
 
 /* The ready x86-64 (System V psABI) at the front of a lent list of 70 numbers or more: 0, or 54 where there are fewer, and the list
  * is then as it was. */
@@ -112,6 +114,13 @@ typedef struct {
  * register reads as the integer one of its number. */
 unwind_x64_reading unwind_read_x64(
     const uint8_t *info, size_t info_n, uint64_t place, uint64_t *codes, size_t codes_n);
+
+/* Puts a section in place: `bytes` with its relocations applied, in list order, at the front of `out`. `addresses` are two
+ * numbers each, a symbol and its address; of a symbol that is listed twice the first counts. `section` is the address of the
+ * first byte of `bytes`. Answers 0, or 52 where `out` is shorter than `bytes`, then 79, then 80. */
+uint64_t unwind_apply(
+    const uint8_t *bytes, size_t bytes_n, const uint64_t *relocations, size_t relocations_n,
+    const uint64_t *addresses, size_t addresses_n, uint64_t section, uint64_t image, uint8_t *out, size_t out_n);
 
 /* ---- functions and rows as structs
  *

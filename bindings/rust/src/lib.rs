@@ -40,4 +40,4 @@ mod write;
 
 pub use refusal::Refusal;
 pub use types::*;
-pub use write::{read, read_x64, relaxed_debug_frame, relaxed_table, row_check, seh, Table};
+pub use write::{apply, read, read_x64, relaxed_debug_frame, relaxed_table, row_check, seh, Table};

@@ -240,6 +240,40 @@ pub fn read_x64(info: &[u8], place: u64, codes: &mut [u64]) -> Result<X64Header,
     })
 }
 
+/// A section with its relocations applied, at the front of `out`. Addresses are two numbers each, a symbol and its address, of which the
+/// first counts; `section` is the address of the first byte.
+///
+/// # Errors
+/// 52 where `out` is shorter than the section, 79 or 80; `out` is then as it was.
+pub fn apply(
+    bytes: &[u8],
+    relocations: &[u64],
+    addresses: &[u64],
+    section: u64,
+    image: u64,
+    out: &mut [u8],
+) -> Result<(), Refusal> {
+    // SAFETY: each pointer and count come from one slice; `out` is a unique reference, so it overlaps no input.
+    let number = unsafe {
+        sys::unwind_apply(
+            bytes.as_ptr(),
+            bytes.len(),
+            relocations.as_ptr(),
+            relocations.len(),
+            addresses.as_ptr(),
+            addresses.len(),
+            section,
+            image,
+            out.as_mut_ptr(),
+            out.len(),
+        )
+    };
+    match number {
+        0 => Ok(()),
+        _ => Err(Refusal { number, position: 0 }),
+    }
+}
+
 /// Adds records to a list. The answer is their range: where the first one stands, and how many they are.
 ///
 /// Past what question 13 allows nothing is added, so that a slice which many functions share cannot fill the memory. The range

@@ -6,7 +6,7 @@ use core::fmt;
 /// A call was refused: a question was answered by no, and nothing was written.
 #[derive(Clone, Copy, Debug, PartialEq, Eq, Hash)]
 pub struct Refusal {
-    /// The question's number: 11 to 13, 21 to 25, 31 to 41, 51 to 54, 61 to 69, 76 to 78.
+    /// The question's number: 11 to 13, 21 to 25, 31 to 41, 51 to 54, 61 to 69, 76 to 80.
     pub number: u64,
     /// The function's position in its list, from 0; 0 for 11 to 13, for 51 to 54, and for the reader's.
     pub position: u64,
@@ -52,6 +52,8 @@ impl Refusal {
             76 => "is the x64 header's version 1 without flags, and are its four bytes and its slots all there?",
             77 => "is each x64 code complete, and its operation one that can be written?",
             78 => "is the format one that is written? Mach-O is not any more.",
+            79 => "is each relocation of a kind and size that is written, with its partner and address, its field inside, and its value in range?",
+            80 => "does the distance of each Set and Sub pair fit its field?",
             _ => return None,
         })
     }

@@ -169,4 +169,16 @@ extern "C" {
         relocations_n: usize,
     ) -> Written;
 
+    pub(crate) fn unwind_apply(
+        bytes: *const u8,
+        bytes_n: usize,
+        relocations: *const u64,
+        relocations_n: usize,
+        addresses: *const u64,
+        addresses_n: usize,
+        section: u64,
+        image: u64,
+        out: *mut u8,
+        out_n: usize,
+    ) -> u64;
 }

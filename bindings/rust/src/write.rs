@@ -202,3 +202,32 @@ pub fn read_x64(info: &[u8], place: u64) -> Result<X64Record, Refusal> {
     let codes = numbers.iter().take(header.codes).map(Code::of).collect();
     Ok(X64Record { end: header.end, frame: (header.frame_register, header.frame_offset), codes })
 }
+
+/// A section with its relocations applied: symbols with their addresses (the first of a symbol counts), the address of the section's first
+/// byte, and the image's.
+///
+/// # Errors
+/// 79 or 80.
+///
+/// ```
+/// use unwind::{apply, relaxed_table, Format, Function, Machine, Op, Row};
+///
+/// let rows = [Row::new(1, Op::DefCfaOffset(16))];
+/// let table = relaxed_table(&Machine::X86_64, Format::Elf, &[Function::new(16, 9, &rows)])?;
+/// let placed = apply(&table.bytes, &table.relocations, &[(16, 0x1000)], 0x2000, 0)?;
+/// // The record's field at 32 holds the distance to the function.
+/// assert_eq!(placed[32..36], (0x1000 - 0x2020_i32).to_le_bytes());
+/// # Ok::<(), unwind::Refusal>(())
+/// ```
+pub fn apply(
+    bytes: &[u8],
+    relocations: &[Relocation],
+    addresses: &[(u64, u64)],
+    section: u64,
+    image: u64,
+) -> Result<Vec<u8>, Refusal> {
+    let addresses: Vec<u64> = addresses.iter().flat_map(|&(symbol, address)| [symbol, address]).collect();
+    let mut out = vec![0; bytes.len()];
+    lists::apply(bytes, Relocation::numbers(relocations), &addresses, section, image, &mut out)?;
+    Ok(out)
+}

@@ -3,7 +3,7 @@
 
 use unwind::lists::{self, Lent, Packed};
 use unwind::{
-    read, relaxed_debug_frame, relaxed_table, row_check, seh, Code, CodeOp, Format, Frame, Function, Kind, Landing,
+    apply, read, relaxed_debug_frame, relaxed_table, row_check, seh, Code, CodeOp, Format, Frame, Function, Kind, Landing,
     Machine, MachineRegister, Op, Pair, Personality, Pointer, Prologue, Refusal, Relaxed, Relocation, Row, Rule, Rules,
     Section, Table, Target, Word,
 };
@@ -245,7 +245,7 @@ fn the_row_check() {
 
 #[test]
 fn questions_in_words() {
-    let numbers = [11..=13, 21..=25, 31..=41, 51..=54, 61..=69, 76..=78];
+    let numbers = [11..=13, 21..=25, 31..=41, 51..=54, 61..=69, 76..=80];
     for number in 0..100 {
         let known = numbers.iter().any(|range| range.contains(&number));
         assert_eq!(Refusal { number, position: 0 }.question().is_some(), known);
@@ -255,6 +255,18 @@ fn questions_in_words() {
         "refused by question 21 at function 3: does the function's length fit its field?"
     );
     assert_eq!(Refusal { number: 62, position: 0 }.to_string(), "refused by question 62: is there a record of that number?");
+}
+
+#[test]
+fn relocations_applied() {
+    let rows = [Row::new(1, Op::DefCfaOffset(16))];
+    let table = relaxed_table(&Machine::X86_64, Format::Elf, &[Function::new(16, 9, &rows)]).unwrap();
+    let at = |addresses: &[(u64, u64)], section| apply(&table.bytes, &table.relocations, addresses, section, 0);
+    let placed = at(&[(16, 0x1000), (16, 5)], 0x2000).unwrap();
+    assert_eq!(placed[32..36], (0x1000 - 0x2020_i32).to_le_bytes());
+    assert_eq!((&placed[..32], &placed[36..]), (&table.bytes[..32], &table.bytes[36..]));
+    assert_eq!(at(&[(17, 0x1000)], 0x2000).unwrap_err().number, 79);
+    assert_eq!(at(&[(16, 0)], 1 << 32).unwrap_err().number, 79);
 }
 
 #[test]

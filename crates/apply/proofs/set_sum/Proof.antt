@@ -1,0 +1,53 @@
+-- `apply::set_sum` meets its contract.
+use mathlib.Core.Path.{sym, ap, _∙_}
+use Prim.Native.Nat.{_-_}
+use borrow.Author.Needs.{needs}
+use Rattle.apply.specs.Fields.{setIn}
+use Rattle.apply.specs.Values.{symbolsOf, addressOf}
+use Rattle.apply.specs.Standing.{meant}
+use Rattle.apply.proofs.Sums.{number-is, number-none, no-sum, is-sum}
+use Rattle.apply.proofs.set_sum.Statement.{statement}
+use Rattle.apply.proofs.set_sum.Tie as tie
+
+address-of-requires : tie.Need-address-of-requires
+address-of-requires c κs = search needs
+
+enum-known-s : tie.Need-enum-known-s
+enum-known-s c = search needs
+
+enum-told : tie.Need-enum-told
+enum-told c = search needs
+
+returns : tie.Need-returns
+unfolding setIn
+returns c =
+    let a = c .before .before .before .before .before .args in
+    let ss = symbolsOf (a .addresses .now) in
+    let e = number-none (addressOf ss (a .r .symbol)) (sym (c .before .before .address-of .ensures) ∙ c .enum-told .given .1) in
+    rw (no-sum ss (meant (a .r)) e)
+
+set-requires : tie.Need-set-requires
+set-requires c κs = search needs
+
+same-length : tie.Need-same-length
+same-length c = search needs
+
+returns-2 : tie.Need-returns-2
+returns-2 c =
+    let k = c .before .before .before .before .before in
+    let a = k .before .before .before .before .before .args in
+    let ss = symbolsOf (a .addresses .now) in
+    let e = number-is (addressOf ss (a .r .symbol)) (sym (k .before .before .address-of .ensures) ∙ k .s .given .1) in
+    c .before .before .set .ensures ∙ ap (setIn (a .w) (a .copy .now) (a .r .place)) (sym (is-sum ss (meant (a .r)) _ e))
+
+pub set-sum-spec : {M : Type 1} → statement M
+set-sum-spec =
+    tie.close
+    (tie.spec
+    address-of-requires
+    enum-known-s
+    enum-told
+    returns
+    set-requires
+    same-length
+    returns-2)
