@@ -1,4 +1,4 @@
-// Unwind codes of Windows on ARM64 out of a record's bytes: one code, a run's count, and a run stored as numbers. Ported from rucc-asm/src/xdata.rs (Code) of tamnd/rucc, changed: see NOTICE.
+// Unwind codes of Windows on ARM64 out of a record's bytes: one code by its form. Ported from rucc-asm/src/xdata.rs (Code) of tamnd/rucc, changed: see NOTICE.
 ghost use mathlib.Core.Path.{_≡_};
 ghost use Prim.Native.Nat.{_+_, _*_, _≤_, _<_, _^_};
 ghost use lib.ListN.{length, getD};
