@@ -37,15 +37,22 @@ pub fn count_run(s: &[u8], at: usize) -> Count
     Count::Bad
 }
 
-// A code's three numbers.
+// Three numbers: a code's or an epilogue's.
+pub fn put_three(out: &mut [u64], at: usize, a: u64, b: u64, c: u64) -> usize
+    requires { ⌜ at + 3 ≤ length (now out) ⌝ }
+    ensures { λ r. ⌜ Wrote (now (out .entry)) (now (out .exit)) at r (a ∷ b ∷ c ∷ []) ⌝ }
+{
+    out[at] = a;
+    out[at + 1] = b;
+    out[at + 2] = c;
+    at + 3
+}
+
 pub fn put_code(out: &mut [u64], at: usize, c: Code) -> usize
     requires { ⌜ at + 3 ≤ length (now out) ⌝ }
     ensures { λ r. ⌜ Wrote (now (out .entry)) (now (out .exit)) at r (codeNumbers (c ∷ [])) ⌝ }
 {
-    out[at] = c.kind;
-    out[at + 1] = c.register;
-    out[at + 2] = c.offset;
-    at + 3
+    put_three(out, at, c.kind, c.register, c.offset)
 }
 
 // A run's codes, in its order.
