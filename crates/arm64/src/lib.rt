@@ -90,6 +90,12 @@ pub struct Packed {
     pub frame: u64,
 }
 
+// A place of a packed word's prologue: the code of its instruction, or none.
+pub enum Slot {
+    Coded(Code),
+    Empty,
+}
+
 // What the reader answers: 0 or the question's number, the length in bytes, and how many codes the prologue has, how many epilogues there are, and how
 // many codes in all.
 #[repr(C)]
