@@ -99,9 +99,13 @@ module _ (at : ℕ → Slot) where
     few = omega (arith, f .few);
     most = omega arith;
     same =
-        omega
-        (arith, f .same, ap length (next-slot i h), ap length (with-append (at i) (slotsFrom at (i + 1) (19 - (i + 1)))),
-          length-append (withSlot (at i) []) (slotsFrom at (i + 1) (19 - (i + 1))));
+        omega (
+          arith,
+          f .same,
+          ap length (next-slot i h),
+          ap length (with-append (at i) (slotsFrom at (i + 1) (19 - (i + 1)))),
+          length-append (withSlot (at i) []) (slotsFrom at (i + 1) (19 - (i + 1))),
+        );
   }
 
   pub fill-ended : {i n : ℕ} → Filling i n → 19 ≤ i → n ≡ length (slotsFrom at 0 19)
@@ -121,9 +125,13 @@ module _ (at : ℕ → Slot) where
 
       pub put-room : to + 3 * length (withSlot (at i) []) ≤ length xs
       put-room =
-          omega
-          (arith, d .storing .room, ap length split, code-numbers-length (withSlot (at i) []),
-            length-append (codeNumbers (withSlot (at i) [])) (codeNumbers (slotsFrom at (i + 1) (19 - (i + 1)))))
+          omega (
+            arith,
+            d .storing .room,
+            ap length split,
+            code-numbers-length (withSlot (at i) []),
+            length-append (codeNumbers (withSlot (at i) [])) (codeNumbers (slotsFrom at (i + 1) (19 - (i + 1)))),
+          )
 
       pub put-turn : {ys : List ℕ} {q : ℕ} → Wrote xs ys to q (codeNumbers (withSlot (at i) [])) → Putting xs₀ ys p q (i + 1)
       put-turn w = record { most = omega arith; storing = stored-next (codeNumbers (withSlot (at i) [])) (rw split at (d .storing)) w }

@@ -1,18 +1,17 @@
--- A record's header where there is one, the codes of its epilogues counted, and what a reader leaves behind.
+-- A record's header where there is one, and its epilogues counted and stored.
 use mathlib.Core.Path.{_≡_}
 use Prim.Native.Nat.{ℕ, _+_, _*_, _≤_, _<_}
 use mathlib.Core.Option.{Option, none, some}
 use mathlib.Core.List.{List, [], _∷_}
 use lib.ListN.{length}
 use lib.Dec.{eqb}
-use Rattle.format.specs.Prelude.{pick, Result}
+use Rattle.format.specs.Prelude.{pick}
 use Rattle.arm64.specs.declared.Header.{Header}
-use Rattle.arm64.specs.declared.Arm64Reading.{Arm64Reading}
 use Rattle.format.specs.Put.{put, Wrote}
 use Rattle.arm64.specs.declared.Code.{Code}
 use Rattle.arm64.specs.Lists.{Epilogue, epilogueNumbers, codeNumbers}
-use Rattle.arm64.specs.Records.{wordAt, recordOk, headerFits, headerAt, codesFrom, codesTo, scopesIn}
-use Rattle.arm64.specs.Reader.{Unwound, epilogueCodes, readingOf, epiloguesAfter, codesAfter}
+use Rattle.arm64.specs.Records.{wordAt, recordOk, headerFits, headerAt, codesTo}
+use Rattle.arm64.specs.Reader.{epilogueCodes}
 use Rattle.arm64_runs.specs.declared.Count.{Count}
 use Rattle.arm64_runs.specs.declared.Count.the-variants as counted
 use Rattle.arm64_records.specs.declared.HeaderRead.{HeaderRead}
@@ -60,12 +59,6 @@ epiloguesIn (some es) = es
 -- how many epilogues a record has
 unfoldable pub howMany : Header → ℕ
 howMany h = pick (eqb (h .single) 0) (h .count) 1
-
--- the answer and the lent lists of a reader
-pub record Answered (u : Result Unwound) (r : Arm64Reading) (es es′ cs cs′ : List ℕ) : Type 0 where
-  pub reading : r ≡ readingOf u
-  pub epilogues : es′ ≡ epiloguesAfter es u
-  pub codes : cs′ ≡ codesAfter cs u
 
 -- what a writer of epilogues does: their numbers at the front of one list, and their codes behind n codes of the other
 pub record Listed (es es′ cs cs′ : List ℕ) (n : ℕ) (all : List Epilogue) : Type 0 where
