@@ -22,7 +22,11 @@ use Rattle.arm64.specs.Records.{recordOk, headerAt, codesOf}
 use Rattle.arm64.specs.Packed.{packedOf, packedOk, packedPrologue, packedEpilogue}
 use Rattle.arm64.specs.Reader.{Unwound, runAt, epilogue, atEnd, recordEpilogues, unwound, recordUnwound, fullRecord, packedEpilogues, packedUnwound, unwoundBy, epilogueCodes, allCodes, fitsIn, readArm64, readingOf, epiloguesAfter, codesAfter}
 use Rattle.arm64_runs.proofs.Stores.{code-numbers-length, code-numbers-append, reverse-length}
-use Rattle.arm64_records.specs.Parts.{headedAt}
+use Rattle.arm64_runs.specs.Runs.{codesIn}
+use Rattle.arm64_runs.specs.declared.Count.the-variants as counted
+use Rattle.arm64_records.specs.Parts.{headedAt, totalOf, wordsFrom, howMany}
+use Rattle.arm64_records.proofs.Epilogues.{scoped-length}
+use Rattle.arm64_records.proofs.Whole.{by-words, many-all, many-one, one}
 use Rattle.arm64_records.specs.declared.HeaderRead.the-variants.{Is, Bad}
 use Rattle.arm64_reader.specs.Answers.{Answered, found}
 
@@ -133,13 +137,13 @@ module _ (p : Packed) where
 -- ---- the stored results
 
 -- a record's
-pub record-stored : (h : Header) {p : List Code} {all : List Epilogue} {r : Arm64Reading} {es es′ cs cs₁ cs′ : List ℕ} {n m k : ℕ}
+pub record-stored : (h : Header) (p : List Code) (all : List Epilogue) {r : Arm64Reading} {es es′ cs cs₁ cs′ : List ℕ} {n m k : ℕ}
     → length p ≡ n → length (epilogueCodes all) ≡ m → length all ≡ k
     → r ≡ record { number = 0; length = 4 * h .length; prologue = n; epilogues = k; codes = n + m }
     → cs₁ ≡ put cs 0 (codeNumbers (reverse p)) → es′ ≡ put es 0 (epilogueNumbers n all) → cs′ ≡ put cs₁ (3 * n) (codeNumbers (epilogueCodes all))
     → Stored (unwound (h .length) (reverse p) all) r es es′ cs cs′ n m k
 unfolding unwound
-record-stored h {p} a b d r e f g = record {
+record-stored h p all a b d r e f g = record {
   prologue = reverse-length p ∙ a;
   behind = b;
   many = d;
@@ -147,3 +151,21 @@ record-stored h {p} a b d r e f g = record {
   numbers = f;
   codes = g ∙ rw e refl;
 }
+
+-- ---- records whose epilogues were counted
+
+pub total-none : (x : Option (List Epilogue)) → counted.Bad ≡ totalOf x → x ≡ none
+unfolding totalOf
+total-none none e = refl
+total-none (some es) e = let z : _≡_ {A = ℕ} 0 1 = cc in absurd (omega arith)
+
+-- as many epilogues as the header says
+pub many-of : (s : List ℕ) (h : Header) {all : List Epilogue} {m : ℕ} → counted.Is m ≡ totalOf (recordEpilogues h s) → recordEpilogues h s ≡ some all → length all ≡ howMany h
+unfolding epilogue
+many-of s h {all} {m} t e =
+    either (h .single) 0
+    (λ l. let z : h .single ≡ 0 = omega arith in scoped-length (wordsFrom (h .past) s) (codesOf h s) 0 (h .count) all (sym (by-words s h refl z) ∙ e) ∙ sym (many-all h z))
+    (λ l.
+      let n : h .single ≢ 0 = λ e. omega arith in
+      let y : all ≡ epilogue (4 * (h .length - suc m)) (codesIn (runAt (codesOf h s) (h .count))) ∷ [] = cc (one s h refl n t .same, e) in
+      ap length y ∙ sym (many-one h n))
