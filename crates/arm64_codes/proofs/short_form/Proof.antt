@@ -1,0 +1,44 @@
+-- `arm64_codes::short_form` meets its contract.
+use mathlib.Core.Path.{sym, _∙_}
+use native.Mathlib.Omega.{arith}
+use Rattle.arm64_codes.proofs.Spellings.{short-1, short-2, short-3, short-4}
+use borrow.Author.Needs.{needs}
+use Rattle.arm64_codes.proofs.short_form.Statement.{statement}
+use Rattle.arm64_codes.proofs.short_form.Tie as tie
+
+spelling-requires : tie.Need-spelling-requires
+spelling-requires c κs = search needs
+
+returns : tie.Need-returns
+returns c = c .spelling .ensures ∙ sym (short-1 _ (omega arith))
+
+spelling-requires-2 : tie.Need-spelling-requires-2
+spelling-requires-2 c κs = search needs
+
+returns-2 : tie.Need-returns-2
+returns-2 c = c .spelling2 .ensures ∙ sym (short-2 _ (omega arith) (omega arith))
+
+spelling-requires-3 : tie.Need-spelling-requires-3
+spelling-requires-3 c κs = search needs
+
+returns-3 : tie.Need-returns-3
+returns-3 c = c .spelling3 .ensures ∙ sym (short-3 _ (omega arith) (omega arith))
+
+spelling-requires-4 : tie.Need-spelling-requires-4
+spelling-requires-4 c κs = search needs
+
+returns-4 : tie.Need-returns-4
+returns-4 c = c .spelling4 .ensures ∙ sym (short-4 _ (omega arith))
+
+pub short-form-spec : {M : Type 1} → statement M
+short-form-spec =
+    tie.close
+    (tie.spec
+    spelling-requires
+    returns
+    spelling-requires-2
+    returns-2
+    spelling-requires-3
+    returns-3
+    spelling-requires-4
+    returns-4)

@@ -1,0 +1,2 @@
+-- What holds of every form.
+pub mod Forms

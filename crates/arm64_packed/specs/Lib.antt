@@ -1,0 +1,2 @@
+-- What holds of a packed word's fields.
+pub mod Fields

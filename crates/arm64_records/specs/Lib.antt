@@ -1,0 +1,2 @@
+-- The full record as the code answers it.
+pub mod Parts

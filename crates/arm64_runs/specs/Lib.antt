@@ -1,0 +1,2 @@
+-- Runs as the code answers them.
+pub mod Runs
