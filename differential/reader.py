@@ -173,11 +173,11 @@ class Walk:
         elif code == 0x0A:
             if len(self.stored) == MOST_STORED:
                 raise Refused(68)
-            self.stored.append((self.frame, self.rule))
+            self.stored.append((self.frame, self.rule, self.signing))
         elif code == 0x0B:
             if not self.stored:
                 raise Refused(67)
-            self.frame, self.rule = self.stored.pop()
+            self.frame, self.rule, self.signing = self.stored.pop()
         elif code == 0x0C:
             self.frame = (b.register(), b.signed(b.uleb()))
         elif code == 0x0D:

@@ -19,6 +19,7 @@ pub mod Fits
 pub mod RulesSeen
 pub mod CheckSays
 pub mod GoesBack
+pub mod SigningRemembered
 pub mod ListLaws
 pub mod Asked
 pub mod Accepted

@@ -57,10 +57,10 @@ unfoldable pub reregister : ℕ → CfaRule → CfaRule
 reregister r Unset = Unset
 reregister r (Register reg off) = Register r off
 
--- the rules stored last come back; of the signing state what holds now stays
+-- the rules stored last come back, and the signing state with them: it is a register's rule (DWARF for the Arm 64-bit Architecture, RA_SIGN_STATE)
 unfoldable pub restored : List AllRules → State → State
 restored [] s = s
-restored (k ∷ ks) s = record { current = record { cfa = k .cfa; rules = k .rules; signing = s .current .signing }; stored = ks }
+restored (k ∷ ks) s = record { current = k; stored = ks }
 
 unfoldable pub negated : State → State
 negated s =

@@ -74,7 +74,7 @@ module _ (s : State) (h : Held s) where
         number = 0;
         state =
             record {
-              rules = record { cfa = k .cfa; rule = k .rule; signing = s .rules .signing };
+              rules = k;
               depth = s .depth - 1;
               stored = s .stored;
             };

@@ -50,7 +50,7 @@ remember s = pick (ltb (length (s .stored)) 16) (good (record { current = s .cur
 
 unfoldable pub recall : List Rules → Run → Result Run
 recall [] s = bad 67
-recall (k ∷ ks) s = good (record { current = record { cfa = k .cfa; rule = k .rule; signing = s .current .signing }; stored = ks })
+recall (k ∷ ks) s = good (record { current = k; stored = ks })
 
 unfoldable pub negated : Run → Run
 negated s =

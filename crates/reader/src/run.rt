@@ -174,7 +174,7 @@ fn remember(s: State) -> Acted
     Acted { number: 0, state }
 }
 
-// Question 67: stored rules for a RestoreState. The signing state runs on.
+// Question 67: stored rules for a RestoreState.
 fn recall(s: State) -> Acted
     requires { ⌜ Held s ⌝ }
     ensures { λ r. ⌜ Acts r (recall (runOf s .stored) (runOf s)) ⌝ }
@@ -188,15 +188,7 @@ fn recall(s: State) -> Acted
     }
     let last = depth - 1;
     let stored = s.stored;
-    let kept = stored[last];
-    let cfa = kept.cfa;
-    let rule = kept.rule;
-    let now = s.rules;
-    let rules = Rules {
-        cfa,
-        rule,
-        signing: now.signing,
-    };
+    let rules = stored[last];
     let state = State {
         rules,
         depth: last,
