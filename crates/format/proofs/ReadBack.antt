@@ -1,5 +1,5 @@
 -- Reading back what was written: for every list that is accepted for DWARF output, in ELF's eh_frame and debug_frame.
-use mathlib.Core.Path.{_≡_, refl, ap, _∙_}
+use mathlib.Core.Path.{_≡_, refl, sym, ap, _∙_}
 use Prim.Native.Nat.{ℕ, _<_, _≤_}
 use mathlib.Core.Bool.{true, not, _&&_}
 use mathlib.Core.Option.{none, some}
@@ -120,3 +120,12 @@ demand-3 s g r w e = (
   tiles s g r w e,
   λ k q p h plain check small below. read-written s g r w e k q p h plain below ∙ ap (answer q) (rules-given s g r w e k p h check),
 )
+
+-- Two sections, one story. Where one list is accepted by both writers of ELF, each with its own room, both sections say the same of every
+-- function without relaxing labels, at every offset below its length and for every register: the same rules, or the same number where the
+-- rows fail the row check.
+pub one-story : (g : Given) (r r′ : Room) (w w′ : Written) → dwarfWritten Elf g r ≡ accepted w → dwarfWritten Debug g r′ ≡ accepted w′
+    → (k q p : ℕ) → k < count functionStride (g .functions) → givenFunction g k .relaxed ≡ none → p < givenFunction g k .size
+    → readBack Elf g w k q p ≡ readBack Debug g w′ k q p
+one-story g r r′ w w′ e e′ k q p h plain below =
+    read-written Elf g r w e k q p h plain below ∙ sym (read-written Debug g r′ w′ e′ k q p h plain below)

@@ -33,7 +33,7 @@ isAccepted (outcome.Accepted c) = true
 isAccepted outcome.Empty = false
 isAccepted (outcome.Refused n k) = false
 
-accepted-by : (a : Answer) (c : Counts) → outcome.Accepted c ≡ outcomeOf a → (w : Written) × (a ≡ accepted w)
+pub accepted-by : (a : Answer) (c : Counts) → outcome.Accepted c ≡ outcomeOf a → (w : Written) × (a ≡ accepted w)
 unfolding outcomeOf
 accepted-by (refused n k) c e = absurd (subst (λ (o : Outcome). T (isAccepted o)) e tt)
 accepted-by empty c e = absurd (subst (λ (o : Outcome). T (isAccepted o)) e tt)
@@ -55,7 +55,7 @@ module _ (s : Section) (debug : Bool) (g : Given) (w : Written) (a : Answer) (o 
   unfolding bytesOf
   front-is = f .bytes-are ∙ ap bytesOf e
 
-  read-accepted : kindOf s ≡ bit debug → readingFor debug (g .machine) o bytes relocations k q p ≡ readBack s g w k q p
+  pub read-accepted : kindOf s ≡ bit debug → readingFor debug (g .machine) o bytes relocations k q p ≡ readBack s g w k q p
   unfolding readingFor relocsOf relocationNumbers machineOf
   read-accepted b = rw (front-is, f .relocations-are, e, b) refl
 

@@ -1,0 +1,2 @@
+-- What the writers wrote of one list reads alike.
+pub mod Stories

@@ -1,0 +1,2 @@
+-- One list in two sections.
+pub mod Story
