@@ -18,7 +18,7 @@ use Rattle.call_sites.specs.Reads.{EntryThere, numbersOf, keptOf, foundO
 
 -- ---- one step of the definition
 
-sites-step : (fuel : ℕ) (bs : List ℕ) → 0 < fuel → 0 < length bs
+pub sites-step : (fuel : ℕ) (bs : List ℕ) → 0 < fuel → 0 < length bs
     → readSitesF fuel bs ≡ next (readSite bs) (λ l rest. after (readSitesF (fuel - 1) rest) λ ls. some (l ∷ ls))
 unfolding readSitesF
 sites-step zero bs h l = absurd (omega arith)

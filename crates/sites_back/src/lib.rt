@@ -1,0 +1,1 @@
+// Call sites written and read back.
