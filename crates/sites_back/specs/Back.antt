@@ -1,7 +1,7 @@
 -- Call sites written and read back: where a record says that its table is, and what is read there.
 use mathlib.Core.Path.{_≡_}
 use mathlib.Core.Logic.{_≢_}
-use Prim.Native.Nat.{ℕ, _+_, _^_, _<_}
+use Prim.Native.Nat.{ℕ, _+_, _-_, _^_, _<_}
 use mathlib.Core.Bool.{Bool, true, false}
 use mathlib.Core.Option.{Option, none, some}
 use mathlib.Core.List.{List, [], _∷_}
@@ -30,6 +30,11 @@ pointerField = 17
 -- the addend of the relocation of record k's pointer to call sites
 unfoldable pub tablePlace : (section : List ℕ) → List Relocation → (k : ℕ) → Option ℕ
 tablePlace section rs k = after (getElem? (records false (listed (entries section))) k) λ e. firstAddend (e .at + pointerField) rs
+
+-- a place outside all bytes where there is none
+unfoldable pub placeIn : Option ℕ → ℕ
+placeIn none = 2 ^ 64 - 1
+placeIn (some place) = place
 
 -- record k of a section has a pointer to the symbol of the call sites, and what is read there are the landings of function k
 pub record TableOf (w : Written) (k : ℕ) (ls : List Landing) : Type 0 where
