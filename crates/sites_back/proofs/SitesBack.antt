@@ -6,8 +6,8 @@ use mathlib.Core.Bool.{Bool, true, false, not}
 use mathlib.Core.Logic.{_≢_}
 use mathlib.Core.Option.{Option, none, some}
 use mathlib.Core.List.{List, [], _∷_, _++_, append-assoc, map}
-use lib.ListN.{length, getElem?, drop, replicate, length-append, length-replicate}
-use lib.Seq.{drop-at}
+use lib.ListN.{length, getElem?, drop, replicate, length-append, length-drop, length-replicate}
+use lib.Seq.{drop-at, drop-append-le}
 use lib.Dec.{T, leb, eqb, leb→le, eqb-refl}
 use mir.Facts.{no-eqb}
 use Rattle.format.specs.Prelude.{pick, first, good}
@@ -204,6 +204,12 @@ few-landings g k h t =
     rw (each-length (landingAt (g .landings)) (field functionStride fs k 4) (field functionStride fs k 5))
     (omega (arith, in-total (λ i. field functionStride fs i 5) (count functionStride fs) k h, landings-few-in fs (g .rows) (g .landings) (g .pairs) t))
 
+-- what stands somewhere stands there with anything behind
+with-tail : (s table rest tail : List ℕ) (place : ℕ) → drop place s ≡ table ++ rest → 0 < length table → drop place (s ++ tail) ≡ table ++ (rest ++ tail)
+with-tail s table rest tail place e h =
+    let l : place ≤ length s = omega (arith, length-drop place s, ap length e, length-append table rest) in
+    drop-append-le place s tail l ∙ ap (λ b. b ++ tail) e ∙ append-assoc table rest tail
+
 module _ (g : Given) (w : Written) (a : Accepted Elf g w) (k : ℕ) (h : k < count functionStride (g .functions)) (l : Landing) (ls : List Landing)
     (x : givenFunction g k .landings ≡ l ∷ ls) (fits : Each SiteFits (l ∷ ls)) where
   abbrev m : Machine
@@ -222,7 +228,7 @@ module _ (g : Given) (w : Written) (a : Accepted Elf g w) (k : ℕ) (h : k < cou
       ap listed (ap (λ (v : Written). entries (v .bytes)) (a .written) ∙ section-tiles Elf m fs (a .machine) (a .functions) (a .bounded))
 
   table-of : TableOf w k (l ∷ ls)
-  unfolding dwarf partsOf relocsOf sitesOf recordEntry isDebug
+  unfolding dwarf partsOf relocsOf sitesOf recordEntry isDebug siteTable
   table-of =
       let f : Function = givenFunction g k in
       let spot : Spot = spotAt Elf m 0 [] fs k in
@@ -236,8 +242,7 @@ module _ (g : Given) (w : Written) (a : Accepted Elf g w) (k : ℕ) (h : k < cou
         pointer = pointerTo m spot f (tableAt 0 fs k);
         is-first = pointer-at m (a .machine) 0 0 [] fs k f l ls [] (w .relocations) relocations-are tt (a .functions) at-k x;
         to-sites = refl;
-        reads = place-back (w .sites) (tableAt 0 fs k) (l ∷ ls) (s .rest) (ap (drop (tableAt 0 fs k)) sites-are ∙ s .there) fits
-            (omega (arith, sites-most (l ∷ ls)));
+        reads = λ tail. place-back (w .sites ++ tail) (tableAt 0 fs k) (l ∷ ls) (s .rest ++ tail) (with-tail (w .sites) (siteTable (l ∷ ls)) (s .rest) tail (tableAt 0 fs k) (ap (drop (tableAt 0 fs k)) sites-are ∙ s .there) (omega arith)) fits (omega (arith, sites-most (l ∷ ls)));
       }
 
 by-landings : (g : Given) (w : Written) → Accepted Elf g w → (k : ℕ) → k < count functionStride (g .functions) → (ls : List Landing)

@@ -1,59 +1,52 @@
+-- `sites_back::table_place` meets its contract.
+use mathlib.Core.Path.{sym, subst, _∙_}
+use native.Mathlib.Omega.{arith}
+use mathlib.Core.Bool.{false}
+use lib.ListN.{getElem?}
+use borrow.Author.Tests.{not-true, not-false}
+use Rattle.format.specs.Reader.{entries, records}
+use Rattle.reader.specs.Spans.{listed, Spans}
+use Rattle.reader.specs.declared.entries.Span.{Span}
+use Rattle.sites_back.proofs.Places.{untiled, no-record, no-pointer, pointer-there}
 use borrow.Author.Needs.{needs}
 use Rattle.sites_back.proofs.table_place.Statement.{statement}
 use Rattle.sites_back.proofs.table_place.Tie as tie
-use Rattle.sites_back.proofs.table_place.Reads as reads
-use Rattle.sites_back.proofs.table_place.Lts as lts
-use Rattle.reader.proofs.entries.record_span.Reads as record-span-reads
-use Rattle.reader.proofs.entries.tiles.Reads as tiles-reads
-use Rattle.reader.proofs.location.first_addend.Reads as first-addend-reads
 
--- src/lib.rt:17:9
 tiles-requires : tie.Need-tiles-requires
 tiles-requires c κs = search needs
 
--- src/lib.rt:18:9
 returns : tie.Need-returns
-returns c = ?
+returns c = let a = c .before .before .before .before .args in untiled (a .section .now) _ (a .k) (sym (c .before .tiles .ensures) ∙ not-true _ (c .if1 .taken))
 
--- src/lib.rt:20:27
 record-span-requires : tie.Need-record-span-requires
-record-span-requires c κs = ?
+record-span-requires c κs = rw (sym (c .before .tiles .ensures) ∙ not-false _ (c .if1 .left)) tt
 
--- src/lib.rt:20:18
 enum-known-at : tie.Need-enum-known-at
 enum-known-at c = search needs
 
--- src/lib.rt:21:9
 enum-told : tie.Need-enum-told
 enum-told c = search needs
 
--- src/lib.rt:21:9
 returns-2 : tie.Need-returns-2
-returns-2 c = ?
+returns-2 c = let a = c .before .before .before .before .before .before .before .args in no-record (a .section .now) _ (a .k) (subst (λ (x : Span). Spans (c .before .before .before .before .before .before .before .args .section .now) x (getElem? (records false (listed (entries (c .before .before .before .before .before .before .before .args .section .now)))) (c .before .before .before .before .before .before .before .args .k))) (c .enum-told .given .1) (c .before .before .record-span .ensures))
 
--- src/lib.rt:23:66
 add-first-addend : tie.Need-add-first-addend
-add-first-addend c = ?
+add-first-addend c = let t = subst (λ (x : Span). Spans (c .before .before .before .before .before .before .before .before .args .section .now) x (getElem? (records false (listed (entries (c .before .before .before .before .before .before .before .before .args .section .now)))) (c .before .before .before .before .before .before .before .before .args .k))) (c .before .at .given .1) (c .before .before .before .record-span .ensures) in omega (arith, t .long, t .inside)
 
--- src/lib.rt:23:29
 first-addend-requires : tie.Need-first-addend-requires
 first-addend-requires c κs = search needs
 
--- src/lib.rt:23:20
 enum-known-place : tie.Need-enum-known-place
 enum-known-place c = search needs
 
--- src/lib.rt:24:9
 enum-told-2 : tie.Need-enum-told-2
 enum-told-2 c = search needs
 
--- src/lib.rt:24:9
 returns-3 : tie.Need-returns-3
-returns-3 c = ?
+returns-3 c = let a = c .before .before .before .before .before .before .before .before .before .before .before .args in no-pointer (a .section .now) _ (a .k) (subst (λ (x : Span). Spans (c .before .before .before .before .before .before .before .before .before .before .before .args .section .now) x (getElem? (records false (listed (entries (c .before .before .before .before .before .before .before .before .before .before .before .args .section .now)))) (c .before .before .before .before .before .before .before .before .before .before .before .args .k))) (c .before .before .before .before .at .given .1) (c .before .before .before .before .before .before .record-span .ensures)) (c .before .before .first-addend .ensures) (c .enum-told2 .given .1)
 
--- src/lib.rt:14:1
 returns-4 : tie.Need-returns-4
-returns-4 c = ?
+returns-4 c = let a = c .before .before .before .before .before .before .before .before .before .before .before .before .args in pointer-there (a .section .now) _ (a .k) (subst (λ (x : Span). Spans (c .before .before .before .before .before .before .before .before .before .before .before .before .args .section .now) x (getElem? (records false (listed (entries (c .before .before .before .before .before .before .before .before .before .before .before .before .args .section .now)))) (c .before .before .before .before .before .before .before .before .before .before .before .before .args .k))) (c .before .before .before .before .before .at .given .1) (c .before .before .before .before .before .before .before .record-span .ensures)) (c .before .before .before .first-addend .ensures) (c .before .place .given .1)
 
 pub table-place-spec : {M : Type 1} → statement M
 table-place-spec =
