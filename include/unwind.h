@@ -1,5 +1,5 @@
 /* Unwind tables: the writers of ELF's eh_frame and debug_frame and of Windows x64 unwind data, the row check, the reader of the
- * DWARF sections, and the reader of x64 unwind data.
+ * DWARF sections, the reader of call sites, and the reader of x64 unwind data.
  *
  * Every function takes every input: a refusal comes back as the number of the question that was answered by no, and every
  * lent buffer is then as it was. An accepted call leaves what lies past its results as it was. No input is changed.
@@ -50,6 +50,8 @@ extern "C" {
  *   reader: the list for codes
  *   61 lengths tile   62 record k   63 its header   64 fields of both   65 p below the length   66 operations
  *   67 a state to restore, no Restore in a header   68 at most 16 states stored   69 a frame address rule to change
+ *   71 a table of call sites: place inside, head ff ff 01, its length readable and to the end   72 its entries: complete, readable,
+ *   start plus length below 2^64
  *   76 x64 header: version 1, no flags, all four bytes and all slots there   77 x64 codes: complete, operations that unwind_seh writes
  *   78 eh_frame of a format that is written: not Mach-O
  *   79 relocations of the writers' kinds and sizes, with their partners and addresses, fields inside, values that fit
@@ -102,6 +104,17 @@ typedef struct {
 unwind_reading unwind_read(
     const uint8_t *section, size_t section_n, const uint64_t *relocations, size_t relocations_n,
     uint64_t kind, uint64_t word, uint64_t k, uint16_t reg, uint64_t p);
+
+/* What the reader of call sites answers: `number` is 0, or the question's (71, then 72). found: 1 where an entry covers the offset, else
+ * 0. A pad of 0 is no handler. All are 0 on a refusal, and where no entry covers the offset. */
+typedef struct {
+    uint64_t number, found, start, length, pad;
+} unwind_site;
+
+/* A site of the table at a place of the call sites that covers a code offset: its start is at most the offset, and the offset is below its
+ * start plus its length. All three count from the function's start. Every entry is read before the answer. Which site it is, where several
+ * cover the offset, is not said. A function's place is the addend of its record's relocation to symbol 1. */
+unwind_site unwind_call_site(const uint8_t *sites, size_t sites_n, uint64_t place, uint64_t offset);
 
 /* What the reader of x64 records answers: `number` is 0, or the question's (76, 77, then 54). end: the prologue's. frame: 1 where a
  * code sets the frame register, else 0. frame_register and frame_offset are the header's, always. codes: how many. All are 0 on a

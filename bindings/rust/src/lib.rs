@@ -1,5 +1,5 @@
 //! Unwind tables: writers of ELF's eh_frame and debug_frame and of Windows x64 unwind data, a reader of the
-//! DWARF ones and one of the x64 records. Safe wrappers over libunwind.a, whose functions are proved to give exactly what their
+//! DWARF ones, one of call sites and one of the x64 records. Safe wrappers over libunwind.a, whose functions are proved to give exactly what their
 //! specification says.
 //!
 //! Every function takes every input. A refusal is a [`Refusal`]: the number of the question that was answered by no, and the
@@ -40,4 +40,4 @@ mod write;
 
 pub use refusal::Refusal;
 pub use types::*;
-pub use write::{apply, read, read_x64, relaxed_debug_frame, relaxed_table, row_check, seh, Table};
+pub use write::{apply, call_site, read, read_x64, relaxed_debug_frame, relaxed_table, row_check, seh, Table};

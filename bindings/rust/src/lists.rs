@@ -6,7 +6,7 @@
 use alloc::vec::Vec;
 
 use crate::sys;
-use crate::{Frame, Function, Prologue, Refusal, Row, Rule, Rules};
+use crate::{Frame, Function, Prologue, Refusal, Row, Rule, Rules, Site};
 
 /// What question 13 allows.
 const MOST_FUNCTIONS: usize = 65_536;
@@ -202,6 +202,21 @@ pub fn read(
         _ => Rule::Saved(r.rule_value as i64),
     };
     Ok(Rules { frame, rule, signing: r.signing != 0 })
+}
+
+/// A site of the table at a place of the call sites that covers a code offset, or `None` where no entry does. Which one it is, where several
+/// cover the offset, is not said.
+///
+/// # Errors
+/// The question that was answered by no: 71 or 72.
+pub fn call_site(sites: &[u8], place: u64, offset: u64) -> Result<Option<Site>, Refusal> {
+    // SAFETY: pointer and count come from one slice, so they are valid and aligned. The function takes every number.
+    let r = unsafe { sys::unwind_call_site(sites.as_ptr(), sites.len(), place, offset) };
+    match (r.number, r.found) {
+        (0, 0) => Ok(None),
+        (0, _) => Ok(Some(Site { start: r.start, length: r.length, pad: r.pad })),
+        (number, _) => Err(Refusal { number, position: 0 }),
+    }
 }
 
 /// What the x64 record at a place of the info says beside its codes.

@@ -6,7 +6,7 @@ use core::fmt;
 /// A call was refused: a question was answered by no, and nothing was written.
 #[derive(Clone, Copy, Debug, PartialEq, Eq, Hash)]
 pub struct Refusal {
-    /// The question's number: 11 to 13, 21 to 25, 31 to 41, 51 to 54, 61 to 69, 76 to 80.
+    /// The question's number: 11 to 13, 21 to 25, 31 to 41, 51 to 54, 61 to 69, 71, 72, 76 to 80.
     pub number: u64,
     /// The function's position in its list, from 0; 0 for 11 to 13, for 51 to 54, and for the reader's.
     pub position: u64,
@@ -49,6 +49,8 @@ impl Refusal {
             67 => "has each RestoreState a stored state, and is no Restore in a header?",
             68 => "are at most 16 states stored?",
             69 => "is there a frame address rule to change?",
+            71 => "is the place inside the call sites, the table's head ff ff 01, and its length readable and not past the end?",
+            72 => "is each call site complete and readable, and its start plus its length below 2^64?",
             76 => "is the x64 header's version 1 without flags, and are its four bytes and its slots all there?",
             77 => "is each x64 code complete, and its operation one that can be written?",
             78 => "is the format one that is written? Mach-O is not any more.",

@@ -25,6 +25,16 @@ pub(crate) struct Reading {
     pub signing: u64,
 }
 
+/// What the reader of call sites answers.
+#[repr(C)]
+pub(crate) struct Site {
+    pub number: u64,
+    pub found: u64,
+    pub start: u64,
+    pub length: u64,
+    pub pad: u64,
+}
+
 /// What the reader of x64 records answers.
 #[repr(C)]
 pub(crate) struct X64Reading {
@@ -38,6 +48,8 @@ pub(crate) struct X64Reading {
 
 extern "C" {
     pub(crate) fn unwind_machine_x86_64(machine: *mut u64, machine_n: usize) -> u64;
+
+    pub(crate) fn unwind_call_site(sites: *const u8, sites_n: usize, place: u64, offset: u64) -> Site;
 
     pub(crate) fn unwind_read_x64(info: *const u8, info_n: usize, place: u64, codes: *mut u64, codes_n: usize) -> X64Reading;
 

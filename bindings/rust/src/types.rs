@@ -369,6 +369,17 @@ pub struct Prologue<'a> {
     pub codes: &'a [Code],
 }
 
+/// A call site, read: its start, its length and its pad count from the function's start.
+#[derive(Clone, Copy, Debug, PartialEq, Eq, Hash)]
+pub struct Site {
+    /// Where the calls start.
+    pub start: u64,
+    /// How long they are.
+    pub length: u64,
+    /// Where the handler is; 0 is none.
+    pub pad: u64,
+}
+
 /// An x64 record, read.
 #[derive(Clone, Debug, PartialEq, Eq)]
 pub struct X64Record {

@@ -4,7 +4,7 @@ use alloc::vec;
 use alloc::vec::Vec;
 
 use crate::lists::{self, Counts, Lent, Lists, Packed, PackedCodes};
-use crate::{Code, Format, Function, Machine, Prologue, Refusal, Relocation, Row, Rules, Section, Word, X64Record};
+use crate::{Code, Format, Function, Machine, Prologue, Refusal, Relocation, Row, Rules, Section, Site, Word, X64Record};
 
 /// No result of a writer has as many elements: question 13 keeps each below this.
 const MOST: usize = 1 << 25;
@@ -176,6 +176,27 @@ pub fn read(
     p: u64,
 ) -> Result<Rules, Refusal> {
     lists::read(section, Relocation::numbers(relocations), kind.number(), word.bytes(), k, register, p)
+}
+
+/// A site of the table at a place of the call sites that covers a code offset, or `None` where no entry does. Which one it is, where several
+/// cover the offset, is not said. The place is the addend of the record's relocation to symbol 1. The bytes may be any.
+///
+/// # Errors
+/// The question that was answered by no: 71 or 72.
+///
+/// ```
+/// use unwind::{call_site, relaxed_table, Format, Function, Landing, Machine, Site};
+///
+/// let landings = [Landing { start: 4, length: 6, pad: 20 }];
+/// let function = Function { landings: &landings, ..Function::new(16, 30, &[]) };
+/// let table = relaxed_table(&Machine::X86_64, Format::Elf, &[function])?;
+/// let pointer = table.relocations.iter().find(|r| r.symbol == 1).unwrap();
+/// assert_eq!(call_site(&table.sites, pointer.addend, 9)?, Some(Site { start: 4, length: 6, pad: 20 }));
+/// assert_eq!(call_site(&table.sites, pointer.addend, 10)?, None);
+/// # Ok::<(), unwind::Refusal>(())
+/// ```
+pub fn call_site(sites: &[u8], place: u64, offset: u64) -> Result<Option<Site>, Refusal> {
+    lists::call_site(sites, place, offset)
 }
 
 /// The codes of a record are at most as many as its slots.

@@ -5,7 +5,7 @@ use unwind::lists::{self, Lent, Packed};
 use unwind::{
     apply, read, relaxed_debug_frame, relaxed_table, row_check, seh, Code, CodeOp, Format, Frame, Function, Kind, Landing,
     Machine, MachineRegister, Op, Pair, Personality, Pointer, Prologue, Refusal, Relaxed, Relocation, Row, Rule, Rules,
-    Section, Table, Target, Word,
+    Section, Site, Table, Target, Word,
 };
 
 const X86: &Machine = &Machine::X86_64;
@@ -272,6 +272,21 @@ fn relocations_applied() {
 #[test]
 fn the_ready_machine_is_the_librarys() {
     assert_eq!(Machine::X86_64.numbers(), lists::machine_x86_64());
+}
+
+/// A table of two sites behind two zeros, its length and the last number in long form, and a refusal of each kind.
+#[test]
+fn sites_of_a_table() {
+    let sites = hex("0000 ffff01 8900 04060000 0a0214 8000");
+    let site = |place, offset| unwind::call_site(&sites, place, offset);
+    assert_eq!(site(2, 3), Ok(None));
+    assert_eq!(site(2, 9), Ok(Some(Site { start: 4, length: 6, pad: 0 })));
+    assert_eq!(site(2, 11), Ok(Some(Site { start: 10, length: 2, pad: 20 })));
+    assert_eq!(site(2, 12), Ok(None));
+    assert_eq!(site(0, 4).unwrap_err().number, 71);
+    assert_eq!(unwind::call_site(&hex("ffff01 05 04060000 0a"), 0, 4).unwrap_err().number, 72);
+    let far = hex("ffff01 0d ffffffffffffffffff01 01 00 00");
+    assert_eq!(unwind::call_site(&far, 0, 4).unwrap_err().number, 72);
 }
 
 /// The prologue `push rbp; mov rbp, rsp; sub rsp, 32`, as GNU and LLVM compilers write it, and a refusal of each kind.

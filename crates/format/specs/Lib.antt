@@ -16,4 +16,5 @@ pub mod Questions
 pub mod Rules
 pub mod RowCheck
 pub mod Reader
+pub mod CallSiteReader
 pub mod Answers

@@ -21,7 +21,7 @@ use crate::fields::Record;
 // ---- the header of a record
 
 // The addend of the first relocation at a place; a relocation is five numbers, the place first and the addend last.
-fn first_addend(relocs: &[u64], place: u64) -> Number
+pub fn first_addend(relocs: &[u64], place: u64) -> Number
     ensures { λ r. ⌜ r ≡ numberOf (firstAddend place (relocationsOf (now (relocs .entry)))) ⌝ }
 {
     let n = relocs.len() / 5;

@@ -206,7 +206,7 @@ pub fn read(
 // ---- a writer and then the reader
 
 // How many bytes, and how many numbers of relocations, were written.
-fn bytes_in(o: Outcome) -> usize
+pub fn bytes_in(o: Outcome) -> usize
     ensures { λ r. ⌜ r ≡ bytesIn o ⌝ }
 {
     match o {
@@ -216,7 +216,7 @@ fn bytes_in(o: Outcome) -> usize
     }
 }
 
-fn numbers_in(o: Outcome, room: usize) -> usize
+pub fn numbers_in(o: Outcome, room: usize) -> usize
     requires { ⌜ 5 * relocsIn o ≤ room ⌝ }
     ensures { λ r. ⌜ r ≡ 5 * relocsIn o ⌝ }
 {

@@ -1,0 +1,2 @@
+-- What the functions of this crate promise, beyond crates/format/specs.
+pub mod Reads

@@ -1,0 +1,170 @@
+// Call sites read: the table at a place of the exception bytes, and a site of it that covers a code offset (Itanium C++ ABI, "LSDA"), which
+// rucc-asm/src/unwind.rs of tamnd/rucc does not have.
+ghost use mathlib.Core.Path.{_≡_};
+ghost use mathlib.Core.List.{[], _∷_};
+ghost use Rattle.format.specs.CallSiteReader.{siteOf, covers, headOk, readSites, sitesAt, SiteAnswers};
+ghost use Rattle.call_sites.specs.Reads.{EntrySays, TableSays, numbersOf, keptOf, foundOf};
+use format::Unsigned;
+
+const DW_EH_PE_OMIT: u8 = 0xff;
+
+const DW_EH_PE_ULEB128: u8 = 0x01;
+
+// ---- one entry
+
+// The start, length and pad of an entry, and the position past it.
+pub enum Entry {
+    Site(u64, u64, u64, usize),
+    Bad,
+}
+
+// The entry at a position. Its action, a number as well, is not looked at.
+fn entry_at(s: &[u8], at: usize) -> Entry
+    ensures { λ r. ⌜ EntrySays (now (s .entry)) at r ⌝ }
+{
+    let Unsigned::Value(start, sized) = leb::read_uleb(s, at) else {
+        return Entry::Bad;
+    };
+    let Unsigned::Value(length, padded) = leb::read_uleb(s, sized) else {
+        return Entry::Bad;
+    };
+    let Unsigned::Value(pad, acting) = leb::read_uleb(s, padded) else {
+        return Entry::Bad;
+    };
+    let Unsigned::Value(_, past) = leb::read_uleb(s, acting) else {
+        return Entry::Bad;
+    };
+    if 18446744073709551615 - start < length {
+        return Entry::Bad;
+    }
+    Entry::Site(start, length, pad, past)
+}
+
+fn covers(start: u64, length: u64, pad: u64, offset: u64) -> bool
+    ensures { λ r. ⌜ r ≡ covers offset (siteOf start length pad) ⌝ }
+{
+    if offset < start {
+        return false;
+    }
+    offset - start < length
+}
+
+// ---- the answer
+
+// What unwind_call_site answers.
+#[repr(C)]
+pub struct Site {
+    pub number: u64,
+    pub found: u64,
+    pub start: u64,
+    pub length: u64,
+    pub pad: u64,
+}
+
+fn refused(number: u64) -> Site
+    ensures { λ r. ⌜ numbersOf r ≡ number ∷ 0 ∷ 0 ∷ 0 ∷ 0 ∷ [] ⌝ }
+{
+    Site {
+        number,
+        found: 0,
+        start: 0,
+        length: 0,
+        pad: 0,
+    }
+}
+
+fn found_at(start: u64, length: u64, pad: u64) -> Site
+    ensures { λ r. ⌜ numbersOf r ≡ 0 ∷ 1 ∷ start ∷ length ∷ pad ∷ [] ⌝ }
+{
+    Site {
+        number: 0,
+        found: 1,
+        start,
+        length,
+        pad,
+    }
+}
+
+// The site that was found before, or else this one where it covers the offset.
+fn kept(before: Site, start: u64, length: u64, pad: u64, offset: u64) -> Site
+    ensures { λ r. ⌜ numbersOf r ≡ keptOf before offset (siteOf start length pad) ⌝ }
+{
+    if before.found != 0 {
+        return before;
+    }
+    if !covers(start, length, pad, offset) {
+        return before;
+    }
+    found_at(start, length, pad)
+}
+
+// ---- a table
+
+// The entries of a table, all read, and a site of them that covers the offset.
+fn search(s: &[u8], offset: u64) -> Site
+    ensures { λ r. ⌜ numbersOf r ≡ foundOf offset (readSites (now (s .entry))) ⌝ }
+{
+    let mut i = 0;
+    let mut site = refused(0);
+    while i < s.len() {
+        let Entry::Site(start, length, pad, past) = entry_at(s, i) else {
+            return refused(72);
+        };
+        site = kept(site, start, length, pad, offset);
+        i = past;
+    }
+    site
+}
+
+// Where the entries of a table start and end.
+pub enum Table {
+    Entries(usize, usize),
+    Bad,
+}
+
+fn head_ok(base: u8, types: u8, encoding: u8) -> bool
+    ensures { λ r. ⌜ r ≡ headOk base types encoding ⌝ }
+{
+    if base != DW_EH_PE_OMIT {
+        return false;
+    }
+    if types != DW_EH_PE_OMIT {
+        return false;
+    }
+    encoding == DW_EH_PE_ULEB128
+}
+
+fn table_at(sites: &[u8], place: u64) -> Table
+    ensures { λ r. ⌜ TableSays (now (sites .entry)) place r ⌝ }
+{
+    let size = sites.len();
+    let p = place as usize;
+    if size < 3 {
+        return Table::Bad;
+    }
+    if size - 3 < p {
+        return Table::Bad;
+    }
+    if !head_ok(sites[p], sites[p + 1], sites[p + 2]) {
+        return Table::Bad;
+    }
+    let Unsigned::Value(n, at) = leb::read_uleb(sites, p + 3) else {
+        return Table::Bad;
+    };
+    if size - at < n as usize {
+        return Table::Bad;
+    }
+    Table::Entries(at, at + n as usize)
+}
+
+// A site of the table at a place of the exception bytes that covers a code offset: its start, length and pad, or that no entry covers it.
+// Every entry is read before the answer. It refuses by 71 and 72. Which site it is, where several cover the offset, is free.
+#[no_mangle]
+pub extern "C" fn unwind_call_site(sites: &[u8], place: u64, offset: u64) -> Site
+    ensures { λ r. ⌜ SiteAnswers (sitesAt (now (sites .entry)) place) offset (numbersOf r) ⌝ }
+{
+    let Table::Entries(at, past) = table_at(sites, place) else {
+        return refused(71);
+    };
+    search(&sites[at..past], offset)
+}

@@ -1,0 +1,73 @@
+-- Call sites read (Itanium C++ ABI, exception handling tables, "LSDA"): the entries of the table at a place, and those that cover an offset.
+use mathlib.Core.Path.{_≡_}
+use Prim.Native.Nat.{ℕ, zero, suc, _+_, _^_}
+use mathlib.Core.Bool.{Bool, true, false, not, _&&_}
+use mathlib.Core.Option.{Option, none, some}
+use mathlib.Core.List.{List, [], _∷_}
+use lib.ListN.{length, getElem?, drop}
+use lib.Dec.{T, leb, ltb, eqb}
+use Rattle.format.specs.Prelude.{pick, Read, next, after, Result, good, bad, onward, orElse, all}
+use Rattle.format.specs.Constants.{«DW_EH_PE_omit», «DW_EH_PE_uleb128»}
+use Rattle.format.specs.Leb.{readUleb}
+use Rattle.format.specs.Lists.{Landing}
+use Rattle.format.specs.Reader.{readCounted}
+
+-- ---- one entry: start, length and pad, and any action; start plus length has 64 bits
+
+unfoldable pub siteOf : (start size pad : ℕ) → Landing
+siteOf start size pad = record { start = start; size = size; pad = pad }
+
+unfoldable pub readSite : List ℕ → Read Landing
+readSite bs =
+    next (readUleb bs) λ start b₁. next (readUleb b₁) λ size b₂. next (readUleb b₂) λ pad b₃. next (readUleb b₃) λ action rest.
+    pick (ltb (start + size) (2 ^ 64)) (some (siteOf start size pad, rest)) none
+
+-- ---- the entries of a table, all of whose bytes belong to them (72)
+
+-- at most f - 1 entries
+unfoldable pub readSitesF : ℕ → List ℕ → Option (List Landing)
+readSitesF zero bs = none
+readSitesF (suc f) [] = some []
+readSitesF (suc f) (b ∷ bs) = next (readSite (b ∷ bs)) λ l rest. after (readSitesF f rest) λ ls. some (l ∷ ls)
+
+-- each is longer than one byte, so the length is fuel enough
+unfoldable pub readSites : List ℕ → Option (List Landing)
+readSites bs = readSitesF (suc (length bs)) bs
+
+-- ---- a table (71): no landing pad base, no type table, numbers as ULEB; the length of its entries, and as many bytes
+
+unfoldable pub headOk : (base types encoding : ℕ) → Bool
+headOk base types encoding = eqb base «DW_EH_PE_omit» && eqb types «DW_EH_PE_omit» && eqb encoding «DW_EH_PE_uleb128»
+
+-- the bytes of its entries
+unfoldable pub readTable : List ℕ → Option (List ℕ)
+readTable [] = none
+readTable (a ∷ []) = none
+readTable (a ∷ b ∷ []) = none
+readTable (a ∷ b ∷ c ∷ bs) = pick (headOk a b c) (next (readCounted bs) λ es rest. some es) none
+
+-- the entries of the table at a place of the exception bytes; nothing stands at a place outside them
+unfoldable pub sitesAt : List ℕ → (place : ℕ) → Result (List Landing)
+sitesAt s place = onward (orElse (readTable (drop place s)) 71) λ bs. orElse (readSites bs) 72
+
+-- ---- an offset
+
+-- start at most the offset, and the offset below start plus length
+unfoldable pub covers : (offset : ℕ) → Landing → Bool
+covers offset l = leb (l .start) offset && ltb offset (l .start + l .size)
+
+-- ---- as numbers: number (0: answered), found (0: no entry covers the offset), start, length and pad
+
+unfoldable pub siteNumbers : Option Landing → List ℕ
+siteNumbers none = 0 ∷ 0 ∷ 0 ∷ 0 ∷ 0 ∷ []
+siteNumbers (some l) = 0 ∷ 1 ∷ l .start ∷ l .size ∷ l .pad ∷ []
+
+-- An answer to an offset: an entry that covers it, or, exactly when none does, none. Which one, where several cover it, is free.
+pub data Covering (offset : ℕ) (ls : List Landing) : Option Landing → Type 0 where
+  uncovered : T (all (λ l. not (covers offset l)) ls) → Covering offset ls none
+  covered : (i : ℕ) (l : Landing) → getElem? ls i ≡ some l → T (covers offset l) → Covering offset ls (some l)
+
+-- what the reader of call sites answers: the number of the question answered by no, or an answer to the offset
+abbrev pub SiteAnswers : Result (List Landing) → (offset : ℕ) → List ℕ → Type 0
+SiteAnswers (bad n) offset ns = ns ≡ n ∷ 0 ∷ 0 ∷ 0 ∷ 0 ∷ []
+SiteAnswers (good ls) offset ns = (o : Option Landing) × (Covering offset ls o × (ns ≡ siteNumbers o))
