@@ -1,0 +1,3 @@
+-- The lemmas of this crate's functions, and what their answers agree with.
+pub mod Entered
+pub mod Operated

@@ -1,0 +1,3 @@
+-- What the exports answer of a section: its entries, the fields of a header and of a record, and their operations.
+pub mod Entries
+pub mod Operations
