@@ -1,3 +1,5 @@
 -- The lemmas of this crate's functions, and what their answers agree with.
 pub mod Entered
 pub mod Operated
+pub mod Recorded
+pub mod Headed

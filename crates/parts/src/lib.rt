@@ -3,7 +3,9 @@ ghost use mathlib.Core.Path.{_≡_};
 ghost use Rattle.format.specs.Answers.{bit};
 ghost use Rattle.parts.specs.Entries.{nextEntry};
 
+pub mod headers;
 pub mod operations;
+pub mod records;
 
 // ---- an entry
 
@@ -17,7 +19,7 @@ pub struct EntryRead {
     pub next: u64,
 }
 
-fn bit(b: bool) -> u64
+pub fn bit(b: bool) -> u64
     ensures { λ r. ⌜ r ≡ bit b ⌝ }
 {
     if b { 1 } else { 0 }
