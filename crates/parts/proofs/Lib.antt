@@ -3,3 +3,4 @@ pub mod Entered
 pub mod Operated
 pub mod Recorded
 pub mod Headed
+pub mod Agrees
