@@ -3,7 +3,7 @@ use mathlib.Core.Path.{_≡_, refl, sym, _∙_}
 use mathlib.Core.Bool.{Bool, true, false, _&&_}
 use mathlib.Core.Option.{Option, none, some}
 use mathlib.Core.List.{List}
-use Prim.Native.Nat.{ℕ, _-_, _≤_, _<_}
+use Prim.Native.Nat.{ℕ, _+_, _-_, _≤_, _<_}
 use native.Mathlib.Omega.{arith}
 use lib.Dec.{eqb, leb}
 use lib.ListN.{length}
@@ -144,8 +144,41 @@ named-pick number fault false a b x y = y
 named-other : (n : ℕ) → (n ≡ 64 → ⊥) → Named n 0
 named-other n h = ((λ e. absurd (h e)), (λ k. refl))
 
-header-number : HeaderRead → ℕ
-header-number r = r .number
+header-numbers-named : (end : ℕ) {r : Result HeaderParts} {o : Option HeaderFields} → Agree (λ (x : HeaderParts). x .fields) 1 6 r o
+    → Named (headerNumbers end r .number) (headerNumbers end r .«field»)
+unfolding headerNumbers noHeader
+header-numbers-named end (both a) = named-other 0 (λ e. omega arith)
+header-numbers-named end (neither n a b) = ((λ e. omega arith), (λ k. absurd (k refl)))
 
-header-fault : HeaderRead → ℕ
-header-fault r = r .«field»
+pub header-named : (section : List ℕ) (kind word place : ℕ) → Named (readHeaderAt section kind word place .number) (readHeaderAt section kind word place .«field»)
+unfolding readHeaderAt headerOf noHeader
+header-named section kind word place =
+    let number : HeaderRead → ℕ = λ r. r .number in
+    let fault : HeaderRead → ℕ = λ r. r .«field» in
+    let debug : Bool = eqb kind 1 in
+    let e : Entry = entryAt debug section place in
+    named-pick number fault (isWord word && leb kind 1) _ _
+    (named-pick number fault (eqb (e .number) 0) _ _
+    (named-pick number fault (e .header) _ _
+    (header-numbers-named (e .next) (agree-header debug word (part section (e .place + 4) (e .next)))) (named-other 63 (λ h. omega arith)))
+    (named-other 61 (λ h. omega arith))) (named-other 11 (λ h. omega arith))
+
+record-numbers-named : (debug : Bool) (pointer end : ℕ) {r : Result RecordParts} {o : Option RecordFields} → Agree (λ (x : RecordParts). x .fields) 7 9 r o
+    → Named (recordNumbers debug pointer end r .number) (recordNumbers debug pointer end r .«field»)
+unfolding recordNumbers noRecord
+record-numbers-named debug pointer end (both a) = named-other 0 (λ e. omega arith)
+record-numbers-named debug pointer end (neither n a b) = ((λ e. omega arith), (λ k. absurd (k refl)))
+
+pub record-named : (section : List ℕ) (kind word pointer place : ℕ)
+    → Named (readRecordAt section kind word pointer place .number) (readRecordAt section kind word pointer place .«field»)
+unfolding readRecordAt recordOf noRecord
+record-named section kind word pointer place =
+    let number : RecordRead → ℕ = λ r. r .number in
+    let fault : RecordRead → ℕ = λ r. r .«field» in
+    let debug : Bool = eqb kind 1 in
+    let e : Entry = entryAt debug section place in
+    named-pick number fault (isWord word && leb kind 1) _ _
+    (named-pick number fault (eqb (e .number) 0) _ _
+    (named-pick number fault (e .header) _ _ (named-other 62 (λ h. omega arith))
+    (record-numbers-named debug pointer (e .next) (agree-record debug word pointer (part section (e .place + 4) (e .next)))))
+    (named-other 61 (λ h. omega arith))) (named-other 11 (λ h. omega arith))

@@ -4,3 +4,4 @@ pub mod Operated
 pub mod Recorded
 pub mod Headed
 pub mod Agrees
+pub mod Walks
