@@ -5,3 +5,4 @@ pub mod Recorded
 pub mod Headed
 pub mod Agrees
 pub mod Walks
+pub mod Suffixes
