@@ -6,3 +6,4 @@ pub mod Headed
 pub mod Agrees
 pub mod Walks
 pub mod Suffixes
+pub mod Readings
