@@ -7,3 +7,4 @@ pub mod Agrees
 pub mod Walks
 pub mod Suffixes
 pub mod Readings
+pub mod Examples

@@ -16,12 +16,15 @@ use Rattle.format.specs.Prelude.{pick}
 use Rattle.format.specs.Machine.{isWord}
 use Rattle.rows.proofs.Signs.{negative, positive}
 use Rattle.reader.specs.Spans.{part}
+use Rattle.reader.proofs.Whole.{drop-part}
+use Rattle.format.specs.Rows.{readOperation}
+use mathlib.Core.Option.{some}
 use Rattle.format.specs.declared.Operation.{Operation}
 use Rattle.format.specs.declared.Operation.the-variants.{Nop, Step, Does}
 use Rattle.format.specs.declared.Decoded.{Decoded}
 use Rattle.format.specs.declared.Decoded.the-variants as decoded
 use Rattle.format.proofs.Positions.{operationAt}
-use Rattle.format.proofs.OperationLaws.{operation-ahead}
+use Rattle.format.proofs.OperationLaws.{operation-ahead, operation-rest}
 use Rattle.parts.specs.Operations.{noOperation, operationNumbers, decodedNumbers, operationFrom, readOperationAt}
 use Rattle.parts.specs.declared.operations.OperationRead.{OperationRead}
 
@@ -103,3 +106,8 @@ module _ (section : List ℕ) (at end word : ℕ) where
       goes-pick (isWord word) _ _
       (goes-pick (eqb at end) _ _ (goes-not 62 0 (omega arith))
       (goes-pick (leb at end && leb end (length section)) _ _ (goes-decoded _ refl _) (goes-not 66 0 (omega arith)))) (goes-not 11 0 (omega arith))
+
+  -- what the reader reads there, and what it leaves
+  pub operation-reads : {op : Operation} {q : ℕ} → operationAt word (part section at end) 0 ≡ decoded.Operation op q
+      → readOperation word (part section at end) ≡ some (op, part section (at + q) end)
+  operation-reads {q = q} s = operation-rest word (part section at end) 0 s ∙ rw (drop-part section at end q)
