@@ -128,6 +128,50 @@ typedef struct {
 unwind_x64_reading unwind_read_x64(
     const uint8_t *info, size_t info_n, uint64_t place, uint64_t *codes, size_t codes_n);
 
+/* ---- a section taken apart. Kinds and words are unwind_read's; a place and a position are counts of bytes from the section's start. */
+
+/* What stands at a position. `number` is 0 for an entry: `header` 1 for a header and 0 for a record, where it stands, the value of its
+ * length field, and where the next one stands. 11: a kind above 1; 61: no entry fits the rest of the section; 62: the section ends
+ * here, or before. Then place and next are `at`, and the others 0. */
+typedef struct {
+    uint64_t number, header, place, length, next;
+} unwind_entry;
+
+unwind_entry unwind_next_entry(const uint8_t *section, size_t section_n, uint64_t kind, uint64_t at);
+
+/* The header (CIE) at a place. `number` is 0; 11; 61 where no entry stands there; 63 where it is a record; 64 with the `field` at
+ * fault: 1 version, 2 augmentation string, 3 code alignment factor, 4 data alignment factor, 5 return address register,
+ * 6 augmentation data. personality, lsda, signal: 1 where the string promises it. pointer: the bytes of a record's pointer to call
+ * sites. Its operations stand from `operations` up to `end`. All are 0 on a refusal but number and field. */
+typedef struct {
+    uint64_t number, field, personality, lsda, signal, return_register, pointer, operations, end;
+} unwind_header_fields;
+
+unwind_header_fields unwind_read_header(
+    const uint8_t *section, size_t section_n, uint64_t kind, uint64_t word, uint64_t place);
+
+/* The record (FDE) at a place, with its header's pointer size. `number` is 0; 11; 61 where no entry stands there; 62 where it is a
+ * header; 64 with the `field` at fault: 7 the function's place, 8 its length, 9 augmentation data. header: the value of the second
+ * field; function and length: as they stand. call_sites: where the pointer to call sites stands, 0 where pointer is 0 and in
+ * debug_frame. Its operations stand from `operations` up to `end`. All are 0 on a refusal but number and field. */
+typedef struct {
+    uint64_t number, field, header, function, length, call_sites, operations, end;
+} unwind_record_fields;
+
+unwind_record_fields unwind_read_record(
+    const uint8_t *section, size_t section_n, uint64_t kind, uint64_t word, uint64_t pointer, uint64_t place);
+
+/* One operation of those from `at` to `end`. `number` is 0; 11: word; 62 where at is end; 66 where none can be read, or where `end`
+ * lies before `at` or behind the section. kind, reg and value: a row's, its value 64-bit two's complement and unfactored; 16: padding;
+ * 17: a step, whose value is how far. next: where the next one stands. opcode: the first byte as it stands, also of one that cannot be
+ * read. On a refusal next is `at`, and what is not named here is 0. */
+typedef struct {
+    uint64_t number, kind, reg, value, next, opcode;
+} unwind_operation;
+
+unwind_operation unwind_read_operation(
+    const uint8_t *section, size_t section_n, uint64_t at, uint64_t end, uint64_t word);
+
 /* Puts a section in place: `bytes` with its relocations applied, in list order, at the front of `out`. `addresses` are two
  * numbers each, a symbol and its address; of a symbol that is listed twice the first counts. `section` is the address of the
  * first byte of `bytes`. Answers 0, or 52 where `out` is shorter than `bytes`, then 79, then 80. */

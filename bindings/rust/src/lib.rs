@@ -32,6 +32,7 @@
 extern crate alloc;
 
 pub mod lists;
+pub mod parts;
 mod refusal;
 pub mod structs;
 mod sys;

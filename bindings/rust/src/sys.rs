@@ -46,7 +46,70 @@ pub(crate) struct X64Reading {
     pub codes: u64,
 }
 
+/// What stands at a position.
+#[repr(C)]
+pub(crate) struct Entry {
+    pub number: u64,
+    pub header: u64,
+    pub place: u64,
+    pub length: u64,
+    pub next: u64,
+}
+
+/// The fields of a header.
+#[repr(C)]
+pub(crate) struct HeaderFields {
+    pub number: u64,
+    pub field: u64,
+    pub personality: u64,
+    pub lsda: u64,
+    pub signal: u64,
+    pub return_register: u64,
+    pub pointer: u64,
+    pub operations: u64,
+    pub end: u64,
+}
+
+/// The fields of a record.
+#[repr(C)]
+pub(crate) struct RecordFields {
+    pub number: u64,
+    pub field: u64,
+    pub header: u64,
+    pub function: u64,
+    pub length: u64,
+    pub call_sites: u64,
+    pub operations: u64,
+    pub end: u64,
+}
+
+/// One operation.
+#[repr(C)]
+pub(crate) struct Operation {
+    pub number: u64,
+    pub kind: u64,
+    pub reg: u64,
+    pub value: u64,
+    pub next: u64,
+    pub opcode: u64,
+}
+
 extern "C" {
+    pub(crate) fn unwind_next_entry(section: *const u8, section_n: usize, kind: u64, at: u64) -> Entry;
+
+    pub(crate) fn unwind_read_header(section: *const u8, section_n: usize, kind: u64, word: u64, place: u64) -> HeaderFields;
+
+    pub(crate) fn unwind_read_record(
+        section: *const u8,
+        section_n: usize,
+        kind: u64,
+        word: u64,
+        pointer: u64,
+        place: u64,
+    ) -> RecordFields;
+
+    pub(crate) fn unwind_read_operation(section: *const u8, section_n: usize, at: u64, end: u64, word: u64) -> Operation;
+
     pub(crate) fn unwind_machine_x86_64(machine: *mut u64, machine_n: usize) -> u64;
 
     pub(crate) fn unwind_call_site(sites: *const u8, sites_n: usize, place: u64, offset: u64) -> Site;

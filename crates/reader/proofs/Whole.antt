@@ -32,7 +32,7 @@ drop-take (suc q) zero l = let e : 0 - suc q ≡ 0 = omega arith in rw e
 drop-take (suc q) (suc n) [] = rw take-nil
 drop-take (suc q) (suc n) (x ∷ xs) = let e : n - q ≡ suc n - suc q = omega arith in drop-take q n xs ∙ ap (λ (k : ℕ). take k (drop q xs)) e
 
-drop-part : (s : List ℕ) (a b q : ℕ) → drop q (part s a b) ≡ part s (a + q) b
+pub drop-part : (s : List ℕ) (a b q : ℕ) → drop q (part s a b) ≡ part s (a + q) b
 drop-part s a b q = let e : b - a - q ≡ b - (a + q) = omega arith in rw (drop-take, drop-drop, e)
 
 -- ---- 64
