@@ -304,7 +304,7 @@ fn record_tail(s: &[u8], at: usize, debug: bool, pointer: u64, size: u64) -> Rec
 }
 
 // The bytes of a function's place and of its length.
-fn field_size(debug: bool, word: u64) -> u64
+pub fn field_size(debug: bool, word: u64) -> u64
     ensures { λ r. ⌜ r ≡ pick debug word 4 ⌝ }
 {
     if debug {

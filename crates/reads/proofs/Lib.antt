@@ -1,0 +1,4 @@
+-- The lemmas of this crate's functions.
+pub mod Placing
+pub mod Addressing
+pub mod Passing
