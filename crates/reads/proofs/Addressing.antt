@@ -12,6 +12,11 @@ use lib.ListN.{length, drop}
 use lib.Pow.{pow-add}
 use mir.Facts.{or-yes, eqb-yes}
 use Rattle.format.specs.Prelude.{pick, next, after}
+use Rattle.format.specs.Reader.{isHeader, require}
+use Rattle.reader.specs.Spans.{endAt}
+use Rattle.reader.specs.declared.entries.Number.the-variants as number
+use Rattle.reads.specs.Places.{asked}
+use Rattle.reads.proofs.Placing.{entry-none, entry-here}
 use Rattle.format.specs.Machine.{isWord}
 use Rattle.format.specs.Reader.{Entry}
 use Rattle.format.specs.declared.Unsigned.the-variants as unsigned
@@ -21,7 +26,9 @@ use Rattle.format.proofs.Positions.{littleAt}
 use Rattle.format.proofs.PositionLaws.{little-ahead, little-rest, little-none}
 use Rattle.reader.proofs.Recorded.{field-small}
 use Rattle.reader.specs.Spans.{part, entryIn}
-use Rattle.reads.specs.Addresses.{functionFields, sdata4, startOf, functionOf, unplaced, placedAs, holds}
+use Rattle.reads.specs.Addresses.{functionFields, sdata4, startOf, functionOf, unplaced, placedAs, functionAt, recordOf, holderAs, holderIn, holds}
+use Rattle.reads.specs.declared.Holder.{Holder}
+use Rattle.format.specs.Prelude.{bad}
 use Rattle.reads.specs.Standing.{fieldsAs}
 use Rattle.reads.specs.declared.Placed.{Placed}
 use Rattle.reads.specs.declared.addresses.Function.{Function}
@@ -127,3 +134,39 @@ pub holds-placed : (pc : ℕ) (o : Option (ℕ × ℕ)) (f : Placed) → f ≡ p
 unfolding placedAs unplaced holds
 holds-placed pc none f e = rw e refl
 holds-placed pc (some x) f e = rw e refl
+
+-- ---- the function of the record at a place
+
+module _ (section : List ℕ) (kind word address place : ℕ) where
+  abbrev wanted : Placed
+  wanted = functionAt section kind word address place
+
+  pub function-unasked : asked kind word ≡ false → unplaced 11 ≡ wanted
+  unfolding functionAt pick
+  function-unasked e = rw e refl
+
+  module _ (a : asked kind word ≡ true) where
+    pub function-missing : endAt section place ≡ number.Nothing → unplaced 64 ≡ wanted
+    unfolding functionAt pick after placedAs
+    function-missing e = rw (a, entry-none section place e) refl
+
+    module _ {end : ℕ} (e : endAt section place ≡ number.Is end) where
+      pub function-header : isHeader (eqb kind 1) (entryIn section place end) ≡ true → unplaced 64 ≡ wanted
+      unfolding functionAt pick after require placedAs
+      function-header y = rw (a, entry-here section place e, y) refl
+
+      pub function-record : isHeader (eqb kind 1) (entryIn section place end) ≡ false
+          → placedAs (functionOf (eqb kind 1) word address (entryIn section place end)) ≡ wanted
+      unfolding functionAt pick after require
+      function-record y = rw (a, entry-here section place e, y) refl
+
+-- ---- 11 of the record that holds an address
+
+module _ (section : List ℕ) (kind word address pc : ℕ) where
+  pub holder-unasked : asked kind word ≡ false → holderAs (bad 11) ≡ recordOf section kind word address pc
+  unfolding recordOf pick
+  holder-unasked e = rw e refl
+
+  pub holder-asked : asked kind word ≡ true → holderAs (holderIn (eqb kind 1) word address pc section) ≡ recordOf section kind word address pc
+  unfolding recordOf pick
+  holder-asked e = rw e refl

@@ -6,13 +6,13 @@ use mathlib.Core.List.{List, [], _∷_}
 use Prim.Native.Nat.{ℕ, suc, _+_, _-_, _*_, _/_, _^_, _≤_, _<_}
 use native.Mathlib.Omega.{arith}
 use borrow.Author.Tests.{lt-ltb, le-ltb}
-use lib.Dec.{T, eqb, ltb}
+use lib.Dec.{T, leb, eqb, ltb}
 use lib.ListN.{length, set, length-set}
-use mir.Facts.{and-yes, eqb-yes}
-use Rattle.format.specs.Prelude.{pick, after, Result, good, bad, onward, orElse}
+use mir.Facts.{eqb-yes}
+use Rattle.format.specs.Prelude.{pick, after, first, Result, good, bad, onward, orElse}
 use Rattle.format.specs.Put.{put}
 use Rattle.format.specs.Questions.{isSome}
-use Rattle.format.specs.Lists.{Relocation}
+use Rattle.format.specs.Lists.{Relocation, relocationsOf}
 use Rattle.format.specs.Reader.{Entry, isHeader, records, entries, headerPlace, headerAt}
 use Rattle.format.proofs.Choice.{if-le, if-gt, either}
 use Rattle.reader.specs.Spans.{entryIn, entriesFrom, listed, numberOf, Ends, Stands, Spans}
@@ -23,8 +23,8 @@ use Rattle.reader.specs.declared.entries.Span.the-variants as span
 use Rattle.reader.proofs.Seeking.{number-is, number-none, absent, header-here, header-later}
 use Rattle.reader.proofs.Tiling.{tiled-end}
 use Rattle.reader.proofs.Whole.{tiled, spans, spans-none}
-use Rattle.reads.specs.Places.{headerOf}
-use Rattle.reads.specs.Index.{nowhere, placeOr, indexFrom, indexOf, indexIn, indexedAs, listAfter}
+use Rattle.reads.specs.Places.{asked, headerOf}
+use Rattle.reads.specs.Index.{nowhere, placeOr, indexFrom, indexOf, indexIn, index, indexedAs, listAfter}
 use Rattle.reads.specs.Standing.{Headed, Indexes}
 use Rattle.reads.specs.declared.Indexed.{Indexed}
 use Rattle.reads.proofs.Passing.{Passing, begun, passed, all-passed, records-header, records-record}
@@ -35,6 +35,10 @@ no-test : (b c : Bool) → (b && false && c) ≡ false
 no-test true c = refl
 no-test false c = refl
 
+first-yes : (a b c : Bool) → T (a && b && c) → T a
+first-yes true b c t = tt
+first-yes false b c t = absurd t
+
 decided {ℓ} : {X : Type ℓ} (b : Bool) → (b ≡ true → X) → (b ≡ false → X) → X
 decided true f g = f refl
 decided false f g = g refl
@@ -42,7 +46,7 @@ decided false f g = g refl
 module _ (debug : Bool) (place : ℕ) where
   -- no header stands behind its record
   pub not-behind : (before : ℕ) (es : List Entry) → before ≤ place → headerAt debug place before es ≡ none
-  unfolding headerAt
+  unfolding headerAt first
   not-behind before [] h = refl
   not-behind before (e ∷ es) h =
       let t : (eqb (e .at) place && ltb place before && isHeader debug e) ≡ false = rw (le-ltb place before h) (no-test (eqb (e .at) place) (isHeader debug e)) in
@@ -61,7 +65,7 @@ module _ (debug : Bool) (place : ℕ) where
       (λ t.
       let same : e ≡ h = some-same (sym (header-here debug place before e es t) ∙ q) in
       let u : T (eqb (e .at) place && ltb place before && isHeader debug e) = rw t tt in
-      ap (λ (x : Entry). x .at) (sym same) ∙ eqb-yes (and-yes (eqb (e .at) place) _ u .0))
+      ap (λ (x : Entry). x .at) (sym same) ∙ eqb-yes (first-yes (eqb (e .at) place) (ltb place before) (isHeader debug e) u))
       (λ t. stands-at before es (sym (header-later debug place before e es t) ∙ q))
     where
       some-same : {a b : Entry} → some a ≡ some b → a ≡ b
@@ -156,6 +160,7 @@ module _ (s : List ℕ) (debug : Bool) where
 
 pub record Filling (s : List ℕ) (rs : List Relocation) (debug : Bool) (old now : List ℕ) (last i at : ℕ) : Type 0 where
   pub inside : at ≤ length s
+  pub long : length now ≡ length old
   pub tiles : T (isSome (entriesFrom s at))
   pub room : i + length (indexFrom debug rs (listed (entries s)) (records debug (listed (entriesFrom s at)))) ≤ length now
   pub rest : put now i (indexFrom debug rs (listed (entries s)) (records debug (listed (entriesFrom s at)))) ≡ put old 0 (indexOf debug rs (listed (entries s)))
@@ -167,7 +172,7 @@ module _ (s : List ℕ) (rs : List Relocation) (debug : Bool) (old : List ℕ) w
 
   pub filling : T (isSome (entries s)) → length (indexOf debug rs es) ≤ length old → Filling s rs debug old old nowhere 0 0
   unfolding entries entriesFrom indexOf
-  filling t l = record { inside = omega arith; tiles = t; room = l; rest = refl; headed = headed-nowhere debug es }
+  filling t l = record { inside = omega arith; long = refl; tiles = t; room = omega (arith, l); rest = refl; headed = headed-nowhere debug es }
 
   module _ {now : List ℕ} {last i at end : ℕ} (f : Filling s rs debug old now last i at) (e : Ends s at end) where
     abbrev more : List Entry
@@ -178,6 +183,7 @@ module _ (s : List ℕ) (rs : List Relocation) (debug : Bool) (old : List ℕ) w
         let q : records debug (listed (entriesFrom s at)) ≡ records debug more = rw (e .rest) (records-header debug (entryIn s at end) more y) in
         record {
           inside = e .inside;
+          long = f .long;
           tiles = e .tiled;
           room = rw q at (f .room);
           rest = rw q at (f .rest);
@@ -200,6 +206,7 @@ module _ (s : List ℕ) (rs : List Relocation) (debug : Bool) (old : List ℕ) w
           let a : i + 1 + 1 ≡ i + 2 = omega arith in
           record {
             inside = e .inside;
+            long = l ∙ f .long;
             tiles = e .tiled;
             room = omega (arith, l, rw one at (f .room));
             rest = rw (g, ← a) (rw one at (f .rest));
@@ -209,6 +216,18 @@ module _ (s : List ℕ) (rs : List Relocation) (debug : Bool) (old : List ℕ) w
   pub filled : {now : List ℕ} {last i at : ℕ} → Filling s rs debug old now last i at → length s ≤ at → now ≡ put old 0 (indexOf debug rs es)
   unfolding listed records indexFrom put
   filled {at = at} f h = rw (tiled-end s at h) at (f .rest)
+
+-- ---- 11
+
+module _ (section relocations : List ℕ) (kind word : ℕ) (old : List ℕ) where
+  pub index-unasked : asked kind word ≡ false → Indexes (index section relocations kind word (length old)) (record { number = 11; records = 0 }) old old
+  unfolding index pick indexedAs listAfter
+  index-unasked e = rw e (record { answered = refl; stored = refl })
+
+  pub index-asked : asked kind word ≡ true → {r : Indexed} {new : List ℕ} → Indexes (indexIn (eqb kind 1) (relocationsOf relocations) (length old) section) r old new
+      → Indexes (index section relocations kind word (length old)) r old new
+  unfolding index pick
+  index-asked e x = rw e x
 
 -- ---- the whole
 
@@ -220,18 +239,28 @@ module _ (s : List ℕ) (rs : List Relocation) (debug : Bool) (old : List ℕ) w
   unfolding indexIn onward orElse indexedAs listAfter
   index-untiled e = let q : whole ≡ bad 61 = rw (absent (entries s) e) refl in record { answered = rw q refl; stored = rw q refl }
 
-  module _ (t : isSome (entries s) ≡ true) {n : ℕ} (c : n ≡ length (records debug (listed (entries s)))) where
-    numbers : List ℕ
-    numbers = indexOf debug rs (listed (entries s))
+  room-asked : List Entry → Result (List ℕ)
+  room-asked es = pick (leb (length (indexOf debug rs es)) (length old)) (good (indexOf debug rs es)) (bad 54)
 
+  room-first : (o : Option (List Entry)) → isSome o ≡ true → onward (orElse o 61) room-asked ≡ room-asked (listed o)
+  unfolding isSome onward orElse listed
+  room-first none e = let z : _≡_ {A = ℕ} 0 1 = cc in absurd (omega arith)
+  room-first (some es) e = refl
+
+  module _ (t : isSome (entries s) ≡ true) {n : ℕ} (c : n ≡ length (records debug (listed (entries s)))) where
     pub twice : length (indexOf debug rs (listed (entries s))) ≡ 2 * n
     unfolding indexOf
     twice = rw c (index-length debug rs (listed (entries s)) (records debug (listed (entries s))))
 
+    opened : whole ≡ pick (leb (length (indexOf debug rs (listed (entries s)))) (length old)) (good (indexOf debug rs (listed (entries s)))) (bad 54)
+    unfolding indexIn room-asked
+    opened = room-first (entries s) t
+
     pub index-short : length old / 2 < n → Indexes whole (record { number = 54; records = 0 }) old old
     unfolding indexIn onward orElse indexedAs listAfter
     index-short h =
-        let q : whole ≡ bad 54 = rw (tiled (entries s) t) (if-gt (length (indexOf debug rs (listed (entries s)))) (length old) _ (bad 54) (omega (arith, twice))) in
+        let q : whole ≡ bad 54 =
+        opened ∙ if-gt (length (indexOf debug rs (listed (entries s)))) (length old) (good (indexOf debug rs (listed (entries s)))) (bad 54) (omega (arith, twice)) in
         record { answered = rw q refl; stored = rw q refl }
 
     pub index-there : {new : List ℕ} → n ≤ length old / 2 → new ≡ put old 0 (indexOf debug rs (listed (entries s)))
@@ -239,6 +268,6 @@ module _ (s : List ℕ) (rs : List Relocation) (debug : Bool) (old : List ℕ) w
     unfolding indexIn onward orElse indexedAs listAfter
     index-there h e =
         let q : whole ≡ good (indexOf debug rs (listed (entries s))) =
-        rw (tiled (entries s) t) (if-le (length (indexOf debug rs (listed (entries s)))) (length old) _ (bad 54) (omega (arith, twice))) in
+        opened ∙ if-le (length (indexOf debug rs (listed (entries s)))) (length old) (good (indexOf debug rs (listed (entries s)))) (bad 54) (omega (arith, twice)) in
         let d : n ≡ length (indexOf debug rs (listed (entries s))) / 2 = omega (arith, twice) in
         record { answered = rw (q, ← d) refl; stored = rw q e }

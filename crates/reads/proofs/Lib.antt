@@ -2,3 +2,6 @@
 pub mod Placing
 pub mod Addressing
 pub mod Passing
+pub mod Indexing
+pub mod Standing
+pub mod ByIndex
