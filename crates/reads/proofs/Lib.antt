@@ -5,3 +5,4 @@ pub mod Passing
 pub mod Indexing
 pub mod Standing
 pub mod ByIndex
+pub mod FromPlaces

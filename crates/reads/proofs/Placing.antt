@@ -101,7 +101,7 @@ pub end-in : (s : List ℕ) (at end : ℕ) → at + 8 ≤ end → end ≤ length
 unfolding endOf
 end-in s at end l i = omega (arith, part-length s (at + 4) end (omega arith) i)
 
-operations-in : (s : List ℕ) (at end p : ℕ) → at + 8 ≤ end → end ≤ length s → p ≤ end → operationsAt (entryIn s at end) (part s p end) ≡ p
+pub operations-in : (s : List ℕ) (at end p : ℕ) → at + 8 ≤ end → end ≤ length s → p ≤ end → operationsAt (entryIn s at end) (part s p end) ≡ p
 unfolding operationsAt
 operations-in s at end p l i h = rw (end-in s at end l i, part-length s p end h i) (omega arith)
 
@@ -120,8 +120,7 @@ module _ (s : List ℕ) (debug : Bool) (word cie past at end : ℕ) where
       → l .«header_end» ≡ past → l .«record_end» ≡ end → numbered l ≡ locatedAs whole
   unfolding locateEntries onward locatedAs placesOf
   entries-located h₁ h₂ h₃ h₄ {l} x e f =
-      rw
-      (
+      rw (
         x .answer,
         e,
         f,

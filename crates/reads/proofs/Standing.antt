@@ -55,28 +55,30 @@ module _ (s : List ℕ) where
   unfolding listed
   entries-stand e = rw e at all-stand
 
+  chosen : (b : Bool) (e : Entry) (es : List Entry) → Standing s e → AllStand s es → AllStand s (pick b es (e ∷ es))
+  unfolding pick
+  chosen true e es k a = a
+  chosen false e es k a = (k, a)
+
   pub records-stand : (debug : Bool) (es : List Entry) → AllStand s es → AllStand s (records debug es)
-  unfolding records pick
+  unfolding records
   records-stand debug [] a = tt
-  records-stand debug (e ∷ es) a = by (isHeader debug e)
-    where
-      by : (b : Bool) → AllStand s (pick b (records debug es) (e ∷ records debug es))
-      by true = records-stand debug es (a .1)
-      by false = (a .0, records-stand debug es (a .1))
+  records-stand debug (e ∷ es) a = chosen (isHeader debug e) e (records debug es) (a .0) (records-stand debug es (a .1))
 
   pub nth-stands : (es : List Entry) (k : ℕ) {e : Entry} → AllStand s es → getElem? es k ≡ some e → Standing s e
   nth-stands [] k a q = let z : _≡_ {A = ℕ} 0 1 = cc in absurd (omega arith)
   nth-stands (x ∷ es) zero {e} a q = let same : x ≡ e = cc in rw same at (a .0)
   nth-stands (x ∷ es) (suc k) a q = nth-stands es k (a .1) q
 
+  one-of : (b : Bool) {x e : Entry} {o : Option Entry} → Standing s x → (o ≡ some e → Standing s e) → pick b (some x) o ≡ some e → Standing s e
+  unfolding pick
+  one-of true {x} {e} k later q = let same : x ≡ e = cc in rw same at k
+  one-of false k later q = later q
+
   pub first-stands : (test : Entry → Bool) (es : List Entry) {e : Entry} → AllStand s es → first test es ≡ some e → Standing s e
-  unfolding first pick
+  unfolding first
   first-stands test [] a q = let z : _≡_ {A = ℕ} 0 1 = cc in absurd (omega arith)
-  first-stands test (x ∷ es) {e} a q = by (test x) q
-    where
-      by : (b : Bool) → pick b (some x) (first test es) ≡ some e → Standing s e
-      by true f = let same : x ≡ e = cc in rw same at (a .0)
-      by false f = first-stands test es (a .1) f
+  first-stands test (x ∷ es) a q = one-of (test x) (a .0) (first-stands test es (a .1)) q
 
   -- so it is the entry at its place
   pub stands-entry : {e : Entry} → Standing s e → entryAt s (e .at) ≡ some e

@@ -82,14 +82,7 @@ fn start_of(debug: bool, word: u64, address: u64, at: usize, field: u64) -> u64
 }
 
 // The function of the record from `at` to `end`; 64 where the record is too short for its fields.
-pub fn function_of(
-    s: &[u8],
-    debug: bool,
-    word: u64,
-    address: u64,
-    at: usize,
-    end: usize,
-) -> Placed
+pub fn function_of(s: &[u8], debug: bool, word: u64, address: u64, at: usize, end: usize) -> Placed
     requires { ⌜ T (isWord word) × (at + 8 ≤ end) × (end ≤ length (now s)) ⌝ }
     ensures { λ r. ⌜ r ≡ placedAs (functionOf debug word address (entryIn (now (s .entry)) at end)) ⌝ }
 {

@@ -44,14 +44,7 @@ fn count(s: &[u8], debug: bool) -> usize
 
 // The place of the header of the record from `at` to `end`. Records of one header follow each other, so the header that was found last is looked at
 // first: without it each record would cost a search from the section's start on.
-fn header_start(
-    s: &[u8],
-    relocs: &[u64],
-    debug: bool,
-    at: usize,
-    end: usize,
-    last: usize,
-) -> usize
+fn header_start(s: &[u8], relocs: &[u64], debug: bool, at: usize, end: usize, last: usize) -> usize
     requires { ⌜ (at + 8 ≤ end) × (end ≤ length (now s)) × T (isSome (entries (now s))) × Headed debug (listed (entries (now s))) last ⌝ }
     ensures { λ r. ⌜ (r ≡ placeOr (headerOf debug (relocationsOf (now (relocs .entry))) (listed (entries (now (s .entry)))) (entryIn (now (s .entry)) at end))) × Headed debug (listed (entries (now (s .entry)))) r ⌝ }
 {

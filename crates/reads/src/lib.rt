@@ -1,9 +1,11 @@
-// The reader's exports by place (include/unwind.h): where a record's operations are and the rules from there.
+// The reader's exports by place (include/unwind.h): where a record's operations are, the rules from there, the function of a record and the
+// record of an address, and the index of all records.
 ghost use mathlib.Core.Path.{_≡_};
+ghost use lib.ListN.{length};
 ghost use Rattle.format.specs.Answers.{readingNumbers};
+ghost use Rattle.format.specs.Reader.{read};
 ghost use Rattle.unwind.specs.Entries.{readNumbers};
 ghost use Rattle.reads.specs.Places.{asked, locateRecord, rulesOf};
-ghost use lib.ListN.{length};
 ghost use Rattle.reads.specs.Addresses.{functionAt, recordOf};
 ghost use Rattle.reads.specs.Index.{index, locateAt};
 ghost use Rattle.reads.specs.Standing.{Indexes};
@@ -97,6 +99,22 @@ pub fn rules_of(section: &[u8], l: Located, q: u16, p: u64) -> Reading
         word: l.word,
     };
     reader::rules_at(section, places, q, p)
+}
+
+// Locating and then the rules, which is what `read` answers.
+pub fn read_located(
+    section: &[u8],
+    relocations: &[u64],
+    kind: u64,
+    word: u64,
+    k: u64,
+    q: u16,
+    p: u64,
+) -> Reading
+    ensures { λ r. ⌜ r ≡ read (now (section .entry)) (now (relocations .entry)) kind word k q p ⌝ }
+{
+    let located = unwind_locate(section, relocations, kind, word, k);
+    rules_of(section, located, q, p)
 }
 
 #[no_mangle]

@@ -44,15 +44,20 @@ pub fn locate_entries(
     ensures { λ r. ⌜ r ≡ locatedAs (locateEntries debug word (entryIn (now (s .entry)) cie past) (entryIn (now (s .entry)) at end)) ⌝ }
 {
     let header = cie + 4;
-    let Header::Fields(rules, pointer, signal) =
-        reader::fields::parse_header(&s[header..past], debug, word)
-    else {
+    let Header::Fields(rules, pointer, signal) = reader::fields::parse_header(
+        &s[header..past],
+        debug,
+        word,
+    ) else {
         return refused(64);
     };
     let record = at + 4;
-    let Record::Fields(rows, length) =
-        reader::fields::parse_record(&s[record..end], debug, word, pointer)
-    else {
+    let Record::Fields(rows, length) = reader::fields::parse_record(
+        &s[record..end],
+        debug,
+        word,
+        pointer,
+    ) else {
         return refused(64);
     };
     Located {

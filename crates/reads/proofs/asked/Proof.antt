@@ -1,3 +1,4 @@
+-- `reads::asked` meets its contract.
 use Rattle.reads.proofs.Placing.{no-word, a-word}
 use borrow.Author.Tests.{not-true, not-false}
 use mathlib.Core.Path.{sym, _∙_}

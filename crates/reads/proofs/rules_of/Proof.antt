@@ -1,3 +1,4 @@
+-- `reads::rules_of` meets its contract.
 use Rattle.reads.proofs.Placing.{rules-refused, rules-there}
 use Rattle.reads.specs.Places.{readerPlaces}
 use mathlib.Core.Path.{_∙_}

@@ -1,3 +1,4 @@
+-- `reads::unwind_function_at` meets its contract.
 use Rattle.reads.proofs.Addressing.{function-unasked, function-missing, function-header, function-record}
 use Rattle.reads.proofs.Placing.{asked-word}
 use Rattle.reader.proofs.Tiling.{entered}
@@ -29,7 +30,7 @@ unplaced-requires-2 : tie.Need-unplaced-requires-2
 unplaced-requires-2 c κs = search needs
 
 returns-2 : tie.Need-returns-2
-returns-2 c = 
+returns-2 c =
     let a = c .before .before .before .before .before .before .before .args in
     c .unplaced2 .ensures
     ∙ function-missing (a .section .now) (a .kind) (a .word) (a .address) (a .«record») (sym (c .before .before .before .before .before .asked .ensures) ∙ not-false _ (c .before .before .before .before .if1 .left)) (sym (c .before .before .before .entry-end .ensures) ∙ c .before .enum-told .given .1)
@@ -41,18 +42,18 @@ unplaced-requires-3 : tie.Need-unplaced-requires-3
 unplaced-requires-3 c κs = search needs
 
 returns-3 : tie.Need-returns-3
-returns-3 c = 
+returns-3 c =
     let a = c .before .before .before .before .before .before .before .before .before .before .args in
     c .unplaced3 .ensures
     ∙ function-header (a .section .now) (a .kind) (a .word) (a .address) (a .«record») (sym (c .before .before .before .before .before .before .before .before .asked .ensures) ∙ not-false _ (c .before .before .before .before .before .before .before .if1 .left)) (sym (c .before .before .before .before .before .before .entry-end .ensures) ∙ c .before .before .before .before .end .given .1) (sym (c .before .before .is-header .ensures) ∙ c .before .if2 .taken)
 
 function-of-requires : tie.Need-function-of-requires
-function-of-requires c κs = 
+function-of-requires c κs =
     let e = entered (c .before .before .before .before .before .before .before .before .before .args .section .now) (c .before .before .before .before .before .before .before .before .before .args .«record») (sym (c .before .before .before .before .before .entry-end .ensures) ∙ c .before .before .before .end .given .1) in
     (asked-word _ _ (sym (c .before .before .before .before .before .before .before .asked .ensures) ∙ not-false _ (c .before .before .before .before .before .before .if1 .left)), e .long, e .inside)
 
 returns-4 : tie.Need-returns-4
-returns-4 c = 
+returns-4 c =
     let a = c .before .before .before .before .before .before .before .before .before .before .args in
     c .function-of .ensures
     ∙ function-record (a .section .now) (a .kind) (a .word) (a .address) (a .«record») (sym (c .before .before .before .before .before .before .before .before .asked .ensures) ∙ not-false _ (c .before .before .before .before .before .before .before .if1 .left)) (sym (c .before .before .before .before .before .before .entry-end .ensures) ∙ c .before .before .before .before .end .given .1) (sym (c .before .before .is-header .ensures) ∙ c .before .if2 .left)

@@ -1,3 +1,4 @@
+-- `reads::unwind_index` meets its contract.
 use Rattle.reads.proofs.Indexing.{index-unasked, index-asked}
 use borrow.Author.Tests.{not-true, not-false}
 use borrow.Author.Needs.{needs}
@@ -12,7 +13,7 @@ unindexed-requires : tie.Need-unindexed-requires
 unindexed-requires c κs = search needs
 
 returns : tie.Need-returns
-returns c = 
+returns c =
     let a = c .before .before .before .before .before .before .args in
     rw (c .unindexed .ensures) (index-unasked (a .section .now) (a .relocations .now) (a .kind) (a .word) (a .places .now) (sym (c .before .before .asked .ensures) ∙ not-true _ (c .before .if1 .taken)))
 
@@ -23,7 +24,7 @@ same-length : tie.Need-same-length
 same-length c = search needs
 
 returns-2 : tie.Need-returns-2
-returns-2 c = 
+returns-2 c =
     let a = c .before .before .before .before .before .before .before .before .before .args in
     index-asked (a .section .now) (a .relocations .now) (a .kind) (a .word) (a .places .now) (sym (c .before .before .before .before .before .asked .ensures) ∙ not-false _ (c .before .before .before .before .if1 .left)) (c .before .before .index-in .ensures)
 

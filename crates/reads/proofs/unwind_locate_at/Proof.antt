@@ -1,3 +1,4 @@
+-- `reads::unwind_locate_at` meets its contract.
 use Rattle.reads.proofs.Placing.{asked-word, at-unasked, at-asked}
 use borrow.Author.Tests.{not-true, not-false}
 use mathlib.Core.Path.{sym, _∙_}

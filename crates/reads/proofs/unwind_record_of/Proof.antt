@@ -1,3 +1,4 @@
+-- `reads::unwind_record_of` meets its contract.
 use Rattle.reads.proofs.Addressing.{holder-unasked, holder-asked}
 use Rattle.reads.proofs.Placing.{asked-word}
 use borrow.Author.Tests.{not-true, not-false}

@@ -1,3 +1,4 @@
+-- `reads::unwind_rules_at` meets its contract.
 use Rattle.format.specs.Answers.{readingNumbers}
 use mathlib.Core.Path.{ap, _∙_}
 use borrow.Author.Needs.{needs}

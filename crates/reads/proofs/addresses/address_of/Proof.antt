@@ -1,3 +1,4 @@
+-- `reads::addresses::address_of` meets its contract.
 use Rattle.reads.proofs.Addressing.{word-two}
 use native.Mathlib.Nat.{mod-eq-of-lt}
 use native.Mathlib.Omega.{arith}

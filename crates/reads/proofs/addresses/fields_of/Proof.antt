@@ -1,3 +1,4 @@
+-- `reads::addresses::fields_of` meets its contract.
 use Rattle.reads.proofs.Addressing.{fields-none, fields-placeless, fields-sizeless, fields-there}
 use Rattle.reader.proofs.Recorded.{field-small}
 use native.Mathlib.Omega.{arith}
@@ -31,7 +32,7 @@ enum-told-2 : tie.Need-enum-told-2
 enum-told-2 c = search needs
 
 returns-2 : tie.Need-returns-2
-returns-2 c = 
+returns-2 c =
     let a = c .before .before .before .before .before .before .before .before .before .args in
     fields-placeless (a .body .now) (a .debug) (a .word) (c .before .before .before .before .before .before .before .before .before .pre) (sym (c .before .before .before .before .before .before .read-le .ensures) ∙ c .before .before .before .before .place .given .1) (c .before .before .before .before .before .before .before .field-size .ensures) (sym (c .before .before .read-le2 .ensures) ∙ c .enum-told2 .given .1)
 
@@ -45,12 +46,12 @@ enum-told-3 : tie.Need-enum-told-3
 enum-told-3 c = search needs
 
 returns-3 : tie.Need-returns-3
-returns-3 c = 
+returns-3 c =
     let a = c .before .before .before .before .before .before .before .before .before .before .before .before .before .args in
     fields-sizeless (a .body .now) (a .debug) (a .word) (c .before .before .before .before .before .before .before .before .before .before .before .before .before .pre) (sym (c .before .before .before .before .before .before .before .before .before .before .read-le .ensures) ∙ c .before .before .before .before .before .before .before .before .place .given .1) (c .before .before .before .before .before .before .before .before .before .before .before .field-size .ensures) (sym (c .before .before .before .before .before .before .read-le2 .ensures) ∙ c .before .before .before .before .field .given .1) (sym (c .before .before .read-le3 .ensures) ∙ c .enum-told3 .given .1)
 
 returns-4 : tie.Need-returns-4
-returns-4 c = 
+returns-4 c =
     let a = c .before .before .before .before .before .before .before .before .before .before .before .before .before .before .args in
     fields-there (a .body .now) (a .debug) (a .word) (c .before .before .before .before .before .before .before .before .before .before .before .before .before .before .pre) (sym (c .before .before .before .before .before .before .before .before .before .before .before .read-le .ensures) ∙ c .before .before .before .before .before .before .before .before .before .place .given .1) (c .before .before .before .before .before .before .before .before .before .before .before .before .field-size .ensures) (sym (c .before .before .before .before .before .before .before .read-le2 .ensures) ∙ c .before .before .before .before .before .field .given .1) (sym (c .before .before .before .read-le3 .ensures) ∙ c .before .length .given .1)
 

@@ -1,3 +1,4 @@
+-- `reads::addresses::function_of` meets its contract.
 use Rattle.reads.proofs.Addressing.{function-bad, function-there}
 use mathlib.Core.Path.{_∙_}
 use borrow.Author.Needs.{needs}
@@ -29,7 +30,7 @@ unplaced-requires : tie.Need-unplaced-requires
 unplaced-requires c κs = search needs
 
 returns : tie.Need-returns
-returns c = 
+returns c =
     let a = c .before .before .before .before .before .before .args in
     c .unplaced .ensures ∙ function-bad (a .s .now) (a .debug) (a .word) (a .address) (a .at) (a .end) (c .before .before .before .fields-of .ensures) (c .before .enum-told .given .1)
 
@@ -37,7 +38,7 @@ start-of-requires : tie.Need-start-of-requires
 start-of-requires c κs = search needs
 
 returns-2 : tie.Need-returns-2
-returns-2 c = 
+returns-2 c =
     let a = c .before .before .before .before .before .before .before .args in
     function-there (a .s .now) (a .debug) (a .word) (a .address) (a .at) (a .end) (c .before .before .before .before .fields-of .ensures) (c .before .before .field .given .1) (c .start-of .ensures)
 

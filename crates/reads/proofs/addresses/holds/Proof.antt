@@ -1,3 +1,4 @@
+-- `reads::addresses::holds` meets its contract.
 use borrow.Author.Tests.{eq-eqb, ne-eqb, le-leb, lt-leb}
 use Rattle.reads.proofs.addresses.holds.Statement.{statement}
 use Rattle.reads.proofs.addresses.holds.Tie as tie

@@ -1,3 +1,4 @@
+-- `reads::addresses::nowhere` meets its contract.
 use Rattle.reads.specs.Addresses.{holderAs}
 use mathlib.Core.Path.{refl}
 use Rattle.reads.proofs.addresses.nowhere.Statement.{statement}

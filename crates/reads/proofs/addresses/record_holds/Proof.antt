@@ -1,3 +1,4 @@
+-- `reads::addresses::record_holds` meets its contract.
 use Rattle.reads.proofs.Addressing.{holds-placed}
 use Rattle.reads.specs.Addresses.{functionOf}
 use Rattle.reader.specs.Spans.{entryIn}
@@ -13,7 +14,7 @@ holds-requires : tie.Need-holds-requires
 holds-requires c κs = search needs
 
 returns : tie.Need-returns
-returns c = 
+returns c =
     let a = c .before .before .before .args in
     c .holds .ensures ∙ holds-placed (a .pc) (functionOf (a .debug) (a .word) (a .address) (entryIn (a .s .now) (a .at) (a .end))) (c .before .function-of .result) (c .before .function-of .ensures)
 

@@ -1,3 +1,4 @@
+-- `reads::addresses::start_of` meets its contract.
 use Rattle.reads.proofs.Addressing.{start-above, start-below}
 use Rattle.reads.specs.Addresses.{startOf}
 use borrow.Author.Needs.{needs}
@@ -21,7 +22,7 @@ address-of-requires : tie.Need-address-of-requires
 address-of-requires c κs = search needs
 
 returns-2 : tie.Need-returns-2
-returns-2 c = 
+returns-2 c =
     let a = c .before .before .before .before .before .args in
     rw (c .before .before .before .before .if1 .left) (start-above (a .word) (c .before .before .before .before .before .pre .0) (a .address) (a .at) (a .field) (c .before .before .before .wrapping-add-u64 .ensures) (c .before .before .wrapping-add-u642 .ensures) (c .before .if2 .taken) (c .address-of .ensures))
 
@@ -32,7 +33,7 @@ address-of-requires-2 : tie.Need-address-of-requires-2
 address-of-requires-2 c κs = search needs
 
 returns-3 : tie.Need-returns-3
-returns-3 c = 
+returns-3 c =
     let a = c .before .before .before .before .before .before .args in
     rw (c .before .before .before .before .before .if1 .left)
     (start-below (a .word) (c .before .before .before .before .before .before .pre .0) (a .address) (a .at) (a .field) (c .before .before .before .before .wrapping-add-u64 .ensures) (c .before .before .before .wrapping-add-u642 .ensures) (c .before .before .if2 .left) (c .before .wrapping-add-u643 .ensures) (c .address-of2 .ensures))

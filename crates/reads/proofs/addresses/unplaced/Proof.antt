@@ -1,3 +1,4 @@
+-- `reads::addresses::unplaced` meets its contract.
 use Rattle.reads.specs.Addresses.{unplaced}
 use mathlib.Core.Path.{refl}
 use Rattle.reads.proofs.addresses.unplaced.Statement.{statement}

@@ -1,3 +1,4 @@
+-- `reads::index::count` meets its contract.
 use borrow.Author.Needs.{needs}
 use Rattle.reads.proofs.Indexing.{Counting, counting, count-header, count-record, counted}
 use lib.ListN.{length}

@@ -1,3 +1,4 @@
+-- `reads::index::fill` meets its contract.
 use borrow.Author.Needs.{needs}
 use mathlib.Core.Path.{sym, _∙_}
 use Rattle.reads.proofs.Indexing.{Filling, filling, fill-header, fill-room, fill-record, filled}

@@ -1,3 +1,4 @@
+-- `reads::index::index_in` meets its contract.
 use Rattle.reads.proofs.Indexing.{index-untiled, twice, index-short, index-there}
 use Rattle.format.specs.Lists.{relocationsOf}
 use borrow.Author.Tests.{not-true, not-false}
@@ -14,7 +15,7 @@ unindexed-requires : tie.Need-unindexed-requires
 unindexed-requires c κs = search needs
 
 returns : tie.Need-returns
-returns c = 
+returns c =
     let a = c .before .before .before .before .before .before .args in
     rw (c .unindexed .ensures) (index-untiled (a .s .now) (relocationsOf (a .relocs .now)) (a .debug) (a .places .now) (sym (c .before .before .tiles .ensures) ∙ not-true _ (c .before .if1 .taken)))
 
@@ -25,13 +26,13 @@ unindexed-requires-2 : tie.Need-unindexed-requires-2
 unindexed-requires-2 c κs = search needs
 
 returns-2 : tie.Need-returns-2
-returns-2 c = 
+returns-2 c =
     let a = c .before .before .before .before .before .before .before .before .args in
     rw (c .unindexed2 .ensures)
     (index-short (a .s .now) (relocationsOf (a .relocs .now)) (a .debug) (a .places .now) (sym (c .before .before .before .before .tiles .ensures) ∙ not-false _ (c .before .before .before .if1 .left)) (c .before .before .count .ensures) (c .before .if2 .taken))
 
 fill-requires : tie.Need-fill-requires
-fill-requires c κs = 
+fill-requires c κs =
     let a = c .before .before .before .before .before .before .before .before .args in
     let t = sym (c .before .before .before .before .tiles .ensures) ∙ not-false _ (c .before .before .before .if1 .left) in
     (rw t tt, omega (arith, twice (a .s .now) (relocationsOf (a .relocs .now)) (a .debug) (a .places .now) t (c .before .before .count .ensures), c .before .if2 .left))
@@ -40,7 +41,7 @@ same-length : tie.Need-same-length
 same-length c = search needs
 
 returns-3 : tie.Need-returns-3
-returns-3 c = 
+returns-3 c =
     let a = c .before .before .before .before .before .before .before .before .before .before .before .args in
     index-there (a .s .now) (relocationsOf (a .relocs .now)) (a .debug) (a .places .now) (sym (c .before .before .before .before .before .before .before .tiles .ensures) ∙ not-false _ (c .before .before .before .before .before .before .if1 .left)) (c .before .before .before .before .before .count .ensures) (omega (arith, c .before .before .before .before .if2 .left)) (c .before .before .fill .ensures)
 

@@ -1,3 +1,4 @@
+-- `reads::places::locate_entries` meets its contract.
 use Rattle.reads.proofs.Placing.{entries-refused, entries-located}
 use Rattle.reader.proofs.Whole.{fields-header, header-held, fields-record, record-held, fields-there}
 use native.Mathlib.Omega.{arith}
@@ -31,7 +32,7 @@ refused-requires : tie.Need-refused-requires
 refused-requires c κs = search needs
 
 returns : tie.Need-returns
-returns c = 
+returns c =
     let a = c .before .before .before .before .before .before .args in
     c .refused .ensures
     ∙ entries-refused (a .s .now) (a .debug) (a .word) (a .cie) (a .past) (a .at) (a .end)
@@ -62,20 +63,20 @@ refused-requires-2 : tie.Need-refused-requires-2
 refused-requires-2 c κs = search needs
 
 returns-2 : tie.Need-returns-2
-returns-2 c = 
+returns-2 c =
     let a = c .before .before .before .before .before .before .before .before .before .before .before .args in
     c .refused2 .ensures
     ∙ entries-refused (a .s .now) (a .debug) (a .word) (a .cie) (a .past) (a .at) (a .end)
     (fields-record (a .s .now) (a .debug) (a .word) (a .cie) (a .past) (a .at) (a .end) (c .before .before .before .before .before .before .before .before .parse-header .ensures) (c .before .before .before .before .before .before .rules .given .1) (c .before .before .before .parse-record .ensures) (c .before .enum-told2 .given .1))
 
 add-t17 : tie.Need-add-t17
-add-t17 c = 
+add-t17 c =
     let a = c .before .before .before .before .before .before .before .before .before .before .before .args in
     let h = c .before .before .before .before .before .before .before .before .before .before .before .pre in
     record { fits = omega (arith, header-held (a .s .now) (a .debug) (a .word) (a .cie) (a .past) (a .at) (a .end) (c .before .before .before .before .before .before .before .before .parse-header .ensures) (c .before .before .before .before .before .before .rules .given .1) (h .1) (h .2)) }
 
 add-t26 : tie.Need-add-t26
-add-t26 c = 
+add-t26 c =
     let a = c .before .before .before .before .before .before .before .before .before .before .before .args in
     let h = c .before .before .before .before .before .before .before .before .before .before .before .pre in
     record { fits = omega (arith, record-held (a .s .now) (a .debug) (a .word) (a .cie) (a .past) (a .at) (a .end) (c .before .before .before .before .before .before .before .before .parse-header .ensures) (c .before .before .before .before .before .before .rules .given .1) (c .before .before .before .parse-record .ensures) (c .before .rows .given .1) (h .3) (h .4)) }
@@ -84,7 +85,7 @@ number-requires : tie.Need-number-requires
 number-requires c κs = search needs
 
 returns-3 : tie.Need-returns-3
-returns-3 c = 
+returns-3 c =
     let a = c .before .before .before .before .before .before .before .before .before .before .before .before .args in
     let h = c .before .before .before .before .before .before .before .before .before .before .before .before .pre in
     rw (c .number .ensures)

@@ -1,3 +1,4 @@
+-- `reads::places::locate_nth` meets its contract.
 use Rattle.reads.proofs.Placing.{nth-untiled, nth-missing, record-stands, nth-headless, header-stands, nth-rest}
 use Rattle.reads.specs.Places.{headerOf}
 use Rattle.format.specs.Lists.{relocationsOf}
@@ -14,7 +15,7 @@ refused-requires : tie.Need-refused-requires
 refused-requires c κs = search needs
 
 returns : tie.Need-returns
-returns c = 
+returns c =
     let a = c .before .before .before .before .before .args in
     c .refused .ensures ∙ nth-untiled (a .s .now) (relocationsOf (a .relocs .now)) (a .debug) (a .word) (a .k) (sym (c .before .before .tiles .ensures) ∙ not-true _ (c .before .if1 .taken))
 
@@ -31,13 +32,13 @@ refused-requires-2 : tie.Need-refused-requires-2
 refused-requires-2 c κs = search needs
 
 returns-2 : tie.Need-returns-2
-returns-2 c = 
+returns-2 c =
     let a = c .before .before .before .before .before .before .before .before .args in
     c .refused2 .ensures
     ∙ nth-missing (a .s .now) (relocationsOf (a .relocs .now)) (a .debug) (a .word) (a .k) (sym (c .before .before .before .before .before .tiles .ensures) ∙ not-false _ (c .before .before .before .before .if1 .left)) (c .before .before .before .record-span .ensures) (c .before .enum-told .given .1)
 
 header-of-requires : tie.Need-header-of-requires
-header-of-requires c κs = 
+header-of-requires c κs =
     let a = c .before .before .before .before .before .before .before .before .args in
     let t = sym (c .before .before .before .before .before .tiles .ensures) ∙ not-false _ (c .before .before .before .before .if1 .left) in
     let p = record-stands (a .s .now) (relocationsOf (a .relocs .now)) (a .debug) (a .word) (a .k) t (c .before .before .before .record-span .ensures) (c .before .at .given .1) in
@@ -54,14 +55,14 @@ refused-requires-3 c κs = search needs
 
 returns-3 : tie.Need-returns-3
 unfolding headerOf
-returns-3 c = 
+returns-3 c =
     let a = c .before .before .before .before .before .before .before .before .before .before .before .before .args in
     c .refused3 .ensures
     ∙ nth-headless (a .s .now) (relocationsOf (a .relocs .now)) (a .debug) (a .word) (a .k) (sym (c .before .before .before .before .before .before .before .before .before .tiles .ensures) ∙ not-false _ (c .before .before .before .before .before .before .before .before .if1 .left)) (c .before .before .before .before .before .before .before .record-span .ensures) (c .before .before .before .before .before .at .given .1) (c .before .before .before .header-of .ensures) (c .before .enum-told2 .given .1)
 
 locate-entries-requires : tie.Need-locate-entries-requires
 unfolding headerOf
-locate-entries-requires c κs = 
+locate-entries-requires c κs =
     let a = c .before .before .before .before .before .before .before .before .before .before .before .before .args in
     let t = sym (c .before .before .before .before .before .before .before .before .before .tiles .ensures) ∙ not-false _ (c .before .before .before .before .before .before .before .before .if1 .left) in
     let p = record-stands (a .s .now) (relocationsOf (a .relocs .now)) (a .debug) (a .word) (a .k) t (c .before .before .before .before .before .before .before .record-span .ensures) (c .before .before .before .before .before .at .given .1) in
@@ -70,7 +71,7 @@ locate-entries-requires c κs =
 
 returns-4 : tie.Need-returns-4
 unfolding headerOf
-returns-4 c = 
+returns-4 c =
     let a = c .before .before .before .before .before .before .before .before .before .before .before .before .before .args in
     c .locate-entries .ensures
     ∙ nth-rest (a .s .now) (relocationsOf (a .relocs .now)) (a .debug) (a .word) (a .k) (sym (c .before .before .before .before .before .before .before .before .before .before .tiles .ensures) ∙ not-false _ (c .before .before .before .before .before .before .before .before .before .if1 .left)) (c .before .before .before .before .before .before .before .before .record-span .ensures) (c .before .before .before .before .before .before .at .given .1) (c .before .before .before .before .header-of .ensures) (c .before .before .cie .given .1)

@@ -1,3 +1,4 @@
+-- `reads::places::refused` meets its contract.
 use Rattle.reads.specs.Places.{refused}
 use mathlib.Core.Path.{refl}
 use Rattle.reads.proofs.places.refused.Statement.{statement}
