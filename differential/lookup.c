@@ -8,10 +8,11 @@
 
 #include "../include/unwind.h"
 
-enum { FUNCTIONS = 10000, ROWS = 5, REGISTERS = 65, TURNS = 20, LOOKUPS = 100000 };
+enum { FUNCTIONS = 10000, ROWS = 5, REGISTERS = 65, TURNS = 5, LOOKUPS = 100000 };
 
-static uint64_t functions[18 * FUNCTIONS], rows[4 * ROWS], header_places[FUNCTIONS], relocations[10 * FUNCTIONS], places[2 * FUNCTIONS];
-static uint8_t section[100 * FUNCTIONS], sites[1];
+static uint64_t functions[18 * FUNCTIONS], rows[4 * ROWS], header_places[FUNCTIONS], relocations[20 * FUNCTIONS], places[2 * FUNCTIONS];
+static uint8_t section[100 * FUNCTIONS], debug[100 * FUNCTIONS], sites[1];
+static uint64_t debug_relocations[20 * FUNCTIONS];
 static uint64_t machine[70];
 
 static double now(void) {
@@ -38,13 +39,18 @@ static unwind_written table(void) {
     }
     check(unwind_machine_x86_64(machine, 70) == 0, "machine");
     return unwind_relaxed_table(machine, 70, 0, functions, 18 * FUNCTIONS, rows, 4 * ROWS, NULL, 0, NULL, 0, header_places, FUNCTIONS,
-        section, sizeof section, relocations, 10 * FUNCTIONS, sites, 0);
+        section, sizeof section, relocations, 20 * FUNCTIONS, sites, 0);
+}
+
+static unwind_written debug_table(void) {
+    return unwind_relaxed_debug_frame(machine, 70, 0, functions, 18 * FUNCTIONS, rows, 4 * ROWS, NULL, 0, NULL, 0, header_places, FUNCTIONS,
+        debug, sizeof debug, debug_relocations, 20 * FUNCTIONS);
 }
 
 /* One turn of each, in seconds. */
-static double time_index(size_t n, size_t m) {
+static double time_index(const uint8_t *s, size_t n, const uint64_t *related, size_t m, uint64_t kind) {
     double start = now();
-    unwind_indexed r = unwind_index(section, n, relocations, m, 0, 8, places, 2 * FUNCTIONS);
+    unwind_indexed r = unwind_index(s, n, related, m, kind, 8, places, 2 * FUNCTIONS);
     double taken = now() - start;
     check(r.number == 0 && r.records == FUNCTIONS, "index");
     return taken;
@@ -115,16 +121,18 @@ static void least(double *best, double taken) {
 }
 
 int main(void) {
-    enum { INDEX, PLACES, LOOKUP, READ, ALL, READS, HOLDER, KINDS };
-    static const char *const NAMES[KINDS] = {"index of 10,000 records", "record located by its places", "record located by its places, and one register",
+    enum { DEBUG, INDEX, PLACES, LOOKUP, READ, ALL, READS, HOLDER, KINDS };
+    static const char *const NAMES[KINDS] = {"index of 10,000 records, debug_frame", "index of 10,000 records", "record located by its places", "record located by its places, and one register",
         "read by number, the last record", "65 registers, one locating, the last record", "65 registers, a read each, the last record",
         "search of an address that no record holds"};
     double best[KINDS] = {0};
     unwind_written w = table();
-    check(w.number == 0, "table");
+    unwind_written d = debug_table();
+    check(w.number == 0 && d.number == 0, "table");
     size_t n = w.bytes, m = 5 * w.relocations;
     for (int turn = 0; turn < TURNS; turn++) {
-        least(&best[INDEX], time_index(n, m));
+        least(&best[DEBUG], time_index(debug, d.bytes, debug_relocations, 5 * d.relocations, 1));
+        least(&best[INDEX], time_index(section, n, relocations, m, 0));
         least(&best[PLACES], time_places(n));
         least(&best[LOOKUP], time_lookups(n));
         least(&best[READ], time_read(n, m, FUNCTIONS - 1));

@@ -1,22 +1,23 @@
 -- Laws of the index: locating by its numbers is locating by the record's number, and behind it there is no record.
-use mathlib.Core.Path.{_≡_, refl, sym, ap, _∙_}
+use mathlib.Core.Path.{_≡_, refl, sym, ap, subst, _∙_}
 use mathlib.Core.Bool.{Bool, true, false}
 use mathlib.Core.Option.{Option, none, some}
 use mathlib.Core.List.{List, [], _∷_}
 use Prim.Native.Nat.{ℕ, zero, suc, _+_, _-_, _*_, _^_, _≤_, _<_}
 use native.Mathlib.Omega.{arith}
 use borrow.Author.Tests.{lt-ltb, le-ltb}
-use lib.Dec.{T, eqb}
+use lib.Dec.{leb, eqb}
 use lib.ListN.{length, getD, getElem?}
 use Rattle.format.specs.Prelude.{pick, after, Result, good, bad, onward, orElse}
 use Rattle.format.specs.Lists.{Relocation, relocationsOf}
-use Rattle.format.specs.Reader.{Entry, entries, records, headerPlace, headerAt}
+use Rattle.format.specs.Reader.{Entry, entries, records, headerPlace, headerAt, read}
 use Rattle.format.proofs.Choice.{either}
-use Rattle.reads.specs.Places.{asked, refused, locatedAs, locateEntries, headerOf, locateNth, locateRecord}
+use Rattle.reads.specs.Places.{asked, refused, locatedAs, locateEntries, headerOf, locateNth, locateRecord, rulesOf}
 use Rattle.reads.specs.Addresses.{entryAt}
-use Rattle.reads.specs.Index.{nowhere, placeOr, indexFrom, indexOf, locateIn, locateAt}
+use Rattle.reads.specs.Index.{nowhere, placeOr, indexFrom, indexOf, indexIn, index, locateIn, locateAt}
 use Rattle.reads.specs.declared.Located.{Located}
 use Rattle.reads.proofs.Indexing.{not-behind, stands-at, index-length}
+use Rattle.reads.proofs.FromPlaces.{rules-located}
 use Rattle.reads.proofs.Standing.{Standing, AllStand, entries-stand, records-stand, nth-stands, first-stands, stands-entry, stands-inside}
 
 -- ---- the two numbers of a record
@@ -72,19 +73,19 @@ module _ (s : List ℕ) (debug : Bool) (rs : List Relocation) (word : ℕ) (smal
       let f = found-header e h (headerPlace debug rs e) q in
       rw (lt-ltb (h .at) (e .at) (f .ahead), stands-entry s (f .stands), stands-entry s k) refl
 
-  pub by-index : (k : ℕ) {e : Entry} → getElem? (records debug es) k ≡ some e
+  nth-by-index : (k : ℕ) {e : Entry} → getElem? (records debug es) k ≡ some e
       → locateIn debug word s (getD (indexOf debug rs es) (2 * k) 0) (getD (indexOf debug rs es) (2 * k + 1) 0) ≡ locateNth debug rs word k s
   unfolding indexOf locateNth onward orElse
-  by-index k {e} q =
+  nth-by-index k {e} q =
       let n = numbers-at debug rs es (records debug es) k q in
       let a = nth-stands s (records debug es) k (records-stand s debug es (entries-stand s t)) q in
       rw (n .place, n .header, t, q) (by-places e a (headerOf debug rs es e) refl)
 
-  pub behind-index : (k : ℕ) → getElem? (records debug es) k ≡ none → locateNth debug rs word k s ≡ bad 62
+  nth-behind-index : (k : ℕ) → getElem? (records debug es) k ≡ none → locateNth debug rs word k s ≡ bad 62
   unfolding locateNth onward orElse
-  behind-index k q = rw (t, q) refl
+  nth-behind-index k q = rw (t, q) refl
 
--- ---- the law of the exports
+-- ---- all records by their numbers
 
 nth-there : (xs : List Entry) (k : ℕ) → k < length xs → (e : Option Entry) → getElem? xs k ≡ e → (e ≡ none → ⊥)
 nth-there [] k h e q n = absurd (omega arith)
@@ -109,17 +110,70 @@ module _ (section relocations : List ℕ) (kind word : ℕ) (small : length sect
   unfolding locateAt locateRecord
   by-some k none q n = absurd (n refl)
   by-some k (some e) q n =
-      ap (λ (x : Result Located). locatedAs (pick (asked kind word) x (bad 11))) (by-index section (eqb kind 1) (relocationsOf relocations) word small t k q)
+      ap (λ (x : Result Located). locatedAs (pick (asked kind word) x (bad 11))) (nth-by-index section (eqb kind 1) (relocationsOf relocations) word small t k q)
 
-  -- a record of the index
-  pub locate-by-index : (k : ℕ) → 2 * k < length numbers
+  locate-by-numbers : (k : ℕ) → 2 * k < length numbers
       → locateAt section kind word (getD numbers (2 * k) 0) (getD numbers (2 * k + 1) 0) ≡ locateRecord section relocations kind word k
-  locate-by-index k h =
+  locate-by-numbers k h =
       by-some k (getElem? (records (eqb kind 1) es) k) refl
       (nth-there (records (eqb kind 1) es) k (omega (arith, length-numbers)) (getElem? (records (eqb kind 1) es) k) refl)
 
-  -- behind the index
-  pub locate-behind-index : asked kind word ≡ true → (k : ℕ) → length numbers ≤ 2 * k → locateRecord section relocations kind word k ≡ refused 62
+  locate-behind-numbers : asked kind word ≡ true → (k : ℕ) → length numbers ≤ 2 * k → locateRecord section relocations kind word k ≡ refused 62
   unfolding locateRecord pick locatedAs
-  locate-behind-index a k h =
-      rw (a, behind-index section (eqb kind 1) (relocationsOf relocations) word small t k (nth-none (records (eqb kind 1) es) k (omega (arith, length-numbers)))) refl
+  locate-behind-numbers a k h =
+      rw (a, nth-behind-index section (eqb kind 1) (relocationsOf relocations) word small t k (nth-none (records (eqb kind 1) es) k (omega (arith, length-numbers)))) refl
+
+-- ---- the laws of what unwind_index answers
+
+-- an index that was answered
+record Answered (section relocations : List ℕ) (kind word : ℕ) (ns : List ℕ) : Type 0 where
+  es : List Entry
+  tiled : entries section ≡ some es
+  same : indexOf (eqb kind 1) (relocationsOf relocations) es ≡ ns
+  fit : asked kind word ≡ true
+
+module _ (section relocations : List ℕ) (kind word room : ℕ) {ns : List ℕ} where
+  fitted : (t : Bool) (x : List ℕ) → pick t (good x) (bad 54) ≡ good ns → x ≡ ns
+  unfolding pick
+  fitted true x e = cc
+  fitted false x e = let z : _≡_ {A = ℕ} 0 1 = cc in absurd (omega arith)
+
+  of-entries : asked kind word ≡ true → (o : Option (List Entry)) → entries section ≡ o
+      → onward (orElse o 61) (λ es. pick (leb (length (indexOf (eqb kind 1) (relocationsOf relocations) es)) room) (good (indexOf (eqb kind 1) (relocationsOf relocations) es)) (bad 54)) ≡ good ns
+      → Answered section relocations kind word ns
+  unfolding onward orElse
+  of-entries a none t e = let z : _≡_ {A = ℕ} 0 1 = cc in absurd (omega arith)
+  of-entries a (some es) t e =
+      record { es = es; tiled = t; same = fitted (leb (length (indexOf (eqb kind 1) (relocationsOf relocations) es)) room) _ e; fit = a }
+
+  of-asked : (b : Bool) → asked kind word ≡ b → pick b (indexIn (eqb kind 1) (relocationsOf relocations) room section) (bad 11) ≡ good ns
+      → Answered section relocations kind word ns
+  unfolding pick indexIn
+  of-asked true a e = of-entries a (entries section) refl e
+  of-asked false a e = let z : _≡_ {A = ℕ} 0 1 = cc in absurd (omega arith)
+
+  module _ (small : length section < 2 ^ 64) (i : index section relocations kind word room ≡ good ns) where
+    answered : Answered section relocations kind word ns
+    unfolding index
+    answered = of-asked (asked kind word) refl i
+
+    -- locating by the k-th two numbers of the index is locating by k
+    pub by-index : (k : ℕ) → 2 * k < length ns
+        → locateAt section kind word (getD ns (2 * k) 0) (getD ns (2 * k + 1) 0) ≡ locateRecord section relocations kind word k
+    by-index k h =
+        subst (λ (xs : List ℕ). 2 * k < length xs → locateAt section kind word (getD xs (2 * k) 0) (getD xs (2 * k + 1) 0) ≡ locateRecord section relocations kind word k)
+        (answered .same)
+        (locate-by-numbers section relocations kind word small (answered .tiled) k)
+        h
+
+    -- behind the index there is no record
+    pub behind-index : (k : ℕ) → length ns ≤ 2 * k → locateRecord section relocations kind word k ≡ refused 62
+    behind-index k h =
+        subst (λ (xs : List ℕ). length xs ≤ 2 * k → locateRecord section relocations kind word k ≡ refused 62) (answered .same)
+        (locate-behind-numbers section relocations kind word small (answered .tiled) (answered .fit) k)
+        h
+
+    -- so reading by the index is reading by k
+    pub read-by-index : (k q p : ℕ) → 2 * k < length ns
+        → rulesOf section (locateAt section kind word (getD ns (2 * k) 0) (getD ns (2 * k + 1) 0)) q p ≡ read section relocations kind word k q p
+    read-by-index k q p h = ap (λ (l : Located). rulesOf section l q p) (by-index k h) ∙ rules-located section relocations kind word k q p
