@@ -1,5 +1,5 @@
 /* Times of the reader by places on a table of 10,000 functions: the index, a record by its two places, a record by its number, and the
- * rules of 65 registers of one record by one locating and by a read each. The fastest of several turns counts. */
+ * rules of 65 registers of one record by one locating and by a read each. Processor time; the fastest of several turns counts. */
 #define _POSIX_C_SOURCE 199309L
 #include <inttypes.h>
 #include <stdio.h>
@@ -8,7 +8,7 @@
 
 #include "../include/unwind.h"
 
-enum { FUNCTIONS = 10000, ROWS = 5, REGISTERS = 65, TURNS = 5, LOOKUPS = 100000 };
+enum { FUNCTIONS = 10000, ROWS = 5, REGISTERS = 65, TURNS = 40, LOOKUPS = 10000 };
 
 static uint64_t functions[18 * FUNCTIONS], rows[4 * ROWS], header_places[FUNCTIONS], relocations[20 * FUNCTIONS], places[2 * FUNCTIONS];
 static uint8_t section[100 * FUNCTIONS], debug[100 * FUNCTIONS], sites[1];
@@ -17,7 +17,7 @@ static uint64_t machine[70];
 
 static double now(void) {
     struct timespec t;
-    clock_gettime(CLOCK_MONOTONIC, &t);
+    clock_gettime(CLOCK_PROCESS_CPUTIME_ID, &t);
     return (double)t.tv_sec + (double)t.tv_nsec * 1e-9;
 }
 
@@ -131,7 +131,7 @@ int main(void) {
     check(w.number == 0 && d.number == 0, "table");
     size_t n = w.bytes, m = 5 * w.relocations;
     for (int turn = 0; turn < TURNS; turn++) {
-        least(&best[DEBUG], time_index(debug, d.bytes, debug_relocations, 5 * d.relocations, 1));
+        if (turn < 3) least(&best[DEBUG], time_index(debug, d.bytes, debug_relocations, 5 * d.relocations, 1));
         least(&best[INDEX], time_index(section, n, relocations, m, 0));
         least(&best[PLACES], time_places(n));
         least(&best[LOOKUP], time_lookups(n));
