@@ -191,14 +191,8 @@ extern "C" {
         record: u64,
     ) -> Placed;
 
-    pub(crate) fn unwind_record_of(
-        section: *const u8,
-        section_n: usize,
-        kind: u64,
-        word: u64,
-        address: u64,
-        pc: u64,
-    ) -> Holder;
+    pub(crate) fn unwind_record_of(section: *const u8, section_n: usize, kind: u64, word: u64, address: u64, pc: u64)
+        -> Holder;
 
     pub(crate) fn unwind_pack_functions(
         functions: *const Function,
