@@ -1,11 +1,11 @@
 -- The header of a record by its place, and the index stored number by number.
-use mathlib.Core.Path.{_≡_, refl, sym, ap, _∙_}
+use mathlib.Core.Path.{_≡_, refl, sym, ap, subst, _∙_}
 use mathlib.Core.Bool.{Bool, true, false, _&&_}
 use mathlib.Core.Option.{Option, none, some}
 use mathlib.Core.List.{List, [], _∷_}
 use Prim.Native.Nat.{ℕ, suc, _+_, _-_, _*_, _/_, _^_, _≤_, _<_}
 use native.Mathlib.Omega.{arith}
-use borrow.Author.Tests.{lt-ltb, le-ltb}
+use borrow.Author.Tests.{eq-eqb, lt-ltb, le-ltb}
 use lib.Dec.{T, leb, eqb, ltb}
 use lib.ListN.{length, getD, set, length-set}
 use mir.Facts.{eqb-yes}
@@ -81,6 +81,29 @@ module _ (debug : Bool) (es : List Entry) where
   headed-found {place} {before} {h} l q =
       let e : h .at ≡ place = stands-at debug place before es q in
       rw e (record { starts = λ b k m. rw (any-record debug place b before es k l, q) e })
+
+-- an entry that the search of a test that finds none does not pass
+pub not-first : (test : Entry → Bool) (e : Entry) (es : List Entry) → first test (e ∷ es) ≡ none → (test e ≡ false) × (first test es ≡ none)
+unfolding first pick
+not-first test e es n = by (test e) n
+  where
+    by : (b : Bool) → pick b (some e) (first test es) ≡ none → (b ≡ false) × (first test es ≡ none)
+    by true n = let z : _≡_ {A = ℕ} 0 1 = cc in absurd (omega arith)
+    by false n = (refl, n)
+
+-- a header of the entries
+module _ (debug : Bool) (es : List Entry) (e : Entry) (y : isHeader debug e ≡ true) (member : (test : Entry → Bool) → first test es ≡ none → test e ≡ false) where
+  stands-there : (before : ℕ) → e .at < before → (o : Option Entry) → headerAt debug (e .at) before es ≡ o → placeOr o ≡ e .at
+  unfolding headerAt placeOr
+  stands-there before l none q =
+      let n : (eqb (e .at) (e .at) && ltb (e .at) before && isHeader debug e) ≡ false = member _ q in
+      let t : (eqb (e .at) (e .at) && ltb (e .at) before && isHeader debug e) ≡ true = rw (eq-eqb (e .at) (e .at) refl, lt-ltb (e .at) before l, y) refl in
+      let z : true ≡ false = sym t ∙ n in
+      absurd (subst T z tt)
+  stands-there before l (some h) q = stands-at debug (e .at) before es q
+
+  pub headed-passed : Headed debug es (e .at)
+  headed-passed = record { starts = λ before l m. stands-there before l (headerAt debug (e .at) before es) refl }
 
 -- ---- the header of a record
 
@@ -178,6 +201,7 @@ pub record Filling (s : List ℕ) (debug : Bool) (xs old now : List ℕ) (from l
   pub rest : put now i (indexFrom debug (relocationsOf xs) (listed (entries s)) (records debug (listed (entriesFrom s at)))) ≡ put old 0 (indexOf debug (relocationsOf xs) (listed (entries s)))
   pub headed : Headed debug (listed (entries s)) last
   pub skipped : Skipped xs at from
+  pub absent-on : (test : Entry → Bool) → first test (listed (entries s)) ≡ none → first test (listed (entriesFrom s at)) ≡ none
 
 module _ (s : List ℕ) (debug : Bool) (xs old : List ℕ) where
   abbrev es : List Entry
@@ -188,17 +212,23 @@ module _ (s : List ℕ) (debug : Bool) (xs old : List ℕ) where
 
   pub filling : T (isSome (entries s)) → length (indexOf debug rs es) ≤ length old → Filling s debug xs old old 0 nowhere 0 0
   unfolding entries entriesFrom indexOf
-  filling t l = record { inside = omega arith; long = refl; tiles = t; room = omega (arith, l); rest = refl; headed = headed-nowhere debug es; skipped = none-skipped xs 0 }
+  filling t l = record { inside = omega arith; long = refl; tiles = t; room = omega (arith, l); rest = refl; headed = headed-nowhere debug es; skipped = none-skipped xs 0; absent-on = λ test n. n }
 
   module _ {now : List ℕ} {from last i at end : ℕ} (f : Filling s debug xs old now from last i at) (e : Ends s at end) where
     abbrev more : List Entry
     more = listed (entriesFrom s end)
 
+    absent-here : (test : Entry → Bool) → first test es ≡ none → first test (entryIn s at end ∷ more) ≡ none
+    absent-here test n = rw (e .rest) at (f .absent-on test n)
+
+    absent-behind : (test : Entry → Bool) → first test es ≡ none → first test more ≡ none
+    absent-behind test n = not-first test (entryIn s at end) more (absent-here test n) .1
+
     -- in front of the record's second field
     pub fill-skipped : Skipped xs (at + 4) from
     fill-skipped = skipped-later xs (omega arith) (f .skipped)
 
-    pub fill-header : isHeader debug (entryIn s at end) ≡ true → Filling s debug xs old now from last i end
+    pub fill-header : isHeader debug (entryIn s at end) ≡ true → Filling s debug xs old now from at i end
     fill-header y =
         let q : records debug (listed (entriesFrom s at)) ≡ records debug more = rw (e .rest) (records-header debug (entryIn s at end) more y) in
         record {
@@ -207,8 +237,9 @@ module _ (s : List ℕ) (debug : Bool) (xs old : List ℕ) where
           tiles = e .tiled;
           room = rw q at (f .room);
           rest = rw q at (f .rest);
-          headed = f .headed;
+          headed = headed-passed debug es (entryIn s at end) y (λ test n. not-first test (entryIn s at end) more (absent-here test n) .0);
           skipped = skipped-later xs (omega (arith, e .long)) (f .skipped);
+          absent-on = absent-behind;
         }
 
     module _ (y : isHeader debug (entryIn s at end) ≡ false) where
@@ -233,6 +264,7 @@ module _ (s : List ℕ) (debug : Bool) (xs old : List ℕ) where
             rest = rw (g, ← a) (rw one at (f .rest));
             headed = k;
             skipped = skipped-later xs (omega (arith, e .long)) p;
+            absent-on = absent-behind;
           }
 
   pub filled : {now : List ℕ} {from last i at : ℕ} → Filling s debug xs old now from last i at → length s ≤ at → now ≡ put old 0 (indexOf debug rs es)

@@ -90,8 +90,8 @@ fn header_place(s: &[u8], relocs: &[u64], debug: bool, at: usize, end: usize, fr
     reader::location::header_place(s, relocs, debug, at, end)
 }
 
-// The place of the header of the record from `at` to `end`. Records of one header follow each other, so the header that was found last is looked at
-// first: without it each record would cost a search from the section's start on.
+// The place of the header of the record from `at` to `end`. Records follow their header, or others of it, so the header that was passed or found last
+// is looked at first: without it each record would cost a search from the section's start on.
 fn header_start(
     s: &[u8],
     relocs: &[u64],
@@ -132,6 +132,7 @@ fn fill(s: &[u8], relocs: &[u64], debug: bool, places: &mut [u64])
         let at = next;
         next = reader::entries::past(s, at);
         if reader::entries::is_header(s, at, next, debug) {
+            last = at;
             continue 'entries;
         }
         from = skipped(relocs, debug, (at + 4) as u64, from);
