@@ -5,10 +5,10 @@ use mathlib.Core.Option.{Option, none, some}
 use mathlib.Core.List.{List}
 use mathlib.Core.Logic.{⊎-elim}
 use Prim.Native.Nat.{ℕ, suc, _+_, _-_, _*_, _^_, _%_, _≤_, _<_}
-use native.Mathlib.Nat.{mod-add-mod, mod-eq-of-lt, mod-mod-of-dvd, dvd-mul-left}
+use native.Mathlib.Nat.{mod-add-mod, mod-mod-of-dvd, dvd-mul-left}
 use native.Mathlib.Omega.{arith}
 use lib.Dec.{T, leb, ltb, eqb}
-use lib.ListN.{length, drop}
+use lib.ListN.{length}
 use lib.Pow.{pow-add}
 use mir.Facts.{or-yes, eqb-yes}
 use Rattle.format.specs.Prelude.{pick, next, after}
@@ -18,16 +18,14 @@ use Rattle.reader.specs.declared.entries.Number.the-variants as number
 use Rattle.reads.specs.Places.{asked}
 use Rattle.reads.proofs.Placing.{entry-none, entry-here}
 use Rattle.format.specs.Machine.{isWord}
-use Rattle.format.specs.Reader.{Entry}
 use Rattle.format.specs.declared.Unsigned.the-variants as unsigned
 use Rattle.format.proofs.Choice.{if-le, if-gt}
 use Rattle.format.proofs.FieldsBack.{word-small}
 use Rattle.format.proofs.Positions.{littleAt}
-use Rattle.format.proofs.PositionLaws.{little-ahead, little-rest, little-none}
+use Rattle.format.proofs.PositionLaws.{little-rest, little-none}
 use Rattle.reader.proofs.Recorded.{field-small}
 use Rattle.reader.specs.Spans.{part, entryIn}
 use Rattle.reads.specs.Addresses.{functionFields, sdata4, startOf, functionOf, unplaced, placedAs, functionAt, recordOf, holderAs, holderIn, holds}
-use Rattle.reads.specs.declared.Holder.{Holder}
 use Rattle.format.specs.Prelude.{bad}
 use Rattle.reads.specs.Standing.{fieldsAs}
 use Rattle.reads.specs.declared.Placed.{Placed}

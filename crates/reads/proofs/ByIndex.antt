@@ -1,5 +1,5 @@
 -- Laws of the index: locating by its numbers is locating by the record's number, and behind it there is no record.
-use mathlib.Core.Path.{_≡_, refl, sym, ap, subst, _∙_}
+use mathlib.Core.Path.{_≡_, refl, ap, subst, _∙_}
 use mathlib.Core.Bool.{Bool, true, false}
 use mathlib.Core.Option.{Option, none, some}
 use mathlib.Core.List.{List, [], _∷_}
@@ -13,12 +13,11 @@ use Rattle.format.specs.Lists.{Relocation, relocationsOf}
 use Rattle.format.specs.Reader.{Entry, entries, records, headerPlace, headerAt, read}
 use Rattle.format.proofs.Choice.{either}
 use Rattle.reads.specs.Places.{asked, refused, locatedAs, locateEntries, headerOf, locateNth, locateRecord, rulesOf}
-use Rattle.reads.specs.Addresses.{entryAt}
 use Rattle.reads.specs.Index.{nowhere, placeOr, indexFrom, indexOf, indexIn, index, locateIn, locateAt}
 use Rattle.reads.specs.declared.Located.{Located}
 use Rattle.reads.proofs.Indexing.{not-behind, stands-at, index-length}
 use Rattle.reads.proofs.FromPlaces.{rules-located}
-use Rattle.reads.proofs.Standing.{Standing, AllStand, entries-stand, records-stand, nth-stands, first-stands, stands-entry, stands-inside}
+use Rattle.reads.proofs.Standing.{Standing, entries-stand, records-stand, nth-stands, first-stands, stands-entry, stands-inside}
 
 -- ---- the two numbers of a record
 

@@ -1,27 +1,24 @@
 -- The operations of an entry are its last bytes, so the rules from what was located are what is read.
 use mathlib.Core.Path.{_≡_, refl, sym, ap, subst, _∙_}
-use mathlib.Core.Bool.{Bool, true, false, _&&_}
+use mathlib.Core.Bool.{Bool, true, false}
 use mathlib.Core.Option.{Option, none, some}
 use mathlib.Core.List.{List, [], _∷_}
-use Prim.Native.Nat.{ℕ, zero, suc, _+_, _-_, _≤_, _<_}
+use Prim.Native.Nat.{ℕ, suc, _+_, _-_, _≤_}
 use native.Mathlib.Omega.{arith}
-use lib.Dec.{T, leb, ltb, eqb, leb→le}
+use lib.Dec.{T, leb, eqb, leb→le}
 use borrow.Author.Tests.{eq-eqb, ne-eqb}
 use lib.ListN.{length, take, drop, length-drop, getElem?}
 use lib.Seq.{drop-drop, length-take-le}
 use Rattle.format.specs.Prelude.{pick, Read, next, after, Result, good, bad, onward, orElse}
-use Rattle.format.specs.Leb.{readLittle, readUleb, readSleb}
 use Rattle.format.specs.Rows.{readRegister, sameOffset}
 use Rattle.format.specs.Headers.{dataFactor}
 use Rattle.format.specs.Machine.{isWord}
 use Rattle.format.specs.Answers.{bit}
 use Rattle.format.specs.Lists.{Relocation, relocationsOf}
 use Rattle.format.specs.Reader.{Entry, entries, records, headerPlace, headerAt, strip, Letters, Spelling, spellings, spellOr, readLetters, readByte, readMany, readCounted, lettersIn, HeaderFields, headerTail, require, parseHeader, RecordFields, recordTail, parseRecord, Found, parsed, locate, read}
-use Rattle.format.specs.declared.Reading.{Reading}
-use Rattle.format.specs.declared.Reading.the-variants.{Refused}
 use Rattle.format.proofs.PositionLaws.{Takes, nothing, taken, takes-little, takes-uleb, takes-sleb}
 use Rattle.reader.specs.Spans.{part, entryIn}
-use Rattle.reader.specs.Finds.{found, Stated, rulesFrom}
+use Rattle.reader.specs.Finds.{found, Stated}
 use Rattle.reader.specs.Finds as reader
 use Rattle.reader.proofs.Tiling.{Entered}
 use Rattle.reader.proofs.Whole.{drop-part}

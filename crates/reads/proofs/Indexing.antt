@@ -3,7 +3,7 @@ use mathlib.Core.Path.{_≡_, refl, sym, ap, subst, _∙_}
 use mathlib.Core.Bool.{Bool, true, false, _&&_}
 use mathlib.Core.Option.{Option, none, some}
 use mathlib.Core.List.{List, [], _∷_}
-use Prim.Native.Nat.{ℕ, suc, _+_, _-_, _*_, _/_, _^_, _≤_, _<_}
+use Prim.Native.Nat.{ℕ, _+_, _-_, _*_, _/_, _^_, _≤_, _<_}
 use native.Mathlib.Omega.{arith}
 use borrow.Author.Tests.{eq-eqb, lt-ltb, le-ltb}
 use lib.Dec.{T, leb, eqb, ltb}
@@ -14,8 +14,8 @@ use Rattle.format.specs.Put.{put}
 use Rattle.format.specs.Questions.{isSome}
 use Rattle.format.specs.Lists.{Relocation, relocationsOf}
 use Rattle.format.specs.Reader.{Entry, isHeader, records, entries, headerPlace, headerAt}
-use Rattle.format.proofs.Choice.{if-le, if-gt, either}
-use Rattle.reader.specs.Spans.{entryIn, entriesFrom, listed, numberOf, Ends, Stands, Spans}
+use Rattle.format.proofs.Choice.{if-le, if-gt}
+use Rattle.reader.specs.Spans.{entryIn, entriesFrom, listed, numberOf, Ends, Spans}
 use Rattle.reader.specs.declared.entries.Number.{Number}
 use Rattle.reader.specs.declared.entries.Number.the-variants as number
 use Rattle.reader.specs.declared.entries.Span.{Span}

@@ -1,14 +1,14 @@
 -- A pass over the entries of a section that is tiled: what is asked of all of them goes on in those from a position on.
-use mathlib.Core.Path.{_≡_, refl, sym, ap, _∙_}
+use mathlib.Core.Path.{_≡_, refl, ap, _∙_}
 use mathlib.Core.Bool.{Bool, true, false}
 use mathlib.Core.Option.{Option, none, some}
 use mathlib.Core.List.{List, [], _∷_}
-use Prim.Native.Nat.{ℕ, suc, _+_, _≤_, _<_}
+use Prim.Native.Nat.{ℕ, _+_, _≤_}
 use native.Mathlib.Omega.{arith}
 use native.Mathlib.Numerals.{add-one}
 use lib.Dec.{T}
 use lib.ListN.{length}
-use Rattle.format.specs.Prelude.{pick, good, bad, onward, orElse}
+use Rattle.format.specs.Prelude.{pick, bad, onward, orElse}
 use Rattle.format.specs.Questions.{isSome}
 use Rattle.format.specs.Reader.{Entry, isHeader, records, entries}
 use Rattle.reader.specs.Spans.{entryIn, entriesFrom, listed, Ends}

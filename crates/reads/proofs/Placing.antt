@@ -1,7 +1,7 @@
 -- Located entries: from the fields that were read to the numbers that are answered.
-use mathlib.Core.Path.{_≡_, refl, sym, ap, _∙_}
+use mathlib.Core.Path.{_≡_, refl}
 use mathlib.Core.Bool.{Bool, true, false, _&&_}
-use mathlib.Core.Option.{Option, none, some}
+use mathlib.Core.Option.{none, some}
 use mathlib.Core.List.{List}
 use Prim.Native.Nat.{ℕ, _+_, _-_, _≤_, _<_}
 use native.Mathlib.Omega.{arith}
@@ -10,7 +10,7 @@ use mir.Facts.{and-yes}
 use lib.Dec.{T, leb, eqb}
 use lib.ListN.{length, drop, length-drop, getElem?}
 use lib.Seq.{length-take-le}
-use Rattle.format.specs.Prelude.{pick, next, Result, good, bad, onward, orElse}
+use Rattle.format.specs.Prelude.{pick, next, Result, bad, onward, orElse}
 use Rattle.format.specs.Machine.{isWord}
 use Rattle.format.specs.Questions.{isSome}
 use Rattle.format.specs.Lists.{Relocation, relocationsOf}

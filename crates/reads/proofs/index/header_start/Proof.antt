@@ -4,7 +4,6 @@ use Rattle.reader.specs.Spans.{listed}
 use Rattle.format.specs.Reader.{entries}
 use Rattle.format.specs.Lists.{relocationsOf}
 use native.Mathlib.Omega.{arith}
-use mathlib.Core.Path.{sym, _∙_}
 use borrow.Author.Needs.{needs}
 use Rattle.reads.proofs.index.header_start.Statement.{statement}
 use Rattle.reads.proofs.index.header_start.Tie as tie
