@@ -35,6 +35,44 @@ pub(crate) struct Site {
     pub pad: u64,
 }
 
+/// Where the operations of a record and of its header are.
+#[derive(Clone, Copy, Debug, PartialEq, Eq)]
+#[repr(C)]
+pub(crate) struct Located {
+    pub number: u64,
+    pub header: u64,
+    pub header_end: u64,
+    pub record: u64,
+    pub record_end: u64,
+    pub length: u64,
+    pub pointer: u64,
+    pub signal: u64,
+    pub word: u64,
+}
+
+/// How many records there are.
+#[repr(C)]
+pub(crate) struct Indexed {
+    pub number: u64,
+    pub records: u64,
+}
+
+/// Where a record's function starts, and its length.
+#[repr(C)]
+pub(crate) struct Placed {
+    pub number: u64,
+    pub address: u64,
+    pub length: u64,
+}
+
+/// A record by its number and its place.
+#[repr(C)]
+pub(crate) struct Holder {
+    pub number: u64,
+    pub k: u64,
+    pub place: u64,
+}
+
 /// What the reader of x64 records answers.
 #[repr(C)]
 pub(crate) struct X64Reading {
@@ -186,6 +224,50 @@ extern "C" {
         reg: u16,
         p: u64,
     ) -> Reading;
+
+    pub(crate) fn unwind_locate(
+        section: *const u8,
+        section_n: usize,
+        relocations: *const u64,
+        relocations_n: usize,
+        kind: u64,
+        word: u64,
+        k: u64,
+    ) -> Located;
+
+    pub(crate) fn unwind_rules_at(section: *const u8, section_n: usize, located: Located, reg: u16, p: u64) -> Reading;
+
+    pub(crate) fn unwind_index(
+        section: *const u8,
+        section_n: usize,
+        relocations: *const u64,
+        relocations_n: usize,
+        kind: u64,
+        word: u64,
+        places: *mut u64,
+        places_n: usize,
+    ) -> Indexed;
+
+    pub(crate) fn unwind_locate_at(
+        section: *const u8,
+        section_n: usize,
+        kind: u64,
+        word: u64,
+        record: u64,
+        header: u64,
+    ) -> Located;
+
+    pub(crate) fn unwind_function_at(
+        section: *const u8,
+        section_n: usize,
+        kind: u64,
+        word: u64,
+        address: u64,
+        record: u64,
+    ) -> Placed;
+
+    pub(crate) fn unwind_record_of(section: *const u8, section_n: usize, kind: u64, word: u64, address: u64, pc: u64)
+        -> Holder;
 
     pub(crate) fn unwind_pack_functions(
         functions: *const Function,

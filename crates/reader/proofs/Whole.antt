@@ -82,13 +82,13 @@ module _ (s : List ℕ) (debug : Bool) (word cie past at end : ℕ) {h : Header}
 -- ---- 61, 62 and 63
 
 module _ (s : List ℕ) (x : Option Entry) {r : Span} (m : Spans s r x) where
-  spans : {a e : ℕ} → r ≡ span.At a e → Stands s a e x
+  pub spans : {a e : ℕ} → r ≡ span.At a e → Stands s a e x
   spans q = subst (λ (r : Span). Spans s r x) q m
 
-  spans-none : r ≡ span.Nothing → x ≡ none
+  pub spans-none : r ≡ span.Nothing → x ≡ none
   spans-none q = subst (λ (r : Span). Spans s r x) q m
 
-tiled : (o : Option (List Entry)) → isSome o ≡ true → o ≡ some (listed o)
+pub tiled : (o : Option (List Entry)) → isSome o ≡ true → o ≡ some (listed o)
 unfolding isSome listed
 tiled none e = let z : _≡_ {A = ℕ} 0 1 = cc in absurd (omega arith)
 tiled (some es) e = refl
