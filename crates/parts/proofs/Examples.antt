@@ -9,7 +9,6 @@ use Rattle.format.specs.Rows.{unfactor, readRegister, inRange, readFactored, on
 use Rattle.format.specs.Headers.{headerId, dataFactor}
 use Rattle.format.specs.Answers.{bit}
 use Rattle.format.specs.Reader.{readEntry, valueOr0, second, isHeader, strip, spelled, spellings, spellOr, readLetters, readByte, readMany, readCounted, personalityIn, lsdaIn, lettersIn, headerTail, require, recordTail}
-use Rattle.format.proofs.Positions.{decodedFrom, operationAt}
 use Rattle.cursor.specs.Listing.{stopped, shown, entryRead, entryFrom, entryAt}
 use Rattle.parts.specs.Faults.{reading, testing}
 use Rattle.parts.specs.Entries.{entryNumbers, nextEntry}
@@ -56,5 +55,5 @@ record-fault = refl
 
 -- rbp is saved 16 below the frame address, which is 2^64 - 16 in two's complement
 saved-read : readOperationAt table 44 48 8 ≡ record { number = 0; kind = 3; reg = 6; value = 18446744073709551600; next = 46; opcode = 0x86 }
-unfolding table cie fde readOperationAt operationFrom decodedNumbers operationNumbers operationAt decodedFrom readOperation readFactored inRange unfactor fits64 one readUleb readUlebF kindOf regOf offsetOf isWord next pick
+unfolding table cie fde readOperationAt operationFrom decodedNumbers operationNumbers readOperation readFactored inRange unfactor fits64 one readUleb readUlebF kindOf regOf offsetOf isWord next pick
 saved-read = refl

@@ -3,24 +3,24 @@ use mathlib.Core.Path.{_≡_, refl, sym, ap, _∙_}
 use mathlib.Core.Bool.{Bool, true, false, _&&_}
 use Prim.Native.Nat.{ℕ, _+_, _-_, _^_, _≤_, _<_}
 use native.Mathlib.Omega.{arith}
-use mathlib.Core.Option.{some}
+use mathlib.Core.Option.{none, some}
 use mathlib.Core.List.{List}
 use borrow.Author.Tests.{eq-eqb, ne-eqb, le-leb, lt-leb}
 use lib.Dec.{leb, eqb}
-use lib.ListN.{length, drop, length-drop, length-take}
+use lib.ListN.{length, drop, getD, length-drop, length-take}
 use lib.Seq.{length-take-le}
 use lib.IntN.{ℤ, pos, negsuc}
 use lib.Signed.{ltZ, mag}
 use mir.Syntax.{w64}
 use mir.Val.{SFits, ofZ, toZ}
-use Rattle.format.specs.Prelude.{pick}
+use Rattle.format.specs.Prelude.{pick, Read}
 use Rattle.format.specs.Machine.{isWord}
 use Rattle.format.specs.Rows.{readOperation}
 use Rattle.format.specs.declared.Operation.{Operation}
 use Rattle.format.specs.declared.Operation.the-variants.{Nop, Step, Does}
 use Rattle.format.specs.declared.Decoded.{Decoded}
 use Rattle.format.specs.declared.Decoded.the-variants as decoded
-use Rattle.format.proofs.Positions.{operationAt}
+use Rattle.format.proofs.Positions.{decodedFrom, operationAt}
 use Rattle.format.proofs.OperationLaws.{operation-ahead, operation-rest}
 use Rattle.rows.proofs.Signs.{negative, positive}
 use Rattle.reader.specs.Spans.{part}
@@ -39,6 +39,21 @@ module _ (z : ℤ) (f : SFits w64 z) where
 
   pub bits-above : ltZ (toZ w64 (ofZ w64 z)) (pos 0) ≡ false → mag z ≡ ofZ w64 z
   bits-above h = ap (ofZ w64) (sym (positive z f h))
+
+-- ---- an operation by the code's answer
+
+unfoldable pub answered : (at opcode : ℕ) → Decoded → OperationRead
+answered at opcode (decoded.Operation op past) = operationNumbers op (at + past) opcode
+answered at opcode decoded.Bad = noOperation 66 at opcode
+
+by-answer : (at size opcode : ℕ) (r : Read Operation) → decodedNumbers at size opcode r ≡ answered at opcode (decodedFrom size r)
+unfolding decodedNumbers answered decodedFrom
+by-answer at size opcode none = refl
+by-answer at size opcode (some x) = refl
+
+pub operation-from : (word at : ℕ) (bs : List ℕ) → operationFrom word at bs ≡ answered at (getD bs 0 0) (operationAt word bs 0)
+unfolding operationFrom operationAt
+operation-from word at bs = by-answer at (length bs) (getD bs 0 0) (readOperation word bs)
 
 -- ---- the range
 
@@ -93,19 +108,20 @@ goes-next (Step n) q opcode h k e = (h, k)
 goes-next (Does row) q opcode h k e = (h, k)
 
 module _ (section : List ℕ) (at end word : ℕ) where
-  goes-decoded : (d : Decoded) → operationAt word (part section at end) 0 ≡ d → (opcode : ℕ) → Goes at end (decodedNumbers at opcode d)
-  unfolding decodedNumbers
+  goes-decoded : (d : Decoded) → operationAt word (part section at end) 0 ≡ d → (opcode : ℕ) → Goes at end (answered at opcode d)
+  unfolding answered
   goes-decoded decoded.Bad s opcode = goes-not 66 opcode (omega arith)
   goes-decoded (decoded.Operation op q) s opcode =
       let a = operation-ahead word (part section at end) 0 s in
       goes-next op (at + q) opcode (omega (arith, a .0)) (omega (arith, a .0, a .1, length-take (end - at) (drop at section)))
 
   pub operation-goes : Goes at end (readOperationAt section at end word)
-  unfolding readOperationAt operationFrom
+  unfolding readOperationAt
   operation-goes =
-      goes-pick (isWord word) _ _
+      rw (operation-from word at (part section at end))
+      (goes-pick (isWord word) _ _
       (goes-pick (eqb at end) _ _ (goes-not 62 0 (omega arith))
-      (goes-pick (leb at end && leb end (length section)) _ _ (goes-decoded _ refl _) (goes-not 66 0 (omega arith)))) (goes-not 11 0 (omega arith))
+      (goes-pick (leb at end && leb end (length section)) _ _ (goes-decoded _ refl _) (goes-not 66 0 (omega arith)))) (goes-not 11 0 (omega arith)))
 
   -- what the reader reads there, and what it leaves
   pub operation-reads : {op : Operation} {q : ℕ} → operationAt word (part section at end) 0 ≡ decoded.Operation op q

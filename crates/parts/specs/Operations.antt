@@ -1,19 +1,17 @@
 -- One operation of an entry's, as numbers (DWARF 5, 6.4.2).
-use Prim.Native.Nat.{ℕ, _+_}
+use Prim.Native.Nat.{ℕ, _+_, _-_}
 use mathlib.Core.Bool.{_&&_}
+use mathlib.Core.Option.{none, some}
 use mathlib.Core.List.{List}
 use lib.Dec.{leb, eqb}
 use lib.ListN.{length, getD}
 use mir.Syntax.{w64}
 use mir.Val.{ofZ}
-use Rattle.format.specs.Prelude.{pick}
+use Rattle.format.specs.Prelude.{pick, Read}
 use Rattle.format.specs.Machine.{isWord}
-use Rattle.format.specs.Rows.{kindOf, regOf, offsetOf}
+use Rattle.format.specs.Rows.{readOperation, kindOf, regOf, offsetOf}
 use Rattle.format.specs.declared.Operation.{Operation}
 use Rattle.format.specs.declared.Operation.the-variants.{Nop, Step, Does}
-use Rattle.format.specs.declared.Decoded.{Decoded}
-use Rattle.format.specs.declared.Decoded.the-variants as decoded
-use Rattle.format.proofs.Positions.{operationAt}
 use Rattle.reader.specs.Spans.{part}
 use Rattle.parts.specs.declared.operations.OperationRead.{OperationRead}
 
@@ -35,14 +33,14 @@ operationNumbers (Does row) next opcode =
 unfoldable pub noOperation : (number at opcode : ℕ) → OperationRead
 noOperation number at opcode = record { number = number; kind = 0; reg = 0; value = 0; next = at; opcode = opcode }
 
--- what was read at `at`; 66: an operation that cannot be read
-unfoldable pub decodedNumbers : (at opcode : ℕ) → Decoded → OperationRead
-decodedNumbers at opcode (decoded.Operation op past) = operationNumbers op (at + past) opcode
-decodedNumbers at opcode decoded.Bad = noOperation 66 at opcode
+-- what was read of as many bytes as `size`, which stand at `at`; 66: an operation that cannot be read
+unfoldable pub decodedNumbers : (at size opcode : ℕ) → Read Operation → OperationRead
+decodedNumbers at size opcode none = noOperation 66 at opcode
+decodedNumbers at size opcode (some x) = operationNumbers (x .0) (at + (size - length (x .1))) opcode
 
 -- the first operation of some bytes, which stand at `at`
 unfoldable pub operationFrom : (word at : ℕ) → List ℕ → OperationRead
-operationFrom word at bs = decodedNumbers at (getD bs 0 0) (operationAt word bs 0)
+operationFrom word at bs = decodedNumbers at (length bs) (getD bs 0 0) (readOperation word bs)
 
 -- 11: a word of 2, 4 or 8; 62: no byte is left; 66: `end` lies behind `at` and in the section
 unfoldable pub readOperationAt : (section : List ℕ) (at end word : ℕ) → OperationRead

@@ -2,7 +2,7 @@
 use mathlib.Core.Path.{sym, _∙_}
 use native.Mathlib.Omega.{arith}
 use Rattle.format.proofs.OperationLaws.{operation-ahead}
-use Rattle.parts.specs.Operations.{decodedNumbers, operationFrom}
+use Rattle.parts.proofs.Operated.{answered, operation-from}
 use borrow.Author.Needs.{needs}
 use Rattle.parts.proofs.operations.first.Statement.{statement}
 use Rattle.parts.proofs.operations.first.Tie as tie
@@ -26,8 +26,8 @@ refused-requires : tie.Need-refused-requires
 refused-requires c κs = search needs
 
 returns : tie.Need-returns
-unfolding operationFrom decodedNumbers
-returns c = rw (sym (c .before .before .before .operation .ensures) ∙ c .before .enum-told .given .1) (rw (c .before .before .before .before .wide .ensures .0) at (c .refused .ensures))
+unfolding answered
+returns c = rw (operation-from _ _ _, sym (c .before .before .before .operation .ensures) ∙ c .before .enum-told .given .1) (rw (c .before .before .before .before .wide .ensures .0) at (c .refused .ensures))
 
 add-numbers-of : tie.Need-add-numbers-of
 add-numbers-of c = omega (arith, operation-ahead (c .before .before .before .before .before .before .before .args .word) (c .before .before .before .before .before .before .before .args .bytes .now) 0 (sym (c .before .before .before .operation .ensures) ∙ c .before .op .given .1) .1)
@@ -36,8 +36,8 @@ numbers-of-requires : tie.Need-numbers-of-requires
 numbers-of-requires c κs = search needs
 
 returns-2 : tie.Need-returns-2
-unfolding operationFrom decodedNumbers
-returns-2 c = rw (sym (c .before .before .before .before .operation .ensures) ∙ c .before .before .op .given .1) (rw (c .before .before .before .before .before .wide .ensures .0) at (c .numbers-of .ensures))
+unfolding answered
+returns-2 c = rw (operation-from _ _ _, sym (c .before .before .before .before .operation .ensures) ∙ c .before .before .op .given .1) (rw (c .before .before .before .before .before .wide .ensures .0) at (c .numbers-of .ensures))
 
 pub first-spec : {M : Type 1} → statement M
 first-spec =
