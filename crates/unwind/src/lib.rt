@@ -375,7 +375,7 @@ struct Saving {
     offset: u64,
 }
 
-fn number(b: bool) -> u64
+pub fn number(b: bool) -> u64
     ensures { λ r. ⌜ r ≡ bit b ⌝ }
 {
     if b { 1 } else { 0 }
@@ -437,7 +437,7 @@ fn rules_numbers(c: CfaRule, r: Rule, signing: bool) -> Numbers
     }
 }
 
-fn numbers_of(r: Reading) -> Numbers
+pub fn numbers_of(r: Reading) -> Numbers
     ensures { λ n. ⌜ readNumbers n ≡ readingNumbers r ⌝ }
 {
     match r {
