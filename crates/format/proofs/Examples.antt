@@ -19,7 +19,7 @@ use Rattle.format.specs.declared.Reading.the-variants.{Answered, Refused
 use Rattle.format.specs.CallSites.{siteBytes, sitesBytes, siteTable, sitePad, siteAdded}
 use Rattle.format.specs.Headers.{implied, leads, ahead, others, leading, encodingOf, namedKind, kindFor, keyOf, sameEncoding, sameKind, sameRows, sameKey, sizeOf, pointerSize, sizeOr0, pointerBytes, pointerReloc, padding, padded, entry, letters, augmentation, lsdaLetter, augmentationData, counted, headerData, headerId, dataFactor, headerFields, headerBytes, pointerPlace, kindRelocs, headerRelocs}
 use Rattle.format.specs.Leb.{little, readLittle, ulebF, uleb, bits7, slebF, sleb, readUlebF, readUleb, push, last7, readSlebF, fits64, readSleb}
-use Rattle.format.specs.Lists.{mark, rowOf, rowAt, landingAt, pairAt, codeOf, codeAt, optional, functionAt, functionsOf, prologueAt, prologuesOf, relocationAt, relocationsOf, numbersOf, inside, symbolOk, markOk, whenMarked, hasRegister, hasOffset, rowOk, rowOkAt, pairOkAt, codeOk, codeOkAt, allIn, pointerOk, functionOkAt, prologueOkAt, sumOf, pairsIn, listsOk, codesOk}
+use Rattle.format.specs.Lists.{mark, rowOf, rowAt, landingAt, pairAt, codeOf, codeAt, optional, functionAt, functionsOf, prologueAt, prologuesOf, relocationAt, relocationsOf, numbersOf, inside, symbolOk, markOk, whenMarked, hasRegister, hasOffset, secondOperands, rowOk, rowOkAt, pairOkAt, codeOk, codeOkAt, allIn, pointerOk, functionOkAt, prologueOkAt, sumOf, pairsIn, listsOk, codesOk}
 use Rattle.format.specs.Machine.{registerOf, machineOf, isWord, machineOk, x8664}
 use Rattle.format.specs.Questions.{ask, andThen, perFunction, sizeBytes, isSome, lsdaOk, namedOk, encodingsOk, stepsOk, pairsOk, dwarfAsks, madeOne, prologuesFor, noAt, codeAsks, roomAsks, unless, fitting, dwarfAnswer, codesAnswer, prologuesAnswer, shortOnes, windowsAnswer, givenFunctions, noFunctions, givenAsks, windowsAsks, dwarfGiven, formatAnswer, relaxedTable, relaxedDebugFrame, seh, Answer, refused, empty, accepted, Given, Room}
 use Rattle.format.proofs.Accepted.{dwarfWritten}
@@ -95,11 +95,11 @@ view (accepted w) = w .places ∷ w .bytes ∷ numbersOf (w .relocations) ∷ w 
 
 -- what the writers' definitions give
 unfoldable written : ℕ → Given → Room → List (List ℕ)
-unfolding view x8664-list on ample pick next after onward orElse all first each little readLittle ulebF uleb bits7 slebF sleb readUlebF readUleb push last7 readSlebF fits64 readSleb registerOf machineOf isWord machineOk factor cfaBytes withRegister savedBytes rowBytes stepIn stepForm stepBytes steppedBytes rowsBytes unfactor readRegister inRange readOffset readFactored readSigned one two readExtended readOperation whole wholeBelow rowWhole sameOffset kindOf regOf offsetOf sameRow mark rowOf rowAt landingAt pairAt codeOf codeAt optional functionAt functionsOf prologueAt prologuesOf relocationAt relocationsOf numbersOf inside symbolOk markOk whenMarked hasRegister hasOffset rowOk rowOkAt pairOkAt codeOk codeOkAt allIn pointerOk functionOkAt prologueOkAt sumOf pairsIn listsOk codesOk implied leads ahead others leading encodingOf namedKind kindFor keyOf sameEncoding sameKind sameRows sameKey sizeOf pointerSize sizeOr0 pointerBytes pointerReloc padding padded entry letters augmentation lsdaLetter augmentationData counted headerData headerId dataFactor headerFields headerBytes pointerPlace kindRelocs headerRelocs siteBytes sitesBytes siteTable sitePad siteAdded pointerBlank namedBlank lsdaBlank pointerTo namedReloc lsdaReloc sizeField recordFields recordBytes sumPair pairFor setKind setBytes setPlace setPair stepRelocs rowRelocs recordRelocs beforeRemember joinGroup groups more isPush onlyPush loneRow pushRows readGroup readGroups low16 codeFor codesFor codesOf endOf node allocBytes slotBytes saveBytes size64 codeBytes registerIn allocNo saveNo operandNo codeNo frameOk frameNo orNo firstNo slots prologueNo frameOr frameByte reversed infoBytes runtimeRelocs markersFrom runtimeFrom x64 prologueOf ask andThen perFunction sizeBytes isSome lsdaOk namedOk encodingsOk stepsOk pairsOk dwarfAsks madeOne prologuesFor noAt codeAsks roomAsks unless fitting dwarfAnswer codesAnswer prologuesAnswer shortOnes windowsAnswer givenFunctions noFunctions givenAsks windowsAsks dwarfGiven formatAnswer relaxedTable relaxedDebugFrame seh dwarfWritten isDebug withoutExceptions taken alignFor placeIn partWith partOf isEmpty partsFrom joined partsOf dwarf
+unfolding view x8664-list on ample pick next after onward orElse all first each little readLittle ulebF uleb bits7 slebF sleb readUlebF readUleb push last7 readSlebF fits64 readSleb registerOf machineOf isWord machineOk factor cfaBytes withRegister savedBytes rowBytes stepIn stepForm stepBytes steppedBytes rowsBytes unfactor readRegister inRange readOffset readFactored readSigned one two readExtended readOperation whole wholeBelow rowWhole sameOffset kindOf regOf offsetOf sameRow mark rowOf rowAt landingAt pairAt codeOf codeAt optional functionAt functionsOf prologueAt prologuesOf relocationAt relocationsOf numbersOf inside symbolOk markOk whenMarked hasRegister hasOffset secondOperands rowOk rowOkAt pairOkAt codeOk codeOkAt allIn pointerOk functionOkAt prologueOkAt sumOf pairsIn listsOk codesOk implied leads ahead others leading encodingOf namedKind kindFor keyOf sameEncoding sameKind sameRows sameKey sizeOf pointerSize sizeOr0 pointerBytes pointerReloc padding padded entry letters augmentation lsdaLetter augmentationData counted headerData headerId dataFactor headerFields headerBytes pointerPlace kindRelocs headerRelocs siteBytes sitesBytes siteTable sitePad siteAdded pointerBlank namedBlank lsdaBlank pointerTo namedReloc lsdaReloc sizeField recordFields recordBytes sumPair pairFor setKind setBytes setPlace setPair stepRelocs rowRelocs recordRelocs beforeRemember joinGroup groups more isPush onlyPush loneRow pushRows readGroup readGroups low16 codeFor codesFor codesOf endOf node allocBytes slotBytes saveBytes size64 codeBytes registerIn allocNo saveNo operandNo codeNo frameOk frameNo orNo firstNo slots prologueNo frameOr frameByte reversed infoBytes runtimeRelocs markersFrom runtimeFrom x64 prologueOf ask andThen perFunction sizeBytes isSome lsdaOk namedOk encodingsOk stepsOk pairsOk dwarfAsks madeOne prologuesFor noAt codeAsks roomAsks unless fitting dwarfAnswer codesAnswer prologuesAnswer shortOnes windowsAnswer givenFunctions noFunctions givenAsks windowsAsks dwarfGiven formatAnswer relaxedTable relaxedDebugFrame seh dwarfWritten isDebug withoutExceptions taken alignFor placeIn partWith partOf isEmpty partsFrom joined partsOf dwarf
 written format g r = view (relaxedTable format g r)
 
 unfoldable written-debug : Given → List (List ℕ)
-unfolding view x8664-list on ample pick next after onward orElse all first each little readLittle ulebF uleb bits7 slebF sleb readUlebF readUleb push last7 readSlebF fits64 readSleb registerOf machineOf isWord machineOk factor cfaBytes withRegister savedBytes rowBytes stepIn stepForm stepBytes steppedBytes rowsBytes unfactor readRegister inRange readOffset readFactored readSigned one two readExtended readOperation whole wholeBelow rowWhole sameOffset kindOf regOf offsetOf sameRow mark rowOf rowAt landingAt pairAt codeOf codeAt optional functionAt functionsOf prologueAt prologuesOf relocationAt relocationsOf numbersOf inside symbolOk markOk whenMarked hasRegister hasOffset rowOk rowOkAt pairOkAt codeOk codeOkAt allIn pointerOk functionOkAt prologueOkAt sumOf pairsIn listsOk codesOk implied leads ahead others leading encodingOf namedKind kindFor keyOf sameEncoding sameKind sameRows sameKey sizeOf pointerSize sizeOr0 pointerBytes pointerReloc padding padded entry letters augmentation lsdaLetter augmentationData counted headerData headerId dataFactor headerFields headerBytes pointerPlace kindRelocs headerRelocs siteBytes sitesBytes siteTable sitePad siteAdded pointerBlank namedBlank lsdaBlank pointerTo namedReloc lsdaReloc sizeField recordFields recordBytes sumPair pairFor setKind setBytes setPlace setPair stepRelocs rowRelocs recordRelocs beforeRemember joinGroup groups more isPush onlyPush loneRow pushRows readGroup readGroups low16 codeFor codesFor codesOf endOf node allocBytes slotBytes saveBytes size64 codeBytes registerIn allocNo saveNo operandNo codeNo frameOk frameNo orNo firstNo slots prologueNo frameOr frameByte reversed infoBytes runtimeRelocs markersFrom runtimeFrom x64 prologueOf ask andThen perFunction sizeBytes isSome lsdaOk namedOk encodingsOk stepsOk pairsOk dwarfAsks madeOne prologuesFor noAt codeAsks roomAsks unless fitting dwarfAnswer codesAnswer prologuesAnswer shortOnes windowsAnswer givenFunctions noFunctions givenAsks windowsAsks dwarfGiven formatAnswer relaxedTable relaxedDebugFrame seh dwarfWritten isDebug withoutExceptions taken alignFor placeIn partWith partOf isEmpty partsFrom joined partsOf dwarf
+unfolding view x8664-list on ample pick next after onward orElse all first each little readLittle ulebF uleb bits7 slebF sleb readUlebF readUleb push last7 readSlebF fits64 readSleb registerOf machineOf isWord machineOk factor cfaBytes withRegister savedBytes rowBytes stepIn stepForm stepBytes steppedBytes rowsBytes unfactor readRegister inRange readOffset readFactored readSigned one two readExtended readOperation whole wholeBelow rowWhole sameOffset kindOf regOf offsetOf sameRow mark rowOf rowAt landingAt pairAt codeOf codeAt optional functionAt functionsOf prologueAt prologuesOf relocationAt relocationsOf numbersOf inside symbolOk markOk whenMarked hasRegister hasOffset secondOperands rowOk rowOkAt pairOkAt codeOk codeOkAt allIn pointerOk functionOkAt prologueOkAt sumOf pairsIn listsOk codesOk implied leads ahead others leading encodingOf namedKind kindFor keyOf sameEncoding sameKind sameRows sameKey sizeOf pointerSize sizeOr0 pointerBytes pointerReloc padding padded entry letters augmentation lsdaLetter augmentationData counted headerData headerId dataFactor headerFields headerBytes pointerPlace kindRelocs headerRelocs siteBytes sitesBytes siteTable sitePad siteAdded pointerBlank namedBlank lsdaBlank pointerTo namedReloc lsdaReloc sizeField recordFields recordBytes sumPair pairFor setKind setBytes setPlace setPair stepRelocs rowRelocs recordRelocs beforeRemember joinGroup groups more isPush onlyPush loneRow pushRows readGroup readGroups low16 codeFor codesFor codesOf endOf node allocBytes slotBytes saveBytes size64 codeBytes registerIn allocNo saveNo operandNo codeNo frameOk frameNo orNo firstNo slots prologueNo frameOr frameByte reversed infoBytes runtimeRelocs markersFrom runtimeFrom x64 prologueOf ask andThen perFunction sizeBytes isSome lsdaOk namedOk encodingsOk stepsOk pairsOk dwarfAsks madeOne prologuesFor noAt codeAsks roomAsks unless fitting dwarfAnswer codesAnswer prologuesAnswer shortOnes windowsAnswer givenFunctions noFunctions givenAsks windowsAsks dwarfGiven formatAnswer relaxedTable relaxedDebugFrame seh dwarfWritten isDebug withoutExceptions taken alignFor placeIn partWith partOf isEmpty partsFrom joined partsOf dwarf
 written-debug g = view (relaxedDebugFrame 0 g ample)
 
 -- two functions share one header
@@ -150,11 +150,11 @@ refusals-are = refl
 
 -- what the reader's definition gives of register q at p in record k of eh_frame and of debug_frame at word 8
 unfoldable read-eh : List (List ℕ) → (k q p : ℕ) → Reading
-unfolding pick next after onward orElse all first each little readLittle ulebF uleb bits7 slebF sleb readUlebF readUleb push last7 readSlebF fits64 readSleb factor cfaBytes withRegister savedBytes rowBytes stepIn stepForm stepBytes steppedBytes rowsBytes unfactor readRegister inRange readOffset readFactored readSigned one two readExtended readOperation whole wholeBelow rowWhole sameOffset kindOf regOf offsetOf sameRow mark rowOf rowAt landingAt pairAt codeOf codeAt optional functionAt functionsOf prologueAt prologuesOf relocationAt relocationsOf numbersOf inside symbolOk markOk whenMarked hasRegister hasOffset rowOk rowOkAt pairOkAt codeOk codeOkAt allIn pointerOk functionOkAt prologueOkAt sumOf pairsIn listsOk codesOk implied leads ahead others leading encodingOf namedKind kindFor keyOf sameEncoding sameKind sameRows sameKey sizeOf pointerSize sizeOr0 pointerBytes pointerReloc padding padded entry letters augmentation lsdaLetter augmentationData counted headerData headerId dataFactor headerFields headerBytes pointerPlace kindRelocs headerRelocs registerOf machineOf isWord machineOk blank withCfa withRule reoffset reregister restored negated apply rulesFor seen withoutCfa withoutStored refusal unlessRefused act answer readEntry entriesF entries valueOr0 second isHeader records distanceBack firstAddend headerPlace headerAt strip spelled spellings spellOr readLetters readByte readMany readCounted personalityIn lsdaIn lettersIn headerTail require parseHeader recordTail parseRecord perform whenRead runF run parsed locate runTo readSection read
+unfolding pick next after onward orElse all first each little readLittle ulebF uleb bits7 slebF sleb readUlebF readUleb push last7 readSlebF fits64 readSleb factor cfaBytes withRegister savedBytes rowBytes stepIn stepForm stepBytes steppedBytes rowsBytes unfactor readRegister inRange readOffset readFactored readSigned one two readExtended readOperation whole wholeBelow rowWhole sameOffset kindOf regOf offsetOf sameRow mark rowOf rowAt landingAt pairAt codeOf codeAt optional functionAt functionsOf prologueAt prologuesOf relocationAt relocationsOf numbersOf inside symbolOk markOk whenMarked hasRegister hasOffset secondOperands rowOk rowOkAt pairOkAt codeOk codeOkAt allIn pointerOk functionOkAt prologueOkAt sumOf pairsIn listsOk codesOk implied leads ahead others leading encodingOf namedKind kindFor keyOf sameEncoding sameKind sameRows sameKey sizeOf pointerSize sizeOr0 pointerBytes pointerReloc padding padded entry letters augmentation lsdaLetter augmentationData counted headerData headerId dataFactor headerFields headerBytes pointerPlace kindRelocs headerRelocs registerOf machineOf isWord machineOk blank withCfa withRule reoffset reregister restored negated apply rulesFor seen withoutCfa withoutStored refusal unlessRefused act answer readEntry entriesF entries valueOr0 second isHeader records distanceBack firstAddend headerPlace headerAt strip spelled spellings spellOr readLetters readByte readMany readCounted personalityIn lsdaIn lettersIn headerTail require parseHeader recordTail parseRecord perform whenRead runF run parsed locate runTo readSection read
 read-eh w k q p = read (getD w 1 []) (getD w 2 []) 0 8 k q p
 
 unfoldable read-debug : List (List ℕ) → (k q p : ℕ) → Reading
-unfolding pick next after onward orElse all first each little readLittle ulebF uleb bits7 slebF sleb readUlebF readUleb push last7 readSlebF fits64 readSleb factor cfaBytes withRegister savedBytes rowBytes stepIn stepForm stepBytes steppedBytes rowsBytes unfactor readRegister inRange readOffset readFactored readSigned one two readExtended readOperation whole wholeBelow rowWhole sameOffset kindOf regOf offsetOf sameRow mark rowOf rowAt landingAt pairAt codeOf codeAt optional functionAt functionsOf prologueAt prologuesOf relocationAt relocationsOf numbersOf inside symbolOk markOk whenMarked hasRegister hasOffset rowOk rowOkAt pairOkAt codeOk codeOkAt allIn pointerOk functionOkAt prologueOkAt sumOf pairsIn listsOk codesOk implied leads ahead others leading encodingOf namedKind kindFor keyOf sameEncoding sameKind sameRows sameKey sizeOf pointerSize sizeOr0 pointerBytes pointerReloc padding padded entry letters augmentation lsdaLetter augmentationData counted headerData headerId dataFactor headerFields headerBytes pointerPlace kindRelocs headerRelocs registerOf machineOf isWord machineOk blank withCfa withRule reoffset reregister restored negated apply rulesFor seen withoutCfa withoutStored refusal unlessRefused act answer readEntry entriesF entries valueOr0 second isHeader records distanceBack firstAddend headerPlace headerAt strip spelled spellings spellOr readLetters readByte readMany readCounted personalityIn lsdaIn lettersIn headerTail require parseHeader recordTail parseRecord perform whenRead runF run parsed locate runTo readSection read
+unfolding pick next after onward orElse all first each little readLittle ulebF uleb bits7 slebF sleb readUlebF readUleb push last7 readSlebF fits64 readSleb factor cfaBytes withRegister savedBytes rowBytes stepIn stepForm stepBytes steppedBytes rowsBytes unfactor readRegister inRange readOffset readFactored readSigned one two readExtended readOperation whole wholeBelow rowWhole sameOffset kindOf regOf offsetOf sameRow mark rowOf rowAt landingAt pairAt codeOf codeAt optional functionAt functionsOf prologueAt prologuesOf relocationAt relocationsOf numbersOf inside symbolOk markOk whenMarked hasRegister hasOffset secondOperands rowOk rowOkAt pairOkAt codeOk codeOkAt allIn pointerOk functionOkAt prologueOkAt sumOf pairsIn listsOk codesOk implied leads ahead others leading encodingOf namedKind kindFor keyOf sameEncoding sameKind sameRows sameKey sizeOf pointerSize sizeOr0 pointerBytes pointerReloc padding padded entry letters augmentation lsdaLetter augmentationData counted headerData headerId dataFactor headerFields headerBytes pointerPlace kindRelocs headerRelocs registerOf machineOf isWord machineOk blank withCfa withRule reoffset reregister restored negated apply rulesFor seen withoutCfa withoutStored refusal unlessRefused act answer readEntry entriesF entries valueOr0 second isHeader records distanceBack firstAddend headerPlace headerAt strip spelled spellings spellOr readLetters readByte readMany readCounted personalityIn lsdaIn lettersIn headerTail require parseHeader recordTail parseRecord perform whenRead runF run parsed locate runTo readSection read
 read-debug w k q p = read (getD w 1 []) (getD w 2 []) 1 8 k q p
 
 abbrev rules : CfaRule → Rule → Bool → Reading

@@ -10,7 +10,7 @@ use mir.Val.{hasKey}
 use types.Run.{OneOf, miss}
 use Rattle.format.proofs.Row.{the-type}
 use Rattle.format.specs.declared.Row.{Row}
-use Rattle.format.specs.declared.Row.the-variants.{DefCfa, DefCfaOffset, DefCfaRegister, Offset, Restore, Undefined, RememberState, RestoreState, NegateRaState}
+use Rattle.format.specs.declared.Row.the-variants.{DefCfa, DefCfaOffset, DefCfaRegister, Offset, Restore, Undefined, RememberState, RestoreState, NegateRaState, SameValue, InRegister}
 use Rattle.format.specs.Rows.{kindOf}
 
 tag-kind : (r : Row) → tagOf the-type r ≡ kindOf r

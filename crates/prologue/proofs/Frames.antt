@@ -13,7 +13,7 @@ use Rattle.format.proofs.Row.{the-type}
 use Rattle.format.specs.Prelude.{pick}
 use Rattle.format.specs.declared.Row.{Row}
 use Rattle.format.specs.declared.Machine.{Machine}
-use Rattle.format.specs.declared.Row.the-variants.{DefCfa, DefCfaOffset, DefCfaRegister, Offset, Restore, Undefined, RememberState, RestoreState, NegateRaState}
+use Rattle.format.specs.declared.Row.the-variants.{DefCfa, DefCfaOffset, DefCfaRegister, Offset, Restore, Undefined, RememberState, RestoreState, NegateRaState, SameValue, InRegister}
 use Rattle.format.specs.Rows.{kindOf, regOf, offsetOf, sameOffset}
 use Rattle.format.specs.X64.{frame, isPush}
 use Rattle.prologue.specs.declared.Walk.{Walk}

@@ -12,7 +12,7 @@ use mir.Facts.{and-yes, eqb-yes}
 use Rattle.format.specs.Prelude.{pick, Result, good, bad, onward, all}
 use Rattle.format.specs.declared.Machine.{Machine}
 use Rattle.format.specs.declared.Row.{Row}
-use Rattle.format.specs.declared.Row.the-variants.{DefCfa, DefCfaOffset, DefCfaRegister, Offset, Restore, Undefined, RememberState, RestoreState, NegateRaState}
+use Rattle.format.specs.declared.Row.the-variants.{DefCfa, DefCfaOffset, DefCfaRegister, Offset, Restore, Undefined, RememberState, RestoreState, NegateRaState, SameValue, InRegister}
 use Rattle.format.specs.Rows.{kindOf, regOf, offsetOf, sameOffset}
 use Rattle.format.specs.X64.{Step, push, alloc, frame, save, Prefix, more, isPush, onlyPush, loneRow, pushRows}
 use Rattle.prologue.specs.declared.Walk.{Walk}

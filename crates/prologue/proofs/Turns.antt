@@ -11,7 +11,7 @@ use mir.Facts.{eqb-yes}
 use Rattle.format.specs.Prelude.{pick, each}
 use Rattle.format.specs.declared.Machine.{Machine}
 use Rattle.format.specs.declared.Row.{Row}
-use Rattle.format.specs.declared.Row.the-variants.{DefCfa, DefCfaOffset, DefCfaRegister, Offset, Restore, Undefined, RememberState, RestoreState, NegateRaState}
+use Rattle.format.specs.declared.Row.the-variants.{DefCfa, DefCfaOffset, DefCfaRegister, Offset, Restore, Undefined, RememberState, RestoreState, NegateRaState, SameValue, InRegister}
 use Rattle.format.specs.Rows.{RowAt, kindOf, offsetOf}
 use Rattle.format.specs.Lists.{field, rowStride, rowOf, rowAt}
 use Rattle.format.specs.X64.{beforeRemember}
