@@ -123,6 +123,8 @@ module _ (m : Machine) (off : ℕ) (s : Prefix) where
   lone-reads last RememberState = refuses 33 (λ e. omega arith) refl refl
   lone-reads last RestoreState = refuses 33 (λ e. omega arith) refl refl
   lone-reads last NegateRaState = refuses 33 (λ e. omega arith) refl refl
+  lone-reads last (SameValue reg) = refuses 33 (λ e. omega arith) refl refl
+  lone-reads last (InRegister reg other) = refuses 33 (λ e. omega arith) refl refl
 
   pushed : (a b : Row) → kindOf a ≡ 1 → kindOf b ≡ 3 → more s off (push (regOf b)) (offsetOf a) ≡ past off false true b (past off true false a s)
   unfolding more past rowStep movedBy pick

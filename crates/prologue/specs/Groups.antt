@@ -79,6 +79,8 @@ loneIn m last (Undefined reg) w = refused 33
 loneIn m last RememberState w = refused 33
 loneIn m last RestoreState w = refused 33
 loneIn m last NegateRaState w = refused 33
+loneIn m last (SameValue reg) w = refused 33
+loneIn m last (InRegister reg other) w = refused 33
 
 -- two rows of one instruction
 unfoldable pub pushIn : Machine → Row → Row → Walk → Walk

@@ -59,3 +59,5 @@ module _ (header : Bool) (q : ℕ) (init : ℕ → Rule) (s : State) where
       by [] = refused 67 refl refl
       by (k ∷ ks) = answered _ refl refl
   seen-row NegateRaState = answered _ refl refl
+  seen-row (SameValue reg) = answered _ refl refl
+  seen-row (InRegister reg other) = answered _ refl refl

@@ -67,3 +67,5 @@ act header q initial (Undefined reg) s = good (setRule q reg rule.Undefined s)
 act header q initial RememberState s = remember s
 act header q initial RestoreState s = recall (s .stored) s
 act header q initial NegateRaState s = good (negated s)
+act header q initial (SameValue reg) s = good (setRule q reg rule.SameValue s)
+act header q initial (InRegister reg other) s = good (setRule q reg (rule.InRegister other) s)
