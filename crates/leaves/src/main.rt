@@ -113,7 +113,7 @@ fn read_signed(s: &[u8]) {
     io::write_all(STDOUT_FILENO, b"\n");
 }
 
-// A row's kind, register and offset.
+// A row's kind, register and second operand.
 fn row_parts(kind: u64, reg: u16, z: i64) {
     number(kind);
     number(reg as u64);
@@ -131,6 +131,8 @@ fn print_row(r: Row) {
         Row::RememberState => row_parts(6, 0, 0),
         Row::RestoreState => row_parts(7, 0, 0),
         Row::NegateRaState => row_parts(8, 0, 0),
+        Row::SameValue(reg) => row_parts(9, reg, 0),
+        Row::InRegister(reg, other) => row_parts(10, reg, other as i64),
     }
 }
 
