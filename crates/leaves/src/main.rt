@@ -263,6 +263,19 @@ fn all_rows() {
     row(49, 8, 0, 0);
 }
 
+// A register that keeps its value, and one that is held in another; the last two are no rows.
+fn register_rows() {
+    row(50, 9, 0, 0);
+    row(51, 9, 128, 0);
+    row(52, 9, 65535, 0);
+    row(53, 10, 0, 127);
+    row(54, 10, 127, 128);
+    row(55, 10, 65535, 0);
+    row(56, 10, 128, 65535);
+    row(57, 9, 3, 1);
+    row(58, 10, 3, 65536);
+}
+
 fn all_steps() {
     for i in 0..STEPS.len() {
         step(i, STEPS[i]);
@@ -293,6 +306,7 @@ fn main() {
     all_unsigned();
     all_signed();
     all_rows();
+    register_rows();
     all_steps();
     foreign();
 }
