@@ -689,9 +689,9 @@ static size_t pooled;
 
 static void check_reading(const unwind_reading *r) {
     uint64_t all = r->frame | r->frame_register | r->frame_offset | r->rule | r->rule_value | r->signing;
-    if (r->number ? all != 0 : r->frame > 1 || r->rule > 2 || r->signing > 1) wrong("a reading with a field that has no meaning");
+    if (r->number ? all != 0 : r->frame > 1 || r->rule > 4 || r->signing > 1) wrong("a reading with a field that has no meaning");
     if (!r->frame && (r->frame_register || r->frame_offset)) wrong("a frame address without a rule");
-    if (r->frame_register > 65535 || (r->rule != 2 && r->rule_value)) wrong("a rule that cannot be");
+    if (r->frame_register > 65535 || (r->rule != 2 && r->rule_value > (r->rule == 4 ? 65535 : 0))) wrong("a rule that cannot be");
 }
 
 static uint64_t ask(const section *s, uint64_t kind, uint64_t width, uint64_t k, uint64_t reg, uint64_t p) {
