@@ -25,8 +25,8 @@ enum-told-3 c = search needs
 enum-known-r-2 : tie.Need-enum-known-r-2
 enum-known-r-2 c = search needs
 
-cast-t10 : tie.Need-cast-t10
-cast-t10 c = search needs
+cast-t6 : tie.Need-cast-t6
+cast-t6 c = search needs
 
 returns : tie.Need-returns
 unfolding ruleNumbers
@@ -53,4 +53,4 @@ returns-5 c = rw (c .before .r2 .given .1) refl
 pub saving-of-spec : {M : Type 1} → statement M
 saving-of-spec =
     tie.close
-    (tie.spec enum-told enum-told-2 enum-known-r bits-requires enum-told-3 enum-known-r-2 cast-t10 returns returns-2 returns-3 returns-4 returns-5)
+    (tie.spec enum-told enum-told-2 enum-known-r bits-requires enum-told-3 enum-known-r-2 cast-t6 returns returns-2 returns-3 returns-4 returns-5)
