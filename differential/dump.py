@@ -20,7 +20,7 @@ sys.path = [folder for folder in sys.path if os.path.abspath(folder) != HERE] + 
 from exports import OUT, batches  # noqa: E402
 from frames import OBJECT, elf, filled  # noqa: E402
 from reader import DEBUG  # noqa: E402
-from reads import sections  # noqa: E402
+from reads import sections, with_registers  # noqa: E402
 
 UNWIND = os.path.join(os.path.dirname(HERE), "unwind")
 SECTION = os.path.join(OUT, "dump.section")
@@ -176,8 +176,10 @@ def program(counts):
 def main():
     counts = collections.Counter()
     try:
-        for texts in (batches("stored"), batches("wild", *sys.argv[1:3])):
-            for kind, word, _, section, numbers in sections(texts):
+        written = [sections(batches("stored")), sections(batches("wild", *sys.argv[1:3]))]
+        written += [with_registers(batches("stored")), with_registers(batches("registers", *sys.argv[1:3]))]
+        for some in written:
+            for kind, word, _, section, numbers, *_ in some:
                 if word in (4, 8) and section:
                     own(kind, word, section, numbers, counts)
         program(counts)

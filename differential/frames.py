@@ -19,11 +19,10 @@ HERE = os.path.dirname(os.path.abspath(__file__))
 sys.path = [folder for folder in sys.path if os.path.abspath(folder) != HERE] + [HERE]
 
 from exports import OUT, batches, run  # noqa: E402
-from reader import DEBUG  # noqa: E402
-from reads import sections  # noqa: E402
+from reader import DEBUG, IN_REGISTER, SAME_VALUE, SAVED, UNDEFINED, UNSTATED  # noqa: E402
+from reads import sections, with_registers  # noqa: E402
 
 OBJECT = os.path.join(OUT, "frames.o")
-UNSTATED, UNDEFINED, SAVED = 0, 1, 2
 RESTORE_STATE, NEGATE = 0x0B, 0x2D
 
 
@@ -44,6 +43,17 @@ def elf(name, data, word):
 
 def number(text):
     return int(text) % 2**64
+
+
+# What both tools write of an undefined register, and of one that keeps its value; another register is named.
+WORDS = {"u": (UNDEFINED, 0), "undefined": (UNDEFINED, 0), "s": (SAME_VALUE, 0), "same": (SAME_VALUE, 0)}
+
+
+def rule_of(text):
+    other, saved = re.match(r"r(?:eg)?(\d+)$", text), re.match(r"\[?(?:c|CFA)([+-]\d+)?\]?$", text)
+    if text in WORDS:
+        return WORDS[text]
+    return (IN_REGISTER, int(other.group(1))) if other else (SAVED, number(saved.group(1) or "0"))
 
 
 def by_readelf():
@@ -68,7 +78,7 @@ def by_readelf():
             location, frame, *values = line.split()
             named = [returns if column == "ra" else int(column[1:]) for column in columns]
             register, offset = re.match(r"r(\d+)([+-]\d+)$", frame).groups()
-            rules = {reg: (UNDEFINED, 0) if value == "u" else (SAVED, number(value[1:])) for reg, value in zip(named, values)}
+            rules = {reg: rule_of(value) for reg, value in zip(named, values)}
             rows.append((int(location, 16), (int(register), number(offset)), rules))
     return records
 
@@ -90,8 +100,7 @@ def by_llvm(debug):
             frame = (int(found.group(1)), number(found.group(2) or "0")) if found else None
             rules = {}
             for register, rule in re.findall(r"reg(\d+)=(\S+?)(?:,|$)", row.group(3)):
-                saved = re.match(r"\[CFA([+-]\d+)?\]", rule)
-                rules[int(register)] = (SAVED, number(saved.group(1) or "0")) if saved else (UNDEFINED, 0)
+                rules[int(register)] = rule_of(rule)
             rows.append((int(row.group(1), 16), frame, rules))
     return records
 
@@ -151,8 +160,10 @@ def read_all(kind, word, section, numbers, wanted):
 
 def main():
     counts, lists = collections.Counter(), 0
-    for texts in (batches("stored"), batches("wild", *sys.argv[1:3])):
-        for kind, word, _, section, numbers in sections(texts):
+    written = [sections(batches("stored")), sections(batches("wild", *sys.argv[1:3]))]
+    written += [with_registers(batches("stored")), with_registers(batches("registers", *sys.argv[1:3]))]
+    for some in written:
+        for kind, word, _, section, numbers, *_ in some:
             if word not in (4, 8):
                 continue
             debug = kind == DEBUG

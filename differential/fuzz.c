@@ -234,11 +234,12 @@ static int64_t offset(void) {
 }
 
 static void any_row(uint64_t at) {
-    static const uint64_t kinds[] = {0, 1, 1, 2, 3, 3, 3, 4, 5, 6, 7, 8};
+    static const uint64_t kinds[] = {0, 1, 1, 2, 3, 3, 3, 4, 5, 6, 7, 8, 9, 10};
     static const int64_t positive[] = {0, 1, 8, 16, 127, 128, INT32_MAX};
     uint64_t kind = PICK(kinds), reg = PICK(REGISTERS);
     int64_t operand = kind == 3 || chance(30) ? offset() : PICK(positive);
-    row(at, kind, kind == 1 || kind > 5 ? 0 : reg, kind == 0 || kind == 1 || kind == 3 ? operand : 0);
+    if (kind == 10) operand = (int64_t)PICK(REGISTERS);
+    row(at, kind, kind == 1 || (kind > 5 && kind < 9) ? 0 : reg, kind == 0 || kind == 1 || kind == 3 || kind == 10 ? operand : 0);
 }
 
 static void any_rows(void) {
@@ -688,9 +689,9 @@ static size_t pooled;
 
 static void check_reading(const unwind_reading *r) {
     uint64_t all = r->frame | r->frame_register | r->frame_offset | r->rule | r->rule_value | r->signing;
-    if (r->number ? all != 0 : r->frame > 1 || r->rule > 2 || r->signing > 1) wrong("a reading with a field that has no meaning");
+    if (r->number ? all != 0 : r->frame > 1 || r->rule > 4 || r->signing > 1) wrong("a reading with a field that has no meaning");
     if (!r->frame && (r->frame_register || r->frame_offset)) wrong("a frame address without a rule");
-    if (r->frame_register > 65535 || (r->rule != 2 && r->rule_value)) wrong("a rule that cannot be");
+    if (r->frame_register > 65535 || (r->rule != 2 && r->rule_value > (r->rule == 4 ? 65535 : 0))) wrong("a rule that cannot be");
 }
 
 static uint64_t ask(const section *s, uint64_t kind, uint64_t width, uint64_t k, uint64_t reg, uint64_t p) {

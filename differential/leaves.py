@@ -1,6 +1,6 @@
 #!/usr/bin/env python3
 """What the program crates/leaves must print, made without Rattle: LEB numbers by GNU as (.uleb128, .sleb128), rows and steps by the Rust
-(target/differential/release/harness), and what is read back from the inputs themselves, by the rules of document 01.
+(target/differential/release/harness), rows that it does not have by GNU as (.cfi_same_value, .cfi_register), and what is read back from the inputs themselves, by the rules of document 01.
 
 `leaves.py store` writes crates/leaves/stdout; without a word the stored file is compared."""
 
@@ -17,6 +17,8 @@ STORED = os.path.join(ROOT, "crates", "leaves", "stdout")
 UNSIGNED = [0, 1, 63, 64, 127, 128, 2**14 - 1, 2**14, 2**31, 2**32, 2**63, 2**64 - 1]
 SIGNED = [0, 1, -1, 63, 64, -64, -65, 127, 128, -127, -128, 2**31, -(2**31), 2**32, -(2**32), 2**63 - 1, -(2**63)]
 REGISTERS = [0, 63, 64, 127, 128, 65535]
+# The last two are no rows: an operand that the kind does not have, and a register above 65,535.
+REGISTER_ROWS = [(9, 0, 0), (9, 128, 0), (9, 65535, 0), (10, 0, 127), (10, 127, 128), (10, 65535, 0), (10, 128, 65535), (9, 3, 1), (10, 3, 65536)]
 STEPS = [1, 63, 64, 255, 256, 65535, 65536, 2**32 - 1]
 # Numbers of ten and eleven bytes, cut ones, and long forms.
 BROKEN_UNSIGNED = [
@@ -36,13 +38,25 @@ def rows():
     return found + [(1, 0, 0), (1, 0, 16), (1, 0, -16), (1, 0, 2**31 - 1), (1, 0, -(2**31)), (6, 0, 0), (7, 0, 0), (8, 0, 0)]
 
 
-def gas(directive, number):
+def assembled(text, section):
     with tempfile.TemporaryDirectory() as folder:
         made, bare = os.path.join(folder, "a.o"), os.path.join(folder, "a.bin")
-        subprocess.run(["as", "--64", "-o", made], input=f".data\n{directive} {number}\n", text=True, check=True)
-        subprocess.run(["objcopy", "-O", "binary", "-j", ".data", made, bare], check=True)
+        subprocess.run(["as", "--64", "-o", made], input=text, text=True, check=True)
+        subprocess.run(["objcopy", "-O", "binary", "-j", section, made, bare], check=True)
         with open(bare, "rb") as file:
             return file.read()
+
+
+def gas(directive, number):
+    return assembled(f".data\n{directive} {number}\n", ".data")
+
+
+def gas_row(kind, reg, operand):
+    """What stands in the record between a step of 1 and the mark 2d."""
+    row = f".cfi_same_value {reg}" if kind == 9 else f".cfi_register {reg}, {operand}"
+    section = assembled(f".cfi_startproc\nnop\n{row}\n.cfi_escape 0x2d\nnop\n.cfi_endproc\n", ".eh_frame")
+    entry = section[4 + int.from_bytes(section[:4], "little"):]
+    return entry[18:entry.rindex(0x2D)]
 
 
 def records(lines):
@@ -86,6 +100,10 @@ def text():
         out.append(f"sleb {at} {made.hex()} {len(made)} {said_of(n)} {len(made)}")
     for at, (row, made) in enumerate(zip(rows(), records([[(1, *row), (1, 8, 0, 0)] for row in rows()]))):
         out.append(f"row {at} {made[1:].hex()} {len(made) - 1} {row[0]} {row[1]} {said_of(row[2])} {len(made) - 1}")
+    for at, row in enumerate(REGISTER_ROWS, len(rows())):
+        made = gas_row(*row) if row[2] < (65536 if row[0] == 10 else 1) else None
+        parts = f"{row[0]} {row[1]} {said_of(row[2])}"
+        out.append(f"row {at} " + (f"{made.hex()} {len(made)} {parts} {len(made)}" if made else "no row"))
     for at, (n, made) in enumerate(zip(STEPS, records([[(n, 8, 0, 0)] for n in STEPS]))):
         out.append(f"step {at} {made.hex()} {len(made)} {n} {len(made)}")
     for at, data in enumerate(BROKEN_UNSIGNED):

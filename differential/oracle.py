@@ -7,7 +7,8 @@ decide: the groups and codes of COFF (31 to 41)."""
 STRIDE = {"functions": 18, "rows": 4, "landings": 3, "pairs": 4, "codes": 5}
 MOST_FUNCTIONS, MOST_RECORDS = 65536, 1048576
 ENCODINGS = {0x00, 0x03, 0x0B, 0x13, 0x1B, 0x04, 0x0C}
-HAS_REGISTER, HAS_OFFSET = {0, 2, 3, 4, 5}, {0, 1, 3}
+HAS_REGISTER, HAS_OFFSET = {0, 2, 3, 4, 5, 9, 10}, {0, 1, 3}
+SAME_VALUE, IN_REGISTER = 9, 10
 PUSH, ALLOC, FRAME, SAVE = 0, 1, 2, 3
 
 
@@ -42,8 +43,14 @@ def pointer_ok(encoding, symbol):
 
 
 def row_ok(row):
-    _, kind, reg, off = row
-    return kind <= 8 and reg < (65536 if kind in HAS_REGISTER else 1) and off < (2**32 if kind in HAS_OFFSET else 1)
+    _, kind, reg, operand = row
+    operands = 2**32 if kind in HAS_OFFSET else 65536 if kind == IN_REGISTER else 1
+    return kind <= IN_REGISTER and reg < (65536 if kind in HAS_REGISTER else 1) and operand < operands
+
+
+def register_rows(case):
+    """Whether rows of W-207 are in the list, which the Rust cannot be handed."""
+    return any(row[1] in (SAME_VALUE, IN_REGISTER) for row in records(case["rows"], 4))
 
 
 def function_ok(case, f):

@@ -21,7 +21,9 @@ BAD_ENCODINGS = [0x01, 0x02, 0x0A, 0x14, 0x1C, 0x20, 0x90, 0xFF]
 X86_64 = [0, 2, 1, 3, 6, 7, 5, 4, *range(8, 16), 255, *range(128, 144), *[255] * 31]
 DEF_CFA, DEF_CFA_OFFSET, DEF_CFA_REGISTER, OFFSET = 0, 1, 2, 3
 REMEMBER, RESTORE_STATE = 6, 7
+SAME_VALUE, IN_REGISTER = 9, 10
 PUSH, ALLOC, FRAME, SAVE = 0, 1, 2, 3
+KINDS = [0, 1, 1, 2, 3, 3, 3, 4, 5, 6, 7, 8]
 
 
 class Maker:
@@ -32,6 +34,7 @@ class Maker:
         # One case in four may hold numbers that a question refuses.
         self.bad = rng.random() < 0.25
         self.lists = {key: [] for key in ("functions", "rows", "landings", "pairs", "codes")}
+        self.kinds = KINDS
 
     def now(self, chance):
         return self.rng.random() < chance
@@ -72,9 +75,9 @@ class Maker:
         return slots * self.word
 
     def row(self, at):
-        kind = self.rng.choice([0, 1, 1, 2, 3, 3, 3, 4, 5, 6, 7, 8])
-        reg = self.rng.choice(REGISTERS) if kind in (0, 2, 3, 4, 5) else 0
-        operand = 0
+        kind = self.rng.choice(self.kinds)
+        reg = self.rng.choice(REGISTERS) if kind in (0, 2, 3, 4, 5, SAME_VALUE, IN_REGISTER) else 0
+        operand = self.rng.choice(REGISTERS) if kind == IN_REGISTER else 0
         if kind == OFFSET:
             operand = self.offset()
         elif kind in (DEF_CFA, DEF_CFA_OFFSET):
@@ -201,6 +204,15 @@ def x64_case(seed, number):
     """A case whose result is x64 unwind data: rows in COFF, or direct codes."""
     rng = random.Random(f"x64 {seed} {number}")
     return Maker(rng, rng.choice(["relaxed_table", "seh"]), 1).text(f"x64_{seed}_{number}")
+
+
+def registers_case(seed, number):
+    """A case with rows of W-207, most of them as ELF."""
+    rng = random.Random(f"registers {seed} {number}")
+    entry = rng.choice(["relaxed_table", "relaxed_debug_frame"])
+    made = Maker(rng, entry, 1 if entry == "relaxed_table" and rng.random() < 0.1 else 0)
+    made.kinds = [*KINDS, *[SAME_VALUE, IN_REGISTER] * 4]
+    return made.text(f"registers_{seed}_{number}")
 
 
 def many(name, functions, rows):

@@ -1,14 +1,14 @@
-"""A reader of eh_frame and debug_frame sections, written from document 01 alone: the judge of the library's reader.
+"""A reader of eh_frame and debug_frame sections, written from document 01 and DWARF 5 alone: the judge of the library's reader.
 
 `read(section, relocations, kind, word, k, register, p)` is the list of seven numbers that unwind_read answers: the question's number
-(0: answered), frame (0 none, 1 register plus offset), its register and offset, the rule (0 unstated, 1 undefined, 2 saved) and its
-offset, and the signing state. Offsets are 64-bit two's complement."""
+(0: answered), frame (0 none, 1 register plus offset), its register and offset, the rule (0 unstated, 1 undefined, 2 saved,
+3 same value, 4 in a register) and its offset or register, and the signing state. Offsets are 64-bit two's complement."""
 
 EH, DEBUG = 0, 1
 POINTER = {0x00: None, 0x03: 4, 0x0B: 4, 0x13: 4, 0x1B: 4, 0x04: 8, 0x0C: 8}
 STRINGS = {EH: ["zR", "zRS", "zPR", "zPRS", "zPLR", "zPLRS"], DEBUG: ["", "S"]}
 MOST_STORED = 16
-UNSTATED, UNDEFINED, SAVED = 0, 1, 2
+UNSTATED, UNDEFINED, SAVED, SAME_VALUE, IN_REGISTER = range(5)
 
 
 class Refused(Exception):
@@ -170,6 +170,10 @@ class Walk:
             self.restore(b.register(), header)
         elif code == 0x07:
             self.set_rule(b.register(), (UNDEFINED, 0))
+        elif code == 0x08:
+            self.set_rule(b.register(), (SAME_VALUE, 0))
+        elif code == 0x09:
+            self.set_rule(b.register(), (IN_REGISTER, b.register()))
         elif code == 0x0A:
             if len(self.stored) == MOST_STORED:
                 raise Refused(68)

@@ -1,9 +1,10 @@
 #!/usr/bin/env python3
-"""The library's reader against the one of reader.py, which was written from document 01 alone.
+"""The library's reader against the one of reader.py, which was written from document 01 and DWARF 5 alone.
 
     reads.py COUNT SEED     sections of the stored cases and of COUNT random lists, damaged copies of small ones, and the sections of gas
 
-Sections are those that the Rust writes (the library's are equal, exports.py). Damage: every byte of a small section changed in each bit
+Sections are those that the Rust writes (the library's are equal, exports.py); of lists with rows of W-207, which it cannot be handed,
+they are the library's, and what is read must be what the rows say (`meant`). Damage: every byte of a small section changed in each bit
 and turned whole, every truncation, lengths changed, LEB numbers lengthened, relocations moved. At the end stands how often each number
 was answered; 0 is an answer."""
 
@@ -18,8 +19,8 @@ sys.path = [folder for folder in sys.path if os.path.abspath(folder) != HERE] + 
 
 from definitions import by_case, parse  # noqa: E402
 from exports import OUT, batches, for_the_rust, run  # noqa: E402
-from oracle import mach_o  # noqa: E402
-from reader import DEBUG, EH, read  # noqa: E402
+from oracle import mach_o, reached, records, register_rows, signed  # noqa: E402
+from reader import DEBUG, EH, IN_REGISTER, SAME_VALUE, SAVED, UNDEFINED, UNSTATED, read  # noqa: E402
 
 SMALL = 80
 REGISTERS = (0, 3, 6, 7, 12, 16, 63, 64, 65535)
@@ -38,6 +39,73 @@ def sections(texts):
                 numbers = [int(n) for n in field["relocations"]]
                 kind = DEBUG if case["entry"] == "relaxed_debug_frame" else EH
                 yield kind, case["machine"][0], len(case["functions"]) // 18, bytes.fromhex("".join(field["bytes"])), numbers
+
+
+def with_registers(texts):
+    """The same of lists with rows of W-207, as the library writes them; then the case."""
+    for text in texts:
+        said = by_case(run(os.path.join(OUT, "ours"), text))
+        for case in parse(text.split("\n")):
+            answer = said[case["name"]]
+            if register_rows(case) and answer[0] == "accepted" and case["format"] != 1:
+                field = {line.split(" ")[0]: line.split(" ")[1:] for line in answer if line}
+                numbers = [int(n) for n in field["relocations"]]
+                kind = DEBUG if case["entry"] == "relaxed_debug_frame" else EH
+                yield kind, case["machine"][0], len(case["functions"]) // 18, bytes.fromhex("".join(field["bytes"])), numbers, case
+
+
+# What a row says of its register, by its kind.
+SAYS = {
+    3: lambda operand: (SAVED, signed(operand)), 5: lambda operand: (UNDEFINED, 0),
+    9: lambda operand: (SAME_VALUE, 0), 10: lambda operand: (IN_REGISTER, operand),
+}
+
+
+def meant(machine, f, rows, register, p):
+    """The frame address rule and the register's rule at p, by the rows alone; None where they fail the row check."""
+    word, pushed, stack, back = machine[:4]
+    frame, rule, stored, initial, leading = None, (UNSTATED, 0), [], None, True
+    implied = [] if f[6] else [(0, 0, stack, pushed), *([(0, 3, back, 2**32 - pushed)] if pushed else [])]
+    for at, kind, reg, operand in [*implied, *rows]:
+        if leading and (at or kind == 6):
+            leading, initial = False, rule
+        if at > p:
+            break
+        if kind in (1, 2) and frame is None or kind == 4 and leading or kind == 7 and not stored or kind == 6 and len(stored) == 16:
+            return None
+        if kind == 0:
+            frame = (reg, signed(operand))
+        elif kind == 1:
+            frame = (frame[0], signed(operand))
+        elif kind == 2:
+            frame = (reg, frame[1])
+        elif kind == 6:
+            stored.append((frame, rule))
+        elif kind == 7:
+            frame, rule = stored.pop()
+        elif kind != 8 and reg == register:
+            rule = initial if kind == 4 else SAYS[kind](operand)
+    return frame, rule
+
+
+def compare_rows(kind, word, section, numbers, case, counts):
+    """What is read of each function without relaxing labels, around each row and for each register that a row has."""
+    wanted = []
+    for k, f in enumerate(records(case["functions"], 18)):
+        rows = reached(case, "rows", f[2], f[3])
+        for register in {0, *(row[2] for row in rows)} if not f[14] else ():
+            places = {0, f[1] - 1, *(row[0] + by for row in rows for by in (-1, 0, 1))}
+            for p in (p for p in sorted(places) if 0 <= p < f[1]):
+                wanted.append(((kind, word, k, register, p), meant(case["machine"], f, rows, register, p)))
+    printed = run(os.path.join(OUT, "reads"), text_of([(section, numbers, [ask for ask, _ in wanted])]))
+    for (ask, want), line in zip(wanted, printed):
+        got = list(map(int, line.split()))
+        if want is not None:
+            frame, rule = want
+            want = [0, *([1, frame[0], frame[1] % 2**64] if frame else [0, 0, 0]), rule[0], rule[1] % 2**64]
+        if want is None and got[0] not in (67, 68, 69) or want is not None and want != got[:6]:
+            sys.exit(f"reads: {case['name']}, section {section.hex()} ask {ask}: the rows say {want}, ours is {got}")
+        counts["by rows"] += 1
 
 
 def deep():
@@ -120,9 +188,12 @@ def compare(asked, counts):
 
 
 def main():
-    counts, rng = collections.Counter(), random.Random(f"reads {sys.argv[2]}")
+    counts, by_rows, rng = collections.Counter(), collections.Counter(), random.Random(f"reads {sys.argv[2]}")
     total = small = 0
     found = [*of_gas(), *sections(deep()), *sections(batches("stored")), *sections(batches("wild", *sys.argv[1:3]))]
+    for *one, case in [*with_registers(batches("stored")), *with_registers(batches("registers", *sys.argv[1:3]))]:
+        found.append(one)
+        compare_rows(one[0], one[1], one[3], one[4], case, by_rows)
     for kind, word, functions, section, numbers in found:
         asked = [(section, numbers, list(questions(kind, word, functions, rng, False)))]
         if len(section) <= SMALL and small < 60 and rng.random() < 0.5:
@@ -130,6 +201,7 @@ def main():
             asked += [(*other, list(questions(kind, word, functions, rng, True))) for other in damaged(section, numbers, rng)]
         compare(asked, counts)
         total += len(asked)
+    print(f"reads: {by_rows['by rows']} readings of lists with rows of W-207 are what their rows say")
     print(f"reads: {total} sections, {small} of them damaged in every way; " + ", ".join(f"{n}: {counts[n]}" for n in sorted(counts)))
 
 

@@ -1,7 +1,8 @@
 #!/usr/bin/env python3
-"""Random cases by a seed, a third of them with numbers changed so that they may be no lists: `wild.py COUNT SEED [FIRST [x64]]`.
+"""Random cases by a seed, a third of them with numbers changed so that they may be no lists: `wild.py COUNT SEED [FIRST [KIND]]`.
 
-With the word x64 only those of COFF and of direct codes, a fifth of them with a number a little off."""
+With the word x64 only those of COFF and of direct codes, a fifth of them with a number a little off; with the word registers those with
+rows that keep a register's value or hold it in another."""
 
 import importlib.util
 import os
@@ -78,16 +79,18 @@ def changed(rng, lines, only_x64):
     return lines
 
 
-def wild(seed, number, only_x64=False):
-    make = maker.x64_case if only_x64 else maker.random_case
+MAKERS = {"": maker.random_case, "x64": maker.x64_case, "registers": maker.registers_case}
+
+
+def wild(seed, number, kind=""):
     rng = maker.random.Random(f"wild {seed} {number}")
-    return "\n".join(changed(rng, make(seed, number).split("\n"), only_x64))
+    return "\n".join(changed(rng, MAKERS[kind](seed, number).split("\n"), kind == "x64"))
 
 
 def main():
     count, seed, first = int(sys.argv[1]), sys.argv[2], int(sys.argv[3]) if len(sys.argv) > 3 else 0
     for number in range(first, first + count):
-        print(wild(seed, number, sys.argv[4:] == ["x64"]))
+        print(wild(seed, number, *sys.argv[4:]))
 
 
 if __name__ == "__main__":

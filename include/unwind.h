@@ -26,8 +26,9 @@ extern "C" {
  *   functions    18: symbol, length, rows_at, rows, landings_at, landings, simple, signal, personality, its encoding,
  *                    its symbol, lsda, its encoding, its symbol, relaxed, end symbol, pairs_at, pairs. Marks are 0 or 1; of
  *                    an absent option (personality, lsda, relaxed) the numbers behind its mark are not looked at
- *   rows          4: offset, kind, register, offset operand (32-bit two's complement). Kinds: 0 DefCfa, 1 DefCfaOffset,
- *                    2 DefCfaRegister, 3 Offset, 4 Restore, 5 Undefined, 6 RememberState, 7 RestoreState, 8 NegateRaState
+ *   rows          4: offset, kind, register, operand: an offset (32-bit two's complement), or the other register of InRegister
+ *                    (0 to 65,535). Kinds: 0 DefCfa, 1 DefCfaOffset, 2 DefCfaRegister, 3 Offset, 4 Restore, 5 Undefined,
+ *                    6 RememberState, 7 RestoreState, 8 NegateRaState, 9 SameValue, 10 InRegister
  *   landings      3: start, length, pad
  *   pairs         4: first place, second place, first symbol, second symbol
  *   functions of direct codes   5: symbol, length, prologue end, codes_at, codes
@@ -95,7 +96,8 @@ unwind_written unwind_seh(
 uint64_t unwind_row_check(const uint64_t *functions, size_t functions_n, const uint64_t *rows, size_t rows_n, uint64_t k);
 
 /* What the reader answers: `number` is 0, or the question's. frame: 0 none, 1 register plus offset. rule: 0 unstated,
- * 1 undefined, 2 saved at the frame address plus rule_value. Offsets are 64-bit two's complement. A field without meaning is 0. */
+ * 1 undefined, 2 saved at the frame address plus rule_value, 3 same value, 4 in the register rule_value. Offsets are 64-bit two's
+ * complement. A field without meaning is 0. */
 typedef struct {
     uint64_t number, frame, frame_register, frame_offset, rule, rule_value, signing;
 } unwind_reading;

@@ -64,7 +64,8 @@ static void print_frame(const unwind_reading *r) {
 
 static void print_rule(const char *name, const unwind_reading *r) {
     if (r->rule == 2) printf("  %s: at the frame address plus %" PRId64 "\n", name, (int64_t)r->rule_value);
-    else printf("  %s: %s\n", name, r->rule == 1 ? "gone" : "as it is");
+    else if (r->rule == 4) printf("  %s: in register %" PRIu64 "\n", name, r->rule_value);
+    else printf("  %s: %s\n", name, r->rule == 1 ? "gone" : r->rule == 3 ? "kept" : "as it is");
 }
 
 /* The rules at offset p of function k, or the number of the question that was answered by no. */

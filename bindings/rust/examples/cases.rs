@@ -59,6 +59,8 @@ fn row([offset, kind, register, operand]: [u64; 4]) -> Option<Row> {
         (6, 0, 0) => Op::RememberState,
         (7, 0, 0) => Op::RestoreState,
         (8, 0, 0) => Op::NegateRaState,
+        (9, _, 0) => Op::SameValue(reg),
+        (10, _, _) => Op::InRegister(reg, u16::try_from(operand).ok()?),
         _ => return None,
     };
     Some(Row::new(offset, op))
@@ -277,6 +279,8 @@ fn reading(said: Result<Rules, Refusal>) -> [u64; 7] {
         Rule::Unstated => [0, 0],
         Rule::Undefined => [1, 0],
         Rule::Saved(offset) => [2, offset as u64],
+        Rule::SameValue => [3, 0],
+        Rule::InRegister(register) => [4, u64::from(register)],
     };
     [0, frame, register, offset, rule, saved, u64::from(rules.signing)]
 }

@@ -53,6 +53,8 @@ fn trap() -> Result<(), Refusal> {
                 Rule::Unstated => println!("  {name}: as it is"),
                 Rule::Undefined => println!("  {name}: gone"),
                 Rule::Saved(offset) => println!("  {name}: at the frame address plus {offset}"),
+                Rule::SameValue => println!("  {name}: kept"),
+                Rule::InRegister(register) => println!("  {name}: in register {register}"),
             }
         }
     }

@@ -204,7 +204,9 @@ pub(crate) fn rules(r: &sys::Reading) -> Result<Rules, Refusal> {
     let rule = match r.rule {
         0 => Rule::Unstated,
         1 => Rule::Undefined,
-        _ => Rule::Saved(r.rule_value as i64),
+        2 => Rule::Saved(r.rule_value as i64),
+        3 => Rule::SameValue,
+        _ => Rule::InRegister(r.rule_value as u16),
     };
     Ok(Rules { frame, rule, signing: r.signing != 0 })
 }

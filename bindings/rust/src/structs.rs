@@ -22,18 +22,18 @@
 use crate::lists::{counts, Counts, Lent};
 use crate::{sys, Refusal};
 
-/// A row: its kind is 0 to 8 in the header's order, and an operand that the kind does not have is 0. Another kind is question 13.
+/// A row: its kind is 0 to 10 in the header's order, and an operand that the kind does not have is 0. Another kind is question 13.
 #[repr(C)]
 #[derive(Clone, Copy, Debug, Default, PartialEq, Eq, Hash)]
 pub struct RowAt {
     /// From which offset of the function on.
     pub offset: u64,
     /// 0 DefCfa, 1 DefCfaOffset, 2 DefCfaRegister, 3 Offset, 4 Restore, 5 Undefined, 6 RememberState, 7 RestoreState,
-    /// 8 NegateRaState.
+    /// 8 NegateRaState, 9 SameValue, 10 InRegister.
     pub kind: u8,
     /// The register's DWARF number.
     pub register: u16,
-    /// The offset operand.
+    /// The offset operand; of InRegister the other register, 0 to 65,535.
     pub value: i32,
 }
 

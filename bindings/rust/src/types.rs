@@ -175,6 +175,10 @@ pub enum Op {
     RestoreState,
     /// The return address is signed, or no longer signed.
     NegateRaState,
+    /// The register has the caller's value.
+    SameValue(u16),
+    /// The second register holds the caller's value of the first.
+    InRegister(u16, u16),
 }
 
 /// A row: an offset in its function, and what holds from there on.
@@ -206,6 +210,8 @@ impl Row {
             Op::RememberState => (6, 0, 0),
             Op::RestoreState => (7, 0, 0),
             Op::NegateRaState => (8, 0, 0),
+            Op::SameValue(register) => (9, register, 0),
+            Op::InRegister(register, other) => (10, register, i32::from(other)),
         };
         [self.offset, kind, u64::from(register), u64::from(operand as u32)]
     }
@@ -546,6 +552,10 @@ pub enum Rule {
     Undefined,
     /// At the frame address plus this offset.
     Saved(i64),
+    /// In the register itself.
+    SameValue,
+    /// In this other register.
+    InRegister(u16),
 }
 
 /// What the reader answers: the rules at an offset of a function, for one register.

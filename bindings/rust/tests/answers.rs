@@ -210,6 +210,8 @@ fn reading_what_was_written() {
         Row::new(5, Op::Restore(16)),
         Row::new(6, Op::RestoreState),
         Row::new(6, Op::Offset(16, -32)),
+        Row::new(7, Op::SameValue(12)),
+        Row::new(8, Op::InRegister(3, 200)),
     ];
     let function = Function { simple: true, signal: true, ..Function::new(16, 9, &rows) };
     assert!(row_check(&function));
@@ -222,6 +224,8 @@ fn reading_what_was_written() {
         assert_eq!(ask(1, 16, 1), Ok(Rules { frame: Frame::Unset, rule: Rule::Unstated, signing: true }));
         assert_eq!(ask(1, 3, 3), Ok(Rules { frame, rule: Rule::Undefined, signing: true }));
         assert_eq!(ask(1, 16, 8), Ok(Rules { frame, rule: Rule::Saved(-32), signing: true }));
+        assert_eq!(ask(1, 12, 7), Ok(Rules { frame, rule: Rule::SameValue, signing: true }));
+        assert_eq!(ask(1, 3, 8), Ok(Rules { frame, rule: Rule::InRegister(200), signing: true }));
         assert_eq!(ask(1, 16, 9), Err(Refusal { number: 65, position: 0 }));
         assert_eq!(ask(2, 16, 0), Err(Refusal { number: 62, position: 0 }));
         let cut = &table.bytes[..table.bytes.len() - 1];

@@ -95,6 +95,8 @@ fn ruled(row: Row) -> u64 {
         Row::Offset(reg, _) => reg as u64,
         Row::Restore(reg) => reg as u64,
         Row::Undefined(reg) => reg as u64,
+        Row::SameValue(reg) => reg as u64,
+        Row::InRegister(reg, _) => reg as u64,
         Row::DefCfa(_, _) => 65536,
         Row::DefCfaOffset(_) => 65536,
         Row::DefCfaRegister(_) => 65536,

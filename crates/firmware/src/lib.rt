@@ -93,7 +93,7 @@ fn tells(kind: u64, reg: u64, what: u64) -> bool {
     if kind < 3 {
         return what == FRAME;
     }
-    kind < 6 && reg == what
+    (kind < 6 || 8 < kind) && reg == what
 }
 
 // The number of a row that tells it, or the one before.
@@ -152,6 +152,8 @@ fn row_tells(row: Row, what: u64) -> bool {
         Row::RememberState => false,
         Row::RestoreState => what <= FRAME,
         Row::NegateRaState => what == SIGNING,
+        Row::SameValue(reg) => reg as u64 == what,
+        Row::InRegister(reg, _) => reg as u64 == what,
     }
 }
 
@@ -225,6 +227,11 @@ fn rule(out: &mut [u8], at: usize, reg: u64, r: Rule) -> usize {
         Rule::Saved(z) => {
             let c = text(out, b, b" is saved at frame address");
             shown::offset(out, c, z)
+        }
+        Rule::SameValue => text(out, b, b" keeps its value"),
+        Rule::InRegister(other) => {
+            let c = text(out, b, b" is in ");
+            shown::register(out, c, other as u64, false)
         }
     }
 }

@@ -16,8 +16,8 @@ use Rattle.format.specs.Prelude.{pick, all, each}
 use Rattle.format.specs.declared.Machine.{Machine}
 use Rattle.format.specs.declared.Row.{Row}
 use Rattle.format.specs.Machine.{machineOf, machineOk, machineStride, isWord, noFramePointer}
-use Rattle.format.specs.Rows.{RowAt, rowWhole, regOf, offsetOf}
-use Rattle.format.specs.Lists.{Function, functionStride, rowStride, landingStride, pairStride, field, count, rowOf, rowAt, functionAt, functionsOf, mostFunctions, mostRecords, inside, symbolOk, markOk, whenMarked, hasRegister, hasOffset, rowOk, rowOkAt, pairOkAt, pointerOk, allIn, functionOkAt, sumOf, pairsIn, listsOk}
+use Rattle.format.specs.Rows.{RowAt, rowWhole, kindOf, regOf, offsetOf}
+use Rattle.format.specs.Lists.{Function, functionStride, rowStride, landingStride, pairStride, field, count, rowOf, rowAt, functionAt, functionsOf, mostFunctions, mostRecords, inside, symbolOk, markOk, whenMarked, rowOk, rowOkAt, pairOkAt, pointerOk, allIn, functionOkAt, sumOf, pairsIn, listsOk}
 use Rattle.format.specs.declared.Section.{Section}
 use Rattle.format.specs.declared.Section.the-variants.{Elf, Debug}
 use Rattle.format.specs.Writer.{Written, withoutExceptions, taken, dwarf}
@@ -25,10 +25,11 @@ use Rattle.format.specs.Headers.{leading}
 use Rattle.format.proofs.RowsRun.{runRows}
 use Rattle.format.specs.RowCheck.{rowCheck, rowCheckAt}
 use Rattle.format.specs.Questions.{Question, ask, andThen, perFunction, sizeBytes, stepsOk, dwarfAsks, Room, Answer, empty, accepted, unless, fitting, dwarfAnswer, Given, givenFunctions, givenFunction, noFunctions, givenAsks, dwarfGiven, formatAnswer, relaxedTable, relaxedDebugFrame}
-use Rattle.format.proofs.RowBack.{Off32}
+use Rattle.format.proofs.RowBack.{Off32, otherOf}
 use Rattle.format.proofs.WalkBack.{RowsAtOk}
 use Rattle.format.proofs.Fits.{MachineFits, FunctionFits, AllFit, rowCount, Bounded}
-use Rattle.format.proofs.ListLaws.{each-length, each-get, get-map, chained, in-range}
+use Rattle.format.proofs.Choice.{pick-yes, pick-no, tested}
+use Rattle.format.proofs.ListLaws.{each-length, each-get, get-map, chained, in-range, row-numbers}
 
 -- a list is accepted for DWARF output when its writer neither refuses nor gives an empty result
 unfoldable pub dwarfWritten : Section → Given → Room → Answer
@@ -102,6 +103,7 @@ machine-fits ms t =
 record Operands (r : Row) : Type 0 where
   reg : regOf r < 65536
   off : Off32 (offsetOf r)
+  other : otherOf r < 65536
 
 chosen : (b : Bool) {x y : Row} → Operands x → Operands y → Operands (pick b x y)
 unfolding pick
@@ -115,32 +117,26 @@ mag-off (negsuc n) h = h
 off-fits : (n : ℕ) → n < 2 ^ 32 → Off32 (toZ w32 n)
 off-fits n h = mag-off (toZ w32 n) (sfits-toZ {w = w32} {n = n} (record { fits = h }) .sfits)
 
-operands : (kind reg off : ℕ) → reg < 65536 → off < 2 ^ 32 → Operands (rowOf kind reg off)
-unfolding rowOf regOf offsetOf
-operands kind r o h k =
-    let z : Off32 (toZ w32 o) = off-fits o k in
+row-operands : (kind reg off : ℕ) → T (rowOk kind reg off) → Operands (rowOf kind reg off)
+unfolding rowOf pick kindOf regOf offsetOf otherOf
+row-operands kind r o t =
+    let fit = row-numbers kind r o t in
+    let h : r < 65536 = fit .reg-low in
+    let z : Off32 (toZ w32 o) = off-fits o (fit .off-low) in
     let n : 0 < 65536 = omega arith in
     let p : 0 < 2 ^ 31 = omega arith in
-    chosen (eqb kind 0) (record { reg = h; off = z })
-    (chosen (eqb kind 1) (record { reg = n; off = z })
-    (chosen (eqb kind 2) (record { reg = h; off = p })
-    (chosen (eqb kind 3) (record { reg = h; off = z })
-    (chosen (eqb kind 4) (record { reg = h; off = p })
-    (chosen (eqb kind 5) (record { reg = h; off = p })
-    (chosen (eqb kind 6) (record { reg = n; off = p })
-    (chosen (eqb kind 7) (record { reg = n; off = p }) (record { reg = n; off = p }))))))))
-
--- the bound of an operand that a kind has, or of one that it does not have
-below : (b : Bool) (x n : ℕ) → 0 < n → T (ltb x (pick b n 1)) → x < n
-unfolding pick
-below true x n h t = ltb→lt x n t
-below false x n h t = omega (arith, ltb→lt x 1 t)
-
-row-operands : (kind reg off : ℕ) → T (rowOk kind reg off) → Operands (rowOf kind reg off)
-unfolding rowOk
-row-operands kind reg off t =
-    let says = chained (leb kind 8) (ltb reg (pick (hasRegister kind) 65536 1) ∷ ltb off (pick (hasOffset kind) (2 ^ 32) 1) ∷ []) in
-    operands kind reg off (below (hasRegister kind) reg 65536 (omega arith) (says 1 t)) (below (hasOffset kind) off (2 ^ 32) (omega arith) (says 2 t))
+    chosen (eqb kind 0) (record { reg = h; off = z; other = n })
+    (chosen (eqb kind 1) (record { reg = n; off = z; other = n })
+    (chosen (eqb kind 2) (record { reg = h; off = p; other = n })
+    (chosen (eqb kind 3) (record { reg = h; off = z; other = n })
+    (chosen (eqb kind 4) (record { reg = h; off = p; other = n })
+    (chosen (eqb kind 5) (record { reg = h; off = p; other = n })
+    (chosen (eqb kind 6) (record { reg = n; off = p; other = n })
+    (chosen (eqb kind 7) (record { reg = n; off = p; other = n })
+    (chosen (eqb kind 9) (record { reg = h; off = p; other = n })
+    (tested (eqb kind 10)
+    (λ u. let l : o < 65536 = fit .other-low (eqb→eq kind 10 u) in rw (pick-yes (eqb kind 10)) (record { reg = h; off = omega arith; other = l }))
+    (λ u. rw (pick-no (eqb kind 10)) (record { reg = n; off = p; other = n })))))))))))
 
 -- ---- one function
 
@@ -157,7 +153,7 @@ rows-at-ok rows word at (suc n) from t u v =
     let fits = row-operands (field rowStride rows at 1) (field rowStride rows at 2) (field rowStride rows at 3) (ok .0) in (
       leb→le from (x .0) (steps 0 u),
       ltb→lt (x .0 - from) (2 ^ 32) (steps 1 u),
-      record { reg = fits .reg; off = fits .off; whole = whole .0 },
+      record { reg = fits .reg; off = fits .off; other = fits .other; whole = whole .0 },
       rows-at-ok rows word (suc at) n (x .0) (ok .1) (steps 2 u) (whole .1),
     )
 

@@ -9,7 +9,7 @@ use mir.Facts.{and-yes, yes-and}
 use Rattle.format.specs.Prelude.{pick, good, bad, all}
 use Rattle.format.specs.declared.Machine.{Machine}
 use Rattle.format.specs.declared.Row.{Row}
-use Rattle.format.specs.declared.Row.the-variants.{DefCfa, DefCfaOffset, DefCfaRegister, Offset, Restore, Undefined, RememberState, RestoreState, NegateRaState}
+use Rattle.format.specs.declared.Row.the-variants.{DefCfa, DefCfaOffset, DefCfaRegister, Offset, Restore, Undefined, RememberState, RestoreState, NegateRaState, SameValue, InRegister}
 use Rattle.format.specs.Rows.{RowAt, kindOf}
 use Rattle.format.specs.Lists.{Function}
 use Rattle.format.specs.Headers.{implied, leads, ahead, others, leading}
@@ -118,6 +118,8 @@ asked framed (Undefined reg ∷ rs) others m a o = asked framed rs others m a o
 asked framed (RememberState ∷ rs) others m a o = absurd m
 asked framed (RestoreState ∷ rs) others m a o = o
 asked framed (NegateRaState ∷ rs) others m a o = asked framed rs others m a o
+asked framed (SameValue reg ∷ rs) others m a o = asked framed rs others m a o
+asked framed (InRegister reg other ∷ rs) others m a o = asked framed rs others m a o
 
 -- what may lead is allowed, and behind a header everything is
 may : (rs : List Row) → T (all mayLead rs) → T (all (allowed true) rs)

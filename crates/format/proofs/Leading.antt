@@ -17,7 +17,7 @@ use Rattle.format.specs.Rows.{RowAt, kindOf, regOf, offsetOf, whole, who
 use Rattle.format.specs.Lists.{Function}
 use Rattle.format.specs.Headers.{implied, leads, ahead, others, leading}
 use Rattle.format.proofs.Choice.{pick-yes, pick-no, tested}
-use Rattle.format.proofs.RowBack.{RowFits}
+use Rattle.format.proofs.RowBack.{RowFits, otherOf}
 use Rattle.format.proofs.WalkBack.{RowsAtOk, RowsOk}
 use Rattle.format.proofs.Fits.{MachineFits}
 
@@ -56,13 +56,13 @@ others-count xs = omega (arith, ahead-count xs)
 -- ---- those that a call implies
 
 below-fits : (w reg n : ℕ) → 0 < n → reg < 65536 → n < 2 ^ 31 → n % w ≡ 0 → RowFits w (Offset reg (negℤ (pos n)))
-unfolding regOf offsetOf rowWhole whole
+unfolding pick kindOf regOf offsetOf otherOf rowWhole whole
 below-fits w reg zero h r l e = absurd (omega arith)
-below-fits w reg (suc n) h r l e = record { reg = r; off = omega arith; whole = yes-eqb e }
+below-fits w reg (suc n) h r l e = record { reg = r; off = omega arith; other = omega arith; whole = yes-eqb e }
 
 frame-fits : (w reg n : ℕ) → reg < 65536 → n < 2 ^ 31 → RowFits w (DefCfa reg (pos n))
-unfolding regOf offsetOf rowWhole wholeBelow
-frame-fits w reg n r l = record { reg = r; off = l; whole = tt }
+unfolding pick kindOf regOf offsetOf otherOf rowWhole wholeBelow
+frame-fits w reg n r l = record { reg = r; off = l; other = omega arith; whole = tt }
 
 returned : Machine → List Row
 returned m = Offset (m .ret) (negℤ (pos (m .pushed))) ∷ []

@@ -1,15 +1,15 @@
 -- Records in lists of numbers: how many there are, which one stands where, and what a test of all of them says of one.
 use mathlib.Core.Path.{_≡_, refl, ap, subst, _∙_}
-use Prim.Native.Nat.{ℕ, zero, suc, _+_, _*_, _/_, _<_}
+use Prim.Native.Nat.{ℕ, zero, suc, _+_, _*_, _/_, _^_, _≤_, _<_}
 use native.Mathlib.Omega.{arith}
-use mathlib.Core.Bool.{Bool, true, _&&_}
+use mathlib.Core.Bool.{Bool, true, false, _&&_}
 use mathlib.Core.Option.{some}
 use mathlib.Core.List.{List, [], _∷_, map}
 use lib.ListN.{length, getD, getElem?}
-use lib.Dec.{T}
+use lib.Dec.{T, leb, ltb, eqb, leb→le, ltb→lt}
 use mir.Facts.{and-yes}
-use Rattle.format.specs.Prelude.{all, each}
-use Rattle.format.specs.Lists.{Relocation, field, relocationStride, relocationAt, relocationsOf, numbersOf, allIn}
+use Rattle.format.specs.Prelude.{pick, all, each}
+use Rattle.format.specs.Lists.{Relocation, field, relocationStride, relocationAt, relocationsOf, numbersOf, hasRegister, hasOffset, secondOperands, rowOk, allIn}
 
 -- ---- a function at each number of a range
 
@@ -90,3 +90,40 @@ in-range test at (suc n) zero t h =
 in-range test at (suc n) (suc k) t h =
     let e : suc at + k ≡ at + suc k = omega arith in
     subst (λ (i : ℕ). T (test i)) e (in-range test (suc at) n k (and-yes (test at) (allIn test (suc at) n) t .1) (omega arith))
+
+-- ---- question 13: the ranges of a row's numbers
+
+below : (b : Bool) (x n : ℕ) → 0 < n → T (ltb x (pick b n 1)) → x < n
+unfolding pick
+below true x n h t = ltb→lt x n t
+below false x n h t = omega (arith, ltb→lt x 1 t)
+
+second-low : (kind x : ℕ) → T (ltb x (secondOperands kind)) → x < 2 ^ 32
+unfolding secondOperands pick
+second-low kind x t = by (hasOffset kind) (eqb kind 10) t
+  where
+    by : (a b : Bool) → T (ltb x (pick a (2 ^ 32) (pick b 65536 1))) → x < 2 ^ 32
+    by true b t = ltb→lt x (2 ^ 32) t
+    by false b t = omega (arith, below b x 65536 (omega arith) t)
+
+second-register : (x : ℕ) → T (ltb x (secondOperands 10)) → x < 65536
+unfolding secondOperands hasOffset pick
+second-register x t = ltb→lt x 65536 t
+
+pub record RowNumbers (kind reg off : ℕ) : Type 0 where
+  pub kind-low : kind ≤ 10
+  pub reg-low : reg < 65536
+  pub off-low : off < 2 ^ 32
+  -- the second register of InRegister
+  pub other-low : kind ≡ 10 → off < 65536
+
+pub row-numbers : (kind reg off : ℕ) → T (rowOk kind reg off) → RowNumbers kind reg off
+unfolding rowOk
+row-numbers kind reg off t =
+    let says = chained (leb kind 10) (ltb reg (pick (hasRegister kind) 65536 1) ∷ ltb off (secondOperands kind) ∷ []) in
+    record {
+      kind-low = leb→le kind 10 (says 0 t);
+      reg-low = below (hasRegister kind) reg 65536 (omega arith) (says 1 t);
+      off-low = second-low kind off (says 2 t);
+      other-low = λ e. second-register off (subst (λ (k : ℕ). T (ltb off (secondOperands k))) e (says 2 t));
+    }

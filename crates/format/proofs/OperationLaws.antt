@@ -10,7 +10,7 @@ use lib.IntN.{ℤ, pos}
 use Rattle.format.specs.Prelude.{Read}
 use Rattle.format.specs.Leb.{fits64}
 use Rattle.format.specs.declared.Row.{Row}
-use Rattle.format.specs.declared.Row.the-variants.{DefCfa, DefCfaOffset, DefCfaRegister, Offset, Restore, Undefined, RememberState, RestoreState, NegateRaState}
+use Rattle.format.specs.declared.Row.the-variants.{DefCfa, DefCfaOffset, DefCfaRegister, Offset, Restore, Undefined, RememberState, RestoreState, NegateRaState, SameValue, InRegister}
 use Rattle.format.specs.declared.Operation.{Operation}
 use Rattle.format.specs.declared.Operation.the-variants.{Nop, Step, Does}
 use Rattle.format.specs.declared.Decoded.the-variants as decoded
@@ -44,9 +44,9 @@ takes-signed : (w : ℕ) (bs : List ℕ) → Takes 1 10 bs (readSigned w bs)
 unfolding readSigned
 takes-signed w bs = takes-next (takes-sleb bs) (λ v r. takes-range (unfactor w v) r)
 
-takes-two : (read : List ℕ → Read ℤ) → ((r : List ℕ) → Takes 1 10 r (read r)) → (f : ℕ → ℤ → Row) (bs : List ℕ) → Takes 2 20 bs (two read f bs)
+takes-two : {A : Type 0} (read : List ℕ → Read A) → ((r : List ℕ) → Takes 1 10 r (read r)) → (f : ℕ → A → Row) (bs : List ℕ) → Takes 2 20 bs (two read f bs)
 unfolding two
-takes-two read t f bs = takes-next (takes-register bs) (λ reg r. takes-one (λ z. Does (f reg z)) (t r))
+takes-two read t f bs = takes-next (takes-register bs) (λ reg r. takes-one (λ v. Does (f reg v)) (t r))
 
 -- ---- operations: at least one byte, at most 21
 
@@ -63,6 +63,8 @@ takes-extended w b bs =
     (takes-pick (eqb b 0x05) (any (omega arith) (takes-two (readFactored w) (takes-factored w) Offset bs))
     (takes-pick (eqb b 0x06) (any (omega arith) (takes-one (λ reg. Does (Restore reg)) (takes-register bs)))
     (takes-pick (eqb b 0x07) (any (omega arith) (takes-one (λ reg. Does (Undefined reg)) (takes-register bs)))
+    (takes-pick (eqb b 0x08) (any (omega arith) (takes-one (λ reg. Does (SameValue reg)) (takes-register bs)))
+    (takes-pick (eqb b 0x09) (any (omega arith) (takes-two readRegister takes-register InRegister bs))
     (takes-pick (eqb b 0x0a) (any (omega arith) (gives (Does RememberState) bs))
     (takes-pick (eqb b 0x0b) (any (omega arith) (gives (Does RestoreState) bs))
     (takes-pick (eqb b 0x0c) (any (omega arith) (takes-two readOffset takes-offset DefCfa bs))
@@ -71,7 +73,7 @@ takes-extended w b bs =
     (takes-pick (eqb b 0x11) (any (omega arith) (takes-two (readSigned w) (takes-signed w) Offset bs))
     (takes-pick (eqb b 0x12) (any (omega arith) (takes-two (readSigned w) (takes-signed w) DefCfa bs))
     (takes-pick (eqb b 0x13) (any (omega arith) (takes-one (λ z. Does (DefCfaOffset z)) (takes-signed w bs)))
-    (takes-pick (eqb b 0x2d) (any (omega arith) (gives (Does NegateRaState) bs)) nothing)))))))))))))))
+    (takes-pick (eqb b 0x2d) (any (omega arith) (gives (Does NegateRaState) bs)) nothing)))))))))))))))))
 
 pub takes-operation : (w : ℕ) (bs : List ℕ) → Takes 1 21 bs (readOperation w bs)
 unfolding readOperation

@@ -6,14 +6,15 @@ use native.Mathlib.Nat.{div-add-mod', zero-mul, div-le-self}
 use mathlib.Core.Logic.{_≢_}
 use mathlib.Core.Option.{some}
 use mathlib.Core.List.{List, [], _∷_, _++_, append-assoc}
-use lib.Dec.{T, ltb→lt, lt→ltb, eqb→eq}
-use lib.IntN.{ℤ, pos, negsuc, negℤ}
+use lib.Dec.{T, eqb, ltb→lt, lt→ltb, eqb→eq}
+use lib.IntN.{ℤ, pos, negsuc, negℤ, natAbs}
 use Rattle.format.specs.Prelude.{pick, next}
+use Rattle.format.specs.Constants.{inRegisterKind}
 use Rattle.format.specs.Leb.{uleb, sleb, fits64}
 use Rattle.format.specs.declared.Row.{Row}
-use Rattle.format.specs.declared.Row.the-variants.{DefCfa, DefCfaOffset, DefCfaRegister, Offset, Restore, Undefined, RememberState, RestoreState, NegateRaState}
+use Rattle.format.specs.declared.Row.the-variants.{DefCfa, DefCfaOffset, DefCfaRegister, Offset, Restore, Undefined, RememberState, RestoreState, NegateRaState, SameValue, InRegister}
 use Rattle.format.specs.declared.Operation.the-variants.{Step, Does}
-use Rattle.format.specs.Rows.{factor, cfaBytes, withRegister, savedBytes, rowBytes, stepIn, stepForm, stepBytes, unfactor, readRegister, inRange, readOffset, readFactored, readSigned, one, two, readExtended, readOperation, whole, wholeBelow, rowWhole, regOf, offsetOf}
+use Rattle.format.specs.Rows.{factor, cfaBytes, withRegister, savedBytes, rowBytes, stepIn, stepForm, stepBytes, unfactor, readRegister, inRange, readOffset, readFactored, readSigned, one, two, readExtended, readOperation, whole, wholeBelow, rowWhole, kindOf, regOf, offsetOf}
 use Rattle.format.proofs.Choice.{pick-yes, if-le, if-gt, if-ne, either}
 use Rattle.format.proofs.LebBack.{little-back, uleb-back, sleb-back}
 
@@ -23,10 +24,15 @@ abbrev pub Off32 : ℤ → Type 0
 Off32 (pos n) = n < 2 ^ 31
 Off32 (negsuc n) = n < 2 ^ 31
 
--- the register in 16 bits, the offset in 32, and a multiple of the word where it is factored
+-- the register that holds the value of an InRegister (or 0)
+unfoldable pub otherOf : Row → ℕ
+otherOf r = pick (eqb (kindOf r) inRegisterKind) (natAbs (offsetOf r)) 0
+
+-- the registers in 16 bits, the offset in 32, and a multiple of the word where it is factored
 pub record RowFits (w : ℕ) (r : Row) : Type 0 where
   pub reg : regOf r < 65536
   pub off : Off32 (offsetOf r)
+  pub other : otherOf r < 65536
   pub whole : T (rowWhole w r)
 
 -- ---- factoring
@@ -158,7 +164,7 @@ restore-back w reg rest hr =
     either reg 63 (λ l. rw (if-le reg 63, op-restore w reg rest l)) (λ g. rw (if-gt reg 63, append-assoc, reg-back reg _ hr))
 
 pub row-back : (w : ℕ) (r : Row) (rest : List ℕ) → RowFits w r → readOperation w (rowBytes w r ++ rest) ≡ some (Does r, rest)
-unfolding rowBytes readOperation readExtended one next pick regOf offsetOf rowWhole
+unfolding rowBytes readOperation readExtended one two next pick kindOf regOf offsetOf otherOf rowWhole
 row-back w (DefCfa reg z) rest h = cfa-back w reg z rest (h .reg) (h .off) (h .whole)
 row-back w (DefCfaOffset z) rest h = cfaOffset-back w z rest (h .off) (h .whole)
 row-back w (DefCfaRegister reg) rest h = rw (reg-back reg rest (h .reg))
@@ -170,6 +176,8 @@ row-back w (Undefined reg) rest h = rw (reg-back reg rest (h .reg))
 row-back w RememberState rest h = refl
 row-back w RestoreState rest h = refl
 row-back w NegateRaState rest h = refl
+row-back w (SameValue reg) rest h = rw (reg-back reg rest (h .reg))
+row-back w (InRegister reg other) rest h = rw (append-assoc, reg-back reg _ (h .reg), reg-back other rest (h .other))
 
 -- ---- steps
 

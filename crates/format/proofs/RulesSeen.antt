@@ -10,7 +10,7 @@ use lib.IntN.{ℤ}
 use Rattle.format.specs.Prelude.{pick, Result, good, bad, onward, all}
 use mir.Facts.{and-yes, yes-and}
 use Rattle.format.specs.declared.Row.{Row}
-use Rattle.format.specs.declared.Row.the-variants.{DefCfa, DefCfaOffset, DefCfaRegister, Offset, Restore, Undefined, RememberState, RestoreState, NegateRaState}
+use Rattle.format.specs.declared.Row.the-variants.{DefCfa, DefCfaOffset, DefCfaRegister, Offset, Restore, Undefined, RememberState, RestoreState, NegateRaState, SameValue, InRegister}
 use Rattle.format.specs.declared.CfaRule.{CfaRule}
 use Rattle.format.specs.declared.CfaRule.the-variants.{Unset, Register}
 use Rattle.format.specs.declared.Rule.{Rule}
@@ -101,6 +101,8 @@ module _ (header : Bool) (init : ℕ → Rule) (rs : List Row) (s : State) where
       by [] = off 67 tt refl λ a w. w
       by (k ∷ ks) = on refl tt refl
   step NegateRaState = on refl tt refl
+  step (SameValue reg) = on refl tt refl
+  step (InRegister reg other) = on refl tt refl
 
 -- ---- rows, with others behind them
 

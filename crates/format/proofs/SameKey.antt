@@ -5,7 +5,7 @@ use mathlib.Core.Bool.{Bool, true, false, _&&_, Bool·beq}
 use mathlib.Core.Option.{Option, none, some}
 use mathlib.Core.List.{List, [], _∷_}
 use lib.Dec.{T, eqb}
-use lib.IntN.{ℤ, pos, negsuc}
+use lib.IntN.{ℤ, pos, negsuc, natAbs}
 use native.Mathlib.Omega.{arith}
 use mir.Facts.{and-yes, eqb-yes}
 use Rattle.format.specs.Prelude.{pick}
@@ -13,13 +13,13 @@ use Rattle.format.specs.Writer.{Seen, placeIn}
 use Rattle.format.proofs.Choice.{pick-yes, pick-no, tested}
 use Rattle.format.proofs.Each.{Each}
 use Rattle.format.specs.declared.Row.{Row}
-use Rattle.format.specs.declared.Row.the-variants.{DefCfa, DefCfaOffset, DefCfaRegister, Offset, Restore, Undefined, RememberState, RestoreState, NegateRaState}
+use Rattle.format.specs.declared.Row.the-variants.{DefCfa, DefCfaOffset, DefCfaRegister, Offset, Restore, Undefined, RememberState, RestoreState, NegateRaState, SameValue, InRegister}
 use Rattle.format.specs.Rows.{sameOffset, kindOf, regOf, offsetOf, sameRow}
 use Rattle.format.specs.Headers.{Kind, plain, personal, named, Key, sameEncoding, sameKind, sameRows, sameKey}
 
 -- ---- rows
 
--- a row by its kind, register and offset
+-- a row by its kind, register and second operand
 unfoldable rowFrom : (kind reg : ℕ) → ℤ → Row
 rowFrom kind reg z =
     pick (eqb kind 0) (DefCfa reg z)
@@ -29,7 +29,9 @@ rowFrom kind reg z =
     (pick (eqb kind 4) (Restore reg)
     (pick (eqb kind 5) (Undefined reg)
     (pick (eqb kind 6) RememberState
-    (pick (eqb kind 7) RestoreState NegateRaState)))))))
+    (pick (eqb kind 7) RestoreState
+    (pick (eqb kind 8) NegateRaState
+    (pick (eqb kind 9) (SameValue reg) (InRegister reg (natAbs z)))))))))))
 
 row-again : (r : Row) → rowFrom (kindOf r) (regOf r) (offsetOf r) ≡ r
 unfolding rowFrom kindOf regOf offsetOf pick
@@ -42,6 +44,8 @@ row-again (Undefined reg) = refl
 row-again RememberState = refl
 row-again RestoreState = refl
 row-again NegateRaState = refl
+row-again (SameValue reg) = refl
+row-again (InRegister reg other) = refl
 
 same-offset : (a b : ℤ) → T (sameOffset a b) → a ≡ b
 unfolding sameOffset

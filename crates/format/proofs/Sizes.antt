@@ -13,11 +13,11 @@ use lib.Count.{leadingZeros, leading-top}
 use Rattle.format.specs.Prelude.{pick}
 use Rattle.format.specs.Leb.{ulebF, uleb}
 use Rattle.format.specs.declared.Row.{Row}
-use Rattle.format.specs.declared.Row.the-variants.{DefCfa, DefCfaOffset, DefCfaRegister, Offset, Restore, Undefined, RememberState, RestoreState, NegateRaState}
-use Rattle.format.specs.Rows.{RowAt, factor, cfaBytes, withRegister, savedBytes, rowBytes, stepIn, stepForm, stepBytes, steppedBytes, rowsBytes, regOf, offsetOf}
+use Rattle.format.specs.declared.Row.the-variants.{DefCfa, DefCfaOffset, DefCfaRegister, Offset, Restore, Undefined, RememberState, RestoreState, NegateRaState, SameValue, InRegister}
+use Rattle.format.specs.Rows.{RowAt, factor, cfaBytes, withRegister, savedBytes, rowBytes, stepIn, stepForm, stepBytes, steppedBytes, rowsBytes, kindOf, regOf, offsetOf}
 use Rattle.format.proofs.Choice.{if-le, if-gt, either}
 use Rattle.format.proofs.LebBack.{little-length, uleb-short, sleb-short-pos, sleb-short-neg}
-use Rattle.format.proofs.RowBack.{Off32, RowFits, Small, factor-small}
+use Rattle.format.proofs.RowBack.{Off32, RowFits, Small, otherOf, factor-small}
 use Rattle.format.proofs.WalkBack.{RowsAtOk, RowsOk}
 
 -- ---- rows and steps
@@ -49,7 +49,7 @@ saved-short reg (pos n) h k = omega (arith, with-short 0x80 0x05 reg (uleb n) h,
 saved-short reg (negsuc n) h k = simp length-append (omega (arith, reg-short reg h, sleb-short-neg 4 n (omega arith)))
 
 pub row-short : (w : ℕ) (r : Row) → RowFits w r → length (rowBytes w r) ≤ 9
-unfolding rowBytes regOf offsetOf
+unfolding rowBytes pick kindOf regOf offsetOf otherOf
 row-short w (DefCfa reg z) h = omega (arith, cfa-short w 0x0c 0x12 (uleb reg) z (h .off), reg-short reg (h .reg))
 row-short w (DefCfaOffset z) h = omega (arith, cfa-short w 0x0e 0x13 [] z (h .off))
 row-short w (DefCfaRegister reg) h = omega (arith, reg-short reg (h .reg))
@@ -59,6 +59,8 @@ row-short w (Undefined reg) h = omega (arith, reg-short reg (h .reg))
 row-short w RememberState h = omega arith
 row-short w RestoreState h = omega arith
 row-short w NegateRaState h = omega arith
+row-short w (SameValue reg) h = omega (arith, reg-short reg (h .reg))
+row-short w (InRegister reg other) h = simp length-append (omega (arith, reg-short reg (h .reg), reg-short other (h .other)))
 
 step-in-short : (form n : ℕ) → length (stepIn form n) ≤ 5
 unfolding stepIn

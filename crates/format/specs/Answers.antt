@@ -9,7 +9,7 @@ use mir.Val.{ofZ}
 use Rattle.format.specs.declared.CfaRule.{CfaRule}
 use Rattle.format.specs.declared.CfaRule.the-variants.{Unset, Register}
 use Rattle.format.specs.declared.Rule.{Rule}
-use Rattle.format.specs.declared.Rule.the-variants.{Unstated, Undefined, Saved}
+use Rattle.format.specs.declared.Rule.the-variants.{Unstated, Undefined, Saved, SameValue, InRegister}
 use Rattle.format.specs.declared.Reading.{Reading}
 use Rattle.format.specs.declared.Reading.the-variants as reading
 use Rattle.format.specs.declared.Outcome.{Outcome}
@@ -20,7 +20,7 @@ use Rattle.format.specs.Put.{put}
 use Rattle.format.specs.Questions.{Answer, refused, empty, accepted}
 
 -- ---- the reader: number (0: answered), frame (0 none, 1 register plus offset), its register and offset, rule (0 unstated, 1 undefined,
--- 2 saved), its offset, signing. Offsets are 64-bit two's complement; a field without meaning is 0.
+-- 2 saved, 3 same value, 4 in a register), its offset or register, signing. Offsets are 64-bit two's complement; a field without meaning is 0.
 
 unfoldable pub cfaNumbers : CfaRule → List ℕ
 cfaNumbers Unset = 0 ∷ 0 ∷ 0 ∷ []
@@ -30,6 +30,8 @@ unfoldable pub ruleNumbers : Rule → List ℕ
 ruleNumbers Unstated = 0 ∷ 0 ∷ []
 ruleNumbers Undefined = 1 ∷ 0 ∷ []
 ruleNumbers (Saved z) = 2 ∷ ofZ w64 z ∷ []
+ruleNumbers SameValue = 3 ∷ 0 ∷ []
+ruleNumbers (InRegister reg) = 4 ∷ reg ∷ []
 
 unfoldable pub bit : Bool → ℕ
 bit false = 0

@@ -14,7 +14,7 @@ machO = 2
 abbrev pub plan9 : ℕ
 plan9 = 4
 
--- kinds of a row in a list, in document 01's order
+-- kinds of a row in a list, in document 01's order; the last two are document 02's (W-207)
 abbrev pub defCfaKind : ℕ
 defCfaKind = 0
 
@@ -41,6 +41,12 @@ restoreStateKind = 7
 
 abbrev pub negateRaStateKind : ℕ
 negateRaStateKind = 8
+
+abbrev pub sameValueKind : ℕ
+sameValueKind = 9
+
+abbrev pub inRegisterKind : ℕ
+inRegisterKind = 10
 
 -- kinds of an x64 code in a list
 abbrev pub pushKind : ℕ
@@ -123,6 +129,12 @@ abbrev pub «DW_CFA_restore_extended» : ℕ
 
 abbrev pub «DW_CFA_undefined» : ℕ
 «DW_CFA_undefined» = 0x07
+
+abbrev pub «DW_CFA_same_value» : ℕ
+«DW_CFA_same_value» = 0x08
+
+abbrev pub «DW_CFA_register» : ℕ
+«DW_CFA_register» = 0x09
 
 abbrev pub «DW_CFA_remember_state» : ℕ
 «DW_CFA_remember_state» = 0x0a

@@ -8,9 +8,9 @@ use lib.Dec.{leb, ltb, eqb}
 use mir.Syntax.{w32, w64}
 use mir.Val.{toZ}
 use Rattle.format.specs.Prelude.{pick, each, all}
-use Rattle.format.specs.Constants.{defCfaKind, defCfaOffsetKind, defCfaRegisterKind, offsetKind, restoreKind, undefinedKind, rememberStateKind, restoreStateKind, negateRaStateKind, pushKind, allocKind, frameKind, saveKind}
+use Rattle.format.specs.Constants.{defCfaKind, defCfaOffsetKind, defCfaRegisterKind, offsetKind, restoreKind, undefinedKind, rememberStateKind, restoreStateKind, negateRaStateKind, sameValueKind, inRegisterKind, pushKind, allocKind, frameKind, saveKind}
 use Rattle.format.specs.declared.Row.{Row}
-use Rattle.format.specs.declared.Row.the-variants.{DefCfa, DefCfaOffset, DefCfaRegister, Offset, Restore, Undefined, RememberState, RestoreState, NegateRaState}
+use Rattle.format.specs.declared.Row.the-variants.{DefCfa, DefCfaOffset, DefCfaRegister, Offset, Restore, Undefined, RememberState, RestoreState, NegateRaState, SameValue, InRegister}
 use Rattle.format.specs.declared.Seh.{Seh}
 use Rattle.format.specs.declared.Seh.the-variants.{Push, Alloc, Frame, Save}
 use Rattle.format.specs.Rows.{RowAt}
@@ -104,7 +104,7 @@ count stride xs = length xs / stride
 unfoldable pub mark : ℕ → Bool
 mark n = not (eqb n 0)
 
--- a row by its kind, its register and its offset in 32 bits, two's complement
+-- a row by its kind, its register and its second operand: an offset in 32 bits, two's complement, or the register that holds the value
 unfoldable pub rowOf : (kind reg off : ℕ) → Row
 rowOf kind reg off =
     pick (eqb kind defCfaKind) (DefCfa reg (toZ w32 off))
@@ -114,7 +114,9 @@ rowOf kind reg off =
     (pick (eqb kind restoreKind) (Restore reg)
     (pick (eqb kind undefinedKind) (Undefined reg)
     (pick (eqb kind rememberStateKind) RememberState
-    (pick (eqb kind restoreStateKind) RestoreState NegateRaState)))))))
+    (pick (eqb kind restoreStateKind) RestoreState
+    (pick (eqb kind sameValueKind) (SameValue reg)
+    (pick (eqb kind inRegisterKind) (InRegister reg off) NegateRaState)))))))))
 
 unfoldable pub rowAt : List ℕ → ℕ → RowAt
 rowAt rows i = (field rowStride rows i 0, rowOf (field rowStride rows i 1) (field rowStride rows i 2) (field rowStride rows i 3))
@@ -219,13 +221,18 @@ whenMarked n test = eqb n 0 || test
 unfoldable pub hasRegister : ℕ → Bool
 hasRegister kind =
     eqb kind defCfaKind || eqb kind defCfaRegisterKind || eqb kind offsetKind || eqb kind restoreKind || eqb kind undefinedKind
+    || eqb kind sameValueKind || eqb kind inRegisterKind
 
 unfoldable pub hasOffset : ℕ → Bool
 hasOffset kind = eqb kind defCfaKind || eqb kind defCfaOffsetKind || eqb kind offsetKind
 
--- a kind, a 16-bit register and a 32-bit offset; an operand that the kind does not have is 0
+-- how many second operands a kind may have: 32-bit offsets, the 16-bit registers of InRegister, or 0 alone
+unfoldable pub secondOperands : ℕ → ℕ
+secondOperands kind = pick (hasOffset kind) (2 ^ 32) (pick (eqb kind inRegisterKind) 65536 1)
+
+-- a kind, a 16-bit register and a second operand; an operand that the kind does not have is 0
 unfoldable pub rowOk : (kind reg off : ℕ) → Bool
-rowOk kind reg off = leb kind negateRaStateKind && ltb reg (pick (hasRegister kind) 65536 1) && ltb off (pick (hasOffset kind) (2 ^ 32) 1)
+rowOk kind reg off = leb kind inRegisterKind && ltb reg (pick (hasRegister kind) 65536 1) && ltb off (secondOperands kind)
 
 unfoldable pub rowOkAt : List ℕ → ℕ → Bool
 rowOkAt rows i = rowOk (field rowStride rows i 1) (field rowStride rows i 2) (field rowStride rows i 3)

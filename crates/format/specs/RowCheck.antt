@@ -6,7 +6,7 @@ use lib.ListN.{length}
 use lib.Dec.{ltb, eqb}
 use Rattle.format.specs.Prelude.{all, each}
 use Rattle.format.specs.declared.Row.{Row}
-use Rattle.format.specs.declared.Row.the-variants.{DefCfa, DefCfaOffset, DefCfaRegister, Offset, Restore, Undefined, RememberState, RestoreState, NegateRaState}
+use Rattle.format.specs.declared.Row.the-variants.{DefCfa, DefCfaOffset, DefCfaRegister, Offset, Restore, Undefined, RememberState, RestoreState, NegateRaState, SameValue, InRegister}
 use Rattle.format.specs.Rows.{RowAt, kindOf}
 use Rattle.format.specs.Lists.{functionStride, rowStride, field, count, inside, allIn, rowOkAt, markOk, mark, rowAt}
 use Rattle.format.specs.Headers.{ahead}
@@ -29,6 +29,8 @@ inOrder framed opened (RememberState ∷ rs) = ltb (length opened) 16 && inOrder
 inOrder framed [] (RestoreState ∷ rs) = false
 inOrder framed (b ∷ opened) (RestoreState ∷ rs) = inOrder b opened rs
 inOrder framed opened (NegateRaState ∷ rs) = inOrder framed opened rs
+inOrder framed opened (SameValue reg ∷ rs) = inOrder framed opened rs
+inOrder framed opened (InRegister reg other ∷ rs) = inOrder framed opened rs
 
 unfoldable pub rowsOf : List RowAt → List Row
 rowsOf xs = map (λ x. x .1) xs

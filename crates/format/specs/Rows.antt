@@ -6,11 +6,11 @@ use mathlib.Core.List.{List, [], _∷_, _++_}
 use lib.Dec.{leb, ltb, eqb}
 use lib.IntN.{ℤ, pos, negsuc, negℤ, natAbs}
 use Rattle.format.specs.Prelude.{pick, Read, next}
-use Rattle.format.specs.Constants.{defCfaKind, defCfaOffsetKind, defCfaRegisterKind, offsetKind, restoreKind, undefinedKind, rememberStateKind, restoreStateKind, negateRaStateKind}
-use Rattle.format.specs.Constants.{«DW_CFA_advance_loc», «DW_CFA_offset», «DW_CFA_restore», «DW_CFA_nop», «DW_CFA_advance_loc1», «DW_CFA_advance_loc2», «DW_CFA_advance_loc4», «DW_CFA_offset_extended», «DW_CFA_restore_extended», «DW_CFA_undefined», «DW_CFA_remember_state», «DW_CFA_restore_state», «DW_CFA_def_cfa», «DW_CFA_def_cfa_register», «DW_CFA_def_cfa_offset», «DW_CFA_offset_extended_sf», «DW_CFA_def_cfa_sf», «DW_CFA_def_cfa_offset_sf», «DW_CFA_AARCH64_negate_ra_state»}
+use Rattle.format.specs.Constants.{defCfaKind, defCfaOffsetKind, defCfaRegisterKind, offsetKind, restoreKind, undefinedKind, rememberStateKind, restoreStateKind, negateRaStateKind, sameValueKind, inRegisterKind}
+use Rattle.format.specs.Constants.{«DW_CFA_advance_loc», «DW_CFA_offset», «DW_CFA_restore», «DW_CFA_nop», «DW_CFA_advance_loc1», «DW_CFA_advance_loc2», «DW_CFA_advance_loc4», «DW_CFA_offset_extended», «DW_CFA_restore_extended», «DW_CFA_undefined», «DW_CFA_same_value», «DW_CFA_register», «DW_CFA_remember_state», «DW_CFA_restore_state», «DW_CFA_def_cfa», «DW_CFA_def_cfa_register», «DW_CFA_def_cfa_offset», «DW_CFA_offset_extended_sf», «DW_CFA_def_cfa_sf», «DW_CFA_def_cfa_offset_sf», «DW_CFA_AARCH64_negate_ra_state»}
 use Rattle.format.specs.Leb.{little, readLittle, uleb, sleb, readUleb, readSleb, fits64}
 use Rattle.format.specs.declared.Row.{Row}
-use Rattle.format.specs.declared.Row.the-variants.{DefCfa, DefCfaOffset, DefCfaRegister, Offset, Restore, Undefined, RememberState, RestoreState, NegateRaState}
+use Rattle.format.specs.declared.Row.the-variants.{DefCfa, DefCfaOffset, DefCfaRegister, Offset, Restore, Undefined, RememberState, RestoreState, NegateRaState, SameValue, InRegister}
 use Rattle.format.specs.declared.Operation.{Operation}
 use Rattle.format.specs.declared.Operation.the-variants.{Nop, Step, Does}
 
@@ -50,6 +50,8 @@ rowBytes w (Undefined reg) = «DW_CFA_undefined» ∷ uleb reg
 rowBytes w RememberState = «DW_CFA_remember_state» ∷ []
 rowBytes w RestoreState = «DW_CFA_restore_state» ∷ []
 rowBytes w NegateRaState = «DW_CFA_AARCH64_negate_ra_state» ∷ []
+rowBytes w (SameValue reg) = «DW_CFA_same_value» ∷ uleb reg
+rowBytes w (InRegister reg other) = «DW_CFA_register» ∷ (uleb reg ++ uleb other)
 
 -- The forms of a step (DWARF 5, 6.4.2.1; document 01, "Record"): how many bytes of operand follow the opcode.
 unfoldable pub stepIn : ℕ → ℕ → List ℕ
@@ -101,14 +103,14 @@ readFactored w bs = next (readUleb bs) λ v r. inRange (unfactor w (pos v)) r
 unfoldable pub readSigned : ℕ → List ℕ → Read ℤ
 readSigned w bs = next (readSleb bs) λ v r. inRange (unfactor w v) r
 
--- an operation of one operand, and a row of a register and an offset
+-- an operation of one operand, and a row of a register and a second operand
 unfoldable pub one : {A : Type 0} → Read A → (A → Operation) → Read Operation
 one a f = next a λ v r. some (f v, r)
 
-unfoldable pub two : (List ℕ → Read ℤ) → (ℕ → ℤ → Row) → List ℕ → Read Operation
-two read f bs = next (readRegister bs) λ reg r. one (read r) λ z. Does (f reg z)
+unfoldable pub two : {A : Type 0} → (List ℕ → Read A) → (ℕ → A → Row) → List ℕ → Read Operation
+two read f bs = next (readRegister bs) λ reg r. one (read r) λ v. Does (f reg v)
 
--- the operations without a number in the opcode (7.24, table 7.29), those that the source writes (document 01, question 66)
+-- the operations without a number in the opcode (7.24, table 7.29), those that the writers write (document 01, question 66; document 02, W-207)
 unfoldable pub readExtended : ℕ → ℕ → List ℕ → Read Operation
 readExtended w b bs =
     pick (eqb b «DW_CFA_nop») (some (Nop, bs))
@@ -118,6 +120,8 @@ readExtended w b bs =
     (pick (eqb b «DW_CFA_offset_extended») (two (readFactored w) Offset bs)
     (pick (eqb b «DW_CFA_restore_extended») (one (readRegister bs) λ reg. Does (Restore reg))
     (pick (eqb b «DW_CFA_undefined») (one (readRegister bs) λ reg. Does (Undefined reg))
+    (pick (eqb b «DW_CFA_same_value») (one (readRegister bs) λ reg. Does (SameValue reg))
+    (pick (eqb b «DW_CFA_register») (two readRegister InRegister bs)
     (pick (eqb b «DW_CFA_remember_state») (some (Does RememberState, bs))
     (pick (eqb b «DW_CFA_restore_state») (some (Does RestoreState, bs))
     (pick (eqb b «DW_CFA_def_cfa») (two readOffset DefCfa bs)
@@ -126,7 +130,7 @@ readExtended w b bs =
     (pick (eqb b «DW_CFA_offset_extended_sf») (two (readSigned w) Offset bs)
     (pick (eqb b «DW_CFA_def_cfa_sf») (two (readSigned w) DefCfa bs)
     (pick (eqb b «DW_CFA_def_cfa_offset_sf») (one (readSigned w bs) λ z. Does (DefCfaOffset z))
-    (pick (eqb b «DW_CFA_AARCH64_negate_ra_state») (some (Does NegateRaState, bs)) none)))))))))))))))
+    (pick (eqb b «DW_CFA_AARCH64_negate_ra_state») (some (Does NegateRaState, bs)) none)))))))))))))))))
 
 -- one operation; the high two bits of the opcode tell the short forms (7.24)
 unfoldable pub readOperation : ℕ → List ℕ → Read Operation
@@ -159,10 +163,12 @@ rowWhole w (Undefined reg) = true
 rowWhole w RememberState = true
 rowWhole w RestoreState = true
 rowWhole w NegateRaState = true
+rowWhole w (SameValue reg) = true
+rowWhole w (InRegister reg other) = true
 
 -- ---- a row's parts, and when two rows are equal
 
--- a row's kind, its register (or 0) and its offset (or 0)
+-- a row's kind, its register (or 0) and its second operand: an offset, or the register that holds the value (or 0)
 unfoldable pub kindOf : Row → ℕ
 kindOf (DefCfa reg z) = defCfaKind
 kindOf (DefCfaOffset z) = defCfaOffsetKind
@@ -173,6 +179,8 @@ kindOf (Undefined reg) = undefinedKind
 kindOf RememberState = rememberStateKind
 kindOf RestoreState = restoreStateKind
 kindOf NegateRaState = negateRaStateKind
+kindOf (SameValue reg) = sameValueKind
+kindOf (InRegister reg other) = inRegisterKind
 
 unfoldable pub regOf : Row → ℕ
 regOf (DefCfa reg z) = reg
@@ -184,6 +192,8 @@ regOf (Undefined reg) = reg
 regOf RememberState = 0
 regOf RestoreState = 0
 regOf NegateRaState = 0
+regOf (SameValue reg) = reg
+regOf (InRegister reg other) = reg
 
 unfoldable pub offsetOf : Row → ℤ
 offsetOf (DefCfa reg z) = z
@@ -195,6 +205,8 @@ offsetOf (Undefined reg) = pos 0
 offsetOf RememberState = pos 0
 offsetOf RestoreState = pos 0
 offsetOf NegateRaState = pos 0
+offsetOf (SameValue reg) = pos 0
+offsetOf (InRegister reg other) = pos other
 
 -- two offsets are equal, and two rows
 unfoldable pub sameOffset : ℤ → ℤ → Bool

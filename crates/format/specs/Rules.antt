@@ -9,7 +9,7 @@ use lib.IntN.{ℤ}
 use Rattle.format.specs.Prelude.{pick, Result, good, bad}
 use Rattle.format.specs.declared.Machine.{Machine}
 use Rattle.format.specs.declared.Row.{Row}
-use Rattle.format.specs.declared.Row.the-variants.{DefCfa, DefCfaOffset, DefCfaRegister, Offset, Restore, Undefined, RememberState, RestoreState, NegateRaState}
+use Rattle.format.specs.declared.Row.the-variants.{DefCfa, DefCfaOffset, DefCfaRegister, Offset, Restore, Undefined, RememberState, RestoreState, NegateRaState, SameValue, InRegister}
 use Rattle.format.specs.declared.CfaRule.{CfaRule}
 use Rattle.format.specs.declared.CfaRule.the-variants.{Unset, Register}
 use Rattle.format.specs.declared.Rule.{Rule}
@@ -77,6 +77,8 @@ apply initial (Undefined reg) s = withRule reg rule.Undefined s
 apply initial RememberState s = record { current = s .current; stored = s .current ∷ s .stored }
 apply initial RestoreState s = restored (s .stored) s
 apply initial NegateRaState s = negated s
+apply initial (SameValue reg) s = withRule reg rule.SameValue s
+apply initial (InRegister reg other) s = withRule reg (rule.InRegister other) s
 
 unfoldable pub applyRows : (initial : ℕ → Rule) → List Row → State → State
 applyRows initial [] s = s
@@ -125,6 +127,8 @@ refusal header (Undefined reg) s = none
 refusal header RememberState s = pick (ltb (length (s .stored)) 16) none (some 68)
 refusal header RestoreState s = withoutStored (s .stored)
 refusal header NegateRaState s = none
+refusal header (SameValue reg) s = none
+refusal header (InRegister reg other) s = none
 
 unfoldable pub unlessRefused : Option ℕ → State → Result State
 unlessRefused none s = good s

@@ -13,7 +13,7 @@ use Rattle.format.specs.Leb.{little}
 use Rattle.format.specs.Machine.{Register, registerOf}
 use Rattle.format.specs.declared.Machine.{Machine}
 use Rattle.format.specs.declared.Row.{Row}
-use Rattle.format.specs.declared.Row.the-variants.{DefCfa, DefCfaOffset, DefCfaRegister, Offset, Restore, Undefined, RememberState, RestoreState, NegateRaState}
+use Rattle.format.specs.declared.Row.the-variants.{DefCfa, DefCfaOffset, DefCfaRegister, Offset, Restore, Undefined, RememberState, RestoreState, NegateRaState, SameValue, InRegister}
 use Rattle.format.specs.declared.Seh.{Seh}
 use Rattle.format.specs.declared.Seh.the-variants.{Push, Alloc, Frame, Save}
 use Rattle.format.specs.Rows.{RowAt, kindOf, regOf, offsetOf, sameOffset}
@@ -84,6 +84,8 @@ loneRow m last at (Undefined reg) s = bad 33
 loneRow m last at RememberState s = bad 33
 loneRow m last at RestoreState s = bad 33
 loneRow m last at NegateRaState s = bad 33
+loneRow m last at (SameValue reg) s = bad 33
+loneRow m last at (InRegister reg other) s = bad 33
 
 -- a group of two rows is a push: DefCfaOffset moves the frame address up by a word, and Offset puts the register in that word
 unfoldable pub pushRows : Machine → ℕ → Row → Row → Prefix → Result Prefix

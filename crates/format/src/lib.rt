@@ -125,6 +125,9 @@ pub enum Row {
     RememberState,
     RestoreState,
     NegateRaState,
+    SameValue(u16),
+    // The second register holds the first one's value.
+    InRegister(u16, u16),
 }
 
 // A code of an x64 prologue. A direct code may name any register; one above 15 is question 34.
@@ -146,6 +149,8 @@ pub enum Rule {
     Unstated,
     Undefined,
     Saved(i64),
+    SameValue,
+    InRegister(u16),
 }
 
 // What holds at a place, for one register: the CFA rule, the register's rule and the signing state.

@@ -1,34 +1,48 @@
 -- How many rows lead, counted by a loop that stops at the first that does not.
-use mathlib.Core.Path.{_≡_, refl, ap, _∙_}
+use mathlib.Core.Path.{_≡_, refl, sym, ap, _∙_}
 use Prim.Native.Nat.{ℕ, zero, suc, _+_, _-_, _≤_, _<_}
 use native.Mathlib.Omega.{arith}
 use mathlib.Core.Bool.{Bool, true, false, not}
 use mathlib.Core.List.{_∷_}
-use lib.Dec.{T, ltb, eqb}
-use mir.Facts.{ltb-yes}
+use lib.Dec.{T, eqb}
+use mir.Facts.{eqb-yes}
 use borrow.Author.Tests.{ne-eqb}
 use lib.ListN.{length}
 use Rattle.format.specs.Prelude.{pick, each}
+use Rattle.format.specs.declared.Row.{Row}
 use Rattle.format.specs.Rows.{RowAt, kindOf}
+use Rattle.format.proofs.Choice.{tested}
 use Rattle.format.specs.Lists.{rowOf}
 use Rattle.format.specs.Headers.{leads, ahead}
 use Rattle.lists.proofs.Answers.{accepted, refused}
 
-past : (k j : ℕ) → T (ltb j 8) → eqb (suc (suc (suc (suc (suc (suc (suc (suc k)))))))) j ≡ false
-past k j t = ne-eqb _ j (λ e. omega (arith, ltb-yes {a = j} {b = 8} t))
+-- a row that is no RememberState
+Other : Row → Type 0
+Other r = eqb (kindOf r) 6 ≡ false
+
+one-other : (b : Bool) (x y : Row) → Other x → Other y → Other (pick b x y)
+unfolding Other pick
+one-other true x y h k = h
+one-other false x y h k = k
 
 -- a row is RememberState where its kind's number says so
 pub remembers : (kind reg off : ℕ) → eqb (kindOf (rowOf kind reg off)) 6 ≡ eqb kind 6
-unfolding rowOf kindOf pick
-remembers zero reg off = refl
-remembers (suc zero) reg off = refl
-remembers (suc (suc zero)) reg off = refl
-remembers (suc (suc (suc zero))) reg off = refl
-remembers (suc (suc (suc (suc zero)))) reg off = refl
-remembers (suc (suc (suc (suc (suc zero))))) reg off = refl
-remembers (suc (suc (suc (suc (suc (suc zero)))))) reg off = refl
-remembers (suc (suc (suc (suc (suc (suc (suc zero))))))) reg off = refl
-remembers (suc (suc (suc (suc (suc (suc (suc (suc k)))))))) reg off = simp (past k 0 tt, past k 1 tt, past k 2 tt, past k 3 tt, past k 4 tt, past k 5 tt, past k 6 tt, past k 7 tt)
+unfolding rowOf kindOf Other pick
+remembers kind reg off =
+    tested (eqb kind 6) (λ t. let e : kind ≡ 6 = eqb-yes t in rw e)
+    (λ t.
+    let n : kind ≡ 6 → ⊥ = λ e. absurd (rw e at t) in
+    let e = ne-eqb kind 6 n in
+    one-other (eqb kind 0) _ _ refl
+    (one-other (eqb kind 1) _ _ refl
+    (one-other (eqb kind 2) _ _ refl
+    (one-other (eqb kind 3) _ _ refl
+    (one-other (eqb kind 4) _ _ refl
+    (one-other (eqb kind 5) _ _ refl
+    (rw e
+    (one-other (eqb kind 7) _ _ refl
+    (one-other (eqb kind 9) _ _ refl (one-other (eqb kind 10) _ _ refl refl)))))))))
+    ∙ sym e)
 
 -- at row i of the n from `at` on, all before it lead
 pub record Counting (f : ℕ → RowAt) (at n i : ℕ) : Type 0 where

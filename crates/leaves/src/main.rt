@@ -113,7 +113,7 @@ fn read_signed(s: &[u8]) {
     io::write_all(STDOUT_FILENO, b"\n");
 }
 
-// A row's kind, register and offset.
+// A row's kind, register and second operand.
 fn row_parts(kind: u64, reg: u16, z: i64) {
     number(kind);
     number(reg as u64);
@@ -131,6 +131,8 @@ fn print_row(r: Row) {
         Row::RememberState => row_parts(6, 0, 0),
         Row::RestoreState => row_parts(7, 0, 0),
         Row::NegateRaState => row_parts(8, 0, 0),
+        Row::SameValue(reg) => row_parts(9, reg, 0),
+        Row::InRegister(reg, other) => row_parts(10, reg, other as i64),
     }
 }
 
@@ -261,6 +263,19 @@ fn all_rows() {
     row(49, 8, 0, 0);
 }
 
+// A register that keeps its value, and one that is held in another; the last two are no rows.
+fn register_rows() {
+    row(50, 9, 0, 0);
+    row(51, 9, 128, 0);
+    row(52, 9, 65535, 0);
+    row(53, 10, 0, 127);
+    row(54, 10, 127, 128);
+    row(55, 10, 65535, 0);
+    row(56, 10, 128, 65535);
+    row(57, 9, 3, 1);
+    row(58, 10, 3, 65536);
+}
+
 fn all_steps() {
     for i in 0..STEPS.len() {
         step(i, STEPS[i]);
@@ -291,6 +306,7 @@ fn main() {
     all_unsigned();
     all_signed();
     all_rows();
+    register_rows();
     all_steps();
     foreign();
 }

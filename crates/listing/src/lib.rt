@@ -86,6 +86,8 @@ fn used_name(out: &mut [u8], at: usize, b: u8) -> usize {
         0x05 => text(out, at, b"DW_CFA_offset_extended"),
         0x06 => text(out, at, b"DW_CFA_restore_extended"),
         0x07 => text(out, at, b"DW_CFA_undefined"),
+        0x08 => text(out, at, b"DW_CFA_same_value"),
+        0x09 => text(out, at, b"DW_CFA_register"),
         0x0a => text(out, at, b"DW_CFA_remember_state"),
         0x0b => text(out, at, b"DW_CFA_restore_state"),
         0x0c => text(out, at, b"DW_CFA_def_cfa"),
@@ -103,8 +105,6 @@ fn used_name(out: &mut [u8], at: usize, b: u8) -> usize {
 fn foreign_name(out: &mut [u8], at: usize, b: u8) -> usize {
     match b {
         0x01 => text(out, at, b"DW_CFA_set_loc"),
-        0x08 => text(out, at, b"DW_CFA_same_value"),
-        0x09 => text(out, at, b"DW_CFA_register"),
         0x0f => text(out, at, b"DW_CFA_def_cfa_expression"),
         0x10 => text(out, at, b"DW_CFA_expression"),
         0x14 => text(out, at, b"DW_CFA_val_offset"),
@@ -130,16 +130,23 @@ fn name(out: &mut [u8], at: usize, b: u8) -> usize {
     text(out, at, b"DW_CFA_restore")
 }
 
-// A register of an operation: its number and, where it has one, its name.
+// A register: its number and, where it has one, its name.
+fn numbered(out: &mut [u8], at: usize, reg: u16, x86_64: bool) -> usize
+    ensures { λ r. ⌜ Counts r (now (out .exit)) ⌝ }
+{
+    let a = shown::register(out, at, reg as u64, false);
+    if !x86_64 || 32 < reg {
+        return a;
+    }
+    let b = text(out, a, b" (");
+    let c = shown::register(out, b, reg as u64, true);
+    byte(out, c, b')')
+}
+
+// A register of an operation.
 fn register(out: &mut [u8], at: usize, reg: u16, x86_64: bool) -> usize {
     let a = text(out, at, b": ");
-    let b = shown::register(out, a, reg as u64, false);
-    if !x86_64 || 32 < reg {
-        return b;
-    }
-    let c = text(out, b, b" (");
-    let d = shown::register(out, c, reg as u64, true);
-    byte(out, d, b')')
+    numbered(out, a, reg, x86_64)
 }
 
 fn cfa_operands(out: &mut [u8], at: usize, reg: u16, z: i64, x86_64: bool) -> usize {
@@ -152,6 +159,12 @@ fn offset_operands(out: &mut [u8], at: usize, reg: u16, z: i64, x86_64: bool) ->
     let a = register(out, at, reg, x86_64);
     let b = text(out, a, b" at cfa");
     shown::offset(out, b, z)
+}
+
+fn register_operands(out: &mut [u8], at: usize, reg: u16, other: u16, x86_64: bool) -> usize {
+    let a = register(out, at, reg, x86_64);
+    let b = text(out, a, b" in ");
+    numbered(out, b, other, x86_64)
 }
 
 fn plain_operand(out: &mut [u8], at: usize, z: i64) -> usize {
@@ -170,6 +183,8 @@ fn row_operands(out: &mut [u8], at: usize, row: Row, x86_64: bool) -> usize {
         Row::RememberState => at,
         Row::RestoreState => at,
         Row::NegateRaState => at,
+        Row::SameValue(reg) => register(out, at, reg, x86_64),
+        Row::InRegister(reg, other) => register_operands(out, at, reg, other, x86_64),
     }
 }
 
@@ -287,19 +302,21 @@ fn saved_text(out: &mut [u8], z: i64) -> usize
     shown::offset(out, a, z)
 }
 
-fn rule_text(out: &mut [u8], rule: Rule) -> usize
+fn rule_text(out: &mut [u8], rule: Rule, x86_64: bool) -> usize
     ensures { λ r. ⌜ Counts r (now (out .exit)) ⌝ }
 {
     match rule {
         Rule::Unstated => byte(out, 0, b'-'),
         Rule::Undefined => byte(out, 0, b'u'),
         Rule::Saved(z) => saved_text(out, z),
+        Rule::SameValue => byte(out, 0, b's'),
+        Rule::InRegister(reg) => numbered(out, 0, reg, x86_64),
     }
 }
 
-fn rule_cell(out: &mut [u8], at: usize, rule: Rule) -> usize {
+fn rule_cell(out: &mut [u8], at: usize, rule: Rule, x86_64: bool) -> usize {
     let mut cell = [0u8; 64];
-    let n = rule_text(&mut cell, rule);
+    let n = rule_text(&mut cell, rule, x86_64);
     shown::cell(out, at, &cell[..n], 6)
 }
 
@@ -346,14 +363,14 @@ fn rules_at(
     at: usize,
     s: &[u8],
     l: Located,
-    word: u64,
+    v: View,
     p: u64,
     regs: &[u64],
 ) -> usize {
     let mut past = at;
     let mut i = 0;
     while i < regs.len() {
-        past = rule_cell(out, past, rule_at(s, l, word, p, regs[i]));
+        past = rule_cell(out, past, rule_at(s, l, v.word, p, regs[i]), v.x86_64);
         i += 1;
     }
     past
@@ -393,7 +410,7 @@ fn line(
         Reading::Answered(rules) => {
             let cfa = rules.cfa;
             let c = frame_cell(out, b, cfa, v.x86_64);
-            let d = rules_at(out, c, s, l, v.word, p, regs);
+            let d = rules_at(out, c, s, l, v, p, regs);
             line_end(out, d, rules.signing)
         }
     }

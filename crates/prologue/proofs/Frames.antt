@@ -13,7 +13,7 @@ use Rattle.format.proofs.Row.{the-type}
 use Rattle.format.specs.Prelude.{pick}
 use Rattle.format.specs.declared.Row.{Row}
 use Rattle.format.specs.declared.Machine.{Machine}
-use Rattle.format.specs.declared.Row.the-variants.{DefCfa, DefCfaOffset, DefCfaRegister, Offset, Restore, Undefined, RememberState, RestoreState, NegateRaState}
+use Rattle.format.specs.declared.Row.the-variants.{DefCfa, DefCfaOffset, DefCfaRegister, Offset, Restore, Undefined, RememberState, RestoreState, NegateRaState, SameValue, InRegister}
 use Rattle.format.specs.Rows.{kindOf, regOf, offsetOf, sameOffset}
 use Rattle.format.specs.X64.{frame, isPush}
 use Rattle.prologue.specs.declared.Walk.{Walk}
@@ -74,13 +74,13 @@ module _ (m : Machine) (reg : ℕ) (z y : ℤ) (w : Walk) where
 -- ---- two rows that are no push
 
 module _ (m : Machine) (a b : Row) (w : Walk) where
-  pub push-first : OneOf (0 ∷ 2 ∷ 3 ∷ 4 ∷ 5 ∷ 6 ∷ 7 ∷ 8 ∷ []) (tagOf the-type a) → refused 33 ≡ pushIn m a b w
+  pub push-first : OneOf (0 ∷ 2 ∷ 3 ∷ 4 ∷ 5 ∷ 6 ∷ 7 ∷ 8 ∷ 9 ∷ 10 ∷ []) (tagOf the-type a) → refused 33 ≡ pushIn m a b w
   unfolding pushIn pick
-  push-first h = simp (ne-eqb (kindOf a) 1 (other-kind (0 ∷ 2 ∷ 3 ∷ 4 ∷ 5 ∷ 6 ∷ 7 ∷ 8 ∷ []) 1 a tt h))
+  push-first h = simp (ne-eqb (kindOf a) 1 (other-kind (0 ∷ 2 ∷ 3 ∷ 4 ∷ 5 ∷ 6 ∷ 7 ∷ 8 ∷ 9 ∷ 10 ∷ []) 1 a tt h))
 
-  pub push-second : OneOf (0 ∷ 1 ∷ 2 ∷ 4 ∷ 5 ∷ 6 ∷ 7 ∷ 8 ∷ []) (tagOf the-type b) → refused 33 ≡ pushIn m a b w
+  pub push-second : OneOf (0 ∷ 1 ∷ 2 ∷ 4 ∷ 5 ∷ 6 ∷ 7 ∷ 8 ∷ 9 ∷ 10 ∷ []) (tagOf the-type b) → refused 33 ≡ pushIn m a b w
   unfolding pushIn pick
-  push-second h = simp (ne-eqb (kindOf b) 3 (other-kind (0 ∷ 1 ∷ 2 ∷ 4 ∷ 5 ∷ 6 ∷ 7 ∷ 8 ∷ []) 3 b tt h), and-false)
+  push-second h = simp (ne-eqb (kindOf b) 3 (other-kind (0 ∷ 1 ∷ 2 ∷ 4 ∷ 5 ∷ 6 ∷ 7 ∷ 8 ∷ 9 ∷ 10 ∷ []) 3 b tt h), and-false)
 
 -- ---- a row that no instruction of a prologue has alone
 
@@ -95,3 +95,5 @@ lone-other m last (Undefined reg) w h = refl
 lone-other m last RememberState w h = refl
 lone-other m last RestoreState w h = refl
 lone-other m last NegateRaState w h = refl
+lone-other m last (SameValue reg) w h = refl
+lone-other m last (InRegister reg other) w h = refl

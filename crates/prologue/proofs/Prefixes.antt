@@ -12,7 +12,7 @@ use mir.Facts.{and-yes, eqb-yes}
 use Rattle.format.specs.Prelude.{pick, Result, good, bad, onward, all}
 use Rattle.format.specs.declared.Machine.{Machine}
 use Rattle.format.specs.declared.Row.{Row}
-use Rattle.format.specs.declared.Row.the-variants.{DefCfa, DefCfaOffset, DefCfaRegister, Offset, Restore, Undefined, RememberState, RestoreState, NegateRaState}
+use Rattle.format.specs.declared.Row.the-variants.{DefCfa, DefCfaOffset, DefCfaRegister, Offset, Restore, Undefined, RememberState, RestoreState, NegateRaState, SameValue, InRegister}
 use Rattle.format.specs.Rows.{kindOf, regOf, offsetOf, sameOffset}
 use Rattle.format.specs.X64.{Step, push, alloc, frame, save, Prefix, more, isPush, onlyPush, loneRow, pushRows}
 use Rattle.prologue.specs.declared.Walk.{Walk}
@@ -123,6 +123,8 @@ module _ (m : Machine) (off : ℕ) (s : Prefix) where
   lone-reads last RememberState = refuses 33 (λ e. omega arith) refl refl
   lone-reads last RestoreState = refuses 33 (λ e. omega arith) refl refl
   lone-reads last NegateRaState = refuses 33 (λ e. omega arith) refl refl
+  lone-reads last (SameValue reg) = refuses 33 (λ e. omega arith) refl refl
+  lone-reads last (InRegister reg other) = refuses 33 (λ e. omega arith) refl refl
 
   pushed : (a b : Row) → kindOf a ≡ 1 → kindOf b ≡ 3 → more s off (push (regOf b)) (offsetOf a) ≡ past off false true b (past off true false a s)
   unfolding more past rowStep movedBy pick

@@ -11,11 +11,12 @@ use mir.Facts.{eqb-yes}
 use Rattle.format.specs.Prelude.{pick, each}
 use Rattle.format.specs.declared.Machine.{Machine}
 use Rattle.format.specs.declared.Row.{Row}
-use Rattle.format.specs.declared.Row.the-variants.{DefCfa, DefCfaOffset, DefCfaRegister, Offset, Restore, Undefined, RememberState, RestoreState, NegateRaState}
+use Rattle.format.specs.declared.Row.the-variants.{DefCfa, DefCfaOffset, DefCfaRegister, Offset, Restore, Undefined, RememberState, RestoreState, NegateRaState, SameValue, InRegister}
 use Rattle.format.specs.Rows.{RowAt, kindOf, offsetOf}
 use Rattle.format.specs.Lists.{field, rowStride, rowOf, rowAt}
 use Rattle.format.specs.X64.{beforeRemember}
 use Rattle.format.proofs.Choice.{tested}
+use Rattle.leading.proofs.Counting.{remembers}
 use Rattle.prologue.specs.declared.Walk.{Walk}
 use Rattle.prologue.specs.Groups.{joined, joins, third, refused, stepped, added, loneIn, pushIn, lastIn, rowIn, walkFrom, start}
 use Rattle.prologue.specs.Pieces.{Short, Ready}
@@ -46,6 +47,8 @@ module _ (m : Machine) (w : Walk) (h : Short (w .below)) where
   lone-short last RememberState k = k
   lone-short last RestoreState k = k
   lone-short last NegateRaState k = k
+  lone-short last (SameValue reg) k = k
+  lone-short last (InRegister reg other) k = refused-short 33
 
   push-short : (a b : Row) → Short (offsetOf a) → Short (pushIn m a b w .below)
   unfolding pushIn added stepped
@@ -103,32 +106,9 @@ module _ {m : Machine} {rows : List ℕ} {at end i : ℕ} {w : Walk} (c : Walkin
 
 -- ---- the rows before the first RememberState
 
--- a row that is no RememberState
-Other : Row → Type 0
-Other r = eqb (kindOf r) 6 ≡ false
-
-one-other : (b : Bool) (x y : Row) → Other x → Other y → Other (pick b x y)
-unfolding Other pick
-one-other true x y h k = h
-one-other false x y h k = k
-
-remember-kind : (kind reg off : ℕ) → eqb kind 6 ≡ eqb (kindOf (rowOf kind reg off)) 6
-unfolding rowOf kindOf Other pick
-remember-kind kind reg off =
-    tested (eqb kind 6) (λ t. let e : kind ≡ 6 = eqb-yes t in rw e)
-    (λ t.
-    let e = is-false (eqb kind 6) t in
-    e
-    ∙ sym
-    (one-other (eqb kind 0) _ _ refl
-    (one-other (eqb kind 1) _ _ refl
-    (one-other (eqb kind 2) _ _ refl
-    (one-other (eqb kind 3) _ _ refl
-    (one-other (eqb kind 4) _ _ refl (one-other (eqb kind 5) _ _ refl (rw e (one-other (eqb kind 7) _ _ refl refl)))))))))
-
 pub remembers-is : (rows : List ℕ) (i : ℕ) → eqb (field rowStride rows i 1) 6 ≡ eqb (kindOf (rowAt rows i .1)) 6
 unfolding rowAt
-remembers-is rows i = remember-kind (field rowStride rows i 1) (field rowStride rows i 2) (field rowStride rows i 3)
+remembers-is rows i = sym (remembers (field rowStride rows i 1) (field rowStride rows i 2) (field rowStride rows i 3))
 
 each-one : {A : Type 0} (f : ℕ → A) (at n : ℕ) (ys : List A) → each f at n ++ (f (at + n) ∷ ys) ≡ each f at (suc n) ++ ys
 unfolding each

@@ -8,7 +8,7 @@ use Rattle.format.specs.Prelude.{pick, Result, good, bad}
 use Rattle.format.specs.declared.Machine.{Machine}
 use Rattle.format.specs.Machine.{Register, registerOf}
 use Rattle.format.specs.declared.Row.{Row}
-use Rattle.format.specs.declared.Row.the-variants.{DefCfa, DefCfaOffset, DefCfaRegister, Offset, Restore, Undefined, RememberState, RestoreState, NegateRaState}
+use Rattle.format.specs.declared.Row.the-variants.{DefCfa, DefCfaOffset, DefCfaRegister, Offset, Restore, Undefined, RememberState, RestoreState, NegateRaState, SameValue, InRegister}
 use Rattle.format.specs.Rows.{kindOf, regOf, offsetOf, sameOffset}
 use Rattle.format.specs.Lists.{rowAt}
 use Rattle.format.specs.X64.{Step, push, alloc, frame, save, isPush, low16}
@@ -79,6 +79,8 @@ loneIn m last (Undefined reg) w = refused 33
 loneIn m last RememberState w = refused 33
 loneIn m last RestoreState w = refused 33
 loneIn m last NegateRaState w = refused 33
+loneIn m last (SameValue reg) w = refused 33
+loneIn m last (InRegister reg other) w = refused 33
 
 -- two rows of one instruction
 unfoldable pub pushIn : Machine → Row → Row → Walk → Walk

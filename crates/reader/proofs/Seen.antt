@@ -9,7 +9,7 @@ use lib.Dec.{ltb, eqb, eqb→eq}
 use lib.IntN.{ℤ}
 use Rattle.format.specs.Prelude.{pick, Result, good, bad}
 use Rattle.format.specs.declared.Row.{Row}
-use Rattle.format.specs.declared.Row.the-variants.{DefCfa, DefCfaOffset, DefCfaRegister, Offset, Restore, Undefined, RememberState, RestoreState, NegateRaState}
+use Rattle.format.specs.declared.Row.the-variants.{DefCfa, DefCfaOffset, DefCfaRegister, Offset, Restore, Undefined, RememberState, RestoreState, NegateRaState, SameValue, InRegister}
 use Rattle.format.specs.declared.CfaRule.{CfaRule}
 use Rattle.format.specs.declared.CfaRule.the-variants.{Unset, Register}
 use Rattle.format.specs.declared.Rule.{Rule}
@@ -59,3 +59,5 @@ module _ (header : Bool) (q : ℕ) (init : ℕ → Rule) (s : State) where
       by [] = refused 67 refl refl
       by (k ∷ ks) = answered _ refl refl
   seen-row NegateRaState = answered _ refl refl
+  seen-row (SameValue reg) = answered _ refl refl
+  seen-row (InRegister reg other) = answered _ refl refl

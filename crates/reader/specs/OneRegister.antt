@@ -7,7 +7,7 @@ use lib.Dec.{ltb, eqb}
 use lib.IntN.{ℤ}
 use Rattle.format.specs.Prelude.{pick, Result, good, bad}
 use Rattle.format.specs.declared.Row.{Row}
-use Rattle.format.specs.declared.Row.the-variants.{DefCfa, DefCfaOffset, DefCfaRegister, Offset, Restore, Undefined, RememberState, RestoreState, NegateRaState}
+use Rattle.format.specs.declared.Row.the-variants.{DefCfa, DefCfaOffset, DefCfaRegister, Offset, Restore, Undefined, RememberState, RestoreState, NegateRaState, SameValue, InRegister}
 use Rattle.format.specs.declared.CfaRule.{CfaRule}
 use Rattle.format.specs.declared.CfaRule.the-variants.{Unset, Register}
 use Rattle.format.specs.declared.Rule.{Rule}
@@ -67,3 +67,5 @@ act header q initial (Undefined reg) s = good (setRule q reg rule.Undefined s)
 act header q initial RememberState s = remember s
 act header q initial RestoreState s = recall (s .stored) s
 act header q initial NegateRaState s = good (negated s)
+act header q initial (SameValue reg) s = good (setRule q reg rule.SameValue s)
+act header q initial (InRegister reg other) s = good (setRule q reg (rule.InRegister other) s)

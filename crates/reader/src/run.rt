@@ -222,6 +222,8 @@ fn act(header: bool, q: u16, initial: Rule, row: Row, s: State) -> Acted
         Row::RememberState => remember(s),
         Row::RestoreState => recall(s),
         Row::NegateRaState => negate(s),
+        Row::SameValue(reg) => set_rule(s, q, reg, Rule::SameValue),
+        Row::InRegister(reg, other) => set_rule(s, q, reg, Rule::InRegister(other)),
     }
 }
 

@@ -13,7 +13,7 @@ use Rattle.format.specs.Prelude.{pick, Read, next}
 use Rattle.format.specs.Leb.{fits64}
 use Rattle.format.specs.Rows.{unfactor, readRegister, inRange, readOffset, readFactored, readSigned, one, two, readOperation}
 use Rattle.format.proofs.Positions.{unsignedFrom, signedFrom, decodedFrom, ulebAt, slebAt, littleAt, operationAt}
-use Rattle.format.specs.declared.Row.the-variants.{DefCfaOffset, Offset, Restore}
+use Rattle.format.specs.declared.Row.the-variants.{DefCfaOffset, Offset, Restore, InRegister}
 use Rattle.format.specs.declared.Unsigned.the-variants as unsigned
 use Rattle.format.specs.declared.Signed.the-variants as signed
 use Rattle.format.specs.declared.Operation.{Operation}
@@ -21,7 +21,7 @@ use Rattle.format.specs.declared.Operation.the-variants.{Step, Does}
 use Rattle.format.specs.declared.Decoded.the-variants as decoded
 use Rattle.format.proofs.Choice.{pick-yes, pick-no, if-le, if-gt, tested}
 use Rattle.format.proofs.PositionLaws.{Ahead, Takes, nothing, taken, takes-pick, takes-next, takes-uleb, takes-sleb, unsigned-ahead, signed-ahead, unsigned-none, signed-none as none-signed, uleb-ahead, uleb-rest, uleb-none, sleb-ahead, sleb-rest, sleb-none, little-ahead, little-rest, little-none}
-use Rattle.rows.specs.Reads.{registerAt, plainAt, factoredAt, signedAt, held, readOperand, operandAt, registerRow, pairRow, stepAt, registerRowAt, offsetRowAt, pairRowAt, savedAt, extendedAt}
+use Rattle.rows.specs.Reads.{registerAt, plainAt, factoredAt, signedAt, held, readOperand, operandAt, registerRow, pairRow, stepAt, registerRowAt, offsetRowAt, pairRowAt, inRegisterAt, savedAt, extendedAt}
 
 -- the position in front of what is left
 past : (s : List ℕ) (q : ℕ) → q ≤ length s → length s - length (drop q s) ≡ q
@@ -195,6 +195,23 @@ module _ (s : List ℕ) (p : ℕ) where
     pub saved-none : factoredAt w s p ≡ signed.Bad → savedAt w reg s p ≡ decoded.Bad
     unfolding savedAt factoredAt
     saved-none e = one-none s (λ z. Does (Offset reg z)) (none-signed (length s) (readFactored w (drop p s)) e)
+
+-- two registers
+module _ (s : List ℕ) (p : ℕ) where
+  pub in-register-unnamed : registerAt s p ≡ unsigned.Bad → inRegisterAt s p ≡ decoded.Bad
+  unfolding inRegisterAt two next decodedFrom
+  in-register-unnamed e = rw (register-gone s p e)
+
+  module _ {v q : ℕ} (e : registerAt s p ≡ unsigned.Value v q) where
+    pub in-register-none : registerAt s q ≡ unsigned.Bad → inRegisterAt s p ≡ decoded.Bad
+    unfolding inRegisterAt two next
+    in-register-none g = rw (register-ahead s p e .rest) (one-none s (λ o. Does (InRegister v o)) (register-gone s q g))
+
+    pub in-register-some : {o r : ℕ} → registerAt s q ≡ unsigned.Value o r → inRegisterAt s p ≡ decoded.Operation (Does (InRegister v o)) r
+    unfolding inRegisterAt two next
+    in-register-some {r = r} g =
+        let a = register-ahead s q g in
+        rw (register-ahead s p e .rest) (one-some s r (λ o. Does (InRegister v o)) (a .rest) (a .inside))
 
 -- ---- by the opcode
 

@@ -9,7 +9,7 @@ use Rattle.format.specs.Leb.{readLittle, fits64}
 use Rattle.format.specs.Rows.{readRegister, readOffset, readFactored, readSigned, one, two, readExtended}
 use Rattle.format.proofs.Positions.{unsignedFrom, signedFrom, decodedFrom}
 use Rattle.format.specs.declared.Row.{Row}
-use Rattle.format.specs.declared.Row.the-variants.{DefCfa, DefCfaOffset, DefCfaRegister, Offset, Restore, Undefined}
+use Rattle.format.specs.declared.Row.the-variants.{DefCfa, DefCfaOffset, DefCfaRegister, Offset, Restore, Undefined, SameValue, InRegister}
 use Rattle.format.specs.declared.Operation.the-variants.{Step, Does}
 use Rattle.format.specs.declared.Unsigned.{Unsigned}
 use Rattle.format.specs.declared.Signed.{Signed}
@@ -42,7 +42,7 @@ operandAt w b s p = signedFrom (length s) (readOperand w b (drop p s))
 
 -- the row of an opcode with a register, and with a register and an offset
 unfoldable pub registerRow : ℕ → ℕ → Row
-registerRow b reg = pick (eqb b 0x06) (Restore reg) (pick (eqb b 0x07) (Undefined reg) (DefCfaRegister reg))
+registerRow b reg = pick (eqb b 0x06) (Restore reg) (pick (eqb b 0x07) (Undefined reg) (pick (eqb b 0x08) (SameValue reg) (DefCfaRegister reg)))
 
 unfoldable pub pairRow : ℕ → ℕ → ℤ → Row
 pairRow b reg z = pick (eqb b 0x05) (Offset reg z) (pick (eqb b 0x11) (Offset reg z) (DefCfa reg z))
@@ -59,6 +59,9 @@ offsetRowAt w b s p = decodedFrom (length s) (one (readOperand w b (drop p s)) �
 
 unfoldable pub pairRowAt : ℕ → ℕ → List ℕ → ℕ → Decoded
 pairRowAt w b s p = decodedFrom (length s) (two (readOperand w b) (pairRow b) (drop p s))
+
+unfoldable pub inRegisterAt : List ℕ → ℕ → Decoded
+inRegisterAt s p = decodedFrom (length s) (two readRegister InRegister (drop p s))
 
 unfoldable pub savedAt : ℕ → ℕ → List ℕ → ℕ → Decoded
 savedAt w reg s p = decodedFrom (length s) (one (readFactored w (drop p s)) λ z. Does (Offset reg z))

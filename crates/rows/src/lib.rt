@@ -1,19 +1,19 @@
 // A row out of the lists, written, sized, and read back as an operation. Ported from rucc-asm/src/unwind.rs (row, saved, advance) of tamnd/rucc, changed: see NOTICE.
 ghost use mathlib.Core.Path.{_≡_};
-ghost use mathlib.Core.List.{[], _∷_};
+ghost use mathlib.Core.List.{[], _∷_, _++_};
 ghost use Prim.Native.Nat.{_+_, _*_, _^_, _≤_, _<_};
 ghost use lib.ListN.{length};
 ghost use lib.Dec.{T};
 ghost use lib.IntN.{pos, natAbs};
 ghost use mir.Syntax.{w32};
 ghost use mir.Val.{toZ};
-ghost use Rattle.format.specs.Lists.{rowStride, field, hasRegister, hasOffset, rowOf, rowOk, rowAt, rowOkAt};
+ghost use Rattle.format.specs.Lists.{rowStride, field, hasRegister, secondOperands, rowOf, rowOk, rowAt, rowOkAt};
 ghost use Rattle.format.proofs.Wrote.{Wrote};
 ghost use Rattle.format.specs.Leb.{uleb};
 ghost use Rattle.format.specs.Rows.{factor, unfactor, cfaBytes, withRegister, savedBytes, rowBytes, stepIn, stepForm, stepBytes, whole, wholeBelow, rowWhole, kindOf, regOf, offsetOf, sameRow};
 ghost use Rattle.format.specs.Prelude.{pick};
 ghost use Rattle.format.proofs.Positions.{operationAt};
-ghost use Rattle.rows.specs.Reads.{registerAt, plainAt, factoredAt, signedAt, held, operandAt, registerRow, pairRow, stepAt, registerRowAt, offsetRowAt, pairRowAt, savedAt, extendedAt};
+ghost use Rattle.rows.specs.Reads.{registerAt, plainAt, factoredAt, signedAt, held, operandAt, registerRow, pairRow, stepAt, registerRowAt, offsetRowAt, pairRowAt, inRegisterAt, savedAt, extendedAt};
 ghost use Rattle.rows.specs.Operands.{bySign, offsetBytes, stepOpcode, stepWidth};
 use format::Decoded;
 use format::Operation;
@@ -58,6 +58,8 @@ fn row_of(kind: u64, reg: u64, off: u64) -> Row
         5 => Row::Undefined(g),
         6 => Row::RememberState,
         7 => Row::RestoreState,
+        9 => Row::SameValue(g),
+        10 => Row::InRegister(g, off as u16),
         _ => Row::NegateRaState,
     }
 }
@@ -70,7 +72,7 @@ pub fn row_at(rows: &[u64], i: usize) -> Row
     row_of(rows[4 * i + 1], rows[4 * i + 2], rows[4 * i + 3])
 }
 
-// How many registers and how many offsets a kind may name.
+// How many registers and how many second operands a kind may name.
 fn registers(kind: u64) -> u64
     ensures { λ r. ⌜ r ≡ pick (hasRegister kind) 65536 1 ⌝ }
 {
@@ -80,17 +82,20 @@ fn registers(kind: u64) -> u64
         3 => 65536,
         4 => 65536,
         5 => 65536,
+        9 => 65536,
+        10 => 65536,
         _ => 1,
     }
 }
 
-fn offsets(kind: u64) -> u64
-    ensures { λ r. ⌜ r ≡ pick (hasOffset kind) (2 ^ 32) 1 ⌝ }
+fn second_operands(kind: u64) -> u64
+    ensures { λ r. ⌜ r ≡ secondOperands kind ⌝ }
 {
     match kind {
         0 => 4294967296,
         1 => 4294967296,
         3 => 4294967296,
+        10 => 65536,
         _ => 1,
     }
 }
@@ -99,13 +104,13 @@ fn offsets(kind: u64) -> u64
 fn row_shape(kind: u64, reg: u64, off: u64) -> bool
     ensures { λ r. ⌜ r ≡ rowOk kind reg off ⌝ }
 {
-    if 8 < kind {
+    if 10 < kind {
         return false;
     }
     if registers(kind) <= reg {
         return false;
     }
-    off < offsets(kind)
+    off < second_operands(kind)
 }
 
 // Row i is one.
@@ -169,10 +174,12 @@ pub fn row_whole(word: u64, r: Row) -> bool
         Row::RememberState => true,
         Row::RestoreState => true,
         Row::NegateRaState => true,
+        Row::SameValue(_) => true,
+        Row::InRegister(_, _) => true,
     }
 }
 
-// A row's kind, register (or 0) and offset (or 0).
+// A row's kind, register (or 0) and second operand (or 0).
 pub fn kind(r: Row) -> u64
     ensures { λ n. ⌜ n ≡ kindOf r ⌝ }
 {
@@ -186,6 +193,8 @@ pub fn kind(r: Row) -> u64
         Row::RememberState => 6,
         Row::RestoreState => 7,
         Row::NegateRaState => 8,
+        Row::SameValue(_) => 9,
+        Row::InRegister(_, _) => 10,
     }
 }
 
@@ -202,6 +211,8 @@ pub fn register(r: Row) -> u16
         Row::RememberState => 0,
         Row::RestoreState => 0,
         Row::NegateRaState => 0,
+        Row::SameValue(reg) => reg,
+        Row::InRegister(reg, _) => reg,
     }
 }
 
@@ -218,6 +229,8 @@ pub fn offset(r: Row) -> i64
         Row::RememberState => 0,
         Row::RestoreState => 0,
         Row::NegateRaState => 0,
+        Row::SameValue(_) => 0,
+        Row::InRegister(_, other) => other as i64,
     }
 }
 
@@ -323,6 +336,15 @@ fn named(out: &mut [u8], at: usize, code: u8, reg: u16) -> usize
     leb::uleb(out, a, reg as u64)
 }
 
+// A register whose value is in another one.
+fn in_register(out: &mut [u8], at: usize, reg: u16, other: u16) -> usize
+    requires { ⌜ at + 1 + length (uleb reg) + length (uleb other) ≤ length (now out) ⌝ }
+    ensures { λ r. ⌜ Wrote (now (out .entry)) (now (out .exit)) at r (0x09 ∷ (uleb reg ++ uleb other)) ⌝ }
+{
+    let a = named(out, at, 0x09, reg);
+    leb::uleb(out, a, other as u64)
+}
+
 // A register saved at an offset that is factored already.
 pub fn saved(out: &mut [u8], at: usize, reg: u16, z: i64) -> usize
     requires { ⌜ at + length (savedBytes reg z) ≤ length (now out) ⌝ }
@@ -360,6 +382,8 @@ pub fn row(out: &mut [u8], at: usize, word: u64, r: Row) -> usize
         Row::RememberState => leb::byte(out, at, 0x0a),
         Row::RestoreState => leb::byte(out, at, 0x0b),
         Row::NegateRaState => leb::byte(out, at, 0x2d),
+        Row::SameValue(reg) => named(out, at, 0x08, reg),
+        Row::InRegister(reg, other) => in_register(out, at, reg, other),
     }
 }
 
@@ -377,6 +401,10 @@ pub fn row_size(word: u64, r: Row) -> usize
         Row::RememberState => 1,
         Row::RestoreState => 1,
         Row::NegateRaState => 1,
+        Row::SameValue(reg) => 1 + leb::uleb_size(reg as u64),
+        Row::InRegister(reg, other) => 1
+            + leb::uleb_size(reg as u64)
+            + leb::uleb_size(other as u64),
     }
 }
 
@@ -562,6 +590,9 @@ fn register_row(b: u8, reg: u16) -> Row
     if b == 0x07 {
         return Row::Undefined(reg);
     }
+    if b == 0x08 {
+        return Row::SameValue(reg);
+    }
     Row::DefCfaRegister(reg)
 }
 
@@ -623,6 +654,22 @@ fn pair_row_at(s: &[u8], at: usize, word: u64, b: u8) -> Decoded
     Decoded::Operation(Operation::Does(pair_row(b, reg as u16, z)), past)
 }
 
+// Two registers: the second holds the value of the first.
+fn in_register_at(s: &[u8], at: usize) -> Decoded
+    ensures { λ r. ⌜ r ≡ inRegisterAt (now (s .entry)) at ⌝ }
+{
+    let Unsigned::Value(reg, next) = register_at(s, at) else {
+        return Decoded::Bad;
+    };
+    let Unsigned::Value(other, past) = register_at(s, next) else {
+        return Decoded::Bad;
+    };
+    Decoded::Operation(
+        Operation::Does(Row::InRegister(reg as u16, other as u16)),
+        past,
+    )
+}
+
 // A saved register whose number was in the opcode.
 fn saved_at(s: &[u8], at: usize, word: u64, reg: u16) -> Decoded
     requires { ⌜ 0 < word ⌝ }
@@ -647,6 +694,8 @@ fn extended_at(s: &[u8], at: usize, word: u64, b: u8) -> Decoded
         0x05 => pair_row_at(s, at, word, b),
         0x06 => register_row_at(s, at, b),
         0x07 => register_row_at(s, at, b),
+        0x08 => register_row_at(s, at, b),
+        0x09 => in_register_at(s, at),
         0x0a => Decoded::Operation(Operation::Does(Row::RememberState), at),
         0x0b => Decoded::Operation(Operation::Does(Row::RestoreState), at),
         0x0c => pair_row_at(s, at, word, b),

@@ -117,6 +117,8 @@ pub fn step(o: Order, first: bool, row: Row) -> Stepped
         Row::RememberState => opens(o),
         Row::RestoreState => closes(o, first),
         Row::NegateRaState => passes(true, o, first, o.framed),
+        Row::SameValue(_) => passes(true, o, first, o.framed),
+        Row::InRegister(_, _) => passes(true, o, first, o.framed),
     }
 }
 

@@ -11,7 +11,7 @@ use lib.Seq.{drop-cons}
 use Rattle.format.specs.Prelude.{pick}
 use Rattle.format.specs.declared.Machine.{Machine}
 use Rattle.format.specs.declared.Row.{Row}
-use Rattle.format.specs.declared.Row.the-variants.{DefCfa, DefCfaOffset, DefCfaRegister, Offset, Restore, Undefined, RememberState, RestoreState, NegateRaState}
+use Rattle.format.specs.declared.Row.the-variants.{DefCfa, DefCfaOffset, DefCfaRegister, Offset, Restore, Undefined, RememberState, RestoreState, NegateRaState, SameValue, InRegister}
 use Rattle.format.specs.Rows.{kindOf}
 use Rattle.format.specs.Headers.{keyOf}
 use Rattle.lists.specs.declared.Extent.{Extent}
@@ -21,7 +21,7 @@ use Rattle.search.specs.Owners.{kindIn, leadingIn}
 use Rattle.search.specs.Chains.{mixed, rowsDigest, kindNumber, digestOf}
 use Rattle.search.proofs.KindLaws.{kind-means}
 
-pub kind-low : (r : Row) → kindOf r ≤ 8
+pub kind-low : (r : Row) → kindOf r ≤ 10
 unfolding kindOf
 kind-low (DefCfa reg z) = omega arith
 kind-low (DefCfaOffset z) = omega arith
@@ -32,6 +32,8 @@ kind-low (Undefined reg) = omega arith
 kind-low RememberState = omega arith
 kind-low RestoreState = omega arith
 kind-low NegateRaState = omega arith
+kind-low (SameValue reg) = omega arith
+kind-low (InRegister reg other) = omega arith
 
 -- ---- kinds, by the code's tests
 

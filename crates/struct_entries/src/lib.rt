@@ -23,7 +23,8 @@ use format::Outcome;
 use rules::Stepped;
 use unwind::Written;
 
-// A row of a function: its offset, its kind (0 to 8 in document 01's order) and its operands; one that the kind does not have is 0.
+// A row of a function: its offset, its kind (0 to 10, in document 01's order and then W-207's) and its operands; one that the kind does not have
+// is 0. The value of an InRegister is the other register, 0 to 65,535.
 #[repr(C)]
 pub struct RowAt {
     pub offset: u64,

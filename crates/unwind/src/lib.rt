@@ -372,7 +372,7 @@ struct Address {
 
 struct Saving {
     kind: u64,
-    offset: u64,
+    value: u64,
 }
 
 pub fn number(b: bool) -> u64
@@ -409,14 +409,19 @@ fn address_of(c: CfaRule) -> Address
 }
 
 fn saving_of(r: Rule) -> Saving
-    ensures { λ n. ⌜ n .kind ∷ n .offset ∷ [] ≡ ruleNumbers r ⌝ }
+    ensures { λ n. ⌜ n .kind ∷ n .value ∷ [] ≡ ruleNumbers r ⌝ }
 {
     match r {
-        Rule::Unstated => Saving { kind: 0, offset: 0 },
-        Rule::Undefined => Saving { kind: 1, offset: 0 },
+        Rule::Unstated => Saving { kind: 0, value: 0 },
+        Rule::Undefined => Saving { kind: 1, value: 0 },
         Rule::Saved(z) => Saving {
             kind: 2,
-            offset: bits(z),
+            value: bits(z),
+        },
+        Rule::SameValue => Saving { kind: 3, value: 0 },
+        Rule::InRegister(reg) => Saving {
+            kind: 4,
+            value: reg as u64,
         },
     }
 }
@@ -432,7 +437,7 @@ fn rules_numbers(c: CfaRule, r: Rule, signing: bool) -> Numbers
         frame_register: a.register,
         frame_offset: a.offset,
         rule: b.kind,
-        rule_value: b.offset,
+        rule_value: b.value,
         signing: number(signing),
     }
 }

@@ -483,13 +483,19 @@ fn frame(out: &mut [u8], at: usize, f: CfaRule, x86_64: bool) -> usize {
     }
 }
 
-fn rule(out: &mut [u8], at: usize, r: Rule) -> usize {
+fn rule(out: &mut [u8], at: usize, r: Rule, x86_64: bool) -> usize {
     match r {
         Rule::Unstated => text(out, at, b": no rule\n"),
         Rule::Undefined => text(out, at, b": undefined, the caller's value is lost\n"),
         Rule::Saved(z) => {
             let a = text(out, at, b": saved at the frame address");
             let b = shown::offset(out, a, z);
+            byte(out, b, b'\n')
+        }
+        Rule::SameValue => text(out, at, b": same value, as in the caller\n"),
+        Rule::InRegister(reg) => {
+            let a = text(out, at, b": in ");
+            let b = shown::register(out, a, reg as u64, x86_64);
             byte(out, b, b'\n')
         }
     }
@@ -504,7 +510,7 @@ fn register(out: &mut [u8], at: usize, s: &[u8], l: Located, v: View, p: u64, re
     match entries::rules(s, l, v.word, p, reg as u16) {
         Reading::Answered(rules) => {
             let r = rules.rule;
-            rule(out, a, r)
+            rule(out, a, r, v.x86_64)
         }
         Reading::Refused(_) => a,
     }

@@ -7,10 +7,10 @@ use Rattle.listing.proofs.rules_at.Statement.{statement}
 use Rattle.listing.proofs.rules_at.Tie as tie
 
 abbrev Inv-loop : tie.InvT-loop
-Inv-loop out₀ at s l word p regs past₀ i₀ out past i = length out ≡ length out₀
+Inv-loop out₀ at s l v p regs past₀ i₀ out past i = length out ≡ length out₀
 
 abbrev μ-loop : tie.MeasureT-loop
-μ-loop out₀ at s l word p regs past₀ i₀ out past i = length regs - i
+μ-loop out₀ at s l v p regs past₀ i₀ out past i = length regs - i
 
 loop-holds : tie.Need-loop-holds Inv-loop μ-loop
 loop-holds c = search needs

@@ -17,7 +17,7 @@ enum-known-z : tie.Need-enum-known-z
 enum-known-z c = search needs
 
 returns : tie.Need-returns
-returns c = let s = c .before .before .before in toZ-ofZ (s .fits .sofar) ∙ stays (s .args .sofar) _ (s .args .i) (c .before .row-at .ensures) (other-kind (0 ∷ 2 ∷ 3 ∷ 4 ∷ 5 ∷ 6 ∷ 7 ∷ 8 ∷ []) 1 (c .before .row-at .result) tt (c .match .keys2))
+returns c = let s = c .before .before .before in toZ-ofZ (s .fits .sofar) ∙ stays (s .args .sofar) _ (s .args .i) (c .before .row-at .ensures) (other-kind (0 ∷ 2 ∷ 3 ∷ 4 ∷ 5 ∷ 6 ∷ 7 ∷ 8 ∷ 9 ∷ 10 ∷ []) 1 (c .before .row-at .result) tt (c .match .keys2))
 
 returns-2 : tie.Need-returns-2
 returns-2 c =

@@ -7,7 +7,7 @@ use Rattle.format.specs.Rows.{readExtended}
 use Rattle.format.proofs.Positions.{decodedFrom}
 use Rattle.format.specs.declared.Row.the-variants.{RememberState, RestoreState, NegateRaState}
 use Rattle.format.specs.declared.Operation.the-variants.{Nop, Does}
-use Rattle.rows.specs.Reads.{readOperand, registerRow, pairRow, stepAt, registerRowAt, offsetRowAt, pairRowAt, extendedAt}
+use Rattle.rows.specs.Reads.{readOperand, registerRow, pairRow, stepAt, registerRowAt, offsetRowAt, pairRowAt, inRegisterAt, extendedAt}
 use Rattle.rows.proofs.Operations.{there}
 use Rattle.rows.proofs.extended_at.Statement.{statement}
 use Rattle.rows.proofs.extended_at.Tie as tie
@@ -35,6 +35,12 @@ pair-row-at-requires-2 c κs = search needs
 
 register-row-at-requires-3 : tie.Need-register-row-at-requires-3
 register-row-at-requires-3 c κs = search needs
+
+register-row-at-requires-4 : tie.Need-register-row-at-requires-4
+register-row-at-requires-4 c κs = search needs
+
+in-register-at-requires : tie.Need-in-register-at-requires
+in-register-at-requires c κs = search needs
 
 offset-row-at-requires : tie.Need-offset-row-at-requires
 offset-row-at-requires c κs = search needs
@@ -77,46 +83,55 @@ unfolding extendedAt readExtended pick registerRowAt registerRow
 returns-7 c = rw (c .before .match .keys7) (rw (c .before .match .keys7) at (c .register-row-at2 .ensures))
 
 returns-8 : tie.Need-returns-8
-unfolding extendedAt readExtended pick
-returns-8 c = rw (c .match .keys8) (sym (there (c .before .before .args .s .now) (c .before .before .args .at) (Does RememberState) (c .before .before .pre .1)))
+unfolding extendedAt readExtended pick registerRowAt registerRow
+returns-8 c = rw (c .before .match .keys8) (rw (c .before .match .keys8) at (c .register-row-at3 .ensures))
 
 returns-9 : tie.Need-returns-9
-unfolding extendedAt readExtended pick
-returns-9 c = rw (c .match .keys9) (sym (there (c .before .before .args .s .now) (c .before .before .args .at) (Does RestoreState) (c .before .before .pre .1)))
+unfolding extendedAt readExtended pick inRegisterAt
+returns-9 c = rw (c .before .match .keys9) (c .in-register-at .ensures)
 
 returns-10 : tie.Need-returns-10
-unfolding extendedAt readExtended pick pairRowAt readOperand pairRow
-returns-10 c = rw (c .before .match .keys10) (rw (c .before .match .keys10) at (c .pair-row-at2 .ensures))
+unfolding extendedAt readExtended pick
+returns-10 c = rw (c .match .keys10) (sym (there (c .before .before .args .s .now) (c .before .before .args .at) (Does RememberState) (c .before .before .pre .1)))
 
 returns-11 : tie.Need-returns-11
-unfolding extendedAt readExtended pick registerRowAt registerRow
-returns-11 c = rw (c .before .match .keys11) (rw (c .before .match .keys11) at (c .register-row-at3 .ensures))
+unfolding extendedAt readExtended pick
+returns-11 c = rw (c .match .keys11) (sym (there (c .before .before .args .s .now) (c .before .before .args .at) (Does RestoreState) (c .before .before .pre .1)))
 
 returns-12 : tie.Need-returns-12
-unfolding extendedAt readExtended pick offsetRowAt readOperand
-returns-12 c = rw (c .before .match .keys12) (rw (c .before .match .keys12) at (c .offset-row-at .ensures))
+unfolding extendedAt readExtended pick pairRowAt readOperand pairRow
+returns-12 c = rw (c .before .match .keys12) (rw (c .before .match .keys12) at (c .pair-row-at2 .ensures))
 
 returns-13 : tie.Need-returns-13
-unfolding extendedAt readExtended pick pairRowAt readOperand pairRow
-returns-13 c = rw (c .before .match .keys13) (rw (c .before .match .keys13) at (c .pair-row-at3 .ensures))
+unfolding extendedAt readExtended pick registerRowAt registerRow
+returns-13 c = rw (c .before .match .keys13) (rw (c .before .match .keys13) at (c .register-row-at4 .ensures))
 
 returns-14 : tie.Need-returns-14
-unfolding extendedAt readExtended pick pairRowAt readOperand pairRow
-returns-14 c = rw (c .before .match .keys14) (rw (c .before .match .keys14) at (c .pair-row-at4 .ensures))
+unfolding extendedAt readExtended pick offsetRowAt readOperand
+returns-14 c = rw (c .before .match .keys14) (rw (c .before .match .keys14) at (c .offset-row-at .ensures))
 
 returns-15 : tie.Need-returns-15
-unfolding extendedAt readExtended pick offsetRowAt readOperand
-returns-15 c = rw (c .before .match .keys15) (rw (c .before .match .keys15) at (c .offset-row-at2 .ensures))
+unfolding extendedAt readExtended pick pairRowAt readOperand pairRow
+returns-15 c = rw (c .before .match .keys15) (rw (c .before .match .keys15) at (c .pair-row-at3 .ensures))
 
 returns-16 : tie.Need-returns-16
-unfolding extendedAt readExtended pick
-returns-16 c = rw (c .match .keys16) (sym (there (c .before .before .args .s .now) (c .before .before .args .at) (Does NegateRaState) (c .before .before .pre .1)))
+unfolding extendedAt readExtended pick pairRowAt readOperand pairRow
+returns-16 c = rw (c .before .match .keys16) (rw (c .before .match .keys16) at (c .pair-row-at4 .ensures))
 
 returns-17 : tie.Need-returns-17
+unfolding extendedAt readExtended pick offsetRowAt readOperand
+returns-17 c = rw (c .before .match .keys17) (rw (c .before .match .keys17) at (c .offset-row-at2 .ensures))
+
+returns-18 : tie.Need-returns-18
+unfolding extendedAt readExtended pick
+returns-18 c = rw (c .match .keys18) (sym (there (c .before .before .args .s .now) (c .before .before .args .at) (Does NegateRaState) (c .before .before .pre .1)))
+
+returns-19 : tie.Need-returns-19
 unfolding extendedAt readExtended pick decodedFrom
-returns-17 c =
+returns-19 c =
     let n = c .match .rest in
-    simp (ne-eqb (c .before .before .args .b) 0x0 (n .0 .0 .0 .0 .0 .0 .0 .0 .0 .0 .0 .0 .0 .0 .0 .1), ne-eqb (c .before .before .args .b) 0x2 (n .0 .0 .0 .0 .0 .0 .0 .0 .0 .0 .0 .0 .0 .0 .1), ne-eqb (c .before .before .args .b) 0x3 (n .0 .0 .0 .0 .0 .0 .0 .0 .0 .0 .0 .0 .0 .1), ne-eqb (c .before .before .args .b) 0x4 (n .0 .0 .0 .0 .0 .0 .0 .0 .0 .0 .0 .0 .1), ne-eqb (c .before .before .args .b) 0x5 (n .0 .0 .0 .0 .0 .0 .0 .0 .0 .0 .0 .1), ne-eqb (c .before .before .args .b) 0x6 (n .0 .0 .0 .0 .0 .0 .0 .0 .0 .0 .1), ne-eqb (c .before .before .args .b) 0x7 (n .0 .0 .0 .0 .0 .0 .0 .0 .0 .1), ne-eqb (c .before .before .args .b) 0xa (n .0 .0 .0 .0 .0 .0 .0 .0 .1), ne-eqb (c .before .before .args .b) 0xb (n .0 .0 .0 .0 .0 .0 .0 .1), ne-eqb (c .before .before .args .b) 0xc (n .0 .0 .0 .0 .0 .0 .1), ne-eqb (c .before .before .args .b) 0xd (n .0 .0 .0 .0 .0 .1), ne-eqb (c .before .before .args .b) 0xe (n .0 .0 .0 .0 .1), ne-eqb (c .before .before .args .b) 0x11 (n .0 .0 .0 .1), ne-eqb (c .before .before .args .b) 0x12 (n .0 .0 .1), ne-eqb (c .before .before .args .b) 0x13 (n .0 .1), ne-eqb (c .before .before .args .b) 0x2d (n .1))
+    let b = c .before .before .args .b in
+    simp (ne-eqb b 0x0 (n .0 .0 .0 .0 .0 .0 .0 .0 .0 .0 .0 .0 .0 .0 .0 .0 .0 .1), ne-eqb b 0x2 (n .0 .0 .0 .0 .0 .0 .0 .0 .0 .0 .0 .0 .0 .0 .0 .0 .1), ne-eqb b 0x3 (n .0 .0 .0 .0 .0 .0 .0 .0 .0 .0 .0 .0 .0 .0 .0 .1), ne-eqb b 0x4 (n .0 .0 .0 .0 .0 .0 .0 .0 .0 .0 .0 .0 .0 .0 .1), ne-eqb b 0x5 (n .0 .0 .0 .0 .0 .0 .0 .0 .0 .0 .0 .0 .0 .1), ne-eqb b 0x6 (n .0 .0 .0 .0 .0 .0 .0 .0 .0 .0 .0 .0 .1), ne-eqb b 0x7 (n .0 .0 .0 .0 .0 .0 .0 .0 .0 .0 .0 .1), ne-eqb b 0x8 (n .0 .0 .0 .0 .0 .0 .0 .0 .0 .0 .1), ne-eqb b 0x9 (n .0 .0 .0 .0 .0 .0 .0 .0 .0 .1), ne-eqb b 0xa (n .0 .0 .0 .0 .0 .0 .0 .0 .1), ne-eqb b 0xb (n .0 .0 .0 .0 .0 .0 .0 .1), ne-eqb b 0xc (n .0 .0 .0 .0 .0 .0 .1), ne-eqb b 0xd (n .0 .0 .0 .0 .0 .1), ne-eqb b 0xe (n .0 .0 .0 .0 .1), ne-eqb b 0x11 (n .0 .0 .0 .1), ne-eqb b 0x12 (n .0 .0 .1), ne-eqb b 0x13 (n .0 .1), ne-eqb b 0x2d (n .1))
 
 pub extended-at-spec : {M : Type 1} → statement M
 extended-at-spec =
@@ -128,8 +143,10 @@ extended-at-spec =
     pair-row-at-requires
     register-row-at-requires
     register-row-at-requires-2
-    pair-row-at-requires-2
     register-row-at-requires-3
+    in-register-at-requires
+    pair-row-at-requires-2
+    register-row-at-requires-4
     offset-row-at-requires
     pair-row-at-requires-3
     pair-row-at-requires-4
@@ -150,4 +167,6 @@ extended-at-spec =
     returns-14
     returns-15
     returns-16
-    returns-17)
+    returns-17
+    returns-18
+    returns-19)

@@ -31,6 +31,12 @@ enum-told-8 c = search needs
 enum-told-9 : tie.Need-enum-told-9
 enum-told-9 c = search needs
 
+enum-told-10 : tie.Need-enum-told-10
+enum-told-10 c = search needs
+
+enum-told-11 : tie.Need-enum-told-11
+enum-told-11 c = search needs
+
 returns : tie.Need-returns
 unfolding kindOf
 returns c = rw (c .enum-told .given .1)
@@ -67,6 +73,14 @@ returns-9 : tie.Need-returns-9
 unfolding kindOf
 returns-9 c = rw (c .enum-told9 .given .1)
 
+returns-10 : tie.Need-returns-10
+unfolding kindOf
+returns-10 c = rw (c .enum-told10 .given .1)
+
+returns-11 : tie.Need-returns-11
+unfolding kindOf
+returns-11 c = rw (c .enum-told11 .given .1)
+
 pub kind-spec : {M : Type 1} → statement M
 kind-spec =
     tie.close
@@ -80,6 +94,8 @@ kind-spec =
     enum-told-7
     enum-told-8
     enum-told-9
+    enum-told-10
+    enum-told-11
     returns
     returns-2
     returns-3
@@ -88,4 +104,6 @@ kind-spec =
     returns-6
     returns-7
     returns-8
-    returns-9)
+    returns-9
+    returns-10
+    returns-11)

@@ -1,5 +1,7 @@
 -- `rows::offset` meets its contract.
 use native.Mathlib.Omega.{arith}
+use mir.Syntax.{w64}
+use mir.Facts.{toZ-pos}
 use borrow.Author.Needs.{needs}
 use Rattle.format.specs.Rows.{offsetOf}
 use Rattle.rows.proofs.Signs.{passed}
@@ -32,6 +34,15 @@ enum-told-5 c = search needs
 
 enum-told-6 : tie.Need-enum-told-6
 enum-told-6 c = search needs
+
+enum-told-7 : tie.Need-enum-told-7
+enum-told-7 c = search needs
+
+enum-known-r-4 : tie.Need-enum-known-r-4
+enum-known-r-4 c = search needs
+
+cast-result : tie.Need-cast-result
+cast-result c = search needs
 
 returns : tie.Need-returns
 unfolding offsetOf
@@ -69,6 +80,15 @@ returns-9 : tie.Need-returns-9
 unfolding offsetOf
 returns-9 c = rw (c .enum-told6 .given .1)
 
+returns-10 : tie.Need-returns-10
+unfolding offsetOf
+returns-10 c = rw (c .enum-told7 .given .1)
+
+returns-11 : tie.Need-returns-11
+unfolding offsetOf
+returns-11 c =
+    rw (c .before .r4 .given .1) (toZ-pos w64 {n = c .before .r4 .given .0 .1 .0} (omega (arith, c .known-told4 .given)))
+
 pub offset-spec : {M : Type 1} → statement M
 offset-spec =
     tie.close
@@ -82,6 +102,9 @@ offset-spec =
     enum-told-4
     enum-told-5
     enum-told-6
+    enum-told-7
+    enum-known-r-4
+    cast-result
     returns
     returns-2
     returns-3
@@ -90,4 +113,6 @@ offset-spec =
     returns-6
     returns-7
     returns-8
-    returns-9)
+    returns-9
+    returns-10
+    returns-11)

@@ -31,6 +31,12 @@ enum-told-3 c = search needs
 enum-told-4 : tie.Need-enum-told-4
 enum-told-4 c = search needs
 
+enum-known-r-6 : tie.Need-enum-known-r-6
+enum-known-r-6 c = search needs
+
+enum-known-r-7 : tie.Need-enum-known-r-7
+enum-known-r-7 c = search needs
+
 returns : tie.Need-returns
 unfolding regOf
 returns c = rw (c .before .r .given .1)
@@ -67,6 +73,14 @@ returns-9 : tie.Need-returns-9
 unfolding regOf
 returns-9 c = rw (c .enum-told4 .given .1)
 
+returns-10 : tie.Need-returns-10
+unfolding regOf
+returns-10 c = rw (c .before .r6 .given .1)
+
+returns-11 : tie.Need-returns-11
+unfolding regOf
+returns-11 c = rw (c .before .r7 .given .1)
+
 pub register-spec : {M : Type 1} → statement M
 register-spec =
     tie.close
@@ -80,6 +94,8 @@ register-spec =
     enum-told-2
     enum-told-3
     enum-told-4
+    enum-known-r-6
+    enum-known-r-7
     returns
     returns-2
     returns-3
@@ -88,4 +104,6 @@ register-spec =
     returns-6
     returns-7
     returns-8
-    returns-9)
+    returns-9
+    returns-10
+    returns-11)

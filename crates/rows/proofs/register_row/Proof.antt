@@ -14,7 +14,15 @@ returns-2 c = rw (if-ne (c .before .before .args .b) 0x06 _ _ (c .before .if1 .l
 
 returns-3 : tie.Need-returns-3
 unfolding registerRow
-returns-3 c = rw (if-ne (c .before .before .args .b) 0x06 _ _ (c .before .if1 .left), if-ne (c .before .before .args .b) 0x07 _ _ (c .if2 .left))
+returns-3 c =
+    let b = c .before .before .before .args .b in
+    rw (if-ne b 0x06 _ _ (c .before .before .if1 .left), if-ne b 0x07 _ _ (c .before .if2 .left), if-eq b 0x08 _ _ (c .if3 .taken))
+
+returns-4 : tie.Need-returns-4
+unfolding registerRow
+returns-4 c =
+    let b = c .before .before .before .args .b in
+    rw (if-ne b 0x06 _ _ (c .before .before .if1 .left), if-ne b 0x07 _ _ (c .before .if2 .left), if-ne b 0x08 _ _ (c .if3 .left))
 
 pub register-row-spec : {M : Type 1} → statement M
-register-row-spec = tie.close (tie.spec returns returns-2 returns-3)
+register-row-spec = tie.close (tie.spec returns returns-2 returns-3 returns-4)

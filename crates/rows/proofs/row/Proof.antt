@@ -1,6 +1,7 @@
 -- `rows::row` meets its contract.
 use mathlib.Core.Path.{ap, _∙_}
 use native.Mathlib.Omega.{arith}
+use lib.ListN.{length-append}
 use borrow.Author.Needs.{needs}
 use Rattle.format.specs.Rows.{factor, rowBytes}
 use Rattle.rows.proofs.Signs.{passed}
@@ -73,6 +74,20 @@ byte-requires-3 : tie.Need-byte-requires-3
 unfolding rowBytes
 byte-requires-3 c κs = let h = rw (c .before .enum-told3 .given .1) at (c .before .before .before .before .pre .2) in search needs
 
+enum-known-r-7 : tie.Need-enum-known-r-7
+enum-known-r-7 c = search needs
+
+named-requires-3 : tie.Need-named-requires-3
+unfolding rowBytes
+named-requires-3 c κs = let h = rw (c .before .before .r7 .given .1) at (c .before .before .before .before .before .pre .2) in search needs
+
+enum-known-r-8 : tie.Need-enum-known-r-8
+enum-known-r-8 c = search needs
+
+in-register-requires : tie.Need-in-register-requires
+unfolding rowBytes
+in-register-requires c κs = let h = simp length-append at (rw (c .before .before .r8 .given .1) at (c .before .before .before .before .before .pre .2)) in search needs
+
 same-length : tie.Need-same-length
 same-length c = search needs
 
@@ -136,6 +151,20 @@ returns-9 : tie.Need-returns-9
 unfolding rowBytes
 returns-9 c = rw (c .before .before .before .before .enum-told3 .given .1) (c .before .before .byte3 .ensures)
 
+same-length-10 : tie.Need-same-length-10
+same-length-10 c = search needs
+
+returns-10 : tie.Need-returns-10
+unfolding rowBytes
+returns-10 c = rw (c .before .before .before .before .before .r7 .given .1) (c .before .before .named3 .ensures)
+
+same-length-11 : tie.Need-same-length-11
+same-length-11 c = search needs
+
+returns-11 : tie.Need-returns-11
+unfolding rowBytes
+returns-11 c = rw (c .before .before .before .before .before .r8 .given .1) (c .before .before .in-register .ensures)
+
 pub row-spec : {M : Type 1} → statement M
 row-spec =
     tie.close
@@ -159,6 +188,10 @@ row-spec =
     byte-requires-2
     enum-told-3
     byte-requires-3
+    enum-known-r-7
+    named-requires-3
+    enum-known-r-8
+    in-register-requires
     same-length
     returns
     same-length-2
@@ -176,4 +209,8 @@ row-spec =
     same-length-8
     returns-8
     same-length-9
-    returns-9)
+    returns-9
+    same-length-10
+    returns-10
+    same-length-11
+    returns-11)

@@ -3,15 +3,20 @@ use borrow.Author.Tests.{ne-eqb}
 use Rattle.format.specs.Prelude.{pick}
 use Rattle.format.specs.Lists.{rowOf}
 use Rattle.rows.proofs.Signs.{passed}
-use Rattle.rows.proofs.Lists.{row-small}
+use Rattle.format.proofs.ListLaws.{row-numbers}
 use Rattle.rows.proofs.row_of.Statement.{statement}
 use Rattle.rows.proofs.row_of.Tie as tie
 
 cast-g : tie.Need-cast-g
-cast-g c = record { fits = row-small (c .args .kind) (c .args .reg) (c .args .off) (c .pre) .1 }
+cast-g c = record { fits = row-numbers (c .args .kind) (c .args .reg) (c .args .off) (c .pre) .reg-low }
 
 signed32-requires : tie.Need-signed32-requires
-signed32-requires c κs = row-small (c .args .kind) (c .args .reg) (c .args .off) (c .pre) .2
+signed32-requires c κs = row-numbers (c .args .kind) (c .args .reg) (c .args .off) (c .pre) .off-low
+
+cast-t7 : tie.Need-cast-t7
+cast-t7 c =
+    let a = c .before .before .args in
+    record { fits = row-numbers (a .kind) (a .reg) (a .off) (c .before .before .pre) .other-low (c .match .keys10) }
 
 returns : tie.Need-returns
 unfolding rowOf pick
@@ -47,10 +52,18 @@ returns-8 c = rw (c .match .keys8)
 
 returns-9 : tie.Need-returns-9
 unfolding rowOf pick
-returns-9 c =
+returns-9 c = rw (c .match .keys9)
+
+returns-10 : tie.Need-returns-10
+unfolding rowOf pick
+returns-10 c = rw (c .match .keys10)
+
+returns-11 : tie.Need-returns-11
+unfolding rowOf pick
+returns-11 c =
     let k = c .before .before .args .kind in
     let n = c .match .rest in
-    simp (ne-eqb k 0 (n .0 .0 .0 .0 .0 .0 .0 .1), ne-eqb k 1 (n .0 .0 .0 .0 .0 .0 .1), ne-eqb k 2 (n .0 .0 .0 .0 .0 .1), ne-eqb k 3 (n .0 .0 .0 .0 .1), ne-eqb k 4 (n .0 .0 .0 .1), ne-eqb k 5 (n .0 .0 .1), ne-eqb k 6 (n .0 .1), ne-eqb k 7 (n .1))
+    simp (ne-eqb k 0 (n .0 .0 .0 .0 .0 .0 .0 .0 .0 .1), ne-eqb k 1 (n .0 .0 .0 .0 .0 .0 .0 .0 .1), ne-eqb k 2 (n .0 .0 .0 .0 .0 .0 .0 .1), ne-eqb k 3 (n .0 .0 .0 .0 .0 .0 .1), ne-eqb k 4 (n .0 .0 .0 .0 .0 .1), ne-eqb k 5 (n .0 .0 .0 .0 .1), ne-eqb k 6 (n .0 .0 .0 .1), ne-eqb k 7 (n .0 .0 .1), ne-eqb k 9 (n .0 .1), ne-eqb k 10 (n .1))
 
 pub row-of-spec : {M : Type 1} → statement M
 row-of-spec =
@@ -58,6 +71,7 @@ row-of-spec =
     (tie.spec
     cast-g
     signed32-requires
+    cast-t7
     returns
     returns-2
     returns-3
@@ -66,4 +80,6 @@ row-of-spec =
     returns-6
     returns-7
     returns-8
-    returns-9)
+    returns-9
+    returns-10
+    returns-11)

@@ -91,6 +91,42 @@ enum-told-2 c = search needs
 enum-told-3 : tie.Need-enum-told-3
 enum-told-3 c = search needs
 
+enum-known-r-7 : tie.Need-enum-known-r-7
+enum-known-r-7 c = search needs
+
+cast-uleb-size-4 : tie.Need-cast-uleb-size-4
+cast-uleb-size-4 c = search needs
+
+uleb-size-requires-4 : tie.Need-uleb-size-requires-4
+uleb-size-requires-4 c κs = search needs
+
+add-result-6 : tie.Need-add-result-6
+add-result-6 c = omega (arith, uleb-ten (c .before .before .r7 .given .0 .0) (omega (arith, c .before .known-told7 .given)))
+
+enum-known-r-8 : tie.Need-enum-known-r-8
+enum-known-r-8 c = search needs
+
+cast-uleb-size-5 : tie.Need-cast-uleb-size-5
+cast-uleb-size-5 c = search needs
+
+uleb-size-requires-5 : tie.Need-uleb-size-requires-5
+uleb-size-requires-5 c κs = search needs
+
+add-result-7 : tie.Need-add-result-7
+add-result-7 c = omega (arith, uleb-ten (c .before .before .r8 .given .0 .0) (omega (arith, c .before .known-told8 .given)))
+
+cast-uleb-size-6 : tie.Need-cast-uleb-size-6
+cast-uleb-size-6 c = search needs
+
+uleb-size-requires-6 : tie.Need-uleb-size-requires-6
+uleb-size-requires-6 c κs = search needs
+
+add-result-8 : tie.Need-add-result-8
+add-result-8 c =
+    let k = c .before .before .known-told8 .given in
+    let r = c .before .before .before .r8 .given .0 in
+    omega (arith, uleb-ten (r .0) (omega (arith, k)), uleb-ten (r .1 .0) (omega (arith, k)))
+
 returns : tie.Need-returns
 unfolding rowBytes
 returns c =
@@ -131,6 +167,14 @@ returns-9 : tie.Need-returns-9
 unfolding rowBytes
 returns-9 c = rw (c .enum-told3 .given .1)
 
+returns-10 : tie.Need-returns-10
+unfolding rowBytes
+returns-10 c = rw (c .before .before .r7 .given .1) (search needs)
+
+returns-11 : tie.Need-returns-11
+unfolding rowBytes
+returns-11 c = rw (c .before .before .before .r8 .given .1) (simp length-append (search needs))
+
 pub row-size-spec : {M : Type 1} → statement M
 row-size-spec =
     tie.close
@@ -160,6 +204,17 @@ row-size-spec =
     enum-told
     enum-told-2
     enum-told-3
+    enum-known-r-7
+    cast-uleb-size-4
+    uleb-size-requires-4
+    add-result-6
+    enum-known-r-8
+    cast-uleb-size-5
+    uleb-size-requires-5
+    add-result-7
+    cast-uleb-size-6
+    uleb-size-requires-6
+    add-result-8
     returns
     returns-2
     returns-3
@@ -168,4 +223,6 @@ row-size-spec =
     returns-6
     returns-7
     returns-8
-    returns-9)
+    returns-9
+    returns-10
+    returns-11)

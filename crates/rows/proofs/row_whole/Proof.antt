@@ -42,6 +42,12 @@ enum-told-5 c = search needs
 enum-told-6 : tie.Need-enum-told-6
 enum-told-6 c = search needs
 
+enum-told-7 : tie.Need-enum-told-7
+enum-told-7 c = search needs
+
+enum-told-8 : tie.Need-enum-told-8
+enum-told-8 c = search needs
+
 returns : tie.Need-returns
 unfolding rowWhole
 returns c =
@@ -84,6 +90,14 @@ returns-9 : tie.Need-returns-9
 unfolding rowWhole
 returns-9 c = rw (c .enum-told6 .given .1)
 
+returns-10 : tie.Need-returns-10
+unfolding rowWhole
+returns-10 c = rw (c .enum-told7 .given .1)
+
+returns-11 : tie.Need-returns-11
+unfolding rowWhole
+returns-11 c = rw (c .enum-told8 .given .1)
+
 pub row-whole-spec : {M : Type 1} → statement M
 row-whole-spec =
     tie.close
@@ -100,6 +114,8 @@ row-whole-spec =
     enum-told-4
     enum-told-5
     enum-told-6
+    enum-told-7
+    enum-told-8
     returns
     returns-2
     returns-3
@@ -108,4 +124,6 @@ row-whole-spec =
     returns-6
     returns-7
     returns-8
-    returns-9)
+    returns-9
+    returns-10
+    returns-11)

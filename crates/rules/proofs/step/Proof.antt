@@ -62,6 +62,18 @@ enum-told-9 c = search needs
 passes-requires-7 : tie.Need-passes-requires-7
 passes-requires-7 c κs = search needs
 
+enum-told-10 : tie.Need-enum-told-10
+enum-told-10 c = search needs
+
+passes-requires-8 : tie.Need-passes-requires-8
+passes-requires-8 c κs = search needs
+
+enum-told-11 : tie.Need-enum-told-11
+enum-told-11 c = search needs
+
+passes-requires-9 : tie.Need-passes-requires-9
+passes-requires-9 c κs = search needs
+
 returns : tie.Need-returns
 unfolding kindOf mayLead inOrder
 returns c = rw (c .before .enum-told .given .1, c .passes .ensures) (passed (c .before .before .before .args .o) (c .before .before .before .args .first) _ true (c .before .before .before .pre) refl true refl λ rs. refl)
@@ -97,6 +109,14 @@ returns-9 : tie.Need-returns-9
 unfolding kindOf mayLead inOrder
 returns-9 c = rw (c .before .enum-told9 .given .1, c .passes7 .ensures) (passed (c .before .before .before .args .o) (c .before .before .before .args .first) _ (c .before .before .before .args .o .framed) (c .before .before .before .pre) refl true refl λ rs. refl)
 
+returns-10 : tie.Need-returns-10
+unfolding kindOf mayLead inOrder
+returns-10 c = rw (c .before .enum-told10 .given .1, c .passes8 .ensures) (passed (c .before .before .before .args .o) (c .before .before .before .args .first) _ (c .before .before .before .args .o .framed) (c .before .before .before .pre) refl true refl λ rs. refl)
+
+returns-11 : tie.Need-returns-11
+unfolding kindOf mayLead inOrder
+returns-11 c = rw (c .before .enum-told11 .given .1, c .passes9 .ensures) (passed (c .before .before .before .args .o) (c .before .before .before .args .first) _ (c .before .before .before .args .o .framed) (c .before .before .before .pre) refl true refl λ rs. refl)
+
 pub step-spec : {M : Type 1} → statement M
 step-spec =
     tie.close
@@ -119,6 +139,10 @@ step-spec =
     closes-requires
     enum-told-9
     passes-requires-7
+    enum-told-10
+    passes-requires-8
+    enum-told-11
+    passes-requires-9
     returns
     returns-2
     returns-3
@@ -127,4 +151,6 @@ step-spec =
     returns-6
     returns-7
     returns-8
-    returns-9)
+    returns-9
+    returns-10
+    returns-11)

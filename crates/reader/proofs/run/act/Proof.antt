@@ -62,6 +62,18 @@ enum-told-3 c = search needs
 negate-requires : tie.Need-negate-requires
 negate-requires c κs = search needs
 
+enum-known-row-7 : tie.Need-enum-known-row-7
+enum-known-row-7 c = search needs
+
+set-rule-requires-3 : tie.Need-set-rule-requires-3
+set-rule-requires-3 c κs = search needs
+
+enum-known-row-8 : tie.Need-enum-known-row-8
+enum-known-row-8 c = search needs
+
+set-rule-requires-4 : tie.Need-set-rule-requires-4
+set-rule-requires-4 c κs = search needs
+
 returns : tie.Need-returns
 unfolding act
 returns c =
@@ -104,6 +116,14 @@ returns-9 : tie.Need-returns-9
 unfolding act negated
 returns-9 c = rw (c .before .enum-told3 .given .1) (c .negate .ensures)
 
+returns-10 : tie.Need-returns-10
+unfolding act
+returns-10 c = rw (c .before .before .row7 .given .1) (c .set-rule3 .ensures)
+
+returns-11 : tie.Need-returns-11
+unfolding act
+returns-11 c = rw (c .before .before .row8 .given .1) (c .set-rule4 .ensures)
+
 pub act-spec : {M : Type 1} → statement M
 act-spec =
     tie.close
@@ -126,6 +146,10 @@ act-spec =
     recall-requires
     enum-told-3
     negate-requires
+    enum-known-row-7
+    set-rule-requires-3
+    enum-known-row-8
+    set-rule-requires-4
     returns
     returns-2
     returns-3
@@ -134,4 +158,6 @@ act-spec =
     returns-6
     returns-7
     returns-8
-    returns-9)
+    returns-9
+    returns-10
+    returns-11)
