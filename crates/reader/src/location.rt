@@ -36,7 +36,7 @@ fn first_addend(relocs: &[u64], place: u64) -> Number
 }
 
 // The place that lies the entry's second field before that field.
-fn distance_back(s: &[u8], at: usize, end: usize) -> Number
+pub fn distance_back(s: &[u8], at: usize, end: usize) -> Number
     requires { ⌜ (at + 8 ≤ end) × (end ≤ length (now s)) ⌝ }
     ensures { λ r. ⌜ r ≡ numberOf (distanceBack (entryIn (now (s .entry)) at end)) ⌝ }
 {
@@ -73,7 +73,7 @@ fn starts(s: &[u8], at: usize, end: usize, debug: bool, place: usize, before: us
 }
 
 // The header that starts at a place earlier than `before`.
-fn header_span(s: &[u8], debug: bool, place: usize, before: usize) -> Span
+pub fn header_span(s: &[u8], debug: bool, place: usize, before: usize) -> Span
     requires { ⌜ T (isSome (entries (now s))) ⌝ }
     ensures { λ r. ⌜ Spans (now (s .entry)) r (headerAt debug place before (listed (entries (now (s .entry))))) ⌝ }
 {

@@ -1,0 +1,1 @@
+-- The lemmas of this crate's functions, and what the check means.

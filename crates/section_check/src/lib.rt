@@ -1,0 +1,145 @@
+// The check of an eh_frame section that another tool wrote, and its export. rucc-asm/src/unwind.rs of tamnd/rucc has no such check.
+ghost use mathlib.Core.Path.{_≡_};
+ghost use mathlib.Core.Bool.{true, false};
+ghost use mathlib.Core.Option.{none};
+ghost use Prim.Native.Nat.{_+_, _≤_, _<_};
+ghost use lib.ListN.{length};
+ghost use lib.Dec.{T};
+ghost use Rattle.format.specs.Prelude.{after};
+ghost use Rattle.format.specs.Machine.{isWord};
+ghost use Rattle.format.specs.Questions.{isSome};
+ghost use Rattle.format.specs.Reader.{distanceBack, headerAt, records, entries};
+ghost use Rattle.reader.specs.Spans.{entryIn, listed, Spans};
+ghost use Rattle.section_check.specs.Check.{lengthOf, saying, checkFrom, checkSection, Means};
+ghost use Rattle.section_check.specs.Places.{Keeps, sizeOf, answersIn, passesIn};
+use format::Reading;
+use format::Unsigned;
+use reader::entries::Number;
+use reader::entries::Span;
+use reader::location::Locating;
+
+// What is answered: 0, or 11, 61 or 84; with 84 the first record that does not pass, counted from 0.
+#[repr(C)]
+pub struct Checked {
+    pub number: u64,
+    pub record: u64,
+}
+
+// ---- the header of a record
+
+// The element of the table that a header's place goes to.
+fn slot(place: usize) -> usize
+    ensures { λ r. ⌜ r < 256 ⌝ }
+{
+    place / 4 % 256
+}
+
+// The header of the record from `at` to `end`: the table keeps places of headers that were passed, each as one more; the others are
+// searched for from the start of the section.
+fn header_of(s: &[u8], known: &[usize], at: usize, end: usize) -> Span
+    requires { ⌜ (at + 8 ≤ end) × (end ≤ length (now s)) × T (isSome (entries (now s))) × Keeps (now s) at (now known) ⌝ }
+    ensures { λ r. ⌜ Spans (now (s .entry)) r (after (distanceBack (entryIn (now (s .entry)) at end)) λ place. headerAt false place at (listed (entries (now (s .entry))))) ⌝ }
+{
+    let Number::Is(place) = reader::location::distance_back(s, at, end) else {
+        return Span::Nothing;
+    };
+    if known[slot(place)] == place + 1 {
+        let Number::Is(past) = reader::entries::entry_end(s, place) else {
+            return Span::Nothing;
+        };
+        return Span::At(place, past);
+    }
+    reader::location::header_span(s, false, place, at)
+}
+
+// ---- a record
+
+// The length of the record from `at` to `end`.
+fn size_of(s: &[u8], at: usize, end: usize) -> Unsigned
+    requires { ⌜ (at + 8 ≤ end) × (end ≤ length (now s)) ⌝ }
+    ensures { λ r. ⌜ sizeOf r ≡ lengthOf (entryIn (now (s .entry)) at end) ⌝ }
+{
+    let body = at + 4;
+    leb::read_le(&s[body..end], 8, 4)
+}
+
+// Whether the reader answers for register 0 at offset p of the record from `at` to `end`.
+fn answers_at(s: &[u8], word: u64, known: &[usize], at: usize, end: usize, p: u64) -> bool
+    requires { ⌜ T (isWord word) × (at + 8 ≤ end) × (end ≤ length (now s)) × T (isSome (entries (now s))) × Keeps (now s) at (now known) ⌝ }
+    ensures { λ r. ⌜ r ≡ answersIn (now (s .entry)) word (entryIn (now (s .entry)) at end) p ⌝ }
+{
+    let Span::At(cie, past) = header_of(s, known, at, end) else {
+        return false;
+    };
+    let Locating::Found(l) = reader::location::parse(s, false, word, cie, past, at, end) else {
+        return false;
+    };
+    match reader::rules_at(s, l, 0, p) {
+        Reading::Answered(_) => true,
+        Reading::Refused(_) => false,
+    }
+}
+
+fn passes(s: &[u8], word: u64, known: &[usize], at: usize, end: usize) -> bool
+    requires { ⌜ T (isWord word) × (at + 8 ≤ end) × (end ≤ length (now s)) × T (isSome (entries (now s))) × Keeps (now s) at (now known) ⌝ }
+    ensures { λ r. ⌜ r ≡ passesIn (now (s .entry)) word (entryIn (now (s .entry)) at end) ⌝ }
+{
+    let Unsigned::Value(n, _) = size_of(s, at, end) else {
+        return false;
+    };
+    if n == 0 {
+        return true;
+    }
+    answers_at(s, word, known, at, end, n - 1)
+}
+
+// ---- the section
+
+// The records, one after the other: 84 with the first that does not pass.
+fn check_records(s: &[u8], word: u64) -> Checked
+    requires { ⌜ T (isWord word) × T (isSome (entries (now s))) ⌝ }
+    ensures { λ r. ⌜ r ≡ checkFrom (now (s .entry)) word 0 (records false (listed (entries (now (s .entry))))) ⌝ }
+{
+    let mut known = [0usize; 256];
+    let mut k = 0;
+    let mut next = 0;
+    'entries: while next < s.len() {
+        let at = next;
+        next = reader::entries::past(s, at);
+        if reader::entries::is_header(s, at, next, false) {
+            known[slot(at)] = at + 1;
+            continue 'entries;
+        }
+        if !passes(s, word, &known, at, next) {
+            return Checked {
+                number: 84,
+                record: k,
+            };
+        }
+        k += 1;
+    }
+    Checked {
+        number: 0,
+        record: 0,
+    }
+}
+
+// Whether an eh_frame section tiles and the reader answers at every offset below each record's length, with this word.
+pub extern "C" fn unwind_check_section(section: &[u8], word: u64) -> Checked
+    ensures { λ r. ⌜ r ≡ checkSection (now (section .entry)) word ⌝ }
+    ensures { λ r. ⌜ Means (now (section .entry)) word r ⌝ }
+{
+    if !reader::is_word(word) {
+        return Checked {
+            number: 11,
+            record: 0,
+        };
+    }
+    if !reader::entries::tiles(section) {
+        return Checked {
+            number: 61,
+            record: 0,
+        };
+    }
+    check_records(section, word)
+}
