@@ -28,7 +28,7 @@ Kept s at v = 0 < v → (v ≤ at) × Known s (v - 1)
 
 pub record Keeps (s : List ℕ) (at : ℕ) (table : List ℕ) : Type 0 where
   pub long : length table ≡ 256
-  pub kept : (i : ℕ) → Kept s at (getD table i 0)
+  pub kept : (i : ℕ) → i < 256 → Kept s at (getD table i 0)
 
 -- ---- a record by its entry
 

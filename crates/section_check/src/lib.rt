@@ -125,6 +125,7 @@ fn check_records(s: &[u8], word: u64) -> Checked
 }
 
 // Whether an eh_frame section tiles and the reader answers at every offset below each record's length, with this word.
+#[no_mangle]
 pub extern "C" fn unwind_check_section(section: &[u8], word: u64) -> Checked
     ensures { λ r. ⌜ r ≡ checkSection (now (section .entry)) word ⌝ }
     ensures { λ r. ⌜ Means (now (section .entry)) word r ⌝ }
