@@ -103,6 +103,16 @@ unwind_reading unwind_read(
     const uint8_t *section, size_t section_n, const uint64_t *relocations, size_t relocations_n,
     uint64_t kind, uint64_t word, uint64_t k, uint16_t reg, uint64_t p);
 
+/* What the check of a section answers: `number` is 0, or 11 for the word, then 61, then 84 with the first record that does not pass,
+ * counted from 0. record is 0 otherwise. */
+typedef struct {
+    uint64_t number, record;
+} unwind_checked;
+
+/* Whether an eh_frame section, without relocations, tiles and unwind_read answers for every register at every offset below the
+ * length of each record. A record passes only if its length lies inside its entry. */
+unwind_checked unwind_check_section(const uint8_t *section, size_t section_n, uint64_t word);
+
 /* What the reader of x64 records answers: `number` is 0, or the question's (76, 77, then 54). end: the prologue's. frame: 1 where a
  * code sets the frame register, else 0. frame_register and frame_offset are the header's, always. codes: how many. All are 0 on a
  * refusal. */

@@ -59,7 +59,7 @@ pub fn header_place(s: &[u8], relocs: &[u64], debug: bool, at: usize, end: usize
 }
 
 // The entry from `at` to `end` is a header, starts at a place, and that place is earlier than `before`.
-fn starts(s: &[u8], at: usize, end: usize, debug: bool, place: usize, before: usize) -> bool
+pub fn starts(s: &[u8], at: usize, end: usize, debug: bool, place: usize, before: usize) -> bool
     requires { ⌜ (at + 8 ≤ end) × (end ≤ length (now s)) ⌝ }
     ensures { λ r. ⌜ r ≡ eqb at place && ltb place before && isHeader debug (entryIn (now (s .entry)) at end) ⌝ }
 {
@@ -73,7 +73,7 @@ fn starts(s: &[u8], at: usize, end: usize, debug: bool, place: usize, before: us
 }
 
 // The header that starts at a place earlier than `before`.
-pub fn header_span(s: &[u8], debug: bool, place: usize, before: usize) -> Span
+fn header_span(s: &[u8], debug: bool, place: usize, before: usize) -> Span
     requires { ⌜ T (isSome (entries (now s))) ⌝ }
     ensures { λ r. ⌜ Spans (now (s .entry)) r (headerAt debug place before (listed (entries (now (s .entry))))) ⌝ }
 {

@@ -32,14 +32,9 @@ use Rattle.reader.proofs.Tiling.{entered}
 use Rattle.reader.proofs.Seeking.{number-is, number-none}
 use Rattle.reader.proofs.Asked.{place-found, place-refused, all-inside}
 use Rattle.section_check.specs.Check.{lengthOf, answers, readAt, lastAnswers, passes}
-use Rattle.section_check.specs.Places.{Known, Keeps, sizeOf, readIn, answersIn, lastIn, passesIn}
+use Rattle.section_check.specs.Places.{sizeOf, readIn, answersIn, lastIn, passesIn}
 
 -- ---- the header
-
-back-small : (b : Bool) (n m : ℕ) {place : ℕ} → pick b (some n) none ≡ some place → n ≤ m → place ≤ m
-unfolding pick
-back-small true n m {place} e h = let same : n ≡ place = cc in omega arith
-back-small false n m e h = let z : _≡_ {A = ℕ} 0 1 = cc in absurd (omega arith)
 
 module _ (s : List ℕ) (at end : ℕ) where
   abbrev headerOf : Option Entry
@@ -53,26 +48,6 @@ module _ (s : List ℕ) (at end : ℕ) where
     pub place-of : headerOf ≡ headerAt false place at (listed (entries s))
     unfolding after
     place-of = rw (number-is (distanceBack (entryIn s at end)) (sym e))
-
-    pub place-small : place ≤ at + 4
-    unfolding distanceBack
-    place-small = back-small _ (at + 4 - second (part s (at + 4) end)) (at + 4) (number-is (distanceBack (entryIn s at end)) (sym e)) (omega arith)
-
-    -- an element of the table that is one more than the place
-    module _ {table : List ℕ} (t : Keeps s at table) {i : ℕ} (h : i < 256) (v : getD table i 0 ≡ place + 1) where
-      kept-at : (place + 1 ≤ at) × Known s place
-      kept-at = let k = t .kept i h (omega arith) in (omega (arith, k .0), (let m : getD table i 0 - 1 ≡ place = omega arith in rw m at (k .1)))
-
-      pub kept-ends : endAt s place ≡ number.Nothing → ⊥
-      kept-ends n = let f = kept-at .1 .ends in let z : _≡_ {A = ℕ} 0 1 = cc in omega arith
-
-      pub kept-stands : {past : ℕ} → number.Is past ≡ endAt s place → Stands s place past headerOf
-      kept-stands {past} p =
-          let k = kept-at in
-          let f = k .1 .ends in
-          let same : k .1 .end ≡ past = cc in
-          let a = entered s place (sym p) in
-          record { long = a .long; inside = a .inside; found = place-of ∙ rw (k .1 .found at (omega (arith, k .0)), same) }
 
 -- ---- the length
 

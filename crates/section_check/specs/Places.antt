@@ -1,34 +1,39 @@
--- What the pass over a section keeps of the headers behind it, and the test of a record by the entry that stands there.
+-- What the pass over a section keeps of the entries behind it, and the test of a record by the entry that stands there.
 use mathlib.Core.Path.{_≡_}
-use mathlib.Core.Bool.{Bool, true, false}
+use mathlib.Core.Bool.{Bool, true, false, _&&_}
 use mathlib.Core.Option.{Option, none, some}
 use mathlib.Core.List.{List}
-use Prim.Native.Nat.{ℕ, zero, suc, _-_, _≤_, _<_}
-use lib.ListN.{length, getD}
-use Rattle.format.specs.Prelude.{after, Result, onward, orElse}
+use Prim.Native.Nat.{ℕ, zero, suc, _/_, _≤_}
+use lib.Dec.{T, leb, ltb, eqb}
+use lib.ListN.{length, getD, set}
+use Rattle.format.specs.Prelude.{pick, after, Result, onward, orElse}
+use Rattle.format.specs.Questions.{isSome}
 use Rattle.format.specs.Rules.{State, answer}
 use Rattle.format.specs.Reader.{Entry, entries, distanceBack, headerAt, parsed, runTo}
 use Rattle.format.specs.declared.Unsigned.{Unsigned}
 use Rattle.format.specs.declared.Unsigned.the-variants as unsigned
-use Rattle.reader.specs.Spans.{entryIn, listed, endAt}
-use Rattle.reader.specs.declared.entries.Number.the-variants as number
+use Rattle.reader.specs.Spans.{entriesFrom, listed}
 use Rattle.section_check.specs.Check.{lengthOf, answers}
 
--- ---- the places of headers
+-- ---- marks: where entries of the section start, one for each stretch of `step` bytes
 
--- the entry at a place is a header, which a record behind it finds
-pub record Known (s : List ℕ) (place : ℕ) : Type 0 where
-  pub end : ℕ
-  pub ends : endAt s place ≡ number.Is end
-  pub found : (before : ℕ) → place < before → headerAt false place before (listed (entries s)) ≡ some (entryIn s place end)
+-- entries tile the section from a position on, and a header there or further on is found by a search from there
+pub record Ahead (s : List ℕ) (from : ℕ) : Type 0 where
+  pub inside : from ≤ length s
+  pub tiled : T (isSome (entriesFrom s from))
+  pub found : (place before : ℕ) → from ≤ place → headerAt false place before (listed (entries s)) ≡ headerAt false place before (listed (entriesFrom s from))
 
--- an element of the table: 0, or one more than the place of a header in front of `at`
-abbrev pub Kept : List ℕ → (at v : ℕ) → Type 0
-Kept s at v = 0 < v → (v ≤ at) × Known s (v - 1)
+-- each mark is such a position
+abbrev pub Marks : List ℕ → List ℕ → Type 0
+Marks s marks = (i : ℕ) → Ahead s (getD marks i 0)
 
-pub record Keeps (s : List ℕ) (at : ℕ) (table : List ℕ) : Type 0 where
-  pub long : length table ≡ 256
-  pub kept : (i : ℕ) → i < 256 → Kept s at (getD table i 0)
+-- the first entry of a stretch is its mark; 0 where none was passed yet
+unfoldable pub marked : (step at : ℕ) → List ℕ → List ℕ
+marked step at marks = pick (ltb (at / step) (length marks) && eqb (getD marks (at / step) 0) 0) (set marks (at / step) at) marks
+
+-- where the search for a place starts: the mark of its stretch where that is not past it
+unfoldable pub markBefore : (step place : ℕ) → List ℕ → ℕ
+markBefore step place marks = pick (leb (getD marks (place / step) 0) place) (getD marks (place / step) 0) 0
 
 -- ---- a record by its entry
 

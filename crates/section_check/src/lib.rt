@@ -11,7 +11,7 @@ ghost use Rattle.format.specs.Questions.{isSome};
 ghost use Rattle.format.specs.Reader.{distanceBack, headerAt, records, entries};
 ghost use Rattle.reader.specs.Spans.{entryIn, listed, Spans};
 ghost use Rattle.section_check.specs.Check.{lengthOf, saying, checkFrom, checkSection, Means};
-ghost use Rattle.section_check.specs.Places.{Keeps, sizeOf, answersIn, passesIn};
+ghost use Rattle.section_check.specs.Places.{Ahead, Marks, marked, markBefore, sizeOf, answersIn, passesIn};
 use format::Reading;
 use format::Unsigned;
 use reader::entries::Number;
@@ -27,29 +27,62 @@ pub struct Checked {
 
 // ---- the header of a record
 
-// The element of the table that a header's place goes to.
-fn slot(place: usize) -> usize
-    ensures { λ r. ⌜ r < 256 ⌝ }
+// A section has a mark for each stretch of `step` bytes: the first entry that starts in it.
+fn mark(marks: &mut [usize], step: usize, at: usize)
+    requires { ⌜ 0 < step ⌝ }
+    ensures { λ r. ⌜ now (marks .exit) ≡ marked step at (now (marks .entry)) ⌝ }
 {
-    place / 4 % 256
+    let i = at / step;
+    if marks.len() <= i {
+        return;
+    }
+    if marks[i] != 0 {
+        return;
+    }
+    marks[i] = at;
 }
 
-// The header of the record from `at` to `end`: the table keeps places of headers that were passed, each as one more; the others are
-// searched for from the start of the section.
-fn header_of(s: &[u8], known: &[usize], at: usize, end: usize) -> Span
-    requires { ⌜ (at + 8 ≤ end) × (end ≤ length (now s)) × T (isSome (entries (now s))) × Keeps (now s) at (now known) ⌝ }
+// Where the search for the entry at a place starts.
+fn mark_before(marks: &[usize], step: usize, place: usize) -> usize
+    requires { ⌜ 0 < step ⌝ }
+    ensures { λ r. ⌜ r ≡ markBefore step place (now (marks .entry)) ⌝ }
+{
+    let i = place / step;
+    if marks.len() <= i {
+        return 0;
+    }
+    let at = marks[i];
+    if place < at {
+        return 0;
+    }
+    at
+}
+
+// The header that starts at a place earlier than `before`, searched for from an entry in front of it.
+fn header_from(s: &[u8], from: usize, place: usize, before: usize) -> Span
+    requires { ⌜ Ahead (now s) from × (from ≤ place) ⌝ }
+    ensures { λ r. ⌜ Spans (now (s .entry)) r (headerAt false place before (listed (entries (now (s .entry))))) ⌝ }
+{
+    let mut next = from;
+    while next < s.len() {
+        let at = next;
+        next = reader::entries::past(s, at);
+        if reader::location::starts(s, at, next, false, place, before) {
+            return Span::At(at, next);
+        }
+    }
+    Span::Nothing
+}
+
+// The header of the record from `at` to `end`.
+fn header_of(s: &[u8], marks: &[usize], step: usize, at: usize, end: usize) -> Span
+    requires { ⌜ (at + 8 ≤ end) × (end ≤ length (now s)) × (0 < step) × Marks (now s) (now marks) ⌝ }
     ensures { λ r. ⌜ Spans (now (s .entry)) r (after (distanceBack (entryIn (now (s .entry)) at end)) λ place. headerAt false place at (listed (entries (now (s .entry))))) ⌝ }
 {
     let Number::Is(place) = reader::location::distance_back(s, at, end) else {
         return Span::Nothing;
     };
-    if known[slot(place)] == place + 1 {
-        let Number::Is(past) = reader::entries::entry_end(s, place) else {
-            return Span::Nothing;
-        };
-        return Span::At(place, past);
-    }
-    reader::location::header_span(s, false, place, at)
+    header_from(s, mark_before(marks, step, place), place, at)
 }
 
 // ---- a record
@@ -64,11 +97,11 @@ fn size_of(s: &[u8], at: usize, end: usize) -> Unsigned
 }
 
 // Whether the reader answers for register 0 at offset p of the record from `at` to `end`.
-fn answers_at(s: &[u8], word: u64, known: &[usize], at: usize, end: usize, p: u64) -> bool
-    requires { ⌜ T (isWord word) × (at + 8 ≤ end) × (end ≤ length (now s)) × T (isSome (entries (now s))) × Keeps (now s) at (now known) ⌝ }
+fn answers_at(s: &[u8], word: u64, marks: &[usize], step: usize, at: usize, end: usize, p: u64) -> bool
+    requires { ⌜ T (isWord word) × (at + 8 ≤ end) × (end ≤ length (now s)) × (0 < step) × Marks (now s) (now marks) ⌝ }
     ensures { λ r. ⌜ r ≡ answersIn (now (s .entry)) word (entryIn (now (s .entry)) at end) p ⌝ }
 {
-    let Span::At(cie, past) = header_of(s, known, at, end) else {
+    let Span::At(cie, past) = header_of(s, marks, step, at, end) else {
         return false;
     };
     let Locating::Found(l) = reader::location::parse(s, false, word, cie, past, at, end) else {
@@ -80,8 +113,8 @@ fn answers_at(s: &[u8], word: u64, known: &[usize], at: usize, end: usize, p: u6
     }
 }
 
-fn passes(s: &[u8], word: u64, known: &[usize], at: usize, end: usize) -> bool
-    requires { ⌜ T (isWord word) × (at + 8 ≤ end) × (end ≤ length (now s)) × T (isSome (entries (now s))) × Keeps (now s) at (now known) ⌝ }
+fn passes(s: &[u8], word: u64, marks: &[usize], step: usize, at: usize, end: usize) -> bool
+    requires { ⌜ T (isWord word) × (at + 8 ≤ end) × (end ≤ length (now s)) × (0 < step) × Marks (now s) (now marks) ⌝ }
     ensures { λ r. ⌜ r ≡ passesIn (now (s .entry)) word (entryIn (now (s .entry)) at end) ⌝ }
 {
     let Unsigned::Value(n, _) = size_of(s, at, end) else {
@@ -90,7 +123,7 @@ fn passes(s: &[u8], word: u64, known: &[usize], at: usize, end: usize) -> bool
     if n == 0 {
         return true;
     }
-    answers_at(s, word, known, at, end, n - 1)
+    answers_at(s, word, marks, step, at, end, n - 1)
 }
 
 // ---- the section
@@ -100,17 +133,18 @@ fn check_records(s: &[u8], word: u64) -> Checked
     requires { ⌜ T (isWord word) × T (isSome (entries (now s))) ⌝ }
     ensures { λ r. ⌜ r ≡ checkFrom (now (s .entry)) word 0 (records false (listed (entries (now (s .entry))))) ⌝ }
 {
-    let mut known = [0usize; 256];
+    let step = s.len() / 8192 + 1;
+    let mut marks = [0usize; 8192];
     let mut k = 0;
     let mut next = 0;
     'entries: while next < s.len() {
         let at = next;
         next = reader::entries::past(s, at);
+        mark(&mut marks, step, at);
         if reader::entries::is_header(s, at, next, false) {
-            known[slot(at)] = at + 1;
             continue 'entries;
         }
-        if !passes(s, word, &known, at, next) {
+        if !passes(s, word, &marks, step, at, next) {
             return Checked {
                 number: 84,
                 record: k,
