@@ -2,3 +2,4 @@
 pub mod Says
 pub mod Entries
 pub mod Pass
+pub mod OwnSections

@@ -39,7 +39,7 @@ pub record Passing (s : List ℕ) (word : ℕ) (marks : List ℕ) (k at : ℕ) :
   pub numbered : (j : ℕ) → getElem? (recordsIn s) (k + j) ≡ getElem? (recordsFrom s at) j
   pub ahead : Ahead s at
   pub marks-ahead : Marks s marks
-  pub long : length marks ≡ 8192
+  pub long : length marks ≡ 2048
 
 -- ---- the marks
 
@@ -148,7 +148,7 @@ unfolding isSome listed
 whole none t = absurd t
 whole (some es) t = refl
 
-pub start : (s : List ℕ) (word : ℕ) → T (isSome (entries s)) → Passing s word (replicate 8192 0) 0 0
+pub start : (s : List ℕ) (word : ℕ) → T (isSome (entries s)) → Passing s word (replicate 2048 0) 0 0
 unfolding entries entriesFrom
 start s word t =
     record {
@@ -157,8 +157,8 @@ start s word t =
       rest = refl;
       numbered = λ j. let m : 0 + j ≡ j = omega arith in rw m;
       ahead = first-ahead s t;
-      marks-ahead = no-marks s 8192 t;
-      long = length-replicate {A = ℕ} 8192 0;
+      marks-ahead = no-marks s 2048 t;
+      long = length-replicate {A = ℕ} 2048 0;
     }
 
 module _ {s : List ℕ} {word : ℕ} {marks : List ℕ} {k at : ℕ} (i : Passing s word marks k at) {end : ℕ} (e : Ends s at end) where

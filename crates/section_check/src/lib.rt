@@ -133,8 +133,8 @@ fn check_records(s: &[u8], word: u64) -> Checked
     requires { ⌜ T (isWord word) × T (isSome (entries (now s))) ⌝ }
     ensures { λ r. ⌜ r ≡ checkFrom (now (s .entry)) word 0 (records false (listed (entries (now (s .entry))))) ⌝ }
 {
-    let step = s.len() / 8192 + 1;
-    let mut marks = [0usize; 8192];
+    let step = s.len() / 2048 + 1;
+    let mut marks = [0usize; 2048];
     let mut k = 0;
     let mut next = 0;
     'entries: while next < s.len() {

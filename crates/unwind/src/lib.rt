@@ -206,7 +206,7 @@ pub fn read(
 // ---- a writer and then the reader
 
 // How many bytes, and how many numbers of relocations, were written.
-fn bytes_in(o: Outcome) -> usize
+pub fn bytes_in(o: Outcome) -> usize
     ensures { λ r. ⌜ r ≡ bytesIn o ⌝ }
 {
     match o {
@@ -228,7 +228,7 @@ fn numbers_in(o: Outcome, room: usize) -> usize
 }
 
 // The machine's word, or 0 where there is no machine.
-fn word_in(machine: &[u64]) -> u64
+pub fn word_in(machine: &[u64]) -> u64
     ensures { λ r. ⌜ r ≡ getD (now (machine .entry)) 0 0 ⌝ }
 {
     if machine.len() == 0 {
