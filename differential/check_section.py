@@ -2,7 +2,7 @@
 """The check of a foreign eh_frame section against reader.py, which was written from document 01 alone.
 
     check_section.py COUNT SEED [BYTES]     every short section over a few bytes, the library's sections of COUNT random lists, damaged
-                                            copies of small ones, and up to BYTES (2,000,000) of eh_frame of the programs on this machine
+                                            copies of small ones, and up to BYTES (400,000) of eh_frame of the programs on this machine
 
 The judge does as the request says: it reads every record at every offset below its length, for several registers. Only where a length is
 above 64 it reads at the first, the last and a few between. Of a section that has failing records each is named in turn: the length of the
@@ -185,7 +185,7 @@ def eh_frame(path, folder):
     out = os.path.join(folder, "section")
     if os.path.exists(out):
         os.unlink(out)
-    done = subprocess.run(["objcopy", "-O", "binary", "--only-section=.eh_frame", "--set-section-flags", ".eh_frame=alloc", path, out], capture_output=True)
+    done = subprocess.run(["objcopy", "-O", "binary", "--only-section=.eh_frame", path, out], capture_output=True)
     if done.returncode or not os.path.exists(out):
         return b""
     with open(out, "rb") as file:
@@ -279,9 +279,9 @@ def main():
     written = list(ours(*sys.argv[1:3]))
     compare(written, counts, rng)
     small = [each for each in written if len(each[0]) <= SMALL]
-    for section, word in rng.sample(small, min(len(small), 12)):
+    for section, word in rng.sample(small, min(len(small), 6)):
         compare([(other, word) for other in damaged(section)], counts, rng)
-    of_programs(int(sys.argv[3]) if len(sys.argv) > 3 else 2_000_000, counts, rng)
+    of_programs(int(sys.argv[3]) if len(sys.argv) > 3 else 400_000, counts, rng)
     print(f"check_section: {len(some)} short sections, {len(written)} of ours; " + ", ".join(f"{n}: {counts[n]}" for n in sorted(counts)))
 
 
