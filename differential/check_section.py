@@ -24,7 +24,7 @@ sys.path = [folder for folder in sys.path if os.path.abspath(folder) != HERE] + 
 
 from definitions import by_case, parse  # noqa: E402
 from exports import OUT, batches, run  # noqa: E402
-from reader import EH, Refused, Walk, entries, header_fields, header_of, read, record_fields, second  # noqa: E402
+from reader import EH, Bytes, Refused, Walk, entries, header_fields, header_of, read, record_fields, second  # noqa: E402
 
 FLIPS = (1, 2, 4, 8, 16, 32, 64, 128, 255)
 REGISTERS = (0, 6, 65535)
@@ -207,23 +207,21 @@ def programs(rng):
 
 
 def first_unknown(section, record, word):
-    """The operation that the reader stops at, for an entry that is 66."""
+    """The operation that the reader stops at, of an entry that is 66."""
     headers = {at: body for at, body in entries(section) if second(body) == 0}
     lsda, first = header_fields(header_of(record, headers, [], EH), EH, word)
-    size, rest = record_fields(record[1], EH, word, lsda)
+    _, rest = record_fields(record[1], EH, word, lsda)
     for data, header in ((first, True), (rest, False)):
-        walk = Walk(word, 0, size - 1)
-        for end in range(len(data) + 1):
+        walk, b = Walk(word, 0, 0), Bytes(data, 66)
+        walk.frame, walk.initial = (0, 0), walk.rule
+        while b.at < len(data):
+            code = data[b.at]
             try:
-                walk = Walk(word, 0, 2**64)
-                walk.initial = walk.rule
-                walk.frame = (0, 0)
-                walk.stored = [((0, 0), walk.rule)] * 8
-                walk.operations(data[:end], header)
+                walk.operation(b, header)
             except Refused as no:
-                if no.number == 66 and data[end - 1] in NAMES:
-                    return NAMES[data[end - 1]]
-    return "another"
+                if no.number == 66:
+                    return NAMES.get(code, hex(code))
+    return "a step in a header"
 
 
 def of_programs(most, counts, rng):
@@ -263,9 +261,8 @@ def of_programs(most, counts, rng):
                     operations[first_unknown(section, records[k], 8)] += 1
     passing = records_in - sum(why.values())
     print(
-        f"check_section: {taken} programs and libraries, {bytes_in} bytes of eh_frame: {passing} of {records_in} records pass; "
-        + ", ".join(f"{n}: {why[n]}" for n in sorted(why)) + "; "
-        + ", ".join(f"{name}: {n}" for name, n in operations.most_common())
+        f"check_section: {taken} programs and libraries, {bytes_in} bytes of eh_frame: {passing} of {records_in} records pass; failing: "
+        + ", ".join([*(f"{n}: {why[n]}" for n in sorted(why)), *(f"{name}: {n}" for name, n in operations.most_common())])
     )
 
 

@@ -53,7 +53,8 @@ extern "C" {
  *   76 x64 header: version 1, no flags, all four bytes and all slots there   77 x64 codes: complete, operations that unwind_seh writes
  *   78 eh_frame of a format that is written: not Mach-O
  *   79 relocations of the writers' kinds and sizes, with their partners and addresses, fields inside, values that fit
- *   80 the distance of a Set and Sub pair fits */
+ *   80 the distance of a Set and Sub pair fits
+ *   84 each record's length lies inside its entry, and the reader answers at every offset below it */
 
 /* The ready x86-64 (System V psABI) at the front of a lent list of 70 numbers or more: 0, or 54 where there are fewer, and the list
  * is then as it was. */

@@ -31,6 +31,7 @@
 
 extern crate alloc;
 
+mod check;
 pub mod lists;
 mod refusal;
 pub mod structs;
@@ -38,6 +39,7 @@ mod sys;
 mod types;
 mod write;
 
+pub use check::{check_section, CheckRefusal};
 pub use refusal::Refusal;
 pub use types::*;
 pub use write::{apply, read, read_x64, relaxed_debug_frame, relaxed_table, row_check, seh, Table};

@@ -36,7 +36,16 @@ pub(crate) struct X64Reading {
     pub codes: u64,
 }
 
+/// What the check of a section answers.
+#[repr(C)]
+pub(crate) struct Checked {
+    pub number: u64,
+    pub record: u64,
+}
+
 extern "C" {
+    pub(crate) fn unwind_check_section(section: *const u8, section_n: usize, word: u64) -> Checked;
+
     pub(crate) fn unwind_machine_x86_64(machine: *mut u64, machine_n: usize) -> u64;
 
     pub(crate) fn unwind_read_x64(info: *const u8, info_n: usize, place: u64, codes: *mut u64, codes_n: usize) -> X64Reading;

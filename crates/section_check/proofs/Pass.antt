@@ -56,10 +56,10 @@ no-marks s n t i = rw (zeros n i) (first-ahead s t)
 stored : (s marks : List ℕ) (at j : ℕ) → Ahead s at → Marks s marks → Marks s (set marks j at)
 stored s marks at j a m i =
     elim (ℕ-discrete i j) [
-      yes e ↦
-        either (suc j) (length marks)
-        (λ h. rw (e, getD-set-same marks j at 0 h) a)
-        (λ h. rw (set-out marks j at (omega arith)) (m i))
+      | yes e ↦
+          either (suc j) (length marks)
+          (λ h. rw (e, getD-set-same marks j at 0 h) a)
+          (λ h. rw (set-out marks j at (omega arith)) (m i))
       | no e ↦ rw (getD-set-other marks j i at 0 e) (m i)
     ]
 

@@ -97,7 +97,15 @@ fn size_of(s: &[u8], at: usize, end: usize) -> Unsigned
 }
 
 // Whether the reader answers for register 0 at offset p of the record from `at` to `end`.
-fn answers_at(s: &[u8], word: u64, marks: &[usize], step: usize, at: usize, end: usize, p: u64) -> bool
+fn answers_at(
+    s: &[u8],
+    word: u64,
+    marks: &[usize],
+    step: usize,
+    at: usize,
+    end: usize,
+    p: u64,
+) -> bool
     requires { ⌜ T (isWord word) × (at + 8 ≤ end) × (end ≤ length (now s)) × (0 < step) × Marks (now s) (now marks) ⌝ }
     ensures { λ r. ⌜ r ≡ answersIn (now (s .entry)) word (entryIn (now (s .entry)) at end) p ⌝ }
 {

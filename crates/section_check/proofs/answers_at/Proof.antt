@@ -24,7 +24,7 @@ returns : tie.Need-returns
 returns c = headless (c .before .before .before .before .before .args .s .now) (c .before .before .before .before .before .args .word) (c .before .before .before .before .before .args .at) (c .before .before .before .before .before .args .end) (c .before .before .before .before .before .args .p) (c .before .before .header-of .ensures) (c .enum-told .given .1)
 
 parse-requires : tie.Need-parse-requires
-parse-requires c κs = 
+parse-requires c κs =
     let h = header-stands (c .before .before .before .before .before .before .args .s .now) (c .before .before .before .before .before .before .args .word) (c .before .before .before .before .before .before .args .at) (c .before .before .before .before .before .before .args .end) (c .before .before .before .before .before .before .args .p) (c .before .before .before .header-of .ensures) (c .before .cie .given .1) in
     (c .before .before .before .before .before .before .pre .0, h .long, h .inside, c .before .before .before .before .before .before .pre .1, c .before .before .before .before .before .before .pre .2)
 
