@@ -2,7 +2,7 @@
 """The check of a foreign eh_frame section against reader.py, which was written from document 01 alone.
 
     check_section.py COUNT SEED [BYTES]     every short section over a few bytes, the library's sections of COUNT random lists, damaged
-                                            copies of small ones, and up to BYTES (400,000) of eh_frame of the programs on this machine
+                                            copies of small ones, and up to BYTES (300,000) of eh_frame of the programs on this machine
 
 The judge does as the request says: it reads every record at every offset below its length, for several registers. Only where a length is
 above 64 it reads at the first, the last and a few between. Of a section that has failing records each is named in turn: the length of the
@@ -27,7 +27,7 @@ from exports import OUT, batches, run  # noqa: E402
 from reader import EH, Bytes, Refused, Walk, entries, header_fields, header_of, read, record_fields, second  # noqa: E402
 
 FLIPS = (1, 2, 4, 8, 16, 32, 64, 128, 255)
-REGISTERS = (0, 6, 65535)
+REGISTERS = (0, 6)
 EVERY = 64
 SMALL = 200
 NAMES = {
@@ -278,7 +278,7 @@ def main():
     small = [each for each in written if len(each[0]) <= SMALL]
     for section, word in rng.sample(small, min(len(small), 6)):
         compare([(other, word) for other in damaged(section)], counts, rng)
-    of_programs(int(sys.argv[3]) if len(sys.argv) > 3 else 400_000, counts, rng)
+    of_programs(int(sys.argv[3]) if len(sys.argv) > 3 else 300_000, counts, rng)
     print(f"check_section: {len(some)} short sections, {len(written)} of ours; " + ", ".join(f"{n}: {counts[n]}" for n in sorted(counts)))
 
 

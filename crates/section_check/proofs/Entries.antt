@@ -2,33 +2,30 @@
 use mathlib.Core.Path.{_≡_, refl, sym, ap, subst, _∙_}
 use mathlib.Core.Bool.{Bool, true, false, _&&_}
 use mathlib.Core.Option.{Option, none, some}
-use mathlib.Core.List.{List, [], _∷_}
-use Prim.Native.Nat.{ℕ, zero, suc, _+_, _-_, _≤_, _<_}
+use mathlib.Core.List.{List, []}
+use Prim.Native.Nat.{ℕ, zero, suc, _+_, _-_}
 use native.Mathlib.Omega.{arith}
-use lib.Dec.{T, leb, eqb}
-use lib.ListN.{length, drop, getD, getElem?}
+use lib.Dec.{T}
+use lib.ListN.{length, drop, getElem?}
 use Rattle.format.specs.Prelude.{pick, Read, next, after, Result, good, bad, onward, orElse}
 use Rattle.format.specs.Leb.{readLittle}
 use Rattle.format.specs.Machine.{isWord}
 use Rattle.format.specs.Lists.{relocationsOf}
 use Rattle.format.specs.Rules.{State, answer}
-use Rattle.format.specs.Reader.{Entry, Found, entries, records, second, distanceBack, headerPlace, headerAt, parsed, locate, runTo, readSection, read}
+use Rattle.format.specs.Reader.{Entry, Found, entries, records, distanceBack, headerPlace, headerAt, parsed, locate, runTo, readSection, read}
 use Rattle.format.specs.declared.Reading.{Reading}
-use Rattle.format.specs.declared.Reading.the-variants.{Answered, Refused}
 use Rattle.format.specs.declared.Unsigned.{Unsigned}
 use Rattle.format.specs.declared.Unsigned.the-variants as unsigned
 use Rattle.format.proofs.Choice.{pick-yes}
 use Rattle.format.proofs.Positions.{littleAt, unsignedFrom}
-use Rattle.reader.specs.Spans.{part, entryIn, listed, endAt, numberOf, Stands, Spans}
+use Rattle.reader.specs.Spans.{part, entryIn, listed, numberOf, Stands, Spans}
 use Rattle.reader.specs.Finds.{found, Stated, Locates, inSection, rulesFrom}
-use Rattle.reader.specs.declared.entries.Number.{Number}
 use Rattle.reader.specs.declared.entries.Number.the-variants as number
 use Rattle.reader.specs.declared.entries.Span.{Span}
 use Rattle.reader.specs.declared.entries.Span.the-variants as span
 use Rattle.reader.specs.declared.location.Located.{Located}
 use Rattle.reader.specs.declared.location.Locating.{Locating}
 use Rattle.reader.specs.declared.location.Locating.the-variants as locating
-use Rattle.reader.proofs.Tiling.{entered}
 use Rattle.reader.proofs.Seeking.{number-is, number-none}
 use Rattle.reader.proofs.Asked.{place-found, place-refused, all-inside}
 use Rattle.section_check.specs.Check.{lengthOf, answers, readAt, lastAnswers, passes}

@@ -1,5 +1,5 @@
 -- Every eh_frame section of our writer passes, read with its word, where all functions pass the row check and none is relaxed.
-use mathlib.Core.Path.{_≡_, refl, sym, ap, _∙_}
+use mathlib.Core.Path.{_≡_, refl, ap, _∙_}
 use Prim.Native.Nat.{ℕ, zero, suc, _+_, _-_, _^_, _≤_, _<_}
 use native.Mathlib.Omega.{arith}
 use mathlib.Core.Bool.{Bool, true, false}
@@ -7,18 +7,17 @@ use mathlib.Core.Option.{Option, none, some}
 use mathlib.Core.List.{List, [], _∷_, _++_, append-assoc, map}
 use lib.ListN.{length, drop, getElem?, replicate, length-map}
 use lib.Dec.{T}
-use Rattle.format.specs.Prelude.{pick, next, good}
+use Rattle.format.specs.Prelude.{pick, next}
 use Rattle.format.specs.Leb.{little, readLittle}
 use Rattle.format.specs.declared.Machine.{Machine}
 use Rattle.format.specs.Machine.{machineOf}
-use Rattle.format.specs.Lists.{Function, Relaxed, functionStride, count, functionsOf, relocationsOf, numbersOf}
+use Rattle.format.specs.Lists.{Function, Relaxed, functionStride, count, functionsOf, numbersOf}
 use Rattle.format.specs.Headers.{Key, keyOf}
 use Rattle.format.specs.Records.{sizeField, recordFields}
-use Rattle.format.specs.declared.Section.{Section}
 use Rattle.format.specs.declared.Section.the-variants.{Elf}
-use Rattle.format.specs.Writer.{isDebug, taken, Seen, Written, dwarf, partsFrom, partsOf, joined}
+use Rattle.format.specs.Writer.{isDebug, taken, Seen, Written, dwarf, partsOf}
 use Rattle.format.specs.Questions.{sizeBytes, Given, Room, givenFunctions, givenFunction, accepted}
-use Rattle.format.specs.Rules.{answer, rulesAt, seen}
+use Rattle.format.specs.Rules.{answer, seen}
 use Rattle.format.specs.RowCheck.{rowCheckAt}
 use Rattle.format.specs.Reader.{Entry, isHeader, records, entries, headerPlace, locate, readSection, read}
 use Rattle.format.proofs.Choice.{pick-yes}
@@ -30,8 +29,8 @@ use Rattle.format.proofs.Parts.{headerBody, recordBody, Spot, spotOf, nextAt, n
 use Rattle.format.proofs.SectionTiles.{headerEntry, frontEntries, recordEntry, entriesOf, Holds, section-tiles}
 use Rattle.format.proofs.SectionFinds.{spotAt, record-holds, record-found}
 use Rattle.format.proofs.Accepted.{dwarfWritten, Accepted, accepted-is, taken-at, taken-size, taken-plain}
-use Rattle.format.proofs.ReadBack.{readBack, read-written, rules-given}
-use Rattle.section_check.specs.Check.{lengthOf, answers, readAt, Passes, saying, checkSection, Sound}
+use Rattle.format.proofs.ReadBack.{read-written, rules-given}
+use Rattle.section_check.specs.Check.{lengthOf, answers, readAt, Passes, saying, checkSection}
 use Rattle.section_check.proofs.Says as says
 
 -- ---- as many records as functions

@@ -1,5 +1,5 @@
 -- What the check means. An answer for register 0 at the last offset is one for every register at every offset below the length, so the test of a record is what is asked of it.
-use mathlib.Core.Path.{_≡_, refl, sym, ap, _∙_}
+use mathlib.Core.Path.{_≡_, refl, ap, _∙_}
 use mathlib.Core.Bool.{Bool, true, false, not}
 use mathlib.Core.Option.{Option, none, some}
 use mathlib.Core.List.{List, [], _∷_}

@@ -1,7 +1,6 @@
 // The check of an eh_frame section that another tool wrote, and its export. rucc-asm/src/unwind.rs of tamnd/rucc has no such check.
 ghost use mathlib.Core.Path.{_≡_};
-ghost use mathlib.Core.Bool.{true, false};
-ghost use mathlib.Core.Option.{none};
+ghost use mathlib.Core.Bool.{false};
 ghost use Prim.Native.Nat.{_+_, _≤_, _<_};
 ghost use lib.ListN.{length};
 ghost use lib.Dec.{T};
@@ -10,7 +9,7 @@ ghost use Rattle.format.specs.Machine.{isWord};
 ghost use Rattle.format.specs.Questions.{isSome};
 ghost use Rattle.format.specs.Reader.{distanceBack, headerAt, records, entries};
 ghost use Rattle.reader.specs.Spans.{entryIn, listed, Spans};
-ghost use Rattle.section_check.specs.Check.{lengthOf, saying, checkFrom, checkSection, Means};
+ghost use Rattle.section_check.specs.Check.{lengthOf, checkFrom, checkSection, Means};
 ghost use Rattle.section_check.specs.Places.{Ahead, Marks, marked, markBefore, sizeOf, answersIn, passesIn};
 use format::Reading;
 use format::Unsigned;
@@ -121,6 +120,7 @@ fn answers_at(
     }
 }
 
+// Whether the record from `at` to `end` passes: one read, at the last offset.
 fn passes(s: &[u8], word: u64, marks: &[usize], step: usize, at: usize, end: usize) -> bool
     requires { ⌜ T (isWord word) × (at + 8 ≤ end) × (end ≤ length (now s)) × (0 < step) × Marks (now s) (now marks) ⌝ }
     ensures { λ r. ⌜ r ≡ passesIn (now (s .entry)) word (entryIn (now (s .entry)) at end) ⌝ }
@@ -141,6 +141,7 @@ fn check_records(s: &[u8], word: u64) -> Checked
     requires { ⌜ T (isWord word) × T (isSome (entries (now s))) ⌝ }
     ensures { λ r. ⌜ r ≡ checkFrom (now (s .entry)) word 0 (records false (listed (entries (now (s .entry))))) ⌝ }
 {
+    // A frame above 32 KiB is probed in a loop, for which the compiler takes a register that may be in use; with 2,048 marks it stays below.
     let step = s.len() / 2048 + 1;
     let mut marks = [0usize; 2048];
     let mut k = 0;

@@ -6,12 +6,6 @@ use Rattle.checked_back.proofs.Back.{table-fits, check-of, passes-back}
 use borrow.Author.Needs.{needs}
 use Rattle.checked_back.proofs.write_and_check.Statement.{statement}
 use Rattle.checked_back.proofs.write_and_check.Tie as tie
-use Rattle.checked_back.proofs.write_and_check.Reads as reads
-use Rattle.checked_back.proofs.write_and_check.Lts as lts
-use Rattle.section_check.proofs.unwind_check_section.Reads as unwind-check-section-reads
-use Rattle.unwind.proofs.bytes_in.Reads as bytes-in-reads
-use Rattle.unwind.proofs.relaxed_table.Reads as relaxed-table-reads
-use Rattle.unwind.proofs.word_in.Reads as word-in-reads
 
 relaxed-table-requires : tie.Need-relaxed-table-requires
 relaxed-table-requires c κs = search needs

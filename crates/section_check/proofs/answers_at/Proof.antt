@@ -5,11 +5,6 @@ use Rattle.section_check.proofs.Entries.{headless, header-stands, unpar
 use borrow.Author.Needs.{needs}
 use Rattle.section_check.proofs.answers_at.Statement.{statement}
 use Rattle.section_check.proofs.answers_at.Tie as tie
-use Rattle.section_check.proofs.answers_at.Reads as reads
-use Rattle.section_check.proofs.answers_at.Lts as lts
-use Rattle.reader.proofs.location.parse.Reads as parse-reads
-use Rattle.reader.proofs.rules_at.Reads as rules-at-reads
-use Rattle.section_check.proofs.header_of.Reads as header-of-reads
 
 header-of-requires : tie.Need-header-of-requires
 header-of-requires c κs = search needs

@@ -9,12 +9,6 @@ use Rattle.section_check.specs.Check.{saying}
 use Rattle.section_check.proofs.Pass.{Passing, start, marks-on, past-header, fails-here, past-record, ended}
 use Rattle.section_check.proofs.check_records.Statement.{statement}
 use Rattle.section_check.proofs.check_records.Tie as tie
-use Rattle.section_check.proofs.check_records.Reads as reads
-use Rattle.section_check.proofs.check_records.Lts as lts
-use Rattle.reader.proofs.entries.is_header.Reads as is-header-reads
-use Rattle.reader.proofs.entries.past.Reads as past-reads
-use Rattle.section_check.proofs.mark.Reads as mark-reads
-use Rattle.section_check.proofs.passes.Reads as passes-reads
 
 abbrev Inv-entries : tie.InvT-entries
 Inv-entries s word step marks₀ k₀ next₀ marks k next = Passing s word marks k next

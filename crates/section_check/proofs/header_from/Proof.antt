@@ -9,10 +9,6 @@ use Rattle.reader.proofs.Seeking.{Seeking, turn, met, ended, header-here, heade
 use Rattle.section_check.proofs.Pass.{seeking}
 use Rattle.section_check.proofs.header_from.Statement.{statement}
 use Rattle.section_check.proofs.header_from.Tie as tie
-use Rattle.section_check.proofs.header_from.Reads as reads
-use Rattle.section_check.proofs.header_from.Lts as lts
-use Rattle.reader.proofs.entries.past.Reads as past-reads
-use Rattle.reader.proofs.location.starts.Reads as starts-reads
 
 abbrev Inv-loop : tie.InvT-loop
 Inv-loop s from place before next₀ next = Seeking s (headerAt false place before) (headerAt false place before) next

@@ -5,11 +5,6 @@ use Rattle.section_check.proofs.Pass.{before-ahead, before-place}
 use borrow.Author.Needs.{needs}
 use Rattle.section_check.proofs.header_of.Statement.{statement}
 use Rattle.section_check.proofs.header_of.Tie as tie
-use Rattle.section_check.proofs.header_of.Reads as reads
-use Rattle.section_check.proofs.header_of.Lts as lts
-use Rattle.reader.proofs.location.distance_back.Reads as distance-back-reads
-use Rattle.section_check.proofs.header_from.Reads as header-from-reads
-use Rattle.section_check.proofs.mark_before.Reads as mark-before-reads
 
 distance-back-requires : tie.Need-distance-back-requires
 distance-back-requires c κs = search needs

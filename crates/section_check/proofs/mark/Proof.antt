@@ -3,8 +3,6 @@ use Rattle.section_check.proofs.Pass.{no-stretch, mark-kept, mark-set}
 use borrow.Author.Needs.{needs}
 use Rattle.section_check.proofs.mark.Statement.{statement}
 use Rattle.section_check.proofs.mark.Tie as tie
-use Rattle.section_check.proofs.mark.Reads as reads
-use Rattle.section_check.proofs.mark.Lts as lts
 
 div-i : tie.Need-div-i
 div-i c = search needs

@@ -3,8 +3,6 @@ use Rattle.section_check.proofs.Pass.{no-mark, mark-there, mark-past}
 use borrow.Author.Needs.{needs}
 use Rattle.section_check.proofs.mark_before.Statement.{statement}
 use Rattle.section_check.proofs.mark_before.Tie as tie
-use Rattle.section_check.proofs.mark_before.Reads as reads
-use Rattle.section_check.proofs.mark_before.Lts as lts
 
 div-i : tie.Need-div-i
 div-i c = search needs

@@ -4,10 +4,6 @@ use Rattle.section_check.proofs.Entries.{no-size, size-zero, size-more}
 use borrow.Author.Needs.{needs}
 use Rattle.section_check.proofs.passes.Statement.{statement}
 use Rattle.section_check.proofs.passes.Tie as tie
-use Rattle.section_check.proofs.passes.Reads as reads
-use Rattle.section_check.proofs.passes.Lts as lts
-use Rattle.section_check.proofs.answers_at.Reads as answers-at-reads
-use Rattle.section_check.proofs.size_of.Reads as size-of-reads
 
 size-of-requires : tie.Need-size-of-requires
 size-of-requires c κs = search needs

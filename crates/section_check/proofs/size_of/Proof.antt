@@ -3,9 +3,6 @@ use Rattle.section_check.proofs.Entries.{size-said}
 use borrow.Author.Needs.{needs}
 use Rattle.section_check.proofs.size_of.Statement.{statement}
 use Rattle.section_check.proofs.size_of.Tie as tie
-use Rattle.section_check.proofs.size_of.Reads as reads
-use Rattle.section_check.proofs.size_of.Lts as lts
-use Rattle.leb.proofs.read_le.Reads as read-le-reads
 
 add-body : tie.Need-add-body
 add-body c = search needs

@@ -6,11 +6,6 @@ use Rattle.section_check.specs.Check.{saying}
 use Rattle.section_check.proofs.Says.{no-word, untiled, gone-over, with-meaning}
 use Rattle.section_check.proofs.unwind_check_section.Statement.{statement}
 use Rattle.section_check.proofs.unwind_check_section.Tie as tie
-use Rattle.section_check.proofs.unwind_check_section.Reads as reads
-use Rattle.section_check.proofs.unwind_check_section.Lts as lts
-use Rattle.reader.proofs.entries.tiles.Reads as tiles-reads
-use Rattle.reader.proofs.is_word.Reads as is-word-reads
-use Rattle.section_check.proofs.check_records.Reads as check-records-reads
 
 is-word-requires : tie.Need-is-word-requires
 is-word-requires c κs = search needs
