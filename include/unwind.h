@@ -56,7 +56,8 @@ extern "C" {
  *   76 x64 header: version 1, no flags, all four bytes and all slots there   77 x64 codes: complete, operations that unwind_seh writes
  *   78 eh_frame of a format that is written: not Mach-O
  *   79 relocations of the writers' kinds and sizes, with their partners and addresses, fields inside, values that fit
- *   80 the distance of a Set and Sub pair fits */
+ *   80 the distance of a Set and Sub pair fits
+ *   84 each record's length lies inside its entry, and the reader answers at every offset below it */
 
 /* The ready x86-64 (System V psABI) at the front of a lent list of 70 numbers or more: 0, or 54 where there are fewer, and the list
  * is then as it was. */
@@ -172,6 +173,16 @@ typedef struct {
  * does. */
 unwind_holder unwind_record_of(
     const uint8_t *section, size_t section_n, uint64_t kind, uint64_t word, uint64_t address, uint64_t pc);
+
+/* What the check of a section answers: `number` is 0, or 11 for the word, then 61, then 84 with the first record that does not pass,
+ * counted from 0. record is 0 otherwise. */
+typedef struct {
+    uint64_t number, record;
+} unwind_checked;
+
+/* Whether an eh_frame section, without relocations, tiles and unwind_read answers for every register at every offset below the
+ * length of each record. A record passes only if its length lies inside its entry. */
+unwind_checked unwind_check_section(const uint8_t *section, size_t section_n, uint64_t word);
 
 /* What the reader of x64 records answers: `number` is 0, or the question's (76, 77, then 54). end: the prologue's. frame: 1 where a
  * code sets the frame register, else 0. frame_register and frame_offset are the header's, always. codes: how many. All are 0 on a

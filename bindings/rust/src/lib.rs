@@ -31,6 +31,7 @@
 
 extern crate alloc;
 
+mod check;
 pub mod lists;
 pub mod parts;
 mod reads;
@@ -41,6 +42,7 @@ mod types;
 mod write;
 
 pub use reads::{FrameSection, Holder, Located, Placed, Record};
+pub use check::{check_section, CheckRefusal};
 pub use refusal::Refusal;
 pub use types::*;
 pub use write::{apply, call_site, read, read_x64, relaxed_debug_frame, relaxed_table, row_check, seh, Table};

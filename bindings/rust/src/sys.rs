@@ -132,6 +132,13 @@ pub(crate) struct Operation {
     pub opcode: u64,
 }
 
+/// What the check of a section answers.
+#[repr(C)]
+pub(crate) struct Checked {
+    pub number: u64,
+    pub record: u64,
+}
+
 extern "C" {
     pub(crate) fn unwind_next_entry(section: *const u8, section_n: usize, kind: u64, at: u64) -> Entry;
 
@@ -147,6 +154,8 @@ extern "C" {
     ) -> RecordFields;
 
     pub(crate) fn unwind_read_operation(section: *const u8, section_n: usize, at: u64, end: u64, word: u64) -> Operation;
+
+    pub(crate) fn unwind_check_section(section: *const u8, section_n: usize, word: u64) -> Checked;
 
     pub(crate) fn unwind_machine_x86_64(machine: *mut u64, machine_n: usize) -> u64;
 

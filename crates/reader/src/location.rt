@@ -36,7 +36,7 @@ pub fn first_addend(relocs: &[u64], place: u64) -> Number
 }
 
 // The place that lies the entry's second field before that field.
-fn distance_back(s: &[u8], at: usize, end: usize) -> Number
+pub fn distance_back(s: &[u8], at: usize, end: usize) -> Number
     requires { ⌜ (at + 8 ≤ end) × (end ≤ length (now s)) ⌝ }
     ensures { λ r. ⌜ r ≡ numberOf (distanceBack (entryIn (now (s .entry)) at end)) ⌝ }
 {
@@ -59,7 +59,7 @@ pub fn header_place(s: &[u8], relocs: &[u64], debug: bool, at: usize, end: usize
 }
 
 // The entry from `at` to `end` is a header, starts at a place, and that place is earlier than `before`.
-fn starts(s: &[u8], at: usize, end: usize, debug: bool, place: usize, before: usize) -> bool
+pub fn starts(s: &[u8], at: usize, end: usize, debug: bool, place: usize, before: usize) -> bool
     requires { ⌜ (at + 8 ≤ end) × (end ≤ length (now s)) ⌝ }
     ensures { λ r. ⌜ r ≡ eqb at place && ltb place before && isHeader debug (entryIn (now (s .entry)) at end) ⌝ }
 {

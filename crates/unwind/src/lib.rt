@@ -228,7 +228,7 @@ pub fn numbers_in(o: Outcome, room: usize) -> usize
 }
 
 // The machine's word, or 0 where there is no machine.
-fn word_in(machine: &[u64]) -> u64
+pub fn word_in(machine: &[u64]) -> u64
     ensures { λ r. ⌜ r ≡ getD (now (machine .entry)) 0 0 ⌝ }
 {
     if machine.len() == 0 {
