@@ -19,14 +19,14 @@ use format::Unsigned;
 // ---- the augmentation string of a header
 
 // What the string promises: a personality, a pointer to call sites, a signal frame.
-struct Promise {
-    personality: bool,
-    lsda: bool,
-    signal: bool,
+pub struct Promise {
+    pub personality: bool,
+    pub lsda: bool,
+    pub signal: bool,
 }
 
 // What a string promises, and the position past it.
-enum Spelled {
+pub enum Spelled {
     As(Promise, usize),
     Nothing,
 }
@@ -82,7 +82,7 @@ fn marked(
 }
 
 // The string at `at`, one of the source's.
-fn letters(s: &[u8], at: usize, debug: bool) -> Spelled
+pub fn letters(s: &[u8], at: usize, debug: bool) -> Spelled
     requires { ⌜ at ≤ length (now s) ⌝ }
     ensures { λ r. ⌜ Spells (now (s .entry)) r (readLetters (spellings debug) (drop at (now (s .entry)))) ⌝ }
 {
@@ -208,7 +208,7 @@ pub enum Header {
 }
 
 // The augmentation data, of which debug_frame has none; the operations follow it.
-fn header_tail(s: &[u8], at: usize, debug: bool, word: u64, p: Promise) -> Header
+pub fn header_tail(s: &[u8], at: usize, debug: bool, word: u64, p: Promise) -> Header
     requires { ⌜ at ≤ length (now s) ⌝ }
     ensures { λ r. ⌜ Heads (now (s .entry)) r (headerTail debug (lettersOf p) word (drop at (now (s .entry)))) ⌝ }
 {
@@ -225,7 +225,7 @@ fn header_tail(s: &[u8], at: usize, debug: bool, word: u64, p: Promise) -> Heade
 }
 
 // The data alignment factor is minus the word.
-fn factor_ok(z: i64, word: u64) -> bool
+pub fn factor_ok(z: i64, word: u64) -> bool
     requires { ⌜ T (isWord word) ⌝ }
     ensures { λ r. ⌜ r ≡ sameOffset z (dataFactor word) ⌝ }
 {
@@ -287,7 +287,7 @@ pub enum Record {
 }
 
 // The augmentation of a record holds its pointer to call sites.
-fn record_tail(s: &[u8], at: usize, debug: bool, pointer: u64, size: u64) -> Record
+pub fn record_tail(s: &[u8], at: usize, debug: bool, pointer: u64, size: u64) -> Record
     requires { ⌜ at ≤ length (now s) ⌝ }
     ensures { λ r. ⌜ Records (now (s .entry)) r (recordTail debug pointer size (drop at (now (s .entry)))) ⌝ }
 {
@@ -304,7 +304,7 @@ fn record_tail(s: &[u8], at: usize, debug: bool, pointer: u64, size: u64) -> Rec
 }
 
 // The bytes of a function's place and of its length.
-fn field_size(debug: bool, word: u64) -> u64
+pub fn field_size(debug: bool, word: u64) -> u64
     ensures { λ r. ⌜ r ≡ pick debug word 4 ⌝ }
 {
     if debug {

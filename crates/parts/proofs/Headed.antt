@@ -1,0 +1,166 @@
+-- A header's fields by positions, from its augmentation data back to the entry, by the code's tests.
+use mathlib.Core.Path.{_≡_, subst}
+use mathlib.Core.Bool.{Bool, true, false, _&&_}
+use mathlib.Core.List.{List}
+use Prim.Native.Nat.{ℕ, _+_, _≤_, _<_}
+use native.Mathlib.Omega.{arith}
+use borrow.Author.Tests.{eq-eqb, ne-eqb, le-leb, lt-leb}
+use lib.Dec.{leb, eqb}
+use lib.ListN.{length, drop, getD}
+use lib.IntN.{ℤ}
+use Rattle.format.specs.Prelude.{pick, next, Result, bad, onward, orElse}
+use Rattle.format.specs.Machine.{isWord}
+use Rattle.format.specs.Rows.{readRegister, sameOffset}
+use Rattle.format.specs.Headers.{dataFactor}
+use Rattle.format.specs.Answers.{bit}
+use Rattle.format.specs.Reader.{Letters, spellings, readLetters, headerTail}
+use Rattle.format.specs.declared.Unsigned.the-variants as unsigned
+use Rattle.format.specs.declared.Signed.the-variants as signed
+use Rattle.format.proofs.Positions.{ulebAt, slebAt, littleAt}
+use Rattle.format.proofs.PositionLaws.{uleb-rest, uleb-none, sleb-rest, sleb-none, little-rest, little-none}
+use Rattle.reader.specs.Spans.{part}
+use Rattle.reader.specs.Fields.{Rests, lettersOf, Spells, Heading, Heads}
+use Rattle.reader.specs.declared.fields.Header.{Header}
+use Rattle.reader.specs.declared.fields.Header.the-variants as header
+use Rattle.reader.specs.declared.fields.Promise.{Promise}
+use Rattle.reader.specs.declared.fields.Spelled.{Spelled}
+use Rattle.reader.specs.declared.fields.Spelled.the-variants as spells
+use Rattle.reader.proofs.Augmentation.{byte-there, byte-none}
+use Rattle.cursor.specs.Listing.{entryAt}
+use Rattle.cursor.specs.declared.Entry.{Entry}
+use Rattle.cursor.proofs.Steps.{entry-fits}
+use Rattle.parts.specs.Faults.{versionField, stringField, codeFactorField, dataFactorField, returnField, headerDataField, reading, testing}
+use Rattle.parts.specs.Headers.{HeaderParts, headerRest, headerFrom, headerParts, noHeader, headerNumbers, headerOf, readHeaderAt}
+use Rattle.parts.specs.declared.headers.HeaderRead.{HeaderRead}
+use Rattle.parts.proofs.Entered.{body-ends, left}
+
+-- ---- the augmentation data, and the operations behind it
+
+module _ (s : List ℕ) (base p : ℕ) (debug : Bool) (l : Letters) (word ret : ℕ) where
+  abbrev behind : HeaderRead
+  behind = headerNumbers (base + length s) (headerRest debug l word ret (drop p s))
+
+  module _ {r : Header} (m : Heads s r (headerTail debug l word (drop p s))) where
+    pub rest-bad : r ≡ header.Bad → behind ≡ noHeader 64 headerDataField
+    unfolding headerNumbers headerRest onward orElse
+    rest-bad e = rw (subst (λ (r : Header). Heads s r (headerTail debug l word (drop p s))) e m)
+
+    module _ {q n : ℕ} {signal : Bool} (e : r ≡ header.Fields q n signal) where
+      pub heading : Heading s q n signal (headerTail debug l word (drop p s))
+      heading = subst (λ (r : Header). Heads s r (headerTail debug l word (drop p s))) e m
+
+      pub rest-there : behind
+          ≡ record {
+            number = 0;
+            «field» = 0;
+            personality = bit (l .personality);
+            lsda = bit (l .lsda);
+            signal = bit signal;
+            «return_register» = ret;
+            pointer = n;
+            operations = base + q;
+            end = base + length s;
+          }
+      unfolding headerNumbers headerRest onward orElse
+      rest-there = rw (heading .read, left s base q (heading .inside))
+
+-- ---- the factors and the return address register
+
+module _ (s : List ℕ) (p : ℕ) (debug : Bool) (l : Letters) (word : ℕ) where
+  abbrev from : Result HeaderParts
+  from = headerFrom debug l word (drop p s)
+
+  pub codeless : ulebAt s p ≡ unsigned.Bad → from ≡ bad codeFactorField
+  unfolding headerFrom reading
+  codeless e = rw (uleb-none s p e)
+
+  module _ {code q : ℕ} (e : ulebAt s p ≡ unsigned.Value code q) where
+    pub code-other : (code ≡ 1 → ⊥) → from ≡ bad codeFactorField
+    unfolding headerFrom reading testing pick
+    code-other n = rw (uleb-rest s p e) (simp (ne-eqb code 1 n))
+
+    module _ (one : code ≡ 1) where
+      pub dataless : slebAt s q ≡ signed.Bad → from ≡ bad dataFactorField
+      unfolding headerFrom reading testing pick
+      dataless f = rw (uleb-rest s p e, one, sleb-none s q f)
+
+      module _ {z : ℤ} {t : ℕ} (f : slebAt s q ≡ signed.Value z t) where
+        pub data-other : sameOffset z (dataFactor word) ≡ false → from ≡ bad dataFactorField
+        unfolding headerFrom reading testing pick
+        data-other g = rw (uleb-rest s p e, one, sleb-rest s q f) (simp g)
+
+        module _ (g : sameOffset z (dataFactor word) ≡ true) where
+          pub retless : ulebAt s t ≡ unsigned.Bad → from ≡ bad returnField
+          unfolding headerFrom readRegister next reading testing pick
+          retless k = rw (uleb-rest s p e, one, sleb-rest s q f, uleb-none s t k) (simp g)
+
+          module _ {v u : ℕ} (k : ulebAt s t ≡ unsigned.Value v u) where
+            pub ret-over : 0xffff < v → from ≡ bad returnField
+            unfolding headerFrom readRegister next reading testing pick
+            ret-over h = rw (uleb-rest s p e, one, sleb-rest s q f, uleb-rest s t k) (simp (g, lt-leb v 0xffff h))
+
+            pub ret-there : v ≤ 0xffff → from ≡ headerRest debug l word v (drop u s)
+            unfolding headerFrom readRegister next reading testing pick
+            ret-there h = rw (uleb-rest s p e, one, sleb-rest s q f, uleb-rest s t k) (simp (g, le-leb v 0xffff h))
+
+-- ---- the id, the version and the string
+
+module _ (s : List ℕ) (debug : Bool) (word : ℕ) where
+  abbrev all : Result HeaderParts
+  all = headerParts debug word s
+
+  pub parts-none : littleAt 4 s 0 ≡ unsigned.Bad → all ≡ bad versionField
+  unfolding headerParts reading
+  parts-none e = rw (little-none s 0 4 e)
+
+  module _ {id p : ℕ} (e : littleAt 4 s 0 ≡ unsigned.Value id p) where
+    pub versionless : length s ≤ p → all ≡ bad versionField
+    unfolding headerParts reading
+    versionless h = rw (little-rest s 0 (omega arith) e, byte-none s p h)
+
+    module _ (h : p < length s) where
+      pub version-other : (getD s p 0 ≡ 1 → ⊥) → all ≡ bad versionField
+      unfolding headerParts reading testing pick
+      version-other n = rw (little-rest s 0 (omega arith) e, byte-there s p h) (simp (ne-eqb _ _ n))
+
+      module _ (v : getD s p 0 ≡ 1) {r : Spelled} (m : Spells s r (readLetters (spellings debug) (drop (p + 1) s))) where
+        pub stringless : r ≡ spells.Nothing → all ≡ bad stringField
+        unfolding headerParts reading testing pick
+        stringless f =
+            rw (little-rest s 0 (omega arith) e, byte-there s p h, v, subst (λ (r : Spelled). Spells s r (readLetters (spellings debug) (drop (p + 1) s))) f m)
+
+        pub string-there : {l : Promise} {q : ℕ} → r ≡ spells.As l q → all ≡ headerFrom debug (lettersOf l) word (drop q s)
+        unfolding headerParts reading testing pick
+        string-there {l} {q} f =
+            let k : Rests s (lettersOf l) q (readLetters (spellings debug) (drop (p + 1) s)) = subst (λ (r : Spelled). Spells s r (readLetters (spellings debug) (drop (p + 1) s))) f m in
+            rw (little-rest s 0 (omega arith) e, byte-there s p h, v, k .read)
+
+-- ---- the entry
+
+module _ (section : List ℕ) (kind word place : ℕ) where
+  abbrev here : HeaderRead
+  here = readHeaderAt section kind word place
+
+  pub header-wordless : isWord word ≡ false → here ≡ noHeader 11 0
+  unfolding readHeaderAt pick
+  header-wordless w = rw w
+
+  module _ (w : isWord word ≡ true) where
+    pub header-kindless : 1 < kind → here ≡ noHeader 11 0
+    unfolding readHeaderAt pick
+    header-kindless h = rw (w, lt-leb kind 1 h)
+
+    module _ (k : kind ≤ 1) {e : Entry} (same : e ≡ entryAt (eqb kind 1) section place) where
+      pub header-none : (e .number ≡ 0 → ⊥) → here ≡ noHeader 61 0
+      unfolding readHeaderAt headerOf pick
+      header-none n = rw (w, le-leb kind 1 k, ← same, ne-eqb (e .number) 0 n)
+
+      module _ (n : e .number ≡ 0) where
+        pub header-record : e .header ≡ false → here ≡ noHeader 63 0
+        unfolding readHeaderAt headerOf pick
+        header-record h = rw (w, le-leb kind 1 k, ← same, eq-eqb (e .number) 0 n, h)
+
+        pub header-there : e .header ≡ true
+            → here ≡ headerNumbers (e .place + 4 + length (part section (e .place + 4) (e .next))) (headerParts (eqb kind 1) word (part section (e .place + 4) (e .next)))
+        unfolding readHeaderAt headerOf pick
+        header-there h = rw (w, le-leb kind 1 k, ← same, eq-eqb (e .number) 0 n, h, body-ends section (entry-fits (eqb kind 1) section place same n))

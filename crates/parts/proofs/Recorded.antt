@@ -1,0 +1,142 @@
+-- A record's fields by positions, from its augmentation data back to the entry, by the code's tests.
+use mathlib.Core.Path.{_≡_, subst}
+use mathlib.Core.Bool.{Bool, true, false, _&&_}
+use mathlib.Core.Option.{none}
+use mathlib.Core.List.{List}
+use Prim.Native.Nat.{ℕ, _+_, _≤_, _<_}
+use native.Mathlib.Omega.{arith}
+use borrow.Author.Tests.{eq-eqb, ne-eqb, le-leb, lt-leb}
+use lib.Dec.{T, leb, eqb}
+use lib.ListN.{length, drop}
+use Rattle.format.specs.Prelude.{pick, Result, bad, onward, orElse}
+use Rattle.format.specs.Machine.{isWord}
+use Rattle.format.specs.Reader.{RecordFields, recordTail}
+use Rattle.format.specs.declared.Unsigned.the-variants as unsigned
+use Rattle.format.proofs.Positions.{ulebAt, littleAt}
+use Rattle.format.proofs.PositionLaws.{uleb-ahead, uleb-rest, uleb-none, little-ahead, little-rest, little-none}
+use Rattle.reader.specs.Spans.{part}
+use Rattle.reader.specs.Fields.{Recording, Records}
+use Rattle.reader.specs.declared.fields.Record.{Record}
+use Rattle.reader.specs.declared.fields.Record.the-variants as row
+use Rattle.reader.proofs.Recorded.{field-small}
+use Rattle.cursor.specs.Listing.{entryAt}
+use Rattle.cursor.specs.declared.Entry.{Entry}
+use Rattle.cursor.proofs.Steps.{entry-fits}
+use Rattle.parts.specs.Faults.{functionField, lengthField, recordDataField, reading}
+use Rattle.parts.specs.Records.{RecordParts, recordRest, recordParts, restFrom, callSites, noRecord, recordNumbers, recordOf, readRecordAt}
+use Rattle.parts.specs.declared.records.RecordRead.{RecordRead}
+use Rattle.parts.proofs.Entered.{body-ends, left}
+
+-- ---- the pointer to call sites
+
+module _ (s : List ℕ) (base p : ℕ) (debug : Bool) (pointer : ℕ) where
+  abbrev sites : ℕ
+  sites = callSites debug pointer (base + length s) (drop p s)
+
+  pub sites-debug : debug ≡ true → sites ≡ 0
+  unfolding callSites pick
+  sites-debug d = rw d
+
+  module _ (d : debug ≡ false) where
+    pub sites-none : pointer ≡ 0 → sites ≡ 0
+    unfolding callSites pick
+    sites-none e = rw (d, eq-eqb pointer 0 e)
+
+    module _ (n : pointer ≡ 0 → ⊥) where
+      pub sites-bad : ulebAt s p ≡ unsigned.Bad → sites ≡ 0
+      unfolding callSites restFrom pick
+      sites-bad e = rw (d, ne-eqb pointer 0 n, uleb-none s p e)
+
+      pub sites-there : {v q : ℕ} → ulebAt s p ≡ unsigned.Value v q → sites ≡ base + q
+      unfolding callSites restFrom pick
+      sites-there {q = q} e = rw (d, ne-eqb pointer 0 n, uleb-rest s p e) (left s base q (uleb-ahead s p e .1))
+
+-- ---- the augmentation data, and the operations behind it
+
+module _ (s : List ℕ) (base p : ℕ) (debug : Bool) (pointer header function size : ℕ) where
+  abbrev behind : RecordRead
+  behind = recordNumbers debug pointer (base + length s) (recordRest debug pointer header function size (drop p s))
+
+  module _ {r : Record} (m : Records s r (recordTail debug pointer size (drop p s))) where
+    pub rest-bad : r ≡ row.Bad → behind ≡ noRecord 64 recordDataField
+    unfolding recordNumbers recordRest onward orElse
+    rest-bad e = rw (subst (λ (r : Record). Records s r (recordTail debug pointer size (drop p s))) e m)
+
+    module _ {q z : ℕ} (e : r ≡ row.Fields q z) where
+      pub recording : Recording s q z (recordTail debug pointer size (drop p s))
+      recording = subst (λ (r : Record). Records s r (recordTail debug pointer size (drop p s))) e m
+
+      pub rest-there : behind
+          ≡ record {
+            number = 0;
+            «field» = 0;
+            header = header;
+            function = function;
+            length = z;
+            «call_sites» = callSites debug pointer (base + length s) (drop p s);
+            operations = base + q;
+            end = base + length s;
+          }
+      unfolding recordNumbers recordRest onward orElse
+      rest-there = rw (recording .read, left s base q (recording .inside))
+
+-- ---- the fields in front of it
+
+module _ (s : List ℕ) (debug : Bool) (word pointer : ℕ) where
+  abbrev all : Result RecordParts
+  all = recordParts debug word pointer s
+
+  pub parts-none : littleAt 4 s 0 ≡ unsigned.Bad → all ≡ bad functionField
+  unfolding recordParts reading
+  parts-none e = rw (little-none s 0 4 e)
+
+  module _ (t : T (isWord word)) {id p : ℕ} (e : littleAt 4 s 0 ≡ unsigned.Value id p) {n : ℕ} (w : n ≡ pick debug word 4) where
+    byte : 0 < n
+    byte = omega (arith, field-small debug word t .0)
+
+    pub parts-placeless : littleAt n s p ≡ unsigned.Bad → all ≡ bad functionField
+    unfolding recordParts reading
+    parts-placeless f = rw (← w, little-rest s 0 (omega arith) e, little-none s p n f)
+
+    module _ {v q : ℕ} (f : littleAt n s p ≡ unsigned.Value v q) where
+      pub parts-sizeless : littleAt n s q ≡ unsigned.Bad → all ≡ bad lengthField
+      unfolding recordParts reading
+      parts-sizeless g = rw (← w, little-rest s 0 (omega arith) e, little-rest s p byte f, little-none s q n g)
+
+      module _ {size u : ℕ} (g : littleAt n s q ≡ unsigned.Value size u) where
+        pub rest-inside : u ≤ length s
+        rest-inside = little-ahead s q byte g .1
+
+        pub parts-rest : all ≡ recordRest debug pointer id v size (drop u s)
+        unfolding recordParts reading
+        parts-rest = rw (← w, little-rest s 0 (omega arith) e, little-rest s p byte f, little-rest s q byte g)
+
+-- ---- the entry
+
+module _ (section : List ℕ) (kind word pointer place : ℕ) where
+  abbrev here : RecordRead
+  here = readRecordAt section kind word pointer place
+
+  pub record-wordless : isWord word ≡ false → here ≡ noRecord 11 0
+  unfolding readRecordAt pick
+  record-wordless w = rw w
+
+  module _ (w : isWord word ≡ true) where
+    pub record-kindless : 1 < kind → here ≡ noRecord 11 0
+    unfolding readRecordAt pick
+    record-kindless h = rw (w, lt-leb kind 1 h)
+
+    module _ (k : kind ≤ 1) {e : Entry} (same : e ≡ entryAt (eqb kind 1) section place) where
+      pub record-none : (e .number ≡ 0 → ⊥) → here ≡ noRecord 61 0
+      unfolding readRecordAt recordOf pick
+      record-none n = rw (w, le-leb kind 1 k, ← same, ne-eqb (e .number) 0 n)
+
+      module _ (n : e .number ≡ 0) where
+        pub record-header : e .header ≡ true → here ≡ noRecord 62 0
+        unfolding readRecordAt recordOf pick
+        record-header h = rw (w, le-leb kind 1 k, ← same, eq-eqb (e .number) 0 n, h)
+
+        pub record-there : e .header ≡ false
+            → here ≡ recordNumbers (eqb kind 1) pointer (e .place + 4 + length (part section (e .place + 4) (e .next))) (recordParts (eqb kind 1) word pointer (part section (e .place + 4) (e .next)))
+        unfolding readRecordAt recordOf pick
+        record-there h = rw (w, le-leb kind 1 k, ← same, eq-eqb (e .number) 0 n, h, body-ends section (entry-fits (eqb kind 1) section place same n))
