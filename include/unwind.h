@@ -47,7 +47,7 @@ extern "C" {
  *   34 registers below 16   35 offsets to 255   36 allocation positive, a multiple of 8   37 below 2^32   38 save not below the
  *   frame   39 below 2^32   40 slots to 255   41 frame offset 0 to 240, a multiple of 16
  *   51 places or markers fit   52 bytes   53 relocations   54 call sites or x64 info; structs: the list for numbers; x64
- *   reader: the list for codes
+ *   reader: the list for codes; index: the list for places
  *   61 lengths tile   62 record k   63 its header   64 fields of both   65 p below the length   66 operations
  *   67 a state to restore, no Restore in a header   68 at most 16 states stored   69 a frame address rule to change
  *   71 a table of call sites: place inside, head ff ff 01, its length readable and to the end   72 its entries: complete, readable,
@@ -116,6 +116,61 @@ typedef struct {
  * cover the offset, is not said. A function's place is the addend of its record's relocation to symbol 1. */
 unwind_site unwind_call_site(const uint8_t *sites, size_t sites_n, uint64_t place, uint64_t offset);
 
+/* ---- the reader by places: one pass over a section for several questions */
+
+/* Where the operations of a record and of its header are (from, and up to), the function's length, the bytes of a record's pointer to
+ * call sites, the header's signal mark, and the word. `number` is 0, or the question's; all else is 0 then. */
+typedef struct {
+    uint64_t number, header, header_end, record, record_end, length, pointer, signal, word;
+} unwind_located;
+
+/* Record k: 11, 61 to 64. */
+unwind_located unwind_locate(
+    const uint8_t *section, size_t section_n, const uint64_t *relocations, size_t relocations_n,
+    uint64_t kind, uint64_t word, uint64_t k);
+
+/* The rules at p from what unwind_locate or unwind_locate_at answered: unwind_read's answer. A non-zero number in it is the answer.
+ * Other numbers are taken too; those that do not lie in the section are 64. */
+unwind_reading unwind_rules_at(
+    const uint8_t *section, size_t section_n, unwind_located located, uint16_t reg, uint64_t p);
+
+/* How many records there are. */
+typedef struct {
+    uint64_t number, records;
+} unwind_indexed;
+
+/* The place of each record and of its header, two numbers each, at the front of a lent list, whose rest is as it was: 11, 61, then 54
+ * where they do not fit. A record without a header (63) has 2^64 - 1 as its header's place. */
+unwind_indexed unwind_index(
+    const uint8_t *section, size_t section_n, const uint64_t *relocations, size_t relocations_n,
+    uint64_t kind, uint64_t word, uint64_t *places, size_t places_n);
+
+/* Where the operations of the record at one place and of the header at another are, with no pass over the section: 11, 63 where the
+ * header's place is not below the record's, 64. By the two numbers of the index this is unwind_locate's answer. */
+unwind_located unwind_locate_at(
+    const uint8_t *section, size_t section_n, uint64_t kind, uint64_t word, uint64_t record, uint64_t header);
+
+/* Where a record's function starts, and its length. */
+typedef struct {
+    uint64_t number, address, length;
+} unwind_placed;
+
+/* The function of the record at a place, by the record's own fields: in eh_frame relative to the field, whose address is the section's
+ * (`address`, of its first byte) and the place, modulo 2^(8 word); in debug_frame as it stands. 11; 64 where no record with these fields
+ * stands there. */
+unwind_placed unwind_function_at(
+    const uint8_t *section, size_t section_n, uint64_t kind, uint64_t word, uint64_t address, uint64_t record);
+
+/* A record by its number and its place. */
+typedef struct {
+    uint64_t number, k, place;
+} unwind_holder;
+
+/* The first record whose function holds pc: it starts at most there, and pc less the start is below the length. 11, 61; 62 where none
+ * does. */
+unwind_holder unwind_record_of(
+    const uint8_t *section, size_t section_n, uint64_t kind, uint64_t word, uint64_t address, uint64_t pc);
+
 /* What the reader of x64 records answers: `number` is 0, or the question's (76, 77, then 54). end: the prologue's. frame: 1 where a
  * code sets the frame register, else 0. frame_register and frame_offset are the header's, always. codes: how many. All are 0 on a
  * refusal. */
@@ -127,6 +182,50 @@ typedef struct {
  * register reads as the integer one of its number. */
 unwind_x64_reading unwind_read_x64(
     const uint8_t *info, size_t info_n, uint64_t place, uint64_t *codes, size_t codes_n);
+
+/* ---- a section taken apart. Kinds and words are unwind_read's; a place and a position are counts of bytes from the section's start. */
+
+/* What stands at a position. `number` is 0 for an entry: `header` 1 for a header and 0 for a record, where it stands, the value of its
+ * length field, and where the next one stands. 11: a kind above 1; 61: no entry fits the rest of the section; 62: the section ends
+ * here, or before. Then place and next are `at`, and the others 0. */
+typedef struct {
+    uint64_t number, header, place, length, next;
+} unwind_entry;
+
+unwind_entry unwind_next_entry(const uint8_t *section, size_t section_n, uint64_t kind, uint64_t at);
+
+/* The header (CIE) at a place. `number` is 0; 11; 61 where no entry stands there; 63 where it is a record; 64 with the `field` at
+ * fault: 1 version, 2 augmentation string, 3 code alignment factor, 4 data alignment factor, 5 return address register,
+ * 6 augmentation data. personality, lsda, signal: 1 where the string promises it. pointer: the bytes of a record's pointer to call
+ * sites. Its operations stand from `operations` up to `end`. All are 0 on a refusal but number and field. */
+typedef struct {
+    uint64_t number, field, personality, lsda, signal, return_register, pointer, operations, end;
+} unwind_header_fields;
+
+unwind_header_fields unwind_read_header(
+    const uint8_t *section, size_t section_n, uint64_t kind, uint64_t word, uint64_t place);
+
+/* The record (FDE) at a place, with its header's pointer size. `number` is 0; 11; 61 where no entry stands there; 62 where it is a
+ * header; 64 with the `field` at fault: 7 the function's place, 8 its length, 9 augmentation data. header: the value of the second
+ * field; function and length: as they stand. call_sites: where the pointer to call sites stands, 0 where pointer is 0 and in
+ * debug_frame. Its operations stand from `operations` up to `end`. All are 0 on a refusal but number and field. */
+typedef struct {
+    uint64_t number, field, header, function, length, call_sites, operations, end;
+} unwind_record_fields;
+
+unwind_record_fields unwind_read_record(
+    const uint8_t *section, size_t section_n, uint64_t kind, uint64_t word, uint64_t pointer, uint64_t place);
+
+/* One operation of those from `at` to `end`. `number` is 0; 11: word; 62 where at is end; 66 where none can be read, or where `end`
+ * lies before `at` or behind the section. kind, reg and value: a row's, its value 64-bit two's complement and unfactored; 16: padding;
+ * 17: a step, whose value is how far. next: where the next one stands. opcode: the first byte as it stands, also of one that cannot be
+ * read. On a refusal next is `at`, and what is not named here is 0. */
+typedef struct {
+    uint64_t number, kind, reg, value, next, opcode;
+} unwind_operation;
+
+unwind_operation unwind_read_operation(
+    const uint8_t *section, size_t section_n, uint64_t at, uint64_t end, uint64_t word);
 
 /* Puts a section in place: `bytes` with its relocations applied, in list order, at the front of `out`. `addresses` are two
  * numbers each, a symbol and its address; of a symbol that is listed twice the first counts. `section` is the address of the

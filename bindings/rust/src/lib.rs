@@ -32,12 +32,15 @@
 extern crate alloc;
 
 pub mod lists;
+pub mod parts;
+mod reads;
 mod refusal;
 pub mod structs;
 mod sys;
 mod types;
 mod write;
 
+pub use reads::{FrameSection, Holder, Located, Placed, Record};
 pub use refusal::Refusal;
 pub use types::*;
 pub use write::{apply, call_site, read, read_x64, relaxed_debug_frame, relaxed_table, row_check, seh, Table};

@@ -188,6 +188,11 @@ pub fn read(
     let r = unsafe {
         sys::unwind_read(section.as_ptr(), section.len(), relocations.as_ptr(), relocations.len(), kind, word, k, register, p)
     };
+    rules(&r)
+}
+
+/// What the reader's numbers say.
+pub(crate) fn rules(r: &sys::Reading) -> Result<Rules, Refusal> {
     if r.number != 0 {
         return Err(Refusal { number: r.number, position: 0 });
     }

@@ -35,6 +35,44 @@ pub(crate) struct Site {
     pub pad: u64,
 }
 
+/// Where the operations of a record and of its header are.
+#[derive(Clone, Copy, Debug, PartialEq, Eq)]
+#[repr(C)]
+pub(crate) struct Located {
+    pub number: u64,
+    pub header: u64,
+    pub header_end: u64,
+    pub record: u64,
+    pub record_end: u64,
+    pub length: u64,
+    pub pointer: u64,
+    pub signal: u64,
+    pub word: u64,
+}
+
+/// How many records there are.
+#[repr(C)]
+pub(crate) struct Indexed {
+    pub number: u64,
+    pub records: u64,
+}
+
+/// Where a record's function starts, and its length.
+#[repr(C)]
+pub(crate) struct Placed {
+    pub number: u64,
+    pub address: u64,
+    pub length: u64,
+}
+
+/// A record by its number and its place.
+#[repr(C)]
+pub(crate) struct Holder {
+    pub number: u64,
+    pub k: u64,
+    pub place: u64,
+}
+
 /// What the reader of x64 records answers.
 #[repr(C)]
 pub(crate) struct X64Reading {
@@ -46,7 +84,70 @@ pub(crate) struct X64Reading {
     pub codes: u64,
 }
 
+/// What stands at a position.
+#[repr(C)]
+pub(crate) struct Entry {
+    pub number: u64,
+    pub header: u64,
+    pub place: u64,
+    pub length: u64,
+    pub next: u64,
+}
+
+/// The fields of a header.
+#[repr(C)]
+pub(crate) struct HeaderFields {
+    pub number: u64,
+    pub field: u64,
+    pub personality: u64,
+    pub lsda: u64,
+    pub signal: u64,
+    pub return_register: u64,
+    pub pointer: u64,
+    pub operations: u64,
+    pub end: u64,
+}
+
+/// The fields of a record.
+#[repr(C)]
+pub(crate) struct RecordFields {
+    pub number: u64,
+    pub field: u64,
+    pub header: u64,
+    pub function: u64,
+    pub length: u64,
+    pub call_sites: u64,
+    pub operations: u64,
+    pub end: u64,
+}
+
+/// One operation.
+#[repr(C)]
+pub(crate) struct Operation {
+    pub number: u64,
+    pub kind: u64,
+    pub reg: u64,
+    pub value: u64,
+    pub next: u64,
+    pub opcode: u64,
+}
+
 extern "C" {
+    pub(crate) fn unwind_next_entry(section: *const u8, section_n: usize, kind: u64, at: u64) -> Entry;
+
+    pub(crate) fn unwind_read_header(section: *const u8, section_n: usize, kind: u64, word: u64, place: u64) -> HeaderFields;
+
+    pub(crate) fn unwind_read_record(
+        section: *const u8,
+        section_n: usize,
+        kind: u64,
+        word: u64,
+        pointer: u64,
+        place: u64,
+    ) -> RecordFields;
+
+    pub(crate) fn unwind_read_operation(section: *const u8, section_n: usize, at: u64, end: u64, word: u64) -> Operation;
+
     pub(crate) fn unwind_machine_x86_64(machine: *mut u64, machine_n: usize) -> u64;
 
     pub(crate) fn unwind_call_site(sites: *const u8, sites_n: usize, place: u64, offset: u64) -> Site;
@@ -123,6 +224,56 @@ extern "C" {
         reg: u16,
         p: u64,
     ) -> Reading;
+
+    pub(crate) fn unwind_locate(
+        section: *const u8,
+        section_n: usize,
+        relocations: *const u64,
+        relocations_n: usize,
+        kind: u64,
+        word: u64,
+        k: u64,
+    ) -> Located;
+
+    pub(crate) fn unwind_rules_at(section: *const u8, section_n: usize, located: Located, reg: u16, p: u64) -> Reading;
+
+    pub(crate) fn unwind_index(
+        section: *const u8,
+        section_n: usize,
+        relocations: *const u64,
+        relocations_n: usize,
+        kind: u64,
+        word: u64,
+        places: *mut u64,
+        places_n: usize,
+    ) -> Indexed;
+
+    pub(crate) fn unwind_locate_at(
+        section: *const u8,
+        section_n: usize,
+        kind: u64,
+        word: u64,
+        record: u64,
+        header: u64,
+    ) -> Located;
+
+    pub(crate) fn unwind_function_at(
+        section: *const u8,
+        section_n: usize,
+        kind: u64,
+        word: u64,
+        address: u64,
+        record: u64,
+    ) -> Placed;
+
+    pub(crate) fn unwind_record_of(
+        section: *const u8,
+        section_n: usize,
+        kind: u64,
+        word: u64,
+        address: u64,
+        pc: u64,
+    ) -> Holder;
 
     pub(crate) fn unwind_pack_functions(
         functions: *const Function,

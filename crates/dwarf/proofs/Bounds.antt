@@ -116,7 +116,7 @@ module _ (s : Section) (m : Machine) where
 
 -- ---- call sites
 
-sites-most : (ls : List Landing) → length (sitesBytes ls) ≤ 40 * length ls
+pub sites-most : (ls : List Landing) → length (sitesBytes ls) ≤ 40 * length ls
 unfolding sitesBytes siteBytes
 sites-most [] = omega arith
 sites-most (l ∷ ls) =

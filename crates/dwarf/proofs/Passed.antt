@@ -31,7 +31,7 @@ in-sum f at (suc n) (suc k) h =
     let e : f (at + suc k) ≡ f (suc at + k) = ap f (omega arith) in
     omega (arith, in-sum f (suc at) n k (omega arith))
 
-in-total : (f : ℕ → ℕ) (n k : ℕ) → k < n → f k ≤ sumOf f 0 n
+pub in-total : (f : ℕ → ℕ) (n k : ℕ) → k < n → f k ≤ sumOf f 0 n
 in-total f n k h =
     let e : 0 + k ≡ k = omega arith in
     rw e at (in-sum f 0 n k h)

@@ -77,7 +77,7 @@ pub record Faulty (number fault lo hi : ℕ) : Type 0 where
   pub least : lo ≤ fault
   pub most : fault ≤ hi
 
-abbrev HeaderAgrees : (end : ℕ) → HeaderRead → Option HeaderFields → Type 0
+abbrev pub HeaderAgrees : (end : ℕ) → HeaderRead → Option HeaderFields → Type 0
 HeaderAgrees end r none = Faulty (r .number) (r .«field») 1 6
 HeaderAgrees end r (some f) = HeaderSays end f r
 
@@ -115,7 +115,7 @@ pub record RecordSays (end : ℕ) (f : RecordFields) (r : RecordRead) : Type 0 w
   pub operations : r .operations ≡ end - length (f .operations)
   pub ends : r .end ≡ end
 
-abbrev RecordAgrees : (end : ℕ) → RecordRead → Option RecordFields → Type 0
+abbrev pub RecordAgrees : (end : ℕ) → RecordRead → Option RecordFields → Type 0
 RecordAgrees end r none = Faulty (r .number) (r .«field») 7 9
 RecordAgrees end r (some f) = RecordSays end f r
 

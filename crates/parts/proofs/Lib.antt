@@ -5,3 +5,6 @@ pub mod Recorded
 pub mod Headed
 pub mod Agrees
 pub mod Walks
+pub mod Suffixes
+pub mod Readings
+pub mod Examples

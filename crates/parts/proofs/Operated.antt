@@ -1,12 +1,12 @@
 -- One operation of those from a position to another, by the code's tests; and the 64 bits of its value.
-use mathlib.Core.Path.{_≡_, sym, ap, _∙_}
-use mathlib.Core.Bool.{true, false, _&&_}
+use mathlib.Core.Path.{_≡_, refl, sym, ap, _∙_}
+use mathlib.Core.Bool.{Bool, true, false, _&&_}
 use Prim.Native.Nat.{ℕ, _+_, _-_, _^_, _≤_, _<_}
 use native.Mathlib.Omega.{arith}
 use mathlib.Core.List.{List}
 use borrow.Author.Tests.{eq-eqb, ne-eqb, le-leb, lt-leb}
 use lib.Dec.{leb, eqb}
-use lib.ListN.{length, drop, length-drop}
+use lib.ListN.{length, drop, length-drop, length-take}
 use lib.Seq.{length-take-le}
 use lib.IntN.{ℤ, pos, negsuc}
 use lib.Signed.{ltZ, mag}
@@ -16,7 +16,17 @@ use Rattle.format.specs.Prelude.{pick}
 use Rattle.format.specs.Machine.{isWord}
 use Rattle.rows.proofs.Signs.{negative, positive}
 use Rattle.reader.specs.Spans.{part}
-use Rattle.parts.specs.Operations.{noOperation, operationFrom, readOperationAt}
+use Rattle.reader.proofs.Whole.{drop-part}
+use Rattle.format.specs.Rows.{readOperation}
+use mathlib.Core.Option.{some}
+use Rattle.format.specs.declared.Operation.{Operation}
+use Rattle.format.specs.declared.Operation.the-variants.{Nop, Step, Does}
+use Rattle.format.specs.declared.Decoded.{Decoded}
+use Rattle.format.specs.declared.Decoded.the-variants as decoded
+use Rattle.format.proofs.Positions.{operationAt}
+use Rattle.format.proofs.OperationLaws.{operation-ahead, operation-rest}
+use Rattle.parts.specs.Operations.{noOperation, operationNumbers, decodedNumbers, operationFrom, readOperationAt}
+use Rattle.parts.specs.declared.operations.OperationRead.{OperationRead}
 
 -- ---- the 64 bits of a value
 
@@ -61,3 +71,43 @@ module _ (section : List ℕ) (at end word : ℕ) where
   some-bytes n h k b =
       let e : length (part section at end) ≡ end - at = length-take-le (end - at) (drop at section) (omega (arith, length-drop at section)) in
       (omega arith, omega arith)
+
+-- ---- an operation that was read: the next position lies behind it, and not behind the end
+
+abbrev pub Goes : (at end : ℕ) → OperationRead → Type 0
+Goes at end r = r .number ≡ 0 → (at < r .next) × (r .next ≤ end)
+
+goes-not : {at end : ℕ} (n opcode : ℕ) → 0 < n → Goes at end (noOperation n at opcode)
+unfolding noOperation
+goes-not n opcode h e = absurd (omega arith)
+
+goes-pick : {at end : ℕ} (test : Bool) (a b : OperationRead) → Goes at end a → Goes at end b → Goes at end (pick test a b)
+unfolding pick
+goes-pick true a b x y = x
+goes-pick false a b x y = y
+
+goes-next : {at end : ℕ} (op : Operation) (q opcode : ℕ) → at < q → q ≤ end → Goes at end (operationNumbers op q opcode)
+unfolding operationNumbers
+goes-next Nop q opcode h k e = (h, k)
+goes-next (Step n) q opcode h k e = (h, k)
+goes-next (Does row) q opcode h k e = (h, k)
+
+module _ (section : List ℕ) (at end word : ℕ) where
+  goes-decoded : (d : Decoded) → operationAt word (part section at end) 0 ≡ d → (opcode : ℕ) → Goes at end (decodedNumbers at opcode d)
+  unfolding decodedNumbers
+  goes-decoded decoded.Bad s opcode = goes-not 66 opcode (omega arith)
+  goes-decoded (decoded.Operation op q) s opcode =
+      let a = operation-ahead word (part section at end) 0 s in
+      goes-next op (at + q) opcode (omega (arith, a .0)) (omega (arith, a .0, a .1, length-take (end - at) (drop at section)))
+
+  pub operation-goes : Goes at end (readOperationAt section at end word)
+  unfolding readOperationAt operationFrom
+  operation-goes =
+      goes-pick (isWord word) _ _
+      (goes-pick (eqb at end) _ _ (goes-not 62 0 (omega arith))
+      (goes-pick (leb at end && leb end (length section)) _ _ (goes-decoded _ refl _) (goes-not 66 0 (omega arith)))) (goes-not 11 0 (omega arith))
+
+  -- what the reader reads there, and what it leaves
+  pub operation-reads : {op : Operation} {q : ℕ} → operationAt word (part section at end) 0 ≡ decoded.Operation op q
+      → readOperation word (part section at end) ≡ some (op, part section (at + q) end)
+  operation-reads {q = q} s = operation-rest word (part section at end) 0 s ∙ rw (drop-part section at end q)

@@ -32,7 +32,7 @@ drop-take (suc q) zero l = let e : 0 - suc q ≡ 0 = omega arith in rw e
 drop-take (suc q) (suc n) [] = rw take-nil
 drop-take (suc q) (suc n) (x ∷ xs) = let e : n - q ≡ suc n - suc q = omega arith in drop-take q n xs ∙ ap (λ (k : ℕ). take k (drop q xs)) e
 
-drop-part : (s : List ℕ) (a b q : ℕ) → drop q (part s a b) ≡ part s (a + q) b
+pub drop-part : (s : List ℕ) (a b q : ℕ) → drop q (part s a b) ≡ part s (a + q) b
 drop-part s a b q = let e : b - a - q ≡ b - (a + q) = omega arith in rw (drop-take, drop-drop, e)
 
 -- ---- 64
@@ -82,13 +82,13 @@ module _ (s : List ℕ) (debug : Bool) (word cie past at end : ℕ) {h : Header}
 -- ---- 61, 62 and 63
 
 module _ (s : List ℕ) (x : Option Entry) {r : Span} (m : Spans s r x) where
-  spans : {a e : ℕ} → r ≡ span.At a e → Stands s a e x
+  pub spans : {a e : ℕ} → r ≡ span.At a e → Stands s a e x
   spans q = subst (λ (r : Span). Spans s r x) q m
 
-  spans-none : r ≡ span.Nothing → x ≡ none
+  pub spans-none : r ≡ span.Nothing → x ≡ none
   spans-none q = subst (λ (r : Span). Spans s r x) q m
 
-tiled : (o : Option (List Entry)) → isSome o ≡ true → o ≡ some (listed o)
+pub tiled : (o : Option (List Entry)) → isSome o ≡ true → o ≡ some (listed o)
 unfolding isSome listed
 tiled none e = let z : _≡_ {A = ℕ} 0 1 = cc in absurd (omega arith)
 tiled (some es) e = refl

@@ -73,7 +73,7 @@ fn starts(s: &[u8], at: usize, end: usize, debug: bool, place: usize, before: us
 }
 
 // The header that starts at a place earlier than `before`.
-fn header_span(s: &[u8], debug: bool, place: usize, before: usize) -> Span
+pub fn header_span(s: &[u8], debug: bool, place: usize, before: usize) -> Span
     requires { ⌜ T (isSome (entries (now s))) ⌝ }
     ensures { λ r. ⌜ Spans (now (s .entry)) r (headerAt debug place before (listed (entries (now (s .entry))))) ⌝ }
 {
@@ -89,7 +89,7 @@ fn header_span(s: &[u8], debug: bool, place: usize, before: usize) -> Span
 }
 
 // Question 63: the header of the record from `at` to `end`.
-fn header_of(s: &[u8], relocs: &[u64], debug: bool, at: usize, end: usize) -> Span
+pub fn header_of(s: &[u8], relocs: &[u64], debug: bool, at: usize, end: usize) -> Span
     requires { ⌜ (at + 8 ≤ end) × (end ≤ length (now s)) × T (isSome (entries (now s))) ⌝ }
     ensures { λ r. ⌜ Spans (now (s .entry)) r (after (headerPlace debug (relocationsOf (now (relocs .entry))) (entryIn (now (s .entry)) at end)) λ place. headerAt debug place at (listed (entries (now (s .entry))))) ⌝ }
 {

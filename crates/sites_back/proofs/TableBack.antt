@@ -33,6 +33,7 @@ site-back : (l : Landing) (rest : List ℕ) → SiteFits l → readSite (siteByt
 unfolding readSite siteBytes siteOf next
 site-back l rest f =
     let b : List ℕ = uleb (l .pad) ++ (uleb 0 ++ rest) in
+    let h : l .start + l .size < 2 ^ 64 = f .end in
     let e : (uleb (l .start) ++ (uleb (l .size) ++ (uleb (l .pad) ++ uleb 0))) ++ rest ≡ uleb (l .start) ++ (uleb (l .size) ++ b) = simp append-assoc in
     rw (
       e,
@@ -40,7 +41,7 @@ site-back l rest f =
       uleb-back (l .size) b (omega (arith, f .end)),
       uleb-back (l .pad) (uleb 0 ++ rest) (f .pad),
       uleb-back 0 rest (omega arith),
-      if-le (suc (l .start + l .size)) (2 ^ 64) (some (l, rest)) none (f .end),
+      if-le (suc (l .start + l .size)) (2 ^ 64),
     )
 
 -- ---- the entries

@@ -1,10 +1,10 @@
 -- Call sites written and read back: where a record says that its table is, and what is read there.
 use mathlib.Core.Path.{_≡_}
 use mathlib.Core.Logic.{_≢_}
-use Prim.Native.Nat.{ℕ, _+_, _^_, _<_}
+use Prim.Native.Nat.{ℕ, _+_, _-_, _^_, _<_}
 use mathlib.Core.Bool.{Bool, true, false}
 use mathlib.Core.Option.{Option, none, some}
-use mathlib.Core.List.{List, [], _∷_}
+use mathlib.Core.List.{List, [], _∷_, _++_}
 use lib.Dec.{T, eqb}
 use lib.ListN.{length, getElem?}
 use Rattle.format.specs.Prelude.{after, first, good}
@@ -31,14 +31,20 @@ pointerField = 17
 unfoldable pub tablePlace : (section : List ℕ) → List Relocation → (k : ℕ) → Option ℕ
 tablePlace section rs k = after (getElem? (records false (listed (entries section))) k) λ e. firstAddend (e .at + pointerField) rs
 
--- record k of a section has a pointer to the symbol of the call sites, and what is read there are the landings of function k
+-- a place outside all bytes where there is none
+unfoldable pub placeIn : Option ℕ → ℕ
+placeIn none = 2 ^ 64 - 1
+placeIn (some place) = place
+
+-- record k of a section has a pointer to the symbol of the call sites, and what is read there are the landings of function k, whatever
+-- stands behind the call sites
 pub record TableOf (w : Written) (k : ℕ) (ls : List Landing) : Type 0 where
   pub entry : Entry
   pub is-record : getElem? (records false (listed (entries (w .bytes)))) k ≡ some entry
   pub pointer : Relocation
   pub is-first : first (λ r. eqb (r .place) (entry .at + pointerField)) (w .relocations) ≡ some pointer
   pub to-sites : pointer .symbol ≡ exceptTable
-  pub reads : sitesAt (w .sites) (pointer .addend) ≡ good ls
+  pub reads : (tail : List ℕ) → sitesAt (w .sites ++ tail) (pointer .addend) ≡ good ls
 
 -- What is read, as numbers, at the place that function k's record names: a landing of function k that covers the offset, or none where none
 -- does. Which one, where several cover it, is free.

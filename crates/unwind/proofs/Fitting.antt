@@ -17,6 +17,7 @@ use Rattle.unwind.specs.Together.{answerFor}
 pub record Fitting (r : Room) (w : Written) : Type 0 where
   pub bytes : length (w .bytes) ≤ r .bytes
   pub relocations : 5 * length (w .relocations) ≤ r .relocations
+  pub sites : length (w .sites) ≤ r .sites
 
 abbrev pub FitsIn : Room → Answer → Type 0
 FitsIn r a = (w : Written) → a ≡ accepted w → Fitting r w
@@ -39,9 +40,11 @@ room-yes : (r : Room) (w : Written) → roomAsks r w ≡ none → Fitting r w
 unfolding roomAsks
 room-yes r w e =
     let x = both _ _ (both _ _ e .1) in
+    let y = both _ _ (x .1) in
     record {
       bytes = leb→le (length (w .bytes)) (r .bytes) (asked _ 52 0 (x .0));
-      relocations = leb→le (5 * length (w .relocations)) (r .relocations) (asked _ 53 0 (both _ _ (x .1) .0));
+      relocations = leb→le (5 * length (w .relocations)) (r .relocations) (asked _ 53 0 (y .0));
+      sites = leb→le (length (w .sites)) (r .sites) (asked _ 54 0 (y .1));
     }
 
 module _ (r : Room) where

@@ -206,7 +206,7 @@ pub fn read(
 // ---- a writer and then the reader
 
 // How many bytes, and how many numbers of relocations, were written.
-fn bytes_in(o: Outcome) -> usize
+pub fn bytes_in(o: Outcome) -> usize
     ensures { λ r. ⌜ r ≡ bytesIn o ⌝ }
 {
     match o {
@@ -216,7 +216,7 @@ fn bytes_in(o: Outcome) -> usize
     }
 }
 
-fn numbers_in(o: Outcome, room: usize) -> usize
+pub fn numbers_in(o: Outcome, room: usize) -> usize
     requires { ⌜ 5 * relocsIn o ≤ room ⌝ }
     ensures { λ r. ⌜ r ≡ 5 * relocsIn o ⌝ }
 {
@@ -375,7 +375,7 @@ struct Saving {
     offset: u64,
 }
 
-fn number(b: bool) -> u64
+pub fn number(b: bool) -> u64
     ensures { λ r. ⌜ r ≡ bit b ⌝ }
 {
     if b { 1 } else { 0 }
@@ -437,7 +437,7 @@ fn rules_numbers(c: CfaRule, r: Rule, signing: bool) -> Numbers
     }
 }
 
-fn numbers_of(r: Reading) -> Numbers
+pub fn numbers_of(r: Reading) -> Numbers
     ensures { λ n. ⌜ readNumbers n ≡ readingNumbers r ⌝ }
 {
     match r {

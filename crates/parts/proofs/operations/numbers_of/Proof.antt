@@ -52,7 +52,7 @@ returns-3 : tie.Need-returns-3
 unfolding operationNumbers
 returns-3 c =
     let e = passed (c .before .before .offset .result) (c .before .before .offset .ok) in
-    rw (c .before .before .before .before .before .before .op2 .given .1) (c .numbers3 .ensures ∙ rw (c .before .before .before .before .kind .ensures, c .before .before .before .register .ensures, c .before .bits .ensures, e, c .before .before .offset .ensures) refl)
+    rw (c .before .before .before .before .before .before .op2 .given .1, c .numbers3 .ensures, c .before .before .before .before .kind .ensures, c .before .before .before .register .ensures, c .before .bits .ensures, e, c .before .before .offset .ensures) refl
 
 pub numbers-of-spec : {M : Type 1} → statement M
 numbers-of-spec =

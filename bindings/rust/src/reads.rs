@@ -1,0 +1,225 @@
+//! The reader by places: one pass over a section for several questions of its records.
+
+use alloc::vec;
+use alloc::vec::Vec;
+
+use crate::lists;
+use crate::sys;
+use crate::{Refusal, Relocation, Rules, Section, Word};
+
+/// The place of no header, as the index has it.
+const NOWHERE: u64 = u64::MAX;
+
+/// A DWARF section, any bytes, with what is known of it.
+///
+/// ```
+/// use unwind::{apply, relaxed_table, Format, FrameSection, Function, Machine, Op, Row, Rule, Section, Word};
+///
+/// let rows = [Row::new(1, Op::DefCfaOffset(16)), Row::new(1, Op::Offset(6, -16))];
+/// let table = relaxed_table(&Machine::X86_64, Format::Elf, &[Function::new(16, 9, &rows), Function::new(17, 5, &[])])?;
+/// let bytes = apply(&table.bytes, &table.relocations, &[(16, 0x1000), (17, 0x1010)], 0x2000, 0)?;
+/// let section = FrameSection { bytes: &bytes, relocations: &[], kind: Section::Eh, word: Word::Eight, address: 0x2000 };
+/// // Which function holds an address, and the rules there.
+/// let holder = section.at(0x1003)?;
+/// assert_eq!(holder.k, 0);
+/// let rules = section.locate(holder.k)?.rules(6, 3)?;
+/// assert_eq!(rules.rule, Rule::Saved(-16));
+/// // All records, each found again with no pass over the section.
+/// let records = section.records()?;
+/// assert_eq!(section.function(records[1].place)?.address, 0x1010);
+/// assert_eq!(section.locate_at(records[1])?.length(), 5);
+/// # Ok::<(), unwind::Refusal>(())
+/// ```
+#[derive(Clone, Copy, Debug)]
+pub struct FrameSection<'a> {
+    /// Its bytes.
+    pub bytes: &'a [u8],
+    /// Its relocations, which say where the headers of debug_frame's records are.
+    pub relocations: &'a [Relocation],
+    /// Which section it is.
+    pub kind: Section,
+    /// The machine's word.
+    pub word: Word,
+    /// The address of its first byte.
+    pub address: u64,
+}
+
+/// The place of a record, and of its header where it has one.
+#[derive(Clone, Copy, Debug, PartialEq, Eq, Hash)]
+pub struct Record {
+    /// Where the record's length stands.
+    pub place: u64,
+    /// Where the header's length stands.
+    pub header: Option<u64>,
+}
+
+/// A record's function.
+#[derive(Clone, Copy, Debug, PartialEq, Eq, Hash)]
+pub struct Placed {
+    /// Where it starts.
+    pub address: u64,
+    /// Its length in bytes.
+    pub length: u64,
+}
+
+/// The record whose function holds an address.
+#[derive(Clone, Copy, Debug, PartialEq, Eq, Hash)]
+pub struct Holder {
+    /// The record's number, from 0.
+    pub k: u64,
+    /// Where the record's length stands.
+    pub place: u64,
+}
+
+/// A record that was located in its section.
+#[derive(Clone, Copy, Debug)]
+pub struct Located<'a> {
+    bytes: &'a [u8],
+    places: sys::Located,
+}
+
+const fn accepted(number: u64) -> Result<(), Refusal> {
+    match number {
+        0 => Ok(()),
+        _ => Err(Refusal { number, position: 0 }),
+    }
+}
+
+impl<'a> FrameSection<'a> {
+    fn located(&self, places: sys::Located) -> Result<Located<'a>, Refusal> {
+        accepted(places.number)?;
+        Ok(Located { bytes: self.bytes, places })
+    }
+
+    /// Record `k`.
+    ///
+    /// # Errors
+    /// The question that was answered by no: 61 to 64.
+    pub fn locate(&self, k: u64) -> Result<Located<'a>, Refusal> {
+        let numbers = Relocation::numbers(self.relocations);
+        // SAFETY: each pointer and count come from one slice, and nothing is lent. The function takes every number.
+        let places = unsafe {
+            sys::unwind_locate(
+                self.bytes.as_ptr(),
+                self.bytes.len(),
+                numbers.as_ptr(),
+                numbers.len(),
+                self.kind.number(),
+                self.word.bytes(),
+                k,
+            )
+        };
+        self.located(places)
+    }
+
+    /// Where all records and their headers are, in one pass.
+    ///
+    /// # Errors
+    /// 61.
+    pub fn records(&self) -> Result<Vec<Record>, Refusal> {
+        let numbers = Relocation::numbers(self.relocations);
+        // A record has 8 bytes at least, and two numbers here.
+        let mut places = vec![0; self.bytes.len() / 8 * 2];
+        // SAFETY: each pointer and count come from one slice, so they are valid and aligned; `places` is of this function alone. The
+        // function takes every number.
+        let indexed = unsafe {
+            sys::unwind_index(
+                self.bytes.as_ptr(),
+                self.bytes.len(),
+                numbers.as_ptr(),
+                numbers.len(),
+                self.kind.number(),
+                self.word.bytes(),
+                places.as_mut_ptr(),
+                places.len(),
+            )
+        };
+        accepted(indexed.number)?;
+        let pairs = places.chunks_exact(2).take(indexed.records as usize);
+        Ok(pairs.map(|pair| Record { place: pair[0], header: Some(pair[1]).filter(|&header| header != NOWHERE) }).collect())
+    }
+
+    /// The record at a place with its header, without a pass over the section.
+    ///
+    /// # Errors
+    /// 63 where it has no header in front of it, or 64.
+    pub fn locate_at(&self, record: Record) -> Result<Located<'a>, Refusal> {
+        let header = record.header.unwrap_or(NOWHERE);
+        // SAFETY: the pointer and count come from one slice, and nothing is lent. The function takes every number.
+        let places = unsafe {
+            sys::unwind_locate_at(
+                self.bytes.as_ptr(),
+                self.bytes.len(),
+                self.kind.number(),
+                self.word.bytes(),
+                record.place,
+                header,
+            )
+        };
+        self.located(places)
+    }
+
+    /// The function of the record at a place, by the record's own fields.
+    ///
+    /// # Errors
+    /// 64 where no record stands there.
+    pub fn function(&self, place: u64) -> Result<Placed, Refusal> {
+        // SAFETY: the pointer and count come from one slice, and nothing is lent. The function takes every number.
+        let r = unsafe {
+            sys::unwind_function_at(
+                self.bytes.as_ptr(),
+                self.bytes.len(),
+                self.kind.number(),
+                self.word.bytes(),
+                self.address,
+                place,
+            )
+        };
+        accepted(r.number)?;
+        Ok(Placed { address: r.address, length: r.length })
+    }
+
+    /// The first record whose function holds an address.
+    ///
+    /// # Errors
+    /// 61, or 62 where none does.
+    pub fn at(&self, pc: u64) -> Result<Holder, Refusal> {
+        // SAFETY: the pointer and count come from one slice, and nothing is lent. The function takes every number.
+        let r = unsafe {
+            sys::unwind_record_of(
+                self.bytes.as_ptr(),
+                self.bytes.len(),
+                self.kind.number(),
+                self.word.bytes(),
+                self.address,
+                pc,
+            )
+        };
+        accepted(r.number)?;
+        Ok(Holder { k: r.k, place: r.place })
+    }
+}
+
+impl Located<'_> {
+    /// The function's length.
+    #[must_use]
+    pub const fn length(&self) -> u64 {
+        self.places.length
+    }
+
+    /// Whether the header marks a signal frame.
+    #[must_use]
+    pub const fn signal(&self) -> bool {
+        self.places.signal == 1
+    }
+
+    /// The rules at offset `p` of the function, for one register (a DWARF number): what [`crate::read`] answers.
+    ///
+    /// # Errors
+    /// The question that was answered by no: 65 to 69.
+    pub fn rules(&self, register: u16, p: u64) -> Result<Rules, Refusal> {
+        // SAFETY: the pointer and count come from one slice, and nothing is lent. The function takes every number.
+        let r = unsafe { sys::unwind_rules_at(self.bytes.as_ptr(), self.bytes.len(), self.places, register, p) };
+        lists::rules(&r)
+    }
+}

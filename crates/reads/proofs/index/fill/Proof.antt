@@ -1,0 +1,87 @@
+-- `reads::index::fill` meets its contract.
+use borrow.Author.Needs.{needs}
+use mathlib.Core.Path.{sym, _∙_}
+use Rattle.reads.proofs.Indexing.{Filling, filling, fill-header, fill-room, fill-record, filled}
+use Rattle.format.specs.Lists.{relocationsOf}
+use lib.ListN.{length, length-set}
+use Prim.Native.Nat.{_-_}
+use native.Mathlib.Omega.{arith}
+use Rattle.reads.proofs.index.fill.Statement.{statement}
+use Rattle.reads.proofs.index.fill.Tie as tie
+
+abbrev Inv-entries : tie.InvT-entries
+Inv-entries s relocs debug places₀ last₀ i₀ next₀ places last i next = Filling s (relocationsOf relocs) debug places₀ places last i next
+
+abbrev μ-entries : tie.MeasureT-entries
+μ-entries s relocs debug places₀ last₀ i₀ next₀ places last i next = length s - next
+
+entries-holds : tie.Need-entries-holds Inv-entries μ-entries
+entries-holds c = filling (c .before .before .before .args .s .now) (relocationsOf (c .before .before .before .args .relocs .now)) (c .before .before .before .args .debug) (c .before .before .before .args .places .now) (c .before .before .before .pre .0) (c .before .before .before .pre .1)
+
+past-requires : tie.Need-past-requires Inv-entries μ-entries
+past-requires c κs = (c .entries-test .taken, c .before .entries .inv .tiles)
+
+is-header-requires : tie.Need-is-header-requires Inv-entries μ-entries
+is-header-requires c κs = (c .past .ensures .long, c .past .ensures .inside)
+
+entries-less : tie.Need-entries-less Inv-entries μ-entries
+entries-less c = omega (arith, c .before .before .past .ensures .long)
+
+entries-again : tie.Need-entries-again Inv-entries μ-entries
+entries-again c = fill-header _ _ _ _ (c .before .before .before .before .entries .inv) (c .before .before .past .ensures) (sym (c .before .is-header .ensures) ∙ c .if1 .taken)
+
+header-start-requires : tie.Need-header-start-requires Inv-entries μ-entries
+header-start-requires c κs = (c .before .before .past .ensures .long, c .before .before .past .ensures .inside, c .before .before .before .before .before .before .before .before .pre .0, c .before .before .before .before .entries .inv .headed)
+
+mul-places : tie.Need-mul-places Inv-entries μ-entries
+mul-places c = let r = fill-room _ _ _ _ (c .before .before .before .before .before .entries .inv) (c .before .before .before .past .ensures) (sym (c .before .before .is-header .ensures) ∙ c .before .if1 .left) in search needs
+
+slice-write-places : tie.Need-slice-write-places Inv-entries μ-entries
+slice-write-places c = let r = fill-room _ _ _ _ (c .before .before .before .before .before .entries .inv) (c .before .before .before .past .ensures) (sym (c .before .before .is-header .ensures) ∙ c .before .if1 .left) in search needs
+
+add-places : tie.Need-add-places Inv-entries μ-entries
+add-places c = let r = fill-room _ _ _ _ (c .before .before .before .before .before .entries .inv) (c .before .before .before .past .ensures) (sym (c .before .before .is-header .ensures) ∙ c .before .if1 .left) in search needs
+
+mul-places-2 : tie.Need-mul-places-2 Inv-entries μ-entries
+mul-places-2 c = let r = fill-room _ _ _ _ (c .before .before .before .before .before .entries .inv) (c .before .before .before .past .ensures) (sym (c .before .before .is-header .ensures) ∙ c .before .if1 .left) in search needs
+
+slice-write-places-2 : tie.Need-slice-write-places-2 Inv-entries μ-entries
+slice-write-places-2 c = let r = fill-room _ _ _ _ (c .before .before .before .before .before .entries .inv) (c .before .before .before .past .ensures) (sym (c .before .before .is-header .ensures) ∙ c .before .if1 .left) in simp length-set (search needs)
+
+add-i : tie.Need-add-i Inv-entries μ-entries
+add-i c = let r = fill-room _ _ _ _ (c .before .before .before .before .before .entries .inv) (c .before .before .before .past .ensures) (sym (c .before .before .is-header .ensures) ∙ c .before .if1 .left) in search needs
+
+entries-less-2 : tie.Need-entries-less-2 Inv-entries μ-entries
+entries-less-2 c = omega (arith, c .before .before .before .past .ensures .long)
+
+entries-again-2 : tie.Need-entries-again-2 Inv-entries μ-entries
+entries-again-2 c = fill-record _ _ _ _ (c .before .before .before .before .before .entries .inv) (c .before .before .before .past .ensures) (sym (c .before .before .is-header .ensures) ∙ c .before .if1 .left) (c .header-start .ensures .0) (c .header-start .ensures .1)
+
+same-length : tie.Need-same-length Inv-entries μ-entries
+same-length c = c .before .entries .inv .long
+
+returns : tie.Need-returns Inv-entries μ-entries
+returns c = filled _ _ _ _ (c .before .entries .inv) (c .entries-test .left)
+
+pub fill-spec : {M : Type 1} → statement M
+fill-spec =
+    tie.close
+    (tie.spec
+    Inv-entries
+    μ-entries
+    entries-holds
+    past-requires
+    is-header-requires
+    entries-less
+    entries-again
+    header-start-requires
+    mul-places
+    slice-write-places
+    add-places
+    mul-places-2
+    slice-write-places-2
+    add-i
+    entries-less-2
+    entries-again-2
+    same-length
+    returns)

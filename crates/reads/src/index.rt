@@ -1,0 +1,103 @@
+// The places of all records and of their headers.
+ghost use mathlib.Core.Path.{_≡_};
+ghost use Prim.Native.Nat.{_+_, _≤_};
+ghost use lib.ListN.{length};
+ghost use lib.Dec.{T};
+ghost use Rattle.format.specs.Put.{put};
+ghost use Rattle.format.specs.Lists.{relocationsOf};
+ghost use Rattle.format.specs.Questions.{isSome};
+ghost use Rattle.format.specs.Reader.{records, entries};
+ghost use Rattle.reader.specs.Spans.{entryIn, listed};
+ghost use Rattle.reads.specs.Places.{headerOf};
+ghost use Rattle.reads.specs.Index.{placeOr, indexOf, indexIn};
+ghost use Rattle.reads.specs.Standing.{Headed, Indexes};
+use crate::Indexed;
+use reader::entries::Number;
+use reader::entries::Span;
+
+// The place of no header.
+const NOWHERE: usize = 0xffffffffffffffff;
+
+pub fn unindexed(number: u64) -> Indexed
+    ensures { λ r. ⌜ r ≡ record { number = number; records = 0 } ⌝ }
+{
+    Indexed { number, records: 0 }
+}
+
+// How many records there are.
+fn count(s: &[u8], debug: bool) -> usize
+    requires { ⌜ T (isSome (entries (now s))) ⌝ }
+    ensures { λ r. ⌜ r ≡ length (records debug (listed (entries (now (s .entry))))) ⌝ }
+{
+    let mut n = 0;
+    let mut next = 0;
+    'entries: while next < s.len() {
+        let at = next;
+        next = reader::entries::past(s, at);
+        if reader::entries::is_header(s, at, next, debug) {
+            continue 'entries;
+        }
+        n += 1;
+    }
+    n
+}
+
+// The place of the header of the record from `at` to `end`. Records of one header follow each other, so the header that was found last is looked at
+// first: without it each record would cost a search from the section's start on.
+fn header_start(s: &[u8], relocs: &[u64], debug: bool, at: usize, end: usize, last: usize) -> usize
+    requires { ⌜ (at + 8 ≤ end) × (end ≤ length (now s)) × T (isSome (entries (now s))) × Headed debug (listed (entries (now s))) last ⌝ }
+    ensures { λ r. ⌜ (r ≡ placeOr (headerOf debug (relocationsOf (now (relocs .entry))) (listed (entries (now (s .entry)))) (entryIn (now (s .entry)) at end))) × Headed debug (listed (entries (now (s .entry)))) r ⌝ }
+{
+    let Number::Is(place) = reader::location::header_place(s, relocs, debug, at, end) else {
+        return NOWHERE;
+    };
+    if at <= place {
+        return NOWHERE;
+    }
+    if place == last {
+        return place;
+    }
+    let Span::At(cie, _) = reader::location::header_span(s, debug, place, at) else {
+        return NOWHERE;
+    };
+    cie
+}
+
+// Stores the index in a list that has room for it.
+fn fill(s: &[u8], relocs: &[u64], debug: bool, places: &mut [u64])
+    requires { ⌜ T (isSome (entries (now s))) × (length (indexOf debug (relocationsOf (now relocs)) (listed (entries (now s)))) ≤ length (now places)) ⌝ }
+    ensures { λ r. ⌜ now (places .exit) ≡ put (now (places .entry)) 0 (indexOf debug (relocationsOf (now (relocs .entry))) (listed (entries (now (s .entry))))) ⌝ }
+{
+    let mut last = NOWHERE;
+    let mut i = 0;
+    let mut next = 0;
+    'entries: while next < s.len() {
+        let at = next;
+        next = reader::entries::past(s, at);
+        if reader::entries::is_header(s, at, next, debug) {
+            continue 'entries;
+        }
+        last = header_start(s, relocs, debug, at, next, last);
+        places[i] = at as u64;
+        places[i + 1] = last as u64;
+        i += 2;
+    }
+}
+
+// Questions 61 and 54, and the index.
+pub fn index_in(s: &[u8], relocs: &[u64], debug: bool, places: &mut [u64]) -> Indexed
+    ensures { λ r. ⌜ Indexes (indexIn debug (relocationsOf (now (relocs .entry))) (length (now (places .entry))) (now (s .entry))) r (now (places .entry)) (now (places .exit)) ⌝ }
+{
+    if !reader::entries::tiles(s) {
+        return unindexed(61);
+    }
+    let n = count(s, debug);
+    if places.len() / 2 < n {
+        return unindexed(54);
+    }
+    fill(s, relocs, debug, places);
+    Indexed {
+        number: 0,
+        records: n as u64,
+    }
+}
