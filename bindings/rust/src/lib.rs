@@ -31,8 +31,11 @@
 
 extern crate alloc;
 
+mod builder;
 pub mod lists;
+mod machines;
 pub mod parts;
+mod question;
 mod reads;
 mod refusal;
 pub mod structs;
@@ -40,6 +43,8 @@ mod sys;
 mod types;
 mod write;
 
+pub use builder::{Builder, Built};
+pub use question::Question;
 pub use reads::{FrameSection, Holder, Located, Placed, Record};
 pub use refusal::Refusal;
 pub use types::*;

@@ -2,6 +2,7 @@
 
 use alloc::vec;
 use alloc::vec::Vec;
+use core::ops::Range;
 
 use crate::lists;
 use crate::sys;
@@ -200,7 +201,25 @@ impl<'a> FrameSection<'a> {
     }
 }
 
-impl Located<'_> {
+impl<'a> Located<'a> {
+    /// Operations of a header and a record that stand in these ranges of a section, with the length of the function. Any ranges are taken;
+    /// those that do not lie in the section are answered by 64.
+    #[must_use]
+    pub const fn of(bytes: &'a [u8], header: Range<u64>, record: Range<u64>, length: u64, word: Word) -> Located<'a> {
+        let places = sys::Located {
+            number: 0,
+            header: header.start,
+            header_end: header.end,
+            record: record.start,
+            record_end: record.end,
+            length,
+            pointer: 0,
+            signal: 0,
+            word: word.bytes(),
+        };
+        Located { bytes, places }
+    }
+
     /// The function's length.
     #[must_use]
     pub const fn length(&self) -> u64 {

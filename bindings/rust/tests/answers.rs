@@ -4,8 +4,8 @@
 use unwind::lists::{self, Lent, Packed};
 use unwind::{
     apply, read, relaxed_debug_frame, relaxed_table, row_check, seh, Code, CodeOp, Format, Frame, Function, Kind, Landing,
-    Machine, MachineRegister, Op, Pair, Personality, Pointer, Prologue, Refusal, Relaxed, Relocation, Row, Rule, Rules,
-    Section, Site, Table, Target, Word,
+    Machine, MachineRegister, Op, Pair, Personality, Pointer, Prologue, Question, Refusal, Relaxed, Relocation, Row, Rule,
+    Rules, Section, Site, Table, Target, Word,
 };
 
 const X86: &Machine = &Machine::X86_64;
@@ -245,10 +245,13 @@ fn the_row_check() {
 
 #[test]
 fn questions_in_words() {
-    let numbers = [11..=13, 21..=25, 31..=41, 51..=54, 61..=69, 76..=80];
+    let numbers = [11..=13, 21..=25, 31..=41, 51..=54, 61..=69, 71..=72, 76..=80];
     for number in 0..100 {
         let known = numbers.iter().any(|range| range.contains(&number));
-        assert_eq!(Refusal { number, position: 0 }.question().is_some(), known);
+        let refusal = Refusal { number, position: 0 };
+        assert_eq!(refusal.question().is_some(), known);
+        assert_eq!(refusal.asked().map(Question::number), known.then_some(number));
+        assert!(refusal.asked().is_none_or(|question| !question.words().is_empty()));
     }
     assert_eq!(
         Refusal { number: 21, position: 3 }.to_string(),
