@@ -2,8 +2,8 @@
 
 use std::collections::BTreeMap;
 
-use unwind::parts::{operations, Operation};
-use unwind::{Question, Refusal, Section as Kind};
+use dekvoz::parts::{operations, Operation};
+use dekvoz::{Question, Refusal, Section as Kind};
 
 use crate::args::Args;
 use crate::dump::Listing;

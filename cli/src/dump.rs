@@ -5,8 +5,8 @@ use std::num::NonZero;
 use std::ops::Range;
 use std::thread;
 
-use unwind::parts::{header, operations, record, Entry, Fault, Header, Operation};
-use unwind::{Frame, Located, Placed, Question, Record, Refusal, Rule, Section as Kind, Word};
+use dekvoz::parts::{header, operations, record, Entry, Fault, Header, Operation};
+use dekvoz::{Frame, Located, Placed, Question, Record, Refusal, Rule, Section as Kind, Word};
 
 use crate::args::Args;
 use crate::input::{End, File, Parts, Section};

@@ -1,6 +1,6 @@
 //! `dekvoz example`: a small firmware's table is written, listed and checked, and the chain of callers of a trap is taken apart.
 
-use unwind::{
+use dekvoz::{
     apply, call_site, relaxed_debug_frame, relaxed_table, row_check, Builder, Built, Format, Frame, FrameSection, Function,
     Located, Machine, Refusal, Rule, Section as Kind, Table, Word,
 };

@@ -1,7 +1,7 @@
 //! `dekvoz handler`: which landing pad gets what is thrown at an offset.
 
-use unwind::parts::Header;
-use unwind::{call_site, Site, Word};
+use dekvoz::parts::Header;
+use dekvoz::{call_site, Site, Word};
 
 use crate::args::{Args, Usage};
 use crate::dump::Listing;

@@ -3,15 +3,15 @@
 use std::fs;
 use std::io::{self, Read};
 
-use unwind::parts::{entries, record, Entry};
-use unwind::{FrameSection, Question, Record, Relocation, Section as Kind, Word};
+use dekvoz::parts::{entries, record, Entry};
+use dekvoz::{FrameSection, Question, Record, Relocation, Section as Kind, Word};
 
 use crate::args::{Args, Usage};
 use crate::object::{self, Object};
 use crate::registers::{Machine, Names};
 use crate::Stop;
 
-/// In lists of relocations, the symbol of .debug_frame and the kind of an address (include/unwind.h).
+/// In lists of relocations, the symbol of .debug_frame and the kind of an address (include/dekvoz.h).
 const DEBUG_FRAME: u64 = 2;
 const ADDRESS: u64 = 1;
 

@@ -1,6 +1,6 @@
 //! JSON (RFC 8259). Addresses are strings of hexadecimal digits, since many readers hold numbers to 2^53 only.
 
-use unwind::{Frame, Refusal, Rule};
+use dekvoz::{Frame, Refusal, Rule};
 
 use crate::out::Out;
 

@@ -2,8 +2,8 @@
 
 use std::ops::Range;
 
-use unwind::parts::{operations, Entry, Fault, Operation};
-use unwind::Section as Kind;
+use dekvoz::parts::{operations, Entry, Fault, Operation};
+use dekvoz::Section as Kind;
 
 use crate::dump::{augmentation, header_alone, Listing};
 use crate::input::{File, Section};

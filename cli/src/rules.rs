@@ -1,6 +1,6 @@
 //! `dekvoz rules`: the rules at one place of a function.
 
-use unwind::{Frame, Placed, Rule, Rules};
+use dekvoz::{Frame, Placed, Rule, Rules};
 
 use crate::args::{Args, Usage};
 use crate::dump::{Found, Listing};

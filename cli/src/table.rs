@@ -2,8 +2,8 @@
 
 use std::ops::Range;
 
-use unwind::parts::{operations, Operation};
-use unwind::{Frame, Located, Refusal, Rule, Word};
+use dekvoz::parts::{operations, Operation};
+use dekvoz::{Frame, Located, Refusal, Rule, Word};
 
 /// A table has at most so many columns of registers.
 const COLUMNS: usize = 64;

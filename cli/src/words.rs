@@ -1,7 +1,7 @@
 //! The library's numbers in words.
 
-use unwind::parts::{Fault, Field};
-use unwind::{Question, Refusal};
+use dekvoz::parts::{Fault, Field};
+use dekvoz::{Question, Refusal};
 
 /// An operation's name by its first byte (DWARF 5, section 7.24; LSB 5.0, section 10.5; GNU and AArch64 extensions).
 pub fn operation(opcode: u8) -> &'static str {

@@ -1,6 +1,6 @@
 //! `dekvoz x64`: the records of Windows x64 unwind data.
 
-use unwind::{Code, CodeOp, Refusal, X64Record};
+use dekvoz::{Code, CodeOp, Refusal, X64Record};
 
 use crate::args::Args;
 use crate::input::File;
@@ -59,7 +59,7 @@ fn info<'a>(args: &Args, file: &'a File) -> Result<&'a [u8], Stop> {
 fn each(info: &[u8], place: Option<u64>, mut one: impl FnMut(u64, &X64Record)) -> Option<(u64, Refusal)> {
     let mut at = place.unwrap_or(0);
     loop {
-        match unwind::read_x64(info, at) {
+        match dekvoz::read_x64(info, at) {
             Ok(record) => one(at, &record),
             Err(refusal) => return Some((at, refusal)),
         }

@@ -2,12 +2,12 @@
  * is found from each frame of the chain. It prints what bindings/rust/examples/trap.rs prints.
  *
  *     bindings/archive
- *     gcc -O2 -Wall -Wextra -Werror -o target/trap examples/c/trap.c target/lib/libunwind.a
+ *     gcc -O2 -Wall -Wextra -Werror -o target/trap examples/c/trap.c target/lib/libdekvoz.a
  *     target/trap */
 #include <inttypes.h>
 #include <stdio.h>
 
-#include "../../include/unwind.h"
+#include "../../include/dekvoz.h"
 
 enum { DEF_CFA, DEF_CFA_OFFSET, DEF_CFA_REGISTER, OFFSET, RESTORE, UNDEFINED, REMEMBER_STATE, RESTORE_STATE };
 enum { RBX = 3, RBP = 6, RSP = 7, RETURN_ADDRESS = 16 };

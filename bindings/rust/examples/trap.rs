@@ -3,7 +3,7 @@
 
 use std::process::ExitCode;
 
-use unwind::{read, relaxed_table, row_check, Builder, Built, Format, Frame, Machine, Refusal, Rule, Section};
+use dekvoz::{read, relaxed_table, row_check, Builder, Built, Format, Frame, Machine, Refusal, Rule, Section};
 
 /// The return address, rbx, rbp and rsp by their DWARF numbers.
 const RA: u16 = 16;

@@ -7,7 +7,7 @@ use crate::{Function, Landing, Op, Personality, Row};
 /// A function with rows and landings of its own. `at` says from which offset on the rows hold that follow.
 ///
 /// ```
-/// use unwind::{row_check, Builder};
+/// use dekvoz::{row_check, Builder};
 ///
 /// // push rbp; mov rbp, rsp; ..; pop rbp; ret
 /// let control = Builder::new(17, 61)

@@ -1,5 +1,5 @@
 //! Unwind tables: writers of ELF's eh_frame and debug_frame and of Windows x64 unwind data, a reader of the
-//! DWARF ones, one of call sites and one of the x64 records. Safe wrappers over libunwind.a, whose functions are proved to give exactly what their
+//! DWARF ones, one of call sites and one of the x64 records. Safe wrappers over libdekvoz.a, whose functions are proved to give exactly what their
 //! specification says.
 //!
 //! Every function takes every input. A refusal is a [`Refusal`]: the number of the question that was answered by no, and the
@@ -7,7 +7,7 @@
 //! and buffers that the caller lends, and [`structs`] over lists of structs.
 //!
 //! ```
-//! use unwind::{read, relaxed_table, row_check, Format, Function, Machine, Op, Row, Rule, Section, Word};
+//! use dekvoz::{read, relaxed_table, row_check, Format, Function, Machine, Op, Row, Rule, Section, Word};
 //!
 //! // push rbp; mov rbp, rsp; ..; pop rbp; ret
 //! let rows = [
@@ -25,7 +25,7 @@
 //!     let rules = read(&table.bytes, &table.relocations, Section::Eh, Word::Eight, 0, 16, p)?;
 //!     assert_eq!(rules.rule, Rule::Saved(-8));
 //! }
-//! # Ok::<(), unwind::Refusal>(())
+//! # Ok::<(), dekvoz::Refusal>(())
 //! ```
 #![no_std]
 

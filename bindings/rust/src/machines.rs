@@ -20,14 +20,14 @@ impl Machine {
     /// Architecture, section 4.1).
     ///
     /// ```
-    /// use unwind::{read, relaxed_table, Builder, Format, Machine, Rule, Section};
+    /// use dekvoz::{read, relaxed_table, Builder, Format, Machine, Rule, Section};
     ///
     /// // stp x29, x30, [sp, #-16]!; ..
     /// let function = Builder::new(16, 32).at(4).def_cfa_offset(16).offset(29, -16).offset(30, -8).done();
     /// let table = relaxed_table(&Machine::AARCH64, Format::Elf, &[function.function()])?;
     /// let rules = read(&table.bytes, &table.relocations, Section::Eh, Machine::AARCH64.word, 0, 30, 8)?;
     /// assert_eq!(rules.rule, Rule::Saved(-8));
-    /// # Ok::<(), unwind::Refusal>(())
+    /// # Ok::<(), dekvoz::Refusal>(())
     /// ```
     pub const AARCH64: Machine = Machine {
         word: Word::Eight,

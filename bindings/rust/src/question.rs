@@ -7,7 +7,7 @@ use crate::Refusal;
 /// A question that was answered by no.
 ///
 /// ```
-/// use unwind::{read, Question, Section, Word};
+/// use dekvoz::{read, Question, Section, Word};
 ///
 /// let refusal = read(&[], &[], Section::Eh, Word::Eight, 0, 16, 0).unwrap_err();
 /// assert_eq!(refusal.asked(), Some(Question::Record));
@@ -144,7 +144,7 @@ impl Question {
         })
     }
 
-    /// Its number (include/unwind.h).
+    /// Its number (include/dekvoz.h).
     #[must_use]
     pub const fn number(self) -> u64 {
         match self {

@@ -14,7 +14,7 @@ const NOWHERE: u64 = u64::MAX;
 /// A DWARF section, any bytes, with what is known of it.
 ///
 /// ```
-/// use unwind::{apply, relaxed_table, Format, FrameSection, Function, Machine, Op, Row, Rule, Section, Word};
+/// use dekvoz::{apply, relaxed_table, Format, FrameSection, Function, Machine, Op, Row, Rule, Section, Word};
 ///
 /// let rows = [Row::new(1, Op::DefCfaOffset(16)), Row::new(1, Op::Offset(6, -16))];
 /// let table = relaxed_table(&Machine::X86_64, Format::Elf, &[Function::new(16, 9, &rows), Function::new(17, 5, &[])])?;
@@ -29,7 +29,7 @@ const NOWHERE: u64 = u64::MAX;
 /// let records = section.records()?;
 /// assert_eq!(section.function(records[1].place)?.address, 0x1010);
 /// assert_eq!(section.locate_at(records[1])?.length(), 5);
-/// # Ok::<(), unwind::Refusal>(())
+/// # Ok::<(), dekvoz::Refusal>(())
 /// ```
 #[derive(Clone, Copy, Debug)]
 pub struct FrameSection<'a> {

@@ -1,4 +1,4 @@
-//! include/unwind.h, as it stands there.
+//! include/dekvoz.h, as it stands there.
 
 use crate::structs::{Function, RowAt};
 
@@ -266,14 +266,8 @@ extern "C" {
         record: u64,
     ) -> Placed;
 
-    pub(crate) fn unwind_record_of(
-        section: *const u8,
-        section_n: usize,
-        kind: u64,
-        word: u64,
-        address: u64,
-        pc: u64,
-    ) -> Holder;
+    pub(crate) fn unwind_record_of(section: *const u8, section_n: usize, kind: u64, word: u64, address: u64, pc: u64)
+        -> Holder;
 
     pub(crate) fn unwind_pack_functions(
         functions: *const Function,

@@ -8,8 +8,8 @@
  *
  * What the caller owes, and no contract can say: each pointer is valid for its count of elements and aligned while the call
  * lasts, and no lent buffer overlaps another or an input. An empty slice may come as a null pointer with the count 0. */
-#ifndef UNWIND_H
-#define UNWIND_H
+#ifndef DEKVOZ_H
+#define DEKVOZ_H
 
 #include <stddef.h>
 #include <stdint.h>
@@ -56,6 +56,30 @@ extern "C" {
  *   78 eh_frame of a format that is written: not Mach-O
  *   79 relocations of the writers' kinds and sizes, with their partners and addresses, fields inside, values that fit
  *   80 the distance of a Set and Sub pair fits */
+
+/* Some of these numbers by name; parameters and fields are 64-bit numbers nevertheless. */
+enum unwind_format { UNWIND_ELF = 0, UNWIND_COFF = 1, UNWIND_MACH_O = 2, UNWIND_WASM = 3, UNWIND_PLAN_9 = 4 };
+enum unwind_kind { UNWIND_EH_FRAME = 0, UNWIND_DEBUG_FRAME = 1 };
+enum unwind_rule { UNWIND_UNSTATED = 0, UNWIND_UNDEFINED = 1, UNWIND_SAVED = 2 };
+enum unwind_row_kind {
+    UNWIND_ROW_DEF_CFA = 0, UNWIND_ROW_DEF_CFA_OFFSET = 1, UNWIND_ROW_DEF_CFA_REGISTER = 2, UNWIND_ROW_OFFSET = 3,
+    UNWIND_ROW_RESTORE = 4, UNWIND_ROW_UNDEFINED = 5, UNWIND_ROW_REMEMBER_STATE = 6, UNWIND_ROW_RESTORE_STATE = 7,
+    UNWIND_ROW_NEGATE_RA_STATE = 8, UNWIND_ROW_NOP = 16, UNWIND_ROW_STEP = 17
+};
+enum unwind_question {
+    UNWIND_QUESTION_INTERFACE = 11, UNWIND_QUESTION_X64_WORD = 12, UNWIND_QUESTION_LISTS = 13, UNWIND_QUESTION_LENGTH = 21,
+    UNWIND_QUESTION_ENCODINGS = 22, UNWIND_QUESTION_ORDER = 23, UNWIND_QUESTION_MULTIPLES = 24, UNWIND_QUESTION_PAIRS = 25,
+    UNWIND_QUESTION_FRAME_FIRST = 31, UNWIND_QUESTION_SCRATCH = 32, UNWIND_QUESTION_GROUP = 33,
+    UNWIND_QUESTION_REGISTERS = 34, UNWIND_QUESTION_CODE_OFFSET = 35, UNWIND_QUESTION_ALLOCATION = 36,
+    UNWIND_QUESTION_ALLOCATION_SIZE = 37, UNWIND_QUESTION_SAVE_BELOW = 38, UNWIND_QUESTION_SAVE_SIZE = 39,
+    UNWIND_QUESTION_SLOTS = 40, UNWIND_QUESTION_FRAME_OFFSET = 41, UNWIND_QUESTION_PLACES_ROOM = 51,
+    UNWIND_QUESTION_BYTES_ROOM = 52, UNWIND_QUESTION_RELOCATIONS_ROOM = 53, UNWIND_QUESTION_OTHER_ROOM = 54,
+    UNWIND_QUESTION_TILING = 61, UNWIND_QUESTION_RECORD = 62, UNWIND_QUESTION_HEADER = 63, UNWIND_QUESTION_FIELDS = 64,
+    UNWIND_QUESTION_OFFSET = 65, UNWIND_QUESTION_OPERATIONS = 66, UNWIND_QUESTION_STATES = 67,
+    UNWIND_QUESTION_STATES_ROOM = 68, UNWIND_QUESTION_FRAME_RULE = 69, UNWIND_QUESTION_CALL_SITE_TABLE = 71,
+    UNWIND_QUESTION_CALL_SITES = 72, UNWIND_QUESTION_X64_HEADER = 76, UNWIND_QUESTION_X64_CODES = 77,
+    UNWIND_QUESTION_MACH_O = 78, UNWIND_QUESTION_RELOCATIONS = 79, UNWIND_QUESTION_DISTANCE = 80
+};
 
 /* The ready x86-64 (System V psABI) at the front of a lent list of 70 numbers or more: 0, or 54 where there are fewer, and the list
  * is then as it was. */
