@@ -1,13 +1,12 @@
 //! `dekvoz rules`: the rules at one place of a function.
 
-use dekvoz::{Frame, Placed, Rule, Rules};
+use dekvoz::{AllRules, Frame, Placed, Rule};
 
 use crate::args::{Args, Usage};
 use crate::dump::{Found, Listing};
 use crate::input::{File, Parts, Section};
 use crate::listed::about;
 use crate::out::Out;
-use crate::table::Table;
 use crate::{json, words, Stop};
 
 /// A record that was found, with a place of its function.
@@ -57,11 +56,7 @@ pub fn run(args: &Args) -> Result<bool, Stop> {
     };
     let parts = Parts::new(&section);
     let place = place(&section, &parts, asked).map_err(|why| Stop::failed(&file.name, why))?;
-    let registers = match register {
-        Some(register) => vec![register],
-        None => Table::new(parts.frame.bytes, &place.found.spans, section.word).columns,
-    };
-    answer(args, &file, &section, &place, &registers)
+    answer(args, &file, &section, &place, register)
 }
 
 fn place<'a>(
@@ -89,28 +84,31 @@ fn place<'a>(
     Ok(Place { record: k, function: view.function, found, offset })
 }
 
-fn answer(args: &Args, file: &File, section: &Section<'_>, place: &Place<'_>, registers: &[u16]) -> Result<bool, Stop> {
-    let ask = |register| place.found.located.rules(register, place.offset);
-    let why = |refusal| {
-        let said = format!("record {} at offset {}: {}", place.record, place.offset, words::refused(refusal));
-        Stop::failed(&file.name, said)
+fn answer(args: &Args, file: &File, section: &Section<'_>, place: &Place<'_>, register: Option<u16>) -> Result<bool, Stop> {
+    let located = &place.found.located;
+    let said = match register {
+        None => located.all(place.offset),
+        Some(register) => located.rules(register, place.offset).map(|rules| AllRules {
+            frame: rules.frame,
+            signing: rules.signing,
+            registers: vec![(register, rules.rule)],
+        }),
     };
-    let frame = ask(0).map_err(why)?;
-    let mut rules = Vec::new();
-    for register in registers {
-        rules.push((*register, ask(*register).map_err(why)?.rule));
-    }
+    let said = said.map_err(|refusal| {
+        let why = format!("record {} at offset {}: {}", place.record, place.offset, words::refused(refusal));
+        Stop::failed(&file.name, why)
+    })?;
     let mut out = Out::new();
     if args.has("--json") {
-        as_json(&mut out, file, section, place, &frame, &rules);
+        as_json(&mut out, file, section, place, &said);
     } else {
-        as_text(&mut out, section, place, &frame, &rules);
+        as_text(&mut out, section, place, &said);
     }
     crate::finished(&mut out)?;
     Ok(true)
 }
 
-fn as_text(out: &mut Out, section: &Section<'_>, place: &Place<'_>, frame: &Rules, rules: &[(u16, Rule)]) {
+fn as_text(out: &mut Out, section: &Section<'_>, place: &Place<'_>, said: &AllRules) {
     let names = &section.names;
     out.text("record ").decimal(place.record);
     if let Some(Placed { address: start, length }) = place.function {
@@ -118,8 +116,8 @@ fn as_text(out: &mut Out, section: &Section<'_>, place: &Place<'_>, frame: &Rule
         out.text(", at 0x").hex(start.wrapping_add(place.offset), 1);
     }
     out.text(", offset ").decimal(place.offset).line();
-    out.text("frame address (CFA): ").text(&frame_words(names, frame.frame)).line();
-    for (register, rule) in rules {
+    out.text("frame address (CFA): ").text(&frame_words(names, said.frame)).line();
+    for (register, rule) in &said.registers {
         out.text(&names.text(u64::from(*register)));
         if u64::from(*register) == place.found.header.return_register {
             out.text(" (return address)");
@@ -130,7 +128,7 @@ fn as_text(out: &mut Out, section: &Section<'_>, place: &Place<'_>, frame: &Rule
     if let Some(name) = names.known(place.found.header.return_register) {
         out.text(" (").text(name).text(")");
     }
-    out.text(if frame.signing { ", signed" } else { ", not signed" }).line();
+    out.text(if said.signing { ", signed" } else { ", not signed" }).line();
     out.text("signal frame: ");
     out.text(match place.found.located.signal() {
         true => "yes; the caller stands exactly at its address",
@@ -156,7 +154,7 @@ pub fn rule_words(rule: Rule) -> String {
     }
 }
 
-fn as_json(out: &mut Out, file: &File, section: &Section<'_>, place: &Place<'_>, frame: &Rules, rules: &[(u16, Rule)]) {
+fn as_json(out: &mut Out, file: &File, section: &Section<'_>, place: &Place<'_>, said: &AllRules) {
     about(out, file, section);
     out.text(", ");
     json::number(out, "record", place.record);
@@ -169,16 +167,16 @@ fn as_json(out: &mut Out, file: &File, section: &Section<'_>, place: &Place<'_>,
     out.text(", ");
     json::number(out, "offset", place.offset);
     out.text(", ");
-    json::frame(out, frame.frame);
+    json::frame(out, said.frame);
     out.text(", \"registers\": [");
-    for (i, (register, rule)) in rules.iter().enumerate() {
+    for (i, (register, rule)) in said.registers.iter().enumerate() {
         out.text(if i == 0 { "" } else { ", " });
         json::rule(out, *register, &section.names.text(u64::from(*register)), *rule);
     }
     out.text("], ");
     json::number(out, "return_address_register", place.found.header.return_register);
     out.text(", ");
-    json::mark(out, "signed", frame.signing);
+    json::mark(out, "signed", said.signing);
     out.text(", ");
     json::mark(out, "signal", place.found.located.signal());
     out.text("}").line();

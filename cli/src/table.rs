@@ -63,7 +63,7 @@ impl Table {
                 }
                 Operation::RestoreState => line.recalls = true,
                 operation => {
-                    let Some(register) = ruled(operation) else { continue };
+                    let Some(register) = operation.ruled() else { continue };
                     self.mentioned.push(register);
                     line.mentioned = self.mentioned.len();
                     if let Err(place) = self.columns.binary_search(&register) {
@@ -72,15 +72,6 @@ impl Table {
                 }
             }
         }
-    }
-}
-
-/// The register that an operation gives a rule; registers have 16 bits by question 66.
-fn ruled(operation: Operation) -> Option<u16> {
-    match operation {
-        Operation::Offset(register, _) | Operation::Restore(register) | Operation::Undefined(register) => Some(register as u16),
-        Operation::Other { register, .. } => Some(register as u16),
-        _ => None,
     }
 }
 

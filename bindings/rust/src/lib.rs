@@ -45,7 +45,7 @@ mod write;
 
 pub use builder::{Builder, Built};
 pub use question::Question;
-pub use reads::{FrameSection, Holder, Located, Placed, Record};
+pub use reads::{AllRules, FrameSection, Holder, Located, Placed, Record};
 pub use refusal::Refusal;
 pub use types::*;
 pub use write::{apply, call_site, read, read_x64, relaxed_debug_frame, relaxed_table, row_check, seh, Table};

@@ -153,6 +153,20 @@ pub enum Operation {
     },
 }
 
+impl Operation {
+    /// The register that the operation gives a rule. Registers have 16 bits by question 66.
+    #[must_use]
+    pub const fn ruled(self) -> Option<u16> {
+        match self {
+            Operation::Offset(register, _) | Operation::Restore(register) | Operation::Undefined(register) => {
+                Some(register as u16)
+            }
+            Operation::Other { register, .. } => Some(register as u16),
+            _ => None,
+        }
+    }
+}
+
 /// An operation where it stands.
 #[derive(Clone, Copy, Debug, PartialEq, Eq, Hash)]
 pub struct OperationAt {

@@ -1,12 +1,14 @@
 //! The reader by places: one pass over a section for several questions of its records.
 
+use alloc::collections::BTreeSet;
 use alloc::vec;
 use alloc::vec::Vec;
 use core::ops::Range;
 
 use crate::lists;
+use crate::parts::operations;
 use crate::sys;
-use crate::{Refusal, Relocation, Rules, Section, Word};
+use crate::{Frame, Refusal, Relocation, Rule, Rules, Section, Word};
 
 /// The place of no header, as the index has it.
 const NOWHERE: u64 = u64::MAX;
@@ -72,10 +74,22 @@ pub struct Holder {
     pub place: u64,
 }
 
+/// The rules at an offset, of every register that the operations of a record and its header name.
+#[derive(Clone, Debug, PartialEq, Eq, Hash)]
+pub struct AllRules {
+    /// The frame address rule.
+    pub frame: Frame,
+    /// Whether the return address is signed there.
+    pub signing: bool,
+    /// The registers by their DWARF numbers, in order. Any other has no rule.
+    pub registers: Vec<(u16, Rule)>,
+}
+
 /// A record that was located in its section.
 #[derive(Clone, Copy, Debug)]
 pub struct Located<'a> {
     bytes: &'a [u8],
+    word: Word,
     places: sys::Located,
 }
 
@@ -89,7 +103,7 @@ const fn accepted(number: u64) -> Result<(), Refusal> {
 impl<'a> FrameSection<'a> {
     fn located(&self, places: sys::Located) -> Result<Located<'a>, Refusal> {
         accepted(places.number)?;
-        Ok(Located { bytes: self.bytes, places })
+        Ok(Located { bytes: self.bytes, word: self.word, places })
     }
 
     /// Record `k`.
@@ -120,7 +134,7 @@ impl<'a> FrameSection<'a> {
     pub fn records(&self) -> Result<Vec<Record>, Refusal> {
         let numbers = Relocation::numbers(self.relocations);
         // A record has 8 bytes at least, and two numbers here.
-        let mut places = vec![0; self.bytes.len() / 8 * 2];
+        let mut places = vec![0; (self.bytes.len() >> 3) << 1];
         // SAFETY: each pointer and count come from one slice, so they are valid and aligned; `places` is of this function alone. The
         // function takes every number.
         let indexed = unsafe {
@@ -136,8 +150,8 @@ impl<'a> FrameSection<'a> {
             )
         };
         accepted(indexed.number)?;
-        let pairs = places.chunks_exact(2).take(indexed.records as usize);
-        Ok(pairs.map(|pair| Record { place: pair[0], header: Some(pair[1]).filter(|&header| header != NOWHERE) }).collect())
+        let pairs = places.chunks_exact(2).take(indexed.records as usize).filter_map(|pair| <[u64; 2]>::try_from(pair).ok());
+        Ok(pairs.map(|[place, header]| Record { place, header: Some(header).filter(|&header| header != NOWHERE) }).collect())
     }
 
     /// The record at a place with its header, without a pass over the section.
@@ -217,7 +231,7 @@ impl<'a> Located<'a> {
             signal: 0,
             word: word.bytes(),
         };
-        Located { bytes, places }
+        Located { bytes, word, places }
     }
 
     /// The function's length.
@@ -240,5 +254,35 @@ impl<'a> Located<'a> {
         // SAFETY: the pointer and count come from one slice, and nothing is lent. The function takes every number.
         let r = unsafe { sys::unwind_rules_at(self.bytes.as_ptr(), self.bytes.len(), self.places, register, p) };
         lists::rules(&r)
+    }
+
+    /// The rules at offset `p` for every register that the operations up to the first unreadable one name.
+    ///
+    /// # Errors
+    /// The question that was answered by no: 65 to 69.
+    ///
+    /// ```
+    /// use dekvoz::{relaxed_table, Builder, Format, FrameSection, Machine, Rule, Section};
+    ///
+    /// let function = Builder::new(16, 31).at(1).def_cfa_offset(16).offset(6, -16).done();
+    /// let table = relaxed_table(&Machine::X86_64, Format::Elf, &[function.function()])?;
+    /// let (kind, word) = (Section::Eh, Machine::X86_64.word);
+    /// let section = FrameSection { bytes: &table.bytes, relocations: &table.relocations, kind, word, address: 0 };
+    /// let rules = section.locate(0)?.all(4)?;
+    /// assert_eq!(rules.registers, [(6, Rule::Saved(-16)), (16, Rule::Saved(-8))]);
+    /// # Ok::<(), dekvoz::Refusal>(())
+    /// ```
+    pub fn all(&self, p: u64) -> Result<AllRules, Refusal> {
+        let Rules { frame, signing, .. } = self.rules(0, p)?;
+        let mut named = BTreeSet::new();
+        for range in [self.places.header..self.places.header_end, self.places.record..self.places.record_end] {
+            let found = operations(self.bytes, range, self.word).map_while(Result::ok);
+            named.extend(found.filter_map(|found| found.operation.ruled()));
+        }
+        let mut registers = Vec::new();
+        for register in named {
+            registers.push((register, self.rules(register, p)?.rule));
+        }
+        Ok(AllRules { frame, signing, registers })
     }
 }
