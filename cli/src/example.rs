@@ -148,7 +148,7 @@ fn show(out: &mut Out) -> Result<(), Refusal> {
     let table = relaxed_table(&Machine::AARCH64, Format::Elf, &functions)?;
     let bytes = placed(&codes, &table)?;
     out.text(&format!(
-        "\nTheir eh_frame is written, {} bytes, and put at {SECTION:#x} with {} relocations applied:\n\n",
+        "\nTheir eh_frame of {} bytes, put at {SECTION:#x} with {} relocations applied:\n\n",
         bytes.len(),
         table.relocations.len()
     ));
@@ -176,11 +176,8 @@ fn placed(codes: &[Code], table: &Table) -> Result<Vec<u8>, Refusal> {
 
 fn checked(out: &mut Out, codes: &[Code], section: &Section<'_>, parts: &Parts<'_>) {
     let passed = codes.iter().filter(|code| row_check(&code.built.function())).count();
-    out.text("The row check says yes to the rows of ")
-        .decimal(passed as u64)
-        .text(" functions of ")
-        .decimal(codes.len() as u64);
-    out.text(", and `dekvoz check` of the section:").line();
+    out.text("The row check says yes to ").decimal(passed as u64).text(" functions of ").decimal(codes.len() as u64);
+    out.text(". `dekvoz check` of the section says:").line();
     let mut listing = Listing::new(section, parts, false);
     let causes = check::causes(&mut listing, 1);
     check::as_text(out, &listing, &causes);
@@ -189,8 +186,9 @@ fn checked(out: &mut Out, codes: &[Code], section: &Section<'_>, parts: &Parts<'
 /// From where report was stopped to reset. A caller is looked up one byte before its return address, since the call may be the last
 /// instruction of its function; what a signal frame interrupted stands exactly at its address.
 fn chain(out: &mut Out, codes: &[Code], section: &Section<'_>, parts: &Parts<'_>) -> Result<(), Refusal> {
-    out.text("\nThe device does not answer: sample traps, vector saves the registers and calls report, which was stopped at ");
-    out.text(&format!("{:#x}.\nIts chain of callers, each by the rules at its place:\n\n", STOPPED.pc));
+    out.text("\nThe device does not answer: sample traps, vector saves the registers and calls\n");
+    out.text(&format!("report, which was stopped at {:#x}. Its chain of callers, each by the rules\n", STOPPED.pc));
+    out.text("at its place:\n\n");
     let (mut registers, mut exact) = (STOPPED, true);
     for depth in 0..codes.len() {
         let asked = if exact { registers.pc } else { registers.pc.wrapping_sub(1) };
@@ -256,7 +254,7 @@ fn caller(
 fn caught(out: &mut Out, table: &Table) -> Result<(), Refusal> {
     let Some(pointer) = table.relocations.iter().find(|relocation| relocation.symbol == CALL_SITES) else { return Ok(()) };
     let site = call_site(&table.sites, pointer.addend, 24)?;
-    out.text("\nWould sample catch it? At offset 24: ").text(&handler::words_of(24, Some(site))).line();
+    out.text("\nWould sample catch what is thrown there?\n").text(&handler::words_of(24, Some(site))).line();
     Ok(())
 }
 
@@ -274,7 +272,7 @@ fn same(out: &mut Out, functions: &[Function<'_>], eh: &FrameSection<'_>) -> Res
             }
         }
     }
-    out.text(&format!("\nA debugger reads debug_frame instead, {} bytes of the same list. ", table.bytes.len()));
+    out.text(&format!("\nA debugger reads debug_frame instead, {} bytes of the same list.\n", table.bytes.len()));
     out.text(&format!("Asked at every offset for every register, {asked} times, the two differ {differ} times.\n"));
     Ok(())
 }

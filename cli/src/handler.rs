@@ -140,11 +140,13 @@ pub fn words_of(offset: u64, site: Option<Option<Site>>) -> String {
     match site {
         None => "the record has no table of call sites: no handler".to_string(),
         Some(None) => format!("no call site covers offset {offset}"),
-        Some(Some(Site { start, length, pad: 0 })) => {
-            format!("the call site of {length} bytes at offset {start} covers offset {offset}, and has no handler")
-        }
         Some(Some(Site { start, length, pad })) => {
-            format!("the call site of {length} bytes at offset {start} covers offset {offset}: the landing pad at offset {pad} gets it")
+            let end = start.wrapping_add(length);
+            let handler = match pad {
+                0 => ", which has no handler".to_string(),
+                pad => format!(": the landing pad at offset {pad} gets it"),
+            };
+            format!("offset {offset} is in the call site {start}..{end}{handler}")
         }
     }
 }
