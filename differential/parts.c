@@ -1,6 +1,6 @@
 /* Hands lines to the exports that take a section apart, and prints their answers, a line each.
  *
- *     section HEX                           the section of the questions that follow; no answer
+ *     section HEX                           the section of the questions that follow, which ends at a page that cannot be read; no answer
  *     entry KIND AT                         five numbers
  *     header KIND WORD PLACE                nine
  *     record KIND WORD POINTER PLACE        eight
@@ -8,16 +8,18 @@
  *     write KIND WORD FUNCTIONS N N ..      the section that the writer makes of FUNCTIONS functions and the rows behind them, on
  *                                           x86-64 with this word; - for a refusal
  */
+#define _DEFAULT_SOURCE
 #include <inttypes.h>
 #include <stdio.h>
 #include <stdlib.h>
 #include <string.h>
+#include <sys/mman.h>
 
 #include "../include/dekvoz.h"
 
 enum { MOST = 65536, FUNCTION = 18 };
 
-static uint8_t section[MOST], sites[MOST];
+static uint8_t *section, *limit, bytes[MOST], sites[MOST];
 static uint64_t numbers[MOST], places[MOST], relocations[MOST];
 static size_t size;
 
@@ -36,6 +38,7 @@ static void set_section(void) {
     char *hex = strtok(NULL, " \n");
     size = hex ? strlen(hex) / 2 : 0;
     if (size > MOST) exit(3);
+    section = limit - size;
     for (size_t i = 0; i < size; i++) {
         char byte[3] = {hex[2 * i], hex[2 * i + 1], 0};
         section[i] = (uint8_t)strtoul(byte, NULL, 16);
@@ -50,17 +53,20 @@ static void write_one(void) {
     if (n < at) exit(3);
     unwind_written w;
     if (kind == 0)
-        w = unwind_relaxed_table(machine, 70, 0, numbers, at, numbers + at, n - at, NULL, 0, NULL, 0, places, MOST, section, MOST, relocations,
+        w = unwind_relaxed_table(machine, 70, 0, numbers, at, numbers + at, n - at, NULL, 0, NULL, 0, places, MOST, bytes, MOST, relocations,
             MOST, sites, MOST);
     else
         w = unwind_relaxed_debug_frame(
-            machine, 70, 0, numbers, at, numbers + at, n - at, NULL, 0, NULL, 0, places, MOST, section, MOST, relocations, MOST);
+            machine, 70, 0, numbers, at, numbers + at, n - at, NULL, 0, NULL, 0, places, MOST, bytes, MOST, relocations, MOST);
     if (w.number != 0) printf("-");
-    for (size_t i = 0; w.number == 0 && i < w.bytes; i++) printf("%02x", section[i]);
+    for (size_t i = 0; w.number == 0 && i < w.bytes; i++) printf("%02x", bytes[i]);
     printf("\n");
 }
 
 int main(void) {
+    uint8_t *pages = mmap(NULL, 2 * MOST, PROT_READ | PROT_WRITE, MAP_PRIVATE | MAP_ANONYMOUS, -1, 0);
+    if (pages == MAP_FAILED || mprotect(pages + MOST, MOST, PROT_NONE) != 0) return 3;
+    section = limit = pages + MOST;
     char *line = NULL;
     size_t room = 0;
     while (getline(&line, &room, stdin) != -1) {

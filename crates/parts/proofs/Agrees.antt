@@ -1,5 +1,5 @@
 -- What the exports say of a header's and a record's fields is what the reader takes of them, and a fault stands exactly where the reader takes nothing.
-use mathlib.Core.Path.{_≡_, refl, sym, _∙_}
+use mathlib.Core.Path.{_≡_, refl}
 use mathlib.Core.Bool.{Bool, true, false, _&&_}
 use mathlib.Core.Option.{Option, none, some}
 use mathlib.Core.List.{List}

@@ -1,23 +1,21 @@
 -- Worked examples, computed from the definitions: the table of a function that pushes rbp, as gcc writes it for x86-64 (LSB, ".eh_frame").
 use mathlib.Core.Path.{_≡_, refl}
-use Prim.Native.Nat.{ℕ, suc}
-use mathlib.Core.Bool.{Bool, true, false}
-use mathlib.Core.Option.{none, some}
+use Prim.Native.Nat.{ℕ}
 use mathlib.Core.List.{List, [], _∷_, _++_}
 use Rattle.format.specs.Prelude.{pick, next, after, onward, orElse}
 use Rattle.format.specs.Leb.{readLittle, readUlebF, readUleb, push, last7, readSlebF, fits64, readSleb}
 use Rattle.format.specs.Machine.{isWord}
-use Rattle.format.specs.Rows.{unfactor, readRegister, inRange, readFactored, readOffset, one, two, readExtended, readOperation, kindOf, regOf, offsetOf, sameOffset}
-use Rattle.format.specs.Headers.{headerId, dataFactor, sizeOf, pointerSize}
+use Rattle.format.specs.Rows.{unfactor, readRegister, inRange, readFactored, one, readOperation, kindOf, regOf, offsetOf, sameOffset}
+use Rattle.format.specs.Headers.{headerId, dataFactor}
 use Rattle.format.specs.Answers.{bit}
 use Rattle.format.specs.Reader.{readEntry, valueOr0, second, isHeader, strip, spelled, spellings, spellOr, readLetters, readByte, readMany, readCounted, personalityIn, lsdaIn, lettersIn, headerTail, require, recordTail}
 use Rattle.format.proofs.Positions.{decodedFrom, operationAt}
 use Rattle.cursor.specs.Listing.{stopped, shown, entryRead, entryFrom, entryAt}
 use Rattle.parts.specs.Faults.{reading, testing}
 use Rattle.parts.specs.Entries.{entryNumbers, nextEntry}
-use Rattle.parts.specs.Operations.{operationNumbers, noOperation, decodedNumbers, operationFrom, readOperationAt}
+use Rattle.parts.specs.Operations.{operationNumbers, decodedNumbers, operationFrom, readOperationAt}
 use Rattle.parts.specs.Headers.{headerRest, headerFrom, headerParts, noHeader, headerNumbers, headerOf, readHeaderAt}
-use Rattle.parts.specs.Records.{recordRest, recordParts, restFrom, callSites, noRecord, recordNumbers, recordOf, readRecordAt}
+use Rattle.parts.specs.Records.{recordRest, recordParts, callSites, noRecord, recordNumbers, recordOf, readRecordAt}
 
 -- a length of 20, id 0, version 1, zR, factors 1 and -8, return address 16, one byte 1b; DefCfa(7, 8), Offset(16, -8) and two bytes of padding
 cie : List ℕ

@@ -1,11 +1,11 @@
 -- A header's fields by positions, from its augmentation data back to the entry, by the code's tests.
 use mathlib.Core.Path.{_≡_, subst}
-use mathlib.Core.Bool.{Bool, true, false, _&&_}
+use mathlib.Core.Bool.{Bool, true, false}
 use mathlib.Core.List.{List}
 use Prim.Native.Nat.{ℕ, _+_, _≤_, _<_}
 use native.Mathlib.Omega.{arith}
 use borrow.Author.Tests.{eq-eqb, ne-eqb, le-leb, lt-leb}
-use lib.Dec.{leb, eqb}
+use lib.Dec.{eqb}
 use lib.ListN.{length, drop, getD}
 use lib.IntN.{ℤ}
 use Rattle.format.specs.Prelude.{pick, next, Result, bad, onward, orElse}

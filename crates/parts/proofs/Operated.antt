@@ -3,6 +3,7 @@ use mathlib.Core.Path.{_≡_, refl, sym, ap, _∙_}
 use mathlib.Core.Bool.{Bool, true, false, _&&_}
 use Prim.Native.Nat.{ℕ, _+_, _-_, _^_, _≤_, _<_}
 use native.Mathlib.Omega.{arith}
+use mathlib.Core.Option.{some}
 use mathlib.Core.List.{List}
 use borrow.Author.Tests.{eq-eqb, ne-eqb, le-leb, lt-leb}
 use lib.Dec.{leb, eqb}
@@ -14,17 +15,16 @@ use mir.Syntax.{w64}
 use mir.Val.{SFits, ofZ, toZ}
 use Rattle.format.specs.Prelude.{pick}
 use Rattle.format.specs.Machine.{isWord}
-use Rattle.rows.proofs.Signs.{negative, positive}
-use Rattle.reader.specs.Spans.{part}
-use Rattle.reader.proofs.Whole.{drop-part}
 use Rattle.format.specs.Rows.{readOperation}
-use mathlib.Core.Option.{some}
 use Rattle.format.specs.declared.Operation.{Operation}
 use Rattle.format.specs.declared.Operation.the-variants.{Nop, Step, Does}
 use Rattle.format.specs.declared.Decoded.{Decoded}
 use Rattle.format.specs.declared.Decoded.the-variants as decoded
 use Rattle.format.proofs.Positions.{operationAt}
 use Rattle.format.proofs.OperationLaws.{operation-ahead, operation-rest}
+use Rattle.rows.proofs.Signs.{negative, positive}
+use Rattle.reader.specs.Spans.{part}
+use Rattle.reader.proofs.Whole.{drop-part}
 use Rattle.parts.specs.Operations.{noOperation, operationNumbers, decodedNumbers, operationFrom, readOperationAt}
 use Rattle.parts.specs.declared.operations.OperationRead.{OperationRead}
 

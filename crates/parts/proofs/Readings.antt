@@ -1,5 +1,5 @@
 -- At an entry of a section: a header or a record is answered exactly where the reader takes its fields, with the same values and the same operations.
-use mathlib.Core.Path.{_≡_, refl, sym, _∙_}
+use mathlib.Core.Path.{_≡_, refl, sym}
 use mathlib.Core.Bool.{Bool, true, false}
 use mathlib.Core.Option.{Option, none, some}
 use mathlib.Core.List.{List}
@@ -12,7 +12,7 @@ use Rattle.format.specs.Answers.{bit}
 use Rattle.format.specs.Reader.{isHeader, HeaderFields, parseHeader, RecordFields, parseRecord}
 use Rattle.reader.specs.Spans.{part, entryIn, endAt}
 use Rattle.reader.specs.declared.entries.Number.the-variants.{Is}
-use Rattle.reader.proofs.Tiling.{Entered, entered}
+use Rattle.reader.proofs.Tiling.{entered}
 use Rattle.cursor.specs.Listing.{entryAt}
 use Rattle.cursor.proofs.Steps.{spanned, at-there, entry-fits}
 use Rattle.parts.specs.Headers.{headerParts, headerNumbers, readHeaderAt}

@@ -1,16 +1,15 @@
 -- A record's fields by positions, from its augmentation data back to the entry, by the code's tests.
 use mathlib.Core.Path.{_≡_, subst}
-use mathlib.Core.Bool.{Bool, true, false, _&&_}
-use mathlib.Core.Option.{none}
+use mathlib.Core.Bool.{Bool, true, false}
 use mathlib.Core.List.{List}
 use Prim.Native.Nat.{ℕ, _+_, _≤_, _<_}
 use native.Mathlib.Omega.{arith}
 use borrow.Author.Tests.{eq-eqb, ne-eqb, le-leb, lt-leb}
-use lib.Dec.{T, leb, eqb}
+use lib.Dec.{T, eqb}
 use lib.ListN.{length, drop}
 use Rattle.format.specs.Prelude.{pick, Result, bad, onward, orElse}
 use Rattle.format.specs.Machine.{isWord}
-use Rattle.format.specs.Reader.{RecordFields, recordTail}
+use Rattle.format.specs.Reader.{recordTail}
 use Rattle.format.specs.declared.Unsigned.the-variants as unsigned
 use Rattle.format.proofs.Positions.{ulebAt, littleAt}
 use Rattle.format.proofs.PositionLaws.{uleb-ahead, uleb-rest, uleb-none, little-ahead, little-rest, little-none}

@@ -9,7 +9,6 @@ use lib.Dec.{eqb, leb, leb→le}
 use lib.ListN.{length, take, drop, length-drop}
 use lib.Seq.{drop-drop, length-take-le}
 use Rattle.format.specs.Prelude.{pick, Read, next, after}
-use Rattle.format.specs.Leb.{readLittle, readUleb, readSleb}
 use Rattle.format.specs.Rows.{readRegister, sameOffset}
 use Rattle.format.specs.Headers.{dataFactor}
 use Rattle.format.specs.Reader.{strip, Letters, Spelling, spellings, spellOr, readLetters, readByte, readMany, readCounted, lettersIn, require, HeaderFields, headerTail, parseHeader, RecordFields, recordTail, parseRecord}

@@ -3,7 +3,7 @@ use Prim.Native.Nat.{ℕ}
 use mathlib.Core.Bool.{Bool}
 use mathlib.Core.Option.{none, some}
 use mathlib.Core.List.{List}
-use Rattle.format.specs.Prelude.{pick, Read, Result, good, bad}
+use Rattle.format.specs.Prelude.{pick, Read, Result, bad}
 
 -- of a header
 abbrev pub versionField : ℕ

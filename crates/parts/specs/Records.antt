@@ -1,6 +1,6 @@
 -- The fields of the record (FDE) at a place (DWARF 5, 6.4.1; LSB, "The Frame Description Entry Format"), as numbers.
 use Prim.Native.Nat.{ℕ, _+_, _-_}
-use mathlib.Core.Bool.{Bool, _&&_, _||_}
+use mathlib.Core.Bool.{Bool, _&&_}
 use mathlib.Core.Option.{none, some}
 use mathlib.Core.List.{List}
 use lib.Dec.{leb, eqb}

@@ -4,7 +4,6 @@ ghost use Prim.Native.Nat.{_+_, _^_, _<_};
 ghost use lib.ListN.{length};
 ghost use mir.Syntax.{w64};
 ghost use mir.Val.{ofZ};
-ghost use Rattle.format.proofs.Positions.{operationAt};
 ghost use Rattle.parts.specs.Operations.{noOperation, operationNumbers, operationFrom, readOperationAt};
 use format::Decoded;
 use format::Operation;

@@ -1,5 +1,5 @@
 -- `parts::unwind_next_entry` meets its contract.
-use mathlib.Core.Path.{refl, sym, _∙_}
+use mathlib.Core.Path.{refl, sym}
 use Rattle.format.specs.Answers.{bit}
 use Rattle.cursor.specs.Listing.{stopped}
 use Rattle.parts.specs.Entries.{entryNumbers}

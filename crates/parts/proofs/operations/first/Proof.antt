@@ -1,5 +1,5 @@
 -- `parts::operations::first` meets its contract.
-use mathlib.Core.Path.{refl, sym, _∙_}
+use mathlib.Core.Path.{sym, _∙_}
 use native.Mathlib.Omega.{arith}
 use Rattle.format.proofs.OperationLaws.{operation-ahead}
 use Rattle.parts.specs.Operations.{decodedNumbers, operationFrom}

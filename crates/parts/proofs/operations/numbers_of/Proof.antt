@@ -1,6 +1,5 @@
 -- `parts::operations::numbers_of` meets its contract.
-use mathlib.Core.Path.{refl, sym, _∙_}
-use native.Mathlib.Omega.{arith}
+use mathlib.Core.Path.{refl}
 use Rattle.rows.proofs.Signs.{passed}
 use Rattle.parts.specs.Operations.{operationNumbers}
 use borrow.Author.Needs.{needs}

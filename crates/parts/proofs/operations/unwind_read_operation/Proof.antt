@@ -1,5 +1,5 @@
 -- `parts::operations::unwind_read_operation` meets its contract.
-use mathlib.Core.Path.{refl, sym, _∙_}
+use mathlib.Core.Path.{sym, _∙_}
 use native.Mathlib.Omega.{arith}
 use borrow.Author.Tests.{not-true, not-false}
 use Rattle.format.proofs.FieldsBack.{word-small}
