@@ -134,8 +134,9 @@ impl<'a> FrameSection<'a> {
     pub fn records(&self) -> Result<Vec<Record>, Refusal> {
         let numbers = Relocation::numbers(self.relocations);
         // A record has 8 bytes at least, and two numbers here.
-        let mut places = vec![0; (self.bytes.len() >> 3) << 1];
-        // SAFETY: each pointer and count come from one slice, so they are valid and aligned; `places` is of this function alone. The
+        let mut places = vec![[0; 2]; self.bytes.len() / 8];
+        let lent = places.as_flattened_mut();
+        // SAFETY: each pointer and count come from one slice, so they are valid and aligned; `lent` is of this function alone. The
         // function takes every number.
         let indexed = unsafe {
             sys::unwind_index(
@@ -145,13 +146,13 @@ impl<'a> FrameSection<'a> {
                 numbers.len(),
                 self.kind.number(),
                 self.word.bytes(),
-                places.as_mut_ptr(),
-                places.len(),
+                lent.as_mut_ptr(),
+                lent.len(),
             )
         };
         accepted(indexed.number)?;
-        let pairs = places.chunks_exact(2).take(indexed.records as usize).filter_map(|pair| <[u64; 2]>::try_from(pair).ok());
-        Ok(pairs.map(|[place, header]| Record { place, header: Some(header).filter(|&header| header != NOWHERE) }).collect())
+        let record = |[place, header]: [u64; 2]| Record { place, header: Some(header).filter(|&at| at != NOWHERE) };
+        Ok(places.into_iter().take(indexed.records as usize).map(record).collect())
     }
 
     /// The record at a place with its header, without a pass over the section.

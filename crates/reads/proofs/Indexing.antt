@@ -7,7 +7,7 @@ use Prim.Native.Nat.{ℕ, suc, _+_, _-_, _*_, _/_, _^_, _≤_, _<_}
 use native.Mathlib.Omega.{arith}
 use borrow.Author.Tests.{lt-ltb, le-ltb}
 use lib.Dec.{T, leb, eqb, ltb}
-use lib.ListN.{length, set, length-set}
+use lib.ListN.{length, getD, set, length-set}
 use mir.Facts.{eqb-yes}
 use Rattle.format.specs.Prelude.{pick, after, first, Result, good, bad, onward, orElse}
 use Rattle.format.specs.Put.{put}
@@ -20,12 +20,12 @@ use Rattle.reader.specs.declared.entries.Number.{Number}
 use Rattle.reader.specs.declared.entries.Number.the-variants as number
 use Rattle.reader.specs.declared.entries.Span.{Span}
 use Rattle.reader.specs.declared.entries.Span.the-variants as span
-use Rattle.reader.proofs.Seeking.{number-is, number-none, absent, header-here, header-later}
+use Rattle.reader.proofs.Seeking.{search-start, search-turn, number-is, number-none, absent, header-here, header-later}
 use Rattle.reader.proofs.Tiling.{tiled-end}
 use Rattle.reader.proofs.Whole.{tiled, spans, spans-none}
 use Rattle.reads.specs.Places.{asked, headerOf}
 use Rattle.reads.specs.Index.{nowhere, placeOr, indexFrom, indexOf, indexIn, index, indexedAs, listAfter}
-use Rattle.reads.specs.Standing.{Headed, Indexes}
+use Rattle.reads.specs.Standing.{Skipped, Headed, Indexes}
 use Rattle.reads.specs.declared.Indexed.{Indexed}
 use Rattle.reads.proofs.Passing.{Passing, begun, passed, all-passed, records-header, records-record}
 
@@ -118,6 +118,18 @@ module _ (s : List ℕ) (rs : List Relocation) (debug : Bool) (es : List Entry) 
         pub found-headed : place < at → Headed debug es c
         found-headed l = headed-found debug es l (spans s (headerAt debug place at es) k q .found)
 
+-- ---- relocations passed by
+
+module _ (xs : List ℕ) where
+  pub none-skipped : (place : ℕ) → Skipped xs place 0
+  none-skipped place = record { searching = λ q h. search-start xs q }
+
+  pub skipped-later : {place place′ i : ℕ} → place ≤ place′ → Skipped xs place i → Skipped xs place′ i
+  skipped-later l k = record { searching = λ q h. k .searching q (omega arith) }
+
+  pub skipped-one : {place i : ℕ} → Skipped xs place i → i < length xs / 5 → getD xs (5 * i) 0 < place → Skipped xs place (i + 1)
+  skipped-one k h l = record { searching = λ q m. search-turn (k .searching q m) h (λ e. absurd (omega arith)) }
+
 -- ---- how many numbers
 
 pub index-length : (debug : Bool) (rs : List Relocation) (es rest : List Entry) → length (indexFrom debug rs es rest) ≡ 2 * length rest
@@ -158,27 +170,35 @@ module _ (s : List ℕ) (debug : Bool) where
 
 -- ---- the numbers stored: those of the entries from `at` on are left, and go from i on
 
-pub record Filling (s : List ℕ) (rs : List Relocation) (debug : Bool) (old now : List ℕ) (last i at : ℕ) : Type 0 where
+pub record Filling (s : List ℕ) (debug : Bool) (xs old now : List ℕ) (from last i at : ℕ) : Type 0 where
   pub inside : at ≤ length s
   pub long : length now ≡ length old
   pub tiles : T (isSome (entriesFrom s at))
-  pub room : i + length (indexFrom debug rs (listed (entries s)) (records debug (listed (entriesFrom s at)))) ≤ length now
-  pub rest : put now i (indexFrom debug rs (listed (entries s)) (records debug (listed (entriesFrom s at)))) ≡ put old 0 (indexOf debug rs (listed (entries s)))
+  pub room : i + length (indexFrom debug (relocationsOf xs) (listed (entries s)) (records debug (listed (entriesFrom s at)))) ≤ length now
+  pub rest : put now i (indexFrom debug (relocationsOf xs) (listed (entries s)) (records debug (listed (entriesFrom s at)))) ≡ put old 0 (indexOf debug (relocationsOf xs) (listed (entries s)))
   pub headed : Headed debug (listed (entries s)) last
+  pub skipped : Skipped xs at from
 
-module _ (s : List ℕ) (rs : List Relocation) (debug : Bool) (old : List ℕ) where
+module _ (s : List ℕ) (debug : Bool) (xs old : List ℕ) where
   abbrev es : List Entry
   es = listed (entries s)
 
-  pub filling : T (isSome (entries s)) → length (indexOf debug rs es) ≤ length old → Filling s rs debug old old nowhere 0 0
-  unfolding entries entriesFrom indexOf
-  filling t l = record { inside = omega arith; long = refl; tiles = t; room = omega (arith, l); rest = refl; headed = headed-nowhere debug es }
+  abbrev rs : List Relocation
+  rs = relocationsOf xs
 
-  module _ {now : List ℕ} {last i at end : ℕ} (f : Filling s rs debug old now last i at) (e : Ends s at end) where
+  pub filling : T (isSome (entries s)) → length (indexOf debug rs es) ≤ length old → Filling s debug xs old old 0 nowhere 0 0
+  unfolding entries entriesFrom indexOf
+  filling t l = record { inside = omega arith; long = refl; tiles = t; room = omega (arith, l); rest = refl; headed = headed-nowhere debug es; skipped = none-skipped xs 0 }
+
+  module _ {now : List ℕ} {from last i at end : ℕ} (f : Filling s debug xs old now from last i at) (e : Ends s at end) where
     abbrev more : List Entry
     more = listed (entriesFrom s end)
 
-    pub fill-header : isHeader debug (entryIn s at end) ≡ true → Filling s rs debug old now last i end
+    -- in front of the record's second field
+    pub fill-skipped : Skipped xs (at + 4) from
+    fill-skipped = skipped-later xs (omega arith) (f .skipped)
+
+    pub fill-header : isHeader debug (entryIn s at end) ≡ true → Filling s debug xs old now from last i end
     fill-header y =
         let q : records debug (listed (entriesFrom s at)) ≡ records debug more = rw (e .rest) (records-header debug (entryIn s at end) more y) in
         record {
@@ -188,6 +208,7 @@ module _ (s : List ℕ) (rs : List Relocation) (debug : Bool) (old : List ℕ) w
           room = rw q at (f .room);
           rest = rw q at (f .rest);
           headed = f .headed;
+          skipped = skipped-later xs (omega (arith, e .long)) (f .skipped);
         }
 
     module _ (y : isHeader debug (entryIn s at end) ≡ false) where
@@ -198,10 +219,10 @@ module _ (s : List ℕ) (rs : List Relocation) (debug : Bool) (old : List ℕ) w
       unfolding indexFrom
       fill-room = omega (arith, rw one at (f .room))
 
-      pub fill-record : {h : ℕ} → h ≡ placeOr (headerOf debug rs es (entryIn s at end)) → Headed debug es h
-          → Filling s rs debug old (set (set now i at) (i + 1) h) h (i + 2) end
+      pub fill-record : {from′ h : ℕ} → Skipped xs (at + 4) from′ → h ≡ placeOr (headerOf debug rs es (entryIn s at end)) → Headed debug es h
+          → Filling s debug xs old (set (set now i at) (i + 1) h) from′ h (i + 2) end
       unfolding indexFrom put
-      fill-record {h} g k =
+      fill-record {h = h} p g k =
           let l : length (set (set now i at) (i + 1) h) ≡ length now = simp length-set in
           let a : i + 1 + 1 ≡ i + 2 = omega arith in
           record {
@@ -211,9 +232,10 @@ module _ (s : List ℕ) (rs : List Relocation) (debug : Bool) (old : List ℕ) w
             room = omega (arith, l, rw one at (f .room));
             rest = rw (g, ← a) (rw one at (f .rest));
             headed = k;
+            skipped = skipped-later xs (omega (arith, e .long)) p;
           }
 
-  pub filled : {now : List ℕ} {last i at : ℕ} → Filling s rs debug old now last i at → length s ≤ at → now ≡ put old 0 (indexOf debug rs es)
+  pub filled : {now : List ℕ} {from last i at : ℕ} → Filling s debug xs old now from last i at → length s ≤ at → now ≡ put old 0 (indexOf debug rs es)
   unfolding listed records indexFrom put
   filled {at = at} f h = rw (tiled-end s at h) at (f .rest)
 

@@ -6,11 +6,12 @@ ghost use lib.Dec.{T};
 ghost use Rattle.format.specs.Put.{put};
 ghost use Rattle.format.specs.Lists.{relocationsOf};
 ghost use Rattle.format.specs.Questions.{isSome};
-ghost use Rattle.format.specs.Reader.{records, entries};
-ghost use Rattle.reader.specs.Spans.{entryIn, listed};
+ghost use Rattle.format.specs.Reader.{firstAddend, headerPlace, records, entries};
+ghost use Rattle.reader.specs.Spans.{entryIn, listed, numberOf};
+ghost use Rattle.reader.proofs.Seeking.{Searching};
 ghost use Rattle.reads.specs.Places.{headerOf};
 ghost use Rattle.reads.specs.Index.{placeOr, indexOf, indexIn};
-ghost use Rattle.reads.specs.Standing.{Headed, Indexes};
+ghost use Rattle.reads.specs.Standing.{Skipped, Headed, Indexes};
 use crate::Indexed;
 use reader::entries::Number;
 use reader::entries::Span;
@@ -42,13 +43,68 @@ fn count(s: &[u8], debug: bool) -> usize
     n
 }
 
+// The relocations in front of the first whose place is at least `place`, from those on that are known to be. A writer's relocations go up, so one pass
+// over them serves all records; eh_frame's records do not ask them.
+fn skipped(relocs: &[u64], debug: bool, place: u64, from: usize) -> usize
+    requires { ⌜ Skipped (now relocs) place from ⌝ }
+    ensures { λ r. ⌜ Skipped (now (relocs .entry)) place r ⌝ }
+{
+    if !debug {
+        return from;
+    }
+    let n = relocs.len() / 5;
+    let mut i = from;
+    while i < n {
+        if place <= relocs[5 * i] {
+            return i;
+        }
+        i += 1;
+    }
+    i
+}
+
+// The addend of the first relocation at a place, which none in front of the i-th has.
+fn addend_from(relocs: &[u64], place: u64, from: usize) -> Number
+    requires { ⌜ Searching (now relocs) place from ⌝ }
+    ensures { λ r. ⌜ r ≡ numberOf (firstAddend place (relocationsOf (now (relocs .entry)))) ⌝ }
+{
+    let n = relocs.len() / 5;
+    let mut i = from;
+    while i < n {
+        if relocs[5 * i] == place {
+            return Number::Is(relocs[5 * i + 4] as usize);
+        }
+        i += 1;
+    }
+    Number::Nothing
+}
+
+// Where the header of the record from `at` to `end` starts, as its second field says or, in debug_frame, that field's relocation.
+fn header_place(s: &[u8], relocs: &[u64], debug: bool, at: usize, end: usize, from: usize) -> Number
+    requires { ⌜ (at + 8 ≤ end) × (end ≤ length (now s)) × Searching (now relocs) (at + 4) from ⌝ }
+    ensures { λ r. ⌜ r ≡ numberOf (headerPlace debug (relocationsOf (now (relocs .entry))) (entryIn (now (s .entry)) at end)) ⌝ }
+{
+    if debug {
+        return addend_from(relocs, (at + 4) as u64, from);
+    }
+    reader::location::header_place(s, relocs, debug, at, end)
+}
+
 // The place of the header of the record from `at` to `end`. Records of one header follow each other, so the header that was found last is looked at
 // first: without it each record would cost a search from the section's start on.
-fn header_start(s: &[u8], relocs: &[u64], debug: bool, at: usize, end: usize, last: usize) -> usize
-    requires { ⌜ (at + 8 ≤ end) × (end ≤ length (now s)) × T (isSome (entries (now s))) × Headed debug (listed (entries (now s))) last ⌝ }
+fn header_start(
+    s: &[u8],
+    relocs: &[u64],
+    debug: bool,
+    at: usize,
+    end: usize,
+    from: usize,
+    last: usize,
+) -> usize
+    requires { ⌜ (at + 8 ≤ end) × (end ≤ length (now s)) × T (isSome (entries (now s))) × Headed debug (listed (entries (now s))) last × Searching (now relocs) (at + 4) from ⌝ }
     ensures { λ r. ⌜ (r ≡ placeOr (headerOf debug (relocationsOf (now (relocs .entry))) (listed (entries (now (s .entry)))) (entryIn (now (s .entry)) at end))) × Headed debug (listed (entries (now (s .entry)))) r ⌝ }
 {
-    let Number::Is(place) = reader::location::header_place(s, relocs, debug, at, end) else {
+    let Number::Is(place) = header_place(s, relocs, debug, at, end, from) else {
         return NOWHERE;
     };
     if at <= place {
@@ -68,6 +124,7 @@ fn fill(s: &[u8], relocs: &[u64], debug: bool, places: &mut [u64])
     requires { ⌜ T (isSome (entries (now s))) × (length (indexOf debug (relocationsOf (now relocs)) (listed (entries (now s)))) ≤ length (now places)) ⌝ }
     ensures { λ r. ⌜ now (places .exit) ≡ put (now (places .entry)) 0 (indexOf debug (relocationsOf (now (relocs .entry))) (listed (entries (now (s .entry))))) ⌝ }
 {
+    let mut from = 0;
     let mut last = NOWHERE;
     let mut i = 0;
     let mut next = 0;
@@ -77,7 +134,8 @@ fn fill(s: &[u8], relocs: &[u64], debug: bool, places: &mut [u64])
         if reader::entries::is_header(s, at, next, debug) {
             continue 'entries;
         }
-        last = header_start(s, relocs, debug, at, next, last);
+        from = skipped(relocs, debug, (at + 4) as u64, from);
+        last = header_start(s, relocs, debug, at, next, from, last);
         places[i] = at as u64;
         places[i + 1] = last as u64;
         i += 2;

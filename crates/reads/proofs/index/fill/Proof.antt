@@ -1,22 +1,21 @@
 -- `reads::index::fill` meets its contract.
-use borrow.Author.Needs.{needs}
 use mathlib.Core.Path.{sym, _∙_}
-use Rattle.reads.proofs.Indexing.{Filling, filling, fill-header, fill-room, fill-record, filled}
-use Rattle.format.specs.Lists.{relocationsOf}
-use lib.ListN.{length, length-set}
-use Prim.Native.Nat.{_-_}
 use native.Mathlib.Omega.{arith}
+use Prim.Native.Nat.{_-_}
+use borrow.Author.Needs.{needs}
+use lib.ListN.{length, length-set}
+use Rattle.reads.proofs.Indexing.{Filling, filling, fill-skipped, fill-header, fill-room, fill-record, filled}
 use Rattle.reads.proofs.index.fill.Statement.{statement}
 use Rattle.reads.proofs.index.fill.Tie as tie
 
 abbrev Inv-entries : tie.InvT-entries
-Inv-entries s relocs debug places₀ last₀ i₀ next₀ places last i next = Filling s (relocationsOf relocs) debug places₀ places last i next
+Inv-entries s relocs debug places₀ from₀ last₀ i₀ next₀ places from last i next = Filling s debug relocs places₀ places from last i next
 
 abbrev μ-entries : tie.MeasureT-entries
-μ-entries s relocs debug places₀ last₀ i₀ next₀ places last i next = length s - next
+μ-entries s relocs debug places₀ from₀ last₀ i₀ next₀ places from last i next = length s - next
 
 entries-holds : tie.Need-entries-holds Inv-entries μ-entries
-entries-holds c = filling (c .before .before .before .args .s .now) (relocationsOf (c .before .before .before .args .relocs .now)) (c .before .before .before .args .debug) (c .before .before .before .args .places .now) (c .before .before .before .pre .0) (c .before .before .before .pre .1)
+entries-holds c = filling (c .before .before .before .args .s .now) (c .before .before .before .args .debug) (c .before .before .before .args .relocs .now) (c .before .before .before .args .places .now) (c .before .before .before .pre .0) (c .before .before .before .pre .1)
 
 past-requires : tie.Need-past-requires Inv-entries μ-entries
 past-requires c κs = (c .entries-test .taken, c .before .entries .inv .tiles)
@@ -30,32 +29,38 @@ entries-less c = omega (arith, c .before .before .past .ensures .long)
 entries-again : tie.Need-entries-again Inv-entries μ-entries
 entries-again c = fill-header _ _ _ _ (c .before .before .before .before .entries .inv) (c .before .before .past .ensures) (sym (c .before .is-header .ensures) ∙ c .if1 .taken)
 
+add-skipped : tie.Need-add-skipped Inv-entries μ-entries
+add-skipped c = let l = c .before .before .past .ensures .long in let i = c .before .before .past .ensures .inside in search needs
+
+skipped-requires : tie.Need-skipped-requires Inv-entries μ-entries
+skipped-requires c κs = fill-skipped _ _ _ _ (c .before .before .before .before .entries .inv) (c .before .before .past .ensures)
+
 header-start-requires : tie.Need-header-start-requires Inv-entries μ-entries
-header-start-requires c κs = (c .before .before .past .ensures .long, c .before .before .past .ensures .inside, c .before .before .before .before .before .before .before .before .pre .0, c .before .before .before .before .entries .inv .headed)
+header-start-requires c κs = (c .before .before .before .past .ensures .long, c .before .before .before .past .ensures .inside, c .before .before .before .before .before .before .before .before .before .pre .0, c .before .before .before .before .before .entries .inv .headed, c .skipped .ensures .searching _ (omega arith))
 
 mul-places : tie.Need-mul-places Inv-entries μ-entries
-mul-places c = let r = fill-room _ _ _ _ (c .before .before .before .before .before .entries .inv) (c .before .before .before .past .ensures) (sym (c .before .before .is-header .ensures) ∙ c .before .if1 .left) in search needs
+mul-places c = let r = fill-room _ _ _ _ (c .before .before .before .before .before .before .entries .inv) (c .before .before .before .before .past .ensures) (sym (c .before .before .before .is-header .ensures) ∙ c .before .before .if1 .left) in search needs
 
 slice-write-places : tie.Need-slice-write-places Inv-entries μ-entries
-slice-write-places c = let r = fill-room _ _ _ _ (c .before .before .before .before .before .entries .inv) (c .before .before .before .past .ensures) (sym (c .before .before .is-header .ensures) ∙ c .before .if1 .left) in search needs
+slice-write-places c = let r = fill-room _ _ _ _ (c .before .before .before .before .before .before .entries .inv) (c .before .before .before .before .past .ensures) (sym (c .before .before .before .is-header .ensures) ∙ c .before .before .if1 .left) in search needs
 
 add-places : tie.Need-add-places Inv-entries μ-entries
-add-places c = let r = fill-room _ _ _ _ (c .before .before .before .before .before .entries .inv) (c .before .before .before .past .ensures) (sym (c .before .before .is-header .ensures) ∙ c .before .if1 .left) in search needs
+add-places c = let r = fill-room _ _ _ _ (c .before .before .before .before .before .before .entries .inv) (c .before .before .before .before .past .ensures) (sym (c .before .before .before .is-header .ensures) ∙ c .before .before .if1 .left) in search needs
 
 mul-places-2 : tie.Need-mul-places-2 Inv-entries μ-entries
-mul-places-2 c = let r = fill-room _ _ _ _ (c .before .before .before .before .before .entries .inv) (c .before .before .before .past .ensures) (sym (c .before .before .is-header .ensures) ∙ c .before .if1 .left) in search needs
+mul-places-2 c = let r = fill-room _ _ _ _ (c .before .before .before .before .before .before .entries .inv) (c .before .before .before .before .past .ensures) (sym (c .before .before .before .is-header .ensures) ∙ c .before .before .if1 .left) in search needs
 
 slice-write-places-2 : tie.Need-slice-write-places-2 Inv-entries μ-entries
-slice-write-places-2 c = let r = fill-room _ _ _ _ (c .before .before .before .before .before .entries .inv) (c .before .before .before .past .ensures) (sym (c .before .before .is-header .ensures) ∙ c .before .if1 .left) in simp length-set (search needs)
+slice-write-places-2 c = let r = fill-room _ _ _ _ (c .before .before .before .before .before .before .entries .inv) (c .before .before .before .before .past .ensures) (sym (c .before .before .before .is-header .ensures) ∙ c .before .before .if1 .left) in simp length-set (search needs)
 
 add-i : tie.Need-add-i Inv-entries μ-entries
-add-i c = let r = fill-room _ _ _ _ (c .before .before .before .before .before .entries .inv) (c .before .before .before .past .ensures) (sym (c .before .before .is-header .ensures) ∙ c .before .if1 .left) in search needs
+add-i c = let r = fill-room _ _ _ _ (c .before .before .before .before .before .before .entries .inv) (c .before .before .before .before .past .ensures) (sym (c .before .before .before .is-header .ensures) ∙ c .before .before .if1 .left) in search needs
 
 entries-less-2 : tie.Need-entries-less-2 Inv-entries μ-entries
-entries-less-2 c = omega (arith, c .before .before .before .past .ensures .long)
+entries-less-2 c = omega (arith, c .before .before .before .before .past .ensures .long)
 
 entries-again-2 : tie.Need-entries-again-2 Inv-entries μ-entries
-entries-again-2 c = fill-record _ _ _ _ (c .before .before .before .before .before .entries .inv) (c .before .before .before .past .ensures) (sym (c .before .before .is-header .ensures) ∙ c .before .if1 .left) (c .header-start .ensures .0) (c .header-start .ensures .1)
+entries-again-2 c = fill-record _ _ _ _ (c .before .before .before .before .before .before .entries .inv) (c .before .before .before .before .past .ensures) (sym (c .before .before .before .is-header .ensures) ∙ c .before .before .if1 .left) (c .before .skipped .ensures) (c .header-start .ensures .0) (c .header-start .ensures .1)
 
 same-length : tie.Need-same-length Inv-entries μ-entries
 same-length c = c .before .entries .inv .long
@@ -74,6 +79,8 @@ fill-spec =
     is-header-requires
     entries-less
     entries-again
+    add-skipped
+    skipped-requires
     header-start-requires
     mul-places
     slice-write-places
