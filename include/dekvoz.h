@@ -135,9 +135,9 @@ typedef struct {
     uint64_t number, found, start, length, pad;
 } unwind_site;
 
-/* A site of the table at a place of the call sites that covers a code offset: its start is at most the offset, and the offset is below its
- * start plus its length. All three count from the function's start. Every entry is read before the answer. Which site it is, where several
- * cover the offset, is not said. A function's place is the addend of its record's relocation to symbol 1. */
+/* The first site, in table order, of the table at a place of the call sites that covers a code offset: its start is at most the offset, and
+ * the offset is below its start plus its length. All three count from the function's start. Every entry is read before the answer. A
+ * function's place is the addend of its record's relocation to symbol 1. */
 unwind_site unwind_call_site(const uint8_t *sites, size_t sites_n, uint64_t place, uint64_t offset);
 
 /* ---- the reader by places: one pass over a section for several questions */

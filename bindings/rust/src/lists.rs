@@ -209,8 +209,7 @@ pub(crate) fn rules(r: &sys::Reading) -> Result<Rules, Refusal> {
     Ok(Rules { frame, rule, signing: r.signing != 0 })
 }
 
-/// A site of the table at a place of the call sites that covers a code offset, or `None` where no entry does. Which one it is, where several
-/// cover the offset, is not said.
+/// The first site of the table at a place of the call sites that covers a code offset, or `None` where no entry does.
 ///
 /// # Errors
 /// The question that was answered by no: 71 or 72.

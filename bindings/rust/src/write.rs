@@ -178,8 +178,7 @@ pub fn read(
     lists::read(section, Relocation::numbers(relocations), kind.number(), word.bytes(), k, register, p)
 }
 
-/// A site of the table at a place of the call sites that covers a code offset, or `None` where no entry does. Which one it is, where several
-/// cover the offset, is not said. The place is the addend of the record's relocation to symbol 1. The bytes may be any.
+/// The first site of the table at a place of the call sites that covers a code offset, or `None` where no entry does. The place is the addend of the record's relocation to symbol 1. The bytes may be any.
 ///
 /// # Errors
 /// The question that was answered by no: 71 or 72.

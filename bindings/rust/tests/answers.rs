@@ -287,6 +287,10 @@ fn sites_of_a_table() {
     assert_eq!(site(2, 11), Ok(Some(Site { start: 10, length: 2, pad: 20 })));
     assert_eq!(site(2, 12), Ok(None));
     assert_eq!(site(0, 4).unwrap_err().number, 71);
+    // Two sites that overlap: the first of the table counts.
+    let both = hex("ffff01 08 06041e00 04091400");
+    assert_eq!(dekvoz::call_site(&both, 0, 6), Ok(Some(Site { start: 6, length: 4, pad: 30 })));
+    assert_eq!(dekvoz::call_site(&both, 0, 5), Ok(Some(Site { start: 4, length: 9, pad: 20 })));
     assert_eq!(dekvoz::call_site(&hex("ffff01 05 04060000 0a"), 0, 4).unwrap_err().number, 72);
     let far = hex("ffff01 0d ffffffffffffffffff01 01 00 00");
     assert_eq!(dekvoz::call_site(&far, 0, 4).unwrap_err().number, 72);

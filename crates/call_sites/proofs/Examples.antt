@@ -3,11 +3,12 @@
 use mathlib.Core.Path.{_≡_, refl}
 use Prim.Native.Nat.{ℕ}
 use mathlib.Core.Bool.{true, false}
+use mathlib.Core.Option.{none, some}
 use mathlib.Core.List.{List, [], _∷_, _++_, map}
-use Rattle.format.specs.Prelude.{pick, next, after, good, bad, onward, orElse}
+use Rattle.format.specs.Prelude.{pick, next, after, good, bad, onward, orElse, first}
 use Rattle.format.specs.Leb.{readUlebF, readUleb}
 use Rattle.format.specs.Reader.{readMany, readCounted}
-use Rattle.format.specs.CallSiteReader.{siteOf, readSite, readSitesF, readSites, headOk, readTable, sitesAt, covers}
+use Rattle.format.specs.CallSiteReader.{siteOf, readSite, readSitesF, readSites, headOk, readTable, sitesAt, covers, siteAt}
 
 two-sites : List ℕ
 two-sites = 0 ∷ 0 ∷ 0xff ∷ 0xff ∷ 1 ∷ 8 ∷ 4 ∷ 6 ∷ 0 ∷ 0 ∷ 10 ∷ 2 ∷ 20 ∷ 0 ∷ []
@@ -30,6 +31,12 @@ cleanup-read = refl
 covered : map (λ o. covers o (siteOf 4 6 0)) (3 ∷ 4 ∷ 9 ∷ 10 ∷ []) ≡ false ∷ true ∷ true ∷ false ∷ []
 unfolding covers siteOf
 covered = refl
+
+-- two sites that overlap: the first of the table counts, whether it starts later or not
+first-of-two : map (λ o. siteAt (0xff ∷ 0xff ∷ 1 ∷ 8 ∷ 6 ∷ 4 ∷ 30 ∷ 0 ∷ 4 ∷ 9 ∷ 20 ∷ 0 ∷ []) 0 o) (5 ∷ 6 ∷ 9 ∷ 10 ∷ 13 ∷ [])
+    ≡ good (some (siteOf 4 9 20)) ∷ good (some (siteOf 6 4 30)) ∷ good (some (siteOf 6 4 30)) ∷ good (some (siteOf 4 9 20)) ∷ good none ∷ []
+unfolding siteAt sitesAt readTable headOk readCounted readMany readSites readSitesF readSite readUleb readUlebF siteOf covers first pick next after onward orElse
+first-of-two = refl
 
 -- a place outside, another head, a length past the end; an entry cut off, and an end of 2^64
 refusals : (sitesAt two-sites 14 ≡ bad 71) × (sitesAt two-sites 1 ≡ bad 71) × (sitesAt (0xff ∷ 0xff ∷ 1 ∷ 1 ∷ []) 0 ≡ bad 71)

@@ -2,16 +2,15 @@
 use mathlib.Core.Path.{_≡_, refl, sym, ap, _∙_}
 use Prim.Native.Nat.{ℕ, zero, suc, _+_, _-_, _≤_, _<_}
 use native.Mathlib.Omega.{arith}
-use mathlib.Core.Bool.{Bool, true, false, not, _&&_}
+use mathlib.Core.Bool.{Bool, true, false, _&&_}
 use mathlib.Core.Option.{Option, none, some}
 use mathlib.Core.List.{List, [], _∷_, _++_, append-assoc, append-nil}
-use lib.Dec.{T, eqb}
+use lib.Dec.{eqb}
 use lib.ListN.{length, drop, length-drop, drop-of-length-le}
-use mir.Facts.{yes-and}
 use borrow.Author.Tests.{eq-eqb, ne-eqb}
-use Rattle.format.specs.Prelude.{pick, next, after, first, all}
+use Rattle.format.specs.Prelude.{pick, next, after, first}
 use Rattle.format.specs.Lists.{Landing}
-use Rattle.format.specs.CallSiteReader.{readSite, readSitesF, readSites, covers, siteNumbers, Covering, uncovered, covered}
+use Rattle.format.specs.CallSiteReader.{readSite, readSitesF, readSites, covers, siteNumbers}
 use Rattle.format.proofs.Choice.{pick-yes, pick-no, tested}
 use Rattle.call_sites.specs.declared.Site.{Site}
 use Rattle.call_sites.specs.Reads.{EntryThere, numbersOf, keptOf, foundOf}
@@ -136,17 +135,3 @@ module _ {offset : ℕ} {s : List ℕ} {i : ℕ} {site : Site} (g : Going offset
       let d : readSitesF (g .fuel) (drop i s) ≡ some [] = rw e (sites-done (g .fuel) (omega (arith, g .enough, g .inside))) in
       let r : readSites s ≡ some (g .before) = g .same ∙ rw (d, append-nil (g .before)) in
       g .here ∙ rw r
-
--- ---- the first entry that covers an offset is one, and there is none where none covers it
-
-behind : (offset : ℕ) (l : Landing) (ls : List Landing) (o : Option Landing) → T (not (covers offset l)) → Covering offset ls o → Covering offset (l ∷ ls) o
-unfolding all
-behind offset l ls o t (uncovered u) = uncovered (yes-and (not (covers offset l)) (all (λ x. not (covers offset x)) ls) t u)
-behind offset l ls o t (covered i x g c) = covered (suc i) x g c
-
-pub first-covers : (offset : ℕ) (ls : List Landing) → Covering offset ls (first (covers offset) ls)
-unfolding first all
-first-covers offset [] = uncovered tt
-first-covers offset (l ∷ ls) =
-    tested (covers offset l) (λ t. rw (pick-yes (covers offset l) (some l) (first (covers offset) ls) t) (covered 0 l refl t))
-    (λ t. rw (pick-no (covers offset l) (some l) (first (covers offset) ls) t) (behind offset l ls _ t (first-covers offset ls)))

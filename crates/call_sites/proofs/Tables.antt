@@ -12,12 +12,11 @@ use Rattle.format.specs.Prelude.{pick, next, Result, good, bad, onward, orElse,
 use Rattle.format.specs.declared.Unsigned.the-variants as unsigned
 use Rattle.format.specs.Lists.{Landing}
 use Rattle.format.specs.Reader.{readMany, readCounted}
-use Rattle.format.specs.CallSiteReader.{headOk, readSites, readTable, sitesAt, covers, siteNumbers, SiteAnswers}
+use Rattle.format.specs.CallSiteReader.{headOk, readSites, readTable, sitesAt, covers, siteAt, answerNumbers}
 use Rattle.format.proofs.Choice.{if-le, if-gt}
 use Rattle.format.proofs.Positions.{ulebAt}
 use Rattle.format.proofs.PositionLaws.{uleb-ahead, uleb-rest, uleb-none}
 use Rattle.call_sites.specs.Reads.{TableThere, foundOf}
-use Rattle.call_sites.proofs.Runs.{first-covers}
 
 short : (bs : List ℕ) → length bs < 3 → readTable bs ≡ none
 unfolding readTable
@@ -74,16 +73,17 @@ module _ (s : List ℕ) (p : ℕ) where
 
 -- ---- the answer
 
-pub no-table : (s : List ℕ) (p offset : ℕ) {ns : List ℕ} → readTable (drop p s) ≡ none → ns ≡ 71 ∷ 0 ∷ 0 ∷ 0 ∷ 0 ∷ [] → SiteAnswers (sitesAt s p) offset ns
-unfolding sitesAt onward orElse
-no-table s p offset e h = rw e h
+pub no-table : (s : List ℕ) (p offset : ℕ) {ns : List ℕ} → readTable (drop p s) ≡ none → ns ≡ 71 ∷ 0 ∷ 0 ∷ 0 ∷ 0 ∷ [] → ns ≡ answerNumbers (siteAt s p offset)
+unfolding siteAt sitesAt onward orElse answerNumbers
+no-table s p offset e h = h ∙ rw e
 
-answers : (offset : ℕ) (r : Option (List Landing)) {ns : List ℕ} → ns ≡ foundOf offset r → SiteAnswers (orElse r 72) offset ns
-unfolding orElse foundOf
+answers : (offset : ℕ) (r : Option (List Landing)) {ns : List ℕ} → ns ≡ foundOf offset r
+    → ns ≡ answerNumbers (onward (orElse r 72) λ ls. good (first (covers offset) ls))
+unfolding orElse onward foundOf answerNumbers
 answers offset none h = h
-answers offset (some ls) h = (first (covers offset) ls, (first-covers offset ls, h))
+answers offset (some ls) h = h
 
 pub table-answers : (s : List ℕ) (p offset : ℕ) {at q : ℕ} {ns : List ℕ} → TableThere s p at q → ns ≡ foundOf offset (readSites (take (q - at) (drop at s)))
-    → SiteAnswers (sitesAt s p) offset ns
-unfolding sitesAt onward orElse
+    → ns ≡ answerNumbers (siteAt s p offset)
+unfolding siteAt sitesAt onward orElse
 table-answers s p offset {at = at} {q = q} t h = rw (t .reads) (answers offset (readSites (take (q - at) (drop at s))) h)

@@ -1,8 +1,8 @@
-// Call sites read: the table at a place of the exception bytes, and a site of it that covers a code offset (Itanium C++ ABI, "LSDA"), which
+// Call sites read: the table at a place of the exception bytes, and the first site of it that covers a code offset (Itanium C++ ABI, "LSDA"), which
 // rucc-asm/src/unwind.rs of tamnd/rucc does not have.
 ghost use mathlib.Core.Path.{_≡_};
 ghost use mathlib.Core.List.{[], _∷_};
-ghost use Rattle.format.specs.CallSiteReader.{siteOf, covers, headOk, readSites, sitesAt, SiteAnswers};
+ghost use Rattle.format.specs.CallSiteReader.{siteOf, covers, headOk, readSites, siteAt, answerNumbers};
 ghost use Rattle.call_sites.specs.Reads.{EntrySays, TableSays, numbersOf, keptOf, foundOf};
 use format::Unsigned;
 
@@ -100,7 +100,7 @@ fn kept(before: Site, start: u64, length: u64, pad: u64, offset: u64) -> Site
 
 // ---- a table
 
-// The entries of a table, all read, and a site of them that covers the offset.
+// The entries of a table, all read, and the first of them that covers the offset.
 fn search(s: &[u8], offset: u64) -> Site
     ensures { λ r. ⌜ numbersOf r ≡ foundOf offset (readSites (now (s .entry))) ⌝ }
 {
@@ -157,11 +157,11 @@ fn table_at(sites: &[u8], place: u64) -> Table
     Table::Entries(at, at + n as usize)
 }
 
-// A site of the table at a place of the exception bytes that covers a code offset: its start, length and pad, or that no entry covers it.
-// Every entry is read before the answer. It refuses by 71 and 72. Which site it is, where several cover the offset, is free.
+// The first site of the table at a place of the exception bytes that covers a code offset: its start, length and pad, or that no entry
+// covers it. Every entry is read before the answer. It refuses by 71 and 72.
 #[no_mangle]
 pub extern "C" fn unwind_call_site(sites: &[u8], place: u64, offset: u64) -> Site
-    ensures { λ r. ⌜ SiteAnswers (sitesAt (now (sites .entry)) place) offset (numbersOf r) ⌝ }
+    ensures { λ r. ⌜ numbersOf r ≡ answerNumbers (siteAt (now (sites .entry)) place offset) ⌝ }
 {
     let Table::Entries(at, past) = table_at(sites, place) else {
         return refused(71);

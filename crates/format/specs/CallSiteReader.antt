@@ -1,12 +1,11 @@
--- Call sites read (Itanium C++ ABI, exception handling tables, "LSDA"): the entries of the table at a place, and those that cover an offset.
-use mathlib.Core.Path.{_≡_}
+-- Call sites read (Itanium C++ ABI, exception handling tables, "LSDA"): the entries of the table at a place, and the first that covers an offset.
 use Prim.Native.Nat.{ℕ, zero, suc, _+_, _^_}
-use mathlib.Core.Bool.{Bool, true, false, not, _&&_}
+use mathlib.Core.Bool.{Bool, _&&_}
 use mathlib.Core.Option.{Option, none, some}
 use mathlib.Core.List.{List, [], _∷_}
-use lib.ListN.{length, getElem?, drop}
-use lib.Dec.{T, leb, ltb, eqb}
-use Rattle.format.specs.Prelude.{pick, Read, next, after, Result, good, bad, onward, orElse, all}
+use lib.ListN.{length, drop}
+use lib.Dec.{leb, ltb, eqb}
+use Rattle.format.specs.Prelude.{pick, Read, next, after, Result, good, bad, onward, orElse, first}
 use Rattle.format.specs.Constants.{«DW_EH_PE_omit», «DW_EH_PE_uleb128»}
 use Rattle.format.specs.Leb.{readUleb}
 use Rattle.format.specs.Lists.{Landing}
@@ -56,18 +55,17 @@ sitesAt s place = onward (orElse (readTable (drop place s)) 71) λ bs. orElse (r
 unfoldable pub covers : (offset : ℕ) → Landing → Bool
 covers offset l = leb (l .start) offset && ltb offset (l .start + l .size)
 
+-- the first entry in table order that covers the offset, or none
+unfoldable pub siteAt : List ℕ → (place offset : ℕ) → Result (Option Landing)
+siteAt s place offset = onward (sitesAt s place) λ ls. good (first (covers offset) ls)
+
 -- ---- as numbers: number (0: answered), found (0: no entry covers the offset), start, length and pad
 
 unfoldable pub siteNumbers : Option Landing → List ℕ
 siteNumbers none = 0 ∷ 0 ∷ 0 ∷ 0 ∷ 0 ∷ []
 siteNumbers (some l) = 0 ∷ 1 ∷ l .start ∷ l .size ∷ l .pad ∷ []
 
--- An answer to an offset: an entry that covers it, or, exactly when none does, none. Which one, where several cover it, is free.
-pub data Covering (offset : ℕ) (ls : List Landing) : Option Landing → Type 0 where
-  uncovered : T (all (λ l. not (covers offset l)) ls) → Covering offset ls none
-  covered : (i : ℕ) (l : Landing) → getElem? ls i ≡ some l → T (covers offset l) → Covering offset ls (some l)
-
--- what the reader of call sites answers: the number of the question answered by no, or an answer to the offset
-abbrev pub SiteAnswers : Result (List Landing) → (offset : ℕ) → List ℕ → Type 0
-SiteAnswers (bad n) offset ns = ns ≡ n ∷ 0 ∷ 0 ∷ 0 ∷ 0 ∷ []
-SiteAnswers (good ls) offset ns = (o : Option Landing) × (Covering offset ls o × (ns ≡ siteNumbers o))
+-- what the reader of call sites answers: the question's number with zeros, or the site
+unfoldable pub answerNumbers : Result (Option Landing) → List ℕ
+answerNumbers (bad n) = n ∷ 0 ∷ 0 ∷ 0 ∷ 0 ∷ []
+answerNumbers (good o) = siteNumbers o

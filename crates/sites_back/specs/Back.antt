@@ -13,7 +13,7 @@ use Rattle.format.specs.Constants.{exceptTable}
 use Rattle.format.specs.Writer.{Written}
 use Rattle.format.specs.Questions.{Given, Answer, accepted, givenFunction}
 use Rattle.format.specs.Reader.{Entry, entries, records, firstAddend}
-use Rattle.format.specs.CallSiteReader.{sitesAt, SiteAnswers}
+use Rattle.format.specs.CallSiteReader.{sitesAt, covers, siteNumbers}
 use Rattle.format.proofs.Each.{Each}
 use Rattle.reader.specs.Spans.{listed}
 
@@ -46,9 +46,8 @@ pub record TableOf (w : Written) (k : ℕ) (ls : List Landing) : Type 0 where
   pub to-sites : pointer .symbol ≡ exceptTable
   pub reads : (tail : List ℕ) → sitesAt (w .sites ++ tail) (pointer .addend) ≡ good ls
 
--- What is read, as numbers, at the place that function k's record names: a landing of function k that covers the offset, or none where none
--- does. Which one, where several cover it, is free.
+-- what is read, as numbers, at the place that function k's record names: the first landing of function k that covers the offset, or none
 abbrev pub ReadBack : Given → Answer → (k offset : ℕ) → List ℕ → Type 0
 ReadBack g a k offset ns =
     (w : Written) → a ≡ accepted w → k < count functionStride (g .functions) → givenFunction g k .landings ≢ []
-    → Each SiteFits (givenFunction g k .landings) → SiteAnswers (good (givenFunction g k .landings)) offset ns
+    → Each SiteFits (givenFunction g k .landings) → ns ≡ siteNumbers (first (covers offset) (givenFunction g k .landings))
