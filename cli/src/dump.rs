@@ -12,8 +12,12 @@ use crate::args::Args;
 use crate::input::{End, File, Parts, Section};
 use crate::out::Out;
 use crate::progress::Progress;
+use crate::registers::Names;
 use crate::table::{Rows, Spans, Table};
 use crate::{words, Stop};
+
+/// The kind of the row that has a second register (include/dekvoz.h).
+const IN_REGISTER: u64 = 10;
 
 /// How many entries are listed in one go.
 const RUN: usize = 1024;
@@ -269,13 +273,22 @@ impl<'a> Listing<'a> {
             Operation::DefCfaRegister(register) | Operation::Restore(register) | Operation::Undefined(register) => {
                 self.register(out, register)
             }
+            Operation::Other { kind: IN_REGISTER, register, value } => {
+                self.register(out, register).text(" in ");
+                self.plain_register(out, value as u64)
+            }
             Operation::Other { register, .. } => self.register(out, register),
             _ => out,
         };
     }
 
     fn register<'b>(&self, out: &'b mut Out, register: u64) -> &'b mut Out {
-        out.text(": r").decimal(register);
+        out.text(": ");
+        self.plain_register(out, register)
+    }
+
+    fn plain_register<'b>(&self, out: &'b mut Out, register: u64) -> &'b mut Out {
+        out.text("r").decimal(register);
         if let Some(name) = self.section.names.known(register) {
             out.text(" (").text(name).text(")");
         }
@@ -312,7 +325,7 @@ impl<'a> Listing<'a> {
         };
         out.column(9, |out| self.frame(out, frame));
         for rule in rules {
-            out.column(6, |out| rule_cell(out, *rule));
+            out.column(6, |out| rule_cell(out, &self.section.names, *rule));
         }
         if signing {
             out.text("signed");
@@ -331,10 +344,12 @@ impl<'a> Listing<'a> {
     }
 }
 
-fn rule_cell(out: &mut Out, rule: Rule) {
+fn rule_cell(out: &mut Out, names: &Names, rule: Rule) {
     match rule {
         Rule::Unstated => out.text("-"),
         Rule::Undefined => out.text("u"),
+        Rule::SameValue => out.text("s"),
+        Rule::InRegister(register) => out.text(&names.text(u64::from(register))),
         Rule::Saved(offset) => out.text("c").offset(offset),
     };
 }

@@ -230,13 +230,14 @@ fn caller(
     let load = |rule, kept| match rule {
         Rule::Saved(offset) => word(cfa.wrapping_add_signed(offset)),
         Rule::Unstated => Some(kept),
-        Rule::Undefined => None,
+        Rule::SameValue => Some(kept),
+        Rule::Undefined | Rule::InRegister(_) => None,
     };
     let mut value = [0; 2];
     for ((register, kept), value) in [(X19, now.x19), (FP, now.fp)].into_iter().zip(&mut value) {
         let rule = ask(register)?.rule;
         *value = load(rule, kept).unwrap_or(0);
-        let words = if rule == Rule::Unstated { "as it is".to_string() } else { rule_words(rule) };
+        let words = if rule == Rule::Unstated { "as it is".to_string() } else { rule_words(&section.names, rule) };
         out.text(&format!("   {:3} {words}: {value:#x}", section.names.text(u64::from(register)))).line();
     }
     let Some(stored) = load(back.rule, 0) else { return Ok(None) };
@@ -245,7 +246,7 @@ fn caller(
     out.text(&format!(
         "   {:3} {}: {signed}{pc:#x}, the return address\n",
         section.names.text(u64::from(LR)),
-        rule_words(back.rule)
+        rule_words(&section.names, back.rule)
     ));
     Ok(Some(Registers { pc, sp: cfa, fp: value[1], x19: value[0] }))
 }

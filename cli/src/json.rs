@@ -73,6 +73,8 @@ pub fn rule(out: &mut Out, register: u16, name: &str, rule: Rule) {
     match rule {
         Rule::Unstated => out.text(", \"rule\": \"unstated\"}"),
         Rule::Undefined => out.text(", \"rule\": \"undefined\"}"),
+        Rule::SameValue => out.text(", \"rule\": \"same value\"}"),
+        Rule::InRegister(other) => out.text(", \"rule\": \"in register\", \"in\": ").decimal(u64::from(other)).text("}"),
         Rule::Saved(offset) => out.text(", \"rule\": \"saved\", \"offset\": ").signed(offset).text("}"),
     };
 }

@@ -122,7 +122,7 @@ fn as_text(out: &mut Out, section: &Section<'_>, place: &Place<'_>, said: &AllRu
         if u64::from(*register) == place.found.header.return_register {
             out.text(" (return address)");
         }
-        out.text(": ").text(&rule_words(*rule)).line();
+        out.text(": ").text(&rule_words(names, *rule)).line();
     }
     out.text("return address: register ").decimal(place.found.header.return_register);
     if let Some(name) = names.known(place.found.header.return_register) {
@@ -146,10 +146,12 @@ pub fn frame_words(names: &crate::registers::Names, frame: Frame) -> String {
 }
 
 /// A register's rule in words.
-pub fn rule_words(rule: Rule) -> String {
+pub fn rule_words(names: &crate::registers::Names, rule: Rule) -> String {
     match rule {
         Rule::Unstated => "no rule".to_string(),
         Rule::Undefined => "undefined, the caller's value is lost".to_string(),
+        Rule::SameValue => "the same value as in the caller".to_string(),
+        Rule::InRegister(other) => format!("in {}", names.text(u64::from(other))),
         Rule::Saved(offset) => format!("saved at CFA{offset:+}"),
     }
 }

@@ -108,6 +108,18 @@ impl Builder {
         self.row(Op::Undefined(register))
     }
 
+    /// The register has the caller's value.
+    #[must_use]
+    pub fn same_value(self, register: u16) -> Builder {
+        self.row(Op::SameValue(register))
+    }
+
+    /// The second register holds the caller's value of the first.
+    #[must_use]
+    pub fn in_register(self, register: u16, other: u16) -> Builder {
+        self.row(Op::InRegister(register, other))
+    }
+
     /// All rules are stored.
     #[must_use]
     pub fn remember_state(self) -> Builder {
