@@ -9,7 +9,7 @@
 #include <stdlib.h>
 #include <string.h>
 
-#include "../include/unwind.h"
+#include "../include/dekvoz.h"
 
 enum { MOST = 65536, FUNCTIONS = 64, CALL_SITES = 1 };
 

@@ -7,7 +7,7 @@
 #include <stdlib.h>
 #include <string.h>
 
-#include "../include/unwind.h"
+#include "../include/dekvoz.h"
 
 static int digit(char c) {
     return c <= '9' ? c - '0' : c - 'a' + 10;

@@ -9,7 +9,7 @@
 #include <string.h>
 #include <time.h>
 
-#include "../include/unwind.h"
+#include "../include/dekvoz.h"
 
 enum { MIB = 1 << 20, HEADER = 24, RECORD = 32 };
 

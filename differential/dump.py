@@ -1,8 +1,8 @@
 #!/usr/bin/env python3
 """The command's listing against readelf's: `dump.py COUNT SEED`, over the stored cases, COUNT random lists and a program that gcc built.
 
-Our own sections become ELF objects of no machine, as in frames.py; the program's eh_frame is taken out by objcopy. Both listings are read
-into entries: place, length, kind, fields and the rules by location, and the operations by name against readelf's plain listing. Where a
+Our own sections become ELF objects of no machine, as in frames.py, and are handed to the command as raw bytes; the program is handed to both
+as it is. Both listings are read into entries: place, length, kind, fields and the rules by location, and the operations by name against readelf's plain listing. Where a
 record holds an operation that our tables never use, what stands before it is compared. What is left out: entries that the reader refuses
 by their fields; sections with a return address above 127, which readelf reads from one byte; with readelf unstated and
 undefined are written alike, a record of padding alone has no table, and a register that it keeps no column for makes it lose others."""
@@ -22,7 +22,7 @@ from frames import OBJECT, elf, filled  # noqa: E402
 from reader import DEBUG  # noqa: E402
 from reads import sections, with_registers  # noqa: E402
 
-UNWIND = os.path.join(os.path.dirname(HERE), "unwind")
+DEKVOZ = os.path.join(os.path.dirname(HERE), "target", "cli", "release", "dekvoz")
 SECTION = os.path.join(OUT, "dump.section")
 NUMBERS = os.path.join(OUT, "dump.relocations")
 PROGRAM = os.path.join(OUT, "dump.program")
@@ -51,15 +51,18 @@ def entries(text):
     """The entries of a listing. The last line of a location counts: a step of 0 has two in readelf's."""
     found = []
     for line in text.split("\n"):
+        # The command tells a record's number behind readelf's fields.
+        line = re.sub(r" record \d+$", "", line)
         header = re.match(r'([0-9a-f]{8}) ([0-9a-f]+) [0-9a-f]{8} CIE "(.*)" cf=(\d+) df=(-?\d+) ra=(\d+)$', line)
         record = re.match(r"([0-9a-f]{8}) ([0-9a-f]+) [0-9a-f]{8} FDE cie=([0-9a-f]+) pc=([0-9a-f]+)(?:\.\.([0-9a-f]+))?$", line)
+        bare = re.match(r"([0-9a-f]{8}) ([0-9a-f]+) \S{8} FDE\b", line)
         plain = re.match(r"([0-9a-f]{8}) ([0-9a-f]+) [0-9a-f]{8} CIE$", line)
         row = re.match(r"([0-9a-f]{4,16}) (\S.*)$", line)
-        for match, kind in ((header, "CIE"), (record, "FDE"), (plain, "CIE")):
+        for match, kind in ((header, "CIE"), (record, "FDE"), (plain, "CIE"), (not record and bare, "FDE")):
             if match:
                 place, length, *fields = match.groups()
                 found.append(Entry(int(place, 16), int(length, 16), kind, fields))
-        if header or record or plain or not found or "ZERO terminator" in line:
+        if header or bare or plain or not found or "ZERO terminator" in line:
             continue
         if "passed over" in line:
             found[-1].foreign = True
@@ -129,10 +132,10 @@ def readelf(what, path, header=None):
     return None if done.stderr or "bad register" in done.stdout else entries(done.stdout)
 
 
-def unwind(*words):
-    done = subprocess.run([UNWIND, *words], capture_output=True, text=True)
+def dekvoz(*words):
+    done = subprocess.run([DEKVOZ, *words], capture_output=True, text=True)
     if done.stderr or done.returncode:
-        raise Differs(f"unwind {' '.join(words)}: {done.stderr.strip()}")
+        raise Differs(f"dekvoz {' '.join(words)}: {done.stderr.strip()}")
     return done.stdout
 
 
@@ -147,10 +150,10 @@ def own(kind, word, section, numbers, counts):
     said, plain = readelf("frames-interp", OBJECT), readelf("frames", OBJECT)
     if not said or not plain:
         return
-    words = ["dump", SECTION, "--word", str(word), "--kind", "debug" if debug else "eh"]
-    ours = entries(unwind(*words, *(["--relocations", NUMBERS] if debug else [])))
+    words = ["dump", SECTION, "--operations", "--word", str(word), "--kind", "debug" if debug else "eh"]
+    ours = entries(dekvoz(*words, *(["--relocations", NUMBERS] if debug else [])))
     # In version 1 readelf takes the return address's register from one byte; the tables have an unsigned LEB number there.
-    if any(e.kind == "CIE" and int(e.fields[3]) > 127 for e in ours):
+    if any(e.kind == "CIE" and not e.refused and int(e.fields[3]) > 127 for e in ours):
         return
     compare(ours, said, plain, counts)
     counts["lists"] += 1
@@ -163,11 +166,8 @@ def program(counts):
         built = subprocess.run(["gcc", "-w", *flags, "-o", PROGRAM, PROGRAM + ".c"], capture_output=True)
         if built.returncode:
             continue
-        subprocess.run(["objcopy", "-O", "binary", "--only-section=.eh_frame", PROGRAM, SECTION], check=True)
-        table = subprocess.run(["readelf", "-SW", PROGRAM], capture_output=True, text=True, check=True).stdout
-        address = re.search(r"\.eh_frame +PROGBITS +([0-9a-f]+)", table).group(1)
-        text = unwind("dump", SECTION, "--machine", "x86-64", "--address", "0x" + address)
-        if "before a length of 0" not in text.split("\n")[0]:
+        text = dekvoz("dump", PROGRAM, "--operations")
+        if "ZERO terminator" not in text:
             raise Differs(f"{PROGRAM}: the listing does not say where the section ends")
         compare(entries(text), readelf("frames-interp", PROGRAM), readelf("frames", PROGRAM), counts)
         counts["programs"] += 1

@@ -6,7 +6,7 @@
  * The number in UNWIND_FAULT, 1 to 22, says which one a seventh of the calls has. */
 #include <stdlib.h>
 
-#include "../include/unwind.h"
+#include "../include/dekvoz.h"
 
 enum {
     NONE,

@@ -26,7 +26,7 @@
 #include <sys/mman.h>
 #include <unistd.h>
 
-#include "../include/unwind.h"
+#include "../include/dekvoz.h"
 
 #define LENGTH(list) (sizeof(list) / sizeof *(list))
 #define PICK(list) ((list)[below(LENGTH(list))])
@@ -434,7 +434,7 @@ static void fill(int key, size_t i) {
     f->relaxed = (uint8_t)n[14], f->end = n[15], f->pairs_at = n[16], f->pairs = n[17];
 }
 
-/* The numbers of a struct, as include/unwind.h orders them. */
+/* The numbers of a struct, as include/dekvoz.h orders them. */
 static void push_numbers(int key, size_t i) {
     const unwind_function *f = &given.functions[i];
     const unwind_row *r = &given.rows[i];

@@ -6,7 +6,7 @@
 #include <stdlib.h>
 #include <time.h>
 
-#include "../include/unwind.h"
+#include "../include/dekvoz.h"
 
 enum { FUNCTIONS = 10000, ROWS = 5, REGISTERS = 65, TURNS = 40, LOOKUPS = 10000 };
 

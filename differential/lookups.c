@@ -14,7 +14,7 @@
 #include <stdlib.h>
 #include <string.h>
 
-#include "../include/unwind.h"
+#include "../include/dekvoz.h"
 
 enum { MOST = 16 };
 /* What the lent list and the element behind it hold before a call. */

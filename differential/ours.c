@@ -9,7 +9,7 @@
 #include <stdlib.h>
 #include <string.h>
 
-#include "../include/unwind.h"
+#include "../include/dekvoz.h"
 #include "structs.h"
 
 enum { MACHINE, FUNCTIONS, ROWS, LANDINGS, PAIRS, CODES, LISTS };

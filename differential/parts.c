@@ -15,7 +15,7 @@
 #include <string.h>
 #include <sys/mman.h>
 
-#include "../include/unwind.h"
+#include "../include/dekvoz.h"
 
 enum { MOST = 65536, FUNCTION = 18 };
 

@@ -15,7 +15,7 @@ mod harness;
 /// The source names its error by the crate.
 pub use harness::Error;
 
-/// What the exports answer; include/unwind.h has their meaning.
+/// What the exports answer; include/dekvoz.h has their meaning.
 #[repr(C)]
 struct Counts {
     number: u64,

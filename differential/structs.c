@@ -4,7 +4,7 @@
 #include <stdlib.h>
 #include <string.h>
 
-#include "../include/unwind.h"
+#include "../include/dekvoz.h"
 #include "structs.h"
 
 enum { FUNCTIONS, ROWS, LANDINGS, PAIRS, LISTS };

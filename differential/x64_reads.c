@@ -8,7 +8,7 @@
 #include <stdlib.h>
 #include <string.h>
 
-#include "../include/unwind.h"
+#include "../include/dekvoz.h"
 
 enum { MOST = 8192 };
 

@@ -2,11 +2,11 @@
  * and prints the site of some offsets.
  *
  *     bindings/archive
- *     cc -o handlers examples/c/handlers.c target/lib/libunwind.a && ./handlers */
+ *     cc -o handlers examples/c/handlers.c target/lib/libdekvoz.a && ./handlers */
 #include <inttypes.h>
 #include <stdio.h>
 
-#include "../../include/unwind.h"
+#include "../../include/dekvoz.h"
 
 #define LENGTH(a) (sizeof(a) / sizeof *(a))
 

@@ -2,12 +2,12 @@
  * behind the step that became shorter.
  *
  *     bindings/archive
- *     gcc -O2 -Wall -Wextra -Werror -o target/placed examples/c/placed.c target/lib/libunwind.a
+ *     gcc -O2 -Wall -Wextra -Werror -o target/placed examples/c/placed.c target/lib/libdekvoz.a
  *     target/placed */
 #include <inttypes.h>
 #include <stdio.h>
 
-#include "../../include/unwind.h"
+#include "../../include/dekvoz.h"
 
 enum { DEF_CFA_OFFSET = 1, ELF = 0, EH_FRAME = 0, WORD = 8, STACK = 2, RETURN_ADDRESS = 1, NO_FRAME_POINTER = 65536 };
 enum { FUNCTION = 16, END = 17, START = 18, MIDDLE = 19 };

@@ -2,11 +2,11 @@
  * pointer moves.
  *
  *     bindings/archive
- *     cc -o prologue examples/c/prologue.c target/lib/libunwind.a && ./prologue */
+ *     cc -o prologue examples/c/prologue.c target/lib/libdekvoz.a && ./prologue */
 #include <inttypes.h>
 #include <stdio.h>
 
-#include "../../include/unwind.h"
+#include "../../include/dekvoz.h"
 
 #define LENGTH(a) (sizeof(a) / sizeof *(a))
 

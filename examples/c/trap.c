@@ -2,12 +2,12 @@
  * is found from each frame of the chain. It prints what bindings/rust/examples/trap.rs prints.
  *
  *     bindings/archive
- *     gcc -O2 -Wall -Wextra -Werror -o target/trap examples/c/trap.c target/lib/libunwind.a
+ *     gcc -O2 -Wall -Wextra -Werror -o target/trap examples/c/trap.c target/lib/libdekvoz.a
  *     target/trap */
 #include <inttypes.h>
 #include <stdio.h>
 
-#include "../../include/unwind.h"
+#include "../../include/dekvoz.h"
 
 enum { DEF_CFA, DEF_CFA_OFFSET, DEF_CFA_REGISTER, OFFSET, RESTORE, UNDEFINED, REMEMBER_STATE, RESTORE_STATE };
 enum { RBX = 3, RBP = 6, RSP = 7, RETURN_ADDRESS = 16 };
@@ -43,10 +43,11 @@ static const uint64_t functions[18 * FUNCTIONS] = {
 
 static const char *const names[FUNCTIONS] = {"reset", "control", "sample"};
 
-/* The trap stands at offset 20 of sample, called by control at 31, called by reset at 12. */
+/* The trap stands at offset 20 of sample, which returns to 31 of control, which returns to 12 of reset. A caller is looked up one byte
+ * before its return address, since the call may be the last instruction of its function. */
 static const struct {
-    uint64_t k, p;
-} chain[] = {{2, 20}, {1, 31}, {0, 12}};
+    uint64_t k, p, before;
+} chain[] = {{2, 20, 0}, {1, 31, 1}, {0, 12, 1}};
 
 /* The registers that are asked about, by their DWARF numbers. */
 static const struct {
@@ -68,12 +69,12 @@ static void print_rule(const char *name, const unwind_reading *r) {
     else printf("  %s: %s\n", name, r->rule == 1 ? "gone" : r->rule == 3 ? "kept" : "as it is");
 }
 
-/* The rules at offset p of function k, or the number of the question that was answered by no. */
-static uint64_t print_rules(const unwind_written *table, uint64_t k, uint64_t p) {
-    printf("%s at %" PRIu64 ":\n", names[k], p);
+/* The rules `before` offset p of function k, or the number of the question that was answered by no. */
+static uint64_t print_rules(const unwind_written *table, uint64_t k, uint64_t p, uint64_t before) {
+    printf("%s at %" PRIu64 ", asked at %" PRIu64 ":\n", names[k], p, p - before);
     for (size_t i = 0; i < LENGTH(registers); i++) {
         unwind_reading r = unwind_read(bytes, table->bytes, relocations, 5 * table->relocations, EH_FRAME, WORD, k,
-            registers[i].number, p);
+            registers[i].number, p - before);
         if (r.number) return r.number;
         if (i == 0) print_frame(&r);
         print_rule(registers[i].name, &r);
@@ -99,7 +100,7 @@ int main(void) {
     if (table.number) return refused(table.number, table.position);
     printf("eh_frame: %" PRIu64 " bytes, %" PRIu64 " relocations\n", table.bytes, table.relocations);
     for (size_t i = 0; i < LENGTH(chain); i++) {
-        uint64_t number = print_rules(&table, chain[i].k, chain[i].p);
+        uint64_t number = print_rules(&table, chain[i].k, chain[i].p, chain[i].before);
         if (number) return refused(number, chain[i].k);
     }
     return 0;

@@ -7,8 +7,8 @@
 use std::io::{self, BufRead, Write};
 use std::process::ExitCode;
 
-use unwind::lists::{self, Counts, Lent, Lists};
-use unwind::{
+use dekvoz::lists::{self, Counts, Lent, Lists};
+use dekvoz::{
     read, relaxed_debug_frame, relaxed_table, row_check, seh, Code, CodeOp, Format, Frame, Function, Landing, Machine,
     MachineRegister, Op, Pair, Personality, Pointer, Prologue, Refusal, Relaxed, Relocation, Row, Rule, Rules, Section, Table,
     Word,

@@ -3,47 +3,47 @@
 
 use std::process::ExitCode;
 
-use unwind::{read, relaxed_table, row_check, Format, Frame, Function, Machine, Op, Refusal, Row, Rule, Section};
+use dekvoz::{read, relaxed_table, row_check, Builder, Built, Format, Frame, Machine, Refusal, Rule, Section};
 
-const RESET: &[Row] = &[Row::new(0, Op::Undefined(16))];
+/// The return address, rbx, rbp and rsp by their DWARF numbers.
+const RA: u16 = 16;
+const RBX: u16 = 3;
+const RBP: u16 = 6;
+const RSP: u16 = 7;
 
-const CONTROL: &[Row] = &[
-    Row::new(1, Op::DefCfaOffset(16)),
-    Row::new(1, Op::Offset(6, -16)),
-    Row::new(4, Op::DefCfaRegister(6)),
-    Row::new(60, Op::DefCfa(7, 8)),
-    Row::new(60, Op::Restore(6)),
-];
+fn firmware() -> [Built; 3] {
+    let reset = Builder::new(16, 14).undefined(RA);
+    let control = Builder::new(17, 61).at(1).def_cfa_offset(16).offset(RBP, -16).at(4).def_cfa_register(RBP);
+    let sample = Builder::new(18, 50).at(1).def_cfa_offset(16).offset(RBX, -16).at(5).def_cfa_offset(48);
+    [
+        reset.done(),
+        control.at(60).def_cfa(RSP, 8).restore(RBP).done(),
+        sample.at(30).remember_state().at(34).def_cfa_offset(16).at(35).def_cfa_offset(8).at(36).restore_state().done(),
+    ]
+}
 
-const SAMPLE: &[Row] = &[
-    Row::new(1, Op::DefCfaOffset(16)),
-    Row::new(1, Op::Offset(3, -16)),
-    Row::new(5, Op::DefCfaOffset(48)),
-    Row::new(30, Op::RememberState),
-    Row::new(34, Op::DefCfaOffset(16)),
-    Row::new(35, Op::DefCfaOffset(8)),
-    Row::new(36, Op::RestoreState),
-];
-
-/// The registers that are asked about: rbx, rbp and the return address, by their DWARF numbers.
-const REGISTERS: [(&str, u16); 3] = [("rbx", 3), ("rbp", 6), ("return address", 16)];
-/// The trap stands at offset 20 of sample, called by control at 31, called by reset at 12.
-const CHAIN: [(&str, u64, u64); 3] = [("sample", 2, 20), ("control", 1, 31), ("reset", 0, 12)];
+/// The registers that are asked about.
+const REGISTERS: [(&str, u16); 3] = [("rbx", RBX), ("rbp", RBP), ("return address", RA)];
+/// The trap stands at offset 20 of sample, which returns to 31 of control, which returns to 12 of reset. A caller is looked up one byte
+/// before its return address, since the call may be the last instruction of its function.
+const CHAIN: [(&str, u64, u64, u64); 3] = [("sample", 2, 20, 0), ("control", 1, 31, 1), ("reset", 0, 12, 1)];
 
 fn trap() -> Result<(), Refusal> {
     let machine = Machine::X86_64;
-    let functions = [Function::new(16, 14, RESET), Function::new(17, 61, CONTROL), Function::new(18, 50, SAMPLE)];
+    let built = firmware();
+    let functions = built.each_ref().map(Built::function);
     for (name, function) in ["reset", "control", "sample"].iter().zip(&functions) {
         let said = if row_check(function) { "yes" } else { "no" };
         println!("{name}: row check {said}");
     }
     let table = relaxed_table(&machine, Format::Elf, &functions)?;
     println!("eh_frame: {} bytes, {} relocations", table.bytes.len(), table.relocations.len());
-    for (name, k, p) in CHAIN {
-        println!("{name} at {p}:");
+    for (name, k, p, before) in CHAIN {
+        let asked = p.saturating_sub(before);
+        println!("{name} at {p}, asked at {asked}:");
         for (name, register) in REGISTERS {
-            let rules = read(&table.bytes, &table.relocations, Section::Eh, machine.word, k, register, p)?;
-            if register == 3 {
+            let rules = read(&table.bytes, &table.relocations, Section::Eh, machine.word, k, register, asked)?;
+            if register == RBX {
                 match rules.frame {
                     Frame::Unset => println!("  no frame address"),
                     Frame::Register { register, offset } => println!("  frame address: register {register} plus {offset}"),

@@ -1,5 +1,5 @@
 //! Unwind tables: writers of ELF's eh_frame and debug_frame and of Windows x64 unwind data, a reader of the
-//! DWARF ones, one of call sites and one of the x64 records. Safe wrappers over libunwind.a, whose functions are proved to give exactly what their
+//! DWARF ones, one of call sites and one of the x64 records. Safe wrappers over libdekvoz.a, whose functions are proved to give exactly what their
 //! specification says.
 //!
 //! Every function takes every input. A refusal is a [`Refusal`]: the number of the question that was answered by no, and the
@@ -7,7 +7,7 @@
 //! and buffers that the caller lends, and [`structs`] over lists of structs.
 //!
 //! ```
-//! use unwind::{read, relaxed_table, row_check, Format, Function, Machine, Op, Row, Rule, Section, Word};
+//! use dekvoz::{read, relaxed_table, row_check, Format, Function, Machine, Op, Row, Rule, Section, Word};
 //!
 //! // push rbp; mov rbp, rsp; ..; pop rbp; ret
 //! let rows = [
@@ -25,15 +25,18 @@
 //!     let rules = read(&table.bytes, &table.relocations, Section::Eh, Word::Eight, 0, 16, p)?;
 //!     assert_eq!(rules.rule, Rule::Saved(-8));
 //! }
-//! # Ok::<(), unwind::Refusal>(())
+//! # Ok::<(), dekvoz::Refusal>(())
 //! ```
 #![no_std]
 
 extern crate alloc;
 
+mod builder;
 mod check;
 pub mod lists;
+mod machines;
 pub mod parts;
+mod question;
 mod reads;
 mod refusal;
 pub mod structs;
@@ -41,8 +44,10 @@ mod sys;
 mod types;
 mod write;
 
-pub use reads::{FrameSection, Holder, Located, Placed, Record};
+pub use builder::{Builder, Built};
 pub use check::{check_section, CheckRefusal};
+pub use question::Question;
+pub use reads::{AllRules, FrameSection, Holder, Located, Placed, Record};
 pub use refusal::Refusal;
 pub use types::*;
 pub use write::{apply, call_site, read, read_x64, relaxed_debug_frame, relaxed_table, row_check, seh, Table};

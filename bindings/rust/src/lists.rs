@@ -1,4 +1,4 @@
-//! The entries over lists of numbers and buffers that the caller lends: include/unwind.h with slices.
+//! The entries over lists of numbers and buffers that the caller lends: include/dekvoz.h with slices.
 //!
 //! Nothing is allocated by these. The header says what the lists hold; [`Packed`] and [`PackedCodes`] make them of this crate's types.
 //! A refusal leaves every lent buffer as it was, and an accepted call leaves what lies past its results as it was.

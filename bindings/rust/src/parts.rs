@@ -1,8 +1,8 @@
 //! A section taken apart: its entries, the fields of headers and records, and their operations.
 //!
 //! ```
-//! use unwind::parts::{entries, header, operations, record, Operation};
-//! use unwind::{relaxed_table, Format, Function, Machine, Op, Row, Section, Word};
+//! use dekvoz::parts::{entries, header, operations, record, Operation};
+//! use dekvoz::{relaxed_table, Format, Function, Machine, Op, Row, Section, Word};
 //!
 //! let rows = [Row::new(1, Op::DefCfaOffset(16)), Row::new(1, Op::Offset(6, -16))];
 //! let table = relaxed_table(&Machine::X86_64, Format::Elf, &[Function::new(16, 31, &rows)])?;
@@ -14,7 +14,7 @@
 //! assert_eq!(fde.length, 31);
 //! let first = operations(&table.bytes, fde.operations, Word::Eight).next().unwrap()?;
 //! assert_eq!(first.operation, Operation::Step(1));
-//! # Ok::<(), unwind::Refusal>(())
+//! # Ok::<(), dekvoz::Refusal>(())
 //! ```
 
 use core::iter::FusedIterator;
@@ -151,6 +151,20 @@ pub enum Operation {
         /// Its value.
         value: i64,
     },
+}
+
+impl Operation {
+    /// The register that the operation gives a rule. Registers have 16 bits by question 66.
+    #[must_use]
+    pub const fn ruled(self) -> Option<u16> {
+        match self {
+            Operation::Offset(register, _) | Operation::Restore(register) | Operation::Undefined(register) => {
+                Some(register as u16)
+            }
+            Operation::Other { register, .. } => Some(register as u16),
+            _ => None,
+        }
+    }
 }
 
 /// An operation where it stands.

@@ -1,11 +1,14 @@
 //! The reader by places: one pass over a section for several questions of its records.
 
+use alloc::collections::BTreeSet;
 use alloc::vec;
 use alloc::vec::Vec;
+use core::ops::Range;
 
 use crate::lists;
+use crate::parts::operations;
 use crate::sys;
-use crate::{Refusal, Relocation, Rules, Section, Word};
+use crate::{Frame, Refusal, Relocation, Rule, Rules, Section, Word};
 
 /// The place of no header, as the index has it.
 const NOWHERE: u64 = u64::MAX;
@@ -13,7 +16,7 @@ const NOWHERE: u64 = u64::MAX;
 /// A DWARF section, any bytes, with what is known of it.
 ///
 /// ```
-/// use unwind::{apply, relaxed_table, Format, FrameSection, Function, Machine, Op, Row, Rule, Section, Word};
+/// use dekvoz::{apply, relaxed_table, Format, FrameSection, Function, Machine, Op, Row, Rule, Section, Word};
 ///
 /// let rows = [Row::new(1, Op::DefCfaOffset(16)), Row::new(1, Op::Offset(6, -16))];
 /// let table = relaxed_table(&Machine::X86_64, Format::Elf, &[Function::new(16, 9, &rows), Function::new(17, 5, &[])])?;
@@ -28,7 +31,7 @@ const NOWHERE: u64 = u64::MAX;
 /// let records = section.records()?;
 /// assert_eq!(section.function(records[1].place)?.address, 0x1010);
 /// assert_eq!(section.locate_at(records[1])?.length(), 5);
-/// # Ok::<(), unwind::Refusal>(())
+/// # Ok::<(), dekvoz::Refusal>(())
 /// ```
 #[derive(Clone, Copy, Debug)]
 pub struct FrameSection<'a> {
@@ -71,10 +74,22 @@ pub struct Holder {
     pub place: u64,
 }
 
+/// The rules at an offset, of every register that the operations of a record and its header name.
+#[derive(Clone, Debug, PartialEq, Eq, Hash)]
+pub struct AllRules {
+    /// The frame address rule.
+    pub frame: Frame,
+    /// Whether the return address is signed there.
+    pub signing: bool,
+    /// The registers by their DWARF numbers, in order. Any other has no rule.
+    pub registers: Vec<(u16, Rule)>,
+}
+
 /// A record that was located in its section.
 #[derive(Clone, Copy, Debug)]
 pub struct Located<'a> {
     bytes: &'a [u8],
+    word: Word,
     places: sys::Located,
 }
 
@@ -88,7 +103,7 @@ const fn accepted(number: u64) -> Result<(), Refusal> {
 impl<'a> FrameSection<'a> {
     fn located(&self, places: sys::Located) -> Result<Located<'a>, Refusal> {
         accepted(places.number)?;
-        Ok(Located { bytes: self.bytes, places })
+        Ok(Located { bytes: self.bytes, word: self.word, places })
     }
 
     /// Record `k`.
@@ -201,7 +216,25 @@ impl<'a> FrameSection<'a> {
     }
 }
 
-impl Located<'_> {
+impl<'a> Located<'a> {
+    /// Operations of a header and a record that stand in these ranges of a section, with the length of the function. Any ranges are taken;
+    /// those that do not lie in the section are answered by 64.
+    #[must_use]
+    pub const fn of(bytes: &'a [u8], header: Range<u64>, record: Range<u64>, length: u64, word: Word) -> Located<'a> {
+        let places = sys::Located {
+            number: 0,
+            header: header.start,
+            header_end: header.end,
+            record: record.start,
+            record_end: record.end,
+            length,
+            pointer: 0,
+            signal: 0,
+            word: word.bytes(),
+        };
+        Located { bytes, word, places }
+    }
+
     /// The function's length.
     #[must_use]
     pub const fn length(&self) -> u64 {
@@ -222,5 +255,35 @@ impl Located<'_> {
         // SAFETY: the pointer and count come from one slice, and nothing is lent. The function takes every number.
         let r = unsafe { sys::unwind_rules_at(self.bytes.as_ptr(), self.bytes.len(), self.places, register, p) };
         lists::rules(&r)
+    }
+
+    /// The rules at offset `p` for every register that the operations up to the first unreadable one name.
+    ///
+    /// # Errors
+    /// The question that was answered by no: 65 to 69.
+    ///
+    /// ```
+    /// use dekvoz::{relaxed_table, Builder, Format, FrameSection, Machine, Rule, Section};
+    ///
+    /// let function = Builder::new(16, 31).at(1).def_cfa_offset(16).offset(6, -16).done();
+    /// let table = relaxed_table(&Machine::X86_64, Format::Elf, &[function.function()])?;
+    /// let (kind, word) = (Section::Eh, Machine::X86_64.word);
+    /// let section = FrameSection { bytes: &table.bytes, relocations: &table.relocations, kind, word, address: 0 };
+    /// let rules = section.locate(0)?.all(4)?;
+    /// assert_eq!(rules.registers, [(6, Rule::Saved(-16)), (16, Rule::Saved(-8))]);
+    /// # Ok::<(), dekvoz::Refusal>(())
+    /// ```
+    pub fn all(&self, p: u64) -> Result<AllRules, Refusal> {
+        let Rules { frame, signing, .. } = self.rules(0, p)?;
+        let mut named = BTreeSet::new();
+        for range in [self.places.header..self.places.header_end, self.places.record..self.places.record_end] {
+            let found = operations(self.bytes, range, self.word).map_while(Result::ok);
+            named.extend(found.filter_map(|found| found.operation.ruled()));
+        }
+        let mut registers = Vec::new();
+        for register in named {
+            registers.push((register, self.rules(register, p)?.rule));
+        }
+        Ok(AllRules { frame, signing, registers })
     }
 }

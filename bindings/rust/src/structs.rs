@@ -1,12 +1,12 @@
-//! The entries over functions and rows as structs and buffers that the caller lends: include/unwind.h's structs with slices.
+//! The entries over functions and rows as structs and buffers that the caller lends: include/dekvoz.h's structs with slices.
 //!
 //! Nothing is allocated by these. Each field is the number of the same name in the header's lists. A refusal leaves every lent
 //! buffer as it was, and an accepted call leaves what lies past its results as it was.
 //!
 //! ```
-//! use unwind::lists::Lent;
-//! use unwind::structs::{relaxed_table_of, row_check_of, Function, RowAt, Lists};
-//! use unwind::Machine;
+//! use dekvoz::lists::Lent;
+//! use dekvoz::structs::{relaxed_table_of, row_check_of, Function, RowAt, Lists};
+//! use dekvoz::Machine;
 //!
 //! let rows = [RowAt { offset: 1, kind: 1, value: 16, ..RowAt::default() }, RowAt { offset: 1, kind: 3, register: 6, value: -16 }];
 //! let functions = [Function { symbol: 16, length: 9, rows: 2, ..Function::default() }];
@@ -16,7 +16,7 @@
 //! let mut lent = Lent { places: &mut places, bytes: &mut bytes, relocations: &mut relocations, sites: &mut [] };
 //! let counts = relaxed_table_of(&Machine::X86_64.numbers(), 0, lists, &mut numbers, &mut lent)?;
 //! assert_eq!((counts.bytes, numbers), (48, [0; 26]));
-//! # Ok::<(), unwind::Refusal>(())
+//! # Ok::<(), dekvoz::Refusal>(())
 //! ```
 
 use crate::lists::{counts, Counts, Lent};

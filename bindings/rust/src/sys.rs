@@ -1,4 +1,4 @@
-//! include/unwind.h, as it stands there.
+//! include/dekvoz.h, as it stands there.
 
 use crate::structs::{Function, RowAt};
 

@@ -95,13 +95,13 @@ fn usual_of(lists: &Lists<'_>) -> [usize; 4] {
 /// The question that was answered by no. 51 to 54 do not occur: the buffers grow until the results fit.
 ///
 /// ```
-/// use unwind::{relaxed_table, Format, Function, Machine, Op, Row};
+/// use dekvoz::{relaxed_table, Format, Function, Machine, Op, Row};
 ///
 /// let rows = [Row::new(1, Op::DefCfaOffset(16)), Row::new(1, Op::Offset(6, -16))];
 /// let table = relaxed_table(&Machine::X86_64, Format::Elf, &[Function::new(16, 9, &rows)])?;
 /// assert_eq!(table.bytes.len(), 48);
 /// assert_eq!(table.relocations[0].place, 32);
-/// # Ok::<(), unwind::Refusal>(())
+/// # Ok::<(), dekvoz::Refusal>(())
 /// ```
 pub fn relaxed_table(machine: &Machine, format: Format, functions: &[Function<'_>]) -> Result<Table, Refusal> {
     let packed = Packed::new(functions);
@@ -125,12 +125,12 @@ pub fn relaxed_debug_frame(machine: &Machine, format: Format, functions: &[Funct
 /// The question that was answered by no. 51 to 54 do not occur: the buffers grow until the results fit.
 ///
 /// ```
-/// use unwind::{seh, Code, CodeOp, Prologue};
+/// use dekvoz::{seh, Code, CodeOp, Prologue};
 ///
 /// let codes = [Code::new(4, CodeOp::Alloc(128))];
 /// let table = seh(&[Prologue { symbol: 16, length: 9, end: 4, codes: &codes }])?;
 /// assert_eq!(table.sites, [1, 4, 1, 0, 4, 0xf2, 0, 0]);
-/// # Ok::<(), unwind::Refusal>(())
+/// # Ok::<(), dekvoz::Refusal>(())
 /// ```
 pub fn seh(functions: &[Prologue<'_>]) -> Result<Table, Refusal> {
     let packed = PackedCodes::new(functions);
@@ -157,14 +157,14 @@ pub fn row_check(function: &Function<'_>) -> bool {
 /// The question that was answered by no, 61 to 69; the section may be any bytes.
 ///
 /// ```
-/// use unwind::{read, relaxed_table, Format, Frame, Function, Machine, Op, Row, Rule, Section, Word};
+/// use dekvoz::{read, relaxed_table, Format, Frame, Function, Machine, Op, Row, Rule, Section, Word};
 ///
 /// let rows = [Row::new(1, Op::DefCfaOffset(16)), Row::new(1, Op::Offset(6, -16))];
 /// let table = relaxed_table(&Machine::X86_64, Format::Elf, &[Function::new(16, 9, &rows)])?;
 /// let rules = read(&table.bytes, &table.relocations, Section::Eh, Word::Eight, 0, 6, 3)?;
 /// assert_eq!(rules.frame, Frame::Register { register: 7, offset: 16 });
 /// assert_eq!(rules.rule, Rule::Saved(-16));
-/// # Ok::<(), unwind::Refusal>(())
+/// # Ok::<(), dekvoz::Refusal>(())
 /// ```
 pub fn read(
     section: &[u8],
@@ -184,7 +184,7 @@ pub fn read(
 /// The question that was answered by no: 71 or 72.
 ///
 /// ```
-/// use unwind::{call_site, relaxed_table, Format, Function, Landing, Machine, Site};
+/// use dekvoz::{call_site, relaxed_table, Format, Function, Landing, Machine, Site};
 ///
 /// let landings = [Landing { start: 4, length: 6, pad: 20 }];
 /// let function = Function { landings: &landings, ..Function::new(16, 30, &[]) };
@@ -192,7 +192,7 @@ pub fn read(
 /// let pointer = table.relocations.iter().find(|r| r.symbol == 1).unwrap();
 /// assert_eq!(call_site(&table.sites, pointer.addend, 9)?, Some(Site { start: 4, length: 6, pad: 20 }));
 /// assert_eq!(call_site(&table.sites, pointer.addend, 10)?, None);
-/// # Ok::<(), unwind::Refusal>(())
+/// # Ok::<(), dekvoz::Refusal>(())
 /// ```
 pub fn call_site(sites: &[u8], place: u64, offset: u64) -> Result<Option<Site>, Refusal> {
     lists::call_site(sites, place, offset)
@@ -207,14 +207,14 @@ const MOST_CODES: usize = 255;
 /// The question that was answered by no: 76 or 77.
 ///
 /// ```
-/// use unwind::{read_x64, seh, Code, CodeOp, Prologue};
+/// use dekvoz::{read_x64, seh, Code, CodeOp, Prologue};
 ///
 /// let codes = [Code::new(1, CodeOp::Push(5)), Code::new(4, CodeOp::Frame(5, 0)), Code::new(8, CodeOp::Alloc(32))];
 /// let table = seh(&[Prologue { symbol: 16, length: 99, end: 8, codes: &codes }])?;
 /// let record = read_x64(&table.sites, table.places[0])?;
 /// assert_eq!((record.end, record.frame), (8, (5, 0)));
 /// assert_eq!(record.codes, codes);
-/// # Ok::<(), unwind::Refusal>(())
+/// # Ok::<(), dekvoz::Refusal>(())
 /// ```
 pub fn read_x64(info: &[u8], place: u64) -> Result<X64Record, Refusal> {
     let mut numbers = [[0u64; 5]; MOST_CODES];
@@ -230,14 +230,14 @@ pub fn read_x64(info: &[u8], place: u64) -> Result<X64Record, Refusal> {
 /// 79 or 80.
 ///
 /// ```
-/// use unwind::{apply, relaxed_table, Format, Function, Machine, Op, Row};
+/// use dekvoz::{apply, relaxed_table, Format, Function, Machine, Op, Row};
 ///
 /// let rows = [Row::new(1, Op::DefCfaOffset(16))];
 /// let table = relaxed_table(&Machine::X86_64, Format::Elf, &[Function::new(16, 9, &rows)])?;
 /// let placed = apply(&table.bytes, &table.relocations, &[(16, 0x1000)], 0x2000, 0)?;
 /// // The record's field at 32 holds the distance to the function.
 /// assert_eq!(placed[32..36], (0x1000 - 0x2020_i32).to_le_bytes());
-/// # Ok::<(), unwind::Refusal>(())
+/// # Ok::<(), dekvoz::Refusal>(())
 /// ```
 pub fn apply(
     bytes: &[u8],

@@ -1,11 +1,11 @@
 //! The wrappers against answers written out, and refusals.
 #![allow(clippy::unwrap_used, clippy::indexing_slicing, clippy::arithmetic_side_effects)]
 
-use unwind::lists::{self, Lent, Packed};
-use unwind::{
+use dekvoz::lists::{self, Lent, Packed};
+use dekvoz::{
     apply, read, relaxed_debug_frame, relaxed_table, row_check, seh, Code, CodeOp, Format, Frame, Function, Kind, Landing,
-    Machine, MachineRegister, Op, Pair, Personality, Pointer, Prologue, Refusal, Relaxed, Relocation, Row, Rule, Rules,
-    Section, Site, Table, Target, Word,
+    Machine, MachineRegister, Op, Pair, Personality, Pointer, Prologue, Question, Refusal, Relaxed, Relocation, Row, Rule,
+    Rules, Section, Site, Table, Target, Word,
 };
 
 const X86: &Machine = &Machine::X86_64;
@@ -249,10 +249,13 @@ fn the_row_check() {
 
 #[test]
 fn questions_in_words() {
-    let numbers = [11..=13, 21..=25, 31..=41, 51..=54, 61..=69, 76..=80];
+    let numbers = [11..=13, 21..=25, 31..=41, 51..=54, 61..=69, 71..=72, 76..=80];
     for number in 0..100 {
         let known = numbers.iter().any(|range| range.contains(&number));
-        assert_eq!(Refusal { number, position: 0 }.question().is_some(), known);
+        let refusal = Refusal { number, position: 0 };
+        assert_eq!(refusal.question().is_some(), known);
+        assert_eq!(refusal.asked().map(Question::number), known.then_some(number));
+        assert!(refusal.asked().is_none_or(|question| !question.words().is_empty()));
     }
     assert_eq!(
         Refusal { number: 21, position: 3 }.to_string(),
@@ -282,7 +285,7 @@ fn the_ready_machine_is_the_librarys() {
 #[test]
 fn sites_of_a_table() {
     let sites = hex("0000 ffff01 8900 04060000 0a0214 8000");
-    let site = |place, offset| unwind::call_site(&sites, place, offset);
+    let site = |place, offset| dekvoz::call_site(&sites, place, offset);
     assert_eq!(site(2, 3), Ok(None));
     assert_eq!(site(2, 9), Ok(Some(Site { start: 4, length: 6, pad: 0 })));
     assert_eq!(site(2, 11), Ok(Some(Site { start: 10, length: 2, pad: 20 })));
@@ -290,23 +293,23 @@ fn sites_of_a_table() {
     assert_eq!(site(0, 4).unwrap_err().number, 71);
     // Two sites that overlap: the first of the table counts.
     let both = hex("ffff01 08 06041e00 04091400");
-    assert_eq!(unwind::call_site(&both, 0, 6), Ok(Some(Site { start: 6, length: 4, pad: 30 })));
-    assert_eq!(unwind::call_site(&both, 0, 5), Ok(Some(Site { start: 4, length: 9, pad: 20 })));
-    assert_eq!(unwind::call_site(&hex("ffff01 05 04060000 0a"), 0, 4).unwrap_err().number, 72);
+    assert_eq!(dekvoz::call_site(&both, 0, 6), Ok(Some(Site { start: 6, length: 4, pad: 30 })));
+    assert_eq!(dekvoz::call_site(&both, 0, 5), Ok(Some(Site { start: 4, length: 9, pad: 20 })));
+    assert_eq!(dekvoz::call_site(&hex("ffff01 05 04060000 0a"), 0, 4).unwrap_err().number, 72);
     let far = hex("ffff01 0d ffffffffffffffffff01 01 00 00");
-    assert_eq!(unwind::call_site(&far, 0, 4).unwrap_err().number, 72);
+    assert_eq!(dekvoz::call_site(&far, 0, 4).unwrap_err().number, 72);
 }
 
 /// The prologue `push rbp; mov rbp, rsp; sub rsp, 32`, as GNU and LLVM compilers write it, and a refusal of each kind.
 #[test]
 fn x64_record() {
     let info = hex("01080305 0832 0403 0150 0000");
-    let record = unwind::read_x64(&info, 0).unwrap();
+    let record = dekvoz::read_x64(&info, 0).unwrap();
     assert_eq!((record.end, record.frame), (8, (5, 0)));
     let codes = [Code::new(1, CodeOp::Push(5)), Code::new(4, CodeOp::Frame(5, 0)), Code::new(8, CodeOp::Alloc(32))];
     assert_eq!(record.codes, codes);
-    assert_eq!(unwind::read_x64(&info, 9).unwrap_err().number, 76);
-    assert_eq!(unwind::read_x64(&hex("01000100 0406"), 0).unwrap_err().number, 77);
+    assert_eq!(dekvoz::read_x64(&info, 9).unwrap_err().number, 76);
+    assert_eq!(dekvoz::read_x64(&hex("01000100 0406"), 0).unwrap_err().number, 77);
     let mut held = [7; 14];
     assert_eq!(lists::read_x64(&info, 0, &mut held).unwrap_err().number, 54);
     assert_eq!(held, [7; 14]);

@@ -3,11 +3,11 @@
 
 use std::mem::{offset_of, size_of};
 
-use unwind::lists::{self, Counts, Lent};
-use unwind::structs::{
+use dekvoz::lists::{self, Counts, Lent};
+use dekvoz::structs::{
     pack_functions, pack_rows, relaxed_debug_frame_of, relaxed_table_of, row_check_of, Function, Lists, RowAt,
 };
-use unwind::{Machine, Refusal};
+use dekvoz::{Machine, Refusal};
 
 const ROWS: [RowAt; 4] = [
     RowAt { offset: 1, kind: 1, register: 0, value: 16 },

@@ -40,7 +40,7 @@ TableSays s p table.Bad = readTable (drop p s) ≡ none
 
 -- ---- the answer
 
--- its numbers, in the order of include/unwind.h
+-- its numbers, in the order of include/dekvoz.h
 abbrev pub numbersOf : Site → List ℕ
 numbersOf r = r .number ∷ r .found ∷ r .start ∷ r .length ∷ r .pad ∷ []
 

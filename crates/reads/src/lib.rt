@@ -1,4 +1,4 @@
-// The reader's exports by place (include/unwind.h): where a record's operations are, the rules from there, the function of a record and the
+// The reader's exports by place (include/dekvoz.h): where a record's operations are, the rules from there, the function of a record and the
 // record of an address, and the index of all records.
 ghost use mathlib.Core.Path.{_≡_};
 ghost use lib.ListN.{length};

@@ -1,4 +1,4 @@
-// The entries over lists of structs, and their C interface (include/unwind.h): functions and rows as structs, for callers that have them so. What walks a
+// The entries over lists of structs, and their C interface (include/dekvoz.h): functions and rows as structs, for callers that have them so. What walks a
 // slice of structs is proved by hand, and stands here alone. Ported from rucc-asm/src/unwind.rs (Extent, Rows) of tamnd/rucc, changed: see NOTICE.
 ghost use mathlib.Core.Path.{_≡_};
 ghost use mathlib.Core.Bool.{true, false};

@@ -7,11 +7,11 @@ use Rattle.format.specs.Answers.{outcomeOf, outcomeNumbers, afterwards, relocat
 use Rattle.unwind.specs.declared.Numbers.{Numbers}
 use Rattle.unwind.specs.declared.Written.{Written}
 
--- the numbers of a reading, in the order of include/unwind.h
+-- the numbers of a reading, in the order of include/dekvoz.h
 abbrev pub readNumbers : Numbers → List ℕ
 readNumbers r = r .number ∷ r .frame ∷ r .«frame_register» ∷ r .«frame_offset» ∷ r .rule ∷ r .«rule_value» ∷ r .signing ∷ []
 
--- the numbers of an outcome, in the order of include/unwind.h
+-- the numbers of an outcome, in the order of include/dekvoz.h
 abbrev pub writtenNumbers : Written → List ℕ
 writtenNumbers r = r .number ∷ r .position ∷ r .places ∷ r .bytes ∷ r .relocations ∷ r .sites ∷ []
 

@@ -1,4 +1,4 @@
-// The public library: its entries over number lists, and their C interface (include/unwind.h). Ported from rucc-asm/src/unwind.rs (relaxed_table, relaxed_debug_frame, seh) of tamnd/rucc, changed: see NOTICE.
+// The public library: its entries over number lists, and their C interface (include/dekvoz.h). Ported from rucc-asm/src/unwind.rs (relaxed_table, relaxed_debug_frame, seh) of tamnd/rucc, changed: see NOTICE.
 ghost use mathlib.Core.Path.{_≡_};
 ghost use Prim.Native.Nat.{_*_, _≤_};
 ghost use Rattle.format.specs.Questions.{relaxedTable, relaxedDebugFrame, seh, givenOf, roomIn};

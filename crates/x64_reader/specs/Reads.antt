@@ -83,6 +83,6 @@ abbrev pub HeaderSays : List ℕ → ℕ → Header → Type 0
 HeaderSays s p (header.Slots end frame at q) = HeaderThere (drop p s) (length s) p end frame at q
 HeaderSays s p header.Bad = headerOk (drop p s) ≡ false
 
--- the numbers of a reading, in the order of include/unwind.h
+-- the numbers of a reading, in the order of include/dekvoz.h
 abbrev pub readNumbers : X64Reading → List ℕ
 readNumbers r = r .number ∷ r .end ∷ r .frame ∷ r .«frame_register» ∷ r .«frame_offset» ∷ r .codes ∷ []

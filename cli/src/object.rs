@@ -1,0 +1,186 @@
+//! Sections of object files: ELF of 32 and 64 bits, little-endian (gABI, chapter 4), and COFF (the PE/COFF specification).
+
+/// A section of an object file.
+#[derive(Clone, Debug)]
+pub struct Section {
+    /// Its name.
+    pub name: String,
+    /// The address of its first byte, 0 in a file that is not linked.
+    pub address: u64,
+    /// Where its bytes stand in the file; empty where the file has none of them.
+    pub bytes: std::ops::Range<usize>,
+    /// Whether the bytes are there, and not compressed.
+    pub plain: bool,
+    kind: u64,
+    link: u64,
+    info: u64,
+}
+
+/// An object file's sections, and what is known of its machine.
+#[derive(Clone, Debug)]
+pub struct Object {
+    /// The sections, in the file's order.
+    pub sections: Vec<Section>,
+    /// The bytes of an address.
+    pub word: u64,
+    /// The number of the machine, by ELF.
+    pub machine: u64,
+    /// Whether it is still to be linked.
+    pub relocatable: bool,
+}
+
+const SHT_RELA: u64 = 4;
+const SHT_REL: u64 = 9;
+const SHT_NOBITS: u64 = 8;
+const SHF_COMPRESSED: u64 = 0x800;
+const ET_REL: u64 = 1;
+/// A count or an index that stands in the first section's header instead.
+const SHN_XINDEX: u64 = 0xffff;
+
+/// A little-endian field, or none where the file ends before.
+fn field(bytes: &[u8], at: usize, size: usize) -> Option<u64> {
+    let field = bytes.get(at..at.checked_add(size)?)?;
+    Some(field.iter().rev().fold(0, |n, byte| n << 8 | u64::from(*byte)))
+}
+
+fn range(bytes: &[u8], at: u64, size: u64) -> Option<std::ops::Range<usize>> {
+    let (at, size) = (usize::try_from(at).ok()?, usize::try_from(size).ok()?);
+    let end = at.checked_add(size)?;
+    (end <= bytes.len()).then_some(at..end)
+}
+
+/// The text at a place, up to a 0.
+fn name(bytes: &[u8], at: usize) -> String {
+    let rest = bytes.get(at..).unwrap_or(&[]);
+    let end = rest.iter().position(|byte| *byte == 0).unwrap_or(rest.len());
+    String::from_utf8_lossy(&rest[..end]).into_owned()
+}
+
+/// Whether the file is an ELF file.
+pub fn is_elf(bytes: &[u8]) -> bool {
+    bytes.starts_with(b"\x7fELF")
+}
+
+/// The fields of a section's header: name, type, flags, address, place, size, link, info.
+fn section_fields(bytes: &[u8], at: usize, wide: bool) -> Option<[u64; 8]> {
+    let word = if wide { 8 } else { 4 };
+    let behind = 8 + 4 * word;
+    Some([
+        field(bytes, at, 4)?,
+        field(bytes, at + 4, 4)?,
+        field(bytes, at + 8, word)?,
+        field(bytes, at + 8 + word, word)?,
+        field(bytes, at + 8 + 2 * word, word)?,
+        field(bytes, at + 8 + 3 * word, word)?,
+        field(bytes, at + behind, 4)?,
+        field(bytes, at + behind + 4, 4)?,
+    ])
+}
+
+/// The sections of an ELF file.
+///
+/// # Errors
+/// Why it cannot be read, in words.
+pub fn elf(bytes: &[u8]) -> Result<Object, String> {
+    let wide = match (bytes.get(4), bytes.get(5)) {
+        (Some(1), Some(1)) => false,
+        (Some(2), Some(1)) => true,
+        (Some(1 | 2), Some(2)) => return Err("a big-endian ELF file; little-endian ones are read".to_string()),
+        _ => return Err("an ELF file of neither 32 nor 64 bits".to_string()),
+    };
+    elf_sections(bytes, wide).ok_or_else(|| "an ELF file whose section headers are cut off".to_string())
+}
+
+fn elf_sections(bytes: &[u8], wide: bool) -> Option<Object> {
+    let (table_at, counts) = if wide { (40, 58) } else { (32, 46) };
+    let word = if wide { 8 } else { 4 };
+    let table = usize::try_from(field(bytes, table_at, word)?).ok()?;
+    let (size, count, names) = (field(bytes, counts, 2)?, field(bytes, counts + 2, 2)?, field(bytes, counts + 4, 2)?);
+    let object = |sections| {
+        Some(Object { sections, word: word as u64, machine: field(bytes, 18, 2)?, relocatable: field(bytes, 16, 2)? == ET_REL })
+    };
+    if table == 0 {
+        return object(Vec::new());
+    }
+    let first = section_fields(bytes, table, wide)?;
+    let count = if count == 0 { first[5] } else { count };
+    let names = if names == SHN_XINDEX { first[6] } else { names };
+    let header = |n: u64| {
+        let at = usize::try_from(n).ok()?.checked_mul(usize::try_from(size).ok()?)?.checked_add(table)?;
+        section_fields(bytes, at, wide)
+    };
+    let strings = header(names)?;
+    let strings = bytes.get(range(bytes, strings[4], strings[5])?)?;
+    let mut sections = Vec::new();
+    for n in 0..count {
+        let [title, kind, flags, address, at, size, link, info] = header(n)?;
+        let held = range(bytes, at, size).filter(|_| kind != SHT_NOBITS && flags & SHF_COMPRESSED == 0);
+        sections.push(Section {
+            name: name(strings, usize::try_from(title).ok()?),
+            address,
+            plain: held.is_some(),
+            bytes: held.unwrap_or(0..0),
+            kind,
+            link,
+            info,
+        });
+    }
+    object(sections)
+}
+
+/// The relocations of an unlinked ELF file's section that refer to the section itself, as (place, addend).
+pub fn own_relocations(bytes: &[u8], object: &Object, section: usize) -> Vec<(u64, u64)> {
+    let lists = object.sections.iter().filter(|list| matches!(list.kind, SHT_RELA | SHT_REL) && list.info == section as u64);
+    lists.flat_map(|list| own_of(bytes, object, list, section).unwrap_or_default()).collect()
+}
+
+fn own_of(bytes: &[u8], object: &Object, list: &Section, section: usize) -> Option<Vec<(u64, u64)>> {
+    let symbols = bytes.get(object.sections.get(usize::try_from(list.link).ok()?)?.bytes.clone())?;
+    let held = bytes.get(object.sections.get(section)?.bytes.clone())?;
+    let wide = object.word == 8;
+    let word = if wide { 8 } else { 4 };
+    let size = if list.kind == SHT_RELA { 3 * word } else { 2 * word };
+    let mut found = Vec::new();
+    for entry in bytes.get(list.bytes.clone())?.chunks_exact(size) {
+        let (place, info) = (field(entry, 0, word)?, field(entry, word, word)?);
+        // Without a field of its own the addend stands where it is to be added.
+        let addend = match list.kind {
+            SHT_RELA => field(entry, 2 * word, word)?,
+            _ => field(held, usize::try_from(place).ok()?, 4)?,
+        };
+        let symbol = usize::try_from(if wide { info >> 32 } else { info >> 8 }).ok()?;
+        // A symbol's section and value (gABI, "Symbol Table").
+        let (at, value) = if wide { (24 * symbol + 6, 24 * symbol + 8) } else { (16 * symbol + 14, 16 * symbol + 4) };
+        if field(symbols, at, 2) == Some(section as u64) {
+            found.push((place, addend.wrapping_add(field(symbols, value, word)?)));
+        }
+    }
+    Some(found)
+}
+
+/// The sections of a COFF object or a PE image, where the file looks like one.
+pub fn coff(bytes: &[u8]) -> Option<Vec<Section>> {
+    let start = if bytes.starts_with(b"MZ") {
+        let at = usize::try_from(field(bytes, 60, 4)?).ok()?;
+        (bytes.get(at..at.checked_add(4)?)? == b"PE\0\0").then_some(at + 4)?
+    } else {
+        (field(bytes, 0, 2)? == 0x8664).then_some(0)?
+    };
+    let count = field(bytes, start + 2, 2)?;
+    let table = start + 20 + usize::try_from(field(bytes, start + 16, 2)?).ok()?;
+    let mut sections = Vec::new();
+    for n in 0..usize::try_from(count).ok()? {
+        let header = bytes.get(table + 40 * n..table + 40 * (n + 1))?;
+        let held = range(bytes, field(header, 20, 4)?, field(header, 16, 4)?);
+        sections.push(Section {
+            name: name(&header[..8], 0),
+            address: field(header, 12, 4)?,
+            plain: held.is_some(),
+            bytes: held.unwrap_or(0..0),
+            kind: 0,
+            link: 0,
+            info: 0,
+        });
+    }
+    Some(sections)
+}

@@ -1,0 +1,185 @@
+#!/usr/bin/env python3
+"""The command `dekvoz` as people and scripts use it: statuses, errors, every command on ELF files, raw bytes and standard input, JSON, damage.
+
+What the listing says of rules is compared with readelf's by dump.py; here the answers of the commands are compared with one another."""
+
+import json
+import os
+import re
+import subprocess
+import sys
+
+HERE = os.path.dirname(os.path.abspath(__file__))
+ROOT = os.path.dirname(HERE)
+OUT = os.path.join(ROOT, "target", "differential")
+DEKVOZ = os.path.join(ROOT, "target", "cli", "release", "dekvoz")
+SECTION, DAMAGED, OBJECT = (os.path.join(OUT, f"command.{end}") for end in ("section", "damaged", "o"))
+# Two functions: one with a handler, and one that calls it.
+SOURCE = """
+__attribute__((noinline)) int sum(int *p, int n) { int s = 0; for (int i = 0; i < n; i++) s += p[i] * s; return s; }
+void cleaned(int *p); void thrower(void);
+int caller(void) { __attribute__((cleanup(cleaned))) int n = 3; thrower(); return sum(&n, 1); }
+"""
+# A header (CIE) and a record (FDE) of 16 bytes of function with one advance, by LSB 5.0, section 10.6.1.
+CIE = bytes.fromhex("14000000 00000000 01 7a5200 01 78 10 01 1b 0c0708 9001 0000".replace(" ", ""))
+FDE = bytes.fromhex("14000000 1c000000 e0ffffff 10000000 00 41 0e10 8602 0000".replace(" ", ""))
+
+
+def run(*words, stdin=b"", status=0, stdout=subprocess.PIPE):
+    done = subprocess.run([DEKVOZ, *words], input=stdin, stdout=stdout, stderr=subprocess.PIPE)
+    assert done.returncode == status, f"{words}: status {done.returncode}, not {status}: {done.stderr.decode()}"
+    assert not done.stderr or all(line.startswith("dekvoz: ") for line in done.stderr.decode().splitlines()), done.stderr
+    assert status == 0 or done.stderr, f"{words}: status {status} without a word"
+    return (done.stdout or b"").decode(), done.stderr.decode()
+
+
+def usage():
+    for words in ([], ["lists"], ["dump"], ["dump", "a", "b"], ["dump", "--nothing", "a"], ["dump", "--word"], ["dump", "-", "--word=3"],
+                  ["dump", "-", "--kind", "x"], ["rules", "-"], ["rules", "-", "--record", "1"], ["rules", "-", "--record=x", "--at=0"],
+                  ["rules", "-", "--address=1", "--record=1", "--at=1"], ["dump", "-", "--json=1"], ["check", "-", "--record", "1"],
+                  ["dump", "-", "--word", "8", "--word", "8"], ["dump", "-", "--machine=vax"], ["handler", "-"], ["handler", "-", "--at", "1"],
+                  ["rules", "-", "--record=-1", "--at=0"], ["rules", "-", "--record=0x1ffffffffffffffff", "--at=0"], ["example", "x"]):
+        run(*words, status=2)
+    for words in (["--help"], ["-h"], ["dump", "--help"], ["--help", "dump", "x", "--word=1"]):
+        assert "dekvoz dump FILE" in run(*words)[0]
+    assert re.fullmatch(r"dekvoz \d+\.\d+\.\d+\n", run("--version")[0])
+
+
+def files():
+    for command in ("dump", "check"):
+        assert "No such file" in run(command, "/nonexistent", status=1)[1]
+        assert "empty" in run(command, "/dev/null", status=1)[1]
+        assert "empty" in run(command, "-", status=1)[1]
+        assert "no ELF file" in run(command, "-", stdin=b"#!/bin/sh\n", status=1)[1]
+        run(command, "-", stdin=b"\x7fELF", status=1)
+        run(command, "-", stdin=b"\x7fELF\2\1\1" + bytes(40), status=1)
+    assert "standard output" in run("dump", "-", stdin=CIE + FDE, status=1, stdout=open("/dev/full", "wb"))[1]
+
+
+def raw():
+    """A section by hand: listed, with a terminator, with bytes behind it, cut off at every place."""
+    section = CIE + FDE
+    text = run("dump", "-", stdin=section, status=0)[0]
+    assert "00000018 0000000000000014 0000001c FDE cie=00000000 pc=0000000000000000..0000000000000010 record 0" in text, text
+    assert "0000000000000001 r7+16    c-16  c-8" in text, text
+    assert "r7+16" in run("rules", "-", "--record=0", "--at=1", stdin=section)[0]
+    assert "rsp+16" in run("rules", "--machine", "x86-64", "--at", "1", "-", "--record", "0", stdin=section)[0]
+    assert "rbp: saved at CFA-16" in run("rules", "-", "--record=0", "--at=1", "--machine=x86-64", "--register=rbp", stdin=section)[0]
+    assert "rbp: saved" in run("rules", "-", "--base=0x100", "--address=0x10f", "--machine=x86-64", "--register=6", stdin=section)[0]
+    assert "65" in run("rules", "-", "--record=0", "--at=16", stdin=section, status=1)[1]
+    assert "no record 1" in run("rules", "-", "--record=1", "--at=0", stdin=section, status=1)[1]
+    assert "0x110" in run("rules", "-", "--base=0x100", "--address=0x110", stdin=section, status=1)[1]
+    run("check", "-", stdin=section)
+    assert "ZERO terminator" in run("dump", "-", stdin=section + bytes(4))[0]
+    run("check", "-", stdin=section + bytes(4))
+    for command in ("dump", "check"):
+        assert "behind the terminator" in run(command, "-", stdin=section + bytes(8), status=1)[1]
+    for cut in range(1, len(section)):
+        if cut != len(CIE):
+            listed, why = run("dump", "-", stdin=section[:cut], status=1)
+            assert ("CIE" in listed) == (cut > len(CIE)) and "61" in why, (cut, listed, why)
+            run("check", "-", stdin=section[:cut], status=1)
+    foreign = section[:-4] + bytes.fromhex("0f010000")
+    assert "DW_CFA_def_cfa_expression" in run("check", "-", stdin=foreign, status=1)[0]
+    assert "passed over" in run("dump", "-", "--operations", stdin=foreign)[0]
+    assert "alignment factor" in run("dump", "-", stdin=section.replace(b"\1\x78\x10", b"\4\x78\x10"))[0]
+
+
+def debug():
+    """debug_frame: 63 without relocations, by the field with --linked."""
+    cie = bytes.fromhex("0c000000 ffffffff 01 00 01 78 10 0c0708".replace(" ", ""))
+    fde = bytes.fromhex("14000000 00000000 0010000000000000 1000000000000000".replace(" ", ""))
+    section = cie + fde
+    assert "63" in run("check", "-", "--kind", "debug", stdin=section, status=1)[0]
+    assert "--linked" in run("check", "-", "--kind", "debug", stdin=section, status=1)[1]
+    run("check", "-", "--kind", "debug", "--linked", stdin=section)
+    assert "r7+8" in run("rules", "-", "--kind=debug", "--linked", "--address=0x1000", stdin=section)[0]
+    wrong = cie + fde[:4] + b"\4" + fde[5:]
+    assert "63" in run("check", "-", "--kind", "debug", "--linked", stdin=wrong, status=1)[0]
+
+
+def objects():
+    """A file that gcc made, by name and by its section; the JSON of each command; the handler of a call."""
+    source = OBJECT[:-1] + "c"
+    with open(source, "w") as file:
+        file.write(SOURCE)
+    flags = ["-O2", "-fexceptions", "-fPIC", "-shared", "-w"]
+    if subprocess.run(["gcc", *flags, "-o", OBJECT, source], capture_output=True).returncode:
+        return
+    listed = json.loads(run("dump", OBJECT, "--json", "--operations")[0])
+    records = [entry for entry in listed["entries"] if entry["entry"] == "FDE"]
+    checked = json.loads(run("check", OBJECT, "--json", status=1 if any("refused" in r for e in records for r in e["rows"]) else 0)[0])
+    assert checked["records"] == len(records)
+    handled = 0
+    for entry in records:
+        pc, k = int(entry["pc"], 16), entry["record"]
+        for row in entry["rows"]:
+            if "refused" in row:
+                continue
+            offset = int(row["location"], 16) - pc
+            by_address = json.loads(run("rules", OBJECT, "--address", row["location"], "--json")[0])
+            by_record = json.loads(run("rules", OBJECT, "--record", str(k), "--at", str(offset), "--json")[0])
+            assert by_address == by_record, (by_address, by_record)
+            assert (by_record["cfa"], by_record["registers"]) == (row["cfa"], row["registers"]), (by_record, row)
+            said = json.loads(run("handler", OBJECT, "--record", str(k), "--at", str(offset), "--json")[0])
+            handled += "site" in said
+    assert json.loads(run("dump", OBJECT, "--json", "--section=.eh_frame")[0])["entries"]
+    assert "without .nothing" in run("dump", OBJECT, "--section", ".nothing", status=1)[1]
+    sites = [json.loads(run("handler", OBJECT, "--record", str(e["record"]), "--at", str(p), "--json")[0]) for e in records for p in range(0, e["size"])]
+    assert any(s.get("site", {}).get("pad") for s in sites), "no call of the object has a handler"
+    with open(OBJECT, "rb") as file:
+        whole = file.read()
+    assert json.loads(run("dump", "-", "--json", stdin=whole)[0])["entries"] == json.loads(run("dump", OBJECT, "--json")[0])["entries"]
+
+
+def call_sites():
+    table = bytes.fromhex("ffff01 08 10 04 28 00 20 08 00 00".replace(" ", ""))
+    assert "landing pad at offset 40" in run("handler", "-", "--place=0", "--at=16", stdin=table)[0]
+    assert "no call site" in run("handler", "-", "--place=0", "--at=20", stdin=table)[0]
+    assert "no handler" in run("handler", "-", "--place=0", "--at=32", stdin=table)[0]
+    assert "71" in run("handler", "-", "--place=1", "--at=16", stdin=table, status=1)[1]
+    assert "72" in run("handler", "-", "--place=0", "--at=16", stdin=table[:3] + b"\7" + table[4:11], status=1)[1]
+
+
+def x64():
+    # push rbp; mov rbp, rsp; sub rsp, 32 (Microsoft, "x64 exception handling")
+    record = bytes.fromhex("01 08 03 05 08 32 04 03 01 50 00 00".replace(" ", ""))
+    text = run("x64", "-", stdin=record + record)[0]
+    assert text.count("push rbp") == 2 and "take 32 bytes" in text and "the frame register rbp is rsp+0" in text, text
+    assert len(json.loads(run("x64", "-", "--json", stdin=record + record)[0])["records"]) == 2
+    assert run("x64", "-", "--place=12", stdin=record + record)[0].startswith("0000000c")
+    assert "76" in run("x64", "-", "--place=1", stdin=record, status=1)[1]
+    run("x64", "/dev/null", status=1)
+
+
+def proportion():
+    """A record of 24 KB of operations is listed without being held up; a pipe that nobody reads ends the command without a word."""
+    operations = bytes.fromhex("410e10") * 8000
+    fde = bytes.fromhex("1c000000e0ffffff0000010000") + operations
+    fde = (len(fde)).to_bytes(4, "little") + fde
+    done = subprocess.run([DEKVOZ, "dump", "-"], input=CIE + fde, capture_output=True, timeout=20)
+    assert done.stdout.count(b"\n") > 8000
+    closed = subprocess.run(f"{DEKVOZ} dump - | head -1", shell=True, input=CIE + fde, capture_output=True)
+    assert not closed.stderr, closed.stderr
+
+
+def example():
+    text = run("example")[0]
+    chain = re.findall(r"^#\d (\w+)\+(\d+), pc 0x[0-9a-f]+: asked (.*)$", text, re.M)
+    assert [name for name, *_ in chain] == ["report", "vector", "sample", "control", "reset"], chain
+    assert [asked for *_, asked in chain] == ["there", "at offset 19", "there", "at offset 35", "at offset 19"], chain
+    assert "the two differ 0 times" in text and "every record can be read" in text and "landing pad at offset 44" in text
+
+
+def main():
+    os.makedirs(OUT, exist_ok=True)
+    for test in (usage, files, raw, debug, call_sites, x64, objects, proportion, example):
+        try:
+            test()
+        except AssertionError as why:
+            sys.exit(f"command: {test.__name__}: {why}")
+    print("command: usage, files, raw bytes, debug_frame, call sites, x64 records, an object of gcc, a long record and the example are as they should be")
+
+
+if __name__ == "__main__":
+    main()
