@@ -4,7 +4,7 @@ use mathlib.Core.Path.{_≡_, refl}
 use Prim.Native.Nat.{ℕ}
 use mathlib.Core.Bool.{true, false}
 use mathlib.Core.Option.{none, some}
-use mathlib.Core.List.{List, [], _∷_, _++_, map}
+use mathlib.Core.List.{List, [], _∷_, map}
 use Rattle.format.specs.Prelude.{pick, next, after, good, bad, onward, orElse, first}
 use Rattle.format.specs.Leb.{readUlebF, readUleb}
 use Rattle.format.specs.Reader.{readMany, readCounted}

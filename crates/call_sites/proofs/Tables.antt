@@ -1,14 +1,13 @@
 -- A table at a place: its head, the bytes of its entries, and the answer.
-use mathlib.Core.Path.{_≡_, refl, sym, ap, subst, _∙_}
-use Prim.Native.Nat.{ℕ, zero, suc, _+_, _-_, _≤_, _<_}
+use mathlib.Core.Path.{_≡_, refl, ap, _∙_}
+use Prim.Native.Nat.{ℕ, suc, _+_, _-_, _≤_, _<_}
 use native.Mathlib.Omega.{arith}
-use mathlib.Core.Bool.{Bool, true, false, not}
+use mathlib.Core.Bool.{Bool, true, false}
 use mathlib.Core.Option.{Option, none, some}
 use mathlib.Core.List.{List, [], _∷_}
-use lib.Dec.{T}
 use lib.ListN.{length, getD, take, drop, length-drop}
 use lib.Seq.{drop-cons}
-use Rattle.format.specs.Prelude.{pick, next, Result, good, bad, onward, orElse, first}
+use Rattle.format.specs.Prelude.{pick, next, good, onward, orElse, first}
 use Rattle.format.specs.declared.Unsigned.the-variants as unsigned
 use Rattle.format.specs.Lists.{Landing}
 use Rattle.format.specs.Reader.{readMany, readCounted}

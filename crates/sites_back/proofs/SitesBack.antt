@@ -1,33 +1,30 @@
 -- What eh_frame's writer wrote of a function with landings: its record's pointer to call sites, and its table where that says.
 use mathlib.Core.Path.{_≡_, refl, sym, ap, _∙_}
-use Prim.Native.Nat.{ℕ, zero, suc, _+_, _-_, _*_, _^_, _≤_, _<_}
+use Prim.Native.Nat.{ℕ, zero, suc, _+_, _-_, _≤_, _<_}
 use native.Mathlib.Omega.{arith}
-use mathlib.Core.Bool.{Bool, true, false, not}
+use mathlib.Core.Bool.{false}
 use mathlib.Core.Logic.{_≢_}
 use mathlib.Core.Option.{Option, none, some}
 use mathlib.Core.List.{List, [], _∷_, _++_, append-assoc, map}
 use lib.ListN.{length, getElem?, drop, replicate, length-append, length-drop, length-replicate}
 use lib.Seq.{drop-at, drop-append-le}
-use lib.Dec.{T, leb, eqb, leb→le, eqb-refl}
+use lib.Dec.{T, eqb, eqb-refl}
 use mir.Facts.{no-eqb}
-use Rattle.format.specs.Prelude.{pick, first, good}
+use Rattle.format.specs.Prelude.{pick, first}
 use Rattle.format.specs.declared.Machine.{Machine}
 use Rattle.format.specs.declared.Section.the-variants.{Elf}
 use Rattle.format.specs.Machine.{machineOf}
 use Rattle.format.specs.Constants.{exceptTable, dataReloc}
-use Rattle.format.specs.Leb.{uleb}
-use Rattle.format.specs.Lists.{Function, Landing, Named, Relocation, functionStride, field, count, landingAt, functionAt, functionOkAt, allIn, sumOf, pairsIn, mostFunctions, mostRecords, listsOk}
-use Rattle.format.specs.Headers.{Key, keyOf, others, reloc, headerBytes, headerRelocs, padding}
+use Rattle.format.specs.Lists.{Function, Landing, Named, Relocation, functionStride, field, count, landingAt, functionAt, mostRecords, listsOk}
+use Rattle.format.specs.Headers.{keyOf, others, reloc, headerBytes, headerRelocs}
 use Rattle.format.specs.Records.{recordFields, lsdaReloc, sumPair, rowRelocs, recordRelocs}
-use Rattle.format.specs.CallSites.{siteBytes, sitesBytes, siteTable, sitePad, siteAdded}
+use Rattle.format.specs.CallSites.{siteTable, sitePad, siteAdded}
 use Rattle.format.specs.Writer.{isDebug, alignFor, taken, Part, Seen, Written, placeIn, partWith, partOf, isEmpty, partsFrom, partsOf, joined, dwarf}
-use Rattle.format.specs.Questions.{Given, Room, Answer, accepted, givenFunctions, givenFunction, dwarfGiven}
-use Rattle.format.specs.Reader.{Entry, entries, records}
-use Rattle.format.proofs.Choice.{pick-no}
+use Rattle.format.specs.Questions.{Given, Room, accepted, givenFunctions, givenFunction}
+use Rattle.format.specs.Reader.{entries, records}
 use Rattle.format.proofs.Each.{Each, each-join, each-then, first-behind}
-use Rattle.format.proofs.LebBack.{uleb-short}
-use Rattle.format.proofs.ListLaws.{each-length, chained}
-use Rattle.format.proofs.Fits.{MachineFits, FunctionFits, AllFit, Bounded}
+use Rattle.format.proofs.ListLaws.{each-length}
+use Rattle.format.proofs.Fits.{MachineFits, FunctionFits, AllFit}
 use Rattle.format.proofs.SectionSize.{header-ok}
 use Rattle.format.proofs.Parts.{Spot, cieOf, spotOf, frontFor, relocsFor, frontOf, placeOf, partBytes, partRelocs, relocsOf, place-from, nextAt, nextSites, nextSeen, relocs-more}
 use Rattle.format.proofs.SectionTiles.{recordEntry, entriesOf, section-tiles}

@@ -1,13 +1,12 @@
 -- A table of call sites, there and back.
-use mathlib.Core.Path.{_≡_, refl, sym, ap, _∙_}
-use Prim.Native.Nat.{ℕ, zero, suc, _+_, _-_, _*_, _^_, _≤_, _<_}
+use mathlib.Core.Path.{_≡_, refl, _∙_}
+use Prim.Native.Nat.{ℕ, zero, suc, _+_, _-_, _^_, _≤_, _<_}
 use native.Mathlib.Omega.{arith}
-use mathlib.Core.Bool.{true, false}
-use mathlib.Core.Option.{none, some}
+use mathlib.Core.Option.{some}
 use mathlib.Core.List.{List, [], _∷_, _++_, append-assoc}
-use lib.ListN.{length, take, drop, length-append}
+use lib.ListN.{length, drop, length-append}
 use lib.Seq.{take-at}
-use Rattle.format.specs.Prelude.{pick, next, after, good, bad, onward, orElse}
+use Rattle.format.specs.Prelude.{pick, next, after, good, onward, orElse}
 use Rattle.format.specs.Leb.{ulebF, uleb}
 use Rattle.format.specs.Lists.{Landing}
 use Rattle.format.specs.CallSites.{siteBytes, sitesBytes, siteTable}

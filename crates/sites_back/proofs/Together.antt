@@ -7,7 +7,7 @@ use mathlib.Core.List.{List, _++_}
 use lib.ListN.{length, take, drop, take-append-drop}
 use Rattle.format.specs.Prelude.{pick, after, good, onward}
 use Rattle.format.specs.declared.Outcome.{Outcome}
-use Rattle.format.specs.Lists.{Landing, relocationsOf, numbersOf}
+use Rattle.format.specs.Lists.{Landing, relocationsOf}
 use Rattle.format.specs.Writer.{Written}
 use Rattle.format.specs.Questions.{Given, roomIn, accepted, relaxedTable, givenFunction}
 use Rattle.format.specs.Answers.{Writes, afterwards, relocationNumbers}

@@ -2,11 +2,11 @@
 use mathlib.Core.Path.{_≡_}
 use mathlib.Core.Logic.{_≢_}
 use Prim.Native.Nat.{ℕ, _+_, _-_, _^_, _<_}
-use mathlib.Core.Bool.{Bool, true, false}
+use mathlib.Core.Bool.{false}
 use mathlib.Core.Option.{Option, none, some}
-use mathlib.Core.List.{List, [], _∷_, _++_}
-use lib.Dec.{T, eqb}
-use lib.ListN.{length, getElem?}
+use mathlib.Core.List.{List, [], _++_}
+use lib.Dec.{eqb}
+use lib.ListN.{getElem?}
 use Rattle.format.specs.Prelude.{after, first, good}
 use Rattle.format.specs.Lists.{Landing, Relocation, functionStride, count}
 use Rattle.format.specs.Constants.{exceptTable}
