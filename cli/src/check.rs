@@ -3,7 +3,7 @@
 use std::collections::BTreeMap;
 
 use dekvoz::parts::{operations, Operation};
-use dekvoz::{Question, Refusal, Section as Kind};
+use dekvoz::{check_section, CheckRefusal, Question, Refusal, Section as Kind};
 
 use crate::args::Args;
 use crate::dump::Listing;
@@ -77,13 +77,26 @@ pub fn run(args: &Args) -> Result<bool, Stop> {
     Ok(refused == 0 && parts.complaint().is_none())
 }
 
+/// The first record that does not pass: of eh_frame the library's check of the whole section says it.
+fn first_failing(listing: &Listing<'_>) -> usize {
+    let frame = &listing.parts.frame;
+    match frame.kind {
+        Kind::Debug => 0,
+        Kind::Eh => match check_section(frame.bytes, frame.word) {
+            Err(CheckRefusal::Record(k)) => k as usize,
+            // The entries tile these bytes.
+            Ok(()) | Err(CheckRefusal::DoesNotTile) => listing.parts.records.len(),
+        },
+    }
+}
+
 /// Every record at the last offset of its function: an answer there implies one at each other (law `Prefix` of the definitions), and no
 /// refusal depends on the register.
 pub fn causes(listing: &mut Listing<'_>, first: u64) -> Causes {
     let mut progress = Progress::new("checking", false);
     let mut causes = Causes::new();
     let parts = listing.parts;
-    for (k, record) in parts.records.iter().enumerate() {
+    for (k, record) in parts.records.iter().enumerate().skip(first_failing(listing)) {
         progress.step(k as u64, parts.records.len() as u64);
         let Some(why) = refusal(listing, k) else { continue };
         let cause = causes.entry(why).or_default();
@@ -97,7 +110,12 @@ pub fn causes(listing: &mut Listing<'_>, first: u64) -> Causes {
 }
 
 fn refusal(listing: &mut Listing<'_>, k: usize) -> Option<(u64, String)> {
-    let found = match listing.record(k).found {
+    let record = listing.record(k);
+    // A function without a byte has no offset to be read at.
+    if record.function.is_some_and(|function| function.length == 0) {
+        return None;
+    }
+    let found = match record.found {
         Ok(found) => found,
         Err(fault) => return Some((fault.refusal.number, words::fault_cause(fault).to_string())),
     };

@@ -46,13 +46,13 @@ impl Error for CheckRefusal {}
 /// 61, or 84 with the first record that does not pass.
 ///
 /// ```
-/// use unwind::{check_section, relaxed_table, CheckRefusal, Format, Function, Machine, Op, Row, Word};
+/// use dekvoz::{check_section, relaxed_table, CheckRefusal, Format, Function, Machine, Op, Row, Word};
 ///
 /// let rows = [Row::new(1, Op::DefCfaOffset(16))];
 /// let table = relaxed_table(&Machine::X86_64, Format::Elf, &[Function::new(16, 9, &rows)])?;
 /// assert_eq!(check_section(&table.bytes, Word::Eight), Ok(()));
 /// assert_eq!(check_section(&table.bytes, Word::Four), Err(CheckRefusal::Record(0)));
-/// # Ok::<(), unwind::Refusal>(())
+/// # Ok::<(), dekvoz::Refusal>(())
 /// ```
 pub fn check_section(section: &[u8], word: Word) -> Result<(), CheckRefusal> {
     // SAFETY: the pointer and the count are a slice's.
