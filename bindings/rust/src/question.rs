@@ -94,6 +94,8 @@ pub enum Question {
     Relocations,
     /// 80: the distance of a Set and Sub pair does not fit its field.
     Distance,
+    /// 84: a record's length is cut off, or it cannot be read at some offset below its length.
+    EveryOffset,
 }
 
 impl Question {
@@ -140,6 +142,7 @@ impl Question {
             78 => Question::MachO,
             79 => Question::Relocations,
             80 => Question::Distance,
+            84 => Question::EveryOffset,
             _ => return None,
         })
     }
@@ -187,6 +190,7 @@ impl Question {
             Question::MachO => 78,
             Question::Relocations => 79,
             Question::Distance => 80,
+            Question::EveryOffset => 84,
         }
     }
 
@@ -239,6 +243,7 @@ impl Question {
                 "a relocation is of no kind or size that is written, lacks its partner or address, or its field or value does not fit"
             }
             Question::Distance => "the distance of a Set and Sub pair does not fit its field",
+            Question::EveryOffset => "a record's length is cut off, or it cannot be read at some offset below its length",
         }
     }
 }

@@ -56,6 +56,7 @@ impl Refusal {
             78 => "is the format one that is written? Mach-O is not any more.",
             79 => "is each relocation of a kind and size that is written, with its partner and address, its field inside, and its value in range?",
             80 => "does the distance of each Set and Sub pair fit its field?",
+            84 => "does each record's length lie inside its entry, and can it be read at every offset below it?",
             _ => return None,
         })
     }
