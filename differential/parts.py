@@ -191,7 +191,7 @@ def record(section, kind, word, pointer, place):
 
 # ---- operations
 
-DEF_CFA, DEF_CFA_OFFSET, DEF_CFA_REGISTER, OFFSET, RESTORE, UNDEFINED, REMEMBER, RECALL, NEGATE = range(9)
+DEF_CFA, DEF_CFA_OFFSET, DEF_CFA_REGISTER, OFFSET, RESTORE, UNDEFINED, REMEMBER, RECALL, NEGATE, SAME_VALUE, IN_REGISTER = range(11)
 NOP, STEP = 16, 17
 
 
@@ -215,6 +215,10 @@ def one(code, word):
         return RESTORE, code.register(), 0
     if first == 0x07:
         return UNDEFINED, code.register(), 0
+    if first == 0x08:
+        return SAME_VALUE, code.register(), 0
+    if first == 0x09:
+        return IN_REGISTER, code.register(), code.register()
     if first == 0x0A:
         return REMEMBER, 0, 0
     if first == 0x0B:
@@ -422,13 +426,19 @@ def damaged(rng):
 # ---- sections of the writers
 
 
+NAMED = (0, 6, 7, 63, 64, 128, 65535)
+NAMING = (DEF_CFA, DEF_CFA_REGISTER, OFFSET, RESTORE, UNDEFINED, SAME_VALUE, IN_REGISTER)
+
+
 def rows(rng, word):
     offset = 0
     for _ in range(rng.randrange(9)):
         offset += rng.choice((0, 0, 1, 5, 63, 64, 255, 256, 70000))
-        kind = rng.randrange(9)
-        register = rng.choice((0, 6, 7, 63, 64, 128, 65535)) if kind in (DEF_CFA, DEF_CFA_REGISTER, OFFSET, RESTORE, UNDEFINED) else 0
+        kind = rng.randrange(11)
+        register = rng.choice(NAMED) if kind in NAMING else 0
         value = word * rng.randrange(-200, 200) if kind in (DEF_CFA, DEF_CFA_OFFSET, OFFSET) else 0
+        if kind == IN_REGISTER:
+            value = rng.choice(NAMED)
         yield [offset, kind, register, value % 2**32]
 
 

@@ -16,9 +16,6 @@ use crate::registers::Names;
 use crate::table::{Rows, Spans, Table};
 use crate::{words, Stop};
 
-/// The kind of the row that has a second register (include/dekvoz.h).
-const IN_REGISTER: u64 = 10;
-
 /// How many entries are listed in one go.
 const RUN: usize = 1024;
 
@@ -270,14 +267,14 @@ impl<'a> Listing<'a> {
             Operation::DefCfa(register, offset) => self.register(out, register).text(" ofs ").signed(offset),
             Operation::DefCfaOffset(offset) => out.text(": ").signed(offset),
             Operation::Offset(register, offset) => self.register(out, register).text(" at cfa").offset(offset),
-            Operation::DefCfaRegister(register) | Operation::Restore(register) | Operation::Undefined(register) => {
-                self.register(out, register)
-            }
-            Operation::Other { kind: IN_REGISTER, register, value } => {
+            Operation::DefCfaRegister(register)
+            | Operation::Restore(register)
+            | Operation::Undefined(register)
+            | Operation::SameValue(register) => self.register(out, register),
+            Operation::InRegister(register, other) => {
                 self.register(out, register).text(" in ");
-                self.plain_register(out, value as u64)
+                self.plain_register(out, other)
             }
-            Operation::Other { register, .. } => self.register(out, register),
             _ => out,
         };
     }

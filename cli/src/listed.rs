@@ -136,10 +136,11 @@ fn operands(operation: Operation) -> (Option<u64>, Option<i64>) {
         Operation::DefCfa(register, value) | Operation::Offset(register, value) => (Some(register), Some(value)),
         Operation::DefCfaOffset(value) => (None, Some(value)),
         Operation::Step(n) => (None, Some(n as i64)),
-        Operation::DefCfaRegister(register) | Operation::Restore(register) | Operation::Undefined(register) => {
-            (Some(register), None)
-        }
-        Operation::Other { register, value, .. } => (Some(register), Some(value)),
+        Operation::DefCfaRegister(register)
+        | Operation::Restore(register)
+        | Operation::Undefined(register)
+        | Operation::SameValue(register) => (Some(register), None),
+        Operation::InRegister(register, other) => (Some(register), Some(other as i64)),
         _ => (None, None),
     }
 }

@@ -138,19 +138,14 @@ pub enum Operation {
     RestoreState,
     /// Whether the return address is signed changes.
     NegateRaState,
+    /// The register keeps its value.
+    SameValue(u64),
+    /// The first register's value is in the second.
+    InRegister(u64, u64),
     /// Padding.
     Nop,
     /// So many bytes of code are passed.
     Step(u64),
-    /// A kind that these wrappers have no name for.
-    Other {
-        /// The kind's number.
-        kind: u64,
-        /// Its register.
-        register: u64,
-        /// Its value.
-        value: i64,
-    },
 }
 
 impl Operation {
@@ -158,10 +153,11 @@ impl Operation {
     #[must_use]
     pub const fn ruled(self) -> Option<u16> {
         match self {
-            Operation::Offset(register, _) | Operation::Restore(register) | Operation::Undefined(register) => {
-                Some(register as u16)
-            }
-            Operation::Other { register, .. } => Some(register as u16),
+            Operation::Offset(register, _)
+            | Operation::Restore(register)
+            | Operation::Undefined(register)
+            | Operation::SameValue(register)
+            | Operation::InRegister(register, _) => Some(register as u16),
             _ => None,
         }
     }
@@ -330,8 +326,10 @@ const fn operation(kind: u64, register: u64, value: u64) -> Operation {
         6 => Operation::RememberState,
         7 => Operation::RestoreState,
         8 => Operation::NegateRaState,
-        16 => Operation::Nop,
+        9 => Operation::SameValue(register),
+        10 => Operation::InRegister(register, value),
         17 => Operation::Step(value),
-        _ => Operation::Other { kind, register, value: offset },
+        // 16; the library answers no other kind.
+        _ => Operation::Nop,
     }
 }
