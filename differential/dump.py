@@ -73,7 +73,8 @@ def entries(text):
         elif line.startswith("   LOC"):
             found[-1].columns = line.split()[2:]
         elif row and found[-1].columns is not None:
-            frame, *rules = row.group(2).split()
+            # A register that holds another's value is its number, and its name in brackets.
+            frame, *rules = re.sub(r" \((\w+)\)", r"(\1)", row.group(2)).split()
             found[-1].rows[int(row.group(1), 16)] = (frame, dict(zip(found[-1].columns, rules)), "refused" in line)
     return found
 

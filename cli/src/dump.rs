@@ -285,11 +285,7 @@ impl<'a> Listing<'a> {
     }
 
     fn plain_register<'b>(&self, out: &'b mut Out, register: u64) -> &'b mut Out {
-        out.text("r").decimal(register);
-        if let Some(name) = self.section.names.known(register) {
-            out.text(" (").text(name).text(")");
-        }
-        out
+        out.text(&self.section.names.both(register))
     }
 
     fn table_text(&self, out: &mut Out, spans: &Spans, start: u64, ra: u64) {
@@ -346,7 +342,7 @@ fn rule_cell(out: &mut Out, names: &Names, rule: Rule) {
         Rule::Unstated => out.text("-"),
         Rule::Undefined => out.text("u"),
         Rule::SameValue => out.text("s"),
-        Rule::InRegister(register) => out.text(&names.text(u64::from(register))),
+        Rule::InRegister(register) => out.text(&names.both(u64::from(register))),
         Rule::Saved(offset) => out.text("c").offset(offset),
     };
 }

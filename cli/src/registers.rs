@@ -90,6 +90,14 @@ impl Names {
         self.known(register).map_or_else(|| format!("r{register}"), str::to_string)
     }
 
+    /// `r` and its number, and in brackets its name where it has one, as readelf writes a register that is an operand.
+    pub fn both(&self, register: u64) -> String {
+        match self.known(register) {
+            Some(name) => format!("r{register} ({name})"),
+            None => format!("r{register}"),
+        }
+    }
+
     /// The register of a name, of a number, or of `r` and a number.
     pub fn register(&self, text: &str) -> Option<u16> {
         let named = self.known.iter().position(|name| name.as_deref() == Some(text));
