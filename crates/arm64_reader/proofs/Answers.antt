@@ -273,5 +273,5 @@ module _ (word : ℕ) (s : List ℕ) (place : ℕ) (es cs : List ℕ) where
 
 -- the answer and both lists
 pub answers : {x y : Result Unwound} {r : Arm64Reading} {es es′ cs cs′ : List ℕ} → x ≡ y → Answered y r es es′ cs cs′
-    → (r ≡ readingOf x) × (es′ ≡ epiloguesAfter es x) × (cs′ ≡ codesAfter cs x)
-answers e a = rw e (a .reading, a .epilogues, a .codes)
+    → (r ≡ readingOf x) × ((es′ ≡ epiloguesAfter es x) × (cs′ ≡ codesAfter cs x))
+answers e a = rw e (a .reading, (a .epilogues, a .codes))

@@ -1,59 +1,47 @@
+-- `arm64_reader::unwind_read_arm64` meets its contract.
+use mathlib.Core.Path.{_≡_, refl, sym, ap, _∙_}
+use native.Mathlib.Omega.{arith}
 use borrow.Author.Needs.{needs}
+use lib.ListN.{length}
+use Rattle.arm64_reader.proofs.Answers.{refuses, answers, word-record, word-reserved, word-packed, word-wide}
 use Rattle.arm64_reader.proofs.unwind_read_arm64.Statement.{statement}
 use Rattle.arm64_reader.proofs.unwind_read_arm64.Tie as tie
-use Rattle.arm64_reader.proofs.unwind_read_arm64.Reads as reads
-use Rattle.arm64_reader.proofs.unwind_read_arm64.Lts as lts
-use Rattle.arm64_reader.proofs.packed.Reads as packed-reads
-use Rattle.arm64_reader.proofs.record.Reads as record-reads
-use Rattle.arm64_reader.proofs.refused.Reads as refused-reads
 
--- src/lib.rt:162:9
 record-requires : tie.Need-record-requires
 record-requires c κs = search needs
 
--- src/lib.rt:162:9
 same-length : tie.Need-same-length
 same-length c = search needs
 
--- src/lib.rt:162:9
 same-length-2 : tie.Need-same-length-2
 same-length-2 c = search needs
 
--- src/lib.rt:162:9
 returns : tie.Need-returns
-returns c = ?
+returns c = answers (word-record (c .before .before .before .before .before .before .before .before .before .before .before .args .word) (c .before .before .before .before .before .before .before .before .before .before .before .args .info .now) (c .before .before .before .before .before .before .before .before .before .before .before .args .place) (c .before .before .before .before .before .before .before .before .before .before .before .args .epilogues .now) (c .before .before .before .before .before .before .before .before .before .before .before .args .codes .now) (c .before .before .before .before .before .before .before .if1 .taken)) (c .before .before .before .before .«record» .ensures)
 
--- src/lib.rt:165:9
 refused-requires : tie.Need-refused-requires
 refused-requires c κs = search needs
 
--- src/lib.rt:165:9
 returns-2 : tie.Need-returns-2
-returns-2 c = ?
+returns-2 c = answers (word-reserved (c .before .before .before .before .before .before .args .word) (c .before .before .before .before .before .before .args .info .now) (c .before .before .before .before .before .before .args .place) (c .before .before .before .before .before .before .args .epilogues .now) (c .before .before .before .before .before .before .args .codes .now) (c .before .before .if1 .left) (c .before .if2 .taken)) (refuses refl (c .refused .ensures))
 
--- src/lib.rt:168:9
 packed-requires : tie.Need-packed-requires
 packed-requires c κs = search needs
 
--- src/lib.rt:168:9
 same-length-3 : tie.Need-same-length-3
 same-length-3 c = search needs
 
--- src/lib.rt:168:9
 same-length-4 : tie.Need-same-length-4
 same-length-4 c = search needs
 
--- src/lib.rt:168:9
 returns-3 : tie.Need-returns-3
-returns-3 c = ?
+returns-3 c = answers (word-packed (c .before .before .before .before .before .before .before .before .before .before .before .before .before .args .word) (c .before .before .before .before .before .before .before .before .before .before .before .before .before .args .info .now) (c .before .before .before .before .before .before .before .before .before .before .before .before .before .args .place) (c .before .before .before .before .before .before .before .before .before .before .before .before .before .args .epilogues .now) (c .before .before .before .before .before .before .before .before .before .before .before .before .before .args .codes .now) (c .before .before .before .before .before .before .before .before .before .if1 .left) (c .before .before .before .before .before .before .before .before .if2 .left) (c .before .before .before .before .before .before .before .if3 .taken)) (c .before .before .before .before .packed .ensures)
 
--- src/lib.rt:170:5
 refused-requires-2 : tie.Need-refused-requires-2
 refused-requires-2 c κs = search needs
 
--- src/lib.rt:149:1
 returns-4 : tie.Need-returns-4
-returns-4 c = ?
+returns-4 c = answers (word-wide (c .before .before .before .before .before .before .before .args .word) (c .before .before .before .before .before .before .before .args .info .now) (c .before .before .before .before .before .before .before .args .place) (c .before .before .before .before .before .before .before .args .epilogues .now) (c .before .before .before .before .before .before .before .args .codes .now) (c .before .before .before .if1 .left) (c .before .before .if2 .left) (c .before .if3 .left)) (refuses refl (c .refused2 .ensures))
 
 pub unwind-read-arm64-spec : {M : Type 1} → statement M
 unwind-read-arm64-spec =
