@@ -203,9 +203,9 @@ many-of s h {all} {m} t e =
     either (h .single) 0
     (λ l. let z : h .single ≡ 0 = omega arith in scoped-length (wordsFrom (h .past) s) (codesOf h s) 0 (h .count) all (sym (by-words s h refl z) ∙ e) ∙ sym (many-all h z))
     (λ l.
-      let n : h .single ≢ 0 = λ e. omega arith in
-      let y : all ≡ epilogue (4 * (h .length - suc m)) (codesIn (runAt (codesOf h s) (h .count))) ∷ [] = cc (one s h refl n t .same, e) in
-      ap length y ∙ sym (many-one h n))
+    let n : h .single ≢ 0 = λ e. omega arith in
+    let y : all ≡ epilogue (4 * (h .length - suc m)) (codesIn (runAt (codesOf h s) (h .count))) ∷ [] = cc (one s h refl n t .same, e) in
+    ap length y ∙ sym (many-one h n))
 
 -- what a record with codes says, where it says something
 unfoldable pub recorded : Header → List ℕ → List ℕ → Unwound

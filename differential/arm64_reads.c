@@ -5,7 +5,7 @@
 #include <stdlib.h>
 #include <string.h>
 
-#include "../include/unwind.h"
+#include "../include/dekvoz.h"
 
 static void numbers(const uint64_t *list, size_t count) {
     printf(" |");

@@ -1,4 +1,4 @@
-"""unwind_read_arm64 against arm64_reader.py: arm64.py COUNT SEED. Every record of a header and up to two bytes of codes, COUNT random records and
+"""unwind_read_arm64 against arm64_reader.py: arm64_reads.py COUNT SEED. Every record of a header and up to two bytes of codes, COUNT random records and
 as many damaged ones, and packed words: every one of some classes, and COUNT of the others."""
 import itertools
 import os
@@ -10,7 +10,7 @@ import arm64_reader as judge
 
 count, seed = int(sys.argv[1]), int(sys.argv[2])
 chance = random.Random(seed)
-ours = os.path.join(os.path.dirname(os.path.abspath(__file__)), "../target/differential/arm64")
+ours = os.path.join(os.path.dirname(os.path.abspath(__file__)), "../target/differential/arm64_reads")
 
 
 def word(n):
@@ -106,8 +106,8 @@ out = subprocess.run([ours], input="\n".join(lines) + "\n", capture_output=True,
 for line, want, got in zip(lines, wanted, out, strict=False):
     parts = [[int(n) for n in part.split()] for part in got.split("|")]
     if parts != [list(part) for part in want]:
-        sys.exit(f"arm64: {line}\n  ours   {parts}\n  judged {want}")
+        sys.exit(f"arm64_reads: {line}\n  ours   {parts}\n  judged {want}")
 numbers = sorted({want[0][0] for want in wanted})
 if len(out) != len(lines) + 1:
-    sys.exit(f"arm64: {len(out) - 1} answers to {len(lines)} cases")
-print(f"arm64: {len(lines)} cases, answers as judged; numbers {numbers}")
+    sys.exit(f"arm64_reads: {len(out) - 1} answers to {len(lines)} cases")
+print(f"arm64_reads: {len(lines)} cases, answers as judged; numbers {numbers}")
