@@ -65,9 +65,9 @@ pub enum Code {
 impl Code {
     /// A code by its three numbers: kind, register, offset. `None` where they are not ones that the reader gives.
     #[must_use]
-    pub fn of(numbers: &[u64; 3]) -> Option<Code> {
-        let (register, offset) = (u8::try_from(numbers[1]).ok()?, u32::try_from(numbers[2]).ok()?);
-        Some(match numbers[0] {
+    pub fn of(&[kind, register, offset]: &[u64; 3]) -> Option<Code> {
+        let (register, offset) = (u8::try_from(register).ok()?, u32::try_from(offset).ok()?);
+        Some(match kind {
             0 => Code::Alloc(offset),
             1 => Code::R19R20X(offset),
             2 => Code::Fplr(offset),
@@ -162,21 +162,22 @@ pub fn read(word: u32, info: &[u8], place: u64) -> Result<Unwound, Refusal> {
     let mut room = FIRST_ROOM;
     loop {
         // Each epilogue has a word in the record, but one that stands at the function's end.
-        let (mut epilogues, mut codes) = (vec![[0; 3]; room.min(info.len() / 4 + 1)], vec![[0; 3]; room]);
+        let (mut epilogues, mut codes) = (vec![[0; 3]; room.min((info.len() / 4).saturating_add(1))], vec![[0; 3]; room]);
         match read_lists(u64::from(word), info, place, &mut epilogues, &mut codes) {
             // A record has at most 65,535 epilogues and 1,020 codes of each, so there is an end to this.
-            Err(no) if no.number == 54 => room *= 4,
+            Err(no) if no.number == 54 => room = room.saturating_mul(4),
             Err(no) => return Err(no),
-            Ok(counts) => return Ok(unwound(counts, &epilogues[..counts.epilogues], &codes[..counts.codes])),
+            Ok(counts) => return Ok(unwound(counts, &epilogues, &codes)),
         }
     }
 }
 
 fn unwound(counts: Counts, epilogues: &[[u64; 3]], codes: &[[u64; 3]]) -> Unwound {
-    let coded = |at: usize, n: usize| codes[at..at + n].iter().filter_map(Code::of).collect();
+    let coded = |at: usize, n: usize| codes.iter().skip(at).take(n).filter_map(Code::of).collect();
+    let found = epilogues.iter().take(counts.epilogues);
     Unwound {
         length: counts.length,
         prologue: coded(0, counts.prologue),
-        epilogues: epilogues.iter().map(|e| Epilogue { start: e[0], codes: coded(e[1] as usize, e[2] as usize) }).collect(),
+        epilogues: found.map(|&[start, at, n]| Epilogue { start, codes: coded(at as usize, n as usize) }).collect(),
     }
 }
