@@ -1,4 +1,5 @@
 //! The reader of ARM64 unwind data: both forms, a refusal of each kind, and more epilogues than the first room holds.
+#![allow(clippy::unwrap_used, clippy::indexing_slicing, clippy::arithmetic_side_effects)]
 
 use dekvoz::arm64::{read, read_lists, Code, Epilogue};
 
