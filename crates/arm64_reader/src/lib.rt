@@ -2,14 +2,14 @@
 ghost use mathlib.Core.Path.{_≡_};
 ghost use mathlib.Core.Bool.{true};
 ghost use mathlib.Core.Logic.{_≢_};
-ghost use Prim.Native.Nat.{_+_, _*_, _≤_, _<_};
+ghost use Prim.Native.Nat.{_+_, _*_, _<_};
 ghost use lib.ListN.{length};
 ghost use Rattle.format.specs.Prelude.{bad, onward};
 ghost use Rattle.arm64.specs.Records.{codesFrom, codesOf};
 ghost use Rattle.arm64.specs.Packed.{packedOf, packedOk};
 ghost use Rattle.arm64.specs.Reader.{recordUnwound, fullRecord, fitsIn, packedUnwound, readArm64, readingOf, epiloguesAfter, codesAfter};
 ghost use Rattle.arm64_records.specs.Parts.{Inside};
-ghost use Rattle.arm64_packed.specs.Fields.{Small, Sound};
+ghost use Rattle.arm64_packed.specs.Fields.{Sound};
 ghost use Rattle.arm64_reader.specs.Answers.{Answered, found};
 use arm64::Arm64Reading;
 use arm64::Header;

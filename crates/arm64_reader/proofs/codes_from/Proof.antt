@@ -1,10 +1,7 @@
 -- `arm64_reader::codes_from` meets its contract.
-use mathlib.Core.Path.{_≡_, refl, sym, ap, _∙_}
-use mathlib.Core.Logic.{_≢_}
-use Prim.Native.Nat.{ℕ, _+_, _-_, _*_, _/_}
+use mathlib.Core.Path.{refl}
+use Prim.Native.Nat.{_-_}
 use native.Mathlib.Omega.{arith}
-use borrow.Author.Needs.{needs}
-use lib.ListN.{length}
 use Rattle.arm64.specs.Records.{codesFrom}
 use Rattle.arm64_records.proofs.Headers.{scopes-all, scopes-none}
 use Rattle.arm64_reader.proofs.codes_from.Statement.{statement}

@@ -1,9 +1,7 @@
 -- `arm64_reader::function` meets its contract.
-use Prim.Native.Nat.{ℕ, _+_}
-use mathlib.Core.Path.{_≡_, refl, sym, ap, _∙_}
+use mathlib.Core.Path.{refl}
 use native.Mathlib.Omega.{arith}
 use borrow.Author.Needs.{needs}
-use lib.ListN.{length}
 use Rattle.arm64.specs.Packed.{packedEpilogue}
 use Rattle.arm64.specs.Reader.{unwound}
 use Rattle.arm64_reader.proofs.Answers.{refuses, found-none, packedWhole, packed-late, packed-function, whole-counts, whole-stored, few-epilogues, few-codes, stored}
@@ -21,14 +19,14 @@ refused-requires c κs = search needs
 
 returns : tie.Need-returns
 unfolding packedEpilogue
-returns c = refuses (found-none (c .before .before .before .before .before .before .before .args .es .now) (c .before .before .before .before .before .before .before .args .cs .now) (packed-late (c .before .before .before .before .before .before .before .args .p) (c .before .before .before .before .before .before .before .pre .2) (c .before .before .before .before .before .before .before .pre .1) (omega (arith, c .before .if1 .taken, c .before .before .before .count-slots2 .ensures .0)))) (c .refused .ensures)
+returns c = let s = c .before .before .before .before .before .before .before in refuses (found-none (s .args .es .now) (s .args .cs .now) (packed-late (s .args .p) (s .pre .2) (s .pre .1) (omega (arith, c .before .if1 .taken, c .before .before .before .count-slots2 .ensures .0)))) (c .refused .ensures)
 
 refused-requires-2 : tie.Need-refused-requires-2
 refused-requires-2 c κs = search needs
 
 returns-2 : tie.Need-returns-2
 unfolding packedEpilogue
-returns-2 c = few-epilogues (c .before .before .before .before .before .before .before .before .args .es .now) (c .before .before .before .before .before .before .before .before .args .cs .now) (packed-function (c .before .before .before .before .before .before .before .before .args .p) (c .before .before .before .before .before .before .before .before .pre .2) (c .before .before .before .before .before .before .before .before .pre .1) (omega (arith, c .before .before .if1 .left, c .before .before .before .before .count-slots2 .ensures .0))) (whole-counts (c .before .before .before .before .before .before .before .before .args .p) (c .before .before .before .before .before .count-slots .ensures .0) (c .before .before .before .before .count-slots2 .ensures .0)) (omega (arith, c .before .if2 .taken)) (c .refused2 .ensures)
+returns-2 c = let s = c .before .before .before .before .before .before .before .before in few-epilogues (s .args .es .now) (s .args .cs .now) (packed-function (s .args .p) (s .pre .2) (s .pre .1) (omega (arith, c .before .before .if1 .left, c .before .before .before .before .count-slots2 .ensures .0))) (whole-counts (s .args .p) (c .before .before .before .before .before .count-slots .ensures .0) (c .before .before .before .before .count-slots2 .ensures .0)) (omega (arith, c .before .if2 .taken)) (c .refused2 .ensures)
 
 add-if3 : tie.Need-add-if3
 add-if3 c = search needs
@@ -38,7 +36,7 @@ refused-requires-3 c κs = search needs
 
 returns-3 : tie.Need-returns-3
 unfolding packedEpilogue
-returns-3 c = few-codes (c .before .before .before .before .before .before .before .before .before .args .es .now) (c .before .before .before .before .before .before .before .before .before .args .cs .now) (packed-function (c .before .before .before .before .before .before .before .before .before .args .p) (c .before .before .before .before .before .before .before .before .before .pre .2) (c .before .before .before .before .before .before .before .before .before .pre .1) (omega (arith, c .before .before .before .if1 .left, c .before .before .before .before .before .count-slots2 .ensures .0))) (whole-counts (c .before .before .before .before .before .before .before .before .before .args .p) (c .before .before .before .before .before .before .count-slots .ensures .0) (c .before .before .before .before .before .count-slots2 .ensures .0)) (omega (arith, c .before .before .if2 .left)) (c .before .if3 .taken) (c .refused3 .ensures)
+returns-3 c = let s = c .before .before .before .before .before .before .before .before .before in few-codes (s .args .es .now) (s .args .cs .now) (packed-function (s .args .p) (s .pre .2) (s .pre .1) (omega (arith, c .before .before .before .if1 .left, c .before .before .before .before .before .count-slots2 .ensures .0))) (whole-counts (s .args .p) (c .before .before .before .before .before .before .count-slots .ensures .0) (c .before .before .before .before .before .count-slots2 .ensures .0)) (omega (arith, c .before .before .if2 .left)) (c .before .if3 .taken) (c .refused3 .ensures)
 
 put-slots-requires : tie.Need-put-slots-requires
 put-slots-requires c κs = search needs
@@ -75,7 +73,7 @@ same-length-2 c = search needs
 
 returns-4 : tie.Need-returns-4
 unfolding packedEpilogue packedWhole unwound
-returns-4 c = stored (c .before .before .before .before .before .before .before .before .before .before .before .before .before .before .before .before .before .before .before .before .before .before .args .es .now) (c .before .before .before .before .before .before .before .before .before .before .before .before .before .before .before .before .before .before .before .before .before .before .args .cs .now) (packed-function (c .before .before .before .before .before .before .before .before .before .before .before .before .before .before .before .before .before .before .before .before .before .before .args .p) (c .before .before .before .before .before .before .before .before .before .before .before .before .before .before .before .before .before .before .before .before .before .before .pre .2) (c .before .before .before .before .before .before .before .before .before .before .before .before .before .before .before .before .before .before .before .before .before .before .pre .1) (omega (arith, c .before .before .before .before .before .before .before .before .before .before .before .before .before .before .before .before .if1 .left, c .before .before .before .before .before .before .before .before .before .before .before .before .before .before .before .before .before .before .count-slots2 .ensures .0))) (whole-counts (c .before .before .before .before .before .before .before .before .before .before .before .before .before .before .before .before .before .before .before .before .before .before .args .p) (c .before .before .before .before .before .before .before .before .before .before .before .before .before .before .before .before .before .before .before .count-slots .ensures .0) (c .before .before .before .before .before .before .before .before .before .before .before .before .before .before .before .before .before .before .count-slots2 .ensures .0)) (omega (arith, c .before .before .before .before .before .before .before .before .before .before .before .before .before .before .before .if2 .left)) (omega (arith, c .before .before .before .before .before .before .before .before .before .before .before .before .before .before .if3 .left)) refl (whole-stored (c .before .before .before .before .before .before .before .before .before .before .before .before .before .before .before .before .before .before .before .before .before .before .args .p) (c .before .before .before .before .before .before .before .before .before .before .before .before .before .before .before .before .before .before .before .count-slots .ensures .0) (c .before .before .before .before .before .before .before .before .before .before .before .before .before .before .before .before .before .before .count-slots2 .ensures .0) (c .before .before .before .put-three .ensures) (c .before .before .before .before .before .before .before .before .before .before .before .before .put-slots .ensures) (c .before .before .before .before .before .before .before .before .put-slots2 .ensures))
+returns-4 c = let s = c .before .before .before .before .before .before .before .before .before .before .before .before .before .before .before .before .before .before .before .before .before .before in stored (s .args .es .now) (s .args .cs .now) (packed-function (s .args .p) (s .pre .2) (s .pre .1) (omega (arith, c .before .before .before .before .before .before .before .before .before .before .before .before .before .before .before .before .if1 .left, c .before .before .before .before .before .before .before .before .before .before .before .before .before .before .before .before .before .before .count-slots2 .ensures .0))) (whole-counts (s .args .p) (c .before .before .before .before .before .before .before .before .before .before .before .before .before .before .before .before .before .before .before .count-slots .ensures .0) (c .before .before .before .before .before .before .before .before .before .before .before .before .before .before .before .before .before .before .count-slots2 .ensures .0)) (omega (arith, c .before .before .before .before .before .before .before .before .before .before .before .before .before .before .before .if2 .left)) (omega (arith, c .before .before .before .before .before .before .before .before .before .before .before .before .before .before .if3 .left)) refl (whole-stored (s .args .p) (c .before .before .before .before .before .before .before .before .before .before .before .before .before .before .before .before .before .before .before .count-slots .ensures .0) (c .before .before .before .before .before .before .before .before .before .before .before .before .before .before .before .before .before .before .count-slots2 .ensures .0) (c .before .before .before .put-three .ensures) (c .before .before .before .before .before .before .before .before .before .before .before .before .put-slots .ensures) (c .before .before .before .before .before .before .before .before .put-slots2 .ensures))
 
 pub function-spec : {M : Type 1} → statement M
 function-spec =

@@ -1,8 +1,6 @@
 -- `arm64_reader::packed` meets its contract.
-use mathlib.Core.Path.{_≡_, refl, sym, ap, _∙_}
-use native.Mathlib.Omega.{arith}
+use mathlib.Core.Path.{sym, _∙_}
 use borrow.Author.Needs.{needs}
-use lib.ListN.{length}
 use Rattle.arm64_reader.proofs.Answers.{refuses, found-none, packed-no}
 use Rattle.arm64_reader.proofs.packed.Statement.{statement}
 use Rattle.arm64_reader.proofs.packed.Tie as tie
@@ -41,7 +39,7 @@ refused-requires : tie.Need-refused-requires
 refused-requires c κs = search needs
 
 returns-3 : tie.Need-returns-3
-returns-3 c = rw (← c .before .before .before .packed-of .ensures .0) (refuses (found-none (c .before .before .before .before .before .before .args .es .now) (c .before .before .before .before .before .before .args .cs .now) (packed-no (c .before .before .before .packed-of .result) (sym (c .before .before .packed-ok .ensures .0) ∙ c .before .if1 .left))) (c .refused .ensures))
+returns-3 c = let s = c .before .before .before .before .before .before in rw (← c .before .before .before .packed-of .ensures .0) (refuses (found-none (s .args .es .now) (s .args .cs .now) (packed-no (c .before .before .before .packed-of .result) (sym (c .before .before .packed-ok .ensures .0) ∙ c .before .if1 .left))) (c .refused .ensures))
 
 pub packed-spec : {M : Type 1} → statement M
 packed-spec =

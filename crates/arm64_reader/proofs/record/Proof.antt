@@ -1,10 +1,8 @@
 -- `arm64_reader::record` meets its contract.
-use Prim.Native.Nat.{ℕ, _+_, _*_}
-use mathlib.Core.Path.{_≡_, refl, sym, ap, _∙_}
+use mathlib.Core.Path.{sym, _∙_}
 use native.Mathlib.Omega.{arith}
 use borrow.Author.Needs.{needs}
-use lib.ListN.{length}
-use Rattle.arm64.specs.Records.{codesFrom, codesTo}
+use Rattle.arm64.specs.Records.{codesTo}
 use Rattle.arm64_records.specs.Parts.{Inside}
 use Rattle.arm64_reader.proofs.Answers.{refuses, no-record, by-header, codes-taken}
 use Rattle.arm64_reader.proofs.record.Statement.{statement}
@@ -23,7 +21,7 @@ refused-requires : tie.Need-refused-requires
 refused-requires c κs = search needs
 
 returns : tie.Need-returns
-returns c = refuses (no-record (c .before .before .before .before .before .before .before .args .s .now) (c .before .before .before .before .before .before .before .args .place) (c .before .before .before .before .before .before .before .args .es .now) (c .before .before .before .before .before .before .before .args .cs .now) (sym (c .before .enum-told .given .1) ∙ c .before .before .before .header .ensures .0)) (c .refused .ensures)
+returns c = let s = c .before .before .before .before .before .before .before in refuses (no-record (s .args .s .now) (s .args .place) (s .args .es .now) (s .args .cs .now) (sym (c .before .enum-told .given .1) ∙ c .before .before .before .header .ensures .0)) (c .refused .ensures)
 
 inside : (c : tie.After-h) → Inside (c .before .before .before .before .before .before .args .s .now) (c .h .given .0 .0)
 inside c = rw (c .h .given .1) at (c .before .before .header .ensures .1)
@@ -59,7 +57,7 @@ same-length-2 : tie.Need-same-length-2
 same-length-2 c = search needs
 
 returns-2 : tie.Need-returns-2
-returns-2 c = rw (by-header (c .before .before .before .before .before .before .before .before .before .before .before .before .before .before .before .before .args .s .now) (c .before .before .before .before .before .before .before .before .before .before .before .before .before .before .before .before .args .place) (c .before .before .before .before .before .before .before .before .before .before .before .before .before .before .before .before .args .es .now) (c .before .before .before .before .before .before .before .before .before .before .before .before .before .before .before .before .args .cs .now) (sym (c .before .before .before .before .before .before .before .before .before .before .h .given .1) ∙ c .before .before .before .before .before .before .before .before .before .before .before .before .header .ensures .0)) (c .before .before .before .before .record-with .ensures)
+returns-2 c = let s = c .before .before .before .before .before .before .before .before .before .before .before .before .before .before .before .before in rw (by-header (s .args .s .now) (s .args .place) (s .args .es .now) (s .args .cs .now) (sym (c .before .before .before .before .before .before .before .before .before .before .h .given .1) ∙ c .before .before .before .before .before .before .before .before .before .before .before .before .header .ensures .0)) (c .before .before .before .before .record-with .ensures)
 
 pub record-spec : {M : Type 1} → statement M
 record-spec =
