@@ -1,5 +1,5 @@
 /* Unwind tables: the writers of ELF's eh_frame and debug_frame and of Windows x64 unwind data, the row check, the reader of the
- * DWARF sections, the reader of call sites, and the reader of x64 unwind data.
+ * DWARF sections, the reader of call sites, and the readers of Windows unwind data for x64 and for ARM64.
  *
  * Every function takes every input: a refusal comes back as the number of the question that was answered by no, and every
  * lent buffer is then as it was. An accepted call leaves what lies past its results as it was. No input is changed.
@@ -47,13 +47,15 @@ extern "C" {
  *   31 frame pointer set after the frame is taken   32 frame not counted from a scratch register   33 group readable
  *   34 registers below 16   35 offsets to 255   36 allocation positive, a multiple of 8   37 below 2^32   38 save not below the
  *   frame   39 below 2^32   40 slots to 255   41 frame offset 0 to 240, a multiple of 16
- *   51 places or markers fit   52 bytes   53 relocations   54 call sites or x64 info; structs: the list for numbers; x64
- *   reader: the list for codes; index: the list for places
+ *   51 places or markers fit   52 bytes   53 relocations   54 call sites or x64 info; structs: the list for numbers; readers of
+ *   Windows unwind data: the lists for codes and epilogues; index: the list for places
  *   61 lengths tile   62 record k   63 its header   64 fields of both   65 p below the length   66 operations
  *   67 a state to restore, no Restore in a header   68 at most 16 states stored   69 a frame address rule to change
  *   71 a table of call sites: place inside, head ff ff 01, its length readable and to the end   72 its entries: complete, readable,
  *   start plus length below 2^64
  *   76 x64 header: version 1, no flags, all four bytes and all slots there   77 x64 codes: complete, operations that unwind_seh writes
+ *   ARM64: 76 a record: version 0, no part past the end   77 the flag and the packed word are defined; codes: complete, each run ended,
+ *   of the kinds below; an epilogue at the end is not longer than the function
  *   78 eh_frame of a format that is written: not Mach-O
  *   79 relocations of the writers' kinds and sizes, with their partners and addresses, fields inside, values that fit
  *   80 the distance of a Set and Sub pair fits
@@ -219,6 +221,22 @@ typedef struct {
  * register reads as the integer one of its number. */
 unwind_x64_reading unwind_read_x64(
     const uint8_t *info, size_t info_n, uint64_t place, uint64_t *codes, size_t codes_n);
+
+/* What the reader of ARM64 unwind data answers: `number` is 0, or the question's (76, 77, then 54). length: the function's, in bytes.
+ * prologue: how many codes the prologue has; epilogues: how many there are; codes: all of them, the prologue's and the epilogues'. All
+ * are 0 on a refusal. */
+typedef struct {
+    uint64_t number, length, prologue, epilogues, codes;
+} unwind_arm64_reading;
+
+/* What the second word of an ARM64 entry says: packed, by itself; else the record at a place of the info. epilogues: three numbers each,
+ * the start in bytes from the function's, which code is its first, and how many it has. codes: three numbers each, kind, register (x19
+ * is 19, d8 is 8) and offset or size in bytes, in the order of the instructions: the prologue's, then each epilogue's own. Kinds:
+ * 0 Alloc, 1 R19R20X, 2 Fplr, 3 FplrX, 4 Regp, 5 RegpX, 6 Reg, 7 RegX, 8 Lrpair, 9 Fregp, 10 FregpX, 11 Freg, 12 FregX, 13 SetFp,
+ * 14 AddFp, 15 Nop, 16 SaveNext, 17 PacSignLr. An operand that a code's kind does not have is 0. */
+unwind_arm64_reading unwind_read_arm64(
+    uint64_t word, const uint8_t *info, size_t info_n, uint64_t place,
+    uint64_t *epilogues, size_t epilogues_n, uint64_t *codes, size_t codes_n);
 
 /* ---- a section taken apart. Kinds and words are unwind_read's; a place and a position are counts of bytes from the section's start. */
 

@@ -1,6 +1,6 @@
 //! Unwind tables: writers of ELF's eh_frame and debug_frame and of Windows x64 unwind data, a reader of the
-//! DWARF ones, one of call sites and one of the x64 records. Safe wrappers over libdekvoz.a, whose functions are proved to give exactly what their
-//! specification says.
+//! DWARF ones, one of call sites, and readers of Windows unwind data for x64 and for ARM64 ([`arm64`]). Safe wrappers over libdekvoz.a,
+//! whose functions are proved to give exactly what their specification says.
 //!
 //! Every function takes every input. A refusal is a [`Refusal`]: the number of the question that was answered by no, and the
 //! function's position. The writers of this page make their own buffers; [`lists`] has the same entries over lists of numbers
@@ -31,6 +31,7 @@
 
 extern crate alloc;
 
+pub mod arm64;
 mod builder;
 mod check;
 pub mod lists;

@@ -84,9 +84,9 @@ pub enum Question {
     CallSiteTable,
     /// 72: an entry of the table of call sites is cut off, or its end is above 2^64 - 1.
     CallSites,
-    /// 76: no x64 record of version 1 without flags stands there, or it is cut off.
+    /// 76: no x64 record of version 1 without flags, or ARM64 record of version 0, stands there, or it is cut off.
     X64Header,
-    /// 77: an x64 code is cut off, or not one that these tables use.
+    /// 77: an x64 or ARM64 code is cut off, or not one that these tables use; or an ARM64 entry's word is not defined.
     X64Codes,
     /// 78: eh_frame of Mach-O is not written any more.
     MachO,

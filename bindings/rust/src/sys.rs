@@ -84,6 +84,16 @@ pub(crate) struct X64Reading {
     pub codes: u64,
 }
 
+/// What the reader of ARM64 unwind data answers.
+#[repr(C)]
+pub(crate) struct Arm64Reading {
+    pub number: u64,
+    pub length: u64,
+    pub prologue: u64,
+    pub epilogues: u64,
+    pub codes: u64,
+}
+
 /// What stands at a position.
 #[repr(C)]
 pub(crate) struct Entry {
@@ -162,6 +172,17 @@ extern "C" {
     pub(crate) fn unwind_call_site(sites: *const u8, sites_n: usize, place: u64, offset: u64) -> Site;
 
     pub(crate) fn unwind_read_x64(info: *const u8, info_n: usize, place: u64, codes: *mut u64, codes_n: usize) -> X64Reading;
+
+    pub(crate) fn unwind_read_arm64(
+        word: u64,
+        info: *const u8,
+        info_n: usize,
+        place: u64,
+        epilogues: *mut u64,
+        epilogues_n: usize,
+        codes: *mut u64,
+        codes_n: usize,
+    ) -> Arm64Reading;
 
     pub(crate) fn unwind_relaxed_table(
         machine: *const u64,

@@ -1,0 +1,2 @@
+-- The answer of a reader.
+pub mod Answers
