@@ -1,0 +1,2 @@
+-- An eh_frame section that was written, put in place and read.
+pub mod StepsBack
