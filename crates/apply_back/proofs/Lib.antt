@@ -1,2 +1,3 @@
 -- An eh_frame section that was written, put in place and read.
 pub mod StepsBack
+pub mod Stretches
