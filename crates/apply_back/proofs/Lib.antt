@@ -1,3 +1,4 @@
 -- An eh_frame section that was written, put in place and read.
 pub mod StepsBack
 pub mod Stretches
+pub mod Fills
