@@ -2,3 +2,4 @@
 pub mod StepsBack
 pub mod Stretches
 pub mod Fills
+pub mod Pairs
