@@ -3,3 +3,4 @@ pub mod StepsBack
 pub mod Stretches
 pub mod Fills
 pub mod Pairs
+pub mod Blanks
