@@ -4,3 +4,4 @@ pub mod Stretches
 pub mod Fills
 pub mod Pairs
 pub mod Blanks
+pub mod RecordPlaced

@@ -191,6 +191,12 @@ unfolding stepWith stepBytes
 step-length written n =
     tested (eqb written 0) (λ t. simp pick-yes) (λ t. simp pick-no (same-form (stepForm written) n written))
 
+pub steps-length : (w : ℕ) (ss : List (ℕ × ℕ)) (ps : List Pair) (from : ℕ) (xs : List RowAt) → length (steppedWith w ss ps from xs) ≡ length (steppedBytes w from xs)
+unfolding steppedWith steppedBytes
+steps-length w ss ps from [] = refl
+steps-length w ss ps from (x ∷ xs) =
+    simp (length-append, step-length (x .0 - from) (newStep ss ps from (x .0)), steps-length w ss ps (x .0) xs)
+
 module _ (l : Layout) (size : ℕ) where
   step-fills : (o : Option Pair) (place from to : ℕ) → from ≤ to → to - from < 2 ^ 32 → ((p : Pair) → o ≡ some p → from ≢ to)
       → Fills l size (setPair place (stepForm (to - from)) o) place (stepBytes (to - from)) (stepWith (to - from) (stepOr (l .symbols) (to - from) o))
