@@ -5,3 +5,4 @@ pub mod Fills
 pub mod Pairs
 pub mod Blanks
 pub mod RecordPlaced
+pub mod HeaderPlaced
