@@ -6,3 +6,5 @@ pub mod Pairs
 pub mod Blanks
 pub mod RecordPlaced
 pub mod HeaderPlaced
+pub mod SectionPlaced
+pub mod Alike

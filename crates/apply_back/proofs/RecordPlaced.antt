@@ -23,6 +23,7 @@ use Rattle.format.proofs.LebSteps.{uleb-last}
 use Rattle.format.proofs.FieldsBack.{word-small, counted-back, second-back}
 use Rattle.format.proofs.EntryBack.{padded-behind}
 use Rattle.format.proofs.RecordBack.{blank-small}
+use Rattle.format.proofs.Parts.{recordBody, record-entry}
 use Rattle.format.proofs.Fits.{MachineFits, FunctionFits}
 use Rattle.format.proofs.Leading.{others-ok}
 use Rattle.format.proofs.RelocsInside.{eh-length}
@@ -139,11 +140,15 @@ module _ (l : Layout) (size : ℕ) (m : Machine) (fit : MachineFits m) (align at
   abbrev oldBody : List ℕ
   oldBody = fieldsWith distance (replicate 4 0) (sizeField (f .size) (f .relaxed)) (replicate blanks 0) ++ (written ++ zeros)
 
-  old-is : recordBytes false m align at cie f ≡ little 4 (length oldBody) ++ oldBody
-  unfolding recordBytes recordFields fieldsWith entry
-  old-is = ap entry (padded-behind align at (recordFields false word distance f) written)
+  pub body-is : recordBody false m align at cie f ≡ oldBody
+  unfolding recordBody recordFields fieldsWith
+  body-is = padded-behind align at (recordFields false word distance f) written
 
-  pub same-length : length placedBody ≡ length oldBody
+  old-is : recordBytes false m align at cie f ≡ little 4 (length oldBody) ++ oldBody
+  unfolding entry
+  old-is = record-entry false m align at cie f ∙ ap entry body-is
+
+  same-length : length placedBody ≡ length oldBody
   unfolding placedBody
   same-length =
       let n : length {A = ℕ} (replicate blanks 0) ≡ blanks = length-replicate blanks 0 in
@@ -159,6 +164,9 @@ module _ (l : Layout) (size : ℕ) (m : Machine) (fit : MachineFits m) (align at
         c,
         steps-length word (l .symbols) (pairsOf (f .relaxed)) 0 (others (f .rows)),
       )
+
+  pub record-length : length placedBody ≡ length (recordBody false m align at cie f)
+  record-length = same-length ∙ ap length (sym body-is)
 
   pub record-fills : T (pairsOk (f .relaxed)) → Fills l size (recordRelocs false m at cie table f) at (recordBytes false m align at cie f) (entry placedBody)
   unfolding recordRelocs entry placedBody newLength pick
