@@ -8,3 +8,4 @@ pub mod RecordPlaced
 pub mod HeaderPlaced
 pub mod SectionPlaced
 pub mod Alike
+pub mod SectionRead
