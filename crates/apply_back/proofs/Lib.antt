@@ -9,3 +9,4 @@ pub mod HeaderPlaced
 pub mod SectionPlaced
 pub mod Alike
 pub mod SectionRead
+pub mod MovedBack
