@@ -10,3 +10,4 @@ pub mod SectionPlaced
 pub mod Alike
 pub mod SectionRead
 pub mod MovedBack
+pub mod Examples
