@@ -47,14 +47,15 @@ module _ (l : Layout) (size : ℕ) (m : Machine) (fit : MachineFits m) where
   front-alike : (o : Option ℕ) (align at : ℕ) (k : Key) (ok : HeaderOk false m k)
       → Alikes word (frontEntries Elf m o align at k) (frontPlaced l size m fit o align at k ok)
   unfolding isDebug frontEntries frontPlaced headerEntry
-  front-alike none align at k ok =
-      (record {
-        same-place = refl;
-        same-length = same-length l size m align at k ok;
-        same-second = same-second l size m align at k ok;
-        same-header = λ t. same-fields l size m align at k ok;
-      },
-      tt)
+  front-alike none align at k ok = (
+    record {
+      same-place = refl;
+      same-length = same-length l size m align at k ok;
+      same-second = same-second l size m align at k ok;
+      same-header = λ t. same-fields l size m align at k ok;
+    },
+    tt,
+  )
   front-alike (some cie) align at k ok = tt
 
   record-alike : (x : Spot) (sites : ℕ) (f : Function) (ok : FunctionFits Elf m f) → Holds Elf m x f → Alike word (recordEntry Elf m x f) (recordPlaced l size m fit x sites f ok)
@@ -139,11 +140,12 @@ module _ (l : Layout) (size : ℕ) (m : Machine) (fit : MachineFits m) where
       let table : ℕ = sites + sitePad sites in
       let place = placeFilled l size m fit (x .align) at (cieOf x) table f ok in
       let pointer = pointerFilled l size m fit (x .align) at (cieOf x) table f ok in
-      let w : (0 < word) × (word ≤ 8) = word-small word (fit .is-word) in
-      (padding (x .align) (at + 4 + length (recordFields false word (at + 4 - cieOf x) f ++ steppedBytes word 0 (others (f .rows)))),
-      fields-read word (pointerIn false word (kindFor (f .landings) (f .named))) (at + 4 - cieOf x) (newLength (l .symbols) f) (place .0) (pointer .0) _ (place .1 .0) (h .distance) small
-      (omega (arith, pointer .1 .0, pointer-within false word (f .landings) (f .named)))
-      (omega (arith, pointer .1 .0, blank-small word (f .landings) (f .named) (w .1))))
+      let w : (0 < word) × (word ≤ 8) = word-small word (fit .is-word) in (
+        padding (x .align) (at + 4 + length (recordFields false word (at + 4 - cieOf x) f ++ steppedBytes word 0 (others (f .rows)))),
+        fields-read word (pointerIn false word (kindFor (f .landings) (f .named))) (at + 4 - cieOf x) (newLength (l .symbols) f) (place .0) (pointer .0) _ (place .1 .0) (h .distance) small
+            (omega (arith, pointer .1 .0, pointer-within false word (f .landings) (f .named)))
+            (omega (arith, pointer .1 .0, blank-small word (f .landings) (f .named) (w .1))),
+      )
 
   header-read : (align at : ℕ) (f : Function) → FunctionFits Elf m f
       → (a : ℕ) × (parseHeader false word (headerEntry false m align at (keyOf m f) .body)
