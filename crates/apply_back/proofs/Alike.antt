@@ -1,26 +1,26 @@
 -- Two lists of entries that are alike: the same places, lengths and second fields, and headers of which the reader makes the same.
 use mathlib.Core.Path.{_≡_, refl, sym, ap, subst, _∙_}
-use mathlib.Core.Bool.{Bool, true, false, not, _&&_}
+use mathlib.Core.Bool.{Bool, false, _&&_}
 use mathlib.Core.Option.{Option, none, some}
 use mathlib.Core.List.{List, [], _∷_, _++_}
-use Prim.Native.Nat.{ℕ, zero, suc, _+_, _-_, _^_, _<_, _≤_}
+use Prim.Native.Nat.{ℕ, _+_, _-_, _^_, _<_, _≤_}
 use native.Mathlib.Nat.{le-refl, add-zero}
 use native.Mathlib.Omega.{arith}
-use lib.Dec.{T, eqb, ltb, leb}
+use lib.Dec.{T, eqb, ltb}
 use lib.ListN.{length}
-use Rattle.format.specs.Prelude.{pick, first}
+use Rattle.format.specs.Prelude.{first}
 use Rattle.format.specs.declared.Machine.{Machine}
 use Rattle.format.specs.declared.Section.{Section}
 use Rattle.format.specs.Headers.{Key, keyOf, headerId}
 use Rattle.format.specs.Lists.{Function}
 use Rattle.format.specs.Writer.{isDebug, Seen}
-use Rattle.format.specs.Reader.{Entry, entries, second, isHeader, records, distanceBack, headerAt, parseHeader}
+use Rattle.format.specs.Reader.{Entry, entries, second, isHeader, distanceBack, headerAt, parseHeader}
 use Rattle.format.proofs.Choice.{pick-yes, pick-no, tested}
 use Rattle.format.proofs.EntryBack.{entry-length, padded-behind}
 use Rattle.format.proofs.HeaderBack.{header-long}
 use Rattle.format.proofs.RecordBack.{record-long}
 use Rattle.format.proofs.Parts.{headerBody, recordBody, header-entry, Spot, cieOf, spotOf, frontFor, frontOf, placeOf, bodyOf, nextAt, nextSeen}
-use Rattle.format.proofs.SectionTiles.{headerEntry, frontEntries, recordEntry, entriesOf, Holds, FieldsHold, place-next, Tiles, tile, ends}
+use Rattle.format.proofs.SectionTiles.{headerEntry, frontEntries, recordEntry, entriesOf, FieldsHold, place-next, Tiles, tile, ends}
 use Rattle.apply_back.proofs.SectionPlaced.{flat}
 
 pub record Alike (word : ℕ) (e d : Entry) : Type 0 where

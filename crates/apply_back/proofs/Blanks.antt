@@ -1,6 +1,6 @@
 -- Blank pointers that one relocation fills: afterwards some bytes stand there, as many as before.
 use mathlib.Core.Path.{_≡_, refl, sym, ap, subst, _∙_}
-use mathlib.Core.Bool.{Bool, true, false, not, _||_}
+use mathlib.Core.Bool.{Bool, true, false}
 use mathlib.Core.Option.{Option, none, some}
 use mathlib.Core.List.{List, [], _∷_, _++_, append-assoc}
 use Prim.Native.Nat.{ℕ, _+_, _-_, _%_, _<_, _≤_}
@@ -26,7 +26,7 @@ use Rattle.apply.specs.Values.{Layout, valueAs, storeAs, storeOf}
 use Rattle.apply.specs.Apply.{front, measured, valueOk, stores}
 use Rattle.apply_back.specs.Moved.{orZero}
 use Rattle.apply_back.proofs.Stretches.{put-at}
-use Rattle.apply_back.proofs.Fills.{Passes, value-first, Fills, fills-none}
+use Rattle.apply_back.proofs.Fills.{value-first, Fills, fills-none}
 
 -- a relocation with a value of its own
 abbrev Single : kind.Kind → Type 0

@@ -1,7 +1,7 @@
 -- A worked example, computed from the definitions: a function of 20 bytes with rows at 8 and 12, whose labels at its start (16) and at 8 (17) a
 -- linker brings together from 8 bytes to 4, and whose end label (18) comes to stand at 14.
 use mathlib.Core.Path.{_≡_, refl}
-use mathlib.Core.Bool.{true, false}
+use mathlib.Core.Bool.{false}
 use mathlib.Core.Option.{none, some}
 use mathlib.Core.List.{List, [], _∷_}
 use Prim.Native.Nat.{ℕ}
@@ -15,14 +15,14 @@ use Rattle.format.specs.declared.Reading.the-variants.{Answered, Refused}
 use Rattle.format.specs.CallSites.{siteAdded, siteBytes, sitePad, siteTable, sitesBytes}
 use Rattle.format.specs.Headers.{ahead, augmentation, augmentationData, counted, dataFactor, encodingOf, entry, headerBytes, headerData, headerFields, headerId, headerRelocs, implied, keyOf, kindFor, kindRelocs, leading, leads, letters, lsdaLetter, namedKind, others, padded, padding, pointerBytes, pointerPlace, pointerReloc, pointerSize, sameEncoding, sameKey, sameKind, sameRows, sizeOf, sizeOr0}
 use Rattle.format.specs.Leb.{bits7, fits64, last7, little, push, readLittle, readSleb, readSlebF, readUleb, readUlebF, sleb, slebF, uleb, ulebF}
-use Rattle.format.specs.Lists.{allIn, codeAt, codeOf, codeOk, codeOkAt, codesOk, functionAt, functionOkAt, functionsOf, hasOffset, hasRegister, inside, landingAt, listsOk, mark, markOk, numbersOf, optional, pairAt, pairOkAt, pairsIn, pointerOk, prologueAt, prologueOkAt, prologuesOf, relocationAt, relocationsOf, rowAt, rowOf, rowOk, rowOkAt, secondOperands, sumOf, symbolOk, whenMarked, Function}
-use Rattle.format.specs.Machine.{isWord, machineOf, machineOk, registerOf, x8664}
-use Rattle.format.specs.Prelude.{after, all, each, first, next, onward, orElse, pick, Result, good}
+use Rattle.format.specs.Lists.{numbersOf, relocationAt, relocationsOf, Function}
+use Rattle.format.specs.Machine.{isWord, x8664}
+use Rattle.format.specs.Prelude.{after, all, each, first, next, onward, orElse, pick, good}
 use Rattle.format.specs.Put.{put}
 use Rattle.format.specs.Questions.{isSome}
 use Rattle.format.specs.Reader.{distanceBack, entries, entriesF, firstAddend, headerAt, headerPlace, headerTail, isHeader, lettersIn, locate, lsdaIn, parseHeader, parseRecord, parsed, perform, personalityIn, read, readByte, readCounted, readEntry, readLetters, readMany, readSection, recordTail, records, require, run, runF, runTo, second, spellOr, spelled, spellings, strip, valueOr0, whenRead}
 use Rattle.format.specs.Records.{lsdaBlank, lsdaReloc, namedBlank, namedReloc, pairFor, pointerBlank, pointerTo, recordBytes, recordFields, recordRelocs, rowRelocs, setBytes, setKind, setPair, setPlace, sizeField, stepRelocs, sumPair}
-use Rattle.format.specs.Rows.{cfaBytes, factor, inRange, kindOf, offsetOf, one, readExtended, readFactored, readOffset, readOperation, readRegister, readSigned, regOf, rowBytes, rowWhole, rowsBytes, sameOffset, sameRow, savedBytes, stepBytes, stepForm, stepIn, steppedBytes, two, unfactor, whole, wholeBelow, withRegister, RowAt}
+use Rattle.format.specs.Rows.{cfaBytes, factor, inRange, kindOf, offsetOf, one, readExtended, readFactored, readOffset, readOperation, readRegister, readSigned, regOf, rowBytes, rowsBytes, sameOffset, sameRow, savedBytes, stepBytes, stepForm, stepIn, steppedBytes, two, unfactor, withRegister}
 use Rattle.format.specs.Rules.{act, answer, apply, applyRows, blank, entryState, negated, refusal, reoffset, reregister, restored, rulesFor, seen, unlessRefused, upTo, withCfa, withRule, withoutCfa, withoutStored}
 use Rattle.format.specs.Writer.{alignFor, dwarf, isDebug, isEmpty, joined, partOf, partWith, partsFrom, partsOf, placeIn, taken, withoutExceptions}
 use Rattle.apply.specs.Kinds.{kindOf as kindBy, sizeOk}
@@ -72,11 +72,11 @@ unfolding newLength lengthIn between orZero addressOf symbolsOf symbolAt pick af
 length-is = refl
 
 writes-bytes : dwarf Elf x8664 (shortened ∷ []) .bytes ≡ bytes
-unfolding pick next after all first each little ulebF uleb bits7 slebF sleb fits64 isWord factor cfaBytes withRegister savedBytes rowBytes stepIn stepForm stepBytes steppedBytes rowsBytes unfactor readRegister inRange readOffset readFactored readSigned one two readExtended readOperation whole wholeBelow rowWhole sameOffset kindOf regOf offsetOf sameRow relocationAt relocationsOf numbersOf implied leads ahead others leading encodingOf namedKind kindFor keyOf sameEncoding sameKind sameRows sameKey sizeOf pointerSize sizeOr0 pointerBytes pointerReloc padding padded entry letters augmentation lsdaLetter augmentationData counted headerData headerId dataFactor headerFields headerBytes pointerPlace kindRelocs headerRelocs siteBytes sitesBytes siteTable sitePad siteAdded pointerBlank namedBlank lsdaBlank pointerTo namedReloc lsdaReloc sizeField recordFields recordBytes sumPair pairFor setKind setBytes setPlace setPair stepRelocs rowRelocs recordRelocs isSome isDebug withoutExceptions taken alignFor placeIn partWith partOf isEmpty partsFrom joined partsOf dwarf
+unfolding pick next after first each little ulebF uleb bits7 slebF sleb factor cfaBytes withRegister savedBytes rowBytes stepIn stepForm stepBytes steppedBytes rowsBytes kindOf regOf offsetOf sameRow numbersOf implied leads ahead others leading encodingOf namedKind kindFor keyOf sameEncoding sameKind sameRows sameKey sizeOf sizeOr0 pointerBytes pointerReloc padding padded entry letters augmentation lsdaLetter augmentationData counted headerData headerId dataFactor headerFields headerBytes pointerPlace kindRelocs headerRelocs siteBytes sitesBytes siteTable sitePad siteAdded pointerBlank namedBlank lsdaBlank pointerTo namedReloc lsdaReloc sizeField recordFields recordBytes sumPair pairFor setKind setBytes setPlace setPair stepRelocs rowRelocs recordRelocs isDebug withoutExceptions taken alignFor placeIn partWith partOf isEmpty partsFrom joined partsOf dwarf
 writes-bytes = refl
 
 writes-relocations : numbersOf (dwarf Elf x8664 (shortened ∷ []) .relocations) ≡ relocations
-unfolding pick next after all first each little ulebF uleb bits7 slebF sleb fits64 isWord factor cfaBytes withRegister savedBytes rowBytes stepIn stepForm stepBytes steppedBytes rowsBytes unfactor readRegister inRange readOffset readFactored readSigned one two readExtended readOperation whole wholeBelow rowWhole sameOffset kindOf regOf offsetOf sameRow relocationAt relocationsOf numbersOf implied leads ahead others leading encodingOf namedKind kindFor keyOf sameEncoding sameKind sameRows sameKey sizeOf pointerSize sizeOr0 pointerBytes pointerReloc padding padded entry letters augmentation lsdaLetter augmentationData counted headerData headerId dataFactor headerFields headerBytes pointerPlace kindRelocs headerRelocs siteBytes sitesBytes siteTable sitePad siteAdded pointerBlank namedBlank lsdaBlank pointerTo namedReloc lsdaReloc sizeField recordFields recordBytes sumPair pairFor setKind setBytes setPlace setPair stepRelocs rowRelocs recordRelocs isSome isDebug withoutExceptions taken alignFor placeIn partWith partOf isEmpty partsFrom joined partsOf dwarf
+unfolding pick next after first each little ulebF uleb bits7 slebF sleb factor cfaBytes withRegister savedBytes rowBytes stepIn stepForm stepBytes steppedBytes rowsBytes kindOf regOf offsetOf sameRow numbersOf implied leads ahead others leading encodingOf namedKind kindFor keyOf sameEncoding sameKind sameRows sameKey sizeOf sizeOr0 pointerBytes pointerReloc padding padded entry letters augmentation lsdaLetter augmentationData counted headerData headerId dataFactor headerFields headerBytes pointerPlace kindRelocs headerRelocs siteBytes sitesBytes siteTable sitePad siteAdded pointerBlank namedBlank lsdaBlank pointerTo namedReloc lsdaReloc sizeField recordFields recordBytes sumPair pairFor setKind setBytes setPlace setPair stepRelocs rowRelocs recordRelocs isDebug withoutExceptions taken alignFor placeIn partWith partOf isEmpty partsFrom joined partsOf dwarf
 writes-relocations = refl
 
 puts : putInPlace bytes relocations addresses 0x2000 0 48 ≡ good placed
@@ -89,7 +89,7 @@ frame n = Answered (record { cfa = register 7 (pos n); rule = Unstated; signing 
 
 reads : read placed [] 0 8 0 6 3 ∷ read placed [] 0 8 0 6 4 ∷ read placed [] 0 8 0 6 7 ∷ read placed [] 0 8 0 6 8 ∷ read placed [] 0 8 0 6 13 ∷ read placed [] 0 8 0 6 14 ∷ []
     ≡ frame 8 ∷ frame 16 ∷ frame 16 ∷ frame 8 ∷ frame 8 ∷ Refused 65 ∷ []
-unfolding pick next after onward orElse all first each little readLittle ulebF uleb bits7 slebF sleb readUlebF readUleb push last7 readSlebF fits64 readSleb factor cfaBytes withRegister savedBytes rowBytes stepIn stepForm stepBytes steppedBytes rowsBytes unfactor readRegister inRange readOffset readFactored readSigned one two readExtended readOperation whole wholeBelow rowWhole sameOffset kindOf regOf offsetOf sameRow mark rowOf rowAt landingAt pairAt codeOf codeAt optional functionAt functionsOf prologueAt prologuesOf relocationAt relocationsOf numbersOf inside symbolOk markOk whenMarked hasRegister hasOffset secondOperands rowOk rowOkAt pairOkAt codeOk codeOkAt allIn pointerOk functionOkAt prologueOkAt sumOf pairsIn listsOk codesOk implied leads ahead others leading encodingOf namedKind kindFor keyOf sameEncoding sameKind sameRows sameKey sizeOf pointerSize sizeOr0 pointerBytes pointerReloc padding padded entry letters augmentation lsdaLetter augmentationData counted headerData headerId dataFactor headerFields headerBytes pointerPlace kindRelocs headerRelocs registerOf machineOf isWord machineOk blank withCfa withRule reoffset reregister restored negated apply rulesFor seen withoutCfa withoutStored refusal unlessRefused act answer readEntry entriesF entries valueOr0 second isHeader records distanceBack firstAddend headerPlace headerAt strip spelled spellings spellOr readLetters readByte readMany readCounted personalityIn lsdaIn lettersIn headerTail require parseHeader recordTail parseRecord perform whenRead runF run parsed locate runTo readSection read
+unfolding pick next after onward orElse all first each readLittle readUlebF readUleb push last7 readSlebF fits64 readSleb unfactor readRegister inRange readOffset readFactored readSigned one two readExtended readOperation sameOffset relocationAt relocationsOf sizeOf pointerSize headerId dataFactor isWord blank withCfa withRule reoffset reregister restored negated apply rulesFor seen withoutCfa withoutStored refusal unlessRefused act answer readEntry entriesF entries valueOr0 second isHeader records distanceBack firstAddend headerPlace headerAt strip spelled spellings spellOr readLetters readByte readMany readCounted personalityIn lsdaIn lettersIn headerTail require parseHeader recordTail parseRecord perform whenRead runF run parsed locate runTo readSection read
 reads = refl
 
 -- what the law says of these offsets

@@ -1,17 +1,17 @@
 -- Accepted relocations fill stretches of a section: the laws from which a whole section is put together.
-use mathlib.Core.Path.{_≡_, refl, sym, ap, _∙_}
-use mathlib.Core.Bool.{Bool, true, false, not, _&&_, _||_}
+use mathlib.Core.Path.{_≡_, refl, ap, _∙_}
+use mathlib.Core.Bool.{_&&_}
 use mathlib.Core.Option.{Option, none, some}
 use mathlib.Core.List.{List, [], _∷_, _++_, append-assoc}
-use Prim.Native.Nat.{ℕ, zero, suc, _+_, _-_, _*_, _/_, _%_, _^_, _<_, _≤_}
+use Prim.Native.Nat.{ℕ, _+_, _-_, _≤_}
 use native.Mathlib.Omega.{arith}
 use lib.Dec.{T, leb}
-use lib.IntN.{ℤ, pos, negsuc, _+ℤ_, _-ℤ_, pos-+ℤ-pos}
+use lib.IntN.{ℤ, pos, _+ℤ_, _-ℤ_, pos-+ℤ-pos}
 use lib.ListN.{length, length-append}
 use mir.Syntax.{w64}
 use mir.Val.{toZ}
 use mir.Facts.{and-yes}
-use Rattle.format.specs.Prelude.{pick, after}
+use Rattle.format.specs.Prelude.{after}
 use Rattle.format.specs.Lists.{Relocation}
 use Rattle.format.specs.Questions.{isSome}
 use Rattle.format.proofs.Choice.{either, if-gt}

@@ -1,9 +1,9 @@
 -- A header put in place: the personality's pointer with its new contents, which the reader passes over.
 use mathlib.Core.Path.{_≡_, refl, sym, ap, _∙_}
 use mathlib.Core.Bool.{Bool, true, false}
-use mathlib.Core.Option.{Option, none, some}
+use mathlib.Core.Option.{some}
 use mathlib.Core.List.{List, [], _∷_, _++_, append-assoc}
-use Prim.Native.Nat.{ℕ, _+_, _-_, _^_, _<_, _≤_}
+use Prim.Native.Nat.{ℕ, _+_, _-_}
 use native.Mathlib.Omega.{arith}
 use lib.Dec.{T}
 use lib.ListN.{length, replicate, length-append, length-replicate}
@@ -11,13 +11,12 @@ use Rattle.format.specs.Prelude.{pick, next, after}
 use Rattle.format.specs.declared.Machine.{Machine}
 use Rattle.format.specs.Constants.{pcrelSdata4, indirectPcrelSdata4}
 use Rattle.format.specs.Leb.{little, uleb, sleb}
-use Rattle.format.specs.Lists.{Relocation}
 use Rattle.format.specs.Rows.{sameOffset, rowsBytes}
-use Rattle.format.specs.Headers.{Kind, plain, personal, named, Key, padding, padded, entry, sizeOf, pointerSize, pointerBytes, augmentation, lsdaLetter, augmentationData, counted, headerData, headerId, dataFactor, headerFields, headerBytes, pointerPlace, kindRelocs, headerRelocs}
-use Rattle.format.specs.Reader.{HeaderFields, second, readByte, readMany, personalityIn, lsdaIn, lettersIn, headerTail, require, parseHeader}
+use Rattle.format.specs.Headers.{Kind, plain, personal, named, Key, padding, entry, sizeOf, pointerSize, pointerBytes, augmentation, lsdaLetter, augmentationData, counted, headerData, headerId, dataFactor, headerFields, headerBytes, pointerPlace, kindRelocs, headerRelocs}
+use Rattle.format.specs.Reader.{second, readByte, personalityIn, lsdaIn, lettersIn, headerTail, require, parseHeader}
 use Rattle.format.proofs.Choice.{pick-yes}
 use Rattle.format.proofs.LebBack.{little-back, little-length, uleb-back, sleb-back}
-use Rattle.format.proofs.FieldsBack.{word-small, pointer-size, pointer-small, many-back, counted-back, second-back}
+use Rattle.format.proofs.FieldsBack.{word-small, pointer-size, many-back, counted-back, second-back}
 use Rattle.format.proofs.EntryBack.{padded-behind}
 use Rattle.format.proofs.HeaderBack.{KindOk, HeaderOk, lettersFor, letters-back, pointerIn, lsda-back, signal-kept, factor-fits, same-self, register-back, id-small, header-back, header-second, header-short}
 use Rattle.format.proofs.Parts.{headerBody, header-entry}

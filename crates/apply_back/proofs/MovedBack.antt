@@ -1,9 +1,9 @@
 -- Law `moved-back` (request W-211): an eh_frame section that was written and put in place is read as its rows moved.
 use mathlib.Core.Path.{_≡_, refl, sym, ap, subst, _∙_}
 use mathlib.Core.Bool.{Bool, true, false, not, _&&_}
-use mathlib.Core.Option.{Option, none, some}
+use mathlib.Core.Option.{none, some}
 use mathlib.Core.List.{List, [], _∷_, _++_, append-assoc, append-nil, map}
-use Prim.Native.Nat.{ℕ, zero, suc, _+_, _-_, _^_, _<_, _≤_}
+use Prim.Native.Nat.{ℕ, zero, suc, _+_, _-_, _^_, _<_}
 use native.Mathlib.Omega.{arith}
 use lib.Dec.{T, leb, ltb}
 use lib.ListN.{length, getElem?}
@@ -18,14 +18,14 @@ use Rattle.format.specs.Lists.{Function, Relocation, Pair, functionStride, coun
 use Rattle.format.specs.Headers.{keyOf, leading, others, reloc}
 use Rattle.format.specs.Records.{lsdaReloc, sumPair, recordFields, rowRelocs, recordRelocs}
 use Rattle.format.specs.CallSites.{sitePad}
-use Rattle.format.specs.Questions.{Question, ask, andThen, perFunction, sizeBytes, pairsOk, dwarfAsks, Room, Answer, empty, accepted, unless, fitting, dwarfAnswer, Given, givenFunctions, givenFunction, noFunctions, dwarfGiven, formatAnswer, relaxedTable}
-use Rattle.format.specs.RowCheck.{rowsOf, rowCheck, rowCheckAt, inOrder}
-use Rattle.format.specs.Rules.{State, upTo, entryState, answer, seen}
+use Rattle.format.specs.Questions.{sizeBytes, Room, accepted, Given, givenFunctions, givenFunction}
+use Rattle.format.specs.RowCheck.{rowsOf, rowCheck, rowCheckAt}
+use Rattle.format.specs.Rules.{upTo, entryState, answer, seen}
 use Rattle.format.specs.Reader.{readSection, read}
 use Rattle.format.specs.Writer.{isDebug, taken, Written, Seen, dwarf, partsOf}
 use Rattle.format.proofs.Choice.{pick-yes, if-le, if-gt, either}
 use Rattle.format.proofs.ListLaws.{relocations-back}
-use Rattle.format.proofs.Accepted.{dwarfWritten, both, asked, Accepted, accepted-is, fits-at, taken-at, check-at}
+use Rattle.format.proofs.Accepted.{dwarfWritten, Accepted, accepted-is, taken-at, check-at}
 use Rattle.format.proofs.RowsRun.{while}
 use Rattle.format.proofs.RulesSeen.{allowed, ran-yes, whole}
 use Rattle.format.proofs.CheckSays.{cut, any, says-yes}
@@ -34,11 +34,11 @@ use Rattle.format.proofs.Leading.{others-ok}
 use Rattle.format.proofs.Parts.{Spot, cieOf, spotOf, relocsFor, placeOf, partRelocs, bytesOf, relocsOf, nextAt, nextSites, nextSeen, relocs-more}
 use Rattle.apply.specs.Values.{Layout, layoutOf, symbolsOf}
 use Rattle.apply.specs.Apply.{everywhere, sound, near, stores, apply}
-use Rattle.apply_back.specs.Moved.{lengthIn, newLength, pairsOf, newStep, movedFrom, movedRows, movedRules}
+use Rattle.apply_back.specs.Moved.{newLength, pairsOf, newStep, movedFrom, movedRows, movedRules}
 use Rattle.apply_back.proofs.StepsBack.{StepsHold}
 use Rattle.apply_back.proofs.Fills.{Passes, passes-behind}
 use Rattle.apply_back.proofs.Pairs.{rows-hold, size-small}
-use Rattle.apply_back.proofs.SectionPlaced.{flat, AllApart, placedEntries, section-fills}
+use Rattle.apply_back.proofs.SectionPlaced.{flat, placedEntries, section-fills}
 use Rattle.apply_back.proofs.SectionRead.{runMoved, section-moved}
 
 -- ---- moved rows: the same rows, in order
@@ -87,10 +87,10 @@ pub record Known (l : Layout) (m : Machine) (f : Function) : Type 0 where
   pub steps : StepsHold (m .word) (l .symbols) (pairsOf (f .relaxed)) 0 (others (f .rows))
 
 module _ (l : Layout) (size : ℕ) (m : Machine) where
-  record-known : (at cie table : ℕ) (f : Function) (ss : List Relocation) → FunctionFits Elf m f → T (pairsOk (f .relaxed))
+  record-known : (at cie table : ℕ) (f : Function) (ss : List Relocation) → FunctionFits Elf m f
       → Passes l size (recordRelocs false m at cie table f ++ ss) → Known l m f
   unfolding recordRelocs newLength sizeBytes pick
-  record-known at cie table f ss ok apart p =
+  record-known at cie table f ss ok p =
       let word : ℕ = m .word in
       let ops : ℕ = at + 4 + length (recordFields false word (at + 4 - cie) f) in
       let front : List Relocation = reloc (at + 8) (f .symbol) 0 4 0 ∷ lsdaReloc word (at + 17) table (f .landings) (f .named) in
@@ -102,14 +102,14 @@ module _ (l : Layout) (size : ℕ) (m : Machine) where
       let short : f .size < 2 ^ 32 = ok .size-small in
       record {
         length-small = size-small l size (at + 12) f (f .relaxed) (rows ++ ss) short p₁;
-        steps = rows-hold l size word ops (others (f .rows)) (others-ok word (f .rows) (ok .lines)) (f .relaxed) ss apart p₂;
+        steps = rows-hold l size word ops (others (f .rows)) (others-ok word (f .rows) (ok .lines)) (f .relaxed) ss (ok .apart) p₂;
       }
 
-  known-at : (at sites : ℕ) (seen : List Seen) (fs : List Function) (k : ℕ) (f : Function) (ss : List Relocation) → AllFit Elf m fs → AllApart fs → getElem? fs k ≡ some f
+  known-at : (at sites : ℕ) (seen : List Seen) (fs : List Function) (k : ℕ) (f : Function) (ss : List Relocation) → AllFit Elf m fs → getElem? fs k ≡ some f
       → Passes l size (relocsOf Elf m at sites seen fs ++ ss) → Known l m f
   unfolding isDebug partRelocs
-  known-at at sites seen [] k f ss ok apart e p = let z : _≡_ {A = ℕ} 0 1 = cc in absurd (omega arith)
-  known-at at sites seen (g ∷ fs) zero f ss ok apart e p =
+  known-at at sites seen [] k f ss ok e p = let z : _≡_ {A = ℕ} 0 1 = cc in absurd (omega arith)
+  known-at at sites seen (g ∷ fs) zero f ss ok e p =
       let x : Spot = spotOf Elf m at seen g fs in
       let front : List Relocation = relocsFor Elf m (x .earlier) (x .start) (keyOf m g) in
       let own : List Relocation = recordRelocs false m (placeOf Elf m x g) (cieOf x) (sites + sitePad sites) g in
@@ -117,44 +117,15 @@ module _ (l : Layout) (size : ℕ) (m : Machine) where
       let shape : relocsOf Elf m at sites seen (g ∷ fs) ++ ss ≡ front ++ (own ++ (later ++ ss)) =
       ap (λ (rs : List Relocation). rs ++ ss) (relocs-more Elf m at sites seen g fs) ∙ simp append-assoc in
       let g≡ : g ≡ f = cc in
-      rw g≡ at (record-known (placeOf Elf m x g) (cieOf x) (sites + sitePad sites) g (later ++ ss) (ok .0) (apart .0) (passes-behind front (own ++ (later ++ ss)) (rw shape at p)))
-  known-at at sites seen (g ∷ fs) (suc k) f ss ok apart e p =
+      rw g≡ at (record-known (placeOf Elf m x g) (cieOf x) (sites + sitePad sites) g (later ++ ss) (ok .0) (passes-behind front (own ++ (later ++ ss)) (rw shape at p)))
+  known-at at sites seen (g ∷ fs) (suc k) f ss ok e p =
       let x : Spot = spotOf Elf m at seen g fs in
       let own : List Relocation = partRelocs Elf m x sites g in
       let later : List Relocation = relocsOf Elf m (nextAt Elf m at seen g fs) (nextSites sites g) (nextSeen Elf m at seen g fs) fs in
       let shape : relocsOf Elf m at sites seen (g ∷ fs) ++ ss ≡ own ++ (later ++ ss) =
       ap (λ (rs : List Relocation). rs ++ ss) (relocs-more Elf m at sites seen g fs) ∙ append-assoc own later ss in
-      known-at (nextAt Elf m at seen g fs) (nextSites sites g) (nextSeen Elf m at seen g fs) fs k f ss (ok .1) (apart .1) e
+      known-at (nextAt Elf m at seen g fs) (nextSites sites g) (nextSeen Elf m at seen g fs) fs k f ss (ok .1) e
       (passes-behind own (later ++ ss) (rw shape at p))
-
--- ---- question 25 of an accepted list
-
-asked-apart : (word at : ℕ) (fs : List Function) → perFunction (dwarfAsks Elf word) at fs ≡ none → AllApart fs
-unfolding perFunction dwarfAsks
-asked-apart word at [] e = tt
-asked-apart word at (f ∷ fs) e =
-    let d = both _ _ e in
-    let e₁ = both _ _ (d .0) in
-    let e₂ = both _ _ (e₁ .1) in
-    let e₃ = both _ _ (e₂ .1) in
-    let e₄ = both _ _ (e₃ .1) in
-    (asked _ _ _ (e₄ .1), asked-apart word (suc at) fs (d .1))
-
-passed : (q : Question) (a : Answer) (w : Written) → unless q a ≡ accepted w → (q ≡ none) × (a ≡ accepted w)
-unfolding unless
-passed none a w e = (refl, e)
-passed (some r) a w e = let z : _≡_ {A = ℕ} 0 1 = cc in absurd (omega arith)
-
-not-empty : (b : Bool) (a : Answer) (w : Written) → pick b empty a ≡ accepted w → a ≡ accepted w
-unfolding pick
-not-empty true a w e = let z : _≡_ {A = ℕ} 0 1 = cc in absurd (omega arith)
-not-empty false a w e = e
-
-accepted-apart : (g : Given) (r : Room) (w : Written) → dwarfWritten Elf g r ≡ accepted w → AllApart (map (taken Elf) (givenFunctions g))
-unfolding dwarfWritten relaxedTable formatAnswer dwarfGiven dwarfAnswer pick
-accepted-apart g r w e =
-    let d = passed _ _ _ (not-empty (noFunctions g) _ w e) in
-    asked-apart (machineOf (g .machine) .word) 0 (map (taken Elf) (givenFunctions g)) (passed _ _ _ (d .1) .0)
 
 -- ---- what an accepted call of `apply` gives
 
@@ -197,7 +168,6 @@ moved-back g r w e addresses section image room bs put relocations k q p h check
     let size : ℕ = length (w .bytes) in
     let a : Accepted Elf g w = accepted-is Elf g r w e in
     let fs : List Function = map (taken Elf) (givenFunctions g) in
-    let apart : AllApart fs = accepted-apart g r w e in
     let at-k : getElem? fs k ≡ some f = taken-at Elf g k h in
     let done = applied (w .bytes) (numbersOf (w .relocations)) addresses section image room bs put in
     let bytes-are : w .bytes ≡ bytesOf Elf m 0 0 [] fs = ap (λ (x : Written). x .bytes) (a .written) in
@@ -206,10 +176,10 @@ moved-back g r w e addresses section image room bs put relocations k q p h check
     subst (Passes l size) (relocs-are ∙ sym (append-nil (relocsOf Elf m 0 0 [] fs))) (done .0) in
     let placed : List ℕ = flat (placedEntries l size m (a .machine) 0 0 [] fs (a .functions)) in
     let filled : stores l (bytesOf Elf m 0 0 [] fs) (relocsOf Elf m 0 0 [] fs) ≡ placed =
-    simp append-nil at (section-fills l size m (a .machine) 0 0 [] fs (a .functions) apart [] [] [] refl passes) in
+    simp append-nil at (section-fills l size m (a .machine) 0 0 [] fs (a .functions) [] [] [] refl passes) in
     let bs-are : bs ≡ placed =
     done .1 ∙ ap (stores l (w .bytes)) relocs-are ∙ ap (λ (xs : List ℕ). stores l xs (relocsOf Elf m 0 0 [] fs)) bytes-are ∙ filled in
-    let known : Known l m f = known-at l size m 0 0 [] fs k f [] (a .functions) apart at-k passes in
+    let known : Known l m f = known-at l size m 0 0 [] fs k f [] (a .functions) at-k passes in
     ap (answer q)
     (pick-yes (isWord (m .word) && leb 0 1) (readSection false (relocationsOf relocations) (m .word) k p bs) (bad 11) (yes-and (isWord (m .word)) true (a .machine .is-word) tt)
     ∙ ap (readSection false (relocationsOf relocations) (m .word) k p) bs-are

@@ -1,6 +1,6 @@
 -- Pairs of relocations: a step's operand after Set and Sub, and a length after a Sum pair.
 use mathlib.Core.Path.{_≡_, refl, sym, ap, _∙_}
-use mathlib.Core.Bool.{Bool, true, false, not, _&&_}
+use mathlib.Core.Bool.{not, _&&_}
 use mathlib.Core.Logic.{_≢_}
 use mathlib.Core.Option.{Option, none, some}
 use mathlib.Core.List.{List, [], _∷_, _++_, append-assoc}
@@ -18,20 +18,19 @@ use Rattle.format.specs.Lists.{Function, Relaxed, Relocation, Pair}
 use Rattle.format.specs.Rows.{RowAt, rowBytes, stepIn, stepForm, stepBytes, steppedBytes}
 use Rattle.format.specs.Headers.{reloc}
 use Rattle.format.specs.Records.{sizeField, sumPair, pairFor, setKind, setBytes, setPlace, setPair, stepRelocs, rowRelocs}
-use Rattle.format.specs.Questions.{isSome, pairsOk}
+use Rattle.format.specs.Questions.{pairsOk}
 use Rattle.format.proofs.Choice.{pick-yes, pick-no, tested, if-le, if-gt, if-ne, either}
 use Rattle.format.proofs.LebBack.{little-length}
 use Rattle.format.proofs.RowBack.{Holds, shortest-holds}
 use Rattle.format.proofs.WalkBack.{RowsAtOk}
 use Rattle.apply.specs.declared.Width.{Width}
 use Rattle.apply.specs.declared.Width.the-variants.{W6, W8, W16, W32}
-use Rattle.apply.specs.declared.Kind.{Kind}
-use Rattle.apply.specs.declared.Kind.the-variants.{Set, Sub, SumPlus, SumMinus}
+use Rattle.apply.specs.declared.Kind.the-variants.{Set, Sub}
 use Rattle.apply.specs.Kinds.{bitsOf, bytesOf, kindOf}
-use Rattle.apply.specs.Fields.{upTo, setIn, subIn, wholeIn}
+use Rattle.apply.specs.Fields.{upTo, wholeIn}
 use Rattle.apply.specs.Values.{Layout, apart, distanceOf, valueAs, storeAs, storeOf}
 use Rattle.apply.specs.Apply.{front, measured as isMeasured, valueOk, nearAs, near, stores}
-use Rattle.apply_back.specs.Moved.{between, lengthIn, newLength, pairsOf, stepOr, newStep}
+use Rattle.apply_back.specs.Moved.{between, lengthIn, pairsOf, stepOr, newStep}
 use Rattle.apply_back.proofs.StepsBack.{stepWith, steppedWith, StepHolds, StepsHold}
 use Rattle.apply_back.proofs.Stretches.{put-at, set-sub}
 use Rattle.apply_back.proofs.Fills.{Passes, passes-behind, value-first, near-first, Measured, measured, Fills, fills-none, fills-join}

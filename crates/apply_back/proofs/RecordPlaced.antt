@@ -1,11 +1,10 @@
 -- A record put in place: its fields and steps with their new contents, and what the reader makes of them.
 use mathlib.Core.Path.{_≡_, refl, sym, ap, _∙_}
-use mathlib.Core.Bool.{Bool, true, false}
-use mathlib.Core.Option.{Option, none, some}
+use mathlib.Core.Bool.{false}
+use mathlib.Core.Option.{some}
 use mathlib.Core.List.{List, [], _∷_, _++_, append-assoc}
 use Prim.Native.Nat.{ℕ, _+_, _-_, _*_, _^_, _<_, _≤_}
 use native.Mathlib.Omega.{arith}
-use lib.Dec.{T}
 use lib.ListN.{length, replicate, length-append, length-replicate}
 use Rattle.format.specs.Prelude.{pick, next}
 use Rattle.format.specs.declared.Machine.{Machine}
@@ -13,9 +12,8 @@ use Rattle.format.specs.declared.Section.the-variants.{Elf}
 use Rattle.format.specs.Leb.{little, readLittle, uleb}
 use Rattle.format.specs.Lists.{Function, Relocation}
 use Rattle.format.specs.Rows.{steppedBytes}
-use Rattle.format.specs.Headers.{others, padding, padded, entry, counted, reloc}
+use Rattle.format.specs.Headers.{others, padding, entry, counted, reloc}
 use Rattle.format.specs.Records.{lsdaBlank, lsdaReloc, sizeField, recordFields, recordBytes, sumPair, rowRelocs, recordRelocs}
-use Rattle.format.specs.Questions.{sizeBytes, pairsOk}
 use Rattle.format.specs.Reader.{second, recordTail, require, parseRecord}
 use Rattle.format.proofs.Choice.{if-le}
 use Rattle.format.proofs.LebBack.{little-back, little-length}
@@ -28,7 +26,7 @@ use Rattle.format.proofs.Fits.{MachineFits, FunctionFits}
 use Rattle.format.proofs.Leading.{others-ok}
 use Rattle.format.proofs.RelocsInside.{eh-length}
 use Rattle.apply.specs.Values.{Layout}
-use Rattle.apply_back.specs.Moved.{lengthIn, newLength, pairsOf}
+use Rattle.apply_back.specs.Moved.{newLength, pairsOf}
 use Rattle.apply_back.proofs.StepsBack.{steppedWith}
 use Rattle.apply_back.proofs.Fills.{Fills, fills-then, fills-in}
 use Rattle.apply_back.proofs.Pairs.{steps-length, rows-fill, size-fills}
@@ -168,9 +166,9 @@ module _ (l : Layout) (size : ℕ) (m : Machine) (fit : MachineFits m) (align at
   pub record-length : length placedBody ≡ length (recordBody false m align at cie f)
   record-length = same-length ∙ ap length (sym body-is)
 
-  pub record-fills : T (pairsOk (f .relaxed)) → Fills l size (recordRelocs false m at cie table f) at (recordBytes false m align at cie f) (entry placedBody)
+  pub record-fills : Fills l size (recordRelocs false m at cie table f) at (recordBytes false m align at cie f) (entry placedBody)
   unfolding recordRelocs entry placedBody newLength pick
-  record-fills apart =
+  record-fills =
       let w : (0 < word) × (word ≤ 8) = word-small word (fit .is-word) in
       let blank : List ℕ = replicate blanks 0 in
       let nb : length blank ≡ blanks = length-replicate {A = ℕ} blanks 0 in
@@ -195,4 +193,4 @@ module _ (l : Layout) (size : ℕ) (m : Machine) (fit : MachineFits m) (align at
       (rowRelocs word ops (others (f .rows)) (f .relaxed)) (at + 8) (at + 17) (at + 12) ops
       (placeFilled .1 .0 ∙ sym n4) (little-length 4 new ∙ sym (little-length 4 old)) (pointerFilled .1 .0 ∙ sym nb)
       (omega arith) (omega (arith, little-length 4 old)) (omega arith) (omega (arith, eh))
-      (placeFilled .1 .1) (pointerFilled .1 .1) (size-fills l size (at + 12) f (f .relaxed)) (rows-fill l size word ops (others (f .rows)) lines (f .relaxed) apart))
+      (placeFilled .1 .1) (pointerFilled .1 .1) (size-fills l size (at + 12) f (f .relaxed)) (rows-fill l size word ops (others (f .rows)) lines (f .relaxed) (ok .apart)))

@@ -1,28 +1,23 @@
 -- A section put in place: its entries, one for each that was written, with the same places and lengths.
 use mathlib.Core.Path.{_≡_, refl, sym, ap, _∙_}
-use mathlib.Core.Bool.{Bool, true, false, not, _&&_}
+use mathlib.Core.Bool.{false}
 use mathlib.Core.Option.{Option, none, some}
 use mathlib.Core.List.{List, [], _∷_, _++_, append-assoc, append-nil}
-use Prim.Native.Nat.{ℕ, zero, suc, _+_, _-_, _^_, _<_, _≤_}
-use native.Mathlib.Nat.{add-zero}
+use Prim.Native.Nat.{ℕ, _+_, _-_}
 use native.Mathlib.Omega.{arith}
-use lib.Dec.{T, T-not, eqb, ltb}
-use lib.ListN.{length, getElem?, length-append}
-use Rattle.format.specs.Prelude.{pick}
+use lib.ListN.{length, length-append}
 use Rattle.format.specs.declared.Machine.{Machine}
 use Rattle.format.specs.declared.Section.the-variants.{Elf}
-use Rattle.format.specs.Lists.{Function, Relocation}
-use Rattle.format.specs.Headers.{Key, keyOf, entry, headerBytes, headerRelocs}
+use Rattle.format.specs.Lists.{Function}
+use Rattle.format.specs.Headers.{Key, keyOf, entry}
 use Rattle.format.specs.Records.{recordBytes, recordRelocs}
 use Rattle.format.specs.CallSites.{sitePad}
-use Rattle.format.specs.Questions.{pairsOk}
 use Rattle.format.specs.Writer.{isDebug, Seen, partsFrom, joined}
-use Rattle.format.specs.Reader.{Entry, second, isHeader, records, parseHeader}
-use Rattle.format.proofs.Each.{Each}
+use Rattle.format.specs.Reader.{Entry}
 use Rattle.format.proofs.EntryBack.{entry-length}
 use Rattle.format.proofs.HeaderBack.{HeaderOk}
 use Rattle.format.proofs.Fits.{MachineFits, FunctionFits, AllFit}
-use Rattle.format.proofs.Parts.{headerBody, recordBody, header-entry, record-entry, Spot, cieOf, spotOf, frontFor, relocsFor, frontOf, placeOf, partBytes, partRelocs, bytesOf, relocsOf, nextAt, nextSites, nextSeen, bytes-none, bytes-more, relocs-more}
+use Rattle.format.proofs.Parts.{header-entry, record-entry, Spot, cieOf, spotOf, frontFor, relocsFor, frontOf, placeOf, partBytes, partRelocs, bytesOf, relocsOf, nextAt, nextSites, nextSeen, bytes-none, bytes-more, relocs-more}
 use Rattle.format.proofs.SectionSize.{header-ok}
 use Rattle.apply.specs.Values.{Layout}
 use Rattle.apply_back.proofs.Fills.{Fills, fills-none, fills-join}
@@ -38,10 +33,6 @@ flat-join : (es ds : List Entry) → flat (es ++ ds) ≡ flat es ++ flat ds
 unfolding flat
 flat-join [] ds = refl
 flat-join (e ∷ es) ds = ap (λ (bs : List ℕ). entry (e .body) ++ bs) (flat-join es ds) ∙ sym (append-assoc (entry (e .body)) (flat es) (flat ds))
-
--- question 25 of every function
-abbrev pub AllApart : List Function → Type 0
-AllApart fs = Each (λ f. T (pairsOk (f .relaxed))) fs
 
 module _ (l : Layout) (size : ℕ) (m : Machine) (fit : MachineFits m) where
   pub header-fits : (f : Function) → FunctionFits Elf m f → HeaderOk false m (keyOf m f)
@@ -87,11 +78,11 @@ module _ (l : Layout) (size : ℕ) (m : Machine) (fit : MachineFits m) where
   front-fills none align at k ok = rw append-nil (header-fills l size m align at k ok)
   front-fills (some cie) align at k ok = fills-none l size at []
 
-  part-fills : (x : Spot) (sites : ℕ) (f : Function) (ok : FunctionFits Elf m f) → T (pairsOk (f .relaxed))
+  part-fills : (x : Spot) (sites : ℕ) (f : Function) (ok : FunctionFits Elf m f)
       → Fills l size (partRelocs Elf m x sites f) (x .start) (partBytes Elf m x f)
       (flat (frontPlaced (x .earlier) (x .align) (x .start) (keyOf m f) (header-fits f ok)) ++ entry (recordPlaced x sites f ok .body))
   unfolding isDebug partRelocs partBytes frontOf placeOf recordPlaced
-  part-fills x sites f ok apart =
+  part-fills x sites f ok =
       let h = header-fits f ok in
       let front : List ℕ = frontFor Elf m (x .earlier) (x .align) (x .start) (keyOf m f) in
       let at : ℕ = x .start + length front in
@@ -100,7 +91,7 @@ module _ (l : Layout) (size : ℕ) (m : Machine) (fit : MachineFits m) where
       (recordBytes false m (x .align) at (cieOf x) f) (entry (placedBody l size m fit (x .align) at (cieOf x) (sites + sitePad sites) f ok))
       (front-length (x .earlier) (x .align) (x .start) (keyOf m f) h) refl
       (front-fills (x .earlier) (x .align) (x .start) (keyOf m f) h)
-      (record-fills l size m fit (x .align) at (cieOf x) (sites + sitePad sites) f ok apart)
+      (record-fills l size m fit (x .align) at (cieOf x) (sites + sitePad sites) f ok)
 
   part-length : (x : Spot) (sites : ℕ) (f : Function) (ok : FunctionFits Elf m f)
       → length (flat (frontPlaced (x .earlier) (x .align) (x .start) (keyOf m f) (header-fits f ok)) ++ entry (recordPlaced x sites f ok .body)) ≡ length (partBytes Elf m x f)
@@ -118,11 +109,11 @@ module _ (l : Layout) (size : ℕ) (m : Machine) (fit : MachineFits m) where
   unfolding relocsOf partsFrom joined
   relocs-none at sites seen = refl
 
-  pub section-fills : (at sites : ℕ) (seen : List Seen) (fs : List Function) (ok : AllFit Elf m fs) → AllApart fs
+  pub section-fills : (at sites : ℕ) (seen : List Seen) (fs : List Function) (ok : AllFit Elf m fs)
       → Fills l size (relocsOf Elf m at sites seen fs) at (bytesOf Elf m at sites seen fs) (flat (placedEntries at sites seen fs ok))
   unfolding flat placedEntries spotOf
-  section-fills at sites seen [] ok apart = rw (relocs-none, bytes-none) (fills-none l size at [])
-  section-fills at sites seen (f ∷ fs) ok apart =
+  section-fills at sites seen [] ok = rw (relocs-none, bytes-none) (fills-none l size at [])
+  section-fills at sites seen (f ∷ fs) ok =
       let x : Spot = spotOf Elf m at seen f fs in
       let later : ℕ = nextAt Elf m at seen f fs in
       let front : List Entry = frontPlaced (x .earlier) (x .align) (x .start) (keyOf m f) (header-fits f (ok .0)) in
@@ -133,5 +124,5 @@ module _ (l : Layout) (size : ℕ) (m : Machine) (fit : MachineFits m) where
       rw (relocs-more Elf m at sites seen f fs, bytes-more Elf m at sites seen f fs, shape)
       (fills-join l size (partRelocs Elf m x sites f) (relocsOf Elf m later (nextSites sites f) (nextSeen Elf m at seen f fs) fs) at later
       (partBytes Elf m x f) (flat front ++ entry (own .body)) (bytesOf Elf m later (nextSites sites f) (nextSeen Elf m at seen f fs) fs) (flat rest)
-      (part-length x sites f (ok .0)) (next-is at seen f fs) (part-fills x sites f (ok .0) (apart .0))
-      (section-fills later (nextSites sites f) (nextSeen Elf m at seen f fs) fs (ok .1) (apart .1)))
+      (part-length x sites f (ok .0)) (next-is at seen f fs) (part-fills x sites f (ok .0))
+      (section-fills later (nextSites sites f) (nextSeen Elf m at seen f fs) fs (ok .1)))

@@ -1,13 +1,13 @@
 -- A section put in place, read: the rules of the leading rows and then of the other rows moved.
 use mathlib.Core.Path.{_≡_, refl, sym, ap, _∙_}
-use mathlib.Core.Bool.{Bool, true, false, not, _&&_}
+use mathlib.Core.Bool.{Bool, true, false}
 use mathlib.Core.Option.{Option, none, some}
 use mathlib.Core.List.{List, [], _∷_, _++_}
 use Prim.Native.Nat.{ℕ, zero, suc, _+_, _-_, _^_, _<_, _≤_}
 use native.Mathlib.Omega.{arith}
-use lib.Dec.{T, T-not}
+use lib.Dec.{T-not}
 use lib.ListN.{length, getElem?, replicate}
-use Rattle.format.specs.Prelude.{pick, after, Result, good, onward, orElse}
+use Rattle.format.specs.Prelude.{after, Result, onward, orElse}
 use Rattle.format.specs.declared.Machine.{Machine}
 use Rattle.format.specs.declared.Section.the-variants.{Elf}
 use Rattle.format.specs.Lists.{Function, Relocation}
@@ -17,7 +17,7 @@ use Rattle.format.specs.Records.{recordFields}
 use Rattle.format.specs.CallSites.{sitePad}
 use Rattle.format.specs.Writer.{isDebug, Seen}
 use Rattle.format.specs.Rules.{State, blank}
-use Rattle.format.specs.Reader.{Entry, second, isHeader, records, distanceBack, headerPlace, headerAt, parsed, locate, runTo, readSection, parseHeader, parseRecord, HeaderFields, RecordFields}
+use Rattle.format.specs.Reader.{Entry, second, isHeader, records, distanceBack, headerPlace, parsed, locate, runTo, readSection, parseHeader, parseRecord}
 use Rattle.format.proofs.Choice.{pick-yes, pick-no, if-le}
 use Rattle.format.proofs.EntryBack.{padded-behind}
 use Rattle.format.proofs.FieldsBack.{word-small}
@@ -27,16 +27,16 @@ use Rattle.format.proofs.RowsRun.{actAll, while}
 use Rattle.format.proofs.WalkBack.{onward-ext, rows-back}
 use Rattle.format.proofs.Fits.{MachineFits, FunctionFits, AllFit, Bounded}
 use Rattle.format.proofs.Leading.{leading-ok}
-use Rattle.format.proofs.Parts.{headerBody, Spot, cieOf, spotOf, placeOf, bodyOf, nextAt, nextSites, nextSeen}
+use Rattle.format.proofs.Parts.{headerBody, Spot, cieOf, spotOf, placeOf, nextAt, nextSites, nextSeen}
 use Rattle.format.proofs.SectionTiles.{headerEntry, frontEntries, recordEntry, entriesOf, Holds, FieldsHold, fields-hold}
-use Rattle.format.proofs.SectionFinds.{header-entry-is, record-entry-is, spotAt, record-holds, record-found, header-found, header-by-distance}
+use Rattle.format.proofs.SectionFinds.{header-entry-is, record-entry-is, spotAt, record-holds, header-found, header-by-distance}
 use Rattle.apply.specs.Values.{Layout}
 use Rattle.apply_back.specs.Moved.{newLength, movedRows, pairsOf}
 use Rattle.apply_back.proofs.StepsBack.{steppedWith, StepsHold, moved-back}
 use Rattle.apply_back.proofs.RecordPlaced.{placeFilled, pointerFilled, placedBody, body-is, record-length, fields-read, fields-second}
-use Rattle.apply_back.proofs.HeaderPlaced.{placedHeader, same-length, same-second, same-fields}
+use Rattle.apply_back.proofs.HeaderPlaced.{same-length, same-second, same-fields}
 use Rattle.apply_back.proofs.SectionPlaced.{flat, header-fits, frontPlaced, recordPlaced, placedEntries}
-use Rattle.apply_back.proofs.Alike.{Alike, Alikes, alikes-join, header-same, header-alike, distance-same, Chain, chain-alike, chain-entries, written-chain}
+use Rattle.apply_back.proofs.Alike.{Alike, Alikes, alikes-join, header-same, header-alike, distance-same, chain-alike, chain-entries, written-chain}
 
 module _ (l : Layout) (size : ℕ) (m : Machine) (fit : MachineFits m) where
   abbrev word : ℕ

@@ -1,14 +1,14 @@
 -- Steps with other contents: in the form that was chosen for the written step, the operand may be any number that the form holds.
-use mathlib.Core.Path.{_≡_, refl, ap, _∙_}
-use Prim.Native.Nat.{ℕ, _+_, _-_, _≤_, _<_}
+use mathlib.Core.Path.{_≡_, _∙_}
+use Prim.Native.Nat.{ℕ, _+_, _-_, _≤_}
 use native.Mathlib.Omega.{arith}
-use native.Mathlib.Nat.{le-refl, add-zero}
-use mathlib.Core.Bool.{Bool, true, false}
+use native.Mathlib.Nat.{le-refl}
+use mathlib.Core.Bool.{false}
 use mathlib.Core.Logic.{_≢_}
 use mathlib.Core.List.{List, [], _∷_, _++_, append-assoc}
-use lib.ListN.{length, replicate, length-replicate}
+use lib.ListN.{replicate, length-replicate}
 use lib.Dec.{leb, eqb}
-use Rattle.format.specs.Prelude.{pick, Result, good, onward}
+use Rattle.format.specs.Prelude.{pick, Result, good}
 use Rattle.format.specs.declared.Rule.{Rule}
 use Rattle.format.specs.declared.Operation.the-variants.{Step}
 use Rattle.format.specs.Rows.{RowAt, rowBytes, stepIn, stepForm}

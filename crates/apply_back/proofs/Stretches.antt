@@ -2,20 +2,20 @@
 use mathlib.Core.Path.{_≡_, refl, sym, ap, _∙_}
 use mathlib.Core.Option.{some}
 use mathlib.Core.List.{List, [], _∷_, _++_}
-use Prim.Native.Nat.{ℕ, zero, suc, _+_, _*_, _/_, _%_, _^_, _<_, _≤_}
-use native.Mathlib.Nat.{mod-eq-of-lt, mul-add-mod-self-right, mul-add-div-right, div-eq-of-lt, add-zero, pow-suc}
+use Prim.Native.Nat.{ℕ, suc, _+_, _*_, _/_, _^_, _<_, _≤_}
+use native.Mathlib.Nat.{mod-eq-of-lt, mul-add-mod-self-right, mul-add-div-right, div-eq-of-lt, add-zero}
 use native.Mathlib.Omega.{arith}
 use lib.IntN.{ℤ, pos, _-ℤ_}
-use lib.ListN.{length, getD, set}
+use lib.ListN.{length, set, length-append}
 use lib.Pow.{pow-pos}
 use Rattle.format.specs.Put.{put}
 use Rattle.format.specs.Leb.{little}
 use Rattle.format.proofs.LebBack.{little-length}
 use Rattle.apply.specs.declared.Width.{Width}
-use Rattle.apply.specs.declared.Width.the-variants.{W6, W8, W16, W32}
 use Rattle.apply.specs.Kinds.{bitsOf, bytesOf}
 use Rattle.apply.specs.Fields.{lowOf, numberAt, fieldAt, inField, setIn, subIn}
 use Rattle.apply.proofs.Wrap.{low-lt, wraps}
+use Rattle.apply.proofs.Distances.{back, within}
 
 -- ---- stores
 
@@ -38,32 +38,14 @@ put-at (x ∷ pre) mid post bs h = put-front x (pre ++ (mid ++ post)) (length pr
 
 -- ---- numbers
 
-number-front : (x : ℕ) (xs : List ℕ) (p n : ℕ) → numberAt (x ∷ xs) (suc p) n ≡ numberAt xs p n
-unfolding numberAt
-number-front x xs p zero = refl
-number-front x xs p (suc n) =
-    let e : suc p + 1 ≡ suc (p + 1) = omega arith in
-    rw e (ap (λ (v : ℕ). getD xs p 0 + 256 * v) (number-front x xs (p + 1) n))
-
-number-first : (n v : ℕ) (post : List ℕ) → v < 256 ^ n → numberAt (little n v ++ post) 0 n ≡ v
-unfolding numberAt little
-number-first zero v post h = omega (arith, h)
-number-first (suc n) v post h =
-    let i : numberAt (little n (v / 256) ++ post) 0 n ≡ v / 256 = number-first n (v / 256) post (omega (arith, h, pow-suc 256 n)) in
-    let e : numberAt ((v % 256) ∷ (little n (v / 256) ++ post)) 1 n ≡ v / 256 = number-front (v % 256) (little n (v / 256) ++ post) 0 n ∙ i in
-    omega (arith, e)
-
-pub number-at : (pre : List ℕ) (n v : ℕ) (post : List ℕ) → v < 256 ^ n → numberAt (pre ++ (little n v ++ post)) (length pre) n ≡ v
-number-at [] n v post h = number-first n v post h
-number-at (x ∷ pre) n v post h = number-front x (pre ++ (little n v ++ post)) (length pre) n ∙ number-at pre n v post h
+-- the number that stands there: it is what storing it once more leaves there
+number-at : (pre : List ℕ) (n v : ℕ) (post : List ℕ) → v < 256 ^ n → numberAt (pre ++ (little n v ++ post)) (length pre) n ≡ v
+number-at pre n v post h =
+    let bs : List ℕ = pre ++ (little n v ++ post) in
+    let long : length pre + n ≤ length bs = rw (length-append, length-append, little-length) (omega arith) in
+    ap (λ (xs : List ℕ). numberAt xs (length pre) n) (sym (put-at pre (little n v) post (little n v) refl)) ∙ back n bs (length pre) v long h
 
 -- ---- Set and Sub
-
-within : (w : Width) (x v : ℕ) → x < 256 ^ bytesOf w → v < 2 ^ bitsOf w → x / 2 ^ bitsOf w * 2 ^ bitsOf w + v < 256 ^ bytesOf w
-within W6 x v h l = omega (arith, h, l)
-within W8 x v h l = omega (arith, h, l)
-within W16 x v h l = omega (arith, h, l)
-within W32 x v h l = omega (arith, h, l)
 
 module _ (w : Width) (pre post : List ℕ) where
   abbrev stretch : ℕ → List ℕ
