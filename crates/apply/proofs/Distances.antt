@@ -33,7 +33,7 @@ put-behind xs p q (b ∷ bs) h =
     put-behind (set xs p b) (p + 1) q bs (omega arith) ∙ getD-set-other xs p q b 0 (λ (e : q ≡ p). omega arith)
 
 -- a number that was stored is there
-back : (n : ℕ) (xs : List ℕ) (p x : ℕ) → p + n ≤ length xs → x < 256 ^ n → numberAt (put xs p (little n x)) p n ≡ x
+pub back : (n : ℕ) (xs : List ℕ) (p x : ℕ) → p + n ≤ length xs → x < 256 ^ n → numberAt (put xs p (little n x)) p n ≡ x
 unfolding put little numberAt
 back zero xs p x h l = omega (arith, l)
 back (suc n) xs p x h l =
@@ -44,7 +44,7 @@ back (suc n) xs p x h l =
     back n (set xs p (x % 256)) (p + 1) (x / 256) (omega (arith, length-set xs p (x % 256))) (omega (arith, l, pow-suc 256 n)) in
     omega (arith, e, i)
 
-within : (w : Width) (x v : ℕ) → x < 256 ^ bytesOf w → v < 2 ^ bitsOf w → x / 2 ^ bitsOf w * 2 ^ bitsOf w + v < 256 ^ bytesOf w
+pub within : (w : Width) (x v : ℕ) → x < 256 ^ bytesOf w → v < 2 ^ bitsOf w → x / 2 ^ bitsOf w * 2 ^ bitsOf w + v < 256 ^ bytesOf w
 within W6 x v h l = omega (arith, h, l)
 within W8 x v h l = omega (arith, h, l)
 within W16 x v h l = omega (arith, h, l)

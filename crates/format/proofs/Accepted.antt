@@ -193,6 +193,7 @@ module _ (fs rows landings pairs : List ℕ) where
             rw (taken-rows s f)
             (rows-at-ok rows (m .word) (field functionStride fs k 2) (field functionStride fs k 3) 0 (l .known)
             (rw (taken-rows s f) at (asked _ _ _ (e₃ .0))) (rw (taken-rows s f) at (asked _ _ _ (e₄ .0))));
+        apart = asked _ _ _ (e₄ .1);
       }
 
   -- ---- all functions

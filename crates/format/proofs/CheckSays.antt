@@ -29,7 +29,7 @@ stepped at x xs t =
     let h = and-yes (leb at (x .0) && ltb (x .0 - at) (2 ^ 32)) (stepsOk (x .0) xs) t in
     (leb→le at (x .0) (and-yes (leb at (x .0)) (ltb (x .0 - at) (2 ^ 32)) (h .0) .0), h .1)
 
-none-later : (p at : ℕ) (xs : List RowAt) → T (stepsOk at xs) → p < at → upTo p xs ≡ []
+pub none-later : (p at : ℕ) (xs : List RowAt) → T (stepsOk at xs) → p < at → upTo p xs ≡ []
 unfolding upTo
 none-later p at [] t h = refl
 none-later p at (x ∷ xs) t h =
@@ -37,7 +37,7 @@ none-later p at (x ∷ xs) t h =
     let l : p < x .0 = omega arith in
     rw (if-gt (x .0) p) (none-later p (x .0) xs (s .1) l)
 
-while-upTo : (p at : ℕ) (xs : List RowAt) → T (stepsOk at xs) → while p xs ≡ upTo p xs
+pub while-upTo : (p at : ℕ) (xs : List RowAt) → T (stepsOk at xs) → while p xs ≡ upTo p xs
 unfolding while upTo
 while-upTo p at [] t = refl
 while-upTo p at (x ∷ xs) t =
@@ -70,7 +70,7 @@ while-all p at (x ∷ xs) t h =
     rw (if-le (x .0) p) (ap (λ (rs : List Row). x .1 ∷ rs) (while-all p (x .0) xs (s .1) h))
 
 -- the rows that a run comes to, and those that it does not
-cut : (p : ℕ) (xs : List RowAt) → (rs : List Row) × (rowsOf xs ≡ while p xs ++ rs)
+pub cut : (p : ℕ) (xs : List RowAt) → (rs : List Row) × (rowsOf xs ≡ while p xs ++ rs)
 unfolding while rowsOf
 cut p [] = ([], refl)
 cut p (x ∷ xs) =
@@ -133,7 +133,7 @@ may (r ∷ rs) t =
     go true b t = t
     go false b t = tt
 
-any : (rs : List Row) → T (all (allowed false) rs)
+pub any : (rs : List Row) → T (all (allowed false) rs)
 unfolding all
 any [] = tt
 any (r ∷ rs) = yes-and (allowed false r) (all (allowed false) rs) (go (eqb (kindOf r) 4)) (any rs)
@@ -161,7 +161,7 @@ module _ (m : Machine) (f : Function) where
   unfolding leading
   allows = implied-first m (f .simple) (ahead (f .rows)) .0
 
-  says-yes : T (rowCheck (f .simple) (f .rows)) → T (all (allowed true) (leading m f)) × T (inOrder false [] (leading m f ++ rowsOf (others (f .rows))))
+  pub says-yes : T (rowCheck (f .simple) (f .rows)) → T (all (allowed true) (leading m f)) × T (inOrder false [] (leading m f ++ rowsOf (others (f .rows))))
   unfolding rowCheck
   says-yes t =
       let h = and-yes (all mayLead (ahead (f .rows))) (inOrder (not (f .simple)) [] (rowsOf (f .rows))) t in

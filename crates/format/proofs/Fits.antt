@@ -8,7 +8,7 @@ use Rattle.format.specs.declared.Machine.{Machine}
 use Rattle.format.specs.Machine.{isWord}
 use Rattle.format.specs.Lists.{Function, mostFunctions, mostRecords}
 use Rattle.format.specs.declared.Section.{Section}
-use Rattle.format.specs.Questions.{sizeBytes, encodingsOk}
+use Rattle.format.specs.Questions.{sizeBytes, encodingsOk, pairsOk}
 use Rattle.format.proofs.WalkBack.{RowsAtOk}
 
 -- question 11, as far as the tables go
@@ -19,11 +19,12 @@ pub record MachineFits (m : Machine) : Type 0 where
   pub pushed-small : m .pushed < 2 ^ 31
   pub pushed-whole : m .pushed % m .word ≡ 0
 
--- questions 21 to 24 of a function, as the section takes it, with the rows' operands in their fields
+-- questions 21 to 25 of a function, as the section takes it, with the rows' operands in their fields
 pub record FunctionFits (s : Section) (m : Machine) (f : Function) : Type 0 where
   pub size-small : f .size < 256 ^ sizeBytes s (m .word)
   pub encodings : T (encodingsOk (m .word) (f .landings) (f .named))
   pub lines : RowsAtOk (m .word) 0 (f .rows)
+  pub apart : T (pairsOk (f .relaxed))
 
 abbrev pub AllFit : Section → Machine → List Function → Type 0
 AllFit s m [] = Unit {0}

@@ -56,7 +56,7 @@ kind-accepted word [] (some n) t =
 -- ---- the string
 
 -- the letters of a header
-unfoldable lettersFor : (debug : Bool) → Kind → (signal : Bool) → Letters
+unfoldable pub lettersFor : (debug : Bool) → Kind → (signal : Bool) → Letters
 lettersFor true kind s = record { personality = false; lsda = false; signal = s }
 lettersFor false plain s = record { personality = false; lsda = false; signal = s }
 lettersFor false personal s = record { personality = true; lsda = true; signal = s }
@@ -76,7 +76,7 @@ spelling-back false (named e y none) true bs = refl
 spelling-back false (named e y (some l)) false bs = refl
 spelling-back false (named e y (some l)) true bs = refl
 
-letters-back : (debug : Bool) (k : Key) (bs : List ℕ)
+pub letters-back : (debug : Bool) (k : Key) (bs : List ℕ)
     → readLetters (spellings debug) (augmentation debug k ++ bs) ≡ some (lettersFor debug (k .kind) (k .signal), bs)
 unfolding augmentation
 letters-back debug k bs = spelling-back debug (k .kind) (k .signal) bs
@@ -100,7 +100,7 @@ personality-back word e rest ok =
       many-back (pointerBytes word e) (replicate (pointerBytes word e) 0) rest (length-replicate {A = ℕ} (pointerBytes word e) 0),
     )
 
-lsda-back : (word e s : ℕ) (l : Option ℕ) (rest : List ℕ) → LsdaOk word l
+pub lsda-back : (word e s : ℕ) (l : Option ℕ) (rest : List ℕ) → LsdaOk word l
     → lsdaIn (isSome l) word (lsdaLetter l ++ rest) ≡ some (pointerIn false word (named e s l), rest)
 unfolding isSome lsdaIn lsdaLetter pointerIn next after readByte
 lsda-back word e s none rest ok = refl
@@ -113,7 +113,7 @@ data-back word plain signal ok = refl
 data-back word personal signal ok = refl
 data-back word (named e s l) signal ok = rw (personality-back word e (lsdaLetter l ++ (0x1b ∷ [])) (ok .0), lsda-back word e s l (0x1b ∷ []) (ok .1))
 
-signal-kept : (kind : Kind) (signal : Bool) → lettersFor false kind signal .signal ≡ signal
+pub signal-kept : (kind : Kind) (signal : Bool) → lettersFor false kind signal .signal ≡ signal
 unfolding lettersFor
 signal-kept plain signal = refl
 signal-kept personal signal = refl
@@ -145,23 +145,23 @@ tail-back false word kind signal ops h ok =
 
 -- ---- the data alignment factor
 
-factor-fits : (word : ℕ) → T (isWord word) → T (fits64 (dataFactor word))
+pub factor-fits : (word : ℕ) → T (isWord word) → T (fits64 (dataFactor word))
 unfolding dataFactor fits64
 factor-fits zero t = lt→ltb 0 (2 ^ 63) (omega arith)
 factor-fits (suc n) t = let h = word-small (suc n) t in lt→ltb n (2 ^ 63) (omega arith)
 
-same-self : (z : ℤ) → T (sameOffset z z)
+pub same-self : (z : ℤ) → T (sameOffset z z)
 unfolding sameOffset
 same-self (pos n) = eqb-refl n
 same-self (negsuc n) = eqb-refl n
 
 -- ---- the whole
 
-register-back : (n : ℕ) (rest : List ℕ) → n < 65536 → readRegister (uleb n ++ rest) ≡ some (n, rest)
+pub register-back : (n : ℕ) (rest : List ℕ) → n < 65536 → readRegister (uleb n ++ rest) ≡ some (n, rest)
 unfolding readRegister next
 register-back n rest h = let k : n ≤ 65535 = omega arith in rw (uleb-back n rest (omega arith)) (rw (if-le n 65535))
 
-id-small : (debug : Bool) → headerId debug < 2 ^ 32
+pub id-small : (debug : Bool) → headerId debug < 2 ^ 32
 unfolding headerId pick
 id-small false = omega arith
 id-small true = omega arith

@@ -54,7 +54,7 @@ wider start start′ end end′ rs h k =
 -- ---- steps
 
 -- a step in a form of its own has its operand behind the opcode
-set-ends : (place d : ℕ) → 0x3f < d → setPlace place (stepForm d) + setBytes (stepForm d) ≡ place + length (stepBytes d)
+pub set-ends : (place d : ℕ) → 0x3f < d → setPlace place (stepForm d) + setBytes (stepForm d) ≡ place + length (stepBytes d)
 unfolding stepForm stepBytes setPlace setBytes stepIn
 set-ends place d g =
     let n : d ≢ 0 = λ e. omega arith in
@@ -64,7 +64,7 @@ set-ends place d g =
     rw (if-gt d 0xff)
     (either d 0xffff (λ h. rw (if-le d 0xffff) (omega (arith, little-length 2 d))) (λ g₂. rw (if-gt d 0xffff) (omega (arith, little-length 4 d))))))
 
-short-form : (d : ℕ) → d ≤ 0x3f → stepForm d ≡ 0
+pub short-form : (d : ℕ) → d ≤ 0x3f → stepForm d ≡ 0
 unfolding stepForm
 short-form d h = rw (if-le d 0x3f)
 
@@ -145,7 +145,7 @@ size-known word e h =
     ))
     λ t. absurd t))
 
-pointer-inside : (indirect : Bool) (word place symbol e : ℕ) → 0 < word → T (isSome (pointerSize indirect word e))
+pub pointer-inside : (indirect : Bool) (word place symbol e : ℕ) → 0 < word → T (isSome (pointerSize indirect word e))
     → Inside place (place + pointerBytes word e) (pointerReloc word place symbol e)
 unfolding pointerSize pointerBytes pointerReloc
 pointer-inside indirect word place symbol e h t =
@@ -172,7 +172,7 @@ debug-length : (word distance : ℕ) (f : Function) → length (recordFields tru
 unfolding recordFields
 debug-length word distance f = simp (length-append, little-length, length-replicate {A = ℕ} word 0) (omega arith)
 
-eh-length : (word distance : ℕ) (f : Function) → word ≤ 8 → length (recordFields false word distance f) ≡ 13 + lsdaBlank word (f .landings) (f .named)
+pub eh-length : (word distance : ℕ) (f : Function) → word ≤ 8 → length (recordFields false word distance f) ≡ 13 + lsdaBlank word (f .landings) (f .named)
 unfolding recordFields counted
 eh-length word distance f h =
     let n : ℕ = lsdaBlank word (f .landings) (f .named) in

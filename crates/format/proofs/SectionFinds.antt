@@ -33,11 +33,11 @@ no-and : (a b c : Bool) → T (not a) → T (not (a && b && c))
 no-and true b c t = absurd t
 no-and false b c t = tt
 
-no-is-false : (b : Bool) → T (not b) → b ≡ false
+pub no-is-false : (b : Bool) → T (not b) → b ≡ false
 no-is-false true t = absurd t
 no-is-false false t = refl
 
-header-entry-is : (debug : Bool) (m : Machine) (align at : ℕ) (k : Key) → T (isHeader debug (headerEntry debug m align at k))
+pub header-entry-is : (debug : Bool) (m : Machine) (align at : ℕ) (k : Key) → T (isHeader debug (headerEntry debug m align at k))
 unfolding headerEntry headerBody
 header-entry-is debug m align at k = rw padded-behind (header-is debug m k at _)
 
@@ -57,7 +57,7 @@ module _ (s : Section) (m : Machine) where
 
   -- ---- the record
 
-  record-entry-is : (x : Spot) (f : Function) → Holds s m x f → T (not (isHeader (isDebug s) (recordEntry s m x f)))
+  pub record-entry-is : (x : Spot) (f : Function) → Holds s m x f → T (not (isHeader (isDebug s) (recordEntry s m x f)))
   unfolding recordEntry recordBody
   record-entry-is x f h = rw padded-behind (record-is-none (isDebug s) (m .word) (placeOf s m x f + 4 - cieOf x) f (placeOf s m x f) _ (omega arith) (h .distance))
 

@@ -131,10 +131,10 @@ module _ (s : Section) (m : Machine) where
   record-body-long align at cie f = rw padded-behind (record-long (isDebug s) (m .word) (at + 4 - cie) f _)
 
   -- bytes from `at` on are entries, with fuel for each byte
-  abbrev Tiles : ℕ → List ℕ → List Entry → Type 0
+  abbrev pub Tiles : ℕ → List ℕ → List Entry → Type 0
   Tiles at bs es = (fuel : ℕ) → length bs < fuel → entriesF fuel at bs ≡ some es
 
-  tile : (at : ℕ) (body rest : List ℕ) (es : List Entry) → 4 ≤ length body → length body < 2 ^ 32 → Tiles (at + 4 + length body) rest es
+  pub tile : (at : ℕ) (body rest : List ℕ) (es : List Entry) → 4 ≤ length body → length body < 2 ^ 32 → Tiles (at + 4 + length body) rest es
       → Tiles at (entry body ++ rest) (record { at = at; body = body } ∷ es)
   unfolding entriesF entry little next after
   tile at body rest es l h t zero len = absurd (omega arith)
@@ -142,7 +142,7 @@ module _ (s : Section) (m : Machine) where
       let n : length (entry body ++ rest) ≡ 4 + length body + length rest = rw (length-append, entry-length) in
       rw (entry-back body rest l h, t fuel (omega arith))
 
-  ends : (at : ℕ) → Tiles at [] []
+  pub ends : (at : ℕ) → Tiles at [] []
   unfolding entriesF
   ends at zero len = absurd (omega arith)
   ends at (suc fuel) len = refl

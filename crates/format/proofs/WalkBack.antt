@@ -44,7 +44,7 @@ pick-over f true x y = refl
 pick-over f false x y = refl
 
 -- the bytes e are read as op, whatever follows
-abbrev Reads : ℕ → List ℕ → Operation → Type 0
+abbrev pub Reads : ℕ → List ℕ → Operation → Type 0
 Reads w e op = (rest : List ℕ) → readOperation w (e ++ rest) ≡ some (op, rest)
 
 pub reads-long : (w : ℕ) (e : List ℕ) (op : Operation) → Reads w e op → 1 ≤ length e
@@ -53,7 +53,7 @@ reads-long w [] op h = let e = h [] in let z : _≡_ {A = ℕ} 0 1 = cc in omega
 reads-long w (b ∷ e) op h = omega arith
 
 module _ (header : Bool) (w p : ℕ) (init : ℕ → Rule) where
-  abbrev running : ℕ → ℕ → State → List ℕ → Result State
+  abbrev pub running : ℕ → ℕ → State → List ℕ → Result State
   running = runF header w p init
 
   run-op : (f loc : ℕ) (s : State) (bs : List ℕ) (op : Operation) (r : List ℕ) → readOperation w bs ≡ some (op, r)
@@ -62,7 +62,7 @@ module _ (header : Bool) (w p : ℕ) (init : ℕ → Rule) where
   run-op f loc s [] op r e = cc
   run-op f loc s (b ∷ bs) op r e = rw e
 
-  run-pad : (n f loc : ℕ) (s : State) → n ≤ f → running f loc s (replicate n 0) ≡ good s
+  pub run-pad : (n f loc : ℕ) (s : State) → n ≤ f → running f loc s (replicate n 0) ≡ good s
   unfolding runF whenRead readOperation readExtended perform pick
   run-pad zero zero loc s h = refl
   run-pad zero (suc f) loc s h = refl
@@ -70,17 +70,17 @@ module _ (header : Bool) (w p : ℕ) (init : ℕ → Rule) where
   run-pad (suc n) (suc f) loc s h = run-pad n f loc s (omega arith)
 
   -- what a run of ys finds from loc on
-  abbrev Finds : ℕ → List ℕ → (State → Result State) → Type 0
+  abbrev pub Finds : ℕ → List ℕ → (State → Result State) → Type 0
   Finds loc ys k = (f : ℕ) (s : State) → length ys ≤ f → running f loc s ys ≡ k s
 
   -- bytes that are read as op, in front of ys
-  run-one : (e ys : List ℕ) (op : Operation) (loc : ℕ) (k : State → Result State) → Reads w e op
+  pub run-one : (e ys : List ℕ) (op : Operation) (loc : ℕ) (k : State → Result State) → Reads w e op
       → ((f : ℕ) (s : State) → length ys ≤ f → perform header p init op loc s (λ loc′ t. running f loc′ t ys) ≡ k s) → Finds loc (e ++ ys) k
   run-one e ys op loc k h c zero s len = absurd (omega (arith, length-append e ys, reads-long w e op h))
   run-one e ys op loc k h c (suc f) s len =
       run-op f loc s (e ++ ys) op ys (h ys) ∙ c f s (omega (arith, length-append e ys, reads-long w e op h))
 
-  run-row : (r : Row) (loc : ℕ) (ys : List ℕ) (k : State → Result State) → RowFits w r → Finds loc ys k
+  pub run-row : (r : Row) (loc : ℕ) (ys : List ℕ) (k : State → Result State) → RowFits w r → Finds loc ys k
       → Finds loc (rowBytes w r ++ ys) (λ s. onward (act header init r s) k)
   unfolding perform
   run-row r loc ys k ok h =
