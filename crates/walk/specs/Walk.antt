@@ -1,0 +1,197 @@
+-- The walk over the frames of a recorded fault (document 02, W-202), by any source of rules.
+use Prim.Native.Nat.{ℕ, zero, suc, _+_, _-_, _*_, _/_, _^_, _%_}
+use mathlib.Core.Bool.{Bool, true, false, _&&_}
+use mathlib.Core.Option.{Option, none, some}
+use mathlib.Core.List.{List, [], _∷_}
+use lib.ListN.{length, drop, getD, set}
+use lib.Dec.{leb, ltb, eqb}
+use lib.IntN.{ℤ, pos, negsuc}
+use Rattle.format.specs.Prelude.{pick, after, each, Result, good, bad, onward, orElse}
+use Rattle.format.specs.Leb.{readLittle}
+use Rattle.format.specs.declared.Machine.{Machine}
+use Rattle.format.specs.declared.CfaRule.{CfaRule}
+use Rattle.format.specs.declared.CfaRule.the-variants.{Unset, Register}
+use Rattle.format.specs.declared.Rule.{Rule}
+use Rattle.format.specs.declared.Rule.the-variants as rule
+use Rattle.format.specs.Machine.{machineOf, machineOk}
+use Rattle.format.specs.Lists.{count, field, relocationsOf}
+use Rattle.format.specs.Questions.{Given, givenFunction}
+use Rattle.format.specs.Rules.{AllRules, rulesAt}
+use Rattle.format.specs.Reader.{Found, locate, runTo, require, valueOr0}
+use Rattle.walk.specs.Recorded.{Slot, Recorded, followed, readRecorded}
+
+-- ---- what a walk stands on
+
+-- the rules of record k at an offset, and the signal mark of its header
+pub record Ruled : Type 0 where
+  pub rules : AllRules
+  pub signal : Bool
+
+abbrev pub Source : Type 0
+Source = (k p : ℕ) → Result Ruled
+
+-- a function: its start address and its length
+pub record Placed : Type 0 where
+  pub start : ℕ
+  pub size : ℕ
+
+pub record Fault : Type 0 where
+  pub machine : Machine
+  pub stack : List ℕ
+  pub address : ℕ
+  pub functions : List Placed
+
+-- a frame: the position of its function in the list, and the pc or return address
+pub record Frame : Type 0 where
+  pub position : ℕ
+  pub pc : ℕ
+
+-- ending 1: the return address is undefined; 2: no function holds the address; 3: a 65th frame would follow
+pub record Chain : Type 0 where
+  pub frames : List Frame
+  pub ending : ℕ
+
+abbrev pub returnUndefined : ℕ
+returnUndefined = 1
+
+abbrev pub heldByNone : ℕ
+heldByNone = 2
+
+abbrev pub tooMany : ℕ
+tooMany = 3
+
+abbrev pub mostFrames : ℕ
+mostFrames = 64
+
+-- ---- the function that holds an address: the first in list order
+
+unfoldable pub holds : (address : ℕ) → Placed → Bool
+holds address f = leb (f .start) address && ltb (address - f .start) (f .size)
+
+pub record Held : Type 0 where
+  pub position : ℕ
+  pub offset : ℕ
+
+unfoldable pub heldFrom : (address k : ℕ) → List Placed → Option Held
+heldFrom address k [] = none
+heldFrom address k (f ∷ fs) =
+    pick (holds address f) (some (record { position = k; offset = address - f .start })) (heldFrom address (suc k) fs)
+
+-- ---- one frame left
+
+-- an address sum, where 64 bits hold it
+unfoldable pub sumOf : ℕ → ℤ → Option ℕ
+sumOf a (pos n) = require (ltb (a + n) (2 ^ 64)) (some (a + n))
+sumOf a (negsuc n) = require (ltb n a) (some (a - suc n))
+
+-- the 8 bytes at an address, where all of them are the stack's
+unfoldable pub load : Fault → ℕ → Option ℕ
+load e a =
+    require (leb (e .address) a && leb (a + 8) (e .address + length (e .stack))) (some (valueOr0 (readLittle 8 (drop (a - e .address) (e .stack)))))
+
+-- 74: a saved register's word
+unfoldable pub saved : Fault → (cfa : ℕ) → ℤ → Result Slot
+saved e cfa z = onward (orElse (after (sumOf cfa z) (load e)) 74) λ v. good (some v)
+
+-- what a register is after the frame is left, by its rule and the registers before
+unfoldable pub leftBy : Fault → (cfa : ℕ) → (before : List Slot) → (reg : ℕ) → Rule → Result Slot
+leftBy e cfa before reg rule.Unstated = good (getD before reg none)
+leftBy e cfa before reg rule.SameValue = good (getD before reg none)
+leftBy e cfa before reg rule.Undefined = good none
+leftBy e cfa before reg (rule.InRegister other) = good (getD before other none)
+leftBy e cfa before reg (rule.Saved z) = saved e cfa z
+
+-- n registers from reg on, in order: the first that is refused refuses the walk
+unfoldable pub leftFrom : (ℕ → Result Slot) → (reg n : ℕ) → Result (List Slot)
+leftFrom one reg zero = good []
+leftFrom one reg (suc n) = onward (one reg) λ s. onward (leftFrom one (suc reg) n) λ ss. good (s ∷ ss)
+
+-- then the stack pointer is the frame address, whatever its rule
+unfoldable pub left : Fault → (cfa : ℕ) → AllRules → List Slot → Result (List Slot)
+left e cfa r before =
+    onward (leftFrom (λ reg. leftBy e cfa before reg (r .rules reg)) 0 followed) λ ss. good (set ss (e .machine .stack) (some cfa))
+
+-- 75: a frame address rule whose register is there; 74: the sum
+unfoldable pub frameAddress : CfaRule → List Slot → Result ℕ
+frameAddress Unset before = bad 75
+frameAddress (Register reg z) before = onward (orElse (getD before reg none) 75) λ a. orElse (sumOf a z) 74
+
+-- signing on: the low 48 bits
+unfoldable pub unsigned : (signing : Bool) → ℕ → ℕ
+unsigned signing a = pick signing (a % 2 ^ 48) a
+
+-- a caller is looked up one byte before its return address, but behind a signal frame; one byte before 0 there is nothing
+unfoldable pub lookedUp : (signal : Bool) → ℕ → Option ℕ
+lookedUp true a = some a
+lookedUp false zero = none
+lookedUp false (suc a) = some a
+
+unfoldable pub undefined : Rule → Bool
+undefined rule.Unstated = false
+undefined rule.Undefined = true
+undefined (rule.Saved z) = false
+undefined rule.SameValue = false
+undefined (rule.InRegister other) = false
+
+-- ---- the frames
+
+unfoldable pub ended : ℕ → Result Chain
+ended n = good (record { frames = []; ending = n })
+
+unfoldable pub behind : Frame → Result Chain → Result Chain
+behind f rest = onward rest λ c. good (record { frames = f ∷ c .frames; ending = c .ending })
+
+-- what follows where a function holds the address
+unfoldable pub whenHeld : Option Held → (Held → Result Chain) → Result Chain
+whenHeld none more = ended heldByNone
+whenHeld (some h) more = more h
+
+-- from a frame's rules to the next frame; the return address is undefined before the frame address is taken
+unfoldable pub leaving : Fault → Ruled → List Slot → (List Slot → (pc : ℕ) → (lookup : Option ℕ) → Result Chain) → Result Chain
+leaving e r before more =
+    pick (undefined (r .rules .rules (e .machine .ret))) (ended returnUndefined)
+    (onward (frameAddress (r .rules .cfa) before) λ cfa.
+    onward (left e cfa (r .rules) before) λ slots.
+    onward (orElse (getD slots (e .machine .ret) none) 75) λ a.
+    more slots (unsigned (r .rules .signing) a) (lookedUp (r .signal) (unsigned (r .rules .signing) a)))
+
+-- n frames at most; where one more would follow that is said
+unfoldable pub framesF : Source → Fault → (n : ℕ) → List Slot → (pc : ℕ) → (lookup : Option ℕ) → Result Chain
+framesF source e zero slots pc lookup = whenHeld (after lookup λ a. heldFrom a 0 (e .functions)) λ h. ended tooMany
+framesF source e (suc n) slots pc lookup =
+    whenHeld (after lookup λ a. heldFrom a 0 (e .functions)) λ h.
+    behind (record { position = h .position; pc = pc }) (onward (source (h .position) (h .offset)) λ r. leaving e r slots (framesF source e n))
+
+-- ---- the whole
+
+-- two numbers each
+unfoldable pub placedOf : List ℕ → List Placed
+placedOf ns = each (λ i. record { start = field 2 ns i 0; size = field 2 ns i 1 }) 0 (count 2 ns)
+
+-- 54: two numbers a frame
+unfoldable pub fitting : (room : ℕ) → Chain → Result Chain
+fitting room c = pick (leb (length (c .frames)) (room / 2)) (good c) (bad 54)
+
+-- 73, then 11 and 12 for the machine; 54 last
+unfoldable pub walkBy : Source → (machine file : List ℕ) → (pc stack : ℕ) → (functions : List ℕ) → (room : ℕ) → Result Chain
+walkBy source machine file pc stack functions room =
+    onward (orElse (readRecorded file) 73) λ f.
+    pick (machineOk machine)
+    (pick (eqb (machineOf machine .word) 8)
+    (onward (framesF source (record { machine = machineOf machine; stack = f .stack; address = stack; functions = placedOf functions }) mostFrames (f .slots) pc (some pc)) (fitting room))
+    (bad 12))
+    (bad 11)
+
+-- ---- two sources
+
+-- the reader on a section, with words of 8 bytes
+unfoldable pub bySection : (section relocations : List ℕ) (kind : ℕ) → Source
+bySection section relocations kind k p =
+    pick (leb kind 1)
+    (onward (locate (eqb kind 1) (relocationsOf relocations) 8 k section) λ x.
+    onward (runTo 8 p x) λ s. good (record { rules = s .current; signal = x .header .signal }))
+    (bad 11)
+
+-- the rows of a list of functions
+unfoldable pub byRows : Given → Source
+byRows g k p = good (record { rules = rulesAt (machineOf (g .machine)) (givenFunction g k) p .current; signal = givenFunction g k .signal })

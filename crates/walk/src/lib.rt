@@ -1,0 +1,1 @@
+// The walk over the frames of a recorded fault.
