@@ -6,7 +6,7 @@ use mathlib.Core.List.{List, [], _∷_}
 use lib.ListN.{length, drop, getD, set}
 use lib.Dec.{leb, ltb, eqb}
 use lib.IntN.{ℤ, pos, negsuc}
-use Rattle.format.specs.Prelude.{pick, after, each, Result, good, bad, onward, orElse}
+use Rattle.format.specs.Prelude.{pick, next, after, each, Result, good, bad, onward, orElse}
 use Rattle.format.specs.Leb.{readLittle}
 use Rattle.format.specs.declared.Machine.{Machine}
 use Rattle.format.specs.declared.CfaRule.{CfaRule}
@@ -17,7 +17,7 @@ use Rattle.format.specs.Machine.{machineOf, machineOk}
 use Rattle.format.specs.Lists.{count, field, relocationsOf}
 use Rattle.format.specs.Questions.{Given, givenFunction}
 use Rattle.format.specs.Rules.{AllRules, rulesAt}
-use Rattle.format.specs.Reader.{Found, locate, runTo, require, valueOr0}
+use Rattle.format.specs.Reader.{Found, locate, runTo, require}
 use Rattle.walk.specs.Recorded.{Slot, Recorded, followed, readRecorded}
 
 -- ---- what a walk stands on
@@ -35,10 +35,14 @@ pub record Placed : Type 0 where
   pub start : ℕ
   pub size : ℕ
 
+-- the stack's bytes, from an address on
+pub record Memory : Type 0 where
+  pub address : ℕ
+  pub bytes : List ℕ
+
 pub record Fault : Type 0 where
   pub machine : Machine
-  pub stack : List ℕ
-  pub address : ℕ
+  pub memory : Memory
   pub functions : List Placed
 
 -- a frame: the position of its function in the list, and the pc or return address
@@ -85,21 +89,20 @@ sumOf a (pos n) = require (ltb (a + n) (2 ^ 64)) (some (a + n))
 sumOf a (negsuc n) = require (ltb n a) (some (a - suc n))
 
 -- the 8 bytes at an address, where all of them are the stack's
-unfoldable pub load : Fault → ℕ → Option ℕ
-load e a =
-    require (leb (e .address) a && leb (a + 8) (e .address + length (e .stack))) (some (valueOr0 (readLittle 8 (drop (a - e .address) (e .stack)))))
+unfoldable pub load : Memory → ℕ → Option ℕ
+load m a = require (leb (m .address) a) (next (readLittle 8 (drop (a - m .address) (m .bytes))) λ v r. some v)
 
 -- 74: a saved register's word
-unfoldable pub saved : Fault → (cfa : ℕ) → ℤ → Result Slot
-saved e cfa z = onward (orElse (after (sumOf cfa z) (load e)) 74) λ v. good (some v)
+unfoldable pub saved : Memory → (cfa : ℕ) → ℤ → Result Slot
+saved m cfa z = onward (orElse (after (sumOf cfa z) (load m)) 74) λ v. good (some v)
 
 -- what a register is after the frame is left, by its rule and the registers before
-unfoldable pub leftBy : Fault → (cfa : ℕ) → (before : List Slot) → (reg : ℕ) → Rule → Result Slot
-leftBy e cfa before reg rule.Unstated = good (getD before reg none)
-leftBy e cfa before reg rule.SameValue = good (getD before reg none)
-leftBy e cfa before reg rule.Undefined = good none
-leftBy e cfa before reg (rule.InRegister other) = good (getD before other none)
-leftBy e cfa before reg (rule.Saved z) = saved e cfa z
+unfoldable pub leftBy : Memory → (cfa : ℕ) → (before : List Slot) → (reg : ℕ) → Rule → Result Slot
+leftBy m cfa before reg rule.Unstated = good (getD before reg none)
+leftBy m cfa before reg rule.SameValue = good (getD before reg none)
+leftBy m cfa before reg rule.Undefined = good none
+leftBy m cfa before reg (rule.InRegister other) = good (getD before other none)
+leftBy m cfa before reg (rule.Saved z) = saved m cfa z
 
 -- n registers from reg on, in order: the first that is refused refuses the walk
 unfoldable pub leftFrom : (ℕ → Result Slot) → (reg n : ℕ) → Result (List Slot)
@@ -109,7 +112,7 @@ leftFrom one reg (suc n) = onward (one reg) λ s. onward (leftFrom one (suc reg)
 -- then the stack pointer is the frame address, whatever its rule
 unfoldable pub left : Fault → (cfa : ℕ) → AllRules → List Slot → Result (List Slot)
 left e cfa r before =
-    onward (leftFrom (λ reg. leftBy e cfa before reg (r .rules reg)) 0 followed) λ ss. good (set ss (e .machine .stack) (some cfa))
+    onward (leftFrom (λ reg. leftBy (e .memory) cfa before reg (r .rules reg)) 0 followed) λ ss. good (set ss (e .machine .stack) (some cfa))
 
 -- 75: a frame address rule whose register is there; 74: the sum
 unfoldable pub frameAddress : CfaRule → List Slot → Result ℕ
@@ -165,8 +168,11 @@ framesF source e (suc n) slots pc lookup =
 -- ---- the whole
 
 -- two numbers each
+unfoldable pub placedAt : List ℕ → ℕ → Placed
+placedAt ns i = record { start = field 2 ns i 0; size = field 2 ns i 1 }
+
 unfoldable pub placedOf : List ℕ → List Placed
-placedOf ns = each (λ i. record { start = field 2 ns i 0; size = field 2 ns i 1 }) 0 (count 2 ns)
+placedOf ns = each (placedAt ns) 0 (count 2 ns)
 
 -- 54: two numbers a frame
 unfoldable pub fitting : (room : ℕ) → Chain → Result Chain
@@ -178,7 +184,7 @@ walkBy source machine file pc stack functions room =
     onward (orElse (readRecorded file) 73) λ f.
     pick (machineOk machine)
     (pick (eqb (machineOf machine .word) 8)
-    (onward (framesF source (record { machine = machineOf machine; stack = f .stack; address = stack; functions = placedOf functions }) mostFrames (f .slots) pc (some pc)) (fitting room))
+    (onward (framesF source (record { machine = machineOf machine; memory = record { address = stack; bytes = f .stack }; functions = placedOf functions }) mostFrames (f .slots) pc (some pc)) (fitting room))
     (bad 12))
     (bad 11)
 
