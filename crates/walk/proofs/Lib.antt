@@ -1,3 +1,8 @@
 -- The laws of the walk.
 pub mod SameSource
 pub mod ByRows
+pub mod Leaves
+pub mod Holders
+pub mod Files
+pub mod Trailers
+pub mod Leaving

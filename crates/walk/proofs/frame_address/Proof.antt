@@ -1,3 +1,9 @@
+-- `walk::frame_address` meets its contract.
+use mathlib.Core.Path.{sym, ap, _∙_}
+use lib.IntN.{ℤ}
+use Rattle.walk.specs.Walk.{sumOf}
+use Rattle.walk.specs.Standing.{numberOf, slots}
+use Rattle.walk.proofs.Leaving.{passed, address-unset, address-absent, address-outside, address-at}
 use borrow.Author.Needs.{needs}
 use Rattle.walk.proofs.frame_address.Statement.{statement}
 use Rattle.walk.proofs.frame_address.Tie as tie
@@ -6,57 +12,52 @@ use Rattle.walk.proofs.frame_address.Lts as lts
 use Rattle.walk.proofs.slot.Reads as slot-reads
 use Rattle.walk.proofs.sum.Reads as sum-reads
 
--- src/lib.rt:235:27
 enum-told : tie.Need-enum-told
 enum-told c = search needs
 
--- src/lib.rt:236:27
 enum-known-rule : tie.Need-enum-known-rule
 enum-known-rule c = search needs
 
--- src/lib.rt:237:44
 cast-slot : tie.Need-cast-slot
 cast-slot c = search needs
 
--- src/lib.rt:237:33
 slot-requires : tie.Need-slot-requires
 slot-requires c κs = search needs
 
--- src/lib.rt:237:28
 enum-known-a : tie.Need-enum-known-a
 enum-known-a c = search needs
 
--- src/lib.rt:238:17
 enum-told-2 : tie.Need-enum-told-2
 enum-told-2 c = search needs
 
--- src/lib.rt:238:17
 returns : tie.Need-returns
-returns c = ?
+returns c = address-absent _ (c .before .before .before .before .rule .given .1) (sym (c .before .before .slot .ensures) ∙ c .enum-told2 .given .1)
 
--- src/lib.rt:240:35
 sum-requires : tie.Need-sum-requires
 sum-requires c κs = search needs
 
--- src/lib.rt:240:28
 enum-known-cfa : tie.Need-enum-known-cfa
 enum-known-cfa c = search needs
 
--- src/lib.rt:241:17
 enum-told-3 : tie.Need-enum-told-3
 enum-told-3 c = search needs
 
--- src/lib.rt:241:17
 returns-2 : tie.Need-returns-2
-returns-2 c = ?
+returns-2 c =
+    let r = c .before .before .before .before .before .before .before .before in
+    let a = c .before .before .before .before in
+    let z = passed _ (c .before .before .before .before .before .before .before .known-told .given .1 .0 .1) in
+    address-outside _ (r .rule .given .1) (sym (c .before .before .before .before .before .before .slot .ensures) ∙ a .a .given .1) (ap (λ (z : ℤ). numberOf (sumOf (a .a .given .0 .0) z)) (sym z) ∙ sym (c .before .before .sum .ensures) ∙ c .enum-told3 .given .1)
 
--- src/lib.rt:231:1
 returns-3 : tie.Need-returns-3
-returns-3 c = ?
+returns-3 c = address-unset _ (c .enum-told .given .1)
 
--- src/lib.rt:231:1
 returns-4 : tie.Need-returns-4
-returns-4 c = ?
+returns-4 c =
+    let r = c .before .before .before .before .before .before .before .before .before in
+    let a = c .before .before .before .before .before in
+    let z = passed _ (c .before .before .before .before .before .before .before .before .known-told .given .1 .0 .1) in
+    address-at _ (r .rule .given .1) (sym (c .before .before .before .before .before .before .before .slot .ensures) ∙ a .a .given .1) (ap (λ (z : ℤ). numberOf (sumOf (a .a .given .0 .0) z)) (sym z) ∙ sym (c .before .before .before .sum .ensures) ∙ c .before .cfa .given .1)
 
 pub frame-address-spec : {M : Type 1} → statement M
 frame-address-spec =

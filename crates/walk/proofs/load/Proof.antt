@@ -1,3 +1,6 @@
+-- `walk::load` meets its contract.
+use Rattle.walk.proofs.Leaves.{load-low, load-none, load-is}
+use mathlib.Core.Path.{sym, _∙_}
 use borrow.Author.Needs.{needs}
 use Rattle.walk.proofs.load.Statement.{statement}
 use Rattle.walk.proofs.load.Tie as tie
@@ -5,29 +8,23 @@ use Rattle.walk.proofs.load.Reads as reads
 use Rattle.walk.proofs.load.Lts as lts
 use Rattle.leb.proofs.read_le.Reads as read-le-reads
 
--- src/lib.rt:48:9
 returns : tie.Need-returns
-returns c = ?
+returns c = load-low _ _ _ (c .if1 .taken)
 
--- src/lib.rt:50:33
 read-le-requires : tie.Need-read-le-requires
 read-le-requires c κs = search needs
 
--- src/lib.rt:50:25
 enum-known-v : tie.Need-enum-known-v
 enum-known-v c = search needs
 
--- src/lib.rt:51:9
 enum-told : tie.Need-enum-told
 enum-told c = search needs
 
--- src/lib.rt:51:9
 returns-2 : tie.Need-returns-2
-returns-2 c = ?
+returns-2 c = load-none _ _ _ (c .before .before .before .if1 .left) (sym (c .before .before .read-le .ensures) ∙ c .enum-told .given .1)
 
--- src/lib.rt:44:1
 returns-3 : tie.Need-returns-3
-returns-3 c = ?
+returns-3 c = load-is _ _ _ (c .before .before .before .before .if1 .left) (sym (c .before .before .before .read-le .ensures) ∙ c .before .v .given .1)
 
 pub load-spec : {M : Type 1} → statement M
 load-spec =

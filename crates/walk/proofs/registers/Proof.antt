@@ -1,3 +1,8 @@
+-- `walk::registers` meets its contract.
+use borrow.Author.Needs.{needs}
+use Prim.Native.Nat.{_-_}
+use lib.ListN.{length-set}
+use Rattle.walk.proofs.Files.{Filling, fill-start, fill-turn, fill-ended}
 use Rattle.walk.proofs.registers.Statement.{statement}
 use Rattle.walk.proofs.registers.Tie as tie
 use Rattle.walk.proofs.registers.Reads as reads
@@ -5,54 +10,43 @@ use Rattle.walk.proofs.registers.Lts as lts
 use Rattle.walk.proofs.word_at.Reads as word-at-reads
 
 abbrev Inv-loop : tie.InvT-loop
-Inv-loop file at count values₀ present₀ i₀ values present i = ?
+Inv-loop file at count values₀ present₀ i₀ values present i = Filling file at count values present i
 
 abbrev μ-loop : tie.MeasureT-loop
-μ-loop file at count values₀ present₀ i₀ values present i = ?
+μ-loop file at count values₀ present₀ i₀ values present i = 128 - i
 
--- src/lib.rt:203:5
 loop-holds : tie.Need-loop-holds Inv-loop μ-loop
-loop-holds c = ?
+loop-holds c = fill-start _ _ _ _ _ (search needs) (search needs)
 
--- src/lib.rt:204:40
 mul-word-at : tie.Need-mul-word-at Inv-loop μ-loop
-mul-word-at c = ?
+mul-word-at c = search needs
 
--- src/lib.rt:204:35
 add-word-at : tie.Need-add-word-at Inv-loop μ-loop
-add-word-at c = ?
+add-word-at c = search needs
 
--- src/lib.rt:204:21
 word-at-requires : tie.Need-word-at-requires Inv-loop μ-loop
-word-at-requires c κs = ?
+word-at-requires c κs = search needs
 
--- src/lib.rt:204:9
 mul-values : tie.Need-mul-values Inv-loop μ-loop
-mul-values c = ?
+mul-values c = search needs
 
--- src/lib.rt:204:9
 array-write-values : tie.Need-array-write-values Inv-loop μ-loop
-array-write-values c = ?
+array-write-values c = search needs
 
--- src/lib.rt:205:9
 array-write-present : tie.Need-array-write-present Inv-loop μ-loop
-array-write-present c = ?
+array-write-present c = search needs
 
--- src/lib.rt:206:9
 add-i : tie.Need-add-i Inv-loop μ-loop
-add-i c = ?
+add-i c = search needs
 
--- src/lib.rt:203:5
 loop-less : tie.Need-loop-less Inv-loop μ-loop
-loop-less c = ?
+loop-less c = search needs
 
--- src/lib.rt:203:5
 loop-again : tie.Need-loop-again Inv-loop μ-loop
-loop-again c = ?
+loop-again c = let l = c .before .before .loop in fill-turn (l .inv) (c .before .loop-test .taken) (c .word-at .ensures) (simp length-set (l .inv .values)) (simp length-set (l .inv .present))
 
--- src/lib.rt:196:1
 returns : tie.Need-returns Inv-loop μ-loop
-returns c = ?
+returns c = fill-ended (c .before .loop .inv) (c .loop-test .left)
 
 pub registers-spec : {M : Type 1} → statement M
 registers-spec =

@@ -1,3 +1,10 @@
+-- `walk::saved` meets its contract.
+use Rattle.walk.proofs.Leaves.{after-none, after-is}
+use mir.Facts.{toZ-ofZ}
+use mathlib.Core.Path.{sym, ap, _∙_}
+use lib.IntN.{ℤ}
+use Rattle.walk.specs.Walk.{sumOf}
+use Rattle.walk.specs.Standing.{numberOf}
 use borrow.Author.Needs.{needs}
 use Rattle.walk.proofs.saved.Statement.{statement}
 use Rattle.walk.proofs.saved.Tie as tie
@@ -6,29 +13,28 @@ use Rattle.walk.proofs.saved.Lts as lts
 use Rattle.walk.proofs.load.Reads as load-reads
 use Rattle.walk.proofs.sum.Reads as sum-reads
 
--- src/lib.rt:59:25
 sum-requires : tie.Need-sum-requires
 sum-requires c κs = search needs
 
--- src/lib.rt:59:20
 enum-known-a : tie.Need-enum-known-a
 enum-known-a c = search needs
 
--- src/lib.rt:60:9
 enum-told : tie.Need-enum-told
 enum-told c = search needs
 
--- src/lib.rt:60:9
 returns : tie.Need-returns
-returns c = ?
+unfolding numberOf
+returns c =
+    let s = c .before .before .before .before in
+    ap numberOf (sym (after-none (sumOf (s .args .cfa) (s .args .o)) _ (ap (λ (z : ℤ). numberOf (sumOf (s .args .cfa) z)) (sym (toZ-ofZ (s .fits .o))) ∙ sym (c .before .before .sum .ensures) ∙ c .enum-told .given .1)))
 
--- src/lib.rt:62:5
 load-requires : tie.Need-load-requires
 load-requires c κs = search needs
 
--- src/lib.rt:56:1
 returns-2 : tie.Need-returns-2
-returns-2 c = ?
+returns-2 c =
+    let s = c .before .before .before .before .before .before in
+    c .load .ensures ∙ ap numberOf (sym (after-is (sumOf (s .args .cfa) (s .args .o)) _ (ap (λ (z : ℤ). numberOf (sumOf (s .args .cfa) z)) (sym (toZ-ofZ (s .fits .o))) ∙ sym (c .before .before .before .before .sum .ensures) ∙ c .before .before .a .given .1)))
 
 pub saved-spec : {M : Type 1} → statement M
 saved-spec =

@@ -1,52 +1,45 @@
+-- `walk::sum` meets its contract.
+use Rattle.walk.proofs.Leaves.{below, below-out, above, above-out}
+use native.Mathlib.Omega.{arith}
+use Rattle.leb.proofs.Signs.{less-fits, less-cast, less-is, same-cast, same-is}
 use borrow.Author.Needs.{needs}
 use Rattle.walk.proofs.sum.Statement.{statement}
 use Rattle.walk.proofs.sum.Tie as tie
 use Rattle.walk.proofs.sum.Reads as reads
 use Rattle.walk.proofs.sum.Lts as lts
 
--- src/lib.rt:30:18
 sub-m : tie.Need-sub-m
-sub-m c = ?
+sub-m c = less-fits _ (c .before .fits .o) (c .if1 .taken)
 
--- src/lib.rt:30:17
 cast-m : tie.Need-cast-m
-cast-m c = ?
+cast-m c = less-cast _ (c .before .fits .o) (c .if1 .taken)
 
--- src/lib.rt:32:31
 sub-t8 : tie.Need-sub-t8
 sub-t8 c = search needs
 
--- src/lib.rt:32:31
 sub-t9 : tie.Need-sub-t9
 sub-t9 c = search needs
 
--- src/lib.rt:32:13
 returns : tie.Need-returns
-returns c = ?
+returns c = let s = c .before .before in below (s .args .a) (s .args .o) (s .fits .o) (less-is _ (s .fits .o) (c .before .if1 .taken)) (c .before .if1 .taken) (c .if2 .taken)
 
--- src/lib.rt:34:9
 returns-2 : tie.Need-returns-2
-returns-2 c = ?
+returns-2 c = let s = c .before .before in below-out (s .args .a) (s .args .o) (s .fits .o) (less-is _ (s .fits .o) (c .before .if1 .taken)) (c .before .if1 .taken) (c .if2 .left)
 
--- src/lib.rt:36:13
 cast-n : tie.Need-cast-n
-cast-n c = ?
+cast-n c = same-cast _ (c .before .fits .o) (c .if1 .left)
 
--- src/lib.rt:37:13
 sub-if3 : tie.Need-sub-if3
 sub-if3 c = search needs
 
--- src/lib.rt:38:27
 add-t11 : tie.Need-add-t11
 add-t11 c = search needs
 
--- src/lib.rt:38:9
 returns-3 : tie.Need-returns-3
-returns-3 c = ?
+returns-3 c = let s = c .before .before in above (s .args .a) (s .args .o) (s .fits .o) (same-is _ (s .fits .o) (c .before .if1 .left)) (c .before .if1 .left) (omega arith)
 
--- src/lib.rt:26:1
 returns-4 : tie.Need-returns-4
-returns-4 c = ?
+returns-4 c = let s = c .before .before in above-out (s .args .a) (s .args .o) (s .fits .o) (same-is _ (s .fits .o) (c .before .if1 .left)) (c .before .if1 .left) (omega arith)
 
 pub sum-spec : {M : Type 1} → statement M
 sum-spec =
