@@ -12,7 +12,7 @@ use Rattle.format.specs.Prelude.{pick, after, Result, good, bad, onward, orElse
 use Rattle.format.specs.Machine.{machineOf, machineOk}
 use Rattle.format.proofs.WalkBack.{onward-ext}
 use Rattle.walk.specs.Recorded.{Slot, Recorded, readRecorded}
-use Rattle.walk.specs.Walk.{Ruled, Source, Placed, Fault, Chain, mostFrames, holds, Held, heldFrom, left, frameAddress, unsigned, lookedUp, undefined, ended, behind, whenHeld, leaving, framesF, placedOf, fitting, walkBy}
+use Rattle.walk.specs.Walk.{Ruled, Source, Placed, Fault, Chain, mostFrames, holds, Held, heldFrom, Caller, lookedUp, callerOf, heldByNone, returnUndefined, behind, orEnded, heldAt, framesF, placedOf, fitting, walkBy}
 
 -- ---- the function that holds an address is one of the list, and the offset is below its length
 
@@ -46,18 +46,10 @@ held-in address j (f ∷ fs) h e =
 abbrev pub Agree : List Placed → Source → Source → Type 0
 Agree fs source other = (k p : ℕ) (f : Placed) → getElem? fs k ≡ some f → p < f .size → source k p ≡ other k p
 
-leaving-ext : (e : Fault) (r : Ruled) (before : List Slot) (more more′ : List Slot → ℕ → Option ℕ → Result Chain)
-    → ((s : List Slot) (pc : ℕ) (l : Option ℕ) → more s pc l ≡ more′ s pc l) → leaving e r before more ≡ leaving e r before more′
-unfolding leaving
-leaving-ext e r before more more′ h =
-    ap (pick (undefined (r .rules .rules (e .machine .ret))) (ended 1))
-    (onward-ext (frameAddress (r .rules .cfa) before) _ _ λ cfa. onward-ext (left e cfa (r .rules) before) _ _ λ slots.
-    onward-ext (orElse (getD slots (e .machine .ret) none) 75) _ _ λ a. h slots _ _)
-
-held-ext : (o : Option Held) (f g : Held → Result Chain) → ((h : Held) → o ≡ some h → f h ≡ g h) → whenHeld o f ≡ whenHeld o g
-unfolding whenHeld
-held-ext none f g same = refl
-held-ext (some h) f g same = same h refl
+ended-ext : {A : Type 0} (n : ℕ) (o : Option A) (f g : A → Result Chain) → ((a : A) → o ≡ some a → f a ≡ g a) → orEnded n o f ≡ orEnded n o g
+unfolding orEnded
+ended-ext n none f g same = refl
+ended-ext n (some a) f g same = same a refl
 
 -- the function found, where an address is looked up
 found-in : (lookup : Option ℕ) (fs : List Placed) (h : Held) → after lookup (λ a. heldFrom a 0 fs) ≡ some h → InList fs 0 h
@@ -65,17 +57,18 @@ unfolding after
 found-in none fs h e = let z : _≡_ {A = ℕ} 0 1 = cc in absurd (omega arith)
 found-in (some a) fs h e = held-in a 0 fs h e
 
-pub same-frames : (source other : Source) (e : Fault) → Agree (e .functions) source other → (n : ℕ) (slots : List Slot) (pc : ℕ) (lookup : Option ℕ)
-    → framesF source e n slots pc lookup ≡ framesF other e n slots pc lookup
-unfolding framesF
-same-frames source other e agree zero slots pc lookup = refl
-same-frames source other e agree (suc n) slots pc lookup =
-    held-ext (after lookup λ a. heldFrom a 0 (e .functions)) _ _ λ h d.
-    let i = found-in lookup (e .functions) h d in
+pub same-frames : (source other : Source) (e : Fault) → Agree (e .functions) source other → (n : ℕ) (c : Caller)
+    → framesF source e n c ≡ framesF other e n c
+unfolding framesF heldAt
+same-frames source other e agree zero c = refl
+same-frames source other e agree (suc n) c =
+    ended-ext heldByNone (heldAt e c) _ _ λ h d.
+    let i = found-in (lookedUp (c .exact) (c .pc)) (e .functions) h d in
     let k : h .position ≡ i .index = omega (arith, i .is) in
-    ap (behind (record { position = h .position; pc = pc }))
+    ap (behind (record { position = h .position; pc = c .pc }))
     (rw (agree (h .position) (h .offset) (i .function) (ap (getElem? (e .functions)) k ∙ i .there) (i .below))
-    (onward-ext (other (h .position) (h .offset)) _ _ λ r. leaving-ext e r slots _ _ (same-frames source other e agree n)))
+    (onward-ext (other (h .position) (h .offset)) _ _ λ r. onward-ext (callerOf e r (c .slots)) _ _ λ o.
+    ended-ext returnUndefined o _ _ λ a d. same-frames source other e agree n a))
 
 pub same-walk : (source other : Source) (machine file : List ℕ) (pc stack : ℕ) (functions : List ℕ) (room : ℕ) → Agree (placedOf functions) source other
     → walkBy source machine file pc stack functions room ≡ walkBy other machine file pc stack functions room
@@ -83,4 +76,4 @@ unfolding walkBy
 same-walk source other machine file pc stack functions room agree =
     onward-ext (orElse (readRecorded file) 73) _ _ λ f.
     ap (λ (c : Result Chain). pick (machineOk machine) (pick (eqb (machineOf machine .word) 8) (onward c (fitting room)) (bad 12)) (bad 11))
-    (same-frames source other _ agree mostFrames (f .slots) pc (some pc))
+    (same-frames source other _ agree mostFrames (record { slots = f .slots; pc = pc; exact = true }))

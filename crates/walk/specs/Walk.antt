@@ -110,9 +110,8 @@ leftFrom one reg zero = good []
 leftFrom one reg (suc n) = onward (one reg) λ s. onward (leftFrom one (suc reg) n) λ ss. good (s ∷ ss)
 
 -- then the stack pointer is the frame address, whatever its rule
-unfoldable pub left : Fault → (cfa : ℕ) → AllRules → List Slot → Result (List Slot)
-left e cfa r before =
-    onward (leftFrom (λ reg. leftBy (e .memory) cfa before reg (r .rules reg)) 0 followed) λ ss. good (set ss (e .machine .stack) (some cfa))
+unfoldable pub left : Memory → (stack cfa : ℕ) → AllRules → List Slot → Result (List Slot)
+left m stack cfa r before = onward (leftFrom (λ reg. leftBy m cfa before reg (r .rules reg)) 0 followed) λ ss. good (set ss stack (some cfa))
 
 -- 75: a frame address rule whose register is there; 74: the sum
 unfoldable pub frameAddress : CfaRule → List Slot → Result ℕ
@@ -123,8 +122,8 @@ frameAddress (Register reg z) before = onward (orElse (getD before reg none) 75)
 unfoldable pub unsigned : (signing : Bool) → ℕ → ℕ
 unsigned signing a = pick signing (a % 2 ^ 48) a
 
--- a caller is looked up one byte before its return address, but behind a signal frame; one byte before 0 there is nothing
-unfoldable pub lookedUp : (signal : Bool) → ℕ → Option ℕ
+-- a caller is looked up one byte before its return address, but exactly there behind a signal frame; one byte before 0 there is nothing
+unfoldable pub lookedUp : (exact : Bool) → ℕ → Option ℕ
 lookedUp true a = some a
 lookedUp false zero = none
 lookedUp false (suc a) = some a
@@ -136,6 +135,21 @@ undefined (rule.Saved z) = false
 undefined rule.SameValue = false
 undefined (rule.InRegister other) = false
 
+-- the frame that a frame returns to: its registers, the return address, and whether that is where it is looked up
+pub record Caller : Type 0 where
+  pub slots : List Slot
+  pub pc : ℕ
+  pub exact : Bool
+
+-- the caller of a frame; none where the return address is undefined, before the frame address is taken
+unfoldable pub callerOf : Fault → Ruled → List Slot → Result (Option Caller)
+callerOf e r before =
+    pick (undefined (r .rules .rules (e .machine .ret))) (good none)
+    (onward (frameAddress (r .rules .cfa) before) λ cfa.
+    onward (left (e .memory) (e .machine .stack) cfa (r .rules) before) λ slots.
+    onward (orElse (getD slots (e .machine .ret) none) 75) λ a.
+    good (some (record { slots = slots; pc = unsigned (r .rules .signing) a; exact = r .signal })))
+
 -- ---- the frames
 
 unfoldable pub ended : ℕ → Result Chain
@@ -144,26 +158,22 @@ ended n = good (record { frames = []; ending = n })
 unfoldable pub behind : Frame → Result Chain → Result Chain
 behind f rest = onward rest λ c. good (record { frames = f ∷ c .frames; ending = c .ending })
 
--- what follows where a function holds the address
-unfoldable pub whenHeld : Option Held → (Held → Result Chain) → Result Chain
-whenHeld none more = ended heldByNone
-whenHeld (some h) more = more h
+-- what follows where there is something, and how the walk ends where there is nothing
+unfoldable pub orEnded : {A : Type 0} → (ending : ℕ) → Option A → (A → Result Chain) → Result Chain
+orEnded ending none more = ended ending
+orEnded ending (some a) more = more a
 
--- from a frame's rules to the next frame; the return address is undefined before the frame address is taken
-unfoldable pub leaving : Fault → Ruled → List Slot → (List Slot → (pc : ℕ) → (lookup : Option ℕ) → Result Chain) → Result Chain
-leaving e r before more =
-    pick (undefined (r .rules .rules (e .machine .ret))) (ended returnUndefined)
-    (onward (frameAddress (r .rules .cfa) before) λ cfa.
-    onward (left e cfa (r .rules) before) λ slots.
-    onward (orElse (getD slots (e .machine .ret) none) 75) λ a.
-    more slots (unsigned (r .rules .signing) a) (lookedUp (r .signal) (unsigned (r .rules .signing) a)))
+-- the function that holds a frame
+unfoldable pub heldAt : Fault → Caller → Option Held
+heldAt e c = after (lookedUp (c .exact) (c .pc)) λ a. heldFrom a 0 (e .functions)
 
 -- n frames at most; where one more would follow that is said
-unfoldable pub framesF : Source → Fault → (n : ℕ) → List Slot → (pc : ℕ) → (lookup : Option ℕ) → Result Chain
-framesF source e zero slots pc lookup = whenHeld (after lookup λ a. heldFrom a 0 (e .functions)) λ h. ended tooMany
-framesF source e (suc n) slots pc lookup =
-    whenHeld (after lookup λ a. heldFrom a 0 (e .functions)) λ h.
-    behind (record { position = h .position; pc = pc }) (onward (source (h .position) (h .offset)) λ r. leaving e r slots (framesF source e n))
+unfoldable pub framesF : Source → Fault → (n : ℕ) → Caller → Result Chain
+framesF source e zero c = orEnded heldByNone (heldAt e c) λ h. ended tooMany
+framesF source e (suc n) c =
+    orEnded heldByNone (heldAt e c) λ h.
+    behind (record { position = h .position; pc = c .pc })
+    (onward (source (h .position) (h .offset)) λ r. onward (callerOf e r (c .slots)) λ o. orEnded returnUndefined o (framesF source e n))
 
 -- ---- the whole
 
@@ -184,7 +194,7 @@ walkBy source machine file pc stack functions room =
     onward (orElse (readRecorded file) 73) λ f.
     pick (machineOk machine)
     (pick (eqb (machineOf machine .word) 8)
-    (onward (framesF source (record { machine = machineOf machine; memory = record { address = stack; bytes = f .stack }; functions = placedOf functions }) mostFrames (f .slots) pc (some pc)) (fitting room))
+    (onward (framesF source (record { machine = machineOf machine; memory = record { address = stack; bytes = f .stack }; functions = placedOf functions }) mostFrames (record { slots = f .slots; pc = pc; exact = true })) (fitting room))
     (bad 12))
     (bad 11)
 

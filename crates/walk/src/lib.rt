@@ -72,11 +72,11 @@ pub fn unsigned(signing: bool, a: u64) -> u64
     a
 }
 
-// Where a caller is looked up: one byte before its return address, but behind a signal frame.
-pub fn looked_up(signal: bool, a: u64) -> Number
-    ensures { λ r. ⌜ r ≡ numberOf (lookedUp signal a) ⌝ }
+// Where a caller is looked up: one byte before its return address, but exactly there behind a signal frame.
+pub fn looked_up(exact: bool, a: u64) -> Number
+    ensures { λ r. ⌜ r ≡ numberOf (lookedUp exact a) ⌝ }
 {
-    if signal {
+    if exact {
         return Number::Is(a);
     }
     if a == 0 {
