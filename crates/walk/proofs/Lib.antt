@@ -6,3 +6,4 @@ pub mod Holders
 pub mod Files
 pub mod Trailers
 pub mod Leaving
+pub mod Turns

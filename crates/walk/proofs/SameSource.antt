@@ -67,7 +67,7 @@ same-frames source other e agree (suc n) c =
     let k : h .position ≡ i .index = omega (arith, i .is) in
     ap (behind (record { position = h .position; pc = c .pc }))
     (rw (agree (h .position) (h .offset) (i .function) (ap (getElem? (e .functions)) k ∙ i .there) (i .below))
-    (onward-ext (other (h .position) (h .offset)) _ _ λ r. onward-ext (callerOf e r (c .slots)) _ _ λ o.
+    (onward-ext (other (h .position) (h .offset)) _ _ λ r. onward-ext (callerOf (e .machine) (e .memory) r (c .slots)) _ _ λ o.
     ended-ext returnUndefined o _ _ λ a d. same-frames source other e agree n a))
 
 pub same-walk : (source other : Source) (machine file : List ℕ) (pc stack : ℕ) (functions : List ℕ) (room : ℕ) → Agree (placedOf functions) source other

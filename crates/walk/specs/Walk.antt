@@ -142,12 +142,12 @@ pub record Caller : Type 0 where
   pub exact : Bool
 
 -- the caller of a frame; none where the return address is undefined, before the frame address is taken
-unfoldable pub callerOf : Fault → Ruled → List Slot → Result (Option Caller)
-callerOf e r before =
-    pick (undefined (r .rules .rules (e .machine .ret))) (good none)
+unfoldable pub callerOf : Machine → Memory → Ruled → List Slot → Result (Option Caller)
+callerOf k m r before =
+    pick (undefined (r .rules .rules (k .ret))) (good none)
     (onward (frameAddress (r .rules .cfa) before) λ cfa.
-    onward (left (e .memory) (e .machine .stack) cfa (r .rules) before) λ slots.
-    onward (orElse (getD slots (e .machine .ret) none) 75) λ a.
+    onward (left m (k .stack) cfa (r .rules) before) λ slots.
+    onward (orElse (getD slots (k .ret) none) 75) λ a.
     good (some (record { slots = slots; pc = unsigned (r .rules .signing) a; exact = r .signal })))
 
 -- ---- the frames
@@ -173,7 +173,7 @@ framesF source e zero c = orEnded heldByNone (heldAt e c) λ h. ended tooMany
 framesF source e (suc n) c =
     orEnded heldByNone (heldAt e c) λ h.
     behind (record { position = h .position; pc = c .pc })
-    (onward (source (h .position) (h .offset)) λ r. onward (callerOf e r (c .slots)) λ o. orEnded returnUndefined o (framesF source e n))
+    (onward (source (h .position) (h .offset)) λ r. onward (callerOf (e .machine) (e .memory) r (c .slots)) λ o. orEnded returnUndefined o (framesF source e n))
 
 -- ---- the whole
 

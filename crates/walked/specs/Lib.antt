@@ -1,1 +1,2 @@
 -- What the types of the code stand for.
+pub mod Standing
