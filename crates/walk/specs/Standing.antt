@@ -4,10 +4,11 @@ use mathlib.Core.Bool.{Bool}
 use mathlib.Core.Option.{Option, none, some}
 use mathlib.Core.List.{List, [], _∷_}
 use lib.Dec.{eqb}
-use Rattle.format.specs.Prelude.{pick, Result, good, bad}
+use lib.ListN.{getD}
+use Rattle.format.specs.Prelude.{pick, each, Result, good, bad}
 use Rattle.walk.specs.Recorded.{Slot}
 use Rattle.walk.specs.Recorded as recorded
-use Rattle.walk.specs.Walk.{Memory, Held}
+use Rattle.walk.specs.Walk.{Memory, Held, Caller, Frame}
 use Rattle.walk.specs.declared.Number.{Number}
 use Rattle.walk.specs.declared.Number.the-variants.{Is, Nothing}
 use Rattle.walk.specs.declared.Holder.{Holder}
@@ -18,6 +19,7 @@ use Rattle.walk.specs.declared.Trailer.{Trailer}
 use Rattle.walk.specs.declared.Trailer.the-variants as trailer
 use Rattle.walk.specs.declared.File.{File}
 use Rattle.walk.specs.declared.Left.{Left}
+use Rattle.walk.specs.declared.Step.{Step}
 
 unfoldable pub numberOf : Option ℕ → Number
 numberOf none = Nothing
@@ -57,3 +59,10 @@ slots f = both (f .values) (f .present)
 
 unfoldable pub leftOf : Left → Result Slot
 leftOf l = pick (eqb (l .number) 0) (good (slotOf (l .present) (l .value))) (bad (l .number))
+
+unfoldable pub stepOf : Step → Result (Option Caller)
+stepOf r = pick (r .refused) (bad (r .number)) (pick (r .ended) (good none) (good (some (record { slots = slots (r .file); pc = r .pc; exact = r .exact }))))
+
+-- the first n frames
+unfoldable pub framesOf : (positions pcs : List ℕ) (n : ℕ) → List Frame
+framesOf positions pcs n = each (λ i. record { position = getD positions i 0; pc = getD pcs i 0 }) 0 n

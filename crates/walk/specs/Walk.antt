@@ -141,14 +141,18 @@ pub record Caller : Type 0 where
   pub pc : ℕ
   pub exact : Bool
 
+-- 75: the return address is what its register holds
+unfoldable pub returnedTo : List Slot → (ret : ℕ) → (signing exact : Bool) → Result (Option Caller)
+returnedTo slots ret signing exact =
+    onward (orElse (getD slots ret none) 75) λ a. good (some (record { slots = slots; pc = unsigned signing a; exact = exact }))
+
 -- the caller of a frame; none where the return address is undefined, before the frame address is taken
 unfoldable pub callerOf : Machine → Memory → Ruled → List Slot → Result (Option Caller)
 callerOf k m r before =
     pick (undefined (r .rules .rules (k .ret))) (good none)
     (onward (frameAddress (r .rules .cfa) before) λ cfa.
     onward (left m (k .stack) cfa (r .rules) before) λ slots.
-    onward (orElse (getD slots (k .ret) none) 75) λ a.
-    good (some (record { slots = slots; pc = unsigned (r .rules .signing) a; exact = r .signal })))
+    returnedTo slots (k .ret) (r .rules .signing) (r .signal))
 
 -- ---- the frames
 
@@ -184,7 +188,12 @@ placedAt ns i = record { start = field 2 ns i 0; size = field 2 ns i 1 }
 unfoldable pub placedOf : List ℕ → List Placed
 placedOf ns = each (placedAt ns) 0 (count 2 ns)
 
--- 54: two numbers a frame
+-- two numbers a frame
+unfoldable pub frameNumbers : List Frame → List ℕ
+frameNumbers [] = []
+frameNumbers (f ∷ fs) = f .position ∷ f .pc ∷ frameNumbers fs
+
+-- 54: room for the frames
 unfoldable pub fitting : (room : ℕ) → Chain → Result Chain
 fitting room c = pick (leb (length (c .frames)) (room / 2)) (good c) (bad 54)
 

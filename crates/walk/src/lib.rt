@@ -2,14 +2,15 @@
 // function that holds an address, and what leaving a frame does to one register. The rules come from a reader, in `walked`.
 ghost use mathlib.Core.Path.{_≡_};
 ghost use Prim.Native.Nat.{_+_, _*_, _≤_, _<_};
-ghost use lib.ListN.{length, drop, getD};
-ghost use mathlib.Core.Option.{none};
-ghost use Rattle.format.specs.Prelude.{after, good};
+ghost use lib.ListN.{length, drop, getD, set};
+ghost use mathlib.Core.Option.{none, some};
+ghost use Rattle.format.specs.Prelude.{after, good, bad};
+ghost use Rattle.format.specs.Put.{put};
 ghost use Rattle.format.specs.Leb.{readLittle};
 ghost use Rattle.format.specs.Reader.{valueOr0};
 ghost use Rattle.walk.specs.Recorded.{matches, readTrailer, slotsOf};
-ghost use Rattle.walk.specs.Walk.{sumOf, load, saved, leftBy, frameAddress, unsigned, lookedUp, undefined, holds, heldFrom, placedOf};
-ghost use Rattle.walk.specs.Standing.{numberOf, found, holderOf, addressOf, trailerOf, memoryOf, both, slots, leftOf};
+ghost use Rattle.walk.specs.Walk.{sumOf, load, saved, leftBy, frameAddress, unsigned, lookedUp, undefined, returnedTo, holds, heldFrom, placedOf, frameNumbers};
+ghost use Rattle.walk.specs.Standing.{numberOf, found, holderOf, addressOf, trailerOf, memoryOf, both, slots, leftOf, stepOf, framesOf};
 use format::CfaRule;
 use format::Rule;
 use format::Unsigned;
@@ -322,5 +323,107 @@ pub fn left_by<'a>(
         },
         Rule::InRegister(other) => kept(values, present, other as usize),
         Rule::Saved(o) => loaded(stack, address, cfa, o),
+    }
+}
+
+// The stack pointer's register set, where it is one of those that are followed.
+pub fn with_stack(file: File, reg: u64, cfa: u64) -> File
+    ensures { λ r. ⌜ slots r ≡ set (slots file) reg (some cfa) ⌝ }
+{
+    if 128 <= reg {
+        return file;
+    }
+    let mut values = file.values;
+    let mut present = file.present;
+    values[reg as usize] = cfa;
+    present[reg as usize] = true;
+    File { values, present }
+}
+
+// ---- a caller
+
+// The caller's registers, its return address and whether it is looked up exactly there; or that the return address is undefined; or a refusal.
+pub struct Step {
+    pub refused: bool,
+    pub number: u64,
+    pub ended: bool,
+    pub pc: u64,
+    pub exact: bool,
+    pub file: File,
+}
+
+pub fn refused(file: File, number: u64) -> Step
+    ensures { λ r. ⌜ stepOf r ≡ bad number ⌝ }
+{
+    Step {
+        refused: true,
+        number,
+        ended: false,
+        pc: 0,
+        exact: false,
+        file,
+    }
+}
+
+pub fn unreturning(file: File) -> Step
+    ensures { λ r. ⌜ stepOf r ≡ good none ⌝ }
+{
+    Step {
+        refused: false,
+        number: 0,
+        ended: true,
+        pc: 0,
+        exact: false,
+        file,
+    }
+}
+
+// The return address is what its register holds: 75 where that is absent.
+pub fn returned(file: File, ret: u64, signing: bool, exact: bool) -> Step
+    ensures { λ r. ⌜ stepOf r ≡ returnedTo (slots file) ret signing exact ⌝ }
+{
+    let Number::Is(a) = slot(file, ret) else {
+        return refused(file, 75);
+    };
+    Step {
+        refused: false,
+        number: 0,
+        ended: false,
+        pc: unsigned(signing, a),
+        exact,
+        file,
+    }
+}
+
+// ---- the frames
+
+// Up to 64 frames: the position of each one's function, and the pc or return address.
+pub struct Frames {
+    pub positions: [u64; 64],
+    pub pcs: [u64; 64],
+}
+
+// Frame k put into the list.
+pub fn listed(f: Frames, k: usize, position: u64, pc: u64) -> Frames
+    requires { ⌜ k < 64 ⌝ }
+    ensures { λ r. ⌜ (r .positions ≡ set (f .positions) k position) × (r .pcs ≡ set (f .pcs) k pc) ⌝ }
+{
+    let mut positions = f.positions;
+    let mut pcs = f.pcs;
+    positions[k] = position;
+    pcs[k] = pc;
+    Frames { positions, pcs }
+}
+
+// The first n frames stored, two numbers each.
+pub fn store(f: Frames, n: usize, out: &mut [u64])
+    requires { ⌜ (n ≤ 64) × (2 * n ≤ length (now out)) ⌝ }
+    ensures { λ r. ⌜ now (out .exit) ≡ put (now (out .entry)) 0 (frameNumbers (framesOf (f .positions) (f .pcs) n)) ⌝ }
+{
+    let mut i = 0;
+    while i < n {
+        out[2 * i] = f.positions[i];
+        out[2 * i + 1] = f.pcs[i];
+        i += 1;
     }
 }

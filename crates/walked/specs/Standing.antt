@@ -1,7 +1,6 @@
 -- What the types of the code stand for, and the rules at an offset of a record that was located.
 use Prim.Native.Nat.{ℕ}
 use mathlib.Core.Bool.{Bool, true, false}
-use mathlib.Core.Option.{Option, none, some}
 use mathlib.Core.List.{List}
 use lib.Dec.{eqb}
 use Rattle.format.specs.Prelude.{pick, Result, good, bad}
@@ -10,10 +9,9 @@ use Rattle.format.specs.Reader.{runTo}
 use Rattle.reader.specs.Finds.{found, inSection}
 use Rattle.reader.specs.declared.location.Located.{Located}
 use Rattle.walk.specs.Recorded.{Slot}
-use Rattle.walk.specs.Walk.{Caller, Ruled}
+use Rattle.walk.specs.Walk.{Ruled}
 use Rattle.walk.specs.Standing.{slots}
 use Rattle.walked.specs.declared.AllLeft.{AllLeft}
-use Rattle.walked.specs.declared.Step.{Step}
 
 unfoldable pub stateIn : List ℕ → Located → (p : ℕ) → Result State
 stateIn s l p = pick (inSection s l) (runTo (l .word) p (found s l)) (bad 64)
@@ -35,6 +33,3 @@ ruledIn s l p = record { rules = rulesIn s l p; signal = l .signal }
 
 unfoldable pub allLeft : AllLeft → Result (List Slot)
 allLeft r = pick (eqb (r .number) 0) (good (slots (r .file))) (bad (r .number))
-
-unfoldable pub stepOf : Step → Result (Option Caller)
-stepOf r = pick (r .refused) (bad (r .number)) (pick (r .ended) (good none) (good (some (record { slots = slots (r .file); pc = r .pc; exact = r .exact }))))

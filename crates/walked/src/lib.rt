@@ -1,9 +1,8 @@
 // The walk by a section (request W-202): the rules of each frame come from the reader.
 ghost use mathlib.Core.Path.{_≡_};
-ghost use mathlib.Core.Option.{some};
 ghost use Prim.Native.Nat.{_<_};
 ghost use lib.Dec.{T};
-ghost use lib.ListN.{length, set};
+ghost use lib.ListN.{length};
 ghost use Rattle.format.specs.Prelude.{onward};
 ghost use Rattle.walk.specs.Walk.{leftBy, leftFrom, left, callerOf};
 ghost use Rattle.walk.specs.Standing.{memoryOf, both, slots, leftOf};
@@ -83,20 +82,6 @@ fn all_left(
     AllLeft { number: 0, file }
 }
 
-// The stack pointer's register set, where it is one of those that are followed.
-fn with_stack(file: File, reg: u64, cfa: u64) -> File
-    ensures { λ r. ⌜ slots r ≡ set (slots file) reg (some cfa) ⌝ }
-{
-    if 128 <= reg {
-        return file;
-    }
-    let mut values = file.values;
-    let mut present = file.present;
-    values[reg as usize] = cfa;
-    present[reg as usize] = true;
-    File { values, present }
-}
-
 fn left(
     old: File,
     section: &[u8],
@@ -116,18 +101,6 @@ fn left(
     }
     AllLeft {
         number: 0,
-        file: with_stack(r.file, reg, cfa),
+        file: walk::with_stack(r.file, reg, cfa),
     }
-}
-
-// ---- a caller
-
-// The caller's registers, the return address and whether it is looked up exactly there; or that the return address is undefined; or a refusal.
-pub struct Step {
-    pub refused: bool,
-    pub number: u64,
-    pub ended: bool,
-    pub pc: u64,
-    pub exact: bool,
-    pub file: File,
 }
