@@ -7,3 +7,4 @@ pub mod Files
 pub mod Trailers
 pub mod Leaving
 pub mod Turns
+pub mod Listing

@@ -63,6 +63,9 @@ leftOf l = pick (eqb (l .number) 0) (good (slotOf (l .present) (l .value))) (bad
 unfoldable pub stepOf : Step → Result (Option Caller)
 stepOf r = pick (r .refused) (bad (r .number)) (pick (r .ended) (good none) (good (some (record { slots = slots (r .file); pc = r .pc; exact = r .exact }))))
 
+unfoldable pub frameAt : (positions pcs : List ℕ) → ℕ → Frame
+frameAt positions pcs i = record { position = getD positions i 0; pc = getD pcs i 0 }
+
 -- the first n frames
 unfoldable pub framesOf : (positions pcs : List ℕ) (n : ℕ) → List Frame
-framesOf positions pcs n = each (λ i. record { position = getD positions i 0; pc = getD pcs i 0 }) 0 n
+framesOf positions pcs n = each (frameAt positions pcs) 0 n

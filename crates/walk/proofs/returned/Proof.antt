@@ -1,3 +1,11 @@
+-- `walk::returned` meets its contract.
+use Prim.Native.Nat.{ℕ}
+use mathlib.Core.Option.{Option, some}
+use mathlib.Core.Path.{sym, ap, _∙_}
+use Rattle.format.specs.Prelude.{pick, Result, good}
+use Rattle.walk.specs.Walk.{Caller}
+use Rattle.walk.specs.Standing.{slots, stepOf}
+use Rattle.walk.proofs.Listing.{returned-none, returned-is}
 use borrow.Author.Needs.{needs}
 use Rattle.walk.proofs.returned.Statement.{statement}
 use Rattle.walk.proofs.returned.Tie as tie
@@ -7,33 +15,32 @@ use Rattle.walk.proofs.refused.Reads as refused-reads
 use Rattle.walk.proofs.slot.Reads as slot-reads
 use Rattle.walk.proofs.unsigned.Reads as unsigned-reads
 
--- src/lib.rt:385:25
 slot-requires : tie.Need-slot-requires
 slot-requires c κs = search needs
 
--- src/lib.rt:385:20
 enum-known-a : tie.Need-enum-known-a
 enum-known-a c = search needs
 
--- src/lib.rt:386:9
 enum-told : tie.Need-enum-told
 enum-told c = search needs
 
--- src/lib.rt:386:9
 refused-requires : tie.Need-refused-requires
 refused-requires c κs = search needs
 
--- src/lib.rt:386:9
 returns : tie.Need-returns
-returns c = ?
+returns c =
+    let a = c .before .before .before .before .args in
+    c .refused .ensures ∙ returned-none (slots (a .file)) (a .ret) (a .signing) (a .exact) (sym (c .before .before .before .slot .ensures) ∙ c .before .enum-told .given .1)
 
--- src/lib.rt:392:13
 unsigned-requires : tie.Need-unsigned-requires
 unsigned-requires c κs = search needs
 
--- src/lib.rt:382:1
 returns-2 : tie.Need-returns-2
-returns-2 c = ?
+unfolding stepOf pick
+returns-2 c =
+    let a = c .before .before .before .before .before .args in
+    ap (λ (pc : ℕ). good (some (record { slots = slots (a .file); pc = pc; exact = a .exact }))) (c .unsigned .ensures)
+    ∙ returned-is (slots (a .file)) (a .ret) (a .signing) (a .exact) (sym (c .before .before .before .before .slot .ensures) ∙ c .before .before .a .given .1)
 
 pub returned-spec : {M : Type 1} → statement M
 returned-spec =
