@@ -67,8 +67,8 @@ list-start vs ps n xs few h = record {
   room = h;
   same-length = refl;
   storing =
-    let e : n - 0 ≡ n = omega arith in
-    rw e (storing.start (omega (arith, frames-length (frameAt vs ps) 0 n)));
+      let e : n - 0 ≡ n = omega arith in
+      rw e (storing.start (omega (arith, frames-length (frameAt vs ps) 0 n)));
 }
 
 module _ {vs ps : List ℕ} {n : ℕ} {xs₀ xs : List ℕ} {i : ℕ} (k : Listing vs ps n xs₀ xs i) where

@@ -69,12 +69,12 @@ module _ {one : ℕ → Result Slot} {vs : List ℕ} {ps : List Bool} {i : ℕ} 
           values = l;
           present = m;
           rest =
-            ap₂ (λ (xs : List Slot) (n : ℕ). prepend xs (leftFrom one n (128 - (i + 1))))
-            (ap₂ (λ (n : ℕ) (xs : List Slot). take n xs) (add-one i) (both-set vs ps i v p) ∙ take-suc-set (both vs ps) i (slotOf p v) (omega (arith, long))) (add-one i)
-            ∙ prepend-more (take i (both vs ps)) (slotOf p v) (leftFrom one (suc i) (128 - (i + 1)))
-            ∙ ap (λ (r : Result Slot). prepend (take i (both vs ps)) (onward r λ s. onward (leftFrom one (suc i) (128 - (i + 1))) λ ss. good (s ∷ ss))) (sym e)
-            ∙ ap (λ (n : ℕ). prepend (take i (both vs ps)) (leftFrom one i n)) (sym fuel)
-            ∙ k .rest;
+              ap₂ (λ (xs : List Slot) (n : ℕ). prepend xs (leftFrom one n (128 - (i + 1))))
+              (ap₂ (λ (n : ℕ) (xs : List Slot). take n xs) (add-one i) (both-set vs ps i v p) ∙ take-suc-set (both vs ps) i (slotOf p v) (omega (arith, long))) (add-one i)
+              ∙ prepend-more (take i (both vs ps)) (slotOf p v) (leftFrom one (suc i) (128 - (i + 1)))
+              ∙ ap (λ (r : Result Slot). prepend (take i (both vs ps)) (onward r λ s. onward (leftFrom one (suc i) (128 - (i + 1))) λ ss. good (s ∷ ss))) (sym e)
+              ∙ ap (λ (n : ℕ). prepend (take i (both vs ps)) (leftFrom one i n)) (sym fuel)
+              ∙ k .rest;
         }
 
   pub turn-ended : 128 ≤ i → good (both vs ps) ≡ leftFrom one 0 128

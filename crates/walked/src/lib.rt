@@ -34,7 +34,15 @@ fn one<'a>(
     ensures { λ r. ⌜ leftOf r ≡ leftBy (memoryOf address (now (stack .entry))) cfa (both (now (values .entry)) (now (present .entry))) reg (rulesIn (now (section .entry)) l p .rules reg) ⌝ }
 {
     match reader::rules_at(section, l, reg as u16, p) {
-        Reading::Answered(rules) => walk::left_by(values, present, rules.rule, reg, stack, address, cfa),
+        Reading::Answered(rules) => walk::left_by(
+            values,
+            present,
+            rules.rule,
+            reg,
+            stack,
+            address,
+            cfa,
+        ),
         Reading::Refused(n) => Left {
             number: n,
             present: false,
