@@ -1,1 +1,2 @@
 -- The laws of the walk by a section.
+pub mod Rules

@@ -3,7 +3,7 @@ use Prim.Native.Nat.{ℕ}
 use mathlib.Core.Bool.{Bool, true, false}
 use mathlib.Core.List.{List}
 use lib.Dec.{eqb}
-use Rattle.format.specs.Prelude.{pick, Result, good, bad}
+use Rattle.format.specs.Prelude.{pick, Result, good, bad, onward}
 use Rattle.format.specs.Rules.{AllRules, State, blank}
 use Rattle.format.specs.Reader.{runTo}
 use Rattle.reader.specs.Finds.{found, inSection}
@@ -30,6 +30,10 @@ rulesIn s l p = rulesOf (stateIn s l p)
 
 abbrev pub ruledIn : List ℕ → Located → (p : ℕ) → Ruled
 ruledIn s l p = record { rules = rulesIn s l p; signal = l .signal }
+
+-- the rules, or the reader's number
+unfoldable pub sourceIn : List ℕ → Located → (p : ℕ) → Result Ruled
+sourceIn s l p = onward (stateIn s l p) λ t. good (record { rules = t .current; signal = l .signal })
 
 unfoldable pub allLeft : AllLeft → Result (List Slot)
 allLeft r = pick (eqb (r .number) 0) (good (slots (r .file))) (bad (r .number))

@@ -4,17 +4,19 @@ ghost use Prim.Native.Nat.{_<_};
 ghost use lib.Dec.{T};
 ghost use lib.ListN.{length};
 ghost use Rattle.format.specs.Prelude.{onward};
-ghost use Rattle.walk.specs.Walk.{leftBy, leftFrom, left, callerOf};
-ghost use Rattle.walk.specs.Standing.{memoryOf, both, slots, leftOf};
-ghost use Rattle.walked.specs.Standing.{stateIn, isGood, rulesIn, ruledIn, allLeft, stepOf};
+ghost use Rattle.format.specs.Rules.{rulesFor};
+ghost use Rattle.walk.specs.Walk.{leftBy, leftFrom, left, returnedTo, callerOf, bySection};
+ghost use Rattle.walk.specs.Standing.{memoryOf, both, slots, leftOf, stepOf};
+ghost use Rattle.walked.specs.Standing.{stateIn, isGood, rulesIn, ruledIn, sourceIn, allLeft};
 use format::Machine;
 use format::Reading;
 use format::Rules;
 use reader::location::Located;
+use reader::location::Locating;
 use walk::Address;
 use walk::File;
 use walk::Left;
-use walk::Number;
+use walk::Step;
 
 // ---- the registers of a frame that is left
 
@@ -110,5 +112,92 @@ fn left(
     AllLeft {
         number: 0,
         file: walk::with_stack(r.file, reg, cfa),
+    }
+}
+
+// ---- a caller
+
+// From the frame address on: the registers, and the return address in them.
+fn resumed(
+    machine: Machine,
+    file: File,
+    signing: bool,
+    cfa: u64,
+    section: &[u8],
+    l: Located,
+    p: u64,
+    stack: &[u8],
+    address: u64,
+) -> Step
+    requires { ⌜ T (isGood (stateIn (now section) l p)) ⌝ }
+    ensures { λ r. ⌜ stepOf r ≡ onward (left (memoryOf address (now (stack .entry))) (machine .stack) cfa (rulesIn (now (section .entry)) l p) (slots file)) (λ ss. returnedTo ss (machine .ret) signing (l .signal)) ⌝ }
+{
+    let r = left(file, section, l, p, stack, address, machine.stack, cfa);
+    if r.number != 0 {
+        return walk::refused(file, r.number);
+    }
+    walk::returned(r.file, machine.ret, signing, l.signal)
+}
+
+// By the rules of the return address's register.
+fn left_by_rules(
+    machine: Machine,
+    file: File,
+    rules: Rules,
+    section: &[u8],
+    l: Located,
+    p: u64,
+    stack: &[u8],
+    address: u64,
+) -> Step
+    requires { ⌜ T (isGood (stateIn (now section) l p)) × (rules ≡ rulesFor (machine .ret) (rulesIn (now section) l p)) ⌝ }
+    ensures { λ r. ⌜ stepOf r ≡ callerOf machine (memoryOf address (now (stack .entry))) (ruledIn (now (section .entry)) l p) (slots file) ⌝ }
+{
+    if walk::undefined(rules.rule) {
+        return walk::unreturning(file);
+    }
+    match walk::frame_address(rules.cfa, file) {
+        Address::At(cfa) => resumed(machine, file, rules.signing, cfa, section, l, p, stack, address),
+        Address::Refused(n) => walk::refused(file, n),
+    }
+}
+
+// The caller of a frame at an offset of a record that was located.
+fn caller(
+    machine: Machine,
+    file: File,
+    section: &[u8],
+    l: Located,
+    p: u64,
+    stack: &[u8],
+    address: u64,
+) -> Step
+    requires { ⌜ machine .ret < 65536 ⌝ }
+    ensures { λ r. ⌜ stepOf r ≡ onward (sourceIn (now (section .entry)) l p) (λ u. callerOf machine (memoryOf address (now (stack .entry))) u (slots file)) ⌝ }
+{
+    match reader::rules_at(section, l, machine.ret as u16, p) {
+        Reading::Answered(rules) => left_by_rules(machine, file, rules, section, l, p, stack, address),
+        Reading::Refused(n) => walk::refused(file, n),
+    }
+}
+
+// The caller of a frame at an offset of record k: one pass over the section.
+fn caller_by(
+    machine: Machine,
+    file: File,
+    section: &[u8],
+    relocations: &[u64],
+    kind: u64,
+    k: u64,
+    p: u64,
+    stack: &[u8],
+    address: u64,
+) -> Step
+    requires { ⌜ machine .ret < 65536 ⌝ }
+    ensures { λ r. ⌜ stepOf r ≡ onward (bySection (now (section .entry)) (now (relocations .entry)) kind k p) (λ u. callerOf machine (memoryOf address (now (stack .entry))) u (slots file)) ⌝ }
+{
+    match reader::locate(section, relocations, kind, 8, k) {
+        Locating::Found(l) => caller(machine, file, section, l, p, stack, address),
+        Locating::No(n) => walk::refused(file, n),
     }
 }
