@@ -8,3 +8,4 @@ pub mod Trailers
 pub mod Leaving
 pub mod Turns
 pub mod Listing
+pub mod Chains
