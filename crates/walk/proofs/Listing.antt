@@ -7,6 +7,7 @@ use Prim.Native.Nat.{ℕ, zero, suc, _+_, _-_, _*_, _<_, _≤_}
 use native.Mathlib.Omega.{arith}
 use native.Mathlib.Numerals.{add-one}
 use lib.ListN.{length, getD, set}
+use lib.Seq.{set-out}
 use Rattle.format.specs.Prelude.{pick, each, good, bad, onward, orElse}
 use Rattle.format.specs.Put.{put}
 use Rattle.format.proofs.Storing.{Storing}
@@ -20,14 +21,9 @@ use Rattle.walk.proofs.Files.{both-length, both-set}
 
 -- ---- the stack pointer's register
 
-set-past : {A : Type 0} (xs : List A) (j : ℕ) (v : A) → length xs ≤ j → set xs j v ≡ xs
-set-past [] j v h = refl
-set-past (x ∷ xs) zero v h = absurd (omega arith)
-set-past (x ∷ xs) (suc j) v h = ap (λ (l : List _). x ∷ l) (set-past xs j v (omega arith))
-
 module _ (vs : List ℕ) (ps : List Bool) (reg cfa : ℕ) where
   pub not-followed : length vs ≡ length ps → length vs ≤ reg → both vs ps ≡ set (both vs ps) reg (some cfa)
-  not-followed e h = sym (set-past (both vs ps) reg (some cfa) (omega (arith, both-length vs ps e)))
+  not-followed e h = sym (set-out (both vs ps) reg (some cfa) (omega (arith, both-length vs ps e)))
 
   pub followed-set : both (set vs reg cfa) (set ps reg true) ≡ set (both vs ps) reg (some cfa)
   unfolding slotOf pick

@@ -157,7 +157,17 @@ fn left_by_rules(
         return walk::unreturning(file);
     }
     match walk::frame_address(rules.cfa, file) {
-        Address::At(cfa) => resumed(machine, file, rules.signing, cfa, section, l, p, stack, address),
+        Address::At(cfa) => resumed(
+            machine,
+            file,
+            rules.signing,
+            cfa,
+            section,
+            l,
+            p,
+            stack,
+            address,
+        ),
         Address::Refused(n) => walk::refused(file, n),
     }
 }
@@ -176,7 +186,16 @@ fn caller(
     ensures { λ r. ⌜ stepOf r ≡ onward (sourceIn (now (section .entry)) l p) (λ u. callerOf machine (memoryOf address (now (stack .entry))) u (slots file)) ⌝ }
 {
     match reader::rules_at(section, l, machine.ret as u16, p) {
-        Reading::Answered(rules) => left_by_rules(machine, file, rules, section, l, p, stack, address),
+        Reading::Answered(rules) => left_by_rules(
+            machine,
+            file,
+            rules,
+            section,
+            l,
+            p,
+            stack,
+            address,
+        ),
         Reading::Refused(n) => walk::refused(file, n),
     }
 }
