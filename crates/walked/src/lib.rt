@@ -1,13 +1,14 @@
 // The walk by a section (request W-202): the rules of each frame come from the reader.
 ghost use mathlib.Core.Path.{_≡_};
+ghost use mathlib.Core.Bool.{true};
 ghost use Prim.Native.Nat.{_<_};
 ghost use lib.Dec.{T};
 ghost use lib.ListN.{length};
-ghost use Rattle.format.specs.Prelude.{onward};
+ghost use Rattle.format.specs.Prelude.{after, good, bad, onward};
 ghost use Rattle.format.specs.Rules.{rulesFor};
-ghost use Rattle.walk.specs.Walk.{leftBy, leftFrom, left, returnedTo, callerOf, bySection};
-ghost use Rattle.walk.specs.Standing.{memoryOf, both, slots, leftOf, stepOf};
-ghost use Rattle.walked.specs.Standing.{stateIn, isGood, rulesIn, ruledIn, sourceIn, allLeft};
+ghost use Rattle.walk.specs.Walk.{leftBy, leftFrom, left, returnedTo, callerOf, bySection, lookedUp, heldFrom, placedOf, framesF};
+ghost use Rattle.walk.specs.Standing.{memoryOf, both, slots, leftOf, stepOf, holderOf, framesOf};
+ghost use Rattle.walked.specs.Standing.{stateIn, isGood, rulesIn, ruledIn, sourceIn, allLeft, walkedOf, fullEnding, faultOf};
 use format::Machine;
 use format::Reading;
 use format::Rules;
@@ -15,6 +16,8 @@ use reader::location::Located;
 use reader::location::Locating;
 use walk::Address;
 use walk::File;
+use walk::Frames;
+use walk::Holder;
 use walk::Left;
 use walk::Step;
 
@@ -219,4 +222,99 @@ fn caller_by(
         Locating::Found(l) => caller(machine, file, section, l, p, stack, address),
         Locating::No(n) => walk::refused(file, n),
     }
+}
+
+// ---- the frames
+
+// Up to 64 frames and why the walk ended, or a refusal.
+pub struct Walked {
+    pub refused: bool,
+    pub number: u64,
+    pub count: usize,
+    pub ending: u64,
+    pub frames: Frames,
+}
+
+fn ended(frames: Frames, count: usize, ending: u64) -> Walked
+    ensures { λ r. ⌜ walkedOf r ≡ good (record { frames = framesOf (frames .positions) (frames .pcs) count; ending = ending }) ⌝ }
+{
+    Walked {
+        refused: false,
+        number: 0,
+        count,
+        ending,
+        frames,
+    }
+}
+
+fn refused(frames: Frames, number: u64) -> Walked
+    ensures { λ r. ⌜ walkedOf r ≡ bad number ⌝ }
+{
+    Walked {
+        refused: true,
+        number,
+        count: 0,
+        ending: 0,
+        frames,
+    }
+}
+
+// The function that holds a frame.
+fn held_at(functions: &[u64], exact: bool, pc: u64) -> Holder
+    ensures { λ r. ⌜ r ≡ holderOf (after (lookedUp exact pc) (λ a. heldFrom a 0 (placedOf (now (functions .entry))))) ⌝ }
+{
+    walk::held(functions, walk::looked_up(exact, pc))
+}
+
+// Behind 64 frames: no function holds the address, or a 65th frame would follow.
+fn full(frames: Frames, functions: &[u64], exact: bool, pc: u64) -> Walked
+    ensures { λ r. ⌜ walkedOf r ≡ good (record { frames = framesOf (frames .positions) (frames .pcs) 64; ending = fullEnding (holderOf (after (lookedUp exact pc) (λ a. heldFrom a 0 (placedOf (now (functions .entry)))))) }) ⌝ }
+{
+    let Holder::At(_, _) = held_at(functions, exact, pc) else {
+        return ended(frames, 64, 2);
+    };
+    ended(frames, 64, 3)
+}
+
+// Up to 64 frames, by the section.
+pub fn frames(
+    machine: Machine,
+    start: File,
+    begin: u64,
+    section: &[u8],
+    relocations: &[u64],
+    kind: u64,
+    stack: &[u8],
+    address: u64,
+    functions: &[u64],
+) -> Walked
+    requires { ⌜ machine .ret < 65536 ⌝ }
+    ensures { λ r. ⌜ walkedOf r ≡ framesF (bySection (now (section .entry)) (now (relocations .entry)) kind) (faultOf machine address (now (stack .entry)) (now (functions .entry))) 64 (record { slots = slots start; pc = begin; exact = true }) ⌝ }
+{
+    let mut file = start;
+    let mut pc = begin;
+    let mut exact = true;
+    let mut list = Frames {
+        positions: [0; 64],
+        pcs: [0; 64],
+    };
+    let mut k = 0;
+    while k < 64 {
+        let Holder::At(position, offset) = held_at(functions, exact, pc) else {
+            return ended(list, k, 2);
+        };
+        list = walk::listed(list, k, position, pc);
+        k += 1;
+        let s = caller_by(machine, file, section, relocations, kind, position, offset, stack, address);
+        if s.refused {
+            return refused(list, s.number);
+        }
+        if s.ended {
+            return ended(list, k, 1);
+        }
+        file = s.file;
+        pc = s.pc;
+        exact = s.exact;
+    }
+    full(list, functions, exact, pc)
 }
