@@ -9,3 +9,4 @@ pub mod Leaving
 pub mod Turns
 pub mod Listing
 pub mod Chains
+pub mod Vectors
