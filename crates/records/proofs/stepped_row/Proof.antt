@@ -20,7 +20,7 @@ advance-requires c κs = let h = rw (row-at-length, offset-of, ← c .offset-at 
 row-in-requires : tie.Need-row-in-requires
 row-in-requires c κs =
     let s = c .before .before .before .before .before .before .before .before in
-    let h = rw (row-at-length, offset-of, ← c .before .before .before .before .before .offset-at .ensures) at (s .pre .1) in
+    let h = rw (row-at-length, offset-of, ← c .before .before .before .before .offset-at .ensures) at (s .pre .1) in
     (s .pre .0 .word-low, s .pre .0 .word-high, s .pre .0 .inside, s .pre .0 .ok, search needs)
 
 same-length : tie.Need-same-length

@@ -29,7 +29,7 @@ frame-offset-size-requires : tie.Need-frame-offset-size-requires
 frame-offset-size-requires c κs = search needs
 
 add-result-2 : tie.Need-add-result-2
-add-result-2 c = 
+add-result-2 c =
     let h = rw (passed (c .before .before .before .signed32 .result) (c .before .before .before .signed32 .ok)) at (c .frame-offset-size .ensures) in
     omega (arith, uleb-ten (c .before .before .before .before .args .reg) (omega (arith, row-numbers (c .before .before .before .before .args .kind) (c .before .before .before .before .args .reg) (c .before .before .before .before .args .off) (c .before .before .before .before .pre .2) .reg-low)), offset-ten (c .before .before .before .before .args .word) (c .before .before .before .signed32 .result) (c .before .before .before .before .pre .0) (c .before .before .before .signed32 .ok))
 
@@ -37,7 +37,7 @@ frame-offset-size-requires-2 : tie.Need-frame-offset-size-requires-2
 frame-offset-size-requires-2 c κs = search needs
 
 add-result-3 : tie.Need-add-result-3
-add-result-3 c = 
+add-result-3 c =
     let h = rw (passed (c .before .before .signed32 .result) (c .before .before .signed32 .ok)) at (c .frame-offset-size2 .ensures) in
     omega (arith, offset-ten (c .before .before .before .args .word) (c .before .before .signed32 .result) (c .before .before .before .pre .0) (c .before .before .signed32 .ok))
 
@@ -87,12 +87,12 @@ add-result-8 : tie.Need-add-result-8
 add-result-8 c = omega (arith, uleb-ten (c .before .before .before .before .args .reg) (omega (arith, row-numbers (c .before .before .before .before .args .kind) (c .before .before .before .before .args .reg) (c .before .before .before .before .args .off) (c .before .before .before .before .pre .2) .reg-low)), uleb-ten (c .before .before .before .before .args .off) (omega (arith, row-numbers (c .before .before .before .before .args .kind) (c .before .before .before .before .args .reg) (c .before .before .before .before .args .off) (c .before .before .before .before .pre .2) .off-low)))
 
 returns : tie.Need-returns
-returns c = 
+returns c =
     let h = rw (passed (c .before .before .before .signed32 .result) (c .before .before .before .signed32 .ok) ∙ c .before .before .before .signed32 .ensures) at (c .frame-offset-size .ensures) in
     rw (bytes-0 (c .before .before .before .before .args .word) (c .before .before .before .before .args .reg) (c .before .before .before .before .args .off) (c .before .before .match .keys1)) (simp (frame-bytes (c .before .before .before .before .args .word) 0x0c 0x12 (uleb (c .before .before .before .before .args .reg)) (toZ w32 (c .before .before .before .before .args .off)), length-append) (search needs))
 
 returns-2 : tie.Need-returns-2
-returns-2 c = 
+returns-2 c =
     let h = rw (passed (c .before .before .signed32 .result) (c .before .before .signed32 .ok) ∙ c .before .before .signed32 .ensures) at (c .frame-offset-size2 .ensures) in
     rw (bytes-1 (c .before .before .before .args .word) (c .before .before .before .args .reg) (c .before .before .before .args .off) (c .before .match .keys2)) (rw (frame-bytes (c .before .before .before .args .word) 0x0e 0x13 [] (toZ w32 (c .before .before .before .args .off))) (search needs))
 
