@@ -67,7 +67,8 @@ fn main() {
     match words.iter().map(String::as_str).collect::<Vec<_>>()[..] {
         ["write", runs] => write(&case, runs.parse().expect("a number of runs")),
         ["read", runs] => read(&case, runs.parse().expect("a number of runs")),
-        _ => panic!("speed.rs: write RUNS, or read RUNS"),
+        ["once", lists] => once(&case, lists),
+        _ => panic!("speed.rs: write RUNS, read RUNS, or once exact or ample"),
     }
 }
 
@@ -115,6 +116,15 @@ fn write(case: &Case, runs: usize) {
         exact.0, exact.1, exact.0 / theirs.0, exact.1 / theirs.1,
         ample.0, ample.1, ample.0 / theirs.0, ample.1 / theirs.1
     );
+}
+
+/// One call of each, for a tool that counts instructions.
+fn once(case: &Case, lists: &str) {
+    let (conv, input) = (harness::machine(&case.machine).unwrap(), harness::input(case).unwrap());
+    let expected = expected(source(&input, &conv));
+    let mut lent = if lists == "ample" { lend_amply(case) } else { lend(&expected) };
+    let counts = library(case, &mut lent);
+    compare(&expected, &counts, &lent);
 }
 
 fn source(input: &Input, conv: &CallRegs) -> Unwind {

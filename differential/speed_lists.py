@@ -12,7 +12,7 @@ Every function but that of `pairs` has 20 rows, and every list is one of ELF's e
 import sys
 
 DEF_CFA, DEF_CFA_OFFSET, DEF_CFA_REGISTER, OFFSET = 0, 1, 2, 3
-RESTORE, UNDEFINED, REMEMBER, RESTORE_STATE, SAME_VALUE, IN_REGISTER = 4, 5, 6, 7, 9, 10
+RESTORE, UNDEFINED, REMEMBER, RESTORE_STATE = 4, 5, 6, 7
 RBP, RSP = 6, 7
 SAVED = [3, 12, 13, 14, 15]
 ROWS = 20
@@ -66,7 +66,7 @@ def shuffled(numbers, count):
     rows, at = [], 0
     for _ in range(count):
         at += 1 + numbers.below(60) if numbers.below(20) else 64 + numbers.below(1000)
-        kind = [DEF_CFA, DEF_CFA_OFFSET, DEF_CFA_REGISTER, OFFSET, RESTORE, UNDEFINED, REMEMBER, RESTORE_STATE, SAME_VALUE][numbers.below(9)]
+        kind = [DEF_CFA, DEF_CFA_OFFSET, DEF_CFA_REGISTER, OFFSET, RESTORE, UNDEFINED, REMEMBER, RESTORE_STATE][numbers.below(8)]
         reg = numbers.below(16) if kind not in (DEF_CFA_OFFSET, REMEMBER, RESTORE_STATE) else 0
         off = {DEF_CFA: 8 + 8 * numbers.below(40), DEF_CFA_OFFSET: 8 + 8 * numbers.below(40), OFFSET: -8 * (1 + numbers.below(20))}
         rows.append((at, kind, reg, off.get(kind, 0)))
