@@ -1,0 +1,2 @@
+-- The laws of the walk by a section.
+pub mod Rules
