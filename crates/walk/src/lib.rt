@@ -265,7 +265,8 @@ pub struct Left {
     pub value: u64,
 }
 
-fn kept<'a>(values: &'a [u64; 128], present: &'a [bool; 128], reg: usize) -> Left
+// What it was before.
+pub fn kept<'a>(values: &'a [u64; 128], present: &'a [bool; 128], reg: usize) -> Left
     requires { ⌜ (length (now values) ≡ 128) × (length (now present) ≡ 128) ⌝ }
     ensures { λ r. ⌜ leftOf r ≡ good (getD (both (now (values .entry)) (now (present .entry))) reg none) ⌝ }
 {

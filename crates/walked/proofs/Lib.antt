@@ -1,2 +1,4 @@
 -- The laws of the walk by a section.
 pub mod Rules
+pub mod Silent
+pub mod Marking

@@ -1,20 +1,25 @@
 // The walk by a section (request W-202): the rules of each frame come from the reader.
 ghost use mathlib.Core.Path.{_≡_};
-ghost use mathlib.Core.Bool.{true};
+ghost use mathlib.Core.Bool.{true, false};
 ghost use mathlib.Core.List.{[], _∷_};
 ghost use Prim.Native.Nat.{_<_, _≤_};
 ghost use lib.Dec.{T, eqb};
 ghost use lib.ListN.{length, take, drop};
 ghost use Rattle.format.specs.Prelude.{pick, after, good, bad, onward};
-ghost use Rattle.format.specs.Machine.{machineOk, machineOf};
+ghost use Rattle.format.specs.Machine.{isWord, machineOk, machineOf};
 ghost use Rattle.format.specs.Rules.{rulesFor};
+ghost use Rattle.format.specs.declared.Rule.the-variants.{Unstated};
 ghost use Rattle.walk.specs.Recorded.{slotsOf};
 ghost use Rattle.walk.specs.Walk.{leftBy, leftFrom, left, returnedTo, callerOf, bySection, lookedUp, heldFrom, placedOf, framesF, fitting, walkBy};
 ghost use Rattle.walk.specs.Standing.{memoryOf, both, slots, leftOf, stepOf, holderOf, framesOf};
 ghost use Rattle.walked.specs.Entry.{numbersOf, chainNumbers, chainStored};
+ghost use Rattle.walked.specs.Named.{names, operationNames, Marked, MarkedAll, MarksIn};
 ghost use Rattle.walked.specs.Standing.{stateIn, isGood, rulesIn, ruledIn, sourceIn, allLeft, walkedOf, fullEnding, faultOf};
+use format::Decoded;
 use format::Machine;
+use format::Operation;
 use format::Reading;
+use format::Row;
 use format::Rules;
 use reader::location::Located;
 use reader::location::Locating;
@@ -26,12 +31,95 @@ use walk::Left;
 use walk::Step;
 use walk::Trailer;
 
+// ---- the registers that a record and its header name
+
+// The registers 0 to 127 that an operation names.
+pub struct Marks {
+    pub named: [bool; 128],
+}
+
+fn unmarked() -> Marks {
+    Marks {
+        named: [false; 128],
+    }
+}
+
+fn mark(m: Marks, reg: u16) -> Marks
+    ensures { λ r. ⌜ Marked (m .named) (r .named) (λ q. eqb q reg) ⌝ }
+{
+    if 128 <= reg {
+        return m;
+    }
+    let mut named = m.named;
+    named[reg as usize] = true;
+    Marks { named }
+}
+
+fn mark_row(m: Marks, row: Row) -> Marks
+    ensures { λ r. ⌜ Marked (m .named) (r .named) (λ q. names q row) ⌝ }
+{
+    match row {
+        Row::DefCfa(_, _) => m,
+        Row::DefCfaOffset(_) => m,
+        Row::DefCfaRegister(_) => m,
+        Row::Offset(reg, _) => mark(m, reg),
+        Row::Restore(reg) => mark(m, reg),
+        Row::Undefined(reg) => mark(m, reg),
+        Row::RememberState => m,
+        Row::RestoreState => m,
+        Row::NegateRaState => m,
+        Row::SameValue(reg) => mark(m, reg),
+        Row::InRegister(reg, _) => mark(m, reg),
+    }
+}
+
+fn mark_operation(m: Marks, op: Operation) -> Marks
+    ensures { λ r. ⌜ Marked (m .named) (r .named) (λ q. operationNames q op) ⌝ }
+{
+    match op {
+        Operation::Nop => m,
+        Operation::Step(_) => m,
+        Operation::Does(row) => mark_row(m, row),
+    }
+}
+
+// The operations of one entry, up to the first that cannot be read.
+fn mark_all(ops: &[u8], word: u64, start: Marks) -> Marks
+    requires { ⌜ 0 < word ⌝ }
+    ensures { λ r. ⌜ MarkedAll (start .named) (r .named) word (now (ops .entry)) ⌝ }
+{
+    let mut m = start;
+    let mut at = 0;
+    while at < ops.len() {
+        let Decoded::Operation(op, next) = rows::operation(ops, at, word) else {
+            return m;
+        };
+        m = mark_operation(m, op);
+        at = next;
+    }
+    m
+}
+
+// The registers that the header's operations or the record's name.
+fn named(section: &[u8], l: Located) -> Marks
+    requires { ⌜ T (isWord (l .word)) × (l .header ≤ l .«header_end») × (l .«header_end» ≤ length (now section)) × (l .«record» ≤ l .«record_end») × (l .«record_end» ≤ length (now section)) ⌝ }
+    ensures { λ r. ⌜ MarksIn (now (section .entry)) l (r .named) ⌝ }
+{
+    let from = l.header;
+    let to = l.header_end;
+    let m = mark_all(&section[from..to], l.word, unmarked());
+    let start = l.record;
+    let end = l.record_end;
+    mark_all(&section[start..end], l.word, m)
+}
+
 // ---- the registers of a frame that is left
 
-// One register, by the rule that the reader gives.
+// One register: kept where no operation names it, and else by the rule that the reader gives.
 fn one<'a>(
     values: &'a [u64; 128],
     present: &'a [bool; 128],
+    named: bool,
     section: &[u8],
     l: Located,
     p: u64,
@@ -40,19 +128,17 @@ fn one<'a>(
     address: u64,
     cfa: u64,
 ) -> Left
-    requires { ⌜ (reg < 128) × (length (now values) ≡ 128) × (length (now present) ≡ 128) × T (isGood (stateIn (now section) l p)) ⌝ }
+    requires { ⌜ (reg < 128) × (length (now values) ≡ 128) × (length (now present) ≡ 128) × T (isGood (stateIn (now section) l p)) × (named ≡ false → rulesIn (now section) l p .rules reg ≡ Unstated) ⌝ }
     ensures { λ r. ⌜ leftOf r ≡ leftBy (memoryOf address (now (stack .entry))) cfa (both (now (values .entry)) (now (present .entry))) reg (rulesIn (now (section .entry)) l p .rules reg) ⌝ }
 {
+    if !named {
+        return walk::kept(values, present, reg);
+    }
     match reader::rules_at(section, l, reg as u16, p) {
-        Reading::Answered(rules) => walk::left_by(
-            values,
-            present,
-            rules.rule,
-            reg,
-            stack,
-            address,
-            cfa,
-        ),
+        Reading::Answered(rules) => {
+            let rule = rules.rule;
+            walk::left_by(values, present, rule, reg, stack, address, cfa)
+        }
         Reading::Refused(n) => Left {
             number: n,
             present: false,
@@ -79,13 +165,14 @@ fn all_left(
     requires { ⌜ T (isGood (stateIn (now section) l p)) ⌝ }
     ensures { λ r. ⌜ allLeft r ≡ leftFrom (λ reg. leftBy (memoryOf address (now (stack .entry))) cfa (slots old) reg (rulesIn (now (section .entry)) l p .rules reg)) 0 128 ⌝ }
 {
+    let marks = named(section, l);
     let vs = old.values;
     let ps = old.present;
     let mut values = vs;
     let mut present = ps;
     let mut i = 0;
     while i < 128 {
-        let f = one(&vs, &ps, section, l, p, i, stack, address, cfa);
+        let f = one(&vs, &ps, marks.named[i], section, l, p, i, stack, address, cfa);
         if f.number != 0 {
             return AllLeft {
                 number: f.number,
@@ -161,10 +248,12 @@ fn left_by_rules(
     requires { ⌜ T (isGood (stateIn (now section) l p)) × (rules ≡ rulesFor (machine .ret) (rulesIn (now section) l p)) ⌝ }
     ensures { λ r. ⌜ stepOf r ≡ callerOf machine (memoryOf address (now (stack .entry))) (ruledIn (now (section .entry)) l p) (slots file) ⌝ }
 {
-    if walk::undefined(rules.rule) {
+    let rule = rules.rule;
+    if walk::undefined(rule) {
         return walk::unreturning(file);
     }
-    match walk::frame_address(rules.cfa, file) {
+    let from = rules.cfa;
+    match walk::frame_address(from, file) {
         Address::At(cfa) => resumed(
             machine,
             file,
@@ -240,6 +329,13 @@ pub struct Walked {
     pub frames: Frames,
 }
 
+fn no_frames() -> Frames {
+    Frames {
+        positions: [0; 64],
+        pcs: [0; 64],
+    }
+}
+
 fn ended(frames: Frames, count: usize, ending: u64) -> Walked
     ensures { λ r. ⌜ walkedOf r ≡ good (record { frames = framesOf (frames .positions) (frames .pcs) count; ending = ending }) ⌝ }
     ensures { λ r. ⌜ r .count ≡ count ⌝ }
@@ -253,7 +349,7 @@ fn ended(frames: Frames, count: usize, ending: u64) -> Walked
     }
 }
 
-fn refused(frames: Frames, number: u64) -> Walked
+fn refused(number: u64) -> Walked
     ensures { λ r. ⌜ walkedOf r ≡ bad number ⌝ }
     ensures { λ r. ⌜ r .count ≡ 0 ⌝ }
 {
@@ -262,7 +358,7 @@ fn refused(frames: Frames, number: u64) -> Walked
         number,
         count: 0,
         ending: 0,
-        frames,
+        frames: no_frames(),
     }
 }
 
@@ -303,10 +399,7 @@ pub fn frames(
     let mut file = start;
     let mut pc = begin;
     let mut exact = true;
-    let mut list = Frames {
-        positions: [0; 64],
-        pcs: [0; 64],
-    };
+    let mut list = no_frames();
     let mut k = 0;
     while k < 64 {
         let Holder::At(position, offset) = held_at(functions, exact, pc) else {
@@ -316,7 +409,7 @@ pub fn frames(
         k += 1;
         let s = caller_by(machine, file, section, relocations, kind, position, offset, stack, address);
         if s.refused {
-            return refused(list, s.number);
+            return refused(s.number);
         }
         if s.ended {
             return ended(list, k, 1);
@@ -347,16 +440,12 @@ fn recorded(
     ensures { λ r. ⌜ walkedOf r ≡ pick (machineOk (now (machine .entry))) (pick (eqb (machineOf (now (machine .entry)) .word) 8) (framesF (bySection (now (section .entry)) (now (relocations .entry)) kind) (faultOf (machineOf (now (machine .entry))) stack (take size (now (file .entry))) (now (functions .entry))) 64 (record { slots = slotsOf count (drop size (now (file .entry))); pc = pc; exact = true })) (bad 12)) (bad 11) ⌝ }
     ensures { λ r. ⌜ r .count ≤ 64 ⌝ }
 {
-    let none = Frames {
-        positions: [0; 64],
-        pcs: [0; 64],
-    };
     if !lists::machine_ok(machine) {
-        return refused(none, 11);
+        return refused(11);
     }
     let m = lists::machine_of(machine);
     if m.word != 8 {
-        return refused(none, 12);
+        return refused(12);
     }
     let start = walk::registers(file, size, count);
     frames(m, start, pc, section, relocations, kind, &file[..size], stack, functions)

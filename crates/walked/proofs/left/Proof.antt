@@ -1,0 +1,26 @@
+use borrow.Author.Needs.{needs}
+use Rattle.walked.proofs.left.Statement.{statement}
+use Rattle.walked.proofs.left.Tie as tie
+use Rattle.walked.proofs.left.Reads as reads
+use Rattle.walked.proofs.left.Lts as lts
+use Rattle.walk.proofs.with_stack.Reads as with-stack-reads
+use Rattle.walked.proofs.all_left.Reads as all-left-reads
+
+-- src/lib.rt:201:9
+all-left-requires : tie.Need-all-left-requires
+all-left-requires c κs = search needs
+
+-- src/lib.rt:203:9
+returns : tie.Need-returns
+returns c = ?
+
+-- src/lib.rt:207:15
+with-stack-requires : tie.Need-with-stack-requires
+with-stack-requires c κs = search needs
+
+-- src/lib.rt:188:1
+returns-2 : tie.Need-returns-2
+returns-2 c = ?
+
+pub left-spec : {M : Type 1} → statement M
+left-spec = tie.close (tie.spec all-left-requires returns with-stack-requires returns-2)

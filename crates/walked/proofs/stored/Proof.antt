@@ -1,0 +1,47 @@
+use borrow.Author.Needs.{needs}
+use Rattle.walked.proofs.stored.Statement.{statement}
+use Rattle.walked.proofs.stored.Tie as tie
+use Rattle.walked.proofs.stored.Reads as reads
+use Rattle.walked.proofs.stored.Lts as lts
+use Rattle.walk.proofs.store.Reads as store-reads
+use Rattle.walked.proofs.refusing.Reads as refusing-reads
+
+-- src/lib.rt:480:9
+refusing-requires : tie.Need-refusing-requires
+refusing-requires c κs = search needs
+
+-- src/lib.rt:480:9
+returns : tie.Need-returns
+returns c = ?
+
+-- src/lib.rt:484:9
+refusing-requires-2 : tie.Need-refusing-requires-2
+refusing-requires-2 c κs = search needs
+
+-- src/lib.rt:484:9
+returns-2 : tie.Need-returns-2
+returns-2 c = ?
+
+-- src/lib.rt:487:5
+store-requires : tie.Need-store-requires
+store-requires c κs = search needs
+
+-- src/lib.rt:474:1
+same-length : tie.Need-same-length
+same-length c = search needs
+
+-- src/lib.rt:474:1
+returns-3 : tie.Need-returns-3
+returns-3 c = ?
+
+pub stored-spec : {M : Type 1} → statement M
+stored-spec =
+    tie.close
+    (tie.spec
+    refusing-requires
+    returns
+    refusing-requires-2
+    returns-2
+    store-requires
+    same-length
+    returns-3)
