@@ -2,3 +2,6 @@
 pub mod Rules
 pub mod Silent
 pub mod Marking
+pub mod Finding
+pub mod Steps
+pub mod Entering

@@ -1,26 +1,32 @@
 -- What the reader's answer of one register says of the rules of all.
 use mathlib.Core.Path.{_≡_, refl, sym, ap, _∙_}
 use mathlib.Core.Bool.{Bool, true, false}
-use Prim.Native.Nat.{ℕ}
+use Prim.Native.Nat.{ℕ, _≤_}
 use native.Mathlib.Omega.{arith}
 use mathlib.Core.List.{List}
-use lib.Dec.{T, eqb}
+use lib.Dec.{T, leb, eqb}
 use Rattle.format.specs.Prelude.{pick, Result, good, bad, onward}
 use Rattle.format.specs.declared.Rules.{Rules}
 use Rattle.format.specs.declared.Reading.the-variants.{Answered, Refused}
+use Rattle.format.specs.Machine.{isWord}
+use Rattle.format.specs.Lists.{relocationsOf}
 use Rattle.format.specs.Rules.{AllRules, State, rulesFor, seen, answer}
+use Rattle.format.specs.Reader.{Found, locate, runTo}
 use Rattle.format.proofs.Choice.{if-eq, if-ne}
-use Rattle.reader.specs.Finds.{rulesFrom}
+use Rattle.reader.specs.Finds.{found, Stated, locateIn, inSection, rulesFrom}
+use Rattle.reader.proofs.Asked.{all-inside, fits}
 use Rattle.reader.specs.declared.location.Located.{Located}
 use Rattle.walk.specs.Recorded.{Slot}
-use Rattle.walk.specs.Walk.{Memory, Ruled, leftBy, leftFrom, left, frameAddress, undefined, returnedTo, callerOf}
+use Rattle.format.specs.declared.Rule.{Rule}
+use Rattle.format.specs.declared.Rule.the-variants.{Unstated}
+use Rattle.walk.specs.Walk.{Memory, Ruled, leftBy, leftFrom, left, frameAddress, undefined, returnedTo, callerOf, bySection}
 use Rattle.walk.specs.Standing.{slots, addressOf}
 use Rattle.walk.specs.declared.Address.the-variants as address
 use Rattle.format.specs.declared.Machine.{Machine}
 use mathlib.Core.Option.{none, some}
-use lib.ListN.{set}
+use lib.ListN.{length, set}
 use Rattle.walked.specs.declared.AllLeft.{AllLeft}
-use Rattle.walked.specs.Standing.{stateIn, isGood, rulesOf, rulesIn, allLeft}
+use Rattle.walked.specs.Standing.{stateIn, isGood, rulesOf, rulesIn, ruledIn, sourceIn, allLeft}
 
 answered-of : (o : Result State) (q : ℕ) {x : Rules} → answer q o ≡ Answered x → (T (isGood o)) × (x ≡ rulesFor q (rulesOf o))
 unfolding answer seen isGood rulesOf
@@ -69,6 +75,15 @@ all-good r e = sym (if-eq (r .number) 0 _ _ e)
 
 -- ---- a caller, by what is asked before it
 
+module _ (ret : ℕ) (signing exact : Bool) (x : Result (List Slot)) (r : AllLeft) where
+  pub resumed-bad : (r .number ≡ 0 → ⊥) → allLeft r ≡ x → bad (r .number) ≡ onward x (λ ss. returnedTo ss ret signing exact)
+  unfolding onward
+  resumed-bad z e = let b = sym e ∙ sym (all-bad r z) in rw b
+
+  pub resumed-good : r .number ≡ 0 → allLeft r ≡ x → returnedTo (slots (r .file)) ret signing exact ≡ onward x (λ ss. returnedTo ss ret signing exact)
+  unfolding onward
+  resumed-good z e = let b = sym e ∙ sym (all-good r z) in rw b
+
 module _ (m : Memory) (stack cfa : ℕ) (u : AllRules) (before : List Slot) where
   pub left-bad : (r : AllLeft) → (r .number ≡ 0 → ⊥) → allLeft r ≡ leftFrom (λ reg. leftBy m cfa before reg (u .rules reg)) 0 128 → bad (r .number) ≡ left m stack cfa u before
   unfolding left onward
@@ -93,3 +108,66 @@ module _ (k : Machine) (m : Memory) (u : Ruled) (before : List Slot) where
         → onward (left m (k .stack) cfa (u .rules) before) (λ ss. returnedTo ss (k .ret) (u .rules .signing) (u .signal)) ≡ callerOf k m u before
     unfolding callerOf pick onward
     caller-at e = rw (d, found-address (frameAddress (u .rules .cfa) before) e)
+
+-- ---- what the reader says of a record that was located
+
+source-of : (signal : Bool) (o : Result State) → T (isGood o) → onward o (λ t. good (record { rules = t .current; signal = signal })) ≡ good (record { rules = rulesOf o; signal = signal })
+unfolding isGood onward rulesOf
+source-of signal (good t) g = refl
+source-of signal (bad n) g = absurd g
+
+is-true : (b : Bool) → T b → b ≡ true
+is-true true t = refl
+is-true false t = absurd t
+
+inside-of : (b : Bool) (r : Result State) → T (isGood (pick b r (bad 64))) → b ≡ true
+unfolding pick isGood
+inside-of true r g = refl
+inside-of false r g = absurd g
+
+module _ (s : List ℕ) (l : Located) (p : ℕ) where
+  -- what is read lies in the section
+  pub places : T (isGood (stateIn s l p))
+      → T (isWord (l .word)) × (l .header ≤ l .«header_end») × (l .«header_end» ≤ length s) × (l .«record» ≤ l .«record_end») × (l .«record_end» ≤ length s)
+  unfolding stateIn
+  places g = fits s l (inside-of (inSection s l) _ g)
+
+  module _ (k : Machine) (m : Memory) (before : List Slot) where
+    pub caller-ruled : T (isGood (stateIn s l p)) → callerOf k m (ruledIn s l p) before ≡ onward (sourceIn s l p) (λ u. callerOf k m u before)
+    unfolding sourceIn rulesIn onward
+    caller-ruled g = rw (source-of (l .signal) (stateIn s l p) g)
+
+    pub caller-unread : {n : ℕ} → stateIn s l p ≡ bad n → bad n ≡ onward (sourceIn s l p) (λ u. callerOf k m u before)
+    unfolding sourceIn onward
+    caller-unread e = rw e
+
+onward-pick : {A B : Type 0} (b : Bool) (x : Result A) (k : A → Result B) → pick b (onward x k) (bad 11) ≡ onward (pick b x (bad 11)) k
+unfolding pick onward
+onward-pick true x k = refl
+onward-pick false x k = refl
+
+module _ (section relocations : List ℕ) (kind k p : ℕ) where
+  by-section : bySection section relocations kind k p
+      ≡ onward (locateIn section relocations kind 8 k) (λ x. onward (runTo 8 p x) λ t. good (record { rules = t .current; signal = x .header .signal }))
+  unfolding bySection locateIn isWord
+  by-section = onward-pick (leb kind 1) (locate (eqb kind 1) (relocationsOf relocations) 8 k section) _
+
+  pub section-no : {n : ℕ} → locateIn section relocations kind 8 k ≡ bad n → bySection section relocations kind k p ≡ bad n
+  unfolding onward
+  section-no e = by-section ∙ rw e
+
+  pub section-source : {l : Located} → Stated section 8 l (locateIn section relocations kind 8 k) → sourceIn section l p ≡ bySection section relocations kind k p
+  unfolding sourceIn stateIn pick onward
+  section-source {l} x =
+      let w : isWord (l .word) ≡ true = ap isWord (x .same-word) ∙ is-true (isWord 8) (x .is-word) in
+      let e : inSection section l ≡ true = all-inside section l (x .header-ordered) (x .header-inside) (x .record-ordered) (x .record-inside) ∙ w in
+      rw (e, x .same-word) (sym (by-section ∙ rw (x .answer)))
+
+module _ (section relocations : List ℕ) (kind n p : ℕ) (k : Machine) (m : Memory) (before : List Slot) where
+  pub caller-by : {l : Located} → Stated section 8 l (locateIn section relocations kind 8 n)
+      → onward (sourceIn section l p) (λ u. callerOf k m u before) ≡ onward (bySection section relocations kind n p) (λ u. callerOf k m u before)
+  caller-by x = rw (section-source section relocations kind n p x)
+
+  pub caller-no : {q : ℕ} → locateIn section relocations kind 8 n ≡ bad q → bad q ≡ onward (bySection section relocations kind n p) (λ u. callerOf k m u before)
+  unfolding onward
+  caller-no e = rw (section-no section relocations kind n p e)

@@ -1,3 +1,6 @@
+-- `walked::caller` meets its contract.
+use mathlib.Core.Path.{sym, _∙_}
+use Rattle.walked.proofs.Rules.{answered, refused, caller-ruled, caller-unread}
 use borrow.Author.Needs.{needs}
 use Rattle.walked.proofs.caller.Statement.{statement}
 use Rattle.walked.proofs.caller.Tie as tie
@@ -21,7 +24,9 @@ enum-known-rules c = search needs
 
 -- src/lib.rt:284:37
 left-by-rules-requires : tie.Need-left-by-rules-requires
-left-by-rules-requires c κs = ?
+left-by-rules-requires c κs =
+    let z = c .before .before .before .before .before .before .before .args in
+    answered (z .section .now) (z .l) (z .machine .ret) (z .p) (sym (c .before .before .before .rules-at .ensures) ∙ c .before .rules .given .1)
 
 -- src/lib.rt:294:26
 enum-known-n : tie.Need-enum-known-n
@@ -33,11 +38,16 @@ refused-requires c κs = search needs
 
 -- src/lib.rt:271:1
 returns : tie.Need-returns
-returns c = ?
+returns c =
+    let z = c .before .before .before .before .before .before .before .before .args in
+    let g = answered (z .section .now) (z .l) (z .machine .ret) (z .p) (sym (c .before .before .before .before .rules-at .ensures) ∙ c .before .before .rules .given .1) in
+    c .left-by-rules .ensures ∙ caller-ruled (z .section .now) (z .l) (z .p) (z .machine) _ _ (g .0)
 
 -- src/lib.rt:271:1
 returns-2 : tie.Need-returns-2
-returns-2 c = ?
+returns-2 c =
+    let z = c .before .before .before .before .before .before .before .before .args in
+    c .refused .ensures ∙ caller-unread (z .section .now) (z .l) (z .p) (z .machine) _ _ (refused (z .section .now) (z .l) (z .machine .ret) (z .p) (sym (c .before .before .before .before .rules-at .ensures) ∙ c .before .before .n .given .1))
 
 pub caller-spec : {M : Type 1} → statement M
 caller-spec =

@@ -1,3 +1,7 @@
+-- `walked::caller_by` meets its contract.
+use mathlib.Core.Path.{_∙_}
+use Rattle.reader.proofs.Asked.{place-found, place-refused}
+use Rattle.walked.proofs.Rules.{caller-by, caller-no}
 use borrow.Author.Needs.{needs}
 use Rattle.walked.proofs.caller_by.Statement.{statement}
 use Rattle.walked.proofs.caller_by.Tie as tie
@@ -29,11 +33,15 @@ refused-requires c κs = search needs
 
 -- src/lib.rt:299:1
 returns : tie.Need-returns
-returns c = ?
+returns c =
+    let z = c .before .before .before .before .before .before .before .before .args in
+    c .caller .ensures ∙ caller-by (z .section .now) (z .relocations .now) (z .kind) (z .k) (z .p) (z .machine) _ _ (place-found (c .before .before .l .given .1) (c .before .before .before .before .locate .ensures))
 
 -- src/lib.rt:299:1
 returns-2 : tie.Need-returns-2
-returns-2 c = ?
+returns-2 c =
+    let z = c .before .before .before .before .before .before .before .before .args in
+    c .refused .ensures ∙ caller-no (z .section .now) (z .relocations .now) (z .kind) (z .k) (z .p) (z .machine) _ _ (place-refused (z .section .now) 8 (c .before .before .n .given .1) (c .before .before .before .before .locate .ensures))
 
 pub caller-by-spec : {M : Type 1} → statement M
 caller-by-spec =

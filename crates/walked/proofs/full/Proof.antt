@@ -1,3 +1,11 @@
+-- `walked::full` meets its contract.
+use mathlib.Core.Path.{sym, ap, _∙_}
+use Prim.Native.Nat.{ℕ}
+use Rattle.format.specs.Prelude.{good}
+use Rattle.walk.specs.Walk.{heldByNone, tooMany}
+use Rattle.walk.specs.Standing.{framesOf}
+use Rattle.walk.specs.declared.Holder.{Holder}
+use Rattle.walked.specs.Standing.{fullEnding}
 use borrow.Author.Needs.{needs}
 use Rattle.walked.proofs.full.Statement.{statement}
 use Rattle.walked.proofs.full.Tie as tie
@@ -23,7 +31,10 @@ ended-requires c κs = search needs
 
 -- src/lib.rt:372:9
 returns : tie.Need-returns
-returns c = ?
+unfolding fullEnding
+returns c =
+    let z = c .before .before .before .before .before .args in
+    (c .ended .ensures .0 ∙ ap (λ (h : Holder). good (record { frames = framesOf (z .frames .positions) (z .frames .pcs) 64; ending = fullEnding h })) (sym (c .before .enum-told2 .given .1) ∙ c .before .before .before .held-at .ensures), c .ended .ensures .1)
 
 -- src/lib.rt:374:5
 ended-requires-2 : tie.Need-ended-requires-2
@@ -31,7 +42,10 @@ ended-requires-2 c κs = search needs
 
 -- src/lib.rt:367:1
 returns-2 : tie.Need-returns-2
-returns-2 c = ?
+unfolding fullEnding
+returns-2 c =
+    let z = c .before .before .before .before .before .args in
+    (c .ended2 .ensures .0 ∙ ap (λ (h : Holder). good (record { frames = framesOf (z .frames .positions) (z .frames .pcs) 64; ending = fullEnding h })) (sym (c .before .enum-told .given .1) ∙ c .before .before .before .held-at .ensures), c .ended2 .ensures .1)
 
 pub full-spec : {M : Type 1} → statement M
 full-spec =

@@ -1,3 +1,11 @@
+-- `walked::held_at` meets its contract.
+use mathlib.Core.Path.{ap, _∙_}
+use mathlib.Core.Option.{Option}
+use Prim.Native.Nat.{ℕ}
+use Rattle.format.specs.Prelude.{after}
+use Rattle.walk.specs.Walk.{heldFrom, placedOf}
+use Rattle.walk.specs.Standing.{holderOf, found}
+use Rattle.walked.proofs.Finding.{found-back}
 use borrow.Author.Needs.{needs}
 use Rattle.walked.proofs.held_at.Statement.{statement}
 use Rattle.walked.proofs.held_at.Tie as tie
@@ -16,7 +24,7 @@ held-requires c κs = search needs
 
 -- src/lib.rt:360:1
 returns : tie.Need-returns
-returns c = ?
+returns c = c .held .ensures ∙ found-back _ _ (c .before .looked-up .ensures)
 
 pub held-at-spec : {M : Type 1} → statement M
 held-at-spec = tie.close (tie.spec looked-up-requires held-requires returns)

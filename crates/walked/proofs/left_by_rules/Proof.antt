@@ -1,3 +1,14 @@
+-- `walked::left_by_rules` meets its contract.
+use mathlib.Core.Path.{sym, ap, _∙_}
+use Rattle.format.specs.Rules.{rulesFor}
+use Rattle.format.specs.declared.Rules.{Rules}
+use Prim.Native.Nat.{ℕ}
+use mathlib.Core.Bool.{Bool}
+use Rattle.format.specs.Prelude.{onward}
+use Rattle.walk.specs.Walk.{undefined, frameAddress, left, returnedTo}
+use Rattle.walk.specs.Standing.{slots, addressOf, memoryOf}
+use Rattle.walked.specs.Standing.{rulesIn}
+use Rattle.walked.proofs.Rules.{caller-none, caller-bad, caller-at}
 use borrow.Author.Needs.{needs}
 use Rattle.walked.proofs.left_by_rules.Statement.{statement}
 use Rattle.walked.proofs.left_by_rules.Tie as tie
@@ -19,7 +30,11 @@ unreturning-requires c κs = search needs
 
 -- src/lib.rt:251:9
 returns : tie.Need-returns
-returns c = ?
+unfolding rulesFor
+returns c =
+    let z = c .before .before .before .before .before in
+    let e = sym (ap (λ (x : Rules). undefined (x .rule)) (z .pre .1)) ∙ sym (c .before .before .undefined .ensures) ∙ c .before .if1 .taken in
+    c .unreturning .ensures ∙ caller-none (z .args .machine) _ _ _ e
 
 -- src/lib.rt:254:11
 frame-address-requires : tie.Need-frame-address-requires
@@ -43,11 +58,21 @@ refused-requires c κs = search needs
 
 -- src/lib.rt:236:1
 returns-2 : tie.Need-returns-2
-returns-2 c = ?
+unfolding rulesFor
+returns-2 c =
+    let z = c .before .before .before .before .before .before .before .before .before in
+    let e = sym (ap (λ (x : Rules). undefined (x .rule)) (z .pre .1)) ∙ sym (c .before .before .before .before .before .before .undefined .ensures) ∙ c .before .before .before .before .before .if1 .left in
+    let f = ap (λ (x : Rules). addressOf (frameAddress (x .cfa) (slots (z .args .file)))) (sym (z .pre .1)) ∙ sym (c .before .before .before .before .frame-address .ensures) ∙ c .before .before .cfa .given .1 in
+    c .resumed .ensures ∙ ap (λ (x : Rules). onward (left (memoryOf (z .args .address) (z .args .stack .now)) (z .args .machine .stack) (c .before .before .cfa .given .0 .0) (rulesIn (z .args .section .now) (z .args .l) (z .args .p)) (slots (z .args .file))) (λ ss. returnedTo ss (z .args .machine .ret) (x .signing) (z .args .l .signal))) (z .pre .1) ∙ caller-at (z .args .machine) _ _ _ e f
 
 -- src/lib.rt:236:1
 returns-3 : tie.Need-returns-3
-returns-3 c = ?
+unfolding rulesFor
+returns-3 c =
+    let z = c .before .before .before .before .before .before .before .before .before in
+    let e = sym (ap (λ (x : Rules). undefined (x .rule)) (z .pre .1)) ∙ sym (c .before .before .before .before .before .before .undefined .ensures) ∙ c .before .before .before .before .before .if1 .left in
+    let f = ap (λ (x : Rules). addressOf (frameAddress (x .cfa) (slots (z .args .file)))) (sym (z .pre .1)) ∙ sym (c .before .before .before .before .frame-address .ensures) ∙ c .before .before .n .given .1 in
+    c .refused .ensures ∙ caller-bad (z .args .machine) _ _ _ e f
 
 pub left-by-rules-spec : {M : Type 1} → statement M
 left-by-rules-spec =

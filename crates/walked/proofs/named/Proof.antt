@@ -1,3 +1,6 @@
+-- `walked::named` meets its contract.
+use Rattle.format.proofs.FieldsBack.{word-small}
+use Rattle.walked.proofs.Marking.{both-marked}
 use borrow.Author.Needs.{needs}
 use Rattle.walked.proofs.named.Statement.{statement}
 use Rattle.walked.proofs.named.Tie as tie
@@ -24,7 +27,7 @@ unmarked-requires c κs = search needs
 
 -- src/lib.rt:110:9
 mark-all-requires : tie.Need-mark-all-requires
-mark-all-requires c κs = ?
+mark-all-requires c κs = let z = c .before .before .before in word-small (z .args .l .word) (z .pre .0) .0
 
 -- src/lib.rt:113:14
 sub-mark-all-2 : tie.Need-sub-mark-all-2
@@ -40,11 +43,11 @@ part-mark-all-end-2 c = search needs
 
 -- src/lib.rt:113:5
 mark-all-requires-2 : tie.Need-mark-all-requires-2
-mark-all-requires-2 c κs = ?
+mark-all-requires-2 c κs = let z = c .before .before .before .before .before in word-small (z .args .l .word) (z .pre .0) .0
 
 -- src/lib.rt:104:1
 returns : tie.Need-returns
-returns c = ?
+returns c = let z = c .before .before .before .before .before .before .args in both-marked (z .section .now) (z .l) _ _ _ (c .before .before .mark-all .ensures) (c .mark-all2 .ensures)
 
 pub named-spec : {M : Type 1} → statement M
 named-spec =

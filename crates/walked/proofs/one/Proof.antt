@@ -1,3 +1,11 @@
+-- `walked::one` meets its contract.
+use mathlib.Core.Path.{sym, ap, _∙_}
+use Rattle.format.specs.declared.Rule.{Rule}
+use Rattle.format.specs.declared.Rules.{Rules}
+use Rattle.walk.specs.Walk.{leftBy}
+use Rattle.format.specs.Rules.{rulesFor}
+use borrow.Author.Tests.{not-true}
+use Rattle.walked.proofs.Rules.{answered, never}
 use borrow.Author.Needs.{needs}
 use Rattle.walked.proofs.one.Statement.{statement}
 use Rattle.walked.proofs.one.Tie as tie
@@ -13,7 +21,8 @@ kept-requires c κs = search needs
 
 -- src/lib.rt:133:9
 returns : tie.Need-returns
-returns c = ?
+unfolding leftBy
+returns c = let z = c .before .before .before .before in rw (z .pre .4 (not-true _ (c .before .if1 .taken))) (c .kept .ensures)
 
 -- src/lib.rt:135:40
 cast-rules-at : tie.Need-cast-rules-at
@@ -37,11 +46,17 @@ enum-known-n c = search needs
 
 -- src/lib.rt:117:1
 returns-2 : tie.Need-returns-2
-returns-2 c = ?
+unfolding rulesFor
+returns-2 c =
+    let z = c .before .before .before .before .before .before .before .before .args in
+    let a = answered (z .section .now) (z .l) (z .reg) (z .p) (sym (c .before .before .before .before .rules-at .ensures) ∙ c .before .before .rules .given .1) in
+    c .left-by .ensures ∙ ap (λ (r : Rules). leftBy _ _ _ _ (r .rule)) (a .1)
 
 -- src/lib.rt:117:1
 returns-3 : tie.Need-returns-3
-returns-3 c = ?
+returns-3 c =
+    let z = c .before .before .before .before .before .before .before in
+    absurd (never (z .args .section .now) (z .args .l) (z .args .reg) (z .args .p) (sym (c .before .before .before .rules-at .ensures) ∙ c .before .n .given .1) (z .pre .3))
 
 pub one-spec : {M : Type 1} → statement M
 one-spec =

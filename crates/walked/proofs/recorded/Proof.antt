@@ -1,3 +1,14 @@
+-- `walked::recorded` meets its contract.
+use mathlib.Core.Path.{sym, ap, _∙_}
+use native.Mathlib.Omega.{arith}
+use mathlib.Core.List.{List}
+use lib.Dec.{T}
+use lib.Seq.{length-take-le}
+use borrow.Author.Tests.{not-true, not-false}
+use Rattle.format.specs.declared.Machine.{Machine}
+use Rattle.format.specs.Machine.{machineOk}
+use Rattle.format.proofs.Accepted.{machine-fits}
+use Rattle.walked.proofs.Entering.{no-machine, other-word, right-word, frames-of}
 use borrow.Author.Needs.{needs}
 use Rattle.walked.proofs.recorded.Statement.{statement}
 use Rattle.walked.proofs.recorded.Tie as tie
@@ -19,11 +30,11 @@ refused-requires c κs = search needs
 
 -- src/lib.rt:444:9
 returns : tie.Need-returns
-returns c = ?
+returns c = (c .refused .ensures .0 ∙ no-machine (c .before .before .before .before .before .before .before .before .args .machine .now) _ (sym (c .before .before .machine-ok .ensures) ∙ not-true _ (c .before .if1 .taken)), omega (arith, c .refused .ensures .1))
 
 -- src/lib.rt:446:9
 machine-of-requires : tie.Need-machine-of-requires
-machine-of-requires c κs = ?
+machine-of-requires c κs = rw (sym (c .before .machine-ok .ensures) ∙ not-false _ (c .if1 .left)) tt
 
 -- src/lib.rt:448:9
 refused-requires-2 : tie.Need-refused-requires-2
@@ -31,7 +42,7 @@ refused-requires-2 c κs = search needs
 
 -- src/lib.rt:448:9
 returns-2 : tie.Need-returns-2
-returns-2 c = ?
+returns-2 c = (c .refused2 .ensures .0 ∙ other-word (c .before .before .before .before .before .before .before .before .before .before .before .args .machine .now) _ (sym (c .before .before .before .before .before .machine-ok .ensures) ∙ not-false _ (c .before .before .before .before .if1 .left)) (c .before .before .before .machine-of .result) (c .before .before .before .machine-of .ensures) (c .before .if2 .taken), omega (arith, c .refused2 .ensures .1))
 
 -- src/lib.rt:450:9
 registers-requires : tie.Need-registers-requires
@@ -39,15 +50,20 @@ registers-requires c κs = search needs
 
 -- src/lib.rt:451:54
 slice-aggregate-frames : tie.Need-slice-aggregate-frames
-slice-aggregate-frames c = ?
+slice-aggregate-frames c = sym (length-take-le _ _ (c .before .before .before .before .before .before .before .before .before .before .before .before .pre .0))
 
 -- src/lib.rt:451:5
 frames-requires : tie.Need-frames-requires
-frames-requires c κs = ?
+frames-requires c κs =
+    let t : T (machineOk (c .before .before .before .before .before .before .before .before .before .before .before .before .args .machine .now)) = rw (sym (c .before .before .before .before .before .before .machine-ok .ensures) ∙ not-false _ (c .before .before .before .before .before .if1 .left)) tt in
+    rw (c .before .before .before .before .machine-of .ensures) (machine-fits _ t .ret-small)
 
 -- src/lib.rt:427:1
 returns-3 : tie.Need-returns-3
-returns-3 c = ?
+returns-3 c =
+    let ok = sym (c .before .before .before .before .before .before .before .machine-ok .ensures) ∙ not-false _ (c .before .before .before .before .before .before .if1 .left) in
+    let m = c .before .before .before .before .before .machine-of in
+    (c .frames .ensures .0 ∙ frames-of _ _ _ _ _ (m .ensures) (c .before .before .registers .ensures) ∙ right-word _ _ ok (m .result) (m .ensures) (c .before .before .before .if2 .left), c .frames .ensures .1)
 
 pub recorded-spec : {M : Type 1} → statement M
 recorded-spec =

@@ -1,3 +1,7 @@
+-- `walked::refused` meets its contract.
+use mathlib.Core.Path.{refl}
+use Rattle.format.specs.Prelude.{pick}
+use Rattle.walked.specs.Standing.{walkedOf}
 use borrow.Author.Needs.{needs}
 use Rattle.walked.proofs.refused.Statement.{statement}
 use Rattle.walked.proofs.refused.Tie as tie
@@ -11,7 +15,8 @@ no-frames-requires c κs = search needs
 
 -- src/lib.rt:352:1
 returns : tie.Need-returns
-returns c = ?
+unfolding walkedOf pick
+returns c = (refl, refl)
 
 pub refused-spec : {M : Type 1} → statement M
 refused-spec = tie.close (tie.spec no-frames-requires returns)

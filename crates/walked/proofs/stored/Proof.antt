@@ -1,3 +1,7 @@
+-- `walked::stored` meets its contract.
+use mathlib.Core.Path.{sym, ap, _∙_}
+use native.Mathlib.Omega.{arith}
+use Rattle.walked.proofs.Entering.{refuses, walked-bad, no-room, stored}
 use borrow.Author.Needs.{needs}
 use Rattle.walked.proofs.stored.Statement.{statement}
 use Rattle.walked.proofs.stored.Tie as tie
@@ -12,7 +16,7 @@ refusing-requires c κs = search needs
 
 -- src/lib.rt:480:9
 returns : tie.Need-returns
-returns c = ?
+returns c = refuses (walked-bad (c .before .before .before .args .r) _ (c .before .if1 .taken)) (c .refusing .ensures)
 
 -- src/lib.rt:484:9
 refusing-requires-2 : tie.Need-refusing-requires-2
@@ -20,7 +24,7 @@ refusing-requires-2 c κs = search needs
 
 -- src/lib.rt:484:9
 returns-2 : tie.Need-returns-2
-returns-2 c = ?
+returns-2 c = refuses (no-room (c .before .before .before .before .args .r) (c .before .before .if1 .left) _ (c .before .if2 .taken)) (c .refusing2 .ensures)
 
 -- src/lib.rt:487:5
 store-requires : tie.Need-store-requires
@@ -32,7 +36,7 @@ same-length c = search needs
 
 -- src/lib.rt:474:1
 returns-3 : tie.Need-returns-3
-returns-3 c = ?
+returns-3 c = stored (c .before .before .before .before .before .before .before .before .args .r) (c .before .before .before .before .before .before .if1 .left) (c .before .before .before .before .before .before .before .before .args .out .now) (c .before .before .before .before .before .if2 .left) (c .before .before .store .ensures)
 
 pub stored-spec : {M : Type 1} → statement M
 stored-spec =

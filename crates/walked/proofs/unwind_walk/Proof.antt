@@ -1,3 +1,7 @@
+-- `walked::unwind_walk` meets its contract.
+use mathlib.Core.Path.{sym, ap, _∙_}
+use Rattle.walk.specs.Recorded.{readTrailer}
+use Rattle.walked.proofs.Entering.{trailer-bad, trailer-is, trailer-inside, no-file, with-file, refuses, answers-as}
 use borrow.Author.Needs.{needs}
 use Rattle.walked.proofs.unwind_walk.Statement.{statement}
 use Rattle.walked.proofs.unwind_walk.Tie as tie
@@ -26,11 +30,11 @@ refusing-requires c κs = search needs
 
 -- src/lib.rt:512:9
 returns : tie.Need-returns
-returns c = ?
+returns c = let z = c .before .before .before .before .before .before .before .before .before .before .args in refuses (no-file _ _ (z .file .now) _ _ _ _ (trailer-bad (readTrailer (z .file .now)) (sym (c .before .before .before .read-trailer .ensures) ∙ c .before .enum-told .given .1))) (c .refusing .ensures)
 
 -- src/lib.rt:514:9
 recorded-requires : tie.Need-recorded-requires
-recorded-requires c κs = ?
+recorded-requires c κs = let z = c .before .before .before .before .before .before .before .before .before .before .args in trailer-inside (z .file .now) (trailer-is (readTrailer (z .file .now)) (sym (c .before .before .before .read-trailer .ensures) ∙ c .before .size .given .1))
 
 -- src/lib.rt:515:5
 stored-requires : tie.Need-stored-requires
@@ -42,7 +46,10 @@ same-length c = search needs
 
 -- src/lib.rt:496:1
 returns-2 : tie.Need-returns-2
-returns-2 c = ?
+returns-2 c =
+    let z = c .before .before .before .before .before .before .before .before .before .before .before .before .before .before .before .args in
+    let t = trailer-is (readTrailer (z .file .now)) (sym (c .before .before .before .before .before .before .before .before .read-trailer .ensures) ∙ c .before .before .before .before .before .before .size .given .1) in
+    answers-as (c .before .before .before .before .recorded .ensures .0) (with-file _ _ (z .file .now) _ _ _ _ t) (c .before .before .stored .ensures)
 
 pub unwind-walk-spec : {M : Type 1} → statement M
 unwind-walk-spec =
