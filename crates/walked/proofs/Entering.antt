@@ -1,5 +1,5 @@
 -- The entry: the record file, the machine, and the list that is lent.
-use mathlib.Core.Path.{_≡_, refl, sym, ap, _∙_}
+use mathlib.Core.Path.{_≡_, refl, sym, ap, ap₂, _∙_}
 use Prim.Native.Nat.{ℕ, _+_, _*_, _/_, _<_, _≤_}
 use native.Mathlib.Omega.{arith}
 use mathlib.Core.Bool.{Bool, true, false, _&&_}
@@ -34,7 +34,7 @@ trailer-bad (some t) e = let z : _≡_ {A = ℕ} 0 1 = cc in absurd (omega arith
 pub trailer-is : (o : Option Trailer) {a b : ℕ} → trailerOf o ≡ trailer.Numbers a b → o ≡ some (record { size = a; count = b })
 unfolding trailerOf
 trailer-is none e = let z : _≡_ {A = ℕ} 0 1 = cc in absurd (omega arith)
-trailer-is (some t) e = cc
+trailer-is (some t) {a} {b} e = let p : t .size ≡ a = cc in let q : t .count ≡ b = cc in ap₂ (λ (x y : ℕ). some (record { size = x; count = y })) p q
 
 required : {A : Type 0} (t : Bool) (o : Option A) {a : A} → require t o ≡ some a → T t × (o ≡ some a)
 unfolding require pick
@@ -46,19 +46,27 @@ unfolding next
 read-on none k e = let z : _≡_ {A = ℕ} 0 1 = cc in absurd (omega arith)
 read-on (some x) k e = (x .0, x .1, e)
 
+size-of : {x y : Trailer} → some x ≡ some y → x .size ≡ y .size
+size-of {x} {y} e = let z : x ≡ y = cc in ap (λ (t : Trailer). t .size) z
+
+matched : (file distance count size : ℕ) → T (matches file distance count size) → size + distance + 16 ≡ file
+unfolding matches
+matched file distance count size t =
+    let y = and-yes (leb count 128) _ t in
+    eqb→eq (size + distance + 16) file (and-yes (eqb distance (8 * count)) _ (y .1) .1)
+
 -- the stack lies in the file
 pub trailer-inside : (file : List ℕ) {a b : ℕ} → readTrailer file ≡ some (record { size = a; count = b }) → (a ≤ length file) × (a ≤ 65536)
-unfolding readTrailer matches
+unfolding readTrailer
 trailer-inside file {a} {b} e =
     let x = required (leb 16 (length file) && leb (length file) 65536) _ e in
     let d = read-on _ _ (x .1) in
     let c = read-on _ _ (d .2) in
     let s = read-on _ _ (c .2) in
     let m = required _ _ (s .2) in
-    let y = and-yes (leb (c .0) 128) _ (m .0) in
-    let w = eqb→eq _ _ (and-yes (eqb (d .0) (8 * c .0)) _ (y .1) .1) in
-    let small = leb→le (length file) 65536 (and-yes (leb 16 (length file)) _ (x .0) .1) in
-    let same : s .0 ≡ a = cc (m .1) in
+    let w : s .0 + d .0 + 16 ≡ length file = matched (length file) (d .0) (c .0) (s .0) (m .0) in
+    let small : length file ≤ 65536 = leb→le (length file) 65536 (and-yes (leb 16 (length file)) _ (x .0) .1) in
+    let same : s .0 ≡ a = size-of (m .1) in
     (omega arith, omega arith)
 
 -- ---- the machine
@@ -144,5 +152,5 @@ module _ (r : Walked) where
         (rw (d, counted), rw d q)
 
 -- the answer of the walk that was made, as the walk of the definition
-pub answers-as : {x y r : Result Chain} {f : Chain → Result Chain} {ns old new : List ℕ} → x ≡ y → r ≡ onward y f → Answers (onward x f) ns old new → Answers r ns old new
-answers-as e d h = rw (d, ← e) h
+pub answers-as : {x y r : Result Chain} (f : Chain → Result Chain) (old : List ℕ) {ns new : List ℕ} → x ≡ y → r ≡ onward y f → Answers (onward x f) ns old new → Answers r ns old new
+answers-as f old e d h = rw (d, ← e) h

@@ -111,7 +111,7 @@ module _ (k : Machine) (m : Memory) (u : Ruled) (before : List Slot) where
 
 -- ---- what the reader says of a record that was located
 
-source-of : (signal : Bool) (o : Result State) → T (isGood o) → onward o (λ t. good (record { rules = t .current; signal = signal })) ≡ good (record { rules = rulesOf o; signal = signal })
+source-of : (signal : Bool) (o : Result State) → T (isGood o) → onward {B = Ruled} o (λ t. good (record { rules = t .current; signal = signal })) ≡ good (record { rules = rulesOf o; signal = signal })
 unfolding isGood onward rulesOf
 source-of signal (good t) g = refl
 source-of signal (bad n) g = absurd g
@@ -171,3 +171,8 @@ module _ (section relocations : List ℕ) (kind n p : ℕ) (k : Machine) (m : Me
   pub caller-no : {q : ℕ} → locateIn section relocations kind 8 n ≡ bad q → bad q ≡ onward (bySection section relocations kind n p) (λ u. callerOf k m u before)
   unfolding onward
   caller-no e = rw (section-no section relocations kind n p e)
+
+-- a register's rule is the one that the reader gave
+pub by-rule : (m : Memory) (cfa : ℕ) (before : List Slot) (reg : ℕ) {x : Rules} (a : AllRules) → x ≡ rulesFor reg a → leftBy m cfa before reg (x .rule) ≡ leftBy m cfa before reg (a .rules reg)
+unfolding rulesFor
+by-rule m cfa before reg a e = ap (λ (r : Rules). leftBy m cfa before reg (r .rule)) e

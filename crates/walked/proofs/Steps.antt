@@ -1,5 +1,5 @@
 -- The function that holds a frame, and the step to its caller, as the loop over frames meets them.
-use mathlib.Core.Path.{_≡_, refl, sym, ap, _∙_}
+use mathlib.Core.Path.{_≡_, refl, sym, ap, ap₂, _∙_}
 use mathlib.Core.Bool.{Bool, true, false}
 use mathlib.Core.Option.{Option, none, some}
 use mathlib.Core.List.{List}
@@ -26,7 +26,7 @@ nobody (some h) e = let z : _≡_ {A = ℕ} 0 1 = cc in absurd (omega arith)
 holding : (o : Option Held) {k p : ℕ} → holderOf o ≡ holder.At k p → o ≡ some (record { position = k; offset = p })
 unfolding holderOf
 holding none e = let z : _≡_ {A = ℕ} 0 1 = cc in absurd (omega arith)
-holding (some h) e = cc
+holding (some h) {k} {p} e = let a : h .position ≡ k = cc in let b : h .offset ≡ p = cc in ap₂ (λ (x y : ℕ). some (record { position = x; offset = y })) a b
 
 module _ (e : Fault) (c : Caller) {r : Holder} (q : r ≡ holderOf (after (lookedUp (c .exact) (c .pc)) λ a. heldFrom a 0 (e .functions))) where
   pub unheld : r ≡ holder.Nobody → heldAt e c ≡ none
@@ -54,10 +54,11 @@ module _ (s : Step) where
 -- behind 64 frames
 pub go-full : {src : Source} {e : Fault} {c₀ : Caller} {ps qs : List ℕ} {k : ℕ} {c : Caller} → Going src e c₀ ps qs k c → 64 ≤ k
     → good (record { frames = framesOf ps qs 64; ending = fullEnding (holderOf (heldAt e c)) }) ≡ framesF src e 64 c₀
+unfolding fullEnding holderOf
 go-full {src} {e} {c₀} {ps} {qs} {k} {c} g h =
     let z : k ≡ 64 = omega (arith, g .inside) in
     ap (λ (n : ℕ). good (record { frames = framesOf ps qs n; ending = fullEnding (holderOf (heldAt e c)) })) (sym z) ∙ by (heldAt e c) refl
-    where
+  where
     by : (o : Option Held) → heldAt e c ≡ o → good (record { frames = framesOf ps qs k; ending = fullEnding (holderOf (heldAt e c)) }) ≡ framesF src e 64 c₀
     by none d = rw d (full-unheld g h d)
     by (some x) d = rw d (full-held g h x d)

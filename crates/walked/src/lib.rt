@@ -172,7 +172,18 @@ fn all_left(
     let mut present = ps;
     let mut i = 0;
     while i < 128 {
-        let f = one(&vs, &ps, marks.named[i], section, l, p, i, stack, address, cfa);
+        let f = one(
+            &vs,
+            &ps,
+            marks.named[i],
+            section,
+            l,
+            p,
+            i,
+            stack,
+            address,
+            cfa,
+        );
         if f.number != 0 {
             return AllLeft {
                 number: f.number,
@@ -407,7 +418,17 @@ pub fn frames(
         };
         list = walk::listed(list, k, position, pc);
         k += 1;
-        let s = caller_by(machine, file, section, relocations, kind, position, offset, stack, address);
+        let s = caller_by(
+            machine,
+            file,
+            section,
+            relocations,
+            kind,
+            position,
+            offset,
+            stack,
+            address,
+        );
         if s.refused {
             return refused(s.number);
         }
@@ -448,7 +469,17 @@ fn recorded(
         return refused(12);
     }
     let start = walk::registers(file, size, count);
-    frames(m, start, pc, section, relocations, kind, &file[..size], stack, functions)
+    frames(
+        m,
+        start,
+        pc,
+        section,
+        relocations,
+        kind,
+        &file[..size],
+        stack,
+        functions,
+    )
 }
 
 // What `unwind_walk` answers: 0 or a refusal's number, the count of frames that are stored, and why the walk ended.
@@ -511,6 +542,17 @@ pub extern "C" fn unwind_walk(
     let Trailer::Numbers(size, count) = walk::read_trailer(file) else {
         return refusing(73);
     };
-    let r = recorded(machine, file, size, count, section, relocations, kind, pc, stack, functions);
+    let r = recorded(
+        machine,
+        file,
+        size,
+        count,
+        section,
+        relocations,
+        kind,
+        pc,
+        stack,
+        functions,
+    );
     stored(r, frames)
 }

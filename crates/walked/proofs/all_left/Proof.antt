@@ -12,10 +12,6 @@ use Rattle.walked.proofs.Rules.{places, all-bad}
 use Rattle.walked.proofs.Silent.{unnamed-unstated}
 use Rattle.walked.proofs.all_left.Statement.{statement}
 use Rattle.walked.proofs.all_left.Tie as tie
-use Rattle.walked.proofs.all_left.Reads as reads
-use Rattle.walked.proofs.all_left.Lts as lts
-use Rattle.walked.proofs.named.Reads as named-reads
-use Rattle.walked.proofs.one.Reads as one-reads
 
 abbrev Inv-loop : tie.InvT-loop
 Inv-loop old section l p stack address cfa marks vs ps values₀ present₀ i₀ values present i =
@@ -24,57 +20,50 @@ Inv-loop old section l p stack address cfa marks vs ps values₀ present₀ i₀
 abbrev μ-loop : tie.MeasureT-loop
 μ-loop old section l p stack address cfa marks vs ps values₀ present₀ i₀ values present i = 128 - i
 
--- src/lib.rt:166:17
 named-requires : tie.Need-named-requires Inv-loop μ-loop
 named-requires c κs = let z = c .before .before in places (z .args .section .now) (z .args .l) (z .args .p) (z .pre)
 
--- src/lib.rt:172:5
 loop-holds : tie.Need-loop-holds Inv-loop μ-loop
 loop-holds c = turn-start _ _ _ (search needs) (search needs)
 
--- src/lib.rt:173:31
 element-copy-out-one : tie.Need-element-copy-out-one Inv-loop μ-loop
 element-copy-out-one c = search needs
 
--- src/lib.rt:173:13
 one-requires : tie.Need-one-requires Inv-loop μ-loop
 one-requires c κs =
-    let z = c .before .before .before .before .before .before .before .before .before .before in
-    (search needs, search needs, search needs, z .pre, λ e.
-    let m = c .before .before .before .before .before .before .before .named .ensures (c .before .before .before .before .loop .i) (search needs) e in
-    unnamed-unstated (z .args .section .now) (z .args .l) (z .args .p) (c .before .before .before .before .loop .i) (z .pre) (m .0) (m .1))
+    let z = c .before .before .before .before .before .before .before .before .before .before in (
+      search needs,
+      search needs,
+      search needs,
+      z .pre,
+      λ e.
+          let m = c .before .before .before .before .before .before .before .named .ensures (c .before .before .before .before .loop .i) (search needs) e in
+          unnamed-unstated (z .args .section .now) (z .args .l) (z .args .p) (c .before .before .before .before .loop .i) (z .pre) (m .0) (m .1),
+    )
 
--- src/lib.rt:175:13
 returns : tie.Need-returns Inv-loop μ-loop
 returns c = sym (all-bad _ (c .if1 .taken)) ∙ turn-refused (c .before .before .before .before .before .before .before .loop .inv) (c .before .before .before .before .before .before .loop-test .taken) (c .before .before .one .result) (c .if1 .taken) (c .before .before .one .ensures)
 
--- src/lib.rt:180:9
 mul-values : tie.Need-mul-values Inv-loop μ-loop
 mul-values c = search needs
 
--- src/lib.rt:180:9
 array-write-values : tie.Need-array-write-values Inv-loop μ-loop
 array-write-values c = search needs
 
--- src/lib.rt:181:9
 array-write-present : tie.Need-array-write-present Inv-loop μ-loop
 array-write-present c = search needs
 
--- src/lib.rt:182:9
 add-i : tie.Need-add-i Inv-loop μ-loop
 add-i c = search needs
 
--- src/lib.rt:172:5
 loop-less : tie.Need-loop-less Inv-loop μ-loop
 loop-less c = search needs
 
--- src/lib.rt:172:5
 loop-again : tie.Need-loop-again Inv-loop μ-loop
 loop-again c =
     let l = c .before .before .before .before .before .before .before .loop in
     turn (l .inv) (c .before .before .before .before .before .before .loop-test .taken) (c .before .before .one .result) (c .if1 .left) (c .before .before .one .ensures) (simp length-set (l .inv .values)) (simp length-set (l .inv .present))
 
--- src/lib.rt:154:1
 returns-2 : tie.Need-returns-2 Inv-loop μ-loop
 unfolding allLeft pick
 returns-2 c = turn-ended (c .before .loop .inv) (c .loop-test .left)

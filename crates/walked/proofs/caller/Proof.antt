@@ -4,46 +4,33 @@ use Rattle.walked.proofs.Rules.{answered, refused, caller-ruled, caller
 use borrow.Author.Needs.{needs}
 use Rattle.walked.proofs.caller.Statement.{statement}
 use Rattle.walked.proofs.caller.Tie as tie
-use Rattle.walked.proofs.caller.Reads as reads
-use Rattle.walked.proofs.caller.Lts as lts
-use Rattle.reader.proofs.rules_at.Reads as rules-at-reads
-use Rattle.walk.proofs.refused.Reads as refused-reads
-use Rattle.walked.proofs.left_by_rules.Reads as left-by-rules-reads
 
--- src/lib.rt:283:40
 cast-rules-at : tie.Need-cast-rules-at
 cast-rules-at c = search needs
 
--- src/lib.rt:283:11
 rules-at-requires : tie.Need-rules-at-requires
 rules-at-requires c κs = search needs
 
--- src/lib.rt:284:27
 enum-known-rules : tie.Need-enum-known-rules
 enum-known-rules c = search needs
 
--- src/lib.rt:284:37
 left-by-rules-requires : tie.Need-left-by-rules-requires
 left-by-rules-requires c κs =
     let z = c .before .before .before .before .before .before .before .args in
     answered (z .section .now) (z .l) (z .machine .ret) (z .p) (sym (c .before .before .before .rules-at .ensures) ∙ c .before .rules .given .1)
 
--- src/lib.rt:294:26
 enum-known-n : tie.Need-enum-known-n
 enum-known-n c = search needs
 
--- src/lib.rt:294:32
 refused-requires : tie.Need-refused-requires
 refused-requires c κs = search needs
 
--- src/lib.rt:271:1
 returns : tie.Need-returns
 returns c =
     let z = c .before .before .before .before .before .before .before .before .args in
     let g = answered (z .section .now) (z .l) (z .machine .ret) (z .p) (sym (c .before .before .before .before .rules-at .ensures) ∙ c .before .before .rules .given .1) in
     c .left-by-rules .ensures ∙ caller-ruled (z .section .now) (z .l) (z .p) (z .machine) _ _ (g .0)
 
--- src/lib.rt:271:1
 returns-2 : tie.Need-returns-2
 returns-2 c =
     let z = c .before .before .before .before .before .before .before .before .args in

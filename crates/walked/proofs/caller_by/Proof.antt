@@ -5,39 +5,27 @@ use Rattle.walked.proofs.Rules.{caller-by, caller-no}
 use borrow.Author.Needs.{needs}
 use Rattle.walked.proofs.caller_by.Statement.{statement}
 use Rattle.walked.proofs.caller_by.Tie as tie
-use Rattle.walked.proofs.caller_by.Reads as reads
-use Rattle.walked.proofs.caller_by.Lts as lts
-use Rattle.reader.proofs.locate.Reads as locate-reads
-use Rattle.walk.proofs.refused.Reads as refused-reads
-use Rattle.walked.proofs.caller.Reads as caller-reads
 
--- src/lib.rt:313:11
 locate-requires : tie.Need-locate-requires
 locate-requires c κs = search needs
 
--- src/lib.rt:314:25
 enum-known-l : tie.Need-enum-known-l
 enum-known-l c = search needs
 
--- src/lib.rt:314:31
 caller-requires : tie.Need-caller-requires
 caller-requires c κs = search needs
 
--- src/lib.rt:315:22
 enum-known-n : tie.Need-enum-known-n
 enum-known-n c = search needs
 
--- src/lib.rt:315:28
 refused-requires : tie.Need-refused-requires
 refused-requires c κs = search needs
 
--- src/lib.rt:299:1
 returns : tie.Need-returns
 returns c =
     let z = c .before .before .before .before .before .before .before .before .args in
     c .caller .ensures ∙ caller-by (z .section .now) (z .relocations .now) (z .kind) (z .k) (z .p) (z .machine) _ _ (place-found (c .before .before .l .given .1) (c .before .before .before .before .locate .ensures))
 
--- src/lib.rt:299:1
 returns-2 : tie.Need-returns-2
 returns-2 c =
     let z = c .before .before .before .before .before .before .before .before .args in

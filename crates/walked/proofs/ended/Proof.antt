@@ -4,10 +4,7 @@ use Rattle.format.specs.Prelude.{pick}
 use Rattle.walked.specs.Standing.{walkedOf}
 use Rattle.walked.proofs.ended.Statement.{statement}
 use Rattle.walked.proofs.ended.Tie as tie
-use Rattle.walked.proofs.ended.Reads as reads
-use Rattle.walked.proofs.ended.Lts as lts
 
--- src/lib.rt:333:1
 returns : tie.Need-returns
 unfolding walkedOf pick
 returns c = (refl, refl)

@@ -10,14 +10,6 @@ use Rattle.walked.specs.Standing.{faultOf}
 use Rattle.walked.proofs.Steps.{callerAt, unheld, held-by, step-refused, step-ended, step-on, go-full}
 use Rattle.walked.proofs.frames.Statement.{statement}
 use Rattle.walked.proofs.frames.Tie as tie
-use Rattle.walked.proofs.frames.Reads as reads
-use Rattle.walked.proofs.frames.Lts as lts
-use Rattle.walk.proofs.listed.Reads as listed-reads
-use Rattle.walked.proofs.caller_by.Reads as caller-by-reads
-use Rattle.walked.proofs.ended.Reads as ended-reads
-use Rattle.walked.proofs.full.Reads as full-reads
-use Rattle.walked.proofs.held_at.Reads as held-at-reads
-use Rattle.walked.proofs.refused.Reads as refused-reads
 
 abbrev Inv-loop : tie.InvT-loop
 Inv-loop machine begin section relocations kind stack address functions file₀ pc₀ exact₀ list₀ k₀ file pc exact list k =
@@ -26,27 +18,24 @@ Inv-loop machine begin section relocations kind stack address functions file₀ 
 abbrev μ-loop : tie.MeasureT-loop
 μ-loop machine begin section relocations kind stack address functions file₀ pc₀ exact₀ list₀ k₀ file pc exact list k = 64 - k
 
--- src/lib.rt:398:5
+no-frames-requires : tie.Need-no-frames-requires Inv-loop μ-loop
+no-frames-requires c κs = search needs
+
 loop-holds : tie.Need-loop-holds Inv-loop μ-loop
 loop-holds c = go-start _ _ _ _ _ (search needs) (search needs)
 
--- src/lib.rt:399:44
 held-at-requires : tie.Need-held-at-requires Inv-loop μ-loop
 held-at-requires c κs = search needs
 
--- src/lib.rt:399:24
 enum-known-position : tie.Need-enum-known-position Inv-loop μ-loop
 enum-known-position c = search needs
 
--- src/lib.rt:400:13
 enum-told : tie.Need-enum-told Inv-loop μ-loop
 enum-told c = search needs
 
--- src/lib.rt:400:13
 ended-requires : tie.Need-ended-requires Inv-loop μ-loop
 ended-requires c κs = search needs
 
--- src/lib.rt:400:13
 returns : tie.Need-returns Inv-loop μ-loop
 returns c =
     let a = c .before .before .before .before .before .before .before .before .before .before .before .args in
@@ -54,23 +43,18 @@ returns c =
     let n = unheld (faultOf (a .machine) (a .address) (a .stack .now) (a .functions .now)) (callerAt (l .file) (l .pc) (l .exact)) (c .before .before .before .held-at .ensures) (c .before .enum-told .given .1) in
     (c .ended .ensures .0 ∙ go-unheld (l .inv) (c .before .before .before .before .loop-test .taken) n, omega (arith, c .ended .ensures .1, l .inv .inside))
 
--- src/lib.rt:402:9
 listed-requires : tie.Need-listed-requires Inv-loop μ-loop
 listed-requires c κs = search needs
 
--- src/lib.rt:403:9
 add-k : tie.Need-add-k Inv-loop μ-loop
 add-k c = search needs
 
--- src/lib.rt:404:13
 caller-by-requires : tie.Need-caller-by-requires Inv-loop μ-loop
 caller-by-requires c κs = c .before .before .before .before .before .before .before .before .before .before .before .before .pre
 
--- src/lib.rt:406:13
 refused-requires : tie.Need-refused-requires Inv-loop μ-loop
 refused-requires c κs = search needs
 
--- src/lib.rt:406:13
 returns-2 : tie.Need-returns-2 Inv-loop μ-loop
 returns-2 c =
     let a = c .before .before .before .before .before .before .before .before .before .before .before .before .before .before .before .args in
@@ -79,11 +63,9 @@ returns-2 c =
     let s = c .before .before .caller-by in
     (c .refused .ensures .0 ∙ go-refused (l .inv) (c .before .before .before .before .before .before .before .before .loop-test .taken) _ h (sym (s .ensures) ∙ step-refused (s .result) (c .before .if1 .taken)), omega (arith, c .refused .ensures .1))
 
--- src/lib.rt:409:13
 ended-requires-2 : tie.Need-ended-requires-2 Inv-loop μ-loop
 ended-requires-2 c κs = search needs
 
--- src/lib.rt:409:13
 returns-3 : tie.Need-returns-3 Inv-loop μ-loop
 returns-3 c =
     let a = c .before .before .before .before .before .before .before .before .before .before .before .before .before .before .before .before .args in
@@ -93,11 +75,9 @@ returns-3 c =
     let o = c .before .before .before .before .listed .ensures in
     (c .ended2 .ensures .0 ∙ rw (o .0, o .1) (go-undefined (l .inv) (c .before .before .before .before .before .before .before .before .before .loop-test .taken) _ h (sym (s .ensures) ∙ step-ended (s .result) (c .before .before .if1 .left) (c .before .if2 .taken))), omega (arith, c .ended2 .ensures .1, c .before .before .before .before .before .before .before .before .before .loop-test .taken))
 
--- src/lib.rt:398:5
 loop-less : tie.Need-loop-less Inv-loop μ-loop
 loop-less c = search needs
 
--- src/lib.rt:398:5
 loop-again : tie.Need-loop-again Inv-loop μ-loop
 loop-again c =
     let a = c .before .before .before .before .before .before .before .before .before .before .before .before .before .before .before .before .args in
@@ -107,11 +87,9 @@ loop-again c =
     let o = c .before .before .before .before .listed .ensures in
     rw (o .0, o .1) (go-on (l .inv) (c .before .before .before .before .before .before .before .before .before .loop-test .taken) _ h (sym (s .ensures) ∙ step-on (s .result) (c .before .before .if1 .left) (c .before .if2 .left)) (simp length-set (l .inv .positions)) (simp length-set (l .inv .pcs)))
 
--- src/lib.rt:415:5
 full-requires : tie.Need-full-requires Inv-loop μ-loop
 full-requires c κs = search needs
 
--- src/lib.rt:375:1
 returns-4 : tie.Need-returns-4 Inv-loop μ-loop
 unfolding heldAt
 returns-4 c = (c .full .ensures .0 ∙ go-full (c .before .before .loop .inv) (c .before .loop-test .left), omega (arith, c .full .ensures .1))
@@ -122,6 +100,7 @@ frames-spec =
     (tie.spec
     Inv-loop
     μ-loop
+    no-frames-requires
     loop-holds
     held-at-requires
     enum-known-position

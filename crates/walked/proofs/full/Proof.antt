@@ -9,38 +9,28 @@ use Rattle.walked.specs.Standing.{fullEnding}
 use borrow.Author.Needs.{needs}
 use Rattle.walked.proofs.full.Statement.{statement}
 use Rattle.walked.proofs.full.Tie as tie
-use Rattle.walked.proofs.full.Reads as reads
-use Rattle.walked.proofs.full.Lts as lts
-use Rattle.walked.proofs.ended.Reads as ended-reads
-use Rattle.walked.proofs.held_at.Reads as held-at-reads
 
--- src/lib.rt:371:28
 held-at-requires : tie.Need-held-at-requires
 held-at-requires c κs = search needs
 
 enum-told : tie.Need-enum-told
 enum-told c = search needs
 
--- src/lib.rt:372:9
 enum-told-2 : tie.Need-enum-told-2
 enum-told-2 c = search needs
 
--- src/lib.rt:372:9
 ended-requires : tie.Need-ended-requires
 ended-requires c κs = search needs
 
--- src/lib.rt:372:9
 returns : tie.Need-returns
 unfolding fullEnding
 returns c =
     let z = c .before .before .before .before .before .args in
     (c .ended .ensures .0 ∙ ap (λ (h : Holder). good (record { frames = framesOf (z .frames .positions) (z .frames .pcs) 64; ending = fullEnding h })) (sym (c .before .enum-told2 .given .1) ∙ c .before .before .before .held-at .ensures), c .ended .ensures .1)
 
--- src/lib.rt:374:5
 ended-requires-2 : tie.Need-ended-requires-2
 ended-requires-2 c κs = search needs
 
--- src/lib.rt:367:1
 returns-2 : tie.Need-returns-2
 unfolding fullEnding
 returns-2 c =

@@ -9,20 +9,13 @@ use Rattle.walked.proofs.Finding.{found-back}
 use borrow.Author.Needs.{needs}
 use Rattle.walked.proofs.held_at.Statement.{statement}
 use Rattle.walked.proofs.held_at.Tie as tie
-use Rattle.walked.proofs.held_at.Reads as reads
-use Rattle.walked.proofs.held_at.Lts as lts
-use Rattle.walk.proofs.held.Reads as held-reads
-use Rattle.walk.proofs.looked_up.Reads as looked-up-reads
 
--- src/lib.rt:363:27
 looked-up-requires : tie.Need-looked-up-requires
 looked-up-requires c κs = search needs
 
--- src/lib.rt:363:5
 held-requires : tie.Need-held-requires
 held-requires c κs = search needs
 
--- src/lib.rt:360:1
 returns : tie.Need-returns
 returns c = c .held .ensures ∙ found-back _ _ (c .before .looked-up .ensures)
 

@@ -6,24 +6,16 @@ use Rattle.walked.proofs.Rules.{all-bad, left-bad, left-good}
 use borrow.Author.Needs.{needs}
 use Rattle.walked.proofs.left.Statement.{statement}
 use Rattle.walked.proofs.left.Tie as tie
-use Rattle.walked.proofs.left.Reads as reads
-use Rattle.walked.proofs.left.Lts as lts
-use Rattle.walk.proofs.with_stack.Reads as with-stack-reads
-use Rattle.walked.proofs.all_left.Reads as all-left-reads
 
--- src/lib.rt:201:9
 all-left-requires : tie.Need-all-left-requires
 all-left-requires c κs = search needs
 
--- src/lib.rt:203:9
 returns : tie.Need-returns
 returns c = sym (all-bad _ (c .if1 .taken)) ∙ left-bad _ _ _ _ _ _ (c .if1 .taken) (c .before .before .all-left .ensures)
 
--- src/lib.rt:207:15
 with-stack-requires : tie.Need-with-stack-requires
 with-stack-requires c κs = search needs
 
--- src/lib.rt:188:1
 returns-2 : tie.Need-returns-2
 unfolding allLeft pick
 returns-2 c = ap good (c .with-stack .ensures) ∙ left-good _ _ _ _ _ _ (c .before .if1 .left) (c .before .before .before .all-left .ensures)

@@ -12,23 +12,13 @@ use Rattle.walked.proofs.Rules.{caller-none, caller-bad, caller-at}
 use borrow.Author.Needs.{needs}
 use Rattle.walked.proofs.left_by_rules.Statement.{statement}
 use Rattle.walked.proofs.left_by_rules.Tie as tie
-use Rattle.walked.proofs.left_by_rules.Reads as reads
-use Rattle.walked.proofs.left_by_rules.Lts as lts
-use Rattle.walk.proofs.frame_address.Reads as frame-address-reads
-use Rattle.walk.proofs.refused.Reads as refused-reads
-use Rattle.walk.proofs.undefined.Reads as undefined-reads
-use Rattle.walk.proofs.unreturning.Reads as unreturning-reads
-use Rattle.walked.proofs.resumed.Reads as resumed-reads
 
--- src/lib.rt:250:8
 undefined-requires : tie.Need-undefined-requires
 undefined-requires c κs = search needs
 
--- src/lib.rt:251:9
 unreturning-requires : tie.Need-unreturning-requires
 unreturning-requires c κs = search needs
 
--- src/lib.rt:251:9
 returns : tie.Need-returns
 unfolding rulesFor
 returns c =
@@ -36,27 +26,21 @@ returns c =
     let e = sym (ap (λ (x : Rules). undefined (x .rule)) (z .pre .1)) ∙ sym (c .before .before .undefined .ensures) ∙ c .before .if1 .taken in
     c .unreturning .ensures ∙ caller-none (z .args .machine) _ _ _ e
 
--- src/lib.rt:254:11
 frame-address-requires : tie.Need-frame-address-requires
 frame-address-requires c κs = search needs
 
--- src/lib.rt:255:21
 enum-known-cfa : tie.Need-enum-known-cfa
 enum-known-cfa c = search needs
 
--- src/lib.rt:255:29
 resumed-requires : tie.Need-resumed-requires
 resumed-requires c κs = search needs
 
--- src/lib.rt:266:26
 enum-known-n : tie.Need-enum-known-n
 enum-known-n c = search needs
 
--- src/lib.rt:266:32
 refused-requires : tie.Need-refused-requires
 refused-requires c κs = search needs
 
--- src/lib.rt:236:1
 returns-2 : tie.Need-returns-2
 unfolding rulesFor
 returns-2 c =
@@ -65,7 +49,6 @@ returns-2 c =
     let f = ap (λ (x : Rules). addressOf (frameAddress (x .cfa) (slots (z .args .file)))) (sym (z .pre .1)) ∙ sym (c .before .before .before .before .frame-address .ensures) ∙ c .before .before .cfa .given .1 in
     c .resumed .ensures ∙ ap (λ (x : Rules). onward (left (memoryOf (z .args .address) (z .args .stack .now)) (z .args .machine .stack) (c .before .before .cfa .given .0 .0) (rulesIn (z .args .section .now) (z .args .l) (z .args .p)) (slots (z .args .file))) (λ ss. returnedTo ss (z .args .machine .ret) (x .signing) (z .args .l .signal))) (z .pre .1) ∙ caller-at (z .args .machine) _ _ _ e f
 
--- src/lib.rt:236:1
 returns-3 : tie.Need-returns-3
 unfolding rulesFor
 returns-3 c =

@@ -6,10 +6,6 @@ use lib.ListN.{length}
 use Rattle.walked.proofs.Marking.{Marking, mark-start, mark-bad, mark-ended, mark-shorter, mark-turn}
 use Rattle.walked.proofs.mark_all.Statement.{statement}
 use Rattle.walked.proofs.mark_all.Tie as tie
-use Rattle.walked.proofs.mark_all.Reads as reads
-use Rattle.walked.proofs.mark_all.Lts as lts
-use Rattle.rows.proofs.operation.Reads as operation-reads
-use Rattle.walked.proofs.mark_operation.Reads as mark-operation-reads
 
 abbrev Inv-loop : tie.InvT-loop
 Inv-loop ops word m₀ at₀ m at = Marking word ops (m₀ .named) (m .named) at
@@ -17,39 +13,30 @@ Inv-loop ops word m₀ at₀ m at = Marking word ops (m₀ .named) (m .named) at
 abbrev μ-loop : tie.MeasureT-loop
 μ-loop ops word m₀ at₀ m at = length ops - at
 
--- src/lib.rt:88:5
 loop-holds : tie.Need-loop-holds Inv-loop μ-loop
 loop-holds c = mark-start _ _ _
 
--- src/lib.rt:89:44
 operation-requires : tie.Need-operation-requires Inv-loop μ-loop
 operation-requires c κs = search needs
 
--- src/lib.rt:89:32
 enum-known-op : tie.Need-enum-known-op Inv-loop μ-loop
 enum-known-op c = search needs
 
--- src/lib.rt:90:13
 enum-told : tie.Need-enum-told Inv-loop μ-loop
 enum-told c = search needs
 
--- src/lib.rt:90:13
 returns : tie.Need-returns Inv-loop μ-loop
 returns c = mark-bad (c .before .before .before .before .loop .inv) (sym (c .before .before .operation .ensures) ∙ c .enum-told .given .1)
 
--- src/lib.rt:92:9
 mark-operation-requires : tie.Need-mark-operation-requires Inv-loop μ-loop
 mark-operation-requires c κs = search needs
 
--- src/lib.rt:88:5
 loop-less : tie.Need-loop-less Inv-loop μ-loop
 loop-less c = mark-shorter (c .before .before .before .before .before .before .loop .inv) (sym (c .before .before .before .before .operation .ensures) ∙ c .before .before .op .given .1) (c .before .before .before .before .before .loop-test .taken)
 
--- src/lib.rt:88:5
 loop-again : tie.Need-loop-again Inv-loop μ-loop
 loop-again c = mark-turn (c .before .before .before .before .before .before .loop .inv) (sym (c .before .before .before .before .operation .ensures) ∙ c .before .before .op .given .1) (c .mark-operation .ensures)
 
--- src/lib.rt:82:1
 returns-2 : tie.Need-returns-2 Inv-loop μ-loop
 returns-2 c = mark-ended (c .before .loop .inv) (c .loop-test .left)
 

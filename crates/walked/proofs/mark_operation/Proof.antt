@@ -3,37 +3,27 @@ use Rattle.walked.specs.Named.{operationNames}
 use borrow.Author.Needs.{needs}
 use Rattle.walked.proofs.mark_operation.Statement.{statement}
 use Rattle.walked.proofs.mark_operation.Tie as tie
-use Rattle.walked.proofs.mark_operation.Reads as reads
-use Rattle.walked.proofs.mark_operation.Lts as lts
-use Rattle.walked.proofs.mark_row.Reads as mark-row-reads
 
--- src/lib.rt:75:27
 enum-told : tie.Need-enum-told
 enum-told c = search needs
 
--- src/lib.rt:76:31
 enum-told-2 : tie.Need-enum-told-2
 enum-told-2 c = search needs
 
--- src/lib.rt:77:25
 enum-known-op : tie.Need-enum-known-op
 enum-known-op c = search needs
 
--- src/lib.rt:77:33
 mark-row-requires : tie.Need-mark-row-requires
 mark-row-requires c κs = search needs
 
--- src/lib.rt:71:1
 returns : tie.Need-returns
 unfolding operationNames
 returns c = λ q b e. (e, rw (c .enum-told .given .1))
 
--- src/lib.rt:71:1
 returns-2 : tie.Need-returns-2
 unfolding operationNames
 returns-2 c = λ q b e. (e, rw (c .enum-told2 .given .1))
 
--- src/lib.rt:71:1
 returns-3 : tie.Need-returns-3
 unfolding operationNames
 returns-3 c = λ q b e. let h = c .mark-row .ensures q b e in (h .0, rw (c .before .before .op .given .1) (h .1))

@@ -5,54 +5,39 @@ use Rattle.format.specs.declared.Rules.{Rules}
 use Rattle.walk.specs.Walk.{leftBy}
 use Rattle.format.specs.Rules.{rulesFor}
 use borrow.Author.Tests.{not-true}
-use Rattle.walked.proofs.Rules.{answered, never}
+use Rattle.walked.proofs.Rules.{answered, never, by-rule}
 use borrow.Author.Needs.{needs}
 use Rattle.walked.proofs.one.Statement.{statement}
 use Rattle.walked.proofs.one.Tie as tie
-use Rattle.walked.proofs.one.Reads as reads
-use Rattle.walked.proofs.one.Lts as lts
-use Rattle.reader.proofs.rules_at.Reads as rules-at-reads
-use Rattle.walk.proofs.kept.Reads as kept-reads
-use Rattle.walk.proofs.left_by.Reads as left-by-reads
 
--- src/lib.rt:133:9
 kept-requires : tie.Need-kept-requires
 kept-requires c κs = search needs
 
--- src/lib.rt:133:9
 returns : tie.Need-returns
 unfolding leftBy
 returns c = let z = c .before .before .before .before in rw (z .pre .4 (not-true _ (c .before .if1 .taken))) (c .kept .ensures)
 
--- src/lib.rt:135:40
 cast-rules-at : tie.Need-cast-rules-at
 cast-rules-at c = search needs
 
--- src/lib.rt:135:11
 rules-at-requires : tie.Need-rules-at-requires
 rules-at-requires c κs = search needs
 
--- src/lib.rt:136:27
 enum-known-rules : tie.Need-enum-known-rules
 enum-known-rules c = search needs
 
--- src/lib.rt:138:13
 left-by-requires : tie.Need-left-by-requires
 left-by-requires c κs = search needs
 
--- src/lib.rt:140:26
 enum-known-n : tie.Need-enum-known-n
 enum-known-n c = search needs
 
--- src/lib.rt:117:1
 returns-2 : tie.Need-returns-2
-unfolding rulesFor
 returns-2 c =
     let z = c .before .before .before .before .before .before .before .before .args in
     let a = answered (z .section .now) (z .l) (z .reg) (z .p) (sym (c .before .before .before .before .rules-at .ensures) ∙ c .before .before .rules .given .1) in
-    c .left-by .ensures ∙ ap (λ (r : Rules). leftBy _ _ _ _ (r .rule)) (a .1)
+    c .left-by .ensures ∙ by-rule _ _ _ _ _ (a .1)
 
--- src/lib.rt:117:1
 returns-3 : tie.Need-returns-3
 returns-3 c =
     let z = c .before .before .before .before .before .before .before in

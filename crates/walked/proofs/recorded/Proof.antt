@@ -12,53 +12,36 @@ use Rattle.walked.proofs.Entering.{no-machine, other-word, right-word, 
 use borrow.Author.Needs.{needs}
 use Rattle.walked.proofs.recorded.Statement.{statement}
 use Rattle.walked.proofs.recorded.Tie as tie
-use Rattle.walked.proofs.recorded.Reads as reads
-use Rattle.walked.proofs.recorded.Lts as lts
-use Rattle.lists.proofs.machine_of.Reads as machine-of-reads
-use Rattle.lists.proofs.machine_ok.Reads as machine-ok-reads
-use Rattle.walk.proofs.registers.Reads as registers-reads
-use Rattle.walked.proofs.frames.Reads as frames-reads
-use Rattle.walked.proofs.refused.Reads as refused-reads
 
--- src/lib.rt:443:9
 machine-ok-requires : tie.Need-machine-ok-requires
 machine-ok-requires c κs = search needs
 
--- src/lib.rt:444:9
 refused-requires : tie.Need-refused-requires
 refused-requires c κs = search needs
 
--- src/lib.rt:444:9
 returns : tie.Need-returns
 returns c = (c .refused .ensures .0 ∙ no-machine (c .before .before .before .before .before .before .before .before .args .machine .now) _ (sym (c .before .before .machine-ok .ensures) ∙ not-true _ (c .before .if1 .taken)), omega (arith, c .refused .ensures .1))
 
--- src/lib.rt:446:9
 machine-of-requires : tie.Need-machine-of-requires
 machine-of-requires c κs = rw (sym (c .before .machine-ok .ensures) ∙ not-false _ (c .if1 .left)) tt
 
--- src/lib.rt:448:9
 refused-requires-2 : tie.Need-refused-requires-2
 refused-requires-2 c κs = search needs
 
--- src/lib.rt:448:9
 returns-2 : tie.Need-returns-2
 returns-2 c = (c .refused2 .ensures .0 ∙ other-word (c .before .before .before .before .before .before .before .before .before .before .before .args .machine .now) _ (sym (c .before .before .before .before .before .machine-ok .ensures) ∙ not-false _ (c .before .before .before .before .if1 .left)) (c .before .before .before .machine-of .result) (c .before .before .before .machine-of .ensures) (c .before .if2 .taken), omega (arith, c .refused2 .ensures .1))
 
--- src/lib.rt:450:9
 registers-requires : tie.Need-registers-requires
 registers-requires c κs = search needs
 
--- src/lib.rt:451:54
 slice-aggregate-frames : tie.Need-slice-aggregate-frames
 slice-aggregate-frames c = sym (length-take-le _ _ (c .before .before .before .before .before .before .before .before .before .before .before .before .pre .0))
 
--- src/lib.rt:451:5
 frames-requires : tie.Need-frames-requires
 frames-requires c κs =
     let t : T (machineOk (c .before .before .before .before .before .before .before .before .before .before .before .before .args .machine .now)) = rw (sym (c .before .before .before .before .before .before .machine-ok .ensures) ∙ not-false _ (c .before .before .before .before .before .if1 .left)) tt in
     rw (c .before .before .before .before .machine-of .ensures) (machine-fits _ t .ret-small)
 
--- src/lib.rt:427:1
 returns-3 : tie.Need-returns-3
 returns-3 c =
     let ok = sym (c .before .before .before .before .before .before .before .machine-ok .ensures) ∙ not-false _ (c .before .before .before .before .before .before .if1 .left) in

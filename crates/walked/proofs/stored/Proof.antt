@@ -5,36 +5,25 @@ use Rattle.walked.proofs.Entering.{refuses, walked-bad, no-room, stored
 use borrow.Author.Needs.{needs}
 use Rattle.walked.proofs.stored.Statement.{statement}
 use Rattle.walked.proofs.stored.Tie as tie
-use Rattle.walked.proofs.stored.Reads as reads
-use Rattle.walked.proofs.stored.Lts as lts
-use Rattle.walk.proofs.store.Reads as store-reads
-use Rattle.walked.proofs.refusing.Reads as refusing-reads
 
--- src/lib.rt:480:9
 refusing-requires : tie.Need-refusing-requires
 refusing-requires c κs = search needs
 
--- src/lib.rt:480:9
 returns : tie.Need-returns
 returns c = refuses (walked-bad (c .before .before .before .args .r) _ (c .before .if1 .taken)) (c .refusing .ensures)
 
--- src/lib.rt:484:9
 refusing-requires-2 : tie.Need-refusing-requires-2
 refusing-requires-2 c κs = search needs
 
--- src/lib.rt:484:9
 returns-2 : tie.Need-returns-2
 returns-2 c = refuses (no-room (c .before .before .before .before .args .r) (c .before .before .if1 .left) _ (c .before .if2 .taken)) (c .refusing2 .ensures)
 
--- src/lib.rt:487:5
 store-requires : tie.Need-store-requires
 store-requires c κs = search needs
 
--- src/lib.rt:474:1
 same-length : tie.Need-same-length
 same-length c = search needs
 
--- src/lib.rt:474:1
 returns-3 : tie.Need-returns-3
 returns-3 c = stored (c .before .before .before .before .before .before .before .before .args .r) (c .before .before .before .before .before .before .if1 .left) (c .before .before .before .before .before .before .before .before .args .out .now) (c .before .before .before .before .before .if2 .left) (c .before .before .store .ensures)
 

@@ -5,51 +5,36 @@ use Rattle.walked.proofs.Entering.{trailer-bad, trailer-is, trailer-ins
 use borrow.Author.Needs.{needs}
 use Rattle.walked.proofs.unwind_walk.Statement.{statement}
 use Rattle.walked.proofs.unwind_walk.Tie as tie
-use Rattle.walked.proofs.unwind_walk.Reads as reads
-use Rattle.walked.proofs.unwind_walk.Lts as lts
-use Rattle.walk.proofs.read_trailer.Reads as read-trailer-reads
-use Rattle.walked.proofs.recorded.Reads as recorded-reads
-use Rattle.walked.proofs.refusing.Reads as refusing-reads
-use Rattle.walked.proofs.stored.Reads as stored-reads
 
--- src/lib.rt:511:41
 read-trailer-requires : tie.Need-read-trailer-requires
 read-trailer-requires c κs = search needs
 
--- src/lib.rt:511:26
 enum-known-size : tie.Need-enum-known-size
 enum-known-size c = search needs
 
--- src/lib.rt:512:9
 enum-told : tie.Need-enum-told
 enum-told c = search needs
 
--- src/lib.rt:512:9
 refusing-requires : tie.Need-refusing-requires
 refusing-requires c κs = search needs
 
--- src/lib.rt:512:9
 returns : tie.Need-returns
 returns c = let z = c .before .before .before .before .before .before .before .before .before .before .args in refuses (no-file _ _ (z .file .now) _ _ _ _ (trailer-bad (readTrailer (z .file .now)) (sym (c .before .before .before .read-trailer .ensures) ∙ c .before .enum-told .given .1))) (c .refusing .ensures)
 
--- src/lib.rt:514:9
 recorded-requires : tie.Need-recorded-requires
 recorded-requires c κs = let z = c .before .before .before .before .before .before .before .before .before .before .args in trailer-inside (z .file .now) (trailer-is (readTrailer (z .file .now)) (sym (c .before .before .before .read-trailer .ensures) ∙ c .before .size .given .1))
 
--- src/lib.rt:515:5
 stored-requires : tie.Need-stored-requires
 stored-requires c κs = search needs
 
--- src/lib.rt:496:1
 same-length : tie.Need-same-length
 same-length c = search needs
 
--- src/lib.rt:496:1
 returns-2 : tie.Need-returns-2
 returns-2 c =
     let z = c .before .before .before .before .before .before .before .before .before .before .before .before .before .before .before .args in
     let t = trailer-is (readTrailer (z .file .now)) (sym (c .before .before .before .before .before .before .before .before .read-trailer .ensures) ∙ c .before .before .before .before .before .before .size .given .1) in
-    answers-as (c .before .before .before .before .recorded .ensures .0) (with-file _ _ (z .file .now) _ _ _ _ t) (c .before .before .stored .ensures)
+    answers-as _ (z .frames .now) (c .before .before .before .before .recorded .ensures .0) (with-file _ _ (z .file .now) _ _ _ _ t) (c .before .before .stored .ensures)
 
 pub unwind-walk-spec : {M : Type 1} → statement M
 unwind-walk-spec =
