@@ -9,4 +9,5 @@ pub mod Leaving
 pub mod Turns
 pub mod Listing
 pub mod Chains
+pub mod OwnNumbers
 pub mod Vectors
