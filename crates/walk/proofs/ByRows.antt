@@ -47,8 +47,8 @@ module _ (s : Section) (g : Given) (r : Room) (w : Written) (e : dwarfWritten s 
       let run = x .runs p (taken-plain s (givenFunction g k) plain) near ∙ taken-run s (machineOf (g .machine)) (givenFunction g k) p ∙ rules-given s g r w e k p h (l .checked k f at-k) in
       pick-yes (leb (kindOf s) 1) _ (bad 11) (known-kind s) ∙ rw (same-kind s, ← eight, x .located, run, x .signal, taken-signal s (givenFunction g k)) refl
 
-  -- For an accepted list: the walk by the section is the walk by the rows, the same frames, the same ending or refusal; and where the walk by
-  -- the rows is refused by no number of the reader's, neither is this one.
+  -- For an accepted list: the walk by the section is the walk by the rows, the same frames, the same ending or refusal. OwnNumbers says that
+  -- no refusal of the latter has a number of the reader's.
   pub chain-by-rows : (machine file : List ℕ) (pc stack : ℕ) (functions : List ℕ) (room : ℕ) → Listed g (placedOf functions)
       → walkBy (bySection (w .bytes) (numbersOf (w .relocations)) (kindOf s)) machine file pc stack functions room
       ≡ walkBy (byRows g) machine file pc stack functions room

@@ -1,6 +1,5 @@
 -- The frames, one in a turn: those that are listed, and what is left to do in the definition.
 use mathlib.Core.Path.{_≡_, refl, sym, ap, ap₂, _∙_}
-use mathlib.Core.Bool.{Bool, true, false}
 use mathlib.Core.Logic.{_≢_}
 use mathlib.Core.Option.{Option, none, some}
 use mathlib.Core.List.{List, [], _∷_, _++_, append-assoc, append-nil}
@@ -8,10 +7,10 @@ use Prim.Native.Nat.{ℕ, zero, suc, _+_, _-_, _<_, _≤_}
 use native.Mathlib.Omega.{arith}
 use native.Mathlib.Nat.{add-zero}
 use native.Mathlib.Numerals.{add-one}
-use lib.ListN.{length, getD, set}
+use lib.ListN.{length, set}
 use lib.Seq.{getD-set-same, getD-set-other}
 use Rattle.format.specs.Prelude.{each, Result, good, bad, onward}
-use Rattle.walk.specs.Walk.{Source, Ruled, Fault, Frame, Chain, Caller, Held, callerOf, ended, behind, orEnded, heldAt, framesF, returnUndefined, heldByNone, tooMany}
+use Rattle.walk.specs.Walk.{Source, Fault, Frame, Chain, Caller, Held, callerOf, ended, behind, orEnded, heldAt, framesF, returnUndefined, heldByNone, tooMany}
 use Rattle.walk.specs.Standing.{frameAt, framesOf}
 
 unfoldable pub onto : List Frame → Result Chain → Result Chain

@@ -1,7 +1,7 @@
 -- Two arrays as the registers, and the trailer of a record file.
 use mathlib.Core.Path.{_≡_, refl, sym, ap, ap₂, _∙_}
 use mathlib.Core.Bool.{Bool, true, false}
-use mathlib.Core.Option.{Option, none, some}
+use mathlib.Core.Option.{none}
 use mathlib.Core.List.{List, [], _∷_, _++_, append-assoc, append-nil}
 use Prim.Native.Nat.{ℕ, zero, suc, _+_, _-_, _*_, _<_, _≤_}
 use native.Mathlib.Omega.{arith}
@@ -12,7 +12,7 @@ use lib.Dec.{ltb}
 use Rattle.format.specs.Prelude.{pick, each}
 use Rattle.format.specs.Leb.{readLittle}
 use Rattle.format.specs.Reader.{valueOr0}
-use Rattle.walk.specs.Recorded.{Slot, followed, slotAt, slotsOf}
+use Rattle.walk.specs.Recorded.{Slot, slotAt, slotsOf}
 use Rattle.walk.specs.declared.File.{File}
 use Rattle.walk.specs.declared.Number.the-variants.{Is, Nothing}
 use Rattle.walk.specs.Standing.{numberOf, slotOf, both, slots}

@@ -1,19 +1,18 @@
 -- The function that holds an address: what the functions from the i-th on say.
-use mathlib.Core.Path.{_≡_, refl, sym, ap, _∙_}
-use mathlib.Core.Bool.{Bool, true, false}
-use mathlib.Core.Option.{Option, none, some}
+use mathlib.Core.Path.{_≡_, sym, ap, _∙_}
+use mathlib.Core.Bool.{true, false}
+use mathlib.Core.Option.{some}
 use mathlib.Core.List.{List}
-use Prim.Native.Nat.{ℕ, zero, suc, _+_, _-_, _*_, _/_, _<_, _≤_}
+use Prim.Native.Nat.{ℕ, suc, _+_, _-_, _*_, _/_, _<_, _≤_}
 use native.Mathlib.Omega.{arith}
 use native.Mathlib.Nat.{add-zero}
 use native.Mathlib.Numerals.{add-one}
 use borrow.Author.Tests.{lt-leb, le-leb}
 use lib.ListN.{length, getD}
-use lib.Dec.{T, leb, ltb}
-use mir.Facts.{and-yes, yes-leb}
+use lib.Dec.{ltb}
 use Rattle.format.specs.Prelude.{pick, each}
 use Rattle.format.proofs.Choice.{either}
-use Rattle.walk.specs.Walk.{Placed, Held, holds, heldFrom, placedAt, placedOf}
+use Rattle.walk.specs.Walk.{Placed, holds, heldFrom, placedAt, placedOf}
 use Rattle.walk.specs.declared.Holder.the-variants.{At, Nobody}
 use Rattle.walk.specs.Standing.{holderOf}
 

@@ -1,19 +1,19 @@
 -- The leaves of the walk: an address sum, a word of the stack, where a caller is looked up, and what each says of the definition.
-use mathlib.Core.Path.{_≡_, refl, sym, ap, _∙_}
+use mathlib.Core.Path.{_≡_, refl}
 use mathlib.Core.Bool.{Bool, true, false}
 use mathlib.Core.Option.{Option, none, some}
 use mathlib.Core.List.{List}
-use Prim.Native.Nat.{ℕ, zero, suc, _+_, _-_, _*_, _^_, _<_, _≤_}
+use Prim.Native.Nat.{ℕ, zero, suc, _+_, _-_, _^_, _<_, _≤_}
 use native.Mathlib.Omega.{arith}
 use borrow.Author.Tests.{le-ltb}
-use lib.ListN.{length, drop}
+use lib.ListN.{drop}
 use lib.Dec.{ltb}
 use lib.IntN.{ℤ, pos, negsuc}
 use lib.Signed.{ltZ, mag}
 use mir.Syntax.{w64}
 use mir.Val.{SFits, toZ, ofZ}
 use mir.Facts.{toZ-ofZ}
-use Rattle.format.specs.Prelude.{pick, next, after, orElse, onward}
+use Rattle.format.specs.Prelude.{pick, next, after}
 use Rattle.format.specs.Leb.{readLittle}
 use Rattle.format.specs.Reader.{require, valueOr0}
 use Rattle.format.specs.declared.Unsigned.the-variants.{Value, Bad}

@@ -1,11 +1,10 @@
 -- The numbers that a walk is refused by, where its source of rules never refuses: none is a reader's.
-use mathlib.Core.Path.{_≡_, refl, sym}
+use mathlib.Core.Path.{_≡_}
 use Prim.Native.Nat.{ℕ, zero, suc, _/_}
 use mathlib.Core.Bool.{Bool, true, false}
 use mathlib.Core.Option.{Option, none, some}
 use mathlib.Core.List.{List}
 use lib.Dec.{T, leb, eqb}
-use lib.IntN.{ℤ}
 use lib.ListN.{length, getD}
 use Rattle.format.specs.Prelude.{pick, after, Result, good, bad, onward, orElse}
 use Rattle.format.specs.declared.Machine.{Machine}
@@ -14,9 +13,8 @@ use Rattle.format.specs.declared.CfaRule.the-variants.{Unset, Register}
 use Rattle.format.specs.declared.Rule.{Rule}
 use Rattle.format.specs.declared.Rule.the-variants as rule
 use Rattle.format.specs.Machine.{machineOk, machineOf}
-use Rattle.format.specs.Rules.{AllRules}
 use Rattle.walk.specs.Recorded.{Slot, readRecorded, followed}
-use Rattle.walk.specs.Walk.{Memory, Ruled, Source, Fault, Chain, Caller, Held, mostFrames, sumOf, load, saved, leftBy, leftFrom, left, frameAddress, undefined, returnedTo, callerOf, ended, behind, orEnded, heldAt, heldByNone, returnUndefined, tooMany, framesF, fitting, placedOf, walkBy}
+use Rattle.walk.specs.Walk.{Memory, Ruled, Source, Fault, Chain, Caller, mostFrames, sumOf, load, saved, leftBy, leftFrom, left, frameAddress, undefined, returnedTo, callerOf, ended, behind, orEnded, heldAt, heldByNone, returnUndefined, framesF, fitting, walkBy}
 
 -- an answer, or one of these numbers
 abbrev pub Only : {A : Type 0} → (own : ℕ → Bool) → Result A → Type 0

@@ -5,14 +5,14 @@ use Prim.Native.Nat.{ℕ, zero, suc, _+_, _-_, _<_}
 use native.Mathlib.Omega.{arith}
 use mathlib.Core.Option.{Option, none, some}
 use mathlib.Core.List.{List, [], _∷_}
-use lib.ListN.{getD, getElem?}
+use lib.ListN.{getElem?}
 use lib.Dec.{T, leb, ltb, eqb, ltb→lt}
 use mir.Facts.{and-yes}
-use Rattle.format.specs.Prelude.{pick, after, Result, good, bad, onward, orElse}
+use Rattle.format.specs.Prelude.{pick, after, Result, bad, onward, orElse}
 use Rattle.format.specs.Machine.{machineOf, machineOk}
 use Rattle.format.proofs.WalkBack.{onward-ext}
-use Rattle.walk.specs.Recorded.{Slot, Recorded, readRecorded}
-use Rattle.walk.specs.Walk.{Ruled, Source, Placed, Fault, Chain, mostFrames, holds, Held, heldFrom, Caller, lookedUp, callerOf, heldByNone, returnUndefined, behind, orEnded, heldAt, framesF, placedOf, fitting, walkBy}
+use Rattle.walk.specs.Recorded.{readRecorded}
+use Rattle.walk.specs.Walk.{Source, Placed, Fault, Chain, mostFrames, holds, Held, heldFrom, Caller, lookedUp, callerOf, heldByNone, returnUndefined, behind, orEnded, heldAt, framesF, placedOf, fitting, walkBy}
 
 -- ---- the function that holds an address is one of the list, and the offset is below its length
 

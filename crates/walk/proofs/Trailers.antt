@@ -1,13 +1,13 @@
 -- The trailer of a record file, a question at a time.
-use mathlib.Core.Path.{_≡_, refl, sym, ap, _∙_}
-use mathlib.Core.Bool.{Bool, true, false}
-use mathlib.Core.Option.{Option, none, some}
+use mathlib.Core.Path.{_≡_}
+use mathlib.Core.Bool.{true, false}
+use mathlib.Core.Option.{some}
 use mathlib.Core.List.{List}
-use Prim.Native.Nat.{ℕ, zero, suc, _+_, _-_, _*_, _<_, _≤_}
+use Prim.Native.Nat.{ℕ, _+_, _-_, _*_, _<_, _≤_}
 use native.Mathlib.Omega.{arith}
 use borrow.Author.Tests.{lt-leb, le-leb, eq-eqb, ne-eqb}
 use lib.ListN.{length, drop}
-use lib.Dec.{leb, eqb, eqb→eq}
+use lib.Dec.{eqb, eqb→eq}
 use Rattle.format.proofs.Choice.{tested}
 use Rattle.format.specs.Prelude.{pick, next}
 use Rattle.format.specs.Leb.{readLittle}

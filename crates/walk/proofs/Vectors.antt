@@ -3,13 +3,13 @@ use mathlib.Core.Path.{_≡_, refl}
 use mathlib.Core.Bool.{true, false}
 use mathlib.Core.Option.{none, some}
 use mathlib.Core.List.{List, [], _∷_}
-use Prim.Native.Nat.{ℕ, suc, _+_, _-_, _*_}
+use Prim.Native.Nat.{ℕ}
 use lib.IntN.{pos, negsuc}
 use Rattle.format.specs.Prelude.{pick, next, each}
 use Rattle.format.specs.Leb.{readLittle}
 use Rattle.format.specs.Reader.{require}
 use Rattle.walk.specs.Recorded.{matches, readTrailer}
-use Rattle.walk.specs.Walk.{sumOf, load, lookedUp, unsigned, holds, heldFrom, placedAt, placedOf}
+use Rattle.walk.specs.Walk.{sumOf, load, lookedUp, holds, heldFrom, placedAt, placedOf}
 use Rattle.walk.specs.Standing.{memoryOf}
 
 past : sumOf 18446744073709551615 (pos 1) ≡ none

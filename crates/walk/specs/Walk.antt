@@ -1,5 +1,5 @@
 -- The walk over the frames of a recorded fault (document 02, W-202), by any source of rules.
-use Prim.Native.Nat.{ℕ, zero, suc, _+_, _-_, _*_, _/_, _^_, _%_}
+use Prim.Native.Nat.{ℕ, zero, suc, _+_, _-_, _/_, _^_, _%_}
 use mathlib.Core.Bool.{Bool, true, false, _&&_}
 use mathlib.Core.Option.{Option, none, some}
 use mathlib.Core.List.{List, [], _∷_}
@@ -17,8 +17,8 @@ use Rattle.format.specs.Machine.{machineOf, machineOk}
 use Rattle.format.specs.Lists.{count, field, relocationsOf}
 use Rattle.format.specs.Questions.{Given, givenFunction}
 use Rattle.format.specs.Rules.{AllRules, rulesAt}
-use Rattle.format.specs.Reader.{Found, locate, runTo, require}
-use Rattle.walk.specs.Recorded.{Slot, Recorded, followed, readRecorded}
+use Rattle.format.specs.Reader.{locate, runTo, require}
+use Rattle.walk.specs.Recorded.{Slot, followed, readRecorded}
 
 -- ---- what a walk stands on
 

@@ -18,7 +18,6 @@ use Rattle.format.proofs.ListLaws.{each-length}
 use Rattle.walk.specs.Recorded.{Slot, Trailer, matches, readTrailer, readRecorded, slotsOf}
 use Rattle.walk.specs.Walk.{Source, Chain, frameNumbers, framesF, fitting, walkBy}
 use Rattle.walk.specs.Standing.{trailerOf, frameAt, framesOf}
-use Rattle.walk.specs.declared.Trailer as code
 use Rattle.walk.specs.declared.Trailer.the-variants as trailer
 use Rattle.walked.specs.declared.Walked.{Walked}
 use Rattle.walked.specs.Standing.{walkedOf, faultOf}

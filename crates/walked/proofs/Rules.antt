@@ -11,14 +11,12 @@ use Rattle.format.specs.declared.Reading.the-variants.{Answered, Refused}
 use Rattle.format.specs.Machine.{isWord}
 use Rattle.format.specs.Lists.{relocationsOf}
 use Rattle.format.specs.Rules.{AllRules, State, rulesFor, seen, answer}
-use Rattle.format.specs.Reader.{Found, locate, runTo}
+use Rattle.format.specs.Reader.{locate, runTo}
 use Rattle.format.proofs.Choice.{if-eq, if-ne}
-use Rattle.reader.specs.Finds.{found, Stated, locateIn, inSection, rulesFrom}
+use Rattle.reader.specs.Finds.{Stated, locateIn, inSection, rulesFrom}
 use Rattle.reader.proofs.Asked.{all-inside, fits}
 use Rattle.reader.specs.declared.location.Located.{Located}
 use Rattle.walk.specs.Recorded.{Slot}
-use Rattle.format.specs.declared.Rule.{Rule}
-use Rattle.format.specs.declared.Rule.the-variants.{Unstated}
 use Rattle.walk.specs.Walk.{Memory, Ruled, leftBy, leftFrom, left, frameAddress, undefined, returnedTo, callerOf, bySection}
 use Rattle.walk.specs.Standing.{slots, addressOf}
 use Rattle.walk.specs.declared.Address.the-variants as address

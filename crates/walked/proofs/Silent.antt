@@ -1,5 +1,5 @@
 -- A register that no operation names is unstated in every state of a run, and so keeps its value.
-use mathlib.Core.Path.{_≡_, refl, sym, ap, _∙_}
+use mathlib.Core.Path.{_≡_, refl}
 use Prim.Native.Nat.{ℕ, zero, suc, _+_}
 use native.Mathlib.Omega.{arith}
 use mathlib.Core.Bool.{Bool, true, false}
@@ -13,7 +13,6 @@ use Rattle.format.specs.declared.Rule.{Rule}
 use Rattle.format.specs.declared.Rule.the-variants as rule
 use Rattle.format.specs.declared.Operation.{Operation}
 use Rattle.format.specs.declared.Operation.the-variants.{Nop, Step, Does}
-use Rattle.format.specs.Rows.{readOperation}
 use Rattle.format.specs.Rules.{AllRules, State, blank, withCfa, withRule, restored, negated, apply, refusal, unlessRefused, act}
 use Rattle.format.specs.Reader.{Found, perform, whenRead, runF, run, runTo}
 use Rattle.reader.specs.Finds.{found, inSection}

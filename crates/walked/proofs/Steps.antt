@@ -5,8 +5,8 @@ use mathlib.Core.Option.{Option, none, some}
 use mathlib.Core.List.{List}
 use Prim.Native.Nat.{ℕ, _≤_}
 use native.Mathlib.Omega.{arith}
-use Rattle.format.specs.Prelude.{pick, after, Result, good, bad, onward}
-use Rattle.walk.specs.Walk.{Source, Fault, Held, Caller, Chain, lookedUp, heldFrom, heldAt, framesF}
+use Rattle.format.specs.Prelude.{pick, after, good, bad}
+use Rattle.walk.specs.Walk.{Source, Fault, Held, Caller, lookedUp, heldFrom, heldAt, framesF}
 use Rattle.walk.specs.Standing.{slots, holderOf, stepOf, framesOf}
 use Rattle.walk.specs.declared.File.{File}
 use Rattle.walk.specs.declared.Step.{Step}

@@ -2,31 +2,27 @@
 use mathlib.Core.Path.{_≡_, refl, sym, ap, _∙_}
 use Prim.Native.Nat.{ℕ, zero, suc, _+_, _*_, _<_}
 use native.Mathlib.Omega.{arith}
-use mathlib.Core.Bool.{Bool, true, false, not, _||_}
-use mathlib.Core.Option.{Option, none, some}
+use mathlib.Core.Bool.{Bool, true, false, _||_}
+use mathlib.Core.Option.{none, some}
 use mathlib.Core.List.{List, [], _∷_}
 use lib.Dec.{T, eqb, eqb→eq}
 use lib.ListN.{length, take, getElem?}
-use Rattle.format.specs.Prelude.{pick, each, Result, good, bad, onward, orElse}
-use Rattle.format.specs.declared.Counts.{Counts}
+use Rattle.format.specs.Prelude.{pick, Result, good, bad}
 use Rattle.format.specs.declared.Outcome.{Outcome}
-use Rattle.format.specs.declared.Outcome.the-variants as outcome
 use Rattle.format.specs.declared.Section.{Section}
 use Rattle.format.specs.declared.Section.the-variants.{Elf, Debug}
 use Rattle.format.specs.Machine.{machineOk, machineOf}
-use Rattle.format.specs.Lists.{functionStride, count, field, numbersOf}
+use Rattle.format.specs.Lists.{count, field, numbersOf}
 use Rattle.format.specs.Writer.{Written}
-use Rattle.format.specs.Questions.{Given, Room, Question, Answer, refused, empty, accepted, unless, noFunctions, givenAsks, dwarfGiven, formatAnswer, relaxedTable, relaxedDebugFrame, givenFunction}
+use Rattle.format.specs.Questions.{Given, Room, Question, Answer, empty, accepted, unless, noFunctions, givenAsks, dwarfGiven, formatAnswer, relaxedTable, relaxedDebugFrame}
 use Rattle.format.specs.Answers.{bit, outcomeOf, relocationNumbers}
 use Rattle.format.proofs.Accepted.{asked, both, dwarfWritten}
 use Rattle.format.proofs.ListLaws.{each-get, each-length}
 use Rattle.format.proofs.ReadBack.{kindOf}
-use Rattle.format.proofs.WalkBack.{onward-ext}
 use Rattle.unwind.specs.Together.{answerFor, bytesIn, relocsIn}
 use Rattle.unwind.specs.Demand.{dwarfOutput}
 use Rattle.unwind.proofs.Demands.{accepted-by}
 use Rattle.unwind.proofs.Fronts.{Fronts, bytesOf, relocsOf}
-use Rattle.walk.specs.Recorded.{readRecorded}
 use Rattle.walk.specs.Walk.{Source, Placed, Chain, placedAt, placedOf, walkBy, bySection, byRows}
 use Rattle.walk.proofs.ByRows.{Listed, chain-by-rows}
 use Rattle.walk.proofs.OwnNumbers.{Only, own-numbers}

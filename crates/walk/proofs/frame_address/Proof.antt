@@ -2,15 +2,11 @@
 use mathlib.Core.Path.{sym, ap, _∙_}
 use lib.IntN.{ℤ}
 use Rattle.walk.specs.Walk.{sumOf}
-use Rattle.walk.specs.Standing.{numberOf, slots}
+use Rattle.walk.specs.Standing.{numberOf}
 use Rattle.walk.proofs.Leaving.{passed, address-unset, address-absent, address-outside, address-at}
 use borrow.Author.Needs.{needs}
 use Rattle.walk.proofs.frame_address.Statement.{statement}
 use Rattle.walk.proofs.frame_address.Tie as tie
-use Rattle.walk.proofs.frame_address.Reads as reads
-use Rattle.walk.proofs.frame_address.Lts as lts
-use Rattle.walk.proofs.slot.Reads as slot-reads
-use Rattle.walk.proofs.sum.Reads as sum-reads
 
 enum-told : tie.Need-enum-told
 enum-told c = search needs

@@ -1,13 +1,9 @@
 -- `walk::held` meets its contract.
-use mathlib.Core.Path.{sym, ap, _∙_}
 use Rattle.format.specs.Prelude.{after}
 use Rattle.walk.specs.Standing.{holderOf, found}
 use borrow.Author.Needs.{needs}
 use Rattle.walk.proofs.held.Statement.{statement}
 use Rattle.walk.proofs.held.Tie as tie
-use Rattle.walk.proofs.held.Reads as reads
-use Rattle.walk.proofs.held.Lts as lts
-use Rattle.walk.proofs.holder_of.Reads as holder-of-reads
 
 enum-known-lookup : tie.Need-enum-known-lookup
 enum-known-lookup c = search needs

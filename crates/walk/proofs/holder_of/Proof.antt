@@ -5,9 +5,6 @@ use mathlib.Core.Path.{sym, _∙_}
 use Rattle.walk.proofs.Holders.{Seeking, seek-start, seek-met, seek-turn, seek-ended, held-start}
 use Rattle.walk.proofs.holder_of.Statement.{statement}
 use Rattle.walk.proofs.holder_of.Tie as tie
-use Rattle.walk.proofs.holder_of.Reads as reads
-use Rattle.walk.proofs.holder_of.Lts as lts
-use Rattle.walk.proofs.holds.Reads as holds-reads
 
 abbrev Inv-loop : tie.InvT-loop
 Inv-loop functions a n i₀ i = Seeking functions a i

@@ -2,8 +2,6 @@
 use Rattle.walk.proofs.Holders.{holds-low, holds-is}
 use Rattle.walk.proofs.holds.Statement.{statement}
 use Rattle.walk.proofs.holds.Tie as tie
-use Rattle.walk.proofs.holds.Reads as reads
-use Rattle.walk.proofs.holds.Lts as lts
 
 returns : tie.Need-returns
 returns c = holds-low _ _ _ (c .if1 .taken)

@@ -8,8 +8,6 @@ use Rattle.walk.specs.Standing.{leftOf, slotOf}
 use borrow.Author.Needs.{needs}
 use Rattle.walk.proofs.kept.Statement.{statement}
 use Rattle.walk.proofs.kept.Tie as tie
-use Rattle.walk.proofs.kept.Reads as reads
-use Rattle.walk.proofs.kept.Lts as lts
 
 element-copy-out-t7 : tie.Need-element-copy-out-t7
 element-copy-out-t7 c = search needs

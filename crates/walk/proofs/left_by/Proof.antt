@@ -1,5 +1,5 @@
 -- `walk::left_by` meets its contract.
-use mathlib.Core.Path.{sym, ap, _∙_}
+use mathlib.Core.Path.{ap, _∙_}
 use Rattle.format.specs.Prelude.{pick}
 use Rattle.walk.specs.Walk.{leftBy, saved}
 use Rattle.walk.specs.Standing.{leftOf, slotOf, memoryOf}
@@ -7,10 +7,6 @@ use Rattle.walk.proofs.Leaving.{passed}
 use borrow.Author.Needs.{needs}
 use Rattle.walk.proofs.left_by.Statement.{statement}
 use Rattle.walk.proofs.left_by.Tie as tie
-use Rattle.walk.proofs.left_by.Reads as reads
-use Rattle.walk.proofs.left_by.Lts as lts
-use Rattle.walk.proofs.kept.Reads as kept-reads
-use Rattle.walk.proofs.loaded.Reads as loaded-reads
 
 enum-told : tie.Need-enum-told
 enum-told c = search needs

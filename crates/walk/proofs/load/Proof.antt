@@ -4,9 +4,6 @@ use mathlib.Core.Path.{sym, _∙_}
 use borrow.Author.Needs.{needs}
 use Rattle.walk.proofs.load.Statement.{statement}
 use Rattle.walk.proofs.load.Tie as tie
-use Rattle.walk.proofs.load.Reads as reads
-use Rattle.walk.proofs.load.Lts as lts
-use Rattle.leb.proofs.read_le.Reads as read-le-reads
 
 returns : tie.Need-returns
 returns c = load-low _ _ _ (c .if1 .taken)

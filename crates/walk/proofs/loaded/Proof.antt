@@ -9,9 +9,6 @@ use Rattle.walk.proofs.Leaving.{saved-none, saved-is}
 use borrow.Author.Needs.{needs}
 use Rattle.walk.proofs.loaded.Statement.{statement}
 use Rattle.walk.proofs.loaded.Tie as tie
-use Rattle.walk.proofs.loaded.Reads as reads
-use Rattle.walk.proofs.loaded.Lts as lts
-use Rattle.walk.proofs.saved.Reads as saved-reads
 
 saved-requires : tie.Need-saved-requires
 saved-requires c κs = search needs

@@ -1,13 +1,10 @@
 -- `walk::looked_up` meets its contract.
 use Rattle.walk.proofs.Leaves.{up-zero, up-before}
-use Rattle.format.specs.Prelude.{pick}
 use Rattle.walk.specs.Walk.{lookedUp}
 use Rattle.walk.specs.Standing.{numberOf}
 use borrow.Author.Needs.{needs}
 use Rattle.walk.proofs.looked_up.Statement.{statement}
 use Rattle.walk.proofs.looked_up.Tie as tie
-use Rattle.walk.proofs.looked_up.Reads as reads
-use Rattle.walk.proofs.looked_up.Lts as lts
 
 returns : tie.Need-returns
 unfolding lookedUp numberOf

@@ -4,8 +4,6 @@ use native.Mathlib.Omega.{arith}
 use borrow.Author.Needs.{needs}
 use Rattle.walk.proofs.matches.Statement.{statement}
 use Rattle.walk.proofs.matches.Tie as tie
-use Rattle.walk.proofs.matches.Reads as reads
-use Rattle.walk.proofs.matches.Lts as lts
 
 returns : tie.Need-returns
 returns c = too-many _ _ _ _ (c .if1 .taken)

@@ -1,15 +1,10 @@
 -- `walk::read_trailer` meets its contract.
 use Rattle.walk.proofs.Trailers.{too-short, too-long, no-distance, no-count, no-size, no-match, numbers}
 use mathlib.Core.Path.{sym, _∙_}
-use native.Mathlib.Omega.{arith}
 use borrow.Author.Tests.{not-true, not-false}
 use borrow.Author.Needs.{needs}
 use Rattle.walk.proofs.read_trailer.Statement.{statement}
 use Rattle.walk.proofs.read_trailer.Tie as tie
-use Rattle.walk.proofs.read_trailer.Reads as reads
-use Rattle.walk.proofs.read_trailer.Lts as lts
-use Rattle.leb.proofs.read_le.Reads as read-le-reads
-use Rattle.walk.proofs.matches.Reads as matches-reads
 
 returns : tie.Need-returns
 returns c = too-short _ (c .if1 .taken)

@@ -1,12 +1,9 @@
 -- `walk::refused` meets its contract.
-use borrow.Author.Needs.{needs}
 use mathlib.Core.Path.{refl}
 use Rattle.format.specs.Prelude.{pick}
 use Rattle.walk.specs.Standing.{stepOf}
 use Rattle.walk.proofs.refused.Statement.{statement}
 use Rattle.walk.proofs.refused.Tie as tie
-use Rattle.walk.proofs.refused.Reads as reads
-use Rattle.walk.proofs.refused.Lts as lts
 
 returns : tie.Need-returns
 unfolding stepOf pick

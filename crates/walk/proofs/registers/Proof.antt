@@ -5,9 +5,6 @@ use lib.ListN.{length-set}
 use Rattle.walk.proofs.Files.{Filling, fill-start, fill-turn, fill-ended}
 use Rattle.walk.proofs.registers.Statement.{statement}
 use Rattle.walk.proofs.registers.Tie as tie
-use Rattle.walk.proofs.registers.Reads as reads
-use Rattle.walk.proofs.registers.Lts as lts
-use Rattle.walk.proofs.word_at.Reads as word-at-reads
 
 abbrev Inv-loop : tie.InvT-loop
 Inv-loop file at count values₀ present₀ i₀ values present i = Filling file at count values present i

@@ -1,19 +1,13 @@
 -- `walk::returned` meets its contract.
 use Prim.Native.Nat.{ℕ}
-use mathlib.Core.Option.{Option, some}
+use mathlib.Core.Option.{some}
 use mathlib.Core.Path.{sym, ap, _∙_}
-use Rattle.format.specs.Prelude.{pick, Result, good}
-use Rattle.walk.specs.Walk.{Caller}
+use Rattle.format.specs.Prelude.{pick, good}
 use Rattle.walk.specs.Standing.{slots, stepOf}
 use Rattle.walk.proofs.Listing.{returned-none, returned-is}
 use borrow.Author.Needs.{needs}
 use Rattle.walk.proofs.returned.Statement.{statement}
 use Rattle.walk.proofs.returned.Tie as tie
-use Rattle.walk.proofs.returned.Reads as reads
-use Rattle.walk.proofs.returned.Lts as lts
-use Rattle.walk.proofs.refused.Reads as refused-reads
-use Rattle.walk.proofs.slot.Reads as slot-reads
-use Rattle.walk.proofs.unsigned.Reads as unsigned-reads
 
 slot-requires : tie.Need-slot-requires
 slot-requires c κs = search needs

@@ -8,10 +8,6 @@ use Rattle.walk.specs.Standing.{numberOf}
 use borrow.Author.Needs.{needs}
 use Rattle.walk.proofs.saved.Statement.{statement}
 use Rattle.walk.proofs.saved.Tie as tie
-use Rattle.walk.proofs.saved.Reads as reads
-use Rattle.walk.proofs.saved.Lts as lts
-use Rattle.walk.proofs.load.Reads as load-reads
-use Rattle.walk.proofs.sum.Reads as sum-reads
 
 sum-requires : tie.Need-sum-requires
 sum-requires c κs = search needs

@@ -6,8 +6,6 @@ use lib.ListN.{length}
 use borrow.Author.Needs.{needs}
 use Rattle.walk.proofs.slot.Statement.{statement}
 use Rattle.walk.proofs.slot.Tie as tie
-use Rattle.walk.proofs.slot.Reads as reads
-use Rattle.walk.proofs.slot.Lts as lts
 
 element-copy-out-if2 : tie.Need-element-copy-out-if2
 element-copy-out-if2 c = search needs

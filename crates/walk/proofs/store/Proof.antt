@@ -6,8 +6,6 @@ use lib.ListN.{length-set}
 use Rattle.walk.proofs.Listing.{Listing, list-start, list-turn, list-ended}
 use Rattle.walk.proofs.store.Statement.{statement}
 use Rattle.walk.proofs.store.Tie as tie
-use Rattle.walk.proofs.store.Reads as reads
-use Rattle.walk.proofs.store.Lts as lts
 
 abbrev Inv-loop : tie.InvT-loop
 Inv-loop n out₀ f i₀ out i = Listing (f .positions) (f .pcs) n out₀ out i

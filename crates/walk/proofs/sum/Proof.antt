@@ -5,8 +5,6 @@ use Rattle.leb.proofs.Signs.{less-fits, less-cast, less-is, same-cast, same-is}
 use borrow.Author.Needs.{needs}
 use Rattle.walk.proofs.sum.Statement.{statement}
 use Rattle.walk.proofs.sum.Tie as tie
-use Rattle.walk.proofs.sum.Reads as reads
-use Rattle.walk.proofs.sum.Lts as lts
 
 sub-m : tie.Need-sub-m
 sub-m c = less-fits _ (c .before .fits .o) (c .if1 .taken)

@@ -3,8 +3,6 @@ use Rattle.walk.specs.Walk.{undefined}
 use borrow.Author.Needs.{needs}
 use Rattle.walk.proofs.undefined.Statement.{statement}
 use Rattle.walk.proofs.undefined.Tie as tie
-use Rattle.walk.proofs.undefined.Reads as reads
-use Rattle.walk.proofs.undefined.Lts as lts
 
 enum-told : tie.Need-enum-told
 enum-told c = search needs

@@ -1,12 +1,9 @@
 -- `walk::unreturning` meets its contract.
-use borrow.Author.Needs.{needs}
 use mathlib.Core.Path.{refl}
 use Rattle.format.specs.Prelude.{pick}
 use Rattle.walk.specs.Standing.{stepOf}
 use Rattle.walk.proofs.unreturning.Statement.{statement}
 use Rattle.walk.proofs.unreturning.Tie as tie
-use Rattle.walk.proofs.unreturning.Reads as reads
-use Rattle.walk.proofs.unreturning.Lts as lts
 
 returns : tie.Need-returns
 unfolding stepOf pick

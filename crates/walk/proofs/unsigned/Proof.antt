@@ -3,8 +3,6 @@ use Rattle.format.specs.Prelude.{pick}
 use Rattle.walk.specs.Walk.{unsigned}
 use Rattle.walk.proofs.unsigned.Statement.{statement}
 use Rattle.walk.proofs.unsigned.Tie as tie
-use Rattle.walk.proofs.unsigned.Reads as reads
-use Rattle.walk.proofs.unsigned.Lts as lts
 
 returns : tie.Need-returns
 unfolding unsigned pick

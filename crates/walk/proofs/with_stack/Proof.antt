@@ -6,8 +6,6 @@ use Rattle.walk.proofs.Listing.{not-followed, followed-set}
 use borrow.Author.Needs.{needs}
 use Rattle.walk.proofs.with_stack.Statement.{statement}
 use Rattle.walk.proofs.with_stack.Tie as tie
-use Rattle.walk.proofs.with_stack.Reads as reads
-use Rattle.walk.proofs.with_stack.Lts as lts
 
 returns : tie.Need-returns
 returns c =

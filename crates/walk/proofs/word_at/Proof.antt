@@ -4,9 +4,6 @@ use mathlib.Core.Path.{sym, _∙_}
 use borrow.Author.Needs.{needs}
 use Rattle.walk.proofs.word_at.Statement.{statement}
 use Rattle.walk.proofs.word_at.Tie as tie
-use Rattle.walk.proofs.word_at.Reads as reads
-use Rattle.walk.proofs.word_at.Lts as lts
-use Rattle.leb.proofs.read_le.Reads as read-le-reads
 
 read-le-requires : tie.Need-read-le-requires
 read-le-requires c κs = search needs

@@ -1,6 +1,6 @@
 -- `walked::all_left` meets its contract.
 use mathlib.Core.Path.{sym, _∙_}
-use Prim.Native.Nat.{ℕ, _-_}
+use Prim.Native.Nat.{_-_}
 use borrow.Author.Needs.{needs}
 use lib.ListN.{length-set}
 use Rattle.format.specs.Prelude.{pick}

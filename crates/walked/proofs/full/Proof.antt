@@ -1,8 +1,6 @@
 -- `walked::full` meets its contract.
 use mathlib.Core.Path.{sym, ap, _∙_}
-use Prim.Native.Nat.{ℕ}
 use Rattle.format.specs.Prelude.{good}
-use Rattle.walk.specs.Walk.{heldByNone, tooMany}
 use Rattle.walk.specs.Standing.{framesOf}
 use Rattle.walk.specs.declared.Holder.{Holder}
 use Rattle.walked.specs.Standing.{fullEnding}

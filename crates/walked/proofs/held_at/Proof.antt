@@ -1,10 +1,5 @@
 -- `walked::held_at` meets its contract.
-use mathlib.Core.Path.{ap, _∙_}
-use mathlib.Core.Option.{Option}
-use Prim.Native.Nat.{ℕ}
-use Rattle.format.specs.Prelude.{after}
-use Rattle.walk.specs.Walk.{heldFrom, placedOf}
-use Rattle.walk.specs.Standing.{holderOf, found}
+use mathlib.Core.Path.{_∙_}
 use Rattle.walked.proofs.Finding.{found-back}
 use borrow.Author.Needs.{needs}
 use Rattle.walked.proofs.held_at.Statement.{statement}

@@ -2,8 +2,6 @@
 use mathlib.Core.Path.{sym, ap, _∙_}
 use Rattle.format.specs.Rules.{rulesFor}
 use Rattle.format.specs.declared.Rules.{Rules}
-use Prim.Native.Nat.{ℕ}
-use mathlib.Core.Bool.{Bool}
 use Rattle.format.specs.Prelude.{onward}
 use Rattle.walk.specs.Walk.{undefined, frameAddress, left, returnedTo}
 use Rattle.walk.specs.Standing.{slots, addressOf, memoryOf}

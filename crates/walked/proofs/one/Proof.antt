@@ -1,9 +1,6 @@
 -- `walked::one` meets its contract.
-use mathlib.Core.Path.{sym, ap, _∙_}
-use Rattle.format.specs.declared.Rule.{Rule}
-use Rattle.format.specs.declared.Rules.{Rules}
+use mathlib.Core.Path.{sym, _∙_}
 use Rattle.walk.specs.Walk.{leftBy}
-use Rattle.format.specs.Rules.{rulesFor}
 use borrow.Author.Tests.{not-true}
 use Rattle.walked.proofs.Rules.{answered, never, by-rule}
 use borrow.Author.Needs.{needs}

@@ -1,11 +1,9 @@
 -- `walked::recorded` meets its contract.
-use mathlib.Core.Path.{sym, ap, _∙_}
+use mathlib.Core.Path.{sym, _∙_}
 use native.Mathlib.Omega.{arith}
-use mathlib.Core.List.{List}
 use lib.Dec.{T}
 use lib.Seq.{length-take-le}
 use borrow.Author.Tests.{not-true, not-false}
-use Rattle.format.specs.declared.Machine.{Machine}
 use Rattle.format.specs.Machine.{machineOk}
 use Rattle.format.proofs.Accepted.{machine-fits}
 use Rattle.walked.proofs.Entering.{no-machine, other-word, right-word, frames-of}

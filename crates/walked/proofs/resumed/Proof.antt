@@ -1,6 +1,5 @@
 -- `walked::resumed` meets its contract.
-use mathlib.Core.Path.{sym, ap, _∙_}
-use Rattle.format.specs.Prelude.{onward}
+use mathlib.Core.Path.{_∙_}
 use Rattle.walked.proofs.Rules.{resumed-bad, resumed-good}
 use borrow.Author.Needs.{needs}
 use Rattle.walked.proofs.resumed.Statement.{statement}

@@ -1,6 +1,4 @@
 -- `walked::stored` meets its contract.
-use mathlib.Core.Path.{sym, ap, _∙_}
-use native.Mathlib.Omega.{arith}
 use Rattle.walked.proofs.Entering.{refuses, walked-bad, no-room, stored}
 use borrow.Author.Needs.{needs}
 use Rattle.walked.proofs.stored.Statement.{statement}

@@ -1,5 +1,5 @@
 -- `walked::unwind_walk` meets its contract.
-use mathlib.Core.Path.{sym, ap, _∙_}
+use mathlib.Core.Path.{sym, _∙_}
 use Rattle.walk.specs.Recorded.{readTrailer}
 use Rattle.walked.proofs.Entering.{trailer-bad, trailer-is, trailer-inside, no-file, with-file, refuses, answers-as}
 use borrow.Author.Needs.{needs}
