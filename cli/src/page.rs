@@ -40,11 +40,11 @@ pub fn text(file: &File, walked: &Walked<'_>) -> String {
     inputs(&mut page, file, walked);
     result(&mut page, walked);
     chain(&mut page, walked);
+    stack(&mut page, walked);
     put!(page, "<h2>The ground for each caller</h2>\n");
     for (n, step) in walked.replay.steps.iter().enumerate() {
         frame(&mut page, walked, n, step);
     }
-    stack(&mut page, walked);
     registers(&mut page, walked);
     believed(&mut page);
     put!(page, "</body>\n</html>\n");

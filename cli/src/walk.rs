@@ -77,7 +77,9 @@ pub fn run(args: &Args) -> Result<bool, Stop> {
     let file = File::new(args)?;
     let record = fs::read(path).map_err(|error| Stop::failed(path, error))?;
     let section = file.section(args, args.number("--base")?)?;
-    let machine = Machine { word: section.word, ..machine(args, &file)? };
+    let machine = machine(args, &file)?;
+    // An ELF file says its word; raw bytes have the machine's.
+    let machine = Machine { word: if file.object.is_some() { section.word } else { machine.word }, ..machine };
     let parts = Parts::new(&section);
     if let Some(why) = parts.complaint() {
         return Err(Stop::failed(&file.name, why));
@@ -196,8 +198,13 @@ fn as_text(out: &mut Out, file: &File, walked: &Walked<'_>) {
     chain(out, walked);
 }
 
-/// The chain in words.
+/// The chain in words: each frame in a line, then the facts of each.
 pub fn chain(out: &mut Out, walked: &Walked<'_>) {
+    for (n, step) in walked.replay.steps.iter().enumerate() {
+        let mark = if step.signal { ", a signal frame" } else { "" };
+        out.cell(&format!("#{n}"), 4).text(&title(walked.functions, step)).text(mark).line();
+    }
+    out.text(&facts::end(&walked.replay)).line().line();
     for (n, step) in walked.replay.steps.iter().enumerate() {
         let what = if n == 0 { "pc" } else { "return address" };
         out.text(&format!("#{n} {}, {what} {:#x}", title(walked.functions, step), step.pc)).line();
@@ -213,7 +220,6 @@ pub fn chain(out: &mut Out, walked: &Walked<'_>) {
             }
         }
     }
-    out.text(&facts::end(&walked.replay)).line();
     out.text("The frames are unwind_walk's; the facts were replayed by its rules, and give the same chain.").line();
 }
 
