@@ -1,10 +1,12 @@
 #!/usr/bin/env python3
 """The library's unwind_walk against walker.py, which was written from document 02 alone.
 
-    walk.py COUNT SEED     chosen faults, short inputs over few values, COUNT made chains and damaged copies of each
+    walk.py COUNT SEED     chosen faults, short inputs over few values, COUNT made chains and damaged copies of each, and the stops of
+                           COUNT / 20 simulated machines
 
 Chosen: every refusal by each of its causes and the order of two at once, every ending, 64 and 65 frames, signal frames, signing, every rule,
-registers from 128 on, sums at both ends of 64 bits, lookups at 0. Each chain is asked with a lent list that is large, exactly full, one
+registers from 128 on, sums at both ends of 64 bits, lookups at 0. A simulated machine knows its own chain, which walker.py must find too.
+Each chain is asked with a lent list that is large, exactly full, one
 number short and one over; the whole list is compared, and an element behind it. At the end stands how often each number and each ending
 was answered."""
 
@@ -475,6 +477,137 @@ def damaged(case, rng):
     yield changed(case, machine=[*case.machine[:2], rng.randrange(40), rng.randrange(130), *case.machine[4:]])
 
 
+# ---- simulated machines
+
+
+TRAP_FRAME = 272
+MASK = 2**48 - 1
+
+
+class Simulated:
+    """An AArch64 that runs functions, instruction by instruction, and knows its own chain: the calls that were made and have not returned.
+    A function signs its return address or not, stores x29 and x30, sets x29 or not, stores x19 or not. A vector, a signal frame, is entered
+    in place of an instruction of a function that has stored its return address. Each instruction has its rows, and nothing here knows how
+    rows are read."""
+
+    def __init__(self, rng):
+        self.rng, self.code, self.vectors = rng, [], []
+        self.functions = [self.function(n) for n in range(rng.randrange(3, 7))]
+        self.starts = [0x40000 + 256 * n for n in rng.sample(range(16), len(self.code))]
+        self.top = self.sp = 0x9000_0000 + 16 * rng.randrange(4096)
+        self.x = [rng.randrange(TOP) for _ in range(31)]
+        self.memory, self.calls, self.here, self.most = {}, [], (0, 0), rng.choice((3, 8, 8, 20, 75))
+
+    def function(self, n):
+        """Instructions, each with the operations of the rows behind it. Function 0 has no caller; its last instruction may be a call."""
+        rng, size = self.rng, 16 * self.rng.randrange(2, 6)
+        signs, points, keeps, vector = rng.random() < 0.5, rng.random() < 0.6, rng.random() < 0.5, n > 1 and rng.random() < 0.4
+        middle = [(what, b"") for what in rng.choices(("work", "call"), k=rng.randrange(2, 7))]
+        if n == 0:
+            code, header = [("work", b""), *middle, ("call", b"")], def_cfa(SP, 0) + undefined(LR)
+        elif vector:
+            code = [("work19", b""), *middle, ("leave", b"")]
+            header = def_cfa(SP, TRAP_FRAME) + saved(FP, -40) + saved(LR, -32) + saved(19, -24)
+            self.vectors.append(n)
+        else:
+            code = [("sign", NEGATE)] * signs + [(f"push {size}", def_cfa(SP, size) + saved(FP, -size) + saved(LR, 8 - size))]
+            code += [("point", def_cfa(FP, size))] * points + [("keep", saved(19, 16 - size)), ("work19", b"")] * keeps + middle
+            back = restored(FP) + restored(LR) + restored(19) + def_cfa(SP, 0)
+            code += [("load19", b"")] * keeps + [(f"pop {size}", back)] + [("check", NEGATE)] * signs + [("return", b"")]
+            header = def_cfa(SP, 0)
+        rows, last = b"", 0
+        for place, (_, row) in enumerate(code, 1):
+            if row:
+                rows, last = rows + step(4 * place - last) + row, 4 * place
+        self.code.append([what for what, _ in code])
+        return Function(rows, 4 * len(code), header, vector)
+
+    def address(self, here):
+        return self.starts[here[0]] + 4 * here[1]
+
+    def chain(self):
+        return [(self.here[0], self.address(self.here)), *((caller, back) for caller, back, _ in reversed(self.calls))]
+
+    def case(self):
+        stack = b"".join(self.memory.get(at, 0).to_bytes(8, "little") for at in range(self.sp, self.top, 8))
+        data, relocations = section(self.functions)
+        placed = [n for start, f in zip(self.starts, self.functions, strict=True) for n in (start, f.length)]
+        return Case(AARCH64, recorded(stack, [*self.x, self.sp]), data, relocations, EH, self.address(self.here), self.sp, placed)
+
+    def enter(self, n, back, trapped):
+        self.calls.append((self.here[0], back, self.here if trapped else (self.here[0], self.here[1] + 1)))
+        self.here = (n, 0)
+
+    def trap(self):
+        """Where x30 is stored and not yet loaded."""
+        k, i = self.here
+        code = self.code[k]
+        stored = any(what.startswith("push") for what in code[:i]) and not any(what.startswith("pop") for what in code[:i])
+        if k in self.vectors or not stored or not self.vectors or len(self.calls) >= self.most or self.rng.random() > 0.1:
+            return False
+        self.memory.update({self.sp - 40: self.x[FP], self.sp - 32: self.address(self.here), self.sp - 24: self.x[19]})
+        self.sp -= TRAP_FRAME
+        self.enter(self.rng.choice(self.vectors), self.address(self.here), True)
+        return True
+
+    def step(self):
+        """One instruction; False where function 0 has come to its end."""
+        k, i = self.here
+        if i == len(self.code[k]):
+            return False
+        if self.trap():
+            return True
+        what, *size = self.code[k][i].split()
+        x, memory, rng = self.x, self.memory, self.rng
+        if what == "call" and len(self.calls) < self.most:
+            x[LR] = self.address(self.here) + 4
+            self.enter(rng.choice([n for n in range(1, len(self.code)) if n not in self.vectors]), x[LR], False)
+            return True
+        if what in ("return", "leave"):
+            if what == "leave":
+                self.sp += TRAP_FRAME
+                x[FP], x[19] = memory[self.sp - 40], memory[self.sp - 24]
+                # The interrupted function has its return address in its frame.
+                x[LR] = rng.randrange(TOP)
+            _, back, self.here = self.calls.pop()
+            assert what == "leave" or x[LR] == back
+            return True
+        if what == "sign":
+            x[LR] |= rng.randrange(2**16) << 48
+        elif what == "check":
+            x[LR] &= MASK
+        elif what == "push":
+            self.sp -= int(size[0])
+            memory.update({self.sp: x[FP], self.sp + 8: x[LR]})
+        elif what == "point":
+            x[FP] = self.sp
+        elif what == "keep":
+            memory[self.sp + 16] = x[19]
+        elif what == "load19":
+            x[19] = memory[self.sp + 16]
+        elif what == "pop":
+            x[FP], x[LR] = memory[self.sp], memory[self.sp + 8]
+            self.sp += int(size[0])
+        else:
+            x[rng.randrange(18)] = rng.randrange(TOP)
+            if what == "work19":
+                x[19] = rng.randrange(TOP)
+        self.here = (k, i + 1)
+        return True
+
+
+def simulated(rng):
+    """The stops of one machine: a case with its chain."""
+    machine = Simulated(rng)
+    for _ in range(400):
+        if machine.here[1] < len(machine.code[machine.here[0]]) and rng.random() < 0.25:
+            chain = machine.chain()
+            ending = TOO_MANY if len(chain) > MOST_FRAMES else RETURN_UNDEFINED
+            yield machine.case(), (0, chain[:MOST_FRAMES], ending)
+        if not machine.step():
+            return
+
+
 # ---- the comparison
 
 
@@ -536,8 +669,15 @@ def main():
         deepest = max(deepest, len(walk(case)[1]))
         for other in (case, *damaged(case, rng)):
             pairs += with_rooms(other, rng)
+    stops = 0
+    for _ in range(int(sys.argv[1]) // 20):
+        for case, said in simulated(rng):
+            if walk(case) != said:
+                sys.exit(f"walk: a simulated machine's chain is {said}, the judge says {walk(case)}: {case}")
+            pairs.append((case, said))
+            stops += 1
     compare(pairs, counts)
-    print(f"walk: {len(pairs)} faults agree, up to {deepest} frames: " + ", ".join(f"{n} {counts[n]}" for n in sorted(counts)))
+    print(f"walk: {len(pairs)} faults agree, up to {deepest} frames, {stops} of simulated machines: " + ", ".join(f"{n} {counts[n]}" for n in sorted(counts)))
 
 
 if __name__ == "__main__":

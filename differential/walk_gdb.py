@@ -6,7 +6,8 @@
 Programs for x86-64, compiled with a frame pointer and without, call down a recursion of 70 frames, and run into a trap: a signal handler
 puts a frame with a signal mark on the stack, as firmware does, and the trapping instruction is the first of its function. gdb steps through
 them and tells at each instruction its own chain, the registers and the stack. These are written as a record file; the functions come from
-the records of .eh_frame by unwind_function_at. The chain must be gdb's up to the first frame that is not in the program's own code."""
+the records of .eh_frame by unwind_function_at. The chain must be gdb's up to the first frame that is not in the program's own code. At some
+stops the command, where it is built, is asked too: `dekvoz walk` of the program must name gdb's functions."""
 
 import json
 import os
@@ -25,6 +26,8 @@ from walker import HELD_BY_NONE, MOST_FRAMES, TOO_MANY, Case, recorded  # noqa: 
 OUT = judged.OUT
 FLAGS = [["-O0"], ["-O2", "-fomit-frame-pointer"], ["-O2", "-fno-omit-frame-pointer"], ["-O1", "-fomit-frame-pointer", "-mno-red-zone"]]
 DEPTH, STEPS = 70, 900
+COMMAND = os.path.join(os.path.dirname(HERE), "target", "cli", "release", "dekvoz")
+BETWEEN = 60
 
 SOURCE = r"""
 #define _GNU_SOURCE
@@ -111,7 +114,7 @@ with open({out!r}, "w") as file:
     for _ in range({steps}):
         frame, frames = gdb.newest_frame(), []
         while frame is not None:
-            frames.append((frame.pc(), frame.type() == gdb.SIGTRAMP_FRAME))
+            frames.append((frame.pc(), frame.type() == gdb.SIGTRAMP_FRAME, frame.name()))
             frame = frame.older()
         at = value("rsp") - 128
         stack = bytes(inferior.read_memory(at, top - at)).hex()
@@ -174,7 +177,7 @@ def expected(frames, functions):
     """gdb's chain up to the first frame that no function holds, and the ending."""
     chain, exact = [], True
     placed = list(zip(functions[::2], functions[1::2], strict=True))
-    for pc, signal in frames:
+    for pc, signal, _ in frames:
         asked = pc if exact else pc - 1
         held = next((k for k, (start, length) in enumerate(placed) if start <= asked < start + length), None)
         if held is None:
@@ -186,12 +189,24 @@ def expected(frames, functions):
     return chain, HELD_BY_NONE
 
 
+def named(program, folder, case, names):
+    """The command on the program: the names of gdb's frames; those of a signal frame have none."""
+    fault = os.path.join(folder, "fault")
+    with open(fault, "wb") as file:
+        file.write(case.record)
+    words = [COMMAND, "walk", program, "--fault", fault, "--pc", str(case.pc), "--stack", str(case.stack), "--json"]
+    said = json.loads(subprocess.run(words, capture_output=True, text=True, check=True).stdout)
+    found = [frame["function"] for frame in said["frames"]]
+    if len(found) != len(names) or any(name is not None and name != own for name, own in zip(names, found, strict=True)):
+        sys.exit(f"walk_gdb: {program}: at {case.pc:#x}: gdb names {names}, the command {found}")
+
+
 def main():
     for tool in ("gcc", "objcopy", "gdb", "readelf"):
         if not shutil.which(tool):
             print(f"walk_gdb: the walk of real programs was passed over, since {tool} isn't there")
             return
-    stops = signals = longest = 0
+    stops = signals = longest = asked = 0
     with tempfile.TemporaryDirectory() as folder:
         for flags in FLAGS:
             program = built(folder, flags)
@@ -202,15 +217,18 @@ def main():
                 print("walk_gdb: the walk of real programs was passed over, since gdb cannot run programs here")
                 return
             cases = [Case(judged.X86_64, recorded(bytes.fromhex(stack), regs), data, [], 0, regs[16], at, functions) for regs, at, stack, _ in found]
-            for case, (_, _, _, frames), got in zip(cases, found, judged.ask(cases), strict=True):
+            for case, (*_, frames), got in zip(cases, found, judged.ask(cases), strict=True):
                 chain, ending = expected(frames, functions)
                 want = judged.expected(case, (0, chain, ending))
                 if want != got:
                     sys.exit(f"walk_gdb: {' '.join(flags)}: at {case.pc:#x}: gdb's chain is {chain} {ending}, ours is {got[: 3 + 2 * got[1]]}")
+                if stops % BETWEEN == 0 and os.path.exists(COMMAND):
+                    named(program, folder, case, [name for _, _, name in frames[: len(chain)]])
+                    asked += 1
                 stops += 1
-                signals += any(signal for _, signal in frames[: len(chain)])
+                signals += any(signal for _, signal, _ in frames[: len(chain)])
                 longest = max(longest, len(chain))
-    print(f"walk_gdb: {stops} stops of {len(FLAGS)} programs have gdb's chain, up to {longest} frames; {signals} of them through a signal frame")
+    print(f"walk_gdb: {stops} stops of {len(FLAGS)} programs have gdb's chain, up to {longest} frames; {signals} of them through a signal frame; the command names the functions at {asked}")
 
 
 if __name__ == "__main__":
