@@ -3,6 +3,7 @@
 
 What the listing says of rules is compared with readelf's by dump.py; here the answers of the commands are compared with one another."""
 
+import hashlib
 import json
 import os
 import re
@@ -200,6 +201,7 @@ def walk():
     for more, number in ((dict(stack=()), 74), (dict(registers=()), 75), (dict(registers=(0,) * 7 + (2**64 - 8,)), 74)):
         said, why = go(status=1, **more)
         assert f"frame #0: refused with {number}" in why and f"Frame #0 is refused with {number}" in said, (said, why)
+        assert f"refused    with {number}, asked for " in said and "lists no frame" in said, said
     said, why = go(section=CIE + FDE + RESET[:-4] + bytes.fromhex("0f010000"), status=1)
     assert "frame #1: refused with 66" in why and "the rules at offset 4 of record 1" in said, (said, why)
     assert "73" in go(registers=(0,) * 129, status=1)[1]
@@ -217,11 +219,15 @@ def walk():
 
 def page(go, path):
     """The page: one file, well-formed, nothing loaded, every link inside it to a place that is there."""
-    for more in ({}, dict(stack=(), status=1), dict(stack=(0x1001,) * 80), dict(stack=(0,) * 200)):
+    # Records of 80 to 240 bytes: every way in which a digest's last block is filled.
+    lengths = [dict(registers=(0,) * 7 + (0x8000,) + (1,) * n) for n in range(16)]
+    for more in ({}, *lengths, dict(stack=(), status=1), dict(stack=(0x1001,) * 80), dict(stack=(0,) * 200)):
         go("--html", path, **more)
         with open(path) as file:
             text = file.read()
         assert "&lt;main&gt;" in text or more, text
+        with open(os.path.join(OUT, "command.fault"), "rb") as file:
+            assert hashlib.sha256(file.read()).hexdigest() in text, "the page names another record"
         assert not re.search(r"<script|src=|https?:|@import|url\(", text), "the page loads something"
         places, links = re.findall(r'id="([^"]+)"', text), set(re.findall(r'href="#([^"]+)"', text))
         assert len(places) == len(set(places)) and links <= set(places), (links - set(places), len(places))

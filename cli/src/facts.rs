@@ -116,6 +116,23 @@ fn returns(back: &Back, names: &Names, return_address: u16) -> Vec<Fact> {
     facts
 }
 
+/// How the last frame ends the chain: nowhere to return to, or refused.
+pub fn last(replay: &Replay) -> Option<Fact> {
+    match &replay.end {
+        End::Undefined => Some(Fact::new("returns", "nowhere: here the chain ends".to_string())),
+        End::Refused(refusal, asked) => Some(Fact::new("refused", format!("with {}, asked for {asked}", refusal.number))),
+        End::Nobody(..) | End::TooMany | End::Other => None,
+    }
+}
+
+/// What is the library's answer, and what the command's.
+pub fn rests_on(replay: &Replay) -> &'static str {
+    match replay.end {
+        End::Refused(..) => "unwind_walk refuses with this number and lists no frame; the frames and facts were replayed by its rules up to there.",
+        _ => "The frames are unwind_walk's; the facts were replayed by its rules, and give the same chain.",
+    }
+}
+
 /// How the chain ends, in words.
 pub fn end(replay: &Replay) -> String {
     let last = replay.steps.len().saturating_sub(1);

@@ -3,6 +3,7 @@
 
 mod args;
 mod check;
+mod digest;
 mod dump;
 mod example;
 mod facts;

@@ -5,6 +5,7 @@ use std::fmt::Write;
 
 use dekvoz::parts::{operations, OperationAt};
 
+use crate::digest::sha256;
 use crate::facts::{self, Fact};
 use crate::grounds::{Ground, Origin};
 use crate::input::File;
@@ -46,7 +47,7 @@ pub fn text(file: &File, walked: &Walked<'_>) -> String {
         frame(&mut page, walked, n, step);
     }
     registers(&mut page, walked);
-    believed(&mut page);
+    believed(&mut page, walked);
     put!(page, "</body>\n</html>\n");
     page
 }
@@ -67,10 +68,12 @@ fn inputs(page: &mut String, file: &File, walked: &Walked<'_>) {
         recorded.registers.len()
     );
     row(page, "Record", &held);
+    row(page, "", &format!("SHA-256 <code>{}</code>", sha256(walked.record)));
     row(page, "Stopped at", &format!("<code>{:#x}</code>", walked.pc));
     let section = walked.section.name.as_deref().unwrap_or("the bytes of a section");
     let table = format!("{}: {}, {} bytes", escaped(&file.name), escaped(section), walked.section.bytes.len());
     row(page, "Unwind table", &table);
+    row(page, "", &format!("SHA-256 of the file <code>{}</code>", sha256(&file.bytes)));
     row(page, "Functions", &format!("{}, each with its record of the table", walked.functions.placed.len()));
     let names = &walked.section.names;
     let (stack, back) = (u64::from(walked.machine.stack_pointer), u64::from(walked.machine.return_address));
@@ -85,8 +88,9 @@ fn inputs(page: &mut String, file: &File, walked: &Walked<'_>) {
 fn result(page: &mut String, walked: &Walked<'_>) {
     let class = if walked.said.is_ok() { "good" } else { "bad" };
     let count = walked.replay.steps.len();
-    let frames = if count == 1 { "1 frame" } else { &format!("{count} frames") };
-    put!(page, "<p class=\"result {class}\"><strong>{frames}.</strong> {}</p>\n", escaped(&facts::end(&walked.replay)));
+    let frames = if count == 1 { "1 frame".to_string() } else { format!("{count} frames") };
+    let answer = if walked.said.is_ok() { frames } else { "No chain".to_string() };
+    put!(page, "<p class=\"result {class}\"><strong>{answer}.</strong> {}</p>\n", escaped(&facts::end(&walked.replay)));
 }
 
 fn chain(page: &mut String, walked: &Walked<'_>) {
@@ -104,7 +108,11 @@ fn chain(page: &mut String, walked: &Walked<'_>) {
         let slot = step.registers.iter().find(|register| register.number == walked.machine.return_address);
         let slot = slot.and_then(|register| register.slot);
         put!(page, "<td>{}</td>", slot.map_or_else(String::new, |slot| slot_link(slot)));
-        let to = step.back.as_ref().map_or_else(|| "nowhere".to_string(), |back| format!("<code>{:#x}</code>", back.pc));
+        let to = match (&step.back, &walked.replay.end) {
+            (Some(back), _) => format!("<code>{:#x}</code>", back.pc),
+            (None, End::Undefined) => "nowhere".to_string(),
+            (None, _) => "<span class=\"no\">refused</span>".to_string(),
+        };
         put!(page, "<td>{to}</td></tr>\n");
     }
     put!(page, "</tbody>\n</table>\n");
@@ -141,12 +149,8 @@ fn frame(page: &mut String, walked: &Walked<'_>, n: usize, step: &Step) {
             if fact.by.is_empty() { String::new() } else { format!("<div class=\"by\">by {}</div>", grounds(n, &fact.by)) };
         row(page, &escaped(&fact.about), &format!("{}{slot}{by}", escaped(&fact.words)));
     }
-    match (&walked.replay.end, last) {
-        (End::Undefined, true) => row(page, "returns", "nowhere: here the chain ends"),
-        (End::Refused(..) | End::Other, true) => {
-            row(page, "<span class=\"no\">refused</span>", &escaped(&facts::end(&walked.replay)));
-        }
-        _ => {}
+    for fact in facts::last(&walked.replay).iter().filter(|_| last) {
+        row(page, &escaped(&fact.about), &escaped(&fact.words));
     }
     if !last {
         let next = n + 1;
@@ -279,10 +283,17 @@ fn registers(page: &mut String, walked: &Walked<'_>) {
     put!(page, "</p>\n");
 }
 
-fn believed(page: &mut String) {
-    put!(page, "<h2>What this page rests on</h2>\n<p>The frames and the ending were answered by <code>unwind_walk</code>, and the rules of ");
-    put!(page, "each frame by <code>unwind_rules_at</code>, of dekvoz {}: ", env!("CARGO_PKG_VERSION"));
-    put!(page, "functions that are proved, by machine, to answer what their definitions say, for every input. The addresses and values above ");
-    put!(page, "were replayed from those rules by the command, which is not proved; it compared its chain with the library's, and they are ");
-    put!(page, "the same. That the table describes the code, and that the record is what the stopped machine held, is taken from the files.</p>\n");
+fn believed(page: &mut String, walked: &Walked<'_>) {
+    put!(page, "<h2>What this page rests on</h2>\n<p>{} ", facts::rests_on(&walked.replay));
+    put!(
+        page,
+        "unwind_walk and unwind_rules_at, which gives the rules, are functions of dekvoz {}, proved by machine to ",
+        env!("CARGO_PKG_VERSION")
+    );
+    put!(page, "answer what their definitions say, for every input. The command that replayed the addresses and values and wrote this page ");
+    put!(
+        page,
+        "is not proved. That the table describes the code, and that the record is what the stopped machine held, is taken "
+    );
+    put!(page, "from the files.</p>\n");
 }

@@ -9,6 +9,7 @@ use dekvoz::{AllRules, Frame, FrameSection, Machine, Placed, Record, Refusal, Ru
 
 use crate::grounds::{Grounds, Origin};
 use crate::recorded::{Recorded, FOLLOWED};
+use crate::registers::Names;
 
 /// Where an authentication code starts in a signed address.
 const ADDRESS_BITS: u64 = (1 << 48) - 1;
@@ -23,6 +24,7 @@ pub struct Fault<'a> {
     pub frame: &'a FrameSection<'a>,
     pub records: &'a [Record],
     pub functions: &'a [Placed],
+    pub names: &'a Names,
 }
 
 /// A register that a rule is stated for.
@@ -182,7 +184,7 @@ fn leave(fault: &Fault<'_>, step: &mut Step, before: &Values) -> Result<(u64, Va
         step.registers.push(Register { number: ret, rule: Rule::Undefined, by: grounds.of(ret), slot: None, value: None });
         return Err(End::Undefined);
     }
-    let cfa = frame_address(said.frame, before)?;
+    let cfa = frame_address(said.frame, before, fault.names)?;
     step.cfa = Some(Cfa { by: grounds.frame_by, ..cfa });
     let mut after = before.clone();
     for (number, rule) in said.registers.iter().copied().filter(|(_, rule)| *rule != Rule::Unstated) {
@@ -204,12 +206,13 @@ fn leave(fault: &Fault<'_>, step: &mut Step, before: &Values) -> Result<(u64, Va
     Ok((pc, after))
 }
 
-fn frame_address(rule: Frame, before: &Values) -> Result<Cfa, End> {
+fn frame_address(rule: Frame, before: &Values, names: &Names) -> Result<Cfa, End> {
     let Frame::Register { register, offset } = rule else {
         return Err(refused(REACHED, "a rule for the frame address".to_string()));
     };
     let Some(base) = before.get(usize::from(register)).copied().flatten() else {
-        return Err(refused(REACHED, format!("register {register}, which the frame address is counted from")));
+        let name = names.text(u64::from(register));
+        return Err(refused(REACHED, format!("{name}, which the frame address is counted from")));
     };
     let Some(address) = base.checked_add_signed(offset) else {
         return Err(refused(STACK, format!("the frame address {base:#x}{offset:+}")));
@@ -228,7 +231,7 @@ fn moved(fault: &Fault<'_>, rule: Rule, number: u16, cfa: u64, before: &Values) 
         Rule::Undefined => Ok((None, None)),
         Rule::InRegister(other) => Ok((None, held(other))),
         Rule::Saved(offset) => {
-            let asked = format!("the word of register {number} at {cfa:#x}{offset:+}");
+            let asked = format!("the word of {} at {cfa:#x}{offset:+}", fault.names.text(u64::from(number)));
             let slot = cfa.checked_add_signed(offset).ok_or_else(|| refused(STACK, asked.clone()))?;
             let value = fault.recorded.load(slot).ok_or_else(|| refused(STACK, asked))?;
             Ok((Some(slot), Some(value)))

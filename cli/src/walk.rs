@@ -13,7 +13,7 @@ use crate::listed::about;
 use crate::out::Out;
 use crate::recorded::Recorded;
 use crate::registers::{self, Names};
-use crate::replay::{self, End, Replay, Step};
+use crate::replay::{self, Replay, Step};
 use crate::{json, object, page, words, Stop};
 
 /// The column of what a fact is about.
@@ -86,7 +86,7 @@ pub fn run(args: &Args) -> Result<bool, Stop> {
     }
     let relocations = related(&section, &parts);
     let frame = FrameSection { relocations: &relocations, ..parts.frame };
-    let functions = listed(args, &file, &frame)?;
+    let functions = listed(args, &file, &frame, file.section(args, None)?.address)?;
     let fault = Fault { machine: &machine, record: &record, pc, stack };
     let walked = walked(path, &fault, &section, &FrameSection { ..frame }, &parts, &functions)?;
     if let Some(page) = args.value("--html") {
@@ -124,8 +124,15 @@ pub fn walked<'a>(
     let differ = || Stop::failed(name, "the replay of the walk differs from the library's chain; please report it");
     let recorded = Recorded::new(fault.record, fault.stack).ok_or_else(differ)?;
     let (machine, pc) = (fault.machine, fault.pc);
-    let stands =
-        replay::Fault { machine, recorded: &recorded, pc, frame, records: &parts.records, functions: &functions.placed };
+    let stands = replay::Fault {
+        machine,
+        recorded: &recorded,
+        pc,
+        frame,
+        records: &parts.records,
+        functions: &functions.placed,
+        names: &section.names,
+    };
     let replay = Replay::new(&stands);
     match replay.agrees(&said) {
         true => Ok(Walked { record_name: name, record: fault.record, recorded, machine, pc, section, functions, said, replay }),
@@ -156,8 +163,9 @@ fn related(section: &Section<'_>, parts: &Parts<'_>) -> Vec<Relocation> {
     }
 }
 
-/// The functions of the records: by a list, or by the records' own fields with the names of an ELF file's symbols.
-fn listed(args: &Args, file: &File, frame: &FrameSection<'_>) -> Result<Functions, Stop> {
+/// The functions of the records: by a list, or by the records' own fields with the names of an ELF file's symbols, whose section was linked
+/// to an address.
+fn listed(args: &Args, file: &File, frame: &FrameSection<'_>, linked_at: u64) -> Result<Functions, Stop> {
     if let Some(path) = args.value("--functions") {
         let text = fs::read_to_string(path).map_err(|error| Stop::failed(path, error))?;
         let read: Option<Vec<_>> = text.lines().filter(|line| !line.trim().is_empty()).map(listed_one).collect();
@@ -174,7 +182,9 @@ fn listed(args: &Args, file: &File, frame: &FrameSection<'_>) -> Result<Function
     }
     let placed = functions(frame).map_err(|refusal| Stop::failed(&file.name, words::refused(refusal)))?;
     let names = file.object.as_ref().map_or_else(Vec::new, |object| object::function_names(&file.bytes, object));
-    Ok(Functions::new(placed, names))
+    // --base says how far the file was loaded from where it was linked to.
+    let moved = |(address, name): (u64, String)| (address.wrapping_add(frame.address.wrapping_sub(linked_at)), name);
+    Ok(Functions::new(placed, names.into_iter().map(moved).collect()))
 }
 
 fn listed_one(line: &str) -> Option<(Placed, Option<String>)> {
@@ -211,16 +221,11 @@ pub fn chain(out: &mut Out, walked: &Walked<'_>) {
         for fact in facts::of(step, &walked.section.names, walked.machine.return_address) {
             fact_text(out, &fact);
         }
-        if let End::Undefined = walked.replay.end {
-            if n + 1 == walked.replay.steps.len() {
-                fact_text(
-                    out,
-                    &Fact { about: "returns".to_string(), words: "nowhere".to_string(), by: Vec::new(), slot: None },
-                );
-            }
+        if n + 1 == walked.replay.steps.len() {
+            facts::last(&walked.replay).iter().for_each(|fact| fact_text(out, fact));
         }
     }
-    out.text("The frames are unwind_walk's; the facts were replayed by its rules, and give the same chain.").line();
+    out.text(facts::rests_on(&walked.replay)).line();
 }
 
 fn fact_text(out: &mut Out, fact: &Fact) {
