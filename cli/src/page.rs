@@ -107,7 +107,7 @@ fn chain(page: &mut String, walked: &Walked<'_>) {
         put!(page, "<td>{}</td>", step.cfa.as_ref().map_or_else(String::new, |cfa| format!("<code>{:#x}</code>", cfa.address)));
         let slot = step.registers.iter().find(|register| register.number == walked.machine.return_address);
         let slot = slot.and_then(|register| register.slot);
-        put!(page, "<td>{}</td>", slot.map_or_else(String::new, |slot| slot_link(slot)));
+        put!(page, "<td>{}</td>", slot.map_or_else(String::new, slot_link));
         let to = match (&step.back, &walked.replay.end) {
             (Some(back), _) => format!("<code>{:#x}</code>", back.pc),
             (None, End::Undefined) => "nowhere".to_string(),

@@ -88,7 +88,7 @@ pub fn run(args: &Args) -> Result<bool, Stop> {
     let frame = FrameSection { relocations: &relocations, ..parts.frame };
     let functions = listed(args, &file, &frame, file.section(args, None)?.address)?;
     let fault = Fault { machine: &machine, record: &record, pc, stack };
-    let walked = walked(path, &fault, &section, &FrameSection { ..frame }, &parts, &functions)?;
+    let walked = walked(path, &fault, &section, &frame, &parts, &functions)?;
     if let Some(page) = args.value("--html") {
         fs::write(page, page::text(&file, &walked)).map_err(|error| Stop::failed(page, error))?;
     }
@@ -115,13 +115,13 @@ pub fn walked<'a>(
     functions: &'a Functions,
 ) -> Result<Walked<'a>, Stop> {
     let said = walk(fault, frame, &functions.placed);
-    let early = |refusal: &Refusal| {
-        matches!(refusal.asked(), Some(Question::Recorded | Question::X64Word)) || refusal.asked() == Some(Question::Interface)
-    };
-    if let Some(refusal) = said.as_ref().err().filter(|refusal| early(refusal)) {
+    // Of these the record or the machine is the cause, and no frame was looked at.
+    let early =
+        |refusal: &&Refusal| matches!(refusal.asked(), Some(Question::Recorded | Question::Interface | Question::X64Word));
+    if let Some(refusal) = said.as_ref().err().filter(early) {
         return Err(Stop::failed(name, words::refused(*refusal)));
     }
-    let differ = || Stop::failed(name, "the replay of the walk differs from the library's chain; please report it");
+    let differ = || Stop::failed(name, "the replay of the walk differs from the library's chain");
     let recorded = Recorded::new(fault.record, fault.stack).ok_or_else(differ)?;
     let (machine, pc) = (fault.machine, fault.pc);
     let stands = replay::Fault {
