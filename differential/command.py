@@ -243,7 +243,11 @@ def page(go, path):
 
 
 def example():
-    text = run("example")[0]
+    path = os.path.join(OUT, "command.page")
+    text = run("example", "--html", path)[0]
+    with open(path) as file:
+        assert "#4 reset+20" in file.read()
+    assert text == run("example")[0]
     chain = re.findall(r"^#\d (\w+)\+(\d+), (?:pc|return address) 0x[0-9a-f]+\n.*looked up at ([^;]*);", text, re.M)
     assert [name for name, *_ in chain] == ["report", "vector", "sample", "control", "reset"], chain
     assert ["one byte before" in asked for *_, asked in chain] == [False, True, False, True, True], chain

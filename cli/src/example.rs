@@ -1,5 +1,7 @@
 //! `dekvoz example`: a small firmware's table is written, listed and checked, and a recorded fault is walked.
 
+use std::fs;
+
 use dekvoz::walk::{functions, recorded, Fault};
 use dekvoz::{
     apply, call_site, relaxed_debug_frame, relaxed_table, row_check, Builder, Built, Format, FrameSection, Function, Machine,
@@ -10,8 +12,9 @@ use crate::args::Args;
 use crate::check;
 use crate::dump::Listing;
 use crate::handler;
-use crate::input::{Parts, Section};
+use crate::input::{File, Parts, Section};
 use crate::out::Out;
+use crate::page;
 use crate::registers::{self, Names};
 use crate::walk::{self, Functions};
 use crate::Stop;
@@ -116,12 +119,12 @@ const REGISTERS: [(u16, u64); 3] = [(X19, 9), (FP, STACK_AT), (SP, STACK_AT)];
 
 /// Runs the example.
 pub fn run(args: &Args) -> Result<bool, Stop> {
-    args.only("example", &[])?;
+    args.only("example", &["--html"])?;
     if args.file.is_some() {
         return Err(Stop::Usage(crate::args::Usage("example takes no file".to_string())));
     }
     let mut out = Out::new();
-    let done = show(&mut out);
+    let done = show(&mut out, args.value("--html"));
     crate::finished(&mut out)?;
     done.map(|()| true)
 }
@@ -131,7 +134,7 @@ fn failed(refusal: Refusal) -> Stop {
     Stop::failed("example", refusal)
 }
 
-fn show(out: &mut Out) -> Result<(), Stop> {
+fn show(out: &mut Out, page: Option<&str>) -> Result<(), Stop> {
     let codes = firmware();
     let functions: Vec<Function<'_>> = codes.iter().map(|code| code.built.function()).collect();
     out.text("A firmware for AArch64 has five functions:").line();
@@ -151,7 +154,7 @@ fn show(out: &mut Out) -> Result<(), Stop> {
     checked(out, &codes, &section, &parts);
     same(out, &functions, &parts.frame).map_err(failed)?;
     caught(out, &table).map_err(failed)?;
-    chain(out, &codes, &section, &parts)
+    chain(out, &codes, &section, &parts, page)
 }
 
 fn section(bytes: &[u8]) -> Section<'_> {
@@ -185,16 +188,18 @@ fn record() -> Vec<u8> {
 }
 
 /// From where report was stopped to reset.
-fn chain(out: &mut Out, codes: &[Code], section: &Section<'_>, parts: &Parts<'_>) -> Result<(), Stop> {
+fn chain(out: &mut Out, codes: &[Code], section: &Section<'_>, parts: &Parts<'_>, page: Option<&str>) -> Result<(), Stop> {
     out.text("\nOne day the device does not answer: sample traps, vector saves the registers and\n");
     out.text(&format!("calls report, which was stopped at {STOPPED:#x}. The walk over what was recorded says:\n\n"));
     let names = codes.iter().map(|code| (code.address, code.name.to_string())).collect();
     let functions = Functions::new(functions(&parts.frame).map_err(failed)?, names);
     let record = record();
     let fault = Fault { machine: &Machine::AARCH64, record: &record, pc: STOPPED, stack: STACK_AT };
-    let walked = walk::walked("example", &fault, section, &parts.frame, parts, &functions)?;
+    let walked = walk::walked("the record of the example", &fault, section, &parts.frame, parts, &functions)?;
     walk::chain(out, &walked);
-    Ok(())
+    let Some(page) = page else { return Ok(()) };
+    let file = File { name: "the table of the example".to_string(), bytes: section.bytes.to_vec(), object: None };
+    fs::write(page, page::text(&file, &walked)).map_err(|error| Stop::failed(page, error))
 }
 
 /// Who would get what is thrown where sample reads the device: the call sites of the record, at the addend of its relocation to their

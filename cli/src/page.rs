@@ -17,7 +17,7 @@ const STYLE: &str = include_str!("page.css");
 /// As many words of the stack around one that was read are drawn.
 const AROUND: usize = 2;
 /// A stack of at most so many words is drawn whole.
-const WHOLE: usize = 48;
+const WHOLE: usize = 24;
 /// The colours of frames.
 const COLOURS: usize = 6;
 
