@@ -7,7 +7,8 @@ Programs for x86-64, compiled with a frame pointer and without, call down a recu
 puts a frame with a signal mark on the stack, as firmware does, and the trapping instruction is the first of its function. gdb steps through
 them and tells at each instruction its own chain, the registers and the stack. These are written as a record file; the functions come from
 the records of .eh_frame by unwind_function_at. The chain must be gdb's up to the first frame that is not in the program's own code. At some
-stops the command, where it is built, is asked too: `dekvoz walk` of the program must name gdb's functions."""
+stops the command, where it is built, is asked too: `dekvoz walk` of the program must name gdb's functions. So it must of a program that is
+loaded anywhere, recorded by examples/gdb/record.py."""
 
 import json
 import os
@@ -127,11 +128,28 @@ kill
 """
 
 
+RECORDING = """
+set pagination off
+set confirm off
+source {recorder}
+break leaf
+run
+dekvoz-record {fault}
+python
+frame = gdb.newest_frame()
+while frame is not None:
+    print("frame", frame.name())
+    frame = frame.older()
+end
+kill
+"""
+
+
 def built(folder, flags):
     source, program = os.path.join(folder, "chain.c"), os.path.join(folder, "chain" + "".join(flags))
     with open(source, "w") as file:
         file.write(SOURCE.replace("DEPTH", str(DEPTH)))
-    subprocess.run(["gcc", *flags, "-fno-optimize-sibling-calls", "-fno-ipa-cp", "-no-pie", "-fcf-protection=none", "-w", "-o", program, source], check=True)
+    subprocess.run(["gcc", *flags, "-fno-optimize-sibling-calls", "-fno-ipa-cp", "-fcf-protection=none", "-w", "-o", program, source], check=True)
     return program
 
 
@@ -201,6 +219,20 @@ def named(program, folder, case, names):
         sys.exit(f"walk_gdb: {program}: at {case.pc:#x}: gdb names {names}, the command {found}")
 
 
+def anywhere(folder):
+    """A program that is loaded anywhere, recorded as people do it."""
+    program, script, fault = built(folder, ["-O2", "-pie", "-fPIE"]), os.path.join(folder, "script"), os.path.join(folder, "fault")
+    with open(script, "w") as file:
+        file.write(RECORDING.format(recorder=os.path.join(os.path.dirname(HERE), "examples", "gdb", "record.py"), fault=fault))
+    said = subprocess.run(["gdb", "-nx", "-batch", "-x", script, program], capture_output=True, text=True, timeout=300).stdout.splitlines()
+    line = next(line for line in said if line.startswith("dekvoz walk "))
+    answer = subprocess.run([COMMAND, *line.split()[1:], "--json"], capture_output=True, text=True, check=True).stdout
+    names = [line.removeprefix("frame ") for line in said if line.startswith("frame ")]
+    found = [frame["function"] for frame in json.loads(answer)["frames"]]
+    if found != names:
+        sys.exit(f"walk_gdb: {line}: gdb names {names}, the command {found}")
+
+
 def main():
     for tool in ("gcc", "objcopy", "gdb", "readelf"):
         if not shutil.which(tool):
@@ -209,7 +241,7 @@ def main():
     stops = signals = longest = asked = 0
     with tempfile.TemporaryDirectory() as folder:
         for flags in FLAGS:
-            program = built(folder, flags)
+            program = built(folder, [*flags, "-no-pie"])
             data, address = section_of(program, folder)
             functions = functions_of(data, address)
             found = steps(program, folder)
@@ -228,6 +260,8 @@ def main():
                 stops += 1
                 signals += any(signal for _, signal, _ in frames[: len(chain)])
                 longest = max(longest, len(chain))
+        if os.path.exists(COMMAND):
+            anywhere(folder)
     print(f"walk_gdb: {stops} stops of {len(FLAGS)} programs have gdb's chain, up to {longest} frames; {signals} of them through a signal frame; the command names the functions at {asked}")
 
 
