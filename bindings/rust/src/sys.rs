@@ -73,6 +73,14 @@ pub(crate) struct Holder {
     pub place: u64,
 }
 
+/// What the walk over a recorded fault answers.
+#[repr(C)]
+pub(crate) struct Chain {
+    pub number: u64,
+    pub frames: u64,
+    pub ending: u64,
+}
+
 /// What the reader of x64 records answers.
 #[repr(C)]
 pub(crate) struct X64Reading {
@@ -298,6 +306,24 @@ extern "C" {
 
     pub(crate) fn unwind_record_of(section: *const u8, section_n: usize, kind: u64, word: u64, address: u64, pc: u64)
         -> Holder;
+
+    pub(crate) fn unwind_walk(
+        machine: *const u64,
+        machine_n: usize,
+        record: *const u8,
+        record_n: usize,
+        section: *const u8,
+        section_n: usize,
+        relocations: *const u64,
+        relocations_n: usize,
+        kind: u64,
+        pc: u64,
+        stack: u64,
+        functions: *const u64,
+        functions_n: usize,
+        frames: *mut u64,
+        frames_n: usize,
+    ) -> Chain;
 
     pub(crate) fn unwind_pack_functions(
         functions: *const Function,

@@ -17,14 +17,14 @@ use Rattle.format.specs.Writer.{isDebug, taken, Written, dwarf, partsFro
 use Rattle.format.specs.Questions.{Given, Room, givenFunctions, givenFunction, accepted}
 use Rattle.format.specs.Rules.{answer, rulesAt, seen}
 use Rattle.format.specs.RowCheck.{rowCheckAt}
-use Rattle.format.specs.Reader.{Entry, entries, readSection, read}
+use Rattle.format.specs.Reader.{Entry, entries, locate, readSection, read}
 use Rattle.format.proofs.Choice.{pick-yes}
 use Rattle.format.proofs.RowsRun.{runRows}
 use Rattle.format.proofs.ListLaws.{relocations-back}
 use Rattle.format.proofs.Accepted.{dwarfWritten, Accepted, accepted-is, taken-at, taken-size, taken-plain, taken-run, forward, check-at}
 use Rattle.format.proofs.CheckSays.{rules, refuses, Past}
 use Rattle.format.proofs.SectionTiles.{entriesOf, FieldsHold, fields-hold, section-tiles}
-use Rattle.format.proofs.SectionBack.{section-read}
+use Rattle.format.proofs.SectionBack.{LocatedBack, section-located, section-read}
 
 -- the reader's number of a section's kind: 0 eh, 1 debug
 abbrev pub kindOf : Section → ℕ
@@ -47,7 +47,7 @@ asked : (s : Section) (word : ℕ) → T (isWord word) → T (isWord word && leb
 asked Elf word h = yes-and (isWord word) true h tt
 asked Debug word h = yes-and (isWord word) true h tt
 
-same-kind : (s : Section) → eqb (kindOf s) 1 ≡ isDebug s
+pub same-kind : (s : Section) → eqb (kindOf s) 1 ≡ isDebug s
 unfolding isDebug
 same-kind Elf = refl
 same-kind Debug = refl
@@ -93,6 +93,14 @@ module _ (s : Section) (g : Given) (r : Room) (w : Written) (e : dwarfWritten s 
       ∙ rw (same-kind s, relocations-are, bytes-are)
       (section-read s m functions (a .machine) (a .functions) (a .bounded) k p (taken s f) (taken-at s g k h) (taken-plain s f plain) near
       ∙ taken-run s m f p))
+
+  -- The record of every function is located, and its header's signal mark is the function's.
+  pub located-written : (k : ℕ) → k < count functionStride (g .functions)
+      → LocatedBack (machineOf (g .machine)) (taken s (givenFunction g k)) (locate (isDebug s) (relocationsOf (numbersOf (w .relocations))) (machineOf (g .machine) .word) k (w .bytes))
+  unfolding machine functions
+  located-written k h =
+      rw (relocations-are, bytes-are)
+      (section-located s (machineOf (g .machine)) functions (a .machine) (a .functions) (a .bounded) k (taken s (givenFunction g k)) (taken-at s g k h))
 
   -- Where the row check says yes the run of the rows never refuses, and it comes to the rules at p.
   pub rules-given : (k p : ℕ) → k < count functionStride (g .functions) → T (rowCheckAt (g .functions) (g .rows) k)

@@ -7,7 +7,7 @@ use mathlib.Core.Option.{Option, none, some}
 use mathlib.Core.List.{List, [], _∷_, _++_, map}
 use lib.ListN.{length, replicate, getElem?}
 use lib.Dec.{T}
-use Rattle.format.specs.Prelude.{pick, after, good, onward, orElse}
+use Rattle.format.specs.Prelude.{pick, after, Result, good, onward, orElse}
 use Rattle.format.specs.declared.Machine.{Machine}
 use Rattle.format.specs.Rows.{rowsBytes, steppedBytes}
 use Rattle.format.specs.Lists.{Function, Relaxed, Relocation}
@@ -96,23 +96,46 @@ module _ (s : Section) (m : Machine) (fit : MachineFits m) (f : Function) (ok : 
       rw (if-le (suc p) (sizeField (f .size) (f .relaxed)), rows-back (m .word) p (blank .current .rules) (leading m f) a blank (leading-ok m f fit (ok .lines)))
       (onward-ext _ _ _ λ t. rows-at-back (m .word) p (t .current .rules) (others (f .rows)) b t (others-ok (m .word) (f .rows) (ok .lines)))
 
+-- what is located of a function's record: its header's signal mark is the function's, and the run of its operations is that of the rows
+pub record LocatedBack (m : Machine) (f : Function) (r : Result Found) : Type 0 where
+  pub found : Found
+  pub located : r ≡ good found
+  pub signal : found .header .signal ≡ f .signal
+  pub runs : (p : ℕ) → f .relaxed ≡ none → p < f .size → runTo (m .word) p found ≡ runRows m f p
+
+-- The record of every function that a section takes is located, whatever the other functions hold.
+pub section-located : (s : Section) (m : Machine) (fs : List Function) → MachineFits m → AllFit s m fs → Bounded fs
+    → (k : ℕ) (f : Function) → getElem? fs k ≡ some f
+    → LocatedBack m f
+    (locate (isDebug s) (joined (map (λ a. a .relocations) (partsFrom s m 0 0 [] fs))) (m .word) k (joined (map (λ a. a .bytes) (partsFrom s m 0 0 [] fs))))
+unfolding locate onward orElse after recordEntry whatFound
+section-located s m fs fit ok bound k f at-k =
+    let x : Spot = spotAt s m 0 [] fs k in
+    let h : Holds s m x f = record-holds s m fs fit ok bound k f at-k in
+    let head = header-found s m fs fit ok bound k f at-k in
+    let fits = fits-at s m fs k f ok at-k in
+    let fields = parsed-back s m fit f fits (head .0) (cieOf x) x h in
+    record {
+      found = whatFound s m fit f fits (fields .0) (fields .1);
+      located =
+          rw (
+            section-tiles s m fs fit ok bound,
+            record-found s m fs fit ok bound k f at-k,
+            place-found (isDebug s) _ (recordEntry s m x f) (cieOf x) (header-by-relocation s m fs fit ok bound k f at-k) (header-by-distance s m fs fit ok bound k f at-k),
+            head .1,
+          )
+          (fields .2);
+      signal = refl;
+      runs = λ p relaxed below. runTo-back s m fit f fits (fields .0) (fields .1) p relaxed below;
+    }
+
 -- For the functions that a section takes and a p below a function's length, reading what was written is running the rows.
 -- Whatever the other functions hold; only the function that is asked about has no relaxing labels.
 pub section-read : (s : Section) (m : Machine) (fs : List Function) → MachineFits m → AllFit s m fs → Bounded fs
     → (k p : ℕ) (f : Function) → getElem? fs k ≡ some f → f .relaxed ≡ none → p < f .size
     → readSection (isDebug s) (joined (map (λ a. a .relocations) (partsFrom s m 0 0 [] fs))) (m .word) k p (joined (map (λ a. a .bytes) (partsFrom s m 0 0 [] fs)))
     ≡ runRows m f p
-unfolding readSection locate onward orElse after recordEntry
+unfolding readSection onward
 section-read s m fs fit ok bound k p f at-k relaxed below =
-    let x : Spot = spotAt s m 0 [] fs k in
-    let h : Holds s m x f = record-holds s m fs fit ok bound k f at-k in
-    let head = header-found s m fs fit ok bound k f at-k in
-    let fields = parsed-back s m fit f (fits-at s m fs k f ok at-k) (head .0) (cieOf x) x h in
-    rw (
-      section-tiles s m fs fit ok bound,
-      record-found s m fs fit ok bound k f at-k,
-      place-found (isDebug s) _ (recordEntry s m x f) (cieOf x) (header-by-relocation s m fs fit ok bound k f at-k) (header-by-distance s m fs fit ok bound k f at-k),
-      head .1,
-      fields .2,
-    )
-    (runTo-back s m fit f (fits-at s m fs k f ok at-k) (fields .0) (fields .1) p relaxed below)
+    let r = section-located s m fs fit ok bound k f at-k in
+    rw (r .located) (r .runs p relaxed below)

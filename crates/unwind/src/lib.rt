@@ -238,7 +238,7 @@ pub fn word_in(machine: &[u64]) -> u64
 }
 
 // debug_frame's writer, or the other.
-fn write(
+pub fn write(
     debug: bool,
     machine: &[u64],
     format: u64,
