@@ -15,6 +15,7 @@ pub mod EntryBack
 pub mod FieldsBack
 pub mod HeaderBack
 pub mod RecordBack
+pub mod ShortBack
 pub mod Fits
 pub mod RulesSeen
 pub mod CheckSays

@@ -91,7 +91,7 @@ module _ (s : Section) (g : Given) (r : Room) (w : Written) (e : dwarfWritten s 
       (pick-yes _ (readSection (eqb (kindOf s) 1) (relocationsOf (numbersOf (w .relocations))) (m .word) k p (w .bytes)) (bad 11)
       (asked s (m .word) (a .machine .is-word))
       ∙ rw (same-kind s, relocations-are, bytes-are)
-      (section-read s m functions (a .machine) (a .functions) (a .bounded) k p (taken s f) (taken-at s g k h) (taken-plain s f plain) near
+      (section-read s m functions (a .machine) (a .functions) (a .bounded) k (taken s f) (taken-at s g k h) p (taken-plain s f plain) near
       ∙ taken-run s m f p))
 
   -- Where the row check says yes the run of the rows never refuses, and it comes to the rules at p.
