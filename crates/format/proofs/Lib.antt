@@ -1,6 +1,7 @@
 -- The laws of the definitions. What is claimed of the whole stands in ReadBack.
 pub mod Cases
 pub mod Examples
+pub mod ShortExamples
 pub mod Choice
 pub mod Registers
 pub mod LebBack

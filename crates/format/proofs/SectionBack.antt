@@ -7,7 +7,7 @@ use mathlib.Core.Option.{Option, none, some}
 use mathlib.Core.List.{List, [], _∷_, _++_, map}
 use lib.ListN.{length, replicate, getElem?}
 use lib.Dec.{T}
-use Rattle.format.specs.Prelude.{pick, after, good, onward, orElse}
+use Rattle.format.specs.Prelude.{pick, after, good, bad, onward, orElse}
 use Rattle.format.specs.declared.Machine.{Machine}
 use Rattle.format.specs.Rows.{rowsBytes, steppedBytes}
 use Rattle.format.specs.Lists.{Function, Relaxed, Relocation}
@@ -32,7 +32,7 @@ use Rattle.format.proofs.Leading.{others-ok, leading-ok}
 use Rattle.format.proofs.Parts.{headerBody, recordBody, Spot, cieOf, placeOf}
 use Rattle.format.proofs.SectionSize.{header-ok}
 use Rattle.format.proofs.SectionTiles.{headerEntry, recordEntry, Holds, section-tiles}
-use Rattle.format.proofs.SectionFinds.{spotAt, record-holds, record-found, header-found, header-by-distance, header-by-relocation}
+use Rattle.format.proofs.SectionFinds.{spotAt, record-missing, record-holds, record-found, header-found, header-by-distance, header-by-relocation}
 
 size-bytes : (s : Section) (word : ℕ) → pick (isDebug s) word 4 ≡ sizeBytes s word
 unfolding isDebug sizeBytes pick
@@ -146,3 +146,10 @@ module _ (s : Section) (m : Machine) (fs : List Function) (fit : MachineFits m) 
       ≡ true
   unfolding shortestOf
   section-shortest p = rw (located .2) (shortestTo-back s m fit f (fits-at s m fs k f ok at-k) (located .0) (located .1) p)
+
+-- Past the functions no record is found.
+pub section-past : (s : Section) (m : Machine) (fs : List Function) → MachineFits m → AllFit s m fs → Bounded fs → (k p : ℕ) → getElem? fs k ≡ none
+    → readSection (isDebug s) (joined (map (λ a. a .relocations) (partsFrom s m 0 0 [] fs))) (m .word) k p (joined (map (λ a. a .bytes) (partsFrom s m 0 0 [] fs)))
+    ≡ bad 62
+unfolding readSection locate onward orElse
+section-past s m fs fit ok bound k p past = rw (section-tiles s m fs fit ok bound, record-missing s m fs fit ok bound k past)
