@@ -89,7 +89,7 @@ module _ (s : Section) (m : Machine) (fit : MachineFits m) (f : Function) (ok : 
           padded-behind,
           record-back (isDebug s) (m .word) d (pointerIn (isDebug s) (m .word) (kindFor (f .landings) (f .named))) f _ (h .distance) hs
               (pointer-within (isDebug s) (m .word) (f .landings) (f .named)) (omega (arith, blank-small (m .word) (f .landings) (f .named) (w .1))),
-          record-shortest (isDebug s) (m .word) d f _ (h .distance) hs (omega (arith, blank-small (m .word) (f .landings) (f .named) (w .1))),
+          record-shortest (isDebug s) (m .word) d f _ (omega (arith, blank-small (m .word) (f .landings) (f .named) (w .1))),
         ),
       )
 

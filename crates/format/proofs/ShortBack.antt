@@ -11,7 +11,7 @@ use lib.Dec.{T, ltb→lt}
 use lib.IntN.{ℤ, pos, negsuc}
 use borrow.Author.Tests.{eq-eqb}
 use Rattle.format.specs.Prelude.{pick, next}
-use Rattle.format.specs.Leb.{uleb, sleb, fits64}
+use Rattle.format.specs.Leb.{little, uleb, sleb, fits64}
 use Rattle.format.specs.declared.Machine.{Machine}
 use Rattle.format.specs.declared.Row.{Row}
 use Rattle.format.specs.declared.Row.the-variants.{DefCfa, DefCfaOffset, DefCfaRegister, Offset, Restore, Undefined, RememberState, RestoreState, NegateRaState, SameValue, InRegister}
@@ -19,16 +19,16 @@ use Rattle.format.specs.declared.Operation.{Operation}
 use Rattle.format.specs.declared.Operation.the-variants.{Nop, Step, Does}
 use Rattle.format.specs.Rows.{RowAt, factor, cfaBytes, withRegister, savedBytes, rowBytes, stepIn, stepBytes, stepForm, steppedBytes, rowsBytes, readOperation, readExtended, kindOf, regOf, offsetOf}
 use Rattle.format.specs.Lists.{Function}
-use Rattle.format.specs.Headers.{Kind, Key, counted, augmentationData, headerData, headerId, dataFactor, headerFields}
-use Rattle.format.specs.Records.{sizeField, lsdaBlank, recordFields}
-use Rattle.format.specs.Reader.{readByte, headerNumbers, markAfter, headerShort, recordShort}
+use Rattle.format.specs.Headers.{Kind, Key, counted, augmentationData, headerData, dataFactor, headerFields}
+use Rattle.format.specs.Records.{lsdaBlank, recordFields}
+use Rattle.format.specs.Reader.{headerNumbers, markAfter, headerShort, recordShort}
 use Rattle.format.specs.Shortest.{Number, unsigned, signed, shortest, readMark, marked, numbersShort, extendedOperands, operandsOf, operationShort, behind, whileRead, runShortF, runShort}
 use Rattle.format.proofs.Choice.{if-le, if-gt, if-ne, either}
-use Rattle.format.proofs.LebBack.{little-back, uleb-back, sleb-back}
+use Rattle.format.proofs.LebBack.{uleb-back, sleb-back}
 use Rattle.format.proofs.RowBack.{Off32, RowFits, otherOf, factor-fits, row-back, shortest-holds, steps-back, step-none}
 use Rattle.format.proofs.WalkBack.{Reads, RowsOk, RowsAtOk}
-use Rattle.format.proofs.FieldsBack.{word-small, blank-back}
-use Rattle.format.proofs.HeaderBack.{HeaderOk, letters-back, data-short, factor-fits as factor-in, id-small}
+use Rattle.format.proofs.FieldsBack.{word-small}
+use Rattle.format.proofs.HeaderBack.{HeaderOk, letters-back, data-short, factor-fits as factor-in}
 
 -- ---- one number
 
@@ -220,24 +220,19 @@ data-shortest true word kind ops h = no-more ops
 data-shortest false word kind ops h = counted-shortest (augmentationData word kind) ops (omega (arith, data-short word kind h))
 
 pub header-shortest : (debug : Bool) (m : Machine) (k : Key) (ops : List ℕ) → HeaderOk debug m k → headerShort debug (headerFields debug m k ++ ops) ≡ true
-unfolding headerShort headerFields headerNumbers markAfter readByte
+unfolding headerShort headerFields headerNumbers markAfter little
 header-shortest debug m k ops ok =
     let w : (0 < m .word) × (m .word ≤ 8) = word-small (m .word) (ok .is-word) in
     simp append-assoc
-    (rw (little-back 4 (headerId debug) _ (id-small debug), letters-back debug k)
+    (rw (letters-back debug k)
     (unsigned-then _ _ 1 (omega arith)
     ∙ signed-then _ _ (dataFactor (m .word)) (factor-in (m .word) (ok .is-word))
     ∙ unsigned-then _ _ (m .ret) (omega (arith, ok .ret-small))
     ∙ data-shortest debug (m .word) (k .kind) ops (w .1)))
 
-pub record-shortest : (debug : Bool) (word distance : ℕ) (f : Function) (ops : List ℕ)
-    → distance < 2 ^ 32 → sizeField (f .size) (f .relaxed) < 256 ^ pick debug word 4 → lsdaBlank word (f .landings) (f .named) < 2 ^ 64
-    → recordShort debug word (recordFields debug word distance f ++ ops) ≡ true
-unfolding recordShort recordFields markAfter pick
-record-shortest true word distance f ops hd hs hl =
-    simp append-assoc
-    (rw (little-back 4 0 _ (omega arith), blank-back word, little-back word (sizeField (f .size) (f .relaxed)) ops hs) (no-more ops))
-record-shortest false word distance f ops hd hs hl =
-    simp append-assoc
-    (rw (little-back 4 distance _ (omega arith), blank-back 4, little-back 4 (sizeField (f .size) (f .relaxed)) _ (omega arith))
-    (counted-shortest (replicate (lsdaBlank word (f .landings) (f .named)) 0) ops (rw (length-replicate {A = ℕ} (lsdaBlank word (f .landings) (f .named)) 0) hl)))
+pub record-shortest : (debug : Bool) (word distance : ℕ) (f : Function) (ops : List ℕ) → lsdaBlank word (f .landings) (f .named) < 2 ^ 64
+    → recordShort debug (recordFields debug word distance f ++ ops) ≡ true
+unfolding recordShort recordFields little pick
+record-shortest true word distance f ops h = no-more _
+record-shortest false word distance f ops h =
+    counted-shortest (replicate (lsdaBlank word (f .landings) (f .named)) 0) ops (rw (length-replicate {A = ℕ} (lsdaBlank word (f .landings) (f .named)) 0) h)

@@ -5,10 +5,10 @@ use mathlib.Core.Bool.{Bool, true, false}
 use mathlib.Core.Option.{none, some}
 use mathlib.Core.List.{List, [], _∷_, map}
 use Rattle.format.specs.Prelude.{pick, Read, next}
-use Rattle.format.specs.Leb.{readLittle, ulebF, uleb, bits7, slebF, sleb, readUlebF, readUleb, push, last7, readSlebF, fits64, readSleb}
+use Rattle.format.specs.Leb.{ulebF, uleb, bits7, slebF, sleb, readUlebF, readUleb, push, last7, readSlebF, fits64, readSleb}
 use Rattle.format.specs.Rows.{unfactor, readRegister, inRange, readOffset, readFactored, readSigned, one, two, readExtended, readOperation}
 use Rattle.format.specs.Shortest.{unsigned, signed, shortest, readMark, marked, numbersShort, everyShortF, everyShort, extendedOperands, operandsOf, operationShort, behind, whileRead, runShortF, runShort}
-use Rattle.format.specs.Reader.{strip, spelled, spellings, spellOr, readLetters, readByte, headerNumbers, markAfter, headerShort, recordShort}
+use Rattle.format.specs.Reader.{strip, spelled, spellings, spellOr, readLetters, headerNumbers, markAfter, headerShort, recordShort}
 
 -- 1 and 128, 1 in two bytes and in three; -1 and 64, -1 and 64 padded
 unsigned-examples : map (readMark unsigned) ((1 ∷ []) ∷ (0x80 ∷ 1 ∷ []) ∷ (0x81 ∷ 0 ∷ 7 ∷ []) ∷ (0x81 ∷ 0x80 ∷ 0 ∷ []) ∷ (0x81 ∷ []) ∷ [])
@@ -34,14 +34,14 @@ header-examples : map (headerShort false)
     ∷ (0 ∷ 0 ∷ 0 ∷ 0 ∷ 1 ∷ 0x7a ∷ 0x52 ∷ 0 ∷ 1 ∷ 0x78 ∷ 0x90 ∷ 0 ∷ 1 ∷ 0x1b ∷ [])
     ∷ (0 ∷ 0 ∷ 0 ∷ 0 ∷ 1 ∷ 0x7a ∷ 0x52 ∷ 0 ∷ 1 ∷ 0x78 ∷ 16 ∷ 0x81 ∷ 0 ∷ 0x1b ∷ []) ∷ [])
     ≡ true ∷ false ∷ false ∷ false ∷ false ∷ []
-unfolding headerShort headerNumbers markAfter readLittle readByte readLetters spellings spelled spellOr strip numbersShort marked readMark shortest readUleb readUlebF uleb ulebF readSleb readSlebF push last7 fits64 sleb slebF bits7 next pick
+unfolding headerShort headerNumbers markAfter readLetters spellings spelled spellOr strip numbersShort marked readMark shortest readUleb readUlebF uleb ulebF readSleb readSlebF push last7 fits64 sleb slebF bits7 next pick
 header-examples = refl
 
 -- a record of eh_frame, its augmentation length 0 in one byte and in two; debug_frame's has none
-record-examples : map (recordShort false 8)
+record-examples : map (recordShort false)
     ((0x18 ∷ 0 ∷ 0 ∷ 0 ∷ 0 ∷ 0 ∷ 0 ∷ 0 ∷ 6 ∷ 0 ∷ 0 ∷ 0 ∷ 0 ∷ []) ∷ (0x18 ∷ 0 ∷ 0 ∷ 0 ∷ 0 ∷ 0 ∷ 0 ∷ 0 ∷ 6 ∷ 0 ∷ 0 ∷ 0 ∷ 0x80 ∷ 0 ∷ []) ∷ [])
     ≡ true ∷ false ∷ []
-unfolding recordShort markAfter readLittle numbersShort marked readMark shortest readUleb readUlebF uleb ulebF next pick
+unfolding recordShort numbersShort marked readMark shortest readUleb readUlebF uleb ulebF next pick
 record-examples = refl
 
 -- the entries of a table: a site, and the same with its pad of 0 in two bytes

@@ -181,9 +181,9 @@ parseRecord debug word pointer bs =
     next (readLittle 4 bs) λ id r₀. next (readLittle n r₀) λ place r₁. next (readLittle n r₁) λ size r₂.
     recordTail debug pointer size r₂
 
--- ---- whether their numbers are spelled shortest (document 02, W-206); where a field in front cannot be read nothing is asked
+-- ---- whether their numbers are spelled shortest (document 02, W-206), asked where the fields are accepted
 
--- the fields that are LEB numbers: both factors, the return address register and, in eh_frame, the length of the augmentation data
+-- a header's: both factors, the return address register and, in eh_frame, the length of the augmentation data
 unfoldable pub headerNumbers : (debug : Bool) → List Number
 headerNumbers debug = unsigned ∷ signed ∷ unsigned ∷ pick debug [] (unsigned ∷ [])
 
@@ -191,17 +191,13 @@ unfoldable pub markAfter : {A : Type 0} → Read A → (List ℕ → Bool) → B
 markAfter none k = false
 markAfter (some x) k = k (x .1)
 
+-- they follow the string, which stands behind the id and the version
 unfoldable pub headerShort : (debug : Bool) → List ℕ → Bool
-headerShort debug bs =
-    markAfter (readLittle 4 bs) λ r₀. markAfter (readByte r₀) λ r₁. markAfter (readLetters (spellings debug) r₁) λ r₂.
-    numbersShort (headerNumbers debug) r₂
+headerShort debug bs = markAfter (readLetters (spellings debug) (drop 5 bs)) (numbersShort (headerNumbers debug))
 
--- a record's is the length of its augmentation, in eh_frame
-unfoldable pub recordShort : (debug : Bool) → (word : ℕ) → List ℕ → Bool
-recordShort debug word bs =
-    let n : ℕ = pick debug word 4 in
-    markAfter (readLittle 4 bs) λ r₀. markAfter (readLittle n r₀) λ r₁. markAfter (readLittle n r₁) λ r₂.
-    numbersShort (pick debug [] (unsigned ∷ [])) r₂
+-- a record's: in eh_frame the length of its augmentation, behind three fields of 4 bytes
+unfoldable pub recordShort : (debug : Bool) → List ℕ → Bool
+recordShort debug bs = numbersShort (pick debug [] (unsigned ∷ [])) (drop 12 bs)
 
 -- ---- the run of the operations (66 to 69)
 
@@ -238,7 +234,7 @@ unfoldable pub parsed : (debug : Bool) → ℕ → (header found : Entry) → Re
 parsed debug word h e =
     onward (orElse (parseHeader debug word (h .body)) 64) λ hf.
     onward (orElse (parseRecord debug word (hf .pointer) (e .body)) 64) λ rf.
-    good (record { header = hf; found = rf; shortest = headerShort debug (h .body) && recordShort debug word (e .body) })
+    good (record { header = hf; found = rf; shortest = headerShort debug (h .body) && recordShort debug (e .body) })
 
 unfoldable pub locate : (debug : Bool) → List Relocation → (word k : ℕ) → List ℕ → Result Found
 locate debug rs word k section =

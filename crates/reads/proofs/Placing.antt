@@ -95,6 +95,7 @@ numbered l =
       pointer = l .pointer;
       signal = bit (l .signal);
       word = l .word;
+      shortest = bit (l .shortest);
     }
 
 pub end-in : (s : List ℕ) (at end : ℕ) → at + 8 ≤ end → end ≤ length s → endOf (entryIn s at end) ≡ end
