@@ -10,6 +10,6 @@ pub both-marked : {r t : Reading} {a b : Bool} → r ≡ t → a ≡ b → marke
 both-marked e f = rw (e, f)
 
 -- a refusal has no mark, whatever its numbers were
-pub refused-marked : {n : ℕ} {r : Reading} {b : Bool} → Refused n ≡ r → markedNumbers (Refused n) false ≡ markedNumbers r b
+pub refused-marked : {n : ℕ} {r : Reading} (b : Bool) → Refused n ≡ r → markedNumbers (Refused n) false ≡ markedNumbers r b
 unfolding markedNumbers markOf
-refused-marked e = rw (← e)
+refused-marked b e = rw (← e)

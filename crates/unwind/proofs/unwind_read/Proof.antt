@@ -36,7 +36,7 @@ returns c =
 returns-2 : tie.Need-returns-2
 returns-2 c =
     c .numbers-of2 .ensures
-    ∙ refused-marked (refused-read _ _ _ _ _ _ _ (place-refused _ _ (c .before .before .n .given .1) (c .before .before .before .before .locate .ensures)))
+    ∙ refused-marked _ (refused-read _ _ _ _ _ _ _ (place-refused _ _ (c .before .before .n .given .1) (c .before .before .before .before .locate .ensures)))
 
 pub unwind-read-spec : {M : Type 1} → statement M
 unwind-read-spec =
