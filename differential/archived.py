@@ -53,7 +53,7 @@ def lengths(section):
 
 def line_of(answers):
     """What one record says at one offset, as a line."""
-    number, frame, register, offset, _, _, signing, _ = answers[0]
+    number, frame, register, offset, _, _, signing = answers[0]
     if number:
         return f"refused {number}"
     rules = "".join(f", register {q} {a[4]} {a[5]}" for q, a in zip(REGISTERS, answers) if a[4])
