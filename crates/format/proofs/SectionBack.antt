@@ -129,7 +129,7 @@ module _ (s : Section) (m : Machine) (fs : List Function) (fit : MachineFits m) 
           place-found (isDebug s) _ (recordEntry s m x f) (cieOf x) (header-by-relocation s m fs fit ok bound k f at-k) (header-by-distance s m fs fit ok bound k f at-k),
           head .1,
         )
-        (fields .2),
+            (fields .2),
       )
 
   -- Where the function that is asked about has no relaxing labels, and for a p below its length, reading what was written is running the rows.
