@@ -146,7 +146,7 @@ module _ (s : Section) (g : Given) (r : Room) (w : Written) (e : dwarfWritten s 
   unfolding machine functions answer
   shortest-by k q p none e r said =
       let z : Refused 62 ≡ Answered r
-          = sym (read-in k q p ∙ ap (answer q) (section-past s machine functions (a .machine) (a .functions) (a .bounded) k p e)) ∙ said in
+      = sym (read-in k q p ∙ ap (answer q) (section-past s machine functions (a .machine) (a .functions) (a .bounded) k p e)) ∙ said in
       let o : _≡_ {A = ℕ} 0 1 = cc in absurd (omega arith)
   shortest-by k q p (some f) e r said = located-in k p ∙ section-shortest s machine functions (a .machine) (a .functions) (a .bounded) k f e p
 

@@ -4,7 +4,6 @@ ghost use mathlib.Core.Path.{_≡_};
 ghost use Rattle.format.specs.Machine.{isWord};
 ghost use Rattle.format.specs.Reader.{read};
 ghost use Rattle.reader.specs.Finds.{Locates, locateIn, inSection, rulesFrom, shortestFrom};
-
 use crate::location::Located;
 use crate::location::Locating;
 use format::Reading;
