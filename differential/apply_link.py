@@ -180,7 +180,7 @@ def rows_of(whole):
 
 
 def read_text(reading):
-    number, frame, register, offset, rule, value, _ = reading
+    number, frame, register, offset, rule, value, *_ = reading
     signed = lambda n: n - 2**64 if n >> 63 else n
     if number or not frame:
         return None, None

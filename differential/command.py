@@ -88,6 +88,21 @@ def raw():
     assert "alignment factor" in run("dump", "-", stdin=section.replace(b"\1\x78\x10", b"\4\x78\x10"))[0]
 
 
+def spellings():
+    """DW_CFA_def_cfa_offset 16 spelled in two bytes: told from the step on that it stands behind."""
+    long = CIE + FDE[:-7] + bytes.fromhex("410e9000860200")
+    for section, said in ((CIE + FDE, False), (long, True)):
+        for p, there in ((0, False), (1, said)):
+            words = ["rules", "-", "--record=0", f"--at={p}"]
+            assert ("long spellings" in run(*words, stdin=section)[0]) == there, (said, p)
+            assert json.loads(run(*words, "--json", stdin=section)[0])["shortest"] != there, (said, p)
+        assert ("record 0, long spellings\n" in run("dump", "-", stdin=section)[0]) == said
+        entry = json.loads(run("dump", "-", "--json", stdin=section)[0])["entries"][1]
+        assert entry["long_spellings"] == said, entry
+        assert ("1 record has long spellings" in run("check", "-", stdin=section)[0]) == said
+        assert json.loads(run("check", "-", "--json", stdin=section)[0])["long_spellings"]["count"] == said
+
+
 def debug():
     """debug_frame: 63 without relocations, by the field with --linked."""
     cie = bytes.fromhex("0c000000 ffffffff 01 00 01 78 10 0c0708".replace(" ", ""))
@@ -257,12 +272,12 @@ def example():
 
 def main():
     os.makedirs(OUT, exist_ok=True)
-    for test in (usage, files, raw, debug, call_sites, x64, objects, proportion, walk, example):
+    for test in (usage, files, raw, spellings, debug, call_sites, x64, objects, proportion, walk, example):
         try:
             test()
         except AssertionError as why:
             sys.exit(f"command: {test.__name__}: {why}")
-    print("command: usage, files, raw bytes, debug_frame, call sites, x64 records, an object of gcc, a long record, the walk and the example are as they should be")
+    print("command: usage, files, raw bytes, long spellings, debug_frame, call sites, x64 records, an object of gcc, a long record, the walk and the example are as they should be")
 
 
 if __name__ == "__main__":

@@ -3,7 +3,7 @@
  *     section HEX
  *     relocations N N ..
  *     locate KIND WORD K
- *     rules REGISTER P and the nine numbers of an unwind_located
+ *     rules REGISTER P and the ten numbers of an unwind_located
  *     index KIND WORD ROOM        the answer, and the lent list with one element behind it
  *     at KIND WORD RECORD HEADER
  *     function KIND WORD ADDRESS RECORD

@@ -41,12 +41,13 @@ def entry_at(section, at):
 
 
 def fields(kind, word, header, record):
-    pointer, first = header_fields(header[1], kind, word)
-    length, rest = record_fields(record[1], kind, word, pointer)
+    spelled = []
+    pointer, first = header_fields(header[1], kind, word, spelled)
+    length, rest = record_fields(record[1], kind, word, pointer, spelled)
     ends = [at + 4 + len(body) for at, body in (header, record)]
     text = header[1][5 : header[1].index(0, 5)]
     signal = int(text.endswith(b"S"))
-    return [0, ends[0] - len(first), ends[0], ends[1] - len(rest), ends[1], length, pointer, signal, word]
+    return [0, ends[0] - len(first), ends[0], ends[1] - len(rest), ends[1], length, pointer, signal, word, int(all(spelled))]
 
 
 def records_of(section, kind):
@@ -113,7 +114,7 @@ def holder(section, relocations, kind, word, address, pc):
     raise Refused(62)
 
 
-JUDGES = {"locate": (locate, 8), "at": (at, 8), "function": (function, 2), "holder": (holder, 2)}
+JUDGES = {"locate": (locate, 9), "at": (at, 9), "function": (function, 2), "holder": (holder, 2)}
 
 
 def expected(section, relocations, ask):
@@ -243,17 +244,17 @@ def from_places(kind, word, section, relocations, rng):
         try:
             located = locate(section, relocations, kind, word, k)
         except Refused as no:
-            located = [no.number] + [0] * 8
+            located = [no.number] + [0] * 9
         for register in (6, 7, 16):
             p = rng.choice([0, 1, 3, 8, 250])
             yield ("rules", register, p, *located), read(section, relocations, kind, word, k, register, p)
         if located[0] == 0:
             off = list(located)
             off[rng.choice([2, 4])] = rng.choice([len(section) + 1, NOWHERE])
-            yield ("rules", 6, 0, *off), [64] + [0] * 6
+            yield ("rules", 6, 0, *off), [64] + [0] * 7
             off = list(located)
             off[8] = rng.choice([0, 3, 16])
-            yield ("rules", 6, 0, *off), [64] + [0] * 6
+            yield ("rules", 6, 0, *off), [64] + [0] * 7
 
 
 def compare(asks, counts):

@@ -129,9 +129,10 @@ uint64_t unwind_row_check(const uint64_t *functions, size_t functions_n, const u
 
 /* What the reader answers: `number` is 0, or the question's. frame: 0 none, 1 register plus offset. rule: 0 unstated,
  * 1 undefined, 2 saved at the frame address plus rule_value, 3 same value, 4 in the register rule_value. Offsets are 64-bit two's
- * complement. A field without meaning is 0. */
+ * complement. shortest: 1 where every LEB number that was read for the answer is spelled in as few bytes as can be: those among the
+ * fields of the header and of the record, and those of their operations up to the step that passes p. A field without meaning is 0. */
 typedef struct {
-    uint64_t number, frame, frame_register, frame_offset, rule, rule_value, signing;
+    uint64_t number, frame, frame_register, frame_offset, rule, rule_value, signing, shortest;
 } unwind_reading;
 
 /* The rules of record k at offset p of its function, for one register. kind: 0 eh_frame, 1 debug_frame. */
@@ -140,9 +141,10 @@ unwind_reading unwind_read(
     uint64_t kind, uint64_t word, uint64_t k, uint16_t reg, uint64_t p);
 
 /* What the reader of call sites answers: `number` is 0, or the question's (71, then 72). found: 1 where an entry covers the offset, else
- * 0. A pad of 0 is no handler. All are 0 on a refusal, and where no entry covers the offset. */
+ * 0. A pad of 0 is no handler. shortest: 1 where the table's length and every number of its entries are spelled in as few bytes as can
+ * be. All are 0 on a refusal, and all but shortest where no entry covers the offset. */
 typedef struct {
-    uint64_t number, found, start, length, pad;
+    uint64_t number, found, start, length, pad, shortest;
 } unwind_site;
 
 /* The first site, in table order, of the table at a place of the call sites that covers a code offset: its start is at most the offset, and
@@ -153,9 +155,10 @@ unwind_site unwind_call_site(const uint8_t *sites, size_t sites_n, uint64_t plac
 /* ---- the reader by places: one pass over a section for several questions */
 
 /* Where the operations of a record and of its header are (from, and up to), the function's length, the bytes of a record's pointer to
- * call sites, the header's signal mark, and the word. `number` is 0, or the question's; all else is 0 then. */
+ * call sites, the header's signal mark, the word, and whether the LEB numbers among the fields of both are spelled shortest (1 or 0).
+ * `number` is 0, or the question's; all else is 0 then. */
 typedef struct {
-    uint64_t number, header, header_end, record, record_end, length, pointer, signal, word;
+    uint64_t number, header, header_end, record, record_end, length, pointer, signal, word, shortest;
 } unwind_located;
 
 /* Record k: 11, 61 to 64. */

@@ -230,7 +230,11 @@ impl<'a> Listing<'a> {
             let end = self.fitted(start.wrapping_add(length));
             out.text(" pc=").hex(start, self.width()).text("..").hex(end, self.width());
         }
-        out.text(" record ").decimal(k as u64).line();
+        out.text(" record ").decimal(k as u64);
+        if view.found.as_ref().is_ok_and(|found| found.located.long()) {
+            out.text(", long spellings");
+        }
+        out.line();
         let found = match view.found {
             Ok(found) => found,
             Err(fault) => return refused(out, fault),

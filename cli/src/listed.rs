@@ -97,6 +97,8 @@ fn record(out: &mut Out, listing: &mut Listing<'_>, k: usize) {
     match view.found {
         Err(fault) => refused(out, fault),
         Ok(found) => {
+            out.text(", ");
+            json::mark(out, "long_spellings", found.located.long());
             listed_operations(out, listing, found.spans.record.clone());
             rows(out, listing, &found.spans, start);
         }

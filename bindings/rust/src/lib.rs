@@ -52,4 +52,4 @@ pub use question::Question;
 pub use reads::{AllRules, FrameSection, Holder, Located, Placed, Record};
 pub use refusal::Refusal;
 pub use types::*;
-pub use write::{apply, call_site, read, read_x64, relaxed_debug_frame, relaxed_table, row_check, seh, Table};
+pub use write::{apply, call_site, call_sites_shortest, read, read_x64, relaxed_debug_frame, relaxed_table, row_check, seh, Table};

@@ -208,7 +208,7 @@ pub(crate) fn rules(r: &sys::Reading) -> Result<Rules, Refusal> {
         3 => Rule::SameValue,
         _ => Rule::InRegister(r.rule_value as u16),
     };
-    Ok(Rules { frame, rule, signing: r.signing != 0 })
+    Ok(Rules { frame, rule, signing: r.signing != 0, shortest: r.shortest != 0 })
 }
 
 /// The first site of the table at a place of the call sites that covers a code offset, or `None` where no entry does.
@@ -220,8 +220,21 @@ pub fn call_site(sites: &[u8], place: u64, offset: u64) -> Result<Option<Site>, 
     let r = unsafe { sys::unwind_call_site(sites.as_ptr(), sites.len(), place, offset) };
     match (r.number, r.found) {
         (0, 0) => Ok(None),
-        (0, _) => Ok(Some(Site { start: r.start, length: r.length, pad: r.pad })),
+        (0, _) => Ok(Some(Site { start: r.start, length: r.length, pad: r.pad, shortest: r.shortest != 0 })),
         (number, _) => Err(Refusal { number, position: 0 }),
+    }
+}
+
+/// Whether every number of the table at a place of the call sites is spelled in as few bytes as can be.
+///
+/// # Errors
+/// The question that was answered by no: 71 or 72.
+pub fn call_sites_shortest(sites: &[u8], place: u64) -> Result<bool, Refusal> {
+    // SAFETY: pointer and count come from one slice, so they are valid and aligned. The function takes every number.
+    let r = unsafe { sys::unwind_call_site(sites.as_ptr(), sites.len(), place, 0) };
+    match r.number {
+        0 => Ok(r.shortest != 0),
+        number => Err(Refusal { number, position: 0 }),
     }
 }
 

@@ -81,6 +81,8 @@ pub struct AllRules {
     pub frame: Frame,
     /// Whether the return address is signed there.
     pub signing: bool,
+    /// Whether every LEB number that was read for the answer is spelled in as few bytes as can be.
+    pub shortest: bool,
     /// The registers by their DWARF numbers, in order. Any other has no rule.
     pub registers: Vec<(u16, Rule)>,
 }
@@ -231,6 +233,7 @@ impl<'a> Located<'a> {
             pointer: 0,
             signal: 0,
             word: word.bytes(),
+            shortest: 1,
         };
         Located { bytes, word, places }
     }
@@ -245,6 +248,20 @@ impl<'a> Located<'a> {
     #[must_use]
     pub const fn signal(&self) -> bool {
         self.places.signal == 1
+    }
+
+    /// Whether the LEB numbers among the fields of the record and of its header are spelled in as few bytes as can be.
+    #[must_use]
+    pub const fn shortest(&self) -> bool {
+        self.places.shortest == 1
+    }
+
+    /// Whether the record can be read to the last offset of its function, and a number of it or of its header takes more bytes than it
+    /// needs.
+    #[must_use]
+    pub fn long(&self) -> bool {
+        let last = self.places.length.wrapping_sub(1);
+        self.rules(0, last).is_ok_and(|rules| !rules.shortest)
     }
 
     /// The rules at offset `p` of the function, for one register (a DWARF number): what [`crate::read`] answers.
@@ -274,7 +291,7 @@ impl<'a> Located<'a> {
     /// # Ok::<(), dekvoz::Refusal>(())
     /// ```
     pub fn all(&self, p: u64) -> Result<AllRules, Refusal> {
-        let Rules { frame, signing, .. } = self.rules(0, p)?;
+        let Rules { frame, signing, shortest, .. } = self.rules(0, p)?;
         let mut named = BTreeSet::new();
         for range in [self.places.header..self.places.header_end, self.places.record..self.places.record_end] {
             let found = operations(self.bytes, range, self.word).map_while(Result::ok);
@@ -284,6 +301,6 @@ impl<'a> Located<'a> {
         for register in named {
             registers.push((register, self.rules(register, p)?.rule));
         }
-        Ok(AllRules { frame, signing, registers })
+        Ok(AllRules { frame, signing, shortest, registers })
     }
 }

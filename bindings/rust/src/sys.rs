@@ -23,6 +23,7 @@ pub(crate) struct Reading {
     pub rule: u64,
     pub rule_value: u64,
     pub signing: u64,
+    pub shortest: u64,
 }
 
 /// What the reader of call sites answers.
@@ -33,6 +34,7 @@ pub(crate) struct Site {
     pub start: u64,
     pub length: u64,
     pub pad: u64,
+    pub shortest: u64,
 }
 
 /// Where the operations of a record and of its header are.
@@ -48,6 +50,7 @@ pub(crate) struct Located {
     pub pointer: u64,
     pub signal: u64,
     pub word: u64,
+    pub shortest: u64,
 }
 
 /// How many records there are.

@@ -190,12 +190,20 @@ pub fn read(
 /// let function = Function { landings: &landings, ..Function::new(16, 30, &[]) };
 /// let table = relaxed_table(&Machine::X86_64, Format::Elf, &[function])?;
 /// let pointer = table.relocations.iter().find(|r| r.symbol == 1).unwrap();
-/// assert_eq!(call_site(&table.sites, pointer.addend, 9)?, Some(Site { start: 4, length: 6, pad: 20 }));
+/// assert_eq!(call_site(&table.sites, pointer.addend, 9)?, Some(Site { start: 4, length: 6, pad: 20, shortest: true }));
 /// assert_eq!(call_site(&table.sites, pointer.addend, 10)?, None);
 /// # Ok::<(), dekvoz::Refusal>(())
 /// ```
 pub fn call_site(sites: &[u8], place: u64, offset: u64) -> Result<Option<Site>, Refusal> {
     lists::call_site(sites, place, offset)
+}
+
+/// Whether every number of the table at a place of the call sites, its length and its entries', is spelled in as few bytes as can be.
+///
+/// # Errors
+/// The question that was answered by no: 71 or 72.
+pub fn call_sites_shortest(sites: &[u8], place: u64) -> Result<bool, Refusal> {
+    lists::call_sites_shortest(sites, place)
 }
 
 /// The codes of a record are at most as many as its slots.
