@@ -120,7 +120,7 @@ module _ {word q : ℕ} {s : List ℕ} {x y u v : ℕ} {old : List ℕ} where
           first-is = ap (λ (r : one.Run). r .current .rule) (b .seen);
           all = b .all;
           seen = b .seen;
-          told = told-since (rw p (rw (one-entry word (part s x y) (part s u v) loc (b .all) left l (b .high)) at (b .told)));
+          told = told-since {old = old} (rw p (rw (one-entry word (part s x y) (part s u v) loc (b .all) left l (b .high)) at (b .told)));
           room = rw p (omega (arith, b .room, enter-room left s (part s x y) u v l (b .high)));
         }
 

@@ -4,3 +4,5 @@ pub mod Telling
 pub mod Doing
 pub mod Stacking
 pub mod Both
+pub mod Asking
+pub mod AtOffset

@@ -1,55 +1,43 @@
+-- `listing::unwind_rules_along` meets its contract.
+use mathlib.Core.Path.{sym, _∙_}
+use borrow.Author.Tests.{not-true, not-false}
+use Rattle.listing.proofs.Asking.{unlocated, outside, short, asked, listed, in-order}
 use borrow.Author.Needs.{needs}
 use Rattle.listing.proofs.unwind_rules_along.Statement.{statement}
 use Rattle.listing.proofs.unwind_rules_along.Tie as tie
-use Rattle.listing.proofs.unwind_rules_along.Reads as reads
-use Rattle.listing.proofs.unwind_rules_along.Lts as lts
-use Rattle.listing.proofs.in_section.Reads as in-section-reads
-use Rattle.listing.proofs.run.fill.Reads as fill-reads
-use Rattle.listing.proofs.unlisted.Reads as unlisted-reads
 
--- src/lib.rt:62:9
 unlisted-requires : tie.Need-unlisted-requires
 unlisted-requires c κs = search needs
 
--- src/lib.rt:62:9
 returns : tie.Need-returns
-returns c = ?
+returns c = rw (c .unlisted .ensures) (unlocated (c .before .before .before .before .before .args .section .now) (c .before .before .before .before .before .args .located) (c .before .before .before .before .before .args .q) (c .before .before .before .before .before .args .lines .now) (c .before .if1 .taken))
 
--- src/lib.rt:64:9
 in-section-requires : tie.Need-in-section-requires
 in-section-requires c κs = search needs
 
--- src/lib.rt:65:9
 unlisted-requires-2 : tie.Need-unlisted-requires-2
 unlisted-requires-2 c κs = search needs
 
--- src/lib.rt:65:9
 returns-2 : tie.Need-returns-2
-returns-2 c = ?
+returns-2 c = rw (c .unlisted2 .ensures) (outside (c .before .before .before .before .before .before .before .args .section .now) (c .before .before .before .before .before .before .before .args .located) (c .before .before .before .before .before .before .before .args .q) (c .before .before .before .before .before .before .before .args .lines .now) (c .before .before .before .if1 .left) (sym (c .before .before .in-section .ensures) ∙ not-true _ (c .before .if2 .taken)))
 
--- src/lib.rt:67:36
 sub-if3 : tie.Need-sub-if3
-sub-if3 c = ?
+sub-if3 c = in-order (c .before .before .before .before .before .before .before .args .section .now) (c .before .before .before .before .before .before .before .args .located) (c .before .before .before .before .before .before .before .args .q) (c .before .before .before .before .before .before .before .args .lines .now) (c .before .before .before .if1 .left) (sym (c .before .before .in-section .ensures) ∙ not-false _ (c .before .if2 .left))
 
--- src/lib.rt:68:9
 unlisted-requires-3 : tie.Need-unlisted-requires-3
 unlisted-requires-3 c κs = search needs
 
--- src/lib.rt:68:9
 returns-3 : tie.Need-returns-3
-returns-3 c = ?
+returns-3 c = rw (c .unlisted3 .ensures) (short (c .before .before .before .before .before .before .before .before .before .args .section .now) (c .before .before .before .before .before .before .before .before .before .args .located) (c .before .before .before .before .before .before .before .before .before .args .q) (c .before .before .before .before .before .before .before .before .before .args .lines .now) (c .before .before .before .before .before .if1 .left) (sym (c .before .before .before .before .in-section .ensures) ∙ not-false _ (c .before .before .before .if2 .left)) (c .before .if3 .taken))
 
--- src/lib.rt:70:5
 fill-requires : tie.Need-fill-requires
-fill-requires c κs = ?
+fill-requires c κs = asked (c .before .before .before .before .before .before .before .before .before .args .section .now) (c .before .before .before .before .before .before .before .before .before .args .located) (c .before .before .before .before .before .before .before .before .before .args .q) (c .before .before .before .before .before .before .before .before .before .args .lines .now) (c .before .before .before .before .before .if1 .left) (sym (c .before .before .before .before .in-section .ensures) ∙ not-false _ (c .before .before .before .if2 .left)) (c .before .if3 .left)
 
--- src/lib.rt:52:1
 same-length : tie.Need-same-length
 same-length c = search needs
 
--- src/lib.rt:52:1
 returns-4 : tie.Need-returns-4
-returns-4 c = ?
+returns-4 c = listed (c .before .before .before .before .before .before .before .before .before .before .before .before .args .section .now) (c .before .before .before .before .before .before .before .before .before .before .before .before .args .located) (c .before .before .before .before .before .before .before .before .before .before .before .before .args .q) (c .before .before .before .before .before .before .before .before .before .before .before .before .args .lines .now) (c .before .before .before .before .before .before .before .before .if1 .left) (sym (c .before .before .before .before .before .before .before .in-section .ensures) ∙ not-false _ (c .before .before .before .before .before .before .if2 .left)) (c .before .before .before .before .if3 .left) (c .before .before .fill .ensures)
 
 pub unwind-rules-along-spec : {M : Type 1} → statement M
 unwind-rules-along-spec =

@@ -6,13 +6,14 @@ use borrow.Author.Needs.{needs}
 use lib.ListN.{length, length-replicate}
 use Rattle.format.proofs.FieldsBack.{word-small}
 use Rattle.format.proofs.PutLaws.{kept}
+use Rattle.format.specs.declared.Rules.{Rules}
 use Rattle.reader.specs.Spans.{part}
 use Rattle.reader.specs.States.{runOf}
-use Rattle.reader.proofs.Acting.{remembered, recalled}
+use Rattle.reader.proofs.Acting.{nothing, remembered}
 use Rattle.listing.specs.Lines.{linesOf}
 use Rattle.listing.proofs.Changing.{row-refused, row-stores, row-recalls, row-changes}
 use Rattle.listing.proofs.Telling.{told-joined}
-use Rattle.listing.proofs.Stacking.{no-room, stored-one, none-stored, last-stored}
+use Rattle.listing.proofs.Stacking.{no-room, stored-one, none-stored, last-stored, fewer}
 use Rattle.listing.proofs.Doing.{state, Inside, bad-operation, all-done, shorter, padding, bad-step, no-step, far-step, line-room, near-step, bad-row, good-row}
 use Rattle.listing.proofs.Both.{remaining, Between, begin, enter, again, cut, refuses, end-room, ended-all}
 use Rattle.listing.proofs.run.fill.Statement.{statement}
@@ -39,7 +40,7 @@ blank-requires : tie.Need-blank-requires Inv-operations μ-operations Inv-record
 blank-requires c κs = search needs
 
 records-holds : tie.Need-records-holds Inv-operations μ-operations Inv-records μ-records
-records-holds c = begin (c .before .before .before .pre .1) (c .before .before .before .pre .2) (c .blank .ensures) (length-replicate _ _) (c .before .before .before .pre .5)
+records-holds c = begin (c .before .before .before .pre .1) (c .before .before .before .pre .2) (c .blank .ensures) (length-replicate {A = Rules} 16 nothing) (c .before .before .before .pre .5)
 
 sub-ops : tie.Need-sub-ops Inv-operations μ-operations Inv-records μ-records
 sub-ops c = search needs
@@ -141,6 +142,7 @@ same-length-3 : tie.Need-same-length-3 Inv-operations μ-operations Inv-records 
 same-length-3 c = told-joined (c .before .before .before .before .before .before .before .before .before .before .before .before .before .before .before .records .inv .told) (c .before .before .before .before .before .before .before .before .before .before .before .before .operations .inv .told) .long
 
 returns-3 : tie.Need-returns-3 Inv-operations μ-operations Inv-records μ-records
+unfolding runOf
 returns-3 c = rw (c .listed3 .ensures) (refuses (c .before .before .before .before .before .before .before .before .before .before .before .before .before .before .before .records .inv) (bad-row (c .before .before .before .before .before .before .before .before .before .before .before .before .operations .inv) (sym (c .before .before .before .before .before .before .before .before .before .before .operation .ensures) ∙ c .before .before .before .before .before .before .before .before .op .given .1) (c .before .before .before .before .before .op3 .given .1) (row-refused _ _ _ (runOf (state _ _ _)) _ (c .before .before .before .change .ensures) (c .before .if4 .taken))))
 
 listed-requires-4 : tie.Need-listed-requires-4 Inv-operations μ-operations Inv-records μ-records
@@ -150,6 +152,7 @@ same-length-4 : tie.Need-same-length-4 Inv-operations μ-operations Inv-records 
 same-length-4 c = told-joined (c .before .before .before .before .before .before .before .before .before .before .before .before .before .before .before .before .before .before .records .inv .told) (c .before .before .before .before .before .before .before .before .before .before .before .before .before .before .before .operations .inv .told) .long
 
 returns-4 : tie.Need-returns-4 Inv-operations μ-operations Inv-records μ-records
+unfolding runOf
 returns-4 c = rw (c .listed4 .ensures) (refuses (c .before .before .before .before .before .before .before .before .before .before .before .before .before .before .before .before .before .before .records .inv) (bad-row (c .before .before .before .before .before .before .before .before .before .before .before .before .before .before .before .operations .inv) (sym (c .before .before .before .before .before .before .before .before .before .before .before .before .before .operation .ensures) ∙ c .before .before .before .before .before .before .before .before .before .before .before .op .given .1) (c .before .before .before .before .before .before .before .before .op3 .given .1) (row-stores _ _ _ (runOf (state _ _ _)) _ (c .before .before .before .before .before .before .change .ensures) (c .before .before .if5 .taken) ∙ no-room (state _ _ _) (c .before .before .before .before .before .before .before .before .before .before .before .before .before .before .before .operations .inv .held) (c .before .if6 .taken))))
 
 mul-stored : tie.Need-mul-stored Inv-operations μ-operations Inv-records μ-records
@@ -166,6 +169,7 @@ operations-less-4 : tie.Need-operations-less-4 Inv-operations μ-operations Inv-
 operations-less-4 c = shorter (c .before .before .before .before .before .before .before .before .before .before .before .before .before .before .operations .inv) (sym (c .before .before .before .before .before .before .before .before .before .before .before .before .operation .ensures) ∙ c .before .before .before .before .before .before .before .before .before .before .op .given .1)
 
 operations-again-4 : tie.Need-operations-again-4 Inv-operations μ-operations Inv-records μ-records
+unfolding runOf
 operations-again-4 c = good-row (c .before .before .before .before .before .before .before .before .before .before .before .before .before .before .operations .inv) (sym (c .before .before .before .before .before .before .before .before .before .before .before .before .operation .ensures) ∙ c .before .before .before .before .before .before .before .before .before .before .op .given .1) (c .before .before .before .before .before .before .before .op3 .given .1) (row-stores _ _ _ (runOf (state _ _ _)) _ (c .before .before .before .before .before .change .ensures) (c .before .if5 .taken) ∙ stored-one (state _ _ _) (c .before .before .before .before .before .before .before .before .before .before .before .before .before .before .operations .inv .held) (c .if6 .left)) (remembered (state _ _ _) (c .before .before .before .before .before .before .before .before .before .before .before .before .before .before .operations .inv .held) (c .if6 .left) .held)
 
 listed-requires-5 : tie.Need-listed-requires-5 Inv-operations μ-operations Inv-records μ-records
@@ -175,28 +179,31 @@ same-length-5 : tie.Need-same-length-5 Inv-operations μ-operations Inv-records 
 same-length-5 c = told-joined (c .before .before .before .before .before .before .before .before .before .before .before .before .before .before .before .before .before .before .before .before .records .inv .told) (c .before .before .before .before .before .before .before .before .before .before .before .before .before .before .before .before .before .operations .inv .told) .long
 
 returns-5 : tie.Need-returns-5 Inv-operations μ-operations Inv-records μ-records
+unfolding runOf
 returns-5 c = rw (c .listed5 .ensures) (refuses (c .before .before .before .before .before .before .before .before .before .before .before .before .before .before .before .before .before .before .before .before .records .inv) (bad-row (c .before .before .before .before .before .before .before .before .before .before .before .before .before .before .before .before .before .operations .inv) (sym (c .before .before .before .before .before .before .before .before .before .before .before .before .before .before .before .operation .ensures) ∙ c .before .before .before .before .before .before .before .before .before .before .before .before .before .op .given .1) (c .before .before .before .before .before .before .before .before .before .before .op3 .given .1) (row-recalls _ _ _ (runOf (state _ _ _)) _ (c .before .before .before .before .before .before .before .before .change .ensures) (c .before .before .if7 .taken) ∙ none-stored (state _ _ _) (c .before .before .before .before .before .before .before .before .before .before .before .before .before .before .before .before .before .operations .inv .held) (c .before .if8 .taken))))
 
 sub-depth : tie.Need-sub-depth Inv-operations μ-operations Inv-records μ-records
 sub-depth c = search needs
 
 mul-rules : tie.Need-mul-rules Inv-operations μ-operations Inv-records μ-records
-mul-rules c = search needs
+mul-rules c = let d = c .before .before .before .before .before .before .before .before .before .before .before .before .before .before .before .before .operations .inv .held .deep in search needs
 
 array-copy-out-rules :
     tie.Need-array-copy-out-rules Inv-operations μ-operations Inv-records μ-records
-array-copy-out-rules c = search needs
+array-copy-out-rules c = let d = c .before .before .before .before .before .before .before .before .before .before .before .before .before .before .before .before .operations .inv .held .deep in search needs
 
 operations-less-5 : tie.Need-operations-less-5 Inv-operations μ-operations Inv-records μ-records
 operations-less-5 c = shorter (c .before .before .before .before .before .before .before .before .before .before .before .before .before .before .before .before .before .operations .inv) (sym (c .before .before .before .before .before .before .before .before .before .before .before .before .before .before .before .operation .ensures) ∙ c .before .before .before .before .before .before .before .before .before .before .before .before .before .op .given .1)
 
 operations-again-5 : tie.Need-operations-again-5 Inv-operations μ-operations Inv-records μ-records
-operations-again-5 c = good-row (c .before .before .before .before .before .before .before .before .before .before .before .before .before .before .before .before .before .operations .inv) (sym (c .before .before .before .before .before .before .before .before .before .before .before .before .before .before .before .operation .ensures) ∙ c .before .before .before .before .before .before .before .before .before .before .before .before .before .op .given .1) (c .before .before .before .before .before .before .before .before .before .before .op3 .given .1) (row-recalls _ _ _ (runOf (state _ _ _)) _ (c .before .before .before .before .before .before .before .before .change .ensures) (c .before .before .if7 .taken) ∙ last-stored (state _ _ _) (c .before .before .before .before .before .before .before .before .before .before .before .before .before .before .before .before .before .operations .inv .held) (omega arith)) (recalled (state _ _ _) (c .before .before .before .before .before .before .before .before .before .before .before .before .before .before .before .before .before .operations .inv .held) (omega arith) .held)
+unfolding runOf
+operations-again-5 c = good-row (c .before .before .before .before .before .before .before .before .before .before .before .before .before .before .before .before .before .operations .inv) (sym (c .before .before .before .before .before .before .before .before .before .before .before .before .before .before .before .operation .ensures) ∙ c .before .before .before .before .before .before .before .before .before .before .before .before .before .op .given .1) (c .before .before .before .before .before .before .before .before .before .before .op3 .given .1) (row-recalls _ _ _ (runOf (state _ _ _)) _ (c .before .before .before .before .before .before .before .before .change .ensures) (c .before .before .if7 .taken) ∙ last-stored (state _ _ _) (c .before .before .before .before .before .before .before .before .before .before .before .before .before .before .before .before .before .operations .inv .held) (omega arith)) (fewer (c .before .before .before .before .before .before .before .before .before .before .before .before .before .before .before .before .before .operations .inv .held))
 
 operations-less-6 : tie.Need-operations-less-6 Inv-operations μ-operations Inv-records μ-records
 operations-less-6 c = shorter (c .before .before .before .before .before .before .before .before .before .before .before .before .before .before .before .before .operations .inv) (sym (c .before .before .before .before .before .before .before .before .before .before .before .before .before .before .operation .ensures) ∙ c .before .before .before .before .before .before .before .before .before .before .before .before .op .given .1)
 
 operations-again-6 : tie.Need-operations-again-6 Inv-operations μ-operations Inv-records μ-records
+unfolding runOf
 operations-again-6 c = good-row (c .before .before .before .before .before .before .before .before .before .before .before .before .before .before .before .before .operations .inv) (sym (c .before .before .before .before .before .before .before .before .before .before .before .before .before .before .operation .ensures) ∙ c .before .before .before .before .before .before .before .before .before .before .before .before .op .given .1) (c .before .before .before .before .before .before .before .before .before .op3 .given .1) (row-changes _ _ _ (runOf (state _ _ _)) _ (c .before .before .before .before .before .before .before .change .ensures) (c .before .before .before .before .before .if4 .left) (c .before .before .before .if5 .left) (c .before .if7 .left)) (c .before .before .before .before .before .before .before .before .before .before .before .before .before .before .before .before .operations .inv .held)
 
 line-requires-2 : tie.Need-line-requires-2 Inv-operations μ-operations Inv-records μ-records
