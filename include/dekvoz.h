@@ -163,6 +163,20 @@ unwind_located unwind_locate(
 unwind_reading unwind_rules_at(
     const uint8_t *section, size_t section_n, unwind_located located, uint16_t reg, uint64_t p);
 
+/* How many lines there are, and the question (66 to 69) by which the reader refuses from the offset `from` on; 0 and 0 where it refuses
+ * nowhere. `number` is 0, or the question's; all else is 0 then. */
+typedef struct {
+    uint64_t number, lines, ending, from;
+} unwind_listed;
+
+/* The rules at every location of a record, in one run over its operations: a line from offset 0 on, and one from each location on behind a
+ * step that is not 0. Seven numbers a line, at the front of a lent list, whose rest is as it was: the offset, and the six of unwind_reading
+ * behind its number. unwind_rules_at answers the numbers of the last line at or before its offset, and from `from` on `ending`. Lines at and
+ * past the function's end are stored too. A non-zero number in `located` is the answer; then 64 where its places do not lie in the section,
+ * then 54 where the list has no room for seven numbers for each byte of the record's operations and seven more. */
+unwind_listed unwind_rules_along(
+    const uint8_t *section, size_t section_n, unwind_located located, uint16_t reg, uint64_t *lines, size_t lines_n);
+
 /* How many records there are. */
 typedef struct {
     uint64_t number, records;

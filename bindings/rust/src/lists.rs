@@ -196,19 +196,24 @@ pub(crate) fn rules(r: &sys::Reading) -> Result<Rules, Refusal> {
     if r.number != 0 {
         return Err(Refusal { number: r.number, position: 0 });
     }
-    // Registers have 16 bits by question 66, and offsets are 64-bit two's complement.
-    let frame = match r.frame {
+    Ok(rules_of([r.frame, r.frame_register, r.frame_offset, r.rule, r.rule_value, r.signing]))
+}
+
+/// The rules that six numbers of the reader mean. Registers have 16 bits by question 66, and offsets are 64-bit two's complement.
+#[inline]
+pub(crate) const fn rules_of([frame, frame_register, frame_offset, rule, rule_value, signing]: [u64; 6]) -> Rules {
+    let frame = match frame {
         0 => Frame::Unset,
-        _ => Frame::Register { register: r.frame_register as u16, offset: r.frame_offset as i64 },
+        _ => Frame::Register { register: frame_register as u16, offset: frame_offset as i64 },
     };
-    let rule = match r.rule {
+    let rule = match rule {
         0 => Rule::Unstated,
         1 => Rule::Undefined,
-        2 => Rule::Saved(r.rule_value as i64),
+        2 => Rule::Saved(rule_value as i64),
         3 => Rule::SameValue,
-        _ => Rule::InRegister(r.rule_value as u16),
+        _ => Rule::InRegister(rule_value as u16),
     };
-    Ok(Rules { frame, rule, signing: r.signing != 0 })
+    Rules { frame, rule, signing: signing != 0 }
 }
 
 /// The first site of the table at a place of the call sites that covers a code offset, or `None` where no entry does.

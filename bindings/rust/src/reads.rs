@@ -85,6 +85,74 @@ pub struct AllRules {
     pub registers: Vec<(u16, Rule)>,
 }
 
+/// The rules of one register along a record: what [`Located::rules`] answers at every offset.
+///
+/// ```
+/// use dekvoz::{relaxed_table, Builder, Format, FrameSection, Machine, Rule, Section};
+///
+/// let function = Builder::new(16, 31).at(1).def_cfa_offset(16).offset(6, -16).at(4).def_cfa_register(6).done();
+/// let table = relaxed_table(&Machine::X86_64, Format::Elf, &[function.function()])?;
+/// let (kind, word) = (Section::Eh, Machine::X86_64.word);
+/// let section = FrameSection { bytes: &table.bytes, relocations: &table.relocations, kind, word, address: 0 };
+/// let along = section.locate(0)?.along(6)?;
+/// assert_eq!(along.iter().map(|line| line.offset).collect::<Vec<_>>(), [0, 1, 4]);
+/// assert_eq!(along.line(1).map(|line| line.rules.rule), Some(Rule::Saved(-16)));
+/// assert_eq!(along.ended(), None);
+/// # Ok::<(), dekvoz::Refusal>(())
+/// ```
+#[derive(Clone, Debug, Default)]
+pub struct Along {
+    /// Seven for each line; what is behind the lines means nothing.
+    numbers: Vec<u64>,
+    lines: usize,
+    ended: Option<(u64, Refusal)>,
+}
+
+/// A line of [`Along`].
+#[derive(Clone, Copy, Debug, PartialEq, Eq, Hash)]
+pub struct Line {
+    /// The offset from which its rules hold, up to the next line's.
+    pub offset: u64,
+    /// The rules.
+    pub rules: Rules,
+}
+
+impl Along {
+    /// How many lines there are: none where the header's operations are refused.
+    #[must_use]
+    pub const fn len(&self) -> usize {
+        self.lines
+    }
+
+    /// Whether there is no line.
+    #[must_use]
+    pub const fn is_empty(&self) -> bool {
+        self.lines == 0
+    }
+
+    /// A line, from 0 on.
+    #[must_use]
+    #[inline]
+    pub fn line(&self, i: usize) -> Option<Line> {
+        if self.lines <= i {
+            return None;
+        }
+        let &[offset, ref rules @ ..] = self.numbers.get(i * 7..)?.first_chunk::<7>()?;
+        Some(Line { offset, rules: lists::rules_of(*rules) })
+    }
+
+    /// All lines, in order.
+    pub fn iter(&self) -> impl Iterator<Item = Line> + '_ {
+        (0..self.lines).filter_map(|i| self.line(i))
+    }
+
+    /// From which offset on the reader refuses, and by which question (66 to 69).
+    #[must_use]
+    pub const fn ended(&self) -> Option<(u64, Refusal)> {
+        self.ended
+    }
+}
+
 /// A record that was located in its section.
 #[derive(Clone, Copy, Debug)]
 pub struct Located<'a> {
@@ -255,6 +323,44 @@ impl<'a> Located<'a> {
         // SAFETY: the pointer and count come from one slice, and nothing is lent. The function takes every number.
         let r = unsafe { sys::unwind_rules_at(self.bytes.as_ptr(), self.bytes.len(), self.places, register, p) };
         lists::rules(&r)
+    }
+
+    /// The rules at every location, for one register, in one run over the operations. Lines at and past the function's end are given too.
+    ///
+    /// # Errors
+    /// 64, for ranges that do not lie in the section. A refused operation ends the lines, and [`Along::ended`] says which question it was.
+    pub fn along(&self, register: u16) -> Result<Along, Refusal> {
+        let mut along = Along::default();
+        self.along_into(register, &mut along)?;
+        Ok(along)
+    }
+
+    /// As [`Located::along`], into what holds the lines of another run: for many registers or records in a row.
+    ///
+    /// # Errors
+    /// As [`Located::along`].
+    pub fn along_into(&self, register: u16, along: &mut Along) -> Result<(), Refusal> {
+        // A byte begins at most one line. Ranges that do not lie in the section are refused before the list is asked for room.
+        let bytes = self.places.record_end.saturating_sub(self.places.record).min(self.bytes.len() as u64) as usize;
+        if along.numbers.len() < (bytes + 1) * 7 {
+            along.numbers.resize((bytes + 1) * 7, 0);
+        }
+        let numbers = &mut along.numbers;
+        // SAFETY: each pointer and count come from one slice, so they are valid and aligned; `numbers` is lent to this call alone. The
+        // function takes every number.
+        let r = unsafe {
+            sys::unwind_rules_along(
+                self.bytes.as_ptr(),
+                self.bytes.len(),
+                self.places,
+                register,
+                numbers.as_mut_ptr(),
+                numbers.len(),
+            )
+        };
+        along.lines = r.lines as usize;
+        along.ended = (r.ending != 0).then_some((r.from, Refusal { number: r.ending, position: 0 }));
+        accepted(r.number)
     }
 
     /// The rules at offset `p` for every register that the operations up to the first unreadable one name.
