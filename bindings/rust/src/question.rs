@@ -100,6 +100,13 @@ pub enum Question {
 
 impl Question {
     /// The question of a number.
+    ///
+    /// ```
+    /// use dekvoz::Question;
+    ///
+    /// assert_eq!(Question::of(66), Some(Question::Operations));
+    /// assert_eq!(Question::of(70), None);
+    /// ```
     #[must_use]
     pub const fn of(number: u64) -> Option<Question> {
         Some(match number {
@@ -148,6 +155,10 @@ impl Question {
     }
 
     /// Its number (include/dekvoz.h).
+    ///
+    /// ```
+    /// assert_eq!(dekvoz::Question::Fields.number(), 64);
+    /// ```
     #[must_use]
     pub const fn number(self) -> u64 {
         match self {
@@ -195,6 +206,10 @@ impl Question {
     }
 
     /// What is wrong, in words.
+    ///
+    /// ```
+    /// assert_eq!(dekvoz::Question::StatesRoom.words(), "more than 16 states are stored");
+    /// ```
     #[must_use]
     pub const fn words(self) -> &'static str {
         match self {
@@ -256,6 +271,12 @@ impl fmt::Display for Question {
 
 impl Refusal {
     /// The question that was answered by no.
+    ///
+    /// ```
+    /// use dekvoz::{Question, Refusal};
+    ///
+    /// assert_eq!(Refusal { number: 62, position: 0 }.asked(), Some(Question::Record));
+    /// ```
     #[must_use]
     pub const fn asked(&self) -> Option<Question> {
         Question::of(self.number)

@@ -137,7 +137,7 @@ impl Along {
         if self.lines <= i {
             return None;
         }
-        let &[offset, ref rules @ ..] = self.numbers.get(i * 7..)?.first_chunk::<7>()?;
+        let &[offset, ref rules @ ..] = self.numbers.get(i.saturating_mul(7)..)?.first_chunk::<7>()?;
         Some(Line { offset, rules: lists::rules_of(*rules) })
     }
 
@@ -178,6 +178,18 @@ impl<'a> FrameSection<'a> {
     ///
     /// # Errors
     /// The question that was answered by no: 61 to 64.
+    ///
+    /// ```
+    /// use dekvoz::{apply, relaxed_table, Format, FrameSection, Function, Machine, Section, Word};
+    ///
+    /// let table = relaxed_table(&Machine::X86_64, Format::Elf, &[Function::new(16, 9, &[])])?;
+    /// let bytes = apply(&table.bytes, &table.relocations, &[(16, 0x1000)], 0x2000, 0)?;
+    /// let section = FrameSection { bytes: &bytes, relocations: &[], kind: Section::Eh, word: Word::Eight, address: 0x2000 };
+    /// let located = section.locate(0)?;
+    /// assert_eq!((located.length(), located.signal()), (9, false));
+    /// assert_eq!(section.locate(1).map_err(|no| no.number).err(), Some(62));
+    /// # Ok::<(), dekvoz::Refusal>(())
+    /// ```
     pub fn locate(&self, k: u64) -> Result<Located<'a>, Refusal> {
         let numbers = Relocation::numbers(self.relocations);
         // SAFETY: each pointer and count come from one slice, and nothing is lent. The function takes every number.
@@ -199,6 +211,18 @@ impl<'a> FrameSection<'a> {
     ///
     /// # Errors
     /// 61.
+    ///
+    /// ```
+    /// use dekvoz::{apply, relaxed_table, Format, FrameSection, Function, Machine, Section, Word};
+    ///
+    /// let table = relaxed_table(&Machine::X86_64, Format::Elf, &[Function::new(16, 9, &[])])?;
+    /// let bytes = apply(&table.bytes, &table.relocations, &[(16, 0x1000)], 0x2000, 0)?;
+    /// let section = FrameSection { bytes: &bytes, relocations: &[], kind: Section::Eh, word: Word::Eight, address: 0x2000 };
+    /// let records = section.records()?;
+    /// assert_eq!(records.len(), 1);
+    /// assert_eq!((records[0].place, records[0].header), (24, Some(0)));
+    /// # Ok::<(), dekvoz::Refusal>(())
+    /// ```
     pub fn records(&self) -> Result<Vec<Record>, Refusal> {
         let numbers = Relocation::numbers(self.relocations);
         // A record has 8 bytes at least, and two numbers here.
@@ -227,6 +251,16 @@ impl<'a> FrameSection<'a> {
     ///
     /// # Errors
     /// 63 where it has no header in front of it, or 64.
+    ///
+    /// ```
+    /// use dekvoz::{apply, relaxed_table, Format, FrameSection, Function, Machine, Section, Word};
+    ///
+    /// let table = relaxed_table(&Machine::X86_64, Format::Elf, &[Function::new(16, 9, &[])])?;
+    /// let bytes = apply(&table.bytes, &table.relocations, &[(16, 0x1000)], 0x2000, 0)?;
+    /// let section = FrameSection { bytes: &bytes, relocations: &[], kind: Section::Eh, word: Word::Eight, address: 0x2000 };
+    /// assert_eq!(section.locate_at(section.records()?[0])?.length(), 9);
+    /// # Ok::<(), dekvoz::Refusal>(())
+    /// ```
     pub fn locate_at(&self, record: Record) -> Result<Located<'a>, Refusal> {
         let header = record.header.unwrap_or(NOWHERE);
         // SAFETY: the pointer and count come from one slice, and nothing is lent. The function takes every number.
@@ -247,6 +281,17 @@ impl<'a> FrameSection<'a> {
     ///
     /// # Errors
     /// 64 where no record stands there.
+    ///
+    /// ```
+    /// use dekvoz::{apply, relaxed_table, Format, FrameSection, Function, Machine, Section, Word};
+    ///
+    /// let table = relaxed_table(&Machine::X86_64, Format::Elf, &[Function::new(16, 9, &[])])?;
+    /// let bytes = apply(&table.bytes, &table.relocations, &[(16, 0x1000)], 0x2000, 0)?;
+    /// let section = FrameSection { bytes: &bytes, relocations: &[], kind: Section::Eh, word: Word::Eight, address: 0x2000 };
+    /// let function = section.function(24)?;
+    /// assert_eq!((function.address, function.length), (0x1000, 9));
+    /// # Ok::<(), dekvoz::Refusal>(())
+    /// ```
     pub fn function(&self, place: u64) -> Result<Placed, Refusal> {
         // SAFETY: the pointer and count come from one slice, and nothing is lent. The function takes every number.
         let r = unsafe {
@@ -267,6 +312,17 @@ impl<'a> FrameSection<'a> {
     ///
     /// # Errors
     /// 61, or 62 where none does.
+    ///
+    /// ```
+    /// use dekvoz::{apply, relaxed_table, Format, FrameSection, Function, Machine, Section, Word};
+    ///
+    /// let table = relaxed_table(&Machine::X86_64, Format::Elf, &[Function::new(16, 9, &[])])?;
+    /// let bytes = apply(&table.bytes, &table.relocations, &[(16, 0x1000)], 0x2000, 0)?;
+    /// let section = FrameSection { bytes: &bytes, relocations: &[], kind: Section::Eh, word: Word::Eight, address: 0x2000 };
+    /// assert_eq!(section.at(0x1008)?.k, 0);
+    /// assert_eq!(section.at(0x1009).map_err(|no| no.number), Err(62));
+    /// # Ok::<(), dekvoz::Refusal>(())
+    /// ```
     pub fn at(&self, pc: u64) -> Result<Holder, Refusal> {
         // SAFETY: the pointer and count come from one slice, and nothing is lent. The function takes every number.
         let r = unsafe {
@@ -287,6 +343,17 @@ impl<'a> FrameSection<'a> {
 impl<'a> Located<'a> {
     /// Operations of a header and a record that stand in these ranges of a section, with the length of the function. Any ranges are taken;
     /// those that do not lie in the section are answered by 64.
+    ///
+    /// ```
+    /// use dekvoz::{Frame, Located, Word};
+    ///
+    /// // A header's DefCfa, and of a record a step of 1 and DefCfaOffset.
+    /// let bytes = [0x0c, 7, 8, 0x41, 0x0e, 16];
+    /// let located = Located::of(&bytes, 0..3, 3..6, 9, Word::Eight);
+    /// assert_eq!(located.rules(0, 0)?.frame, Frame::Register { register: 7, offset: 8 });
+    /// assert_eq!(located.rules(0, 1)?.frame, Frame::Register { register: 7, offset: 16 });
+    /// # Ok::<(), dekvoz::Refusal>(())
+    /// ```
     #[must_use]
     pub const fn of(bytes: &'a [u8], header: Range<u64>, record: Range<u64>, length: u64, word: Word) -> Located<'a> {
         let places = sys::Located {
@@ -319,6 +386,17 @@ impl<'a> Located<'a> {
     ///
     /// # Errors
     /// The question that was answered by no: 65 to 69.
+    ///
+    /// ```
+    /// use dekvoz::{apply, relaxed_table, Format, FrameSection, Function, Machine, Rule, Section, Word};
+    ///
+    /// let table = relaxed_table(&Machine::X86_64, Format::Elf, &[Function::new(16, 9, &[])])?;
+    /// let bytes = apply(&table.bytes, &table.relocations, &[(16, 0x1000)], 0x2000, 0)?;
+    /// let section = FrameSection { bytes: &bytes, relocations: &[], kind: Section::Eh, word: Word::Eight, address: 0x2000 };
+    /// assert_eq!(section.locate(0)?.rules(16, 3)?.rule, Rule::Saved(-8));
+    /// assert_eq!(section.locate(0)?.rules(16, 9).map_err(|no| no.number), Err(65));
+    /// # Ok::<(), dekvoz::Refusal>(())
+    /// ```
     pub fn rules(&self, register: u16, p: u64) -> Result<Rules, Refusal> {
         // SAFETY: the pointer and count come from one slice, and nothing is lent. The function takes every number.
         let r = unsafe { sys::unwind_rules_at(self.bytes.as_ptr(), self.bytes.len(), self.places, register, p) };
@@ -329,6 +407,17 @@ impl<'a> Located<'a> {
     ///
     /// # Errors
     /// 64, for ranges that do not lie in the section. A refused operation ends the lines, and [`Along::ended`] says which question it was.
+    ///
+    /// ```
+    /// use dekvoz::{Located, Word};
+    ///
+    /// // RestoreState behind the step: nothing is stored.
+    /// let located = Located::of(&[0x0c, 7, 8, 0x41, 0x0b], 0..3, 3..5, 9, Word::Eight);
+    /// let along = located.along(6)?;
+    /// assert_eq!(along.len(), 1);
+    /// assert_eq!(along.ended().map(|(from, no)| (from, no.number)), Some((1, 67)));
+    /// # Ok::<(), dekvoz::Refusal>(())
+    /// ```
     pub fn along(&self, register: u16) -> Result<Along, Refusal> {
         let mut along = Along::default();
         self.along_into(register, &mut along)?;
@@ -339,11 +428,24 @@ impl<'a> Located<'a> {
     ///
     /// # Errors
     /// As [`Located::along`].
+    ///
+    /// ```
+    /// use dekvoz::{Along, Located, Rule, Word};
+    ///
+    /// let located = Located::of(&[0x0c, 7, 8, 0x86, 2, 0x83, 3], 0..3, 3..7, 9, Word::Eight);
+    /// let mut along = Along::default();
+    /// for (register, offset) in [(6, -16), (3, -24)] {
+    ///     located.along_into(register, &mut along)?;
+    ///     assert_eq!(along.line(0).map(|line| line.rules.rule), Some(Rule::Saved(offset)));
+    /// }
+    /// # Ok::<(), dekvoz::Refusal>(())
+    /// ```
     pub fn along_into(&self, register: u16, along: &mut Along) -> Result<(), Refusal> {
         // A byte begins at most one line. Ranges that do not lie in the section are refused before the list is asked for room.
         let bytes = self.places.record_end.saturating_sub(self.places.record).min(self.bytes.len() as u64) as usize;
-        if along.numbers.len() < (bytes + 1) * 7 {
-            along.numbers.resize((bytes + 1) * 7, 0);
+        let room = bytes.saturating_add(1).saturating_mul(7);
+        if along.numbers.len() < room {
+            along.numbers.resize(room, 0);
         }
         let numbers = &mut along.numbers;
         // SAFETY: each pointer and count come from one slice, so they are valid and aligned; `numbers` is lent to this call alone. The

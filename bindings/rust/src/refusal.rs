@@ -14,6 +14,12 @@ pub struct Refusal {
 
 impl Refusal {
     /// The question in words, or `None` for a number that is no question's.
+    ///
+    /// ```
+    /// let refusal = dekvoz::Refusal { number: 68, position: 0 };
+    /// assert_eq!(refusal.question(), Some("are at most 16 states stored?"));
+    /// # Ok::<(), dekvoz::Refusal>(())
+    /// ```
     #[must_use]
     pub const fn question(&self) -> Option<&'static str> {
         Some(match self.number {
@@ -62,6 +68,13 @@ impl Refusal {
     }
 
     /// Whether the refusal is about one function, so that `position` says which.
+    ///
+    /// ```
+    /// use dekvoz::Refusal;
+    ///
+    /// assert!(Refusal { number: 24, position: 3 }.is_of_a_function());
+    /// assert!(!Refusal { number: 61, position: 0 }.is_of_a_function());
+    /// ```
     #[must_use]
     pub const fn is_of_a_function(&self) -> bool {
         matches!(self.number, 21..=41)
