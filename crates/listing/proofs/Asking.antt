@@ -6,7 +6,7 @@ use mathlib.Core.Bool.{Bool, true, false}
 use mathlib.Core.List.{List}
 use lib.ListN.{length}
 use lib.Dec.{T, leb}
-use Rattle.format.specs.Prelude.{pick, Result, good, bad}
+use Rattle.format.specs.Prelude.{pick, good, bad}
 use Rattle.format.specs.Machine.{isWord}
 use Rattle.format.proofs.Choice.{if-le, if-gt, if-eq, if-ne}
 use Rattle.reader.specs.Spans.{part}

@@ -1,10 +1,10 @@
 -- The run over two entries, the header and then the record: between them, what is left gives the lines that are left.
-use mathlib.Core.Path.{_≡_, refl, sym, ap, _∙_}
+use mathlib.Core.Path.{_≡_, refl, sym, ap}
 use Prim.Native.Nat.{ℕ, zero, suc, _+_, _-_, _*_, _/_, _≤_, _<_}
 use native.Mathlib.Omega.{arith}
 use mathlib.Core.Bool.{Bool, true, false}
 use mathlib.Core.List.{List}
-use lib.ListN.{length, take, drop, length-take, length-drop}
+use lib.ListN.{length, length-take}
 use lib.Dec.{eqb}
 use Rattle.format.specs.Prelude.{pick, good}
 use Rattle.format.specs.declared.Rule.{Rule}

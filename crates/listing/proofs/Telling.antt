@@ -1,8 +1,8 @@
 -- Lines stored: those that are left go behind those that stand in the lent list.
 use mathlib.Core.Path.{_≡_, refl, sym, ap, _∙_}
-use Prim.Native.Nat.{ℕ, suc, _+_, _*_, _/_, _≤_, _<_}
+use Prim.Native.Nat.{ℕ, _+_, _*_, _/_, _≤_, _<_}
 use native.Mathlib.Omega.{arith}
-use mathlib.Core.List.{List, [], _∷_, _++_}
+use mathlib.Core.List.{List, [], _∷_}
 use lib.ListN.{length, drop, set, length-append}
 use lib.Seq.{set-comm, set-set}
 use Rattle.format.specs.Prelude.{good}
