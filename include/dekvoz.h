@@ -48,7 +48,7 @@ extern "C" {
  *   34 registers below 16   35 offsets to 255   36 allocation positive, a multiple of 8   37 below 2^32   38 save not below the
  *   frame   39 below 2^32   40 slots to 255   41 frame offset 0 to 240, a multiple of 16
  *   51 places or markers fit   52 bytes   53 relocations   54 call sites or x64 info; structs: the list for numbers; readers of
- *   Windows unwind data: the lists for codes and epilogues; index: the list for places
+ *   Windows unwind data: the lists for codes and epilogues; index: the list for places; the rules along a record: the list for lines
  *   61 lengths tile   62 record k   63 its header   64 fields of both   65 p below the length   66 operations
  *   67 a state to restore, no Restore in a header   68 at most 16 states stored   69 a frame address rule to change
  *   71 a table of call sites: place inside, head ff ff 01, its length readable and to the end   72 its entries: complete, readable,

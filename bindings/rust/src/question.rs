@@ -60,7 +60,7 @@ pub enum Question {
     BytesRoom,
     /// 53: the relocations do not fit their buffer.
     RelocationsRoom,
-    /// 54: the call sites, the x64 info, codes, numbers or places do not fit their buffer, or the numbers' is not zero so far.
+    /// 54: the call sites, the x64 info, codes, numbers, places or lines do not fit their buffer, or the numbers' is not zero so far.
     OtherRoom,
     /// 61: no entry fits what is left of the section.
     Tiling,
@@ -238,7 +238,7 @@ impl Question {
             Question::BytesRoom => "the bytes do not fit their buffer",
             Question::RelocationsRoom => "the relocations do not fit their buffer",
             Question::OtherRoom => {
-                "the call sites, the x64 info, codes, numbers or places do not fit their buffer, or the numbers' is not zero so far"
+                "the call sites, the x64 info, codes, numbers, places or lines do not fit their buffer, or the numbers' is not zero so far"
             }
             Question::Tiling => "no entry fits what is left of the section",
             Question::Record => "there is no such record",

@@ -45,7 +45,7 @@ impl Refusal {
             51 => "do the header places or markers fit their buffer?",
             52 => "do the bytes fit their buffer?",
             53 => "do the relocations fit their buffer?",
-            54 => "do the call sites, the x64 info, the codes that were read, the places of an index or the numbers of structs fit their buffer, and is that of the numbers zero so far?",
+            54 => "do the call sites, the x64 info, the codes that were read, the places of an index, the lines of a record or the numbers of structs fit their buffer, and is that of the numbers zero so far?",
             61 => "do the entries' lengths tile the section?",
             62 => "is there a record of that number?",
             63 => "does the record's header start where a header starts, and earlier?",

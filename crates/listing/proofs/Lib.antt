@@ -6,3 +6,4 @@ pub mod Stacking
 pub mod Both
 pub mod Asking
 pub mod AtOffset
+pub mod Examples
