@@ -20,7 +20,7 @@ add-step : tie.Need-add-step Inv-entries μ-entries
 add-step c = search needs
 
 entries-holds : tie.Need-entries-holds Inv-entries μ-entries
-entries-holds c = 
+entries-holds c =
     let a = c .before .before .before .args in
     (filling (a .s .now) (a .debug) (a .relocs .now) (a .places .now) (c .before .before .before .pre .0) (c .before .before .before .pre .1), marking (a .s .now) (c .before .before .before .pre .0))
 
