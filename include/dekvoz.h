@@ -49,7 +49,8 @@ extern "C" {
  *   34 registers below 16   35 offsets to 255   36 allocation positive, a multiple of 8   37 below 2^32   38 save not below the
  *   frame   39 below 2^32   40 slots to 255   41 frame offset 0 to 240, a multiple of 16
  *   51 places or markers fit   52 bytes   53 relocations   54 call sites or x64 info; structs: the list for numbers; readers of
- *   Windows unwind data: the lists for codes and epilogues; index: the list for places; walk: the list for frames
+ *   Windows unwind data: the lists for codes and epilogues; index: the list for places; walk: the list for
+ *   frames; the rules along a record: the list for lines
  *   61 lengths tile   62 record k   63 its header   64 fields of both   65 p below the length   66 operations
  *   67 a state to restore, no Restore in a header   68 at most 16 states stored   69 a frame address rule to change
  *   71 a table of call sites: place inside, head ff ff 01, its length readable and to the end   72 its entries: complete, readable,
@@ -170,6 +171,20 @@ unwind_located unwind_locate(
  * Other numbers are taken too; those that do not lie in the section are 64. */
 unwind_reading unwind_rules_at(
     const uint8_t *section, size_t section_n, unwind_located located, uint16_t reg, uint64_t p);
+
+/* How many lines there are, and the question (66 to 69) by which the reader refuses from the offset `from` on; 0 and 0 where it refuses
+ * nowhere. `number` is 0, or the question's; all else is 0 then. */
+typedef struct {
+    uint64_t number, lines, ending, from;
+} unwind_listed;
+
+/* The rules at every location of a record, in one run over its operations: a line from offset 0 on, and one from each location on behind a
+ * step that is not 0. Seven numbers a line, at the front of a lent list, whose rest is as it was: the offset, and the six of unwind_reading
+ * behind its number. unwind_rules_at answers the numbers of the last line at or before its offset, and from `from` on `ending`. Lines at and
+ * past the function's end are stored too. A non-zero number in `located` is the answer; then 64 where its places do not lie in the section,
+ * then 54 where the list has no room for seven numbers for each byte of the record's operations and seven more. */
+unwind_listed unwind_rules_along(
+    const uint8_t *section, size_t section_n, unwind_located located, uint16_t reg, uint64_t *lines, size_t lines_n);
 
 /* How many records there are. */
 typedef struct {
@@ -320,7 +335,7 @@ uint64_t unwind_apply(
 /* ---- functions and rows as structs
  *
  * Each field is the number of the same name above; a number that the field cannot hold does not occur, and a mark above 1 or a
- * kind above 8 is question 13. Landings and pairs, all 64-bit numbers, are the lists above. */
+ * kind above 10 is question 13. Landings and pairs, all 64-bit numbers, are the lists above. */
 typedef struct {
     uint64_t offset;
     uint8_t kind;

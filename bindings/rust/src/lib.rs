@@ -49,7 +49,7 @@ mod write;
 pub use builder::{Builder, Built};
 pub use check::{check_section, CheckRefusal};
 pub use question::Question;
-pub use reads::{AllRules, FrameSection, Holder, Located, Placed, Record};
+pub use reads::{AllRules, Along, FrameSection, Holder, Line, Located, Placed, Record};
 pub use refusal::Refusal;
 pub use types::*;
 pub use write::{apply, call_site, call_sites_shortest, read, read_x64, relaxed_debug_frame, relaxed_table, row_check, seh, Table};

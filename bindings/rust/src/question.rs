@@ -60,7 +60,7 @@ pub enum Question {
     BytesRoom,
     /// 53: the relocations do not fit their buffer.
     RelocationsRoom,
-    /// 54: the call sites, the x64 info, codes, numbers, places or frames do not fit their buffer, or the numbers' is not zero so far.
+    /// 54: the call sites, the x64 info, codes, numbers, places, frames or lines do not fit their buffer, or the numbers' is not zero so far.
     OtherRoom,
     /// 61: no entry fits what is left of the section.
     Tiling,
@@ -106,6 +106,13 @@ pub enum Question {
 
 impl Question {
     /// The question of a number.
+    ///
+    /// ```
+    /// use dekvoz::Question;
+    ///
+    /// assert_eq!(Question::of(66), Some(Question::Operations));
+    /// assert_eq!(Question::of(70), None);
+    /// ```
     #[must_use]
     pub const fn of(number: u64) -> Option<Question> {
         Some(match number {
@@ -157,6 +164,10 @@ impl Question {
     }
 
     /// Its number (include/dekvoz.h).
+    ///
+    /// ```
+    /// assert_eq!(dekvoz::Question::Fields.number(), 64);
+    /// ```
     #[must_use]
     pub const fn number(self) -> u64 {
         match self {
@@ -207,6 +218,10 @@ impl Question {
     }
 
     /// What is wrong, in words.
+    ///
+    /// ```
+    /// assert_eq!(dekvoz::Question::StatesRoom.words(), "more than 16 states are stored");
+    /// ```
     #[must_use]
     pub const fn words(self) -> &'static str {
         match self {
@@ -235,7 +250,7 @@ impl Question {
             Question::BytesRoom => "the bytes do not fit their buffer",
             Question::RelocationsRoom => "the relocations do not fit their buffer",
             Question::OtherRoom => {
-                "the call sites, the x64 info, codes, numbers, places or frames do not fit their buffer, or the numbers' is not zero so far"
+                "the call sites, the x64 info, codes, numbers, places, frames or lines do not fit their buffer, or the numbers' is not zero so far"
             }
             Question::Tiling => "no entry fits what is left of the section",
             Question::Record => "there is no such record",
@@ -271,6 +286,12 @@ impl fmt::Display for Question {
 
 impl Refusal {
     /// The question that was answered by no.
+    ///
+    /// ```
+    /// use dekvoz::{Question, Refusal};
+    ///
+    /// assert_eq!(Refusal { number: 62, position: 0 }.asked(), Some(Question::Record));
+    /// ```
     #[must_use]
     pub const fn asked(&self) -> Option<Question> {
         Question::of(self.number)

@@ -14,6 +14,12 @@ pub struct Refusal {
 
 impl Refusal {
     /// The question in words, or `None` for a number that is no question's.
+    ///
+    /// ```
+    /// let refusal = dekvoz::Refusal { number: 68, position: 0 };
+    /// assert_eq!(refusal.question(), Some("are at most 16 states stored?"));
+    /// # Ok::<(), dekvoz::Refusal>(())
+    /// ```
     #[must_use]
     pub const fn question(&self) -> Option<&'static str> {
         Some(match self.number {
@@ -39,7 +45,7 @@ impl Refusal {
             51 => "do the header places or markers fit their buffer?",
             52 => "do the bytes fit their buffer?",
             53 => "do the relocations fit their buffer?",
-            54 => "do the call sites, the x64 info, the codes that were read, the places of an index, the frames of a walk or the numbers of structs fit their buffer, and is that of the numbers zero so far?",
+            54 => "do the call sites, the x64 info, the codes that were read, the places of an index, the frames of a walk, the lines of a record or the numbers of structs fit their buffer, and is that of the numbers zero so far?",
             61 => "do the entries' lengths tile the section?",
             62 => "is there a record of that number?",
             63 => "does the record's header start where a header starts, and earlier?",
@@ -65,6 +71,13 @@ impl Refusal {
     }
 
     /// Whether the refusal is about one function, so that `position` says which.
+    ///
+    /// ```
+    /// use dekvoz::Refusal;
+    ///
+    /// assert!(Refusal { number: 24, position: 3 }.is_of_a_function());
+    /// assert!(!Refusal { number: 61, position: 0 }.is_of_a_function());
+    /// ```
     #[must_use]
     pub const fn is_of_a_function(&self) -> bool {
         matches!(self.number, 21..=41)

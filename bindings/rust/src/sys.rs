@@ -53,6 +53,15 @@ pub(crate) struct Located {
     pub shortest: u64,
 }
 
+/// How many lines there are, and what ended them.
+#[repr(C)]
+pub(crate) struct Listed {
+    pub number: u64,
+    pub lines: u64,
+    pub ending: u64,
+    pub from: u64,
+}
+
 /// How many records there are.
 #[repr(C)]
 pub(crate) struct Indexed {
@@ -277,6 +286,15 @@ extern "C" {
     ) -> Located;
 
     pub(crate) fn unwind_rules_at(section: *const u8, section_n: usize, located: Located, reg: u16, p: u64) -> Reading;
+
+    pub(crate) fn unwind_rules_along(
+        section: *const u8,
+        section_n: usize,
+        located: Located,
+        reg: u16,
+        lines: *mut u64,
+        lines_n: usize,
+    ) -> Listed;
 
     pub(crate) fn unwind_index(
         section: *const u8,
