@@ -5,14 +5,14 @@
     .ci/believed.py --write      write the table's line counts
     .ci/believed.py --of NAME    list what one definition (as Demanded) reaches
 
-Public entries are the `pub fn` of crates format, unwind, cursor and two_sections and every `pub extern "C" fn`. The names in their `requires` and `ensures`
+Public entries are the `pub fn` of crates format, unwind, cursor, two_sections and walked_back and every `pub extern "C" fn`. The names in their `requires` and `ensures`
 are followed, definition by definition, through the `ghost use` lines of the sources and the `use` lines of the definitions. It fails
 where a reached file is not in the table or stands in a proofs/ folder, where a file of the table is not reached, where a definition
 of crates/format/specs or crates/unwind/specs is not reached, and where a line count is off by more than a tenth."""
 import os, re, sys
 
 ROOT = os.path.join(os.path.dirname(os.path.abspath(__file__)), '..')
-PUBLIC = ('format', 'unwind', 'cursor', 'two_sections')
+PUBLIC = ('format', 'unwind', 'cursor', 'two_sections', 'walked_back')
 WHOLE = ('crates/format/specs/', 'crates/unwind/specs/')
 DEMAND = 'Demanded'
 

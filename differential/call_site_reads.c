@@ -1,6 +1,6 @@
 /* Hands lines to the reader of call sites and to eh_frame's writer, and prints their answers, a line each.
  *
- *     site PLACE OFFSET HEX    the five numbers
+ *     site PLACE OFFSET HEX    the six numbers
  *     write N N ..             the call sites of one function for each list of landings, three numbers each, the lists parted by `,`;
  *                              the number of the question, the bytes (- for none), and the addend of each relocation to symbol 1
  */
@@ -31,7 +31,7 @@ static void site_one(void) {
         sites[i] = (uint8_t)strtoul(digits, NULL, 16);
     }
     unwind_site s = unwind_call_site(sites, n, place, offset);
-    printf("%" PRIu64 " %" PRIu64 " %" PRIu64 " %" PRIu64 " %" PRIu64 "\n", s.number, s.found, s.start, s.length, s.pad);
+    printf("%" PRIu64 " %" PRIu64 " %" PRIu64 " %" PRIu64 " %" PRIu64 " %" PRIu64 "\n", s.number, s.found, s.start, s.length, s.pad, s.shortest);
 }
 
 static void function_at(size_t k, size_t first, size_t past) {

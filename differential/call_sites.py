@@ -2,7 +2,8 @@
 """The reader of call sites against one that was written from the Itanium C++ ABI's "LSDA" (the exception handling tables) and the request.
 
     call_sites.py COUNT SEED     every short table, tables of small alphabets, COUNT lists of landings through eh_frame's writer, some of
-                                 them damaged in every byte, COUNT random tables, and the tables of C++ programs in expected/lsda.txt
+                                 them damaged in every byte, tables with each number padded, COUNT random tables, and the tables of C++
+                                 programs in expected/lsda.txt
     call_sites.py store          writes that file with the C++ compilers that are at hand
 
 At the end stands how often each number was answered; 0 is an answer."""
@@ -37,30 +38,33 @@ def uleb(value):
     return bytes([*out, value])
 
 
-def unsigned(bytes_, at, number):
-    """The unsigned LEB number at a position, of ten bytes and 64 bits at most, and the position past it."""
+def unsigned(bytes_, at, number, spelled=None):
+    """The unsigned LEB number at a position, of ten bytes and 64 bits at most, and the position past it. `spelled` takes whether its last
+    byte is needed."""
     value = 0
     for i, byte in enumerate(bytes_[at : at + 10]):
         value |= (byte & 127) << 7 * i
         if byte < 128:
             if value >> 64:
                 raise Refused(number)
+            if spelled is not None:
+                spelled.append(i == 0 or byte != 0)
             return value, at + i + 1
     raise Refused(number)
 
 
-def entries(sites, place):
+def entries(sites, place, spelled=None):
     """The entries of the table at a place: start, length and pad."""
     if place >= len(sites) or sites[place : place + 3] != HEAD:
         raise Refused(71)
-    length, at = unsigned(sites, place + 3, 71)
+    length, at = unsigned(sites, place + 3, 71, spelled)
     if at + length > len(sites):
         raise Refused(71)
     table, at, found = sites[at : at + length], 0, []
     while at < len(table):
         numbers = []
         for _ in range(4):
-            value, at = unsigned(table, at, 72)
+            value, at = unsigned(table, at, 72, spelled)
             numbers.append(value)
         if numbers[0] + numbers[1] >> 64:
             raise Refused(72)
@@ -69,12 +73,13 @@ def entries(sites, place):
 
 
 def answer(sites, place, offset):
-    """The first entry that covers the offset."""
+    """The first entry that covers the offset, and whether every number of the table is spelled shortest."""
+    spelled = []
     try:
-        found = entries(sites, place)
+        found = entries(sites, place, spelled)
     except Refused as no:
-        return [no.args[0], 0, 0, 0, 0]
-    return next(([0, 1, *e] for e in found if e[0] <= offset < e[0] + e[1]), [0, 0, 0, 0, 0])
+        return [no.args[0], 0, 0, 0, 0, 0]
+    return [*next(([0, 1, *e] for e in found if e[0] <= offset < e[0] + e[1]), [0, 0, 0, 0, 0]), int(all(spelled))]
 
 
 def ask(lines):
@@ -87,7 +92,8 @@ def compare(asked, counts):
         want, got = answer(sites, place, offset), list(map(int, line.split()))
         if got != want:
             sys.exit(f"call_sites: sites {sites.hex()} place {place} offset {offset}: {want} is expected, ours is {got}")
-        counts["none" if got == [0] * 5 else got[0]] += 1
+        counts["none" if got[:5] == [0] * 5 else got[0]] += 1
+        counts["long"] += got[0] == 0 and got[5] == 0
 
 
 def short():
@@ -148,11 +154,14 @@ def written(rng, count):
 
 def read_back(sites, place, landings):
     """What was written reads as the landings, where each end has 64 bits; else it is refused by 72."""
+    spelled = []
     try:
-        got = entries(sites, place)
+        got = entries(sites, place, spelled)
     except Refused as no:
         got = no.args[0]
     want = 72 if any(start + length >> 64 for start, length, _ in landings) else landings
+    if not all(spelled):
+        sys.exit(f"call_sites: {sites.hex()} at {place} has a long spelling")
     if got != want:
         sys.exit(f"call_sites: {sites.hex()} at {place} reads as {got} and not as {want}")
 
@@ -168,6 +177,25 @@ def damaged(sites, place, rng):
             yield sites[:at] + bytes([sites[at] ^ flip]) + sites[at + 1 :], place, rng.randrange(300)
     for end in range(len(sites)):
         yield sites[:end], place, rng.randrange(300)
+
+
+def padded(rng):
+    """Tables of one to three entries with each number in turn, the length first, spelled in up to ten bytes."""
+    for landings in ([[4, 6, 20]], [[0, 5, 0], [5, 300, 128]], [[1, 2, 3], [70000, 9, 2**40], [2**63, 5, 7]]):
+        numbers = [n for landing in landings for n in (*landing, 0)]
+        for at in range(-1, len(numbers)):
+            for more in range(10):
+                entries = b"".join(longer(n, more if i == at else 0) for i, n in enumerate(numbers))
+                size = longer(len(entries), more if at == -1 else 0)
+                for offset in (0, 4, 7, rng.randrange(300), 2**63):
+                    yield HEAD + size + entries, 0, offset
+
+
+def longer(value, more):
+    """A number with more bytes than it needs, ten at most."""
+    short = uleb(value)
+    more = min(more, 10 - len(short))
+    return short if more == 0 else short[:-1] + bytes([short[-1] + 128]) + b"\x80" * (more - 1) + b"\0"
 
 
 def wild(rng, count):
@@ -242,11 +270,13 @@ def main():
                 some.append((sites, place))
     compare(asked, counts)
     compare([other for sites, place in some for other in damaged(sites, place, rng)], counts)
+    long = list(padded(rng))
+    compare(long, counts)
     compare(list(wild(rng, count)), counts)
     stored = list(of_compilers())
     compare([(table, 0, offset) for table in stored for offset in range(200)], counts)
     print(
-        f"call_sites: {len(lists)} short tables and edges, {ours} tables of our writer, {len(some)} of them damaged in every byte, {count} random ones, "
+        f"call_sites: {len(lists)} short tables and edges, {ours} tables of our writer, {len(some)} of them damaged in every byte, {len(long)} with a padded number, {count} random ones, "
         f"{len(stored)} of C++ compilers; " + ", ".join(f"{n}: {counts[n]}" for n in sorted(counts, key=str))
     )
 

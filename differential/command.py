@@ -3,6 +3,7 @@
 
 What the listing says of rules is compared with readelf's by dump.py; here the answers of the commands are compared with one another."""
 
+import hashlib
 import json
 import os
 import re
@@ -20,9 +21,10 @@ __attribute__((noinline)) int sum(int *p, int n) { int s = 0; for (int i = 0; i 
 void cleaned(int *p); void thrower(void);
 int caller(void) { __attribute__((cleanup(cleaned))) int n = 3; thrower(); return sum(&n, 1); }
 """
-# A header (CIE) and a record (FDE) of 16 bytes of function with one advance, by LSB 5.0, section 10.6.1.
+# A header (CIE) and two records (FDE) of 16 bytes of function, one with an advance, one without a caller, by LSB 5.0, section 10.6.1.
 CIE = bytes.fromhex("14000000 00000000 01 7a5200 01 78 10 01 1b 0c0708 9001 0000".replace(" ", ""))
 FDE = bytes.fromhex("14000000 1c000000 e0ffffff 10000000 00 41 0e10 8602 0000".replace(" ", ""))
+RESET = bytes.fromhex("14000000 34000000 00000000 10000000 00 0710 000000 0000".replace(" ", ""))
 
 
 def run(*words, stdin=b"", status=0, stdout=subprocess.PIPE):
@@ -38,6 +40,7 @@ def usage():
                   ["dump", "-", "--kind", "x"], ["rules", "-"], ["rules", "-", "--record", "1"], ["rules", "-", "--record=x", "--at=0"],
                   ["rules", "-", "--address=1", "--record=1", "--at=1"], ["dump", "-", "--json=1"], ["check", "-", "--record", "1"],
                   ["dump", "-", "--word", "8", "--word", "8"], ["dump", "-", "--machine=vax"], ["handler", "-"], ["handler", "-", "--at", "1"],
+                  ["walk", "-"], ["walk", "-", "--fault=x", "--pc=1"], ["walk", "-", "--fault=x", "--pc=1", "--stack=-1"], ["dump", "-", "--pc=1"],
                   ["rules", "-", "--record=-1", "--at=0"], ["rules", "-", "--record=0x1ffffffffffffffff", "--at=0"], ["example", "x"]):
         run(*words, status=2)
     for words in (["--help"], ["-h"], ["dump", "--help"], ["--help", "dump", "x", "--word=1"]):
@@ -83,6 +86,21 @@ def raw():
     assert "DW_CFA_def_cfa_expression" in run("check", "-", stdin=foreign, status=1)[0]
     assert "passed over" in run("dump", "-", "--operations", stdin=foreign)[0]
     assert "alignment factor" in run("dump", "-", stdin=section.replace(b"\1\x78\x10", b"\4\x78\x10"))[0]
+
+
+def spellings():
+    """DW_CFA_def_cfa_offset 16 spelled in two bytes: told from the step on that it stands behind."""
+    long = CIE + FDE[:-7] + bytes.fromhex("410e9000860200")
+    for section, said in ((CIE + FDE, False), (long, True)):
+        for p, there in ((0, False), (1, said)):
+            words = ["rules", "-", "--record=0", f"--at={p}"]
+            assert ("long spellings" in run(*words, stdin=section)[0]) == there, (said, p)
+            assert json.loads(run(*words, "--json", stdin=section)[0])["shortest"] != there, (said, p)
+        assert ("record 0, long spellings\n" in run("dump", "-", stdin=section)[0]) == said
+        entry = json.loads(run("dump", "-", "--json", stdin=section)[0])["entries"][1]
+        assert entry["long_spellings"] == said, entry
+        assert ("1 record has long spellings" in run("check", "-", stdin=section)[0]) == said
+        assert json.loads(run("check", "-", "--json", stdin=section)[0])["long_spellings"]["count"] == said
 
 
 def debug():
@@ -163,22 +181,103 @@ def proportion():
     assert not closed.stderr, closed.stderr
 
 
+def recorded(stack, registers):
+    """A record file (request W-202)."""
+    trailer = (8 * len(registers)).to_bytes(8, "little") + len(registers).to_bytes(4, "little") + len(stack).to_bytes(4, "little")
+    return stack + b"".join(n.to_bytes(8, "little") for n in registers) + trailer
+
+
+def walk():
+    """A recorded fault: the chain and its grounds, every ending, every kind of refusal with its frame, JSON and the page."""
+    names = {name: os.path.join(OUT, f"command.{name}") for name in ("fault", "section", "functions", "page")}
+
+    def go(*more, section=CIE + FDE + RESET, stack=(0x2005,), registers=(0,) * 7 + (0x8000,), status=0, machine="x86-64"):
+        with open(names["section"], "wb") as file:
+            file.write(section)
+        with open(names["fault"], "wb") as file:
+            file.write(recorded(b"".join(n.to_bytes(8, "little") for n in stack), registers))
+        with open(names["functions"], "w") as file:
+            file.write("0x1000 16 leaf\n8192 16 <main>\n")
+        lent = ["--functions", names["functions"], "--pc=0x1000", "--stack", "0x8000", f"--machine={machine}"]
+        words = [word for word in lent if not any(word.split("=")[0] == given.split("=")[0] for given in more)]
+        return run("walk", names["section"], "--fault", names["fault"], *words, *more, status=status)
+
+    text = go()[0]
+    assert "#0  leaf+0\n#1  <main>+5\nThe chain ends with #1: its rules leave the return address undefined" in text, text
+    assert "saved at CFA-8: at 0x8000 stands 0x2005\n              by DW_CFA_offset (header, 0x14)" in text, text
+    assert "looked up at 0x2004, one byte before" in text and "by DW_CFA_undefined (record, 0x" in text, text
+    inside = go("--pc=0x1001", stack=(9, 0x2005))[0]
+    assert "CFA        rsp+16 = 0x8000+16 = 0x8010" in inside and "and DW_CFA_def_cfa_offset (record, 0x2a, from offset 1 on)" in inside, inside
+    assert "rbp        saved at CFA-16: at 0x8000 stands 0x9" in inside, inside
+    assert "no function holds its return address 0x3000 (looked up at 0x2fff)" in go(stack=(0x3000,))[0]
+    assert "it returns to 0" in go(stack=(0,))[0]
+    assert "no function holds the pc" in go("--pc=0x3000")[0]
+    assert "cut after 64 frames" in go(stack=(0x1001,) * 80)[0]
+    for more, number in ((dict(stack=()), 74), (dict(registers=()), 75), (dict(registers=(0,) * 7 + (2**64 - 8,)), 74)):
+        said, why = go(status=1, **more)
+        assert f"frame #0: refused with {number}" in why and f"Frame #0 is refused with {number}" in said, (said, why)
+        assert f"refused    with {number}, asked for " in said and "lists no frame" in said, said
+    said, why = go(section=CIE + FDE + RESET[:-4] + bytes.fromhex("0f010000"), status=1)
+    assert "frame #1: refused with 66" in why and "the rules at offset 4 of record 1" in said, (said, why)
+    assert "73" in go(registers=(0,) * 129, status=1)[1]
+    assert "refused with 12" in go("--machine=arm", status=1)[1]
+    assert "61" in go(section=CIE + FDE[:-1], status=1)[1]
+    answer = json.loads(go("--json")[0])
+    assert [(frame["position"], frame["pc"]) for frame in answer["frames"]] == [(0, "0x1000"), (1, "0x2005")] and answer["ending"] == 1, answer
+    assert answer["frames"][0]["registers"][0]["by"][0]["in"] == "header", answer
+    assert json.loads(go("--json", stack=(), status=1)[0])["refused"]["number"] == 74
+    page(go, names["page"])
+    with open(names["functions"], "w") as file:
+        file.write("0x1000\n")
+    assert "a line" in run("walk", names["section"], "--fault", names["fault"], "--pc=1", "--stack=1", "--machine=x86-64", "--functions", names["functions"], status=1)[1]
+
+
+def page(go, path):
+    """The page: one file, well-formed, nothing loaded, every link inside it to a place that is there."""
+    # Records of 80 to 240 bytes: every way in which a digest's last block is filled.
+    lengths = [dict(registers=(0,) * 7 + (0x8000,) + (1,) * n) for n in range(16)]
+    for more in ({}, *lengths, dict(stack=(), status=1), dict(stack=(0x1001,) * 80), dict(stack=(0,) * 200)):
+        go("--html", path, **more)
+        with open(path) as file:
+            text = file.read()
+        assert "&lt;main&gt;" in text or more, text
+        with open(os.path.join(OUT, "command.fault"), "rb") as file:
+            assert hashlib.sha256(file.read()).hexdigest() in text, "the page names another record"
+        assert not re.search(r"<script|src=|https?:|@import|url\(", text), "the page loads something"
+        places, links = re.findall(r'id="([^"]+)"', text), set(re.findall(r'href="#([^"]+)"', text))
+        assert len(places) == len(set(places)) and links <= set(places), (links - set(places), len(places))
+        tags = [tag for tag in re.findall(r"<(/?[a-z0-9]+)", text) if tag.strip("/") not in ("meta",)]
+        open_tags = []
+        for tag in tags:
+            if tag.startswith("/"):
+                assert open_tags.pop() == tag[1:], tag
+            else:
+                open_tags.append(tag)
+        assert not open_tags, open_tags
+    assert "No such file" in go("--html", "/nonexistent/page", status=1)[1]
+
+
 def example():
-    text = run("example")[0]
-    chain = re.findall(r"^#\d (\w+)\+(\d+), pc 0x[0-9a-f]+: asked (.*)$", text, re.M)
+    path = os.path.join(OUT, "command.page")
+    text = run("example", "--html", path)[0]
+    with open(path) as file:
+        assert "#4 reset+20" in file.read()
+    assert text == run("example")[0]
+    chain = re.findall(r"^#\d (\w+)\+(\d+), (?:pc|return address) 0x[0-9a-f]+\n.*looked up at ([^;]*);", text, re.M)
     assert [name for name, *_ in chain] == ["report", "vector", "sample", "control", "reset"], chain
-    assert [asked for *_, asked in chain] == ["there", "at offset 19", "there", "at offset 35", "at offset 19"], chain
+    assert ["one byte before" in asked for *_, asked in chain] == [False, True, False, True, True], chain
     assert "the two differ 0 times" in text and "every record can be read" in text and "landing pad at offset 44" in text
+    assert "The chain ends with #4: its rules leave the return address undefined" in text
 
 
 def main():
     os.makedirs(OUT, exist_ok=True)
-    for test in (usage, files, raw, debug, call_sites, x64, objects, proportion, example):
+    for test in (usage, files, raw, spellings, debug, call_sites, x64, objects, proportion, walk, example):
         try:
             test()
         except AssertionError as why:
             sys.exit(f"command: {test.__name__}: {why}")
-    print("command: usage, files, raw bytes, debug_frame, call sites, x64 records, an object of gcc, a long record and the example are as they should be")
+    print("command: usage, files, raw bytes, long spellings, debug_frame, call sites, x64 records, an object of gcc, a long record, the walk and the example are as they should be")
 
 
 if __name__ == "__main__":

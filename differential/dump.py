@@ -52,7 +52,7 @@ def entries(text):
     found = []
     for line in text.split("\n"):
         # The command tells a record's number behind readelf's fields.
-        line = re.sub(r" record \d+$", "", line)
+        line = re.sub(r" record \d+(, long spellings)?$", "", line)
         header = re.match(r'([0-9a-f]{8}) ([0-9a-f]+) [0-9a-f]{8} CIE "(.*)" cf=(\d+) df=(-?\d+) ra=(\d+)$', line)
         record = re.match(r"([0-9a-f]{8}) ([0-9a-f]+) [0-9a-f]{8} FDE cie=([0-9a-f]+) pc=([0-9a-f]+)(?:\.\.([0-9a-f]+))?$", line)
         bare = re.match(r"([0-9a-f]{8}) ([0-9a-f]+) \S{8} FDE\b", line)

@@ -120,7 +120,7 @@ unwind_reading __wrap_unwind_read(const uint8_t *section, size_t section_n, cons
         if (relocations_n % 5 == 4) seen = relocations[relocations_n];
         break;
     case REFUSES_GOOD_OPERATION:
-        if (!r.number) r = (unwind_reading){66, 0, 0, 0, 0, 0, 0};
+        if (!r.number) r = (unwind_reading){66, 0, 0, 0, 0, 0, 0, 0};
         break;
     case REFUSAL_WITH_RULE:
         if (r.number) r.rule = 1;

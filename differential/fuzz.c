@@ -688,8 +688,8 @@ static section pool[POOL], damaged;
 static size_t pooled;
 
 static void check_reading(const unwind_reading *r) {
-    uint64_t all = r->frame | r->frame_register | r->frame_offset | r->rule | r->rule_value | r->signing;
-    if (r->number ? all != 0 : r->frame > 1 || r->rule > 4 || r->signing > 1) wrong("a reading with a field that has no meaning");
+    uint64_t all = r->frame | r->frame_register | r->frame_offset | r->rule | r->rule_value | r->signing | r->shortest;
+    if (r->number ? all != 0 : r->frame > 1 || r->rule > 4 || r->signing > 1 || r->shortest > 1) wrong("a reading with a field that has no meaning");
     if (!r->frame && (r->frame_register || r->frame_offset)) wrong("a frame address without a rule");
     if (r->frame_register > 65535 || (r->rule != 2 && r->rule_value > (r->rule == 4 ? 65535 : 0))) wrong("a rule that cannot be");
 }

@@ -3,7 +3,8 @@
  *     section HEX
  *     relocations N N ..
  *     locate KIND WORD K
- *     rules REGISTER P and the nine numbers of an unwind_located
+ *     rules REGISTER P and the ten numbers of an unwind_located
+ *     along REGISTER ROOM and the ten numbers: the answer, and the lent list with one element behind it
  *     index KIND WORD ROOM        the answer, and the lent list with one element behind it
  *     at KIND WORD RECORD HEADER
  *     function KIND WORD ADDRESS RECORD
@@ -57,6 +58,17 @@ static void print_index(uint64_t kind, uint64_t word, size_t room) {
     free(places);
 }
 
+static void print_along(uint16_t reg, size_t room, unwind_located located) {
+    uint64_t *lines = malloc((room + 1) * sizeof *lines);
+    if (lines == NULL) exit(3);
+    for (size_t i = 0; i <= room; i++) lines[i] = BEFORE;
+    unwind_listed r = unwind_rules_along(section, bytes, located, reg, lines, room);
+    print(&r, sizeof r);
+    printf(" ");
+    print(lines, (room + 1) * sizeof *lines);
+    free(lines);
+}
+
 static void ask(const char *key) {
     uint64_t n[MOST] = {0};
     char *word;
@@ -69,6 +81,10 @@ static void ask(const char *key) {
         memcpy(&l, n + 2, sizeof l);
         unwind_reading r = unwind_rules_at(section, bytes, l, (uint16_t)n[0], n[1]);
         print(&r, sizeof r);
+    } else if (strcmp(key, "along") == 0) {
+        unwind_located l;
+        memcpy(&l, n + 2, sizeof l);
+        print_along((uint16_t)n[0], n[1], l);
     } else if (strcmp(key, "index") == 0) {
         print_index(n[0], n[1], n[2]);
     } else if (strcmp(key, "at") == 0) {

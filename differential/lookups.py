@@ -17,7 +17,7 @@ sys.path = [folder for folder in sys.path if os.path.abspath(folder) != HERE] + 
 
 from definitions import by_case, parse  # noqa: E402
 from exports import OUT, run  # noqa: E402
-from reader import DEBUG, EH, Bytes, Refused, entries, header_fields, header_of, read, record_fields, second  # noqa: E402
+from reader import DEBUG, EH, Bytes, Refused, Walk, entries, header_fields, header_of, read, record_fields, second  # noqa: E402
 from reads import of_gas  # noqa: E402
 
 NOWHERE = 2**64 - 1
@@ -41,12 +41,13 @@ def entry_at(section, at):
 
 
 def fields(kind, word, header, record):
-    pointer, first = header_fields(header[1], kind, word)
-    length, rest = record_fields(record[1], kind, word, pointer)
+    spelled = []
+    pointer, first = header_fields(header[1], kind, word, spelled)
+    length, rest = record_fields(record[1], kind, word, pointer, spelled)
     ends = [at + 4 + len(body) for at, body in (header, record)]
     text = header[1][5 : header[1].index(0, 5)]
     signal = int(text.endswith(b"S"))
-    return [0, ends[0] - len(first), ends[0], ends[1] - len(rest), ends[1], length, pointer, signal, word]
+    return [0, ends[0] - len(first), ends[0], ends[1] - len(rest), ends[1], length, pointer, signal, word, int(all(spelled))]
 
 
 def records_of(section, kind):
@@ -113,7 +114,37 @@ def holder(section, relocations, kind, word, address, pc):
     raise Refused(62)
 
 
-JUDGES = {"locate": (locate, 8), "at": (at, 8), "function": (function, 2), "holder": (holder, 2)}
+def along(section, register, room, located):
+    """The lines of a record in one run; what ended them is an answer."""
+    number, header, header_end, record, record_end, _, _, _, word, _ = located
+    if number:
+        raise Refused(number)
+    if not (header <= header_end <= len(section) and record <= record_end <= len(section) and word in (2, 4, 8)):
+        raise Refused(64)
+    if room < 7 * (record_end - record + 1):
+        raise Refused(54)
+    walk, place, ending, numbers = Walk(word, register, NOWHERE), 0, (0, 0), []
+
+    def line():
+        frame = [0, 0, 0] if walk.frame is None else [1, walk.frame[0], walk.frame[1] % 2**64]
+        return [place, *frame, walk.rule[0], walk.rule[1] % 2**64, walk.signing]
+
+    try:
+        walk.operations(section[header:header_end], True)
+        walk.initial = walk.rule
+        data = Bytes(section[record:record_end], 66)
+        while data.at < record_end - record:
+            step = walk.operation(data, False)
+            if step:
+                numbers += line()
+                place += step
+        numbers += line()
+    except Refused as no:
+        ending = (no.number, place)
+    return [0, len(numbers) // 7, *ending] + numbers + [BEFORE] * (room + 1 - len(numbers))
+
+
+JUDGES = {"locate": (locate, 9), "at": (at, 9), "function": (function, 2), "holder": (holder, 2)}
 
 
 def expected(section, relocations, ask):
@@ -176,7 +207,8 @@ def made(rng):
         width = 4 if kind == EH else word
         start, length = rng.choice([rng.randrange(2**12), rng.randrange(256**width)]), rng.randrange(1, 200)
         fields_ = start.to_bytes(width, "little") + length.to_bytes(width, "little")
-        operations = rng.choice([b"", bytes([0x41, 0x0E, 16]), bytes([0x43, 0x86, 2, 0x44, 0x0D, 6])])
+        deep = bytes([0x41] + [0x0A] * rng.randrange(15, 19) + [0x42] + [0x0B] * rng.randrange(19) + [0x40, 0x0E, 8])
+        operations = rng.choice([b"", bytes([0x41, 0x0E, 16]), bytes([0x43, 0x86, 2, 0x44, 0x0D, 6]), deep])
         if kind == EH:
             second_ = (here + 4 - header) % 2**32
             section += entry(second_.to_bytes(4, "little") + fields_ + b"\0" + operations)
@@ -243,17 +275,40 @@ def from_places(kind, word, section, relocations, rng):
         try:
             located = locate(section, relocations, kind, word, k)
         except Refused as no:
-            located = [no.number] + [0] * 8
+            located = [no.number] + [0] * 9
         for register in (6, 7, 16):
             p = rng.choice([0, 1, 3, 8, 250])
             yield ("rules", register, p, *located), read(section, relocations, kind, word, k, register, p)
         if located[0] == 0:
             off = list(located)
             off[rng.choice([2, 4])] = rng.choice([len(section) + 1, NOWHERE])
-            yield ("rules", 6, 0, *off), [64] + [0] * 6
+            yield ("rules", 6, 0, *off), [64] + [0] * 7
             off = list(located)
             off[8] = rng.choice([0, 3, 16])
-            yield ("rules", 6, 0, *off), [64] + [0] * 6
+            yield ("rules", 6, 0, *off), [64] + [0] * 7
+
+
+def along_places(kind, word, section, relocations, rng):
+    """Lines from what is located, from ranges of any bytes, and from numbers that lie nowhere, with lists long enough and too short."""
+    size = len(section)
+    places = [sorted((rng.randrange(size + 1), rng.randrange(size + 1))) for _ in range(4)]
+    found = [[0, *places[0], *places[1], 9, 0, 0, word, 1], [0, *places[2], *places[3], 9, 0, 0, rng.choice([2, 4, 8, 3]), 0]]
+    for k in range(3):
+        try:
+            found.append(locate(section, relocations, kind, word, k))
+        except Refused as no:
+            found.append([no.number] + [0] * 9)
+    off = list(found[-1])
+    off[rng.choice([1, 2, 3, 4])] = rng.choice([size + 1, NOWHERE])
+    for located in [*found, off]:
+        need = 7 * max(min(located[4], size) - located[3] + 1, 0)
+        for room in {need, max(need - 1, 0), rng.choice([0, 6, 7, need + 5])}:
+            register = rng.choice([6, 7, 16])
+            try:
+                want = along(section, register, room, located)
+            except Refused as no:
+                want = [no.number, 0, 0, 0] + [BEFORE] * (room + 1)
+            yield ("along", register, room, *located), want
 
 
 def compare(asks, counts):
@@ -268,12 +323,15 @@ def compare(asks, counts):
             if want != got:
                 sys.exit(f"lookups: section {section.hex()} relocations {numbers} {ask}: {want} is expected, ours is {got}")
             counts[want[0]] += 1
+            if ask[0] == "along" and want[2]:
+                counts[f"lines ended by {want[2]}"] += 1
 
 
 def pairs_of(kind, word, section, numbers, rng):
     relocations = [numbers[at : at + 5] for at in range(0, len(numbers) - 4, 5)]
     pairs = [(ask, expected(section, relocations, ask)) for ask in questions(kind, word, section, relocations, rng)]
-    return section, numbers, pairs + list(from_places(kind, word, section, relocations, rng))
+    pairs += from_places(kind, word, section, relocations, rng)
+    return section, numbers, pairs + list(along_places(kind, word, section, relocations, rng))
 
 
 def main():
@@ -287,7 +345,7 @@ def main():
         if section and rng.random() < 0.5:
             asks += [pairs_of(kind, word, *other, rng) for other in damaged(section, numbers, rng)]
     compare(asks, counts)
-    print(f"lookups: {len(asks)} sections; " + ", ".join(f"{n}: {counts[n]}" for n in sorted(counts)))
+    print(f"lookups: {len(asks)} sections; " + ", ".join(f"{n}: {counts[n]}" for n in sorted(counts, key=str)))
 
 
 if __name__ == "__main__":

@@ -1,8 +1,9 @@
 """A reader of eh_frame and debug_frame sections, written from document 01 and DWARF 5 alone: the judge of the library's reader.
 
-`read(section, relocations, kind, word, k, register, p)` is the list of seven numbers that unwind_read answers: the question's number
+`read(section, relocations, kind, word, k, register, p)` is the list of eight numbers that unwind_read answers: the question's number
 (0: answered), frame (0 none, 1 register plus offset), its register and offset, the rule (0 unstated, 1 undefined, 2 saved,
-3 same value, 4 in a register) and its offset or register, and the signing state. Offsets are 64-bit two's complement."""
+3 same value, 4 in a register) and its offset or register, the signing state, and whether every LEB number that was read is spelled
+shortest. Offsets are 64-bit two's complement."""
 
 EH, DEBUG = 0, 1
 POINTER = {0x00: None, 0x03: 4, 0x0B: 4, 0x13: 4, 0x1B: 4, 0x04: 8, 0x0C: 8}
@@ -20,8 +21,10 @@ class Refused(Exception):
 class Bytes:
     """Bytes with a position; running out, or a number that does not fit, is the question's no."""
 
-    def __init__(self, data, number):
+    def __init__(self, data, number, spelled=None):
         self.data, self.at, self.number = data, 0, number
+        # For each LEB number that was read whether its last byte is needed.
+        self.spelled = [] if spelled is None else spelled
 
     def fail(self):
         raise Refused(self.number)
@@ -45,7 +48,9 @@ class Bytes:
         self.fail()
 
     def uleb(self):
-        value = sum((byte & 127) << (7 * n) for n, byte in enumerate(self.groups()))
+        groups = self.groups()
+        value = sum((byte & 127) << (7 * n) for n, byte in enumerate(groups))
+        self.spelled.append(len(groups) == 1 or groups[-1] != 0)
         return value if value < 2**64 else self.fail()
 
     def sleb(self):
@@ -53,6 +58,8 @@ class Bytes:
         value = sum((byte & 127) << (7 * n) for n, byte in enumerate(groups))
         if groups[-1] & 64:
             value -= 1 << (7 * len(groups))
+        # A last byte that only repeats the sign of the byte before it.
+        self.spelled.append(len(groups) == 1 or (groups[-1], groups[-2] & 64) not in ((0, 0), (127, 64)))
         return self.signed(value)
 
     def signed(self, value):
@@ -97,9 +104,9 @@ def pointer(b, indirect, word):
     return POINTER[encoding & 127] or word
 
 
-def header_fields(body, kind, word):
+def header_fields(body, kind, word, spelled=None):
     """The bytes of a record's LSDA pointer, and the header's operations."""
-    b = Bytes(body, 64)
+    b = Bytes(body, 64, spelled)
     b.take(4)
     if b.field(1) != 1:
         b.fail()
@@ -122,9 +129,9 @@ def header_fields(body, kind, word):
     return lsda, body[b.at :]
 
 
-def record_fields(body, kind, word, lsda):
+def record_fields(body, kind, word, lsda, spelled=None):
     """The function's length, and the record's operations."""
-    b = Bytes(body, 64)
+    b = Bytes(body, 64, spelled)
     b.take(4)
     width = 4 if kind == EH else word
     b.take(width)
@@ -135,13 +142,13 @@ def record_fields(body, kind, word, lsda):
 
 
 class Walk:
-    def __init__(self, word, register, p):
-        self.word, self.register, self.p = word, register, p
+    def __init__(self, word, register, p, spelled=None):
+        self.word, self.register, self.p, self.spelled = word, register, p, spelled
         self.frame, self.rule, self.signing, self.stored = None, (UNSTATED, 0), 0, []
         self.initial = None
 
     def operations(self, data, header):
-        b, at = Bytes(data, 66), 0
+        b, at = Bytes(data, 66, self.spelled), 0
         while b.at < len(data):
             step = self.operation(b, header)
             if step is None:
@@ -218,7 +225,7 @@ class Walk:
         self.set_rule(register, self.initial)
 
 
-def located(section, relocations, kind, word, k):
+def located(section, relocations, kind, word, k, spelled):
     """The operations of record k's header, the function's length, and the record's operations."""
     if word not in (2, 4, 8) or kind not in (EH, DEBUG):
         raise Refused(11)
@@ -228,21 +235,22 @@ def located(section, relocations, kind, word, k):
     if k >= len(records):
         raise Refused(62)
     headers = {at: body for at, body in found if second(body) == mark}
-    lsda, first = header_fields(header_of(records[k], headers, relocations, kind), kind, word)
-    size, rest = record_fields(records[k][1], kind, word, lsda)
+    lsda, first = header_fields(header_of(records[k], headers, relocations, kind), kind, word, spelled)
+    size, rest = record_fields(records[k][1], kind, word, lsda, spelled)
     return first, size, rest
 
 
 def read(section, relocations, kind, word, k, register, p):
+    spelled = []
     try:
-        first, size, rest = located(section, relocations, kind, word, k)
+        first, size, rest = located(section, relocations, kind, word, k, spelled)
         if p >= size:
             raise Refused(65)
-        walk = Walk(word, register, p)
+        walk = Walk(word, register, p, spelled)
         walk.operations(first, True)
         walk.initial = walk.rule
         walk.operations(rest, False)
     except Refused as no:
-        return [no.number, 0, 0, 0, 0, 0, 0]
+        return [no.number, 0, 0, 0, 0, 0, 0, 0]
     frame = [0, 0, 0] if walk.frame is None else [1, walk.frame[0], walk.frame[1] % 2**64]
-    return [0, *frame, walk.rule[0], walk.rule[1] % 2**64, walk.signing]
+    return [0, *frame, walk.rule[0], walk.rule[1] % 2**64, walk.signing, int(all(spelled))]

@@ -1,4 +1,4 @@
-/* Hands sections in text form to unwind_read and prints its seven numbers, one line for each `ask`.
+/* Hands sections in text form to unwind_read and prints its eight numbers, one line for each `ask`.
  *
  *     section HEX
  *     relocations N N ..
@@ -39,8 +39,8 @@ static void ask(void) {
         n[i] = word ? strtoull(word, NULL, 10) : 0;
     }
     unwind_reading r = unwind_read(section, bytes, relocations, numbers, n[0], n[1], n[2], (uint16_t)n[3], n[4]);
-    printf("%" PRIu64 " %" PRIu64 " %" PRIu64 " %" PRIu64 " %" PRIu64 " %" PRIu64 " %" PRIu64 "\n",
-        r.number, r.frame, r.frame_register, r.frame_offset, r.rule, r.rule_value, r.signing);
+    printf("%" PRIu64 " %" PRIu64 " %" PRIu64 " %" PRIu64 " %" PRIu64 " %" PRIu64 " %" PRIu64 " %" PRIu64 "\n",
+        r.number, r.frame, r.frame_register, r.frame_offset, r.rule, r.rule_value, r.signing, r.shortest);
 }
 
 int main(void) {

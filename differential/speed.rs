@@ -35,6 +35,7 @@ struct Reading {
     rule: u64,
     rule_value: u64,
     signing: u64,
+    shortest: u64,
 }
 
 #[rustfmt::skip]

@@ -1,5 +1,6 @@
 /* Unwind tables: the writers of ELF's eh_frame and debug_frame and of Windows x64 unwind data, the row check, the reader of the
- * DWARF sections, the reader of call sites, and the readers of Windows unwind data for x64 and for ARM64.
+ * DWARF sections, the walk over a recorded fault, the reader of call sites, and the readers of Windows unwind data for x64 and for
+ * ARM64.
  *
  * Every function takes every input: a refusal comes back as the number of the question that was answered by no, and every
  * lent buffer is then as it was. An accepted call leaves what lies past its results as it was. No input is changed.
@@ -41,18 +42,21 @@ extern "C" {
  * Formats: 0 ELF, 1 COFF, 2 Mach-O (read, and not written any more), 3 Wasm, 4 Plan 9.
  *
  * The questions, by the number of a no:
- *   11 machine, format, kind or word   12 x64: word is 8   13 counts, ranges, symbols, and numbers that their fields hold
+ *   11 machine, format, kind or word   12 x64, walk: word is 8   13 counts, ranges, symbols, and numbers that their fields hold
  *   21 length fits its field   22 encodings   23 no row goes back or steps above 2^32 - 1   24 offsets are multiples of word
  *   25 a pair's places differ
  *   31 frame pointer set after the frame is taken   32 frame not counted from a scratch register   33 group readable
  *   34 registers below 16   35 offsets to 255   36 allocation positive, a multiple of 8   37 below 2^32   38 save not below the
  *   frame   39 below 2^32   40 slots to 255   41 frame offset 0 to 240, a multiple of 16
  *   51 places or markers fit   52 bytes   53 relocations   54 call sites or x64 info; structs: the list for numbers; readers of
- *   Windows unwind data: the lists for codes and epilogues; index: the list for places
+ *   Windows unwind data: the lists for codes and epilogues; index: the list for places; walk: the list for
+ *   frames; the rules along a record: the list for lines
  *   61 lengths tile   62 record k   63 its header   64 fields of both   65 p below the length   66 operations
  *   67 a state to restore, no Restore in a header   68 at most 16 states stored   69 a frame address rule to change
  *   71 a table of call sites: place inside, head ff ff 01, its length readable and to the end   72 its entries: complete, readable,
  *   start plus length below 2^64
+ *   73 a recorded fault: 16 to 65,536 bytes, and its trailer matches   74 stack words inside the record, address sums inside 64 bits
+ *   75 needed registers are there, and each frame has an address rule
  *   76 x64 header: version 1, no flags, all four bytes and all slots there   77 x64 codes: complete, operations that unwind_seh writes
  *   ARM64: 76 a record: version 0, no part past the end   77 the flag and the packed word are defined; codes: complete, each run ended,
  *   of the kinds below; an epilogue at the end is not longer than the function
@@ -65,6 +69,7 @@ extern "C" {
 enum unwind_format { UNWIND_ELF = 0, UNWIND_COFF = 1, UNWIND_MACH_O = 2, UNWIND_WASM = 3, UNWIND_PLAN_9 = 4 };
 enum unwind_kind { UNWIND_EH_FRAME = 0, UNWIND_DEBUG_FRAME = 1 };
 enum unwind_rule { UNWIND_UNSTATED = 0, UNWIND_UNDEFINED = 1, UNWIND_SAVED = 2, UNWIND_SAME_VALUE = 3, UNWIND_IN_REGISTER = 4 };
+enum unwind_ending { UNWIND_RETURN_UNDEFINED = 1, UNWIND_HELD_BY_NONE = 2, UNWIND_TOO_MANY = 3 };
 enum unwind_row_kind {
     UNWIND_ROW_DEF_CFA = 0, UNWIND_ROW_DEF_CFA_OFFSET = 1, UNWIND_ROW_DEF_CFA_REGISTER = 2, UNWIND_ROW_OFFSET = 3,
     UNWIND_ROW_RESTORE = 4, UNWIND_ROW_UNDEFINED = 5, UNWIND_ROW_REMEMBER_STATE = 6, UNWIND_ROW_RESTORE_STATE = 7,
@@ -81,7 +86,8 @@ enum unwind_question {
     UNWIND_QUESTION_TILING = 61, UNWIND_QUESTION_RECORD = 62, UNWIND_QUESTION_HEADER = 63, UNWIND_QUESTION_FIELDS = 64,
     UNWIND_QUESTION_OFFSET = 65, UNWIND_QUESTION_OPERATIONS = 66, UNWIND_QUESTION_STATES = 67,
     UNWIND_QUESTION_STATES_ROOM = 68, UNWIND_QUESTION_FRAME_RULE = 69, UNWIND_QUESTION_CALL_SITE_TABLE = 71,
-    UNWIND_QUESTION_CALL_SITES = 72, UNWIND_QUESTION_X64_HEADER = 76, UNWIND_QUESTION_X64_CODES = 77,
+    UNWIND_QUESTION_CALL_SITES = 72, UNWIND_QUESTION_RECORDED = 73, UNWIND_QUESTION_STACK = 74,
+    UNWIND_QUESTION_REACHED = 75, UNWIND_QUESTION_X64_HEADER = 76, UNWIND_QUESTION_X64_CODES = 77,
     UNWIND_QUESTION_MACH_O = 78, UNWIND_QUESTION_RELOCATIONS = 79, UNWIND_QUESTION_DISTANCE = 80, UNWIND_QUESTION_EVERY_OFFSET = 84
 };
 
@@ -124,9 +130,10 @@ uint64_t unwind_row_check(const uint64_t *functions, size_t functions_n, const u
 
 /* What the reader answers: `number` is 0, or the question's. frame: 0 none, 1 register plus offset. rule: 0 unstated,
  * 1 undefined, 2 saved at the frame address plus rule_value, 3 same value, 4 in the register rule_value. Offsets are 64-bit two's
- * complement. A field without meaning is 0. */
+ * complement. shortest: 1 where every LEB number that was read for the answer is spelled in as few bytes as can be: those among the
+ * fields of the header and of the record, and those of their operations up to the step that passes p. A field without meaning is 0. */
 typedef struct {
-    uint64_t number, frame, frame_register, frame_offset, rule, rule_value, signing;
+    uint64_t number, frame, frame_register, frame_offset, rule, rule_value, signing, shortest;
 } unwind_reading;
 
 /* The rules of record k at offset p of its function, for one register. kind: 0 eh_frame, 1 debug_frame. */
@@ -135,9 +142,10 @@ unwind_reading unwind_read(
     uint64_t kind, uint64_t word, uint64_t k, uint16_t reg, uint64_t p);
 
 /* What the reader of call sites answers: `number` is 0, or the question's (71, then 72). found: 1 where an entry covers the offset, else
- * 0. A pad of 0 is no handler. All are 0 on a refusal, and where no entry covers the offset. */
+ * 0. A pad of 0 is no handler. shortest: 1 where the table's length and every number of its entries are spelled in as few bytes as can
+ * be. All are 0 on a refusal, and all but shortest where no entry covers the offset. */
 typedef struct {
-    uint64_t number, found, start, length, pad;
+    uint64_t number, found, start, length, pad, shortest;
 } unwind_site;
 
 /* The first site, in table order, of the table at a place of the call sites that covers a code offset: its start is at most the offset, and
@@ -148,9 +156,10 @@ unwind_site unwind_call_site(const uint8_t *sites, size_t sites_n, uint64_t plac
 /* ---- the reader by places: one pass over a section for several questions */
 
 /* Where the operations of a record and of its header are (from, and up to), the function's length, the bytes of a record's pointer to
- * call sites, the header's signal mark, and the word. `number` is 0, or the question's; all else is 0 then. */
+ * call sites, the header's signal mark, the word, and whether the LEB numbers among the fields of both are spelled shortest (1 or 0).
+ * `number` is 0, or the question's; all else is 0 then. */
 typedef struct {
-    uint64_t number, header, header_end, record, record_end, length, pointer, signal, word;
+    uint64_t number, header, header_end, record, record_end, length, pointer, signal, word, shortest;
 } unwind_located;
 
 /* Record k: 11, 61 to 64. */
@@ -162,6 +171,20 @@ unwind_located unwind_locate(
  * Other numbers are taken too; those that do not lie in the section are 64. */
 unwind_reading unwind_rules_at(
     const uint8_t *section, size_t section_n, unwind_located located, uint16_t reg, uint64_t p);
+
+/* How many lines there are, and the question (66 to 69) by which the reader refuses from the offset `from` on; 0 and 0 where it refuses
+ * nowhere. `number` is 0, or the question's; all else is 0 then. */
+typedef struct {
+    uint64_t number, lines, ending, from;
+} unwind_listed;
+
+/* The rules at every location of a record, in one run over its operations: a line from offset 0 on, and one from each location on behind a
+ * step that is not 0. Seven numbers a line, at the front of a lent list, whose rest is as it was: the offset, and the six of unwind_reading
+ * behind its number. unwind_rules_at answers the numbers of the last line at or before its offset, and from `from` on `ending`. Lines at and
+ * past the function's end are stored too. A non-zero number in `located` is the answer; then 64 where its places do not lie in the section,
+ * then 54 where the list has no room for seven numbers for each byte of the record's operations and seven more. */
+unwind_listed unwind_rules_along(
+    const uint8_t *section, size_t section_n, unwind_located located, uint16_t reg, uint64_t *lines, size_t lines_n);
 
 /* How many records there are. */
 typedef struct {
@@ -199,6 +222,26 @@ typedef struct {
  * does. */
 unwind_holder unwind_record_of(
     const uint8_t *section, size_t section_n, uint64_t kind, uint64_t word, uint64_t address, uint64_t pc);
+
+/* What the walk answers: `number` is 0, or the question's. frames: how many there are, at most 64. ending: 1 the rules of the last frame
+ * leave the return address undefined, 2 no function holds the address, 3 a 65th frame would follow. All are 0 on a refusal. */
+typedef struct {
+    uint64_t number, frames, ending;
+} unwind_chain;
+
+/* The chain of callers of a recorded fault. `record` is the file: the stack's bytes, registers of 8 bytes each from DWARF number 0 on,
+ * and a trailer of 16 bytes: the distance from the trailer to the first register (8 bytes), the count of registers, at most 128 (4), and
+ * the stack's length (4). `stack` is the address of the first of the stack's bytes. `functions` are two numbers each, for record k of
+ * the section the start address and the length of its function; the first in the list that holds an address is taken. kind: 0 eh_frame,
+ * 1 debug_frame. Stores two numbers a frame at the front of `frames`: the function's position in the list, and the pc or return address.
+ * A caller is looked up, and its rules are read, one byte before its return address, but exactly there where the frame just left has
+ * the signal mark. Registers 0 to 127 are followed. Where the return address is signed, its low 48 bits are taken.
+ * 73, then 11 and 12 for the machine; frame by frame 11 for the kind, 61 to 69, 74 and 75; 54 last. */
+unwind_chain unwind_walk(
+    const uint64_t *machine, size_t machine_n, const uint8_t *record, size_t record_n,
+    const uint8_t *section, size_t section_n, const uint64_t *relocations, size_t relocations_n,
+    uint64_t kind, uint64_t pc, uint64_t stack, const uint64_t *functions, size_t functions_n,
+    uint64_t *frames, size_t frames_n);
 
 /* What the check of a section answers: `number` is 0, or 11 for the word, then 61, then 84 with the first record that does not pass,
  * counted from 0. record is 0 otherwise. */
@@ -292,7 +335,7 @@ uint64_t unwind_apply(
 /* ---- functions and rows as structs
  *
  * Each field is the number of the same name above; a number that the field cannot hold does not occur, and a mark above 1 or a
- * kind above 8 is question 13. Landings and pairs, all 64-bit numbers, are the lists above. */
+ * kind above 10 is question 13. Landings and pairs, all 64-bit numbers, are the lists above. */
 typedef struct {
     uint64_t offset;
     uint8_t kind;

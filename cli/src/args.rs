@@ -15,7 +15,7 @@ pub struct Args {
 }
 
 /// The options with a value.
-const VALUED: [&str; 12] = [
+const VALUED: [&str; 17] = [
     "--section",
     "--kind",
     "--word",
@@ -28,6 +28,11 @@ const VALUED: [&str; 12] = [
     "--register",
     "--place",
     "--first",
+    "--fault",
+    "--pc",
+    "--stack",
+    "--functions",
+    "--html",
 ];
 /// Those without one.
 const PLAIN: [&str; 5] = ["--operations", "--linked", "--json", "--help", "--version"];

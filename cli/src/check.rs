@@ -51,11 +51,13 @@ pub fn run(args: &Args) -> Result<bool, Stop> {
     let parts = Parts::new(&section);
     let mut listing = Listing::new(&section, &parts, false);
     let causes = causes(&mut listing, first);
+    let long = long_spellings(&listing, first);
     let mut out = Out::new();
     if args.has("--json") {
-        as_json(&mut out, &file, &listing, &causes);
+        as_json(&mut out, &file, &listing, &causes, &long);
     } else {
         as_text(&mut out, &listing, &causes);
+        long_text(&mut out, &long);
     }
     crate::finished(&mut out)?;
     if let Some(why) = parts.complaint() {
@@ -109,6 +111,55 @@ pub fn causes(listing: &mut Listing<'_>, first: u64) -> Causes {
     causes
 }
 
+/// The records that can be read, in which a number takes more bytes than it needs.
+fn long_spellings(listing: &Listing<'_>, first: u64) -> Cause {
+    let mut long = Cause::default();
+    let parts = listing.parts;
+    for (k, record) in parts.records.iter().enumerate() {
+        let Ok(located) = parts.frame.locate_at(*record) else { continue };
+        if !located.long() {
+            continue;
+        }
+        long.count += 1;
+        if (long.first.len() as u64) < first {
+            long.first.push((k as u64, record.place));
+        }
+    }
+    long
+}
+
+fn long_text(out: &mut Out, long: &Cause) {
+    if long.count == 0 {
+        return;
+    }
+    out.decimal(long.count).text(if long.count == 1 { " record has" } else { " records have" });
+    out.text(" long spellings: numbers that take more bytes than they need").line();
+    places_text(out, long);
+}
+
+/// The first places of a cause, and how many more there are.
+fn places_text(out: &mut Out, cause: &Cause) {
+    for (k, place) in &cause.first {
+        out.text("  record ").decimal(*k).text(" at 0x").hex(*place, 1).line();
+    }
+    if cause.count > cause.first.len() as u64 {
+        out.text("  and ").decimal(cause.count - cause.first.len() as u64).text(" more").line();
+    }
+}
+
+/// The first places of a cause, as a list.
+fn places_json(out: &mut Out, cause: &Cause) {
+    out.text("\"first\": [");
+    for (i, (k, place)) in cause.first.iter().enumerate() {
+        out.text(if i == 0 { "{" } else { ", {" });
+        json::number(out, "record", *k);
+        out.text(", ");
+        json::number(out, "place", *place);
+        out.text("}");
+    }
+    out.text("]");
+}
+
 fn refusal(listing: &mut Listing<'_>, k: usize) -> Option<(u64, String)> {
     let record = listing.record(k);
     // A function without a byte has no offset to be read at.
@@ -155,16 +206,11 @@ pub fn as_text(out: &mut Out, listing: &Listing<'_>, causes: &Causes) {
     for ((number, words), cause) in causes {
         out.decimal(cause.count).text(if cause.count == 1 { " record" } else { " records" });
         out.text(" refused with ").decimal(*number).text(": ").text(words).line();
-        for (k, place) in &cause.first {
-            out.text("  record ").decimal(*k).text(" at 0x").hex(*place, 1).line();
-        }
-        if cause.count > cause.first.len() as u64 {
-            out.text("  and ").decimal(cause.count - cause.first.len() as u64).text(" more").line();
-        }
+        places_text(out, cause);
     }
 }
 
-fn as_json(out: &mut Out, file: &File, listing: &Listing<'_>, causes: &Causes) {
+fn as_json(out: &mut Out, file: &File, listing: &Listing<'_>, causes: &Causes, long: &Cause) {
     let parts = listing.parts;
     about(out, file, listing.section);
     out.text(", ");
@@ -181,15 +227,13 @@ fn as_json(out: &mut Out, file: &File, listing: &Listing<'_>, causes: &Causes) {
         json::refusal(out, Refusal { number: *number, position: 0 }, words);
         out.text(", ");
         json::number(out, "count", cause.count);
-        out.text(", \"first\": [");
-        for (i, (k, place)) in cause.first.iter().enumerate() {
-            out.text(if i == 0 { "{" } else { ", {" });
-            json::number(out, "record", *k);
-            out.text(", ");
-            json::number(out, "place", *place);
-            out.text("}");
-        }
-        out.text("]}");
+        out.text(", ");
+        places_json(out, cause);
+        out.text("}");
     }
-    out.text("]}").line();
+    out.text("], \"long_spellings\": {");
+    json::number(out, "count", long.count);
+    out.text(", ");
+    places_json(out, long);
+    out.text("}}").line();
 }

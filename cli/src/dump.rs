@@ -6,14 +6,14 @@ use std::ops::Range;
 use std::thread;
 
 use dekvoz::parts::{header, operations, record, Entry, Fault, Header, Operation};
-use dekvoz::{Frame, Located, Placed, Question, Record, Refusal, Rule, Section as Kind, Word};
+use dekvoz::{Frame, Located, Placed, Question, Record, Rule, Section as Kind, Word};
 
 use crate::args::Args;
 use crate::input::{End, File, Parts, Section};
 use crate::out::Out;
 use crate::progress::Progress;
 use crate::registers::Names;
-use crate::table::{Rows, Spans, Table};
+use crate::table::{Row, Spans, Table};
 use crate::{words, Stop};
 
 /// How many entries are listed in one go.
@@ -62,6 +62,8 @@ pub struct Listing<'a> {
     pub section: &'a Section<'a>,
     pub parts: &'a Parts<'a>,
     headers: HashMap<u64, Result<Header, Fault>>,
+    /// The table of the entry that was listed last.
+    pub table: Table,
     pub operations: bool,
 }
 
@@ -92,7 +94,7 @@ pub struct Found<'a> {
 impl<'a> Listing<'a> {
     /// A section to list, with its operations or without.
     pub fn new(section: &'a Section<'a>, parts: &'a Parts<'a>, operations: bool) -> Listing<'a> {
-        Listing { section, parts, headers: HashMap::new(), operations }
+        Listing { section, parts, headers: HashMap::new(), table: Table::default(), operations }
     }
 
     /// How many digits an address has.
@@ -107,6 +109,11 @@ impl<'a> Listing<'a> {
             Word::Four => address & 0xffff_ffff,
             Word::Two => address & 0xffff,
         }
+    }
+
+    /// Makes the table of an entry.
+    pub fn read_table(&mut self, spans: &Spans) {
+        self.table.read(self.parts.frame.bytes, spans, self.section.word);
     }
 
     /// The header at a place.
@@ -230,7 +237,11 @@ impl<'a> Listing<'a> {
             let end = self.fitted(start.wrapping_add(length));
             out.text(" pc=").hex(start, self.width()).text("..").hex(end, self.width());
         }
-        out.text(" record ").decimal(k as u64).line();
+        out.text(" record ").decimal(k as u64);
+        if view.found.as_ref().is_ok_and(|found| found.located.long()) {
+            out.text(", long spellings");
+        }
+        out.line();
         let found = match view.found {
             Ok(found) => found,
             Err(fault) => return refused(out, fault),
@@ -288,8 +299,9 @@ impl<'a> Listing<'a> {
         out.text(&self.section.names.both(register))
     }
 
-    fn table_text(&self, out: &mut Out, spans: &Spans, start: u64, ra: u64) {
-        let table = Table::new(self.parts.frame.bytes, spans, self.section.word);
+    fn table_text(&mut self, out: &mut Out, spans: &Spans, start: u64, ra: u64) {
+        self.read_table(spans);
+        let table = &self.table;
         out.cell("   LOC", self.width()).text(" CFA      ");
         for register in &table.columns {
             match u64::from(*register) == ra {
@@ -298,18 +310,17 @@ impl<'a> Listing<'a> {
             };
         }
         out.line();
-        let mut rows = Rows::new(self.parts.frame.bytes, spans, self.section.word, &table);
-        while let Some((offset, said)) = rows.next() {
-            out.hex(self.fitted(start.wrapping_add(offset)), self.width()).text(" ");
-            self.row_text(out, said, &rows.rules);
+        for row in table.rows() {
+            out.hex(self.fitted(start.wrapping_add(row.offset)), self.width()).text(" ");
+            self.row_text(out, &row);
         }
         if table.left_out != 0 {
             out.text("  and ").decimal(table.left_out as u64).text(" registers more").line();
         }
     }
 
-    fn row_text(&self, out: &mut Out, said: Result<(Frame, bool), Refusal>, rules: &[Rule]) {
-        let (frame, signing) = match said {
+    fn row_text(&self, out: &mut Out, row: &Row<'_>) {
+        let (frame, signing) = match row.said {
             Ok(said) => said,
             Err(refusal) => {
                 out.text(&words::refused(refusal)).line();
@@ -317,8 +328,8 @@ impl<'a> Listing<'a> {
             }
         };
         out.column(9, |out| self.frame(out, frame));
-        for rule in rules {
-            out.column(6, |out| rule_cell(out, &self.section.names, *rule));
+        for rule in row.rules() {
+            out.column(6, |out| rule_cell(out, &self.section.names, rule));
         }
         if signing {
             out.text("signed");

@@ -1,18 +1,22 @@
-//! `dekvoz example`: a small firmware's table is written, listed and checked, and the chain of callers of a trap is taken apart.
+//! `dekvoz example`: a small firmware's table is written, listed and checked, and a recorded fault is walked.
 
+use std::fs;
+
+use dekvoz::walk::{functions, recorded, Fault};
 use dekvoz::{
-    apply, call_site, relaxed_debug_frame, relaxed_table, row_check, Builder, Built, Format, Frame, FrameSection, Function,
-    Located, Machine, Refusal, Rule, Section as Kind, Table, Word,
+    apply, call_site, relaxed_debug_frame, relaxed_table, row_check, Builder, Built, Format, FrameSection, Function, Machine,
+    Refusal, Section as Kind, Table, Word,
 };
 
 use crate::args::Args;
 use crate::check;
 use crate::dump::Listing;
 use crate::handler;
-use crate::input::{Parts, Section};
+use crate::input::{File, Parts, Section};
 use crate::out::Out;
+use crate::page;
 use crate::registers::{self, Names};
-use crate::rules::{frame_words, rule_words};
+use crate::walk::{self, Functions};
 use crate::Stop;
 
 /// AArch64: the frame pointer, the return address and the stack pointer.
@@ -20,8 +24,6 @@ const X19: u16 = 19;
 const FP: u16 = 29;
 const LR: u16 = 30;
 const SP: u16 = 31;
-/// Above these bits of an address stands its authentication code, where it is signed.
-const ADDRESS_BITS: u64 = (1 << 48) - 1;
 
 /// Where the linker put the table and the call sites, and in relocations the symbols of the personality routine and of the call sites.
 const SECTION: u64 = 0x90000;
@@ -97,8 +99,8 @@ fn report() -> Builder {
         .negate_ra_state()
 }
 
-/// The words of the stack when report runs: address and value.
-const STACK: [(u64, u64); 7] = [
+/// The words of the stack when report was stopped, but those that are 0: address and value.
+const STACK: [(u64, u64); 8] = [
     (0x2000_0e90, 0x2000_0fb0),           // report: x29 of vector
     (0x2000_0e98, 0x00a5_0000_0008_00d4), // report: back to vector, signed
     (0x2000_0f88, 0x2000_0fb0),           // vector: x29 of sample
@@ -106,47 +108,41 @@ const STACK: [(u64, u64); 7] = [
     (0x2000_0fb0, 0x2000_0fe0),           // sample: x29 of control
     (0x2000_0fb8, 0x0008_0064),           // sample: back to control
     (0x2000_0fc0, 7),                     // sample: x19 of control
+    (0x2000_0fe8, 0x0008_0014),           // control: back to reset, whose x29 is 0
 ];
-/// Those of control.
-const CONTROL: [(u64, u64); 2] = [(0x2000_0fe0, 0), (0x2000_0fe8, 0x0008_0014)];
-
-fn word(address: u64) -> Option<u64> {
-    STACK.iter().chain(&CONTROL).find(|(at, _)| *at == address).map(|(_, value)| *value)
-}
-
-/// The registers that a chain goes by.
-#[derive(Clone, Copy)]
-struct Registers {
-    pc: u64,
-    sp: u64,
-    fp: u64,
-    x19: u64,
-}
-
-/// Where report was stopped.
-const STOPPED: Registers = Registers { pc: 0x80154, sp: 0x2000_0e90, fp: 0x2000_0e90, x19: 9 };
+/// The stack that was recorded: from where report's frame starts to where control's ends.
+const STACK_AT: u64 = 0x2000_0e90;
+const STACK_END: u64 = 0x2000_0ff0;
+/// Where report was stopped, and the registers that are not 0 there.
+const STOPPED: u64 = 0x80154;
+const REGISTERS: [(u16, u64); 3] = [(X19, 9), (FP, STACK_AT), (SP, STACK_AT)];
 
 /// Runs the example.
 pub fn run(args: &Args) -> Result<bool, Stop> {
-    args.only("example", &[])?;
+    args.only("example", &["--html"])?;
     if args.file.is_some() {
         return Err(Stop::Usage(crate::args::Usage("example takes no file".to_string())));
     }
     let mut out = Out::new();
-    let done = show(&mut out).map_err(|refusal| Stop::failed("example", refusal));
+    let done = show(&mut out, args.value("--html"));
     crate::finished(&mut out)?;
     done.map(|()| true)
 }
 
-fn show(out: &mut Out) -> Result<(), Refusal> {
+/// A refusal of the library, which no part of the example meets.
+fn failed(refusal: Refusal) -> Stop {
+    Stop::failed("example", refusal)
+}
+
+fn show(out: &mut Out, page: Option<&str>) -> Result<(), Stop> {
     let codes = firmware();
     let functions: Vec<Function<'_>> = codes.iter().map(|code| code.built.function()).collect();
     out.text("A firmware for AArch64 has five functions:").line();
     for (code, function) in codes.iter().zip(&functions) {
         out.text(&format!("  {:8} at {:#x}, {} bytes: {}", code.name, code.address, function.length, code.about)).line();
     }
-    let table = relaxed_table(&Machine::AARCH64, Format::Elf, &functions)?;
-    let bytes = placed(&codes, &table)?;
+    let table = relaxed_table(&Machine::AARCH64, Format::Elf, &functions).map_err(failed)?;
+    let bytes = placed(&codes, &table).map_err(failed)?;
     out.text(&format!(
         "\nTheir eh_frame of {} bytes, put at {SECTION:#x} with {} relocations applied:\n\n",
         bytes.len(),
@@ -156,9 +152,9 @@ fn show(out: &mut Out) -> Result<(), Refusal> {
     let parts = Parts::new(&section);
     Listing::new(&section, &parts, false).text(out);
     checked(out, &codes, &section, &parts);
-    chain(out, &codes, &section, &parts)?;
-    caught(out, &table)?;
-    same(out, &functions, &parts.frame)
+    same(out, &functions, &parts.frame).map_err(failed)?;
+    caught(out, &table).map_err(failed)?;
+    chain(out, &codes, &section, &parts, page)
 }
 
 fn section(bytes: &[u8]) -> Section<'_> {
@@ -183,79 +179,37 @@ fn checked(out: &mut Out, codes: &[Code], section: &Section<'_>, parts: &Parts<'
     check::as_text(out, &listing, &causes);
 }
 
-/// From where report was stopped to reset. A caller is looked up one byte before its return address, since the call may be the last
-/// instruction of its function; what a signal frame interrupted stands exactly at its address.
-fn chain(out: &mut Out, codes: &[Code], section: &Section<'_>, parts: &Parts<'_>) -> Result<(), Refusal> {
-    out.text("\nThe device does not answer: sample traps, vector saves the registers and calls\n");
-    out.text(&format!("report, which was stopped at {:#x}. Its chain of callers, each by the rules\n", STOPPED.pc));
-    out.text("at its place:\n\n");
-    let (mut registers, mut exact) = (STOPPED, true);
-    for depth in 0..codes.len() {
-        let asked = if exact { registers.pc } else { registers.pc.wrapping_sub(1) };
-        let holder = parts.frame.at(asked)?;
-        let start = parts.frame.function(holder.place)?.address;
-        let name = codes.get(holder.k as usize).map_or("no function", |code| code.name);
-        let located = parts.frame.locate(holder.k)?;
-        out.text(&format!("#{depth} {name}+{}, pc {:#x}", registers.pc - start, registers.pc));
-        out.text(&if exact { ": asked there".to_string() } else { format!(": asked at offset {}", asked - start) }).line();
-        exact = located.signal();
-        match caller(out, section, &located, asked - start, registers)? {
-            Some(next) => registers = next,
-            None => {
-                out.text("   the return address is undefined: here the chain ends").line();
-                return Ok(());
-            }
-        }
-    }
-    Ok(())
+/// What was recorded when report was stopped: the stack's bytes and the registers.
+fn record() -> Vec<u8> {
+    let word = |at| STACK.iter().find(|(address, _)| *address == at).map_or(0, |(_, value)| *value);
+    let stack: Vec<u8> = (STACK_AT..STACK_END).step_by(8).flat_map(|at| u64::to_le_bytes(word(at))).collect();
+    let value = |n| REGISTERS.iter().find(|(register, _)| *register == n).map_or(0, |(_, value)| *value);
+    recorded(&stack, &(0..=SP).map(value).collect::<Vec<_>>())
 }
 
-/// The caller's registers, or none at the chain's end.
-fn caller(
-    out: &mut Out,
-    section: &Section<'_>,
-    located: &Located<'_>,
-    p: u64,
-    now: Registers,
-) -> Result<Option<Registers>, Refusal> {
-    let ask = |register| located.rules(register, p);
-    let back = ask(LR)?;
-    let cfa = match back.frame {
-        Frame::Register { register: SP, offset } => now.sp.wrapping_add_signed(offset),
-        Frame::Register { register: FP, offset } => now.fp.wrapping_add_signed(offset),
-        _ => return Ok(None),
-    };
-    out.text(&format!("   CFA = {} = {cfa:#x}", frame_words(&section.names, back.frame)));
-    out.text(if located.signal() { "; a signal frame" } else { "" }).line();
-    let load = |rule, kept| match rule {
-        Rule::Saved(offset) => word(cfa.wrapping_add_signed(offset)),
-        Rule::Unstated => Some(kept),
-        Rule::SameValue => Some(kept),
-        Rule::Undefined | Rule::InRegister(_) => None,
-    };
-    let mut value = [0; 2];
-    for ((register, kept), value) in [(X19, now.x19), (FP, now.fp)].into_iter().zip(&mut value) {
-        let rule = ask(register)?.rule;
-        *value = load(rule, kept).unwrap_or(0);
-        let words = if rule == Rule::Unstated { "as it is".to_string() } else { rule_words(&section.names, rule) };
-        out.text(&format!("   {:3} {words}: {value:#x}", section.names.text(u64::from(register)))).line();
-    }
-    let Some(stored) = load(back.rule, 0) else { return Ok(None) };
-    let pc = if back.signing { stored & ADDRESS_BITS } else { stored };
-    let signed = if back.signing { format!("{stored:#x}, signed, is ") } else { String::new() };
-    out.text(&format!(
-        "   {:3} {}: {signed}{pc:#x}, the return address\n",
-        section.names.text(u64::from(LR)),
-        rule_words(&section.names, back.rule)
-    ));
-    Ok(Some(Registers { pc, sp: cfa, fp: value[1], x19: value[0] }))
+/// From where report was stopped to reset.
+fn chain(out: &mut Out, codes: &[Code], section: &Section<'_>, parts: &Parts<'_>, page: Option<&str>) -> Result<(), Stop> {
+    out.text("\nOne day the device does not answer: sample traps, vector saves the registers and\n");
+    out.text(&format!("calls report, which was stopped at {STOPPED:#x}. The walk over what was recorded says:\n\n"));
+    let names = codes.iter().map(|code| (code.address, code.name.to_string())).collect();
+    let functions = Functions::new(functions(&parts.frame).map_err(failed)?, names);
+    let record = record();
+    let fault = Fault { machine: &Machine::AARCH64, record: &record, pc: STOPPED, stack: STACK_AT };
+    let walked = walk::walked("the record of the example", &fault, section, &parts.frame, parts, &functions)?;
+    walk::chain(out, &walked);
+    let Some(page) = page else { return Ok(()) };
+    let file = File { name: "the table of the example".to_string(), bytes: section.bytes.to_vec(), object: None };
+    fs::write(page, page::text(&file, &walked)).map_err(|error| Stop::failed(page, error))
 }
 
-/// Who would get what is thrown where the trap struck: the call sites of the record, at the addend of its relocation to their section.
+/// Who would get what is thrown where sample reads the device: the call sites of the record, at the addend of its relocation to their
+/// section.
 fn caught(out: &mut Out, table: &Table) -> Result<(), Refusal> {
     let Some(pointer) = table.relocations.iter().find(|relocation| relocation.symbol == CALL_SITES) else { return Ok(()) };
     let site = call_site(&table.sites, pointer.addend, 24)?;
-    out.text("\nWould sample catch what is thrown there?\n").text(&handler::words_of(24, Some(site))).line();
+    out.text("\nWould sample catch what is thrown where it reads the device?\n")
+        .text(&handler::words_of(24, Some(site)))
+        .line();
     Ok(())
 }
 

@@ -140,7 +140,7 @@ pub fn words_of(offset: u64, site: Option<Option<Site>>) -> String {
     match site {
         None => "the record has no table of call sites: no handler".to_string(),
         Some(None) => format!("no call site covers offset {offset}"),
-        Some(Some(Site { start, length, pad })) => {
+        Some(Some(Site { start, length, pad, .. })) => {
             let end = start.wrapping_add(length);
             let handler = match pad {
                 0 => ", which has no handler".to_string(),

@@ -8,7 +8,7 @@ use dekvoz::Section as Kind;
 use crate::dump::{augmentation, header_alone, Listing};
 use crate::input::{File, Section};
 use crate::out::Out;
-use crate::table::{Rows, Spans, Table};
+use crate::table::Spans;
 use crate::{json, words};
 
 /// The file and section that an answer is about: the front of every JSON object.
@@ -97,6 +97,8 @@ fn record(out: &mut Out, listing: &mut Listing<'_>, k: usize) {
     match view.found {
         Err(fault) => refused(out, fault),
         Ok(found) => {
+            out.text(", ");
+            json::mark(out, "long_spellings", found.located.long());
             listed_operations(out, listing, found.spans.record.clone());
             rows(out, listing, &found.spans, start);
         }
@@ -145,24 +147,22 @@ fn operands(operation: Operation) -> (Option<u64>, Option<i64>) {
     }
 }
 
-fn rows(out: &mut Out, listing: &Listing<'_>, spans: &Spans, start: u64) {
-    let table = Table::new(listing.parts.frame.bytes, spans, listing.section.word);
+fn rows(out: &mut Out, listing: &mut Listing<'_>, spans: &Spans, start: u64) {
+    listing.read_table(spans);
+    let table = &listing.table;
     out.text(", \"rows\": [");
-    let mut rows = Rows::new(listing.parts.frame.bytes, spans, listing.section.word, &table);
-    let mut first = true;
-    while let Some((offset, said)) = rows.next() {
-        out.text(if first { "{" } else { ", {" });
-        first = false;
-        json::address(out, "location", listing.fitted(start.wrapping_add(offset)));
+    for (n, row) in table.rows().enumerate() {
+        out.text(if n == 0 { "{" } else { ", {" });
+        json::address(out, "location", listing.fitted(start.wrapping_add(row.offset)));
         out.text(", ");
-        match said {
+        match row.said {
             Err(refusal) => json::refusal(out, refusal, words::cause(refusal)),
             Ok((frame, signing)) => {
                 json::frame(out, frame);
                 out.text(", \"registers\": [");
-                for (i, (register, rule)) in table.columns.iter().zip(&rows.rules).enumerate() {
+                for (i, (register, rule)) in table.columns.iter().zip(row.rules()).enumerate() {
                     out.text(if i == 0 { "" } else { ", " });
-                    json::rule(out, *register, &listing.section.names.text(u64::from(*register)), *rule);
+                    json::rule(out, *register, &listing.section.names.text(u64::from(*register)), rule);
                 }
                 out.text("], ");
                 json::mark(out, "signed", signing);

@@ -1,20 +1,27 @@
-//! `dekvoz`: lists, checks and reads unwind tables. What it prints comes out of the library; here are files, arguments and text.
+//! `dekvoz`: lists, checks and reads unwind tables, and walks recorded faults. What it prints comes out of the library; here are files, arguments and text.
 #![forbid(unsafe_code)]
 
 mod args;
 mod check;
+mod digest;
 mod dump;
 mod example;
+mod facts;
+mod grounds;
 mod handler;
 mod input;
 mod json;
 mod listed;
 mod object;
 mod out;
+mod page;
 mod progress;
+mod recorded;
 mod registers;
+mod replay;
 mod rules;
 mod table;
+mod walk;
 mod words;
 mod x64;
 
@@ -95,6 +102,7 @@ fn run() -> Result<bool, Stop> {
         Some("rules") => rules::run(&args),
         Some("check") => check::run(&args),
         Some("handler") => handler::run(&args),
+        Some("walk") => walk::run(&args),
         Some("x64") => x64::run(&args),
         Some(other) => Err(Stop::Usage(Usage(format!("there is no command `{other}`")))),
         None => Err(Stop::Usage(Usage("a command is asked for".to_string()))),

@@ -29,6 +29,9 @@ pub struct Object {
     pub relocatable: bool,
 }
 
+const SHT_SYMTAB: u64 = 2;
+const SHT_DYNSYM: u64 = 11;
+const STT_FUNC: u64 = 2;
 const SHT_RELA: u64 = 4;
 const SHT_REL: u64 = 9;
 const SHT_NOBITS: u64 = 8;
@@ -156,6 +159,28 @@ fn own_of(bytes: &[u8], object: &Object, list: &Section, section: usize) -> Opti
         }
     }
     Some(found)
+}
+
+/// The names of an ELF file's functions by their addresses (gABI, "Symbol Table"): of those in .symtab, or else in .dynsym. Of two names
+/// for one address the first counts.
+pub fn function_names(bytes: &[u8], object: &Object) -> Vec<(u64, String)> {
+    let table = |kind| object.sections.iter().find(|section| section.kind == kind && section.plain);
+    let Some(symbols) = table(SHT_SYMTAB).or_else(|| table(SHT_DYNSYM)) else { return Vec::new() };
+    let strings = usize::try_from(symbols.link).ok().and_then(|link| object.sections.get(link));
+    let Some(strings) = strings.and_then(|strings| bytes.get(strings.bytes.clone())) else { return Vec::new() };
+    let (size, word, info, value) = if object.word == 8 { (24, 8, 4, 8) } else { (16, 4, 12, 4) };
+    let mut found = std::collections::BTreeMap::new();
+    for symbol in bytes.get(symbols.bytes.clone()).unwrap_or(&[]).chunks_exact(size) {
+        let Some((title, about, address)) = symbol_fields(symbol, info, value, word) else { continue };
+        if about & 15 == STT_FUNC && address != 0 {
+            found.entry(address).or_insert_with(|| name(strings, title));
+        }
+    }
+    found.into_iter().collect()
+}
+
+fn symbol_fields(symbol: &[u8], info: usize, value: usize, word: usize) -> Option<(usize, u64, u64)> {
+    Some((usize::try_from(field(symbol, 0, 4)?).ok()?, field(symbol, info, 1)?, field(symbol, value, word)?))
 }
 
 /// The sections of a COFF object or a PE image, where the file looks like one.

@@ -91,6 +91,7 @@ fn answer(args: &Args, file: &File, section: &Section<'_>, place: &Place<'_>, re
         Some(register) => located.rules(register, place.offset).map(|rules| AllRules {
             frame: rules.frame,
             signing: rules.signing,
+            shortest: rules.shortest,
             registers: vec![(register, rules.rule)],
         }),
     };
@@ -135,6 +136,9 @@ fn as_text(out: &mut Out, section: &Section<'_>, place: &Place<'_>, said: &AllRu
         false => "no; the caller is looked up one byte before its return address",
     });
     out.line();
+    if !said.shortest {
+        out.text("long spellings: a number that was read takes more bytes than it needs").line();
+    }
 }
 
 /// The frame address rule in words.
@@ -181,5 +185,7 @@ fn as_json(out: &mut Out, file: &File, section: &Section<'_>, place: &Place<'_>,
     json::mark(out, "signed", said.signing);
     out.text(", ");
     json::mark(out, "signal", place.found.located.signal());
+    out.text(", ");
+    json::mark(out, "shortest", said.shortest);
     out.text("}").line();
 }

@@ -1,5 +1,5 @@
-/* A trap in a small firmware: writes the table of its three functions, checks their rows, and prints by which rules the caller
- * is found from each frame of the chain. It prints what bindings/rust/examples/trap.rs prints.
+/* A trap in a small firmware: writes the table of its three functions, checks their rows, prints by which rules the caller is found
+ * from each frame of the chain, and walks the recorded fault. It prints what bindings/rust/examples/trap.rs prints.
  *
  *     bindings/archive
  *     gcc -O2 -Wall -Wextra -Werror -o target/trap examples/c/trap.c target/lib/libdekvoz.a
@@ -55,6 +55,13 @@ static const struct {
     uint16_t number;
 } registers[] = {{"rbx", RBX}, {"rbp", RBP}, {"return address", RETURN_ADDRESS}};
 
+/* Where the linker put the functions, with their lengths, and what was recorded when sample was stopped: ten words of the stack, among them
+ * rbx and the return address of sample, rbp and that of control; and the registers, of which rbp and rsp are needed. */
+static const uint64_t placed[2 * FUNCTIONS] = {0x1000, 14, 0x1010, 61, 0x1050, 50};
+enum { STACK = 0x8000, STACK_WORDS = 10, REGISTERS = 17, STOPPED = 0x1050 + 20 };
+static const uint64_t stack[STACK_WORDS] = {0, 0, 0, 0, 7, 0x1010 + 31, 0, 0, 0, 0x1000 + 12};
+static const uint64_t values[REGISTERS] = {[RBP] = STACK + 64, [RSP] = STACK};
+
 static uint64_t places[FUNCTIONS], relocations[5 * 8];
 static uint8_t bytes[512];
 
@@ -82,6 +89,33 @@ static uint64_t print_rules(const unwind_written *table, uint64_t k, uint64_t p,
     return 0;
 }
 
+/* A number's bytes, the lowest first; the place behind them. */
+static uint8_t *put(uint8_t *at, uint64_t number, int size) {
+    for (int i = 0; i < size; i++) *at++ = (uint8_t)(number >> (8 * i));
+    return at;
+}
+
+/* The chain by unwind_walk, or the number of the question that was answered by no. */
+static uint64_t print_chain(const uint64_t *machine, size_t machine_n, const unwind_written *table) {
+    uint8_t record[8 * STACK_WORDS + 8 * REGISTERS + 16], *at = record;
+    for (size_t i = 0; i < STACK_WORDS; i++) at = put(at, stack[i], 8);
+    for (size_t i = 0; i < REGISTERS; i++) at = put(at, values[i], 8);
+    at = put(at, 8 * REGISTERS, 8);
+    at = put(at, REGISTERS, 4);
+    put(at, 8 * STACK_WORDS, 4);
+    uint64_t frames[2 * 64];
+    unwind_chain walked = unwind_walk(machine, machine_n, record, sizeof record, bytes, table->bytes, relocations,
+        5 * table->relocations, EH_FRAME, STOPPED, STACK, placed, LENGTH(placed), frames, LENGTH(frames));
+    if (walked.number) return walked.number;
+    printf("the walk:");
+    for (uint64_t i = 0; i < walked.frames; i++) {
+        uint64_t k = frames[2 * i];
+        printf(" %s+%" PRIu64, names[k], frames[2 * i + 1] - placed[2 * k]);
+    }
+    printf(walked.ending == UNWIND_RETURN_UNDEFINED ? ", which returns nowhere\n" : ", and no further\n");
+    return 0;
+}
+
 static int refused(uint64_t number, uint64_t position) {
     fprintf(stderr, "refused by question %" PRIu64 " at function %" PRIu64 "\n", number, position);
     return 1;
@@ -103,5 +137,6 @@ int main(void) {
         uint64_t number = print_rules(&table, chain[i].k, chain[i].p, chain[i].before);
         if (number) return refused(number, chain[i].k);
     }
-    return 0;
+    uint64_t number = print_chain(machine, LENGTH(machine), &table);
+    return number ? refused(number, 0) : 0;
 }

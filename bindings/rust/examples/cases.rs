@@ -266,9 +266,9 @@ fn ask(case: &Case, out: &mut impl Write) -> io::Result<bool> {
 }
 
 /// The reader's seven numbers.
-fn reading(said: Result<Rules, Refusal>) -> [u64; 7] {
+fn reading(said: Result<Rules, Refusal>) -> [u64; 8] {
     let rules = match said {
-        Err(refusal) => return [refusal.number, 0, 0, 0, 0, 0, 0],
+        Err(refusal) => return [refusal.number, 0, 0, 0, 0, 0, 0, 0],
         Ok(rules) => rules,
     };
     let [frame, register, offset] = match rules.frame {
@@ -282,7 +282,7 @@ fn reading(said: Result<Rules, Refusal>) -> [u64; 7] {
         Rule::SameValue => [3, 0],
         Rule::InRegister(register) => [4, u64::from(register)],
     };
-    [0, frame, register, offset, rule, saved, u64::from(rules.signing)]
+    [0, frame, register, offset, rule, saved, u64::from(rules.signing), u64::from(rules.shortest)]
 }
 
 /// Prints what the reader says. Whether both ways gave the same.

@@ -129,6 +129,16 @@ pub struct Counts {
 ///
 /// # Errors
 /// The question that was answered by no: 76, 77 or 54. Both lists are then as they were.
+///
+/// ```
+/// // The packed word of this module's example.
+/// let (mut epilogues, mut codes) = ([[0; 3]; 1], [[0; 3]; 5]);
+/// let counts = dekvoz::arm64::read_lists(0x0162_0029, &[], 0, &mut epilogues, &mut codes)?;
+/// assert_eq!((counts.length, counts.prologue, counts.codes), (40, 3, 5));
+/// // It starts at 28, and its two codes stand behind the prologue's.
+/// assert_eq!(epilogues, [[28, 3, 2]]);
+/// # Ok::<(), dekvoz::Refusal>(())
+/// ```
 pub fn read_lists(
     word: u64,
     info: &[u8],
@@ -158,6 +168,15 @@ const FIRST_ROOM: usize = 64;
 ///
 /// # Errors
 /// The question that was answered by no: 76 or 77.
+///
+/// ```
+/// use dekvoz::arm64::{read, Code};
+///
+/// // Flag 2, a fragment of 5 instructions: str x19, [sp, -16]!; sub sp, 16
+/// let found = read(2 | 5 << 2 | 1 << 16 | 2 << 23, &[], 0)?;
+/// assert_eq!((found.length, found.prologue), (20, vec![Code::RegX(19, 16), Code::Alloc(16)]));
+/// # Ok::<(), dekvoz::Refusal>(())
+/// ```
 pub fn read(word: u32, info: &[u8], place: u64) -> Result<Unwound, Refusal> {
     let mut room = FIRST_ROOM;
     loop {

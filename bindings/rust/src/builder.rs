@@ -18,6 +18,23 @@ use crate::{Function, Landing, Op, Personality, Row};
 /// assert!(row_check(&control.function()));
 /// assert_eq!(control.function().rows.len(), 5);
 /// ```
+///
+/// Every row, and what is said of a whole function:
+///
+/// ```
+/// use dekvoz::{Builder, Op, Personality, Pointer};
+///
+/// let built = Builder::new(18, 99)
+///     .simple().signal().personality(Personality { pointer: Pointer { encoding: 0, symbol: 40 }, lsda: None })
+///     .def_cfa(7, 8).row(Op::Offset(16, -8))
+///     .at(4).remember_state().undefined(3).same_value(4).in_register(5, 6).negate_ra_state()
+///     .at(8).restore_state()
+///     .landing(5, 4, 80)
+///     .done();
+/// let function = built.function();
+/// assert_eq!((function.rows.len(), function.rows[7].offset), (8, 8));
+/// assert!(function.simple && function.signal && function.landings[0].pad == 80);
+/// ```
 #[derive(Clone, Debug, Default, PartialEq, Eq)]
 pub struct Builder {
     symbol: u32,

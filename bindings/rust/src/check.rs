@@ -17,6 +17,10 @@ pub enum CheckRefusal {
 
 impl CheckRefusal {
     /// The question's number.
+    ///
+    /// ```
+    /// assert_eq!(dekvoz::CheckRefusal::Record(3).number(), 84);
+    /// ```
     #[must_use]
     pub const fn number(&self) -> u64 {
         match self {

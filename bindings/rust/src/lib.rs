@@ -1,6 +1,6 @@
 //! Unwind tables: writers of ELF's eh_frame and debug_frame and of Windows x64 unwind data, a reader of the
-//! DWARF ones, one of call sites, and readers of Windows unwind data for x64 and for ARM64 ([`arm64`]). Safe wrappers over libdekvoz.a,
-//! whose functions are proved to give exactly what their specification says.
+//! DWARF ones, the walk over a recorded fault ([`walk`]), a reader of call sites, and readers of Windows unwind data for x64 and for
+//! ARM64 ([`arm64`]). Safe wrappers over libdekvoz.a, whose functions are proved to give exactly what their specification says.
 //!
 //! Every function takes every input. A refusal is a [`Refusal`]: the number of the question that was answered by no, and the
 //! function's position. The writers of this page make their own buffers; [`lists`] has the same entries over lists of numbers
@@ -43,12 +43,13 @@ mod refusal;
 pub mod structs;
 mod sys;
 mod types;
+pub mod walk;
 mod write;
 
 pub use builder::{Builder, Built};
 pub use check::{check_section, CheckRefusal};
 pub use question::Question;
-pub use reads::{AllRules, FrameSection, Holder, Located, Placed, Record};
+pub use reads::{AllRules, Along, FrameSection, Holder, Line, Located, Placed, Record};
 pub use refusal::Refusal;
 pub use types::*;
-pub use write::{apply, call_site, read, read_x64, relaxed_debug_frame, relaxed_table, row_check, seh, Table};
+pub use write::{apply, call_site, call_sites_shortest, read, read_x64, relaxed_debug_frame, relaxed_table, row_check, seh, Table};

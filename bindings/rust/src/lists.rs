@@ -65,6 +65,10 @@ pub(crate) fn counts(w: &sys::Written) -> Result<Counts, Refusal> {
 }
 
 /// The list of the ready x86-64 (System V psABI).
+///
+/// ```
+/// assert_eq!(dekvoz::lists::machine_x86_64(), dekvoz::Machine::X86_64.numbers());
+/// ```
 #[must_use]
 pub fn machine_x86_64() -> [u64; 70] {
     let mut machine = [0; 70];
@@ -77,6 +81,21 @@ pub fn machine_x86_64() -> [u64; 70] {
 ///
 /// # Errors
 /// The question that was answered by no; every lent buffer is then as it was.
+///
+/// ```
+/// use dekvoz::lists::{machine_x86_64, relaxed_table, Lent, Packed};
+/// use dekvoz::{Function, Op, Row};
+///
+/// let rows = [Row::new(1, Op::DefCfaOffset(16)), Row::new(1, Op::Offset(6, -16))];
+/// let packed = Packed::new(&[Function::new(16, 9, &rows)]);
+/// let (mut places, mut bytes, mut relocations) = ([0; 1], [0xaa; 50], [0; 5]);
+/// let mut lent = Lent { places: &mut places, bytes: &mut bytes, relocations: &mut relocations, sites: &mut [] };
+/// let counts = relaxed_table(&machine_x86_64(), 0, packed.lists(), &mut lent)?;
+/// assert_eq!((counts.bytes, counts.relocations), (48, 1));
+/// // Behind the results the buffer is as it was.
+/// assert_eq!(bytes[48..], [0xaa; 2]);
+/// # Ok::<(), dekvoz::Refusal>(())
+/// ```
 pub fn relaxed_table(machine: &[u64], format: u64, lists: Lists<'_>, lent: &mut Lent<'_>) -> Result<Counts, Refusal> {
     // SAFETY: each pointer and count come from one slice, so they are valid and aligned; the four lent slices are unique
     // references, so they overlap neither one another nor an input. The function takes every number.
@@ -110,6 +129,18 @@ pub fn relaxed_table(machine: &[u64], format: u64, lists: Lists<'_>, lent: &mut 
 ///
 /// # Errors
 /// The question that was answered by no; every lent buffer is then as it was.
+///
+/// ```
+/// use dekvoz::lists::{machine_x86_64, relaxed_debug_frame, Lent, Packed};
+/// use dekvoz::{Function, Op, Row};
+///
+/// let packed = Packed::new(&[Function::new(16, 6, &[Row::new(1, Op::DefCfaOffset(16))])]);
+/// let (mut places, mut bytes, mut relocations) = ([0; 1], [0; 56], [0; 10]);
+/// let mut lent = Lent { places: &mut places, bytes: &mut bytes, relocations: &mut relocations, sites: &mut [] };
+/// let counts = relaxed_debug_frame(&machine_x86_64(), 0, packed.lists(), &mut lent)?;
+/// assert_eq!((counts.bytes, counts.relocations), (56, 2));
+/// # Ok::<(), dekvoz::Refusal>(())
+/// ```
 pub fn relaxed_debug_frame(machine: &[u64], format: u64, lists: Lists<'_>, lent: &mut Lent<'_>) -> Result<Counts, Refusal> {
     // SAFETY: each pointer and count come from one slice, so they are valid and aligned; the three lent slices are unique
     // references, so they overlap neither one another nor an input. The function takes every number.
@@ -141,6 +172,19 @@ pub fn relaxed_debug_frame(machine: &[u64], format: u64, lists: Lists<'_>, lent:
 ///
 /// # Errors
 /// The question that was answered by no; every lent buffer is then as it was.
+///
+/// ```
+/// use dekvoz::lists::{seh, Lent, PackedCodes};
+/// use dekvoz::{Code, CodeOp, Prologue};
+///
+/// let codes = [Code::new(4, CodeOp::Alloc(128))];
+/// let packed = PackedCodes::new(&[Prologue { symbol: 16, length: 9, end: 4, codes: &codes }]);
+/// let (mut markers, mut bytes, mut relocations, mut info) = ([0; 1], [0; 12], [0; 15], [0; 8]);
+/// let mut lent = Lent { places: &mut markers, bytes: &mut bytes, relocations: &mut relocations, sites: &mut info };
+/// seh(packed.functions(), packed.codes(), &mut lent)?;
+/// assert_eq!(info, [1, 4, 1, 0, 4, 0xf2, 0, 0]);
+/// # Ok::<(), dekvoz::Refusal>(())
+/// ```
 pub fn seh(functions: &[u64], codes: &[u64], lent: &mut Lent<'_>) -> Result<Counts, Refusal> {
     // SAFETY: each pointer and count come from one slice, so they are valid and aligned; the four lent slices are unique
     // references, so they overlap neither one another nor an input. The function takes every number.
@@ -164,6 +208,16 @@ pub fn seh(functions: &[u64], codes: &[u64], lent: &mut Lent<'_>) -> Result<Coun
 }
 
 /// Whether the rows of function `k` pass the row check; no for `k` past the list.
+///
+/// ```
+/// use dekvoz::lists::{row_check, Packed};
+/// use dekvoz::{Function, Op, Row};
+///
+/// let packed = Packed::new(&[Function::new(16, 9, &[]), Function::new(17, 9, &[Row::new(1, Op::RestoreState)])]);
+/// let lists = packed.lists();
+/// assert!(row_check(lists.functions, lists.rows, 0));
+/// assert!(!row_check(lists.functions, lists.rows, 1));
+/// ```
 #[must_use]
 pub fn row_check(functions: &[u64], rows: &[u64], k: u64) -> bool {
     // SAFETY: each pointer and count come from one slice, and nothing is lent. The function takes every number.
@@ -175,6 +229,15 @@ pub fn row_check(functions: &[u64], rows: &[u64], k: u64) -> bool {
 ///
 /// # Errors
 /// The question that was answered by no: 11, or 61 to 69.
+///
+/// ```
+/// use dekvoz::{lists, relaxed_table, Format, Function, Machine, Relocation, Rule};
+///
+/// let table = relaxed_table(&Machine::X86_64, Format::Elf, &[Function::new(16, 9, &[])])?;
+/// let rules = lists::read(&table.bytes, Relocation::numbers(&table.relocations), 0, 8, 0, 16, 0)?;
+/// assert_eq!(rules.rule, Rule::Saved(-8));
+/// # Ok::<(), dekvoz::Refusal>(())
+/// ```
 pub fn read(
     section: &[u8],
     relocations: &[u64],
@@ -196,32 +259,62 @@ pub(crate) fn rules(r: &sys::Reading) -> Result<Rules, Refusal> {
     if r.number != 0 {
         return Err(Refusal { number: r.number, position: 0 });
     }
-    // Registers have 16 bits by question 66, and offsets are 64-bit two's complement.
-    let frame = match r.frame {
+    let (frame, rule, signing) = rules_of([r.frame, r.frame_register, r.frame_offset, r.rule, r.rule_value, r.signing]);
+    Ok(Rules { frame, rule, signing, shortest: r.shortest != 0 })
+}
+
+/// The frame address rule, the register's rule and the signing state that six numbers of the reader mean. Registers have 16 bits by question
+/// 66, and offsets are 64-bit two's complement.
+#[inline]
+pub(crate) const fn rules_of([frame, frame_register, frame_offset, rule, rule_value, signing]: [u64; 6]) -> (Frame, Rule, bool) {
+    let frame = match frame {
         0 => Frame::Unset,
-        _ => Frame::Register { register: r.frame_register as u16, offset: r.frame_offset as i64 },
+        _ => Frame::Register { register: frame_register as u16, offset: frame_offset as i64 },
     };
-    let rule = match r.rule {
+    let rule = match rule {
         0 => Rule::Unstated,
         1 => Rule::Undefined,
-        2 => Rule::Saved(r.rule_value as i64),
+        2 => Rule::Saved(rule_value as i64),
         3 => Rule::SameValue,
-        _ => Rule::InRegister(r.rule_value as u16),
+        _ => Rule::InRegister(rule_value as u16),
     };
-    Ok(Rules { frame, rule, signing: r.signing != 0 })
+    (frame, rule, signing != 0)
 }
 
 /// The first site of the table at a place of the call sites that covers a code offset, or `None` where no entry does.
 ///
 /// # Errors
 /// The question that was answered by no: 71 or 72.
+///
+/// ```
+/// use dekvoz::{lists::call_site, Site};
+///
+/// // A table of one site: from 2 on, 3 bytes long, landing at 9.
+/// let table = [0xff, 0xff, 1, 4, 2, 3, 9, 0];
+/// assert_eq!(call_site(&table, 0, 4)?, Some(Site { start: 2, length: 3, pad: 9, shortest: true }));
+/// assert_eq!(call_site(&table, 0, 5)?, None);
+/// # Ok::<(), dekvoz::Refusal>(())
+/// ```
 pub fn call_site(sites: &[u8], place: u64, offset: u64) -> Result<Option<Site>, Refusal> {
     // SAFETY: pointer and count come from one slice, so they are valid and aligned. The function takes every number.
     let r = unsafe { sys::unwind_call_site(sites.as_ptr(), sites.len(), place, offset) };
     match (r.number, r.found) {
         (0, 0) => Ok(None),
-        (0, _) => Ok(Some(Site { start: r.start, length: r.length, pad: r.pad })),
+        (0, _) => Ok(Some(Site { start: r.start, length: r.length, pad: r.pad, shortest: r.shortest != 0 })),
         (number, _) => Err(Refusal { number, position: 0 }),
+    }
+}
+
+/// Whether every number of the table at a place of the call sites is spelled in as few bytes as can be.
+///
+/// # Errors
+/// The question that was answered by no: 71 or 72.
+pub fn call_sites_shortest(sites: &[u8], place: u64) -> Result<bool, Refusal> {
+    // SAFETY: pointer and count come from one slice, so they are valid and aligned. The function takes every number.
+    let r = unsafe { sys::unwind_call_site(sites.as_ptr(), sites.len(), place, 0) };
+    match r.number {
+        0 => Ok(r.shortest != 0),
+        number => Err(Refusal { number, position: 0 }),
     }
 }
 
@@ -244,6 +337,15 @@ pub struct X64Header {
 ///
 /// # Errors
 /// The question that was answered by no: 76, 77 or 54. `codes` is then as it was.
+///
+/// ```
+/// let mut codes = [0; 5];
+/// let header = dekvoz::lists::read_x64(&[1, 4, 1, 0, 4, 0xf2, 0, 0], 0, &mut codes)?;
+/// assert_eq!((header.end, header.codes), (4, 1));
+/// // At offset 4 code 1, an allocation, of 128 bytes.
+/// assert_eq!(codes, [4, 1, 0, 0, 128]);
+/// # Ok::<(), dekvoz::Refusal>(())
+/// ```
 pub fn read_x64(info: &[u8], place: u64, codes: &mut [u64]) -> Result<X64Header, Refusal> {
     // SAFETY: each pointer and count come from one slice, so they are valid and aligned; `codes` is a unique reference, so it
     // does not overlap `info`. The function takes every number.
@@ -266,6 +368,14 @@ pub fn read_x64(info: &[u8], place: u64, codes: &mut [u64]) -> Result<X64Header,
 ///
 /// # Errors
 /// 52 where `out` is shorter than the section, 79 or 80; `out` is then as it was.
+///
+/// ```
+/// // The 4 bytes at place 4 are the distance from there to symbol 16.
+/// let mut out = [0; 8];
+/// dekvoz::lists::apply(&[0; 8], &[4, 16, 0, 4, 0], &[16, 0x1100], 0x1000, 0, &mut out)?;
+/// assert_eq!(out, [0, 0, 0, 0, 0xfc, 0, 0, 0]);
+/// # Ok::<(), dekvoz::Refusal>(())
+/// ```
 pub fn apply(
     bytes: &[u8],
     relocations: &[u64],
@@ -318,6 +428,11 @@ pub struct Packed {
 
 impl Packed {
     /// The lists of these functions. Of a list that is too long for question 13 only so much is taken that the answer is the same.
+    ///
+    /// ```
+    /// let packed = dekvoz::lists::Packed::new(&[dekvoz::Function::new(16, 9, &[])]);
+    /// assert_eq!(packed.lists().functions[..2], [16, 9]);
+    /// ```
     #[must_use]
     pub fn new(functions: &[Function<'_>]) -> Packed {
         let mut packed = Packed::default();
@@ -359,6 +474,12 @@ pub struct PackedCodes {
 
 impl PackedCodes {
     /// The lists of these functions. Of a list that is too long for question 13 only so much is taken that the answer is the same.
+    ///
+    /// ```
+    /// let packed = dekvoz::lists::PackedCodes::new(&[dekvoz::Prologue { symbol: 16, length: 9, end: 4, codes: &[] }]);
+    /// assert_eq!(packed.functions(), [16, 9, 4, 0, 0]);
+    /// assert!(packed.codes().is_empty());
+    /// ```
     #[must_use]
     pub fn new(functions: &[Prologue<'_>]) -> PackedCodes {
         let mut packed = PackedCodes::default();

@@ -150,6 +150,13 @@ pub enum Operation {
 
 impl Operation {
     /// The register that the operation gives a rule. Registers have 16 bits by question 66.
+    ///
+    /// ```
+    /// use dekvoz::parts::Operation;
+    ///
+    /// assert_eq!(Operation::Offset(6, -16).ruled(), Some(6));
+    /// assert_eq!(Operation::DefCfaOffset(16).ruled(), None);
+    /// ```
     #[must_use]
     pub const fn ruled(self) -> Option<u16> {
         match self {
@@ -206,6 +213,15 @@ const fn refusal(number: u64) -> Refusal {
 }
 
 /// The entries of a section, in order; 61 where none fits the rest of the section, and then no more.
+///
+/// ```
+/// use dekvoz::{parts::entries, relaxed_table, Format, Function, Machine, Section};
+///
+/// let table = relaxed_table(&Machine::X86_64, Format::Elf, &[Function::new(16, 9, &[])])?;
+/// let found = entries(&table.bytes, Section::Eh).collect::<Result<Vec<_>, _>>()?;
+/// assert_eq!(found.iter().map(|entry| (entry.header, entry.place)).collect::<Vec<_>>(), [(true, 0), (false, 24)]);
+/// # Ok::<(), dekvoz::Refusal>(())
+/// ```
 pub fn entries(section: &[u8], kind: Section) -> Entries<'_> {
     Entries { section, kind, at: 0, ended: false }
 }
@@ -243,6 +259,16 @@ impl FusedIterator for Entries<'_> {}
 ///
 /// # Errors
 /// 61 where no entry stands there, 63 where it is a record, 64 with the field at fault.
+///
+/// ```
+/// use dekvoz::{parts::header, relaxed_table, Format, Function, Machine, Section, Word};
+///
+/// let table = relaxed_table(&Machine::X86_64, Format::Elf, &[Function::new(16, 9, &[])])?;
+/// assert_eq!(header(&table.bytes, Section::Eh, Word::Eight, 0)?.return_register, 16);
+/// // A record stands at 24.
+/// assert_eq!(header(&table.bytes, Section::Eh, Word::Eight, 24).map_err(|no| no.refusal.number), Err(63));
+/// # Ok::<(), dekvoz::Refusal>(())
+/// ```
 pub fn header(section: &[u8], kind: Section, word: Word, place: u64) -> Result<Header, Fault> {
     // SAFETY: the pointer and the count are a slice's, borrowed for the call.
     let h = unsafe { sys::unwind_read_header(section.as_ptr(), section.len(), kind.number(), word.bytes(), place) };
@@ -263,6 +289,14 @@ pub fn header(section: &[u8], kind: Section, word: Word, place: u64) -> Result<H
 ///
 /// # Errors
 /// 61 where no entry stands there, 62 where it is a header, 64 with the field at fault.
+///
+/// ```
+/// use dekvoz::{parts::record, relaxed_table, Format, Function, Machine, Section, Word};
+///
+/// let table = relaxed_table(&Machine::X86_64, Format::Elf, &[Function::new(16, 9, &[])])?;
+/// assert_eq!(record(&table.bytes, Section::Eh, Word::Eight, 0, 24)?.length, 9);
+/// # Ok::<(), dekvoz::Refusal>(())
+/// ```
 pub fn record(section: &[u8], kind: Section, word: Word, pointer: u64, place: u64) -> Result<Record, Fault> {
     // SAFETY: the pointer and the count are a slice's, borrowed for the call.
     let r = unsafe { sys::unwind_read_record(section.as_ptr(), section.len(), kind.number(), word.bytes(), pointer, place) };
@@ -279,6 +313,14 @@ pub fn record(section: &[u8], kind: Section, word: Word, pointer: u64, place: u6
 }
 
 /// The operations in a range of a section, in order; 66 where none can be read, and then no more.
+///
+/// ```
+/// use dekvoz::{parts::{operations, Operation}, Word};
+///
+/// let found = operations(&[0x41, 0x0e, 16], 0..3, Word::Eight).collect::<Result<Vec<_>, _>>()?;
+/// assert_eq!(found.iter().map(|o| o.operation).collect::<Vec<_>>(), [Operation::Step(1), Operation::DefCfaOffset(16)]);
+/// # Ok::<(), dekvoz::Refusal>(())
+/// ```
 pub fn operations(section: &[u8], range: Range<u64>, word: Word) -> Operations<'_> {
     Operations { section, range, word, ended: false }
 }

@@ -18,7 +18,7 @@ use crate::Refusal;
 pub enum Question {
     /// 11: the machine, format, section kind or word is none that is known.
     Interface,
-    /// 12: x64 unwind data asks for words of 8 bytes.
+    /// 12: x64 unwind data and the walk ask for words of 8 bytes.
     X64Word,
     /// 13: there are more functions or records than allowed, a range outside its list, or a number that its field does not hold.
     Lists,
@@ -60,7 +60,7 @@ pub enum Question {
     BytesRoom,
     /// 53: the relocations do not fit their buffer.
     RelocationsRoom,
-    /// 54: the call sites, the x64 info, codes, numbers or places do not fit their buffer, or the numbers' is not zero so far.
+    /// 54: the call sites, the x64 info, codes, numbers, places, frames or lines do not fit their buffer, or the numbers' is not zero so far.
     OtherRoom,
     /// 61: no entry fits what is left of the section.
     Tiling,
@@ -84,6 +84,12 @@ pub enum Question {
     CallSiteTable,
     /// 72: an entry of the table of call sites is cut off, or its end is above 2^64 - 1.
     CallSites,
+    /// 73: the file is no recorded fault of 16 to 65,536 bytes with a trailer that matches.
+    Recorded,
+    /// 74: a stack word lies outside the record, or an address sum outside 64 bits.
+    Stack,
+    /// 75: a register that is needed is lost or absent, or a frame has no address (CFA) rule.
+    Reached,
     /// 76: no x64 record of version 1 without flags, or ARM64 record of version 0, stands there, or it is cut off.
     X64Header,
     /// 77: an x64 or ARM64 code is cut off, or not one that these tables use; or an ARM64 entry's word is not defined.
@@ -100,6 +106,13 @@ pub enum Question {
 
 impl Question {
     /// The question of a number.
+    ///
+    /// ```
+    /// use dekvoz::Question;
+    ///
+    /// assert_eq!(Question::of(66), Some(Question::Operations));
+    /// assert_eq!(Question::of(70), None);
+    /// ```
     #[must_use]
     pub const fn of(number: u64) -> Option<Question> {
         Some(match number {
@@ -137,6 +150,9 @@ impl Question {
             69 => Question::FrameRule,
             71 => Question::CallSiteTable,
             72 => Question::CallSites,
+            73 => Question::Recorded,
+            74 => Question::Stack,
+            75 => Question::Reached,
             76 => Question::X64Header,
             77 => Question::X64Codes,
             78 => Question::MachO,
@@ -148,6 +164,10 @@ impl Question {
     }
 
     /// Its number (include/dekvoz.h).
+    ///
+    /// ```
+    /// assert_eq!(dekvoz::Question::Fields.number(), 64);
+    /// ```
     #[must_use]
     pub const fn number(self) -> u64 {
         match self {
@@ -185,6 +205,9 @@ impl Question {
             Question::FrameRule => 69,
             Question::CallSiteTable => 71,
             Question::CallSites => 72,
+            Question::Recorded => 73,
+            Question::Stack => 74,
+            Question::Reached => 75,
             Question::X64Header => 76,
             Question::X64Codes => 77,
             Question::MachO => 78,
@@ -195,11 +218,15 @@ impl Question {
     }
 
     /// What is wrong, in words.
+    ///
+    /// ```
+    /// assert_eq!(dekvoz::Question::StatesRoom.words(), "more than 16 states are stored");
+    /// ```
     #[must_use]
     pub const fn words(self) -> &'static str {
         match self {
             Question::Interface => "the machine, format, section kind or word is none that is known",
-            Question::X64Word => "x64 unwind data asks for words of 8 bytes",
+            Question::X64Word => "x64 unwind data and the walk ask for words of 8 bytes",
             Question::Lists => {
                 "there are more functions or records than allowed, a range outside its list, or a number that its field does not hold"
             }
@@ -223,7 +250,7 @@ impl Question {
             Question::BytesRoom => "the bytes do not fit their buffer",
             Question::RelocationsRoom => "the relocations do not fit their buffer",
             Question::OtherRoom => {
-                "the call sites, the x64 info, codes, numbers or places do not fit their buffer, or the numbers' is not zero so far"
+                "the call sites, the x64 info, codes, numbers, places, frames or lines do not fit their buffer, or the numbers' is not zero so far"
             }
             Question::Tiling => "no entry fits what is left of the section",
             Question::Record => "there is no such record",
@@ -236,6 +263,9 @@ impl Question {
             Question::FrameRule => "the frame address (CFA) rule is changed where there is none",
             Question::CallSiteTable => "no table of call sites with the head ff ff 01 stands there, or it is cut off",
             Question::CallSites => "an entry of the table of call sites is cut off, or its end is above 2^64 - 1",
+            Question::Recorded => "the file is no recorded fault of 16 to 65,536 bytes with a trailer that matches",
+            Question::Stack => "a stack word lies outside the record, or an address sum outside 64 bits",
+            Question::Reached => "a register that is needed is lost or absent, or a frame has no address (CFA) rule",
             Question::X64Header => "no x64 record of version 1 without flags stands there, or it is cut off",
             Question::X64Codes => "an x64 code is cut off, or not one that these tables use",
             Question::MachO => "eh_frame of Mach-O is not written any more",
@@ -256,6 +286,12 @@ impl fmt::Display for Question {
 
 impl Refusal {
     /// The question that was answered by no.
+    ///
+    /// ```
+    /// use dekvoz::{Question, Refusal};
+    ///
+    /// assert_eq!(Refusal { number: 62, position: 0 }.asked(), Some(Question::Record));
+    /// ```
     #[must_use]
     pub const fn asked(&self) -> Option<Question> {
         Question::of(self.number)

@@ -81,8 +81,83 @@ pub struct AllRules {
     pub frame: Frame,
     /// Whether the return address is signed there.
     pub signing: bool,
+    /// Whether every LEB number that was read for the answer is spelled in as few bytes as can be.
+    pub shortest: bool,
     /// The registers by their DWARF numbers, in order. Any other has no rule.
     pub registers: Vec<(u16, Rule)>,
+}
+
+/// The rules of one register along a record: what [`Located::rules`] answers at every offset.
+///
+/// ```
+/// use dekvoz::{relaxed_table, Builder, Format, FrameSection, Machine, Rule, Section};
+///
+/// let function = Builder::new(16, 31).at(1).def_cfa_offset(16).offset(6, -16).at(4).def_cfa_register(6).done();
+/// let table = relaxed_table(&Machine::X86_64, Format::Elf, &[function.function()])?;
+/// let (kind, word) = (Section::Eh, Machine::X86_64.word);
+/// let section = FrameSection { bytes: &table.bytes, relocations: &table.relocations, kind, word, address: 0 };
+/// let along = section.locate(0)?.along(6)?;
+/// assert_eq!(along.iter().map(|line| line.offset).collect::<Vec<_>>(), [0, 1, 4]);
+/// assert_eq!(along.line(1).map(|line| line.rule), Some(Rule::Saved(-16)));
+/// assert_eq!(along.ended(), None);
+/// # Ok::<(), dekvoz::Refusal>(())
+/// ```
+#[derive(Clone, Debug, Default)]
+pub struct Along {
+    /// Seven for each line; what is behind the lines means nothing.
+    numbers: Vec<u64>,
+    lines: usize,
+    ended: Option<(u64, Refusal)>,
+}
+
+/// A line of [`Along`].
+#[derive(Clone, Copy, Debug, PartialEq, Eq, Hash)]
+pub struct Line {
+    /// The offset from which its rules hold, up to the next line's.
+    pub offset: u64,
+    /// The rule of the frame address.
+    pub frame: Frame,
+    /// The rule of the register.
+    pub rule: Rule,
+    /// Whether the return address is signed.
+    pub signing: bool,
+}
+
+impl Along {
+    /// How many lines there are: none where the header's operations are refused.
+    #[must_use]
+    pub const fn len(&self) -> usize {
+        self.lines
+    }
+
+    /// Whether there is no line.
+    #[must_use]
+    pub const fn is_empty(&self) -> bool {
+        self.lines == 0
+    }
+
+    /// A line, from 0 on.
+    #[must_use]
+    #[inline]
+    pub fn line(&self, i: usize) -> Option<Line> {
+        if self.lines <= i {
+            return None;
+        }
+        let &[offset, ref rules @ ..] = self.numbers.get(i.saturating_mul(7)..)?.first_chunk::<7>()?;
+        let (frame, rule, signing) = lists::rules_of(*rules);
+        Some(Line { offset, frame, rule, signing })
+    }
+
+    /// All lines, in order.
+    pub fn iter(&self) -> impl Iterator<Item = Line> + '_ {
+        (0..self.lines).filter_map(|i| self.line(i))
+    }
+
+    /// From which offset on the reader refuses, and by which question (66 to 69).
+    #[must_use]
+    pub const fn ended(&self) -> Option<(u64, Refusal)> {
+        self.ended
+    }
 }
 
 /// A record that was located in its section.
@@ -110,6 +185,18 @@ impl<'a> FrameSection<'a> {
     ///
     /// # Errors
     /// The question that was answered by no: 61 to 64.
+    ///
+    /// ```
+    /// use dekvoz::{apply, relaxed_table, Format, FrameSection, Function, Machine, Section, Word};
+    ///
+    /// let table = relaxed_table(&Machine::X86_64, Format::Elf, &[Function::new(16, 9, &[])])?;
+    /// let bytes = apply(&table.bytes, &table.relocations, &[(16, 0x1000)], 0x2000, 0)?;
+    /// let section = FrameSection { bytes: &bytes, relocations: &[], kind: Section::Eh, word: Word::Eight, address: 0x2000 };
+    /// let located = section.locate(0)?;
+    /// assert_eq!((located.length(), located.signal()), (9, false));
+    /// assert_eq!(section.locate(1).map_err(|no| no.number).err(), Some(62));
+    /// # Ok::<(), dekvoz::Refusal>(())
+    /// ```
     pub fn locate(&self, k: u64) -> Result<Located<'a>, Refusal> {
         let numbers = Relocation::numbers(self.relocations);
         // SAFETY: each pointer and count come from one slice, and nothing is lent. The function takes every number.
@@ -131,6 +218,18 @@ impl<'a> FrameSection<'a> {
     ///
     /// # Errors
     /// 61.
+    ///
+    /// ```
+    /// use dekvoz::{apply, relaxed_table, Format, FrameSection, Function, Machine, Section, Word};
+    ///
+    /// let table = relaxed_table(&Machine::X86_64, Format::Elf, &[Function::new(16, 9, &[])])?;
+    /// let bytes = apply(&table.bytes, &table.relocations, &[(16, 0x1000)], 0x2000, 0)?;
+    /// let section = FrameSection { bytes: &bytes, relocations: &[], kind: Section::Eh, word: Word::Eight, address: 0x2000 };
+    /// let records = section.records()?;
+    /// assert_eq!(records.len(), 1);
+    /// assert_eq!((records[0].place, records[0].header), (24, Some(0)));
+    /// # Ok::<(), dekvoz::Refusal>(())
+    /// ```
     pub fn records(&self) -> Result<Vec<Record>, Refusal> {
         let numbers = Relocation::numbers(self.relocations);
         // A record has 8 bytes at least, and two numbers here.
@@ -159,6 +258,16 @@ impl<'a> FrameSection<'a> {
     ///
     /// # Errors
     /// 63 where it has no header in front of it, or 64.
+    ///
+    /// ```
+    /// use dekvoz::{apply, relaxed_table, Format, FrameSection, Function, Machine, Section, Word};
+    ///
+    /// let table = relaxed_table(&Machine::X86_64, Format::Elf, &[Function::new(16, 9, &[])])?;
+    /// let bytes = apply(&table.bytes, &table.relocations, &[(16, 0x1000)], 0x2000, 0)?;
+    /// let section = FrameSection { bytes: &bytes, relocations: &[], kind: Section::Eh, word: Word::Eight, address: 0x2000 };
+    /// assert_eq!(section.locate_at(section.records()?[0])?.length(), 9);
+    /// # Ok::<(), dekvoz::Refusal>(())
+    /// ```
     pub fn locate_at(&self, record: Record) -> Result<Located<'a>, Refusal> {
         let header = record.header.unwrap_or(NOWHERE);
         // SAFETY: the pointer and count come from one slice, and nothing is lent. The function takes every number.
@@ -179,6 +288,17 @@ impl<'a> FrameSection<'a> {
     ///
     /// # Errors
     /// 64 where no record stands there.
+    ///
+    /// ```
+    /// use dekvoz::{apply, relaxed_table, Format, FrameSection, Function, Machine, Section, Word};
+    ///
+    /// let table = relaxed_table(&Machine::X86_64, Format::Elf, &[Function::new(16, 9, &[])])?;
+    /// let bytes = apply(&table.bytes, &table.relocations, &[(16, 0x1000)], 0x2000, 0)?;
+    /// let section = FrameSection { bytes: &bytes, relocations: &[], kind: Section::Eh, word: Word::Eight, address: 0x2000 };
+    /// let function = section.function(24)?;
+    /// assert_eq!((function.address, function.length), (0x1000, 9));
+    /// # Ok::<(), dekvoz::Refusal>(())
+    /// ```
     pub fn function(&self, place: u64) -> Result<Placed, Refusal> {
         // SAFETY: the pointer and count come from one slice, and nothing is lent. The function takes every number.
         let r = unsafe {
@@ -199,6 +319,17 @@ impl<'a> FrameSection<'a> {
     ///
     /// # Errors
     /// 61, or 62 where none does.
+    ///
+    /// ```
+    /// use dekvoz::{apply, relaxed_table, Format, FrameSection, Function, Machine, Section, Word};
+    ///
+    /// let table = relaxed_table(&Machine::X86_64, Format::Elf, &[Function::new(16, 9, &[])])?;
+    /// let bytes = apply(&table.bytes, &table.relocations, &[(16, 0x1000)], 0x2000, 0)?;
+    /// let section = FrameSection { bytes: &bytes, relocations: &[], kind: Section::Eh, word: Word::Eight, address: 0x2000 };
+    /// assert_eq!(section.at(0x1008)?.k, 0);
+    /// assert_eq!(section.at(0x1009).map_err(|no| no.number), Err(62));
+    /// # Ok::<(), dekvoz::Refusal>(())
+    /// ```
     pub fn at(&self, pc: u64) -> Result<Holder, Refusal> {
         // SAFETY: the pointer and count come from one slice, and nothing is lent. The function takes every number.
         let r = unsafe {
@@ -219,6 +350,17 @@ impl<'a> FrameSection<'a> {
 impl<'a> Located<'a> {
     /// Operations of a header and a record that stand in these ranges of a section, with the length of the function. Any ranges are taken;
     /// those that do not lie in the section are answered by 64.
+    ///
+    /// ```
+    /// use dekvoz::{Frame, Located, Word};
+    ///
+    /// // A header's DefCfa, and of a record a step of 1 and DefCfaOffset.
+    /// let bytes = [0x0c, 7, 8, 0x41, 0x0e, 16];
+    /// let located = Located::of(&bytes, 0..3, 3..6, 9, Word::Eight);
+    /// assert_eq!(located.rules(0, 0)?.frame, Frame::Register { register: 7, offset: 8 });
+    /// assert_eq!(located.rules(0, 1)?.frame, Frame::Register { register: 7, offset: 16 });
+    /// # Ok::<(), dekvoz::Refusal>(())
+    /// ```
     #[must_use]
     pub const fn of(bytes: &'a [u8], header: Range<u64>, record: Range<u64>, length: u64, word: Word) -> Located<'a> {
         let places = sys::Located {
@@ -231,6 +373,7 @@ impl<'a> Located<'a> {
             pointer: 0,
             signal: 0,
             word: word.bytes(),
+            shortest: 1,
         };
         Located { bytes, word, places }
     }
@@ -247,14 +390,101 @@ impl<'a> Located<'a> {
         self.places.signal == 1
     }
 
+    /// Whether the LEB numbers among the fields of the record and of its header are spelled in as few bytes as can be.
+    #[must_use]
+    pub const fn shortest(&self) -> bool {
+        self.places.shortest == 1
+    }
+
+    /// Whether the record can be read to the last offset of its function, and a number of it or of its header takes more bytes than it
+    /// needs.
+    #[must_use]
+    pub fn long(&self) -> bool {
+        let last = self.places.length.wrapping_sub(1);
+        self.rules(0, last).is_ok_and(|rules| !rules.shortest)
+    }
+
     /// The rules at offset `p` of the function, for one register (a DWARF number): what [`crate::read`] answers.
     ///
     /// # Errors
     /// The question that was answered by no: 65 to 69.
+    ///
+    /// ```
+    /// use dekvoz::{apply, relaxed_table, Format, FrameSection, Function, Machine, Rule, Section, Word};
+    ///
+    /// let table = relaxed_table(&Machine::X86_64, Format::Elf, &[Function::new(16, 9, &[])])?;
+    /// let bytes = apply(&table.bytes, &table.relocations, &[(16, 0x1000)], 0x2000, 0)?;
+    /// let section = FrameSection { bytes: &bytes, relocations: &[], kind: Section::Eh, word: Word::Eight, address: 0x2000 };
+    /// assert_eq!(section.locate(0)?.rules(16, 3)?.rule, Rule::Saved(-8));
+    /// assert_eq!(section.locate(0)?.rules(16, 9).map_err(|no| no.number), Err(65));
+    /// # Ok::<(), dekvoz::Refusal>(())
+    /// ```
     pub fn rules(&self, register: u16, p: u64) -> Result<Rules, Refusal> {
         // SAFETY: the pointer and count come from one slice, and nothing is lent. The function takes every number.
         let r = unsafe { sys::unwind_rules_at(self.bytes.as_ptr(), self.bytes.len(), self.places, register, p) };
         lists::rules(&r)
+    }
+
+    /// The rules at every location, for one register, in one run over the operations. Lines at and past the function's end are given too.
+    ///
+    /// # Errors
+    /// 64, for ranges that do not lie in the section. A refused operation ends the lines, and [`Along::ended`] says which question it was.
+    ///
+    /// ```
+    /// use dekvoz::{Located, Word};
+    ///
+    /// // RestoreState behind the step: nothing is stored.
+    /// let located = Located::of(&[0x0c, 7, 8, 0x41, 0x0b], 0..3, 3..5, 9, Word::Eight);
+    /// let along = located.along(6)?;
+    /// assert_eq!(along.len(), 1);
+    /// assert_eq!(along.ended().map(|(from, no)| (from, no.number)), Some((1, 67)));
+    /// # Ok::<(), dekvoz::Refusal>(())
+    /// ```
+    pub fn along(&self, register: u16) -> Result<Along, Refusal> {
+        let mut along = Along::default();
+        self.along_into(register, &mut along)?;
+        Ok(along)
+    }
+
+    /// As [`Located::along`], into what holds the lines of another run: for many registers or records in a row.
+    ///
+    /// # Errors
+    /// As [`Located::along`].
+    ///
+    /// ```
+    /// use dekvoz::{Along, Located, Rule, Word};
+    ///
+    /// let located = Located::of(&[0x0c, 7, 8, 0x86, 2, 0x83, 3], 0..3, 3..7, 9, Word::Eight);
+    /// let mut along = Along::default();
+    /// for (register, offset) in [(6, -16), (3, -24)] {
+    ///     located.along_into(register, &mut along)?;
+    ///     assert_eq!(along.line(0).map(|line| line.rule), Some(Rule::Saved(offset)));
+    /// }
+    /// # Ok::<(), dekvoz::Refusal>(())
+    /// ```
+    pub fn along_into(&self, register: u16, along: &mut Along) -> Result<(), Refusal> {
+        // A byte begins at most one line. Ranges that do not lie in the section are refused before the list is asked for room.
+        let bytes = self.places.record_end.saturating_sub(self.places.record).min(self.bytes.len() as u64) as usize;
+        let room = bytes.saturating_add(1).saturating_mul(7);
+        if along.numbers.len() < room {
+            along.numbers.resize(room, 0);
+        }
+        let numbers = &mut along.numbers;
+        // SAFETY: each pointer and count come from one slice, so they are valid and aligned; `numbers` is lent to this call alone. The
+        // function takes every number.
+        let r = unsafe {
+            sys::unwind_rules_along(
+                self.bytes.as_ptr(),
+                self.bytes.len(),
+                self.places,
+                register,
+                numbers.as_mut_ptr(),
+                numbers.len(),
+            )
+        };
+        along.lines = r.lines as usize;
+        along.ended = (r.ending != 0).then_some((r.from, Refusal { number: r.ending, position: 0 }));
+        accepted(r.number)
     }
 
     /// The rules at offset `p` for every register that the operations up to the first unreadable one name.
@@ -274,7 +504,7 @@ impl<'a> Located<'a> {
     /// # Ok::<(), dekvoz::Refusal>(())
     /// ```
     pub fn all(&self, p: u64) -> Result<AllRules, Refusal> {
-        let Rules { frame, signing, .. } = self.rules(0, p)?;
+        let Rules { frame, signing, shortest, .. } = self.rules(0, p)?;
         let mut named = BTreeSet::new();
         for range in [self.places.header..self.places.header_end, self.places.record..self.places.record_end] {
             let found = operations(self.bytes, range, self.word).map_while(Result::ok);
@@ -284,6 +514,6 @@ impl<'a> Located<'a> {
         for register in named {
             registers.push((register, self.rules(register, p)?.rule));
         }
-        Ok(AllRules { frame, signing, registers })
+        Ok(AllRules { frame, signing, shortest, registers })
     }
 }

@@ -6,7 +6,7 @@ use core::fmt;
 /// A call was refused: a question was answered by no, and nothing was written.
 #[derive(Clone, Copy, Debug, PartialEq, Eq, Hash)]
 pub struct Refusal {
-    /// The question's number: 11 to 13, 21 to 25, 31 to 41, 51 to 54, 61 to 69, 71, 72, 76 to 80.
+    /// The question's number: 11 to 13, 21 to 25, 31 to 41, 51 to 54, 61 to 69, 71 to 80.
     pub number: u64,
     /// The function's position in its list, from 0; 0 for 11 to 13, for 51 to 54, and for the reader's.
     pub position: u64,
@@ -14,11 +14,17 @@ pub struct Refusal {
 
 impl Refusal {
     /// The question in words, or `None` for a number that is no question's.
+    ///
+    /// ```
+    /// let refusal = dekvoz::Refusal { number: 68, position: 0 };
+    /// assert_eq!(refusal.question(), Some("are at most 16 states stored?"));
+    /// # Ok::<(), dekvoz::Refusal>(())
+    /// ```
     #[must_use]
     pub const fn question(&self) -> Option<&'static str> {
         Some(match self.number {
             11 => "is the machine one (word, pushed bytes, register numbers, map), and are format and section kind known?",
-            12 => "is the word 8, for x64 unwind data?",
+            12 => "is the word 8, for x64 unwind data or the walk?",
             13 => "are there no more functions and records than allowed, each range inside its list, and every symbol and number one?",
             21 => "does the function's length fit its field?",
             22 => "are the encodings of personality and LSDA ones that can be written?",
@@ -39,7 +45,7 @@ impl Refusal {
             51 => "do the header places or markers fit their buffer?",
             52 => "do the bytes fit their buffer?",
             53 => "do the relocations fit their buffer?",
-            54 => "do the call sites, the x64 info, the codes that were read, the places of an index or the numbers of structs fit their buffer, and is that of the numbers zero so far?",
+            54 => "do the call sites, the x64 info, the codes that were read, the places of an index, the frames of a walk, the lines of a record or the numbers of structs fit their buffer, and is that of the numbers zero so far?",
             61 => "do the entries' lengths tile the section?",
             62 => "is there a record of that number?",
             63 => "does the record's header start where a header starts, and earlier?",
@@ -51,6 +57,9 @@ impl Refusal {
             69 => "is there a frame address rule to change?",
             71 => "is the place inside the call sites, the table's head ff ff 01, and its length readable and not past the end?",
             72 => "is each call site complete and readable, and its start plus its length below 2^64?",
+            73 => "is the recorded fault's file 16 to 65,536 bytes long, and does its trailer match?",
+            74 => "is each stack word inside the record, and each address sum inside 64 bits?",
+            75 => "is each register there that is needed, and has each frame an address rule?",
             76 => "is the x64 header's version 1 without flags, or the ARM64 record's 0, and are all their parts there?",
             77 => "is each x64 or ARM64 code complete, and its operation one that can be written; is the ARM64 word defined?",
             78 => "is the format one that is written? Mach-O is not any more.",
@@ -62,6 +71,13 @@ impl Refusal {
     }
 
     /// Whether the refusal is about one function, so that `position` says which.
+    ///
+    /// ```
+    /// use dekvoz::Refusal;
+    ///
+    /// assert!(Refusal { number: 24, position: 3 }.is_of_a_function());
+    /// assert!(!Refusal { number: 61, position: 0 }.is_of_a_function());
+    /// ```
     #[must_use]
     pub const fn is_of_a_function(&self) -> bool {
         matches!(self.number, 21..=41)

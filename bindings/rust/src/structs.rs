@@ -95,6 +95,13 @@ pub struct Lists<'a> {
 
 impl Lists<'_> {
     /// How many numbers these structs have: the least that a writer has to be lent for them.
+    ///
+    /// ```
+    /// use dekvoz::structs::{Function, Lists, RowAt};
+    ///
+    /// let lists = Lists { functions: &[Function::default()], rows: &[RowAt::default(); 2], ..Lists::default() };
+    /// assert_eq!(lists.numbers(), 26);
+    /// ```
     #[must_use]
     pub const fn numbers(&self) -> usize {
         let functions = self.functions.len().saturating_mul(18);
@@ -114,6 +121,15 @@ fn packed(number: u64) -> Result<(), Refusal> {
 ///
 /// # Errors
 /// 54 where they do not fit; the list is then as it was.
+///
+/// ```
+/// use dekvoz::structs::{pack_functions, Function};
+///
+/// let mut numbers = [0; 18];
+/// pack_functions(&[Function { symbol: 16, length: 9, ..Function::default() }], &mut numbers)?;
+/// assert_eq!(numbers[..2], [16, 9]);
+/// # Ok::<(), dekvoz::Refusal>(())
+/// ```
 pub fn pack_functions(functions: &[Function], numbers: &mut [u64]) -> Result<(), Refusal> {
     // SAFETY: each pointer and count come from one slice, so they are valid and aligned; the lent slice is a unique reference, so
     // it does not overlap the structs, whose layout is the header's.
@@ -124,6 +140,15 @@ pub fn pack_functions(functions: &[Function], numbers: &mut [u64]) -> Result<(),
 ///
 /// # Errors
 /// 54 where they do not fit; the list is then as it was.
+///
+/// ```
+/// use dekvoz::structs::{pack_rows, RowAt};
+///
+/// let mut numbers = [0; 4];
+/// pack_rows(&[RowAt { offset: 1, kind: 3, register: 6, value: -16 }], &mut numbers)?;
+/// assert_eq!(numbers, [1, 3, 6, (1 << 32) - 16]);
+/// # Ok::<(), dekvoz::Refusal>(())
+/// ```
 pub fn pack_rows(rows: &[RowAt], numbers: &mut [u64]) -> Result<(), Refusal> {
     // SAFETY: each pointer and count come from one slice, so they are valid and aligned; the lent slice is a unique reference, so
     // it does not overlap the structs, whose layout is the header's.
@@ -131,6 +156,14 @@ pub fn pack_rows(rows: &[RowAt], numbers: &mut [u64]) -> Result<(), Refusal> {
 }
 
 /// Whether the rows of one function, with its simple mark, pass the row check.
+///
+/// ```
+/// use dekvoz::structs::{row_check_of, RowAt};
+///
+/// assert!(row_check_of(false, &[RowAt { offset: 1, kind: 1, value: 16, ..RowAt::default() }]));
+/// // A simple function has no frame address rule to change.
+/// assert!(!row_check_of(true, &[RowAt { offset: 1, kind: 1, value: 16, ..RowAt::default() }]));
+/// ```
 #[must_use]
 pub fn row_check_of(simple: bool, rows: &[RowAt]) -> bool {
     // SAFETY: pointer and count come from one slice of structs whose layout is the header's, and nothing is lent.
@@ -144,6 +177,17 @@ pub fn row_check_of(simple: bool, rows: &[RowAt]) -> bool {
 /// # Errors
 /// The question that was answered by no, and behind 11 and 12 first 54 where `numbers` is too short or not zero so far; every lent
 /// buffer is then as it was.
+///
+/// ```
+/// use dekvoz::{lists::Lent, structs::{relaxed_table_of, Function, Lists}, Machine};
+///
+/// let functions = [Function { symbol: 16, length: 9, ..Function::default() }];
+/// let lists = Lists { functions: &functions, ..Lists::default() };
+/// let (mut numbers, mut places, mut bytes, mut relocations) = ([0; 18], [0; 1], [0; 48], [0; 5]);
+/// let mut lent = Lent { places: &mut places, bytes: &mut bytes, relocations: &mut relocations, sites: &mut [] };
+/// assert_eq!(relaxed_table_of(&Machine::X86_64.numbers(), 0, lists, &mut numbers, &mut lent)?.relocations, 1);
+/// # Ok::<(), dekvoz::Refusal>(())
+/// ```
 pub fn relaxed_table_of(
     machine: &[u64],
     format: u64,
@@ -188,6 +232,17 @@ pub fn relaxed_table_of(
 /// # Errors
 /// The question that was answered by no, and behind 11 and 12 first 54 where `numbers` is too short or not zero so far; every lent
 /// buffer is then as it was.
+///
+/// ```
+/// use dekvoz::{lists::Lent, structs::{relaxed_debug_frame_of, Function, Lists}, Machine};
+///
+/// let functions = [Function { symbol: 16, length: 9, ..Function::default() }];
+/// let lists = Lists { functions: &functions, ..Lists::default() };
+/// let (mut numbers, mut places, mut bytes, mut relocations) = ([0; 18], [0; 1], [0; 56], [0; 10]);
+/// let mut lent = Lent { places: &mut places, bytes: &mut bytes, relocations: &mut relocations, sites: &mut [] };
+/// assert_eq!(relaxed_debug_frame_of(&Machine::X86_64.numbers(), 0, lists, &mut numbers, &mut lent)?.relocations, 2);
+/// # Ok::<(), dekvoz::Refusal>(())
+/// ```
 pub fn relaxed_debug_frame_of(
     machine: &[u64],
     format: u64,

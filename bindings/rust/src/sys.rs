@@ -23,6 +23,7 @@ pub(crate) struct Reading {
     pub rule: u64,
     pub rule_value: u64,
     pub signing: u64,
+    pub shortest: u64,
 }
 
 /// What the reader of call sites answers.
@@ -33,6 +34,7 @@ pub(crate) struct Site {
     pub start: u64,
     pub length: u64,
     pub pad: u64,
+    pub shortest: u64,
 }
 
 /// Where the operations of a record and of its header are.
@@ -48,6 +50,16 @@ pub(crate) struct Located {
     pub pointer: u64,
     pub signal: u64,
     pub word: u64,
+    pub shortest: u64,
+}
+
+/// How many lines there are, and what ended them.
+#[repr(C)]
+pub(crate) struct Listed {
+    pub number: u64,
+    pub lines: u64,
+    pub ending: u64,
+    pub from: u64,
 }
 
 /// How many records there are.
@@ -71,6 +83,14 @@ pub(crate) struct Holder {
     pub number: u64,
     pub k: u64,
     pub place: u64,
+}
+
+/// What the walk over a recorded fault answers.
+#[repr(C)]
+pub(crate) struct Chain {
+    pub number: u64,
+    pub frames: u64,
+    pub ending: u64,
 }
 
 /// What the reader of x64 records answers.
@@ -267,6 +287,15 @@ extern "C" {
 
     pub(crate) fn unwind_rules_at(section: *const u8, section_n: usize, located: Located, reg: u16, p: u64) -> Reading;
 
+    pub(crate) fn unwind_rules_along(
+        section: *const u8,
+        section_n: usize,
+        located: Located,
+        reg: u16,
+        lines: *mut u64,
+        lines_n: usize,
+    ) -> Listed;
+
     pub(crate) fn unwind_index(
         section: *const u8,
         section_n: usize,
@@ -298,6 +327,24 @@ extern "C" {
 
     pub(crate) fn unwind_record_of(section: *const u8, section_n: usize, kind: u64, word: u64, address: u64, pc: u64)
         -> Holder;
+
+    pub(crate) fn unwind_walk(
+        machine: *const u64,
+        machine_n: usize,
+        record: *const u8,
+        record_n: usize,
+        section: *const u8,
+        section_n: usize,
+        relocations: *const u64,
+        relocations_n: usize,
+        kind: u64,
+        pc: u64,
+        stack: u64,
+        functions: *const u64,
+        functions_n: usize,
+        frames: *mut u64,
+        frames_n: usize,
+    ) -> Chain;
 
     pub(crate) fn unwind_pack_functions(
         functions: *const Function,

@@ -384,6 +384,8 @@ pub struct Site {
     pub length: u64,
     /// Where the handler is; 0 is none.
     pub pad: u64,
+    /// Whether every number of its table is spelled in as few bytes as can be.
+    pub shortest: bool,
 }
 
 /// An x64 record, read.
@@ -567,4 +569,6 @@ pub struct Rules {
     pub rule: Rule,
     /// Whether the return address is signed there.
     pub signing: bool,
+    /// Whether every LEB number that was read for the answer, of the fields and of the operations, is spelled in as few bytes as can be.
+    pub shortest: bool,
 }

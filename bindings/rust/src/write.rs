@@ -113,6 +113,15 @@ pub fn relaxed_table(machine: &Machine, format: Format, functions: &[Function<'_
 ///
 /// # Errors
 /// The question that was answered by no. 51 to 54 do not occur: the buffers grow until the results fit.
+///
+/// ```
+/// use dekvoz::{read, relaxed_debug_frame, Format, Function, Machine, Rule, Section, Word};
+///
+/// let table = relaxed_debug_frame(&Machine::X86_64, Format::Elf, &[Function::new(16, 9, &[])])?;
+/// let rules = read(&table.bytes, &table.relocations, Section::Debug, Word::Eight, 0, 16, 3)?;
+/// assert_eq!(rules.rule, Rule::Saved(-8));
+/// # Ok::<(), dekvoz::Refusal>(())
+/// ```
 pub fn relaxed_debug_frame(machine: &Machine, format: Format, functions: &[Function<'_>]) -> Result<Table, Refusal> {
     let packed = Packed::new(functions);
     let (machine, lists) = (machine.numbers(), packed.lists());
@@ -140,6 +149,13 @@ pub fn seh(functions: &[Prologue<'_>]) -> Result<Table, Refusal> {
 
 /// Whether a function's rows can be run at every offset: where the answer is yes and the function has no relaxing labels,
 /// [`read`] answers at every offset below its length what the rows state.
+///
+/// ```
+/// use dekvoz::{row_check, Function, Op, Row};
+///
+/// assert!(row_check(&Function::new(16, 9, &[Row::new(1, Op::DefCfaOffset(16))])));
+/// assert!(!row_check(&Function::new(16, 9, &[Row::new(1, Op::RestoreState)])));
+/// ```
 #[must_use]
 pub fn row_check(function: &Function<'_>) -> bool {
     let rows: Vec<u64> = function.rows.iter().flat_map(Row::numbers).collect();
@@ -190,12 +206,20 @@ pub fn read(
 /// let function = Function { landings: &landings, ..Function::new(16, 30, &[]) };
 /// let table = relaxed_table(&Machine::X86_64, Format::Elf, &[function])?;
 /// let pointer = table.relocations.iter().find(|r| r.symbol == 1).unwrap();
-/// assert_eq!(call_site(&table.sites, pointer.addend, 9)?, Some(Site { start: 4, length: 6, pad: 20 }));
+/// assert_eq!(call_site(&table.sites, pointer.addend, 9)?, Some(Site { start: 4, length: 6, pad: 20, shortest: true }));
 /// assert_eq!(call_site(&table.sites, pointer.addend, 10)?, None);
 /// # Ok::<(), dekvoz::Refusal>(())
 /// ```
 pub fn call_site(sites: &[u8], place: u64, offset: u64) -> Result<Option<Site>, Refusal> {
     lists::call_site(sites, place, offset)
+}
+
+/// Whether every number of the table at a place of the call sites, its length and its entries', is spelled in as few bytes as can be.
+///
+/// # Errors
+/// The question that was answered by no: 71 or 72.
+pub fn call_sites_shortest(sites: &[u8], place: u64) -> Result<bool, Refusal> {
+    lists::call_sites_shortest(sites, place)
 }
 
 /// The codes of a record are at most as many as its slots.

@@ -221,11 +221,11 @@ fn reading_what_was_written() {
     let debug = relaxed_debug_frame(X86, Format::Elf, &functions).unwrap();
     for (table, section) in [(table, Section::Eh), (debug, Section::Debug)] {
         let ask = |k, register, p| read(&table.bytes, &table.relocations, section, Word::Eight, k, register, p);
-        assert_eq!(ask(1, 16, 1), Ok(Rules { frame: Frame::Unset, rule: Rule::Unstated, signing: true }));
-        assert_eq!(ask(1, 3, 3), Ok(Rules { frame, rule: Rule::Undefined, signing: true }));
-        assert_eq!(ask(1, 16, 8), Ok(Rules { frame, rule: Rule::Saved(-32), signing: true }));
-        assert_eq!(ask(1, 12, 7), Ok(Rules { frame, rule: Rule::SameValue, signing: true }));
-        assert_eq!(ask(1, 3, 8), Ok(Rules { frame, rule: Rule::InRegister(200), signing: true }));
+        assert_eq!(ask(1, 16, 1), Ok(Rules { frame: Frame::Unset, rule: Rule::Unstated, signing: true, shortest: true }));
+        assert_eq!(ask(1, 3, 3), Ok(Rules { frame, rule: Rule::Undefined, signing: true, shortest: true }));
+        assert_eq!(ask(1, 16, 8), Ok(Rules { frame, rule: Rule::Saved(-32), signing: true, shortest: true }));
+        assert_eq!(ask(1, 12, 7), Ok(Rules { frame, rule: Rule::SameValue, signing: true, shortest: true }));
+        assert_eq!(ask(1, 3, 8), Ok(Rules { frame, rule: Rule::InRegister(200), signing: true, shortest: true }));
         assert_eq!(ask(1, 16, 9), Err(Refusal { number: 65, position: 0 }));
         assert_eq!(ask(2, 16, 0), Err(Refusal { number: 62, position: 0 }));
         let cut = &table.bytes[..table.bytes.len() - 1];
@@ -249,7 +249,7 @@ fn the_row_check() {
 
 #[test]
 fn questions_in_words() {
-    let numbers = [11..=13, 21..=25, 31..=41, 51..=54, 61..=69, 71..=72, 76..=80, 84..=84];
+    let numbers = [11..=13, 21..=25, 31..=41, 51..=54, 61..=69, 71..=80, 84..=84];
     for number in 0..100 {
         let known = numbers.iter().any(|range| range.contains(&number));
         let refusal = Refusal { number, position: 0 };
@@ -287,14 +287,15 @@ fn sites_of_a_table() {
     let sites = hex("0000 ffff01 8900 04060000 0a0214 8000");
     let site = |place, offset| dekvoz::call_site(&sites, place, offset);
     assert_eq!(site(2, 3), Ok(None));
-    assert_eq!(site(2, 9), Ok(Some(Site { start: 4, length: 6, pad: 0 })));
-    assert_eq!(site(2, 11), Ok(Some(Site { start: 10, length: 2, pad: 20 })));
+    assert_eq!(site(2, 9), Ok(Some(Site { start: 4, length: 6, pad: 0, shortest: false })));
+    assert_eq!(site(2, 11), Ok(Some(Site { start: 10, length: 2, pad: 20, shortest: false })));
     assert_eq!(site(2, 12), Ok(None));
+    assert_eq!(dekvoz::call_sites_shortest(&sites, 2), Ok(false));
     assert_eq!(site(0, 4).unwrap_err().number, 71);
     // Two sites that overlap: the first of the table counts.
     let both = hex("ffff01 08 06041e00 04091400");
-    assert_eq!(dekvoz::call_site(&both, 0, 6), Ok(Some(Site { start: 6, length: 4, pad: 30 })));
-    assert_eq!(dekvoz::call_site(&both, 0, 5), Ok(Some(Site { start: 4, length: 9, pad: 20 })));
+    assert_eq!(dekvoz::call_site(&both, 0, 6), Ok(Some(Site { start: 6, length: 4, pad: 30, shortest: true })));
+    assert_eq!(dekvoz::call_site(&both, 0, 5), Ok(Some(Site { start: 4, length: 9, pad: 20, shortest: true })));
     assert_eq!(dekvoz::call_site(&hex("ffff01 05 04060000 0a"), 0, 4).unwrap_err().number, 72);
     let far = hex("ffff01 0d ffffffffffffffffff01 01 00 00");
     assert_eq!(dekvoz::call_site(&far, 0, 4).unwrap_err().number, 72);

@@ -19,7 +19,7 @@ use Rattle.apply.specs.declared.Kind.{Kind}
 use Rattle.apply.specs.declared.Kind.the-variants.{Set, Sub}
 use Rattle.apply.specs.declared.Number.{Number}
 use Rattle.apply.specs.Kinds.{kindOf, bytesOf, isWordSize, sizeOk, numberOf, isNumber, found}
-use Rattle.apply.specs.Fields.{upTo}
+use Rattle.apply.specs.Fields.{upTo, wholeIn}
 use Rattle.apply.specs.Values.{Layout, addressOf, valueAs, storeAs, storeOf}
 use Rattle.apply.specs.Apply.{partners, paired, valueOk, sound}
 
@@ -117,8 +117,10 @@ module _ (l : Layout) (bs : List ℕ) (r : Relocation) (behind : Option Relocati
   unfolding storeOf
   stored-as = ap (λ (x : Kind). storeAs x l bs r behind) (sym t ∙ e)
 
-  pub value-as : {v : Number} → v ≡ numberOf (valueAs k l r behind) → found v ≡ valueAs k′ l r behind
-  value-as f = ap found (f ∙ ap (λ (x : Kind). numberOf (valueAs x l r behind)) t) ∙ found-is (valueAs k′ l r behind)
+  -- a field that holds the value whole, by the kind that the store's definition goes on with
+  pub value-as : {out : List ℕ} → out ≡ wholeIn (r .bytes) bs (r .place) (valueAs k l r behind) → wholeIn (r .bytes) bs (r .place) (valueAs k′ l r behind) ≡ storeAs k′ l bs r behind
+      → out ≡ storeOf l bs r behind
+  value-as f g = f ∙ ap (λ (x : Kind). wholeIn (r .bytes) bs (r .place) (valueAs x l r behind)) t ∙ g ∙ stored-as
 
   pub sized-as : T (sizeOk (kindOf (r .kind)) (r .bytes)) → T (sizeOk k′ (r .bytes))
   sized-as x = subst (λ (y : Kind). T (sizeOk y (r .bytes))) (sym e ∙ t) x

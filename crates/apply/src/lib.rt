@@ -599,6 +599,22 @@ fn whole(copy: &mut [u8], r: Reloc, v: Number)
     leb::le(copy, r.place as usize, r.bytes as usize, n);
 }
 
+// The value of a relocation that a field holds whole.
+fn store_value(
+    copy: &mut [u8],
+    k: Kind,
+    addresses: &[u64],
+    section: u64,
+    image: u64,
+    r: Reloc,
+    behind: Beside,
+)
+    requires { ⌜ (r .place + r .bytes ≤ length (now copy)) × T (sizeOk k (r .bytes)) ⌝ }
+    ensures { λ u. ⌜ now (copy .exit) ≡ wholeIn (r .bytes) (now (copy .entry)) (r .place) (valueAs k (layoutOf (now (addresses .entry)) section image) (meant r) (beside behind)) ⌝ }
+{
+    whole(copy, r, value(k, addresses, section, image, r, behind));
+}
+
 // The store of one relocation.
 fn store(copy: &mut [u8], addresses: &[u64], section: u64, image: u64, r: Reloc, behind: Beside)
     requires { ⌜ (r .place + r .bytes ≤ length (now copy)) × T (sizeOk (kindOf (r .kind)) (r .bytes)) ⌝ }
@@ -606,11 +622,11 @@ fn store(copy: &mut [u8], addresses: &[u64], section: u64, image: u64, r: Reloc,
 {
     let k = kind_of(r.kind);
     match k {
-        Kind::Data => whole(copy, r, value(k, addresses, section, image, r, behind)),
-        Kind::Address => whole(copy, r, value(k, addresses, section, image, r, behind)),
-        Kind::SumPlus => whole(copy, r, value(k, addresses, section, image, r, behind)),
+        Kind::Data => store_value(copy, k, addresses, section, image, r, behind),
+        Kind::Address => store_value(copy, k, addresses, section, image, r, behind),
+        Kind::SumPlus => store_value(copy, k, addresses, section, image, r, behind),
         Kind::SumMinus => {}
-        Kind::Image => whole(copy, r, value(k, addresses, section, image, r, behind)),
+        Kind::Image => store_value(copy, k, addresses, section, image, r, behind),
         Kind::Set(w) => set_sum(copy, w, addresses, r),
         Kind::Sub(w) => sub_sum(copy, w, addresses, r),
         Kind::Unknown => {}

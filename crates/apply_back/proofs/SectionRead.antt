@@ -118,14 +118,15 @@ module _ (l : Layout) (size : ℕ) (m : Machine) (fit : MachineFits m) where
   runMoved f p =
       onward (actAll true (blank .current .rules) (leading m f) blank) λ s. actAll false (s .current .rules) (while p (movedRows (l .symbols) f)) s
 
-  run-back : (f : Function) (ok : FunctionFits Elf m f) (p a b pointer : ℕ) (signal : Bool) → p < newLength (l .symbols) f
+  run-back : (f : Function) (ok : FunctionFits Elf m f) (p a b pointer : ℕ) (signal shortest : Bool) → p < newLength (l .symbols) f
       → StepsHold word (l .symbols) (pairsOf (f .relaxed)) 0 (others (f .rows))
       → runTo word p (record {
         header = record { pointer = pointer; signal = signal; operations = rowsBytes word (leading m f) ++ replicate a 0 };
         found = record { size = newLength (l .symbols) f; operations = steppedWith word (l .symbols) (pairsOf (f .relaxed)) 0 (others (f .rows)) ++ replicate b 0 };
+        shortest = shortest;
       }) ≡ runMoved f p
   unfolding runTo runMoved movedRows
-  run-back f ok p a b pointer signal h steps =
+  run-back f ok p a b pointer signal shortest h steps =
       rw (if-le (suc p) (newLength (l .symbols) f), rows-back word p (blank .current .rules) (leading m f) a blank (leading-ok m f fit (ok .lines)))
       (onward-ext _ _ _ λ t. moved-back word p (t .current .rules) (l .symbols) (pairsOf (f .relaxed)) (others (f .rows)) b t steps)
 
@@ -185,4 +186,4 @@ module _ (l : Layout) (size : ℕ) (m : Machine) (fit : MachineFits m) where
         fields,
         read .1,
       )
-      (run-back f (found .1 .0) p (written .0) (read .0) (pointerIn false word (kindFor (f .landings) (f .named))) (f .signal) below steps)
+      (run-back f (found .1 .0) p (written .0) (read .0) (pointerIn false word (kindFor (f .landings) (f .named))) (f .signal) _ below steps)

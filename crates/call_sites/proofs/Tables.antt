@@ -1,21 +1,25 @@
 -- A table at a place: its head, the bytes of its entries, and the answer.
-use mathlib.Core.Path.{_≡_, refl, ap, _∙_}
-use Prim.Native.Nat.{ℕ, suc, _+_, _-_, _≤_, _<_}
+use mathlib.Core.Path.{_≡_, refl, sym, ap, _∙_}
+use Prim.Native.Nat.{ℕ, zero, suc, _+_, _-_, _≤_, _<_}
 use native.Mathlib.Omega.{arith}
-use mathlib.Core.Bool.{Bool, true, false}
+use mathlib.Core.Bool.{Bool, true, false, _&&_}
 use mathlib.Core.Option.{Option, none, some}
-use mathlib.Core.List.{List, [], _∷_}
-use lib.ListN.{length, getD, take, drop, length-drop}
-use lib.Seq.{drop-cons}
+use mathlib.Core.List.{List, [], _∷_, _++_}
+use lib.Dec.{eqb}
+use lib.ListN.{length, getD, take, drop, length-drop, drop-of-length-le}
+use lib.Seq.{drop-cons, drop-drop}
 use Rattle.format.specs.Prelude.{pick, next, good, onward, orElse, first}
-use Rattle.format.specs.declared.Unsigned.the-variants as unsigned
+use Rattle.format.specs.declared.Unsigned.the-variants as value
 use Rattle.format.specs.Lists.{Landing}
 use Rattle.format.specs.Reader.{readMany, readCounted}
-use Rattle.format.specs.CallSiteReader.{headOk, readSites, readTable, sitesAt, covers, siteAt, answerNumbers}
+use Rattle.format.specs.Answers.{bit}
+use Rattle.format.specs.Shortest.{unsigned, readMark, marked, numbersShort, everyShortF, everyShort}
+use Rattle.format.specs.CallSiteReader.{headOk, readSites, readTable, sitesAt, covers, siteAt, entriesShort, sitesShort, siteNumbers, answerNumbers, siteMark, markedSite}
 use Rattle.format.proofs.Choice.{if-le, if-gt}
 use Rattle.format.proofs.Positions.{ulebAt}
 use Rattle.format.proofs.PositionLaws.{uleb-ahead, uleb-rest, uleb-none}
-use Rattle.call_sites.specs.Reads.{TableThere, foundOf}
+use Rattle.call_sites.specs.declared.Site.{Site}
+use Rattle.call_sites.specs.Reads.{TableThere, numbersOf, foundOf}
 
 short : (bs : List ℕ) → length bs < 3 → readTable bs ≡ none
 unfolding readTable
@@ -50,11 +54,11 @@ module _ (s : List ℕ) (p : ℕ) where
       unfolding pick
       counted-next = rw f at (by-head e)
 
-      pub no-size : ulebAt s (p + 3) ≡ unsigned.Bad → readTable (drop p s) ≡ none
+      pub no-size : ulebAt s (p + 3) ≡ value.Bad → readTable (drop p s) ≡ none
       unfolding readCounted next
       no-size n = counted-next ∙ rw (uleb-none s (p + 3) n)
 
-      module _ {n q : ℕ} (v : ulebAt s (p + 3) ≡ unsigned.Value n q) where
+      module _ {n q : ℕ} (v : ulebAt s (p + 3) ≡ value.Value n q) where
         pub past-end : length s - q < n → readTable (drop p s) ≡ none
         unfolding readCounted readMany next
         past-end l = let m : length (drop q s) < n = omega (arith, length-drop q s) in counted-next ∙ rw (uleb-rest s (p + 3) v, if-gt n (length (drop q s)))
@@ -65,6 +69,7 @@ module _ (s : List ℕ) (p : ℕ) where
             let m : n ≤ length (drop q s) = omega (arith, length-drop q s) in
             let z : q + n - q ≡ n = omega arith in
             record {
+              behind = uleb-ahead s (p + 3) v .0;
               ordered = omega arith;
               inside = omega (arith, uleb-ahead s (p + 3) v .1);
               reads = counted-next ∙ rw (z, uleb-rest s (p + 3) v, if-le n (length (drop q s)));
@@ -72,17 +77,95 @@ module _ (s : List ℕ) (p : ℕ) where
 
 -- ---- the answer
 
-pub no-table : (s : List ℕ) (p offset : ℕ) {ns : List ℕ} → readTable (drop p s) ≡ none → ns ≡ 71 ∷ 0 ∷ 0 ∷ 0 ∷ 0 ∷ [] → ns ≡ answerNumbers (siteAt s p offset)
-unfolding siteAt sitesAt onward orElse answerNumbers
-no-table s p offset e h = h ∙ rw e
+-- the site that was found, and the mark behind its numbers
+abbrev withMark : Site → Bool → List ℕ
+withMark site shortest =
+    site .number ∷ site .found ∷ site .start ∷ site .length ∷ site .pad ∷ pick (eqb (site .number) 0) (bit shortest) 0 ∷ []
 
-answers : (offset : ℕ) (r : Option (List Landing)) {ns : List ℕ} → ns ≡ foundOf offset r
-    → ns ≡ answerNumbers (onward (orElse r 72) λ ls. good (first (covers offset) ls))
-unfolding orElse onward foundOf answerNumbers
-answers offset none h = h
-answers offset (some ls) h = h
+pub no-table : (s : List ℕ) (p offset : ℕ) (shortest : Bool) (site : Site) {ns : List ℕ} → readTable (drop p s) ≡ none → numbersOf site ≡ 71 ∷ 0 ∷ 0 ∷ 0 ∷ 0 ∷ []
+    → ns ≡ withMark site false → ns ≡ markedSite (siteAt s p offset) shortest
+unfolding siteAt sitesAt onward orElse answerNumbers siteMark markedSite pick
+no-table s p offset shortest site e h k =
+    let z : site .number ≡ 71 = cc in
+    let m : withMark site false ≡ 71 ∷ 0 ∷ 0 ∷ 0 ∷ 0 ∷ 0 ∷ [] = rw z (ap (λ (ns : List ℕ). ns ++ (0 ∷ [])) (rw z at h)) in
+    k ∙ m ∙ rw e
 
-pub table-answers : (s : List ℕ) (p offset : ℕ) {at q : ℕ} {ns : List ℕ} → TableThere s p at q → ns ≡ foundOf offset (readSites (take (q - at) (drop at s)))
-    → ns ≡ answerNumbers (siteAt s p offset)
+found-marked : (site : Site) (o : Option Landing) (shortest : Bool) → numbersOf site ≡ siteNumbers o → withMark site shortest ≡ siteNumbers o ++ (bit shortest ∷ [])
+unfolding siteNumbers pick
+found-marked site none shortest e = let z : site .number ≡ 0 = cc in rw z (ap (λ (ns : List ℕ). ns ++ (bit shortest ∷ [])) (rw z at e))
+found-marked site (some l) shortest e = let z : site .number ≡ 0 = cc in rw z (ap (λ (ns : List ℕ). ns ++ (bit shortest ∷ [])) (rw z at e))
+
+answers : (offset : ℕ) (r : Option (List Landing)) (site : Site) (shortest : Bool) → numbersOf site ≡ foundOf offset r
+    → withMark site shortest ≡ markedSite (onward (orElse r 72) λ ls. good (first (covers offset) ls)) shortest
+unfolding orElse onward foundOf answerNumbers siteMark markedSite pick
+answers offset none site shortest e = let z : site .number ≡ 72 = cc in rw z (ap (λ (ns : List ℕ). ns ++ (0 ∷ [])) (rw z at e))
+answers offset (some ls) site shortest e = found-marked site (first (covers offset) ls) shortest e
+
+pub table-answers : (s : List ℕ) (p offset : ℕ) {at q : ℕ} (site : Site) {b c : Bool} {ns : List ℕ} → TableThere s p at q
+    → numbersOf site ≡ foundOf offset (readSites (take (q - at) (drop at s))) → b ≡ c → ns ≡ withMark site b
+    → ns ≡ markedSite (siteAt s p offset) c
 unfolding siteAt sitesAt onward orElse
-table-answers s p offset {at = at} {q = q} t h = rw (t .reads) (answers offset (readSites (take (q - at) (drop at s))) h)
+table-answers s p offset {at = at} {q = q} site {b = b} t h e k =
+    k ∙ rw (← e, t .reads) (answers offset (readSites (take (q - at) (drop at s))) site b h)
+
+-- ---- the mark
+
+module _ {s : List ℕ} {p at q : ℕ} (t : TableThere s p at q) where
+  table-mark : sitesShort s p ≡ marked (readMark unsigned (drop (p + 3) s)) (λ rest. true) && everyShort (take (q - at) (drop at s))
+  unfolding sitesShort entriesShort numbersShort
+  table-mark = let e : drop 3 (drop p s) ≡ drop (p + 3) s = drop-drop 3 p s in rw (t .reads, e)
+
+  pub size-unread : readMark unsigned (drop (p + 3) s) ≡ none → false ≡ sitesShort s p
+  unfolding marked
+  size-unread e = sym (table-mark ∙ rw e)
+
+  module _ {b : Bool} {rest : List ℕ} (e : readMark unsigned (drop (p + 3) s) ≡ some (b, rest)) where
+    pub size-long : b ≡ false → false ≡ sitesShort s p
+    unfolding marked
+    size-long f = sym (table-mark ∙ rw (e, f))
+
+    pub size-short : b ≡ true → everyShort (take (q - at) (drop at s)) ≡ sitesShort s p
+    unfolding marked
+    size-short f = sym (table-mark ∙ rw (e, f))
+
+-- what is left of the entries' numbers, with fuel that is enough
+pub record Left (s : List ℕ) (i : ℕ) : Type 0 where
+  fuel : ℕ
+  enough : length s ≤ fuel + i
+  rest : everyShort s ≡ everyShortF fuel (drop i s)
+
+pub begin : (s : List ℕ) → Left s 0
+unfolding everyShort
+begin s = record { fuel = length s; enough = omega arith; rest = refl }
+
+every-step : (f : ℕ) (bs : List ℕ) → 0 < f → 0 < length bs → everyShortF f bs ≡ marked (readMark unsigned bs) (everyShortF (f - 1))
+unfolding everyShortF
+every-step zero bs h l = absurd (omega arith)
+every-step (suc f) [] h l = absurd (omega arith)
+every-step (suc f) (b ∷ bs) h l = let e : suc f - 1 ≡ f = omega arith in rw e
+
+every-done : (f : ℕ) → everyShortF f [] ≡ true
+unfolding everyShortF
+every-done zero = refl
+every-done (suc f) = refl
+
+module _ {s : List ℕ} {i : ℕ} (g : Left s i) where
+  pub all-short : length s ≤ i → true ≡ everyShort s
+  all-short h = sym (g .rest ∙ rw (drop-of-length-le s h) (every-done (g .fuel)))
+
+  module _ (h : i < length s) where
+    opened : everyShort s ≡ marked (readMark unsigned (drop i s)) (everyShortF (g .fuel - 1))
+    opened = g .rest ∙ every-step (g .fuel) (drop i s) (omega (arith, g .enough)) (omega (arith, length-drop i s))
+
+    pub number-unread : readMark unsigned (drop i s) ≡ none → false ≡ everyShort s
+    unfolding marked
+    number-unread e = sym (opened ∙ rw e)
+
+    module _ {b : Bool} (past : ℕ) (e : readMark unsigned (drop i s) ≡ some (b, drop past s)) where
+      pub number-long : b ≡ false → false ≡ everyShort s
+      unfolding marked
+      number-long f = sym (opened ∙ rw (e, f))
+
+      pub number-short : b ≡ true → i < past → Left s past
+      unfolding marked
+      number-short f l = record { fuel = g .fuel - 1; enough = omega (arith, g .enough); rest = opened ∙ rw (e, f) }

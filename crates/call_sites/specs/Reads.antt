@@ -1,6 +1,6 @@
 -- What the reader's functions promise: an entry at a position, a table's entries, and the site that is kept while the entries are read.
 use mathlib.Core.Path.{_≡_}
-use Prim.Native.Nat.{ℕ, _-_, _≤_, _<_}
+use Prim.Native.Nat.{ℕ, _+_, _-_, _≤_, _<_}
 use mathlib.Core.Bool.{_&&_}
 use mathlib.Core.Option.{Option, none, some}
 use mathlib.Core.List.{List, [], _∷_}
@@ -30,6 +30,7 @@ EntrySays s p entry.Bad = readSite (drop p s) ≡ none
 -- ---- a table
 
 pub record TableThere (s : List ℕ) (p at q : ℕ) : Type 0 where
+  pub behind : p + 3 < at
   pub ordered : at ≤ q
   pub inside : q ≤ length s
   pub reads : readTable (drop p s) ≡ some (take (q - at) (drop at s))
@@ -40,7 +41,10 @@ TableSays s p table.Bad = readTable (drop p s) ≡ none
 
 -- ---- the answer
 
--- its numbers, in the order of include/dekvoz.h
+-- its numbers, in the order of include/dekvoz.h; the first five are the site's
+abbrev pub markedOf : Site → List ℕ
+markedOf r = r .number ∷ r .found ∷ r .start ∷ r .length ∷ r .pad ∷ r .shortest ∷ []
+
 abbrev pub numbersOf : Site → List ℕ
 numbersOf r = r .number ∷ r .found ∷ r .start ∷ r .length ∷ r .pad ∷ []
 

@@ -2,9 +2,14 @@
 // rucc-asm/src/unwind.rs of tamnd/rucc does not have.
 ghost use mathlib.Core.Path.{_≡_};
 ghost use mathlib.Core.List.{[], _∷_};
-ghost use Rattle.format.specs.CallSiteReader.{siteOf, covers, headOk, readSites, siteAt, answerNumbers};
-ghost use Rattle.call_sites.specs.Reads.{EntrySays, TableSays, numbersOf, keptOf, foundOf};
+ghost use lib.Dec.{eqb};
+ghost use Rattle.format.specs.Prelude.{pick};
+ghost use Rattle.format.specs.Answers.{bit};
+ghost use Rattle.format.specs.Shortest.{everyShort};
+ghost use Rattle.format.specs.CallSiteReader.{siteOf, covers, headOk, readSites, siteAt, sitesShort, markedSite};
+ghost use Rattle.call_sites.specs.Reads.{EntrySays, TableThere, TableSays, numbersOf, markedOf, keptOf, foundOf};
 use format::Unsigned;
+use leb::UnsignedSpelling;
 
 const DW_EH_PE_OMIT: u8 = 0xff;
 
@@ -59,6 +64,7 @@ pub struct Site {
     pub start: u64,
     pub length: u64,
     pub pad: u64,
+    pub shortest: u64,
 }
 
 fn refused(number: u64) -> Site
@@ -70,6 +76,7 @@ fn refused(number: u64) -> Site
         start: 0,
         length: 0,
         pad: 0,
+        shortest: 0,
     }
 }
 
@@ -82,6 +89,7 @@ fn found_at(start: u64, length: u64, pad: u64) -> Site
         start,
         length,
         pad,
+        shortest: 0,
     }
 }
 
@@ -157,14 +165,76 @@ fn table_at(sites: &[u8], place: u64) -> Table
     Table::Entries(at, at + n as usize)
 }
 
+// ---- how the numbers of a table are spelled
+
+// The numbers of its entries, all unsigned.
+fn every_short(s: &[u8]) -> bool
+    ensures { λ r. ⌜ r ≡ everyShort (now (s .entry)) ⌝ }
+{
+    let mut i = 0;
+    while i < s.len() {
+        let UnsignedSpelling::Value(_, past, _, shortest) = leb::uleb_spelling(s, i) else {
+            return false;
+        };
+        if !shortest {
+            return false;
+        }
+        i = past;
+    }
+    true
+}
+
+// Its length, which stands behind the three bytes of its head, and its entries from `at` to `past`.
+fn table_short(sites: &[u8], place: u64, at: usize, past: usize) -> bool
+    requires { ⌜ TableThere (now sites) place at past ⌝ }
+    ensures { λ r. ⌜ r ≡ sitesShort (now (sites .entry)) place ⌝ }
+{
+    let UnsignedSpelling::Value(_, _, _, shortest) = leb::uleb_spelling(sites, place as usize + 3)
+    else {
+        return false;
+    };
+    if !shortest {
+        return false;
+    }
+    every_short(&sites[at..past])
+}
+
+fn with_mark(site: Site, shortest: u64) -> Site
+    ensures { λ r. ⌜ markedOf r ≡ site .number ∷ site .found ∷ site .start ∷ site .length ∷ site .pad ∷ shortest ∷ [] ⌝ }
+{
+    Site {
+        number: site.number,
+        found: site.found,
+        start: site.start,
+        length: site.length,
+        pad: site.pad,
+        shortest,
+    }
+}
+
+// A refusal has no mark.
+fn marked(site: Site, shortest: bool) -> Site
+    ensures { λ r. ⌜ markedOf r ≡ site .number ∷ site .found ∷ site .start ∷ site .length ∷ site .pad ∷ pick (eqb (site .number) 0) (bit shortest) 0 ∷ [] ⌝ }
+{
+    if site.number != 0 {
+        return with_mark(site, 0);
+    }
+    if shortest {
+        return with_mark(site, 1);
+    }
+    with_mark(site, 0)
+}
+
 // The first site of the table at a place of the exception bytes that covers a code offset: its start, length and pad, or that no entry
-// covers it. Every entry is read before the answer. It refuses by 71 and 72.
+// covers it; and whether every number of the table is spelled shortest. Every entry is read before the answer. It refuses by 71 and 72.
 #[no_mangle]
 pub extern "C" fn unwind_call_site(sites: &[u8], place: u64, offset: u64) -> Site
-    ensures { λ r. ⌜ numbersOf r ≡ answerNumbers (siteAt (now (sites .entry)) place offset) ⌝ }
+    ensures { λ r. ⌜ markedOf r ≡ markedSite (siteAt (now (sites .entry)) place offset) (sitesShort (now (sites .entry)) place) ⌝ }
 {
     let Table::Entries(at, past) = table_at(sites, place) else {
-        return refused(71);
+        return marked(refused(71), false);
     };
-    search(&sites[at..past], offset)
+    let site = search(&sites[at..past], offset);
+    let shortest = table_short(sites, place, at, past);
+    marked(site, shortest)
 }

@@ -124,7 +124,7 @@ unfolding lsdaLetter
 lsda-short none = omega arith
 lsda-short (some l) = omega arith
 
-data-short : (word : ℕ) (kind : Kind) → word ≤ 8 → length (augmentationData word kind) ≤ 11
+pub data-short : (word : ℕ) (kind : Kind) → word ≤ 8 → length (augmentationData word kind) ≤ 11
 unfolding augmentationData
 data-short word plain h = omega arith
 data-short word personal h = omega arith

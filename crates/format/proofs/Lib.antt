@@ -1,6 +1,7 @@
 -- The laws of the definitions. What is claimed of the whole stands in ReadBack.
 pub mod Cases
 pub mod Examples
+pub mod ShortExamples
 pub mod Choice
 pub mod Registers
 pub mod LebBack
@@ -15,6 +16,7 @@ pub mod EntryBack
 pub mod FieldsBack
 pub mod HeaderBack
 pub mod RecordBack
+pub mod ShortBack
 pub mod Fits
 pub mod RulesSeen
 pub mod CheckSays

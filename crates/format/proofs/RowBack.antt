@@ -95,7 +95,7 @@ off-small : (z : ℤ) → Off32 z → Small z
 off-small (pos n) h = omega arith
 off-small (negsuc n) h = omega arith
 
-factor-fits : (w : ℕ) (z : ℤ) → Off32 z → T (fits64 (factor w z))
+pub factor-fits : (w : ℕ) (z : ℤ) → Off32 z → T (fits64 (factor w z))
 factor-fits w z h = small-fits (factor w z) (factor-small w z h)
 
 -- what is read of a factored offset

@@ -7,14 +7,14 @@ use mathlib.Core.Option.{Option, none, some}
 use mathlib.Core.List.{List, [], _∷_, _++_, map}
 use lib.ListN.{length, replicate, getElem?}
 use lib.Dec.{T}
-use Rattle.format.specs.Prelude.{pick, after, good, onward, orElse}
+use Rattle.format.specs.Prelude.{pick, after, Result, good, onward, orElse, bad}
 use Rattle.format.specs.declared.Machine.{Machine}
 use Rattle.format.specs.Rows.{rowsBytes, steppedBytes}
 use Rattle.format.specs.Lists.{Function, Relaxed, Relocation}
 use Rattle.format.specs.Headers.{keyOf, kindFor, leading, others, padding, headerFields}
 use Rattle.format.specs.Records.{sizeField, recordFields}
 use Rattle.format.specs.Rules.{blank}
-use Rattle.format.specs.Reader.{Entry, distanceBack, firstAddend, headerPlace, Found, parsed, locate, runTo, readSection}
+use Rattle.format.specs.Reader.{Entry, distanceBack, firstAddend, headerPlace, Found, parsed, locate, runTo, readSection, shortestTo, shortestOf}
 use Rattle.format.proofs.RowsRun.{runRows}
 use Rattle.format.specs.Questions.{sizeBytes}
 use Rattle.format.specs.declared.Section.{Section}
@@ -26,12 +26,13 @@ use Rattle.format.proofs.FieldsBack.{word-small}
 use Rattle.format.proofs.HeaderBack.{pointerIn, header-back}
 use Rattle.format.proofs.RecordBack.{record-back, pointer-within, blank-small}
 use Rattle.format.proofs.WalkBack.{onward-ext, rows-at-back, rows-back}
+use Rattle.format.proofs.ShortBack.{rows-shortest, stepped-shortest, header-shortest, record-shortest}
 use Rattle.format.proofs.Fits.{MachineFits, FunctionFits, AllFit, Bounded}
 use Rattle.format.proofs.Leading.{others-ok, leading-ok}
 use Rattle.format.proofs.Parts.{headerBody, recordBody, Spot, cieOf, placeOf}
 use Rattle.format.proofs.SectionSize.{header-ok}
 use Rattle.format.proofs.SectionTiles.{headerEntry, recordEntry, Holds, section-tiles}
-use Rattle.format.proofs.SectionFinds.{spotAt, record-holds, record-found, header-found, header-by-distance, header-by-relocation}
+use Rattle.format.proofs.SectionFinds.{spotAt, record-missing, record-holds, record-found, header-found, header-by-distance, header-by-relocation}
 
 size-bytes : (s : Section) (word : ℕ) → pick (isDebug s) word 4 ≡ sizeBytes s word
 unfolding isDebug sizeBytes pick
@@ -67,6 +68,7 @@ module _ (s : Section) (m : Machine) (fit : MachineFits m) (f : Function) (ok : 
               operations = rowsBytes (m .word) (leading m f) ++ replicate a 0;
             };
         found = record { size = sizeField (f .size) (f .relaxed); operations = steppedBytes (m .word) 0 (others (f .rows)) ++ replicate b 0 };
+        shortest = true;
       }
 
   parsed-back : (align at : ℕ) (x : Spot) → Holds s m x f
@@ -83,9 +85,11 @@ module _ (s : Section) (m : Machine) (fit : MachineFits m) (f : Function) (ok : 
         rw (
           padded-behind align at,
           header-back (isDebug s) m (keyOf m f) _ (header-ok s m fit f ok),
+          header-shortest (isDebug s) m (keyOf m f) _ (header-ok s m fit f ok),
           padded-behind,
           record-back (isDebug s) (m .word) d (pointerIn (isDebug s) (m .word) (kindFor (f .landings) (f .named))) f _ (h .distance) hs
               (pointer-within (isDebug s) (m .word) (f .landings) (f .named)) (omega (arith, blank-small (m .word) (f .landings) (f .named) (w .1))),
+          record-shortest (isDebug s) (m .word) d f _ (omega (arith, blank-small (m .word) (f .landings) (f .named) (w .1))),
         ),
       )
 
@@ -96,23 +100,67 @@ module _ (s : Section) (m : Machine) (fit : MachineFits m) (f : Function) (ok : 
       rw (if-le (suc p) (sizeField (f .size) (f .relaxed)), rows-back (m .word) p (blank .current .rules) (leading m f) a blank (leading-ok m f fit (ok .lines)))
       (onward-ext _ _ _ λ t. rows-at-back (m .word) p (t .current .rules) (others (f .rows)) b t (others-ok (m .word) (f .rows) (ok .lines)))
 
--- For the functions that a section takes and a p below a function's length, reading what was written is running the rows.
--- Whatever the other functions hold; only the function that is asked about has no relaxing labels.
-pub section-read : (s : Section) (m : Machine) (fs : List Function) → MachineFits m → AllFit s m fs → Bounded fs
-    → (k p : ℕ) (f : Function) → getElem? fs k ≡ some f → f .relaxed ≡ none → p < f .size
+  -- at every p
+  shortestTo-back : (a b p : ℕ) → shortestTo (m .word) p (whatFound a b) ≡ true
+  unfolding shortestTo whatFound
+  shortestTo-back a b p =
+      rw (
+        rows-shortest (m .word) p (leading m f) a (leading-ok m f fit (ok .lines)),
+        stepped-shortest (m .word) p (others (f .rows)) b (others-ok (m .word) (f .rows) (ok .lines)),
+      )
+
+-- what is located of a function's record: its header's signal mark is the function's, the run of its operations is that of the rows, and its numbers are spelled shortest
+pub record LocatedBack (m : Machine) (f : Function) (r : Result Found) : Type 0 where
+  pub found : Found
+  pub located : r ≡ good found
+  pub signal : found .header .signal ≡ f .signal
+  pub runs : (p : ℕ) → f .relaxed ≡ none → p < f .size → runTo (m .word) p found ≡ runRows m f p
+  pub shortest : (p : ℕ) → shortestTo (m .word) p found ≡ true
+
+-- For the functions that a section takes, relaxed or not, whatever the other functions hold.
+module _ (s : Section) (m : Machine) (fs : List Function) (fit : MachineFits m) (ok : AllFit s m fs) (bound : Bounded fs) (k : ℕ) (f : Function) (at-k : getElem? fs k ≡ some f) where
+  -- The record of every function is located.
+  pub section-located : LocatedBack m f
+      (locate (isDebug s) (joined (map (λ a. a .relocations) (partsFrom s m 0 0 [] fs))) (m .word) k (joined (map (λ a. a .bytes) (partsFrom s m 0 0 [] fs))))
+  unfolding locate onward orElse after recordEntry whatFound
+  section-located =
+      let x : Spot = spotAt s m 0 [] fs k in
+      let h : Holds s m x f = record-holds s m fs fit ok bound k f at-k in
+      let head = header-found s m fs fit ok bound k f at-k in
+      let fits = fits-at s m fs k f ok at-k in
+      let fields = parsed-back s m fit f fits (head .0) (cieOf x) x h in
+      record {
+        found = whatFound s m fit f fits (fields .0) (fields .1);
+        located =
+            rw (
+              section-tiles s m fs fit ok bound,
+              record-found s m fs fit ok bound k f at-k,
+              place-found (isDebug s) _ (recordEntry s m x f) (cieOf x) (header-by-relocation s m fs fit ok bound k f at-k) (header-by-distance s m fs fit ok bound k f at-k),
+              head .1,
+            )
+            (fields .2);
+        signal = refl;
+        runs = λ p relaxed below. runTo-back s m fit f fits (fields .0) (fields .1) p relaxed below;
+        shortest = λ p. shortestTo-back s m fit f fits (fields .0) (fields .1) p;
+      }
+
+  -- Where the function that is asked about has no relaxing labels, and for a p below its length, reading what was written is running the rows.
+  pub section-read : (p : ℕ) → f .relaxed ≡ none → p < f .size
+      → readSection (isDebug s) (joined (map (λ a. a .relocations) (partsFrom s m 0 0 [] fs))) (m .word) k p (joined (map (λ a. a .bytes) (partsFrom s m 0 0 [] fs)))
+      ≡ runRows m f p
+  unfolding readSection onward
+  section-read p relaxed below = rw (section-located .located) (section-located .runs p relaxed below)
+
+  -- Every number that is read is spelled shortest, at every p.
+  pub section-shortest : (p : ℕ)
+      → shortestOf (m .word) p (locate (isDebug s) (joined (map (λ a. a .relocations) (partsFrom s m 0 0 [] fs))) (m .word) k (joined (map (λ a. a .bytes) (partsFrom s m 0 0 [] fs))))
+      ≡ true
+  unfolding shortestOf
+  section-shortest p = rw (section-located .located) (section-located .shortest p)
+
+-- Past the functions no record is found.
+pub section-past : (s : Section) (m : Machine) (fs : List Function) → MachineFits m → AllFit s m fs → Bounded fs → (k p : ℕ) → getElem? fs k ≡ none
     → readSection (isDebug s) (joined (map (λ a. a .relocations) (partsFrom s m 0 0 [] fs))) (m .word) k p (joined (map (λ a. a .bytes) (partsFrom s m 0 0 [] fs)))
-    ≡ runRows m f p
-unfolding readSection locate onward orElse after recordEntry
-section-read s m fs fit ok bound k p f at-k relaxed below =
-    let x : Spot = spotAt s m 0 [] fs k in
-    let h : Holds s m x f = record-holds s m fs fit ok bound k f at-k in
-    let head = header-found s m fs fit ok bound k f at-k in
-    let fields = parsed-back s m fit f (fits-at s m fs k f ok at-k) (head .0) (cieOf x) x h in
-    rw (
-      section-tiles s m fs fit ok bound,
-      record-found s m fs fit ok bound k f at-k,
-      place-found (isDebug s) _ (recordEntry s m x f) (cieOf x) (header-by-relocation s m fs fit ok bound k f at-k) (header-by-distance s m fs fit ok bound k f at-k),
-      head .1,
-      fields .2,
-    )
-    (runTo-back s m fit f (fits-at s m fs k f ok at-k) (fields .0) (fields .1) p relaxed below)
+    ≡ bad 62
+unfolding readSection locate onward orElse
+section-past s m fs fit ok bound k p past = rw (section-tiles s m fs fit ok bound, record-missing s m fs fit ok bound k past)

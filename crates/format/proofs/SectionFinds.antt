@@ -79,6 +79,15 @@ module _ (s : Section) (m : Machine) where
   found-at at seen (g ∷ fs) (suc k) f h e =
       rw (front-no-record, record-kept (spotOf s m at seen g fs) g _ (h .0)) (found-at (nextAt s m at seen g fs) (nextSeen s m at seen g fs) fs k f (h .1) e)
 
+  none-at : (at : ℕ) (seen : List Seen) (fs : List Function) (k : ℕ) → FieldsHold s m at seen fs → getElem? fs k ≡ none
+      → getElem? (records (isDebug s) (entriesOf s m at seen fs)) k ≡ none
+  unfolding entriesOf records
+  none-at at seen [] zero h e = refl
+  none-at at seen [] (suc k) h e = refl
+  none-at at seen (g ∷ fs) zero h e = let z : _≡_ {A = ℕ} 0 1 = cc in absurd (omega arith)
+  none-at at seen (g ∷ fs) (suc k) h e =
+      rw (front-no-record, record-kept (spotOf s m at seen g fs) g _ (h .0)) (none-at (nextAt s m at seen g fs) (nextSeen s m at seen g fs) fs k (h .1) e)
+
   -- ---- the header
 
   -- a header of this key at this place is what is found there
@@ -188,6 +197,10 @@ module _ (s : Section) (m : Machine) where
 -- ---- the laws of a section
 
 module _ (s : Section) (m : Machine) (fs : List Function) (fit : MachineFits m) (ok : AllFit s m fs) (bound : Bounded fs) where
+  -- past the functions there is no record
+  pub record-missing : (k : ℕ) → getElem? fs k ≡ none → getElem? (records (isDebug s) (entriesOf s m 0 [] fs)) k ≡ none
+  record-missing k past = none-at s m 0 [] fs k (fields-hold s m fs fit ok bound) past
+
   module _ (k : ℕ) (f : Function) (at-k : getElem? fs k ≡ some f) where
     pub record-holds : Holds s m (spotAt s m 0 [] fs k) f
     record-holds = holds-at s m 0 [] fs k f (fields-hold s m fs fit ok bound) at-k

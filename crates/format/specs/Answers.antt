@@ -41,6 +41,14 @@ unfoldable pub readingNumbers : Reading → List ℕ
 readingNumbers (reading.Answered a) = 0 ∷ (cfaNumbers (a .cfa) ++ (ruleNumbers (a .rule) ++ (bit (a .signing) ∷ [])))
 readingNumbers (reading.Refused n) = n ∷ 0 ∷ 0 ∷ 0 ∷ 0 ∷ 0 ∷ 0 ∷ []
 
+-- and last whether every number that was read is spelled shortest (document 02, W-206)
+unfoldable pub markOf : Reading → Bool → ℕ
+markOf (reading.Answered a) shortest = bit shortest
+markOf (reading.Refused n) shortest = 0
+
+unfoldable pub markedNumbers : Reading → (shortest : Bool) → List ℕ
+markedNumbers r shortest = readingNumbers r ++ (markOf r shortest ∷ [])
+
 -- ---- the writers: number (0: accepted), position, and the counts of header places (or markers), bytes, relocations and call-site (or x64 info) bytes
 
 unfoldable pub outcomeNumbers : Outcome → List ℕ

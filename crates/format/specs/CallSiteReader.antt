@@ -1,15 +1,17 @@
 -- Call sites read (Itanium C++ ABI, exception handling tables, "LSDA"): the entries of the table at a place, and the first that covers an offset.
 use Prim.Native.Nat.{ℕ, zero, suc, _+_, _^_}
-use mathlib.Core.Bool.{Bool, _&&_}
+use mathlib.Core.Bool.{Bool, false, _&&_}
 use mathlib.Core.Option.{Option, none, some}
-use mathlib.Core.List.{List, [], _∷_}
+use mathlib.Core.List.{List, [], _∷_, _++_}
 use lib.ListN.{length, drop}
 use lib.Dec.{leb, ltb, eqb}
 use Rattle.format.specs.Prelude.{pick, Read, next, after, Result, good, bad, onward, orElse, first}
 use Rattle.format.specs.Constants.{«DW_EH_PE_omit», «DW_EH_PE_uleb128»}
 use Rattle.format.specs.Leb.{readUleb}
 use Rattle.format.specs.Lists.{Landing}
+use Rattle.format.specs.Answers.{bit}
 use Rattle.format.specs.Reader.{readCounted}
+use Rattle.format.specs.Shortest.{unsigned, numbersShort, everyShort}
 
 -- ---- one entry: start, length and pad, and any action; start plus length has 64 bits
 
@@ -59,6 +61,15 @@ covers offset l = leb (l .start) offset && ltb offset (l .start + l .size)
 unfoldable pub siteAt : List ℕ → (place offset : ℕ) → Result (Option Landing)
 siteAt s place offset = onward (sitesAt s place) λ ls. good (first (covers offset) ls)
 
+-- ---- whether every number of a table is spelled shortest (document 02, W-206): its length behind the three bytes of its head, and its entries'
+
+unfoldable pub entriesShort : Option (List ℕ) → Bool
+entriesShort none = false
+entriesShort (some bs) = everyShort bs
+
+unfoldable pub sitesShort : List ℕ → (place : ℕ) → Bool
+sitesShort s place = numbersShort (unsigned ∷ []) (drop 3 (drop place s)) && entriesShort (readTable (drop place s))
+
 -- ---- as numbers: number (0: answered), found (0: no entry covers the offset), start, length and pad
 
 unfoldable pub siteNumbers : Option Landing → List ℕ
@@ -69,3 +80,11 @@ siteNumbers (some l) = 0 ∷ 1 ∷ l .start ∷ l .size ∷ l .pad ∷ []
 unfoldable pub answerNumbers : Result (Option Landing) → List ℕ
 answerNumbers (bad n) = n ∷ 0 ∷ 0 ∷ 0 ∷ 0 ∷ []
 answerNumbers (good o) = siteNumbers o
+
+-- and last whether every number of the table is spelled shortest, 0 on a refusal
+unfoldable pub siteMark : Result (Option Landing) → Bool → ℕ
+siteMark (bad n) shortest = 0
+siteMark (good o) shortest = bit shortest
+
+unfoldable pub markedSite : Result (Option Landing) → (shortest : Bool) → List ℕ
+markedSite r shortest = answerNumbers r ++ (siteMark r shortest ∷ [])

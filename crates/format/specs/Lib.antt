@@ -15,6 +15,7 @@ pub mod X64Reader
 pub mod Questions
 pub mod Rules
 pub mod RowCheck
+pub mod Shortest
 pub mod Reader
-pub mod CallSiteReader
 pub mod Answers
+pub mod CallSiteReader

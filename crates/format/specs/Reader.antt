@@ -17,6 +17,7 @@ use Rattle.format.specs.Lists.{Relocation, relocationsOf}
 use Rattle.format.specs.Constants.{pcrelSdata4}
 use Rattle.format.specs.Headers.{headerId, pointerSize, dataFactor}
 use Rattle.format.specs.Rules.{State, blank, act, answer}
+use Rattle.format.specs.Shortest.{Number, unsigned, signed, numbersShort, runShort}
 
 -- ---- entries (61): a 4-byte length, at least 4, and as many bytes
 
@@ -180,6 +181,24 @@ parseRecord debug word pointer bs =
     next (readLittle 4 bs) λ id r₀. next (readLittle n r₀) λ place r₁. next (readLittle n r₁) λ size r₂.
     recordTail debug pointer size r₂
 
+-- ---- whether their numbers are spelled shortest (document 02, W-206), asked where the fields are accepted
+
+-- a header's: both factors, the return address register and, in eh_frame, the length of the augmentation data
+unfoldable pub headerNumbers : (debug : Bool) → List Number
+headerNumbers debug = unsigned ∷ signed ∷ unsigned ∷ pick debug [] (unsigned ∷ [])
+
+unfoldable pub markAfter : {A : Type 0} → Read A → (List ℕ → Bool) → Bool
+markAfter none k = false
+markAfter (some x) k = k (x .1)
+
+-- they follow the string, which stands behind the id and the version
+unfoldable pub headerShort : (debug : Bool) → List ℕ → Bool
+headerShort debug bs = markAfter (readLetters (spellings debug) (drop 5 bs)) (numbersShort (headerNumbers debug))
+
+-- a record's: in eh_frame the length of its augmentation, behind three fields of 4 bytes
+unfoldable pub recordShort : (debug : Bool) → List ℕ → Bool
+recordShort debug bs = numbersShort (pick debug [] (unsigned ∷ [])) (drop 12 bs)
+
 -- ---- the run of the operations (66 to 69)
 
 -- the place, the state and the bytes left after an operation go on in `more`; in a header a step is 66; in a record a step that would pass p ends the run
@@ -205,15 +224,17 @@ run header word p initial s bs = runF header word p initial (length bs) 0 s bs
 
 -- ---- the whole
 
--- what 61 to 64 find: the fields of record k and of its header
+-- what 61 to 64 find: the fields of record k and of its header, and whether their numbers are spelled shortest
 pub record Found : Type 0 where
   pub header : HeaderFields
   pub found : RecordFields
+  pub shortest : Bool
 
 unfoldable pub parsed : (debug : Bool) → ℕ → (header found : Entry) → Result Found
 parsed debug word h e =
     onward (orElse (parseHeader debug word (h .body)) 64) λ hf.
-    onward (orElse (parseRecord debug word (hf .pointer) (e .body)) 64) λ rf. good (record { header = hf; found = rf })
+    onward (orElse (parseRecord debug word (hf .pointer) (e .body)) 64) λ rf.
+    good (record { header = hf; found = rf; shortest = headerShort debug (h .body) && recordShort debug (e .body) })
 
 unfoldable pub locate : (debug : Bool) → List Relocation → (word k : ℕ) → List ℕ → Result Found
 locate debug rs word k section =
@@ -237,3 +258,17 @@ readSection debug rs word k p section = onward (locate debug rs word k section) 
 unfoldable pub read : (section relocations : List ℕ) (kind word k q p : ℕ) → Reading
 read section relocations kind word k q p =
     answer q (pick (isWord word && leb kind 1) (readSection (eqb kind 1) (relocationsOf relocations) word k p section) (bad 11))
+
+-- ---- whether every number that was read for an answer at p is spelled shortest: the fields, then the operations of the header and of the record
+
+unfoldable pub shortestTo : (word p : ℕ) → Found → Bool
+shortestTo word p x = x .shortest && (runShort word p (x .header .operations) && runShort word p (x .found .operations))
+
+-- of what was found; a refusal has no mark
+unfoldable pub shortestOf : (word p : ℕ) → Result Found → Bool
+shortestOf word p (good x) = shortestTo word p x
+shortestOf word p (bad n) = false
+
+unfoldable pub shortestAt : (section relocations : List ℕ) (kind word k p : ℕ) → Bool
+shortestAt section relocations kind word k p =
+    shortestOf word p (pick (isWord word && leb kind 1) (locate (eqb kind 1) (relocationsOf relocations) word k section) (bad 11))

@@ -6,3 +6,4 @@ pub mod GroupLoop
 pub mod Readings
 pub mod FieldLoop
 pub mod Zeros
+pub mod Spellings

@@ -1,3 +1,4 @@
 -- What the helpers of the LEB numbers do.
 pub mod Signs
 pub mod Groups
+pub mod Spellings

@@ -9,6 +9,7 @@ ghost use Rattle.format.specs.Leb.{little, uleb, bits7, slebF, sleb};
 ghost use Rattle.format.proofs.Positions.{ulebAt, slebAt, littleAt};
 ghost use Rattle.leb.specs.Signs.{isNegative, signed, held};
 ghost use Rattle.leb.specs.Groups.{GroupsAt};
+ghost use Rattle.leb.specs.Spellings.{SpellsUnsigned, SpellsSigned};
 use format::Signed;
 use format::Unsigned;
 
@@ -256,6 +257,39 @@ pub fn read_sleb(s: &[u8], at: usize) -> Signed
         return signed_past(false, b, k, scale, acc, past);
     }
     signed_past(true, 127 - b, k, scale, scale - 1 - acc, past)
+}
+
+// A number that was read, the place past it, the bytes that it takes, and whether no spelling of it takes fewer.
+pub enum UnsignedSpelling {
+    Value(u64, usize, usize, bool),
+    Bad,
+}
+
+pub enum SignedSpelling {
+    Value(i64, usize, usize, bool),
+    Bad,
+}
+
+// The unsigned LEB number at `at`, and how it is spelled.
+pub fn uleb_spelling(s: &[u8], at: usize) -> UnsignedSpelling
+    ensures { λ r. ⌜ SpellsUnsigned (now (s .entry)) at r ⌝ }
+{
+    let Unsigned::Value(v, past) = read_uleb(s, at) else {
+        return UnsignedSpelling::Bad;
+    };
+    let taken = past - at;
+    UnsignedSpelling::Value(v, past, taken, taken == uleb_size(v))
+}
+
+// The signed LEB number at `at`, and how it is spelled.
+pub fn sleb_spelling(s: &[u8], at: usize) -> SignedSpelling
+    ensures { λ r. ⌜ SpellsSigned (now (s .entry)) at r ⌝ }
+{
+    let Signed::Value(v, past) = read_sleb(s, at) else {
+        return SignedSpelling::Bad;
+    };
+    let taken = past - at;
+    SignedSpelling::Value(v, past, taken, taken == sleb_size(v))
 }
 
 // The field of n bytes at `at`, the lowest first: it is read from its end.

@@ -13,11 +13,12 @@ use Rattle.format.specs.Machine.{isWord}
 use Rattle.format.specs.declared.Reading.the-variants.{Refused}
 use Rattle.format.specs.Lists.{relocationsOf}
 use Rattle.format.specs.Rules.{State, blank, answer}
-use Rattle.format.specs.Reader.{Found, run, runTo, locate, readSection, read}
+use Rattle.format.specs.Shortest.{runShort}
+use Rattle.format.specs.Reader.{Found, run, runTo, shortestTo, shortestOf, shortestAt, locate, readSection, read}
 use Rattle.reader.specs.declared.location.Located.{Located}
 use Rattle.reader.specs.declared.location.Locating.{Locating}
 use Rattle.reader.specs.declared.location.Locating.the-variants as locating
-use Rattle.reader.specs.Finds.{found, Stated, Locates, locateIn, inSection, rulesFrom}
+use Rattle.reader.specs.Finds.{found, Stated, Locates, locateIn, inSection, rulesFrom, shortestFrom}
 use Rattle.format.proofs.Choice.{if-le, if-gt}
 
 -- ---- 11
@@ -112,6 +113,31 @@ module _ (s : List ℕ) (l : Located) where
       unfolding runTo
       within h = sym (run-from ∙ ap (answer q) (if-le (suc p) (l .size) _ (bad 65) h))
 
+  -- what is marked, part after part
+  module _ (p : ℕ) where
+    abbrev headerOps : Bool
+    headerOps = runShort (l .word) p (found s l .header .operations)
+
+    abbrev recordOps : Bool
+    recordOps = runShort (l .word) p (found s l .found .operations)
+
+    pub mark-outside : inSection s l ≡ false → false ≡ shortestFrom s l p
+    unfolding shortestFrom
+    mark-outside e = rw e
+
+    module _ (e : inSection s l ≡ true) where
+      pub mark-fields : l .shortest ≡ false → false ≡ shortestFrom s l p
+      unfolding shortestFrom shortestTo
+      mark-fields f = rw (e, f)
+
+      pub mark-header : l .shortest ≡ true → headerOps ≡ false → false ≡ shortestFrom s l p
+      unfolding shortestFrom shortestTo
+      mark-header f g = rw (e, f, g)
+
+      pub mark-record : l .shortest ≡ true → headerOps ≡ true → recordOps ≡ shortestFrom s l p
+      unfolding shortestFrom shortestTo
+      mark-record f g = rw (e, f, g)
+
 -- ---- the two in a row
 
 is-true : (b : Bool) → T b → b ≡ true
@@ -149,3 +175,18 @@ module _ (section relocations : List ℕ) (kind word k q p : ℕ) where
   pub refused-read : {n : ℕ} → locateIn section relocations kind word k ≡ bad n → Refused n ≡ read section relocations kind word k q p
   unfolding onward answer
   refused-read e = sym (read-is ∙ rw e)
+
+-- the mark from what was located is the reader's
+pub located-shortest : (section relocations : List ℕ) (kind word k p : ℕ) {l : Located} → Stated section word l (locateIn section relocations kind word k)
+    → shortestFrom section l p ≡ shortestAt section relocations kind word k p
+unfolding shortestFrom shortestAt shortestOf locateIn
+located-shortest section relocations kind word k p {l} x =
+    let w : isWord (l .word) ≡ true = ap isWord (x .same-word) ∙ is-true (isWord word) (x .is-word) in
+    let e : inSection section l ≡ true =
+    all-inside section l (x .header-ordered) (x .header-inside) (x .record-ordered) (x .record-inside) ∙ w in
+    rw (e, x .same-word) (sym (rw (x .answer)))
+
+pub refused-mark : (section relocations : List ℕ) (kind word k p : ℕ) {n : ℕ} → locateIn section relocations kind word k ≡ bad n
+    → shortestAt section relocations kind word k p ≡ false
+unfolding shortestAt shortestOf locateIn
+refused-mark section relocations kind word k p e = rw e

@@ -11,3 +11,4 @@ pub mod Acting
 pub mod Operations
 pub mod Both
 pub mod Asked
+pub mod Marks

@@ -1,6 +1,6 @@
 -- The questions one after the other: from what each part finds to what is located.
 use mathlib.Core.Path.{_≡_, refl, ap, subst, _∙_}
-use mathlib.Core.Bool.{Bool, true, false}
+use mathlib.Core.Bool.{Bool, true, false, _&&_}
 use mathlib.Core.Option.{Option, none, some}
 use mathlib.Core.List.{List, [], _∷_}
 use Prim.Native.Nat.{ℕ, zero, suc, _+_, _-_, _≤_}
@@ -12,7 +12,7 @@ use Rattle.format.specs.Prelude.{after, Result, bad, onward, orElse}
 use Rattle.format.specs.Machine.{isWord}
 use Rattle.format.specs.Questions.{isSome}
 use Rattle.format.specs.Lists.{Relocation}
-use Rattle.format.specs.Reader.{Entry, entries, records, headerPlace, headerAt, parseHeader, parseRecord, Found, parsed, locate}
+use Rattle.format.specs.Reader.{Entry, entries, records, headerPlace, headerAt, parseHeader, parseRecord, headerShort, recordShort, Found, parsed, locate}
 use Rattle.reader.specs.Spans.{part, entryIn, listed, Stands, Spans}
 use Rattle.reader.specs.Fields.{Heading, Heads, Recording, Records}
 use Rattle.reader.specs.Finds.{Stated}
@@ -66,11 +66,12 @@ module _ (s : List ℕ) (debug : Bool) (word cie past at end : ℕ) {h : Header}
         record-held l i = omega (arith, recording .inside, length-take-le (end - (at + 4)) (drop (at + 4) s) (omega (arith, length-drop (at + 4) s)))
 
         pub fields-there : T (isWord word) → cie + 8 ≤ past → past ≤ length s → at + 8 ≤ end → end ≤ length s
-            → Stated s word (record { header = cie + 4 + q; «header_end» = past; «record» = at + 4 + t; «record_end» = end; size = z; pointer = n; signal = g; word = word }) (fieldsOf s debug word cie past at end)
+            → {b : Bool} → b ≡ headerShort debug (part s (cie + 4) past) && recordShort debug (part s (at + 4) end)
+            → Stated s word (record { header = cie + 4 + q; «header_end» = past; «record» = at + 4 + t; «record_end» = end; size = z; pointer = n; signal = g; word = word; shortest = b }) (fieldsOf s debug word cie past at end)
         unfolding parsed onward orElse
-        fields-there is l i l′ i′ =
+        fields-there is l i l′ i′ m =
             record {
-              answer = rw (heading .read, recording .read, drop-part s (cie + 4) past q, drop-part s (at + 4) end t);
+              answer = rw (heading .read, recording .read, drop-part s (cie + 4) past q, drop-part s (at + 4) end t, m);
               header-ordered = header-held l i;
               header-inside = i;
               record-ordered = record-held l′ i′;

@@ -9,7 +9,7 @@ use Rattle.format.specs.Prelude.{pick, Result, good, bad}
 use Rattle.format.specs.Machine.{isWord}
 use Rattle.format.specs.Lists.{relocationsOf}
 use Rattle.format.specs.Rules.{answer}
-use Rattle.format.specs.Reader.{Found, locate, runTo}
+use Rattle.format.specs.Reader.{Found, locate, runTo, shortestTo}
 use Rattle.format.specs.declared.Reading.{Reading}
 use Rattle.reader.specs.Spans.{part}
 use Rattle.reader.specs.declared.location.Located.{Located}
@@ -22,6 +22,7 @@ found s l =
     record {
       header = record { pointer = l .pointer; signal = l .signal; operations = part s (l .header) (l .«header_end») };
       found = record { size = l .size; operations = part s (l .«record») (l .«record_end») };
+      shortest = l .shortest;
     }
 
 -- an answer, that its positions lie in the section, and its word
@@ -53,3 +54,7 @@ inSection s l =
 -- the rules at p for register q from these numbers on; 64: numbers that are not so
 unfoldable pub rulesFrom : List ℕ → Located → (q p : ℕ) → Reading
 rulesFrom s l q p = answer q (pick (inSection s l) (runTo (l .word) p (found s l)) (bad 64))
+
+-- whether every number that was read for them is spelled shortest
+unfoldable pub shortestFrom : List ℕ → Located → (p : ℕ) → Bool
+shortestFrom s l p = inSection s l && shortestTo (l .word) p (found s l)

@@ -1,9 +1,9 @@
 // The reader: from the bytes of a section to the rules at an offset of a record's function. entries, fields and location find the record
-// and its header (61 to 64), run goes over their operations (65 to 69).
+// and its header (61 to 64), run goes over their operations (65 to 69), shortest tells how their numbers are spelled.
 ghost use mathlib.Core.Path.{_≡_};
 ghost use Rattle.format.specs.Machine.{isWord};
 ghost use Rattle.format.specs.Reader.{read};
-ghost use Rattle.reader.specs.Finds.{Locates, locateIn, inSection, rulesFrom};
+ghost use Rattle.reader.specs.Finds.{Locates, locateIn, inSection, rulesFrom, shortestFrom};
 use crate::location::Located;
 use crate::location::Locating;
 use format::Reading;
@@ -12,6 +12,7 @@ pub mod entries;
 pub mod fields;
 pub mod location;
 pub mod run;
+pub mod shortest;
 
 pub fn is_word(w: u64) -> bool
     ensures { λ r. ⌜ r ≡ isWord w ⌝ }
@@ -79,6 +80,26 @@ pub fn rules_at(section: &[u8], l: Located, q: u16, p: u64) -> Reading
         p,
         q,
     )
+}
+
+// Whether every number that `rules_at` reads is spelled shortest; those of the fields were looked at by `locate`.
+pub fn shortest_at(section: &[u8], l: Located, p: u64) -> bool
+    ensures { λ r. ⌜ r ≡ shortestFrom (now (section .entry)) l p ⌝ }
+{
+    if !in_section(section, l) {
+        return false;
+    }
+    if !l.shortest {
+        return false;
+    }
+    let header = l.header;
+    let header_end = l.header_end;
+    if !shortest::run(&section[header..header_end], l.word, p) {
+        return false;
+    }
+    let record = l.record;
+    let record_end = l.record_end;
+    shortest::run(&section[record..record_end], l.word, p)
 }
 
 // The rules of record k at offset p, or the number of the question answered by no.

@@ -5,11 +5,11 @@ ghost use Prim.Native.Nat.{_+_, _≤_};
 ghost use lib.ListN.{length};
 ghost use lib.Dec.{T, eqb, ltb};
 ghost use Rattle.format.specs.Questions.{isSome};
-ghost use Rattle.format.specs.Reader.{isHeader, distanceBack, firstAddend, headerPlace, headerAt, entries, parsed, locate};
+ghost use Rattle.format.specs.Reader.{isHeader, distanceBack, firstAddend, headerPlace, headerAt, headerShort, recordShort, entries, parsed, locate};
 ghost use Rattle.format.specs.Lists.{relocationsOf};
 ghost use Rattle.format.specs.Prelude.{after};
 ghost use Rattle.format.specs.Machine.{isWord};
-ghost use Rattle.reader.specs.Spans.{entryIn, listed, numberOf, Spans};
+ghost use Rattle.reader.specs.Spans.{part, entryIn, listed, numberOf, Spans};
 ghost use Rattle.reader.specs.Finds.{Locates};
 use crate::entries;
 use crate::entries::Number;
@@ -17,6 +17,7 @@ use crate::entries::Span;
 use crate::fields;
 use crate::fields::Header;
 use crate::fields::Record;
+use crate::shortest;
 
 // ---- the header of a record
 
@@ -101,7 +102,8 @@ pub fn header_of(s: &[u8], relocs: &[u64], debug: bool, at: usize, end: usize) -
 
 // ---- the fields of both
 
-// Where the operations of record k and of its header are, the function's length, the header's signal mark, the bytes of a record's pointer to call sites, and the word.
+// Where the operations of record k and of its header are, the function's length, the header's signal mark, the bytes of a record's pointer
+// to call sites, the word, and whether the numbers among the fields of both are spelled shortest.
 pub struct Located {
     pub header: usize,
     pub header_end: usize,
@@ -111,12 +113,33 @@ pub struct Located {
     pub pointer: u64,
     pub signal: bool,
     pub word: u64,
+    pub shortest: bool,
 }
 
 // That, or the number of the question that was answered by no.
 pub enum Locating {
     Found(Located),
     No(u64),
+}
+
+// Whether the numbers among the fields of both are spelled shortest.
+pub fn fields_shortest(
+    s: &[u8],
+    debug: bool,
+    cie: usize,
+    past: usize,
+    at: usize,
+    end: usize,
+) -> bool
+    requires { ⌜ (cie + 8 ≤ past) × (past ≤ length (now s)) × (at + 8 ≤ end) × (end ≤ length (now s)) ⌝ }
+    ensures { λ r. ⌜ r ≡ headerShort debug (part (now (s .entry)) (cie + 4) past) && recordShort debug (part (now (s .entry)) (at + 4) end) ⌝ }
+{
+    let header = cie + 4;
+    if !shortest::header(&s[header..past], debug) {
+        return false;
+    }
+    let record = at + 4;
+    shortest::record(&s[record..end], debug)
 }
 
 // Question 64 of the header from `cie` to `past`, and then of the record from `at` to `end`.
@@ -142,6 +165,7 @@ pub fn parse(
     else {
         return Locating::No(64);
     };
+    let shortest = fields_shortest(s, debug, cie, past, at, end);
     Locating::Found(Located {
         header: header + rules,
         header_end: past,
@@ -151,6 +175,7 @@ pub fn parse(
         pointer,
         signal,
         word,
+        shortest,
     })
 }
 

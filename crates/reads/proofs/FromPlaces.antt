@@ -1,12 +1,12 @@
 -- The operations of an entry are its last bytes, so the rules from what was located are what is read.
 use mathlib.Core.Path.{_≡_, refl, sym, ap, subst, _∙_}
-use mathlib.Core.Bool.{Bool, true, false}
+use mathlib.Core.Bool.{Bool, true, false, _&&_}
 use mathlib.Core.Option.{Option, none, some}
 use mathlib.Core.List.{List, [], _∷_}
 use Prim.Native.Nat.{ℕ, suc, _+_, _-_, _≤_}
 use native.Mathlib.Omega.{arith}
 use lib.Dec.{T, leb, eqb, leb→le}
-use borrow.Author.Tests.{eq-eqb, ne-eqb}
+use borrow.Author.Tests.{eq-eqb, ne-eqb, le-leb}
 use lib.ListN.{length, take, drop, length-drop, getElem?}
 use lib.Seq.{drop-drop, length-take-le}
 use Rattle.format.specs.Prelude.{pick, Read, next, after, Result, good, bad, onward, orElse}
@@ -15,14 +15,14 @@ use Rattle.format.specs.Headers.{dataFactor}
 use Rattle.format.specs.Machine.{isWord}
 use Rattle.format.specs.Answers.{bit}
 use Rattle.format.specs.Lists.{Relocation, relocationsOf}
-use Rattle.format.specs.Reader.{Entry, entries, records, headerPlace, headerAt, strip, Letters, Spelling, spellings, spellOr, readLetters, readByte, readMany, readCounted, lettersIn, HeaderFields, headerTail, require, parseHeader, RecordFields, recordTail, parseRecord, Found, parsed, locate, read}
+use Rattle.format.specs.Reader.{Entry, entries, records, headerPlace, headerAt, strip, Letters, Spelling, spellings, spellOr, readLetters, readByte, readMany, readCounted, lettersIn, HeaderFields, headerTail, require, parseHeader, RecordFields, recordTail, parseRecord, headerShort, recordShort, Found, parsed, locate, read, shortestAt}
 use Rattle.format.proofs.PositionLaws.{Takes, nothing, taken, takes-little, takes-uleb, takes-sleb}
 use Rattle.reader.specs.Spans.{part, entryIn}
 use Rattle.reader.specs.Finds.{found, Stated}
 use Rattle.reader.specs.Finds as reader
 use Rattle.reader.proofs.Tiling.{Entered}
 use Rattle.reader.proofs.Whole.{drop-part}
-use Rattle.reader.proofs.Asked.{located-read, refused-read}
+use Rattle.reader.proofs.Asked.{located-read, located-shortest, refused-read, refused-mark}
 use Rattle.reads.specs.Places.{asked, endOf, operationsAt, placesOf, refused, locatedAs, locateEntries, headerOf, locateNth, locateRecord, readerPlaces, rulesOf}
 use Rattle.reads.specs.declared.Located.{Located}
 use Rattle.reads.proofs.Placing.{asked-word, end-in, operations-in}
@@ -206,16 +206,16 @@ module _ (s : List ℕ) (word : ℕ) where
   agree-or none n z u = refuses n z
   agree-or (some a) n z u = u a refl
 
-  module _ (w : T (isWord word)) {h e : Entry} (hs : Standing s h) (es : Standing s e) where
+  module _ (w : T (isWord word)) (shortest : Bool) {h e : Entry} (hs : Standing s h) (es : Standing s e) where
     abbrev foundOf : HeaderFields → RecordFields → Found
-    foundOf hf rf = record { header = hf; found = rf }
+    foundOf hf rf = record { header = hf; found = rf; shortest = shortest }
 
     stated : (hf : HeaderFields) (rf : RecordFields) → Tail s h (hf .operations) → Tail s e (rf .operations)
         → Stated s word (readerPlaces (placesOf word h e (foundOf hf rf))) (good (foundOf hf rf))
     unfolding readerPlaces placesOf
     stated hf rf a b =
         record {
-          answer = rw (bit-back (hf .signal), ← a .same, ← b .same) refl;
+          answer = rw (bit-back (hf .signal), bit-back shortest, ← a .same, ← b .same) refl;
           header-ordered = a .ordered;
           header-inside = a .inside;
           record-ordered = b .ordered;
@@ -237,11 +237,11 @@ module _ (s : List ℕ) (word : ℕ) where
     both-fields none missing p u = refuses 64 (λ z. omega arith)
     both-fields (some hf) (ending n v l d) p u = two-fields hf (tail-of s hs n (hf .operations) l d) (p hf) (u hf)
 
-    agree-fields : (debug : Bool) → Agree s word (locateEntries debug word h e) (parsed debug word h e)
-    unfolding locateEntries parsed
-    agree-fields debug =
-        both-fields (parseHeader debug word (h .body)) (header-ends debug word (h .body)) (λ hf. parseRecord debug word (hf .pointer) (e .body))
-        (λ hf. record-ends debug word (hf .pointer) (e .body))
+  agree-fields : T (isWord word) → {h e : Entry} → Standing s h → Standing s e → (debug : Bool) → Agree s word (locateEntries debug word h e) (parsed debug word h e)
+  unfolding locateEntries parsed
+  agree-fields w {h} {e} hs es debug =
+      both-fields w (headerShort debug (h .body) && recordShort debug (e .body)) hs es (parseHeader debug word (h .body)) (header-ends debug word (h .body))
+      (λ hf. parseRecord debug word (hf .pointer) (e .body)) (λ hf. record-ends debug word (hf .pointer) (e .body))
 
   header-stands : {all : List Entry} (e : Entry) {h : Entry} (debug : Bool) (o : Option ℕ) → entries s ≡ some all → after o (λ place. headerAt debug place (e .at) all) ≡ some h → Standing s h
   unfolding after headerAt
@@ -274,3 +274,19 @@ module _ (section relocations : List ℕ) (kind word k q p : ℕ) where
   pub rules-located : rulesOf section (locateRecord section relocations kind word k) q p ≡ read section relocations kind word k q p
   unfolding locateRecord reader.locateIn asked
   rules-located = agree-reads (agree-all (asked kind word) refl) refl
+
+  -- numbers of a refusal lie in no section
+  refused-unmarked : (n : ℕ) → reader.shortestFrom section (readerPlaces (refused n)) p ≡ false
+  unfolding reader.shortestFrom reader.inSection readerPlaces refused isWord
+  refused-unmarked n = rw (le-leb 0 (length section) (omega arith))
+
+  agree-marks : {x : Result Located} {y : Result Found} → Agree section word x y → reader.locateIn section relocations kind word k ≡ y
+      → reader.shortestFrom section (readerPlaces (locatedAs x)) p ≡ shortestAt section relocations kind word k p
+  unfolding locatedAs
+  agree-marks (refuses n z) e = refused-unmarked n ∙ sym (refused-mark section relocations kind word k p e)
+  agree-marks (answers l x z a) e = located-shortest section relocations kind word k p (rw e a)
+
+  -- and so is the mark
+  pub mark-located : reader.shortestFrom section (readerPlaces (locateRecord section relocations kind word k)) p ≡ shortestAt section relocations kind word k p
+  unfolding locateRecord reader.locateIn asked
+  mark-located = agree-marks (agree-all (asked kind word) refl) refl

@@ -1,5 +1,5 @@
 -- Located entries: from the fields that were read to the numbers that are answered.
-use mathlib.Core.Path.{_≡_, refl}
+use mathlib.Core.Path.{_≡_, refl, ap}
 use mathlib.Core.Bool.{Bool, true, false, _&&_}
 use mathlib.Core.Option.{none, some}
 use mathlib.Core.List.{List}
@@ -25,7 +25,7 @@ use Rattle.reader.proofs.Whole.{tiled, spans, spans-none}
 use Rattle.reader.proofs.Seeking.{absent}
 use Rattle.format.specs.declared.Reading.the-variants.{Refused}
 use Rattle.reader.specs.Spans.{endAt}
-use Rattle.reader.specs.Finds.{rulesFrom}
+use Rattle.reader.specs.Finds.{rulesFrom, shortestFrom}
 use Rattle.reader.specs.declared.entries.Number.the-variants as number
 use Rattle.reader.proofs.Tiling.{entered, none-read}
 use Rattle.reads.specs.Addresses.{entryAt}
@@ -95,6 +95,7 @@ numbered l =
       pointer = l .pointer;
       signal = bit (l .signal);
       word = l .word;
+      shortest = bit (l .shortest);
     }
 
 pub end-in : (s : List ℕ) (at end : ℕ) → at + 8 ≤ end → end ≤ length s → endOf (entryIn s at end) ≡ end
@@ -201,3 +202,10 @@ module _ (section : List ℕ) (l : Located) (q p : ℕ) where
   pub rules-there : l .number ≡ 0 → rulesFrom section (readerPlaces l) q p ≡ rulesOf section l q p
   unfolding rulesOf pick
   rules-there e = rw (eq-eqb (l .number) 0 e) refl
+
+-- of the same places
+pub same-rules : (s : List ℕ) (q p : ℕ) {l k : reader.Located} → l ≡ k → rulesFrom s l q p ≡ rulesFrom s k q p
+same-rules s q p e = ap (λ (x : reader.Located). rulesFrom s x q p) e
+
+pub same-mark : (s : List ℕ) (p : ℕ) {l k : reader.Located} → l ≡ k → shortestFrom s l p ≡ shortestFrom s k p
+same-mark s p e = ap (λ (x : reader.Located). shortestFrom s x p) e

@@ -40,11 +40,12 @@ placesOf word h e x =
       pointer = x .header .pointer;
       signal = bit (x .header .signal);
       word = word;
+      shortest = bit (x .shortest);
     }
 
 -- the question's number, and all else 0
 unfoldable pub refused : ℕ → Located
-refused n = record { number = n; header = 0; «header_end» = 0; «record» = 0; «record_end» = 0; length = 0; pointer = 0; signal = 0; word = 0 }
+refused n = record { number = n; header = 0; «header_end» = 0; «record» = 0; «record_end» = 0; length = 0; pointer = 0; signal = 0; word = 0; shortest = 0 }
 
 unfoldable pub locatedAs : Result Located → Located
 locatedAs (good l) = l
@@ -84,6 +85,7 @@ readerPlaces l =
       pointer = l .pointer;
       signal = eqb (l .signal) 1;
       word = l .word;
+      shortest = eqb (l .shortest) 1;
     }
 
 -- a refusal stays; of other numbers 64 where they do not lie in the section, and then 65 to 69

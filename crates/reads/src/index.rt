@@ -1,6 +1,6 @@
 // The places of all records and of their headers.
 ghost use mathlib.Core.Path.{_≡_};
-ghost use Prim.Native.Nat.{_+_, _≤_};
+ghost use Prim.Native.Nat.{_+_, _≤_, _<_};
 ghost use lib.ListN.{length};
 ghost use lib.Dec.{T};
 ghost use Rattle.format.specs.Put.{put};
@@ -9,12 +9,16 @@ ghost use Rattle.format.specs.Questions.{isSome};
 ghost use Rattle.format.specs.Reader.{firstAddend, headerPlace, records, entries};
 ghost use Rattle.reader.specs.Spans.{entryIn, listed, numberOf};
 ghost use Rattle.reader.proofs.Seeking.{Searching};
+ghost use Rattle.section_check.specs.Places.{Marks};
 ghost use Rattle.reads.specs.Places.{headerOf};
 ghost use Rattle.reads.specs.Index.{placeOr, indexOf, indexIn};
 ghost use Rattle.reads.specs.Standing.{Skipped, Headed, Indexes};
 use crate::Indexed;
 use reader::entries::Number;
 use reader::entries::Span;
+
+// A section has so many marks: half of those of section_check, since a frame above some 32 KiB is compiled wrong (docs/DECISIONS.md, D86).
+const MARKS: usize = 1024;
 
 // The place of no header.
 const NOWHERE: usize = 0xffffffffffffffff;
@@ -91,7 +95,7 @@ fn header_place(s: &[u8], relocs: &[u64], debug: bool, at: usize, end: usize, fr
 }
 
 // The place of the header of the record from `at` to `end`. Records follow their header, or others of it, so the header that was passed or found last
-// is looked at first: without it each record would cost a search from the section's start on.
+// is looked at first; any other is searched for from the mark of its stretch on.
 fn header_start(
     s: &[u8],
     relocs: &[u64],
@@ -100,8 +104,10 @@ fn header_start(
     end: usize,
     from: usize,
     last: usize,
+    marks: &[usize],
+    step: usize,
 ) -> usize
-    requires { ⌜ (at + 8 ≤ end) × (end ≤ length (now s)) × T (isSome (entries (now s))) × Headed debug (listed (entries (now s))) last × Searching (now relocs) (at + 4) from ⌝ }
+    requires { ⌜ (at + 8 ≤ end) × (end ≤ length (now s)) × T (isSome (entries (now s))) × Headed debug (listed (entries (now s))) last × Searching (now relocs) (at + 4) from × (0 < step) × Marks (now s) (now marks) ⌝ }
     ensures { λ r. ⌜ (r ≡ placeOr (headerOf debug (relocationsOf (now (relocs .entry))) (listed (entries (now (s .entry)))) (entryIn (now (s .entry)) at end))) × Headed debug (listed (entries (now (s .entry)))) r ⌝ }
 {
     let Number::Is(place) = header_place(s, relocs, debug, at, end, from) else {
@@ -113,7 +119,8 @@ fn header_start(
     if place == last {
         return place;
     }
-    let Span::At(cie, _) = reader::location::header_span(s, debug, place, at) else {
+    let mark = section_check::mark_before(marks, step, place);
+    let Span::At(cie, _) = section_check::header_from(s, debug, mark, place, at) else {
         return NOWHERE;
     };
     cie
@@ -124,6 +131,8 @@ fn fill(s: &[u8], relocs: &[u64], debug: bool, places: &mut [u64])
     requires { ⌜ T (isSome (entries (now s))) × (length (indexOf debug (relocationsOf (now relocs)) (listed (entries (now s)))) ≤ length (now places)) ⌝ }
     ensures { λ r. ⌜ now (places .exit) ≡ put (now (places .entry)) 0 (indexOf debug (relocationsOf (now (relocs .entry))) (listed (entries (now (s .entry))))) ⌝ }
 {
+    let step = s.len() / MARKS + 1;
+    let mut marks = [0usize; MARKS];
     let mut from = 0;
     let mut last = NOWHERE;
     let mut i = 0;
@@ -131,12 +140,13 @@ fn fill(s: &[u8], relocs: &[u64], debug: bool, places: &mut [u64])
     'entries: while next < s.len() {
         let at = next;
         next = reader::entries::past(s, at);
+        section_check::mark(&mut marks, step, at);
         if reader::entries::is_header(s, at, next, debug) {
             last = at;
             continue 'entries;
         }
         from = skipped(relocs, debug, (at + 4) as u64, from);
-        last = header_start(s, relocs, debug, at, next, from, last);
+        last = header_start(s, relocs, debug, at, next, from, last, &marks, step);
         places[i] = at as u64;
         places[i + 1] = last as u64;
         i += 2;

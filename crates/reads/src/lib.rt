@@ -2,10 +2,11 @@
 // record of an address, and the index of all records.
 ghost use mathlib.Core.Path.{_≡_};
 ghost use lib.ListN.{length};
-ghost use Rattle.format.specs.Answers.{readingNumbers};
+ghost use Rattle.format.specs.Answers.{markedNumbers};
 ghost use Rattle.format.specs.Reader.{read};
 ghost use Rattle.unwind.specs.Entries.{readNumbers};
-ghost use Rattle.reads.specs.Places.{asked, locateRecord, rulesOf};
+ghost use Rattle.reads.specs.Places.{asked, locateRecord, readerPlaces, rulesOf};
+ghost use Rattle.reader.specs.Finds.{shortestFrom};
 ghost use Rattle.reads.specs.Addresses.{functionAt, recordOf};
 ghost use Rattle.reads.specs.Index.{index, locateAt};
 ghost use Rattle.reads.specs.Standing.{Indexes};
@@ -18,7 +19,8 @@ pub mod index;
 pub mod places;
 
 // What unwind_locate answers: where the operations of a record and of its header are, the function's length, the bytes of a record's pointer
-// to call sites, the header's signal mark, and the word. On a refusal all but the question's number is 0.
+// to call sites, the header's signal mark, the word, and whether the numbers among the fields of both are spelled shortest. On a refusal all
+// but the question's number is 0.
 #[repr(C)]
 pub struct Located {
     pub number: u64,
@@ -30,6 +32,7 @@ pub struct Located {
     pub pointer: u64,
     pub signal: u64,
     pub word: u64,
+    pub shortest: u64,
 }
 
 // What unwind_function_at answers: where the function of a record starts, and its length.
@@ -81,14 +84,11 @@ pub extern "C" fn unwind_locate(
     places::locate_nth(section, relocations, kind == 1, word, k)
 }
 
-// The rules from any numbers; a refusal of the locating is answered as it is.
-pub fn rules_of(section: &[u8], l: Located, q: u16, p: u64) -> Reading
-    ensures { λ r. ⌜ r ≡ rulesOf (now (section .entry)) l q p ⌝ }
+// The numbers as the reader takes them.
+fn reader_places(l: Located) -> reader::location::Located
+    ensures { λ r. ⌜ r ≡ readerPlaces l ⌝ }
 {
-    if l.number != 0 {
-        return Reading::Refused(l.number);
-    }
-    let places = reader::location::Located {
+    reader::location::Located {
         header: l.header as usize,
         header_end: l.header_end as usize,
         record: l.record as usize,
@@ -97,8 +97,25 @@ pub fn rules_of(section: &[u8], l: Located, q: u16, p: u64) -> Reading
         pointer: l.pointer,
         signal: l.signal == 1,
         word: l.word,
-    };
-    reader::rules_at(section, places, q, p)
+        shortest: l.shortest == 1,
+    }
+}
+
+// The rules from any numbers; a refusal of the locating is answered as it is.
+pub fn rules_of(section: &[u8], l: Located, q: u16, p: u64) -> Reading
+    ensures { λ r. ⌜ r ≡ rulesOf (now (section .entry)) l q p ⌝ }
+{
+    if l.number != 0 {
+        return Reading::Refused(l.number);
+    }
+    reader::rules_at(section, reader_places(l), q, p)
+}
+
+// Whether every number that was read for these rules is spelled shortest.
+fn shortest_of(section: &[u8], l: Located, p: u64) -> bool
+    ensures { λ r. ⌜ r ≡ shortestFrom (now (section .entry)) (readerPlaces l) p ⌝ }
+{
+    reader::shortest_at(section, reader_places(l), p)
 }
 
 // Locating and then the rules, which is what `read` answers.
@@ -119,9 +136,11 @@ pub fn read_located(
 
 #[no_mangle]
 pub extern "C" fn unwind_rules_at(section: &[u8], located: Located, q: u16, p: u64) -> Numbers
-    ensures { λ r. ⌜ readNumbers r ≡ readingNumbers (rulesOf (now (section .entry)) located q p) ⌝ }
+    ensures { λ r. ⌜ readNumbers r ≡ markedNumbers (rulesOf (now (section .entry)) located q p) (shortestFrom (now (section .entry)) (readerPlaces located) p) ⌝ }
 {
-    unwind::numbers_of(rules_of(section, located, q, p))
+    let rules = rules_of(section, located, q, p);
+    let shortest = shortest_of(section, located, p);
+    unwind::numbers_of(rules, shortest)
 }
 
 #[no_mangle]

@@ -27,6 +27,7 @@ pub fn refused(number: u64) -> Located
         pointer: 0,
         signal: 0,
         word: 0,
+        shortest: 0,
     }
 }
 
@@ -60,6 +61,7 @@ pub fn locate_entries(
     ) else {
         return refused(64);
     };
+    let shortest = reader::location::fields_shortest(s, debug, cie, past, at, end);
     Located {
         number: 0,
         header: (header + rules) as u64,
@@ -70,6 +72,7 @@ pub fn locate_entries(
         pointer,
         signal: unwind::number(signal),
         word,
+        shortest: unwind::number(shortest),
     }
 }
 

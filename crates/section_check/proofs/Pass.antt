@@ -43,14 +43,14 @@ pub record Passing (s : List ℕ) (word : ℕ) (marks : List ℕ) (k at : ℕ) :
 
 -- ---- the marks
 
-first-ahead : (s : List ℕ) → T (isSome (entries s)) → Ahead s 0
+pub first-ahead : (s : List ℕ) → T (isSome (entries s)) → Ahead s 0
 unfolding entries entriesFrom
-first-ahead s t = record { inside = omega arith; tiled = t; found = λ place before h. refl }
+first-ahead s t = record { inside = omega arith; tiled = t; found = λ debug place before h. refl }
 
 zeros : (n i : ℕ) → _≡_ {A = ℕ} (getD (replicate n 0) i 0) 0
 zeros n i = either (suc i) n (λ h. getD-replicate {A = ℕ} n i 0 0 h) (λ h. List·getD-eq-default (replicate n 0) 0 {n = i} (omega (arith, length-replicate {A = ℕ} n 0)))
 
-no-marks : (s : List ℕ) (n : ℕ) → T (isSome (entries s)) → Marks s (replicate n 0)
+pub no-marks : (s : List ℕ) (n : ℕ) → T (isSome (entries s)) → Marks s (replicate n 0)
 no-marks s n t i = rw (zeros n i) (first-ahead s t)
 
 stored : (s marks : List ℕ) (at j : ℕ) → Ahead s at → Marks s marks → Marks s (set marks j at)
@@ -68,7 +68,7 @@ unfolding pick
 chosen s true xs ys m n = m
 chosen s false xs ys m n = n
 
-marked-ahead : (s marks : List ℕ) (step at : ℕ) → Ahead s at → Marks s marks → Marks s (marked step at marks)
+pub marked-ahead : (s marks : List ℕ) (step at : ℕ) → Ahead s at → Marks s marks → Marks s (marked step at marks)
 unfolding marked
 marked-ahead s marks step at a m =
     chosen s (ltb (at / step) (length marks) && eqb (getD marks (at / step) 0) 0) (set marks (at / step) at) marks (stored s marks at (at / step) a m) m
@@ -78,7 +78,7 @@ unfolding pick
 as-long true xs ys e = e
 as-long false xs ys e = refl
 
-marked-long : (marks : List ℕ) (step at : ℕ) → length (marked step at marks) ≡ length marks
+pub marked-long : (marks : List ℕ) (step at : ℕ) → length (marked step at marks) ≡ length marks
 unfolding marked
 marked-long marks step at = as-long _ (set marks (at / step) at) marks (length-set marks (at / step) at)
 
@@ -129,8 +129,21 @@ module _ (marks : List ℕ) (step at : ℕ) where
     mark-set z = rw (lt-ltb (at / step) (length marks) h, eq-eqb (getD marks (at / step) 0) 0 z)
 
 -- a search from such a position
-pub seeking : {s : List ℕ} {from place : ℕ} (before : ℕ) → Ahead s from → from ≤ place → Seeking s (headerAt false place before) (headerAt false place before) from
-seeking {s} {from} {place} before a h = record { inside = a .inside; tiled = a .tiled; rest = a .found place before h }
+pub seeking : {s : List ℕ} {from place : ℕ} (debug : Bool) (before : ℕ) → Ahead s from → from ≤ place
+    → Seeking s (headerAt debug place before) (headerAt debug place before) from
+seeking {s} {from} {place} debug before a h = record { inside = a .inside; tiled = a .tiled; rest = a .found debug place before h }
+
+-- a header further on is not the entry at `at`
+pub ahead-on : {s : List ℕ} {at end : ℕ} → Ahead s at → Ends s at end → Ahead s end
+ahead-on {s} {at} {end} a e =
+    record {
+      inside = e .inside;
+      tiled = e .tiled;
+      found = λ debug place before l.
+          let n : at ≢ place = λ (z : at ≡ place). omega (arith, e .long) in
+          a .found debug place before (omega (arith, e .long))
+          ∙ rw (e .rest) (header-later debug place before (entryIn s at end) (listed (entriesFrom s end)) (rw (ne-eqb at place n) refl));
+    }
 
 -- ---- the pass
 
@@ -162,18 +175,6 @@ start s word t =
     }
 
 module _ {s : List ℕ} {word : ℕ} {marks : List ℕ} {k at : ℕ} (i : Passing s word marks k at) {end : ℕ} (e : Ends s at end) where
-  -- a header further on is not this entry
-  ahead-on : Ahead s end
-  ahead-on =
-      record {
-        inside = e .inside;
-        tiled = e .tiled;
-        found = λ place before l.
-            let n : at ≢ place = λ (z : at ≡ place). omega (arith, e .long) in
-            i .ahead .found place before (omega (arith, e .long))
-            ∙ rw (e .rest) (header-later false place before (entryIn s at end) (listed (entriesFrom s end)) (rw (ne-eqb at place n) refl));
-      }
-
   -- the marks after this entry
   pub marks-on : (step : ℕ) {now : List ℕ} → now ≡ marked step at marks → Marks s now
   marks-on step same = rw same (marked-ahead s marks step at (i .ahead) (i .marks-ahead))
@@ -186,7 +187,7 @@ module _ {s : List ℕ} {word : ℕ} {marks : List ℕ} {k at : ℕ} (i : Passin
         tiles = i .tiles;
         rest = i .rest ∙ rw (e .rest) (ap (checkFrom s word k) (skipped s at end t));
         numbered = λ n. i .numbered n ∙ rw (e .rest) (kth-header false (entryIn s at end) (listed (entriesFrom s end)) n t);
-        ahead = ahead-on;
+        ahead = ahead-on (i .ahead) e;
         marks-ahead = marks-on step same;
         long = rw (same, marked-long marks step at) (i .long);
       }
@@ -218,7 +219,7 @@ module _ {s : List ℕ} {word : ℕ} {marks : List ℕ} {k at : ℕ} (i : Passin
           tiles = i .tiles;
           rest = one-more ∙ rw (y, add-one);
           numbered = λ n. let m : k + 1 + n ≡ k + suc n = omega arith in rw m (i .numbered (suc n) ∙ rw listed-first);
-          ahead = ahead-on;
+          ahead = ahead-on (i .ahead) e;
           marks-ahead = marks-on step same;
           long = rw (same, marked-long marks step at) (i .long);
         }

@@ -21,7 +21,8 @@ use Rattle.section_check.specs.Check.{lengthOf, answers}
 pub record Ahead (s : List ℕ) (from : ℕ) : Type 0 where
   pub inside : from ≤ length s
   pub tiled : T (isSome (entriesFrom s from))
-  pub found : (place before : ℕ) → from ≤ place → headerAt false place before (listed (entries s)) ≡ headerAt false place before (listed (entriesFrom s from))
+  pub found : (debug : Bool) (place before : ℕ) → from ≤ place
+      → headerAt debug place before (listed (entries s)) ≡ headerAt debug place before (listed (entriesFrom s from))
 
 -- each mark is such a position
 abbrev pub Marks : List ℕ → List ℕ → Type 0

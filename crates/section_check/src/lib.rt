@@ -27,7 +27,7 @@ pub struct Checked {
 // ---- the header of a record
 
 // A section has a mark for each stretch of `step` bytes: the first entry that starts in it.
-fn mark(marks: &mut [usize], step: usize, at: usize)
+pub fn mark(marks: &mut [usize], step: usize, at: usize)
     requires { ⌜ 0 < step ⌝ }
     ensures { λ r. ⌜ now (marks .exit) ≡ marked step at (now (marks .entry)) ⌝ }
 {
@@ -42,7 +42,7 @@ fn mark(marks: &mut [usize], step: usize, at: usize)
 }
 
 // Where the search for the entry at a place starts.
-fn mark_before(marks: &[usize], step: usize, place: usize) -> usize
+pub fn mark_before(marks: &[usize], step: usize, place: usize) -> usize
     requires { ⌜ 0 < step ⌝ }
     ensures { λ r. ⌜ r ≡ markBefore step place (now (marks .entry)) ⌝ }
 {
@@ -58,15 +58,15 @@ fn mark_before(marks: &[usize], step: usize, place: usize) -> usize
 }
 
 // The header that starts at a place earlier than `before`, searched for from an entry in front of it.
-fn header_from(s: &[u8], from: usize, place: usize, before: usize) -> Span
+pub fn header_from(s: &[u8], debug: bool, from: usize, place: usize, before: usize) -> Span
     requires { ⌜ Ahead (now s) from × (from ≤ place) ⌝ }
-    ensures { λ r. ⌜ Spans (now (s .entry)) r (headerAt false place before (listed (entries (now (s .entry))))) ⌝ }
+    ensures { λ r. ⌜ Spans (now (s .entry)) r (headerAt debug place before (listed (entries (now (s .entry))))) ⌝ }
 {
     let mut next = from;
     while next < s.len() {
         let at = next;
         next = reader::entries::past(s, at);
-        if reader::location::starts(s, at, next, false, place, before) {
+        if reader::location::starts(s, at, next, debug, place, before) {
             return Span::At(at, next);
         }
     }
@@ -81,7 +81,7 @@ fn header_of(s: &[u8], marks: &[usize], step: usize, at: usize, end: usize) -> S
     let Number::Is(place) = reader::location::distance_back(s, at, end) else {
         return Span::Nothing;
     };
-    header_from(s, mark_before(marks, step, place), place, at)
+    header_from(s, false, mark_before(marks, step, place), place, at)
 }
 
 // ---- a record

@@ -35,7 +35,7 @@ use Rattle.dwarf.proofs.Bounds.{sites-most}
 use Rattle.dwarf.proofs.Passed.{in-total, landings-few-in}
 use Rattle.reader.specs.Spans.{listed}
 use Rattle.sites_back.specs.Back.{SiteFits, pointerField, TableOf}
-use Rattle.sites_back.proofs.TableBack.{place-back}
+use Rattle.sites_back.proofs.TableBack.{place-back, place-shortest}
 
 -- ---- a table's place among the call-site bytes
 
@@ -240,6 +240,7 @@ module _ (g : Given) (w : Written) (a : Accepted Elf g w) (k : ℕ) (h : k < cou
         is-first = pointer-at m (a .machine) 0 0 [] fs k f l ls [] (w .relocations) relocations-are tt (a .functions) at-k x;
         to-sites = refl;
         reads = λ tail. place-back (w .sites ++ tail) (tableAt 0 fs k) (l ∷ ls) (s .rest ++ tail) (with-tail (w .sites) (siteTable (l ∷ ls)) (s .rest) tail (tableAt 0 fs k) (ap (drop (tableAt 0 fs k)) sites-are ∙ s .there) (omega arith)) fits (omega (arith, sites-most (l ∷ ls)));
+        shortest = λ tail. place-shortest (w .sites ++ tail) (tableAt 0 fs k) (l ∷ ls) (s .rest ++ tail) (with-tail (w .sites) (siteTable (l ∷ ls)) (s .rest) tail (tableAt 0 fs k) (ap (drop (tableAt 0 fs k)) sites-are ∙ s .there) (omega arith)) fits (omega (arith, sites-most (l ∷ ls)));
       }
 
 by-landings : (g : Given) (w : Written) → Accepted Elf g w → (k : ℕ) → k < count functionStride (g .functions) → (ls : List Landing)

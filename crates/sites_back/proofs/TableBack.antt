@@ -2,6 +2,7 @@
 use mathlib.Core.Path.{_≡_, refl, _∙_}
 use Prim.Native.Nat.{ℕ, zero, suc, _+_, _-_, _^_, _≤_, _<_}
 use native.Mathlib.Omega.{arith}
+use mathlib.Core.Bool.{true}
 use mathlib.Core.Option.{some}
 use mathlib.Core.List.{List, [], _∷_, _++_, append-assoc}
 use lib.ListN.{length, drop, length-append}
@@ -11,10 +12,12 @@ use Rattle.format.specs.Leb.{ulebF, uleb}
 use Rattle.format.specs.Lists.{Landing}
 use Rattle.format.specs.CallSites.{siteBytes, sitesBytes, siteTable}
 use Rattle.format.specs.Reader.{readMany, readCounted}
-use Rattle.format.specs.CallSiteReader.{siteOf, readSite, readSitesF, readSites, headOk, readTable, sitesAt}
+use Rattle.format.specs.CallSiteReader.{siteOf, readSite, readSitesF, readSites, headOk, readTable, sitesAt, entriesShort, sitesShort}
+use Rattle.format.specs.Shortest.{unsigned, readMark, marked, numbersShort, everyShortF, everyShort}
 use Rattle.format.proofs.Choice.{if-le, if-gt, either}
 use Rattle.format.proofs.Each.{Each}
 use Rattle.format.proofs.LebBack.{uleb-back}
+use Rattle.format.proofs.ShortBack.{unsigned-short, unsigned-then}
 use Rattle.call_sites.proofs.Runs.{sites-step}
 use Rattle.sites_back.specs.Back.{SiteFits}
 
@@ -73,3 +76,37 @@ pub place-back : (s : List ℕ) (place : ℕ) (ls : List Landing) (rest : List �
     → length (sitesBytes ls) < 2 ^ 64 → sitesAt s place ≡ good ls
 unfolding sitesAt onward orElse
 place-back s place ls rest e f h = rw (e, table-back ls rest h, sites-back ls f)
+
+-- ---- how its numbers are spelled
+
+next-short : (f : ℕ) (bs rest : List ℕ) → readMark unsigned bs ≡ some (true, rest) → ((g : ℕ) → everyShortF g rest ≡ true) → everyShortF f bs ≡ true
+unfolding everyShortF marked
+next-short zero bs rest e h = refl
+next-short (suc f) [] rest e h = refl
+next-short (suc f) (b ∷ bs) rest e h = rw e (h f)
+
+uleb-before : (n : ℕ) (rest : List ℕ) → n < 2 ^ 64 → ((g : ℕ) → everyShortF g rest ≡ true) → (f : ℕ) → everyShortF f (uleb n ++ rest) ≡ true
+uleb-before n rest l h f = next-short f (uleb n ++ rest) rest (unsigned-short n rest l) h
+
+every-shortest : (ls : List Landing) → Each SiteFits ls → (f : ℕ) → everyShortF f (sitesBytes ls) ≡ true
+unfolding sitesBytes siteBytes everyShortF
+every-shortest [] fits zero = refl
+every-shortest [] fits (suc f) = refl
+every-shortest (l ∷ ls) fits f =
+    let b : List ℕ = uleb (l .pad) ++ (uleb 0 ++ sitesBytes ls) in
+    let e : siteBytes l ++ sitesBytes ls ≡ uleb (l .start) ++ (uleb (l .size) ++ b) = simp append-assoc in
+    rw e
+    (uleb-before (l .start) (uleb (l .size) ++ b) (omega (arith, fits .0 .end))
+    (uleb-before (l .size) b (omega (arith, fits .0 .end))
+    (uleb-before (l .pad) (uleb 0 ++ sitesBytes ls) (fits .0 .pad) (uleb-before 0 (sitesBytes ls) (omega arith) (every-shortest ls (fits .1)))))
+    f)
+
+-- a table that stands at a place has its numbers shortest
+pub place-shortest : (s : List ℕ) (place : ℕ) (ls : List Landing) (rest : List ℕ) → drop place s ≡ siteTable ls ++ rest → Each SiteFits ls
+    → length (sitesBytes ls) < 2 ^ 64 → sitesShort s place ≡ true
+unfolding sitesShort entriesShort everyShort siteTable numbersShort
+place-shortest s place ls rest e fits h =
+    let n : ℕ = length (sitesBytes ls) in
+    let m : numbersShort (unsigned ∷ []) ((uleb n ++ sitesBytes ls) ++ rest) ≡ true =
+    rw append-assoc (unsigned-then [] (sitesBytes ls ++ rest) n h) in
+    rw (e, table-back ls rest h, m) (every-shortest ls fits (length (sitesBytes ls)))

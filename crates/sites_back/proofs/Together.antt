@@ -1,7 +1,7 @@
 -- eh_frame's writer, and then the reader of call sites on its buffers.
 use mathlib.Core.Path.{_≡_, sym, ap, _∙_}
 use Prim.Native.Nat.{ℕ, _*_, _≤_}
-use mathlib.Core.Bool.{false}
+use mathlib.Core.Bool.{true, false}
 use mathlib.Core.Option.{some}
 use mathlib.Core.List.{List, _++_}
 use lib.ListN.{length, take, drop, take-append-drop}
@@ -10,9 +10,9 @@ use Rattle.format.specs.declared.Outcome.{Outcome}
 use Rattle.format.specs.Lists.{Landing, relocationsOf}
 use Rattle.format.specs.Writer.{Written}
 use Rattle.format.specs.Questions.{Given, roomIn, accepted, relaxedTable, givenFunction}
-use Rattle.format.specs.Answers.{Writes, afterwards, relocationNumbers}
+use Rattle.format.specs.Answers.{bit, Writes, afterwards, relocationNumbers}
 use Rattle.format.specs.Reader.{firstAddend}
-use Rattle.format.specs.CallSiteReader.{sitesAt, siteAt, answerNumbers}
+use Rattle.format.specs.CallSiteReader.{sitesAt, siteAt, sitesShort, answerNumbers, siteMark, markedSite}
 use Rattle.format.proofs.Accepted.{dwarfWritten}
 use Rattle.format.proofs.ListLaws.{relocations-back}
 use Rattle.unwind.specs.Together.{answerFor, bytesIn, relocsIn}
@@ -40,9 +40,9 @@ module _ (g : Given) (p b q s : List ℕ) {o : Outcome} {p′ b′ q′ s′ : L
       sym (take-append-drop n s′) ∙ ap (λ bs. bs ++ drop n s′) first
 
   pub together : (k offset : ℕ) {n m place : ℕ} {ns : List ℕ} → n ≡ bytesIn o → m ≡ 5 * relocsIn o
-      → place ≡ placeIn (tablePlace (take n b′) (relocationsOf (take m q′)) k) → ns ≡ answerNumbers (siteAt s′ place offset)
+      → place ≡ placeIn (tablePlace (take n b′) (relocationsOf (take m q′)) k) → ns ≡ markedSite (siteAt s′ place offset) (sitesShort s′ place)
       → ReadBack g (relaxedTable 0 g (roomIn p b q s)) k offset ns
-  unfolding bytesOf relocsOf relocationNumbers dwarfWritten placeIn siteAt onward answerNumbers
+  unfolding bytesOf relocsOf relocationNumbers dwarfWritten placeIn siteAt onward answerNumbers siteMark markedSite bit
   together k offset {n} {m} {place} {ns} en em at answers w e h has fits =
       let t = sites-back g (roomIn p b q s) w e k h has fits in
       let f = front-of in
@@ -52,4 +52,6 @@ module _ (g : Given) (p b q s : List ℕ) {o : Outcome} {p′ b′ q′ s′ : L
       let there : place ≡ t .pointer .addend = at ∙ rw (bytes, relocations) (ap placeIn (place-of t)) in
       let reads : sitesAt s′ place ≡ good (givenFunction g k .landings) =
       rw there (ap (λ bs. sitesAt bs (t .pointer .addend)) (sites-front w e) ∙ t .reads (drop (length (w .sites)) s′)) in
-      answers ∙ rw reads
+      let short : sitesShort s′ place ≡ true =
+      rw there (ap (λ bs. sitesShort bs (t .pointer .addend)) (sites-front w e) ∙ t .shortest (drop (length (w .sites)) s′)) in
+      answers ∙ rw (reads, short)

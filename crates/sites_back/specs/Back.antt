@@ -2,9 +2,9 @@
 use mathlib.Core.Path.{_≡_}
 use mathlib.Core.Logic.{_≢_}
 use Prim.Native.Nat.{ℕ, _+_, _-_, _^_, _<_}
-use mathlib.Core.Bool.{false}
+use mathlib.Core.Bool.{true, false}
 use mathlib.Core.Option.{Option, none, some}
-use mathlib.Core.List.{List, [], _++_}
+use mathlib.Core.List.{List, [], _∷_, _++_}
 use lib.Dec.{eqb}
 use lib.ListN.{getElem?}
 use Rattle.format.specs.Prelude.{after, first, good}
@@ -13,7 +13,7 @@ use Rattle.format.specs.Constants.{exceptTable}
 use Rattle.format.specs.Writer.{Written}
 use Rattle.format.specs.Questions.{Given, Answer, accepted, givenFunction}
 use Rattle.format.specs.Reader.{Entry, entries, records, firstAddend}
-use Rattle.format.specs.CallSiteReader.{sitesAt, covers, siteNumbers}
+use Rattle.format.specs.CallSiteReader.{sitesAt, covers, sitesShort, siteNumbers}
 use Rattle.format.proofs.Each.{Each}
 use Rattle.reader.specs.Spans.{listed}
 
@@ -36,8 +36,8 @@ unfoldable pub placeIn : Option ℕ → ℕ
 placeIn none = 2 ^ 64 - 1
 placeIn (some place) = place
 
--- record k of a section has a pointer to the symbol of the call sites, and what is read there are the landings of function k, whatever
--- stands behind the call sites
+-- record k of a section has a pointer to the symbol of the call sites, and what is read there are the landings of function k, in numbers
+-- that are spelled shortest, whatever stands behind the call sites
 pub record TableOf (w : Written) (k : ℕ) (ls : List Landing) : Type 0 where
   pub entry : Entry
   pub is-record : getElem? (records false (listed (entries (w .bytes)))) k ≡ some entry
@@ -45,9 +45,11 @@ pub record TableOf (w : Written) (k : ℕ) (ls : List Landing) : Type 0 where
   pub is-first : first (λ r. eqb (r .place) (entry .at + pointerField)) (w .relocations) ≡ some pointer
   pub to-sites : pointer .symbol ≡ exceptTable
   pub reads : (tail : List ℕ) → sitesAt (w .sites ++ tail) (pointer .addend) ≡ good ls
+  pub shortest : (tail : List ℕ) → sitesShort (w .sites ++ tail) (pointer .addend) ≡ true
 
--- what is read, as numbers, at the place that function k's record names: the first landing of function k that covers the offset, or none
+-- what is read, as numbers, at the place that function k's record names: the first landing of function k that covers the offset, or none,
+-- and last that the table's numbers are spelled shortest
 abbrev pub ReadBack : Given → Answer → (k offset : ℕ) → List ℕ → Type 0
 ReadBack g a k offset ns =
     (w : Written) → a ≡ accepted w → k < count functionStride (g .functions) → givenFunction g k .landings ≢ []
-    → Each SiteFits (givenFunction g k .landings) → ns ≡ siteNumbers (first (covers offset) (givenFunction g k .landings))
+    → Each SiteFits (givenFunction g k .landings) → ns ≡ siteNumbers (first (covers offset) (givenFunction g k .landings)) ++ (1 ∷ [])

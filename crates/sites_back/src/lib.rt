@@ -3,7 +3,7 @@ ghost use mathlib.Core.Path.{_≡_};
 ghost use Rattle.format.specs.Lists.{relocationsOf};
 ghost use Rattle.format.specs.Questions.{relaxedTable, givenOf, roomIn};
 ghost use Rattle.format.specs.Answers.{Writes};
-ghost use Rattle.call_sites.specs.Reads.{numbersOf};
+ghost use Rattle.call_sites.specs.Reads.{markedOf};
 ghost use Rattle.sites_back.specs.Back.{tablePlace, placeIn, ReadBack};
 use call_sites::Site;
 use format::Outcome;
@@ -41,7 +41,7 @@ pub struct WrittenAndRead {
 
 // eh_frame's writer, and then the reader of call sites on what it wrote, at the place that the relocation of function k's record names. Where
 // the list was accepted and function k has landings whose ends fit 64 bits, the site is the first of them that covers the offset, or
-// none where none does.
+// none where none does, and the table's numbers are spelled shortest.
 pub fn write_and_read_site(
     machine: &[u64],
     functions: &[u64],
@@ -56,7 +56,7 @@ pub fn write_and_read_site(
     offset: u64,
 ) -> WrittenAndRead
     ensures { λ r. ⌜ Writes (relaxedTable 0 (givenOf (now (machine .entry)) (now (functions .entry)) (now (rows .entry)) (now (landings .entry)) (now (pairs .entry))) (roomIn (now (places .entry)) (now (bytes .entry)) (now (relocations .entry)) (now (sites .entry)))) (r .outcome) (now (places .entry)) (now (places .exit)) (now (bytes .entry)) (now (bytes .exit)) (now (relocations .entry)) (now (relocations .exit)) (now (sites .entry)) (now (sites .exit)) ⌝ }
-    ensures { λ r. ⌜ ReadBack (givenOf (now (machine .entry)) (now (functions .entry)) (now (rows .entry)) (now (landings .entry)) (now (pairs .entry))) (relaxedTable 0 (givenOf (now (machine .entry)) (now (functions .entry)) (now (rows .entry)) (now (landings .entry)) (now (pairs .entry))) (roomIn (now (places .entry)) (now (bytes .entry)) (now (relocations .entry)) (now (sites .entry)))) k offset (numbersOf (r .site)) ⌝ }
+    ensures { λ r. ⌜ ReadBack (givenOf (now (machine .entry)) (now (functions .entry)) (now (rows .entry)) (now (landings .entry)) (now (pairs .entry))) (relaxedTable 0 (givenOf (now (machine .entry)) (now (functions .entry)) (now (rows .entry)) (now (landings .entry)) (now (pairs .entry))) (roomIn (now (places .entry)) (now (bytes .entry)) (now (relocations .entry)) (now (sites .entry)))) k offset (markedOf (r .site)) ⌝ }
 {
     let outcome = unwind::relaxed_table(
         machine,

@@ -6,3 +6,4 @@ pub mod Fronts
 pub mod Demands
 pub mod Formats
 pub mod Delivering
+pub mod Marks

@@ -9,7 +9,7 @@ use Rattle.unwind.specs.declared.Written.{Written}
 
 -- the numbers of a reading, in the order of include/dekvoz.h
 abbrev pub readNumbers : Numbers → List ℕ
-readNumbers r = r .number ∷ r .frame ∷ r .«frame_register» ∷ r .«frame_offset» ∷ r .rule ∷ r .«rule_value» ∷ r .signing ∷ []
+readNumbers r = r .number ∷ r .frame ∷ r .«frame_register» ∷ r .«frame_offset» ∷ r .rule ∷ r .«rule_value» ∷ r .signing ∷ r .shortest ∷ []
 
 -- the numbers of an outcome, in the order of include/dekvoz.h
 abbrev pub writtenNumbers : Written → List ℕ

@@ -3,13 +3,13 @@ ghost use mathlib.Core.Path.{_≡_};
 ghost use Prim.Native.Nat.{_*_, _≤_};
 ghost use Rattle.format.specs.Questions.{relaxedTable, relaxedDebugFrame, seh, givenOf, roomIn};
 ghost use Rattle.format.specs.RowCheck.{rowCheckAt};
-ghost use Rattle.format.specs.Reader.{read};
+ghost use Rattle.format.specs.Reader.{read, shortestAt};
 ghost use mathlib.Core.List.{[], _∷_};
 ghost use lib.ListN.{getD};
 ghost use mir.Syntax.{w64};
 ghost use mir.Val.{ofZ};
 ghost use Rattle.format.specs.declared.Reading.the-variants.{Answered};
-ghost use Rattle.format.specs.Answers.{cfaNumbers, ruleNumbers, readingNumbers, bit, outcomeNumbers, Writes};
+ghost use Rattle.format.specs.Answers.{cfaNumbers, ruleNumbers, markedNumbers, bit, outcomeNumbers, Writes};
 ghost use Rattle.unwind.specs.Demand.{Demanded};
 ghost use Rattle.unwind.specs.Together.{answerFor, bytesIn, relocsIn, readingFor};
 ghost use Rattle.unwind.specs.Entries.{readNumbers, writtenNumbers, Exports};
@@ -18,6 +18,7 @@ use format::Outcome;
 use format::Reading;
 use format::Rule;
 use format::Section;
+use reader::location::Locating;
 
 // ---- the writers
 
@@ -238,7 +239,7 @@ pub fn word_in(machine: &[u64]) -> u64
 }
 
 // debug_frame's writer, or the other.
-fn write(
+pub fn write(
     debug: bool,
     machine: &[u64],
     format: u64,
@@ -350,6 +351,7 @@ pub struct Numbers {
     pub rule: u64,
     pub rule_value: u64,
     pub signing: u64,
+    pub shortest: u64,
 }
 
 // What the writers answer.
@@ -426,8 +428,8 @@ fn saving_of(r: Rule) -> Saving
     }
 }
 
-fn rules_numbers(c: CfaRule, r: Rule, signing: bool) -> Numbers
-    ensures { λ n. ⌜ readNumbers n ≡ readingNumbers (Answered (record { cfa = c; rule = r; signing = signing })) ⌝ }
+fn rules_numbers(c: CfaRule, r: Rule, signing: bool, shortest: bool) -> Numbers
+    ensures { λ n. ⌜ readNumbers n ≡ markedNumbers (Answered (record { cfa = c; rule = r; signing = signing })) shortest ⌝ }
 {
     let a = address_of(c);
     let b = saving_of(r);
@@ -439,17 +441,18 @@ fn rules_numbers(c: CfaRule, r: Rule, signing: bool) -> Numbers
         rule: b.kind,
         rule_value: b.value,
         signing: number(signing),
+        shortest: number(shortest),
     }
 }
 
-pub fn numbers_of(r: Reading) -> Numbers
-    ensures { λ n. ⌜ readNumbers n ≡ readingNumbers r ⌝ }
+pub fn numbers_of(r: Reading, shortest: bool) -> Numbers
+    ensures { λ n. ⌜ readNumbers n ≡ markedNumbers r shortest ⌝ }
 {
     match r {
         Reading::Answered(rules) => {
             let cfa = rules.cfa;
             let rule = rules.rule;
-            rules_numbers(cfa, rule, rules.signing)
+            rules_numbers(cfa, rule, rules.signing, shortest)
         }
         Reading::Refused(n) => Numbers {
             number: n,
@@ -459,6 +462,7 @@ pub fn numbers_of(r: Reading) -> Numbers
             rule: 0,
             rule_value: 0,
             signing: 0,
+            shortest: 0,
         },
     }
 }
@@ -581,7 +585,14 @@ pub extern "C" fn unwind_read(
     q: u16,
     p: u64,
 ) -> Numbers
-    ensures { λ r. ⌜ readNumbers r ≡ readingNumbers (read (now (section .entry)) (now (relocations .entry)) kind word k q p) ⌝ }
+    ensures { λ r. ⌜ readNumbers r ≡ markedNumbers (read (now (section .entry)) (now (relocations .entry)) kind word k q p) (shortestAt (now (section .entry)) (now (relocations .entry)) kind word k p) ⌝ }
 {
-    numbers_of(read(section, relocations, kind, word, k, q, p))
+    match reader::locate(section, relocations, kind, word, k) {
+        Locating::Found(l) => {
+            let rules = reader::rules_at(section, l, q, p);
+            let shortest = reader::shortest_at(section, l, p);
+            numbers_of(rules, shortest)
+        }
+        Locating::No(n) => numbers_of(Reading::Refused(n), false),
+    }
 }

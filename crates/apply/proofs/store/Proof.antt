@@ -1,12 +1,11 @@
 -- `apply::store` meets its contract.
-use mathlib.Core.Path.{sym, ap, subst, _∙_}
+use mathlib.Core.Path.{refl, sym, subst, _∙_}
 use Prim.Native.Nat.{_-_}
 use native.Mathlib.Omega.{arith}
 use lib.Dec.{T}
 use borrow.Author.Needs.{needs}
 use Rattle.apply.specs.declared.Kind.{Kind}
 use Rattle.apply.specs.Kinds.{sizeOk}
-use Rattle.apply.specs.Fields.{wholeIn}
 use Rattle.apply.specs.Values.{layoutOf, storeAs}
 use Rattle.apply.specs.Standing.{meant, beside}
 use Rattle.apply.proofs.Tests.{stored-as, value-as, sized-as, step-size, step-size-2}
@@ -19,38 +18,29 @@ kind-of-requires c κs = search needs
 enum-told : tie.Need-enum-told
 enum-told c = search needs
 
-value-requires : tie.Need-value-requires
-value-requires c κs =
+store-value-requires : tie.Need-store-value-requires
+store-value-requires c κs =
     let k = c .before .before .before in
     let s = k .before .before .before in
-    subst (λ (x : Kind). T (sizeOk x (s .args .r .bytes))) (sym (k .kind-of .ensures)) (s .pre .1)
-
-whole-requires : tie.Need-whole-requires
-whole-requires c κs = search needs
+    (s .pre .0, subst (λ (x : Kind). T (sizeOk x (s .args .r .bytes))) (sym (k .kind-of .ensures)) (s .pre .1))
 
 enum-told-2 : tie.Need-enum-told-2
 enum-told-2 c = search needs
 
-value-requires-2 : tie.Need-value-requires-2
-value-requires-2 c κs =
+store-value-requires-2 : tie.Need-store-value-requires-2
+store-value-requires-2 c κs =
     let k = c .before .before .before in
     let s = k .before .before .before in
-    subst (λ (x : Kind). T (sizeOk x (s .args .r .bytes))) (sym (k .kind-of .ensures)) (s .pre .1)
-
-whole-requires-2 : tie.Need-whole-requires-2
-whole-requires-2 c κs = search needs
+    (s .pre .0, subst (λ (x : Kind). T (sizeOk x (s .args .r .bytes))) (sym (k .kind-of .ensures)) (s .pre .1))
 
 enum-told-3 : tie.Need-enum-told-3
 enum-told-3 c = search needs
 
-value-requires-3 : tie.Need-value-requires-3
-value-requires-3 c κs =
+store-value-requires-3 : tie.Need-store-value-requires-3
+store-value-requires-3 c κs =
     let k = c .before .before .before in
     let s = k .before .before .before in
-    subst (λ (x : Kind). T (sizeOk x (s .args .r .bytes))) (sym (k .kind-of .ensures)) (s .pre .1)
-
-whole-requires-3 : tie.Need-whole-requires-3
-whole-requires-3 c κs = search needs
+    (s .pre .0, subst (λ (x : Kind). T (sizeOk x (s .args .r .bytes))) (sym (k .kind-of .ensures)) (s .pre .1))
 
 enum-told-4 : tie.Need-enum-told-4
 enum-told-4 c = search needs
@@ -58,14 +48,11 @@ enum-told-4 c = search needs
 enum-told-5 : tie.Need-enum-told-5
 enum-told-5 c = search needs
 
-value-requires-4 : tie.Need-value-requires-4
-value-requires-4 c κs =
+store-value-requires-4 : tie.Need-store-value-requires-4
+store-value-requires-4 c κs =
     let k = c .before .before .before in
     let s = k .before .before .before in
-    subst (λ (x : Kind). T (sizeOk x (s .args .r .bytes))) (sym (k .kind-of .ensures)) (s .pre .1)
-
-whole-requires-4 : tie.Need-whole-requires-4
-whole-requires-4 c κs = search needs
+    (s .pre .0, subst (λ (x : Kind). T (sizeOk x (s .args .r .bytes))) (sym (k .kind-of .ensures)) (s .pre .1))
 
 enum-known-k : tie.Need-enum-known-k
 enum-known-k c = search needs
@@ -100,15 +87,10 @@ same-length c = search needs
 returns : tie.Need-returns
 unfolding storeAs
 returns c =
-    let t = c .before .before .before .before .before in
+    let t = c .before .before .before .before in
     let k = t .before .before in
     let a = k .before .before .before .args in
-    let l = layoutOf (a .addresses .now) (a .section) (a .image) in
-    let e = k .kind-of .ensures in
-    let u = t .enum-told .given .1 in
-    c .before .before .whole .ensures
-    ∙ ap (wholeIn (a .r .bytes) (a .copy .now) (a .r .place)) (value-as l (a .copy .now) (meant (a .r)) (beside (a .behind)) e u (c .before .before .before .value .ensures))
-    ∙ stored-as l (a .copy .now) (meant (a .r)) (beside (a .behind)) e u
+    value-as (layoutOf (a .addresses .now) (a .section) (a .image)) (a .copy .now) (meant (a .r)) (beside (a .behind)) (k .kind-of .ensures) (t .enum-told .given .1) (c .before .before .store-value .ensures) refl
 
 same-length-2 : tie.Need-same-length-2
 same-length-2 c = search needs
@@ -116,15 +98,10 @@ same-length-2 c = search needs
 returns-2 : tie.Need-returns-2
 unfolding storeAs
 returns-2 c =
-    let t = c .before .before .before .before .before in
+    let t = c .before .before .before .before in
     let k = t .before .before in
     let a = k .before .before .before .args in
-    let l = layoutOf (a .addresses .now) (a .section) (a .image) in
-    let e = k .kind-of .ensures in
-    let u = t .enum-told2 .given .1 in
-    c .before .before .whole2 .ensures
-    ∙ ap (wholeIn (a .r .bytes) (a .copy .now) (a .r .place)) (value-as l (a .copy .now) (meant (a .r)) (beside (a .behind)) e u (c .before .before .before .value2 .ensures))
-    ∙ stored-as l (a .copy .now) (meant (a .r)) (beside (a .behind)) e u
+    value-as (layoutOf (a .addresses .now) (a .section) (a .image)) (a .copy .now) (meant (a .r)) (beside (a .behind)) (k .kind-of .ensures) (t .enum-told2 .given .1) (c .before .before .store-value2 .ensures) refl
 
 same-length-3 : tie.Need-same-length-3
 same-length-3 c = search needs
@@ -132,15 +109,10 @@ same-length-3 c = search needs
 returns-3 : tie.Need-returns-3
 unfolding storeAs
 returns-3 c =
-    let t = c .before .before .before .before .before in
+    let t = c .before .before .before .before in
     let k = t .before .before in
     let a = k .before .before .before .args in
-    let l = layoutOf (a .addresses .now) (a .section) (a .image) in
-    let e = k .kind-of .ensures in
-    let u = t .enum-told3 .given .1 in
-    c .before .before .whole3 .ensures
-    ∙ ap (wholeIn (a .r .bytes) (a .copy .now) (a .r .place)) (value-as l (a .copy .now) (meant (a .r)) (beside (a .behind)) e u (c .before .before .before .value3 .ensures))
-    ∙ stored-as l (a .copy .now) (meant (a .r)) (beside (a .behind)) e u
+    value-as (layoutOf (a .addresses .now) (a .section) (a .image)) (a .copy .now) (meant (a .r)) (beside (a .behind)) (k .kind-of .ensures) (t .enum-told3 .given .1) (c .before .before .store-value3 .ensures) refl
 
 returns-4 : tie.Need-returns-4
 unfolding storeAs
@@ -155,15 +127,10 @@ same-length-4 c = search needs
 returns-5 : tie.Need-returns-5
 unfolding storeAs
 returns-5 c =
-    let t = c .before .before .before .before .before in
+    let t = c .before .before .before .before in
     let k = t .before .before in
     let a = k .before .before .before .args in
-    let l = layoutOf (a .addresses .now) (a .section) (a .image) in
-    let e = k .kind-of .ensures in
-    let u = t .enum-told5 .given .1 in
-    c .before .before .whole4 .ensures
-    ∙ ap (wholeIn (a .r .bytes) (a .copy .now) (a .r .place)) (value-as l (a .copy .now) (meant (a .r)) (beside (a .behind)) e u (c .before .before .before .value4 .ensures))
-    ∙ stored-as l (a .copy .now) (meant (a .r)) (beside (a .behind)) e u
+    value-as (layoutOf (a .addresses .now) (a .section) (a .image)) (a .copy .now) (meant (a .r)) (beside (a .behind)) (k .kind-of .ensures) (t .enum-told5 .given .1) (c .before .before .store-value4 .ensures) refl
 
 same-length-5 : tie.Need-same-length-5
 same-length-5 c = search needs
@@ -200,18 +167,14 @@ store-spec =
     (tie.spec
     kind-of-requires
     enum-told
-    value-requires
-    whole-requires
+    store-value-requires
     enum-told-2
-    value-requires-2
-    whole-requires-2
+    store-value-requires-2
     enum-told-3
-    value-requires-3
-    whole-requires-3
+    store-value-requires-3
     enum-told-4
     enum-told-5
-    value-requires-4
-    whole-requires-4
+    store-value-requires-4
     enum-known-k
     set-sum-requires
     enum-known-k-2

@@ -1,6 +1,6 @@
 -- `unwind::numbers_of` meets its contract.
 use mathlib.Core.Path.{refl}
-use Rattle.format.specs.Answers.{readingNumbers}
+use Rattle.format.specs.Answers.{readingNumbers, markOf, markedNumbers}
 use borrow.Author.Needs.{needs}
 use Rattle.unwind.proofs.numbers_of.Statement.{statement}
 use Rattle.unwind.proofs.numbers_of.Tie as tie
@@ -18,7 +18,7 @@ returns : tie.Need-returns
 returns c = rw (c .before .before .r .given .1) (c .rules-numbers .ensures)
 
 returns-2 : tie.Need-returns-2
-unfolding readingNumbers
+unfolding readingNumbers markOf markedNumbers
 returns-2 c = rw (c .before .r2 .given .1) refl
 
 pub numbers-of-spec : {M : Type 1} → statement M

@@ -53,14 +53,17 @@ enum-told-2 c = search needs
 returns-2 : tie.Need-returns-2
 returns-2 c = fields-record (c .before .before .before .before .before .before .before .before .before .before .args .s .now) (c .before .before .before .before .before .before .before .before .before .before .args .debug) (c .before .before .before .before .before .before .before .before .before .before .args .word) (c .before .before .before .before .before .before .before .before .before .before .args .cie) (c .before .before .before .before .before .before .before .before .before .before .args .past) (c .before .before .before .before .before .before .before .before .before .before .args .at) (c .before .before .before .before .before .before .before .before .before .before .args .end) (c .before .before .before .before .before .before .before .parse-header .ensures) (c .before .before .before .before .before .rules .given .1) (c .before .before .parse-record .ensures) (c .enum-told2 .given .1)
 
-add-t17 : tie.Need-add-t17
-add-t17 c = record { fits = omega (arith, header-held (c .before .before .before .before .before .before .before .before .before .before .before .args .s .now) (c .before .before .before .before .before .before .before .before .before .before .before .args .debug) (c .before .before .before .before .before .before .before .before .before .before .before .args .word) (c .before .before .before .before .before .before .before .before .before .before .before .args .cie) (c .before .before .before .before .before .before .before .before .before .before .before .args .past) (c .before .before .before .before .before .before .before .before .before .before .before .args .at) (c .before .before .before .before .before .before .before .before .before .before .before .args .end) (c .before .before .before .before .before .before .before .before .parse-header .ensures) (c .before .before .before .before .before .before .rules .given .1) (c .before .before .before .before .before .before .before .before .before .before .before .pre .1) (c .before .before .before .before .before .before .before .before .before .before .before .pre .2)) }
+fields-shortest-requires : tie.Need-fields-shortest-requires
+fields-shortest-requires c κs = search needs
 
-add-t24 : tie.Need-add-t24
-add-t24 c = record { fits = omega (arith, record-held (c .before .before .before .before .before .before .before .before .before .before .before .args .s .now) (c .before .before .before .before .before .before .before .before .before .before .before .args .debug) (c .before .before .before .before .before .before .before .before .before .before .before .args .word) (c .before .before .before .before .before .before .before .before .before .before .before .args .cie) (c .before .before .before .before .before .before .before .before .before .before .before .args .past) (c .before .before .before .before .before .before .before .before .before .before .before .args .at) (c .before .before .before .before .before .before .before .before .before .before .before .args .end) (c .before .before .before .before .before .before .before .before .parse-header .ensures) (c .before .before .before .before .before .before .rules .given .1) (c .before .before .before .parse-record .ensures) (c .before .rows .given .1) (c .before .before .before .before .before .before .before .before .before .before .before .pre .3) (c .before .before .before .before .before .before .before .before .before .before .before .pre .4)) }
+add-t18 : tie.Need-add-t18
+add-t18 c = record { fits = omega (arith, header-held (c .before .before .before .before .before .before .before .before .before .before .before .before .args .s .now) (c .before .before .before .before .before .before .before .before .before .before .before .before .args .debug) (c .before .before .before .before .before .before .before .before .before .before .before .before .args .word) (c .before .before .before .before .before .before .before .before .before .before .before .before .args .cie) (c .before .before .before .before .before .before .before .before .before .before .before .before .args .past) (c .before .before .before .before .before .before .before .before .before .before .before .before .args .at) (c .before .before .before .before .before .before .before .before .before .before .before .before .args .end) (c .before .before .before .before .before .before .before .before .before .parse-header .ensures) (c .before .before .before .before .before .before .before .rules .given .1) (c .before .before .before .before .before .before .before .before .before .before .before .before .pre .1) (c .before .before .before .before .before .before .before .before .before .before .before .before .pre .2)) }
+
+add-t25 : tie.Need-add-t25
+add-t25 c = record { fits = omega (arith, record-held (c .before .before .before .before .before .before .before .before .before .before .before .before .args .s .now) (c .before .before .before .before .before .before .before .before .before .before .before .before .args .debug) (c .before .before .before .before .before .before .before .before .before .before .before .before .args .word) (c .before .before .before .before .before .before .before .before .before .before .before .before .args .cie) (c .before .before .before .before .before .before .before .before .before .before .before .before .args .past) (c .before .before .before .before .before .before .before .before .before .before .before .before .args .at) (c .before .before .before .before .before .before .before .before .before .before .before .before .args .end) (c .before .before .before .before .before .before .before .before .before .parse-header .ensures) (c .before .before .before .before .before .before .before .rules .given .1) (c .before .before .before .before .parse-record .ensures) (c .before .before .rows .given .1) (c .before .before .before .before .before .before .before .before .before .before .before .before .pre .3) (c .before .before .before .before .before .before .before .before .before .before .before .before .pre .4)) }
 
 returns-3 : tie.Need-returns-3
-returns-3 c = fields-there (c .before .before .before .before .before .before .before .before .before .before .before .args .s .now) (c .before .before .before .before .before .before .before .before .before .before .before .args .debug) (c .before .before .before .before .before .before .before .before .before .before .before .args .word) (c .before .before .before .before .before .before .before .before .before .before .before .args .cie) (c .before .before .before .before .before .before .before .before .before .before .before .args .past) (c .before .before .before .before .before .before .before .before .before .before .before .args .at) (c .before .before .before .before .before .before .before .before .before .before .before .args .end) (c .before .before .before .before .before .before .before .before .parse-header .ensures) (c .before .before .before .before .before .before .rules .given .1) (c .before .before .before .parse-record .ensures) (c .before .rows .given .1) (c .before .before .before .before .before .before .before .before .before .before .before .pre .0) (c .before .before .before .before .before .before .before .before .before .before .before .pre .1) (c .before .before .before .before .before .before .before .before .before .before .before .pre .2) (c .before .before .before .before .before .before .before .before .before .before .before .pre .3) (c .before .before .before .before .before .before .before .before .before .before .before .pre .4)
+returns-3 c = fields-there (c .before .before .before .before .before .before .before .before .before .before .before .before .args .s .now) (c .before .before .before .before .before .before .before .before .before .before .before .before .args .debug) (c .before .before .before .before .before .before .before .before .before .before .before .before .args .word) (c .before .before .before .before .before .before .before .before .before .before .before .before .args .cie) (c .before .before .before .before .before .before .before .before .before .before .before .before .args .past) (c .before .before .before .before .before .before .before .before .before .before .before .before .args .at) (c .before .before .before .before .before .before .before .before .before .before .before .before .args .end) (c .before .before .before .before .before .before .before .before .before .parse-header .ensures) (c .before .before .before .before .before .before .before .rules .given .1) (c .before .before .before .before .parse-record .ensures) (c .before .before .rows .given .1) (c .before .before .before .before .before .before .before .before .before .before .before .before .pre .0) (c .before .before .before .before .before .before .before .before .before .before .before .before .pre .1) (c .before .before .before .before .before .before .before .before .before .before .before .before .pre .2) (c .before .before .before .before .before .before .before .before .before .before .before .before .pre .3) (c .before .before .before .before .before .before .before .before .before .before .before .before .pre .4) (c .fields-shortest .ensures)
 
 pub parse-spec : {M : Type 1} → statement M
 parse-spec =
@@ -82,6 +85,7 @@ parse-spec =
     enum-known-rows
     enum-told-2
     returns-2
-    add-t17
-    add-t24
+    fields-shortest-requires
+    add-t18
+    add-t25
     returns-3)

@@ -69,28 +69,34 @@ returns-2 c =
     ∙ entries-refused (a .s .now) (a .debug) (a .word) (a .cie) (a .past) (a .at) (a .end)
     (fields-record (a .s .now) (a .debug) (a .word) (a .cie) (a .past) (a .at) (a .end) (c .before .before .before .before .before .before .before .before .parse-header .ensures) (c .before .before .before .before .before .before .rules .given .1) (c .before .before .before .parse-record .ensures) (c .before .enum-told2 .given .1))
 
-add-t17 : tie.Need-add-t17
-add-t17 c =
-    let a = c .before .before .before .before .before .before .before .before .before .before .before .args in
-    let h = c .before .before .before .before .before .before .before .before .before .before .before .pre in
-    record { fits = omega (arith, header-held (a .s .now) (a .debug) (a .word) (a .cie) (a .past) (a .at) (a .end) (c .before .before .before .before .before .before .before .before .parse-header .ensures) (c .before .before .before .before .before .before .rules .given .1) (h .1) (h .2)) }
+fields-shortest-requires : tie.Need-fields-shortest-requires
+fields-shortest-requires c κs = search needs
 
-add-t26 : tie.Need-add-t26
-add-t26 c =
-    let a = c .before .before .before .before .before .before .before .before .before .before .before .args in
-    let h = c .before .before .before .before .before .before .before .before .before .before .before .pre in
-    record { fits = omega (arith, record-held (a .s .now) (a .debug) (a .word) (a .cie) (a .past) (a .at) (a .end) (c .before .before .before .before .before .before .before .before .parse-header .ensures) (c .before .before .before .before .before .before .rules .given .1) (c .before .before .before .parse-record .ensures) (c .before .rows .given .1) (h .3) (h .4)) }
+add-t18 : tie.Need-add-t18
+add-t18 c =
+    let a = c .before .before .before .before .before .before .before .before .before .before .before .before .args in
+    let h = c .before .before .before .before .before .before .before .before .before .before .before .before .pre in
+    record { fits = omega (arith, header-held (a .s .now) (a .debug) (a .word) (a .cie) (a .past) (a .at) (a .end) (c .before .before .before .before .before .before .before .before .before .parse-header .ensures) (c .before .before .before .before .before .before .before .rules .given .1) (h .1) (h .2)) }
+
+add-t27 : tie.Need-add-t27
+add-t27 c =
+    let a = c .before .before .before .before .before .before .before .before .before .before .before .before .args in
+    let h = c .before .before .before .before .before .before .before .before .before .before .before .before .pre in
+    record { fits = omega (arith, record-held (a .s .now) (a .debug) (a .word) (a .cie) (a .past) (a .at) (a .end) (c .before .before .before .before .before .before .before .before .before .parse-header .ensures) (c .before .before .before .before .before .before .before .rules .given .1) (c .before .before .before .before .parse-record .ensures) (c .before .before .rows .given .1) (h .3) (h .4)) }
 
 number-requires : tie.Need-number-requires
 number-requires c κs = search needs
 
+number-requires-2 : tie.Need-number-requires-2
+number-requires-2 c κs = search needs
+
 returns-3 : tie.Need-returns-3
 returns-3 c =
-    let a = c .before .before .before .before .before .before .before .before .before .before .before .before .args in
-    let h = c .before .before .before .before .before .before .before .before .before .before .before .before .pre in
-    rw (c .number .ensures)
+    let a = c .before .before .before .before .before .before .before .before .before .before .before .before .before .before .args in
+    let h = c .before .before .before .before .before .before .before .before .before .before .before .before .before .before .pre in
+    rw (c .before .number .ensures, c .number2 .ensures)
     (entries-located (a .s .now) (a .debug) (a .word) (a .cie) (a .past) (a .at) (a .end) (h .1) (h .2) (h .3) (h .4)
-    (fields-there (a .s .now) (a .debug) (a .word) (a .cie) (a .past) (a .at) (a .end) (c .before .before .before .before .before .before .before .before .before .parse-header .ensures) (c .before .before .before .before .before .before .before .rules .given .1) (c .before .before .before .before .parse-record .ensures) (c .before .before .rows .given .1) (h .0) (h .1) (h .2) (h .3) (h .4))
+    (fields-there (a .s .now) (a .debug) (a .word) (a .cie) (a .past) (a .at) (a .end) (c .before .before .before .before .before .before .before .before .before .before .before .parse-header .ensures) (c .before .before .before .before .before .before .before .before .before .rules .given .1) (c .before .before .before .before .before .before .parse-record .ensures) (c .before .before .before .before .rows .given .1) (h .0) (h .1) (h .2) (h .3) (h .4) (c .before .before .fields-shortest .ensures))
     refl
     refl)
 
@@ -116,7 +122,9 @@ locate-entries-spec =
     enum-told-2
     refused-requires-2
     returns-2
-    add-t17
-    add-t26
+    fields-shortest-requires
+    add-t18
+    add-t27
     number-requires
+    number-requires-2
     returns-3)
