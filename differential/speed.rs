@@ -68,7 +68,8 @@ fn main() {
     match words.iter().map(String::as_str).collect::<Vec<_>>()[..] {
         ["write", runs] => write(&case, runs.parse().expect("a number of runs")),
         ["read", runs] => read(&case, runs.parse().expect("a number of runs")),
-        _ => panic!("speed.rs: write RUNS, or read RUNS"),
+        ["once", lists] => once(&case, lists),
+        _ => panic!("speed.rs: write RUNS, read RUNS, or once exact or ample"),
     }
 }
 
@@ -84,31 +85,47 @@ fn read_case() -> Case {
 
 // The writers
 
-/// Both writers by turns; each answer is compared once, and the times are printed.
+/// Both writers by turns, the library with lists exactly as long as the results and with ample ones; each answer is compared
+/// once, and the times are printed.
 fn write(case: &Case, runs: usize) {
     let (conv, input) = (harness::machine(&case.machine).unwrap(), harness::input(case).unwrap());
     let expected = expected(source(&input, &conv));
-    let mut lent = lend(&expected);
-    let counts = library(case, &mut lent);
-    compare(&expected, &counts, &lent);
+    let mut lent = [lend(&expected), lend_amply(case)];
+    for lent in &mut lent {
+        let counts = library(case, lent);
+        compare(&expected, &counts, lent);
+    }
 
-    let (mut theirs, mut ours) = (Vec::new(), Vec::new());
+    let (mut theirs, mut ours) = (Vec::new(), [Vec::new(), Vec::new()]);
     for _ in 0..runs {
         let start = Instant::now();
         let out = black_box(source(black_box(&input), &conv));
         theirs.push(start.elapsed().as_secs_f64());
         drop(out);
-        clear(&mut lent);
-        let start = Instant::now();
-        let counts = black_box(library(black_box(case), &mut lent));
-        ours.push(start.elapsed().as_secs_f64());
-        assert_eq!(counts.number, 0);
+        for (lent, ours) in lent.iter_mut().zip(&mut ours) {
+            clear(lent);
+            let start = Instant::now();
+            let counts = black_box(library(black_box(case), lent));
+            ours.push(start.elapsed().as_secs_f64());
+            assert_eq!(counts.number, 0);
+        }
     }
-    let (theirs, ours) = (times(theirs), times(ours));
+    let (theirs, [exact, ample]) = (times(theirs), ours.map(times));
     println!(
-        "{:<20} {:>8} bytes  Rust {:>8.3} ms, least {:>8.3}  library {:>8.3} ms, least {:>8.3}  ratio {:.2}, of the least {:.2}",
-        case.name, expected.bytes.len(), theirs.0, theirs.1, ours.0, ours.1, ours.0 / theirs.0, ours.1 / theirs.1
+        "{:<20} {:>8} bytes  Rust {:>8.3} ms, least {:>8.3}  library, exact lists {:>8.3} ms, least {:>8.3}, ratio {:.2}, {:.2}  ample lists {:>8.3} ms, least {:>8.3}, ratio {:.2}, {:.2}",
+        case.name, expected.bytes.len(), theirs.0, theirs.1,
+        exact.0, exact.1, exact.0 / theirs.0, exact.1 / theirs.1,
+        ample.0, ample.1, ample.0 / theirs.0, ample.1 / theirs.1
     );
+}
+
+/// One call of each, for a tool that counts instructions.
+fn once(case: &Case, lists: &str) {
+    let (conv, input) = (harness::machine(&case.machine).unwrap(), harness::input(case).unwrap());
+    let expected = expected(source(&input, &conv));
+    let mut lent = if lists == "ample" { lend_amply(case) } else { lend(&expected) };
+    let counts = library(case, &mut lent);
+    compare(&expected, &counts, &lent);
 }
 
 fn source(input: &Input, conv: &CallRegs) -> Unwind {
@@ -131,6 +148,20 @@ fn lend(expected: &Written) -> Lent {
         bytes: vec![0; expected.bytes.len()],
         relocations: vec![0; 5 * expected.relocs.len()],
         sites: vec![0; expected.sites.len()],
+    }
+}
+
+/// Lists that hold whatever functions with so many rows and landings can be (docs/PERFORMANCE.md).
+fn lend_amply(case: &Case) -> Lent {
+    let functions = case.functions.chunks_exact(18);
+    let (n, rows) = (functions.len(), functions.clone().map(|f| f[3]).sum::<u64>() as usize);
+    let labelled = functions.clone().filter(|f| f[14] != 0).map(|f| f[3]).sum::<u64>() as usize;
+    let landings = functions.map(|f| f[5]).sum::<u64>() as usize;
+    Lent {
+        places: vec![0; n],
+        bytes: vec![0; 96 * n + 14 * rows],
+        relocations: vec![0; 25 * n + 10 * labelled],
+        sites: vec![0; 17 * n + 40 * landings],
     }
 }
 
@@ -158,13 +189,18 @@ fn library(case: &Case, lent: &mut Lent) -> Counts {
 fn compare(expected: &Written, counts: &Counts, lent: &Lent) {
     let Counts { number, position, places, bytes, relocations, sites } = *counts;
     assert_eq!((number, position), (0, 0), "the library refused the list");
-    let lengths = [lent.places.len(), lent.bytes.len(), lent.relocations.len() / 5, lent.sites.len()];
-    assert_eq!([places, bytes, relocations, sites], lengths.map(|n| n as u64), "other counts");
     let fives: Vec<[u64; 5]> = expected.relocs.iter().map(harness::five).collect();
-    assert!(expected.places == lent.places, "other header places");
-    assert!(expected.bytes == lent.bytes, "other bytes");
-    assert!(fives.as_flattened() == lent.relocations, "other relocations");
-    assert!(expected.sites == lent.sites, "other call sites");
+    let lengths = [expected.places.len(), expected.bytes.len(), fives.len(), expected.sites.len()];
+    assert_eq!([places, bytes, relocations, sites], lengths.map(|n| n as u64), "other counts");
+    assert!(begins(&lent.places, &expected.places), "other header places");
+    assert!(begins(&lent.bytes, &expected.bytes), "other bytes");
+    assert!(begins(&lent.relocations, fives.as_flattened()), "other relocations");
+    assert!(begins(&lent.sites, &expected.sites), "other call sites");
+}
+
+/// A cleared list has the results at its front, and zeros behind them.
+fn begins<T: PartialEq + Default>(lent: &[T], results: &[T]) -> bool {
+    lent.starts_with(results) && lent[results.len()..].iter().all(|x| *x == T::default())
 }
 
 /// The median and the least, in milliseconds.

@@ -60,12 +60,27 @@ unfolding sumPair
 sum-few place bytes f none = omega arith
 sum-few place bytes f (some r) = omega arith
 
-rows-few : (w place : ℕ) (xs : List RowAt) (o : Option Relaxed) → length (rowRelocs w place xs o) ≤ 2 * length xs
-unfolding rowRelocs
+-- n rows where there are labels
+unfoldable pub labelled : Option Relaxed → ℕ → ℕ
+labelled none n = 0
+labelled (some r) n = n
+
+labelled-more : (o : Option Relaxed) (a b : ℕ) → a ≤ b → labelled o a ≤ labelled o b
+unfolding labelled
+labelled-more none a b h = omega arith
+labelled-more (some r) a b h = h
+
+pub labelled-low : (o : Option Relaxed) (n : ℕ) → labelled o n ≤ n
+unfolding labelled
+labelled-low none n = omega arith
+labelled-low (some r) n = omega arith
+
+rows-few : (w place : ℕ) (xs : List RowAt) (o : Option Relaxed) → length (rowRelocs w place xs o) ≤ 2 * labelled o (length xs)
+unfolding rowRelocs labelled
 rows-few w place xs none = omega arith
 rows-few w place xs (some r) = steps-most w place 0 (r .pairs) xs
 
-pub record-few : (debug : Bool) (m : Machine) (at cie table : ℕ) (f : Function) → length (recordRelocs debug m at cie table f) ≤ 4 + 2 * length (f .rows)
+pub record-few : (debug : Bool) (m : Machine) (at cie table : ℕ) (f : Function) → length (recordRelocs debug m at cie table f) ≤ 4 + 2 * labelled (f .relaxed) (length (f .rows))
 unfolding recordRelocs pick
 record-few true m at cie table f =
     let ops : ℕ = at + 4 + length (recordFields true (m .word) (at + 4 - cie) f) in
@@ -74,7 +89,7 @@ record-few true m at cie table f =
       arith,
       sum-few (at + 8 + m .word) (m .word) f (f .relaxed),
       rows-few (m .word) ops (others (f .rows)) (f .relaxed),
-      others-count (f .rows),
+      labelled-more (f .relaxed) (length (others (f .rows))) (length (f .rows)) (others-count (f .rows)),
     ))
 record-few false m at cie table f =
     let ops : ℕ = at + 4 + length (recordFields false (m .word) (at + 4 - cie) f) in
@@ -84,11 +99,21 @@ record-few false m at cie table f =
       lsda-few (m .word) (at + 17) table (f .landings) (f .named),
       sum-few (at + 12) 4 f (f .relaxed),
       rows-few (m .word) ops (others (f .rows)) (f .relaxed),
-      others-count (f .rows),
+      labelled-more (f .relaxed) (length (others (f .rows))) (length (f .rows)) (others-count (f .rows)),
     ))
 
+-- the rows of functions with labels, summed
+unfoldable pub labelledCount : List Function → ℕ
+labelledCount [] = 0
+labelledCount (f ∷ fs) = labelled (f .relaxed) (length (f .rows)) + labelledCount fs
+
+pub labelled-rows : (fs : List Function) → labelledCount fs ≤ rowCount fs
+unfolding labelledCount rowCount
+labelled-rows [] = omega arith
+labelled-rows (f ∷ fs) = omega (arith, labelled-low (f .relaxed) (length (f .rows)), labelled-rows fs)
+
 module _ (s : Section) (m : Machine) where
-  part-few : (x : Spot) (sites : ℕ) (f : Function) → length (partRelocs s m x sites f) ≤ 5 + 2 * length (f .rows)
+  part-few : (x : Spot) (sites : ℕ) (f : Function) → length (partRelocs s m x sites f) ≤ 5 + 2 * labelled (f .relaxed) (length (f .rows))
   unfolding partRelocs
   part-few x sites f =
       rw length-append
@@ -103,8 +128,8 @@ module _ (s : Section) (m : Machine) where
   relocs-none at sites seen = refl
 
   pub relocs-few : (at sites : ℕ) (seen : List Seen) (fs : List Function)
-      → length (relocsOf s m at sites seen fs) ≤ 5 * length fs + 2 * rowCount fs
-  unfolding rowCount
+      → length (relocsOf s m at sites seen fs) ≤ 5 * length fs + 2 * labelledCount fs
+  unfolding labelledCount
   relocs-few at sites seen [] = rw (relocs-none at sites seen) (omega arith)
   relocs-few at sites seen (f ∷ fs) =
       rw (relocs-more s m at sites seen f fs, length-append)

@@ -1,9 +1,9 @@
 -- From the answers of questions 11 to 25 to what the passes rely on.
-use mathlib.Core.Path.{_≡_, _∙_}
-use Prim.Native.Nat.{ℕ, zero, suc, _*_, _^_, _≤_, _<_}
+use mathlib.Core.Path.{_≡_, refl, _∙_}
+use Prim.Native.Nat.{ℕ, zero, suc, _+_, _*_, _^_, _≤_, _<_}
 use native.Mathlib.Omega.{arith}
-use mathlib.Core.Bool.{true, false}
-use mathlib.Core.Option.{none}
+use mathlib.Core.Bool.{Bool, true, false}
+use mathlib.Core.Option.{none, some}
 use mathlib.Core.List.{List, [], map}
 use borrow.Author.Tests.{le-leb, ne-eqb}
 use lib.Dec.{T, leb}
@@ -12,25 +12,27 @@ use Rattle.format.specs.Prelude.{pick, each}
 use Rattle.format.specs.declared.Section.{Section}
 use Rattle.format.specs.declared.Section.the-variants.{Elf, Debug}
 use Rattle.format.specs.Machine.{machineOf}
-use Rattle.format.specs.Lists.{Function, functionStride, field, count, sumOf, functionsOf, listsOk}
-use Rattle.format.specs.Writer.{Written, taken, partsOf, dwarf}
+use Rattle.format.specs.Lists.{Function, Relaxed, functionStride, field, count, sumOf, functionsOf, listsOk, numbersOf}
+use Rattle.format.specs.Writer.{Written, taken, partsOf, joined, dwarf}
 use Rattle.format.specs.Questions.{Given, Room, accepted, ask, andThen, roomAsks, unless, fitting, dwarfAsks, perFunction, dwarfAnswer, dwarfGiven, givenAsks, givenFunctions, noFunctions, formatAnswer, relaxedTable, relaxedDebugFrame}
 use Rattle.format.proofs.Accepted.{dwarfWritten}
-use Rattle.format.proofs.Accepted.{Accepted, accepted-is, function-fits-at}
-use Rattle.format.proofs.Fits.{FunctionFits}
-use Rattle.format.proofs.Parts.{relocsOf}
+use Rattle.format.proofs.Accepted.{Accepted, accepted-is, function-fits-at, rows-at-counted}
+use Rattle.format.proofs.Choice.{either}
+use Rattle.format.proofs.Fits.{FunctionFits, rowCount}
+use Rattle.format.proofs.Parts.{bytesOf, relocsOf}
 use Rattle.dwarf.proofs.Bodies.{rows-body, encodings-body}
-use Rattle.dwarf.proofs.Passed.{askable, encoding-taken, rows-few-at, landings-taken, listed, functions-few, landings-few-in}
+use Rattle.dwarf.proofs.Passed.{askable, encoding-taken, rows-few-at, landings-taken, listed, functions-few, rows-few-in, landings-few-in}
 use Rattle.leading.specs.Functions.{takenIn, without, Sound}
 use Rattle.lists.specs.declared.Extent.{Extent}
 use Rattle.lists.specs.Extents.{extentAt, meant}
 use Rattle.dwarf.specs.Parts.{Inputs, inputs, countIn, extentIn, functionIn, bytesIn, relocsIn, sitesIn, partsTo}
+use Rattle.dwarf.specs.Tables.{labelledRows, totalOf, labelledTotal, mostIn, Covers}
 use Rattle.dwarf.specs.Sure.{Sure, Cleared}
 use Rattle.format.proofs.ListLaws.{each-length}
-use Rattle.format.proofs.SectionSize.{section-short}
+use Rattle.format.proofs.SectionSize.{parts-short, section-short}
 use Rattle.dwarf.proofs.Fronts.{all-parts, functions-each, means-taken, bytes-grow, relocs-grow, sites-grow}
 use Rattle.format.proofs.ListLaws.{numbers-length}
-use Rattle.dwarf.proofs.Bounds.{landingCount, relocs-few, sites-few}
+use Rattle.dwarf.proofs.Bounds.{labelled, labelledCount, labelled-rows, landingCount, relocs-few, sites-few}
 
 -- ---- acceptance with room enough
 
@@ -79,6 +81,33 @@ module _ (x : Inputs) where
   landings-counted at zero = omega arith
   landings-counted at (suc n) = omega (arith, landings-at at, landings-counted (suc at) n)
 
+-- rows with labels, as their list counts them
+labelled-pick : (b : Bool) (r : Relaxed) (n : ℕ) → labelled (pick b (some r) none) n ≡ pick b n 0
+unfolding labelled pick
+labelled-pick true r n = refl
+labelled-pick false r n = refl
+
+labelled-taken : (s : Section) (e : Extent) (rows landings pairs : List ℕ)
+    → labelled (meant (takenIn s e) rows landings pairs .relaxed) (length (meant (takenIn s e) rows landings pairs .rows)) ≡ pick (e .relaxed) (e .rows) 0
+unfolding meant takenIn without
+labelled-taken Elf e rows landings pairs = labelled-pick (e .relaxed) _ _ ∙ rw each-length
+labelled-taken Debug e rows landings pairs = labelled-pick (e .relaxed) _ _ ∙ rw each-length
+
+module _ (x : Inputs) where
+  labelled-at : (k : ℕ) → labelled (functionIn x k .relaxed) (length (functionIn x k .rows)) ≡ labelledRows (x .functions) k
+  unfolding labelledRows extentAt
+  labelled-at k = labelled-taken (x .section) (extentAt (x .functions) k) (x .rows) (x .landings) (x .pairs)
+
+  labelled-counted : (at n : ℕ) → labelledCount (each (functionIn x) at n) ≡ sumOf (labelledRows (x .functions)) at n
+  unfolding labelledCount sumOf each
+  labelled-counted at zero = refl
+  labelled-counted at (suc n) = rw (labelled-at at, labelled-counted (suc at) n)
+
+  -- no functions are nothing
+  none-covered : countIn x ≡ 0 → Covers x (mostIn (x .functions))
+  unfolding partsTo bytesIn relocsIn sitesIn joined numbersOf
+  none-covered e = record { bytes = rw e (omega arith); relocations = rw e (omega arith); sites = rw e (omega arith) }
+
 abbrev pub inputsOf : Section → Given → Inputs
 inputsOf s g = inputs s (machineOf (g .machine)) (g .functions) (g .rows) (g .landings) (g .pairs)
 
@@ -94,7 +123,7 @@ module _ (s : Section) (g : Given) {w : Written} (a : Accepted s g w) where
   unfolding relocsIn partsOf givenFunctions relocsOf
   relocs-whole =
       rw (← all-parts x)
-      (omega (arith, relocs-few s (machineOf (g .machine)) 0 0 [] (map (taken s) (functionsOf (g .functions) (g .rows) (g .landings) (g .pairs))), a .bounded .functions, a .bounded .lines))
+      (omega (arith, relocs-few s (machineOf (g .machine)) 0 0 [] (map (taken s) (functionsOf (g .functions) (g .rows) (g .landings) (g .pairs))), labelled-rows (map (taken s) (functionsOf (g .functions) (g .rows) (g .landings) (g .pairs))), a .bounded .functions, a .bounded .lines))
 
   sites-whole : length (sitesIn (partsTo x (countIn x))) ≤ 43057152
   unfolding sitesIn partsOf givenFunctions
@@ -103,6 +132,42 @@ module _ (s : Section) (g : Given) {w : Written} (a : Accepted s g w) where
       let few = landings-few-in (g .functions) (g .rows) (g .landings) (g .pairs) (a .lists) in
       let n : landingCount fs ≤ 1048576 = rw (functions-each x) (omega (arith, landings-counted x 0 (countIn x))) in
       rw (← all-parts x) (omega (arith, sites-few s (machineOf (g .machine)) 0 0 [] fs, a .bounded .functions))
+
+  -- at most
+
+  abbrev all : List Function
+  all = map (taken s) (functionsOf (g .functions) (g .rows) (g .landings) (g .pairs))
+
+  all-counted : length all ≡ countIn x
+  all-counted = rw (functions-each x) (each-length (functionIn x) 0 (countIn x))
+
+  rows-counted : rowCount all ≡ totalOf (g .functions) 3
+  unfolding functionsOf
+  rows-counted = rows-at-counted (g .functions) (g .rows) (g .landings) (g .pairs) s 0 (countIn x)
+
+  bytes-most : length (bytesIn (partsTo x (countIn x))) ≤ 96 * countIn x + 14 * totalOf (g .functions) 3
+  unfolding bytesIn bytesOf partsOf givenFunctions
+  bytes-most = rw (← all-parts x) (omega (arith, parts-short s (machineOf (g .machine)) (a .machine) 0 0 [] all (a .functions), all-counted, rows-counted))
+
+  relocs-most : length (relocsIn (partsTo x (countIn x))) ≤ 5 * countIn x + 2 * labelledTotal (g .functions)
+  unfolding relocsIn partsOf givenFunctions relocsOf
+  relocs-most =
+      let n : labelledCount all ≡ labelledTotal (g .functions) = rw (functions-each x) (labelled-counted x 0 (countIn x)) in
+      rw (← all-parts x) (omega (arith, relocs-few s (machineOf (g .machine)) 0 0 [] all, all-counted))
+
+  sites-few-in : length (sitesIn (partsTo x (countIn x))) ≤ 17 * countIn x + 40 * totalOf (g .functions) 5
+  unfolding sitesIn partsOf givenFunctions
+  sites-few-in =
+      let n : landingCount all ≤ totalOf (g .functions) 5 = rw (functions-each x) (landings-counted x 0 (countIn x)) in
+      rw (← all-parts x) (omega (arith, sites-few s (machineOf (g .machine)) 0 0 [] all, all-counted))
+
+  all-covered : Covers x (mostIn (g .functions))
+  unfolding mostIn
+  all-covered = record {
+    bytes = bytes-most;
+    relocations = omega (arith, relocs-most, numbers-length (relocsIn (partsTo x (countIn x))));
+    sites = sites-few-in;
+  }
 
   module _ (k : ℕ) (h : k < countIn x) where
     fits : FunctionFits s (x .machine) (functionIn x k)
@@ -135,4 +200,10 @@ cleared s g ok asked told = record {
   each-one = λ k h. sure-at s g (is-accepted g (omega arith) s asked told) k h;
   listed = listed (g .functions) (g .rows) (g .landings) (g .pairs) ok (count functionStride (g .functions)) (omega arith);
   few = functions-few (g .functions) (g .rows) (g .landings) (g .pairs) ok;
+  sums = record {
+    functions = functions-few (g .functions) (g .rows) (g .landings) (g .pairs) ok;
+    rows = rows-few-in (g .functions) (g .rows) (g .landings) (g .pairs) ok;
+    landings = landings-few-in (g .functions) (g .rows) (g .landings) (g .pairs) ok;
+  };
+  covered = either (count functionStride (g .functions)) 0 (λ z. none-covered (inputsOf s g) (omega arith)) (λ p. all-covered s g (is-accepted g p s asked told));
 }

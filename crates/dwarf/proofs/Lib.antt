@@ -3,6 +3,8 @@ pub mod Fronts
 pub mod Widths
 pub mod Bodies
 pub mod Rows
+pub mod Lines
+pub mod AtMost
 pub mod Encodings
 pub mod Asking
 pub mod Passed

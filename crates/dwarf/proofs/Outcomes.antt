@@ -5,6 +5,7 @@ use native.Mathlib.Omega.{arith}
 use mathlib.Core.Bool.{true, false}
 use mathlib.Core.Option.{none, some}
 use mathlib.Core.List.{List, [], map}
+use borrow.Author.Tests.{le-leb}
 use lib.Dec.{leb→le}
 use lib.ListN.{length}
 use Rattle.format.specs.Prelude.{pick, each}
@@ -26,7 +27,7 @@ use Rattle.format.proofs.ListLaws.{numbers-length}
 use Rattle.dwarf.specs.declared.Table.{Table}
 use Rattle.dwarf.specs.Asks.{askedIn}
 use Rattle.dwarf.specs.Parts.{Inputs, countIn, extentIn, functionIn, placesIn, bytesIn, relocsIn, sitesIn, writtenIn, partsTo}
-use Rattle.dwarf.specs.Tables.{totalsIn, roomFor, Written, Holds}
+use Rattle.dwarf.specs.Tables.{totalsIn, roomFor, Covers, Written, Holds}
 use Rattle.dwarf.proofs.Asking.{said-yes}
 use Rattle.dwarf.proofs.Cleared.{inputsOf}
 use Rattle.dwarf.proofs.Bodies.{encodings-any}
@@ -63,46 +64,63 @@ module _ (x : Inputs) {t : Table} (e : t ≡ totalsIn (partsTo x (countIn x))) (
     unfolding fitting
     refuses {i} {j} n = rw (no-decides _ (accepted (writtenIn (partsTo x (countIn x)))) (sym (ap questionOf room-is) ∙ (sym k ∙ n))) (unchanged i j places bytes relocs sites)
 
-    module _ (y : q ≡ Yes) where
-      fits : roomFor (countIn x) t (length places) lent ≡ none
-      fits = said-yes _ (sym k ∙ y)
+-- a yes to t is room for what t covers
+module _ (x : Inputs) {t : Table} (places bytes relocs sites : List ℕ) {q : declared.Question}
+    (k : q ≡ questionOf (roomFor (countIn x) t (length places) (record { bytes = length bytes; relocations = length relocs; sites = length sites }))) where
+  pub room-for : q ≡ Yes → Covers x t → Holds x (countIn x) places bytes relocs sites
+  unfolding roomFor
+  room-for y v =
+      let a = both _ _ (said-yes _ (sym k ∙ y)) in
+      let b = both _ _ (a .1) in
+      let c = both _ _ (b .1) in
+      record {
+        places-fit = leb→le (countIn x) (length places) (asked _ _ _ (a .0));
+        bytes-fit = omega (arith, v .bytes, leb→le (t .bytes) (length bytes) (asked _ _ _ (b .0)));
+        relocs-fit = omega (arith, v .relocations, leb→le (t .relocations) (length relocs) (asked _ _ _ (c .0)));
+        sites-fit = omega (arith, v .sites, leb→le (t .sites) (length sites) (asked _ _ _ (c .1)));
+      }
 
-      accepts : answer ≡ accepted (writtenIn (partsTo x (countIn x)))
-      unfolding fitting unless
-      accepts = rw (sym room-is ∙ fits)
+-- the sizes cover themselves
+pub sizes-cover : (x : Inputs) {t : Table} → t ≡ totalsIn (partsTo x (countIn x)) → Covers x t
+unfolding totalsIn
+sizes-cover x e = rw e (record { bytes = omega arith; relocations = omega arith; sites = omega arith })
 
-      pub room-for-all : Holds x (countIn x) places bytes relocs sites
-      unfolding roomFor totalsIn
-      room-for-all =
-          let a = both _ _ fits in
-          let b = both _ _ (a .1) in
-          let c = both _ _ (b .1) in
-          record {
-            places-fit = leb→le (countIn x) (length places) (asked _ _ _ (a .0));
-            bytes-fit = rw e at (leb→le (t .bytes) (length bytes) (asked _ _ _ (b .0)));
-            relocs-fit = rw e at (leb→le (t .relocations) (length relocs) (asked _ _ _ (c .0)));
-            sites-fit = rw e at (leb→le (t .sites) (length sites) (asked _ _ _ (c .1)));
-          }
+-- ---- acceptance
 
-      abbrev counts : Counts
-      counts = record { places = countIn x; bytes = t .bytes; relocations = t .relocations / 5; sites = t .sites }
+module _ (x : Inputs) (places bytes relocs sites : List ℕ) (h : Holds x (countIn x) places bytes relocs sites) where
+  fits : roomFor (countIn x) (totalsIn (partsTo x (countIn x))) (length places) (lent x refl places bytes relocs sites) ≡ none
+  unfolding roomFor totalsIn ask andThen pick
+  fits =
+      simp (
+        le-leb (countIn x) (length places) (h .places-fit),
+        le-leb (length (bytesIn (partsTo x (countIn x)))) (length bytes) (h .bytes-fit),
+        le-leb (length (numbersOf (relocsIn (partsTo x (countIn x))))) (length relocs) (h .relocs-fit),
+        le-leb (length (sitesIn (partsTo x (countIn x)))) (length sites) (h .sites-fit),
+      )
 
-      pub delivers : {u : Table} {places′ bytes′ relocs′ sites′ : List ℕ} → Written x (countIn x) u places places′ bytes bytes′ relocs relocs′ sites sites′
-          → Writes answer (outcome.Accepted counts) places places′ bytes bytes′ relocs relocs′ sites sites′
-      unfolding outcomeOf afterwards relocationNumbers writtenIn totalsIn
-      delivers w =
-          let n : countIn x ≡ length (placesIn (partsTo x (countIn x))) = sym (places-length x (countIn x)) in
-          let b : t .bytes ≡ length (bytesIn (partsTo x (countIn x))) = ap (λ (v : Table). v .bytes) e in
-          let i : t .relocations ≡ length (numbersOf (relocsIn (partsTo x (countIn x)))) = ap (λ (v : Table). v .relocations) e in
-          let r : t .relocations / 5 ≡ length (relocsIn (partsTo x (countIn x))) = omega (arith, numbers-length (relocsIn (partsTo x (countIn x)))) in
-          let s : t .sites ≡ length (sitesIn (partsTo x (countIn x))) = ap (λ (v : Table). v .sites) e in
-          rw accepts (record {
-            outcome = cc;
-            placed = w .places-stored .stored;
-            stored = w .bytes-stored .stored;
-            related = w .relocs-stored .stored;
-            sited = w .sites-stored .stored;
-          })
+  accepts : answer x refl places bytes relocs sites ≡ accepted (writtenIn (partsTo x (countIn x)))
+  unfolding fitting unless
+  accepts = rw (sym (room-is x refl places bytes relocs sites) ∙ fits)
+
+  module _ {u : Table} {places′ bytes′ relocs′ sites′ : List ℕ} (w : Written x (countIn x) u places places′ bytes bytes′ relocs relocs′ sites sites′) where
+    abbrev counts : Counts
+    counts = record { places = countIn x; bytes = u .bytes; relocations = u .relocations / 5; sites = u .sites }
+
+    pub delivers : Writes (answer x refl places bytes relocs sites) (outcome.Accepted counts) places places′ bytes bytes′ relocs relocs′ sites sites′
+    unfolding outcomeOf afterwards relocationNumbers writtenIn
+    delivers =
+        let n : countIn x ≡ length (placesIn (partsTo x (countIn x))) = sym (places-length x (countIn x)) in
+        let b : u .bytes ≡ length (bytesIn (partsTo x (countIn x))) = omega (arith, w .bytes-stored .past) in
+        let r : u .relocations / 5 ≡ length (relocsIn (partsTo x (countIn x))) =
+        omega (arith, w .relocs-stored .past, numbers-length (relocsIn (partsTo x (countIn x)))) in
+        let s : u .sites ≡ length (sitesIn (partsTo x (countIn x))) = omega (arith, w .sites-stored .past) in
+        rw accepts (record {
+          outcome = cc;
+          placed = w .places-stored .stored;
+          stored = w .bytes-stored .stored;
+          related = w .relocs-stored .stored;
+          sited = w .sites-stored .stored;
+        })
 
 -- ---- the questions in front of them
 

@@ -183,6 +183,9 @@ module _ (fs rows landings pairs : List ℕ) where
     pub functions-few : count functionStride fs ≤ mostFunctions
     functions-few = all-listed t .functions-at-most
 
+    pub rows-few-in : sumOf (λ k. field functionStride fs k 3) 0 (count functionStride fs) ≤ mostRecords
+    rows-few-in = all-listed t .rows-few
+
     pub landings-few-in : sumOf (λ k. field functionStride fs k 5) 0 (count functionStride fs) ≤ mostRecords
     landings-few-in = all-listed t .landings-few
 

@@ -29,7 +29,7 @@ use Rattle.dwarf.specs.Pieces.{frontIn, frontRelocs, relocNumbers, partI
 use Rattle.headers.specs.Kinds.{headerRelocCount}
 use Rattle.headers.proofs.Personalities.{header-relocs-count}
 use Rattle.format.proofs.ListLaws.{each-length}
-use Rattle.dwarf.proofs.Bounds.{header-few, record-few}
+use Rattle.dwarf.proofs.Bounds.{header-few, record-few, labelled-low}
 use Rattle.dwarf.specs.Tables.{totalsIn, grownBy, SizeReady}
 use Rattle.dwarf.proofs.Fronts.{bytes-next, relocs-next, sites-next}
 use Rattle.dwarf.proofs.Owners.{owner-bound}
@@ -107,7 +107,7 @@ sized-next x k t e =
 module _ (debug : Bool) (m : Machine) (e : Extent) (rows pairs : List ℕ) {n : ℕ} (q : n ≡ length (recordRelocs debug m 0 0 0 (meant e rows [] pairs))) where
   pub relocs-few : Sound m e rows → n ≤ 2097156
   unfolding meant
-  relocs-few s = omega (arith, s .few, record-few debug m 0 0 0 (meant e rows [] pairs), each-length (rowAt rows) (e .«rows_at») (e .rows))
+  relocs-few s = omega (arith, s .few, record-few debug m 0 0 0 (meant e rows [] pairs), labelled-low (meant e rows [] pairs .relaxed) (length (meant e rows [] pairs .rows)), each-length (rowAt rows) (e .«rows_at») (e .rows))
 
   module _ {own : Bool} where
     pub own-numbers : {h : ℕ} → own ≡ true → h ≡ headerRelocCount debug e → 5 * (h + n) ≡ relocNumbers own debug m e rows pairs

@@ -8,7 +8,7 @@ use Rattle.format.specs.Lists.{numbersOf, mostFunctions}
 use Rattle.leading.specs.Functions.{Sound, LandingsReady, PairsReady, Listed}
 use Rattle.headers.specs.Kinds.{EncodingFits}
 use Rattle.dwarf.specs.declared.Table.{Table}
-use Rattle.dwarf.specs.Tables.{totalsIn, Holds}
+use Rattle.dwarf.specs.Tables.{totalsIn, mostIn, Few, Covers, Holds}
 use Rattle.dwarf.specs.Parts.{Inputs, countIn, extentIn, placesIn, bytesIn, relocsIn, sitesIn, partsTo}
 
 -- function k can be written, and what stands behind it is small
@@ -26,6 +26,8 @@ pub record Cleared (x : Inputs) : Type 0 where
   pub each-one : (k : ℕ) → k < countIn x → Sure x k
   pub listed : Listed (x .functions) (x .rows) (countIn x)
   pub few : countIn x ≤ mostFunctions
+  pub sums : Few (x .functions)
+  pub covered : Covers x (mostIn (x .functions))
 
 -- function k of n comes next, behind t
 pub record Next (x : Inputs) (k n : ℕ) (t : Table) : Type 0 where

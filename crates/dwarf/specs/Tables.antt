@@ -1,13 +1,13 @@
 -- How much stands in the lent lists behind a pass, whether there is room, and what a function adds to them.
 use mathlib.Core.Path.{_≡_}
-use Prim.Native.Nat.{ℕ, _+_, _^_, _≤_, _<_}
+use Prim.Native.Nat.{ℕ, _+_, _*_, _^_, _≤_, _<_}
 use mathlib.Core.Bool.{Bool, true, false}
 use mathlib.Core.List.{List, [], _∷_}
 use lib.ListN.{length, getD}
 use lib.Dec.{leb, eqb}
 use Rattle.format.specs.Prelude.{pick}
 use Rattle.format.proofs.Wrote.{Wrote}
-use Rattle.format.specs.Lists.{numbersOf}
+use Rattle.format.specs.Lists.{numbersOf, field, functionStride, count, mark, sumOf, mostFunctions, mostRecords}
 use Rattle.format.specs.declared.Machine.{Machine}
 use Rattle.format.specs.Writer.{Part}
 use Rattle.format.proofs.SectionSize.{Aligned}
@@ -18,7 +18,7 @@ use Rattle.format.specs.Questions.{Question, ask, andThen}
 use Rattle.dwarf.specs.declared.Table.{Table}
 use Rattle.dwarf.specs.declared.Chosen.{Chosen}
 use Rattle.dwarf.specs.Pieces.{frontIn, frontRelocs, partIn}
-use Rattle.dwarf.specs.Parts.{Inputs, placesIn, bytesIn, relocsIn, sitesIn, partBehind, partsTo}
+use Rattle.dwarf.specs.Parts.{Inputs, countIn, placesIn, bytesIn, relocsIn, sitesIn, partBehind, partsTo}
 
 -- ---- sizes
 
@@ -59,6 +59,40 @@ roomFor n t places lent =
     andThen (ask (leb n places) 51 0)
     (andThen (ask (leb (t .bytes) (lent .bytes)) 52 0)
     (andThen (ask (leb (t .relocations) (lent .relocations)) 53 0) (ask (leb (t .sites) (lent .sites)) 54 0)))
+
+-- ---- what a list of functions can be at most
+
+-- the rows of function k, where it has relaxing labels
+unfoldable pub labelledRows : (fs : List ℕ) → ℕ → ℕ
+labelledRows fs k = pick (mark (field functionStride fs k 14)) (field functionStride fs k 3) 0
+
+-- number j of all functions, summed; and their labelled rows
+abbrev pub totalOf : (fs : List ℕ) → (j : ℕ) → ℕ
+totalOf fs j = sumOf (λ k. field functionStride fs k j) 0 (count functionStride fs)
+
+abbrev pub labelledTotal : (fs : List ℕ) → ℕ
+labelledTotal fs = sumOf (labelledRows fs) 0 (count functionStride fs)
+
+-- 96 bytes and 14 for each row (SectionSize), 5 relocations and 2 for each row with labels, 17 bytes of call sites and 40 for each landing
+unfoldable pub mostIn : (fs : List ℕ) → Table
+mostIn fs =
+    record {
+      bytes = 96 * count functionStride fs + 14 * totalOf fs 3;
+      relocations = 25 * count functionStride fs + 10 * labelledTotal fs;
+      sites = 17 * count functionStride fs + 40 * totalOf fs 5;
+    }
+
+-- as question 13 has it
+pub record Few (fs : List ℕ) : Type 0 where
+  pub functions : count functionStride fs ≤ mostFunctions
+  pub rows : totalOf fs 3 ≤ mostRecords
+  pub landings : totalOf fs 5 ≤ mostRecords
+
+-- t is at least what stands behind all functions
+pub record Covers (x : Inputs) (t : Table) : Type 0 where
+  pub bytes : length (bytesIn (partsTo x (countIn x))) ≤ t .bytes
+  pub relocations : length (numbersOf (relocsIn (partsTo x (countIn x)))) ≤ t .relocations
+  pub sites : length (sitesIn (partsTo x (countIn x))) ≤ t .sites
 
 -- ---- stores
 

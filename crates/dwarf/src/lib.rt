@@ -8,7 +8,7 @@ ghost use lib.ListN.{length, getD};
 ghost use Rattle.format.specs.Prelude.{all, each};
 ghost use Rattle.format.specs.Machine.{isWord};
 ghost use Rattle.format.specs.Rows.{rowWhole};
-ghost use Rattle.format.specs.Lists.{field, pairStride, functionStride, count, rowAt, pairAt};
+ghost use Rattle.format.specs.Lists.{field, pairStride, functionStride, count, sumOf, mostRecords, rowAt, pairAt};
 ghost use Rattle.format.specs.Questions.{sizeBytes, encodingsOk, stepsOk, pairsOk, dwarfAsks, perFunction, fitting, dwarfGiven, givenOf, roomIn};
 ghost use Rattle.format.specs.Writer.{isDebug, alignFor};
 ghost use Rattle.format.specs.Answers.{Writes};
@@ -19,7 +19,7 @@ ghost use Rattle.leading.specs.Functions.{bodyOf, Sound, RowsReady, PairsReady}
 ghost use Rattle.dwarf.specs.Asks.{Askable, AllAskable, askedIn};
 ghost use Rattle.dwarf.specs.Parts.{inputs, writtenIn, partsTo};
 ghost use Rattle.dwarf.specs.Sure.{Cleared, Next, PartReady};
-ghost use Rattle.dwarf.specs.Tables.{totalsIn, grownBy, SizeReady, roomFor, FrontReady, FrontStored, PieceReady, Stored, Added, Written, Holds, chosenBy};
+ghost use Rattle.dwarf.specs.Tables.{totalsIn, grownBy, SizeReady, labelledRows, mostIn, Few, roomFor, FrontReady, FrontStored, PieceReady, Stored, Added, Written, Holds, chosenBy};
 ghost use Rattle.search.specs.Chains.{Owned};
 ghost use Rattle.dwarf.specs.Pieces.{frontIn, relocNumbers, partIn};
 use format::Counts;
@@ -47,6 +47,7 @@ use records::record_relocs_count;
 use records::record_size;
 use rows::offset_at;
 use rows::row_at;
+use rows::row_surely_whole;
 use rows::row_whole;
 use search::wide;
 
@@ -135,6 +136,52 @@ fn rows_whole(word: u64, rows: &[u64], at: usize, n: usize) -> bool
     true
 }
 
+// Questions 23 and 24 in one pass, asked for more. A no says nothing.
+fn lines_fine(word: u64, rows: &[u64], at: usize, n: usize) -> bool
+    requires { ⌜ T (isWord word) × RowsReady (now rows) at n ⌝ }
+    ensures { λ r. ⌜ (r ≡ true → (stepsOk 0 (each (rowAt (now (rows .entry))) at n) ≡ true) × (all (λ x. rowWhole word (x .1)) (each (rowAt (now (rows .entry))) at n) ≡ true)) ⌝ }
+{
+    let end = at + n;
+    let mut from = 0;
+    let mut i = at;
+    while i < end {
+        let to = offset_at(rows, i);
+        if to < from {
+            return false;
+        }
+        if 4294967296 <= to - from {
+            return false;
+        }
+        if !row_surely_whole(word, rows, i) {
+            return false;
+        }
+        from = to;
+        i += 1;
+    }
+    true
+}
+
+// Question 23, asked where it is not known that all is fine; and question 24.
+fn steps_asked(fine: bool, rows: &[u64], at: usize, n: usize) -> bool
+    requires { ⌜ RowsReady (now rows) at n × (fine ≡ true → stepsOk 0 (each (rowAt (now rows)) at n) ≡ true) ⌝ }
+    ensures { λ r. ⌜ r ≡ stepsOk 0 (each (rowAt (now (rows .entry))) at n) ⌝ }
+{
+    if fine {
+        return true;
+    }
+    steps_ok(rows, at, n)
+}
+
+fn whole_asked(fine: bool, word: u64, rows: &[u64], at: usize, n: usize) -> bool
+    requires { ⌜ (0 < word) × RowsReady (now rows) at n × (fine ≡ true → all (λ x. rowWhole word (x .1)) (each (rowAt (now rows)) at n) ≡ true) ⌝ }
+    ensures { λ r. ⌜ r ≡ all (λ x. rowWhole word (x .1)) (each (rowAt (now (rows .entry))) at n) ⌝ }
+{
+    if fine {
+        return true;
+    }
+    rows_whole(word, rows, at, n)
+}
+
 // The two places of pair i are different.
 fn pair_differs(pairs: &[u64], i: usize) -> bool
     requires { ⌜ 4 * i + 4 ≤ length (now pairs) ⌝ }
@@ -181,10 +228,11 @@ fn dwarf_asks(s: Section, word: u64, k: usize, e: Extent, rows: &[u64], pairs: &
     if !encodings_ok(word, e) {
         return Question::No(22, k as u64);
     }
-    if !steps_ok(rows, e.rows_at, e.rows) {
+    let fine = lines_fine(word, rows, e.rows_at, e.rows);
+    if !steps_asked(fine, rows, e.rows_at, e.rows) {
         return Question::No(23, k as u64);
     }
-    if !rows_whole(word, rows, e.rows_at, e.rows) {
+    if !whole_asked(fine, word, rows, e.rows_at, e.rows) {
         return Question::No(24, k as u64);
     }
     if !pairs_ok(e, pairs) {
@@ -356,6 +404,60 @@ fn sizes(
         k += 1;
     }
     t
+}
+
+// ---- what the functions can be at most
+
+// Number j of n functions, summed.
+fn total(fs: &[u64], j: usize, n: usize) -> u64
+    requires { ⌜ (j < 18) × (18 * n ≤ length (now fs)) × (sumOf (λ k. field functionStride (now fs) k j) 0 n ≤ mostRecords) ⌝ }
+    ensures { λ r. ⌜ r ≡ sumOf (λ k. field functionStride (now (fs .entry)) k j) 0 n ⌝ }
+{
+    let mut sum = 0;
+    let mut k = 0;
+    while k < n {
+        sum += fs[18 * k + j];
+        k += 1;
+    }
+    sum
+}
+
+// The rows of function k, where it has relaxing labels.
+fn labelled_rows(fs: &[u64], k: usize) -> u64
+    requires { ⌜ 18 * k + 18 ≤ length (now fs) ⌝ }
+    ensures { λ r. ⌜ r ≡ labelledRows (now (fs .entry)) k ⌝ }
+{
+    if fs[18 * k + 14] == 0 {
+        return 0;
+    }
+    fs[18 * k + 3]
+}
+
+// Those of n functions, summed.
+fn labelled_total(fs: &[u64], n: usize) -> u64
+    requires { ⌜ (18 * n ≤ length (now fs)) × (sumOf (labelledRows (now fs)) 0 n ≤ mostRecords) ⌝ }
+    ensures { λ r. ⌜ r ≡ sumOf (labelledRows (now (fs .entry))) 0 n ⌝ }
+{
+    let mut sum = 0;
+    let mut k = 0;
+    while k < n {
+        sum += labelled_rows(fs, k);
+        k += 1;
+    }
+    sum
+}
+
+// What stands behind all functions, at most.
+fn most(fs: &[u64]) -> Table
+    requires { ⌜ Few (now fs) ⌝ }
+    ensures { λ r. ⌜ r ≡ mostIn (now (fs .entry)) ⌝ }
+{
+    let n = fs.len() / 18;
+    Table {
+        bytes: 96 * n + 14 * total(fs, 3, n) as usize,
+        relocations: 25 * n + 10 * labelled_total(fs, n) as usize,
+        sites: 17 * n + 40 * total(fs, 5, n) as usize,
+    }
 }
 
 // Questions 51 to 54: n header places and t fit the lists that are lent, of `places` elements and as many as `lent` says.
@@ -546,8 +648,47 @@ fn store(
 
 // ---- the whole
 
-// The functions, whose owners are known, sized and, where there is room, written.
-fn fitted(
+// The functions written into lists that have room for them.
+fn stored(
+    s: Section,
+    m: Machine,
+    fs: &[u64],
+    rows: &[u64],
+    landings: &[u64],
+    pairs: &[u64],
+    owners: &[u16],
+    places: &mut [u64],
+    out: &mut [u8],
+    relocs: &mut [u64],
+    sites: &mut [u8],
+) -> Outcome
+    requires { ⌜ Cleared (inputs s m (now fs) (now rows) (now landings) (now pairs)) × Holds (inputs s m (now fs) (now rows) (now landings) (now pairs)) (count functionStride (now fs)) (now places) (now out) (now relocs) (now sites) × Owned s m (now fs) (now rows) (count functionStride (now fs)) (now owners) ⌝ }
+    ensures { λ r. ⌜ Writes (fitting (roomIn (now (places .entry)) (now (out .entry)) (now (relocs .entry)) (now (sites .entry))) (writtenIn (partsTo (inputs s m (now (fs .entry)) (now (rows .entry)) (now (landings .entry)) (now (pairs .entry))) (count functionStride (now (fs .entry)))))) r (now (places .entry)) (now (places .exit)) (now (out .entry)) (now (out .exit)) (now (relocs .entry)) (now (relocs .exit)) (now (sites .entry)) (now (sites .exit)) ⌝ }
+{
+    let n = fs.len() / 18;
+    let t = store(
+        s,
+        m,
+        fs,
+        rows,
+        landings,
+        pairs,
+        owners,
+        places,
+        out,
+        relocs,
+        sites,
+    );
+    Outcome::Accepted(Counts {
+        places: n as u64,
+        bytes: t.bytes as u64,
+        relocations: (t.relocations / 5) as u64,
+        sites: t.sites as u64,
+    })
+}
+
+// The functions sized and, where there is room, written.
+fn measured(
     s: Section,
     m: Machine,
     fs: &[u64],
@@ -574,7 +715,7 @@ fn fitted(
     if let Question::No(number, position) = q {
         return Outcome::Refused(number, position);
     }
-    store(
+    stored(
         s,
         m,
         fs,
@@ -586,13 +727,62 @@ fn fitted(
         out,
         relocs,
         sites,
-    );
-    Outcome::Accepted(Counts {
-        places: n as u64,
-        bytes: t.bytes as u64,
-        relocations: (t.relocations / 5) as u64,
-        sites: t.sites as u64,
-    })
+    )
+}
+
+// The functions, whose owners are known, written where there is room. Lists that hold all that functions like these can be
+// save the pass that sizes them.
+fn fitted(
+    s: Section,
+    m: Machine,
+    fs: &[u64],
+    rows: &[u64],
+    landings: &[u64],
+    pairs: &[u64],
+    owners: &[u16],
+    places: &mut [u64],
+    out: &mut [u8],
+    relocs: &mut [u64],
+    sites: &mut [u8],
+) -> Outcome
+    requires { ⌜ Cleared (inputs s m (now fs) (now rows) (now landings) (now pairs)) × Owned s m (now fs) (now rows) (count functionStride (now fs)) (now owners) ⌝ }
+    ensures { λ r. ⌜ Writes (fitting (roomIn (now (places .entry)) (now (out .entry)) (now (relocs .entry)) (now (sites .entry))) (writtenIn (partsTo (inputs s m (now (fs .entry)) (now (rows .entry)) (now (landings .entry)) (now (pairs .entry))) (count functionStride (now (fs .entry)))))) r (now (places .entry)) (now (places .exit)) (now (out .entry)) (now (out .exit)) (now (relocs .entry)) (now (relocs .exit)) (now (sites .entry)) (now (sites .exit)) ⌝ }
+{
+    let n = fs.len() / 18;
+    let lent = Table {
+        bytes: out.len(),
+        relocations: relocs.len(),
+        sites: sites.len(),
+    };
+    let q = room(n, most(fs), places.len(), lent);
+    if let Question::No(_, _) = q {
+        return measured(
+            s,
+            m,
+            fs,
+            rows,
+            landings,
+            pairs,
+            owners,
+            places,
+            out,
+            relocs,
+            sites,
+        );
+    }
+    stored(
+        s,
+        m,
+        fs,
+        rows,
+        landings,
+        pairs,
+        owners,
+        places,
+        out,
+        relocs,
+        sites,
+    )
 }
 
 // 64 functions at most.

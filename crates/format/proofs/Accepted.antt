@@ -209,7 +209,7 @@ module _ (fs rows landings pairs : List ℕ) where
       (function-fits s m at at (listed at (h .0)) (d .0), all-fit s m (suc at) n (h .1) (d .1))
 
   -- the rows of the functions, as their list counts them
-  rows-at-counted : (s : Section) (at n : ℕ)
+  pub rows-at-counted : (s : Section) (at n : ℕ)
       → rowCount (map (taken s) (each (functionAt fs rows landings pairs) at n)) ≡ sumOf (λ k. field functionStride fs k 3) at n
   unfolding each rowCount sumOf functionAt
   rows-at-counted s at zero = refl

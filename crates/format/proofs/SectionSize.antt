@@ -87,7 +87,7 @@ module _ (s : Section) (m : Machine) (fit : MachineFits m) where
 
   -- ---- all functions
 
-  parts-short : (at sites : ℕ) (seen : List Seen) (fs : List Function) → AllFit s m fs
+  pub parts-short : (at sites : ℕ) (seen : List Seen) (fs : List Function) → AllFit s m fs
       → length (bytesOf s m at sites seen fs) ≤ 96 * length fs + 14 * rowCount fs
   unfolding rowCount
   parts-short at sites seen [] ok = rw (bytes-none s m at sites seen) (omega arith)

@@ -154,11 +154,11 @@ pub fn fill(out: &mut [u8], at: usize, n: usize) -> usize
     at + n
 }
 
-// How many bytes uleb writes.
+// How many bytes uleb writes: mostly one.
 pub fn uleb_size(v: u64) -> usize
     ensures { λ r. ⌜ r ≡ length (uleb v) ⌝ }
 {
-    if v == 0 {
+    if v < 128 {
         1
     } else {
         (70 - u64::leading_zeros(v) as usize) / 7

@@ -115,15 +115,14 @@ fn stepped_row(out: &mut [u8], at: usize, word: u64, from: u64, rows: &[u64], i:
     ensures { λ r. ⌜ Wrote (now (out .entry)) (now (out .exit)) at r (steppedRowBytes word from (rowAt (now (rows .entry)) i)) ⌝ }
 {
     let a = rows::advance(out, at, rows::offset_at(rows, i) - from);
-    rows::row(out, a, word, rows::row_at(rows, i))
+    rows::row_in(out, a, word, rows, i)
 }
 
 fn stepped_row_size(word: u64, from: u64, rows: &[u64], i: usize) -> usize
     requires { ⌜ SteppedRowReady word from (now rows) i ⌝ }
     ensures { λ r. ⌜ (r ≡ length (steppedRowBytes word from (rowAt (now (rows .entry)) i))) × (r ≤ 14) ⌝ }
 {
-    rows::advance_size(rows::offset_at(rows, i) - from)
-        + rows::row_size(word, rows::row_at(rows, i))
+    rows::advance_size(rows::offset_at(rows, i) - from) + rows::row_in_size(word, rows, i)
 }
 
 // n rows from `first` on, with the steps between them.

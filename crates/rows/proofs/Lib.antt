@@ -5,4 +5,6 @@ pub mod Factors
 pub mod Bytes
 pub mod Steps
 pub mod Products
+pub mod Numbers
+pub mod WholeNumbers
 pub mod Operations

@@ -1,12 +1,14 @@
 // A row out of the lists, written, sized, and read back as an operation. Ported from rucc-asm/src/unwind.rs (row, saved, advance) of tamnd/rucc, changed: see NOTICE.
 ghost use mathlib.Core.Path.{_≡_};
 ghost use mathlib.Core.List.{[], _∷_, _++_};
-ghost use Prim.Native.Nat.{_+_, _*_, _^_, _≤_, _<_};
+ghost use mathlib.Core.Bool.{true};
+ghost use Prim.Native.Nat.{_+_, _*_, _%_, _^_, _≤_, _<_};
 ghost use lib.ListN.{length};
-ghost use lib.Dec.{T};
+ghost use lib.Dec.{T, eqb};
 ghost use lib.IntN.{pos, natAbs};
 ghost use mir.Syntax.{w32};
 ghost use mir.Val.{toZ};
+ghost use Rattle.format.specs.Machine.{isWord};
 ghost use Rattle.format.specs.Lists.{rowStride, field, hasRegister, secondOperands, rowOf, rowOk, rowAt, rowOkAt};
 ghost use Rattle.format.proofs.Wrote.{Wrote};
 ghost use Rattle.format.specs.Leb.{uleb};
@@ -177,6 +179,42 @@ pub fn row_whole(word: u64, r: Row) -> bool
         Row::SameValue(_) => true,
         Row::InRegister(_, _) => true,
     }
+}
+
+// A multiple of the word, without a division by a variable.
+fn in_words(word: u64, off: u64) -> bool
+    requires { ⌜ T (isWord word) ⌝ }
+    ensures { λ r. ⌜ r ≡ eqb (off % word) 0 ⌝ }
+{
+    if word == 8 {
+        return off % 8 == 0;
+    }
+    if word == 4 {
+        return off % 4 == 0;
+    }
+    off % 2 == 0
+}
+
+// Question 24 of a row's numbers, asked for more: a multiple of the word, or a small offset that is not factored. A no says nothing.
+fn numbers_whole(word: u64, kind: u64, reg: u64, off: u64) -> bool
+    requires { ⌜ T (isWord word) × T (rowOk kind reg off) ⌝ }
+    ensures { λ r. ⌜ (r ≡ true → rowWhole word (rowOf kind reg off) ≡ true) ⌝ }
+{
+    if in_words(word, off) {
+        return true;
+    }
+    if kind == 3 {
+        return false;
+    }
+    off < 2147483648
+}
+
+// The same of row i.
+pub fn row_surely_whole(word: u64, rows: &[u64], i: usize) -> bool
+    requires { ⌜ T (isWord word) × (4 * i + 4 ≤ length (now rows)) × T (rowOkAt (now rows) i) ⌝ }
+    ensures { λ r. ⌜ (r ≡ true → rowWhole word (rowAt (now (rows .entry)) i .1) ≡ true) ⌝ }
+{
+    numbers_whole(word, rows[4 * i + 1], rows[4 * i + 2], rows[4 * i + 3])
 }
 
 // A row's kind, register (or 0) and second operand (or 0).
@@ -406,6 +444,72 @@ pub fn row_size(word: u64, r: Row) -> usize
             + leb::uleb_size(reg as u64)
             + leb::uleb_size(other as u64),
     }
+}
+
+// The operation of a row that its numbers say, without the row between.
+fn operation_of(out: &mut [u8], at: usize, word: u64, kind: u64, reg: u64, off: u64) -> usize
+    requires { ⌜ (2 ≤ word) × (word ≤ 8) × T (rowOk kind reg off) × (at + length (rowBytes word (rowOf kind reg off)) ≤ length (now out)) ⌝ }
+    ensures { λ n. ⌜ Wrote (now (out .entry)) (now (out .exit)) at n (rowBytes word (rowOf kind reg off)) ⌝ }
+{
+    let g = reg as u16;
+    let z = signed32(off);
+    match kind {
+        0 => def_cfa(out, at, word, g, z),
+        1 => def_cfa_offset(out, at, word, z),
+        2 => named(out, at, 0x0d, g),
+        3 => saved(out, at, g, factored(word, z)),
+        4 => opcode(out, at, 0xc0, 0x06, g),
+        5 => named(out, at, 0x07, g),
+        6 => leb::byte(out, at, 0x0a),
+        7 => leb::byte(out, at, 0x0b),
+        9 => named(out, at, 0x08, g),
+        10 => in_register(out, at, g, off as u16),
+        _ => leb::byte(out, at, 0x2d),
+    }
+}
+
+// The operation of row i.
+pub fn row_in(out: &mut [u8], at: usize, word: u64, rows: &[u64], i: usize) -> usize
+    requires { ⌜ (2 ≤ word) × (word ≤ 8) × (4 * i + 4 ≤ length (now rows)) × T (rowOkAt (now rows) i) × (at + length (rowBytes word (rowAt (now rows) i .1)) ≤ length (now out)) ⌝ }
+    ensures { λ n. ⌜ Wrote (now (out .entry)) (now (out .exit)) at n (rowBytes word (rowAt (now (rows .entry)) i .1)) ⌝ }
+{
+    operation_of(
+        out,
+        at,
+        word,
+        rows[4 * i + 1],
+        rows[4 * i + 2],
+        rows[4 * i + 3],
+    )
+}
+
+// The size of the operation of a row that its numbers say.
+fn operation_size(word: u64, kind: u64, reg: u64, off: u64) -> usize
+    requires { ⌜ (2 ≤ word) × (word ≤ 8) × T (rowOk kind reg off) ⌝ }
+    ensures { λ n. ⌜ n ≡ length (rowBytes word (rowOf kind reg off)) ⌝ }
+{
+    let z = signed32(off);
+    match kind {
+        0 => 1 + leb::uleb_size(reg) + frame_offset_size(word, z),
+        1 => 1 + frame_offset_size(word, z),
+        2 => 1 + leb::uleb_size(reg),
+        3 => saved_size(reg as u16, factored(word, z)),
+        4 => opcode_size(reg as u16),
+        5 => 1 + leb::uleb_size(reg),
+        6 => 1,
+        7 => 1,
+        9 => 1 + leb::uleb_size(reg),
+        10 => 1 + leb::uleb_size(reg) + leb::uleb_size(off),
+        _ => 1,
+    }
+}
+
+// That of row i.
+pub fn row_in_size(word: u64, rows: &[u64], i: usize) -> usize
+    requires { ⌜ (2 ≤ word) × (word ≤ 8) × (4 * i + 4 ≤ length (now rows)) × T (rowOkAt (now rows) i) ⌝ }
+    ensures { λ n. ⌜ n ≡ length (rowBytes word (rowAt (now (rows .entry)) i .1)) ⌝ }
+{
+    operation_size(word, rows[4 * i + 1], rows[4 * i + 2], rows[4 * i + 3])
 }
 
 // ---- a step written, and its size

@@ -18,6 +18,46 @@ use Rattle.search.proofs.Finding.{owner-low}
 use Rattle.search.proofs.Firsts.{held-here, held-not, not-owner, yes-of, no-of}
 
 module _ {s : Section} {m : Machine} {fs rows : List ℕ} {size k : ℕ} {heads links owners : List ℕ} (c : Claimed s m fs rows size k heads links owners)
+    (g : Enough (k + 1) size links owners) {o : ℕ} (e : o ≡ owner s m fs rows k) where
+  pub owner-fits : o < 65536
+  owner-fits = omega (arith, e, owner-low s m fs rows k, g .few)
+
+  owned-next : Owned s m fs rows (k + 1) (set owners k o)
+  owned-next = record {
+    long = omega (arith, length-set owners k o, g .owners-long);
+    each-one = λ j l.
+        either k j
+        (λ p.
+        let d : k ≡ j = omega arith in
+        rw (← d) (getD-set-same owners k o 0 (omega (arith, g .owners-long)) ∙ e))
+        (λ p. getD-set-other owners k j o 0 (λ d. omega arith) ∙ c .owned .each-one j p);
+  }
+
+  -- a function that has no header of its own is in no chain
+  module _ (n : o ≡ k → ⊥) where
+    heads-stay : (i : ℕ) → i < size → getD heads i 0 ≡ lastHeld s m fs rows size i (k + 1)
+    unfolding lastIn
+    heads-stay i l =
+        c .heads-last i l
+        ∙ rw (add-one k) (sym (pick-no (heldIn s m fs rows size i k) k _ (no-of (not-owner s m fs rows size i k (λ d. n (e ∙ d))))))
+
+    pub inherits : Claimed s m fs rows size (k + 1) heads links (set owners k o)
+    inherits = record {
+      sized = c .sized;
+      heads-last = heads-stay;
+      linked = record {
+        long = omega (arith, g .links-long);
+        each-one = λ j l d.
+            either k j
+            (λ p.
+            let f : j ≡ k = omega arith in
+            absurd (n (e ∙ (rw f at d))))
+            (λ p. c .linked .each-one j p d);
+      };
+      owned = owned-next;
+    }
+
+module _ {s : Section} {m : Machine} {fs rows : List ℕ} {size k : ℕ} {heads links owners : List ℕ} (c : Claimed s m fs rows size k heads links owners)
     (g : Enough (k + 1) size links owners) {h : ℕ} (q : (h ≡ slotAt s m fs rows size k) × (h < size)) where
   abbrev links′ : List ℕ
   links′ = set links k (getD heads h 0)
@@ -28,7 +68,7 @@ module _ {s : Section} {m : Machine} {fs rows : List ℕ} {size k : ℕ} {heads 
   linked-before : Linked s m fs rows size k links′
   linked-before = record {
     long = omega (arith, length-set links k (getD heads h 0), c .linked .long);
-    each-one = λ j l. getD-set-other links k j (getD heads h 0) 0 (λ e. omega arith) ∙ c .linked .each-one j l;
+    each-one = λ j l o. getD-set-other links k j (getD heads h 0) 0 (λ e. omega arith) ∙ c .linked .each-one j l o;
   }
 
   pub chained : {first : ℕ} → first ≡ getD heads h 0 → Chained s m fs rows size k first links′
@@ -41,40 +81,17 @@ module _ {s : Section} {m : Machine} {fs rows : List ℕ} {size k : ℕ} {heads 
   linked-next : Linked s m fs rows size (k + 1) links′
   linked-next = record {
     long = omega (arith, length-set links k (getD heads h 0), g .links-long);
-    each-one = λ j l.
+    each-one = λ j l o.
         either k j
         (λ p.
         let e : k ≡ j = omega arith in
         rw (← e) (getD-set-same links k (getD heads h 0) 0 (omega (arith, g .links-long)) ∙ head-is))
-        (λ p. linked-before .each-one j p);
+        (λ p. linked-before .each-one j p o);
   }
 
   module _ {o : ℕ} (e : o ≡ owner s m fs rows k) where
-    pub owner-fits : o < 65536
-    owner-fits = omega (arith, e, owner-low s m fs rows k, g .few)
-
-    owned-next : Owned s m fs rows (k + 1) (set owners k o)
-    owned-next = record {
-      long = omega (arith, length-set owners k o, g .owners-long);
-      each-one = λ j l.
-          either k j
-          (λ p.
-          let d : k ≡ j = omega arith in
-          rw (← d) (getD-set-same owners k o 0 (omega (arith, g .owners-long)) ∙ e))
-          (λ p. getD-set-other owners k j o 0 (λ d. omega arith) ∙ c .owned .each-one j p);
-    }
-
-    -- a function that has no header of its own is in no chain
     pub shared : (o ≡ k → ⊥) → Claimed s m fs rows size (k + 1) heads links′ (set owners k o)
-    unfolding lastIn
-    shared n = record {
-      sized = c .sized;
-      heads-last = λ i l.
-          c .heads-last i l
-          ∙ rw (add-one k) (sym (pick-no (heldIn s m fs rows size i k) k _ (no-of (not-owner s m fs rows size i k (λ d. n (e ∙ d))))));
-      linked = linked-next;
-      owned = owned-next;
-    }
+    shared n = record { sized = c .sized; heads-last = heads-stay c g e n; linked = linked-next; owned = owned-next c g e }
 
     -- one that has is the last of its slot
     pub own : o ≡ k → Claimed s m fs rows size (k + 1) (set heads h k) links′ (set owners k o)
@@ -95,7 +112,7 @@ module _ {s : Section} {m : Machine} {fs rows : List ℕ} {size k : ℕ} {heads 
           ∙ (c .heads-last i l
           ∙ sym (pick-no (heldIn s m fs rows size i k) k _ (no-of (held-not s m fs rows size i k (λ f. z (sym f ∙ sym (q .0)))))))));
       linked = linked-next;
-      owned = owned-next;
+      owned = owned-next c g e;
     }
 
 -- ---- all of them
@@ -119,7 +136,7 @@ start s m fs rows u = record {
   claimed = record {
     sized = refl;
     heads-last = λ h l. u .clear h l;
-    linked = record { long = omega arith; each-one = λ j l. absurd (omega arith) };
+    linked = record { long = omega arith; each-one = λ j l o. absurd (omega arith) };
     owned = record { long = omega arith; each-one = λ j l. absurd (omega arith) };
   };
 }

@@ -16,7 +16,7 @@ use Rattle.format.proofs.Choice.{pick-yes, pick-no, tested, either}
 use Rattle.format.proofs.SameKey.{same-key}
 use Rattle.search.specs.Owners.{keyAt, firstFrom, owner}
 use Rattle.search.specs.Chains.{slotAt, lastIn, heldIn, lastHeld}
-use Rattle.search.proofs.Finding.{shares, Finding, start, missed, found, ended}
+use Rattle.search.proofs.Finding.{shares, Finding, start, missed, found, ended, owner-low}
 
 is-no : (b : Bool) → T (not b) → b ≡ false
 is-no true t = absurd t
@@ -149,6 +149,16 @@ module _ (s : Section) (m : Machine) (fs rows : List ℕ) where
       let own : firstFrom (shares s m fs rows o) 0 o ≡ o =
       sym (none-first (shares s m fs rows o) o (λ i h. alike k o i e ∙ before test 0 k i (omega arith) h)) in
       absurd (both (test o) e (f o q own)))
+
+  -- an owner has a header of its own
+  pub owner-owns : (k : ℕ) → owner s m fs rows (owner s m fs rows k) ≡ owner s m fs rows k
+  unfolding owner
+  owner-owns k =
+      let test : ℕ → Bool = shares s m fs rows k in
+      let o : ℕ = firstFrom test 0 k in
+      either k o
+      (λ q. let e : o ≡ k = omega (arith, owner-low s m fs rows k) in ap (owner s m fs rows) e)
+      (λ q. sym (none-first (shares s m fs rows o) o (λ i h. alike k o i (passes test 0 k (omega arith)) ∙ before test 0 k i (omega arith) h)))
 
   pub owner-zero : owner s m fs rows 0 ≡ 0
   unfolding owner firstFrom

@@ -6,3 +6,4 @@ pub mod Firsts
 pub mod Walking
 pub mod Digests
 pub mod Claims
+pub mod Sharing

@@ -65,7 +65,7 @@ module _ {s : Section} {m : Machine} {fs rows : List ℕ} {size k first : ℕ} {
     behind-last z =
         let e : slotAt s m fs rows size (next - 1) ≡ slotAt s m fs rows size k = w .slot (next - 1) (omega arith) z in
         if-ne (next - 1) 0 0 (getD links (next - 1) 0 + 1) (λ q. omega arith)
-        ∙ ap (λ (n : ℕ). n + 1) (rw e at (c .linked .each-one (next - 1) (omega (arith, w .below (omega arith)))))
+        ∙ ap (λ (n : ℕ). n + 1) (rw e at (c .linked .each-one (next - 1) (omega (arith, w .below (omega arith))) owns-here))
 
     behind-none : next - 1 ≡ 0 → behindIn links (next - 1) ≡ 0
     unfolding behindIn

@@ -59,10 +59,10 @@ lastHeld s m fs rows size h k = lastIn (heldIn s m fs rows size h) k
 unfoldable pub behindIn : (links : List ℕ) → (j : ℕ) → ℕ
 behindIn links j = pick (eqb j 0) 0 (getD links j 0 + 1)
 
--- `links` has the one behind each function in front of k
+-- `links` has the one behind each function in front of k that has a header of its own
 pub record Linked (s : Section) (m : Machine) (fs rows : List ℕ) (size k : ℕ) (links : List ℕ) : Type 0 where
   pub long : k ≤ length links
-  pub each-one : (j : ℕ) → j < k → getD links j 0 ≡ lastHeld s m fs rows size (slotAt s m fs rows size j) j
+  pub each-one : (j : ℕ) → j < k → owner s m fs rows j ≡ j → getD links j 0 ≡ lastHeld s m fs rows size (slotAt s m fs rows size j) j
 
 -- and the chain of function k's slot starts at `first`
 pub record Chained (s : Section) (m : Machine) (fs rows : List ℕ) (size k first : ℕ) (links : List ℕ) : Type 0 where

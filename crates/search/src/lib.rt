@@ -1,14 +1,14 @@
 // The header search: the first earlier function whose header a function can use. Ported from rucc-asm/src/unwind.rs (choose) of tamnd/rucc, changed: see NOTICE.
 ghost use mathlib.Core.Path.{_≡_};
-ghost use mathlib.Core.Bool.{_&&_, Bool·beq};
+ghost use mathlib.Core.Bool.{true, _&&_, Bool·beq};
 ghost use Prim.Native.Nat.{_+_, _*_, _^_, _≤_, _<_};
 ghost use lib.Dec.{eqb};
 ghost use lib.ListN.{length};
-ghost use Rattle.format.specs.Headers.{sameEncoding, sameKind};
+ghost use Rattle.format.specs.Headers.{sameEncoding, sameKind, sameKey};
 ghost use Rattle.format.proofs.Fits.{MachineFits};
 ghost use Rattle.lists.specs.Extents.{extentAt};
 ghost use Rattle.leading.specs.Functions.{takenIn, keyIn, RowsReady, Listed};
-ghost use Rattle.search.specs.Owners.{lsdaIn, kindIn, leadingIn, sameAt, owner};
+ghost use Rattle.search.specs.Owners.{keyAt, lsdaIn, kindIn, leadingIn, sameAt, owner};
 ghost use Rattle.search.specs.Chains.{rowNumber, mixed, kindNumber, digestOf, slotAt, behindIn, Chained, Owned, Claimed, Enough, Unused};
 use format::Machine;
 use format::Row;
@@ -208,8 +208,43 @@ fn choose(
     k
 }
 
-// Function k's owner, found and stored.
-fn claim(
+// A yes says that function k can use function j's header, where neither has leading rows beside those that a call implies. A no
+// says nothing.
+fn surely_shares(s: Section, m: Machine, fs: &[u64], rows: &[u64], j: usize, k: usize) -> bool
+    requires { ⌜ Listed (now fs) (now rows) (k + 1) × (j ≤ k) ⌝ }
+    ensures { λ r. ⌜ (r ≡ true → sameKey (keyAt s m (now (fs .entry)) (now (rows .entry)) j) (keyAt s m (now (fs .entry)) (now (rows .entry)) k) ≡ true) ⌝ }
+{
+    let a = taken_at(s, fs, j);
+    let b = taken_at(s, fs, k);
+    if !alike(a, b) {
+        return false;
+    }
+    if a.simple != b.simple {
+        return false;
+    }
+    if 0 < leading::ahead(rows, a.rows_at, a.rows) {
+        return false;
+    }
+    leading::ahead(rows, b.rows_at, b.rows) == 0
+}
+
+// The owner of the function in front of function k, where it is surely function k's as well; or k.
+fn inherited(s: Section, m: Machine, fs: &[u64], rows: &[u64], owners: &[u16], k: usize) -> usize
+    requires { ⌜ Listed (now fs) (now rows) (k + 1) × Owned s m (now fs) (now rows) k (now owners) ⌝ }
+    ensures { λ r. ⌜ ((r ≡ k → ⊥) → r ≡ owner s m (now (fs .entry)) (now (rows .entry)) k) × (r ≤ k) ⌝ }
+{
+    if k == 0 {
+        return k;
+    }
+    let o = wide(owners[k - 1]);
+    if surely_shares(s, m, fs, rows, o, k) {
+        return o;
+    }
+    k
+}
+
+// Function k's owner, sought in its chain and stored.
+fn seek(
     s: Section,
     m: Machine,
     fs: &[u64],
@@ -232,6 +267,28 @@ fn claim(
         return;
     }
     heads[h] = k as u16;
+}
+
+// Function k's owner, found and stored: often that of the function in front of it.
+fn claim(
+    s: Section,
+    m: Machine,
+    fs: &[u64],
+    rows: &[u64],
+    k: usize,
+    heads: &mut [u16],
+    links: &mut [u16],
+    owners: &mut [u16],
+)
+    requires { ⌜ MachineFits m × Listed (now fs) (now rows) (k + 1) × Enough (k + 1) (length (now heads)) (now links) (now owners) × Claimed s m (now fs) (now rows) (length (now heads)) k (now heads) (now links) (now owners) ⌝ }
+    ensures { λ r. ⌜ Claimed s m (now (fs .entry)) (now (rows .entry)) (length (now (heads .entry))) (k + 1) (now (heads .exit)) (now (links .exit)) (now (owners .exit)) × (length (now (links .exit)) ≡ length (now (links .entry))) × (length (now (owners .exit)) ≡ length (now (owners .entry))) ⌝ }
+{
+    let i = inherited(s, m, fs, rows, owners, k);
+    if i != k {
+        owners[k] = i as u16;
+        return;
+    }
+    seek(s, m, fs, rows, k, heads, links, owners);
 }
 
 // The owner of each of n functions: the first function whose header it can use, or itself. `heads` and `links` chain the

@@ -23,30 +23,33 @@ returns-2 : tie.Need-returns-2
 unfolding dwarfAsks meant ask andThen questionOf pick
 returns-2 c = simp (accepted (c .before .before .before .size-ok .ensures) (c .before .before .if1 .left), refused (c .before .encodings-ok .ensures) (c .if2 .taken))
 
-steps-ok-requires : tie.Need-steps-ok-requires
-steps-ok-requires c κs = search needs
+lines-fine-requires : tie.Need-lines-fine-requires
+lines-fine-requires c κs = let s = c .before .before .before .before .before .before in (s .pre .0, s .pre .1 .ready)
+
+steps-asked-requires : tie.Need-steps-asked-requires
+steps-asked-requires c κs = (c .before .before .before .before .before .before .before .pre .1 .ready, λ p. c .lines-fine .ensures p .0)
 
 returns-3 : tie.Need-returns-3
 unfolding dwarfAsks meant ask andThen questionOf pick
-returns-3 c = simp (accepted (c .before .before .before .before .before .size-ok .ensures) (c .before .before .before .before .if1 .left), accepted (c .before .before .before .encodings-ok .ensures) (c .before .before .if2 .left), refused (c .before .steps-ok .ensures) (c .if3 .taken))
+returns-3 c = simp (accepted (c .before .before .before .before .before .before .size-ok .ensures) (c .before .before .before .before .before .if1 .left), accepted (c .before .before .before .before .encodings-ok .ensures) (c .before .before .before .if2 .left), refused (c .before .steps-asked .ensures) (c .if3 .taken))
 
-rows-whole-requires : tie.Need-rows-whole-requires
-rows-whole-requires c κs = (word-small _ (c .before .before .before .before .before .before .before .before .pre .0) .0, c .before .before .before .before .before .before .before .before .pre .1 .ready)
+whole-asked-requires : tie.Need-whole-asked-requires
+whole-asked-requires c κs = let s = c .before .before .before .before .before .before .before .before .before in (word-small _ (s .pre .0) .0, s .pre .1 .ready, λ p. c .before .before .lines-fine .ensures p .1)
 
 returns-4 : tie.Need-returns-4
 unfolding dwarfAsks meant ask andThen questionOf pick
-returns-4 c = simp (accepted (c .before .before .before .before .before .before .before .size-ok .ensures) (c .before .before .before .before .before .before .if1 .left), accepted (c .before .before .before .before .before .encodings-ok .ensures) (c .before .before .before .before .if2 .left), accepted (c .before .before .before .steps-ok .ensures) (c .before .before .if3 .left), refused (c .before .rows-whole .ensures) (c .if4 .taken))
+returns-4 c = simp (accepted (c .before .before .before .before .before .before .before .before .size-ok .ensures) (c .before .before .before .before .before .before .before .if1 .left), accepted (c .before .before .before .before .before .before .encodings-ok .ensures) (c .before .before .before .before .before .if2 .left), accepted (c .before .before .before .steps-asked .ensures) (c .before .before .if3 .left), refused (c .before .whole-asked .ensures) (c .if4 .taken))
 
 pairs-ok-requires : tie.Need-pairs-ok-requires
 pairs-ok-requires c κs = search needs
 
 returns-5 : tie.Need-returns-5
 unfolding dwarfAsks meant ask andThen questionOf pick
-returns-5 c = simp (accepted (c .before .before .before .before .before .before .before .before .before .size-ok .ensures) (c .before .before .before .before .before .before .before .before .if1 .left), accepted (c .before .before .before .before .before .before .before .encodings-ok .ensures) (c .before .before .before .before .before .before .if2 .left), accepted (c .before .before .before .before .before .steps-ok .ensures) (c .before .before .before .before .if3 .left), accepted (c .before .before .before .rows-whole .ensures) (c .before .before .if4 .left), refused (c .before .pairs-ok .ensures) (c .if5 .taken))
+returns-5 c = simp (accepted (c .before .before .before .before .before .before .before .before .before .before .size-ok .ensures) (c .before .before .before .before .before .before .before .before .before .if1 .left), accepted (c .before .before .before .before .before .before .before .before .encodings-ok .ensures) (c .before .before .before .before .before .before .before .if2 .left), accepted (c .before .before .before .before .before .steps-asked .ensures) (c .before .before .before .before .if3 .left), accepted (c .before .before .before .whole-asked .ensures) (c .before .before .if4 .left), refused (c .before .pairs-ok .ensures) (c .if5 .taken))
 
 returns-6 : tie.Need-returns-6
 unfolding dwarfAsks meant ask andThen questionOf pick
-returns-6 c = simp (accepted (c .before .before .before .before .before .before .before .before .before .size-ok .ensures) (c .before .before .before .before .before .before .before .before .if1 .left), accepted (c .before .before .before .before .before .before .before .encodings-ok .ensures) (c .before .before .before .before .before .before .if2 .left), accepted (c .before .before .before .before .before .steps-ok .ensures) (c .before .before .before .before .if3 .left), accepted (c .before .before .before .rows-whole .ensures) (c .before .before .if4 .left), accepted (c .before .pairs-ok .ensures) (c .if5 .left))
+returns-6 c = simp (accepted (c .before .before .before .before .before .before .before .before .before .before .size-ok .ensures) (c .before .before .before .before .before .before .before .before .before .if1 .left), accepted (c .before .before .before .before .before .before .before .before .encodings-ok .ensures) (c .before .before .before .before .before .before .before .if2 .left), accepted (c .before .before .before .before .before .steps-asked .ensures) (c .before .before .before .before .if3 .left), accepted (c .before .before .before .whole-asked .ensures) (c .before .before .if4 .left), accepted (c .before .pairs-ok .ensures) (c .if5 .left))
 
 pub dwarf-asks-spec : {M : Type 1} → statement M
 dwarf-asks-spec =
@@ -56,9 +59,10 @@ dwarf-asks-spec =
     returns
     encodings-ok-requires
     returns-2
-    steps-ok-requires
+    lines-fine-requires
+    steps-asked-requires
     returns-3
-    rows-whole-requires
+    whole-asked-requires
     returns-4
     pairs-ok-requires
     returns-5

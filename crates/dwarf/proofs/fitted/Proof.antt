@@ -1,26 +1,20 @@
 -- `dwarf::fitted` meets its contract.
-use Rattle.dwarf.proofs.Outcomes.{refuses, room-for-all, delivers}
 use borrow.Author.Needs.{needs}
+use Rattle.dwarf.proofs.Outcomes.{room-for}
 use Rattle.dwarf.proofs.fitted.Statement.{statement}
 use Rattle.dwarf.proofs.fitted.Tie as tie
 
-sizes-requires : tie.Need-sizes-requires
-sizes-requires c κs = search needs
+most-requires : tie.Need-most-requires
+most-requires c κs = search needs
 
 room-requires : tie.Need-room-requires
 room-requires c κs = search needs
 
-enum-known-q : tie.Need-enum-known-q
-enum-known-q c = search needs
-
-returns : tie.Need-returns
-returns c = refuses _ (c .before .before .before .before .sizes .ensures) _ _ _ _ (c .before .before .before .room .ensures) (c .before .q .given .1)
-
 enum-told : tie.Need-enum-told
 enum-told c = search needs
 
-store-requires : tie.Need-store-requires
-store-requires c κs = (c .before .before .before .before .before .before .before .before .before .before .before .before .before .before .before .before .before .pre .0, room-for-all _ (c .before .before .before .before .before .before .before .sizes .ensures) _ _ _ _ (c .before .before .before .before .before .before .room .ensures) (c .before .before .before .before .enum-told .given .1), c .before .before .before .before .before .before .before .before .before .before .before .before .before .before .before .before .before .pre .1)
+measured-requires : tie.Need-measured-requires
+measured-requires c κs = search needs
 
 same-length : tie.Need-same-length
 same-length c = search needs
@@ -34,21 +28,49 @@ same-length-3 c = search needs
 same-length-4 : tie.Need-same-length-4
 same-length-4 c = search needs
 
+returns : tie.Need-returns
+returns c = search needs
+
+enum-told-2 : tie.Need-enum-told-2
+enum-told-2 c = search needs
+
+stored-requires : tie.Need-stored-requires
+stored-requires c κs =
+    let s = c .before .before .before .before .before .before .before .before .before .before .before .before .before .before .before .before .before in
+    (s .pre .0, room-for _ _ _ _ _ (c .before .before .before .before .before .before .room .ensures) (c .before .before .before .before .enum-told2 .given .1) (rw (c .before .before .before .before .before .before .before .most .ensures) (s .pre .0 .covered)), s .pre .1)
+
+same-length-5 : tie.Need-same-length-5
+same-length-5 c = search needs
+
+same-length-6 : tie.Need-same-length-6
+same-length-6 c = search needs
+
+same-length-7 : tie.Need-same-length-7
+same-length-7 c = search needs
+
+same-length-8 : tie.Need-same-length-8
+same-length-8 c = search needs
+
 returns-2 : tie.Need-returns-2
-returns-2 c = delivers _ (c .before .before .before .before .before .before .before .before .before .before .before .before .before .before .before .before .before .sizes .ensures) _ _ _ _ (c .before .before .before .before .before .before .before .before .before .before .before .before .before .before .before .before .room .ensures) (c .before .before .before .before .before .before .before .before .before .before .before .before .before .before .enum-told .given .1) (c .before .before .before .before .before .before .before .before .before .store .ensures)
+returns-2 c = search needs
 
 pub fitted-spec : {M : Type 1} → statement M
 fitted-spec =
     tie.close
     (tie.spec
-    sizes-requires
+    most-requires
     room-requires
-    enum-known-q
-    returns
     enum-told
-    store-requires
+    measured-requires
     same-length
     same-length-2
     same-length-3
     same-length-4
+    returns
+    enum-told-2
+    stored-requires
+    same-length-5
+    same-length-6
+    same-length-7
+    same-length-8
     returns-2)

@@ -17,23 +17,18 @@ sub-advance c = omega (arith, c .offset-at .ensures, offset-of (c .before .befor
 advance-requires : tie.Need-advance-requires
 advance-requires c κs = let h = rw (row-at-length, offset-of, ← c .offset-at .ensures) at (c .before .before .before .before .pre .1) in search needs
 
-row-at-requires : tie.Need-row-at-requires
-row-at-requires c κs = (c .before .before .before .before .before .before .before .before .pre .0 .inside, c .before .before .before .before .before .before .before .before .pre .0 .ok)
-
-row-requires : tie.Need-row-requires
-row-requires c κs = (
-  c .before .before .before .before .before .before .before .before .before .pre .0 .word-low,
-  c .before .before .before .before .before .before .before .before .before .pre .0 .word-high,
-  let h = rw (row-at-length, offset-of, ← c .before .before .before .before .before .offset-at .ensures) at (c .before .before .before .before .before .before .before .before .before .pre .1) in
-      rw (c .row-at .ensures) (search needs),
-)
+row-in-requires : tie.Need-row-in-requires
+row-in-requires c κs =
+    let s = c .before .before .before .before .before .before .before .before in
+    let h = rw (row-at-length, offset-of, ← c .before .before .before .before .offset-at .ensures) at (s .pre .1) in
+    (s .pre .0 .word-low, s .pre .0 .word-high, s .pre .0 .inside, s .pre .0 .ok, search needs)
 
 same-length : tie.Need-same-length
 same-length c = search needs
 
 returns : tie.Need-returns
 unfolding steppedRowBytes rowAt
-returns c = (rw (c .before .before .before .before .before .before .before .before .offset-at .ensures) at (c .before .before .before .before .before .before .before .advance .ensures)) then (rw (c .before .before .before .row-at .ensures) at (c .before .before .row .ensures))
+returns c = (rw (c .before .before .before .before .before .before .before .offset-at .ensures) at (c .before .before .before .before .before .before .advance .ensures)) then (c .before .before .row-in .ensures)
 
 pub stepped-row-spec : {M : Type 1} → statement M
 stepped-row-spec =
@@ -42,7 +37,6 @@ stepped-row-spec =
     offset-at-requires
     sub-advance
     advance-requires
-    row-at-requires
-    row-requires
+    row-in-requires
     same-length
     returns)

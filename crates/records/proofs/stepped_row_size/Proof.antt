@@ -15,18 +15,16 @@ sub-advance-size c = omega (arith, c .offset-at .ensures, offset-of (c .before .
 advance-size-requires : tie.Need-advance-size-requires
 advance-size-requires c κs = search needs
 
-row-at-requires : tie.Need-row-at-requires
-row-at-requires c κs = (c .before .before .before .pre .inside, c .before .before .before .pre .ok)
-
-row-size-requires : tie.Need-row-size-requires
-row-size-requires c κs = (c .before .before .before .before .pre .word-low, c .before .before .before .before .pre .word-high)
+row-in-size-requires : tie.Need-row-in-size-requires
+row-in-size-requires c κs = let p = c .before .before .before .pre in (p .word-low, p .word-high, p .inside, p .ok)
 
 returns : tie.Need-returns
 returns c =
-    let e = row-at-length (c .before .before .before .before .before .args .word) (c .before .before .before .before .before .args .from) (rowAt (c .before .before .before .before .before .args .rows .now) (c .before .before .before .before .before .args .i)) in
-    let a = rw (c .before .before .before .offset-at .ensures, ← offset-of (c .before .before .before .before .before .args .rows .now) (c .before .before .before .before .before .args .i)) at (c .before .before .advance-size .ensures) in
-    let b = rw (c .before .row-at .ensures) at (c .row-size .ensures) in
-    let l = row-at-short (c .before .before .before .before .before .pre) in
+    let s = c .before .before .before .before in
+    let e = row-at-length (s .args .word) (s .args .from) (rowAt (s .args .rows .now) (s .args .i)) in
+    let a = rw (c .before .before .offset-at .ensures, ← offset-of (s .args .rows .now) (s .args .i)) at (c .before .advance-size .ensures) in
+    let b = c .row-in-size .ensures in
+    let l = row-at-short (s .pre) in
     (omega arith, omega arith)
 
 add-result : tie.Need-add-result
@@ -39,7 +37,6 @@ stepped-row-size-spec =
     offset-at-requires
     sub-advance-size
     advance-size-requires
-    row-at-requires
-    row-size-requires
+    row-in-size-requires
     add-result
     returns)
