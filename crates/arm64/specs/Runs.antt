@@ -110,7 +110,7 @@ isIn r (q ∷ qs) = sameCodes r q || isIn r qs
 -- the runs that are written behind the prologue's: not in it, and not `seen` before
 unfoldable pub ownRuns : (prologue : List Code) → (seen runs : List (List Code)) → List (List Code)
 ownRuns ps seen [] = []
-ownRuns ps seen (r ∷ rs) = pick (leads r ps || isIn r seen) (ownRuns ps (r ∷ seen) rs) (r ∷ ownRuns ps (r ∷ seen) rs)
+ownRuns ps seen (r ∷ rs) = pick (leads r ps || isIn r seen) [] (r ∷ []) ++ ownRuns ps (r ∷ seen) rs
 
 unfoldable pub runsBytes : List (List Code) → List ℕ
 runsBytes [] = []
