@@ -40,10 +40,13 @@ pairIn c =
 abbrev pub noPair : Code
 noPair = code kNop 0 0
 
--- the pair behind a pair, two registers on and 16 bytes up; behind none, and behind x29, there is none, for which SaveNext stands
+-- a pair that another may follow; those that codes spell lie below 1,024, the fifth behind one at 504 too
+unfoldable pub hasNext : Code → Bool
+hasNext b = (eqb (b .kind) kRegp || eqb (b .kind) kFregp) && ltb (b .register) fp && ltb (b .offset) 1024
+
+-- the pair behind a pair, two registers on and 16 bytes up; where there is none, SaveNext stands for it
 unfoldable pub nextPair : Code → Code
-nextPair b =
-    pick ((eqb (b .kind) kRegp || eqb (b .kind) kFregp) && ltb (b .register) fp) (code (b .kind) (b .register + 2) (b .offset + 16)) (code kSaveNext 0 0)
+nextPair b = pick (hasNext b) (code (b .kind) (b .register + 2) (b .offset + 16)) (code kSaveNext 0 0)
 
 -- a code behind the pair b, SaveNext as the pair that it saves
 unfoldable pub resolved : (b c : Code) → Code

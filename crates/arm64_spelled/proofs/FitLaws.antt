@@ -12,7 +12,8 @@ use borrow.Author.Tests.{lt-leb, le-leb, ne-eqb, eq-eqb, leb-true, ltb-true, not
 use Rattle.format.specs.Prelude.{pick, each, all}
 use Rattle.format.specs.Lists.{allIn}
 use Rattle.format.proofs.ListLaws.{in-range}
-use Rattle.format.proofs.Choice.{if-eq, if-ne}
+use Rattle.format.proofs.Choice.{if-eq, if-ne, either}
+use Rattle.arm64_spelled.proofs.FormLaws.{past-last}
 use Rattle.arm64.specs.declared.Form.{Form}
 use Rattle.arm64.specs.declared.Code.{Code}
 use Rattle.arm64.specs.Codes.{lastRegisters, formFor, registerField, offsetField, registerFits, offsetFits, codeFits, spelled, codeBytes, big}
@@ -69,10 +70,13 @@ lastTests : T (allIn (λ k. leb (getD lastRegisters k 0) 30) 0 18)
 unfolding allIn all each
 lastTests = tt
 
-last-low : (k : ℕ) → k < 18 → getD lastRegisters k 0 ≤ 30
-last-low k h = leb-yes (subst (λ (i : ℕ). T (leb (getD lastRegisters i 0) 30)) (zero-add k) (in-range (λ k. leb (getD lastRegisters k 0) 30) 0 18 k lastTests h))
+low-last : (k : ℕ) → k < 18 → getD lastRegisters k 0 ≤ 30
+low-last k h = leb-yes (subst (λ (i : ℕ). T (leb (getD lastRegisters i 0) 30)) (zero-add k) (in-range (λ k. leb (getD lastRegisters k 0) 30) 0 18 k lastTests h))
 
-module _ (f : Form) (c : Code) (k : c .kind < 18) (r : registerFits f c ≡ true) (o : offsetFits f c ≡ true) where
+last-low : (k : ℕ) → getD lastRegisters k 0 ≤ 30
+last-low k = either (suc k) 18 (low-last k) λ h. let e : 0 ≡ getD lastRegisters k 0 = past-last k (omega (arith, h)) in omega (arith, e)
+
+module _ (f : Form) (c : Code) (r : registerFits f c ≡ true) (o : offsetFits f c ≡ true) where
   in-registers : (f .step ≡ 0 → ⊥)
       → (leb (f .first) (c .register) && leb (c .register) (getD lastRegisters (c .kind) 0) && eqb ((c .register - f .first) % f .step) 0) ≡ true
   unfolding registerFits
@@ -93,17 +97,17 @@ module _ (f : Form) (c : Code) (k : c .kind < 18) (r : registerFits f c ≡ true
         first = λ n. leb-true (f .first) (c .register) (r n .0);
         last = λ n.
           let m : c .register ≤ getD lastRegisters (c .kind) 0 = leb-true (c .register) (getD lastRegisters (c .kind) 0) (r n .1) in
-          omega (arith, m, last-low (c .kind) k);
+          omega (arith, m, last-low (c .kind));
         more = leb-true (f .more) (c .offset) (both-true (leb (f .more) (c .offset)) (eqb (c .offset % f .scale) 0) (p .0) .0);
         held = ltb-true (offsetField f c) (f .unit) (p .1);
       }
 
-pub fits-told : (c : Code) → c .kind < 18 → codeFits c ≡ true → Told (formFor c) c
+pub fits-told : (c : Code) → codeFits c ≡ true → Told (formFor c) c
 unfolding codeFits
-fits-told c k e =
+fits-told c e =
     let p : (registerFits (formFor c) c ≡ true) × (offsetFits (formFor c) c ≡ true)
         = both-true (registerFits (formFor c) c) (offsetFits (formFor c) c) e in
-    told (formFor c) c k (p .0) (p .1)
+    told (formFor c) c (p .0) (p .1)
 
 -- ---- bytes
 

@@ -10,11 +10,11 @@ use lib.ListN.{getD}
 use mir.Facts.{leb-yes, yes-eqb}
 use Rattle.format.specs.Prelude.{pick, each, all}
 use Rattle.format.specs.Lists.{allIn}
-use Rattle.format.proofs.Choice.{if-le, if-gt, if-eq, if-ne, pick-yes, pick-no, tested}
+use Rattle.format.proofs.Choice.{if-le, if-gt, if-eq, if-ne, pick-yes, pick-no, tested, either}
 use Rattle.format.proofs.ListLaws.{chain, chained, in-range}
 use Rattle.arm64.specs.declared.Form.{Form}
 use Rattle.arm64.specs.declared.Code.{Code}
-use Rattle.arm64.specs.Codes.{formOf, shortForm, integerForm, vectorForm, otherForm, formFor, allocForm, kindForms, reserved, fAllocS, fAllocM, fAllocL}
+use Rattle.arm64.specs.Codes.{formOf, shortForm, integerForm, vectorForm, otherForm, formFor, allocForm, kindForms, lastRegisters, reserved, fAllocS, fAllocM, fAllocL}
 use Rattle.arm64_spelled.specs.Forms.{FormGood}
 
 abbrev pub opcodes : List ℕ
@@ -43,7 +43,33 @@ opcode-form (suc (suc (suc (suc (suc (suc (suc (suc (suc (suc (suc (suc (suc (su
 opcode-form (suc (suc (suc (suc (suc (suc (suc (suc (suc (suc (suc (suc (suc (suc (suc (suc (suc zero))))))))))))))))) h = refl
 opcode-form (suc (suc (suc (suc (suc (suc (suc (suc (suc (suc (suc (suc (suc (suc (suc (suc (suc (suc k)))))))))))))))))) h = absurd (omega arith)
 
+past-kinds : (k : ℕ) → 17 < k → getD kindForms k reserved ≡ reserved
+past-kinds zero h = absurd (omega arith)
+past-kinds (suc zero) h = absurd (omega arith)
+past-kinds (suc (suc zero)) h = absurd (omega arith)
+past-kinds (suc (suc (suc zero))) h = absurd (omega arith)
+past-kinds (suc (suc (suc (suc zero)))) h = absurd (omega arith)
+past-kinds (suc (suc (suc (suc (suc zero))))) h = absurd (omega arith)
+past-kinds (suc (suc (suc (suc (suc (suc zero)))))) h = absurd (omega arith)
+past-kinds (suc (suc (suc (suc (suc (suc (suc zero))))))) h = absurd (omega arith)
+past-kinds (suc (suc (suc (suc (suc (suc (suc (suc zero)))))))) h = absurd (omega arith)
+past-kinds (suc (suc (suc (suc (suc (suc (suc (suc (suc zero))))))))) h = absurd (omega arith)
+past-kinds (suc (suc (suc (suc (suc (suc (suc (suc (suc (suc zero)))))))))) h = absurd (omega arith)
+past-kinds (suc (suc (suc (suc (suc (suc (suc (suc (suc (suc (suc zero))))))))))) h = absurd (omega arith)
+past-kinds (suc (suc (suc (suc (suc (suc (suc (suc (suc (suc (suc (suc zero)))))))))))) h = absurd (omega arith)
+past-kinds (suc (suc (suc (suc (suc (suc (suc (suc (suc (suc (suc (suc (suc zero))))))))))))) h = absurd (omega arith)
+past-kinds (suc (suc (suc (suc (suc (suc (suc (suc (suc (suc (suc (suc (suc (suc zero)))))))))))))) h = absurd (omega arith)
+past-kinds (suc (suc (suc (suc (suc (suc (suc (suc (suc (suc (suc (suc (suc (suc (suc zero))))))))))))))) h = absurd (omega arith)
+past-kinds (suc (suc (suc (suc (suc (suc (suc (suc (suc (suc (suc (suc (suc (suc (suc (suc zero)))))))))))))))) h = absurd (omega arith)
+past-kinds (suc (suc (suc (suc (suc (suc (suc (suc (suc (suc (suc (suc (suc (suc (suc (suc (suc zero))))))))))))))))) h = absurd (omega arith)
+past-kinds (suc (suc (suc (suc (suc (suc (suc (suc (suc (suc (suc (suc (suc (suc (suc (suc (suc (suc k)))))))))))))))))) h = refl
+
 module _ (c : Code) where
+  pub no-kind : 17 < c .kind → formOf 0xdf ≡ formFor c
+  unfolding formFor formOf vectorForm pick
+  no-kind h =
+      let n : c .kind ≡ 0 → ⊥ = λ e. absurd (omega (arith, e, h)) in rw (if-ne (c .kind) 0) (sym (past-kinds (c .kind) h))
+
   pub by-kind : c .kind < 18 → (c .kind ≡ 0 → ⊥) → formOf (getD opcodes (c .kind) 0) ≡ formFor c
   unfolding formFor
   by-kind h n = rw (if-ne (c .kind) 0) (opcode-form (c .kind) h)
@@ -98,8 +124,11 @@ kindTests : T (allIn kindTest 0 18)
 unfolding allIn all each
 kindTests = tt
 
-kind-good : (k : ℕ) → k < 18 → FormGood (getD kindForms k reserved)
-kind-good k h = passed (getD kindForms k reserved) (subst (λ (i : ℕ). T (kindTest i)) (zero-add k) (in-range kindTest 0 18 k kindTests h))
+low-good : (k : ℕ) → k < 18 → FormGood (getD kindForms k reserved)
+low-good k h = passed (getD kindForms k reserved) (subst (λ (i : ℕ). T (kindTest i)) (zero-add k) (in-range kindTest 0 18 k kindTests h))
+
+kind-good : (k : ℕ) → FormGood (getD kindForms k reserved)
+kind-good k = either (suc k) 18 (low-good k) λ h. rw (past-kinds k (omega (arith, h))) (passed reserved tt)
 
 alloc-good : (size : ℕ) → FormGood (allocForm size)
 unfolding allocForm
@@ -110,8 +139,29 @@ alloc-good size =
     (tested (ltb (size / 16) (2 ^ 11)) (λ u. rw (pick-yes (ltb (size / 16) (2 ^ 11)) fAllocM fAllocL u) (passed fAllocM tt))
     λ u. rw (pick-no (ltb (size / 16) (2 ^ 11)) fAllocM fAllocL u) (passed fAllocL tt))
 
-pub form-good : (c : Code) → c .kind < 18 → FormGood (formFor c)
+pub form-good : (c : Code) → FormGood (formFor c)
 unfolding formFor
-form-good c h =
+form-good c =
     tested (eqb (c .kind) 0) (λ t. rw (pick-yes (eqb (c .kind) 0) (allocForm (c .offset)) (getD kindForms (c .kind) reserved) t) (alloc-good (c .offset)))
-    λ t. rw (pick-no (eqb (c .kind) 0) (allocForm (c .offset)) (getD kindForms (c .kind) reserved) t) (kind-good (c .kind) h)
+    λ t. rw (pick-no (eqb (c .kind) 0) (allocForm (c .offset)) (getD kindForms (c .kind) reserved) t) (kind-good (c .kind))
+
+pub past-last : (k : ℕ) → 17 < k → 0 ≡ getD lastRegisters k 0
+past-last zero h = absurd (omega arith)
+past-last (suc zero) h = absurd (omega arith)
+past-last (suc (suc zero)) h = absurd (omega arith)
+past-last (suc (suc (suc zero))) h = absurd (omega arith)
+past-last (suc (suc (suc (suc zero)))) h = absurd (omega arith)
+past-last (suc (suc (suc (suc (suc zero))))) h = absurd (omega arith)
+past-last (suc (suc (suc (suc (suc (suc zero)))))) h = absurd (omega arith)
+past-last (suc (suc (suc (suc (suc (suc (suc zero))))))) h = absurd (omega arith)
+past-last (suc (suc (suc (suc (suc (suc (suc (suc zero)))))))) h = absurd (omega arith)
+past-last (suc (suc (suc (suc (suc (suc (suc (suc (suc zero))))))))) h = absurd (omega arith)
+past-last (suc (suc (suc (suc (suc (suc (suc (suc (suc (suc zero)))))))))) h = absurd (omega arith)
+past-last (suc (suc (suc (suc (suc (suc (suc (suc (suc (suc (suc zero))))))))))) h = absurd (omega arith)
+past-last (suc (suc (suc (suc (suc (suc (suc (suc (suc (suc (suc (suc zero)))))))))))) h = absurd (omega arith)
+past-last (suc (suc (suc (suc (suc (suc (suc (suc (suc (suc (suc (suc (suc zero))))))))))))) h = absurd (omega arith)
+past-last (suc (suc (suc (suc (suc (suc (suc (suc (suc (suc (suc (suc (suc (suc zero)))))))))))))) h = absurd (omega arith)
+past-last (suc (suc (suc (suc (suc (suc (suc (suc (suc (suc (suc (suc (suc (suc (suc zero))))))))))))))) h = absurd (omega arith)
+past-last (suc (suc (suc (suc (suc (suc (suc (suc (suc (suc (suc (suc (suc (suc (suc (suc zero)))))))))))))))) h = absurd (omega arith)
+past-last (suc (suc (suc (suc (suc (suc (suc (suc (suc (suc (suc (suc (suc (suc (suc (suc (suc zero))))))))))))))))) h = absurd (omega arith)
+past-last (suc (suc (suc (suc (suc (suc (suc (suc (suc (suc (suc (suc (suc (suc (suc (suc (suc (suc k)))))))))))))))))) h = refl

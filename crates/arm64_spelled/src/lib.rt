@@ -21,9 +21,11 @@ const OPCODES: [u8; 18] = [
 const LAST: [u64; 18] = [0, 0, 0, 0, 28, 28, 30, 30, 27, 14, 14, 15, 15, 0, 0, 0, 0, 0];
 
 fn opcode(c: Code) -> u64
-    requires { ⌜ c .kind < 18 ⌝ }
     ensures { λ r. ⌜ formOf r ≡ formFor c ⌝ }
 {
+    if 17 < c.kind {
+        return 0xdf;
+    }
     if c.kind != arm64::ALLOC {
         return leb::wide(OPCODES[c.kind as usize]);
     }
@@ -37,7 +39,6 @@ fn opcode(c: Code) -> u64
 }
 
 fn form_for(c: Code) -> Form
-    requires { ⌜ c .kind < 18 ⌝ }
     ensures { λ r. ⌜ (r ≡ formFor c) × FormGood r ⌝ }
 {
     arm64_codes::form_of(opcode(c))
@@ -45,8 +46,17 @@ fn form_for(c: Code) -> Form
 
 // ---- question 83 of a code
 
+fn last_register(kind: u64) -> u64
+    ensures { λ r. ⌜ r ≡ getD lastRegisters kind 0 ⌝ }
+{
+    if 17 < kind {
+        return 0;
+    }
+    LAST[kind as usize]
+}
+
 fn register_fits(f: Form, c: Code) -> bool
-    requires { ⌜ FormGood f × (c .kind < 18) ⌝ }
+    requires { ⌜ FormGood f ⌝ }
     ensures { λ r. ⌜ r ≡ registerFits f c ⌝ }
 {
     if f.step == 0 {
@@ -55,7 +65,7 @@ fn register_fits(f: Form, c: Code) -> bool
     if c.register < f.first {
         return false;
     }
-    if LAST[c.kind as usize] < c.register {
+    if last_register(c.kind) < c.register {
         return false;
     }
     (c.register - f.first) % f.step == 0
@@ -76,7 +86,6 @@ fn offset_fits(f: Form, c: Code) -> bool
 
 // Whether the register is one that the kind can name.
 pub fn register_ok(c: Code) -> bool
-    requires { ⌜ c .kind < 18 ⌝ }
     ensures { λ r. ⌜ r ≡ registerFits (formFor c) c ⌝ }
 {
     let f = form_for(c);
@@ -84,7 +93,6 @@ pub fn register_ok(c: Code) -> bool
 }
 
 pub fn code_fits(c: Code) -> bool
-    requires { ⌜ c .kind < 18 ⌝ }
     ensures { λ r. ⌜ r ≡ codeFits c ⌝ }
 {
     let f = form_for(c);
@@ -97,7 +105,6 @@ pub fn code_fits(c: Code) -> bool
 // ---- bytes
 
 pub fn code_size(c: Code) -> usize
-    requires { ⌜ c .kind < 18 ⌝ }
     ensures { λ r. ⌜ (r ≡ length (codeBytes c)) × (1 ≤ r) × (r ≤ 4) ⌝ }
 {
     let f = form_for(c);
@@ -148,7 +155,7 @@ fn put_big(out: &mut [u8], at: usize, size: u64, n: u64) -> usize
 }
 
 pub fn put_code(out: &mut [u8], at: usize, c: Code) -> usize
-    requires { ⌜ (c .kind < 18) × (codeFits c ≡ true) × (at + length (codeBytes c) ≤ length (now out)) ⌝ }
+    requires { ⌜ (codeFits c ≡ true) × (at + length (codeBytes c) ≤ length (now out)) ⌝ }
     ensures { λ r. ⌜ Wrote (now (out .entry)) (now (out .exit)) at r (codeBytes c) ⌝ }
 {
     let f = form_for(c);
