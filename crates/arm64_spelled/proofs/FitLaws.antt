@@ -90,14 +90,14 @@ module _ (f : Form) (c : Code) (r : registerFits f c ≡ true) (o : offsetFits f
   told =
       let p = both-true (leb (f .more) (c .offset) && eqb (c .offset % f .scale) 0) (ltb (offsetField f c) (f .unit)) in-offsets in
       let q : (f .step ≡ 0 → ⊥) → (leb (f .first) (c .register) && leb (c .register) (getD lastRegisters (c .kind) 0)) ≡ true
-          = λ n. both-true (leb (f .first) (c .register) && leb (c .register) (getD lastRegisters (c .kind) 0)) (eqb ((c .register - f .first) % f .step) 0) (in-registers n) .0 in
+      = λ n. both-true (leb (f .first) (c .register) && leb (c .register) (getD lastRegisters (c .kind) 0)) (eqb ((c .register - f .first) % f .step) 0) (in-registers n) .0 in
       let r : (f .step ≡ 0 → ⊥) → (leb (f .first) (c .register) ≡ true) × (leb (c .register) (getD lastRegisters (c .kind) 0) ≡ true)
-          = λ n. both-true (leb (f .first) (c .register)) (leb (c .register) (getD lastRegisters (c .kind) 0)) (q n) in
+      = λ n. both-true (leb (f .first) (c .register)) (leb (c .register) (getD lastRegisters (c .kind) 0)) (q n) in
       record {
         first = λ n. leb-true (f .first) (c .register) (r n .0);
         last = λ n.
-          let m : c .register ≤ getD lastRegisters (c .kind) 0 = leb-true (c .register) (getD lastRegisters (c .kind) 0) (r n .1) in
-          omega (arith, m, last-low (c .kind));
+            let m : c .register ≤ getD lastRegisters (c .kind) 0 = leb-true (c .register) (getD lastRegisters (c .kind) 0) (r n .1) in
+            omega (arith, m, last-low (c .kind));
         more = leb-true (f .more) (c .offset) (both-true (leb (f .more) (c .offset)) (eqb (c .offset % f .scale) 0) (p .0) .0);
         held = ltb-true (offsetField f c) (f .unit) (p .1);
       }
@@ -106,7 +106,7 @@ pub fits-told : (c : Code) → codeFits c ≡ true → Told (formFor c) c
 unfolding codeFits
 fits-told c e =
     let p : (registerFits (formFor c) c ≡ true) × (offsetFits (formFor c) c ≡ true)
-        = both-true (registerFits (formFor c) c) (offsetFits (formFor c) c) e in
+    = both-true (registerFits (formFor c) c) (offsetFits (formFor c) c) e in
     told (formFor c) c (p .0) (p .1)
 
 -- ---- bytes

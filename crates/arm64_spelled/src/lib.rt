@@ -14,11 +14,46 @@ use arm64::Form;
 
 // The first byte of a kind whose fields are 0; an allocation's goes by its size.
 const OPCODES: [u8; 18] = [
-    0xe0, 0x20, 0x40, 0x80, 0xc8, 0xcc, 0xd0, 0xd4, 0xd6, 0xd8, 0xda, 0xdc, 0xde, 0xe1, 0xe2, 0xe3,
-    0xe6, 0xfc,
+    0xe0,
+    0x20,
+    0x40,
+    0x80,
+    0xc8,
+    0xcc,
+    0xd0,
+    0xd4,
+    0xd6,
+    0xd8,
+    0xda,
+    0xdc,
+    0xde,
+    0xe1,
+    0xe2,
+    0xe3,
+    0xe6,
+    0xfc,
 ];
 // The last register that a kind can name.
-const LAST: [u64; 18] = [0, 0, 0, 0, 28, 28, 30, 30, 27, 14, 14, 15, 15, 0, 0, 0, 0, 0];
+const LAST: [u64; 18] = [
+    0,
+    0,
+    0,
+    0,
+    28,
+    28,
+    30,
+    30,
+    27,
+    14,
+    14,
+    15,
+    15,
+    0,
+    0,
+    0,
+    0,
+    0,
+];
 
 fn opcode(c: Code) -> u64
     ensures { λ r. ⌜ formOf r ≡ formFor c ⌝ }
