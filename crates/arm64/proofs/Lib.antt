@@ -1,3 +1,4 @@
 -- Worked examples of the definitions.
 pub mod Examples
 pub mod WriterExamples
+pub mod MeaningLaws
