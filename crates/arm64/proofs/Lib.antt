@@ -2,3 +2,4 @@
 pub mod Examples
 pub mod WriterExamples
 pub mod MeaningLaws
+pub mod PackingLaws

@@ -15,14 +15,14 @@ use Rattle.arm64.specs.Codes.{code, kRegp, kRegpX, kR19R20X, kFregp, kFr
 use Rattle.arm64.specs.Meaning.{Effect, Store, Step, Pair, stored, storing, only, saveOne, saveTwo, savePair, saveNext, pairStep, integerStep, vectorStep, frameStep, orStep, stepOf, pairOf, effectOf, effects, prologueMeans}
 use Rattle.arm64.specs.Runs.{sameCode, shorter, pairIn, hasNext, nextPair, resolved, nextOr, simple, pairBehind, simplify, noPair}
 
-no-yes : false ≡ true → ⊥
+pub no-yes : false ≡ true → ⊥
 no-yes e = subst (λ (x : Bool). T (not x)) e tt
 
-both-true : (a b : Bool) → a && b ≡ true → (a ≡ true) × (b ≡ true)
+pub both-true : (a b : Bool) → a && b ≡ true → (a ≡ true) × (b ≡ true)
 both-true true b e = (refl, e)
 both-true false b e = absurd (no-yes e)
 
-equal : (a b : Code) → sameCode a b ≡ true → a ≡ b
+pub equal : (a b : Code) → sameCode a b ≡ true → a ≡ b
 unfolding sameCode
 equal a b e =
     let p = both-true (eqb (a .kind) (b .kind) && eqb (a .register) (b .register)) (eqb (a .offset) (b .offset)) e in
@@ -32,7 +32,7 @@ equal a b e =
     ∙ ap (λ (z : ℕ). code (b .kind) (b .register) z) (eqb-true (a .offset) (b .offset) (p .1))
 
 -- a code by its kind, and by its register
-of-kind : (c : Code) {k : ℕ} → c .kind ≡ k → c ≡ code k (c .register) (c .offset)
+pub of-kind : (c : Code) {k : ℕ} → c .kind ≡ k → c ≡ code k (c .register) (c .offset)
 of-kind c e = ap (λ (k : ℕ). code k (c .register) (c .offset)) e
 
 of-both : (c : Code) {k r : ℕ} → c .kind ≡ k → c .register ≡ r → c ≡ code k r (c .offset)
@@ -96,7 +96,7 @@ module _ (p : Option Pair) where
 abbrev pub Same : Code → Option Pair → Type 0
 Same b p = hasNext b ≡ true → p ≡ some (record { vector = eqb (b .kind) kFregp; register = b .register; above = b .offset })
 
-no-next : (p : Option Pair) → Same noPair p
+pub no-next : (p : Option Pair) → Same noPair p
 unfolding hasNext
 no-next p e = absurd (no-yes e)
 
@@ -105,7 +105,7 @@ pair-means : (p : Option Pair) (r z : ℕ) → (r ≡ fp → ⊥) → stepOf p (
 unfolding stepOf orStep frameStep integerStep pairStep savePair pick
 pair-means p r z n = rw (ne-eqb r fp n) refl
 
-next-means : (v : Bool) (r z : ℕ) → stepOf (some (record { vector = v; register = r; above = z })) (code kSaveNext 0 0) ≡ savePair v 0 (r + 2) (z + 16)
+pub next-means : (v : Bool) (r z : ℕ) → stepOf (some (record { vector = v; register = r; above = z })) (code kSaveNext 0 0) ≡ savePair v 0 (r + 2) (z + 16)
 unfolding stepOf saveNext pick
 next-means v r z = refl
 
@@ -124,7 +124,7 @@ shorter-frame c =
     λ n4 e f. no-yes (sym n1 ∙ ap (λ t. t && eqb (c .register) fp) (eq-eqb (c .kind) kRegp e) ∙ eq-eqb (c .register) fp f)
 
 -- the first test of hasNext, and the second
-next-kind : (b : Code) → hasNext b ≡ true → (eqb (b .kind) kRegp || eqb (b .kind) kFregp) ≡ true
+pub next-kind : (b : Code) → hasNext b ≡ true → (eqb (b .kind) kRegp || eqb (b .kind) kFregp) ≡ true
 unfolding hasNext
 next-kind b e =
     both-true (eqb (b .kind) kRegp || eqb (b .kind) kFregp) (ltb (b .register) fp)
@@ -170,7 +170,7 @@ module _ (b : Code) (p : Option Pair) (s : Same b p) where
 
 -- ---- the pair behind a code
 
-or-split : (a b : Bool) (X : Type 0) → a || b ≡ true → (a ≡ true → X) → (b ≡ true → X) → X
+pub or-split : (a b : Bool) (X : Type 0) → a || b ≡ true → (a ≡ true → X) → (b ≡ true → X) → X
 or-split true b X e f g = f refl
 or-split false b X e f g = g e
 
@@ -182,7 +182,7 @@ step-5 : (p : Option Pair) (r z : ℕ) → (r ≡ fp → ⊥) → stepOf p (code
 unfolding stepOf orStep frameStep integerStep pairStep savePair pick
 step-5 p r z n = rw (ne-eqb r fp n) refl
 
-step-9 : (p : Option Pair) (r z : ℕ) → stepOf p (code kFregp r z) ≡ savePair true 0 r z
+pub step-9 : (p : Option Pair) (r z : ℕ) → stepOf p (code kFregp r z) ≡ savePair true 0 r z
 unfolding stepOf orStep frameStep integerStep vectorStep savePair pick
 step-9 p r z = refl
 
@@ -190,7 +190,7 @@ step-10 : (p : Option Pair) (r z : ℕ) → stepOf p (code kFregpX r z) ≡ save
 unfolding stepOf orStep frameStep integerStep vectorStep savePair pick
 step-10 p r z = refl
 
-step-16 : (p : Option Pair) (r z : ℕ) → stepOf p (code kSaveNext r z) ≡ stepOf p (code kSaveNext 0 0)
+pub step-16 : (p : Option Pair) (r z : ℕ) → stepOf p (code kSaveNext r z) ≡ stepOf p (code kSaveNext 0 0)
 unfolding stepOf pick
 step-16 p r z = refl
 
