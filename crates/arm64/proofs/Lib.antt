@@ -3,3 +3,4 @@ pub mod Examples
 pub mod WriterExamples
 pub mod MeaningLaws
 pub mod PackingLaws
+pub mod PackedBack
