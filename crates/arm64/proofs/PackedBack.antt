@@ -141,3 +141,124 @@ module _ (size : ℕ) (ps r : List Code) (t : standsFor (candidate size ps) ps r
       equal-all _ _
       (both-true (fieldsHold here && packedOk here && sameCodes (resolve noPair ps) (packedPrologue here))
       (sameCodes (reverse (resolve noPair r)) (packedEpilogue here)) t .1)
+
+-- ---- lengths
+
+resolve-length : (b : Code) (cs : List Code) → length (resolve b cs) ≡ length cs
+unfolding resolve
+resolve-length b [] = refl
+resolve-length b (c ∷ cs) = ap suc (resolve-length (pairBehind b c) cs)
+
+simplify-length : (b : Code) (cs : List Code) → length (simplify b cs) ≡ length cs
+unfolding simplify
+simplify-length b [] = refl
+simplify-length b (c ∷ cs) = ap suc (simplify-length (pairBehind b (simple b c)) cs)
+
+reverse-length : (cs : List Code) → length (reverse cs) ≡ length cs
+unfolding reverse
+reverse-length [] = refl
+reverse-length (c ∷ cs) = omega (arith, length-append (reverse cs) (c ∷ []), reverse-length cs)
+
+-- ---- what the reader answers
+
+module _ (p : Packed) (h : Held p) (o : packedOk p ≡ true) (s : List ℕ) (place : ℕ) where
+  -- an epilogue that is shorter than the function
+  module _ (l : length (packedEpilogue p) < p .length) where
+    abbrev answered : Unwound
+    answered = unwound (p .length) (packedPrologue p) (epilogue (4 * (p .length - suc (length (packedEpilogue p)))) (packedEpilogue p) ∷ [])
+
+    at-end : packedEpilogues p ≡ some (epilogue (4 * (p .length - suc (length (packedEpilogue p)))) (packedEpilogue p) ∷ [])
+    unfolding packedEpilogues atEnd
+    at-end =
+        let n : p .flag ≡ 2 → ⊥ = λ e. absurd (omega (arith, h .flag, e)) in
+        let g : suc (length (packedEpilogue p)) ≤ p .length = omega (arith, l) in
+        rw (if-ne (p .flag) 2) (rw (if-le (suc (length (packedEpilogue p))) (p .length)) refl)
+
+    fields-read : packedUnwound p ≡ some answered
+    unfolding packedUnwound pick after
+    fields-read = rw o (rw at-end refl)
+
+    pub word-read : unwoundBy (packedWord p) s place ≡ good answered
+    unfolding unwoundBy pick orElse
+    word-read =
+        let e : packedUnwound (packedOf (packedWord p)) ≡ some answered = ap packedUnwound (word-back p h) ∙ fields-read in
+        rw (word-flag p h) (rw (lt-ltb (packedWord p) (2 ^ 32) (word-low p h)) (rw e refl))
+
+effects-given : (cs : List Code) → effects none (simplify noPair cs) ≡ effects none cs
+unfolding prologueMeans
+effects-given cs = simplify-means cs
+
+-- ---- a packed function
+
+-- what the reader says of a function: its length, one epilogue at its start, and codes that mean what was given
+pub record Back (f : Function) (e : Epilogue) (r : Result Unwound) : Type 0 where
+  pub codes : List Code
+  pub undoing : List Code
+  pub answer : r ≡ good (record { size = f .size; prologue = codes; epilogues = epilogue (e .start) undoing ∷ [] })
+  pub prologue : prologueMeans codes ≡ prologueMeans (f .prologue)
+  pub epilogue-means : epilogueMeans undoing ≡ epilogueMeans (e .codes)
+
+module _ (f : Function) (e : Epilogue) (z : f .size % 4 ≡ 0) (y : e .start % 4 ≡ 0) (x : e .start < f .size) (t : packedFor f e ≡ true)
+    (s : List ℕ) (place : ℕ) where
+  abbrev word : Packed
+  word = candidate (instructions (f .size)) (prologueRun f)
+
+  parts : (endsWith f e ≡ true) × (standsFor word (prologueRun f) (epilogueRun e) ≡ true)
+  unfolding packedFor
+  parts =
+      let a = both-true (endsWith f e && leads (epilogueRun e) (prologueRun f)) (standsFor word (prologueRun f) (epilogueRun e)) t in
+      (both-true (endsWith f e) (leads (epilogueRun e) (prologueRun f)) (a .0) .0, a .1)
+
+  ends : (f .size - e .start) / 4 ≡ length (e .codes) + 1
+  unfolding endsWith instructions
+  ends =
+      eqb-true ((f .size - e .start) / 4) (length (e .codes) + 1)
+      (both-true (eqb ((f .size - e .start) / 4) (length (e .codes) + 1)) (leb (indexIn f e) 31)
+      (both-true (eqb ((f .size - e .start) / 4) (length (e .codes) + 1) && leb (indexIn f e) 31) (leb (length (codesOf f)) 124) (parts .0) .0) .0)
+
+  run-length : length (epilogueRun e) ≡ length (e .codes)
+  unfolding epilogueRun
+  run-length = simplify-length noPair (reverse (e .codes)) ∙ reverse-length (e .codes)
+
+  epilogue-length : length (packedEpilogue word) ≡ length (e .codes)
+  epilogue-length =
+      ap length (sym (epilogue-same (instructions (f .size)) (prologueRun f) (epilogueRun e) (parts .1)))
+      ∙ reverse-length (resolve noPair (epilogueRun e)) ∙ resolve-length noPair (epilogueRun e) ∙ run-length
+
+  word-size : word .length ≡ f .size / 4
+  unfolding instructions
+  word-size = candidate-counted (f .size / 4) (prologueRun f) .length
+
+  shorter-than : length (packedEpilogue word) < word .length
+  shorter-than = omega (arith, epilogue-length, word-size, ends, z, y, x)
+
+  size-back : 4 * word .length ≡ f .size
+  size-back = omega (arith, word-size, z)
+
+  start-back : 4 * (word .length - suc (length (packedEpilogue word))) ≡ e .start
+  start-back = omega (arith, epilogue-length, word-size, ends, z, y, x)
+
+  prologue-given : prologueMeans (prologueRun f) ≡ prologueMeans (f .prologue)
+  unfolding prologueRun
+  prologue-given = simplify-means (f .prologue)
+
+  epilogue-given : epilogueMeans (reverse (epilogueRun e)) ≡ epilogueMeans (e .codes)
+  unfolding epilogueRun epilogueMeans
+  epilogue-given =
+      ap (λ cs. reverse (effects none cs)) (reverse-twice (simplify noPair (reverse (e .codes)))) ∙ ap reverse (effects-given (reverse (e .codes)))
+
+  pub packed-back : Back f e (unwoundBy (packedWord word) s place)
+  unfolding unwound
+  packed-back =
+      let a = parts .1 in
+      let h = held (instructions (f .size)) (prologueRun f) (epilogueRun e) a in
+      let o = ok (instructions (f .size)) (prologueRun f) (epilogueRun e) a in
+      record {
+        codes = packedPrologue word;
+        undoing = packedEpilogue word;
+        answer = word-read word h o s place shorter-than
+          ∙ ap (λ (n : ℕ). good (record { size = n; prologue = packedPrologue word; epilogues = epilogue (4 * (word .length - suc (length (packedEpilogue word)))) (packedEpilogue word) ∷ [] })) size-back
+          ∙ ap (λ (n : ℕ). good (record { size = f .size; prologue = packedPrologue word; epilogues = epilogue n (packedEpilogue word) ∷ [] })) start-back;
+        prologue = packed-prologue word (prologueRun f) (epilogueRun e) a ∙ prologue-given;
+        epilogue-means = packed-epilogue word (prologueRun f) (epilogueRun e) a ∙ epilogue-given;
+      }
