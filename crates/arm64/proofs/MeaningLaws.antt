@@ -68,26 +68,26 @@ module _ (p : Option Pair) where
       let P : Code → Type 0 = λ d. stepOf p d ≡ stepOf p c in
       by-pick P (eqb (c .kind) kRegp && eqb (c .register) fp) _ _
       (λ t.
-        let q = both-true (eqb (c .kind) kRegp) (eqb (c .register) fp) t in
-        frame-pair (c .offset) ∙ ap (stepOf p) (sym (of-both c (eqb-true (c .kind) kRegp (q .0)) (eqb-true (c .register) fp (q .1)))))
+      let q = both-true (eqb (c .kind) kRegp) (eqb (c .register) fp) t in
+      frame-pair (c .offset) ∙ ap (stepOf p) (sym (of-both c (eqb-true (c .kind) kRegp (q .0)) (eqb-true (c .register) fp (q .1)))))
       λ n1.
       by-pick P (eqb (c .kind) kRegpX && eqb (c .register) fp) _ _
       (λ t.
-        let q = both-true (eqb (c .kind) kRegpX) (eqb (c .register) fp) t in
-        frame-push (c .offset) ∙ ap (stepOf p) (sym (of-both c (eqb-true (c .kind) kRegpX (q .0)) (eqb-true (c .register) fp (q .1)))))
+      let q = both-true (eqb (c .kind) kRegpX) (eqb (c .register) fp) t in
+      frame-push (c .offset) ∙ ap (stepOf p) (sym (of-both c (eqb-true (c .kind) kRegpX (q .0)) (eqb-true (c .register) fp (q .1)))))
       λ n2.
       by-pick P (eqb (c .kind) kRegpX && eqb (c .register) 19 && leb (c .offset) 248) _ _
       (λ t.
-        let o = both-true (eqb (c .kind) kRegpX && eqb (c .register) 19) (leb (c .offset) 248) t in
-        let q = both-true (eqb (c .kind) kRegpX) (eqb (c .register) 19) (o .0) in
-        first-push (c .offset) ∙ ap (stepOf p) (sym (of-both c (eqb-true (c .kind) kRegpX (q .0)) (eqb-true (c .register) 19 (q .1)))))
+      let o = both-true (eqb (c .kind) kRegpX && eqb (c .register) 19) (leb (c .offset) 248) t in
+      let q = both-true (eqb (c .kind) kRegpX) (eqb (c .register) 19) (o .0) in
+      first-push (c .offset) ∙ ap (stepOf p) (sym (of-both c (eqb-true (c .kind) kRegpX (q .0)) (eqb-true (c .register) 19 (q .1)))))
       λ n3.
       by-pick P (eqb (c .kind) kAddFp && eqb (c .offset) 0) _ _
       (λ t.
-        let q = both-true (eqb (c .kind) kAddFp) (eqb (c .offset) 0) t in
-        no-offset (c .register)
-        ∙ ap (stepOf p)
-          (ap (λ (z : ℕ). code kAddFp (c .register) z) (sym (eqb-true (c .offset) 0 (q .1))) ∙ sym (of-kind c (eqb-true (c .kind) kAddFp (q .0)))))
+      let q = both-true (eqb (c .kind) kAddFp) (eqb (c .offset) 0) t in
+      no-offset (c .register)
+      ∙ ap (stepOf p)
+      (ap (λ (z : ℕ). code kAddFp (c .register) z) (sym (eqb-true (c .offset) 0 (q .1))) ∙ sym (of-kind c (eqb-true (c .kind) kAddFp (q .0)))))
       λ n4. refl
 
 -- ---- save_next
@@ -134,9 +134,9 @@ next-frame : (b : Code) → hasNext b ≡ true → b .register ≡ fp → ⊥
 unfolding hasNext
 next-frame b e f =
     let q : b .register < fp
-        = ltb-true (b .register) fp
-          (both-true (eqb (b .kind) kRegp || eqb (b .kind) kFregp) (ltb (b .register) fp)
-          (both-true ((eqb (b .kind) kRegp || eqb (b .kind) kFregp) && ltb (b .register) fp) (ltb (b .offset) 1024) e .0) .1) in
+    = ltb-true (b .register) fp
+    (both-true (eqb (b .kind) kRegp || eqb (b .kind) kFregp) (ltb (b .register) fp)
+    (both-true ((eqb (b .kind) kRegp || eqb (b .kind) kFregp) && ltb (b .register) fp) (ltb (b .offset) 1024) e .0) .1) in
     absurd (omega (arith, q, f))
 
 module _ (b : Code) (p : Option Pair) (s : Same b p) where
@@ -147,12 +147,12 @@ module _ (b : Code) (p : Option Pair) (s : Same b p) where
       let P : Code → Type 0 = λ n. n ≡ d → d .kind ≡ kRegp → (d .register ≡ fp → ⊥) → stepOf p (code kSaveNext 0 0) ≡ stepOf p d in
       by-pick P (hasNext b) _ _
       (λ t e k n.
-        let f : b .kind ≡ kRegp = ap (λ x. x .kind) e ∙ k in
-        let v : eqb (b .kind) kFregp ≡ false = ne-eqb (b .kind) kFregp (λ g. absurd (omega (arith, f, g))) in
-        let m : b .register + 2 ≡ fp → ⊥ = λ g. n (ap (λ x. x .register) (sym e) ∙ g) in
-        ap (λ q. stepOf q (code kSaveNext 0 0)) (s t) ∙ next-means (eqb (b .kind) kFregp) (b .register) (b .offset)
-        ∙ ap (λ w. savePair w 0 (b .register + 2) (b .offset + 16)) v ∙ sym (pair-means p (b .register + 2) (b .offset + 16) m)
-        ∙ ap (λ (k : ℕ). stepOf p (code k (b .register + 2) (b .offset + 16))) (sym f) ∙ ap (stepOf p) e)
+      let f : b .kind ≡ kRegp = ap (λ x. x .kind) e ∙ k in
+      let v : eqb (b .kind) kFregp ≡ false = ne-eqb (b .kind) kFregp (λ g. absurd (omega (arith, f, g))) in
+      let m : b .register + 2 ≡ fp → ⊥ = λ g. n (ap (λ x. x .register) (sym e) ∙ g) in
+      ap (λ q. stepOf q (code kSaveNext 0 0)) (s t) ∙ next-means (eqb (b .kind) kFregp) (b .register) (b .offset)
+      ∙ ap (λ w. savePair w 0 (b .register + 2) (b .offset + 16)) v ∙ sym (pair-means p (b .register + 2) (b .offset + 16) m)
+      ∙ ap (λ (k : ℕ). stepOf p (code k (b .register + 2) (b .offset + 16))) (sym f) ∙ ap (stepOf p) e)
       λ t e k n. absurd (omega (arith, ap (λ x. x .kind) e, k))
 
   next-or-means : (d : Code) → (d .kind ≡ kRegp → d .register ≡ fp → ⊥) → stepOf p (nextOr b d) ≡ stepOf p d
@@ -160,8 +160,8 @@ module _ (b : Code) (p : Option Pair) (s : Same b p) where
   next-or-means d n =
       by-pick (λ x. stepOf p x ≡ stepOf p d) (eqb (d .kind) kRegp && sameCode (nextPair b) d) _ _
       (λ t.
-        let q = both-true (eqb (d .kind) kRegp) (sameCode (nextPair b) d) t in
-        let k : d .kind ≡ kRegp = eqb-true (d .kind) kRegp (q .0) in next-same d (equal (nextPair b) d (q .1)) k (n k))
+      let q = both-true (eqb (d .kind) kRegp) (sameCode (nextPair b) d) t in
+      let k : d .kind ≡ kRegp = eqb-true (d .kind) kRegp (q .0) in next-same d (equal (nextPair b) d (q .1)) k (n k))
       λ t. refl
 
   pub simple-means : (c : Code) → stepOf p (simple b c) ≡ stepOf p c
@@ -210,9 +210,9 @@ module _ (p : Option Pair) (c : Code) where
   own-pair t h =
       or-split (eqb (c .kind) kRegp) (eqb (c .kind) kFregp) (left ≡ some (record { vector = eqb (c .kind) kFregp; register = c .register; above = c .offset })) t
       (λ e.
-        let k : c .kind ≡ kRegp = eqb-true (c .kind) kRegp e in
-        leaves false 0 (c .register) (c .offset) (ap (stepOf p) (of-kind c k) ∙ pair-means p (c .register) (c .offset) (next-frame c h))
-        ∙ ap (λ v. some (record { vector = v; register = c .register; above = c .offset })) (sym (ne-eqb (c .kind) kFregp (λ g. absurd (omega (arith, k, g))))))
+      let k : c .kind ≡ kRegp = eqb-true (c .kind) kRegp e in
+      leaves false 0 (c .register) (c .offset) (ap (stepOf p) (of-kind c k) ∙ pair-means p (c .register) (c .offset) (next-frame c h))
+      ∙ ap (λ v. some (record { vector = v; register = c .register; above = c .offset })) (sym (ne-eqb (c .kind) kFregp (λ g. absurd (omega (arith, k, g))))))
       λ e.
       let k : c .kind ≡ kFregp = eqb-true (c .kind) kFregp e in
       leaves true 0 (c .register) (c .offset) (ap (stepOf p) (of-kind c k) ∙ step-9 p (c .register) (c .offset))
@@ -244,9 +244,9 @@ module _ (b : Code) (p : Option Pair) (s : Same b p) (c : Code) where
   after-pair k t =
       by-pick (λ d. Same d (left p c)) (eqb (b .kind) kRegp || eqb (b .kind) kFregp) (code (b .kind) (b .register + 2) (b .offset + 16)) _
       (λ u h.
-        leaves p c (eqb (b .kind) kFregp) 0 (b .register + 2) (b .offset + 16)
-        (ap (stepOf p) (of-kind c k) ∙ step-16 p (c .register) (c .offset) ∙ ap (λ q. stepOf q (code kSaveNext 0 0)) (s t)
-        ∙ next-means (eqb (b .kind) kFregp) (b .register) (b .offset)))
+      leaves p c (eqb (b .kind) kFregp) 0 (b .register + 2) (b .offset + 16)
+      (ap (stepOf p) (of-kind c k) ∙ step-16 p (c .register) (c .offset) ∙ ap (λ q. stepOf q (code kSaveNext 0 0)) (s t)
+      ∙ next-means (eqb (b .kind) kFregp) (b .register) (b .offset)))
       λ n. absurd (no-yes (sym n ∙ next-kind b t))
 
   behind-next : c .kind ≡ kSaveNext → Same (pairIn (nextPair b)) (left p c)

@@ -257,8 +257,8 @@ module _ (f : Function) (e : Epilogue) (z : f .size % 4 ≡ 0) (y : e .start % 4
         codes = packedPrologue word;
         undoing = packedEpilogue word;
         answer = word-read word h o s place shorter-than
-          ∙ ap (λ (n : ℕ). good (record { size = n; prologue = packedPrologue word; epilogues = epilogue (4 * (word .length - suc (length (packedEpilogue word)))) (packedEpilogue word) ∷ [] })) size-back
-          ∙ ap (λ (n : ℕ). good (record { size = f .size; prologue = packedPrologue word; epilogues = epilogue n (packedEpilogue word) ∷ [] })) start-back;
+            ∙ ap (λ (n : ℕ). good (record { size = n; prologue = packedPrologue word; epilogues = epilogue (4 * (word .length - suc (length (packedEpilogue word)))) (packedEpilogue word) ∷ [] })) size-back
+            ∙ ap (λ (n : ℕ). good (record { size = f .size; prologue = packedPrologue word; epilogues = epilogue n (packedEpilogue word) ∷ [] })) start-back;
         prologue = packed-prologue word (prologueRun f) (epilogueRun e) a ∙ prologue-given;
         epilogue-means = packed-epilogue word (prologueRun f) (epilogueRun e) a ∙ epilogue-given;
       }

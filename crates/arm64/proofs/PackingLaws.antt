@@ -75,16 +75,16 @@ module _ (b : Code) (p : Option Pair) (s : Same b p) (c : Code) (q : Option Pair
       let r : ℕ = b .register + 2 in
       let z : ℕ = b .offset + 16 in
       let given : stepOf p c ≡ savePair (eqb (b .kind) kFregp) 0 (b .register + 2) (b .offset + 16)
-          = ap (stepOf p) (of-kind c k) ∙ step-16 p (c .register) (c .offset) ∙ ap (λ x. stepOf x (code kSaveNext 0 0)) (s t)
-            ∙ next-means (eqb (b .kind) kFregp) (b .register) (b .offset) in
+      = ap (stepOf p) (of-kind c k) ∙ step-16 p (c .register) (c .offset) ∙ ap (λ x. stepOf x (code kSaveNext 0 0)) (s t)
+      ∙ next-means (eqb (b .kind) kFregp) (b .register) (b .offset) in
       or-split (eqb (b .kind) kRegp) (eqb (b .kind) kFregp)
       (effectOf (stepOf q (code (b .kind) (b .register + 2) (b .offset + 16))) ≡ effectOf (stepOf p c)) (next-kind b t)
       (λ e.
-        let f : b .kind ≡ kRegp = eqb-true (b .kind) kRegp e in
-        let v : eqb (b .kind) kFregp ≡ false = ne-eqb (b .kind) kFregp (λ g. absurd (omega (arith, f, g))) in
-        ap (λ (n : ℕ). effectOf (stepOf q (code n (b .register + 2) (b .offset + 16)))) f
-        ∙ regp-step q (b .register + 2) (b .offset + 16) ∙ pair-effect (b .register + 2) (b .offset + 16)
-        ∙ ap (λ w. effectOf (savePair w 0 (b .register + 2) (b .offset + 16))) (sym v) ∙ sym (ap effectOf given))
+      let f : b .kind ≡ kRegp = eqb-true (b .kind) kRegp e in
+      let v : eqb (b .kind) kFregp ≡ false = ne-eqb (b .kind) kFregp (λ g. absurd (omega (arith, f, g))) in
+      ap (λ (n : ℕ). effectOf (stepOf q (code n (b .register + 2) (b .offset + 16)))) f
+      ∙ regp-step q (b .register + 2) (b .offset + 16) ∙ pair-effect (b .register + 2) (b .offset + 16)
+      ∙ ap (λ w. effectOf (savePair w 0 (b .register + 2) (b .offset + 16))) (sym v) ∙ sym (ap effectOf given))
       λ e.
       ap (λ (n : ℕ). effectOf (stepOf q (code n (b .register + 2) (b .offset + 16)))) (eqb-true (b .kind) kFregp e)
       ∙ ap effectOf (step-9 q (b .register + 2) (b .offset + 16))
@@ -108,7 +108,7 @@ resolve-effects b p q s [] n = refl
 resolve-effects b p q s (c ∷ cs) n =
     ap (λ e. e ∷ effects (pairOf (stepOf q (resolved b c))) (resolve (pairBehind b c) cs)) (resolved-effect b p s c q (n .0))
     ∙ ap (λ es. effectOf (stepOf p c) ∷ es)
-      (resolve-effects (pairBehind b c) (pairOf (stepOf p c)) (pairOf (stepOf q (resolved b c))) (behind-same b p s c) cs (n .1))
+    (resolve-effects (pairBehind b c) (pairOf (stepOf p c)) (pairOf (stepOf q (resolved b c))) (behind-same b p s c) cs (n .1))
 
 -- ---- a packed word stands for no save_next
 

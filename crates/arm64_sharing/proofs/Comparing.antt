@@ -48,7 +48,7 @@ pub comparing-start : (cs : List ℕ) (r o : Run) → Comparing cs r o noPair 0
 comparing-start cs r o =
     record {
       same = ap (λ ds. leads (simplify noPair ds) (simplify noPair (saves cs o))) (rest-start cs r)
-        ∙ ap (λ ds. leads (simplify noPair (rest cs r 0)) (simplify noPair ds)) (rest-start cs o);
+          ∙ ap (λ ds. leads (simplify noPair (rest cs r 0)) (simplify noPair ds)) (rest-start cs o);
     }
 
 module _ {cs : List ℕ} {r o : Run} {b c d x y : Code} {j : ℕ} (s : Comparing cs r o b j) (h : j < r .count) (l : r .count ≤ o .count)
@@ -70,8 +70,8 @@ module _ {cs : List ℕ} {r o : Run} {b c d x y : Code} {j : ℕ} (s : Comparing
   comparing-turn {z} n m =
       record {
         same = cut ∙ ap (λ t. t && leads (simplify (pairBehind b c) (rest cs r (j + 1))) (simplify (pairBehind b d) (rest cs o (j + 1)))) n
-          ∙ ap (λ t. leads (simplify (pairBehind b c) (rest cs r (j + 1))) (simplify (pairBehind b t) (rest cs o (j + 1)))) (sym (equal c d n))
-          ∙ ap (λ t. leads (simplify t (rest cs r (j + 1))) (simplify t (rest cs o (j + 1)))) (sym m);
+            ∙ ap (λ t. leads (simplify (pairBehind b c) (rest cs r (j + 1))) (simplify (pairBehind b t) (rest cs o (j + 1)))) (sym (equal c d n))
+            ∙ ap (λ t. leads (simplify t (rest cs r (j + 1))) (simplify t (rest cs o (j + 1)))) (sym m);
       }
 
 pub comparing-ended : {cs : List ℕ} {r o : Run} {b : Code} {j : ℕ} → Comparing cs r o b j → r .count ≤ j

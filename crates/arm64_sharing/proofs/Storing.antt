@@ -52,7 +52,7 @@ pub put-start : {cs : List ℕ} {r : Run} {xs : List ℕ} {at size : ℕ} → ru
     → size ≡ length (backwards (simplify noPair (saves cs r))) → at + size + 1 ≤ length xs → Putting cs r xs xs at (at + size) noPair 0
 put-start {cs} {r} {xs} {at} {size} f e h =
     let g : length (backwards (simplify noPair (saves cs r))) ≡ length (backwards (simplify noPair (rest cs r 0)))
-        = ap (λ ds. length (backwards (simplify noPair ds))) (rest-start cs r) in
+    = ap (λ ds. length (backwards (simplify noPair ds))) (rest-start cs r) in
     record {
       same-length = refl;
       fits = sym (ap (runFits noPair) (rest-start cs r)) ∙ f;
@@ -85,8 +85,8 @@ module _ {cs : List ℕ} {r : Run} {xs₀ xs : List ℕ} {at to : ℕ} {b c f : 
   put-turn {ys} {n} {q} {d} m w g =
       let l : to - n ≡ at + length later = omega (arith, put-low, m) in
       let z : put ys at later ≡ put xs₀ at (backwards (simplify noPair (saves cs r)))
-          = ap (λ zs. put zs at later) (w .stored) ∙ in-front xs at (to - n) later (codeBytes f) (omega (arith, l))
-            ∙ ap (λ (i : ℕ). put (put xs at later) i (codeBytes f)) l ∙ sym (put-append xs at later (codeBytes f)) ∙ ap (put xs at) (sym cut) ∙ s .same in
+      = ap (λ zs. put zs at later) (w .stored) ∙ in-front xs at (to - n) later (codeBytes f) (omega (arith, l))
+      ∙ ap (λ (i : ℕ). put (put xs at later) i (codeBytes f)) l ∙ sym (put-append xs at later (codeBytes f)) ∙ ap (put xs at) (sym cut) ∙ s .same in
       record {
         same-length = kept w ∙ s .same-length;
         fits = ap (λ x. runFits x (rest cs r (j + 1))) (g ∙ ap (pairBehind b) k) ∙ fits-first b c (rest cs r (j + 1)) here .1;
