@@ -1,5 +1,6 @@
 /* Times of the reader by places on a table of 10,000 functions: the index, a record by its two places, a record by its number, and the
- * rules of 65 registers of one record by one locating and by a read each. Processor time; the fastest of several turns counts. */
+ * rules of 65 registers of one record by one locating and by a read each. Processor time; the fastest of several turns counts.
+ * `lookup FILE` writes the section too, for lookup_gimli.rs. */
 #define _POSIX_C_SOURCE 199309L
 #include <inttypes.h>
 #include <stdio.h>
@@ -120,7 +121,12 @@ static void least(double *best, double taken) {
     if (*best == 0 || taken < *best) *best = taken;
 }
 
-int main(void) {
+static void save(const char *path, size_t n) {
+    FILE *file = fopen(path, "wb");
+    check(file != NULL && fwrite(section, 1, n, file) == n && fclose(file) == 0, "the file");
+}
+
+int main(int argc, char **argv) {
     enum { DEBUG, INDEX, PLACES, LOOKUP, READ, ALL, READS, HOLDER, KINDS };
     static const char *const NAMES[KINDS] = {"index of 10,000 records, debug_frame", "index of 10,000 records", "record located by its places", "record located by its places, and one register",
         "read by number, the last record", "65 registers, one locating, the last record", "65 registers, a read each, the last record",
@@ -130,6 +136,7 @@ int main(void) {
     unwind_written d = debug_table();
     check(w.number == 0 && d.number == 0, "table");
     size_t n = w.bytes, m = 5 * w.relocations;
+    if (argc == 2) save(argv[1], n);
     for (int turn = 0; turn < TURNS; turn++) {
         if (turn < 3) least(&best[DEBUG], time_index(debug, d.bytes, debug_relocations, 5 * d.relocations, 1));
         least(&best[INDEX], time_index(section, n, relocations, m, 0));
