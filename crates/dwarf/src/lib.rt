@@ -20,7 +20,7 @@ ghost use Rattle.dwarf.specs.Asks.{Askable, AllAskable, askedIn};
 ghost use Rattle.dwarf.specs.Parts.{inputs, writtenIn, partsTo};
 ghost use Rattle.dwarf.specs.Sure.{Cleared, Next, PartReady};
 ghost use Rattle.dwarf.specs.Tables.{totalsIn, grownBy, SizeReady, labelledRows, mostIn, Few, roomFor, FrontReady, FrontStored, PieceReady, Stored, Added, Written, Holds, chosenBy};
-ghost use Rattle.search.specs.Chains.{Owned};
+ghost use Rattle.search.specs.Chains.{Owned, Unused};
 ghost use Rattle.dwarf.specs.Pieces.{frontIn, relocNumbers, partIn};
 use format::Counts;
 use format::Machine;
@@ -730,8 +730,8 @@ fn measured(
     )
 }
 
-// The functions, whose owners are known, written where there is room. Lists that hold all that functions like these can be
-// save the pass that sizes them.
+// The functions written where there is room; their owners are found first, in the lists lent for that. Lists that hold all
+// that functions like these can be save the pass that sizes them.
 fn fitted(
     s: Section,
     m: Machine,
@@ -739,16 +739,19 @@ fn fitted(
     rows: &[u64],
     landings: &[u64],
     pairs: &[u64],
-    owners: &[u16],
+    heads: &mut [u16],
+    links: &mut [u16],
+    owners: &mut [u16],
     places: &mut [u64],
     out: &mut [u8],
     relocs: &mut [u64],
     sites: &mut [u8],
 ) -> Outcome
-    requires { ⌜ Cleared (inputs s m (now fs) (now rows) (now landings) (now pairs)) × Owned s m (now fs) (now rows) (count functionStride (now fs)) (now owners) ⌝ }
+    requires { ⌜ Cleared (inputs s m (now fs) (now rows) (now landings) (now pairs)) × Unused (count functionStride (now fs)) (now heads) (now links) (now owners) ⌝ }
     ensures { λ r. ⌜ Writes (fitting (roomIn (now (places .entry)) (now (out .entry)) (now (relocs .entry)) (now (sites .entry))) (writtenIn (partsTo (inputs s m (now (fs .entry)) (now (rows .entry)) (now (landings .entry)) (now (pairs .entry))) (count functionStride (now (fs .entry)))))) r (now (places .entry)) (now (places .exit)) (now (out .entry)) (now (out .exit)) (now (relocs .entry)) (now (relocs .exit)) (now (sites .entry)) (now (sites .exit)) ⌝ }
 {
     let n = fs.len() / 18;
+    search::owners(s, m, fs, rows, n, heads, links, owners);
     let lent = Table {
         bytes: out.len(),
         relocations: relocs.len(),
@@ -785,140 +788,8 @@ fn fitted(
     )
 }
 
-// 64 functions at most.
-fn fitted_64(
-    s: Section,
-    m: Machine,
-    fs: &[u64],
-    rows: &[u64],
-    landings: &[u64],
-    pairs: &[u64],
-    places: &mut [u64],
-    out: &mut [u8],
-    relocs: &mut [u64],
-    sites: &mut [u8],
-) -> Outcome
-    requires { ⌜ Cleared (inputs s m (now fs) (now rows) (now landings) (now pairs)) × (count functionStride (now fs) ≤ 64) ⌝ }
-    ensures { λ r. ⌜ Writes (fitting (roomIn (now (places .entry)) (now (out .entry)) (now (relocs .entry)) (now (sites .entry))) (writtenIn (partsTo (inputs s m (now (fs .entry)) (now (rows .entry)) (now (landings .entry)) (now (pairs .entry))) (count functionStride (now (fs .entry)))))) r (now (places .entry)) (now (places .exit)) (now (out .entry)) (now (out .exit)) (now (relocs .entry)) (now (relocs .exit)) (now (sites .entry)) (now (sites .exit)) ⌝ }
-{
-    let mut heads = [0u16; 61];
-    let mut links = [0u16; 64];
-    let mut owners = [0u16; 64];
-    search::owners(
-        s,
-        m,
-        fs,
-        rows,
-        fs.len() / 18,
-        &mut heads,
-        &mut links,
-        &mut owners,
-    );
-    fitted(
-        s,
-        m,
-        fs,
-        rows,
-        landings,
-        pairs,
-        &owners,
-        places,
-        out,
-        relocs,
-        sites,
-    )
-}
-
-// 2,048 at most.
-fn fitted_2048(
-    s: Section,
-    m: Machine,
-    fs: &[u64],
-    rows: &[u64],
-    landings: &[u64],
-    pairs: &[u64],
-    places: &mut [u64],
-    out: &mut [u8],
-    relocs: &mut [u64],
-    sites: &mut [u8],
-) -> Outcome
-    requires { ⌜ Cleared (inputs s m (now fs) (now rows) (now landings) (now pairs)) × (count functionStride (now fs) ≤ 2048) ⌝ }
-    ensures { λ r. ⌜ Writes (fitting (roomIn (now (places .entry)) (now (out .entry)) (now (relocs .entry)) (now (sites .entry))) (writtenIn (partsTo (inputs s m (now (fs .entry)) (now (rows .entry)) (now (landings .entry)) (now (pairs .entry))) (count functionStride (now (fs .entry)))))) r (now (places .entry)) (now (places .exit)) (now (out .entry)) (now (out .exit)) (now (relocs .entry)) (now (relocs .exit)) (now (sites .entry)) (now (sites .exit)) ⌝ }
-{
-    let mut heads = [0u16; 2039];
-    let mut links = [0u16; 2048];
-    let mut owners = [0u16; 2048];
-    search::owners(
-        s,
-        m,
-        fs,
-        rows,
-        fs.len() / 18,
-        &mut heads,
-        &mut links,
-        &mut owners,
-    );
-    fitted(
-        s,
-        m,
-        fs,
-        rows,
-        landings,
-        pairs,
-        &owners,
-        places,
-        out,
-        relocs,
-        sites,
-    )
-}
-
-// As many as there may be.
-fn fitted_65536(
-    s: Section,
-    m: Machine,
-    fs: &[u64],
-    rows: &[u64],
-    landings: &[u64],
-    pairs: &[u64],
-    places: &mut [u64],
-    out: &mut [u8],
-    relocs: &mut [u64],
-    sites: &mut [u8],
-) -> Outcome
-    requires { ⌜ Cleared (inputs s m (now fs) (now rows) (now landings) (now pairs)) × (count functionStride (now fs) ≤ 65536) ⌝ }
-    ensures { λ r. ⌜ Writes (fitting (roomIn (now (places .entry)) (now (out .entry)) (now (relocs .entry)) (now (sites .entry))) (writtenIn (partsTo (inputs s m (now (fs .entry)) (now (rows .entry)) (now (landings .entry)) (now (pairs .entry))) (count functionStride (now (fs .entry)))))) r (now (places .entry)) (now (places .exit)) (now (out .entry)) (now (out .exit)) (now (relocs .entry)) (now (relocs .exit)) (now (sites .entry)) (now (sites .exit)) ⌝ }
-{
-    let mut heads = [0u16; 16381];
-    let mut links = [0u16; 65536];
-    let mut owners = [0u16; 65536];
-    search::owners(
-        s,
-        m,
-        fs,
-        rows,
-        fs.len() / 18,
-        &mut heads,
-        &mut links,
-        &mut owners,
-    );
-    fitted(
-        s,
-        m,
-        fs,
-        rows,
-        landings,
-        pairs,
-        &owners,
-        places,
-        out,
-        relocs,
-        sites,
-    )
-}
-
-// The functions sized and, where there is room, written. The lists that the search works in lie on the stack, and clearing them
-// for a few functions is to cost little.
+// The functions sized and, where there is room, written. The lists that their owners are found in lie on the stack, and
+// clearing them for a few functions is to cost little: there are three sizes of them.
 fn deliver(
     s: Section,
     m: Machine,
@@ -936,12 +807,63 @@ fn deliver(
 {
     let n = fs.len() / 18;
     if n <= 64 {
-        return fitted_64(s, m, fs, rows, landings, pairs, places, out, relocs, sites);
+        let mut heads = [0u16; 61];
+        let mut links = [0u16; 64];
+        let mut owners = [0u16; 64];
+        return fitted(
+            s,
+            m,
+            fs,
+            rows,
+            landings,
+            pairs,
+            &mut heads,
+            &mut links,
+            &mut owners,
+            places,
+            out,
+            relocs,
+            sites,
+        );
     }
     if n <= 2048 {
-        return fitted_2048(s, m, fs, rows, landings, pairs, places, out, relocs, sites);
+        let mut heads = [0u16; 2039];
+        let mut links = [0u16; 2048];
+        let mut owners = [0u16; 2048];
+        return fitted(
+            s,
+            m,
+            fs,
+            rows,
+            landings,
+            pairs,
+            &mut heads,
+            &mut links,
+            &mut owners,
+            places,
+            out,
+            relocs,
+            sites,
+        );
     }
-    fitted_65536(s, m, fs, rows, landings, pairs, places, out, relocs, sites)
+    let mut heads = [0u16; 16381];
+    let mut links = [0u16; 65536];
+    let mut owners = [0u16; 65536];
+    fitted(
+        s,
+        m,
+        fs,
+        rows,
+        landings,
+        pairs,
+        &mut heads,
+        &mut links,
+        &mut owners,
+        places,
+        out,
+        relocs,
+        sites,
+    )
 }
 
 // A DWARF section of functions: headers and records, their relocations, the call sites, and each function's header place. A
