@@ -53,7 +53,7 @@ fn rest(
     p: Promise,
     reg: u64,
 ) -> HeaderRead
-    requires { ⌜ (at ≤ length (now body)) × (base + length (now body) < 2 ^ 64) ⌝ }
+    requires { ⌜ T (isWord word) × (at ≤ length (now body)) × (base + length (now body) < 2 ^ 64) ⌝ }
     ensures { λ r. ⌜ r ≡ headerNumbers (base + length (now (body .entry))) (headerRest debug (lettersOf p) word reg (drop at (now (body .entry)))) ⌝ }
 {
     let Header::Fields(operations, pointer, signal) = reader::fields::header_tail(
@@ -129,7 +129,7 @@ fn fields(body: &[u8], base: u64, debug: bool, word: u64) -> HeaderRead
 pub extern "C" fn unwind_read_header(section: &[u8], kind: u64, word: u64, place: u64) -> HeaderRead
     ensures { λ r. ⌜ r ≡ readHeaderAt (now (section .entry)) kind word place ⌝ }
 {
-    if !reader::is_word(word) {
+    if !numbers::is_word(word) {
         return refused(11, 0);
     }
     if 1 < kind {

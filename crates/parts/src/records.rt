@@ -120,7 +120,7 @@ pub extern "C" fn unwind_read_record(
 ) -> RecordRead
     ensures { λ r. ⌜ r ≡ readRecordAt (now (section .entry)) kind word pointer place ⌝ }
 {
-    if !reader::is_word(word) {
+    if !numbers::is_word(word) {
         return refused(11, 0);
     }
     if 1 < kind {

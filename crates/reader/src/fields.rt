@@ -1,4 +1,4 @@
-// The fields of headers and records: question 64. Ported from rucc-asm/src/unwind.rs (pointer_size) of tamnd/rucc, changed: see NOTICE; the rest is added.
+// The fields of headers and records: question 64.
 ghost use mathlib.Core.Path.{_≡_};
 ghost use Prim.Native.Nat.{_≤_};
 ghost use lib.ListN.{length, drop};
@@ -8,7 +8,7 @@ ghost use Rattle.format.specs.Reader.{strip, spellings, readLetters, readCounte
 ghost use Rattle.format.specs.Prelude.{pick};
 ghost use Rattle.format.specs.Machine.{isWord};
 ghost use Rattle.format.specs.Rows.{sameOffset};
-ghost use Rattle.format.specs.Headers.{sizeOf, pointerSize, dataFactor};
+ghost use Rattle.format.specs.Headers.{pointerSize, dataFactor};
 ghost use Rattle.reader.specs.Spans.{numberOf};
 ghost use Rattle.reader.specs.Fields.{lettersOf, twoOf, Spells, CountsIn, SkipsTo, Numbers, Heads, headerFactors, Records};
 use crate::entries::Number;
@@ -100,33 +100,16 @@ pub fn letters(s: &[u8], at: usize, debug: bool) -> Spelled
 
 // ---- encodings
 
-// How many bytes a pointer has, where its encoding is accepted.
-fn size_of(word: u64, e: u8) -> Number
-    ensures { λ r. ⌜ r ≡ numberOf (sizeOf word e) ⌝ }
-{
-    match e {
-        0x00 => Number::Is(word as usize),
-        0x03 => Number::Is(4),
-        0x0b => Number::Is(4),
-        0x13 => Number::Is(4),
-        0x1b => Number::Is(4),
-        0x04 => Number::Is(8),
-        0x0c => Number::Is(8),
-        _ => Number::Nothing,
-    }
-}
-
-// The indirect bit is taken for a personality only.
+// How many bytes a pointer has, where its encoding is accepted. The indirect bit is taken for a personality only.
 fn pointer_size(indirect: bool, word: u64, e: u8) -> Number
+    requires { ⌜ T (isWord word) ⌝ }
     ensures { λ r. ⌜ r ≡ numberOf (pointerSize indirect word e) ⌝ }
 {
-    if e < 128 {
-        return size_of(word, e % 128);
+    let n = numbers::pointer_size(indirect, word, leb::wide(e));
+    if n == 0 {
+        return Number::Nothing;
     }
-    if indirect {
-        return size_of(word, e % 128);
-    }
-    Number::Nothing
+    Number::Is(n as usize)
 }
 
 // ---- augmentation data
@@ -146,6 +129,7 @@ fn counted(s: &[u8], at: usize) -> Span
 
 // The position past the personality's encoding and pointer, where there is one `here`.
 fn personality_in(s: &[u8], here: bool, word: u64) -> Number
+    requires { ⌜ T (isWord word) ⌝ }
     ensures { λ r. ⌜ SkipsTo (now (s .entry)) r (personalityIn here word (now (s .entry))) ⌝ }
 {
     if !here {
@@ -165,7 +149,7 @@ fn personality_in(s: &[u8], here: bool, word: u64) -> Number
 
 // The bytes of a record's pointer to call sites by the encoding at `at`, none where there is no encoding `here`.
 fn lsda_in(s: &[u8], at: usize, here: bool, word: u64) -> Unsigned
-    requires { ⌜ at ≤ length (now s) ⌝ }
+    requires { ⌜ T (isWord word) × (at ≤ length (now s)) ⌝ }
     ensures { λ r. ⌜ Numbers (now (s .entry)) r (lsdaIn here word (drop at (now (s .entry)))) ⌝ }
 {
     if !here {
@@ -182,6 +166,7 @@ fn lsda_in(s: &[u8], at: usize, here: bool, word: u64) -> Unsigned
 
 // The data that the string promises, the records' own encoding last: the bytes of a record's pointer to call sites.
 fn letters_in(s: &[u8], word: u64, p: Promise) -> Number
+    requires { ⌜ T (isWord word) ⌝ }
     ensures { λ r. ⌜ r ≡ numberOf (lettersIn (lettersOf p) word (now (s .entry))) ⌝ }
 {
     let Number::Is(at) = personality_in(s, p.personality, word) else {
@@ -209,7 +194,7 @@ pub enum Header {
 
 // The augmentation data, of which debug_frame has none; the operations follow it.
 pub fn header_tail(s: &[u8], at: usize, debug: bool, word: u64, p: Promise) -> Header
-    requires { ⌜ at ≤ length (now s) ⌝ }
+    requires { ⌜ T (isWord word) × (at ≤ length (now s)) ⌝ }
     ensures { λ r. ⌜ Heads (now (s .entry)) r (headerTail debug (lettersOf p) word (drop at (now (s .entry)))) ⌝ }
 {
     if debug {
