@@ -126,7 +126,7 @@ pub extern "C" fn unwind_read_record(
     if 1 < kind {
         return refused(11, 0);
     }
-    let e = cursor::next_entry(section, kind == 1, place as usize);
+    let e = reader::cursor::next_entry(section, kind == 1, place as usize);
     if e.number != 0 {
         return refused(61, 0);
     }

@@ -1,5 +1,6 @@
 // The reader: from the bytes of a section to the rules at an offset of a record's function. entries, fields and location find the record
-// and its header (61 to 64), run goes over their operations (65 to 69), shortest tells how their numbers are spelled.
+// and its header (61 to 64), run goes over their operations (65 to 69), shortest tells how their numbers are spelled,
+// and cursor goes from entry to entry.
 ghost use mathlib.Core.Path.{_≡_};
 ghost use Rattle.format.specs.Reader.{read};
 ghost use Rattle.reader.specs.Finds.{Locates, locateIn, inSection, rulesFrom, shortestFrom};
@@ -7,6 +8,7 @@ use crate::location::Located;
 use crate::location::Locating;
 use format::Reading;
 
+pub mod cursor;
 pub mod entries;
 pub mod fields;
 pub mod location;

@@ -1,11 +1,11 @@
--- `cursor::entry_at` meets its contract.
+-- `reader::cursor::entry_at` meets its contract.
 use mathlib.Core.Path.{sym, _∙_}
 use native.Mathlib.Omega.{arith}
 use borrow.Author.Needs.{needs}
 use Rattle.reader.proofs.Tiling.{entered}
-use Rattle.cursor.proofs.Steps.{at-end, at-none, at-there}
-use Rattle.cursor.proofs.entry_at.Statement.{statement}
-use Rattle.cursor.proofs.entry_at.Tie as tie
+use Rattle.reader.proofs.Steps.{at-end, at-none, at-there}
+use Rattle.reader.proofs.cursor.entry_at.Statement.{statement}
+use Rattle.reader.proofs.cursor.entry_at.Tie as tie
 
 stopped-requires : tie.Need-stopped-requires
 stopped-requires c κs = search needs

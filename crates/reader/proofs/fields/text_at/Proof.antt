@@ -1,10 +1,10 @@
--- `reader::fields::stands` meets its contract.
+-- `reader::fields::text_at` meets its contract.
 use borrow.Author.Needs.{needs}
 use Prim.Native.Nat.{_-_}
 use lib.ListN.{length}
 use Rattle.reader.proofs.Strings.{Matching, start, short, differs, turn, ended}
-use Rattle.reader.proofs.fields.stands.Statement.{statement}
-use Rattle.reader.proofs.fields.stands.Tie as tie
+use Rattle.reader.proofs.fields.text_at.Statement.{statement}
+use Rattle.reader.proofs.fields.text_at.Tie as tie
 
 abbrev Inv-loop : tie.InvT-loop
 Inv-loop s at text i₀ next₀ i next = Matching s text at i next
@@ -42,8 +42,8 @@ loop-again c = turn (c .before .before .before .before .before .loop .inv) (c .b
 returns-3 : tie.Need-returns-3 Inv-loop μ-loop
 returns-3 c = ended (c .before .loop .inv) (c .loop-test .left)
 
-pub stands-spec : {M : Type 1} → statement M
-stands-spec =
+pub text-at-spec : {M : Type 1} → statement M
+text-at-spec =
     tie.close
     (tie.spec
     Inv-loop

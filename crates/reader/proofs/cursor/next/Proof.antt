@@ -1,4 +1,4 @@
--- `cursor::next` meets its contract: a walk of its MIR. The cursor is taken apart, and `entry_at` is called on its slice and its position; of `entry_at` the contract alone is used.
+-- `reader::cursor::next` meets its contract: a walk of its MIR. The cursor is taken apart, and `entry_at` is called on its slice and its position; of `entry_at` the contract alone is used.
 -- A cursor can be copied: one copy of what it owns stays the parameter's, of the other the slice's part goes to the callee.
 use mathlib.Core.Path.{_≡_, refl}
 use Prim.Native.Nat.{_<_, _^_}
@@ -42,21 +42,21 @@ use denote.Triple.Table.{entered, cited}
 use denote.Triple.Walked.{says, Stays, stay-none, walkOf, goes-none, Walks, ends-at, walked, walk-meets}
 use denote.Exit.{yes}
 use denote.Triple.Clauses.{ensured, lasts}
-use Rattle.cursor.specs.Listing.{entryAt}
-use Rattle.cursor.specs.declared.Cursor.{Cursor}
-use Rattle.cursor.specs.declared.Entry.{Entry}
-use Rattle.cursor.proofs.Cursor as cursor
-use Rattle.cursor.proofs.Cursor.Laws as cursor-laws
-use Rattle.cursor.proofs.Entry as entry
-use Rattle.cursor.proofs.Entry.Laws as entry-laws
-use Rattle.cursor.proofs.entry_at as entry-at
-use Rattle.cursor.proofs.entry_at.Symbol as entry-at-def
-use Rattle.cursor.proofs.entry_at.Symbol.{name as #cursor·entry-at}
-use Rattle.cursor.proofs.entry_at.Met as entry-at-thm
-use Rattle.cursor.proofs.next.Key.{name as #cursor·next}
-use Rattle.cursor.proofs.next as next
-use Rattle.cursor.proofs.next.Statement as stated
-use Rattle.cursor.proofs.next.Code as code
+use Rattle.reader.specs.Listing.{entryAt}
+use Rattle.reader.specs.declared.cursor.Cursor.{Cursor}
+use Rattle.reader.specs.declared.cursor.Entry.{Entry}
+use Rattle.reader.proofs.cursor.Cursor as cursor
+use Rattle.reader.proofs.cursor.Cursor.Laws as cursor-laws
+use Rattle.reader.proofs.cursor.Entry as entry
+use Rattle.reader.proofs.cursor.Entry.Laws as entry-laws
+use Rattle.reader.proofs.cursor.entry_at as entry-at
+use Rattle.reader.proofs.cursor.entry_at.Symbol as entry-at-def
+use Rattle.reader.proofs.cursor.entry_at.Symbol.{name as #cursor·entry-at}
+use Rattle.reader.proofs.cursor.entry_at.Met as entry-at-thm
+use Rattle.reader.proofs.cursor.next.Key.{name as #cursor·next}
+use Rattle.reader.proofs.cursor.next as next
+use Rattle.reader.proofs.cursor.next.Statement as stated
+use Rattle.reader.proofs.cursor.next.Code as code
 
 -- the cursor's type, over the signature's lifetimes
 abbrev Row : Lfts 1 → RattleType
@@ -168,4 +168,4 @@ next-spec 𝓤 H 𝓜 𝓖 𝓡 =
     entered 𝓤 H (tripleOf 𝓤 H (𝓖 .A) next.signature (next.spec 𝓤 H (𝓖 .A) (𝓜 .mem) (𝓡 .run)))
     (tables 𝓤 H 𝓜 𝓡 code.env .C) (tables 𝓤 H 𝓜 𝓡 code.env .Λ) #cursor·next code.function (code.unfolded 𝓤 H 𝓜 𝓡)
     (meets 𝓤 H (𝓖 .A) (givenOf 𝓤 H 𝓜 𝓖) (𝓜 .mem) (𝓡 .run) (tablesOf 𝓤 H 𝓜 (tables 𝓤 H 𝓜 𝓡 code.env))
-    (cited 𝓤 H (EntryAt 𝓤 H (𝓖 .A) (𝓜 .mem) (𝓡 .run)) 𝓜 𝓡 code.env #cursor·entry-at entry-at-def.routine code.calls-cursor·entry-at (entry-at-thm.met 𝓤 H 𝓜 𝓖 𝓡)))
+    (cited 𝓤 H (EntryAt 𝓤 H (𝓖 .A) (𝓜 .mem) (𝓡 .run)) 𝓜 𝓡 code.env #cursor·entry-at entry-at-def.routine code.calls-reader·cursor·entry-at (entry-at-thm.met 𝓤 H 𝓜 𝓖 𝓡)))

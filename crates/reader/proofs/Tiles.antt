@@ -10,13 +10,13 @@ use Rattle.format.specs.Prelude.{pick, after}
 use Rattle.format.specs.Reader.{entries}
 use Rattle.format.specs.Reader as reader
 use Rattle.format.proofs.Choice.{either}
 use Rattle.reader.specs.Spans.{entryIn, entriesFrom, endAt}
 use Rattle.reader.specs.declared.entries.Number.{Number}
 use Rattle.reader.specs.declared.entries.Number.the-variants.{Is, Nothing}
 use Rattle.reader.proofs.Tiling.{Entered, entered, tiled-end, tiled-none, tiled-more}
-use Rattle.cursor.specs.Listing.{stopped, shown, entryAt, joined, listingF, listing}
-use Rattle.cursor.specs.declared.Entry.{Entry}
-use Rattle.cursor.proofs.Steps.{spanned, shown-span, at-end, at-none, at-there}
+use Rattle.reader.specs.Listing.{stopped, shown, entryAt, joined, listingF, listing}
+use Rattle.reader.specs.declared.cursor.Entry.{Entry}
+use Rattle.reader.proofs.Steps.{spanned, shown-span, at-end, at-none, at-there}
 
 -- the reader's entries where the cursor found some: each with its place, and its bytes behind the length up to the next place
 abbrev pub tiled : List ℕ → Option (List Entry) → Option (List reader.Entry)

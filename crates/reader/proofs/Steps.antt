@@ -8,12 +8,12 @@ use lib.ListN.{length, drop, length-drop, drop-of-length-le}
 use lib.Seq.{length-take-le}
 use Rattle.format.specs.Reader.{readEntry, isHeader}
 use Rattle.format.proofs.Choice.{either}
 use Rattle.reader.specs.Spans.{part, entryIn, endAt}
 use Rattle.reader.specs.declared.entries.Number.{Number}
 use Rattle.reader.specs.declared.entries.Number.the-variants.{Is, Nothing}
 use Rattle.reader.proofs.Tiling.{entered, none-read}
-use Rattle.cursor.specs.Listing.{stopped, shown, entryRead, entryFrom, entryAt}
-use Rattle.cursor.specs.declared.Entry.{Entry}
+use Rattle.reader.specs.Listing.{stopped, shown, entryRead, entryFrom, entryAt}
+use Rattle.reader.specs.declared.cursor.Entry.{Entry}
 
 -- the entry from p to q
 abbrev pub spanned : (debug : Bool) → List ℕ → (p q : ℕ) → Entry

@@ -1,7 +1,8 @@
 // The reader's cursor: a section and a position in one record, and the entry that stands there.
 ghost use mathlib.Core.Path.{_≡_};
-ghost use Rattle.cursor.specs.Listing.{stopped, entryAt};
-use reader::entries::Number;
+ghost use Rattle.reader.specs.Listing.{stopped, entryAt};
+use crate::entries;
+use crate::entries::Number;
 
 // What stands at a position. Number 0 is an entry: whether it is a header, where it stands, the value of its length field and where the next one stands. 61 says that no entry fits the rest of the section, 62 that the section ends here; the cursor then stays.
 pub struct Entry {
@@ -32,10 +33,10 @@ pub fn entry_at(section: &[u8], debug: bool, at: usize) -> Entry
     if section.len() <= at {
         return stopped(62, at);
     }
-    let Number::Is(end) = reader::entries::entry_end(section, at) else {
+    let Number::Is(end) = entries::entry_end(section, at) else {
         return stopped(61, at);
     };
-    let header = reader::entries::is_header(section, at, end, debug);
+    let header = entries::is_header(section, at, end, debug);
     Entry {
         number: 0,
         header,

@@ -1,4 +1,4 @@
--- `cursor::new` meets its contract: a walk of its MIR. The result is made of the slice passed and 0; a `&[u8]` can be copied, so the parameter keeps what it owns.
+-- `reader::cursor::new` meets its contract: a walk of its MIR. The result is made of the slice passed and 0; a `&[u8]` can be copied, so the parameter keeps what it owns.
 use mathlib.Core.Path.{refl}
 use Prim.Native.Nat.{ℕ}
 use mathlib.Core.List.{List, [], _∷_}
@@ -33,13 +33,13 @@ use denote.Triple.Spec.{Meets, tripleOf}
 use denote.Triple.Table.{entered}
 use denote.Triple.Walked.{says, Stays, stay-none-slice, walkOf, goes-none-slice, Walks, ends-at, walked, walk-meets}
 use denote.Exit.{yes}
-use Rattle.cursor.specs.declared.Cursor.{Cursor}
-use Rattle.cursor.proofs.Cursor as cursor
-use Rattle.cursor.proofs.Cursor.Laws as cursor-laws
-use Rattle.cursor.proofs.new.Key.{name as #cursor·new}
-use Rattle.cursor.proofs.new as new
-use Rattle.cursor.proofs.new.Statement as stated
-use Rattle.cursor.proofs.new.Code as code
+use Rattle.reader.specs.declared.cursor.Cursor.{Cursor}
+use Rattle.reader.proofs.cursor.Cursor as cursor
+use Rattle.reader.proofs.cursor.Cursor.Laws as cursor-laws
+use Rattle.reader.proofs.cursor.new.Key.{name as #cursor·new}
+use Rattle.reader.proofs.cursor.new as new
+use Rattle.reader.proofs.cursor.new.Statement as stated
+use Rattle.reader.proofs.cursor.new.Code as code
 
 abbrev stayed : Stays (new.ended .signature .params) (new.ended .kept)
 stayed = (stay-none-slice (0 ∷ []) tt (plain (λ _. u8)) yes, tt)

@@ -8,8 +8,8 @@ use Rattle.format.specs.Prelude.{pick, next, after}
 use Rattle.format.specs.Leb.{readLittle}
 use Rattle.format.specs.Headers.{headerId}
 use Rattle.format.specs.Reader.{readEntry, valueOr0, second, isHeader}
-use Rattle.cursor.specs.Listing.{stopped, shown, entryRead, entryFrom, entryAt, joined, listingF, listing}
-use Rattle.cursor.specs.declared.Entry.{Entry}
+use Rattle.reader.specs.Listing.{stopped, shown, entryRead, entryFrom, entryAt, joined, listingF, listing}
+use Rattle.reader.specs.declared.cursor.Entry.{Entry}
 
 two : List ℕ
 two = 4 ∷ 0 ∷ 0 ∷ 0 ∷ 0 ∷ 0 ∷ 0 ∷ 0 ∷ 5 ∷ 0 ∷ 0 ∷ 0 ∷ 255 ∷ 255 ∷ 255 ∷ 255 ∷ 7 ∷ []

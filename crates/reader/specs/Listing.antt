@@ -8,7 +8,7 @@ use lib.Dec.{eqb}
 use Rattle.format.specs.Prelude.{pick, Read, after}
 use Rattle.format.specs.Reader.{readEntry, isHeader}
 use Rattle.format.specs.Reader as reader
-use Rattle.cursor.specs.declared.Entry.{Entry}
+use Rattle.reader.specs.declared.cursor.Entry.{Entry}
 
 -- no entry at p: 61 where none fits the rest of the section, 62 where the section ends; the position stays
 unfoldable pub stopped : (number p : ℕ) → Entry

@@ -1,4 +1,4 @@
--- `cursor::next_entry` meets its contract: a walk of its MIR. A cursor is made in a local of the slice and the position passed, and `next` is called on it; of `next` the contract alone is used.
+-- `reader::cursor::next_entry` meets its contract: a walk of its MIR. A cursor is made in a local of the slice and the position passed, and `next` is called on it; of `next` the contract alone is used.
 -- In a body's local the cursor's type has its lifetime erased; what the cursor owns does not name it.
 use mathlib.Core.Path.{_≡_, refl}
 use Prim.Native.Nat.{ℕ, _<_, _^_}
@@ -38,21 +38,21 @@ use denote.Triple.Table.{entered, cited}
 use denote.Triple.Walked.{says, Stays, stay-none, stay-none-slice, walkOf, goes-none, goes-none-slice, Walks, ends-at, walked, walk-meets}
 use denote.Exit.{yes}
 use denote.Triple.Clauses.{ensured, lasts}
-use Rattle.cursor.specs.Listing.{entryAt}
-use Rattle.cursor.specs.declared.Cursor.{Cursor}
-use Rattle.cursor.specs.declared.Entry.{Entry}
-use Rattle.cursor.proofs.Cursor as cursor
-use Rattle.cursor.proofs.Cursor.Laws as cursor-laws
-use Rattle.cursor.proofs.Entry as entry
-use Rattle.cursor.proofs.Entry.Laws as entry-laws
-use Rattle.cursor.proofs.next as next
-use Rattle.cursor.proofs.next.Symbol as next-def
-use Rattle.cursor.proofs.next.Symbol.{name as #cursor·next}
-use Rattle.cursor.proofs.next.Met as next-thm
-use Rattle.cursor.proofs.next_entry.Key.{name as #cursor·next-entry}
-use Rattle.cursor.proofs.next_entry as next-entry
-use Rattle.cursor.proofs.next_entry.Statement as stated
-use Rattle.cursor.proofs.next_entry.Code as code
+use Rattle.reader.specs.Listing.{entryAt}
+use Rattle.reader.specs.declared.cursor.Cursor.{Cursor}
+use Rattle.reader.specs.declared.cursor.Entry.{Entry}
+use Rattle.reader.proofs.cursor.Cursor as cursor
+use Rattle.reader.proofs.cursor.Cursor.Laws as cursor-laws
+use Rattle.reader.proofs.cursor.Entry as entry
+use Rattle.reader.proofs.cursor.Entry.Laws as entry-laws
+use Rattle.reader.proofs.cursor.next as next
+use Rattle.reader.proofs.cursor.next.Symbol as next-def
+use Rattle.reader.proofs.cursor.next.Symbol.{name as #cursor·next}
+use Rattle.reader.proofs.cursor.next.Met as next-thm
+use Rattle.reader.proofs.cursor.next_entry.Key.{name as #cursor·next-entry}
+use Rattle.reader.proofs.cursor.next_entry as next-entry
+use Rattle.reader.proofs.cursor.next_entry.Statement as stated
+use Rattle.reader.proofs.cursor.next_entry.Code as code
 
 abbrev stayed : Stays (next-entry.ended .signature .params) (next-entry.ended .kept)
 stayed = (stay-none-slice (0 ∷ []) tt (plain (λ _. u8)) yes, (stay-none (λ _. bool) yes, (stay-none (λ _. usize) yes, tt)))
@@ -164,4 +164,4 @@ next-entry-spec 𝓤 H 𝓜 𝓖 𝓡 =
     entered 𝓤 H (tripleOf 𝓤 H (𝓖 .A) next-entry.signature (next-entry.spec 𝓤 H (𝓖 .A) (𝓜 .mem) (𝓡 .run)))
     (tables 𝓤 H 𝓜 𝓡 code.env .C) (tables 𝓤 H 𝓜 𝓡 code.env .Λ) #cursor·next-entry code.function (code.unfolded 𝓤 H 𝓜 𝓡)
     (meets 𝓤 H (𝓖 .A) (givenOf 𝓤 H 𝓜 𝓖) (𝓜 .mem) (𝓡 .run) (tablesOf 𝓤 H 𝓜 (tables 𝓤 H 𝓜 𝓡 code.env))
-    (cited 𝓤 H (Next 𝓤 H (𝓖 .A) (𝓜 .mem) (𝓡 .run)) 𝓜 𝓡 code.env #cursor·next next-def.routine code.calls-cursor·next (next-thm.met 𝓤 H 𝓜 𝓖 𝓡)))
+    (cited 𝓤 H (Next 𝓤 H (𝓖 .A) (𝓜 .mem) (𝓡 .run)) 𝓜 𝓡 code.env #cursor·next next-def.routine code.calls-reader·cursor·next (next-thm.met 𝓤 H 𝓜 𝓖 𝓡)))
