@@ -17,6 +17,7 @@ ghost use Rattle.format.specs.Prelude.{pick};
 ghost use Rattle.format.proofs.Positions.{operationAt};
 ghost use Rattle.rows.specs.Reads.{registerAt, plainAt, factoredAt, signedAt, held, operandAt, registerRow, pairRow, stepAt, registerRowAt, offsetRowAt, pairRowAt, inRegisterAt, savedAt, extendedAt};
 ghost use Rattle.rows.specs.Operands.{bySign, offsetBytes, stepOpcode, stepWidth};
+ghost use Rattle.rows.specs.Sizes.{shortSize, scaled, secondByte};
 use format::Decoded;
 use format::Operation;
 use format::Row;
@@ -90,15 +91,24 @@ fn registers(kind: u64) -> u64
     }
 }
 
+// Every kind has an arm, and no kind another number, so that the compiler makes a table of them and no jumps.
 fn second_operands(kind: u64) -> u64
+    requires { ⌜ kind ≤ 10 ⌝ }
     ensures { λ r. ⌜ r ≡ secondOperands kind ⌝ }
 {
     match kind {
         0 => 4294967296,
         1 => 4294967296,
+        2 => 1,
         3 => 4294967296,
+        4 => 1,
+        5 => 1,
+        6 => 1,
+        7 => 1,
+        8 => 1,
+        9 => 1,
         10 => 65536,
-        _ => 1,
+        _ => 0,
     }
 }
 
@@ -483,7 +493,7 @@ pub fn row_in(out: &mut [u8], at: usize, word: u64, rows: &[u64], i: usize) -> u
     )
 }
 
-// The size of the operation of a row that its numbers say.
+// The size of the operation of a row that its numbers say, by kind.
 fn operation_size(word: u64, kind: u64, reg: u64, off: u64) -> usize
     requires { ⌜ (2 ≤ word) × (word ≤ 8) × T (rowOk kind reg off) ⌝ }
     ensures { λ n. ⌜ n ≡ length (rowBytes word (rowOf kind reg off)) ⌝ }
@@ -504,12 +514,71 @@ fn operation_size(word: u64, kind: u64, reg: u64, off: u64) -> usize
     }
 }
 
+// The size of an operation whose operands are a byte each, by kind. The arms are as those of `second_operands`.
+fn short_size(kind: u64) -> usize
+    requires { ⌜ kind ≤ 10 ⌝ }
+    ensures { λ r. ⌜ (r ≡ shortSize kind) × (r ≤ 3) ⌝ }
+{
+    match kind {
+        0 => 3,
+        1 => 2,
+        2 => 2,
+        3 => 2,
+        4 => 1,
+        5 => 2,
+        6 => 1,
+        7 => 1,
+        8 => 1,
+        9 => 2,
+        10 => 3,
+        _ => 0,
+    }
+}
+
+// The word times the second operand that is written: a saved register's offset is divided by minus the word.
+fn scaled(word: u64, kind: u64, off: u64) -> u64
+    requires { ⌜ (word ≤ 8) × (off < 2 ^ 32) ⌝ }
+    ensures { λ r. ⌜ r ≡ scaled word kind off ⌝ }
+{
+    if kind == 3 {
+        return (4294967296 - off) % 4294967296;
+    }
+    off * word
+}
+
+// The second byte of a second operand that has two at most.
+fn second_byte(word: u64, y: u64) -> usize
+    requires { ⌜ word ≤ 8 ⌝ }
+    ensures { λ r. ⌜ (r ≡ secondByte word y) × (r ≤ 1) ⌝ }
+{
+    if y < 128 * word {
+        return 0;
+    }
+    1
+}
+
+// The size of the operation of a row that its numbers say; without a jump by kind where the register has a byte at most and the
+// second operand two.
+fn numbers_size(word: u64, kind: u64, reg: u64, off: u64) -> usize
+    requires { ⌜ (2 ≤ word) × (word ≤ 8) × T (rowOk kind reg off) ⌝ }
+    ensures { λ n. ⌜ n ≡ length (rowBytes word (rowOf kind reg off)) ⌝ }
+{
+    let y = scaled(word, kind, off);
+    if 63 < reg {
+        return operation_size(word, kind, reg, off);
+    }
+    if 16384 * word <= y {
+        return operation_size(word, kind, reg, off);
+    }
+    short_size(kind) + second_byte(word, y)
+}
+
 // That of row i.
 pub fn row_in_size(word: u64, rows: &[u64], i: usize) -> usize
     requires { ⌜ (2 ≤ word) × (word ≤ 8) × (4 * i + 4 ≤ length (now rows)) × T (rowOkAt (now rows) i) ⌝ }
     ensures { λ n. ⌜ n ≡ length (rowBytes word (rowAt (now (rows .entry)) i .1)) ⌝ }
 {
-    operation_size(word, rows[4 * i + 1], rows[4 * i + 2], rows[4 * i + 3])
+    numbers_size(word, rows[4 * i + 1], rows[4 * i + 2], rows[4 * i + 3])
 }
 
 // ---- a step written, and its size
