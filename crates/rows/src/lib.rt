@@ -456,6 +456,29 @@ pub fn row_size(word: u64, r: Row) -> usize
     }
 }
 
+// DW_CFA_def_cfa and DW_CFA_def_cfa_offset out of a row's numbers; an offset that is not negative is written as it stands.
+fn def_cfa_in(out: &mut [u8], at: usize, word: u64, reg: u16, off: u64) -> usize
+    requires { ⌜ (2 ≤ word) × (word ≤ 8) × (off < 2 ^ 32) × (at + length (cfaBytes word 0x0c 0x12 (uleb reg) (toZ w32 off)) ≤ length (now out)) ⌝ }
+    ensures { λ r. ⌜ Wrote (now (out .entry)) (now (out .exit)) at r (cfaBytes word 0x0c 0x12 (uleb reg) (toZ w32 off)) ⌝ }
+{
+    if 2147483648 <= off {
+        return def_cfa(out, at, word, reg, signed32(off));
+    }
+    let a = named(out, at, 0x0c, reg);
+    leb::uleb(out, a, off)
+}
+
+fn def_cfa_offset_in(out: &mut [u8], at: usize, word: u64, off: u64) -> usize
+    requires { ⌜ (2 ≤ word) × (word ≤ 8) × (off < 2 ^ 32) × (at + length (cfaBytes word 0x0e 0x13 [] (toZ w32 off)) ≤ length (now out)) ⌝ }
+    ensures { λ r. ⌜ Wrote (now (out .entry)) (now (out .exit)) at r (cfaBytes word 0x0e 0x13 [] (toZ w32 off)) ⌝ }
+{
+    if 2147483648 <= off {
+        return def_cfa_offset(out, at, word, signed32(off));
+    }
+    let a = leb::byte(out, at, 0x0e);
+    leb::uleb(out, a, off)
+}
+
 // The operation of a row that its numbers say, without the row between.
 fn operation_of(out: &mut [u8], at: usize, word: u64, kind: u64, reg: u64, off: u64) -> usize
     requires { ⌜ (2 ≤ word) × (word ≤ 8) × T (rowOk kind reg off) × (at + length (rowBytes word (rowOf kind reg off)) ≤ length (now out)) ⌝ }
@@ -464,8 +487,8 @@ fn operation_of(out: &mut [u8], at: usize, word: u64, kind: u64, reg: u64, off: 
     let g = reg as u16;
     let z = signed32(off);
     match kind {
-        0 => def_cfa(out, at, word, g, z),
-        1 => def_cfa_offset(out, at, word, z),
+        0 => def_cfa_in(out, at, word, g, off),
+        1 => def_cfa_offset_in(out, at, word, off),
         2 => named(out, at, 0x0d, g),
         3 => saved(out, at, g, factored(word, z)),
         4 => opcode(out, at, 0xc0, 0x06, g),

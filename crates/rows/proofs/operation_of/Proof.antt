@@ -16,11 +16,11 @@ cast-g c = record { fits = row-numbers (c .before .args .kind) (c .before .args 
 signed32-requires : tie.Need-signed32-requires
 signed32-requires c κs = row-numbers (c .before .args .kind) (c .before .args .reg) (c .before .args .off) (c .before .pre .2) .off-low
 
-def-cfa-requires : tie.Need-def-cfa-requires
-def-cfa-requires c κs = (c .before .before .before .before .pre .0, c .before .before .before .before .pre .1, rw (passed (c .before .before .signed32 .result) (c .before .before .signed32 .ok) ∙ c .before .before .signed32 .ensures) (rw (bytes-0 (c .before .before .before .before .args .word) (c .before .before .before .before .args .reg) (c .before .before .before .before .args .off) (c .before .match .keys1)) at (c .before .before .before .before .pre .3)))
+def-cfa-in-requires : tie.Need-def-cfa-in-requires
+def-cfa-in-requires c κs = (c .before .before .before .before .pre .0, c .before .before .before .before .pre .1, row-numbers (c .before .before .before .before .args .kind) (c .before .before .before .before .args .reg) (c .before .before .before .before .args .off) (c .before .before .before .before .pre .2) .off-low, rw (bytes-0 (c .before .before .before .before .args .word) (c .before .before .before .before .args .reg) (c .before .before .before .before .args .off) (c .before .match .keys1)) at (c .before .before .before .before .pre .3))
 
-def-cfa-offset-requires : tie.Need-def-cfa-offset-requires
-def-cfa-offset-requires c κs = (c .before .before .before .before .pre .0, c .before .before .before .before .pre .1, rw (passed (c .before .before .signed32 .result) (c .before .before .signed32 .ok) ∙ c .before .before .signed32 .ensures) (rw (bytes-1 (c .before .before .before .before .args .word) (c .before .before .before .before .args .reg) (c .before .before .before .before .args .off) (c .before .match .keys2)) at (c .before .before .before .before .pre .3)))
+def-cfa-offset-in-requires : tie.Need-def-cfa-offset-in-requires
+def-cfa-offset-in-requires c κs = (c .before .before .before .before .pre .0, c .before .before .before .before .pre .1, row-numbers (c .before .before .before .before .args .kind) (c .before .before .before .before .args .reg) (c .before .before .before .before .args .off) (c .before .before .before .before .pre .2) .off-low, rw (bytes-1 (c .before .before .before .before .args .word) (c .before .before .before .before .args .reg) (c .before .before .before .before .args .off) (c .before .match .keys2)) at (c .before .before .before .before .pre .3))
 
 named-requires : tie.Need-named-requires
 named-requires c κs = let h = rw (bytes-2 (c .before .before .before .before .args .word) (c .before .before .before .before .args .reg) (c .before .before .before .before .args .off) (c .before .match .keys3)) at (c .before .before .before .before .pre .3) in search needs
@@ -59,13 +59,13 @@ same-length : tie.Need-same-length
 same-length c = search needs
 
 returns : tie.Need-returns
-returns c = rw (bytes-0 (c .before .before .before .before .before .before .before .args .word) (c .before .before .before .before .before .before .before .args .reg) (c .before .before .before .before .before .before .before .args .off) (c .before .before .before .before .match .keys1)) (rw (passed (c .before .before .before .before .before .signed32 .result) (c .before .before .before .before .before .signed32 .ok) ∙ c .before .before .before .before .before .signed32 .ensures) at (c .before .before .def-cfa .ensures))
+returns c = rw (bytes-0 (c .before .before .before .before .before .before .before .args .word) (c .before .before .before .before .before .before .before .args .reg) (c .before .before .before .before .before .before .before .args .off) (c .before .before .before .before .match .keys1)) (c .before .before .def-cfa-in .ensures)
 
 same-length-2 : tie.Need-same-length-2
 same-length-2 c = search needs
 
 returns-2 : tie.Need-returns-2
-returns-2 c = rw (bytes-1 (c .before .before .before .before .before .before .before .args .word) (c .before .before .before .before .before .before .before .args .reg) (c .before .before .before .before .before .before .before .args .off) (c .before .before .before .before .match .keys2)) (rw (passed (c .before .before .before .before .before .signed32 .result) (c .before .before .before .before .before .signed32 .ok) ∙ c .before .before .before .before .before .signed32 .ensures) at (c .before .before .def-cfa-offset .ensures))
+returns-2 c = rw (bytes-1 (c .before .before .before .before .before .before .before .args .word) (c .before .before .before .before .before .before .before .args .reg) (c .before .before .before .before .before .before .before .args .off) (c .before .before .before .before .match .keys2)) (c .before .before .def-cfa-offset-in .ensures)
 
 same-length-3 : tie.Need-same-length-3
 same-length-3 c = search needs
@@ -127,8 +127,8 @@ operation-of-spec =
     (tie.spec
     cast-g
     signed32-requires
-    def-cfa-requires
-    def-cfa-offset-requires
+    def-cfa-in-requires
+    def-cfa-offset-in-requires
     named-requires
     factored-requires
     saved-requires
