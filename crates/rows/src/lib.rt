@@ -485,12 +485,11 @@ fn operation_of(out: &mut [u8], at: usize, word: u64, kind: u64, reg: u64, off: 
     ensures { λ n. ⌜ Wrote (now (out .entry)) (now (out .exit)) at n (rowBytes word (rowOf kind reg off)) ⌝ }
 {
     let g = reg as u16;
-    let z = signed32(off);
     match kind {
         0 => def_cfa_in(out, at, word, g, off),
         1 => def_cfa_offset_in(out, at, word, off),
         2 => named(out, at, 0x0d, g),
-        3 => saved(out, at, g, factored(word, z)),
+        3 => saved(out, at, g, factored(word, signed32(off))),
         4 => opcode(out, at, 0xc0, 0x06, g),
         5 => named(out, at, 0x07, g),
         6 => leb::byte(out, at, 0x0a),
