@@ -338,7 +338,7 @@ fn rises(pairs: &[u64], at: usize, n: usize) -> bool
     true
 }
 
-// The pairs that rise are below `from` in front of pair i, where there is one in front of it; and none is from it on, where there is one.
+// The pair in front of pair i, where there is one from `at` on, starts below `from`.
 fn parts_below(pairs: &[u64], at: usize, i: usize, from: u64) -> bool
     requires { ⌜ i ≤ count pairStride (now pairs) ⌝ }
     ensures { λ r. ⌜ (r ≡ true → at < i → pairAt (now (pairs .entry)) (i - 1) .place1 < from) ⌝ }
@@ -349,7 +349,7 @@ fn parts_below(pairs: &[u64], at: usize, i: usize, from: u64) -> bool
     place_of(pairs, i - 1) < from
 }
 
-// Of n pairs from `at` on that rise those in front of pair i are below `from`, and no other.
+// The n pairs from `at` on rise, and those in front of pair i, and no other, start below `from`. A no says nothing.
 fn parts(rising: bool, pairs: &[u64], at: usize, n: usize, i: usize, from: u64) -> bool
     requires { ⌜ (at + n ≤ count pairStride (now pairs)) × (rising ≡ true → Rising (now pairs) at n) ⌝ }
     ensures { λ r. ⌜ (r ≡ true → Parted (now (pairs .entry)) at n i from) ⌝ }
