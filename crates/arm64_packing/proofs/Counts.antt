@@ -63,11 +63,11 @@ module _ (c : Code) where
     unfolding chainBehind pick
     chain-later e z = simp (ne-eqb (c .kind) 17 l, ne-eqb (c .kind) 2 m, ne-eqb (c .kind) 3 n, e, ne-eqb chain 0 z)
 
-pub recorded-signed : (chain : ℕ) → chain ≡ 2 → 2 ≡ pick (eqb chain 2) 2 3
+pub recorded-signed : (chain : ℕ) → chain ≡ 2 → _≡_ {A = ℕ} 2 (pick (eqb chain 2) 2 3)
 unfolding pick
 recorded-signed chain e = simp (eq-eqb chain 2 e)
 
-pub recorded-other : (chain : ℕ) → chain ≢ 2 → 3 ≡ pick (eqb chain 2) 2 3
+pub recorded-other : (chain : ℕ) → chain ≢ 2 → _≡_ {A = ℕ} 3 (pick (eqb chain 2) 2 3)
 unfolding pick
 recorded-other chain n = simp (ne-eqb chain 2 n)
 

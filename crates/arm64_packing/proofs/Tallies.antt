@@ -124,8 +124,13 @@ module _ {cs : List ℕ} {size : ℕ} {r : Run} {p : Packed} {b : Code} {j : ℕ
               ∙ ap (λ y. tallies q (resolve y (simplify y (rest cs r (j + 1))))) (sym m);
         }
 
-  pub tallying-ended : r .count ≤ j → asFields p ≡ candidate size (simplify noPair (saves cs r))
+  ended : r .count ≤ j → asFields p ≡ candidate size (simplify noPair (saves cs r))
   unfolding candidate
-  tallying-ended h =
-      ap asFields
-      (sym (s .same ∙ ap (λ ds. tallies p (resolve b (simplify b ds))) (rest-none cs r h) ∙ tallies-none p b))
+  ended h = ap asFields (sym (s .same ∙ ap (λ ds. tallies p (resolve b (simplify b ds))) (rest-none cs r h) ∙ tallies-none p b))
+
+  pub tallying-ended : {q : Packed} → q ≡ asFields p → r .count ≤ j
+      → (q ≡ candidate size (simplify noPair (saves cs r))) × (q .flag ≡ 1) × (q .homes ≡ 0) × (q .chain < 4)
+  unfolding asFields
+  tallying-ended {q} e h =
+      let k : q .chain ≡ p .chain = ap (λ x. x .chain) e in
+      (e ∙ ended h, ap (λ x. x .flag) e ∙ s .flag, ap (λ x. x .homes) e ∙ s .homes, omega (arith, k, s .chain))
