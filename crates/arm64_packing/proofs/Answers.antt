@@ -1,16 +1,14 @@
 -- Whether a word stands for a function, by the tests that the code makes.
-use mathlib.Core.Path.{_≡_, refl, sym, ap, _∙_}
-use mathlib.Core.Bool.{Bool, true, false, _&&_, and-false}
+use mathlib.Core.Path.{_≡_, sym, ap, _∙_}
+use mathlib.Core.Bool.{true, false, _&&_, and-false}
 use mathlib.Core.List.{List}
-use Prim.Native.Nat.{ℕ, _+_, _*_, _^_, _≤_, _<_}
+use Prim.Native.Nat.{ℕ, _≤_, _<_}
 use native.Mathlib.Omega.{arith}
-use lib.Dec.{ltb}
 use borrow.Author.Tests.{lt-ltb, le-ltb}
 use Rattle.format.specs.Prelude.{pick}
 use Rattle.arm64.specs.declared.Code.{Code}
 use Rattle.arm64.specs.declared.Packed.{Packed}
-use Rattle.arm64.specs.Packed.{packedOk, slotsFrom, packedPrologue, packedEpilogue}
-use Rattle.arm64.specs.Meaning.{reverse}
+use Rattle.arm64.specs.Packed.{packedOk, slotsFrom}
 use Rattle.arm64.specs.Runs.{noPair, resolve, sameCodes}
 use Rattle.arm64.specs.Packing.{packedWord, fieldsHold, standsFor}
 use Rattle.arm64_packed.proofs.Places.{ok-registers}

@@ -18,7 +18,7 @@ use Rattle.arm64.specs.Runs.{noPair, sameCode, sameCodes, resolved, simple, pai
 use Rattle.arm64.proofs.PackingLaws.{equal-all, reverse-twice}
 use Rattle.arm64_packed.proofs.Places.{next-slot, last-slot}
 use Rattle.arm64_simple.specs.declared.Run.{Run}
-use Rattle.arm64_simple.specs.Saves.{savedAt, saves}
+use Rattle.arm64_simple.specs.Saves.{savedAt}
 use Rattle.arm64_simple.proofs.Loops.{rest, rest-start, rest-first, rest-none}
 use Rattle.arm64_packing.specs.Places.{placed, given}
 

@@ -1,11 +1,10 @@
 -- The counts of a prologue: what the loop knows at each turn.
 use mathlib.Core.Path.{_≡_, refl, sym, ap, _∙_}
-use mathlib.Core.Bool.{Bool, true, false, _&&_, _||_}
+use mathlib.Core.Bool.{true, _&&_, _||_}
 use mathlib.Core.List.{List, [], _∷_}
-use Prim.Native.Nat.{ℕ, suc, _+_, _-_, _*_, _^_, _≤_, _<_}
+use Prim.Native.Nat.{ℕ, _+_, _*_, _^_, _≤_, _<_}
 use native.Mathlib.Omega.{arith}
 use lib.Dec.{eqb}
-use Rattle.format.specs.Prelude.{pick}
 use Rattle.format.specs.Lists.{mostRecords}
 use Rattle.arm64.specs.declared.Code.{Code}
 use Rattle.arm64.specs.declared.Packed.{Packed}

@@ -274,7 +274,13 @@ fn packed_word(p: Packed) -> u64
     requires { ⌜ Small p × (p .flag ≡ 1) ⌝ }
     ensures { λ r. ⌜ r ≡ packedWord p ⌝ }
 {
-    p.flag + 4 * p.length + 8192 * p.vectors + 65536 * p.registers + 1048576 * p.homes + 2097152 * p.chain + 8388608 * p.frame
+    p.flag
+        + 4 * p.length
+        + 8192 * p.vectors
+        + 65536 * p.registers
+        + 1048576 * p.homes
+        + 2097152 * p.chain
+        + 8388608 * p.frame
 }
 
 // The packed word that stands for a function of `size` instructions, or 0.

@@ -1,4 +1,3 @@
-use mathlib.Core.Path.{_≡_, refl, sym, ap, _∙_}
 use native.Mathlib.Omega.{arith}
 use borrow.Author.Needs.{needs}
 use Prim.Native.Nat.{_-_}
@@ -21,48 +20,37 @@ Inv-loop cs size run p₀ b₀ j₀ p b j = Tallying cs size run p b j
 abbrev μ-loop : tie.MeasureT-loop
 μ-loop cs size run p₀ b₀ j₀ p b j = run .count - j
 
--- src/lib.rt:199:5
 loop-holds : tie.Need-loop-holds Inv-loop μ-loop
 unfolding nothingYet
 loop-holds c = tallying-start (c .before .args .cs .now) (c .before .args .size) (c .before .args .run) (c .before .pre .1)
 
--- src/lib.rt:200:41
 saved-at-requires : tie.Need-saved-at-requires Inv-loop μ-loop
 saved-at-requires c κs = ((c .before .before .before .before .pre .0), (c .if1 .taken))
 
--- src/lib.rt:200:13
 simple-requires : tie.Need-simple-requires Inv-loop μ-loop
 simple-requires c κs = search needs
 
--- src/lib.rt:201:22
 resolved-requires : tie.Need-resolved-requires Inv-loop μ-loop
 resolved-requires c κs = search needs
 
--- src/lib.rt:201:9
 tally-requires : tie.Need-tally-requires Inv-loop μ-loop
 tally-requires c κs = (tallying-low (c .before .before .before .before .before .loop .inv) (c .before .before .before .before .before .before .before .pre .2), tallying-down (c .before .before .before .before .before .loop .inv) (c .before .before .before .if1 .taken) (c .before .before .saved-at .ensures) (c .before .simple .ensures) (c .resolved .ensures))
 
--- src/lib.rt:202:9
 pair-behind-requires : tie.Need-pair-behind-requires Inv-loop μ-loop
 pair-behind-requires c κs = search needs
 
--- src/lib.rt:203:9
 add-j : tie.Need-add-j Inv-loop μ-loop
 add-j c = search needs
 
--- src/lib.rt:199:5
 loop-less : tie.Need-loop-less Inv-loop μ-loop
 loop-less c = search needs
 
--- src/lib.rt:199:5
 loop-again : tie.Need-loop-again Inv-loop μ-loop
 loop-again c = tallying-turn (c .before .before .before .before .before .before .before .loop .inv) (c .before .before .before .before .before .if1 .taken) (c .before .before .before .before .saved-at .ensures) (c .before .before .before .simple .ensures) (c .before .before .resolved .ensures) (c .before .tally .ensures .0) (c .before .tally .ensures .1) (c .pair-behind .ensures)
 
--- src/lib.rt:205:5
 as-fields-requires : tie.Need-as-fields-requires Inv-loop μ-loop
 as-fields-requires c κs = search needs
 
--- src/lib.rt:180:1
 returns : tie.Need-returns Inv-loop μ-loop
 returns c = tallying-ended (c .before .before .before .loop .inv) (c .as-fields .ensures) (omega (arith, (c .before .if1 .left)))
 

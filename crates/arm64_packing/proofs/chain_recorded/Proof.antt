@@ -1,17 +1,13 @@
-use mathlib.Core.Path.{_≡_, refl, sym, ap, _∙_}
 use native.Mathlib.Omega.{arith}
-use borrow.Author.Needs.{needs}
 use Rattle.arm64_packing.proofs.Counts.{recorded-signed, recorded-other}
 use Rattle.arm64_packing.proofs.chain_recorded.Statement.{statement}
 use Rattle.arm64_packing.proofs.chain_recorded.Tie as tie
 use Rattle.arm64_packing.proofs.chain_recorded.Reads as reads
 use Rattle.arm64_packing.proofs.chain_recorded.Lts as lts
 
--- src/lib.rt:107:9
 returns : tie.Need-returns
 returns c = (recorded-signed (c .before .args .chain) (c .if1 .taken), omega arith)
 
--- src/lib.rt:102:1
 returns-2 : tie.Need-returns-2
 returns-2 c = (recorded-other (c .before .args .chain) (c .if1 .left), omega arith)
 

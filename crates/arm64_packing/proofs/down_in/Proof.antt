@@ -1,6 +1,3 @@
-use mathlib.Core.Path.{_≡_, refl, sym, ap, _∙_}
-use native.Mathlib.Omega.{arith}
-use borrow.Author.Needs.{needs}
 use Rattle.arm64_packing.proofs.Counts.{by-kind, down-none}
 use Rattle.arm64.specs.Packing.{downIn}
 use Rattle.format.specs.Prelude.{pick}
@@ -9,32 +6,26 @@ use Rattle.arm64_packing.proofs.down_in.Tie as tie
 use Rattle.arm64_packing.proofs.down_in.Reads as reads
 use Rattle.arm64_packing.proofs.down_in.Lts as lts
 
--- src/lib.rt:84:9
 returns : tie.Need-returns
 unfolding downIn pick
 returns c = by-kind downIn (c .before .before .args .c) (c .if1 .taken)
 
--- src/lib.rt:87:9
 returns-2 : tie.Need-returns-2
 unfolding downIn pick
 returns-2 c = by-kind downIn (c .before .before .before .before .args .c) (c .if2 .taken)
 
--- src/lib.rt:90:9
 returns-3 : tie.Need-returns-3
 unfolding downIn pick
 returns-3 c = by-kind downIn (c .before .before .before .before .before .before .args .c) (c .if3 .taken)
 
--- src/lib.rt:93:9
 returns-4 : tie.Need-returns-4
 unfolding downIn pick
 returns-4 c = by-kind downIn (c .before .before .before .before .before .before .before .before .args .c) (c .if4 .taken)
 
--- src/lib.rt:96:9
 returns-5 : tie.Need-returns-5
 unfolding downIn pick
 returns-5 c = by-kind downIn (c .before .before .before .before .before .before .before .before .before .before .args .c) (c .if5 .taken)
 
--- src/lib.rt:80:1
 returns-6 : tie.Need-returns-6
 returns-6 c = down-none (c .before .before .before .before .before .before .before .before .before .before .args .c) (c .before .before .before .before .before .before .before .before .if1 .left) (c .before .before .before .before .before .before .if2 .left) (c .before .before .before .before .if3 .left) (c .before .before .if4 .left) (c .if5 .left)
 

@@ -1,4 +1,3 @@
-use mathlib.Core.Path.{_≡_, refl, sym, ap, _∙_}
 use native.Mathlib.Omega.{arith}
 use Rattle.arm64_packing.proofs.Counts.{by-kind, integers-none, integers-lr, integers-one}
 use Rattle.arm64_simple.proofs.Codes.{accepted, refused}
@@ -11,34 +10,27 @@ use Rattle.arm64_packing.proofs.integers_in.Reads as reads
 use Rattle.arm64_packing.proofs.integers_in.Lts as lts
 use Rattle.arm64_packing.proofs.stores_one.Reads as stores-one-reads
 
--- src/lib.rt:48:9
 returns : tie.Need-returns
 unfolding integersIn pick
 returns c = (by-kind integersIn (c .before .before .args .c) (c .if1 .taken), omega arith)
 
--- src/lib.rt:51:9
 returns-2 : tie.Need-returns-2
 unfolding integersIn pick
 returns-2 c = (by-kind integersIn (c .before .before .before .before .args .c) (c .if2 .taken), omega arith)
 
--- src/lib.rt:54:9
 returns-3 : tie.Need-returns-3
 unfolding integersIn pick
 returns-3 c = (by-kind integersIn (c .before .before .before .before .before .before .args .c) (c .if3 .taken), omega arith)
 
--- src/lib.rt:56:9
 stores-one-requires : tie.Need-stores-one-requires
 stores-one-requires c κs = search needs
 
--- src/lib.rt:57:9
 returns-4 : tie.Need-returns-4
 returns-4 c = (integers-none (c .before .before .before .before .before .before .before .before .args .c) (c .before .before .if3 .left) (c .before .before .before .before .before .before .if1 .left) (c .before .before .before .before .if2 .left) (refused (c .before .stores-one .ensures) (c .if4 .taken)), omega arith)
 
--- src/lib.rt:60:9
 returns-5 : tie.Need-returns-5
 returns-5 c = (integers-lr (c .before .before .before .before .before .before .before .before .before .before .args .c) (c .before .before .before .before .if3 .left) (c .before .before .before .before .before .before .before .before .if1 .left) (c .before .before .before .before .before .before .if2 .left) (accepted (c .before .before .before .stores-one .ensures) (c .before .before .if4 .left)) (c .if5 .taken), omega arith)
 
--- src/lib.rt:44:1
 returns-6 : tie.Need-returns-6
 returns-6 c = (integers-one (c .before .before .before .before .before .before .before .before .before .before .args .c) (c .before .before .before .before .if3 .left) (c .before .before .before .before .before .before .before .before .if1 .left) (c .before .before .before .before .before .before .if2 .left) (accepted (c .before .before .before .stores-one .ensures) (c .before .before .if4 .left)) (c .if5 .left), omega arith)
 

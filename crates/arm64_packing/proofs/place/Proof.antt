@@ -1,4 +1,4 @@
-use mathlib.Core.Path.{_≡_, refl, sym, ap, _∙_}
+use mathlib.Core.Path.{_∙_}
 use native.Mathlib.Omega.{arith}
 use Rattle.arm64_packing.proofs.Comparing.{place-undone, place-forth}
 use borrow.Author.Needs.{needs}
@@ -8,23 +8,18 @@ use Rattle.arm64_packing.proofs.place.Reads as reads
 use Rattle.arm64_packing.proofs.place.Lts as lts
 use Rattle.arm64_packed.proofs.slot_at.Reads as slot-at-reads
 
--- src/lib.rt:236:47
 sub-slot-at : tie.Need-sub-slot-at
 sub-slot-at c = search needs
 
--- src/lib.rt:236:9
 slot-at-requires : tie.Need-slot-at-requires
 slot-at-requires c κs = ((c .before .pre .0), omega arith)
 
--- src/lib.rt:236:9
 returns : tie.Need-returns
 returns c = (c .slot-at .ensures) ∙ place-undone (c .before .before .args .p) (c .before .before .args .i) (c .before .if1 .taken)
 
--- src/lib.rt:238:5
 slot-at-requires-2 : tie.Need-slot-at-requires-2
 slot-at-requires-2 c κs = search needs
 
--- src/lib.rt:231:1
 returns-2 : tie.Need-returns-2
 returns-2 c = (c .slot-at2 .ensures) ∙ place-forth (c .before .before .args .p) (c .before .before .args .i) (c .before .if1 .left)
 

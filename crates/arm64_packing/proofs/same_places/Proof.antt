@@ -1,4 +1,3 @@
-use mathlib.Core.Path.{_≡_, refl, sym, ap, _∙_}
 use native.Mathlib.Omega.{arith}
 use borrow.Author.Needs.{needs}
 use Prim.Native.Nat.{_-_}
@@ -22,75 +21,57 @@ Inv-places cs run undone p b₀ j₀ next₀ b j next = Matching cs run (placed 
 abbrev μ-places : tie.MeasureT-places
 μ-places cs run undone p b₀ j₀ next₀ b j next = 19 - next
 
--- src/lib.rt:253:5
 places-holds : tie.Need-places-holds Inv-places μ-places
 places-holds c = matching-start (c .before .args .cs .now) (c .before .args .run) (placed (c .before .args .undone) (c .before .args .p))
 
--- src/lib.rt:255:9
 add-next : tie.Need-add-next Inv-places μ-places
 add-next c = search needs
 
--- src/lib.rt:256:13
 place-requires : tie.Need-place-requires Inv-places μ-places
 place-requires c κs = ((c .before .before .before .pre .1), (c .places-test .taken))
 
--- src/lib.rt:257:25
 enum-known-s : tie.Need-enum-known-s Inv-places μ-places
 enum-known-s c = search needs
 
--- src/lib.rt:258:13
 enum-told : tie.Need-enum-told Inv-places μ-places
 enum-told c = search needs
 
--- src/lib.rt:253:5
 places-less : tie.Need-places-less Inv-places μ-places
 places-less c = search needs
 
--- src/lib.rt:253:5
 places-again : tie.Need-places-again Inv-places μ-places
 places-again c = matching-empty (c .before .before .before .before .places .inv) (c .before .before .before .places-test .taken) (c .before .before .place .ensures) (c .enum-told .given .1)
 
--- src/lib.rt:261:13
 returns : tie.Need-returns Inv-places μ-places
 returns c = matching-short (c .before .before .before .before .before .before .before .places .inv) (c .before .before .before .before .before .before .places-test .taken) (c .before .before .before .before .before .place .ensures) (c .before .before .before .s .given .1) (c .if1 .taken)
 
--- src/lib.rt:263:41
 saved-at-requires : tie.Need-saved-at-requires Inv-places μ-places
 saved-at-requires c κs = ((c .before .before .before .before .before .before .before .before .before .pre .0), omega (arith, (c .before .before .before .before .before .before .before .places .inv .high), (c .if1 .left)))
 
--- src/lib.rt:263:13
 simple-requires : tie.Need-simple-requires Inv-places μ-places
 simple-requires c κs = search needs
 
--- src/lib.rt:264:37
 resolved-requires : tie.Need-resolved-requires Inv-places μ-places
 resolved-requires c κs = search needs
 
--- src/lib.rt:264:13
 same-code-requires : tie.Need-same-code-requires Inv-places μ-places
 same-code-requires c κs = search needs
 
--- src/lib.rt:265:13
 returns-2 : tie.Need-returns-2 Inv-places μ-places
 returns-2 c = matching-stopped (c .before .before .before .before .before .before .before .before .before .before .before .before .places .inv) (c .before .before .before .before .before .before .before .before .before .before .before .places-test .taken) (c .before .before .before .before .before .before .before .before .before .before .place .ensures) (c .before .before .before .before .before .before .before .before .s .given .1) (c .before .before .before .before .before .if1 .left) (c .before .before .before .before .saved-at .ensures) (c .before .before .before .simple .ensures) (c .before .before .resolved .ensures) (refused (c .before .same-code .ensures) (c .if2 .taken))
 
--- src/lib.rt:267:9
 pair-behind-requires : tie.Need-pair-behind-requires Inv-places μ-places
 pair-behind-requires c κs = search needs
 
--- src/lib.rt:268:9
 add-j : tie.Need-add-j Inv-places μ-places
 add-j c = omega (arith, (c .before .before .before .before .before .before .before .before .before .before .before .before .before .places .inv .high), (c .before .before .before .before .before .before .if1 .left), (c .before .before .before .before .before .before .before .before .before .before .before .before .before .before .before .pre .0 .low))
 
--- src/lib.rt:253:5
 places-less-2 : tie.Need-places-less-2 Inv-places μ-places
 places-less-2 c = search needs
 
--- src/lib.rt:253:5
 places-again-2 : tie.Need-places-again-2 Inv-places μ-places
 places-again-2 c = matching-turn (c .before .before .before .before .before .before .before .before .before .before .before .before .before .places .inv) (c .before .before .before .before .before .before .before .before .before .before .before .before .places-test .taken) (c .before .before .before .before .before .before .before .before .before .before .before .place .ensures) (c .before .before .before .before .before .before .before .before .before .s .given .1) (c .before .before .before .before .before .before .if1 .left) (c .before .before .before .before .before .saved-at .ensures) (c .before .before .before .before .simple .ensures) (c .before .before .before .resolved .ensures) (accepted (c .before .before .same-code .ensures) (c .before .if2 .left)) (c .pair-behind .ensures)
 
--- src/lib.rt:242:1
 returns-3 : tie.Need-returns-3 Inv-places μ-places
 returns-3 c = matching-ended (c .before .before .places .inv) (omega (arith, (c .before .places-test .left)))
 

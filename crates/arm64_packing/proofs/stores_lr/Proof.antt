@@ -1,5 +1,3 @@
-use mathlib.Core.Path.{_≡_, refl, sym, ap, _∙_}
-use native.Mathlib.Omega.{arith}
 use Rattle.arm64_packing.proofs.Counts.{by-kind, lr-none, lr-alone}
 use Rattle.arm64_simple.proofs.Codes.{accepted, refused}
 use Rattle.arm64_packing.specs.Places.{storesLr}
@@ -10,19 +8,15 @@ use Rattle.arm64_packing.proofs.stores_lr.Reads as reads
 use Rattle.arm64_packing.proofs.stores_lr.Lts as lts
 use Rattle.arm64_packing.proofs.stores_one.Reads as stores-one-reads
 
--- src/lib.rt:36:9
 returns : tie.Need-returns
 returns c = by-kind storesLr (c .before .before .args .c) (c .if1 .taken)
 
--- src/lib.rt:38:9
 stores-one-requires : tie.Need-stores-one-requires
 stores-one-requires c κs = search needs
 
--- src/lib.rt:39:9
 returns-2 : tie.Need-returns-2
 returns-2 c = lr-none (c .before .before .before .before .args .c) (c .before .before .if1 .left) (refused (c .before .stores-one .ensures) (c .if2 .taken))
 
--- src/lib.rt:32:1
 returns-3 : tie.Need-returns-3
 returns-3 c = lr-alone (c .before .before .before .before .before .args .c) (c .before .before .before .if1 .left) (accepted (c .before .before .stores-one .ensures) (c .before .if2 .left))
 

@@ -1,6 +1,3 @@
-use mathlib.Core.Path.{_≡_, refl, sym, ap, _∙_}
-use native.Mathlib.Omega.{arith}
-use borrow.Author.Needs.{needs}
 use Rattle.arm64_packing.proofs.Counts.{by-kind, one-other}
 use Rattle.arm64_packing.specs.Places.{storesOne}
 use Rattle.arm64_packing.proofs.stores_one.Statement.{statement}
@@ -8,11 +5,9 @@ use Rattle.arm64_packing.proofs.stores_one.Tie as tie
 use Rattle.arm64_packing.proofs.stores_one.Reads as reads
 use Rattle.arm64_packing.proofs.stores_one.Lts as lts
 
--- src/lib.rt:27:9
 returns : tie.Need-returns
 returns c = by-kind storesOne (c .before .before .args .c) (c .if1 .taken)
 
--- src/lib.rt:23:1
 returns-2 : tie.Need-returns-2
 returns-2 c = one-other (c .before .before .before .args .c) (c .before .if1 .left)
 
