@@ -1,0 +1,2 @@
+-- ARM64 unwind data that was written and read back.
+pub mod CodeBack
