@@ -1,2 +1,3 @@
 -- ARM64 unwind data that was written and read back.
 pub mod CodeBack
+pub mod RunBack
