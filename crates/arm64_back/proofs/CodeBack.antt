@@ -233,11 +233,11 @@ module _ (f : Form) (v : ℕ) (us vs : List ℕ) where
 
 -- ---- the fields of a code
 
-either-way {ℓ} : {X : Type ℓ} (b : Bool) → (b ≡ true → X) → (b ≡ false → X) → X
+pub either-way {ℓ} : {X : Type ℓ} (b : Bool) → (b ≡ true → X) → (b ≡ false → X) → X
 either-way true f g = f refl
 either-way false f g = g refl
 
-or-false : (a b : Bool) → a ≡ false → a || b ≡ true → b ≡ true
+pub or-false : (a b : Bool) → a ≡ false → a || b ≡ true → b ≡ true
 or-false true b n e = absurd (no-yes (sym n))
 or-false false b n e = e
 

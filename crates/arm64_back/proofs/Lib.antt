@@ -1,3 +1,4 @@
 -- ARM64 unwind data that was written and read back.
 pub mod CodeBack
 pub mod RunBack
+pub mod IndexBack
