@@ -2,3 +2,4 @@
 pub mod CodeBack
 pub mod RunBack
 pub mod IndexBack
+pub mod HeaderBack
