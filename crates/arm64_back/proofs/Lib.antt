@@ -3,3 +3,5 @@ pub mod CodeBack
 pub mod RunBack
 pub mod IndexBack
 pub mod HeaderBack
+pub mod Alikes
+pub mod ScopeBack
