@@ -89,13 +89,21 @@ many-behind [] [] h = refl
 many-behind [] (e ∷ es) h = absurd h
 many-behind (d ∷ ds) [] h = absurd h
 many-behind (d ∷ ds) (e ∷ es) h =
-    omega
-    (arith, length-append (d .codes) (epilogueCodes ds), length-append (e .codes) (epilogueCodes es), epilogue-length (d .codes) (e .codes) (h .0 .means),
-    many-behind ds es (h .1))
+    omega (
+      arith,
+      length-append (d .codes) (epilogueCodes ds),
+      length-append (e .codes) (epilogueCodes es),
+      epilogue-length (d .codes) (e .codes) (h .0 .means),
+      many-behind ds es (h .1),
+    )
 
 pub many-codes : (u v : Unwound) → Alike u v → length (allCodes u) ≡ length (allCodes v)
 unfolding allCodes
 many-codes u v a =
-    omega
-    (arith, length-append (u .prologue) (epilogueCodes (u .epilogues)), length-append (v .prologue) (epilogueCodes (v .epilogues)),
-    prologue-length (u .prologue) (v .prologue) (a .prologue), many-behind (u .epilogues) (v .epilogues) (a .epilogues))
+    omega (
+      arith,
+      length-append (u .prologue) (epilogueCodes (u .epilogues)),
+      length-append (v .prologue) (epilogueCodes (v .epilogues)),
+      prologue-length (u .prologue) (v .prologue) (a .prologue),
+      many-behind (u .epilogues) (v .epilogues) (a .epilogues),
+    )

@@ -74,10 +74,10 @@ unfolding sameCodes
 same-codes [] = refl
 same-codes (c ∷ cs) = both-yes (same-code c) (same-codes cs)
 
-or-first : {a : Bool} (b : Bool) → a ≡ true → (a || b) ≡ true
+pub or-first : {a : Bool} (b : Bool) → a ≡ true → (a || b) ≡ true
 or-first b e = ap (λ x. x || b) e
 
-or-second : (a : Bool) {b : Bool} → b ≡ true → (a || b) ≡ true
+pub or-second : (a : Bool) {b : Bool} → b ≡ true → (a || b) ≡ true
 or-second true e = refl
 or-second false e = e
 

@@ -5,3 +5,4 @@ pub mod IndexBack
 pub mod HeaderBack
 pub mod Alikes
 pub mod ScopeBack
+pub mod RecordBack
