@@ -6,3 +6,4 @@ pub mod HeaderBack
 pub mod Alikes
 pub mod ScopeBack
 pub mod RecordBack
+pub mod PackedForm

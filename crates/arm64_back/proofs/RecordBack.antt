@@ -103,12 +103,12 @@ module _ (f : Function) where
       )
 
   -- an only epilogue
-  record Only (test : Epilogue → Bool) (es : List Epilogue) : Type 0 where
-    one : Epilogue
-    are : es ≡ one ∷ []
-    passes : test one ≡ true
+  pub record Only (test : Epilogue → Bool) (es : List Epilogue) : Type 0 where
+    pub one : Epilogue
+    pub are : es ≡ one ∷ []
+    pub passes : test one ≡ true
 
-  only : (test : Epilogue → Bool) (es : List Epilogue) → onlyOne test es ≡ true → Only test es
+  pub only : (test : Epilogue → Bool) (es : List Epilogue) → onlyOne test es ≡ true → Only test es
   unfolding onlyOne
   only test [] e = absurd (no-yes e)
   only test (x ∷ []) e = record { one = x; are = refl; passes = e }

@@ -68,3 +68,11 @@ secondWord bytes k = wordAt bytes (8 * k + 4)
 pub record EntryWord (f : Function) (bytes : List ℕ) (k word : ℕ) : Type 0 where
   pub packed : isPacked f ≡ true → word ≡ secondWord bytes k
   pub placed : isPacked f ≡ false → word % 4 ≡ 0
+
+-- two readers answer, and their answers say the same
+pub record SameReading (q r : Result Unwound) : Type 0 where
+  pub first : Unwound
+  pub second : Unwound
+  pub one : q ≡ good first
+  pub other : r ≡ good second
+  pub alike : Alike first second
