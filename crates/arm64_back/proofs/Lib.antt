@@ -7,3 +7,4 @@ pub mod Alikes
 pub mod ScopeBack
 pub mod RecordBack
 pub mod PackedForm
+pub mod Arm64Back

@@ -38,9 +38,9 @@ module _ (f : Function) (e : Epilogue) (are : f .epilogues ≡ e ∷ []) where
       }
 
 module _ (f : Function) (a : Asked f) (t : isPacked f ≡ true) where
-  only-one : Only f (packedFor f) (f .epilogues)
+  only-one : Only (packedFor f) (f .epilogues)
   unfolding isPacked
-  only-one = only f (packedFor f) (f .epilogues) t
+  only-one = only (packedFor f) (f .epilogues) t
 
   pub word-fits : wordFor f < 2 ^ 32
   unfolding packedFor

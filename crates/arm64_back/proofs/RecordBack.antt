@@ -41,7 +41,7 @@ is-true : (b : Bool) → T b → b ≡ true
 is-true true t = refl
 is-true false t = absurd t
 
-ask-yes : (test : Bool) (n p : ℕ) → ask test n p ≡ none → test ≡ true
+pub ask-yes : (test : Bool) (n p : ℕ) → ask test n p ≡ none → test ≡ true
 ask-yes test n p e = is-true test (asked test n p e)
 
 module _ (f : Function) where
@@ -89,6 +89,18 @@ module _ (f : Function) where
 
 -- ---- the parts of a record
 
+-- an only epilogue
+pub record Only (test : Epilogue → Bool) (es : List Epilogue) : Type 0 where
+  pub one : Epilogue
+  pub are : es ≡ one ∷ []
+  pub passes : test one ≡ true
+
+pub only : (test : Epilogue → Bool) (es : List Epilogue) → onlyOne test es ≡ true → Only test es
+unfolding onlyOne
+only test [] e = absurd (no-yes e)
+only test (x ∷ []) e = record { one = x; are = refl; passes = e }
+only test (x ∷ y ∷ es) e = absurd (no-yes e)
+
 padded : Function → List ℕ
 padded f = replicate (4 * wordsOf f - length (codesOf f)) nopByte
 
@@ -101,18 +113,6 @@ module _ (f : Function) where
         length-append (codesOf f) (replicate (4 * ((length (codesOf f) + 3) / 4) - length (codesOf f)) nopByte),
         length-replicate {A = ℕ} (4 * ((length (codesOf f) + 3) / 4) - length (codesOf f)) nopByte,
       )
-
-  -- an only epilogue
-  pub record Only (test : Epilogue → Bool) (es : List Epilogue) : Type 0 where
-    pub one : Epilogue
-    pub are : es ≡ one ∷ []
-    pub passes : test one ≡ true
-
-  pub only : (test : Epilogue → Bool) (es : List Epilogue) → onlyOne test es ≡ true → Only test es
-  unfolding onlyOne
-  only test [] e = absurd (no-yes e)
-  only test (x ∷ []) e = record { one = x; are = refl; passes = e }
-  only test (x ∷ y ∷ es) e = absurd (no-yes e)
 
   module _ (past : ℕ) where
     scopes-size : length (scopesOf f) ≡ 4 * scopesIn (headerFor f past)
