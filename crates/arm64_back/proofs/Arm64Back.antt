@@ -23,14 +23,14 @@ use Rattle.arm64.specs.Records.{wordAt}
 use Rattle.arm64.specs.Reader.{Unwound, allCodes, fullRecord, unwoundBy, fitsIn, readArm64}
 use Rattle.arm64.specs.Writer.{codeOk, codeOkAt, codesOkIn, epilogueOkAt, functionOkAt, codesIn, listsOk, isPacked, recordBytes, functionAsks, rowBytes, infoOf, noRecord, markersFrom, rowsOf, infosOf, arm64, arm64Answer}
 use Rattle.arm64.proofs.MeaningLaws.{both-true, no-yes}
-use Rattle.arm64_back.specs.Back.{wholeCode, wholeCodes, given, written, ReadBack, secondWord, EntryWord}
+use Rattle.arm64_back.specs.Back.{wholeCode, wholeCodes, Alike, given, written, ReadBack, secondWord, EntryWord, SameReading, Stands}
 use Rattle.arm64_back.proofs.CodeBack.{either-way}
-use Rattle.arm64_back.proofs.RunBack.{Stands, stands-behind, stands-before, stands-first, stands-left, stands-right}
+use Rattle.arm64_back.proofs.RunBack.{stands-behind, stands-before, stands-first, stands-left, stands-right}
 use Rattle.arm64_back.proofs.IndexBack.{both-yes}
 use Rattle.arm64_back.proofs.HeaderBack.{word-back}
 use Rattle.arm64_back.proofs.Alikes.{written-means, many-epilogues, many-codes}
 use Rattle.arm64_back.proofs.RecordBack.{Asked, all-asked, ask-yes, record-back}
-use Rattle.arm64_back.proofs.PackedForm.{wordFor, word-fits}
+use Rattle.arm64_back.proofs.PackedForm.{wordFor, word-fits, packed-as-full}
 use Rattle.arm64_back.proofs.PackedForm as packed
 
 -- ---- acceptance
@@ -144,6 +144,10 @@ module _ (f : Function) (a : Asked f) where
   unfolding pick
   packed-word t = rw t
 
+  unpacked-word : isPacked f ≡ false → pick (isPacked f) (wordFor f) 0 ≡ 0
+  unfolding pick
+  unpacked-word t = rw t
+
   second-word : (fs : List Function) (k : ℕ) → getElem? fs k ≡ some f → secondWord (rowsOf fs) k ≡ pick (isPacked f) (wordFor f) 0
   unfolding secondWord rowBytes
   second-word fs k g =
@@ -168,3 +172,87 @@ module _ (f : Function) (a : Asked f) where
         answer = if-eq (word % 4) 0 _ _ (e .placed t) ∙ record-back f a (infosOf fs ++ behind) (getD (markersFrom 0 fs) k 0) (stands-before behind u);
         alike = written-means f;
       }
+
+-- ---- room for what is read
+
+room-enough : (u v : Unwound) → Alike u v → (es cs : List ℕ) → length (v .epilogues) ≤ count epilogueStride es
+    → length (allCodes v) ≤ count codeStride cs → fitsIn es cs u ≡ good u
+unfolding fitsIn pick
+room-enough u v a es cs g h =
+    let m : length (u .epilogues) ≤ count epilogueStride es = omega (arith, many-epilogues (u .epilogues) (v .epilogues) (a .epilogues)) in
+    let n : length (allCodes u) ≤ count codeStride cs = omega (arith, many-codes u v a) in
+    rw (le-leb (length (u .epilogues)) (count epilogueStride es) m, le-leb (length (allCodes u)) (count codeStride cs) n)
+
+-- ---- what the writer accepted
+
+module _ (fs es cs : List ℕ) (r : Room) (w : Written) (e : arm64Answer fs es cs r ≡ accepted w) where
+  record Wrote : Type 0 where
+    whole : listsOk fs es cs ≡ true
+    asked : perFunction functionAsks 0 (functionsOf fs es cs) ≡ none
+    is : arm64 (functionsOf fs es cs) ≡ w
+
+  wrote : Wrote
+  unfolding arm64Answer fitting
+  wrote =
+      let a = passed _ _ _ (not-empty (eqb (count functionStride fs) 0) _ w e) in
+      let b = passed _ _ _ (a .1) in
+      let c = passed _ _ _ (b .1) in
+      record { whole = ask-yes (listsOk fs es cs) 13 0 (a .0); asked = b .0; is = cc }
+
+  module _ (k : ℕ) (h : k < count functionStride fs) where
+    abbrev this : Function
+    this = numberedFunction fs es cs k
+
+    there : getElem? (functionsOf fs es cs) k ≡ some this
+    unfolding functionsOf
+    there = each-get (numberedFunction fs es cs) 0 (count functionStride fs) k h ∙ ap (λ (i : ℕ). some (numberedFunction fs es cs i)) (omega arith)
+
+    this-ok : functionOkAt fs es cs k ≡ true
+    unfolding listsOk allIn
+    this-ok =
+        let n : ℕ = count functionStride fs in
+        let few : Bool = leb n mostFunctions && leb (sumOf (λ k. field functionStride fs k 5) 0 n) mostRecords && leb (sumOf (codesIn fs es) 0 n) mostRecords in
+        at-in (functionOkAt fs es cs) (each (λ i. i) 0 n) k k (both-true few (all (functionOkAt fs es cs) (each (λ i. i) 0 n)) (wrote .whole) .1)
+        (each-get (λ i. i) 0 n k h ∙ ap (λ (i : ℕ). some i) (omega arith))
+
+    pub this-asked : Asked this
+    this-asked = all-asked this (function-whole fs es cs k this-ok) (0 + k) (asked-at 0 (functionsOf fs es cs) k this (wrote .asked) there)
+
+    -- Function k of an accepted list, read by a word that may stand in its row and, where it is not packed, the record at its marker, with anything
+    -- behind the records: the length and the starts are as given, and each code does what the given one does.
+    pub arm64-back : (word : ℕ) → EntryWord this (w .bytes) k word → (behind : List ℕ)
+        → ReadBack (given this) (unwoundBy word (w .sites ++ behind) (getD (w .places) k 0))
+    unfolding arm64
+    arm64-back word o behind =
+        subst (λ x. ReadBack (given this) (unwoundBy word (x .sites ++ behind) (getD (x .places) k 0))) (wrote .is)
+        (function-back this this-asked (functionsOf fs es cs) k there word (subst (λ x. EntryWord this (x .bytes) k word) (sym (wrote .is)) o) behind)
+
+    -- The same of the reader that stores what it read, where the lent lists have room for as many epilogues and codes as were given.
+    pub arm64-read : (word : ℕ) → EntryWord this (w .bytes) k word → (behind es′ cs′ : List ℕ) → length (this .epilogues) ≤ count epilogueStride es′
+        → length (allCodes (given this)) ≤ count codeStride cs′
+        → ReadBack (given this) (readArm64 word (w .sites ++ behind) (getD (w .places) k 0) es′ cs′)
+    unfolding readArm64 onward given
+    arm64-read word o behind es′ cs′ g h =
+        let b = arm64-back word o behind in
+        record {
+          unwound = b .unwound;
+          answer = ap (λ x. onward x (fitsIn es′ cs′)) (b .answer) ∙ room-enough (b .unwound) (given this) (b .alike) es′ cs′ g h;
+          alike = b .alike;
+        }
+
+    -- The word that was written may stand in the row: packed, or 0 where a relocation puts the record's place.
+    pub entry-word : EntryWord this (w .bytes) k (secondWord (w .bytes) k)
+    unfolding arm64
+    entry-word =
+        let word : secondWord (w .bytes) k ≡ pick (isPacked this) (wordFor this) 0 =
+        ap (λ x. secondWord (x .bytes) k) (sym (wrote .is)) ∙ second-word this this-asked (functionsOf fs es cs) k there in
+        record { packed = λ t. refl; placed = λ t. ap (λ (n : ℕ). n % 4) (word ∙ unpacked-word this this-asked t) }
+
+    -- Where it is packed, the word means what the function's full record would mean, wherever that stood.
+    pub arm64-packed : isPacked this ≡ true → (s : List ℕ) (place : ℕ) (bytes : List ℕ) (p : ℕ) → Stands bytes p (recordBytes this)
+        → SameReading (unwoundBy (secondWord (w .bytes) k) s place) (fullRecord bytes p)
+    unfolding arm64
+    arm64-packed t s place bytes p u =
+        let word : secondWord (w .bytes) k ≡ wordFor this =
+        ap (λ x. secondWord (x .bytes) k) (sym (wrote .is)) ∙ second-word this this-asked (functionsOf fs es cs) k there ∙ packed-word this this-asked t in
+        subst (λ (n : ℕ). SameReading (unwoundBy n s place) (fullRecord bytes p)) (sym word) (packed-as-full this this-asked t s place bytes p u)

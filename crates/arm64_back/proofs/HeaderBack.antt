@@ -19,8 +19,9 @@ use Rattle.arm64.specs.Records.{wordAt, versionOf, isLong, shortHeader, longHea
 use Rattle.arm64.specs.Runs.{runBytes, runsBytes, backwards, endByte}
 use Rattle.arm64.specs.Writer.{prologueRun, ownOf, instructions, indexIn, single, countOf, wordsOf, isLongFor, headerWord, headerBytes, scopeBytes, scopesOf, codesOf}
 use Rattle.arm64.proofs.MeaningLaws.{both-true, no-yes}
+use Rattle.arm64_back.specs.Back.{Stands}
 use Rattle.arm64_back.proofs.CodeBack.{either-way}
-use Rattle.arm64_back.proofs.RunBack.{Stands, stands-left, stands-right, stands-inside}
+use Rattle.arm64_back.proofs.RunBack.{stands-left, stands-right, stands-inside}
 
 -- ---- a word
 

@@ -18,9 +18,9 @@ use Rattle.arm64.specs.Reader.{runAt}
 use Rattle.arm64.specs.Writer.{hasRegister, hasOffset, codeOk, prologueRun, epilogueRun, epilogueRuns, ownOf, codesOf, indexIn}
 use Rattle.arm64.proofs.MeaningLaws.{both-true, no-yes}
 use Rattle.arm64.proofs.PackingLaws.{equal-all}
-use Rattle.arm64_back.specs.Back.{wholeCode}
+use Rattle.arm64_back.specs.Back.{wholeCode, Stands}
 use Rattle.arm64_back.proofs.CodeBack.{either-way, or-false}
-use Rattle.arm64_back.proofs.RunBack.{Stands, stands-behind, stands-before, stands-first, Fine, AllFine, run-back, run-inside}
+use Rattle.arm64_back.proofs.RunBack.{stands-behind, stands-before, stands-first, Fine, AllFine, run-back, run-inside}
 
 -- ---- what is written of a code that was asked 13 is such a code too
 

@@ -12,8 +12,7 @@ use Rattle.arm64.specs.Packing.{candidate, packedWord, standsFor}
 use Rattle.arm64.specs.Writer.{instructions, prologueRun, epilogueRun, endsWith, packedFor, isPacked, recordBytes}
 use Rattle.arm64.proofs.MeaningLaws.{both-true}
 use Rattle.arm64.proofs.PackedBack.{Back, held, word-low, packed-back}
-use Rattle.arm64_back.specs.Back.{Alike, SameEpilogue, SameEpilogues, given, written, ReadBack, SameReading}
-use Rattle.arm64_back.proofs.RunBack.{Stands}
+use Rattle.arm64_back.specs.Back.{Alike, SameEpilogue, SameEpilogues, given, written, ReadBack, SameReading, Stands}
 use Rattle.arm64_back.proofs.ScopeBack.{Placed, AllPlaced}
 use Rattle.arm64_back.proofs.Alikes.{both-alike, written-means}
 use Rattle.arm64_back.proofs.RecordBack.{Asked, Only, only, record-back}

@@ -23,9 +23,9 @@ use Rattle.arm64.specs.Reader.{Unwound, runAt, scoped, atEnd, recordEpilogues, 
 use Rattle.arm64.specs.Writer.{instructions, prologueRun, epilogueRun, epilogueRuns, codesOf, indexIn, endsWith, onlyOne, single, firstIndex, countOf, wordsOf, headerBytes, scopeBytes, scopesOf, nopByte, recordBytes, longest, sizeOk, startOk, valuesOk, functionAsks}
 use Rattle.arm64.proofs.MeaningLaws.{both-true, no-yes}
 use Rattle.arm64.proofs.PackingLaws.{reverse-twice}
-use Rattle.arm64_back.specs.Back.{wholeCode, wholeCodes, writtenEpilogue, written}
+use Rattle.arm64_back.specs.Back.{wholeCode, wholeCodes, writtenEpilogue, written, Stands}
 use Rattle.arm64_back.proofs.CodeBack.{either-way}
-use Rattle.arm64_back.proofs.RunBack.{Stands, stands-left, stands-right, stands-inside, AllFine}
+use Rattle.arm64_back.proofs.RunBack.{stands-left, stands-right, stands-inside, AllFine}
 use Rattle.arm64_back.proofs.IndexBack.{runs-fine, all-reverse, same-codes, or-first, or-second, both-yes, index-back, prologue-back}
 use Rattle.arm64_back.proofs.HeaderBack.{Held, Headed, mark, headerFor, header-back}
 use Rattle.arm64_back.proofs.ScopeBack.{Placed, AllPlaced, whole-instructions, scope-length, scopes-back, end-back}

@@ -19,16 +19,10 @@ use Rattle.arm64.specs.Meaning.{reverse}
 use Rattle.arm64.specs.Runs.{sameCode, backwards, endByte, runBytes, runSize, leads}
 use Rattle.arm64.specs.Reader.{onCode, inFront, runF, runAt}
 use Rattle.arm64.proofs.MeaningLaws.{both-true, no-yes, equal}
-use Rattle.arm64_back.specs.Back.{wholeCode}
+use Rattle.arm64_back.specs.Back.{wholeCode, Stands}
 use Rattle.arm64_back.proofs.CodeBack.{known-kind, code-some, code-back}
 
 -- ---- bytes that stand at a place of others
-
-pub record Stands (s : List ℕ) (p : ℕ) (bs : List ℕ) : Type 0 where
-  pub front : List ℕ
-  pub behind : List ℕ
-  pub is : s ≡ front ++ (bs ++ behind)
-  pub place : p ≡ length front
 
 pub stands-behind : {s bs : List ℕ} {p : ℕ} (xs : List ℕ) → Stands s p bs → Stands (xs ++ s) (length xs + p) bs
 stands-behind {bs = bs} xs t =

@@ -20,8 +20,8 @@ use Rattle.arm64.specs.Runs.{noPair, simplify, runBytes, isIn}
 use Rattle.arm64.specs.Reader.{epilogue, inFront, runAt, atEnd, scoped}
 use Rattle.arm64.specs.Writer.{instructions, epilogueRun, epilogueRuns, codesOf, indexIn, endsWith, wordsOf, scopeBytes}
 use Rattle.arm64.proofs.MeaningLaws.{both-true, no-yes}
-use Rattle.arm64_back.specs.Back.{writtenEpilogue}
-use Rattle.arm64_back.proofs.RunBack.{Stands, stands-left, stands-right, stands-inside, AllFine}
+use Rattle.arm64_back.specs.Back.{writtenEpilogue, Stands}
+use Rattle.arm64_back.proofs.RunBack.{stands-left, stands-right, stands-inside, AllFine}
 use Rattle.arm64_back.proofs.IndexBack.{index-stands, index-back}
 use Rattle.arm64_back.proofs.Alikes.{epilogue-length, epilogue-means}
 use Rattle.arm64_back.proofs.HeaderBack.{Held, word-back}

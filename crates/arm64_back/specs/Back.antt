@@ -2,7 +2,8 @@
 -- one does, and a packed word means what its full record would mean").
 use mathlib.Core.Path.{_≡_}
 use mathlib.Core.Bool.{Bool, true, false, _&&_}
-use mathlib.Core.List.{List, [], _∷_, map}
+use mathlib.Core.List.{List, [], _∷_, _++_, map}
+use lib.ListN.{length}
 use Prim.Native.Nat.{ℕ, _+_, _*_, _%_}
 use Rattle.format.specs.Prelude.{Result, good, all}
 use Rattle.arm64.specs.declared.Code.{Code}
@@ -20,6 +21,14 @@ wholeCode c = codeOk (c .kind) (c .register) (c .offset)
 
 unfoldable pub wholeCodes : Function → Bool
 wholeCodes f = all wholeCode (f .prologue) && all (λ e. all wholeCode (e .codes)) (f .epilogues)
+
+-- ---- bytes that stand at a place of others, with anything in front and behind
+
+pub record Stands (s : List ℕ) (p : ℕ) (bs : List ℕ) : Type 0 where
+  pub front : List ℕ
+  pub behind : List ℕ
+  pub is : s ≡ front ++ (bs ++ behind)
+  pub place : p ≡ length front
 
 -- ---- two readings that say the same
 
