@@ -29,7 +29,7 @@ use Rattle.arm64_back.proofs.RunBack.{stands-behind, stands-before, sta
 use Rattle.arm64_back.proofs.IndexBack.{both-yes}
 use Rattle.arm64_back.proofs.HeaderBack.{word-back}
 use Rattle.arm64_back.proofs.Alikes.{written-means, many-epilogues, many-codes}
-use Rattle.arm64_back.proofs.RecordBack.{Asked, all-asked, ask-yes, record-back}
+use Rattle.arm64_back.proofs.RecordBack.{Asked, all-asked, ask-yes, record-read, record-whole}
 use Rattle.arm64_back.proofs.PackedForm.{wordFor, word-fits, packed-as-full}
 use Rattle.arm64_back.proofs.PackedForm as packed
 
@@ -119,6 +119,20 @@ record-stands front at (x ∷ xs) (suc k) f l g n =
     let t = record-stands (front ++ infoOf x) (at + length (infoOf x)) xs k f (omega (arith, length-append front (infoOf x))) g n in
     subst (λ b. Stands b (getD (markersFrom (at + length (infoOf x)) xs) k 0) (recordBytes f)) (append-assoc front (infoOf x) (infosOf xs)) t
 
+info-whole : (f : Function) → length (infoOf f) % 4 ≡ 0
+unfolding infoOf pick
+info-whole f = either-way (isPacked f) (λ t. rw t refl) λ t. rw t (record-whole f)
+
+-- and it stands at whole words
+marker-in : (at : ℕ) (fs : List Function) (k : ℕ) (f : Function) → at % 4 ≡ 0 → getElem? fs k ≡ some f → isPacked f ≡ false
+    → getD (markersFrom at fs) k 0 % 4 ≡ 0
+unfolding markersFrom pick
+marker-in at [] k f h g n = let z : _≡_ {A = ℕ} 0 1 = cc in absurd (omega arith)
+marker-in at (x ∷ xs) zero f h g n =
+    let same : x ≡ f = cc in
+    let m : isPacked x ≡ false = ap isPacked same ∙ n in rw m h
+marker-in at (x ∷ xs) (suc k) f h g n = marker-in (at + length (infoOf x)) xs k f (omega (arith, info-whole x)) g n
+
 row-length : (f : Function) → length (rowBytes f) ≡ 8
 unfolding rowBytes
 row-length f =
@@ -169,7 +183,7 @@ module _ (f : Function) (a : Asked f) where
       let u = record-stands [] 0 fs k f refl g t in
       record {
         unwound = written f;
-        answer = if-eq (word % 4) 0 _ _ (e .placed t) ∙ record-back f a (infosOf fs ++ behind) (getD (markersFrom 0 fs) k 0) (stands-before behind u);
+        answer = if-eq (word % 4) 0 _ _ (e .placed t) ∙ record-read f a (infosOf fs ++ behind) (getD (markersFrom 0 fs) k 0) (stands-before behind u);
         alike = written-means f;
       }
 
@@ -247,6 +261,11 @@ module _ (fs es cs : List ℕ) (r : Room) (w : Written) (e : arm64Answer fs es c
         let word : secondWord (w .bytes) k ≡ pick (isPacked this) (wordFor this) 0 =
         ap (λ x. secondWord (x .bytes) k) (sym (wrote .is)) ∙ second-word this this-asked (functionsOf fs es cs) k there in
         record { packed = λ t. refl; placed = λ t. ap (λ (n : ℕ). n % 4) (word ∙ unpacked-word this this-asked t) }
+
+    -- The marker of a record is whole words, so where its section starts at whole words the record's place is such a word.
+    pub marker-whole : isPacked this ≡ false → getD (w .places) k 0 % 4 ≡ 0
+    unfolding arm64
+    marker-whole n = ap (λ x. getD (x .places) k 0 % 4) (sym (wrote .is)) ∙ marker-in 0 (functionsOf fs es cs) k this refl there n
 
     -- Where it is packed, the word means what the function's full record would mean, wherever that stood.
     pub arm64-packed : isPacked this ≡ true → (s : List ℕ) (place : ℕ) (bytes : List ℕ) (p : ℕ) → Stands bytes p (recordBytes this)

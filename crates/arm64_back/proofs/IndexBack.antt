@@ -144,9 +144,8 @@ module _ (f : Function) (e : Epilogue) (h : isIn (epilogueRun e) (epilogueRuns f
   unfolding codesOf indexIn ownOf
   index-stands = index-of (prologueRun f) (epilogueRuns f) (epilogueRun e) h
 
-  -- An epilogue's run is read from its index among the function's codes, with anything behind them.
-  pub index-back : (padding : List ℕ) → AllFine (epilogueRun e) → runAt (codesOf f ++ padding) (indexIn f e) ≡ some (reverse (epilogueRun e))
-  index-back padding fine = run-back (codesOf f ++ padding) (indexIn f e) (epilogueRun e) fine (stands-before padding index-stands)
+  pub index-read : (padding : List ℕ) → AllFine (epilogueRun e) → runAt (codesOf f ++ padding) (indexIn f e) ≡ some (reverse (epilogueRun e))
+  index-read padding fine = run-back (codesOf f ++ padding) (indexIn f e) (epilogueRun e) fine (stands-before padding index-stands)
 
 -- The prologue's is read from the first of them.
 pub prologue-back : (f : Function) (padding : List ℕ) → AllFine (prologueRun f) → runAt (codesOf f ++ padding) 0 ≡ some (reverse (prologueRun f))

@@ -15,7 +15,7 @@ use Rattle.arm64.proofs.PackedBack.{Back, held, word-low, packed-back}
 use Rattle.arm64_back.specs.Back.{Alike, SameEpilogue, SameEpilogues, given, written, ReadBack, SameReading, Stands}
 use Rattle.arm64_back.proofs.ScopeBack.{Placed, AllPlaced}
 use Rattle.arm64_back.proofs.Alikes.{both-alike, written-means}
-use Rattle.arm64_back.proofs.RecordBack.{Asked, Only, only, record-back}
+use Rattle.arm64_back.proofs.RecordBack.{Asked, Only, only, record-read}
 
 -- the word of a packed function
 abbrev pub wordFor : Function → ℕ
@@ -66,6 +66,6 @@ module _ (f : Function) (a : Asked f) (t : isPacked f ≡ true) where
         first = b .unwound;
         second = written f;
         one = b .answer;
-        other = record-back f a bytes p u;
+        other = record-read f a bytes p u;
         alike = both-alike (b .unwound) (written f) (given f) (b .alike) (written-means f);
       }

@@ -6,11 +6,13 @@ use mathlib.Core.List.{List, [], _∷_, _++_, map, append-assoc}
 use Prim.Native.Nat.{ℕ, zero, suc, _+_, _-_, _*_, _/_, _%_, _^_, _≤_, _<_}
 use native.Mathlib.Omega.{arith}
 use lib.Dec.{T, leb, ltb, eqb}
-use lib.ListN.{length, take, drop, replicate, length-append, length-replicate}
+use lib.ListN.{length, getElem?, take, drop, replicate, length-append, length-replicate}
 use lib.Seq.{take-at, drop-at}
 use borrow.Author.Tests.{leb-true, ltb-true, eqb-true, le-leb, eq-eqb}
 use Rattle.format.specs.Prelude.{pick, after, all, Result, good, bad, orElse}
+use Rattle.format.specs.Leb.{little}
 use Rattle.format.specs.Questions.{Question, ask, andThen}
+use Rattle.format.proofs.LebBack.{little-length}
 use Rattle.format.proofs.Accepted.{asked, both}
 use Rattle.arm64.specs.declared.Code.{Code}
 use Rattle.arm64.specs.declared.Header.{Header}
@@ -20,13 +22,13 @@ use Rattle.arm64.specs.Records.{wordAt, versionOf, headerAt, scopesIn, codesFro
 use Rattle.arm64.specs.Records as records
 use Rattle.arm64.specs.Runs.{noPair, sameCodes, runFits, isIn}
 use Rattle.arm64.specs.Reader.{Unwound, runAt, scoped, atEnd, recordEpilogues, unwound, recordUnwound, fullRecord}
-use Rattle.arm64.specs.Writer.{instructions, prologueRun, epilogueRun, epilogueRuns, codesOf, indexIn, endsWith, onlyOne, single, firstIndex, countOf, wordsOf, headerBytes, scopeBytes, scopesOf, nopByte, recordBytes, longest, sizeOk, startOk, valuesOk, functionAsks}
+use Rattle.arm64.specs.Writer.{instructions, prologueRun, epilogueRun, epilogueRuns, codesOf, indexIn, endsWith, onlyOne, single, firstIndex, countOf, wordsOf, isLongFor, headerWord, headerBytes, scopeBytes, scopesOf, nopByte, recordBytes, longest, sizeOk, startOk, valuesOk, functionAsks}
 use Rattle.arm64.proofs.MeaningLaws.{both-true, no-yes}
 use Rattle.arm64.proofs.PackingLaws.{reverse-twice}
 use Rattle.arm64_back.specs.Back.{wholeCode, wholeCodes, writtenEpilogue, written, Stands}
 use Rattle.arm64_back.proofs.CodeBack.{either-way}
 use Rattle.arm64_back.proofs.RunBack.{stands-left, stands-right, stands-inside, AllFine}
-use Rattle.arm64_back.proofs.IndexBack.{runs-fine, all-reverse, same-codes, or-first, or-second, both-yes, index-back, prologue-back}
+use Rattle.arm64_back.proofs.IndexBack.{runs-fine, all-reverse, same-codes, or-first, or-second, both-yes, index-read, prologue-back}
 use Rattle.arm64_back.proofs.HeaderBack.{Held, Headed, mark, headerFor, header-back}
 use Rattle.arm64_back.proofs.ScopeBack.{Placed, AllPlaced, whole-instructions, scope-length, scopes-back, end-back}
 
@@ -138,7 +140,7 @@ module _ (f : Function) where
           let p : Placed f e = subst (AllPlaced f) (o .are) (a .epilogues) .0 in
           let P : List Epilogue → Type 0 =
           λ es. after (runAt (codesOf f ++ padding) (firstIndex f es)) (atEnd (instructions (f .size))) ≡ some (map writtenEpilogue es) in
-          rw c (rw t (subst P (sym (o .are)) (rw (index-back f e (p .known) padding (p .fine)) (end-back f (a .held) e p (o .passes)))))
+          rw c (rw t (subst P (sym (o .are)) (rw (index-read f e (p .known) padding (p .fine)) (end-back f (a .held) e p (o .passes)))))
 
       epilogues-back : recordEpilogues (headerFor f past) s ≡ some (map writtenEpilogue (f .epilogues))
       epilogues-back = either-way (single f) by-end by-words
@@ -189,11 +191,56 @@ module _ (f : Function) (a : Asked f) (s : List ℕ) (p : ℕ) (t : Stands s p (
       both-yes (both-yes (le-leb (p + 4) (length s) (h .inside)) (eq-eqb (versionOf (wordAt s p)) 0 (h .version)))
       (rw (h .fields) (le-leb (codesFrom (headerFor f past) + 4 * wordsOf f + 4 * 0) (length s) l))
 
-  -- A full record, with anything in front and behind, is read as the function with its codes as they are written.
-  pub record-back : fullRecord s p ≡ good (written f)
+  pub record-read : fullRecord s p ≡ good (written f)
   unfolding fullRecord pick orElse
-  record-back =
+  record-read =
       let u : recordUnwound (headerAt s p) s ≡ some (written f) =
       ap (λ x. recordUnwound x s) (headed .fields)
       ∙ unwound-back f a s past (stands-left (scopesOf f) (codesOf f ++ padded f) behind-header) (padded f) codes-are in
       rw (record-ok, u)
+
+-- ---- records are whole words
+
+header-whole : (f : Function) → length (headerBytes f) % 4 ≡ 0
+unfolding headerBytes pick
+header-whole f =
+    let w : ℕ = headerWord f in
+    let v : ℕ = countOf f + 2 ^ 16 * wordsOf f in
+    either-way (isLongFor f)
+    (λ t.
+    rw t
+    (let a : length (little 4 (headerWord f)) ≡ 4 = little-length 4 (headerWord f) in
+    let b : length (little 4 (countOf f + 2 ^ 16 * wordsOf f)) ≡ 4 = little-length 4 (countOf f + 2 ^ 16 * wordsOf f) in
+    omega (arith, length-append (little 4 (headerWord f)) (little 4 (countOf f + 2 ^ 16 * wordsOf f)))))
+    λ t.
+    rw t
+    (let a : length (little 4 (headerWord f + 2 ^ 22 * countOf f + 2 ^ 27 * wordsOf f)) ≡ 4 = little-length 4 (headerWord f + 2 ^ 22 * countOf f + 2 ^ 27 * wordsOf f) in
+    omega arith)
+
+pub record-whole : (f : Function) → length (recordBytes f) % 4 ≡ 0
+unfolding recordBytes padded
+record-whole f =
+    let rest : List ℕ = codesOf f ++ replicate (4 * wordsOf f - length (codesOf f)) nopByte in
+    let a : length (codesOf f ++ replicate (4 * wordsOf f - length (codesOf f)) nopByte) ≡ 4 * wordsOf f = padded-length f in
+    omega (arith, length-append (headerBytes f) (scopesOf f ++ rest), length-append (scopesOf f) rest, header-whole f, scopes-size f 0)
+
+-- ---- a function that passes questions 13 and 81 to 83
+
+placed-at : (f : Function) (es : List Epilogue) (i : ℕ) (e : Epilogue) → AllPlaced f es → getElem? es i ≡ some e → Placed f e
+placed-at f [] i e o g = let z : _≡_ {A = ℕ} 0 1 = cc in absurd (omega arith)
+placed-at f (x ∷ xs) zero e o g = let same : x ≡ e = cc in subst (Placed f) same (o .0)
+placed-at f (x ∷ xs) (suc i) e o g = placed-at f xs i e (o .1) g
+
+module _ (f : Function) (whole : wholeCodes f ≡ true) (k : ℕ) (passes : functionAsks k f ≡ none) where
+  -- Each epilogue's run is read from its index among the codes, with anything behind them: its codes as they are written, in the order of its
+  -- instructions.
+  pub index-back : (i : ℕ) (e : Epilogue) → getElem? (f .epilogues) i ≡ some e → (padding : List ℕ)
+      → runAt (codesOf f ++ padding) (indexIn f e) ≡ some (reverse (epilogueRun e))
+  index-back i e g padding =
+      let p = placed-at f (f .epilogues) i e (all-asked f whole k passes .epilogues) g in index-read f e (p .known) padding (p .fine)
+
+  -- The full record, with anything in front and behind, is read as the function with its codes as they are written.
+  pub record-back : (front behind : List ℕ) → fullRecord (front ++ (recordBytes f ++ behind)) (length front) ≡ good (written f)
+  record-back front behind =
+      record-read f (all-asked f whole k passes) (front ++ (recordBytes f ++ behind)) (length front)
+      (record { front = front; behind = behind; is = refl; place = refl })

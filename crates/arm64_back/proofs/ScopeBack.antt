@@ -22,7 +22,7 @@ use Rattle.arm64.specs.Writer.{instructions, epilogueRun, epilogueRuns, codesOf
 use Rattle.arm64.proofs.MeaningLaws.{both-true, no-yes}
 use Rattle.arm64_back.specs.Back.{writtenEpilogue, Stands}
 use Rattle.arm64_back.proofs.RunBack.{stands-left, stands-right, stands-inside, AllFine}
-use Rattle.arm64_back.proofs.IndexBack.{index-stands, index-back}
+use Rattle.arm64_back.proofs.IndexBack.{index-stands, index-read}
 use Rattle.arm64_back.proofs.Alikes.{epilogue-length, epilogue-means}
 use Rattle.arm64_back.proofs.HeaderBack.{Held, word-back}
 
@@ -86,7 +86,7 @@ module _ (f : Function) (h : Held f) where
       let four : length (little 4 (instructions (e .start) + 2 ^ 22 * indexIn f e)) ≡ 4 = little-length 4 (instructions (e .start) + 2 ^ 22 * indexIn f e) in
       let next : past + 4 * k + length (little 4 (instructions (e .start) + 2 ^ 22 * indexIn f e)) ≡ past + 4 * suc k = omega arith in
       let rest = scopes-back s past padding (suc k) es (o .1) (subst (λ (n : ℕ). Stands s n (scopeBytes f es)) next (stands-right w (scopeBytes f es) t)) in
-      rw (b .1) (rw (index-back f e (o .0 .known) padding (o .0 .fine)) (rw (b .0, rest)))
+      rw (b .1) (rw (index-read f e (o .0 .known) padding (o .0 .fine)) (rw (b .0, rest)))
 
   ends : (e : Epilogue) → endsWith f e ≡ true → instructions (f .size - e .start) ≡ length (e .codes) + 1
   unfolding endsWith
