@@ -1,31 +1,29 @@
 -- What the writer wrote of each function of its lists, read back from the function's row and its record.
 use mathlib.Core.Path.{_≡_, refl, subst, sym, ap, _∙_}
-use mathlib.Core.Bool.{Bool, true, false, not, _&&_, _||_}
-use mathlib.Core.Option.{Option, none, some}
-use mathlib.Core.List.{List, [], _∷_, _++_, map, append-assoc}
-use Prim.Native.Nat.{ℕ, zero, suc, _+_, _-_, _*_, _/_, _%_, _^_, _≤_, _<_}
+use mathlib.Core.Bool.{Bool, true, false, _&&_}
+use mathlib.Core.Option.{none, some}
+use mathlib.Core.List.{List, [], _∷_, _++_, append-assoc}
+use Prim.Native.Nat.{ℕ, zero, suc, _+_, _*_, _%_, _^_, _≤_, _<_}
 use native.Mathlib.Omega.{arith}
-use lib.Dec.{T, leb, ltb, eqb}
+use lib.Dec.{leb, eqb}
 use lib.ListN.{length, getD, getElem?, length-append}
 use borrow.Author.Tests.{le-leb}
-use Rattle.format.specs.Prelude.{pick, each, all, Result, good, bad, onward}
+use Rattle.format.specs.Prelude.{pick, each, all, good, onward}
 use Rattle.format.specs.Leb.{little}
 use Rattle.format.specs.Lists.{count, field, inside, symbolOk, allIn, sumOf, mostFunctions, mostRecords}
 use Rattle.format.specs.Writer.{Written}
-use Rattle.format.specs.Questions.{Question, ask, andThen, perFunction, Room, roomAsks, Answer, empty, accepted, unless, fitting}
+use Rattle.format.specs.Questions.{Question, perFunction, Room, Answer, empty, accepted, unless, fitting}
 use Rattle.format.proofs.Accepted.{both}
 use Rattle.format.proofs.LebBack.{little-length}
 use Rattle.format.proofs.ListLaws.{each-get}
 use Rattle.format.proofs.Choice.{if-eq}
-use Rattle.arm64.specs.declared.Code.{Code}
-use Rattle.arm64.specs.Lists.{Epilogue, Function, functionStride, epilogueStride, codeStride, numberedCode, numberedEpilogue, numberedFunction, functionsOf}
-use Rattle.arm64.specs.Records.{wordAt}
+use Rattle.arm64.specs.Lists.{Function, functionStride, epilogueStride, codeStride, numberedCode, numberedEpilogue, numberedFunction, functionsOf}
 use Rattle.arm64.specs.Reader.{Unwound, allCodes, fullRecord, unwoundBy, fitsIn, readArm64}
-use Rattle.arm64.specs.Writer.{codeOk, codeOkAt, codesOkIn, epilogueOkAt, functionOkAt, codesIn, listsOk, isPacked, recordBytes, functionAsks, rowBytes, infoOf, noRecord, markersFrom, rowsOf, infosOf, arm64, arm64Answer}
-use Rattle.arm64.proofs.MeaningLaws.{both-true, no-yes}
+use Rattle.arm64.specs.Writer.{codeOkAt, codesOkIn, epilogueOkAt, functionOkAt, codesIn, listsOk, isPacked, recordBytes, functionAsks, rowBytes, infoOf, markersFrom, rowsOf, infosOf, arm64, arm64Answer}
+use Rattle.arm64.proofs.MeaningLaws.{both-true}
 use Rattle.arm64_back.specs.Back.{wholeCode, wholeCodes, Alike, given, written, ReadBack, secondWord, EntryWord, SameReading, Stands}
 use Rattle.arm64_back.proofs.CodeBack.{either-way}
-use Rattle.arm64_back.proofs.RunBack.{stands-behind, stands-before, stands-first, stands-left, stands-right}
+use Rattle.arm64_back.proofs.RunBack.{stands-behind, stands-before, stands-first, stands-right}
 use Rattle.arm64_back.proofs.IndexBack.{both-yes}
 use Rattle.arm64_back.proofs.HeaderBack.{word-back}
 use Rattle.arm64_back.proofs.Alikes.{written-means, many-epilogues, many-codes}

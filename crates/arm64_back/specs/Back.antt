@@ -7,6 +7,7 @@ use lib.ListN.{length}
 use Prim.Native.Nat.{ℕ, _+_, _*_, _%_}
 use Rattle.format.specs.Prelude.{Result, good, all}
 use Rattle.arm64.specs.declared.Code.{Code}
+use Rattle.arm64.specs.Codes.{codeFits}
 use Rattle.arm64.specs.Lists.{Epilogue, Function}
 use Rattle.arm64.specs.Meaning.{reverse, prologueMeans, epilogueMeans}
 use Rattle.arm64.specs.Records.{wordAt}
@@ -21,6 +22,14 @@ wholeCode c = codeOk (c .kind) (c .register) (c .offset)
 
 unfoldable pub wholeCodes : Function → Bool
 wholeCodes f = all wholeCode (f .prologue) && all (λ e. all wholeCode (e .codes)) (f .epilogues)
+
+-- a code that passes 13 and 83: it is one, and its fields hold its values
+abbrev pub Fine : Code → Type 0
+Fine c = (wholeCode c ≡ true) × (codeFits c ≡ true)
+
+abbrev pub AllFine : List Code → Type 0
+AllFine [] = Unit {0}
+AllFine (c ∷ cs) = Fine c × AllFine cs
 
 -- ---- bytes that stand at a place of others, with anything in front and behind
 
