@@ -8,3 +8,4 @@ pub mod ScopeBack
 pub mod RecordBack
 pub mod PackedForm
 pub mod Arm64Back
+pub mod Examples
