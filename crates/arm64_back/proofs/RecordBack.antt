@@ -20,7 +20,7 @@ use Rattle.arm64.specs.Meaning.{reverse}
 use Rattle.arm64.specs.Records.{wordAt, versionOf, headerAt, scopesIn, codesFrom, codesTo, headerFits, recordOk, scopeAt}
 use Rattle.arm64.specs.Records as records
 use Rattle.arm64.specs.Runs.{noPair, sameCodes, runFits, isIn}
-use Rattle.arm64.specs.Reader.{Unwound, runAt, atEnd, recordEpilogues, unwound, recordUnwound, fullRecord}
+use Rattle.arm64.specs.Reader.{runAt, atEnd, recordEpilogues, unwound, recordUnwound, fullRecord}
 use Rattle.arm64.specs.Writer.{instructions, prologueRun, epilogueRun, epilogueRuns, codesOf, indexIn, endsWith, onlyOne, single, firstIndex, countOf, wordsOf, isLongFor, headerWord, headerBytes, scopeBytes, scopesOf, nopByte, recordBytes, longest, sizeOk, startOk, valuesOk, functionAsks}
 use Rattle.arm64.proofs.MeaningLaws.{both-true, no-yes}
 use Rattle.arm64.proofs.PackingLaws.{reverse-twice}

@@ -12,7 +12,7 @@ use Rattle.format.specs.Prelude.{pick}
 use Rattle.format.proofs.Choice.{if-le, if-eq, if-ne}
 use Rattle.arm64.specs.declared.Code.{Code}
 use Rattle.arm64.specs.declared.CodeRead.the-variants as codeRead
-use Rattle.arm64.specs.Codes.{code, kEnd, formOf, otherForm, fieldAt, codeIn, codeAs, codeAt, codeFits, codeBytes}
+use Rattle.arm64.specs.Codes.{code, kEnd, formOf, otherForm, fieldAt, codeIn, codeAs, codeAt, codeBytes}
 use Rattle.arm64.specs.Meaning.{reverse}
 use Rattle.arm64.specs.Runs.{sameCode, backwards, endByte, runBytes, runSize, leads}
 use Rattle.arm64.specs.Reader.{onCode, inFront, runF, runAt}
