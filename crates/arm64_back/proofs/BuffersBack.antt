@@ -10,8 +10,7 @@ use Rattle.format.specs.Put.{put}
 use Rattle.format.specs.Lists.{count}
 use Rattle.format.specs.Writer.{Written}
 use Rattle.format.specs.Questions.{Room, roomIn, roomAsks}
-use Rattle.format.specs.Answers.{Writes, afterwards}
-use Rattle.format.specs.declared.Outcome.{Outcome}
+use Rattle.format.specs.Answers.{afterwards}
 use Rattle.format.proofs.Accepted.{asked, both}
 use Rattle.format.proofs.ListLaws.{each-length}
 use Rattle.arm64.specs.Lists.{Function, functionStride, numberedFunction, functionsOf}
@@ -53,8 +52,10 @@ rooms r w e =
       sites = leb→le (length (w .sites)) (r .sites) (asked _ 54 0 (c .1));
     }
 
-module _ (fs es cs p b q s : List ℕ) {p′ b′ q′ s′ : List ℕ} {o : Outcome}
-    (writes : Writes (arm64Answer fs es cs (roomIn p b q s)) o p p′ b b′ q q′ s s′) where
+-- the three of the writer's promises (`Writes`, `Exports`) that a reader needs
+module _ (fs es cs p b q s : List ℕ) {p′ b′ s′ : List ℕ} (placed : p′ ≡ afterwards (λ w. w .places) (arm64Answer fs es cs (roomIn p b q s)) p)
+    (stored : b′ ≡ afterwards (λ w. w .bytes) (arm64Answer fs es cs (roomIn p b q s)) b)
+    (sited : s′ ≡ afterwards (λ w. w .sites) (arm64Answer fs es cs (roomIn p b q s)) s) where
   -- What the writer stored, read by a word that may stand in function k's row and at its marker.
   pub buffers-back : (k word : ℕ) {place : ℕ} (es′ cs′ : List ℕ) → place ≡ getD p′ k 0
       → BuffersBack fs es cs (arm64Answer fs es cs (roomIn p b q s)) k b′ word es′ cs′ (readArm64 word s′ place es′ cs′)
@@ -65,9 +66,9 @@ module _ (fs es cs p b q s : List ℕ) {p′ b′ q′ s′ : List ℕ} {o : Out
       let many : length (w .places) ≡ count functionStride fs =
       ap (λ x. length (x .places)) (sym (all .is)) ∙ markers-length 0 (functionsOf fs es cs)
       ∙ each-length (numberedFunction fs es cs) 0 (count functionStride fs) in
-      let marks : p′ ≡ w .places ++ drop (length (w .places)) p = (rw a at (writes .placed)) ∙ put-front p (w .places) (fit .places) in
-      let rows : b′ ≡ w .bytes ++ drop (length (w .bytes)) b = (rw a at (writes .stored)) ∙ put-front b (w .bytes) (fit .bytes) in
-      let infos : s′ ≡ w .sites ++ drop (length (w .sites)) s = (rw a at (writes .sited)) ∙ put-front s (w .sites) (fit .sites) in
+      let marks : p′ ≡ w .places ++ drop (length (w .places)) p = (rw a at placed) ∙ put-front p (w .places) (fit .places) in
+      let rows : b′ ≡ w .bytes ++ drop (length (w .bytes)) b = (rw a at stored) ∙ put-front b (w .bytes) (fit .bytes) in
+      let infos : s′ ≡ w .sites ++ drop (length (w .sites)) s = (rw a at sited) ∙ put-front s (w .sites) (fit .sites) in
       let at : place ≡ getD (w .places) k 0 =
       e ∙ ap (λ x. getD x k 0) marks ∙ List·getD-append (w .places) (drop (length (w .places)) p) 0 k (omega (arith, many)) in
       let same : secondWord b′ k ≡ secondWord (w .bytes) k =
