@@ -1,8 +1,8 @@
 -- Lists of codes that mean the same have as many codes; readings that say the same.
 use mathlib.Core.Path.{_≡_, refl, sym, ap, _∙_}
-use mathlib.Core.Option.{Option, none, some}
-use mathlib.Core.List.{List, [], _∷_, _++_, map}
-use Prim.Native.Nat.{ℕ, suc, _+_}
+use mathlib.Core.Option.{Option, none}
+use mathlib.Core.List.{List, [], _∷_, map}
+use Prim.Native.Nat.{suc}
 use native.Mathlib.Omega.{arith}
 use lib.ListN.{length, length-append}
 use Rattle.arm64.specs.declared.Code.{Code}
@@ -13,7 +13,7 @@ use Rattle.arm64.specs.Runs.{noPair, simplify}
 use Rattle.arm64.specs.Writer.{prologueRun, epilogueRun}
 use Rattle.arm64.proofs.MeaningLaws.{simplify-means}
 use Rattle.arm64.proofs.PackingLaws.{reverse-twice}
-use Rattle.arm64_back.specs.Back.{SameEpilogue, SameEpilogues, Alike, given, writtenEpilogue, written}
+use Rattle.arm64_back.specs.Back.{SameEpilogues, Alike, given, writtenEpilogue, written}
 
 pub reverse-length : {A : Type 0} (xs : List A) → length (reverse xs) ≡ length xs
 unfolding reverse

@@ -1,31 +1,29 @@
 -- What the writer wrote of each function of its lists, read back from the function's row and its record.
 use mathlib.Core.Path.{_≡_, refl, subst, sym, ap, _∙_}
-use mathlib.Core.Bool.{Bool, true, false, not, _&&_, _||_}
-use mathlib.Core.Option.{Option, none, some}
-use mathlib.Core.List.{List, [], _∷_, _++_, map, append-assoc}
-use Prim.Native.Nat.{ℕ, zero, suc, _+_, _-_, _*_, _/_, _%_, _^_, _≤_, _<_}
+use mathlib.Core.Bool.{Bool, true, false, _&&_}
+use mathlib.Core.Option.{none, some}
+use mathlib.Core.List.{List, [], _∷_, _++_, append-assoc}
+use Prim.Native.Nat.{ℕ, zero, suc, _+_, _*_, _%_, _^_, _≤_, _<_}
 use native.Mathlib.Omega.{arith}
-use lib.Dec.{T, leb, ltb, eqb}
+use lib.Dec.{leb, eqb}
 use lib.ListN.{length, getD, getElem?, length-append}
 use borrow.Author.Tests.{le-leb}
-use Rattle.format.specs.Prelude.{pick, each, all, Result, good, bad, onward}
+use Rattle.format.specs.Prelude.{pick, each, all, good, onward}
 use Rattle.format.specs.Leb.{little}
 use Rattle.format.specs.Lists.{count, field, inside, symbolOk, allIn, sumOf, mostFunctions, mostRecords}
 use Rattle.format.specs.Writer.{Written}
-use Rattle.format.specs.Questions.{Question, ask, andThen, perFunction, Room, roomAsks, Answer, empty, accepted, unless, fitting}
+use Rattle.format.specs.Questions.{Question, perFunction, Room, roomAsks, Answer, empty, accepted, unless, fitting}
 use Rattle.format.proofs.Accepted.{both}
 use Rattle.format.proofs.LebBack.{little-length}
 use Rattle.format.proofs.ListLaws.{each-get}
 use Rattle.format.proofs.Choice.{if-eq}
-use Rattle.arm64.specs.declared.Code.{Code}
-use Rattle.arm64.specs.Lists.{Epilogue, Function, functionStride, epilogueStride, codeStride, numberedCode, numberedEpilogue, numberedFunction, functionsOf}
-use Rattle.arm64.specs.Records.{wordAt}
+use Rattle.arm64.specs.Lists.{Function, functionStride, epilogueStride, codeStride, numberedCode, numberedEpilogue, numberedFunction, functionsOf}
 use Rattle.arm64.specs.Reader.{Unwound, allCodes, fullRecord, unwoundBy, fitsIn, readArm64}
-use Rattle.arm64.specs.Writer.{codeOk, codeOkAt, codesOkIn, epilogueOkAt, functionOkAt, codesIn, listsOk, isPacked, recordBytes, functionAsks, rowBytes, infoOf, noRecord, markersFrom, rowsOf, infosOf, arm64, arm64Answer}
-use Rattle.arm64.proofs.MeaningLaws.{both-true, no-yes}
+use Rattle.arm64.specs.Writer.{codeOkAt, codesOkIn, epilogueOkAt, functionOkAt, codesIn, listsOk, isPacked, recordBytes, functionAsks, rowBytes, infoOf, markersFrom, rowsOf, infosOf, arm64, arm64Answer}
+use Rattle.arm64.proofs.MeaningLaws.{both-true}
 use Rattle.arm64_back.specs.Back.{wholeCode, wholeCodes, Alike, given, written, ReadBack, secondWord, EntryWord, SameReading, Stands}
 use Rattle.arm64_back.proofs.CodeBack.{either-way}
-use Rattle.arm64_back.proofs.RunBack.{stands-behind, stands-before, stands-first, stands-left, stands-right}
+use Rattle.arm64_back.proofs.RunBack.{stands-behind, stands-before, stands-first, stands-right}
 use Rattle.arm64_back.proofs.IndexBack.{both-yes}
 use Rattle.arm64_back.proofs.HeaderBack.{word-back}
 use Rattle.arm64_back.proofs.Alikes.{written-means, many-epilogues, many-codes}
@@ -162,12 +160,15 @@ module _ (f : Function) (a : Asked f) where
   unfolding pick
   unpacked-word t = rw t
 
-  second-word : (fs : List Function) (k : ℕ) → getElem? fs k ≡ some f → secondWord (rowsOf fs) k ≡ pick (isPacked f) (wordFor f) 0
+  word-in : (s : List ℕ) (k : ℕ) → Stands s (8 * k) (rowBytes f) → secondWord s k ≡ pick (isPacked f) (wordFor f) 0
   unfolding secondWord rowBytes
-  second-word fs k g =
+  word-in s k t =
       let w : ℕ = pick (isPacked f) (wordFor f) 0 in
       let four : 8 * k + length (little 4 0) ≡ 8 * k + 4 = ap (λ (n : ℕ). 8 * k + n) (little-length 4 0) in
-      word-back w (subst (λ (n : ℕ). Stands (rowsOf fs) n (little 4 w)) four (stands-right (little 4 0) (little 4 w) (row-stands fs k f g))) row-word
+      word-back w (subst (λ (n : ℕ). Stands s n (little 4 w)) four (stands-right (little 4 0) (little 4 w) t)) row-word
+
+  second-word : (fs : List Function) (k : ℕ) → getElem? fs k ≡ some f → secondWord (rowsOf fs) k ≡ pick (isPacked f) (wordFor f) 0
+  second-word fs k g = word-in (rowsOf fs) k (row-stands fs k f g)
 
   -- function k of a list, by a word that may stand in its row and, where it is not packed, the record at its marker
   function-back : (fs : List Function) (k : ℕ) → getElem? fs k ≡ some f → (word : ℕ) → EntryWord f (rowsOf fs) k word → (behind : List ℕ)
@@ -200,18 +201,20 @@ room-enough u v a es cs g h =
 -- ---- what the writer accepted
 
 module _ (fs es cs : List ℕ) (r : Room) (w : Written) (e : arm64Answer fs es cs r ≡ accepted w) where
-  record Wrote : Type 0 where
-    whole : listsOk fs es cs ≡ true
-    asked : perFunction functionAsks 0 (functionsOf fs es cs) ≡ none
-    is : arm64 (functionsOf fs es cs) ≡ w
+  pub record Wrote : Type 0 where
+    pub whole : listsOk fs es cs ≡ true
+    pub asked : perFunction functionAsks 0 (functionsOf fs es cs) ≡ none
+    pub room : roomAsks r w ≡ none
+    pub is : arm64 (functionsOf fs es cs) ≡ w
 
-  wrote : Wrote
+  pub wrote : Wrote
   unfolding arm64Answer fitting
   wrote =
       let a = passed _ _ _ (not-empty (eqb (count functionStride fs) 0) _ w e) in
       let b = passed _ _ _ (a .1) in
       let c = passed _ _ _ (b .1) in
-      record { whole = ask-yes (listsOk fs es cs) 13 0 (a .0); asked = b .0; is = cc }
+      let is : arm64 (functionsOf fs es cs) ≡ w = cc in
+      record { whole = ask-yes (listsOk fs es cs) 13 0 (a .0); asked = b .0; room = ap (roomAsks r) (sym is) ∙ c .0; is = is }
 
   module _ (k : ℕ) (h : k < count functionStride fs) where
     abbrev this : Function
@@ -261,6 +264,14 @@ module _ (fs es cs : List ℕ) (r : Room) (w : Written) (e : arm64Answer fs es c
         let word : secondWord (w .bytes) k ≡ pick (isPacked this) (wordFor this) 0 =
         ap (λ x. secondWord (x .bytes) k) (sym (wrote .is)) ∙ second-word this this-asked (functionsOf fs es cs) k there in
         record { packed = λ t. refl; placed = λ t. ap (λ (n : ℕ). n % 4) (word ∙ unpacked-word this this-asked t) }
+
+    -- It is the same where something stands behind the rows.
+    pub second-behind : (behind : List ℕ) → secondWord (w .bytes ++ behind) k ≡ secondWord (w .bytes) k
+    unfolding arm64
+    second-behind behind =
+        subst (λ x. secondWord (x .bytes ++ behind) k ≡ secondWord (x .bytes) k) (wrote .is)
+        (word-in this this-asked (rowsOf (functionsOf fs es cs) ++ behind) k (stands-before behind (row-stands (functionsOf fs es cs) k this there))
+        ∙ sym (second-word this this-asked (functionsOf fs es cs) k there))
 
     -- The marker of a record is whole words, so where its section starts at whole words the record's place is such a word.
     pub marker-whole : isPacked this ≡ false → getD (w .places) k 0 % 4 ≡ 0

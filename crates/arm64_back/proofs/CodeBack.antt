@@ -10,18 +10,18 @@ use lib.Dec.{T, leb, ltb, eqb}
 use lib.ListN.{length, getD, length-append}
 use lib.Ieee.Nearest.{div-mono}
 use lib.Seq.{getD-append-seam, getD-append-add}
-use mir.Facts.{leb-yes, eqb-yes, eqb-no, yes-eqb, or-yes}
+use mir.Facts.{leb-yes, eqb-yes, eqb-no, or-yes}
 use borrow.Author.Tests.{ltb-true, leb-true, eqb-true, ne-eqb, eq-eqb}
 use Rattle.format.specs.Prelude.{pick, each, all}
 use Rattle.format.specs.Lists.{allIn}
-use Rattle.format.proofs.Choice.{if-le, if-gt, if-eq, if-ne, pick-yes, pick-no, tested, either}
+use Rattle.format.proofs.Choice.{if-le, if-gt, if-eq, if-ne, tested, either}
 use Rattle.format.proofs.ListLaws.{chain, chained, in-range}
 use Rattle.arm64.specs.declared.Code.{Code}
 use Rattle.arm64.specs.declared.Form.{Form}
 use Rattle.arm64.specs.declared.CodeRead.the-variants as codeRead
-use Rattle.arm64.specs.Codes.{code, kEnd, kPacSignLr, form, formOf, shortForm, integerForm, vectorForm, otherForm, fieldAt, codeIn, codeAs, codeAt, big, registerField, offsetField, spelled, allocForm, kindForms, reserved, fAllocS, fAllocM, fAllocL, formFor, codeBytes, lastRegisters, registerFits, offsetFits, codeFits}
+use Rattle.arm64.specs.Codes.{code, form, formOf, shortForm, integerForm, vectorForm, otherForm, fieldAt, codeIn, codeAs, codeAt, big, registerField, offsetField, spelled, allocForm, kindForms, reserved, fAllocS, fAllocM, fAllocL, formFor, codeBytes, lastRegisters, registerFits, offsetFits, codeFits}
 use Rattle.arm64.specs.Writer.{hasRegister, hasOffset, codeOk}
-use Rattle.arm64.proofs.MeaningLaws.{both-true, no-yes, or-split}
+use Rattle.arm64.proofs.MeaningLaws.{both-true, no-yes}
 use Rattle.arm64_back.specs.Back.{wholeCode}
 
 -- ---- forms by a computed test
@@ -70,7 +70,6 @@ module _ (k : ℕ) (f : Form) where
     pub kind : f .kind ≡ k
     pub known : k ≤ 17
     pub parted : 1 ≤ f .unit
-    pub scaled : 1 ≤ f .scale
     pub less : T (eqb (f .more) 0 || eqb (f .more) (f .scale))
     pub stepped : hasRegister k ≡ true → 1 ≤ f .step
     pub no-step : hasRegister k ≡ false → f .step ≡ 0
@@ -89,7 +88,6 @@ module _ (k : ℕ) (f : Form) where
         kind = eqb-yes (e 1);
         known = leb-yes (e 2);
         parted = leb-yes (e 3);
-        scaled = leb-yes (e 4);
         less = e 5;
         stepped = λ t. leb-yes (if-so (hasRegister k) (leb 1 (f .step)) t (e 6));
         no-step = λ t. eqb-yes (or-else (hasRegister k) (eqb (f .step) 0) t (e 7));
@@ -117,18 +115,6 @@ unfolding allIn all each formOf shortForm integerForm vectorForm otherForm pick 
 allocTests = (tt, tt, tt)
 
 -- ---- the bytes of a number behind an opcode
-
-big-1 : (n : ℕ) → big 1 n ≡ n % 256 ∷ []
-unfolding big
-big-1 n = refl
-
-big-2 : (n : ℕ) → big 2 n ≡ n / 256 % 256 ∷ n % 256 ∷ []
-unfolding big
-big-2 n = refl
-
-big-4 : (n : ℕ) → big 4 n ≡ n / 256 / 256 / 256 % 256 ∷ n / 256 / 256 % 256 ∷ n / 256 % 256 ∷ n % 256 ∷ []
-unfolding big
-big-4 n = refl
 
 big-length : (k n : ℕ) → length (big k n) ≡ k
 unfolding big

@@ -1,33 +1,27 @@
 -- A record's header and its epilogues' words, read as they were written.
 use mathlib.Core.Path.{_≡_, refl, subst, sym, ap, _∙_}
-use mathlib.Core.Bool.{Bool, true, false, not, _&&_, _||_}
-use mathlib.Core.Logic.{_≢_}
+use mathlib.Core.Bool.{Bool, true, false, _||_}
 use mathlib.Core.List.{List, [], _∷_, _++_}
-use Prim.Native.Nat.{ℕ, zero, suc, _+_, _-_, _*_, _/_, _%_, _^_, _≤_, _<_}
+use Prim.Native.Nat.{ℕ, _+_, _*_, _/_, _%_, _^_, _≤_, _<_}
 use native.Mathlib.Omega.{arith}
-use lib.Dec.{T, leb, ltb, eqb}
+use lib.Dec.{leb, ltb}
 use lib.ListN.{length, getD, length-append}
-use lib.Seq.{getD-append-seam, getD-append-add}
-use borrow.Author.Tests.{leb-true, ltb-true, leb-false, ltb-false, eqb-true, eq-eqb, ne-eqb, le-leb}
+use lib.Seq.{getD-append-add}
+use borrow.Author.Tests.{leb-false, ltb-false, eq-eqb, ne-eqb}
 use Rattle.format.specs.Prelude.{pick}
 use Rattle.format.specs.Leb.{little}
 use Rattle.format.proofs.LebBack.{little-length}
-use Rattle.format.proofs.Choice.{if-eq, if-ne}
 use Rattle.arm64.specs.declared.Header.{Header}
-use Rattle.arm64.specs.Lists.{Epilogue, Function}
-use Rattle.arm64.specs.Records.{wordAt, versionOf, isLong, shortHeader, longHeader, headerAt, scopesIn, codesFrom, codesTo, headerFits, recordOk, scopeStart, scopeIndex, scopeAt}
+use Rattle.arm64.specs.Lists.{Function}
+use Rattle.arm64.specs.Records.{wordAt, versionOf, isLong, shortHeader, longHeader, headerAt}
 use Rattle.arm64.specs.Runs.{runBytes, runsBytes, backwards, endByte}
-use Rattle.arm64.specs.Writer.{prologueRun, ownOf, instructions, indexIn, single, countOf, wordsOf, isLongFor, headerWord, headerBytes, scopeBytes, scopesOf, codesOf}
-use Rattle.arm64.proofs.MeaningLaws.{both-true, no-yes}
+use Rattle.arm64.specs.Writer.{prologueRun, ownOf, instructions, single, countOf, wordsOf, isLongFor, headerWord, headerBytes, codesOf}
+use Rattle.arm64.proofs.MeaningLaws.{no-yes}
 use Rattle.arm64_back.specs.Back.{Stands}
 use Rattle.arm64_back.proofs.CodeBack.{either-way}
 use Rattle.arm64_back.proofs.RunBack.{stands-left, stands-right, stands-inside}
 
 -- ---- a word
-
-little-4 : (n : ℕ) → little 4 n ≡ (n % 256) ∷ (n / 256 % 256) ∷ (n / 256 / 256 % 256) ∷ (n / 256 / 256 / 256 % 256) ∷ []
-unfolding little
-little-4 n = refl
 
 module _ (n : ℕ) {s : List ℕ} {p : ℕ} (t : Stands s p (little 4 n)) where
   byte-at : (k : ℕ) → getD s (p + k) 0 ≡ getD (little 4 n ++ t .behind) k 0

@@ -1,26 +1,25 @@
 -- Where the runs of a function stand among its codes, and that each is read from its index.
 use mathlib.Core.Path.{_≡_, refl, subst, sym, ap, _∙_}
-use mathlib.Core.Bool.{Bool, true, false, not, _&&_, _||_}
-use mathlib.Core.Option.{Option, none, some}
-use mathlib.Core.List.{List, [], _∷_, _++_, map, append-assoc, append-nil}
-use Prim.Native.Nat.{ℕ, zero, suc, _+_, _-_, _≤_, _<_}
-use native.Mathlib.Omega.{arith}
-use lib.Dec.{T, leb, ltb, eqb}
-use lib.ListN.{length, length-append}
+use mathlib.Core.Bool.{Bool, true, false, _&&_, _||_}
+use mathlib.Core.Option.{some}
+use mathlib.Core.List.{List, [], _∷_, _++_}
+use Prim.Native.Nat.{ℕ, _+_}
+use lib.Dec.{leb, eqb}
+use lib.ListN.{length}
 use borrow.Author.Tests.{eq-eqb}
 use Rattle.format.specs.Prelude.{pick, all}
 use Rattle.arm64.specs.declared.Code.{Code}
 use Rattle.arm64.specs.Codes.{code, fp, kRegp, kRegpX, kAddFp, kFplr, kFplrX, kR19R20X, kSetFp, kSaveNext, formFor, registerFits, codeFits}
 use Rattle.arm64.specs.Lists.{Epilogue, Function}
 use Rattle.arm64.specs.Meaning.{reverse}
-use Rattle.arm64.specs.Runs.{sameCode, sameCodes, shorter, nextPair, nextOr, simple, pairBehind, simplify, noPair, simpleFits, runFits, runBytes, runSize, leads, isIn, ownRuns, runsBytes, placeIn, indexOf}
+use Rattle.arm64.specs.Runs.{sameCode, sameCodes, shorter, nextPair, nextOr, simple, pairBehind, simplify, simpleFits, runFits, runBytes, runSize, leads, isIn, ownRuns, runsBytes, placeIn, indexOf}
 use Rattle.arm64.specs.Reader.{runAt}
 use Rattle.arm64.specs.Writer.{hasRegister, hasOffset, codeOk, prologueRun, epilogueRun, epilogueRuns, ownOf, codesOf, indexIn}
 use Rattle.arm64.proofs.MeaningLaws.{both-true, no-yes}
 use Rattle.arm64.proofs.PackingLaws.{equal-all}
-use Rattle.arm64_back.specs.Back.{wholeCode, Stands}
+use Rattle.arm64_back.specs.Back.{AllFine, wholeCode, Stands}
 use Rattle.arm64_back.proofs.CodeBack.{either-way, or-false}
-use Rattle.arm64_back.proofs.RunBack.{stands-behind, stands-before, stands-first, Fine, AllFine, run-back, run-inside}
+use Rattle.arm64_back.proofs.RunBack.{stands-behind, stands-before, stands-first, run-back, run-inside}
 
 -- ---- what is written of a code that was asked 13 is such a code too
 

@@ -8,3 +8,5 @@ pub mod ScopeBack
 pub mod RecordBack
 pub mod PackedForm
 pub mod Arm64Back
+pub mod BuffersBack
+pub mod Examples

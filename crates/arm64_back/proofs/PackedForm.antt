@@ -1,9 +1,9 @@
 -- A packed function: what its word says, and that its full record would say the same.
-use mathlib.Core.Path.{_≡_, refl, subst, sym, ap, _∙_}
-use mathlib.Core.Bool.{Bool, true, false, not, _&&_, _||_}
-use mathlib.Core.List.{List, [], _∷_, _++_}
-use Prim.Native.Nat.{ℕ, _+_, _*_, _%_, _^_, _≤_, _<_}
-use Rattle.format.specs.Prelude.{Result, good}
+use mathlib.Core.Path.{_≡_, refl, subst, sym}
+use mathlib.Core.Bool.{true, _&&_}
+use mathlib.Core.List.{List, [], _∷_}
+use Prim.Native.Nat.{ℕ, _^_, _<_}
+use Rattle.format.specs.Prelude.{Result}
 use Rattle.arm64.specs.declared.Packed.{Packed}
 use Rattle.arm64.specs.Lists.{Epilogue, Function}
 use Rattle.arm64.specs.Runs.{leads}
@@ -12,7 +12,7 @@ use Rattle.arm64.specs.Packing.{candidate, packedWord, standsFor}
 use Rattle.arm64.specs.Writer.{instructions, prologueRun, epilogueRun, endsWith, packedFor, isPacked, recordBytes}
 use Rattle.arm64.proofs.MeaningLaws.{both-true}
 use Rattle.arm64.proofs.PackedBack.{Back, held, word-low, packed-back}
-use Rattle.arm64_back.specs.Back.{Alike, SameEpilogue, SameEpilogues, given, written, ReadBack, SameReading, Stands}
+use Rattle.arm64_back.specs.Back.{SameEpilogues, given, written, ReadBack, SameReading, Stands}
 use Rattle.arm64_back.proofs.ScopeBack.{Placed, AllPlaced}
 use Rattle.arm64_back.proofs.Alikes.{both-alike, written-means}
 use Rattle.arm64_back.proofs.RecordBack.{Asked, Only, only, record-read}

@@ -1,35 +1,34 @@
 -- A function's full record, read as it was written.
 use mathlib.Core.Path.{_≡_, refl, subst, sym, ap, _∙_}
-use mathlib.Core.Bool.{Bool, true, false, not, _&&_, _||_}
-use mathlib.Core.Option.{Option, none, some}
-use mathlib.Core.List.{List, [], _∷_, _++_, map, append-assoc}
-use Prim.Native.Nat.{ℕ, zero, suc, _+_, _-_, _*_, _/_, _%_, _^_, _≤_, _<_}
+use mathlib.Core.Bool.{Bool, true, false, _&&_}
+use mathlib.Core.Option.{none, some}
+use mathlib.Core.List.{List, [], _∷_, _++_, map}
+use Prim.Native.Nat.{ℕ, zero, suc, _+_, _-_, _*_, _/_, _%_, _^_, _≤_}
 use native.Mathlib.Omega.{arith}
 use lib.Dec.{T, leb, ltb, eqb}
 use lib.ListN.{length, getElem?, take, drop, replicate, length-append, length-replicate}
 use lib.Seq.{take-at, drop-at}
 use borrow.Author.Tests.{leb-true, ltb-true, eqb-true, le-leb, eq-eqb}
-use Rattle.format.specs.Prelude.{pick, after, all, Result, good, bad, orElse}
+use Rattle.format.specs.Prelude.{pick, after, all, good, orElse}
 use Rattle.format.specs.Leb.{little}
-use Rattle.format.specs.Questions.{Question, ask, andThen}
+use Rattle.format.specs.Questions.{ask, andThen}
 use Rattle.format.proofs.LebBack.{little-length}
 use Rattle.format.proofs.Accepted.{asked, both}
 use Rattle.arm64.specs.declared.Code.{Code}
-use Rattle.arm64.specs.declared.Header.{Header}
 use Rattle.arm64.specs.Lists.{Epilogue, Function}
 use Rattle.arm64.specs.Meaning.{reverse}
 use Rattle.arm64.specs.Records.{wordAt, versionOf, headerAt, scopesIn, codesFrom, codesTo, headerFits, recordOk, scopeAt}
 use Rattle.arm64.specs.Records as records
 use Rattle.arm64.specs.Runs.{noPair, sameCodes, runFits, isIn}
-use Rattle.arm64.specs.Reader.{Unwound, runAt, scoped, atEnd, recordEpilogues, unwound, recordUnwound, fullRecord}
+use Rattle.arm64.specs.Reader.{runAt, atEnd, recordEpilogues, unwound, recordUnwound, fullRecord}
 use Rattle.arm64.specs.Writer.{instructions, prologueRun, epilogueRun, epilogueRuns, codesOf, indexIn, endsWith, onlyOne, single, firstIndex, countOf, wordsOf, isLongFor, headerWord, headerBytes, scopeBytes, scopesOf, nopByte, recordBytes, longest, sizeOk, startOk, valuesOk, functionAsks}
 use Rattle.arm64.proofs.MeaningLaws.{both-true, no-yes}
 use Rattle.arm64.proofs.PackingLaws.{reverse-twice}
-use Rattle.arm64_back.specs.Back.{wholeCode, wholeCodes, writtenEpilogue, written, Stands}
+use Rattle.arm64_back.specs.Back.{AllFine, wholeCode, wholeCodes, writtenEpilogue, written, Stands}
 use Rattle.arm64_back.proofs.CodeBack.{either-way}
-use Rattle.arm64_back.proofs.RunBack.{stands-left, stands-right, stands-inside, AllFine}
+use Rattle.arm64_back.proofs.RunBack.{stands-left, stands-right, stands-inside}
 use Rattle.arm64_back.proofs.IndexBack.{runs-fine, all-reverse, same-codes, or-first, or-second, both-yes, index-read, prologue-back}
-use Rattle.arm64_back.proofs.HeaderBack.{Held, Headed, mark, headerFor, header-back}
+use Rattle.arm64_back.proofs.HeaderBack.{Held, Headed, headerFor, header-back}
 use Rattle.arm64_back.proofs.ScopeBack.{Placed, AllPlaced, whole-instructions, scope-length, scopes-back, end-back}
 
 -- ---- what the questions say of a function
@@ -72,7 +71,6 @@ module _ (f : Function) where
       let a = both (ask (sizeOk f) 81 0) (andThen (ask (all (startOk f) (f .epilogues)) 82 0) (ask (valuesOk f) 83 0)) e in
       let b = both (ask (all (startOk f) (f .epilogues)) 82 0) (ask (valuesOk f) 83 0) (a .1) in
       let size = both-true (eqb (f .size % 4) 0) (leb (instructions (f .size)) longest) (ask-yes (sizeOk f) 81 0 (a .0)) in
-      let fits : List Epilogue → Bool = all (λ e. runFits noPair (reverse (e .codes))) in
       let c = both-true (runFits noPair (f .prologue) && all (λ e. runFits noPair (reverse (e .codes))) (f .epilogues) && ltb (countOf f) (2 ^ 16)) (ltb (wordsOf f) (2 ^ 8)) (ask-yes (valuesOk f) 83 0 (b .1)) in
       let d = both-true (runFits noPair (f .prologue) && all (λ e. runFits noPair (reverse (e .codes))) (f .epilogues)) (ltb (countOf f) (2 ^ 16)) (c .0) in
       let g = both-true (runFits noPair (f .prologue)) (all (λ e. runFits noPair (reverse (e .codes))) (f .epilogues)) (d .0) in
@@ -149,7 +147,6 @@ module _ (f : Function) where
       unfolding recordUnwound after unwound written
       unwound-back =
           let size : 4 * instructions (f .size) ≡ f .size = whole-instructions (f .size) (a .held .whole) in
-          let u : Unwound = record { size = 4 * instructions (f .size); prologue = reverse (reverse (prologueRun f)); epilogues = map writtenEpilogue (f .epilogues) } in
           rw (c, prologue-back f padding (a .prologue), epilogues-back)
           (λ i. some (record { size = size i; prologue = reverse-twice (prologueRun f) i; epilogues = map writtenEpilogue (f .epilogues) }))
 
@@ -204,8 +201,6 @@ module _ (f : Function) (a : Asked f) (s : List ℕ) (p : ℕ) (t : Stands s p (
 header-whole : (f : Function) → length (headerBytes f) % 4 ≡ 0
 unfolding headerBytes pick
 header-whole f =
-    let w : ℕ = headerWord f in
-    let v : ℕ = countOf f + 2 ^ 16 * wordsOf f in
     either-way (isLongFor f)
     (λ t.
     rw t

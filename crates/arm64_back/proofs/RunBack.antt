@@ -1,25 +1,23 @@
 -- A run of codes read from its bytes, also from inside of a longer run.
 use mathlib.Core.Path.{_≡_, refl, subst, sym, ap, _∙_}
-use mathlib.Core.Bool.{Bool, true, false, not, _&&_, _||_}
+use mathlib.Core.Bool.{true}
 use mathlib.Core.Logic.{_≢_}
-use mathlib.Core.Option.{Option, none, some}
+use mathlib.Core.Option.{some}
 use mathlib.Core.List.{List, [], _∷_, _++_, append-assoc, append-nil}
 use Prim.Native.Nat.{ℕ, zero, suc, _+_, _-_, _≤_, _<_}
 use native.Mathlib.Omega.{arith}
-use lib.Dec.{T, leb, ltb, eqb}
-use lib.ListN.{length, getD, length-append}
+use lib.ListN.{length, length-append}
 use lib.Seq.{getD-append-seam}
 use Rattle.format.specs.Prelude.{pick}
 use Rattle.format.proofs.Choice.{if-le, if-eq, if-ne}
 use Rattle.arm64.specs.declared.Code.{Code}
-use Rattle.arm64.specs.declared.CodeRead.{CodeRead}
 use Rattle.arm64.specs.declared.CodeRead.the-variants as codeRead
-use Rattle.arm64.specs.Codes.{code, kEnd, formOf, otherForm, fieldAt, codeIn, codeAs, codeAt, codeFits, codeBytes}
+use Rattle.arm64.specs.Codes.{code, kEnd, formOf, otherForm, fieldAt, codeIn, codeAs, codeAt, codeBytes}
 use Rattle.arm64.specs.Meaning.{reverse}
 use Rattle.arm64.specs.Runs.{sameCode, backwards, endByte, runBytes, runSize, leads}
 use Rattle.arm64.specs.Reader.{onCode, inFront, runF, runAt}
 use Rattle.arm64.proofs.MeaningLaws.{both-true, no-yes, equal}
-use Rattle.arm64_back.specs.Back.{wholeCode, Stands}
+use Rattle.arm64_back.specs.Back.{Fine, AllFine, Stands}
 use Rattle.arm64_back.proofs.CodeBack.{known-kind, code-some, code-back}
 
 -- ---- bytes that stand at a place of others
@@ -82,14 +80,6 @@ module _ (s : List ℕ) (p : ℕ) {c : Code} {q : ℕ} (e : codeAt s p ≡ codeR
   unfolding runF onCode inFront
   one-given k next zero g = absurd (omega arith)
   one-given k next (suc f) g = rw e (if-ne (c .kind) kEnd _ _ k ∙ rw (next f (omega arith)))
-
--- a code that was asked 13 and 83
-abbrev pub Fine : Code → Type 0
-Fine c = (wholeCode c ≡ true) × (codeFits c ≡ true)
-
-abbrev pub AllFine : List Code → Type 0
-AllFine [] = Unit {0}
-AllFine (c ∷ cs) = Fine c × AllFine cs
 
 module _ (s : List ℕ) where
   code-given : (p : ℕ) (c : Code) → Fine c → Stands s p (codeBytes c) → {ds : List Code} → Gives s (p + length (codeBytes c)) ds → Gives s p (c ∷ ds)

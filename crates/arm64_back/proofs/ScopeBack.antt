@@ -1,27 +1,26 @@
 -- The epilogues of a full record, read by their words or, where E is set, at the function's end.
-use mathlib.Core.Path.{_≡_, refl, subst, sym, ap, _∙_}
-use mathlib.Core.Bool.{Bool, true, false, not, _&&_, _||_}
-use mathlib.Core.Option.{Option, none, some}
+use mathlib.Core.Path.{_≡_, refl, subst, ap, _∙_}
+use mathlib.Core.Bool.{true, _&&_}
+use mathlib.Core.Option.{some}
 use mathlib.Core.List.{List, [], _∷_, _++_, map}
-use Prim.Native.Nat.{ℕ, zero, suc, _+_, _-_, _*_, _/_, _%_, _^_, _≤_, _<_}
+use Prim.Native.Nat.{ℕ, suc, _+_, _-_, _*_, _/_, _%_, _^_, _≤_, _<_}
 use native.Mathlib.Omega.{arith}
-use lib.Dec.{T, leb, ltb, eqb}
+use lib.Dec.{leb, eqb}
 use lib.ListN.{length, length-append}
-use borrow.Author.Tests.{leb-true, ltb-true, eqb-true}
-use Rattle.format.specs.Prelude.{pick, after}
+use borrow.Author.Tests.{eqb-true}
+use Rattle.format.specs.Prelude.{after}
 use Rattle.format.specs.Leb.{little}
 use Rattle.format.proofs.LebBack.{little-length}
 use Rattle.format.proofs.Choice.{if-le}
-use Rattle.arm64.specs.declared.Code.{Code}
 use Rattle.arm64.specs.Lists.{Epilogue, Function}
 use Rattle.arm64.specs.Meaning.{reverse}
 use Rattle.arm64.specs.Records.{wordAt, scopeStart, scopeIndex}
-use Rattle.arm64.specs.Runs.{noPair, simplify, runBytes, isIn}
-use Rattle.arm64.specs.Reader.{epilogue, inFront, runAt, atEnd, scoped}
+use Rattle.arm64.specs.Runs.{isIn}
+use Rattle.arm64.specs.Reader.{inFront, atEnd, scoped}
 use Rattle.arm64.specs.Writer.{instructions, epilogueRun, epilogueRuns, codesOf, indexIn, endsWith, wordsOf, scopeBytes}
-use Rattle.arm64.proofs.MeaningLaws.{both-true, no-yes}
-use Rattle.arm64_back.specs.Back.{writtenEpilogue, Stands}
-use Rattle.arm64_back.proofs.RunBack.{stands-left, stands-right, stands-inside, AllFine}
+use Rattle.arm64.proofs.MeaningLaws.{both-true}
+use Rattle.arm64_back.specs.Back.{AllFine, writtenEpilogue, Stands}
+use Rattle.arm64_back.proofs.RunBack.{stands-left, stands-right, stands-inside}
 use Rattle.arm64_back.proofs.IndexBack.{index-stands, index-read}
 use Rattle.arm64_back.proofs.Alikes.{epilogue-length, epilogue-means}
 use Rattle.arm64_back.proofs.HeaderBack.{Held, word-back}

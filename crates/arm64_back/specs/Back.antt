@@ -4,13 +4,17 @@ use mathlib.Core.Path.{_≡_}
 use mathlib.Core.Bool.{Bool, true, false, _&&_}
 use mathlib.Core.List.{List, [], _∷_, _++_, map}
 use lib.ListN.{length}
-use Prim.Native.Nat.{ℕ, _+_, _*_, _%_}
+use Prim.Native.Nat.{ℕ, _+_, _*_, _%_, _≤_, _<_}
 use Rattle.format.specs.Prelude.{Result, good, all}
+use Rattle.format.specs.Lists.{count}
+use Rattle.format.specs.Writer.{Written}
+use Rattle.format.specs.Questions.{Answer, accepted}
 use Rattle.arm64.specs.declared.Code.{Code}
-use Rattle.arm64.specs.Lists.{Epilogue, Function}
+use Rattle.arm64.specs.Codes.{codeFits}
+use Rattle.arm64.specs.Lists.{Epilogue, Function, functionStride, epilogueStride, codeStride, numberedFunction}
 use Rattle.arm64.specs.Meaning.{reverse, prologueMeans, epilogueMeans}
 use Rattle.arm64.specs.Records.{wordAt}
-use Rattle.arm64.specs.Reader.{Unwound, epilogue}
+use Rattle.arm64.specs.Reader.{Unwound, epilogue, allCodes}
 use Rattle.arm64.specs.Writer.{codeOk, prologueRun, epilogueRun, isPacked}
 
 -- ---- question 13 of a function's codes
@@ -21,6 +25,14 @@ wholeCode c = codeOk (c .kind) (c .register) (c .offset)
 
 unfoldable pub wholeCodes : Function → Bool
 wholeCodes f = all wholeCode (f .prologue) && all (λ e. all wholeCode (e .codes)) (f .epilogues)
+
+-- a code that passes 13 and 83: it is one, and its fields hold its values
+abbrev pub Fine : Code → Type 0
+Fine c = (wholeCode c ≡ true) × (codeFits c ≡ true)
+
+abbrev pub AllFine : List Code → Type 0
+AllFine [] = Unit {0}
+AllFine (c ∷ cs) = Fine c × AllFine cs
 
 -- ---- bytes that stand at a place of others, with anything in front and behind
 
@@ -85,3 +97,11 @@ pub record SameReading (q r : Result Unwound) : Type 0 where
   pub one : q ≡ good first
   pub other : r ≡ good second
   pub alike : Alike first second
+
+-- What a reader answers of the buffers that were lent to the writer, by function k's row in `bytes` as it may stand in the finished file: where the
+-- list was accepted, and the reader's lists have room for as many epilogues and codes as were given, the function as it was given.
+abbrev pub BuffersBack : (fs es cs : List ℕ) → Answer → (k : ℕ) → (bytes : List ℕ) → (word : ℕ) → (es′ cs′ : List ℕ) → Result Unwound → Type 0
+BuffersBack fs es cs a k bytes word es′ cs′ r =
+    (w : Written) → a ≡ accepted w → k < count functionStride fs → EntryWord (numberedFunction fs es cs k) bytes k word
+    → length (numberedFunction fs es cs k .epilogues) ≤ count epilogueStride es′
+    → length (allCodes (given (numberedFunction fs es cs k))) ≤ count codeStride cs′ → ReadBack (given (numberedFunction fs es cs k)) r
