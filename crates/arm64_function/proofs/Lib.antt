@@ -1,0 +1,1 @@
+-- Laws of a function's runs and its record.

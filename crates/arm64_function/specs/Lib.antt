@@ -1,0 +1,2 @@
+-- A function of the lists, and how its runs and its record are made.
+pub mod Listed
