@@ -1,1 +1,3 @@
 -- Laws of a function's runs and its record.
+pub mod Given
+pub mod Own

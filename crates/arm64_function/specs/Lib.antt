@@ -1,2 +1,3 @@
 -- A function of the lists, and how its runs and its record are made.
 pub mod Listed
+pub mod Own

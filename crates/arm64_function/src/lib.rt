@@ -1,43 +1,159 @@
 // One function of the lists that the writer of Windows' unwind data on ARM64 takes: questions 81 to 83, the packed word, and the record. Ported from
 // rucc-asm/src/xdata.rs (describe) of tamnd/rucc, changed: see NOTICE.
 ghost use mathlib.Core.Path.{_≡_};
-ghost use Prim.Native.Nat.{_+_, _*_, _≤_, _<_};
+ghost use mathlib.Core.Bool.{true, _&&_, _||_};
+ghost use Prim.Native.Nat.{_+_, _-_, _*_, _^_, _≤_, _<_};
+ghost use lib.Dec.{leb, ltb, eqb};
 ghost use lib.ListN.{length};
 ghost use Rattle.format.specs.Prelude.{pick};
+ghost use Rattle.format.specs.Lists.{field, allIn};
 ghost use Rattle.format.proofs.Wrote.{Wrote};
-ghost use Rattle.arm64.specs.Lists.{numberedFunction};
+ghost use Rattle.arm64.specs.Lists.{functionStride, epilogueStride, numberedFunction};
 ghost use Rattle.arm64.specs.Packing.{candidate, packedWord};
+ghost use Rattle.arm64.specs.Runs.{noPair, runFits, runsBytes};
 ghost use Rattle.arm64.specs.Writer.{prologueRun, instructions, isPacked, infoOf, functionAsks};
+ghost use Rattle.arm64_simple.specs.Saves.{saves};
 ghost use Rattle.arm64_function.specs.Listed.{Listed, Fine, asks};
+ghost use Rattle.arm64_function.specs.Own.{prologueAt, epilogueAt, partsAt, Ready, ownAt, codesIn, Nearest, heldTo, startOkAt, fitsAt};
+use arm64_simple::Run;
 
-// The number of the first question that is answered by no, 81 to 83, or 0.
-pub fn function_no(fs: &[u64], es: &[u64], cs: &[u64], k: usize) -> u64
-    requires { ⌜ Listed (now fs) (now es) (now cs) k ⌝ }
-    ensures { λ r. ⌜ functionAsks k (numberedFunction (now (fs .entry)) (now (es .entry)) (now (cs .entry)) k) ≡ asks r ⌝ }
-{
-    0
+// A function's codes: its prologue's, and its epilogues from `first` to `end`.
+pub struct Parts {
+    pub prologue: Run,
+    pub first: usize,
+    pub end: usize,
 }
 
-// The packed word of a function, or 0 where it is not packed.
-pub fn packed_word(fs: &[u64], es: &[u64], cs: &[u64], k: usize) -> u64
-    requires { ⌜ Fine (now fs) (now es) (now cs) k ⌝ }
-    ensures { λ r. ⌜ r ≡ pick (isPacked (numberedFunction (now (fs .entry)) (now (es .entry)) (now (cs .entry)) k)) (packedWord (candidate (instructions (numberedFunction (now (fs .entry)) (now (es .entry)) (now (cs .entry)) k .size)) (prologueRun (numberedFunction (now (fs .entry)) (now (es .entry)) (now (cs .entry)) k)))) 0 ⌝ }
+fn prologue_at(fs: &[u64], k: usize) -> Run
+    requires { ⌜ 6 * k + 6 ≤ length (now fs) ⌝ }
+    ensures { λ r. ⌜ r ≡ prologueAt (now (fs .entry)) k ⌝ }
 {
-    0
+    Run {
+        at: fs[6 * k + 2] as usize,
+        count: fs[6 * k + 3] as usize,
+        back: false,
+    }
 }
 
-// How many bytes a function's record has.
-pub fn info_size(fs: &[u64], es: &[u64], cs: &[u64], k: usize) -> usize
-    requires { ⌜ Fine (now fs) (now es) (now cs) k ⌝ }
-    ensures { λ r. ⌜ (r ≡ length (infoOf (numberedFunction (now (fs .entry)) (now (es .entry)) (now (cs .entry)) k))) × (r ≤ 300000) ⌝ }
+fn epilogue_at(es: &[u64], i: usize) -> Run
+    requires { ⌜ 3 * i + 3 ≤ length (now es) ⌝ }
+    ensures { λ r. ⌜ r ≡ epilogueAt (now (es .entry)) i ⌝ }
 {
-    0
+    Run {
+        at: es[3 * i + 1] as usize,
+        count: es[3 * i + 2] as usize,
+        back: true,
+    }
 }
 
-// A function's record.
-pub fn put_info(out: &mut [u8], at: usize, fs: &[u64], es: &[u64], cs: &[u64], k: usize) -> usize
-    requires { ⌜ Fine (now fs) (now es) (now cs) k × (at + length (infoOf (numberedFunction (now fs) (now es) (now cs) k)) ≤ length (now out)) ⌝ }
-    ensures { λ r. ⌜ Wrote (now (out .entry)) (now (out .exit)) at r (infoOf (numberedFunction (now (fs .entry)) (now (es .entry)) (now (cs .entry)) k)) ⌝ }
+fn parts_at(fs: &[u64], k: usize) -> Parts
+    requires { ⌜ (6 * k + 6 ≤ length (now fs)) × (field functionStride (now fs) k 4 + field functionStride (now fs) k 5 < 2 ^ 64) ⌝ }
+    ensures { λ r. ⌜ r ≡ partsAt (now (fs .entry)) k ⌝ }
 {
-    at
+    let prologue = prologue_at(fs, k);
+    let first = fs[6 * k + 4] as usize;
+    let end = first + fs[6 * k + 5] as usize;
+    Parts {
+        prologue,
+        first,
+        end,
+    }
+}
+
+// ---- questions 81 to 83
+
+// The start of epilogue i in a function of `size` bytes.
+fn start_ok(es: &[u64], size: u64, i: usize) -> bool
+    requires { ⌜ 3 * i + 3 ≤ length (now es) ⌝ }
+    ensures { λ r. ⌜ r ≡ startOkAt (now (es .entry)) size i ⌝ }
+{
+    let start = es[3 * i];
+    if start % 4 != 0 {
+        return false;
+    }
+    start < size
+}
+
+fn starts_ok(es: &[u64], size: u64, first: usize, end: usize) -> bool
+    requires { ⌜ (first ≤ end) × (3 * end ≤ length (now es)) ⌝ }
+    ensures { λ r. ⌜ r ≡ allIn (startOkAt (now (es .entry)) size) first (end - first) ⌝ }
+{
+    let mut i = first;
+    while i < end {
+        if !start_ok(es, size, i) {
+            return false;
+        }
+        i += 1;
+    }
+    true
+}
+
+// The values of the epilogues' codes.
+fn runs_fit(es: &[u64], cs: &[u64], p: Parts) -> bool
+    requires { ⌜ Ready (now es) (now cs) p ⌝ }
+    ensures { λ r. ⌜ r ≡ allIn (fitsAt (now (es .entry)) (now (cs .entry))) (p .first) (p .end - p .first) ⌝ }
+{
+    let mut i = p.first;
+    while i < p.end {
+        if !arm64_simple::run_fits(cs, epilogue_at(es, i)) {
+            return false;
+        }
+        i += 1;
+    }
+    true
+}
+
+// ---- runs of their own
+
+// The nearest epilogue in front of i with the same run, or i. The search goes backwards: epilogues with few runs among them find theirs soon.
+fn nearest(es: &[u64], cs: &[u64], p: Parts, i: usize) -> usize
+    requires { ⌜ Ready (now es) (now cs) p × (p .first ≤ i) × (i < p .end) ⌝ }
+    ensures { λ r. ⌜ Nearest (now (es .entry)) (now (cs .entry)) p i r ⌝ }
+{
+    let run = epilogue_at(es, i);
+    let mut j = i;
+    while p.first < j {
+        if arm64_sharing::same_run(cs, run, epilogue_at(es, j - 1)) {
+            return j - 1;
+        }
+        j -= 1;
+    }
+    i
+}
+
+// How many bytes the run of epilogue i adds to the codes: none where it is not its own.
+fn own_size(es: &[u64], cs: &[u64], p: Parts, i: usize) -> usize
+    requires { ⌜ Ready (now es) (now cs) p × (p .first ≤ i) × (i < p .end) ⌝ }
+    ensures { λ r. ⌜ (r ≡ length (runsBytes (ownAt (now (es .entry)) (now (cs .entry)) p i))) × (r < 2 ^ 63) ⌝ }
+{
+    let run = epilogue_at(es, i);
+    let prologue = p.prologue;
+    if arm64_sharing::leads(cs, run, prologue) {
+        return 0;
+    }
+    if nearest(es, cs, p, i) < i {
+        return 0;
+    }
+    arm64_simple::run_size(cs, run) + 1
+}
+
+// How many bytes of codes there are, held to one more than a record has.
+fn codes_size(es: &[u64], cs: &[u64], p: Parts) -> usize
+    requires { ⌜ Ready (now es) (now cs) p ⌝ }
+    ensures { λ r. ⌜ r ≡ heldTo (length (codesIn (now (es .entry)) (now (cs .entry)) p)) ⌝ }
+{
+    let prologue = p.prologue;
+    let mut size = arm64_simple::run_size(cs, prologue) + 1;
+    let mut i = p.first;
+    while i < p.end {
+        if 1020 < size {
+            return 1021;
+        }
+        size += own_size(es, cs, p, i);
+        i += 1;
+    }
+    if 1020 < size {
+        return 1021;
+    }
+    size
 }
