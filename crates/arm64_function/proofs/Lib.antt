@@ -1,3 +1,4 @@
 -- Laws of a function's runs and its record.
 pub mod Given
 pub mod Own
+pub mod Asked

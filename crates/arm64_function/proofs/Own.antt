@@ -2,12 +2,13 @@
 use mathlib.Core.Path.{_≡_, refl, subst, sym, ap, _∙_}
 use mathlib.Core.Bool.{Bool, true, false, not, _&&_, _||_}
 use mathlib.Core.List.{List, [], _∷_, _++_, append-nil, append-assoc}
-use Prim.Native.Nat.{ℕ, zero, suc, _+_, _-_, _*_, _≤_, _<_}
+use Prim.Native.Nat.{ℕ, zero, suc, _+_, _-_, _*_, _^_, _≤_, _<_}
 use native.Mathlib.Omega.{arith}
 use lib.Dec.{T, leb, ltb, eqb}
 use lib.ListN.{length, length-append}
 use borrow.Author.Tests.{le-leb, lt-leb, lt-ltb, le-ltb, ltb-true, ltb-false, eq-eqb}
 use Rattle.format.specs.Prelude.{pick, each}
+use Rattle.format.proofs.Choice.{if-le, if-gt}
 use Rattle.arm64.specs.declared.Code.{Code}
 use Rattle.arm64.specs.Codes.{codeBytes}
 use Rattle.arm64.specs.Runs.{noPair, sameCode, sameCodes, simplify, runFits, backwards, runBytes, runSize, leads, isIn, ownRuns, runsBytes, placeIn, indexOf}
@@ -211,3 +212,88 @@ one-size {q} {r} e = sym (ap (λ x. length (runsBytes x)) e ∙ ap length (one-b
 pub fits-is : (es cs : List ℕ) (i : ℕ) {r : Run} → r ≡ epilogueAt es i → runFits noPair (saves cs r) ≡ fitsAt es cs i
 unfolding fitsAt
 fits-is es cs i e = ap (λ x. runFits noPair (saves cs x)) e
+
+-- ---- the sum of the runs
+
+abbrev pub laterAt : (es cs : List ℕ) → Parts → ℕ → List (List Code)
+laterAt es cs p i = laterIn (prologueIn cs p) (runAt es cs) (p .first) (p .end) i
+
+pub later-own : (es cs : List ℕ) (p : Parts) (i : ℕ) → p .first ≤ i → i < p .end → laterAt es cs p i ≡ ownAt es cs p i ++ laterAt es cs p (i + 1)
+unfolding ownAt
+later-own es cs p i h l = later-first (prologueIn cs p) (runAt es cs) (p .first) (p .end) i h l
+
+pub later-all : (es cs : List ℕ) (p : Parts) → ownIn es cs p ≡ laterAt es cs p (p .first)
+unfolding ownIn
+later-all es cs p = later-start (prologueIn cs p) (runAt es cs) (p .first) (p .end)
+
+pub later-end : (es cs : List ℕ) (p : Parts) (i : ℕ) → p .end ≤ i → laterAt es cs p i ≡ []
+later-end es cs p i h = later-none (prologueIn cs p) (runAt es cs) (p .first) (p .end) i h
+
+no-bytes : runsBytes [] ≡ []
+unfolding runsBytes
+no-bytes = refl
+
+pub bytes-own : (es cs : List ℕ) (p : Parts) (i : ℕ) → p .first ≤ i → i < p .end
+    → runsBytes (laterAt es cs p i) ≡ runsBytes (ownAt es cs p i) ++ runsBytes (laterAt es cs p (i + 1))
+bytes-own es cs p i h l = ap runsBytes (later-own es cs p i h l) ∙ runs-bytes-append (ownAt es cs p i) (laterAt es cs p (i + 1))
+
+pub bytes-end : (es cs : List ℕ) (p : Parts) (i : ℕ) → p .end ≤ i → runsBytes (laterAt es cs p i) ≡ []
+bytes-end es cs p i h = ap runsBytes (later-end es cs p i h) ∙ no-bytes
+
+-- the codes are the prologue's and those of the runs from the first on
+pub codes-all : (es cs : List ℕ) (p : Parts) → codesIn es cs p ≡ runBytes (prologueIn cs p) ++ runsBytes (laterAt es cs p (p .first))
+unfolding codesIn
+codes-all es cs p = ap (λ o. runBytes (prologueIn cs p) ++ runsBytes o) (later-all es cs p)
+
+pub record Summing (es cs : List ℕ) (p : Parts) (size i : ℕ) : Type 0 where
+  pub low : p .first ≤ i
+  pub rest : length (codesIn es cs p) ≡ size + length (runsBytes (laterAt es cs p i))
+
+pub prologue-size : (cs : List ℕ) (p : Parts) {n : ℕ} → n ≡ length (backwards (simplify noPair (saves cs (p .prologue)))) → n + 1 ≡ runSize (prologueIn cs p)
+unfolding prologueIn
+prologue-size cs p {n} e = ap (λ (k : ℕ). k + 1) e ∙ sym (run-size (simplify noPair (saves cs (p .prologue))))
+
+size-is : (r : List Code) → length (runBytes r) ≡ runSize r
+unfolding runSize
+size-is r = refl
+
+pub summing-start : {es cs : List ℕ} {p : Parts} {n : ℕ} → n ≡ length (backwards (simplify noPair (saves cs (p .prologue)))) → Summing es cs p (n + 1) (p .first)
+summing-start {es} {cs} {p} {n} e =
+    let g = ap length (codes-all es cs p) ∙ length-append (runBytes (prologueIn cs p)) (runsBytes (laterAt es cs p (p .first))) in
+    record { low = omega arith; rest = omega (arith, g, prologue-size cs p e, size-is (prologueIn cs p)) }
+
+pub summing-turn : {es cs : List ℕ} {p : Parts} {size i x : ℕ} → Summing es cs p size i → i < p .end → x ≡ length (runsBytes (ownAt es cs p i))
+    → Summing es cs p (size + x) (i + 1)
+summing-turn {es} {cs} {p} {size} {i} {x} s h e =
+    let g = ap length (bytes-own es cs p i (s .low) h) ∙ length-append (runsBytes (ownAt es cs p i)) (runsBytes (laterAt es cs p (i + 1))) in
+    record { low = omega (arith, s .low); rest = omega (arith, s .rest, g, e) }
+
+held-low : (n : ℕ) → n ≤ 1020 → n ≡ heldTo n
+unfolding heldTo
+held-low n h = rw (if-le n 1020)
+
+held-high : (n : ℕ) → 1020 < n → 1021 ≡ heldTo n
+unfolding heldTo
+held-high n h = rw (if-gt n 1020)
+
+pub summing-high : {es cs : List ℕ} {p : Parts} {size i : ℕ} → Summing es cs p size i → 1020 < size → 1021 ≡ heldTo (length (codesIn es cs p))
+summing-high {es} {cs} {p} s h = held-high (length (codesIn es cs p)) (omega (arith, s .rest, h))
+
+pub summing-all : {es cs : List ℕ} {p : Parts} {size i : ℕ} → Summing es cs p size i → p .end ≤ i → size ≡ length (codesIn es cs p)
+summing-all {es} {cs} {p} {size} {i} s h = omega (arith, s .rest, ap length (bytes-end es cs p i h))
+
+pub summing-ended : {es cs : List ℕ} {p : Parts} {size i : ℕ} → Summing es cs p size i → p .end ≤ i → size ≤ 1020
+    → size ≡ heldTo (length (codesIn es cs p))
+summing-ended {es} {cs} {p} {size} {i} s h l = held-low size l ∙ ap heldTo (summing-all s h)
+
+pub leads-is : (es cs : List ℕ) (p : Parts) (i : ℕ) {r : Run} {b : Bool} → r ≡ epilogueAt es i
+    → b ≡ leads (simplify noPair (saves cs r)) (simplify noPair (saves cs (p .prologue))) → b ≡ leads (runAt es cs i) (prologueIn cs p)
+unfolding prologueIn
+leads-is es cs p i e k = k ∙ ap (λ x. leads x (simplify noPair (saves cs (p .prologue)))) (run-is es cs i e)
+
+pub size-of : (es cs : List ℕ) (i : ℕ) {r : Run} {n : ℕ} → r ≡ epilogueAt es i → n ≡ length (backwards (simplify noPair (saves cs r)))
+    → n ≡ length (backwards (runAt es cs i))
+size-of es cs i e k = k ∙ ap (λ x. length (backwards x)) (run-is es cs i e)
+
+pub own-count : (es : List ℕ) {cs : List ℕ} (i : ℕ) {r : Run} → Inside cs (epilogueAt es i) → r ≡ epilogueAt es i → r .count < 2 ^ 60
+own-count es {cs} i {r} h e = let g : Inside cs r = subst (Inside cs) (sym e) h in omega (arith, g .low)

@@ -6,10 +6,11 @@ use Prim.Native.Nat.{ℕ, zero, suc, _+_, _-_, _*_, _%_, _≤_, _<_}
 use lib.Dec.{leb, ltb, eqb}
 use lib.ListN.{length}
 use Rattle.format.specs.Prelude.{pick, each}
-use Rattle.format.specs.Lists.{field}
+use Rattle.format.specs.Lists.{field, allIn}
 use Rattle.arm64.specs.declared.Code.{Code}
 use Rattle.arm64.specs.Lists.{functionStride, epilogueStride}
 use Rattle.arm64.specs.Runs.{noPair, simplify, runFits, leads, isIn, ownRuns, runBytes, runsBytes, indexOf}
+use Rattle.arm64.specs.Writer.{instructions, longest}
 use Rattle.arm64_simple.specs.declared.Run.{Run}
 use Rattle.arm64_simple.specs.Saves.{saves, Inside}
 use Rattle.arm64_function.specs.declared.Parts.{Parts}
@@ -93,3 +94,13 @@ startOkAt es size i = eqb (field epilogueStride es i 0 % 4) 0 && ltb (field epil
 
 unfoldable pub fitsAt : (es cs : List ℕ) → ℕ → Bool
 fitsAt es cs i = runFits noPair (saves cs (epilogueAt es i))
+
+-- question 83 of the parts
+unfoldable pub partsOk : (es cs : List ℕ) → Parts → Bool
+partsOk es cs p =
+    runFits noPair (saves cs (p .prologue)) && allIn (fitsAt es cs) (p .first) (p .end - p .first) && ltb (p .end - p .first) 65536
+    && leb (length (codesIn es cs p)) mostCodes
+
+-- question 81 of a length
+unfoldable pub lengthOk : ℕ → Bool
+lengthOk size = eqb (size % 4) 0 && leb (instructions size) longest

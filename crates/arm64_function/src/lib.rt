@@ -14,7 +14,7 @@ ghost use Rattle.arm64.specs.Runs.{noPair, runFits, runsBytes};
 ghost use Rattle.arm64.specs.Writer.{prologueRun, instructions, isPacked, infoOf, functionAsks};
 ghost use Rattle.arm64_simple.specs.Saves.{saves};
 ghost use Rattle.arm64_function.specs.Listed.{Listed, Fine, asks};
-ghost use Rattle.arm64_function.specs.Own.{prologueAt, epilogueAt, partsAt, Ready, ownAt, codesIn, Nearest, heldTo, startOkAt, fitsAt};
+ghost use Rattle.arm64_function.specs.Own.{prologueAt, epilogueAt, partsAt, Ready, ownAt, codesIn, Nearest, heldTo, startOkAt, fitsAt, partsOk, lengthOk};
 use arm64_simple::Run;
 
 // A function's codes: its prologue's, and its epilogues from `first` to `end`.
@@ -156,4 +156,51 @@ fn codes_size(es: &[u64], cs: &[u64], p: Parts) -> usize
         return 1021;
     }
     size
+}
+
+// Question 83: values that no field holds. More epilogues than a header counts are answered before their runs are compared.
+fn values_ok(es: &[u64], cs: &[u64], p: Parts) -> bool
+    requires { ⌜ Ready (now es) (now cs) p ⌝ }
+    ensures { λ r. ⌜ r ≡ partsOk (now (es .entry)) (now (cs .entry)) p ⌝ }
+{
+    let prologue = p.prologue;
+    if !arm64_simple::run_fits(cs, prologue) {
+        return false;
+    }
+    if !runs_fit(es, cs, p) {
+        return false;
+    }
+    if 65535 < p.end - p.first {
+        return false;
+    }
+    codes_size(es, cs, p) <= 1020
+}
+
+// Question 81.
+fn length_ok(size: u64) -> bool
+    ensures { λ r. ⌜ r ≡ lengthOk size ⌝ }
+{
+    if size % 4 != 0 {
+        return false;
+    }
+    size / 4 <= 262143
+}
+
+// The number of the first question that is answered by no, 81 to 83, or 0.
+pub fn function_no(fs: &[u64], es: &[u64], cs: &[u64], k: usize) -> u64
+    requires { ⌜ Listed (now fs) (now es) (now cs) k ⌝ }
+    ensures { λ r. ⌜ functionAsks k (numberedFunction (now (fs .entry)) (now (es .entry)) (now (cs .entry)) k) ≡ asks r ⌝ }
+{
+    let size = fs[6 * k + 1];
+    if !length_ok(size) {
+        return 81;
+    }
+    let p = parts_at(fs, k);
+    if !starts_ok(es, size, p.first, p.end) {
+        return 82;
+    }
+    if !values_ok(es, cs, p) {
+        return 83;
+    }
+    0
 }

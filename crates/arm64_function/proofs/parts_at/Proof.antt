@@ -1,3 +1,6 @@
+use lib.ListN.{getD}
+use Prim.Native.Nat.{ℕ, _+_, _-_, _*_, _^_, _≤_, _<_}
+use mathlib.Core.Path.{_≡_, refl, subst, sym, ap, _∙_}
 use native.Mathlib.Omega.{arith}
 use mathlib.Core.Path.{refl}
 use Rattle.arm64_function.specs.Own.{partsAt}
@@ -51,7 +54,7 @@ add-end-2 c = search needs
 -- src/lib.rt:49:1
 returns : tie.Need-returns
 unfolding partsAt
-returns c = ?
+returns c = ap (λ q. record { prologue = q; first = getD (c .before .before .before .before .args .fs .now) (6 * c .before .before .before .before .args .k + 4) 0; end = getD (c .before .before .before .before .args .fs .now) (6 * c .before .before .before .before .args .k + 4) 0 + getD (c .before .before .before .before .args .fs .now) (6 * c .before .before .before .before .args .k + 5) 0 }) (c .before .before .prologue-at .ensures)
 
 pub parts-at-spec : {M : Type 1} → statement M
 parts-at-spec =
