@@ -113,7 +113,25 @@ module _ (fs es cs : List ℕ) (k : ℕ) where
   unfolding sizeOk lengthOk numberedFunction
   length-same = refl
 
+  module _ {q : Parts} (e : q ≡ p) where
+    pub starts-are : {b : Bool} → b ≡ allIn (startOkAt es (field functionStride fs k 1)) (q .first) (q .end - q .first) → b ≡ all (startOk f) (f .epilogues)
+    unfolding numberedFunction
+    starts-are g =
+        g ∙ ap (λ (z : Parts). allIn (startOkAt es (field functionStride fs k 1)) (z .first) (z .end - z .first)) e ∙ sym (starts-same fs es cs k)
+
+    pub values-are : {b : Bool} → b ≡ partsOk es cs q → b ≡ valuesOk f
+    values-are g = g ∙ ap (partsOk es cs) e ∙ sym values-same
+
 -- ---- the parts by their answers
+
+pub held-leb : (d : ℕ) → leb (heldTo d) 1020 ≡ leb d 1020
+unfolding heldTo
+held-leb d = either d 1020 low high
+  where
+    low : d ≤ 1020 → leb (pick (leb d 1020) d 1021) 1020 ≡ leb d 1020
+    low l = ap (λ (x : ℕ). leb x 1020) (if-le d 1020 d 1021 l)
+    high : 1020 < d → leb (pick (leb d 1020) d 1021) 1020 ≡ leb d 1020
+    high l = ap (λ (x : ℕ). leb x 1020) (if-gt d 1020 d 1021 l) ∙ sym (lt-leb d 1020 l)
 
 module _ (es cs : List ℕ) (p : Parts) where
   pub no-prologue : runFits noPair (saves cs (p .prologue)) ≡ false → false ≡ partsOk es cs p
@@ -131,10 +149,6 @@ module _ (es cs : List ℕ) (p : Parts) where
       too-many h = simp (e, g, le-ltb (p .end - p .first) 65536 (omega (arith, h)))
 
       pub by-size : {n : ℕ} → p .end - p .first ≤ 65535 → n ≡ heldTo (length (codesIn es cs p)) → leb n 1020 ≡ partsOk es cs p
-      unfolding partsOk heldTo
+      unfolding partsOk
       by-size {n} h s =
-          let d = length (codesIn es cs p) in
-          ap (λ (x : ℕ). leb x 1020) s
-          ∙ either d 1020 (λ l. ap (λ (x : ℕ). leb x 1020) (if-le d 1020 d 1021 l) ∙ le-leb d 1020 l)
-            (λ l. ap (λ (x : ℕ). leb x 1020) (if-gt d 1020 d 1021 l) ∙ sym (lt-leb d 1020 l))
-          ∙ simp (e, g, lt-ltb (p .end - p .first) 65536 (omega (arith, h)))
+          ap (λ (x : ℕ). leb x 1020) s ∙ held-leb (length (codesIn es cs p)) ∙ simp (e, g, lt-ltb (p .end - p .first) 65536 (omega (arith, h)))
