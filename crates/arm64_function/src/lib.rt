@@ -13,9 +13,9 @@ ghost use Rattle.arm64.specs.Packing.{candidate, packedWord};
 ghost use Rattle.arm64.specs.Runs.{noPair, runFits, runsBytes};
 ghost use Rattle.arm64.specs.Writer.{prologueRun, instructions, isPacked, infoOf, functionAsks};
 ghost use Rattle.arm64_simple.specs.Saves.{saves, Inside};
+ghost use Rattle.arm64_function.specs.PackedWord.{sharedIn, packedAt, Only};
 ghost use Rattle.arm64_function.specs.Listed.{Listed, Fine, asks};
 ghost use Rattle.arm64_function.specs.Own.{prologueAt, epilogueAt, partsAt, Ready, ownAt, codesIn, Nearest, heldTo, startOkAt, fitsAt, partsOk, lengthOk};
-ghost use Rattle.arm64_function.specs.PackedWord.{sharedIn, packedAt, Only};
 use arm64_simple::Run;
 
 // A function's codes: its prologue's, and its epilogues from `first` to `end`.
