@@ -1,0 +1,5 @@
+-- Laws of a function's runs and its record.
+pub mod Given
+pub mod PackedWord
+pub mod Own
+pub mod Asked
