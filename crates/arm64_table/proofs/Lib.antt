@@ -1,0 +1,5 @@
+-- The lemmas of this crate's functions.
+pub mod Rows
+pub mod Loops
+pub mod Results
+pub mod Entries
