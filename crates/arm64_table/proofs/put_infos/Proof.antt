@@ -34,10 +34,10 @@ loop-again : tie.Need-loop-again Inv-loop μ-loop
 loop-again c = described (c .before .before .before .before .before .before .before .before .before .before .loop .inv) (c .before .before .before .before .before .before .before .before .before .loop-test .taken) (c .before .before .before .before .before .before .before .put-info .ensures) (c .before .before .before .mark .ensures) (c .before .before .number .ensures)
 
 same-length : tie.Need-same-length Inv-loop μ-loop
-same-length c = c .before .loop .inv .marks-left .kept
+same-length c = c .before .loop .inv .marks-in .left .kept
 
 same-length-2 : tie.Need-same-length-2 Inv-loop μ-loop
-same-length-2 c = c .before .loop .inv .infos-left .kept
+same-length-2 c = c .before .loop .inv .infos-in .left .kept
 
 returns : tie.Need-returns Inv-loop μ-loop
 returns c = (all-marked (c .before .loop .inv) (c .loop-test .left), all-described (c .before .loop .inv) (c .loop-test .left))

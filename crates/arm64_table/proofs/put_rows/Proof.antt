@@ -52,10 +52,10 @@ loop-again : tie.Need-loop-again Inv-loop μ-loop
 loop-again c = let a = c .before .before .before .before .before .before .before .before .before .before .before .before .before .before .before .before .before .args in let e = c .before .before .before .before .before .before .before .before .before .packed-word .ensures in rowed (c .before .before .before .before .before .before .before .before .before .before .before .loop .inv) (c .before .before .before .before .before .before .before .before .before .before .loop-test .taken) (rw (row-is _ e) at (c .before .before .before .before .before .before .before .put-row .ensures)) (rw (relocs-are _ e) at (rw (symbol-at (a .fs .now) (a .es .now) (a .cs .now)) at (c .before .before .put-row-relocs .ensures)))
 
 same-length : tie.Need-same-length Inv-loop μ-loop
-same-length c = c .before .loop .inv .rows-left .kept
+same-length c = c .before .loop .inv .rows-in .left .kept
 
 same-length-2 : tie.Need-same-length-2 Inv-loop μ-loop
-same-length-2 c = c .before .loop .inv .relocs-left .kept
+same-length-2 c = c .before .loop .inv .relocs-in .left .kept
 
 returns : tie.Need-returns Inv-loop μ-loop
 returns c = (all-rows (c .before .loop .inv) (c .loop-test .left), all-relocs (c .before .loop .inv) (c .loop-test .left))

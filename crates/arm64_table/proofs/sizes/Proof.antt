@@ -38,7 +38,7 @@ loop-again : tie.Need-loop-again Inv-loop μ-loop
 loop-again c = summed (c .before .before .before .loop .inv) (c .before .before .loop-test .taken) (c .before .info-size .ensures .0) (c .before .info-size .ensures .1) (c .row-relocs .ensures .0) (c .row-relocs .ensures .1)
 
 returns : tie.Need-returns Inv-loop μ-loop
-returns c = (info-sum (c .before .loop .inv) (c .loop-test .left), relocs-sum (c .before .loop .inv) (c .loop-test .left), omega (arith, c .before .before .before .before .before .pre .most, c .before .loop .inv .few, c .before .loop .inv .high))
+returns c = (info-sum (c .before .loop .inv) (c .loop-test .left), relocs-sum (c .before .loop .inv) (c .loop-test .left), omega (arith, c .before .before .before .before .before .pre .most, c .before .loop .inv .few, c .before .loop .inv .infos .high))
 
 pub sizes-spec : {M : Type 1} → statement M
 sizes-spec =
