@@ -88,7 +88,7 @@ fn put_runtime(out: &mut [u64], fs: &[u64], stride: usize, n: usize) -> usize
 // ---- room
 
 // Questions 51 to 54.
-fn room(needed: Counts, room: Counts) -> Question
+pub fn room(needed: Counts, room: Counts) -> Question
     ensures { λ r. ⌜ r ≡ questionOf (roomFor needed room) ⌝ }
 {
     if room.places < needed.places {
