@@ -1,8 +1,9 @@
 """unwind_arm64 beside llvm-mc, which writes the same unwind data from .seh_ directives: arm64_mc.py COUNT SEED. Packable shapes and random functions: entries
 and records are the same, but where llvm packs a list that no packed word means, and where its version shares fewer runs; each difference is of a class below.
-What ours wrote is listed by llvm-readobj, and says what was given."""
+What ours wrote is listed by llvm-readobj, and says what was given. The command, where it is built, lists llvm-mc's object as arm64_reader.py reads its entries."""
 import collections
 import itertools
+import json
 import os
 import random
 import re
@@ -32,7 +33,7 @@ def directive(kind, register, offset):
 
 
 def assembled(functions):
-    """The functions as llvm-mc writes them: for each its entry's second word and None, or 0 and its record."""
+    """The functions as an object of llvm-mc's."""
     text = ".text\n"
     for k, (length, prologue, epilogues) in enumerate(functions):
         at = 4 * len(prologue)
@@ -47,11 +48,11 @@ def assembled(functions):
             file.write(text)
         subprocess.run(["llvm-mc", "-triple=aarch64-windows-msvc", "-filetype=obj", "-o", made, source], check=True)
         with open(made, "rb") as file:
-            return entries(file.read())
+            return file.read()
 
 
 def entries(data):
-    """The entries of an object's .pdata (the PE/COFF specification), with the records that their relocations name."""
+    """The entries of an object's .pdata (the PE/COFF specification): for each its second word and None, or 0 and the record that its relocation names."""
     def field(at, size=4):
         return int.from_bytes(data[at:at + size], "little")
 
@@ -169,13 +170,35 @@ def listed(functions, ours):
             sys.exit(f"arm64_mc: given {length} {prologue} {epilogues}\n{text}")
 
 
+def command(data, theirs):
+    """Whether the command is there; then it lists each entry of an object by its function, and with the codes that it has."""
+    program = os.path.join(here, "../target/cli/release/dekvoz")
+    if not os.access(program, os.X_OK):
+        return False
+    done = subprocess.run([program, "arm64", "-", "--json"], input=data, capture_output=True, check=True)
+    for k, (found, (word, info)) in enumerate(zip(json.loads(done.stdout)["functions"], theirs, strict=True)):
+        _, length, prologue, epilogues = read(word, info or b"", 0)
+        said = [(epilogue["start"], [codes_of(c) for c in epilogue["codes"]]) for epilogue in found["epilogues"]]
+        if (found["symbol"], found["length"], [codes_of(c) for c in found["prologue"]], said) != (f"f{k}", length, prologue, epilogues):
+            sys.exit(f"arm64_mc: the command lists {found}\n  read {length} {prologue} {epilogues}")
+    return True
+
+
+def codes_of(told):
+    """A code of the command's JSON, as Regp(21, 16), in numbers."""
+    name, *operands = re.findall(r"\w+", told["code"])
+    kind, operands = K[name], [int(n) for n in operands]
+    return (kind, *operands) if len(operands) == 2 else (kind, 0, *(operands or [0]))
+
+
 def main():
     count, chance = int(sys.argv[1]), random.Random(f"arm64_mc {sys.argv[2]}")
     # The smallest list of each class that the Rust packs, of which llvm-mc packs the same.
     smallest = [judge.taken(*case)[0][1:] for case in arm64_writes.known() if judge.write(*case)[0] == 0]
     functions = [*smallest, ADD_FP, *some_functions(count, chance)]
-    ours, same, differences = list(written(functions)), collections.Counter(), collections.Counter()
-    for function, one, other in zip(functions, ours, assembled(functions), strict=True):
+    data = assembled(functions)
+    ours, theirs, same, differences = list(written(functions)), list(entries(data)), collections.Counter(), collections.Counter()
+    for function, one, other in zip(functions, ours, theirs, strict=True):
         if one == other:
             same["packed" if one[1] is None else "in full"] += 1
             continue
@@ -186,7 +209,8 @@ def main():
     listed(functions, ours)
     if len(differences) != 7:
         sys.exit(f"arm64_mc: {len(differences)} classes of differences, and not 7: {differences}")
-    print(f"arm64_mc: {same['packed']} packed and {same['in full']} in full as by llvm-mc; {len(functions)} as given by llvm-readobj's listing")
+    by_command = ", and llvm-mc's object by the command" if command(data, theirs) else ""
+    print(f"arm64_mc: {same['packed']} packed and {same['in full']} in full as by llvm-mc; {len(functions)} as given by llvm-readobj's listing{by_command}")
     for what, n in sorted(differences.items()):
         print(f"arm64_mc: llvm-mc differs: {what}: {n}")
 

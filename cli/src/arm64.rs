@@ -130,17 +130,17 @@ fn word(bytes: &[u8], at: usize) -> Option<u32> {
 
 /// The entries of every part of .pdata, each with its record.
 fn entries<'a>(file: &'a File, coff: &Coff) -> Vec<Found<'a>> {
-    let (mut found, functions) = (Vec::new(), coff.functions(&file.bytes));
+    let (mut found, names) = (Vec::new(), coff.names(&file.bytes));
     for section in coff.sections.iter().filter(|section| part(section, PDATA)) {
         let relocations = coff.relocations(&file.bytes, section);
         let symbol = |at: usize| relocations.get(&(at as u64)).filter(|_| !coff.image);
         for (n, entry) in file.bytes[section.bytes.clone()].chunks_exact(ENTRY).enumerate() {
             let at = n * ENTRY;
             let (Some(start), Some(word)) = (word(entry, 0), word(entry, WORD)) else { continue };
-            // A section's own symbol is named by the function that stands there.
+            // A section's own symbol and an offset are named by what stands there.
             let start = u64::from(start);
             let function = symbol(at).map(|symbol| {
-                let named = symbol.place.and_then(|(of, value)| functions.get(&(of, value + start)));
+                let named = symbol.place.and_then(|(of, value)| names.get(&(of, value + start)));
                 named.map_or_else(|| (symbol.name.clone(), start), |name| (name.clone(), 0))
             });
             let function = match function {

@@ -269,18 +269,21 @@ impl Coff {
         entries.filter_map(|entry| Some((field(entry, 0, 4)?, self.symbol(bytes, field(entry, 4, 4)?)?))).collect()
     }
 
-    /// The functions among the symbols by the sections and places where they stand.
-    pub fn functions(&self, bytes: &[u8]) -> std::collections::BTreeMap<(usize, u64), String> {
-        let (mut found, mut n) = (std::collections::BTreeMap::new(), 0);
+    /// Names for places: of the symbols that stand there a function's, or else another that is not the section's own.
+    pub fn names(&self, bytes: &[u8]) -> std::collections::BTreeMap<(usize, u64), String> {
+        let (mut functions, mut others, mut n) = (std::collections::BTreeMap::new(), std::collections::BTreeMap::new(), 0);
         while let Some(symbol) = self.symbol_bytes(bytes, n).filter(|_| n < self.count) {
             // The last field counts the entries that belong to this one.
             n += 1 + field(symbol, SYMBOL - 1, 1).unwrap_or(0);
             let Some(Symbol { name, place: Some(place) }) = self.symbol_of(bytes, symbol) else { continue };
             if field(symbol, 14, 2) == Some(FUNCTION) {
-                found.entry(place).or_insert(name);
+                functions.entry(place).or_insert(name);
+            } else if name != self.sections[place.0].name {
+                others.entry(place).or_insert(name);
             }
         }
-        found
+        others.extend(functions);
+        others
     }
 
     fn symbol_bytes<'a>(&self, bytes: &'a [u8], n: u64) -> Option<&'a [u8]> {
