@@ -194,7 +194,7 @@ def codes_of(told):
 def main():
     count, chance = int(sys.argv[1]), random.Random(f"arm64_mc {sys.argv[2]}")
     # The smallest list of each class that the Rust packs, of which llvm-mc packs the same.
-    smallest = [judge.taken(*case)[0][1:] for case in arm64_writes.known() if judge.write(*case)[0] == 0]
+    smallest = [judge.taken(*case)[0][1:] for case in arm64_writes.known() if judge.write(*case)[0] == 0 and case[0][3] < 10]
     functions = [*smallest, ADD_FP, *some_functions(count, chance)]
     data = assembled(functions)
     ours, theirs, same, differences = list(written(functions)), list(entries(data)), collections.Counter(), collections.Counter()

@@ -1,7 +1,7 @@
 """The writer of ARM64 unwind data, ours (unwind_arm64, by arm64_written.c), arm64_writer.py's and the Rust's (xdata.rs, debug and release):
 arm64_writes.py COUNT SEED [STEP]. Every packable shape and what is one step from it (every STEP-th), every kind with its smallest and largest operands and
 those past them, the boundaries of the record's fields, short and damaged lists, and COUNT random ones. Ours and arm64_writer.py's answers are the same.
-Where the Rust's is another, the list must be of a class of docs/DIFFERENCES.md, and each class is found."""
+Where the Rust's is another, the list must be of a class of docs/DIFFERENCES.md, and each class is found. Where the Rust's harness is not built it is left out."""
 import collections
 import itertools
 import os
@@ -13,6 +13,8 @@ import arm64_writer as judge
 from arm64_reader import K, KINDS
 
 here = os.path.dirname(os.path.abspath(__file__))
+BUILDS = ("debug/arm64_harness", "release/arm64_harness")
+HAS_RUST = all(os.access(os.path.join(here, "../target/differential", build), os.X_OK) for build in BUILDS)
 PACKED = (1 << 64) - 1
 
 
@@ -176,8 +178,8 @@ def known():
     for prologue, run in (
         ([code("FplrX", 0, 16), code("SetFp")], [code("SetFp"), code("FplrX", 0, 16)]), ([code("Alloc")], [code("Alloc")]),
         ([code("Alloc", 0, 4096)], [code("Alloc", 0, 4096)]), ([code("Alloc", 0, 16), code("Fplr"), code("SetFp")], [code("Fplr"), code("Alloc", 0, 16)]),
-        ([code("RegX", 19, 32), code("SaveNext")], [code("SaveNext"), code("RegX", 19, 32)]), ([code("RegpX", 27, 32), code("Regp", 29, 16)], []),
-        ([code("Regp", 28, 0), code("Regp", 30, 16)], []),
+        ([code("RegX", 19, 32), code("SaveNext")], [code("SaveNext"), code("RegX", 19, 32)]), ([code("Regp", 28, 0), code("Regp", 30, 16)], []),
+        ([code("RegpX", 19, 256)] + [code("SaveNext")] * 119, []),
     ):
         yield at_end(prologue, run)
 
@@ -300,17 +302,22 @@ def long_enough(case):
     return functions, ends, codes
 
 
-def compare(name, cases):
-    cases = list(cases)
-    ours, debug, release = (asked(program, cases) for program in ("arm64_written", "debug/arm64_harness", "release/arm64_harness"))
-    numbers, differences, packed, overflows, instead = collections.Counter(), {}, 0, 0, []
-    for case, of_ours, of_debug, of_release in zip(cases, ours, debug, release, strict=True):
+def judged(name, cases):
+    """What arm64_writer.py makes of each list, and ours too."""
+    answers = []
+    for case, ours in zip(cases, asked("arm64_written", cases), strict=True):
         # An empty list is the empty result before any question.
         wanted = judge.write(*case) if len(case[0]) >= 6 else (0, [], b"", [], b"")
-        if (parsed(of_ours) != wanted[1:] if wanted[0] == 0 else of_ours != f"no {wanted[0]} 0"):
-            sys.exit(f"arm64_writes: {name}: {str(case)[:2000]}\n  ours   {of_ours[:2000]}\n  judged {str(wanted)[:2000]}")
-        numbers[wanted[0]] += 1
-        packed += sum(place == PACKED for place in wanted[1])
+        if (parsed(ours) != wanted[1:] if wanted[0] == 0 else ours != f"no {wanted[0]} 0"):
+            sys.exit(f"arm64_writes: {name}: {str(case)[:2000]}\n  ours   {ours[:2000]}\n  judged {str(wanted)[:2000]}")
+        answers.append(wanted)
+    return answers
+
+
+def compare(name, cases, answers):
+    """The classes of differences between the Rust's answers and these, each with its smallest list; how often the debug build overflows."""
+    differences, overflows, instead = {}, 0, []
+    for case, wanted, of_debug, of_release in zip(cases, answers, *(asked(build, cases) for build in BUILDS), strict=True):
         if of_debug != of_release:
             if "overflow" not in of_debug:
                 sys.exit(f"arm64_writes: {name}: {case}\n  debug {of_debug}\n  release {of_release}")
@@ -325,18 +332,21 @@ def compare(name, cases):
         if not classes:
             sys.exit(f"arm64_writes: {name}: {case}\n  rust   {of_release}\n  judged {wanted}")
         for what in classes:
-            if what not in differences or len(str(case)) < len(str(differences[what])):
-                differences[what] = case
+            keep_smallest(differences, what, case)
         if wanted[0] == 0 and len(case[0]) == 6:
             instead.append((case, wanted))
     # What is written in full instead is what the Rust writes of a longer function, but for the length.
     longer = [long_enough(case) for case, _ in instead]
-    for (case, wanted), answer in zip(instead, asked("release/arm64_harness", longer), strict=True):
+    for (case, wanted), answer in zip(instead, asked(BUILDS[1], longer), strict=True):
         made = parsed(answer)
         if made is None or made[0] != wanted[1] or made[3][3:] != wanted[4][3:] or int.from_bytes(made[3][:3], "little") - 2048 != int.from_bytes(wanted[4][:3], "little"):
             sys.exit(f"arm64_writes: {name}: {case}\n  longer {answer}\n  judged {wanted}")
-    print(f"arm64_writes: {name}: {len(cases)} lists, {packed} packed, numbers {dict(sorted(numbers.items()))}, {overflows} overflows of the debug build")
-    return differences
+    return differences, overflows
+
+
+def keep_smallest(found, what, case):
+    if what not in found or len(str(case)) < len(str(found[what])):
+        found[what] = case
 
 
 def main():
@@ -348,9 +358,19 @@ def main():
         ("pairs", pairs()), ("boundaries", boundaries()), ("short", short()), ("limits", limits()), ("random", wild(count, chance)),
     )
     for name, cases in runs:
-        for what, case in compare(name, cases).items():
-            if what not in found or len(str(case)) < len(str(found[what])):
-                found[what] = case
+        cases = list(cases)
+        answers = judged(name, cases)
+        numbers, packed = collections.Counter(wanted[0] for wanted in answers), sum(place == PACKED for wanted in answers for place in wanted[1])
+        text = f"arm64_writes: {name}: {len(cases)} lists, {packed} packed, numbers {dict(sorted(numbers.items()))}"
+        if HAS_RUST:
+            differences, overflows = compare(name, cases, answers)
+            text += f", {overflows} overflows of the debug build"
+            for what, case in differences.items():
+                keep_smallest(found, what, case)
+        print(text)
+    if not HAS_RUST:
+        print("arm64_writes: the Rust was left out, since its harness isn't built")
+        return
     for what, case in sorted(found.items()):
         print(f"arm64_writes: differs: {what}: {case}")
     if len(found) != 6:
