@@ -1,5 +1,6 @@
 //! Hands lists to the Rust source of Windows' unwind data on ARM64 and prints what it makes. A line of input is `functions;epilogues;codes`, numbers as
 //! unwind_arm64 takes them. The answer is `ok` and markers, bytes, relocations and info behind bars, or `no`, `panic` or `cannot` with the reason.
+//! `arm64_harness time` takes the first line's time instead: the median of 41 calls, in microseconds.
 
 use std::cell::RefCell;
 use std::io::{BufRead, Write};
@@ -96,10 +97,7 @@ fn print(out: &Unwind) -> String {
 }
 
 fn answer(line: &str) -> String {
-    let lists: Vec<Vec<u64>> = line
-        .split(';')
-        .map(|part| part.split_whitespace().map(|n| n.parse().expect("a number")).collect())
-        .collect();
+    let lists = lists_of(line);
     let Some((funcs, procs)) = input(&lists[0], &lists[1], &lists[2]) else {
         return "cannot be handed over".to_owned();
     };
@@ -110,13 +108,35 @@ fn answer(line: &str) -> String {
     }
 }
 
+fn lists_of(line: &str) -> Vec<Vec<u64>> {
+    line.split(';').map(|part| part.split_whitespace().map(|n| n.parse().expect("a number")).collect()).collect()
+}
+
+fn time(line: &str) -> String {
+    let lists = lists_of(line);
+    let (funcs, procs) = input(&lists[0], &lists[1], &lists[2]).expect("lists that can be handed over");
+    let mut took: Vec<f64> = (0..41)
+        .map(|_| {
+            let from = std::time::Instant::now();
+            let out = xdata::table(&funcs, &procs);
+            let took = from.elapsed().as_secs_f64() * 1e6;
+            assert!(out.is_ok());
+            took
+        })
+        .collect();
+    took.sort_by(f64::total_cmp);
+    format!("{:.0}", took[20])
+}
+
 fn main() {
     std::panic::set_hook(Box::new(|info| {
         let text = info.payload_as_str().unwrap_or("no text").to_owned();
         PANIC.with(|panic| *panic.borrow_mut() = text);
     }));
     let out = &mut std::io::BufWriter::new(std::io::stdout().lock());
+    let timed = std::env::args().nth(1).as_deref() == Some("time");
     for line in std::io::stdin().lock().lines() {
-        writeln!(out, "{}", answer(&line.expect("text on standard input"))).expect("standard output");
+        let line = line.expect("text on standard input");
+        writeln!(out, "{}", if timed { time(&line) } else { answer(&line) }).expect("standard output");
     }
 }

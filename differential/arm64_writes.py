@@ -1,6 +1,7 @@
-"""The writer of ARM64 unwind data by arm64_writer.py against the Rust (xdata.rs), debug and release: arm64_writes.py COUNT SEED. Every packable shape and
-what is one step from it, every kind with its smallest and largest operands and those past them, the boundaries of the record's fields, and COUNT random
-lists. Where the two differ, the list must be of a class of docs/DIFFERENCES.md, and each class is found."""
+"""The writer of ARM64 unwind data, ours (unwind_arm64, by arm64_written.c), arm64_writer.py's and the Rust's (xdata.rs, debug and release):
+arm64_writes.py COUNT SEED [STEP]. Every packable shape and what is one step from it (every STEP-th), every kind with its smallest and largest operands and
+those past them, the boundaries of the record's fields, short and damaged lists, and COUNT random ones. Ours and arm64_writer.py's answers are the same.
+Where the Rust's is another, the list must be of a class of docs/DIFFERENCES.md, and each class is found. Where the Rust's harness is not built it is left out."""
 import collections
 import itertools
 import os
@@ -12,6 +13,8 @@ import arm64_writer as judge
 from arm64_reader import K, KINDS
 
 here = os.path.dirname(os.path.abspath(__file__))
+BUILDS = ("debug/arm64_harness", "release/arm64_harness")
+HAS_RUST = all(os.access(os.path.join(here, "../target/differential", build), os.X_OK) for build in BUILDS)
 PACKED = (1 << 64) - 1
 
 
@@ -170,6 +173,40 @@ def boundaries():
         yield one(40000, [nop] * 3, [(4 * i, [sign] + [nop] * (i % 50)) for i in range(n)])
 
 
+def known():
+    """The smallest list of each class of differences from the Rust (docs/DIFFERENCES.md)."""
+    for prologue, run in (
+        ([code("FplrX", 0, 16), code("SetFp")], [code("SetFp"), code("FplrX", 0, 16)]), ([code("Alloc")], [code("Alloc")]),
+        ([code("Alloc", 0, 4096)], [code("Alloc", 0, 4096)]), ([code("Alloc", 0, 16), code("Fplr"), code("SetFp")], [code("Fplr"), code("Alloc", 0, 16)]),
+        ([code("RegX", 19, 32), code("SaveNext")], [code("SaveNext"), code("RegX", 19, 32)]), ([code("Regp", 28, 0), code("Regp", 30, 16)], []),
+        ([code("RegpX", 19, 256)] + [code("SaveNext")] * 119, []),
+    ):
+        yield at_end(prologue, run)
+
+
+def short():
+    """Two functions, every list cut at every length, and each number in turn another one."""
+    lists = many([at_end([code("R19R20X", 0, 32), code("Regp", 21, 16)], [code("Reg", 21, 16), code("Nop")]), one(8, [code("Alloc", 0, 16)], [(0, [code("SaveNext")])])])
+    for cut in itertools.product(*(range(len(numbers) + 1) for numbers in lists)):
+        yield tuple(numbers[:n] for numbers, n in zip(lists, cut))
+    for which, numbers in enumerate(lists):
+        for at in range(len(numbers)):
+            for other in (0, 1, 2, 3, 4, 5, 8, 13, 15, 16, 17, 18, 19, 29, 30, 400, 1 << 18, 1 << 20, (1 << 20) + 1, (1 << 32) - 1, 1 << 32, (1 << 64) - 3, (1 << 64) - 1):
+                yield tuple(part[:at] + [other] + part[at + 1:] if i == which else part for i, part in enumerate(lists))
+
+
+def limits():
+    """Question 13's limits on functions, epilogues and codes; functions share their records."""
+    def shared(count, codes, ends, last):
+        return [n for k in range(count) for n in (16 + k, 262140, 0, codes, 0, ends)] + [15 + (1 << 20), 400, 0, last if codes else 0, 0, last if ends else 0]
+
+    for past in range(2):
+        yield [n for k in range(65536 + past) for n in (16 + k, 8, 0, 0, 0, 0)], [], []
+        yield shared(16, 0, 65535, 16 + past), [4, 0, 0] * 65535, []
+        yield shared(1048, 1000, 0, 576 + past), [], [*code("Nop")] * 1000
+        yield [16, 400, 0, 0, 0, 1024 + past], [4, 0, 1024] * (1024 + past), [*code("Nop")] * 1024
+
+
 def some_code(chance):
     name = chance.choice(KINDS)
     register = chance.choice(judge.REGISTERS[name]) if name in judge.REGISTERS else 0
@@ -204,18 +241,18 @@ def wild(count, chance):
         yield tuple(lists)
 
 
-def rust(mode, cases):
-    program = os.path.join(here, "../target/differential", mode, "arm64_harness")
+def asked(program, cases):
+    program = os.path.join(here, "../target/differential", program)
     text = "".join(";".join(" ".join(map(str, part)) for part in case) + "\n" for case in cases)
     done = subprocess.run([program], input=text, capture_output=True, text=True, check=True)
     return done.stdout.splitlines()
 
 
 def parsed(answer):
-    """What the Rust made, or None."""
-    if not answer.startswith("ok "):
+    """What was made, or None."""
+    if not answer.startswith("ok"):
         return None
-    markers, rows, relocations, info = answer[3:].split("|")
+    markers, rows, relocations, info = answer[2:].split("|")
     return [int(n) for n in markers.split()], bytes.fromhex(rows), [int(n) for n in relocations.split()], bytes.fromhex(info)
 
 
@@ -265,14 +302,22 @@ def long_enough(case):
     return functions, ends, codes
 
 
-def compare(name, cases):
-    cases = list(cases)
-    debug, release = rust("debug", cases), rust("release", cases)
-    numbers, differences, packed, overflows, instead = collections.Counter(), {}, 0, 0, []
-    for case, of_debug, of_release in zip(cases, debug, release, strict=True):
-        wanted = judge.write(*case)
-        numbers[wanted[0]] += 1
-        packed += sum(place == PACKED for place in wanted[1])
+def judged(name, cases):
+    """What arm64_writer.py makes of each list, and ours too."""
+    answers = []
+    for case, ours in zip(cases, asked("arm64_written", cases), strict=True):
+        # An empty list is the empty result before any question.
+        wanted = judge.write(*case) if len(case[0]) >= 6 else (0, [], b"", [], b"")
+        if (parsed(ours) != wanted[1:] if wanted[0] == 0 else ours != f"no {wanted[0]} 0"):
+            sys.exit(f"arm64_writes: {name}: {str(case)[:2000]}\n  ours   {ours[:2000]}\n  judged {str(wanted)[:2000]}")
+        answers.append(wanted)
+    return answers
+
+
+def compare(name, cases, answers):
+    """The classes of differences between the Rust's answers and these, each with its smallest list; how often the debug build overflows."""
+    differences, overflows, instead = {}, 0, []
+    for case, wanted, of_debug, of_release in zip(cases, answers, *(asked(build, cases) for build in BUILDS), strict=True):
         if of_debug != of_release:
             if "overflow" not in of_debug:
                 sys.exit(f"arm64_writes: {name}: {case}\n  debug {of_debug}\n  release {of_release}")
@@ -287,28 +332,45 @@ def compare(name, cases):
         if not classes:
             sys.exit(f"arm64_writes: {name}: {case}\n  rust   {of_release}\n  judged {wanted}")
         for what in classes:
-            if what not in differences or len(str(case)) < len(str(differences[what])):
-                differences[what] = case
+            keep_smallest(differences, what, case)
         if wanted[0] == 0 and len(case[0]) == 6:
             instead.append((case, wanted))
     # What is written in full instead is what the Rust writes of a longer function, but for the length.
     longer = [long_enough(case) for case, _ in instead]
-    for (case, wanted), answer in zip(instead, rust("release", longer), strict=True):
+    for (case, wanted), answer in zip(instead, asked(BUILDS[1], longer), strict=True):
         made = parsed(answer)
         if made is None or made[0] != wanted[1] or made[3][3:] != wanted[4][3:] or int.from_bytes(made[3][:3], "little") - 2048 != int.from_bytes(wanted[4][:3], "little"):
             sys.exit(f"arm64_writes: {name}: {case}\n  longer {answer}\n  judged {wanted}")
-    print(f"arm64_writes: {name}: {len(cases)} lists, {packed} packed, numbers {dict(sorted(numbers.items()))}, {overflows} overflows of the debug build")
-    return differences
+    return differences, overflows
+
+
+def keep_smallest(found, what, case):
+    if what not in found or len(str(case)) < len(str(found[what])):
+        found[what] = case
 
 
 def main():
     count, chance = int(sys.argv[1]), random.Random(f"arm64_writes {sys.argv[2]}")
+    step = int(sys.argv[3]) if len(sys.argv) > 3 else 1
     found = {}
-    runs = (("shapes", shapes()), ("small", small()), ("kinds", kinds()), ("pairs", pairs()), ("boundaries", boundaries()), ("random", wild(count, chance)))
+    runs = (
+        ("known", known()), ("shapes", itertools.islice(shapes(), 0, None, step)), ("small", itertools.islice(small(), 0, None, step)), ("kinds", kinds()),
+        ("pairs", pairs()), ("boundaries", boundaries()), ("short", short()), ("limits", limits()), ("random", wild(count, chance)),
+    )
     for name, cases in runs:
-        for what, case in compare(name, cases).items():
-            if what not in found or len(str(case)) < len(str(found[what])):
-                found[what] = case
+        cases = list(cases)
+        answers = judged(name, cases)
+        numbers, packed = collections.Counter(wanted[0] for wanted in answers), sum(place == PACKED for wanted in answers for place in wanted[1])
+        text = f"arm64_writes: {name}: {len(cases)} lists, {packed} packed, numbers {dict(sorted(numbers.items()))}"
+        if HAS_RUST:
+            differences, overflows = compare(name, cases, answers)
+            text += f", {overflows} overflows of the debug build"
+            for what, case in differences.items():
+                keep_smallest(found, what, case)
+        print(text)
+    if not HAS_RUST:
+        print("arm64_writes: the Rust was left out, since its harness isn't built")
+        return
     for what, case in sorted(found.items()):
         print(f"arm64_writes: differs: {what}: {case}")
     if len(found) != 6:
