@@ -5,14 +5,15 @@
     .ci/believed.py --write      write the table's line counts
     .ci/believed.py --of NAME    list what one definition (as Demanded) reaches
 
-Public entries are the `pub fn` of crates format, unwind, cursor, two_sections and walked_back and every `pub extern "C" fn`. The names in their `requires` and `ensures`
+Public entries are the `pub fn` of crates format, unwind, two_sections and walked_back and of the reader's module cursor, and every `pub extern "C" fn`. The names in their `requires` and `ensures`
 are followed, definition by definition, through the `ghost use` lines of the sources and the `use` lines of the definitions. It fails
 where a reached file is not in the table or stands in a proofs/ folder, where a file of the table is not reached, where a definition
 of crates/format/specs or crates/unwind/specs is not reached, and where a line count is off by more than a tenth."""
 import os, re, sys
 
 ROOT = os.path.join(os.path.dirname(os.path.abspath(__file__)), '..')
-PUBLIC = ('format', 'unwind', 'cursor', 'two_sections', 'walked_back')
+PUBLIC = ('format', 'unwind', 'two_sections', 'walked_back')
+MODULES = ('crates/reader/src/cursor.rt',)
 WHOLE = ('crates/format/specs/', 'crates/unwind/specs/')
 DEMAND = 'Demanded'
 
@@ -147,9 +148,9 @@ def reach(roots):
 
 def contracts():
     """The names that the contracts of the public entries cite, by entry."""
-    for crate in PUBLIC:
-        if not os.path.isdir(os.path.join(ROOT, 'crates', crate)):
-            sys.exit(f'believed: crates/{crate} is not there; PUBLIC names the crates of public entries')
+    for path in [f'crates/{crate}' for crate in PUBLIC] + list(MODULES):
+        if not os.path.exists(os.path.join(ROOT, path)):
+            sys.exit(f'believed: {path} is not there; PUBLIC and MODULES name where public entries stand')
     for path in files('crates', '.rt'):
         lines = read(path)
         names, aliases = uses(lines)
@@ -159,7 +160,7 @@ def contracts():
             method = owner.group(1) + '::' if owner else ('' if line.startswith('}') else method)
             made = re.match(r'\s*pub (extern "C" )?fn (\w+)', line)
             if made:
-                entry = f'{crate}::{method}{made.group(2)}' if made.group(1) or crate in PUBLIC else None
+                entry = f'{crate}::{method}{made.group(2)}' if made.group(1) or crate in PUBLIC or path in MODULES else None
                 if entry:
                     yield entry, None
             elif re.match(r'\s*fn ', line):

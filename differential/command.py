@@ -111,7 +111,8 @@ def debug():
     section = cie + fde
     assert "63" in run("check", "-", "--kind", "debug", stdin=section, status=1)[0]
     assert "--linked" in run("check", "-", "--kind", "debug", stdin=section, status=1)[1]
-    run("check", "-", "--kind", "debug", "--linked", stdin=section)
+    for kind in ("debug", "debug_frame", ".debug_frame"):
+        run("check", "-", "--kind", kind, "--linked", stdin=section)
     assert "r7+8" in run("rules", "-", "--kind=debug", "--linked", "--address=0x1000", stdin=section)[0]
     wrong = cie + fde[:4] + b"\4" + fde[5:]
     assert "63" in run("check", "-", "--kind", "debug", "--linked", stdin=wrong, status=1)[0]

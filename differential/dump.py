@@ -18,11 +18,12 @@ HERE = os.path.dirname(os.path.abspath(__file__))
 sys.path = [folder for folder in sys.path if os.path.abspath(folder) != HERE] + [HERE]
 
 from exports import OUT, batches  # noqa: E402
-from frames import OBJECT, elf, filled  # noqa: E402
+from frames import elf, filled  # noqa: E402
 from reader import DEBUG  # noqa: E402
 from reads import sections, with_registers  # noqa: E402
 
 DEKVOZ = os.path.join(os.path.dirname(HERE), "target", "cli", "release", "dekvoz")
+OBJECT = os.path.join(OUT, "dump.o")
 SECTION = os.path.join(OUT, "dump.section")
 NUMBERS = os.path.join(OUT, "dump.relocations")
 PROGRAM = os.path.join(OUT, "dump.program")

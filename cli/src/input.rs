@@ -150,8 +150,8 @@ fn read_all(mut from: impl Read) -> io::Result<Vec<u8>> {
 fn kind(args: &Args) -> Result<Option<Kind>, Usage> {
     match args.value("--kind") {
         None => Ok(None),
-        Some("eh") => Ok(Some(Kind::Eh)),
-        Some("debug") => Ok(Some(Kind::Debug)),
+        Some("eh" | "eh_frame" | ".eh_frame") => Ok(Some(Kind::Eh)),
+        Some("debug" | "debug_frame" | ".debug_frame") => Ok(Some(Kind::Debug)),
         Some(other) => Err(Usage(format!("--kind: `{other}` is neither eh nor debug"))),
     }
 }

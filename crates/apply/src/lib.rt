@@ -519,27 +519,21 @@ fn all_near(relocs: &[u64], addresses: &[u64]) -> bool
 
 // ---- stores
 
-fn wide(x: u8) -> u64
-    ensures { λ r. ⌜ (r ≡ x) × (r < 256) ⌝ }
-{
-    x as u64
-}
-
 // The number in a field's bytes, which are 1, 2 or 4.
 fn number_at(copy: &[u8], p: usize, n: u64) -> u64
     requires { ⌜ (p + n ≤ length (now copy)) × FieldSize n ⌝ }
     ensures { λ r. ⌜ (r ≡ numberAt (now (copy .entry)) p n) × (r < 4294967296) ⌝ }
 {
     if n == 1 {
-        return wide(copy[p]);
+        return leb::wide(copy[p]);
     }
-    let x = wide(copy[p]);
-    let y = wide(copy[p + 1]);
+    let x = leb::wide(copy[p]);
+    let y = leb::wide(copy[p + 1]);
     if n == 2 {
         return x + 256 * y;
     }
-    let z = wide(copy[p + 2]);
-    let t = wide(copy[p + 3]);
+    let z = leb::wide(copy[p + 2]);
+    let t = leb::wide(copy[p + 3]);
     x + 256 * (y + 256 * (z + 256 * t))
 }
 

@@ -12,7 +12,7 @@ use Rattle.format.specs.Questions.{Room, accepted, roomAsks, perFunction}
 use Rattle.format.specs.Answers.{outcomeOf, afterwards, relocationNumbers, Writes}
 use Rattle.format.proofs.Asked.{questionOf}
 use Rattle.format.proofs.ListLaws.{each-length}
-use Rattle.x64.specs.Answers.{roomFor}
+use Rattle.lists.specs.Room.{roomFor}
 use Rattle.x64.proofs.Asked.{said-yes}
 use Rattle.arm64.specs.Lists.{Function, numberedFunction}
 use Rattle.arm64.specs.Writer.{functionAsks, markersFrom, rowsOf, relocsFrom, infosOf, arm64}

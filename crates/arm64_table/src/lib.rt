@@ -217,7 +217,7 @@ fn write(
         relocations: relocations.len() as u64,
         sites: info.len() as u64,
     };
-    match x64::room(counts, lent) {
+    match lists::room(counts, lent) {
         Question::Yes => put_all(fs, es, cs, n, needed, markers, bytes, relocations, info),
         Question::No(a, k) => Outcome::Refused(a, k),
     }

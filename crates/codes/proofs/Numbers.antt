@@ -13,11 +13,11 @@ use Rattle.format.specs.declared.Seh.the-variants.{Push, Alloc, Frame, Save}
 use Rattle.format.specs.X64.{registerIn, allocNo, saveNo, operandNo, codeNo, frameOk, frameNo, orNo, firstNo, slots, prologueNo}
 use Rattle.codes.specs.Codes.{numberOf}
 
-abbrev pub Told : Option ℕ → Type 0
-Told none = Unit {0}
-Told (some n) = 0 < n
+abbrev pub Nonzero : Option ℕ → Type 0
+Nonzero none = Unit {0}
+Nonzero (some n) = 0 < n
 
-pub none-of : (o : Option ℕ) → Told o → numberOf o ≡ 0 → o ≡ none
+pub none-of : (o : Option ℕ) → Nonzero o → numberOf o ≡ 0 → o ≡ none
 unfolding numberOf
 none-of none t e = refl
 none-of (some n) t e = absurd (omega arith)
@@ -29,56 +29,56 @@ some-of (some n) h = refl
 
 -- ---- each question
 
-told-pick : (b : Bool) (x y : Option ℕ) → Told x → Told y → Told (pick b x y)
+nonzero-pick : (b : Bool) (x y : Option ℕ) → Nonzero x → Nonzero y → Nonzero (pick b x y)
 unfolding pick
-told-pick true x y s t = s
-told-pick false x y s t = t
+nonzero-pick true x y s t = s
+nonzero-pick false x y s t = t
 
-told-or : (x y : Option ℕ) → Told x → Told y → Told (orNo x y)
+nonzero-or : (x y : Option ℕ) → Nonzero x → Nonzero y → Nonzero (orNo x y)
 unfolding orNo
-told-or none y s t = t
-told-or (some n) y s t = s
+nonzero-or none y s t = t
+nonzero-or (some n) y s t = s
 
-told-alloc : (z : ℤ) → Told (allocNo z)
+nonzero-alloc : (z : ℤ) → Nonzero (allocNo z)
 unfolding allocNo
-told-alloc (negsuc n) = lit< tt
-told-alloc (pos n) = told-pick (eqb n 0 || not (eqb (n % 8) 0)) _ _ (lit< tt) (told-pick (ltb n (2 ^ 32)) _ _ tt (lit< tt))
+nonzero-alloc (negsuc n) = lit< tt
+nonzero-alloc (pos n) = nonzero-pick (eqb n 0 || not (eqb (n % 8) 0)) _ _ (lit< tt) (nonzero-pick (ltb n (2 ^ 32)) _ _ tt (lit< tt))
 
-told-save : (z : ℤ) → Told (saveNo z)
+nonzero-save : (z : ℤ) → Nonzero (saveNo z)
 unfolding saveNo
-told-save (negsuc n) = lit< tt
-told-save (pos n) = told-pick (ltb n (2 ^ 32)) _ _ tt (lit< tt)
+nonzero-save (negsuc n) = lit< tt
+nonzero-save (pos n) = nonzero-pick (ltb n (2 ^ 32)) _ _ tt (lit< tt)
 
-told-operand : (code : Seh) → Told (operandNo code)
+nonzero-operand : (code : Seh) → Nonzero (operandNo code)
 unfolding operandNo
-told-operand (Push reg) = tt
-told-operand (Alloc z) = told-alloc z
-told-operand (Frame reg z) = tt
-told-operand (Save reg vector z) = told-save z
+nonzero-operand (Push reg) = tt
+nonzero-operand (Alloc z) = nonzero-alloc z
+nonzero-operand (Frame reg z) = tt
+nonzero-operand (Save reg vector z) = nonzero-save z
 
-pub told-code : (x : ℕ × Seh) → Told (codeNo x)
+pub nonzero-code : (x : ℕ × Seh) → Nonzero (codeNo x)
 unfolding codeNo
-told-code x =
-    told-pick (leb (registerIn (x .1)) 15) _ _ (told-pick (leb (x .0) 255) _ _ (told-operand (x .1)) (lit< tt)) (lit< tt)
+nonzero-code x =
+    nonzero-pick (leb (registerIn (x .1)) 15) _ _ (nonzero-pick (leb (x .0) 255) _ _ (nonzero-operand (x .1)) (lit< tt)) (lit< tt)
 
-pub told-frame : (code : Seh) → Told (frameNo code)
+pub nonzero-frame : (code : Seh) → Nonzero (frameNo code)
 unfolding frameNo
-told-frame (Push reg) = tt
-told-frame (Alloc z) = tt
-told-frame (Frame reg z) = told-pick (frameOk z) _ _ tt (lit< tt)
-told-frame (Save reg vector z) = tt
+nonzero-frame (Push reg) = tt
+nonzero-frame (Alloc z) = tt
+nonzero-frame (Frame reg z) = nonzero-pick (frameOk z) _ _ tt (lit< tt)
+nonzero-frame (Save reg vector z) = tt
 
-pub told-first : {A : Type 0} (f : A → Option ℕ) → ((x : A) → Told (f x)) → (xs : List A) → Told (firstNo f xs)
+pub nonzero-first : {A : Type 0} (f : A → Option ℕ) → ((x : A) → Nonzero (f x)) → (xs : List A) → Nonzero (firstNo f xs)
 unfolding firstNo
-told-first f t [] = tt
-told-first f t (x ∷ xs) = told-or (f x) (firstNo f xs) (t x) (told-first f t xs)
+nonzero-first f t [] = tt
+nonzero-first f t (x ∷ xs) = nonzero-or (f x) (firstNo f xs) (t x) (nonzero-first f t xs)
 
-told-end : (b : Bool) (n : ℕ) → 0 < n → Told (pick b none (some n))
-told-end b n h = told-pick b none (some n) tt h
+nonzero-end : (b : Bool) (n : ℕ) → 0 < n → Nonzero (pick b none (some n))
+nonzero-end b n h = nonzero-pick b none (some n) tt h
 
-pub told-prologue : (end : ℕ) (cs : List (ℕ × Seh)) → Told (prologueNo end cs)
+pub nonzero-prologue : (end : ℕ) (cs : List (ℕ × Seh)) → Nonzero (prologueNo end cs)
 unfolding prologueNo
-told-prologue end cs =
-    told-or (firstNo codeNo cs) _ (told-first codeNo told-code cs)
-    (told-or _ _ (told-end (leb end 255) 35 (lit< tt))
-    (told-or _ _ (told-end (leb (slots cs) 255) 40 (lit< tt)) (told-first (λ c. frameNo (c .1)) (λ c. told-frame (c .1)) cs)))
+nonzero-prologue end cs =
+    nonzero-or (firstNo codeNo cs) _ (nonzero-first codeNo nonzero-code cs)
+    (nonzero-or _ _ (nonzero-end (leb end 255) 35 (lit< tt))
+    (nonzero-or _ _ (nonzero-end (leb (slots cs) 255) 40 (lit< tt)) (nonzero-first (λ c. frameNo (c .1)) (λ c. nonzero-frame (c .1)) cs)))

@@ -27,7 +27,7 @@ use Rattle.lists.specs.declared.Extent.{Extent}
 use Rattle.lists.specs.Extents.{extentAt, meant}
 use Rattle.dwarf.specs.Parts.{Inputs, inputs, countIn, extentIn, functionIn, bytesIn, relocsIn, sitesIn, partsTo}
 use Rattle.dwarf.specs.Tables.{labelledRows, totalOf, labelledTotal, mostIn, Covers}
-use Rattle.dwarf.specs.Sure.{Sure, Cleared}
+use Rattle.dwarf.specs.Writable.{Writable, Cleared}
 use Rattle.format.proofs.ListLaws.{each-length}
 use Rattle.format.proofs.SectionSize.{parts-short, section-short}
 use Rattle.dwarf.proofs.Fronts.{all-parts, functions-each, means-taken, bytes-grow, relocs-grow, sites-grow}
@@ -55,10 +55,10 @@ module _ (g : Given) (some-functions : 0 < count functionStride (g .functions)) 
   taken-up Elf r = rw there
   taken-up Debug r = rw there
 
-  module _ (s : Section) (asked : givenAsks g ≡ none) (told : perFunction (dwarfAsks s (machineOf (g .machine) .word)) 0 (map (taken s) (givenFunctions g)) ≡ none) where
+  module _ (s : Section) (asked : givenAsks g ≡ none) (functions-asked : perFunction (dwarfAsks s (machineOf (g .machine) .word)) 0 (map (taken s) (givenFunctions g)) ≡ none) where
     accepts : let w : Written = dwarf s (machineOf (g .machine)) (givenFunctions g) in dwarfGiven s g (room-of w) ≡ accepted w
     unfolding dwarfGiven dwarfAnswer fitting unless
-    accepts = rw (asked, told, fits-exactly)
+    accepts = rw (asked, functions-asked, fits-exactly)
 
     is-accepted : Accepted s g (dwarf s (machineOf (g .machine)) (givenFunctions g))
     is-accepted = accepted-is s g (room-of (dwarf s (machineOf (g .machine)) (givenFunctions g))) _ (taken-up s _ ∙ accepts)
@@ -182,8 +182,8 @@ module _ (s : Section) (g : Given) {w : Written} (a : Accepted s g w) where
       encodings = rw (encodings-body (extentIn x k) (x .rows) (x .landings) (x .pairs) (x .machine .word)) at (fits .encodings);
     }
 
-    sure-at : Sure x k
-    sure-at = record {
+    writable-at : Writable x k
+    writable-at = record {
       sound = sound-at;
       encoding-fits = encoding-taken (g .functions) (g .rows) (g .landings) (g .pairs) (a .lists) k h s;
       landings-ready = landings-taken (g .functions) (g .rows) (g .landings) (g .pairs) (a .lists) k h s;
@@ -196,8 +196,8 @@ module _ (s : Section) (g : Given) {w : Written} (a : Accepted s g w) where
 
 pub cleared : (s : Section) (g : Given) → T (listsOk (g .functions) (g .rows) (g .landings) (g .pairs)) → givenAsks g ≡ none
     → perFunction (dwarfAsks s (machineOf (g .machine) .word)) 0 (map (taken s) (givenFunctions g)) ≡ none → Cleared (inputsOf s g)
-cleared s g ok asked told = record {
-  each-one = λ k h. sure-at s g (is-accepted g (omega arith) s asked told) k h;
+cleared s g ok asked functions-asked = record {
+  each-one = λ k h. writable-at s g (is-accepted g (omega arith) s asked functions-asked) k h;
   listed = listed (g .functions) (g .rows) (g .landings) (g .pairs) ok (count functionStride (g .functions)) (omega arith);
   few = functions-few (g .functions) (g .rows) (g .landings) (g .pairs) ok;
   sums = record {
@@ -205,5 +205,5 @@ cleared s g ok asked told = record {
     rows = rows-few-in (g .functions) (g .rows) (g .landings) (g .pairs) ok;
     landings = landings-few-in (g .functions) (g .rows) (g .landings) (g .pairs) ok;
   };
-  covered = either (count functionStride (g .functions)) 0 (λ z. none-covered (inputsOf s g) (omega arith)) (λ p. all-covered s g (is-accepted g p s asked told));
+  covered = either (count functionStride (g .functions)) 0 (λ z. none-covered (inputsOf s g) (omega arith)) (λ p. all-covered s g (is-accepted g p s asked functions-asked));
 }

@@ -3,41 +3,18 @@ use mathlib.Core.Path.{_≡_, refl, sym, _∙_}
 use Prim.Native.Nat.{ℕ, zero, suc, _<_}
 use native.Mathlib.Omega.{arith}
 use mathlib.Core.Bool.{Bool, true, false, not}
-use mathlib.Core.Option.{Option, none, some}
+use mathlib.Core.Option.{Option}
 use mathlib.Core.List.{[]}
 use borrow.Author.Tests.{ne-eqb}
 use lib.Dec.{eqb}
 use Rattle.format.specs.Prelude.{pick, each}
 use Rattle.format.specs.Lists.{Named, Landing, landingAt}
-use Rattle.format.specs.Headers.{sizeOf, pointerSize, sizeOr0}
+use Rattle.format.specs.Headers.{pointerSize, sizeOr0}
 use Rattle.format.specs.Questions.{isSome, lsdaOk, namedOk, encodingsOk}
 use Rattle.lists.specs.declared.Extent.{Extent}
 use Rattle.lists.specs.Extents.{meant}
 use Rattle.leading.specs.Functions.{bodyOf}
-
--- ---- an accepted encoding has some bytes
-
-Told : Option ℕ → Type 0
-Told o = not (eqb (sizeOr0 o) 0) ≡ isSome o
-
-told-none : Told none
-unfolding Told sizeOr0 isSome
-told-none = refl
-
-told-some : (n : ℕ) → 0 < n → Told (some n)
-unfolding Told sizeOr0 isSome
-told-some n h = rw (ne-eqb n 0 (λ e. omega arith))
-
-told-pick : (b : Bool) (o p : Option ℕ) → Told o → Told p → Told (pick b o p)
-unfolding pick
-told-pick true o p h k = h
-told-pick false o p h k = k
-
-told : (indirect : Bool) (word e : ℕ) → 0 < word → not (eqb (sizeOr0 (pointerSize indirect word e)) 0) ≡ isSome (pointerSize indirect word e)
-unfolding pointerSize sizeOf Told
-told indirect word e h =
-    told-pick _ _ _
-    (told-pick _ _ _ (told-some word h) (told-pick _ _ _ (told-some 4 (omega arith)) (told-pick _ _ _ (told-some 8 (omega arith)) told-none))) told-none
+use Rattle.numbers.proofs.Pointers.{size-accepts}
 
 -- ---- a function's encodings
 
@@ -64,16 +41,16 @@ module _ (word : ℕ) (e : Extent) where
       unfolding meant each encodingsOk namedOk pick
       unknown {r} q z =
           let k : sizeOr0 (pointerSize true word (e .encoding)) ≡ 0 = sym q ∙ z in
-          rw (n, p, ← told true word (e .encoding) w, k)
+          rw (n, p, size-accepts true word (e .encoding) w, k)
 
       module _ {r : ℕ} (q : r ≡ sizeOr0 (pointerSize true word (e .encoding))) (z : r ≡ 0 → ⊥) where
         known : isSome (pointerSize true word (e .encoding)) ≡ true
-        known = sym (told true word (e .encoding) w) ∙ rw (ne-eqb (sizeOr0 (pointerSize true word (e .encoding))) 0 (λ k. z (q ∙ k)))
+        known = size-accepts true word (e .encoding) w ∙ rw (ne-eqb (sizeOr0 (pointerSize true word (e .encoding))) 0 (λ k. z (q ∙ k)))
 
-        pub bare : e .lsda ≡ false → true ≡ ok word e
+        pub no-lsda : e .lsda ≡ false → true ≡ ok word e
         unfolding meant each encodingsOk namedOk lsdaOk pick
-        bare l = rw (n, p, l, known)
+        no-lsda l = rw (n, p, l, known)
 
         pub both : e .lsda ≡ true → {t : ℕ} → t ≡ sizeOr0 (pointerSize false word (e .«lsda_encoding»)) → not (eqb t 0) ≡ ok word e
         unfolding meant each encodingsOk namedOk lsdaOk pick
-        both l {t} u = rw (n, p, l, known, u) (told false word (e .«lsda_encoding») w)
+        both l {t} u = rw (n, p, l, known, u) (sym (size-accepts false word (e .«lsda_encoding») w))

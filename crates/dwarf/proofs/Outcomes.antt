@@ -27,7 +27,8 @@ use Rattle.format.proofs.ListLaws.{numbers-length}
 use Rattle.dwarf.specs.declared.Table.{Table}
 use Rattle.dwarf.specs.Asks.{askedIn}
 use Rattle.dwarf.specs.Parts.{Inputs, countIn, extentIn, functionIn, placesIn, bytesIn, relocsIn, sitesIn, writtenIn, partsTo}
-use Rattle.dwarf.specs.Tables.{totalsIn, roomFor, Covers, Written, Holds}
+use Rattle.lists.specs.Room.{roomFor}
+use Rattle.dwarf.specs.Tables.{totalsIn, countsOf, Covers, Written, Holds}
 use Rattle.dwarf.proofs.Asking.{said-yes}
 use Rattle.dwarf.proofs.Cleared.{inputsOf}
 use Rattle.dwarf.proofs.Bodies.{encodings-any}
@@ -52,21 +53,21 @@ module _ (x : Inputs) {t : Table} (e : t ≡ totalsIn (partsTo x (countIn x))) (
   abbrev lent : Table
   lent = record { bytes = length bytes; relocations = length relocs; sites = length sites }
 
-  room-is : roomFor (countIn x) t (length places) lent ≡ roomAsks (roomIn places bytes relocs sites) (writtenIn (partsTo x (countIn x)))
+  room-is : roomFor (countsOf (countIn x) t) (countsOf (length places) lent) ≡ roomAsks (roomIn places bytes relocs sites) (writtenIn (partsTo x (countIn x)))
   unfolding roomFor roomAsks writtenIn totalsIn
   room-is = rw (e, places-length x (countIn x), numbers-length (relocsIn (partsTo x (countIn x))))
 
   abbrev answer : Answer
   answer = fitting (roomIn places bytes relocs sites) (writtenIn (partsTo x (countIn x)))
 
-  module _ {q : declared.Question} (k : q ≡ questionOf (roomFor (countIn x) t (length places) lent)) where
+  module _ {q : declared.Question} (k : q ≡ questionOf (roomFor (countsOf (countIn x) t) (countsOf (length places) lent))) where
     pub refuses : {i j : ℕ} → q ≡ No i j → Writes answer (outcome.Refused i j) places places bytes bytes relocs relocs sites sites
     unfolding fitting
     refuses {i} {j} n = rw (no-decides _ (accepted (writtenIn (partsTo x (countIn x)))) (sym (ap questionOf room-is) ∙ (sym k ∙ n))) (unchanged i j places bytes relocs sites)
 
 -- a yes to t is room for what t covers
 module _ (x : Inputs) {t : Table} (places bytes relocs sites : List ℕ) {q : declared.Question}
-    (k : q ≡ questionOf (roomFor (countIn x) t (length places) (record { bytes = length bytes; relocations = length relocs; sites = length sites }))) where
+    (k : q ≡ questionOf (roomFor (countsOf (countIn x) t) (countsOf (length places) (record { bytes = length bytes; relocations = length relocs; sites = length sites })))) where
   pub room-for : q ≡ Yes → Covers x t → Holds x (countIn x) places bytes relocs sites
   unfolding roomFor
   room-for y v =
@@ -88,7 +89,7 @@ sizes-cover x e = rw e (record { bytes = omega arith; relocations = omega arith;
 -- ---- acceptance
 
 module _ (x : Inputs) (places bytes relocs sites : List ℕ) (h : Holds x (countIn x) places bytes relocs sites) where
-  fits : roomFor (countIn x) (totalsIn (partsTo x (countIn x))) (length places) (lent x refl places bytes relocs sites) ≡ none
+  fits : roomFor (countsOf (countIn x) (totalsIn (partsTo x (countIn x)))) (countsOf (length places) (lent x refl places bytes relocs sites)) ≡ none
   unfolding roomFor totalsIn ask andThen pick
   fits =
       simp (
@@ -157,16 +158,16 @@ module _ (s : Section) (g : Given) where
 
     module _ {q : declared.Question} {word : ℕ} (w : word ≡ machineOf (g .machine) .word)
         (k : q ≡ questionOf (perFunction (dwarfAsks s word) 0 (each (askedIn s (g .functions) (g .rows) (g .pairs)) 0 (countIn x)))) where
-      told : q ≡ questionOf (perFunction (dwarfAsks s (machineOf (g .machine) .word)) 0 (map (taken s) (givenFunctions g)))
-      told = k ∙ ap questionOf (rw w (sym (asks-are (machineOf (g .machine) .word))))
+      functions-asked : q ≡ questionOf (perFunction (dwarfAsks s (machineOf (g .machine) .word)) 0 (map (taken s) (givenFunctions g)))
+      functions-asked = k ∙ ap questionOf (rw w (sym (asks-are (machineOf (g .machine) .word))))
 
       pub functions-yes : q ≡ Yes → perFunction (dwarfAsks s (machineOf (g .machine) .word)) 0 (map (taken s) (givenFunctions g)) ≡ none
-      functions-yes y = said-yes _ (sym told ∙ y)
+      functions-yes y = said-yes _ (sym functions-asked ∙ y)
 
       module _ (r : Room) where
         pub no-function : {i j : ℕ} → q ≡ No i j → dwarfGiven s g r ≡ refused i j
         unfolding dwarfGiven dwarfAnswer unless
-        no-function n = rw given-yes (no-decides _ _ (sym told ∙ n))
+        no-function n = rw given-yes (no-decides _ _ (sym functions-asked ∙ n))
 
         pub all-yes : q ≡ Yes → dwarfGiven s g r ≡ fitting r (writtenIn (partsTo x (countIn x)))
         unfolding dwarfGiven dwarfAnswer unless

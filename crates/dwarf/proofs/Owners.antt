@@ -9,7 +9,7 @@ use lib.ListN.{length, getD}
 use Rattle.format.specs.Headers.{Key, keyOf, sameKey}
 use Rattle.format.specs.Writer.{placeIn}
 use Rattle.format.proofs.Choice.{pick-yes, pick-no, tested}
-use Rattle.search.specs.Owners.{firstFrom, owner, keyAt}
+use Rattle.owners.specs.Owners.{firstFrom, owner, keyAt}
 use Rattle.dwarf.specs.Parts.{Inputs, functionIn, extentIn, placesIn, seenFrom, earlierIn, partsTo}
 use Rattle.dwarf.proofs.Fronts.{places-length}
 use Rattle.dwarf.proofs.Bodies.{key-body}

@@ -14,7 +14,7 @@ use Rattle.format.specs.Headers.{headerBytes, headerRelocs}
 use Rattle.lists.specs.declared.Extent.{Extent}
 use Rattle.lists.specs.Extents.{meant}
 use Rattle.leading.specs.Functions.{keyIn}
-use Rattle.search.specs.Owners.{owner}
+use Rattle.owners.specs.Owners.{owner}
 use Rattle.headers.specs.Kinds.{headerRelocCount}
 use Rattle.headers.proofs.Personalities.{header-relocs-count, header-relocs-any}
 use Rattle.dwarf.specs.Parts.{Inputs, extentIn, alignIn, placesIn, bytesIn, sitesIn, partBehind, partsTo}

@@ -11,13 +11,13 @@ use Rattle.format.specs.declared.Section.{Section}
 use Rattle.format.specs.Writer.{isDebug, alignFor, joined}
 use Rattle.format.specs.Lists.{numbersOf}
 use Rattle.lists.specs.declared.Extent.{Extent}
-use Rattle.search.specs.Owners.{owner}
-use Rattle.search.specs.Chains.{Owned}
+use Rattle.owners.specs.Owners.{owner}
+use Rattle.owners.specs.Chains.{Owned}
 use Rattle.dwarf.specs.declared.Table.{Table}
 use Rattle.dwarf.specs.Parts.{Inputs, countIn, extentIn, alignIn, bytesIn, relocsIn, sitesIn, partsTo}
 use Rattle.dwarf.specs.Pieces.{partIn}
 use Rattle.dwarf.specs.Tables.{nothing, totalsIn, grownBy, Small, SizeReady}
-use Rattle.dwarf.specs.Sure.{Cleared, Next}
+use Rattle.dwarf.specs.Writable.{Cleared, Next}
 use Rattle.dwarf.proofs.Alignment.{align-ok}
 use Rattle.dwarf.proofs.Totals.{sized-next}
 
@@ -30,9 +30,9 @@ module _ {x : Inputs} {k n : ℕ} {t : Table} (c : Next x k n t) where
   pub small-next : Small (totalsIn (partsTo x (k + 1)))
   unfolding totalsIn
   small-next = rw (add-one k) (record {
-    bytes = omega (arith, c .sure .bytes-few);
-    relocations = omega (arith, c .sure .relocs-few);
-    sites = omega (arith, c .sure .sites-few);
+    bytes = omega (arith, c .writable .bytes-few);
+    relocations = omega (arith, c .writable .relocs-few);
+    sites = omega (arith, c .writable .sites-few);
   })
 
   module _ {i align : ℕ} {debug : Bool} {e : Extent} (o : i ≡ owner (x .section) (x .machine) (x .functions) (x .rows) k) (d : debug ≡ isDebug (x .section))
@@ -45,10 +45,10 @@ module _ {x : Inputs} {k n : ℕ} {t : Table} (c : Next x k n t) where
 
     pub size-ready : SizeReady (eqb i k) debug (x .machine) align e t (x .rows) (x .landings) (x .pairs)
     size-ready = record {
-      sound = rw q (c .sure .sound);
-      aligned = rw a (align-ok (x .section) (x .machine) (c .sure .sound .machine) _);
-      landings-ready = rw q (c .sure .landings-ready);
-      pairs-ready = rw q (c .sure .pairs-ready);
+      sound = rw q (c .writable .sound);
+      aligned = rw a (align-ok (x .section) (x .machine) (c .writable .sound .machine) _);
+      landings-ready = rw q (c .writable .landings-ready);
+      pairs-ready = rw q (c .writable .pairs-ready);
       small = rw grown-is small-next;
     }
 
@@ -72,7 +72,7 @@ start x = record { counted = refl; high = omega arith; behind = refl }
 
 module _ {x : Inputs} {n k : ℕ} {t : Table} (c : Sizing x n k t) where
   pub next : Cleared x → k < n → Next x k n t
-  next s h = record { sure = s .each-one k (omega (arith, c .counted)); counted = c .counted; behind = c .behind }
+  next s h = record { writable = s .each-one k (omega (arith, c .counted)); counted = c .counted; behind = c .behind }
 
   pub turn : {u : Table} → k < n → u ≡ totalsIn (partsTo x (k + 1)) → Sizing x n (k + 1) u
   turn h e = record { counted = c .counted; high = omega arith; behind = e }

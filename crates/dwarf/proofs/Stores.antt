@@ -14,7 +14,7 @@ use Rattle.format.specs.Lists.{numbersOf}
 use Rattle.format.specs.Writer.{Part, isDebug, joined}
 use Rattle.format.proofs.Choice.{either}
 use Rattle.format.proofs.PutLaws.{_then_, idle, kept}
-use Rattle.search.specs.Owners.{owner}
+use Rattle.owners.specs.Owners.{owner}
 use Rattle.dwarf.specs.declared.Table.{Table}
 use Rattle.dwarf.specs.declared.Chosen.{Chosen}
 use Rattle.dwarf.specs.Parts.{Inputs, extentIn, alignIn, placesIn, bytesIn, relocsIn, sitesIn, partBehind, partsTo}

@@ -18,7 +18,7 @@ use Rattle.format.proofs.Choice.{either}
 use Rattle.lists.specs.declared.Extent.{Extent}
 use Rattle.lists.specs.Extents.{meant}
 use Rattle.leading.specs.Functions.{bodyOf, keyIn, Sound}
-use Rattle.search.specs.Owners.{owner}
+use Rattle.owners.specs.Owners.{owner}
 use Rattle.format.proofs.ListLaws.{numbers-length}
 use Rattle.records.proofs.LabelLaws.{numbers-append}
 use Rattle.records.proofs.RecordLaws.{record-length}
@@ -114,9 +114,9 @@ module _ (debug : Bool) (m : Machine) (e : Extent) (rows pairs : List ℕ) {n : 
     unfolding pick
     own-numbers o k = rw (front-count own debug m 0 e rows, o, k, q)
 
-    pub bare-numbers : own ≡ false → 5 * n ≡ relocNumbers own debug m e rows pairs
+    pub shared-numbers : own ≡ false → 5 * n ≡ relocNumbers own debug m e rows pairs
     unfolding pick
-    bare-numbers o = rw (front-count own debug m 0 e rows, o, q) (omega arith)
+    shared-numbers o = rw (front-count own debug m 0 e rows, o, q) (omega arith)
 
 pub header-one : (debug : Bool) (m : Machine) (e : Extent) {h : ℕ} → h ≡ headerRelocCount debug e → h ≤ 1
 header-one debug m e k = omega (arith, header-few debug m 0 (keyIn m e []), header-relocs-count debug m 0 e [])

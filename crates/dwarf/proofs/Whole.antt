@@ -20,7 +20,7 @@ use Rattle.format.proofs.Asked.{questionOf}
 use Rattle.format.proofs.Accepted.{machine-fits}
 use Rattle.dwarf.specs.Asks.{askedIn, AllAskable}
 use Rattle.dwarf.specs.Parts.{inputs, writtenIn, partsTo}
-use Rattle.dwarf.specs.Sure.{Cleared}
+use Rattle.dwarf.specs.Writable.{Cleared}
 use Rattle.dwarf.proofs.Cleared.{cleared}
 use Rattle.dwarf.proofs.Outcomes.{unchanged, no-machine, no-lists, given-yes, no-function, functions-yes, all-yes}
 use Rattle.dwarf.proofs.Passed.{all-askable}

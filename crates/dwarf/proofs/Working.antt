@@ -2,7 +2,7 @@
 use Prim.Native.Nat.{ℕ, _≤_, _<_}
 use native.Mathlib.Omega.{arith}
 use lib.ListN.{replicate, getD-replicate, length-replicate}
-use Rattle.search.specs.Chains.{Unused}
+use Rattle.owners.specs.Chains.{Unused}
 
 pub unused : (n slots room : ℕ) → n ≤ 65536 → 0 < slots → n ≤ room → Unused n (replicate slots 0) (replicate room 0) (replicate room 0)
 unused n slots room few some-slot long =

@@ -11,15 +11,15 @@ use Rattle.format.specs.Lists.{numbersOf}
 use Rattle.format.specs.Writer.{Part, isDebug, alignFor}
 use Rattle.format.proofs.PutLaws.{put-one}
 use Rattle.lists.specs.declared.Extent.{Extent}
-use Rattle.search.specs.Owners.{owner}
-use Rattle.search.specs.Chains.{Owned}
+use Rattle.owners.specs.Owners.{owner}
+use Rattle.owners.specs.Chains.{Owned}
 use Rattle.records.proofs.LabelLaws.{numbers-append}
 use Rattle.dwarf.specs.declared.Table.{Table}
 use Rattle.dwarf.specs.declared.Chosen.{Chosen}
 use Rattle.dwarf.specs.Parts.{Inputs, countIn, extentIn, bytesIn, relocsIn, sitesIn, partBehind, partsTo}
 use Rattle.dwarf.specs.Pieces.{partIn}
 use Rattle.dwarf.specs.Tables.{totalsIn, chosenBy, PieceReady, nothing, Stored, Added, Written, Holds}
-use Rattle.dwarf.specs.Sure.{Cleared, PartReady}
+use Rattle.dwarf.specs.Writable.{Cleared, PartReady}
 use Rattle.dwarf.proofs.Owners.{owner-bound}
 use Rattle.dwarf.proofs.Alignment.{align-ok}
 use Rattle.dwarf.proofs.Fronts.{bytes-next, relocs-next, sites-next}
@@ -65,11 +65,11 @@ module _ {x : Inputs} {k n : ℕ} {t : Table} {places bytes relocs sites : List 
     piece-ready =
         let p : Part = partBehind x k (partsTo x k) in
         record {
-          sound = rw q (r .coming .sure .sound);
-          encoding-fits = rw q (r .coming .sure .encoding-fits);
-          aligned = rw a (align-ok (x .section) (x .machine) (r .coming .sure .sound .machine) _);
-          landings-ready = rw q (r .coming .sure .landings-ready);
-          pairs-ready = rw q (r .coming .sure .pairs-ready);
+          sound = rw q (r .coming .writable .sound);
+          encoding-fits = rw q (r .coming .writable .encoding-fits);
+          aligned = rw a (align-ok (x .section) (x .machine) (r .coming .writable .sound .machine) _);
+          landings-ready = rw q (r .coming .writable .landings-ready);
+          pairs-ready = rw q (r .coming .writable .pairs-ready);
           near = near;
           small = rw (piece-is, r .coming .behind, totals-next x k, ← add-one k) (small-next (r .coming));
           bytes-fit =
@@ -118,7 +118,7 @@ module _ {x : Inputs} {n k : ℕ} {t : Table} {places places′ bytes bytes′ r
     (g : Going x n k t places places′ bytes bytes′ relocs relocs′ sites sites′) where
   pub ready : Cleared x → k < n → PartReady x k n t places′ bytes′ relocs′ sites′
   ready s h = record {
-    coming = record { sure = s .each-one k (omega (arith, g .counted)); counted = g .counted; behind = stores.behind x (g .done) };
+    coming = record { writable = s .each-one k (omega (arith, g .counted)); counted = g .counted; behind = stores.behind x (g .done) };
     fit = stores.fewer x h (stores.holds x (g .done) (g .fit));
     held = stores.held x (g .done) (omega (arith, g .fit .places-fit));
   }

@@ -2,5 +2,5 @@
 pub mod Asks
 pub mod Parts
 pub mod Pieces
-pub mod Sure
+pub mod Writable
 pub mod Tables

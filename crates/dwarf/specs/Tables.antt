@@ -4,17 +4,17 @@ use Prim.Native.Nat.{ℕ, _+_, _*_, _^_, _≤_, _<_}
 use mathlib.Core.Bool.{Bool, true, false}
 use mathlib.Core.List.{List, [], _∷_}
 use lib.ListN.{length, getD}
-use lib.Dec.{leb, eqb}
+use lib.Dec.{eqb}
 use Rattle.format.specs.Prelude.{pick}
 use Rattle.format.proofs.Wrote.{Wrote}
 use Rattle.format.specs.Lists.{numbersOf, field, functionStride, count, mark, sumOf, mostFunctions, mostRecords}
 use Rattle.format.specs.declared.Machine.{Machine}
+use Rattle.format.specs.declared.Counts.{Counts}
 use Rattle.format.specs.Writer.{Part}
 use Rattle.format.proofs.SectionSize.{Aligned}
 use Rattle.lists.specs.declared.Extent.{Extent}
 use Rattle.leading.specs.Functions.{Sound, LandingsReady, PairsReady}
 use Rattle.headers.specs.Kinds.{EncodingFits}
-use Rattle.format.specs.Questions.{Question, ask, andThen}
 use Rattle.dwarf.specs.declared.Table.{Table}
 use Rattle.dwarf.specs.declared.Chosen.{Chosen}
 use Rattle.dwarf.specs.Pieces.{frontIn, frontRelocs, partIn}
@@ -53,12 +53,9 @@ pub record SizeReady (own debug : Bool) (m : Machine) (align : ℕ) (e : Extent)
   pub pairs-ready : e .relaxed ≡ true → PairsReady e pairs
   pub small : Small (grownBy t (partIn own debug m align (t .bytes) 0 (t .sites) e rows landings pairs))
 
--- questions 51 to 54 by numbers: n header places and t, into lists of such lengths
-unfoldable pub roomFor : (n : ℕ) → Table → (places : ℕ) → Table → Question
-roomFor n t places lent =
-    andThen (ask (leb n places) 51 0)
-    (andThen (ask (leb (t .bytes) (lent .bytes)) 52 0)
-    (andThen (ask (leb (t .relocations) (lent .relocations)) 53 0) (ask (leb (t .sites) (lent .sites)) 54 0)))
+-- a table's counts behind n header places, in the elements of the lent lists
+abbrev pub countsOf : (n : ℕ) → Table → Counts
+countsOf n t = record { places = n; bytes = t .bytes; relocations = t .relocations; sites = t .sites }
 
 -- ---- what a list of functions can be at most
 

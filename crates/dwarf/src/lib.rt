@@ -14,13 +14,14 @@ ghost use Rattle.format.specs.Writer.{isDebug, alignFor};
 ghost use Rattle.format.specs.Answers.{Writes};
 ghost use Rattle.format.proofs.Asked.{questionOf};
 ghost use Rattle.lists.specs.Extents.{meant};
+ghost use Rattle.lists.specs.Room.{roomFor};
 ghost use Rattle.format.proofs.SectionSize.{Aligned};
 ghost use Rattle.leading.specs.Functions.{bodyOf, Sound, RowsReady, PairsReady};
 ghost use Rattle.dwarf.specs.Asks.{Askable, AllAskable, askedIn};
 ghost use Rattle.dwarf.specs.Parts.{inputs, writtenIn, partsTo};
-ghost use Rattle.dwarf.specs.Sure.{Cleared, Next, PartReady};
-ghost use Rattle.dwarf.specs.Tables.{totalsIn, grownBy, SizeReady, labelledRows, mostIn, Few, roomFor, FrontReady, FrontStored, PieceReady, Stored, Added, Written, Holds, chosenBy};
-ghost use Rattle.search.specs.Chains.{Owned};
+ghost use Rattle.dwarf.specs.Writable.{Cleared, Next, PartReady};
+ghost use Rattle.dwarf.specs.Tables.{totalsIn, grownBy, SizeReady, labelledRows, mostIn, Few, countsOf, FrontReady, FrontStored, PieceReady, Stored, Added, Written, Holds, chosenBy};
+ghost use Rattle.owners.specs.Chains.{Owned, Unused};
 ghost use Rattle.dwarf.specs.Pieces.{frontIn, relocNumbers, partIn};
 use format::Counts;
 use format::Machine;
@@ -32,13 +33,16 @@ use headers::header_relocs;
 use headers::header_relocs_count;
 use headers::header_size;
 use headers::padding;
-use headers::pointer_size;
+use leading::Kind;
+use leading::kind_of;
 use leading::taken;
 use lists::Extent;
 use lists::extent_at;
 use lists::lists_ok;
 use lists::machine_of;
 use lists::machine_ok;
+use numbers::pointer_size;
+use owners::position;
 use records::call_sites;
 use records::call_sites_size;
 use records::record;
@@ -49,7 +53,6 @@ use rows::offset_at;
 use rows::row_at;
 use rows::row_surely_whole;
 use rows::row_whole;
-use search::wide;
 
 // ---- questions 21 to 25
 
@@ -83,19 +86,19 @@ fn encodings_ok(word: u64, e: Extent) -> bool
     requires { ⌜ 0 < word ⌝ }
     ensures { λ r. ⌜ r ≡ encodingsOk word (bodyOf e [] .landings) (bodyOf e [] .named) ⌝ }
 {
-    if e.landings != 0 {
-        return true;
+    match kind_of(e) {
+        Kind::Plain => true,
+        Kind::Personal => true,
+        Kind::Named => {
+            if pointer_size(true, word, e.encoding) == 0 {
+                return false;
+            }
+            if !e.lsda {
+                return true;
+            }
+            pointer_size(false, word, e.lsda_encoding) != 0
+        }
     }
-    if !e.personality {
-        return true;
-    }
-    if pointer_size(true, word, e.encoding) == 0 {
-        return false;
-    }
-    if !e.lsda {
-        return true;
-    }
-    pointer_size(false, word, e.lsda_encoding) != 0
 }
 
 // Question 23: no row goes back, nor steps above 2^32 - 1.
@@ -187,7 +190,7 @@ fn pair_differs(pairs: &[u64], i: usize) -> bool
     requires { ⌜ 4 * i + 4 ≤ length (now pairs) ⌝ }
     ensures { λ r. ⌜ r ≡ not (eqb (pairAt (now (pairs .entry)) i .place1) (pairAt (now (pairs .entry)) i .place2)) ⌝ }
 {
-    pairs[4 * i] != pairs[4 * i + 1]
+    pairs[lists::PAIR_STRIDE * i] != pairs[lists::PAIR_STRIDE * i + 1]
 }
 
 // Question 25: the two places of each pair are different.
@@ -246,7 +249,7 @@ fn all_asks(s: Section, word: u64, fs: &[u64], rows: &[u64], pairs: &[u64]) -> Q
     requires { ⌜ T (isWord word) × AllAskable s (now fs) (now rows) (now pairs) ⌝ }
     ensures { λ r. ⌜ r ≡ questionOf (perFunction (dwarfAsks s word) 0 (each (askedIn s (now (fs .entry)) (now (rows .entry)) (now (pairs .entry))) 0 (count functionStride (now (fs .entry))))) ⌝ }
 {
-    let n = fs.len() / 18;
+    let n = fs.len() / lists::FUNCTION_STRIDE;
     let mut k = 0;
     while k < n {
         let e = taken(s, extent_at(fs, k));
@@ -333,9 +336,9 @@ fn relocs_size(own: bool, debug: bool, m: Machine, e: Extent, rows: &[u64], pair
 {
     let n = record_relocs_count(debug, m, e, rows, pairs);
     if own {
-        return 5 * (header_relocs_count(debug, e) + n);
+        return relocs::RELOCATION_STRIDE * (header_relocs_count(debug, e) + n);
     }
-    5 * n
+    relocs::RELOCATION_STRIDE * n
 }
 
 // What stands behind a function that is behind t. The place of a header that it does not own does not matter.
@@ -378,7 +381,7 @@ fn size_next(
     ensures { λ r. ⌜ r ≡ totalsIn (partsTo (inputs s m (now (fs .entry)) (now (rows .entry)) (now (landings .entry)) (now (pairs .entry))) (k + 1)) ⌝ }
 {
     let e = taken(s, extent_at(fs, k));
-    let own = wide(owners[k]) == k;
+    let own = position(owners[k]) == k;
     let align = align_for(s, m.word, k + 1 == n);
     sized(own, is_debug(s), m, align, e, t, rows, landings, pairs)
 }
@@ -396,7 +399,7 @@ fn sizes(
     requires { ⌜ Cleared (inputs s m (now fs) (now rows) (now landings) (now pairs)) × Owned s m (now fs) (now rows) (count functionStride (now fs)) (now owners) ⌝ }
     ensures { λ r. ⌜ r ≡ totalsIn (partsTo (inputs s m (now (fs .entry)) (now (rows .entry)) (now (landings .entry)) (now (pairs .entry))) (count functionStride (now (fs .entry)))) ⌝ }
 {
-    let n = fs.len() / 18;
+    let n = fs.len() / lists::FUNCTION_STRIDE;
     let mut t = Table::NOTHING;
     let mut k = 0;
     while k < n {
@@ -416,7 +419,7 @@ fn total(fs: &[u64], j: usize, n: usize) -> u64
     let mut sum = 0;
     let mut k = 0;
     while k < n {
-        sum += fs[18 * k + j];
+        sum += fs[lists::FUNCTION_STRIDE * k + j];
         k += 1;
     }
     sum
@@ -427,10 +430,10 @@ fn labelled_rows(fs: &[u64], k: usize) -> u64
     requires { ⌜ 18 * k + 18 ≤ length (now fs) ⌝ }
     ensures { λ r. ⌜ r ≡ labelledRows (now (fs .entry)) k ⌝ }
 {
-    if fs[18 * k + 14] == 0 {
+    if fs[lists::FUNCTION_STRIDE * k + 14] == 0 {
         return 0;
     }
-    fs[18 * k + 3]
+    fs[lists::FUNCTION_STRIDE * k + 3]
 }
 
 // Those of n functions, summed.
@@ -452,7 +455,7 @@ fn most(fs: &[u64]) -> Table
     requires { ⌜ Few (now fs) ⌝ }
     ensures { λ r. ⌜ r ≡ mostIn (now (fs .entry)) ⌝ }
 {
-    let n = fs.len() / 18;
+    let n = fs.len() / lists::FUNCTION_STRIDE;
     Table {
         bytes: 96 * n + 14 * total(fs, 3, n) as usize,
         relocations: 25 * n + 10 * labelled_total(fs, n) as usize,
@@ -460,23 +463,23 @@ fn most(fs: &[u64]) -> Table
     }
 }
 
+// A table's counts behind n header places, in the elements of the lent lists.
+fn counts(n: usize, t: Table) -> Counts
+    ensures { λ r. ⌜ r ≡ countsOf n t ⌝ }
+{
+    Counts {
+        places: n as u64,
+        bytes: t.bytes as u64,
+        relocations: t.relocations as u64,
+        sites: t.sites as u64,
+    }
+}
+
 // Questions 51 to 54: n header places and t fit the lists that are lent, of `places` elements and as many as `lent` says.
 fn room(n: usize, t: Table, places: usize, lent: Table) -> Question
-    ensures { λ r. ⌜ r ≡ questionOf (roomFor n t places lent) ⌝ }
+    ensures { λ r. ⌜ r ≡ questionOf (roomFor (countsOf n t) (countsOf places lent)) ⌝ }
 {
-    if places < n {
-        return Question::No(51, 0);
-    }
-    if lent.bytes < t.bytes {
-        return Question::No(52, 0);
-    }
-    if lent.relocations < t.relocations {
-        return Question::No(53, 0);
-    }
-    if lent.sites < t.sites {
-        return Question::No(54, 0);
-    }
-    Question::Yes
+    lists::room(counts(n, t), counts(places, lent))
 }
 
 // ---- the writing pass
@@ -554,7 +557,7 @@ fn header_for(k: usize, at: usize, owners: &[u16], places: &[u64]) -> Chosen
     requires { ⌜ (k < length (now owners)) × (getD (now owners) k 0 ≤ k) × (k ≤ length (now places)) ⌝ }
     ensures { λ r. ⌜ r ≡ chosenBy (getD (now (owners .entry)) k 0) k at (now (places .entry)) ⌝ }
 {
-    let o = wide(owners[k]);
+    let o = position(owners[k]);
     if o == k {
         return Chosen { own: true, cie: at };
     }
@@ -621,7 +624,7 @@ fn store(
     requires { ⌜ Cleared (inputs s m (now fs) (now rows) (now landings) (now pairs)) × Holds (inputs s m (now fs) (now rows) (now landings) (now pairs)) (count functionStride (now fs)) (now places) (now out) (now relocs) (now sites) × Owned s m (now fs) (now rows) (count functionStride (now fs)) (now owners) ⌝ }
     ensures { λ r. ⌜ Written (inputs s m (now (fs .entry)) (now (rows .entry)) (now (landings .entry)) (now (pairs .entry))) (count functionStride (now (fs .entry))) r (now (places .entry)) (now (places .exit)) (now (out .entry)) (now (out .exit)) (now (relocs .entry)) (now (relocs .exit)) (now (sites .entry)) (now (sites .exit)) ⌝ }
 {
-    let functions = fs.len() / 18;
+    let functions = fs.len() / lists::FUNCTION_STRIDE;
     let mut t = Table::NOTHING;
     let mut k = 0;
     while k < functions {
@@ -665,7 +668,7 @@ fn stored(
     requires { ⌜ Cleared (inputs s m (now fs) (now rows) (now landings) (now pairs)) × Holds (inputs s m (now fs) (now rows) (now landings) (now pairs)) (count functionStride (now fs)) (now places) (now out) (now relocs) (now sites) × Owned s m (now fs) (now rows) (count functionStride (now fs)) (now owners) ⌝ }
     ensures { λ r. ⌜ Writes (fitting (roomIn (now (places .entry)) (now (out .entry)) (now (relocs .entry)) (now (sites .entry))) (writtenIn (partsTo (inputs s m (now (fs .entry)) (now (rows .entry)) (now (landings .entry)) (now (pairs .entry))) (count functionStride (now (fs .entry)))))) r (now (places .entry)) (now (places .exit)) (now (out .entry)) (now (out .exit)) (now (relocs .entry)) (now (relocs .exit)) (now (sites .entry)) (now (sites .exit)) ⌝ }
 {
-    let n = fs.len() / 18;
+    let n = fs.len() / lists::FUNCTION_STRIDE;
     let t = store(
         s,
         m,
@@ -682,7 +685,7 @@ fn stored(
     Outcome::Accepted(Counts {
         places: n as u64,
         bytes: t.bytes as u64,
-        relocations: (t.relocations / 5) as u64,
+        relocations: (t.relocations / relocs::RELOCATION_STRIDE) as u64,
         sites: t.sites as u64,
     })
 }
@@ -704,7 +707,7 @@ fn measured(
     requires { ⌜ Cleared (inputs s m (now fs) (now rows) (now landings) (now pairs)) × Owned s m (now fs) (now rows) (count functionStride (now fs)) (now owners) ⌝ }
     ensures { λ r. ⌜ Writes (fitting (roomIn (now (places .entry)) (now (out .entry)) (now (relocs .entry)) (now (sites .entry))) (writtenIn (partsTo (inputs s m (now (fs .entry)) (now (rows .entry)) (now (landings .entry)) (now (pairs .entry))) (count functionStride (now (fs .entry)))))) r (now (places .entry)) (now (places .exit)) (now (out .entry)) (now (out .exit)) (now (relocs .entry)) (now (relocs .exit)) (now (sites .entry)) (now (sites .exit)) ⌝ }
 {
-    let n = fs.len() / 18;
+    let n = fs.len() / lists::FUNCTION_STRIDE;
     let t = sizes(s, m, fs, rows, landings, pairs, owners);
     let lent = Table {
         bytes: out.len(),
@@ -730,8 +733,8 @@ fn measured(
     )
 }
 
-// The functions, whose owners are known, written where there is room. Lists that hold all that functions like these can be
-// save the pass that sizes them.
+// The functions written where there is room; their owners are found first, in the lists lent for that. Lists that hold all
+// that functions like these can be save the pass that sizes them.
 fn fitted(
     s: Section,
     m: Machine,
@@ -739,16 +742,19 @@ fn fitted(
     rows: &[u64],
     landings: &[u64],
     pairs: &[u64],
-    owners: &[u16],
+    heads: &mut [u16],
+    links: &mut [u16],
+    owners: &mut [u16],
     places: &mut [u64],
     out: &mut [u8],
     relocs: &mut [u64],
     sites: &mut [u8],
 ) -> Outcome
-    requires { ⌜ Cleared (inputs s m (now fs) (now rows) (now landings) (now pairs)) × Owned s m (now fs) (now rows) (count functionStride (now fs)) (now owners) ⌝ }
+    requires { ⌜ Cleared (inputs s m (now fs) (now rows) (now landings) (now pairs)) × Unused (count functionStride (now fs)) (now heads) (now links) (now owners) ⌝ }
     ensures { λ r. ⌜ Writes (fitting (roomIn (now (places .entry)) (now (out .entry)) (now (relocs .entry)) (now (sites .entry))) (writtenIn (partsTo (inputs s m (now (fs .entry)) (now (rows .entry)) (now (landings .entry)) (now (pairs .entry))) (count functionStride (now (fs .entry)))))) r (now (places .entry)) (now (places .exit)) (now (out .entry)) (now (out .exit)) (now (relocs .entry)) (now (relocs .exit)) (now (sites .entry)) (now (sites .exit)) ⌝ }
 {
-    let n = fs.len() / 18;
+    let n = fs.len() / lists::FUNCTION_STRIDE;
+    owners::owners(s, m, fs, rows, n, heads, links, owners);
     let lent = Table {
         bytes: out.len(),
         relocations: relocs.len(),
@@ -785,140 +791,8 @@ fn fitted(
     )
 }
 
-// 64 functions at most.
-fn fitted_64(
-    s: Section,
-    m: Machine,
-    fs: &[u64],
-    rows: &[u64],
-    landings: &[u64],
-    pairs: &[u64],
-    places: &mut [u64],
-    out: &mut [u8],
-    relocs: &mut [u64],
-    sites: &mut [u8],
-) -> Outcome
-    requires { ⌜ Cleared (inputs s m (now fs) (now rows) (now landings) (now pairs)) × (count functionStride (now fs) ≤ 64) ⌝ }
-    ensures { λ r. ⌜ Writes (fitting (roomIn (now (places .entry)) (now (out .entry)) (now (relocs .entry)) (now (sites .entry))) (writtenIn (partsTo (inputs s m (now (fs .entry)) (now (rows .entry)) (now (landings .entry)) (now (pairs .entry))) (count functionStride (now (fs .entry)))))) r (now (places .entry)) (now (places .exit)) (now (out .entry)) (now (out .exit)) (now (relocs .entry)) (now (relocs .exit)) (now (sites .entry)) (now (sites .exit)) ⌝ }
-{
-    let mut heads = [0u16; 61];
-    let mut links = [0u16; 64];
-    let mut owners = [0u16; 64];
-    search::owners(
-        s,
-        m,
-        fs,
-        rows,
-        fs.len() / 18,
-        &mut heads,
-        &mut links,
-        &mut owners,
-    );
-    fitted(
-        s,
-        m,
-        fs,
-        rows,
-        landings,
-        pairs,
-        &owners,
-        places,
-        out,
-        relocs,
-        sites,
-    )
-}
-
-// 2,048 at most.
-fn fitted_2048(
-    s: Section,
-    m: Machine,
-    fs: &[u64],
-    rows: &[u64],
-    landings: &[u64],
-    pairs: &[u64],
-    places: &mut [u64],
-    out: &mut [u8],
-    relocs: &mut [u64],
-    sites: &mut [u8],
-) -> Outcome
-    requires { ⌜ Cleared (inputs s m (now fs) (now rows) (now landings) (now pairs)) × (count functionStride (now fs) ≤ 2048) ⌝ }
-    ensures { λ r. ⌜ Writes (fitting (roomIn (now (places .entry)) (now (out .entry)) (now (relocs .entry)) (now (sites .entry))) (writtenIn (partsTo (inputs s m (now (fs .entry)) (now (rows .entry)) (now (landings .entry)) (now (pairs .entry))) (count functionStride (now (fs .entry)))))) r (now (places .entry)) (now (places .exit)) (now (out .entry)) (now (out .exit)) (now (relocs .entry)) (now (relocs .exit)) (now (sites .entry)) (now (sites .exit)) ⌝ }
-{
-    let mut heads = [0u16; 2039];
-    let mut links = [0u16; 2048];
-    let mut owners = [0u16; 2048];
-    search::owners(
-        s,
-        m,
-        fs,
-        rows,
-        fs.len() / 18,
-        &mut heads,
-        &mut links,
-        &mut owners,
-    );
-    fitted(
-        s,
-        m,
-        fs,
-        rows,
-        landings,
-        pairs,
-        &owners,
-        places,
-        out,
-        relocs,
-        sites,
-    )
-}
-
-// As many as there may be.
-fn fitted_65536(
-    s: Section,
-    m: Machine,
-    fs: &[u64],
-    rows: &[u64],
-    landings: &[u64],
-    pairs: &[u64],
-    places: &mut [u64],
-    out: &mut [u8],
-    relocs: &mut [u64],
-    sites: &mut [u8],
-) -> Outcome
-    requires { ⌜ Cleared (inputs s m (now fs) (now rows) (now landings) (now pairs)) × (count functionStride (now fs) ≤ 65536) ⌝ }
-    ensures { λ r. ⌜ Writes (fitting (roomIn (now (places .entry)) (now (out .entry)) (now (relocs .entry)) (now (sites .entry))) (writtenIn (partsTo (inputs s m (now (fs .entry)) (now (rows .entry)) (now (landings .entry)) (now (pairs .entry))) (count functionStride (now (fs .entry)))))) r (now (places .entry)) (now (places .exit)) (now (out .entry)) (now (out .exit)) (now (relocs .entry)) (now (relocs .exit)) (now (sites .entry)) (now (sites .exit)) ⌝ }
-{
-    let mut heads = [0u16; 16381];
-    let mut links = [0u16; 65536];
-    let mut owners = [0u16; 65536];
-    search::owners(
-        s,
-        m,
-        fs,
-        rows,
-        fs.len() / 18,
-        &mut heads,
-        &mut links,
-        &mut owners,
-    );
-    fitted(
-        s,
-        m,
-        fs,
-        rows,
-        landings,
-        pairs,
-        &owners,
-        places,
-        out,
-        relocs,
-        sites,
-    )
-}
-
-// The functions sized and, where there is room, written. The lists that the search works in lie on the stack, and clearing them
-// for a few functions is to cost little.
+// The functions sized and, where there is room, written. The lists that their owners are found in lie on the stack, and
+// clearing them for a few functions is to cost little: there are three sizes of them.
 fn deliver(
     s: Section,
     m: Machine,
@@ -934,14 +808,65 @@ fn deliver(
     requires { ⌜ Cleared (inputs s m (now fs) (now rows) (now landings) (now pairs)) ⌝ }
     ensures { λ r. ⌜ Writes (fitting (roomIn (now (places .entry)) (now (out .entry)) (now (relocs .entry)) (now (sites .entry))) (writtenIn (partsTo (inputs s m (now (fs .entry)) (now (rows .entry)) (now (landings .entry)) (now (pairs .entry))) (count functionStride (now (fs .entry)))))) r (now (places .entry)) (now (places .exit)) (now (out .entry)) (now (out .exit)) (now (relocs .entry)) (now (relocs .exit)) (now (sites .entry)) (now (sites .exit)) ⌝ }
 {
-    let n = fs.len() / 18;
+    let n = fs.len() / lists::FUNCTION_STRIDE;
     if n <= 64 {
-        return fitted_64(s, m, fs, rows, landings, pairs, places, out, relocs, sites);
+        let mut heads = [0u16; 61];
+        let mut links = [0u16; 64];
+        let mut owners = [0u16; 64];
+        return fitted(
+            s,
+            m,
+            fs,
+            rows,
+            landings,
+            pairs,
+            &mut heads,
+            &mut links,
+            &mut owners,
+            places,
+            out,
+            relocs,
+            sites,
+        );
     }
     if n <= 2048 {
-        return fitted_2048(s, m, fs, rows, landings, pairs, places, out, relocs, sites);
+        let mut heads = [0u16; 2039];
+        let mut links = [0u16; 2048];
+        let mut owners = [0u16; 2048];
+        return fitted(
+            s,
+            m,
+            fs,
+            rows,
+            landings,
+            pairs,
+            &mut heads,
+            &mut links,
+            &mut owners,
+            places,
+            out,
+            relocs,
+            sites,
+        );
     }
-    fitted_65536(s, m, fs, rows, landings, pairs, places, out, relocs, sites)
+    let mut heads = [0u16; 16381];
+    let mut links = [0u16; 65536];
+    let mut owners = [0u16; 65536];
+    fitted(
+        s,
+        m,
+        fs,
+        rows,
+        landings,
+        pairs,
+        &mut heads,
+        &mut links,
+        &mut owners,
+        places,
+        out,
+        relocs,
+        sites,
+    )
 }
 
 // A DWARF section of functions: headers and records, their relocations, the call sites, and each function's header place. A

@@ -1,10 +1,8 @@
 -- The lemmas of this crate's functions.
 pub mod Entries
-pub mod Pointers
 pub mod Tails
 pub mod Turns
 pub mod Words
 pub mod Lengths
 pub mod Keys
 pub mod Personalities
-pub mod Encodings

@@ -19,7 +19,8 @@ use Rattle.format.specs.Headers.{plain, personal, named, Key, sizeOf, sizeOr0, 
 use Rattle.format.proofs.Choice.{if-eq, if-ne}
 use Rattle.format.proofs.LebBack.{little-length}
 use Rattle.lists.specs.declared.Extent.{Extent}
-use Rattle.headers.specs.Kinds.{lsdaOf, kindIn, ending, middle, flag, namedLetters, namedData, tailOf}
+use Rattle.leading.specs.Kinds.{lsdaOf, lsdaIn, kindIn}
+use Rattle.headers.specs.Kinds.{ending, middle, flag, namedLetters, namedData, tailOf}
 
 -- ---- the data alignment factor as the machine computes it
 
@@ -76,7 +77,7 @@ module _ (e : Extent) where
 
   module _ (h : e .landings ≡ 0) where
     pub kind-named : e .personality ≡ true → kindIn e ≡ named (e .encoding) (e .routine) (lsdaOf (e .lsda) (e .«lsda_encoding»))
-    unfolding kindIn pick
+    unfolding kindIn lsdaIn pick
     kind-named t = rw (if-eq (e .landings) 0, t)
 
     pub kind-plain : e .personality ≡ false → kindIn e ≡ plain

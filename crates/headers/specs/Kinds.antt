@@ -1,27 +1,16 @@
--- A header's kind by a function's record, and the parts of its fields.
+-- The parts of a header's fields.
 use mathlib.Core.Path.{_≡_}
 use Prim.Native.Nat.{ℕ, _<_}
 use mathlib.Core.Bool.{Bool, true}
-use mathlib.Core.Option.{Option, none, some}
 use mathlib.Core.List.{List, [], _∷_, _++_}
 use lib.ListN.{replicate}
 use lib.Dec.{eqb}
 use Rattle.format.specs.Prelude.{pick}
 use Rattle.format.specs.Leb.{uleb, sleb}
 use Rattle.format.specs.Constants.{pcrelSdata4}
-use Rattle.format.specs.Headers.{Kind, plain, personal, named, Key, letters, lsdaLetter, augmentationData, counted, dataFactor}
+use Rattle.format.specs.Headers.{Kind, Key, letters, lsdaLetter, augmentationData, counted, dataFactor}
 use Rattle.lists.specs.declared.Extent.{Extent}
-
--- the LSDA's encoding, if there is an LSDA
-unfoldable pub lsdaOf : Bool → ℕ → Option ℕ
-lsdaOf has l = pick has (some l) none
-
--- landings beat a named personality
-unfoldable pub kindIn : Extent → Kind
-kindIn e =
-    pick (eqb (e .landings) 0)
-    (pick (e .personality) (named (e .encoding) (e .routine) (lsdaOf (e .lsda) (e .«lsda_encoding»))) plain)
-    personal
+use Rattle.leading.specs.Kinds.{lsdaOf, kindIn}
 
 -- the key without its rows: all that the fields and the relocations depend on
 unfoldable pub headIn : Extent → Key

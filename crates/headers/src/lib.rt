@@ -1,4 +1,4 @@
-// Headers (CIE): their bytes, sizes and relocations. Ported from rucc-asm/src/unwind.rs (header, personal_header, named_header, pointer, pointer_size, starts, pad) of tamnd/rucc, changed: see NOTICE.
+// Headers (CIE): their bytes, sizes and relocations. Ported from rucc-asm/src/unwind.rs (header, personal_header, named_header, pointer, starts, pad) of tamnd/rucc, changed: see NOTICE.
 ghost use mathlib.Core.Path.{_≡_};
 ghost use mathlib.Core.Bool.{true};
 ghost use mathlib.Core.List.{[], _∷_};
@@ -7,13 +7,16 @@ ghost use lib.ListN.{length};
 ghost use Rattle.format.proofs.Wrote.{Wrote};
 ghost use Rattle.format.specs.Rows.{rowsBytes};
 ghost use Rattle.format.specs.Lists.{numbersOf};
-ghost use Rattle.format.specs.Headers.{leading, padding, sizeOf, sizeOr0, pointerSize, pointerBytes, pointerReloc, plain, personal, named, letters, lsdaLetter, augmentationData, headerId, dataFactor, headerFields, headerBytes, pointerPlace, headerRelocs};
+ghost use Rattle.format.specs.Headers.{leading, padding, pointerReloc, plain, personal, named, letters, lsdaLetter, augmentationData, dataFactor, headerFields, headerBytes, pointerPlace, headerRelocs};
 ghost use Rattle.format.proofs.Fits.{MachineFits};
 ghost use Rattle.format.proofs.SectionSize.{Aligned};
 ghost use Rattle.leading.specs.Functions.{bodyOf, keyIn, Sound};
 ghost use Rattle.headers.specs.Entries.{Closed};
-ghost use Rattle.headers.specs.Kinds.{lsdaOf, kindIn, headIn, EncodingFits, NamedFits, ending, middle, flag, namedLetters, namedData, tailOf, headerRelocCount};
+ghost use Rattle.leading.specs.Kinds.{lsdaOf, kindIn};
+ghost use Rattle.headers.specs.Kinds.{headIn, EncodingFits, NamedFits, ending, middle, flag, namedLetters, namedData, tailOf, headerRelocCount};
 use format::Machine;
+use leading::Kind;
+use leading::kind_of;
 use lists::Extent;
 
 // ---- the end of an entry
@@ -52,37 +55,10 @@ pub fn pad(out: &mut [u8], start: usize, at: usize, align: usize) -> usize
 
 // ---- pointers by their encodings
 
-// The bytes of a pointer: 0 where the encoding is none that is written.
-fn size_of(word: u64, e: u64) -> u64
-    ensures { λ r. ⌜ r ≡ sizeOr0 (sizeOf word e) ⌝ }
-{
-    match e {
-        0x00 => word,
-        0x03 | 0x0b | 0x13 | 0x1b => 4,
-        0x04 | 0x0c => 8,
-        _ => 0,
-    }
-}
+// DW_EH_PE_pcrel | DW_EH_PE_sdata4, and the same read through a pointer (DW_EH_PE_indirect).
+const PCREL_SDATA4: u64 = 0x1b;
 
-// The bytes that are written for a pointer, whatever its indirect bit says.
-pub fn pointer_bytes(word: u64, e: u64) -> u64
-    ensures { λ r. ⌜ (r ≡ pointerBytes word e) × (word ≤ 8 → r ≤ 8) ⌝ }
-{
-    size_of(word, e % 128)
-}
-
-// Question 22 of one encoding: 0 where it is not accepted, else the pointer's bytes. The indirect bit is taken for a personality only.
-pub fn pointer_size(indirect: bool, word: u64, e: u64) -> u64
-    ensures { λ r. ⌜ r ≡ sizeOr0 (pointerSize indirect word e) ⌝ }
-{
-    if e < 128 {
-        return size_of(word, e % 128);
-    }
-    if indirect {
-        return size_of(word, e % 128);
-    }
-    0
-}
+const INDIRECT_PCREL_SDATA4: u64 = 0x9b;
 
 // A pointer's relocation: a distance of 4 bytes where it is relative, else an address.
 pub fn pointer(out: &mut [u64], i: usize, word: u64, place: u64, symbol: u64, e: u64) -> usize
@@ -90,9 +66,17 @@ pub fn pointer(out: &mut [u64], i: usize, word: u64, place: u64, symbol: u64, e:
     ensures { λ r. ⌜ Wrote (now (out .entry)) (now (out .exit)) i r (numbersOf (pointerReloc word place symbol e ∷ [])) ⌝ }
 {
     if 16 <= e % 128 {
-        return relocs::relocation(out, i, place, symbol, 0, 4, 0);
+        return relocs::relocation(out, i, place, symbol, relocs::DATA, 4, 0);
     }
-    relocs::relocation(out, i, place, symbol, 1, pointer_bytes(word, e), 0)
+    relocs::relocation(
+        out,
+        i,
+        place,
+        symbol,
+        relocs::ADDRESS,
+        numbers::pointer_bytes(word, e),
+        0,
+    )
 }
 
 // ---- the fields
@@ -173,7 +157,7 @@ fn named_data(out: &mut [u8], at: usize, e: u64, size: usize, lsda: bool, l: u64
     let a = leb::byte(out, at, e as u8);
     let b = leb::fill(out, a, size);
     let c = lsda_letter(out, b, lsda, l);
-    leb::byte(out, c, 0x1b)
+    leb::byte(out, c, PCREL_SDATA4 as u8)
 }
 
 // A personality by its encoding, and an LSDA by its.
@@ -192,7 +176,7 @@ fn named_header(
 {
     let a = named_letters(out, at, lsda);
     let b = middle(out, a, word, ret, signal);
-    let size = pointer_bytes(word, e);
+    let size = numbers::pointer_bytes(word, e);
     let c = leb::uleb(out, b, 2 + size + flag(lsda));
     named_data(out, c, e, size as usize, lsda, l)
 }
@@ -202,19 +186,27 @@ fn personal_header(out: &mut [u8], at: usize, word: u64, ret: u64, signal: bool)
     requires { ⌜ (word ≤ 8) × (at + length (tailOf word ret signal personal) ≤ length (now out)) ⌝ }
     ensures { λ r. ⌜ Wrote (now (out .entry)) (now (out .exit)) at r (tailOf word ret signal personal) ⌝ }
 {
-    named_header(out, at, word, ret, signal, 0x9b, true, 0x1b)
+    named_header(
+        out,
+        at,
+        word,
+        ret,
+        signal,
+        INDIRECT_PCREL_SDATA4,
+        true,
+        PCREL_SDATA4,
+    )
 }
 
-// What follows the version, by the function's record: landings beat a named personality.
+// What follows the version, by the function's record.
 fn tail(out: &mut [u8], at: usize, m: Machine, e: Extent) -> usize
     requires { ⌜ (m .word ≤ 8) × NamedFits e × (at + length (tailOf (m .word) (m .ret) (e .signal) (kindIn e)) ≤ length (now out)) ⌝ }
     ensures { λ r. ⌜ Wrote (now (out .entry)) (now (out .exit)) at r (tailOf (m .word) (m .ret) (e .signal) (kindIn e)) ⌝ }
 {
-    if e.landings != 0 {
-        return personal_header(out, at, m.word, m.ret, e.signal);
-    }
-    if e.personality {
-        return named_header(
+    match kind_of(e) {
+        Kind::Plain => plain_header(out, at, m.word, m.ret, e.signal),
+        Kind::Personal => personal_header(out, at, m.word, m.ret, e.signal),
+        Kind::Named => named_header(
             out,
             at,
             m.word,
@@ -223,15 +215,8 @@ fn tail(out: &mut [u8], at: usize, m: Machine, e: Extent) -> usize
             e.encoding,
             e.lsda,
             e.lsda_encoding,
-        );
+        ),
     }
-    plain_header(out, at, m.word, m.ret, e.signal)
-}
-
-fn header_id(debug: bool) -> u64
-    ensures { λ r. ⌜ r ≡ headerId debug ⌝ }
-{
-    if debug { 0xffffffff } else { 0 }
 }
 
 // The fields in front of the rows. In debug_frame there is no augmentation but the signal mark.
@@ -239,7 +224,7 @@ fn fields(out: &mut [u8], at: usize, debug: bool, m: Machine, e: Extent) -> usiz
     requires { ⌜ (m .word ≤ 8) × NamedFits e × (at + length (headerFields debug m (headIn e)) ≤ length (now out)) ⌝ }
     ensures { λ r. ⌜ Wrote (now (out .entry)) (now (out .exit)) at r (headerFields debug m (headIn e)) ⌝ }
 {
-    let a = leb::le(out, at, 4, header_id(debug));
+    let a = leb::le(out, at, 4, numbers::header_id(debug));
     let b = leb::byte(out, a, 1);
     if debug {
         return middle(out, b, m.word, m.ret, e.signal);
@@ -293,13 +278,11 @@ fn middle_size(word: u64, ret: u64, signal: bool) -> usize
 fn letters_size(e: Extent) -> usize
     ensures { λ r. ⌜ (r ≡ length (letters (kindIn e))) × (r ≤ 4) ⌝ }
 {
-    if e.landings != 0 {
-        return 4;
+    match kind_of(e) {
+        Kind::Plain => 2,
+        Kind::Personal => 4,
+        Kind::Named => 3 + flag(e.lsda) as usize,
     }
-    if e.personality {
-        return 3 + flag(e.lsda) as usize;
-    }
-    2
 }
 
 // How many bytes the augmentation data has.
@@ -307,13 +290,13 @@ fn data_size(word: u64, e: Extent) -> usize
     requires { ⌜ word ≤ 8 ⌝ }
     ensures { λ r. ⌜ (r ≡ length (augmentationData word (kindIn e))) × (r ≤ 11) ⌝ }
 {
-    if e.landings != 0 {
-        return 7;
+    match kind_of(e) {
+        Kind::Plain => 1,
+        Kind::Personal => 7,
+        Kind::Named => {
+            2 + numbers::pointer_bytes(word, e.encoding) as usize + flag(e.lsda) as usize
+        }
     }
-    if e.personality {
-        return 2 + pointer_bytes(word, e.encoding) as usize + flag(e.lsda) as usize;
-    }
-    1
 }
 
 // How many bytes `fields` stores; the data's length is one of them.
@@ -373,10 +356,11 @@ pub fn header_relocs_count(debug: bool, e: Extent) -> usize
     if debug {
         return 0;
     }
-    if e.landings != 0 {
-        return 1;
+    match kind_of(e) {
+        Kind::Plain => 0,
+        Kind::Personal => 1,
+        Kind::Named => 1,
     }
-    flag(e.personality) as usize
 }
 
 // The place of the personality's pointer, behind its encoding, the first byte of the augmentation data.
@@ -399,12 +383,26 @@ pub fn header_relocs(
     requires { ⌜ MachineFits m × (at < 2 ^ 32) × (i + 5 * headerRelocCount debug e ≤ length (now out)) ⌝ }
     ensures { λ r. ⌜ Wrote (now (out .entry)) (now (out .exit)) i r (numbersOf (headerRelocs debug m at (keyIn m e []))) ⌝ }
 {
-    if header_relocs_count(debug, e) == 0 {
+    if debug {
         return i;
     }
-    let place = pointer_place(m, at, e);
-    if e.landings != 0 {
-        return pointer(out, i, m.word, place, 0, 0x9b);
+    match kind_of(e) {
+        Kind::Plain => i,
+        Kind::Personal => pointer(
+            out,
+            i,
+            m.word,
+            pointer_place(m, at, e),
+            relocs::PERSONALITY,
+            INDIRECT_PCREL_SDATA4,
+        ),
+        Kind::Named => pointer(
+            out,
+            i,
+            m.word,
+            pointer_place(m, at, e),
+            e.routine,
+            e.encoding,
+        ),
     }
-    pointer(out, i, m.word, place, e.routine, e.encoding)
 }

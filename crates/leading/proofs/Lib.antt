@@ -2,4 +2,5 @@
 pub mod Calls
 pub mod Counting
 pub mod Functions
+pub mod KindMeans
 pub mod Places

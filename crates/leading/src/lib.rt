@@ -9,6 +9,7 @@ ghost use Rattle.format.specs.Headers.{implied, leads, ahead, leading};
 ghost use Rattle.format.specs.Lists.{rowAt};
 ghost use Rattle.format.proofs.Fits.{MachineFits};
 ghost use Rattle.leading.specs.Functions.{takenIn, bodyOf, RowsReady};
+ghost use Rattle.leading.specs.Kinds.{Decides};
 use format::Machine;
 use format::Row;
 use format::Section;
@@ -29,7 +30,32 @@ pub fn taken(s: Section, e: Extent) -> Extent
     t
 }
 
+// ---- the kind of a header
+
+// What a header names: no personality, that of functions with landings, or one by its symbol.
+pub enum Kind {
+    Plain,
+    Personal,
+    Named,
+}
+
+// The kind of header that a function asks for. Landings beat a named personality.
+pub fn kind_of(e: Extent) -> Kind
+    ensures { λ r. ⌜ Decides e r ⌝ }
+{
+    if e.landings != 0 {
+        return Kind::Personal;
+    }
+    if e.personality {
+        return Kind::Named;
+    }
+    Kind::Plain
+}
+
 // ---- leading rows
+
+// The kind of a RememberState.
+const REMEMBER_STATE: u64 = 6;
 
 // Row i is at offset 0 and no RememberState.
 fn leads_at(rows: &[u64], i: usize) -> bool
@@ -39,7 +65,7 @@ fn leads_at(rows: &[u64], i: usize) -> bool
     if rows::offset_at(rows, i) != 0 {
         return false;
     }
-    rows[4 * i + 1] != 6
+    rows[lists::ROW_STRIDE * i + 1] != REMEMBER_STATE
 }
 
 // How many of the n rows from `at` on lead.

@@ -29,24 +29,10 @@ pub fn unlisted(number: u64) -> Listed
     }
 }
 
-// Numbers whose positions lie in the section, and whose word is one.
 fn in_section(section: &[u8], l: Located) -> bool
     ensures { λ r. ⌜ r ≡ inSection (now (section .entry)) (readerPlaces l) ⌝ }
 {
-    let n = section.len() as u64;
-    if l.header_end < l.header {
-        return false;
-    }
-    if n < l.header_end {
-        return false;
-    }
-    if l.record_end < l.record {
-        return false;
-    }
-    if n < l.record_end {
-        return false;
-    }
-    reader::is_word(l.word)
+    reader::in_section(section, reads::reader_places(l))
 }
 
 #[no_mangle]

@@ -6,27 +6,32 @@ ghost use lib.Dec.{T, leb, eqb};
 ghost use mir.Syntax.{w64};
 ghost use mir.Val.{toZ};
 ghost use Rattle.format.specs.Prelude.{all};
-ghost use Rattle.format.specs.Machine.{isWord, machineOk, machineOf};
+ghost use Rattle.format.specs.Machine.{machineOk, machineOf};
 ghost use Rattle.format.specs.Lists.{count, field, rowStride, pairStride, codeStride, mostRecords, inside, symbolOk, pointerOk, rowOkAt, pairOkAt, codeOkAt, allIn, sumOf, pairsIn, functionOkAt, prologueOkAt, listsOk, codesOk, codeAt};
+ghost use Rattle.format.proofs.Asked.{questionOf};
+ghost use Rattle.lists.specs.Room.{roomFor};
 ghost use Rattle.lists.specs.Parts.{rangesOkAt, namedOkAt, relaxedOkAt};
 ghost use Rattle.lists.specs.Extents.{extentAt, landingIn, pairIn, prologueIn};
+use format::Counts;
 use format::Machine;
+use format::Question;
 use format::Seh;
 use rows::row_ok;
 
-// ---- the machine, questions 11 and 12
+// How many numbers a record of each list has.
+pub const FUNCTION_STRIDE: usize = 18;
 
-fn is_word(w: u64) -> bool
-    ensures { λ r. ⌜ r ≡ isWord w ⌝ }
-{
-    if w == 2 {
-        return true;
-    }
-    if w == 4 {
-        return true;
-    }
-    w == 8
-}
+pub const ROW_STRIDE: usize = 4;
+
+pub const LANDING_STRIDE: usize = 3;
+
+pub const PAIR_STRIDE: usize = 4;
+
+pub const PROLOGUE_STRIDE: usize = 5;
+
+pub const CODE_STRIDE: usize = 5;
+
+// ---- the machine, questions 11 and 12
 
 // Each number of the map is a byte.
 fn map_ok(ms: &[u64]) -> bool
@@ -50,7 +55,7 @@ pub fn machine_ok(ms: &[u64]) -> bool
     if ms.len() < 70 {
         return false;
     }
-    if !is_word(ms[0]) {
+    if !numbers::is_word(ms[0]) {
         return false;
     }
     if ms[1] % ms[0] != 0 {
@@ -130,7 +135,7 @@ pub fn extent_at(fs: &[u64], k: usize) -> Extent
     requires { ⌜ 18 * k + 18 ≤ length (now fs) ⌝ }
     ensures { λ r. ⌜ r ≡ extentAt (now (fs .entry)) k ⌝ }
 {
-    let b = 18 * k;
+    let b = FUNCTION_STRIDE * k;
     Extent {
         symbol: fs[b],
         length: fs[b + 1],
@@ -165,9 +170,9 @@ pub fn landing_at(ls: &[u64], i: usize) -> Landing
     ensures { λ r. ⌜ r ≡ landingIn (now (ls .entry)) i ⌝ }
 {
     Landing {
-        start: ls[3 * i],
-        size: ls[3 * i + 1],
-        pad: ls[3 * i + 2],
+        start: ls[LANDING_STRIDE * i],
+        size: ls[LANDING_STRIDE * i + 1],
+        pad: ls[LANDING_STRIDE * i + 2],
     }
 }
 
@@ -184,10 +189,10 @@ pub fn pair_at(ps: &[u64], i: usize) -> Pair
     ensures { λ r. ⌜ r ≡ pairIn (now (ps .entry)) i ⌝ }
 {
     Pair {
-        place1: ps[4 * i],
-        place2: ps[4 * i + 1],
-        symbol1: ps[4 * i + 2],
-        symbol2: ps[4 * i + 3],
+        place1: ps[PAIR_STRIDE * i],
+        place2: ps[PAIR_STRIDE * i + 1],
+        symbol1: ps[PAIR_STRIDE * i + 2],
+        symbol2: ps[PAIR_STRIDE * i + 3],
     }
 }
 
@@ -205,11 +210,11 @@ pub fn prologue_at(fs: &[u64], k: usize) -> Prologue
     ensures { λ r. ⌜ r ≡ prologueIn (now (fs .entry)) k ⌝ }
 {
     Prologue {
-        symbol: fs[5 * k],
-        length: fs[5 * k + 1],
-        end: fs[5 * k + 2],
-        codes_at: fs[5 * k + 3] as usize,
-        codes: fs[5 * k + 4] as usize,
+        symbol: fs[PROLOGUE_STRIDE * k],
+        length: fs[PROLOGUE_STRIDE * k + 1],
+        end: fs[PROLOGUE_STRIDE * k + 2],
+        codes_at: fs[PROLOGUE_STRIDE * k + 3] as usize,
+        codes: fs[PROLOGUE_STRIDE * k + 4] as usize,
     }
 }
 
@@ -229,7 +234,7 @@ pub fn code_offset_at(cs: &[u64], i: usize) -> u64
     requires { ⌜ 5 * i + 5 ≤ length (now cs) ⌝ }
     ensures { λ r. ⌜ r ≡ codeAt (now (cs .entry)) i .0 ⌝ }
 {
-    cs[5 * i]
+    cs[CODE_STRIDE * i]
 }
 
 // Code i.
@@ -237,9 +242,9 @@ pub fn code_at(cs: &[u64], i: usize) -> Seh
     requires { ⌜ 5 * i + 5 ≤ length (now cs) ⌝ }
     ensures { λ r. ⌜ r ≡ codeAt (now (cs .entry)) i .1 ⌝ }
 {
-    let kind = cs[5 * i + 1];
-    let reg = cs[5 * i + 2];
-    let value = signed64(cs[5 * i + 4]);
+    let kind = cs[CODE_STRIDE * i + 1];
+    let reg = cs[CODE_STRIDE * i + 2];
+    let value = signed64(cs[CODE_STRIDE * i + 4]);
     if kind == 0 {
         return Seh::Push(reg);
     }
@@ -249,7 +254,7 @@ pub fn code_at(cs: &[u64], i: usize) -> Seh
     if kind == 2 {
         return Seh::Frame(reg, value);
     }
-    Seh::Save(reg, cs[5 * i + 3] != 0, value)
+    Seh::Save(reg, cs[CODE_STRIDE * i + 3] != 0, value)
 }
 
 // ---- question 13 of one record
@@ -289,10 +294,10 @@ fn pair_ok(ps: &[u64], i: usize) -> bool
     requires { ⌜ 4 * i + 4 ≤ length (now ps) ⌝ }
     ensures { λ r. ⌜ r ≡ pairOkAt (now (ps .entry)) i ⌝ }
 {
-    if !symbol_ok(ps[4 * i + 2]) {
+    if !symbol_ok(ps[PAIR_STRIDE * i + 2]) {
         return false;
     }
-    symbol_ok(ps[4 * i + 3])
+    symbol_ok(ps[PAIR_STRIDE * i + 3])
 }
 
 // The operands of code i: only those that its kind has.
@@ -300,23 +305,23 @@ fn code_ok(cs: &[u64], i: usize) -> bool
     requires { ⌜ 5 * i + 5 ≤ length (now cs) ⌝ }
     ensures { λ r. ⌜ r ≡ codeOkAt (now (cs .entry)) i ⌝ }
 {
-    let kind = cs[5 * i + 1];
+    let kind = cs[CODE_STRIDE * i + 1];
     if 3 < kind {
         return false;
     }
     if kind == 3 {
-        return cs[5 * i + 3] <= 1;
+        return cs[CODE_STRIDE * i + 3] <= 1;
     }
-    if cs[5 * i + 3] != 0 {
+    if cs[CODE_STRIDE * i + 3] != 0 {
         return false;
     }
     if kind == 2 {
         return true;
     }
     if kind == 1 {
-        return cs[5 * i + 2] == 0;
+        return cs[CODE_STRIDE * i + 2] == 0;
     }
-    cs[5 * i + 4] == 0
+    cs[CODE_STRIDE * i + 4] == 0
 }
 
 // ---- question 13 of the records that a function reaches
@@ -374,18 +379,22 @@ fn ranges_ok(fs: &[u64], rows: &[u64], landings: &[u64], k: usize) -> bool
     requires { ⌜ 18 * k + 18 ≤ length (now fs) ⌝ }
     ensures { λ r. ⌜ r ≡ rangesOkAt (now (fs .entry)) (now (rows .entry)) (now (landings .entry)) k ⌝ }
 {
-    if !symbol_ok(fs[18 * k]) {
+    if !symbol_ok(fs[FUNCTION_STRIDE * k]) {
         return false;
     }
-    let at = fs[18 * k + 2];
-    let n = fs[18 * k + 3];
-    if !inside(at, n, (rows.len() / 4) as u64) {
+    let at = fs[FUNCTION_STRIDE * k + 2];
+    let n = fs[FUNCTION_STRIDE * k + 3];
+    if !inside(at, n, (rows.len() / ROW_STRIDE) as u64) {
         return false;
     }
     if !rows_ok(rows, at as usize, n as usize) {
         return false;
     }
-    inside(fs[18 * k + 4], fs[18 * k + 5], (landings.len() / 3) as u64)
+    inside(
+        fs[FUNCTION_STRIDE * k + 4],
+        fs[FUNCTION_STRIDE * k + 5],
+        (landings.len() / LANDING_STRIDE) as u64,
+    )
 }
 
 // The named personality of function k, where it has one.
@@ -393,19 +402,19 @@ fn named_ok(fs: &[u64], k: usize) -> bool
     requires { ⌜ 18 * k + 18 ≤ length (now fs) ⌝ }
     ensures { λ r. ⌜ r ≡ namedOkAt (now (fs .entry)) k ⌝ }
 {
-    if fs[18 * k + 8] == 0 {
+    if fs[FUNCTION_STRIDE * k + 8] == 0 {
         return true;
     }
-    if !pointer_ok(fs[18 * k + 9], fs[18 * k + 10]) {
+    if !pointer_ok(fs[FUNCTION_STRIDE * k + 9], fs[FUNCTION_STRIDE * k + 10]) {
         return false;
     }
-    if 1 < fs[18 * k + 11] {
+    if 1 < fs[FUNCTION_STRIDE * k + 11] {
         return false;
     }
-    if fs[18 * k + 11] == 0 {
+    if fs[FUNCTION_STRIDE * k + 11] == 0 {
         return true;
     }
-    pointer_ok(fs[18 * k + 12], fs[18 * k + 13])
+    pointer_ok(fs[FUNCTION_STRIDE * k + 12], fs[FUNCTION_STRIDE * k + 13])
 }
 
 // The relaxing labels of function k, where it has them, and the pairs that they reach.
@@ -413,15 +422,15 @@ fn relaxed_ok(fs: &[u64], pairs: &[u64], k: usize) -> bool
     requires { ⌜ 18 * k + 18 ≤ length (now fs) ⌝ }
     ensures { λ r. ⌜ r ≡ relaxedOkAt (now (fs .entry)) (now (pairs .entry)) k ⌝ }
 {
-    if fs[18 * k + 14] == 0 {
+    if fs[FUNCTION_STRIDE * k + 14] == 0 {
         return true;
     }
-    if !symbol_ok(fs[18 * k + 15]) {
+    if !symbol_ok(fs[FUNCTION_STRIDE * k + 15]) {
         return false;
     }
-    let at = fs[18 * k + 16];
-    let n = fs[18 * k + 17];
-    if !inside(at, n, (pairs.len() / 4) as u64) {
+    let at = fs[FUNCTION_STRIDE * k + 16];
+    let n = fs[FUNCTION_STRIDE * k + 17];
+    if !inside(at, n, (pairs.len() / PAIR_STRIDE) as u64) {
         return false;
     }
     pairs_ok(pairs, at as usize, n as usize)
@@ -435,19 +444,19 @@ fn function_ok(fs: &[u64], rows: &[u64], landings: &[u64], pairs: &[u64], k: usi
     if !ranges_ok(fs, rows, landings, k) {
         return false;
     }
-    if 1 < fs[18 * k + 6] {
+    if 1 < fs[FUNCTION_STRIDE * k + 6] {
         return false;
     }
-    if 1 < fs[18 * k + 7] {
+    if 1 < fs[FUNCTION_STRIDE * k + 7] {
         return false;
     }
-    if 1 < fs[18 * k + 8] {
+    if 1 < fs[FUNCTION_STRIDE * k + 8] {
         return false;
     }
     if !named_ok(fs, k) {
         return false;
     }
-    if 1 < fs[18 * k + 14] {
+    if 1 < fs[FUNCTION_STRIDE * k + 14] {
         return false;
     }
     relaxed_ok(fs, pairs, k)
@@ -458,12 +467,12 @@ fn prologue_ok(fs: &[u64], codes: &[u64], k: usize) -> bool
     requires { ⌜ 5 * k + 5 ≤ length (now fs) ⌝ }
     ensures { λ r. ⌜ r ≡ prologueOkAt (now (fs .entry)) (now (codes .entry)) k ⌝ }
 {
-    if !symbol_ok(fs[5 * k]) {
+    if !symbol_ok(fs[PROLOGUE_STRIDE * k]) {
         return false;
     }
-    let at = fs[5 * k + 3];
-    let n = fs[5 * k + 4];
-    if !inside(at, n, (codes.len() / 5) as u64) {
+    let at = fs[PROLOGUE_STRIDE * k + 3];
+    let n = fs[PROLOGUE_STRIDE * k + 4];
+    if !inside(at, n, (codes.len() / CODE_STRIDE) as u64) {
         return false;
     }
     codes_in(codes, at as usize, n as usize)
@@ -494,10 +503,10 @@ fn pairs_in(fs: &[u64], k: usize) -> u64
     requires { ⌜ 18 * k + 18 ≤ length (now fs) ⌝ }
     ensures { λ r. ⌜ r ≡ pairsIn (now (fs .entry)) k ⌝ }
 {
-    if fs[18 * k + 14] == 0 {
+    if fs[FUNCTION_STRIDE * k + 14] == 0 {
         return 0;
     }
-    fs[18 * k + 17]
+    fs[FUNCTION_STRIDE * k + 17]
 }
 
 // The pairs of n functions, summed, are at most the most of records.
@@ -537,7 +546,7 @@ fn functions_ok(fs: &[u64], rows: &[u64], landings: &[u64], pairs: &[u64], n: us
 pub fn lists_ok(fs: &[u64], rows: &[u64], landings: &[u64], pairs: &[u64]) -> bool
     ensures { λ r. ⌜ r ≡ listsOk (now (fs .entry)) (now (rows .entry)) (now (landings .entry)) (now (pairs .entry)) ⌝ }
 {
-    let n = fs.len() / 18;
+    let n = fs.len() / FUNCTION_STRIDE;
     if 65536 < n {
         return false;
     }
@@ -572,7 +581,7 @@ fn prologues_ok(fs: &[u64], codes: &[u64], n: usize) -> bool
 pub fn codes_ok(fs: &[u64], codes: &[u64]) -> bool
     ensures { λ r. ⌜ r ≡ codesOk (now (fs .entry)) (now (codes .entry)) ⌝ }
 {
-    let n = fs.len() / 5;
+    let n = fs.len() / PROLOGUE_STRIDE;
     if 65536 < n {
         return false;
     }
@@ -580,4 +589,25 @@ pub fn codes_ok(fs: &[u64], codes: &[u64]) -> bool
         return false;
     }
     prologues_ok(fs, codes, n)
+}
+
+// ---- room
+
+// Questions 51 to 54: what is needed fits what is lent, in the elements of the lent lists.
+pub fn room(needed: Counts, lent: Counts) -> Question
+    ensures { λ r. ⌜ r ≡ questionOf (roomFor needed lent) ⌝ }
+{
+    if lent.places < needed.places {
+        return Question::No(51, 0);
+    }
+    if lent.bytes < needed.bytes {
+        return Question::No(52, 0);
+    }
+    if lent.relocations < needed.relocations {
+        return Question::No(53, 0);
+    }
+    if lent.sites < needed.sites {
+        return Question::No(54, 0);
+    }
+    Question::Yes
 }

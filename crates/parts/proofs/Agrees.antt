@@ -14,8 +14,8 @@ use Rattle.format.specs.Rows.{readRegister, sameOffset}
 use Rattle.format.specs.Headers.{dataFactor}
 use Rattle.format.specs.Answers.{bit}
 use Rattle.format.specs.Reader.{Letters, spellings, readLetters, readByte, require, HeaderFields, headerTail, parseHeader, RecordFields, recordTail, parseRecord}
-use Rattle.cursor.specs.Listing.{entryAt}
-use Rattle.cursor.specs.declared.Entry.{Entry}
+use Rattle.reader.specs.Listing.{entryAt}
+use Rattle.reader.specs.declared.cursor.Entry.{Entry}
 use Rattle.reader.specs.Spans.{part}
 use Rattle.parts.specs.Faults.{versionField, stringField, codeFactorField, dataFactorField, returnField, headerDataField, functionField, lengthField, recordDataField, reading, testing}
 use Rattle.parts.specs.Headers.{HeaderParts, headerRest, headerFrom, headerParts, noHeader, headerNumbers, headerOf, readHeaderAt}

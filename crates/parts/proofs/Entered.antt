@@ -9,9 +9,9 @@ use lib.Seq.{length-take-le}
 use borrow.Author.Tests.{le-leb, lt-leb}
 use Rattle.format.specs.Prelude.{pick}
 use Rattle.reader.specs.Spans.{part}
-use Rattle.cursor.specs.Listing.{stopped, entryAt}
-use Rattle.cursor.specs.declared.Entry.{Entry}
-use Rattle.cursor.proofs.Steps.{Fits}
+use Rattle.reader.specs.Listing.{stopped, entryAt}
+use Rattle.reader.specs.declared.cursor.Entry.{Entry}
+use Rattle.reader.proofs.Steps.{Fits}
 use Rattle.parts.specs.Entries.{entryNumbers, nextEntry}
 
 module _ (section : List ℕ) (kind at : ℕ) where

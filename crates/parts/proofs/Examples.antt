@@ -9,7 +9,7 @@ use Rattle.format.specs.Rows.{unfactor, readRegister, inRange, readFactored, on
 use Rattle.format.specs.Headers.{headerId, dataFactor}
 use Rattle.format.specs.Answers.{bit}
 use Rattle.format.specs.Reader.{readEntry, valueOr0, second, isHeader, strip, spelled, spellings, spellOr, readLetters, readByte, readMany, readCounted, personalityIn, lsdaIn, lettersIn, headerTail, require, recordTail}
-use Rattle.cursor.specs.Listing.{stopped, shown, entryRead, entryFrom, entryAt}
+use Rattle.reader.specs.Listing.{stopped, shown, entryRead, entryFrom, entryAt}
 use Rattle.parts.specs.Faults.{reading, testing}
 use Rattle.parts.specs.Entries.{entryNumbers, nextEntry}
 use Rattle.parts.specs.Operations.{operationNumbers, decodedNumbers, operationFrom, readOperationAt}

@@ -19,16 +19,16 @@ use Rattle.format.specs.declared.Signed.the-variants as signed
 use Rattle.format.proofs.Positions.{ulebAt, slebAt, littleAt}
 use Rattle.format.proofs.PositionLaws.{uleb-rest, uleb-none, sleb-rest, sleb-none, little-rest, little-none}
 use Rattle.reader.specs.Spans.{part}
-use Rattle.reader.specs.Fields.{Rests, lettersOf, Spells, Heading, Heads}
+use Rattle.reader.specs.Fields.{Rests, lettersOf, ReadsAugmentation, Heading, Heads}
 use Rattle.reader.specs.declared.fields.Header.{Header}
 use Rattle.reader.specs.declared.fields.Header.the-variants as header
-use Rattle.reader.specs.declared.fields.Promise.{Promise}
-use Rattle.reader.specs.declared.fields.Spelled.{Spelled}
-use Rattle.reader.specs.declared.fields.Spelled.the-variants as spells
+use Rattle.reader.specs.declared.fields.Augmentation.{Augmentation}
+use Rattle.reader.specs.declared.fields.AugmentationRead.{AugmentationRead}
+use Rattle.reader.specs.declared.fields.AugmentationRead.the-variants as augmentation
 use Rattle.reader.proofs.Augmentation.{byte-there, byte-none}
-use Rattle.cursor.specs.Listing.{entryAt}
-use Rattle.cursor.specs.declared.Entry.{Entry}
-use Rattle.cursor.proofs.Steps.{entry-fits}
+use Rattle.reader.specs.Listing.{entryAt}
+use Rattle.reader.specs.declared.cursor.Entry.{Entry}
+use Rattle.reader.proofs.Steps.{entry-fits}
 use Rattle.parts.specs.Faults.{versionField, stringField, codeFactorField, dataFactorField, returnField, headerDataField, reading, testing}
 use Rattle.parts.specs.Headers.{HeaderParts, headerRest, headerFrom, headerParts, noHeader, headerNumbers, headerOf, readHeaderAt}
 use Rattle.parts.specs.declared.headers.HeaderRead.{HeaderRead}
@@ -123,16 +123,16 @@ module _ (s : List ℕ) (debug : Bool) (word : ℕ) where
       unfolding headerParts reading testing pick
       version-other n = rw (little-rest s 0 (omega arith) e, byte-there s p h) (simp (ne-eqb _ _ n))
 
-      module _ (v : getD s p 0 ≡ 1) {r : Spelled} (m : Spells s r (readLetters (spellings debug) (drop (p + 1) s))) where
-        pub stringless : r ≡ spells.Nothing → all ≡ bad stringField
+      module _ (v : getD s p 0 ≡ 1) {r : AugmentationRead} (m : ReadsAugmentation s r (readLetters (spellings debug) (drop (p + 1) s))) where
+        pub stringless : r ≡ augmentation.Unknown → all ≡ bad stringField
         unfolding headerParts reading testing pick
         stringless f =
-            rw (little-rest s 0 (omega arith) e, byte-there s p h, v, subst (λ (r : Spelled). Spells s r (readLetters (spellings debug) (drop (p + 1) s))) f m)
+            rw (little-rest s 0 (omega arith) e, byte-there s p h, v, subst (λ (r : AugmentationRead). ReadsAugmentation s r (readLetters (spellings debug) (drop (p + 1) s))) f m)
 
-        pub string-there : {l : Promise} {q : ℕ} → r ≡ spells.As l q → all ≡ headerFrom debug (lettersOf l) word (drop q s)
+        pub string-there : {l : Augmentation} {q : ℕ} → r ≡ augmentation.Known l q → all ≡ headerFrom debug (lettersOf l) word (drop q s)
         unfolding headerParts reading testing pick
         string-there {l} {q} f =
-            let k : Rests s (lettersOf l) q (readLetters (spellings debug) (drop (p + 1) s)) = subst (λ (r : Spelled). Spells s r (readLetters (spellings debug) (drop (p + 1) s))) f m in
+            let k : Rests s (lettersOf l) q (readLetters (spellings debug) (drop (p + 1) s)) = subst (λ (r : AugmentationRead). ReadsAugmentation s r (readLetters (spellings debug) (drop (p + 1) s))) f m in
             rw (little-rest s 0 (omega arith) e, byte-there s p h, v, k .read)
 
 -- ---- the entry

@@ -1,5 +1,5 @@
--- One operation of those from a position to another, by the code's tests; and the 64 bits of its value.
-use mathlib.Core.Path.{_≡_, refl, sym, ap, _∙_}
+-- One operation of those from a position to another, by the code's tests.
+use mathlib.Core.Path.{_≡_, refl, _∙_}
 use mathlib.Core.Bool.{Bool, true, false, _&&_}
 use Prim.Native.Nat.{ℕ, _+_, _-_, _^_, _≤_, _<_}
 use native.Mathlib.Omega.{arith}
@@ -9,10 +9,6 @@ use borrow.Author.Tests.{eq-eqb, ne-eqb, le-leb, lt-leb}
 use lib.Dec.{leb, eqb}
 use lib.ListN.{length, drop, getD, length-drop, length-take}
 use lib.Seq.{length-take-le}
-use lib.IntN.{ℤ, pos, negsuc}
-use lib.Signed.{ltZ, mag}
-use mir.Syntax.{w64}
-use mir.Val.{SFits, ofZ, toZ}
 use Rattle.format.specs.Prelude.{pick, Read}
 use Rattle.format.specs.Machine.{isWord}
 use Rattle.format.specs.Rows.{readOperation}
@@ -22,23 +18,10 @@ use Rattle.format.specs.declared.Decoded.{Decoded}
 use Rattle.format.specs.declared.Decoded.the-variants as decoded
 use Rattle.format.proofs.Positions.{decodedFrom, operationAt}
 use Rattle.format.proofs.OperationLaws.{operation-ahead, operation-rest}
-use Rattle.rows.proofs.Signs.{negative, positive}
 use Rattle.reader.specs.Spans.{part}
 use Rattle.reader.proofs.Whole.{drop-part}
 use Rattle.parts.specs.Operations.{noOperation, operationNumbers, decodedNumbers, operationFrom, readOperationAt}
 use Rattle.parts.specs.declared.operations.OperationRead.{OperationRead}
-
--- ---- the 64 bits of a value
-
-high : (m : ℕ) → 18446744073709551615 - m ≡ ofZ w64 (negsuc m)
-high m = omega arith
-
-module _ (z : ℤ) (f : SFits w64 z) where
-  pub bits-below : ltZ (toZ w64 (ofZ w64 z)) (pos 0) ≡ true → 18446744073709551615 - mag z ≡ ofZ w64 z
-  bits-below h = high (mag z) ∙ ap (ofZ w64) (sym (negative z f h))
-
-  pub bits-above : ltZ (toZ w64 (ofZ w64 z)) (pos 0) ≡ false → mag z ≡ ofZ w64 z
-  bits-above h = ap (ofZ w64) (sym (positive z f h))
 
 -- ---- an operation by the code's answer
 

@@ -13,8 +13,8 @@ use Rattle.format.specs.Reader.{isHeader, HeaderFields, parseHeader, RecordFiel
 use Rattle.reader.specs.Spans.{part, entryIn, endAt}
 use Rattle.reader.specs.declared.entries.Number.the-variants.{Is}
 use Rattle.reader.proofs.Tiling.{entered}
-use Rattle.cursor.specs.Listing.{entryAt}
-use Rattle.cursor.proofs.Steps.{spanned, at-there, entry-fits}
+use Rattle.reader.specs.Listing.{entryAt}
+use Rattle.reader.proofs.Steps.{spanned, at-there, entry-fits}
 use Rattle.parts.specs.Headers.{headerParts, headerNumbers, readHeaderAt}
 use Rattle.parts.specs.Records.{recordParts, recordNumbers, readRecordAt}
 use Rattle.parts.specs.declared.headers.HeaderRead.{HeaderRead}

@@ -18,9 +18,9 @@ use Rattle.reader.specs.Fields.{Recording, Records}
 use Rattle.reader.specs.declared.fields.Record.{Record}
 use Rattle.reader.specs.declared.fields.Record.the-variants as row
 use Rattle.reader.proofs.Recorded.{field-small}
-use Rattle.cursor.specs.Listing.{entryAt}
-use Rattle.cursor.specs.declared.Entry.{Entry}
-use Rattle.cursor.proofs.Steps.{entry-fits}
+use Rattle.reader.specs.Listing.{entryAt}
+use Rattle.reader.specs.declared.cursor.Entry.{Entry}
+use Rattle.reader.proofs.Steps.{entry-fits}
 use Rattle.parts.specs.Faults.{functionField, lengthField, recordDataField, reading}
 use Rattle.parts.specs.Records.{RecordParts, recordRest, recordParts, restFrom, callSites, noRecord, recordNumbers, recordOf, readRecordAt}
 use Rattle.parts.specs.declared.records.RecordRead.{RecordRead}

@@ -9,9 +9,9 @@ use lib.ListN.{length}
 use Rattle.format.specs.Prelude.{pick, after}
 use Rattle.format.specs.Reader.{entries}
 use Rattle.format.specs.Reader as reader
-use Rattle.cursor.specs.Listing.{shown, entryAt, joined, listingF, listing}
-use Rattle.cursor.specs.declared.Entry.{Entry}
-use Rattle.cursor.proofs.Tiles.{listing-lists}
+use Rattle.reader.specs.Listing.{shown, entryAt, joined, listingF, listing}
+use Rattle.reader.specs.declared.cursor.Entry.{Entry}
+use Rattle.reader.proofs.Tiles.{listing-lists}
 use Rattle.parts.specs.Entries.{entryNumbers, nextEntry}
 use Rattle.parts.specs.declared.EntryRead.{EntryRead}
 use Rattle.parts.proofs.Entered.{entry-there}

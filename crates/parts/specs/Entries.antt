@@ -4,8 +4,8 @@ use mathlib.Core.List.{List}
 use lib.Dec.{leb, eqb}
 use Rattle.format.specs.Prelude.{pick}
 use Rattle.format.specs.Answers.{bit}
-use Rattle.cursor.specs.Listing.{stopped, entryAt}
-use Rattle.cursor.specs.declared.Entry.{Entry}
+use Rattle.reader.specs.Listing.{stopped, entryAt}
+use Rattle.reader.specs.declared.cursor.Entry.{Entry}
 use Rattle.parts.specs.declared.EntryRead.{EntryRead}
 
 unfoldable pub entryNumbers : Entry → EntryRead

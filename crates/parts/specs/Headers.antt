@@ -11,8 +11,8 @@ use Rattle.format.specs.Rows.{readRegister, sameOffset}
 use Rattle.format.specs.Headers.{dataFactor}
 use Rattle.format.specs.Answers.{bit}
 use Rattle.format.specs.Reader.{Letters, spellings, readLetters, readByte, HeaderFields, headerTail}
-use Rattle.cursor.specs.Listing.{entryAt}
-use Rattle.cursor.specs.declared.Entry.{Entry}
+use Rattle.reader.specs.Listing.{entryAt}
+use Rattle.reader.specs.declared.cursor.Entry.{Entry}
 use Rattle.reader.specs.Spans.{part}
 use Rattle.parts.specs.Faults.{versionField, stringField, codeFactorField, dataFactorField, returnField, headerDataField, reading, testing}
 use Rattle.parts.specs.declared.headers.HeaderRead.{HeaderRead}

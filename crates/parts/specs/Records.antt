@@ -9,8 +9,8 @@ use Rattle.format.specs.Prelude.{pick, Read, Result, good, bad, onward, orElse}
 use Rattle.format.specs.Leb.{readLittle, readUleb}
 use Rattle.format.specs.Machine.{isWord}
 use Rattle.format.specs.Reader.{RecordFields, recordTail}
-use Rattle.cursor.specs.Listing.{entryAt}
-use Rattle.cursor.specs.declared.Entry.{Entry}
+use Rattle.reader.specs.Listing.{entryAt}
+use Rattle.reader.specs.declared.cursor.Entry.{Entry}
 use Rattle.reader.specs.Spans.{part}
 use Rattle.parts.specs.Faults.{functionField, lengthField, recordDataField, reading}
 use Rattle.parts.specs.declared.records.RecordRead.{RecordRead}

@@ -9,9 +9,9 @@ ghost use Rattle.parts.specs.Headers.{noHeader, headerRest, headerFrom, 
 use crate::bit;
 use format::Signed;
 use format::Unsigned;
+use reader::fields::Augmentation;
+use reader::fields::AugmentationRead;
 use reader::fields::Header;
-use reader::fields::Promise;
-use reader::fields::Spelled;
 
 // What unwind_read_header answers.
 #[repr(C)]
@@ -50,10 +50,10 @@ fn rest(
     at: usize,
     debug: bool,
     word: u64,
-    p: Promise,
+    p: Augmentation,
     reg: u64,
 ) -> HeaderRead
-    requires { ⌜ (at ≤ length (now body)) × (base + length (now body) < 2 ^ 64) ⌝ }
+    requires { ⌜ T (isWord word) × (at ≤ length (now body)) × (base + length (now body) < 2 ^ 64) ⌝ }
     ensures { λ r. ⌜ r ≡ headerNumbers (base + length (now (body .entry))) (headerRest debug (lettersOf p) word reg (drop at (now (body .entry)))) ⌝ }
 {
     let Header::Fields(operations, pointer, signal) = reader::fields::header_tail(
@@ -79,7 +79,7 @@ fn rest(
 }
 
 // From the code alignment factor on.
-fn factors(body: &[u8], base: u64, at: usize, debug: bool, word: u64, p: Promise) -> HeaderRead
+fn factors(body: &[u8], base: u64, at: usize, debug: bool, word: u64, p: Augmentation) -> HeaderRead
     requires { ⌜ T (isWord word) × (base + length (now body) < 2 ^ 64) ⌝ }
     ensures { λ r. ⌜ r ≡ headerNumbers (base + length (now (body .entry))) (headerFrom debug (lettersOf p) word (drop at (now (body .entry)))) ⌝ }
 {
@@ -118,7 +118,7 @@ fn fields(body: &[u8], base: u64, debug: bool, word: u64) -> HeaderRead
     if body[at] != 1 {
         return refused(64, 1);
     }
-    let Spelled::As(p, past) = reader::fields::letters(body, at + 1, debug) else {
+    let AugmentationRead::Known(p, past) = reader::fields::letters(body, at + 1, debug) else {
         return refused(64, 2);
     };
     factors(body, base, past, debug, word, p)
@@ -129,13 +129,13 @@ fn fields(body: &[u8], base: u64, debug: bool, word: u64) -> HeaderRead
 pub extern "C" fn unwind_read_header(section: &[u8], kind: u64, word: u64, place: u64) -> HeaderRead
     ensures { λ r. ⌜ r ≡ readHeaderAt (now (section .entry)) kind word place ⌝ }
 {
-    if !reader::is_word(word) {
+    if !numbers::is_word(word) {
         return refused(11, 0);
     }
     if 1 < kind {
         return refused(11, 0);
     }
-    let e = cursor::next_entry(section, kind == 1, place as usize);
+    let e = reader::cursor::next_entry(section, kind == 1, place as usize);
     if e.number != 0 {
         return refused(61, 0);
     }

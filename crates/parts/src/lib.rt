@@ -39,7 +39,7 @@ pub extern "C" fn unwind_next_entry(section: &[u8], kind: u64, at: u64) -> Entry
             next: at,
         };
     }
-    let e = cursor::next_entry(section, kind == 1, at as usize);
+    let e = reader::cursor::next_entry(section, kind == 1, at as usize);
     EntryRead {
         number: e.number,
         header: bit(e.header),

@@ -2,8 +2,6 @@
 ghost use mathlib.Core.Path.{_≡_};
 ghost use Prim.Native.Nat.{_+_, _^_, _<_};
 ghost use lib.ListN.{length};
-ghost use mir.Syntax.{w64};
-ghost use mir.Val.{ofZ};
 ghost use Rattle.parts.specs.Operations.{noOperation, operationNumbers, operationFrom, readOperationAt};
 use format::Decoded;
 use format::Operation;
@@ -32,16 +30,6 @@ fn refused(number: u64, at: u64, opcode: u64) -> OperationRead
     }
 }
 
-// The 64 bits of a number, in two's complement.
-fn bits(z: i64) -> u64
-    ensures { λ r. ⌜ r ≡ ofZ w64 z ⌝ }
-{
-    if z < 0 {
-        return 18446744073709551615 - ((-1 - z) as u64);
-    }
-    z as u64
-}
-
 fn numbers(kind: u64, reg: u64, value: u64, next: u64, opcode: u64) -> OperationRead
     ensures { λ r. ⌜ r ≡ record { number = 0; kind = kind; reg = reg; value = value; next = next; opcode = opcode } ⌝ }
 {
@@ -64,7 +52,7 @@ fn numbers_of(op: Operation, next: u64, opcode: u64) -> OperationRead
         Operation::Does(row) => numbers(
             rows::kind(row),
             rows::register(row) as u64,
-            bits(rows::offset(row)),
+            numbers::bits(rows::offset(row)),
             next,
             opcode,
         ),
@@ -93,7 +81,7 @@ pub extern "C" fn unwind_read_operation(
 ) -> OperationRead
     ensures { λ r. ⌜ r ≡ readOperationAt (now (section .entry)) at end word ⌝ }
 {
-    if !reader::is_word(word) {
+    if !numbers::is_word(word) {
         return refused(11, at, 0);
     }
     if at == end {

@@ -120,13 +120,13 @@ pub extern "C" fn unwind_read_record(
 ) -> RecordRead
     ensures { λ r. ⌜ r ≡ readRecordAt (now (section .entry)) kind word pointer place ⌝ }
 {
-    if !reader::is_word(word) {
+    if !numbers::is_word(word) {
         return refused(11, 0);
     }
     if 1 < kind {
         return refused(11, 0);
     }
-    let e = cursor::next_entry(section, kind == 1, place as usize);
+    let e = reader::cursor::next_entry(section, kind == 1, place as usize);
     if e.number != 0 {
         return refused(61, 0);
     }

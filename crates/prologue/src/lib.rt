@@ -20,6 +20,7 @@ ghost use Rattle.prologue.specs.Pieces.{Short, Ready, Shaped, pieceOf, n
 use format::Machine;
 use format::Row;
 use format::Seh;
+use leb::wide;
 use rows::offset_at;
 use rows::row_at;
 
@@ -29,13 +30,6 @@ use rows::row_at;
 enum Found {
     Number(u64, bool),
     Unknown,
-}
-
-// An entry of the map.
-fn wide(x: u8) -> u64
-    ensures { λ r. ⌜ (r ≡ x) × (r < 256) ⌝ }
-{
-    x as u64
 }
 
 // What register DWARF's number `reg` is. Question 34 is about those that are none.

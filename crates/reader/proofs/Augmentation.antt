@@ -22,7 +22,7 @@ use Rattle.reader.specs.declared.entries.Number.{Number}
 use Rattle.reader.specs.declared.entries.Number.the-variants as number
 use Rattle.reader.specs.declared.entries.Span.{Span}
 use Rattle.reader.specs.declared.entries.Span.the-variants as span
-use Rattle.reader.specs.declared.fields.Promise.{Promise}
+use Rattle.reader.specs.declared.fields.Augmentation.{Augmentation}
 use Rattle.reader.proofs.Seeking.{number-is, number-none}
 
 -- ---- a byte, and bytes
@@ -130,7 +130,7 @@ module _ (s : List ℕ) (p : ℕ) (here : Bool) (word : ℕ) where
 
 -- ---- all of them, and the records' encoding
 
-module _ (s : List ℕ) (word : ℕ) (p : Promise) {r : Number} (m : SkipsTo s r (personalityIn (p .personality) word s)) where
+module _ (s : List ℕ) (word : ℕ) (p : Augmentation) {r : Number} (m : SkipsTo s r (personalityIn (p .personality) word s)) where
   pub letters-first : r ≡ number.Nothing → number.Nothing ≡ numberOf (lettersIn (lettersOf p) word s)
   unfolding lettersIn after numberOf
   letters-first e = rw (subst (λ (r : Number). SkipsTo s r (personalityIn (p .personality) word s)) e m)

@@ -25,19 +25,19 @@ use Rattle.format.proofs.FieldsBack.{word-small}
 use Rattle.format.proofs.PositionLaws.{uleb-rest, uleb-none, sleb-rest, sleb-none, little-rest, little-none}
 use Rattle.rows.proofs.Signs.{same-bits}
 use Rattle.reader.specs.Spans.{part, numberOf}
-use Rattle.reader.specs.Fields.{Rests, lettersOf, Spells, Counts, CountsIn, Heading, headerFactors}
+use Rattle.reader.specs.Fields.{Rests, lettersOf, ReadsAugmentation, Counts, CountsIn, Heading, headerFactors}
 use Rattle.reader.specs.declared.entries.Span.{Span}
 use Rattle.reader.specs.declared.entries.Span.the-variants as span
-use Rattle.reader.specs.declared.fields.Promise.{Promise}
-use Rattle.reader.specs.declared.fields.Spelled.{Spelled}
-use Rattle.reader.specs.declared.fields.Spelled.the-variants as spells
+use Rattle.reader.specs.declared.fields.Augmentation.{Augmentation}
+use Rattle.reader.specs.declared.fields.AugmentationRead.{AugmentationRead}
+use Rattle.reader.specs.declared.fields.AugmentationRead.the-variants as augmentation
 use Rattle.reader.specs.declared.entries.Number.the-variants.{Is, Nothing}
 use Rattle.reader.proofs.Augmentation.{byte-there, byte-none, counts, counts-none}
 use Rattle.reader.proofs.Seeking.{number-is, number-none}
 
 -- ---- the augmentation data, and the operations behind it
 
-module _ (s : List ℕ) (p : ℕ) (debug : Bool) (word : ℕ) (l : Promise) where
+module _ (s : List ℕ) (p : ℕ) (debug : Bool) (word : ℕ) (l : Augmentation) where
   abbrev tail : Option HeaderFields
   tail = headerTail debug (lettersOf l) word (drop p s)
 
@@ -83,7 +83,7 @@ module _ (w : ℕ) (t : T (isWord w)) where
   pub factor-same : (z : ℤ) → SFits w64 z → eqb (ofZ w64 z) (ofZ w64 (pos 0 -ℤ toZ w64 w)) ≡ sameOffset z (dataFactor w)
   factor-same z f = rw minus (same-bits z (dataFactor w) (f .sfits) (omega (arith, factor-mag w (small .1))))
 
-module _ (s : List ℕ) (p : ℕ) (debug : Bool) (word : ℕ) (l : Promise) where
+module _ (s : List ℕ) (p : ℕ) (debug : Bool) (word : ℕ) (l : Augmentation) where
   abbrev factors : Option HeaderFields
   factors = headerFactors debug (lettersOf l) word (drop p s)
 
@@ -137,14 +137,14 @@ module _ (s : List ℕ) (debug : Bool) (word : ℕ) where
       unfolding parseHeader next require pick
       parse-version n = rw (little-rest s 0 (omega arith) e, byte-there s p h) (simp (ne-eqb _ _ n))
 
-      module _ (v : getD s p 0 ≡ 1) {r : Spelled} (m : Spells s r (readLetters (spellings debug) (drop (p + 1) s))) where
-        pub parse-string : r ≡ spells.Nothing → parseHeader debug word s ≡ none
+      module _ (v : getD s p 0 ≡ 1) {r : AugmentationRead} (m : ReadsAugmentation s r (readLetters (spellings debug) (drop (p + 1) s))) where
+        pub parse-string : r ≡ augmentation.Unknown → parseHeader debug word s ≡ none
         unfolding parseHeader next require pick
         parse-string f =
-            rw (little-rest s 0 (omega arith) e, byte-there s p h, v, subst (λ (r : Spelled). Spells s r (readLetters (spellings debug) (drop (p + 1) s))) f m)
+            rw (little-rest s 0 (omega arith) e, byte-there s p h, v, subst (λ (r : AugmentationRead). ReadsAugmentation s r (readLetters (spellings debug) (drop (p + 1) s))) f m)
 
-        pub parse-rest : {l : Promise} {q : ℕ} → r ≡ spells.As l q → parseHeader debug word s ≡ headerFactors debug (lettersOf l) word (drop q s)
+        pub parse-rest : {l : Augmentation} {q : ℕ} → r ≡ augmentation.Known l q → parseHeader debug word s ≡ headerFactors debug (lettersOf l) word (drop q s)
         unfolding parseHeader headerFactors next require pick
         parse-rest {l} {q} f =
-            let k : Rests s (lettersOf l) q (readLetters (spellings debug) (drop (p + 1) s)) = subst (λ (r : Spelled). Spells s r (readLetters (spellings debug) (drop (p + 1) s))) f m in
+            let k : Rests s (lettersOf l) q (readLetters (spellings debug) (drop (p + 1) s)) = subst (λ (r : AugmentationRead). ReadsAugmentation s r (readLetters (spellings debug) (drop (p + 1) s))) f m in
             rw (little-rest s 0 (omega arith) e, byte-there s p h, v, k .read)

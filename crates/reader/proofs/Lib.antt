@@ -12,3 +12,6 @@ pub mod Operations
 pub mod Both
 pub mod Asked
 pub mod Marks
+pub mod Steps
+pub mod Tiles
+pub mod Listed

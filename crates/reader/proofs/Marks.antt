@@ -40,19 +40,24 @@ marked-second a b e = rw e
 
 -- ---- one number further
 
+abbrev pub markAt : ℕ → Bool → Marked
+markAt at b = record { at = at; shortest = b }
+
+pub mark-kept : (a b : Bool) → b ≡ true → a ≡ (a && b)
+mark-kept a b e = sym (and-yes a) ∙ ap (λ (x : Bool). a && x) (sym e)
+
+pub mark-lost : (a b : Bool) → b ≡ false → false ≡ (a && b)
+mark-lost a b e = sym (and-no a) ∙ ap (λ (x : Bool). a && x) (sym e)
+
 module _ (s : List ℕ) (n : Number) (m : Marked) where
-  pub passes-none : readMark n (drop (m .at) s) ≡ none → Passes s n m (record { at = m .at; shortest = false })
+  pub passes-none : readMark n (drop (m .at) s) ≡ none → Passes s n m (record { at = m .at; shortest = m .shortest && false })
   unfolding numbersShort marked
-  passes-none e = record { on = λ ns. rw e (and-no (m .shortest)) }
+  passes-none e = record { on = λ ns. rw (e, and-no (m .shortest)) }
 
-  module _ {b : Bool} {q : ℕ} (e : readMark n (drop (m .at) s) ≡ some (b, drop q s)) where
-    pub passes-long : b ≡ false → Passes s n m (record { at = q; shortest = false })
-    unfolding numbersShort marked
-    passes-long f = record { on = λ ns. rw (e, f) (and-no (m .shortest)) }
-
-    pub passes-short : b ≡ true → Passes s n m (record { at = q; shortest = m .shortest })
-    unfolding numbersShort marked
-    passes-short f = record { on = λ ns. rw (e, f) }
+  pub passes : (b : Bool) {q : ℕ} → readMark n (drop (m .at) s) ≡ some (b, drop q s) → Passes s n m (record { at = q; shortest = m .shortest && b })
+  unfolding numbersShort marked
+  passes true e = record { on = λ ns. rw (e, and-yes (m .shortest)) }
+  passes false e = record { on = λ ns. rw (e, and-no (m .shortest)) }
 
 -- from a position on, to the last number
 abbrev pub from : ℕ → Marked

@@ -14,10 +14,10 @@ use Rattle.format.specs.Prelude.{pick, Read}
 use Rattle.format.specs.Questions.{isSome}
 use Rattle.format.specs.Reader.{Letters, Spelling, strip, spellings, spellOr, readLetters}
 use Rattle.format.proofs.Choice.{pick-yes, pick-no, tested}
-use Rattle.reader.specs.Fields.{Rests, lettersOf, twoOf, Spells}
-use Rattle.reader.specs.declared.fields.Promise.{Promise}
-use Rattle.reader.specs.declared.fields.Spelled.{Spelled}
-use Rattle.reader.specs.declared.fields.Spelled.the-variants.{As, Nothing}
+use Rattle.reader.specs.Fields.{Rests, lettersOf, twoOf, ReadsAugmentation}
+use Rattle.reader.specs.declared.fields.Augmentation.{Augmentation}
+use Rattle.reader.specs.declared.fields.AugmentationRead.{AugmentationRead}
+use Rattle.reader.specs.declared.fields.AugmentationRead.the-variants.{Known, Unknown}
 use Rattle.reader.proofs.Seeking.{absent}
 
 -- ---- the loop: i bytes of the text were met
@@ -134,27 +134,27 @@ eh-strings : spellings false ≡ bare ++ (owned ++ sited)
 unfolding spellings
 eh-strings = refl
 
-found : {s : List ℕ} {r : Spelled} {p : Promise} {q : ℕ} (x : Read Letters) → Spells s r x → r ≡ As p q → Rests s (lettersOf p) q x
-found {s} x m e = subst (λ (r : Spelled). Spells s r x) e m
+found : {s : List ℕ} {r : AugmentationRead} {p : Augmentation} {q : ℕ} (x : Read Letters) → ReadsAugmentation s r x → r ≡ Known p q → Rests s (lettersOf p) q x
+found {s} x m e = subst (λ (r : AugmentationRead). ReadsAugmentation s r x) e m
 
-lost : (s : List ℕ) {r : Spelled} (x : Read Letters) → Spells s r x → r ≡ Nothing → x ≡ none
-lost s x m e = subst (λ (r : Spelled). Spells s r x) e m
+lost : (s : List ℕ) {r : AugmentationRead} (x : Read Letters) → ReadsAugmentation s r x → r ≡ Unknown → x ≡ none
+lost s x m e = subst (λ (r : AugmentationRead). ReadsAugmentation s r x) e m
 
-module _ (s : List ℕ) (at : ℕ) {r : Spelled} (m : Spells s r (readLetters bare (drop at s))) where
-  pub first-two : {p : Promise} {q : ℕ} → r ≡ As p q → Rests s (lettersOf p) q (readLetters (spellings false) (drop at s))
+module _ (s : List ℕ) (at : ℕ) {r : AugmentationRead} (m : ReadsAugmentation s r (readLetters bare (drop at s))) where
+  pub first-two : {p : Augmentation} {q : ℕ} → r ≡ Known p q → Rests s (lettersOf p) q (readLetters (spellings false) (drop at s))
   first-two e =
       let f = found (readLetters bare (drop at s)) m e in
       record { inside = f .inside; read = rw eh-strings (letters-before (owned ++ sited) (drop at s) _ bare (f .read)) }
 
-  module _ (e : r ≡ Nothing) where
+  module _ (e : r ≡ Unknown) where
     past-two : readLetters (spellings false) (drop at s) ≡ readLetters (owned ++ sited) (drop at s)
     past-two = rw eh-strings (letters-behind (owned ++ sited) (drop at s) bare (lost s (readLetters bare (drop at s)) m e))
 
-    module _ {r′ : Spelled} (m′ : Spells s r′ (readLetters owned (drop at s))) where
-      pub next-two : {p : Promise} {q : ℕ} → r′ ≡ As p q → Rests s (lettersOf p) q (readLetters (spellings false) (drop at s))
+    module _ {r′ : AugmentationRead} (m′ : ReadsAugmentation s r′ (readLetters owned (drop at s))) where
+      pub next-two : {p : Augmentation} {q : ℕ} → r′ ≡ Known p q → Rests s (lettersOf p) q (readLetters (spellings false) (drop at s))
       next-two e′ =
           let f = found (readLetters owned (drop at s)) m′ e′ in
           record { inside = f .inside; read = past-two ∙ letters-before sited (drop at s) _ owned (f .read) }
 
-      pub past-four : r′ ≡ Nothing → readLetters (spellings false) (drop at s) ≡ readLetters sited (drop at s)
+      pub past-four : r′ ≡ Unknown → readLetters (spellings false) (drop at s) ≡ readLetters sited (drop at s)
       past-four e′ = past-two ∙ letters-behind sited (drop at s) owned (lost s (readLetters owned (drop at s)) m′ e′)

@@ -18,9 +18,9 @@ use Rattle.reader.specs.declared.entries.Number.{Number}
 use Rattle.reader.specs.declared.entries.Number.the-variants as number
 use Rattle.reader.specs.declared.entries.Span.{Span}
 use Rattle.reader.specs.declared.entries.Span.the-variants as span
-use Rattle.reader.specs.declared.fields.Promise.{Promise}
-use Rattle.reader.specs.declared.fields.Spelled.{Spelled}
-use Rattle.reader.specs.declared.fields.Spelled.the-variants as spells
+use Rattle.reader.specs.declared.fields.Augmentation.{Augmentation}
+use Rattle.reader.specs.declared.fields.AugmentationRead.{AugmentationRead}
+use Rattle.reader.specs.declared.fields.AugmentationRead.the-variants as augmentation
 use Rattle.reader.specs.declared.fields.Header.{Header}
 use Rattle.reader.specs.declared.fields.Header.the-variants as header
 use Rattle.reader.specs.declared.fields.Record.{Record}
@@ -34,7 +34,7 @@ pub record Rests {A : Type 0} (s : List ℕ) (v : A) (q : ℕ) (x : Read A) : Ty
 -- ---- the augmentation string
 
 -- what the code's struct says
-abbrev pub lettersOf : Promise → Letters
+abbrev pub lettersOf : Augmentation → Letters
 lettersOf p = record { personality = p .personality; lsda = p .lsda; signal = p .signal }
 
 -- a string, and the one that marks a signal frame
@@ -42,9 +42,9 @@ abbrev pub twoOf : (plain signal : List ℕ) (personality lsda : Bool) → List 
 twoOf plain signal personality lsda = spelled plain personality lsda false ∷ spelled signal personality lsda true ∷ []
 
 -- a string's letters and the position past it, or none
-abbrev pub Spells : List ℕ → Spelled → Read Letters → Type 0
-Spells s (spells.As p q) x = Rests s (lettersOf p) q x
-Spells s spells.Nothing x = x ≡ none
+abbrev pub ReadsAugmentation : List ℕ → AugmentationRead → Read Letters → Type 0
+ReadsAugmentation s (augmentation.Known p q) x = Rests s (lettersOf p) q x
+ReadsAugmentation s augmentation.Unknown x = x ≡ none
 
 -- ---- the augmentation data
 

@@ -5,3 +5,4 @@ pub mod Finds
 pub mod OneRegister
 pub mod States
 pub mod Marks
+pub mod Listing

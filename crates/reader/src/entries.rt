@@ -5,7 +5,6 @@ ghost use lib.ListN.{length, getElem?};
 ghost use lib.Dec.{T};
 ghost use Rattle.format.specs.Questions.{isSome};
 ghost use Rattle.format.specs.Reader.{second, isHeader, records, entries};
-ghost use Rattle.format.specs.Headers.{headerId};
 ghost use Rattle.reader.specs.Spans.{part, entryIn, entriesFrom, listed, endAt, Ends, Spans};
 use format::Unsigned;
 
@@ -75,21 +74,11 @@ pub fn second(s: &[u8], at: usize, end: usize) -> u64
     id_of(&s[body..end])
 }
 
-// What marks a header.
-fn header_id(debug: bool) -> u64
-    ensures { λ r. ⌜ r ≡ headerId debug ⌝ }
-{
-    if debug {
-        return 0xffffffff;
-    }
-    0
-}
-
 pub fn is_header(s: &[u8], at: usize, end: usize, debug: bool) -> bool
     requires { ⌜ (at + 8 ≤ end) × (end ≤ length (now s)) ⌝ }
     ensures { λ r. ⌜ r ≡ isHeader debug (entryIn (now (s .entry)) at end) ⌝ }
 {
-    second(s, at, end) == header_id(debug)
+    second(s, at, end) == numbers::header_id(debug)
 }
 
 // A part of a slice by where it starts and ends, where there is one.

@@ -1,4 +1,4 @@
-// The fields of headers and records: question 64. Ported from rucc-asm/src/unwind.rs (pointer_size) of tamnd/rucc, changed: see NOTICE; the rest is added.
+// The fields of headers and records: question 64.
 ghost use mathlib.Core.Path.{_≡_};
 ghost use Prim.Native.Nat.{_≤_};
 ghost use lib.ListN.{length, drop};
@@ -8,9 +8,9 @@ ghost use Rattle.format.specs.Reader.{strip, spellings, readLetters, readCounte
 ghost use Rattle.format.specs.Prelude.{pick};
 ghost use Rattle.format.specs.Machine.{isWord};
 ghost use Rattle.format.specs.Rows.{sameOffset};
-ghost use Rattle.format.specs.Headers.{sizeOf, pointerSize, dataFactor};
+ghost use Rattle.format.specs.Headers.{pointerSize, dataFactor};
 ghost use Rattle.reader.specs.Spans.{numberOf};
-ghost use Rattle.reader.specs.Fields.{lettersOf, twoOf, Spells, CountsIn, SkipsTo, Numbers, Heads, headerFactors, Records};
+ghost use Rattle.reader.specs.Fields.{lettersOf, twoOf, ReadsAugmentation, CountsIn, SkipsTo, Numbers, Heads, headerFactors, Records};
 use crate::entries::Number;
 use crate::entries::Span;
 use format::Signed;
@@ -18,21 +18,21 @@ use format::Unsigned;
 
 // ---- the augmentation string of a header
 
-// What the string promises: a personality, a pointer to call sites, a signal frame.
-pub struct Promise {
+// What the string announces: a personality, a pointer to call sites, a signal frame.
+pub struct Augmentation {
     pub personality: bool,
     pub lsda: bool,
     pub signal: bool,
 }
 
-// What a string promises, and the position past it.
-pub enum Spelled {
-    As(Promise, usize),
-    Nothing,
+// What a string announces, and the position past it.
+pub enum AugmentationRead {
+    Known(Augmentation, usize),
+    Unknown,
 }
 
-// The bytes of `text` stand at `at`.
-fn stands(s: &[u8], at: usize, text: &[u8]) -> bool
+// Whether the bytes of `text` are those at `at`.
+fn text_at(s: &[u8], at: usize, text: &[u8]) -> bool
     ensures { λ r. ⌜ r ≡ isSome (strip (now (text .entry)) (drop at (now (s .entry)))) ⌝ }
 {
     let mut i = 0;
@@ -50,10 +50,10 @@ fn stands(s: &[u8], at: usize, text: &[u8]) -> bool
     true
 }
 
-fn promised(personality: bool, lsda: bool, signal: bool) -> Promise
+fn announced(personality: bool, lsda: bool, signal: bool) -> Augmentation
     ensures { λ r. ⌜ r ≡ record { personality = personality; lsda = lsda; signal = signal } ⌝ }
 {
-    Promise {
+    Augmentation {
         personality,
         lsda,
         signal,
@@ -68,65 +68,48 @@ fn marked(
     signal: &[u8],
     personality: bool,
     lsda: bool,
-) -> Spelled
+) -> AugmentationRead
     requires { ⌜ at ≤ length (now s) ⌝ }
-    ensures { λ r. ⌜ Spells (now (s .entry)) r (readLetters (twoOf (now (plain .entry)) (now (signal .entry)) personality lsda) (drop at (now (s .entry)))) ⌝ }
+    ensures { λ r. ⌜ ReadsAugmentation (now (s .entry)) r (readLetters (twoOf (now (plain .entry)) (now (signal .entry)) personality lsda) (drop at (now (s .entry)))) ⌝ }
 {
-    if stands(s, at, plain) {
-        return Spelled::As(promised(personality, lsda, false), at + plain.len());
+    if text_at(s, at, plain) {
+        return AugmentationRead::Known(announced(personality, lsda, false), at + plain.len());
     }
-    if stands(s, at, signal) {
-        return Spelled::As(promised(personality, lsda, true), at + signal.len());
+    if text_at(s, at, signal) {
+        return AugmentationRead::Known(announced(personality, lsda, true), at + signal.len());
     }
-    Spelled::Nothing
+    AugmentationRead::Unknown
 }
 
 // The string at `at`, one of the source's.
-pub fn letters(s: &[u8], at: usize, debug: bool) -> Spelled
+pub fn letters(s: &[u8], at: usize, debug: bool) -> AugmentationRead
     requires { ⌜ at ≤ length (now s) ⌝ }
-    ensures { λ r. ⌜ Spells (now (s .entry)) r (readLetters (spellings debug) (drop at (now (s .entry)))) ⌝ }
+    ensures { λ r. ⌜ ReadsAugmentation (now (s .entry)) r (readLetters (spellings debug) (drop at (now (s .entry)))) ⌝ }
 {
     if debug {
         return marked(s, at, b"\0", b"S\0", false, false);
     }
-    if let Spelled::As(p, past) = marked(s, at, b"zR\0", b"zRS\0", false, false) {
-        return Spelled::As(p, past);
+    if let AugmentationRead::Known(p, past) = marked(s, at, b"zR\0", b"zRS\0", false, false) {
+        return AugmentationRead::Known(p, past);
     }
-    if let Spelled::As(p, past) = marked(s, at, b"zPR\0", b"zPRS\0", true, false) {
-        return Spelled::As(p, past);
+    if let AugmentationRead::Known(p, past) = marked(s, at, b"zPR\0", b"zPRS\0", true, false) {
+        return AugmentationRead::Known(p, past);
     }
     marked(s, at, b"zPLR\0", b"zPLRS\0", true, true)
 }
 
 // ---- encodings
 
-// How many bytes a pointer has, where its encoding is accepted.
-fn size_of(word: u64, e: u8) -> Number
-    ensures { λ r. ⌜ r ≡ numberOf (sizeOf word e) ⌝ }
-{
-    match e {
-        0x00 => Number::Is(word as usize),
-        0x03 => Number::Is(4),
-        0x0b => Number::Is(4),
-        0x13 => Number::Is(4),
-        0x1b => Number::Is(4),
-        0x04 => Number::Is(8),
-        0x0c => Number::Is(8),
-        _ => Number::Nothing,
-    }
-}
-
-// The indirect bit is taken for a personality only.
+// How many bytes a pointer has, where its encoding is accepted. The indirect bit is taken for a personality only.
 fn pointer_size(indirect: bool, word: u64, e: u8) -> Number
+    requires { ⌜ T (isWord word) ⌝ }
     ensures { λ r. ⌜ r ≡ numberOf (pointerSize indirect word e) ⌝ }
 {
-    if e < 128 {
-        return size_of(word, e % 128);
+    let n = numbers::pointer_size(indirect, word, leb::wide(e));
+    if n == 0 {
+        return Number::Nothing;
     }
-    if indirect {
-        return size_of(word, e % 128);
-    }
-    Number::Nothing
+    Number::Is(n as usize)
 }
 
 // ---- augmentation data
@@ -146,6 +129,7 @@ fn counted(s: &[u8], at: usize) -> Span
 
 // The position past the personality's encoding and pointer, where there is one `here`.
 fn personality_in(s: &[u8], here: bool, word: u64) -> Number
+    requires { ⌜ T (isWord word) ⌝ }
     ensures { λ r. ⌜ SkipsTo (now (s .entry)) r (personalityIn here word (now (s .entry))) ⌝ }
 {
     if !here {
@@ -165,7 +149,7 @@ fn personality_in(s: &[u8], here: bool, word: u64) -> Number
 
 // The bytes of a record's pointer to call sites by the encoding at `at`, none where there is no encoding `here`.
 fn lsda_in(s: &[u8], at: usize, here: bool, word: u64) -> Unsigned
-    requires { ⌜ at ≤ length (now s) ⌝ }
+    requires { ⌜ T (isWord word) × (at ≤ length (now s)) ⌝ }
     ensures { λ r. ⌜ Numbers (now (s .entry)) r (lsdaIn here word (drop at (now (s .entry)))) ⌝ }
 {
     if !here {
@@ -181,7 +165,8 @@ fn lsda_in(s: &[u8], at: usize, here: bool, word: u64) -> Unsigned
 }
 
 // The data that the string promises, the records' own encoding last: the bytes of a record's pointer to call sites.
-fn letters_in(s: &[u8], word: u64, p: Promise) -> Number
+fn letters_in(s: &[u8], word: u64, p: Augmentation) -> Number
+    requires { ⌜ T (isWord word) ⌝ }
     ensures { λ r. ⌜ r ≡ numberOf (lettersIn (lettersOf p) word (now (s .entry))) ⌝ }
 {
     let Number::Is(at) = personality_in(s, p.personality, word) else {
@@ -208,8 +193,8 @@ pub enum Header {
 }
 
 // The augmentation data, of which debug_frame has none; the operations follow it.
-pub fn header_tail(s: &[u8], at: usize, debug: bool, word: u64, p: Promise) -> Header
-    requires { ⌜ at ≤ length (now s) ⌝ }
+pub fn header_tail(s: &[u8], at: usize, debug: bool, word: u64, p: Augmentation) -> Header
+    requires { ⌜ T (isWord word) × (at ≤ length (now s)) ⌝ }
     ensures { λ r. ⌜ Heads (now (s .entry)) r (headerTail debug (lettersOf p) word (drop at (now (s .entry)))) ⌝ }
 {
     if debug {
@@ -233,7 +218,7 @@ pub fn factor_ok(z: i64, word: u64) -> bool
 }
 
 // From the code alignment factor on.
-fn header_factors(s: &[u8], at: usize, debug: bool, word: u64, p: Promise) -> Header
+fn header_factors(s: &[u8], at: usize, debug: bool, word: u64, p: Augmentation) -> Header
     requires { ⌜ T (isWord word) ⌝ }
     ensures { λ r. ⌜ Heads (now (s .entry)) r (headerFactors debug (lettersOf p) word (drop at (now (s .entry)))) ⌝ }
 {
@@ -272,7 +257,7 @@ pub fn parse_header(s: &[u8], debug: bool, word: u64) -> Header
     if s[at] != 1 {
         return Header::Bad;
     }
-    let Spelled::As(p, past) = letters(s, at + 1, debug) else {
+    let AugmentationRead::Known(p, past) = letters(s, at + 1, debug) else {
         return Header::Bad;
     };
     header_factors(s, past, debug, word, p)

@@ -1,37 +1,26 @@
 // The reader: from the bytes of a section to the rules at an offset of a record's function. entries, fields and location find the record
-// and its header (61 to 64), run goes over their operations (65 to 69), shortest tells how their numbers are spelled.
+// and its header (61 to 64), run goes over their operations (65 to 69), shortest tells how their numbers are spelled,
+// and cursor goes from entry to entry.
 ghost use mathlib.Core.Path.{_≡_};
-ghost use Rattle.format.specs.Machine.{isWord};
 ghost use Rattle.format.specs.Reader.{read};
 ghost use Rattle.reader.specs.Finds.{Locates, locateIn, inSection, rulesFrom, shortestFrom};
 use crate::location::Located;
 use crate::location::Locating;
 use format::Reading;
 
+pub mod cursor;
 pub mod entries;
 pub mod fields;
 pub mod location;
 pub mod run;
 pub mod shortest;
 
-pub fn is_word(w: u64) -> bool
-    ensures { λ r. ⌜ r ≡ isWord w ⌝ }
-{
-    if w == 2 {
-        return true;
-    }
-    if w == 4 {
-        return true;
-    }
-    w == 8
-}
-
 // Where the operations of record k and of its header are: questions 11 and 61 to 64. A caller who asks for several registers or offsets of
 // one record passes over the section once.
 pub fn locate(section: &[u8], relocations: &[u64], kind: u64, word: u64, k: u64) -> Locating
     ensures { λ r. ⌜ Locates (now (section .entry)) word r (locateIn (now (section .entry)) (now (relocations .entry)) kind word k) ⌝ }
 {
-    if !is_word(word) {
+    if !numbers::is_word(word) {
         return Locating::No(11);
     }
     if 1 < kind {
@@ -41,7 +30,7 @@ pub fn locate(section: &[u8], relocations: &[u64], kind: u64, word: u64, k: u64)
 }
 
 // Numbers whose positions lie in the section, and whose word is one.
-fn in_section(section: &[u8], l: Located) -> bool
+pub fn in_section(section: &[u8], l: Located) -> bool
     ensures { λ r. ⌜ r ≡ inSection (now (section .entry)) l ⌝ }
 {
     if l.header_end < l.header {
@@ -56,7 +45,7 @@ fn in_section(section: &[u8], l: Located) -> bool
     if section.len() < l.record_end {
         return false;
     }
-    is_word(l.word)
+    numbers::is_word(l.word)
 }
 
 // The CFA rule, register q's rule and the signing state at offset p from what `locate` found: questions 65 to 69. Other numbers than its

@@ -1,12 +1,13 @@
 // Whether the LEB numbers of a header, a record and their operations are spelled shortest, beside the functions that read them.
 ghost use mathlib.Core.Path.{_≡_};
+ghost use mathlib.Core.Bool.{_&&_};
 ghost use Prim.Native.Nat.{_<_};
 ghost use lib.ListN.{drop};
 ghost use Rattle.format.specs.Shortest.{unsigned, signed, numbersShort, extendedOperands, operandsOf, runShort};
 ghost use Rattle.format.specs.Reader.{headerNumbers, headerShort, recordShort};
 ghost use Rattle.reader.specs.Marks.{Passes, numbersOf};
 use crate::fields;
-use crate::fields::Spelled;
+use crate::fields::AugmentationRead;
 use format::Decoded;
 use format::Operation;
 use leb::SignedSpelling;
@@ -20,46 +21,38 @@ pub struct Marked {
     pub shortest: bool,
 }
 
-fn unsigned(s: &[u8], m: Marked) -> Marked
-    ensures { λ r. ⌜ Passes (now (s .entry)) unsigned m r ⌝ }
+// Past a number, whose own mark is `shortest`.
+fn passed(m: Marked, past: usize, shortest: bool) -> Marked
+    ensures { λ r. ⌜ r ≡ record { at = past; shortest = m .shortest && shortest } ⌝ }
 {
-    let UnsignedSpelling::Value(_, past, _, shortest) = leb::uleb_spelling(s, m.at) else {
-        return Marked {
-            at: m.at,
-            shortest: false,
-        };
-    };
-    if !shortest {
+    if shortest {
         return Marked {
             at: past,
-            shortest: false,
+            shortest: m.shortest,
         };
     }
     Marked {
         at: past,
-        shortest: m.shortest,
+        shortest: false,
     }
+}
+
+fn unsigned(s: &[u8], m: Marked) -> Marked
+    ensures { λ r. ⌜ Passes (now (s .entry)) unsigned m r ⌝ }
+{
+    let UnsignedSpelling::Value(_, past, _, shortest) = leb::uleb_spelling(s, m.at) else {
+        return passed(m, m.at, false);
+    };
+    passed(m, past, shortest)
 }
 
 fn signed(s: &[u8], m: Marked) -> Marked
     ensures { λ r. ⌜ Passes (now (s .entry)) signed m r ⌝ }
 {
     let SignedSpelling::Value(_, past, _, shortest) = leb::sleb_spelling(s, m.at) else {
-        return Marked {
-            at: m.at,
-            shortest: false,
-        };
+        return passed(m, m.at, false);
     };
-    if !shortest {
-        return Marked {
-            at: past,
-            shortest: false,
-        };
-    }
-    Marked {
-        at: past,
-        shortest: m.shortest,
-    }
+    passed(m, past, shortest)
 }
 
 // ---- fields
@@ -85,7 +78,7 @@ pub fn header(s: &[u8], debug: bool) -> bool
     if s.len() < 5 {
         return false;
     }
-    let Spelled::As(_, past) = fields::letters(s, 5, debug) else {
+    let AugmentationRead::Known(_, past) = fields::letters(s, 5, debug) else {
         return false;
     };
     factors(s, past, debug)

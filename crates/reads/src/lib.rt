@@ -62,7 +62,7 @@ pub struct Indexed {
 fn asked(kind: u64, word: u64) -> bool
     ensures { λ r. ⌜ r ≡ asked kind word ⌝ }
 {
-    if !reader::is_word(word) {
+    if !numbers::is_word(word) {
         return false;
     }
     kind <= 1
@@ -85,7 +85,7 @@ pub extern "C" fn unwind_locate(
 }
 
 // The numbers as the reader takes them.
-fn reader_places(l: Located) -> reader::location::Located
+pub fn reader_places(l: Located) -> reader::location::Located
     ensures { λ r. ⌜ r ≡ readerPlaces l ⌝ }
 {
     reader::location::Located {

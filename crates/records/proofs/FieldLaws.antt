@@ -55,17 +55,17 @@ module _ {X : Type 0} (e : Extent) (without named table : X) where
   by-landings h = simp (ne-eqb _ _ h)
 
   module _ (h : e .landings ≡ 0) where
-    pub by-none : not (e .personality) ≡ true → pointed e without named table ≡ without
+    pub by-none : e .personality ≡ false → pointed e without named table ≡ without
     unfolding pointed pick
-    by-none t = simp (eq-eqb _ _ h, not-true (e .personality) t)
+    by-none t = simp (eq-eqb _ _ h, t)
 
-    pub by-no-lsda : not (e .personality) ≡ false → not (e .lsda) ≡ true → pointed e without named table ≡ without
+    pub by-no-lsda : e .personality ≡ true → not (e .lsda) ≡ true → pointed e without named table ≡ without
     unfolding pointed pick
-    by-no-lsda t u = simp (eq-eqb _ _ h, not-false (e .personality) t, not-true (e .lsda) u)
+    by-no-lsda t u = simp (eq-eqb _ _ h, t, not-true (e .lsda) u)
 
-    pub by-lsda : not (e .personality) ≡ false → not (e .lsda) ≡ false → pointed e without named table ≡ named
+    pub by-lsda : e .personality ≡ true → not (e .lsda) ≡ false → pointed e without named table ≡ named
     unfolding pointed pick
-    by-lsda t u = simp (eq-eqb _ _ h, not-false (e .personality) t, not-false (e .lsda) u)
+    by-lsda t u = simp (eq-eqb _ _ h, t, not-false (e .lsda) u)
 
 -- ---- how long they are
 

@@ -20,6 +20,8 @@ ghost use Rattle.records.specs.Stepped.{steppedRowBytes, rowsIn, Stepped
 ghost use Rattle.records.specs.Fields.{sizeIn, blankIn, fieldsIn, sumIn, lsdaIn, debugRelocs, ehRelocs, fieldRelocs};
 ghost use Rattle.records.specs.Labels.{isFor, foundPair, pairBetween, stepPair, stepsIn};
 use format::Machine;
+use leading::Kind;
+use leading::kind_of;
 use lists::Extent;
 use lists::Landing;
 use lists::Pair;
@@ -170,21 +172,21 @@ fn size_field(e: Extent) -> u64
     e.length
 }
 
-// The blank bytes of the pointer to the call sites. Landings beat a named personality.
+// The blank bytes of the pointer to the call sites.
 fn lsda_blank(word: u64, e: Extent) -> usize
     requires { ⌜ word ≤ 8 ⌝ }
     ensures { λ r. ⌜ (r ≡ blankIn word e) × (r ≤ 8) ⌝ }
 {
-    if e.landings != 0 {
-        return 4;
+    match kind_of(e) {
+        Kind::Plain => 0,
+        Kind::Personal => 4,
+        Kind::Named => {
+            if !e.lsda {
+                return 0;
+            }
+            numbers::pointer_bytes(word, e.lsda_encoding) as usize
+        }
     }
-    if !e.personality {
-        return 0;
-    }
-    if !e.lsda {
-        return 0;
-    }
-    headers::pointer_bytes(word, e.lsda_encoding) as usize
 }
 
 // n blank bytes behind their count.
@@ -330,10 +332,10 @@ fn set_kind(form: u64) -> u64
     ensures { λ r. ⌜ (r ≡ setKind form) × (r ≤ 11) ⌝ }
 {
     match form {
-        0 => 5,
-        1 => 7,
-        2 => 9,
-        _ => 11,
+        0 => relocs::SET6,
+        1 => relocs::SET8,
+        2 => relocs::SET16,
+        _ => relocs::SET32,
     }
 }
 
@@ -436,11 +438,6 @@ fn step_relocs_count(rows: &[u64], first: usize, n: usize, e: Extent, pairs: &[u
 
 // ---- a record's relocations
 
-// The symbols of the sections that a record points to.
-const EXCEPT_TABLE: u64 = 1;
-
-const DEBUG_FRAME: u64 = 2;
-
 // The length as the distance from the function to its end label, where it has relaxing labels.
 fn sum_pair(out: &mut [u64], i: usize, place: u64, bytes: u64, e: Extent) -> usize
     requires { ⌜ i + length (numbersOf (sumIn place bytes e)) ≤ length (now out) ⌝ }
@@ -449,8 +446,8 @@ fn sum_pair(out: &mut [u64], i: usize, place: u64, bytes: u64, e: Extent) -> usi
     if !e.relaxed {
         return i;
     }
-    let a = relocs::relocation(out, i, place, e.end, 2, bytes, 0);
-    relocs::relocation(out, a, place, e.symbol, 3, bytes, 0)
+    let a = relocs::relocation(out, i, place, e.end, relocs::SUM_PLUS, bytes, 0);
+    relocs::relocation(out, a, place, e.symbol, relocs::SUM_MINUS, bytes, 0)
 }
 
 fn sum_count(e: Extent) -> usize
@@ -467,31 +464,33 @@ fn lsda_reloc(out: &mut [u64], i: usize, word: u64, place: u64, table: u64, e: E
     requires { ⌜ i + length (numbersOf (lsdaIn word place table e)) ≤ length (now out) ⌝ }
     ensures { λ r. ⌜ Wrote (now (out .entry)) (now (out .exit)) i r (numbersOf (lsdaIn word place table e)) ⌝ }
 {
-    if e.landings != 0 {
-        return relocs::relocation(out, i, place, EXCEPT_TABLE, 0, 4, table);
+    match kind_of(e) {
+        Kind::Plain => i,
+        Kind::Personal => {
+            relocs::relocation(out, i, place, relocs::EXCEPT_TABLE, relocs::DATA, 4, table)
+        }
+        Kind::Named => {
+            if !e.lsda {
+                return i;
+            }
+            headers::pointer(out, i, word, place, e.lsda_symbol, e.lsda_encoding)
+        }
     }
-    if !e.personality {
-        return i;
-    }
-    if !e.lsda {
-        return i;
-    }
-    headers::pointer(out, i, word, place, e.lsda_symbol, e.lsda_encoding)
 }
 
 fn lsda_count(e: Extent) -> usize
     ensures { λ r. ⌜ (r ≡ length (lsdaIn 0 0 0 e)) × (r ≤ 1) ⌝ }
 {
-    if e.landings != 0 {
-        return 1;
+    match kind_of(e) {
+        Kind::Plain => 0,
+        Kind::Personal => 1,
+        Kind::Named => {
+            if !e.lsda {
+                return 0;
+            }
+            1
+        }
     }
-    if !e.personality {
-        return 0;
-    }
-    if !e.lsda {
-        return 0;
-    }
-    1
 }
 
 // In debug_frame the header's place in the section, the function and its length.
@@ -499,8 +498,8 @@ fn debug_relocs(out: &mut [u64], i: usize, word: u64, at: u64, cie: u64, e: Exte
     requires { ⌜ (word ≤ 8) × (at < 2 ^ 32) × (i + length (numbersOf (debugRelocs word at cie e)) ≤ length (now out)) ⌝ }
     ensures { λ r. ⌜ Wrote (now (out .entry)) (now (out .exit)) i r (numbersOf (debugRelocs word at cie e)) ⌝ }
 {
-    let a = relocs::relocation(out, i, at + 4, DEBUG_FRAME, 1, 4, cie);
-    let b = relocs::relocation(out, a, at + 8, e.symbol, 1, word, 0);
+    let a = relocs::relocation(out, i, at + 4, relocs::DEBUG_FRAME, relocs::ADDRESS, 4, cie);
+    let b = relocs::relocation(out, a, at + 8, e.symbol, relocs::ADDRESS, word, 0);
     sum_pair(out, b, at + 8 + word, word, e)
 }
 
@@ -509,7 +508,7 @@ fn eh_relocs(out: &mut [u64], i: usize, word: u64, at: u64, table: u64, e: Exten
     requires { ⌜ (at < 2 ^ 32) × (i + length (numbersOf (ehRelocs word at table e)) ≤ length (now out)) ⌝ }
     ensures { λ r. ⌜ Wrote (now (out .entry)) (now (out .exit)) i r (numbersOf (ehRelocs word at table e)) ⌝ }
 {
-    let a = relocs::relocation(out, i, at + 8, e.symbol, 0, 4, 0);
+    let a = relocs::relocation(out, i, at + 8, e.symbol, relocs::DATA, 4, 0);
     let b = lsda_reloc(out, a, word, at + 17, table, e);
     sum_pair(out, b, at + 12, 4, e)
 }

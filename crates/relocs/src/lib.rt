@@ -6,6 +6,37 @@ ghost use Rattle.format.proofs.Wrote.{Wrote};
 ghost use Rattle.format.specs.Lists.{numbersOf};
 ghost use Rattle.format.specs.Headers.{reloc};
 
+// How many numbers a relocation has in a list.
+pub const RELOCATION_STRIDE: usize = 5;
+
+// The kinds of relocation (document 01, "Record"). The kind of a Sub is one more than that of its Set.
+pub const DATA: u64 = 0;
+
+pub const ADDRESS: u64 = 1;
+
+pub const SUM_PLUS: u64 = 2;
+
+pub const SUM_MINUS: u64 = 3;
+
+pub const IMAGE: u64 = 4;
+
+pub const SET6: u64 = 5;
+
+pub const SET8: u64 = 7;
+
+pub const SET16: u64 = 9;
+
+pub const SET32: u64 = 11;
+
+// The symbols that are not the caller's: the personality reference, the call sites and .debug_frame; a marker is this far above its function.
+pub const PERSONALITY: u64 = 0;
+
+pub const EXCEPT_TABLE: u64 = 1;
+
+pub const DEBUG_FRAME: u64 = 2;
+
+pub const MARKER: u64 = 4294967296;
+
 // A number at `at`. This and every other writer gives the place past what it stored.
 pub fn number(out: &mut [u64], at: usize, v: u64) -> usize
     requires { ⌜ at + 1 ≤ length (now out) ⌝ }

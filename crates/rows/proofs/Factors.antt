@@ -8,7 +8,7 @@ use native.Mathlib.Nat.{div-add-mod', mul-le-mul-left}
 use lib.IntN.{ℤ, pos, negsuc, negℤ, _-ℤ_, +ℤ-idl, natAbs}
 use lib.ListN.{length}
 use lib.Signed.{ltZ, mag, quotZ}
-use mir.Syntax.{w64}
+use mir.Syntax.{w32, w64}
 use mir.Val.{SFits, ofZ, toZ}
 use mir.Facts.{toZ-ofZ, toZ-pos}
 use Rattle.format.specs.Leb.{uleb, sleb}
@@ -72,6 +72,11 @@ pub frame-bytes : (w plain sf : ℕ) (reg : List ℕ) (z : ℤ) → cfaBytes w p
 unfolding cfaBytes bySign offsetBytes
 frame-bytes w plain sf reg (pos n) = refl
 frame-bytes w plain sf reg (negsuc n) = refl
+
+-- an offset of 32 bits that is not negative
+pub plain-frame : (w plain sf off : ℕ) (reg : List ℕ) → off < 2147483648 → cfaBytes w plain sf reg (toZ w32 off) ≡ (plain ∷ reg) ++ uleb off
+unfolding cfaBytes
+plain-frame w plain sf off reg h = rw (toZ-pos w32 {n = off} h)
 
 pub offset-ten : (w : ℕ) (z : ℤ) → 2 ≤ w → mag z < 2 ^ 63 → length (offsetBytes w z) ≤ 10
 unfolding offsetBytes

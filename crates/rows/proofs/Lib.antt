@@ -6,5 +6,6 @@ pub mod Bytes
 pub mod Steps
 pub mod Products
 pub mod Numbers
+pub mod ShortSizes
 pub mod WholeNumbers
 pub mod Operations

@@ -34,10 +34,10 @@ turned w n t h z =
     (or-yes (eqb w 2) (eqb w 4) u)) (λ u. let e : w ≡ 8 = eqb-yes u in rw e (omega (arith, rw e at z)))
     (or-yes (eqb w 2 || eqb w 4) (eqb w 8) t)
 
-low-is : (off : ℕ) → off < 2147483648 → toZ w32 off ≡ pos off
+pub low-is : (off : ℕ) → off < 2147483648 → toZ w32 off ≡ pos off
 low-is off h = toZ-pos w32 {n = off} h
 
-high-is : (off : ℕ) → 2147483647 < off → off < 2 ^ 32 → toZ w32 off ≡ negsuc (4294967295 - off)
+pub high-is : (off : ℕ) → 2147483647 < off → off < 2 ^ 32 → toZ w32 off ≡ negsuc (4294967295 - off)
 high-is off l h =
     let k : ℕ = 4294967295 - off in
     let e : off ≡ 2 ^ 32 - suc k = omega arith in

@@ -17,6 +17,7 @@ ghost use Rattle.format.specs.Prelude.{pick};
 ghost use Rattle.format.proofs.Positions.{operationAt};
 ghost use Rattle.rows.specs.Reads.{registerAt, plainAt, factoredAt, signedAt, held, operandAt, registerRow, pairRow, stepAt, registerRowAt, offsetRowAt, pairRowAt, inRegisterAt, savedAt, extendedAt};
 ghost use Rattle.rows.specs.Operands.{bySign, offsetBytes, stepOpcode, stepWidth};
+ghost use Rattle.rows.specs.Sizes.{shortSize, scaled, secondByte};
 use format::Decoded;
 use format::Operation;
 use format::Row;
@@ -90,15 +91,24 @@ fn registers(kind: u64) -> u64
     }
 }
 
+// Every kind has an arm, and no kind another number, so that the compiler makes a table of them and no jumps.
 fn second_operands(kind: u64) -> u64
+    requires { ⌜ kind ≤ 10 ⌝ }
     ensures { λ r. ⌜ r ≡ secondOperands kind ⌝ }
 {
     match kind {
         0 => 4294967296,
         1 => 4294967296,
+        2 => 1,
         3 => 4294967296,
+        4 => 1,
+        5 => 1,
+        6 => 1,
+        7 => 1,
+        8 => 1,
+        9 => 1,
         10 => 65536,
-        _ => 1,
+        _ => 0,
     }
 }
 
@@ -446,18 +456,40 @@ pub fn row_size(word: u64, r: Row) -> usize
     }
 }
 
+// DW_CFA_def_cfa and DW_CFA_def_cfa_offset out of a row's numbers; an offset that is not negative is written as it stands.
+fn def_cfa_in(out: &mut [u8], at: usize, word: u64, reg: u16, off: u64) -> usize
+    requires { ⌜ (2 ≤ word) × (word ≤ 8) × (off < 2 ^ 32) × (at + length (cfaBytes word 0x0c 0x12 (uleb reg) (toZ w32 off)) ≤ length (now out)) ⌝ }
+    ensures { λ r. ⌜ Wrote (now (out .entry)) (now (out .exit)) at r (cfaBytes word 0x0c 0x12 (uleb reg) (toZ w32 off)) ⌝ }
+{
+    if 2147483648 <= off {
+        return def_cfa(out, at, word, reg, signed32(off));
+    }
+    let a = named(out, at, 0x0c, reg);
+    leb::uleb(out, a, off)
+}
+
+fn def_cfa_offset_in(out: &mut [u8], at: usize, word: u64, off: u64) -> usize
+    requires { ⌜ (2 ≤ word) × (word ≤ 8) × (off < 2 ^ 32) × (at + length (cfaBytes word 0x0e 0x13 [] (toZ w32 off)) ≤ length (now out)) ⌝ }
+    ensures { λ r. ⌜ Wrote (now (out .entry)) (now (out .exit)) at r (cfaBytes word 0x0e 0x13 [] (toZ w32 off)) ⌝ }
+{
+    if 2147483648 <= off {
+        return def_cfa_offset(out, at, word, signed32(off));
+    }
+    let a = leb::byte(out, at, 0x0e);
+    leb::uleb(out, a, off)
+}
+
 // The operation of a row that its numbers say, without the row between.
 fn operation_of(out: &mut [u8], at: usize, word: u64, kind: u64, reg: u64, off: u64) -> usize
     requires { ⌜ (2 ≤ word) × (word ≤ 8) × T (rowOk kind reg off) × (at + length (rowBytes word (rowOf kind reg off)) ≤ length (now out)) ⌝ }
     ensures { λ n. ⌜ Wrote (now (out .entry)) (now (out .exit)) at n (rowBytes word (rowOf kind reg off)) ⌝ }
 {
     let g = reg as u16;
-    let z = signed32(off);
     match kind {
-        0 => def_cfa(out, at, word, g, z),
-        1 => def_cfa_offset(out, at, word, z),
+        0 => def_cfa_in(out, at, word, g, off),
+        1 => def_cfa_offset_in(out, at, word, off),
         2 => named(out, at, 0x0d, g),
-        3 => saved(out, at, g, factored(word, z)),
+        3 => saved(out, at, g, factored(word, signed32(off))),
         4 => opcode(out, at, 0xc0, 0x06, g),
         5 => named(out, at, 0x07, g),
         6 => leb::byte(out, at, 0x0a),
@@ -483,7 +515,7 @@ pub fn row_in(out: &mut [u8], at: usize, word: u64, rows: &[u64], i: usize) -> u
     )
 }
 
-// The size of the operation of a row that its numbers say.
+// The size of the operation of a row that its numbers say, by kind.
 fn operation_size(word: u64, kind: u64, reg: u64, off: u64) -> usize
     requires { ⌜ (2 ≤ word) × (word ≤ 8) × T (rowOk kind reg off) ⌝ }
     ensures { λ n. ⌜ n ≡ length (rowBytes word (rowOf kind reg off)) ⌝ }
@@ -504,12 +536,71 @@ fn operation_size(word: u64, kind: u64, reg: u64, off: u64) -> usize
     }
 }
 
+// The size of an operation whose operands are a byte each, by kind. The arms are as those of `second_operands`.
+fn short_size(kind: u64) -> usize
+    requires { ⌜ kind ≤ 10 ⌝ }
+    ensures { λ r. ⌜ (r ≡ shortSize kind) × (r ≤ 3) ⌝ }
+{
+    match kind {
+        0 => 3,
+        1 => 2,
+        2 => 2,
+        3 => 2,
+        4 => 1,
+        5 => 2,
+        6 => 1,
+        7 => 1,
+        8 => 1,
+        9 => 2,
+        10 => 3,
+        _ => 0,
+    }
+}
+
+// The word times the second operand that is written: a saved register's offset is divided by minus the word.
+fn scaled(word: u64, kind: u64, off: u64) -> u64
+    requires { ⌜ (word ≤ 8) × (off < 2 ^ 32) ⌝ }
+    ensures { λ r. ⌜ r ≡ scaled word kind off ⌝ }
+{
+    if kind == 3 {
+        return (4294967296 - off) % 4294967296;
+    }
+    off * word
+}
+
+// The second byte of a second operand that has two at most.
+fn second_byte(word: u64, y: u64) -> usize
+    requires { ⌜ word ≤ 8 ⌝ }
+    ensures { λ r. ⌜ (r ≡ secondByte word y) × (r ≤ 1) ⌝ }
+{
+    if y < 128 * word {
+        return 0;
+    }
+    1
+}
+
+// The size of the operation of a row that its numbers say; without a jump by kind where the register has a byte at most and the
+// second operand two.
+fn numbers_size(word: u64, kind: u64, reg: u64, off: u64) -> usize
+    requires { ⌜ (2 ≤ word) × (word ≤ 8) × T (rowOk kind reg off) ⌝ }
+    ensures { λ n. ⌜ n ≡ length (rowBytes word (rowOf kind reg off)) ⌝ }
+{
+    let y = scaled(word, kind, off);
+    if 63 < reg {
+        return operation_size(word, kind, reg, off);
+    }
+    if 16384 * word <= y {
+        return operation_size(word, kind, reg, off);
+    }
+    short_size(kind) + second_byte(word, y)
+}
+
 // That of row i.
 pub fn row_in_size(word: u64, rows: &[u64], i: usize) -> usize
     requires { ⌜ (2 ≤ word) × (word ≤ 8) × (4 * i + 4 ≤ length (now rows)) × T (rowOkAt (now rows) i) ⌝ }
     ensures { λ n. ⌜ n ≡ length (rowBytes word (rowAt (now (rows .entry)) i .1)) ⌝ }
 {
-    operation_size(word, rows[4 * i + 1], rows[4 * i + 2], rows[4 * i + 3])
+    numbers_size(word, rows[4 * i + 1], rows[4 * i + 2], rows[4 * i + 3])
 }
 
 // ---- a step written, and its size

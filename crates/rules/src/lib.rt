@@ -146,16 +146,16 @@ fn rows_check(rows: &[u64], at: usize, n: usize, simple: bool) -> bool
 pub fn row_check(fs: &[u64], rows: &[u64], k: u64) -> bool
     ensures { λ r. ⌜ r ≡ rowCheckAt (now (fs .entry)) (now (rows .entry)) k ⌝ }
 {
-    if (fs.len() / 18) as u64 <= k {
+    if (fs.len() / lists::FUNCTION_STRIDE) as u64 <= k {
         return false;
     }
-    let b = 18 * k as usize;
+    let b = lists::FUNCTION_STRIDE * k as usize;
     if 1 < fs[b + 6] {
         return false;
     }
     let at = fs[b + 2];
     let n = fs[b + 3];
-    if !lists::inside(at, n, (rows.len() / 4) as u64) {
+    if !lists::inside(at, n, (rows.len() / lists::ROW_STRIDE) as u64) {
         return false;
     }
     if !lists::rows_ok(rows, at as usize, n as usize) {

@@ -173,7 +173,7 @@ pub extern "C" fn unwind_check_section(section: &[u8], word: u64) -> Checked
     ensures { λ r. ⌜ r ≡ checkSection (now (section .entry)) word ⌝ }
     ensures { λ r. ⌜ Means (now (section .entry)) word r ⌝ }
 {
-    if !reader::is_word(word) {
+    if !numbers::is_word(word) {
         return Checked {
             number: 11,
             record: 0,

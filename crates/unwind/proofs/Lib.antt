@@ -1,6 +1,5 @@
 -- The lemmas of this crate's functions.
 pub mod DebugSites
-pub mod Signs
 pub mod Fitting
 pub mod Fronts
 pub mod Demands

@@ -6,8 +6,6 @@ ghost use Rattle.format.specs.RowCheck.{rowCheckAt};
 ghost use Rattle.format.specs.Reader.{read, shortestAt};
 ghost use mathlib.Core.List.{[], _∷_};
 ghost use lib.ListN.{getD};
-ghost use mir.Syntax.{w64};
-ghost use mir.Val.{ofZ};
 ghost use Rattle.format.specs.declared.Reading.the-variants.{Answered};
 ghost use Rattle.format.specs.Answers.{cfaNumbers, ruleNumbers, markedNumbers, bit, outcomeNumbers, Writes};
 ghost use Rattle.unwind.specs.Demand.{Demanded};
@@ -39,7 +37,7 @@ pub fn relaxed_table(
 ) -> Outcome
     ensures { λ r. ⌜ Writes (relaxedTable format (givenOf (now (machine .entry)) (now (functions .entry)) (now (rows .entry)) (now (landings .entry)) (now (pairs .entry))) (roomIn (now (places .entry)) (now (bytes .entry)) (now (relocations .entry)) (now (sites .entry)))) r (now (places .entry)) (now (places .exit)) (now (bytes .entry)) (now (bytes .exit)) (now (relocations .entry)) (now (relocations .exit)) (now (sites .entry)) (now (sites .exit)) ⌝ }
 {
-    let listed = functions.len() / 18;
+    let listed = functions.len() / lists::FUNCTION_STRIDE;
     if listed == 0 {
         return Outcome::Empty;
     }
@@ -131,7 +129,7 @@ pub fn relaxed_debug_frame(
 ) -> Outcome
     ensures { λ r. ⌜ Writes (relaxedDebugFrame format (givenOf (now (machine .entry)) (now (functions .entry)) (now (rows .entry)) (now (landings .entry)) (now (pairs .entry))) (roomIn (now (places .entry)) (now (bytes .entry)) (now (relocations .entry)) [])) r (now (places .entry)) (now (places .exit)) (now (bytes .entry)) (now (bytes .exit)) (now (relocations .entry)) (now (relocations .exit)) [] [] ⌝ }
 {
-    if functions.len() / 18 == 0 {
+    if functions.len() / lists::FUNCTION_STRIDE == 0 {
         return Outcome::Empty;
     }
     if format != 0 {
@@ -383,16 +381,6 @@ pub fn number(b: bool) -> u64
     if b { 1 } else { 0 }
 }
 
-// The 64 bits of a number, in two's complement.
-fn bits(z: i64) -> u64
-    ensures { λ r. ⌜ r ≡ ofZ w64 z ⌝ }
-{
-    if z < 0 {
-        return 18446744073709551615 - ((-1 - z) as u64);
-    }
-    z as u64
-}
-
 fn address_of(c: CfaRule) -> Address
     ensures { λ r. ⌜ r .kind ∷ r .register ∷ r .offset ∷ [] ≡ cfaNumbers c ⌝ }
 {
@@ -405,7 +393,7 @@ fn address_of(c: CfaRule) -> Address
         CfaRule::Register(reg, z) => Address {
             kind: 1,
             register: reg as u64,
-            offset: bits(z),
+            offset: numbers::bits(z),
         },
     }
 }
@@ -418,7 +406,7 @@ fn saving_of(r: Rule) -> Saving
         Rule::Undefined => Saving { kind: 1, value: 0 },
         Rule::Saved(z) => Saving {
             kind: 2,
-            value: bits(z),
+            value: numbers::bits(z),
         },
         Rule::SameValue => Saving { kind: 3, value: 0 },
         Rule::InRegister(reg) => Saving {

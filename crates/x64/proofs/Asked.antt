@@ -9,7 +9,7 @@ use Rattle.format.specs.declared.Question.the-variants.{Yes, No}
 use Rattle.format.specs.Questions.{Question, andThen, noAt}
 use Rattle.format.proofs.Choice.{if-eq, if-ne}
 use Rattle.codes.specs.Codes.{numberOf}
-use Rattle.codes.proofs.Numbers.{Told}
+use Rattle.codes.proofs.Numbers.{Nonzero}
 use Rattle.x64.specs.Answers.{saidBy, askEach}
 
 -- ---- one number
@@ -22,7 +22,7 @@ pub said-some : {r : ℕ} → (r ≡ 0 → ⊥) → saidBy r ≡ some r
 unfolding saidBy
 said-some {r} h = if-ne r 0 none (some r) h
 
-pub said-of : (o : Option ℕ) {r : ℕ} → Told o → r ≡ numberOf o → o ≡ saidBy r
+pub said-of : (o : Option ℕ) {r : ℕ} → Nonzero o → r ≡ numberOf o → o ≡ saidBy r
 unfolding numberOf
 said-of none t e = sym (said-none e)
 said-of (some n) t e = rw e (sym (said-some (λ z. omega arith)))

@@ -13,7 +13,7 @@ use Rattle.format.specs.X64.{codeNo, orNo, firstNo, slots, prologueNo, frameByt
 use Rattle.format.proofs.Choice.{if-le, if-gt}
 use Rattle.format.proofs.PutLaws.{_then_}
 use Rattle.codes.specs.Codes.{numberOf, frameAsk}
-use Rattle.codes.proofs.Numbers.{none-of, some-of, told-first, told-code}
+use Rattle.codes.proofs.Numbers.{none-of, some-of, nonzero-first, nonzero-code}
 use Rattle.codes.proofs.Questions.{yes-of}
 use Rattle.codes.proofs.Sizes.{info-length}
 use Rattle.x64.proofs.Walks.{ors}
@@ -27,7 +27,7 @@ module _ (end : ℕ) (cs : List (ℕ × Seh)) {k : ℕ} (e : k ≡ numberOf (fir
 
   module _ (z : k ≡ 0) where
     every : firstNo codeNo cs ≡ none
-    every = none-of (firstNo codeNo cs) (told-first codeNo told-code cs) (sym e ∙ z)
+    every = none-of (firstNo codeNo cs) (nonzero-first codeNo nonzero-code cs) (sym e ∙ z)
 
     pub no-end : 255 < end → 35 ≡ numberOf (prologueNo end cs)
     unfolding prologueNo orNo numberOf

@@ -15,7 +15,7 @@ use Rattle.format.proofs.Choice.{either}
 use Rattle.prologue.specs.Pieces.{Shaped, piecesOf}
 use Rattle.prologue.proofs.Rows.{ready}
 use Rattle.codes.specs.Codes.{numberOf}
-use Rattle.codes.proofs.Numbers.{told-prologue}
+use Rattle.codes.proofs.Numbers.{nonzero-prologue}
 use Rattle.x64.specs.declared.Source.{Source}
 use Rattle.x64.specs.declared.Span.{Span}
 use Rattle.x64.specs.Answers.{saidBy}
@@ -192,4 +192,4 @@ module _ {s : Source} {fs list : List ℕ} {k pass : ℕ} {p : Span} (h : Found 
     pass-rows o = pass-one s fs list k o ∙ rows-agreed h z ∙ sym (said-none refl)
 
     pub pass-codes : {r : ℕ} → (pass ≡ 1 → ⊥) → r ≡ numberOf (prologueNo (p .end) (codesIn s list p)) → passNo pass s fs list k ≡ saidBy r
-    pass-codes o e = pass-two s fs list k n o ∙ codes-are h z ∙ said-of (prologueNo (p .end) (codesIn s list p)) (told-prologue (p .end) (codesIn s list p)) e
+    pass-codes o e = pass-two s fs list k n o ∙ codes-are h z ∙ said-of (prologueNo (p .end) (codesIn s list p)) (nonzero-prologue (p .end) (codesIn s list p)) e

@@ -18,7 +18,7 @@ use Rattle.format.specs.X64.{codeNo, orNo, firstNo, slots, frameOr, frameByte, 
 use Rattle.format.proofs.PutLaws.{put-none, length-put}
 use Rattle.codes.specs.declared.Code.{Code}
 use Rattle.codes.specs.Codes.{numberOf, frameAsk, Holds}
-use Rattle.codes.proofs.Numbers.{Told, none-of, some-of, told-first}
+use Rattle.codes.proofs.Numbers.{Nonzero, none-of, some-of, nonzero-first}
 use Rattle.codes.proofs.Sizes.{reversed-length}
 use Rattle.prologue.specs.Pieces.{Short}
 use Rattle.prologue.proofs.Distances.{short-passed}
@@ -82,9 +82,9 @@ pub asking : {A : Type 0} (f : A → Option ℕ) (all : List A) → Asking f all
 asking f all = record { same = refl }
 
 module _ {A : Type 0} {f : A → Option ℕ} {all ps rest : List A} (a : Front (Asking f all) ps rest) {k : ℕ} (e : k ≡ numberOf (firstNo f ps)) where
-  pub asked-yes : ((x : A) → Told (f x)) → k ≡ 0 → Asking f all rest
+  pub asked-yes : ((x : A) → Nonzero (f x)) → k ≡ 0 → Asking f all rest
   unfolding orNo
-  asked-yes t z = record { same = a .whole .same ∙ rw (first-append f ps rest, none-of (firstNo f ps) (told-first f t ps) (sym e ∙ z)) }
+  asked-yes t z = record { same = a .whole .same ∙ rw (first-append f ps rest, none-of (firstNo f ps) (nonzero-first f t ps) (sym e ∙ z)) }
 
   pub asked-no : (k ≡ 0 → ⊥) → k ≡ numberOf (firstNo f all)
   unfolding orNo numberOf

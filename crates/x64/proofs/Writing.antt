@@ -25,8 +25,9 @@ use Rattle.format.specs.Answers.{outcomeOf, afterwards, relocationNumbers, Writ
 use Rattle.format.proofs.Asked.{questionOf}
 use Rattle.format.proofs.ListLaws.{each-length}
 use Rattle.x64.specs.declared.Source.{Source}
-use Rattle.x64.specs.Answers.{namedAt, roomFor, askEach, infosOf, isYes}
-use Rattle.x64.specs.Sources.{byRows, resultAt, strideOf, Listed, Sure, codesNo, passNo, orNone, foundAt, asksOf, tableOf}
+use Rattle.lists.specs.Room.{roomFor}
+use Rattle.x64.specs.Answers.{namedAt, askEach, infosOf, isYes}
+use Rattle.x64.specs.Sources.{byRows, resultAt, strideOf, Listed, Writable, codesNo, passNo, orNone, foundAt, asksOf, tableOf}
 use Rattle.x64.proofs.Asked.{said-yes, each-yes}
 use Rattle.x64.proofs.Results.{markers-length}
 
@@ -66,9 +67,9 @@ last-of none none c e = e
 last-of none (some x) c e = let w : _≡_ {A = ℕ} 0 1 = cc in absurd (omega arith)
 last-of (some x) b c e = let w : _≡_ {A = ℕ} 0 1 = cc in absurd (omega arith)
 
-pub sure : {s : Source} {fs list : List ℕ} {n : ℕ} → Listed s fs list n → questionOf (asksOf s fs list n) ≡ Yes → Sure s fs list n
+pub writable : {s : Source} {fs list : List ℕ} {n : ℕ} → Listed s fs list n → questionOf (asksOf s fs list n) ≡ Yes → Writable s fs list n
 unfolding asksOf passNo pick
-sure {s} {fs} {list} {n} l e = record {
+writable {s} {fs} {list} {n} l e = record {
   listed = l;
   agreed = each-yes (passNo 2 s fs list) n (last-of (askEach (passNo 0 s fs list) 0 n) (askEach (passNo 1 s fs list) 0 n) (askEach (passNo 2 s fs list) 0 n) (said-yes (asksOf s fs list n) e));
 }
@@ -148,7 +149,7 @@ runtime-same f g at k zero h = refl
 runtime-same f g at k (suc n) h =
     rw (h k (omega arith) .0, h k (omega arith) .1, runtime-same f g (at + 12) (suc k) n (λ j l. h j (omega arith)))
 
-module _ {s : Source} {fs list : List ℕ} {n : ℕ} (a : Sure s fs list n) where
+module _ {s : Source} {fs list : List ℕ} {n : ℕ} (a : Writable s fs list n) where
   relocations-are : numbersOf (runtimeFrom 0 (each (namedAt (strideOf s) fs) 0 n)) ≡ relocationNumbers (tableOf s fs list n)
   unfolding relocationNumbers x64
   relocations-are =

@@ -3,13 +3,12 @@ use Prim.Native.Nat.{ℕ, zero, suc}
 use mathlib.Core.Bool.{Bool, true, false}
 use mathlib.Core.Option.{Option, none, some}
 use mathlib.Core.List.{List, [], map}
-use lib.Dec.{leb, eqb}
+use lib.Dec.{eqb}
 use Rattle.format.specs.Prelude.{pick}
 use Rattle.format.specs.Lists.{Prologue, field}
-use Rattle.format.specs.Questions.{Question, ask, andThen, noAt}
+use Rattle.format.specs.Questions.{Question, andThen, noAt}
 use Rattle.format.specs.Writer.{joined}
 use Rattle.format.specs.X64.{infoBytes}
-use Rattle.format.specs.declared.Counts.{Counts}
 use Rattle.format.specs.declared.Question as declared
 use Rattle.format.specs.declared.Question.the-variants.{Yes, No}
 
@@ -19,13 +18,6 @@ named symbol size = record { symbol = symbol; size = size; end = 0; codes = [] }
 
 abbrev pub namedAt : (stride : ℕ) (fs : List ℕ) → ℕ → Prologue
 namedAt stride fs k = named (field stride fs k 0) (field stride fs k 1)
-
--- 51 to 54, by counts
-unfoldable pub roomFor : (needed room : Counts) → Question
-roomFor c r =
-    andThen (ask (leb (c .places) (r .places)) 51 0)
-    (andThen (ask (leb (c .bytes) (r .bytes)) 52 0)
-    (andThen (ask (leb (c .relocations) (r .relocations)) 53 0) (ask (leb (c .sites) (r .sites)) 54 0)))
 
 -- a no by its number, or a yes (0)
 unfoldable pub saidBy : ℕ → Option ℕ

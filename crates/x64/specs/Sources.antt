@@ -134,7 +134,7 @@ abbrev pub foundAt : Source → (fs list : List ℕ) → ℕ → Prologue
 foundAt s fs list k = orNone (resultAt s fs list k)
 
 -- every question of the first n functions is answered by yes
-pub record Sure (s : Source) (fs list : List ℕ) (n : ℕ) : Type 0 where
+pub record Writable (s : Source) (fs list : List ℕ) (n : ℕ) : Type 0 where
   pub listed : Listed s fs list n
   pub agreed : (k : ℕ) → k < n → codesNo (resultAt s fs list k) ≡ none
 

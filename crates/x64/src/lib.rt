@@ -17,8 +17,8 @@ ghost use Rattle.format.proofs.Fits.{MachineFits};
 ghost use Rattle.leading.specs.Functions.{RowsReady};
 ghost use Rattle.codes.specs.Codes.{Holds, numberOf, frameAsk};
 ghost use Rattle.prologue.specs.Pieces.{Short, pieceOf};
-ghost use Rattle.x64.specs.Sources.{Readable, pieceAt, movedAt, codesIn, directSpan, RowsSpan, Askable, Found, Listed, Sure, strideOf, longNo, passNo, foundAt, asksOf, tableOf};
-ghost use Rattle.x64.specs.Answers.{named, namedAt, roomFor, saidBy, askEach, infosOf, isYes};
+ghost use Rattle.x64.specs.Sources.{Readable, pieceAt, movedAt, codesIn, directSpan, RowsSpan, Askable, Found, Listed, Writable, strideOf, longNo, passNo, foundAt, asksOf, tableOf};
+ghost use Rattle.x64.specs.Answers.{named, namedAt, saidBy, askEach, infosOf, isYes};
 use codes::Code;
 use codes::code_no;
 use codes::frame_no;
@@ -40,6 +40,7 @@ use lists::lists_ok;
 use lists::machine_of;
 use lists::machine_ok;
 use lists::prologue_at;
+use lists::room;
 use lists::word_ok;
 use prologue::Piece;
 use prologue::moved;
@@ -56,9 +57,17 @@ fn runtime(out: &mut [u64], at: usize, place: u64, symbol: u64, size: u64) -> us
     requires { ⌜ (at + 15 ≤ length (now out)) × (place < 2 ^ 32) × (symbol < 2 ^ 32) ⌝ }
     ensures { λ r. ⌜ Wrote (now (out .entry)) (now (out .exit)) at r (numbersOf (runtimeRelocs place (named symbol size))) ⌝ }
 {
-    let a = relocation(out, at, place, symbol, 4, 4, 0);
-    let b = relocation(out, a, place + 4, symbol, 4, 4, size);
-    relocation(out, b, place + 8, 4294967296 + symbol, 4, 4, 0)
+    let a = relocation(out, at, place, symbol, relocs::IMAGE, 4, 0);
+    let b = relocation(out, a, place + 4, symbol, relocs::IMAGE, 4, size);
+    relocation(
+        out,
+        b,
+        place + 8,
+        relocs::MARKER + symbol,
+        relocs::IMAGE,
+        4,
+        0,
+    )
 }
 
 // Number j of record k, whose stride is `stride`.
@@ -83,27 +92,6 @@ fn put_runtime(out: &mut [u64], fs: &[u64], stride: usize, n: usize) -> usize
         k += 1;
     }
     to
-}
-
-// ---- room
-
-// Questions 51 to 54.
-pub fn room(needed: Counts, room: Counts) -> Question
-    ensures { λ r. ⌜ r ≡ questionOf (roomFor needed room) ⌝ }
-{
-    if room.places < needed.places {
-        return Question::No(51, 0);
-    }
-    if room.bytes < needed.bytes {
-        return Question::No(52, 0);
-    }
-    if room.relocations < needed.relocations {
-        return Question::No(53, 0);
-    }
-    if room.sites < needed.sites {
-        return Question::No(54, 0);
-    }
-    Question::Yes
 }
 
 // ---- codes
@@ -400,9 +388,9 @@ fn stride(s: Source) -> usize
     ensures { λ r. ⌜ r ≡ strideOf s ⌝ }
 {
     if s.direct {
-        return 5;
+        return lists::PROLOGUE_STRIDE;
     }
-    18
+    lists::FUNCTION_STRIDE
 }
 
 // ---- the questions of all functions
@@ -455,7 +443,7 @@ fn first_no(pass: u64, s: Source, fs: &[u64], list: &[u64], n: usize) -> Questio
 
 // How many bytes the records of n functions have.
 fn total(s: Source, fs: &[u64], list: &[u64], n: usize) -> usize
-    requires { ⌜ Sure s (now fs) (now list) n ⌝ }
+    requires { ⌜ Writable s (now fs) (now list) n ⌝ }
     ensures { λ r. ⌜ r ≡ length (infosOf (each (foundAt s (now (fs .entry)) (now (list .entry))) 0 n)) ⌝ }
 {
     let mut sum = 0;
@@ -476,7 +464,7 @@ fn put_infos(
     list: &[u64],
     n: usize,
 ) -> usize
-    requires { ⌜ Sure s (now fs) (now list) n × (n ≤ length (now markers)) × (length (infosOf (each (foundAt s (now fs) (now list)) 0 n)) ≤ length (now info)) ⌝ }
+    requires { ⌜ Writable s (now fs) (now list) n × (n ≤ length (now markers)) × (length (infosOf (each (foundAt s (now fs) (now list)) 0 n)) ≤ length (now info)) ⌝ }
     ensures { λ r. ⌜ (now (markers .exit) ≡ put (now (markers .entry)) 0 (markersFrom 0 (each (foundAt s (now (fs .entry)) (now (list .entry))) 0 n))) × (now (info .exit) ≡ put (now (info .entry)) 0 (infosOf (each (foundAt s (now (fs .entry)) (now (list .entry))) 0 n))) ⌝ }
 {
     let mut at = 0;
@@ -503,7 +491,7 @@ fn put_all(
     relocations: &mut [u64],
     info: &mut [u8],
 ) -> Outcome
-    requires { ⌜ Sure s (now fs) (now list) n × (sites ≡ length (infosOf (each (foundAt s (now fs) (now list)) 0 n))) × (n ≤ length (now markers)) × (12 * n ≤ length (now bytes)) × (15 * n ≤ length (now relocations)) × (sites ≤ length (now info)) ⌝ }
+    requires { ⌜ Writable s (now fs) (now list) n × (sites ≡ length (infosOf (each (foundAt s (now fs) (now list)) 0 n))) × (n ≤ length (now markers)) × (12 * n ≤ length (now bytes)) × (15 * n ≤ length (now relocations)) × (sites ≤ length (now info)) ⌝ }
     ensures { λ r. ⌜ Writes (accepted (tableOf s (now (fs .entry)) (now (list .entry)) n)) r (now (markers .entry)) (now (markers .exit)) (now (bytes .entry)) (now (bytes .exit)) (now (relocations .entry)) (now (relocations .exit)) (now (info .entry)) (now (info .exit)) ⌝ }
 {
     fill(bytes, 0, 12 * n);
@@ -555,7 +543,7 @@ fn write(
     relocations: &mut [u64],
     info: &mut [u8],
 ) -> Outcome
-    requires { ⌜ Sure s (now fs) (now list) n ⌝ }
+    requires { ⌜ Writable s (now fs) (now list) n ⌝ }
     ensures { λ r. ⌜ Writes (fitting (roomIn (now (markers .entry)) (now (bytes .entry)) (now (relocations .entry)) (now (info .entry))) (tableOf s (now (fs .entry)) (now (list .entry)) n)) r (now (markers .entry)) (now (markers .exit)) (now (bytes .entry)) (now (bytes .exit)) (now (relocations .entry)) (now (relocations .exit)) (now (info .entry)) (now (info .exit)) ⌝ }
 {
     let sites = total(s, fs, list, n);
@@ -608,7 +596,7 @@ pub fn seh(
 ) -> Outcome
     ensures { λ r. ⌜ Writes (seh (now (functions .entry)) (now (codes .entry)) (roomIn (now (markers .entry)) (now (bytes .entry)) (now (relocations .entry)) (now (info .entry)))) r (now (markers .entry)) (now (markers .exit)) (now (bytes .entry)) (now (bytes .exit)) (now (relocations .entry)) (now (relocations .exit)) (now (info .entry)) (now (info .exit)) ⌝ }
 {
-    let n = functions.len() / 5;
+    let n = functions.len() / lists::PROLOGUE_STRIDE;
     if n == 0 {
         return Outcome::Empty;
     }
@@ -654,7 +642,7 @@ pub fn windows(
         s,
         functions,
         rows,
-        functions.len() / 18,
+        functions.len() / lists::FUNCTION_STRIDE,
         markers,
         bytes,
         relocations,

@@ -1,7 +1,9 @@
 -- `arm64_codes::form_of` meets its contract.
 use mathlib.Core.Path.{sym, _∙_}
+use Prim.Native.Nat.{suc}
 use native.Mathlib.Omega.{arith}
-use Rattle.arm64_codes.proofs.Spellings.{any-1, any-2, any-3, any-4}
+use Rattle.format.proofs.Choice.{if-le, if-gt}
+use Rattle.arm64.specs.Codes.{formOf}
 use borrow.Author.Needs.{needs}
 use Rattle.arm64_codes.proofs.form_of.Statement.{statement}
 use Rattle.arm64_codes.proofs.form_of.Tie as tie
@@ -10,25 +12,37 @@ short-form-requires : tie.Need-short-form-requires
 short-form-requires c κs = search needs
 
 returns : tie.Need-returns
-returns c = c .short-form .ensures ∙ sym (any-1 _ (omega arith))
+unfolding formOf
+returns c =
+    let b = c .before .before .args .b in
+    c .short-form .ensures ∙ sym (if-le (suc b) 0xc0 _ _ (omega arith))
 
 integer-form-requires : tie.Need-integer-form-requires
 integer-form-requires c κs = search needs
 
 returns-2 : tie.Need-returns-2
-returns-2 c = c .integer-form .ensures ∙ sym (any-2 _ (omega arith) (omega arith))
+unfolding formOf
+returns-2 c =
+    let b = c .before .before .before .args .b in
+    c .integer-form .ensures ∙ sym (if-gt (suc b) 0xc0 _ _ (omega arith) ∙ if-le (suc b) 0xd8 _ _ (omega arith))
 
 vector-form-requires : tie.Need-vector-form-requires
 vector-form-requires c κs = search needs
 
 returns-3 : tie.Need-returns-3
-returns-3 c = c .vector-form .ensures ∙ sym (any-3 _ (omega arith) (omega arith))
+unfolding formOf
+returns-3 c =
+    let b = c .before .before .before .before .args .b in
+    c .vector-form .ensures ∙ sym (if-gt (suc b) 0xc0 _ _ (omega arith) ∙ (if-gt (suc b) 0xd8 _ _ (omega arith) ∙ if-le (suc b) 0xe0 _ _ (omega arith)))
 
 other-form-requires : tie.Need-other-form-requires
 other-form-requires c κs = search needs
 
 returns-4 : tie.Need-returns-4
-returns-4 c = c .other-form .ensures ∙ sym (any-4 _ (omega arith))
+unfolding formOf
+returns-4 c =
+    let b = c .before .before .before .before .args .b in
+    c .other-form .ensures ∙ sym (if-gt (suc b) 0xc0 _ _ (omega arith) ∙ (if-gt (suc b) 0xd8 _ _ (omega arith) ∙ if-gt (suc b) 0xe0 _ _ (omega arith)))
 
 pub form-of-spec : {M : Type 1} → statement M
 form-of-spec =

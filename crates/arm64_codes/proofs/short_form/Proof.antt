@@ -1,7 +1,9 @@
 -- `arm64_codes::short_form` meets its contract.
 use mathlib.Core.Path.{sym, _∙_}
+use Prim.Native.Nat.{suc}
 use native.Mathlib.Omega.{arith}
-use Rattle.arm64_codes.proofs.Spellings.{short-1, short-2, short-3, short-4}
+use Rattle.format.proofs.Choice.{if-le, if-gt}
+use Rattle.arm64.specs.Codes.{shortForm}
 use borrow.Author.Needs.{needs}
 use Rattle.arm64_codes.proofs.short_form.Statement.{statement}
 use Rattle.arm64_codes.proofs.short_form.Tie as tie
@@ -10,25 +12,37 @@ spelling-requires : tie.Need-spelling-requires
 spelling-requires c κs = search needs
 
 returns : tie.Need-returns
-returns c = c .spelling .ensures ∙ sym (short-1 _ (omega arith))
+unfolding shortForm
+returns c =
+    let b = c .before .before .args .b in
+    c .spelling .ensures ∙ sym (if-le (suc b) 0x20 _ _ (omega arith))
 
 spelling-requires-2 : tie.Need-spelling-requires-2
 spelling-requires-2 c κs = search needs
 
 returns-2 : tie.Need-returns-2
-returns-2 c = c .spelling2 .ensures ∙ sym (short-2 _ (omega arith) (omega arith))
+unfolding shortForm
+returns-2 c =
+    let b = c .before .before .before .args .b in
+    c .spelling2 .ensures ∙ sym (if-gt (suc b) 0x20 _ _ (omega arith) ∙ if-le (suc b) 0x40 _ _ (omega arith))
 
 spelling-requires-3 : tie.Need-spelling-requires-3
 spelling-requires-3 c κs = search needs
 
 returns-3 : tie.Need-returns-3
-returns-3 c = c .spelling3 .ensures ∙ sym (short-3 _ (omega arith) (omega arith))
+unfolding shortForm
+returns-3 c =
+    let b = c .before .before .before .before .args .b in
+    c .spelling3 .ensures ∙ sym (if-gt (suc b) 0x20 _ _ (omega arith) ∙ (if-gt (suc b) 0x40 _ _ (omega arith) ∙ if-le (suc b) 0x80 _ _ (omega arith)))
 
 spelling-requires-4 : tie.Need-spelling-requires-4
 spelling-requires-4 c κs = search needs
 
 returns-4 : tie.Need-returns-4
-returns-4 c = c .spelling4 .ensures ∙ sym (short-4 _ (omega arith))
+unfolding shortForm
+returns-4 c =
+    let b = c .before .before .before .before .args .b in
+    c .spelling4 .ensures ∙ sym (if-gt (suc b) 0x20 _ _ (omega arith) ∙ (if-gt (suc b) 0x40 _ _ (omega arith) ∙ if-gt (suc b) 0x80 _ _ (omega arith)))
 
 pub short-form-spec : {M : Type 1} → statement M
 short-form-spec =

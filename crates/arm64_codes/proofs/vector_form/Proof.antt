@@ -1,7 +1,9 @@
 -- `arm64_codes::vector_form` meets its contract.
 use mathlib.Core.Path.{sym, _∙_}
+use Prim.Native.Nat.{suc}
 use native.Mathlib.Omega.{arith}
-use Rattle.arm64_codes.proofs.Spellings.{vector-1, vector-2, vector-3, vector-4, vector-5}
+use Rattle.format.proofs.Choice.{if-le, if-gt}
+use Rattle.arm64.specs.Codes.{vectorForm}
 use borrow.Author.Needs.{needs}
 use Rattle.arm64_codes.proofs.vector_form.Statement.{statement}
 use Rattle.arm64_codes.proofs.vector_form.Tie as tie
@@ -10,31 +12,46 @@ spelling-requires : tie.Need-spelling-requires
 spelling-requires c κs = search needs
 
 returns : tie.Need-returns
-returns c = c .spelling .ensures ∙ sym (vector-1 _ (omega arith))
+unfolding vectorForm
+returns c =
+    let b = c .before .before .args .b in
+    c .spelling .ensures ∙ sym (if-le (suc b) 0xda _ _ (omega arith))
 
 spelling-requires-2 : tie.Need-spelling-requires-2
 spelling-requires-2 c κs = search needs
 
 returns-2 : tie.Need-returns-2
-returns-2 c = c .spelling2 .ensures ∙ sym (vector-2 _ (omega arith) (omega arith))
+unfolding vectorForm
+returns-2 c =
+    let b = c .before .before .before .args .b in
+    c .spelling2 .ensures ∙ sym (if-gt (suc b) 0xda _ _ (omega arith) ∙ if-le (suc b) 0xdc _ _ (omega arith))
 
 spelling-requires-3 : tie.Need-spelling-requires-3
 spelling-requires-3 c κs = search needs
 
 returns-3 : tie.Need-returns-3
-returns-3 c = c .spelling3 .ensures ∙ sym (vector-3 _ (omega arith) (omega arith))
+unfolding vectorForm
+returns-3 c =
+    let b = c .before .before .before .before .args .b in
+    c .spelling3 .ensures ∙ sym (if-gt (suc b) 0xda _ _ (omega arith) ∙ (if-gt (suc b) 0xdc _ _ (omega arith) ∙ if-le (suc b) 0xde _ _ (omega arith)))
 
 spelling-requires-4 : tie.Need-spelling-requires-4
 spelling-requires-4 c κs = search needs
 
 returns-4 : tie.Need-returns-4
-returns-4 c = c .spelling4 .ensures ∙ sym (vector-4 _ (omega arith) (omega arith))
+unfolding vectorForm
+returns-4 c =
+    let b = c .before .before .before .before .before .args .b in
+    c .spelling4 .ensures ∙ sym (if-gt (suc b) 0xda _ _ (omega arith) ∙ (if-gt (suc b) 0xdc _ _ (omega arith) ∙ (if-gt (suc b) 0xde _ _ (omega arith) ∙ if-le (suc b) 0xdf _ _ (omega arith))))
 
 alone-requires : tie.Need-alone-requires
 alone-requires c κs = search needs
 
 returns-5 : tie.Need-returns-5
-returns-5 c = c .alone .ensures ∙ sym (vector-5 _ (omega arith))
+unfolding vectorForm
+returns-5 c =
+    let b = c .before .before .before .before .before .args .b in
+    c .alone .ensures ∙ sym (if-gt (suc b) 0xda _ _ (omega arith) ∙ (if-gt (suc b) 0xdc _ _ (omega arith) ∙ (if-gt (suc b) 0xde _ _ (omega arith) ∙ if-gt (suc b) 0xdf _ _ (omega arith))))
 
 pub vector-form-spec : {M : Type 1} → statement M
 vector-form-spec =

@@ -1,6 +1,6 @@
 -- `dwarf::relocs_size` meets its contract.
 use native.Mathlib.Omega.{arith}
-use Rattle.dwarf.proofs.Totals.{relocs-few, own-numbers, bare-numbers, header-one}
+use Rattle.dwarf.proofs.Totals.{relocs-few, own-numbers, shared-numbers, header-one}
 use borrow.Author.Needs.{needs}
 use Rattle.dwarf.proofs.relocs_size.Statement.{statement}
 use Rattle.dwarf.proofs.relocs_size.Tie as tie
@@ -24,7 +24,7 @@ mul-result-2 : tie.Need-mul-result-2
 mul-result-2 c = omega (arith, relocs-few _ _ _ _ _ (c .before .record-relocs-count .ensures) (c .before .before .before .before .pre .0))
 
 returns-2 : tie.Need-returns-2
-returns-2 c = bare-numbers _ _ _ _ _ (c .before .record-relocs-count .ensures) (c .if1 .left)
+returns-2 c = shared-numbers _ _ _ _ _ (c .before .record-relocs-count .ensures) (c .if1 .left)
 
 pub relocs-size-spec : {M : Type 1} → statement M
 relocs-size-spec =

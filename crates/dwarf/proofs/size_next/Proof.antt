@@ -2,32 +2,32 @@
 use mathlib.Core.Path.{_≡_, ap, _∙_}
 use native.Mathlib.Omega.{arith}
 use Rattle.leading.specs.Functions.{takenIn}
-use Rattle.search.specs.Owners.{owner}
+use Rattle.owners.specs.Owners.{owner}
 use Rattle.dwarf.proofs.Sizing.{size-ready, size-done}
 use borrow.Author.Needs.{needs}
 use Rattle.dwarf.proofs.size_next.Statement.{statement}
 use Rattle.dwarf.proofs.size_next.Tie as tie
 
 -- the owner that was looked up is function k's
-owner-is : (c : tie.After-wide) → let s = c .before .before .before .before .before .before .before .before .before in c .wide .result ≡ owner (s .args .s) (s .args .m) (s .args .fs .now) (s .args .rows .now) (s .args .k)
+owner-is : (c : tie.After-position) → let s = c .before .before .before .before .before .before .before .before .before in c .position .result ≡ owner (s .args .s) (s .args .m) (s .args .fs .now) (s .args .rows .now) (s .args .k)
 owner-is c =
     let s = c .before .before .before .before .before .before .before .before .before in
-    c .wide .ensures .0 ∙ s .pre .1 .each-one (s .args .k) (omega arith)
+    c .position .ensures .0 ∙ s .pre .1 .each-one (s .args .k) (omega arith)
 
 extent-at-requires : tie.Need-extent-at-requires
-extent-at-requires c κs = omega (arith, c .before .before .before .before .before .pre .0 .sure .listed .within)
+extent-at-requires c κs = omega (arith, c .before .before .before .before .before .pre .0 .writable .listed .within)
 
 taken-requires : tie.Need-taken-requires
 taken-requires c κs = search needs
 
-mul-wide : tie.Need-mul-wide
-mul-wide c = search (needs, c .before .before .before .before .before .before .before .pre .1 .long)
+mul-position : tie.Need-mul-position
+mul-position c = search (needs, c .before .before .before .before .before .before .before .pre .1 .long)
 
-shared-slice-read-wide : tie.Need-shared-slice-read-wide
-shared-slice-read-wide c = omega (arith, c .before .before .before .before .before .before .before .before .pre .1 .long)
+shared-slice-read-position : tie.Need-shared-slice-read-position
+shared-slice-read-position c = omega (arith, c .before .before .before .before .before .before .before .before .pre .1 .long)
 
-wide-requires : tie.Need-wide-requires
-wide-requires c κs = search needs
+position-requires : tie.Need-position-requires
+position-requires c κs = search needs
 
 add-align-for : tie.Need-add-align-for
 add-align-for c = search (needs, c .before .before .before .before .before .before .before .before .before .pre .1 .long)
@@ -54,9 +54,9 @@ size-next-spec =
     (tie.spec
     extent-at-requires
     taken-requires
-    mul-wide
-    shared-slice-read-wide
-    wide-requires
+    mul-position
+    shared-slice-read-position
+    position-requires
     add-align-for
     align-for-requires
     is-debug-requires

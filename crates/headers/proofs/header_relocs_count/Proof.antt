@@ -1,8 +1,10 @@
--- `header_relocs_count` counts.
+-- `header_relocs_count` goes by the kind.
+use mathlib.Core.Path.{sym}
 use borrow.Author.Needs.{needs}
-use borrow.Author.Tests.{eq-eqb, ne-eqb}
 use Rattle.format.specs.Prelude.{pick}
+use Rattle.leading.proofs.KindMeans.{decides-plain, decides-personal, decides-named}
 use Rattle.headers.specs.Kinds.{headerRelocCount}
+use Rattle.headers.proofs.Personalities.{count-plain, count-personal, count-named}
 use Rattle.headers.proofs.header_relocs_count.Statement.{statement}
 use Rattle.headers.proofs.header_relocs_count.Tie as tie
 
@@ -10,16 +12,36 @@ returns : tie.Need-returns
 unfolding headerRelocCount pick
 returns c = rw (c .if1 .taken)
 
-returns-2 : tie.Need-returns-2
-unfolding headerRelocCount pick
-returns-2 c = rw (c .before .before .if1 .left, ne-eqb (c .before .before .before .args .e .landings) 0 (c .if2 .taken))
+kind-of-requires : tie.Need-kind-of-requires
+kind-of-requires c κs = search needs
 
-flag-requires : tie.Need-flag-requires
-flag-requires c κs = search needs
+enum-told : tie.Need-enum-told
+enum-told c = search needs
+
+enum-told-2 : tie.Need-enum-told-2
+enum-told-2 c = search needs
+
+enum-told-3 : tie.Need-enum-told-3
+enum-told-3 c = search needs
+
+returns-2 : tie.Need-returns-2
+returns-2 c = let s = c .before .before .before .before in let d = decides-plain (s .args .e) (c .before .before .kind-of .ensures) (c .enum-told .given .1) in sym (count-plain (s .args .debug) (s .args .e) (c .before .before .before .if1 .left) (d .0) (d .1))
 
 returns-3 : tie.Need-returns-3
-unfolding headerRelocCount pick
-returns-3 c = rw (c .before .before .before .if1 .left, eq-eqb (c .before .before .before .before .args .e .landings) 0 (c .before .if2 .left)) (c .flag .ensures .0)
+returns-3 c = let s = c .before .before .before .before in sym (count-personal (s .args .debug) (s .args .e) (c .before .before .before .if1 .left) (decides-personal (s .args .e) (c .before .before .kind-of .ensures) (c .enum-told2 .given .1)))
+
+returns-4 : tie.Need-returns-4
+returns-4 c = let s = c .before .before .before .before in let d = decides-named (s .args .e) (c .before .before .kind-of .ensures) (c .enum-told3 .given .1) in sym (count-named (s .args .debug) (s .args .e) (c .before .before .before .if1 .left) (d .0) (d .1))
 
 pub header-relocs-count-spec : {M : Type 1} → statement M
-header-relocs-count-spec = tie.close (tie.spec returns returns-2 flag-requires returns-3)
+header-relocs-count-spec =
+    tie.close
+    (tie.spec
+    returns
+    kind-of-requires
+    enum-told
+    enum-told-2
+    enum-told-3
+    returns-2
+    returns-3
+    returns-4)

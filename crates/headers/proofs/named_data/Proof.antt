@@ -25,6 +25,9 @@ lsda-letter-requires c κs =
     let h = simp length-append at (c .before .before .before .before .before .before .before .before .before .before .pre .2) in
     (c .before .before .before .before .before .before .before .before .before .before .pre .1, search needs)
 
+cast-byte-2 : tie.Need-cast-byte-2
+cast-byte-2 c = search needs
+
 byte-requires-2 : tie.Need-byte-requires-2
 unfolding namedData
 byte-requires-2 c κs = let h = simp length-append at (c .before .before .before .before .before .before .before .before .before .before .before .before .before .before .pre .2) in search needs
@@ -39,4 +42,4 @@ returns c = c .before .before .before .before .before .before .before .before .b
 pub named-data-spec : {M : Type 1} → statement M
 named-data-spec =
     tie.close
-    (tie.spec cast-byte byte-requires fill-requires lsda-letter-requires byte-requires-2 same-length returns)
+    (tie.spec cast-byte byte-requires fill-requires lsda-letter-requires cast-byte-2 byte-requires-2 same-length returns)

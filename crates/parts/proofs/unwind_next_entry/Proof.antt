@@ -1,7 +1,7 @@
 -- `parts::unwind_next_entry` meets its contract.
 use mathlib.Core.Path.{refl, sym}
 use Rattle.format.specs.Answers.{bit}
-use Rattle.cursor.specs.Listing.{stopped}
+use Rattle.reader.specs.Listing.{stopped}
 use Rattle.parts.specs.Entries.{entryNumbers}
 use Rattle.parts.proofs.Entered.{entry-kind, entry-there}
 use borrow.Author.Needs.{needs}

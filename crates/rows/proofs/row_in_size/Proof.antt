@@ -4,65 +4,65 @@ use Rattle.format.specs.Lists.{rowOkAt, rowAt}
 use Rattle.rows.proofs.row_in_size.Statement.{statement}
 use Rattle.rows.proofs.row_in_size.Tie as tie
 
-mul-operation-size : tie.Need-mul-operation-size
-mul-operation-size c = search needs
+mul-numbers-size : tie.Need-mul-numbers-size
+mul-numbers-size c = search needs
 
-add-operation-size : tie.Need-add-operation-size
-add-operation-size c = search needs
+add-numbers-size : tie.Need-add-numbers-size
+add-numbers-size c = search needs
 
-mul-operation-size-2 : tie.Need-mul-operation-size-2
-mul-operation-size-2 c = search needs
+mul-numbers-size-2 : tie.Need-mul-numbers-size-2
+mul-numbers-size-2 c = search needs
 
-shared-slice-read-operation-size : tie.Need-shared-slice-read-operation-size
-shared-slice-read-operation-size c = search needs
+shared-slice-read-numbers-size : tie.Need-shared-slice-read-numbers-size
+shared-slice-read-numbers-size c = search needs
 
-mul-operation-size-3 : tie.Need-mul-operation-size-3
-mul-operation-size-3 c = search needs
+mul-numbers-size-3 : tie.Need-mul-numbers-size-3
+mul-numbers-size-3 c = search needs
 
-add-operation-size-2 : tie.Need-add-operation-size-2
-add-operation-size-2 c = search needs
+add-numbers-size-2 : tie.Need-add-numbers-size-2
+add-numbers-size-2 c = search needs
 
-mul-operation-size-4 : tie.Need-mul-operation-size-4
-mul-operation-size-4 c = search needs
+mul-numbers-size-4 : tie.Need-mul-numbers-size-4
+mul-numbers-size-4 c = search needs
 
-shared-slice-read-operation-size-2 : tie.Need-shared-slice-read-operation-size-2
-shared-slice-read-operation-size-2 c = search needs
+shared-slice-read-numbers-size-2 : tie.Need-shared-slice-read-numbers-size-2
+shared-slice-read-numbers-size-2 c = search needs
 
-mul-operation-size-5 : tie.Need-mul-operation-size-5
-mul-operation-size-5 c = search needs
+mul-numbers-size-5 : tie.Need-mul-numbers-size-5
+mul-numbers-size-5 c = search needs
 
-add-operation-size-3 : tie.Need-add-operation-size-3
-add-operation-size-3 c = search needs
+add-numbers-size-3 : tie.Need-add-numbers-size-3
+add-numbers-size-3 c = search needs
 
-mul-operation-size-6 : tie.Need-mul-operation-size-6
-mul-operation-size-6 c = search needs
+mul-numbers-size-6 : tie.Need-mul-numbers-size-6
+mul-numbers-size-6 c = search needs
 
-shared-slice-read-operation-size-3 : tie.Need-shared-slice-read-operation-size-3
-shared-slice-read-operation-size-3 c = search needs
+shared-slice-read-numbers-size-3 : tie.Need-shared-slice-read-numbers-size-3
+shared-slice-read-numbers-size-3 c = search needs
 
-operation-size-requires : tie.Need-operation-size-requires
+numbers-size-requires : tie.Need-numbers-size-requires
 unfolding rowOkAt
-operation-size-requires c κs = search needs
+numbers-size-requires c κs = search needs
 
 returns : tie.Need-returns
 unfolding rowAt
-returns c = c .operation-size .ensures
+returns c = c .numbers-size .ensures
 
 pub row-in-size-spec : {M : Type 1} → statement M
 row-in-size-spec =
     tie.close
     (tie.spec
-    mul-operation-size
-    add-operation-size
-    mul-operation-size-2
-    shared-slice-read-operation-size
-    mul-operation-size-3
-    add-operation-size-2
-    mul-operation-size-4
-    shared-slice-read-operation-size-2
-    mul-operation-size-5
-    add-operation-size-3
-    mul-operation-size-6
-    shared-slice-read-operation-size-3
-    operation-size-requires
+    mul-numbers-size
+    add-numbers-size
+    mul-numbers-size-2
+    shared-slice-read-numbers-size
+    mul-numbers-size-3
+    add-numbers-size-2
+    mul-numbers-size-4
+    shared-slice-read-numbers-size-2
+    mul-numbers-size-5
+    add-numbers-size-3
+    mul-numbers-size-6
+    shared-slice-read-numbers-size-3
+    numbers-size-requires
     returns)

@@ -1,8 +1,7 @@
 -- `rows::second_operands` meets its contract.
-use native.Mathlib.Omega.{arith}
-use borrow.Author.Tests.{ne-eqb}
 use Rattle.format.specs.Prelude.{pick}
 use Rattle.format.specs.Lists.{hasOffset, secondOperands}
+use Rattle.rows.proofs.ShortSizes.{no-kind}
 use Rattle.rows.proofs.second_operands.Statement.{statement}
 use Rattle.rows.proofs.second_operands.Tie as tie
 
@@ -24,9 +23,37 @@ returns-4 c = rw (c .match .keys4)
 
 returns-5 : tie.Need-returns-5
 unfolding hasOffset secondOperands pick
-returns-5 c =
-    let k = c .before .args .kind in
-    simp (ne-eqb k 0 (λ q. omega arith), ne-eqb k 1 (λ q. omega arith), ne-eqb k 3 (λ q. omega arith), ne-eqb k 10 (λ q. omega arith))
+returns-5 c = rw (c .match .keys5)
+
+returns-6 : tie.Need-returns-6
+unfolding hasOffset secondOperands pick
+returns-6 c = rw (c .match .keys6)
+
+returns-7 : tie.Need-returns-7
+unfolding hasOffset secondOperands pick
+returns-7 c = rw (c .match .keys7)
+
+returns-8 : tie.Need-returns-8
+unfolding hasOffset secondOperands pick
+returns-8 c = rw (c .match .keys8)
+
+returns-9 : tie.Need-returns-9
+unfolding hasOffset secondOperands pick
+returns-9 c = rw (c .match .keys9)
+
+returns-10 : tie.Need-returns-10
+unfolding hasOffset secondOperands pick
+returns-10 c = rw (c .match .keys10)
+
+returns-11 : tie.Need-returns-11
+unfolding hasOffset secondOperands pick
+returns-11 c = rw (c .match .keys11)
+
+returns-12 : tie.Need-returns-12
+returns-12 c =
+    let n = c .match .rest in
+    absurd (no-kind (c .before .args .kind) (c .before .pre) (n .0 .0 .0 .0 .0 .0 .0 .0 .0 .0 .1) (n .0 .0 .0 .0 .0 .0 .0 .0 .0 .1) (n .0 .0 .0 .0 .0 .0 .0 .0 .1) (n .0 .0 .0 .0 .0 .0 .0 .1) (n .0 .0 .0 .0 .0 .0 .1) (n .0 .0 .0 .0 .0 .1) (n .0 .0 .0 .0 .1) (n .0 .0 .0 .1) (n .0 .0 .1) (n .0 .1) (n .1))
 
 pub second-operands-spec : {M : Type 1} → statement M
-second-operands-spec = tie.close (tie.spec returns returns-2 returns-3 returns-4 returns-5)
+second-operands-spec =
+    tie.close (tie.spec returns returns-2 returns-3 returns-4 returns-5 returns-6 returns-7 returns-8 returns-9 returns-10 returns-11 returns-12)

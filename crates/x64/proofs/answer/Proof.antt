@@ -1,5 +1,5 @@
 -- `x64::answer` meets its contract.
-use Rattle.x64.proofs.Writing.{stays, goes, sure}
+use Rattle.x64.proofs.Writing.{stays, goes, writable}
 use mathlib.Core.Path.{sym, _∙_}
 use borrow.Author.Needs.{needs}
 use Rattle.x64.proofs.answer.Statement.{statement}
@@ -12,7 +12,7 @@ enum-told : tie.Need-enum-told
 enum-told c = search needs
 
 write-requires : tie.Need-write-requires
-write-requires c κs = sure (c .before .before .before .before .before .before .before .before .before .before .before .before .before .pre) (sym (c .before .before .before .before .before .before .asks .ensures) ∙ c .before .before .before .before .enum-told .given .1)
+write-requires c κs = writable (c .before .before .before .before .before .before .before .before .before .before .before .before .before .pre) (sym (c .before .before .before .before .before .before .asks .ensures) ∙ c .before .before .before .before .enum-told .given .1)
 
 enum-known-a : tie.Need-enum-known-a
 enum-known-a c = search needs

@@ -4,7 +4,7 @@ use mir.Syntax.{w64}
 use borrow.Author.Needs.{needs}
 use Rattle.x64.proofs.Walks.{Going, start, taken, turn, ended, Asking, asking, asked-yes, asked-no, all-asked}
 use Rattle.x64.specs.Sources.{codesIn}
-use Rattle.codes.proofs.Numbers.{told-code}
+use Rattle.codes.proofs.Numbers.{nonzero-code}
 use Rattle.format.specs.X64.{codeNo}
 use Prim.Native.Nat.{_-_}
 use Rattle.x64.proofs.codes_no.Statement.{statement}
@@ -41,7 +41,7 @@ loop-less : tie.Need-loop-less Inv-loop μ-loop
 loop-less c = search needs
 
 loop-again : tie.Need-loop-again Inv-loop μ-loop
-loop-again c = turn (c .before .before .before .before .before .loop .inv) (c .before .before .before .before .loop-test .taken) (c .before .before .before .piece-in .ensures) (c .moved-in .ensures .0) (c .moved-in .ensures .1) (λ w. asked-yes w (c .before .before .piece-no .ensures) told-code (c .before .if1 .left))
+loop-again c = turn (c .before .before .before .before .before .loop .inv) (c .before .before .before .before .loop-test .taken) (c .before .before .before .piece-in .ensures) (c .moved-in .ensures .0) (c .moved-in .ensures .1) (λ w. asked-yes w (c .before .before .piece-no .ensures) nonzero-code (c .before .if1 .left))
 
 returns-2 : tie.Need-returns-2 Inv-loop μ-loop
 returns-2 c = all-asked (ended (c .before .loop .inv) (c .loop-test .left))

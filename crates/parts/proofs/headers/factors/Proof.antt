@@ -90,7 +90,7 @@ unfolding headerNumbers
 returns-6 c = rw (ret-over (c .before .before .before .before .before .before .before .before .before .before .before .before .before .before .before .before .before .before .args .body .now) (c .before .before .before .before .before .before .before .before .before .before .before .before .before .before .before .before .before .before .args .at) (c .before .before .before .before .before .before .before .before .before .before .before .before .before .before .before .before .before .before .args .debug) (lettersOf (c .before .before .before .before .before .before .before .before .before .before .before .before .before .before .before .before .before .before .args .p)) (c .before .before .before .before .before .before .before .before .before .before .before .before .before .before .before .before .before .before .args .word) (sym (c .before .before .before .before .before .before .before .before .before .before .before .before .before .before .before .before .read-uleb .ensures) ∙ c .before .before .before .before .before .before .before .before .before .before .before .before .before .before .code .given .1) (c .before .before .before .before .before .before .before .before .before .before .before .before .if1 .left) (sym (c .before .before .before .before .before .before .before .before .before .before .before .read-sleb .ensures) ∙ c .before .before .before .before .before .before .before .before .before .z .given .1) (sym (same (c .before .before .before .before .before .before .before)) ∙ not-false _ (c .before .before .before .before .before .before .if2 .left)) (sym (c .before .before .before .before .before .read-uleb2 .ensures) ∙ c .before .before .before .reg .given .1) (c .before .if3 .taken)) (c .refused6 .ensures)
 
 rest-requires : tie.Need-rest-requires
-rest-requires c κs = (uleb-ahead (c .before .before .before .before .before .before .before .before .before .before .before .before .before .before .before .before .before .args .body .now) (c .before .before .before .before .before .before .before .before .z .given .0 .1 .0) (sym (c .before .before .before .before .read-uleb2 .ensures) ∙ c .before .before .reg .given .1) .1, c .before .before .before .before .before .before .before .before .before .before .before .before .before .before .before .before .before .pre .1)
+rest-requires c κs = (c .before .before .before .before .before .before .before .before .before .before .before .before .before .before .before .before .before .pre .0, uleb-ahead (c .before .before .before .before .before .before .before .before .before .before .before .before .before .before .before .before .before .args .body .now) (c .before .before .before .before .before .before .before .before .z .given .0 .1 .0) (sym (c .before .before .before .before .read-uleb2 .ensures) ∙ c .before .before .reg .given .1) .1, c .before .before .before .before .before .before .before .before .before .before .before .before .before .before .before .before .before .pre .1)
 
 returns-7 : tie.Need-returns-7
 returns-7 c = rw (ret-there (c .before .before .before .before .before .before .before .before .before .before .before .before .before .before .before .before .before .before .args .body .now) (c .before .before .before .before .before .before .before .before .before .before .before .before .before .before .before .before .before .before .args .at) (c .before .before .before .before .before .before .before .before .before .before .before .before .before .before .before .before .before .before .args .debug) (lettersOf (c .before .before .before .before .before .before .before .before .before .before .before .before .before .before .before .before .before .before .args .p)) (c .before .before .before .before .before .before .before .before .before .before .before .before .before .before .before .before .before .before .args .word) (sym (c .before .before .before .before .before .before .before .before .before .before .before .before .before .before .before .before .read-uleb .ensures) ∙ c .before .before .before .before .before .before .before .before .before .before .before .before .before .before .code .given .1) (c .before .before .before .before .before .before .before .before .before .before .before .before .if1 .left) (sym (c .before .before .before .before .before .before .before .before .before .before .before .read-sleb .ensures) ∙ c .before .before .before .before .before .before .before .before .before .z .given .1) (sym (same (c .before .before .before .before .before .before .before)) ∙ not-false _ (c .before .before .before .before .before .before .if2 .left)) (sym (c .before .before .before .before .before .read-uleb2 .ensures) ∙ c .before .before .before .reg .given .1) (c .before .if3 .left)) (c .rest .ensures)

@@ -2,7 +2,7 @@
 use mathlib.Core.Path.{sym, _∙_}
 use native.Mathlib.Omega.{arith}
 use borrow.Author.Tests.{not-true, not-false}
-use Rattle.cursor.proofs.Steps.{entry-fits}
+use Rattle.reader.proofs.Steps.{entry-fits}
 use Rattle.parts.proofs.Entered.{body-ends}
 use Rattle.parts.proofs.Recorded.{record-wordless, record-kindless, record-none, record-header, record-there}
 use borrow.Author.Needs.{needs}

@@ -64,7 +64,7 @@ returns-6 : tie.Need-returns-6
 returns-6 c = factors-over (c .before .before .before .before .before .before .before .before .before .before .before .before .before .before .before .before .before .args .s .now) (c .before .before .before .before .before .before .before .before .before .before .before .before .before .before .before .before .before .args .at) (c .before .before .before .before .before .before .before .before .before .before .before .before .before .before .before .before .before .args .debug) (c .before .before .before .before .before .before .before .before .before .before .before .before .before .before .before .before .before .args .word) (c .before .before .before .before .before .before .before .before .before .before .before .before .before .before .before .before .before .args .p) (sym (c .before .before .before .before .before .before .before .before .before .before .before .before .before .before .before .read-uleb .ensures) ∙ c .before .before .before .before .before .before .before .before .before .before .before .before .before .code .given .1) (c .before .before .before .before .before .before .before .before .before .before .before .if1 .left) (sym (c .before .before .before .before .before .before .before .before .before .before .read-sleb .ensures) ∙ c .before .before .before .before .before .before .before .before .z .given .1) (sym (same (c .before .before .before .before .before .before)) ∙ not-false _ (c .before .before .before .before .before .if2 .left)) (sym (c .before .before .before .before .read-uleb2 .ensures) ∙ c .before .before .reg .given .1) (c .if3 .taken)
 
 header-tail-requires : tie.Need-header-tail-requires
-header-tail-requires c κs = uleb-ahead (c .before .before .before .before .before .before .before .before .before .before .before .before .before .before .before .before .before .args .s .now) (c .before .before .before .before .before .before .before .before .z .given .0 .1 .0) (sym (c .before .before .before .before .read-uleb2 .ensures) ∙ c .before .before .reg .given .1) .1
+header-tail-requires c κs = (c .before .before .before .before .before .before .before .before .before .before .before .before .before .before .before .before .before .pre, uleb-ahead (c .before .before .before .before .before .before .before .before .before .before .before .before .before .before .before .before .before .args .s .now) (c .before .before .before .before .before .before .before .before .z .given .0 .1 .0) (sym (c .before .before .before .before .read-uleb2 .ensures) ∙ c .before .before .reg .given .1) .1)
 
 returns-7 : tie.Need-returns-7
 returns-7 c = rw (factors-there (c .before .before .before .before .before .before .before .before .before .before .before .before .before .before .before .before .before .before .args .s .now) (c .before .before .before .before .before .before .before .before .before .before .before .before .before .before .before .before .before .before .args .at) (c .before .before .before .before .before .before .before .before .before .before .before .before .before .before .before .before .before .before .args .debug) (c .before .before .before .before .before .before .before .before .before .before .before .before .before .before .before .before .before .before .args .word) (c .before .before .before .before .before .before .before .before .before .before .before .before .before .before .before .before .before .before .args .p) (sym (c .before .before .before .before .before .before .before .before .before .before .before .before .before .before .before .before .read-uleb .ensures) ∙ c .before .before .before .before .before .before .before .before .before .before .before .before .before .before .code .given .1) (c .before .before .before .before .before .before .before .before .before .before .before .before .if1 .left) (sym (c .before .before .before .before .before .before .before .before .before .before .before .read-sleb .ensures) ∙ c .before .before .before .before .before .before .before .before .before .z .given .1) (sym (same (c .before .before .before .before .before .before .before)) ∙ not-false _ (c .before .before .before .before .before .before .if2 .left)) (sym (c .before .before .before .before .before .read-uleb2 .ensures) ∙ c .before .before .before .reg .given .1) (c .before .if3 .left)) (c .header-tail .ensures)

@@ -6,7 +6,7 @@ use Rattle.reader.proofs.fields.header_tail.Statement.{statement}
 use Rattle.reader.proofs.fields.header_tail.Tie as tie
 
 returns : tie.Need-returns
-returns c = tail-debug (c .before .before .args .s .now) (c .before .before .args .at) (c .before .before .args .debug) (c .before .before .args .word) (c .before .before .args .p) (c .if1 .taken) (c .before .before .pre)
+returns c = tail-debug (c .before .before .args .s .now) (c .before .before .args .at) (c .before .before .args .debug) (c .before .before .args .word) (c .before .before .args .p) (c .if1 .taken) (c .before .before .pre .1)
 
 counted-requires : tie.Need-counted-requires
 counted-requires c κs = search needs

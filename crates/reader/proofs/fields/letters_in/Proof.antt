@@ -17,7 +17,7 @@ returns : tie.Need-returns
 returns c = letters-first (c .before .before .before .before .args .s .now) (c .before .before .before .before .args .word) (c .before .before .before .before .args .p) (c .before .before .personality-in .ensures) (c .enum-told .given .1)
 
 lsda-in-requires : tie.Need-lsda-in-requires
-lsda-in-requires c κs = letters-inside (c .before .before .before .before .before .args .s .now) (c .before .before .before .before .before .args .word) (c .before .before .before .before .before .args .p) (c .before .before .before .personality-in .ensures) (c .before .at .given .1)
+lsda-in-requires c κs = (c .before .before .before .before .before .pre, letters-inside (c .before .before .before .before .before .args .s .now) (c .before .before .before .before .before .args .word) (c .before .before .before .before .before .args .p) (c .before .before .before .personality-in .ensures) (c .before .at .given .1))
 
 enum-known-n : tie.Need-enum-known-n
 enum-known-n c = search needs

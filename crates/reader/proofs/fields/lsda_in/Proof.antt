@@ -6,7 +6,7 @@ use Rattle.reader.proofs.fields.lsda_in.Statement.{statement}
 use Rattle.reader.proofs.fields.lsda_in.Tie as tie
 
 returns : tie.Need-returns
-returns c = lsda-absent (c .before .before .args .s .now) (c .before .before .args .at) (c .before .before .args .here) (c .before .before .args .word) (c .before .before .pre) (c .if1 .taken)
+returns c = lsda-absent (c .before .before .args .s .now) (c .before .before .args .at) (c .before .before .args .here) (c .before .before .args .word) (c .before .before .pre .1) (c .if1 .taken)
 
 returns-2 : tie.Need-returns-2
 returns-2 c = lsda-empty (c .before .before .before .args .s .now) (c .before .before .before .args .at) (c .before .before .before .args .here) (c .before .before .before .args .word) (c .before .if1 .left) (c .if2 .taken)

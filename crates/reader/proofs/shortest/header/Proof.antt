@@ -4,8 +4,8 @@ use native.Mathlib.Omega.{arith}
 use lib.ListN.{drop}
 use borrow.Author.Needs.{needs}
 use Rattle.format.specs.Reader.{spellings, readLetters}
-use Rattle.reader.specs.Fields.{Spells}
-use Rattle.reader.specs.declared.fields.Spelled.{Spelled}
+use Rattle.reader.specs.Fields.{ReadsAugmentation}
+use Rattle.reader.specs.declared.fields.AugmentationRead.{AugmentationRead}
 use Rattle.reader.proofs.Marks.{header-ended, header-unspelled, header-numbers}
 use Rattle.reader.proofs.shortest.header.Statement.{statement}
 use Rattle.reader.proofs.shortest.header.Tie as tie
@@ -26,7 +26,7 @@ returns-2 : tie.Need-returns-2
 returns-2 c =
     let a = c .before .before .before .before .before .args in
     header-unspelled (a .s .now) (a .debug)
-    (subst (λ (r : Spelled). Spells (a .s .now) r (readLetters (spellings (a .debug)) (drop 5 (a .s .now)))) (c .enum-told .given .1) (c .before .before .letters .ensures))
+    (subst (λ (r : AugmentationRead). ReadsAugmentation (a .s .now) r (readLetters (spellings (a .debug)) (drop 5 (a .s .now)))) (c .enum-told .given .1) (c .before .before .letters .ensures))
 
 factors-requires : tie.Need-factors-requires
 factors-requires c κs = search needs
@@ -34,7 +34,7 @@ factors-requires c κs = search needs
 returns-3 : tie.Need-returns-3
 returns-3 c =
     let a = c .before .before .before .before .before .before .before .args in
-    let t = subst (λ (r : Spelled). Spells (a .s .now) r (readLetters (spellings (a .debug)) (drop 5 (a .s .now)))) (c .before .before .past .given .1) (c .before .before .before .before .letters .ensures) in
+    let t = subst (λ (r : AugmentationRead). ReadsAugmentation (a .s .now) r (readLetters (spellings (a .debug)) (drop 5 (a .s .now)))) (c .before .before .past .given .1) (c .before .before .before .before .letters .ensures) in
     c .factors .ensures ∙ header-numbers (a .s .now) (a .debug) (c .before .before .past .given .0 .1 .0) (t .read)
 
 pub header-spec : {M : Type 1} → statement M

@@ -1,11 +1,11 @@
 -- `reader::shortest::signed` meets its contract.
-use mathlib.Core.Path.{subst}
+use mathlib.Core.Path.{sym, subst}
 use borrow.Author.Needs.{needs}
-use borrow.Author.Tests.{not-true, not-false}
 use Rattle.leb.specs.Spellings.{SpellsSigned}
 use Rattle.leb.proofs.Spellings.{signed-mark, signed-unread}
 use Rattle.format.specs.Shortest.{signed}
-use Rattle.reader.proofs.Marks.{passes-none, passes-long, passes-short}
+use Rattle.reader.specs.Marks.{Passes}
+use Rattle.reader.proofs.Marks.{passes-none, passes}
 use Rattle.reader.proofs.shortest.signed.Statement.{statement}
 use Rattle.reader.proofs.shortest.signed.Tie as tie
 
@@ -18,26 +18,32 @@ enum-known-past c = search needs
 enum-told : tie.Need-enum-told
 enum-told c = search needs
 
+passed-requires : tie.Need-passed-requires
+passed-requires c κs = search needs
+
 returns : tie.Need-returns
 returns c =
-    let a = c .before .before .before .before .args in
-    passes-none (a .s .now) signed (a .m) (signed-unread (a .s .now) (a .m .at) (subst (SpellsSigned (a .s .now) (a .m .at)) (c .enum-told .given .1) (c .before .before .sleb-spelling .ensures)))
+    let a = c .before .before .before .before .before .args in
+    let e = subst (SpellsSigned (a .s .now) (a .m .at)) (c .before .enum-told .given .1) (c .before .before .before .sleb-spelling .ensures) in
+    subst (Passes (a .s .now) signed (a .m)) (sym (c .passed .ensures)) (passes-none (a .s .now) signed (a .m) (signed-unread (a .s .now) (a .m .at) e))
+
+passed-requires-2 : tie.Need-passed-requires-2
+passed-requires-2 c κs = search needs
 
 returns-2 : tie.Need-returns-2
 returns-2 c =
     let a = c .before .before .before .before .before .before .args in
-    passes-long (a .s .now) signed (a .m)
-    (signed-mark (a .s .now) (a .m .at) (subst (SpellsSigned (a .s .now) (a .m .at)) (c .before .before .past .given .1) (c .before .before .before .before .sleb-spelling .ensures)))
-    (not-true _ (c .if1 .taken))
-
-returns-3 : tie.Need-returns-3
-returns-3 c =
-    let a = c .before .before .before .before .before .before .args in
-    passes-short (a .s .now) signed (a .m)
-    (signed-mark (a .s .now) (a .m .at) (subst (SpellsSigned (a .s .now) (a .m .at)) (c .before .before .past .given .1) (c .before .before .before .before .sleb-spelling .ensures)))
-    (not-false _ (c .if1 .left))
+    let e = subst (SpellsSigned (a .s .now) (a .m .at)) (c .before .before .past .given .1) (c .before .before .before .before .sleb-spelling .ensures) in
+    subst (Passes (a .s .now) signed (a .m)) (sym (c .passed2 .ensures)) (passes (a .s .now) signed (a .m) _ (signed-mark (a .s .now) (a .m .at) e))
 
 pub signed-spec : {M : Type 1} → statement M
 signed-spec =
     tie.close
-    (tie.spec sleb-spelling-requires enum-known-past enum-told returns returns-2 returns-3)
+    (tie.spec
+    sleb-spelling-requires
+    enum-known-past
+    enum-told
+    passed-requires
+    returns
+    passed-requires-2
+    returns-2)

@@ -1,11 +1,11 @@
 -- `reader::shortest::unsigned` meets its contract.
-use mathlib.Core.Path.{subst}
+use mathlib.Core.Path.{sym, subst}
 use borrow.Author.Needs.{needs}
-use borrow.Author.Tests.{not-true, not-false}
 use Rattle.leb.specs.Spellings.{SpellsUnsigned}
 use Rattle.leb.proofs.Spellings.{unsigned-mark, unsigned-unread}
 use Rattle.format.specs.Shortest.{unsigned}
-use Rattle.reader.proofs.Marks.{passes-none, passes-long, passes-short}
+use Rattle.reader.specs.Marks.{Passes}
+use Rattle.reader.proofs.Marks.{passes-none, passes}
 use Rattle.reader.proofs.shortest.unsigned.Statement.{statement}
 use Rattle.reader.proofs.shortest.unsigned.Tie as tie
 
@@ -18,26 +18,32 @@ enum-known-past c = search needs
 enum-told : tie.Need-enum-told
 enum-told c = search needs
 
+passed-requires : tie.Need-passed-requires
+passed-requires c κs = search needs
+
 returns : tie.Need-returns
 returns c =
-    let a = c .before .before .before .before .args in
-    passes-none (a .s .now) unsigned (a .m) (unsigned-unread (a .s .now) (a .m .at) (subst (SpellsUnsigned (a .s .now) (a .m .at)) (c .enum-told .given .1) (c .before .before .uleb-spelling .ensures)))
+    let a = c .before .before .before .before .before .args in
+    let e = subst (SpellsUnsigned (a .s .now) (a .m .at)) (c .before .enum-told .given .1) (c .before .before .before .uleb-spelling .ensures) in
+    subst (Passes (a .s .now) unsigned (a .m)) (sym (c .passed .ensures)) (passes-none (a .s .now) unsigned (a .m) (unsigned-unread (a .s .now) (a .m .at) e))
+
+passed-requires-2 : tie.Need-passed-requires-2
+passed-requires-2 c κs = search needs
 
 returns-2 : tie.Need-returns-2
 returns-2 c =
     let a = c .before .before .before .before .before .before .args in
-    passes-long (a .s .now) unsigned (a .m)
-    (unsigned-mark (a .s .now) (a .m .at) (subst (SpellsUnsigned (a .s .now) (a .m .at)) (c .before .before .past .given .1) (c .before .before .before .before .uleb-spelling .ensures)))
-    (not-true _ (c .if1 .taken))
-
-returns-3 : tie.Need-returns-3
-returns-3 c =
-    let a = c .before .before .before .before .before .before .args in
-    passes-short (a .s .now) unsigned (a .m)
-    (unsigned-mark (a .s .now) (a .m .at) (subst (SpellsUnsigned (a .s .now) (a .m .at)) (c .before .before .past .given .1) (c .before .before .before .before .uleb-spelling .ensures)))
-    (not-false _ (c .if1 .left))
+    let e = subst (SpellsUnsigned (a .s .now) (a .m .at)) (c .before .before .past .given .1) (c .before .before .before .before .uleb-spelling .ensures) in
+    subst (Passes (a .s .now) unsigned (a .m)) (sym (c .passed2 .ensures)) (passes (a .s .now) unsigned (a .m) _ (unsigned-mark (a .s .now) (a .m .at) e))
 
 pub unsigned-spec : {M : Type 1} → statement M
 unsigned-spec =
     tie.close
-    (tie.spec uleb-spelling-requires enum-known-past enum-told returns returns-2 returns-3)
+    (tie.spec
+    uleb-spelling-requires
+    enum-known-past
+    enum-told
+    passed-requires
+    returns
+    passed-requires-2
+    returns-2)

@@ -1,2 +1,0 @@
--- What stands at a position of a section.
-pub mod Listing

@@ -1,9 +1,0 @@
--- The lemmas of this crate's functions, and the laws that callers of the search need.
-pub mod KindLaws
-pub mod Finding
-pub mod Comparing
-pub mod Firsts
-pub mod Walking
-pub mod Digests
-pub mod Claims
-pub mod Sharing

@@ -1,3 +1,0 @@
--- What the header search says.
-pub mod Owners
-pub mod Chains
