@@ -2,3 +2,4 @@
 pub mod Given
 pub mod Own
 pub mod Asked
+pub mod Indexes

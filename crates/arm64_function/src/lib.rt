@@ -10,11 +10,11 @@ ghost use Rattle.format.specs.Lists.{field, allIn};
 ghost use Rattle.format.proofs.Wrote.{Wrote};
 ghost use Rattle.arm64.specs.Lists.{functionStride, epilogueStride, numberedFunction};
 ghost use Rattle.arm64.specs.Packing.{candidate, packedWord};
-ghost use Rattle.arm64.specs.Runs.{noPair, runFits, runsBytes};
+ghost use Rattle.arm64.specs.Runs.{noPair, runFits, leads, runsBytes};
 ghost use Rattle.arm64.specs.Writer.{prologueRun, instructions, isPacked, infoOf, functionAsks};
 ghost use Rattle.arm64_simple.specs.Saves.{saves};
 ghost use Rattle.arm64_function.specs.Listed.{Listed, Fine, asks};
-ghost use Rattle.arm64_function.specs.Own.{prologueAt, epilogueAt, partsAt, Ready, ownAt, codesIn, Nearest, heldTo, startOkAt, fitsAt, partsOk, lengthOk};
+ghost use Rattle.arm64_function.specs.Own.{prologueAt, epilogueAt, partsAt, Ready, Fitted, prologueIn, runAt, ownAt, codesIn, indexAt, Nearest, heldTo, startOkAt, fitsAt, partsOk, lengthOk, indexIn, Known, Ahead};
 use arm64_simple::Run;
 
 // A function's codes: its prologue's, and its epilogues from `first` to `end`.
@@ -203,4 +203,88 @@ pub fn function_no(fs: &[u64], es: &[u64], cs: &[u64], k: usize) -> u64
         return 83;
     }
     0
+}
+
+// ---- the epilogues' words
+
+// The index in the word at `at`.
+fn index_in(out: &[u8], at: usize) -> usize
+    requires { ⌜ at + 4 ≤ length (now out) ⌝ }
+    ensures { λ r. ⌜ r ≡ indexIn (now (out .entry)) at ⌝ }
+{
+    (leb::wide(out[at + 2]) / 64 + 4 * leb::wide(out[at + 3])) as usize
+}
+
+// The index of epilogue i, whose run leads in the prologue's.
+fn leading_index(es: &[u64], cs: &[u64], p: Parts, i: usize) -> usize
+    requires { ⌜ Ready (now es) (now cs) p × (p .first ≤ i) × (i < p .end) × (leads (runAt (now es) (now cs) i) (prologueIn (now cs) p) ≡ true) ⌝ }
+    ensures { λ r. ⌜ r ≡ indexAt (now (es .entry)) (now (cs .entry)) p i ⌝ }
+{
+    let prologue = p.prologue;
+    arm64_simple::run_size(cs, prologue) - arm64_simple::run_size(cs, epilogue_at(es, i))
+}
+
+// An epilogue's index, and the bytes of codes once its run is written.
+pub struct Scope {
+    pub index: usize,
+    pub next: usize,
+}
+
+// The index of epilogue i where the words in front of its own stand from `to` on: a run that was there before has its index in the word.
+fn scope_of(out: &[u8], to: usize, es: &[u64], cs: &[u64], p: Parts, i: usize, next: usize) -> Scope
+    requires { ⌜ Ready (now es) (now cs) p × (p .first ≤ i) × (i < p .end) × Ahead (now es) (now cs) p next i × (next ≤ 1020) × Known (now out) to (now es) (now cs) p i × (to + 4 * (i - p .first) ≤ length (now out)) ⌝ }
+    ensures { λ r. ⌜ (r .index ≡ indexAt (now (es .entry)) (now (cs .entry)) p i) × (r .next ≡ next + length (runsBytes (ownAt (now (es .entry)) (now (cs .entry)) p i))) ⌝ }
+{
+    let run = epilogue_at(es, i);
+    let prologue = p.prologue;
+    if arm64_sharing::leads(cs, run, prologue) {
+        let index = leading_index(es, cs, p, i);
+        return Scope {
+            index,
+            next,
+        };
+    }
+    let j = nearest(es, cs, p, i);
+    if j < i {
+        let index = index_in(out, to + 4 * (j - p.first));
+        return Scope {
+            index,
+            next,
+        };
+    }
+    let size = arm64_simple::run_size(cs, run) + 1;
+    Scope {
+        index: next,
+        next: next + size,
+    }
+}
+
+// ---- the codes
+
+// The run of epilogue i, where it is its own.
+fn put_own(out: &mut [u8], at: usize, es: &[u64], cs: &[u64], p: Parts, i: usize) -> usize
+    requires { ⌜ Ready (now es) (now cs) p × Fitted (now es) (now cs) p × (p .first ≤ i) × (i < p .end) × (at + length (runsBytes (ownAt (now es) (now cs) p i)) ≤ length (now out)) ⌝ }
+    ensures { λ r. ⌜ Wrote (now (out .entry)) (now (out .exit)) at r (runsBytes (ownAt (now (es .entry)) (now (cs .entry)) p i)) ⌝ }
+{
+    let size = own_size(es, cs, p, i);
+    if size == 0 {
+        return at;
+    }
+    arm64_sharing::put_run(out, at, size - 1, cs, epilogue_at(es, i))
+}
+
+// The prologue's codes, and the runs of the epilogues that have their own.
+fn put_codes(out: &mut [u8], at: usize, es: &[u64], cs: &[u64], p: Parts) -> usize
+    requires { ⌜ Ready (now es) (now cs) p × Fitted (now es) (now cs) p × (at + length (codesIn (now es) (now cs) p) ≤ length (now out)) ⌝ }
+    ensures { λ r. ⌜ Wrote (now (out .entry)) (now (out .exit)) at r (codesIn (now (es .entry)) (now (cs .entry)) p) ⌝ }
+{
+    let prologue = p.prologue;
+    let size = arm64_simple::run_size(cs, prologue);
+    let mut q = arm64_sharing::put_run(out, at, size, cs, prologue);
+    let mut i = p.first;
+    while i < p.end {
+        q = put_own(out, q, es, cs, p, i);
+        i += 1;
+    }
+    q
 }

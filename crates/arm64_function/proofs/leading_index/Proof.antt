@@ -1,0 +1,32 @@
+use borrow.Author.Needs.{needs}
+use Rattle.arm64_function.proofs.leading_index.Statement.{statement}
+use Rattle.arm64_function.proofs.leading_index.Tie as tie
+use Rattle.arm64_function.proofs.leading_index.Reads as reads
+use Rattle.arm64_function.proofs.leading_index.Lts as lts
+use Rattle.arm64_function.proofs.epilogue_at.Reads as epilogue-at-reads
+use Rattle.arm64_simple.proofs.run_size.Reads as run-size-reads
+
+-- src/lib.rt:224:5
+run-size-requires : tie.Need-run-size-requires
+run-size-requires c κs = search needs
+
+-- src/lib.rt:224:71
+epilogue-at-requires : tie.Need-epilogue-at-requires
+epilogue-at-requires c κs = search needs
+
+-- src/lib.rt:224:44
+run-size-requires-2 : tie.Need-run-size-requires-2
+run-size-requires-2 c κs = ?
+
+-- src/lib.rt:224:5
+sub-result : tie.Need-sub-result
+sub-result c = ?
+
+-- src/lib.rt:219:1
+returns : tie.Need-returns
+returns c = ?
+
+pub leading-index-spec : {M : Type 1} → statement M
+leading-index-spec =
+    tie.close
+    (tie.spec run-size-requires epilogue-at-requires run-size-requires-2 sub-result returns)
