@@ -3,3 +3,5 @@ pub mod Given
 pub mod Own
 pub mod Asked
 pub mod Indexes
+pub mod Codes
+pub mod Scopes

@@ -126,7 +126,7 @@ is-in-none : (R : ℕ → List Code) (r : List Code) (at : ℕ) → isIn r (seen
 unfolding isIn seenFrom
 is-in-none R r at = refl
 
-run-is : (es cs : List ℕ) (i : ℕ) {r : Run} → r ≡ epilogueAt es i → simplify noPair (saves cs r) ≡ runAt es cs i
+pub run-is : (es cs : List ℕ) (i : ℕ) {r : Run} → r ≡ epilogueAt es i → simplify noPair (saves cs r) ≡ runAt es cs i
 unfolding runAt
 run-is es cs i e = ap (λ x. simplify noPair (saves cs x)) e
 

@@ -131,3 +131,7 @@ pub record Known (xs : List ℕ) (to : ℕ) (es cs : List ℕ) (p : Parts) (i : 
 -- `next` bytes of codes belong to the prologue and the epilogues in front of i: a run that is none of theirs stands behind them
 pub record Ahead (es cs : List ℕ) (p : Parts) (next i : ℕ) : Type 0 where
   pub ahead : (r : List Code) → isIn r (seenAt es cs p i) ≡ false → runSize (prologueIn cs p) + placeIn r (ownIn es cs p) ≡ next + placeIn r (laterAt es cs p i)
+
+-- the epilogues start inside a function of the most instructions
+pub record Started (es : List ℕ) (p : Parts) : Type 0 where
+  pub starts : (i : ℕ) → p .first ≤ i → i < p .end → field epilogueStride es i 0 < 2 ^ 20

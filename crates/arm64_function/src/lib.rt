@@ -14,7 +14,7 @@ ghost use Rattle.arm64.specs.Runs.{noPair, runFits, leads, runsBytes};
 ghost use Rattle.arm64.specs.Writer.{prologueRun, instructions, isPacked, infoOf, functionAsks};
 ghost use Rattle.arm64_simple.specs.Saves.{saves};
 ghost use Rattle.arm64_function.specs.Listed.{Listed, Fine, asks};
-ghost use Rattle.arm64_function.specs.Own.{prologueAt, epilogueAt, partsAt, Ready, Fitted, prologueIn, runAt, ownAt, codesIn, indexAt, Nearest, heldTo, startOkAt, fitsAt, partsOk, lengthOk, indexIn, Known, Ahead};
+ghost use Rattle.arm64_function.specs.Own.{prologueAt, epilogueAt, partsAt, Ready, Fitted, prologueIn, runAt, ownAt, ownIn, codesIn, indexAt, Nearest, heldTo, startOkAt, fitsAt, partsOk, lengthOk, wordsFrom, indexIn, Known, Ahead, Started};
 use arm64_simple::Run;
 
 // A function's codes: its prologue's, and its epilogues from `first` to `end`.
@@ -273,17 +273,44 @@ fn put_own(out: &mut [u8], at: usize, es: &[u64], cs: &[u64], p: Parts, i: usize
     arm64_sharing::put_run(out, at, size - 1, cs, epilogue_at(es, i))
 }
 
-// The prologue's codes, and the runs of the epilogues that have their own.
+// The runs of the epilogues that have their own.
+fn put_owns(out: &mut [u8], at: usize, es: &[u64], cs: &[u64], p: Parts) -> usize
+    requires { ⌜ Ready (now es) (now cs) p × Fitted (now es) (now cs) p × (at + length (runsBytes (ownIn (now es) (now cs) p)) ≤ length (now out)) ⌝ }
+    ensures { λ r. ⌜ Wrote (now (out .entry)) (now (out .exit)) at r (runsBytes (ownIn (now (es .entry)) (now (cs .entry)) p)) ⌝ }
+{
+    let mut q = at;
+    let mut i = p.first;
+    while i < p.end {
+        q = put_own(out, q, es, cs, p, i);
+        i += 1;
+    }
+    q
+}
+
+// The prologue's codes, and those.
 fn put_codes(out: &mut [u8], at: usize, es: &[u64], cs: &[u64], p: Parts) -> usize
     requires { ⌜ Ready (now es) (now cs) p × Fitted (now es) (now cs) p × (at + length (codesIn (now es) (now cs) p) ≤ length (now out)) ⌝ }
     ensures { λ r. ⌜ Wrote (now (out .entry)) (now (out .exit)) at r (codesIn (now (es .entry)) (now (cs .entry)) p) ⌝ }
 {
     let prologue = p.prologue;
     let size = arm64_simple::run_size(cs, prologue);
-    let mut q = arm64_sharing::put_run(out, at, size, cs, prologue);
+    let q = arm64_sharing::put_run(out, at, size, cs, prologue);
+    put_owns(out, q, es, cs, p)
+}
+
+// The words of the epilogues.
+fn put_scopes(out: &mut [u8], to: usize, es: &[u64], cs: &[u64], p: Parts) -> usize
+    requires { ⌜ Ready (now es) (now cs) p × Started (now es) p × (length (codesIn (now es) (now cs) p) ≤ 1020) × (to + 4 * (p .end - p .first) ≤ length (now out)) ⌝ }
+    ensures { λ r. ⌜ Wrote (now (out .entry)) (now (out .exit)) to r (wordsFrom (now (es .entry)) (now (cs .entry)) p (p .first) (p .end - p .first)) ⌝ }
+{
+    let prologue = p.prologue;
+    let mut next = arm64_simple::run_size(cs, prologue) + 1;
+    let mut q = to;
     let mut i = p.first;
     while i < p.end {
-        q = put_own(out, q, es, cs, p, i);
+        let s = scope_of(out, to, es, cs, p, i, next);
+        q = leb::le(out, q, 4, es[3 * i] / 4 + 4194304 * s.index as u64);
+        next = s.next;
         i += 1;
     }
     q

@@ -1,3 +1,8 @@
+use native.Mathlib.Omega.{arith}
+use Rattle.arm64_function.specs.Own.{indexIn}
+use lib.ListN.{getD}
+use Prim.Native.Nat.{ℕ, _+_, _*_, _/_}
+use mathlib.Core.Path.{_≡_, refl, subst, sym, ap, _∙_}
 use borrow.Author.Needs.{needs}
 use Rattle.arm64_function.proofs.index_in.Statement.{statement}
 use Rattle.arm64_function.proofs.index_in.Tie as tie
@@ -39,7 +44,8 @@ add-result c = search needs
 
 -- src/lib.rt:211:1
 returns : tie.Need-returns
-returns c = ?
+unfolding indexIn
+returns c = ap (λ (x : ℕ). x / 64 + 4 * c .wide2 .result) (c .before .before .wide .ensures .0) ∙ ap (λ (x : ℕ). getD (c .before .before .before .before .before .args .out .now) (c .before .before .before .before .before .args .at + 2) 0 / 64 + 4 * x) (c .wide2 .ensures .0)
 
 pub index-in-spec : {M : Type 1} → statement M
 index-in-spec =

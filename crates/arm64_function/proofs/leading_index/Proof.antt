@@ -1,3 +1,8 @@
+use native.Mathlib.Omega.{arith}
+use Rattle.arm64_function.proofs.Indexes.{index-leading, leading-low}
+use Rattle.arm64_function.proofs.Own.{size-of}
+use Rattle.arm64_simple.specs.Saves.{Inside}
+use mathlib.Core.Path.{_≡_, refl, subst, sym, ap, _∙_}
 use borrow.Author.Needs.{needs}
 use Rattle.arm64_function.proofs.leading_index.Statement.{statement}
 use Rattle.arm64_function.proofs.leading_index.Tie as tie
@@ -16,15 +21,15 @@ epilogue-at-requires c κs = search needs
 
 -- src/lib.rt:224:44
 run-size-requires-2 : tie.Need-run-size-requires-2
-run-size-requires-2 c κs = ?
+run-size-requires-2 c κs = subst (Inside (c .before .before .before .before .before .args .cs .now)) (sym (c .epilogue-at .ensures)) (c .before .before .before .before .before .pre .0 .inside (c .before .before .before .before .before .args .i) (c .before .before .before .before .before .pre .1) (c .before .before .before .before .before .pre .2))
 
 -- src/lib.rt:224:5
 sub-result : tie.Need-sub-result
-sub-result c = ?
+sub-result c = leading-low (c .before .before .before .before .before .before .args .es .now) (c .before .before .before .before .before .before .args .cs .now) (c .before .before .before .before .before .before .args .p) (c .before .before .before .before .before .before .args .i) (c .before .before .before .before .before .before .pre .3) (c .before .before .run-size .ensures .0) (size-of (c .before .before .before .before .before .before .args .es .now) (c .before .before .before .before .before .before .args .cs .now) (c .before .before .before .before .before .before .args .i) (c .before .epilogue-at .ensures) (c .run-size2 .ensures .0))
 
 -- src/lib.rt:219:1
 returns : tie.Need-returns
-returns c = ?
+returns c = index-leading (c .before .before .before .before .before .before .args .es .now) (c .before .before .before .before .before .before .args .cs .now) (c .before .before .before .before .before .before .args .p) (c .before .before .before .before .before .before .args .i) (c .before .before .before .before .before .before .pre .3) (c .before .before .run-size .ensures .0) (size-of (c .before .before .before .before .before .before .args .es .now) (c .before .before .before .before .before .before .args .cs .now) (c .before .before .before .before .before .before .args .i) (c .before .epilogue-at .ensures) (c .run-size2 .ensures .0))
 
 pub leading-index-spec : {M : Type 1} → statement M
 leading-index-spec =

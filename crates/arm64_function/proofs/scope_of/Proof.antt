@@ -1,3 +1,8 @@
+use native.Mathlib.Omega.{arith}
+use Rattle.arm64_function.proofs.Indexes.{index-own, index-shared}
+use Rattle.arm64_function.proofs.Own.{none-size, one-size, own-leading, own-shared, own-alone, leads-is, size-of, own-count}
+use Rattle.arm64_simple.specs.Saves.{Inside}
+use mathlib.Core.Path.{_≡_, refl, subst, sym, ap, _∙_}
 use borrow.Author.Needs.{needs}
 use Rattle.arm64_function.proofs.scope_of.Statement.{statement}
 use Rattle.arm64_function.proofs.scope_of.Tie as tie
@@ -16,15 +21,15 @@ epilogue-at-requires c κs = search needs
 
 -- src/lib.rt:240:8
 leads-requires : tie.Need-leads-requires
-leads-requires c κs = ?
+leads-requires c κs = (subst (Inside (c .before .before .before .before .before .args .cs .now)) (sym (c .before .epilogue-at .ensures)) (c .before .before .before .before .before .pre .0 .inside (c .before .before .before .before .before .args .i) (c .before .before .before .before .before .pre .1) (c .before .before .before .before .before .pre .2)), c .before .before .before .before .before .pre .0 .prologue)
 
 -- src/lib.rt:241:13
 leading-index-requires : tie.Need-leading-index-requires
-leading-index-requires c κs = ?
+leading-index-requires c κs = (c .before .before .before .before .before .before .before .pre .0, c .before .before .before .before .before .before .before .pre .1, c .before .before .before .before .before .before .before .pre .2, sym (leads-is (c .before .before .before .before .before .before .before .args .es .now) (c .before .before .before .before .before .before .before .args .cs .now) (c .before .before .before .before .before .before .before .args .p) (c .before .before .before .before .before .before .before .args .i) (c .before .before .before .epilogue-at .ensures) (c .before .leads .ensures)) ∙ c .if1 .taken)
 
 -- src/lib.rt:242:9
 returns : tie.Need-returns
-returns c = ?
+returns c = (c .leading-index .ensures, omega (arith, none-size (own-leading (c .before .before .before .before .before .before .before .before .args .es .now) (c .before .before .before .before .before .before .before .before .args .cs .now) (c .before .before .before .before .before .before .before .before .args .p) (c .before .before .before .before .before .before .before .before .args .i) (sym (leads-is (c .before .before .before .before .before .before .before .before .args .es .now) (c .before .before .before .before .before .before .before .before .args .cs .now) (c .before .before .before .before .before .before .before .before .args .p) (c .before .before .before .before .before .before .before .before .args .i) (c .before .before .before .before .epilogue-at .ensures) (c .before .before .leads .ensures)) ∙ c .before .if1 .taken))))
 
 -- src/lib.rt:247:9
 nearest-requires : tie.Need-nearest-requires
@@ -48,23 +53,23 @@ index-in-requires c κs = search needs
 
 -- src/lib.rt:250:9
 returns-2 : tie.Need-returns-2
-returns-2 c = ?
+returns-2 c = (c .index-in .ensures ∙ c .before .before .before .before .before .before .before .before .before .before .before .pre .5 .known (c .before .before .before .nearest .result) (c .before .before .before .nearest .ensures .low) (c .before .before .if2 .taken) ∙ index-shared (c .before .before .before .nearest .ensures) (c .before .before .if2 .taken), omega (arith, none-size (own-shared (c .before .before .before .before .before .before .before .before .before .before .before .args .es .now) (c .before .before .before .before .before .before .before .before .before .before .before .args .cs .now) (c .before .before .before .before .before .before .before .before .before .before .before .args .p) (c .before .before .before .before .before .before .before .before .before .before .before .args .i) (c .before .before .before .nearest .ensures) (sym (leads-is (c .before .before .before .before .before .before .before .before .before .before .before .args .es .now) (c .before .before .before .before .before .before .before .before .before .before .before .args .cs .now) (c .before .before .before .before .before .before .before .before .before .before .before .args .p) (c .before .before .before .before .before .before .before .before .before .before .before .args .i) (c .before .before .before .before .before .before .before .epilogue-at .ensures) (c .before .before .before .before .before .leads .ensures)) ∙ c .before .before .before .before .if1 .left) (c .before .before .if2 .taken))))
 
 -- src/lib.rt:255:16
 run-size-requires : tie.Need-run-size-requires
-run-size-requires c κs = ?
+run-size-requires c κs = subst (Inside (c .before .before .before .before .before .before .before .before .before .args .cs .now)) (sym (c .before .before .before .before .before .epilogue-at .ensures)) (c .before .before .before .before .before .before .before .before .before .pre .0 .inside (c .before .before .before .before .before .before .before .before .before .args .i) (c .before .before .before .before .before .before .before .before .before .pre .1) (c .before .before .before .before .before .before .before .before .before .pre .2))
 
 -- src/lib.rt:255:16
 add-size : tie.Need-add-size
-add-size c = ?
+add-size c = omega (arith, c .run-size .ensures .1, own-count (c .before .before .before .before .before .before .before .before .before .before .args .es .now) (c .before .before .before .before .before .before .before .before .before .before .args .i) (c .before .before .before .before .before .before .before .before .before .before .pre .0 .inside (c .before .before .before .before .before .before .before .before .before .before .args .i) (c .before .before .before .before .before .before .before .before .before .before .pre .1) (c .before .before .before .before .before .before .before .before .before .before .pre .2)) (c .before .before .before .before .before .before .epilogue-at .ensures))
 
 -- src/lib.rt:258:15
 add-t19 : tie.Need-add-t19
-add-t19 c = ?
+add-t19 c = omega (arith, c .run-size .ensures .1, c .before .before .before .before .before .before .before .before .before .before .pre .4, own-count (c .before .before .before .before .before .before .before .before .before .before .args .es .now) (c .before .before .before .before .before .before .before .before .before .before .args .i) (c .before .before .before .before .before .before .before .before .before .before .pre .0 .inside (c .before .before .before .before .before .before .before .before .before .before .args .i) (c .before .before .before .before .before .before .before .before .before .before .pre .1) (c .before .before .before .before .before .before .before .before .before .before .pre .2)) (c .before .before .before .before .before .before .epilogue-at .ensures))
 
 -- src/lib.rt:234:1
 returns-3 : tie.Need-returns-3
-returns-3 c = ?
+returns-3 c = (index-own (c .before .before .before .before .before .before .before .before .before .before .pre .3) (c .before .before .before .before .before .before .before .before .before .before .pre .1) (c .before .before .before .before .before .before .before .before .before .before .pre .2) (c .before .before .nearest .ensures) (sym (leads-is (c .before .before .before .before .before .before .before .before .before .before .args .es .now) (c .before .before .before .before .before .before .before .before .before .before .args .cs .now) (c .before .before .before .before .before .before .before .before .before .before .args .p) (c .before .before .before .before .before .before .before .before .before .before .args .i) (c .before .before .before .before .before .before .epilogue-at .ensures) (c .before .before .before .before .leads .ensures)) ∙ c .before .before .before .if1 .left) (c .before .if2 .left), omega (arith, size-of (c .before .before .before .before .before .before .before .before .before .before .args .es .now) (c .before .before .before .before .before .before .before .before .before .before .args .cs .now) (c .before .before .before .before .before .before .before .before .before .before .args .i) (c .before .before .before .before .before .before .epilogue-at .ensures) (c .run-size .ensures .0), one-size (own-alone (c .before .before .before .before .before .before .before .before .before .before .args .es .now) (c .before .before .before .before .before .before .before .before .before .before .args .cs .now) (c .before .before .before .before .before .before .before .before .before .before .args .p) (c .before .before .before .before .before .before .before .before .before .before .args .i) (c .before .before .nearest .ensures) (sym (leads-is (c .before .before .before .before .before .before .before .before .before .before .args .es .now) (c .before .before .before .before .before .before .before .before .before .before .args .cs .now) (c .before .before .before .before .before .before .before .before .before .before .args .p) (c .before .before .before .before .before .before .before .before .before .before .args .i) (c .before .before .before .before .before .before .epilogue-at .ensures) (c .before .before .before .before .leads .ensures)) ∙ c .before .before .before .if1 .left) (c .before .if2 .left))))
 
 pub scope-of-spec : {M : Type 1} → statement M
 scope-of-spec =
