@@ -5,7 +5,7 @@ use mathlib.Core.List.{List, [], _∷_, _++_}
 use Prim.Native.Nat.{ℕ, _+_, _-_, _*_, _≤_, _<_}
 use native.Mathlib.Omega.{arith}
 use lib.Dec.{T, ltb}
-use lib.ListN.{length}
+use lib.ListN.{length, length-append}
 use borrow.Author.Tests.{le-ltb}
 use Rattle.format.specs.Prelude.{pick}
 use Rattle.arm64.specs.declared.Code.{Code}
@@ -81,3 +81,28 @@ pub leading-low : (es cs : List ℕ) (p : Parts) (i : ℕ) {a b : ℕ} → leads
     → a ≡ length (backwards (simplify noPair (saves cs (p .prologue)))) → b ≡ length (backwards (runAt es cs i)) → b ≤ a
 leading-low es cs p i {a} {b} e g h =
     let z = prologue-size cs p g in omega (arith, leading (runAt es cs i) (prologueIn cs p) e, run-size (prologueIn cs p), z, h)
+
+-- ---- no index is past the codes
+
+picked : (b : Bool) (n : ℕ) → pick b 0 n ≤ n
+unfolding pick
+picked true n = omega arith
+picked false n = omega arith
+
+place-low : (r : List Code) (own : List (List Code)) → placeIn r own ≤ length (runsBytes own)
+unfolding placeIn runsBytes
+place-low r [] = omega arith
+place-low r (q ∷ qs) = omega (arith, picked (sameCodes r q) (runSize q + placeIn r qs), length-append (runBytes q) (runsBytes qs), size-is q, place-low r qs)
+
+index-held : (ps : List Code) (own : List (List Code)) (r : List Code) → indexOf ps own r ≤ runSize ps + length (runsBytes own)
+unfolding indexOf pick
+index-held ps own r = by (leads r ps)
+  where
+    by : (b : Bool) → pick b (runSize ps - runSize r) (runSize ps + placeIn r own) ≤ runSize ps + length (runsBytes own)
+    by true = omega arith
+    by false = omega (arith, place-low r own)
+
+pub index-low : (es cs : List ℕ) (p : Parts) (i : ℕ) → indexAt es cs p i ≤ length (codesIn es cs p)
+unfolding indexAt codesIn
+index-low es cs p i =
+    omega (arith, index-held (prologueIn cs p) (ownIn es cs p) (runAt es cs i), length-append (runBytes (prologueIn cs p)) (runsBytes (ownIn es cs p)), size-is (prologueIn cs p))

@@ -121,9 +121,12 @@ module _ {xs₀ xs : List ℕ} {to q : ℕ} {es cs : List ℕ} {p : Parts} {next
         omega (arith, s .left .room, ap length (words-first es cs p i l) ∙ length-append (little 4 (wordAt es cs p i)) (wordsFrom es cs p (i + 1) (p .end - (i + 1))), little-length 4 (wordAt es cs p i))
 
     pub scoping-turn : {ys : List ℕ} {r : ℕ} {t : Scope} → Started es p → (indexAt es cs p i ≤ 1020) → (t .index ≡ indexAt es cs p i) × (t .next ≡ next + length (runsBytes (ownAt es cs p i)))
-        → Wrote xs ys q r (little 4 (field epilogueStride es i 0 / 4 + 2 ^ 22 * t .index)) → Scoping xs₀ ys to r es cs p (t .next) (i + 1)
+        → Wrote xs ys q r (little 4 (getD es (3 * i) 0 / 4 + 2 ^ 22 * t .index)) → Scoping xs₀ ys to r es cs p (t .next) (i + 1)
     unfolding wordAt instructions
-    scoping-turn {ys} {r} {t} g m u w =
+    scoping-turn {ys} {r} {t} g m u w₀ =
+        let h : 3 * i ≡ 3 * i + 0 = omega arith in
+        let w : Wrote xs ys q r (little 4 (field epilogueStride es i 0 / 4 + 2 ^ 22 * t .index))
+        = subst (λ (k : ℕ). Wrote xs ys q r (little 4 (getD es k 0 / 4 + 2 ^ 22 * t .index))) h w₀ in
         let low = s .sum .low in
         let z = g .starts i low l in
         let w' : Wrote xs ys q r (little 4 (field epilogueStride es i 0 / 4 + 2 ^ 22 * indexAt es cs p i))
@@ -144,3 +147,6 @@ module _ {xs₀ xs : List ℕ} {to q : ℕ} {es cs : List ℕ} {p : Parts} {next
 
   pub scoping-ended : p .end ≤ i → Wrote xs₀ xs to q (wordsFrom es cs p (p .first) (p .end - p .first))
   scoping-ended h = storing.ended (subst (Storing xs₀ xs to q (wordsFrom es cs p (p .first) (p .end - p .first))) (words-none es cs p i h) (s .left))
+
+pub start-low : {es : List ℕ} {p : Parts} {i : ℕ} → Started es p → p .first ≤ i → i < p .end → getD es (3 * i) 0 < 2 ^ 20
+start-low {es} {p} {i} g a b = let h : 3 * i + 0 ≡ 3 * i = omega arith in subst (λ (k : ℕ). getD es k 0 < 2 ^ 20) h (g .starts i a b)
