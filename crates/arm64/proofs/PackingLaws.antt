@@ -19,7 +19,7 @@ use Rattle.arm64.specs.Runs.{sameCode, sameCodes, pairIn, hasNext, nextP
 use Rattle.arm64.specs.Packing.{fieldsHold, standsFor}
 use Rattle.arm64.proofs.MeaningLaws.{Same, both-true, no-yes, equal, of-kind, no-next, next-kind, next-means, step-9, step-16, or-split, behind-same}
 
-by-pick : {X : Type 0} (P : X → Type 0) (t : Bool) (x y : X) → (t ≡ true → P x) → (t ≡ false → P y) → P (pick t x y)
+pub by-pick : {X : Type 0} (P : X → Type 0) (t : Bool) (x y : X) → (t ≡ true → P x) → (t ≡ false → P y) → P (pick t x y)
 unfolding pick
 by-pick P true x y f g = f refl
 by-pick P false x y f g = g refl

@@ -12,7 +12,8 @@ ghost use Rattle.arm64.specs.Lists.{functionStride, epilogueStride, numberedFun
 ghost use Rattle.arm64.specs.Packing.{candidate, packedWord};
 ghost use Rattle.arm64.specs.Runs.{noPair, runFits, leads, runsBytes};
 ghost use Rattle.arm64.specs.Writer.{prologueRun, instructions, isPacked, infoOf, functionAsks};
-ghost use Rattle.arm64_simple.specs.Saves.{saves};
+ghost use Rattle.arm64_simple.specs.Saves.{saves, Inside};
+ghost use Rattle.arm64_function.specs.PackedWord.{sharedIn, packedAt, Only};
 ghost use Rattle.arm64_function.specs.Listed.{Listed, Fine, asks};
 ghost use Rattle.arm64_function.specs.Own.{prologueAt, epilogueAt, partsAt, Ready, Fitted, prologueIn, runAt, ownAt, ownIn, codesIn, indexAt, Nearest, heldTo, startOkAt, fitsAt, partsOk, lengthOk, wordsFrom, indexIn, Known, Ahead, Started};
 use arm64_simple::Run;
@@ -58,6 +59,53 @@ fn parts_at(fs: &[u64], k: usize) -> Parts
         first,
         end,
     }
+}
+
+// ---- the packed word
+
+// Whether an epilogue shares the prologue's codes and E may be set: its instructions and a ret are the function's last `left`, and the short header holds
+// its index and the words of codes, which are the prologue's alone.
+fn shares(cs: &[u64], left: u64, prologue: Run, epilogue: Run) -> bool
+    requires { ⌜ Inside (now cs) prologue × Inside (now cs) epilogue ⌝ }
+    ensures { λ r. ⌜ r ≡ sharedIn (now (cs .entry)) left prologue epilogue ⌝ }
+{
+    if left != epilogue.count as u64 + 1 {
+        return false;
+    }
+    if !arm64_sharing::leads(cs, epilogue, prologue) {
+        return false;
+    }
+    let whole = arm64_simple::run_size(cs, prologue);
+    if 123 < whole {
+        return false;
+    }
+    whole - arm64_simple::run_size(cs, epilogue) <= 31
+}
+
+// The packed word of a function of `size` bytes with one epilogue, or 0.
+fn packed_one(es: &[u64], cs: &[u64], p: Parts, size: u64) -> u64
+    requires { ⌜ Only (now es) (now cs) p size ⌝ }
+    ensures { λ r. ⌜ r ≡ packedAt (now (es .entry)) (now (cs .entry)) p size ⌝ }
+{
+    let prologue = p.prologue;
+    let epilogue = epilogue_at(es, p.first);
+    let left = (size - es[3 * p.first]) / 4;
+    if !shares(cs, left, prologue, epilogue) {
+        return 0;
+    }
+    arm64_packing::packed(cs, size / 4, prologue, epilogue)
+}
+
+// The packed word of function k, or 0.
+pub fn packed_word(fs: &[u64], es: &[u64], cs: &[u64], k: usize) -> u64
+    requires { ⌜ Fine (now fs) (now es) (now cs) k ⌝ }
+    ensures { λ r. ⌜ r ≡ pick (isPacked (numberedFunction (now (fs .entry)) (now (es .entry)) (now (cs .entry)) k)) (packedWord (candidate (instructions (numberedFunction (now (fs .entry)) (now (es .entry)) (now (cs .entry)) k .size)) (prologueRun (numberedFunction (now (fs .entry)) (now (es .entry)) (now (cs .entry)) k)))) 0 ⌝ }
+{
+    let p = parts_at(fs, k);
+    if p.end - p.first != 1 {
+        return 0;
+    }
+    packed_one(es, cs, p, fs[6 * k + 1])
 }
 
 // ---- questions 81 to 83

@@ -3,7 +3,7 @@ use mathlib.Core.Path.{_≡_, refl, subst, sym, ap, _∙_}
 use mathlib.Core.Bool.{Bool, true, false, not, _&&_, _||_, and-true, and-false, or-true, or-false}
 use mathlib.Core.List.{List, [], _∷_, _++_}
 use Prim.Native.Nat.{ℕ, zero, suc, _+_, _-_, _*_, _/_, _%_, _≤_, _<_, _^_}
-use native.Mathlib.Nat.{div-le-self, mul-le-mul, zero-add}
+use native.Mathlib.Nat.{div-le-self, div-lt-iff-lt-mul, mul-le-mul, zero-add}
 use native.Mathlib.Omega.{arith}
 use lib.Dec.{T, leb, ltb, eqb}
 use lib.ListN.{length, getD, length-append}
@@ -13,7 +13,7 @@ use Rattle.format.specs.Prelude.{pick, each, all}
 use Rattle.format.specs.Lists.{allIn}
 use Rattle.format.proofs.ListLaws.{in-range}
 use Rattle.format.proofs.Choice.{if-eq, if-ne, either}
-use Rattle.arm64_spelled.proofs.FormLaws.{past-last}
+use Rattle.arm64_spelled.proofs.FormLaws.{past-last, form-good}
 use Rattle.arm64.specs.declared.Form.{Form}
 use Rattle.arm64.specs.declared.Code.{Code}
 use Rattle.arm64.specs.Codes.{lastRegisters, formFor, registerField, offsetField, registerFits, offsetFits, codeFits, spelled, codeBytes, big}
@@ -108,6 +108,15 @@ fits-told c e =
     let p : (registerFits (formFor c) c ≡ true) × (offsetFits (formFor c) c ≡ true)
     = both-true (registerFits (formFor c) c) (offsetFits (formFor c) c) e in
     told (formFor c) c (p .0) (p .1)
+
+-- the largest is an allocation's
+pub fits-low : (c : Code) → codeFits c ≡ true → c .offset < 2 ^ 29
+unfolding offsetField
+fits-low c e =
+    let g = form-good c in
+    let t = fits-told c e in
+    let h : c .offset - formFor c .more < formFor c .unit * formFor c .scale = div-lt-iff-lt-mul (g .scaled) .0 (t .held) in
+    omega (arith, h, g .near, mul-le-mul (g .narrow) (g .coarse))
 
 -- ---- bytes
 

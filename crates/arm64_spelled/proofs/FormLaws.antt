@@ -99,7 +99,8 @@ module _ (c : Code) where
 
 abbrev tests : Form → List Bool
 tests f =
-    leb 1 (f .size) ∷ leb (f .size) 4 ∷ not (eqb (f .size) 3) ∷ leb (f .op) 255 ∷ leb (f .unit) 16777216 ∷ leb 1 (f .scale) ∷ []
+    leb 1 (f .size) ∷ leb (f .size) 4 ∷ not (eqb (f .size) 3) ∷ leb (f .op) 255 ∷ leb (f .unit) 16777216 ∷ leb 1 (f .scale) ∷ leb (f .scale) 16
+    ∷ leb (f .more) 8 ∷ []
 
 not-both : (b : Bool) → T b → T (not b) → ⊥
 not-both true t n = n
@@ -115,6 +116,8 @@ passed f t =
       opcode = leb-yes (g 4);
       narrow = leb-yes (g 5);
       scaled = leb-yes (g 6);
+      coarse = leb-yes (g 7);
+      near = leb-yes (g 8);
     }
 
 abbrev kindTest : ℕ → Bool

@@ -12,6 +12,8 @@ pub record FormGood (f : Form) : Type 0 where
   pub opcode : f .op ≤ 255
   pub narrow : f .unit ≤ 16777216
   pub scaled : 1 ≤ f .scale
+  pub coarse : f .scale ≤ 16
+  pub near : f .more ≤ 8
 
 -- the register and the offset are in the form's ranges
 pub record Told (f : Form) (c : Code) : Type 0 where
