@@ -7,6 +7,7 @@ use native.Mathlib.Omega.{arith}
 use lib.ListN.{length, length-append}
 use Rattle.format.specs.Prelude.{pick}
 use Rattle.format.proofs.Wrote.{Wrote}
+use Rattle.format.proofs.PutLaws.{kept}
 use Rattle.format.proofs.Storing.{Storing}
 use Rattle.format.proofs.Storing as storing
 use Rattle.arm64.specs.declared.Code.{Code}
@@ -80,3 +81,10 @@ pub codes-length : {n : ℕ} (es cs : List ℕ) (p : Parts) → n ≡ length (ba
 codes-length es cs p e =
     let r = simplify noPair (saves cs (p .prologue)) in
     omega (arith, ap length (sym (codes-parts es cs p)) ∙ length-append (runBytes r) (runsBytes (ownIn es cs p)), size-is r, run-size r, e)
+
+pub put-room : {xs ys : List ℕ} {at q n : ℕ} (es cs : List ℕ) (p : Parts) → at + length (codesIn es cs p) ≤ length xs
+    → Wrote xs ys at q (runBytes (simplify noPair (saves cs (p .prologue)))) → n ≡ length (backwards (simplify noPair (saves cs (p .prologue))))
+    → q + length (runsBytes (ownIn es cs p)) ≤ length ys
+put-room {xs} {ys} {at} {q} {n} es cs p h w e =
+    let r = simplify noPair (saves cs (p .prologue)) in
+    omega (arith, h, kept w, w .past, codes-length es cs p e, size-is r, run-size r, e)

@@ -6,3 +6,4 @@ pub mod Asked
 pub mod Indexes
 pub mod Codes
 pub mod Scopes
+pub mod Record

@@ -16,6 +16,7 @@ ghost use Rattle.arm64_simple.specs.Saves.{saves, Inside};
 ghost use Rattle.arm64_function.specs.PackedWord.{sharedIn, packedAt, Only};
 ghost use Rattle.arm64_function.specs.Listed.{Listed, Fine, asks};
 ghost use Rattle.arm64_function.specs.Own.{prologueAt, epilogueAt, partsAt, Ready, Fitted, prologueIn, runAt, ownAt, ownIn, codesIn, indexAt, Nearest, heldTo, startOkAt, fitsAt, partsOk, lengthOk, wordsFrom, indexIn, Known, Ahead, Started};
+ghost use Rattle.arm64_function.specs.Record.{Whole, singleAt, Shaped, scopesAt, recordAt};
 use arm64_simple::Run;
 
 // A function's codes: its prologue's, and its epilogues from `first` to `end`.
@@ -362,4 +363,120 @@ fn put_scopes(out: &mut [u8], to: usize, es: &[u64], cs: &[u64], p: Parts) -> us
         i += 1;
     }
     q
+}
+
+// ---- the record
+
+// The index of the only epilogue.
+fn only_index(es: &[u64], cs: &[u64], p: Parts) -> usize
+    requires { ⌜ Ready (now es) (now cs) p × (p .end - p .first ≡ 1) ⌝ }
+    ensures { λ r. ⌜ r ≡ indexAt (now (es .entry)) (now (cs .entry)) p (p .first) ⌝ }
+{
+    let prologue = p.prologue;
+    let run = epilogue_at(es, p.first);
+    if arm64_sharing::leads(cs, run, prologue) {
+        return leading_index(es, cs, p, p.first);
+    }
+    arm64_simple::run_size(cs, prologue) + 1
+}
+
+// E: an only epilogue at the function's end, whose index and codes the short header holds.
+fn is_single(es: &[u64], cs: &[u64], p: Parts, size: u64, codes: usize) -> bool
+    requires { ⌜ Whole (now es) (now cs) p size × (codes ≡ length (codesIn (now es) (now cs) p)) ⌝ }
+    ensures { λ r. ⌜ r ≡ singleAt (now (es .entry)) (now (cs .entry)) p size ⌝ }
+{
+    if p.end - p.first != 1 {
+        return false;
+    }
+    if 124 < codes {
+        return false;
+    }
+    if 31 < only_index(es, cs, p) {
+        return false;
+    }
+    (size - es[3 * p.first]) / 4 == es[3 * p.first + 2] + 1
+}
+
+// What the header says beside the length, and how many bytes of codes there are.
+pub struct Shape {
+    pub single: bool,
+    pub count: u64,
+    pub codes: usize,
+}
+
+fn shape_of(es: &[u64], cs: &[u64], p: Parts, size: u64) -> Shape
+    requires { ⌜ Whole (now es) (now cs) p size ⌝ }
+    ensures { λ r. ⌜ Shaped (now (es .entry)) (now (cs .entry)) p size r ⌝ }
+{
+    let codes = codes_size(es, cs, p);
+    if is_single(es, cs, p, size, codes) {
+        return Shape {
+            single: true,
+            count: only_index(es, cs, p) as u64,
+            codes,
+        };
+    }
+    Shape {
+        single: false,
+        count: (p.end - p.first) as u64,
+        codes,
+    }
+}
+
+fn record_size(es: &[u64], cs: &[u64], p: Parts, size: u64) -> usize
+    requires { ⌜ Whole (now es) (now cs) p size ⌝ }
+    ensures { λ r. ⌜ (r ≡ length (recordAt (now (es .entry)) (now (cs .entry)) p size)) × (r ≤ 300000) ⌝ }
+{
+    let s = shape_of(es, cs, p, size);
+    let words = (s.codes + 3) / 4;
+    let head = arm64_header::header_size(size / 4, s.single, s.count, words as u64);
+    if s.single {
+        return head + 4 * words;
+    }
+    head + 4 * (p.end - p.first) + 4 * words
+}
+
+// The epilogues' words, where E is not set.
+fn put_words(out: &mut [u8], at: usize, es: &[u64], cs: &[u64], p: Parts, single: bool) -> usize
+    requires { ⌜ Ready (now es) (now cs) p × Started (now es) p × (length (codesIn (now es) (now cs) p) ≤ 1020) × (at + length (scopesAt (now es) (now cs) p single) ≤ length (now out)) ⌝ }
+    ensures { λ r. ⌜ Wrote (now (out .entry)) (now (out .exit)) at r (scopesAt (now (es .entry)) (now (cs .entry)) p single) ⌝ }
+{
+    if single {
+        return at;
+    }
+    put_scopes(out, at, es, cs, p)
+}
+
+fn put_record(out: &mut [u8], at: usize, es: &[u64], cs: &[u64], p: Parts, size: u64) -> usize
+    requires { ⌜ Whole (now es) (now cs) p size × (at + length (recordAt (now es) (now cs) p size) ≤ length (now out)) ⌝ }
+    ensures { λ r. ⌜ Wrote (now (out .entry)) (now (out .exit)) at r (recordAt (now (es .entry)) (now (cs .entry)) p size) ⌝ }
+{
+    let s = shape_of(es, cs, p, size);
+    let words = (s.codes + 3) / 4;
+    let a = arm64_header::put_header(out, at, size / 4, s.single, s.count, words as u64);
+    let b = put_words(out, a, es, cs, p, s.single);
+    let c = put_codes(out, b, es, cs, p);
+    arm64_header::pad(out, c, 4 * words - s.codes)
+}
+
+// How many bytes a function's record has: none where it is packed.
+pub fn info_size(fs: &[u64], es: &[u64], cs: &[u64], k: usize) -> usize
+    requires { ⌜ Fine (now fs) (now es) (now cs) k ⌝ }
+    ensures { λ r. ⌜ (r ≡ length (infoOf (numberedFunction (now (fs .entry)) (now (es .entry)) (now (cs .entry)) k))) × (r ≤ 300000) ⌝ }
+{
+    if packed_word(fs, es, cs, k) != 0 {
+        return 0;
+    }
+    record_size(es, cs, parts_at(fs, k), fs[6 * k + 1])
+}
+
+// A function's record.
+pub fn put_info(out: &mut [u8], at: usize, fs: &[u64], es: &[u64], cs: &[u64], k: usize) -> usize
+    requires { ⌜ Fine (now fs) (now es) (now cs) k × (at + length (infoOf (numberedFunction (now fs) (now es) (now cs) k)) ≤ length (now out)) ⌝ }
+    ensures { λ r. ⌜ Wrote (now (out .entry)) (now (out .exit)) at r (infoOf (numberedFunction (now (fs .entry)) (now (es .entry)) (now (cs .entry)) k)) ⌝ }
+{
+    if packed_word(fs, es, cs, k) != 0 {
+        return at;
+    }
+    put_record(out, at, es, cs, parts_at(fs, k), fs[6 * k + 1])
 }

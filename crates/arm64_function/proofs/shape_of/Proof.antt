@@ -1,0 +1,37 @@
+use borrow.Author.Needs.{needs}
+use Rattle.arm64_function.proofs.shape_of.Statement.{statement}
+use Rattle.arm64_function.proofs.shape_of.Tie as tie
+use Rattle.arm64_function.proofs.shape_of.Reads as reads
+use Rattle.arm64_function.proofs.shape_of.Lts as lts
+use Rattle.arm64_function.proofs.codes_size.Reads as codes-size-reads
+use Rattle.arm64_function.proofs.is_single.Reads as is-single-reads
+use Rattle.arm64_function.proofs.only_index.Reads as only-index-reads
+
+-- src/lib.rt:411:9
+codes-size-requires : tie.Need-codes-size-requires
+codes-size-requires c κs = search needs
+
+-- src/lib.rt:412:8
+is-single-requires : tie.Need-is-single-requires
+is-single-requires c κs = ?
+
+-- src/lib.rt:415:20
+only-index-requires : tie.Need-only-index-requires
+only-index-requires c κs = ?
+
+-- src/lib.rt:413:9
+returns : tie.Need-returns
+returns c = ?
+
+-- src/lib.rt:421:17
+sub-t9 : tie.Need-sub-t9
+sub-t9 c = search needs
+
+-- src/lib.rt:407:1
+returns-2 : tie.Need-returns-2
+returns-2 c = ?
+
+pub shape-of-spec : {M : Type 1} → statement M
+shape-of-spec =
+    tie.close
+    (tie.spec codes-size-requires is-single-requires only-index-requires returns sub-t9 returns-2)
