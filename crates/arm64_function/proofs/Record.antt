@@ -18,7 +18,7 @@ use Rattle.arm64.specs.declared.Packed.{Packed}
 use Rattle.arm64.specs.Lists.{Epilogue, Function, functionStride, epilogueStride, numberedEpilogue, numberedFunction}
 use Rattle.arm64.specs.Packing.{candidate, packedWord, tally, tallies, nothingYet, asFields}
 use Rattle.arm64.specs.Runs.{noPair, simplify, backwards, leads, runFits, resolve}
-use Rattle.arm64.specs.Writer.{codesOf, indexIn, instructions, endsWith, onlyOne, single, firstIndex, countOf, wordsOf, headerBytes, scopeBytes, scopesOf, recordBytes, infoOf, isPacked, nopByte}
+use Rattle.arm64.specs.Writer.{codesOf, indexIn, instructions, endsWith, onlyOne, single, firstIndex, countOf, wordsOf, headerBytes, scopeBytes, scopesOf, recordBytes, infoOf, isPacked, prologueRun, nopByte}
 use Rattle.arm64_simple.specs.declared.Run.{Run}
 use Rattle.arm64_simple.specs.Saves.{saves}
 use Rattle.arm64_header.specs.Header.{headerOf}
@@ -75,9 +75,9 @@ whole {fs} {es} {cs} {k} h short =
 
 -- ---- the only epilogue
 
-pub index-only : {es cs : List ℕ} {p : Parts} {n : ℕ} → p .end - p .first ≡ 1 → leads (runAt es cs (p .first)) (prologueIn cs p) ≡ false
+pub index-only : (es cs : List ℕ) (p : Parts) {n : ℕ} → p .end - p .first ≡ 1 → leads (runAt es cs (p .first)) (prologueIn cs p) ≡ false
     → n ≡ length (backwards (simplify noPair (saves cs (p .prologue)))) → n + 1 ≡ indexAt es cs p (p .first)
-index-only {es} {cs} {p} {n} one e s =
+index-only es cs p {n} one e s =
     index-own (ahead-start s) (omega arith) (omega (arith, one)) (searching-ended (searching-start (omega arith)) (omega arith)) e (omega arith)
 
 module _ (es cs : List ℕ) (p : Parts) (size : ℕ) where
@@ -99,6 +99,24 @@ module _ (es cs : List ℕ) (p : Parts) (size : ℕ) where
       unfolding singleAt instructions
       single-ends l =
           simp (eq-eqb (p .end - p .first) 1 one, le-leb (indexAt es cs p (p .first)) 31 (omega (arith, e, l)), le-leb (length (codesIn es cs p)) 124 (omega (arith, g, h)), and-true, add-zero)
+
+  pub single-one : singleAt es cs p size ≡ true → p .end - p .first ≡ 1
+  unfolding singleAt
+  single-one e =
+      eqb-true (p .end - p .first) 1
+      (both-true (eqb (p .end - p .first) 1) (eqb (instructions (size - field epilogueStride es (p .first) 0)) (field epilogueStride es (p .first) 2 + 1)
+        && leb (indexAt es cs p (p .first)) 31 && leb (length (codesIn es cs p)) 124) e .0)
+
+module _ {es cs : List ℕ} {p : Parts} {size : ℕ} (w : Whole es cs p size) (one : p .end - p .first ≡ 1) where
+  pub start-held : getD es (3 * p .first) 0 ≤ size
+  start-held =
+      let z = w .starts (p .first) (omega arith) (omega (arith, one)) in
+      let e : 3 * p .first + 0 ≡ 3 * p .first = omega arith in
+      subst (λ (n : ℕ). getD es n 0 ≤ size) e (omega (arith, z))
+
+  pub count-held : getD es (3 * p .first + 2) 0 < 2 ^ 60
+  unfolding epilogueAt
+  count-held = let z = w .ready .inside (p .first) (omega arith) (omega (arith, one)) in omega (arith, z .low)
 
 -- ---- the shape
 
@@ -208,11 +226,7 @@ module _ (fs es cs : List ℕ) (k : ℕ) where
   first-of (suc n) h = index-same fs es cs k (p .first)
 
   one-of : singleAt es cs p size ≡ true → 0 < p .end - p .first
-  unfolding singleAt
-  one-of e =
-      let z = both-true (eqb (p .end - p .first) 1) (eqb (instructions (size - field epilogueStride es (p .first) 0)) (field epilogueStride es (p .first) 2 + 1)
-        && leb (indexAt es cs p (p .first)) 31 && leb (length (codesIn es cs p)) 124) e in
-      omega (arith, eqb-true (p .end - p .first) 1 (z .0))
+  one-of e = omega (arith, single-one es cs p size e)
 
   count-same : countOf f ≡ countAt es cs p size
   unfolding countOf countAt
@@ -266,7 +280,7 @@ module _ (fs es cs : List ℕ) (k : ℕ) where
       header = headerOf (instructions size) (singleAt es cs p size) (countAt es cs p size) (wordsAt es cs p)
 
   -- by the packed word
-  module _ {w c : ℕ} (e : w ≡ pick (isPacked f) c 0) where
+  module _ {w : ℕ} (c : ℕ) (e : w ≡ pick (isPacked f) c 0) where
     pub info-packed : (w ≡ 0 → ⊥) → [] ≡ infoOf f
     unfolding infoOf
     info-packed h = by (isPacked f) e
@@ -282,3 +296,16 @@ module _ (fs es cs : List ℕ) (k : ℕ) where
         by : (b : Bool) → w ≡ pick b c 0 → recordAt es cs p size ≡ pick b [] (recordBytes f)
         by true g = absurd (omega (arith, d, h, g ∙ yes-pick c 0))
         by false g = sym (no-pick (List ℕ) [] (recordBytes f) ∙ record-same)
+
+  pub info-none : {w : ℕ} → w ≡ pick (isPacked f) (packedWord (candidate (instructions (f .size)) (prologueRun f))) 0 → (w ≡ 0 → ⊥) → [] ≡ infoOf f
+  info-none e h = info-packed (packedWord (candidate (instructions (f .size)) (prologueRun f))) e h
+
+  pub info-of : {w : ℕ} → w ≡ pick (isPacked f) (packedWord (candidate (instructions (f .size)) (prologueRun f))) 0 → w ≡ 0
+      → {q : Parts} → q ≡ p → recordAt es cs q size ≡ infoOf f
+  info-of e h {q} g =
+      let word = packedWord (candidate (instructions (f .size)) (prologueRun f)) in
+      ap (λ x. recordAt es cs x size) g ∙ info-record word e (word-there (instructions (f .size)) (prologueRun f)) h
+
+pub whole-for : {fs es cs : List ℕ} {k : ℕ} → Fine fs es cs k → length cs * 8 < 2 ^ 63 → {q : Parts} → q ≡ partsAt fs k
+    → Whole es cs q (field functionStride fs k 1)
+whole-for {fs} {es} {cs} {k} h short e = subst (λ x. Whole es cs x (field functionStride fs k 1)) (sym e) (whole h short)

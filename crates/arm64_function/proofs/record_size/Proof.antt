@@ -1,3 +1,6 @@
+use native.Mathlib.Omega.{arith}
+use Rattle.arm64_function.proofs.Record.{length-single, length-other}
+use mathlib.Core.Path.{_≡_, refl, subst, sym, ap, _∙_}
 use borrow.Author.Needs.{needs}
 use Rattle.arm64_function.proofs.record_size.Statement.{statement}
 use Rattle.arm64_function.proofs.record_size.Tie as tie
@@ -28,7 +31,7 @@ add-result c = search needs
 
 -- src/lib.rt:434:9
 returns : tie.Need-returns
-returns c = ?
+returns c = (length-single (c .before .before .before .shape-of .ensures) (c .before .header-size .ensures .0) (c .if1 .taken), omega (arith, c .before .header-size .ensures .2, c .before .before .before .shape-of .ensures .small))
 
 -- src/lib.rt:436:17
 sub-result : tie.Need-sub-result
@@ -52,7 +55,7 @@ add-result-3 c = search needs
 
 -- src/lib.rt:426:1
 returns-2 : tie.Need-returns-2
-returns-2 c = ?
+returns-2 c = (length-other (c .before .before .before .before .shape-of .ensures) (c .before .before .header-size .ensures .0) (c .before .if1 .left), omega (arith, c .before .before .header-size .ensures .2, c .before .before .before .before .shape-of .ensures .small, c .before .before .before .before .before .before .before .pre .few))
 
 pub record-size-spec : {M : Type 1} → statement M
 record-size-spec =
