@@ -12,6 +12,7 @@ use Rattle.format.specs.Prelude.{pick, each}
 use Rattle.format.specs.Leb.{little}
 use Rattle.format.specs.Lists.{allIn, field}
 use Rattle.format.proofs.Wrote.{Wrote}
+use Rattle.format.proofs.PutLaws.{kept}
 use Rattle.format.proofs.ListLaws.{each-length}
 use Rattle.arm64.specs.declared.Code.{Code}
 use Rattle.arm64.specs.declared.Packed.{Packed}
@@ -188,6 +189,28 @@ module _ {es cs : List ℕ} {p : Parts} {size : ℕ} {s : Shape} (h : Shaped es 
       → n + 4 * (p .end - p .first) + 4 * words ≡ length (recordAt es cs p size)
   length-other {n} e y =
       omega (arith, record-length, e, ap length (sym (scopes-all es cs p y)), words-length es cs p (p .first) (p .end - p .first), h .is-codes)
+
+-- ---- and its parts have room, one behind the other
+
+module _ {es cs : List ℕ} {p : Parts} {size : ℕ} {s : Shape} (h : Shaped es cs p size s) (xs : List ℕ) (at : ℕ)
+    (room : at + length (recordAt es cs p size) ≤ length xs) where
+  pub header-room : at + length (headerOf (size / 4) (s .single) (s .count) ((s .codes + 3) / 4)) ≤ length xs
+  header-room = omega (arith, room, record-length h)
+
+  module _ {ys : List ℕ} {a : ℕ} (u : Wrote xs ys at a (headerOf (size / 4) (s .single) (s .count) ((s .codes + 3) / 4))) where
+    pub words-room : a + length (scopesAt es cs p (s .single)) ≤ length ys
+    words-room = omega (arith, room, record-length h, u .past, kept u)
+
+    module _ {zs : List ℕ} {b : ℕ} (v : Wrote ys zs a b (scopesAt es cs p (s .single))) where
+      pub codes-fit : b + length (codesIn es cs p) ≤ length zs
+      codes-fit = omega (arith, room, record-length h, u .past, kept u, v .past, kept v)
+
+      pub pad-room : {vs : List ℕ} {c : ℕ} → Wrote zs vs b c (codesIn es cs p) → c + (4 * ((s .codes + 3) / 4) - s .codes) ≤ length vs
+      pad-room w = omega (arith, room, record-length h, u .past, kept u, v .past, kept v, w .past, kept w)
+
+pub short-is : {es cs : List ℕ} {p : Parts} {size : ℕ} → Whole es cs p size → size / 4 < 2 ^ 18
+unfolding instructions
+short-is w = w .short
 
 -- ---- the definitions' record
 
