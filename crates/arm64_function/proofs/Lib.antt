@@ -3,3 +3,7 @@ pub mod Given
 pub mod PackedWord
 pub mod Own
 pub mod Asked
+pub mod Indexes
+pub mod Codes
+pub mod Scopes
+pub mod Record

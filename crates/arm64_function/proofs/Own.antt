@@ -16,7 +16,7 @@ use Rattle.arm64_simple.specs.declared.Run.{Run}
 use Rattle.arm64_simple.specs.Saves.{saves, Inside}
 use Rattle.arm64_sharing.proofs.Comparing.{equal}
 use Rattle.arm64_function.specs.declared.Parts.{Parts}
-use Rattle.arm64_function.specs.Own.{prologueIn, runAt, seenFrom, seenAt, ownAt, ownIn, codesIn, indexAt, Nearest, heldTo, epilogueAt, fitsAt}
+use Rattle.arm64_function.specs.Own.{prologueIn, runAt, seenFrom, seenAt, ownAt, ownIn, laterAt, codesIn, indexAt, Nearest, heldTo, epilogueAt, fitsAt}
 
 no-yes : false ≡ true → ⊥
 no-yes e = subst (λ (x : Bool). T (not x)) e tt
@@ -25,7 +25,7 @@ both-true : (a b : Bool) → a && b ≡ true → (a ≡ true) × (b ≡ true)
 both-true true b e = (refl, e)
 both-true false b e = absurd (no-yes e)
 
-both-false : (a b : Bool) → a || b ≡ false → (a ≡ false) × (b ≡ false)
+pub both-false : (a b : Bool) → a || b ≡ false → (a ≡ false) × (b ≡ false)
 both-false true b e = absurd (no-yes (sym e))
 both-false false b e = (refl, e)
 
@@ -82,7 +82,7 @@ module _ (P : List Code) (R : ℕ → List Code) (at end : ℕ) where
   unfolding seenFrom
   later-start = let e : 0 ≡ at - at = omega arith in ap (λ (m : ℕ). ownRuns P (seenFrom R at m) (each R at (end - at))) e
 
-  seen-next : (i : ℕ) → at ≤ i → seenFrom R at ((i + 1) - at) ≡ R i ∷ seenFrom R at (i - at)
+  pub seen-next : (i : ℕ) → at ≤ i → seenFrom R at ((i + 1) - at) ≡ R i ∷ seenFrom R at (i - at)
   unfolding seenFrom
   seen-next i h =
       let e : (i + 1) - at ≡ suc (i - at) = omega arith in
@@ -118,7 +118,7 @@ pub record Searching (es cs : List ℕ) (p : Parts) (i j : ℕ) : Type 0 where
 pub searching-start : {es cs : List ℕ} {p : Parts} {i : ℕ} → p .first ≤ i → Searching es cs p i i
 searching-start h = record { low = h; high = omega arith; rest = refl }
 
-is-in-first : (r q : List Code) (qs : List (List Code)) → isIn r (q ∷ qs) ≡ (sameCodes r q || isIn r qs)
+pub is-in-first : (r q : List Code) (qs : List (List Code)) → isIn r (q ∷ qs) ≡ (sameCodes r q || isIn r qs)
 unfolding isIn
 is-in-first r q qs = refl
 
@@ -126,7 +126,7 @@ is-in-none : (R : ℕ → List Code) (r : List Code) (at : ℕ) → isIn r (seen
 unfolding isIn seenFrom
 is-in-none R r at = refl
 
-run-is : (es cs : List ℕ) (i : ℕ) {r : Run} → r ≡ epilogueAt es i → simplify noPair (saves cs r) ≡ runAt es cs i
+pub run-is : (es cs : List ℕ) (i : ℕ) {r : Run} → r ≡ epilogueAt es i → simplify noPair (saves cs r) ≡ runAt es cs i
 unfolding runAt
 run-is es cs i e = ap (λ x. simplify noPair (saves cs x)) e
 
@@ -215,9 +215,6 @@ fits-is es cs i e = ap (λ x. runFits noPair (saves cs x)) e
 
 -- ---- the sum of the runs
 
-abbrev pub laterAt : (es cs : List ℕ) → Parts → ℕ → List (List Code)
-laterAt es cs p i = laterIn (prologueIn cs p) (runAt es cs) (p .first) (p .end) i
-
 pub later-own : (es cs : List ℕ) (p : Parts) (i : ℕ) → p .first ≤ i → i < p .end → laterAt es cs p i ≡ ownAt es cs p i ++ laterAt es cs p (i + 1)
 unfolding ownAt
 later-own es cs p i h l = later-first (prologueIn cs p) (runAt es cs) (p .first) (p .end) i h l
@@ -253,7 +250,7 @@ pub prologue-size : (cs : List ℕ) (p : Parts) {n : ℕ} → n ≡ length (back
 unfolding prologueIn
 prologue-size cs p {n} e = ap (λ (k : ℕ). k + 1) e ∙ sym (run-size (simplify noPair (saves cs (p .prologue))))
 
-size-is : (r : List Code) → length (runBytes r) ≡ runSize r
+pub size-is : (r : List Code) → length (runBytes r) ≡ runSize r
 unfolding runSize
 size-is r = refl
 

@@ -29,11 +29,11 @@ use Rattle.arm64_function.proofs.Asked.{passed, values-same}
 -- ---- an only epilogue
 
 module _ (test : Epilogue → Bool) (e : ℕ → Epilogue) (at : ℕ) where
-  only-one : (n : ℕ) → n ≡ 1 → onlyOne test (each e at n) ≡ test (e at)
+  pub only-one : (n : ℕ) → n ≡ 1 → onlyOne test (each e at n) ≡ test (e at)
   unfolding onlyOne each
   only-one n h = ap (λ (m : ℕ). onlyOne test (each e at m)) h
 
-  only-other : (n : ℕ) → (n ≡ 1 → ⊥) → onlyOne test (each e at n) ≡ false
+  pub only-other : (n : ℕ) → (n ≡ 1 → ⊥) → onlyOne test (each e at n) ≡ false
   unfolding onlyOne each
   only-other zero h = refl
   only-other (suc zero) h = absurd (h refl)
@@ -91,7 +91,7 @@ module _ (fs es cs : List ℕ) (k : ℕ) where
   abbrev left : ℕ
   left = instructions (size - field epilogueStride es i 0)
 
-  ends-same : endsWith f last ≡ (eqb left (field epilogueStride es i 2 + 1) && leb (indexAt es cs p i) 31 && leb (length (codesIn es cs p)) 124)
+  pub ends-same : endsWith f last ≡ (eqb left (field epilogueStride es i 2 + 1) && leb (indexAt es cs p i) 31 && leb (length (codesIn es cs p)) 124)
   unfolding endsWith numberedFunction numberedEpilogue
   ends-same =
       ap (λ (n : ℕ). eqb left (n + 1) && leb (indexIn f last) 31 && leb (length (codesOf f)) 124)
@@ -249,7 +249,7 @@ module _ {fs es cs : List ℕ} {k : ℕ} (h : Fine fs es cs k) where
   abbrev parts : Parts
   parts = partsAt fs k
 
-  abbrev values : partsOk es cs parts ≡ true
+  abbrev pub values : partsOk es cs parts ≡ true
   values = sym (values-same fs es cs k) ∙ passed k (numberedFunction fs es cs k) (h .asked) .1 .1
 
   pub fitted : Fitted es cs parts

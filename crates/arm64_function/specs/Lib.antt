@@ -2,3 +2,4 @@
 pub mod Listed
 pub mod Own
 pub mod PackedWord
+pub mod Record

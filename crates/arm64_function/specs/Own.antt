@@ -2,14 +2,15 @@
 use mathlib.Core.Path.{_≡_}
 use mathlib.Core.Bool.{Bool, true, false, _&&_, _||_}
 use mathlib.Core.List.{List, [], _∷_, _++_}
-use Prim.Native.Nat.{ℕ, zero, suc, _+_, _-_, _*_, _%_, _≤_, _<_}
+use Prim.Native.Nat.{ℕ, zero, suc, _+_, _-_, _*_, _/_, _%_, _^_, _≤_, _<_}
 use lib.Dec.{leb, ltb, eqb}
-use lib.ListN.{length}
+use lib.ListN.{length, getD}
 use Rattle.format.specs.Prelude.{pick, each}
+use Rattle.format.specs.Leb.{little}
 use Rattle.format.specs.Lists.{field, allIn}
 use Rattle.arm64.specs.declared.Code.{Code}
 use Rattle.arm64.specs.Lists.{functionStride, epilogueStride}
-use Rattle.arm64.specs.Runs.{noPair, simplify, runFits, leads, isIn, ownRuns, runBytes, runsBytes, indexOf}
+use Rattle.arm64.specs.Runs.{noPair, simplify, runFits, leads, isIn, ownRuns, runBytes, runSize, runsBytes, placeIn, indexOf}
 use Rattle.arm64.specs.Writer.{instructions, longest}
 use Rattle.arm64_simple.specs.declared.Run.{Run}
 use Rattle.arm64_simple.specs.Saves.{saves, Inside}
@@ -66,6 +67,10 @@ ownAt es cs p i = pick (leads (runAt es cs i) (prologueIn cs p) || isIn (runAt e
 unfoldable pub ownIn : (es cs : List ℕ) → Parts → List (List Code)
 ownIn es cs p = ownRuns (prologueIn cs p) [] (each (runAt es cs) (p .first) (p .end - p .first))
 
+-- those from epilogue i on
+abbrev pub laterAt : (es cs : List ℕ) → Parts → ℕ → List (List Code)
+laterAt es cs p i = ownRuns (prologueIn cs p) (seenAt es cs p i) (each (runAt es cs) i (p .end - i))
+
 unfoldable pub codesIn : (es cs : List ℕ) → Parts → List ℕ
 codesIn es cs p = runBytes (prologueIn cs p) ++ runsBytes (ownIn es cs p)
 
@@ -104,3 +109,29 @@ partsOk es cs p =
 -- question 81 of a length
 unfoldable pub lengthOk : ℕ → Bool
 lengthOk size = eqb (size % 4) 0 && leb (instructions size) longest
+
+-- ---- the epilogues' words
+
+unfoldable pub wordAt : (es cs : List ℕ) → Parts → ℕ → ℕ
+wordAt es cs p i = instructions (field epilogueStride es i 0) + 2 ^ 22 * indexAt es cs p i
+
+-- n of them from epilogue i on
+unfoldable pub wordsFrom : (es cs : List ℕ) → Parts → (i n : ℕ) → List ℕ
+wordsFrom es cs p i zero = []
+wordsFrom es cs p i (suc n) = little 4 (wordAt es cs p i) ++ wordsFrom es cs p (suc i) n
+
+-- the index in the word at q
+unfoldable pub indexIn : List ℕ → ℕ → ℕ
+indexIn xs q = getD xs (q + 2) 0 / 64 + 4 * getD xs (q + 3) 0
+
+-- the words of the epilogues in front of i stand from `to` on
+pub record Known (xs : List ℕ) (to : ℕ) (es cs : List ℕ) (p : Parts) (i : ℕ) : Type 0 where
+  pub known : (j : ℕ) → p .first ≤ j → j < i → indexIn xs (to + 4 * (j - p .first)) ≡ indexAt es cs p j
+
+-- `next` bytes of codes belong to the prologue and the epilogues in front of i: a run that is none of theirs stands behind them
+pub record Ahead (es cs : List ℕ) (p : Parts) (next i : ℕ) : Type 0 where
+  pub ahead : (r : List Code) → isIn r (seenAt es cs p i) ≡ false → runSize (prologueIn cs p) + placeIn r (ownIn es cs p) ≡ next + placeIn r (laterAt es cs p i)
+
+-- the epilogues start inside a function of the most instructions
+pub record Started (es : List ℕ) (p : Parts) : Type 0 where
+  pub starts : (i : ℕ) → p .first ≤ i → i < p .end → field epilogueStride es i 0 < 2 ^ 20
