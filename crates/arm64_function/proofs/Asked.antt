@@ -130,6 +130,7 @@ held-leb d = either d 1020 low high
   where
     low : d ≤ 1020 → leb (pick (leb d 1020) d 1021) 1020 ≡ leb d 1020
     low l = ap (λ (x : ℕ). leb x 1020) (if-le d 1020 d 1021 l)
+
     high : 1020 < d → leb (pick (leb d 1020) d 1021) 1020 ≡ leb d 1020
     high l = ap (λ (x : ℕ). leb x 1020) (if-gt d 1020 d 1021 l) ∙ sym (lt-leb d 1020 l)
 

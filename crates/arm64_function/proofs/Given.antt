@@ -147,7 +147,7 @@ module _ (fs es cs : List ℕ) (k : ℕ) where
   fits-same =
       ap (all (λ e. runFits noPair (reverse (e .codes)))) epilogues-same
       ∙ all-each (λ e. runFits noPair (reverse (e .codes))) (fitsAt es cs) (numberedEpilogue es cs) (p .first) (p .end - p .first)
-        (λ i. ap (runFits noPair) (epilogue-saves es cs i))
+      (λ i. ap (runFits noPair) (epilogue-saves es cs i))
 
 -- ---- the lists hold it
 

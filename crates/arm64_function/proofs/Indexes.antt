@@ -41,11 +41,11 @@ unfolding ownAt
 ahead-turn {es} {cs} {p} {next} {i} {x} a l h e =
     record {
       ahead = λ r g.
-        let d = both-false (sameCodes r (runAt es cs i)) (isIn r (seenAt es cs p i))
-            (sym (is-in-first r (runAt es cs i) (seenAt es cs p i)) ∙ sym (ap (isIn r) (seen-next [] (runAt es cs) (p .first) 0 i l)) ∙ g) in
-        let z = ap (placeIn r) (later-own es cs p i l h)
-            ∙ place-other r (runAt es cs i) (leads (runAt es cs i) (prologueIn cs p) || isIn (runAt es cs i) (seenAt es cs p i)) (laterAt es cs p (i + 1)) (d .0) in
-        omega (arith, a .ahead r (d .1), z, e);
+          let d = both-false (sameCodes r (runAt es cs i)) (isIn r (seenAt es cs p i))
+          (sym (is-in-first r (runAt es cs i) (seenAt es cs p i)) ∙ sym (ap (isIn r) (seen-next [] (runAt es cs) (p .first) 0 i l)) ∙ g) in
+          let z = ap (placeIn r) (later-own es cs p i l h)
+          ∙ place-other r (runAt es cs i) (leads (runAt es cs i) (prologueIn cs p) || isIn (runAt es cs i) (seenAt es cs p i)) (laterAt es cs p (i + 1)) (d .0) in
+          omega (arith, a .ahead r (d .1), z, e);
     }
 
 index-not : (ps : List Code) (own : List (List Code)) (r : List Code) → leads r ps ≡ false → indexOf ps own r ≡ runSize ps + placeIn r own

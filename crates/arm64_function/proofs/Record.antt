@@ -106,7 +106,7 @@ module _ (es cs : List ℕ) (p : Parts) (size : ℕ) where
   single-one e =
       eqb-true (p .end - p .first) 1
       (both-true (eqb (p .end - p .first) 1) (eqb (instructions (size - field epilogueStride es (p .first) 0)) (field epilogueStride es (p .first) 2 + 1)
-        && leb (indexAt es cs p (p .first)) 31 && leb (length (codesIn es cs p)) 124) e .0)
+      && leb (indexAt es cs p (p .first)) 31 && leb (length (codesIn es cs p)) 124) e .0)
 
 module _ {es cs : List ℕ} {p : Parts} {size : ℕ} (w : Whole es cs p size) (one : p .end - p .first ≡ 1) where
   pub start-held : getD es (3 * p .first) 0 ≤ size

@@ -53,7 +53,7 @@ fourth xs q v h =
     let e : q + 1 + 1 + 1 ≡ q + 3 = omega arith in
     let ys = set (set (set xs q (v % 256)) (q + 1) (v / 256 % 256)) (q + 1 + 1) (v / 256 / 256 % 256) in
     let l : length ys ≡ length xs = length-set (set (set xs q (v % 256)) (q + 1) (v / 256 % 256)) (q + 1 + 1) (v / 256 / 256 % 256)
-      ∙ length-set (set xs q (v % 256)) (q + 1) (v / 256 % 256) ∙ length-set xs q (v % 256) in
+    ∙ length-set (set xs q (v % 256)) (q + 1) (v / 256 % 256) ∙ length-set xs q (v % 256) in
     ap (λ (k : ℕ). getD (put ys k (v / 256 / 256 / 256 % 256 ∷ [])) (q + 3) 0) e
     ∙ at-put ys (q + 3) (v / 256 / 256 / 256 % 256) [] (omega (arith, l, h)) ∙ omega arith
 
@@ -135,11 +135,13 @@ module _ {xs₀ xs : List ℕ} {to q : ℕ} {es cs : List ℕ} {p : Parts} {next
         record {
           sum = subst (λ (n : ℕ). Summing es cs p n (i + 1)) (sym (u .1)) (summing-turn (s .sum) l refl);
           ahead = subst (λ (n : ℕ). Ahead es cs p n (i + 1)) (sym (u .1)) (ahead-turn (s .ahead) low l refl);
-          known = record { known = λ j a b. either (j + 1) i
-              (λ d. kept-index (to + 4 * (j - p .first)) (omega (arith, s .place, a, d)) w ∙ s .known .known j a (omega (arith, d)))
-              (λ d. let e : j ≡ i = omega (arith, b, d) in
+          known = record {
+            known = λ j a b. either (j + 1) i
+                (λ d. kept-index (to + 4 * (j - p .first)) (omega (arith, s .place, a, d)) w ∙ s .known .known j a (omega (arith, d)))
+                (λ d. let e : j ≡ i = omega (arith, b, d) in
                 let k : to + 4 * (j - p .first) ≡ q = omega (arith, s .place, e) in
-                ap (indexIn ys) k ∙ stored-index (field epilogueStride es i 0 / 4) (indexAt es cs p i) room (omega (arith, z)) (omega (arith, m)) w' ∙ ap (indexAt es cs p) (sym e)) };
+                ap (indexIn ys) k ∙ stored-index (field epilogueStride es i 0 / 4) (indexAt es cs p i) room (omega (arith, z)) (omega (arith, m)) w' ∙ ap (indexAt es cs p) (sym e));
+          };
           place = omega (arith, s .place, w .past, little-length 4 (field epilogueStride es i 0 / 4 + 2 ^ 22 * t .index), low);
           left = stored-next (little 4 (field epilogueStride es i 0 / 4 + 2 ^ 22 * indexAt es cs p i))
               (subst (Storing xs₀ xs to q (wordsFrom es cs p (p .first) (p .end - p .first))) (words-first es cs p i l) (s .left)) w';

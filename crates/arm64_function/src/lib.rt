@@ -288,18 +288,12 @@ fn scope_of(out: &[u8], to: usize, es: &[u64], cs: &[u64], p: Parts, i: usize, n
     let prologue = p.prologue;
     if arm64_sharing::leads(cs, run, prologue) {
         let index = leading_index(es, cs, p, i);
-        return Scope {
-            index,
-            next,
-        };
+        return Scope { index, next };
     }
     let j = nearest(es, cs, p, i);
     if j < i {
         let index = index_in(out, to + 4 * (j - p.first));
-        return Scope {
-            index,
-            next,
-        };
+        return Scope { index, next };
     }
     let size = arm64_simple::run_size(cs, run) + 1;
     Scope {
