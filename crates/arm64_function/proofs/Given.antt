@@ -21,7 +21,7 @@ use Rattle.arm64_function.specs.declared.Parts.{Parts}
 use Rattle.arm64_function.specs.Listed.{Listed}
 use Rattle.arm64_function.specs.Own.{prologueAt, epilogueAt, partsAt, Ready, prologueIn, runAt, ownIn, codesIn, indexAt, startOkAt, fitsAt}
 
-no-yes : false ≡ true → ⊥
+pub no-yes : false ≡ true → ⊥
 no-yes e = subst (λ (x : Bool). T (not x)) e tt
 
 pub both-true : (a b : Bool) → a && b ≡ true → (a ≡ true) × (b ≡ true)

@@ -16,14 +16,8 @@ use Rattle.arm64_simple.specs.declared.Run.{Run}
 use Rattle.arm64_simple.specs.Saves.{saves, Inside}
 use Rattle.arm64_sharing.proofs.Comparing.{equal}
 use Rattle.arm64_function.specs.declared.Parts.{Parts}
+use Rattle.arm64_function.proofs.Given.{no-yes, both-true}
 use Rattle.arm64_function.specs.Own.{prologueIn, runAt, seenFrom, seenAt, ownAt, ownIn, laterAt, codesIn, indexAt, Nearest, heldTo, epilogueAt, fitsAt}
-
-no-yes : false ≡ true → ⊥
-no-yes e = subst (λ (x : Bool). T (not x)) e tt
-
-both-true : (a b : Bool) → a && b ≡ true → (a ≡ true) × (b ≡ true)
-both-true true b e = (refl, e)
-both-true false b e = absurd (no-yes e)
 
 pub both-false : (a b : Bool) → a || b ≡ false → (a ≡ false) × (b ≡ false)
 both-false true b e = absurd (no-yes (sym e))
