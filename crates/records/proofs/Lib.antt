@@ -1,6 +1,7 @@
 -- The lemmas of this crate's functions.
 pub mod Chunks
 pub mod LabelLaws
+pub mod PairOrder
 pub mod StepLoops
 pub mod CallSites
 pub mod RowLoops

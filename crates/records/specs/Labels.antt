@@ -1,5 +1,5 @@
 -- The relocations of steps between places with labels, over lists of numbers.
-use Prim.Native.Nat.{ℕ, _-_}
+use Prim.Native.Nat.{ℕ, _+_, _-_, _≤_, _<_}
 use mathlib.Core.Bool.{Bool, _&&_}
 use mathlib.Core.Option.{Option, none, some}
 use mathlib.Core.List.{List}
@@ -25,6 +25,17 @@ foundPair Absent = none
 -- the pair of a step, of n pairs from `at` on
 unfoldable pub pairBetween : (from to : ℕ) (pairs : List ℕ) (at n : ℕ) → Option Pair
 pairBetween from to pairs at n = pairFor from to (each (pairAt pairs) at n)
+
+-- the first places of n pairs from `at` on rise
+pub record Rising (pairs : List ℕ) (at n : ℕ) : Type 0 where
+  pub rise : (j k : ℕ) → at ≤ j → j < k → k < at + n → pairAt pairs j .place1 < pairAt pairs k .place1
+
+-- those in front of pair i are below `from`, those behind it above
+pub record Parted (pairs : List ℕ) (at n i from : ℕ) : Type 0 where
+  pub low : at ≤ i
+  pub high : i ≤ at + n
+  pub below : (j : ℕ) → at ≤ j → j < i → pairAt pairs j .place1 < from
+  pub beyond : (j : ℕ) → i < j → j < at + n → from < pairAt pairs j .place1
 
 -- the relocations of the step, of a function's pairs
 unfoldable pub stepPair : (place from to : ℕ) → Extent → (pairs : List ℕ) → List Relocation

@@ -3,13 +3,13 @@ ghost use mathlib.Core.Path.{_≡_};
 ghost use mathlib.Core.Bool.{true, false};
 ghost use mathlib.Core.Option.{some};
 ghost use mathlib.Core.List.{[]};
-ghost use Prim.Native.Nat.{_+_, _*_, _^_, _≤_, _<_};
+ghost use Prim.Native.Nat.{_+_, _-_, _*_, _^_, _≤_, _<_};
 ghost use lib.ListN.{length, replicate};
 ghost use Rattle.format.proofs.Wrote.{Wrote};
 ghost use Rattle.format.specs.Prelude.{each};
 ghost use Rattle.format.specs.Leb.{uleb};
 ghost use Rattle.format.specs.Headers.{counted};
-ghost use Rattle.format.specs.Lists.{landingStride, pairStride, landingAt, rowAt, numbersOf, count, mostRecords};
+ghost use Rattle.format.specs.Lists.{landingStride, pairStride, landingAt, rowAt, pairAt, numbersOf, count, mostRecords};
 ghost use Rattle.format.specs.CallSites.{siteBytes, siteTable, siteAdded};
 ghost use Rattle.format.specs.Records.{recordBytes, recordRelocs, setKind, setBytes, setPlace, setPair};
 ghost use Rattle.format.proofs.SectionSize.{Aligned};
@@ -18,7 +18,7 @@ ghost use Rattle.leading.specs.Functions.{bodyOf, Sound, RowsReady, LandingsRea
 ghost use Rattle.records.specs.Sites.{sitesIn};
 ghost use Rattle.records.specs.Stepped.{steppedRowBytes, rowsIn, SteppedRowReady, SteppedReady};
 ghost use Rattle.records.specs.Fields.{sizeIn, blankIn, fieldsIn, sumIn, lsdaIn, debugRelocs, ehRelocs, fieldRelocs};
-ghost use Rattle.records.specs.Labels.{isFor, foundPair, pairBetween, stepPair, stepsIn};
+ghost use Rattle.records.specs.Labels.{isFor, foundPair, pairBetween, Rising, Parted, stepPair, stepsIn};
 use format::Machine;
 use leading::Kind;
 use leading::kind_of;
@@ -316,6 +316,105 @@ fn pair_for(pairs: &[u64], at: usize, n: usize, from: u64, to: u64) -> Found
     Found::Absent
 }
 
+// The first place of pair i.
+fn place_of(pairs: &[u64], i: usize) -> u64
+    requires { ⌜ 4 * i + 4 ≤ length (now pairs) ⌝ }
+    ensures { λ r. ⌜ r ≡ pairAt (now (pairs .entry)) i .place1 ⌝ }
+{
+    pairs[4 * i]
+}
+
+// The first places of the n pairs from `at` on rise, as where an assembler lists pairs in the order of the rows.
+fn rises(pairs: &[u64], at: usize, n: usize) -> bool
+    requires { ⌜ at + n ≤ count pairStride (now pairs) ⌝ }
+    ensures { λ r. ⌜ (r ≡ true → Rising (now (pairs .entry)) at n) ⌝ }
+{
+    let end = at + n;
+    let mut i = at;
+    while i + 1 < end {
+        if place_of(pairs, i + 1) <= place_of(pairs, i) {
+            return false;
+        }
+        i += 1;
+    }
+    true
+}
+
+// The pair in front of pair i, where there is one from `at` on, starts below `from`.
+fn parts_below(pairs: &[u64], at: usize, i: usize, from: u64) -> bool
+    requires { ⌜ i ≤ count pairStride (now pairs) ⌝ }
+    ensures { λ r. ⌜ (r ≡ true → at < i → pairAt (now (pairs .entry)) (i - 1) .place1 < from) ⌝ }
+{
+    if i <= at {
+        return true;
+    }
+    place_of(pairs, i - 1) < from
+}
+
+// The n pairs from `at` on rise, and those in front of pair i, and no other, start below `from`. A no says nothing.
+fn parts(rising: bool, pairs: &[u64], at: usize, n: usize, i: usize, from: u64) -> bool
+    requires { ⌜ (at + n ≤ count pairStride (now pairs)) × (rising ≡ true → Rising (now pairs) at n) ⌝ }
+    ensures { λ r. ⌜ (r ≡ true → Parted (now (pairs .entry)) at n i from) ⌝ }
+{
+    if !rising {
+        return false;
+    }
+    if i < at {
+        return false;
+    }
+    if at + n < i {
+        return false;
+    }
+    if !parts_below(pairs, at, i, from) {
+        return false;
+    }
+    if i == at + n {
+        return true;
+    }
+    from <= place_of(pairs, i)
+}
+
+// The same as `pair_for`, at pair i or by the search.
+fn pair_near(
+    rising: bool,
+    pairs: &[u64],
+    at: usize,
+    n: usize,
+    i: usize,
+    from: u64,
+    to: u64,
+) -> Found
+    requires { ⌜ (at + n ≤ count pairStride (now pairs)) × (rising ≡ true → Rising (now pairs) at n) ⌝ }
+    ensures { λ r. ⌜ foundPair r ≡ pairBetween from to (now (pairs .entry)) at n ⌝ }
+{
+    if !parts(rising, pairs, at, n, i, from) {
+        return pair_for(pairs, at, n, from, to);
+    }
+    if at + n <= i {
+        return Found::Absent;
+    }
+    let p = lists::pair_at(pairs, i);
+    if is_for(p, from, to) {
+        return Found::At(p);
+    }
+    Found::Absent
+}
+
+// Where the next step's pair is to be looked for: past the pairs below its start.
+fn next_near(pairs: &[u64], end: usize, i: usize, to: u64) -> usize
+    requires { ⌜ end ≤ count pairStride (now pairs) ⌝ }
+    ensures { λ r. ⌜ i ≤ r ⌝ }
+{
+    let mut k = i;
+    while k < end {
+        if to <= place_of(pairs, k) {
+            return k;
+        }
+        k += 1;
+    }
+    k
+}
+
 // Where a linker writes a step of a form: on the opcode, or behind it.
 fn set_place(place: u64, form: u64) -> u64
     requires { ⌜ place < 2 ^ 63 ⌝ }
@@ -369,21 +468,23 @@ fn step_pair(
     to: u64,
     e: Extent,
     pairs: &[u64],
+    rising: bool,
+    near: usize,
 ) -> usize
-    requires { ⌜ PairsReady e (now pairs) × (place < 2 ^ 63) × (from ≤ to) × (i + length (numbersOf (stepPair place from to e (now pairs))) ≤ length (now out)) ⌝ }
+    requires { ⌜ PairsReady e (now pairs) × (rising ≡ true → Rising (now pairs) (e .«pairs_at») (e .pairs)) × (place < 2 ^ 63) × (from ≤ to) × (i + length (numbersOf (stepPair place from to e (now pairs))) ≤ length (now out)) ⌝ }
     ensures { λ r. ⌜ Wrote (now (out .entry)) (now (out .exit)) i r (numbersOf (stepPair place from to e (now (pairs .entry)))) ⌝ }
 {
-    let Found::At(p) = pair_for(pairs, e.pairs_at, e.pairs, from, to) else {
+    let Found::At(p) = pair_near(rising, pairs, e.pairs_at, e.pairs, near, from, to) else {
         return i;
     };
     relaxed_advance(out, i, place, rows::step_form(to - from), p)
 }
 
-fn step_pair_count(from: u64, to: u64, e: Extent, pairs: &[u64]) -> usize
-    requires { ⌜ PairsReady e (now pairs) ⌝ }
+fn step_pair_count(from: u64, to: u64, e: Extent, pairs: &[u64], rising: bool, near: usize) -> usize
+    requires { ⌜ PairsReady e (now pairs) × (rising ≡ true → Rising (now pairs) (e .«pairs_at») (e .pairs)) ⌝ }
     ensures { λ r. ⌜ r ≡ length (stepPair 0 from to e (now (pairs .entry))) ⌝ }
 {
-    let Found::At(_) = pair_for(pairs, e.pairs_at, e.pairs, from, to) else {
+    let Found::At(_) = pair_near(rising, pairs, e.pairs_at, e.pairs, near, from, to) else {
         return 0;
     };
     2
@@ -409,9 +510,12 @@ fn step_relocs(
     let mut from = 0;
     let mut p = place;
     let mut q = i;
+    let rising = rises(pairs, e.pairs_at, e.pairs);
+    let mut near = e.pairs_at;
     while k < end {
         let to = rows::offset_at(rows, k);
-        q = step_pair(out, q, p, from, to, e, pairs);
+        q = step_pair(out, q, p, from, to, e, pairs, rising, near);
+        near = next_near(pairs, e.pairs_at + e.pairs, near, to);
         p += stepped_row_size(word, from, rows, k) as u64;
         from = to;
         k += 1;
@@ -427,9 +531,12 @@ fn step_relocs_count(rows: &[u64], first: usize, n: usize, e: Extent, pairs: &[u
     let mut k = first;
     let mut from = 0;
     let mut size = 0;
+    let rising = rises(pairs, e.pairs_at, e.pairs);
+    let mut near = e.pairs_at;
     while k < end {
         let to = rows::offset_at(rows, k);
-        size += step_pair_count(from, to, e, pairs);
+        size += step_pair_count(from, to, e, pairs, rising, near);
+        near = next_near(pairs, e.pairs_at + e.pairs, near, to);
         from = to;
         k += 1;
     }

@@ -6,8 +6,8 @@ use borrow.Author.Needs.{needs}
 use Rattle.records.proofs.step_pair_count.Statement.{statement}
 use Rattle.records.proofs.step_pair_count.Tie as tie
 
-pair-for-requires : tie.Need-pair-for-requires
-pair-for-requires c κs = c .before .pre .inside
+pair-near-requires : tie.Need-pair-near-requires
+pair-near-requires c κs = search needs
 
 enum-told : tie.Need-enum-told
 enum-told c = search needs
@@ -17,17 +17,17 @@ enum-told-2 c = search needs
 
 returns : tie.Need-returns
 unfolding foundPair
-returns c = rw (pair-absent _ _ _ (c .before .before .before .before .args .e) _ (rw (c .enum-told2 .given .1) at (c .before .before .pair-for .ensures)))
+returns c = rw (pair-absent _ _ _ (c .before .before .before .before .args .e) _ (rw (c .enum-told2 .given .1) at (c .before .before .pair-near .ensures)))
 
 returns-2 : tie.Need-returns-2
 unfolding foundPair setPair
-returns-2 c = rw (pair-found _ _ _ (c .before .before .before .before .args .e) _ _ (rw (c .enum-told .given .1) at (c .before .before .pair-for .ensures)))
+returns-2 c = rw (pair-found _ _ _ (c .before .before .before .before .args .e) _ _ (rw (c .enum-told .given .1) at (c .before .before .pair-near .ensures)))
 
 pub step-pair-count-spec : {M : Type 1} → statement M
 step-pair-count-spec =
     tie.close
     (tie.spec
-    pair-for-requires
+    pair-near-requires
     enum-told
     enum-told-2
     returns
