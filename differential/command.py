@@ -41,7 +41,8 @@ def usage():
                   ["rules", "-", "--address=1", "--record=1", "--at=1"], ["dump", "-", "--json=1"], ["check", "-", "--record", "1"],
                   ["dump", "-", "--word", "8", "--word", "8"], ["dump", "-", "--machine=vax"], ["handler", "-"], ["handler", "-", "--at", "1"],
                   ["walk", "-"], ["walk", "-", "--fault=x", "--pc=1"], ["walk", "-", "--fault=x", "--pc=1", "--stack=-1"], ["dump", "-", "--pc=1"],
-                  ["rules", "-", "--record=-1", "--at=0"], ["rules", "-", "--record=0x1ffffffffffffffff", "--at=0"], ["example", "x"]):
+                  ["rules", "-", "--record=-1", "--at=0"], ["rules", "-", "--record=0x1ffffffffffffffff", "--at=0"], ["example", "x"],
+                  ["arm64"], ["arm64", "--packed=0"], ["arm64", "--packed=0x100000001"], ["arm64", "-", "--packed=1"], ["arm64", "--packed=1", "--place=1"]):
         run(*words, status=2)
     for words in (["--help"], ["-h"], ["dump", "--help"], ["--help", "dump", "x", "--word=1"]):
         assert "dekvoz dump FILE" in run(*words)[0]
@@ -171,6 +172,85 @@ def x64():
     run("x64", "/dev/null", status=1)
 
 
+def word(*numbers):
+    return b"".join(n.to_bytes(4, "little") for n in numbers)
+
+
+def coff(sections, symbols, image=False):
+    """A COFF object of (name, bytes, relocations) and (name, section, value), or a PE image of (name, bytes, address): the PE/COFF specification, 2.1 to 5."""
+    head = b"MZ" + bytes(58) + word(64) + b"PE\0\0" if image else b""
+    at = len(head) + 20 + 40 * len(sections)
+    table = body = b""
+    for name, data, more in sections:
+        held = data + bytes(-len(data) % 512) if image else data
+        links = b"" if image else b"".join(word(place, symbol) + (2).to_bytes(2, "little") for place, symbol in more)
+        table += name.encode().ljust(8, b"\0") + word(len(data) if image else 0, more if image else 0, len(held), at + len(body))
+        table += word(at + len(body) + len(held), 0) + (0 if image else len(more)).to_bytes(2, "little") + bytes(6)
+        body += held + links
+    strings, entries = b"", b""
+    for name, section, value in symbols:
+        entries += name.encode().ljust(8, b"\0") if len(name) <= 8 else word(0, 4 + len(strings))
+        strings += name.encode() + b"\0" if len(name) > 8 else b""
+        entries += word(value) + section.to_bytes(2, "little") + bytes([0, 0, 2, 0])
+    header = (0xaa64).to_bytes(2, "little") + len(sections).to_bytes(2, "little") + word(0, at + len(body), len(symbols)) + bytes(4)
+    return head + header + table + body + entries + word(4 + len(strings)) + strings
+
+
+def arm64():
+    # stp x19, x20, [sp, -16]!; stp x29, lr, [sp, -16]!; mov x29, sp, undone 12 bytes before the end (Microsoft, "ARM64 exception handling").
+    packed, record = 0x01620029, bytes.fromhex("0a006008e18122e4")
+    told = ["stp x19, x20, [sp, -16]!", "stp x29, lr, [sp, -16]!", "mov x29, sp"], ["ldp x29, lr, [sp], 16", "ldp x19, x20, [sp], 16"]
+    body = "  prologue\n    " + "\n    ".join(told[0]) + "\n  epilogue at 28\n    " + "\n    ".join(told[1]) + "\n\n"
+    assert run("arm64", "--packed", hex(packed))[0] == "00000000 40 bytes, packed, 0x01620029\n" + body
+    assert run("arm64", "-", stdin=record + record)[0] == "".join(f"{at:08x} 40 bytes, a record\n" + body for at in (0, 8))
+    assert run("arm64", "-", "--place=8", stdin=record + record)[0].startswith("00000008")
+    assert "refused with 76" in run("arm64", "-", "--place=12", stdin=record + record, status=1)[1]
+    assert "refused with 77" in run("arm64", "--packed=3", status=1)[1]
+    assert "a packed fragment, 0x" in run("arm64", "--packed", str(packed + 1))[0]
+    run("arm64", "/dev/null", status=1)
+    # An object with a packed entry, a record and a record that is not there; an image with the same and its padding.
+    symbols = [("f", 1, 0), ("$unwind$g_of_long_name", 3, 8), ("g_of_long_name", 1, 40), ("lost", 0, 0)]
+    entries = word(0, packed, 0, 0, 4, 0)
+    made = coff([(".text", bytes(80), []), (".pdata", entries, [(0, 0), (8, 2), (12, 1), (16, 2), (20, 3)]), (".xdata", record * 2, [])], symbols)
+    text, why = run("arm64", "-", stdin=made, status=1)
+    assert text.startswith("00000000 function f, 40 bytes, packed, 0x01620029\n" + body + "00000008 function g_of_long_name, 40 bytes, a record at 0x8\n" + body), text
+    assert "00000010 function g_of_long_name+0x4, a record at 0x0: refused with 76" in text and "g_of_long_name+0x4: refused with 76" in why, (text, why)
+    assert len(run("arm64", "-", "--section=.xdata", stdin=made)[0].split("a record\n")) == 3
+    answer = json.loads(run("arm64", "-", "--json", stdin=made, status=1)[0])["functions"]
+    assert [f.get("length") for f in answer] == [40, 40, None] and answer[2]["refused"]["number"] == 76, answer
+    assert answer[0]["packed"] == hex(packed) and (answer[1]["place"], answer[1]["symbol"]) == (8, "g_of_long_name"), answer
+    for function in answer[:2]:
+        assert [c["words"] for c in function["prologue"]] == told[0] and function["epilogues"][0]["start"] == 28, function
+        assert [c["code"] for c in function["epilogues"][0]["codes"]] == ["FplrX(16)", "R19R20X(16)"], function
+    made = coff([(".text", bytes(80), 0x1000), (".rdata", bytes(4) + record, 0x2000), (".pdata", word(0x1000, packed, 0x1028, 0x2004), 0x3000)], [], image=True)
+    text = run("arm64", "-", stdin=made)[0]
+    assert text == "00000000 function 0x1000, 40 bytes, packed, 0x01620029\n" + body + "00000008 function 0x1028, 40 bytes, a record at 0x4\n" + body, text
+    assert "another machine" in run("x64", "-", stdin=made, status=1)[1]
+    assert "another machine" in run("arm64", "-", stdin=b"\x64\x86" + coff([], [])[2:], status=1)[1]
+    # Every kind of code, in words and undone.
+    kinds = (
+        ("02", "sub sp, sp, 32", "add sp, sp, 32"), ("c0ff", "sub sp, sp, 4080", "add sp, sp, 4080"), ("28", "stp x19, x20, [sp, -64]!", "ldp x19, x20, [sp], 64"),
+        ("42", "stp x29, lr, [sp, 16]", "ldp x29, lr, [sp, 16]"), ("83", "stp x29, lr, [sp, -32]!", "ldp x29, lr, [sp], 32"),
+        ("c841", "stp x20, x21, [sp, 8]", "ldp x20, x21, [sp, 8]"), ("cc41", "stp x20, x21, [sp, -16]!", "ldp x20, x21, [sp], 16"),
+        ("e6", "stp of the next pair, two registers on and 16 bytes up", "ldp of the next pair, two registers on and 16 bytes up"),
+        ("d040", "str x20, [sp]", "ldr x20, [sp]"), ("d4e1", "str x26, [sp, -16]!", "ldr x26, [sp], 16"), ("d641", "stp x21, lr, [sp, 8]", "ldp x21, lr, [sp, 8]"),
+        ("d841", "stp d9, d10, [sp, 8]", "ldp d9, d10, [sp, 8]"), ("da41", "stp d9, d10, [sp, -16]!", "ldp d9, d10, [sp], 16"),
+        ("dc41", "str d9, [sp, 8]", "ldr d9, [sp, 8]"), ("dec1", "str d14, [sp, -16]!", "ldr d14, [sp], 16"), ("e1", "mov x29, sp", "mov sp, x29"),
+        ("e201", "add x29, sp, 8", "sub sp, x29, 8"), ("e3", "nop", "nop"), ("fc", "pacibsp", "autibsp"),
+    )
+    codes = bytes.fromhex("".join(spelled for spelled, *_ in kinds)) + b"\xe4"
+    codes += b"\xe3" * (-len(codes) % 4)
+    text = run("arm64", "-", stdin=word(100 | 1 << 21 | len(codes) // 4 << 27) + codes)[0]
+    lines = [said for _, said, _ in kinds[::-1]], [undone for *_, undone in kinds]
+    assert text == "00000000 400 bytes, a record\n  prologue\n    " + "\n    ".join(lines[0]) + "\n  epilogue at 320\n    " + "\n    ".join(lines[1]) + "\n\n", text
+    handled = word(10 | 1 << 20 | 1 << 27) + bytes.fromhex("e1e4e3e3") + word(0x1234, 0x5678)
+    text, why = run("arm64", "-", stdin=handled, status=1)
+    assert "with a handler" in text and "at 0xc: a handler's data" in why, (text, why)
+    for cut in range(1, len(made)):
+        done = subprocess.run([DEKVOZ, "arm64", "-"], input=made[:cut], capture_output=True)
+        assert done.returncode in (0, 1) and (done.returncode == 0 or done.stderr), cut
+
+
 def proportion():
     """A record of 24 KB of operations is listed without being held up; a pipe that nobody reads ends the command without a word."""
     operations = bytes.fromhex("410e10") * 8000
@@ -273,12 +353,12 @@ def example():
 
 def main():
     os.makedirs(OUT, exist_ok=True)
-    for test in (usage, files, raw, spellings, debug, call_sites, x64, objects, proportion, walk, example):
+    for test in (usage, files, raw, spellings, debug, call_sites, x64, arm64, objects, proportion, walk, example):
         try:
             test()
         except AssertionError as why:
             sys.exit(f"command: {test.__name__}: {why}")
-    print("command: usage, files, raw bytes, long spellings, debug_frame, call sites, x64 records, an object of gcc, a long record, the walk and the example are as they should be")
+    print("command: usage, files, raw bytes, long spellings, debug_frame, call sites, x64 records, ARM64 unwind data, an object of gcc, a long record, the walk and the example are as they should be")
 
 
 if __name__ == "__main__":

@@ -17,6 +17,9 @@
  * row check and the writers answer as they do to the numbers, into the same buffers; where the list that is lent for the numbers is
  * short or not all zero, the answer is 54, and the list is always as it was.
  *
+ * The writer of ARM64 unwind data gets functions that are packed at times, with epilogues that share the prologue's codes or not, then
+ * damaged like the others; what it wrote is read back, length, starts and counts, and read with bytes damaged.
+ *
  * The same seed makes the same calls. At the end stand the counts by entry and number, and a sum over all answers and results. */
 #include <inttypes.h>
 #include <signal.h>
@@ -33,10 +36,11 @@
 
 /* From OF_STRUCTS on the first five again, over structs; from PACKS on the packs of the two lists. */
 enum { ELF, COFF, MACH_O, OTHER, DEBUG_FRAME, SEH, ROW_CHECK, READ, OF_STRUCTS, PACKS = OF_STRUCTS + SEH, ROW_CHECK_OF = PACKS + 2,
-    ENTRIES };
+    ARM64, READ_ARM64, ENTRIES };
 static const char *const ENTRY[ENTRIES] = {"relaxed_table ELF", "relaxed_table COFF", "relaxed_table Mach-O",
     "relaxed_table other", "relaxed_debug_frame", "seh", "row_check", "read", "relaxed_table_of ELF", "relaxed_table_of COFF",
-    "relaxed_table_of Mach-O", "relaxed_table_of other", "relaxed_debug_frame_of", "pack_functions", "pack_rows", "row_check_of"};
+    "relaxed_table_of Mach-O", "relaxed_table_of other", "relaxed_debug_frame_of", "pack_functions", "pack_rows", "row_check_of",
+    "arm64", "read_arm64"};
 /* The numbers that document 01 and the change requests have for each entry, beside 0. 37, 39 and 41 are met through direct codes alone; to structs every
  * writer with a table answers 54 where the list lent for the numbers is not ready. */
 static const uint8_t NUMBERS[ENTRIES][24] = {
@@ -56,6 +60,8 @@ static const uint8_t NUMBERS[ENTRIES][24] = {
     {54},
     {54},
     {1},
+    {13, 81, 82, 83, 51, 52, 53, 54},
+    {54, 76, 77},
 };
 enum { EMPTY = 99, KNOWN };
 static uint64_t counts[ENTRIES][KNOWN];
@@ -169,8 +175,8 @@ static void tally(int e, uint64_t number, int empty) {
 
 /* ---- lists */
 
-enum { MACHINE, FUNCTIONS, ROWS, LANDINGS, PAIRS, CODES, LISTS };
-static const size_t STRIDE[LISTS] = {70, 18, 4, 3, 4, 5};
+enum { MACHINE, FUNCTIONS, ROWS, LANDINGS, PAIRS, CODES, EPILOGUES, LISTS };
+static const size_t STRIDE[LISTS] = {70, 18, 4, 3, 4, 5, 3};
 enum { MOST = (ROOM - CANARIES) / 8 };
 static struct {
     uint64_t at[MOST];
@@ -193,7 +199,13 @@ static void put(int key, size_t n, const uint64_t *numbers) {
     for (size_t i = 0; i < n; i++) push(key, numbers[i]);
 }
 
-static size_t records(int key) { return lists[key].count / (key == FUNCTIONS && entry == SEH ? 5 : STRIDE[key]); }
+static size_t stride(int key) {
+    if (key == FUNCTIONS && entry == SEH) return 5;
+    if (entry == ARM64 && (key == FUNCTIONS || key == CODES)) return key == FUNCTIONS ? 6 : 3;
+    return STRIDE[key];
+}
+
+static size_t records(int key) { return lists[key].count / stride(key); }
 
 static const uint64_t ODD[] = {0, 1, 2, 3, 5, 9, 15, 16, 17, 255, 256, 65535, 65536, 65537, 1048576, 1048577, 1u << 31,
     UINT32_MAX, 1ull << 32, 1ull << 63, UINT64_MAX};
@@ -359,6 +371,55 @@ static void make_prologue(uint64_t number) {
     put(FUNCTIONS, 5, f);
 }
 
+/* A code of ARM64: of each kind, with a register and an offset that it has, at times others. */
+static void arm64_code(void) {
+    uint64_t kind = amiss(3) ? 18 : below(18), reg = 0, at = 8 * below(chance(50) ? 6 : 32) + 8;
+    if (kind >= 4 && kind <= 12) reg = kind == 8 ? 19 + 2 * below(5) : kind < 8 ? 19 + below(10) : 8 + below(7);
+    if (kind == 0) at = 16 * below(chance(50) ? 32 : 3000);
+    if (kind == 13 || kind > 14) at = 0;
+    if (amiss(4)) reg = PICK(REGISTERS);
+    if (amiss(4)) at = PICK(ODD);
+    put(CODES, 3, (uint64_t[]){kind, reg, at});
+}
+
+/* The front of a run of codes again, backwards: an epilogue that undoes it. */
+static uint64_t undo(size_t first, uint64_t n, int frame_too) {
+    uint64_t before = records(CODES);
+    for (uint64_t i = n; i-- > 0;) {
+        const uint64_t *c = lists[CODES].at + 3 * (first + i);
+        if (c[0] != 13 || frame_too) put(CODES, 3, (uint64_t[]){c[0], c[1], c[2]});
+    }
+    return records(CODES) - before;
+}
+
+/* stp x19, x20, [sp, -16 n]!; stp x29, lr, [sp, -16 m]!; mov x29, sp: what packed words stand for. */
+static void packable_codes(void) {
+    put(CODES, 3, (uint64_t[]){1, 0, 16});
+    if (chance(50)) put(CODES, 3, (uint64_t[]){0, 0, 16 + 16 * below(4)});
+    else put(CODES, 6, (uint64_t[]){3, 0, 16 + 16 * below(4), 13, 0, 0});
+}
+
+static void make_arm64(uint64_t number) {
+    static const uint64_t many[] = {0, 1, 2, 5, 9, 40, 130}, ends[] = {0, 1, 1, 1, 2, 5, 31, 32};
+    static const uint64_t lengths[] = {4, 40, 400, 8188, 8192, 1048572};
+    uint64_t first = records(CODES), length = amiss(10) ? PICK(ODD) : PICK(lengths), epilogues = records(EPILOGUES), most = PICK(ends);
+    int packable = chance(30);
+    if (packable) packable_codes();
+    else
+        for (uint64_t i = PICK(many); i > 0; i--) arm64_code();
+    uint64_t n = records(CODES) - first;
+    for (uint64_t i = packable ? 1 : most; i > 0; i--) {
+        uint64_t at = records(CODES), held = 0;
+        if (packable || chance(60)) held = undo(first, packable ? n : below(n + 1), !packable || chance(20));
+        else
+            for (held = below(4); records(CODES) < at + held;) arm64_code();
+        int last = packable || (most == 1 && chance(50));
+        uint64_t start = last ? length - 4 * held - 4 : length / 4 ? 4 * below(length / 4) : 0;
+        put(EPILOGUES, 3, (uint64_t[]){amiss(5) ? PICK(ODD) : start, at, held});
+    }
+    put(FUNCTIONS, 6, (uint64_t[]){16 + number, length, first, n, epilogues, records(EPILOGUES) - epilogues});
+}
+
 /* Lists at question 13's limits: many plain functions, or rows that many functions share. */
 static void long_lists(void) {
     uint64_t shared = chance(50), functions = shared ? 511 + below(3) : 65535 + below(3);
@@ -372,8 +433,8 @@ static void long_lists(void) {
 /* A range's start or count off by one. */
 static void move_range(void) {
     static const size_t fields[] = {2, 3, 4, 5, 16, 17};
-    size_t stride = entry == SEH ? 5 : 18, j = entry == SEH ? 3 + below(2) : PICK(fields);
-    size_t k = stride * below(lists[FUNCTIONS].count / stride + 1) + j;
+    size_t j = entry == SEH ? 3 + below(2) : entry == ARM64 ? 2 + below(4) : PICK(fields);
+    size_t k = stride(FUNCTIONS) * below(records(FUNCTIONS) + 1) + j;
     uint64_t by = chance(50) ? 1 : UINT64_MAX;
     if (k < lists[FUNCTIONS].count) lists[FUNCTIONS].at[k] += by;
 }
@@ -392,7 +453,7 @@ static void damage(void) {
 }
 
 static void make_case(void) {
-    static const int entries[] = {ELF, ELF, ELF, ELF, COFF, COFF, MACH_O, DEBUG_FRAME, DEBUG_FRAME, SEH, SEH};
+    static const int entries[] = {ELF, ELF, ELF, ELF, COFF, COFF, MACH_O, DEBUG_FRAME, DEBUG_FRAME, SEH, SEH, ARM64, ARM64};
     static const uint64_t many[] = {1, 1, 2, 3, 5}, others[] = {3, 4, 5, UINT64_MAX};
     uint64_t functions = chance(98) ? PICK(many) : chance(50) ? 0 : below(200);
     for (int i = 0; i < LISTS; i++) lists[i].count = 0;
@@ -400,10 +461,11 @@ static void make_case(void) {
     entry = chance(2) ? OTHER : PICK(entries);
     format = entry == OTHER ? PICK(others) : entry < OTHER ? (uint64_t)entry : chance(97) ? 0 : PICK(ODD);
     make_machine();
-    if (entry != SEH && below(4000) == 0) long_lists();
+    if (entry != SEH && entry != ARM64 && below(4000) == 0) long_lists();
     else
         for (uint64_t i = 0; i < functions; i++)
             if (entry == SEH) make_prologue(i);
+            else if (entry == ARM64) make_arm64(i);
             else make_function(i);
     while (chance(30)) damage();
 }
@@ -507,6 +569,12 @@ static unwind_written call_seh(void *const b[4], const size_t room[4]) {
         b[0], room[0], b[1], room[1], b[2], room[2], b[3], room[3]);
 }
 
+static unwind_written call_arm64(void *const b[4], const size_t room[4]) {
+    const uint64_t *functions = hand_list(0, FUNCTIONS), *epilogues = hand_list(1, EPILOGUES), *codes = hand_list(2, CODES);
+    return unwind_arm64(functions, lists[FUNCTIONS].count, epilogues, lists[EPILOGUES].count, codes, lists[CODES].count,
+        b[0], room[0], b[1], room[1], b[2], room[2], b[3], room[3]);
+}
+
 static unwind_written call_table(void *const b[4], const size_t room[4]) {
     const uint64_t *at[5];
     for (int i = 0; i < 5; i++) at[i] = hand_list(i, i);
@@ -550,7 +618,7 @@ static unwind_written written(const size_t room[4]) {
     for (int i = 0; i < PLACES; i++) place(i, 0);
     place(SPARE, 0);
     calls++;
-    w = entry == SEH ? call_seh(b, room) : by_structs ? call_structs(b, room) : call_table(b, room);
+    w = entry == SEH ? call_seh(b, room) : entry == ARM64 ? call_arm64(b, room) : by_structs ? call_structs(b, room) : call_table(b, room);
     check_around(0, SLOTS);
     check_answer(&w, room);
     add(&w, sizeof w);
@@ -560,16 +628,35 @@ static unwind_written written(const size_t room[4]) {
 
 /* The records that the functions' ranges reach, as far as they lie in the list. */
 static size_t reached(int key, size_t j) {
-    size_t all = 0, stride = entry == SEH ? 5 : 18;
-    for (size_t k = 0; k + stride <= lists[FUNCTIONS].count; k += stride) {
-        uint64_t n = lists[FUNCTIONS].at[k + j];
+    size_t all = 0;
+    for (size_t k = 0; k < records(FUNCTIONS); k++) {
+        uint64_t n = lists[FUNCTIONS].at[stride(FUNCTIONS) * k + j];
         all += n < records(key) ? n : records(key);
     }
     return all;
 }
 
+/* A record of ARM64 has a header of at most 8 bytes, a word an epilogue, and to 4 bytes a code with an end of each run. */
+static void ample_arm64(size_t room[4]) {
+    size_t n = records(FUNCTIONS), epilogues = reached(EPILOGUES, 5), most = 0;
+    for (size_t i = 0; i < records(EPILOGUES); i++) {
+        uint64_t codes = lists[EPILOGUES].at[3 * i + 2];
+        if (codes > most && codes < 1024) most = codes;
+    }
+    room[0] = n + below(4);
+    room[1] = 8 * n + below(4);
+    room[2] = 10 * n + below(9);
+    room[3] = 12 * n + 4 * reached(CODES, 3) + epilogues * (4 * most + 5) + below(4);
+}
+
 /* Room for every result of the case, but not past the slots. */
 static void ample(size_t room[4]) {
+    if (entry == ARM64) {
+        ample_arm64(room);
+        for (int i = 0; i < 4; i++)
+            if (room[i] * WIDTH[i] > ROOM / 8) room[i] = 4096;
+        return;
+    }
     size_t n = records(FUNCTIONS), codes = entry == SEH ? reached(CODES, 4) : 0;
     size_t rows = entry == SEH ? 0 : reached(ROWS, 3), landings = entry == SEH ? 0 : reached(LANDINGS, 5);
     room[0] = n + below(4);
@@ -816,6 +903,52 @@ static void read_damaged(void) {
     ask(&damaged, kind, width, k, chance(90) ? PICK(REGISTERS) : any(), p);
 }
 
+/* ---- the reader of ARM64 unwind data */
+
+enum { MOST_INFO = 1 << 13, MOST_READ = 1 << 12 };
+
+/* The entry's word with a record at a place of the info, into lists of these sizes. */
+static unwind_arm64_reading ask_arm64(uint64_t entry_word, const uint8_t *bytes, size_t n, uint64_t at, size_t es, size_t cs) {
+    const uint8_t *info = hand(0, bytes, n);
+    uint64_t *epilogues = lend(PLACES, 8 * es), *codes = lend(PLACES + 1, 8 * cs);
+    calls++;
+    unwind_arm64_reading r = unwind_read_arm64(entry_word, info, n, at, epilogues, es, codes, cs);
+    check_around(0, 1);
+    check_around(PLACES, PLACES + 2);
+    if (r.number && (r.length | r.prologue | r.epilogues | r.codes)) wrong("a refusal with counts");
+    if (3 * r.epilogues > es || 3 * r.codes > cs || r.prologue > r.codes) wrong("more results than room");
+    if (!untouched(PLACES, 24 * r.epilogues) || !untouched(PLACES + 1, 24 * r.codes)) wrong("a lent list changed past the results");
+    add(&r, sizeof r);
+    tally(READ_ARM64, r.number, 0);
+    return r;
+}
+
+/* What was written is read: the length, the starts, and as many codes as were given. Then it is damaged, and read. */
+static void read_arm64(void) {
+    size_t k = below(records(FUNCTIONS)), n = kept.elements[3];
+    const uint64_t *f = lists[FUNCTIONS].at + 6 * k;
+    uint64_t marker;
+    uint32_t entry_word;
+    memcpy(&marker, kept.results[0] + 8 * k, 8);
+    memcpy(&entry_word, kept.results[1] + 8 * k + 4, 4);
+    if (n > MOST_INFO || f[3] + f[5] > MOST_READ) return;
+    uint64_t at = marker == UINT64_MAX ? 0 : marker, held = f[3];
+    for (uint64_t i = 0; i < f[5]; i++) held += lists[EPILOGUES].at[3 * (f[4] + i) + 2];
+    unwind_arm64_reading r = ask_arm64(entry_word, kept.results[3], n, at, 3 * f[5], 3 * held);
+    if (r.number || r.length != f[1] || r.prologue != f[3] || r.epilogues != f[5] || r.codes != held) wrong("what was written is not read back");
+    for (uint64_t i = 0; i < f[5]; i++) {
+        const uint64_t *given_one = lists[EPILOGUES].at + 3 * (f[4] + i), *found = (const uint64_t *)(const void *)slots[PLACES].at + 3 * i;
+        if (found[0] != given_one[0] || found[2] != given_one[2]) wrong("an epilogue is not read back");
+    }
+    static uint8_t bytes[MOST_INFO];
+    memcpy(bytes, kept.results[3], n);
+    for (int i = 0; i < 3; i++) {
+        if (n) bytes[(at + below(24)) % n] = (uint8_t)any();
+        uint32_t other = chance(70) ? entry_word : (uint32_t)any();
+        ask_arm64(chance(95) ? other : any(), bytes, chance(80) ? n : below(n + 1), chance(90) ? at : PICK(ODD), below(3 * f[5] + 9), below(3 * held + 60));
+    }
+}
+
 /* ---- all of it */
 
 static void turn(void) {
@@ -831,9 +964,10 @@ static void turn(void) {
             const section *s = pool_kept();
             for (int i = 0; s && i < 3; i++) read_back(s);
         }
-    } else if (entry != SEH) row_check(chance(90) ? below(records(FUNCTIONS) + 1) : PICK(ODD));
+        if (entry == ARM64) read_arm64();
+    } else if (entry != SEH && entry != ARM64) row_check(chance(90) ? below(records(FUNCTIONS) + 1) : PICK(ODD));
     for (int i = 0; pooled && i < 4; i++) read_damaged();
-    if (entry == SEH) return;
+    if (entry == SEH || entry == ARM64) return;
     make_structs();
     for (int key = FUNCTIONS; key <= ROWS; key++) pack(key);
     check_structs();
@@ -846,7 +980,7 @@ static void print_counts(void) {
         for (int n = 0; n < KNOWN; n++) all += counts[e][n];
         printf("%s: %" PRIu64 " calls:", ENTRY[e], all);
         int check = e == ROW_CHECK || e == ROW_CHECK_OF;
-        const char *first = e == READ ? "answered" : check ? "no" : "accepted", *between = "";
+        const char *first = e == READ || e == READ_ARM64 ? "answered" : check ? "no" : "accepted", *between = "";
         for (int n = 0; n < KNOWN; n++) {
             if (!counts[e][n]) continue;
             if (n == 0) printf("%s %s", between, first);

@@ -1,6 +1,5 @@
-/* Unwind tables: the writers of ELF's eh_frame and debug_frame and of Windows x64 unwind data, the row check, the reader of the
- * DWARF sections, the walk over a recorded fault, the reader of call sites, and the readers of Windows unwind data for x64 and for
- * ARM64.
+/* Unwind tables: the writers of ELF's eh_frame and debug_frame and of Windows unwind data for x64 and for ARM64, the row check, the
+ * reader of the DWARF sections, the walk over a recorded fault, the reader of call sites, and the readers of Windows unwind data.
  *
  * Every function takes every input: a refusal comes back as the number of the question that was answered by no, and every
  * lent buffer is then as it was. An accepted call leaves what lies past its results as it was. No input is changed.
@@ -34,6 +33,9 @@ extern "C" {
  *   pairs         4: first place, second place, first symbol, second symbol
  *   functions of direct codes   5: symbol, length, prologue end, codes_at, codes
  *   codes         5: offset, kind (0 Push, 1 Alloc, 2 Frame, 3 Save), register, vector mark, value (64-bit two's complement)
+ *   functions of ARM64   6: symbol, length, prologue_at, prologue, epilogues_at, epilogues
+ *   epilogues of ARM64   3: start, codes_at, codes
+ *   codes of ARM64       3: kind, register, offset; unwind_arm64_code has the kinds
  *   relocations   5: place, symbol, kind, size, addend. Kinds: 0 Data, 1 Address, 2 Sum plus, 3 Sum minus, 4 Image,
  *                    5 to 12 Set6, Sub6, Set8, Sub8, Set16, Sub16, Set32, Sub32
  *
@@ -48,7 +50,7 @@ extern "C" {
  *   31 frame pointer set after the frame is taken   32 frame not counted from a scratch register   33 group readable
  *   34 registers below 16   35 offsets to 255   36 allocation positive, a multiple of 8   37 below 2^32   38 save not below the
  *   frame   39 below 2^32   40 slots to 255   41 frame offset 0 to 240, a multiple of 16
- *   51 places or markers fit   52 bytes   53 relocations   54 call sites or x64 info; structs: the list for numbers; readers of
+ *   51 places or markers fit   52 bytes   53 relocations   54 call sites or Windows info; structs: the list for numbers; readers of
  *   Windows unwind data: the lists for codes and epilogues; index: the list for places; walk: the list for
  *   frames; the rules along a record: the list for lines
  *   61 lengths tile   62 record k   63 its header   64 fields of both   65 p below the length   66 operations
@@ -63,6 +65,8 @@ extern "C" {
  *   78 eh_frame of a format that is written: not Mach-O
  *   79 relocations of the writers' kinds and sizes, with their partners and addresses, fields inside, values that fit
  *   80 the distance of a Set and Sub pair fits
+ *   ARM64, written: 81 the length is whole instructions, at most 2^18 - 1   82 each epilogue starts at an instruction below the length
+ *   83 every register and offset is one that its code can name, and every count fits its field
  *   84 each record's length lies inside its entry, and the reader answers at every offset below it */
 
 /* Some of these numbers by name; parameters and fields are 64-bit numbers nevertheless. */
@@ -74,6 +78,27 @@ enum unwind_row_kind {
     UNWIND_ROW_DEF_CFA = 0, UNWIND_ROW_DEF_CFA_OFFSET = 1, UNWIND_ROW_DEF_CFA_REGISTER = 2, UNWIND_ROW_OFFSET = 3,
     UNWIND_ROW_RESTORE = 4, UNWIND_ROW_UNDEFINED = 5, UNWIND_ROW_REMEMBER_STATE = 6, UNWIND_ROW_RESTORE_STATE = 7,
     UNWIND_ROW_NEGATE_RA_STATE = 8, UNWIND_ROW_SAME_VALUE = 9, UNWIND_ROW_IN_REGISTER = 10, UNWIND_ROW_NOP = 16, UNWIND_ROW_STEP = 17
+};
+/* What an unwind code of ARM64 stands for: an instruction of a prologue, or in an epilogue the one that undoes it. */
+enum unwind_arm64_code {
+    UNWIND_ARM64_ALLOC = 0,      /* sub sp, sp, offset */
+    UNWIND_ARM64_R19R20X = 1,    /* stp x19, x20, [sp, -offset]! */
+    UNWIND_ARM64_FPLR = 2,       /* stp x29, lr, [sp, offset] */
+    UNWIND_ARM64_FPLRX = 3,      /* stp x29, lr, [sp, -offset]! */
+    UNWIND_ARM64_REGP = 4,       /* stp register, the next, [sp, offset] */
+    UNWIND_ARM64_REGPX = 5,      /* stp register, the next, [sp, -offset]! */
+    UNWIND_ARM64_REG = 6,        /* str register, [sp, offset] */
+    UNWIND_ARM64_REGX = 7,       /* str register, [sp, -offset]! */
+    UNWIND_ARM64_LRPAIR = 8,     /* stp register, lr, [sp, offset] */
+    UNWIND_ARM64_FREGP = 9,      /* stp d, the next d, [sp, offset] */
+    UNWIND_ARM64_FREGPX = 10,    /* stp d, the next d, [sp, -offset]! */
+    UNWIND_ARM64_FREG = 11,      /* str d, [sp, offset] */
+    UNWIND_ARM64_FREGX = 12,     /* str d, [sp, -offset]! */
+    UNWIND_ARM64_SET_FP = 13,    /* mov x29, sp */
+    UNWIND_ARM64_ADD_FP = 14,    /* add x29, sp, offset */
+    UNWIND_ARM64_NOP = 15,       /* an instruction that the unwinder passes over */
+    UNWIND_ARM64_SAVE_NEXT = 16, /* the pair two registers on from the pair before, 16 bytes up */
+    UNWIND_ARM64_PAC_SIGN_LR = 17 /* pacibsp */
 };
 enum unwind_question {
     UNWIND_QUESTION_INTERFACE = 11, UNWIND_QUESTION_X64_WORD = 12, UNWIND_QUESTION_LISTS = 13, UNWIND_QUESTION_LENGTH = 21,
@@ -88,7 +113,8 @@ enum unwind_question {
     UNWIND_QUESTION_STATES_ROOM = 68, UNWIND_QUESTION_FRAME_RULE = 69, UNWIND_QUESTION_CALL_SITE_TABLE = 71,
     UNWIND_QUESTION_CALL_SITES = 72, UNWIND_QUESTION_RECORDED = 73, UNWIND_QUESTION_STACK = 74,
     UNWIND_QUESTION_REACHED = 75, UNWIND_QUESTION_X64_HEADER = 76, UNWIND_QUESTION_X64_CODES = 77,
-    UNWIND_QUESTION_MACH_O = 78, UNWIND_QUESTION_RELOCATIONS = 79, UNWIND_QUESTION_DISTANCE = 80, UNWIND_QUESTION_EVERY_OFFSET = 84
+    UNWIND_QUESTION_MACH_O = 78, UNWIND_QUESTION_RELOCATIONS = 79, UNWIND_QUESTION_DISTANCE = 80, UNWIND_QUESTION_ARM64_LENGTH = 81,
+    UNWIND_QUESTION_ARM64_EPILOGUES = 82, UNWIND_QUESTION_ARM64_VALUES = 83, UNWIND_QUESTION_EVERY_OFFSET = 84
 };
 
 /* The ready x86-64 (System V psABI) at the front of a lent list of 70 numbers or more: 0, or 54 where there are fewer, and the list
@@ -123,6 +149,17 @@ unwind_written unwind_relaxed_debug_frame(
 unwind_written unwind_seh(
     const uint64_t *functions, size_t functions_n, const uint64_t *codes, size_t codes_n,
     uint64_t *markers, size_t markers_n, uint8_t *bytes, size_t bytes_n,
+    uint64_t *relocations, size_t relocations_n, uint8_t *info, size_t info_n);
+
+/* Windows unwind data of ARM64. A function's prologue are the codes from prologue_at on, in the order of its instructions; so are an
+ * epilogue's, without the ret. `markers` takes one number a function, the place of its record in `info`, and 2^64 - 1 where the entry is
+ * packed; `bytes` the entries of .pdata, 8 bytes each: a blank for the function's start, and the packed word or a blank for the
+ * record's place, with Image relocations to the symbol and to its marker; `info` the records (.xdata), which `sites` counts. An entry is
+ * packed where a packed word means the same instructions, one by one. 13, then function by function 81 to 83, with the position 0; then
+ * 51 to 54. */
+unwind_written unwind_arm64(
+    const uint64_t *functions, size_t functions_n, const uint64_t *epilogues, size_t epilogues_n,
+    const uint64_t *codes, size_t codes_n, uint64_t *markers, size_t markers_n, uint8_t *bytes, size_t bytes_n,
     uint64_t *relocations, size_t relocations_n, uint8_t *info, size_t info_n);
 
 /* 1 where the rows of function k pass the row check, else 0; also 0 for k past the list. */
@@ -273,10 +310,9 @@ typedef struct {
 } unwind_arm64_reading;
 
 /* What the second word of an ARM64 entry says: packed, by itself; else the record at a place of the info. epilogues: three numbers each,
- * the start in bytes from the function's, which code is its first, and how many it has. codes: three numbers each, kind, register (x19
- * is 19, d8 is 8) and offset or size in bytes, in the order of the instructions: the prologue's, then each epilogue's own. Kinds:
- * 0 Alloc, 1 R19R20X, 2 Fplr, 3 FplrX, 4 Regp, 5 RegpX, 6 Reg, 7 RegX, 8 Lrpair, 9 Fregp, 10 FregpX, 11 Freg, 12 FregX, 13 SetFp,
- * 14 AddFp, 15 Nop, 16 SaveNext, 17 PacSignLr. An operand that a code's kind does not have is 0. */
+ * the start in bytes from the function's, which code is its first, and how many it has. codes: three numbers each, kind
+ * (unwind_arm64_code), register (x19 is 19, d8 is 8) and offset or size in bytes, in the order of the instructions: the prologue's, then
+ * each epilogue's own. An operand that a code's kind does not have is 0. */
 unwind_arm64_reading unwind_read_arm64(
     uint64_t word, const uint8_t *info, size_t info_n, uint64_t place,
     uint64_t *epilogues, size_t epilogues_n, uint64_t *codes, size_t codes_n);

@@ -15,7 +15,7 @@ pub struct Args {
 }
 
 /// The options with a value.
-const VALUED: [&str; 17] = [
+const VALUED: [&str; 18] = [
     "--section",
     "--kind",
     "--word",
@@ -27,6 +27,7 @@ const VALUED: [&str; 17] = [
     "--at",
     "--register",
     "--place",
+    "--packed",
     "--first",
     "--fault",
     "--pc",

@@ -2,6 +2,7 @@
 #![forbid(unsafe_code)]
 
 mod args;
+mod arm64;
 mod check;
 mod digest;
 mod dump;
@@ -104,6 +105,7 @@ fn run() -> Result<bool, Stop> {
         Some("handler") => handler::run(&args),
         Some("walk") => walk::run(&args),
         Some("x64") => x64::run(&args),
+        Some("arm64") => arm64::run(&args),
         Some(other) => Err(Stop::Usage(Usage(format!("there is no command `{other}`")))),
         None => Err(Stop::Usage(Usage("a command is asked for".to_string()))),
     }

@@ -183,29 +183,133 @@ fn symbol_fields(symbol: &[u8], info: usize, value: usize, word: usize) -> Optio
     Some((usize::try_from(field(symbol, 0, 4)?).ok()?, field(symbol, info, 1)?, field(symbol, value, word)?))
 }
 
-/// The sections of a COFF object or a PE image, where the file looks like one.
-pub fn coff(bytes: &[u8]) -> Option<Vec<Section>> {
-    let start = if bytes.starts_with(b"MZ") {
-        let at = usize::try_from(field(bytes, 60, 4)?).ok()?;
-        (bytes.get(at..at.checked_add(4)?)? == b"PE\0\0").then_some(at + 4)?
-    } else {
-        (field(bytes, 0, 2)? == 0x8664).then_some(0)?
+/// A COFF object or a PE image: its machine, sections and symbols.
+pub struct Coff {
+    /// The number of the machine, by the PE/COFF specification.
+    pub machine: u64,
+    /// Whether it is linked, so that fields hold addresses from the image's start.
+    pub image: bool,
+    /// The sections, in the file's order; symbols count them from 1 on.
+    pub sections: Vec<Section>,
+    symbols: usize,
+    strings: usize,
+    /// How many symbols there are, with what belongs to them.
+    count: u64,
+}
+
+/// The machines of COFF objects that are read.
+pub const X64: u64 = 0x8664;
+pub const ARM64: u64 = 0xaa64;
+/// The bytes of a section's header, a symbol and a relocation; the count of relocations that says that the first one holds it.
+const SECTION_HEADER: usize = 40;
+const SYMBOL: usize = 18;
+const RELOCATION: usize = 10;
+/// The type of a function's symbol.
+const FUNCTION: u64 = 0x20;
+const RELOCATIONS_OVERFLOW: u64 = 0xffff;
+
+/// The headers of a COFF object or a PE image, where the file looks like one.
+pub fn coff(bytes: &[u8]) -> Option<Coff> {
+    let image = bytes.starts_with(b"MZ");
+    let start = match image {
+        true => {
+            let at = usize::try_from(field(bytes, 60, 4)?).ok()?;
+            (bytes.get(at..at.checked_add(4)?)? == b"PE\0\0").then_some(at + 4)?
+        }
+        false => 0,
     };
-    let count = field(bytes, start + 2, 2)?;
+    let machine = field(bytes, start, 2)?;
+    if !image && machine != X64 && machine != ARM64 {
+        return None;
+    }
+    let count = usize::try_from(field(bytes, start + 2, 2)?).ok()?;
+    let symbols = usize::try_from(field(bytes, start + 8, 4)?).ok()?;
+    let symbol_count = field(bytes, start + 12, 4)?;
+    let strings = symbols.checked_add(SYMBOL.checked_mul(usize::try_from(symbol_count).ok()?)?)?;
     let table = start + 20 + usize::try_from(field(bytes, start + 16, 2)?).ok()?;
     let mut sections = Vec::new();
-    for n in 0..usize::try_from(count).ok()? {
-        let header = bytes.get(table + 40 * n..table + 40 * (n + 1))?;
-        let held = range(bytes, field(header, 20, 4)?, field(header, 16, 4)?);
+    for n in 0..count {
+        let header = bytes.get(table + SECTION_HEADER * n..table + SECTION_HEADER * (n + 1))?;
+        let (loaded, stored) = (field(header, 8, 4)?, field(header, 16, 4)?);
+        // An image's section is filled up in the file.
+        let size = if image { stored.min(loaded) } else { stored };
+        let held = range(bytes, field(header, 20, 4)?, size);
         sections.push(Section {
             name: name(&header[..8], 0),
             address: field(header, 12, 4)?,
             plain: held.is_some(),
             bytes: held.unwrap_or(0..0),
             kind: 0,
-            link: 0,
-            info: 0,
+            link: field(header, 24, 4)?,
+            info: field(header, 32, 2)?,
         });
     }
-    Some(sections)
+    Some(Coff { machine, image, sections, symbols, strings, count: symbol_count })
+}
+
+/// A symbol of a COFF object.
+#[derive(Clone, Debug)]
+pub struct Symbol {
+    /// Its name.
+    pub name: String,
+    /// The section that it stands in, from 0 on, and where; none where it stands in no section of this file.
+    pub place: Option<(usize, u64)>,
+}
+
+impl Coff {
+    /// The relocations of a section of an object: places and symbols.
+    pub fn relocations(&self, bytes: &[u8], section: &Section) -> std::collections::BTreeMap<u64, Symbol> {
+        let list = usize::try_from(section.link).ok().and_then(|at| bytes.get(at..)).unwrap_or(&[]);
+        let mut entries = list.chunks_exact(RELOCATION);
+        let count = match section.info {
+            RELOCATIONS_OVERFLOW => entries.next().and_then(|first| field(first, 0, 4)).unwrap_or(0).saturating_sub(1),
+            count => count,
+        };
+        let entries = entries.take(usize::try_from(count).unwrap_or(0));
+        entries.filter_map(|entry| Some((field(entry, 0, 4)?, self.symbol(bytes, field(entry, 4, 4)?)?))).collect()
+    }
+
+    /// Names for places: of the symbols that stand there a function's, or else another that is not the section's own.
+    pub fn names(&self, bytes: &[u8]) -> std::collections::BTreeMap<(usize, u64), String> {
+        let (mut functions, mut others, mut n) = (std::collections::BTreeMap::new(), std::collections::BTreeMap::new(), 0);
+        while let Some(symbol) = self.symbol_bytes(bytes, n).filter(|_| n < self.count) {
+            // The last field counts the entries that belong to this one.
+            n += 1 + field(symbol, SYMBOL - 1, 1).unwrap_or(0);
+            let Some(Symbol { name, place: Some(place) }) = self.symbol_of(bytes, symbol) else { continue };
+            if field(symbol, 14, 2) == Some(FUNCTION) {
+                functions.entry(place).or_insert(name);
+            } else if name != self.sections[place.0].name {
+                others.entry(place).or_insert(name);
+            }
+        }
+        others.extend(functions);
+        others
+    }
+
+    fn symbol_bytes<'a>(&self, bytes: &'a [u8], n: u64) -> Option<&'a [u8]> {
+        let at = usize::try_from(n).ok()?.checked_mul(SYMBOL)?.checked_add(self.symbols)?;
+        bytes.get(at..at.checked_add(SYMBOL)?)
+    }
+
+    fn symbol(&self, bytes: &[u8], n: u64) -> Option<Symbol> {
+        self.symbol_of(bytes, self.symbol_bytes(bytes, n)?)
+    }
+
+    fn symbol_of(&self, bytes: &[u8], symbol: &[u8]) -> Option<Symbol> {
+        // A long name stands among the strings.
+        let name = match field(symbol, 0, 4)? {
+            0 => name(bytes, self.strings.checked_add(usize::try_from(field(symbol, 4, 4)?).ok()?)?),
+            _ => name(&symbol[..8], 0),
+        };
+        let section = usize::try_from(field(symbol, 12, 2)?).ok()?;
+        let section = section.checked_sub(1).filter(|section| *section < self.sections.len());
+        Some(Symbol { name, place: section.zip(field(symbol, 8, 4)) })
+    }
+
+    /// The section of an image that holds an address.
+    pub fn holder(&self, address: u64) -> Option<&Section> {
+        let inside =
+            |section: &&Section| address.checked_sub(section.address).is_some_and(|at| at < section.bytes.len() as u64);
+        self.sections.iter().find(inside)
+    }
 }

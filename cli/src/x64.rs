@@ -40,7 +40,10 @@ fn info<'a>(args: &Args, file: &'a File) -> Result<&'a [u8], Stop> {
     let sections = match &file.object {
         Some(object) => object.sections.clone(),
         None => match object::coff(&file.bytes) {
-            Some(sections) => sections,
+            Some(coff) if coff.machine != object::X64 => {
+                return Err(Stop::failed(&file.name, "an object file of another machine than x64"))
+            }
+            Some(coff) => coff.sections,
             None if args.has("--section") => {
                 return Err(Stop::failed(&file.name, "no object file, so that --section names nothing"))
             }

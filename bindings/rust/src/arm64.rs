@@ -1,4 +1,27 @@
-//! Windows unwind data for ARM64, read: the second word of an entry of .pdata and, where it is not packed, a record of .xdata.
+//! Windows unwind data for ARM64, written and read: an entry of .pdata, whose second word is packed or means a record of .xdata.
+//!
+//! ```
+//! use dekvoz::arm64::{entry, read, write, Code, Function};
+//!
+//! // stp x19, x20, [sp, -16]!; stp x29, lr, [sp, -16]!; mov x29, sp; ..; ldp x29, lr, [sp], 16; ldp x19, x20, [sp], 16; ret
+//! let small = Function::new(16, 40)
+//!     .prologue(&[Code::R19R20X(16), Code::FplrX(16), Code::SetFp])
+//!     .epilogue(28, &[Code::FplrX(16), Code::R19R20X(16)]);
+//! // The same with a second way out: that takes a record.
+//! let two = Function { symbol: 17, ..small.clone() }.epilogue(12, &[Code::FplrX(16), Code::R19R20X(16)]);
+//! let table = write(&[small.clone(), two.clone()])?;
+//! assert_eq!(table.places, [u64::MAX, 0]);
+//! assert_eq!(table.bytes[4..8], 0x0162_0029u32.to_le_bytes());
+//! // What was written reads as it was given.
+//! for (k, function) in [small, two].iter().enumerate() {
+//!     let (word, place) = entry(&table, k).ok_or("no such function")?;
+//!     let read = read(word, &table.sites, place)?;
+//!     assert_eq!((read.length, &read.prologue, &read.epilogues), (function.length, &function.prologue, &function.epilogues));
+//! }
+//! # Ok::<(), Box<dyn std::error::Error>>(())
+//! ```
+//!
+//! The reader takes any word and any bytes:
 //!
 //! ```
 //! use dekvoz::arm64::{read, Code, Epilogue};
@@ -17,8 +40,9 @@
 use alloc::vec;
 use alloc::vec::Vec;
 
-use crate::sys;
-use crate::Refusal;
+use crate::lists::{add, counts, Counts as Sizes, Lent, MOST_FUNCTIONS};
+use crate::write::{grow, usual};
+use crate::{sys, Refusal, Table};
 
 /// An unwind code, by the instruction of a prologue that it stands for. Registers are by number, x19 is 19 and d8 is 8; offsets and sizes
 /// are in bytes. An epilogue's code stands for the instruction that undoes it.
@@ -63,6 +87,39 @@ pub enum Code {
 }
 
 impl Code {
+    /// The three numbers of a code: kind, register, offset.
+    ///
+    /// ```
+    /// use dekvoz::arm64::Code;
+    ///
+    /// assert_eq!(Code::Regp(21, 16).numbers(), [4, 21, 16]);
+    /// assert_eq!(Code::SetFp.numbers(), [13, 0, 0]);
+    /// ```
+    #[must_use]
+    pub fn numbers(&self) -> [u64; 3] {
+        let (kind, register, offset) = match *self {
+            Code::Alloc(size) => (0, 0, size),
+            Code::R19R20X(offset) => (1, 0, offset),
+            Code::Fplr(offset) => (2, 0, offset),
+            Code::FplrX(offset) => (3, 0, offset),
+            Code::Regp(register, offset) => (4, register, offset),
+            Code::RegpX(register, offset) => (5, register, offset),
+            Code::Reg(register, offset) => (6, register, offset),
+            Code::RegX(register, offset) => (7, register, offset),
+            Code::Lrpair(register, offset) => (8, register, offset),
+            Code::Fregp(register, offset) => (9, register, offset),
+            Code::FregpX(register, offset) => (10, register, offset),
+            Code::Freg(register, offset) => (11, register, offset),
+            Code::FregX(register, offset) => (12, register, offset),
+            Code::SetFp => (13, 0, 0),
+            Code::AddFp(offset) => (14, 0, offset),
+            Code::Nop => (15, 0, 0),
+            Code::SaveNext => (16, 0, 0),
+            Code::PacSignLr => (17, 0, 0),
+        };
+        [kind, u64::from(register), u64::from(offset)]
+    }
+
     /// A code by its three numbers: kind, register, offset. `None` where they are not ones that the reader gives.
     #[must_use]
     pub fn of(&[kind, register, offset]: &[u64; 3]) -> Option<Code> {
@@ -98,6 +155,160 @@ pub struct Epilogue {
     pub start: u64,
     /// Its codes, in the order of the instructions, without the `ret`.
     pub codes: Vec<Code>,
+}
+
+/// A function to be written.
+#[derive(Clone, Debug, Default, PartialEq, Eq, Hash)]
+pub struct Function {
+    /// Its symbol, 16 to 2^32 - 1.
+    pub symbol: u32,
+    /// The length of its code in bytes: whole instructions, below 2^20.
+    pub length: u64,
+    /// The prologue's codes, in the order of the instructions.
+    pub prologue: Vec<Code>,
+    /// The epilogues.
+    pub epilogues: Vec<Epilogue>,
+}
+
+impl Function {
+    /// A function without a prologue and without epilogues.
+    #[must_use]
+    pub fn new(symbol: u32, length: u64) -> Function {
+        Function { symbol, length, ..Function::default() }
+    }
+
+    /// The codes of its prologue, in the order of the instructions.
+    #[must_use]
+    pub fn prologue(mut self, codes: &[Code]) -> Function {
+        self.prologue = codes.to_vec();
+        self
+    }
+
+    /// One more epilogue: where it starts, and its codes in the order of the instructions, without the `ret`.
+    #[must_use]
+    pub fn epilogue(mut self, start: u64, codes: &[Code]) -> Function {
+        self.epilogues.push(Epilogue { start, codes: codes.to_vec() });
+        self
+    }
+}
+
+/// Functions as lists of numbers.
+#[derive(Clone, Debug, Default)]
+struct Packed {
+    functions: Vec<u64>,
+    epilogues: Vec<u64>,
+    codes: Vec<u64>,
+}
+
+impl Packed {
+    fn new(functions: &[Function]) -> Packed {
+        let mut packed = Packed::default();
+        for f in functions.iter().take(MOST_FUNCTIONS.saturating_add(1)) {
+            let [prologue_at, prologue] = add(&mut packed.codes, &f.prologue, Code::numbers);
+            let codes = &mut packed.codes;
+            let placed: Vec<[u64; 3]> = f.epilogues.iter().map(|e| epilogue_numbers(codes, e)).collect();
+            let [epilogues_at, epilogues] = add(&mut packed.epilogues, &placed, |numbers| *numbers);
+            packed.functions.extend([u64::from(f.symbol), f.length, prologue_at, prologue, epilogues_at, epilogues]);
+        }
+        packed
+    }
+}
+
+fn epilogue_numbers(codes: &mut Vec<u64>, epilogue: &Epilogue) -> [u64; 3] {
+    let [at, count] = add(codes, &epilogue.codes, Code::numbers);
+    [epilogue.start, at, count]
+}
+
+/// The unwind data of these functions: the entries of .pdata in `bytes` with their `relocations`, the records of .xdata in `sites`, and in
+/// `places` the place of each function's record, `u64::MAX` where its entry is packed.
+///
+/// # Errors
+/// The question that was answered by no: 13, or 81 to 83 with the function's position. 51 to 54 do not occur: the buffers grow until the
+/// results fit.
+///
+/// ```
+/// use dekvoz::arm64::{write, Code, Function};
+///
+/// let leaf = Function::new(16, 8).prologue(&[Code::Alloc(16)]).epilogue(0, &[Code::Alloc(16)]);
+/// assert_eq!(write(&[leaf.clone()])?.bytes, [0, 0, 0, 0, 0x09, 0, 0x80, 0]);
+/// // sub sp, sp, 8 does not exist: allocations are in 16 bytes.
+/// let wrong = Function::new(17, 8).prologue(&[Code::Alloc(8)]);
+/// let refusal = write(&[leaf, wrong]).unwrap_err();
+/// assert_eq!((refusal.number, refusal.position), (83, 1));
+/// # Ok::<(), dekvoz::Refusal>(())
+/// ```
+pub fn write(functions: &[Function]) -> Result<Table, Refusal> {
+    let packed = Packed::new(functions);
+    let ([fs, es, cs], records) = (lists_of(&packed), packed.codes.len().saturating_add(packed.epilogues.len()));
+    grow(usual(fs.len() / 6, records / 3), |lent| write_lists(fs, es, cs, lent))
+}
+
+fn lists_of(packed: &Packed) -> [&[u64]; 3] {
+    [&packed.functions, &packed.epilogues, &packed.codes]
+}
+
+/// The same over lists of numbers (six a function, three an epilogue, three a code; include/dekvoz.h) and lent buffers.
+///
+/// # Errors
+/// The question that was answered by no: 13, 81 to 83 with the function's position, 51 to 54. Every lent buffer is then as it was.
+///
+/// ```
+/// use dekvoz::{arm64::write_lists, lists::Lent};
+///
+/// // sub sp, sp, 16; ret of a function of two instructions.
+/// let (mut markers, mut bytes, mut relocations) = ([0; 1], [0; 8], [0; 5]);
+/// let mut lent = Lent { places: &mut markers, bytes: &mut bytes, relocations: &mut relocations, sites: &mut [] };
+/// let counts = write_lists(&[16, 8, 0, 1, 0, 1], &[0, 0, 1], &[0, 0, 16], &mut lent)?;
+/// assert_eq!((counts.places, counts.bytes, counts.relocations, counts.sites), (1, 8, 1, 0));
+/// # Ok::<(), dekvoz::Refusal>(())
+/// ```
+pub fn write_lists(functions: &[u64], epilogues: &[u64], codes: &[u64], lent: &mut Lent<'_>) -> Result<Sizes, Refusal> {
+    let answer = written(functions, epilogues, codes, lent);
+    match answer {
+        // The library's answer has no position here. The first function that is refused alone is the one.
+        Err(Refusal { number: number @ 81..=83, .. }) => {
+            let refused = |function: &[u64]| {
+                let alone = written(function, epilogues, codes, &mut Lent::default());
+                alone.is_err_and(|no| no.number == number)
+            };
+            let position = functions.chunks_exact(6).position(refused).unwrap_or(0);
+            Err(Refusal { number, position: position as u64 })
+        }
+        answer => answer,
+    }
+}
+
+fn written(functions: &[u64], epilogues: &[u64], codes: &[u64], lent: &mut Lent<'_>) -> Result<Sizes, Refusal> {
+    // SAFETY: each pointer and count come from one slice, so they are valid and aligned; the four lent slices are unique
+    // references, so they overlap neither one another nor an input. The function takes every number.
+    let written = unsafe {
+        sys::unwind_arm64(
+            functions.as_ptr(),
+            functions.len(),
+            epilogues.as_ptr(),
+            epilogues.len(),
+            codes.as_ptr(),
+            codes.len(),
+            lent.places.as_mut_ptr(),
+            lent.places.len(),
+            lent.bytes.as_mut_ptr(),
+            lent.bytes.len(),
+            lent.relocations.as_mut_ptr(),
+            lent.relocations.len(),
+            lent.sites.as_mut_ptr(),
+            lent.sites.len(),
+        )
+    };
+    counts(&written)
+}
+
+/// The second word of function `k`'s entry in what [`write`] wrote, and the place of its record, as [`read`] takes them; `None` past the
+/// list. Of an entry that is not packed the word is blank until it is linked.
+#[must_use]
+pub fn entry(table: &Table, k: usize) -> Option<(u32, u64)> {
+    let place = *table.places.get(k)?;
+    let word = table.bytes.chunks_exact(8).nth(k)?.last_chunk()?;
+    Some((u32::from_le_bytes(*word), if place == u64::MAX { 0 } else { place }))
 }
 
 /// What an entry says of its function.

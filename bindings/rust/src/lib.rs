@@ -1,6 +1,6 @@
-//! Unwind tables: writers of ELF's eh_frame and debug_frame and of Windows x64 unwind data, a reader of the
-//! DWARF ones, the walk over a recorded fault ([`walk`]), a reader of call sites, and readers of Windows unwind data for x64 and for
-//! ARM64 ([`arm64`]). Safe wrappers over libdekvoz.a, whose functions are proved to give exactly what their specification says.
+//! Unwind tables: writers of ELF's eh_frame and debug_frame and of Windows unwind data for x64 and for ARM64 ([`arm64`]), a reader of
+//! the DWARF ones, the walk over a recorded fault ([`walk`]), a reader of call sites, and readers of Windows unwind data. Safe wrappers
+//! over libdekvoz.a, whose functions are proved to give exactly what their specification says.
 //!
 //! Every function takes every input. A refusal is a [`Refusal`]: the number of the question that was answered by no, and the
 //! function's position. The writers of this page make their own buffers; [`lists`] has the same entries over lists of numbers

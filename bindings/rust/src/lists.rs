@@ -9,7 +9,7 @@ use crate::sys;
 use crate::{Frame, Function, Prologue, Refusal, Row, Rule, Rules, Site};
 
 /// What question 13 allows.
-const MOST_FUNCTIONS: usize = 65_536;
+pub(crate) const MOST_FUNCTIONS: usize = 65_536;
 const MOST_RECORDS: usize = 1_048_576;
 
 /// The lists that the two DWARF writers and COFF's take.
@@ -409,7 +409,7 @@ pub fn apply(
 ///
 /// Past what question 13 allows nothing is added, so that a slice which many functions share cannot fill the memory. The range
 /// then lies outside the list, and the answer is 13 as it would be with the records.
-fn add<T, const N: usize>(list: &mut Vec<u64>, records: &[T], numbers: impl Fn(&T) -> [u64; N]) -> [u64; 2] {
+pub(crate) fn add<T, const N: usize>(list: &mut Vec<u64>, records: &[T], numbers: impl Fn(&T) -> [u64; N]) -> [u64; 2] {
     let at = list.len().checked_div(N).unwrap_or(0);
     if at.saturating_add(records.len()) <= MOST_RECORDS {
         list.extend(records.iter().flat_map(numbers));

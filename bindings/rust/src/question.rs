@@ -60,7 +60,7 @@ pub enum Question {
     BytesRoom,
     /// 53: the relocations do not fit their buffer.
     RelocationsRoom,
-    /// 54: the call sites, the x64 info, codes, numbers, places, frames or lines do not fit their buffer, or the numbers' is not zero so far.
+    /// 54: the call sites, the x64 or ARM64 info, codes, numbers, places, frames or lines do not fit their buffer, or the numbers' is not zero so far.
     OtherRoom,
     /// 61: no entry fits what is left of the section.
     Tiling,
@@ -100,6 +100,12 @@ pub enum Question {
     Relocations,
     /// 80: the distance of a Set and Sub pair does not fit its field.
     Distance,
+    /// 81: the length of an ARM64 function is not whole instructions, or more than 2^18 - 1 of them.
+    Arm64Length,
+    /// 82: an ARM64 epilogue starts off an instruction, or not below the function's length.
+    Arm64Epilogues,
+    /// 83: a register or offset of an ARM64 code is none that it can name, or a count is too large for its field.
+    Arm64Values,
     /// 84: a record's length is cut off, or it cannot be read at some offset below its length.
     EveryOffset,
 }
@@ -158,6 +164,9 @@ impl Question {
             78 => Question::MachO,
             79 => Question::Relocations,
             80 => Question::Distance,
+            81 => Question::Arm64Length,
+            82 => Question::Arm64Epilogues,
+            83 => Question::Arm64Values,
             84 => Question::EveryOffset,
             _ => return None,
         })
@@ -213,6 +222,9 @@ impl Question {
             Question::MachO => 78,
             Question::Relocations => 79,
             Question::Distance => 80,
+            Question::Arm64Length => 81,
+            Question::Arm64Epilogues => 82,
+            Question::Arm64Values => 83,
             Question::EveryOffset => 84,
         }
     }
@@ -250,7 +262,7 @@ impl Question {
             Question::BytesRoom => "the bytes do not fit their buffer",
             Question::RelocationsRoom => "the relocations do not fit their buffer",
             Question::OtherRoom => {
-                "the call sites, the x64 info, codes, numbers, places, frames or lines do not fit their buffer, or the numbers' is not zero so far"
+                "the call sites, the x64 or ARM64 info, codes, numbers, places, frames or lines do not fit their buffer, or the numbers' is not zero so far"
             }
             Question::Tiling => "no entry fits what is left of the section",
             Question::Record => "there is no such record",
@@ -266,13 +278,22 @@ impl Question {
             Question::Recorded => "the file is no recorded fault of 16 to 65,536 bytes with a trailer that matches",
             Question::Stack => "a stack word lies outside the record, or an address sum outside 64 bits",
             Question::Reached => "a register that is needed is lost or absent, or a frame has no address (CFA) rule",
-            Question::X64Header => "no x64 record of version 1 without flags stands there, or it is cut off",
-            Question::X64Codes => "an x64 code is cut off, or not one that these tables use",
+            Question::X64Header => {
+                "no x64 record of version 1 without flags, or ARM64 record of version 0, stands there, or it is cut off"
+            }
+            Question::X64Codes => {
+                "an x64 or ARM64 code is cut off, or not one that these tables use; or an ARM64 entry's word is not defined"
+            }
             Question::MachO => "eh_frame of Mach-O is not written any more",
             Question::Relocations => {
                 "a relocation is of no kind or size that is written, lacks its partner or address, or its field or value does not fit"
             }
             Question::Distance => "the distance of a Set and Sub pair does not fit its field",
+            Question::Arm64Length => "the length of an ARM64 function is not whole instructions, or more than 262143 of them",
+            Question::Arm64Epilogues => "an ARM64 epilogue starts off an instruction, or not below the function's length",
+            Question::Arm64Values => {
+                "a register or offset of an ARM64 code is none that it can name, or a count is too large for its field"
+            }
             Question::EveryOffset => "a record's length is cut off, or it cannot be read at some offset below its length",
         }
     }

@@ -6,7 +6,7 @@ use core::fmt;
 /// A call was refused: a question was answered by no, and nothing was written.
 #[derive(Clone, Copy, Debug, PartialEq, Eq, Hash)]
 pub struct Refusal {
-    /// The question's number: 11 to 13, 21 to 25, 31 to 41, 51 to 54, 61 to 69, 71 to 80.
+    /// The question's number: 11 to 13, 21 to 25, 31 to 41, 51 to 54, 61 to 69, 71 to 84.
     pub number: u64,
     /// The function's position in its list, from 0; 0 for 11 to 13, for 51 to 54, and for the reader's.
     pub position: u64,
@@ -45,7 +45,7 @@ impl Refusal {
             51 => "do the header places or markers fit their buffer?",
             52 => "do the bytes fit their buffer?",
             53 => "do the relocations fit their buffer?",
-            54 => "do the call sites, the x64 info, the codes that were read, the places of an index, the frames of a walk, the lines of a record or the numbers of structs fit their buffer, and is that of the numbers zero so far?",
+            54 => "do the call sites, the x64 or ARM64 info, the codes that were read, the places of an index, the frames of a walk, the lines of a record or the numbers of structs fit their buffer, and is that of the numbers zero so far?",
             61 => "do the entries' lengths tile the section?",
             62 => "is there a record of that number?",
             63 => "does the record's header start where a header starts, and earlier?",
@@ -65,6 +65,9 @@ impl Refusal {
             78 => "is the format one that is written? Mach-O is not any more.",
             79 => "is each relocation of a kind and size that is written, with its partner and address, its field inside, and its value in range?",
             80 => "does the distance of each Set and Sub pair fit its field?",
+            81 => "is the ARM64 function's length whole instructions, at most 2^18 - 1 of them?",
+            82 => "does each ARM64 epilogue start at an instruction below the function's length?",
+            83 => "is each register and offset of an ARM64 code one that it can name, and does each count fit its field?",
             84 => "does each record's length lie inside its entry, and can it be read at every offset below it?",
             _ => return None,
         })
@@ -80,7 +83,7 @@ impl Refusal {
     /// ```
     #[must_use]
     pub const fn is_of_a_function(&self) -> bool {
-        matches!(self.number, 21..=41)
+        matches!(self.number, 21..=41 | 81..=83)
     }
 }
 

@@ -204,6 +204,23 @@ extern "C" {
         codes_n: usize,
     ) -> Arm64Reading;
 
+    pub(crate) fn unwind_arm64(
+        functions: *const u64,
+        functions_n: usize,
+        epilogues: *const u64,
+        epilogues_n: usize,
+        codes: *const u64,
+        codes_n: usize,
+        markers: *mut u64,
+        markers_n: usize,
+        bytes: *mut u8,
+        bytes_n: usize,
+        relocations: *mut u64,
+        relocations_n: usize,
+        info: *mut u8,
+        info_n: usize,
+    ) -> Written;
+
     pub(crate) fn unwind_relaxed_table(
         machine: *const u64,
         machine_n: usize,

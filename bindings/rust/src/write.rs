@@ -12,13 +12,14 @@ const MOST: usize = 1 << 25;
 /// What a writer wrote. All four are empty where the format has no table or the list has no function.
 #[derive(Clone, Debug, Default, PartialEq, Eq)]
 pub struct Table {
-    /// The place of each function's header; in COFF and of [`seh`] the markers, the place of each function's info.
+    /// The place of each function's header; in COFF, of [`seh`] and of [`arm64::write`](crate::arm64::write) the markers, the place of
+    /// each function's info.
     pub places: Vec<u64>,
     /// The section.
     pub bytes: Vec<u8>,
     /// The section's relocations.
     pub relocations: Vec<Relocation>,
-    /// The call sites; in COFF and of [`seh`] the x64 info.
+    /// The call sites; in COFF, of [`seh`] and of [`arm64::write`](crate::arm64::write) the info.
     pub sites: Vec<u8>,
 }
 
@@ -64,7 +65,10 @@ fn larger(room: [usize; 4], number: u64) -> Option<[usize; 4]> {
 }
 
 /// Calls a writer until its results fit. A refusal writes nothing, so it can be called again.
-fn grow(first: [usize; 4], mut write: impl FnMut(&mut Lent<'_>) -> Result<Counts, Refusal>) -> Result<Table, Refusal> {
+pub(crate) fn grow(
+    first: [usize; 4],
+    mut write: impl FnMut(&mut Lent<'_>) -> Result<Counts, Refusal>,
+) -> Result<Table, Refusal> {
     let mut room = first;
     loop {
         let mut table = Table::of_room(room);
@@ -76,7 +80,7 @@ fn grow(first: [usize; 4], mut write: impl FnMut(&mut Lent<'_>) -> Result<Counts
 }
 
 /// Room for a usual list: places exactly, of the rest what most lists need.
-fn usual(functions: usize, records: usize) -> [usize; 4] {
+pub(crate) fn usual(functions: usize, records: usize) -> [usize; 4] {
     let of = |each: usize, record: usize| {
         let sum = functions.saturating_mul(each).saturating_add(records.saturating_mul(record));
         sum.saturating_add(64).min(MOST)

@@ -249,7 +249,7 @@ fn the_row_check() {
 
 #[test]
 fn questions_in_words() {
-    let numbers = [11..=13, 21..=25, 31..=41, 51..=54, 61..=69, 71..=80, 84..=84];
+    let numbers = [11..=13, 21..=25, 31..=41, 51..=54, 61..=69, 71..=84];
     for number in 0..100 {
         let known = numbers.iter().any(|range| range.contains(&number));
         let refusal = Refusal { number, position: 0 };

@@ -1,7 +1,8 @@
-//! The reader of ARM64 unwind data: both forms, a refusal of each kind, and more epilogues than the first room holds.
+//! ARM64 unwind data: both forms read, a refusal of each kind, more epilogues than the first room holds; written, and read back.
 #![allow(clippy::unwrap_used, clippy::indexing_slicing, clippy::arithmetic_side_effects)]
 
-use dekvoz::arm64::{read, read_lists, Code, Epilogue};
+use dekvoz::arm64::{entry, read, read_lists, write, Code, Epilogue, Function};
+use dekvoz::{Refusal, Table};
 
 #[test]
 fn fragment() {
@@ -37,4 +38,58 @@ fn many_epilogues() {
     assert_eq!((found.length, found.prologue), (4000, vec![Code::Alloc(16)]));
     assert_eq!(found.epilogues.len(), 300);
     assert_eq!(found.epilogues[299], Epilogue { start: 12 * 299, codes: vec![Code::Alloc(16)] });
+}
+
+#[test]
+fn every_code_goes_there_and_back() {
+    for kind in 0..18 {
+        let numbers = [kind, if (4..=12).contains(&kind) { 21 } else { 0 }, if kind < 13 || kind == 14 { 16 } else { 0 }];
+        assert_eq!(Code::of(&numbers).unwrap().numbers(), numbers);
+    }
+}
+
+/// A refusal is of the first function that is refused, by asking each alone; a range outside its list is of none.
+#[test]
+fn the_refused_function() {
+    let fine = Function::new(16, 8).prologue(&[Code::Alloc(16)]).epilogue(0, &[Code::Alloc(16)]);
+    let odd = Function { length: 6, ..fine.clone() };
+    let late = Function::new(16, 8).epilogue(8, &[]);
+    let lost = Function::new(16, 8).epilogue(4, &[Code::Regp(28, 512)]);
+    for (number, wrong) in [(81, odd), (82, late), (83, lost)] {
+        for position in 0..3 {
+            let mut functions = vec![fine.clone(); 4];
+            functions[position] = wrong.clone();
+            functions[3] = Function { length: 1 << 20, ..fine.clone() };
+            assert_eq!(write(&functions), Err(Refusal { number, position: position as u64 }));
+        }
+    }
+    assert_eq!(write(&[fine.clone(), Function { symbol: 15, ..fine }]), Err(Refusal { number: 13, position: 0 }));
+    assert_eq!(write(&[]), Ok(Table::default()));
+}
+
+/// Buffers grow; a table of packed functions and records reads as it was given.
+#[test]
+fn written_and_read() {
+    let prologue = [Code::R19R20X(32), Code::Regp(21, 16), Code::FplrX(16), Code::SetFp];
+    let undone = [Code::FplrX(16), Code::Regp(21, 16), Code::R19R20X(32)];
+    let given: Vec<Function> = (0..40u32)
+        .map(|k| {
+            let mut f = Function::new(16 + k, 4000).prologue(&prologue).epilogue(4000 - 16, &undone);
+            for n in 0..k {
+                f = f.epilogue(u64::from(16 * n), if n % 2 == 0 { &undone } else { &undone[1..] });
+            }
+            f
+        })
+        .collect();
+    let table = write(&given).unwrap();
+    assert_eq!((table.places[0], table.bytes.len(), table.relocations.len()), (u64::MAX, 8 * 40, 79));
+    for (k, f) in given.iter().enumerate() {
+        let (word, place) = entry(&table, k).unwrap();
+        let found = read(word, &table.sites, place).unwrap();
+        assert_eq!((found.length, found.epilogues.len()), (f.length, f.epilogues.len()));
+        for (one, other) in found.epilogues.iter().zip(&f.epilogues) {
+            assert_eq!((one.start, one.codes.len()), (other.start, other.codes.len()));
+        }
+    }
+    assert_eq!(entry(&table, 40), None);
 }

@@ -13,7 +13,7 @@ use Rattle.arm64.specs.Codes.{code, shortForm, integerForm, vectorForm, 
 use Rattle.arm64.specs.Lists.{Epilogue, codeNumbers, epilogueNumbers}
 use Rattle.arm64.specs.Records.{wordAt, versionOf, isLong, shortHeader, longHeader, headerAt, scopesIn, codesFrom, codesTo, headerFits, recordOk, codesOf, scopeStart, scopeIndex, scopeAt}
 use Rattle.arm64.specs.Packed.{packedOf, savesLr, integerSize, vectorCount, savedSize, localSize, packedOk, chainOk, signSlot, lone, integerPair, integerOdd, integerSlot, vectorPair, vectorSlot, homeSlot, allocSlot, restSlot, chainSlot, frameSlot, localSlot, slot, withSlot, slotsFrom, undone, slotAt, packedPrologue, packedEpilogue}
-use Rattle.arm64.specs.Meaning.{Effect, Store, Step, Pair, stored, storing, only, saveOne, saveTwo, savePair, saveNext, integerStep, vectorStep, frameStep, orStep, stepOf, pairOf, effectOf, effects, reverse, prologueMeans, epilogueMeans}
+use Rattle.arm64.specs.Meaning.{Effect, Store, Step, Pair, stored, storing, only, saveOne, saveTwo, savePair, saveNext, pairStep, integerStep, vectorStep, frameStep, orStep, stepOf, pairOf, effectOf, effects, reverse, prologueMeans, epilogueMeans}
 use Rattle.arm64.specs.Reader.{Unwound, onCode, inFront, runF, runAt, epilogue, atEnd, scoped, recordEpilogues, unwound, recordUnwound, fullRecord, packedEpilogues, packedUnwound, unwoundBy, epilogueCodes, allCodes, fitsIn, readArm64, readingOf, epiloguesAfter, codesAfter}
 
 -- ---- each kind's bytes: the smallest and the largest operands
@@ -174,16 +174,16 @@ pair-of r z = stored false r z ∷ stored false (r + 1) (z + 8) ∷ []
 -- a save_next behind a first pair, and behind that one another: x21, x22 at 16, and x23, x24 at 32
 next-pairs : prologueMeans (code kR19R20X 0 48 ∷ code kSaveNext 0 0 ∷ code kSaveNext 0 0 ∷ [])
     ≡ prologueMeans (code kRegpX 19 48 ∷ code kRegp 21 16 ∷ code kRegp 23 32 ∷ [])
-unfolding prologueMeans effects effectOf stepOf pairOf orStep frameStep integerStep saveNext savePair storing stored pick
+unfolding prologueMeans effects effectOf stepOf pairOf orStep frameStep integerStep pairStep saveNext savePair storing stored pick
 next-pairs = refl
 
 -- an epilogue's save_next goes on from the pair that is restored behind it
 next-undone : epilogueMeans (code kSaveNext 0 0 ∷ code kRegp 19 16 ∷ [])
     ≡ some (storing 0 (pair-of 21 32)) ∷ some (storing 0 (pair-of 19 16)) ∷ []
-unfolding pair-of epilogueMeans reverse effects effectOf stepOf pairOf orStep frameStep integerStep saveNext savePair storing stored pick
+unfolding pair-of epilogueMeans reverse effects effectOf stepOf pairOf orStep frameStep integerStep pairStep saveNext savePair storing stored pick
 next-undone = refl
 
 -- behind no pair it means nothing
 next-alone : prologueMeans (code kRegX 19 32 ∷ code kSaveNext 0 0 ∷ []) ≡ some (storing 32 (stored false 19 0 ∷ [])) ∷ none ∷ []
-unfolding prologueMeans effects effectOf stepOf pairOf orStep frameStep integerStep saveNext saveOne only storing stored pick
+unfolding prologueMeans effects effectOf stepOf pairOf orStep frameStep integerStep pairStep saveNext saveOne only storing stored pick
 next-alone = refl

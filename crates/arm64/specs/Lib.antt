@@ -5,3 +5,6 @@ pub mod Records
 pub mod Packed
 pub mod Meaning
 pub mod Reader
+pub mod Runs
+pub mod Packing
+pub mod Writer

@@ -62,10 +62,14 @@ unfoldable pub saveNext : Option Pair → Option Step
 saveNext none = none
 saveNext (some p) = savePair (p .vector) 0 (p .register + 2) (p .above + 16)
 
+-- a pair at x29 is the frame record, and no pair that a save_next goes on from
+unfoldable pub pairStep : (down register above : ℕ) → Option Step
+pairStep down r z = pick (eqb r fp) (saveTwo down fp lr z) (savePair false down r z)
+
 unfoldable pub integerStep : (kind register offset : ℕ) → Option Step
 integerStep k r z =
-    pick (eqb k kRegp) (savePair false 0 r z)
-    (pick (eqb k kRegpX) (savePair false z r 0)
+    pick (eqb k kRegp) (pairStep 0 r z)
+    (pick (eqb k kRegpX) (pairStep z r 0)
     (pick (eqb k kReg) (saveOne false 0 r z)
     (pick (eqb k kRegX) (saveOne false z r 0)
     (pick (eqb k kLrpair) (saveTwo 0 r lr z) none))))

@@ -124,7 +124,7 @@ fn other_form(b: u64) -> Form
     alone(arm64::RESERVED, 0)
 }
 
-fn form_of(b: u64) -> Form
+pub fn form_of(b: u64) -> Form
     ensures { λ r. ⌜ r ≡ formOf b ⌝ }
 {
     if b < 0xc0 {

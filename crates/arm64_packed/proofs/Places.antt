@@ -78,11 +78,11 @@ numbers-append (Coded c) cs = refl
 numbers-append Empty cs = refl
 
 module _ (at : ℕ → Slot) where
-  next-slot : (i : ℕ) → i < 19 → slotsFrom at i (19 - i) ≡ withSlot (at i) (slotsFrom at (i + 1) (19 - (i + 1)))
+  pub next-slot : (i : ℕ) → i < 19 → slotsFrom at i (19 - i) ≡ withSlot (at i) (slotsFrom at (i + 1) (19 - (i + 1)))
   unfolding slotsFrom
   next-slot i h = let z : 19 - i ≡ suc (19 - (i + 1)) = omega arith in rw (z, add-one i) refl
 
-  last-slot : (i : ℕ) → 19 ≤ i → slotsFrom at i (19 - i) ≡ []
+  pub last-slot : (i : ℕ) → 19 ≤ i → slotsFrom at i (19 - i) ≡ []
   unfolding slotsFrom
   last-slot i h = let z : 19 - i ≡ 0 = omega arith in rw z
 

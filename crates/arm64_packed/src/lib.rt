@@ -258,7 +258,8 @@ fn undone(s: Slot) -> Slot
     Slot::Coded(c)
 }
 
-fn slot_at(back: bool, p: Packed, i: u64) -> Slot
+// Place i of the prologue or, backwards, of the epilogue.
+pub fn slot_at(back: bool, p: Packed, i: u64) -> Slot
     requires { ⌜ Sound p × (i < 19) ⌝ }
     ensures { λ r. ⌜ r ≡ slotAt back p i ⌝ }
 {

@@ -26,11 +26,11 @@ unfolding markersFrom
 markers-length at [] = refl
 markers-length at (p ∷ ps) = ap suc (markers-length _ ps)
 
-next-of : {A : Type 0} (f : ℕ → A) (n k : ℕ) → k < n → each f k (n - k) ≡ f k ∷ each f (k + 1) (n - (k + 1))
+pub next-of : {A : Type 0} (f : ℕ → A) (n k : ℕ) → k < n → each f k (n - k) ≡ f k ∷ each f (k + 1) (n - (k + 1))
 unfolding each
 next-of f n k h = let e : n - k ≡ suc (n - suc k) = omega arith in rw (add-one k, e)
 
-last-of : {A : Type 0} (f : ℕ → A) (n k : ℕ) → n ≤ k → each f k (n - k) ≡ []
+pub last-of : {A : Type 0} (f : ℕ → A) (n k : ℕ) → n ≤ k → each f k (n - k) ≡ []
 unfolding each
 last-of f n k h = let e : n - k ≡ 0 = omega arith in rw e
 

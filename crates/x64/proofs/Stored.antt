@@ -24,7 +24,7 @@ part {xs₀} {xs} {ys} {p} {i} {q} {all} {bs} {left} c w = record {
 
 -- ---- relocations
 
-numbers-append : (xs ys : List Relocation) → numbersOf (xs ++ ys) ≡ numbersOf xs ++ numbersOf ys
+pub numbers-append : (xs ys : List Relocation) → numbersOf (xs ++ ys) ≡ numbersOf xs ++ numbersOf ys
 unfolding numbersOf
 numbers-append [] ys = refl
 numbers-append (x ∷ xs) ys = rw (numbers-append xs ys)

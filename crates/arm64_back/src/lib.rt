@@ -1,0 +1,1 @@
+// ARM64 unwind data written and read back: laws alone.

@@ -1,0 +1,2 @@
+-- The header of a full record by its numbers.
+pub mod Header

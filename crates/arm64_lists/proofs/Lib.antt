@@ -1,0 +1,3 @@
+-- Question 13 of a code, and of sums.
+pub mod Codes
+pub mod Totals

@@ -1,0 +1,2 @@
+-- A sum of records, held to the most that there may be.
+pub mod Sums

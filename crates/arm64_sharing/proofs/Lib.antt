@@ -1,0 +1,3 @@
+-- Loops that store a run and compare runs.
+pub mod Storing
+pub mod Comparing

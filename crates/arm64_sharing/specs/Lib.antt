@@ -1,0 +1,1 @@
+-- Nothing: the contracts are stated by crates/arm64 and crates/arm64_simple.

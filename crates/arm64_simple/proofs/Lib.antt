@@ -1,0 +1,3 @@
+-- Laws of codes and runs as they are written.
+pub mod Codes
+pub mod Loops

@@ -1,0 +1,2 @@
+-- A run's codes out of a list of numbers.
+pub mod Saves

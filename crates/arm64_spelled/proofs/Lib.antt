@@ -1,0 +1,3 @@
+-- Laws of a code's spelling.
+pub mod FormLaws
+pub mod FitLaws

@@ -1,0 +1,2 @@
+-- What the inner functions promise.
+pub mod Forms
