@@ -21,12 +21,12 @@ use Rattle.arm64.specs.Lists.{Function, functionStride, epilogueStride, codeStr
 use Rattle.arm64.specs.Reader.{Unwound, allCodes, fullRecord, unwoundBy, fitsIn, readArm64}
 use Rattle.arm64.specs.Writer.{codeOkAt, codesOkIn, epilogueOkAt, functionOkAt, codesIn, listsOk, isPacked, recordBytes, functionAsks, rowBytes, infoOf, markersFrom, rowsOf, infosOf, arm64, arm64Answer}
 use Rattle.arm64.proofs.MeaningLaws.{both-true}
-use Rattle.arm64_back.specs.Back.{wholeCode, wholeCodes, Alike, given, written, ReadBack, secondWord, EntryWord, SameReading, Stands}
+use Rattle.arm64_back.specs.Back.{wholeCode, wholeCodes, SameUnwound, given, written, ReadBack, secondWord, EntryWord, SameReading, BytesAt}
 use Rattle.arm64_back.proofs.CodeBack.{either-way}
 use Rattle.arm64_back.proofs.RunBack.{stands-behind, stands-before, stands-first, stands-right}
 use Rattle.arm64_back.proofs.IndexBack.{both-yes}
 use Rattle.arm64_back.proofs.HeaderBack.{word-back}
-use Rattle.arm64_back.proofs.Alikes.{written-means, many-epilogues, many-codes}
+use Rattle.arm64_back.proofs.SameReadings.{written-means, many-epilogues, many-codes}
 use Rattle.arm64_back.proofs.RecordBack.{Asked, all-asked, ask-yes, record-read, record-whole}
 use Rattle.arm64_back.proofs.PackedForm.{wordFor, word-fits, packed-as-full}
 use Rattle.arm64_back.proofs.PackedForm as packed
@@ -101,7 +101,7 @@ unfolding infoOf pick
 info-is f n = rw n
 
 record-stands : (front : List ℕ) (at : ℕ) (fs : List Function) (k : ℕ) (f : Function) → length front ≡ at → getElem? fs k ≡ some f → isPacked f ≡ false
-    → Stands (front ++ infosOf fs) (getD (markersFrom at fs) k 0) (recordBytes f)
+    → BytesAt (front ++ infosOf fs) (getD (markersFrom at fs) k 0) (recordBytes f)
 unfolding infosOf markersFrom pick
 record-stands front at [] k f l g n = let z : _≡_ {A = ℕ} 0 1 = cc in absurd (omega arith)
 record-stands front at (x ∷ xs) zero f l g n =
@@ -115,7 +115,7 @@ record-stands front at (x ∷ xs) zero f l g n =
     }
 record-stands front at (x ∷ xs) (suc k) f l g n =
     let t = record-stands (front ++ infoOf x) (at + length (infoOf x)) xs k f (omega (arith, length-append front (infoOf x))) g n in
-    subst (λ b. Stands b (getD (markersFrom (at + length (infoOf x)) xs) k 0) (recordBytes f)) (append-assoc front (infoOf x) (infosOf xs)) t
+    subst (λ b. BytesAt b (getD (markersFrom (at + length (infoOf x)) xs) k 0) (recordBytes f)) (append-assoc front (infoOf x) (infosOf xs)) t
 
 info-whole : (f : Function) → length (infoOf f) % 4 ≡ 0
 unfolding infoOf pick
@@ -138,14 +138,14 @@ row-length f =
     length-append (little 4 0) (little 4 w) ∙ (let a : length (little 4 0) ≡ 4 = little-length 4 0 in
     let b : length (little 4 (pick (isPacked f) (wordFor f) 0)) ≡ 4 = little-length 4 w in omega arith)
 
-row-stands : (fs : List Function) (k : ℕ) (f : Function) → getElem? fs k ≡ some f → Stands (rowsOf fs) (8 * k) (rowBytes f)
+row-stands : (fs : List Function) (k : ℕ) (f : Function) → getElem? fs k ≡ some f → BytesAt (rowsOf fs) (8 * k) (rowBytes f)
 unfolding rowsOf
 row-stands [] k f g = let z : _≡_ {A = ℕ} 0 1 = cc in absurd (omega arith)
 row-stands (x ∷ xs) zero f g =
-    let same : x ≡ f = cc in subst (λ y. Stands (rowBytes x ++ rowsOf xs) 0 (rowBytes y)) same (stands-first (rowBytes x) (rowsOf xs))
+    let same : x ≡ f = cc in subst (λ y. BytesAt (rowBytes x ++ rowsOf xs) 0 (rowBytes y)) same (stands-first (rowBytes x) (rowsOf xs))
 row-stands (x ∷ xs) (suc k) f g =
     let n : length (rowBytes x) + 8 * k ≡ 8 * suc k = omega (arith, row-length x) in
-    subst (λ (i : ℕ). Stands (rowBytes x ++ rowsOf xs) i (rowBytes f)) n (stands-behind (rowBytes x) (row-stands xs k f g))
+    subst (λ (i : ℕ). BytesAt (rowBytes x ++ rowsOf xs) i (rowBytes f)) n (stands-behind (rowBytes x) (row-stands xs k f g))
 
 module _ (f : Function) (a : Asked f) where
   row-word : pick (isPacked f) (wordFor f) 0 < 2 ^ 32
@@ -160,12 +160,12 @@ module _ (f : Function) (a : Asked f) where
   unfolding pick
   unpacked-word t = rw t
 
-  word-in : (s : List ℕ) (k : ℕ) → Stands s (8 * k) (rowBytes f) → secondWord s k ≡ pick (isPacked f) (wordFor f) 0
+  word-in : (s : List ℕ) (k : ℕ) → BytesAt s (8 * k) (rowBytes f) → secondWord s k ≡ pick (isPacked f) (wordFor f) 0
   unfolding secondWord rowBytes
   word-in s k t =
       let w : ℕ = pick (isPacked f) (wordFor f) 0 in
       let four : 8 * k + length (little 4 0) ≡ 8 * k + 4 = ap (λ (n : ℕ). 8 * k + n) (little-length 4 0) in
-      word-back w (subst (λ (n : ℕ). Stands s n (little 4 w)) four (stands-right (little 4 0) (little 4 w) t)) row-word
+      word-back w (subst (λ (n : ℕ). BytesAt s n (little 4 w)) four (stands-right (little 4 0) (little 4 w) t)) row-word
 
   second-word : (fs : List Function) (k : ℕ) → getElem? fs k ≡ some f → secondWord (rowsOf fs) k ≡ pick (isPacked f) (wordFor f) 0
   second-word fs k g = word-in (rowsOf fs) k (row-stands fs k f g)
@@ -185,12 +185,12 @@ module _ (f : Function) (a : Asked f) where
       record {
         unwound = written f;
         answer = if-eq (word % 4) 0 _ _ (e .placed t) ∙ record-read f a (infosOf fs ++ behind) (getD (markersFrom 0 fs) k 0) (stands-before behind u);
-        alike = written-means f;
+        same = written-means f;
       }
 
 -- ---- room for what is read
 
-room-enough : (u v : Unwound) → Alike u v → (es cs : List ℕ) → length (v .epilogues) ≤ count epilogueStride es
+room-enough : (u v : Unwound) → SameUnwound u v → (es cs : List ℕ) → length (v .epilogues) ≤ count epilogueStride es
     → length (allCodes v) ≤ count codeStride cs → fitsIn es cs u ≡ good u
 unfolding fitsIn pick
 room-enough u v a es cs g h =
@@ -253,8 +253,8 @@ module _ (fs es cs : List ℕ) (r : Room) (w : Written) (e : arm64Answer fs es c
         let b = arm64-back word o behind in
         record {
           unwound = b .unwound;
-          answer = ap (λ x. onward x (fitsIn es′ cs′)) (b .answer) ∙ room-enough (b .unwound) (given this) (b .alike) es′ cs′ g h;
-          alike = b .alike;
+          answer = ap (λ x. onward x (fitsIn es′ cs′)) (b .answer) ∙ room-enough (b .unwound) (given this) (b .same) es′ cs′ g h;
+          same = b .same;
         }
 
     -- The word that was written may stand in the row: packed, or 0 where a relocation puts the record's place.
@@ -279,7 +279,7 @@ module _ (fs es cs : List ℕ) (r : Room) (w : Written) (e : arm64Answer fs es c
     marker-whole n = ap (λ x. getD (x .places) k 0 % 4) (sym (wrote .is)) ∙ marker-in 0 (functionsOf fs es cs) k this refl there n
 
     -- Where it is packed, the word means what the function's full record would mean, wherever that stood.
-    pub arm64-packed : isPacked this ≡ true → (s : List ℕ) (place : ℕ) (bytes : List ℕ) (p : ℕ) → Stands bytes p (recordBytes this)
+    pub arm64-packed : isPacked this ≡ true → (s : List ℕ) (place : ℕ) (bytes : List ℕ) (p : ℕ) → BytesAt bytes p (recordBytes this)
         → SameReading (unwoundBy (secondWord (w .bytes) k) s place) (fullRecord bytes p)
     unfolding arm64
     arm64-packed t s place bytes p u =

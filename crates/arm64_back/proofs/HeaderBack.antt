@@ -17,13 +17,13 @@ use Rattle.arm64.specs.Records.{wordAt, versionOf, isLong, shortHeader, longHea
 use Rattle.arm64.specs.Runs.{runBytes, runsBytes, backwards, endByte}
 use Rattle.arm64.specs.Writer.{prologueRun, ownOf, instructions, single, countOf, wordsOf, isLongFor, headerWord, headerBytes, codesOf}
 use Rattle.arm64.proofs.MeaningLaws.{no-yes}
-use Rattle.arm64_back.specs.Back.{Stands}
+use Rattle.arm64_back.specs.Back.{BytesAt}
 use Rattle.arm64_back.proofs.CodeBack.{either-way}
 use Rattle.arm64_back.proofs.RunBack.{stands-left, stands-right, stands-inside}
 
 -- ---- a word
 
-module _ (n : ℕ) {s : List ℕ} {p : ℕ} (t : Stands s p (little 4 n)) where
+module _ (n : ℕ) {s : List ℕ} {p : ℕ} (t : BytesAt s p (little 4 n)) where
   byte-at : (k : ℕ) → getD s (p + k) 0 ≡ getD (little 4 n ++ t .behind) k 0
   byte-at k = (λ i. getD (t .is i) (t .place i + k) 0) ∙ getD-append-add (t .front) (little 4 n ++ t .behind) k 0
 
@@ -133,20 +133,20 @@ pub record Headed (s : List ℕ) (p : ℕ) (f : Function) : Type 0 where
   pub inside : p + 4 ≤ length s
 
 module _ (f : Function) (h : Held f) (s : List ℕ) (p : ℕ) where
-  long-back : isLongFor f ≡ true → Stands s p (headerBytes f) → Headed s p f
+  long-back : isLongFor f ≡ true → BytesAt s p (headerBytes f) → Headed s p f
   unfolding headerBytes headerWord headerAt pick
   long-back e t =
       let l : ℕ = instructions (f .size) in
       let w : ℕ = instructions (f .size) + 2 ^ 21 * mark f in
       let v : ℕ = countOf f + 2 ^ 16 * wordsOf f in
       let is : headerBytes f ≡ little 4 (instructions (f .size) + 2 ^ 21 * mark f) ++ little 4 (countOf f + 2 ^ 16 * wordsOf f) = rw e refl in
-      let u : Stands s p (little 4 (instructions (f .size) + 2 ^ 21 * mark f) ++ little 4 (countOf f + 2 ^ 16 * wordsOf f)) = subst (Stands s p) is t in
+      let u : BytesAt s p (little 4 (instructions (f .size) + 2 ^ 21 * mark f) ++ little 4 (countOf f + 2 ^ 16 * wordsOf f)) = subst (BytesAt s p) is t in
       let low = mark-low f in
       let first : wordAt s p ≡ instructions (f .size) + 2 ^ 21 * mark f = word-back w (stands-left (little 4 w) (little 4 v) u) (omega (arith, h .long)) in
       let size : length (little 4 (instructions (f .size) + 2 ^ 21 * mark f)) ≡ 4 = little-length 4 w in
       let size′ : length (little 4 (countOf f + 2 ^ 16 * wordsOf f)) ≡ 4 = little-length 4 v in
       let second : wordAt s (p + 4) ≡ countOf f + 2 ^ 16 * wordsOf f =
-      word-back v (subst (λ (n : ℕ). Stands s (p + n) (little 4 v)) size (stands-right (little 4 w) (little 4 v) u)) (omega (arith, h .count, h .words)) in
+      word-back v (subst (λ (n : ℕ). BytesAt s (p + n) (little 4 v)) size (stands-right (little 4 w) (little 4 v) u)) (omega (arith, h .count, h .words)) in
       let eight : length (headerBytes f) ≡ 8 = ap length is ∙ omega (arith, length-append (little 4 w) (little 4 v)) in
       record {
         fields = rw first (rw (is-long l (mark f) (countOf f) (wordsOf f) (p + 8) (h .long) low (h .count) (h .words), second)
@@ -156,13 +156,13 @@ module _ (f : Function) (h : Held f) (s : List ℕ) (p : ℕ) where
         inside = omega (arith, stands-inside t);
       }
 
-  short-back : isLongFor f ≡ false → Stands s p (headerBytes f) → Headed s p f
+  short-back : isLongFor f ≡ false → BytesAt s p (headerBytes f) → Headed s p f
   unfolding headerBytes headerWord headerAt pick
   short-back e t =
       let l : ℕ = instructions (f .size) in
       let w : ℕ = instructions (f .size) + 2 ^ 21 * mark f + 2 ^ 22 * countOf f + 2 ^ 27 * wordsOf f in
       let is : headerBytes f ≡ little 4 (instructions (f .size) + 2 ^ 21 * mark f + 2 ^ 22 * countOf f + 2 ^ 27 * wordsOf f) = rw e refl in
-      let u : Stands s p (little 4 (instructions (f .size) + 2 ^ 21 * mark f + 2 ^ 22 * countOf f + 2 ^ 27 * wordsOf f)) = subst (Stands s p) is t in
+      let u : BytesAt s p (little 4 (instructions (f .size) + 2 ^ 21 * mark f + 2 ^ 22 * countOf f + 2 ^ 27 * wordsOf f)) = subst (BytesAt s p) is t in
       let low = mark-low f in
       let few = short-counts f e in
       let first : wordAt s p ≡ instructions (f .size) + 2 ^ 21 * mark f + 2 ^ 22 * countOf f + 2 ^ 27 * wordsOf f =
@@ -177,5 +177,5 @@ module _ (f : Function) (h : Held f) (s : List ℕ) (p : ℕ) where
       }
 
   -- A header, of either form, with anything in front and behind, is read as its fields.
-  pub header-back : Stands s p (headerBytes f) → Headed s p f
+  pub header-back : BytesAt s p (headerBytes f) → Headed s p f
   header-back t = either-way (isLongFor f) (λ e. long-back e t) λ e. short-back e t

@@ -17,7 +17,7 @@ use Rattle.arm64.specs.Reader.{runAt}
 use Rattle.arm64.specs.Writer.{hasRegister, hasOffset, codeOk, prologueRun, epilogueRun, epilogueRuns, ownOf, codesOf, indexIn}
 use Rattle.arm64.proofs.MeaningLaws.{both-true, no-yes}
 use Rattle.arm64.proofs.PackingLaws.{equal-all}
-use Rattle.arm64_back.specs.Back.{AllFine, wholeCode, Stands}
+use Rattle.arm64_back.specs.Back.{AllFine, wholeCode, BytesAt}
 use Rattle.arm64_back.proofs.CodeBack.{either-way, or-false}
 use Rattle.arm64_back.proofs.RunBack.{stands-behind, stands-before, stands-first, run-back, run-inside}
 
@@ -105,33 +105,33 @@ own-in ps seen (q ∷ runs) r e n m =
     (own-in ps (q ∷ seen) runs r (or-false (sameCodes r q) (isIn r runs) f e) n ((λ i. f i || m i)))
 
 first-place : (r q : List Code) (qs : List (List Code)) → sameCodes r q ≡ true
-    → Stands (runBytes q ++ runsBytes qs) (pick true 0 (length (runBytes q) + placeIn r qs)) (runBytes r)
+    → BytesAt (runBytes q ++ runsBytes qs) (pick true 0 (length (runBytes q) + placeIn r qs)) (runBytes r)
 unfolding pick
 first-place r q qs t =
-    subst (λ x. Stands (runBytes q ++ runsBytes qs) 0 (runBytes x)) (sym (equal-all r q t)) (stands-first (runBytes q) (runsBytes qs))
+    subst (λ x. BytesAt (runBytes q ++ runsBytes qs) 0 (runBytes x)) (sym (equal-all r q t)) (stands-first (runBytes q) (runsBytes qs))
 
-later-place : (r q : List Code) (qs : List (List Code)) → Stands (runsBytes qs) (placeIn r qs) (runBytes r)
-    → Stands (runBytes q ++ runsBytes qs) (pick false 0 (length (runBytes q) + placeIn r qs)) (runBytes r)
+later-place : (r q : List Code) (qs : List (List Code)) → BytesAt (runsBytes qs) (placeIn r qs) (runBytes r)
+    → BytesAt (runBytes q ++ runsBytes qs) (pick false 0 (length (runBytes q) + placeIn r qs)) (runBytes r)
 unfolding pick
 later-place r q qs t = stands-behind (runBytes q) t
 
 -- a run stands at its place
-pub place-in : (r : List Code) (own : List (List Code)) → isIn r own ≡ true → Stands (runsBytes own) (placeIn r own) (runBytes r)
+pub place-in : (r : List Code) (own : List (List Code)) → isIn r own ≡ true → BytesAt (runsBytes own) (placeIn r own) (runBytes r)
 unfolding isIn runsBytes placeIn runSize
 place-in r [] e = absurd (no-yes e)
 place-in r (q ∷ qs) e =
     either-way (sameCodes r q)
     (λ t.
-    subst (λ (b : Bool). Stands (runBytes q ++ runsBytes qs) (pick b 0 (length (runBytes q) + placeIn r qs)) (runBytes r)) (sym t)
+    subst (λ (b : Bool). BytesAt (runBytes q ++ runsBytes qs) (pick b 0 (length (runBytes q) + placeIn r qs)) (runBytes r)) (sym t)
     (first-place r q qs t))
     λ f.
-    subst (λ (b : Bool). Stands (runBytes q ++ runsBytes qs) (pick b 0 (length (runBytes q) + placeIn r qs)) (runBytes r)) (sym f)
+    subst (λ (b : Bool). BytesAt (runBytes q ++ runsBytes qs) (pick b 0 (length (runBytes q) + placeIn r qs)) (runBytes r)) (sym f)
     (later-place r q qs (place-in r qs (or-false (sameCodes r q) (isIn r qs) f e)))
 
 -- ---- the index of an epilogue's run
 
 index-of : (ps : List Code) (runs : List (List Code)) (r : List Code) → isIn r runs ≡ true
-    → Stands (runBytes ps ++ runsBytes (ownRuns ps [] runs)) (indexOf ps (ownRuns ps [] runs) r) (runBytes r)
+    → BytesAt (runBytes ps ++ runsBytes (ownRuns ps [] runs)) (indexOf ps (ownRuns ps [] runs) r) (runBytes r)
 unfolding indexOf pick runSize isIn
 index-of ps runs r e =
     let own : List (List Code) = ownRuns ps [] runs in
@@ -139,7 +139,7 @@ index-of ps runs r e =
     λ f. rw f (stands-behind (runBytes ps) (place-in r own (own-in ps [] runs r e f refl)))
 
 module _ (f : Function) (e : Epilogue) (h : isIn (epilogueRun e) (epilogueRuns f) ≡ true) where
-  pub index-stands : Stands (codesOf f) (indexIn f e) (runBytes (epilogueRun e))
+  pub index-stands : BytesAt (codesOf f) (indexIn f e) (runBytes (epilogueRun e))
   unfolding codesOf indexIn ownOf
   index-stands = index-of (prologueRun f) (epilogueRuns f) (epilogueRun e) h
 

@@ -3,7 +3,7 @@ pub mod CodeBack
 pub mod RunBack
 pub mod IndexBack
 pub mod HeaderBack
-pub mod Alikes
+pub mod SameReadings
 pub mod ScopeBack
 pub mod RecordBack
 pub mod PackedForm

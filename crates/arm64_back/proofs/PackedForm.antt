@@ -12,9 +12,9 @@ use Rattle.arm64.specs.Packing.{candidate, packedWord, standsFor}
 use Rattle.arm64.specs.Writer.{instructions, prologueRun, epilogueRun, endsWith, packedFor, isPacked, recordBytes}
 use Rattle.arm64.proofs.MeaningLaws.{both-true}
 use Rattle.arm64.proofs.PackedBack.{Back, held, word-low, packed-back}
-use Rattle.arm64_back.specs.Back.{SameEpilogues, given, written, ReadBack, SameReading, Stands}
+use Rattle.arm64_back.specs.Back.{SameEpilogues, given, written, ReadBack, SameReading, BytesAt}
 use Rattle.arm64_back.proofs.ScopeBack.{Placed, AllPlaced}
-use Rattle.arm64_back.proofs.Alikes.{both-alike, written-means}
+use Rattle.arm64_back.proofs.SameReadings.{both-same, written-means}
 use Rattle.arm64_back.proofs.RecordBack.{Asked, Only, only, record-read}
 
 -- the word of a packed function
@@ -29,7 +29,7 @@ module _ (f : Function) (e : Epilogue) (are : f .epilogues ≡ e ∷ []) where
       record {
         unwound = record { size = f .size; prologue = b .codes; epilogues = epilogue (e .start) (b .undoing) ∷ [] };
         answer = b .answer;
-        alike = record {
+        same = record {
           size = refl;
           prologue = b .prologue;
           epilogues = subst (SameEpilogues (epilogue (e .start) (b .undoing) ∷ [])) (sym are) (record { start = refl; means = b .epilogue-means }, tt);
@@ -58,7 +58,7 @@ module _ (f : Function) (a : Asked f) (t : isPacked f ≡ true) where
       one-back f e (o .are) (packed-back f e (a .held .whole) (p .whole) (p .low) (o .passes) s place)
 
   -- A packed word means what the function's full record would mean, wherever that stood.
-  pub packed-as-full : (s : List ℕ) (place : ℕ) (bytes : List ℕ) (p : ℕ) → Stands bytes p (recordBytes f)
+  pub packed-as-full : (s : List ℕ) (place : ℕ) (bytes : List ℕ) (p : ℕ) → BytesAt bytes p (recordBytes f)
       → SameReading (unwoundBy (wordFor f) s place) (fullRecord bytes p)
   packed-as-full s place bytes p u =
       let b = word-back s place in
@@ -67,5 +67,5 @@ module _ (f : Function) (a : Asked f) (t : isPacked f ≡ true) where
         second = written f;
         one = b .answer;
         other = record-read f a bytes p u;
-        alike = both-alike (b .unwound) (written f) (given f) (b .alike) (written-means f);
+        same = both-same (b .unwound) (written f) (given f) (b .same) (written-means f);
       }

@@ -24,7 +24,7 @@ use Rattle.arm64.specs.Reader.{runAt, atEnd, recordEpilogues, unwound, recordUn
 use Rattle.arm64.specs.Writer.{instructions, prologueRun, epilogueRun, epilogueRuns, codesOf, indexIn, endsWith, onlyOne, single, firstIndex, countOf, wordsOf, isLongFor, headerWord, headerBytes, scopeBytes, scopesOf, nopByte, recordBytes, longest, sizeOk, startOk, valuesOk, functionAsks}
 use Rattle.arm64.proofs.MeaningLaws.{both-true, no-yes}
 use Rattle.arm64.proofs.PackingLaws.{reverse-twice}
-use Rattle.arm64_back.specs.Back.{AllFine, wholeCode, wholeCodes, writtenEpilogue, written, Stands}
+use Rattle.arm64_back.specs.Back.{AllFine, wholeCode, wholeCodes, writtenEpilogue, written, BytesAt}
 use Rattle.arm64_back.proofs.CodeBack.{either-way}
 use Rattle.arm64_back.proofs.RunBack.{stands-left, stands-right, stands-inside}
 use Rattle.arm64_back.proofs.IndexBack.{runs-fine, all-reverse, same-codes, or-first, or-second, both-yes, index-read, prologue-back}
@@ -119,16 +119,16 @@ module _ (f : Function) where
     unfolding scopesOf scopesIn countOf pick
     scopes-size = either-way (single f) (λ t. rw t refl) λ t. rw t (scope-length f (f .epilogues))
 
-  module _ (a : Asked f) (s : List ℕ) (past : ℕ) (scopes : Stands s past (scopesOf f)) where
+  module _ (a : Asked f) (s : List ℕ) (past : ℕ) (scopes : BytesAt s past (scopesOf f)) where
     module _ (padding : List ℕ) (c : records.codesOf (headerFor f past) s ≡ codesOf f ++ padding) where
       by-words : single f ≡ false → recordEpilogues (headerFor f past) s ≡ some (map writtenEpilogue (f .epilogues))
       unfolding recordEpilogues scopeAt countOf scopesOf pick
       by-words t =
           let first : past + 4 * 0 ≡ past = omega arith in
-          let u : Stands s past (scopeBytes f (f .epilogues)) = subst (λ (b : Bool). Stands s past (pick b [] (scopeBytes f (f .epilogues)))) t scopes in
+          let u : BytesAt s past (scopeBytes f (f .epilogues)) = subst (λ (b : Bool). BytesAt s past (pick b [] (scopeBytes f (f .epilogues)))) t scopes in
           rw c
           (rw t
-          (scopes-back f (a .held) s past padding 0 (f .epilogues) (a .epilogues) (subst (λ (n : ℕ). Stands s n (scopeBytes f (f .epilogues))) (sym first) u)))
+          (scopes-back f (a .held) s past padding 0 (f .epilogues) (a .epilogues) (subst (λ (n : ℕ). BytesAt s n (scopeBytes f (f .epilogues))) (sym first) u)))
 
       by-end : single f ≡ true → recordEpilogues (headerFor f past) s ≡ some (map writtenEpilogue (f .epilogues))
       unfolding recordEpilogues countOf single firstIndex after pick
@@ -152,7 +152,7 @@ module _ (f : Function) where
 
 -- ---- the record
 
-module _ (f : Function) (a : Asked f) (s : List ℕ) (p : ℕ) (t : Stands s p (recordBytes f)) where
+module _ (f : Function) (a : Asked f) (s : List ℕ) (p : ℕ) (t : BytesAt s p (recordBytes f)) where
   abbrev past : ℕ
   past = p + length (headerBytes f)
 
@@ -160,15 +160,15 @@ module _ (f : Function) (a : Asked f) (s : List ℕ) (p : ℕ) (t : Stands s p (
   unfolding recordBytes
   headed = header-back f (a .held) s p (stands-left (headerBytes f) _ t)
 
-  behind-header : Stands s past (scopesOf f ++ (codesOf f ++ padded f))
+  behind-header : BytesAt s past (scopesOf f ++ (codesOf f ++ padded f))
   unfolding recordBytes padded
   behind-header = stands-right (headerBytes f) _ t
 
   -- the codes behind the scopes
-  codes-there : Stands s (codesFrom (headerFor f past)) (codesOf f ++ padded f)
+  codes-there : BytesAt s (codesFrom (headerFor f past)) (codesOf f ++ padded f)
   unfolding codesFrom
   codes-there =
-      subst (λ (n : ℕ). Stands s (past + n) (codesOf f ++ padded f)) (scopes-size f past)
+      subst (λ (n : ℕ). BytesAt s (past + n) (codesOf f ++ padded f)) (scopes-size f past)
       (stands-right (scopesOf f) (codesOf f ++ padded f) behind-header)
 
   codes-are : records.codesOf (headerFor f past) s ≡ codesOf f ++ padded f

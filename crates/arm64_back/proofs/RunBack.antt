@@ -17,12 +17,12 @@ use Rattle.arm64.specs.Meaning.{reverse}
 use Rattle.arm64.specs.Runs.{sameCode, backwards, endByte, runBytes, runSize, leads}
 use Rattle.arm64.specs.Reader.{onCode, inFront, runF, runAt}
 use Rattle.arm64.proofs.MeaningLaws.{both-true, no-yes, equal}
-use Rattle.arm64_back.specs.Back.{Fine, AllFine, Stands}
+use Rattle.arm64_back.specs.Back.{Fine, AllFine, BytesAt}
 use Rattle.arm64_back.proofs.CodeBack.{known-kind, code-some, code-back}
 
 -- ---- bytes that stand at a place of others
 
-pub stands-behind : {s bs : List ℕ} {p : ℕ} (xs : List ℕ) → Stands s p bs → Stands (xs ++ s) (length xs + p) bs
+pub stands-behind : {s bs : List ℕ} {p : ℕ} (xs : List ℕ) → BytesAt s p bs → BytesAt (xs ++ s) (length xs + p) bs
 stands-behind {bs = bs} xs t =
     record {
       front = xs ++ t .front;
@@ -31,7 +31,7 @@ stands-behind {bs = bs} xs t =
       place = omega (arith, t .place, length-append xs (t .front));
     }
 
-pub stands-before : {s bs : List ℕ} {p : ℕ} (ys : List ℕ) → Stands s p bs → Stands (s ++ ys) p bs
+pub stands-before : {s bs : List ℕ} {p : ℕ} (ys : List ℕ) → BytesAt s p bs → BytesAt (s ++ ys) p bs
 stands-before {bs = bs} ys t =
     record {
       front = t .front;
@@ -40,14 +40,14 @@ stands-before {bs = bs} ys t =
       place = t .place;
     }
 
-pub stands-first : (bs ys : List ℕ) → Stands (bs ++ ys) 0 bs
+pub stands-first : (bs ys : List ℕ) → BytesAt (bs ++ ys) 0 bs
 stands-first bs ys = record { front = []; behind = ys; is = refl; place = refl }
 
-pub stands-inside : {s bs : List ℕ} {p : ℕ} → Stands s p bs → p + length bs ≤ length s
+pub stands-inside : {s bs : List ℕ} {p : ℕ} → BytesAt s p bs → p + length bs ≤ length s
 stands-inside {bs = bs} t =
     omega (arith, t .place, ap length (t .is), length-append (t .front) (bs ++ t .behind), length-append bs (t .behind))
 
-pub stands-left : {s : List ℕ} {p : ℕ} (us vs : List ℕ) → Stands s p (us ++ vs) → Stands s p us
+pub stands-left : {s : List ℕ} {p : ℕ} (us vs : List ℕ) → BytesAt s p (us ++ vs) → BytesAt s p us
 stands-left us vs t =
     record {
       front = t .front;
@@ -56,7 +56,7 @@ stands-left us vs t =
       place = t .place;
     }
 
-pub stands-right : {s : List ℕ} {p : ℕ} (us vs : List ℕ) → Stands s p (us ++ vs) → Stands s (p + length us) vs
+pub stands-right : {s : List ℕ} {p : ℕ} (us vs : List ℕ) → BytesAt s p (us ++ vs) → BytesAt s (p + length us) vs
 stands-right us vs t =
     record {
       front = t .front ++ us;
@@ -82,7 +82,7 @@ module _ (s : List ℕ) (p : ℕ) {c : Code} {q : ℕ} (e : codeAt s p ≡ codeR
   one-given k next (suc f) g = rw e (if-ne (c .kind) kEnd _ _ k ∙ rw (next f (omega arith)))
 
 module _ (s : List ℕ) where
-  code-given : (p : ℕ) (c : Code) → Fine c → Stands s p (codeBytes c) → {ds : List Code} → Gives s (p + length (codeBytes c)) ds → Gives s p (c ∷ ds)
+  code-given : (p : ℕ) (c : Code) → Fine c → BytesAt s p (codeBytes c) → {ds : List Code} → Gives s (p + length (codeBytes c)) ds → Gives s p (c ∷ ds)
   code-given p c fine t next =
       let e : codeAt s p ≡ codeRead.Code c (p + length (codeBytes c)) =
       (λ i. codeAt (t .is i) (t .place i)) ∙ code-back c (fine .0) (fine .1) (t .front) (t .behind)
@@ -90,7 +90,7 @@ module _ (s : List ℕ) where
       let k : c .kind ≢ kEnd = λ g. absurd (omega (arith, known-kind c (fine .0), g)) in
       one-given s p e (omega (arith, code-some c (fine .0))) (stands-inside t) k next
 
-  codes-given : (p : ℕ) (cs : List Code) → AllFine cs → Stands s p (backwards cs) → {ds : List Code} → Gives s (p + length (backwards cs)) ds
+  codes-given : (p : ℕ) (cs : List Code) → AllFine cs → BytesAt s p (backwards cs) → {ds : List Code} → Gives s (p + length (backwards cs)) ds
       → Gives s p (reverse cs ++ ds)
   unfolding backwards reverse
   codes-given p [] fine t {ds} next = let e : p + 0 ≡ p = omega arith in subst (λ (n : ℕ). Gives s n ds) e next
@@ -111,7 +111,7 @@ end-code us vs =
     let ends : length us + 1 ≤ length (us ++ endByte ∷ vs) = omega (arith, length-append us (endByte ∷ vs)) in
     rw (if-le (suc (length us)) (length (us ++ endByte ∷ vs)), getD-append-seam us endByte vs 0, if-le (length us + 1) (length (us ++ endByte ∷ vs)))
 
-module _ (s : List ℕ) (p : ℕ) (cs : List Code) (fine : AllFine cs) (t : Stands s p (runBytes cs)) where
+module _ (s : List ℕ) (p : ℕ) (cs : List Code) (fine : AllFine cs) (t : BytesAt s p (runBytes cs)) where
   end-there : Gives s (p + length (backwards cs)) []
   unfolding runBytes
   end-there =
@@ -148,7 +148,7 @@ leading (c ∷ cs) (p ∷ ps) e =
     let l = leading cs ps (q .1) in
     record { rest = l .rest; are = ap (λ ds. p ∷ ds) (l .are) ∙ ap (λ d. d ∷ (cs ++ l .rest)) (sym (equal c p (q .0))) }
 
-pub run-inside : (r ps : List Code) → leads r ps ≡ true → Stands (runBytes ps) (runSize ps - runSize r) (runBytes r)
+pub run-inside : (r ps : List Code) → leads r ps ≡ true → BytesAt (runBytes ps) (runSize ps - runSize r) (runBytes r)
 unfolding runBytes runSize
 run-inside r ps e =
     let l = leading r ps e in

@@ -19,10 +19,10 @@ use Rattle.arm64.specs.Runs.{isIn}
 use Rattle.arm64.specs.Reader.{inFront, atEnd, scoped}
 use Rattle.arm64.specs.Writer.{instructions, epilogueRun, epilogueRuns, codesOf, indexIn, endsWith, wordsOf, scopeBytes}
 use Rattle.arm64.proofs.MeaningLaws.{both-true}
-use Rattle.arm64_back.specs.Back.{AllFine, writtenEpilogue, Stands}
+use Rattle.arm64_back.specs.Back.{AllFine, writtenEpilogue, BytesAt}
 use Rattle.arm64_back.proofs.RunBack.{stands-left, stands-right, stands-inside}
 use Rattle.arm64_back.proofs.IndexBack.{index-stands, index-read}
-use Rattle.arm64_back.proofs.Alikes.{epilogue-length, epilogue-means}
+use Rattle.arm64_back.proofs.SameReadings.{epilogue-length, epilogue-means}
 use Rattle.arm64_back.proofs.HeaderBack.{Held, word-back}
 
 -- an epilogue of a function, as the questions leave it
@@ -64,7 +64,7 @@ module _ (f : Function) (h : Held f) where
     scope-word = instructions (e .start) + 2 ^ 22 * indexIn f e
 
     -- An epilogue's word, with anything in front and behind, is read as its start and its index.
-    pub scope-back : (s : List ℕ) (p : ℕ) → Stands s p (little 4 scope-word) → (4 * scopeStart (wordAt s p) ≡ e .start) × (scopeIndex (wordAt s p) ≡ indexIn f e)
+    pub scope-back : (s : List ℕ) (p : ℕ) → BytesAt s p (little 4 scope-word) → (4 * scopeStart (wordAt s p) ≡ e .start) × (scopeIndex (wordAt s p) ≡ indexIn f e)
     unfolding scopeStart scopeIndex
     scope-back s p t =
         let a : instructions (e .start) < 2 ^ 18 = start-low in
@@ -75,7 +75,7 @@ module _ (f : Function) (h : Held f) where
         (ap (λ (n : ℕ). 4 * (n % 2 ^ 18)) is ∙ ap (λ (n : ℕ). 4 * n) c ∙ whole-instructions (e .start) (o .whole), ap (λ (n : ℕ). n / 2 ^ 22) is ∙ d)
 
   -- n epilogues from the k-th on, by their words from `past` on
-  pub scopes-back : (s : List ℕ) (past : ℕ) (padding : List ℕ) (k : ℕ) (es : List Epilogue) → AllPlaced f es → Stands s (past + 4 * k) (scopeBytes f es)
+  pub scopes-back : (s : List ℕ) (past : ℕ) (padding : List ℕ) (k : ℕ) (es : List Epilogue) → AllPlaced f es → BytesAt s (past + 4 * k) (scopeBytes f es)
       → scoped (λ j. wordAt s (past + 4 * j)) (codesOf f ++ padding) k (length es) ≡ some (map writtenEpilogue es)
   unfolding scopeBytes scoped after inFront writtenEpilogue
   scopes-back s past padding k [] o t = refl
@@ -84,7 +84,7 @@ module _ (f : Function) (h : Held f) where
       let b = scope-back e (o .0) s (past + 4 * k) (stands-left w (scopeBytes f es) t) in
       let four : length (little 4 (instructions (e .start) + 2 ^ 22 * indexIn f e)) ≡ 4 = little-length 4 (instructions (e .start) + 2 ^ 22 * indexIn f e) in
       let next : past + 4 * k + length (little 4 (instructions (e .start) + 2 ^ 22 * indexIn f e)) ≡ past + 4 * suc k = omega arith in
-      let rest = scopes-back s past padding (suc k) es (o .1) (subst (λ (n : ℕ). Stands s n (scopeBytes f es)) next (stands-right w (scopeBytes f es) t)) in
+      let rest = scopes-back s past padding (suc k) es (o .1) (subst (λ (n : ℕ). BytesAt s n (scopeBytes f es)) next (stands-right w (scopeBytes f es) t)) in
       rw (b .1) (rw (index-read f e (o .0 .known) padding (o .0 .fine)) (rw (b .0, rest)))
 
   ends : (e : Epilogue) → endsWith f e ≡ true → instructions (f .size - e .start) ≡ length (e .codes) + 1

@@ -36,7 +36,7 @@ AllFine (c ∷ cs) = Fine c × AllFine cs
 
 -- ---- bytes that stand at a place of others, with anything in front and behind
 
-pub record Stands (s : List ℕ) (p : ℕ) (bs : List ℕ) : Type 0 where
+pub record BytesAt (s : List ℕ) (p : ℕ) (bs : List ℕ) : Type 0 where
   pub front : List ℕ
   pub behind : List ℕ
   pub is : s ≡ front ++ (bs ++ behind)
@@ -57,7 +57,7 @@ SameEpilogues (d ∷ ds) [] = ⊥
 SameEpilogues (d ∷ ds) (e ∷ es) = SameEpilogue d e × SameEpilogues ds es
 
 -- the same length, the same starts, and codes that do the same, one by one
-pub record Alike (u v : Unwound) : Type 0 where
+pub record SameUnwound (u v : Unwound) : Type 0 where
   pub size : u .size ≡ v .size
   pub prologue : prologueMeans (u .prologue) ≡ prologueMeans (v .prologue)
   pub epilogues : SameEpilogues (u .epilogues) (v .epilogues)
@@ -79,7 +79,7 @@ written f = record { size = f .size; prologue = prologueRun f; epilogues = map w
 pub record ReadBack (u : Unwound) (r : Result Unwound) : Type 0 where
   pub unwound : Unwound
   pub answer : r ≡ good unwound
-  pub alike : Alike unwound u
+  pub same : SameUnwound unwound u
 
 -- the second word of a function's row, as it was written
 unfoldable pub secondWord : (bytes : List ℕ) → (k : ℕ) → ℕ
@@ -96,7 +96,7 @@ pub record SameReading (q r : Result Unwound) : Type 0 where
   pub second : Unwound
   pub one : q ≡ good first
   pub other : r ≡ good second
-  pub alike : Alike first second
+  pub same : SameUnwound first second
 
 -- What a reader answers of the buffers that were lent to the writer, by function k's row in `bytes` as it may stand in the finished file: where the
 -- list was accepted, and the reader's lists have room for as many epilogues and codes as were given, the function as it was given.

@@ -13,7 +13,7 @@ use Rattle.arm64.specs.Runs.{noPair, simplify}
 use Rattle.arm64.specs.Writer.{prologueRun, epilogueRun}
 use Rattle.arm64.proofs.MeaningLaws.{simplify-means}
 use Rattle.arm64.proofs.PackingLaws.{reverse-twice}
-use Rattle.arm64_back.specs.Back.{SameEpilogues, Alike, given, writtenEpilogue, written}
+use Rattle.arm64_back.specs.Back.{SameEpilogues, SameUnwound, given, writtenEpilogue, written}
 
 pub reverse-length : {A : Type 0} (xs : List A) → length (reverse xs) ≡ length xs
 unfolding reverse
@@ -47,7 +47,7 @@ unfolding writtenEpilogue epilogue
 written-epilogues [] = tt
 written-epilogues (e ∷ es) = (record { start = refl; means = epilogue-means e }, written-epilogues es)
 
-pub written-means : (f : Function) → Alike (written f) (given f)
+pub written-means : (f : Function) → SameUnwound (written f) (given f)
 unfolding written given prologueRun
 written-means f = record { size = refl; prologue = simplify-means (f .prologue); epilogues = written-epilogues (f .epilogues) }
 
@@ -68,8 +68,8 @@ joined-epilogues (c ∷ cs) (d ∷ ds) (e ∷ es) g h =
     (record { start = g .0 .start ∙ h .0 .start; means = g .0 .means ∙ h .0 .means }, joined-epilogues cs ds es (g .1) (h .1))
 
 -- two that say the same as a third
-pub both-alike : (u v w : Unwound) → Alike u w → Alike v w → Alike u v
-both-alike u v w a b =
+pub both-same : (u v w : Unwound) → SameUnwound u w → SameUnwound v w → SameUnwound u v
+both-same u v w a b =
     record {
       size = a .size ∙ sym (b .size);
       prologue = a .prologue ∙ sym (b .prologue);
@@ -97,7 +97,7 @@ many-behind (d ∷ ds) (e ∷ es) h =
       many-behind ds es (h .1),
     )
 
-pub many-codes : (u v : Unwound) → Alike u v → length (allCodes u) ≡ length (allCodes v)
+pub many-codes : (u v : Unwound) → SameUnwound u v → length (allCodes u) ≡ length (allCodes v)
 unfolding allCodes
 many-codes u v a =
     omega (
