@@ -152,10 +152,10 @@ module _ (f : Form) (v : ℕ) (us vs : List ℕ) where
       ap with-size e ∙ (λ i. us ++ a i ∷ b i ∷ c i ∷ d i ∷ vs)
 
   -- the opcode's byte names the form, and the field is v
-  abbrev Told : List ℕ → Type 0
-  Told s = (formOf (getD s (length us) 0) ≡ f) × (fieldAt f s (length us) ≡ v)
+  abbrev ReadAs : List ℕ → Type 0
+  ReadAs s = (formOf (getD s (length us) 0) ≡ f) × (fieldAt f s (length us) ≡ v)
 
-  told-1 : (k : ℕ) → Reads k f → v < spread k f → f .size ≡ 1 → Told numbered
+  told-1 : (k : ℕ) → Reads k f → v < spread k f → f .size ≡ 1 → ReadAs numbered
   unfolding fieldAt
   told-1 k r h e =
       let few : firsts k f ≡ spread k f = ap (λ (n : ℕ). (spread k f - 1) / 256 ^ (n - 1) + 1) e ∙ (let o = r .parted in omega arith) in
@@ -164,7 +164,7 @@ module _ (f : Form) (v : ℕ) (us vs : List ℕ) where
       ap (λ l. getD l (length us) 0) (numbered-1 e low) ∙ getD-append-seam us (f .op + v) vs 0 in
       (ap formOf first ∙ r .own v (omega arith), rw (if-eq (f .size) 1) (ap (λ (b : ℕ). b - f .op) first ∙ omega arith))
 
-  told-2 : (k : ℕ) → Reads k f → v < spread k f → f .size ≡ 2 → Told numbered
+  told-2 : (k : ℕ) → Reads k f → v < spread k f → f .size ≡ 2 → ReadAs numbered
   unfolding fieldAt
   told-2 k r h e =
       let few : firsts k f ≡ (spread k f - 1) / 256 + 1 = ap (λ (n : ℕ). (spread k f - 1) / 256 ^ (n - 1) + 1) e in
@@ -179,7 +179,7 @@ module _ (f : Form) (v : ℕ) (us vs : List ℕ) where
         rw (if-ne (f .size) 1, if-eq (f .size) 2) ((λ i. 256 * (first i - f .op) + second i) ∙ omega arith),
       )
 
-  told-4 : (k : ℕ) → Reads k f → v < spread k f → f .size ≡ 4 → Told numbered
+  told-4 : (k : ℕ) → Reads k f → v < spread k f → f .size ≡ 4 → ReadAs numbered
   unfolding fieldAt
   told-4 k r h e =
       let narrow : spread k f ≤ 2 ^ 24 = r .long e in
@@ -197,7 +197,7 @@ module _ (f : Form) (v : ℕ) (us vs : List ℕ) where
         rw (if-ne (f .size) 1, if-ne (f .size) 2) ((λ i. 65536 * b i + 256 * c i + d i) ∙ omega arith),
       )
 
-  told : (k : ℕ) → Reads k f → v < spread k f → Told numbered
+  told : (k : ℕ) → Reads k f → v < spread k f → ReadAs numbered
   told k r h =
       tested (eqb (f .size) 1) (λ t. told-1 k r h (eqb-yes t))
       λ s.

@@ -13,11 +13,11 @@ fn code_ok(cs: &[u64], i: usize) -> bool
     ensures { λ r. ⌜ r ≡ codeOkAt (now (cs .entry)) i ⌝ }
 {
     let kind = cs[3 * i];
-    if 17 < kind {
+    if arm64::PAC_SIGN_LR < kind {
         return false;
     }
-    if kind <= 12 {
-        if 4 <= kind {
+    if kind <= arm64::FREG_X {
+        if arm64::REGP <= kind {
             return true;
         }
         return cs[3 * i + 1] == 0;
@@ -25,7 +25,7 @@ fn code_ok(cs: &[u64], i: usize) -> bool
     if cs[3 * i + 1] != 0 {
         return false;
     }
-    if kind == 14 {
+    if kind == arm64::ADD_FP {
         return true;
     }
     cs[3 * i + 2] == 0

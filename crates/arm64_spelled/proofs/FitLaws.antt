@@ -17,7 +17,7 @@ use Rattle.arm64_spelled.proofs.FormLaws.{past-last, form-good}
 use Rattle.arm64.specs.declared.Form.{Form}
 use Rattle.arm64.specs.declared.Code.{Code}
 use Rattle.arm64.specs.Codes.{lastRegisters, formFor, registerField, offsetField, registerFits, offsetFits, codeFits, spelled, codeBytes, big}
-use Rattle.arm64_spelled.specs.Forms.{FormGood, Told, wordOf}
+use Rattle.arm64_spelled.specs.Forms.{FormGood, InRanges, wordOf}
 
 no-yes : false ≡ true → ⊥
 no-yes e = subst (λ (x : Bool). T (not x)) e tt
@@ -86,7 +86,7 @@ module _ (f : Form) (c : Code) (r : registerFits f c ≡ true) (o : offsetFits f
   unfolding offsetFits
   in-offsets = o
 
-  pub told : Told f c
+  pub told : InRanges f c
   told =
       let p = both-true (leb (f .more) (c .offset) && eqb (c .offset % f .scale) 0) (ltb (offsetField f c) (f .unit)) in-offsets in
       let q : (f .step ≡ 0 → ⊥) → (leb (f .first) (c .register) && leb (c .register) (getD lastRegisters (c .kind) 0)) ≡ true
@@ -102,7 +102,7 @@ module _ (f : Form) (c : Code) (r : registerFits f c ≡ true) (o : offsetFits f
         held = ltb-true (offsetField f c) (f .unit) (p .1);
       }
 
-pub fits-told : (c : Code) → codeFits c ≡ true → Told (formFor c) c
+pub fits-told : (c : Code) → codeFits c ≡ true → InRanges (formFor c) c
 unfolding codeFits
 fits-told c e =
     let p : (registerFits (formFor c) c ≡ true) × (offsetFits (formFor c) c ≡ true)
@@ -132,7 +132,7 @@ pub record Fields (f : Form) (c : Code) : Type 0 where
   pub product : f .unit * registerField f c ≤ 503316480
   pub below : offsetField f c < 16777216
 
-pub fields : (f : Form) (c : Code) → FormGood f → Told f c → registerField f c ≤ 30 → Fields f c
+pub fields : (f : Form) (c : Code) → FormGood f → InRanges f c → registerField f c ≤ 30 → Fields f c
 fields f c g t h =
     record { product = omega (arith, mul-le-mul (g .narrow) h); below = omega (arith, t .held, g .narrow) }
 

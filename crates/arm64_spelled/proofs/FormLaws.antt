@@ -6,7 +6,7 @@ use Prim.Native.Nat.{ℕ, zero, suc, _+_, _*_, _/_, _≤_, _<_, _^_}
 use native.Mathlib.Nat.{zero-add}
 use native.Mathlib.Omega.{arith}
 use lib.Dec.{T, leb, ltb, eqb}
-use lib.ListN.{getD}
+use lib.ListN.{length, getD}
 use mir.Facts.{leb-yes, yes-eqb}
 use Rattle.format.specs.Prelude.{pick, each, all}
 use Rattle.format.specs.Lists.{allIn}
@@ -43,26 +43,14 @@ opcode-form (suc (suc (suc (suc (suc (suc (suc (suc (suc (suc (suc (suc (suc (su
 opcode-form (suc (suc (suc (suc (suc (suc (suc (suc (suc (suc (suc (suc (suc (suc (suc (suc (suc zero))))))))))))))))) h = refl
 opcode-form (suc (suc (suc (suc (suc (suc (suc (suc (suc (suc (suc (suc (suc (suc (suc (suc (suc (suc k)))))))))))))))))) h = absurd (omega arith)
 
+-- behind a list's end stands the other value
+past-end : {A : Type 0} (xs : List A) (k : ℕ) (d : A) → length xs ≤ k → getD xs k d ≡ d
+past-end [] k d h = refl
+past-end (x ∷ xs) zero d h = absurd (omega arith)
+past-end (x ∷ xs) (suc k) d h = past-end xs k d (omega arith)
+
 past-kinds : (k : ℕ) → 17 < k → getD kindForms k reserved ≡ reserved
-past-kinds zero h = absurd (omega arith)
-past-kinds (suc zero) h = absurd (omega arith)
-past-kinds (suc (suc zero)) h = absurd (omega arith)
-past-kinds (suc (suc (suc zero))) h = absurd (omega arith)
-past-kinds (suc (suc (suc (suc zero)))) h = absurd (omega arith)
-past-kinds (suc (suc (suc (suc (suc zero))))) h = absurd (omega arith)
-past-kinds (suc (suc (suc (suc (suc (suc zero)))))) h = absurd (omega arith)
-past-kinds (suc (suc (suc (suc (suc (suc (suc zero))))))) h = absurd (omega arith)
-past-kinds (suc (suc (suc (suc (suc (suc (suc (suc zero)))))))) h = absurd (omega arith)
-past-kinds (suc (suc (suc (suc (suc (suc (suc (suc (suc zero))))))))) h = absurd (omega arith)
-past-kinds (suc (suc (suc (suc (suc (suc (suc (suc (suc (suc zero)))))))))) h = absurd (omega arith)
-past-kinds (suc (suc (suc (suc (suc (suc (suc (suc (suc (suc (suc zero))))))))))) h = absurd (omega arith)
-past-kinds (suc (suc (suc (suc (suc (suc (suc (suc (suc (suc (suc (suc zero)))))))))))) h = absurd (omega arith)
-past-kinds (suc (suc (suc (suc (suc (suc (suc (suc (suc (suc (suc (suc (suc zero))))))))))))) h = absurd (omega arith)
-past-kinds (suc (suc (suc (suc (suc (suc (suc (suc (suc (suc (suc (suc (suc (suc zero)))))))))))))) h = absurd (omega arith)
-past-kinds (suc (suc (suc (suc (suc (suc (suc (suc (suc (suc (suc (suc (suc (suc (suc zero))))))))))))))) h = absurd (omega arith)
-past-kinds (suc (suc (suc (suc (suc (suc (suc (suc (suc (suc (suc (suc (suc (suc (suc (suc zero)))))))))))))))) h = absurd (omega arith)
-past-kinds (suc (suc (suc (suc (suc (suc (suc (suc (suc (suc (suc (suc (suc (suc (suc (suc (suc zero))))))))))))))))) h = absurd (omega arith)
-past-kinds (suc (suc (suc (suc (suc (suc (suc (suc (suc (suc (suc (suc (suc (suc (suc (suc (suc (suc k)))))))))))))))))) h = refl
+past-kinds k h = past-end kindForms k reserved h
 
 module _ (c : Code) where
   pub no-kind : 17 < c .kind → formOf 0xdf ≡ formFor c
@@ -149,22 +137,4 @@ form-good c =
     λ t. rw (pick-no (eqb (c .kind) 0) (allocForm (c .offset)) (getD kindForms (c .kind) reserved) t) (kind-good (c .kind))
 
 pub past-last : (k : ℕ) → 17 < k → 0 ≡ getD lastRegisters k 0
-past-last zero h = absurd (omega arith)
-past-last (suc zero) h = absurd (omega arith)
-past-last (suc (suc zero)) h = absurd (omega arith)
-past-last (suc (suc (suc zero))) h = absurd (omega arith)
-past-last (suc (suc (suc (suc zero)))) h = absurd (omega arith)
-past-last (suc (suc (suc (suc (suc zero))))) h = absurd (omega arith)
-past-last (suc (suc (suc (suc (suc (suc zero)))))) h = absurd (omega arith)
-past-last (suc (suc (suc (suc (suc (suc (suc zero))))))) h = absurd (omega arith)
-past-last (suc (suc (suc (suc (suc (suc (suc (suc zero)))))))) h = absurd (omega arith)
-past-last (suc (suc (suc (suc (suc (suc (suc (suc (suc zero))))))))) h = absurd (omega arith)
-past-last (suc (suc (suc (suc (suc (suc (suc (suc (suc (suc zero)))))))))) h = absurd (omega arith)
-past-last (suc (suc (suc (suc (suc (suc (suc (suc (suc (suc (suc zero))))))))))) h = absurd (omega arith)
-past-last (suc (suc (suc (suc (suc (suc (suc (suc (suc (suc (suc (suc zero)))))))))))) h = absurd (omega arith)
-past-last (suc (suc (suc (suc (suc (suc (suc (suc (suc (suc (suc (suc (suc zero))))))))))))) h = absurd (omega arith)
-past-last (suc (suc (suc (suc (suc (suc (suc (suc (suc (suc (suc (suc (suc (suc zero)))))))))))))) h = absurd (omega arith)
-past-last (suc (suc (suc (suc (suc (suc (suc (suc (suc (suc (suc (suc (suc (suc (suc zero))))))))))))))) h = absurd (omega arith)
-past-last (suc (suc (suc (suc (suc (suc (suc (suc (suc (suc (suc (suc (suc (suc (suc (suc zero)))))))))))))))) h = absurd (omega arith)
-past-last (suc (suc (suc (suc (suc (suc (suc (suc (suc (suc (suc (suc (suc (suc (suc (suc (suc zero))))))))))))))))) h = absurd (omega arith)
-past-last (suc (suc (suc (suc (suc (suc (suc (suc (suc (suc (suc (suc (suc (suc (suc (suc (suc (suc k)))))))))))))))))) h = refl
+past-last k h = sym (past-end lastRegisters k 0 h)

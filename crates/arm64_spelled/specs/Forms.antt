@@ -16,7 +16,7 @@ pub record FormGood (f : Form) : Type 0 where
   pub near : f .more ≤ 8
 
 -- the register and the offset are in the form's ranges
-pub record Told (f : Form) (c : Code) : Type 0 where
+pub record InRanges (f : Form) (c : Code) : Type 0 where
   pub first : (f .step ≡ 0 → ⊥) → f .first ≤ c .register
   pub last : (f .step ≡ 0 → ⊥) → c .register ≤ 30
   pub more : f .more ≤ c .offset

@@ -6,7 +6,7 @@ ghost use Prim.Native.Nat.{_+_, _*_, _≤_, _<_};
 ghost use lib.ListN.{length, getD};
 ghost use Rattle.format.proofs.Wrote.{Wrote};
 ghost use Rattle.arm64.specs.Codes.{lastRegisters, formOf, formFor, registerField, offsetField, registerFits, offsetFits, codeFits, codeBytes, big};
-ghost use Rattle.arm64_spelled.specs.Forms.{FormGood, Told, wordOf};
+ghost use Rattle.arm64_spelled.specs.Forms.{FormGood, InRanges, wordOf};
 use arm64::Code;
 use arm64::Form;
 
@@ -147,7 +147,7 @@ pub fn code_size(c: Code) -> usize
 }
 
 fn register_field(f: Form, c: Code) -> u64
-    requires { ⌜ FormGood f × Told f c ⌝ }
+    requires { ⌜ FormGood f × InRanges f c ⌝ }
     ensures { λ r. ⌜ (r ≡ registerField f c) × (r ≤ 30) ⌝ }
 {
     if f.step == 0 {
@@ -158,7 +158,7 @@ fn register_field(f: Form, c: Code) -> u64
 
 // The opcode and the fields as one number, first byte highest.
 fn word_of(f: Form, c: Code) -> u64
-    requires { ⌜ FormGood f × Told f c ⌝ }
+    requires { ⌜ FormGood f × InRanges f c ⌝ }
     ensures { λ r. ⌜ r ≡ wordOf f c ⌝ }
 {
     let field = f.unit * register_field(f, c) + (c.offset - f.more) / f.scale;

@@ -43,11 +43,19 @@ fn put_row_relocs(out: &mut [u64], at: usize, place: u64, symbol: u64, word: u64
     requires { ⌜ (at + 5 * length (relocsBy place symbol word) ≤ length (now out)) × (place < 2 ^ 32) × (symbol < 2 ^ 32) ⌝ }
     ensures { λ r. ⌜ Wrote (now (out .entry)) (now (out .exit)) at r (numbersOf (relocsBy place symbol word)) ⌝ }
 {
-    let a = relocation(out, at, place, symbol, 4, 4, 0);
+    let a = relocation(out, at, place, symbol, relocs::IMAGE, 4, 0);
     if word != 0 {
         return a;
     }
-    relocation(out, a, place + 4, 4294967296 + symbol, 4, 4, 0)
+    relocation(
+        out,
+        a,
+        place + 4,
+        relocs::MARKER + symbol,
+        relocs::IMAGE,
+        4,
+        0,
+    )
 }
 
 // How many relocations a row has whose function's record has `size` bytes.
