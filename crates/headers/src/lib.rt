@@ -10,13 +10,13 @@ ghost use Rattle.format.specs.Lists.{numbersOf};
 ghost use Rattle.format.specs.Headers.{leading, padding, pointerReloc, plain, personal, named, letters, lsdaLetter, augmentationData, dataFactor, headerFields, headerBytes, pointerPlace, headerRelocs};
 ghost use Rattle.format.proofs.Fits.{MachineFits};
 ghost use Rattle.format.proofs.SectionSize.{Aligned};
-ghost use Rattle.leading.specs.Functions.{bodyOf, keyIn, Sound};
+ghost use Rattle.header_keys.specs.Functions.{bodyOf, keyIn, Sound};
 ghost use Rattle.headers.specs.Entries.{Closed};
-ghost use Rattle.leading.specs.Kinds.{lsdaOf, kindIn};
+ghost use Rattle.header_keys.specs.Kinds.{lsdaOf, kindIn};
 ghost use Rattle.headers.specs.Kinds.{headIn, EncodingFits, NamedFits, ending, middle, flag, namedLetters, namedData, tailOf, headerRelocCount};
 use format::Machine;
-use leading::Kind;
-use leading::kind_of;
+use header_keys::Kind;
+use header_keys::kind_of;
 use lists::Extent;
 
 // ---- the end of an entry
@@ -239,11 +239,11 @@ fn starts(out: &mut [u8], at: usize, m: Machine, e: Extent, rows: &[u64]) -> usi
     requires { ⌜ Sound m e (now rows) × (at + length (rowsBytes (m .word) (leading m (bodyOf e (now rows)))) ≤ length (now out)) ⌝ }
     ensures { λ r. ⌜ Wrote (now (out .entry)) (now (out .exit)) at r (rowsBytes (m .word) (leading m (bodyOf e (now (rows .entry))))) ⌝ }
 {
-    let n = leading::leading_count(m, e, rows);
+    let n = header_keys::leading_count(m, e, rows);
     let mut p = at;
     let mut i = 0;
     while i < n {
-        p = rows::row(out, p, m.word, leading::leading_at(m, e, rows, i));
+        p = rows::row(out, p, m.word, header_keys::leading_at(m, e, rows, i));
         i += 1;
     }
     p
@@ -254,11 +254,11 @@ fn starts_size(m: Machine, e: Extent, rows: &[u64]) -> usize
     requires { ⌜ Sound m e (now rows) ⌝ }
     ensures { λ r. ⌜ r ≡ length (rowsBytes (m .word) (leading m (bodyOf e (now (rows .entry))))) ⌝ }
 {
-    let n = leading::leading_count(m, e, rows);
+    let n = header_keys::leading_count(m, e, rows);
     let mut size = 0;
     let mut i = 0;
     while i < n {
-        size += rows::row_size(m.word, leading::leading_at(m, e, rows, i));
+        size += rows::row_size(m.word, header_keys::leading_at(m, e, rows, i));
         i += 1;
     }
     size

@@ -14,7 +14,7 @@ ghost use Rattle.format.specs.X64.{low16, frame, beforeRemember};
 ghost use Rattle.format.specs.declared.Row.the-variants.{DefCfa, DefCfaOffset, DefCfaRegister, Offset};
 ghost use Rattle.format.specs.declared.Seh.the-variants.{Push, Alloc, Frame, Save};
 ghost use Rattle.format.proofs.Fits.{MachineFits};
-ghost use Rattle.leading.specs.Functions.{RowsReady};
+ghost use Rattle.header_keys.specs.Functions.{RowsReady};
 ghost use Rattle.prologue.specs.Groups.{foundOf, knows, joined, joins, third, refused, counted, stepped, added, loneIn, pushIn, lastIn, rowIn, walkFrom, start, numberOf};
 ghost use Rattle.prologue.specs.Pieces.{Short, Ready, Shaped, pieceOf, namedCode, movedIn, pieceIn, endIn};
 use format::Machine;

@@ -14,7 +14,7 @@ ghost use Rattle.format.specs.X64.{runtimeRelocs, runtimeFrom, markersFrom, cod
 ghost use Rattle.format.specs.Questions.{accepted, unless, fitting, givenFunctions, windowsAsks, windowsAnswer, seh, givenOf, roomIn};
 ghost use Rattle.format.specs.Machine.{machineOf};
 ghost use Rattle.format.proofs.Fits.{MachineFits};
-ghost use Rattle.leading.specs.Functions.{RowsReady};
+ghost use Rattle.header_keys.specs.Functions.{RowsReady};
 ghost use Rattle.codes.specs.Codes.{Holds, numberOf, frameAsk};
 ghost use Rattle.prologue.specs.Pieces.{Short, pieceOf};
 ghost use Rattle.x64.specs.Sources.{Readable, pieceAt, movedAt, codesIn, directSpan, RowsSpan, Askable, Found, Listed, Writable, strideOf, longNo, passNo, foundAt, asksOf, tableOf};

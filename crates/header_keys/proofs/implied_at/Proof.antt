@@ -1,8 +1,8 @@
--- `leading::implied_at` meets its contract.
+-- `header_keys::implied_at` meets its contract.
 use borrow.Author.Needs.{needs}
-use Rattle.leading.proofs.Calls.{below-fits, frame-row, return-row}
-use Rattle.leading.proofs.implied_at.Statement.{statement}
-use Rattle.leading.proofs.implied_at.Tie as tie
+use Rattle.header_keys.proofs.Calls.{below-fits, frame-row, return-row}
+use Rattle.header_keys.proofs.implied_at.Statement.{statement}
+use Rattle.header_keys.proofs.implied_at.Tie as tie
 
 cast-pushed : tie.Need-cast-pushed
 cast-pushed c = search needs

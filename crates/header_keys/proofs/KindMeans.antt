@@ -13,10 +13,10 @@ use Rattle.format.specs.Lists.{Landing, Pointer, Named, landingAt}
 use Rattle.format.specs.Headers.{Kind, plain, personal, named, keyOf, encodingOf, namedKind, kindFor}
 use Rattle.lists.specs.declared.Extent.{Extent}
 use Rattle.lists.specs.Extents.{meant}
-use Rattle.leading.specs.Functions.{keyIn}
-use Rattle.leading.specs.Kinds.{lsdaOf, lsdaIn, kindIn, Decides}
-use Rattle.leading.specs.declared.Kind as declared
-use Rattle.leading.specs.declared.Kind.the-variants as variants
+use Rattle.header_keys.specs.Functions.{keyIn}
+use Rattle.header_keys.specs.Kinds.{lsdaOf, lsdaIn, kindIn, Decides}
+use Rattle.header_keys.specs.declared.Kind as declared
+use Rattle.header_keys.specs.declared.Kind.the-variants as variants
 
 by-landings : (f : ℕ → Landing) (at n : ℕ) (o : Option Named) → kindFor (each f at n) o ≡ pick (eqb n 0) (namedKind o) personal
 unfolding each kindFor pick

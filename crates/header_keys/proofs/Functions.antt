@@ -8,7 +8,7 @@ use Rattle.format.specs.declared.Section.the-variants.{Elf, Debug}
 use Rattle.format.specs.Writer.{taken, withoutExceptions}
 use Rattle.lists.specs.declared.Extent.{Extent}
 use Rattle.lists.specs.Extents.{meant}
-use Rattle.leading.specs.Functions.{without, takenIn}
+use Rattle.header_keys.specs.Functions.{without, takenIn}
 
 pub taken-means : (s : Section) (e : Extent) (rows landings pairs : List ℕ)
     → meant (takenIn s e) rows landings pairs ≡ taken s (meant e rows landings pairs)

@@ -1,9 +1,9 @@
--- `leading::taken` meets its contract.
+-- `header_keys::taken` meets its contract.
 use mathlib.Core.Path.{refl}
 use borrow.Author.Needs.{needs}
-use Rattle.leading.specs.Functions.{takenIn, without}
-use Rattle.leading.proofs.taken.Statement.{statement}
-use Rattle.leading.proofs.taken.Tie as tie
+use Rattle.header_keys.specs.Functions.{takenIn, without}
+use Rattle.header_keys.proofs.taken.Statement.{statement}
+use Rattle.header_keys.proofs.taken.Tie as tie
 
 enum-told : tie.Need-enum-told
 enum-told c = search needs

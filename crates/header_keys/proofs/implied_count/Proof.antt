@@ -1,10 +1,10 @@
--- `leading::implied_count` meets its contract.
+-- `header_keys::implied_count` meets its contract.
 use native.Mathlib.Omega.{arith}
 use borrow.Author.Tests.{eq-eqb, ne-eqb}
 use Rattle.format.specs.Prelude.{pick}
 use Rattle.format.specs.Headers.{implied}
-use Rattle.leading.proofs.implied_count.Statement.{statement}
-use Rattle.leading.proofs.implied_count.Tie as tie
+use Rattle.header_keys.proofs.implied_count.Statement.{statement}
+use Rattle.header_keys.proofs.implied_count.Tie as tie
 
 returns : tie.Need-returns
 unfolding pick

@@ -1,10 +1,10 @@
--- `leading::ahead` meets its contract.
+-- `header_keys::ahead` meets its contract.
 use Prim.Native.Nat.{_-_}
 use Rattle.format.specs.Lists.{rowAt}
-use Rattle.leading.proofs.Counting.{Counting, start, turn, stopped, ended}
+use Rattle.header_keys.proofs.Counting.{Counting, start, turn, stopped, ended}
 use borrow.Author.Needs.{needs}
-use Rattle.leading.proofs.ahead.Statement.{statement}
-use Rattle.leading.proofs.ahead.Tie as tie
+use Rattle.header_keys.proofs.ahead.Statement.{statement}
+use Rattle.header_keys.proofs.ahead.Tie as tie
 
 abbrev Inv-loop : tie.InvT-loop
 Inv-loop rows at n i₀ i = Counting (rowAt rows) at n i

@@ -16,7 +16,7 @@ use Rattle.format.specs.Headers.{implied, leads, ahead, leading}
 use Rattle.format.proofs.Choice.{pick-yes, pick-no, tested}
 use Rattle.lists.specs.declared.Extent.{Extent}
 use Rattle.lists.specs.Extents.{meant}
-use Rattle.leading.specs.Functions.{bodyOf}
+use Rattle.header_keys.specs.Functions.{bodyOf}
 
 -- a row of those that are there unless a mark is set
 unless : (b : Bool) (xs ys : List Row) (i : ℕ) → i < length (pick b [] xs)

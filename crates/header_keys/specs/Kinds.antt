@@ -7,8 +7,8 @@ use lib.Dec.{eqb}
 use Rattle.format.specs.Prelude.{pick}
 use Rattle.format.specs.Headers.{Kind, plain, personal, named}
 use Rattle.lists.specs.declared.Extent.{Extent}
-use Rattle.leading.specs.declared.Kind as declared
-use Rattle.leading.specs.declared.Kind.the-variants as variants
+use Rattle.header_keys.specs.declared.Kind as declared
+use Rattle.header_keys.specs.declared.Kind.the-variants as variants
 
 -- the LSDA's encoding, if there is an LSDA
 unfoldable pub lsdaOf : Bool → ℕ → Option ℕ

@@ -1,4 +1,4 @@
--- `leading::leading_at` meets its contract.
+-- `header_keys::leading_at` meets its contract.
 use mathlib.Core.Path.{_≡_, sym, _∙_}
 use Prim.Native.Nat.{_+_, _-_, _<_}
 use native.Mathlib.Omega.{arith}
@@ -8,10 +8,10 @@ use Rattle.format.specs.declared.Row.the-variants.{RememberState}
 use Rattle.format.specs.Lists.{rowAt}
 use Rattle.format.specs.Headers.{leading}
 use Rattle.format.proofs.ListLaws.{in-range}
-use Rattle.leading.specs.Functions.{bodyOf}
-use Rattle.leading.proofs.Places.{call-row, own-row}
-use Rattle.leading.proofs.leading_at.Statement.{statement}
-use Rattle.leading.proofs.leading_at.Tie as tie
+use Rattle.header_keys.specs.Functions.{bodyOf}
+use Rattle.header_keys.proofs.Places.{call-row, own-row}
+use Rattle.header_keys.proofs.leading_at.Statement.{statement}
+use Rattle.header_keys.proofs.leading_at.Tie as tie
 
 implied-count-requires : tie.Need-implied-count-requires
 implied-count-requires c κs = search needs

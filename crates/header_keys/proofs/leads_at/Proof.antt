@@ -1,11 +1,11 @@
--- `leading::leads_at` meets its contract.
+-- `header_keys::leads_at` meets its contract.
 use borrow.Author.Tests.{eq-eqb, ne-eqb}
 use borrow.Author.Needs.{needs}
 use Rattle.format.specs.Lists.{rowAt}
 use Rattle.format.specs.Headers.{leads}
-use Rattle.leading.proofs.Counting.{remembers}
-use Rattle.leading.proofs.leads_at.Statement.{statement}
-use Rattle.leading.proofs.leads_at.Tie as tie
+use Rattle.header_keys.proofs.Counting.{remembers}
+use Rattle.header_keys.proofs.leads_at.Statement.{statement}
+use Rattle.header_keys.proofs.leads_at.Tie as tie
 
 offset-at-requires : tie.Need-offset-at-requires
 offset-at-requires c κs = search needs

@@ -1,10 +1,10 @@
--- `leading::leading_count` meets its contract.
+-- `header_keys::leading_count` meets its contract.
 use borrow.Author.Needs.{needs}
 use lib.ListN.{length-append}
 use Rattle.format.specs.Headers.{leading}
 use Rattle.lists.specs.Extents.{meant}
-use Rattle.leading.proofs.leading_count.Statement.{statement}
-use Rattle.leading.proofs.leading_count.Tie as tie
+use Rattle.header_keys.proofs.leading_count.Statement.{statement}
+use Rattle.header_keys.proofs.leading_count.Tie as tie
 
 implied-count-requires : tie.Need-implied-count-requires
 implied-count-requires c κs = search needs

@@ -1,4 +1,4 @@
-// A function's record as a section takes it, and its leading rows. Ported from rucc-asm/src/unwind.rs (leading, dwarf) of tamnd/rucc, changed: see NOTICE.
+// What a header is reused by: a function's record as a section takes it, the kind of its header, and its leading rows. Ported from rucc-asm/src/unwind.rs (leading, dwarf) of tamnd/rucc, changed: see NOTICE.
 ghost use mathlib.Core.Path.{_≡_};
 ghost use mathlib.Core.List.{[]};
 ghost use Prim.Native.Nat.{_+_, _*_, _≤_, _<_};
@@ -8,8 +8,8 @@ ghost use Rattle.format.specs.declared.Row.the-variants.{RememberState};
 ghost use Rattle.format.specs.Headers.{implied, leads, ahead, leading};
 ghost use Rattle.format.specs.Lists.{rowAt};
 ghost use Rattle.format.proofs.Fits.{MachineFits};
-ghost use Rattle.leading.specs.Functions.{takenIn, bodyOf, RowsReady};
-ghost use Rattle.leading.specs.Kinds.{Decides};
+ghost use Rattle.header_keys.specs.Functions.{takenIn, bodyOf, RowsReady};
+ghost use Rattle.header_keys.specs.Kinds.{Decides};
 use format::Machine;
 use format::Row;
 use format::Section;
