@@ -1,10 +1,13 @@
-// Numbers that the writers and the readers share: sizes of words and of pointers by their encodings, what marks a header, and signed numbers as 64 bits. Ported from rucc-asm/src/unwind.rs (pointer_size) of tamnd/rucc, changed: see NOTICE.
+// Numbers that the writers and the readers share: sizes of words and of pointers by their encodings, what marks a header, signed numbers as 64 bits, opcodes and kinds of rows. Ported from rucc-asm/src/unwind.rs (pointer_size) of tamnd/rucc, changed: see NOTICE.
 ghost use mathlib.Core.Path.{_≡_};
 ghost use Prim.Native.Nat.{_≤_};
 ghost use mir.Syntax.{w64};
 ghost use mir.Val.{ofZ};
 ghost use Rattle.format.specs.Machine.{isWord};
 ghost use Rattle.format.specs.Headers.{sizeOf, sizeOr0, pointerSize, pointerBytes, headerId};
+
+pub mod kinds;
+pub mod opcodes;
 
 // A machine's word has 2, 4 or 8 bytes.
 pub fn is_word(w: u64) -> bool
