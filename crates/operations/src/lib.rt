@@ -15,6 +15,7 @@ use format::Operation;
 use format::Row;
 use format::Signed;
 use format::Unsigned;
+use numbers::opcodes;
 
 pub mod fields;
 
@@ -101,13 +102,13 @@ fn operand_at(s: &[u8], at: usize, word: u64, b: u8) -> Signed
     requires { ⌜ 0 < word ⌝ }
     ensures { λ r. ⌜ r ≡ operandAt word b (now (s .entry)) at ⌝ }
 {
-    if b == 0x05 {
+    if b == opcodes::DW_CFA_OFFSET_EXTENDED {
         return factored_at(s, at, word);
     }
-    if b == 0x0c {
+    if b == opcodes::DW_CFA_DEF_CFA {
         return plain_at(s, at);
     }
-    if b == 0x0e {
+    if b == opcodes::DW_CFA_DEF_CFA_OFFSET {
         return plain_at(s, at);
     }
     signed_at(s, at, word)
@@ -119,13 +120,13 @@ fn operand_at(s: &[u8], at: usize, word: u64, b: u8) -> Signed
 fn register_row(b: u8, reg: u16) -> Row
     ensures { λ r. ⌜ r ≡ registerRow b reg ⌝ }
 {
-    if b == 0x06 {
+    if b == opcodes::DW_CFA_RESTORE_EXTENDED {
         return Row::Restore(reg);
     }
-    if b == 0x07 {
+    if b == opcodes::DW_CFA_UNDEFINED {
         return Row::Undefined(reg);
     }
-    if b == 0x08 {
+    if b == opcodes::DW_CFA_SAME_VALUE {
         return Row::SameValue(reg);
     }
     Row::DefCfaRegister(reg)
@@ -134,10 +135,10 @@ fn register_row(b: u8, reg: u16) -> Row
 fn pair_row(b: u8, reg: u16, z: i64) -> Row
     ensures { λ r. ⌜ r ≡ pairRow b reg z ⌝ }
 {
-    if b == 0x05 {
+    if b == opcodes::DW_CFA_OFFSET_EXTENDED {
         return Row::Offset(reg, z);
     }
-    if b == 0x11 {
+    if b == opcodes::DW_CFA_OFFSET_EXTENDED_SF {
         return Row::Offset(reg, z);
     }
     Row::DefCfa(reg, z)
@@ -216,30 +217,36 @@ fn saved_at(s: &[u8], at: usize, word: u64, reg: u16) -> Decoded
     Decoded::Operation(Operation::Does(Row::Offset(reg, z)), past)
 }
 
-// The operations below 0x40, behind their opcode b.
+// The operations whose opcode b holds no number, behind it.
 fn extended_at(s: &[u8], at: usize, word: u64, b: u8) -> Decoded
     requires { ⌜ (0 < word) × (at ≤ length (now s)) ⌝ }
     ensures { λ r. ⌜ r ≡ extendedAt word b (now (s .entry)) at ⌝ }
 {
     match b {
-        0x00 => Decoded::Operation(Operation::Nop, at),
-        0x02 => step_at(s, at, 1),
-        0x03 => step_at(s, at, 2),
-        0x04 => step_at(s, at, 4),
-        0x05 => pair_row_at(s, at, word, b),
-        0x06 => register_row_at(s, at, b),
-        0x07 => register_row_at(s, at, b),
-        0x08 => register_row_at(s, at, b),
-        0x09 => in_register_at(s, at),
-        0x0a => Decoded::Operation(Operation::Does(Row::RememberState), at),
-        0x0b => Decoded::Operation(Operation::Does(Row::RestoreState), at),
-        0x0c => pair_row_at(s, at, word, b),
-        0x0d => register_row_at(s, at, b),
-        0x0e => offset_row_at(s, at, word, b),
-        0x11 => pair_row_at(s, at, word, b),
-        0x12 => pair_row_at(s, at, word, b),
-        0x13 => offset_row_at(s, at, word, b),
-        0x2d => Decoded::Operation(Operation::Does(Row::NegateRaState), at),
+        opcodes::DW_CFA_NOP => Decoded::Operation(Operation::Nop, at),
+        opcodes::DW_CFA_ADVANCE_LOC1 => step_at(s, at, 1),
+        opcodes::DW_CFA_ADVANCE_LOC2 => step_at(s, at, 2),
+        opcodes::DW_CFA_ADVANCE_LOC4 => step_at(s, at, 4),
+        opcodes::DW_CFA_OFFSET_EXTENDED => pair_row_at(s, at, word, b),
+        opcodes::DW_CFA_RESTORE_EXTENDED => register_row_at(s, at, b),
+        opcodes::DW_CFA_UNDEFINED => register_row_at(s, at, b),
+        opcodes::DW_CFA_SAME_VALUE => register_row_at(s, at, b),
+        opcodes::DW_CFA_REGISTER => in_register_at(s, at),
+        opcodes::DW_CFA_REMEMBER_STATE => Decoded::Operation(
+            Operation::Does(Row::RememberState),
+            at,
+        ),
+        opcodes::DW_CFA_RESTORE_STATE => Decoded::Operation(Operation::Does(Row::RestoreState), at),
+        opcodes::DW_CFA_DEF_CFA => pair_row_at(s, at, word, b),
+        opcodes::DW_CFA_DEF_CFA_REGISTER => register_row_at(s, at, b),
+        opcodes::DW_CFA_DEF_CFA_OFFSET => offset_row_at(s, at, word, b),
+        opcodes::DW_CFA_OFFSET_EXTENDED_SF => pair_row_at(s, at, word, b),
+        opcodes::DW_CFA_DEF_CFA_SF => pair_row_at(s, at, word, b),
+        opcodes::DW_CFA_DEF_CFA_OFFSET_SF => offset_row_at(s, at, word, b),
+        opcodes::DW_CFA_AARCH64_NEGATE_RA_STATE => Decoded::Operation(
+            Operation::Does(Row::NegateRaState),
+            at,
+        ),
         _ => Decoded::Bad,
     }
 }
@@ -253,14 +260,20 @@ pub fn operation(s: &[u8], at: usize, word: u64) -> Decoded
         return Decoded::Bad;
     }
     let b = s[at];
-    if b < 0x40 {
+    if b < opcodes::DW_CFA_ADVANCE_LOC {
         return extended_at(s, at + 1, word, b);
     }
-    if b < 0x80 {
-        return Decoded::Operation(Operation::Step((b - 0x40) as u64), at + 1);
+    if b < opcodes::DW_CFA_OFFSET {
+        return Decoded::Operation(
+            Operation::Step((b - opcodes::DW_CFA_ADVANCE_LOC) as u64),
+            at + 1,
+        );
     }
-    if b < 0xc0 {
-        return saved_at(s, at + 1, word, (b - 0x80) as u16);
+    if b < opcodes::DW_CFA_RESTORE {
+        return saved_at(s, at + 1, word, (b - opcodes::DW_CFA_OFFSET) as u16);
     }
-    Decoded::Operation(Operation::Does(Row::Restore((b - 0xc0) as u16)), at + 1)
+    Decoded::Operation(
+        Operation::Does(Row::Restore((b - opcodes::DW_CFA_RESTORE) as u16)),
+        at + 1,
+    )
 }
