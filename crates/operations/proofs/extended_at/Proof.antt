@@ -1,4 +1,4 @@
--- `rows::extended_at` meets its contract.
+-- `operations::extended_at` meets its contract.
 use mathlib.Core.Path.{sym}
 use borrow.Author.Tests.{ne-eqb}
 use borrow.Author.Needs.{needs}

@@ -1,4 +1,4 @@
--- `rows::factored_at` meets its contract.
+-- `operations::factored_at` meets its contract.
 use mathlib.Core.Path.{sym, _∙_}
 use borrow.Author.Needs.{needs}
 use Rattle.operations.proofs.Operations.{factored-none, factored-held}

@@ -1,4 +1,4 @@
--- `rows::in_register_at` meets its contract.
+-- `operations::in_register_at` meets its contract.
 use mathlib.Core.Path.{sym, _∙_}
 use native.Mathlib.Omega.{arith}
 use borrow.Author.Needs.{needs}

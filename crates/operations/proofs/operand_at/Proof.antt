@@ -1,4 +1,4 @@
--- `rows::operand_at` meets its contract.
+-- `operations::operand_at` meets its contract.
 use borrow.Author.Needs.{needs}
 use Rattle.format.proofs.Choice.{if-eq, if-ne}
 use Rattle.operations.specs.Reads.{operandAt, readOperand, factoredAt, plainAt, signedAt}

@@ -1,4 +1,4 @@
--- `rows::operation` meets its contract.
+-- `operations::operation` meets its contract.
 use mathlib.Core.Path.{sym, _∙_}
 use native.Mathlib.Omega.{arith}
 use borrow.Author.Needs.{needs}

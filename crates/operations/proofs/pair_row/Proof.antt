@@ -1,4 +1,4 @@
--- `rows::pair_row` meets its contract.
+-- `operations::pair_row` meets its contract.
 use mir.Facts.{toZ-ofZ}
 use Rattle.format.proofs.Choice.{if-eq, if-ne}
 use Rattle.operations.specs.Reads.{pairRow}

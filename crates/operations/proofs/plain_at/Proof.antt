@@ -1,4 +1,4 @@
--- `rows::plain_at` meets its contract.
+-- `operations::plain_at` meets its contract.
 use mathlib.Core.Path.{sym, _∙_}
 use mir.Syntax.{w64}
 use mir.Facts.{toZ-pos}

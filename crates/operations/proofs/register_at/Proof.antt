@@ -1,4 +1,4 @@
--- `rows::register_at` meets its contract.
+-- `operations::register_at` meets its contract.
 use mathlib.Core.Path.{sym, _∙_}
 use borrow.Author.Needs.{needs}
 use Rattle.operations.proofs.Operations.{register-none, register-held, register-over}

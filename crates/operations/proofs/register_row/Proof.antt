@@ -1,4 +1,4 @@
--- `rows::register_row` meets its contract.
+-- `operations::register_row` meets its contract.
 use Rattle.format.proofs.Choice.{if-eq, if-ne}
 use Rattle.operations.specs.Reads.{registerRow}
 use Rattle.operations.proofs.register_row.Statement.{statement}

@@ -1,4 +1,4 @@
--- `rows::register_row_at` meets its contract.
+-- `operations::register_row_at` meets its contract.
 use mathlib.Core.Path.{sym, _∙_}
 use native.Mathlib.Omega.{arith}
 use borrow.Author.Needs.{needs}

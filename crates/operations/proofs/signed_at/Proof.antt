@@ -1,4 +1,4 @@
--- `rows::signed_at` meets its contract.
+-- `operations::signed_at` meets its contract.
 use mathlib.Core.Path.{sym, _∙_}
 use native.Mathlib.Omega.{arith}
 use mir.Syntax.{w64}

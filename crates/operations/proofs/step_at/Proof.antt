@@ -1,4 +1,4 @@
--- `rows::step_at` meets its contract.
+-- `operations::step_at` meets its contract.
 use mathlib.Core.Path.{sym, _∙_}
 use borrow.Author.Needs.{needs}
 use Rattle.operations.proofs.Operations.{step-none, step-some}

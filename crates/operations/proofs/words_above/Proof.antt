@@ -1,4 +1,4 @@
--- `rows::words_above` meets its contract.
+-- `operations::words_above` meets its contract.
 use mathlib.Core.Path.{sym}
 use Prim.Native.Nat.{_*_, _^_, _<_}
 use native.Mathlib.Omega.{arith}

@@ -1,4 +1,4 @@
--- `rows::words_below` meets its contract.
+-- `operations::words_below` meets its contract.
 use mathlib.Core.Path.{sym}
 use Prim.Native.Nat.{_-_, _*_, _<_}
 use native.Mathlib.Omega.{arith}
