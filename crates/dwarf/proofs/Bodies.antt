@@ -12,7 +12,7 @@ use Rattle.format.specs.Records.{lsdaBlank, lsdaReloc, sizeField, sumPair, reco
 use Rattle.format.specs.Questions.{encodingsOk}
 use Rattle.lists.specs.declared.Extent.{Extent}
 use Rattle.lists.specs.Extents.{meant}
-use Rattle.leading.specs.Functions.{bodyOf, keyIn}
+use Rattle.header_keys.specs.Functions.{bodyOf, keyIn}
 
 -- ---- landings
 

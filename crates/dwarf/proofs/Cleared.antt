@@ -22,7 +22,7 @@ use Rattle.format.proofs.Fits.{FunctionFits, rowCount}
 use Rattle.format.proofs.Parts.{bytesOf, relocsOf}
 use Rattle.dwarf.proofs.Bodies.{rows-body, encodings-body}
 use Rattle.dwarf.proofs.Passed.{askable, encoding-taken, rows-few-at, landings-taken, listed, functions-few, rows-few-in, landings-few-in}
-use Rattle.leading.specs.Functions.{takenIn, without, Sound}
+use Rattle.header_keys.specs.Functions.{takenIn, without, Sound}
 use Rattle.lists.specs.declared.Extent.{Extent}
 use Rattle.lists.specs.Extents.{extentAt, meant}
 use Rattle.dwarf.specs.Parts.{Inputs, inputs, countIn, extentIn, functionIn, bytesIn, relocsIn, sitesIn, partsTo}

@@ -13,7 +13,7 @@ use Rattle.format.specs.Headers.{pointerSize, sizeOr0}
 use Rattle.format.specs.Questions.{isSome, lsdaOk, namedOk, encodingsOk}
 use Rattle.lists.specs.declared.Extent.{Extent}
 use Rattle.lists.specs.Extents.{meant}
-use Rattle.leading.specs.Functions.{bodyOf}
+use Rattle.header_keys.specs.Functions.{bodyOf}
 use Rattle.numbers.proofs.Pointers.{size-accepts}
 
 -- ---- a function's encodings

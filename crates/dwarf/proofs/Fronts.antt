@@ -13,7 +13,7 @@ use Rattle.format.specs.Headers.{Key, keyOf}
 use Rattle.format.specs.Writer.{Part, taken, partOf, isEmpty, partsFrom, partsOf, joined, dwarf}
 use Rattle.lists.specs.Extents.{extentAt}
 use Rattle.lists.proofs.Extents.{means}
-use Rattle.leading.proofs.Functions.{taken-means}
+use Rattle.header_keys.proofs.Functions.{taken-means}
 use Rattle.dwarf.specs.Parts.{Inputs, countIn, functionIn, placesIn, bytesIn, relocsIn, sitesIn, seenFrom, earlierIn, partBehind, partsTo, writtenIn}
 
 -- ---- lists one behind the other

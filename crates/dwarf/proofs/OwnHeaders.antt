@@ -13,7 +13,7 @@ use Rattle.format.proofs.Fits.{MachineFits}
 use Rattle.format.proofs.PutLaws.{idle}
 use Rattle.format.proofs.SectionSize.{Aligned}
 use Rattle.lists.specs.declared.Extent.{Extent}
-use Rattle.leading.specs.Functions.{keyIn, Sound}
+use Rattle.header_keys.specs.Functions.{keyIn, Sound}
 use Rattle.headers.specs.Kinds.{EncodingFits, headerRelocCount}
 use Rattle.headers.proofs.Personalities.{header-relocs-count}
 use Rattle.dwarf.specs.declared.Table.{Table}

@@ -17,7 +17,7 @@ use Rattle.format.proofs.PutLaws.{_then_, kept}
 use Rattle.format.proofs.SectionSize.{Aligned}
 use Rattle.lists.specs.declared.Extent.{Extent}
 use Rattle.lists.specs.Extents.{meant}
-use Rattle.leading.specs.Functions.{bodyOf, Sound, LandingsReady, PairsReady}
+use Rattle.header_keys.specs.Functions.{bodyOf, Sound, LandingsReady, PairsReady}
 use Rattle.format.proofs.ListLaws.{numbers-length}
 use Rattle.records.proofs.LabelLaws.{numbers-append}
 use Rattle.records.proofs.RelocLaws.{relocs-count}

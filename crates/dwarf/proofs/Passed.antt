@@ -14,7 +14,7 @@ use Rattle.format.proofs.Choice.{pick-yes}
 use Rattle.format.proofs.ListLaws.{chained, in-range}
 use Rattle.lists.specs.declared.Extent.{Extent}
 use Rattle.lists.specs.Extents.{extentAt}
-use Rattle.leading.specs.Functions.{takenIn, without, RowsReady, LandingsReady, PairsReady, Listed}
+use Rattle.header_keys.specs.Functions.{takenIn, without, RowsReady, LandingsReady, PairsReady, Listed}
 use Rattle.headers.specs.Kinds.{EncodingFits}
 use Rattle.dwarf.specs.Asks.{Askable, AllAskable}
 

@@ -13,7 +13,7 @@ use Rattle.format.specs.Writer.{Part, isDebug, partWith}
 use Rattle.format.specs.Headers.{headerBytes, headerRelocs}
 use Rattle.lists.specs.declared.Extent.{Extent}
 use Rattle.lists.specs.Extents.{meant}
-use Rattle.leading.specs.Functions.{keyIn}
+use Rattle.header_keys.specs.Functions.{keyIn}
 use Rattle.owners.specs.Owners.{owner}
 use Rattle.headers.specs.Kinds.{headerRelocCount}
 use Rattle.headers.proofs.Personalities.{header-relocs-count, header-relocs-any}

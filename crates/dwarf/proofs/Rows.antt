@@ -11,7 +11,7 @@ use Rattle.format.specs.Prelude.{all, each}
 use Rattle.format.specs.Lists.{field, rowStride, rowAt, allIn, rowOkAt}
 use Rattle.format.specs.Questions.{stepsOk}
 use Rattle.format.proofs.ListLaws.{in-range}
-use Rattle.leading.specs.Functions.{RowsReady}
+use Rattle.header_keys.specs.Functions.{RowsReady}
 
 -- a test of each record that stands at a range of numbers
 pub all-in : {A : Type 0} (f : A → Bool) (g : ℕ → A) (at n : ℕ) → allIn (λ i. f (g i)) at n ≡ all f (each g at n)

@@ -17,7 +17,7 @@ use Rattle.format.specs.Writer.{Part, isDebug}
 use Rattle.format.proofs.Choice.{either}
 use Rattle.lists.specs.declared.Extent.{Extent}
 use Rattle.lists.specs.Extents.{meant}
-use Rattle.leading.specs.Functions.{bodyOf, keyIn, Sound}
+use Rattle.header_keys.specs.Functions.{bodyOf, keyIn, Sound}
 use Rattle.owners.specs.Owners.{owner}
 use Rattle.format.proofs.ListLaws.{numbers-length}
 use Rattle.records.proofs.LabelLaws.{numbers-append}

@@ -7,7 +7,7 @@ use Rattle.format.specs.declared.Section.{Section}
 use Rattle.format.specs.Lists.{Function, count, functionStride}
 use Rattle.lists.specs.declared.Extent.{Extent}
 use Rattle.lists.specs.Extents.{extentAt, meant}
-use Rattle.leading.specs.Functions.{takenIn, RowsReady, PairsReady}
+use Rattle.header_keys.specs.Functions.{takenIn, RowsReady, PairsReady}
 
 -- its rows can be read and, where it has relaxing labels, its pairs
 pub record Askable (e : Extent) (rows pairs : List ℕ) : Type 0 where

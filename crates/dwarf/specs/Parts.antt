@@ -11,7 +11,7 @@ use Rattle.format.specs.Headers.{Key, keyOf}
 use Rattle.format.specs.Writer.{Part, Seen, Written, placeIn, partWith, alignFor, joined}
 use Rattle.lists.specs.declared.Extent.{Extent}
 use Rattle.lists.specs.Extents.{extentAt, meant}
-use Rattle.leading.specs.Functions.{takenIn}
+use Rattle.header_keys.specs.Functions.{takenIn}
 
 -- what a pass goes over: a section of a machine's functions
 pub record Inputs : Type 0 where

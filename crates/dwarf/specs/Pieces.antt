@@ -12,7 +12,7 @@ use Rattle.format.specs.CallSites.{sitePad, siteAdded}
 use Rattle.format.specs.Writer.{Part}
 use Rattle.lists.specs.declared.Extent.{Extent}
 use Rattle.lists.specs.Extents.{meant}
-use Rattle.leading.specs.Functions.{bodyOf, keyIn}
+use Rattle.header_keys.specs.Functions.{bodyOf, keyIn}
 
 -- its own header, or nothing; and the relocations of that
 unfoldable pub frontIn : (own debug : Bool) → Machine → (align at : ℕ) → Extent → (rows : List ℕ) → List ℕ

@@ -13,7 +13,7 @@ use Rattle.format.specs.declared.Counts.{Counts}
 use Rattle.format.specs.Writer.{Part}
 use Rattle.format.proofs.SectionSize.{Aligned}
 use Rattle.lists.specs.declared.Extent.{Extent}
-use Rattle.leading.specs.Functions.{Sound, LandingsReady, PairsReady}
+use Rattle.header_keys.specs.Functions.{Sound, LandingsReady, PairsReady}
 use Rattle.headers.specs.Kinds.{EncodingFits}
 use Rattle.dwarf.specs.declared.Table.{Table}
 use Rattle.dwarf.specs.declared.Chosen.{Chosen}

@@ -5,7 +5,7 @@ use Prim.Native.Nat.{ℕ, suc, _^_, _≤_, _<_}
 use mathlib.Core.List.{List}
 use lib.ListN.{length, getD}
 use Rattle.format.specs.Lists.{numbersOf, mostFunctions}
-use Rattle.leading.specs.Functions.{Sound, LandingsReady, PairsReady, Listed}
+use Rattle.header_keys.specs.Functions.{Sound, LandingsReady, PairsReady, Listed}
 use Rattle.headers.specs.Kinds.{EncodingFits}
 use Rattle.dwarf.specs.declared.Table.{Table}
 use Rattle.dwarf.specs.Tables.{totalsIn, mostIn, Few, Covers, Holds}

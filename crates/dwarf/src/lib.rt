@@ -16,7 +16,7 @@ ghost use Rattle.format.proofs.Asked.{questionOf};
 ghost use Rattle.lists.specs.Extents.{meant};
 ghost use Rattle.lists.specs.Room.{roomFor};
 ghost use Rattle.format.proofs.SectionSize.{Aligned};
-ghost use Rattle.leading.specs.Functions.{bodyOf, Sound, RowsReady, PairsReady};
+ghost use Rattle.header_keys.specs.Functions.{bodyOf, Sound, RowsReady, PairsReady};
 ghost use Rattle.dwarf.specs.Asks.{Askable, AllAskable, askedIn};
 ghost use Rattle.dwarf.specs.Parts.{inputs, writtenIn, partsTo};
 ghost use Rattle.dwarf.specs.Writable.{Cleared, Next, PartReady};
@@ -28,14 +28,14 @@ use format::Machine;
 use format::Outcome;
 use format::Question;
 use format::Section;
+use header_keys::Kind;
+use header_keys::kind_of;
+use header_keys::taken;
 use headers::header;
 use headers::header_relocs;
 use headers::header_relocs_count;
 use headers::header_size;
 use headers::padding;
-use leading::Kind;
-use leading::kind_of;
-use leading::taken;
 use lists::Extent;
 use lists::extent_at;
 use lists::lists_ok;
@@ -430,10 +430,10 @@ fn labelled_rows(fs: &[u64], k: usize) -> u64
     requires { ⌜ 18 * k + 18 ≤ length (now fs) ⌝ }
     ensures { λ r. ⌜ r ≡ labelledRows (now (fs .entry)) k ⌝ }
 {
-    if fs[lists::FUNCTION_STRIDE * k + 14] == 0 {
+    if fs[lists::FUNCTION_STRIDE * k + lists::function::RELAXED] == 0 {
         return 0;
     }
-    fs[lists::FUNCTION_STRIDE * k + 3]
+    fs[lists::FUNCTION_STRIDE * k + lists::function::ROWS]
 }
 
 // Those of n functions, summed.
@@ -457,9 +457,9 @@ fn most(fs: &[u64]) -> Table
 {
     let n = fs.len() / lists::FUNCTION_STRIDE;
     Table {
-        bytes: 96 * n + 14 * total(fs, 3, n) as usize,
+        bytes: 96 * n + 14 * total(fs, lists::function::ROWS, n) as usize,
         relocations: 25 * n + 10 * labelled_total(fs, n) as usize,
-        sites: 17 * n + 40 * total(fs, 5, n) as usize,
+        sites: 17 * n + 40 * total(fs, lists::function::LANDINGS, n) as usize,
     }
 }
 
@@ -850,8 +850,8 @@ fn deliver(
         );
     }
     let mut heads = [0u16; 16381];
-    let mut links = [0u16; 65536];
-    let mut owners = [0u16; 65536];
+    let mut links = [0u16; lists::MOST_FUNCTIONS];
+    let mut owners = [0u16; lists::MOST_FUNCTIONS];
     fitted(
         s,
         m,

@@ -17,9 +17,9 @@ use Rattle.format.proofs.EntryBack.{entry-length, padded-length}
 use Rattle.format.proofs.HeaderBack.{KindOk, kind-accepted}
 use Rattle.lists.specs.declared.Extent.{Extent}
 use Rattle.lists.specs.Extents.{meant}
-use Rattle.leading.specs.Functions.{bodyOf, keyIn, Sound}
-use Rattle.leading.specs.Kinds.{lsdaOf, kindIn}
-use Rattle.leading.proofs.KindMeans.{kind-means}
+use Rattle.header_keys.specs.Functions.{bodyOf, keyIn, Sound}
+use Rattle.header_keys.specs.Kinds.{lsdaOf, kindIn}
+use Rattle.header_keys.proofs.KindMeans.{kind-means}
 use Rattle.headers.specs.Kinds.{headIn, EncodingFits, NamedFits}
 use Rattle.headers.proofs.Tails.{kind-named}
 

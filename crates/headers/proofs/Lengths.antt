@@ -10,7 +10,7 @@ use Rattle.format.specs.declared.Machine.{Machine}
 use Rattle.format.specs.Headers.{named, Key, pointerBytes, letters, augmentationData, counted, dataFactor, headerFields}
 use Rattle.format.proofs.Choice.{if-le}
 use Rattle.format.proofs.LebBack.{little-length}
-use Rattle.leading.specs.Kinds.{lsdaOf}
+use Rattle.header_keys.specs.Kinds.{lsdaOf}
 use Rattle.headers.specs.Kinds.{ending, middle, flag, namedData, tailOf}
 use Rattle.headers.proofs.Tails.{named-length, fields-debug, fields-eh}
 

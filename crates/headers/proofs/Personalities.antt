@@ -13,8 +13,8 @@ use Rattle.format.specs.declared.Machine.{Machine}
 use Rattle.format.specs.Constants.{personalitySymbol, indirectPcrelSdata4}
 use Rattle.format.specs.Headers.{plain, personal, named, pointerReloc, pointerPlace, kindRelocs, headerRelocs}
 use Rattle.lists.specs.declared.Extent.{Extent}
-use Rattle.leading.specs.Functions.{keyIn}
-use Rattle.leading.specs.Kinds.{lsdaOf, lsdaIn, kindIn}
+use Rattle.header_keys.specs.Functions.{keyIn}
+use Rattle.header_keys.specs.Kinds.{lsdaOf, lsdaIn, kindIn}
 use Rattle.headers.specs.Kinds.{headIn, flag, headerRelocCount}
 use Rattle.headers.proofs.Tails.{kind-personal, kind-named, kind-plain}
 use Rattle.headers.proofs.Keys.{relocs-head}

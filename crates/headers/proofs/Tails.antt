@@ -19,7 +19,7 @@ use Rattle.format.specs.Headers.{plain, personal, named, Key, sizeOf, sizeOr0, 
 use Rattle.format.proofs.Choice.{if-eq, if-ne}
 use Rattle.format.proofs.LebBack.{little-length}
 use Rattle.lists.specs.declared.Extent.{Extent}
-use Rattle.leading.specs.Kinds.{lsdaOf, lsdaIn, kindIn}
+use Rattle.header_keys.specs.Kinds.{lsdaOf, lsdaIn, kindIn}
 use Rattle.headers.specs.Kinds.{ending, middle, flag, namedLetters, namedData, tailOf}
 
 -- ---- the data alignment factor as the machine computes it

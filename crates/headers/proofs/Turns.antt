@@ -22,7 +22,7 @@ use Rattle.format.proofs.Sizes.{rows-short}
 use Rattle.format.proofs.Leading.{leading-ok, leading-count}
 use Rattle.lists.specs.declared.Extent.{Extent}
 use Rattle.lists.specs.Extents.{meant}
-use Rattle.leading.specs.Functions.{bodyOf, Sound}
+use Rattle.header_keys.specs.Functions.{bodyOf, Sound}
 
 -- ---- the rows from row i on
 

@@ -10,7 +10,7 @@ use Rattle.format.specs.Leb.{uleb, sleb}
 use Rattle.format.specs.Constants.{pcrelSdata4}
 use Rattle.format.specs.Headers.{Kind, Key, letters, lsdaLetter, augmentationData, counted, dataFactor}
 use Rattle.lists.specs.declared.Extent.{Extent}
-use Rattle.leading.specs.Kinds.{lsdaOf, kindIn}
+use Rattle.header_keys.specs.Kinds.{lsdaOf, kindIn}
 
 -- the key without its rows: all that the fields and the relocations depend on
 unfoldable pub headIn : Extent → Key

@@ -19,9 +19,9 @@ use Rattle.format.specs.Headers.{keyOf, sameKind, sameRows, sameKey}
 use Rattle.format.proofs.SameKey.{same-rows}
 use Rattle.lists.specs.declared.Extent.{Extent}
 use Rattle.lists.specs.Extents.{extentAt, meant}
-use Rattle.leading.specs.Functions.{without, takenIn, keyIn, RowsReady}
-use Rattle.leading.specs.Kinds.{kindIn}
-use Rattle.leading.proofs.KindMeans.{kind-means}
+use Rattle.header_keys.specs.Functions.{without, takenIn, keyIn, RowsReady}
+use Rattle.header_keys.specs.Kinds.{kindIn}
+use Rattle.header_keys.proofs.KindMeans.{kind-means}
 use Rattle.owners.specs.Owners.{leadingIn, sameAt}
 use Rattle.owners.proofs.Finding.{shares}
 

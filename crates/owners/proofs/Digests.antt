@@ -16,9 +16,9 @@ use Rattle.format.specs.Rows.{kindOf}
 use Rattle.format.specs.Headers.{keyOf}
 use Rattle.lists.specs.declared.Extent.{Extent}
 use Rattle.lists.specs.Extents.{meant}
-use Rattle.leading.specs.Functions.{keyIn}
-use Rattle.leading.specs.Kinds.{kindIn}
-use Rattle.leading.proofs.KindMeans.{kind-means}
+use Rattle.header_keys.specs.Functions.{keyIn}
+use Rattle.header_keys.specs.Kinds.{kindIn}
+use Rattle.header_keys.proofs.KindMeans.{kind-means}
 use Rattle.owners.specs.Owners.{leadingIn}
 use Rattle.owners.specs.Chains.{mixed, rowsDigest, kindNumber, digestOf}
 

@@ -8,7 +8,7 @@ use borrow.Author.Tests.{eq-eqb, ne-eqb}
 use Rattle.format.specs.Prelude.{pick}
 use Rattle.format.specs.Headers.{plain, personal, named, sameEncoding, sameKind}
 use Rattle.lists.specs.declared.Extent.{Extent}
-use Rattle.leading.specs.Kinds.{lsdaOf, lsdaIn, kindIn}
+use Rattle.header_keys.specs.Kinds.{lsdaOf, lsdaIn, kindIn}
 
 -- what is asked of the second alone, by what the first is
 no-lsda : (b : Bool) (e : ℕ) → not b ≡ sameEncoding none (pick b (some e) none)

@@ -11,7 +11,7 @@ use mir.Facts.{eqb-yes, eqb-no}
 use Rattle.format.specs.declared.Machine.{Machine}
 use Rattle.format.specs.declared.Section.{Section}
 use Rattle.format.proofs.Choice.{pick-yes, pick-no, tested, either}
-use Rattle.leading.specs.Functions.{Listed}
+use Rattle.header_keys.specs.Functions.{Listed}
 use Rattle.owners.specs.Owners.{owner}
 use Rattle.owners.specs.Chains.{slotAt, lastIn, heldIn, lastHeld, Linked, Chained, Owned, OwnersFound, Enough, Unused}
 use Rattle.owners.proofs.Finding.{owner-low}

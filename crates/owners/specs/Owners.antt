@@ -12,7 +12,7 @@ use Rattle.format.specs.Rows.{sameRow}
 use Rattle.format.specs.Headers.{Key, leading, sameKey}
 use Rattle.lists.specs.declared.Extent.{Extent}
 use Rattle.lists.specs.Extents.{extentAt}
-use Rattle.leading.specs.Functions.{takenIn, bodyOf, keyIn}
+use Rattle.header_keys.specs.Functions.{takenIn, bodyOf, keyIn}
 
 -- the key of function j as the section takes it
 abbrev pub keyAt : Section → Machine → (fs rows : List ℕ) → ℕ → Key

@@ -7,15 +7,15 @@ ghost use lib.ListN.{length};
 ghost use Rattle.format.specs.Headers.{sameEncoding, sameKind, sameKey};
 ghost use Rattle.format.proofs.Fits.{MachineFits};
 ghost use Rattle.lists.specs.Extents.{extentAt};
-ghost use Rattle.leading.specs.Functions.{takenIn, keyIn, RowsReady, Listed};
-ghost use Rattle.leading.specs.Kinds.{lsdaIn, kindIn};
+ghost use Rattle.header_keys.specs.Functions.{takenIn, keyIn, RowsReady, Listed};
+ghost use Rattle.header_keys.specs.Kinds.{lsdaIn, kindIn};
 ghost use Rattle.owners.specs.Owners.{keyAt, leadingIn, sameAt, owner};
 ghost use Rattle.owners.specs.Chains.{rowNumber, mixed, kindNumber, digestOf, slotAt, behindIn, Chained, Owned, OwnersFound, Enough, Unused};
 use format::Machine;
 use format::Row;
 use format::Section;
-use leading::Kind;
-use leading::kind_of;
+use header_keys::Kind;
+use header_keys::kind_of;
 use lists::Extent;
 
 // ---- kinds of header
@@ -82,8 +82,8 @@ fn same_leading(m: Machine, a: Extent, b: Extent, rows: &[u64], i: usize) -> boo
     requires { ⌜ MachineFits m × RowsReady (now rows) (a .«rows_at») (a .rows) × RowsReady (now rows) (b .«rows_at») (b .rows) × (i < length (leadingIn m a (now rows))) × (i < length (leadingIn m b (now rows))) ⌝ }
     ensures { λ r. ⌜ r ≡ sameAt (leadingIn m a (now (rows .entry))) (leadingIn m b (now (rows .entry))) i ⌝ }
 {
-    let x = leading::leading_at(m, a, rows, i);
-    let y = leading::leading_at(m, b, rows, i);
+    let x = header_keys::leading_at(m, a, rows, i);
+    let y = header_keys::leading_at(m, b, rows, i);
     rows::same_row(x, y)
 }
 
@@ -94,7 +94,7 @@ fn taken_at(s: Section, fs: &[u64], j: usize) -> Extent
     requires { ⌜ 18 * j + 18 ≤ length (now fs) ⌝ }
     ensures { λ r. ⌜ r ≡ takenIn s (extentAt (now (fs .entry)) j) ⌝ }
 {
-    leading::taken(s, lists::extent_at(fs, j))
+    header_keys::taken(s, lists::extent_at(fs, j))
 }
 
 // ---- digests of keys
@@ -132,11 +132,11 @@ fn digest(m: Machine, e: Extent, rows: &[u64]) -> u64
     requires { ⌜ MachineFits m × RowsReady (now rows) (e .«rows_at») (e .rows) ⌝ }
     ensures { λ r. ⌜ r ≡ digestOf (keyIn m e (now (rows .entry))) ⌝ }
 {
-    let n = leading::leading_count(m, e, rows);
+    let n = header_keys::leading_count(m, e, rows);
     let mut d = kind_number(e);
     let mut i = 0;
     while i < n {
-        d = mixed(d, leading::leading_at(m, e, rows, i));
+        d = mixed(d, header_keys::leading_at(m, e, rows, i));
         i += 1;
     }
     d
@@ -185,7 +185,7 @@ fn choose(
     ensures { λ r. ⌜ r ≡ owner s m (now (fs .entry)) (now (rows .entry)) k ⌝ }
 {
     let own = taken_at(s, fs, k);
-    let count = leading::leading_count(m, own, rows);
+    let count = header_keys::leading_count(m, own, rows);
     let mut next = first + 1;
     'functions: while 0 < next {
         let j = next - 1;
@@ -194,7 +194,7 @@ fn choose(
         if !same_kind_and_signal(other, own) {
             continue 'functions;
         }
-        if leading::leading_count(m, other, rows) != count {
+        if header_keys::leading_count(m, other, rows) != count {
             continue 'functions;
         }
         let mut i = 0;
@@ -223,10 +223,10 @@ fn surely_shares(s: Section, m: Machine, fs: &[u64], rows: &[u64], j: usize, k: 
     if a.simple != b.simple {
         return false;
     }
-    if 0 < leading::ahead(rows, a.rows_at, a.rows) {
+    if 0 < header_keys::ahead(rows, a.rows_at, a.rows) {
         return false;
     }
-    leading::ahead(rows, b.rows_at, b.rows) == 0
+    header_keys::ahead(rows, b.rows_at, b.rows) == 0
 }
 
 // The owner of the function in front of function k, where it is surely function k's as well; or k.

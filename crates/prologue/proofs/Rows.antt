@@ -15,7 +15,7 @@ use Rattle.format.specs.Rows.{offsetOf}
 use Rattle.format.specs.Lists.{field, rowStride, rowOf, rowOk, rowOkAt, rowAt}
 use Rattle.format.proofs.Choice.{pick-yes, pick-no, tested}
 use Rattle.format.proofs.ListLaws.{in-range, row-numbers}
-use Rattle.leading.specs.Functions.{RowsReady}
+use Rattle.header_keys.specs.Functions.{RowsReady}
 use Rattle.prologue.specs.Pieces.{Short, Ready}
 
 -- of n rows from `at` on, those up to `end`

@@ -16,7 +16,7 @@ use Rattle.format.specs.Rows.{RowAt, kindOf, offsetOf}
 use Rattle.format.specs.Lists.{field, rowStride, rowOf, rowAt}
 use Rattle.format.specs.X64.{beforeRemember}
 use Rattle.format.proofs.Choice.{tested}
-use Rattle.leading.proofs.Counting.{remembers}
+use Rattle.header_keys.proofs.Counting.{remembers}
 use Rattle.prologue.specs.declared.Walk.{Walk}
 use Rattle.prologue.specs.Groups.{joined, joins, third, refused, stepped, added, loneIn, pushIn, lastIn, rowIn, walkFrom, start}
 use Rattle.prologue.specs.Pieces.{Short, Ready}

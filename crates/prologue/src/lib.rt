@@ -14,7 +14,7 @@ ghost use Rattle.format.specs.X64.{low16, frame, beforeRemember};
 ghost use Rattle.format.specs.declared.Row.the-variants.{DefCfa, DefCfaOffset, DefCfaRegister, Offset};
 ghost use Rattle.format.specs.declared.Seh.the-variants.{Push, Alloc, Frame, Save};
 ghost use Rattle.format.proofs.Fits.{MachineFits};
-ghost use Rattle.leading.specs.Functions.{RowsReady};
+ghost use Rattle.header_keys.specs.Functions.{RowsReady};
 ghost use Rattle.prologue.specs.Groups.{foundOf, knows, joined, joins, third, refused, counted, stepped, added, loneIn, pushIn, lastIn, rowIn, walkFrom, start, numberOf};
 ghost use Rattle.prologue.specs.Pieces.{Short, Ready, Shaped, pieceOf, namedCode, movedIn, pieceIn, endIn};
 use format::Machine;
@@ -310,7 +310,7 @@ fn remembers(rows: &[u64], i: usize) -> bool
     requires { ⌜ 4 * i + 4 ≤ length (now rows) ⌝ }
     ensures { λ r. ⌜ r ≡ eqb (kindOf (rowAt (now (rows .entry)) i .1)) 6 ⌝ }
 {
-    rows[4 * i + 1] == 6
+    rows[rows::ROW_STRIDE * i + rows::ROW_KIND] == numbers::kinds::REMEMBER_STATE
 }
 
 // The index past the last row before the first RememberState, of the n rows from `at` on.

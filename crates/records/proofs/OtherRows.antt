@@ -20,7 +20,7 @@ use Rattle.format.proofs.Leading.{others-ok}
 use Rattle.lists.specs.declared.Extent.{Extent}
 use Rattle.lists.specs.Extents.{meant}
 use Rattle.lists.proofs.Ranges.{one-more}
-use Rattle.leading.specs.Functions.{bodyOf, Sound}
+use Rattle.header_keys.specs.Functions.{bodyOf, Sound}
 use Rattle.records.specs.Stepped.{rowsIn, SteppedReady}
 
 -- they start behind those that lead

@@ -14,7 +14,7 @@ use Rattle.format.specs.Records.{recordFields, recordBytes}
 use Rattle.format.proofs.LebBack.{little-length}
 use Rattle.format.proofs.EntryBack.{entry-length, padded-length}
 use Rattle.lists.specs.declared.Extent.{Extent}
-use Rattle.leading.specs.Functions.{bodyOf}
+use Rattle.header_keys.specs.Functions.{bodyOf}
 use Rattle.records.specs.Stepped.{rowsIn}
 use Rattle.records.specs.Fields.{fieldsIn}
 use Rattle.records.proofs.OtherRows.{others-bytes}

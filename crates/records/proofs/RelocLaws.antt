@@ -15,7 +15,7 @@ use Rattle.format.proofs.ListLaws.{numbers-length}
 use Rattle.format.specs.Records.{pointerTo, namedReloc, lsdaReloc, recordFields, sumPair, rowRelocs, recordRelocs}
 use Rattle.lists.specs.declared.Extent.{Extent}
 use Rattle.lists.specs.Extents.{meant}
-use Rattle.leading.specs.Functions.{bodyOf}
+use Rattle.header_keys.specs.Functions.{bodyOf}
 use Rattle.records.specs.Fields.{fieldsIn, pointed, sumIn, lsdaIn, debugRelocs, ehRelocs, fieldRelocs}
 use Rattle.records.specs.Labels.{stepsIn}
 use Rattle.records.proofs.OtherRows.{others-are}

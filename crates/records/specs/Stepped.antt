@@ -8,7 +8,7 @@ use Rattle.format.specs.Rows.{RowAt, rowBytes, stepBytes, steppedBytes}
 use Rattle.format.specs.Lists.{rowAt, rowOkAt, mostRecords}
 use Rattle.format.proofs.RowBack.{RowFits}
 use Rattle.format.proofs.WalkBack.{RowsAtOk}
-use Rattle.leading.specs.Functions.{RowsReady}
+use Rattle.header_keys.specs.Functions.{RowsReady}
 
 -- a row and its step, from the offset `from` on
 unfoldable pub steppedRowBytes : (w from : ℕ) → RowAt → List ℕ

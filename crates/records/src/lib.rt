@@ -14,17 +14,18 @@ ghost use Rattle.format.specs.CallSites.{siteBytes, siteTable, siteAdded};
 ghost use Rattle.format.specs.Records.{recordBytes, recordRelocs, setKind, setBytes, setPlace, setPair};
 ghost use Rattle.format.proofs.SectionSize.{Aligned};
 ghost use Rattle.lists.specs.Extents.{meant, meantLanding, meantPair};
-ghost use Rattle.leading.specs.Functions.{bodyOf, Sound, RowsReady, LandingsReady, PairsReady};
+ghost use Rattle.header_keys.specs.Functions.{bodyOf, Sound, RowsReady, LandingsReady, PairsReady};
 ghost use Rattle.records.specs.Sites.{sitesIn};
 ghost use Rattle.records.specs.Stepped.{steppedRowBytes, rowsIn, SteppedRowReady, SteppedReady};
 ghost use Rattle.records.specs.Fields.{sizeIn, blankIn, fieldsIn, sumIn, lsdaIn, debugRelocs, ehRelocs, fieldRelocs};
 ghost use Rattle.records.specs.Labels.{isFor, foundPair, pairBetween, Rising, Parted, stepPair, stepsIn};
 use format::Machine;
-use leading::Kind;
-use leading::kind_of;
+use header_keys::Kind;
+use header_keys::kind_of;
 use lists::Extent;
 use lists::Landing;
 use lists::Pair;
+use numbers::encodings;
 
 // ---- call sites
 
@@ -79,9 +80,9 @@ fn site_table(out: &mut [u8], at: usize, landings: &[u64], first: usize, n: usiz
     requires { ⌜ (first + n ≤ count landingStride (now landings)) × (n ≤ mostRecords) × (at + 3 + length (uleb (length (sitesIn (now landings) first n))) + length (sitesIn (now landings) first n) ≤ length (now out)) ⌝ }
     ensures { λ r. ⌜ Wrote (now (out .entry)) (now (out .exit)) at r (siteTable (each (landingAt (now (landings .entry))) first n)) ⌝ }
 {
-    let a = leb::byte(out, at, 0xff);
-    let b = leb::byte(out, a, 0xff);
-    let c = leb::byte(out, b, 0x01);
+    let a = leb::byte(out, at, encodings::DW_EH_PE_OMIT);
+    let b = leb::byte(out, a, encodings::DW_EH_PE_OMIT);
+    let c = leb::byte(out, b, encodings::DW_EH_PE_ULEB128);
     let d = leb::uleb(out, c, sites_size(landings, first, n) as u64);
     sites(out, d, landings, first, n)
 }
@@ -254,7 +255,7 @@ pub fn record_size(
     requires { ⌜ Sound m e (now rows) × Aligned align × (at < 2 ^ 32) ⌝ }
     ensures { λ r. ⌜ r ≡ length (recordBytes debug m align at 0 (bodyOf e (now (rows .entry)))) ⌝ }
 {
-    let k = leading::ahead(rows, e.rows_at, e.rows);
+    let k = header_keys::ahead(rows, e.rows_at, e.rows);
     let body = fields_size(debug, m.word, e)
         + stepped_rows_size(m.word, rows, e.rows_at + k, e.rows - k);
     4 + body + headers::padding(align, at + 4 + body)
@@ -274,7 +275,7 @@ pub fn record(
     requires { ⌜ Sound m e (now rows) × Aligned align × (cie ≤ at + 4) × (at + length (recordBytes debug m align at cie (bodyOf e (now rows))) ≤ length (now out)) ⌝ }
     ensures { λ r. ⌜ Wrote (now (out .entry)) (now (out .exit)) at r (recordBytes debug m align at cie (bodyOf e (now (rows .entry)))) ⌝ }
 {
-    let k = leading::ahead(rows, e.rows_at, e.rows);
+    let k = header_keys::ahead(rows, e.rows_at, e.rows);
     let a = leb::fill(out, at, 4);
     let b = fields(out, a, debug, m.word, (at + 4 - cie) as u64, e);
     let c = stepped_rows(out, b, m.word, rows, e.rows_at + k, e.rows - k);
@@ -321,7 +322,7 @@ fn place_of(pairs: &[u64], i: usize) -> u64
     requires { ⌜ 4 * i + 4 ≤ length (now pairs) ⌝ }
     ensures { λ r. ⌜ r ≡ pairAt (now (pairs .entry)) i .place1 ⌝ }
 {
-    pairs[4 * i]
+    pairs[lists::PAIR_STRIDE * i]
 }
 
 // The first places of the n pairs from `at` on rise, as where an assembler lists pairs in the order of the rows.
@@ -657,7 +658,7 @@ pub fn record_relocs_count(debug: bool, m: Machine, e: Extent, rows: &[u64], pai
     if !e.relaxed {
         return n;
     }
-    let k = leading::ahead(rows, e.rows_at, e.rows);
+    let k = header_keys::ahead(rows, e.rows_at, e.rows);
     n + step_relocs_count(rows, e.rows_at + k, e.rows - k, e, pairs)
 }
 
@@ -690,7 +691,7 @@ pub fn record_relocs(
     if !e.relaxed {
         return a;
     }
-    let k = leading::ahead(rows, e.rows_at, e.rows);
+    let k = header_keys::ahead(rows, e.rows_at, e.rows);
     let place = at + 4 + fields_size(debug, m.word, e);
     step_relocs(
         out,

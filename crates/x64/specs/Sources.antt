@@ -15,7 +15,7 @@ use Rattle.format.specs.X64.{codesOf, prologueOf, prologueNo, x64}
 use Rattle.format.specs.Questions.{Question, andThen}
 use Rattle.format.specs.Writer.{Written}
 use Rattle.format.proofs.Fits.{MachineFits}
-use Rattle.leading.specs.Functions.{RowsReady}
+use Rattle.header_keys.specs.Functions.{RowsReady}
 use Rattle.prologue.specs.Pieces.{Short, Ready, pieceIn, movedIn, endIn, Shaped}
 use Rattle.x64.specs.Answers.{askEach}
 use Rattle.x64.specs.declared.Source.{Source}

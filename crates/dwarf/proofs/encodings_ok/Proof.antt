@@ -1,7 +1,7 @@
 -- `dwarf::encodings_ok` meets its contract.
 use borrow.Author.Tests.{not-true, not-false}
 use borrow.Author.Needs.{needs}
-use Rattle.leading.proofs.KindMeans.{decides-plain, decides-personal, decides-named}
+use Rattle.header_keys.proofs.KindMeans.{decides-plain, decides-personal, decides-named}
 use Rattle.dwarf.proofs.Encodings.{landed, unnamed, unknown, no-lsda, both}
 use Rattle.dwarf.proofs.encodings_ok.Statement.{statement}
 use Rattle.dwarf.proofs.encodings_ok.Tie as tie

@@ -1,7 +1,7 @@
 -- `dwarf::part` meets its contract.
 use mathlib.Core.Path.{ap, _∙_}
 use native.Mathlib.Omega.{arith}
-use Rattle.leading.specs.Functions.{takenIn}
+use Rattle.header_keys.specs.Functions.{takenIn}
 use Rattle.dwarf.proofs.Writing.{choosable, chosen-by, piece-ready, added}
 use borrow.Author.Needs.{needs}
 use Rattle.dwarf.proofs.part.Statement.{statement}

@@ -1,7 +1,7 @@
 -- `dwarf::size_next` meets its contract.
 use mathlib.Core.Path.{_≡_, ap, _∙_}
 use native.Mathlib.Omega.{arith}
-use Rattle.leading.specs.Functions.{takenIn}
+use Rattle.header_keys.specs.Functions.{takenIn}
 use Rattle.owners.specs.Owners.{owner}
 use Rattle.dwarf.proofs.Sizing.{size-ready, size-done}
 use borrow.Author.Needs.{needs}

@@ -2,7 +2,7 @@
 use borrow.Author.Needs.{needs}
 use Rattle.format.specs.Lists.{numbersOf}
 use Rattle.format.proofs.PutLaws.{idle}
-use Rattle.leading.proofs.KindMeans.{decides-plain, decides-personal, decides-named}
+use Rattle.header_keys.proofs.KindMeans.{decides-plain, decides-personal, decides-named}
 use Rattle.headers.proofs.Words.{word-bounds}
 use Rattle.headers.proofs.Personalities.{count-personal, count-named, relocs-debug, relocs-plain, relocs-personal, relocs-named}
 use Rattle.headers.proofs.header_relocs.Statement.{statement}

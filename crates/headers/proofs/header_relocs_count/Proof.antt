@@ -2,7 +2,7 @@
 use mathlib.Core.Path.{sym}
 use borrow.Author.Needs.{needs}
 use Rattle.format.specs.Prelude.{pick}
-use Rattle.leading.proofs.KindMeans.{decides-plain, decides-personal, decides-named}
+use Rattle.header_keys.proofs.KindMeans.{decides-plain, decides-personal, decides-named}
 use Rattle.headers.specs.Kinds.{headerRelocCount}
 use Rattle.headers.proofs.Personalities.{count-plain, count-personal, count-named}
 use Rattle.headers.proofs.header_relocs_count.Statement.{statement}

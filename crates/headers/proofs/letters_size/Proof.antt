@@ -2,7 +2,7 @@
 use native.Mathlib.Omega.{arith}
 use borrow.Author.Needs.{needs}
 use Rattle.format.specs.Headers.{letters}
-use Rattle.leading.proofs.KindMeans.{decides-plain, decides-personal, decides-named}
+use Rattle.header_keys.proofs.KindMeans.{decides-plain, decides-personal, decides-named}
 use Rattle.headers.proofs.Tails.{kind-personal, kind-named, kind-plain}
 use Rattle.headers.proofs.Lengths.{letters-length}
 use Rattle.headers.proofs.letters_size.Statement.{statement}

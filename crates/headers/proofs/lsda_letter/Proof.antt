@@ -4,7 +4,7 @@ use borrow.Author.Needs.{needs}
 use Rattle.format.specs.Prelude.{pick}
 use Rattle.format.specs.Headers.{lsdaLetter}
 use Rattle.format.proofs.PutLaws.{idle}
-use Rattle.leading.specs.Kinds.{lsdaOf}
+use Rattle.header_keys.specs.Kinds.{lsdaOf}
 use Rattle.headers.proofs.lsda_letter.Statement.{statement}
 use Rattle.headers.proofs.lsda_letter.Tie as tie
 

@@ -3,7 +3,7 @@ use Prim.Native.Nat.{_-_}
 use native.Mathlib.Omega.{arith}
 use borrow.Author.Needs.{needs}
 use Rattle.format.specs.Headers.{leading}
-use Rattle.leading.specs.Functions.{bodyOf}
+use Rattle.header_keys.specs.Functions.{bodyOf}
 use Rattle.headers.proofs.Words.{word-bounds}
 use Rattle.headers.proofs.Turns.{Rowing, start, room, turn, ended}
 use Rattle.headers.proofs.starts.Statement.{statement}

@@ -1,6 +1,6 @@
 -- `tail` goes by the kind.
 use borrow.Author.Needs.{needs}
-use Rattle.leading.proofs.KindMeans.{decides-plain, decides-personal, decides-named}
+use Rattle.header_keys.proofs.KindMeans.{decides-plain, decides-personal, decides-named}
 use Rattle.headers.proofs.Tails.{kind-personal, kind-plain, tail-named}
 use Rattle.headers.proofs.tail.Statement.{statement}
 use Rattle.headers.proofs.tail.Tie as tie

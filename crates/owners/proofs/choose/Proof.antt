@@ -4,7 +4,7 @@ use mathlib.Core.Bool.{false}
 use Prim.Native.Nat.{_-_, _<_}
 use native.Mathlib.Omega.{arith}
 use borrow.Author.Needs.{needs}
-use Rattle.leading.specs.Functions.{RowsReady}
+use Rattle.header_keys.specs.Functions.{RowsReady}
 use Rattle.owners.specs.Owners.{leadingIn}
 use Rattle.owners.proofs.Finding.{shares}
 use Rattle.owners.proofs.Walking.{Walking, first-low, near, found, lower}

@@ -1,7 +1,7 @@
 -- `owners::kind_number` meets its contract.
 use native.Mathlib.Omega.{arith}
 use borrow.Author.Needs.{needs}
-use Rattle.leading.proofs.KindMeans.{decides-plain, decides-personal, decides-named}
+use Rattle.header_keys.proofs.KindMeans.{decides-plain, decides-personal, decides-named}
 use Rattle.owners.proofs.Digests.{landed, by-name, by-none}
 use Rattle.owners.proofs.kind_number.Statement.{statement}
 use Rattle.owners.proofs.kind_number.Tie as tie

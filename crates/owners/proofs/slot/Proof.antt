@@ -4,7 +4,7 @@ use Prim.Native.Nat.{_%_}
 use native.Mathlib.Nat.{mod-lt}
 use native.Mathlib.Omega.{arith}
 use borrow.Author.Needs.{needs}
-use Rattle.leading.specs.Functions.{keyIn}
+use Rattle.header_keys.specs.Functions.{keyIn}
 use Rattle.owners.specs.Chains.{digestOf, slotAt}
 use Rattle.owners.proofs.Comparing.{rows-taken}
 use Rattle.owners.proofs.slot.Statement.{statement}

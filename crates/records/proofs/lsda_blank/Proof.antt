@@ -2,7 +2,7 @@
 use native.Mathlib.Omega.{arith}
 use mathlib.Core.Path.{sym, _∙_}
 use borrow.Author.Needs.{needs}
-use Rattle.leading.proofs.KindMeans.{decides-plain, decides-personal, decides-named}
+use Rattle.header_keys.proofs.KindMeans.{decides-plain, decides-personal, decides-named}
 use Rattle.records.specs.Fields.{blankIn}
 use Rattle.records.proofs.FieldLaws.{by-landings, by-none, by-no-lsda, by-lsda}
 use Rattle.records.proofs.lsda_blank.Statement.{statement}

@@ -1,7 +1,7 @@
 -- `records::lsda_count` meets its contract.
 use native.Mathlib.Omega.{arith}
 use borrow.Author.Needs.{needs}
-use Rattle.leading.proofs.KindMeans.{decides-plain, decides-personal, decides-named}
+use Rattle.header_keys.proofs.KindMeans.{decides-plain, decides-personal, decides-named}
 use Rattle.records.specs.Fields.{lsdaIn}
 use Rattle.records.proofs.FieldLaws.{by-landings, by-none, by-no-lsda, by-lsda}
 use Rattle.records.proofs.lsda_count.Statement.{statement}

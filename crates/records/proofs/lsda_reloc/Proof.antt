@@ -2,7 +2,7 @@
 use borrow.Author.Needs.{needs}
 use Rattle.format.specs.Lists.{numbersOf}
 use Rattle.format.proofs.PutLaws.{idle}
-use Rattle.leading.proofs.KindMeans.{decides-plain, decides-personal, decides-named}
+use Rattle.header_keys.proofs.KindMeans.{decides-plain, decides-personal, decides-named}
 use Rattle.records.specs.Fields.{lsdaIn}
 use Rattle.records.proofs.FieldLaws.{by-landings, by-none, by-no-lsda, by-lsda}
 use Rattle.records.proofs.lsda_reloc.Statement.{statement}
