@@ -158,13 +158,13 @@ rows-at-ok rows word at (suc n) from t u v =
     )
 
 -- what question 13 says of a function's rows and its simple mark
-record Listed (fs rows : List ℕ) (k : ℕ) : Type 0 where
+pub record Listed (fs rows : List ℕ) (k : ℕ) : Type 0 where
   within : T (inside (field functionStride fs k 2) (field functionStride fs k 3) (count rowStride rows))
   known : T (allIn (rowOkAt rows) (field functionStride fs k 2) (field functionStride fs k 3))
   marked : T (markOk (field functionStride fs k 6))
 
 module _ (fs rows landings pairs : List ℕ) where
-  listed : (k : ℕ) → T (functionOkAt fs rows landings pairs k) → Listed fs rows k
+  pub listed : (k : ℕ) → T (functionOkAt fs rows landings pairs k) → Listed fs rows k
   unfolding functionOkAt
   listed k t =
       let f : ℕ → ℕ = λ j. field functionStride fs k j in
@@ -176,7 +176,7 @@ module _ (fs rows landings pairs : List ℕ) where
       ∷ whenMarked (f 14) (symbolOk (f 15) && inside (f 16) (f 17) (count pairStride pairs) && allIn (pairOkAt pairs) (f 16) (f 17)) ∷ []) in
       record { within = says 1 t; known = says 2 t; marked = says 4 t }
 
-  function-fits : (s : Section) (m : Machine) (k at : ℕ) → Listed fs rows k
+  pub function-fits : (s : Section) (m : Machine) (k at : ℕ) → Listed fs rows k
       → dwarfAsks s (m .word) at (taken s (functionAt fs rows landings pairs k)) ≡ none
       → FunctionFits s m (taken s (functionAt fs rows landings pairs k))
   unfolding dwarfAsks functionAt
