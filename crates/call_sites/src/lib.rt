@@ -10,10 +10,7 @@ ghost use Rattle.format.specs.CallSiteReader.{siteOf, covers, headOk, readSites
 ghost use Rattle.call_sites.specs.Reads.{EntrySays, TableThere, TableSays, numbersOf, markedOf, keptOf, foundOf};
 use format::Unsigned;
 use leb::UnsignedSpelling;
-
-const DW_EH_PE_OMIT: u8 = 0xff;
-
-const DW_EH_PE_ULEB128: u8 = 0x01;
+use numbers::encodings;
 
 // ---- one entry
 
@@ -133,13 +130,13 @@ pub enum Table {
 fn head_ok(base: u8, types: u8, encoding: u8) -> bool
     ensures { λ r. ⌜ r ≡ headOk base types encoding ⌝ }
 {
-    if base != DW_EH_PE_OMIT {
+    if base != encodings::DW_EH_PE_OMIT {
         return false;
     }
-    if types != DW_EH_PE_OMIT {
+    if types != encodings::DW_EH_PE_OMIT {
         return false;
     }
-    encoding == DW_EH_PE_ULEB128
+    encoding == encodings::DW_EH_PE_ULEB128
 }
 
 fn table_at(sites: &[u8], place: u64) -> Table

@@ -537,10 +537,10 @@ fn labelled_rows(fs: &[u64], k: usize) -> u64
     requires { ⌜ 18 * k + 18 ≤ length (now fs) ⌝ }
     ensures { λ r. ⌜ r ≡ labelledRows (now (fs .entry)) k ⌝ }
 {
-    if fs[lists::FUNCTION_STRIDE * k + 14] == 0 {
+    if fs[lists::FUNCTION_STRIDE * k + lists::function::RELAXED] == 0 {
         return 0;
     }
-    fs[lists::FUNCTION_STRIDE * k + 3]
+    fs[lists::FUNCTION_STRIDE * k + lists::function::ROWS]
 }
 
 // Those of n functions, summed.
@@ -564,9 +564,9 @@ fn most(fs: &[u64]) -> Table
 {
     let n = fs.len() / lists::FUNCTION_STRIDE;
     Table {
-        bytes: 96 * n + 14 * total(fs, 3, n) as usize,
+        bytes: 96 * n + 14 * total(fs, lists::function::ROWS, n) as usize,
         relocations: 25 * n + 10 * labelled_total(fs, n) as usize,
-        sites: 17 * n + 40 * total(fs, 5, n) as usize,
+        sites: 17 * n + 40 * total(fs, lists::function::LANDINGS, n) as usize,
     }
 }
 
@@ -1118,8 +1118,8 @@ fn deliver(
         );
     }
     let mut heads = [0u16; 16381];
-    let mut links = [0u16; 65536];
-    let mut owners = [0u16; 65536];
+    let mut links = [0u16; lists::MOST_FUNCTIONS];
+    let mut owners = [0u16; lists::MOST_FUNCTIONS];
     surveyed(
         s,
         m,

@@ -54,9 +54,6 @@ pub fn kind_of(e: Extent) -> Kind
 
 // ---- leading rows
 
-// The kind of a RememberState.
-const REMEMBER_STATE: u64 = 6;
-
 // Row i is at offset 0 and no RememberState.
 fn leads_at(rows: &[u64], i: usize) -> bool
     requires { ⌜ 4 * i + 4 ≤ length (now rows) ⌝ }
@@ -65,7 +62,7 @@ fn leads_at(rows: &[u64], i: usize) -> bool
     if rows::offset_at(rows, i) != 0 {
         return false;
     }
-    rows[lists::ROW_STRIDE * i + 1] != REMEMBER_STATE
+    rows[rows::ROW_STRIDE * i + rows::ROW_KIND] != numbers::kinds::REMEMBER_STATE
 }
 
 // How many of the n rows from `at` on lead.

@@ -18,6 +18,7 @@ use format::Machine;
 use header_keys::Kind;
 use header_keys::kind_of;
 use lists::Extent;
+use numbers::encodings;
 
 // ---- the end of an entry
 
@@ -55,17 +56,12 @@ pub fn pad(out: &mut [u8], start: usize, at: usize, align: usize) -> usize
 
 // ---- pointers by their encodings
 
-// DW_EH_PE_pcrel | DW_EH_PE_sdata4, and the same read through a pointer (DW_EH_PE_indirect).
-const PCREL_SDATA4: u64 = 0x1b;
-
-const INDIRECT_PCREL_SDATA4: u64 = 0x9b;
-
 // A pointer's relocation: a distance of 4 bytes where it is relative, else an address.
 pub fn pointer(out: &mut [u64], i: usize, word: u64, place: u64, symbol: u64, e: u64) -> usize
     requires { ⌜ i + 5 ≤ length (now out) ⌝ }
     ensures { λ r. ⌜ Wrote (now (out .entry)) (now (out .exit)) i r (numbersOf (pointerReloc word place symbol e ∷ [])) ⌝ }
 {
-    if 16 <= e % 128 {
+    if encodings::DW_EH_PE_PCREL <= e % encodings::DW_EH_PE_INDIRECT {
         return relocs::relocation(out, i, place, symbol, relocs::DATA, 4, 0);
     }
     relocs::relocation(
@@ -157,7 +153,7 @@ fn named_data(out: &mut [u8], at: usize, e: u64, size: usize, lsda: bool, l: u64
     let a = leb::byte(out, at, e as u8);
     let b = leb::fill(out, a, size);
     let c = lsda_letter(out, b, lsda, l);
-    leb::byte(out, c, PCREL_SDATA4 as u8)
+    leb::byte(out, c, encodings::PCREL_SDATA4 as u8)
 }
 
 // A personality by its encoding, and an LSDA by its.
@@ -192,9 +188,9 @@ fn personal_header(out: &mut [u8], at: usize, word: u64, ret: u64, signal: bool)
         word,
         ret,
         signal,
-        INDIRECT_PCREL_SDATA4,
+        encodings::INDIRECT_PCREL_SDATA4,
         true,
-        PCREL_SDATA4,
+        encodings::PCREL_SDATA4,
     )
 }
 
@@ -394,7 +390,7 @@ pub fn header_relocs(
             m.word,
             pointer_place(m, at, e),
             relocs::PERSONALITY,
-            INDIRECT_PCREL_SDATA4,
+            encodings::INDIRECT_PCREL_SDATA4,
         ),
         Kind::Named => pointer(
             out,

@@ -16,12 +16,16 @@ use format::Counts;
 use format::Machine;
 use format::Question;
 use format::Seh;
+use numbers::codes;
+use numbers::machine;
+use rows::ROW_STRIDE;
 use rows::row_ok;
+
+pub mod direct;
+pub mod function;
 
 // How many numbers a record of each list has.
 pub const FUNCTION_STRIDE: usize = 18;
-
-pub const ROW_STRIDE: usize = 4;
 
 pub const LANDING_STRIDE: usize = 3;
 
@@ -31,6 +35,19 @@ pub const PROLOGUE_STRIDE: usize = 5;
 
 pub const CODE_STRIDE: usize = 5;
 
+// What question 13 takes at most (document 01): functions of a list, and records of each kind that they reach.
+pub const MOST_FUNCTIONS: usize = 65536;
+
+pub const MOST_RECORDS: u64 = 1048576;
+
+// The caller's symbols: those below are the library's, and none has more than 32 bits.
+const FIRST_SYMBOL: u64 = 16;
+
+const PAST_SYMBOLS: u64 = 4294967296;
+
+// A call pushes fewer bytes than this.
+const PUSHED_BYTES: u64 = 2147483648;
+
 // ---- the machine, questions 11 and 12
 
 // Each number of the map is a byte.
@@ -38,8 +55,8 @@ fn map_ok(ms: &[u64]) -> bool
     requires { ⌜ 70 ≤ length (now ms) ⌝ }
     ensures { λ r. ⌜ r ≡ all (λ n. leb n 255) (take 64 (drop 6 (now (ms .entry)))) ⌝ }
 {
-    let mut i = 6;
-    while i < 70 {
+    let mut i = machine::MAP;
+    while i < machine::STRIDE {
         if 255 < ms[i] {
             return false;
         }
@@ -52,28 +69,28 @@ fn map_ok(ms: &[u64]) -> bool
 pub fn machine_ok(ms: &[u64]) -> bool
     ensures { λ r. ⌜ r ≡ machineOk (now (ms .entry)) ⌝ }
 {
-    if ms.len() < 70 {
+    if ms.len() < machine::STRIDE {
         return false;
     }
-    if !numbers::is_word(ms[0]) {
+    if !numbers::is_word(ms[machine::WORD]) {
         return false;
     }
-    if ms[1] % ms[0] != 0 {
+    if ms[machine::PUSHED] % ms[machine::WORD] != 0 {
         return false;
     }
-    if 2147483648 <= ms[1] {
+    if PUSHED_BYTES <= ms[machine::PUSHED] {
         return false;
     }
-    if 65536 <= ms[2] {
+    if rows::REGISTERS <= ms[machine::STACK] {
         return false;
     }
-    if 65536 <= ms[3] {
+    if rows::REGISTERS <= ms[machine::RET] {
         return false;
     }
-    if 65536 < ms[4] {
+    if machine::NO_FRAME_POINTER < ms[machine::FRAME] {
         return false;
     }
-    if ms[5] != 0 {
+    if ms[machine::RESERVED] != 0 {
         return false;
     }
     map_ok(ms)
@@ -91,18 +108,18 @@ pub fn machine_of(ms: &[u64]) -> Machine
     requires { ⌜ T (machineOk (now ms)) ⌝ }
     ensures { λ r. ⌜ r ≡ machineOf (now (ms .entry)) ⌝ }
 {
-    let mut map = [0; 64];
+    let mut map = [0; machine::MAPPED];
     let mut i = 0;
-    while i < 64 {
-        map[i] = ms[6 + i] as u8;
+    while i < machine::MAPPED {
+        map[i] = ms[machine::MAP + i] as u8;
         i += 1;
     }
     Machine {
-        word: ms[0],
-        pushed: ms[1],
-        stack: ms[2],
-        ret: ms[3],
-        frame: ms[4],
+        word: ms[machine::WORD],
+        pushed: ms[machine::PUSHED],
+        stack: ms[machine::STACK],
+        ret: ms[machine::RET],
+        frame: ms[machine::FRAME],
         map,
     }
 }
@@ -138,23 +155,23 @@ pub fn extent_at(fs: &[u64], k: usize) -> Extent
     let b = FUNCTION_STRIDE * k;
     Extent {
         symbol: fs[b],
-        length: fs[b + 1],
-        rows_at: fs[b + 2] as usize,
-        rows: fs[b + 3] as usize,
-        landings_at: fs[b + 4] as usize,
-        landings: fs[b + 5] as usize,
-        simple: fs[b + 6] != 0,
-        signal: fs[b + 7] != 0,
-        personality: fs[b + 8] != 0,
-        encoding: fs[b + 9],
-        routine: fs[b + 10],
-        lsda: fs[b + 11] != 0,
-        lsda_encoding: fs[b + 12],
-        lsda_symbol: fs[b + 13],
-        relaxed: fs[b + 14] != 0,
-        end: fs[b + 15],
-        pairs_at: fs[b + 16] as usize,
-        pairs: fs[b + 17] as usize,
+        length: fs[b + function::LENGTH],
+        rows_at: fs[b + function::ROWS_AT] as usize,
+        rows: fs[b + function::ROWS] as usize,
+        landings_at: fs[b + function::LANDINGS_AT] as usize,
+        landings: fs[b + function::LANDINGS] as usize,
+        simple: fs[b + function::SIMPLE] != 0,
+        signal: fs[b + function::SIGNAL] != 0,
+        personality: fs[b + function::PERSONALITY] != 0,
+        encoding: fs[b + function::ENCODING],
+        routine: fs[b + function::ROUTINE],
+        lsda: fs[b + function::LSDA] != 0,
+        lsda_encoding: fs[b + function::LSDA_ENCODING],
+        lsda_symbol: fs[b + function::LSDA_SYMBOL],
+        relaxed: fs[b + function::RELAXED] != 0,
+        end: fs[b + function::END],
+        pairs_at: fs[b + function::PAIRS_AT] as usize,
+        pairs: fs[b + function::PAIRS] as usize,
     }
 }
 
@@ -211,10 +228,10 @@ pub fn prologue_at(fs: &[u64], k: usize) -> Prologue
 {
     Prologue {
         symbol: fs[PROLOGUE_STRIDE * k],
-        length: fs[PROLOGUE_STRIDE * k + 1],
-        end: fs[PROLOGUE_STRIDE * k + 2],
-        codes_at: fs[PROLOGUE_STRIDE * k + 3] as usize,
-        codes: fs[PROLOGUE_STRIDE * k + 4] as usize,
+        length: fs[PROLOGUE_STRIDE * k + direct::LENGTH],
+        end: fs[PROLOGUE_STRIDE * k + direct::END],
+        codes_at: fs[PROLOGUE_STRIDE * k + direct::CODES_AT] as usize,
+        codes: fs[PROLOGUE_STRIDE * k + direct::CODES] as usize,
     }
 }
 
@@ -242,19 +259,19 @@ pub fn code_at(cs: &[u64], i: usize) -> Seh
     requires { ⌜ 5 * i + 5 ≤ length (now cs) ⌝ }
     ensures { λ r. ⌜ r ≡ codeAt (now (cs .entry)) i .1 ⌝ }
 {
-    let kind = cs[CODE_STRIDE * i + 1];
-    let reg = cs[CODE_STRIDE * i + 2];
-    let value = signed64(cs[CODE_STRIDE * i + 4]);
-    if kind == 0 {
+    let kind = cs[CODE_STRIDE * i + direct::CODE_KIND];
+    let reg = cs[CODE_STRIDE * i + direct::CODE_REGISTER];
+    let value = signed64(cs[CODE_STRIDE * i + direct::CODE_VALUE]);
+    if kind == codes::PUSH {
         return Seh::Push(reg);
     }
-    if kind == 1 {
+    if kind == codes::ALLOC {
         return Seh::Alloc(value);
     }
-    if kind == 2 {
+    if kind == codes::FRAME {
         return Seh::Frame(reg, value);
     }
-    Seh::Save(reg, cs[CODE_STRIDE * i + 3] != 0, value)
+    Seh::Save(reg, cs[CODE_STRIDE * i + direct::CODE_VECTOR] != 0, value)
 }
 
 // ---- question 13 of one record
@@ -270,13 +287,13 @@ pub fn inside(at: u64, n: u64, size: u64) -> bool
 }
 
 // A caller's symbol.
-fn symbol_ok(s: u64) -> bool
+pub fn symbol_ok(s: u64) -> bool
     ensures { λ r. ⌜ r ≡ symbolOk s ⌝ }
 {
-    if s < 16 {
+    if s < FIRST_SYMBOL {
         return false;
     }
-    s < 4294967296
+    s < PAST_SYMBOLS
 }
 
 // An encoding byte and a symbol.
@@ -305,23 +322,23 @@ fn code_ok(cs: &[u64], i: usize) -> bool
     requires { ⌜ 5 * i + 5 ≤ length (now cs) ⌝ }
     ensures { λ r. ⌜ r ≡ codeOkAt (now (cs .entry)) i ⌝ }
 {
-    let kind = cs[CODE_STRIDE * i + 1];
-    if 3 < kind {
+    let kind = cs[CODE_STRIDE * i + direct::CODE_KIND];
+    if codes::SAVE < kind {
         return false;
     }
-    if kind == 3 {
-        return cs[CODE_STRIDE * i + 3] <= 1;
+    if kind == codes::SAVE {
+        return cs[CODE_STRIDE * i + direct::CODE_VECTOR] <= 1;
     }
-    if cs[CODE_STRIDE * i + 3] != 0 {
+    if cs[CODE_STRIDE * i + direct::CODE_VECTOR] != 0 {
         return false;
     }
-    if kind == 2 {
+    if kind == codes::FRAME {
         return true;
     }
-    if kind == 1 {
-        return cs[CODE_STRIDE * i + 2] == 0;
+    if kind == codes::ALLOC {
+        return cs[CODE_STRIDE * i + direct::CODE_REGISTER] == 0;
     }
-    cs[CODE_STRIDE * i + 4] == 0
+    cs[CODE_STRIDE * i + direct::CODE_VALUE] == 0
 }
 
 // ---- question 13 of the records that a function reaches
@@ -382,14 +399,14 @@ fn ranges_ok(fs: &[u64], rows: &[u64], landings: &[u64], k: usize) -> bool
     if !symbol_ok(fs[FUNCTION_STRIDE * k]) {
         return false;
     }
-    let at = fs[FUNCTION_STRIDE * k + 2];
-    let n = fs[FUNCTION_STRIDE * k + 3];
+    let at = fs[FUNCTION_STRIDE * k + function::ROWS_AT];
+    let n = fs[FUNCTION_STRIDE * k + function::ROWS];
     if !inside(at, n, (rows.len() / ROW_STRIDE) as u64) {
         return false;
     }
     inside(
-        fs[FUNCTION_STRIDE * k + 4],
-        fs[FUNCTION_STRIDE * k + 5],
+        fs[FUNCTION_STRIDE * k + function::LANDINGS_AT],
+        fs[FUNCTION_STRIDE * k + function::LANDINGS],
         (landings.len() / LANDING_STRIDE) as u64,
     )
 }
@@ -399,19 +416,25 @@ fn named_ok(fs: &[u64], k: usize) -> bool
     requires { ⌜ 18 * k + 18 ≤ length (now fs) ⌝ }
     ensures { λ r. ⌜ r ≡ namedOkAt (now (fs .entry)) k ⌝ }
 {
-    if fs[FUNCTION_STRIDE * k + 8] == 0 {
+    if fs[FUNCTION_STRIDE * k + function::PERSONALITY] == 0 {
         return true;
     }
-    if !pointer_ok(fs[FUNCTION_STRIDE * k + 9], fs[FUNCTION_STRIDE * k + 10]) {
+    if !pointer_ok(
+        fs[FUNCTION_STRIDE * k + function::ENCODING],
+        fs[FUNCTION_STRIDE * k + function::ROUTINE],
+    ) {
         return false;
     }
-    if 1 < fs[FUNCTION_STRIDE * k + 11] {
+    if 1 < fs[FUNCTION_STRIDE * k + function::LSDA] {
         return false;
     }
-    if fs[FUNCTION_STRIDE * k + 11] == 0 {
+    if fs[FUNCTION_STRIDE * k + function::LSDA] == 0 {
         return true;
     }
-    pointer_ok(fs[FUNCTION_STRIDE * k + 12], fs[FUNCTION_STRIDE * k + 13])
+    pointer_ok(
+        fs[FUNCTION_STRIDE * k + function::LSDA_ENCODING],
+        fs[FUNCTION_STRIDE * k + function::LSDA_SYMBOL],
+    )
 }
 
 // The relaxing labels of function k, where it has them, and the pairs that they reach.
@@ -419,14 +442,14 @@ fn relaxed_ok(fs: &[u64], pairs: &[u64], k: usize) -> bool
     requires { ⌜ 18 * k + 18 ≤ length (now fs) ⌝ }
     ensures { λ r. ⌜ r ≡ relaxedOkAt (now (fs .entry)) (now (pairs .entry)) k ⌝ }
 {
-    if fs[FUNCTION_STRIDE * k + 14] == 0 {
+    if fs[FUNCTION_STRIDE * k + function::RELAXED] == 0 {
         return true;
     }
-    if !symbol_ok(fs[FUNCTION_STRIDE * k + 15]) {
+    if !symbol_ok(fs[FUNCTION_STRIDE * k + function::END]) {
         return false;
     }
-    let at = fs[FUNCTION_STRIDE * k + 16];
-    let n = fs[FUNCTION_STRIDE * k + 17];
+    let at = fs[FUNCTION_STRIDE * k + function::PAIRS_AT];
+    let n = fs[FUNCTION_STRIDE * k + function::PAIRS];
     if !inside(at, n, (pairs.len() / PAIR_STRIDE) as u64) {
         return false;
     }
@@ -441,19 +464,19 @@ pub fn outline_ok(fs: &[u64], rows: &[u64], landings: &[u64], pairs: &[u64], k: 
     if !ranges_ok(fs, rows, landings, k) {
         return false;
     }
-    if 1 < fs[FUNCTION_STRIDE * k + 6] {
+    if 1 < fs[FUNCTION_STRIDE * k + function::SIMPLE] {
         return false;
     }
-    if 1 < fs[FUNCTION_STRIDE * k + 7] {
+    if 1 < fs[FUNCTION_STRIDE * k + function::SIGNAL] {
         return false;
     }
-    if 1 < fs[FUNCTION_STRIDE * k + 8] {
+    if 1 < fs[FUNCTION_STRIDE * k + function::PERSONALITY] {
         return false;
     }
     if !named_ok(fs, k) {
         return false;
     }
-    if 1 < fs[FUNCTION_STRIDE * k + 14] {
+    if 1 < fs[FUNCTION_STRIDE * k + function::RELAXED] {
         return false;
     }
     relaxed_ok(fs, pairs, k)
@@ -482,8 +505,8 @@ fn prologue_ok(fs: &[u64], codes: &[u64], k: usize) -> bool
     if !symbol_ok(fs[PROLOGUE_STRIDE * k]) {
         return false;
     }
-    let at = fs[PROLOGUE_STRIDE * k + 3];
-    let n = fs[PROLOGUE_STRIDE * k + 4];
+    let at = fs[PROLOGUE_STRIDE * k + direct::CODES_AT];
+    let n = fs[PROLOGUE_STRIDE * k + direct::CODES];
     if !inside(at, n, (codes.len() / CODE_STRIDE) as u64) {
         return false;
     }
@@ -501,7 +524,7 @@ fn sum_ok(xs: &[u64], stride: usize, j: usize, n: usize) -> bool
     let mut k = 0;
     while k < n {
         let x = xs[stride * k + j];
-        if 1048576 - sum < x {
+        if MOST_RECORDS - sum < x {
             return false;
         }
         sum += x;
@@ -515,10 +538,10 @@ fn pairs_in(fs: &[u64], k: usize) -> u64
     requires { ⌜ 18 * k + 18 ≤ length (now fs) ⌝ }
     ensures { λ r. ⌜ r ≡ pairsIn (now (fs .entry)) k ⌝ }
 {
-    if fs[FUNCTION_STRIDE * k + 14] == 0 {
+    if fs[FUNCTION_STRIDE * k + function::RELAXED] == 0 {
         return 0;
     }
-    fs[FUNCTION_STRIDE * k + 17]
+    fs[FUNCTION_STRIDE * k + function::PAIRS]
 }
 
 // The pairs of n functions, summed, are at most the most of records.
@@ -530,7 +553,7 @@ fn pairs_sum_ok(fs: &[u64], n: usize) -> bool
     let mut k = 0;
     while k < n {
         let pairs = pairs_in(fs, k);
-        if 1048576 - sum < pairs {
+        if MOST_RECORDS - sum < pairs {
             return false;
         }
         sum += pairs;
@@ -559,13 +582,13 @@ pub fn sums_ok(fs: &[u64]) -> bool
     ensures { λ r. ⌜ r ≡ sumsOk (now (fs .entry)) ⌝ }
 {
     let n = fs.len() / FUNCTION_STRIDE;
-    if 65536 < n {
+    if MOST_FUNCTIONS < n {
         return false;
     }
-    if !sum_ok(fs, 18, 3, n) {
+    if !sum_ok(fs, FUNCTION_STRIDE, function::ROWS, n) {
         return false;
     }
-    if !sum_ok(fs, 18, 5, n) {
+    if !sum_ok(fs, FUNCTION_STRIDE, function::LANDINGS, n) {
         return false;
     }
     pairs_sum_ok(fs, n)
@@ -601,10 +624,10 @@ pub fn codes_ok(fs: &[u64], codes: &[u64]) -> bool
     ensures { λ r. ⌜ r ≡ codesOk (now (fs .entry)) (now (codes .entry)) ⌝ }
 {
     let n = fs.len() / PROLOGUE_STRIDE;
-    if 65536 < n {
+    if MOST_FUNCTIONS < n {
         return false;
     }
-    if !sum_ok(fs, 5, 4, n) {
+    if !sum_ok(fs, PROLOGUE_STRIDE, direct::CODES, n) {
         return false;
     }
     prologues_ok(fs, codes, n)

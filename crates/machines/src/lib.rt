@@ -8,6 +8,8 @@ ghost use Rattle.format.specs.Machine.{x8664};
 ghost use Rattle.machines.specs.Numbers.{machineNumbers, stored};
 use format::Machine;
 use leb::wide;
+use numbers::machine::MAPPED;
+use numbers::machine::STRIDE;
 use relocs::number;
 
 // The six numbers in front of the map.
@@ -29,11 +31,11 @@ fn map(out: &mut [u64], at: usize, numbers: [u8; 64]) -> usize
     ensures { λ r. ⌜ Wrote (now (out .entry)) (now (out .exit)) at r numbers ⌝ }
 {
     let mut i = 0;
-    while i < 64 {
+    while i < MAPPED {
         out[at + i] = wide(numbers[i]);
         i += 1;
     }
-    at + 64
+    at + MAPPED
 }
 
 // The x86-64 of the System V psABI, at the front of a lent list: 0, or 54 where the list has fewer than 70 numbers.
@@ -41,7 +43,7 @@ fn map(out: &mut [u64], at: usize, numbers: [u8; 64]) -> usize
 pub extern "C" fn unwind_machine_x86_64(machine: &mut [u64]) -> u64
     ensures { λ r. ⌜ (r, now (machine .exit)) ≡ stored (machineNumbers x8664) (now (machine .entry)) ⌝ }
 {
-    if machine.len() < 70 {
+    if machine.len() < STRIDE {
         return 54;
     }
     let m = Machine::x86_64();

@@ -310,7 +310,7 @@ fn remembers(rows: &[u64], i: usize) -> bool
     requires { ⌜ 4 * i + 4 ≤ length (now rows) ⌝ }
     ensures { λ r. ⌜ r ≡ eqb (kindOf (rowAt (now (rows .entry)) i .1)) 6 ⌝ }
 {
-    rows[4 * i + 1] == 6
+    rows[rows::ROW_STRIDE * i + rows::ROW_KIND] == numbers::kinds::REMEMBER_STATE
 }
 
 // The index past the last row before the first RememberState, of the n rows from `at` on.

@@ -25,6 +25,7 @@ use header_keys::kind_of;
 use lists::Extent;
 use lists::Landing;
 use lists::Pair;
+use numbers::encodings;
 
 // ---- call sites
 
@@ -79,9 +80,9 @@ fn site_table(out: &mut [u8], at: usize, landings: &[u64], first: usize, n: usiz
     requires { ⌜ (first + n ≤ count landingStride (now landings)) × (n ≤ mostRecords) × (at + 3 + length (uleb (length (sitesIn (now landings) first n))) + length (sitesIn (now landings) first n) ≤ length (now out)) ⌝ }
     ensures { λ r. ⌜ Wrote (now (out .entry)) (now (out .exit)) at r (siteTable (each (landingAt (now (landings .entry))) first n)) ⌝ }
 {
-    let a = leb::byte(out, at, 0xff);
-    let b = leb::byte(out, a, 0xff);
-    let c = leb::byte(out, b, 0x01);
+    let a = leb::byte(out, at, encodings::DW_EH_PE_OMIT);
+    let b = leb::byte(out, a, encodings::DW_EH_PE_OMIT);
+    let c = leb::byte(out, b, encodings::DW_EH_PE_ULEB128);
     let d = leb::uleb(out, c, sites_size(landings, first, n) as u64);
     sites(out, d, landings, first, n)
 }
@@ -321,7 +322,7 @@ fn place_of(pairs: &[u64], i: usize) -> u64
     requires { ⌜ 4 * i + 4 ≤ length (now pairs) ⌝ }
     ensures { λ r. ⌜ r ≡ pairAt (now (pairs .entry)) i .place1 ⌝ }
 {
-    pairs[4 * i]
+    pairs[lists::PAIR_STRIDE * i]
 }
 
 // The first places of the n pairs from `at` on rise, as where an assembler lists pairs in the order of the rows.

@@ -23,6 +23,36 @@ use format::Operation;
 use format::Row;
 use format::Signed;
 use format::Unsigned;
+use numbers::kinds;
+use numbers::opcodes;
+
+// A row in a list: how many numbers it has, and where its kind, register and second operand stand behind its offset.
+pub const ROW_STRIDE: usize = 4;
+
+pub const ROW_KIND: usize = 1;
+
+pub const ROW_REGISTER: usize = 2;
+
+pub const ROW_OPERAND: usize = 3;
+
+// A register has 16 bits and an offset 32, in two's complement: NEGATIVE is the first that is below 0.
+pub const REGISTERS: u64 = 65536;
+
+const OFFSETS: u64 = 4294967296;
+
+const HIGHEST_OFFSET: u64 = 4294967295;
+
+const NEGATIVE: u64 = 2147483648;
+
+// What an opcode holds in its low six bits at most: a step, or a register.
+const MOST_IN_OPCODE: u64 = 0x3f;
+
+const MOST_REGISTER_IN_OPCODE: u16 = 0x3f;
+
+// A number below these has one byte in ULEB128, or two.
+const ONE_BYTE: u64 = 128;
+
+const TWO_BYTES: u64 = 16384;
 
 // ---- a row out of the lists
 
@@ -31,7 +61,7 @@ pub fn offset_at(rows: &[u64], i: usize) -> u64
     requires { ⌜ 4 * i + 4 ≤ length (now rows) ⌝ }
     ensures { λ r. ⌜ r ≡ field rowStride (now (rows .entry)) i 0 ⌝ }
 {
-    rows[4 * i]
+    rows[ROW_STRIDE * i]
 }
 
 // The number whose 32 bits, in two's complement, are x.
@@ -39,10 +69,10 @@ fn signed32(x: u64) -> i64
     requires { ⌜ x < 2 ^ 32 ⌝ }
     ensures { λ r. ⌜ r ≡ toZ w32 x ⌝ }
 {
-    if x < 2147483648 {
+    if x < NEGATIVE {
         x as i64
     } else {
-        -1 - ((4294967295 - x) as i64)
+        -1 - ((HIGHEST_OFFSET - x) as i64)
     }
 }
 
@@ -53,16 +83,16 @@ fn row_of(kind: u64, reg: u64, off: u64) -> Row
     let g = reg as u16;
     let z = signed32(off);
     match kind {
-        0 => Row::DefCfa(g, z),
-        1 => Row::DefCfaOffset(z),
-        2 => Row::DefCfaRegister(g),
-        3 => Row::Offset(g, z),
-        4 => Row::Restore(g),
-        5 => Row::Undefined(g),
-        6 => Row::RememberState,
-        7 => Row::RestoreState,
-        9 => Row::SameValue(g),
-        10 => Row::InRegister(g, off as u16),
+        kinds::DEF_CFA => Row::DefCfa(g, z),
+        kinds::DEF_CFA_OFFSET => Row::DefCfaOffset(z),
+        kinds::DEF_CFA_REGISTER => Row::DefCfaRegister(g),
+        kinds::OFFSET => Row::Offset(g, z),
+        kinds::RESTORE => Row::Restore(g),
+        kinds::UNDEFINED => Row::Undefined(g),
+        kinds::REMEMBER_STATE => Row::RememberState,
+        kinds::RESTORE_STATE => Row::RestoreState,
+        kinds::SAME_VALUE => Row::SameValue(g),
+        kinds::IN_REGISTER => Row::InRegister(g, off as u16),
         _ => Row::NegateRaState,
     }
 }
@@ -72,7 +102,11 @@ pub fn row_at(rows: &[u64], i: usize) -> Row
     requires { ⌜ (4 * i + 4 ≤ length (now rows)) × T (rowOkAt (now rows) i) ⌝ }
     ensures { λ r. ⌜ r ≡ rowAt (now (rows .entry)) i .1 ⌝ }
 {
-    row_of(rows[4 * i + 1], rows[4 * i + 2], rows[4 * i + 3])
+    row_of(
+        rows[ROW_STRIDE * i + ROW_KIND],
+        rows[ROW_STRIDE * i + ROW_REGISTER],
+        rows[ROW_STRIDE * i + ROW_OPERAND],
+    )
 }
 
 // How many registers and how many second operands a kind may name.
@@ -80,13 +114,13 @@ fn registers(kind: u64) -> u64
     ensures { λ r. ⌜ r ≡ pick (hasRegister kind) 65536 1 ⌝ }
 {
     match kind {
-        0 => 65536,
-        2 => 65536,
-        3 => 65536,
-        4 => 65536,
-        5 => 65536,
-        9 => 65536,
-        10 => 65536,
+        kinds::DEF_CFA => REGISTERS,
+        kinds::DEF_CFA_REGISTER => REGISTERS,
+        kinds::OFFSET => REGISTERS,
+        kinds::RESTORE => REGISTERS,
+        kinds::UNDEFINED => REGISTERS,
+        kinds::SAME_VALUE => REGISTERS,
+        kinds::IN_REGISTER => REGISTERS,
         _ => 1,
     }
 }
@@ -97,17 +131,17 @@ fn second_operands(kind: u64) -> u64
     ensures { λ r. ⌜ r ≡ secondOperands kind ⌝ }
 {
     match kind {
-        0 => 4294967296,
-        1 => 4294967296,
-        2 => 1,
-        3 => 4294967296,
-        4 => 1,
-        5 => 1,
-        6 => 1,
-        7 => 1,
-        8 => 1,
-        9 => 1,
-        10 => 65536,
+        kinds::DEF_CFA => OFFSETS,
+        kinds::DEF_CFA_OFFSET => OFFSETS,
+        kinds::DEF_CFA_REGISTER => 1,
+        kinds::OFFSET => OFFSETS,
+        kinds::RESTORE => 1,
+        kinds::UNDEFINED => 1,
+        kinds::REMEMBER_STATE => 1,
+        kinds::RESTORE_STATE => 1,
+        kinds::NEGATE_RA_STATE => 1,
+        kinds::SAME_VALUE => 1,
+        kinds::IN_REGISTER => REGISTERS,
         _ => 0,
     }
 }
@@ -116,7 +150,7 @@ fn second_operands(kind: u64) -> u64
 fn row_shape(kind: u64, reg: u64, off: u64) -> bool
     ensures { λ r. ⌜ r ≡ rowOk kind reg off ⌝ }
 {
-    if 10 < kind {
+    if kinds::IN_REGISTER < kind {
         return false;
     }
     if registers(kind) <= reg {
@@ -130,7 +164,11 @@ pub fn row_ok(rows: &[u64], i: usize) -> bool
     requires { ⌜ 4 * i + 4 ≤ length (now rows) ⌝ }
     ensures { λ r. ⌜ r ≡ rowOkAt (now (rows .entry)) i ⌝ }
 {
-    row_shape(rows[4 * i + 1], rows[4 * i + 2], rows[4 * i + 3])
+    row_shape(
+        rows[ROW_STRIDE * i + ROW_KIND],
+        rows[ROW_STRIDE * i + ROW_REGISTER],
+        rows[ROW_STRIDE * i + ROW_OPERAND],
+    )
 }
 
 // ---- questions of one row
@@ -213,10 +251,10 @@ fn numbers_whole(word: u64, kind: u64, reg: u64, off: u64) -> bool
     if in_words(word, off) {
         return true;
     }
-    if kind == 3 {
+    if kind == kinds::OFFSET {
         return false;
     }
-    off < 2147483648
+    off < NEGATIVE
 }
 
 // The same of row i.
@@ -224,7 +262,12 @@ pub fn row_surely_whole(word: u64, rows: &[u64], i: usize) -> bool
     requires { ⌜ T (isWord word) × (4 * i + 4 ≤ length (now rows)) × T (rowOkAt (now rows) i) ⌝ }
     ensures { λ r. ⌜ (r ≡ true → rowWhole word (rowAt (now (rows .entry)) i .1) ≡ true) ⌝ }
 {
-    numbers_whole(word, rows[4 * i + 1], rows[4 * i + 2], rows[4 * i + 3])
+    numbers_whole(
+        word,
+        rows[ROW_STRIDE * i + ROW_KIND],
+        rows[ROW_STRIDE * i + ROW_REGISTER],
+        rows[ROW_STRIDE * i + ROW_OPERAND],
+    )
 }
 
 // A row's kind, register (or 0) and second operand (or 0).
@@ -232,17 +275,17 @@ pub fn kind(r: Row) -> u64
     ensures { λ n. ⌜ n ≡ kindOf r ⌝ }
 {
     match r {
-        Row::DefCfa(_, _) => 0,
-        Row::DefCfaOffset(_) => 1,
-        Row::DefCfaRegister(_) => 2,
-        Row::Offset(_, _) => 3,
-        Row::Restore(_) => 4,
-        Row::Undefined(_) => 5,
-        Row::RememberState => 6,
-        Row::RestoreState => 7,
-        Row::NegateRaState => 8,
-        Row::SameValue(_) => 9,
-        Row::InRegister(_, _) => 10,
+        Row::DefCfa(_, _) => kinds::DEF_CFA,
+        Row::DefCfaOffset(_) => kinds::DEF_CFA_OFFSET,
+        Row::DefCfaRegister(_) => kinds::DEF_CFA_REGISTER,
+        Row::Offset(_, _) => kinds::OFFSET,
+        Row::Restore(_) => kinds::RESTORE,
+        Row::Undefined(_) => kinds::UNDEFINED,
+        Row::RememberState => kinds::REMEMBER_STATE,
+        Row::RestoreState => kinds::RESTORE_STATE,
+        Row::NegateRaState => kinds::NEGATE_RA_STATE,
+        Row::SameValue(_) => kinds::SAME_VALUE,
+        Row::InRegister(_, _) => kinds::IN_REGISTER,
     }
 }
 
@@ -341,7 +384,11 @@ fn def_cfa(out: &mut [u8], at: usize, word: u64, reg: u16, z: i64) -> usize
     requires { ⌜ (2 ≤ word) × (word ≤ 8) × (at + length (cfaBytes word 0x0c 0x12 (uleb reg) z) ≤ length (now out)) ⌝ }
     ensures { λ r. ⌜ Wrote (now (out .entry)) (now (out .exit)) at r (cfaBytes word 0x0c 0x12 (uleb reg) z) ⌝ }
 {
-    let a = leb::byte(out, at, by_sign(0x0c, 0x12, z));
+    let a = leb::byte(
+        out,
+        at,
+        by_sign(opcodes::DW_CFA_DEF_CFA, opcodes::DW_CFA_DEF_CFA_SF, z),
+    );
     let b = leb::uleb(out, a, reg as u64);
     frame_offset(out, b, word, z)
 }
@@ -350,7 +397,15 @@ fn def_cfa_offset(out: &mut [u8], at: usize, word: u64, z: i64) -> usize
     requires { ⌜ (2 ≤ word) × (word ≤ 8) × (at + length (cfaBytes word 0x0e 0x13 [] z) ≤ length (now out)) ⌝ }
     ensures { λ r. ⌜ Wrote (now (out .entry)) (now (out .exit)) at r (cfaBytes word 0x0e 0x13 [] z) ⌝ }
 {
-    let a = leb::byte(out, at, by_sign(0x0e, 0x13, z));
+    let a = leb::byte(
+        out,
+        at,
+        by_sign(
+            opcodes::DW_CFA_DEF_CFA_OFFSET,
+            opcodes::DW_CFA_DEF_CFA_OFFSET_SF,
+            z,
+        ),
+    );
     frame_offset(out, a, word, z)
 }
 
@@ -359,7 +414,7 @@ fn opcode(out: &mut [u8], at: usize, short: u8, long: u8, reg: u16) -> usize
     requires { ⌜ (short ≤ 192) × (at + length (withRegister short long reg []) ≤ length (now out)) ⌝ }
     ensures { λ r. ⌜ Wrote (now (out .entry)) (now (out .exit)) at r (withRegister short long reg []) ⌝ }
 {
-    if reg <= 63 {
+    if reg <= MOST_REGISTER_IN_OPCODE {
         return leb::byte(out, at, short + reg as u8);
     }
     let a = leb::byte(out, at, long);
@@ -369,7 +424,7 @@ fn opcode(out: &mut [u8], at: usize, short: u8, long: u8, reg: u16) -> usize
 fn opcode_size(reg: u16) -> usize
     ensures { λ r. ⌜ r ≡ length (withRegister 0 0 reg []) ⌝ }
 {
-    if 63 < reg {
+    if MOST_REGISTER_IN_OPCODE < reg {
         return 1 + leb::uleb_size(reg as u64);
     }
     1
@@ -389,7 +444,7 @@ fn in_register(out: &mut [u8], at: usize, reg: u16, other: u16) -> usize
     requires { ⌜ at + 1 + length (uleb reg) + length (uleb other) ≤ length (now out) ⌝ }
     ensures { λ r. ⌜ Wrote (now (out .entry)) (now (out .exit)) at r (0x09 ∷ (uleb reg ++ uleb other)) ⌝ }
 {
-    let a = named(out, at, 0x09, reg);
+    let a = named(out, at, opcodes::DW_CFA_REGISTER, reg);
     leb::uleb(out, a, other as u64)
 }
 
@@ -399,10 +454,16 @@ pub fn saved(out: &mut [u8], at: usize, reg: u16, z: i64) -> usize
     ensures { λ r. ⌜ Wrote (now (out .entry)) (now (out .exit)) at r (savedBytes reg z) ⌝ }
 {
     if z < 0 {
-        let a = named(out, at, 0x11, reg);
+        let a = named(out, at, opcodes::DW_CFA_OFFSET_EXTENDED_SF, reg);
         return leb::sleb(out, a, z);
     }
-    let a = opcode(out, at, 0x80, 0x05, reg);
+    let a = opcode(
+        out,
+        at,
+        opcodes::DW_CFA_OFFSET,
+        opcodes::DW_CFA_OFFSET_EXTENDED,
+        reg,
+    );
     leb::uleb(out, a, z as u64)
 }
 
@@ -423,14 +484,20 @@ pub fn row(out: &mut [u8], at: usize, word: u64, r: Row) -> usize
     match r {
         Row::DefCfa(reg, z) => def_cfa(out, at, word, reg, z),
         Row::DefCfaOffset(z) => def_cfa_offset(out, at, word, z),
-        Row::DefCfaRegister(reg) => named(out, at, 0x0d, reg),
+        Row::DefCfaRegister(reg) => named(out, at, opcodes::DW_CFA_DEF_CFA_REGISTER, reg),
         Row::Offset(reg, z) => saved(out, at, reg, factored(word, z)),
-        Row::Restore(reg) => opcode(out, at, 0xc0, 0x06, reg),
-        Row::Undefined(reg) => named(out, at, 0x07, reg),
-        Row::RememberState => leb::byte(out, at, 0x0a),
-        Row::RestoreState => leb::byte(out, at, 0x0b),
-        Row::NegateRaState => leb::byte(out, at, 0x2d),
-        Row::SameValue(reg) => named(out, at, 0x08, reg),
+        Row::Restore(reg) => opcode(
+            out,
+            at,
+            opcodes::DW_CFA_RESTORE,
+            opcodes::DW_CFA_RESTORE_EXTENDED,
+            reg,
+        ),
+        Row::Undefined(reg) => named(out, at, opcodes::DW_CFA_UNDEFINED, reg),
+        Row::RememberState => leb::byte(out, at, opcodes::DW_CFA_REMEMBER_STATE),
+        Row::RestoreState => leb::byte(out, at, opcodes::DW_CFA_RESTORE_STATE),
+        Row::NegateRaState => leb::byte(out, at, opcodes::DW_CFA_AARCH64_NEGATE_RA_STATE),
+        Row::SameValue(reg) => named(out, at, opcodes::DW_CFA_SAME_VALUE, reg),
         Row::InRegister(reg, other) => in_register(out, at, reg, other),
     }
 }
@@ -461,10 +528,10 @@ fn def_cfa_in(out: &mut [u8], at: usize, word: u64, reg: u16, off: u64) -> usize
     requires { ⌜ (2 ≤ word) × (word ≤ 8) × (off < 2 ^ 32) × (at + length (cfaBytes word 0x0c 0x12 (uleb reg) (toZ w32 off)) ≤ length (now out)) ⌝ }
     ensures { λ r. ⌜ Wrote (now (out .entry)) (now (out .exit)) at r (cfaBytes word 0x0c 0x12 (uleb reg) (toZ w32 off)) ⌝ }
 {
-    if 2147483648 <= off {
+    if NEGATIVE <= off {
         return def_cfa(out, at, word, reg, signed32(off));
     }
-    let a = named(out, at, 0x0c, reg);
+    let a = named(out, at, opcodes::DW_CFA_DEF_CFA, reg);
     leb::uleb(out, a, off)
 }
 
@@ -472,10 +539,10 @@ fn def_cfa_offset_in(out: &mut [u8], at: usize, word: u64, off: u64) -> usize
     requires { ⌜ (2 ≤ word) × (word ≤ 8) × (off < 2 ^ 32) × (at + length (cfaBytes word 0x0e 0x13 [] (toZ w32 off)) ≤ length (now out)) ⌝ }
     ensures { λ r. ⌜ Wrote (now (out .entry)) (now (out .exit)) at r (cfaBytes word 0x0e 0x13 [] (toZ w32 off)) ⌝ }
 {
-    if 2147483648 <= off {
+    if NEGATIVE <= off {
         return def_cfa_offset(out, at, word, signed32(off));
     }
-    let a = leb::byte(out, at, 0x0e);
+    let a = leb::byte(out, at, opcodes::DW_CFA_DEF_CFA_OFFSET);
     leb::uleb(out, a, off)
 }
 
@@ -486,17 +553,23 @@ fn operation_of(out: &mut [u8], at: usize, word: u64, kind: u64, reg: u64, off: 
 {
     let g = reg as u16;
     match kind {
-        0 => def_cfa_in(out, at, word, g, off),
-        1 => def_cfa_offset_in(out, at, word, off),
-        2 => named(out, at, 0x0d, g),
-        3 => saved(out, at, g, factored(word, signed32(off))),
-        4 => opcode(out, at, 0xc0, 0x06, g),
-        5 => named(out, at, 0x07, g),
-        6 => leb::byte(out, at, 0x0a),
-        7 => leb::byte(out, at, 0x0b),
-        9 => named(out, at, 0x08, g),
-        10 => in_register(out, at, g, off as u16),
-        _ => leb::byte(out, at, 0x2d),
+        kinds::DEF_CFA => def_cfa_in(out, at, word, g, off),
+        kinds::DEF_CFA_OFFSET => def_cfa_offset_in(out, at, word, off),
+        kinds::DEF_CFA_REGISTER => named(out, at, opcodes::DW_CFA_DEF_CFA_REGISTER, g),
+        kinds::OFFSET => saved(out, at, g, factored(word, signed32(off))),
+        kinds::RESTORE => opcode(
+            out,
+            at,
+            opcodes::DW_CFA_RESTORE,
+            opcodes::DW_CFA_RESTORE_EXTENDED,
+            g,
+        ),
+        kinds::UNDEFINED => named(out, at, opcodes::DW_CFA_UNDEFINED, g),
+        kinds::REMEMBER_STATE => leb::byte(out, at, opcodes::DW_CFA_REMEMBER_STATE),
+        kinds::RESTORE_STATE => leb::byte(out, at, opcodes::DW_CFA_RESTORE_STATE),
+        kinds::SAME_VALUE => named(out, at, opcodes::DW_CFA_SAME_VALUE, g),
+        kinds::IN_REGISTER => in_register(out, at, g, off as u16),
+        _ => leb::byte(out, at, opcodes::DW_CFA_AARCH64_NEGATE_RA_STATE),
     }
 }
 
@@ -509,9 +582,9 @@ pub fn row_in(out: &mut [u8], at: usize, word: u64, rows: &[u64], i: usize) -> u
         out,
         at,
         word,
-        rows[4 * i + 1],
-        rows[4 * i + 2],
-        rows[4 * i + 3],
+        rows[ROW_STRIDE * i + ROW_KIND],
+        rows[ROW_STRIDE * i + ROW_REGISTER],
+        rows[ROW_STRIDE * i + ROW_OPERAND],
     )
 }
 
@@ -522,16 +595,16 @@ fn operation_size(word: u64, kind: u64, reg: u64, off: u64) -> usize
 {
     let z = signed32(off);
     match kind {
-        0 => 1 + leb::uleb_size(reg) + frame_offset_size(word, z),
-        1 => 1 + frame_offset_size(word, z),
-        2 => 1 + leb::uleb_size(reg),
-        3 => saved_size(reg as u16, factored(word, z)),
-        4 => opcode_size(reg as u16),
-        5 => 1 + leb::uleb_size(reg),
-        6 => 1,
-        7 => 1,
-        9 => 1 + leb::uleb_size(reg),
-        10 => 1 + leb::uleb_size(reg) + leb::uleb_size(off),
+        kinds::DEF_CFA => 1 + leb::uleb_size(reg) + frame_offset_size(word, z),
+        kinds::DEF_CFA_OFFSET => 1 + frame_offset_size(word, z),
+        kinds::DEF_CFA_REGISTER => 1 + leb::uleb_size(reg),
+        kinds::OFFSET => saved_size(reg as u16, factored(word, z)),
+        kinds::RESTORE => opcode_size(reg as u16),
+        kinds::UNDEFINED => 1 + leb::uleb_size(reg),
+        kinds::REMEMBER_STATE => 1,
+        kinds::RESTORE_STATE => 1,
+        kinds::SAME_VALUE => 1 + leb::uleb_size(reg),
+        kinds::IN_REGISTER => 1 + leb::uleb_size(reg) + leb::uleb_size(off),
         _ => 1,
     }
 }
@@ -542,17 +615,17 @@ fn short_size(kind: u64) -> usize
     ensures { λ r. ⌜ (r ≡ shortSize kind) × (r ≤ 3) ⌝ }
 {
     match kind {
-        0 => 3,
-        1 => 2,
-        2 => 2,
-        3 => 2,
-        4 => 1,
-        5 => 2,
-        6 => 1,
-        7 => 1,
-        8 => 1,
-        9 => 2,
-        10 => 3,
+        kinds::DEF_CFA => 3,
+        kinds::DEF_CFA_OFFSET => 2,
+        kinds::DEF_CFA_REGISTER => 2,
+        kinds::OFFSET => 2,
+        kinds::RESTORE => 1,
+        kinds::UNDEFINED => 2,
+        kinds::REMEMBER_STATE => 1,
+        kinds::RESTORE_STATE => 1,
+        kinds::NEGATE_RA_STATE => 1,
+        kinds::SAME_VALUE => 2,
+        kinds::IN_REGISTER => 3,
         _ => 0,
     }
 }
@@ -562,8 +635,8 @@ fn scaled(word: u64, kind: u64, off: u64) -> u64
     requires { ⌜ (word ≤ 8) × (off < 2 ^ 32) ⌝ }
     ensures { λ r. ⌜ r ≡ scaled word kind off ⌝ }
 {
-    if kind == 3 {
-        return (4294967296 - off) % 4294967296;
+    if kind == kinds::OFFSET {
+        return (OFFSETS - off) % OFFSETS;
     }
     off * word
 }
@@ -573,7 +646,7 @@ fn second_byte(word: u64, y: u64) -> usize
     requires { ⌜ word ≤ 8 ⌝ }
     ensures { λ r. ⌜ (r ≡ secondByte word y) × (r ≤ 1) ⌝ }
 {
-    if y < 128 * word {
+    if y < ONE_BYTE * word {
         return 0;
     }
     1
@@ -586,10 +659,10 @@ fn numbers_size(word: u64, kind: u64, reg: u64, off: u64) -> usize
     ensures { λ n. ⌜ n ≡ length (rowBytes word (rowOf kind reg off)) ⌝ }
 {
     let y = scaled(word, kind, off);
-    if 63 < reg {
+    if MOST_IN_OPCODE < reg {
         return operation_size(word, kind, reg, off);
     }
-    if 16384 * word <= y {
+    if TWO_BYTES * word <= y {
         return operation_size(word, kind, reg, off);
     }
     short_size(kind) + second_byte(word, y)
@@ -600,7 +673,12 @@ pub fn row_in_size(word: u64, rows: &[u64], i: usize) -> usize
     requires { ⌜ (2 ≤ word) × (word ≤ 8) × (4 * i + 4 ≤ length (now rows)) × T (rowOkAt (now rows) i) ⌝ }
     ensures { λ n. ⌜ n ≡ length (rowBytes word (rowAt (now (rows .entry)) i .1)) ⌝ }
 {
-    numbers_size(word, rows[4 * i + 1], rows[4 * i + 2], rows[4 * i + 3])
+    numbers_size(
+        word,
+        rows[ROW_STRIDE * i + ROW_KIND],
+        rows[ROW_STRIDE * i + ROW_REGISTER],
+        rows[ROW_STRIDE * i + ROW_OPERAND],
+    )
 }
 
 // ---- a step written, and its size
@@ -609,7 +687,7 @@ pub fn row_in_size(word: u64, rows: &[u64], i: usize) -> usize
 pub fn step_form(by: u64) -> u64
     ensures { λ r. ⌜ r ≡ stepForm by ⌝ }
 {
-    if by <= 0x3f {
+    if by <= MOST_IN_OPCODE {
         return 0;
     }
     if by <= 0xff {
@@ -626,12 +704,12 @@ fn step_opcode(form: u64) -> u8
     ensures { λ r. ⌜ r ≡ stepOpcode form ⌝ }
 {
     if form == 1 {
-        return 0x02;
+        return opcodes::DW_CFA_ADVANCE_LOC1;
     }
     if form == 2 {
-        return 0x03;
+        return opcodes::DW_CFA_ADVANCE_LOC2;
     }
-    0x04
+    opcodes::DW_CFA_ADVANCE_LOC4
 }
 
 fn step_width(form: u64) -> usize
@@ -652,7 +730,7 @@ pub fn step_in(out: &mut [u8], at: usize, form: u64, by: u64) -> usize
     ensures { λ r. ⌜ Wrote (now (out .entry)) (now (out .exit)) at r (stepIn form by) ⌝ }
 {
     if form == 0 {
-        return leb::byte(out, at, 0x40 + by as u8);
+        return leb::byte(out, at, opcodes::DW_CFA_ADVANCE_LOC + by as u8);
     }
     let a = leb::byte(out, at, step_opcode(form));
     leb::le(out, a, step_width(form), by)

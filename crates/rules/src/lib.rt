@@ -150,16 +150,21 @@ pub fn row_check(fs: &[u64], rows: &[u64], k: u64) -> bool
         return false;
     }
     let b = lists::FUNCTION_STRIDE * k as usize;
-    if 1 < fs[b + 6] {
+    if 1 < fs[b + lists::function::SIMPLE] {
         return false;
     }
-    let at = fs[b + 2];
-    let n = fs[b + 3];
-    if !lists::inside(at, n, (rows.len() / lists::ROW_STRIDE) as u64) {
+    let at = fs[b + lists::function::ROWS_AT];
+    let n = fs[b + lists::function::ROWS];
+    if !lists::inside(at, n, (rows.len() / rows::ROW_STRIDE) as u64) {
         return false;
     }
     if !lists::rows_ok(rows, at as usize, n as usize) {
         return false;
     }
-    rows_check(rows, at as usize, n as usize, fs[b + 6] != 0)
+    rows_check(
+        rows,
+        at as usize,
+        n as usize,
+        fs[b + lists::function::SIMPLE] != 0,
+    )
 }

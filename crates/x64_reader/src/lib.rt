@@ -10,6 +10,7 @@ ghost use Rattle.format.specs.Answers.{bit};
 ghost use Rattle.format.specs.X64Reader.{operandBytes, largeSize, meaning, fieldsOf, frameRegister, frameOffset, readCodes, readX64, infoNumbers, codesStored};
 ghost use Rattle.x64_reader.specs.Reads.{operandOf, Small, fieldNumbers, CodeSays, orFrame, countedOf, Held, storedOf, HeaderSays, readNumbers};
 use format::Unsigned;
+use numbers::codes;
 
 // ---- unwind operation codes
 
@@ -28,15 +29,6 @@ const UWOP_SAVE_NONVOL_FAR: u64 = 5;
 const UWOP_SAVE_XMM128: u64 = 8;
 
 const UWOP_SAVE_XMM128_FAR: u64 = 9;
-
-// The kinds of codes, as `seh` takes them.
-const PUSH: u64 = 0;
-
-const ALLOC: u64 = 1;
-
-const FRAME: u64 = 2;
-
-const SAVE: u64 = 3;
 
 // ---- one code
 
@@ -107,14 +99,14 @@ fn meaning(frame: u64, op: u64, info: u64, v: u64) -> Fields
     ensures { λ r. ⌜ fieldNumbers r ≡ fieldsOf (meaning frame op info v) ⌝ }
 {
     match op {
-        UWOP_PUSH_NONVOL => fields_with(PUSH, info, 0, 0),
-        UWOP_ALLOC_LARGE => fields_with(ALLOC, 0, 0, large_size(info, v)),
-        UWOP_ALLOC_SMALL => fields_with(ALLOC, 0, 0, 8 * info + 8),
-        UWOP_SET_FPREG => fields_with(FRAME, frame % 16, 0, 16 * (frame / 16)),
-        UWOP_SAVE_NONVOL => fields_with(SAVE, info, 0, 8 * v),
-        UWOP_SAVE_NONVOL_FAR => fields_with(SAVE, info, 0, v),
-        UWOP_SAVE_XMM128 => fields_with(SAVE, info, 1, 16 * v),
-        _ => fields_with(SAVE, info, 1, v),
+        UWOP_PUSH_NONVOL => fields_with(codes::PUSH, info, 0, 0),
+        UWOP_ALLOC_LARGE => fields_with(codes::ALLOC, 0, 0, large_size(info, v)),
+        UWOP_ALLOC_SMALL => fields_with(codes::ALLOC, 0, 0, 8 * info + 8),
+        UWOP_SET_FPREG => fields_with(codes::FRAME, frame % 16, 0, 16 * (frame / 16)),
+        UWOP_SAVE_NONVOL => fields_with(codes::SAVE, info, 0, 8 * v),
+        UWOP_SAVE_NONVOL_FAR => fields_with(codes::SAVE, info, 0, v),
+        UWOP_SAVE_XMM128 => fields_with(codes::SAVE, info, 1, 16 * v),
+        _ => fields_with(codes::SAVE, info, 1, v),
     }
 }
 
@@ -159,7 +151,7 @@ fn code_at(s: &[u8], at: usize, frame: u64) -> Code
 fn or_frame(framed: bool, kind: u64) -> bool
     ensures { λ r. ⌜ r ≡ orFrame framed kind ⌝ }
 {
-    if kind == FRAME {
+    if kind == codes::FRAME {
         return true;
     }
     framed
