@@ -9,8 +9,10 @@ ghost use Rattle.format.specs.Shortest.{everyShort};
 ghost use Rattle.format.specs.CallSiteReader.{siteOf, covers, headOk, readSites, siteAt, sitesShort, markedSite};
 ghost use Rattle.call_sites.specs.Reads.{EntrySays, TableThere, TableSays, numbersOf, markedOf, keptOf, foundOf};
 use format::Unsigned;
-use leb::UnsignedSpelling;
 use numbers::encodings;
+use operations::fields::UnsignedSpelling;
+use operations::fields::read_uleb;
+use operations::fields::uleb_spelling;
 
 // ---- one entry
 
@@ -24,16 +26,16 @@ pub enum Entry {
 fn entry_at(s: &[u8], at: usize) -> Entry
     ensures { λ r. ⌜ EntrySays (now (s .entry)) at r ⌝ }
 {
-    let Unsigned::Value(start, sized) = leb::read_uleb(s, at) else {
+    let Unsigned::Value(start, sized) = read_uleb(s, at) else {
         return Entry::Bad;
     };
-    let Unsigned::Value(length, padded) = leb::read_uleb(s, sized) else {
+    let Unsigned::Value(length, padded) = read_uleb(s, sized) else {
         return Entry::Bad;
     };
-    let Unsigned::Value(pad, acting) = leb::read_uleb(s, padded) else {
+    let Unsigned::Value(pad, acting) = read_uleb(s, padded) else {
         return Entry::Bad;
     };
-    let Unsigned::Value(_, past) = leb::read_uleb(s, acting) else {
+    let Unsigned::Value(_, past) = read_uleb(s, acting) else {
         return Entry::Bad;
     };
     if 18446744073709551615 - start < length {
@@ -153,7 +155,7 @@ fn table_at(sites: &[u8], place: u64) -> Table
     if !head_ok(sites[p], sites[p + 1], sites[p + 2]) {
         return Table::Bad;
     }
-    let Unsigned::Value(n, at) = leb::read_uleb(sites, p + 3) else {
+    let Unsigned::Value(n, at) = read_uleb(sites, p + 3) else {
         return Table::Bad;
     };
     if size - at < n as usize {
@@ -170,7 +172,7 @@ fn every_short(s: &[u8]) -> bool
 {
     let mut i = 0;
     while i < s.len() {
-        let UnsignedSpelling::Value(_, past, _, shortest) = leb::uleb_spelling(s, i) else {
+        let UnsignedSpelling::Value(_, past, _, shortest) = uleb_spelling(s, i) else {
             return false;
         };
         if !shortest {
@@ -186,8 +188,7 @@ fn table_short(sites: &[u8], place: u64, at: usize, past: usize) -> bool
     requires { ⌜ TableThere (now sites) place at past ⌝ }
     ensures { λ r. ⌜ r ≡ sitesShort (now (sites .entry)) place ⌝ }
 {
-    let UnsignedSpelling::Value(_, _, _, shortest) = leb::uleb_spelling(sites, place as usize + 3)
-    else {
+    let UnsignedSpelling::Value(_, _, _, shortest) = uleb_spelling(sites, place as usize + 3) else {
         return false;
     };
     if !shortest {

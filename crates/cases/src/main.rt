@@ -8,6 +8,8 @@ use format::Outcome;
 use format::Unsigned;
 use libc::STDIN_FILENO;
 use libc::STDOUT_FILENO;
+use operations::fields::read_le;
+use operations::fields::read_uleb;
 
 // What the lent buffers hold before a call.
 const NUMBER: u64 = 11936128518282651045;
@@ -96,7 +98,7 @@ fn decode(s: &[u8], numbers: &mut [u64]) -> usize
         if numbers.len() <= k {
             return 0;
         }
-        let Unsigned::Value(v, past) = leb::read_uleb(s, at) else {
+        let Unsigned::Value(v, past) = read_uleb(s, at) else {
             return 0;
         };
         numbers[k] = v;
@@ -321,7 +323,7 @@ fn block(index: u64, size: usize) -> Step
 fn next(index: u64) -> Step {
     let mut head = [0u8; 4];
     let n = io::read_full(STDIN_FILENO, &mut head);
-    let Unsigned::Value(size, _) = leb::read_le(&head[..n], 0, 4) else {
+    let Unsigned::Value(size, _) = read_le(&head[..n], 0, 4) else {
         return broken(index);
     };
     if size == 0 {

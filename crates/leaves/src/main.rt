@@ -7,6 +7,8 @@ use format::Row;
 use format::Signed;
 use format::Unsigned;
 use libc::STDOUT_FILENO;
+use operations::fields::read_sleb;
+use operations::fields::read_uleb;
 
 const UNSIGNED: [u64; 12] = [
     0,
@@ -88,7 +90,7 @@ fn written(s: &[u8], size: usize) {
 
 // The end of a line: what is read, and the place past it.
 fn read_unsigned(s: &[u8]) {
-    match leb::read_uleb(s, 0) {
+    match read_uleb(s, 0) {
         Unsigned::Value(v, next) => {
             number(v);
             number(next as u64);
@@ -101,7 +103,7 @@ fn read_unsigned(s: &[u8]) {
 }
 
 fn read_signed(s: &[u8]) {
-    match leb::read_sleb(s, 0) {
+    match read_sleb(s, 0) {
         Signed::Value(v, next) => {
             signed_number(v);
             number(next as u64);
@@ -147,7 +149,7 @@ fn print_operation(op: Operation) {
 }
 
 fn read_operation(s: &[u8]) {
-    match rows::operation(s, 0, WORD) {
+    match operations::operation(s, 0, WORD) {
         Decoded::Operation(op, next) => {
             print_operation(op);
             number(next as u64);

@@ -2,8 +2,4 @@
 pub mod Fields
 pub mod Signs
 pub mod Sizes
-pub mod GroupLoop
-pub mod Readings
-pub mod FieldLoop
 pub mod Zeros
-pub mod Spellings

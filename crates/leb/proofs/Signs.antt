@@ -9,10 +9,10 @@ use lib.IntN.{ℤ, pos, negsuc, _-ℤ_, natAbs}
 use lib.Signed.{ltZ, mag, nonNeg}
 use mir.Syntax.{w64}
 use mir.Val.{SFits, Fits, ofZ, toZ}
-use mir.Facts.{toZ-ofZ, toZ-pos}
+use mir.Facts.{toZ-ofZ}
 use Rattle.format.specs.Leb.{slebF, sleb}
-use Rattle.format.proofs.Complements.{complement-is, above-zero}
-use Rattle.leb.specs.Signs.{isNegative, signed}
+use Rattle.format.proofs.Complements.{above-zero}
+use Rattle.leb.specs.Signs.{isNegative}
 
 by-sign : (v : ℤ) → sleb v ≡ slebF (isNegative v) 9 (mag v)
 unfolding sleb isNegative
@@ -65,19 +65,3 @@ module _ (v : ℤ) (f : SFits w64 v) where
 
     pub same-is : natAbs (toZ w64 (ofZ w64 v)) ≡ mag v
     same-is = ap natAbs same
-
--- ---- back: -1 - m, of a number below 2 ^ 63
-
-module _ (m : ℕ) (h : m < 2 ^ 63) where
-  pub turned-is : toZ w64 (ofZ w64 (negsuc 0 -ℤ toZ w64 m)) ≡ signed true m
-  unfolding signed
-  turned-is = complement-is m h
-
-  pub plain-is : toZ w64 m ≡ signed false m
-  unfolding signed
-  plain-is = toZ-pos w64 h
-
-pub signed-fits : (neg : Bool) (m : ℕ) → m < 2 ^ 63 → SFits w64 (signed neg m)
-unfolding signed
-signed-fits false m h = record { sfits = h }
-signed-fits true m h = record { sfits = h }

@@ -223,7 +223,7 @@ pub fn fill(
         to = record_end;
         let mut at = 0;
         'operations: while at < ops.len() {
-            let Decoded::Operation(op, next) = rows::operation(ops, at, word) else {
+            let Decoded::Operation(op, next) = operations::operation(ops, at, word) else {
                 return listed(i, 66, loc);
             };
             at = next;

@@ -492,8 +492,8 @@ fn function_ok(fs: &[u64], rows: &[u64], landings: &[u64], pairs: &[u64], k: usi
     }
     rows_ok(
         rows,
-        fs[FUNCTION_STRIDE * k + 2] as usize,
-        fs[FUNCTION_STRIDE * k + 3] as usize,
+        fs[FUNCTION_STRIDE * k + function::ROWS_AT] as usize,
+        fs[FUNCTION_STRIDE * k + function::ROWS] as usize,
     )
 }
 

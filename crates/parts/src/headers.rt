@@ -9,6 +9,9 @@ ghost use Rattle.parts.specs.Headers.{noHeader, headerRest, headerFrom, 
 use crate::bit;
 use format::Signed;
 use format::Unsigned;
+use operations::fields::read_le;
+use operations::fields::read_sleb;
+use operations::fields::read_uleb;
 use reader::fields::Augmentation;
 use reader::fields::AugmentationRead;
 use reader::fields::Header;
@@ -83,19 +86,19 @@ fn factors(body: &[u8], base: u64, at: usize, debug: bool, word: u64, p: Augment
     requires { ⌜ T (isWord word) × (base + length (now body) < 2 ^ 64) ⌝ }
     ensures { λ r. ⌜ r ≡ headerNumbers (base + length (now (body .entry))) (headerFrom debug (lettersOf p) word (drop at (now (body .entry)))) ⌝ }
 {
-    let Unsigned::Value(code, a) = leb::read_uleb(body, at) else {
+    let Unsigned::Value(code, a) = read_uleb(body, at) else {
         return refused(64, 3);
     };
     if code != 1 {
         return refused(64, 3);
     }
-    let Signed::Value(z, b) = leb::read_sleb(body, a) else {
+    let Signed::Value(z, b) = read_sleb(body, a) else {
         return refused(64, 4);
     };
     if !reader::fields::factor_ok(z, word) {
         return refused(64, 4);
     }
-    let Unsigned::Value(reg, c) = leb::read_uleb(body, b) else {
+    let Unsigned::Value(reg, c) = read_uleb(body, b) else {
         return refused(64, 5);
     };
     if 0xffff < reg {
@@ -109,7 +112,7 @@ fn fields(body: &[u8], base: u64, debug: bool, word: u64) -> HeaderRead
     requires { ⌜ T (isWord word) × (base + length (now body) < 2 ^ 64) ⌝ }
     ensures { λ r. ⌜ r ≡ headerNumbers (base + length (now (body .entry))) (headerParts debug word (now (body .entry))) ⌝ }
 {
-    let Unsigned::Value(_, at) = leb::read_le(body, 0, 4) else {
+    let Unsigned::Value(_, at) = read_le(body, 0, 4) else {
         return refused(64, 1);
     };
     if body.len() <= at {

@@ -65,7 +65,7 @@ fn first(bytes: &[u8], at: u64, word: u64) -> OperationRead
     ensures { λ r. ⌜ r ≡ operationFrom word at (now (bytes .entry)) ⌝ }
 {
     let opcode = leb::wide(bytes[0]);
-    let Decoded::Operation(op, past) = rows::operation(bytes, 0, word) else {
+    let Decoded::Operation(op, past) = operations::operation(bytes, 0, word) else {
         return refused(66, at, opcode);
     };
     numbers_of(op, at + past as u64, opcode)

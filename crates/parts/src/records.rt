@@ -6,6 +6,8 @@ ghost use lib.ListN.{length, drop};
 ghost use Rattle.format.specs.Machine.{isWord};
 ghost use Rattle.parts.specs.Records.{callSites, noRecord, recordRest, recordParts, recordNumbers, readRecordAt};
 use format::Unsigned;
+use operations::fields::read_le;
+use operations::fields::read_uleb;
 use reader::fields::Record;
 
 // What unwind_read_record answers.
@@ -47,7 +49,7 @@ fn call_sites(body: &[u8], base: u64, at: usize, debug: bool, pointer: u64) -> u
     if pointer == 0 {
         return 0;
     }
-    let Unsigned::Value(_, past) = leb::read_uleb(body, at) else {
+    let Unsigned::Value(_, past) = read_uleb(body, at) else {
         return 0;
     };
     base + past as u64
@@ -92,13 +94,13 @@ fn fields(body: &[u8], base: u64, debug: bool, word: u64, pointer: u64) -> Recor
     ensures { λ r. ⌜ r ≡ recordNumbers debug pointer (base + length (now (body .entry))) (recordParts debug word pointer (now (body .entry))) ⌝ }
 {
     let n = reader::fields::field_size(debug, word) as usize;
-    let Unsigned::Value(header, a) = leb::read_le(body, 0, 4) else {
+    let Unsigned::Value(header, a) = read_le(body, 0, 4) else {
         return refused(64, 7);
     };
-    let Unsigned::Value(function, b) = leb::read_le(body, a, n) else {
+    let Unsigned::Value(function, b) = read_le(body, a, n) else {
         return refused(64, 7);
     };
-    let Unsigned::Value(length, at) = leb::read_le(body, b, n) else {
+    let Unsigned::Value(length, at) = read_le(body, b, n) else {
         return refused(64, 8);
     };
     let f = Front {

@@ -7,6 +7,7 @@ ghost use Rattle.format.specs.Questions.{isSome};
 ghost use Rattle.format.specs.Reader.{second, isHeader, records, entries};
 ghost use Rattle.reader.specs.Spans.{part, entryIn, entriesFrom, listed, endAt, Ends, Spans};
 use format::Unsigned;
+use operations::fields::read_le;
 
 // A number, where there is one.
 pub enum Number {
@@ -18,7 +19,7 @@ pub enum Number {
 pub fn entry_end(s: &[u8], at: usize) -> Number
     ensures { λ r. ⌜ r ≡ endAt (now (s .entry)) at ⌝ }
 {
-    let Unsigned::Value(n, body) = leb::read_le(s, at, 4) else {
+    let Unsigned::Value(n, body) = read_le(s, at, 4) else {
         return Number::Nothing;
     };
     if n < 4 {
@@ -59,7 +60,7 @@ pub fn past(s: &[u8], at: usize) -> usize
 fn id_of(body: &[u8]) -> u64
     ensures { λ r. ⌜ r ≡ second (now (body .entry)) ⌝ }
 {
-    let Unsigned::Value(v, _) = leb::read_le(body, 0, 4) else {
+    let Unsigned::Value(v, _) = read_le(body, 0, 4) else {
         return 0;
     };
     v

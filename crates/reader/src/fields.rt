@@ -15,6 +15,9 @@ use crate::entries::Number;
 use crate::entries::Span;
 use format::Signed;
 use format::Unsigned;
+use operations::fields::read_le;
+use operations::fields::read_sleb;
+use operations::fields::read_uleb;
 
 // ---- the augmentation string of a header
 
@@ -118,7 +121,7 @@ fn pointer_size(indirect: bool, word: u64, e: u8) -> Number
 fn counted(s: &[u8], at: usize) -> Span
     ensures { λ r. ⌜ CountsIn (now (s .entry)) r (readCounted (drop at (now (s .entry)))) ⌝ }
 {
-    let Unsigned::Value(n, start) = leb::read_uleb(s, at) else {
+    let Unsigned::Value(n, start) = read_uleb(s, at) else {
         return Span::Nothing;
     };
     if s.len() - start < n as usize {
@@ -222,19 +225,19 @@ fn header_factors(s: &[u8], at: usize, debug: bool, word: u64, p: Augmentation) 
     requires { ⌜ T (isWord word) ⌝ }
     ensures { λ r. ⌜ Heads (now (s .entry)) r (headerFactors debug (lettersOf p) word (drop at (now (s .entry)))) ⌝ }
 {
-    let Unsigned::Value(code, data) = leb::read_uleb(s, at) else {
+    let Unsigned::Value(code, data) = read_uleb(s, at) else {
         return Header::Bad;
     };
     if code != 1 {
         return Header::Bad;
     }
-    let Signed::Value(z, ret) = leb::read_sleb(s, data) else {
+    let Signed::Value(z, ret) = read_sleb(s, data) else {
         return Header::Bad;
     };
     if !factor_ok(z, word) {
         return Header::Bad;
     }
-    let Unsigned::Value(reg, tail) = leb::read_uleb(s, ret) else {
+    let Unsigned::Value(reg, tail) = read_uleb(s, ret) else {
         return Header::Bad;
     };
     if 0xffff < reg {
@@ -248,7 +251,7 @@ pub fn parse_header(s: &[u8], debug: bool, word: u64) -> Header
     requires { ⌜ T (isWord word) ⌝ }
     ensures { λ r. ⌜ Heads (now (s .entry)) r (parseHeader debug word (now (s .entry))) ⌝ }
 {
-    let Unsigned::Value(_, at) = leb::read_le(s, 0, 4) else {
+    let Unsigned::Value(_, at) = read_le(s, 0, 4) else {
         return Header::Bad;
     };
     if s.len() <= at {
@@ -304,13 +307,13 @@ pub fn parse_record(s: &[u8], debug: bool, word: u64, pointer: u64) -> Record
     ensures { λ r. ⌜ Records (now (s .entry)) r (parseRecord debug word pointer (now (s .entry))) ⌝ }
 {
     let n = field_size(debug, word) as usize;
-    let Unsigned::Value(_, place) = leb::read_le(s, 0, 4) else {
+    let Unsigned::Value(_, place) = read_le(s, 0, 4) else {
         return Record::Bad;
     };
-    let Unsigned::Value(_, length) = leb::read_le(s, place, n) else {
+    let Unsigned::Value(_, length) = read_le(s, place, n) else {
         return Record::Bad;
     };
-    let Unsigned::Value(size, tail) = leb::read_le(s, length, n) else {
+    let Unsigned::Value(size, tail) = read_le(s, length, n) else {
         return Record::Bad;
     };
     record_tail(s, tail, debug, pointer, size)

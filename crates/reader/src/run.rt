@@ -259,7 +259,7 @@ pub fn run(
         let mut loc = 0;
         let mut at = 0;
         'operations: while at < ops.len() {
-            let Decoded::Operation(op, next) = rows::operation(ops, at, word) else {
+            let Decoded::Operation(op, next) = operations::operation(ops, at, word) else {
                 return Reading::Refused(66);
             };
             at = next;

@@ -10,8 +10,10 @@ use crate::fields;
 use crate::fields::AugmentationRead;
 use format::Decoded;
 use format::Operation;
-use leb::SignedSpelling;
-use leb::UnsignedSpelling;
+use operations::fields::SignedSpelling;
+use operations::fields::UnsignedSpelling;
+use operations::fields::sleb_spelling;
+use operations::fields::uleb_spelling;
 
 // ---- numbers one behind the other
 
@@ -40,7 +42,7 @@ fn passed(m: Marked, past: usize, shortest: bool) -> Marked
 fn unsigned(s: &[u8], m: Marked) -> Marked
     ensures { λ r. ⌜ Passes (now (s .entry)) unsigned m r ⌝ }
 {
-    let UnsignedSpelling::Value(_, past, _, shortest) = leb::uleb_spelling(s, m.at) else {
+    let UnsignedSpelling::Value(_, past, _, shortest) = uleb_spelling(s, m.at) else {
         return passed(m, m.at, false);
     };
     passed(m, past, shortest)
@@ -49,7 +51,7 @@ fn unsigned(s: &[u8], m: Marked) -> Marked
 fn signed(s: &[u8], m: Marked) -> Marked
     ensures { λ r. ⌜ Passes (now (s .entry)) signed m r ⌝ }
 {
-    let SignedSpelling::Value(_, past, _, shortest) = leb::sleb_spelling(s, m.at) else {
+    let SignedSpelling::Value(_, past, _, shortest) = sleb_spelling(s, m.at) else {
         return passed(m, m.at, false);
     };
     passed(m, past, shortest)
@@ -182,7 +184,7 @@ pub fn run(s: &[u8], word: u64, p: u64) -> bool
     let mut at = 0;
     let mut loc = 0;
     'operations: while at < s.len() {
-        let Decoded::Operation(op, next) = rows::operation(s, at, word) else {
+        let Decoded::Operation(op, next) = operations::operation(s, at, word) else {
             return false;
         };
         if !operands_at(s, at + 1, operands_of(s[at])) {

@@ -12,6 +12,7 @@ ghost use Rattle.reads.specs.Standing.{fieldsAs};
 use crate::Holder;
 use crate::Placed;
 use format::Unsigned;
+use operations::fields::read_le;
 
 // 2^31, and what a signed number of 4 bytes from there on lacks to 2^64.
 const NEGATIVE: u64 = 0x80000000;
@@ -39,13 +40,13 @@ fn fields_of(body: &[u8], debug: bool, word: u64) -> Function
     ensures { λ r. ⌜ r ≡ fieldsAs (functionFields debug word (now (body .entry))) ⌝ }
 {
     let n = reader::fields::field_size(debug, word) as usize;
-    let Unsigned::Value(_, place) = leb::read_le(body, 0, 4) else {
+    let Unsigned::Value(_, place) = read_le(body, 0, 4) else {
         return Function::Bad;
     };
-    let Unsigned::Value(field, size) = leb::read_le(body, place, n) else {
+    let Unsigned::Value(field, size) = read_le(body, place, n) else {
         return Function::Bad;
     };
-    let Unsigned::Value(length, _) = leb::read_le(body, size, n) else {
+    let Unsigned::Value(length, _) = read_le(body, size, n) else {
         return Function::Bad;
     };
     Function::Fields(field, length)

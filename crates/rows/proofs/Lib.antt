@@ -4,8 +4,6 @@ pub mod Signs
 pub mod Factors
 pub mod Bytes
 pub mod Steps
-pub mod Products
 pub mod Numbers
 pub mod ShortSizes
 pub mod WholeNumbers
-pub mod Operations

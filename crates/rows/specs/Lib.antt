@@ -1,4 +1,3 @@
 -- What the helpers of rows and operations do.
 pub mod Operands
-pub mod Reads
 pub mod Sizes

@@ -13,6 +13,7 @@ ghost use Rattle.section_check.specs.Check.{lengthOf, checkFrom, checkSe
 ghost use Rattle.section_check.specs.Places.{Ahead, Marks, marked, markBefore, sizeOf, answersIn, passesIn};
 use format::Reading;
 use format::Unsigned;
+use operations::fields::read_le;
 use reader::entries::Number;
 use reader::entries::Span;
 use reader::location::Locating;
@@ -92,7 +93,7 @@ fn size_of(s: &[u8], at: usize, end: usize) -> Unsigned
     ensures { λ r. ⌜ sizeOf r ≡ lengthOf (entryIn (now (s .entry)) at end) ⌝ }
 {
     let body = at + 4;
-    leb::read_le(&s[body..end], 8, 4)
+    read_le(&s[body..end], 8, 4)
 }
 
 // Whether the reader answers for register 0 at offset p of the record from `at` to `end`.

@@ -14,6 +14,7 @@ ghost use Rattle.walk.specs.Standing.{numberOf, found, holderOf, address
 use format::CfaRule;
 use format::Rule;
 use format::Unsigned;
+use operations::fields::read_le;
 
 // A number, where there is one.
 pub enum Number {
@@ -48,7 +49,7 @@ pub fn load(stack: &[u8], address: u64, a: u64) -> Number
     if a < address {
         return Number::Nothing;
     }
-    let Unsigned::Value(v, _) = leb::read_le(stack, (a - address) as usize, 8) else {
+    let Unsigned::Value(v, _) = read_le(stack, (a - address) as usize, 8) else {
         return Number::Nothing;
     };
     Number::Is(v)
@@ -163,13 +164,13 @@ pub fn read_trailer(file: &[u8]) -> Trailer
     if 65536 < n {
         return Trailer::Bad;
     }
-    let Unsigned::Value(distance, counted) = leb::read_le(file, n - 16, 8) else {
+    let Unsigned::Value(distance, counted) = read_le(file, n - 16, 8) else {
         return Trailer::Bad;
     };
-    let Unsigned::Value(count, sized) = leb::read_le(file, counted, 4) else {
+    let Unsigned::Value(count, sized) = read_le(file, counted, 4) else {
         return Trailer::Bad;
     };
-    let Unsigned::Value(size, _) = leb::read_le(file, sized, 4) else {
+    let Unsigned::Value(size, _) = read_le(file, sized, 4) else {
         return Trailer::Bad;
     };
     if !matches(n as u64, distance, count, size) {
@@ -181,7 +182,7 @@ pub fn read_trailer(file: &[u8]) -> Trailer
 fn word_at(s: &[u8], at: usize) -> u64
     ensures { λ r. ⌜ r ≡ valueOr0 (readLittle 8 (drop at (now (s .entry)))) ⌝ }
 {
-    let Unsigned::Value(v, _) = leb::read_le(s, at, 8) else {
+    let Unsigned::Value(v, _) = read_le(s, at, 8) else {
         return 0;
     };
     v

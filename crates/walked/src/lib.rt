@@ -91,7 +91,7 @@ fn mark_all(ops: &[u8], word: u64, start: Marks) -> Marks
     let mut m = start;
     let mut at = 0;
     while at < ops.len() {
-        let Decoded::Operation(op, next) = rows::operation(ops, at, word) else {
+        let Decoded::Operation(op, next) = operations::operation(ops, at, word) else {
             return m;
         };
         m = mark_operation(m, op);

@@ -11,6 +11,7 @@ ghost use Rattle.format.specs.X64Reader.{operandBytes, largeSize, meaning, fiel
 ghost use Rattle.x64_reader.specs.Reads.{operandOf, Small, fieldNumbers, CodeSays, orFrame, countedOf, Held, storedOf, HeaderSays, readNumbers};
 use format::Unsigned;
 use numbers::codes;
+use operations::fields::read_le;
 
 // ---- unwind operation codes
 
@@ -115,7 +116,7 @@ fn operand_at(s: &[u8], at: usize, n: usize) -> Unsigned
     requires { ⌜ n ≤ 4 ⌝ }
     ensures { λ r. ⌜ (r ≡ littleAt n (now (s .entry)) at) × Small r ⌝ }
 {
-    leb::read_le(s, at, n)
+    read_le(s, at, n)
 }
 
 // A code: its offset in the prologue, what it says, and the position past it.

@@ -5,8 +5,8 @@ use native.Mathlib.Omega.{arith}
 use lib.ListN.{length}
 use borrow.Author.Needs.{needs}
 use borrow.Author.Tests.{not-true, not-false}
-use Rattle.leb.specs.Spellings.{SpellsUnsigned}
-use Rattle.leb.proofs.Spellings.{unsigned-mark, unsigned-unread}
+use Rattle.operations.specs.Spellings.{SpellsUnsigned}
+use Rattle.operations.proofs.Spellings.{unsigned-mark, unsigned-unread}
 use Rattle.call_sites.proofs.Tables.{Left, begin, all-short, number-unread, number-long, number-short}
 use Rattle.call_sites.proofs.every_short.Statement.{statement}
 use Rattle.call_sites.proofs.every_short.Tie as tie

@@ -4,8 +4,8 @@ use Prim.Native.Nat.{_+_}
 use native.Mathlib.Omega.{arith}
 use borrow.Author.Needs.{needs}
 use borrow.Author.Tests.{not-true, not-false}
-use Rattle.leb.specs.Spellings.{SpellsUnsigned}
-use Rattle.leb.proofs.Spellings.{unsigned-mark, unsigned-unread}
+use Rattle.operations.specs.Spellings.{SpellsUnsigned}
+use Rattle.operations.proofs.Spellings.{unsigned-mark, unsigned-unread}
 use Rattle.call_sites.proofs.Tables.{size-unread, size-long, size-short}
 use Rattle.call_sites.proofs.table_short.Statement.{statement}
 use Rattle.call_sites.proofs.table_short.Tie as tie

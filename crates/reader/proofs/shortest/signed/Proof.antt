@@ -1,8 +1,8 @@
 -- `reader::shortest::signed` meets its contract.
 use mathlib.Core.Path.{sym, subst}
 use borrow.Author.Needs.{needs}
-use Rattle.leb.specs.Spellings.{SpellsSigned}
-use Rattle.leb.proofs.Spellings.{signed-mark, signed-unread}
+use Rattle.operations.specs.Spellings.{SpellsSigned}
+use Rattle.operations.proofs.Spellings.{signed-mark, signed-unread}
 use Rattle.format.specs.Shortest.{signed}
 use Rattle.reader.specs.Marks.{Passes}
 use Rattle.reader.proofs.Marks.{passes-none, passes}

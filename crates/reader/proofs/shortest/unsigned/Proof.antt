@@ -1,8 +1,8 @@
 -- `reader::shortest::unsigned` meets its contract.
 use mathlib.Core.Path.{sym, subst}
 use borrow.Author.Needs.{needs}
-use Rattle.leb.specs.Spellings.{SpellsUnsigned}
-use Rattle.leb.proofs.Spellings.{unsigned-mark, unsigned-unread}
+use Rattle.operations.specs.Spellings.{SpellsUnsigned}
+use Rattle.operations.proofs.Spellings.{unsigned-mark, unsigned-unread}
 use Rattle.format.specs.Shortest.{unsigned}
 use Rattle.reader.specs.Marks.{Passes}
 use Rattle.reader.proofs.Marks.{passes-none, passes}
