@@ -1,5 +1,5 @@
 -- The record of a function's codes: its questions by the code's tests, what a yes to all says, and its bytes part by part.
-use mathlib.Core.Path.{_≡_, sym, _∙_}
+use mathlib.Core.Path.{_≡_, sym, ap}
 use Prim.Native.Nat.{ℕ, _*_, _%_, _≤_, _<_}
 use native.Mathlib.Omega.{arith}
 use mathlib.Core.Option.{none, some}
@@ -16,31 +16,36 @@ use Rattle.codes.specs.Codes.{numberOf, frameAsk}
 use Rattle.codes.proofs.Numbers.{none-of, some-of, nonzero-first, nonzero-code}
 use Rattle.codes.proofs.Questions.{yes-of}
 use Rattle.codes.proofs.Sizes.{info-length}
+use Rattle.x64.specs.declared.Summary.{Summary}
+use Rattle.x64.specs.Answers.{summaryOf}
 use Rattle.x64.proofs.Walks.{ors}
 
 -- ---- the questions
 
-module _ (end : ℕ) (cs : List (ℕ × Seh)) {k : ℕ} (e : k ≡ numberOf (firstNo codeNo cs)) where
-  pub no-code : (k ≡ 0 → ⊥) → k ≡ numberOf (prologueNo end cs)
-  unfolding prologueNo orNo numberOf
-  no-code h = e ∙ sym (rw (some-of (firstNo codeNo cs) (λ z. h (e ∙ z))))
+pub counted : (cs : List (ℕ × Seh)) {t : Summary} → t ≡ summaryOf cs → t .slots ≡ slots cs
+counted cs e = ap (λ (t : Summary). t .slots) e
 
-  module _ (z : k ≡ 0) where
+module _ (end : ℕ) (cs : List (ℕ × Seh)) {t : Summary} (e : t ≡ summaryOf cs) where
+  pub no-code : (t .number ≡ 0 → ⊥) → t .number ≡ numberOf (prologueNo end cs)
+  unfolding prologueNo orNo numberOf
+  no-code h = rw e (sym (rw (some-of (firstNo codeNo cs) (rw e at h))))
+
+  module _ (z : t .number ≡ 0) where
     every : firstNo codeNo cs ≡ none
-    every = none-of (firstNo codeNo cs) (nonzero-first codeNo nonzero-code cs) (sym e ∙ z)
+    every = none-of (firstNo codeNo cs) (nonzero-first codeNo nonzero-code cs) (rw e at z)
 
     pub no-end : 255 < end → 35 ≡ numberOf (prologueNo end cs)
     unfolding prologueNo orNo numberOf
     no-end h = rw (every, if-gt end 255)
 
-    module _ (h : end ≤ 255) {s : ℕ} (q : s ≡ slots cs) where
-      pub no-slots : 255 < s → 40 ≡ numberOf (prologueNo end cs)
+    module _ (h : end ≤ 255) where
+      pub no-slots : 255 < t .slots → 40 ≡ numberOf (prologueNo end cs)
       unfolding prologueNo orNo numberOf
-      no-slots l = rw (every, if-le end 255, ← q, if-gt s 255)
+      no-slots l = rw (every, if-le end 255, ← counted cs e, if-gt (t .slots) 255)
 
-      pub no-frame : s ≤ 255 → numberOf (firstNo frameAsk cs) ≡ numberOf (prologueNo end cs)
+      pub no-frame : t .slots ≤ 255 → t .frame ≡ numberOf (prologueNo end cs)
       unfolding prologueNo orNo
-      no-frame l = rw (every, if-le end 255, ← q, if-le s 255)
+      no-frame l = rw (every, if-le end 255, ← counted cs e, if-le (t .slots) 255) (ap (λ (t : Summary). t .frame) e)
 
 pub record Agreed (end : ℕ) (cs : List (ℕ × Seh)) : Type 0 where
   pub codes : firstNo codeNo cs ≡ none

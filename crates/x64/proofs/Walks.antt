@@ -1,6 +1,6 @@
 -- Loops over a function's records: what is known of the codes that are left. A record yields a code or none.
 use mathlib.Core.Path.{_≡_, refl, sym, ap, _∙_}
-use Prim.Native.Nat.{ℕ, suc, _+_, _-_, _*_, _≤_, _<_}
+use Prim.Native.Nat.{ℕ, zero, suc, _+_, _-_, _*_, _/_, _≤_, _<_}
 use native.Mathlib.Omega.{arith}
 use native.Mathlib.Numerals.{add-one}
 use mathlib.Core.Option.{Option, none, some}
@@ -10,20 +10,23 @@ use lib.Seq.{set-comm}
 use lib.IntN.{ℤ, pos}
 use mir.Syntax.{w64}
 use mir.Val.{toZ, ofZ}
-use native.Mathlib.Nat.{add-zero}
+use native.Mathlib.Nat.{zero-add, add-zero}
 use Rattle.format.specs.Put.{put}
 use Rattle.format.proofs.Wrote.{Wrote}
 use Rattle.format.specs.declared.Seh.{Seh}
-use Rattle.format.specs.X64.{codeNo, orNo, firstNo, slots, frameOr, frameByte, reversed}
+use Rattle.format.specs.X64.{codeBytes, codeNo, orNo, firstNo, slots, frameOr, frameByte, reversed}
 use Rattle.format.proofs.PutLaws.{put-none, length-put}
 use Rattle.codes.specs.declared.Code.{Code}
 use Rattle.codes.specs.Codes.{numberOf, frameAsk, Holds}
-use Rattle.codes.proofs.Numbers.{Nonzero, none-of, some-of, nonzero-first}
+use Rattle.codes.proofs.Numbers.{Nonzero, nonzero-first, nonzero-code, nonzero-frame}
 use Rattle.codes.proofs.Sizes.{reversed-length}
 use Rattle.prologue.specs.Pieces.{Short}
 use Rattle.prologue.proofs.Distances.{short-passed}
 use Rattle.x64.specs.declared.Source.{Source}
 use Rattle.x64.specs.declared.Span.{Span}
+use Rattle.x64.specs.declared.Summary.{Summary}
+use Rattle.x64.specs.Answers.{firstOf, summed, summaryOf}
+use Rattle.x64.proofs.Leaves.{no-of-one}
 use Rattle.x64.specs.Sources.{pieceAt, movedAt, codesFrom, codesIn, Readable}
 
 -- what is known of a record's codes and those behind it
@@ -75,24 +78,32 @@ unfolding firstNo orNo
 first-append f [] ys = refl
 first-append f (x ∷ xs) ys = rw (first-append f xs ys, or-again)
 
-pub record Asking {A : Type 0} (f : A → Option ℕ) (all rest : List A) : Type 0 where
-  same : firstNo f all ≡ firstNo f rest
+-- the same by numbers, none of which is 0
+number-or : (a b : Option ℕ) → Nonzero a → numberOf (orNo a b) ≡ firstOf (numberOf a) (numberOf b)
+unfolding orNo numberOf firstOf
+number-or none b t = refl
+number-or (some zero) b t = absurd (omega arith)
+number-or (some (suc n)) b t = refl
 
-pub asking : {A : Type 0} (f : A → Option ℕ) (all : List A) → Asking f all all
-asking f all = record { same = refl }
+first-again : (a b c : ℕ) → firstOf a (firstOf b c) ≡ firstOf (firstOf a b) c
+unfolding firstOf
+first-again zero b c = refl
+first-again (suc a) b c = refl
 
-module _ {A : Type 0} {f : A → Option ℕ} {all ps rest : List A} (a : Front (Asking f all) ps rest) {k : ℕ} (e : k ≡ numberOf (firstNo f ps)) where
-  pub asked-yes : ((x : A) → Nonzero (f x)) → k ≡ 0 → Asking f all rest
-  unfolding orNo
-  asked-yes t z = record { same = a .whole .same ∙ rw (first-append f ps rest, none-of (firstNo f ps) (nonzero-first f t ps) (sym e ∙ z)) }
+pub first-some : (k n : ℕ) → (k ≡ 0 → ⊥) → k ≡ firstOf k n
+unfolding firstOf
+first-some zero n h = absurd (h refl)
+first-some (suc k) n h = refl
 
-  pub asked-no : (k ≡ 0 → ⊥) → k ≡ numberOf (firstNo f all)
-  unfolding orNo numberOf
-  asked-no h = e ∙ sym (ap numberOf (a .whole .same) ∙ rw (first-append f ps rest, some-of (firstNo f ps) (λ z. h (e ∙ z))))
+first-zero : (k : ℕ) → firstOf k 0 ≡ k
+unfolding firstOf
+first-zero zero = refl
+first-zero (suc k) = refl
 
-pub all-asked : {A : Type 0} {f : A → Option ℕ} {all : List A} → Asking f all [] → 0 ≡ numberOf (firstNo f all)
-unfolding firstNo numberOf
-all-asked a = sym (ap numberOf (a .same))
+number-append : {A : Type 0} (f : A → Option ℕ) → ((x : A) → Nonzero (f x)) → (k : ℕ) (xs ys : List A)
+    → firstOf k (numberOf (firstNo f (xs ++ ys))) ≡ firstOf (firstOf k (numberOf (firstNo f xs))) (numberOf (firstNo f ys))
+number-append f t k xs ys =
+    rw (first-append f xs ys, number-or (firstNo f xs) (firstNo f ys) (nonzero-first f t xs)) (first-again k (numberOf (firstNo f xs)) (numberOf (firstNo f ys)))
 
 pub ors : (a b : Option ℕ) → orNo a b ≡ none → (a ≡ none) × (b ≡ none)
 unfolding orNo
@@ -110,18 +121,32 @@ unfolding slots
 slots-append [] ys = omega arith
 slots-append (x ∷ xs) ys = omega (arith, slots-append xs ys)
 
-pub record Counting (all rest : List (ℕ × Seh)) (sum : ℕ) : Type 0 where
-  pub same : slots all ≡ sum + slots rest
+-- ---- the summary
 
-pub counting : (all : List (ℕ × Seh)) → Counting all all 0
-counting all = record { same = omega arith }
+pub summed-none : (t : Summary) → t ≡ summed t []
+unfolding firstNo numberOf slots
+summed-none t = rw (first-zero (t .number), first-zero (t .frame), add-zero)
 
-pub counted : {all ps rest : List (ℕ × Seh)} {sum k : ℕ} → Front (λ (l : List (ℕ × Seh)). Counting all l sum) ps rest → k ≡ slots ps → Counting all rest (sum + k)
-counted {all} {ps} {rest} c e = record { same = omega (arith, c .whole .same, slots-append ps rest) }
-
-pub all-counted : {all : List (ℕ × Seh)} {sum : ℕ} → Counting all [] sum → sum ≡ slots all
+pub summed-one : (t : Summary) (x : ℕ × Seh) {a n b : ℕ} → a ≡ firstOf (t .number) (numberOf (codeNo x)) → n ≡ length (codeBytes (x .0) (x .1)) → b ≡ firstOf (t .frame) (numberOf (frameAsk x))
+    → record { number = a; slots = t .slots + n / 2; frame = b } ≡ summed t (x ∷ [])
 unfolding slots
-all-counted c = omega (arith, c .same)
+summed-one t x e h k = rw (e, h, k, no-of-one codeNo x, no-of-one frameAsk x, add-zero)
+
+pub record Summing (all rest : List (ℕ × Seh)) (t : Summary) : Type 0 where
+  same : summaryOf all ≡ summed t rest
+
+pub summing : (all : List (ℕ × Seh)) → Summing all all (record { number = 0; slots = 0; frame = 0 })
+unfolding firstOf
+summing all = record { same = rw zero-add }
+
+pub summed-on : {all ps rest : List (ℕ × Seh)} {t r : Summary} → Front (λ (l : List (ℕ × Seh)). Summing all l t) ps rest → r ≡ summed t ps → Summing all rest r
+summed-on {all} {ps} {rest} {t} w e =
+    record {
+      same = w .whole .same ∙ rw (e, number-append codeNo nonzero-code (t .number) ps rest, slots-append ps rest, number-append frameAsk (λ x. nonzero-frame (x .1)) (t .frame) ps rest) (let z : t .slots + (slots ps + slots rest) ≡ t .slots + slots ps + slots rest = omega arith in rw z);
+    }
+
+pub all-summed : {all : List (ℕ × Seh)} {t : Summary} → Summing all [] t → t ≡ summaryOf all
+all-summed {all} {t} w = summed-none t ∙ sym (w .same)
 
 -- ---- the frame byte
 

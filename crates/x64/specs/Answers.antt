@@ -1,5 +1,5 @@
 -- Both writers' answers by the numbers of functions one after another.
-use Prim.Native.Nat.{ℕ, zero, suc}
+use Prim.Native.Nat.{ℕ, zero, suc, _+_}
 use mathlib.Core.Bool.{Bool, true, false}
 use mathlib.Core.Option.{Option, none, some}
 use mathlib.Core.List.{List, [], map}
@@ -8,7 +8,10 @@ use Rattle.format.specs.Prelude.{pick}
 use Rattle.format.specs.Lists.{Prologue, field}
 use Rattle.format.specs.Questions.{Question, andThen, noAt}
 use Rattle.format.specs.Writer.{joined}
-use Rattle.format.specs.X64.{infoBytes}
+use Rattle.format.specs.X64.{codeNo, firstNo, slots, infoBytes}
+use Rattle.format.specs.declared.Seh.{Seh}
+use Rattle.codes.specs.Codes.{numberOf, frameAsk}
+use Rattle.x64.specs.declared.Summary.{Summary}
 use Rattle.format.specs.declared.Question as declared
 use Rattle.format.specs.declared.Question.the-variants.{Yes, No}
 
@@ -22,6 +25,23 @@ namedAt stride fs k = named (field stride fs k 0) (field stride fs k 1)
 -- a no by its number, or a yes (0)
 unfoldable pub saidBy : ℕ → Option ℕ
 saidBy n = pick (eqb n 0) none (some n)
+
+-- the first no of two, by their numbers
+unfoldable pub firstOf : ℕ → ℕ → ℕ
+firstOf zero n = n
+firstOf (suc k) n = suc k
+
+-- the summary of some codes, and behind that of the codes in front of them
+abbrev pub summaryOf : List (ℕ × Seh) → Summary
+summaryOf cs = record { number = numberOf (firstNo codeNo cs); slots = slots cs; frame = numberOf (firstNo frameAsk cs) }
+
+abbrev pub summed : Summary → List (ℕ × Seh) → Summary
+summed t cs =
+    record {
+      number = firstOf (t .number) (numberOf (firstNo codeNo cs));
+      slots = t .slots + slots cs;
+      frame = firstOf (t .frame) (numberOf (firstNo frameAsk cs));
+    }
 
 -- the first no of n functions from `at` on
 unfoldable pub askEach : (ℕ → Option ℕ) → (at n : ℕ) → Question

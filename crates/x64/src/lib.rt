@@ -18,7 +18,7 @@ ghost use Rattle.header_keys.specs.Functions.{RowsReady};
 ghost use Rattle.codes.specs.Codes.{Holds, numberOf, frameAsk};
 ghost use Rattle.prologue.specs.Pieces.{Short, pieceOf};
 ghost use Rattle.x64.specs.Sources.{Readable, pieceAt, movedAt, codesIn, directSpan, RowsSpan, Askable, Found, Listed, Writable, strideOf, longNo, passNo, foundAt, asksOf, tableOf};
-ghost use Rattle.x64.specs.Answers.{named, namedAt, saidBy, askEach, infosOf, isYes};
+ghost use Rattle.x64.specs.Answers.{named, namedAt, saidBy, firstOf, summed, summaryOf, askEach, infosOf, isYes};
 use codes::Code;
 use codes::code_no;
 use codes::frame_no;
@@ -114,6 +114,13 @@ struct Span {
     below: i64,
 }
 
+// What some codes say: the first no of 34 to 39 or 0, how many slots of two bytes they have, and the first no of 41 or 0.
+struct Summary {
+    number: u64,
+    slots: usize,
+    frame: u64,
+}
+
 // What record i of a function yields, with the distance `sofar` in front of it.
 fn piece_in(s: Source, list: &[u64], p: Span, sofar: i64, i: usize) -> Piece
     requires { ⌜ Readable s (now list) p × (p .first ≤ i) × (i < p .past) × Short sofar ⌝ }
@@ -147,32 +154,28 @@ fn moved_in(s: Source, list: &[u64], p: Span, sofar: i64, i: usize) -> i64
 
 // ---- what a loop takes from a piece
 
-// 34 to 39.
-fn piece_no(c: Piece) -> u64
-    ensures { λ r. ⌜ r ≡ numberOf (firstNo codeNo (pieceOf c)) ⌝ }
+// The first no of two, by their numbers.
+fn first_of(k: u64, n: u64) -> u64
+    ensures { λ r. ⌜ r ≡ firstOf k n ⌝ }
 {
-    match c {
-        Piece::Nothing => 0,
-        Piece::Code(at, code) => code_no(at, code),
+    if k != 0 {
+        return k;
     }
+    n
 }
 
-// 41.
-fn piece_frame_no(c: Piece) -> u64
-    ensures { λ r. ⌜ r ≡ numberOf (firstNo frameAsk (pieceOf c)) ⌝ }
+// The summary of the codes in front and of a piece behind them.
+fn with_piece(t: Summary, c: Piece) -> Summary
+    requires { ⌜ t .slots < 2 ^ 32 ⌝ }
+    ensures { λ r. ⌜ r ≡ summed t (pieceOf c) ⌝ }
 {
     match c {
-        Piece::Nothing => 0,
-        Piece::Code(_, code) => frame_no(code),
-    }
-}
-
-fn piece_slots(c: Piece) -> usize
-    ensures { λ r. ⌜ r ≡ slots (pieceOf c) ⌝ }
-{
-    match c {
-        Piece::Nothing => 0,
-        Piece::Code(at, code) => nodes_size(at, code) / 2,
+        Piece::Nothing => t,
+        Piece::Code(at, code) => Summary {
+            number: first_of(t.number, code_no(at, code)),
+            slots: t.slots + nodes_size(at, code) / 2,
+            frame: first_of(t.frame, frame_no(code)),
+        },
     }
 }
 
@@ -201,59 +204,24 @@ fn piece_nodes(c: Piece) -> Code
 
 // ---- the codes of a function
 
-// The first no of 34 to 39.
-fn codes_no(s: Source, list: &[u64], p: Span) -> u64
+fn codes_summary(s: Source, list: &[u64], p: Span) -> Summary
     requires { ⌜ Readable s (now list) p ⌝ }
-    ensures { λ r. ⌜ r ≡ numberOf (firstNo codeNo (codesIn s (now (list .entry)) p)) ⌝ }
+    ensures { λ r. ⌜ r ≡ summaryOf (codesIn s (now (list .entry)) p) ⌝ }
 {
     let past = p.past;
+    let mut t = Summary {
+        number: 0,
+        slots: 0,
+        frame: 0,
+    };
     let mut sofar = start(s);
     let mut i = p.first;
     while i < past {
-        let k = piece_no(piece_in(s, list, p, sofar, i));
-        if k != 0 {
-            return k;
-        }
+        t = with_piece(t, piece_in(s, list, p, sofar, i));
         sofar = moved_in(s, list, p, sofar, i);
         i += 1;
     }
-    0
-}
-
-// How many slots of two bytes the codes have.
-fn slots(s: Source, list: &[u64], p: Span) -> usize
-    requires { ⌜ Readable s (now list) p ⌝ }
-    ensures { λ r. ⌜ r ≡ slots (codesIn s (now (list .entry)) p) ⌝ }
-{
-    let past = p.past;
-    let mut sum = 0;
-    let mut sofar = start(s);
-    let mut i = p.first;
-    while i < past {
-        sum += piece_slots(piece_in(s, list, p, sofar, i));
-        sofar = moved_in(s, list, p, sofar, i);
-        i += 1;
-    }
-    sum
-}
-
-// 41 of the codes.
-fn frames_no(s: Source, list: &[u64], p: Span) -> u64
-    requires { ⌜ Readable s (now list) p ⌝ }
-    ensures { λ r. ⌜ r ≡ numberOf (firstNo frameAsk (codesIn s (now (list .entry)) p)) ⌝ }
-{
-    let past = p.past;
-    let mut sofar = start(s);
-    let mut i = p.first;
-    while i < past {
-        let k = piece_frame_no(piece_in(s, list, p, sofar, i));
-        if k != 0 {
-            return k;
-        }
-        sofar = moved_in(s, list, p, sofar, i);
-        i += 1;
-    }
-    0
+    t
 }
 
 // The header's byte of the frame register.
@@ -298,17 +266,17 @@ fn prologue_no(s: Source, list: &[u64], p: Span) -> u64
     requires { ⌜ Readable s (now list) p ⌝ }
     ensures { λ r. ⌜ r ≡ numberOf (prologueNo (p .end) (codesIn s (now (list .entry)) p)) ⌝ }
 {
-    let k = codes_no(s, list, p);
-    if k != 0 {
-        return k;
+    let t = codes_summary(s, list, p);
+    if t.number != 0 {
+        return t.number;
     }
     if 255 < p.end {
         return 35;
     }
-    if 255 < slots(s, list, p) {
+    if 255 < t.slots {
         return 40;
     }
-    frames_no(s, list, p)
+    t.frame
 }
 
 // ---- UNWIND_INFO
@@ -318,7 +286,8 @@ fn info_size(s: Source, list: &[u64], p: Span) -> usize
     requires { ⌜ Readable s (now list) p × (prologueNo (p .end) (codesIn s (now list) p) ≡ none) ⌝ }
     ensures { λ r. ⌜ r ≡ length (infoBytes (p .end) (codesIn s (now (list .entry)) p)) ⌝ }
 {
-    let held = slots(s, list, p);
+    let t = codes_summary(s, list, p);
+    let held = t.slots;
     4 + 2 * held + 2 * (held % 2)
 }
 
@@ -327,7 +296,8 @@ fn describe(out: &mut [u8], at: usize, s: Source, list: &[u64], p: Span) -> usiz
     requires { ⌜ Readable s (now list) p × (prologueNo (p .end) (codesIn s (now list) p) ≡ none) × (at + length (infoBytes (p .end) (codesIn s (now list) p)) ≤ length (now out)) ⌝ }
     ensures { λ r. ⌜ Wrote (now (out .entry)) (now (out .exit)) at r (infoBytes (p .end) (codesIn s (now (list .entry)) p)) ⌝ }
 {
-    let held = slots(s, list, p);
+    let t = codes_summary(s, list, p);
+    let held = t.slots;
     let frame = frame_byte(s, list, p);
     let a = head(out, at, p.end as u8, held as u8, frame);
     let b = put_codes(out, a, held, s, list, p);
