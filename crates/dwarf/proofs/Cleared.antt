@@ -153,8 +153,8 @@ module _ (x : Inputs) where
         listed = record {
           within = omega arith;
           rows-ready = λ j l.
-          let o = of-function (x .functions) (x .rows) (x .landings) (x .pairs) j (passed j l .listed) in
-          ready (x .functions) (x .rows) (x .landings) (x .pairs) few j (omega arith) (o .0) (o .1);
+              let o = of-function (x .functions) (x .rows) (x .landings) (x .pairs) j (passed j l .listed) in
+              ready (x .functions) (x .rows) (x .landings) (x .pairs) few j (omega arith) (o .0) (o .1);
         };
         bytes-few = omega (arith, bytes-to (suc k) passed, sum-grows (number 3) (suc k) (countIn x) h, few .rows-few, few .functions-at-most);
         relocs-few =
@@ -179,8 +179,8 @@ module _ (x : Inputs) where
       listed = record {
         within = omega arith;
         rows-ready = λ j l.
-        let o = of-function (x .functions) (x .rows) (x .landings) (x .pairs) j (passed j l .listed) in
-        ready (x .functions) (x .rows) (x .landings) (x .pairs) few j (omega arith) (o .0) (o .1);
+            let o = of-function (x .functions) (x .rows) (x .landings) (x .pairs) j (passed j l .listed) in
+            ready (x .functions) (x .rows) (x .landings) (x .pairs) few j (omega arith) (o .0) (o .1);
       };
       few = few .functions-at-most;
       sums = record { functions = few .functions-at-most; rows = few .rows-few; landings = few .landings-few };

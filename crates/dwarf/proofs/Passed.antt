@@ -208,8 +208,8 @@ module _ (fs rows landings pairs : List ℕ) (t : T (listsOk fs rows landings pa
   pub all-askable : (s : Section) → AllAskable s fs rows pairs
   all-askable s = record {
     each-one = λ k h.
-    let o = function-listed k h in
-    record { ready = ready-taken fs rows landings pairs all-counted k h (o .0) (o .1) s; paired = pairs-taken fs rows landings pairs all-counted k h (o .0) s };
+        let o = function-listed k h in
+        record { ready = ready-taken fs rows landings pairs all-counted k h (o .0) (o .1) s; paired = pairs-taken fs rows landings pairs all-counted k h (o .0) s };
   }
 
   pub listed : (n : ℕ) → n ≤ count functionStride fs → Listed fs rows n

@@ -100,7 +100,8 @@ module _ {x : Inputs} {n k : ℕ} {t : Table} {heads₀ links₀ owners₀ heads
   enough = rw (← g .sizes .counted, owning.heads-kept (g .owned)) (g .owned .enough)
 
   pub ended : n ≤ k → AllSurveyed x owners (answers.Behind t)
-  ended h =
-      (λ j l. g .passed j (omega (arith, g .sizes .counted)),
-      sizing.ended (g .sizes) h,
-      rw (← g .sizes .counted) (owning.ended (g .owned) h))
+  ended h = (
+    λ j l. g .passed j (omega (arith, g .sizes .counted)),
+    sizing.ended (g .sizes) h,
+    rw (← g .sizes .counted) (owning.ended (g .owned) h),
+  )

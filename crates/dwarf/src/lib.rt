@@ -49,12 +49,12 @@ use lists::outline_ok;
 use lists::sums_ok;
 use numbers::pointer_size;
 use owners::position;
+use records::RowsSize;
 use records::call_sites;
 use records::call_sites_size;
 use records::record;
 use records::record_relocs;
 use records::record_relocs_count;
-use records::RowsSize;
 use records::record_size;
 use records::surveyed_rows;
 use rows::offset_at;
@@ -122,7 +122,7 @@ fn steps_ok(rows: &[u64], at: usize, n: usize) -> bool
         if to < from {
             return false;
         }
-        if 4294967296 <= to - from {
+        if rows::STEPS <= to - from {
             return false;
         }
         from = to;
@@ -160,7 +160,7 @@ fn lines_fine(word: u64, rows: &[u64], at: usize, n: usize) -> bool
         if to < from {
             return false;
         }
-        if 4294967296 <= to - from {
+        if rows::STEPS <= to - from {
             return false;
         }
         if !row_surely_whole(word, rows, i) {
