@@ -8,16 +8,18 @@ use mathlib.Core.Option.{none}
 use mathlib.Core.List.{List, []}
 use lib.Dec.{T, ltb}
 use lib.ListN.{length}
-use Rattle.format.specs.Prelude.{pick, all, each}
-use Rattle.format.specs.Rows.{rowWhole}
-use Rattle.format.specs.Lists.{rowAt, rowOkAt, allIn, field, functionStride}
-use Rattle.format.specs.Questions.{sizeBytes, encodingsOk, stepsOk, pairsOk, ask, andThen, dwarfAsks}
+use Rattle.format.specs.Prelude.{pick}
+use Rattle.format.specs.Lists.{rowOkAt, allIn, field, functionStride}
+use Rattle.format.specs.Questions.{sizeBytes, encodingsOk, pairsOk, ask, andThen, dwarfAsks}
 use Rattle.format.proofs.Choice.{either}
 use Rattle.format.proofs.Fits.{MachineFits}
 use Rattle.lists.specs.Extents.{extentAt, meant}
 use Rattle.lists.specs.Parts.{outlineOkAt, sumsOk}
 use Rattle.lists.proofs.Outlines.{function-is}
-use Rattle.header_keys.specs.Functions.{bodyOf, RowsReady, Listed}
+use Rattle.header_keys.specs.Functions.{bodyOf, Listed}
+use Rattle.records.specs.declared.RowsSize.{RowsSize}
+use Rattle.records.specs.declared.RowsSize.the-variants.{Bytes, Unsure}
+use Rattle.records.specs.Stepped.{SurveyedRows, Surveyed}
 use Rattle.owners.specs.Chains.{Owned, OwnersFound, Enough, Unused}
 use Rattle.owners.proofs.OwnerLoop.{Going}
 use Rattle.owners.proofs.OwnerLoop as owning
@@ -26,7 +28,7 @@ use Rattle.dwarf.specs.declared.Surveyed.the-variants as answers
 use Rattle.dwarf.specs.Parts.{Inputs, countIn, extentIn, partsTo}
 use Rattle.dwarf.specs.Tables.{nothing, totalsIn}
 use Rattle.dwarf.specs.Writable.{Writable, Next}
-use Rattle.dwarf.specs.Surveys.{PassedAt, AllSurveyed}
+use Rattle.dwarf.specs.Surveys.{PassedAt, FunctionSurveyed, AllSurveyed}
 use Rattle.dwarf.proofs.Cleared.{writable}
 use Rattle.dwarf.proofs.Passed.{counted, taken-range}
 use Rattle.dwarf.proofs.Sizing.{Sizing}
@@ -34,26 +36,25 @@ use Rattle.dwarf.proofs.Sizing as sizing
 
 -- ---- one function
 
-module _ (x : Inputs) (k : ℕ) where
-  module _ (o : outlineOkAt (x .functions) (x .rows) (x .landings) (x .pairs) k ≡ true) (r : RowsReady (x .rows) (extentIn x k .«rows_at») (extentIn x k .rows)) where
+module _ (x : Inputs) (k : ℕ) (o : outlineOkAt (x .functions) (x .rows) (x .landings) (x .pairs) k ≡ true)
+    (f : (ltb (extentIn x k .length) (256 ^ sizeBytes (x .section) (x .machine .word)) ≡ true)
+    × (encodingsOk (x .machine .word) (bodyOf (extentIn x k) [] .landings) (bodyOf (extentIn x k) [] .named) ≡ true)
+    × (pairsOk (meant (extentIn x k) [] [] (x .pairs) .relaxed) ≡ true)) where
+  module _ {n : ℕ} (r : SurveyedRows (x .machine .word) (x .rows) (extentIn x k .«rows_at») (extentIn x k .rows) n) where
     rows-listed : T (allIn (rowOkAt (x .rows)) (field functionStride (x .functions) k 2) (field functionStride (x .functions) k 3))
     unfolding extentAt
-    rows-listed = rw (taken-range (x .section) (extentAt (x .functions) k) .0, taken-range (x .section) (extentAt (x .functions) k) .1) at (r .ok)
+    rows-listed = rw (taken-range (x .section) (extentAt (x .functions) k) .0, taken-range (x .section) (extentAt (x .functions) k) .1) at (r .ready .ok)
 
-    module _ (l : ltb (extentIn x k .length) (256 ^ sizeBytes (x .section) (x .machine .word)) ≡ true)
-        (e : encodingsOk (x .machine .word) (bodyOf (extentIn x k) [] .landings) (bodyOf (extentIn x k) [] .named) ≡ true)
-        (p : pairsOk (meant (extentIn x k) [] [] (x .pairs) .relaxed) ≡ true)
-        (s : stepsOk 0 (each (rowAt (x .rows)) (extentIn x k .«rows_at») (extentIn x k .rows)) ≡ true)
-        (w : all (λ y. rowWhole (x .machine .word) (y .1)) (each (rowAt (x .rows)) (extentIn x k .«rows_at») (extentIn x k .rows)) ≡ true) where
-      none-asked : dwarfAsks (x .section) (x .machine .word) k (meant (extentIn x k) (x .rows) [] (x .pairs)) ≡ none
-      unfolding dwarfAsks meant ask andThen pick
-      none-asked = simp (l, e, s, w, p)
+    none-asked : dwarfAsks (x .section) (x .machine .word) k (meant (extentIn x k) (x .rows) [] (x .pairs)) ≡ none
+    unfolding dwarfAsks meant ask andThen pick
+    none-asked = simp (f .0, f .1, f .2, r .steps, r .whole)
 
-      pub function-passed : PassedAt x k
-      function-passed = record {
-        listed = rw (function-is (x .functions) (x .rows) (x .landings) (x .pairs) k, o) rows-listed;
-        asked = none-asked;
-      }
+    function-passed : PassedAt x k
+    function-passed = record { listed = rw (function-is (x .functions) (x .rows) (x .landings) (x .pairs) k, o) rows-listed; asked = none-asked }
+
+  pub rows-say : (r : RowsSize) → Surveyed (x .machine .word) (x .rows) (extentIn x k .«rows_at») (extentIn x k .rows) r → FunctionSurveyed x k r
+  rows-say (Bytes n) s = (function-passed s, s .bytes)
+  rows-say Unsure s = tt
 
 -- ---- all of them
 

@@ -6,7 +6,8 @@ use mathlib.Core.Bool.{Bool, true, false}
 use mathlib.Core.Option.{none}
 use mathlib.Core.List.{List}
 use lib.Dec.{T}
-use Rattle.format.specs.Prelude.{each}
+use mir.Facts.{yes-and}
+use Rattle.format.specs.Prelude.{all, each}
 use Rattle.format.specs.declared.Machine.{Machine}
 use Rattle.format.specs.declared.Section.{Section}
 use Rattle.format.specs.declared.Outcome.{Outcome}
@@ -80,6 +81,30 @@ module _ (x : Inputs) (fit : MachineFits (x .machine)) (b : listsOk (x .function
       → q ≡ questionOf (perFunction (dwarfAsks (x .section) (x .machine .word)) 0 (each (askedIn (x .section) (x .functions) (x .rows) (x .pairs)) 0 (countIn x)))
       → q ≡ Yes → Cleared x
   cleared-is k y = cleared x fit (all-counted (x .functions) (x .rows) (x .landings) (x .pairs) (is-yes b)) (passed (said-yes _ (sym k ∙ y)))
+
+-- functions that passed, the other way round
+module _ (x : Inputs) (few : T (sumsOk (x .functions))) (p : (k : ℕ) → k < countIn x → PassedAt x k) where
+  is-true : (b : Bool) → T b → b ≡ true
+  is-true true t = refl
+
+  all-held : (f : ℕ → Bool) (at n : ℕ) → ((k : ℕ) → k < n → T (f (at + k))) → T (allIn f at n)
+  unfolding allIn all each
+  all-held f at zero h = tt
+  all-held f at (suc n) h =
+      let z : at + 0 ≡ at = omega arith in
+      yes-and (f at) (allIn f (suc at) n) (rw z at (h 0 (omega arith)))
+      (all-held f (suc at) n (λ k l. let y : at + suc k ≡ suc at + k = omega arith in rw y at (h (suc k) (omega arith))))
+
+  pub lists-passed : listsOk (x .functions) (x .rows) (x .landings) (x .pairs) ≡ true
+  lists-passed =
+      lists-is (x .functions) (x .rows) (x .landings) (x .pairs)
+      ∙ is-true _ (yes-and (sumsOk (x .functions)) _ few (all-held (functionOkAt (x .functions) (x .rows) (x .landings) (x .pairs)) 0 (countIn x) (λ k h. let z : k ≡ 0 + k = omega arith in rw z at (p k h .listed))))
+
+  pub asked-passed : Yes ≡ questionOf (perFunction (dwarfAsks (x .section) (x .machine .word)) 0 (each (askedIn (x .section) (x .functions) (x .rows) (x .pairs)) 0 (countIn x)))
+  unfolding questionOf
+  asked-passed =
+      rw (per-all (dwarfAsks (x .section) (x .machine .word)) (askedIn (x .section) (x .functions) (x .rows) (x .pairs)) 0 (countIn x)
+      (λ k h. let z : k ≡ 0 + k = omega arith in rw z at (p k h .asked)))
 
 -- ---- the answers
 
