@@ -38,7 +38,7 @@ of-kind c e = ap (λ (k : ℕ). code k (c .register) (c .offset)) e
 of-both : (c : Code) {k r : ℕ} → c .kind ≡ k → c .register ≡ r → c ≡ code k r (c .offset)
 of-both c {k} e f = of-kind c e ∙ ap (λ (r : ℕ). code k r (c .offset)) f
 
-by-pick : (P : Code → Type 0) (t : Bool) (x y : Code) → (t ≡ true → P x) → (t ≡ false → P y) → P (pick t x y)
+pub by-pick : {X : Type 0} (P : X → Type 0) (t : Bool) (x y : X) → (t ≡ true → P x) → (t ≡ false → P y) → P (pick t x y)
 unfolding pick
 by-pick P true x y f g = f refl
 by-pick P false x y f g = g refl

@@ -6,7 +6,7 @@ use mathlib.Core.List.{List, [], _∷_, _++_}
 use Prim.Native.Nat.{ℕ, zero, suc, _+_, _-_, _*_, _/_, _%_, _^_, _≤_, _<_}
 use native.Mathlib.Omega.{arith}
 use lib.Dec.{leb, ltb, eqb}
-use lib.ListN.{length, length-append}
+use lib.ListN.{length}
 use borrow.Author.Tests.{eqb-true, leb-true, ltb-true, eq-eqb, ne-eqb, lt-ltb}
 use Rattle.format.specs.Prelude.{pick, after, Result, good, bad, orElse}
 use Rattle.format.proofs.Choice.{if-eq, if-ne, if-le}
@@ -20,7 +20,7 @@ use Rattle.arm64.specs.Runs.{noPair, simple, simplify, resolved, resolve
 use Rattle.arm64.specs.Packing.{chainBehind, tally, tallies, nothingYet, asFields, candidate, packedWord, fieldsHold, standsFor}
 use Rattle.arm64.specs.Writer.{instructions, prologueRun, epilogueRun, indexIn, codesOf, endsWith, packedFor}
 use Rattle.arm64.proofs.MeaningLaws.{both-true, no-yes, simplify-means}
-use Rattle.arm64.proofs.PackingLaws.{equal-all, reverse-twice, packed-prologue, packed-epilogue}
+use Rattle.arm64.proofs.PackingLaws.{equal-all, reverse-twice, reverse-length, packed-prologue, packed-epilogue}
 
 -- ---- the word's fields
 
@@ -153,11 +153,6 @@ simplify-length : (b : Code) (cs : List Code) → length (simplify b cs) ≡ len
 unfolding simplify
 simplify-length b [] = refl
 simplify-length b (c ∷ cs) = ap suc (simplify-length (pairBehind b (simple b c)) cs)
-
-reverse-length : (cs : List Code) → length (reverse cs) ≡ length cs
-unfolding reverse
-reverse-length [] = refl
-reverse-length (c ∷ cs) = omega (arith, length-append (reverse cs) (c ∷ []), reverse-length cs)
 
 -- ---- what the reader answers
 

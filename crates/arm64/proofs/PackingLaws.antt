@@ -6,6 +6,7 @@ use mathlib.Core.List.{List, [], _∷_, _++_}
 use Prim.Native.Nat.{ℕ, zero, suc, _+_, _-_, _*_, _<_}
 use native.Mathlib.Omega.{arith}
 use lib.Dec.{T, leb, ltb, eqb}
+use lib.ListN.{length, length-append}
 use borrow.Author.Tests.{eqb-true, eqb-false, ne-eqb}
 use Rattle.format.specs.Prelude.{pick}
 use Rattle.arm64.specs.declared.Code.{Code}
@@ -17,12 +18,7 @@ use Rattle.arm64.specs.Packed.{packedOk, signSlot, lone, integerPair, in
 use Rattle.arm64.specs.Meaning.{Effect, Pair, Step, stored, storing, only, saveTwo, savePair, saveNext, pairStep, integerStep, vectorStep, frameStep, orStep, stepOf, pairOf, effectOf, effects, reverse, prologueMeans, epilogueMeans}
 use Rattle.arm64.specs.Runs.{sameCode, sameCodes, pairIn, hasNext, nextPair, resolved, resolve, pairBehind, noPair}
 use Rattle.arm64.specs.Packing.{fieldsHold, standsFor}
-use Rattle.arm64.proofs.MeaningLaws.{Same, both-true, no-yes, equal, of-kind, no-next, next-kind, next-means, step-9, step-16, or-split, behind-same}
-
-pub by-pick : {X : Type 0} (P : X → Type 0) (t : Bool) (x y : X) → (t ≡ true → P x) → (t ≡ false → P y) → P (pick t x y)
-unfolding pick
-by-pick P true x y f g = f refl
-by-pick P false x y f g = g refl
+use Rattle.arm64.proofs.MeaningLaws.{Same, both-true, no-yes, equal, by-pick, of-kind, no-next, next-kind, next-means, step-9, step-16, or-split, behind-same}
 
 pub equal-all : (xs ys : List Code) → sameCodes xs ys ≡ true → xs ≡ ys
 unfolding sameCodes
@@ -236,6 +232,11 @@ pub reverse-twice : (cs : List Code) → reverse (reverse cs) ≡ cs
 unfolding reverse
 reverse-twice [] = refl
 reverse-twice (c ∷ cs) = reverse-append (reverse cs) c ∙ ap (λ xs. c ∷ xs) (reverse-twice cs)
+
+pub reverse-length : {A : Type 0} (xs : List A) → length (reverse xs) ≡ length xs
+unfolding reverse
+reverse-length [] = refl
+reverse-length (x ∷ xs) = omega (arith, length-append (reverse xs) (x ∷ []), reverse-length xs)
 
 -- ---- the packed word means what was given
 

@@ -1,6 +1,9 @@
 // Ported from crates/rucc-asm/src/xdata.rs of tamnd/rucc (Code) and changed; see NOTICE.
 // The types of Windows' unwind data on ARM64: codes, the fields of a record and of a packed word, and the reader's answer. What they mean is in specs/.
 
+pub mod fields;
+pub mod limits;
+
 // A code: its kind, 0 to 17 in the source's order, its register by number (x19 is 19, d8 is 8) and its offset or size in bytes. An operand that the
 // kind does not have is 0.
 pub struct Code {

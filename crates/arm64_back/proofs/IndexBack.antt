@@ -15,7 +15,7 @@ use Rattle.arm64.specs.Meaning.{reverse}
 use Rattle.arm64.specs.Runs.{sameCode, sameCodes, shorter, nextPair, nextOr, simple, pairBehind, simplify, simpleFits, runFits, runBytes, runSize, leads, isIn, ownRuns, runsBytes, placeIn, indexOf}
 use Rattle.arm64.specs.Reader.{runAt}
 use Rattle.arm64.specs.Writer.{hasRegister, hasOffset, codeOk, prologueRun, epilogueRun, epilogueRuns, ownOf, codesOf, indexIn}
-use Rattle.arm64.proofs.MeaningLaws.{both-true, no-yes}
+use Rattle.arm64.proofs.MeaningLaws.{both-true, no-yes, by-pick}
 use Rattle.arm64.proofs.PackingLaws.{equal-all}
 use Rattle.arm64_back.specs.Back.{AllFine, wholeCode, BytesAt}
 use Rattle.arm64_back.proofs.CodeBack.{either-way, or-false}
@@ -23,20 +23,15 @@ use Rattle.arm64_back.proofs.RunBack.{stands-behind, stands-before, sta
 
 -- ---- what is written of a code that was asked 13 is such a code too
 
-by-pick : {X : Type 0} (P : X → Type 0) (t : Bool) (x y : X) → P x → P y → P (pick t x y)
-unfolding pick
-by-pick P true x y f g = f
-by-pick P false x y f g = g
-
 simple-whole : (b c : Code) → wholeCode c ≡ true → wholeCode (simple b c) ≡ true
 unfolding simple nextOr shorter wholeCode codeOk hasRegister hasOffset
 simple-whole b c ok =
     let P : Code → Type 0 = λ d. wholeCode d ≡ true in
-    by-pick P (eqb (shorter c .kind) kRegp && sameCode (nextPair b) (shorter c)) (code kSaveNext 0 0) (shorter c) refl
-    (by-pick P (eqb (c .kind) kRegp && eqb (c .register) fp) (code kFplr 0 (c .offset)) _ refl
-    (by-pick P (eqb (c .kind) kRegpX && eqb (c .register) fp) (code kFplrX 0 (c .offset)) _ refl
-    (by-pick P (eqb (c .kind) kRegpX && eqb (c .register) 19 && leb (c .offset) 248) (code kR19R20X 0 (c .offset)) _ refl
-    (by-pick P (eqb (c .kind) kAddFp && eqb (c .offset) 0) (code kSetFp 0 0) c refl ok))))
+    by-pick P (eqb (shorter c .kind) kRegp && sameCode (nextPair b) (shorter c)) (code kSaveNext 0 0) (shorter c) (λ t. refl) λ t.
+    by-pick P (eqb (c .kind) kRegp && eqb (c .register) fp) (code kFplr 0 (c .offset)) _ (λ t. refl) λ t.
+    by-pick P (eqb (c .kind) kRegpX && eqb (c .register) fp) (code kFplrX 0 (c .offset)) _ (λ t. refl) λ t.
+    by-pick P (eqb (c .kind) kRegpX && eqb (c .register) 19 && leb (c .offset) 248) (code kR19R20X 0 (c .offset)) _ (λ t. refl) λ t.
+    by-pick P (eqb (c .kind) kAddFp && eqb (c .offset) 0) (code kSetFp 0 0) c (λ t. refl) λ t. ok
 
 pub runs-fine : (b : Code) (cs : List Code) → all wholeCode cs ≡ true → runFits b cs ≡ true → AllFine (simplify b cs)
 unfolding all runFits simplify simpleFits

@@ -12,13 +12,8 @@ use Rattle.arm64.specs.Reader.{Unwound, epilogue, epilogueCodes, allCodes}
 use Rattle.arm64.specs.Runs.{noPair, simplify}
 use Rattle.arm64.specs.Writer.{prologueRun, epilogueRun}
 use Rattle.arm64.proofs.MeaningLaws.{simplify-means}
-use Rattle.arm64.proofs.PackingLaws.{reverse-twice}
+use Rattle.arm64.proofs.PackingLaws.{reverse-twice, reverse-length}
 use Rattle.arm64_back.specs.Back.{SameEpilogues, SameUnwound, given, writtenEpilogue, written}
-
-pub reverse-length : {A : Type 0} (xs : List A) → length (reverse xs) ≡ length xs
-unfolding reverse
-reverse-length [] = refl
-reverse-length (x ∷ xs) = omega (arith, length-append (reverse xs) (x ∷ []), reverse-length xs)
 
 effects-length : (p : Option Pair) (cs : List Code) → length (effects p cs) ≡ length cs
 unfolding effects

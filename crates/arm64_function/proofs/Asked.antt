@@ -22,7 +22,8 @@ use Rattle.arm64_simple.specs.Saves.{saves}
 use Rattle.arm64_function.specs.declared.Parts.{Parts}
 use Rattle.arm64_function.specs.Listed.{Listed, Fine, asks}
 use Rattle.arm64_function.specs.Own.{partsAt, codesIn, startOkAt, fitsAt, partsOk, lengthOk, heldTo, Fitted}
-use Rattle.arm64_function.proofs.Given.{both-true, prologue-saves, epilogues-same, codes-same, starts-same, fits-same}
+use Rattle.arm64.proofs.MeaningLaws.{both-true}
+use Rattle.arm64_function.proofs.Given.{prologue-saves, epilogues-same, codes-same, starts-same, fits-same}
 
 -- ---- the first no
 

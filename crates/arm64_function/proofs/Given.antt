@@ -1,6 +1,6 @@
 -- Function k of the lists as the definitions have it, and as the code goes over it.
 use mathlib.Core.Path.{_≡_, refl, subst, sym, ap, _∙_}
-use mathlib.Core.Bool.{Bool, true, false, not, _&&_}
+use mathlib.Core.Bool.{Bool, true, false, _&&_}
 use mathlib.Core.List.{List, [], _∷_, _++_, map}
 use Prim.Native.Nat.{ℕ, zero, suc, _+_, _-_, _*_, _/_, _^_, _≤_, _<_}
 use native.Mathlib.Omega.{arith}
@@ -15,18 +15,12 @@ use Rattle.arm64.specs.Lists.{Epilogue, Function, functionStride, epilogueStrid
 use Rattle.arm64.specs.Meaning.{reverse}
 use Rattle.arm64.specs.Runs.{noPair, simplify, runFits, ownRuns, runBytes, runsBytes, indexOf}
 use Rattle.arm64.specs.Writer.{codesOkIn, codeOkAt, epilogueOkAt, functionOkAt, prologueRun, epilogueRun, epilogueRuns, ownOf, codesOf, indexIn, startOk}
+use Rattle.arm64.proofs.MeaningLaws.{both-true}
 use Rattle.arm64_simple.specs.declared.Run.{Run}
 use Rattle.arm64_simple.specs.Saves.{placeOf, savedAt, saves, Inside}
 use Rattle.arm64_function.specs.declared.Parts.{Parts}
 use Rattle.arm64_function.specs.Listed.{Listed}
 use Rattle.arm64_function.specs.Own.{prologueAt, epilogueAt, partsAt, Ready, prologueIn, runAt, ownIn, codesIn, indexAt, startOkAt, fitsAt}
-
-pub no-yes : false ≡ true → ⊥
-no-yes e = subst (λ (x : Bool). T (not x)) e tt
-
-pub both-true : (a b : Bool) → a && b ≡ true → (a ≡ true) × (b ≡ true)
-both-true true b e = (refl, e)
-both-true false b e = absurd (no-yes e)
 
 -- ---- a function at each number of a range
 

@@ -14,9 +14,9 @@ use Rattle.arm64.specs.Codes.{codeBytes}
 use Rattle.arm64.specs.Runs.{noPair, sameCode, sameCodes, simplify, runFits, backwards, runBytes, runSize, leads, isIn, ownRuns, runsBytes, placeIn, indexOf}
 use Rattle.arm64_simple.specs.declared.Run.{Run}
 use Rattle.arm64_simple.specs.Saves.{saves, Inside}
-use Rattle.arm64_sharing.proofs.Comparing.{equal}
 use Rattle.arm64_function.specs.declared.Parts.{Parts}
-use Rattle.arm64_function.proofs.Given.{no-yes, both-true}
+use Rattle.arm64.proofs.MeaningLaws.{both-true, no-yes, equal}
+use Rattle.arm64.proofs.PackingLaws.{equal-all}
 use Rattle.arm64_function.specs.Own.{prologueIn, runAt, seenFrom, seenAt, ownAt, ownIn, laterAt, codesIn, indexAt, Nearest, heldTo, epilogueAt, fitsAt}
 
 pub both-false : (a b : Bool) → a || b ≡ false → (a ≡ false) × (b ≡ false)
@@ -24,15 +24,6 @@ both-false true b e = absurd (no-yes (sym e))
 both-false false b e = (refl, e)
 
 -- ---- equal runs
-
-pub equal-runs : (xs ys : List Code) → sameCodes xs ys ≡ true → xs ≡ ys
-unfolding sameCodes
-equal-runs [] [] e = refl
-equal-runs [] (y ∷ ys) e = absurd (no-yes e)
-equal-runs (x ∷ xs) [] e = absurd (no-yes e)
-equal-runs (x ∷ xs) (y ∷ ys) e =
-    let h = both-true (sameCode x y) (sameCodes xs ys) e in
-    ap (λ z. z ∷ xs) (equal x y (h .0)) ∙ ap (λ zs. y ∷ zs) (equal-runs xs ys (h .1))
 
 same-self : (x : Code) → sameCode x x ≡ true
 unfolding sameCode
@@ -151,7 +142,7 @@ module _ {es cs : List ℕ} {p : Parts} {i j : ℕ} (s : Searching es cs p i j) 
         record {
           low = omega (arith, h);
           high = omega (arith, s .high);
-          same = λ l. equal-runs (runAt es cs i) (runAt es cs (j - 1)) (sym answered ∙ y);
+          same = λ l. equal-all (runAt es cs i) (runAt es cs (j - 1)) (sym answered ∙ y);
           seen = here ∙ ap (λ x. x || isIn (runAt es cs i) (seenAt es cs p (j - 1))) (sym answered ∙ y)
               ∙ sym (lt-ltb (j - 1) i (omega (arith, s .high, h)));
         }

@@ -9,7 +9,7 @@ use lib.Dec.{T, leb, ltb, eqb}
 use lib.ListN.{length, getD}
 use borrow.Author.Tests.{leb-true, le-leb, lt-leb, ltb-true, eq-eqb, ne-eqb}
 use Rattle.format.specs.Prelude.{pick, each}
-use Rattle.format.specs.Lists.{allIn, field, sumOf, mostRecords}
+use Rattle.format.specs.Lists.{allIn, field}
 use Rattle.format.proofs.ListLaws.{each-length, in-range}
 use Rattle.arm64.specs.declared.Code.{Code}
 use Rattle.arm64.specs.Lists.{Epilogue, Function, functionStride, epilogueStride, numberedCode, numberedEpilogue, numberedFunction}
@@ -22,7 +22,8 @@ use Rattle.arm64_function.specs.declared.Parts.{Parts}
 use Rattle.arm64_function.specs.Listed.{Fine}
 use Rattle.arm64_function.specs.Own.{prologueAt, epilogueAt, partsAt, Fitted, prologueIn, runAt, ownIn, codesIn, indexAt, startOkAt, fitsAt, partsOk, mostCodes}
 use Rattle.arm64_function.specs.PackedWord.{sharedIn, packedAt, Only}
-use Rattle.arm64_function.proofs.Given.{both-true, prologue-same, epilogue-run, epilogues-same, codes-same, index-same, starts-same, ready}
+use Rattle.arm64.proofs.MeaningLaws.{both-true}
+use Rattle.arm64_function.proofs.Given.{prologue-same, epilogue-run, epilogues-same, codes-same, index-same, starts-same, ready}
 use Rattle.arm64_function.proofs.Own.{run-size, leading}
 use Rattle.arm64_function.proofs.Asked.{passed, values-same}
 
@@ -219,16 +220,6 @@ module _ (es cs : List ℕ) (p : Parts) (size : ℕ) {e : Run} (h : e ≡ epilog
     pub only-start : getD es (3 * p .first) 0 ≤ size
     only-start = subst (λ (n : ℕ). getD es n 0 ≤ size) (add-zero (3 * p .first)) (o .start)
 
-    pub only-short : size / 4 < 2 ^ 18
-    unfolding instructions
-    only-short = o .short
-
-    pub only-fits : runFits noPair (saves cs e) ≡ true
-    only-fits = subst (λ x. runFits noPair (saves cs x) ≡ true) (sym h) (o .epilogue)
-
-    pub only-few : e .count ≤ mostRecords
-    only-few = subst (λ x. x .count ≤ mostRecords) (sym h) (o .few-epilogue)
-
 -- ---- what the questions have answered
 
 in-all : (test : ℕ → Bool) (at n i : ℕ) → allIn test at n ≡ true → at ≤ i → i < at + n → test i ≡ true
@@ -239,11 +230,6 @@ in-all test at n i e a b =
     yes-is : (b : Bool) → T b → b ≡ true
     yes-is true t = refl
     yes-is false t = absurd t
-
-first-few : (g : ℕ → ℕ) (at n : ℕ) → 0 < n → g at ≤ sumOf g at n
-unfolding sumOf
-first-few g at zero h = absurd (omega (arith, h))
-first-few g at (suc n) h = omega arith
 
 module _ {fs es cs : List ℕ} {k : ℕ} (h : Fine fs es cs k) where
   abbrev parts : Parts
@@ -287,16 +273,12 @@ module _ {fs es cs : List ℕ} {k : ℕ} (h : Fine fs es cs k) where
     only-of one =
         let at = field functionStride fs k 4 in
         let g : 0 < field functionStride fs k 5 = omega (arith, one) in
-        let few = first-few (λ i. field epilogueStride es i 2) at (field functionStride fs k 5) g in
         record {
           ready = ready (h .listed) short;
           one = omega (arith, g);
           start = let l = start-low at (omega arith) (omega (arith, g)) in omega (arith, l);
-          short = size-short;
           prologue = fitted .prologue;
-          epilogue = fitted .epilogues at (omega arith) (omega (arith, g));
           few-prologue = omega (arith, h .listed .few-codes);
-          few-epilogue = omega (arith, h .listed .few-codes, few);
         }
 
     pub only : {q : Parts} → q ≡ parts → q .end - q .first ≡ 1 → Only es cs q (field functionStride fs k 1)

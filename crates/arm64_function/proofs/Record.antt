@@ -29,7 +29,8 @@ use Rattle.arm64_function.specs.declared.Shape.{Shape}
 use Rattle.arm64_function.specs.Listed.{Fine}
 use Rattle.arm64_function.specs.Own.{partsAt, epilogueAt, prologueIn, runAt, codesIn, indexAt, wordAt, wordsFrom, partsOk, fitsAt, heldTo, mostCodes}
 use Rattle.arm64_function.specs.Record.{Whole, singleAt, countAt, wordsAt, Shaped, scopesAt, recordAt}
-use Rattle.arm64_function.proofs.Given.{both-true, epilogues-same, codes-same, index-same, ready}
+use Rattle.arm64.proofs.MeaningLaws.{both-true}
+use Rattle.arm64_function.proofs.Given.{epilogues-same, codes-same, index-same, ready}
 use Rattle.arm64_function.proofs.Own.{leads-is, searching-start, searching-ended}
 use Rattle.arm64_function.proofs.Indexes.{ahead-start, index-own, index-low}
 use Rattle.arm64_function.proofs.Scopes.{words-length}

@@ -2,7 +2,7 @@
 use mathlib.Core.Path.{_≡_}
 use mathlib.Core.Bool.{Bool, true, _&&_}
 use mathlib.Core.List.{List}
-use Prim.Native.Nat.{ℕ, _+_, _-_, _^_, _≤_, _<_}
+use Prim.Native.Nat.{ℕ, _+_, _-_, _≤_, _<_}
 use lib.Dec.{leb, eqb}
 use Rattle.format.specs.Prelude.{pick}
 use Rattle.format.specs.Lists.{field, mostRecords}
@@ -35,8 +35,5 @@ pub record Only (es cs : List ℕ) (p : Parts) (size : ℕ) : Type 0 where
   pub ready : Ready es cs p
   pub one : p .first < p .end
   pub start : field epilogueStride es (p .first) 0 ≤ size
-  pub short : instructions size < 2 ^ 18
   pub prologue : runFits noPair (saves cs (p .prologue)) ≡ true
-  pub epilogue : runFits noPair (saves cs (epilogueAt es (p .first))) ≡ true
   pub few-prologue : p .prologue .count ≤ mostRecords
-  pub few-epilogue : epilogueAt es (p .first) .count ≤ mostRecords

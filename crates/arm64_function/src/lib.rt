@@ -17,7 +17,12 @@ ghost use Rattle.arm64_function.specs.PackedWord.{sharedIn, packedAt, On
 ghost use Rattle.arm64_function.specs.Listed.{Listed, Fine, asks};
 ghost use Rattle.arm64_function.specs.Own.{prologueAt, epilogueAt, partsAt, Ready, Fitted, prologueIn, runAt, ownAt, ownIn, codesIn, indexAt, Nearest, heldTo, startOkAt, fitsAt, partsOk, lengthOk, wordsFrom, indexIn, Known, Ahead, Started};
 ghost use Rattle.arm64_function.specs.Record.{Whole, singleAt, Shaped, scopesAt, recordAt};
+use arm64::fields;
+use arm64::limits;
 use arm64_simple::Run;
+
+// What stands for more bytes of codes than a record holds.
+const TOO_MANY: usize = limits::MOST_CODES + 1;
 
 // A function's codes: its prologue's, and its epilogues from `first` to `end`.
 pub struct Parts {
@@ -31,8 +36,8 @@ fn prologue_at(fs: &[u64], k: usize) -> Run
     ensures { λ r. ⌜ r ≡ prologueAt (now (fs .entry)) k ⌝ }
 {
     Run {
-        at: fs[6 * k + 2] as usize,
-        count: fs[6 * k + 3] as usize,
+        at: fs[fields::FUNCTION_STRIDE * k + fields::PROLOGUE_AT] as usize,
+        count: fs[fields::FUNCTION_STRIDE * k + fields::PROLOGUE] as usize,
         back: false,
     }
 }
@@ -42,8 +47,8 @@ fn epilogue_at(es: &[u64], i: usize) -> Run
     ensures { λ r. ⌜ r ≡ epilogueAt (now (es .entry)) i ⌝ }
 {
     Run {
-        at: es[3 * i + 1] as usize,
-        count: es[3 * i + 2] as usize,
+        at: es[fields::EPILOGUE_STRIDE * i + fields::CODES_AT] as usize,
+        count: es[fields::EPILOGUE_STRIDE * i + fields::CODES] as usize,
         back: true,
     }
 }
@@ -53,8 +58,8 @@ fn parts_at(fs: &[u64], k: usize) -> Parts
     ensures { λ r. ⌜ r ≡ partsAt (now (fs .entry)) k ⌝ }
 {
     let prologue = prologue_at(fs, k);
-    let first = fs[6 * k + 4] as usize;
-    let end = first + fs[6 * k + 5] as usize;
+    let first = fs[fields::FUNCTION_STRIDE * k + fields::EPILOGUES_AT] as usize;
+    let end = first + fs[fields::FUNCTION_STRIDE * k + fields::EPILOGUES] as usize;
     Parts {
         prologue,
         first,
@@ -77,10 +82,10 @@ fn shares(cs: &[u64], left: u64, prologue: Run, epilogue: Run) -> bool
         return false;
     }
     let whole = arm64_simple::run_size(cs, prologue);
-    if 123 < whole {
+    if limits::SHORT_PROLOGUE < whole {
         return false;
     }
-    whole - arm64_simple::run_size(cs, epilogue) <= 31
+    whole - arm64_simple::run_size(cs, epilogue) <= limits::SHORT_INDEX
 }
 
 // The packed word of a function of `size` bytes with one epilogue, or 0.
@@ -90,7 +95,7 @@ fn packed_one(es: &[u64], cs: &[u64], p: Parts, size: u64) -> u64
 {
     let prologue = p.prologue;
     let epilogue = epilogue_at(es, p.first);
-    let left = (size - es[3 * p.first]) / 4;
+    let left = (size - es[fields::EPILOGUE_STRIDE * p.first]) / 4;
     if !shares(cs, left, prologue, epilogue) {
         return 0;
     }
@@ -106,7 +111,7 @@ pub fn packed_word(fs: &[u64], es: &[u64], cs: &[u64], k: usize) -> u64
     if p.end - p.first != 1 {
         return 0;
     }
-    packed_one(es, cs, p, fs[6 * k + 1])
+    packed_one(es, cs, p, fs[fields::FUNCTION_STRIDE * k + fields::LENGTH])
 }
 
 // ---- questions 81 to 83
@@ -116,7 +121,7 @@ fn start_ok(es: &[u64], size: u64, i: usize) -> bool
     requires { ⌜ 3 * i + 3 ≤ length (now es) ⌝ }
     ensures { λ r. ⌜ r ≡ startOkAt (now (es .entry)) size i ⌝ }
 {
-    let start = es[3 * i];
+    let start = es[fields::EPILOGUE_STRIDE * i];
     if start % 4 != 0 {
         return false;
     }
@@ -195,14 +200,14 @@ fn codes_size(es: &[u64], cs: &[u64], p: Parts) -> usize
     let mut size = arm64_simple::run_size(cs, prologue) + 1;
     let mut i = p.first;
     while i < p.end {
-        if 1020 < size {
-            return 1021;
+        if limits::MOST_CODES < size {
+            return TOO_MANY;
         }
         size += own_size(es, cs, p, i);
         i += 1;
     }
-    if 1020 < size {
-        return 1021;
+    if limits::MOST_CODES < size {
+        return TOO_MANY;
     }
     size
 }
@@ -219,10 +224,10 @@ fn values_ok(es: &[u64], cs: &[u64], p: Parts) -> bool
     if !runs_fit(es, cs, p) {
         return false;
     }
-    if 65535 < p.end - p.first {
+    if limits::MOST_EPILOGUES < p.end - p.first {
         return false;
     }
-    codes_size(es, cs, p) <= 1020
+    codes_size(es, cs, p) <= limits::MOST_CODES
 }
 
 // Question 81.
@@ -232,7 +237,7 @@ fn length_ok(size: u64) -> bool
     if size % 4 != 0 {
         return false;
     }
-    size / 4 <= 262143
+    size / 4 <= limits::LONGEST
 }
 
 // The number of the first question that is answered by no, 81 to 83, or 0.
@@ -240,7 +245,7 @@ pub fn function_no(fs: &[u64], es: &[u64], cs: &[u64], k: usize) -> u64
     requires { ⌜ Listed (now fs) (now es) (now cs) k ⌝ }
     ensures { λ r. ⌜ functionAsks k (numberedFunction (now (fs .entry)) (now (es .entry)) (now (cs .entry)) k) ≡ asks r ⌝ }
 {
-    let size = fs[6 * k + 1];
+    let size = fs[fields::FUNCTION_STRIDE * k + fields::LENGTH];
     if !length_ok(size) {
         return 81;
     }
@@ -352,7 +357,12 @@ fn put_scopes(out: &mut [u8], to: usize, es: &[u64], cs: &[u64], p: Parts) -> us
     let mut i = p.first;
     while i < p.end {
         let s = scope_of(out, to, es, cs, p, i, next);
-        q = leb::le(out, q, 4, es[3 * i] / 4 + 4194304 * s.index as u64);
+        q = leb::le(
+            out,
+            q,
+            4,
+            es[fields::EPILOGUE_STRIDE * i] / 4 + 4194304 * s.index as u64,
+        );
         next = s.next;
         i += 1;
     }
@@ -382,13 +392,14 @@ fn is_single(es: &[u64], cs: &[u64], p: Parts, size: u64, codes: usize) -> bool
     if p.end - p.first != 1 {
         return false;
     }
-    if 124 < codes {
+    if limits::SHORT_CODES < codes {
         return false;
     }
-    if 31 < only_index(es, cs, p) {
+    if limits::SHORT_INDEX < only_index(es, cs, p) {
         return false;
     }
-    (size - es[3 * p.first]) / 4 == es[3 * p.first + 2] + 1
+    (size - es[fields::EPILOGUE_STRIDE * p.first]) / 4
+        == es[fields::EPILOGUE_STRIDE * p.first + fields::CODES] + 1
 }
 
 // What the header says beside the length, and how many bytes of codes there are.
@@ -461,7 +472,12 @@ pub fn info_size(fs: &[u64], es: &[u64], cs: &[u64], k: usize) -> usize
     if packed_word(fs, es, cs, k) != 0 {
         return 0;
     }
-    record_size(es, cs, parts_at(fs, k), fs[6 * k + 1])
+    record_size(
+        es,
+        cs,
+        parts_at(fs, k),
+        fs[fields::FUNCTION_STRIDE * k + fields::LENGTH],
+    )
 }
 
 // A function's record.
@@ -472,5 +488,12 @@ pub fn put_info(out: &mut [u8], at: usize, fs: &[u64], es: &[u64], cs: &[u64], k
     if packed_word(fs, es, cs, k) != 0 {
         return at;
     }
-    put_record(out, at, es, cs, parts_at(fs, k), fs[6 * k + 1])
+    put_record(
+        out,
+        at,
+        es,
+        cs,
+        parts_at(fs, k),
+        fs[fields::FUNCTION_STRIDE * k + fields::LENGTH],
+    )
 }

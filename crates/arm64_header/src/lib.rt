@@ -6,15 +6,16 @@ ghost use lib.ListN.{length, replicate};
 ghost use Rattle.format.proofs.Wrote.{Wrote};
 ghost use Rattle.arm64.specs.Writer.{nopByte};
 ghost use Rattle.arm64_header.specs.Header.{isLongOf, firstWord, headerOf};
+use arm64::limits;
 
 // The short form holds counts below 32 and 31 words of codes.
 fn is_long(count: u64, words: u64) -> bool
     ensures { λ r. ⌜ r ≡ isLongOf count words ⌝ }
 {
-    if 31 < count {
+    if limits::SHORT_COUNT < count {
         return true;
     }
-    31 < words
+    limits::SHORT_COUNT < words
 }
 
 // The length in instructions, and E.

@@ -9,7 +9,7 @@ use Rattle.format.specs.Lists.{field, sumOf, mostRecords}
 use Rattle.format.proofs.Choice.{if-le, if-gt}
 use Rattle.arm64.specs.Lists.{functionStride, epilogueStride}
 use Rattle.arm64.specs.Writer.{codesIn}
-use mathlib.Core.Bool.{Bool, true, false, not, _&&_, and-true, and-false}
+use mathlib.Core.Bool.{Bool, true, false, _&&_, and-true, and-false}
 use lib.Dec.{T}
 use mathlib.Core.Path.{subst}
 use borrow.Author.Tests.{le-leb}
@@ -20,6 +20,7 @@ use native.Mathlib.Nat.{zero-add}
 use Rattle.lists.proofs.Sums as sums
 use Rattle.lists.proofs.Answers.{reached}
 use Rattle.arm64.specs.Writer.{codesOkIn, epilogueOkAt, functionOkAt, listsOk}
+use Rattle.arm64.proofs.MeaningLaws.{both-true}
 use Rattle.arm64_lists.specs.Sums.{upTo}
 
 pub up-low : (n : ℕ) → n ≤ mostRecords → n ≡ upTo n
@@ -95,13 +96,6 @@ module _ {f : ℕ → ℕ} {n k sum s : ℕ} (a : sums.Summing f n k sum) (h : k
   total-stopped l = sums.stopped a h refl (omega (arith, up-over s (sum + f k) e l, a .small))
 
 -- ---- the ranges of functions that pass
-
-no-yes : false ≡ true → ⊥
-no-yes e = subst (λ (x : Bool). T (not x)) e tt
-
-both-true : (a b : Bool) → a && b ≡ true → (a ≡ true) × (b ≡ true)
-both-true true b e = (refl, e)
-both-true false b e = absurd (no-yes e)
 
 from-T : (b : Bool) → T b → b ≡ true
 from-T true t = refl

@@ -3,16 +3,20 @@ ghost use mathlib.Core.Path.{_≡_};
 ghost use Prim.Native.Nat.{ℕ, _+_, _*_, _≤_, _<_};
 ghost use lib.Dec.{leb};
 ghost use lib.ListN.{length};
-ghost use Rattle.format.specs.Lists.{count, field, symbolOk, allIn, sumOf, mostRecords};
+ghost use Rattle.format.specs.Lists.{count, field, allIn, sumOf, mostRecords};
 ghost use Rattle.arm64_lists.specs.Sums.{upTo};
 ghost use Rattle.arm64.specs.Lists.{functionStride, epilogueStride, codeStride};
 ghost use Rattle.arm64.specs.Writer.{codeOkAt, codesOkIn, epilogueOkAt, functionOkAt, codesIn, listsOk};
+use arm64::fields;
+
+// What stands for a sum above the most of records.
+const TOO_MANY: u64 = lists::MOST_RECORDS + 1;
 
 fn code_ok(cs: &[u64], i: usize) -> bool
     requires { ⌜ 3 * i + 3 ≤ length (now cs) ⌝ }
     ensures { λ r. ⌜ r ≡ codeOkAt (now (cs .entry)) i ⌝ }
 {
-    let kind = cs[3 * i];
+    let kind = cs[fields::CODE_STRIDE * i];
     if arm64::PAC_SIGN_LR < kind {
         return false;
     }
@@ -20,15 +24,15 @@ fn code_ok(cs: &[u64], i: usize) -> bool
         if arm64::REGP <= kind {
             return true;
         }
-        return cs[3 * i + 1] == 0;
+        return cs[fields::CODE_STRIDE * i + fields::REGISTER] == 0;
     }
-    if cs[3 * i + 1] != 0 {
+    if cs[fields::CODE_STRIDE * i + fields::REGISTER] != 0 {
         return false;
     }
     if kind == arm64::ADD_FP {
         return true;
     }
-    cs[3 * i + 2] == 0
+    cs[fields::CODE_STRIDE * i + fields::OFFSET] == 0
 }
 
 fn codes_in(cs: &[u64], at: usize, n: usize) -> bool
@@ -50,7 +54,7 @@ fn codes_in(cs: &[u64], at: usize, n: usize) -> bool
 fn codes_ok_in(cs: &[u64], at: u64, n: u64) -> bool
     ensures { λ r. ⌜ r ≡ codesOkIn (now (cs .entry)) at n ⌝ }
 {
-    if !lists::inside(at, n, (cs.len() / 3) as u64) {
+    if !lists::inside(at, n, (cs.len() / fields::CODE_STRIDE) as u64) {
         return false;
     }
     codes_in(cs, at as usize, n as usize)
@@ -60,7 +64,11 @@ fn epilogue_ok(es: &[u64], cs: &[u64], i: usize) -> bool
     requires { ⌜ 3 * i + 3 ≤ length (now es) ⌝ }
     ensures { λ r. ⌜ r ≡ epilogueOkAt (now (es .entry)) (now (cs .entry)) i ⌝ }
 {
-    codes_ok_in(cs, es[3 * i + 1], es[3 * i + 2])
+    codes_ok_in(
+        cs,
+        es[fields::EPILOGUE_STRIDE * i + fields::CODES_AT],
+        es[fields::EPILOGUE_STRIDE * i + fields::CODES],
+    )
 }
 
 fn epilogues_in(es: &[u64], cs: &[u64], at: usize, n: usize) -> bool
@@ -78,28 +86,23 @@ fn epilogues_in(es: &[u64], cs: &[u64], at: usize, n: usize) -> bool
     true
 }
 
-fn symbol_ok(s: u64) -> bool
-    ensures { λ r. ⌜ r ≡ symbolOk s ⌝ }
-{
-    if s < 16 {
-        return false;
-    }
-    s < 4294967296
-}
-
 fn function_ok(fs: &[u64], es: &[u64], cs: &[u64], k: usize) -> bool
     requires { ⌜ 6 * k + 6 ≤ length (now fs) ⌝ }
     ensures { λ r. ⌜ r ≡ functionOkAt (now (fs .entry)) (now (es .entry)) (now (cs .entry)) k ⌝ }
 {
-    if !symbol_ok(fs[6 * k]) {
+    if !lists::symbol_ok(fs[fields::FUNCTION_STRIDE * k]) {
         return false;
     }
-    if !codes_ok_in(cs, fs[6 * k + 2], fs[6 * k + 3]) {
+    if !codes_ok_in(
+        cs,
+        fs[fields::FUNCTION_STRIDE * k + fields::PROLOGUE_AT],
+        fs[fields::FUNCTION_STRIDE * k + fields::PROLOGUE],
+    ) {
         return false;
     }
-    let at = fs[6 * k + 4];
-    let n = fs[6 * k + 5];
-    if !lists::inside(at, n, (es.len() / 3) as u64) {
+    let at = fs[fields::FUNCTION_STRIDE * k + fields::EPILOGUES_AT];
+    let n = fs[fields::FUNCTION_STRIDE * k + fields::EPILOGUES];
+    if !lists::inside(at, n, (es.len() / fields::EPILOGUE_STRIDE) as u64) {
         return false;
     }
     epilogues_in(es, cs, at as usize, n as usize)
@@ -130,9 +133,9 @@ fn add_epilogues(es: &[u64], at: usize, n: usize, sum: u64) -> u64
     let mut total = sum;
     let mut i = at;
     while i < end {
-        let x = es[3 * i + 2];
-        if 1048576 - total < x {
-            return 1048577;
+        let x = es[fields::EPILOGUE_STRIDE * i + fields::CODES];
+        if lists::MOST_RECORDS - total < x {
+            return TOO_MANY;
         }
         total += x;
         i += 1;
@@ -145,11 +148,16 @@ fn add_function(fs: &[u64], es: &[u64], k: usize, sum: u64) -> u64
     requires { ⌜ (6 * k + 6 ≤ length (now fs)) × (field functionStride (now fs) k 4 + field functionStride (now fs) k 5 ≤ count epilogueStride (now es)) × (sum ≤ mostRecords) ⌝ }
     ensures { λ r. ⌜ r ≡ upTo (sum + codesIn (now (fs .entry)) (now (es .entry)) k) ⌝ }
 {
-    let x = fs[6 * k + 3];
-    if 1048576 - sum < x {
-        return 1048577;
+    let x = fs[fields::FUNCTION_STRIDE * k + fields::PROLOGUE];
+    if lists::MOST_RECORDS - sum < x {
+        return TOO_MANY;
     }
-    add_epilogues(es, fs[6 * k + 4] as usize, fs[6 * k + 5] as usize, sum + x)
+    add_epilogues(
+        es,
+        fs[fields::FUNCTION_STRIDE * k + fields::EPILOGUES_AT] as usize,
+        fs[fields::FUNCTION_STRIDE * k + fields::EPILOGUES] as usize,
+        sum + x,
+    )
 }
 
 fn codes_sum_ok(fs: &[u64], es: &[u64], n: usize) -> bool
@@ -160,7 +168,7 @@ fn codes_sum_ok(fs: &[u64], es: &[u64], n: usize) -> bool
     let mut k = 0;
     while k < n {
         let s = add_function(fs, es, k, sum);
-        if 1048576 < s {
+        if lists::MOST_RECORDS < s {
             return false;
         }
         sum = s;
@@ -176,8 +184,8 @@ fn epilogues_sum_ok(fs: &[u64], n: usize) -> bool
     let mut sum = 0;
     let mut k = 0;
     while k < n {
-        let x = fs[6 * k + 5];
-        if 1048576 - sum < x {
+        let x = fs[fields::FUNCTION_STRIDE * k + fields::EPILOGUES];
+        if lists::MOST_RECORDS - sum < x {
             return false;
         }
         sum += x;
@@ -190,8 +198,8 @@ fn epilogues_sum_ok(fs: &[u64], n: usize) -> bool
 pub fn lists_ok(fs: &[u64], es: &[u64], cs: &[u64]) -> bool
     ensures { λ r. ⌜ r ≡ listsOk (now (fs .entry)) (now (es .entry)) (now (cs .entry)) ⌝ }
 {
-    let n = fs.len() / 6;
-    if 65536 < n {
+    let n = fs.len() / fields::FUNCTION_STRIDE;
+    if lists::MOST_FUNCTIONS < n {
         return false;
     }
     if !epilogues_sum_ok(fs, n) {

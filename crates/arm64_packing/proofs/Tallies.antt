@@ -11,8 +11,7 @@ use Rattle.arm64.specs.declared.Packed.{Packed}
 use Rattle.arm64.specs.Codes.{code, kAlloc, kR19R20X, kFplrX, kRegX, kFregpX, kSaveNext, registerFits, formFor, codeFits}
 use Rattle.arm64.specs.Runs.{noPair, hasNext, nextPair, resolved, simple, shorter, pairBehind, simplify, resolve, simpleFits, runFits}
 use Rattle.arm64.specs.Packing.{downIn, tally, tallies, nothingYet, asFields, candidate}
-use Rattle.arm64.proofs.MeaningLaws.{both-true}
-use Rattle.arm64.proofs.PackingLaws.{by-pick}
+use Rattle.arm64.proofs.MeaningLaws.{both-true, by-pick}
 use Rattle.arm64_spelled.proofs.FitLaws.{fits-low}
 use Rattle.arm64_simple.specs.declared.Run.{Run}
 use Rattle.arm64_simple.specs.Saves.{savedAt, saves}

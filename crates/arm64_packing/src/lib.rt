@@ -285,7 +285,7 @@ fn packed_word(p: Packed) -> u64
 
 // The packed word that stands for a function of `size` instructions, or 0.
 pub fn packed(cs: &[u64], size: u64, prologue: Run, epilogue: Run) -> u64
-    requires { ⌜ Inside (now cs) prologue × Inside (now cs) epilogue × (size < 2 ^ 18) × (runFits noPair (saves (now cs) prologue) ≡ true) × (runFits noPair (saves (now cs) epilogue) ≡ true) × (prologue .count ≤ mostRecords) × (epilogue .count ≤ mostRecords) ⌝ }
+    requires { ⌜ Inside (now cs) prologue × Inside (now cs) epilogue × (runFits noPair (saves (now cs) prologue) ≡ true) × (prologue .count ≤ mostRecords) ⌝ }
     ensures { λ r. ⌜ r ≡ pick (standsFor (candidate size (simplify noPair (saves (now (cs .entry)) prologue))) (simplify noPair (saves (now (cs .entry)) prologue)) (simplify noPair (saves (now (cs .entry)) epilogue))) (packedWord (candidate size (simplify noPair (saves (now (cs .entry)) prologue)))) 0 ⌝ }
 {
     let p = candidate(cs, size, prologue);

@@ -22,7 +22,8 @@ use Rattle.arm64.specs.Meaning.{reverse}
 use Rattle.arm64.specs.Records.{recordOk, headerAt, codesFrom, codesOf}
 use Rattle.arm64.specs.Packed.{packedOf, packedOk, slotAt, slotsFrom, packedPrologue, packedEpilogue}
 use Rattle.arm64.specs.Reader.{Unwound, runAt, epilogue, atEnd, recordEpilogues, unwound, recordUnwound, fullRecord, packedEpilogues, packedUnwound, unwoundBy, epilogueCodes, allCodes, fitsIn, readArm64, readingOf, epiloguesAfter, codesAfter}
-use Rattle.arm64_runs.proofs.Stores.{code-numbers-length, code-numbers-append, reverse-length}
+use Rattle.arm64.proofs.PackingLaws.{reverse-length}
+use Rattle.arm64_runs.proofs.Stores.{code-numbers-length, code-numbers-append}
 use Rattle.arm64_runs.specs.Runs.{codesIn, countOf}
 use Rattle.arm64_runs.specs.declared.Count.the-variants as counted
 use Rattle.arm64_records.specs.Parts.{headedAt, totalOf, epiloguesIn, wordsFrom, howMany}

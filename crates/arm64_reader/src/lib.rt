@@ -14,6 +14,7 @@ ghost use Rattle.arm64_reader.specs.Answers.{Answered, found};
 use arm64::Arm64Reading;
 use arm64::Header;
 use arm64::Packed;
+use arm64::fields;
 use arm64_records::HeaderRead;
 use arm64_runs::Count;
 
@@ -41,13 +42,13 @@ fn record_with(s: &[u8], h: Header, codes: &[u8], es: &mut [u64], cs: &mut [u64]
         return refused(77);
     };
     let k = arm64_records::epilogues_in(h);
-    if ((es.len() / 3) as u64) < k {
+    if ((es.len() / fields::EPILOGUE_STRIDE) as u64) < k {
         return refused(54);
     }
-    if cs.len() / 3 < n + m {
+    if cs.len() / fields::CODE_STRIDE < n + m {
         return refused(54);
     }
-    let _prologue = arm64_runs::put_back(cs, 3 * n, codes);
+    let _prologue = arm64_runs::put_back(cs, fields::CODE_STRIDE * n, codes);
     let _epilogues = arm64_records::put_epilogues(es, cs, n, m, s, h, codes);
     Arm64Reading {
         number: 0,
@@ -64,7 +65,7 @@ fn fragment(p: Packed, es: &mut [u64], cs: &mut [u64]) -> Arm64Reading
     ensures { λ r. ⌜ Answered (found (packedUnwound p) (now (es .entry)) (now (cs .entry))) r (now (es .entry)) (now (es .exit)) (now (cs .entry)) (now (cs .exit)) ⌝ }
 {
     let n = arm64_packed::count_slots(false, p);
-    if cs.len() / 3 < n {
+    if cs.len() / fields::CODE_STRIDE < n {
         return refused(54);
     }
     let _prologue = arm64_packed::put_slots(cs, 0, false, p);
@@ -90,11 +91,11 @@ fn function(p: Packed, es: &mut [u64], cs: &mut [u64]) -> Arm64Reading
     if es.len() < 3 {
         return refused(54);
     }
-    if cs.len() / 3 < n + m {
+    if cs.len() / fields::CODE_STRIDE < n + m {
         return refused(54);
     }
     let _prologue = arm64_packed::put_slots(cs, 0, false, p);
-    let _epilogue = arm64_packed::put_slots(cs, 3 * n, true, p);
+    let _epilogue = arm64_packed::put_slots(cs, fields::CODE_STRIDE * n, true, p);
     let _place = arm64_runs::put_three(es, 0, 4 * (p.length - 1 - m as u64), n as u64, m as u64);
     Arm64Reading {
         number: 0,

@@ -13,6 +13,7 @@ ghost use Rattle.arm64_runs.specs.Runs.{Within, codesIn};
 ghost use Rattle.arm64_records.specs.Parts.{fitting, headedAt, Narrow, Inside, Read, wordsFrom, totalOf, epiloguesIn, howMany, Listed, Placed};
 ghost use Rattle.arm64_runs.specs.declared.Count.the-variants as counted;
 use arm64::Header;
+use arm64::fields;
 use arm64_runs::Count;
 
 // ---- the header
@@ -141,8 +142,15 @@ pub fn put_one(
     requires { ⌜ (runAt (now codes) index ≡ some (codesIn (runAt (now codes) index))) × (3 * (k + 1) ≤ length (now es)) × (3 * (at + length (codesIn (runAt (now codes) index))) ≤ length (now cs)) ⌝ }
     ensures { λ r. ⌜ Placed (now (es .entry)) (now (es .exit)) (now (cs .entry)) (now (cs .exit)) k at r start (codesIn (runAt (now (codes .entry)) index)) ⌝ }
 {
-    let past = arm64_runs::put_run(cs, 3 * at, codes, index) / 3;
-    let _past = arm64_runs::put_three(es, 3 * k, start, at as u64, (past - at) as u64);
+    let past = arm64_runs::put_run(cs, fields::CODE_STRIDE * at, codes, index)
+        / fields::CODE_STRIDE;
+    let _past = arm64_runs::put_three(
+        es,
+        fields::EPILOGUE_STRIDE * k,
+        start,
+        at as u64,
+        (past - at) as u64,
+    );
     past
 }
 

@@ -18,6 +18,7 @@ use Rattle.arm64.specs.Codes.{codeAt}
 use Rattle.arm64.specs.Lists.{codeNumbers}
 use Rattle.arm64.specs.Meaning.{reverse}
 use Rattle.arm64.specs.Reader.{inFront, runF, runAt}
+use Rattle.arm64.proofs.PackingLaws.{reverse-length}
 use Rattle.arm64_runs.specs.Runs.{codesIn}
 use Rattle.arm64_codes.proofs.OneCode.{code-past}
 use Rattle.arm64_runs.proofs.Ahead.{ahead, runs-on, runs-out, runs-none}
@@ -33,11 +34,6 @@ pub code-numbers-append : (us bs : List Code) → codeNumbers (us ++ bs) ≡ cod
 unfolding codeNumbers
 code-numbers-append [] bs = refl
 code-numbers-append (u ∷ us) bs = rw (code-numbers-append us bs)
-
-pub reverse-length : (cs : List Code) → length (reverse cs) ≡ length cs
-unfolding reverse
-reverse-length [] = refl
-reverse-length (c ∷ cs) = omega (arith, length-append (reverse cs) (c ∷ []), reverse-length cs)
 
 -- ---- stores
 

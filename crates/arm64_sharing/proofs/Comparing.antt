@@ -1,36 +1,20 @@
 -- Two runs compared code by code.
-use mathlib.Core.Path.{_≡_, refl, subst, sym, ap, _∙_}
+use mathlib.Core.Path.{_≡_, refl, sym, ap, _∙_}
 use mathlib.Core.Bool.{Bool, true, false, not, _&&_}
 use mathlib.Core.List.{List, [], _∷_}
 use Prim.Native.Nat.{ℕ, suc, _+_, _-_, _≤_, _<_}
 use native.Mathlib.Omega.{arith}
-use lib.Dec.{T, eqb}
 use lib.ListN.{length}
-use borrow.Author.Tests.{eqb-true, not-true, not-false}
+use borrow.Author.Tests.{not-true, not-false}
 use Rattle.format.specs.Prelude.{each}
 use Rattle.format.proofs.ListLaws.{each-length}
 use Rattle.arm64.specs.declared.Code.{Code}
 use Rattle.arm64.specs.Codes.{code}
 use Rattle.arm64.specs.Runs.{noPair, sameCode, sameCodes, simple, pairBehind, simplify, leads}
+use Rattle.arm64.proofs.MeaningLaws.{equal}
 use Rattle.arm64_simple.specs.declared.Run.{Run}
 use Rattle.arm64_simple.specs.Saves.{savedAt, saves}
 use Rattle.arm64_simple.proofs.Loops.{rest, rest-start, rest-first, rest-none}
-
-no-yes : false ≡ true → ⊥
-no-yes e = subst (λ (x : Bool). T (not x)) e tt
-
-both-true : (a b : Bool) → a && b ≡ true → (a ≡ true) × (b ≡ true)
-both-true true b e = (refl, e)
-both-true false b e = absurd (no-yes e)
-
-pub equal : (a b : Code) → sameCode a b ≡ true → a ≡ b
-unfolding sameCode
-equal a b e =
-    let p = both-true (eqb (a .kind) (b .kind) && eqb (a .register) (b .register)) (eqb (a .offset) (b .offset)) e in
-    let q = both-true (eqb (a .kind) (b .kind)) (eqb (a .register) (b .register)) (p .0) in
-    ap (λ (k : ℕ). code k (a .register) (a .offset)) (eqb-true (a .kind) (b .kind) (q .0))
-    ∙ ap (λ (r : ℕ). code (b .kind) r (a .offset)) (eqb-true (a .register) (b .register) (q .1))
-    ∙ ap (λ (z : ℕ). code (b .kind) (b .register) z) (eqb-true (a .offset) (b .offset) (p .1))
 
 leads-first : (a b c d : Code) (xs ys : List Code) → leads (simplify a (c ∷ xs)) (simplify b (d ∷ ys))
     ≡ (sameCode (simple a c) (simple b d) && leads (simplify (pairBehind a (simple a c)) xs) (simplify (pairBehind b (simple b d)) ys))

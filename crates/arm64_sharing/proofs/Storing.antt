@@ -1,10 +1,9 @@
 -- A run's codes stored from the back: what the loop knows at a turn.
-use mathlib.Core.Path.{_≡_, refl, subst, sym, ap, _∙_}
-use mathlib.Core.Bool.{Bool, true, false, not, _&&_}
+use mathlib.Core.Path.{_≡_, refl, sym, ap, _∙_}
+use mathlib.Core.Bool.{true}
 use mathlib.Core.List.{List, [], _∷_, _++_}
 use Prim.Native.Nat.{ℕ, _+_, _-_, _*_, _≤_, _<_}
 use native.Mathlib.Omega.{arith}
-use lib.Dec.{T}
 use lib.ListN.{length, length-append}
 use Rattle.format.specs.Put.{put}
 use Rattle.format.proofs.Wrote.{Wrote}
@@ -12,17 +11,11 @@ use Rattle.format.proofs.PutLaws.{put-append, kept, put-none, _then_}
 use Rattle.arm64.specs.declared.Code.{Code}
 use Rattle.arm64.specs.Codes.{codeBytes, codeFits, registerFits, formFor}
 use Rattle.arm64.specs.Runs.{noPair, shorter, simple, pairBehind, simplify, simpleFits, runFits, backwards, runBytes}
+use Rattle.arm64.proofs.MeaningLaws.{both-true}
 use Rattle.arm64_runs.proofs.Stores.{in-front}
 use Rattle.arm64_simple.specs.declared.Run.{Run}
 use Rattle.arm64_simple.specs.Saves.{savedAt, saves}
 use Rattle.arm64_simple.proofs.Loops.{rest, rest-start, rest-first, rest-none}
-
-no-yes : false ≡ true → ⊥
-no-yes e = subst (λ (x : Bool). T (not x)) e tt
-
-both-true : (a b : Bool) → a && b ≡ true → (a ≡ true) × (b ≡ true)
-both-true true b e = (refl, e)
-both-true false b e = absurd (no-yes e)
 
 fits-first : (b c : Code) (ds : List Code) → runFits b (c ∷ ds) ≡ true → (simpleFits b c ≡ true) × (runFits (pairBehind b (simple b c)) ds ≡ true)
 unfolding runFits

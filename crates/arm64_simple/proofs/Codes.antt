@@ -1,9 +1,9 @@
 -- One code: the answers of the leaves, by the code's own tests.
-use mathlib.Core.Path.{_≡_, refl, subst, sym, ap, _∙_}
+use mathlib.Core.Path.{_≡_, sym, ap, _∙_}
 use mathlib.Core.Bool.{Bool, true, false, not, _&&_, _||_, and-true, and-false, or-true, or-false}
 use Prim.Native.Nat.{ℕ, suc, _+_, _-_, _*_, _≤_, _<_}
 use native.Mathlib.Omega.{arith}
-use lib.Dec.{T, leb, ltb, eqb}
+use lib.Dec.{leb, ltb, eqb}
 use borrow.Author.Tests.{le-leb, lt-leb, eq-eqb, ne-eqb, lt-ltb, le-ltb, not-true, not-false, ltb-true}
 use Rattle.format.specs.Prelude.{pick}
 use Rattle.arm64.specs.declared.Code.{Code}
@@ -14,13 +14,7 @@ use Rattle.arm64_simple.specs.declared.Run.{Run}
 use Rattle.arm64_simple.specs.Saves.{placeOf, savedAt}
 use Rattle.arm64.specs.Codes.{code, formFor, registerFits, codeFits}
 use Rattle.arm64.specs.Runs.{sameCode, shorter, pairIn, hasNext, nextPair, resolved, nextOr, simple, simpleFits}
-
-no-yes : false ≡ true → ⊥
-no-yes e = subst (λ (x : Bool). T (not x)) e tt
-
-both-true : (a b : Bool) → a && b ≡ true → (a ≡ true) × (b ≡ true)
-both-true true b e = (refl, e)
-both-true false b e = absurd (no-yes e)
+use Rattle.arm64.proofs.MeaningLaws.{both-true}
 
 module _ (a b : Code) where
   pub kinds-differ : (a .kind ≡ b .kind → ⊥) → false ≡ sameCode a b

@@ -9,6 +9,7 @@ ghost use Rattle.arm64.specs.Codes.{code};
 ghost use Rattle.arm64.specs.Runs.{sameCode, shorter, pairIn, hasNext, nextPair, resolved, nextOr, simple, pairBehind, simplify, simpleFits, runFits, backwards, noPair, leads};
 ghost use Rattle.arm64_simple.specs.Saves.{placeOf, savedAt, saves, Inside};
 use arm64::Code;
+use arm64::fields;
 
 // Where the codes of a run stand in a list: an epilogue's save backwards.
 pub struct Run {
@@ -184,7 +185,11 @@ pub fn saved_at(cs: &[u64], run: Run, j: usize) -> Code
     ensures { λ r. ⌜ r ≡ savedAt (now (cs .entry)) run j ⌝ }
 {
     let i = place_of(run, j);
-    coded(cs[3 * i], cs[3 * i + 1], cs[3 * i + 2])
+    coded(
+        cs[fields::CODE_STRIDE * i],
+        cs[fields::CODE_STRIDE * i + fields::REGISTER],
+        cs[fields::CODE_STRIDE * i + fields::OFFSET],
+    )
 }
 
 pub fn run_fits(cs: &[u64], run: Run) -> bool

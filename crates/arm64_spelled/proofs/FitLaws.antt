@@ -17,14 +17,8 @@ use Rattle.arm64_spelled.proofs.FormLaws.{past-last, form-good}
 use Rattle.arm64.specs.declared.Form.{Form}
 use Rattle.arm64.specs.declared.Code.{Code}
 use Rattle.arm64.specs.Codes.{lastRegisters, formFor, registerField, offsetField, registerFits, offsetFits, codeFits, spelled, codeBytes, big}
+use Rattle.arm64.proofs.MeaningLaws.{both-true, no-yes}
 use Rattle.arm64_spelled.specs.Forms.{FormGood, InRanges, wordOf}
-
-no-yes : false ≡ true → ⊥
-no-yes e = subst (λ (x : Bool). T (not x)) e tt
-
-both-true : (a b : Bool) → a && b ≡ true → (a ≡ true) × (b ≡ true)
-both-true true b e = (refl, e)
-both-true false b e = absurd (no-yes e)
 
 or-left : (a b : Bool) → a ≡ false → a || b ≡ true → b ≡ true
 or-left true b n e = absurd (no-yes (sym n))

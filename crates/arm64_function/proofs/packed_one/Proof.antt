@@ -1,4 +1,4 @@
-use Rattle.arm64_function.proofs.PackedWord.{only-start, only-inside, only-short, only-fits, only-few, unshared, shared}
+use Rattle.arm64_function.proofs.PackedWord.{only-start, only-inside, unshared, shared}
 use Rattle.lists.proofs.Answers.{accepted, refused}
 use borrow.Author.Needs.{needs}
 use Rattle.arm64_function.proofs.packed_one.Statement.{statement}
@@ -39,7 +39,7 @@ returns c = unshared (c .before .before .before .before .before .before .before 
 
 -- src/lib.rt:96:5
 packed-requires : tie.Need-packed-requires
-packed-requires c κs = let o = c .before .before .before .before .before .before .before .before .pre in let e = c .before .before .before .before .epilogue-at .ensures in (o .ready .prologue, only-inside (c .before .before .before .before .before .before .before .before .args .es .now) (c .before .before .before .before .before .before .before .before .args .cs .now) (c .before .before .before .before .before .before .before .before .args .p) (c .before .before .before .before .before .before .before .before .args .size) e o, only-short (c .before .before .before .before .before .before .before .before .args .es .now) (c .before .before .before .before .before .before .before .before .args .cs .now) (c .before .before .before .before .before .before .before .before .args .p) (c .before .before .before .before .before .before .before .before .args .size) e o, o .prologue, only-fits (c .before .before .before .before .before .before .before .before .args .es .now) (c .before .before .before .before .before .before .before .before .args .cs .now) (c .before .before .before .before .before .before .before .before .args .p) (c .before .before .before .before .before .before .before .before .args .size) e o, o .few-prologue, only-few (c .before .before .before .before .before .before .before .before .args .es .now) (c .before .before .before .before .before .before .before .before .args .cs .now) (c .before .before .before .before .before .before .before .before .args .p) (c .before .before .before .before .before .before .before .before .args .size) e o)
+packed-requires c κs = let o = c .before .before .before .before .before .before .before .before .pre in let e = c .before .before .before .before .epilogue-at .ensures in (o .ready .prologue, only-inside (c .before .before .before .before .before .before .before .before .args .es .now) (c .before .before .before .before .before .before .before .before .args .cs .now) (c .before .before .before .before .before .before .before .before .args .p) (c .before .before .before .before .before .before .before .before .args .size) e o, o .prologue, o .few-prologue)
 
 -- src/lib.rt:86:1
 returns-2 : tie.Need-returns-2

@@ -8,7 +8,7 @@ use Rattle.arm64_lists.proofs.function_ok.Reads as reads
 use Rattle.arm64_lists.proofs.function_ok.Lts as lts
 use Rattle.arm64_lists.proofs.codes_ok_in.Reads as codes-ok-in-reads
 use Rattle.arm64_lists.proofs.epilogues_in.Reads as epilogues-in-reads
-use Rattle.arm64_lists.proofs.symbol_ok.Reads as symbol-ok-reads
+use Rattle.lists.proofs.symbol_ok.Reads as symbol-ok-reads
 use Rattle.lists.proofs.inside.Reads as inside-reads
 
 -- src/lib.rt:92:22

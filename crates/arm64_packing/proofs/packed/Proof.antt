@@ -14,7 +14,7 @@ use Rattle.arm64_packing.proofs.packed_word.Reads as packed-word-reads
 use Rattle.arm64_packing.proofs.same_places.Reads as same-places-reads
 
 candidate-requires : tie.Need-candidate-requires
-candidate-requires c κs = ((c .before .pre .0), (c .before .pre .3), (c .before .pre .5))
+candidate-requires c κs = ((c .before .pre .0), (c .before .pre .2), (c .before .pre .3))
 
 defined-requires : tie.Need-defined-requires
 defined-requires c κs = ((c .candidate .ensures .2), (c .candidate .ensures .3))
