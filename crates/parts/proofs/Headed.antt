@@ -1,15 +1,14 @@
 -- A header's fields by positions, from its augmentation data back to the entry, by the code's tests.
-use mathlib.Core.Path.{_≡_, subst}
+use mathlib.Core.Path.{_≡_, refl, subst}
 use mathlib.Core.Bool.{Bool, true, false}
 use mathlib.Core.List.{List}
 use Prim.Native.Nat.{ℕ, _+_, _≤_, _<_}
 use native.Mathlib.Omega.{arith}
-use borrow.Author.Tests.{eq-eqb, ne-eqb, le-leb, lt-leb}
+use borrow.Author.Tests.{ne-eqb, le-leb, lt-leb}
 use lib.Dec.{eqb}
 use lib.ListN.{length, drop, getD}
 use lib.IntN.{ℤ}
 use Rattle.format.specs.Prelude.{pick, next, Result, bad, onward, orElse}
-use Rattle.format.specs.Machine.{isWord}
 use Rattle.format.specs.Rows.{readRegister, sameOffset}
 use Rattle.format.specs.Headers.{dataFactor}
 use Rattle.format.specs.Answers.{bit}
@@ -18,7 +17,6 @@ use Rattle.format.specs.declared.Unsigned.the-variants as unsigned
 use Rattle.format.specs.declared.Signed.the-variants as signed
 use Rattle.format.proofs.Positions.{ulebAt, slebAt, littleAt}
 use Rattle.format.proofs.PositionLaws.{uleb-rest, uleb-none, sleb-rest, sleb-none, little-rest, little-none}
-use Rattle.reader.specs.Spans.{part}
 use Rattle.reader.specs.Fields.{Rests, lettersOf, ReadsAugmentation, Heading, Heads}
 use Rattle.reader.specs.declared.fields.Header.{Header}
 use Rattle.reader.specs.declared.fields.Header.the-variants as header
@@ -26,13 +24,10 @@ use Rattle.reader.specs.declared.fields.Augmentation.{Augmentation}
 use Rattle.reader.specs.declared.fields.AugmentationRead.{AugmentationRead}
 use Rattle.reader.specs.declared.fields.AugmentationRead.the-variants as augmentation
 use Rattle.reader.proofs.Augmentation.{byte-there, byte-none}
-use Rattle.reader.specs.Listing.{entryAt}
-use Rattle.reader.specs.declared.cursor.Entry.{Entry}
-use Rattle.reader.proofs.Steps.{entry-fits}
 use Rattle.parts.specs.Faults.{versionField, stringField, codeFactorField, dataFactorField, returnField, headerDataField, reading, testing}
 use Rattle.parts.specs.Headers.{HeaderParts, headerRest, headerFrom, headerParts, noHeader, headerNumbers, headerOf, readHeaderAt}
 use Rattle.parts.specs.declared.headers.HeaderRead.{HeaderRead}
-use Rattle.parts.proofs.Entered.{body-ends, left}
+use Rattle.parts.proofs.Entered.{left, byHeader, ByEntry}
 
 -- ---- the augmentation data, and the operations behind it
 
@@ -137,30 +132,7 @@ module _ (s : List ℕ) (debug : Bool) (word : ℕ) where
 
 -- ---- the entry
 
-module _ (section : List ℕ) (kind word place : ℕ) where
-  abbrev here : HeaderRead
-  here = readHeaderAt section kind word place
-
-  pub header-wordless : isWord word ≡ false → here ≡ noHeader 11 0
-  unfolding readHeaderAt pick
-  header-wordless w = rw w
-
-  module _ (w : isWord word ≡ true) where
-    pub header-kindless : 1 < kind → here ≡ noHeader 11 0
-    unfolding readHeaderAt pick
-    header-kindless h = rw (w, lt-leb kind 1 h)
-
-    module _ (k : kind ≤ 1) {e : Entry} (same : e ≡ entryAt (eqb kind 1) section place) where
-      pub header-none : (e .number ≡ 0 → ⊥) → here ≡ noHeader 61 0
-      unfolding readHeaderAt headerOf pick
-      header-none n = rw (w, le-leb kind 1 k, ← same, ne-eqb (e .number) 0 n)
-
-      module _ (n : e .number ≡ 0) where
-        pub header-record : e .header ≡ false → here ≡ noHeader 63 0
-        unfolding readHeaderAt headerOf pick
-        header-record h = rw (w, le-leb kind 1 k, ← same, eq-eqb (e .number) 0 n, h)
-
-        pub header-there : e .header ≡ true
-            → here ≡ headerNumbers (e .place + 4 + length (part section (e .place + 4) (e .next))) (headerParts (eqb kind 1) word (part section (e .place + 4) (e .next)))
-        unfolding readHeaderAt headerOf pick
-        header-there h = rw (w, le-leb kind 1 k, ← same, eq-eqb (e .number) 0 n, h, body-ends section (entry-fits (eqb kind 1) section place same n))
+pub header-entry : (section : List ℕ) (kind word place : ℕ)
+    → ByEntry section kind word place (readHeaderAt section kind word place) (noHeader 11 0) (noHeader 61 0) (λ end bytes. headerNumbers end (headerParts (eqb kind 1) word bytes)) (λ end bytes. noHeader 63 0)
+unfolding readHeaderAt headerOf byHeader
+header-entry section kind word place = record { says = refl }

@@ -21,7 +21,7 @@ use Rattle.format.proofs.OperationLaws.{operation-ahead, operation-rest}
 use Rattle.reader.specs.Spans.{part}
 use Rattle.reader.proofs.Whole.{drop-part}
 use Rattle.parts.specs.Operations.{noOperation, operationNumbers, decodedNumbers, operationFrom, readOperationAt}
-use Rattle.parts.specs.declared.operations.OperationRead.{OperationRead}
+use Rattle.parts.specs.declared.operation.OperationRead.{OperationRead}
 
 -- ---- an operation by the code's answer
 

@@ -19,9 +19,9 @@ use Rattle.parts.specs.Headers.{headerParts, headerNumbers, readHeaderAt
 use Rattle.parts.specs.Records.{recordParts, recordNumbers, readRecordAt}
 use Rattle.parts.specs.declared.headers.HeaderRead.{HeaderRead}
 use Rattle.parts.specs.declared.records.RecordRead.{RecordRead}
-use Rattle.parts.proofs.Entered.{body-ends}
-use Rattle.parts.proofs.Headed.{header-there}
-use Rattle.parts.proofs.Recorded.{record-there}
+use Rattle.parts.proofs.Entered.{body-ends, at-header, at-record}
+use Rattle.parts.proofs.Headed.{header-entry}
+use Rattle.parts.proofs.Recorded.{record-entry}
 use Rattle.parts.proofs.Agrees.{Faulty, HeaderAgrees, header-agrees, RecordAgrees, record-agrees}
 use Rattle.parts.proofs.Suffixes.{header-operations, record-operations}
 
@@ -73,7 +73,7 @@ module _ (section : List ℕ) (kind word place : ℕ) (w : isWord word ≡ true)
 
   pub header-at : isHeader debug (entryIn section place q) ≡ true → HeaderReading section (readHeaderAt section kind word place) (parseHeader debug word bytes)
   header-at t =
-      rw (header-there section kind word place w k there refl t, ends)
+      rw (at-header (header-entry section kind word place) w k there refl t, ends)
       (header-reads (headerNumbers q (headerParts debug word bytes)) (parseHeader debug word bytes) refl (header-agrees debug word q bytes))
 
   module _ (pointer : ℕ) where
@@ -89,5 +89,5 @@ module _ (section : List ℕ) (kind word place : ℕ) (w : isWord word ≡ true)
     pub record-at : isHeader debug (entryIn section place q) ≡ false
         → RecordReading section (readRecordAt section kind word pointer place) (parseRecord debug word pointer bytes)
     record-at t =
-        rw (record-there section kind word pointer place w k there refl t, ends)
+        rw (at-record (record-entry section kind word pointer place) w k there refl t, ends)
         (record-reads (recordNumbers debug pointer q (recordParts debug word pointer bytes)) (parseRecord debug word pointer bytes) refl (record-agrees debug word pointer q bytes))

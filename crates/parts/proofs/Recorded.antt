@@ -1,10 +1,10 @@
 -- A record's fields by positions, from its augmentation data back to the entry, by the code's tests.
-use mathlib.Core.Path.{_≡_, subst}
+use mathlib.Core.Path.{_≡_, refl, subst}
 use mathlib.Core.Bool.{Bool, true, false}
 use mathlib.Core.List.{List}
 use Prim.Native.Nat.{ℕ, _+_, _≤_, _<_}
 use native.Mathlib.Omega.{arith}
-use borrow.Author.Tests.{eq-eqb, ne-eqb, le-leb, lt-leb}
+use borrow.Author.Tests.{eq-eqb, ne-eqb}
 use lib.Dec.{T, eqb}
 use lib.ListN.{length, drop}
 use Rattle.format.specs.Prelude.{pick, Result, bad, onward, orElse}
@@ -13,18 +13,14 @@ use Rattle.format.specs.Reader.{recordTail}
 use Rattle.format.specs.declared.Unsigned.the-variants as unsigned
 use Rattle.format.proofs.Positions.{ulebAt, littleAt}
 use Rattle.format.proofs.PositionLaws.{uleb-ahead, uleb-rest, uleb-none, little-ahead, little-rest, little-none}
-use Rattle.reader.specs.Spans.{part}
 use Rattle.reader.specs.Fields.{Recording, Records}
 use Rattle.reader.specs.declared.fields.Record.{Record}
 use Rattle.reader.specs.declared.fields.Record.the-variants as row
 use Rattle.reader.proofs.Recorded.{field-small}
-use Rattle.reader.specs.Listing.{entryAt}
-use Rattle.reader.specs.declared.cursor.Entry.{Entry}
-use Rattle.reader.proofs.Steps.{entry-fits}
 use Rattle.parts.specs.Faults.{functionField, lengthField, recordDataField, reading}
 use Rattle.parts.specs.Records.{RecordParts, recordRest, recordParts, restFrom, callSites, noRecord, recordNumbers, recordOf, readRecordAt}
 use Rattle.parts.specs.declared.records.RecordRead.{RecordRead}
-use Rattle.parts.proofs.Entered.{body-ends, left}
+use Rattle.parts.proofs.Entered.{left, byHeader, ByEntry}
 
 -- ---- the pointer to call sites
 
@@ -112,30 +108,7 @@ module _ (s : List ℕ) (debug : Bool) (word pointer : ℕ) where
 
 -- ---- the entry
 
-module _ (section : List ℕ) (kind word pointer place : ℕ) where
-  abbrev here : RecordRead
-  here = readRecordAt section kind word pointer place
-
-  pub record-wordless : isWord word ≡ false → here ≡ noRecord 11 0
-  unfolding readRecordAt pick
-  record-wordless w = rw w
-
-  module _ (w : isWord word ≡ true) where
-    pub record-kindless : 1 < kind → here ≡ noRecord 11 0
-    unfolding readRecordAt pick
-    record-kindless h = rw (w, lt-leb kind 1 h)
-
-    module _ (k : kind ≤ 1) {e : Entry} (same : e ≡ entryAt (eqb kind 1) section place) where
-      pub record-none : (e .number ≡ 0 → ⊥) → here ≡ noRecord 61 0
-      unfolding readRecordAt recordOf pick
-      record-none n = rw (w, le-leb kind 1 k, ← same, ne-eqb (e .number) 0 n)
-
-      module _ (n : e .number ≡ 0) where
-        pub record-header : e .header ≡ true → here ≡ noRecord 62 0
-        unfolding readRecordAt recordOf pick
-        record-header h = rw (w, le-leb kind 1 k, ← same, eq-eqb (e .number) 0 n, h)
-
-        pub record-there : e .header ≡ false
-            → here ≡ recordNumbers (eqb kind 1) pointer (e .place + 4 + length (part section (e .place + 4) (e .next))) (recordParts (eqb kind 1) word pointer (part section (e .place + 4) (e .next)))
-        unfolding readRecordAt recordOf pick
-        record-there h = rw (w, le-leb kind 1 k, ← same, eq-eqb (e .number) 0 n, h, body-ends section (entry-fits (eqb kind 1) section place same n))
+pub record-entry : (section : List ℕ) (kind word pointer place : ℕ)
+    → ByEntry section kind word place (readRecordAt section kind word pointer place) (noRecord 11 0) (noRecord 61 0) (λ end bytes. noRecord 62 0) (λ end bytes. recordNumbers (eqb kind 1) pointer end (recordParts (eqb kind 1) word pointer bytes))
+unfolding readRecordAt recordOf byHeader
+record-entry section kind word pointer place = record { says = refl }

@@ -13,7 +13,7 @@ use Rattle.format.specs.Rows.{readOperation, kindOf, regOf, offsetOf}
 use Rattle.format.specs.declared.Operation.{Operation}
 use Rattle.format.specs.declared.Operation.the-variants.{Nop, Step, Does}
 use Rattle.reader.specs.Spans.{part}
-use Rattle.parts.specs.declared.operations.OperationRead.{OperationRead}
+use Rattle.parts.specs.declared.operation.OperationRead.{OperationRead}
 
 -- the kinds that are no row's: padding, and a step, whose value is how far it goes
 abbrev pub nopKind : ℕ

@@ -4,7 +4,7 @@ ghost use Rattle.format.specs.Answers.{bit};
 ghost use Rattle.parts.specs.Entries.{nextEntry};
 
 pub mod headers;
-pub mod operations;
+pub mod operation;
 pub mod records;
 
 // ---- an entry

@@ -1,11 +1,11 @@
--- `parts::operations::first` meets its contract.
+-- `parts::operation::first` meets its contract.
 use mathlib.Core.Path.{sym, _∙_}
 use native.Mathlib.Omega.{arith}
 use Rattle.format.proofs.OperationLaws.{operation-ahead}
 use Rattle.parts.proofs.Operated.{answered, operation-from}
 use borrow.Author.Needs.{needs}
-use Rattle.parts.proofs.operations.first.Statement.{statement}
-use Rattle.parts.proofs.operations.first.Tie as tie
+use Rattle.parts.proofs.operation.first.Statement.{statement}
+use Rattle.parts.proofs.operation.first.Tie as tie
 
 shared-slice-read-wide : tie.Need-shared-slice-read-wide
 shared-slice-read-wide c = search needs

@@ -1,12 +1,12 @@
--- `parts::operations::unwind_read_operation` meets its contract.
+-- `parts::operation::unwind_read_operation` meets its contract.
 use mathlib.Core.Path.{sym, _∙_}
 use native.Mathlib.Omega.{arith}
 use borrow.Author.Tests.{not-true, not-false}
 use Rattle.format.proofs.FieldsBack.{word-small}
 use Rattle.parts.proofs.Operated.{wordless, ended, behind, over, inside, some-bytes}
 use borrow.Author.Needs.{needs}
-use Rattle.parts.proofs.operations.unwind_read_operation.Statement.{statement}
-use Rattle.parts.proofs.operations.unwind_read_operation.Tie as tie
+use Rattle.parts.proofs.operation.unwind_read_operation.Statement.{statement}
+use Rattle.parts.proofs.operation.unwind_read_operation.Tie as tie
 
 is-word-requires : tie.Need-is-word-requires
 is-word-requires c κs = search needs

@@ -1,10 +1,10 @@
--- `parts::operations::numbers_of` meets its contract.
+-- `parts::operation::numbers_of` meets its contract.
 use mathlib.Core.Path.{refl}
 use Rattle.rows.proofs.Signs.{passed}
 use Rattle.parts.specs.Operations.{operationNumbers}
 use borrow.Author.Needs.{needs}
-use Rattle.parts.proofs.operations.numbers_of.Statement.{statement}
-use Rattle.parts.proofs.operations.numbers_of.Tie as tie
+use Rattle.parts.proofs.operation.numbers_of.Statement.{statement}
+use Rattle.parts.proofs.operation.numbers_of.Tie as tie
 
 enum-told : tie.Need-enum-told
 enum-told c = search needs

@@ -1,8 +1,8 @@
--- `parts::operations::refused` meets its contract.
+-- `parts::operation::refused` meets its contract.
 use mathlib.Core.Path.{refl}
 use Rattle.parts.specs.Operations.{noOperation}
-use Rattle.parts.proofs.operations.refused.Statement.{statement}
-use Rattle.parts.proofs.operations.refused.Tie as tie
+use Rattle.parts.proofs.operation.refused.Statement.{statement}
+use Rattle.parts.proofs.operation.refused.Tie as tie
 
 returns : tie.Need-returns
 unfolding noOperation
