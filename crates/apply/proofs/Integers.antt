@@ -1,15 +1,13 @@
 -- Sums and differences of integers, where the code computes with numbers.
-use mathlib.Core.Path.{_≡_, refl, sym, ap, _∙_}
-use mathlib.Core.Option.{Option, none, some}
-use Prim.Native.Nat.{ℕ, zero, suc, _+_, _-_, _*_, _^_, _<_, _≤_}
+use mathlib.Core.Path.{_≡_, sym, ap, _∙_}
+use mathlib.Core.Option.{none, some}
+use Prim.Native.Nat.{ℕ, suc, _+_, _-_, _*_, _^_, _<_, _≤_, _%_}
 use native.Mathlib.Omega.{arith}
 use native.Mathlib.Nat.{mul-le-mul-right, suc-mul}
-use lib.Dec.{leb}
-use lib.IntN.{ℤ, pos, negsuc, negℤ, subℕ, _+ℤ_, _-ℤ_, +ℤ-assoc, +ℤ-comm, +ℤ-invr, +ℤ-idl, +ℤ-idr, negℤ-+ℤ, +ℤ-negℤ-cancel, pos-+ℤ-pos}
+use lib.IntN.{ℤ, pos, negsuc, negℤ, _+ℤ_, _-ℤ_, +ℤ-assoc, +ℤ-comm, +ℤ-invr, +ℤ-idl, negℤ-+ℤ, +ℤ-negℤ-cancel, pos-+ℤ-pos}
 use mir.Syntax.{w64}
 use mir.Val.{toZ}
 use mir.Facts.{toZ-pos, toZ-neg}
-use Rattle.format.specs.Prelude.{pick}
 use Rattle.format.proofs.Choice.{if-le, if-gt, either}
 use Rattle.apply.specs.Fields.{upTo, signed32}
 
@@ -134,22 +132,25 @@ negative n =
 never : {A : Type 0} {d : ℕ} → none ≡ some d → A
 never e = let z : _≡_ {A = ℕ} 0 1 = cc in absurd (omega arith)
 
-pub record Shifted (z : ℤ) (d : ℕ) : Type 0 where
-  pub small : d < 2 ^ 31 → some (d + 2 ^ 31) ≡ signed32 z
-  pub large : 2 ^ 31 ≤ d → some (d - 2 ^ 31) ≡ signed32 z
+pub up-to-most : (most : ℕ) (z : ℤ) {d : ℕ} → upTo most z ≡ some d → d ≤ most
+unfolding upTo
+up-to-most most (pos n) {d} e = either n most
+    (λ h. let f : some n ≡ some d = rw (if-le n most) at e in let g : n ≡ d = cc in omega arith)
+    (λ h. let f : none ≡ some d = rw (if-gt n most) at e in never f)
+up-to-most most (negsuc n) e = never e
 
-shifted-pos : (n d : ℕ) → upTo (2 ^ 32 - 1) (pos (n + 2 ^ 31)) ≡ some d → Shifted (pos n) d
+shifted-pos : (n d : ℕ) → upTo (2 ^ 32 - 1) (pos (n + 2 ^ 31)) ≡ some d → some ((d + 2 ^ 31) % 2 ^ 32) ≡ signed32 (pos n)
 unfolding upTo signed32
 shifted-pos n d e = either (n + 2 ^ 31) (2 ^ 32 - 1)
     (λ h.
     let f : some (n + 2 ^ 31) ≡ some d = rw (if-le (n + 2 ^ 31) (2 ^ 32 - 1)) at e in
     let g : n + 2 ^ 31 ≡ d = cc in
-    let k : d - 2 ^ 31 ≡ n = omega arith in
+    let k : (d + 2 ^ 31) % 2 ^ 32 ≡ n = omega arith in
     let l : suc n ≤ 2 ^ 31 = omega arith in
-    record { small = λ m. absurd (omega arith); large = λ m. rw (if-le (suc n) (2 ^ 31)) (ap some k) })
+    rw (if-le (suc n) (2 ^ 31)) (ap some k))
     (λ h. let f : none ≡ some d = rw (if-gt (n + 2 ^ 31) (2 ^ 32 - 1)) at e in never f)
 
-shifted-neg : (n d : ℕ) → upTo (2 ^ 32 - 1) (negsuc n +ℤ pos (2 ^ 31)) ≡ some d → Shifted (negsuc n) d
+shifted-neg : (n d : ℕ) → upTo (2 ^ 32 - 1) (negsuc n +ℤ pos (2 ^ 31)) ≡ some d → some ((d + 2 ^ 31) % 2 ^ 32) ≡ signed32 (negsuc n)
 unfolding upTo signed32
 shifted-neg n d e = either (suc n) (2 ^ 31)
     (λ h.
@@ -157,11 +158,11 @@ shifted-neg n d e = either (suc n) (2 ^ 31)
     let l : 2 ^ 31 - suc n ≤ 2 ^ 32 - 1 = omega arith in
     let f : some (2 ^ 31 - suc n) ≡ some d = rw (if-le (2 ^ 31 - suc n) (2 ^ 32 - 1)) at (sym v ∙ e) in
     let g : 2 ^ 31 - suc n ≡ d = cc in
-    let k : d + 2 ^ 31 ≡ 2 ^ 32 - suc n = omega arith in
-    record { small = λ m. rw (if-le (suc n) (2 ^ 31)) (ap some k); large = λ m. absurd (omega arith) })
+    let k : (d + 2 ^ 31) % 2 ^ 32 ≡ 2 ^ 32 - suc n = omega arith in
+    rw (if-le (suc n) (2 ^ 31)) (ap some k))
     (λ h. never (sym (ap (upTo (2 ^ 32 - 1)) (negative n .1 (omega arith))) ∙ e))
 
-pub signed-is : (z : ℤ) (d : ℕ) → upTo (2 ^ 32 - 1) (z +ℤ pos (2 ^ 31)) ≡ some d → Shifted z d
+pub signed-is : (z : ℤ) (d : ℕ) → upTo (2 ^ 32 - 1) (z +ℤ pos (2 ^ 31)) ≡ some d → some ((d + 2 ^ 31) % 2 ^ 32) ≡ signed32 z
 signed-is (pos n) d e = shifted-pos n d (ap (upTo (2 ^ 32 - 1)) (sym (pos-+ℤ-pos n (2 ^ 31))) ∙ e)
 signed-is (negsuc n) d e = shifted-neg n d e
 

@@ -2,7 +2,7 @@
 use mathlib.Core.Path.{_≡_, refl, sym, ap, _∙_}
 use mathlib.Core.Option.{Option, none, some}
 use mathlib.Core.List.{List, [], _∷_}
-use Prim.Native.Nat.{ℕ, zero, suc, _+_, _-_, _*_, _/_, _^_, _<_, _≤_}
+use Prim.Native.Nat.{ℕ, suc, _+_, _-_, _*_, _/_, _%_, _^_, _<_, _≤_}
 use native.Mathlib.Omega.{arith}
 use native.Mathlib.Nat.{add-zero}
 use native.Mathlib.Numerals.{add-one}
@@ -14,21 +14,27 @@ use mir.Syntax.{w64}
 use mir.Val.{toZ}
 use Rattle.format.specs.Prelude.{pick, after, first, each}
 use Rattle.format.specs.Lists.{Relocation}
+use Rattle.apply.specs.declared.Number.{Number}
 use Rattle.apply.specs.declared.Number.the-variants.{Is, Nothing}
 use Rattle.apply.specs.Kinds.{numberOf}
 use Rattle.apply.specs.Fields.{upTo, signed32}
 use Rattle.apply.specs.Values.{symbolAt, symbolsOf, addressOf, sumOf, apart}
 use Rattle.apply.proofs.Integers.{base-less, apart-less, data-less, signed-is, signed-none}
 
-pub number-is : (o : Option ℕ) {p : ℕ} → numberOf o ≡ Is p → o ≡ some p
+pub number-same : (o q : Option ℕ) → numberOf o ≡ numberOf q → o ≡ q
 unfolding numberOf
-number-is none e = let z : _≡_ {A = ℕ} 0 1 = cc in absurd (omega arith)
-number-is (some n) e = cc
+number-same none none e = refl
+number-same none (some n) e = let z : _≡_ {A = ℕ} 0 1 = cc in absurd (omega arith)
+number-same (some n) none e = let z : _≡_ {A = ℕ} 0 1 = cc in absurd (omega arith)
+number-same (some n) (some m) e = cc
 
-pub number-none : (o : Option ℕ) → numberOf o ≡ Nothing → o ≡ none
+pub number-is : (o : Option ℕ) {x : Number} {p : ℕ} → x ≡ numberOf o → x ≡ Is p → o ≡ some p
 unfolding numberOf
-number-none none e = refl
-number-none (some n) e = let z : _≡_ {A = ℕ} 0 1 = cc in absurd (omega arith)
+number-is o {x} {p} e t = number-same o (some p) (sym e ∙ t)
+
+pub number-none : (o : Option ℕ) {x : Number} → x ≡ numberOf o → x ≡ Nothing → o ≡ none
+unfolding numberOf
+number-none o e t = number-same o none (sym e ∙ t)
 
 -- ---- the first address of a symbol
 
@@ -101,18 +107,11 @@ module _ (ss : List (ℕ × ℕ)) (r : Relocation) where
           ap (λ (x : ℕ). upTo (2 ^ 32 - 1) (pos x -ℤ pos n)) f ∙ ap (λ (x : ℕ). upTo (2 ^ 32 - 1) (pos (s + b + 2 ^ 31) -ℤ pos x)) g
           ∙ ap (upTo (2 ^ 32 - 1)) (data-less s (r .addend) b i (section + r .place))
 
-      pub data-none : upTo (2 ^ 32 - 1) (pos p -ℤ pos n) ≡ none → none ≡ after (sumOf ss r) (λ z. signed32 (z -ℤ pos (section + r .place)))
+      pub data-of : (o : Option ℕ) → upTo (2 ^ 32 - 1) (pos p -ℤ pos n) ≡ o
+          → after o (λ d. some ((d + 2 ^ 31) % 2 ^ 32)) ≡ after (sumOf ss r) (λ z. signed32 (z -ℤ pos (section + r .place)))
       unfolding after
-      data-none h = rw (is-sum s e) (signed-none (Z section) (sym data-shift ∙ h))
-
-      module _ (d : ℕ) (h : upTo (2 ^ 32 - 1) (pos p -ℤ pos n) ≡ some d) where
-        pub data-small : d < 2 ^ 31 → some (d + 2 ^ 31) ≡ after (sumOf ss r) (λ z. signed32 (z -ℤ pos (section + r .place)))
-        unfolding after
-        data-small l = rw (is-sum s e) (signed-is (Z section) d (sym data-shift ∙ h) .small l)
-
-        pub data-large : 2 ^ 31 ≤ d → some (d - 2 ^ 31) ≡ after (sumOf ss r) (λ z. signed32 (z -ℤ pos (section + r .place)))
-        unfolding after
-        data-large l = rw (is-sum s e) (signed-is (Z section) d (sym data-shift ∙ h) .large l)
+      data-of none h = rw (is-sum s e) (signed-none (Z section) (sym data-shift ∙ h))
+      data-of (some d) h = rw (is-sum s e) (signed-is (Z section) d (sym data-shift ∙ h))
 
 -- ---- two sums apart
 

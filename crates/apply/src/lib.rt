@@ -342,10 +342,7 @@ fn data_value(addresses: &[u64], r: Reloc, section: u64) -> Number
     ) else {
         return Number::Nothing;
     };
-    if d < 2147483648 {
-        return Number::Is(d + 2147483648);
-    }
-    Number::Is(d - 2147483648)
+    Number::Is((d + 2147483648) % 4294967296)
 }
 
 // Symbol plus addend less that of the relocation behind, where it is from 0 to `most`.

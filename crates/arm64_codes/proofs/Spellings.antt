@@ -1,15 +1,25 @@
 -- Which form a first byte has.
-use mathlib.Core.Path.{_≡_, _∙_}
+use mathlib.Core.Path.{_≡_, refl, sym, _∙_}
 use mathlib.Core.Logic.{_≢_}
-use Prim.Native.Nat.{ℕ, suc, _≤_}
+use Prim.Native.Nat.{ℕ, suc, _≤_, _<_}
 use native.Mathlib.Omega.{arith}
+use lib.Dec.{ltb}
 use Rattle.format.specs.Prelude.{pick}
-use Rattle.format.proofs.Choice.{if-gt, if-ne}
+use Rattle.format.proofs.Choice.{if-le, if-gt, if-ne}
 use Rattle.arm64.specs.Codes.{otherForm, formOf, reserved, fAllocL, fSetFp, fAddFp, fNop, fEnd, fSaveNext, fPacSignLr}
+
+-- ---- a choice by the limits below which a byte stands
+
+module _ {X : Type 0} (b k : ℕ) (x y : X) {r : X} where
+  pub under : b < k → r ≡ x → r ≡ pick (ltb b k) x y
+  under h e = e ∙ sym (if-le (suc b) k x y (omega arith))
+
+  pub past : k ≤ b → r ≡ y → r ≡ pick (ltb b k) x y
+  past h e = e ∙ sym (if-gt (suc b) k x y (omega arith))
 
 pub any-4 : (b : ℕ) → 0xe0 ≤ b → formOf b ≡ otherForm b
 unfolding formOf
-any-4 b h = if-gt (suc b) 0xc0 _ _ (omega arith) ∙ (if-gt (suc b) 0xd8 _ _ (omega arith) ∙ if-gt (suc b) 0xe0 _ _ (omega arith))
+any-4 b h = sym (past b 0xc0 _ _ (omega arith) (past b 0xd8 _ _ (omega arith) (past b 0xe0 _ _ h refl)))
 
 -- ---- otherForm
 

@@ -1,22 +1,19 @@
 -- What one record yields, from direct codes and from rows, and what a loop takes from it.
 use mathlib.Core.Path.{_≡_, refl}
-use Prim.Native.Nat.{ℕ, zero, suc, _-_, _≤_}
+use Prim.Native.Nat.{ℕ, zero, suc, _≤_}
 use native.Mathlib.Omega.{arith}
-use mathlib.Core.Bool.{Bool, true, false}
+use mathlib.Core.Bool.{true, false}
 use mathlib.Core.Option.{Option, none, some}
 use mathlib.Core.List.{List, [], _∷_}
-use lib.Dec.{T, eqb}
 use lib.IntN.{ℤ}
 use Rattle.format.specs.Prelude.{pick, each}
 use Rattle.format.specs.declared.Seh.{Seh}
-use Rattle.format.specs.Rows.{kindOf, offsetOf}
-use Rattle.format.specs.Lists.{codeAt, rowAt, rowOkAt}
+use Rattle.format.specs.Lists.{codeAt}
 use Rattle.format.specs.X64.{orNo, firstNo, slots}
 use Rattle.codes.proofs.Sizes.{slots-most}
 use Rattle.prologue.specs.declared.Piece.{Piece}
 use Rattle.prologue.specs.declared.Piece.the-variants as piece
-use Rattle.prologue.specs.Pieces.{Short, pieceOf, pieceIn, movedBy, movedIn, piecesFrom}
-use Rattle.prologue.proofs.Rows.{row-at-short}
+use Rattle.prologue.specs.Pieces.{pieceOf, pieceIn, movedIn, piecesFrom}
 use Rattle.x64.specs.declared.Source.{Source}
 use Rattle.x64.specs.declared.Span.{Span}
 use Rattle.x64.specs.Sources.{pieceAt, movedAt, codesFrom}
@@ -49,15 +46,6 @@ module _ (s : Source) (list : List ℕ) (p : Span) where
   unfolding piecesFrom codesFrom
   rows-codes sofar i zero e = refl
   rows-codes sofar i (suc n) e = rw (rows-piece sofar i e, rows-moved sofar i e, rows-codes (movedAt s list sofar i) (suc i) n e)
-
-short-pick : (b : Bool) (x y : ℤ) → Short x → Short y → Short (pick b x y)
-unfolding pick
-short-pick true x y h k = h
-short-pick false x y h k = k
-
-pub moved-short : (sofar : ℤ) (rows : List ℕ) (i : ℕ) → T (rowOkAt rows i) → Short sofar → Short (movedIn sofar rows i)
-unfolding movedIn movedBy
-moved-short sofar rows i t h = short-pick (eqb (kindOf (rowAt rows i .1)) 1) (offsetOf (rowAt rows i .1)) sofar (row-at-short rows i t) h
 
 -- a record has at most three slots
 pub slots-few : (q : Piece) → slots (pieceOf q) ≤ 3

@@ -6,7 +6,6 @@ use native.Mathlib.Numerals.{add-one}
 use mathlib.Core.Option.{Option, none, some}
 use mathlib.Core.List.{List, [], _∷_, _++_, append-nil, append-assoc}
 use lib.ListN.{length, take, set, length-append}
-use lib.Seq.{set-comm}
 use lib.IntN.{ℤ, pos}
 use mir.Syntax.{w64}
 use mir.Val.{toZ, ofZ}
@@ -15,7 +14,7 @@ use Rattle.format.specs.Put.{put}
 use Rattle.format.proofs.Wrote.{Wrote}
 use Rattle.format.specs.declared.Seh.{Seh}
 use Rattle.format.specs.X64.{codeBytes, codeNo, orNo, firstNo, slots, frameOr, frameByte, reversed}
-use Rattle.format.proofs.PutLaws.{put-none, length-put}
+use Rattle.format.proofs.PutLaws.{put-none, set-put, length-put}
 use Rattle.codes.specs.declared.Code.{Code}
 use Rattle.codes.specs.Codes.{numberOf, frameAsk, Holds}
 use Rattle.codes.proofs.Numbers.{Nonzero, nonzero-first, nonzero-code, nonzero-frame}
@@ -184,14 +183,6 @@ reversed-append : (xs ys : List (ℕ × Seh)) → reversed (xs ++ ys) ≡ revers
 unfolding reversed
 reversed-append [] ys = sym (append-nil (reversed ys))
 reversed-append (x ∷ xs) ys = rw (reversed-append xs ys, append-assoc)
-
--- a store in front of a run may go first
-set-put : (xs : List ℕ) (p v q : ℕ) (bs : List ℕ) → p < q → set (put xs q bs) p v ≡ put (set xs p v) q bs
-unfolding put
-set-put xs p v q [] h = refl
-set-put xs p v q (b ∷ bs) h =
-    set-put (set xs q b) p v (q + 1) bs (omega arith)
-    ∙ ap (λ (l : List ℕ). put l (q + 1) bs) (set-comm xs q p b v (λ (e : q ≡ p). omega arith))
 
 -- what stands behind may be stored first
 put-behind : (xs : List ℕ) (p : ℕ) (us bs : List ℕ) → put (put xs (p + length us) bs) p us ≡ put xs p (us ++ bs)

@@ -1,8 +1,8 @@
 -- `apply::apart` meets its contract.
-use mathlib.Core.Path.{sym, ap, _∙_}
+use mathlib.Core.Path.{ap, _∙_}
 use borrow.Author.Needs.{needs}
 use Rattle.apply.specs.Kinds.{numberOf}
-use Rattle.apply.specs.Values.{symbolsOf, addressOf}
+use Rattle.apply.specs.Values.{symbolsOf}
 use Rattle.apply.specs.Standing.{meant, beside, totalOf}
 use Rattle.apply.proofs.Sums.{number-is, number-none, no-first, no-behind, no-second, apart-value}
 use Rattle.apply.proofs.apart.Statement.{statement}
@@ -22,7 +22,7 @@ unfolding numberOf
 returns c =
     let a = c .before .before .before .before .args in
     let ss = symbolsOf (a .addresses .now) in
-    let e = number-none (addressOf ss (a .r .symbol)) (sym (c .before .before .address-of .ensures) ∙ c .enum-told .given .1) in
+    let e = number-none _ (c .before .before .address-of .ensures) (c .enum-told .given .1) in
     ap numberOf (no-first ss (meant (a .r)) (a .most) (beside (a .behind)) e)
 
 enum-known-behind : tie.Need-enum-known-behind
@@ -37,7 +37,7 @@ returns-2 c =
     let k = c .before .before .before in
     let a = k .before .before .before .before .args in
     let ss = symbolsOf (a .addresses .now) in
-    let e = number-is (addressOf ss (a .r .symbol)) (sym (k .before .before .address-of .ensures) ∙ k .s .given .1) in
+    let e = number-is _ (k .before .before .address-of .ensures) (k .s .given .1) in
     rw (c .enum-told2 .given .1) (ap numberOf (no-behind ss (meant (a .r)) _ e (a .most)))
 
 address-of-requires-2 : tie.Need-address-of-requires-2
@@ -56,8 +56,8 @@ returns-3 c =
     let k = j .before .before .before in
     let a = k .before .before .before .before .args in
     let ss = symbolsOf (a .addresses .now) in
-    let e = number-is (addressOf ss (a .r .symbol)) (sym (k .before .before .address-of .ensures) ∙ k .s .given .1) in
-    let f = number-none _ (sym (c .before .before .address-of2 .ensures) ∙ c .enum-told3 .given .1) in
+    let e = number-is _ (k .before .before .address-of .ensures) (k .s .given .1) in
+    let f = number-none _ (c .before .before .address-of2 .ensures) (c .enum-told3 .given .1) in
     rw (j .behind .given .1) (ap numberOf (no-second ss (meant (a .r)) _ e (a .most) _ f))
 
 biased-requires : tie.Need-biased-requires
@@ -83,8 +83,8 @@ returns-4 c =
     let k = j .before .before .before in
     let a = k .before .before .before .before .args in
     let ss = symbolsOf (a .addresses .now) in
-    let e = number-is (addressOf ss (a .r .symbol)) (sym (k .before .before .address-of .ensures) ∙ k .s .given .1) in
-    let f = number-is _ (sym (i .before .before .address-of2 .ensures) ∙ i .t .given .1) in
+    let e = number-is _ (k .before .before .address-of .ensures) (k .s .given .1) in
+    let f = number-is _ (i .before .before .address-of2 .ensures) (i .t .given .1) in
     rw (j .behind .given .1)
     (c .less-by .ensures
     ∙ ap numberOf

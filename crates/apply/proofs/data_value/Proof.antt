@@ -1,13 +1,17 @@
 -- `apply::data_value` meets its contract.
-use mathlib.Core.Path.{sym, ap, _∙_}
-use Prim.Native.Nat.{_+_, _-_, _^_}
+use mathlib.Core.Path.{_≡_, sym, ap, _∙_}
+use Prim.Native.Nat.{ℕ, _+_, _%_, _^_}
 use lib.IntN.{ℤ, pos, _-ℤ_}
 use borrow.Author.Needs.{needs}
 use Rattle.apply.specs.Kinds.{numberOf}
-use Rattle.apply.specs.Fields.{upTo, signed32}
-use Rattle.apply.specs.Values.{symbolsOf, addressOf}
-use Rattle.apply.specs.Standing.{meant, totalOf}
-use Rattle.apply.proofs.Sums.{number-is, number-none, no-value, data-none, data-small, data-large}
+use Rattle.apply.specs.Fields.{signed32}
+use Rattle.apply.specs.Values.{symbolsOf, sumOf}
+use Rattle.apply.specs.Standing.{meant}
+use Rattle.format.specs.Prelude.{after}
+use native.Mathlib.Omega.{arith}
+use mathlib.Core.Option.{Option, none, some}
+use Rattle.apply.proofs.Integers.{up-to-most}
+use Rattle.apply.proofs.Sums.{number-same, number-is, number-none, no-value, data-of}
 use Rattle.apply.proofs.data_value.Statement.{statement}
 use Rattle.apply.proofs.data_value.Tie as tie
 
@@ -25,7 +29,7 @@ unfolding numberOf
 returns c =
     let a = c .before .before .before .before .args in
     let ss = symbolsOf (a .addresses .now) in
-    let e = number-none (addressOf ss (a .r .symbol)) (sym (c .before .before .address-of .ensures) ∙ c .enum-told .given .1) in
+    let e = number-none _ (c .before .before .address-of .ensures) (c .enum-told .given .1) in
     ap numberOf (no-value ss (meant (a .r)) (λ (z : ℤ). signed32 (z -ℤ pos (a .section + a .r .place))) e)
 
 biased-requires : tie.Need-biased-requires
@@ -46,52 +50,24 @@ enum-known-d c = search needs
 enum-told-2 : tie.Need-enum-told-2
 enum-told-2 c = search needs
 
-returns-2 : tie.Need-returns-2
-unfolding numberOf
-returns-2 c =
-    let l = c .before .before in
-    let k = l .before .before .before .before .before in
-    let a = k .before .before .before .before .args in
-    let ss = symbolsOf (a .addresses .now) in
-    let e = number-is (addressOf ss (a .r .symbol)) (sym (k .before .before .address-of .ensures) ∙ k .s .given .1) in
-    let p = totalOf (l .before .before .total .result) in
-    let n = totalOf (l .before .total2 .result) in
-    let h = number-none (upTo (2 ^ 32 - 1) (pos p -ℤ pos n)) (sym (l .less-by .ensures) ∙ c .enum-told2 .given .1) in
-    ap numberOf
-    (data-none ss (meant (a .r)) _ _ e (l .before .before .before .biased .ensures) p n (a .section) (l .before .before .total .ensures) (l .before .total2 .ensures) h)
+-- the number behind the subtraction, and the relocation's value
+behind : (c : tie.After-less-by) (o : Option ℕ) → c .less-by .result ≡ numberOf o
+    → after o (λ (d : ℕ). some ((d + 2 ^ 31) % 2 ^ 32)) ≡ after (sumOf (symbolsOf (c .before .before .before .before .before .before .before .before .before .args .addresses .now)) (meant (c .before .before .before .before .before .before .before .before .before .args .r))) (λ (z : ℤ). signed32 (z -ℤ pos (c .before .before .before .before .before .before .before .before .before .args .section + c .before .before .before .before .before .before .before .before .before .args .r .place)))
+behind c o t =
+    let a = c .before .before .before .before .before .before .before .before .before .args in
+    let e = number-is _ (c .before .before .before .before .before .before .before .address-of .ensures) (c .before .before .before .before .before .s .given .1) in
+    data-of (symbolsOf (a .addresses .now)) (meant (a .r)) _ _ e (c .before .before .before .biased .ensures) _ _ (a .section) (c .before .before .total .ensures) (c .before .total2 .ensures) o (number-same _ o (sym (c .less-by .ensures) ∙ t))
 
-add-t12 : tie.Need-add-t12
-add-t12 c = search needs
+returns-2 : tie.Need-returns-2
+unfolding numberOf after
+returns-2 c = ap numberOf (behind (c .before .before) none (c .enum-told2 .given .1))
+
+add-t9 : tie.Need-add-t9
+add-t9 c = omega (arith, up-to-most _ _ (number-is _ (c .before .before .before .less-by .ensures) (c .before .d .given .1)))
 
 returns-3 : tie.Need-returns-3
-unfolding numberOf
-returns-3 c =
-    let l = c .before .before .before .before in
-    let k = l .before .before .before .before .before in
-    let a = k .before .before .before .before .args in
-    let ss = symbolsOf (a .addresses .now) in
-    let e = number-is (addressOf ss (a .r .symbol)) (sym (k .before .before .address-of .ensures) ∙ k .s .given .1) in
-    let p = totalOf (l .before .before .total .result) in
-    let n = totalOf (l .before .total2 .result) in
-    let h = number-is (upTo (2 ^ 32 - 1) (pos p -ℤ pos n)) (sym (l .less-by .ensures) ∙ c .before .before .d .given .1) in
-    ap numberOf
-    (data-small ss (meant (a .r)) _ _ e (l .before .before .before .biased .ensures) p n (a .section) (l .before .before .total .ensures) (l .before .total2 .ensures) _ h
-    (c .if1 .taken))
-
-returns-4 : tie.Need-returns-4
-unfolding numberOf
-returns-4 c =
-    let l = c .before .before .before .before in
-    let k = l .before .before .before .before .before in
-    let a = k .before .before .before .before .args in
-    let ss = symbolsOf (a .addresses .now) in
-    let e = number-is (addressOf ss (a .r .symbol)) (sym (k .before .before .address-of .ensures) ∙ k .s .given .1) in
-    let p = totalOf (l .before .before .total .result) in
-    let n = totalOf (l .before .total2 .result) in
-    let h = number-is (upTo (2 ^ 32 - 1) (pos p -ℤ pos n)) (sym (l .less-by .ensures) ∙ c .before .before .d .given .1) in
-    ap numberOf
-    (data-large ss (meant (a .r)) _ _ e (l .before .before .before .biased .ensures) p n (a .section) (l .before .before .total .ensures) (l .before .total2 .ensures) _ h
-    (c .if1 .left))
+unfolding numberOf after
+returns-3 c = ap numberOf (behind (c .before .before .before) (some _) (c .before .d .given .1))
 
 pub data-value-spec : {M : Type 1} → statement M
 data-value-spec =
@@ -108,6 +84,5 @@ data-value-spec =
     enum-known-d
     enum-told-2
     returns-2
-    add-t12
-    returns-3
-    returns-4)
+    add-t9
+    returns-3)

@@ -1,10 +1,10 @@
 -- `apply::less_base` meets its contract.
-use mathlib.Core.Path.{sym, ap, _∙_}
+use mathlib.Core.Path.{ap, _∙_}
 use lib.IntN.{ℤ, pos, _-ℤ_}
 use borrow.Author.Needs.{needs}
 use Rattle.apply.specs.Kinds.{numberOf}
 use Rattle.apply.specs.Fields.{upTo}
-use Rattle.apply.specs.Values.{symbolsOf, addressOf}
+use Rattle.apply.specs.Values.{symbolsOf}
 use Rattle.apply.specs.Standing.{meant, totalOf}
 use Rattle.apply.proofs.Sums.{number-is, number-none, no-value, base-value}
 use Rattle.apply.proofs.less_base.Statement.{statement}
@@ -24,7 +24,7 @@ unfolding numberOf
 returns c =
     let a = c .before .before .before .before .args in
     let ss = symbolsOf (a .addresses .now) in
-    let e = number-none (addressOf ss (a .r .symbol)) (sym (c .before .before .address-of .ensures) ∙ c .enum-told .given .1) in
+    let e = number-none _ (c .before .before .address-of .ensures) (c .enum-told .given .1) in
     ap numberOf (no-value ss (meant (a .r)) (λ (z : ℤ). upTo (a .most) (z -ℤ pos (a .base))) e)
 
 biased-requires : tie.Need-biased-requires
@@ -44,7 +44,7 @@ returns-2 c =
     let k = c .before .before .before .before .before in
     let a = k .before .before .before .before .args in
     let ss = symbolsOf (a .addresses .now) in
-    let e = number-is (addressOf ss (a .r .symbol)) (sym (k .before .before .address-of .ensures) ∙ k .s .given .1) in
+    let e = number-is _ (k .before .before .address-of .ensures) (k .s .given .1) in
     c .less-by .ensures
     ∙ ap numberOf
     (base-value ss (meant (a .r)) _ _ e (c .before .before .before .biased .ensures) (totalOf (c .before .before .total .result)) (totalOf (c .before .total2 .result)) (a .most)

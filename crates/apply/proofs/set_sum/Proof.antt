@@ -1,9 +1,8 @@
 -- `apply::set_sum` meets its contract.
 use mathlib.Core.Path.{sym, ap, _∙_}
-use Prim.Native.Nat.{_-_}
 use borrow.Author.Needs.{needs}
 use Rattle.apply.specs.Fields.{setIn}
-use Rattle.apply.specs.Values.{symbolsOf, addressOf}
+use Rattle.apply.specs.Values.{symbolsOf}
 use Rattle.apply.specs.Standing.{meant}
 use Rattle.apply.proofs.Sums.{number-is, number-none, no-sum, is-sum}
 use Rattle.apply.proofs.set_sum.Statement.{statement}
@@ -22,9 +21,7 @@ returns : tie.Need-returns
 unfolding setIn
 returns c =
     let a = c .before .before .before .before .before .args in
-    let ss = symbolsOf (a .addresses .now) in
-    let e = number-none (addressOf ss (a .r .symbol)) (sym (c .before .before .address-of .ensures) ∙ c .enum-told .given .1) in
-    rw (no-sum ss (meant (a .r)) e)
+    rw (no-sum (symbolsOf (a .addresses .now)) (meant (a .r)) (number-none _ (c .before .before .address-of .ensures) (c .enum-told .given .1)))
 
 set-requires : tie.Need-set-requires
 set-requires c κs = search needs
@@ -36,9 +33,8 @@ returns-2 : tie.Need-returns-2
 returns-2 c =
     let k = c .before .before .before .before .before in
     let a = k .before .before .before .before .before .args in
-    let ss = symbolsOf (a .addresses .now) in
-    let e = number-is (addressOf ss (a .r .symbol)) (sym (k .before .before .address-of .ensures) ∙ k .s .given .1) in
-    c .before .before .set .ensures ∙ ap (setIn (a .w) (a .copy .now) (a .r .place)) (sym (is-sum ss (meant (a .r)) _ e))
+    let e = is-sum (symbolsOf (a .addresses .now)) (meant (a .r)) _ (number-is _ (k .before .before .address-of .ensures) (k .s .given .1)) in
+    c .before .before .set .ensures ∙ ap (setIn (a .w) (a .copy .now) (a .r .place)) (sym e)
 
 pub set-sum-spec : {M : Type 1} → statement M
 set-sum-spec =

@@ -1,8 +1,5 @@
 -- `arm64_codes::short_form` meets its contract.
-use mathlib.Core.Path.{sym, _∙_}
-use Prim.Native.Nat.{suc}
-use native.Mathlib.Omega.{arith}
-use Rattle.format.proofs.Choice.{if-le, if-gt}
+use Rattle.arm64_codes.proofs.Spellings.{under, past}
 use Rattle.arm64.specs.Codes.{shortForm}
 use borrow.Author.Needs.{needs}
 use Rattle.arm64_codes.proofs.short_form.Statement.{statement}
@@ -13,36 +10,28 @@ spelling-requires c κs = search needs
 
 returns : tie.Need-returns
 unfolding shortForm
-returns c =
-    let b = c .before .before .args .b in
-    c .spelling .ensures ∙ sym (if-le (suc b) 0x20 _ _ (omega arith))
+returns c = under _ 0x20 _ _ (c .before .if1 .taken) (c .spelling .ensures)
 
 spelling-requires-2 : tie.Need-spelling-requires-2
 spelling-requires-2 c κs = search needs
 
 returns-2 : tie.Need-returns-2
 unfolding shortForm
-returns-2 c =
-    let b = c .before .before .before .args .b in
-    c .spelling2 .ensures ∙ sym (if-gt (suc b) 0x20 _ _ (omega arith) ∙ if-le (suc b) 0x40 _ _ (omega arith))
+returns-2 c = past _ 0x20 _ _ (c .before .before .if1 .left) (under _ 0x40 _ _ (c .before .if2 .taken) (c .spelling2 .ensures))
 
 spelling-requires-3 : tie.Need-spelling-requires-3
 spelling-requires-3 c κs = search needs
 
 returns-3 : tie.Need-returns-3
 unfolding shortForm
-returns-3 c =
-    let b = c .before .before .before .before .args .b in
-    c .spelling3 .ensures ∙ sym (if-gt (suc b) 0x20 _ _ (omega arith) ∙ (if-gt (suc b) 0x40 _ _ (omega arith) ∙ if-le (suc b) 0x80 _ _ (omega arith)))
+returns-3 c = past _ 0x20 _ _ (c .before .before .before .if1 .left) (past _ 0x40 _ _ (c .before .before .if2 .left) (under _ 0x80 _ _ (c .before .if3 .taken) (c .spelling3 .ensures)))
 
 spelling-requires-4 : tie.Need-spelling-requires-4
 spelling-requires-4 c κs = search needs
 
 returns-4 : tie.Need-returns-4
 unfolding shortForm
-returns-4 c =
-    let b = c .before .before .before .before .args .b in
-    c .spelling4 .ensures ∙ sym (if-gt (suc b) 0x20 _ _ (omega arith) ∙ (if-gt (suc b) 0x40 _ _ (omega arith) ∙ if-gt (suc b) 0x80 _ _ (omega arith)))
+returns-4 c = past _ 0x20 _ _ (c .before .before .before .if1 .left) (past _ 0x40 _ _ (c .before .before .if2 .left) (past _ 0x80 _ _ (c .before .if3 .left) (c .spelling4 .ensures)))
 
 pub short-form-spec : {M : Type 1} → statement M
 short-form-spec =

@@ -1,8 +1,5 @@
 -- `arm64_codes::vector_form` meets its contract.
-use mathlib.Core.Path.{sym, _∙_}
-use Prim.Native.Nat.{suc}
-use native.Mathlib.Omega.{arith}
-use Rattle.format.proofs.Choice.{if-le, if-gt}
+use Rattle.arm64_codes.proofs.Spellings.{under, past}
 use Rattle.arm64.specs.Codes.{vectorForm}
 use borrow.Author.Needs.{needs}
 use Rattle.arm64_codes.proofs.vector_form.Statement.{statement}
@@ -13,45 +10,35 @@ spelling-requires c κs = search needs
 
 returns : tie.Need-returns
 unfolding vectorForm
-returns c =
-    let b = c .before .before .args .b in
-    c .spelling .ensures ∙ sym (if-le (suc b) 0xda _ _ (omega arith))
+returns c = under _ 0xda _ _ (c .before .if1 .taken) (c .spelling .ensures)
 
 spelling-requires-2 : tie.Need-spelling-requires-2
 spelling-requires-2 c κs = search needs
 
 returns-2 : tie.Need-returns-2
 unfolding vectorForm
-returns-2 c =
-    let b = c .before .before .before .args .b in
-    c .spelling2 .ensures ∙ sym (if-gt (suc b) 0xda _ _ (omega arith) ∙ if-le (suc b) 0xdc _ _ (omega arith))
+returns-2 c = past _ 0xda _ _ (c .before .before .if1 .left) (under _ 0xdc _ _ (c .before .if2 .taken) (c .spelling2 .ensures))
 
 spelling-requires-3 : tie.Need-spelling-requires-3
 spelling-requires-3 c κs = search needs
 
 returns-3 : tie.Need-returns-3
 unfolding vectorForm
-returns-3 c =
-    let b = c .before .before .before .before .args .b in
-    c .spelling3 .ensures ∙ sym (if-gt (suc b) 0xda _ _ (omega arith) ∙ (if-gt (suc b) 0xdc _ _ (omega arith) ∙ if-le (suc b) 0xde _ _ (omega arith)))
+returns-3 c = past _ 0xda _ _ (c .before .before .before .if1 .left) (past _ 0xdc _ _ (c .before .before .if2 .left) (under _ 0xde _ _ (c .before .if3 .taken) (c .spelling3 .ensures)))
 
 spelling-requires-4 : tie.Need-spelling-requires-4
 spelling-requires-4 c κs = search needs
 
 returns-4 : tie.Need-returns-4
 unfolding vectorForm
-returns-4 c =
-    let b = c .before .before .before .before .before .args .b in
-    c .spelling4 .ensures ∙ sym (if-gt (suc b) 0xda _ _ (omega arith) ∙ (if-gt (suc b) 0xdc _ _ (omega arith) ∙ (if-gt (suc b) 0xde _ _ (omega arith) ∙ if-le (suc b) 0xdf _ _ (omega arith))))
+returns-4 c = past _ 0xda _ _ (c .before .before .before .before .if1 .left) (past _ 0xdc _ _ (c .before .before .before .if2 .left) (past _ 0xde _ _ (c .before .before .if3 .left) (under _ 0xdf _ _ (c .before .if4 .taken) (c .spelling4 .ensures))))
 
 alone-requires : tie.Need-alone-requires
 alone-requires c κs = search needs
 
 returns-5 : tie.Need-returns-5
 unfolding vectorForm
-returns-5 c =
-    let b = c .before .before .before .before .before .args .b in
-    c .alone .ensures ∙ sym (if-gt (suc b) 0xda _ _ (omega arith) ∙ (if-gt (suc b) 0xdc _ _ (omega arith) ∙ (if-gt (suc b) 0xde _ _ (omega arith) ∙ if-gt (suc b) 0xdf _ _ (omega arith))))
+returns-5 c = past _ 0xda _ _ (c .before .before .before .before .if1 .left) (past _ 0xdc _ _ (c .before .before .before .if2 .left) (past _ 0xde _ _ (c .before .before .if3 .left) (past _ 0xdf _ _ (c .before .if4 .left) (c .alone .ensures))))
 
 pub vector-form-spec : {M : Type 1} → statement M
 vector-form-spec =

@@ -1,6 +1,7 @@
 -- `x64::moved_in` meets its contract.
 use Rattle.prologue.specs.Pieces.{movedIn}
-use Rattle.x64.proofs.Leaves.{direct-moved, rows-moved, moved-short}
+use Rattle.x64.proofs.Leaves.{direct-moved, rows-moved}
+use Rattle.prologue.proofs.Pieced.{moved-short}
 use Rattle.prologue.proofs.Distances.{short-passed}
 use native.Mathlib.Omega.{arith}
 use Rattle.x64.proofs.moved_in.Statement.{statement}
