@@ -989,7 +989,7 @@ fn tried(
 }
 
 // One pass where it is enough, and every question by itself where it is not.
-fn surveyed(
+fn answered(
     s: Section,
     m: Machine,
     fs: &[u64],
@@ -1081,7 +1081,7 @@ fn deliver(
         let mut heads = [0u16; 61];
         let mut links = [0u16; 64];
         let mut owners = [0u16; 64];
-        return surveyed(
+        return answered(
             s,
             m,
             fs,
@@ -1101,7 +1101,7 @@ fn deliver(
         let mut heads = [0u16; 2039];
         let mut links = [0u16; 2048];
         let mut owners = [0u16; 2048];
-        return surveyed(
+        return answered(
             s,
             m,
             fs,
@@ -1120,7 +1120,7 @@ fn deliver(
     let mut heads = [0u16; 16381];
     let mut links = [0u16; lists::MOST_FUNCTIONS];
     let mut owners = [0u16; lists::MOST_FUNCTIONS];
-    surveyed(
+    answered(
         s,
         m,
         fs,
