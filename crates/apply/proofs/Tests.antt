@@ -11,6 +11,7 @@ use lib.Dec.{T, leb, eqb}
 use mir.Facts.{or-yes, eqb-yes, and-yes, leb-yes}
 use lib.IntN.{ℤ, pos, _-ℤ_, +ℤ-idr}
 use Rattle.format.specs.Prelude.{after}
+use Rattle.format.specs.Machine.{isWord}
 use Rattle.format.specs.Lists.{Relocation}
 use Rattle.format.specs.Questions.{isSome}
 use Rattle.format.proofs.Choice.{either}
@@ -18,12 +19,13 @@ use Rattle.apply.specs.declared.Width.{Width}
 use Rattle.apply.specs.declared.Kind.{Kind}
 use Rattle.apply.specs.declared.Kind.the-variants.{Set, Sub}
 use Rattle.apply.specs.declared.Number.{Number}
-use Rattle.apply.specs.Kinds.{kindOf, bytesOf, isWordSize, sizeOk, numberOf, isNumber, found}
+use Rattle.apply.specs.Kinds.{kindOf, bytesOf, sizeOk, numberOf, isNumber, found}
 use Rattle.apply.specs.Fields.{upTo, wholeIn}
 use Rattle.apply.specs.Values.{Layout, addressOf, valueAs, storeAs, storeOf}
 use Rattle.apply.specs.Apply.{partners, paired, valueOk, sound}
 
-pub word-eight : (n : ℕ) → T (isWordSize n) → (n ≡ 2 → ⊥) → (n ≡ 4 → ⊥) → n ≡ 8
+pub word-eight : (n : ℕ) → T (isWord n) → (n ≡ 2 → ⊥) → (n ≡ 4 → ⊥) → n ≡ 8
+unfolding isWord
 word-eight n t a b =
     ⊎-elim (λ u. ⊎-elim (λ v. absurd (a (eqb-yes v))) (λ v. absurd (b (eqb-yes v))) (or-yes (eqb n 2) (eqb n 4) u)) (λ u. eqb-yes u) (or-yes (eqb n 2 || eqb n 4) (eqb n 8) t)
 

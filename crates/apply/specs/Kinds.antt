@@ -1,9 +1,10 @@
 -- The kinds of relocations by number, and the fields that they stand at (document 01, "Machine, function and row").
 use Prim.Native.Nat.{ℕ}
-use mathlib.Core.Bool.{Bool, true, false, _||_}
+use mathlib.Core.Bool.{Bool, true, false}
 use mathlib.Core.Option.{Option, none, some}
 use lib.Dec.{eqb}
 use Rattle.format.specs.Prelude.{pick}
+use Rattle.format.specs.Machine.{isWord}
 use Rattle.apply.specs.declared.Width.{Width}
 use Rattle.apply.specs.declared.Width.the-variants.{W6, W8, W16, W32}
 use Rattle.apply.specs.declared.Kind.{Kind}
@@ -40,16 +41,12 @@ bytesOf W8 = 1
 bytesOf W16 = 2
 bytesOf W32 = 4
 
--- the sizes of an address: a word
-abbrev pub isWordSize : ℕ → Bool
-isWordSize n = eqb n 2 || eqb n 4 || eqb n 8
-
--- the sizes that the writers give each kind; a kind that is none of theirs has no size
+-- the sizes that the writers give each kind: an address has those of a word; a kind that is none of theirs has no size
 unfoldable pub sizeOk : Kind → ℕ → Bool
 sizeOk Data n = eqb n 4
-sizeOk Address n = isWordSize n
-sizeOk SumPlus n = isWordSize n
-sizeOk SumMinus n = isWordSize n
+sizeOk Address n = isWord n
+sizeOk SumPlus n = isWord n
+sizeOk SumMinus n = isWord n
 sizeOk Image n = eqb n 4
 sizeOk (Set w) n = eqb n (bytesOf w)
 sizeOk (Sub w) n = eqb n (bytesOf w)

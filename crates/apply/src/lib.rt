@@ -9,9 +9,10 @@ ghost use Rattle.format.specs.Questions.{isSome};
 ghost use mir.Syntax.{w64};
 ghost use mir.Val.{toZ};
 ghost use Rattle.format.specs.Prelude.{after};
+ghost use Rattle.format.specs.Machine.{isWord};
 ghost use Rattle.format.specs.Put.{put};
 ghost use Rattle.format.specs.Lists.{relocationStride, relocationAt, relocationsOf, count};
-ghost use Rattle.apply.specs.Kinds.{kindOf, bitsOf, bytesOf, isWordSize, sizeOk, numberOf, isNumber, found};
+ghost use Rattle.apply.specs.Kinds.{kindOf, bitsOf, bytesOf, sizeOk, numberOf, isNumber, found};
 ghost use Rattle.apply.specs.Fields.{upTo, signed32, numberAt, setIn, subIn, wholeIn};
 ghost use Rattle.apply.specs.Values.{symbolsOf, layoutOf, addressOf, sumOf, apart, valueAs, storeOf};
 ghost use Rattle.apply.specs.Apply.{partners, leads, follows, paired, measured, valueOk, nearAs, sound, near, everywhere, stores, apply, Applies};
@@ -57,23 +58,32 @@ pub enum Beside {
     Nothing,
 }
 
+// The kinds of Sub: each is one more than that of its Set.
+const SUB6: u64 = relocs::SET6 + 1;
+
+const SUB8: u64 = relocs::SET8 + 1;
+
+const SUB16: u64 = relocs::SET16 + 1;
+
+const SUB32: u64 = relocs::SET32 + 1;
+
 fn kind_of(n: u64) -> Kind
     ensures { λ r. ⌜ r ≡ kindOf n ⌝ }
 {
     match n {
-        0 => Kind::Data,
-        1 => Kind::Address,
-        2 => Kind::SumPlus,
-        3 => Kind::SumMinus,
-        4 => Kind::Image,
-        5 => Kind::Set(Width::W6),
-        6 => Kind::Sub(Width::W6),
-        7 => Kind::Set(Width::W8),
-        8 => Kind::Sub(Width::W8),
-        9 => Kind::Set(Width::W16),
-        10 => Kind::Sub(Width::W16),
-        11 => Kind::Set(Width::W32),
-        12 => Kind::Sub(Width::W32),
+        relocs::DATA => Kind::Data,
+        relocs::ADDRESS => Kind::Address,
+        relocs::SUM_PLUS => Kind::SumPlus,
+        relocs::SUM_MINUS => Kind::SumMinus,
+        relocs::IMAGE => Kind::Image,
+        relocs::SET6 => Kind::Set(Width::W6),
+        SUB6 => Kind::Sub(Width::W6),
+        relocs::SET8 => Kind::Set(Width::W8),
+        SUB8 => Kind::Sub(Width::W8),
+        relocs::SET16 => Kind::Set(Width::W16),
+        SUB16 => Kind::Sub(Width::W16),
+        relocs::SET32 => Kind::Set(Width::W32),
+        SUB32 => Kind::Sub(Width::W32),
         _ => Kind::Unknown,
     }
 }
@@ -101,26 +111,15 @@ fn bytes_of(w: Width) -> u64
     }
 }
 
-fn is_word_size(n: u64) -> bool
-    ensures { λ r. ⌜ r ≡ isWordSize n ⌝ }
-{
-    match n {
-        2 => true,
-        4 => true,
-        8 => true,
-        _ => false,
-    }
-}
-
 // The sizes that the writers give each kind.
 fn size_ok(k: Kind, n: u64) -> bool
     ensures { λ r. ⌜ r ≡ sizeOk k n ⌝ }
 {
     match k {
         Kind::Data => n == 4,
-        Kind::Address => is_word_size(n),
-        Kind::SumPlus => is_word_size(n),
-        Kind::SumMinus => is_word_size(n),
+        Kind::Address => numbers::is_word(n),
+        Kind::SumPlus => numbers::is_word(n),
+        Kind::SumMinus => numbers::is_word(n),
         Kind::Image => n == 4,
         Kind::Set(w) => n == bytes_of(w),
         Kind::Sub(w) => n == bytes_of(w),
@@ -130,7 +129,7 @@ fn size_ok(k: Kind, n: u64) -> bool
 
 // The largest number of a word.
 fn most(n: u64) -> u64
-    requires { ⌜ T (isWordSize n) ⌝ }
+    requires { ⌜ T (isWord n) ⌝ }
     ensures { λ r. ⌜ r ≡ 2 ^ (8 * n) - 1 ⌝ }
 {
     if n == 2 {
@@ -149,11 +148,11 @@ fn reloc_at(relocs: &[u64], i: usize) -> Reloc
     ensures { λ r. ⌜ meant r ≡ relocationAt (now (relocs .entry)) i ⌝ }
 {
     Reloc {
-        place: relocs[5 * i],
-        symbol: relocs[5 * i + 1],
-        kind: relocs[5 * i + 2],
-        bytes: relocs[5 * i + 3],
-        addend: relocs[5 * i + 4],
+        place: relocs[relocs::RELOCATION_STRIDE * i],
+        symbol: relocs[relocs::RELOCATION_STRIDE * i + 1],
+        kind: relocs[relocs::RELOCATION_STRIDE * i + 2],
+        bytes: relocs[relocs::RELOCATION_STRIDE * i + 3],
+        addend: relocs[relocs::RELOCATION_STRIDE * i + 4],
     }
 }
 
@@ -171,7 +170,7 @@ fn behind_at(relocs: &[u64], i: usize) -> Beside
     requires { ⌜ i < length (now relocs) / 5 ⌝ }
     ensures { λ r. ⌜ beside r ≡ behindAt (now (relocs .entry)) i ⌝ }
 {
-    if i + 1 < relocs.len() / 5 {
+    if i + 1 < relocs.len() / relocs::RELOCATION_STRIDE {
         return Beside::There(reloc_at(relocs, i + 1));
     }
     Beside::Nothing
@@ -484,7 +483,7 @@ fn near(addresses: &[u64], r: Reloc, behind: Beside) -> bool
 fn all_sound(relocs: &[u64], addresses: &[u64], section: u64, image: u64, size: usize) -> bool
     ensures { λ b. ⌜ b ≡ everywhere (sound (layoutOf (now (addresses .entry)) section image) size) none (relocationsOf (now (relocs .entry))) ⌝ }
 {
-    let n = relocs.len() / 5;
+    let n = relocs.len() / relocs::RELOCATION_STRIDE;
     let mut i = 0;
     while i < n {
         let before = before_at(relocs, i);
@@ -501,7 +500,7 @@ fn all_sound(relocs: &[u64], addresses: &[u64], section: u64, image: u64, size: 
 fn all_near(relocs: &[u64], addresses: &[u64]) -> bool
     ensures { λ b. ⌜ b ≡ everywhere (near (symbolsOf (now (addresses .entry)))) none (relocationsOf (now (relocs .entry))) ⌝ }
 {
-    let n = relocs.len() / 5;
+    let n = relocs.len() / relocs::RELOCATION_STRIDE;
     let mut i = 0;
     while i < n {
         let r = reloc_at(relocs, i);
@@ -629,7 +628,7 @@ fn store_all(copy: &mut [u8], relocs: &[u64], addresses: &[u64], section: u64, i
     requires { ⌜ T (everywhere (sound (layoutOf (now addresses) section image) (length (now copy))) none (relocationsOf (now relocs))) ⌝ }
     ensures { λ u. ⌜ now (copy .exit) ≡ stores (layoutOf (now (addresses .entry)) section image) (now (copy .entry)) (relocationsOf (now (relocs .entry))) ⌝ }
 {
-    let n = relocs.len() / 5;
+    let n = relocs.len() / relocs::RELOCATION_STRIDE;
     let mut i = 0;
     while i < n {
         let r = reloc_at(relocs, i);

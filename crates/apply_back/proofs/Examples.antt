@@ -80,7 +80,7 @@ unfolding pick next after first each little ulebF uleb bits7 slebF sleb factor c
 writes-relocations = refl
 
 puts : putInPlace bytes relocations addresses 0x2000 0 48 ≡ good placed
-unfolding kindBy sizeOk fitsIn signed32 lowOf numberAt fieldAt inField setIn subIn wholeIn symbolAt symbolsOf addressOf sumFor apart valueAs distanceOf storeAs storeOf front everywhere partners leadsTo follows paired measured valueOk sound nearAs near stores putInPlace pick after first each relocationsOf relocationAt isSome put little
+unfolding kindBy sizeOk isWord fitsIn signed32 lowOf numberAt fieldAt inField setIn subIn wholeIn symbolAt symbolsOf addressOf sumFor apart valueAs distanceOf storeAs storeOf front everywhere partners leadsTo follows paired measured valueOk sound nearAs near stores putInPlace pick after first each relocationsOf relocationAt isSome put little
 puts = refl
 
 -- at 3, 4, 7, 8, 13 and past the end

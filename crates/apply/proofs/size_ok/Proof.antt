@@ -10,20 +10,20 @@ enum-told c = search needs
 enum-told-2 : tie.Need-enum-told-2
 enum-told-2 c = search needs
 
-is-word-size-requires : tie.Need-is-word-size-requires
-is-word-size-requires c κs = search needs
+is-word-requires : tie.Need-is-word-requires
+is-word-requires c κs = search needs
 
 enum-told-3 : tie.Need-enum-told-3
 enum-told-3 c = search needs
 
-is-word-size-requires-2 : tie.Need-is-word-size-requires-2
-is-word-size-requires-2 c κs = search needs
+is-word-requires-2 : tie.Need-is-word-requires-2
+is-word-requires-2 c κs = search needs
 
 enum-told-4 : tie.Need-enum-told-4
 enum-told-4 c = search needs
 
-is-word-size-requires-3 : tie.Need-is-word-size-requires-3
-is-word-size-requires-3 c κs = search needs
+is-word-requires-3 : tie.Need-is-word-requires-3
+is-word-requires-3 c κs = search needs
 
 enum-told-5 : tie.Need-enum-told-5
 enum-told-5 c = search needs
@@ -49,15 +49,15 @@ returns c = rw (c .enum-told .given .1)
 
 returns-2 : tie.Need-returns-2
 unfolding sizeOk
-returns-2 c = rw (c .before .enum-told2 .given .1) (c .is-word-size .ensures)
+returns-2 c = rw (c .before .enum-told2 .given .1) (c .is-word .ensures)
 
 returns-3 : tie.Need-returns-3
 unfolding sizeOk
-returns-3 c = rw (c .before .enum-told3 .given .1) (c .is-word-size2 .ensures)
+returns-3 c = rw (c .before .enum-told3 .given .1) (c .is-word2 .ensures)
 
 returns-4 : tie.Need-returns-4
 unfolding sizeOk
-returns-4 c = rw (c .before .enum-told4 .given .1) (c .is-word-size3 .ensures)
+returns-4 c = rw (c .before .enum-told4 .given .1) (c .is-word3 .ensures)
 
 returns-5 : tie.Need-returns-5
 unfolding sizeOk
@@ -81,11 +81,11 @@ size-ok-spec =
     (tie.spec
     enum-told
     enum-told-2
-    is-word-size-requires
+    is-word-requires
     enum-told-3
-    is-word-size-requires-2
+    is-word-requires-2
     enum-told-4
-    is-word-size-requires-3
+    is-word-requires-3
     enum-told-5
     enum-known-k
     bytes-of-requires
