@@ -157,13 +157,13 @@ module _ {M : Type 1} (𝓤 : URA M) (H : Heap 𝓤) (A : Atoms 𝓤) (W : Given
     Λ = 𝓣 .Λ
 
     abbrev En : Env 𝓤 H
-    En = (word, l₀) ∷ (listTy T.the-row, l₁) ∷ (numbersTy, l₂) ∷ (tyBool, l₃) ∷ (word, l₄) ∷ (word, l₅) ∷ (tyBool, l₆) ∷ (tyUnit, l₇) ∷ (lentRef, l₈) ∷ (sliceTy lentRef, l₉) ∷ []
+    En = (word, l₀) ∷ (listTy 0 T.the-row, l₁) ∷ (numbersTy 1, l₂) ∷ (tyBool, l₃) ∷ (word, l₄) ∷ (word, l₅) ∷ (tyBool, l₆) ∷ (tyUnit, l₇) ∷ (lentRef, l₈) ∷ (sliceTy lentRef, l₉) ∷ []
 
     -- the locals once the test of room has said t, the last first, and what is owned beside them
     abbrev At : Bool → List (Item 𝓤)
     At t = ‵ (froom (sliceTy lentRef) l₉ 0) ∷ ‵ (fdies (sliceTy lentRef) l₉) ∷ ‵ (froom lentRef l₈ 0) ∷ ‵ (fdies lentRef l₈) ∷ ‵ (froom tyUnit l₇ 0) ∷ ‵ (fdies tyUnit l₇)
         ∷ ‵ (fat fullShare tyBool l₆ 0 (vbool (not t))) ∷ ‵ (fdies tyBool l₆) ∷ ‵ (fat fullShare word l₅ 0 (vint w64 m)) ∷ ‵ (fdies word l₅) ∷ ‵ (fat fullShare word l₄ 0 (vint w64 n)) ∷ ‵ (fdies word l₄)
-        ∷ ‵ (fat fullShare tyBool l₃ 0 (vbool t)) ∷ ‵ (fdies tyBool l₃) ∷ ‵ (fat fullShare numbersTy l₂ 0 s₂) ∷ ‵ (fdies numbersTy l₂) ∷ ‵ (fat fullShare (listTy T.the-row) l₁ 0 s₁) ∷ ‵ (fdies (listTy T.the-row) l₁) ∷ ‵ (froom word l₀ 0) ∷ ‵ (fdies word l₀)
+        ∷ ‵ (fat fullShare tyBool l₃ 0 (vbool t)) ∷ ‵ (fdies tyBool l₃) ∷ ‵ (fat fullShare (numbersTy 1) l₂ 0 s₂) ∷ ‵ (fdies (numbersTy 1) l₂) ∷ ‵ (fat fullShare (listTy 0 T.the-row) l₁ 0 s₁) ∷ ‵ (fdies (listTy 0 T.the-row) l₁) ∷ ‵ (froom word l₀ 0) ∷ ‵ (fdies word l₀)
         ∷ ‵ (flft κ q) ∷ ‵ (flft κ′ q′) ∷ ‵ OwnList ∷ ‵ (OwnNumbers xs) ∷ []
 
     stores : (t : Bool) → t ≡ leb (4 * n) m → T (not (not t)) → Sq W (At t) (runs C Λ En mir.t-6 (atRet En Post))
