@@ -24,11 +24,12 @@ use Rattle.owners.specs.Chains.{Owned, OwnersFound, Enough, Unused}
 use Rattle.owners.proofs.OwnerLoop.{Going}
 use Rattle.owners.proofs.OwnerLoop as owning
 use Rattle.dwarf.specs.declared.Table.{Table}
+use Rattle.dwarf.specs.declared.Surveyed as answers-type
 use Rattle.dwarf.specs.declared.Surveyed.the-variants as answers
 use Rattle.dwarf.specs.Parts.{Inputs, countIn, extentIn, partsTo}
-use Rattle.dwarf.specs.Tables.{nothing, totalsIn}
+use Rattle.dwarf.specs.Tables.{nothing, totalsIn, Few}
 use Rattle.dwarf.specs.Writable.{Writable, Next}
-use Rattle.dwarf.specs.Surveys.{PassedAt, FunctionSurveyed, AllSurveyed}
+use Rattle.dwarf.specs.Surveys.{PassedAt, rowsSize, FunctionSurveyed, AllSurveyed}
 use Rattle.dwarf.proofs.Cleared.{writable}
 use Rattle.dwarf.proofs.Passed.{counted, taken-range}
 use Rattle.dwarf.proofs.Sizing.{Sizing}
@@ -55,6 +56,15 @@ module _ (x : Inputs) (k : ℕ) (o : outlineOkAt (x .functions) (x .rows) (x .la
   pub rows-say : (r : RowsSize) → Surveyed (x .machine .word) (x .rows) (extentIn x k .«rows_at») (extentIn x k .rows) r → FunctionSurveyed x k r
   rows-say (Bytes n) s = (function-passed s, s .bytes)
   rows-say Unsure s = tt
+
+pub bytes-say : {x : Inputs} {k : ℕ} {r : RowsSize} {n : ℕ} → FunctionSurveyed x k r → r ≡ Bytes n → PassedAt x k × (n ≡ rowsSize x k)
+bytes-say {x} {k} s e = subst (FunctionSurveyed x k) e s
+
+pub behind-say : (x : Inputs) {owners : List ℕ} {r : answers-type.Surveyed} {t : Table} → AllSurveyed x owners r → r ≡ answers.Behind t → AllSurveyed x owners (answers.Behind t)
+behind-say x {owners} s e = subst (AllSurveyed x owners) e s
+
+pub few-of : (fs : List ℕ) → T (sumsOk fs) → Few fs
+few-of fs t = let c = counted fs t in record { functions = c .functions-at-most; rows = c .rows-few; landings = c .landings-few }
 
 -- ---- all of them
 

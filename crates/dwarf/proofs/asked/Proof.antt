@@ -1,70 +1,54 @@
+-- `dwarf::asked` meets its contract.
+use Rattle.lists.proofs.Answers.{accepted, refused}
+use Rattle.dwarf.proofs.Whole.{askable-is, cleared-is, says-13, says-no, says-all}
 use borrow.Author.Needs.{needs}
 use Rattle.dwarf.proofs.asked.Statement.{statement}
 use Rattle.dwarf.proofs.asked.Tie as tie
-use Rattle.dwarf.proofs.asked.Reads as reads
-use Rattle.dwarf.proofs.asked.Lts as lts
-use Rattle.dwarf.proofs.all_asks.Reads as all-asks-reads
-use Rattle.dwarf.proofs.fitted.Reads as fitted-reads
-use Rattle.lists.proofs.lists_ok.Reads as lists-ok-reads
 
--- src/lib.rt:922:9
 lists-ok-requires : tie.Need-lists-ok-requires
 lists-ok-requires c κs = search needs
 
--- src/lib.rt:923:9
 returns : tie.Need-returns
-returns c = ?
+returns c = says-13 _ _ _ _ _ (refused (c .before .lists-ok .ensures) (c .if1 .taken))
 
--- src/lib.rt:925:9
 all-asks-requires : tie.Need-all-asks-requires
-all-asks-requires c κs = ?
+all-asks-requires c κs = askable-is _ (c .before .before .before .before .before .before .before .before .before .before .before .before .before .pre .0) (accepted (c .before .lists-ok .ensures) (c .if1 .left))
 
--- src/lib.rt:926:25
 enum-known-q : tie.Need-enum-known-q
 enum-known-q c = search needs
 
--- src/lib.rt:927:9
 returns-2 : tie.Need-returns-2
-returns-2 c = ?
+returns-2 c = says-no _ _ _ _ _ (accepted (c .before .before .before .before .before .lists-ok .ensures) (c .before .before .before .before .if1 .left)) (c .before .before .before .all-asks .ensures) (c .before .q .given .1)
 
 enum-told : tie.Need-enum-told
 enum-told c = search needs
 
--- src/lib.rt:929:5
 fitted-requires : tie.Need-fitted-requires
-fitted-requires c κs = ?
+fitted-requires c κs = (cleared-is _ (c .before .before .before .before .before .before .before .before .before .before .before .before .before .before .before .before .before .before .before .before .before .before .before .pre .0) (accepted (c .before .before .before .before .before .before .before .before .before .before .before .lists-ok .ensures) (c .before .before .before .before .before .before .before .before .before .before .if1 .left)) (c .before .before .before .before .before .before .before .before .before .all-asks .ensures) (c .before .before .before .before .before .before .before .enum-told .given .1), c .before .before .before .before .before .before .before .before .before .before .before .before .before .before .before .before .before .before .before .before .before .before .before .pre .1)
 
--- src/lib.rt:904:1
 same-length : tie.Need-same-length
 same-length c = search needs
 
--- src/lib.rt:904:1
 same-length-2 : tie.Need-same-length-2
 same-length-2 c = search needs
 
--- src/lib.rt:904:1
 same-length-3 : tie.Need-same-length-3
 same-length-3 c = search needs
 
--- src/lib.rt:904:1
 same-length-4 : tie.Need-same-length-4
 same-length-4 c = search needs
 
--- src/lib.rt:904:1
 same-length-5 : tie.Need-same-length-5
 same-length-5 c = search needs
 
--- src/lib.rt:904:1
 same-length-6 : tie.Need-same-length-6
 same-length-6 c = search needs
 
--- src/lib.rt:904:1
 same-length-7 : tie.Need-same-length-7
 same-length-7 c = search needs
 
--- src/lib.rt:904:1
 returns-3 : tie.Need-returns-3
-returns-3 c = ?
+returns-3 c = says-all _ _ _ _ _ (accepted (c .before .before .before .before .before .before .before .before .before .before .before .before .before .before .before .before .before .before .before .before .before .before .before .before .before .before .lists-ok .ensures) (c .before .before .before .before .before .before .before .before .before .before .before .before .before .before .before .before .before .before .before .before .before .before .before .before .before .if1 .left)) (c .before .before .before .before .before .before .before .before .before .before .before .before .before .before .before .before .before .before .before .before .before .before .before .before .all-asks .ensures) (c .before .before .before .before .before .before .before .before .before .before .before .before .before .before .before .before .before .before .before .before .before .before .enum-told .given .1) (c .before .before .before .before .before .before .before .before .before .before .before .before .before .before .fitted .ensures)
 
 pub asked-spec : {M : Type 1} → statement M
 asked-spec =

@@ -1,45 +1,46 @@
+-- `dwarf::function_surveyed` meets its contract.
+use native.Mathlib.Omega.{arith}
+use Rattle.dwarf.proofs.Passed.{counted, pairs-taken, rows-taken, rows-few-at}
+use Rattle.lists.proofs.Answers.{accepted}
+use Rattle.dwarf.proofs.Whole.{is-yes}
+use Rattle.dwarf.proofs.Surveying.{rows-say}
+use borrow.Author.Tests.{not-false}
+use Rattle.dwarf.specs.Parts.{inputs}
 use borrow.Author.Needs.{needs}
 use Rattle.dwarf.proofs.function_surveyed.Statement.{statement}
 use Rattle.dwarf.proofs.function_surveyed.Tie as tie
-use Rattle.dwarf.proofs.function_surveyed.Reads as reads
-use Rattle.dwarf.proofs.function_surveyed.Lts as lts
-use Rattle.dwarf.proofs.fields_ok.Reads as fields-ok-reads
-use Rattle.header_keys.proofs.taken.Reads as taken-reads
-use Rattle.lists.proofs.extent_at.Reads as extent-at-reads
-use Rattle.lists.proofs.outline_ok.Reads as outline-ok-reads
-use Rattle.records.proofs.surveyed_rows.Reads as surveyed-rows-reads
 
--- src/lib.rt:479:9
 outline-ok-requires : tie.Need-outline-ok-requires
-outline-ok-requires c κs = search needs
+outline-ok-requires c κs = omega (arith, c .before .before .before .before .pre .2)
 
--- src/lib.rt:480:9
 returns : tie.Need-returns
-returns c = search needs
+returns c = tt
 
--- src/lib.rt:482:22
 extent-at-requires : tie.Need-extent-at-requires
-extent-at-requires c κs = search needs
+extent-at-requires c κs = omega (arith, c .before .before .before .before .before .before .pre .2)
 
--- src/lib.rt:482:9
 taken-requires : tie.Need-taken-requires
 taken-requires c κs = search needs
 
--- src/lib.rt:483:9
 fields-ok-requires : tie.Need-fields-ok-requires
-fields-ok-requires c κs = ?
+fields-ok-requires c κs =
+    let s = c .before .before .before .before .before .before .before .before in
+    (s .pre .0 .is-word, rw (c .taken .ensures, c .before .extent-at .ensures) (pairs-taken (s .args .fs .now) (s .args .rows .now) (s .args .landings .now) (s .args .pairs .now) (counted _ (s .pre .1)) _ (s .pre .2) (is-yes (accepted (c .before .before .before .outline-ok .ensures) (c .before .before .if1 .left))) _))
 
--- src/lib.rt:484:9
 returns-2 : tie.Need-returns-2
-returns-2 c = search needs
+returns-2 c = tt
 
--- src/lib.rt:486:5
 surveyed-rows-requires : tie.Need-surveyed-rows-requires
-surveyed-rows-requires c κs = ?
+surveyed-rows-requires c κs =
+    let s = c .before .before .before .before .before .before .before .before .before .before in
+    let o = is-yes (accepted (c .before .before .before .before .before .outline-ok .ensures) (c .before .before .before .before .if1 .left)) in
+    (s .pre .0 .is-word, rw (c .before .before .taken .ensures, c .before .before .before .extent-at .ensures) (rows-taken (s .args .fs .now) (s .args .rows .now) (s .args .landings .now) (s .args .pairs .now) (counted _ (s .pre .1)) _ (s .pre .2) o _), rw (c .before .before .taken .ensures, c .before .before .before .extent-at .ensures) (rows-few-at (s .args .fs .now) (s .args .rows .now) (s .args .landings .now) (s .args .pairs .now) (counted _ (s .pre .1)) _ (s .pre .2) _))
 
--- src/lib.rt:467:1
 returns-3 : tie.Need-returns-3
-returns-3 c = ?
+returns-3 c =
+    let s = c .before .before .before .before .before .before .before .before .before .before .before in
+    rows-say (inputs (s .args .s) (s .args .m) (s .args .fs .now) (s .args .rows .now) (s .args .landings .now) (s .args .pairs .now)) (s .args .k) (accepted (c .before .before .before .before .before .before .outline-ok .ensures) (c .before .before .before .before .before .if1 .left))
+    (rw (c .before .before .before .taken .ensures, c .before .before .before .before .extent-at .ensures) at (c .before .before .fields-ok .ensures (not-false _ (c .before .if2 .left)))) (c .surveyed-rows .result) (rw (c .before .before .before .taken .ensures, c .before .before .before .before .extent-at .ensures) at (c .surveyed-rows .ensures))
 
 pub function-surveyed-spec : {M : Type 1} → statement M
 function-surveyed-spec =

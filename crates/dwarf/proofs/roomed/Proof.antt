@@ -11,7 +11,7 @@ enum-known-q : tie.Need-enum-known-q
 enum-known-q c = search needs
 
 returns : tie.Need-returns
-returns c = refuses _ (c .before .before .before .before .before .before .before .before .before .before .before .before .before .before .pre .2) _ _ _ _ (c .before .before .before .room .ensures) (c .before .q .given .1)
+returns c = refuses _ (c .before .before .before .before .before .before .before .before .before .before .before .before .before .pre .2) _ _ _ _ (c .before .before .before .room .ensures) (c .before .q .given .1)
 
 enum-told : tie.Need-enum-told
 enum-told c = search needs

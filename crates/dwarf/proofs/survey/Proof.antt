@@ -1,84 +1,73 @@
+-- `dwarf::survey` meets its contract.
+use native.Mathlib.Omega.{arith}
+use Prim.Native.Nat.{_-_}
+use Rattle.dwarf.specs.Parts.{inputs}
+use Rattle.owners.proofs.OwnerLoop.{heads-kept}
+use Rattle.dwarf.proofs.Surveying.{Surveying, start, bytes-say, owner-ready, next, turn, enough, ended}
+use borrow.Author.Needs.{needs}
 use Rattle.dwarf.proofs.survey.Statement.{statement}
 use Rattle.dwarf.proofs.survey.Tie as tie
-use Rattle.dwarf.proofs.survey.Reads as reads
-use Rattle.dwarf.proofs.survey.Lts as lts
-use Rattle.dwarf.proofs.function_surveyed.Reads as function-surveyed-reads
-use Rattle.dwarf.proofs.size_next.Reads as size-next-reads
-use Rattle.owners.proofs.find_owner.Reads as find-owner-reads
 
 abbrev Inv-loop : tie.InvT-loop
-Inv-loop s m fs rows landings pairs heads₀ links₀ owners₀ n t₀ k₀ heads links owners t k = ?
+Inv-loop s m fs rows landings pairs heads₀ links₀ owners₀ n t₀ k₀ heads links owners t k = Surveying (inputs s m fs rows landings pairs) n k t heads₀ links₀ owners₀ heads links owners
 
 abbrev μ-loop : tie.MeasureT-loop
-μ-loop s m fs rows landings pairs heads₀ links₀ owners₀ n t₀ k₀ heads links owners t k = ?
+μ-loop s m fs rows landings pairs heads₀ links₀ owners₀ n t₀ k₀ heads links owners t k = n - k
 
--- src/lib.rt:507:5
 loop-holds : tie.Need-loop-holds Inv-loop μ-loop
-loop-holds c = ?
+loop-holds c = start _ (c .before .before .before .before .before .before .before .pre .2)
 
--- src/lib.rt:508:13
 function-surveyed-requires : tie.Need-function-surveyed-requires Inv-loop μ-loop
-function-surveyed-requires c κs = ?
+function-surveyed-requires c κs =
+    let s = c .before .before .before .before .before .before .before .before .before in
+    (s .pre .0, s .pre .1, omega (arith, c .loop-test .taken, c .before .loop .inv .sizes .counted))
 
--- src/lib.rt:509:29
 enum-known-v : tie.Need-enum-known-v Inv-loop μ-loop
-enum-known-v c = ?
+enum-known-v c = search needs
 
--- src/lib.rt:510:13
 enum-told : tie.Need-enum-told Inv-loop μ-loop
-enum-told c = ?
+enum-told c = search needs
 
--- src/lib.rt:510:13
 same-length : tie.Need-same-length Inv-loop μ-loop
-same-length c = ?
+same-length c = heads-kept (c .before .before .before .before .loop .inv .owned)
 
--- src/lib.rt:510:13
 same-length-2 : tie.Need-same-length-2 Inv-loop μ-loop
-same-length-2 c = ?
+same-length-2 c = c .before .before .before .before .loop .inv .owned .links-kept
 
--- src/lib.rt:510:13
 same-length-3 : tie.Need-same-length-3 Inv-loop μ-loop
-same-length-3 c = ?
+same-length-3 c = c .before .before .before .before .loop .inv .owned .owners-kept
 
--- src/lib.rt:510:13
 returns : tie.Need-returns Inv-loop μ-loop
-returns c = ?
+returns c = (tt, enough (c .before .before .before .before .loop .inv))
 
--- src/lib.rt:512:9
 find-owner-requires : tie.Need-find-owner-requires Inv-loop μ-loop
-find-owner-requires c κs = ?
+find-owner-requires c κs = owner-ready (c .before .before .before .before .before .before .before .before .loop .inv) (c .before .before .before .before .before .before .before .loop-test .taken) (bytes-say (c .before .before .before .before .before .before .function-surveyed .ensures) (c .before .before .before .before .v .given .1) .0) (c .before .before .before .before .before .before .before .before .before .before .before .before .before .before .before .before .pre .0) (c .before .before .before .before .before .before .before .before .before .before .before .before .before .before .before .before .pre .1)
 
--- src/lib.rt:513:9
 size-next-requires : tie.Need-size-next-requires Inv-loop μ-loop
-size-next-requires c κs = ?
+size-next-requires c κs =
+    let b = bytes-say (c .before .before .before .before .before .before .before .before .before .before .before .before .before .before .function-surveyed .ensures) (c .before .before .before .before .before .before .before .before .before .before .before .before .v .given .1) in
+    (next (c .before .before .before .before .before .before .before .before .before .before .before .before .before .before .before .before .loop .inv) (c .before .before .before .before .before .before .before .before .before .before .before .before .before .before .before .loop-test .taken) (b .0) (c .before .before .before .before .before .before .before .before .before .before .before .before .before .before .before .before .before .before .before .before .before .before .before .before .pre .0) (c .before .before .before .before .before .before .before .before .before .before .before .before .before .before .before .before .before .before .before .before .before .before .before .before .pre .1), c .before .before .before .before .before .before .before .find-owner .ensures .0 .owned, b .1)
 
--- src/lib.rt:514:9
 add-k : tie.Need-add-k Inv-loop μ-loop
-add-k c = ?
+add-k c = omega (arith, c .before .before .before .before .before .before .before .before .before .before .before .before .before .before .before .before .loop-test .taken, c .before .before .before .before .before .before .before .before .before .before .before .before .before .before .before .before .before .loop .inv .owned .enough .few)
 
--- src/lib.rt:507:5
 loop-less : tie.Need-loop-less Inv-loop μ-loop
-loop-less c = ?
+loop-less c = search needs
 
--- src/lib.rt:507:5
 loop-again : tie.Need-loop-again Inv-loop μ-loop
-loop-again c = ?
+loop-again c = turn (c .before .before .before .before .before .before .before .before .before .before .before .before .before .before .before .before .before .loop .inv) (c .before .before .before .before .before .before .before .before .before .before .before .before .before .before .before .before .loop-test .taken) (bytes-say (c .before .before .before .before .before .before .before .before .before .before .before .before .before .before .before .function-surveyed .ensures) (c .before .before .before .before .before .before .before .before .before .before .before .before .before .v .given .1) .0) (c .size-next .ensures) (c .before .before .before .before .before .before .before .before .find-owner .ensures)
 
--- src/lib.rt:490:1
 same-length-4 : tie.Need-same-length-4 Inv-loop μ-loop
-same-length-4 c = ?
+same-length-4 c = heads-kept (c .before .loop .inv .owned)
 
--- src/lib.rt:490:1
 same-length-5 : tie.Need-same-length-5 Inv-loop μ-loop
-same-length-5 c = ?
+same-length-5 c = c .before .loop .inv .owned .links-kept
 
--- src/lib.rt:490:1
 same-length-6 : tie.Need-same-length-6 Inv-loop μ-loop
-same-length-6 c = ?
+same-length-6 c = c .before .loop .inv .owned .owners-kept
 
--- src/lib.rt:490:1
 returns-2 : tie.Need-returns-2 Inv-loop μ-loop
-returns-2 c = ?
+returns-2 c = (ended (c .before .loop .inv) (c .loop-test .left), enough (c .before .loop .inv))
 
 pub survey-spec : {M : Type 1} → statement M
 survey-spec =

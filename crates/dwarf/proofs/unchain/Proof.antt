@@ -1,45 +1,41 @@
+-- `dwarf::unchain` meets its contract.
+use Prim.Native.Nat.{_-_}
+use native.Mathlib.Omega.{arith}
+use lib.ListN.{length}
+use Rattle.dwarf.proofs.Working.{Clearing, start, turn, ended}
+use borrow.Author.Needs.{needs}
 use Rattle.dwarf.proofs.unchain.Statement.{statement}
 use Rattle.dwarf.proofs.unchain.Tie as tie
-use Rattle.dwarf.proofs.unchain.Reads as reads
-use Rattle.dwarf.proofs.unchain.Lts as lts
 
 abbrev Inv-loop : tie.InvT-loop
-Inv-loop heads₀ h₀ heads h = ?
+Inv-loop heads₀ h₀ heads h = Clearing heads₀ heads h
 
 abbrev μ-loop : tie.MeasureT-loop
-μ-loop heads₀ h₀ heads h = ?
+μ-loop heads₀ h₀ heads h = length heads₀ - h
 
--- src/lib.rt:951:5
 loop-holds : tie.Need-loop-holds Inv-loop μ-loop
-loop-holds c = ?
+loop-holds c = start _
 
--- src/lib.rt:952:9
 mul-heads : tie.Need-mul-heads Inv-loop μ-loop
-mul-heads c = ?
+mul-heads c = search needs
 
--- src/lib.rt:952:9
 slice-write-heads : tie.Need-slice-write-heads Inv-loop μ-loop
-slice-write-heads c = ?
+slice-write-heads c = search needs
 
--- src/lib.rt:953:9
 add-h : tie.Need-add-h Inv-loop μ-loop
-add-h c = ?
+add-h c = search needs
 
--- src/lib.rt:951:5
 loop-less : tie.Need-loop-less Inv-loop μ-loop
-loop-less c = ?
+loop-less c = omega (arith, c .before .loop .inv .kept, c .loop-test .taken)
 
--- src/lib.rt:951:5
 loop-again : tie.Need-loop-again Inv-loop μ-loop
-loop-again c = ?
+loop-again c = turn (c .before .loop .inv) (c .loop-test .taken)
 
--- src/lib.rt:947:1
 same-length : tie.Need-same-length Inv-loop μ-loop
-same-length c = ?
+same-length c = c .before .loop .inv .kept
 
--- src/lib.rt:947:1
 returns : tie.Need-returns Inv-loop μ-loop
-returns c = ?
+returns c = ended (c .before .loop .inv) (c .loop-test .left)
 
 pub unchain-spec : {M : Type 1} → statement M
 unchain-spec =
