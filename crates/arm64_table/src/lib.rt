@@ -14,6 +14,7 @@ ghost use Rattle.format.proofs.Wrote.{Wrote};
 ghost use Rattle.unwind.specs.Entries.{Exports};
 ghost use Rattle.arm64.specs.Writer.{functionAsks, markersFrom, rowsOf, relocsFrom, infosOf, arm64, arm64Answer};
 ghost use Rattle.arm64_table.specs.Tables.{relocsBy, relocCount, markBy, firstOf, AllListed, AllFine};
+use arm64::fields;
 use arm64_function::function_no;
 use arm64_function::info_size;
 use arm64_function::packed_word;
@@ -142,7 +143,13 @@ fn put_rows(
         k += 1;
         let word = packed_word(fs, es, cs, j);
         put_row(bytes, 8 * j, word);
-        to = put_row_relocs(relocations, to, (8 * j) as u64, fs[6 * j], word);
+        to = put_row_relocs(
+            relocations,
+            to,
+            (8 * j) as u64,
+            fs[fields::FUNCTION_STRIDE * j],
+            word,
+        );
     }
     to
 }
@@ -266,7 +273,7 @@ pub fn table(
 ) -> Outcome
     ensures { λ r. ⌜ Writes (arm64Answer (now (functions .entry)) (now (epilogues .entry)) (now (codes .entry)) (roomIn (now (markers .entry)) (now (bytes .entry)) (now (relocations .entry)) (now (info .entry)))) r (now (markers .entry)) (now (markers .exit)) (now (bytes .entry)) (now (bytes .exit)) (now (relocations .entry)) (now (relocations .exit)) (now (info .entry)) (now (info .exit)) ⌝ }
 {
-    let n = functions.len() / 6;
+    let n = functions.len() / fields::FUNCTION_STRIDE;
     if n == 0 {
         return Outcome::Empty;
     }

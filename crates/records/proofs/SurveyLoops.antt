@@ -6,21 +6,15 @@ use mathlib.Core.Bool.{Bool, true, false}
 use mathlib.Core.List.{List}
 use borrow.Author.Tests.{le-leb, lt-ltb}
 use lib.Dec.{T}
-use lib.IntN.{ℤ, pos, negsuc}
 use lib.ListN.{length, length-append}
-use lib.Signed.{mag}
-use mir.Syntax.{w32}
-use mir.Val.{toZ}
-use mir.Facts.{sfits-toZ}
-use Rattle.format.specs.Prelude.{pick, all, each}
-use Rattle.format.specs.Rows.{rowBytes, stepBytes, rowWhole, kindOf, regOf, offsetOf}
-use Rattle.format.specs.Lists.{field, rowStride, rowOf, rowOk, rowAt, rowOkAt, allIn, count}
+use Rattle.format.specs.Prelude.{all, each}
+use Rattle.format.specs.Rows.{rowBytes, stepBytes, rowWhole}
+use Rattle.format.specs.Lists.{field, rowStride, rowAt, rowOkAt, allIn, count}
 use Rattle.format.specs.Questions.{stepsOk}
-use Rattle.format.proofs.ListLaws.{RowNumbers, row-numbers}
-use Rattle.format.proofs.RowBack.{Off32, otherOf, RowFits}
+use Rattle.format.proofs.Accepted.{row-fits}
+use Rattle.format.proofs.RowBack.{RowFits}
 use Rattle.format.proofs.WalkBack.{RowsAtOk}
 use Rattle.format.proofs.Sizes.{row-short}
-use Rattle.rows.proofs.ShortSizes.{kinds}
 use Rattle.rows.proofs.WholeNumbers.{is-yes}
 use Rattle.records.specs.Stepped.{steppedRowBytes, rowsIn, SurveyedRow, SurveyedRows}
 use Rattle.records.proofs.RowLoops.{offset-of, row-at-length, each-more, none-left, here}
@@ -29,42 +23,12 @@ yes-is : (b : Bool) → T b → b ≡ true
 yes-is true t = refl
 yes-is false t = absurd t
 
--- ---- a row that passes questions 13 and 24
+-- ---- a row that passes questions 13 and 24, by what the code asks
 
-mag-off : (z : ℤ) → mag z < 2 ^ 31 → Off32 z
-mag-off (pos n) h = h
-mag-off (negsuc n) h = h
-
-off-fits : (n : ℕ) → n < 2 ^ 32 → Off32 (toZ w32 n)
-off-fits n h = mag-off (toZ w32 n) (sfits-toZ {w = w32} {n = n} (record { fits = h }) .sfits)
-
-numbers-fit : (w reg off kind : ℕ) → kind ≤ 10 → RowNumbers kind reg off → T (rowWhole w (rowOf kind reg off)) → RowFits w (rowOf kind reg off)
-unfolding rowOf pick kindOf regOf offsetOf otherOf
-numbers-fit w reg off =
-    kinds (λ k. RowNumbers k reg off → T (rowWhole w (rowOf k reg off)) → RowFits w (rowOf k reg off))
-    (λ n v. record { reg = n .reg-low; off = off-fits off (n .off-low); other = omega arith; whole = v })
-    (λ n v. record { reg = omega arith; off = off-fits off (n .off-low); other = omega arith; whole = v })
-    (λ n v. record { reg = n .reg-low; off = omega arith; other = omega arith; whole = v })
-    (λ n v. record { reg = n .reg-low; off = off-fits off (n .off-low); other = omega arith; whole = v })
-    (λ n v. record { reg = n .reg-low; off = omega arith; other = omega arith; whole = v })
-    (λ n v. record { reg = n .reg-low; off = omega arith; other = omega arith; whole = v })
-    (λ n v. record { reg = omega arith; off = omega arith; other = omega arith; whole = v })
-    (λ n v. record { reg = omega arith; off = omega arith; other = omega arith; whole = v })
-    (λ n v. record { reg = omega arith; off = omega arith; other = omega arith; whole = v })
-    (λ n v. record { reg = n .reg-low; off = omega arith; other = omega arith; whole = v })
-    (λ n v. let l : off < 65536 = n .other-low refl in record { reg = n .reg-low; off = omega arith; other = l; whole = v })
-
-row-fits : (w : ℕ) (rows : List ℕ) (i : ℕ) → T (rowOkAt rows i) → T (rowWhole w (rowAt rows i .1)) → RowFits w (rowAt rows i .1)
-unfolding rowOkAt rowAt
-row-fits w rows i t v =
-    let n = row-numbers (field rowStride rows i 1) (field rowStride rows i 2) (field rowStride rows i 3) t in
-    numbers-fit w (field rowStride rows i 2) (field rowStride rows i 3) (field rowStride rows i 1) (n .kind-low) n v
-
--- by what the code asks
 module _ (w from : ℕ) (rows : List ℕ) (i : ℕ) {r : ℕ}
     (s : T (rowOkAt rows i) × (rowWhole w (rowAt rows i .1) ≡ true) × (r ≡ length (rowBytes w (rowAt rows i .1)))) where
   fits-here : RowFits w (rowAt rows i .1)
-  fits-here = row-fits w rows i (s .0) (is-yes (s .1))
+  fits-here = row-fits rows w i (s .0) (is-yes (s .1))
 
   pub row-small : r ≤ 9
   row-small = omega (arith, s .2, row-short w (rowAt rows i .1) fits-here)
