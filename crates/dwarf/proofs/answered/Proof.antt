@@ -1,5 +1,6 @@
 -- `dwarf::answered` meets its contract.
 use mathlib.Core.Path.{refl}
+use Rattle.dwarf.specs.Parts.{inputs}
 use Rattle.dwarf.proofs.Passed.{counted}
 use Rattle.dwarf.proofs.Cleared.{cleared}
 use Rattle.dwarf.proofs.Whole.{lists-passed, asked-passed, says-all}
@@ -15,10 +16,10 @@ enum-known-v : tie.Need-enum-known-v
 enum-known-v c = search needs
 
 roomed-requires : tie.Need-roomed-requires
-roomed-requires c κs =
+roomed-requires c κs = 
     let s = c .before .before .before .before .before .before .before .before .before .before .before .before .before .before .before .before .before .before .before .before .before .before .before .before .before .before .before .before .before in
-    let b = behind-say _ (c .before .before .before .before .before .before .before .before .before .before .before .before .before .before .tried .ensures .0) (c .before .before .before .before .before .before .v .given .1) in
-    (cleared _ (s .pre .0) (counted _ (s .pre .1)) (b .0), b .2, b .1)
+    let b = behind-say (inputs (s .args .s) (s .args .m) (s .args .fs .now) (s .args .rows .now) (s .args .landings .now) (s .args .pairs .now)) (c .before .before .before .before .before .before .before .before .before .before .before .before .before .before .tried .ensures .0) (c .before .before .before .before .before .before .v .given .1) in
+    (cleared (inputs (s .args .s) (s .args .m) (s .args .fs .now) (s .args .rows .now) (s .args .landings .now) (s .args .pairs .now)) (s .pre .0) (counted (s .args .fs .now) (s .pre .1)) (b .0), b .2, b .1)
 
 same-length : tie.Need-same-length
 same-length c = search needs
@@ -42,10 +43,10 @@ same-length-7 : tie.Need-same-length-7
 same-length-7 c = search needs
 
 returns : tie.Need-returns
-returns c =
+returns c = 
     let s = c .before .before .before .before .before .before .before .before .before .before .before .before .before .before .before .before .before .before .before .before .before .before .before .before .before .before .before .before .before .before .before .before .before .before .before .before .before .before in
-    let b = behind-say _ (c .before .before .before .before .before .before .before .before .before .before .before .before .before .before .before .before .before .before .before .before .before .before .before .tried .ensures .0) (c .before .before .before .before .before .before .before .before .before .before .before .before .before .before .before .v .given .1) in
-    says-all _ _ _ _ _ (lists-passed _ (s .pre .1) (b .0)) (asked-passed _ (s .pre .1) (b .0)) refl (c .before .before .before .before .before .before .before .before .roomed .ensures)
+    let b = behind-say (inputs (s .args .s) (s .args .m) (s .args .fs .now) (s .args .rows .now) (s .args .landings .now) (s .args .pairs .now)) (c .before .before .before .before .before .before .before .before .before .before .before .before .before .before .before .before .before .before .before .before .before .before .before .tried .ensures .0) (c .before .before .before .before .before .before .before .before .before .before .before .before .before .before .before .v .given .1) in
+    says-all (inputs (s .args .s) (s .args .m) (s .args .fs .now) (s .args .rows .now) (s .args .landings .now) (s .args .pairs .now)) (s .args .places .now) (s .args .out .now) (s .args .relocs .now) (s .args .sites .now) (lists-passed (inputs (s .args .s) (s .args .m) (s .args .fs .now) (s .args .rows .now) (s .args .landings .now) (s .args .pairs .now)) (s .pre .1) (b .0)) (asked-passed (inputs (s .args .s) (s .args .m) (s .args .fs .now) (s .args .rows .now) (s .args .landings .now) (s .args .pairs .now)) (s .pre .1) (b .0)) refl (c .before .before .before .before .before .before .before .before .roomed .ensures)
 
 enum-told : tie.Need-enum-told
 enum-told c = search needs
@@ -54,7 +55,7 @@ unchain-requires : tie.Need-unchain-requires
 unchain-requires c κs = search needs
 
 asked-requires : tie.Need-asked-requires
-asked-requires c κs =
+asked-requires c κs = 
     (c .before .before .before .before .before .before .before .before .before .before .before .before .before .before .before .before .before .before .before .before .before .before .before .before .before .before .before .before .before .before .before .before .before .before .pre .0, record { enough = rw (c .before .before .before .before .before .before .before .before .before .unchain .ensures .0) (c .before .before .before .before .before .before .before .before .before .before .before .before .before .before .before .before .before .before .before .tried .ensures .1); clear = c .before .before .before .before .before .before .before .before .before .unchain .ensures .1 })
 
 same-length-8 : tie.Need-same-length-8

@@ -1,4 +1,5 @@
 -- `dwarf::roomed` meets its contract.
+use Rattle.dwarf.specs.Parts.{inputs}
 use Rattle.dwarf.proofs.Outcomes.{refuses, room-for, sizes-cover}
 use borrow.Author.Needs.{needs}
 use Rattle.dwarf.proofs.roomed.Statement.{statement}
@@ -11,15 +12,17 @@ enum-known-q : tie.Need-enum-known-q
 enum-known-q c = search needs
 
 returns : tie.Need-returns
-returns c = refuses _ (c .before .before .before .before .before .before .before .before .before .before .before .before .before .pre .2) _ _ _ _ (c .before .before .before .room .ensures) (c .before .q .given .1)
+returns c = 
+    let s = c .before .before .before .before .before .before .before .before .before .before .before .before .before in
+    refuses (inputs (s .args .s) (s .args .m) (s .args .fs .now) (s .args .rows .now) (s .args .landings .now) (s .args .pairs .now)) (s .pre .2) (s .args .places .now) (s .args .out .now) (s .args .relocs .now) (s .args .sites .now) (c .before .before .before .room .ensures) (c .before .q .given .1)
 
 enum-told : tie.Need-enum-told
 enum-told c = search needs
 
 stored-requires : tie.Need-stored-requires
-stored-requires c κs =
+stored-requires c κs = 
     let s = c .before .before .before .before .before .before .before .before .before .before .before .before .before .before .before .before in
-    (s .pre .0, room-for _ _ _ _ _ (c .before .before .before .before .before .before .room .ensures) (c .before .before .before .before .enum-told .given .1) (sizes-cover _ (s .pre .2)), s .pre .1)
+    (s .pre .0, room-for (inputs (s .args .s) (s .args .m) (s .args .fs .now) (s .args .rows .now) (s .args .landings .now) (s .args .pairs .now)) (s .args .places .now) (s .args .out .now) (s .args .relocs .now) (s .args .sites .now) (c .before .before .before .before .before .before .room .ensures) (c .before .before .before .before .enum-told .given .1) (sizes-cover (inputs (s .args .s) (s .args .m) (s .args .fs .now) (s .args .rows .now) (s .args .landings .now) (s .args .pairs .now)) (s .pre .2)), s .pre .1)
 
 same-length : tie.Need-same-length
 same-length c = search needs
