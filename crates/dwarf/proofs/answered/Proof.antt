@@ -16,7 +16,7 @@ enum-known-v : tie.Need-enum-known-v
 enum-known-v c = search needs
 
 roomed-requires : tie.Need-roomed-requires
-roomed-requires c κs = 
+roomed-requires c κs =
     let s = c .before .before .before .before .before .before .before .before .before .before .before .before .before .before .before .before .before .before .before .before .before .before .before .before .before .before .before .before .before in
     let b = behind-say (inputs (s .args .s) (s .args .m) (s .args .fs .now) (s .args .rows .now) (s .args .landings .now) (s .args .pairs .now)) (c .before .before .before .before .before .before .before .before .before .before .before .before .before .before .tried .ensures .0) (c .before .before .before .before .before .before .v .given .1) in
     (cleared (inputs (s .args .s) (s .args .m) (s .args .fs .now) (s .args .rows .now) (s .args .landings .now) (s .args .pairs .now)) (s .pre .0) (counted (s .args .fs .now) (s .pre .1)) (b .0), b .2, b .1)
@@ -43,7 +43,7 @@ same-length-7 : tie.Need-same-length-7
 same-length-7 c = search needs
 
 returns : tie.Need-returns
-returns c = 
+returns c =
     let s = c .before .before .before .before .before .before .before .before .before .before .before .before .before .before .before .before .before .before .before .before .before .before .before .before .before .before .before .before .before .before .before .before .before .before .before .before .before .before in
     let b = behind-say (inputs (s .args .s) (s .args .m) (s .args .fs .now) (s .args .rows .now) (s .args .landings .now) (s .args .pairs .now)) (c .before .before .before .before .before .before .before .before .before .before .before .before .before .before .before .before .before .before .before .before .before .before .before .tried .ensures .0) (c .before .before .before .before .before .before .before .before .before .before .before .before .before .before .before .v .given .1) in
     says-all (inputs (s .args .s) (s .args .m) (s .args .fs .now) (s .args .rows .now) (s .args .landings .now) (s .args .pairs .now)) (s .args .places .now) (s .args .out .now) (s .args .relocs .now) (s .args .sites .now) (lists-passed (inputs (s .args .s) (s .args .m) (s .args .fs .now) (s .args .rows .now) (s .args .landings .now) (s .args .pairs .now)) (s .pre .1) (b .0)) (asked-passed (inputs (s .args .s) (s .args .m) (s .args .fs .now) (s .args .rows .now) (s .args .landings .now) (s .args .pairs .now)) (s .pre .1) (b .0)) refl (c .before .before .before .before .before .before .before .before .roomed .ensures)
@@ -55,7 +55,7 @@ unchain-requires : tie.Need-unchain-requires
 unchain-requires c κs = search needs
 
 asked-requires : tie.Need-asked-requires
-asked-requires c κs = 
+asked-requires c κs =
     (c .before .before .before .before .before .before .before .before .before .before .before .before .before .before .before .before .before .before .before .before .before .before .before .before .before .before .before .before .before .before .before .before .before .before .pre .0, record { enough = rw (c .before .before .before .before .before .before .before .before .before .unchain .ensures .0) (c .before .before .before .before .before .before .before .before .before .before .before .before .before .before .before .before .before .before .before .tried .ensures .1); clear = c .before .before .before .before .before .before .before .before .before .unchain .ensures .1 })
 
 same-length-8 : tie.Need-same-length-8

@@ -16,7 +16,7 @@ slice-aggregate-answered-3 : tie.Need-slice-aggregate-answered-3
 slice-aggregate-answered-3 c = search needs
 
 answered-requires : tie.Need-answered-requires
-answered-requires c κs = 
+answered-requires c κs =
     let s = c .before .before .before .before .before .before .before .before .before .before .before .before .before .before .before .before in
     (s .pre .0, s .pre .1, unused _ 61 64 (counted _ (s .pre .1) .functions-at-most) (omega arith) (search needs))
 
@@ -45,7 +45,7 @@ slice-aggregate-answered-6 : tie.Need-slice-aggregate-answered-6
 slice-aggregate-answered-6 c = search needs
 
 answered-requires-2 : tie.Need-answered-requires-2
-answered-requires-2 c κs = 
+answered-requires-2 c κs =
     let s = c .before .before .before .before .before .before .before .before .before .before .before .before .before .before .before .before .before in
     (s .pre .0, s .pre .1, unused _ 2039 2048 (counted _ (s .pre .1) .functions-at-most) (omega arith) (search needs))
 
@@ -74,7 +74,7 @@ slice-aggregate-answered-9 : tie.Need-slice-aggregate-answered-9
 slice-aggregate-answered-9 c = search needs
 
 answered-requires-3 : tie.Need-answered-requires-3
-answered-requires-3 c κs = 
+answered-requires-3 c κs =
     let s = c .before .before .before .before .before .before .before .before .before .before .before .before .before .before .before .before .before in
     (s .pre .0, s .pre .1, unused _ 16381 65536 (counted _ (s .pre .1) .functions-at-most) (omega arith) (counted _ (s .pre .1) .functions-at-most))
 

@@ -6,7 +6,7 @@ use Rattle.dwarf.proofs.fitted.Statement.{statement}
 use Rattle.dwarf.proofs.fitted.Tie as tie
 
 owners-requires : tie.Need-owners-requires
-owners-requires c κs = 
+owners-requires c κs =
     let s = c .before .before .before .before .before .before .before .before .before .before .before .before .before .before in
     (s .pre .0 .listed, s .pre .1, λ h. s .pre .0 .each-one 0 h .sound .machine)
 
@@ -53,7 +53,7 @@ enum-told-2 : tie.Need-enum-told-2
 enum-told-2 c = search needs
 
 stored-requires : tie.Need-stored-requires
-stored-requires c κs = 
+stored-requires c κs =
     let s = c .before .before .before .before .before .before .before .before .before .before .before .before .before .before .before .before .before .before .before .before .before .before .before .before .before .before .before .before .before .before in
     (s .pre .0, room-for (inputs (s .args .s) (s .args .m) (s .args .fs .now) (s .args .rows .now) (s .args .landings .now) (s .args .pairs .now)) (s .args .places .now) (s .args .out .now) (s .args .relocs .now) (s .args .sites .now) (c .before .before .before .before .before .before .before .room .ensures) (c .before .before .before .before .before .enum-told2 .given .1) (rw (c .before .before .before .before .before .before .before .before .most .ensures) (s .pre .0 .covered)), c .before .before .before .before .before .before .before .before .before .before .before .before .before .before .before .owners .ensures)
 

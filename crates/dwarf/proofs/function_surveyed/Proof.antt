@@ -23,7 +23,7 @@ taken-requires : tie.Need-taken-requires
 taken-requires c κs = search needs
 
 fields-ok-requires : tie.Need-fields-ok-requires
-fields-ok-requires c κs = 
+fields-ok-requires c κs =
     let s = c .before .before .before .before .before .before .before .before in
     (s .pre .0 .is-word, rw (c .taken .ensures, c .before .extent-at .ensures) (pairs-taken (s .args .fs .now) (s .args .rows .now) (s .args .landings .now) (s .args .pairs .now) (counted _ (s .pre .1)) _ (s .pre .2) (is-yes (accepted (c .before .before .before .outline-ok .ensures) (c .before .before .if1 .left))) _))
 
@@ -31,13 +31,13 @@ returns-2 : tie.Need-returns-2
 returns-2 c = tt
 
 surveyed-rows-requires : tie.Need-surveyed-rows-requires
-surveyed-rows-requires c κs = 
+surveyed-rows-requires c κs =
     let s = c .before .before .before .before .before .before .before .before .before .before in
     let o = is-yes (accepted (c .before .before .before .before .before .outline-ok .ensures) (c .before .before .before .before .if1 .left)) in
     (s .pre .0 .is-word, rw (c .before .before .taken .ensures, c .before .before .before .extent-at .ensures) (rows-taken (s .args .fs .now) (s .args .rows .now) (s .args .landings .now) (s .args .pairs .now) (counted _ (s .pre .1)) _ (s .pre .2) o _), rw (c .before .before .taken .ensures, c .before .before .before .extent-at .ensures) (rows-few-at (s .args .fs .now) (s .args .rows .now) (s .args .landings .now) (s .args .pairs .now) (counted _ (s .pre .1)) _ (s .pre .2) _))
 
 returns-3 : tie.Need-returns-3
-returns-3 c = 
+returns-3 c =
     let s = c .before .before .before .before .before .before .before .before .before .before .before in
     rows-say (inputs (s .args .s) (s .args .m) (s .args .fs .now) (s .args .rows .now) (s .args .landings .now) (s .args .pairs .now)) (s .args .k) (accepted (c .before .before .before .before .before .before .outline-ok .ensures) (c .before .before .before .before .before .if1 .left))
     (rw (c .before .before .before .taken .ensures, c .before .before .before .before .extent-at .ensures) at (c .before .before .fields-ok .ensures (not-false _ (c .before .if2 .left)))) (c .surveyed-rows .result) (rw (c .before .before .before .taken .ensures, c .before .before .before .before .extent-at .ensures) at (c .surveyed-rows .ensures))

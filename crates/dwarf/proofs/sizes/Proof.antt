@@ -17,12 +17,12 @@ loop-holds : tie.Need-loop-holds Inv-loop μ-loop
 loop-holds c = start _
 
 rows-size-requires : tie.Need-rows-size-requires Inv-loop μ-loop
-rows-size-requires c κs = 
+rows-size-requires c κs =
     let x = next (c .before .loop .inv) (c .before .before .before .before .before .before .before .pre .0) (c .loop-test .taken) in
     (omega (arith, x .writable .listed .within), x .writable .sound)
 
 size-next-requires : tie.Need-size-next-requires Inv-loop μ-loop
-size-next-requires c κs = 
+size-next-requires c κs =
     let s = c .before .before .before .before .before .before .before .before in
     (next (c .before .before .loop .inv) (s .pre .0) (c .before .loop-test .taken), owned-to (omega (arith, c .before .loop-test .taken, c .before .before .loop .inv .counted)) (s .pre .1), c .rows-size .ensures)
 

@@ -18,7 +18,7 @@ loop-holds : tie.Need-loop-holds Inv-loop μ-loop
 loop-holds c = start _ (c .before .before .before .before .before .before .before .pre .2)
 
 function-surveyed-requires : tie.Need-function-surveyed-requires Inv-loop μ-loop
-function-surveyed-requires c κs = 
+function-surveyed-requires c κs =
     let s = c .before .before .before .before .before .before .before .before .before in
     (s .pre .0, s .pre .1, omega (arith, c .loop-test .taken, c .before .loop .inv .sizes .counted))
 
@@ -44,7 +44,7 @@ find-owner-requires : tie.Need-find-owner-requires Inv-loop μ-loop
 find-owner-requires c κs = owner-ready (c .before .before .before .before .before .before .before .before .loop .inv) (c .before .before .before .before .before .before .before .loop-test .taken) (bytes-say (c .before .before .before .before .before .before .function-surveyed .ensures) (c .before .before .before .before .v .given .1) .0) (c .before .before .before .before .before .before .before .before .before .before .before .before .before .before .before .before .pre .0) (c .before .before .before .before .before .before .before .before .before .before .before .before .before .before .before .before .pre .1)
 
 size-next-requires : tie.Need-size-next-requires Inv-loop μ-loop
-size-next-requires c κs = 
+size-next-requires c κs =
     let b = bytes-say (c .before .before .before .before .before .before .before .before .before .before .before .before .before .before .function-surveyed .ensures) (c .before .before .before .before .before .before .before .before .before .before .before .before .v .given .1) in
     (next (c .before .before .before .before .before .before .before .before .before .before .before .before .before .before .before .before .loop .inv) (c .before .before .before .before .before .before .before .before .before .before .before .before .before .before .before .loop-test .taken) (b .0) (c .before .before .before .before .before .before .before .before .before .before .before .before .before .before .before .before .before .before .before .before .before .before .before .before .pre .0) (c .before .before .before .before .before .before .before .before .before .before .before .before .before .before .before .before .before .before .before .before .before .before .before .before .pre .1), c .before .before .before .before .before .before .before .find-owner .ensures .0 .owned, b .1)
 
