@@ -9,7 +9,8 @@ use Rattle.format.specs.declared.Machine.{Machine}
 use Rattle.format.specs.Lists.{Landing, Named, Relaxed, landingAt}
 use Rattle.format.specs.Headers.{keyOf, kindFor, leading}
 use Rattle.format.specs.Records.{lsdaBlank, lsdaReloc, sizeField, sumPair, recordFields, recordBytes, recordRelocs}
-use Rattle.format.specs.Questions.{encodingsOk}
+use Rattle.format.specs.declared.Section.{Section}
+use Rattle.format.specs.Questions.{encodingsOk, dwarfAsks}
 use Rattle.lists.specs.declared.Extent.{Extent}
 use Rattle.lists.specs.Extents.{meant}
 use Rattle.header_keys.specs.Functions.{bodyOf, keyIn}
@@ -105,3 +106,10 @@ module _ (e : Extent) (rows landings pairs : List ℕ) (m : Machine) (at cie tab
         sum-body e rows landings pairs (at + 8 + m .word) (m .word),
         sum-body e rows landings pairs (at + 12) 4,
       )
+
+-- ---- questions 21 to 25
+
+pub asks-body : (s : Section) (word k : ℕ) (e : Extent) (rows landings pairs : List ℕ)
+    → dwarfAsks s word k (meant e rows landings pairs) ≡ dwarfAsks s word k (meant e rows [] pairs)
+unfolding dwarfAsks meant
+asks-body s word k e rows landings pairs = rw (encodings-any (landingAt landings) (landingAt []) (e .«landings_at») word (e .landings))

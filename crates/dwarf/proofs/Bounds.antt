@@ -1,5 +1,4 @@
--- How many relocations and call-site bytes an accepted list can have.
-use mathlib.Core.Path.{_≡_, refl, ap}
+-- How many relocations and call-site bytes a function can have.
 use Prim.Native.Nat.{ℕ, _+_, _-_, _*_, _≤_}
 use native.Mathlib.Omega.{arith}
 use mathlib.Core.Bool.{Bool, true, false}
@@ -14,11 +13,10 @@ use Rattle.format.specs.Lists.{Function, Landing, Named, Pointer, Relaxed}
 use Rattle.format.specs.Headers.{Kind, plain, personal, named, Key, keyOf, others, kindRelocs, headerRelocs, padding}
 use Rattle.format.specs.Records.{pointerTo, namedReloc, lsdaReloc, sumPair, rowRelocs, recordFields, recordRelocs}
 use Rattle.format.specs.CallSites.{siteBytes, sitesBytes, siteTable, sitePad, siteAdded}
-use Rattle.format.specs.Writer.{isDebug, Seen, Part, partsFrom, partOf, isEmpty, joined, partWith}
+use Rattle.format.specs.Writer.{isDebug}
 use Rattle.format.proofs.EntryBack.{padding-small}
 use Rattle.format.proofs.Leading.{others-count}
-use Rattle.format.proofs.Fits.{rowCount}
-use Rattle.format.proofs.Parts.{Spot, cieOf, relocsFor, placeOf, partRelocs, relocsOf, relocs-more, spotOf, nextAt, nextSites, nextSeen}
+use Rattle.format.proofs.Parts.{Spot, cieOf, relocsFor, placeOf, partRelocs}
 use Rattle.records.proofs.CallSites.{uleb-most}
 use Rattle.records.proofs.LabelLaws.{steps-most}
 
@@ -102,18 +100,8 @@ record-few false m at cie table f =
       labelled-more (f .relaxed) (length (others (f .rows))) (length (f .rows)) (others-count (f .rows)),
     ))
 
--- the rows of functions with labels, summed
-unfoldable pub labelledCount : List Function → ℕ
-labelledCount [] = 0
-labelledCount (f ∷ fs) = labelled (f .relaxed) (length (f .rows)) + labelledCount fs
-
-pub labelled-rows : (fs : List Function) → labelledCount fs ≤ rowCount fs
-unfolding labelledCount rowCount
-labelled-rows [] = omega arith
-labelled-rows (f ∷ fs) = omega (arith, labelled-low (f .relaxed) (length (f .rows)), labelled-rows fs)
-
 module _ (s : Section) (m : Machine) where
-  part-few : (x : Spot) (sites : ℕ) (f : Function) → length (partRelocs s m x sites f) ≤ 5 + 2 * labelled (f .relaxed) (length (f .rows))
+  pub part-few : (x : Spot) (sites : ℕ) (f : Function) → length (partRelocs s m x sites f) ≤ 5 + 2 * labelled (f .relaxed) (length (f .rows))
   unfolding partRelocs
   part-few x sites f =
       rw length-append
@@ -121,22 +109,6 @@ module _ (s : Section) (m : Machine) where
         arith,
         front-few s m (x .earlier) (x .start) (keyOf m f),
         record-few (isDebug s) m (placeOf s m x f) (cieOf x) (sites + sitePad sites) f,
-      ))
-
-  relocs-none : (at sites : ℕ) (seen : List Seen) → relocsOf s m at sites seen [] ≡ []
-  unfolding relocsOf partsFrom joined
-  relocs-none at sites seen = refl
-
-  pub relocs-few : (at sites : ℕ) (seen : List Seen) (fs : List Function)
-      → length (relocsOf s m at sites seen fs) ≤ 5 * length fs + 2 * labelledCount fs
-  unfolding labelledCount
-  relocs-few at sites seen [] = rw (relocs-none at sites seen) (omega arith)
-  relocs-few at sites seen (f ∷ fs) =
-      rw (relocs-more s m at sites seen f fs, length-append)
-      (omega (
-        arith,
-        part-few (spotOf s m at seen f fs) sites f,
-        relocs-few (nextAt s m at seen f fs) (nextSites sites f) (nextSeen s m at seen f fs) fs,
       ))
 
 -- ---- call sites
@@ -148,39 +120,9 @@ sites-most (l ∷ ls) =
     simp length-append
     (omega (arith, uleb-most (l .start), uleb-most (l .size), uleb-most (l .pad), uleb-most 0, sites-most ls))
 
-added-few : (at : ℕ) (ls : List Landing) → length (siteAdded at ls) ≤ 17 + 40 * length ls
+pub added-few : (at : ℕ) (ls : List Landing) → length (siteAdded at ls) ≤ 17 + 40 * length ls
 unfolding siteAdded siteTable sitePad
 added-few at [] = omega arith
 added-few at (l ∷ ls) =
     simp (length-append, length-replicate {A = ℕ} (padding 4 at) 0)
     (omega (arith, padding-small 4 at (omega arith), uleb-most (length (sitesBytes (l ∷ ls))), sites-most (l ∷ ls)))
-
--- landings summed over the functions
-unfoldable pub landingCount : List Function → ℕ
-landingCount [] = 0
-landingCount (f ∷ fs) = length (f .landings) + landingCount fs
-
-part-sites : (o : Option ℕ) (s : Section) (m : Machine) (align at sites : ℕ) (f : Function) → partWith o s m align at sites f .sites ≡ siteAdded sites (f .landings)
-unfolding partWith
-part-sites none s m align at sites f = refl
-part-sites (some cie) s m align at sites f = refl
-
-module _ (s : Section) (m : Machine) where
-  sites-of : (at sites : ℕ) (seen : List Seen) (f : Function) (fs : List Function)
-      → partOf s m (isEmpty fs) at sites seen f .sites ≡ siteAdded sites (f .landings)
-  unfolding partOf
-  sites-of at sites seen f fs = part-sites _ s m _ at sites f
-
-  pub sites-few : (at sites : ℕ) (seen : List Seen) (fs : List Function)
-      → length (joined (map (λ p. p .sites) (partsFrom s m at sites seen fs))) ≤ 17 * length fs + 40 * landingCount fs
-  unfolding partsFrom joined landingCount
-  sites-few at sites seen [] = omega arith
-  sites-few at sites seen (f ∷ fs) =
-      let p : Part = partOf s m (isEmpty fs) at sites seen f in
-      rw length-append
-      (omega (
-        arith,
-        ap length (sites-of at sites seen f fs),
-        added-few sites (f .landings),
-        sites-few (at + length (p .bytes)) (sites + length (p .sites)) (seen ++ (record { key = keyOf m f; place = p .place } ∷ [])) fs,
-      ))

@@ -115,7 +115,7 @@ grows f h k (suc d) =
     let e : f (k + suc d) ≡ f (suc (k + d)) = ap f (omega arith) in
     omega (arith, h (k + d), grows f h k d)
 
-grown : (f : ℕ → ℕ) → ((k : ℕ) → f k ≤ f (suc k)) → (k n : ℕ) → k ≤ n → f k ≤ f n
+pub grown : (f : ℕ → ℕ) → ((k : ℕ) → f k ≤ f (suc k)) → (k n : ℕ) → k ≤ n → f k ≤ f n
 grown f h k n l =
     let e : k + (n - k) ≡ n = omega arith in
     rw e at (grows f h k (n - k))

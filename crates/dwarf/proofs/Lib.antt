@@ -22,3 +22,4 @@ pub mod Writing
 pub mod Outcomes
 pub mod Whole
 pub mod Working
+pub mod Surveying

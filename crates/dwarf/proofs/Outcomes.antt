@@ -15,23 +15,20 @@ use Rattle.format.specs.declared.Outcome.the-variants as outcome
 use Rattle.format.specs.declared.Question as declared
 use Rattle.format.specs.declared.Question.the-variants.{Yes, No}
 use Rattle.format.specs.Machine.{machineOf, machineOk}
-use Rattle.format.specs.Lists.{numbersOf, landingAt, listsOk}
+use Rattle.format.specs.Lists.{numbersOf, functionsOf, listsOk}
 use Rattle.format.specs.Questions.{Question, ask, andThen, perFunction, dwarfAsks, Given, Room, roomIn, Answer, refused, accepted, unless, fitting, roomAsks, givenAsks, givenFunctions, dwarfAnswer, dwarfGiven}
 use Rattle.format.specs.Answers.{outcomeOf, afterwards, relocationNumbers, Writes}
 use Rattle.format.proofs.Asked.{questionOf}
-use Rattle.format.specs.Writer.{taken, dwarf}
-use Rattle.lists.specs.declared.Extent.{Extent}
-use Rattle.lists.specs.Extents.{meant}
+use Rattle.format.specs.Writer.{taken}
 use Rattle.format.proofs.Accepted.{asked, both}
 use Rattle.format.proofs.ListLaws.{numbers-length}
 use Rattle.dwarf.specs.declared.Table.{Table}
-use Rattle.dwarf.specs.Asks.{askedIn}
+use Rattle.dwarf.specs.Asks.{askedIn, listedAnswer}
 use Rattle.dwarf.specs.Parts.{Inputs, countIn, extentIn, functionIn, placesIn, bytesIn, relocsIn, sitesIn, writtenIn, partsTo}
 use Rattle.lists.specs.Room.{roomFor}
 use Rattle.dwarf.specs.Tables.{totalsIn, countsOf, Covers, Written, Holds}
 use Rattle.dwarf.proofs.Asking.{said-yes}
-use Rattle.dwarf.proofs.Cleared.{inputsOf}
-use Rattle.dwarf.proofs.Bodies.{encodings-any}
+use Rattle.dwarf.proofs.Bodies.{asks-body}
 use Rattle.dwarf.proofs.Fronts.{places-length, functions-each, written-parts}
 
 -- ---- refusals
@@ -125,60 +122,44 @@ module _ (x : Inputs) (places bytes relocs sites : List ℕ) (h : Holds x (count
 
 -- ---- the questions in front of them
 
-asks-same : (s : Section) (word k : ℕ) (e : Extent) (rows landings pairs : List ℕ)
-    → dwarfAsks s word k (meant e rows landings pairs) ≡ dwarfAsks s word k (meant e rows [] pairs)
-unfolding dwarfAsks meant
-asks-same s word k e rows landings pairs = rw (encodings-any (landingAt landings) (landingAt []) (e .«landings_at») word (e .landings))
-
 per-same : {A : Type 0} (ask : ℕ → A → Question) (f g : ℕ → A) (at n : ℕ) → ((k : ℕ) → ask k (f k) ≡ ask k (g k))
     → perFunction ask at (each f at n) ≡ perFunction ask at (each g at n)
 unfolding perFunction each
 per-same ask f g at zero h = refl
 per-same ask f g at (suc n) h = rw (h at, per-same ask f g (suc at) n h)
 
-module _ (s : Section) (g : Given) where
-  abbrev x : Inputs
-  x = inputsOf s g
-
-  asks-are : (word : ℕ) → perFunction (dwarfAsks s word) 0 (map (taken s) (givenFunctions g))
-      ≡ perFunction (dwarfAsks s word) 0 (each (askedIn s (g .functions) (g .rows) (g .pairs)) 0 (countIn x))
-  unfolding givenFunctions
-  asks-are word =
+module _ (x : Inputs) where
+  asks-are : perFunction (dwarfAsks (x .section) (x .machine .word)) 0 (map (taken (x .section)) (functionsOf (x .functions) (x .rows) (x .landings) (x .pairs)))
+      ≡ perFunction (dwarfAsks (x .section) (x .machine .word)) 0 (each (askedIn (x .section) (x .functions) (x .rows) (x .pairs)) 0 (countIn x))
+  asks-are =
       rw (functions-each x)
-      (per-same (dwarfAsks s word) (functionIn x) _ 0 (countIn x) (λ k. asks-same s word k (extentIn x k) (g .rows) (g .landings) (g .pairs)))
-
-  written-is : dwarf s (machineOf (g .machine)) (givenFunctions g) ≡ writtenIn (partsTo x (countIn x))
-  unfolding givenFunctions
-  written-is = written-parts x
-
-  module _ (m : machineOk (g .machine) ≡ true) (l : listsOk (g .functions) (g .rows) (g .landings) (g .pairs) ≡ true) where
-    pub given-yes : givenAsks g ≡ none
-    unfolding givenAsks ask andThen pick
-    given-yes = rw (m, l)
-
-    module _ {q : declared.Question} {word : ℕ} (w : word ≡ machineOf (g .machine) .word)
-        (k : q ≡ questionOf (perFunction (dwarfAsks s word) 0 (each (askedIn s (g .functions) (g .rows) (g .pairs)) 0 (countIn x)))) where
-      functions-asked : q ≡ questionOf (perFunction (dwarfAsks s (machineOf (g .machine) .word)) 0 (map (taken s) (givenFunctions g)))
-      functions-asked = k ∙ ap questionOf (rw w (sym (asks-are (machineOf (g .machine) .word))))
-
-      pub functions-yes : q ≡ Yes → perFunction (dwarfAsks s (machineOf (g .machine) .word)) 0 (map (taken s) (givenFunctions g)) ≡ none
-      functions-yes y = said-yes _ (sym functions-asked ∙ y)
-
-      module _ (r : Room) where
-        pub no-function : {i j : ℕ} → q ≡ No i j → dwarfGiven s g r ≡ refused i j
-        unfolding dwarfGiven dwarfAnswer unless
-        no-function n = rw given-yes (no-decides _ _ (sym functions-asked ∙ n))
-
-        pub all-yes : q ≡ Yes → dwarfGiven s g r ≡ fitting r (writtenIn (partsTo x (countIn x)))
-        unfolding dwarfGiven dwarfAnswer unless
-        all-yes y = rw (given-yes, functions-yes y) (ap (fitting r) written-is)
+      (per-same (dwarfAsks (x .section) (x .machine .word)) (functionIn x) _ 0 (countIn x)
+      (λ k. asks-body (x .section) (x .machine .word) k (extentIn x k) (x .rows) (x .landings) (x .pairs)))
 
   module _ (r : Room) where
-    pub no-machine : machineOk (g .machine) ≡ false → dwarfGiven s g r ≡ refused 11 0
-    unfolding dwarfGiven givenAsks ask andThen unless pick
-    no-machine m = rw m
+    abbrev listed : Answer
+    listed = listedAnswer (x .section) (x .machine) (x .functions) (x .rows) (x .landings) (x .pairs) r
 
-    pub no-lists : machineOk (g .machine) ≡ true → listsOk (g .functions) (g .rows) (g .landings) (g .pairs) ≡ false
-        → dwarfGiven s g r ≡ refused 13 0
-    unfolding dwarfGiven givenAsks ask andThen unless pick
-    no-lists m l = rw (m, l)
+    pub no-lists : listsOk (x .functions) (x .rows) (x .landings) (x .pairs) ≡ false → listed ≡ refused 13 0
+    unfolding listedAnswer ask unless pick
+    no-lists l = rw l
+
+    module _ (l : listsOk (x .functions) (x .rows) (x .landings) (x .pairs) ≡ true) {q : declared.Question}
+        (k : q ≡ questionOf (perFunction (dwarfAsks (x .section) (x .machine .word)) 0 (each (askedIn (x .section) (x .functions) (x .rows) (x .pairs)) 0 (countIn x)))) where
+      pub no-function : {i j : ℕ} → q ≡ No i j → listed ≡ refused i j
+      unfolding listedAnswer dwarfAnswer ask unless pick
+      no-function n = rw (l, asks-are) (no-decides _ _ (sym k ∙ n))
+
+      pub all-yes : q ≡ Yes → listed ≡ fitting r (writtenIn (partsTo x (countIn x)))
+      unfolding listedAnswer dwarfAnswer ask unless pick
+      all-yes y = rw (l, asks-are, said-yes _ (sym k ∙ y)) (ap (fitting r) (written-parts x))
+
+module _ (s : Section) (g : Given) (r : Room) where
+  pub no-machine : machineOk (g .machine) ≡ false → dwarfGiven s g r ≡ refused 11 0
+  unfolding dwarfGiven givenAsks ask andThen unless pick
+  no-machine m = rw m
+
+  pub machine-yes : machineOk (g .machine) ≡ true
+      → dwarfGiven s g r ≡ listedAnswer s (machineOf (g .machine)) (g .functions) (g .rows) (g .landings) (g .pairs) r
+  unfolding dwarfGiven givenAsks givenFunctions listedAnswer ask andThen pick
+  machine-yes m = rw m

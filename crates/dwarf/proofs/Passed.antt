@@ -14,9 +14,11 @@ use Rattle.format.proofs.Choice.{pick-yes}
 use Rattle.format.proofs.ListLaws.{chained, in-range}
 use Rattle.lists.specs.declared.Extent.{Extent}
 use Rattle.lists.specs.Extents.{extentAt}
+use Rattle.lists.specs.Parts.{rangesOkAt, namedOkAt, relaxedOkAt, outlineOkAt, sumsOk}
+use Rattle.lists.proofs.Outlines.{function-is, lists-is}
 use Rattle.header_keys.specs.Functions.{takenIn, without, RowsReady, LandingsReady, PairsReady, Listed}
 use Rattle.headers.specs.Kinds.{EncodingFits}
-use Rattle.dwarf.specs.Asks.{Askable, AllAskable}
+use Rattle.dwarf.specs.Asks.{AllAskable}
 
 -- ---- sums and marks
 
@@ -42,10 +44,10 @@ marked n b t m = ⊎-elim (λ z. absurd (eqb-no {a = n} {b = 0} m (eqb-yes z))) 
 
 -- ---- what a section takes of a function
 
-taken-askable : (s : Section) (e : Extent) (rows pairs : List ℕ) → Askable e rows pairs → Askable (takenIn s e) rows pairs
+taken-pairs : (s : Section) (e : Extent) (pairs : List ℕ) → (e .relaxed ≡ true → PairsReady e pairs) → takenIn s e .relaxed ≡ true → PairsReady (takenIn s e) pairs
 unfolding takenIn without
-taken-askable Elf e rows pairs a = a
-taken-askable Debug e rows pairs a = record { ready = a .ready; paired = λ t. record { inside = a .paired t .inside; few = a .paired t .few } }
+taken-pairs Elf e pairs a = a
+taken-pairs Debug e pairs a = λ t. record { inside = a t .inside; few = a t .few }
 
 taken-landings : (s : Section) (e : Extent) (landings : List ℕ) → LandingsReady e landings → LandingsReady (takenIn s e) landings
 unfolding takenIn without
@@ -57,7 +59,7 @@ unfolding takenIn without
 taken-encoding Elf e h = h
 taken-encoding Debug e h = λ (p : false ≡ true). let z : _≡_ {A = ℕ} 0 1 = cc in absurd (omega arith)
 
-taken-range : (s : Section) (e : Extent) → (takenIn s e .«rows_at» ≡ e .«rows_at») × (takenIn s e .rows ≡ e .rows)
+pub taken-range : (s : Section) (e : Extent) → (takenIn s e .«rows_at» ≡ e .«rows_at») × (takenIn s e .rows ≡ e .rows)
 unfolding takenIn without
 taken-range Elf e = (refl, refl)
 taken-range Debug e = (refl, refl)
@@ -65,81 +67,97 @@ taken-range Debug e = (refl, refl)
 -- ---- question 13
 
 module _ (fs rows landings pairs : List ℕ) where
-  -- what it says of function k
-  record OneListed (k : ℕ) : Type 0 where
+  -- what it says of function k without its rows
+  record Outlined (k : ℕ) : Type 0 where
     rows-inside : T (inside (field functionStride fs k 2) (field functionStride fs k 3) (count rowStride rows))
-    rows-ok : T (allIn (rowOkAt rows) (field functionStride fs k 2) (field functionStride fs k 3))
     landings-inside : T (inside (field functionStride fs k 4) (field functionStride fs k 5) (count landingStride landings))
     named : T (mark (field functionStride fs k 8)) → T (pointerOk (field functionStride fs k 9) (field functionStride fs k 10))
     relaxed : T (mark (field functionStride fs k 14)) → T (inside (field functionStride fs k 16) (field functionStride fs k 17) (count pairStride pairs))
 
-  one-listed : (k : ℕ) → T (functionOkAt fs rows landings pairs k) → OneListed k
-  unfolding functionOkAt
-  one-listed k t =
+  outlined : (k : ℕ) → T (outlineOkAt fs rows landings pairs k) → Outlined k
+  unfolding outlineOkAt rangesOkAt namedOkAt relaxedOkAt
+  outlined k t =
       let f : ℕ → ℕ = λ j. field functionStride fs k j in
       let named : Bool = pointerOk (f 9) (f 10) && markOk (f 11) && whenMarked (f 11) (pointerOk (f 12) (f 13)) in
       let labels : Bool = symbolOk (f 15) && inside (f 16) (f 17) (count pairStride pairs) && allIn (pairOkAt pairs) (f 16) (f 17) in
       let says = chained (symbolOk (f 0)) (
-      inside (f 2) (f 3) (count rowStride rows) ∷ allIn (rowOkAt rows) (f 2) (f 3) ∷ inside (f 4) (f 5) (count landingStride landings)
+      inside (f 2) (f 3) (count rowStride rows) ∷ inside (f 4) (f 5) (count landingStride landings)
       ∷ markOk (f 6) ∷ markOk (f 7) ∷ markOk (f 8)
       ∷ whenMarked (f 8) named ∷ markOk (f 14) ∷ whenMarked (f 14) labels ∷ []) in
       record {
         rows-inside = says 1 t;
-        rows-ok = says 2 t;
-        landings-inside = says 3 t;
+        landings-inside = says 2 t;
         named =
             λ m. chained (pointerOk (f 9) (f 10)) (markOk (f 11) ∷ whenMarked (f 11) (pointerOk (f 12) (f 13)) ∷ []) 0
-            (marked (f 8) named (says 7 t) m);
+            (marked (f 8) named (says 6 t) m);
         relaxed =
             λ m. chained (symbolOk (f 15)) (inside (f 16) (f 17) (count pairStride pairs) ∷ allIn (pairOkAt pairs) (f 16) (f 17) ∷ []) 1
-            (marked (f 14) labels (says 9 t) m);
+            (marked (f 14) labels (says 8 t) m);
       }
 
-  -- and of all of them together
-  record AllListed : Type 0 where
-    rows-few : sumOf (λ k. field functionStride fs k 3) 0 (count functionStride fs) ≤ mostRecords
-    landings-few : sumOf (λ k. field functionStride fs k 5) 0 (count functionStride fs) ≤ mostRecords
-    pairs-few : sumOf (pairsIn fs) 0 (count functionStride fs) ≤ mostRecords
-    functions-at-most : count functionStride fs ≤ mostFunctions
-    ones : T (allIn (functionOkAt fs rows landings pairs) 0 (count functionStride fs))
+  -- of a function as a whole, and of all of them
+  pub of-function : (k : ℕ) → T (functionOkAt fs rows landings pairs k)
+      → T (outlineOkAt fs rows landings pairs k) × T (allIn (rowOkAt rows) (field functionStride fs k 2) (field functionStride fs k 3))
+  of-function k t = and-yes (outlineOkAt fs rows landings pairs k) _ (subst T (function-is fs rows landings pairs k) t)
 
-  all-listed : T (listsOk fs rows landings pairs) → AllListed
-  unfolding listsOk
-  all-listed t =
-      let n : ℕ = count functionStride fs in
-      let says = chained (leb n mostFunctions) (
-      leb (sumOf (λ k. field functionStride fs k 3) 0 n) mostRecords ∷ leb (sumOf (λ k. field functionStride fs k 5) 0 n) mostRecords
-      ∷ leb (sumOf (pairsIn fs) 0 n) mostRecords ∷ allIn (functionOkAt fs rows landings pairs) 0 n ∷ []) in
-      record {
-        functions-at-most = leb→le n mostFunctions (says 0 t);
-        rows-few = leb→le (sumOf (λ k. field functionStride fs k 3) 0 n) mostRecords (says 1 t);
-        landings-few = leb→le (sumOf (λ k. field functionStride fs k 5) 0 n) mostRecords (says 2 t);
-        pairs-few = leb→le (sumOf (pairsIn fs) 0 n) mostRecords (says 3 t);
-        ones = says 4 t;
-      }
+  pub of-lists : T (listsOk fs rows landings pairs) → T (sumsOk fs) × T (allIn (functionOkAt fs rows landings pairs) 0 (count functionStride fs))
+  of-lists t = and-yes (sumsOk fs) _ (subst T (lists-is fs rows landings pairs) t)
 
-  module _ (t : T (listsOk fs rows landings pairs)) (k : ℕ) (h : k < count functionStride fs) where
-    one : OneListed k
-    one =
-        let e : 0 + k ≡ k = omega arith in
-        one-listed k (rw e at (in-range (functionOkAt fs rows landings pairs) 0 (count functionStride fs) k (all-listed t .ones) h))
+  within : (at n size : ℕ) → T (inside at n size) → at + n ≤ size
+  unfolding inside
+  within at n size i = leb→le (at + n) size i
 
-    within : (at n size : ℕ) → T (inside at n size) → at + n ≤ size
-    unfolding inside
-    within at n size i = leb→le (at + n) size i
+-- of the counts
+pub record Counted (fs : List ℕ) : Type 0 where
+  pub rows-few : sumOf (λ k. field functionStride fs k 3) 0 (count functionStride fs) ≤ mostRecords
+  pub landings-few : sumOf (λ k. field functionStride fs k 5) 0 (count functionStride fs) ≤ mostRecords
+  pub pairs-few : sumOf (pairsIn fs) 0 (count functionStride fs) ≤ mostRecords
+  pub functions-at-most : count functionStride fs ≤ mostFunctions
 
-    ready : RowsReady rows (field functionStride fs k 2) (field functionStride fs k 3)
-    ready = record { inside = within _ _ _ (one .rows-inside); ok = one .rows-ok }
+pub counted : (fs : List ℕ) → T (sumsOk fs) → Counted fs
+unfolding sumsOk
+counted fs t =
+    let n : ℕ = count functionStride fs in
+    let says = chained (leb n mostFunctions) (
+    leb (sumOf (λ k. field functionStride fs k 3) 0 n) mostRecords ∷ leb (sumOf (λ k. field functionStride fs k 5) 0 n) mostRecords
+    ∷ leb (sumOf (pairsIn fs) 0 n) mostRecords ∷ []) in
+    record {
+      functions-at-most = leb→le n mostFunctions (says 0 t);
+      rows-few = leb→le (sumOf (λ k. field functionStride fs k 3) 0 n) mostRecords (says 1 t);
+      landings-few = leb→le (sumOf (λ k. field functionStride fs k 5) 0 n) mostRecords (says 2 t);
+      pairs-few = leb→le (sumOf (pairsIn fs) 0 n) mostRecords (says 3 t);
+    }
 
-    rows-short : field functionStride fs k 3 ≤ mostRecords
-    rows-short = omega (arith, in-total (λ j. field functionStride fs j 3) (count functionStride fs) k h, all-listed t .rows-few)
+-- ---- what the counts and function k's outline say of it
+
+module _ (fs rows landings pairs : List ℕ) (few : Counted fs) (k : ℕ) (h : k < count functionStride fs) where
+  rows-short : field functionStride fs k 3 ≤ mostRecords
+  rows-short = omega (arith, in-total (λ j. field functionStride fs j 3) (count functionStride fs) k h, few .rows-few)
+
+  pub rows-few-at : (s : Section) → takenIn s (extentAt fs k) .rows ≤ mostRecords
+  unfolding extentAt
+  rows-few-at s = rw (taken-range s (extentAt fs k) .1) rows-short
+
+  module _ (t : T (outlineOkAt fs rows landings pairs k)) where
+    one : Outlined fs rows landings pairs k
+    one = outlined fs rows landings pairs k t
+
+    rows-within : field functionStride fs k 2 + field functionStride fs k 3 ≤ count rowStride rows
+    rows-within = within fs rows landings pairs _ _ _ (one .rows-inside)
+
+    pub rows-taken : (s : Section) → takenIn s (extentAt fs k) .«rows_at» + takenIn s (extentAt fs k) .rows ≤ count rowStride rows
+    unfolding extentAt
+    rows-taken s = rw (taken-range s (extentAt fs k) .0, taken-range s (extentAt fs k) .1) rows-within
 
     landings-ready : LandingsReady (extentAt fs k) landings
     unfolding extentAt
     landings-ready = record {
-      inside = within _ _ _ (one .landings-inside);
-      few = omega (arith, in-total (λ j. field functionStride fs j 5) (count functionStride fs) k h, all-listed t .landings-few);
+      inside = within fs rows landings pairs _ _ _ (one .landings-inside);
+      few = omega (arith, in-total (λ j. field functionStride fs j 5) (count functionStride fs) k h, few .landings-few);
     }
+
+    pub landings-taken : (s : Section) → LandingsReady (takenIn s (extentAt fs k)) landings
+    landings-taken s = taken-landings s (extentAt fs k) landings landings-ready
 
     pairs-ready : extentAt fs k .relaxed ≡ true → PairsReady (extentAt fs k) pairs
     unfolding extentAt pairsIn
@@ -147,9 +165,12 @@ module _ (fs rows landings pairs : List ℕ) where
         let m : T (mark (field functionStride fs k 14)) = subst T (sym e) tt in
         let p : pairsIn fs k ≡ field functionStride fs k 17 = pick-yes (mark (field functionStride fs k 14)) _ 0 m in
         record {
-          inside = within _ _ _ (one .relaxed m);
-          few = omega (arith, in-total (pairsIn fs) (count functionStride fs) k h, all-listed t .pairs-few);
+          inside = within fs rows landings pairs _ _ _ (one .relaxed m);
+          few = omega (arith, in-total (pairsIn fs) (count functionStride fs) k h, few .pairs-few);
         }
+
+    pub pairs-taken : (s : Section) → takenIn s (extentAt fs k) .relaxed ≡ true → PairsReady (takenIn s (extentAt fs k)) pairs
+    pairs-taken s = taken-pairs s (extentAt fs k) pairs pairs-ready
 
     byte : (encoding symbol : ℕ) → T (pointerOk encoding symbol) → encoding < 256
     unfolding pointerOk
@@ -162,32 +183,37 @@ module _ (fs rows landings pairs : List ℕ) where
     pub encoding-taken : (s : Section) → EncodingFits (takenIn s (extentAt fs k))
     encoding-taken s = taken-encoding s (extentAt fs k) encoding-at
 
-    askable-at : Askable (extentAt fs k) rows pairs
-    unfolding extentAt
-    askable-at = record { ready = ready; paired = pairs-ready }
+    module _ (r : T (allIn (rowOkAt rows) (field functionStride fs k 2) (field functionStride fs k 3))) where
+      pub ready : RowsReady rows (field functionStride fs k 2) (field functionStride fs k 3)
+      ready = record { inside = rows-within; ok = r }
 
-    pub askable : (s : Section) → Askable (takenIn s (extentAt fs k)) rows pairs
-    askable s = taken-askable s (extentAt fs k) rows pairs askable-at
+      pub ready-taken : (s : Section) → RowsReady rows (takenIn s (extentAt fs k) .«rows_at») (takenIn s (extentAt fs k) .rows)
+      unfolding extentAt
+      ready-taken s = rw (taken-range s (extentAt fs k) .0, taken-range s (extentAt fs k) .1) ready
 
-    pub landings-taken : (s : Section) → LandingsReady (takenIn s (extentAt fs k)) landings
-    landings-taken s = taken-landings s (extentAt fs k) landings landings-ready
+-- ---- what accepted lists say
 
-    pub rows-few-at : (s : Section) → takenIn s (extentAt fs k) .rows ≤ mostRecords
-    unfolding extentAt
-    rows-few-at s = rw (taken-range s (extentAt fs k) .1) rows-short
+module _ (fs rows landings pairs : List ℕ) (t : T (listsOk fs rows landings pairs)) where
+  pub all-counted : Counted fs
+  all-counted = counted fs (of-lists fs rows landings pairs t .0)
 
-  module _ (t : T (listsOk fs rows landings pairs)) where
-    pub all-askable : (s : Section) → AllAskable s fs rows pairs
-    all-askable s = record { each-one = λ k h. askable t k h s }
+  -- function k's outline and its rows
+  pub function-listed : (k : ℕ) → k < count functionStride fs
+      → T (outlineOkAt fs rows landings pairs k) × T (allIn (rowOkAt rows) (field functionStride fs k 2) (field functionStride fs k 3))
+  function-listed k h =
+      let e : 0 + k ≡ k = omega arith in
+      of-function fs rows landings pairs k
+      (rw e at (in-range (functionOkAt fs rows landings pairs) 0 (count functionStride fs) k (of-lists fs rows landings pairs t .1) h))
 
-    pub functions-few : count functionStride fs ≤ mostFunctions
-    functions-few = all-listed t .functions-at-most
+  pub all-askable : (s : Section) → AllAskable s fs rows pairs
+  all-askable s = record {
+    each-one = λ k h.
+        let o = function-listed k h in
+        record { ready = ready-taken fs rows landings pairs all-counted k h (o .0) (o .1) s; paired = pairs-taken fs rows landings pairs all-counted k h (o .0) s };
+  }
 
-    pub rows-few-in : sumOf (λ k. field functionStride fs k 3) 0 (count functionStride fs) ≤ mostRecords
-    rows-few-in = all-listed t .rows-few
-
-    pub landings-few-in : sumOf (λ k. field functionStride fs k 5) 0 (count functionStride fs) ≤ mostRecords
-    landings-few-in = all-listed t .landings-few
-
-    pub listed : (n : ℕ) → n ≤ count functionStride fs → Listed fs rows n
-    listed n h = record { within = omega arith; rows-ready = λ j l. ready t j (omega arith) }
+  pub listed : (n : ℕ) → n ≤ count functionStride fs → Listed fs rows n
+  listed n h = record {
+    within = omega arith;
+    rows-ready = λ j l. let o = function-listed j (omega arith) in ready fs rows landings pairs all-counted j (omega arith) (o .0) (o .1);
+  }

@@ -10,7 +10,12 @@ use Rattle.format.specs.declared.Machine.{Machine}
 use Rattle.format.specs.declared.Section.{Section}
 use Rattle.format.specs.Writer.{isDebug, alignFor, joined}
 use Rattle.format.specs.Lists.{numbersOf}
+use Rattle.format.proofs.FieldsBack.{word-small}
+use Rattle.rows.proofs.WholeNumbers.{word-least}
 use Rattle.lists.specs.declared.Extent.{Extent}
+use Rattle.lists.specs.Extents.{meant}
+use Rattle.header_keys.specs.Functions.{Sound}
+use Rattle.records.specs.Stepped.{SteppedReady}
 use Rattle.owners.specs.Owners.{owner}
 use Rattle.owners.specs.Chains.{Owned}
 use Rattle.dwarf.specs.declared.Table.{Table}
@@ -20,6 +25,18 @@ use Rattle.dwarf.specs.Tables.{nothing, totalsIn, grownBy, Small, SizeRe
 use Rattle.dwarf.specs.Writable.{Cleared, Next}
 use Rattle.dwarf.proofs.Alignment.{align-ok}
 use Rattle.dwarf.proofs.Totals.{sized-next}
+
+-- ---- a function's rows
+
+pub rows-ready : {m : Machine} {e : Extent} {rows : List ℕ} → Sound m e rows → SteppedReady (m .word) rows (e .«rows_at») (e .rows)
+unfolding meant
+rows-ready {m} s = record {
+  word-low = word-least (m .word) (s .machine .is-word);
+  word-high = word-small (m .word) (s .machine .is-word) .1;
+  ready = s .ready;
+  few = s .few;
+  lines = s .lines;
+}
 
 -- ---- function k
 

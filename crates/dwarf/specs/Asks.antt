@@ -1,10 +1,12 @@
--- What the questions of one function and of all may rely on.
+-- What the questions of one function and of all may rely on, and the answer behind question 11.
 use mathlib.Core.Path.{_≡_}
 use mathlib.Core.Bool.{true}
 use Prim.Native.Nat.{ℕ, _<_}
 use mathlib.Core.List.{List, []}
+use Rattle.format.specs.declared.Machine.{Machine}
 use Rattle.format.specs.declared.Section.{Section}
-use Rattle.format.specs.Lists.{Function, count, functionStride}
+use Rattle.format.specs.Lists.{Function, count, functionStride, functionsOf, listsOk}
+use Rattle.format.specs.Questions.{Answer, Room, ask, unless, dwarfAnswer}
 use Rattle.lists.specs.declared.Extent.{Extent}
 use Rattle.lists.specs.Extents.{extentAt, meant}
 use Rattle.header_keys.specs.Functions.{takenIn, RowsReady, PairsReady}
@@ -20,3 +22,7 @@ pub record AllAskable (s : Section) (fs rows pairs : List ℕ) : Type 0 where
 -- function k as the questions see it: they only ask whether there are landings
 abbrev pub askedIn : Section → (fs rows pairs : List ℕ) → ℕ → Function
 askedIn s fs rows pairs k = meant (takenIn s (extentAt fs k)) rows [] pairs
+
+-- the answer of a section's writer for a machine that passes question 11
+unfoldable pub listedAnswer : Section → Machine → (fs rows landings pairs : List ℕ) → Room → Answer
+listedAnswer s m fs rows landings pairs r = unless (ask (listsOk fs rows landings pairs) 13 0) (dwarfAnswer s m (functionsOf fs rows landings pairs) r)

@@ -4,3 +4,4 @@ pub mod Parts
 pub mod Pieces
 pub mod Writable
 pub mod Tables
+pub mod Surveys

@@ -1,6 +1,6 @@
 // The DWARF sections: questions 21 to 25, sizes, 51 to 54, and the writing of them. Ported from rucc-asm/src/unwind.rs (dwarf, relaxed_debug_frame, Table) of tamnd/rucc, changed: see NOTICE.
 ghost use mathlib.Core.Path.{_≡_};
-ghost use Prim.Native.Nat.{_+_, _*_, _^_, _≤_, _<_};
+ghost use Prim.Native.Nat.{ℕ, _+_, _*_, _^_, _≤_, _<_};
 ghost use mathlib.Core.Bool.{true, not};
 ghost use mathlib.Core.List.{[]};
 ghost use lib.Dec.{T, ltb, eqb};
@@ -13,15 +13,19 @@ ghost use Rattle.format.specs.Questions.{sizeBytes, encodingsOk, stepsOk, pairs
 ghost use Rattle.format.specs.Writer.{isDebug, alignFor};
 ghost use Rattle.format.specs.Answers.{Writes};
 ghost use Rattle.format.proofs.Asked.{questionOf};
-ghost use Rattle.lists.specs.Extents.{meant};
+ghost use Rattle.format.proofs.Fits.{MachineFits};
+ghost use Rattle.lists.specs.Extents.{extentAt, meant};
+ghost use Rattle.lists.specs.Parts.{sumsOk};
 ghost use Rattle.lists.specs.Room.{roomFor};
 ghost use Rattle.format.proofs.SectionSize.{Aligned};
-ghost use Rattle.header_keys.specs.Functions.{bodyOf, Sound, RowsReady, PairsReady};
-ghost use Rattle.dwarf.specs.Asks.{Askable, AllAskable, askedIn};
+ghost use Rattle.header_keys.specs.Functions.{takenIn, bodyOf, Sound, RowsReady, PairsReady};
+ghost use Rattle.dwarf.specs.Asks.{Askable, AllAskable, askedIn, listedAnswer};
 ghost use Rattle.dwarf.specs.Parts.{inputs, writtenIn, partsTo};
 ghost use Rattle.dwarf.specs.Writable.{Cleared, Next, PartReady};
 ghost use Rattle.dwarf.specs.Tables.{totalsIn, grownBy, SizeReady, labelledRows, mostIn, Few, countsOf, FrontReady, FrontStored, PieceReady, Stored, Added, Written, Holds, chosenBy};
-ghost use Rattle.owners.specs.Chains.{Owned, Unused};
+ghost use Rattle.owners.specs.Chains.{Owned, Enough, Unused};
+ghost use Rattle.records.specs.Stepped.{rowsIn};
+ghost use Rattle.dwarf.specs.Surveys.{rowsSize, FunctionSurveyed, AllSurveyed};
 ghost use Rattle.dwarf.specs.Pieces.{frontIn, relocNumbers, partIn};
 use format::Counts;
 use format::Machine;
@@ -41,14 +45,18 @@ use lists::extent_at;
 use lists::lists_ok;
 use lists::machine_of;
 use lists::machine_ok;
+use lists::outline_ok;
+use lists::sums_ok;
 use numbers::pointer_size;
 use owners::position;
+use records::RowsSize;
 use records::call_sites;
 use records::call_sites_size;
 use records::record;
 use records::record_relocs;
 use records::record_relocs_count;
 use records::record_size;
+use records::surveyed_rows;
 use rows::offset_at;
 use rows::row_at;
 use rows::row_surely_whole;
@@ -114,7 +122,7 @@ fn steps_ok(rows: &[u64], at: usize, n: usize) -> bool
         if to < from {
             return false;
         }
-        if 4294967296 <= to - from {
+        if rows::STEPS <= to - from {
             return false;
         }
         from = to;
@@ -152,7 +160,7 @@ fn lines_fine(word: u64, rows: &[u64], at: usize, n: usize) -> bool
         if to < from {
             return false;
         }
-        if 4294967296 <= to - from {
+        if rows::STEPS <= to - from {
             return false;
         }
         if !row_surely_whole(word, rows, i) {
@@ -341,8 +349,10 @@ fn relocs_size(own: bool, debug: bool, m: Machine, e: Extent, rows: &[u64], pair
     relocs::RELOCATION_STRIDE * n
 }
 
-// What stands behind a function that is behind t. The place of a header that it does not own does not matter.
+// What stands behind a function that is behind t and whose rows have `size` bytes. The place of a header that it does not own
+// does not matter.
 fn sized(
+    size: usize,
     own: bool,
     debug: bool,
     m: Machine,
@@ -353,18 +363,18 @@ fn sized(
     landings: &[u64],
     pairs: &[u64],
 ) -> Table
-    requires { ⌜ SizeReady own debug m align e t (now rows) (now landings) (now pairs) ⌝ }
+    requires { ⌜ SizeReady own debug m align e t (now rows) (now landings) (now pairs) × (size ≡ length (rowsIn (m .word) 0 (now rows) (e .«rows_at») (e .rows))) ⌝ }
     ensures { λ r. ⌜ r ≡ grownBy t (partIn own debug m align (t .bytes) 0 (t .sites) e (now (rows .entry)) (now (landings .entry)) (now (pairs .entry))) ⌝ }
 {
     let behind = t.bytes + front_size(own, debug, m, align, t.bytes, e, rows);
     Table {
-        bytes: behind + record_size(debug, m, align, behind, e, rows),
+        bytes: behind + record_size(debug, m, align, behind, e, rows, size),
         relocations: t.relocations + relocs_size(own, debug, m, e, rows, pairs),
         sites: t.sites + call_sites_size(t.sites, e, landings),
     }
 }
 
-// What stands behind function k of n, behind t.
+// What stands behind function k of n, behind t, where its rows have `size` bytes.
 fn size_next(
     s: Section,
     m: Machine,
@@ -375,15 +385,36 @@ fn size_next(
     owners: &[u16],
     k: usize,
     n: usize,
+    size: usize,
     t: Table,
 ) -> Table
-    requires { ⌜ Next (inputs s m (now fs) (now rows) (now landings) (now pairs)) k n t × Owned s m (now fs) (now rows) (k + 1) (now owners) ⌝ }
+    requires { ⌜ Next (inputs s m (now fs) (now rows) (now landings) (now pairs)) k n t × Owned s m (now fs) (now rows) (k + 1) (now owners) × (size ≡ rowsSize (inputs s m (now fs) (now rows) (now landings) (now pairs)) k) ⌝ }
     ensures { λ r. ⌜ r ≡ totalsIn (partsTo (inputs s m (now (fs .entry)) (now (rows .entry)) (now (landings .entry)) (now (pairs .entry))) (k + 1)) ⌝ }
 {
     let e = taken(s, extent_at(fs, k));
     let own = position(owners[k]) == k;
     let align = align_for(s, m.word, k + 1 == n);
-    sized(own, is_debug(s), m, align, e, t, rows, landings, pairs)
+    sized(
+        size,
+        own,
+        is_debug(s),
+        m,
+        align,
+        e,
+        t,
+        rows,
+        landings,
+        pairs,
+    )
+}
+
+// The bytes of function k's rows, with the steps between them.
+fn rows_size(s: Section, m: Machine, fs: &[u64], rows: &[u64], k: usize) -> usize
+    requires { ⌜ (18 * k + 18 ≤ length (now fs)) × Sound m (takenIn s (extentAt (now fs) k)) (now rows) ⌝ }
+    ensures { λ r. ⌜ r ≡ rowsSize (inputs s m (now (fs .entry)) (now (rows .entry)) [] []) k ⌝ }
+{
+    let e = taken(s, extent_at(fs, k));
+    records::stepped_rows_size(m.word, rows, e.rows_at, e.rows)
 }
 
 // What stands behind all functions.
@@ -403,10 +434,86 @@ fn sizes(
     let mut t = Table::NOTHING;
     let mut k = 0;
     while k < n {
-        t = size_next(s, m, fs, rows, landings, pairs, owners, k, n, t);
+        let size = rows_size(s, m, fs, rows, k);
+        t = size_next(s, m, fs, rows, landings, pairs, owners, k, n, size, t);
         k += 1;
     }
     t
+}
+
+// ---- questions, owners and sizes in one pass
+
+// What stands behind all functions, where one pass saw that they pass questions 13 and 21 to 25.
+pub enum Surveyed {
+    Behind(Table),
+    Unsure,
+}
+
+// Questions 21, 22 and 25 of a function, as the section takes it.
+fn fields_ok(s: Section, word: u64, e: Extent, pairs: &[u64]) -> bool
+    requires { ⌜ T (isWord word) × (e .relaxed ≡ true → PairsReady e (now pairs)) ⌝ }
+    ensures { λ r. ⌜ (r ≡ true → (ltb (e .length) (256 ^ sizeBytes s word) ≡ true) × (encodingsOk word (bodyOf e [] .landings) (bodyOf e [] .named) ≡ true) × (pairsOk (meant e [] [] (now (pairs .entry)) .relaxed) ≡ true)) ⌝ }
+{
+    if !size_ok(s, word, e.length) {
+        return false;
+    }
+    if !encodings_ok(word, e) {
+        return false;
+    }
+    pairs_ok(e, pairs)
+}
+
+// The bytes of function k's rows, where it passes questions 13 and 21 to 25.
+fn function_surveyed(
+    s: Section,
+    m: Machine,
+    fs: &[u64],
+    rows: &[u64],
+    landings: &[u64],
+    pairs: &[u64],
+    k: usize,
+) -> RowsSize
+    requires { ⌜ MachineFits m × T (sumsOk (now fs)) × (k < count functionStride (now fs)) ⌝ }
+    ensures { λ r. ⌜ FunctionSurveyed (inputs s m (now (fs .entry)) (now (rows .entry)) (now (landings .entry)) (now (pairs .entry))) k r ⌝ }
+{
+    if !outline_ok(fs, rows, landings, pairs, k) {
+        return RowsSize::Unsure;
+    }
+    let e = taken(s, extent_at(fs, k));
+    if !fields_ok(s, m.word, e, pairs) {
+        return RowsSize::Unsure;
+    }
+    surveyed_rows(m.word, rows, e.rows_at, e.rows)
+}
+
+// The functions' owners, and what stands behind the functions, where all pass questions 13 and 21 to 25.
+fn survey(
+    s: Section,
+    m: Machine,
+    fs: &[u64],
+    rows: &[u64],
+    landings: &[u64],
+    pairs: &[u64],
+    heads: &mut [u16],
+    links: &mut [u16],
+    owners: &mut [u16],
+) -> Surveyed
+    requires { ⌜ MachineFits m × T (sumsOk (now fs)) × Unused (count functionStride (now fs)) (now heads) (now links) (now owners) ⌝ }
+    ensures { λ r. ⌜ AllSurveyed (inputs s m (now (fs .entry)) (now (rows .entry)) (now (landings .entry)) (now (pairs .entry))) (now (owners .exit)) r × Enough (count functionStride (now (fs .entry))) (length (now (heads .exit))) (now (links .exit)) (now (owners .exit)) ⌝ }
+{
+    let n = fs.len() / lists::FUNCTION_STRIDE;
+    let mut t = Table::NOTHING;
+    let mut k = 0;
+    while k < n {
+        let v = function_surveyed(s, m, fs, rows, landings, pairs, k);
+        let RowsSize::Bytes(size) = v else {
+            return Surveyed::Unsure;
+        };
+        owners::find_owner(s, m, fs, rows, k, heads, links, owners);
+        t = size_next(s, m, fs, rows, landings, pairs, owners, k, n, size, t);
+        k += 1;
+    }
+    Surveyed::Behind(t)
 }
 
 // ---- what the functions can be at most
@@ -690,8 +797,8 @@ fn stored(
     })
 }
 
-// The functions sized and, where there is room, written.
-fn measured(
+// The functions written where there is room for t, which stands behind them.
+fn roomed(
     s: Section,
     m: Machine,
     fs: &[u64],
@@ -699,16 +806,16 @@ fn measured(
     landings: &[u64],
     pairs: &[u64],
     owners: &[u16],
+    t: Table,
     places: &mut [u64],
     out: &mut [u8],
     relocs: &mut [u64],
     sites: &mut [u8],
 ) -> Outcome
-    requires { ⌜ Cleared (inputs s m (now fs) (now rows) (now landings) (now pairs)) × Owned s m (now fs) (now rows) (count functionStride (now fs)) (now owners) ⌝ }
+    requires { ⌜ Cleared (inputs s m (now fs) (now rows) (now landings) (now pairs)) × Owned s m (now fs) (now rows) (count functionStride (now fs)) (now owners) × (t ≡ totalsIn (partsTo (inputs s m (now fs) (now rows) (now landings) (now pairs)) (count functionStride (now fs)))) ⌝ }
     ensures { λ r. ⌜ Writes (fitting (roomIn (now (places .entry)) (now (out .entry)) (now (relocs .entry)) (now (sites .entry))) (writtenIn (partsTo (inputs s m (now (fs .entry)) (now (rows .entry)) (now (landings .entry)) (now (pairs .entry))) (count functionStride (now (fs .entry)))))) r (now (places .entry)) (now (places .exit)) (now (out .entry)) (now (out .exit)) (now (relocs .entry)) (now (relocs .exit)) (now (sites .entry)) (now (sites .exit)) ⌝ }
 {
     let n = fs.len() / lists::FUNCTION_STRIDE;
-    let t = sizes(s, m, fs, rows, landings, pairs, owners);
     let lent = Table {
         bytes: out.len(),
         relocations: relocs.len(),
@@ -762,7 +869,8 @@ fn fitted(
     };
     let q = room(n, most(fs), places.len(), lent);
     if let Question::No(_, _) = q {
-        return measured(
+        let t = sizes(s, m, fs, rows, landings, pairs, owners);
+        return roomed(
             s,
             m,
             fs,
@@ -770,6 +878,7 @@ fn fitted(
             landings,
             pairs,
             owners,
+            t,
             places,
             out,
             relocs,
@@ -791,7 +900,166 @@ fn fitted(
     )
 }
 
-// The functions sized and, where there is room, written. The lists that their owners are found in lie on the stack, and
+// Every question asked by itself, and the functions written where there is room.
+fn asked(
+    s: Section,
+    m: Machine,
+    fs: &[u64],
+    rows: &[u64],
+    landings: &[u64],
+    pairs: &[u64],
+    heads: &mut [u16],
+    links: &mut [u16],
+    owners: &mut [u16],
+    places: &mut [u64],
+    out: &mut [u8],
+    relocs: &mut [u64],
+    sites: &mut [u8],
+) -> Outcome
+    requires { ⌜ MachineFits m × Unused (count functionStride (now fs)) (now heads) (now links) (now owners) ⌝ }
+    ensures { λ r. ⌜ Writes (listedAnswer s m (now (fs .entry)) (now (rows .entry)) (now (landings .entry)) (now (pairs .entry)) (roomIn (now (places .entry)) (now (out .entry)) (now (relocs .entry)) (now (sites .entry)))) r (now (places .entry)) (now (places .exit)) (now (out .entry)) (now (out .exit)) (now (relocs .entry)) (now (relocs .exit)) (now (sites .entry)) (now (sites .exit)) ⌝ }
+{
+    if !lists_ok(fs, rows, landings, pairs) {
+        return Outcome::Refused(13, 0);
+    }
+    let q = all_asks(s, m.word, fs, rows, pairs);
+    if let Question::No(number, position) = q {
+        return Outcome::Refused(number, position);
+    }
+    fitted(
+        s,
+        m,
+        fs,
+        rows,
+        landings,
+        pairs,
+        heads,
+        links,
+        owners,
+        places,
+        out,
+        relocs,
+        sites,
+    )
+}
+
+// The chains of owners empty again.
+fn unchain(heads: &mut [u16])
+    ensures { λ r. ⌜ (length (now (heads .exit)) ≡ length (now (heads .entry))) × ((h : ℕ) → h < length (now (heads .exit)) → getD (now (heads .exit)) h 0 ≡ 0) ⌝ }
+{
+    let mut h = 0;
+    while h < heads.len() {
+        heads[h] = 0;
+        h += 1;
+    }
+}
+
+// The lists that are lent hold whatever such functions can be, so that sizes are not needed.
+fn ample(fs: &[u64], places: usize, lent: Table) -> bool
+    requires { ⌜ Few (now fs) ⌝ }
+{
+    let q = room(fs.len() / lists::FUNCTION_STRIDE, most(fs), places, lent);
+    let Question::Yes = q else {
+        return false;
+    };
+    true
+}
+
+// The one pass, where sizes are needed.
+fn tried(
+    s: Section,
+    m: Machine,
+    fs: &[u64],
+    rows: &[u64],
+    landings: &[u64],
+    pairs: &[u64],
+    places: usize,
+    lent: Table,
+    heads: &mut [u16],
+    links: &mut [u16],
+    owners: &mut [u16],
+) -> Surveyed
+    requires { ⌜ MachineFits m × T (sumsOk (now fs)) × Unused (count functionStride (now fs)) (now heads) (now links) (now owners) ⌝ }
+    ensures { λ r. ⌜ AllSurveyed (inputs s m (now (fs .entry)) (now (rows .entry)) (now (landings .entry)) (now (pairs .entry))) (now (owners .exit)) r × Enough (count functionStride (now (fs .entry))) (length (now (heads .exit))) (now (links .exit)) (now (owners .exit)) ⌝ }
+{
+    if ample(fs, places, lent) {
+        return Surveyed::Unsure;
+    }
+    survey(s, m, fs, rows, landings, pairs, heads, links, owners)
+}
+
+// One pass where it is enough, and every question by itself where it is not.
+fn answered(
+    s: Section,
+    m: Machine,
+    fs: &[u64],
+    rows: &[u64],
+    landings: &[u64],
+    pairs: &[u64],
+    heads: &mut [u16],
+    links: &mut [u16],
+    owners: &mut [u16],
+    places: &mut [u64],
+    out: &mut [u8],
+    relocs: &mut [u64],
+    sites: &mut [u8],
+) -> Outcome
+    requires { ⌜ MachineFits m × T (sumsOk (now fs)) × Unused (count functionStride (now fs)) (now heads) (now links) (now owners) ⌝ }
+    ensures { λ r. ⌜ Writes (listedAnswer s m (now (fs .entry)) (now (rows .entry)) (now (landings .entry)) (now (pairs .entry)) (roomIn (now (places .entry)) (now (out .entry)) (now (relocs .entry)) (now (sites .entry)))) r (now (places .entry)) (now (places .exit)) (now (out .entry)) (now (out .exit)) (now (relocs .entry)) (now (relocs .exit)) (now (sites .entry)) (now (sites .exit)) ⌝ }
+{
+    let lent = Table {
+        bytes: out.len(),
+        relocations: relocs.len(),
+        sites: sites.len(),
+    };
+    let v = tried(
+        s,
+        m,
+        fs,
+        rows,
+        landings,
+        pairs,
+        places.len(),
+        lent,
+        heads,
+        links,
+        owners,
+    );
+    if let Surveyed::Behind(t) = v {
+        return roomed(
+            s,
+            m,
+            fs,
+            rows,
+            landings,
+            pairs,
+            owners,
+            t,
+            places,
+            out,
+            relocs,
+            sites,
+        );
+    }
+    unchain(heads);
+    asked(
+        s,
+        m,
+        fs,
+        rows,
+        landings,
+        pairs,
+        heads,
+        links,
+        owners,
+        places,
+        out,
+        relocs,
+        sites,
+    )
+}
+
+// The functions asked, sized and, where there is room, written. The lists that their owners are found in lie on the stack, and
 // clearing them for a few functions is to cost little: there are three sizes of them.
 fn deliver(
     s: Section,
@@ -805,15 +1073,15 @@ fn deliver(
     relocs: &mut [u64],
     sites: &mut [u8],
 ) -> Outcome
-    requires { ⌜ Cleared (inputs s m (now fs) (now rows) (now landings) (now pairs)) ⌝ }
-    ensures { λ r. ⌜ Writes (fitting (roomIn (now (places .entry)) (now (out .entry)) (now (relocs .entry)) (now (sites .entry))) (writtenIn (partsTo (inputs s m (now (fs .entry)) (now (rows .entry)) (now (landings .entry)) (now (pairs .entry))) (count functionStride (now (fs .entry)))))) r (now (places .entry)) (now (places .exit)) (now (out .entry)) (now (out .exit)) (now (relocs .entry)) (now (relocs .exit)) (now (sites .entry)) (now (sites .exit)) ⌝ }
+    requires { ⌜ MachineFits m × T (sumsOk (now fs)) ⌝ }
+    ensures { λ r. ⌜ Writes (listedAnswer s m (now (fs .entry)) (now (rows .entry)) (now (landings .entry)) (now (pairs .entry)) (roomIn (now (places .entry)) (now (out .entry)) (now (relocs .entry)) (now (sites .entry)))) r (now (places .entry)) (now (places .exit)) (now (out .entry)) (now (out .exit)) (now (relocs .entry)) (now (relocs .exit)) (now (sites .entry)) (now (sites .exit)) ⌝ }
 {
     let n = fs.len() / lists::FUNCTION_STRIDE;
     if n <= 64 {
         let mut heads = [0u16; 61];
         let mut links = [0u16; 64];
         let mut owners = [0u16; 64];
-        return fitted(
+        return answered(
             s,
             m,
             fs,
@@ -833,7 +1101,7 @@ fn deliver(
         let mut heads = [0u16; 2039];
         let mut links = [0u16; 2048];
         let mut owners = [0u16; 2048];
-        return fitted(
+        return answered(
             s,
             m,
             fs,
@@ -852,7 +1120,7 @@ fn deliver(
     let mut heads = [0u16; 16381];
     let mut links = [0u16; lists::MOST_FUNCTIONS];
     let mut owners = [0u16; lists::MOST_FUNCTIONS];
-    fitted(
+    answered(
         s,
         m,
         fs,
@@ -888,14 +1156,10 @@ pub fn dwarf(
     if !machine_ok(machine) {
         return Outcome::Refused(11, 0);
     }
-    if !lists_ok(functions, rows, landings, pairs) {
+    if !sums_ok(functions) {
         return Outcome::Refused(13, 0);
     }
     let m = machine_of(machine);
-    let q = all_asks(s, m.word, functions, rows, pairs);
-    if let Question::No(number, position) = q {
-        return Outcome::Refused(number, position);
-    }
     deliver(
         s,
         m,

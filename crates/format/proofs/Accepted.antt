@@ -25,7 +25,7 @@ use Rattle.format.specs.Headers.{leading}
 use Rattle.format.proofs.RowsRun.{runRows}
 use Rattle.format.specs.RowCheck.{rowCheck, rowCheckAt}
 use Rattle.format.specs.Questions.{Question, ask, andThen, perFunction, sizeBytes, stepsOk, dwarfAsks, Room, Answer, empty, accepted, unless, fitting, dwarfAnswer, Given, givenFunctions, givenFunction, noFunctions, givenAsks, dwarfGiven, formatAnswer, relaxedTable, relaxedDebugFrame}
-use Rattle.format.proofs.RowBack.{Off32, otherOf}
+use Rattle.format.proofs.RowBack.{Off32, RowFits, otherOf}
 use Rattle.format.proofs.WalkBack.{RowsAtOk}
 use Rattle.format.proofs.Fits.{MachineFits, FunctionFits, AllFit, rowCount, Bounded}
 use Rattle.format.proofs.Choice.{pick-yes, pick-no, tested}
@@ -140,31 +140,37 @@ row-operands kind r o t =
 
 -- ---- one function
 
+-- a row that passes questions 13 and 24
+pub row-fits : (rows : List ℕ) (word i : ℕ) → T (rowOkAt rows i) → T (rowWhole word (rowAt rows i .1)) → RowFits word (rowAt rows i .1)
+unfolding rowOkAt rowAt
+row-fits rows word i t v =
+    let fits = row-operands (field rowStride rows i 1) (field rowStride rows i 2) (field rowStride rows i 3) t in
+    record { reg = fits .reg; off = fits .off; other = fits .other; whole = v }
+
 rows-at-ok : (rows : List ℕ) (word at n from : ℕ) → T (allIn (rowOkAt rows) at n) → T (stepsOk from (each (rowAt rows) at n))
     → T (all (λ x. rowWhole word (x .1)) (each (rowAt rows) at n)) → RowsAtOk word from (each (rowAt rows) at n)
-unfolding allIn all each stepsOk rowOkAt rowAt
+unfolding allIn all each stepsOk
 rows-at-ok rows word at zero from t u v = tt
 rows-at-ok rows word at (suc n) from t u v =
     let x : RowAt = rowAt rows at in
     let xs : List RowAt = each (rowAt rows) (suc at) n in
     let ok = and-yes (rowOkAt rows at) (allIn (rowOkAt rows) (suc at) n) t in
     let whole = and-yes (rowWhole word (x .1)) (all (λ y. rowWhole word (y .1)) xs) v in
-    let steps = chained (leb from (x .0)) (ltb (x .0 - from) (2 ^ 32) ∷ stepsOk (x .0) xs ∷ []) in
-    let fits = row-operands (field rowStride rows at 1) (field rowStride rows at 2) (field rowStride rows at 3) (ok .0) in (
+    let steps = chained (leb from (x .0)) (ltb (x .0 - from) (2 ^ 32) ∷ stepsOk (x .0) xs ∷ []) in (
       leb→le from (x .0) (steps 0 u),
       ltb→lt (x .0 - from) (2 ^ 32) (steps 1 u),
-      record { reg = fits .reg; off = fits .off; other = fits .other; whole = whole .0 },
+      row-fits rows word at (ok .0) (whole .0),
       rows-at-ok rows word (suc at) n (x .0) (ok .1) (steps 2 u) (whole .1),
     )
 
 -- what question 13 says of a function's rows and its simple mark
-record Listed (fs rows : List ℕ) (k : ℕ) : Type 0 where
+pub record Listed (fs rows : List ℕ) (k : ℕ) : Type 0 where
   within : T (inside (field functionStride fs k 2) (field functionStride fs k 3) (count rowStride rows))
   known : T (allIn (rowOkAt rows) (field functionStride fs k 2) (field functionStride fs k 3))
   marked : T (markOk (field functionStride fs k 6))
 
 module _ (fs rows landings pairs : List ℕ) where
-  listed : (k : ℕ) → T (functionOkAt fs rows landings pairs k) → Listed fs rows k
+  pub listed : (k : ℕ) → T (functionOkAt fs rows landings pairs k) → Listed fs rows k
   unfolding functionOkAt
   listed k t =
       let f : ℕ → ℕ = λ j. field functionStride fs k j in
@@ -176,7 +182,7 @@ module _ (fs rows landings pairs : List ℕ) where
       ∷ whenMarked (f 14) (symbolOk (f 15) && inside (f 16) (f 17) (count pairStride pairs) && allIn (pairOkAt pairs) (f 16) (f 17)) ∷ []) in
       record { within = says 1 t; known = says 2 t; marked = says 4 t }
 
-  function-fits : (s : Section) (m : Machine) (k at : ℕ) → Listed fs rows k
+  pub function-fits : (s : Section) (m : Machine) (k at : ℕ) → Listed fs rows k
       → dwarfAsks s (m .word) at (taken s (functionAt fs rows landings pairs k)) ≡ none
       → FunctionFits s m (taken s (functionAt fs rows landings pairs k))
   unfolding dwarfAsks functionAt

@@ -89,7 +89,7 @@ module _ (s : Section) (m : Machine) where
   partRelocs x sites f =
       relocsFor (x .earlier) (x .start) (keyOf m f) ++ recordRelocs (isDebug s) m (placeOf x f) (cieOf x) (sites + sitePad sites) f
 
-  part-with : (o : Option ℕ) (align at sites : ℕ) (f : Function)
+  pub part-with : (o : Option ℕ) (align at sites : ℕ) (f : Function)
       → partWith o s m align at sites f
       ≡ (let x : Spot = record { align = align; start = at; earlier = o } in
       record { place = cieOf x; bytes = partBytes x f; relocations = partRelocs x sites f; sites = siteAdded sites (f .landings) })

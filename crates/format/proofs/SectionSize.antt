@@ -66,7 +66,7 @@ module _ (s : Section) (m : Machine) (fit : MachineFits m) where
       )
   front-short (some cie) align at f ok a = omega arith
 
-  part-short : (x : Spot) (f : Function) → FunctionFits s m f → Aligned (x .align) → length (partBytes s m x f) ≤ 96 + 14 * length (f .rows)
+  pub part-short : (x : Spot) (f : Function) → FunctionFits s m f → Aligned (x .align) → length (partBytes s m x f) ≤ 96 + 14 * length (f .rows)
   unfolding partBytes frontOf recordBytes
   part-short x f ok a =
       let at : ℕ = placeOf s m x f in

@@ -5,3 +5,4 @@ pub mod Codes
 pub mod Sums
 pub mod Machines
 pub mod Extents
+pub mod Outlines

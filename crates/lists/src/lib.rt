@@ -10,7 +10,7 @@ ghost use Rattle.format.specs.Machine.{machineOk, machineOf};
 ghost use Rattle.format.specs.Lists.{count, field, rowStride, pairStride, codeStride, mostRecords, inside, symbolOk, pointerOk, rowOkAt, pairOkAt, codeOkAt, allIn, sumOf, pairsIn, functionOkAt, prologueOkAt, listsOk, codesOk, codeAt};
 ghost use Rattle.format.proofs.Asked.{questionOf};
 ghost use Rattle.lists.specs.Room.{roomFor};
-ghost use Rattle.lists.specs.Parts.{rangesOkAt, namedOkAt, relaxedOkAt};
+ghost use Rattle.lists.specs.Parts.{rangesOkAt, namedOkAt, relaxedOkAt, outlineOkAt, sumsOk};
 ghost use Rattle.lists.specs.Extents.{extentAt, landingIn, pairIn, prologueIn};
 use format::Counts;
 use format::Machine;
@@ -391,7 +391,7 @@ fn codes_in(cs: &[u64], at: usize, n: usize) -> bool
     true
 }
 
-// The symbol of function k, its rows, and where its landings are.
+// The symbol of function k, and where its rows and landings are.
 fn ranges_ok(fs: &[u64], rows: &[u64], landings: &[u64], k: usize) -> bool
     requires { ⌜ 18 * k + 18 ≤ length (now fs) ⌝ }
     ensures { λ r. ⌜ r ≡ rangesOkAt (now (fs .entry)) (now (rows .entry)) (now (landings .entry)) k ⌝ }
@@ -402,9 +402,6 @@ fn ranges_ok(fs: &[u64], rows: &[u64], landings: &[u64], k: usize) -> bool
     let at = fs[FUNCTION_STRIDE * k + function::ROWS_AT];
     let n = fs[FUNCTION_STRIDE * k + function::ROWS];
     if !inside(at, n, (rows.len() / ROW_STRIDE) as u64) {
-        return false;
-    }
-    if !rows_ok(rows, at as usize, n as usize) {
         return false;
     }
     inside(
@@ -459,10 +456,10 @@ fn relaxed_ok(fs: &[u64], pairs: &[u64], k: usize) -> bool
     pairs_ok(pairs, at as usize, n as usize)
 }
 
-// Function k, and the records that it reaches.
-fn function_ok(fs: &[u64], rows: &[u64], landings: &[u64], pairs: &[u64], k: usize) -> bool
+// Function k, and the records that it reaches but its rows.
+pub fn outline_ok(fs: &[u64], rows: &[u64], landings: &[u64], pairs: &[u64], k: usize) -> bool
     requires { ⌜ 18 * k + 18 ≤ length (now fs) ⌝ }
-    ensures { λ r. ⌜ r ≡ functionOkAt (now (fs .entry)) (now (rows .entry)) (now (landings .entry)) (now (pairs .entry)) k ⌝ }
+    ensures { λ r. ⌜ r ≡ outlineOkAt (now (fs .entry)) (now (rows .entry)) (now (landings .entry)) (now (pairs .entry)) k ⌝ }
 {
     if !ranges_ok(fs, rows, landings, k) {
         return false;
@@ -483,6 +480,21 @@ fn function_ok(fs: &[u64], rows: &[u64], landings: &[u64], pairs: &[u64], k: usi
         return false;
     }
     relaxed_ok(fs, pairs, k)
+}
+
+// Function k, and the records that it reaches.
+fn function_ok(fs: &[u64], rows: &[u64], landings: &[u64], pairs: &[u64], k: usize) -> bool
+    requires { ⌜ 18 * k + 18 ≤ length (now fs) ⌝ }
+    ensures { λ r. ⌜ r ≡ functionOkAt (now (fs .entry)) (now (rows .entry)) (now (landings .entry)) (now (pairs .entry)) k ⌝ }
+{
+    if !outline_ok(fs, rows, landings, pairs, k) {
+        return false;
+    }
+    rows_ok(
+        rows,
+        fs[FUNCTION_STRIDE * k + function::ROWS_AT] as usize,
+        fs[FUNCTION_STRIDE * k + function::ROWS] as usize,
+    )
 }
 
 // The record of direct codes k, and the codes that it reaches.
@@ -565,9 +577,9 @@ fn functions_ok(fs: &[u64], rows: &[u64], landings: &[u64], pairs: &[u64], n: us
     true
 }
 
-// Question 13 of the lists of functions.
-pub fn lists_ok(fs: &[u64], rows: &[u64], landings: &[u64], pairs: &[u64]) -> bool
-    ensures { λ r. ⌜ r ≡ listsOk (now (fs .entry)) (now (rows .entry)) (now (landings .entry)) (now (pairs .entry)) ⌝ }
+// Question 13, as far as the functions are counted, and what they reach.
+pub fn sums_ok(fs: &[u64]) -> bool
+    ensures { λ r. ⌜ r ≡ sumsOk (now (fs .entry)) ⌝ }
 {
     let n = fs.len() / FUNCTION_STRIDE;
     if MOST_FUNCTIONS < n {
@@ -579,10 +591,17 @@ pub fn lists_ok(fs: &[u64], rows: &[u64], landings: &[u64], pairs: &[u64]) -> bo
     if !sum_ok(fs, FUNCTION_STRIDE, function::LANDINGS, n) {
         return false;
     }
-    if !pairs_sum_ok(fs, n) {
+    pairs_sum_ok(fs, n)
+}
+
+// Question 13 of the lists of functions.
+pub fn lists_ok(fs: &[u64], rows: &[u64], landings: &[u64], pairs: &[u64]) -> bool
+    ensures { λ r. ⌜ r ≡ listsOk (now (fs .entry)) (now (rows .entry)) (now (landings .entry)) (now (pairs .entry)) ⌝ }
+{
+    if !sums_ok(fs) {
         return false;
     }
-    functions_ok(fs, rows, landings, pairs, n)
+    functions_ok(fs, rows, landings, pairs, fs.len() / FUNCTION_STRIDE)
 }
 
 // The first n records of direct codes.

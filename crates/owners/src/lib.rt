@@ -271,7 +271,7 @@ fn seek(
 }
 
 // Function k's owner, found and stored: often that of the function in front of it.
-fn find_owner(
+pub fn find_owner(
     s: Section,
     m: Machine,
     fs: &[u64],

@@ -5,6 +5,7 @@ pub mod PairOrder
 pub mod StepLoops
 pub mod CallSites
 pub mod RowLoops
+pub mod SurveyLoops
 pub mod OtherRows
 pub mod FieldLaws
 pub mod RecordLaws

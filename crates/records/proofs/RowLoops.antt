@@ -40,12 +40,12 @@ each-more f i end h =
     let e : end - i ≡ suc (end - suc i) = omega arith in
     rw (add-one i, e)
 
-none-left : (w from : ℕ) (rows : List ℕ) (at : ℕ) → rowsIn w from rows at 0 ≡ []
+pub none-left : (w from : ℕ) (rows : List ℕ) (at : ℕ) → rowsIn w from rows at 0 ≡ []
 unfolding rowsIn steppedBytes each
 none-left w from rows at = refl
 
 -- in front of row i of those below `end`
-here : (w from : ℕ) (rows : List ℕ) (i end : ℕ) → i < end
+pub here : (w from : ℕ) (rows : List ℕ) (i end : ℕ) → i < end
     → rowsIn w from rows i (end - i) ≡ steppedRowBytes w from (rowAt rows i) ++ rowsIn w (rowAt rows i .0) rows (i + 1) (end - (i + 1))
 unfolding rowsIn steppedBytes steppedRowBytes
 here w from rows i end h = rw (each-more (rowAt rows) i end h, append-assoc)

@@ -4,19 +4,21 @@ ghost use mathlib.Core.Bool.{true, false};
 ghost use mathlib.Core.Option.{some};
 ghost use mathlib.Core.List.{[]};
 ghost use Prim.Native.Nat.{_+_, _-_, _*_, _^_, _≤_, _<_};
+ghost use lib.Dec.{T};
 ghost use lib.ListN.{length, replicate};
 ghost use Rattle.format.proofs.Wrote.{Wrote};
 ghost use Rattle.format.specs.Prelude.{each};
+ghost use Rattle.format.specs.Machine.{isWord};
 ghost use Rattle.format.specs.Leb.{uleb};
 ghost use Rattle.format.specs.Headers.{counted};
-ghost use Rattle.format.specs.Lists.{landingStride, pairStride, landingAt, rowAt, pairAt, numbersOf, count, mostRecords};
+ghost use Rattle.format.specs.Lists.{landingStride, rowStride, pairStride, landingAt, rowAt, pairAt, numbersOf, count, mostRecords};
 ghost use Rattle.format.specs.CallSites.{siteBytes, siteTable, siteAdded};
 ghost use Rattle.format.specs.Records.{recordBytes, recordRelocs, setKind, setBytes, setPlace, setPair};
 ghost use Rattle.format.proofs.SectionSize.{Aligned};
 ghost use Rattle.lists.specs.Extents.{meant, meantLanding, meantPair};
 ghost use Rattle.header_keys.specs.Functions.{bodyOf, Sound, RowsReady, LandingsReady, PairsReady};
 ghost use Rattle.records.specs.Sites.{sitesIn};
-ghost use Rattle.records.specs.Stepped.{steppedRowBytes, rowsIn, SteppedRowReady, SteppedReady};
+ghost use Rattle.records.specs.Stepped.{steppedRowBytes, rowsIn, SteppedRowReady, SteppedReady, SurveyedRow, Surveyed};
 ghost use Rattle.records.specs.Fields.{sizeIn, blankIn, fieldsIn, sumIn, lsdaIn, debugRelocs, ehRelocs, fieldRelocs};
 ghost use Rattle.records.specs.Labels.{isFor, foundPair, pairBetween, Rising, Parted, stepPair, stepsIn};
 use format::Machine;
@@ -145,7 +147,8 @@ fn stepped_rows(out: &mut [u8], at: usize, word: u64, rows: &[u64], first: usize
     p
 }
 
-fn stepped_rows_size(word: u64, rows: &[u64], first: usize, n: usize) -> usize
+// How many bytes they have.
+pub fn stepped_rows_size(word: u64, rows: &[u64], first: usize, n: usize) -> usize
     requires { ⌜ SteppedReady word (now rows) first n ⌝ }
     ensures { λ r. ⌜ r ≡ length (rowsIn word 0 (now (rows .entry)) first n) ⌝ }
 {
@@ -159,6 +162,56 @@ fn stepped_rows_size(word: u64, rows: &[u64], first: usize, n: usize) -> usize
         i += 1;
     }
     size
+}
+
+// ---- rows asked and sized at once
+
+// The bytes of rows with the steps between them, where all of the rows pass questions 13, 23 and 24. Unsure says nothing.
+pub enum RowsSize {
+    Bytes(usize),
+    Unsure,
+}
+
+// The size of row i and its step, from the offset `from` on, where the row passes the three. 0 says nothing.
+fn surveyed_row(word: u64, from: u64, rows: &[u64], i: usize) -> usize
+    requires { ⌜ T (isWord word) × (4 * i + 4 ≤ length (now rows)) ⌝ }
+    ensures { λ r. ⌜ (r ≤ 14) × (0 < r → SurveyedRow word from (now (rows .entry)) i r) ⌝ }
+{
+    let to = rows::offset_at(rows, i);
+    if to < from {
+        return 0;
+    }
+    let r = rows::surveyed(word, rows, i);
+    if r == 0 {
+        return 0;
+    }
+    let a = rows::step_surveyed(to - from);
+    if a == rows::TOO_FAR {
+        return 0;
+    }
+    a + r
+}
+
+// The size of n rows from `first` on.
+pub fn surveyed_rows(word: u64, rows: &[u64], first: usize, n: usize) -> RowsSize
+    requires { ⌜ T (isWord word) × (first + n ≤ count rowStride (now rows)) × (n ≤ mostRecords) ⌝ }
+    ensures { λ r. ⌜ Surveyed word (now (rows .entry)) first n r ⌝ }
+{
+    let mut i = first;
+    let mut left = n;
+    let mut from = 0;
+    let mut size = 0;
+    while left != 0 {
+        let r = surveyed_row(word, from, rows, i);
+        if r == 0 {
+            return RowsSize::Unsure;
+        }
+        size += r;
+        from = rows::offset_at(rows, i);
+        i += 1;
+        left -= 1;
+    }
+    RowsSize::Bytes(size)
 }
 
 // ---- a record's fields
@@ -243,7 +296,7 @@ fn fields_size(debug: bool, word: u64, e: Extent) -> usize
 
 // ---- a record
 
-// How many bytes a record at `at` has.
+// How many bytes a record at `at` has, whose function's rows have `size` bytes, those that lead too.
 pub fn record_size(
     debug: bool,
     m: Machine,
@@ -251,13 +304,14 @@ pub fn record_size(
     at: usize,
     e: Extent,
     rows: &[u64],
+    size: usize,
 ) -> usize
-    requires { ⌜ Sound m e (now rows) × Aligned align × (at < 2 ^ 32) ⌝ }
+    requires { ⌜ Sound m e (now rows) × Aligned align × (at < 2 ^ 32) × (size ≡ length (rowsIn (m .word) 0 (now rows) (e .«rows_at») (e .rows))) ⌝ }
     ensures { λ r. ⌜ r ≡ length (recordBytes debug m align at 0 (bodyOf e (now (rows .entry)))) ⌝ }
 {
     let k = header_keys::ahead(rows, e.rows_at, e.rows);
     let body = fields_size(debug, m.word, e)
-        + stepped_rows_size(m.word, rows, e.rows_at + k, e.rows - k);
+        + (size - stepped_rows_size(m.word, rows, e.rows_at, k));
     4 + body + headers::padding(align, at + 4 + body)
 }
 

@@ -7,3 +7,4 @@ pub mod Steps
 pub mod Numbers
 pub mod ShortSizes
 pub mod WholeNumbers
+pub mod Surveys

@@ -47,7 +47,7 @@ module _ (w y n : ℕ) (lo : n * w ≤ y) (hi : y < n * w + w) where
 plain-size : (w off : ℕ) → 0 < w → off * w < 16384 * w → length (uleb off) ≡ 1 + secondByte w (off * w)
 plain-size w off p h = uleb-size w (off * w) off (omega arith) (omega arith) h
 
-plain-low : (w off : ℕ) → off * w < 16384 * w → off < 16384
+pub plain-low : (w off : ℕ) → off * w < 16384 * w → off < 16384
 plain-low w off h =
     either off 16383 (λ l. omega arith) (λ k. let d : 16384 * w ≤ off * w = mul-le-mul-right w k in absurd (omega arith))
 
@@ -100,7 +100,7 @@ module _ (w reg off : ℕ) (lo : 2 ≤ w) (r : reg ≤ 63) where
 
 -- ---- kinds
 
-kinds : (P : ℕ → Type 0) → P 0 → P 1 → P 2 → P 3 → P 4 → P 5 → P 6 → P 7 → P 8 → P 9 → P 10 → (k : ℕ) → k ≤ 10 → P k
+pub kinds : (P : ℕ → Type 0) → P 0 → P 1 → P 2 → P 3 → P 4 → P 5 → P 6 → P 7 → P 8 → P 9 → P 10 → (k : ℕ) → k ≤ 10 → P k
 kinds P p0 p1 p2 p3 p4 p5 p6 p7 p8 p9 p10 zero h = p0
 kinds P p0 p1 p2 p3 p4 p5 p6 p7 p8 p9 p10 (suc zero) h = p1
 kinds P p0 p1 p2 p3 p4 p5 p6 p7 p8 p9 p10 (suc (suc zero)) h = p2

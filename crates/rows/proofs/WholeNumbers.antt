@@ -1,6 +1,6 @@
 -- Question 24 by a test of a row's numbers that asks for more.
 use mathlib.Core.Path.{_≡_, refl, sym, ap, subst, _∙_}
-use Prim.Native.Nat.{ℕ, suc, _-_, _%_, _^_, _<_}
+use Prim.Native.Nat.{ℕ, suc, _-_, _%_, _^_, _≤_, _<_}
 use native.Mathlib.Omega.{arith}
 use mathlib.Core.Bool.{Bool, true, false, _||_}
 use mathlib.Core.Logic.{⊎-elim}
@@ -26,8 +26,17 @@ word-left w t a b =
     ⊎-elim (λ u. ⊎-elim (λ v. eqb-yes v) (λ v. absurd (b (eqb-yes v))) (or-yes (eqb w 2) (eqb w 4) u)) (λ u. absurd (a (eqb-yes u)))
     (or-yes (eqb w 2 || eqb w 4) (eqb w 8) t)
 
+-- a word has two bytes at least
+pub word-least : (w : ℕ) → T (isWord w) → 2 ≤ w
+unfolding isWord
+word-least w t =
+    ⊎-elim
+    (λ h. ⊎-elim (λ a. let e : w ≡ 2 = eqb-yes a in omega arith) (λ a. let e : w ≡ 4 = eqb-yes a in omega arith) (or-yes (eqb w 2) (eqb w 4) h))
+    (λ a. let e : w ≡ 8 = eqb-yes a in omega arith)
+    (or-yes (eqb w 2 || eqb w 4) (eqb w 8) t)
+
 -- 2^32 is a multiple of every word
-turned : (w n : ℕ) → T (isWord w) → n < 2 ^ 32 → n % w ≡ 0 → (2 ^ 32 - n) % w ≡ 0
+pub turned : (w n : ℕ) → T (isWord w) → n < 2 ^ 32 → n % w ≡ 0 → (2 ^ 32 - n) % w ≡ 0
 unfolding isWord
 turned w n t h z =
     ⊎-elim (λ (u : T (eqb w 2 || eqb w 4)). ⊎-elim (λ v. let e : w ≡ 2 = eqb-yes v in rw e (omega (arith, rw e at z))) (λ v. let e : w ≡ 4 = eqb-yes v in rw e (omega (arith, rw e at z)))
@@ -85,7 +94,7 @@ row-whole w kind reg off b o =
 pub never : {X : Type 0} → false ≡ true → X
 never p = let z : _≡_ {A = ℕ} 0 1 = cc in absurd (omega arith)
 
-is-yes : {b : Bool} → b ≡ true → T b
+pub is-yes : {b : Bool} → b ≡ true → T b
 is-yes e = subst T (sym e) tt
 
 module _ (w kind reg off : ℕ) where

@@ -1,10 +1,12 @@
 -- The size of a row's operation out of the row's numbers.
-use Prim.Native.Nat.{ℕ, _+_, _-_, _*_, _%_, _^_}
+use mathlib.Core.Path.{_≡_}
+use Prim.Native.Nat.{ℕ, _+_, _-_, _*_, _%_, _^_, _≤_, _<_}
 use mathlib.Core.List.{[], _∷_}
 use lib.Dec.{eqb, ltb}
-use lib.ListN.{getD}
+use lib.ListN.{length, getD}
 use Rattle.format.specs.Prelude.{pick}
 use Rattle.format.specs.Constants.{offsetKind}
+use Rattle.format.specs.Rows.{stepBytes}
 
 -- an operation's bytes by kind (DWARF 5, 7.24, table 7.29), where each operand is a byte
 unfoldable pub shortSize : ℕ → ℕ
@@ -17,3 +19,15 @@ scaled w kind off = pick (eqb kind offsetKind) ((2 ^ 32 - off) % 2 ^ 32) (off * 
 -- the second byte of an operand that has two at most
 unfoldable pub secondByte : (w y : ℕ) → ℕ
 secondByte w y = pick (ltb y (128 * w)) 0 1
+
+-- how many second operands a kind may have that are two bytes at most; of a saved register all, as its offset is divided before it is written
+unfoldable pub shortOperands : ℕ → ℕ
+shortOperands kind = getD (16384 ∷ 16384 ∷ 1 ∷ 2 ^ 32 ∷ 1 ∷ 1 ∷ 1 ∷ 1 ∷ 1 ∷ 1 ∷ 16384 ∷ []) kind 0
+
+-- a size that no step has
+abbrev pub tooFar : ℕ
+tooFar = 6
+
+-- the size of a step that passes question 23, and that of no step where it does not
+abbrev pub StepSurveyed : (by size : ℕ) → Type 0
+StepSurveyed by size = (by < 2 ^ 32 → (size ≡ length (stepBytes by)) × (size ≤ 5)) × (2 ^ 32 ≤ by → size ≡ tooFar)

@@ -32,7 +32,7 @@ use Rattle.format.proofs.SectionFinds.{spotAt, record-found}
 use Rattle.format.proofs.RelocsInside.{Inside, header-inside, relocations-inside}
 use Rattle.format.proofs.Accepted.{dwarfWritten, Accepted, accepted-is, taken-at}
 use Rattle.dwarf.proofs.Bounds.{sites-most}
-use Rattle.dwarf.proofs.Passed.{in-total, landings-few-in}
+use Rattle.dwarf.proofs.Passed.{in-total, all-counted}
 use Rattle.reader.specs.Spans.{listed}
 use Rattle.sites_back.specs.Back.{SiteFits, pointerField, TableOf}
 use Rattle.sites_back.proofs.TableBack.{place-back, place-shortest}
@@ -199,7 +199,7 @@ unfolding functionAt
 few-landings g k h t =
     let fs : List ℕ = g .functions in
     rw (each-length (landingAt (g .landings)) (field functionStride fs k 4) (field functionStride fs k 5))
-    (omega (arith, in-total (λ i. field functionStride fs i 5) (count functionStride fs) k h, landings-few-in fs (g .rows) (g .landings) (g .pairs) t))
+    (omega (arith, in-total (λ i. field functionStride fs i 5) (count functionStride fs) k h, all-counted fs (g .rows) (g .landings) (g .pairs) t .landings-few))
 
 -- what stands somewhere stands there with anything behind
 with-tail : (s table rest tail : List ℕ) (place : ℕ) → drop place s ≡ table ++ rest → 0 < length table → drop place (s ++ tail) ≡ table ++ (rest ++ tail)

@@ -1,23 +1,24 @@
 -- `dwarf::deliver` meets its contract.
 use native.Mathlib.Omega.{arith}
-use borrow.Author.Needs.{needs}
+use Rattle.dwarf.proofs.Passed.{counted}
 use Rattle.dwarf.proofs.Working.{unused}
+use borrow.Author.Needs.{needs}
 use Rattle.dwarf.proofs.deliver.Statement.{statement}
 use Rattle.dwarf.proofs.deliver.Tie as tie
 
-slice-aggregate-fitted : tie.Need-slice-aggregate-fitted
-slice-aggregate-fitted c = search needs
+slice-aggregate-answered : tie.Need-slice-aggregate-answered
+slice-aggregate-answered c = search needs
 
-slice-aggregate-fitted-2 : tie.Need-slice-aggregate-fitted-2
-slice-aggregate-fitted-2 c = search needs
+slice-aggregate-answered-2 : tie.Need-slice-aggregate-answered-2
+slice-aggregate-answered-2 c = search needs
 
-slice-aggregate-fitted-3 : tie.Need-slice-aggregate-fitted-3
-slice-aggregate-fitted-3 c = search needs
+slice-aggregate-answered-3 : tie.Need-slice-aggregate-answered-3
+slice-aggregate-answered-3 c = search needs
 
-fitted-requires : tie.Need-fitted-requires
-fitted-requires c κs =
+answered-requires : tie.Need-answered-requires
+answered-requires c κs =
     let s = c .before .before .before .before .before .before .before .before .before .before .before .before .before .before .before .before in
-    (s .pre, unused _ 61 64 (s .pre .few) (omega arith) (search needs))
+    (s .pre .0, s .pre .1, unused _ 61 64 (counted _ (s .pre .1) .functions-at-most) (omega arith) (search needs))
 
 same-length : tie.Need-same-length
 same-length c = search needs
@@ -34,19 +35,19 @@ same-length-4 c = search needs
 returns : tie.Need-returns
 returns c = search needs
 
-slice-aggregate-fitted-4 : tie.Need-slice-aggregate-fitted-4
-slice-aggregate-fitted-4 c = search needs
+slice-aggregate-answered-4 : tie.Need-slice-aggregate-answered-4
+slice-aggregate-answered-4 c = search needs
 
-slice-aggregate-fitted-5 : tie.Need-slice-aggregate-fitted-5
-slice-aggregate-fitted-5 c = search needs
+slice-aggregate-answered-5 : tie.Need-slice-aggregate-answered-5
+slice-aggregate-answered-5 c = search needs
 
-slice-aggregate-fitted-6 : tie.Need-slice-aggregate-fitted-6
-slice-aggregate-fitted-6 c = search needs
+slice-aggregate-answered-6 : tie.Need-slice-aggregate-answered-6
+slice-aggregate-answered-6 c = search needs
 
-fitted-requires-2 : tie.Need-fitted-requires-2
-fitted-requires-2 c κs =
+answered-requires-2 : tie.Need-answered-requires-2
+answered-requires-2 c κs =
     let s = c .before .before .before .before .before .before .before .before .before .before .before .before .before .before .before .before .before in
-    (s .pre, unused _ 2039 2048 (s .pre .few) (omega arith) (search needs))
+    (s .pre .0, s .pre .1, unused _ 2039 2048 (counted _ (s .pre .1) .functions-at-most) (omega arith) (search needs))
 
 same-length-5 : tie.Need-same-length-5
 same-length-5 c = search needs
@@ -63,19 +64,19 @@ same-length-8 c = search needs
 returns-2 : tie.Need-returns-2
 returns-2 c = search needs
 
-slice-aggregate-fitted-7 : tie.Need-slice-aggregate-fitted-7
-slice-aggregate-fitted-7 c = search needs
+slice-aggregate-answered-7 : tie.Need-slice-aggregate-answered-7
+slice-aggregate-answered-7 c = search needs
 
-slice-aggregate-fitted-8 : tie.Need-slice-aggregate-fitted-8
-slice-aggregate-fitted-8 c = search needs
+slice-aggregate-answered-8 : tie.Need-slice-aggregate-answered-8
+slice-aggregate-answered-8 c = search needs
 
-slice-aggregate-fitted-9 : tie.Need-slice-aggregate-fitted-9
-slice-aggregate-fitted-9 c = search needs
+slice-aggregate-answered-9 : tie.Need-slice-aggregate-answered-9
+slice-aggregate-answered-9 c = search needs
 
-fitted-requires-3 : tie.Need-fitted-requires-3
-fitted-requires-3 c κs =
+answered-requires-3 : tie.Need-answered-requires-3
+answered-requires-3 c κs =
     let s = c .before .before .before .before .before .before .before .before .before .before .before .before .before .before .before .before .before in
-    (s .pre, unused _ 16381 65536 (s .pre .few) (omega arith) (s .pre .few))
+    (s .pre .0, s .pre .1, unused _ 16381 65536 (counted _ (s .pre .1) .functions-at-most) (omega arith) (counted _ (s .pre .1) .functions-at-most))
 
 same-length-9 : tie.Need-same-length-9
 same-length-9 c = search needs
@@ -96,28 +97,28 @@ pub deliver-spec : {M : Type 1} → statement M
 deliver-spec =
     tie.close
     (tie.spec
-    slice-aggregate-fitted
-    slice-aggregate-fitted-2
-    slice-aggregate-fitted-3
-    fitted-requires
+    slice-aggregate-answered
+    slice-aggregate-answered-2
+    slice-aggregate-answered-3
+    answered-requires
     same-length
     same-length-2
     same-length-3
     same-length-4
     returns
-    slice-aggregate-fitted-4
-    slice-aggregate-fitted-5
-    slice-aggregate-fitted-6
-    fitted-requires-2
+    slice-aggregate-answered-4
+    slice-aggregate-answered-5
+    slice-aggregate-answered-6
+    answered-requires-2
     same-length-5
     same-length-6
     same-length-7
     same-length-8
     returns-2
-    slice-aggregate-fitted-7
-    slice-aggregate-fitted-8
-    slice-aggregate-fitted-9
-    fitted-requires-3
+    slice-aggregate-answered-7
+    slice-aggregate-answered-8
+    slice-aggregate-answered-9
+    answered-requires-3
     same-length-9
     same-length-10
     same-length-11

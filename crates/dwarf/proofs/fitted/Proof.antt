@@ -1,6 +1,7 @@
 -- `dwarf::fitted` meets its contract.
-use borrow.Author.Needs.{needs}
+use Rattle.dwarf.specs.Parts.{inputs}
 use Rattle.dwarf.proofs.Outcomes.{room-for}
+use borrow.Author.Needs.{needs}
 use Rattle.dwarf.proofs.fitted.Statement.{statement}
 use Rattle.dwarf.proofs.fitted.Tie as tie
 
@@ -18,14 +19,17 @@ room-requires c κs = search needs
 enum-told : tie.Need-enum-told
 enum-told c = search needs
 
-measured-requires : tie.Need-measured-requires
-measured-requires c κs = (c .before .before .before .before .before .before .before .before .before .before .before .before .before .before .before .before .before .before .before .before .before .before .before .before .before .before .before .before .before .before .pre .0, c .before .before .before .before .before .before .before .before .before .before .before .before .before .before .before .owners .ensures)
+sizes-requires : tie.Need-sizes-requires
+sizes-requires c κs = (c .before .before .before .before .before .before .before .before .before .before .before .before .before .before .before .before .before .before .before .before .before .before .before .before .before .before .pre .0, c .before .before .before .before .before .before .before .before .before .before .before .owners .ensures)
+
+roomed-requires : tie.Need-roomed-requires
+roomed-requires c κs = (c .before .before .before .before .before .before .before .before .before .before .before .before .before .before .before .before .before .before .before .before .before .before .before .before .before .before .before .before .before .before .before .before .pre .0, c .before .before .before .before .before .before .before .before .before .before .before .before .before .before .before .before .before .owners .ensures, c .before .before .before .before .before .sizes .ensures)
 
 same-length : tie.Need-same-length
-same-length c = search needs
+same-length c = search (needs, c .before .before .before .before .before .before .before .before .before .before .before .before .before .before .before .before .before .before .before .before .before .before .before .before .before .heads .given)
 
 same-length-2 : tie.Need-same-length-2
-same-length-2 c = search needs
+same-length-2 c = search (needs, c .before .before .before .before .before .before .before .before .before .before .before .before .before .before .before .before .before .before .before .before .before .before .before .links .given)
 
 same-length-3 : tie.Need-same-length-3
 same-length-3 c = search needs
@@ -43,7 +47,7 @@ same-length-7 : tie.Need-same-length-7
 same-length-7 c = search needs
 
 returns : tie.Need-returns
-returns c = c .before .before .before .before .before .before .before .before .measured .ensures
+returns c = c .before .before .before .before .before .before .before .before .roomed .ensures
 
 enum-told-2 : tie.Need-enum-told-2
 enum-told-2 c = search needs
@@ -51,7 +55,7 @@ enum-told-2 c = search needs
 stored-requires : tie.Need-stored-requires
 stored-requires c κs =
     let s = c .before .before .before .before .before .before .before .before .before .before .before .before .before .before .before .before .before .before .before .before .before .before .before .before .before .before .before .before .before .before in
-    (s .pre .0, room-for _ _ _ _ _ (c .before .before .before .before .before .before .before .room .ensures) (c .before .before .before .before .before .enum-told2 .given .1) (rw (c .before .before .before .before .before .before .before .before .most .ensures) (s .pre .0 .covered)), c .before .before .before .before .before .before .before .before .before .before .before .before .before .before .before .owners .ensures)
+    (s .pre .0, room-for (inputs (s .args .s) (s .args .m) (s .args .fs .now) (s .args .rows .now) (s .args .landings .now) (s .args .pairs .now)) (s .args .places .now) (s .args .out .now) (s .args .relocs .now) (s .args .sites .now) (c .before .before .before .before .before .before .before .room .ensures) (c .before .before .before .before .before .enum-told2 .given .1) (rw (c .before .before .before .before .before .before .before .before .most .ensures) (s .pre .0 .covered)), c .before .before .before .before .before .before .before .before .before .before .before .before .before .before .before .owners .ensures)
 
 same-length-8 : tie.Need-same-length-8
 same-length-8 c = search needs
@@ -85,7 +89,8 @@ fitted-spec =
     most-requires
     room-requires
     enum-told
-    measured-requires
+    sizes-requires
+    roomed-requires
     same-length
     same-length-2
     same-length-3

@@ -40,8 +40,9 @@ is-debug-requires c κs = search needs
 
 sized-requires : tie.Need-sized-requires
 sized-requires c κs =
-    size-ready (c .before .before .before .before .before .before .before .before .before .before .before .pre .0) (owner-is (c .before .before)) (c .is-debug .ensures) (c .before .align-for .ensures)
-    (c .before .before .before .before .taken .ensures ∙ ap (takenIn _) (c .before .before .before .before .before .extent-at .ensures))
+    let s = c .before .before .before .before .before .before .before .before .before .before .before in
+    let e = c .before .before .before .before .taken .ensures ∙ ap (takenIn _) (c .before .before .before .before .before .extent-at .ensures) in
+    (size-ready (s .pre .0) (owner-is (c .before .before)) (c .is-debug .ensures) (c .before .align-for .ensures) e, rw e (s .pre .2))
 
 returns : tie.Need-returns
 returns c =

@@ -1,53 +1,21 @@
 -- `lists::lists_ok` meets its contract.
-use borrow.Author.Tests.{le-leb, lt-leb}
-use Rattle.format.specs.Lists.{listsOk}
 use Rattle.lists.proofs.Answers.{accepted, refused}
+use Rattle.lists.proofs.Outlines.{lists-is}
 use borrow.Author.Needs.{needs}
 use Rattle.lists.proofs.lists_ok.Statement.{statement}
 use Rattle.lists.proofs.lists_ok.Tie as tie
 
+sums-ok-requires : tie.Need-sums-ok-requires
+sums-ok-requires c κs = search needs
+
 returns : tie.Need-returns
-unfolding listsOk
-returns c = simp (lt-leb _ _ (c .if1 .taken))
-
-sum-ok-requires : tie.Need-sum-ok-requires
-sum-ok-requires c κs = search needs
-
-returns-2 : tie.Need-returns-2
-unfolding listsOk
-returns-2 c = simp (le-leb _ _ (c .before .before .if1 .left), refused (c .before .sum-ok .ensures) (c .if2 .taken))
-
-sum-ok-requires-2 : tie.Need-sum-ok-requires-2
-sum-ok-requires-2 c κs = search needs
-
-returns-3 : tie.Need-returns-3
-unfolding listsOk
-returns-3 c = simp (le-leb _ _ (c .before .before .before .before .if1 .left), accepted (c .before .before .before .sum-ok .ensures) (c .before .before .if2 .left), refused (c .before .sum-ok2 .ensures) (c .if3 .taken))
-
-pairs-sum-ok-requires : tie.Need-pairs-sum-ok-requires
-pairs-sum-ok-requires c κs = search needs
-
-returns-4 : tie.Need-returns-4
-unfolding listsOk
-returns-4 c = simp (le-leb _ _ (c .before .before .before .before .before .before .if1 .left), accepted (c .before .before .before .before .before .sum-ok .ensures) (c .before .before .before .before .if2 .left), accepted (c .before .before .before .sum-ok2 .ensures) (c .before .before .if3 .left), refused (c .before .pairs-sum-ok .ensures) (c .if4 .taken))
+returns c = simp (lists-is, refused (c .before .sums-ok .ensures) (c .if1 .taken))
 
 functions-ok-requires : tie.Need-functions-ok-requires
 functions-ok-requires c κs = search needs
 
-returns-5 : tie.Need-returns-5
-unfolding listsOk
-returns-5 c = simp (le-leb _ _ (c .before .before .before .before .before .before .before .if1 .left), accepted (c .before .before .before .before .before .before .sum-ok .ensures) (c .before .before .before .before .before .if2 .left), accepted (c .before .before .before .before .sum-ok2 .ensures) (c .before .before .before .if3 .left), accepted (c .before .before .pairs-sum-ok .ensures) (c .before .if4 .left)) (c .functions-ok .ensures)
+returns-2 : tie.Need-returns-2
+returns-2 c = simp (lists-is, accepted (c .before .before .sums-ok .ensures) (c .before .if1 .left)) (c .functions-ok .ensures)
 
 pub lists-ok-spec : {M : Type 1} → statement M
-lists-ok-spec =
-    tie.close
-    (tie.spec
-    returns
-    sum-ok-requires
-    returns-2
-    sum-ok-requires-2
-    returns-3
-    pairs-sum-ok-requires
-    returns-4
-    functions-ok-requires
-    returns-5)
+lists-ok-spec = tie.close (tie.spec sums-ok-requires returns functions-ok-requires returns-2)

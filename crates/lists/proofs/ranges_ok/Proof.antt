@@ -1,7 +1,7 @@
 -- `lists::ranges_ok` meets its contract.
 use native.Mathlib.Nat.{add-zero}
 use Rattle.lists.specs.Parts.{rangesOkAt}
-use Rattle.lists.proofs.Answers.{accepted, refused, reached}
+use Rattle.lists.proofs.Answers.{accepted, refused}
 use borrow.Author.Needs.{needs}
 use Rattle.lists.proofs.ranges_ok.Statement.{statement}
 use Rattle.lists.proofs.ranges_ok.Tie as tie
@@ -53,13 +53,6 @@ returns-2 : tie.Need-returns-2
 unfolding rangesOkAt
 returns-2 c = simp (add-zero, accepted (c .before .before .before .before .before .symbol-ok .ensures) (c .before .before .before .before .if1 .left), refused (c .before .inside .ensures) (c .if2 .taken))
 
-rows-ok-requires : tie.Need-rows-ok-requires
-rows-ok-requires c κs = reached _ _ _ (accepted (c .before .inside .ensures) (c .if2 .left))
-
-returns-3 : tie.Need-returns-3
-unfolding rangesOkAt
-returns-3 c = simp (add-zero, accepted (c .before .before .before .before .before .before .before .symbol-ok .ensures) (c .before .before .before .before .before .before .if1 .left), accepted (c .before .before .before .inside .ensures) (c .before .before .if2 .left), refused (c .before .rows-ok .ensures) (c .if3 .taken))
-
 mul-inside : tie.Need-mul-inside
 mul-inside c = search needs
 
@@ -87,9 +80,9 @@ shared-slice-read-inside-2 c = search needs
 inside-requires-2 : tie.Need-inside-requires-2
 inside-requires-2 c κs = search needs
 
-returns-4 : tie.Need-returns-4
+returns-3 : tie.Need-returns-3
 unfolding rangesOkAt
-returns-4 c = simp (add-zero, accepted (c .before .before .before .before .before .before .before .before .before .before .symbol-ok .ensures) (c .before .before .before .before .before .before .before .before .before .if1 .left), accepted (c .before .before .before .before .before .before .inside .ensures) (c .before .before .before .before .before .if2 .left), accepted (c .before .before .before .before .rows-ok .ensures) (c .before .before .before .if3 .left)) (c .inside2 .ensures)
+returns-3 c = simp (add-zero, accepted (c .before .before .before .before .before .before .before .before .symbol-ok .ensures) (c .before .before .before .before .before .before .before .if1 .left), accepted (c .before .before .before .before .inside .ensures) (c .before .before .before .if2 .left)) (c .inside2 .ensures)
 
 pub ranges-ok-spec : {M : Type 1} → statement M
 ranges-ok-spec =
@@ -110,8 +103,6 @@ ranges-ok-spec =
     shared-slice-read-n
     inside-requires
     returns-2
-    rows-ok-requires
-    returns-3
     mul-inside
     add-inside
     mul-inside-2
@@ -121,4 +112,4 @@ ranges-ok-spec =
     mul-inside-4
     shared-slice-read-inside-2
     inside-requires-2
-    returns-4)
+    returns-3)

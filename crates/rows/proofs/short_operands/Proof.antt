@@ -1,0 +1,58 @@
+-- `rows::short_operands` meets its contract.
+use Rattle.rows.specs.Sizes.{shortOperands}
+use Rattle.rows.proofs.ShortSizes.{no-kind}
+use Rattle.rows.proofs.short_operands.Statement.{statement}
+use Rattle.rows.proofs.short_operands.Tie as tie
+
+returns : tie.Need-returns
+unfolding shortOperands
+returns c = rw (c .match .keys1)
+
+returns-2 : tie.Need-returns-2
+unfolding shortOperands
+returns-2 c = rw (c .match .keys2)
+
+returns-3 : tie.Need-returns-3
+unfolding shortOperands
+returns-3 c = rw (c .match .keys3)
+
+returns-4 : tie.Need-returns-4
+unfolding shortOperands
+returns-4 c = rw (c .match .keys4)
+
+returns-5 : tie.Need-returns-5
+unfolding shortOperands
+returns-5 c = rw (c .match .keys5)
+
+returns-6 : tie.Need-returns-6
+unfolding shortOperands
+returns-6 c = rw (c .match .keys6)
+
+returns-7 : tie.Need-returns-7
+unfolding shortOperands
+returns-7 c = rw (c .match .keys7)
+
+returns-8 : tie.Need-returns-8
+unfolding shortOperands
+returns-8 c = rw (c .match .keys8)
+
+returns-9 : tie.Need-returns-9
+unfolding shortOperands
+returns-9 c = rw (c .match .keys9)
+
+returns-10 : tie.Need-returns-10
+unfolding shortOperands
+returns-10 c = rw (c .match .keys10)
+
+returns-11 : tie.Need-returns-11
+unfolding shortOperands
+returns-11 c = rw (c .match .keys11)
+
+returns-12 : tie.Need-returns-12
+returns-12 c =
+    let n = c .match .rest in
+    absurd (no-kind (c .before .args .kind) (c .before .pre) (n .0 .0 .0 .0 .0 .0 .0 .0 .0 .0 .1) (n .0 .0 .0 .0 .0 .0 .0 .0 .0 .1) (n .0 .0 .0 .0 .0 .0 .0 .0 .1) (n .0 .0 .0 .0 .0 .0 .0 .1) (n .0 .0 .0 .0 .0 .0 .1) (n .0 .0 .0 .0 .0 .1) (n .0 .0 .0 .0 .1) (n .0 .0 .0 .1) (n .0 .0 .1) (n .0 .1) (n .1))
+
+pub short-operands-spec : {M : Type 1} → statement M
+short-operands-spec =
+    tie.close (tie.spec returns returns-2 returns-3 returns-4 returns-5 returns-6 returns-7 returns-8 returns-9 returns-10 returns-11 returns-12)
