@@ -2,19 +2,16 @@
 use mathlib.Core.Path.{_≡_, refl, sym, ap, _∙_}
 use mathlib.Core.Bool.{Bool, true, false, not}
 use mathlib.Core.Option.{Option, none, some}
-use mathlib.Core.List.{List, [], _∷_, _++_, append-assoc, append-nil}
+use mathlib.Core.List.{List, [], _∷_, _++_}
 use Prim.Native.Nat.{ℕ, zero, suc, _+_, _<_, _≤_}
 use native.Mathlib.Omega.{arith}
-use native.Mathlib.Nat.{add-zero, zero-add}
-use native.Mathlib.Numerals.{add-one}
 use borrow.Author.Tests.{lt-ltb, le-ltb, not-true, not-false}
-use lib.ListN.{length, take, drop, set, length-set, take-append-drop}
-use lib.Seq.{take-suc-set}
+use lib.ListN.{length, take, drop, set, take-append-drop}
 use lib.IntN.{ℤ}
-use Rattle.format.specs.Prelude.{pick, good, bad}
+use Rattle.format.specs.Prelude.{pick}
 use Rattle.format.specs.Put.{put}
 use Rattle.format.specs.Lists.{Relocation, relocationsOf}
-use Rattle.format.proofs.PutLaws.{put-none, put-cons, length-put}
+use Rattle.format.proofs.PutLaws.{put-none, put-cons, length-put, front-is}
 use Rattle.apply.specs.declared.Width.{Width}
 use Rattle.apply.specs.declared.Kind.{Kind}
 use Rattle.apply.specs.declared.Kind.the-variants.{Data, Address, SumPlus, SumMinus, Image, Set, Sub, Unknown}
@@ -62,16 +59,6 @@ stores-length l bs [] = refl
 stores-length l bs (r ∷ rs) = stores-length l (storeOf l bs r (front rs)) rs ∙ store-length l bs r (front rs)
 
 -- ---- the front of a buffer
-
-take-put : (xs : List ℕ) (p : ℕ) (bs : List ℕ) → p + length bs ≤ length xs → take (p + length bs) (put xs p bs) ≡ take p xs ++ bs
-take-put xs p [] h = rw (add-zero, put-none, append-nil) refl
-take-put xs p (b ∷ bs) h =
-    let e : p + length (b ∷ bs) ≡ suc p + length bs = omega arith in
-    rw (e, put-cons, add-one p)
-    (take-put (set xs p b) (suc p) bs (omega (arith, length-set xs p b)) ∙ rw (take-suc-set xs p b (omega arith), append-assoc) refl)
-
-pub front-is : (xs bs : List ℕ) → length bs ≤ length xs → take (length bs) (put xs 0 bs) ≡ bs
-front-is xs bs h = rw (zero-add (length bs)) at (take-put xs 0 bs (omega arith))
 
 past-set : (xs : List ℕ) (p b n : ℕ) → p < n → drop n (set xs p b) ≡ drop n xs
 past-set [] p b n h = refl

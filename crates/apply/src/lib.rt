@@ -149,10 +149,10 @@ fn reloc_at(relocs: &[u64], i: usize) -> Reloc
 {
     Reloc {
         place: relocs[relocs::RELOCATION_STRIDE * i],
-        symbol: relocs[relocs::RELOCATION_STRIDE * i + 1],
-        kind: relocs[relocs::RELOCATION_STRIDE * i + 2],
-        bytes: relocs[relocs::RELOCATION_STRIDE * i + 3],
-        addend: relocs[relocs::RELOCATION_STRIDE * i + 4],
+        symbol: relocs[relocs::RELOCATION_STRIDE * i + relocs::RELOCATION_SYMBOL],
+        kind: relocs[relocs::RELOCATION_STRIDE * i + relocs::RELOCATION_KIND],
+        bytes: relocs[relocs::RELOCATION_STRIDE * i + relocs::RELOCATION_BYTES],
+        addend: relocs[relocs::RELOCATION_STRIDE * i + relocs::RELOCATION_ADDEND],
     }
 }
 

@@ -2,7 +2,9 @@
 // The types of Windows' unwind data on ARM64: codes, the fields of a record and of a packed word, and the reader's answer. What they mean is in specs/.
 
 pub mod fields;
+pub mod header_bits;
 pub mod limits;
+pub mod packed_bits;
 
 // A code: its kind, 0 to 17 in the source's order, its register by number (x19 is 19, d8 is 8) and its offset or size in bytes. An operand that the
 // kind does not have is 0.

@@ -12,8 +12,8 @@ use Rattle.format.specs.Prelude.{pick, each, all, good, onward}
 use Rattle.format.specs.Leb.{little}
 use Rattle.format.specs.Lists.{count, field, inside, symbolOk, allIn, sumOf, mostFunctions, mostRecords}
 use Rattle.format.specs.Writer.{Written}
-use Rattle.format.specs.Questions.{Question, perFunction, Room, roomAsks, Answer, empty, accepted, unless, fitting}
-use Rattle.format.proofs.Accepted.{both}
+use Rattle.format.specs.Questions.{perFunction, Room, roomAsks, accepted, fitting}
+use Rattle.format.proofs.Accepted.{both, passed, not-empty}
 use Rattle.format.proofs.LebBack.{little-length}
 use Rattle.format.proofs.ListLaws.{each-get}
 use Rattle.format.proofs.Choice.{if-eq}
@@ -32,16 +32,6 @@ use Rattle.arm64_back.proofs.PackedForm.{wordFor, word-fits, packed-as-
 use Rattle.arm64_back.proofs.PackedForm as packed
 
 -- ---- acceptance
-
-passed : (q : Question) (a : Answer) (w : Written) → unless q a ≡ accepted w → (q ≡ none) × (a ≡ accepted w)
-unfolding unless
-passed none a w e = (refl, e)
-passed (some r) a w e = let z : _≡_ {A = ℕ} 0 1 = cc in absurd (omega arith)
-
-not-empty : (b : Bool) (a : Answer) (w : Written) → pick b empty a ≡ accepted w → a ≡ accepted w
-unfolding pick
-not-empty true a w e = let z : _≡_ {A = ℕ} 0 1 = cc in absurd (omega arith)
-not-empty false a w e = e
 
 asked-at : (at : ℕ) (fs : List Function) (k : ℕ) (f : Function) → perFunction functionAsks at fs ≡ none → getElem? fs k ≡ some f
     → functionAsks (at + k) f ≡ none

@@ -5,7 +5,7 @@ use mathlib.Core.Option.{none, some}
 use mathlib.Core.List.{List, [], _∷_, _++_, map}
 use Prim.Native.Nat.{ℕ, zero, suc, _+_, _-_, _*_, _/_, _%_, _^_, _≤_}
 use native.Mathlib.Omega.{arith}
-use lib.Dec.{T, leb, ltb, eqb}
+use lib.Dec.{leb, ltb, eqb}
 use lib.ListN.{length, getElem?, take, drop, replicate, length-append, length-replicate}
 use lib.Seq.{take-at, drop-at}
 use borrow.Author.Tests.{leb-true, ltb-true, eqb-true, le-leb, eq-eqb}
@@ -14,6 +14,7 @@ use Rattle.format.specs.Leb.{little}
 use Rattle.format.specs.Questions.{ask, andThen}
 use Rattle.format.proofs.LebBack.{little-length}
 use Rattle.format.proofs.Accepted.{asked, both}
+use Rattle.format.proofs.Choice.{is-true}
 use Rattle.arm64.specs.declared.Code.{Code}
 use Rattle.arm64.specs.Lists.{Epilogue, Function}
 use Rattle.arm64.specs.Meaning.{reverse}
@@ -37,10 +38,6 @@ pub record Asked (f : Function) : Type 0 where
   pub held : Held f
   pub prologue : AllFine (prologueRun f)
   pub epilogues : AllPlaced f (f .epilogues)
-
-is-true : (b : Bool) → T b → b ≡ true
-is-true true t = refl
-is-true false t = absurd t
 
 pub ask-yes : (test : Bool) (n p : ℕ) → ask test n p ≡ none → test ≡ true
 ask-yes test n p e = is-true test (asked test n p e)

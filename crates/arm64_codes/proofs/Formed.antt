@@ -1,8 +1,8 @@
 -- Every byte's form is one whose codes' numbers fit: a computed test of the 256.
-use mathlib.Core.Path.{_≡_, refl, subst}
-use mathlib.Core.Bool.{Bool, true, false, not}
+use mathlib.Core.Path.{_≡_, subst}
+use mathlib.Core.Bool.{Bool, true, not}
 use mathlib.Core.List.{List, [], _∷_}
-use Prim.Native.Nat.{ℕ, _+_, _*_, _/_, _%_, _≤_, _<_, _^_}
+use Prim.Native.Nat.{ℕ, _+_, _*_, _/_, _%_, _≤_, _<_}
 use native.Mathlib.Nat.{mul-le-mul, div-le-self, mod-lt}
 use native.Mathlib.Omega.{arith}
 use lib.Dec.{T, leb, eqb}
@@ -11,13 +11,10 @@ use mir.Facts.{leb-yes, yes-eqb}
 use Rattle.format.specs.Prelude.{pick, each, all}
 use Rattle.format.specs.Lists.{allIn}
 use Rattle.format.proofs.ListLaws.{chain, chained, in-range}
+use Rattle.format.proofs.Choice.{not-both}
 use Rattle.arm64.specs.declared.Form.{Form}
 use Rattle.arm64.specs.Codes.{formOf, shortForm, integerForm, vectorForm, otherForm}
 use Rattle.arm64_codes.specs.Forms.{FormOk}
-
-not-both : (b : Bool) → T b → T (not b) → ⊥
-not-both true t n = n
-not-both false t n = t
 
 abbrev tests : ℕ → Form → List Bool
 tests b f =

@@ -1,18 +1,17 @@
 -- The codes of a function stored: the prologue's, and each run of its own.
 use mathlib.Core.Path.{_≡_, refl, subst, sym, ap, _∙_}
-use mathlib.Core.Bool.{Bool, true, false, not, _||_}
+use mathlib.Core.Bool.{Bool, true, false, _||_}
 use mathlib.Core.List.{List, [], _∷_, _++_}
-use Prim.Native.Nat.{ℕ, _+_, _-_, _*_, _≤_, _<_}
+use Prim.Native.Nat.{ℕ, _+_, _-_, _≤_, _<_}
 use native.Mathlib.Omega.{arith}
 use lib.ListN.{length, length-append}
 use Rattle.format.specs.Prelude.{pick}
 use Rattle.format.proofs.Wrote.{Wrote}
 use Rattle.format.proofs.PutLaws.{kept}
-use Rattle.format.proofs.Storing.{Storing}
+use Rattle.format.proofs.Storing.{Storing, stored-next}
 use Rattle.format.proofs.Storing as storing
 use Rattle.arm64.specs.declared.Code.{Code}
-use Rattle.arm64.specs.Runs.{noPair, simplify, runFits, backwards, runBytes, leads, isIn, runsBytes}
-use Rattle.arm64_runs.proofs.Stores.{stored-next}
+use Rattle.arm64.specs.Runs.{noPair, simplify, backwards, runBytes, leads, isIn, runsBytes}
 use Rattle.arm64_simple.specs.declared.Run.{Run}
 use Rattle.arm64_simple.specs.Saves.{saves}
 use Rattle.arm64_function.specs.declared.Parts.{Parts}

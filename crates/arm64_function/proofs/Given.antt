@@ -4,19 +4,18 @@ use mathlib.Core.Bool.{Bool, true, false, _&&_}
 use mathlib.Core.List.{List, [], _∷_, _++_, map}
 use Prim.Native.Nat.{ℕ, zero, suc, _+_, _-_, _*_, _/_, _^_, _≤_, _<_}
 use native.Mathlib.Omega.{arith}
-use lib.Dec.{T, leb, ltb, eqb}
+use lib.Dec.{T, leb}
 use lib.ListN.{length}
 use borrow.Author.Tests.{leb-true}
 use Rattle.format.specs.Prelude.{pick, each, all}
 use Rattle.format.specs.Lists.{field, count, inside, allIn, symbolOk}
 use Rattle.format.proofs.ListLaws.{in-range}
-use Rattle.arm64.specs.declared.Code.{Code}
-use Rattle.arm64.specs.Lists.{Epilogue, Function, functionStride, epilogueStride, codeStride, numberedCode, numberedEpilogue, numberedFunction}
+use Rattle.format.proofs.Choice.{is-true}
+use Rattle.arm64.specs.Lists.{Function, functionStride, epilogueStride, numberedCode, numberedEpilogue, numberedFunction}
 use Rattle.arm64.specs.Meaning.{reverse}
 use Rattle.arm64.specs.Runs.{noPair, simplify, runFits, ownRuns, runBytes, runsBytes, indexOf}
 use Rattle.arm64.specs.Writer.{codesOkIn, codeOkAt, epilogueOkAt, functionOkAt, prologueRun, epilogueRun, epilogueRuns, ownOf, codesOf, indexIn, startOk}
 use Rattle.arm64.proofs.MeaningLaws.{both-true}
-use Rattle.arm64_simple.specs.declared.Run.{Run}
 use Rattle.arm64_simple.specs.Saves.{placeOf, savedAt, saves, Inside}
 use Rattle.arm64_function.specs.declared.Parts.{Parts}
 use Rattle.arm64_function.specs.Listed.{Listed}
@@ -176,11 +175,7 @@ module _ {fs es cs : List ℕ} {k : ℕ} (l : Listed fs es cs k) (short : length
       let at = field functionStride fs k 4 in
       let e : at + (i - at) ≡ i = omega (arith, a) in
       let t = in-range (epilogueOkAt es cs) at (field functionStride fs k 5) (i - at) (subst T (sym (says .epilogues)) tt) (omega (arith, a, b)) in
-      inside-of (field epilogueStride es i 1) (field epilogueStride es i 2) true (yes-is (epilogueOkAt es cs i) (subst (λ (j : ℕ). T (epilogueOkAt es cs j)) e t))
-    where
-      yes-is : (b : Bool) → T b → b ≡ true
-      yes-is true t = refl
-      yes-is false t = absurd t
+      inside-of (field epilogueStride es i 1) (field epilogueStride es i 2) true (is-true (epilogueOkAt es cs i) (subst (λ (j : ℕ). T (epilogueOkAt es cs j)) e t))
 
   pub ready : Ready es cs (partsAt fs k)
   unfolding partsAt prologueAt

@@ -11,6 +11,7 @@ use borrow.Author.Tests.{leb-true, le-leb, lt-leb, ltb-true, eq-eqb, ne-eqb}
 use Rattle.format.specs.Prelude.{pick, each}
 use Rattle.format.specs.Lists.{allIn, field}
 use Rattle.format.proofs.ListLaws.{each-length, in-range}
+use Rattle.format.proofs.Choice.{is-true}
 use Rattle.arm64.specs.declared.Code.{Code}
 use Rattle.arm64.specs.Lists.{Epilogue, Function, functionStride, epilogueStride, numberedCode, numberedEpilogue, numberedFunction}
 use Rattle.arm64.specs.Packing.{candidate, packedWord, standsFor}
@@ -225,11 +226,7 @@ module _ (es cs : List ℕ) (p : Parts) (size : ℕ) {e : Run} (h : e ≡ epilog
 in-all : (test : ℕ → Bool) (at n i : ℕ) → allIn test at n ≡ true → at ≤ i → i < at + n → test i ≡ true
 in-all test at n i e a b =
     let g : at + (i - at) ≡ i = omega (arith, a) in
-    yes-is (test i) (subst (λ (j : ℕ). T (test j)) g (in-range test at n (i - at) (subst T (sym e) tt) (omega (arith, a, b))))
-  where
-    yes-is : (b : Bool) → T b → b ≡ true
-    yes-is true t = refl
-    yes-is false t = absurd t
+    is-true (test i) (subst (λ (j : ℕ). T (test j)) g (in-range test at n (i - at) (subst T (sym e) tt) (omega (arith, a, b))))
 
 module _ {fs es cs : List ℕ} {k : ℕ} (h : Fine fs es cs k) where
   abbrev parts : Parts

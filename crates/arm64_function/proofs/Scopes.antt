@@ -1,25 +1,21 @@
 -- The epilogues' words stored, and their indexes read back.
 use mathlib.Core.Path.{_≡_, refl, subst, sym, ap, _∙_}
-use mathlib.Core.Bool.{Bool, true, false}
 use mathlib.Core.List.{List, [], _∷_, _++_}
 use Prim.Native.Nat.{ℕ, zero, suc, _+_, _-_, _*_, _/_, _%_, _^_, _≤_, _<_}
 use native.Mathlib.Omega.{arith}
-use native.Mathlib.Nat.{add-zero}
 use lib.ListN.{length, getD, set, length-set, length-append}
 use lib.Seq.{getD-set-same, getD-set-other}
 use Rattle.format.specs.Leb.{little}
 use Rattle.format.specs.Put.{put}
 use Rattle.format.proofs.LebBack.{little-length}
 use Rattle.format.proofs.Wrote.{Wrote}
-use Rattle.format.proofs.PutLaws.{kept}
-use Rattle.format.proofs.Storing.{Storing}
+use Rattle.format.proofs.Storing.{Storing, stored-next}
 use Rattle.format.proofs.Storing as storing
 use Rattle.format.proofs.Choice.{either}
 use Rattle.arm64.specs.Runs.{noPair, simplify, backwards, runsBytes}
 use Rattle.arm64.specs.Lists.{epilogueStride}
 use Rattle.arm64.specs.Writer.{instructions}
 use Rattle.format.specs.Lists.{field}
-use Rattle.arm64_runs.proofs.Stores.{stored-next}
 use Rattle.arm64_simple.specs.Saves.{saves}
 use Rattle.arm64_function.specs.declared.Parts.{Parts}
 use Rattle.arm64_function.specs.declared.Scope.{Scope}

@@ -18,6 +18,7 @@ ghost use Rattle.arm64_function.specs.Listed.{Listed, Fine, asks};
 ghost use Rattle.arm64_function.specs.Own.{prologueAt, epilogueAt, partsAt, Ready, Fitted, prologueIn, runAt, ownAt, ownIn, codesIn, indexAt, Nearest, heldTo, startOkAt, fitsAt, partsOk, lengthOk, wordsFrom, indexIn, Known, Ahead, Started};
 ghost use Rattle.arm64_function.specs.Record.{Whole, singleAt, Shaped, scopesAt, recordAt};
 use arm64::fields;
+use arm64::header_bits;
 use arm64::limits;
 use arm64_simple::Run;
 
@@ -361,7 +362,7 @@ fn put_scopes(out: &mut [u8], to: usize, es: &[u64], cs: &[u64], p: Parts) -> us
             out,
             q,
             4,
-            es[fields::EPILOGUE_STRIDE * i] / 4 + 4194304 * s.index as u64,
+            es[fields::EPILOGUE_STRIDE * i] / 4 + header_bits::INDEX * s.index as u64,
         );
         next = s.next;
         i += 1;

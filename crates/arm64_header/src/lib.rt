@@ -6,6 +6,7 @@ ghost use lib.ListN.{length, replicate};
 ghost use Rattle.format.proofs.Wrote.{Wrote};
 ghost use Rattle.arm64.specs.Writer.{nopByte};
 ghost use Rattle.arm64_header.specs.Header.{isLongOf, firstWord, headerOf};
+use arm64::header_bits;
 use arm64::limits;
 
 // The short form holds counts below 32 and 31 words of codes.
@@ -24,7 +25,7 @@ fn first_word(size: u64, single: bool) -> u64
     ensures { λ r. ⌜ (r ≡ firstWord size single) × (r < 2 ^ 22) ⌝ }
 {
     if single {
-        return size + 2097152;
+        return size + header_bits::SINGLE;
     }
     size
 }
@@ -52,9 +53,14 @@ pub fn put_header(
     let first = first_word(size, single);
     if is_long(count, words) {
         let a = leb::le(out, at, 4, first);
-        return leb::le(out, a, 4, count + 65536 * words);
+        return leb::le(out, a, 4, count + header_bits::LONG_WORDS * words);
     }
-    leb::le(out, at, 4, first + 4194304 * count + 134217728 * words)
+    leb::le(
+        out,
+        at,
+        4,
+        first + header_bits::COUNT * count + header_bits::WORDS * words,
+    )
 }
 
 // Codes are padded to words with nop.

@@ -1,25 +1,22 @@
 -- Sums that stop once they pass the most of records.
 use mathlib.Core.Path.{_≡_, refl, sym, ap, _∙_}
-use Prim.Native.Nat.{ℕ, suc, _+_, _-_, _*_, _≤_, _<_}
+use Prim.Native.Nat.{ℕ, suc, _+_, _-_, _≤_, _<_}
 use native.Mathlib.Omega.{arith}
 use lib.Dec.{leb}
 use mathlib.Core.List.{List}
-use Rattle.format.specs.Prelude.{pick}
 use Rattle.format.specs.Lists.{field, sumOf, mostRecords}
-use Rattle.format.proofs.Choice.{if-le, if-gt}
+use Rattle.format.proofs.Choice.{if-le, if-gt, either, is-true, is-yes}
 use Rattle.arm64.specs.Lists.{functionStride, epilogueStride}
 use Rattle.arm64.specs.Writer.{codesIn}
-use mathlib.Core.Bool.{Bool, true, false, _&&_, and-true, and-false}
+use mathlib.Core.Bool.{true, false, _&&_}
 use lib.Dec.{T}
 use mathlib.Core.Path.{subst}
-use borrow.Author.Tests.{le-leb}
-use Rattle.format.specs.Lists.{count, inside, symbolOk, allIn, mostFunctions}
-use Rattle.format.proofs.Choice.{either}
+use Rattle.format.specs.Lists.{count, inside, symbolOk, allIn}
 use Rattle.format.proofs.ListLaws.{in-range}
 use native.Mathlib.Nat.{zero-add}
 use Rattle.lists.proofs.Sums as sums
 use Rattle.lists.proofs.Answers.{reached}
-use Rattle.arm64.specs.Writer.{codesOkIn, epilogueOkAt, functionOkAt, listsOk}
+use Rattle.arm64.specs.Writer.{codesOkIn, epilogueOkAt, functionOkAt}
 use Rattle.arm64.proofs.MeaningLaws.{both-true}
 use Rattle.arm64_lists.specs.Sums.{upTo}
 
@@ -97,13 +94,6 @@ module _ {f : ℕ → ℕ} {n k sum s : ℕ} (a : sums.Summing f n k sum) (h : k
 
 -- ---- the ranges of functions that pass
 
-from-T : (b : Bool) → T b → b ≡ true
-from-T true t = refl
-from-T false t = absurd t
-
-to-T : (b : Bool) → b ≡ true → T b
-to-T b e = subst T (sym e) tt
-
 module _ (fs es cs : List ℕ) where
   one-range : (k : ℕ) → functionOkAt fs es cs k ≡ true → field functionStride fs k 4 + field functionStride fs k 5 ≤ count epilogueStride es
   unfolding functionOkAt
@@ -117,5 +107,5 @@ module _ (fs es cs : List ℕ) where
       → field functionStride fs k 4 + field functionStride fs k 5 ≤ count epilogueStride es
   ranges n e k h =
       one-range k
-      (from-T (functionOkAt fs es cs k)
-      (subst (λ (i : ℕ). T (functionOkAt fs es cs i)) (zero-add k) (in-range (functionOkAt fs es cs) 0 n k (to-T (allIn (functionOkAt fs es cs) 0 n) e) h)))
+      (is-true (functionOkAt fs es cs k)
+      (subst (λ (i : ℕ). T (functionOkAt fs es cs i)) (zero-add k) (in-range (functionOkAt fs es cs) 0 n k (is-yes e) h)))

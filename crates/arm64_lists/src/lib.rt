@@ -177,23 +177,6 @@ fn codes_sum_ok(fs: &[u64], es: &[u64], n: usize) -> bool
     true
 }
 
-fn epilogues_sum_ok(fs: &[u64], n: usize) -> bool
-    requires { ⌜ 6 * n ≤ length (now fs) ⌝ }
-    ensures { λ r. ⌜ r ≡ leb (sumOf (λ k. field functionStride (now (fs .entry)) k 5) 0 n) mostRecords ⌝ }
-{
-    let mut sum = 0;
-    let mut k = 0;
-    while k < n {
-        let x = fs[fields::FUNCTION_STRIDE * k + fields::EPILOGUES];
-        if lists::MOST_RECORDS - sum < x {
-            return false;
-        }
-        sum += x;
-        k += 1;
-    }
-    true
-}
-
 // Question 13.
 pub fn lists_ok(fs: &[u64], es: &[u64], cs: &[u64]) -> bool
     ensures { λ r. ⌜ r ≡ listsOk (now (fs .entry)) (now (es .entry)) (now (cs .entry)) ⌝ }
@@ -202,7 +185,7 @@ pub fn lists_ok(fs: &[u64], es: &[u64], cs: &[u64]) -> bool
     if lists::MOST_FUNCTIONS < n {
         return false;
     }
-    if !epilogues_sum_ok(fs, n) {
+    if !lists::sum_ok(fs, fields::FUNCTION_STRIDE, fields::EPILOGUES, n) {
         return false;
     }
     if !functions_ok(fs, es, cs, n) {

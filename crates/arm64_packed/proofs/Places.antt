@@ -1,5 +1,5 @@
 -- The places of a packed word one after the other, and the words that the page defines: what the loops know at each turn, and which test decides.
-use mathlib.Core.Path.{_≡_, refl, sym, ap, _∙_}
+use mathlib.Core.Path.{_≡_, refl, ap, _∙_}
 use mathlib.Core.Logic.{_≢_}
 use mathlib.Core.Bool.{Bool, true, false, not}
 use mathlib.Core.List.{List, [], _∷_, _++_}
@@ -10,7 +10,7 @@ use lib.Dec.{eqb}
 use lib.ListN.{length, length-append}
 use Rattle.format.proofs.Wrote.{Wrote}
 use Rattle.format.proofs.Choice.{if-le, if-gt, if-eq, if-ne}
-use Rattle.format.proofs.Storing.{Storing}
+use Rattle.format.proofs.Storing.{Storing, stored-next}
 use Rattle.format.proofs.Storing as storing
 use Rattle.arm64.specs.declared.Code.{Code}
 use Rattle.arm64.specs.declared.Packed.{Packed}
@@ -18,8 +18,7 @@ use Rattle.arm64.specs.declared.Slot.{Slot}
 use Rattle.arm64.specs.declared.Slot.the-variants.{Coded, Empty}
 use Rattle.arm64.specs.Lists.{codeNumbers}
 use Rattle.arm64.specs.Packed.{integerSize, vectorCount, savedSize, localSize, chainOk, packedOk, slot, withSlot, slotsFrom, undone, slotAt}
-use Rattle.arm64_runs.proofs.Stores.{code-numbers-length, stored-next}
-use Rattle.arm64_packed.specs.Fields.{Small, Sound}
+use Rattle.arm64_runs.proofs.Stores.{code-numbers-length}
 
 -- ---- one place
 

@@ -12,6 +12,7 @@ ghost use Rattle.arm64_packed.specs.Fields.{Small, Sound};
 use arm64::Code;
 use arm64::Packed;
 use arm64::Slot;
+use arm64::packed_bits;
 
 // ---- the fields
 
@@ -20,13 +21,13 @@ pub fn packed_of(w: u64) -> Packed
     ensures { λ r. ⌜ (r ≡ packedOf w) × Small r ⌝ }
 {
     Packed {
-        flag: w % 4,
-        length: w / 4 % 2048,
-        vectors: w / 8192 % 8,
-        registers: w / 65536 % 16,
-        homes: w / 1048576 % 2,
-        chain: w / 2097152 % 4,
-        frame: w / 8388608,
+        flag: w % packed_bits::LENGTH,
+        length: w / packed_bits::LENGTH % 2048,
+        vectors: w / packed_bits::VECTORS % 8,
+        registers: w / packed_bits::REGISTERS % 16,
+        homes: w / packed_bits::HOMES % 2,
+        chain: w / packed_bits::CHAIN % 4,
+        frame: w / packed_bits::FRAME,
     }
 }
 

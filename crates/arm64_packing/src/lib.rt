@@ -15,6 +15,7 @@ ghost use Rattle.arm64_packing.specs.Places.{storesOne, storesLr, placed
 use arm64::Code;
 use arm64::Packed;
 use arm64::Slot;
+use arm64::packed_bits;
 use arm64_simple::Run;
 
 // ---- what a code counts
@@ -275,12 +276,12 @@ fn packed_word(p: Packed) -> u64
     ensures { λ r. ⌜ r ≡ packedWord p ⌝ }
 {
     p.flag
-        + 4 * p.length
-        + 8192 * p.vectors
-        + 65536 * p.registers
-        + 1048576 * p.homes
-        + 2097152 * p.chain
-        + 8388608 * p.frame
+        + packed_bits::LENGTH * p.length
+        + packed_bits::VECTORS * p.vectors
+        + packed_bits::REGISTERS * p.registers
+        + packed_bits::HOMES * p.homes
+        + packed_bits::CHAIN * p.chain
+        + packed_bits::FRAME * p.frame
 }
 
 // The packed word that stands for a function of `size` instructions, or 0.

@@ -7,9 +7,7 @@ use native.Mathlib.Omega.{arith}
 use native.Mathlib.Numerals.{add-one}
 use lib.ListN.{length, length-append}
 use Rattle.format.specs.Prelude.{after}
-use Rattle.format.specs.Put.{put}
-use Rattle.format.proofs.Wrote.{Wrote}
-use Rattle.format.proofs.Storing.{Storing}
+use Rattle.format.proofs.Storing.{Storing, stored-next}
 use Rattle.format.proofs.Storing as storing
 use Rattle.arm64.specs.declared.Code.{Code}
 use Rattle.arm64.specs.Lists.{Epilogue, codeNumbers, epilogueNumbers}
@@ -18,7 +16,7 @@ use Rattle.arm64.specs.Reader.{inFront, runAt, epilogue, scoped, epilogueCodes}
 use Rattle.arm64_runs.specs.Runs.{countOf, codesIn}
 use Rattle.arm64_runs.specs.declared.Count.{Count}
 use Rattle.arm64_runs.specs.declared.Count.the-variants.{Is, Bad}
-use Rattle.arm64_runs.proofs.Stores.{code-numbers-length, code-numbers-append, stored-next}
+use Rattle.arm64_runs.proofs.Stores.{code-numbers-length, code-numbers-append}
 use Rattle.arm64_records.specs.Parts.{wordsFrom, totalOf, epiloguesIn, Listed, Placed}
 
 -- ---- the words

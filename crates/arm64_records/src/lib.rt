@@ -14,6 +14,7 @@ ghost use Rattle.arm64_records.specs.Parts.{fitting, headedAt, Narrow, I
 ghost use Rattle.arm64_runs.specs.declared.Count.the-variants as counted;
 use arm64::Header;
 use arm64::fields;
+use arm64::header_bits;
 use arm64_runs::Count;
 
 // ---- the header
@@ -40,11 +41,11 @@ fn short_header(w: u64, past: u64) -> Header
     ensures { λ r. ⌜ (r ≡ shortHeader w past) × Narrow r ⌝ }
 {
     Header {
-        length: w % 262144,
-        handler: w / 1048576 % 2,
-        single: w / 2097152 % 2,
-        count: w / 4194304 % 32,
-        words: w / 134217728,
+        length: w % header_bits::VERSION,
+        handler: w / header_bits::HANDLER % 2,
+        single: w / header_bits::SINGLE % 2,
+        count: w / header_bits::COUNT % 32,
+        words: w / header_bits::WORDS,
         past,
     }
 }
@@ -53,11 +54,11 @@ fn long_header(w: u64, v: u64, past: u64) -> Header
     ensures { λ r. ⌜ (r ≡ longHeader w v past) × Narrow r ⌝ }
 {
     Header {
-        length: w % 262144,
-        handler: w / 1048576 % 2,
-        single: w / 2097152 % 2,
-        count: v % 65536,
-        words: v / 65536 % 256,
+        length: w % header_bits::VERSION,
+        handler: w / header_bits::HANDLER % 2,
+        single: w / header_bits::SINGLE % 2,
+        count: v % header_bits::LONG_WORDS,
+        words: v / header_bits::LONG_WORDS % 256,
         past,
     }
 }
@@ -96,10 +97,10 @@ pub fn header(s: &[u8], at: u64) -> HeaderRead
         return HeaderRead::Bad;
     }
     let w = word_at(s, at as usize);
-    if w / 262144 % 4 != 0 {
+    if w / header_bits::VERSION % 4 != 0 {
         return HeaderRead::Bad;
     }
-    if w / 4194304 != 0 {
+    if w / header_bits::COUNT != 0 {
         return fit(s, short_header(w, at + 4));
     }
     if n - at < 8 {
@@ -120,7 +121,7 @@ fn count_scoped(s: &[u8], past: usize, count: usize, codes: &[u8]) -> Count
     let mut n: usize = 0;
     while k < count {
         let w = word_at(s, past + 4 * k);
-        let Count::Is(m) = arm64_runs::count_run(codes, (w / 4194304) as usize) else {
+        let Count::Is(m) = arm64_runs::count_run(codes, (w / header_bits::INDEX) as usize) else {
             return Count::Bad;
         };
         n += m;
@@ -177,8 +178,8 @@ fn put_scoped(
             cs,
             at,
             codes,
-            4 * (w % 262144),
-            (w / 4194304) as usize,
+            4 * (w % header_bits::RESERVED),
+            (w / header_bits::INDEX) as usize,
         );
         k += 1;
     }

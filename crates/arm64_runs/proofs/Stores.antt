@@ -2,15 +2,14 @@
 use mathlib.Core.Path.{_≡_, refl, sym, ap, _∙_}
 use mathlib.Core.Logic.{_≢_}
 use mathlib.Core.Option.{Option, none, some}
-use mathlib.Core.List.{List, [], _∷_, _++_, append-nil, append-assoc}
+use mathlib.Core.List.{List, [], _∷_, _++_}
 use Prim.Native.Nat.{ℕ, suc, _+_, _-_, _*_, _≤_, _<_}
 use native.Mathlib.Omega.{arith}
-use lib.ListN.{length, set, length-append}
-use lib.Seq.{set-comm}
+use lib.ListN.{length}
 use Rattle.format.specs.Put.{put}
 use Rattle.format.proofs.Wrote.{Wrote}
-use Rattle.format.proofs.PutLaws.{put-none, put-append, length-put, kept}
-use Rattle.format.proofs.Storing.{Storing}
+use Rattle.format.proofs.PutLaws.{put-append, kept, put-in-front}
+use Rattle.format.proofs.Storing.{Storing, stored-next}
 use Rattle.format.proofs.Storing as storing
 use Rattle.arm64.specs.declared.Code.{Code}
 use Rattle.arm64.specs.declared.CodeRead.the-variants as codeRead
@@ -34,31 +33,6 @@ pub code-numbers-append : (us bs : List Code) → codeNumbers (us ++ bs) ≡ cod
 unfolding codeNumbers
 code-numbers-append [] bs = refl
 code-numbers-append (u ∷ us) bs = rw (code-numbers-append us bs)
-
--- ---- stores
-
--- a writer stored the next part of what is still to be stored
-pub stored-next : {xs₀ xs ys : List ℕ} {p i j : ℕ} {all left : List ℕ} (us : List ℕ) → Storing xs₀ xs p i all (us ++ left) → Wrote xs ys i j us
-    → Storing xs₀ ys p j all left
-stored-next {xs₀} {xs} {ys} {p} {i} {j} {all} {left} us c w = record {
-  kept = kept w ∙ c .kept;
-  place = omega (arith, c .place, w .past, length-append us left);
-  room = omega (arith, kept w, c .room, w .past, length-append us left);
-  same = rw (w .stored, w .past) (sym (put-append xs i us left) ∙ c .same);
-}
-
--- runs of stores, one in front of the other, in either order
-one-in-front : (xs : List ℕ) (p v q : ℕ) (bs : List ℕ) → p < q → set (put xs q bs) p v ≡ put (set xs p v) q bs
-unfolding put
-one-in-front xs p v q [] h = refl
-one-in-front xs p v q (b ∷ bs) h =
-    one-in-front (set xs q b) p v (q + 1) bs (omega arith)
-    ∙ ap (λ (l : List ℕ). put l (q + 1) bs) (set-comm xs q p b v (λ (e : q ≡ p). omega arith))
-
-pub in-front : (xs : List ℕ) (p q : ℕ) (us bs : List ℕ) → p + length us ≤ q → put (put xs q bs) p us ≡ put (put xs p us) q bs
-unfolding put
-in-front xs p q [] bs h = refl
-in-front xs p q (u ∷ us) bs h = rw (one-in-front xs p u q bs (omega arith)) (in-front (set xs p u) (p + 1) q us bs (omega arith))
 
 -- ---- what is left of a run
 
@@ -162,7 +136,7 @@ back-put : (xs : List ℕ) (c : Code) (cs : List Code) (i : ℕ) → i ≡ 3 * l
 unfolding reverse
 back-put xs c cs i n =
     let l : 0 + length (codeNumbers (reverse cs)) ≡ i = omega (arith, code-numbers-length (reverse cs), reverse-length cs) in
-    in-front xs 0 i (codeNumbers (reverse cs)) (codeNumbers (c ∷ [])) (omega arith)
+    put-in-front xs 0 i (codeNumbers (reverse cs)) (codeNumbers (c ∷ [])) (omega arith)
     ∙ ap (λ (k : ℕ). put (put xs 0 (codeNumbers (reverse cs))) k (codeNumbers (c ∷ []))) (sym l)
     ∙ sym (put-append xs 0 (codeNumbers (reverse cs)) (codeNumbers (c ∷ [])))
     ∙ ap (put xs 0) (sym (code-numbers-append (reverse cs) (c ∷ [])))

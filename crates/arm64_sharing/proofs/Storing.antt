@@ -2,17 +2,16 @@
 use mathlib.Core.Path.{_≡_, refl, sym, ap, _∙_}
 use mathlib.Core.Bool.{true}
 use mathlib.Core.List.{List, [], _∷_, _++_}
-use Prim.Native.Nat.{ℕ, _+_, _-_, _*_, _≤_, _<_}
+use Prim.Native.Nat.{ℕ, _+_, _-_, _≤_, _<_}
 use native.Mathlib.Omega.{arith}
 use lib.ListN.{length, length-append}
 use Rattle.format.specs.Put.{put}
 use Rattle.format.proofs.Wrote.{Wrote}
-use Rattle.format.proofs.PutLaws.{put-append, kept, put-none, _then_}
+use Rattle.format.proofs.PutLaws.{put-append, kept, put-in-front}
 use Rattle.arm64.specs.declared.Code.{Code}
 use Rattle.arm64.specs.Codes.{codeBytes, codeFits, registerFits, formFor}
 use Rattle.arm64.specs.Runs.{noPair, shorter, simple, pairBehind, simplify, simpleFits, runFits, backwards, runBytes}
 use Rattle.arm64.proofs.MeaningLaws.{both-true}
-use Rattle.arm64_runs.proofs.Stores.{in-front}
 use Rattle.arm64_simple.specs.declared.Run.{Run}
 use Rattle.arm64_simple.specs.Saves.{savedAt, saves}
 use Rattle.arm64_simple.proofs.Loops.{rest, rest-start, rest-first, rest-none}
@@ -78,7 +77,7 @@ module _ {cs : List ℕ} {r : Run} {xs₀ xs : List ℕ} {at to : ℕ} {b c f : 
   put-turn {ys} {n} {q} {d} m w g =
       let l : to - n ≡ at + length later = omega (arith, put-low, m) in
       let z : put ys at later ≡ put xs₀ at (backwards (simplify noPair (saves cs r)))
-      = ap (λ zs. put zs at later) (w .stored) ∙ in-front xs at (to - n) later (codeBytes f) (omega (arith, l))
+      = ap (λ zs. put zs at later) (w .stored) ∙ put-in-front xs at (to - n) later (codeBytes f) (omega (arith, l))
       ∙ ap (λ (i : ℕ). put (put xs at later) i (codeBytes f)) l ∙ sym (put-append xs at later (codeBytes f)) ∙ ap (put xs at) (sym cut) ∙ s .same in
       record {
         same-length = kept w ∙ s .same-length;

@@ -1,26 +1,17 @@
 -- Loops over the codes of a run: what each knows at a turn.
 use mathlib.Core.Path.{_≡_, refl, sym, ap, _∙_}
-use mathlib.Core.Bool.{Bool, true, false, not, _&&_}
-use mathlib.Core.List.{List, [], _∷_, _++_}
-use Prim.Native.Nat.{ℕ, zero, suc, _+_, _-_, _*_, _≤_, _<_}
+use mathlib.Core.Bool.{true, false, _&&_}
+use mathlib.Core.List.{List, [], _∷_}
+use Prim.Native.Nat.{ℕ, _+_, _-_, _*_, _≤_, _<_}
 use native.Mathlib.Omega.{arith}
 use lib.ListN.{length, length-append}
 use Rattle.format.specs.Prelude.{each}
+use Rattle.format.proofs.ListLaws.{each-next, each-none}
 use Rattle.arm64.specs.declared.Code.{Code}
-use Rattle.arm64.specs.Codes.{code, codeBytes}
+use Rattle.arm64.specs.Codes.{codeBytes}
 use Rattle.arm64.specs.Runs.{noPair, simple, pairBehind, simplify, simpleFits, runFits, backwards}
 use Rattle.arm64_simple.specs.declared.Run.{Run}
 use Rattle.arm64_simple.specs.Saves.{savedAt, saves}
-
-first : (f : ℕ → Code) (j n : ℕ) → j < n → each f j (n - j) ≡ f j ∷ each f (j + 1) (n - (j + 1))
-unfolding each
-first f j n h =
-    let e : n - j ≡ suc (n - (j + 1)) = omega arith in
-    let g : suc j ≡ j + 1 = omega arith in ap (each f j) e ∙ ap (λ (k : ℕ). f j ∷ each f k (n - (j + 1))) g
-
-none-left : (f : ℕ → Code) (j n : ℕ) → n ≤ j → each f j (n - j) ≡ []
-unfolding each
-none-left f j n h = let e : n - j ≡ 0 = omega arith in ap (each f j) e
 
 all-of : (f : ℕ → Code) (n : ℕ) → each f 0 n ≡ each f 0 (n - 0)
 all-of f n = let e : n ≡ n - 0 = omega arith in ap (each f 0) e
@@ -35,10 +26,10 @@ module _ (cs : List ℕ) (r : Run) where
   rest-start = all-of (savedAt cs r) (r .count)
 
   pub rest-first : {j : ℕ} {c : Code} → j < r .count → c ≡ savedAt cs r j → rest j ≡ c ∷ rest (j + 1)
-  rest-first {j} {c} h e = first (savedAt cs r) j (r .count) h ∙ ap (λ x. x ∷ rest (j + 1)) (sym e)
+  rest-first {j} {c} h e = each-next (savedAt cs r) (r .count) j h ∙ ap (λ x. x ∷ rest (j + 1)) (sym e)
 
   pub rest-none : {j : ℕ} → r .count ≤ j → rest j ≡ []
-  rest-none {j} h = none-left (savedAt cs r) j (r .count) h
+  rest-none {j} h = each-none (savedAt cs r) (r .count) j h
 
 -- ---- question 83
 

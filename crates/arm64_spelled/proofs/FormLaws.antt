@@ -1,8 +1,8 @@
 -- The forms of the kinds: by the opcodes, and what holds of each.
-use mathlib.Core.Path.{_≡_, refl, subst, sym, ap, _∙_}
-use mathlib.Core.Bool.{Bool, true, false, not}
+use mathlib.Core.Path.{_≡_, refl, subst, sym}
+use mathlib.Core.Bool.{Bool, true, not}
 use mathlib.Core.List.{List, [], _∷_}
-use Prim.Native.Nat.{ℕ, zero, suc, _+_, _*_, _/_, _≤_, _<_, _^_}
+use Prim.Native.Nat.{ℕ, zero, suc, _/_, _≤_, _<_, _^_}
 use native.Mathlib.Nat.{zero-add}
 use native.Mathlib.Omega.{arith}
 use lib.Dec.{T, leb, ltb, eqb}
@@ -10,7 +10,7 @@ use lib.ListN.{length, getD}
 use mir.Facts.{leb-yes, yes-eqb}
 use Rattle.format.specs.Prelude.{pick, each, all}
 use Rattle.format.specs.Lists.{allIn}
-use Rattle.format.proofs.Choice.{if-le, if-gt, if-eq, if-ne, pick-yes, pick-no, tested, either}
+use Rattle.format.proofs.Choice.{if-le, if-gt, if-eq, if-ne, pick-yes, pick-no, tested, either, not-both}
 use Rattle.format.proofs.ListLaws.{chain, chained, in-range}
 use Rattle.arm64.specs.declared.Form.{Form}
 use Rattle.arm64.specs.declared.Code.{Code}
@@ -89,10 +89,6 @@ abbrev tests : Form → List Bool
 tests f =
     leb 1 (f .size) ∷ leb (f .size) 4 ∷ not (eqb (f .size) 3) ∷ leb (f .op) 255 ∷ leb (f .unit) 16777216 ∷ leb 1 (f .scale) ∷ leb (f .scale) 16
     ∷ leb (f .more) 8 ∷ []
-
-not-both : (b : Bool) → T b → T (not b) → ⊥
-not-both true t n = n
-not-both false t n = t
 
 passed : (f : Form) → T (chain true (tests f)) → FormGood f
 passed f t =

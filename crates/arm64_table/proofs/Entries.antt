@@ -8,15 +8,14 @@ use lib.Dec.{T, leb, leb→le}
 use lib.ListN.{getD}
 use borrow.Author.Tests.{eq-eqb, ne-eqb}
 use Rattle.format.specs.declared.Outcome.the-variants as outcome
-use Rattle.format.specs.Prelude.{pick, each}
+use Rattle.format.specs.Prelude.{pick}
 use Rattle.format.specs.Lists.{field, count, mostFunctions, mostRecords, sumOf, inside, symbolOk, allIn}
 use Rattle.format.specs.Questions.{Room, ask, unless, fitting, perFunction}
 use Rattle.format.specs.Answers.{outcomeOf, afterwards, Writes}
-use Rattle.format.proofs.ListLaws.{chained}
-use Rattle.x64.proofs.Entries.{part-of, at-each, symbol-small, is-true}
+use Rattle.format.proofs.ListLaws.{chained, part-of, at-each, symbol-small}
+use Rattle.format.proofs.Choice.{is-true, is-yes}
 use Rattle.arm64.specs.Lists.{functionStride, epilogueStride, numberedFunction, functionsOf}
 use Rattle.arm64.specs.Writer.{codesOkIn, epilogueOkAt, functionOkAt, codesIn, listsOk, functionAsks, arm64, arm64Answer}
-use Rattle.prologue.proofs.Walked as walked
 use Rattle.arm64_function.specs.Listed.{Listed}
 use Rattle.arm64_table.specs.Tables.{firstOf, AllListed}
 
@@ -32,7 +31,7 @@ module _ (fs es cs : List ℕ) where
       let f : ℕ → ℕ = λ j. field functionStride fs k j in
       symbol-small (f 0)
       (chained (symbolOk (f 0)) (codesOkIn cs (f 2) (f 3) ∷ inside (f 4) (f 5) (count epilogueStride es) ∷ allIn (epilogueOkAt es cs) (f 4) (f 5) ∷ []) 0
-      (is-true (l .ok)))
+      (is-yes (l .ok)))
 
   says : T (listsOk fs es cs)
       → (k : ℕ) → T (getD (leb (count functionStride fs) mostFunctions ∷ leb (sumOf (λ k. field functionStride fs k 5) 0 (count functionStride fs)) mostRecords ∷ leb (sumOf (codesIn fs es) 0 (count functionStride fs)) mostRecords ∷ allIn (functionOkAt fs es cs) 0 (count functionStride fs) ∷ []) k true)
@@ -46,12 +45,12 @@ module _ (fs es cs : List ℕ) where
   pub all-listed : listsOk fs es cs ≡ true → AllListed fs es cs (count functionStride fs)
   all-listed e =
       let n : ℕ = count functionStride fs in
-      let say = says (is-true e) in
+      let say = says (is-yes e) in
       record {
         most = leb→le n mostFunctions (say 0);
         each-one = λ k h. record {
           room = omega arith;
-          ok = walked.is-true (functionOkAt fs es cs k) (at-each (functionOkAt fs es cs) n k (say 3) h);
+          ok = is-true (functionOkAt fs es cs k) (at-each (functionOkAt fs es cs) n k (say 3) h);
           few-epilogues = omega (
             arith,
             part-of (λ k. field functionStride fs k 5) n k h,

@@ -15,10 +15,8 @@ use Rattle.format.specs.Writer.{joined}
 use Rattle.format.proofs.Accepted.{both}
 use Rattle.format.proofs.Asked.{questionOf}
 use Rattle.format.proofs.Choice.{if-eq, if-ne}
-use Rattle.format.proofs.ListLaws.{each-length, numbers-length}
+use Rattle.format.proofs.ListLaws.{each-length, numbers-length, numbers-append, each-next, each-none}
 use Rattle.format.proofs.Wrote.{Wrote}
-use Rattle.x64.proofs.Results.{next-of, last-of}
-use Rattle.x64.proofs.Stored.{numbers-append}
 use Rattle.arm64.specs.Lists.{Function}
 use Rattle.arm64.specs.Writer.{functionAsks, isPacked, rowBytes, rowRelocs, infoOf, noRecord, markersFrom, rowsOf, relocsFrom, infosOf}
 use Rattle.arm64_function.specs.Listed.{asks}
@@ -44,7 +42,7 @@ module _ {f : ℕ → Function} {n k : ℕ} (a : Asking f n k) where
   asked-here : k < n
       → perFunction functionAsks 0 (each f 0 n) ≡ andThen (functionAsks k (f k)) (perFunction functionAsks (k + 1) (each f (k + 1) (n - (k + 1))))
   unfolding perFunction
-  asked-here h = a .rest ∙ rw (next-of f n k h) (rw (add-one k))
+  asked-here h = a .rest ∙ rw (each-next f n k h) (rw (add-one k))
 
   module _ {r : ℕ} (h : k < n) (e : functionAsks k (f k) ≡ asks r) where
     pub answered : r ≡ 0 → Asking f n (k + 1)
@@ -57,7 +55,7 @@ module _ {f : ℕ → Function} {n k : ℕ} (a : Asking f n k) where
 
   pub all-answered : n ≤ k → Yes ≡ questionOf (perFunction functionAsks 0 (each f 0 n))
   unfolding perFunction questionOf
-  all-answered h = sym (ap questionOf (a .rest) ∙ rw (last-of f n k h))
+  all-answered h = sym (ap questionOf (a .rest) ∙ rw (each-none f n k h))
 
 -- a yes to all is a yes to each
 yes-from : (f : ℕ → Function) (at n k : ℕ) → perFunction functionAsks at (each f at n) ≡ none → k < n → functionAsks (at + k) (f (at + k)) ≡ none

@@ -8,10 +8,9 @@ use Rattle.format.specs.Prelude.{each}
 use Rattle.format.specs.Put.{put}
 use Rattle.format.specs.Writer.{joined}
 use Rattle.format.proofs.Storing as storing
-use Rattle.format.proofs.Storing.{Storing}
+use Rattle.format.proofs.Storing.{Storing, stored-next}
 use Rattle.format.proofs.Wrote.{Wrote}
-use Rattle.x64.proofs.Results.{next-of, last-of}
-use Rattle.x64.proofs.Stored as stored
+use Rattle.format.proofs.ListLaws.{each-next, each-none}
 
 -- the parts of the functions from k on
 abbrev from : (part : ℕ → List ℕ) (n k : ℕ) → List ℕ
@@ -22,7 +21,7 @@ from-first part n = let e : n - 0 ≡ n = omega arith in rw e
 
 from-next : (part : ℕ → List ℕ) (n k : ℕ) → k < n → from part n k ≡ part k ++ from part n (k + 1)
 unfolding joined
-from-next part n k h = rw (next-of part n k h)
+from-next part n k h = rw (each-next part n k h)
 
 -- ---- counting
 
@@ -43,7 +42,7 @@ module _ {part : ℕ → List ℕ} {n k sum : ℕ} (c : Counted part n k sum) wh
 
   pub all-counted : n ≤ k → sum ≡ length (joined (each part 0 n))
   unfolding joined
-  all-counted h = sym (c .rest ∙ rw (last-of part n k h) (omega arith))
+  all-counted h = sym (c .rest ∙ rw (each-none part n k h) (omega arith))
 
 -- ---- storing
 
@@ -63,8 +62,8 @@ module _ {part : ℕ → List ℕ} {n : ℕ} {xs₀ xs : List ℕ} {k to : ℕ} 
   room-for h = omega (arith, next h .room, length-append (part k) (from part n (k + 1)))
 
   pub fill-next : {ys : List ℕ} {q : ℕ} → k < n → Wrote xs ys to q (part k) → Filled part n xs₀ ys (k + 1) q
-  fill-next h w = record { high = omega arith; left = stored.part (next h) w }
+  fill-next h w = record { high = omega arith; left = stored-next _ (next h) w }
 
   pub all-filled : n ≤ k → xs ≡ put xs₀ 0 (joined (each part 0 n))
   unfolding joined
-  all-filled h = storing.ended (rw (last-of part n k h) at (d .left)) .stored
+  all-filled h = storing.ended (rw (each-none part n k h) at (d .left)) .stored

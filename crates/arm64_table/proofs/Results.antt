@@ -10,10 +10,9 @@ use Rattle.format.specs.Put.{put}
 use Rattle.format.specs.Lists.{numbersOf}
 use Rattle.format.specs.Questions.{Room, accepted, roomAsks, perFunction}
 use Rattle.format.specs.Answers.{outcomeOf, afterwards, relocationNumbers, Writes}
-use Rattle.format.proofs.Asked.{questionOf}
+use Rattle.format.proofs.Asked.{questionOf, said-yes}
 use Rattle.format.proofs.ListLaws.{each-length}
 use Rattle.lists.specs.Room.{roomFor}
-use Rattle.x64.proofs.Asked.{said-yes}
 use Rattle.arm64.specs.Lists.{Function, numberedFunction}
 use Rattle.arm64.specs.Writer.{functionAsks, markersFrom, rowsOf, relocsFrom, infosOf, arm64}
 use Rattle.arm64_table.specs.Tables.{firstOf, AllListed, AllFine}

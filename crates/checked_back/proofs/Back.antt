@@ -1,40 +1,27 @@
 -- What the writer wrote is what the check is handed, and it passes.
-use mathlib.Core.Path.{_≡_, refl, sym, ap, subst, _∙_}
-use mathlib.Core.Bool.{Bool, true, false}
+use mathlib.Core.Path.{_≡_, refl, sym, ap, _∙_}
+use mathlib.Core.Bool.{false}
 use mathlib.Core.List.{List}
 use Prim.Native.Nat.{ℕ}
-use lib.Dec.{T}
 use lib.ListN.{getD, take}
 use Rattle.format.specs.Constants.{elf}
-use Rattle.format.specs.declared.Counts.{Counts}
 use Rattle.format.specs.declared.Outcome.{Outcome}
 use Rattle.format.specs.declared.Outcome.the-variants as outcome
 use Rattle.format.specs.declared.Section.the-variants.{Elf}
 use Rattle.format.specs.Machine.{machineOf}
 use Rattle.format.specs.Writer.{Written}
-use Rattle.format.specs.Questions.{Given, Room, Answer, refused, empty, accepted, relaxedTable}
+use Rattle.format.specs.Questions.{Given, Room, accepted, relaxedTable}
 use Rattle.format.specs.Answers.{outcomeOf}
 use Rattle.format.proofs.Accepted.{dwarfWritten}
 use Rattle.format.specs.Prelude.{pick}
 use Rattle.unwind.specs.Together.{bytesIn, answerFor}
 use Rattle.unwind.proofs.Fitting.{FitsIn, answer-fits}
+use Rattle.unwind.proofs.Demands.{accepted-by}
 use Rattle.unwind.proofs.Fronts.{Fronts, bytesOf}
 use Rattle.section_check.specs.Check.{saying, checkSection}
 use Rattle.section_check.specs.declared.Checked.{Checked}
 use Rattle.section_check.proofs.OwnSections.{AllRun, own-sections-pass}
 use Rattle.checked_back.specs.Together.{checkFor, PassesBack}
-
--- an outcome that is an acceptance is an accepted answer's
-abbrev isAccepted : Outcome → Bool
-isAccepted (outcome.Accepted c) = true
-isAccepted outcome.Empty = false
-isAccepted (outcome.Refused n k) = false
-
-accepted-by : (a : Answer) (c : Counts) → outcome.Accepted c ≡ outcomeOf a → (w : Written) × (a ≡ accepted w)
-unfolding outcomeOf
-accepted-by (refused n k) c e = absurd (subst (λ (o : Outcome). T (isAccepted o)) e tt)
-accepted-by empty c e = absurd (subst (λ (o : Outcome). T (isAccepted o)) e tt)
-accepted-by (accepted w) c e = (w, refl)
 
 pub table-fits : (room : Room) (format : ℕ) (g : Given) → FitsIn room (relaxedTable format g room)
 unfolding answerFor pick

@@ -11,6 +11,7 @@ ghost use Rattle.format.specs.Leb.{little};
 ghost use Rattle.format.specs.X64.{size64, registerIn, allocNo, saveNo, operandNo, codeNo, frameOk, frameNo, frameOr, node, allocBytes, slotBytes, saveBytes, codeBytes};
 ghost use Rattle.codes.specs.Codes.{Holds, numberOf, isNear, allocSize, saveSize};
 use format::Seh;
+use numbers::uwop;
 
 // ---- the questions of a code: the number of a no, or 0
 
@@ -140,7 +141,7 @@ pub struct Code {
 }
 
 // An operation with its info, and v behind it as a field of n bytes.
-fn form(at: u8, op: u8, info: u8, n: usize, v: u64) -> Code
+fn form(at: u8, op: u64, info: u8, n: usize, v: u64) -> Code
     requires { ⌜ (op < 16) × (info < 16) × (n ≤ 4) ⌝ }
     ensures { λ r. ⌜ Holds r (node at op info ++ little n v) ⌝ }
 {
@@ -150,7 +151,7 @@ fn form(at: u8, op: u8, info: u8, n: usize, v: u64) -> Code
     Code {
         bytes: [
             at,
-            op + 16 * info,
+            op as u8 + 16 * info,
             (v % 256) as u8,
             (b % 256) as u8,
             (c % 256) as u8,
@@ -166,9 +167,9 @@ fn large(at: u8, size: u64) -> Code
     ensures { λ r. ⌜ Holds r (allocBytes at size) ⌝ }
 {
     if size / 8 < 65536 {
-        return form(at, 1, 0, 2, size / 8);
+        return form(at, uwop::UWOP_ALLOC_LARGE, 0, 2, size / 8);
     }
-    form(at, 1, 1, 4, size)
+    form(at, uwop::UWOP_ALLOC_LARGE, 1, 4, size)
 }
 
 fn alloc(at: u8, size: u64) -> Code
@@ -176,7 +177,7 @@ fn alloc(at: u8, size: u64) -> Code
     ensures { λ r. ⌜ Holds r (allocBytes at size) ⌝ }
 {
     if size <= 128 {
-        return form(at, 2, (size / 8 - 1) as u8, 0, 0);
+        return form(at, uwop::UWOP_ALLOC_SMALL, (size / 8 - 1) as u8, 0, 0);
     }
     large(at, size)
 }
@@ -193,7 +194,7 @@ fn is_near(unit: u64, above: u64) -> bool
 }
 
 // A save by its near operation, or by the far one, which is the next.
-fn slot_in(near: u8, unit: u64, at: u8, reg: u8, above: u64) -> Code
+fn slot_in(near: u64, unit: u64, at: u8, reg: u8, above: u64) -> Code
     requires { ⌜ (near < 15) × (0 < unit) × (reg < 16) ⌝ }
     ensures { λ r. ⌜ Holds r (slotBytes near unit at reg above) ⌝ }
 {
@@ -208,9 +209,9 @@ fn slot(at: u8, reg: u8, vector: bool, above: u64) -> Code
     ensures { λ r. ⌜ Holds r (saveBytes vector at reg above) ⌝ }
 {
     if vector {
-        return slot_in(8, 16, at, reg, above);
+        return slot_in(uwop::UWOP_SAVE_XMM128, 16, at, reg, above);
     }
-    slot_in(4, 8, at, reg, above)
+    slot_in(uwop::UWOP_SAVE_NONVOL, 8, at, reg, above)
 }
 
 // One code, as the nodes that say it.
@@ -220,9 +221,9 @@ pub fn nodes(at: u64, code: Seh) -> Code
 {
     let a = at as u8;
     match code {
-        Seh::Push(reg) => form(a, 0, reg as u8, 0, 0),
+        Seh::Push(reg) => form(a, uwop::UWOP_PUSH_NONVOL, reg as u8, 0, 0),
         Seh::Alloc(z) => alloc(a, size(z)),
-        Seh::Frame(_, _) => form(a, 3, 0, 0, 0),
+        Seh::Frame(_, _) => form(a, uwop::UWOP_SET_FPREG, 0, 0, 0),
         Seh::Save(reg, vector, z) => slot(a, reg as u8, vector, size(z)),
     }
 }

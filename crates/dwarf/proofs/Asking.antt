@@ -5,17 +5,12 @@ use native.Mathlib.Omega.{arith}
 use native.Mathlib.Numerals.{add-one}
 use mathlib.Core.Option.{none, some}
 use Rattle.format.specs.Prelude.{each}
-use Rattle.format.proofs.Asked.{questionOf}
+use Rattle.format.proofs.Asked.{questionOf, said-yes}
 use Rattle.format.specs.declared.Question as declared
 use Rattle.format.specs.declared.Question.the-variants.{Yes, No}
 use Rattle.format.specs.Questions.{Question, andThen, perFunction}
 
 -- ---- one answer
-
-pub said-yes : (o : Question) → questionOf o ≡ Yes → o ≡ none
-unfolding questionOf
-said-yes none e = refl
-said-yes (some r) e = let z : _≡_ {A = ℕ} 0 1 = cc in absurd (omega arith)
 
 pub said-no : (o p : Question) {i j : ℕ} → questionOf o ≡ No i j → questionOf (andThen o p) ≡ questionOf o
 unfolding questionOf andThen

@@ -4,7 +4,7 @@ use Prim.Native.Nat.{ℕ, zero, suc, _/_}
 use native.Mathlib.Omega.{arith}
 use mathlib.Core.Bool.{true, false}
 use mathlib.Core.Option.{none, some}
-use mathlib.Core.List.{List, [], map}
+use mathlib.Core.List.{List, map}
 use borrow.Author.Tests.{le-leb}
 use lib.Dec.{leb→le}
 use lib.ListN.{length}
@@ -18,7 +18,7 @@ use Rattle.format.specs.Machine.{machineOf, machineOk}
 use Rattle.format.specs.Lists.{numbersOf, functionsOf, listsOk}
 use Rattle.format.specs.Questions.{Question, ask, andThen, perFunction, dwarfAsks, Given, Room, roomIn, Answer, refused, accepted, unless, fitting, roomAsks, givenAsks, givenFunctions, dwarfAnswer, dwarfGiven}
 use Rattle.format.specs.Answers.{outcomeOf, afterwards, relocationNumbers, Writes}
-use Rattle.format.proofs.Asked.{questionOf}
+use Rattle.format.proofs.Asked.{questionOf, said-yes}
 use Rattle.format.specs.Writer.{taken}
 use Rattle.format.proofs.Accepted.{asked, both}
 use Rattle.format.proofs.ListLaws.{numbers-length}
@@ -27,7 +27,6 @@ use Rattle.dwarf.specs.Asks.{askedIn, listedAnswer}
 use Rattle.dwarf.specs.Parts.{Inputs, countIn, extentIn, functionIn, placesIn, bytesIn, relocsIn, sitesIn, writtenIn, partsTo}
 use Rattle.lists.specs.Room.{roomFor}
 use Rattle.dwarf.specs.Tables.{totalsIn, countsOf, Covers, Written, Holds}
-use Rattle.dwarf.proofs.Asking.{said-yes}
 use Rattle.dwarf.proofs.Bodies.{asks-body}
 use Rattle.dwarf.proofs.Fronts.{places-length, functions-each, written-parts}
 

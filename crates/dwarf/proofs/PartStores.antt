@@ -18,8 +18,7 @@ use Rattle.format.proofs.SectionSize.{Aligned}
 use Rattle.lists.specs.declared.Extent.{Extent}
 use Rattle.lists.specs.Extents.{meant}
 use Rattle.header_keys.specs.Functions.{bodyOf, Sound, LandingsReady, PairsReady}
-use Rattle.format.proofs.ListLaws.{numbers-length}
-use Rattle.records.proofs.LabelLaws.{numbers-append}
+use Rattle.format.proofs.ListLaws.{numbers-length, numbers-append}
 use Rattle.records.proofs.RelocLaws.{relocs-count}
 use Rattle.dwarf.specs.declared.Table.{Table}
 use Rattle.dwarf.specs.Pieces.{frontIn, frontRelocs, partIn}

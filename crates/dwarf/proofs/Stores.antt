@@ -20,8 +20,7 @@ use Rattle.dwarf.specs.declared.Chosen.{Chosen}
 use Rattle.dwarf.specs.Parts.{Inputs, extentIn, alignIn, placesIn, bytesIn, relocsIn, sitesIn, partBehind, partsTo}
 use Rattle.dwarf.specs.Pieces.{partIn}
 use Rattle.dwarf.specs.Tables.{nothing, totalsIn, chosenBy, Added, Written, Holds}
-use Rattle.format.proofs.ListLaws.{numbers-length}
-use Rattle.records.proofs.LabelLaws.{numbers-append}
+use Rattle.format.proofs.ListLaws.{numbers-length, numbers-append}
 use Rattle.dwarf.proofs.Fronts.{bytes-next, relocs-next, sites-next, places-next, places-length, bytes-grow, relocs-grow, sites-grow}
 use Rattle.dwarf.proofs.Owners.{owner-bound}
 use Rattle.dwarf.proofs.Pieces.{own-part, found-part}

@@ -19,8 +19,7 @@ use Rattle.lists.specs.declared.Extent.{Extent}
 use Rattle.lists.specs.Extents.{meant}
 use Rattle.header_keys.specs.Functions.{bodyOf, keyIn, Sound}
 use Rattle.owners.specs.Owners.{owner}
-use Rattle.format.proofs.ListLaws.{numbers-length}
-use Rattle.records.proofs.LabelLaws.{numbers-append}
+use Rattle.format.proofs.ListLaws.{numbers-length, numbers-append}
 use Rattle.records.proofs.RecordLaws.{record-length}
 use Rattle.records.proofs.RelocLaws.{relocs-count}
 use Rattle.dwarf.specs.declared.Table.{Table}

@@ -1,5 +1,5 @@
 -- The writer's answers, question by question, as its code meets them.
-use mathlib.Core.Path.{_≡_, refl, sym, ap, subst, _∙_}
+use mathlib.Core.Path.{_≡_, refl, sym, _∙_}
 use Prim.Native.Nat.{ℕ, zero, suc, _+_, _<_}
 use native.Mathlib.Omega.{arith}
 use mathlib.Core.Bool.{Bool, true, false}
@@ -15,26 +15,23 @@ use Rattle.format.specs.declared.Outcome.the-variants as outcome
 use Rattle.format.specs.declared.Question as declared
 use Rattle.format.specs.declared.Question.the-variants.{Yes, No}
 use Rattle.format.specs.Machine.{machineOf, machineOk, isWord}
-use Rattle.format.specs.Lists.{functionStride, count, functionOkAt, allIn, listsOk}
+use Rattle.format.specs.Lists.{functionOkAt, allIn, listsOk}
 use Rattle.format.specs.Questions.{Question, andThen, dwarfAsks, perFunction, Given, Room, fitting, dwarfGiven, roomIn}
 use Rattle.format.specs.Answers.{Writes}
-use Rattle.format.proofs.Asked.{questionOf}
-use Rattle.format.proofs.Accepted.{machine-fits, both}
+use Rattle.format.proofs.Asked.{questionOf, said-yes}
+use Rattle.format.proofs.Accepted.{both}
 use Rattle.format.proofs.Fits.{MachineFits}
 use Rattle.format.proofs.ListLaws.{in-range}
+use Rattle.format.proofs.Choice.{is-true, is-yes}
 use Rattle.lists.specs.Parts.{sumsOk}
 use Rattle.lists.proofs.Outlines.{lists-is}
 use Rattle.dwarf.specs.Asks.{askedIn, AllAskable, listedAnswer}
 use Rattle.dwarf.specs.Parts.{Inputs, countIn, writtenIn, partsTo}
 use Rattle.dwarf.specs.Writable.{Cleared}
 use Rattle.dwarf.specs.Surveys.{PassedAt}
-use Rattle.dwarf.proofs.Asking.{said-yes}
 use Rattle.dwarf.proofs.Cleared.{cleared}
 use Rattle.dwarf.proofs.Outcomes.{unchanged, no-machine, machine-yes, no-lists, no-function, all-yes}
 use Rattle.dwarf.proofs.Passed.{all-askable, all-counted, of-lists}
-
-pub is-yes : {b : Bool} → b ≡ true → T b
-is-yes e = subst T (sym e) tt
 
 -- ---- what a list of questions says of each, and the other way round
 
@@ -82,11 +79,13 @@ module _ (x : Inputs) (fit : MachineFits (x .machine)) (b : listsOk (x .function
       → q ≡ Yes → Cleared x
   cleared-is k y = cleared x fit (all-counted (x .functions) (x .rows) (x .landings) (x .pairs) (is-yes b)) (passed (said-yes _ (sym k ∙ y)))
 
+-- question 13 of the lists is that of the functions, behind that of the sums
+pub behind-sums : (x : Inputs) → T (sumsOk (x .functions)) → {b : Bool}
+    → b ≡ allIn (functionOkAt (x .functions) (x .rows) (x .landings) (x .pairs)) 0 (countIn x) → b ≡ listsOk (x .functions) (x .rows) (x .landings) (x .pairs)
+behind-sums x few e = e ∙ sym (lists-is (x .functions) (x .rows) (x .landings) (x .pairs) ∙ rw (is-true (sumsOk (x .functions)) few) refl)
+
 -- functions that passed, the other way round
 module _ (x : Inputs) (few : T (sumsOk (x .functions))) (p : (k : ℕ) → k < countIn x → PassedAt x k) where
-  is-true : (b : Bool) → T b → b ≡ true
-  is-true true t = refl
-
   all-held : (f : ℕ → Bool) (at n : ℕ) → ((k : ℕ) → k < n → T (f (at + k))) → T (allIn f at n)
   unfolding allIn all each
   all-held f at zero h = tt

@@ -10,10 +10,10 @@ use lib.ListN.{length, getD, set, length-append}
 use Rattle.format.specs.Lists.{numbersOf}
 use Rattle.format.specs.Writer.{Part, isDebug, alignFor}
 use Rattle.format.proofs.PutLaws.{put-one}
+use Rattle.format.proofs.ListLaws.{numbers-append}
 use Rattle.lists.specs.declared.Extent.{Extent}
 use Rattle.owners.specs.Owners.{owner}
 use Rattle.owners.specs.Chains.{Owned}
-use Rattle.records.proofs.LabelLaws.{numbers-append}
 use Rattle.dwarf.specs.declared.Table.{Table}
 use Rattle.dwarf.specs.declared.Chosen.{Chosen}
 use Rattle.dwarf.specs.Parts.{Inputs, countIn, extentIn, bytesIn, relocsIn, sitesIn, partBehind, partsTo}

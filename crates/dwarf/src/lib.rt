@@ -42,7 +42,7 @@ use headers::header_size;
 use headers::padding;
 use lists::Extent;
 use lists::extent_at;
-use lists::lists_ok;
+use lists::functions_ok;
 use lists::machine_of;
 use lists::machine_ok;
 use lists::outline_ok;
@@ -916,10 +916,10 @@ fn asked(
     relocs: &mut [u64],
     sites: &mut [u8],
 ) -> Outcome
-    requires { ⌜ MachineFits m × Unused (count functionStride (now fs)) (now heads) (now links) (now owners) ⌝ }
+    requires { ⌜ MachineFits m × T (sumsOk (now fs)) × Unused (count functionStride (now fs)) (now heads) (now links) (now owners) ⌝ }
     ensures { λ r. ⌜ Writes (listedAnswer s m (now (fs .entry)) (now (rows .entry)) (now (landings .entry)) (now (pairs .entry)) (roomIn (now (places .entry)) (now (out .entry)) (now (relocs .entry)) (now (sites .entry)))) r (now (places .entry)) (now (places .exit)) (now (out .entry)) (now (out .exit)) (now (relocs .entry)) (now (relocs .exit)) (now (sites .entry)) (now (sites .exit)) ⌝ }
 {
-    if !lists_ok(fs, rows, landings, pairs) {
+    if !functions_ok(fs, rows, landings, pairs, fs.len() / lists::FUNCTION_STRIDE) {
         return Outcome::Refused(13, 0);
     }
     let q = all_asks(s, m.word, fs, rows, pairs);

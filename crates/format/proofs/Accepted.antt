@@ -70,12 +70,12 @@ unfolding andThen
 both none q e = (refl, e)
 both (some r) q e = let z : _≡_ {A = ℕ} 0 1 = cc in absurd (omega arith)
 
-passed : (q : Question) (a : Answer) (w : Written) → unless q a ≡ accepted w → (q ≡ none) × (a ≡ accepted w)
+pub passed : (q : Question) (a : Answer) (w : Written) → unless q a ≡ accepted w → (q ≡ none) × (a ≡ accepted w)
 unfolding unless
 passed none a w e = (refl, e)
 passed (some r) a w e = let z : _≡_ {A = ℕ} 0 1 = cc in absurd (omega arith)
 
-not-empty : (b : Bool) (a : Answer) (w : Written) → pick b empty a ≡ accepted w → a ≡ accepted w
+pub not-empty : (b : Bool) (a : Answer) (w : Written) → pick b empty a ≡ accepted w → a ≡ accepted w
 unfolding pick
 not-empty true a w e = let z : _≡_ {A = ℕ} 0 1 = cc in absurd (omega arith)
 not-empty false a w e = e

@@ -1,5 +1,5 @@
 -- Laws of choice by a test: which side is taken, and a case split on the order of two numbers.
-use mathlib.Core.Path.{_≡_, refl}
+use mathlib.Core.Path.{_≡_, refl, sym, subst}
 use Prim.Native.Nat.{ℕ, _≤_, _<_}
 use mathlib.Core.Bool.{Bool, true, false, not}
 use mathlib.Core.Logic.{_≢_}
@@ -40,3 +40,19 @@ either a b f g = elim (decLe a b) [ yes h ↦ f h | no h ↦ g (lt-of-not-le h) 
 pub tested {ℓ} : {X : Type ℓ} (b : Bool) → (T b → X) → (T (not b) → X) → X
 tested true f g = f tt
 tested false f g = g tt
+
+-- a test and its value
+pub is-true : (b : Bool) → T b → b ≡ true
+is-true true t = refl
+is-true false t = absurd t
+
+pub is-false : (b : Bool) → T (not b) → b ≡ false
+is-false true t = absurd t
+is-false false t = refl
+
+pub is-yes : {b : Bool} → b ≡ true → T b
+is-yes e = subst T (sym e) tt
+
+pub not-both : (b : Bool) → T b → T (not b) → ⊥
+not-both true t n = n
+not-both false t n = t

@@ -1,15 +1,16 @@
 -- Records in lists of numbers: how many there are, which one stands where, and what a test of all of them says of one.
 use mathlib.Core.Path.{_≡_, refl, ap, subst, _∙_}
-use Prim.Native.Nat.{ℕ, zero, suc, _+_, _*_, _/_, _^_, _≤_, _<_}
+use Prim.Native.Nat.{ℕ, zero, suc, _+_, _-_, _*_, _/_, _^_, _≤_, _<_}
 use native.Mathlib.Omega.{arith}
+use native.Mathlib.Numerals.{add-one}
 use mathlib.Core.Bool.{Bool, true, false, _&&_}
 use mathlib.Core.Option.{some}
-use mathlib.Core.List.{List, [], _∷_, map}
+use mathlib.Core.List.{List, [], _∷_, _++_, map}
 use lib.ListN.{length, getD, getElem?}
 use lib.Dec.{T, leb, ltb, eqb, leb→le, ltb→lt}
 use mir.Facts.{and-yes}
 use Rattle.format.specs.Prelude.{pick, all, each}
-use Rattle.format.specs.Lists.{Relocation, field, relocationStride, relocationAt, relocationsOf, numbersOf, hasRegister, hasOffset, secondOperands, rowOk, allIn}
+use Rattle.format.specs.Lists.{Relocation, field, relocationStride, relocationAt, relocationsOf, numbersOf, hasRegister, hasOffset, secondOperands, rowOk, allIn, sumOf, symbolOk}
 
 -- ---- a function at each number of a range
 
@@ -24,6 +25,15 @@ module _ {A : Type 0} where
   each-get f at zero k h = absurd (omega arith)
   each-get f at (suc n) zero h = ap (λ (i : ℕ). some (f i)) (omega arith)
   each-get f at (suc n) (suc k) h = each-get f (suc at) n k (omega arith) ∙ ap (λ (i : ℕ). some (f i)) (omega arith)
+
+  -- those from k on: one more, or none
+  pub each-next : (f : ℕ → A) (n k : ℕ) → k < n → each f k (n - k) ≡ f k ∷ each f (k + 1) (n - (k + 1))
+  unfolding each
+  each-next f n k h = let e : n - k ≡ suc (n - suc k) = omega arith in rw (add-one k, e)
+
+  pub each-none : (f : ℕ → A) (n k : ℕ) → n ≤ k → each f k (n - k) ≡ []
+  unfolding each
+  each-none f n k h = let e : n - k ≡ 0 = omega arith in rw e
 
   -- one number further on
   pub each-shift : (f g : ℕ → A) (at n : ℕ) → ((k : ℕ) → f (suc k) ≡ g k) → each f (suc at) n ≡ each g at n
@@ -52,6 +62,11 @@ pub numbers-length : (rs : List Relocation) → length (numbersOf rs) ≡ 5 * le
 unfolding numbersOf
 numbers-length [] = refl
 numbers-length (r ∷ rs) = omega (arith, numbers-length rs)
+
+pub numbers-append : (rs ss : List Relocation) → numbersOf (rs ++ ss) ≡ numbersOf rs ++ numbersOf ss
+unfolding numbersOf
+numbers-append [] ss = refl
+numbers-append (r ∷ rs) ss = rw (numbers-append rs ss)
 
 relocations-each : (rs : List Relocation) → each (relocationAt (numbersOf rs)) 0 (length rs) ≡ rs
 unfolding each relocationAt numbersOf
@@ -90,6 +105,26 @@ in-range test at (suc n) zero t h =
 in-range test at (suc n) (suc k) t h =
     let e : suc at + k ≡ at + suc k = omega arith in
     subst (λ (i : ℕ). T (test i)) e (in-range test (suc at) n k (and-yes (test at) (allIn test (suc at) n) t .1) (omega arith))
+
+pub at-each : (test : ℕ → Bool) (n k : ℕ) → T (allIn test 0 n) → k < n → T (test k)
+at-each test n k t h = let e : 0 + k ≡ k = omega arith in rw e at (in-range test 0 n k t h)
+
+-- ---- question 13: sums, parts of lists, symbols
+
+sum-part : (f : ℕ → ℕ) (at n k : ℕ) → k < n → f (at + k) ≤ sumOf f at n
+unfolding sumOf
+sum-part f at zero k h = absurd (omega arith)
+sum-part f at (suc n) zero h = let e : at + 0 ≡ at = omega arith in rw e (omega arith)
+sum-part f at (suc n) (suc k) h =
+    let e : at + suc k ≡ suc at + k = omega arith in
+    rw e (omega (arith, sum-part f (suc at) n k (omega arith)))
+
+pub part-of : (f : ℕ → ℕ) (n k : ℕ) → k < n → f k ≤ sumOf f 0 n
+part-of f n k h = let e : 0 + k ≡ k = omega arith in rw e at (sum-part f 0 n k h)
+
+pub symbol-small : (n : ℕ) → T (symbolOk n) → n < 2 ^ 32
+unfolding symbolOk
+symbol-small n t = ltb→lt n (2 ^ 32) (and-yes (leb 16 n) (ltb n (2 ^ 32)) t .1)
 
 -- ---- question 13: the ranges of a row's numbers
 

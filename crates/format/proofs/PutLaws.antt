@@ -1,11 +1,12 @@
 -- Laws of stores: runs of stores compose, a field may be stored over its blank, and the buffer keeps its length.
 use mathlib.Core.Path.{_≡_, refl, ap, _∙_}
-use mathlib.Core.List.{List, [], _∷_, _++_}
-use Prim.Native.Nat.{ℕ, _+_, _<_}
-use native.Mathlib.Nat.{add-zero}
+use mathlib.Core.List.{List, [], _∷_, _++_, append-assoc, append-nil}
+use Prim.Native.Nat.{ℕ, suc, _+_, _≤_, _<_}
+use native.Mathlib.Nat.{add-zero, zero-add}
+use native.Mathlib.Numerals.{add-one}
 use native.Mathlib.Omega.{arith}
-use lib.ListN.{length, set, length-set, length-append}
-use lib.Seq.{set-comm, set-set}
+use lib.ListN.{length, take, set, length-set, length-append}
+use lib.Seq.{set-comm, set-set, take-suc-set}
 use Rattle.format.specs.Put.{put}
 use Rattle.format.proofs.Wrote.{Wrote}
 
@@ -43,6 +44,23 @@ set-put xs p v q [] h = refl
 set-put xs p v q (b ∷ bs) h =
     set-put (set xs q b) p v (q + 1) bs (omega arith)
     ∙ ap (λ (l : List ℕ). put l (q + 1) bs) (set-comm xs q p b v (λ (e : q ≡ p). omega arith))
+
+-- and so may a run in front of another
+pub put-in-front : (xs : List ℕ) (p q : ℕ) (us bs : List ℕ) → p + length us ≤ q → put (put xs q bs) p us ≡ put (put xs p us) q bs
+unfolding put
+put-in-front xs p q [] bs h = refl
+put-in-front xs p q (u ∷ us) bs h = rw (set-put xs p u q bs (omega arith)) (put-in-front (set xs p u) (p + 1) q us bs (omega arith))
+
+-- the front of what was stored
+take-put : (xs : List ℕ) (p : ℕ) (bs : List ℕ) → p + length bs ≤ length xs → take (p + length bs) (put xs p bs) ≡ take p xs ++ bs
+take-put xs p [] h = rw (add-zero, put-none, append-nil) refl
+take-put xs p (b ∷ bs) h =
+    let e : p + length (b ∷ bs) ≡ suc p + length bs = omega arith in
+    rw (e, put-cons, add-one p)
+    (take-put (set xs p b) (suc p) bs (omega (arith, length-set xs p b)) ∙ rw (take-suc-set xs p b (omega arith), append-assoc) refl)
+
+pub front-is : (xs bs : List ℕ) → length bs ≤ length xs → take (length bs) (put xs 0 bs) ≡ bs
+front-is xs bs h = rw (zero-add (length bs)) at (take-put xs 0 bs (omega arith))
 
 -- as many bytes stored over the first of a run
 pub put-again : (xs : List ℕ) (p : ℕ) (us vs bs : List ℕ) → length us ≡ length vs → put (put xs p (us ++ bs)) p vs ≡ put xs p (vs ++ bs)

@@ -18,7 +18,7 @@ use Rattle.format.specs.Records.{recordRelocs}
 use Rattle.format.specs.Reader.{Entry, isHeader, records, distanceBack, firstAddend, headerAt}
 use Rattle.format.specs.declared.Section.{Section}
 use Rattle.format.specs.Writer.{isDebug, Seen, placeIn, partsFrom, joined}
-use Rattle.format.proofs.Choice.{pick-yes, pick-no, if-le}
+use Rattle.format.proofs.Choice.{pick-yes, pick-no, if-le, is-false}
 use Rattle.format.proofs.Each.{Each, each-join, each-then, first-behind}
 use Rattle.format.proofs.EntryBack.{padded-behind}
 use Rattle.format.proofs.HeaderBack.{header-is}
@@ -32,10 +32,6 @@ use Rattle.format.proofs.RelocsInside.{Inside, relocations-inside}
 no-and : (a b c : Bool) → T (not a) → T (not (a && b && c))
 no-and true b c t = absurd t
 no-and false b c t = tt
-
-pub no-is-false : (b : Bool) → T (not b) → b ≡ false
-no-is-false true t = absurd t
-no-is-false false t = refl
 
 pub header-entry-is : (debug : Bool) (m : Machine) (align at : ℕ) (k : Key) → T (isHeader debug (headerEntry debug m align at k))
 unfolding headerEntry headerBody
@@ -192,7 +188,7 @@ module _ (s : Section) (m : Machine) where
       let d : ℕ = at + 4 - cieOf x in
       let near : d ≤ at + 4 = omega arith in
       let there : at + 4 - d ≡ cieOf x = omega arith in
-      rw (no-is-false (isDebug s) n, padded-behind, record-second-eh (m .word) d f _ (h .distance), if-le d (at + 4), there)
+      rw (is-false (isDebug s) n, padded-behind, record-second-eh (m .word) d f _ (h .distance), if-le d (at + 4), there)
 
 -- ---- the laws of a section
 

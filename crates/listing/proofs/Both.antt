@@ -17,7 +17,7 @@ use Rattle.reader.specs.Spans.{part}
 use Rattle.reader.specs.States.{Room, runOf, storedOf}
 use Rattle.reader.proofs.Acting.{nothing}
 use Rattle.listing.specs.Lines.{Lines, last, ended, highest, linesF, recordLines, linesOf, lineNumbers, Lists}
-use Rattle.listing.proofs.Telling.{Told, telling, told-since, told-joined, told-last, told-ended}
+use Rattle.listing.proofs.StoredLines.{LinesStored, stored-none, stored-since, stored-joined, stored-last, stored-ended}
 use Rattle.listing.proofs.Doing.{state, Inside}
 
 -- the lines of as many entries as are left: 2, the header h and the record r; 1, the record
@@ -83,7 +83,7 @@ pub record Between (whole : Lines) (word q : ℕ) (s : List ℕ) (x y u v : ℕ)
   pub held : Room depth stored
   pub all : State
   pub seen : one.at q all ≡ runOf (state rules stored depth)
-  pub told : Told q whole (remaining word (part s x y) (part s u v) left loc all) old out i
+  pub lines : LinesStored q whole (remaining word (part s x y) (part s u v) left loc all) old out i
   pub room : i + 7 * (bytes left (v - u) + 1) ≤ length out
 
 module _ {word q : ℕ} {s : List ℕ} {x y u v : ℕ} {old : List ℕ} where
@@ -101,7 +101,7 @@ module _ {word q : ℕ} {s : List ℕ} {x y u v : ℕ} {old : List ℕ} where
         held = record { deep = omega arith; long = l };
         all = blank;
         seen = rw e refl;
-        told = telling q (linesOf word (part s x y) (part s u v)) old;
+        lines = stored-none q (linesOf word (part s x y) (part s u v)) old;
         room = omega (arith, m);
       }
 
@@ -120,7 +120,7 @@ module _ {word q : ℕ} {s : List ℕ} {x y u v : ℕ} {old : List ℕ} where
           first-is = ap (λ (r : one.Run). r .current .rule) (b .seen);
           all = b .all;
           seen = b .seen;
-          told = told-since {old = old} (rw p (rw (one-entry word (part s x y) (part s u v) loc (b .all) left l (b .high)) at (b .told)));
+          lines = stored-since {old = old} (rw p (rw (one-entry word (part s x y) (part s u v) loc (b .all) left l (b .high)) at (b .lines)));
           room = rw p (omega (arith, b .room, enter-room left s (part s x y) u v l (b .high)));
         }
 
@@ -128,7 +128,7 @@ module _ {word q : ℕ} {s : List ℕ} {x y u v : ℕ} {old : List ℕ} where
         (n : Inside whole (eqb left 2) word q initial ops (remaining word (part s x y) (part s u v) (left - 1)) (v - u) out out′ rules′ stored′ depth′ j loc′ at)
         (c : left ≡ 0 → ⊥) (f : u ≤ v) (g : v ≤ length s) where
       -- an entry is done
-      pub again : Told q whole (remaining word (part s x y) (part s u v) (left - 1) loc′ (n .all)) out out′ j
+      pub again : LinesStored q whole (remaining word (part s x y) (part s u v) (left - 1) loc′ (n .all)) out out′ j
           → Between whole word q s x y u v old out′ rules′ stored′ depth′ j loc′ (left - 1) u v
       again t =
           let m : left - 1 ≡ 2 → ⊥ = λ h. omega (arith, b .high) in
@@ -142,22 +142,22 @@ module _ {word q : ℕ} {s : List ℕ} {x y u v : ℕ} {old : List ℕ} where
             held = n .held;
             all = n .all;
             seen = n .seen;
-            told = told-joined (b .told) t;
+            lines = stored-joined (b .lines) t;
             room = omega (arith, n .room, leave-room left (v - u) (length ops - at) (omega arith) (b .high));
           }
 
       -- a step past every offset ends the record
-      pub cut : eqb left 2 ≡ false → Told q whole (last loc′ (n .all)) out out′ j
+      pub cut : eqb left 2 ≡ false → LinesStored q whole (last loc′ (n .all)) out out′ j
           → Between whole word q s x y u v old out′ rules′ stored′ depth′ j loc′ (left - 1) u v
       cut e t = again (rw (← behind word (part s x y) (part s u v) left loc′ (n .all) (omega arith) (b .high) e) t)
 
     -- a question ends the run inside of an entry
-    pub refuses : {out′ : List ℕ} {j at m : ℕ} → Told q whole (ended at m) out out′ j → Lists q (good whole) (record { number = 0; lines = j / 7; ending = m; from = at }) old out′
-    refuses t = told-ended (told-joined (b .told) t)
+    pub refuses : {out′ : List ℕ} {j at m : ℕ} → LinesStored q whole (ended at m) out out′ j → Lists q (good whole) (record { number = 0; lines = j / 7; ending = m; from = at }) old out′
+    refuses t = stored-ended (stored-joined (b .lines) t)
 
     pub end-room : left ≡ 0 → i + 7 ≤ length out
     end-room e = omega (arith, b .room)
 
     pub ended-all : left ≡ 0 → {out′ : List ℕ} {j : ℕ} → Wrote out out′ i j (lineNumbers loc rules) → Lists q (good whole) (record { number = 0; lines = j / 7; ending = 0; from = 0 }) old out′
     unfolding remaining one.at runOf
-    ended-all e w = told-last (rw e at (b .told)) (rw (ap (λ (r : one.Run). r .current) (b .seen)) w)
+    ended-all e w = stored-last (rw e at (b .lines)) (rw (ap (λ (r : one.Run). r .current) (b .seen)) w)

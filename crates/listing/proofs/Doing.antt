@@ -26,7 +26,7 @@ use Rattle.reader.specs.States.{Room, runOf}
 use Rattle.reader.specs.declared.run.State as code
 use Rattle.reader.proofs.Seen.{SeenAs, answered, refused, seen-row}
 use Rattle.listing.specs.Lines.{Lines, line, last, ended, highest, whenRead, whenActed, stepping, doing, linesF, lineNumbers}
-use Rattle.listing.proofs.Telling.{Told, told-line, line-length}
+use Rattle.listing.proofs.StoredLines.{LinesStored, stored-line, line-length}
 
 acted-ext : (at : ℕ) (r : Result State) (k l : State → Lines) → ((u : State) → k u ≡ l u) → whenActed at r k ≡ whenActed at r l
 unfolding whenActed
@@ -93,7 +93,7 @@ pub record Inside (whole : Lines) (header : Bool) (word q : ℕ) (initial : Rule
   pub first-is : first q ≡ initial
   pub all : State
   pub seen : one.at q all ≡ runOf (state rules stored depth)
-  pub told : Told q whole (listing header word first k loc all (drop at ops)) old out i
+  pub lines : LinesStored q whole (listing header word first k loc all (drop at ops)) old out i
   pub room : i + 7 * (pick header more (length ops - at) + 1) ≤ length out
 
 module _ {whole : Lines} {header : Bool} {word q : ℕ} {initial : Rule} {ops : List ℕ} {k : ℕ → State → Lines} {more : ℕ} {old out : List ℕ} {rules : Rules} {stored : List Rules} {depth i loc at : ℕ}
@@ -104,23 +104,23 @@ module _ {whole : Lines} {header : Bool} {word q : ℕ} {initial : Rule} {ops : 
   rules-kept = ap (λ (r : one.Run). r .current) (n .seen)
 
   -- 66: an operation that cannot be read
-  pub bad-operation : at < length ops → operationAt word ops at ≡ decoded.Bad → Told q whole (ended loc 66) old out i
+  pub bad-operation : at < length ops → operationAt word ops at ≡ decoded.Bad → LinesStored q whole (ended loc 66) old out i
   bad-operation h e =
-      rw (unread header word (n .first) k (drop at ops) loc (n .all) (operation-none word ops at e) (omega (arith, length-drop at ops))) at (n .told)
+      rw (unread header word (n .first) k (drop at ops) loc (n .all) (operation-none word ops at e) (omega (arith, length-drop at ops))) at (n .lines)
 
   -- past the last operation
-  pub all-done : length ops ≤ at → Told q whole (k loc (n .all)) old out i
+  pub all-done : length ops ≤ at → LinesStored q whole (k loc (n .all)) old out i
   unfolding linesF
-  all-done h = rw (drop-of-length-le ops h) at (n .told)
+  all-done h = rw (drop-of-length-le ops h) at (n .lines)
 
   module _ {op : Operation} {next : ℕ} (e : operationAt word ops at ≡ decoded.Operation op next) where
-    opened : Told q whole (doing header (n .first) op loc (n .all) λ m u. listing header word (n .first) k m u (drop next ops)) old out i
+    opened : LinesStored q whole (doing header (n .first) op loc (n .all) λ m u. listing header word (n .first) k m u (drop next ops)) old out i
     opened =
         rw
         (reading header word (n .first) k (drop at ops) (drop next ops) op loc (n .all) (operation-rest word ops at e)
         (omega (arith, length-drop at ops, length-drop next ops, operation-ahead word ops at e)))
         at
-        (n .told)
+        (n .lines)
 
     -- less is left
     pub shorter : length ops - next < length ops - at
@@ -132,16 +132,16 @@ module _ {whole : Lines} {header : Bool} {word q : ℕ} {initial : Rule} {ops : 
     pub padding : op ≡ Nop → Inside whole header word q initial ops k more old out rules stored depth i loc next
     unfolding doing
     padding o =
-        record { near = n .near; held = n .held; first = n .first; first-is = n .first-is; all = n .all; seen = n .seen; told = rw o at opened; room = room-left }
+        record { near = n .near; held = n .held; first = n .first; first-is = n .first-is; all = n .all; seen = n .seen; lines = rw o at opened; room = room-left }
 
     module _ {d : ℕ} (o : op ≡ Step d) where
       -- 66: a step in a header
-      pub bad-step : header ≡ true → Told q whole (ended loc 66) old out i
+      pub bad-step : header ≡ true → LinesStored q whole (ended loc 66) old out i
       unfolding doing stepping pick
       bad-step h = rw (o, h) at opened
 
       module _ (h : header ≡ false) where
-        stepped : Told q whole (stepping false d loc (n .all) λ m u. listing header word (n .first) k m u (drop next ops)) old out i
+        stepped : LinesStored q whole (stepping false d loc (n .all) λ m u. listing header word (n .first) k m u (drop next ops)) old out i
         unfolding doing
         stepped = rw (ap (λ (b : Bool). stepping b d loc (n .all) λ m u. listing header word (n .first) k m u (drop next ops)) (sym h)) (rw o at opened)
 
@@ -155,19 +155,19 @@ module _ {whole : Lines} {header : Bool} {word q : ℕ} {initial : Rule} {ops : 
               first-is = n .first-is;
               all = n .all;
               seen = n .seen;
-              told = rw (if-eq d 0 (listing header word (n .first) k loc (n .all) (drop next ops)) _ z) at stepped;
+              lines = rw (if-eq d 0 (listing header word (n .first) k loc (n .all) (drop next ops)) _ z) at stepped;
               room = room-left;
             }
 
         module _ (z : d ≡ 0 → ⊥) where
           -- a step past every offset
-          pub far-step : highest - loc < d → Told q whole (last loc (n .all)) old out i
+          pub far-step : highest - loc < d → LinesStored q whole (last loc (n .all)) old out i
           unfolding stepping pick
           far-step l =
               let g : highest < loc + d = omega (arith, n .near) in
               rw (if-ne d 0 (listing header word (n .first) k loc (n .all) (drop next ops)) _ z, if-gt (loc + d) highest _ (last loc (n .all)) g) at stepped
 
-          near-line : d ≤ highest - loc → Told q whole (line loc (n .all) (listing header word (n .first) k (loc + d) (n .all) (drop next ops))) old out i
+          near-line : d ≤ highest - loc → LinesStored q whole (line loc (n .all) (listing header word (n .first) k (loc + d) (n .all) (drop next ops))) old out i
           unfolding stepping pick
           near-line l =
               let g : loc + d ≤ highest = omega (arith, n .near) in
@@ -192,7 +192,7 @@ module _ {whole : Lines} {header : Bool} {word q : ℕ} {initial : Rule} {ops : 
                 first-is = n .first-is;
                 all = n .all;
                 seen = n .seen;
-                told = told-line (near-line l) (rw rules-kept w);
+                lines = stored-line (near-line l) (rw rules-kept w);
                 room = room-behind w g;
               }
 
@@ -200,11 +200,11 @@ module _ {whole : Lines} {header : Bool} {word q : ℕ} {initial : Rule} {ops : 
       row-seen : SeenAs q (act header (n .first) row (n .all)) (one.act header q initial row (runOf (state rules stored depth)))
       row-seen = rw (← (n .first-is), ← (n .seen)) (seen-row header q (n .first) (n .all) row)
 
-      pub bad-row : {m : ℕ} → one.act header q initial row (runOf (state rules stored depth)) ≡ bad m → Told q whole (ended loc m) old out i
+      pub bad-row : {m : ℕ} → one.act header q initial row (runOf (state rules stored depth)) ≡ bad m → LinesStored q whole (ended loc m) old out i
       unfolding doing whenActed
       bad-row {m} a = by row-seen
         where
-          by : SeenAs q (act header (n .first) row (n .all)) (one.act header q initial row (runOf (state rules stored depth))) → Told q whole (ended loc m) old out i
+          by : SeenAs q (act header (n .first) row (n .all)) (one.act header q initial row (runOf (state rules stored depth))) → LinesStored q whole (ended loc m) old out i
           by (answered s x y) = let w = sym a ∙ y in let z : _≡_ {A = ℕ} 0 1 = cc in absurd (omega arith)
           by (refused l x y) = let w = sym a ∙ y in let z : l ≡ m = cc in rw (← z) (rw (o, x) at opened)
 
@@ -224,7 +224,7 @@ module _ {whole : Lines} {header : Bool} {word q : ℕ} {initial : Rule} {ops : 
                 first-is = n .first-is;
                 all = s;
                 seen = cc;
-                told = rw (o, x) at opened;
+                lines = rw (o, x) at opened;
                 room = room-left;
               }
           by (refused l x y) = let w = sym a ∙ y in let z : _≡_ {A = ℕ} 0 1 = cc in absurd (omega arith)

@@ -214,7 +214,7 @@ pub fn fill(
     let mut left: usize = 2;
     let mut from = header;
     let mut to = header_end;
-    'records: while left != 0 {
+    'entries: while left != 0 {
         let ops = &s[from..to];
         let first = left == 2;
         let initial = rules.rule;
@@ -237,7 +237,7 @@ pub fn fill(
                         continue 'operations;
                     }
                     if HIGHEST - loc < n {
-                        continue 'records;
+                        continue 'entries;
                     }
                     i = line(out, i, loc, rules);
                     loc += n;

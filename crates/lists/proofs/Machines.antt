@@ -4,7 +4,7 @@ use Prim.Native.Nat.{ℕ, zero, suc, _+_, _≤_, _<_}
 use native.Mathlib.Omega.{arith}
 use native.Mathlib.Numerals.{add-one}
 use native.Mathlib.Nat.{le-of-suc-le-suc}
-use mathlib.Core.Bool.{Bool, true, false, not, and-false}
+use mathlib.Core.Bool.{Bool, true, and-false}
 use mathlib.Core.List.{List, [], _∷_}
 use borrow.Author.Tests.{lt-leb}
 use lib.Dec.{T, leb, leb→le}
@@ -14,7 +14,7 @@ use mir.Facts.{and-yes}
 use Rattle.format.specs.Prelude.{all}
 use Rattle.format.specs.Lists.{allIn}
 use Rattle.format.specs.Machine.{isWord, machineOf, machineOk}
-use Rattle.format.proofs.Choice.{either, tested}
+use Rattle.format.proofs.Choice.{either, tested, is-false}
 use Rattle.lists.proofs.Ranges.{none-left, one-more}
 
 -- a test at each of n numbers from `at` on, by their places
@@ -35,10 +35,6 @@ unfolding all
 each-passes test [] i t h = absurd (omega arith)
 each-passes test (x ∷ xs) zero t h = and-yes (test x) (all test xs) t .0
 each-passes test (x ∷ xs) (suc i) t h = each-passes test xs i (and-yes (test x) (all test xs) t .1) (le-of-suc-le-suc h)
-
-is-false : (b : Bool) → T (not b) → b ≡ false
-is-false true t = absurd t
-is-false false t = refl
 
 -- a word is no zero
 pub word-some : (w : ℕ) → isWord w ≡ true → 0 < w

@@ -516,7 +516,7 @@ fn prologue_ok(fs: &[u64], codes: &[u64], k: usize) -> bool
 // ---- question 13 of the lists
 
 // Number j of n records, summed, is at most the most of records.
-fn sum_ok(xs: &[u64], stride: usize, j: usize, n: usize) -> bool
+pub fn sum_ok(xs: &[u64], stride: usize, j: usize, n: usize) -> bool
     requires { ⌜ (j < stride) × (stride * n ≤ length (now xs)) ⌝ }
     ensures { λ r. ⌜ r ≡ leb (sumOf (λ k. field stride (now (xs .entry)) k j) 0 n) mostRecords ⌝ }
 {
@@ -563,7 +563,7 @@ fn pairs_sum_ok(fs: &[u64], n: usize) -> bool
 }
 
 // The first n functions.
-fn functions_ok(fs: &[u64], rows: &[u64], landings: &[u64], pairs: &[u64], n: usize) -> bool
+pub fn functions_ok(fs: &[u64], rows: &[u64], landings: &[u64], pairs: &[u64], n: usize) -> bool
     requires { ⌜ 18 * n ≤ length (now fs) ⌝ }
     ensures { λ r. ⌜ r ≡ allIn (functionOkAt (now (fs .entry)) (now (rows .entry)) (now (landings .entry)) (now (pairs .entry))) 0 n ⌝ }
 {

@@ -11,6 +11,7 @@ pub mod encodings;
 pub mod kinds;
 pub mod machine;
 pub mod opcodes;
+pub mod uwop;
 
 // A machine's word has 2, 4 or 8 bytes.
 pub fn is_word(w: u64) -> bool

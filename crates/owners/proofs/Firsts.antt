@@ -12,26 +12,15 @@ use Rattle.format.specs.Prelude.{pick}
 use Rattle.format.specs.declared.Machine.{Machine}
 use Rattle.format.specs.declared.Section.{Section}
 use Rattle.format.specs.Headers.{Key, sameKey}
-use Rattle.format.proofs.Choice.{pick-yes, pick-no, tested, either}
+use Rattle.format.proofs.Choice.{pick-yes, pick-no, tested, either, is-true, is-false, is-yes}
 use Rattle.format.proofs.SameKey.{same-key}
 use Rattle.owners.specs.Owners.{keyAt, firstFrom, owner}
 use Rattle.owners.specs.Chains.{slotAt, lastIn, heldIn, lastHeld}
 use Rattle.owners.proofs.Finding.{shares, Finding, start, missed, found, ended, owner-low}
 
-is-no : (b : Bool) → T (not b) → b ≡ false
-is-no true t = absurd t
-is-no false t = refl
-
-is-yes : (b : Bool) → T b → b ≡ true
-is-yes true t = refl
-is-yes false t = absurd t
-
 both : (b : Bool) → b ≡ true → b ≡ false → ⊥
 both true p q = subst T q tt
 both false p q = subst T (sym p) tt
-
-pub yes-of : {b : Bool} → b ≡ true → T b
-yes-of e = subst T (sym e) tt
 
 pub no-of : {b : Bool} → b ≡ false → T (not b)
 no-of e = subst (λ b. T (not b)) (sym e) tt
@@ -47,7 +36,7 @@ module _ (test : ℕ → Bool) where
   unfolding firstFrom
   passes j zero h = absurd (omega arith)
   passes j (suc n) h =
-      tested (test j) (λ t. rw (pick-yes (test j) j (firstFrom test (suc j) n) t) (is-yes (test j) t))
+      tested (test j) (λ t. rw (pick-yes (test j) j (firstFrom test (suc j) n) t) (is-true (test j) t))
       (λ t.
       let e : pick (test j) j (firstFrom test (suc j) n) ≡ firstFrom test (suc j) n = pick-no (test j) j (firstFrom test (suc j) n) t in
       let l : firstFrom test (suc j) n < j + suc n = rw e at h in
@@ -62,7 +51,7 @@ module _ (test : ℕ → Bool) where
       (λ t.
       let g : i < firstFrom test (suc j) n = rw (pick-no (test j) j (firstFrom test (suc j) n) t) at h in
       either i j
-      (λ q. let e : j ≡ i = omega arith in rw e at (is-no (test j) t))
+      (λ q. let e : j ≡ i = omega arith in rw e at (is-false (test j) t))
       (λ q. before (suc j) n i q g))
 
   reached : (k j : ℕ) → j ≤ k → ((i : ℕ) → i < j → test i ≡ false) → Finding test k j
@@ -92,7 +81,7 @@ module _ (test : ℕ → Bool) where
       (λ t.
       let g : lastIn test k < i = rw (pick-no (test k) k (lastIn test k) t) at l in
       either k i
-      (λ q. let e : k ≡ i = omega arith in rw e at (is-no (test k) t))
+      (λ q. let e : k ≡ i = omega arith in rw e at (is-false (test k) t))
       (λ q. last-none k i g q))
 
   -- what holds of 0 and of all that pass
@@ -115,7 +104,7 @@ module _ (s : Section) (m : Machine) (fs rows : List ℕ) where
 
   -- to share a key is to have it
   same : (k j : ℕ) → shares s m fs rows k j ≡ true → key j ≡ key k
-  same k j e = same-key (key j) (key k) (yes-of e)
+  same k j e = same-key (key j) (key k) (is-yes e)
 
   same-test : (k j i : ℕ) → shares s m fs rows k j ≡ true → shares s m fs rows j i ≡ shares s m fs rows k i
   same-test k j i e = ap (sameKey (key i)) (same k j e)
@@ -199,7 +188,7 @@ module _ (s : Section) (m : Machine) (fs rows : List ℕ) where
   none-between size k i j l h o =
       tested (shares s m fs rows k j)
       (λ t.
-      let e : slotAt s m fs rows size j ≡ slotAt s m fs rows size k = one-slot size k j (is-yes _ t) in
+      let e : slotAt s m fs rows size j ≡ slotAt s m fs rows size k = one-slot size k j (is-true _ t) in
       let f : heldIn s m fs rows size (slotAt s m fs rows size k) j ≡ false = last-none (heldIn s m fs rows size (slotAt s m fs rows size k)) i j l h in
       absurd (both _ (held-here size (slotAt s m fs rows size k) j o e) f))
-      (λ t. is-no _ t)
+      (λ t. is-false _ t)

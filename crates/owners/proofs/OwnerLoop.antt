@@ -10,12 +10,12 @@ use lib.Seq.{getD-set-same, getD-set-other}
 use mir.Facts.{eqb-yes, eqb-no}
 use Rattle.format.specs.declared.Machine.{Machine}
 use Rattle.format.specs.declared.Section.{Section}
-use Rattle.format.proofs.Choice.{pick-yes, pick-no, tested, either}
+use Rattle.format.proofs.Choice.{pick-yes, pick-no, tested, either, is-yes}
 use Rattle.header_keys.specs.Functions.{Listed}
 use Rattle.owners.specs.Owners.{owner}
 use Rattle.owners.specs.Chains.{slotAt, lastIn, heldIn, lastHeld, Linked, Chained, Owned, OwnersFound, Enough, Unused}
 use Rattle.owners.proofs.Finding.{owner-low}
-use Rattle.owners.proofs.Firsts.{held-here, held-not, not-owner, yes-of, no-of}
+use Rattle.owners.proofs.Firsts.{held-here, held-not, not-owner, no-of}
 
 module _ {s : Section} {m : Machine} {fs rows : List ℕ} {size k : ℕ} {heads links owners : List ℕ} (c : OwnersFound s m fs rows size k heads links owners)
     (g : Enough (k + 1) size links owners) {o : ℕ} (e : o ≡ owner s m fs rows k) where
@@ -104,7 +104,7 @@ module _ {s : Section} {m : Machine} {fs rows : List ℕ} {size k : ℕ} {heads 
           let z : i ≡ h = eqb-yes t in
           rw (add-one k, z)
           (getD-set-same heads h k 0 (omega (arith, c .sized, q .1))
-          ∙ sym (pick-yes (heldIn s m fs rows size h k) k _ (yes-of (held-here s m fs rows size h k (sym e ∙ d) (sym (q .0)))))))
+          ∙ sym (pick-yes (heldIn s m fs rows size h k) k _ (is-yes (held-here s m fs rows size h k (sym e ∙ d) (sym (q .0)))))))
           (λ t.
           let z : i ≡ h → ⊥ = eqb-no t in
           rw (add-one k)

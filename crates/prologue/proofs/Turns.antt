@@ -7,22 +7,21 @@ use mathlib.Core.Bool.{Bool, true, false}
 use mathlib.Core.List.{List, [], _∷_, _++_, append-nil}
 use lib.Dec.{eqb}
 use borrow.Author.Tests.{eq-eqb, ne-eqb}
-use mir.Facts.{eqb-yes}
 use Rattle.format.specs.Prelude.{pick, each}
 use Rattle.format.specs.declared.Machine.{Machine}
 use Rattle.format.specs.declared.Row.{Row}
 use Rattle.format.specs.declared.Row.the-variants.{DefCfa, DefCfaOffset, DefCfaRegister, Offset, Restore, Undefined, RememberState, RestoreState, NegateRaState, SameValue, InRegister}
 use Rattle.format.specs.Rows.{RowAt, kindOf, offsetOf}
-use Rattle.format.specs.Lists.{field, rowStride, rowOf, rowAt}
+use Rattle.format.specs.Lists.{field, rowStride, rowAt}
 use Rattle.format.specs.X64.{beforeRemember}
-use Rattle.format.proofs.Choice.{tested}
+use Rattle.format.proofs.Choice.{tested, is-true, is-false}
 use Rattle.header_keys.proofs.Counting.{remembers}
 use Rattle.prologue.specs.declared.Walk.{Walk}
 use Rattle.prologue.specs.Groups.{joined, joins, third, refused, stepped, added, loneIn, pushIn, lastIn, rowIn, walkFrom, start}
 use Rattle.prologue.specs.Pieces.{Short, Ready}
 use Rattle.prologue.proofs.Neighbours.{joined-above}
 use Rattle.prologue.proofs.Rows.{row-at-short}
-use Rattle.prologue.proofs.Walked.{is-true, is-false, at-push, at-lone, turned}
+use Rattle.prologue.proofs.Walked.{at-push, at-lone, turned}
 
 -- ---- the distance keeps to 32 bits
 

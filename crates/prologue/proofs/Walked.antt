@@ -11,7 +11,7 @@ use Rattle.format.specs.declared.Machine.{Machine}
 use Rattle.format.specs.Lists.{rowAt}
 use Rattle.format.specs.Writer.{isEmpty}
 use Rattle.format.specs.X64.{Prefix, groups, pushRows, readGroups}
-use Rattle.format.proofs.Choice.{if-gt, tested}
+use Rattle.format.proofs.Choice.{if-gt, tested, is-true, is-false}
 use Rattle.prologue.specs.declared.Walk.{Walk}
 use Rattle.prologue.specs.Groups.{joined, joins, third, refused, loneIn, pushIn, lastIn, rowIn, walkFrom}
 use Rattle.prologue.specs.Pieces.{endIn}
@@ -20,14 +20,6 @@ use Rattle.prologue.proofs.Neighbours.{joins-last, joins-yes, joins-no,
 use Rattle.prologue.proofs.Prefixes.{walkOf, Ends, Reads, refuses, reads, link, past, lone-reads, push-reads}
 
 -- a test that said yes or no, as an equation
-pub is-true : (b : Bool) → T b → b ≡ true
-is-true true t = refl
-is-true false t = absurd t
-
-pub is-false : (b : Bool) → T (not b) → b ≡ false
-is-false true t = absurd t
-is-false false t = refl
-
 -- what a row adds, and what n rows from i on add
 unfoldable pub pastRow : (rows : List ℕ) (at end i : ℕ) → Prefix → Prefix
 pastRow rows at end i s = past (rowAt rows i .0) (joins rows i end) (joined rows at i) (rowAt rows i .1) s

@@ -8,7 +8,7 @@ use lib.Dec.{T, leb, eqb, leb→le}
 use lib.ListN.{length}
 use borrow.Author.Tests.{le-leb, lt-leb}
 use mir.Facts.{and-yes}
-use Rattle.format.specs.Prelude.{pick, Result, good, bad, onward}
+use Rattle.format.specs.Prelude.{pick, Result, bad, onward}
 use Rattle.format.specs.Machine.{isWord}
 use Rattle.format.specs.declared.Reading.the-variants.{Refused}
 use Rattle.format.specs.Lists.{relocationsOf}
@@ -19,7 +19,7 @@ use Rattle.reader.specs.declared.location.Located.{Located}
 use Rattle.reader.specs.declared.location.Locating.{Locating}
 use Rattle.reader.specs.declared.location.Locating.the-variants as locating
 use Rattle.reader.specs.Finds.{found, Stated, Locates, locateIn, inSection, rulesFrom, shortestFrom}
-use Rattle.format.proofs.Choice.{if-le, if-gt}
+use Rattle.format.proofs.Choice.{if-le, if-gt, is-true}
 
 -- ---- 11
 
@@ -139,10 +139,6 @@ module _ (s : List ℕ) (l : Located) where
       mark-record f g = rw (e, f, g)
 
 -- ---- the two in a row
-
-is-true : (b : Bool) → T b → b ≡ true
-is-true true t = refl
-is-true false t = absurd t
 
 -- what `locate` said of the place that it found, and of the question that it refused by
 pub place-found : {s : List ℕ} {word : ℕ} {r : Locating} {l : Located} {x : Result Found} → r ≡ locating.Found l → Locates s word r x → Stated s word l x

@@ -25,11 +25,13 @@ use crate::shortest;
 pub fn first_addend(relocs: &[u64], place: u64) -> Number
     ensures { λ r. ⌜ r ≡ numberOf (firstAddend place (relocationsOf (now (relocs .entry)))) ⌝ }
 {
-    let n = relocs.len() / 5;
+    let n = relocs.len() / relocs::RELOCATION_STRIDE;
     let mut i = 0;
     while i < n {
-        if relocs[5 * i] == place {
-            return Number::Is(relocs[5 * i + 4] as usize);
+        if relocs[relocs::RELOCATION_STRIDE * i] == place {
+            return Number::Is(
+                relocs[relocs::RELOCATION_STRIDE * i + relocs::RELOCATION_ADDEND] as usize,
+            );
         }
         i += 1;
     }

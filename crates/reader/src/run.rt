@@ -248,7 +248,7 @@ pub fn run(
     let mut left: usize = 2;
     let mut from = header;
     let mut to = header_end;
-    'records: while left != 0 {
+    'entries: while left != 0 {
         let ops = &s[from..to];
         let first = left == 2;
         let rules = state.rules;
@@ -270,7 +270,7 @@ pub fn run(
                         return Reading::Refused(66);
                     }
                     if p - loc < n {
-                        continue 'records;
+                        continue 'entries;
                     }
                     loc += n;
                     continue 'operations;

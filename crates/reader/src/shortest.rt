@@ -10,6 +10,7 @@ use crate::fields;
 use crate::fields::AugmentationRead;
 use format::Decoded;
 use format::Operation;
+use numbers::opcodes;
 use operations::fields::SignedSpelling;
 use operations::fields::UnsignedSpelling;
 use operations::fields::sleb_spelling;
@@ -118,17 +119,17 @@ fn extended_operands(b: u8) -> Operands
     ensures { λ r. ⌜ numbersOf r ≡ extendedOperands b ⌝ }
 {
     match b {
-        0x05 => Operands::Two,
-        0x06 => Operands::One,
-        0x07 => Operands::One,
-        0x08 => Operands::One,
-        0x09 => Operands::Two,
-        0x0c => Operands::Two,
-        0x0d => Operands::One,
-        0x0e => Operands::One,
-        0x11 => Operands::OneSigned,
-        0x12 => Operands::OneSigned,
-        0x13 => Operands::Signed,
+        opcodes::DW_CFA_OFFSET_EXTENDED => Operands::Two,
+        opcodes::DW_CFA_RESTORE_EXTENDED => Operands::One,
+        opcodes::DW_CFA_UNDEFINED => Operands::One,
+        opcodes::DW_CFA_SAME_VALUE => Operands::One,
+        opcodes::DW_CFA_REGISTER => Operands::Two,
+        opcodes::DW_CFA_DEF_CFA => Operands::Two,
+        opcodes::DW_CFA_DEF_CFA_REGISTER => Operands::One,
+        opcodes::DW_CFA_DEF_CFA_OFFSET => Operands::One,
+        opcodes::DW_CFA_OFFSET_EXTENDED_SF => Operands::OneSigned,
+        opcodes::DW_CFA_DEF_CFA_SF => Operands::OneSigned,
+        opcodes::DW_CFA_DEF_CFA_OFFSET_SF => Operands::Signed,
         _ => Operands::Nothing,
     }
 }
@@ -136,13 +137,13 @@ fn extended_operands(b: u8) -> Operands
 fn operands_of(b: u8) -> Operands
     ensures { λ r. ⌜ numbersOf r ≡ operandsOf b ⌝ }
 {
-    if b < 0x40 {
+    if b < opcodes::DW_CFA_ADVANCE_LOC {
         return extended_operands(b);
     }
-    if b < 0x80 {
+    if b < opcodes::DW_CFA_OFFSET {
         return Operands::Nothing;
     }
-    if b < 0xc0 {
+    if b < opcodes::DW_CFA_RESTORE {
         return Operands::One;
     }
     Operands::Nothing

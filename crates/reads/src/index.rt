@@ -56,10 +56,10 @@ fn skipped(relocs: &[u64], debug: bool, place: u64, from: usize) -> usize
     if !debug {
         return from;
     }
-    let n = relocs.len() / 5;
+    let n = relocs.len() / relocs::RELOCATION_STRIDE;
     let mut i = from;
     while i < n {
-        if place <= relocs[5 * i] {
+        if place <= relocs[relocs::RELOCATION_STRIDE * i] {
             return i;
         }
         i += 1;
@@ -72,11 +72,13 @@ fn addend_from(relocs: &[u64], place: u64, from: usize) -> Number
     requires { ⌜ Searching (now relocs) place from ⌝ }
     ensures { λ r. ⌜ r ≡ numberOf (firstAddend place (relocationsOf (now (relocs .entry)))) ⌝ }
 {
-    let n = relocs.len() / 5;
+    let n = relocs.len() / relocs::RELOCATION_STRIDE;
     let mut i = from;
     while i < n {
-        if relocs[5 * i] == place {
-            return Number::Is(relocs[5 * i + 4] as usize);
+        if relocs[relocs::RELOCATION_STRIDE * i] == place {
+            return Number::Is(
+                relocs[relocs::RELOCATION_STRIDE * i + relocs::RELOCATION_ADDEND] as usize,
+            );
         }
         i += 1;
     }

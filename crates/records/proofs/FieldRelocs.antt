@@ -14,9 +14,9 @@ use Rattle.format.specs.Constants.{exceptTable}
 use Rattle.format.specs.Headers.{pointerReloc, reloc}
 use Rattle.format.specs.Records.{pointerTo, namedReloc, lsdaReloc, sumPair}
 use Rattle.format.proofs.Choice.{if-eq, if-ne}
+use Rattle.format.proofs.ListLaws.{numbers-append}
 use Rattle.lists.specs.declared.Extent.{Extent}
 use Rattle.records.specs.Fields.{pointed, sumIn, lsdaIn, debugRelocs, ehRelocs, fieldRelocs}
-use Rattle.records.proofs.LabelLaws.{numbers-append}
 
 -- ---- the parts of a function's relocations by what its record has
 

@@ -6,21 +6,14 @@ use native.Mathlib.Numerals.{add-one}
 use mathlib.Core.Bool.{Bool, true, false}
 use mathlib.Core.Logic.{_≢_}
 use mathlib.Core.Option.{Option, none, some}
-use mathlib.Core.List.{List, [], _∷_, _++_}
+use mathlib.Core.List.{List, [], _∷_}
 use lib.ListN.{length, length-append}
 use Rattle.format.specs.Prelude.{pick, first, each}
 use Rattle.format.specs.Rows.{RowAt, rowBytes, stepBytes, stepForm}
-use Rattle.format.specs.Lists.{Pair, Relocation, pairAt, numbersOf}
+use Rattle.format.specs.Lists.{Pair, pairAt}
 use Rattle.format.specs.Records.{pairFor, setKind, setBytes, setPlace, setPair, stepRelocs}
 use Rattle.lists.specs.declared.Extent.{Extent}
 use Rattle.records.specs.Labels.{isFor, pairBetween, stepPair}
-
--- ---- numbers of relocations
-
-pub numbers-append : (rs ss : List Relocation) → numbersOf (rs ++ ss) ≡ numbersOf rs ++ numbersOf ss
-unfolding numbersOf
-numbers-append [] ss = refl
-numbers-append (r ∷ rs) ss = rw (numbers-append rs ss)
 
 -- ---- a step's form
 

@@ -11,7 +11,7 @@ use Rattle.format.specs.declared.Machine.{Machine}
 use Rattle.format.specs.Rows.{RowAt}
 use Rattle.format.specs.Lists.{Function, Landing, Named, Pointer, Relaxed, rowAt, numbersOf}
 use Rattle.format.specs.Headers.{ahead, others}
-use Rattle.format.proofs.ListLaws.{numbers-length}
+use Rattle.format.proofs.ListLaws.{numbers-length, numbers-append}
 use Rattle.format.specs.Records.{pointerTo, namedReloc, lsdaReloc, recordFields, sumPair, rowRelocs, recordRelocs}
 use Rattle.lists.specs.declared.Extent.{Extent}
 use Rattle.lists.specs.Extents.{meant}
@@ -19,7 +19,7 @@ use Rattle.header_keys.specs.Functions.{bodyOf}
 use Rattle.records.specs.Fields.{fieldsIn, pointed, sumIn, lsdaIn, debugRelocs, ehRelocs, fieldRelocs}
 use Rattle.records.specs.Labels.{stepsIn}
 use Rattle.records.proofs.OtherRows.{others-are}
-use Rattle.records.proofs.LabelLaws.{numbers-append, steps-count}
+use Rattle.records.proofs.LabelLaws.{steps-count}
 use Rattle.records.proofs.FieldLaws.{fields-are, fields-length}
 use Rattle.records.proofs.FieldRelocs.{sum-is, lsda-is, field-count}
 use Rattle.records.proofs.StepLoops.{steps-counted}

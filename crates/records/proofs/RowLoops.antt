@@ -1,8 +1,7 @@
 -- Rows and the steps between them: one row, and the loops over rows.
 use mathlib.Core.Path.{_≡_, refl}
-use Prim.Native.Nat.{ℕ, suc, _+_, _-_, _*_, _≤_, _<_}
+use Prim.Native.Nat.{ℕ, _+_, _-_, _*_, _≤_, _<_}
 use native.Mathlib.Omega.{arith}
-use native.Mathlib.Numerals.{add-one}
 use mathlib.Core.List.{List, [], _∷_, _++_, append-assoc}
 use lib.ListN.{length, length-append}
 use lib.Dec.{T}
@@ -10,7 +9,7 @@ use Rattle.format.specs.Prelude.{each}
 use Rattle.format.proofs.Wrote.{Wrote}
 use Rattle.format.specs.Rows.{RowAt, rowBytes, stepBytes, steppedBytes}
 use Rattle.format.specs.Lists.{field, rowStride, rowAt, rowOkAt}
-use Rattle.format.proofs.ListLaws.{each-length, in-range}
+use Rattle.format.proofs.ListLaws.{each-length, in-range, each-next}
 use Rattle.format.proofs.Sizes.{row-short, step-short, rows-at-short}
 use Rattle.format.proofs.WalkBack.{RowsAtOk}
 use Rattle.format.proofs.Storing as storing
@@ -34,12 +33,6 @@ row-at-short {w} {from} {rows} {i} r =
 
 -- ---- rows
 
-pub each-more : {A : Type 0} (f : ℕ → A) (i end : ℕ) → i < end → each f i (end - i) ≡ f i ∷ each f (i + 1) (end - (i + 1))
-unfolding each
-each-more f i end h =
-    let e : end - i ≡ suc (end - suc i) = omega arith in
-    rw (add-one i, e)
-
 pub none-left : (w from : ℕ) (rows : List ℕ) (at : ℕ) → rowsIn w from rows at 0 ≡ []
 unfolding rowsIn steppedBytes each
 none-left w from rows at = refl
@@ -48,7 +41,7 @@ none-left w from rows at = refl
 pub here : (w from : ℕ) (rows : List ℕ) (i end : ℕ) → i < end
     → rowsIn w from rows i (end - i) ≡ steppedRowBytes w from (rowAt rows i) ++ rowsIn w (rowAt rows i .0) rows (i + 1) (end - (i + 1))
 unfolding rowsIn steppedBytes steppedRowBytes
-here w from rows i end h = rw (each-more (rowAt rows) i end h, append-assoc)
+here w from rows i end h = rw (each-next (rowAt rows) end i h, append-assoc)
 
 pub rows-at-most : {w : ℕ} {rows : List ℕ} {at n : ℕ} → SteppedReady w rows at n → length (rowsIn w 0 rows at n) ≤ 14 * n
 unfolding rowsIn
@@ -70,7 +63,7 @@ begin {w} {rows} {first} {n} r = record {
 
 module _ {w : ℕ} {rows : List ℕ} {first n i from : ℕ} (r : SteppedReady w rows first n) (g : Going w rows first n i from) (h : i < first + n) where
   rows-at-here : RowsAtOk w from (rowAt rows i ∷ each (rowAt rows) (i + 1) (first + n - (i + 1)))
-  rows-at-here = rw (each-more (rowAt rows) i (first + n) h) at (g .lines)
+  rows-at-here = rw (each-next (rowAt rows) (first + n) i h) at (g .lines)
 
   ok-here : T (rowOkAt rows i)
   ok-here =

@@ -9,15 +9,15 @@ use Rattle.format.proofs.Wrote.{Wrote}
 use Rattle.format.specs.Rows.{rowBytes, stepBytes}
 use Rattle.format.specs.Lists.{field, rowStride, rowAt, pairAt, numbersOf}
 use Rattle.format.specs.Records.{stepRelocs}
-use Rattle.format.proofs.ListLaws.{each-length}
+use Rattle.format.proofs.ListLaws.{each-length, numbers-append, each-next}
 use Rattle.format.proofs.Storing as storing
 use Rattle.format.proofs.Storing.{Storing}
 use Rattle.lists.specs.declared.Extent.{Extent}
 use Rattle.records.specs.Stepped.{steppedRowBytes, SteppedReady}
 use Rattle.records.specs.Labels.{pairBetween, stepPair, stepsIn}
 use Rattle.records.proofs.Chunks.{stored}
-use Rattle.records.proofs.RowLoops.{offset-of, row-at-length, each-more, Going, begin, row-at-ready, row-at-short, onward}
-use Rattle.records.proofs.LabelLaws.{numbers-append, steps-count, steps-most}
+use Rattle.records.proofs.RowLoops.{offset-of, row-at-length, Going, begin, row-at-ready, row-at-short, onward}
+use Rattle.records.proofs.LabelLaws.{steps-count, steps-most}
 
 none-left : (w place from : ℕ) (rows : List ℕ) (at : ℕ) (e : Extent) (pairs : List ℕ) → stepsIn w place from rows at 0 e pairs ≡ []
 unfolding stepsIn stepRelocs each
@@ -31,7 +31,7 @@ unfolding stepsIn stepRelocs stepPair pairBetween
 here w place from rows i end e pairs h =
     let x = rowAt rows i in
     let k : place + length (stepBytes (x .0 - from)) + length (rowBytes w (x .1)) ≡ place + length (steppedRowBytes w from x) = omega (arith, row-at-length w from x) in
-    rw (each-more (rowAt rows) i end h, k)
+    rw (each-next (rowAt rows) end i h, k)
 
 -- ---- the loop that writes them
 

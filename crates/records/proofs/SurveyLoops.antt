@@ -2,7 +2,7 @@
 use mathlib.Core.Path.{_≡_, refl, subst}
 use Prim.Native.Nat.{ℕ, _+_, _-_, _*_, _^_, _≤_, _<_}
 use native.Mathlib.Omega.{arith}
-use mathlib.Core.Bool.{Bool, true, false}
+use mathlib.Core.Bool.{true}
 use mathlib.Core.List.{List}
 use borrow.Author.Tests.{le-leb, lt-ltb}
 use lib.Dec.{T}
@@ -13,15 +13,11 @@ use Rattle.format.specs.Lists.{field, rowStride, rowAt, rowOkAt, allIn, count}
 use Rattle.format.specs.Questions.{stepsOk}
 use Rattle.format.proofs.Accepted.{row-fits}
 use Rattle.format.proofs.RowBack.{RowFits}
-use Rattle.format.proofs.WalkBack.{RowsAtOk}
 use Rattle.format.proofs.Sizes.{row-short}
-use Rattle.rows.proofs.WholeNumbers.{is-yes}
+use Rattle.format.proofs.Choice.{is-true, is-yes}
+use Rattle.format.proofs.ListLaws.{each-next}
 use Rattle.records.specs.Stepped.{steppedRowBytes, rowsIn, SurveyedRow, SurveyedRows}
-use Rattle.records.proofs.RowLoops.{offset-of, row-at-length, each-more, none-left, here}
-
-yes-is : (b : Bool) → T b → b ≡ true
-yes-is true t = refl
-yes-is false t = absurd t
+use Rattle.records.proofs.RowLoops.{offset-of, row-at-length, none-left, here}
 
 -- ---- a row that passes questions 13 and 24, by what the code asks
 
@@ -50,26 +46,24 @@ module _ (w from : ℕ) (rows : List ℕ) (i : ℕ) {r : ℕ}
 -- n rows from `at` on that pass, the first of them from the offset `from` on
 pub record Passed (w from : ℕ) (rows : List ℕ) (at n size : ℕ) : Type 0 where
   pub ok : all (rowOkAt rows) (each (λ j. j) at n) ≡ true
-  pub lines : RowsAtOk w from (each (rowAt rows) at n)
   pub steps : stepsOk from (each (rowAt rows) at n) ≡ true
   pub whole : all (λ x. rowWhole w (x .1)) (each (rowAt rows) at n) ≡ true
   pub bytes : size ≡ length (rowsIn w from rows at n)
 
 none : (w from : ℕ) (rows : List ℕ) (at : ℕ) → Passed w from rows at 0 0
 unfolding all each stepsOk
-none w from rows at = record { ok = refl; lines = tt; steps = refl; whole = refl; bytes = rw (none-left w from rows at) }
+none w from rows at = record { ok = refl; steps = refl; whole = refl; bytes = rw (none-left w from rows at) }
 
 -- row i of those below `end`, in front of the others
 one-more : {w from : ℕ} {rows : List ℕ} {i end r x : ℕ} → i < end → SurveyedRow w from rows i r → Passed w (rowAt rows i .0) rows (i + 1) (end - (i + 1)) x
     → Passed w from rows i (end - i) (r + x)
 unfolding all stepsOk
 one-more {w} {from} {rows} {i} {end} {r} {x} h s p =
-    let e = each-more (rowAt rows) i end h in
+    let e = each-next (rowAt rows) end i h in
     record {
-      ok = rw (each-more (λ j. j) i end h) (simp (yes-is (rowOkAt rows i) (s .ok), p .ok));
-      lines = rw e (s .forward, s .near, s .fits, p .lines);
+      ok = rw (each-next (λ j. j) end i h) (simp (is-true (rowOkAt rows i) (s .ok), p .ok));
       steps = rw e (simp (le-leb from (rowAt rows i .0) (s .forward), lt-ltb (rowAt rows i .0 - from) (2 ^ 32) (s .near), p .steps));
-      whole = rw e (simp (yes-is (rowWhole w (rowAt rows i .1)) (s .fits .whole), p .whole));
+      whole = rw e (simp (is-true (rowWhole w (rowAt rows i .1)) (s .fits .whole), p .whole));
       bytes =
           rw (here w from rows i end h)
           (omega (arith, s .bytes, p .bytes, length-append (steppedRowBytes w from (rowAt rows i)) (rowsIn w (rowAt rows i .0) rows (i + 1) (end - (i + 1)))));
@@ -111,4 +105,4 @@ module _ {w : ℕ} {rows : List ℕ} {first n i left from size : ℕ} (s : Surve
       let e : first + n - i ≡ 0 = omega (arith, s .past) in
       let z : size + 0 ≡ size = omega arith in
       let p = subst (Passed w 0 rows first n) z (s .rest 0 (rw e (none w from rows i))) in
-      record { ready = record { inside = k; ok = is-yes (p .ok) }; lines = p .lines; steps = p .steps; whole = p .whole; bytes = p .bytes }
+      record { ready = record { inside = k; ok = is-yes (p .ok) }; steps = p .steps; whole = p .whole; bytes = p .bytes }

@@ -51,7 +51,6 @@ pub record SurveyedRow (w from : ℕ) (rows : List ℕ) (i size : ℕ) : Type 0 
 -- and n rows from `at` on, the first of them from the function's start on
 pub record SurveyedRows (w : ℕ) (rows : List ℕ) (at n size : ℕ) : Type 0 where
   pub ready : RowsReady rows at n
-  pub lines : RowsAtOk w 0 (each (rowAt rows) at n)
   pub steps : stepsOk 0 (each (rowAt rows) at n) ≡ true
   pub whole : all (λ x. rowWhole w (x .1)) (each (rowAt rows) at n) ≡ true
   pub bytes : size ≡ length (rowsIn w 0 rows at n)

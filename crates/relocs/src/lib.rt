@@ -6,8 +6,16 @@ ghost use Rattle.format.proofs.Wrote.{Wrote};
 ghost use Rattle.format.specs.Lists.{numbersOf};
 ghost use Rattle.format.specs.Headers.{reloc};
 
-// How many numbers a relocation has in a list.
+// A relocation in a list: how many numbers it has, and where the others stand behind its place.
 pub const RELOCATION_STRIDE: usize = 5;
+
+pub const RELOCATION_SYMBOL: usize = 1;
+
+pub const RELOCATION_KIND: usize = 2;
+
+pub const RELOCATION_BYTES: usize = 3;
+
+pub const RELOCATION_ADDEND: usize = 4;
 
 // The kinds of relocation (document 01, "Record"). The kind of a Sub is one more than that of its Set.
 pub const DATA: u64 = 0;

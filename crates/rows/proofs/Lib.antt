@@ -7,4 +7,3 @@ pub mod Steps
 pub mod Numbers
 pub mod ShortSizes
 pub mod WholeNumbers
-pub mod Surveys

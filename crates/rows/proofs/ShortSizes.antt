@@ -1,13 +1,13 @@
 -- The size of a row's operation out of the row's numbers, where the register has a byte at most and the second operand two.
 use mathlib.Core.Path.{_≡_, refl, sym, ap, subst, _∙_}
-use mathlib.Core.List.{List, [], _∷_, _++_}
+use mathlib.Core.List.{List, [], _∷_}
 use mathlib.Core.Logic.{_≢_}
 use Prim.Native.Nat.{ℕ, zero, suc, _+_, _-_, _*_, _/_, _%_, _^_, _≤_, _<_}
 use native.Mathlib.Omega.{arith}
 use native.Mathlib.Nat.{div-add-mod', mul-le-mul-right, mod-lt, div-le-self, zero-mul}
 use lib.Dec.{T, leb, ltb, ltb→lt}
-use lib.IntN.{pos, negsuc, negℤ}
-use lib.ListN.{length, length-append, getD}
+use lib.IntN.{pos, negℤ}
+use lib.ListN.{length, length-append}
 use mir.Syntax.{w32}
 use mir.Val.{toZ}
 use Rattle.format.specs.Prelude.{pick}
@@ -20,7 +20,7 @@ use Rattle.format.proofs.ListLaws.{chained, row-numbers}
 use Rattle.rows.specs.Sizes.{shortSize, scaled, secondByte}
 use Rattle.rows.proofs.Bytes.{register-in}
 use Rattle.rows.proofs.WholeNumbers.{low-is, high-is}
-use Rattle.rows.proofs.Numbers.{bytes-0, bytes-1, bytes-2, bytes-3, bytes-4, bytes-5, bytes-6, bytes-7, bytes-9, bytes-10, bytes-rest}
+use Rattle.rows.proofs.Numbers.{bytes-0, bytes-1, bytes-2, bytes-3, bytes-4, bytes-5, bytes-6, bytes-7, bytes-9, bytes-10}
 
 -- ---- numbers
 
@@ -47,7 +47,7 @@ module _ (w y n : ℕ) (lo : n * w ≤ y) (hi : y < n * w + w) where
 plain-size : (w off : ℕ) → 0 < w → off * w < 16384 * w → length (uleb off) ≡ 1 + secondByte w (off * w)
 plain-size w off p h = uleb-size w (off * w) off (omega arith) (omega arith) h
 
-pub plain-low : (w off : ℕ) → off * w < 16384 * w → off < 16384
+plain-low : (w off : ℕ) → off * w < 16384 * w → off < 16384
 plain-low w off h =
     either off 16383 (λ l. omega arith) (λ k. let d : 16384 * w ≤ off * w = mul-le-mul-right w k in absurd (omega arith))
 
@@ -100,7 +100,7 @@ module _ (w reg off : ℕ) (lo : 2 ≤ w) (r : reg ≤ 63) where
 
 -- ---- kinds
 
-pub kinds : (P : ℕ → Type 0) → P 0 → P 1 → P 2 → P 3 → P 4 → P 5 → P 6 → P 7 → P 8 → P 9 → P 10 → (k : ℕ) → k ≤ 10 → P k
+kinds : (P : ℕ → Type 0) → P 0 → P 1 → P 2 → P 3 → P 4 → P 5 → P 6 → P 7 → P 8 → P 9 → P 10 → (k : ℕ) → k ≤ 10 → P k
 kinds P p0 p1 p2 p3 p4 p5 p6 p7 p8 p9 p10 zero h = p0
 kinds P p0 p1 p2 p3 p4 p5 p6 p7 p8 p9 p10 (suc zero) h = p1
 kinds P p0 p1 p2 p3 p4 p5 p6 p7 p8 p9 p10 (suc (suc zero)) h = p2

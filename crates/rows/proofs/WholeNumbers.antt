@@ -1,12 +1,12 @@
 -- Question 24 by a test of a row's numbers that asks for more.
-use mathlib.Core.Path.{_≡_, refl, sym, ap, subst, _∙_}
+use mathlib.Core.Path.{_≡_, refl, sym, ap, _∙_}
 use Prim.Native.Nat.{ℕ, suc, _-_, _%_, _^_, _≤_, _<_}
 use native.Mathlib.Omega.{arith}
 use mathlib.Core.Bool.{Bool, true, false, _||_}
 use mathlib.Core.Logic.{⊎-elim}
 use borrow.Author.Tests.{eq-eqb}
 use lib.Dec.{T, eqb, ltb, eqb→eq, ltb→lt}
-use lib.IntN.{ℤ, pos, negsuc, natAbs}
+use lib.IntN.{ℤ, pos, negsuc}
 use mir.Syntax.{w32}
 use mir.Val.{toZ}
 use mir.Facts.{toZ-pos, toZ-neg, or-yes, eqb-yes}
@@ -15,7 +15,7 @@ use Rattle.format.specs.Machine.{isWord}
 use Rattle.format.specs.declared.Row.{Row}
 use Rattle.format.specs.Rows.{whole, wholeBelow, rowWhole}
 use Rattle.format.specs.Lists.{rowOf, rowOk}
-use Rattle.format.proofs.Choice.{either}
+use Rattle.format.proofs.Choice.{either, is-yes}
 use Rattle.format.proofs.ListLaws.{row-numbers}
 
 -- ---- offsets
@@ -36,7 +36,7 @@ word-least w t =
     (or-yes (eqb w 2 || eqb w 4) (eqb w 8) t)
 
 -- 2^32 is a multiple of every word
-pub turned : (w n : ℕ) → T (isWord w) → n < 2 ^ 32 → n % w ≡ 0 → (2 ^ 32 - n) % w ≡ 0
+turned : (w n : ℕ) → T (isWord w) → n < 2 ^ 32 → n % w ≡ 0 → (2 ^ 32 - n) % w ≡ 0
 unfolding isWord
 turned w n t h z =
     ⊎-elim (λ (u : T (eqb w 2 || eqb w 4)). ⊎-elim (λ v. let e : w ≡ 2 = eqb-yes v in rw e (omega (arith, rw e at z))) (λ v. let e : w ≡ 4 = eqb-yes v in rw e (omega (arith, rw e at z)))
@@ -93,9 +93,6 @@ row-whole w kind reg off b o =
 
 pub never : {X : Type 0} → false ≡ true → X
 never p = let z : _≡_ {A = ℕ} 0 1 = cc in absurd (omega arith)
-
-pub is-yes : {b : Bool} → b ≡ true → T b
-is-yes e = subst T (sym e) tt
 
 module _ (w kind reg off : ℕ) where
   -- an offset of whole words, whatever the kind

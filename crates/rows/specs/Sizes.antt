@@ -1,6 +1,6 @@
 -- The size of a row's operation out of the row's numbers.
 use mathlib.Core.Path.{_≡_}
-use Prim.Native.Nat.{ℕ, _+_, _-_, _*_, _%_, _^_, _≤_, _<_}
+use Prim.Native.Nat.{ℕ, _-_, _*_, _%_, _^_, _≤_, _<_}
 use mathlib.Core.List.{[], _∷_}
 use lib.Dec.{eqb, ltb}
 use lib.ListN.{length, getD}
@@ -19,10 +19,6 @@ scaled w kind off = pick (eqb kind offsetKind) ((2 ^ 32 - off) % 2 ^ 32) (off * 
 -- the second byte of an operand that has two at most
 unfoldable pub secondByte : (w y : ℕ) → ℕ
 secondByte w y = pick (ltb y (128 * w)) 0 1
-
--- how many second operands a kind may have that are two bytes at most; of a saved register all, as its offset is divided before it is written
-unfoldable pub shortOperands : ℕ → ℕ
-shortOperands kind = getD (16384 ∷ 16384 ∷ 1 ∷ 2 ^ 32 ∷ 1 ∷ 1 ∷ 1 ∷ 1 ∷ 1 ∷ 1 ∷ 16384 ∷ []) kind 0
 
 -- a size that no step has
 abbrev pub tooFar : ℕ

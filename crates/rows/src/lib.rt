@@ -15,7 +15,7 @@ ghost use Rattle.format.specs.Leb.{uleb};
 ghost use Rattle.format.specs.Rows.{factor, cfaBytes, withRegister, savedBytes, rowBytes, stepIn, stepForm, stepBytes, whole, wholeBelow, rowWhole, kindOf, regOf, offsetOf, sameRow};
 ghost use Rattle.format.specs.Prelude.{pick};
 ghost use Rattle.rows.specs.Operands.{bySign, offsetBytes, stepOpcode, stepWidth};
-ghost use Rattle.rows.specs.Sizes.{shortSize, scaled, secondByte, shortOperands, StepSurveyed};
+ghost use Rattle.rows.specs.Sizes.{shortSize, scaled, secondByte, StepSurveyed};
 use format::Row;
 use numbers::kinds;
 use numbers::opcodes;
@@ -45,8 +45,6 @@ pub const STEPS: u64 = 4294967296;
 const MOST_IN_OPCODE: u64 = 0x3f;
 
 const MOST_REGISTER_IN_OPCODE: u16 = 0x3f;
-
-const REGISTERS_IN_OPCODE: u64 = 0x40;
 
 // A number below these has one byte in ULEB128, or two.
 const ONE_BYTE: u64 = 128;
@@ -682,74 +680,8 @@ pub fn row_in_size(word: u64, rows: &[u64], i: usize) -> usize
 
 // ---- a row asked and sized at once
 
-// How many registers of a byte a kind may name. The arms are as those of `second_operands`.
-fn short_registers(kind: u64) -> u64
-    requires { ⌜ kind ≤ 10 ⌝ }
-    ensures { λ r. ⌜ r ≡ pick (hasRegister kind) 64 1 ⌝ }
-{
-    match kind {
-        kinds::DEF_CFA => REGISTERS_IN_OPCODE,
-        kinds::DEF_CFA_OFFSET => 1,
-        kinds::DEF_CFA_REGISTER => REGISTERS_IN_OPCODE,
-        kinds::OFFSET => REGISTERS_IN_OPCODE,
-        kinds::RESTORE => REGISTERS_IN_OPCODE,
-        kinds::UNDEFINED => REGISTERS_IN_OPCODE,
-        kinds::REMEMBER_STATE => 1,
-        kinds::RESTORE_STATE => 1,
-        kinds::NEGATE_RA_STATE => 1,
-        kinds::SAME_VALUE => REGISTERS_IN_OPCODE,
-        kinds::IN_REGISTER => REGISTERS_IN_OPCODE,
-        _ => 0,
-    }
-}
-
-// And how many second operands of two bytes; of a saved register any.
-fn short_operands(kind: u64) -> u64
-    requires { ⌜ kind ≤ 10 ⌝ }
-    ensures { λ r. ⌜ r ≡ shortOperands kind ⌝ }
-{
-    match kind {
-        kinds::DEF_CFA => TWO_BYTES,
-        kinds::DEF_CFA_OFFSET => TWO_BYTES,
-        kinds::DEF_CFA_REGISTER => 1,
-        kinds::OFFSET => OFFSETS,
-        kinds::RESTORE => 1,
-        kinds::UNDEFINED => 1,
-        kinds::REMEMBER_STATE => 1,
-        kinds::RESTORE_STATE => 1,
-        kinds::NEGATE_RA_STATE => 1,
-        kinds::SAME_VALUE => 1,
-        kinds::IN_REGISTER => TWO_BYTES,
-        _ => 0,
-    }
-}
-
-// The size of the operation of a row that its numbers say, where they are a row, pass question 24 and are short. 0 says nothing.
-fn short_surveyed(word: u64, kind: u64, reg: u64, off: u64) -> usize
-    requires { ⌜ T (isWord word) ⌝ }
-    ensures { λ n. ⌜ (0 < n → T (rowOk kind reg off) × (rowWhole word (rowOf kind reg off) ≡ true) × (n ≡ length (rowBytes word (rowOf kind reg off)))) ⌝ }
-{
-    if kinds::IN_REGISTER < kind {
-        return 0;
-    }
-    if short_registers(kind) <= reg {
-        return 0;
-    }
-    if short_operands(kind) <= off {
-        return 0;
-    }
-    let y = scaled(word, kind, off);
-    if TWO_BYTES * word <= y {
-        return 0;
-    }
-    if !in_words(word, y) {
-        return 0;
-    }
-    short_size(kind) + second_byte(word, y)
-}
-
-// The same of row i, short or not.
-fn long_surveyed(word: u64, rows: &[u64], i: usize) -> usize
+// The size of row i's operation, where the row passes questions 13 and 24. 0 says nothing.
+pub fn surveyed(word: u64, rows: &[u64], i: usize) -> usize
     requires { ⌜ T (isWord word) × (4 * i + 4 ≤ length (now rows)) ⌝ }
     ensures { λ n. ⌜ (0 < n → T (rowOkAt (now (rows .entry)) i) × (rowWhole word (rowAt (now (rows .entry)) i .1) ≡ true) × (n ≡ length (rowBytes word (rowAt (now (rows .entry)) i .1)))) ⌝ }
 {
@@ -759,29 +691,7 @@ fn long_surveyed(word: u64, rows: &[u64], i: usize) -> usize
     if !row_surely_whole(word, rows, i) {
         return 0;
     }
-    operation_size(
-        word,
-        rows[ROW_STRIDE * i + ROW_KIND],
-        rows[ROW_STRIDE * i + ROW_REGISTER],
-        rows[ROW_STRIDE * i + ROW_OPERAND],
-    )
-}
-
-// The size of row i's operation, where the row passes questions 13 and 24. 0 says nothing.
-pub fn surveyed(word: u64, rows: &[u64], i: usize) -> usize
-    requires { ⌜ T (isWord word) × (4 * i + 4 ≤ length (now rows)) ⌝ }
-    ensures { λ n. ⌜ (0 < n → T (rowOkAt (now (rows .entry)) i) × (rowWhole word (rowAt (now (rows .entry)) i .1) ≡ true) × (n ≡ length (rowBytes word (rowAt (now (rows .entry)) i .1)))) ⌝ }
-{
-    let n = short_surveyed(
-        word,
-        rows[ROW_STRIDE * i + ROW_KIND],
-        rows[ROW_STRIDE * i + ROW_REGISTER],
-        rows[ROW_STRIDE * i + ROW_OPERAND],
-    );
-    if 0 < n {
-        return n;
-    }
-    long_surveyed(word, rows, i)
+    row_in_size(word, rows, i)
 }
 
 // ---- a step written, and its size

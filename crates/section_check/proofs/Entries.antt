@@ -16,7 +16,7 @@ use Rattle.format.specs.Reader.{Entry, Found, entries, records, distanceBack, h
 use Rattle.format.specs.declared.Reading.{Reading}
 use Rattle.format.specs.declared.Unsigned.{Unsigned}
 use Rattle.format.specs.declared.Unsigned.the-variants as unsigned
-use Rattle.format.proofs.Choice.{pick-yes}
+use Rattle.format.proofs.Choice.{pick-yes, is-true}
 use Rattle.format.proofs.Positions.{littleAt, unsignedFrom}
 use Rattle.reader.specs.Spans.{part, entryIn, listed, numberOf, Stands, Spans}
 use Rattle.reader.specs.Finds.{found, Stated, Locates, inSection, rulesFrom}
@@ -58,10 +58,6 @@ unfolding littleAt lengthOf
 size-said s at end e = rw e (size-read (length (part s (at + 4) end)) (readLittle 4 (drop 8 (part s (at + 4) end))))
 
 -- ---- the rules at an offset
-
-is-true : (b : Bool) → T b → b ≡ true
-is-true true t = refl
-is-true false t = absurd t
 
 -- the rules from what was parsed
 located-rules : (s : List ℕ) (word : ℕ) (x : Located) (p : ℕ) {y : Result Found} → Stated s word x y → rulesFrom s x 0 p ≡ answer 0 (runTo word p (found s x))

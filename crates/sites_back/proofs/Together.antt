@@ -15,9 +15,10 @@ use Rattle.format.specs.Reader.{firstAddend}
 use Rattle.format.specs.CallSiteReader.{sitesAt, siteAt, sitesShort, answerNumbers, siteMark, markedSite}
 use Rattle.format.proofs.Accepted.{dwarfWritten}
 use Rattle.format.proofs.ListLaws.{relocations-back}
+use Rattle.format.proofs.PutLaws.{front-is}
 use Rattle.unwind.specs.Together.{answerFor, bytesIn, relocsIn}
 use Rattle.unwind.proofs.Fitting.{answer-fits}
-use Rattle.unwind.proofs.Fronts.{bytesOf, relocsOf, Fronts, fronts, front}
+use Rattle.unwind.proofs.Fronts.{bytesOf, relocsOf, Fronts, fronts}
 use Rattle.sites_back.specs.Back.{tablePlace, placeIn, TableOf, ReadBack}
 use Rattle.sites_back.proofs.SitesBack.{sites-back}
 
@@ -36,7 +37,7 @@ module _ (g : Given) (p b q s : List ℕ) {o : Outcome} {p′ b′ q′ s′ : L
   sites-front w e =
       let fit : length (w .sites) ≤ length s = answer-fits (roomIn p b q s) false 0 g w e .sites in
       let n : ℕ = length (w .sites) in
-      let first : take n s′ ≡ w .sites = ap (take n) (rw e at (writes .sited)) ∙ front s (w .sites) fit in
+      let first : take n s′ ≡ w .sites = ap (take n) (rw e at (writes .sited)) ∙ front-is s (w .sites) fit in
       sym (take-append-drop n s′) ∙ ap (λ bs. bs ++ drop n s′) first
 
   pub together : (k offset : ℕ) {n m place : ℕ} {ns : List ℕ} → n ≡ bytesIn o → m ≡ 5 * relocsIn o

@@ -3,7 +3,6 @@ use mathlib.Core.Path.{_≡_, refl, sym, ap, subst, _∙_}
 use Prim.Native.Nat.{ℕ, _+_, _*_, _≤_}
 use mathlib.Core.Bool.{Bool, true, false, not, _&&_}
 use mathlib.Core.List.{List, _++_, append-assoc}
-use native.Mathlib.Nat.{zero-add}
 use native.Mathlib.Omega.{arith}
 use lib.Dec.{T, leb}
 use lib.ListN.{length, take, drop, length-append, take-append-drop}
@@ -11,8 +10,8 @@ use lib.Seq.{take-at, drop-at}
 use borrow.Author.Tests.{leb-true}
 use Rattle.format.specs.Put.{put}
 use Rattle.format.specs.Prelude.{pick, all}
-use Rattle.format.specs.Questions.{Question, Given, Room, Answer, ask, unless, relaxedTable, relaxedDebugFrame}
-use Rattle.format.proofs.PutLaws.{length-put, put-append}
+use Rattle.format.specs.Questions.{Question, Given, Room, Answer, relaxedTable, relaxedDebugFrame}
+use Rattle.format.proofs.PutLaws.{length-put, put-append, front-is}
 use Rattle.struct_entries.specs.declared.RowAt.{RowAt}
 use Rattle.struct_entries.specs.declared.Function.{Function}
 use Rattle.struct_entries.specs.Structs.{rowNumbers, functionNumbers, numbersOf}
@@ -21,7 +20,6 @@ use Rattle.struct_entries.proofs.Stored.{together, length-numbers}
 use Rattle.struct_entries.proofs.Strides.{row-stride, function-stride}
 use Rattle.unwind.specs.declared.Written.{Written}
 use Rattle.unwind.specs.Entries.{Exports}
-use Rattle.unwind.proofs.Fronts.{front}
 use Rattle.struct_entries.specs.Entries.{needed, isZero, readyFor, cleared, packed, numbersIn, meant, onceReady, tableIsEmpty, tableAsks, relaxedTableOf, debugFrameIsEmpty, debugFrameAsks, relaxedDebugFrameOf}
 use Rattle.struct_entries.proofs.Zeros.{restored}
 use Rattle.struct_entries.proofs.Parts.{same-exports, not-reached}
@@ -99,7 +97,7 @@ module _ (xs : List ℕ) (fs : List Function) (rs : List RowAt) where
       let zs : List ℕ = put xs 0 (F ++ R) in
       let n : ℕ = length (F ++ R) in
       let split : zs ≡ F ++ (R ++ drop n zs) =
-      sym (take-append-drop n zs) ∙ ap (λ (us : List ℕ). us ++ drop n zs) (front xs (F ++ R) (omega (arith, numbers-long))) ∙ append-assoc F R (drop n zs) in
+      sym (take-append-drop n zs) ∙ ap (λ (us : List ℕ). us ++ drop n zs) (front-is xs (F ++ R) (omega (arith, numbers-long))) ∙ append-assoc F R (drop n zs) in
       let one : take (18 * f) zs ≡ F = ap (take (18 * f)) split ∙ take-at F (R ++ drop n zs) (18 * f) functions-long in
       let two : take (4 * r) (drop (18 * f) zs) ≡ R =
       ap (λ (us : List ℕ). take (4 * r) (drop (18 * f) us)) split ∙ ap (take (4 * r)) (drop-at F (R ++ drop n zs) (18 * f) functions-long)

@@ -1,14 +1,10 @@
 -- What a writer wrote stands at the fronts of its buffers, where the reader is lent it.
-use mathlib.Core.Path.{_≡_, refl, sym, _∙_}
-use Prim.Native.Nat.{ℕ, suc, _+_, _*_, _≤_}
+use mathlib.Core.Path.{_≡_, refl, sym}
+use Prim.Native.Nat.{ℕ, _*_, _≤_}
 use native.Mathlib.Omega.{arith}
-use native.Mathlib.Nat.{add-zero, zero-add}
-use native.Mathlib.Numerals.{add-one}
 use mathlib.Core.Bool.{Bool}
-use mathlib.Core.List.{List, [], _∷_, _++_, append-assoc, append-nil}
-use lib.ListN.{length, take, getD, set, length-set}
-use lib.Seq.{take-suc-set}
-use Rattle.format.specs.Put.{put}
+use mathlib.Core.List.{List, [], _∷_}
+use lib.ListN.{length, take, getD}
 use Rattle.format.specs.declared.Counts.{Counts}
 use Rattle.format.specs.declared.Outcome.{Outcome}
 use Rattle.format.specs.declared.Outcome.the-variants as outcome
@@ -17,7 +13,7 @@ use Rattle.format.specs.Reader.{read}
 use Rattle.format.specs.Questions.{roomIn, Answer, refused, empty, accepted}
 use Rattle.format.specs.Answers.{Writes, outcomeOf, afterwards, relocationNumbers, bit}
 use Rattle.format.proofs.ListLaws.{numbers-length}
-use Rattle.format.proofs.PutLaws.{put-none, put-cons, length-put}
+use Rattle.format.proofs.PutLaws.{length-put, front-is}
 use Rattle.unwind.specs.Together.{bytesIn, relocsIn, readingFor}
 use Rattle.unwind.proofs.Fitting.{FitsIn}
 
@@ -31,16 +27,6 @@ unfoldable pub relocsOf : Answer → List ℕ
 relocsOf (refused n k) = []
 relocsOf empty = []
 relocsOf (accepted w) = relocationNumbers w
-
-front-from : (xs : List ℕ) (p : ℕ) (bs : List ℕ) → p + length bs ≤ length xs → take (p + length bs) (put xs p bs) ≡ take p xs ++ bs
-front-from xs p [] h = rw (add-zero, put-none, append-nil) refl
-front-from xs p (b ∷ bs) h =
-    let e : p + length (b ∷ bs) ≡ suc p + length bs = omega arith in
-    rw (e, put-cons, add-one p)
-    (front-from (set xs p b) (suc p) bs (omega (arith, length-set xs p b)) ∙ rw (take-suc-set xs p b (omega arith), append-assoc) refl)
-
-pub front : (xs bs : List ℕ) → length bs ≤ length xs → take (length bs) (put xs 0 bs) ≡ bs
-front xs bs h = rw (zero-add (length bs)) at (front-from xs 0 bs (omega arith))
 
 pub record Fronts (a : Answer) (o : Outcome) (bytes relocations : List ℕ) : Type 0 where
   pub bytes-fit : bytesIn o ≤ length bytes
@@ -61,8 +47,8 @@ fronts (accepted v) o p p′ b b′ r r′ s s′ w f =
     (record {
       bytes-fit = rw (length-put b 0 (v .bytes)) (x .bytes);
       relocations-fit = rw (length-put r 0 (numbersOf (v .relocations))) (x .relocations);
-      bytes-are = front b (v .bytes) (x .bytes);
-      relocations-are = rw (sym n) (front r (numbersOf (v .relocations)) (omega (arith, n, x .relocations)));
+      bytes-are = front-is b (v .bytes) (x .bytes);
+      relocations-are = rw (sym n) (front-is r (numbersOf (v .relocations)) (omega (arith, n, x .relocations)));
     })
 
 -- a number of an empty list

@@ -12,7 +12,7 @@ use Rattle.format.specs.Machine.{isWord}
 use Rattle.format.specs.Lists.{relocationsOf}
 use Rattle.format.specs.Rules.{AllRules, State, rulesFor, seen, answer}
 use Rattle.format.specs.Reader.{locate, runTo}
-use Rattle.format.proofs.Choice.{if-eq, if-ne}
+use Rattle.format.proofs.Choice.{if-eq, if-ne, is-true}
 use Rattle.reader.specs.Finds.{Stated, locateIn, inSection, rulesFrom}
 use Rattle.reader.proofs.Asked.{all-inside, fits}
 use Rattle.reader.specs.declared.location.Located.{Located}
@@ -113,10 +113,6 @@ source-of : (signal : Bool) (o : Result State) → T (isGood o) → onward {B = 
 unfolding isGood onward rulesOf
 source-of signal (good t) g = refl
 source-of signal (bad n) g = absurd g
-
-is-true : (b : Bool) → T b → b ≡ true
-is-true true t = refl
-is-true false t = absurd t
 
 inside-of : (b : Bool) (r : Result State) → T (isGood (pick b r (bad 64))) → b ≡ true
 unfolding pick isGood

@@ -3,7 +3,7 @@ use mathlib.Core.Path.{_≡_, refl, sym, ap, _∙_}
 use Prim.Native.Nat.{ℕ, zero, suc, _+_, _*_, _<_}
 use native.Mathlib.Omega.{arith}
 use mathlib.Core.Bool.{Bool, true, false, _||_}
-use mathlib.Core.Option.{none, some}
+use mathlib.Core.Option.{some}
 use mathlib.Core.List.{List, [], _∷_}
 use lib.Dec.{T, eqb, eqb→eq}
 use lib.ListN.{length, take, getElem?}
@@ -14,11 +14,12 @@ use Rattle.format.specs.declared.Section.the-variants.{Elf, Debug}
 use Rattle.format.specs.Machine.{machineOk, machineOf}
 use Rattle.format.specs.Lists.{count, field, numbersOf}
 use Rattle.format.specs.Writer.{Written}
-use Rattle.format.specs.Questions.{Given, Room, Question, Answer, empty, accepted, unless, noFunctions, givenAsks, dwarfGiven, formatAnswer, relaxedTable, relaxedDebugFrame}
+use Rattle.format.specs.Questions.{Given, Room, Answer, accepted, noFunctions, givenAsks, dwarfGiven, formatAnswer, relaxedTable, relaxedDebugFrame}
 use Rattle.format.specs.Answers.{bit, outcomeOf, relocationNumbers}
-use Rattle.format.proofs.Accepted.{asked, both, dwarfWritten}
+use Rattle.format.proofs.Accepted.{asked, both, dwarfWritten, passed, not-empty}
 use Rattle.format.proofs.ListLaws.{each-get, each-length}
 use Rattle.format.proofs.ReadBack.{kindOf}
+use Rattle.format.proofs.Choice.{is-true}
 use Rattle.unwind.specs.Together.{answerFor, bytesIn, relocsIn}
 use Rattle.unwind.specs.Demand.{dwarfOutput}
 use Rattle.unwind.proofs.Demands.{accepted-by}
@@ -62,28 +63,14 @@ module _ (g : Given) (placed : List ℕ) (all : (k : ℕ) → k < count 2 placed
 
 -- ---- a list that was accepted has a machine
 
-not-empty : (b : Bool) (a : Answer) (w : Written) → pick b empty a ≡ accepted w → a ≡ accepted w
-unfolding pick
-not-empty true a w e = let z : _≡_ {A = ℕ} 0 1 = cc in absurd (omega arith)
-not-empty false a w e = e
-
-unless-none : (q : Question) (a : Answer) (w : Written) → unless q a ≡ accepted w → q ≡ none
-unfolding unless
-unless-none none a w e = refl
-unless-none (some x) a w e = let z : _≡_ {A = ℕ} 0 1 = cc in absurd (omega arith)
-
 given-machine : (s : Section) (g : Given) (r : Room) (w : Written) → dwarfGiven s g r ≡ accepted w → T (machineOk (g .machine))
 unfolding dwarfGiven givenAsks
-given-machine s g r w e = asked _ _ _ (both _ _ (unless-none (givenAsks g) _ w e) .0)
+given-machine s g r w e = asked _ _ _ (both _ _ (passed (givenAsks g) _ w e .0) .0)
 
 has-machine : (s : Section) (g : Given) (r : Room) (w : Written) → dwarfWritten s g r ≡ accepted w → T (machineOk (g .machine))
 unfolding dwarfWritten relaxedTable relaxedDebugFrame formatAnswer pick
 has-machine Elf g r w e = given-machine Elf g r w (not-empty (noFunctions g) _ w e)
 has-machine Debug g r w e = given-machine Debug g r w (not-empty (noFunctions g || false) _ w e)
-
-is-true : (b : Bool) → T b → b ≡ true
-is-true true t = refl
-is-true false t = absurd t
 
 -- ---- the walk
 

@@ -59,11 +59,6 @@ module _ {f : ℕ → Option ℕ} {n k : ℕ} (a : Passing f n k) where
       let e : n - k ≡ 0 = omega arith in
       sym (ap questionOf (a .rest) ∙ rw e)
 
-pub said-yes : (o : Question) → questionOf o ≡ Yes → o ≡ none
-unfolding questionOf
-said-yes none e = refl
-said-yes (some r) e = let z : _≡_ {A = ℕ} 0 1 = cc in absurd (omega arith)
-
 both : (o : Option ℕ) (at : ℕ) (q : Question) → andThen (noAt at o) q ≡ none → (o ≡ none) × (q ≡ none)
 unfolding andThen noAt
 both none at q e = (refl, e)

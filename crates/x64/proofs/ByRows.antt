@@ -17,13 +17,13 @@ use Rattle.format.specs.X64.{codesOf, prologueOf, prologueNo}
 use Rattle.format.specs.Questions.{Question, Room, Answer, Prologues, made, stopped, madeOne, prologuesFor, prologuesAnswer, windowsAnswer, windowsAsks, Given, givenFunctions, ask, andThen, noAt, unless, fitting, codeAsks, codesAnswer, shortOnes}
 use Rattle.format.specs.Answers.{outcomeOf, afterwards, Writes}
 use Rattle.format.proofs.Accepted.{machine-fits}
-use Rattle.format.proofs.ListLaws.{chained}
+use Rattle.format.proofs.ListLaws.{chained, part-of, at-each, symbol-small}
 use Rattle.lists.proofs.Machines.{long}
 use Rattle.x64.specs.declared.Source.{Source}
 use Rattle.x64.specs.Answers.{askEach}
 use Rattle.x64.specs.Sources.{byRows, resultAt, strideOf, Listed, rowsNo, codesNo, passNo, orNone, foundAt, asksOf, tableOf}
 use Rattle.x64.proofs.Asked.{each-yes}
-use Rattle.x64.proofs.Entries.{unless-then, per-each, ask-long, part-of, at-each, symbol-small, within-of}
+use Rattle.x64.proofs.Entries.{unless-then, per-each, ask-long, within-of}
 
 abbrev pub rowwise : Machine → Source
 rowwise m = record { direct = false; machine = m }

@@ -5,10 +5,9 @@ use native.Mathlib.Omega.{arith}
 use mathlib.Core.Bool.{Bool, true, false}
 use mathlib.Core.Option.{Option, none, some}
 use mathlib.Core.List.{List, [], _∷_}
-use lib.Dec.{T, leb, ltb, leb→le, ltb→lt}
+use lib.Dec.{T, leb, ltb, leb→le}
 use lib.ListN.{length, getD}
 use borrow.Author.Tests.{eq-eqb, ne-eqb}
-use mir.Facts.{and-yes}
 use Rattle.format.specs.Prelude.{pick, each}
 use Rattle.format.specs.declared.Machine.{Machine}
 use Rattle.format.specs.Lists.{field, count, prologueStride, codeStride, mostFunctions, mostRecords, sumOf, inside, symbolOk, allIn, codeOkAt, prologueOkAt, codesOk, prologueAt, prologuesOf}
@@ -16,7 +15,7 @@ use Rattle.format.specs.X64.{x64}
 use Rattle.format.specs.Questions.{Question, Room, Answer, ask, andThen, noAt, unless, fitting, perFunction, codeAsks, codesAnswer, shortOnes, seh}
 use Rattle.format.specs.declared.Outcome.the-variants as outcome
 use Rattle.format.specs.Answers.{outcomeOf, afterwards, Writes}
-use Rattle.format.proofs.ListLaws.{chained, in-range}
+use Rattle.format.proofs.ListLaws.{chained, part-of, at-each, symbol-small}
 use Rattle.x64.specs.declared.Source.{Source}
 use Rattle.x64.specs.Answers.{askEach}
 use Rattle.x64.specs.Sources.{resultAt, strideOf, Listed, longNo, rowsNo, codesNo, passNo, orNone, asksOf, tableOf}
@@ -49,24 +48,6 @@ unfolding longNo
 ask-long size k = ask-pick (ltb size (2 ^ 32)) k
 
 -- ---- question 13
-
-sum-part : (f : ℕ → ℕ) (at n k : ℕ) → k < n → f (at + k) ≤ sumOf f at n
-unfolding sumOf
-sum-part f at zero k h = absurd (omega arith)
-sum-part f at (suc n) zero h = let e : at + 0 ≡ at = omega arith in rw e (omega arith)
-sum-part f at (suc n) (suc k) h =
-    let e : at + suc k ≡ suc at + k = omega arith in
-    rw e (omega (arith, sum-part f (suc at) n k (omega arith)))
-
-pub part-of : (f : ℕ → ℕ) (n k : ℕ) → k < n → f k ≤ sumOf f 0 n
-part-of f n k h = let e : 0 + k ≡ k = omega arith in rw e at (sum-part f 0 n k h)
-
-pub at-each : (test : ℕ → Bool) (n k : ℕ) → T (allIn test 0 n) → k < n → T (test k)
-at-each test n k t h = let e : 0 + k ≡ k = omega arith in rw e at (in-range test 0 n k t h)
-
-pub symbol-small : (n : ℕ) → T (symbolOk n) → n < 2 ^ 32
-unfolding symbolOk
-symbol-small n t = ltb→lt n (2 ^ 32) (and-yes (leb 16 n) (ltb n (2 ^ 32)) t .1)
 
 pub within-of : (at n size : ℕ) → T (inside at n size) → at + n ≤ size
 unfolding inside
@@ -146,6 +127,3 @@ module _ (fs codes : List ℕ) (r : Room) where
         → unless (asksOf (directly m) fs codes (count prologueStride fs)) (fitting r (tableOf (directly m) fs codes (count prologueStride fs))) ≡ seh fs codes r
     unfolding seh pick ask unless
     seh-answers m e = sym (rw (ne-eqb (count prologueStride fs) 0 some-there, e) (direct-answer m fs codes r))
-
-pub is-true : {b : Bool} → b ≡ true → T b
-is-true e = rw e tt

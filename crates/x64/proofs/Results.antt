@@ -2,7 +2,6 @@
 use mathlib.Core.Path.{_≡_, refl, sym, ap, _∙_}
 use Prim.Native.Nat.{ℕ, suc, _+_, _-_, _*_, _≤_, _<_}
 use native.Mathlib.Omega.{arith}
-use native.Mathlib.Numerals.{add-one}
 use mathlib.Core.List.{List, [], _∷_, _++_}
 use lib.ListN.{length, length-append}
 use Rattle.format.specs.Prelude.{each}
@@ -11,11 +10,10 @@ use Rattle.format.proofs.Wrote.{Wrote}
 use Rattle.format.specs.Lists.{Prologue}
 use Rattle.format.specs.Writer.{joined}
 use Rattle.format.specs.X64.{infoBytes, markersFrom}
-use Rattle.format.proofs.ListLaws.{each-length}
+use Rattle.format.proofs.ListLaws.{each-length, each-next, each-none}
 use Rattle.format.proofs.Storing as storing
-use Rattle.format.proofs.Storing.{Storing}
+use Rattle.format.proofs.Storing.{Storing, stored-next}
 use Rattle.x64.specs.Answers.{infosOf}
-use Rattle.x64.proofs.Stored.{part}
 
 infos-next : (p : Prologue) (ps : List Prologue) → infosOf (p ∷ ps) ≡ infoBytes (p .end) (p .codes) ++ infosOf ps
 unfolding infosOf joined
@@ -25,14 +23,6 @@ pub markers-length : (at : ℕ) (ps : List Prologue) → length (markersFrom at 
 unfolding markersFrom
 markers-length at [] = refl
 markers-length at (p ∷ ps) = ap suc (markers-length _ ps)
-
-pub next-of : {A : Type 0} (f : ℕ → A) (n k : ℕ) → k < n → each f k (n - k) ≡ f k ∷ each f (k + 1) (n - (k + 1))
-unfolding each
-next-of f n k h = let e : n - k ≡ suc (n - suc k) = omega arith in rw (add-one k, e)
-
-pub last-of : {A : Type 0} (f : ℕ → A) (n k : ℕ) → n ≤ k → each f k (n - k) ≡ []
-unfolding each
-last-of f n k h = let e : n - k ≡ 0 = omega arith in rw e
 
 -- ---- how many bytes the records have
 
@@ -49,12 +39,12 @@ module _ {f : ℕ → Prologue} {n k sum : ℕ} (s : Summing f n k sum) where
   summed {x} h e l = record {
     high = omega arith;
     small = omega (arith, s .small);
-    rest = s .rest ∙ rw (next-of f n k h, infos-next, length-append, ← e) (omega arith);
+    rest = s .rest ∙ rw (each-next f n k h, infos-next, length-append, ← e) (omega arith);
   }
 
   pub all-summed : n ≤ k → sum ≡ length (infosOf (each f 0 n))
   unfolding infosOf joined
-  all-summed h = sym (s .rest ∙ rw (last-of f n k h) (omega arith))
+  all-summed h = sym (s .rest ∙ rw (each-none f n k h) (omega arith))
 
 -- ---- the records and their markers
 
@@ -76,10 +66,10 @@ describing f n h l =
 module _ {f : ℕ → Prologue} {n : ℕ} {marks₀ marks infos₀ infos : List ℕ} {k at : ℕ} (d : Describing f n marks₀ marks infos₀ infos k at) (h : k < n) where
   marks-next : Storing marks₀ marks 0 k (markersFrom 0 (each f 0 n)) ((at ∷ []) ++ markersFrom (at + length (infoBytes (f k .end) (f k .codes))) (each f (k + 1) (n - (k + 1))))
   unfolding markersFrom
-  marks-next = rw (next-of f n k h) at (d .marks-left)
+  marks-next = rw (each-next f n k h) at (d .marks-left)
 
   infos-step : Storing infos₀ infos 0 at (infosOf (each f 0 n)) (infoBytes (f k .end) (f k .codes) ++ infosOf (each f (k + 1) (n - (k + 1))))
-  infos-step = rw (next-of f n k h, infos-next) at (d .infos-left)
+  infos-step = rw (each-next f n k h, infos-next) at (d .infos-left)
 
   pub mark-room : k + 1 ≤ length marks
   mark-room = omega (arith, marks-next .room)
@@ -91,15 +81,15 @@ module _ {f : ℕ → Prologue} {n : ℕ} {marks₀ marks infos₀ infos : List 
       → Describing f n marks₀ marks′ infos₀ infos′ (k + 1) r
   described w v = record {
     high = omega arith;
-    marks-left = rw (v .past) (rw (w .past) at (part marks-next w));
-    infos-left = part infos-step v;
+    marks-left = rw (v .past) (rw (w .past) at (stored-next _ marks-next w));
+    infos-left = stored-next _ infos-step v;
   }
 
 module _ {f : ℕ → Prologue} {n : ℕ} {marks₀ marks infos₀ infos : List ℕ} {k at : ℕ} (d : Describing f n marks₀ marks infos₀ infos k at) (h : n ≤ k) where
   pub all-marked : marks ≡ put marks₀ 0 (markersFrom 0 (each f 0 n))
   unfolding markersFrom
-  all-marked = storing.ended (rw (last-of f n k h) at (d .marks-left)) .stored
+  all-marked = storing.ended (rw (each-none f n k h) at (d .marks-left)) .stored
 
   pub all-described : infos ≡ put infos₀ 0 (infosOf (each f 0 n))
   unfolding infosOf joined
-  all-described = storing.ended (rw (last-of f n k h) at (d .infos-left)) .stored
+  all-described = storing.ended (rw (each-none f n k h) at (d .infos-left)) .stored

@@ -1,33 +1,19 @@
 -- Loops that store function after function: what is still to be stored.
-use mathlib.Core.Path.{_≡_, refl, sym, _∙_}
+use mathlib.Core.Path.{_≡_, refl}
 use Prim.Native.Nat.{ℕ, suc, _+_, _-_, _*_, _≤_, _<_}
 use native.Mathlib.Omega.{arith}
 use native.Mathlib.Numerals.{add-one}
 use mathlib.Core.List.{List, [], _∷_, _++_}
-use lib.ListN.{length, length-append}
+use lib.ListN.{length}
 use Rattle.format.specs.Prelude.{each}
 use Rattle.format.proofs.Wrote.{Wrote}
-use Rattle.format.specs.Lists.{Prologue, Relocation, numbersOf}
+use Rattle.format.specs.Lists.{Prologue, numbersOf}
 use Rattle.format.specs.X64.{runtimeRelocs, runtimeFrom}
-use Rattle.format.proofs.PutLaws.{put-append, kept}
 use Rattle.format.proofs.Storing as storing
-use Rattle.format.proofs.Storing.{Storing}
-
--- a part that is stored
-pub part : {xs₀ xs ys : List ℕ} {p i q : ℕ} {all bs left : List ℕ} → Storing xs₀ xs p i all (bs ++ left) → Wrote xs ys i q bs → Storing xs₀ ys p q all left
-part {xs₀} {xs} {ys} {p} {i} {q} {all} {bs} {left} c w = record {
-  kept = kept w ∙ c .kept;
-  place = omega (arith, c .place, w .past, length-append bs left);
-  room = omega (arith, c .room, w .past, length-append bs left, kept w);
-  same = rw (w .stored, w .past) (sym (put-append xs i bs left) ∙ c .same);
-}
+use Rattle.format.proofs.Storing.{Storing, stored-next}
+use Rattle.format.proofs.ListLaws.{numbers-append}
 
 -- ---- relocations
-
-pub numbers-append : (xs ys : List Relocation) → numbersOf (xs ++ ys) ≡ numbersOf xs ++ numbersOf ys
-unfolding numbersOf
-numbers-append [] ys = refl
-numbers-append (x ∷ xs) ys = rw (numbers-append xs ys)
 
 pub runtime-length : (at : ℕ) (fs : List Prologue) → length (numbersOf (runtimeFrom at fs)) ≡ 15 * length fs
 unfolding runtimeFrom runtimeRelocs numbersOf
@@ -52,7 +38,7 @@ module _ {f : ℕ → Prologue} {n : ℕ} {out₀ out : List ℕ} {k to : ℕ} (
       rw (add-one k) (rw (e, numbers-append, t) at (r .left))
 
   pub related : {new : List ℕ} {q : ℕ} → k < n → Wrote out new to q (numbersOf (runtimeRelocs (12 * k) (f k))) → Relating f n out₀ new (k + 1) q
-  related h w = record { high = omega arith; left = part (next h) w }
+  related h w = record { high = omega arith; left = stored-next _ (next h) w }
 
   pub room : k < n → to + 15 ≤ length out
   unfolding runtimeRelocs numbersOf

@@ -1,11 +1,10 @@
 -- What is written where every question is answered by yes, and what stays where one is not.
 use mathlib.Core.Path.{_≡_, refl, sym, ap, _∙_}
-use Prim.Native.Nat.{ℕ, zero, suc, _+_, _-_, _*_, _≤_, _<_}
+use Prim.Native.Nat.{ℕ, zero, suc, _+_, _-_, _*_, _<_}
 use native.Mathlib.Omega.{arith}
 use mathlib.Core.Bool.{Bool, true, false, not}
 use mathlib.Core.Option.{none, some}
 use mathlib.Core.List.{List, [], _∷_}
-use lib.Dec.{leb, leb→le}
 use lib.ListN.{length, replicate, length-replicate}
 use Rattle.format.specs.Prelude.{pick, Result, good, bad, onward, each}
 use Rattle.format.specs.declared.Machine.{Machine}
@@ -13,41 +12,23 @@ use Rattle.format.specs.declared.Seh.{Seh}
 use Rattle.format.specs.declared.Counts.{Counts}
 use Rattle.format.specs.declared.Question as declared
 use Rattle.format.specs.declared.Question.the-variants.{Yes, No}
-use Rattle.format.specs.declared.Outcome.{Outcome}
 use Rattle.format.specs.declared.Outcome.the-variants as outcome
 use Rattle.format.specs.Put.{put}
 use Rattle.format.proofs.Wrote.{Wrote}
 use Rattle.format.specs.Lists.{Function, Prologue, field, functionAt, prologueAt, numbersOf}
 use Rattle.format.specs.X64.{codesOf, prologueOf, markersFrom, runtimeRelocs, runtimeFrom, x64}
-use Rattle.format.specs.Questions.{Question, Room, Answer, accepted, unless, ask, andThen, roomAsks}
-use Rattle.format.proofs.Accepted.{asked as said, both}
+use Rattle.format.specs.Questions.{Question, Room, accepted, andThen, roomAsks}
 use Rattle.format.specs.Answers.{outcomeOf, afterwards, relocationNumbers, Writes}
-use Rattle.format.proofs.Asked.{questionOf}
+use Rattle.format.proofs.Asked.{questionOf, said-yes}
 use Rattle.format.proofs.ListLaws.{each-length}
 use Rattle.x64.specs.declared.Source.{Source}
 use Rattle.lists.specs.Room.{roomFor}
 use Rattle.x64.specs.Answers.{namedAt, askEach, infosOf, isYes}
 use Rattle.x64.specs.Sources.{byRows, resultAt, strideOf, Listed, Writable, codesNo, passNo, orNone, foundAt, asksOf, tableOf}
-use Rattle.x64.proofs.Asked.{said-yes, each-yes}
+use Rattle.x64.proofs.Asked.{each-yes}
 use Rattle.x64.proofs.Results.{markers-length}
 
 -- ---- answers
-
-module _ {places bytes relocations sites : List ℕ} where
-  pub stays : (q : Question) (x : Answer) {n k : ℕ} → questionOf q ≡ No n k
-      → Writes (unless q x) (outcome.Refused n k) places places bytes bytes relocations relocations sites sites
-  unfolding unless questionOf outcomeOf afterwards
-  stays none x e = let z : _≡_ {A = ℕ} 0 1 = cc in absurd (omega arith)
-  stays (some r) x {n} {k} e =
-      let a : n ≡ r .0 = cc in
-      let b : k ≡ r .1 = cc in
-      record { outcome = rw (a, b); placed = refl; stored = refl; related = refl; sited = refl }
-
-pub goes : {x : Answer} {o : Outcome} {places places′ bytes bytes′ relocations relocations′ sites sites′ : List ℕ} (q : Question) → questionOf q ≡ Yes
-    → Writes x o places places′ bytes bytes′ relocations relocations′ sites sites′
-    → Writes (unless q x) o places places′ bytes bytes′ relocations relocations′ sites sites′
-unfolding unless
-goes q e w = rw (said-yes q e) w
 
 pub not-yes : (q p : Question) {r : declared.Question} → r ≡ questionOf q → not (isYes r) ≡ true → r ≡ questionOf (andThen q p)
 unfolding questionOf andThen isYes
@@ -175,20 +156,3 @@ module _ {s : Source} {fs list : List ℕ} {n : ℕ} (a : Writable s fs list n) 
     related = w .stored ∙ ap (put relocations 0) relocations-are;
     sited = i ∙ ap (put sites 0) (sym (sites-are s fs list n));
   }
-
--- ---- room
-
-asked-one : (a b n k : ℕ) → ask (leb a b) n k ≡ none → a ≤ b
-asked-one a b n k e = leb→le a b (said (leb a b) n k e)
-
-asked : (a b n k : ℕ) (q : Question) → andThen (ask (leb a b) n k) q ≡ none → (a ≤ b) × (q ≡ none)
-asked a b n k q e = let d = both (ask (leb a b) n k) q e in (asked-one a b n k (d .0), d .1)
-
-pub room-says : (c r : Counts) → roomFor c r ≡ none
-    → (c .places ≤ r .places) × (c .bytes ≤ r .bytes) × (c .relocations ≤ r .relocations) × (c .sites ≤ r .sites)
-unfolding roomFor
-room-says c r e =
-    let a = asked (c .places) (r .places) 51 0 _ e in
-    let b = asked (c .bytes) (r .bytes) 52 0 _ (a .1) in
-    let d = asked (c .relocations) (r .relocations) 53 0 _ (b .1) in
-    (a .0, b .0, d .0, asked-one (c .sites) (r .sites) 54 0 (d .1))

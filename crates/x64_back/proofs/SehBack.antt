@@ -2,7 +2,6 @@
 use mathlib.Core.Path.{_≡_, refl, sym, ap, _∙_}
 use Prim.Native.Nat.{ℕ, zero, suc, _+_, _*_, _≤_, _<_}
 use native.Mathlib.Omega.{arith}
-use mathlib.Core.Bool.{Bool, true, false}
 use mathlib.Core.Option.{Option, none, some}
 use mathlib.Core.List.{List, [], _∷_, _++_, map, append-assoc, append-nil}
 use lib.Dec.{eqb, leb→le}
@@ -15,29 +14,19 @@ use Rattle.format.specs.Machine.{machineOf}
 use Rattle.format.specs.Lists.{Function, Prologue, prologueStride, functionStride, count, prologueAt, prologuesOf}
 use Rattle.format.specs.Writer.{Written, joined}
 use Rattle.format.specs.X64.{codesOf, prologueOf, prologueNo, infoBytes, markersFrom, x64}
-use Rattle.format.specs.X64Reader.{Info, readInfo, readX64, infoNumbers, codesStored}
-use Rattle.format.specs.Questions.{Question, ask, andThen, perFunction, noAt, codeAsks, Room, roomIn, roomAsks, Answer, refused, empty, accepted, unless, fitting, codesAnswer, Prologues, made, stopped, madeOne, prologuesFor, prologuesAnswer, windowsAnswer, Given, givenFunctions, givenFunction, noFunctions, formatAnswer, relaxedTable, seh}
+use Rattle.format.specs.X64Reader.{readInfo, readX64, infoNumbers, codesStored}
+use Rattle.format.specs.Questions.{perFunction, noAt, codeAsks, Room, roomIn, roomAsks, accepted, fitting, codesAnswer, Prologues, made, stopped, madeOne, prologuesFor, prologuesAnswer, windowsAnswer, Given, givenFunctions, givenFunction, noFunctions, formatAnswer, relaxedTable, seh}
 use Rattle.format.specs.Put.{put}
 use Rattle.format.specs.Answers.{Writes, afterwards}
 use Rattle.format.specs.declared.Outcome.{Outcome}
 use Rattle.x64.proofs.Results.{markers-length}
 use Rattle.format.proofs.Choice.{if-le}
-use Rattle.format.proofs.Accepted.{asked, both, function-at}
+use Rattle.format.proofs.Accepted.{asked, both, function-at, passed, not-empty}
 use Rattle.format.proofs.ListLaws.{each-get, each-length}
 use Rattle.x64_back.specs.Given.{frameCodes, given, ReadBack}
 use Rattle.x64_back.proofs.InfoBack.{info-back}
 
 -- ---- acceptance
-
-passed : (q : Question) (a : Answer) (w : Written) → unless q a ≡ accepted w → (q ≡ none) × (a ≡ accepted w)
-unfolding unless
-passed none a w e = (refl, e)
-passed (some r) a w e = let z : _≡_ {A = ℕ} 0 1 = cc in absurd (omega arith)
-
-not-empty : (b : Bool) (a : Answer) (w : Written) → pick b empty a ≡ accepted w → a ≡ accepted w
-unfolding pick
-not-empty true a w e = let z : _≡_ {A = ℕ} 0 1 = cc in absurd (omega arith)
-not-empty false a w e = e
 
 no-no : (k : ℕ) (o : Option ℕ) → noAt k o ≡ none → o ≡ none
 unfolding noAt

@@ -11,25 +11,8 @@ ghost use Rattle.format.specs.X64Reader.{operandBytes, largeSize, meaning, fiel
 ghost use Rattle.x64_reader.specs.Reads.{operandOf, Small, fieldNumbers, CodeSays, orFrame, countedOf, Held, storedOf, HeaderSays, readNumbers};
 use format::Unsigned;
 use numbers::codes;
+use numbers::uwop;
 use operations::fields::read_le;
-
-// ---- unwind operation codes
-
-const UWOP_PUSH_NONVOL: u64 = 0;
-
-const UWOP_ALLOC_LARGE: u64 = 1;
-
-const UWOP_ALLOC_SMALL: u64 = 2;
-
-const UWOP_SET_FPREG: u64 = 3;
-
-const UWOP_SAVE_NONVOL: u64 = 4;
-
-const UWOP_SAVE_NONVOL_FAR: u64 = 5;
-
-const UWOP_SAVE_XMM128: u64 = 8;
-
-const UWOP_SAVE_XMM128_FAR: u64 = 9;
 
 // ---- one code
 
@@ -53,14 +36,14 @@ fn operand_bytes(op: u64, info: u64) -> Operand
     ensures { λ r. ⌜ r ≡ operandOf (operandBytes op info) ⌝ }
 {
     match op {
-        UWOP_PUSH_NONVOL => Operand::Bytes(0),
-        UWOP_ALLOC_LARGE => large_bytes(info),
-        UWOP_ALLOC_SMALL => Operand::Bytes(0),
-        UWOP_SET_FPREG => Operand::Bytes(0),
-        UWOP_SAVE_NONVOL => Operand::Bytes(2),
-        UWOP_SAVE_NONVOL_FAR => Operand::Bytes(4),
-        UWOP_SAVE_XMM128 => Operand::Bytes(2),
-        UWOP_SAVE_XMM128_FAR => Operand::Bytes(4),
+        uwop::UWOP_PUSH_NONVOL => Operand::Bytes(0),
+        uwop::UWOP_ALLOC_LARGE => large_bytes(info),
+        uwop::UWOP_ALLOC_SMALL => Operand::Bytes(0),
+        uwop::UWOP_SET_FPREG => Operand::Bytes(0),
+        uwop::UWOP_SAVE_NONVOL => Operand::Bytes(2),
+        uwop::UWOP_SAVE_NONVOL_FAR => Operand::Bytes(4),
+        uwop::UWOP_SAVE_XMM128 => Operand::Bytes(2),
+        uwop::UWOP_SAVE_XMM128_FAR => Operand::Bytes(4),
         _ => Operand::Bad,
     }
 }
@@ -100,13 +83,13 @@ fn meaning(frame: u64, op: u64, info: u64, v: u64) -> Fields
     ensures { λ r. ⌜ fieldNumbers r ≡ fieldsOf (meaning frame op info v) ⌝ }
 {
     match op {
-        UWOP_PUSH_NONVOL => fields_with(codes::PUSH, info, 0, 0),
-        UWOP_ALLOC_LARGE => fields_with(codes::ALLOC, 0, 0, large_size(info, v)),
-        UWOP_ALLOC_SMALL => fields_with(codes::ALLOC, 0, 0, 8 * info + 8),
-        UWOP_SET_FPREG => fields_with(codes::FRAME, frame % 16, 0, 16 * (frame / 16)),
-        UWOP_SAVE_NONVOL => fields_with(codes::SAVE, info, 0, 8 * v),
-        UWOP_SAVE_NONVOL_FAR => fields_with(codes::SAVE, info, 0, v),
-        UWOP_SAVE_XMM128 => fields_with(codes::SAVE, info, 1, 16 * v),
+        uwop::UWOP_PUSH_NONVOL => fields_with(codes::PUSH, info, 0, 0),
+        uwop::UWOP_ALLOC_LARGE => fields_with(codes::ALLOC, 0, 0, large_size(info, v)),
+        uwop::UWOP_ALLOC_SMALL => fields_with(codes::ALLOC, 0, 0, 8 * info + 8),
+        uwop::UWOP_SET_FPREG => fields_with(codes::FRAME, frame % 16, 0, 16 * (frame / 16)),
+        uwop::UWOP_SAVE_NONVOL => fields_with(codes::SAVE, info, 0, 8 * v),
+        uwop::UWOP_SAVE_NONVOL_FAR => fields_with(codes::SAVE, info, 0, v),
+        uwop::UWOP_SAVE_XMM128 => fields_with(codes::SAVE, info, 1, 16 * v),
         _ => fields_with(codes::SAVE, info, 1, v),
     }
 }

@@ -1,4 +1,5 @@
 -- `apply::unwind_apply` meets its contract.
+use Rattle.format.proofs.PutLaws.{front-is}
 use mathlib.Core.Path.{sym, ap, subst, _∙_}
 use mathlib.Core.Option.{none}
 use mathlib.Core.List.{List, _++_}
@@ -10,7 +11,7 @@ use borrow.Author.Needs.{needs}
 use Rattle.format.specs.Lists.{relocationsOf}
 use Rattle.apply.specs.Values.{layoutOf}
 use Rattle.apply.specs.Apply.{everywhere, sound, stores}
-use Rattle.apply.proofs.Entry.{stores-length, front-is, front-changed, short, unsound, far, applied}
+use Rattle.apply.proofs.Entry.{stores-length, front-changed, short, unsound, far, applied}
 use Rattle.apply.proofs.unwind_apply.Statement.{statement}
 use Rattle.apply.proofs.unwind_apply.Tie as tie
 

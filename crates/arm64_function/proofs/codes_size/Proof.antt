@@ -1,13 +1,10 @@
+-- `arm64_function::codes_size` meets its contract.
 use native.Mathlib.Omega.{arith}
 use borrow.Author.Needs.{needs}
 use Rattle.arm64_function.proofs.Own.{Summing, summing-start, summing-turn, summing-high, summing-ended}
-use Prim.Native.Nat.{ℕ, _+_, _-_, _*_, _^_, _≤_, _<_}
+use Prim.Native.Nat.{_-_}
 use Rattle.arm64_function.proofs.codes_size.Statement.{statement}
 use Rattle.arm64_function.proofs.codes_size.Tie as tie
-use Rattle.arm64_function.proofs.codes_size.Reads as reads
-use Rattle.arm64_function.proofs.codes_size.Lts as lts
-use Rattle.arm64_function.proofs.own_size.Reads as own-size-reads
-use Rattle.arm64_simple.proofs.run_size.Reads as run-size-reads
 
 abbrev Inv-loop : tie.InvT-loop
 Inv-loop es cs p size₀ i₀ size i = Summing es cs p size i
@@ -15,47 +12,36 @@ Inv-loop es cs p size₀ i₀ size i = Summing es cs p size i
 abbrev μ-loop : tie.MeasureT-loop
 μ-loop es cs p size₀ i₀ size i = p .end - i
 
--- src/lib.rt:139:20
 run-size-requires : tie.Need-run-size-requires Inv-loop μ-loop
 run-size-requires c κs = c .before .before .before .pre .prologue
 
--- src/lib.rt:139:20
 add-size : tie.Need-add-size Inv-loop μ-loop
 add-size c = omega (arith, c .run-size .ensures .1, c .before .before .before .before .pre .prologue .low)
 
--- src/lib.rt:141:5
 loop-holds : tie.Need-loop-holds Inv-loop μ-loop
 loop-holds c = summing-start (c .run-size .ensures .0)
 
--- src/lib.rt:143:13
 returns : tie.Need-returns Inv-loop μ-loop
 returns c = summing-high (c .before .before .before .loop .inv) (c .if2 .taken)
 
--- src/lib.rt:145:17
 own-size-requires : tie.Need-own-size-requires Inv-loop μ-loop
 own-size-requires c κs = (c .before .before .before .before .before .before .before .before .pre, c .before .before .before .loop .inv .low, c .before .if1 .taken)
 
--- src/lib.rt:145:9
 add-size-2 : tie.Need-add-size-2 Inv-loop μ-loop
 add-size-2 c = omega (arith, c .before .if2 .left, c .own-size .ensures .1)
 
--- src/lib.rt:146:9
 add-i : tie.Need-add-i Inv-loop μ-loop
 add-i c = search needs
 
--- src/lib.rt:141:5
 loop-less : tie.Need-loop-less Inv-loop μ-loop
 loop-less c = search needs
 
--- src/lib.rt:141:5
 loop-again : tie.Need-loop-again Inv-loop μ-loop
 loop-again c = summing-turn (c .before .before .before .before .loop .inv) (c .before .before .if1 .taken) (c .own-size .ensures .0)
 
--- src/lib.rt:149:9
 returns-2 : tie.Need-returns-2 Inv-loop μ-loop
 returns-2 c = summing-high (c .before .before .before .loop .inv) (c .if3 .taken)
 
--- src/lib.rt:134:1
 returns-3 : tie.Need-returns-3 Inv-loop μ-loop
 returns-3 c = summing-ended (c .before .before .before .loop .inv) (omega (arith, c .before .if1 .left)) (omega (arith, c .if3 .left))
 

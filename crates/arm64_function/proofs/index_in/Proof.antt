@@ -1,48 +1,36 @@
-use native.Mathlib.Omega.{arith}
+-- `arm64_function::index_in` meets its contract.
 use Rattle.arm64_function.specs.Own.{indexIn}
 use lib.ListN.{getD}
 use Prim.Native.Nat.{ℕ, _+_, _*_, _/_}
-use mathlib.Core.Path.{_≡_, refl, subst, sym, ap, _∙_}
+use mathlib.Core.Path.{ap, _∙_}
 use borrow.Author.Needs.{needs}
 use Rattle.arm64_function.proofs.index_in.Statement.{statement}
 use Rattle.arm64_function.proofs.index_in.Tie as tie
-use Rattle.arm64_function.proofs.index_in.Reads as reads
-use Rattle.arm64_function.proofs.index_in.Lts as lts
-use Rattle.leb.proofs.wide.Reads as wide-reads
 
--- src/lib.rt:215:20
 add-wide : tie.Need-add-wide
 add-wide c = search needs
 
--- src/lib.rt:215:16
 shared-slice-read-wide : tie.Need-shared-slice-read-wide
 shared-slice-read-wide c = search needs
 
--- src/lib.rt:215:6
 wide-requires : tie.Need-wide-requires
 wide-requires c κs = search needs
 
--- src/lib.rt:215:54
 add-wide-2 : tie.Need-add-wide-2
 add-wide-2 c = search needs
 
--- src/lib.rt:215:50
 shared-slice-read-wide-2 : tie.Need-shared-slice-read-wide-2
 shared-slice-read-wide-2 c = search needs
 
--- src/lib.rt:215:40
 wide-requires-2 : tie.Need-wide-requires-2
 wide-requires-2 c κs = search needs
 
--- src/lib.rt:215:36
 mul-result : tie.Need-mul-result
 mul-result c = search needs
 
--- src/lib.rt:215:6
 add-result : tie.Need-add-result
 add-result c = search needs
 
--- src/lib.rt:211:1
 returns : tie.Need-returns
 unfolding indexIn
 returns c = ap (λ (x : ℕ). x / 64 + 4 * c .wide2 .result) (c .before .before .wide .ensures .0) ∙ ap (λ (x : ℕ). getD (c .before .before .before .before .before .args .out .now) (c .before .before .before .before .before .args .at + 2) 0 / 64 + 4 * x) (c .wide2 .ensures .0)

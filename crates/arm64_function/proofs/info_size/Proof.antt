@@ -1,50 +1,37 @@
+-- `arm64_function::info_size` meets its contract.
 use native.Mathlib.Omega.{arith}
 use Rattle.arm64_function.proofs.Record.{info-none, info-of, whole-for}
 use Rattle.arm64_function.proofs.Given.{in-list}
 use lib.ListN.{length}
-use mathlib.Core.Path.{_≡_, refl, subst, sym, ap, _∙_}
+use mathlib.Core.Path.{ap, _∙_}
 use borrow.Author.Needs.{needs}
 use Rattle.arm64_function.proofs.info_size.Statement.{statement}
 use Rattle.arm64_function.proofs.info_size.Tie as tie
-use Rattle.arm64_function.proofs.info_size.Reads as reads
-use Rattle.arm64_function.proofs.info_size.Lts as lts
-use Rattle.arm64_function.proofs.packed_word.Reads as packed-word-reads
-use Rattle.arm64_function.proofs.parts_at.Reads as parts-at-reads
-use Rattle.arm64_function.proofs.record_size.Reads as record-size-reads
 
--- src/lib.rt:467:8
 packed-word-requires : tie.Need-packed-word-requires
 packed-word-requires c κs = search needs
 
--- src/lib.rt:468:9
 returns : tie.Need-returns
 returns c = (ap length (info-none (c .before .before .before .before .before .args .fs .now) (c .before .before .before .before .before .args .es .now) (c .before .before .before .before .before .args .cs .now) (c .before .before .before .before .before .args .k) (c .before .packed-word .ensures) (c .if1 .taken)), omega arith)
 
--- src/lib.rt:470:25
 parts-at-requires : tie.Need-parts-at-requires
 parts-at-requires c κs = (c .before .before .before .before .before .pre .listed .room, omega (arith, in-list (c .before .before .before .before .before .pre .listed) (omega arith)))
 
--- src/lib.rt:470:45
 mul-record-size : tie.Need-mul-record-size
 mul-record-size c = search needs
 
--- src/lib.rt:470:45
 add-record-size : tie.Need-add-record-size
 add-record-size c = search needs
 
--- src/lib.rt:470:42
 mul-record-size-2 : tie.Need-mul-record-size-2
 mul-record-size-2 c = search needs
 
--- src/lib.rt:470:42
 shared-slice-read-record-size : tie.Need-shared-slice-read-record-size
 shared-slice-read-record-size c = search needs
 
--- src/lib.rt:470:5
 record-size-requires : tie.Need-record-size-requires
 record-size-requires c κs = whole-for (c .before .before .before .before .before .before .before .pre) (omega arith) (c .before .parts-at .ensures)
 
--- src/lib.rt:463:1
 returns-2 : tie.Need-returns-2
 returns-2 c = (c .record-size .ensures .0 ∙ ap length (info-of (c .before .before .before .before .before .before .before .before .args .fs .now) (c .before .before .before .before .before .before .before .before .args .es .now) (c .before .before .before .before .before .before .before .before .args .cs .now) (c .before .before .before .before .before .before .before .before .args .k) (c .before .before .before .before .packed-word .ensures) (c .before .before .before .if1 .left) (c .before .before .parts-at .ensures)), c .record-size .ensures .1)
 

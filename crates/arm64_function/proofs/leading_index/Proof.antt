@@ -1,33 +1,24 @@
-use native.Mathlib.Omega.{arith}
+-- `arm64_function::leading_index` meets its contract.
 use Rattle.arm64_function.proofs.Indexes.{index-leading, leading-low}
 use Rattle.arm64_function.proofs.Own.{size-of}
 use Rattle.arm64_simple.specs.Saves.{Inside}
-use mathlib.Core.Path.{_≡_, refl, subst, sym, ap, _∙_}
+use mathlib.Core.Path.{subst, sym}
 use borrow.Author.Needs.{needs}
 use Rattle.arm64_function.proofs.leading_index.Statement.{statement}
 use Rattle.arm64_function.proofs.leading_index.Tie as tie
-use Rattle.arm64_function.proofs.leading_index.Reads as reads
-use Rattle.arm64_function.proofs.leading_index.Lts as lts
-use Rattle.arm64_function.proofs.epilogue_at.Reads as epilogue-at-reads
-use Rattle.arm64_simple.proofs.run_size.Reads as run-size-reads
 
--- src/lib.rt:224:5
 run-size-requires : tie.Need-run-size-requires
 run-size-requires c κs = search needs
 
--- src/lib.rt:224:71
 epilogue-at-requires : tie.Need-epilogue-at-requires
 epilogue-at-requires c κs = search needs
 
--- src/lib.rt:224:44
 run-size-requires-2 : tie.Need-run-size-requires-2
 run-size-requires-2 c κs = subst (Inside (c .before .before .before .before .before .args .cs .now)) (sym (c .epilogue-at .ensures)) (c .before .before .before .before .before .pre .0 .inside (c .before .before .before .before .before .args .i) (c .before .before .before .before .before .pre .1) (c .before .before .before .before .before .pre .2))
 
--- src/lib.rt:224:5
 sub-result : tie.Need-sub-result
 sub-result c = leading-low (c .before .before .before .before .before .before .args .es .now) (c .before .before .before .before .before .before .args .cs .now) (c .before .before .before .before .before .before .args .p) (c .before .before .before .before .before .before .args .i) (c .before .before .before .before .before .before .pre .3) (c .before .before .run-size .ensures .0) (size-of (c .before .before .before .before .before .before .args .es .now) (c .before .before .before .before .before .before .args .cs .now) (c .before .before .before .before .before .before .args .i) (c .before .epilogue-at .ensures) (c .run-size2 .ensures .0))
 
--- src/lib.rt:219:1
 returns : tie.Need-returns
 returns c = index-leading (c .before .before .before .before .before .before .args .es .now) (c .before .before .before .before .before .before .args .cs .now) (c .before .before .before .before .before .before .args .p) (c .before .before .before .before .before .before .args .i) (c .before .before .before .before .before .before .pre .3) (c .before .before .run-size .ensures .0) (size-of (c .before .before .before .before .before .before .args .es .now) (c .before .before .before .before .before .before .args .cs .now) (c .before .before .before .before .before .before .args .i) (c .before .epilogue-at .ensures) (c .run-size2 .ensures .0))
 

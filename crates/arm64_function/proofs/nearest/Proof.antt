@@ -1,16 +1,13 @@
+-- `arm64_function::nearest` meets its contract.
 use native.Mathlib.Omega.{arith}
 use borrow.Author.Needs.{needs}
-use mathlib.Core.Path.{_≡_, subst, sym, _∙_}
+use mathlib.Core.Path.{_≡_, subst, sym}
 use Prim.Native.Nat.{_-_}
 use Rattle.arm64_simple.specs.Saves.{Inside}
 use Rattle.arm64_function.specs.Own.{epilogueAt}
 use Rattle.arm64_function.proofs.Own.{Searching, searching-start, searching-turn, searching-found, searching-ended}
 use Rattle.arm64_function.proofs.nearest.Statement.{statement}
 use Rattle.arm64_function.proofs.nearest.Tie as tie
-use Rattle.arm64_function.proofs.nearest.Reads as reads
-use Rattle.arm64_function.proofs.nearest.Lts as lts
-use Rattle.arm64_function.proofs.epilogue_at.Reads as epilogue-at-reads
-use Rattle.arm64_sharing.proofs.same_run.Reads as same-run-reads
 
 abbrev Inv-loop : tie.InvT-loop
 Inv-loop es cs p i run j₀ j = (run ≡ epilogueAt es i) × Searching es cs p i j
@@ -18,47 +15,36 @@ Inv-loop es cs p i run j₀ j = (run ≡ epilogueAt es i) × Searching es cs p i
 abbrev μ-loop : tie.MeasureT-loop
 μ-loop es cs p i run j₀ j = j - p .first
 
--- src/lib.rt:106:9
 epilogue-at-requires : tie.Need-epilogue-at-requires Inv-loop μ-loop
 epilogue-at-requires c κs = omega (arith, c .before .before .pre .0 .room, c .before .before .pre .2)
 
--- src/lib.rt:108:5
 loop-holds : tie.Need-loop-holds Inv-loop μ-loop
 loop-holds c = (c .epilogue-at .ensures, searching-start (c .before .before .before .pre .1))
 
--- src/lib.rt:109:61
 sub-epilogue-at : tie.Need-sub-epilogue-at Inv-loop μ-loop
 sub-epilogue-at c = search needs
 
--- src/lib.rt:109:45
 epilogue-at-requires-2 : tie.Need-epilogue-at-requires-2 Inv-loop μ-loop
 epilogue-at-requires-2 c κs = omega (arith, c .if1 .taken, c .before .before .loop .inv .1 .high, c .before .before .before .before .before .before .pre .0 .room, c .before .before .before .before .before .before .pre .2)
 
--- src/lib.rt:109:12
 same-run-requires : tie.Need-same-run-requires Inv-loop μ-loop
 same-run-requires c κs = (subst (Inside (c .before .before .before .before .before .before .before .args .cs .now)) (sym (c .before .before .before .loop .inv .0)) (c .before .before .before .before .before .before .before .pre .0 .inside (c .before .before .before .before .before .before .before .args .i) (c .before .before .before .before .before .before .before .pre .1) (c .before .before .before .before .before .before .before .pre .2)), subst (Inside (c .before .before .before .before .before .before .before .args .cs .now)) (sym (c .epilogue-at2 .ensures)) (c .before .before .before .before .before .before .before .pre .0 .inside (c .before .before .before .loop .j - 1) (omega (arith, c .before .if1 .taken)) (omega (arith, c .before .if1 .taken, c .before .before .before .loop .inv .1 .high, c .before .before .before .before .before .before .before .pre .2))))
 
--- src/lib.rt:110:20
 sub-result : tie.Need-sub-result Inv-loop μ-loop
 sub-result c = search needs
 
--- src/lib.rt:110:13
 returns : tie.Need-returns Inv-loop μ-loop
 returns c = searching-found (c .before .before .before .before .before .loop .inv .1) (c .before .before .before .if1 .taken) (c .before .before .before .before .before .loop .inv .0) (c .before .before .epilogue-at2 .ensures) (c .before .same-run .ensures) (c .if2 .taken)
 
--- src/lib.rt:112:9
 sub-j : tie.Need-sub-j Inv-loop μ-loop
 sub-j c = search needs
 
--- src/lib.rt:108:5
 loop-less : tie.Need-loop-less Inv-loop μ-loop
 loop-less c = search needs
 
--- src/lib.rt:108:5
 loop-again : tie.Need-loop-again Inv-loop μ-loop
 loop-again c = (c .before .before .before .before .before .loop .inv .0, searching-turn (c .before .before .before .before .before .loop .inv .1) (c .before .before .before .if1 .taken) (c .before .before .before .before .before .loop .inv .0) (c .before .before .epilogue-at2 .ensures) (c .before .same-run .ensures) (c .if2 .left))
 
--- src/lib.rt:102:1
 returns-2 : tie.Need-returns-2 Inv-loop μ-loop
 returns-2 c = searching-ended (c .before .before .loop .inv .1) (omega (arith, c .if1 .left))
 

@@ -1,47 +1,34 @@
+-- `arm64_function::own_size` meets its contract.
 use native.Mathlib.Omega.{arith}
 use Rattle.arm64_function.proofs.Own.{none-size, one-size, own-leading, own-shared, own-alone, leads-is, size-of, own-count}
 use Rattle.arm64_simple.specs.Saves.{Inside}
-use Prim.Native.Nat.{ℕ, _+_, _-_, _*_, _^_, _≤_, _<_}
-use mathlib.Core.Path.{_≡_, refl, subst, sym, ap, _∙_}
+use Prim.Native.Nat.{ℕ, _+_, _-_}
+use mathlib.Core.Path.{subst, sym, ap, _∙_}
 use borrow.Author.Needs.{needs}
 use Rattle.arm64_function.proofs.own_size.Statement.{statement}
 use Rattle.arm64_function.proofs.own_size.Tie as tie
-use Rattle.arm64_function.proofs.own_size.Reads as reads
-use Rattle.arm64_function.proofs.own_size.Lts as lts
-use Rattle.arm64_function.proofs.epilogue_at.Reads as epilogue-at-reads
-use Rattle.arm64_function.proofs.nearest.Reads as nearest-reads
-use Rattle.arm64_sharing.proofs.leads.Reads as leads-reads
-use Rattle.arm64_simple.proofs.run_size.Reads as run-size-reads
 
--- src/lib.rt:122:9
 epilogue-at-requires : tie.Need-epilogue-at-requires
 epilogue-at-requires c κs = search needs
 
--- src/lib.rt:124:8
 leads-requires : tie.Need-leads-requires
 leads-requires c κs = (subst (Inside (c .before .before .before .before .args .cs .now)) (sym (c .before .epilogue-at .ensures)) (c .before .before .before .before .pre .0 .inside (c .before .before .before .before .args .i) (c .before .before .before .before .pre .1) (c .before .before .before .before .pre .2)), c .before .before .before .before .pre .0 .prologue)
 
--- src/lib.rt:125:9
 returns : tie.Need-returns
 returns c = (none-size (own-leading (c .before .before .before .before .before .before .args .es .now) (c .before .before .before .before .before .before .args .cs .now) (c .before .before .before .before .before .before .args .p) (c .before .before .before .before .before .before .args .i) (sym (leads-is (c .before .before .before .before .before .before .args .es .now) (c .before .before .before .before .before .before .args .cs .now) (c .before .before .before .before .before .before .args .p) (c .before .before .before .before .before .before .args .i) (c .before .before .before .epilogue-at .ensures) (c .before .leads .ensures)) ∙ c .if1 .taken)), omega arith)
 
--- src/lib.rt:127:8
 nearest-requires : tie.Need-nearest-requires
 nearest-requires c κs = search needs
 
--- src/lib.rt:128:9
 returns-2 : tie.Need-returns-2
 returns-2 c = (none-size (own-shared (c .before .before .before .before .before .before .before .before .args .es .now) (c .before .before .before .before .before .before .before .before .args .cs .now) (c .before .before .before .before .before .before .before .before .args .p) (c .before .before .before .before .before .before .before .before .args .i) (c .before .nearest .ensures) (sym (leads-is (c .before .before .before .before .before .before .before .before .args .es .now) (c .before .before .before .before .before .before .before .before .args .cs .now) (c .before .before .before .before .before .before .before .before .args .p) (c .before .before .before .before .before .before .before .before .args .i) (c .before .before .before .before .before .epilogue-at .ensures) (c .before .before .before .leads .ensures)) ∙ c .before .before .if1 .left) (c .if2 .taken)), omega arith)
 
--- src/lib.rt:130:5
 run-size-requires : tie.Need-run-size-requires
 run-size-requires c κs = subst (Inside (c .before .before .before .before .before .before .before .before .args .cs .now)) (sym (c .before .before .before .before .before .epilogue-at .ensures)) (c .before .before .before .before .before .before .before .before .pre .0 .inside (c .before .before .before .before .before .before .before .before .args .i) (c .before .before .before .before .before .before .before .before .pre .1) (c .before .before .before .before .before .before .before .before .pre .2))
 
--- src/lib.rt:130:5
 add-result : tie.Need-add-result
 add-result c = omega (arith, c .run-size .ensures .1, own-count (c .before .before .before .before .before .before .before .before .before .args .es .now) (c .before .before .before .before .before .before .before .before .before .args .i) (c .before .before .before .before .before .before .before .before .before .pre .0 .inside (c .before .before .before .before .before .before .before .before .before .args .i) (c .before .before .before .before .before .before .before .before .before .pre .1) (c .before .before .before .before .before .before .before .before .before .pre .2)) (c .before .before .before .before .before .before .epilogue-at .ensures))
 
--- src/lib.rt:118:1
 returns-3 : tie.Need-returns-3
 returns-3 c = (ap (λ (n : ℕ). n + 1) (size-of (c .before .before .before .before .before .before .before .before .before .args .es .now) (c .before .before .before .before .before .before .before .before .before .args .cs .now) (c .before .before .before .before .before .before .before .before .before .args .i) (c .before .before .before .before .before .before .epilogue-at .ensures) (c .run-size .ensures .0)) ∙ one-size (own-alone (c .before .before .before .before .before .before .before .before .before .args .es .now) (c .before .before .before .before .before .before .before .before .before .args .cs .now) (c .before .before .before .before .before .before .before .before .before .args .p) (c .before .before .before .before .before .before .before .before .before .args .i) (c .before .before .nearest .ensures) (sym (leads-is (c .before .before .before .before .before .before .before .before .before .args .es .now) (c .before .before .before .before .before .before .before .before .before .args .cs .now) (c .before .before .before .before .before .before .before .before .before .args .p) (c .before .before .before .before .before .before .before .before .before .args .i) (c .before .before .before .before .before .before .epilogue-at .ensures) (c .before .before .before .before .leads .ensures)) ∙ c .before .before .before .if1 .left) (c .before .if2 .left)), omega (arith, c .run-size .ensures .1, own-count (c .before .before .before .before .before .before .before .before .before .args .es .now) (c .before .before .before .before .before .before .before .before .before .args .i) (c .before .before .before .before .before .before .before .before .before .pre .0 .inside (c .before .before .before .before .before .before .before .before .before .args .i) (c .before .before .before .before .before .before .before .before .before .pre .1) (c .before .before .before .before .before .before .before .before .before .pre .2)) (c .before .before .before .before .before .before .epilogue-at .ensures)))
 

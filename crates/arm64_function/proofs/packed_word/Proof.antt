@@ -1,3 +1,4 @@
+-- `arm64_function::packed_word` meets its contract.
 use Rattle.arm64_function.proofs.PackedWord.{only, word-other, word-only}
 use Rattle.arm64_function.proofs.Given.{ready, in-list}
 use Rattle.arm64_function.specs.Own.{Ready}
@@ -6,44 +7,31 @@ use native.Mathlib.Omega.{arith}
 use borrow.Author.Needs.{needs}
 use Rattle.arm64_function.proofs.packed_word.Statement.{statement}
 use Rattle.arm64_function.proofs.packed_word.Tie as tie
-use Rattle.arm64_function.proofs.packed_word.Reads as reads
-use Rattle.arm64_function.proofs.packed_word.Lts as lts
-use Rattle.arm64_function.proofs.packed_one.Reads as packed-one-reads
-use Rattle.arm64_function.proofs.parts_at.Reads as parts-at-reads
 
--- src/lib.rt:104:9
 parts-at-requires : tie.Need-parts-at-requires
 parts-at-requires c κs = (c .before .before .before .pre .listed .room, omega (arith, in-list (c .before .before .before .pre .listed) (omega arith)))
 
--- src/lib.rt:105:8
 sub-if1 : tie.Need-sub-if1
 sub-if1 c = subst (Ready (c .before .before .before .before .before .args .es .now) (c .before .before .before .before .before .args .cs .now)) (sym (c .before .parts-at .ensures)) (ready (c .before .before .before .before .before .pre .listed) (omega arith)) .order
 
--- src/lib.rt:106:9
 returns : tie.Need-returns
 returns c = word-other (c .before .before .before .before .before .before .args .fs .now) (c .before .before .before .before .before .before .args .es .now) (c .before .before .before .before .before .before .args .cs .now) (c .before .before .before .before .before .before .args .k) (c .before .before .parts-at .ensures) (c .if1 .taken)
 
--- src/lib.rt:108:30
 mul-packed-one : tie.Need-mul-packed-one
 mul-packed-one c = search needs
 
--- src/lib.rt:108:30
 add-packed-one : tie.Need-add-packed-one
 add-packed-one c = search needs
 
--- src/lib.rt:108:27
 mul-packed-one-2 : tie.Need-mul-packed-one-2
 mul-packed-one-2 c = search needs
 
--- src/lib.rt:108:27
 shared-slice-read-packed-one : tie.Need-shared-slice-read-packed-one
 shared-slice-read-packed-one c = search needs
 
--- src/lib.rt:108:5
 packed-one-requires : tie.Need-packed-one-requires
 packed-one-requires c κs = only (c .before .before .before .before .before .before .before .pre) (omega arith) (c .before .before .before .parts-at .ensures) (c .before .if1 .left)
 
--- src/lib.rt:100:1
 returns-2 : tie.Need-returns-2
 returns-2 c = word-only (c .before .before .before .before .before .before .before .before .args .fs .now) (c .before .before .before .before .before .before .before .before .args .es .now) (c .before .before .before .before .before .before .before .before .args .cs .now) (c .before .before .before .before .before .before .before .before .args .k) (c .before .before .before .before .parts-at .ensures) (c .before .before .if1 .left) (c .packed-one .ensures)
 

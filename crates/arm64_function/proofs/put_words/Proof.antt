@@ -1,31 +1,25 @@
+-- `arm64_function::put_words` meets its contract.
 use native.Mathlib.Omega.{arith}
 use Rattle.arm64_function.proofs.Record.{scopes-none, scopes-all}
 use Rattle.arm64_function.proofs.Scopes.{words-length}
 use Rattle.format.proofs.PutLaws.{idle}
 use Rattle.format.proofs.Wrote.{Wrote}
 use lib.ListN.{length}
-use Prim.Native.Nat.{ℕ, _+_, _-_, _*_, _^_, _≤_, _<_}
-use mathlib.Core.Path.{_≡_, refl, subst, sym, ap, _∙_}
+use Prim.Native.Nat.{_-_}
+use mathlib.Core.Path.{subst, sym, ap}
 use borrow.Author.Needs.{needs}
 use Rattle.arm64_function.proofs.put_words.Statement.{statement}
 use Rattle.arm64_function.proofs.put_words.Tie as tie
-use Rattle.arm64_function.proofs.put_words.Reads as reads
-use Rattle.arm64_function.proofs.put_words.Lts as lts
-use Rattle.arm64_function.proofs.put_scopes.Reads as put-scopes-reads
 
--- src/lib.rt:445:9
 returns : tie.Need-returns
 returns c = subst (Wrote (c .before .before .before .before .args .out .now) (c .before .before .before .before .args .out .now) (c .before .before .before .before .args .at) (c .before .before .before .before .args .at)) (scopes-none (c .before .before .before .before .args .es .now) (c .before .before .before .before .args .cs .now) (c .before .before .before .before .args .p) (c .if1 .taken)) idle
 
--- src/lib.rt:447:5
 put-scopes-requires : tie.Need-put-scopes-requires
 put-scopes-requires c κs = (c .before .before .before .before .before .pre .0, c .before .before .before .before .before .pre .1, c .before .before .before .before .before .pre .2, omega (arith, c .before .before .before .before .before .pre .3, ap length (scopes-all (c .before .before .before .before .before .args .es .now) (c .before .before .before .before .before .args .cs .now) (c .before .before .before .before .before .args .p) (c .before .if1 .left)), words-length (c .before .before .before .before .before .args .es .now) (c .before .before .before .before .before .args .cs .now) (c .before .before .before .before .before .args .p) (c .before .before .before .before .before .args .p .first) (c .before .before .before .before .before .args .p .end - c .before .before .before .before .before .args .p .first)))
 
--- src/lib.rt:440:1
 same-length : tie.Need-same-length
 same-length c = search needs
 
--- src/lib.rt:440:1
 returns-2 : tie.Need-returns-2
 returns-2 c = rw (sym (scopes-all (c .before .before .before .before .before .before .before .before .args .es .now) (c .before .before .before .before .before .before .before .before .args .cs .now) (c .before .before .before .before .before .before .before .before .args .p) (c .before .before .before .before .if1 .left))) (c .before .before .put-scopes .ensures)
 

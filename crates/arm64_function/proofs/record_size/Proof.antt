@@ -1,59 +1,43 @@
+-- `arm64_function::record_size` meets its contract.
 use native.Mathlib.Omega.{arith}
 use Rattle.arm64_function.proofs.Record.{length-single, length-other}
-use mathlib.Core.Path.{_≡_, refl, subst, sym, ap, _∙_}
 use borrow.Author.Needs.{needs}
 use Rattle.arm64_function.proofs.record_size.Statement.{statement}
 use Rattle.arm64_function.proofs.record_size.Tie as tie
-use Rattle.arm64_function.proofs.record_size.Reads as reads
-use Rattle.arm64_function.proofs.record_size.Lts as lts
-use Rattle.arm64_function.proofs.shape_of.Reads as shape-of-reads
-use Rattle.arm64_header.proofs.header_size.Reads as header-size-reads
 
--- src/lib.rt:430:9
 shape-of-requires : tie.Need-shape-of-requires
 shape-of-requires c κs = search needs
 
--- src/lib.rt:431:18
 add-words : tie.Need-add-words
 add-words c = search needs
 
--- src/lib.rt:432:9
 header-size-requires : tie.Need-header-size-requires
 header-size-requires c κs = search needs
 
--- src/lib.rt:434:23
 mul-result : tie.Need-mul-result
 mul-result c = search needs
 
--- src/lib.rt:434:16
 add-result : tie.Need-add-result
 add-result c = search needs
 
--- src/lib.rt:434:9
 returns : tie.Need-returns
 returns c = (length-single (c .before .before .before .shape-of .ensures) (c .before .header-size .ensures .0) (c .if1 .taken), omega (arith, c .before .header-size .ensures .2, c .before .before .before .shape-of .ensures .small))
 
--- src/lib.rt:436:17
 sub-result : tie.Need-sub-result
 sub-result c = search needs
 
--- src/lib.rt:436:12
 mul-result-2 : tie.Need-mul-result-2
 mul-result-2 c = search needs
 
--- src/lib.rt:436:5
 add-result-2 : tie.Need-add-result-2
 add-result-2 c = search needs
 
--- src/lib.rt:436:36
 mul-result-3 : tie.Need-mul-result-3
 mul-result-3 c = search needs
 
--- src/lib.rt:436:5
 add-result-3 : tie.Need-add-result-3
 add-result-3 c = search needs
 
--- src/lib.rt:426:1
 returns-2 : tie.Need-returns-2
 returns-2 c = (length-other (c .before .before .before .before .shape-of .ensures) (c .before .before .header-size .ensures .0) (c .before .if1 .left), omega (arith, c .before .before .header-size .ensures .2, c .before .before .before .before .shape-of .ensures .small, c .before .before .before .before .before .before .before .pre .few))
 

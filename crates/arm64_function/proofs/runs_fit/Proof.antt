@@ -1,3 +1,4 @@
+-- `arm64_function::runs_fit` meets its contract.
 use native.Mathlib.Omega.{arith}
 use borrow.Author.Needs.{needs}
 use Rattle.lists.proofs.Ranges.{Asking, start, turn, stopped, ended}
@@ -8,10 +9,6 @@ use Rattle.arm64_function.specs.Own.{fitsAt}
 use Rattle.arm64_function.proofs.Own.{fits-is}
 use Rattle.arm64_function.proofs.runs_fit.Statement.{statement}
 use Rattle.arm64_function.proofs.runs_fit.Tie as tie
-use Rattle.arm64_function.proofs.runs_fit.Reads as reads
-use Rattle.arm64_function.proofs.runs_fit.Lts as lts
-use Rattle.arm64_function.proofs.epilogue_at.Reads as epilogue-at-reads
-use Rattle.arm64_simple.proofs.run_fits.Reads as run-fits-reads
 
 abbrev Inv-loop : tie.InvT-loop
 Inv-loop es cs p i₀ i = Asking (fitsAt es cs) (p .first) (p .end - p .first) i
@@ -19,35 +16,27 @@ Inv-loop es cs p i₀ i = Asking (fitsAt es cs) (p .first) (p .end - p .first) i
 abbrev μ-loop : tie.MeasureT-loop
 μ-loop es cs p i₀ i = p .end - i
 
--- src/lib.rt:90:5
 loop-holds : tie.Need-loop-holds Inv-loop μ-loop
 loop-holds c = start (fitsAt (c .before .before .args .es .now) (c .before .before .args .cs .now)) (c .before .before .args .p .first) (c .before .before .args .p .end - c .before .before .args .p .first)
 
--- src/lib.rt:91:40
 epilogue-at-requires : tie.Need-epilogue-at-requires Inv-loop μ-loop
 epilogue-at-requires c κs = omega (arith, c .if1 .taken, c .before .before .before .before .before .pre .room)
 
--- src/lib.rt:91:13
 run-fits-requires : tie.Need-run-fits-requires Inv-loop μ-loop
 run-fits-requires c κs = subst (Inside (c .before .before .before .before .before .before .args .cs .now)) (sym (c .epilogue-at .ensures)) (c .before .before .before .before .before .before .pre .inside (c .before .before .before .loop .i) (c .before .before .before .loop .inv .low) (c .before .if1 .taken))
 
--- src/lib.rt:92:13
 returns : tie.Need-returns Inv-loop μ-loop
 returns c = stopped (c .before .before .before .before .before .loop .inv) (omega (arith, c .before .before .before .if1 .taken)) (c .before .run-fits .ensures ∙ fits-is (c .before .before .before .before .before .before .before .before .args .es .now) (c .before .before .before .before .before .before .before .before .args .cs .now) (c .before .before .before .before .before .loop .i) (c .before .before .epilogue-at .ensures)) (c .if2 .taken)
 
--- src/lib.rt:94:9
 add-i : tie.Need-add-i Inv-loop μ-loop
 add-i c = search needs
 
--- src/lib.rt:90:5
 loop-less : tie.Need-loop-less Inv-loop μ-loop
 loop-less c = search needs
 
--- src/lib.rt:90:5
 loop-again : tie.Need-loop-again Inv-loop μ-loop
 loop-again c = turn (c .before .before .before .before .before .loop .inv) (omega (arith, c .before .before .before .if1 .taken)) (c .before .run-fits .ensures ∙ fits-is (c .before .before .before .before .before .before .before .before .args .es .now) (c .before .before .before .before .before .before .before .before .args .cs .now) (c .before .before .before .before .before .loop .i) (c .before .before .epilogue-at .ensures)) (c .if2 .left)
 
--- src/lib.rt:85:1
 returns-2 : tie.Need-returns-2 Inv-loop μ-loop
 returns-2 c = ended (c .before .before .loop .inv) (omega (arith, c .if1 .left, c .before .before .before .before .before .pre .order))
 

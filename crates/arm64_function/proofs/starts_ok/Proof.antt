@@ -1,13 +1,11 @@
+-- `arm64_function::starts_ok` meets its contract.
 use native.Mathlib.Omega.{arith}
 use borrow.Author.Needs.{needs}
 use Rattle.arm64_function.specs.Own.{startOkAt}
 use Rattle.lists.proofs.Ranges.{Asking, start, turn, stopped, ended}
-use Prim.Native.Nat.{ℕ, _+_, _-_, _*_, _^_, _≤_, _<_}
+use Prim.Native.Nat.{_-_}
 use Rattle.arm64_function.proofs.starts_ok.Statement.{statement}
 use Rattle.arm64_function.proofs.starts_ok.Tie as tie
-use Rattle.arm64_function.proofs.starts_ok.Reads as reads
-use Rattle.arm64_function.proofs.starts_ok.Lts as lts
-use Rattle.arm64_function.proofs.start_ok.Reads as start-ok-reads
 
 abbrev Inv-loop : tie.InvT-loop
 Inv-loop es size first end i₀ i = Asking (startOkAt es size) first (end - first) i
@@ -15,31 +13,24 @@ Inv-loop es size first end i₀ i = Asking (startOkAt es size) first (end - firs
 abbrev μ-loop : tie.MeasureT-loop
 μ-loop es size first end i₀ i = end - i
 
--- src/lib.rt:82:5
 loop-holds : tie.Need-loop-holds Inv-loop μ-loop
 loop-holds c = start (startOkAt (c .before .args .es .now) (c .before .args .size)) (c .before .args .first) (c .before .args .end - c .before .args .first)
 
--- src/lib.rt:83:13
 start-ok-requires : tie.Need-start-ok-requires Inv-loop μ-loop
 start-ok-requires c κs = omega arith
 
--- src/lib.rt:84:13
 returns : tie.Need-returns Inv-loop μ-loop
 returns c = stopped (c .before .before .before .loop .inv) (omega (arith, c .before .before .loop-test .taken)) (c .before .start-ok .ensures) (c .if1 .taken)
 
--- src/lib.rt:86:9
 add-i : tie.Need-add-i Inv-loop μ-loop
 add-i c = search needs
 
--- src/lib.rt:82:5
 loop-less : tie.Need-loop-less Inv-loop μ-loop
 loop-less c = search needs
 
--- src/lib.rt:82:5
 loop-again : tie.Need-loop-again Inv-loop μ-loop
 loop-again c = turn (c .before .before .before .loop .inv) (omega (arith, c .before .before .loop-test .taken)) (c .before .start-ok .ensures) (c .if1 .left)
 
--- src/lib.rt:77:1
 returns-2 : tie.Need-returns-2 Inv-loop μ-loop
 returns-2 c = ended (c .before .loop .inv) (omega (arith, c .loop-test .left, c .before .before .before .pre .0))
 

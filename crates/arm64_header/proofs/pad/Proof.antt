@@ -1,21 +1,16 @@
+-- `arm64_header::pad` meets its contract.
 use Rattle.arm64_header.proofs.Header.{nops}
 use mathlib.Core.Path.{sym}
 use borrow.Author.Needs.{needs}
 use Rattle.arm64_header.proofs.pad.Statement.{statement}
 use Rattle.arm64_header.proofs.pad.Tie as tie
-use Rattle.arm64_header.proofs.pad.Reads as reads
-use Rattle.arm64_header.proofs.pad.Lts as lts
-use Rattle.leb.proofs.le.Reads as le-reads
 
--- src/lib.rt:57:5
 le-requires : tie.Need-le-requires
 le-requires c κs = search needs
 
--- src/lib.rt:53:1
 same-length : tie.Need-same-length
 same-length c = search needs
 
--- src/lib.rt:53:1
 returns : tie.Need-returns
 returns c = rw (sym (nops (c .before .before .before .before .before .args .n) (c .before .before .before .before .before .pre .0))) (c .before .before .le .ensures)
 

@@ -1,3 +1,4 @@
+-- `arm64_header::put_header` meets its contract.
 use Rattle.format.proofs.LebBack.{little-length}
 use mathlib.Core.Path.{sym, _∙_}
 use Rattle.arm64_header.proofs.Header.{long-size, short-size, wrote-long, wrote-short}
@@ -5,69 +6,49 @@ use native.Mathlib.Omega.{arith}
 use borrow.Author.Needs.{needs}
 use Rattle.arm64_header.proofs.put_header.Statement.{statement}
 use Rattle.arm64_header.proofs.put_header.Tie as tie
-use Rattle.arm64_header.proofs.put_header.Reads as reads
-use Rattle.arm64_header.proofs.put_header.Lts as lts
-use Rattle.arm64_header.proofs.first_word.Reads as first-word-reads
-use Rattle.arm64_header.proofs.is_long.Reads as is-long-reads
-use Rattle.leb.proofs.le.Reads as le-reads
 
--- src/lib.rt:44:9
 first-word-requires : tie.Need-first-word-requires
 first-word-requires c κs = search needs
 
--- src/lib.rt:45:8
 is-long-requires : tie.Need-is-long-requires
 is-long-requires c κs = search needs
 
--- src/lib.rt:46:13
 le-requires : tie.Need-le-requires
 le-requires c κs = omega (arith, c .before .before .before .before .before .pre .3, long-size (c .before .before .before .before .before .args .size) (c .before .before .before .before .before .args .single) (c .before .before .before .before .before .args .count) (c .before .before .before .before .before .args .words) (sym (c .before .before .is-long .ensures) ∙ c .before .if1 .taken))
 
--- src/lib.rt:47:43
 mul-le : tie.Need-mul-le
 mul-le c = search needs
 
--- src/lib.rt:47:35
 add-le : tie.Need-add-le
 add-le c = search needs
 
--- src/lib.rt:47:9
 le-requires-2 : tie.Need-le-requires-2
 le-requires-2 c κs = omega (arith, c .before .before .before .before .before .before .before .before .before .pre .3, long-size (c .before .before .before .before .before .before .before .before .before .args .size) (c .before .before .before .before .before .before .before .before .before .args .single) (c .before .before .before .before .before .before .before .before .before .args .count) (c .before .before .before .before .before .before .before .before .before .args .words) (sym (c .before .before .before .before .before .before .is-long .ensures) ∙ c .before .before .before .before .before .if1 .taken), little-length 4 (c .before .before .before .before .before .before .before .first-word .result), c .before .before .before .le .ensures .past)
 
--- src/lib.rt:47:9
 same-length : tie.Need-same-length
 same-length c = search needs
 
--- src/lib.rt:47:9
 returns : tie.Need-returns
 returns c = wrote-long (c .before .before .before .before .before .before .before .before .before .before .before .before .args .size) (c .before .before .before .before .before .before .before .before .before .before .before .before .args .single) (c .before .before .before .before .before .before .before .before .before .before .before .before .args .count) (c .before .before .before .before .before .before .before .before .before .before .before .before .args .words) (c .before .before .before .before .before .before .before .before .before .is-long .ensures) (c .before .before .before .before .before .before .before .before .before .before .first-word .ensures .0) (c .before .before .before .before .before .before .before .before .if1 .taken) (c .before .before .before .before .before .before .le .ensures) (c .before .before .le2 .ensures)
 
--- src/lib.rt:49:33
 mul-le-2 : tie.Need-mul-le-2
 mul-le-2 c = search needs
 
--- src/lib.rt:49:25
 add-le-2 : tie.Need-add-le-2
 add-le-2 c = search needs
 
--- src/lib.rt:49:51
 mul-le-3 : tie.Need-mul-le-3
 mul-le-3 c = search needs
 
--- src/lib.rt:49:25
 add-le-3 : tie.Need-add-le-3
 add-le-3 c = search needs
 
--- src/lib.rt:49:5
 le-requires-3 : tie.Need-le-requires-3
 le-requires-3 c κs = omega (arith, c .before .before .before .before .before .pre .3, short-size (c .before .before .before .before .before .args .size) (c .before .before .before .before .before .args .single) (c .before .before .before .before .before .args .count) (c .before .before .before .before .before .args .words) (sym (c .before .before .is-long .ensures) ∙ c .before .if1 .left))
 
--- src/lib.rt:40:1
 same-length-2 : tie.Need-same-length-2
 same-length-2 c = search needs
 
--- src/lib.rt:40:1
 returns-2 : tie.Need-returns-2
 returns-2 c = wrote-short (c .before .before .before .before .before .before .before .before .args .size) (c .before .before .before .before .before .before .before .before .args .single) (c .before .before .before .before .before .before .before .before .args .count) (c .before .before .before .before .before .before .before .before .args .words) (c .before .before .before .before .before .is-long .ensures) (c .before .before .before .before .before .before .first-word .ensures .0) (c .before .before .before .before .if1 .left) (c .before .before .le3 .ensures)
 

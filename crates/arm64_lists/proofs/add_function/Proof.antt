@@ -1,77 +1,58 @@
+-- `arm64_lists::add_function` meets its contract.
 use borrow.Author.Needs.{needs}
 use mathlib.Core.Path.{_∙_}
 use Rattle.arm64_lists.proofs.Totals.{function-over, function-sum}
 use Rattle.arm64_lists.proofs.add_function.Statement.{statement}
 use Rattle.arm64_lists.proofs.add_function.Tie as tie
-use Rattle.arm64_lists.proofs.add_function.Reads as reads
-use Rattle.arm64_lists.proofs.add_function.Lts as lts
-use Rattle.arm64_lists.proofs.add_epilogues.Reads as add-epilogues-reads
 
--- src/lib.rt:147:16
 mul-x : tie.Need-mul-x
 mul-x c = search needs
 
--- src/lib.rt:147:16
 add-x : tie.Need-add-x
 add-x c = search needs
 
--- src/lib.rt:147:13
 mul-x-2 : tie.Need-mul-x-2
 mul-x-2 c = search needs
 
--- src/lib.rt:147:13
 shared-slice-read-x : tie.Need-shared-slice-read-x
 shared-slice-read-x c = search needs
 
--- src/lib.rt:148:8
 sub-if1 : tie.Need-sub-if1
 sub-if1 c = search needs
 
--- src/lib.rt:149:9
 returns : tie.Need-returns
 returns c = function-over (c .before .before .before .before .args .fs .now) (c .before .before .before .before .args .es .now) (c .before .before .before .before .args .k) (c .before .before .before .before .args .sum) (c .if1 .taken) (c .before .before .before .before .pre .2)
 
--- src/lib.rt:151:26
 mul-add-epilogues : tie.Need-mul-add-epilogues
 mul-add-epilogues c = search needs
 
--- src/lib.rt:151:26
 add-add-epilogues : tie.Need-add-add-epilogues
 add-add-epilogues c = search needs
 
--- src/lib.rt:151:23
 mul-add-epilogues-2 : tie.Need-mul-add-epilogues-2
 mul-add-epilogues-2 c = search needs
 
--- src/lib.rt:151:23
 shared-slice-read-add-epilogues : tie.Need-shared-slice-read-add-epilogues
 shared-slice-read-add-epilogues c = search needs
 
--- src/lib.rt:151:50
 mul-add-epilogues-3 : tie.Need-mul-add-epilogues-3
 mul-add-epilogues-3 c = search needs
 
--- src/lib.rt:151:50
 add-add-epilogues-2 : tie.Need-add-add-epilogues-2
 add-add-epilogues-2 c = search needs
 
--- src/lib.rt:151:47
 mul-add-epilogues-4 : tie.Need-mul-add-epilogues-4
 mul-add-epilogues-4 c = search needs
 
--- src/lib.rt:151:47
 shared-slice-read-add-epilogues-2 : tie.Need-shared-slice-read-add-epilogues-2
 shared-slice-read-add-epilogues-2 c = search needs
 
--- src/lib.rt:151:71
 add-add-epilogues-3 : tie.Need-add-add-epilogues-3
 add-add-epilogues-3 c = search needs
 
--- src/lib.rt:151:5
 add-epilogues-requires : tie.Need-add-epilogues-requires
 add-epilogues-requires c κs = search needs
 
--- src/lib.rt:143:1
 returns-2 : tie.Need-returns-2
 returns-2 c = c .add-epilogues .ensures ∙ function-sum (c .before .before .before .before .before .before .before .args .fs .now) (c .before .before .before .before .before .before .before .args .es .now) (c .before .before .before .before .before .before .before .args .k) (c .before .before .before .before .before .before .before .args .sum)
 

@@ -1,13 +1,10 @@
+-- `arm64_lists::codes_in` meets its contract.
 use Rattle.arm64_lists.proofs.codes_in.Statement.{statement}
-use native.Mathlib.Omega.{arith}
 use borrow.Author.Needs.{needs}
 use Prim.Native.Nat.{_-_}
 use Rattle.lists.proofs.Ranges.{Asking, start, turn, stopped, ended}
-use Rattle.arm64.specs.Writer.{codeOkAt, epilogueOkAt}
+use Rattle.arm64.specs.Writer.{codeOkAt}
 use Rattle.arm64_lists.proofs.codes_in.Tie as tie
-use Rattle.arm64_lists.proofs.codes_in.Reads as reads
-use Rattle.arm64_lists.proofs.codes_in.Lts as lts
-use Rattle.arm64_lists.proofs.code_ok.Reads as code-ok-reads
 
 abbrev Inv-loop : tie.InvT-loop
 Inv-loop cs at n end i₀ i = Asking (codeOkAt cs) at n i
@@ -15,35 +12,27 @@ Inv-loop cs at n end i₀ i = Asking (codeOkAt cs) at n i
 abbrev μ-loop : tie.MeasureT-loop
 μ-loop cs at n end i₀ i = end - i
 
--- src/lib.rt:36:15
 add-end : tie.Need-add-end Inv-loop μ-loop
 add-end c = search needs
 
--- src/lib.rt:38:5
 loop-holds : tie.Need-loop-holds Inv-loop μ-loop
 loop-holds c = start (codeOkAt (c .before .args .cs .now)) (c .before .args .at) (c .before .args .n)
 
--- src/lib.rt:39:13
 code-ok-requires : tie.Need-code-ok-requires Inv-loop μ-loop
 code-ok-requires c κs = search needs
 
--- src/lib.rt:40:13
 returns : tie.Need-returns Inv-loop μ-loop
 returns c = stopped (c .before .before .before .loop .inv) (c .before .before .loop-test .taken) (c .before .code-ok .ensures) (c .if1 .taken)
 
--- src/lib.rt:42:9
 add-i : tie.Need-add-i Inv-loop μ-loop
 add-i c = search needs
 
--- src/lib.rt:38:5
 loop-less : tie.Need-loop-less Inv-loop μ-loop
 loop-less c = search needs
 
--- src/lib.rt:38:5
 loop-again : tie.Need-loop-again Inv-loop μ-loop
 loop-again c = turn (c .before .before .before .loop .inv) (c .before .before .loop-test .taken) (c .before .code-ok .ensures) (c .if1 .left)
 
--- src/lib.rt:32:1
 returns-2 : tie.Need-returns-2 Inv-loop μ-loop
 returns-2 c = ended (c .before .loop .inv) (c .loop-test .left)
 

@@ -1,48 +1,36 @@
+-- `arm64_lists::epilogue_ok` meets its contract.
 use borrow.Author.Needs.{needs}
 use Rattle.arm64.specs.Writer.{epilogueOkAt}
 use Rattle.arm64_lists.proofs.epilogue_ok.Statement.{statement}
 use Rattle.arm64_lists.proofs.epilogue_ok.Tie as tie
-use Rattle.arm64_lists.proofs.epilogue_ok.Reads as reads
-use Rattle.arm64_lists.proofs.epilogue_ok.Lts as lts
-use Rattle.arm64_lists.proofs.codes_ok_in.Reads as codes-ok-in-reads
 
--- src/lib.rt:61:24
 mul-codes-ok-in : tie.Need-mul-codes-ok-in
 mul-codes-ok-in c = search needs
 
--- src/lib.rt:61:24
 add-codes-ok-in : tie.Need-add-codes-ok-in
 add-codes-ok-in c = search needs
 
--- src/lib.rt:61:21
 mul-codes-ok-in-2 : tie.Need-mul-codes-ok-in-2
 mul-codes-ok-in-2 c = search needs
 
--- src/lib.rt:61:21
 shared-slice-read-codes-ok-in : tie.Need-shared-slice-read-codes-ok-in
 shared-slice-read-codes-ok-in c = search needs
 
--- src/lib.rt:61:39
 mul-codes-ok-in-3 : tie.Need-mul-codes-ok-in-3
 mul-codes-ok-in-3 c = search needs
 
--- src/lib.rt:61:39
 add-codes-ok-in-2 : tie.Need-add-codes-ok-in-2
 add-codes-ok-in-2 c = search needs
 
--- src/lib.rt:61:36
 mul-codes-ok-in-4 : tie.Need-mul-codes-ok-in-4
 mul-codes-ok-in-4 c = search needs
 
--- src/lib.rt:61:36
 shared-slice-read-codes-ok-in-2 : tie.Need-shared-slice-read-codes-ok-in-2
 shared-slice-read-codes-ok-in-2 c = search needs
 
--- src/lib.rt:61:5
 codes-ok-in-requires : tie.Need-codes-ok-in-requires
 codes-ok-in-requires c κs = search needs
 
--- src/lib.rt:57:1
 returns : tie.Need-returns
 unfolding epilogueOkAt
 returns c = c .codes-ok-in .ensures

@@ -1,3 +1,4 @@
+-- `arm64_lists::functions_ok` meets its contract.
 use Rattle.arm64_lists.proofs.functions_ok.Statement.{statement}
 use native.Mathlib.Omega.{arith}
 use borrow.Author.Needs.{needs}
@@ -5,9 +6,6 @@ use Prim.Native.Nat.{_-_}
 use Rattle.lists.proofs.Ranges.{Asking, start, turn, stopped, ended}
 use Rattle.arm64.specs.Writer.{functionOkAt}
 use Rattle.arm64_lists.proofs.functions_ok.Tie as tie
-use Rattle.arm64_lists.proofs.functions_ok.Reads as reads
-use Rattle.arm64_lists.proofs.functions_ok.Lts as lts
-use Rattle.arm64_lists.proofs.function_ok.Reads as function-ok-reads
 
 abbrev Inv-loop : tie.InvT-loop
 Inv-loop fs es cs n k₀ k = Asking (functionOkAt fs es cs) 0 n k
@@ -15,31 +13,24 @@ Inv-loop fs es cs n k₀ k = Asking (functionOkAt fs es cs) 0 n k
 abbrev μ-loop : tie.MeasureT-loop
 μ-loop fs es cs n k₀ k = n - k
 
--- src/lib.rt:111:5
 loop-holds : tie.Need-loop-holds Inv-loop μ-loop
 loop-holds c = start _ _ _
 
--- src/lib.rt:112:13
 function-ok-requires : tie.Need-function-ok-requires Inv-loop μ-loop
 function-ok-requires c κs = search needs
 
--- src/lib.rt:113:13
 returns : tie.Need-returns Inv-loop μ-loop
 returns c = stopped (c .before .before .before .loop .inv) (omega arith) (c .before .function-ok .ensures) (c .if1 .taken)
 
--- src/lib.rt:115:9
 add-k : tie.Need-add-k Inv-loop μ-loop
 add-k c = search needs
 
--- src/lib.rt:111:5
 loop-less : tie.Need-loop-less Inv-loop μ-loop
 loop-less c = search needs
 
--- src/lib.rt:111:5
 loop-again : tie.Need-loop-again Inv-loop μ-loop
 loop-again c = turn (c .before .before .before .loop .inv) (omega arith) (c .before .function-ok .ensures) (c .if1 .left)
 
--- src/lib.rt:106:1
 returns-2 : tie.Need-returns-2 Inv-loop μ-loop
 returns-2 c = ended (c .before .loop .inv) (omega arith)
 

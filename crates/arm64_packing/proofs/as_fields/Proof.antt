@@ -1,10 +1,8 @@
+-- `arm64_packing::as_fields` meets its contract.
 use Rattle.arm64_packing.proofs.Counts.{fields-by}
 use borrow.Author.Needs.{needs}
 use Rattle.arm64_packing.proofs.as_fields.Statement.{statement}
 use Rattle.arm64_packing.proofs.as_fields.Tie as tie
-use Rattle.arm64_packing.proofs.as_fields.Reads as reads
-use Rattle.arm64_packing.proofs.as_fields.Lts as lts
-use Rattle.arm64_packing.proofs.one_less.Reads as one-less-reads
 
 one-less-requires : tie.Need-one-less-requires
 one-less-requires c κs = search needs

@@ -1,3 +1,4 @@
+-- `arm64_packing::candidate` meets its contract.
 use native.Mathlib.Omega.{arith}
 use borrow.Author.Needs.{needs}
 use Prim.Native.Nat.{_-_}
@@ -5,14 +6,6 @@ use Rattle.arm64_packing.proofs.Tallies.{Tallying, tallying-start, tall
 use Rattle.arm64.specs.Packing.{nothingYet}
 use Rattle.arm64_packing.proofs.candidate.Statement.{statement}
 use Rattle.arm64_packing.proofs.candidate.Tie as tie
-use Rattle.arm64_packing.proofs.candidate.Reads as reads
-use Rattle.arm64_packing.proofs.candidate.Lts as lts
-use Rattle.arm64_packing.proofs.as_fields.Reads as as-fields-reads
-use Rattle.arm64_packing.proofs.tally.Reads as tally-reads
-use Rattle.arm64_simple.proofs.pair_behind.Reads as pair-behind-reads
-use Rattle.arm64_simple.proofs.resolved.Reads as resolved-reads
-use Rattle.arm64_simple.proofs.saved_at.Reads as saved-at-reads
-use Rattle.arm64_simple.proofs.simple.Reads as simple-reads
 
 abbrev Inv-loop : tie.InvT-loop
 Inv-loop cs size run p₀ b₀ j₀ p b j = Tallying cs size run p b j

@@ -1,3 +1,4 @@
+-- `arm64_packing::chain_behind` meets its contract.
 use mathlib.Core.Path.{_∙_}
 use native.Mathlib.Omega.{arith}
 use Rattle.arm64_packing.proofs.Counts.{by-kind, chain-kept, chain-first, chain-later}
@@ -7,10 +8,6 @@ use Rattle.format.specs.Prelude.{pick}
 use borrow.Author.Needs.{needs}
 use Rattle.arm64_packing.proofs.chain_behind.Statement.{statement}
 use Rattle.arm64_packing.proofs.chain_behind.Tie as tie
-use Rattle.arm64_packing.proofs.chain_behind.Reads as reads
-use Rattle.arm64_packing.proofs.chain_behind.Lts as lts
-use Rattle.arm64_packing.proofs.chain_recorded.Reads as chain-recorded-reads
-use Rattle.arm64_packing.proofs.stores_lr.Reads as stores-lr-reads
 
 returns : tie.Need-returns
 unfolding chainBehind pick

@@ -1,9 +1,8 @@
+-- `arm64_packing::chain_recorded` meets its contract.
 use native.Mathlib.Omega.{arith}
 use Rattle.arm64_packing.proofs.Counts.{recorded-signed, recorded-other}
 use Rattle.arm64_packing.proofs.chain_recorded.Statement.{statement}
 use Rattle.arm64_packing.proofs.chain_recorded.Tie as tie
-use Rattle.arm64_packing.proofs.chain_recorded.Reads as reads
-use Rattle.arm64_packing.proofs.chain_recorded.Lts as lts
 
 returns : tie.Need-returns
 returns c = (recorded-signed (c .before .args .chain) (c .if1 .taken), omega arith)

@@ -1,12 +1,10 @@
+-- `arm64_packing::defined` meets its contract.
 use mathlib.Core.Path.{_∙_}
 use native.Mathlib.Omega.{arith}
 use Rattle.arm64.proofs.MeaningLaws.{no-yes}
 use Rattle.arm64_packing.proofs.Answers.{long-function, many-vectors, large-frame, many-registers, fields-held}
 use Rattle.arm64_packing.proofs.defined.Statement.{statement}
 use Rattle.arm64_packing.proofs.defined.Tie as tie
-use Rattle.arm64_packing.proofs.defined.Reads as reads
-use Rattle.arm64_packing.proofs.defined.Lts as lts
-use Rattle.arm64_packed.proofs.packed_ok.Reads as packed-ok-reads
 
 returns : tie.Need-returns
 returns c = (long-function (c .before .before .args .p) (c .if1 .taken), λ e. absurd (no-yes e))

@@ -1,10 +1,9 @@
+-- `arm64_packing::down_in` meets its contract.
 use Rattle.arm64_packing.proofs.Counts.{by-kind, down-none}
 use Rattle.arm64.specs.Packing.{downIn}
 use Rattle.format.specs.Prelude.{pick}
 use Rattle.arm64_packing.proofs.down_in.Statement.{statement}
 use Rattle.arm64_packing.proofs.down_in.Tie as tie
-use Rattle.arm64_packing.proofs.down_in.Reads as reads
-use Rattle.arm64_packing.proofs.down_in.Lts as lts
 
 returns : tie.Need-returns
 unfolding downIn pick

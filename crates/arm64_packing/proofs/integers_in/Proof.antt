@@ -1,3 +1,4 @@
+-- `arm64_packing::integers_in` meets its contract.
 use native.Mathlib.Omega.{arith}
 use Rattle.arm64_packing.proofs.Counts.{by-kind, integers-none, integers-lr, integers-one}
 use Rattle.arm64_simple.proofs.Codes.{accepted, refused}
@@ -6,9 +7,6 @@ use Rattle.format.specs.Prelude.{pick}
 use borrow.Author.Needs.{needs}
 use Rattle.arm64_packing.proofs.integers_in.Statement.{statement}
 use Rattle.arm64_packing.proofs.integers_in.Tie as tie
-use Rattle.arm64_packing.proofs.integers_in.Reads as reads
-use Rattle.arm64_packing.proofs.integers_in.Lts as lts
-use Rattle.arm64_packing.proofs.stores_one.Reads as stores-one-reads
 
 returns : tie.Need-returns
 unfolding integersIn pick

@@ -1,3 +1,4 @@
+-- `arm64_packing::packed` meets its contract.
 use mathlib.Core.Path.{_∙_}
 use Rattle.arm64_simple.proofs.Codes.{accepted, refused}
 use borrow.Author.Tests.{not-false}
@@ -6,12 +7,6 @@ use Rattle.arm64_simple.specs.Saves.{saves}
 use Rattle.arm64_packing.proofs.Answers.{not-defined, other-prologue, other-epilogue, stood}
 use Rattle.arm64_packing.proofs.packed.Statement.{statement}
 use Rattle.arm64_packing.proofs.packed.Tie as tie
-use Rattle.arm64_packing.proofs.packed.Reads as reads
-use Rattle.arm64_packing.proofs.packed.Lts as lts
-use Rattle.arm64_packing.proofs.candidate.Reads as candidate-reads
-use Rattle.arm64_packing.proofs.defined.Reads as defined-reads
-use Rattle.arm64_packing.proofs.packed_word.Reads as packed-word-reads
-use Rattle.arm64_packing.proofs.same_places.Reads as same-places-reads
 
 candidate-requires : tie.Need-candidate-requires
 candidate-requires c κs = ((c .before .pre .0), (c .before .pre .2), (c .before .pre .3))

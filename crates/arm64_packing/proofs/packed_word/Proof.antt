@@ -1,10 +1,9 @@
+-- `arm64_packing::packed_word` meets its contract.
 use Rattle.arm64.specs.Packing.{packedWord}
 use mathlib.Core.Path.{refl}
 use borrow.Author.Needs.{needs}
 use Rattle.arm64_packing.proofs.packed_word.Statement.{statement}
 use Rattle.arm64_packing.proofs.packed_word.Tie as tie
-use Rattle.arm64_packing.proofs.packed_word.Reads as reads
-use Rattle.arm64_packing.proofs.packed_word.Lts as lts
 
 mul-result : tie.Need-mul-result
 mul-result c = search needs

@@ -1,12 +1,10 @@
+-- `arm64_packing::place` meets its contract.
 use mathlib.Core.Path.{_∙_}
 use native.Mathlib.Omega.{arith}
 use Rattle.arm64_packing.proofs.Comparing.{place-undone, place-forth}
 use borrow.Author.Needs.{needs}
 use Rattle.arm64_packing.proofs.place.Statement.{statement}
 use Rattle.arm64_packing.proofs.place.Tie as tie
-use Rattle.arm64_packing.proofs.place.Reads as reads
-use Rattle.arm64_packing.proofs.place.Lts as lts
-use Rattle.arm64_packed.proofs.slot_at.Reads as slot-at-reads
 
 sub-slot-at : tie.Need-sub-slot-at
 sub-slot-at c = search needs

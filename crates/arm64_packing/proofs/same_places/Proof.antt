@@ -1,3 +1,4 @@
+-- `arm64_packing::same_places` meets its contract.
 use native.Mathlib.Omega.{arith}
 use borrow.Author.Needs.{needs}
 use Prim.Native.Nat.{_-_}
@@ -6,14 +7,6 @@ use Rattle.arm64_packing.specs.Places.{placed}
 use Rattle.arm64_packing.proofs.Comparing.{Matching, matching-start, matching-empty, matching-short, matching-stopped, matching-turn, matching-ended}
 use Rattle.arm64_packing.proofs.same_places.Statement.{statement}
 use Rattle.arm64_packing.proofs.same_places.Tie as tie
-use Rattle.arm64_packing.proofs.same_places.Reads as reads
-use Rattle.arm64_packing.proofs.same_places.Lts as lts
-use Rattle.arm64_packing.proofs.place.Reads as place-reads
-use Rattle.arm64_simple.proofs.pair_behind.Reads as pair-behind-reads
-use Rattle.arm64_simple.proofs.resolved.Reads as resolved-reads
-use Rattle.arm64_simple.proofs.same_code.Reads as same-code-reads
-use Rattle.arm64_simple.proofs.saved_at.Reads as saved-at-reads
-use Rattle.arm64_simple.proofs.simple.Reads as simple-reads
 
 abbrev Inv-places : tie.InvT-places
 Inv-places cs run undone p b₀ j₀ next₀ b j next = Matching cs run (placed undone p) b j next

@@ -1,12 +1,10 @@
+-- `arm64_packing::stores_lr` meets its contract.
 use Rattle.arm64_packing.proofs.Counts.{by-kind, lr-none, lr-alone}
 use Rattle.arm64_simple.proofs.Codes.{accepted, refused}
 use Rattle.arm64_packing.specs.Places.{storesLr}
 use borrow.Author.Needs.{needs}
 use Rattle.arm64_packing.proofs.stores_lr.Statement.{statement}
 use Rattle.arm64_packing.proofs.stores_lr.Tie as tie
-use Rattle.arm64_packing.proofs.stores_lr.Reads as reads
-use Rattle.arm64_packing.proofs.stores_lr.Lts as lts
-use Rattle.arm64_packing.proofs.stores_one.Reads as stores-one-reads
 
 returns : tie.Need-returns
 returns c = by-kind storesLr (c .before .before .args .c) (c .if1 .taken)

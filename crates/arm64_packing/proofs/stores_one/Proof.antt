@@ -1,9 +1,8 @@
+-- `arm64_packing::stores_one` meets its contract.
 use Rattle.arm64_packing.proofs.Counts.{by-kind, one-other}
 use Rattle.arm64_packing.specs.Places.{storesOne}
 use Rattle.arm64_packing.proofs.stores_one.Statement.{statement}
 use Rattle.arm64_packing.proofs.stores_one.Tie as tie
-use Rattle.arm64_packing.proofs.stores_one.Reads as reads
-use Rattle.arm64_packing.proofs.stores_one.Lts as lts
 
 returns : tie.Need-returns
 returns c = by-kind storesOne (c .before .before .args .c) (c .if1 .taken)

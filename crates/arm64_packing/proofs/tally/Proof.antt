@@ -1,15 +1,10 @@
+-- `arm64_packing::tally` meets its contract.
 use mathlib.Core.Path.{refl}
 use native.Mathlib.Omega.{arith}
 use Rattle.arm64_packing.proofs.Counts.{tally-by}
 use borrow.Author.Needs.{needs}
 use Rattle.arm64_packing.proofs.tally.Statement.{statement}
 use Rattle.arm64_packing.proofs.tally.Tie as tie
-use Rattle.arm64_packing.proofs.tally.Reads as reads
-use Rattle.arm64_packing.proofs.tally.Lts as lts
-use Rattle.arm64_packing.proofs.chain_behind.Reads as chain-behind-reads
-use Rattle.arm64_packing.proofs.down_in.Reads as down-in-reads
-use Rattle.arm64_packing.proofs.integers_in.Reads as integers-in-reads
-use Rattle.arm64_packing.proofs.vectors_in.Reads as vectors-in-reads
 
 vectors-in-requires : tie.Need-vectors-in-requires
 vectors-in-requires c κs = search needs

@@ -1,11 +1,10 @@
+-- `arm64_packing::vectors_in` meets its contract.
 use native.Mathlib.Omega.{arith}
 use Rattle.arm64_packing.proofs.Counts.{by-kind, vectors-none}
 use Rattle.arm64.specs.Packing.{vectorsIn}
 use Rattle.format.specs.Prelude.{pick}
 use Rattle.arm64_packing.proofs.vectors_in.Statement.{statement}
 use Rattle.arm64_packing.proofs.vectors_in.Tie as tie
-use Rattle.arm64_packing.proofs.vectors_in.Reads as reads
-use Rattle.arm64_packing.proofs.vectors_in.Lts as lts
 
 returns : tie.Need-returns
 unfolding vectorsIn pick

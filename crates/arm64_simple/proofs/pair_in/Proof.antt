@@ -1,49 +1,37 @@
+-- `arm64_simple::pair_in` meets its contract.
 use borrow.Author.Needs.{needs}
-use mathlib.Core.Path.{refl, sym, ap, _∙_}
+use mathlib.Core.Path.{_∙_}
 use Rattle.arm64_simple.proofs.Codes.{pair-4, pair-9, pair-1, pair-5, pair-10, pair-none}
 use Rattle.arm64_simple.proofs.pair_in.Statement.{statement}
 use Rattle.arm64_simple.proofs.pair_in.Tie as tie
-use Rattle.arm64_simple.proofs.pair_in.Reads as reads
-use Rattle.arm64_simple.proofs.pair_in.Lts as lts
-use Rattle.arm64_simple.proofs.coded.Reads as coded-reads
 
--- src/lib.rt:85:9
 returns : tie.Need-returns
 returns c = pair-4 (c .before .before .args .c) (c .if1 .taken)
 
--- src/lib.rt:88:9
 returns-2 : tie.Need-returns-2
 returns-2 c = pair-9 (c .before .before .before .before .args .c) (c .if2 .taken)
 
--- src/lib.rt:91:9
 coded-requires : tie.Need-coded-requires
 coded-requires c κs = search needs
 
--- src/lib.rt:91:9
 returns-3 : tie.Need-returns-3
 returns-3 c = c .coded .ensures ∙ pair-1 (c .before .before .before .before .before .before .before .args .c) (c .before .before .before .before .before .if1 .left) (c .before .before .before .if2 .left) (c .before .if3 .taken)
 
--- src/lib.rt:94:9
 coded-requires-2 : tie.Need-coded-requires-2
 coded-requires-2 c κs = search needs
 
--- src/lib.rt:94:9
 returns-4 : tie.Need-returns-4
 returns-4 c = c .coded2 .ensures ∙ pair-5 (c .before .before .before .before .before .before .before .before .before .args .c) (c .before .before .before .before .before .before .before .if1 .left) (c .before .before .before .before .before .if2 .left) (c .before .before .before .if3 .left) (c .before .if4 .taken)
 
--- src/lib.rt:97:9
 coded-requires-3 : tie.Need-coded-requires-3
 coded-requires-3 c κs = search needs
 
--- src/lib.rt:97:9
 returns-5 : tie.Need-returns-5
 returns-5 c = c .coded3 .ensures ∙ pair-10 (c .before .before .before .before .before .before .before .before .before .before .before .args .c) (c .before .before .before .before .before .before .before .before .before .if1 .left) (c .before .before .before .before .before .before .before .if2 .left) (c .before .before .before .before .before .if3 .left) (c .before .before .before .if4 .left) (c .before .if5 .taken)
 
--- src/lib.rt:99:5
 coded-requires-4 : tie.Need-coded-requires-4
 coded-requires-4 c κs = search needs
 
--- src/lib.rt:81:1
 returns-6 : tie.Need-returns-6
 returns-6 c = c .coded4 .ensures ∙ pair-none (c .before .before .before .before .before .before .before .before .before .before .before .args .c) (c .before .before .before .before .before .before .before .before .before .if1 .left) (c .before .before .before .before .before .before .before .if2 .left) (c .before .before .before .before .before .if3 .left) (c .before .before .before .if4 .left) (c .before .if5 .left)
 

@@ -1,36 +1,29 @@
+-- `arm64_simple::place_of` meets its contract.
 use borrow.Author.Needs.{needs}
-use mathlib.Core.Path.{refl, sym, ap, _∙_}
+use mathlib.Core.Path.{sym, ap}
 use native.Mathlib.Omega.{arith}
 use Prim.Native.Nat.{_+_, _-_}
 use Rattle.format.specs.Prelude.{pick}
 use Rattle.arm64_simple.specs.Saves.{placeOf}
 use Rattle.arm64_simple.proofs.place_of.Statement.{statement}
 use Rattle.arm64_simple.proofs.place_of.Tie as tie
-use Rattle.arm64_simple.proofs.place_of.Reads as reads
-use Rattle.arm64_simple.proofs.place_of.Lts as lts
 
--- src/lib.rt:177:39
 add-result : tie.Need-add-result
 add-result c = search needs
 
--- src/lib.rt:177:26
 sub-result : tie.Need-sub-result
 sub-result c = search needs
 
--- src/lib.rt:177:16
 add-result-2 : tie.Need-add-result-2
 add-result-2 c = search needs
 
--- src/lib.rt:177:9
 returns : tie.Need-returns
 unfolding placeOf pick
 returns c = (sym (ap (λ b. pick b (c .before .before .before .args .run .at + (c .before .before .before .args .run .count - (c .before .before .before .args .j + 1))) (c .before .before .before .args .run .at + c .before .before .before .args .j)) (c .before .before .if1 .taken)), omega arith)
 
--- src/lib.rt:179:5
 add-result-3 : tie.Need-add-result-3
 add-result-3 c = search needs
 
--- src/lib.rt:172:1
 returns-2 : tie.Need-returns-2
 unfolding placeOf pick
 returns-2 c = (sym (ap (λ b. pick b (c .before .before .args .run .at + (c .before .before .args .run .count - (c .before .before .args .j + 1))) (c .before .before .args .run .at + c .before .before .args .j)) (c .before .if1 .left)), omega arith)

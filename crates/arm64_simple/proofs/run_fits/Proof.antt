@@ -1,5 +1,6 @@
+-- `arm64_simple::run_fits` meets its contract.
 use Rattle.arm64_simple.proofs.run_fits.Statement.{statement}
-use mathlib.Core.Path.{refl, sym, ap, _∙_}
+use mathlib.Core.Path.{ap, _∙_}
 use native.Mathlib.Omega.{arith}
 use borrow.Author.Needs.{needs}
 use Prim.Native.Nat.{_-_}
@@ -7,13 +8,6 @@ use Rattle.arm64.specs.Runs.{pairBehind}
 use Rattle.arm64_simple.proofs.Codes.{accepted, refused}
 use Rattle.arm64_simple.proofs.Loops.{Fitting, fitting-start, fitting-stopped, fitting-turn, fitting-ended}
 use Rattle.arm64_simple.proofs.run_fits.Tie as tie
-use Rattle.arm64_simple.proofs.run_fits.Reads as reads
-use Rattle.arm64_simple.proofs.run_fits.Lts as lts
-use Rattle.arm64_simple.proofs.coded.Reads as coded-reads
-use Rattle.arm64_simple.proofs.pair_behind.Reads as pair-behind-reads
-use Rattle.arm64_simple.proofs.saved_at.Reads as saved-at-reads
-use Rattle.arm64_simple.proofs.simple.Reads as simple-reads
-use Rattle.arm64_simple.proofs.simple_fits.Reads as simple-fits-reads
 
 abbrev Inv-loop : tie.InvT-loop
 Inv-loop cs run b₀ j₀ b j = Fitting cs run b j
@@ -21,47 +15,36 @@ Inv-loop cs run b₀ j₀ b j = Fitting cs run b j
 abbrev μ-loop : tie.MeasureT-loop
 μ-loop cs run b₀ j₀ b j = run .count - j
 
--- src/lib.rt:188:9
 coded-requires : tie.Need-coded-requires Inv-loop μ-loop
 coded-requires c κs = search needs
 
--- src/lib.rt:190:5
 loop-holds : tie.Need-loop-holds Inv-loop μ-loop
 loop-holds c = fitting-start (c .coded .ensures)
 
--- src/lib.rt:191:13
 saved-at-requires : tie.Need-saved-at-requires Inv-loop μ-loop
 saved-at-requires c κs = (c .before .before .before .before .before .pre, c .if1 .taken)
 
--- src/lib.rt:192:13
 simple-fits-requires : tie.Need-simple-fits-requires Inv-loop μ-loop
 simple-fits-requires c κs = search needs
 
--- src/lib.rt:193:13
 returns : tie.Need-returns Inv-loop μ-loop
 returns c = fitting-stopped (c .before .before .before .before .before .loop .inv) (c .before .before .before .if1 .taken) (c .before .before .saved-at .ensures) (refused (c .before .simple-fits .ensures) (c .if2 .taken))
 
--- src/lib.rt:195:28
 simple-requires : tie.Need-simple-requires Inv-loop μ-loop
 simple-requires c κs = search needs
 
--- src/lib.rt:195:9
 pair-behind-requires : tie.Need-pair-behind-requires Inv-loop μ-loop
 pair-behind-requires c κs = search needs
 
--- src/lib.rt:196:9
 add-j : tie.Need-add-j Inv-loop μ-loop
 add-j c = search needs
 
--- src/lib.rt:190:5
 loop-less : tie.Need-loop-less Inv-loop μ-loop
 loop-less c = search needs
 
--- src/lib.rt:190:5
 loop-again : tie.Need-loop-again Inv-loop μ-loop
 loop-again c = fitting-turn (c .before .before .before .before .before .before .before .loop .inv) (c .before .before .before .before .before .if1 .taken) (c .before .before .before .before .saved-at .ensures) (accepted (c .before .before .before .simple-fits .ensures) (c .before .before .if2 .left)) (c .pair-behind .ensures ∙ ap (pairBehind _) (c .before .simple .ensures))
 
--- src/lib.rt:184:1
 returns-2 : tie.Need-returns-2 Inv-loop μ-loop
 returns-2 c = fitting-ended (c .before .before .loop .inv) (omega (arith, c .if1 .left))
 

@@ -1,17 +1,10 @@
+-- `arm64_simple::run_size` meets its contract.
 use Rattle.arm64_simple.proofs.run_size.Statement.{statement}
-use mathlib.Core.Path.{refl, sym, ap, _∙_}
 use native.Mathlib.Omega.{arith}
 use borrow.Author.Needs.{needs}
 use Prim.Native.Nat.{_-_}
 use Rattle.arm64_simple.proofs.Loops.{Sizing, sizing-start, sizing-turn, sizing-ended}
 use Rattle.arm64_simple.proofs.run_size.Tie as tie
-use Rattle.arm64_simple.proofs.run_size.Reads as reads
-use Rattle.arm64_simple.proofs.run_size.Lts as lts
-use Rattle.arm64_simple.proofs.coded.Reads as coded-reads
-use Rattle.arm64_simple.proofs.pair_behind.Reads as pair-behind-reads
-use Rattle.arm64_simple.proofs.saved_at.Reads as saved-at-reads
-use Rattle.arm64_simple.proofs.simple.Reads as simple-reads
-use Rattle.arm64_spelled.proofs.code_size.Reads as code-size-reads
 
 abbrev Inv-loop : tie.InvT-loop
 Inv-loop cs run b₀ size₀ j₀ b size j = Sizing cs run b size j
@@ -19,47 +12,36 @@ Inv-loop cs run b₀ size₀ j₀ b size j = Sizing cs run b size j
 abbrev μ-loop : tie.MeasureT-loop
 μ-loop cs run b₀ size₀ j₀ b size j = run .count - j
 
--- src/lib.rt:206:9
 coded-requires : tie.Need-coded-requires Inv-loop μ-loop
 coded-requires c κs = search needs
 
--- src/lib.rt:209:5
 loop-holds : tie.Need-loop-holds Inv-loop μ-loop
 loop-holds c = sizing-start (c .coded .ensures)
 
--- src/lib.rt:210:27
 saved-at-requires : tie.Need-saved-at-requires Inv-loop μ-loop
 saved-at-requires c κs = (c .before .before .before .before .before .pre, c .if1 .taken)
 
--- src/lib.rt:210:13
 simple-requires : tie.Need-simple-requires Inv-loop μ-loop
 simple-requires c κs = search needs
 
--- src/lib.rt:211:17
 code-size-requires : tie.Need-code-size-requires Inv-loop μ-loop
 code-size-requires c κs = search needs
 
--- src/lib.rt:211:9
 add-size : tie.Need-add-size Inv-loop μ-loop
 add-size c = omega (arith, c .before .before .before .before .before .loop .inv .few, c .before .before .before .before .before .loop .inv .high, c .code-size .ensures .2, c .before .before .before .before .before .before .before .before .pre .low, c .before .before .before .if1 .taken)
 
--- src/lib.rt:212:9
 pair-behind-requires : tie.Need-pair-behind-requires Inv-loop μ-loop
 pair-behind-requires c κs = search needs
 
--- src/lib.rt:213:9
 add-j : tie.Need-add-j Inv-loop μ-loop
 add-j c = search needs
 
--- src/lib.rt:209:5
 loop-less : tie.Need-loop-less Inv-loop μ-loop
 loop-less c = search needs
 
--- src/lib.rt:209:5
 loop-again : tie.Need-loop-again Inv-loop μ-loop
 loop-again c = sizing-turn (c .before .before .before .before .before .before .loop .inv) (c .before .before .before .before .if1 .taken) (c .before .before .before .saved-at .ensures) (c .before .before .simple .ensures) (c .before .code-size .ensures .0) (c .before .code-size .ensures .2) (c .pair-behind .ensures)
 
--- src/lib.rt:202:1
 returns : tie.Need-returns Inv-loop μ-loop
 returns c = sizing-ended (c .before .before .loop .inv) (omega (arith, c .if1 .left))
 

@@ -1,46 +1,34 @@
+-- `arm64_simple::shorter` meets its contract.
 use borrow.Author.Needs.{needs}
-use mathlib.Core.Path.{refl, sym, ap, _∙_}
+use mathlib.Core.Path.{_∙_}
 use Rattle.arm64_simple.proofs.Codes.{pair-frame, pair-other, add-none, add-some, any-other}
 use Rattle.arm64_simple.proofs.shorter.Statement.{statement}
 use Rattle.arm64_simple.proofs.shorter.Tie as tie
-use Rattle.arm64_simple.proofs.shorter.Reads as reads
-use Rattle.arm64_simple.proofs.shorter.Lts as lts
-use Rattle.arm64_simple.proofs.coded.Reads as coded-reads
-use Rattle.arm64_simple.proofs.shorter_push.Reads as shorter-push-reads
 
--- src/lib.rt:65:13
 coded-requires : tie.Need-coded-requires
 coded-requires c κs = search needs
 
--- src/lib.rt:65:13
 returns : tie.Need-returns
 returns c = c .coded .ensures ∙ pair-frame (c .before .before .before .before .before .args .c) (c .before .before .before .if1 .taken) (c .before .if2 .taken)
 
--- src/lib.rt:67:9
 returns-2 : tie.Need-returns-2
 returns-2 c = pair-other (c .before .before .before .before .args .c) (c .before .before .if1 .taken) (c .if2 .left)
 
--- src/lib.rt:70:9
 shorter-push-requires : tie.Need-shorter-push-requires
 shorter-push-requires c κs = search needs
 
--- src/lib.rt:70:9
 returns-3 : tie.Need-returns-3
 returns-3 c = search needs
 
--- src/lib.rt:74:13
 coded-requires-2 : tie.Need-coded-requires-2
 coded-requires-2 c κs = search needs
 
--- src/lib.rt:74:13
 returns-4 : tie.Need-returns-4
 returns-4 c = c .coded2 .ensures ∙ add-none (c .before .before .before .before .before .before .before .before .before .args .c) (c .before .before .before .if4 .taken) (c .before .if5 .taken)
 
--- src/lib.rt:76:9
 returns-5 : tie.Need-returns-5
 returns-5 c = add-some (c .before .before .before .before .before .before .before .before .args .c) (c .before .before .if4 .taken) (c .if5 .left)
 
--- src/lib.rt:60:1
 returns-6 : tie.Need-returns-6
 returns-6 c = any-other (c .before .before .before .before .before .before .args .c) (c .before .before .before .before .if1 .left) (c .before .before .if3 .left) (c .if4 .left)
 

@@ -1,34 +1,26 @@
+-- `arm64_simple::shorter_push` meets its contract.
 use borrow.Author.Needs.{needs}
-use mathlib.Core.Path.{refl, sym, ap, _∙_}
+use mathlib.Core.Path.{_∙_}
 use native.Mathlib.Omega.{arith}
 use Rattle.arm64_simple.proofs.Codes.{push-frame, push-other, push-far, push-first}
 use Rattle.arm64_simple.proofs.shorter_push.Statement.{statement}
 use Rattle.arm64_simple.proofs.shorter_push.Tie as tie
-use Rattle.arm64_simple.proofs.shorter_push.Reads as reads
-use Rattle.arm64_simple.proofs.shorter_push.Lts as lts
-use Rattle.arm64_simple.proofs.coded.Reads as coded-reads
 
--- src/lib.rt:49:9
 coded-requires : tie.Need-coded-requires
 coded-requires c κs = search needs
 
--- src/lib.rt:49:9
 returns : tie.Need-returns
 returns c = c .coded .ensures ∙ push-frame (c .before .before .before .args .c) (c .before .before .before .pre) (c .before .if1 .taken)
 
--- src/lib.rt:52:9
 returns-2 : tie.Need-returns-2
 returns-2 c = push-other (c .before .before .before .before .args .c) (c .before .before .before .before .pre) (c .before .before .if1 .left) (c .if2 .taken)
 
--- src/lib.rt:55:9
 returns-3 : tie.Need-returns-3
 returns-3 c = push-far (c .before .before .before .before .before .before .args .c) (c .before .before .before .before .before .before .pre) (c .before .before .if2 .left) (c .if3 .taken)
 
--- src/lib.rt:57:5
 coded-requires-2 : tie.Need-coded-requires-2
 coded-requires-2 c κs = search needs
 
--- src/lib.rt:44:1
 returns-4 : tie.Need-returns-4
 returns-4 c = c .coded2 .ensures ∙ push-first (c .before .before .before .before .before .before .before .args .c) (c .before .before .before .before .before .before .before .pre) (c .before .before .before .if2 .left) (omega (arith, c .before .if3 .left))
 

@@ -1,37 +1,26 @@
+-- `arm64_simple::simple_fits` meets its contract.
 use borrow.Author.Needs.{needs}
-use mathlib.Core.Path.{refl, sym, ap, _∙_}
+use mathlib.Core.Path.{sym, ap, _∙_}
 use Rattle.arm64_simple.proofs.Codes.{fits-no, fits-by, refused, accepted}
 use Rattle.arm64.specs.Codes.{codeFits, registerFits, formFor}
 use Rattle.arm64_simple.proofs.simple_fits.Statement.{statement}
 use Rattle.arm64_simple.proofs.simple_fits.Tie as tie
-use Rattle.arm64_simple.proofs.simple_fits.Reads as reads
-use Rattle.arm64_simple.proofs.simple_fits.Lts as lts
-use Rattle.arm64_simple.proofs.shorter.Reads as shorter-reads
-use Rattle.arm64_simple.proofs.simple.Reads as simple-reads
-use Rattle.arm64_spelled.proofs.code_fits.Reads as code-fits-reads
-use Rattle.arm64_spelled.proofs.register_ok.Reads as register-ok-reads
 
--- src/lib.rt:163:36
 shorter-requires : tie.Need-shorter-requires
 shorter-requires c κs = search needs
 
--- src/lib.rt:163:9
 register-ok-requires : tie.Need-register-ok-requires
 register-ok-requires c κs = search needs
 
--- src/lib.rt:164:9
 returns : tie.Need-returns
 returns c = fits-no (c .before .before .before .args .b) (c .before .before .before .args .c) (ap (λ x. registerFits (formFor x) x) (sym (c .before .before .shorter .ensures)) ∙ refused (c .before .register-ok .ensures) (c .if1 .taken))
 
--- src/lib.rt:166:30
 simple-requires : tie.Need-simple-requires
 simple-requires c κs = search needs
 
--- src/lib.rt:166:5
 code-fits-requires : tie.Need-code-fits-requires
 code-fits-requires c κs = search needs
 
--- src/lib.rt:160:1
 returns-2 : tie.Need-returns-2
 returns-2 c = c .code-fits .ensures ∙ ap codeFits (c .before .simple .ensures) ∙ fits-by (c .before .before .before .before .before .args .b) (c .before .before .before .before .before .args .c) (ap (λ x. registerFits (formFor x) x) (sym (c .before .before .before .before .shorter .ensures)) ∙ accepted (c .before .before .before .register-ok .ensures) (c .before .before .if1 .left))
 

@@ -1,32 +1,22 @@
+-- `arm64_spelled::put_code` meets its contract.
 use borrow.Author.Needs.{needs}
-use mathlib.Core.Path.{sym, ap, _∙_}
 use native.Mathlib.Omega.{arith}
 use Rattle.arm64_spelled.proofs.FitLaws.{fits-told, code-length, code-bytes}
 use Rattle.arm64_spelled.proofs.put_code.Statement.{statement}
 use Rattle.arm64_spelled.proofs.put_code.Tie as tie
-use Rattle.arm64_spelled.proofs.put_code.Reads as reads
-use Rattle.arm64_spelled.proofs.put_code.Lts as lts
-use Rattle.arm64_spelled.proofs.form_for.Reads as form-for-reads
-use Rattle.arm64_spelled.proofs.put_big.Reads as put-big-reads
-use Rattle.arm64_spelled.proofs.word_of.Reads as word-of-reads
 
--- src/lib.rt:161:9
 form-for-requires : tie.Need-form-for-requires
 form-for-requires c κs = search needs
 
--- src/lib.rt:162:30
 word-of-requires : tie.Need-word-of-requires
 word-of-requires c κs = (c .before .form-for .ensures .1, rw (c .before .form-for .ensures .0) (fits-told (c .before .before .before .args .c) (c .before .before .before .pre .0)))
 
--- src/lib.rt:162:5
 put-big-requires : tie.Need-put-big-requires
 put-big-requires c κs = (c .before .before .form-for .ensures .1 .some-bytes, c .before .before .form-for .ensures .1 .few-bytes, c .before .before .form-for .ensures .1 .not-three, (rw (c .before .before .form-for .ensures .0) (omega (arith, code-length (c .before .before .before .before .args .c), c .before .before .before .before .pre .1))))
 
--- src/lib.rt:157:1
 same-length : tie.Need-same-length
 same-length c = search needs
 
--- src/lib.rt:157:1
 returns : tie.Need-returns
 returns c = rw (c .before .before .before .word-of .ensures, c .before .before .before .before .before .form-for .ensures .0, code-bytes (c .before .before .before .before .before .before .before .args .c)) at (c .before .before .put-big .ensures)
 

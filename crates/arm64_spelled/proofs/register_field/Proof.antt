@@ -1,25 +1,19 @@
+-- `arm64_spelled::register_field` meets its contract.
 use borrow.Author.Needs.{needs}
-use mathlib.Core.Path.{sym, ap, _∙_}
 use native.Mathlib.Omega.{arith}
 use Rattle.arm64_spelled.proofs.FitLaws.{field-none, field-some, field-low}
 use Rattle.arm64_spelled.proofs.register_field.Statement.{statement}
 use Rattle.arm64_spelled.proofs.register_field.Tie as tie
-use Rattle.arm64_spelled.proofs.register_field.Reads as reads
-use Rattle.arm64_spelled.proofs.register_field.Lts as lts
 
--- src/lib.rt:112:9
 returns : tie.Need-returns
 returns c = (field-none _ _ (c .if1 .taken), omega arith)
 
--- src/lib.rt:114:6
 sub-result : tie.Need-sub-result
 sub-result c = c .before .before .before .before .pre .1 .first (c .before .before .if1 .left)
 
--- src/lib.rt:114:5
 div-result : tie.Need-div-result
 div-result c = search needs
 
--- src/lib.rt:107:1
 returns-2 : tie.Need-returns-2
 returns-2 c = (field-some (c .before .before .before .before .before .args .f) (c .before .before .before .before .before .args .c) (c .before .before .before .if1 .left), field-low (c .before .before .before .before .before .args .f) (c .before .before .before .before .before .args .c) (c .before .before .before .before .before .pre .1 .last (c .before .before .before .if1 .left)))
 

@@ -1,34 +1,25 @@
+-- `arm64_spelled::register_fits` meets its contract.
 use borrow.Author.Needs.{needs}
-use mathlib.Core.Path.{sym, ap, _∙_}
 use native.Mathlib.Omega.{arith}
 use Rattle.arm64_spelled.proofs.FitLaws.{register-free, register-low, register-high, register-even}
 use Rattle.arm64_spelled.proofs.register_fits.Statement.{statement}
 use Rattle.arm64_spelled.proofs.register_fits.Tie as tie
-use Rattle.arm64_spelled.proofs.register_fits.Reads as reads
-use Rattle.arm64_spelled.proofs.register_fits.Lts as lts
-use Rattle.arm64_spelled.proofs.last_register.Reads as last-register-reads
 
--- src/lib.rt:63:9
 returns : tie.Need-returns
 returns c = register-free _ _ (c .if1 .taken)
 
--- src/lib.rt:66:9
 returns-2 : tie.Need-returns-2
 returns-2 c = register-low _ _ (omega arith) (omega arith)
 
--- src/lib.rt:68:8
 last-register-requires : tie.Need-last-register-requires
 last-register-requires c κs = search needs
 
--- src/lib.rt:69:9
 returns-3 : tie.Need-returns-3
 returns-3 c = register-high _ _ (omega arith) (omega arith) (omega (arith, c .before .before .last-register .ensures, c .if3 .taken))
 
--- src/lib.rt:71:5
 rem-result : tie.Need-rem-result
 rem-result c = search needs
 
--- src/lib.rt:58:1
 returns-4 : tie.Need-returns-4
 returns-4 c = register-even _ _ (omega arith) (omega arith) (omega (arith, c .before .before .before .before .before .last-register .ensures, c .before .before .before .if3 .left))
 

@@ -1,22 +1,16 @@
+-- `arm64_spelled::register_ok` meets its contract.
 use borrow.Author.Needs.{needs}
-use mathlib.Core.Path.{sym, ap, _∙_}
+use mathlib.Core.Path.{ap, _∙_}
 use Rattle.arm64.specs.Codes.{registerFits}
 use Rattle.arm64_spelled.proofs.register_ok.Statement.{statement}
 use Rattle.arm64_spelled.proofs.register_ok.Tie as tie
-use Rattle.arm64_spelled.proofs.register_ok.Reads as reads
-use Rattle.arm64_spelled.proofs.register_ok.Lts as lts
-use Rattle.arm64_spelled.proofs.form_for.Reads as form-for-reads
-use Rattle.arm64_spelled.proofs.register_fits.Reads as register-fits-reads
 
--- src/lib.rt:82:9
 form-for-requires : tie.Need-form-for-requires
 form-for-requires c κs = search needs
 
--- src/lib.rt:83:5
 register-fits-requires : tie.Need-register-fits-requires
 register-fits-requires c κs = search needs
 
--- src/lib.rt:78:1
 returns : tie.Need-returns
 returns c = c .register-fits .ensures ∙ ap (λ f. registerFits f (c .before .before .args .c)) (c .before .form-for .ensures .0)
 

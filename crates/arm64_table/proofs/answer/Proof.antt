@@ -1,6 +1,6 @@
 -- `arm64_table::answer` meets its contract.
+use Rattle.lists.proofs.Rooms.{stays, goes}
 use mathlib.Core.Path.{sym, _∙_}
-use Rattle.x64.proofs.Writing.{stays, goes}
 use Rattle.arm64_table.proofs.Results.{all-fine}
 use borrow.Author.Needs.{needs}
 use Rattle.arm64_table.proofs.answer.Statement.{statement}

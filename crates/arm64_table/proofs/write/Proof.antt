@@ -2,9 +2,8 @@
 use mathlib.Core.Path.{sym, ap, _∙_}
 use native.Mathlib.Omega.{arith}
 use Rattle.format.specs.Questions.{accepted, roomIn, roomAsks, fitting}
-use Rattle.format.proofs.Asked.{questionOf}
-use Rattle.x64.proofs.Asked.{said-yes}
-use Rattle.x64.proofs.Writing.{stays, goes, room-says}
+use Rattle.format.proofs.Asked.{questionOf, said-yes}
+use Rattle.lists.proofs.Rooms.{stays, goes, room-says}
 use Rattle.arm64.specs.Lists.{numberedFunction}
 use Rattle.arm64.specs.Writer.{arm64}
 use Rattle.arm64_table.specs.Tables.{firstOf}

@@ -3,8 +3,6 @@ use borrow.Author.Needs.{needs}
 use Rattle.format.specs.X64.{registerIn}
 use Rattle.codes.proofs.register_in.Statement.{statement}
 use Rattle.codes.proofs.register_in.Tie as tie
-use Rattle.codes.proofs.register_in.Reads as reads
-use Rattle.codes.proofs.register_in.Lts as lts
 
 enum-known-code : tie.Need-enum-known-code
 enum-known-code c = search needs

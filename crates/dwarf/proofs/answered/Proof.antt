@@ -56,7 +56,7 @@ unchain-requires c κs = search needs
 
 asked-requires : tie.Need-asked-requires
 asked-requires c κs =
-    (c .before .before .before .before .before .before .before .before .before .before .before .before .before .before .before .before .before .before .before .before .before .before .before .before .before .before .before .before .before .before .before .before .before .before .pre .0, record { enough = rw (c .before .before .before .before .before .before .before .before .before .unchain .ensures .0) (c .before .before .before .before .before .before .before .before .before .before .before .before .before .before .before .before .before .before .before .tried .ensures .1); clear = c .before .before .before .before .before .before .before .before .before .unchain .ensures .1 })
+    (c .before .before .before .before .before .before .before .before .before .before .before .before .before .before .before .before .before .before .before .before .before .before .before .before .before .before .before .before .before .before .before .before .before .before .pre .0, c .before .before .before .before .before .before .before .before .before .before .before .before .before .before .before .before .before .before .before .before .before .before .before .before .before .before .before .before .before .before .before .before .before .before .pre .1, record { enough = rw (c .before .before .before .before .before .before .before .before .before .unchain .ensures .0) (c .before .before .before .before .before .before .before .before .before .before .before .before .before .before .before .before .before .before .before .tried .ensures .1); clear = c .before .before .before .before .before .before .before .before .before .unchain .ensures .1 })
 
 same-length-8 : tie.Need-same-length-8
 same-length-8 c = search needs

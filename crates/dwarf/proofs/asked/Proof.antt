@@ -1,23 +1,23 @@
 -- `dwarf::asked` meets its contract.
 use Rattle.dwarf.specs.Parts.{inputs}
 use Rattle.lists.proofs.Answers.{accepted, refused}
-use Rattle.dwarf.proofs.Whole.{askable-is, cleared-is, says-13, says-no, says-all}
+use Rattle.dwarf.proofs.Whole.{behind-sums, askable-is, cleared-is, says-13, says-no, says-all}
 use borrow.Author.Needs.{needs}
 use Rattle.dwarf.proofs.asked.Statement.{statement}
 use Rattle.dwarf.proofs.asked.Tie as tie
 
-lists-ok-requires : tie.Need-lists-ok-requires
-lists-ok-requires c κs = search needs
+functions-ok-requires : tie.Need-functions-ok-requires
+functions-ok-requires c κs = search needs
 
 returns : tie.Need-returns
 returns c =
     let s = c .before .before .before .before .before .before .before .before .before .before .before .before .before in
-    says-13 (inputs (s .args .s) (s .args .m) (s .args .fs .now) (s .args .rows .now) (s .args .landings .now) (s .args .pairs .now)) (s .args .places .now) (s .args .out .now) (s .args .relocs .now) (s .args .sites .now) (refused (c .before .lists-ok .ensures) (c .if1 .taken))
+    says-13 (inputs (s .args .s) (s .args .m) (s .args .fs .now) (s .args .rows .now) (s .args .landings .now) (s .args .pairs .now)) (s .args .places .now) (s .args .out .now) (s .args .relocs .now) (s .args .sites .now) (refused (behind-sums (inputs (s .args .s) (s .args .m) (s .args .fs .now) (s .args .rows .now) (s .args .landings .now) (s .args .pairs .now)) (s .pre .1) (c .before .functions-ok .ensures)) (c .if1 .taken))
 
 all-asks-requires : tie.Need-all-asks-requires
 all-asks-requires c κs =
     let s = c .before .before .before .before .before .before .before .before .before .before .before .before .before in
-    askable-is (inputs (s .args .s) (s .args .m) (s .args .fs .now) (s .args .rows .now) (s .args .landings .now) (s .args .pairs .now)) (s .pre .0) (accepted (c .before .lists-ok .ensures) (c .if1 .left))
+    askable-is (inputs (s .args .s) (s .args .m) (s .args .fs .now) (s .args .rows .now) (s .args .landings .now) (s .args .pairs .now)) (s .pre .0) (accepted (behind-sums (inputs (s .args .s) (s .args .m) (s .args .fs .now) (s .args .rows .now) (s .args .landings .now) (s .args .pairs .now)) (s .pre .1) (c .before .functions-ok .ensures)) (c .if1 .left))
 
 enum-known-q : tie.Need-enum-known-q
 enum-known-q c = search needs
@@ -25,7 +25,7 @@ enum-known-q c = search needs
 returns-2 : tie.Need-returns-2
 returns-2 c =
     let s = c .before .before .before .before .before .before .before .before .before .before .before .before .before .before .before .before .before in
-    says-no (inputs (s .args .s) (s .args .m) (s .args .fs .now) (s .args .rows .now) (s .args .landings .now) (s .args .pairs .now)) (s .args .places .now) (s .args .out .now) (s .args .relocs .now) (s .args .sites .now) (accepted (c .before .before .before .before .before .lists-ok .ensures) (c .before .before .before .before .if1 .left)) (c .before .before .before .all-asks .ensures) (c .before .q .given .1)
+    says-no (inputs (s .args .s) (s .args .m) (s .args .fs .now) (s .args .rows .now) (s .args .landings .now) (s .args .pairs .now)) (s .args .places .now) (s .args .out .now) (s .args .relocs .now) (s .args .sites .now) (accepted (behind-sums (inputs (s .args .s) (s .args .m) (s .args .fs .now) (s .args .rows .now) (s .args .landings .now) (s .args .pairs .now)) (s .pre .1) (c .before .before .before .before .before .functions-ok .ensures)) (c .before .before .before .before .if1 .left)) (c .before .before .before .all-asks .ensures) (c .before .q .given .1)
 
 enum-told : tie.Need-enum-told
 enum-told c = search needs
@@ -33,7 +33,7 @@ enum-told c = search needs
 fitted-requires : tie.Need-fitted-requires
 fitted-requires c κs =
     let s = c .before .before .before .before .before .before .before .before .before .before .before .before .before .before .before .before .before .before .before .before .before .before .before in
-    (cleared-is (inputs (s .args .s) (s .args .m) (s .args .fs .now) (s .args .rows .now) (s .args .landings .now) (s .args .pairs .now)) (s .pre .0) (accepted (c .before .before .before .before .before .before .before .before .before .before .before .lists-ok .ensures) (c .before .before .before .before .before .before .before .before .before .before .if1 .left)) (c .before .before .before .before .before .before .before .before .before .all-asks .ensures) (c .before .before .before .before .before .before .before .enum-told .given .1), c .before .before .before .before .before .before .before .before .before .before .before .before .before .before .before .before .before .before .before .before .before .before .before .pre .1)
+    (cleared-is (inputs (s .args .s) (s .args .m) (s .args .fs .now) (s .args .rows .now) (s .args .landings .now) (s .args .pairs .now)) (s .pre .0) (accepted (behind-sums (inputs (s .args .s) (s .args .m) (s .args .fs .now) (s .args .rows .now) (s .args .landings .now) (s .args .pairs .now)) (s .pre .1) (c .before .before .before .before .before .before .before .before .before .before .before .functions-ok .ensures)) (c .before .before .before .before .before .before .before .before .before .before .if1 .left)) (c .before .before .before .before .before .before .before .before .before .all-asks .ensures) (c .before .before .before .before .before .before .before .enum-told .given .1), s .pre .2)
 
 same-length : tie.Need-same-length
 same-length c = search needs
@@ -59,13 +59,13 @@ same-length-7 c = search needs
 returns-3 : tie.Need-returns-3
 returns-3 c =
     let s = c .before .before .before .before .before .before .before .before .before .before .before .before .before .before .before .before .before .before .before .before .before .before .before .before .before .before .before .before .before .before .before .before .before .before .before .before .before .before in
-    says-all (inputs (s .args .s) (s .args .m) (s .args .fs .now) (s .args .rows .now) (s .args .landings .now) (s .args .pairs .now)) (s .args .places .now) (s .args .out .now) (s .args .relocs .now) (s .args .sites .now) (accepted (c .before .before .before .before .before .before .before .before .before .before .before .before .before .before .before .before .before .before .before .before .before .before .before .before .before .before .lists-ok .ensures) (c .before .before .before .before .before .before .before .before .before .before .before .before .before .before .before .before .before .before .before .before .before .before .before .before .before .if1 .left)) (c .before .before .before .before .before .before .before .before .before .before .before .before .before .before .before .before .before .before .before .before .before .before .before .before .all-asks .ensures) (c .before .before .before .before .before .before .before .before .before .before .before .before .before .before .before .before .before .before .before .before .before .before .enum-told .given .1) (c .before .before .before .before .before .before .before .before .before .before .before .before .before .before .fitted .ensures)
+    says-all (inputs (s .args .s) (s .args .m) (s .args .fs .now) (s .args .rows .now) (s .args .landings .now) (s .args .pairs .now)) (s .args .places .now) (s .args .out .now) (s .args .relocs .now) (s .args .sites .now) (accepted (behind-sums (inputs (s .args .s) (s .args .m) (s .args .fs .now) (s .args .rows .now) (s .args .landings .now) (s .args .pairs .now)) (s .pre .1) (c .before .before .before .before .before .before .before .before .before .before .before .before .before .before .before .before .before .before .before .before .before .before .before .before .before .before .functions-ok .ensures)) (c .before .before .before .before .before .before .before .before .before .before .before .before .before .before .before .before .before .before .before .before .before .before .before .before .before .if1 .left)) (c .before .before .before .before .before .before .before .before .before .before .before .before .before .before .before .before .before .before .before .before .before .before .before .before .all-asks .ensures) (c .before .before .before .before .before .before .before .before .before .before .before .before .before .before .before .before .before .before .before .before .before .before .enum-told .given .1) (c .before .before .before .before .before .before .before .before .before .before .before .before .before .before .fitted .ensures)
 
 pub asked-spec : {M : Type 1} → statement M
 asked-spec =
     tie.close
     (tie.spec
-    lists-ok-requires
+    functions-ok-requires
     returns
     all-asks-requires
     enum-known-q

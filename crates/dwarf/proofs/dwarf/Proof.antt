@@ -1,8 +1,9 @@
 -- `dwarf::dwarf` meets its contract.
 use mathlib.Core.Path.{refl}
 use Rattle.format.proofs.Accepted.{machine-fits}
+use Rattle.format.proofs.Choice.{is-yes}
 use Rattle.lists.proofs.Answers.{accepted, refused}
-use Rattle.dwarf.proofs.Whole.{is-yes, says-11, says-listed, no-sums}
+use Rattle.dwarf.proofs.Whole.{says-11, says-listed, no-sums}
 use borrow.Author.Needs.{needs}
 use Rattle.dwarf.proofs.dwarf.Statement.{statement}
 use Rattle.dwarf.proofs.dwarf.Tie as tie

@@ -2,11 +2,11 @@
 use native.Mathlib.Omega.{arith}
 use Rattle.dwarf.proofs.Passed.{counted, pairs-taken, rows-taken, rows-few-at}
 use Rattle.lists.proofs.Answers.{accepted}
-use Rattle.dwarf.proofs.Whole.{is-yes}
 use Rattle.dwarf.proofs.Surveying.{rows-say}
 use borrow.Author.Tests.{not-false}
 use Rattle.dwarf.specs.Parts.{inputs}
 use borrow.Author.Needs.{needs}
+use Rattle.format.proofs.Choice.{is-yes}
 use Rattle.dwarf.proofs.function_surveyed.Statement.{statement}
 use Rattle.dwarf.proofs.function_surveyed.Tie as tie
 

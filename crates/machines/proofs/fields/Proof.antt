@@ -3,7 +3,6 @@ use Rattle.format.proofs.PutLaws.{_then_}
 use borrow.Author.Needs.{needs}
 use Rattle.machines.proofs.fields.Statement.{statement}
 use Rattle.machines.proofs.fields.Tie as tie
-use Rattle.relocs.proofs.number.Reads as number-reads
 
 number-requires : tie.Need-number-requires
 number-requires c κs = search needs

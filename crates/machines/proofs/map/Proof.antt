@@ -7,7 +7,6 @@ use borrow.Author.Needs.{needs}
 use Rattle.machines.proofs.Stores.{Storing, start, turn, ended}
 use Rattle.machines.proofs.map.Statement.{statement}
 use Rattle.machines.proofs.map.Tie as tie
-use Rattle.leb.proofs.wide.Reads as wide-reads
 
 abbrev Inv-loop : tie.InvT-loop
 Inv-loop out₀ at numbers i₀ out i = Storing out₀ numbers at out i × (length numbers ≡ 64)

@@ -4,9 +4,6 @@ use Rattle.machines.proofs.Filled.{short, filled}
 use borrow.Author.Needs.{needs}
 use Rattle.machines.proofs.unwind_machine_x86_64.Statement.{statement}
 use Rattle.machines.proofs.unwind_machine_x86_64.Tie as tie
-use Rattle.format.proofs.Machine.x86_64.Reads as x86-64-reads
-use Rattle.machines.proofs.fields.Reads as fields-reads
-use Rattle.machines.proofs.map.Reads as map-reads
 
 returns : tie.Need-returns
 returns c = short _ (search needs)

@@ -3,7 +3,7 @@ use native.Mathlib.Omega.{arith}
 use mir.Facts.{eqb-yes}
 use borrow.Author.Needs.{needs}
 use Rattle.rows.proofs.WholeNumbers.{never}
-use Rattle.owners.proofs.Firsts.{yes-of}
+use Rattle.format.proofs.Choice.{is-yes}
 use Rattle.owners.proofs.Comparing.{rows-taken}
 use Rattle.owners.proofs.Sharing.{sharing}
 use Rattle.owners.proofs.surely_shares.Statement.{statement}
@@ -36,7 +36,7 @@ ahead-requires-2 c κs = rows-taken (c .before .before .before .before .before .
 returns-4 : tie.Need-returns-4
 returns-4 c = λ p.
     sharing (record { first = c .before .before .before .before .before .before .before .before .before .taken-at .ensures; second = c .before .before .before .before .before .before .before .before .taken-at2 .ensures; answer = c .before .before .before .before .before .before .before .same-kind-and-signal .ensures }) (c .before .before .before .before .before .before .if1 .left) (c .before .before .before .if2 .left)
-    (omega (arith, c .before .before .ahead .ensures .0, c .before .if3 .left)) (omega (arith, c .ahead2 .ensures .0, eqb-yes {a = c .ahead2 .result} {b = 0} (yes-of p)))
+    (omega (arith, c .before .before .ahead .ensures .0, c .before .if3 .left)) (omega (arith, c .ahead2 .ensures .0, eqb-yes {a = c .ahead2 .result} {b = 0} (is-yes p)))
 
 pub surely-shares-spec : {M : Type 1} → statement M
 surely-shares-spec =

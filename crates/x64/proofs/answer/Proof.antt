@@ -1,5 +1,6 @@
 -- `x64::answer` meets its contract.
-use Rattle.x64.proofs.Writing.{stays, goes, writable}
+use Rattle.lists.proofs.Rooms.{stays, goes}
+use Rattle.x64.proofs.Writing.{writable}
 use mathlib.Core.Path.{sym, _∙_}
 use borrow.Author.Needs.{needs}
 use Rattle.x64.proofs.answer.Statement.{statement}

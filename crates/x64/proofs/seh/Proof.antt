@@ -1,8 +1,9 @@
 -- `x64::seh` meets its contract.
-use Rattle.x64.proofs.Entries.{seh-empty, seh-refused, seh-answers, direct-listed, is-true}
+use Rattle.x64.proofs.Entries.{seh-empty, seh-refused, seh-answers, direct-listed}
 use Rattle.format.specs.Questions.{roomIn}
 use Rattle.lists.proofs.Answers.{accepted, refused}
 use Rattle.format.specs.Machine.{x8664}
+use Rattle.format.proofs.Choice.{is-yes}
 use native.Mathlib.Omega.{arith}
 use mathlib.Core.Path.{refl}
 use borrow.Author.Needs.{needs}
@@ -19,7 +20,7 @@ returns-2 : tie.Need-returns-2
 returns-2 c = let a = c .before .before .before .before .before .before .before .before .before .args in seh-refused (a .functions .now) (a .codes .now) (roomIn (a .markers .now) (a .bytes .now) (a .relocations .now) (a .info .now)) (c .before .before .if1 .left) (refused (c .before .codes-ok .ensures) (c .if2 .taken))
 
 answer-requires : tie.Need-answer-requires
-answer-requires c κs = let a = c .before .before .before .before .before .before .before .before .before .before .before .before .before .args in direct-listed x8664 (omega arith) refl (a .functions .now) (a .codes .now) (is-true (accepted (c .before .before .before .before .before .codes-ok .ensures) (c .before .before .before .before .if2 .left)))
+answer-requires c κs = let a = c .before .before .before .before .before .before .before .before .before .before .before .before .before .args in direct-listed x8664 (omega arith) refl (a .functions .now) (a .codes .now) (is-yes (accepted (c .before .before .before .before .before .codes-ok .ensures) (c .before .before .before .before .if2 .left)))
 
 same-length : tie.Need-same-length
 same-length c = search needs

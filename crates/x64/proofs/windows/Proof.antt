@@ -1,10 +1,10 @@
 -- `x64::windows` meets its contract.
 use Rattle.x64.proofs.ByRows.{no-machine, no-word, no-lists, rows-answers, rows-listed}
-use Rattle.x64.proofs.Entries.{is-true}
 use Rattle.format.specs.Questions.{roomIn}
 use Rattle.lists.proofs.Answers.{accepted, refused}
 use Rattle.format.specs.Questions.{Given, Room}
 use Rattle.format.specs.Machine.{machineOf}
+use Rattle.format.proofs.Choice.{is-yes}
 use lib.Dec.{eqb→eq}
 use borrow.Author.Needs.{needs}
 use Rattle.x64.proofs.windows.Statement.{statement}
@@ -25,7 +25,7 @@ returns : tie.Need-returns
 returns c = no-machine (given (c .before .before .before .before .before .before .before .before .before .before .before)) (room (c .before .before .before .before .before .before .before .before .before .before .before)) (refused (c .before .machine-ok .ensures) (c .if1 .taken))
 
 machine-of-requires : tie.Need-machine-of-requires
-machine-of-requires c κs = is-true (accepted (c .before .machine-ok .ensures) (c .if1 .left))
+machine-of-requires c κs = is-yes (accepted (c .before .machine-ok .ensures) (c .if1 .left))
 
 word-ok-requires : tie.Need-word-ok-requires
 word-ok-requires c κs = search needs
@@ -40,7 +40,7 @@ returns-3 : tie.Need-returns-3
 returns-3 c = no-lists (given (c .before .before .before .before .before .before .before .before .before .before .before .before .before .before .before .before)) (room (c .before .before .before .before .before .before .before .before .before .before .before .before .before .before .before .before)) (accepted (c .before .before .before .before .before .before .machine-ok .ensures) (c .before .before .before .before .before .if1 .left)) (rw (c .before .before .before .before .machine-of .ensures) at (accepted (c .before .before .before .word-ok .ensures) (c .before .before .if2 .left))) (refused (c .before .lists-ok .ensures) (c .if3 .taken))
 
 answer-requires : tie.Need-answer-requires
-answer-requires c κs = let a = c .before .before .before .before .before .before .before .before .before .before .before .before .before .before .before .before .before .before .before .before .args in rw (c .before .before .before .before .before .before .before .before .machine-of .ensures) (rows-listed (a .machine .now) (a .functions .now) (a .rows .now) (a .landings .now) (a .pairs .now) (is-true (accepted (c .before .before .before .before .before .before .before .before .before .before .machine-ok .ensures) (c .before .before .before .before .before .before .before .before .before .if1 .left))) (eqb→eq (machineOf (a .machine .now) .word) 8 (is-true (rw (c .before .before .before .before .before .before .before .before .machine-of .ensures) at (accepted (c .before .before .before .before .before .before .before .word-ok .ensures) (c .before .before .before .before .before .before .if2 .left))))) (is-true (accepted (c .before .before .before .before .before .lists-ok .ensures) (c .before .before .before .before .if3 .left))))
+answer-requires c κs = let a = c .before .before .before .before .before .before .before .before .before .before .before .before .before .before .before .before .before .before .before .before .args in rw (c .before .before .before .before .before .before .before .before .machine-of .ensures) (rows-listed (a .machine .now) (a .functions .now) (a .rows .now) (a .landings .now) (a .pairs .now) (is-yes (accepted (c .before .before .before .before .before .before .before .before .before .before .machine-ok .ensures) (c .before .before .before .before .before .before .before .before .before .if1 .left))) (eqb→eq (machineOf (a .machine .now) .word) 8 (is-yes (rw (c .before .before .before .before .before .before .before .before .machine-of .ensures) at (accepted (c .before .before .before .before .before .before .before .word-ok .ensures) (c .before .before .before .before .before .before .if2 .left))))) (is-yes (accepted (c .before .before .before .before .before .lists-ok .ensures) (c .before .before .before .before .if3 .left))))
 
 same-length : tie.Need-same-length
 same-length c = search needs

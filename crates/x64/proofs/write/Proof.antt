@@ -1,10 +1,10 @@
 -- `x64::write` meets its contract.
-use Rattle.x64.proofs.Writing.{stays, goes, room-same, room-says}
-use Rattle.x64.proofs.Asked.{said-yes}
+use Rattle.x64.proofs.Writing.{room-same}
 use Rattle.format.specs.Questions.{roomIn}
 use Rattle.x64.specs.Sources.{tableOf}
 use Rattle.format.specs.Questions.{accepted, roomAsks, fitting}
-use Rattle.format.proofs.Asked.{questionOf}
+use Rattle.format.proofs.Asked.{questionOf, said-yes}
+use Rattle.lists.proofs.Rooms.{stays, goes, room-says}
 use mathlib.Core.Path.{sym, ap, _∙_}
 use borrow.Author.Needs.{needs}
 use Rattle.x64.proofs.write.Statement.{statement}

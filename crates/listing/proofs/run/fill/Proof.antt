@@ -12,7 +12,7 @@ use Rattle.reader.specs.States.{runOf}
 use Rattle.reader.proofs.Acting.{nothing, remembered}
 use Rattle.listing.specs.Lines.{linesOf}
 use Rattle.listing.proofs.Changing.{row-refused, row-stores, row-recalls, row-changes}
-use Rattle.listing.proofs.Telling.{told-joined}
+use Rattle.listing.proofs.StoredLines.{stored-joined}
 use Rattle.listing.proofs.Stacking.{no-room, stored-one, none-stored, last-stored, fewer}
 use Rattle.listing.proofs.Doing.{state, Inside, bad-operation, all-done, shorter, padding, bad-step, no-step, far-step, line-room, near-step, bad-row, good-row}
 use Rattle.listing.proofs.Both.{remaining, Between, begin, enter, again, cut, refuses, end-room, ended-all}
@@ -28,195 +28,195 @@ abbrev μ-operations : tie.MeasureT-operations
 μ-operations s header header-end «record» record-end word q out₀ rules₀ stored₀ depth₀ i₀ loc₀ left from to ops first initial at₀ out rules stored depth i loc at =
     length ops - at
 
-abbrev Inv-records : tie.InvT-records
-Inv-records s header header-end «record» record-end word q out₀ rules₀ stored₀ depth₀ i₀ loc₀ left₀ from₀ to₀ out rules stored depth i loc left from to =
+abbrev Inv-entries : tie.InvT-entries
+Inv-entries s header header-end «record» record-end word q out₀ rules₀ stored₀ depth₀ i₀ loc₀ left₀ from₀ to₀ out rules stored depth i loc left from to =
     Between (linesOf word (part s header header-end) (part s «record» record-end)) word q s header header-end «record» record-end out₀ out rules stored depth i loc left from to
 
-abbrev μ-records : tie.MeasureT-records
-μ-records s header header-end «record» record-end word q out₀ rules₀ stored₀ depth₀ i₀ loc₀ left₀ from₀ to₀ out rules stored depth i loc left from to =
+abbrev μ-entries : tie.MeasureT-entries
+μ-entries s header header-end «record» record-end word q out₀ rules₀ stored₀ depth₀ i₀ loc₀ left₀ from₀ to₀ out rules stored depth i loc left from to =
     left
 
-blank-requires : tie.Need-blank-requires Inv-operations μ-operations Inv-records μ-records
+blank-requires : tie.Need-blank-requires Inv-operations μ-operations Inv-entries μ-entries
 blank-requires c κs = search needs
 
-records-holds : tie.Need-records-holds Inv-operations μ-operations Inv-records μ-records
-records-holds c = begin (c .before .before .before .pre .1) (c .before .before .before .pre .2) (c .blank .ensures) (length-replicate {A = Rules} 16 nothing) (c .before .before .before .pre .5)
+entries-holds : tie.Need-entries-holds Inv-operations μ-operations Inv-entries μ-entries
+entries-holds c = begin (c .before .before .before .pre .1) (c .before .before .before .pre .2) (c .blank .ensures) (length-replicate {A = Rules} 16 nothing) (c .before .before .before .pre .5)
 
-sub-ops : tie.Need-sub-ops Inv-operations μ-operations Inv-records μ-records
+sub-ops : tie.Need-sub-ops Inv-operations μ-operations Inv-entries μ-entries
 sub-ops c = search needs
 
-part-ops-start : tie.Need-part-ops-start Inv-operations μ-operations Inv-records μ-records
+part-ops-start : tie.Need-part-ops-start Inv-operations μ-operations Inv-entries μ-entries
 part-ops-start c = search needs
 
-part-ops-end : tie.Need-part-ops-end Inv-operations μ-operations Inv-records μ-records
+part-ops-end : tie.Need-part-ops-end Inv-operations μ-operations Inv-entries μ-entries
 part-ops-end c = search needs
 
-sub-left : tie.Need-sub-left Inv-operations μ-operations Inv-records μ-records
+sub-left : tie.Need-sub-left Inv-operations μ-operations Inv-entries μ-entries
 sub-left c = search needs
 
-operations-holds : tie.Need-operations-holds Inv-operations μ-operations Inv-records μ-records
-operations-holds c = enter (c .before .before .records .inv) (c .before .records-test .taken)
+operations-holds : tie.Need-operations-holds Inv-operations μ-operations Inv-entries μ-entries
+operations-holds c = enter (c .before .before .entries .inv) (c .before .entries-test .taken)
 
-records-less : tie.Need-records-less Inv-operations μ-operations Inv-records μ-records
-records-less c = search needs
+entries-less : tie.Need-entries-less Inv-operations μ-operations Inv-entries μ-entries
+entries-less c = search needs
 
-records-again : tie.Need-records-again Inv-operations μ-operations Inv-records μ-records
-records-again c = again (c .before .before .before .before .records .inv) (c .before .operations .inv) (c .before .before .before .records-test .taken) (c .before .before .before .before .before .before .before .before .pre .3) (c .before .before .before .before .before .before .before .before .pre .4) (all-done (c .before .operations .inv) (c .operations-test .left))
+entries-again : tie.Need-entries-again Inv-operations μ-operations Inv-entries μ-entries
+entries-again c = again (c .before .before .before .before .entries .inv) (c .before .operations .inv) (c .before .before .before .entries-test .taken) (c .before .before .before .before .before .before .before .before .pre .3) (c .before .before .before .before .before .before .before .before .pre .4) (all-done (c .before .operations .inv) (c .operations-test .left))
 
-operation-requires : tie.Need-operation-requires Inv-operations μ-operations Inv-records μ-records
+operation-requires : tie.Need-operation-requires Inv-operations μ-operations Inv-entries μ-entries
 operation-requires c κs = word-small (c .before .before .before .before .before .before .before .before .args .word) (c .before .before .before .before .before .before .before .before .pre .0) .0
 
-enum-known-op : tie.Need-enum-known-op Inv-operations μ-operations Inv-records μ-records
+enum-known-op : tie.Need-enum-known-op Inv-operations μ-operations Inv-entries μ-entries
 enum-known-op c = search needs
 
-enum-told : tie.Need-enum-told Inv-operations μ-operations Inv-records μ-records
+enum-told : tie.Need-enum-told Inv-operations μ-operations Inv-entries μ-entries
 enum-told c = search needs
 
-listed-requires : tie.Need-listed-requires Inv-operations μ-operations Inv-records μ-records
+listed-requires : tie.Need-listed-requires Inv-operations μ-operations Inv-entries μ-entries
 listed-requires c κs = search needs
 
-same-length : tie.Need-same-length Inv-operations μ-operations Inv-records μ-records
-same-length c = told-joined (c .before .before .before .before .before .before .before .before .records .inv .told) (c .before .before .before .before .before .operations .inv .told) .long
+same-length : tie.Need-same-length Inv-operations μ-operations Inv-entries μ-entries
+same-length c = stored-joined (c .before .before .before .before .before .before .before .before .entries .inv .lines) (c .before .before .before .before .before .operations .inv .lines) .long
 
-returns : tie.Need-returns Inv-operations μ-operations Inv-records μ-records
-returns c = rw (c .listed .ensures) (refuses (c .before .before .before .before .before .before .before .before .records .inv) (bad-operation (c .before .before .before .before .before .operations .inv) (c .before .before .before .before .operations-test .taken) (sym (c .before .before .before .operation .ensures) ∙ c .before .enum-told .given .1)))
+returns : tie.Need-returns Inv-operations μ-operations Inv-entries μ-entries
+returns c = rw (c .listed .ensures) (refuses (c .before .before .before .before .before .before .before .before .entries .inv) (bad-operation (c .before .before .before .before .before .operations .inv) (c .before .before .before .before .operations-test .taken) (sym (c .before .before .before .operation .ensures) ∙ c .before .enum-told .given .1)))
 
-enum-told-2 : tie.Need-enum-told-2 Inv-operations μ-operations Inv-records μ-records
+enum-told-2 : tie.Need-enum-told-2 Inv-operations μ-operations Inv-entries μ-entries
 enum-told-2 c = search needs
 
-operations-less : tie.Need-operations-less Inv-operations μ-operations Inv-records μ-records
+operations-less : tie.Need-operations-less Inv-operations μ-operations Inv-entries μ-entries
 operations-less c = shorter (c .before .before .before .before .before .before .before .operations .inv) (sym (c .before .before .before .before .before .operation .ensures) ∙ c .before .before .before .op .given .1)
 
-operations-again : tie.Need-operations-again Inv-operations μ-operations Inv-records μ-records
+operations-again : tie.Need-operations-again Inv-operations μ-operations Inv-entries μ-entries
 operations-again c = padding (c .before .before .before .before .before .before .before .operations .inv) (sym (c .before .before .before .before .before .operation .ensures) ∙ c .before .before .before .op .given .1) (c .enum-told2 .given .1)
 
-enum-known-op-2 : tie.Need-enum-known-op-2 Inv-operations μ-operations Inv-records μ-records
+enum-known-op-2 : tie.Need-enum-known-op-2 Inv-operations μ-operations Inv-entries μ-entries
 enum-known-op-2 c = search needs
 
-listed-requires-2 : tie.Need-listed-requires-2 Inv-operations μ-operations Inv-records μ-records
+listed-requires-2 : tie.Need-listed-requires-2 Inv-operations μ-operations Inv-entries μ-entries
 listed-requires-2 c κs = search needs
 
-same-length-2 : tie.Need-same-length-2 Inv-operations μ-operations Inv-records μ-records
-same-length-2 c = told-joined (c .before .before .before .before .before .before .before .before .before .before .before .before .before .records .inv .told) (c .before .before .before .before .before .before .before .before .before .before .operations .inv .told) .long
+same-length-2 : tie.Need-same-length-2 Inv-operations μ-operations Inv-entries μ-entries
+same-length-2 c = stored-joined (c .before .before .before .before .before .before .before .before .before .before .before .before .before .entries .inv .lines) (c .before .before .before .before .before .before .before .before .before .before .operations .inv .lines) .long
 
-returns-2 : tie.Need-returns-2 Inv-operations μ-operations Inv-records μ-records
-returns-2 c = rw (c .listed2 .ensures) (refuses (c .before .before .before .before .before .before .before .before .before .before .before .before .before .records .inv) (bad-step (c .before .before .before .before .before .before .before .before .before .before .operations .inv) (sym (c .before .before .before .before .before .before .before .before .operation .ensures) ∙ c .before .before .before .before .before .before .op .given .1) (c .before .before .before .op2 .given .1) (c .before .if1 .taken)))
+returns-2 : tie.Need-returns-2 Inv-operations μ-operations Inv-entries μ-entries
+returns-2 c = rw (c .listed2 .ensures) (refuses (c .before .before .before .before .before .before .before .before .before .before .before .before .before .entries .inv) (bad-step (c .before .before .before .before .before .before .before .before .before .before .operations .inv) (sym (c .before .before .before .before .before .before .before .before .operation .ensures) ∙ c .before .before .before .before .before .before .op .given .1) (c .before .before .before .op2 .given .1) (c .before .if1 .taken)))
 
-operations-less-2 : tie.Need-operations-less-2 Inv-operations μ-operations Inv-records μ-records
+operations-less-2 : tie.Need-operations-less-2 Inv-operations μ-operations Inv-entries μ-entries
 operations-less-2 c = shorter (c .before .before .before .before .before .before .before .before .before .before .operations .inv) (sym (c .before .before .before .before .before .before .before .before .operation .ensures) ∙ c .before .before .before .before .before .before .op .given .1)
 
-operations-again-2 : tie.Need-operations-again-2 Inv-operations μ-operations Inv-records μ-records
+operations-again-2 : tie.Need-operations-again-2 Inv-operations μ-operations Inv-entries μ-entries
 operations-again-2 c = no-step (c .before .before .before .before .before .before .before .before .before .before .operations .inv) (sym (c .before .before .before .before .before .before .before .before .operation .ensures) ∙ c .before .before .before .before .before .before .op .given .1) (c .before .before .before .op2 .given .1) (c .before .if1 .left) (c .if2 .taken)
 
-sub-if3 : tie.Need-sub-if3 Inv-operations μ-operations Inv-records μ-records
+sub-if3 : tie.Need-sub-if3 Inv-operations μ-operations Inv-entries μ-entries
 sub-if3 c = search needs
 
-records-less-2 : tie.Need-records-less-2 Inv-operations μ-operations Inv-records μ-records
-records-less-2 c = search needs
+entries-less-2 : tie.Need-entries-less-2 Inv-operations μ-operations Inv-entries μ-entries
+entries-less-2 c = search needs
 
-records-again-2 : tie.Need-records-again-2 Inv-operations μ-operations Inv-records μ-records
-records-again-2 c = cut (c .before .before .before .before .before .before .before .before .before .before .before .before .before .before .records .inv) (c .before .before .before .before .before .before .before .before .before .before .before .operations .inv) (c .before .before .before .before .before .before .before .before .before .before .before .before .before .records-test .taken) (c .before .before .before .before .before .before .before .before .before .before .before .before .before .before .before .before .before .before .pre .3) (c .before .before .before .before .before .before .before .before .before .before .before .before .before .before .before .before .before .before .pre .4) (c .before .before .if1 .left) (far-step (c .before .before .before .before .before .before .before .before .before .before .before .operations .inv) (sym (c .before .before .before .before .before .before .before .before .before .operation .ensures) ∙ c .before .before .before .before .before .before .before .op .given .1) (c .before .before .before .before .op2 .given .1) (c .before .before .if1 .left) (c .before .if2 .left) (c .if3 .taken))
+entries-again-2 : tie.Need-entries-again-2 Inv-operations μ-operations Inv-entries μ-entries
+entries-again-2 c = cut (c .before .before .before .before .before .before .before .before .before .before .before .before .before .before .entries .inv) (c .before .before .before .before .before .before .before .before .before .before .before .operations .inv) (c .before .before .before .before .before .before .before .before .before .before .before .before .before .entries-test .taken) (c .before .before .before .before .before .before .before .before .before .before .before .before .before .before .before .before .before .before .pre .3) (c .before .before .before .before .before .before .before .before .before .before .before .before .before .before .before .before .before .before .pre .4) (c .before .before .if1 .left) (far-step (c .before .before .before .before .before .before .before .before .before .before .before .operations .inv) (sym (c .before .before .before .before .before .before .before .before .before .operation .ensures) ∙ c .before .before .before .before .before .before .before .op .given .1) (c .before .before .before .before .op2 .given .1) (c .before .before .if1 .left) (c .before .if2 .left) (c .if3 .taken))
 
-line-requires : tie.Need-line-requires Inv-operations μ-operations Inv-records μ-records
+line-requires : tie.Need-line-requires Inv-operations μ-operations Inv-entries μ-entries
 line-requires c κs = line-room (c .before .before .before .before .before .before .before .before .before .before .before .before .operations .inv) (sym (c .before .before .before .before .before .before .before .before .before .before .operation .ensures) ∙ c .before .before .before .before .before .before .before .before .op .given .1) (c .before .before .before .before .before .op2 .given .1) (c .before .before .before .if1 .left) (c .before .before .if2 .left)
 
-add-loc : tie.Need-add-loc Inv-operations μ-operations Inv-records μ-records
+add-loc : tie.Need-add-loc Inv-operations μ-operations Inv-entries μ-entries
 add-loc c = search needs
 
-operations-less-3 : tie.Need-operations-less-3 Inv-operations μ-operations Inv-records μ-records
+operations-less-3 : tie.Need-operations-less-3 Inv-operations μ-operations Inv-entries μ-entries
 operations-less-3 c = shorter (c .before .before .before .before .before .before .before .before .before .before .before .before .before .before .before .operations .inv) (sym (c .before .before .before .before .before .before .before .before .before .before .before .before .before .operation .ensures) ∙ c .before .before .before .before .before .before .before .before .before .before .before .op .given .1)
 
-operations-again-3 : tie.Need-operations-again-3 Inv-operations μ-operations Inv-records μ-records
+operations-again-3 : tie.Need-operations-again-3 Inv-operations μ-operations Inv-entries μ-entries
 operations-again-3 c = near-step (c .before .before .before .before .before .before .before .before .before .before .before .before .before .before .before .operations .inv) (sym (c .before .before .before .before .before .before .before .before .before .before .before .before .before .operation .ensures) ∙ c .before .before .before .before .before .before .before .before .before .before .before .op .given .1) (c .before .before .before .before .before .before .before .before .op2 .given .1) (c .before .before .before .before .before .before .if1 .left) (c .before .before .before .before .before .if2 .left) (c .before .before .before .before .if3 .left) (c .before .before .line .ensures) (kept (c .before .before .line .ensures))
 
-enum-known-op-3 : tie.Need-enum-known-op-3 Inv-operations μ-operations Inv-records μ-records
+enum-known-op-3 : tie.Need-enum-known-op-3 Inv-operations μ-operations Inv-entries μ-entries
 enum-known-op-3 c = search needs
 
-change-requires : tie.Need-change-requires Inv-operations μ-operations Inv-records μ-records
+change-requires : tie.Need-change-requires Inv-operations μ-operations Inv-entries μ-entries
 change-requires c κs = search needs
 
-listed-requires-3 : tie.Need-listed-requires-3 Inv-operations μ-operations Inv-records μ-records
+listed-requires-3 : tie.Need-listed-requires-3 Inv-operations μ-operations Inv-entries μ-entries
 listed-requires-3 c κs = search needs
 
-same-length-3 : tie.Need-same-length-3 Inv-operations μ-operations Inv-records μ-records
-same-length-3 c = told-joined (c .before .before .before .before .before .before .before .before .before .before .before .before .before .before .before .records .inv .told) (c .before .before .before .before .before .before .before .before .before .before .before .before .operations .inv .told) .long
+same-length-3 : tie.Need-same-length-3 Inv-operations μ-operations Inv-entries μ-entries
+same-length-3 c = stored-joined (c .before .before .before .before .before .before .before .before .before .before .before .before .before .before .before .entries .inv .lines) (c .before .before .before .before .before .before .before .before .before .before .before .before .operations .inv .lines) .long
 
-returns-3 : tie.Need-returns-3 Inv-operations μ-operations Inv-records μ-records
+returns-3 : tie.Need-returns-3 Inv-operations μ-operations Inv-entries μ-entries
 unfolding runOf
-returns-3 c = rw (c .listed3 .ensures) (refuses (c .before .before .before .before .before .before .before .before .before .before .before .before .before .before .before .records .inv) (bad-row (c .before .before .before .before .before .before .before .before .before .before .before .before .operations .inv) (sym (c .before .before .before .before .before .before .before .before .before .before .operation .ensures) ∙ c .before .before .before .before .before .before .before .before .op .given .1) (c .before .before .before .before .before .op3 .given .1) (row-refused _ _ _ (runOf (state _ _ _)) _ (c .before .before .before .change .ensures) (c .before .if4 .taken))))
+returns-3 c = rw (c .listed3 .ensures) (refuses (c .before .before .before .before .before .before .before .before .before .before .before .before .before .before .before .entries .inv) (bad-row (c .before .before .before .before .before .before .before .before .before .before .before .before .operations .inv) (sym (c .before .before .before .before .before .before .before .before .before .before .operation .ensures) ∙ c .before .before .before .before .before .before .before .before .op .given .1) (c .before .before .before .before .before .op3 .given .1) (row-refused _ _ _ (runOf (state _ _ _)) _ (c .before .before .before .change .ensures) (c .before .if4 .taken))))
 
-listed-requires-4 : tie.Need-listed-requires-4 Inv-operations μ-operations Inv-records μ-records
+listed-requires-4 : tie.Need-listed-requires-4 Inv-operations μ-operations Inv-entries μ-entries
 listed-requires-4 c κs = search needs
 
-same-length-4 : tie.Need-same-length-4 Inv-operations μ-operations Inv-records μ-records
-same-length-4 c = told-joined (c .before .before .before .before .before .before .before .before .before .before .before .before .before .before .before .before .before .before .records .inv .told) (c .before .before .before .before .before .before .before .before .before .before .before .before .before .before .before .operations .inv .told) .long
+same-length-4 : tie.Need-same-length-4 Inv-operations μ-operations Inv-entries μ-entries
+same-length-4 c = stored-joined (c .before .before .before .before .before .before .before .before .before .before .before .before .before .before .before .before .before .before .entries .inv .lines) (c .before .before .before .before .before .before .before .before .before .before .before .before .before .before .before .operations .inv .lines) .long
 
-returns-4 : tie.Need-returns-4 Inv-operations μ-operations Inv-records μ-records
+returns-4 : tie.Need-returns-4 Inv-operations μ-operations Inv-entries μ-entries
 unfolding runOf
-returns-4 c = rw (c .listed4 .ensures) (refuses (c .before .before .before .before .before .before .before .before .before .before .before .before .before .before .before .before .before .before .records .inv) (bad-row (c .before .before .before .before .before .before .before .before .before .before .before .before .before .before .before .operations .inv) (sym (c .before .before .before .before .before .before .before .before .before .before .before .before .before .operation .ensures) ∙ c .before .before .before .before .before .before .before .before .before .before .before .op .given .1) (c .before .before .before .before .before .before .before .before .op3 .given .1) (row-stores _ _ _ (runOf (state _ _ _)) _ (c .before .before .before .before .before .before .change .ensures) (c .before .before .if5 .taken) ∙ no-room (state _ _ _) (c .before .before .before .before .before .before .before .before .before .before .before .before .before .before .before .operations .inv .held) (c .before .if6 .taken))))
+returns-4 c = rw (c .listed4 .ensures) (refuses (c .before .before .before .before .before .before .before .before .before .before .before .before .before .before .before .before .before .before .entries .inv) (bad-row (c .before .before .before .before .before .before .before .before .before .before .before .before .before .before .before .operations .inv) (sym (c .before .before .before .before .before .before .before .before .before .before .before .before .before .operation .ensures) ∙ c .before .before .before .before .before .before .before .before .before .before .before .op .given .1) (c .before .before .before .before .before .before .before .before .op3 .given .1) (row-stores _ _ _ (runOf (state _ _ _)) _ (c .before .before .before .before .before .before .change .ensures) (c .before .before .if5 .taken) ∙ no-room (state _ _ _) (c .before .before .before .before .before .before .before .before .before .before .before .before .before .before .before .operations .inv .held) (c .before .if6 .taken))))
 
-mul-stored : tie.Need-mul-stored Inv-operations μ-operations Inv-records μ-records
+mul-stored : tie.Need-mul-stored Inv-operations μ-operations Inv-entries μ-entries
 mul-stored c = search needs
 
 array-set-from-stored :
-    tie.Need-array-set-from-stored Inv-operations μ-operations Inv-records μ-records
+    tie.Need-array-set-from-stored Inv-operations μ-operations Inv-entries μ-entries
 array-set-from-stored c = search needs
 
-add-depth : tie.Need-add-depth Inv-operations μ-operations Inv-records μ-records
+add-depth : tie.Need-add-depth Inv-operations μ-operations Inv-entries μ-entries
 add-depth c = search needs
 
-operations-less-4 : tie.Need-operations-less-4 Inv-operations μ-operations Inv-records μ-records
+operations-less-4 : tie.Need-operations-less-4 Inv-operations μ-operations Inv-entries μ-entries
 operations-less-4 c = shorter (c .before .before .before .before .before .before .before .before .before .before .before .before .before .before .operations .inv) (sym (c .before .before .before .before .before .before .before .before .before .before .before .before .operation .ensures) ∙ c .before .before .before .before .before .before .before .before .before .before .op .given .1)
 
-operations-again-4 : tie.Need-operations-again-4 Inv-operations μ-operations Inv-records μ-records
+operations-again-4 : tie.Need-operations-again-4 Inv-operations μ-operations Inv-entries μ-entries
 unfolding runOf
 operations-again-4 c = good-row (c .before .before .before .before .before .before .before .before .before .before .before .before .before .before .operations .inv) (sym (c .before .before .before .before .before .before .before .before .before .before .before .before .operation .ensures) ∙ c .before .before .before .before .before .before .before .before .before .before .op .given .1) (c .before .before .before .before .before .before .before .op3 .given .1) (row-stores _ _ _ (runOf (state _ _ _)) _ (c .before .before .before .before .before .change .ensures) (c .before .if5 .taken) ∙ stored-one (state _ _ _) (c .before .before .before .before .before .before .before .before .before .before .before .before .before .before .operations .inv .held) (c .if6 .left)) (remembered (state _ _ _) (c .before .before .before .before .before .before .before .before .before .before .before .before .before .before .operations .inv .held) (c .if6 .left) .held)
 
-listed-requires-5 : tie.Need-listed-requires-5 Inv-operations μ-operations Inv-records μ-records
+listed-requires-5 : tie.Need-listed-requires-5 Inv-operations μ-operations Inv-entries μ-entries
 listed-requires-5 c κs = search needs
 
-same-length-5 : tie.Need-same-length-5 Inv-operations μ-operations Inv-records μ-records
-same-length-5 c = told-joined (c .before .before .before .before .before .before .before .before .before .before .before .before .before .before .before .before .before .before .before .before .records .inv .told) (c .before .before .before .before .before .before .before .before .before .before .before .before .before .before .before .before .before .operations .inv .told) .long
+same-length-5 : tie.Need-same-length-5 Inv-operations μ-operations Inv-entries μ-entries
+same-length-5 c = stored-joined (c .before .before .before .before .before .before .before .before .before .before .before .before .before .before .before .before .before .before .before .before .entries .inv .lines) (c .before .before .before .before .before .before .before .before .before .before .before .before .before .before .before .before .before .operations .inv .lines) .long
 
-returns-5 : tie.Need-returns-5 Inv-operations μ-operations Inv-records μ-records
+returns-5 : tie.Need-returns-5 Inv-operations μ-operations Inv-entries μ-entries
 unfolding runOf
-returns-5 c = rw (c .listed5 .ensures) (refuses (c .before .before .before .before .before .before .before .before .before .before .before .before .before .before .before .before .before .before .before .before .records .inv) (bad-row (c .before .before .before .before .before .before .before .before .before .before .before .before .before .before .before .before .before .operations .inv) (sym (c .before .before .before .before .before .before .before .before .before .before .before .before .before .before .before .operation .ensures) ∙ c .before .before .before .before .before .before .before .before .before .before .before .before .before .op .given .1) (c .before .before .before .before .before .before .before .before .before .before .op3 .given .1) (row-recalls _ _ _ (runOf (state _ _ _)) _ (c .before .before .before .before .before .before .before .before .change .ensures) (c .before .before .if7 .taken) ∙ none-stored (state _ _ _) (c .before .before .before .before .before .before .before .before .before .before .before .before .before .before .before .before .before .operations .inv .held) (c .before .if8 .taken))))
+returns-5 c = rw (c .listed5 .ensures) (refuses (c .before .before .before .before .before .before .before .before .before .before .before .before .before .before .before .before .before .before .before .before .entries .inv) (bad-row (c .before .before .before .before .before .before .before .before .before .before .before .before .before .before .before .before .before .operations .inv) (sym (c .before .before .before .before .before .before .before .before .before .before .before .before .before .before .before .operation .ensures) ∙ c .before .before .before .before .before .before .before .before .before .before .before .before .before .op .given .1) (c .before .before .before .before .before .before .before .before .before .before .op3 .given .1) (row-recalls _ _ _ (runOf (state _ _ _)) _ (c .before .before .before .before .before .before .before .before .change .ensures) (c .before .before .if7 .taken) ∙ none-stored (state _ _ _) (c .before .before .before .before .before .before .before .before .before .before .before .before .before .before .before .before .before .operations .inv .held) (c .before .if8 .taken))))
 
-sub-depth : tie.Need-sub-depth Inv-operations μ-operations Inv-records μ-records
+sub-depth : tie.Need-sub-depth Inv-operations μ-operations Inv-entries μ-entries
 sub-depth c = search needs
 
-mul-rules : tie.Need-mul-rules Inv-operations μ-operations Inv-records μ-records
+mul-rules : tie.Need-mul-rules Inv-operations μ-operations Inv-entries μ-entries
 mul-rules c = let d = c .before .before .before .before .before .before .before .before .before .before .before .before .before .before .before .before .operations .inv .held .deep in search needs
 
 array-copy-out-rules :
-    tie.Need-array-copy-out-rules Inv-operations μ-operations Inv-records μ-records
+    tie.Need-array-copy-out-rules Inv-operations μ-operations Inv-entries μ-entries
 array-copy-out-rules c = let d = c .before .before .before .before .before .before .before .before .before .before .before .before .before .before .before .before .operations .inv .held .deep in search needs
 
-operations-less-5 : tie.Need-operations-less-5 Inv-operations μ-operations Inv-records μ-records
+operations-less-5 : tie.Need-operations-less-5 Inv-operations μ-operations Inv-entries μ-entries
 operations-less-5 c = shorter (c .before .before .before .before .before .before .before .before .before .before .before .before .before .before .before .before .before .operations .inv) (sym (c .before .before .before .before .before .before .before .before .before .before .before .before .before .before .before .operation .ensures) ∙ c .before .before .before .before .before .before .before .before .before .before .before .before .before .op .given .1)
 
-operations-again-5 : tie.Need-operations-again-5 Inv-operations μ-operations Inv-records μ-records
+operations-again-5 : tie.Need-operations-again-5 Inv-operations μ-operations Inv-entries μ-entries
 unfolding runOf
 operations-again-5 c = good-row (c .before .before .before .before .before .before .before .before .before .before .before .before .before .before .before .before .before .operations .inv) (sym (c .before .before .before .before .before .before .before .before .before .before .before .before .before .before .before .operation .ensures) ∙ c .before .before .before .before .before .before .before .before .before .before .before .before .before .op .given .1) (c .before .before .before .before .before .before .before .before .before .before .op3 .given .1) (row-recalls _ _ _ (runOf (state _ _ _)) _ (c .before .before .before .before .before .before .before .before .change .ensures) (c .before .before .if7 .taken) ∙ last-stored (state _ _ _) (c .before .before .before .before .before .before .before .before .before .before .before .before .before .before .before .before .before .operations .inv .held) (omega arith)) (fewer (c .before .before .before .before .before .before .before .before .before .before .before .before .before .before .before .before .before .operations .inv .held))
 
-operations-less-6 : tie.Need-operations-less-6 Inv-operations μ-operations Inv-records μ-records
+operations-less-6 : tie.Need-operations-less-6 Inv-operations μ-operations Inv-entries μ-entries
 operations-less-6 c = shorter (c .before .before .before .before .before .before .before .before .before .before .before .before .before .before .before .before .operations .inv) (sym (c .before .before .before .before .before .before .before .before .before .before .before .before .before .before .operation .ensures) ∙ c .before .before .before .before .before .before .before .before .before .before .before .before .op .given .1)
 
-operations-again-6 : tie.Need-operations-again-6 Inv-operations μ-operations Inv-records μ-records
+operations-again-6 : tie.Need-operations-again-6 Inv-operations μ-operations Inv-entries μ-entries
 unfolding runOf
 operations-again-6 c = good-row (c .before .before .before .before .before .before .before .before .before .before .before .before .before .before .before .before .operations .inv) (sym (c .before .before .before .before .before .before .before .before .before .before .before .before .before .before .operation .ensures) ∙ c .before .before .before .before .before .before .before .before .before .before .before .before .op .given .1) (c .before .before .before .before .before .before .before .before .before .op3 .given .1) (row-changes _ _ _ (runOf (state _ _ _)) _ (c .before .before .before .before .before .before .before .change .ensures) (c .before .before .before .before .before .if4 .left) (c .before .before .before .if5 .left) (c .before .if7 .left)) (c .before .before .before .before .before .before .before .before .before .before .before .before .before .before .before .before .operations .inv .held)
 
-line-requires-2 : tie.Need-line-requires-2 Inv-operations μ-operations Inv-records μ-records
-line-requires-2 c κs = end-room (c .before .before .records .inv) (c .before .records-test .left)
+line-requires-2 : tie.Need-line-requires-2 Inv-operations μ-operations Inv-entries μ-entries
+line-requires-2 c κs = end-room (c .before .before .entries .inv) (c .before .entries-test .left)
 
-listed-requires-6 : tie.Need-listed-requires-6 Inv-operations μ-operations Inv-records μ-records
+listed-requires-6 : tie.Need-listed-requires-6 Inv-operations μ-operations Inv-entries μ-entries
 listed-requires-6 c κs = search needs
 
-same-length-6 : tie.Need-same-length-6 Inv-operations μ-operations Inv-records μ-records
-same-length-6 c = kept (c .before .before .before .line2 .ensures) ∙ c .before .before .before .before .before .before .records .inv .told .long
+same-length-6 : tie.Need-same-length-6 Inv-operations μ-operations Inv-entries μ-entries
+same-length-6 c = kept (c .before .before .before .line2 .ensures) ∙ c .before .before .before .before .before .before .entries .inv .lines .long
 
-returns-6 : tie.Need-returns-6 Inv-operations μ-operations Inv-records μ-records
-returns-6 c = rw (c .listed6 .ensures) (ended-all (c .before .before .before .before .before .before .records .inv) (c .before .before .before .before .before .records-test .left) (c .before .before .before .line2 .ensures))
+returns-6 : tie.Need-returns-6 Inv-operations μ-operations Inv-entries μ-entries
+returns-6 c = rw (c .listed6 .ensures) (ended-all (c .before .before .before .before .before .before .entries .inv) (c .before .before .before .before .before .entries-test .left) (c .before .before .before .line2 .ensures))
 
 pub fill-spec : {M : Type 1} → statement M
 fill-spec =
@@ -224,17 +224,17 @@ fill-spec =
     (tie.spec
     Inv-operations
     μ-operations
-    Inv-records
-    μ-records
+    Inv-entries
+    μ-entries
     blank-requires
-    records-holds
+    entries-holds
     sub-ops
     part-ops-start
     part-ops-end
     sub-left
     operations-holds
-    records-less
-    records-again
+    entries-less
+    entries-again
     operation-requires
     enum-known-op
     enum-told
@@ -251,8 +251,8 @@ fill-spec =
     operations-less-2
     operations-again-2
     sub-if3
-    records-less-2
-    records-again-2
+    entries-less-2
+    entries-again-2
     line-requires
     add-loc
     operations-less-3

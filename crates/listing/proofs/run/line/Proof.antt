@@ -1,6 +1,6 @@
 -- `listing::run::line` meets its contract.
 use Rattle.format.proofs.PutLaws.{_then_}
-use Rattle.listing.proofs.Telling.{line-wrote}
+use Rattle.listing.proofs.StoredLines.{line-wrote}
 use borrow.Author.Needs.{needs}
 use Rattle.listing.proofs.run.line.Statement.{statement}
 use Rattle.listing.proofs.run.line.Tie as tie

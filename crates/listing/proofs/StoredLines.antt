@@ -86,31 +86,31 @@ numbers-length q (ended at n) = refl
 
 -- of the lines `whole` those of `rest` are left, and go from i on; whatever was stored since `old` is a part of them
 
-pub record Told (q : ℕ) (whole rest : Lines) (old new : List ℕ) (i : ℕ) : Type 0 where
+pub record LinesStored (q : ℕ) (whole rest : Lines) (old new : List ℕ) (i : ℕ) : Type 0 where
   pub long : length new ≡ length old
   pub stored : put new i (numbersOf q rest) ≡ put old 0 (numbersOf q whole)
   pub counted : i + 7 * countOf rest ≡ 7 * countOf whole
   pub ends : endingOf rest ≡ endingOf whole
   pub same : put new 0 (numbersOf q whole) ≡ put old 0 (numbersOf q whole)
 
-pub telling : (q : ℕ) (whole : Lines) (old : List ℕ) → Told q whole whole old old 0
-telling q whole old = record { long = refl; stored = refl; counted = omega arith; ends = refl; same = refl }
+pub stored-none : (q : ℕ) (whole : Lines) (old : List ℕ) → LinesStored q whole whole old old 0
+stored-none q whole old = record { long = refl; stored = refl; counted = omega arith; ends = refl; same = refl }
 
 -- from here on, and with what was stored until then
-pub told-since : {q : ℕ} {whole rest : Lines} {old new : List ℕ} {i : ℕ} → Told q whole rest old new i → Told q whole rest new new i
-told-since t = record { long = refl; stored = t .stored ∙ sym (t .same); counted = t .counted; ends = t .ends; same = refl }
+pub stored-since : {q : ℕ} {whole rest : Lines} {old new : List ℕ} {i : ℕ} → LinesStored q whole rest old new i → LinesStored q whole rest new new i
+stored-since t = record { long = refl; stored = t .stored ∙ sym (t .same); counted = t .counted; ends = t .ends; same = refl }
 
-pub told-joined : {q : ℕ} {whole rest more : Lines} {old mid new : List ℕ} {i j : ℕ} → Told q whole rest old mid i → Told q whole more mid new j
-    → Told q whole more old new j
-told-joined a b =
+pub stored-joined : {q : ℕ} {whole rest more : Lines} {old mid new : List ℕ} {i j : ℕ} → LinesStored q whole rest old mid i → LinesStored q whole more mid new j
+    → LinesStored q whole more old new j
+stored-joined a b =
     record { long = b .long ∙ a .long; stored = b .stored ∙ a .same; counted = b .counted; ends = b .ends; same = b .same ∙ a .same }
 
 module _ {q : ℕ} {whole : Lines} {old new : List ℕ} {i : ℕ} where
   -- a line is stored, and the rest is left
-  pub told-line : {at : ℕ} {s : State} {rest : Lines} {new′ : List ℕ} {j : ℕ} → Told q whole (line at s rest) old new i
-      → Wrote new new′ i j (lineNumbers at (rulesFor q (s .current))) → Told q whole rest old new′ j
+  pub stored-line : {at : ℕ} {s : State} {rest : Lines} {new′ : List ℕ} {j : ℕ} → LinesStored q whole (line at s rest) old new i
+      → Wrote new new′ i j (lineNumbers at (rulesFor q (s .current))) → LinesStored q whole rest old new′ j
   unfolding numbersOf countOf endingOf
-  told-line {at} {s} {rest} t w =
+  stored-line {at} {s} {rest} t w =
       let n = line-length at (rulesFor q (s .current)) in
       record {
         long = kept w ∙ t .long;
@@ -123,17 +123,17 @@ module _ {q : ℕ} {whole : Lines} {old new : List ℕ} {i : ℕ} where
       }
 
   -- the last one is stored
-  pub told-last : {at : ℕ} {s : State} {new′ : List ℕ} {j : ℕ} → Told q whole (last at s) old new i
+  pub stored-last : {at : ℕ} {s : State} {new′ : List ℕ} {j : ℕ} → LinesStored q whole (last at s) old new i
       → Wrote new new′ i j (lineNumbers at (rulesFor q (s .current))) → Lists q (good whole) (record { number = 0; lines = j / 7; ending = 0; from = 0 }) old new′
   unfolding numbersOf countOf endingOf listedAs listAfter
-  told-last {at} {s} {j = j} t w =
+  stored-last {at} {s} {j = j} t w =
       let n = line-length at (rulesFor q (s .current)) in
       let d : j / 7 ≡ countOf whole = omega (arith, n, w .past, t .counted) in
       record { answered = rw (d, ← (t .ends)) refl; stored = w .stored ∙ t .stored }
 
   -- a question ends them
-  pub told-ended : {at n : ℕ} → Told q whole (ended at n) old new i → Lists q (good whole) (record { number = 0; lines = i / 7; ending = n; from = at }) old new
+  pub stored-ended : {at n : ℕ} → LinesStored q whole (ended at n) old new i → Lists q (good whole) (record { number = 0; lines = i / 7; ending = n; from = at }) old new
   unfolding numbersOf countOf endingOf listedAs listAfter put
-  told-ended t =
+  stored-ended t =
       let d : i / 7 ≡ countOf whole = omega (arith, t .counted) in
       record { answered = rw (d, ← (t .ends)) refl; stored = t .stored }
