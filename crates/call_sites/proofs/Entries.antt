@@ -9,35 +9,36 @@ use lib.Dec.{ltb}
 use lib.ListN.{drop}
 use borrow.Author.Tests.{lt-ltb, le-ltb, le-leb, lt-leb}
 use Rattle.format.specs.Prelude.{next}
-use Rattle.format.specs.declared.Unsigned.the-variants as unsigned
+use Rattle.operations.specs.declared.fields.Position.{Position}
+use Rattle.operations.specs.declared.fields.Unsigned.the-variants as unsigned
 use Rattle.format.specs.CallSiteReader.{siteOf, readSite, covers}
 use Rattle.format.proofs.Choice.{if-le, if-gt, either}
-use Rattle.format.proofs.Positions.{ulebAt}
-use Rattle.format.proofs.PositionLaws.{uleb-ahead, uleb-rest, uleb-none}
+use Rattle.operations.specs.Positions.{ulebAt}
+use Rattle.operations.proofs.PositionLaws.{uleb-ahead, uleb-rest, uleb-none}
 use Rattle.call_sites.specs.Reads.{EntryThere}
 
-module _ (s : List ℕ) (p : ℕ) where
-  pub no-start : ulebAt s p ≡ unsigned.Bad → readSite (drop p s) ≡ none
+module _ (s : List ℕ) (p : Position) where
+  pub no-start : ulebAt s p ≡ unsigned.Bad → readSite (drop (p .at) s) ≡ none
   unfolding readSite next
   no-start e = rw (uleb-none s p e)
 
-  module _ {start q₁ : ℕ} (e₁ : ulebAt s p ≡ unsigned.Value start q₁) where
-    pub no-length : ulebAt s q₁ ≡ unsigned.Bad → readSite (drop p s) ≡ none
+  module _ {start : ℕ} {q₁ : Position} (e₁ : ulebAt s p ≡ unsigned.Value start q₁) where
+    pub no-length : ulebAt s q₁ ≡ unsigned.Bad → readSite (drop (p .at) s) ≡ none
     unfolding readSite next
     no-length e = rw (uleb-rest s p e₁, uleb-none s q₁ e)
 
-    module _ {size q₂ : ℕ} (e₂ : ulebAt s q₁ ≡ unsigned.Value size q₂) where
-      pub no-pad : ulebAt s q₂ ≡ unsigned.Bad → readSite (drop p s) ≡ none
+    module _ {size : ℕ} {q₂ : Position} (e₂ : ulebAt s q₁ ≡ unsigned.Value size q₂) where
+      pub no-pad : ulebAt s q₂ ≡ unsigned.Bad → readSite (drop (p .at) s) ≡ none
       unfolding readSite next
       no-pad e = rw (uleb-rest s p e₁, uleb-rest s q₁ e₂, uleb-none s q₂ e)
 
-      module _ {pad q₃ : ℕ} (e₃ : ulebAt s q₂ ≡ unsigned.Value pad q₃) where
-        pub no-action : ulebAt s q₃ ≡ unsigned.Bad → readSite (drop p s) ≡ none
+      module _ {pad : ℕ} {q₃ : Position} (e₃ : ulebAt s q₂ ≡ unsigned.Value pad q₃) where
+        pub no-action : ulebAt s q₃ ≡ unsigned.Bad → readSite (drop (p .at) s) ≡ none
         unfolding readSite next
         no-action e = rw (uleb-rest s p e₁, uleb-rest s q₁ e₂, uleb-rest s q₂ e₃, uleb-none s q₃ e)
 
-        module _ {action q : ℕ} (e₄ : ulebAt s q₃ ≡ unsigned.Value action q) where
-          pub too-far : 2 ^ 64 ≤ start + size → readSite (drop p s) ≡ none
+        module _ {action : ℕ} {q : Position} (e₄ : ulebAt s q₃ ≡ unsigned.Value action q) where
+          pub too-far : 2 ^ 64 ≤ start + size → readSite (drop (p .at) s) ≡ none
           unfolding readSite next
           too-far h =
               let m : 2 ^ 64 < suc (start + size) = omega arith in

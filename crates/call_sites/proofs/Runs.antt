@@ -2,7 +2,7 @@
 use mathlib.Core.Path.{_≡_, refl, sym, ap, _∙_}
 use Prim.Native.Nat.{ℕ, zero, suc, _+_, _-_, _≤_, _<_}
 use native.Mathlib.Omega.{arith}
-use mathlib.Core.Bool.{Bool, true, false, _&&_}
+use mathlib.Core.Bool.{Bool, true, false, _&&_, and-false}
 use mathlib.Core.Option.{Option, none, some}
 use mathlib.Core.List.{List, [], _∷_, _++_, append-assoc, append-nil}
 use lib.Dec.{eqb}
@@ -12,6 +12,8 @@ use Rattle.format.specs.Prelude.{pick, next, after, first}
 use Rattle.format.specs.Lists.{Landing}
 use Rattle.format.specs.CallSiteReader.{readSite, readSitesF, readSites, covers, siteNumbers}
 use Rattle.format.proofs.Choice.{pick-yes, pick-no, tested}
+use Rattle.operations.specs.declared.fields.Position.{Position}
+use Rattle.operations.specs.Positions.{from}
 use Rattle.call_sites.specs.declared.Site.{Site}
 use Rattle.call_sites.specs.Reads.{EntryThere, numbersOf, keptOf, foundOf}
 
@@ -28,10 +30,6 @@ sites-done : (fuel : ℕ) → 0 < fuel → readSitesF fuel [] ≡ some []
 unfolding readSitesF
 sites-done zero h = absurd (omega arith)
 sites-done (suc f) h = refl
-
-and-no : (t : Bool) → t && false ≡ false
-and-no true = refl
-and-no false = refl
 
 -- ---- entries in front of others
 
@@ -63,15 +61,15 @@ module _ {A : Type 0} (f : A → Bool) where
 
 -- ---- the loop
 
-pub record Going (offset : ℕ) (s : List ℕ) (i : ℕ) (site : Site) : Type 0 where
+pub record Going (offset : ℕ) (s : List ℕ) (p : Position) (site : Site) : Type 0 where
   fuel : ℕ
   before : List Landing
-  enough : length s < fuel + i
-  inside : i ≤ length s
-  same : readSites s ≡ after (readSitesF fuel (drop i s)) (λ ls. some (before ++ ls))
+  enough : length s < fuel + p .at
+  inside : p .at ≤ length s
+  same : readSites s ≡ after (readSitesF fuel (drop (p .at) s)) (λ ls. some (before ++ ls))
   here : numbersOf site ≡ siteNumbers (first (covers offset) before)
 
-pub start : {offset : ℕ} {s : List ℕ} {site : Site} → numbersOf site ≡ 0 ∷ 0 ∷ 0 ∷ 0 ∷ 0 ∷ [] → Going offset s 0 site
+pub start : {offset : ℕ} {s : List ℕ} {site : Site} → numbersOf site ≡ 0 ∷ 0 ∷ 0 ∷ 0 ∷ 0 ∷ [] → Going offset s (from 0) site
 unfolding readSites siteNumbers first
 start {s = s} h =
     record { fuel = suc (length s); before = []; enough = omega arith; inside = omega arith; same = in-front (readSitesF (suc (length s)) s); here = h }
@@ -85,7 +83,7 @@ module _ (site : Site) (offset : ℕ) (l : Landing) where
 
   pub kept-uncovered : covers offset l ≡ false → numbersOf site ≡ keptOf site offset l
   unfolding keptOf pick
-  kept-uncovered e = rw (e, and-no (eqb (site .found) 0))
+  kept-uncovered e = rw (e, and-false (eqb (site .found) 0))
 
   pub kept-this : site .found ≡ 0 → covers offset l ≡ true → keptOf site offset l ≡ siteNumbers (some l)
   unfolding keptOf pick
@@ -108,30 +106,30 @@ kept-by site offset xs l (some x) e h =
     let y : eqb (site .found) 0 && covers offset l ≡ false = rw z refl in
     rw (y, first-some (covers offset) xs (l ∷ []) x e) h
 
-module _ {offset : ℕ} {s : List ℕ} {i : ℕ} {site : Site} (g : Going offset s i site) where
-  module _ (h : i < length s) where
-    step : readSites s ≡ after (next (readSite (drop i s)) (λ l rest. after (readSitesF (g .fuel - 1) rest) λ ls. some (l ∷ ls))) (λ ls. some (g .before ++ ls))
-    step = g .same ∙ ap (λ r. after r (λ ls. some (g .before ++ ls))) (sites-step (g .fuel) (drop i s) (omega (arith, g .enough)) (omega (arith, length-drop i s)))
+module _ {offset : ℕ} {s : List ℕ} {p : Position} {site : Site} (g : Going offset s p site) where
+  module _ (h : p .at < length s) where
+    step : readSites s ≡ after (next (readSite (drop (p .at) s)) (λ l rest. after (readSitesF (g .fuel - 1) rest) λ ls. some (l ∷ ls))) (λ ls. some (g .before ++ ls))
+    step = g .same ∙ ap (λ r. after r (λ ls. some (g .before ++ ls))) (sites-step (g .fuel) (drop (p .at) s) (omega (arith, g .enough)) (omega (arith, length-drop (p .at) s)))
 
-    pub turn : {l : Landing} {q : ℕ} {newer : Site} → EntryThere s i l q → numbersOf newer ≡ keptOf site offset l → Going offset s q newer
+    pub turn : {l : Landing} {q : Position} {newer : Site} → EntryThere s p l q → numbersOf newer ≡ keptOf site offset l → Going offset s q newer
     unfolding next
     turn {l = l} {q = q} c k = record {
       fuel = g .fuel - 1;
       before = g .before ++ (l ∷ []);
       enough = omega (arith, g .enough, c .ahead);
       inside = c .inside;
-      same = (rw (c .reads) at step) ∙ one-more (g .before) l (readSitesF (g .fuel - 1) (drop q s));
+      same = (rw (c .reads) at step) ∙ one-more (g .before) l (readSitesF (g .fuel - 1) (drop (q .at) s));
       here = k ∙ kept-by site offset (g .before) l (first (covers offset) (g .before)) refl (g .here);
     }
 
-    pub unread : {ns : List ℕ} → readSite (drop i s) ≡ none → ns ≡ 72 ∷ 0 ∷ 0 ∷ 0 ∷ 0 ∷ [] → ns ≡ foundOf offset (readSites s)
+    pub unread : {ns : List ℕ} → readSite (drop (p .at) s) ≡ none → ns ≡ 72 ∷ 0 ∷ 0 ∷ 0 ∷ 0 ∷ [] → ns ≡ foundOf offset (readSites s)
     unfolding next after foundOf
     unread e k = let r : readSites s ≡ none = rw e at step in k ∙ rw r
 
-  pub ended : length s ≤ i → numbersOf site ≡ foundOf offset (readSites s)
+  pub ended : length s ≤ p .at → numbersOf site ≡ foundOf offset (readSites s)
   unfolding after foundOf
   ended h =
-      let e : drop i s ≡ [] = drop-of-length-le s h in
-      let d : readSitesF (g .fuel) (drop i s) ≡ some [] = rw e (sites-done (g .fuel) (omega (arith, g .enough, g .inside))) in
+      let e : drop (p .at) s ≡ [] = drop-of-length-le s h in
+      let d : readSitesF (g .fuel) (drop (p .at) s) ≡ some [] = rw e (sites-done (g .fuel) (omega (arith, g .enough, g .inside))) in
       let r : readSites s ≡ some (g .before) = g .same ∙ rw (d, append-nil (g .before)) in
       g .here ∙ rw r

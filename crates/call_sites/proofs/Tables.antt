@@ -2,22 +2,24 @@
 use mathlib.Core.Path.{_≡_, refl, sym, ap, _∙_}
 use Prim.Native.Nat.{ℕ, zero, suc, _+_, _-_, _≤_, _<_}
 use native.Mathlib.Omega.{arith}
-use mathlib.Core.Bool.{Bool, true, false, _&&_}
+use mathlib.Core.Bool.{Bool, true, false, _&&_, and-true}
 use mathlib.Core.Option.{Option, none, some}
 use mathlib.Core.List.{List, [], _∷_, _++_}
 use lib.Dec.{eqb}
 use lib.ListN.{length, getD, take, drop, length-drop, drop-of-length-le}
 use lib.Seq.{drop-cons, drop-drop}
 use Rattle.format.specs.Prelude.{pick, next, good, onward, orElse, first}
-use Rattle.format.specs.declared.Unsigned.the-variants as value
+use Rattle.operations.specs.declared.fields.Position.{Position}
+use Rattle.operations.specs.declared.fields.Unsigned.the-variants as value
 use Rattle.format.specs.Lists.{Landing}
 use Rattle.format.specs.Reader.{readMany, readCounted}
 use Rattle.format.specs.Answers.{bit}
-use Rattle.format.specs.Shortest.{unsigned, readMark, marked, numbersShort, everyShortF, everyShort}
+use Rattle.format.specs.Leb.{uleb}
+use Rattle.format.specs.Shortest.{unsigned, shortest, readMark, marked, numbersShort, everyShortF, everyShort}
 use Rattle.format.specs.CallSiteReader.{headOk, readSites, readTable, sitesAt, covers, siteAt, entriesShort, sitesShort, siteNumbers, answerNumbers, siteMark, markedSite}
 use Rattle.format.proofs.Choice.{if-le, if-gt}
-use Rattle.format.proofs.Positions.{ulebAt}
-use Rattle.format.proofs.PositionLaws.{uleb-ahead, uleb-rest, uleb-none}
+use Rattle.operations.specs.Positions.{past, ulebAt, from}
+use Rattle.operations.proofs.PositionLaws.{uleb-ahead, uleb-rest, uleb-past, uleb-none}
 use Rattle.call_sites.specs.declared.Site.{Site}
 use Rattle.call_sites.specs.Reads.{TableThere, numbersOf, foundOf}
 
@@ -54,25 +56,25 @@ module _ (s : List ℕ) (p : ℕ) where
       unfolding pick
       counted-next = rw f at (by-head e)
 
-      pub no-size : ulebAt s (p + 3) ≡ value.Bad → readTable (drop p s) ≡ none
+      pub no-size : ulebAt s (from (p + 3)) ≡ value.Bad → readTable (drop p s) ≡ none
       unfolding readCounted next
-      no-size n = counted-next ∙ rw (uleb-none s (p + 3) n)
+      no-size n = counted-next ∙ rw (uleb-none s (from (p + 3)) n)
 
-      module _ {n q : ℕ} (v : ulebAt s (p + 3) ≡ value.Value n q) where
-        pub past-end : length s - q < n → readTable (drop p s) ≡ none
+      module _ {n : ℕ} {q : Position} (v : ulebAt s (from (p + 3)) ≡ value.Value n q) where
+        pub past-end : length s - q .at < n → readTable (drop p s) ≡ none
         unfolding readCounted readMany next
-        past-end l = let m : length (drop q s) < n = omega (arith, length-drop q s) in counted-next ∙ rw (uleb-rest s (p + 3) v, if-gt n (length (drop q s)))
+        past-end l = let m : length (drop (q .at) s) < n = omega (arith, length-drop (q .at) s) in counted-next ∙ rw (uleb-rest s (from (p + 3)) v, if-gt n (length (drop (q .at) s)))
 
-        pub table-there : n ≤ length s - q → TableThere s p q (q + n)
+        pub table-there : n ≤ length s - q .at → TableThere s p (q .at) (q .at + n)
         unfolding readCounted readMany next
         table-there l =
-            let m : n ≤ length (drop q s) = omega (arith, length-drop q s) in
-            let z : q + n - q ≡ n = omega arith in
+            let m : n ≤ length (drop (q .at) s) = omega (arith, length-drop (q .at) s) in
+            let z : q .at + n - q .at ≡ n = omega arith in
             record {
-              behind = uleb-ahead s (p + 3) v .0;
+              behind = uleb-ahead s (from (p + 3)) v .0;
               ordered = omega arith;
-              inside = omega (arith, uleb-ahead s (p + 3) v .1);
-              reads = counted-next ∙ rw (z, uleb-rest s (p + 3) v, if-le n (length (drop q s)));
+              inside = omega (arith, uleb-ahead s (from (p + 3)) v .1);
+              reads = counted-next ∙ rw (z, uleb-rest s (from (p + 3)) v, if-le n (length (drop (q .at) s)));
             }
 
 -- ---- the answer
@@ -110,33 +112,48 @@ table-answers s p offset {at = at} {q = q} site {b = b} t h e k =
 
 -- ---- the mark
 
+module _ (s : List ℕ) (p : Position) where
+  mark-none : ulebAt s p ≡ value.Bad → readMark unsigned (drop (p .at) s) ≡ none
+  unfolding readMark shortest next
+  mark-none e = rw (uleb-none s p e)
+
+  -- the position past a number has its mark where every number in front of it is shortest
+  mark-some : {v : ℕ} {q : Position} → p .shortest ≡ true → ulebAt s p ≡ value.Value v q → readMark unsigned (drop (p .at) s) ≡ some (q .shortest, drop (q .at) s)
+  unfolding readMark shortest next numbersShort marked past
+  mark-some {v} {q} t e =
+      let b : Bool = eqb (length (drop (p .at) s) - length (drop (q .at) s)) (length (uleb v)) in
+      let m : readMark unsigned (drop (p .at) s) ≡ some (b, drop (q .at) s) = rw (uleb-rest s p e) in
+      let k : q .shortest ≡ b = rw (t, m, and-true b) at (ap (λ (x : Position). x .shortest) (sym (uleb-past s p e .is))) in
+      rw (m, k)
+
 module _ {s : List ℕ} {p at q : ℕ} (t : TableThere s p at q) where
   table-mark : sitesShort s p ≡ marked (readMark unsigned (drop (p + 3) s)) (λ rest. true) && everyShort (take (q - at) (drop at s))
   unfolding sitesShort entriesShort numbersShort
   table-mark = let e : drop 3 (drop p s) ≡ drop (p + 3) s = drop-drop 3 p s in rw (t .reads, e)
 
-  pub size-unread : readMark unsigned (drop (p + 3) s) ≡ none → false ≡ sitesShort s p
+  pub size-unread : ulebAt s (from (p + 3)) ≡ value.Bad → false ≡ sitesShort s p
   unfolding marked
-  size-unread e = sym (table-mark ∙ rw e)
+  size-unread e = sym (table-mark ∙ rw (mark-none s (from (p + 3)) e))
 
-  module _ {b : Bool} {rest : List ℕ} (e : readMark unsigned (drop (p + 3) s) ≡ some (b, rest)) where
-    pub size-long : b ≡ false → false ≡ sitesShort s p
+  module _ {n : ℕ} {r : Position} (e : ulebAt s (from (p + 3)) ≡ value.Value n r) where
+    pub size-long : r .shortest ≡ false → false ≡ sitesShort s p
     unfolding marked
-    size-long f = sym (table-mark ∙ rw (e, f))
+    size-long f = sym (table-mark ∙ rw (mark-some s (from (p + 3)) refl e, f))
 
-    pub size-short : b ≡ true → everyShort (take (q - at) (drop at s)) ≡ sitesShort s p
+    pub size-short : r .shortest ≡ true → everyShort (take (q - at) (drop at s)) ≡ sitesShort s p
     unfolding marked
-    size-short f = sym (table-mark ∙ rw (e, f))
+    size-short f = sym (table-mark ∙ rw (mark-some s (from (p + 3)) refl e, f))
 
 -- what is left of the entries' numbers, with fuel that is enough
-pub record Left (s : List ℕ) (i : ℕ) : Type 0 where
+pub record Left (s : List ℕ) (p : Position) : Type 0 where
   fuel : ℕ
-  enough : length s ≤ fuel + i
-  rest : everyShort s ≡ everyShortF fuel (drop i s)
+  enough : length s ≤ fuel + p .at
+  before : p .shortest ≡ true
+  rest : everyShort s ≡ everyShortF fuel (drop (p .at) s)
 
-pub begin : (s : List ℕ) → Left s 0
+pub begin : (s : List ℕ) → Left s (from 0)
 unfolding everyShort
-begin s = record { fuel = length s; enough = omega arith; rest = refl }
+begin s = record { fuel = length s; enough = omega arith; before = refl; rest = refl }
 
 every-step : (f : ℕ) (bs : List ℕ) → 0 < f → 0 < length bs → everyShortF f bs ≡ marked (readMark unsigned bs) (everyShortF (f - 1))
 unfolding everyShortF
@@ -149,23 +166,28 @@ unfolding everyShortF
 every-done zero = refl
 every-done (suc f) = refl
 
-module _ {s : List ℕ} {i : ℕ} (g : Left s i) where
-  pub all-short : length s ≤ i → true ≡ everyShort s
+module _ {s : List ℕ} {p : Position} (g : Left s p) where
+  pub all-short : length s ≤ p .at → true ≡ everyShort s
   all-short h = sym (g .rest ∙ rw (drop-of-length-le s h) (every-done (g .fuel)))
 
-  module _ (h : i < length s) where
-    opened : everyShort s ≡ marked (readMark unsigned (drop i s)) (everyShortF (g .fuel - 1))
-    opened = g .rest ∙ every-step (g .fuel) (drop i s) (omega (arith, g .enough)) (omega (arith, length-drop i s))
+  module _ (h : p .at < length s) where
+    opened : everyShort s ≡ marked (readMark unsigned (drop (p .at) s)) (everyShortF (g .fuel - 1))
+    opened = g .rest ∙ every-step (g .fuel) (drop (p .at) s) (omega (arith, g .enough)) (omega (arith, length-drop (p .at) s))
 
-    pub number-unread : readMark unsigned (drop i s) ≡ none → false ≡ everyShort s
+    pub number-unread : ulebAt s p ≡ value.Bad → false ≡ everyShort s
     unfolding marked
-    number-unread e = sym (opened ∙ rw e)
+    number-unread e = sym (opened ∙ rw (mark-none s p e))
 
-    module _ {b : Bool} (past : ℕ) (e : readMark unsigned (drop i s) ≡ some (b, drop past s)) where
-      pub number-long : b ≡ false → false ≡ everyShort s
+    module _ {v : ℕ} {q : Position} (e : ulebAt s p ≡ value.Value v q) where
+      pub number-long : q .shortest ≡ false → false ≡ everyShort s
       unfolding marked
-      number-long f = sym (opened ∙ rw (e, f))
+      number-long f = sym (opened ∙ rw (mark-some s p (g .before) e, f))
 
-      pub number-short : b ≡ true → i < past → Left s past
+      pub number-short : q .shortest ≡ true → Left s q
       unfolding marked
-      number-short f l = record { fuel = g .fuel - 1; enough = omega (arith, g .enough); rest = opened ∙ rw (e, f) }
+      number-short f = record {
+        fuel = g .fuel - 1;
+        enough = omega (arith, g .enough, uleb-ahead s p e .0);
+        before = f;
+        rest = opened ∙ rw (mark-some s p (g .before) e, f);
+      }

@@ -9,6 +9,7 @@ use lib.ListN.{length, take, drop}
 use Rattle.format.specs.Prelude.{pick, first}
 use Rattle.format.specs.Lists.{Landing}
 use Rattle.format.specs.CallSiteReader.{siteOf, readSite, readTable, covers, siteNumbers}
+use Rattle.operations.specs.declared.fields.Position.{Position}
 use Rattle.call_sites.specs.declared.Entry.{Entry}
 use Rattle.call_sites.specs.declared.Entry.the-variants as entry
 use Rattle.call_sites.specs.declared.Site.{Site}
@@ -18,14 +19,14 @@ use Rattle.call_sites.specs.declared.Table.the-variants as table
 -- ---- one entry
 
 -- what stands at p is an entry, and q is the position past it
-pub record EntryThere (s : List ℕ) (p : ℕ) (l : Landing) (q : ℕ) : Type 0 where
-  pub ahead : p < q
-  pub inside : q ≤ length s
-  pub reads : readSite (drop p s) ≡ some (l, drop q s)
+pub record EntryThere (s : List ℕ) (p : Position) (l : Landing) (q : Position) : Type 0 where
+  pub ahead : p .at < q .at
+  pub inside : q .at ≤ length s
+  pub reads : readSite (drop (p .at) s) ≡ some (l, drop (q .at) s)
 
-abbrev pub EntrySays : List ℕ → ℕ → Entry → Type 0
+abbrev pub EntrySays : List ℕ → Position → Entry → Type 0
 EntrySays s p (entry.Site start size pad q) = EntryThere s p (siteOf start size pad) q
-EntrySays s p entry.Bad = readSite (drop p s) ≡ none
+EntrySays s p entry.Bad = readSite (drop (p .at) s) ≡ none
 
 -- ---- a table
 

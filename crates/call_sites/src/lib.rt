@@ -8,22 +8,21 @@ ghost use Rattle.format.specs.Answers.{bit};
 ghost use Rattle.format.specs.Shortest.{everyShort};
 ghost use Rattle.format.specs.CallSiteReader.{siteOf, covers, headOk, readSites, siteAt, sitesShort, markedSite};
 ghost use Rattle.call_sites.specs.Reads.{EntrySays, TableThere, TableSays, numbersOf, markedOf, keptOf, foundOf};
-use format::Unsigned;
 use numbers::encodings;
-use operations::fields::UnsignedSpelling;
+use operations::fields::Position;
+use operations::fields::Unsigned;
 use operations::fields::read_uleb;
-use operations::fields::uleb_spelling;
 
 // ---- one entry
 
 // The start, length and pad of an entry, and the position past it.
 pub enum Entry {
-    Site(u64, u64, u64, usize),
+    Site(u64, u64, u64, Position),
     Bad,
 }
 
 // The entry at a position. Its action, a number as well, is not looked at.
-fn entry_at(s: &[u8], at: usize) -> Entry
+fn entry_at(s: &[u8], at: Position) -> Entry
     ensures { λ r. ⌜ EntrySays (now (s .entry)) at r ⌝ }
 {
     let Unsigned::Value(start, sized) = read_uleb(s, at) else {
@@ -111,14 +110,14 @@ fn kept(before: Site, start: u64, length: u64, pad: u64, offset: u64) -> Site
 fn search(s: &[u8], offset: u64) -> Site
     ensures { λ r. ⌜ numbersOf r ≡ foundOf offset (readSites (now (s .entry))) ⌝ }
 {
-    let mut i = 0;
+    let mut at = Position::START;
     let mut site = refused(0);
-    while i < s.len() {
-        let Entry::Site(start, length, pad, past) = entry_at(s, i) else {
+    while at.at < s.len() {
+        let Entry::Site(start, length, pad, past) = entry_at(s, at) else {
             return refused(72);
         };
         site = kept(site, start, length, pad, offset);
-        i = past;
+        at = past;
     }
     site
 }
@@ -155,9 +154,14 @@ fn table_at(sites: &[u8], place: u64) -> Table
     if !head_ok(sites[p], sites[p + 1], sites[p + 2]) {
         return Table::Bad;
     }
-    let Unsigned::Value(n, at) = read_uleb(sites, p + 3) else {
+    let head = Position {
+        at: p + 3,
+        shortest: true,
+    };
+    let Unsigned::Value(n, counted) = read_uleb(sites, head) else {
         return Table::Bad;
     };
+    let at = counted.at;
     if size - at < n as usize {
         return Table::Bad;
     }
@@ -170,15 +174,15 @@ fn table_at(sites: &[u8], place: u64) -> Table
 fn every_short(s: &[u8]) -> bool
     ensures { λ r. ⌜ r ≡ everyShort (now (s .entry)) ⌝ }
 {
-    let mut i = 0;
-    while i < s.len() {
-        let UnsignedSpelling::Value(_, past, _, shortest) = uleb_spelling(s, i) else {
+    let mut at = Position::START;
+    while at.at < s.len() {
+        let Unsigned::Value(_, past) = read_uleb(s, at) else {
             return false;
         };
-        if !shortest {
+        if !past.shortest {
             return false;
         }
-        i = past;
+        at = past;
     }
     true
 }
@@ -188,10 +192,14 @@ fn table_short(sites: &[u8], place: u64, at: usize, past: usize) -> bool
     requires { ⌜ TableThere (now sites) place at past ⌝ }
     ensures { λ r. ⌜ r ≡ sitesShort (now (sites .entry)) place ⌝ }
 {
-    let UnsignedSpelling::Value(_, _, _, shortest) = uleb_spelling(sites, place as usize + 3) else {
+    let head = Position {
+        at: place as usize + 3,
+        shortest: true,
+    };
+    let Unsigned::Value(_, counted) = read_uleb(sites, head) else {
         return false;
     };
-    if !shortest {
+    if !counted.shortest {
         return false;
     }
     every_short(&sites[at..past])

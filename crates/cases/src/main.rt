@@ -5,9 +5,10 @@ ghost use lib.ListN.{length};
 ghost use Rattle.cases.specs.Total.{total};
 use format::Counts;
 use format::Outcome;
-use format::Unsigned;
 use libc::STDIN_FILENO;
 use libc::STDOUT_FILENO;
+use operations::fields::Position;
+use operations::fields::Unsigned;
 use operations::fields::read_le;
 use operations::fields::read_uleb;
 
@@ -92,9 +93,9 @@ fn list(part: &[u64], k: u64) -> &[u64] {
 fn decode(s: &[u8], numbers: &mut [u64]) -> usize
     ensures { λ r. ⌜ r ≤ length (now (numbers .exit)) ⌝ }
 {
-    let mut at = 0;
+    let mut at = Position::START;
     let mut k = 0;
-    while at < s.len() {
+    while at.at < s.len() {
         if numbers.len() <= k {
             return 0;
         }
@@ -323,7 +324,7 @@ fn block(index: u64, size: usize) -> Step
 fn next(index: u64) -> Step {
     let mut head = [0u8; 4];
     let n = io::read_full(STDIN_FILENO, &mut head);
-    let Unsigned::Value(size, _) = read_le(&head[..n], 0, 4) else {
+    let Unsigned::Value(size, _) = read_le(&head[..n], Position::START, 4) else {
         return broken(index);
     };
     if size == 0 {

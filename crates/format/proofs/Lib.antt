@@ -27,9 +27,6 @@ pub mod Asked
 pub mod Accepted
 pub mod Wrote
 pub mod PutLaws
-pub mod Positions
-pub mod PositionLaws
-pub mod OperationLaws
 pub mod Storing
 pub mod SameKey
 pub mod Leading

@@ -172,29 +172,11 @@ pub enum Section {
     Debug,
 }
 
-// An unsigned LEB number and the position past it.
-pub enum Unsigned {
-    Value(u64, usize),
-    Bad,
-}
-
-// A signed LEB number and the position past it.
-pub enum Signed {
-    Value(i64, usize),
-    Bad,
-}
-
 // An operation of an unwind table: padding, a step, or a row.
 pub enum Operation {
     Nop,
     Step(u64),
     Does(Row),
-}
-
-// An operation and the position past it.
-pub enum Decoded {
-    Operation(Operation, usize),
-    Bad,
 }
 
 // A question answered by no: its number and the function's position.

@@ -1,12 +1,13 @@
 // Runs the leaves over numbers around their boundaries, and prints a line for each. The file stdout is what differential/leaves.py
 // makes of the same numbers without Rattle.
 ghost use Prim.Native.Nat.{_<_};
-use format::Decoded;
 use format::Operation;
 use format::Row;
-use format::Signed;
-use format::Unsigned;
 use libc::STDOUT_FILENO;
+use operations::Decoded;
+use operations::fields::Position;
+use operations::fields::Signed;
+use operations::fields::Unsigned;
 use operations::fields::read_sleb;
 use operations::fields::read_uleb;
 
@@ -90,10 +91,10 @@ fn written(s: &[u8], size: usize) {
 
 // The end of a line: what is read, and the place past it.
 fn read_unsigned(s: &[u8]) {
-    match read_uleb(s, 0) {
+    match read_uleb(s, Position::START) {
         Unsigned::Value(v, next) => {
             number(v);
-            number(next as u64);
+            number(next.at as u64);
         }
         Unsigned::Bad => {
             io::write_all(STDOUT_FILENO, b" bad");
@@ -103,10 +104,10 @@ fn read_unsigned(s: &[u8]) {
 }
 
 fn read_signed(s: &[u8]) {
-    match read_sleb(s, 0) {
+    match read_sleb(s, Position::START) {
         Signed::Value(v, next) => {
             signed_number(v);
-            number(next as u64);
+            number(next.at as u64);
         }
         Signed::Bad => {
             io::write_all(STDOUT_FILENO, b" bad");
@@ -149,10 +150,10 @@ fn print_operation(op: Operation) {
 }
 
 fn read_operation(s: &[u8]) {
-    match operations::operation(s, 0, WORD) {
+    match operations::operation(s, Position::START, WORD) {
         Decoded::Operation(op, next) => {
             print_operation(op);
-            number(next as u64);
+            number(next.at as u64);
         }
         Decoded::Bad => {
             io::write_all(STDOUT_FILENO, b" bad");

@@ -12,6 +12,7 @@ use Rattle.format.specs.declared.Rules.{Rules}
 use Rattle.format.specs.Rules.{State, blank, rulesFor}
 use Rattle.format.proofs.Choice.{if-ne}
 use Rattle.format.proofs.Wrote.{Wrote}
+use Rattle.operations.specs.declared.fields.Position.{Position}
 use Rattle.reader.specs.OneRegister as one
 use Rattle.reader.specs.Spans.{part}
 use Rattle.reader.specs.States.{Room, runOf, storedOf}
@@ -108,7 +109,7 @@ module _ {word q : ℕ} {s : List ℕ} {x y u v : ℕ} {old : List ℕ} where
   module _ {whole : Lines} {out : List ℕ} {rules : Rules} {stored : List Rules} {depth i loc left from to : ℕ}
       (b : Between whole word q s x y u v old out rules stored depth i loc left from to) where
     pub enter : (left ≡ 0 → ⊥)
-        → Inside whole (eqb left 2) word q (rules .rule) (part s from to) (remaining word (part s x y) (part s u v) (left - 1)) (v - u) out out rules stored depth i loc 0
+        → Inside whole (eqb left 2) word q (rules .rule) (part s from to) (remaining word (part s x y) (part s u v) (left - 1)) (v - u) out out rules stored depth i loc (record { at = 0; shortest = true })
     unfolding runOf rulesFor one.at
     enter n =
         let l : 0 < left = omega arith in
@@ -124,7 +125,7 @@ module _ {word q : ℕ} {s : List ℕ} {x y u v : ℕ} {old : List ℕ} where
           room = rw p (omega (arith, b .room, enter-room left s (part s x y) u v l (b .high)));
         }
 
-    module _ {initial : Rule} {ops out′ : List ℕ} {rules′ : Rules} {stored′ : List Rules} {depth′ j loc′ at : ℕ}
+    module _ {initial : Rule} {ops out′ : List ℕ} {rules′ : Rules} {stored′ : List Rules} {depth′ j loc′ : ℕ} {at : Position}
         (n : Inside whole (eqb left 2) word q initial ops (remaining word (part s x y) (part s u v) (left - 1)) (v - u) out out′ rules′ stored′ depth′ j loc′ at)
         (c : left ≡ 0 → ⊥) (f : u ≤ v) (g : v ≤ length s) where
       -- an entry is done
@@ -143,7 +144,7 @@ module _ {word q : ℕ} {s : List ℕ} {x y u v : ℕ} {old : List ℕ} where
             all = n .all;
             seen = n .seen;
             lines = stored-joined (b .lines) t;
-            room = omega (arith, n .room, leave-room left (v - u) (length ops - at) (omega arith) (b .high));
+            room = omega (arith, n .room, leave-room left (v - u) (length ops - at .at) (omega arith) (b .high));
           }
 
       -- a step past every offset ends the record

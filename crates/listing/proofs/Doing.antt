@@ -13,13 +13,14 @@ use Rattle.format.specs.declared.Rule.{Rule}
 use Rattle.format.specs.declared.Rules.{Rules}
 use Rattle.format.specs.declared.Operation.{Operation}
 use Rattle.format.specs.declared.Operation.the-variants.{Nop, Step, Does}
-use Rattle.format.specs.declared.Decoded.the-variants as decoded
+use Rattle.operations.specs.declared.fields.Position.{Position}
+use Rattle.operations.specs.declared.Decoded.the-variants as decoded
 use Rattle.format.specs.Rows.{readOperation}
 use Rattle.format.specs.Rules.{State, act, rulesFor}
-use Rattle.format.proofs.Positions.{operationAt}
+use Rattle.operations.specs.Positions.{operationAt}
 use Rattle.format.proofs.Choice.{if-le, if-gt, if-eq, if-ne}
-use Rattle.format.proofs.PositionLaws.{Takes, nothing, taken}
-use Rattle.format.proofs.OperationLaws.{takes-operation, operation-ahead, operation-rest, operation-none}
+use Rattle.operations.proofs.PositionLaws.{Takes, nothing, taken}
+use Rattle.operations.proofs.OperationLaws.{takes-operation, operation-ahead, operation-rest, operation-none}
 use Rattle.format.proofs.Wrote.{Wrote}
 use Rattle.reader.specs.OneRegister as one
 use Rattle.reader.specs.States.{Room, runOf}
@@ -86,17 +87,17 @@ unfolding pick
 less-room true more a b h = le-refl _
 less-room false more a b h = h
 
-pub record Inside (whole : Lines) (header : Bool) (word q : ℕ) (initial : Rule) (ops : List ℕ) (k : ℕ → State → Lines) (more : ℕ) (old out : List ℕ) (rules : Rules) (stored : List Rules) (depth i loc at : ℕ) : Type 0 where
+pub record Inside (whole : Lines) (header : Bool) (word q : ℕ) (initial : Rule) (ops : List ℕ) (k : ℕ → State → Lines) (more : ℕ) (old out : List ℕ) (rules : Rules) (stored : List Rules) (depth i loc : ℕ) (at : Position) : Type 0 where
   pub near : loc ≤ highest
   pub held : Room depth stored
   pub first : ℕ → Rule
   pub first-is : first q ≡ initial
   pub all : State
   pub seen : one.at q all ≡ runOf (state rules stored depth)
-  pub lines : LinesStored q whole (listing header word first k loc all (drop at ops)) old out i
-  pub room : i + 7 * (pick header more (length ops - at) + 1) ≤ length out
+  pub lines : LinesStored q whole (listing header word first k loc all (drop (at .at) ops)) old out i
+  pub room : i + 7 * (pick header more (length ops - at .at) + 1) ≤ length out
 
-module _ {whole : Lines} {header : Bool} {word q : ℕ} {initial : Rule} {ops : List ℕ} {k : ℕ → State → Lines} {more : ℕ} {old out : List ℕ} {rules : Rules} {stored : List Rules} {depth i loc at : ℕ}
+module _ {whole : Lines} {header : Bool} {word q : ℕ} {initial : Rule} {ops : List ℕ} {k : ℕ → State → Lines} {more : ℕ} {old out : List ℕ} {rules : Rules} {stored : List Rules} {depth i loc : ℕ} {at : Position}
     (n : Inside whole header word q initial ops k more old out rules stored depth i loc at) where
   -- the rules that hold are those that the code keeps
   rules-kept : rulesFor q (n .all .current) ≡ rules
@@ -104,30 +105,30 @@ module _ {whole : Lines} {header : Bool} {word q : ℕ} {initial : Rule} {ops : 
   rules-kept = ap (λ (r : one.Run). r .current) (n .seen)
 
   -- 66: an operation that cannot be read
-  pub bad-operation : at < length ops → operationAt word ops at ≡ decoded.Bad → LinesStored q whole (ended loc 66) old out i
+  pub bad-operation : at .at < length ops → operationAt word ops at ≡ decoded.Bad → LinesStored q whole (ended loc 66) old out i
   bad-operation h e =
-      rw (unread header word (n .first) k (drop at ops) loc (n .all) (operation-none word ops at e) (omega (arith, length-drop at ops))) at (n .lines)
+      rw (unread header word (n .first) k (drop (at .at) ops) loc (n .all) (operation-none word ops at e) (omega (arith, length-drop (at .at) ops))) at (n .lines)
 
   -- past the last operation
-  pub all-done : length ops ≤ at → LinesStored q whole (k loc (n .all)) old out i
+  pub all-done : length ops ≤ at .at → LinesStored q whole (k loc (n .all)) old out i
   unfolding linesF
   all-done h = rw (drop-of-length-le ops h) at (n .lines)
 
-  module _ {op : Operation} {next : ℕ} (e : operationAt word ops at ≡ decoded.Operation op next) where
-    opened : LinesStored q whole (doing header (n .first) op loc (n .all) λ m u. listing header word (n .first) k m u (drop next ops)) old out i
+  module _ {op : Operation} {next : Position} (e : operationAt word ops at ≡ decoded.Operation op next) where
+    opened : LinesStored q whole (doing header (n .first) op loc (n .all) λ m u. listing header word (n .first) k m u (drop (next .at) ops)) old out i
     opened =
         rw
-        (reading header word (n .first) k (drop at ops) (drop next ops) op loc (n .all) (operation-rest word ops at e)
-        (omega (arith, length-drop at ops, length-drop next ops, operation-ahead word ops at e)))
+        (reading header word (n .first) k (drop (at .at) ops) (drop (next .at) ops) op loc (n .all) (operation-rest word ops at e)
+        (omega (arith, length-drop (at .at) ops, length-drop (next .at) ops, operation-ahead word ops at e)))
         at
         (n .lines)
 
     -- less is left
-    pub shorter : length ops - next < length ops - at
+    pub shorter : length ops - next .at < length ops - at .at
     shorter = omega (arith, operation-ahead word ops at e)
 
-    room-left : i + 7 * (pick header more (length ops - next) + 1) ≤ length out
-    room-left = omega (arith, n .room, less-room header more (length ops - next) (length ops - at) (omega (arith, shorter)))
+    room-left : i + 7 * (pick header more (length ops - next .at) + 1) ≤ length out
+    room-left = omega (arith, n .room, less-room header more (length ops - next .at) (length ops - at .at) (omega (arith, shorter)))
 
     pub padding : op ≡ Nop → Inside whole header word q initial ops k more old out rules stored depth i loc next
     unfolding doing
@@ -141,9 +142,9 @@ module _ {whole : Lines} {header : Bool} {word q : ℕ} {initial : Rule} {ops : 
       bad-step h = rw (o, h) at opened
 
       module _ (h : header ≡ false) where
-        stepped : LinesStored q whole (stepping false d loc (n .all) λ m u. listing header word (n .first) k m u (drop next ops)) old out i
+        stepped : LinesStored q whole (stepping false d loc (n .all) λ m u. listing header word (n .first) k m u (drop (next .at) ops)) old out i
         unfolding doing
-        stepped = rw (ap (λ (b : Bool). stepping b d loc (n .all) λ m u. listing header word (n .first) k m u (drop next ops)) (sym h)) (rw o at opened)
+        stepped = rw (ap (λ (b : Bool). stepping b d loc (n .all) λ m u. listing header word (n .first) k m u (drop (next .at) ops)) (sym h)) (rw o at opened)
 
         pub no-step : d ≡ 0 → Inside whole header word q initial ops k more old out rules stored depth i loc next
         unfolding stepping pick
@@ -155,7 +156,7 @@ module _ {whole : Lines} {header : Bool} {word q : ℕ} {initial : Rule} {ops : 
               first-is = n .first-is;
               all = n .all;
               seen = n .seen;
-              lines = rw (if-eq d 0 (listing header word (n .first) k loc (n .all) (drop next ops)) _ z) at stepped;
+              lines = rw (if-eq d 0 (listing header word (n .first) k loc (n .all) (drop (next .at) ops)) _ z) at stepped;
               room = room-left;
             }
 
@@ -165,22 +166,22 @@ module _ {whole : Lines} {header : Bool} {word q : ℕ} {initial : Rule} {ops : 
           unfolding stepping pick
           far-step l =
               let g : highest < loc + d = omega (arith, n .near) in
-              rw (if-ne d 0 (listing header word (n .first) k loc (n .all) (drop next ops)) _ z, if-gt (loc + d) highest _ (last loc (n .all)) g) at stepped
+              rw (if-ne d 0 (listing header word (n .first) k loc (n .all) (drop (next .at) ops)) _ z, if-gt (loc + d) highest _ (last loc (n .all)) g) at stepped
 
-          near-line : d ≤ highest - loc → LinesStored q whole (line loc (n .all) (listing header word (n .first) k (loc + d) (n .all) (drop next ops))) old out i
+          near-line : d ≤ highest - loc → LinesStored q whole (line loc (n .all) (listing header word (n .first) k (loc + d) (n .all) (drop (next .at) ops))) old out i
           unfolding stepping pick
           near-line l =
               let g : loc + d ≤ highest = omega (arith, n .near) in
-              rw (if-ne d 0 (listing header word (n .first) k loc (n .all) (drop next ops)) _ z, if-le (loc + d) highest _ (last loc (n .all)) g) at stepped
+              rw (if-ne d 0 (listing header word (n .first) k loc (n .all) (drop (next .at) ops)) _ z, if-le (loc + d) highest _ (last loc (n .all)) g) at stepped
 
           pub line-room : i + 7 ≤ length out
           line-room = omega (arith, n .room)
 
           room-behind : {out′ : List ℕ} {j : ℕ} → Wrote out out′ i j (lineNumbers loc rules) → length out′ ≡ length out
-              → j + 7 * (pick header more (length ops - next) + 1) ≤ length out′
+              → j + 7 * (pick header more (length ops - next .at) + 1) ≤ length out′
           unfolding pick
           room-behind w g =
-              let a : i + 7 * (length ops - at + 1) ≤ length out = rw h at (n .room) in rw h (omega (arith, a, g, w .past, line-length loc rules, shorter))
+              let a : i + 7 * (length ops - at .at + 1) ≤ length out = rw h at (n .room) in rw h (omega (arith, a, g, w .past, line-length loc rules, shorter))
 
           pub near-step : d ≤ highest - loc → {out′ : List ℕ} {j : ℕ} → Wrote out out′ i j (lineNumbers loc rules) → length out′ ≡ length out
               → Inside whole header word q initial ops k more old out′ rules stored depth j (loc + d) next

@@ -13,12 +13,13 @@ ghost use Rattle.listing.specs.Lines.{linesOf, lineNumbers, Lists};
 ghost use Rattle.listing.specs.Changes.{stackUse, cfaIs, ruleIs, offsetIs, registerIs, changed, Changes};
 use crate::Listed;
 use format::CfaRule;
-use format::Decoded;
 use format::Operation;
 use format::Reading;
 use format::Row;
 use format::Rule;
 use format::Rules;
+use operations::Decoded;
+use operations::fields::Position;
 
 // The largest offset.
 const HIGHEST: u64 = 0xffffffffffffffff;
@@ -221,8 +222,8 @@ pub fn fill(
         left -= 1;
         from = record;
         to = record_end;
-        let mut at = 0;
-        'operations: while at < ops.len() {
+        let mut at = Position::START;
+        'operations: while at.at < ops.len() {
             let Decoded::Operation(op, next) = operations::operation(ops, at, word) else {
                 return listed(i, 66, loc);
             };

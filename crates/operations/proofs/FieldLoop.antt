@@ -1,5 +1,6 @@
 -- The loop that reads a field from its end: what it knows at each turn, and the fields that are not there.
 use mathlib.Core.Path.{_≡_, refl}
+use mathlib.Core.Bool.{Bool, and-true}
 use mathlib.Core.Option.{none, some}
 use mathlib.Core.List.{List, [], _∷_}
 use Prim.Native.Nat.{ℕ, zero, suc, _+_, _-_, _*_, _^_, _≤_, _<_}
@@ -10,8 +11,9 @@ use lib.ListN.{length, getD, drop, length-drop}
 use lib.Seq.{drop-cons}
 use Rattle.format.specs.Prelude.{next}
 use Rattle.format.specs.Leb.{readLittle}
-use Rattle.format.proofs.Positions.{unsignedFrom, littleAt}
-use Rattle.format.specs.declared.Unsigned.the-variants.{Value, Bad}
+use Rattle.operations.specs.declared.fields.Position.{Position}
+use Rattle.operations.specs.declared.fields.Unsigned.the-variants.{Value, Bad}
+use Rattle.operations.specs.Positions.{past, unsignedFrom, littleAt}
 
 -- ---- the loop
 
@@ -53,13 +55,14 @@ module _ {s : List ℕ} {p n left acc : ℕ} (c : Reading s p n left acc) where
           same = rw (one-more, drop-cons s (p + (left - 1)) 0, ← e, a, c .same, v);
         }
 
-  pub ended : left ≡ 0 → Value acc (p + n) ≡ littleAt n s p
-  unfolding littleAt unsignedFrom
-  ended z =
+  -- the mark is as it was
+  pub ended : (m : Bool) → left ≡ 0 → Value acc (record { at = p + n; shortest = m }) ≡ littleAt n s (record { at = p; shortest = m })
+  unfolding littleAt unsignedFrom past
+  ended m z =
       let a : n - left ≡ n = omega arith in
       let d : p + left ≡ p = omega arith in
       let f : length s - length (drop (p + n) s) ≡ p + n = omega (arith, length-drop (p + n) s, c .inside) in
-      rw (rw (a, d) at (c .same), f)
+      rw (rw (a, d) at (c .same), f, and-true m)
 
 -- ---- fields that are not there
 
@@ -69,11 +72,13 @@ short zero bs h = absurd (omega arith)
 short (suc k) [] h = refl
 short (suc k) (b ∷ bs) h = rw (short k bs (omega arith))
 
-pub missing : (s : List ℕ) (p n : ℕ) → length s - p < n → Bad ≡ littleAt n s p
+pub missing : (s : List ℕ) (p : Position) (n : ℕ) → length s - p .at < n → Bad ≡ littleAt n s p
 unfolding littleAt unsignedFrom
-missing s p n h = rw (short n (drop p s) (omega (arith, length-drop p s)))
+missing s p n h = rw (short n (drop (p .at) s) (omega (arith, length-drop (p .at) s)))
 
 -- a field of no bytes past the end
-pub nothing : (s : List ℕ) (p n : ℕ) → n ≡ 0 → length s < p → Value 0 (length s) ≡ littleAt n s p
-unfolding littleAt unsignedFrom readLittle
-nothing s p n e h = let f : length s - length (drop p s) ≡ length s = omega (arith, length-drop p s) in rw (e, f)
+pub nothing : (s : List ℕ) (p : Position) (n : ℕ) → n ≡ 0 → length s < p .at → Value 0 (record { at = length s; shortest = p .shortest }) ≡ littleAt n s p
+unfolding littleAt unsignedFrom readLittle past
+nothing s p n e h =
+    let f : length s - length (drop (p .at) s) ≡ length s = omega (arith, length-drop (p .at) s) in
+    rw (e, f, and-true (p .shortest))

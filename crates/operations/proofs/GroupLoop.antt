@@ -132,6 +132,7 @@ pub record Reading (s : List ℕ) (p i k scale acc : ℕ) : Type 0 where
   pub few : k ≤ 9
   pub scaled : scale ≡ 128 ^ k
   pub below : acc < scale
+  pub reached : p ≤ i
   unsigned : readUlebF 10 (drop p s) ≡ over (λ v. v * scale + acc) (readUlebF (10 - k) (drop i s))
   signed : readSlebF 10 (drop p s) ≡ over (under scale acc) (readSlebF (10 - k) (drop i s))
 
@@ -140,6 +141,7 @@ start s p = record {
   few = omega arith;
   scaled = refl;
   below = omega arith;
+  reached = omega arith;
   unsigned = all-left unsigned-groups s p;
   signed = all-left signed-groups s p;
 }
@@ -155,6 +157,7 @@ module _ {s : List ℕ} {p i k scale acc : ℕ} (c : Reading s p i k scale acc) 
       scaled = c .scaled;
       below = c .below;
       last = l;
+      ahead = omega (arith, c .reached);
       inside = omega arith;
       unsigned = at-last unsigned-groups s p i k scale acc (c .few) (c .unsigned) b e h l;
       signed = at-last signed-groups s p i k scale acc (c .few) (c .signed) b e h l;
@@ -168,6 +171,7 @@ module _ {s : List ℕ} {p i k scale acc : ℕ} (c : Reading s p i k scale acc) 
       few = omega arith;
       scaled = rw (c .scaled, add-one k) (omega arith);
       below = omega (arith, digits-lt {q = b - 128} {m = 128} {r = acc} {c = scale} (omega arith) (c .below));
+      reached = omega (arith, c .reached);
       unsigned = one-less unsigned-groups s p i k scale acc (c .few) (c .unsigned) b e h (c .below) l u;
       signed = one-less signed-groups s p i k scale acc (c .few) (c .signed) b e h (c .below) l u;
     }

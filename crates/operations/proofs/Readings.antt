@@ -1,26 +1,28 @@
 -- What the readers of LEB numbers make of the bytes that last_byte found.
 use mathlib.Core.Path.{_≡_, refl}
-use mathlib.Core.Bool.{Bool, true, false}
+use mathlib.Core.Bool.{Bool, true, false, and-true}
 use mathlib.Core.Logic.{_≢_}
-use mathlib.Core.Option.{none}
-use mathlib.Core.List.{List}
+use mathlib.Core.Option.{none, some}
+use mathlib.Core.List.{List, [], _∷_}
 use Prim.Native.Nat.{ℕ, suc, _+_, _-_, _*_, _^_, _≤_, _<_}
 use native.Mathlib.Nat.{mul-le-mul-right}
 use native.Mathlib.Omega.{arith}
 use lib.Arith.{digits-lt}
-use lib.Dec.{ltb}
+use lib.Dec.{ltb, eqb}
 use lib.IntN.{ℤ}
 use mir.Syntax.{w64}
 use mir.Val.{ofZ, toZ}
 use mir.Facts.{toZ-ofZ}
 use lib.ListN.{length, drop, length-drop}
 use Rattle.format.specs.Prelude.{next}
-use Rattle.format.specs.Leb.{readUlebF, readUleb, last7, readSlebF, fits64, readSleb}
-use Rattle.format.proofs.Positions.{unsignedFrom, signedFrom, ulebAt, slebAt}
-use Rattle.format.specs.declared.Unsigned.the-variants as unsigned
-use Rattle.format.specs.declared.Signed.the-variants as signed
+use Rattle.format.specs.Leb.{uleb, sleb, readUlebF, readUleb, last7, readSlebF, fits64, readSleb}
+use Rattle.format.specs.Shortest.{unsigned, signed as signedNumber, shortest, readMark, marked, numbersShort}
+use Rattle.operations.specs.declared.fields.Position.{Position}
+use Rattle.operations.specs.declared.fields.Unsigned.the-variants as unsignedCase
+use Rattle.operations.specs.declared.fields.Signed.the-variants as signedCase
+use Rattle.operations.specs.Positions.{past, unsignedFrom, signedFrom, ulebAt, slebAt}
 use Rattle.format.proofs.Choice.{if-le, if-gt, either}
-use Rattle.operations.specs.Signs.{signed, held, under}
+use Rattle.operations.specs.Signs.{signed, spelledTo, held, under}
 use Rattle.operations.specs.Groups.{Found}
 use Rattle.operations.proofs.Signs.{signed-fits}
 use Rattle.operations.proofs.GroupLoop.{scale-below, scale-full}
@@ -42,7 +44,20 @@ module _ (k scale top low : ℕ) (e : scale ≡ 128 ^ k) (l : low < scale) where
 past-drop : (s : List ℕ) (q : ℕ) → q ≤ length s → length s - length (drop q s) ≡ q
 past-drop s q h = omega (arith, length-drop q s)
 
-pub uleb-missing : (s : List ℕ) (p : ℕ) → readUlebF 10 (drop p s) ≡ none → unsigned.Bad ≡ ulebAt s p
+taken-drop : (s : List ℕ) (p q : ℕ) → p ≤ q → q ≤ length s → length (drop p s) - length (drop q s) ≡ q - p
+taken-drop s p q l h = omega (arith, length-drop p s, length-drop q s)
+
+-- the mark of a number that was read
+module _ (s : List ℕ) (p q : ℕ) (l : p ≤ q) (h : q ≤ length s) where
+  unsigned-short : {v : ℕ} → readUleb (drop p s) ≡ some (v, drop q s) → numbersShort (unsigned ∷ []) (drop p s) ≡ eqb (q - p) (length (uleb v))
+  unfolding numbersShort marked readMark shortest next
+  unsigned-short {v} e = rw (e, taken-drop s p q l h) (and-true (eqb (q - p) (length (uleb v))))
+
+  signed-short : {z : ℤ} → readSleb (drop p s) ≡ some (z, drop q s) → numbersShort (signedNumber ∷ []) (drop p s) ≡ eqb (q - p) (length (sleb z))
+  unfolding numbersShort marked readMark shortest next
+  signed-short {z} e = rw (e, taken-drop s p q l h) (and-true (eqb (q - p) (length (sleb z))))
+
+pub uleb-missing : (s : List ℕ) (p : Position) → readUlebF 10 (drop (p .at) s) ≡ none → unsignedCase.Bad ≡ ulebAt s p
 unfolding ulebAt readUleb next unsignedFrom
 uleb-missing s p e = rw e
 
@@ -53,11 +68,19 @@ module _ {s : List ℕ} {p b k scale acc q : ℕ} (c : Found s p b k scale acc q
   pub uleb-tenth : k ≡ 9 → b < 2 → b * scale + acc < 2 ^ 64
   uleb-tenth h l = fits-tenth k scale b acc (c .scaled) (c .below) 2 h l
 
-  pub uleb-value : b * scale + acc < 2 ^ 64 → unsigned.Value (b * scale + acc) q ≡ ulebAt s p
-  unfolding ulebAt readUleb next unsignedFrom
-  uleb-value h = rw (c .unsigned, if-le (suc (b * scale + acc)) (2 ^ 64), past-drop s q (c .inside))
+module _ {s : List ℕ} (p : Position) {b k scale acc q : ℕ} (c : Found s (p .at) b k scale acc q) where
+  uleb-read : b * scale + acc < 2 ^ 64 → readUleb (drop (p .at) s) ≡ some (b * scale + acc, drop q s)
+  unfolding readUleb next
+  uleb-read h = rw (c .unsigned, if-le (suc (b * scale + acc)) (2 ^ 64))
 
-  pub uleb-over : k ≡ 9 → 2 ≤ b → unsigned.Bad ≡ ulebAt s p
+  pub uleb-value : b * scale + acc < 2 ^ 64
+      → unsignedCase.Value (b * scale + acc) (past p (eqb (q - p .at) (length (uleb (b * scale + acc)))) q) ≡ ulebAt s p
+  unfolding ulebAt unsignedFrom
+  uleb-value h =
+      let e = uleb-read h in
+      rw (unsigned-short s (p .at) q (omega (arith, c .ahead)) (c .inside) e, e, past-drop s q (c .inside))
+
+  pub uleb-over : k ≡ 9 → 2 ≤ b → unsignedCase.Bad ≡ ulebAt s p
   unfolding ulebAt readUleb next unsignedFrom
   uleb-over h l =
       let m : 2 ^ 64 < suc (b * scale + acc) = omega (arith, past-tenth k scale b acc (c .scaled) (c .below) 2 h l) in
@@ -65,17 +88,18 @@ module _ {s : List ℕ} {p b k scale acc q : ℕ} (c : Found s p b k scale acc q
 
 -- ---- signed
 
-pub sleb-missing : (s : List ℕ) (p : ℕ) → readSlebF 10 (drop p s) ≡ none → signed.Bad ≡ slebAt s p
+pub sleb-missing : (s : List ℕ) (p : Position) → readSlebF 10 (drop (p .at) s) ≡ none → signedCase.Bad ≡ slebAt s p
 unfolding slebAt readSleb next signedFrom
 sleb-missing s p e = rw e
 
-pub held-over : (neg : Bool) (n q : ℕ) → 2 ^ 63 ≤ n → signed.Bad ≡ held neg n q
-unfolding held
-held-over neg n q h = let m : 2 ^ 63 < suc n = omega arith in rw (if-gt (suc n) (2 ^ 63))
+module _ (neg : Bool) (n : ℕ) (p : Position) (q : ℕ) where
+  pub held-over : 2 ^ 63 ≤ n → signedCase.Bad ≡ held neg n p q
+  unfolding held
+  held-over h = let m : 2 ^ 63 < suc n = omega arith in rw (if-gt (suc n) (2 ^ 63))
 
-pub held-value : (neg : Bool) (n q : ℕ) {z : ℤ} → z ≡ signed neg n → n < 2 ^ 63 → signed.Value (toZ w64 (ofZ w64 z)) q ≡ held neg n q
-unfolding held
-held-value neg n q e h = rw (e, toZ-ofZ (signed-fits neg n h), if-le (suc n) (2 ^ 63))
+  pub held-value : {z : ℤ} → z ≡ signed neg n → n < 2 ^ 63 → spelledTo (toZ w64 (ofZ w64 z)) p q ≡ held neg n p q
+  unfolding held
+  held-value e h = rw (e, toZ-ofZ (signed-fits neg n h), if-le (suc n) (2 ^ 63))
 
 -- no bits on top
 pub alone : (top scale low : ℕ) → top ≡ 0 → low ≡ top * scale + low
@@ -95,16 +119,27 @@ high-group : (scale acc b : ℕ) → 64 ≤ b → under scale acc (last7 b) ≡ 
 unfolding under last7 signed
 high-group scale acc b h = let m : 64 < suc b = omega arith in rw (if-gt (suc b) 64)
 
-module _ {s : List ℕ} {p b k scale acc q : ℕ} (c : Found s p b k scale acc q) where
-  sleb-held : (neg : Bool) (n : ℕ) → under scale acc (last7 b) ≡ signed neg n → held neg n q ≡ slebAt s p
-  unfolding held slebAt readSleb next signedFrom
-  sleb-held neg n e =
-      rw (c .signed, e, fits-by-sign neg n)
-      (either (suc n) (2 ^ 63) (λ l. rw (if-le (suc n) (2 ^ 63) (signed.Value (signed neg n) q), if-le (suc n) (2 ^ 63), past-drop s q (c .inside)))
-      (λ g. rw (if-gt (suc n) (2 ^ 63) (signed.Value (signed neg n) q), if-gt (suc n) (2 ^ 63))))
+module _ {s : List ℕ} (p : Position) {b k scale acc q : ℕ} (c : Found s (p .at) b k scale acc q) where
+  module _ (neg : Bool) (n : ℕ) (e : under scale acc (last7 b) ≡ signed neg n) where
+    sleb-read : n < 2 ^ 63 → readSleb (drop (p .at) s) ≡ some (signed neg n, drop q s)
+    unfolding readSleb next
+    sleb-read l = rw (c .signed, e, fits-by-sign neg n, if-le (suc n) (2 ^ 63))
 
-  pub sleb-plain : b < 64 → held false (b * scale + acc) q ≡ slebAt s p
+    sleb-over : 2 ^ 63 ≤ n → readSleb (drop (p .at) s) ≡ none
+    unfolding readSleb next
+    sleb-over l = let m : 2 ^ 63 < suc n = omega arith in rw (c .signed, e, fits-by-sign neg n, if-gt (suc n) (2 ^ 63))
+
+    sleb-held : held neg n p q ≡ slebAt s p
+    unfolding held slebAt signedFrom spelledTo
+    sleb-held =
+        either (suc n) (2 ^ 63)
+        (λ l.
+        let r = sleb-read (omega arith) in
+        rw (if-le (suc n) (2 ^ 63) (signedCase.Value (signed neg n) (past p (eqb (q - p .at) (length (sleb (signed neg n)))) q)), signed-short s (p .at) q (omega (arith, c .ahead)) (c .inside) r, r, past-drop s q (c .inside)))
+        (λ g. rw (if-gt (suc n) (2 ^ 63) (signedCase.Value (signed neg n) (past p (eqb (q - p .at) (length (sleb (signed neg n)))) q)), sleb-over (omega arith)))
+
+  pub sleb-plain : b < 64 → held false (b * scale + acc) p q ≡ slebAt s p
   sleb-plain h = sleb-held false (b * scale + acc) (low-group scale acc b h)
 
-  pub sleb-turned : 64 ≤ b → held true ((127 - b) * scale + (scale - 1 - acc)) q ≡ slebAt s p
+  pub sleb-turned : 64 ≤ b → held true ((127 - b) * scale + (scale - 1 - acc)) p q ≡ slebAt s p
   sleb-turned h = sleb-held true ((127 - b) * scale + (scale - 1 - acc)) (high-group scale acc b h)

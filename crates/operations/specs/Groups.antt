@@ -15,6 +15,7 @@ pub record Found (s : List ℕ) (p b k scale acc q : ℕ) : Type 0 where
   pub scaled : scale ≡ 128 ^ k
   pub below : acc < scale
   pub last : b < 128
+  pub ahead : p < q
   pub inside : q ≤ length s
   pub unsigned : readUlebF 10 (drop p s) ≡ some (b * scale + acc, drop q s)
   pub signed : readSlebF 10 (drop p s) ≡ some (under scale acc (last7 b), drop q s)

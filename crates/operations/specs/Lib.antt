@@ -1,5 +1,5 @@
 -- What the readers of numbers and operations find at a place.
+pub mod Positions
 pub mod Signs
 pub mod Groups
-pub mod Spellings
 pub mod Reads

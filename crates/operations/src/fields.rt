@@ -1,12 +1,39 @@
-// Numbers read out of a slice: LEB numbers, how they are spelled, and fields of a fixed width.
+// Numbers read out of a slice: LEB numbers, with whether they are spelled shortest, and fields of a fixed width. Each reading leaf takes a
+// position by value and gives the position past what it read.
 ghost use mathlib.Core.Path.{_≡_};
-ghost use Prim.Native.Nat.{_+_, _*_, _^_, _≤_, _<_};
-ghost use Rattle.format.proofs.Positions.{ulebAt, slebAt, littleAt};
-ghost use Rattle.operations.specs.Signs.{signed, held};
+ghost use Prim.Native.Nat.{_+_, _-_, _*_, _^_, _≤_, _<_};
+ghost use lib.Dec.{eqb};
+ghost use lib.ListN.{length};
+ghost use Rattle.format.specs.Leb.{uleb};
+ghost use Rattle.operations.specs.declared.fields.Unsigned.the-variants.{Value};
+ghost use Rattle.operations.specs.Positions.{ulebAt, slebAt, littleAt, past};
+ghost use Rattle.operations.specs.Signs.{signed, spelledTo, held};
 ghost use Rattle.operations.specs.Groups.{GroupsAt};
-ghost use Rattle.operations.specs.Spellings.{SpellsUnsigned, SpellsSigned};
-use format::Signed;
-use format::Unsigned;
+
+// Where the next number stands, and whether every LEB number in front of it that was read is spelled shortest.
+pub struct Position {
+    pub at: usize,
+    pub shortest: bool,
+}
+
+impl Position {
+    // Where nothing was read yet.
+    pub const START: Position = Position {
+        at: 0,
+        shortest: true,
+    };
+}
+
+// A number that was read, and the position past it.
+pub enum Unsigned {
+    Value(u64, Position),
+    Bad,
+}
+
+pub enum Signed {
+    Value(i64, Position),
+    Bad,
+}
 
 // A LEB number's last byte, the count of the groups before it, the scale that they stand below, what they make, and the place past the number.
 enum Groups {
@@ -38,20 +65,45 @@ fn last_byte(s: &[u8], at: usize) -> Groups
     Groups::Bad
 }
 
+// The position `end`, past a number from `at` on that `size` bytes would hold.
+fn past(at: Position, end: usize, size: usize) -> Position
+    requires { ⌜ at .at ≤ end ⌝ }
+    ensures { λ r. ⌜ r ≡ past at (eqb (end - at .at) size) end ⌝ }
+{
+    if end - at.at == size {
+        return Position {
+            at: end,
+            shortest: at.shortest,
+        };
+    }
+    Position {
+        at: end,
+        shortest: false,
+    }
+}
+
+// A number that was read, from `at` to `end`.
+fn unsigned_value(v: u64, at: Position, end: usize) -> Unsigned
+    requires { ⌜ at .at ≤ end ⌝ }
+    ensures { λ r. ⌜ r ≡ Value v (past at (eqb (end - at .at) (length (uleb v))) end) ⌝ }
+{
+    Unsigned::Value(v, past(at, end, leb::uleb_size(v)))
+}
+
 // The unsigned LEB number at `at`, of ten bytes at most and below 2^64.
-pub fn read_uleb(s: &[u8], at: usize) -> Unsigned
+pub fn read_uleb(s: &[u8], at: Position) -> Unsigned
     ensures { λ r. ⌜ r ≡ ulebAt (now (s .entry)) at ⌝ }
 {
-    let Groups::Last(b, k, scale, acc, past) = last_byte(s, at) else {
+    let Groups::Last(b, k, scale, acc, end) = last_byte(s, at.at) else {
         return Unsigned::Bad;
     };
     if k == 9 {
         if b < 2 {
-            return Unsigned::Value(b * scale + acc, past);
+            return unsigned_value(b * scale + acc, at, end);
         }
         return Unsigned::Bad;
     }
-    Unsigned::Value(b * scale + acc, past)
+    unsigned_value(b * scale + acc, at, end)
 }
 
 // m, or -(m + 1) where neg is true.
@@ -62,86 +114,83 @@ fn signed_of(neg: bool, m: u64) -> i64
     if neg { -1 - (m as i64) } else { m as i64 }
 }
 
+// A number that was read, from `at` to `end`.
+fn signed_value(v: i64, at: Position, end: usize) -> Signed
+    requires { ⌜ at .at ≤ end ⌝ }
+    ensures { λ r. ⌜ r ≡ spelledTo v at end ⌝ }
+{
+    Signed::Value(v, past(at, end, leb::sleb_size(v)))
+}
+
 // What is read where the last group is `top` and the k groups before it make `low`: the tenth byte holds a sign alone.
-fn signed_past(neg: bool, top: u64, k: u64, scale: u64, low: u64, past: usize) -> Signed
-    requires { ⌜ (k ≤ 9) × (scale ≡ 128 ^ k) × (top < 64) × (low < scale) ⌝ }
-    ensures { λ r. ⌜ r ≡ held neg (top * scale + low) past ⌝ }
+fn signed_past(
+    neg: bool,
+    top: u64,
+    k: u64,
+    scale: u64,
+    low: u64,
+    at: Position,
+    end: usize,
+) -> Signed
+    requires { ⌜ (k ≤ 9) × (scale ≡ 128 ^ k) × (top < 64) × (low < scale) × (at .at ≤ end) ⌝ }
+    ensures { λ r. ⌜ r ≡ held neg (top * scale + low) at end ⌝ }
 {
     if k == 9 {
         if 0 < top {
             return Signed::Bad;
         }
-        return Signed::Value(signed_of(neg, low), past);
+        return signed_value(signed_of(neg, low), at, end);
     }
-    Signed::Value(signed_of(neg, top * scale + low), past)
+    signed_value(signed_of(neg, top * scale + low), at, end)
 }
 
 // The signed LEB number at `at`, of ten bytes at most and of 64 bits.
-pub fn read_sleb(s: &[u8], at: usize) -> Signed
+pub fn read_sleb(s: &[u8], at: Position) -> Signed
     ensures { λ r. ⌜ r ≡ slebAt (now (s .entry)) at ⌝ }
 {
-    let Groups::Last(b, k, scale, acc, past) = last_byte(s, at) else {
+    let Groups::Last(b, k, scale, acc, end) = last_byte(s, at.at) else {
         return Signed::Bad;
     };
     if b < 64 {
-        return signed_past(false, b, k, scale, acc, past);
+        return signed_past(false, b, k, scale, acc, at, end);
     }
-    signed_past(true, 127 - b, k, scale, scale - 1 - acc, past)
-}
-
-// A number that was read, the place past it, the bytes that it takes, and whether no spelling of it takes fewer.
-pub enum UnsignedSpelling {
-    Value(u64, usize, usize, bool),
-    Bad,
-}
-
-pub enum SignedSpelling {
-    Value(i64, usize, usize, bool),
-    Bad,
-}
-
-// The unsigned LEB number at `at`, and how it is spelled.
-pub fn uleb_spelling(s: &[u8], at: usize) -> UnsignedSpelling
-    ensures { λ r. ⌜ SpellsUnsigned (now (s .entry)) at r ⌝ }
-{
-    let Unsigned::Value(v, past) = read_uleb(s, at) else {
-        return UnsignedSpelling::Bad;
-    };
-    let taken = past - at;
-    UnsignedSpelling::Value(v, past, taken, taken == leb::uleb_size(v))
-}
-
-// The signed LEB number at `at`, and how it is spelled.
-pub fn sleb_spelling(s: &[u8], at: usize) -> SignedSpelling
-    ensures { λ r. ⌜ SpellsSigned (now (s .entry)) at r ⌝ }
-{
-    let Signed::Value(v, past) = read_sleb(s, at) else {
-        return SignedSpelling::Bad;
-    };
-    let taken = past - at;
-    SignedSpelling::Value(v, past, taken, taken == leb::sleb_size(v))
+    signed_past(true, 127 - b, k, scale, scale - 1 - acc, at, end)
 }
 
 // The field of n bytes at `at`, the lowest first: it is read from its end.
-pub fn read_le(s: &[u8], at: usize, n: usize) -> Unsigned
+pub fn read_le(s: &[u8], at: Position, n: usize) -> Unsigned
     requires { ⌜ n ≤ 8 ⌝ }
     ensures { λ r. ⌜ r ≡ littleAt n (now (s .entry)) at ⌝ }
 {
-    if s.len() < at {
+    let from = at.at;
+    let shortest = at.shortest;
+    if s.len() < from {
         if n == 0 {
-            return Unsigned::Value(0, s.len());
+            return Unsigned::Value(
+                0,
+                Position {
+                    at: s.len(),
+                    shortest,
+                },
+            );
         }
         return Unsigned::Bad;
     }
-    if s.len() - at < n {
+    if s.len() - from < n {
         return Unsigned::Bad;
     }
     let mut left = n;
     let mut acc = 0u64;
     while 0 < left {
         left -= 1;
-        let b = leb::wide(s[at + left]);
+        let b = leb::wide(s[from + left]);
         acc = acc * 256 + b;
     }
-    Unsigned::Value(acc, at + n)
+    Unsigned::Value(
+        acc,
+        Position {
+            at: from + n,
+            shortest,
+        },
+    )
 }

@@ -1,28 +1,34 @@
 // Operations read out of a slice: an opcode's operands, by the numbers that the module fields reads, and the row or the step that they
-// make. Each leaf takes a slice and a place and gives the place past what it read.
+// make.
 ghost use mathlib.Core.Path.{_≡_};
 ghost use Prim.Native.Nat.{_*_, _≤_, _<_};
 ghost use lib.ListN.{length};
 ghost use lib.IntN.{pos};
 ghost use Rattle.format.specs.Rows.{unfactor};
-ghost use Rattle.format.proofs.Positions.{operationAt};
+ghost use Rattle.operations.specs.Positions.{operationAt};
 ghost use Rattle.operations.specs.Reads.{registerAt, plainAt, factoredAt, signedAt, held, operandAt, registerRow, pairRow, stepAt, registerRowAt, offsetRowAt, pairRowAt, inRegisterAt, savedAt, extendedAt};
+use crate::fields::Position;
+use crate::fields::Signed;
+use crate::fields::Unsigned;
 use crate::fields::read_le;
 use crate::fields::read_sleb;
 use crate::fields::read_uleb;
-use format::Decoded;
 use format::Operation;
 use format::Row;
-use format::Signed;
-use format::Unsigned;
 use numbers::opcodes;
 
 pub mod fields;
 
+// An operation that was read, and the position past it.
+pub enum Decoded {
+    Operation(Operation, Position),
+    Bad,
+}
+
 // ---- an operand read
 
 // A register, to 65,535.
-fn register_at(s: &[u8], at: usize) -> Unsigned
+fn register_at(s: &[u8], at: Position) -> Unsigned
     ensures { λ r. ⌜ r ≡ registerAt (now (s .entry)) at ⌝ }
 {
     let Unsigned::Value(v, past) = read_uleb(s, at) else {
@@ -35,7 +41,7 @@ fn register_at(s: &[u8], at: usize) -> Unsigned
 }
 
 // An offset as it stands.
-fn plain_at(s: &[u8], at: usize) -> Signed
+fn plain_at(s: &[u8], at: Position) -> Signed
     ensures { λ r. ⌜ r ≡ plainAt (now (s .entry)) at ⌝ }
 {
     let Unsigned::Value(v, past) = read_uleb(s, at) else {
@@ -48,7 +54,7 @@ fn plain_at(s: &[u8], at: usize) -> Signed
 }
 
 // An offset v words below the frame address, where 64 bits hold it.
-fn words_below(word: u64, v: u64, past: usize) -> Signed
+fn words_below(word: u64, v: u64, past: Position) -> Signed
     requires { ⌜ 0 < word ⌝ }
     ensures { λ r. ⌜ r ≡ held (unfactor word (pos v)) past ⌝ }
 {
@@ -62,7 +68,7 @@ fn words_below(word: u64, v: u64, past: usize) -> Signed
 }
 
 // An offset m words above it.
-fn words_above(word: u64, m: u64, past: usize) -> Signed
+fn words_above(word: u64, m: u64, past: Position) -> Signed
     requires { ⌜ 0 < word ⌝ }
     ensures { λ r. ⌜ r ≡ held (pos (m * word)) past ⌝ }
 {
@@ -73,7 +79,7 @@ fn words_above(word: u64, m: u64, past: usize) -> Signed
 }
 
 // A factored offset, unsigned.
-fn factored_at(s: &[u8], at: usize, word: u64) -> Signed
+fn factored_at(s: &[u8], at: Position, word: u64) -> Signed
     requires { ⌜ 0 < word ⌝ }
     ensures { λ r. ⌜ r ≡ factoredAt word (now (s .entry)) at ⌝ }
 {
@@ -84,7 +90,7 @@ fn factored_at(s: &[u8], at: usize, word: u64) -> Signed
 }
 
 // A factored offset, signed.
-fn signed_at(s: &[u8], at: usize, word: u64) -> Signed
+fn signed_at(s: &[u8], at: Position, word: u64) -> Signed
     requires { ⌜ 0 < word ⌝ }
     ensures { λ r. ⌜ r ≡ signedAt word (now (s .entry)) at ⌝ }
 {
@@ -98,7 +104,7 @@ fn signed_at(s: &[u8], at: usize, word: u64) -> Signed
 }
 
 // The offset behind opcode b.
-fn operand_at(s: &[u8], at: usize, word: u64, b: u8) -> Signed
+fn operand_at(s: &[u8], at: Position, word: u64, b: u8) -> Signed
     requires { ⌜ 0 < word ⌝ }
     ensures { λ r. ⌜ r ≡ operandAt word b (now (s .entry)) at ⌝ }
 {
@@ -145,7 +151,7 @@ fn pair_row(b: u8, reg: u16, z: i64) -> Row
 }
 
 // A step whose operand has n bytes.
-fn step_at(s: &[u8], at: usize, n: usize) -> Decoded
+fn step_at(s: &[u8], at: Position, n: usize) -> Decoded
     requires { ⌜ (0 < n) × (n ≤ 8) ⌝ }
     ensures { λ r. ⌜ r ≡ stepAt n (now (s .entry)) at ⌝ }
 {
@@ -156,7 +162,7 @@ fn step_at(s: &[u8], at: usize, n: usize) -> Decoded
 }
 
 // Opcode b with a register.
-fn register_row_at(s: &[u8], at: usize, b: u8) -> Decoded
+fn register_row_at(s: &[u8], at: Position, b: u8) -> Decoded
     ensures { λ r. ⌜ r ≡ registerRowAt b (now (s .entry)) at ⌝ }
 {
     let Unsigned::Value(reg, past) = register_at(s, at) else {
@@ -166,7 +172,7 @@ fn register_row_at(s: &[u8], at: usize, b: u8) -> Decoded
 }
 
 // Opcode b with an offset.
-fn offset_row_at(s: &[u8], at: usize, word: u64, b: u8) -> Decoded
+fn offset_row_at(s: &[u8], at: Position, word: u64, b: u8) -> Decoded
     requires { ⌜ 0 < word ⌝ }
     ensures { λ r. ⌜ r ≡ offsetRowAt word b (now (s .entry)) at ⌝ }
 {
@@ -177,7 +183,7 @@ fn offset_row_at(s: &[u8], at: usize, word: u64, b: u8) -> Decoded
 }
 
 // Opcode b with a register and an offset.
-fn pair_row_at(s: &[u8], at: usize, word: u64, b: u8) -> Decoded
+fn pair_row_at(s: &[u8], at: Position, word: u64, b: u8) -> Decoded
     requires { ⌜ 0 < word ⌝ }
     ensures { λ r. ⌜ r ≡ pairRowAt word b (now (s .entry)) at ⌝ }
 {
@@ -191,7 +197,7 @@ fn pair_row_at(s: &[u8], at: usize, word: u64, b: u8) -> Decoded
 }
 
 // Two registers: the second holds the value of the first.
-fn in_register_at(s: &[u8], at: usize) -> Decoded
+fn in_register_at(s: &[u8], at: Position) -> Decoded
     ensures { λ r. ⌜ r ≡ inRegisterAt (now (s .entry)) at ⌝ }
 {
     let Unsigned::Value(reg, next) = register_at(s, at) else {
@@ -207,7 +213,7 @@ fn in_register_at(s: &[u8], at: usize) -> Decoded
 }
 
 // A saved register whose number was in the opcode.
-fn saved_at(s: &[u8], at: usize, word: u64, reg: u16) -> Decoded
+fn saved_at(s: &[u8], at: Position, word: u64, reg: u16) -> Decoded
     requires { ⌜ 0 < word ⌝ }
     ensures { λ r. ⌜ r ≡ savedAt word reg (now (s .entry)) at ⌝ }
 {
@@ -218,8 +224,8 @@ fn saved_at(s: &[u8], at: usize, word: u64, reg: u16) -> Decoded
 }
 
 // The operations whose opcode b holds no number, behind it.
-fn extended_at(s: &[u8], at: usize, word: u64, b: u8) -> Decoded
-    requires { ⌜ (0 < word) × (at ≤ length (now s)) ⌝ }
+fn extended_at(s: &[u8], at: Position, word: u64, b: u8) -> Decoded
+    requires { ⌜ (0 < word) × (at .at ≤ length (now s)) ⌝ }
     ensures { λ r. ⌜ r ≡ extendedAt word b (now (s .entry)) at ⌝ }
 {
     match b {
@@ -252,28 +258,33 @@ fn extended_at(s: &[u8], at: usize, word: u64, b: u8) -> Decoded
 }
 
 // The operation at a position.
-pub fn operation(s: &[u8], at: usize, word: u64) -> Decoded
+pub fn operation(s: &[u8], at: Position, word: u64) -> Decoded
     requires { ⌜ 0 < word ⌝ }
     ensures { λ r. ⌜ r ≡ operationAt word (now (s .entry)) at ⌝ }
 {
-    if s.len() <= at {
+    let from = at.at;
+    if s.len() <= from {
         return Decoded::Bad;
     }
-    let b = s[at];
+    let b = s[from];
+    let behind = Position {
+        at: from + 1,
+        shortest: at.shortest,
+    };
     if b < opcodes::DW_CFA_ADVANCE_LOC {
-        return extended_at(s, at + 1, word, b);
+        return extended_at(s, behind, word, b);
     }
     if b < opcodes::DW_CFA_OFFSET {
         return Decoded::Operation(
             Operation::Step((b - opcodes::DW_CFA_ADVANCE_LOC) as u64),
-            at + 1,
+            behind,
         );
     }
     if b < opcodes::DW_CFA_RESTORE {
-        return saved_at(s, at + 1, word, (b - opcodes::DW_CFA_OFFSET) as u16);
+        return saved_at(s, behind, word, (b - opcodes::DW_CFA_OFFSET) as u16);
     }
     Decoded::Operation(
         Operation::Does(Row::Restore((b - opcodes::DW_CFA_RESTORE) as u16)),
-        at + 1,
+        behind,
     )
 }

@@ -3,7 +3,7 @@ use mathlib.Core.Path.{_≡_, refl, sym, ap, subst, _∙_}
 use Prim.Native.Nat.{ℕ, zero, suc, _+_, _-_, _≤_, _<_}
 use native.Mathlib.Omega.{arith}
 use native.Mathlib.Numerals.{add-one}
-use mathlib.Core.Bool.{Bool, true, false, not, _&&_}
+use mathlib.Core.Bool.{Bool, true, false, not, and-false}
 use mathlib.Core.List.{List}
 use borrow.Author.Tests.{eq-eqb, ne-eqb}
 use lib.Dec.{T, eqb}
@@ -24,10 +24,6 @@ both false p q = subst T (sym p) tt
 
 pub no-of : {b : Bool} → b ≡ false → T (not b)
 no-of e = subst (λ b. T (not b)) (sym e) tt
-
-second-no : (b : Bool) → b && false ≡ false
-second-no true = refl
-second-no false = refl
 
 -- ---- the first
 
@@ -176,7 +172,7 @@ module _ (s : Section) (m : Machine) (fs rows : List ℕ) where
 
   pub held-not : (size h j : ℕ) → (slotAt s m fs rows size j ≡ h → ⊥) → heldIn s m fs rows size h j ≡ false
   unfolding heldIn
-  held-not size h j e = rw (ne-eqb _ _ e) (second-no (eqb (owner s m fs rows j) j))
+  held-not size h j e = rw (ne-eqb _ _ e) (and-false (eqb (owner s m fs rows j) j))
 
   pub not-owner : (size h j : ℕ) → (owner s m fs rows j ≡ j → ⊥) → heldIn s m fs rows size h j ≡ false
   unfolding heldIn

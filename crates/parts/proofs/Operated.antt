@@ -14,10 +14,11 @@ use Rattle.format.specs.Machine.{isWord}
 use Rattle.format.specs.Rows.{readOperation}
 use Rattle.format.specs.declared.Operation.{Operation}
 use Rattle.format.specs.declared.Operation.the-variants.{Nop, Step, Does}
-use Rattle.format.specs.declared.Decoded.{Decoded}
-use Rattle.format.specs.declared.Decoded.the-variants as decoded
-use Rattle.format.proofs.Positions.{decodedFrom, operationAt}
-use Rattle.format.proofs.OperationLaws.{operation-ahead, operation-rest}
+use Rattle.operations.specs.declared.fields.Position.{Position}
+use Rattle.operations.specs.declared.Decoded.{Decoded}
+use Rattle.operations.specs.declared.Decoded.the-variants as decoded
+use Rattle.operations.specs.Positions.{past, decodedFrom, operationAt, from}
+use Rattle.operations.proofs.OperationLaws.{operation-ahead, operation-rest}
 use Rattle.reader.specs.Spans.{part}
 use Rattle.reader.proofs.Whole.{drop-part}
 use Rattle.parts.specs.Operations.{noOperation, operationNumbers, decodedNumbers, operationFrom, readOperationAt}
@@ -26,17 +27,17 @@ use Rattle.parts.specs.declared.operation.OperationRead.{OperationRead}
 -- ---- an operation by the code's answer
 
 unfoldable pub answered : (at opcode : ℕ) → Decoded → OperationRead
-answered at opcode (decoded.Operation op past) = operationNumbers op (at + past) opcode
+answered at opcode (decoded.Operation op past) = operationNumbers op (at + past .at) opcode
 answered at opcode decoded.Bad = noOperation 66 at opcode
 
-by-answer : (at size opcode : ℕ) (r : Read Operation) → decodedNumbers at size opcode r ≡ answered at opcode (decodedFrom size r)
-unfolding decodedNumbers answered decodedFrom
-by-answer at size opcode none = refl
-by-answer at size opcode (some x) = refl
+by-answer : (p : Position) (b : Bool) (at size opcode : ℕ) (r : Read Operation) → decodedNumbers at size opcode r ≡ answered at opcode (decodedFrom p b size r)
+unfolding decodedNumbers answered decodedFrom past
+by-answer p b at size opcode none = refl
+by-answer p b at size opcode (some x) = refl
 
-pub operation-from : (word at : ℕ) (bs : List ℕ) → operationFrom word at bs ≡ answered at (getD bs 0 0) (operationAt word bs 0)
+pub operation-from : (word at : ℕ) (bs : List ℕ) → operationFrom word at bs ≡ answered at (getD bs 0 0) (operationAt word bs (from 0))
 unfolding operationFrom operationAt
-operation-from word at bs = by-answer at (length bs) (getD bs 0 0) (readOperation word bs)
+operation-from word at bs = by-answer (from 0) _ at (length bs) (getD bs 0 0) (readOperation word bs)
 
 -- ---- the range
 
@@ -91,12 +92,12 @@ goes-next (Step n) q opcode h k e = (h, k)
 goes-next (Does row) q opcode h k e = (h, k)
 
 module _ (section : List ℕ) (at end word : ℕ) where
-  goes-decoded : (d : Decoded) → operationAt word (part section at end) 0 ≡ d → (opcode : ℕ) → Goes at end (answered at opcode d)
+  goes-decoded : (d : Decoded) → operationAt word (part section at end) (from 0) ≡ d → (opcode : ℕ) → Goes at end (answered at opcode d)
   unfolding answered
   goes-decoded decoded.Bad s opcode = goes-not 66 opcode (omega arith)
   goes-decoded (decoded.Operation op q) s opcode =
-      let a = operation-ahead word (part section at end) 0 s in
-      goes-next op (at + q) opcode (omega (arith, a .0)) (omega (arith, a .0, a .1, length-take (end - at) (drop at section)))
+      let a = operation-ahead word (part section at end) (from 0) s in
+      goes-next op (at + q .at) opcode (omega (arith, a .0)) (omega (arith, a .0, a .1, length-take (end - at) (drop at section)))
 
   pub operation-goes : Goes at end (readOperationAt section at end word)
   unfolding readOperationAt
@@ -107,6 +108,6 @@ module _ (section : List ℕ) (at end word : ℕ) where
       (goes-pick (leb at end && leb end (length section)) _ _ (goes-decoded _ refl _) (goes-not 66 0 (omega arith)))) (goes-not 11 0 (omega arith)))
 
   -- what the reader reads there, and what it leaves
-  pub operation-reads : {op : Operation} {q : ℕ} → operationAt word (part section at end) 0 ≡ decoded.Operation op q
-      → readOperation word (part section at end) ≡ some (op, part section (at + q) end)
-  operation-reads {q = q} s = operation-rest word (part section at end) 0 s ∙ rw (drop-part section at end q)
+  pub operation-reads : {op : Operation} {q : Position} → operationAt word (part section at end) (from 0) ≡ decoded.Operation op q
+      → readOperation word (part section at end) ≡ some (op, part section (at + q .at) end)
+  operation-reads {q = q} s = operation-rest word (part section at end) (from 0) s ∙ rw (drop-part section at end (q .at))

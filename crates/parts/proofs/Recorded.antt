@@ -10,9 +10,10 @@ use lib.ListN.{length, drop}
 use Rattle.format.specs.Prelude.{pick, Result, bad, onward, orElse}
 use Rattle.format.specs.Machine.{isWord}
 use Rattle.format.specs.Reader.{recordTail}
-use Rattle.format.specs.declared.Unsigned.the-variants as unsigned
-use Rattle.format.proofs.Positions.{ulebAt, littleAt}
-use Rattle.format.proofs.PositionLaws.{uleb-ahead, uleb-rest, uleb-none, little-ahead, little-rest, little-none}
+use Rattle.operations.specs.declared.fields.Position.{Position}
+use Rattle.operations.specs.declared.fields.Unsigned.the-variants as unsigned
+use Rattle.operations.specs.Positions.{ulebAt, littleAt, from}
+use Rattle.operations.proofs.PositionLaws.{uleb-ahead, uleb-rest, uleb-none, little-ahead, little-rest, little-none}
 use Rattle.reader.specs.Fields.{Recording, Records}
 use Rattle.reader.specs.declared.fields.Record.{Record}
 use Rattle.reader.specs.declared.fields.Record.the-variants as row
@@ -24,9 +25,9 @@ use Rattle.parts.proofs.Entered.{left, byHeader, ByEntry}
 
 -- ---- the pointer to call sites
 
-module _ (s : List ℕ) (base p : ℕ) (debug : Bool) (pointer : ℕ) where
+module _ (s : List ℕ) (base : ℕ) (p : Position) (debug : Bool) (pointer : ℕ) where
   abbrev sites : ℕ
-  sites = callSites debug pointer (base + length s) (drop p s)
+  sites = callSites debug pointer (base + length s) (drop (p .at) s)
 
   pub sites-debug : debug ≡ true → sites ≡ 0
   unfolding callSites pick
@@ -42,24 +43,24 @@ module _ (s : List ℕ) (base p : ℕ) (debug : Bool) (pointer : ℕ) where
       unfolding callSites restFrom pick
       sites-bad e = rw (d, ne-eqb pointer 0 n, uleb-none s p e)
 
-      pub sites-there : {v q : ℕ} → ulebAt s p ≡ unsigned.Value v q → sites ≡ base + q
+      pub sites-there : {v : ℕ} {q : Position} → ulebAt s p ≡ unsigned.Value v q → sites ≡ base + q .at
       unfolding callSites restFrom pick
-      sites-there {q = q} e = rw (d, ne-eqb pointer 0 n, uleb-rest s p e) (left s base q (uleb-ahead s p e .1))
+      sites-there {q = q} e = rw (d, ne-eqb pointer 0 n, uleb-rest s p e) (left s base (q .at) (uleb-ahead s p e .1))
 
 -- ---- the augmentation data, and the operations behind it
 
-module _ (s : List ℕ) (base p : ℕ) (debug : Bool) (pointer header function size : ℕ) where
+module _ (s : List ℕ) (base : ℕ) (p : Position) (debug : Bool) (pointer header function size : ℕ) where
   abbrev behind : RecordRead
-  behind = recordNumbers debug pointer (base + length s) (recordRest debug pointer header function size (drop p s))
+  behind = recordNumbers debug pointer (base + length s) (recordRest debug pointer header function size (drop (p .at) s))
 
-  module _ {r : Record} (m : Records s r (recordTail debug pointer size (drop p s))) where
+  module _ (b : Bool) {r : Record} (m : Records s b r (recordTail debug pointer size (drop (p .at) s))) where
     pub rest-bad : r ≡ row.Bad → behind ≡ noRecord 64 recordDataField
     unfolding recordNumbers recordRest onward orElse
-    rest-bad e = rw (subst (λ (r : Record). Records s r (recordTail debug pointer size (drop p s))) e m)
+    rest-bad e = rw (subst (λ (r : Record). Records s b r (recordTail debug pointer size (drop (p .at) s))) e m)
 
-    module _ {q z : ℕ} (e : r ≡ row.Fields q z) where
-      pub recording : Recording s q z (recordTail debug pointer size (drop p s))
-      recording = subst (λ (r : Record). Records s r (recordTail debug pointer size (drop p s))) e m
+    module _ {q : Position} {z : ℕ} (e : r ≡ row.Fields q z) where
+      pub recording : Recording s b q z (recordTail debug pointer size (drop (p .at) s))
+      recording = subst (λ (r : Record). Records s b r (recordTail debug pointer size (drop (p .at) s))) e m
 
       pub rest-there : behind
           ≡ record {
@@ -68,12 +69,12 @@ module _ (s : List ℕ) (base p : ℕ) (debug : Bool) (pointer header function s
             header = header;
             function = function;
             length = z;
-            «call_sites» = callSites debug pointer (base + length s) (drop p s);
-            operations = base + q;
+            «call_sites» = callSites debug pointer (base + length s) (drop (p .at) s);
+            operations = base + q .at;
             end = base + length s;
           }
       unfolding recordNumbers recordRest onward orElse
-      rest-there = rw (recording .read, left s base q (recording .inside))
+      rest-there = rw (recording .read, left s base (q .at) (recording .inside))
 
 -- ---- the fields in front of it
 
@@ -81,30 +82,30 @@ module _ (s : List ℕ) (debug : Bool) (word pointer : ℕ) where
   abbrev all : Result RecordParts
   all = recordParts debug word pointer s
 
-  pub parts-none : littleAt 4 s 0 ≡ unsigned.Bad → all ≡ bad functionField
+  pub parts-none : littleAt 4 s (from 0) ≡ unsigned.Bad → all ≡ bad functionField
   unfolding recordParts reading
-  parts-none e = rw (little-none s 0 4 e)
+  parts-none e = rw (little-none s (from 0) 4 e)
 
-  module _ (t : T (isWord word)) {id p : ℕ} (e : littleAt 4 s 0 ≡ unsigned.Value id p) {n : ℕ} (w : n ≡ pick debug word 4) where
+  module _ (t : T (isWord word)) {id : ℕ} {p : Position} (e : littleAt 4 s (from 0) ≡ unsigned.Value id p) {n : ℕ} (w : n ≡ pick debug word 4) where
     byte : 0 < n
     byte = omega (arith, field-small debug word t .0)
 
     pub parts-placeless : littleAt n s p ≡ unsigned.Bad → all ≡ bad functionField
     unfolding recordParts reading
-    parts-placeless f = rw (← w, little-rest s 0 (omega arith) e, little-none s p n f)
+    parts-placeless f = rw (← w, little-rest s (from 0) (omega arith) e, little-none s p n f)
 
-    module _ {v q : ℕ} (f : littleAt n s p ≡ unsigned.Value v q) where
+    module _ {v : ℕ} {q : Position} (f : littleAt n s p ≡ unsigned.Value v q) where
       pub parts-sizeless : littleAt n s q ≡ unsigned.Bad → all ≡ bad lengthField
       unfolding recordParts reading
-      parts-sizeless g = rw (← w, little-rest s 0 (omega arith) e, little-rest s p byte f, little-none s q n g)
+      parts-sizeless g = rw (← w, little-rest s (from 0) (omega arith) e, little-rest s p byte f, little-none s q n g)
 
-      module _ {size u : ℕ} (g : littleAt n s q ≡ unsigned.Value size u) where
-        pub rest-inside : u ≤ length s
+      module _ {size : ℕ} {u : Position} (g : littleAt n s q ≡ unsigned.Value size u) where
+        pub rest-inside : u .at ≤ length s
         rest-inside = little-ahead s q byte g .1
 
-        pub parts-rest : all ≡ recordRest debug pointer id v size (drop u s)
+        pub parts-rest : all ≡ recordRest debug pointer id v size (drop (u .at) s)
         unfolding recordParts reading
-        parts-rest = rw (← w, little-rest s 0 (omega arith) e, little-rest s p byte f, little-rest s q byte g)
+        parts-rest = rw (← w, little-rest s (from 0) (omega arith) e, little-rest s p byte f, little-rest s q byte g)
 
 -- ---- the entry
 

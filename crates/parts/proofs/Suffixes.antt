@@ -13,7 +13,7 @@ use Rattle.format.specs.Rows.{readRegister, sameOffset}
 use Rattle.format.specs.Headers.{dataFactor}
 use Rattle.format.specs.Reader.{strip, Letters, Spelling, spellings, spellOr, readLetters, readByte, readMany, readCounted, lettersIn, require, HeaderFields, headerTail, parseHeader, RecordFields, recordTail, parseRecord}
 use Rattle.format.proofs.Choice.{pick-yes, pick-no, tested}
-use Rattle.format.proofs.PositionLaws.{Takes, nothing, taken, takes-next, takes-pick, gives, takes-little, takes-uleb, takes-sleb}
+use Rattle.operations.proofs.PositionLaws.{Takes, nothing, taken, takes-next, takes-pick, gives, takes-little, takes-uleb, takes-sleb}
 use Rattle.reader.specs.Spans.{part}
 use Rattle.reader.proofs.Whole.{drop-part}
 

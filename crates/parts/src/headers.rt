@@ -7,8 +7,9 @@ ghost use Rattle.format.specs.Machine.{isWord};
 ghost use Rattle.reader.specs.Fields.{lettersOf};
 ghost use Rattle.parts.specs.Headers.{noHeader, headerRest, headerFrom, headerParts, headerNumbers, readHeaderAt};
 use crate::bit;
-use format::Signed;
-use format::Unsigned;
+use operations::fields::Position;
+use operations::fields::Signed;
+use operations::fields::Unsigned;
 use operations::fields::read_le;
 use operations::fields::read_sleb;
 use operations::fields::read_uleb;
@@ -50,14 +51,14 @@ fn refused(number: u64, field: u64) -> HeaderRead
 fn rest(
     body: &[u8],
     base: u64,
-    at: usize,
+    at: Position,
     debug: bool,
     word: u64,
     p: Augmentation,
     reg: u64,
 ) -> HeaderRead
-    requires { ⌜ T (isWord word) × (at ≤ length (now body)) × (base + length (now body) < 2 ^ 64) ⌝ }
-    ensures { λ r. ⌜ r ≡ headerNumbers (base + length (now (body .entry))) (headerRest debug (lettersOf p) word reg (drop at (now (body .entry)))) ⌝ }
+    requires { ⌜ T (isWord word) × (at .at ≤ length (now body)) × (base + length (now body) < 2 ^ 64) ⌝ }
+    ensures { λ r. ⌜ r ≡ headerNumbers (base + length (now (body .entry))) (headerRest debug (lettersOf p) word reg (drop (at .at) (now (body .entry)))) ⌝ }
 {
     let Header::Fields(operations, pointer, signal) = reader::fields::header_tail(
         body,
@@ -68,6 +69,7 @@ fn rest(
     ) else {
         return refused(64, 6);
     };
+    let start = operations.at;
     HeaderRead {
         number: 0,
         field: 0,
@@ -76,15 +78,22 @@ fn rest(
         signal: bit(signal),
         return_register: reg,
         pointer,
-        operations: base + operations as u64,
+        operations: base + start as u64,
         end: base + body.len() as u64,
     }
 }
 
 // From the code alignment factor on.
-fn factors(body: &[u8], base: u64, at: usize, debug: bool, word: u64, p: Augmentation) -> HeaderRead
+fn factors(
+    body: &[u8],
+    base: u64,
+    at: Position,
+    debug: bool,
+    word: u64,
+    p: Augmentation,
+) -> HeaderRead
     requires { ⌜ T (isWord word) × (base + length (now body) < 2 ^ 64) ⌝ }
-    ensures { λ r. ⌜ r ≡ headerNumbers (base + length (now (body .entry))) (headerFrom debug (lettersOf p) word (drop at (now (body .entry)))) ⌝ }
+    ensures { λ r. ⌜ r ≡ headerNumbers (base + length (now (body .entry))) (headerFrom debug (lettersOf p) word (drop (at .at) (now (body .entry)))) ⌝ }
 {
     let Unsigned::Value(code, a) = read_uleb(body, at) else {
         return refused(64, 3);
@@ -112,16 +121,21 @@ fn fields(body: &[u8], base: u64, debug: bool, word: u64) -> HeaderRead
     requires { ⌜ T (isWord word) × (base + length (now body) < 2 ^ 64) ⌝ }
     ensures { λ r. ⌜ r ≡ headerNumbers (base + length (now (body .entry))) (headerParts debug word (now (body .entry))) ⌝ }
 {
-    let Unsigned::Value(_, at) = read_le(body, 0, 4) else {
+    let Unsigned::Value(_, version) = read_le(body, Position::START, 4) else {
         return refused(64, 1);
     };
-    if body.len() <= at {
+    let from = version.at;
+    if body.len() <= from {
         return refused(64, 1);
     }
-    if body[at] != 1 {
+    if body[from] != 1 {
         return refused(64, 1);
     }
-    let AugmentationRead::Known(p, past) = reader::fields::letters(body, at + 1, debug) else {
+    let string = Position {
+        at: from + 1,
+        shortest: version.shortest,
+    };
+    let AugmentationRead::Known(p, past) = reader::fields::letters(body, string, debug) else {
         return refused(64, 2);
     };
     factors(body, base, past, debug, word, p)

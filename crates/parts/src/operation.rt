@@ -3,8 +3,9 @@ ghost use mathlib.Core.Path.{_≡_};
 ghost use Prim.Native.Nat.{_+_, _^_, _<_};
 ghost use lib.ListN.{length};
 ghost use Rattle.parts.specs.Operations.{noOperation, operationNumbers, operationFrom, readOperationAt};
-use format::Decoded;
 use format::Operation;
+use operations::Decoded;
+use operations::fields::Position;
 
 // What unwind_read_operation answers.
 #[repr(C)]
@@ -65,10 +66,11 @@ fn first(bytes: &[u8], at: u64, word: u64) -> OperationRead
     ensures { λ r. ⌜ r ≡ operationFrom word at (now (bytes .entry)) ⌝ }
 {
     let opcode = leb::wide(bytes[0]);
-    let Decoded::Operation(op, past) = operations::operation(bytes, 0, word) else {
+    let Decoded::Operation(op, past) = operations::operation(bytes, Position::START, word) else {
         return refused(66, at, opcode);
     };
-    numbers_of(op, at + past as u64, opcode)
+    let size = past.at;
+    numbers_of(op, at + size as u64, opcode)
 }
 
 // One operation of those from `at` to `end`: 0; 11, 62 where there is none left, 66 where none can be read.

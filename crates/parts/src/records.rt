@@ -5,7 +5,8 @@ ghost use lib.Dec.{T};
 ghost use lib.ListN.{length, drop};
 ghost use Rattle.format.specs.Machine.{isWord};
 ghost use Rattle.parts.specs.Records.{callSites, noRecord, recordRest, recordParts, recordNumbers, readRecordAt};
-use format::Unsigned;
+use operations::fields::Position;
+use operations::fields::Unsigned;
 use operations::fields::read_le;
 use operations::fields::read_uleb;
 use reader::fields::Record;
@@ -39,9 +40,9 @@ fn refused(number: u64, field: u64) -> RecordRead
 }
 
 // Where the pointer to call sites stands, by the place of the augmentation data. `base` is the section's place of the body.
-fn call_sites(body: &[u8], base: u64, at: usize, debug: bool, pointer: u64) -> u64
+fn call_sites(body: &[u8], base: u64, at: Position, debug: bool, pointer: u64) -> u64
     requires { ⌜ base + length (now body) < 2 ^ 64 ⌝ }
-    ensures { λ r. ⌜ r ≡ callSites debug pointer (base + length (now (body .entry))) (drop at (now (body .entry))) ⌝ }
+    ensures { λ r. ⌜ r ≡ callSites debug pointer (base + length (now (body .entry))) (drop (at .at) (now (body .entry))) ⌝ }
 {
     if debug {
         return 0;
@@ -52,7 +53,8 @@ fn call_sites(body: &[u8], base: u64, at: usize, debug: bool, pointer: u64) -> u
     let Unsigned::Value(_, past) = read_uleb(body, at) else {
         return 0;
     };
-    base + past as u64
+    let data = past.at;
+    base + data as u64
 }
 
 // The fields in front of the augmentation data.
@@ -63,9 +65,9 @@ struct Front {
 }
 
 // From the augmentation data on.
-fn rest(body: &[u8], base: u64, at: usize, debug: bool, pointer: u64, f: Front) -> RecordRead
-    requires { ⌜ (at ≤ length (now body)) × (base + length (now body) < 2 ^ 64) ⌝ }
-    ensures { λ r. ⌜ r ≡ recordNumbers debug pointer (base + length (now (body .entry))) (recordRest debug pointer (f .header) (f .function) (f .length) (drop at (now (body .entry)))) ⌝ }
+fn rest(body: &[u8], base: u64, at: Position, debug: bool, pointer: u64, f: Front) -> RecordRead
+    requires { ⌜ (at .at ≤ length (now body)) × (base + length (now body) < 2 ^ 64) ⌝ }
+    ensures { λ r. ⌜ r ≡ recordNumbers debug pointer (base + length (now (body .entry))) (recordRest debug pointer (f .header) (f .function) (f .length) (drop (at .at) (now (body .entry)))) ⌝ }
 {
     let Record::Fields(operations, length) = reader::fields::record_tail(
         body,
@@ -76,6 +78,7 @@ fn rest(body: &[u8], base: u64, at: usize, debug: bool, pointer: u64, f: Front) 
     ) else {
         return refused(64, 9);
     };
+    let start = operations.at;
     RecordRead {
         number: 0,
         field: 0,
@@ -83,7 +86,7 @@ fn rest(body: &[u8], base: u64, at: usize, debug: bool, pointer: u64, f: Front) 
         function: f.function,
         length,
         call_sites: call_sites(body, base, at, debug, pointer),
-        operations: base + operations as u64,
+        operations: base + start as u64,
         end: base + body.len() as u64,
     }
 }
@@ -94,7 +97,7 @@ fn fields(body: &[u8], base: u64, debug: bool, word: u64, pointer: u64) -> Recor
     ensures { λ r. ⌜ r ≡ recordNumbers debug pointer (base + length (now (body .entry))) (recordParts debug word pointer (now (body .entry))) ⌝ }
 {
     let n = reader::fields::field_size(debug, word) as usize;
-    let Unsigned::Value(header, a) = read_le(body, 0, 4) else {
+    let Unsigned::Value(header, a) = read_le(body, Position::START, 4) else {
         return refused(64, 7);
     };
     let Unsigned::Value(function, b) = read_le(body, a, n) else {

@@ -2,7 +2,7 @@
 use mathlib.Core.Path.{_≡_, refl, sym, ap, subst, _∙_}
 use Prim.Native.Nat.{ℕ, suc, _≤_, _<_}
 use native.Mathlib.Omega.{arith}
-use mathlib.Core.Bool.{Bool, true, false, _&&_}
+use mathlib.Core.Bool.{Bool, true, false, _&&_, and-false}
 use mathlib.Core.List.{List}
 use lib.Dec.{T, leb, eqb, leb→le}
 use lib.ListN.{length}
@@ -23,10 +23,6 @@ use Rattle.format.proofs.Choice.{if-le, if-gt, is-true}
 
 -- ---- 11
 
-and-no : (b : Bool) → (b && false) ≡ false
-and-no true = refl
-and-no false = refl
-
 module _ (section relocations : List ℕ) (kind word k : ℕ) where
   pub no-word : isWord word ≡ false → locateIn section relocations kind word k ≡ bad 11
   unfolding locateIn pick
@@ -34,7 +30,7 @@ module _ (section relocations : List ℕ) (kind word k : ℕ) where
 
   pub no-kind : 1 < kind → locateIn section relocations kind word k ≡ bad 11
   unfolding locateIn pick
-  no-kind h = rw (lt-leb kind 1 h, and-no (isWord word)) refl
+  no-kind h = rw (lt-leb kind 1 h, and-false (isWord word)) refl
 
   pub kind-and-word : isWord word ≡ true → kind ≤ 1 → locateIn section relocations kind word k ≡ locate (eqb kind 1) (relocationsOf relocations) word k section
   unfolding locateIn pick

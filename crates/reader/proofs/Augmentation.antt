@@ -1,8 +1,8 @@
 -- Augmentation data at positions: bytes with their length in front, encodings, and the pointers that they promise.
-use mathlib.Core.Path.{_≡_, subst}
-use mathlib.Core.Bool.{Bool, true, false, not}
+use mathlib.Core.Path.{_≡_, refl, subst}
+use mathlib.Core.Bool.{Bool, true, false, not, _&&_}
 use mathlib.Core.Option.{none, some}
-use mathlib.Core.List.{List}
+use mathlib.Core.List.{List, [], _∷_}
 use Prim.Native.Nat.{ℕ, _+_, _-_, _≤_, _<_}
 use native.Mathlib.Omega.{arith}
 use native.Mathlib.Numerals.{add-one}
@@ -10,18 +10,20 @@ use borrow.Author.Tests.{eq-eqb, ne-eqb, le-leb, lt-leb, not-true, not-false}
 use lib.ListN.{length, take, drop, getD, length-drop, drop-of-length-le}
 use lib.Seq.{drop-cons, drop-drop}
 use Rattle.format.specs.Prelude.{pick, Read, next, after}
-use Rattle.format.proofs.Positions.{ulebAt}
+use Rattle.operations.specs.Positions.{ulebAt}
 use Rattle.format.specs.Headers.{pointerSize}
 use Rattle.format.specs.Reader.{readByte, readMany, readCounted, personalityIn, lsdaIn, lettersIn}
-use Rattle.format.specs.declared.Unsigned.{Unsigned}
-use Rattle.format.specs.declared.Unsigned.the-variants as unsigned
-use Rattle.format.proofs.PositionLaws.{uleb-ahead, uleb-rest, uleb-none}
+use Rattle.format.specs.Shortest.{unsigned as unsignedNumber, numbersShort}
+use Rattle.operations.specs.declared.fields.Position.{Position}
+use Rattle.operations.specs.declared.fields.Unsigned.{Unsigned}
+use Rattle.operations.specs.declared.fields.Unsigned.the-variants as unsigned
+use Rattle.operations.proofs.PositionLaws.{past-mark, uleb-ahead, uleb-rest, uleb-past, uleb-none}
 use Rattle.reader.specs.Spans.{numberOf}
 use Rattle.reader.specs.Fields.{Rests, lettersOf, Counts, CountsIn, Skips, SkipsTo, Numbers}
 use Rattle.reader.specs.declared.entries.Number.{Number}
 use Rattle.reader.specs.declared.entries.Number.the-variants as number
-use Rattle.reader.specs.declared.entries.Span.{Span}
-use Rattle.reader.specs.declared.entries.Span.the-variants as span
+use Rattle.reader.specs.declared.fields.AugmentationData.{AugmentationData}
+use Rattle.reader.specs.declared.fields.AugmentationData.the-variants as counted
 use Rattle.reader.specs.declared.fields.Augmentation.{Augmentation}
 use Rattle.reader.proofs.Seeking.{number-is, number-none}
 
@@ -51,30 +53,31 @@ module _ (s : List ℕ) (p : ℕ) where
 
 -- ---- a length and as many bytes
 
-module _ (s : List ℕ) (p : ℕ) where
-  pub counted-none : ulebAt s p ≡ unsigned.Bad → readCounted (drop p s) ≡ none
+module _ (s : List ℕ) (p : Position) where
+  pub counted-none : ulebAt s p ≡ unsigned.Bad → readCounted (drop (p .at) s) ≡ none
   unfolding readCounted next
   counted-none e = rw (uleb-none s p e)
 
-  module _ {n q : ℕ} (e : ulebAt s p ≡ unsigned.Value n q) where
-    pub counted-over : length s - q < n → readCounted (drop p s) ≡ none
+  module _ {n : ℕ} {q : Position} (e : ulebAt s p ≡ unsigned.Value n q) where
+    pub counted-over : length s - q .at < n → readCounted (drop (p .at) s) ≡ none
     unfolding readCounted next
-    counted-over h = rw (uleb-rest s p e) (many-none s q n h)
+    counted-over h = rw (uleb-rest s p e) (many-none s (q .at) n h)
 
-    pub counted-there : n ≤ length s - q → Counts s q (q + n) (readCounted (drop p s))
+    pub counted-there : n ≤ length s - q .at
+        → Counts s (p .shortest && numbersShort (unsignedNumber ∷ []) (drop (p .at) s)) q (q .at + n) (readCounted (drop (p .at) s))
     unfolding readCounted next
     counted-there h =
-        let l : q + n ≤ length s = omega (arith, uleb-ahead s p e .1) in
-        let k : q + n - q ≡ n = omega arith in
-        record { ordered = omega arith; inside = l; read = rw (uleb-rest s p e, k) (many-there s q n l) }
+        let l : q .at + n ≤ length s = omega (arith, uleb-ahead s p e .1) in
+        let k : q .at + n - q .at ≡ n = omega arith in
+        record { ordered = omega arith; inside = l; read = rw (uleb-rest s p e, k) (many-there s (q .at) n l); mark = past-mark (uleb-past s p e) }
 
 -- what a caller knows
-module _ (s : List ℕ) (x : Read (List ℕ)) {r : Span} (m : CountsIn s r x) where
-  pub counts : {a e : ℕ} → r ≡ span.At a e → Counts s a e x
-  counts q = subst (λ (r : Span). CountsIn s r x) q m
+module _ (s : List ℕ) (b : Bool) (x : Read (List ℕ)) {r : AugmentationData} (m : CountsIn s b r x) where
+  pub counts : {a : Position} {e : ℕ} → r ≡ counted.At a e → Counts s b a e x
+  counts q = subst (λ (r : AugmentationData). CountsIn s b r x) q m
 
-  pub counts-none : r ≡ span.Nothing → x ≡ none
-  counts-none q = subst (λ (r : Span). CountsIn s r x) q m
+  pub counts-none : r ≡ counted.Nothing → x ≡ none
+  counts-none q = subst (λ (r : AugmentationData). CountsIn s b r x) q m
 
 -- ---- the personality
 
@@ -109,24 +112,25 @@ module _ (s : List ℕ) (here : Bool) (word : ℕ) where
 
 -- ---- the pointer to call sites
 
-module _ (s : List ℕ) (p : ℕ) (here : Bool) (word : ℕ) where
-  pub lsda-absent : p ≤ length s → not here ≡ true → Rests s 0 p (lsdaIn here word (drop p s))
+module _ (s : List ℕ) (p : Position) (here : Bool) (word : ℕ) where
+  pub lsda-absent : p .at ≤ length s → not here ≡ true → Rests s (p .shortest) 0 p (lsdaIn here word (drop (p .at) s))
   unfolding lsdaIn
-  lsda-absent h e = record { inside = h; read = rw (not-true here e) }
+  lsda-absent h e = record { inside = h; read = rw (not-true here e); mark = refl }
 
   module _ (y : not here ≡ false) where
-    pub lsda-empty : length s ≤ p → lsdaIn here word (drop p s) ≡ none
+    pub lsda-empty : length s ≤ p .at → lsdaIn here word (drop (p .at) s) ≡ none
     unfolding lsdaIn next
-    lsda-empty h = rw (not-false here y, byte-none s p h)
+    lsda-empty h = rw (not-false here y, byte-none s (p .at) h)
 
-    module _ (l : p < length s) where
-      pub lsda-unknown : numberOf (pointerSize false word (getD s p 0)) ≡ number.Nothing → lsdaIn here word (drop p s) ≡ none
+    module _ (l : p .at < length s) where
+      pub lsda-unknown : numberOf (pointerSize false word (getD s (p .at) 0)) ≡ number.Nothing → lsdaIn here word (drop (p .at) s) ≡ none
       unfolding lsdaIn next after
-      lsda-unknown e = rw (not-false here y, byte-there s p l, number-none _ e)
+      lsda-unknown e = rw (not-false here y, byte-there s (p .at) l, number-none _ e)
 
-      pub lsda-there : {n : ℕ} → numberOf (pointerSize false word (getD s p 0)) ≡ number.Is n → Rests s n (p + 1) (lsdaIn here word (drop p s))
+      pub lsda-there : {n : ℕ} → numberOf (pointerSize false word (getD s (p .at) 0)) ≡ number.Is n
+          → Rests s (p .shortest) n (record { at = p .at + 1; shortest = p .shortest }) (lsdaIn here word (drop (p .at) s))
       unfolding lsdaIn next after
-      lsda-there e = record { inside = omega arith; read = rw (not-false here y, byte-there s p l, number-is _ e) }
+      lsda-there e = record { inside = omega arith; read = rw (not-false here y, byte-there s (p .at) l, number-is _ e); mark = refl }
 
 -- ---- all of them, and the records' encoding
 
@@ -142,24 +146,24 @@ module _ (s : List ℕ) (word : ℕ) (p : Augmentation) {r : Number} (m : SkipsT
     pub letters-inside : a ≤ length s
     letters-inside = skipped .inside
 
-    module _ {v : Unsigned} (k : Numbers s v (lsdaIn (p .lsda) word (drop a s))) where
+    module _ (b : Bool) {v : Unsigned} (k : Numbers s b v (lsdaIn (p .lsda) word (drop a s))) where
       pub letters-second : v ≡ unsigned.Bad → number.Nothing ≡ numberOf (lettersIn (lettersOf p) word s)
       unfolding lettersIn after next numberOf
-      letters-second f = rw (skipped .rest, subst (λ (v : Unsigned). Numbers s v (lsdaIn (p .lsda) word (drop a s))) f k)
+      letters-second f = rw (skipped .rest, subst (λ (v : Unsigned). Numbers s b v (lsdaIn (p .lsda) word (drop a s))) f k)
 
-      module _ {n q : ℕ} (f : v ≡ unsigned.Value n q) where
-        lsda-read : Rests s n q (lsdaIn (p .lsda) word (drop a s))
-        lsda-read = subst (λ (v : Unsigned). Numbers s v (lsdaIn (p .lsda) word (drop a s))) f k
+      module _ {n : ℕ} {q : Position} (f : v ≡ unsigned.Value n q) where
+        lsda-read : Rests s b n q (lsdaIn (p .lsda) word (drop a s))
+        lsda-read = subst (λ (v : Unsigned). Numbers s b v (lsdaIn (p .lsda) word (drop a s))) f k
 
-        pub letters-ended : length s ≤ q → number.Nothing ≡ numberOf (lettersIn (lettersOf p) word s)
+        pub letters-ended : length s ≤ q .at → number.Nothing ≡ numberOf (lettersIn (lettersOf p) word s)
         unfolding lettersIn after next numberOf
-        letters-ended h = rw (skipped .rest, lsda-read .read, byte-none s q h)
+        letters-ended h = rw (skipped .rest, lsda-read .read, byte-none s (q .at) h)
 
-        module _ (h : q < length s) where
-          pub letters-other : (getD s q 0 ≡ 0x1b → ⊥) → number.Nothing ≡ numberOf (lettersIn (lettersOf p) word s)
+        module _ (h : q .at < length s) where
+          pub letters-other : (getD s (q .at) 0 ≡ 0x1b → ⊥) → number.Nothing ≡ numberOf (lettersIn (lettersOf p) word s)
           unfolding lettersIn after next numberOf pick
-          letters-other d = rw (skipped .rest, lsda-read .read, byte-there s q h) (simp (ne-eqb _ _ d))
+          letters-other d = rw (skipped .rest, lsda-read .read, byte-there s (q .at) h) (simp (ne-eqb _ _ d))
 
-          pub letters-there : getD s q 0 ≡ 0x1b → number.Is n ≡ numberOf (lettersIn (lettersOf p) word s)
+          pub letters-there : getD s (q .at) 0 ≡ 0x1b → number.Is n ≡ numberOf (lettersIn (lettersOf p) word s)
           unfolding lettersIn after next numberOf pick
-          letters-there d = rw (skipped .rest, lsda-read .read, byte-there s q h) (simp (eq-eqb _ _ d))
+          letters-there d = rw (skipped .rest, lsda-read .read, byte-there s (q .at) h) (simp (eq-eqb _ _ d))

@@ -69,7 +69,7 @@ module _ {word p q : ℕ} {s : List ℕ} {x y u v : ℕ} where
 
   module _ {whole : Reading} {left from to : ℕ} {state : code.State} (b : Between whole word p q s x y u v left from to state) where
     pub enter : (left ≡ 0 → ⊥)
-        → Inside whole (eqb left 2) word p q (state .rules .rule) (part s from to) (remaining word p (part s x y) (part s u v) (left - 1)) 0 0 state
+        → Inside whole (eqb left 2) word p q (state .rules .rule) (part s from to) (remaining word p (part s x y) (part s u v) (left - 1)) (record { at = 0; shortest = true }) 0 state
     unfolding run runOf rulesFor one.at
     enter n =
         let l : 0 < left = omega arith in

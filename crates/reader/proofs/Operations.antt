@@ -12,16 +12,17 @@ use Rattle.format.specs.declared.Row.{Row}
 use Rattle.format.specs.declared.Rule.{Rule}
 use Rattle.format.specs.declared.Operation.{Operation}
 use Rattle.format.specs.declared.Operation.the-variants.{Nop, Step, Does}
-use Rattle.format.specs.declared.Decoded.the-variants as decoded
+use Rattle.operations.specs.declared.fields.Position.{Position}
+use Rattle.operations.specs.declared.Decoded.the-variants as decoded
 use Rattle.format.specs.declared.Reading.{Reading}
 use Rattle.format.specs.declared.Reading.the-variants.{Refused}
 use Rattle.format.specs.Rows.{readOperation}
-use Rattle.format.proofs.Positions.{operationAt}
+use Rattle.operations.specs.Positions.{operationAt}
 use Rattle.format.specs.Rules.{State, act, answer}
 use Rattle.format.specs.Reader.{perform, whenRead, runF}
 use Rattle.format.proofs.Choice.{if-le, if-gt, if-eq, if-ne}
-use Rattle.format.proofs.PositionLaws.{Takes, nothing, taken}
-use Rattle.format.proofs.OperationLaws.{takes-operation, operation-ahead, operation-rest, operation-none}
+use Rattle.operations.proofs.PositionLaws.{Takes, nothing, taken}
+use Rattle.operations.proofs.OperationLaws.{takes-operation, operation-ahead, operation-rest, operation-none}
 use Rattle.format.proofs.WalkBack.{onward-ext}
 use Rattle.reader.specs.declared.run.State as code
 use Rattle.reader.specs.declared.run.Acted.{Acted}
@@ -77,38 +78,38 @@ module _ (header : Bool) (word p : ℕ) (initial : ℕ → Rule) where
 
 -- ---- the loop: `whole` is what the run of what is left, and then `k`, answers; `all` are the rules of all registers, of which the code keeps register q's
 
-pub record Inside (whole : Reading) (header : Bool) (word p q : ℕ) (initial : Rule) (ops : List ℕ) (k : State → Result State) (at loc : ℕ) (state : code.State) : Type 0 where
+pub record Inside (whole : Reading) (header : Bool) (word p q : ℕ) (initial : Rule) (ops : List ℕ) (k : State → Result State) (at : Position) (loc : ℕ) (state : code.State) : Type 0 where
   pub near : loc ≤ p
   pub held : Held state
   pub first : ℕ → Rule
   pub first-is : first q ≡ initial
   pub all : State
   pub seen : one.at q all ≡ runOf state
-  pub rest : whole ≡ answer q (onward (running header word p first loc all (drop at ops)) k)
+  pub rest : whole ≡ answer q (onward (running header word p first loc all (drop (at .at) ops)) k)
 
-module _ {whole : Reading} {header : Bool} {word p q : ℕ} {initial : Rule} {ops : List ℕ} {k : State → Result State} {at loc : ℕ} {state : code.State}
+module _ {whole : Reading} {header : Bool} {word p q : ℕ} {initial : Rule} {ops : List ℕ} {k : State → Result State} {at : Position} {loc : ℕ} {state : code.State}
     (i : Inside whole header word p q initial ops k at loc state) where
   -- 66: an operation that cannot be read
-  pub bad-operation : at < length ops → operationAt word ops at ≡ decoded.Bad → Refused 66 ≡ whole
+  pub bad-operation : at .at < length ops → operationAt word ops at ≡ decoded.Bad → Refused 66 ≡ whole
   unfolding onward answer
   bad-operation h e =
-      sym (i .rest ∙ rw (unread header word p (i .first) (drop at ops) loc (i .all) (operation-none word ops at e) (omega (arith, length-drop at ops))))
+      sym (i .rest ∙ rw (unread header word p (i .first) (drop (at .at) ops) loc (i .all) (operation-none word ops at e) (omega (arith, length-drop (at .at) ops))))
 
   -- past the last operation
-  pub all-done : length ops ≤ at → whole ≡ answer q (k (i .all))
+  pub all-done : length ops ≤ at .at → whole ≡ answer q (k (i .all))
   unfolding runF onward
   all-done h = i .rest ∙ rw (drop-of-length-le ops h)
 
-  module _ {op : Operation} {next : ℕ} (e : operationAt word ops at ≡ decoded.Operation op next) where
-    opened : whole ≡ answer q (onward (perform header p (i .first) op loc (i .all) λ m u. running header word p (i .first) m u (drop next ops)) k)
+  module _ {op : Operation} {next : Position} (e : operationAt word ops at ≡ decoded.Operation op next) where
+    opened : whole ≡ answer q (onward (perform header p (i .first) op loc (i .all) λ m u. running header word p (i .first) m u (drop (next .at) ops)) k)
     opened =
         i .rest
         ∙ rw
-        (reading header word p (i .first) (drop at ops) (drop next ops) op loc (i .all) (operation-rest word ops at e)
-        (omega (arith, length-drop at ops, length-drop next ops, operation-ahead word ops at e)))
+        (reading header word p (i .first) (drop (at .at) ops) (drop (next .at) ops) op loc (i .all) (operation-rest word ops at e)
+        (omega (arith, length-drop (at .at) ops, length-drop (next .at) ops, operation-ahead word ops at e)))
 
     -- less is left
-    pub shorter : length ops - next < length ops - at
+    pub shorter : length ops - next .at < length ops - at .at
     shorter = omega (arith, operation-ahead word ops at e)
 
     pub padding : op ≡ Nop → Inside whole header word p q initial ops k next loc state
@@ -127,7 +128,7 @@ module _ {whole : Reading} {header : Bool} {word p q : ℕ} {initial : Rule} {op
       unfolding perform pick onward
       far-step h l =
           let g : p < loc + n = omega (arith, i .near) in
-          opened ∙ rw (o, h, if-gt (loc + n) p (running false word p (i .first) (loc + n) (i .all) (drop next ops)) (good (i .all)) g)
+          opened ∙ rw (o, h, if-gt (loc + n) p (running false word p (i .first) (loc + n) (i .all) (drop (next .at) ops)) (good (i .all)) g)
 
       pub near-step : header ≡ false → n ≤ p - loc → Inside whole header word p q initial ops k next (loc + n) state
       unfolding perform pick
@@ -140,7 +141,7 @@ module _ {whole : Reading} {header : Bool} {word p q : ℕ} {initial : Rule} {op
             first-is = i .first-is;
             all = i .all;
             seen = i .seen;
-            rest = opened ∙ rw (o, h, if-le (loc + n) p (running false word p (i .first) (loc + n) (i .all) (drop next ops)) (good (i .all)) g);
+            rest = opened ∙ rw (o, h, if-le (loc + n) p (running false word p (i .first) (loc + n) (i .all) (drop (next .at) ops)) (good (i .all)) g);
           }
 
     module _ {row : Row} {r : Acted} (o : op ≡ Does row) (a : Acts r (one.act header q initial row (runOf state))) where

@@ -14,6 +14,7 @@ use Rattle.format.specs.Prelude.{pick, Read}
 use Rattle.format.specs.Questions.{isSome}
 use Rattle.format.specs.Reader.{Letters, Spelling, strip, spellings, spellOr, readLetters}
 use Rattle.format.proofs.Choice.{pick-yes, pick-no, tested}
+use Rattle.operations.specs.declared.fields.Position.{Position}
 use Rattle.reader.specs.Fields.{Rests, lettersOf, twoOf, ReadsAugmentation}
 use Rattle.reader.specs.declared.fields.Augmentation.{Augmentation}
 use Rattle.reader.specs.declared.fields.AugmentationRead.{AugmentationRead}
@@ -111,9 +112,9 @@ module _ {s : List ℕ} {at : ℕ} {all left : List Spelling} {x : Spelling} {r 
     text-inside : at + length (x .text) ≤ length s
     text-inside = omega (arith, length-drop at s, stripped (x .text) (drop at s) (sym e ∙ y) .inside)
 
-    pub met : Rests s (x .letters) (at + length (x .text)) (readLetters all (drop at s))
+    pub met : (b : Bool) → Rests s b (x .letters) (record { at = at + length (x .text); shortest = b }) (readLetters all (drop at s))
     unfolding readLetters spellOr
-    met = record { inside = text-inside; read = k .same ∙ rw (stripped (x .text) (drop at s) (sym e ∙ y) .rest, drop-drop) }
+    met b = record { inside = text-inside; mark = refl; read = k .same ∙ rw (stripped (x .text) (drop at s) (sym e ∙ y) .rest, drop-drop) }
 
 pub unmet : {s : List ℕ} {at : ℕ} {all : List Spelling} → Trying s at all [] → readLetters all (drop at s) ≡ none
 unfolding readLetters
@@ -134,27 +135,28 @@ eh-strings : spellings false ≡ bare ++ (owned ++ sited)
 unfolding spellings
 eh-strings = refl
 
-found : {s : List ℕ} {r : AugmentationRead} {p : Augmentation} {q : ℕ} (x : Read Letters) → ReadsAugmentation s r x → r ≡ Known p q → Rests s (lettersOf p) q x
-found {s} x m e = subst (λ (r : AugmentationRead). ReadsAugmentation s r x) e m
+found : (s : List ℕ) (b : Bool) {r : AugmentationRead} {p : Augmentation} {q : Position} (x : Read Letters) → ReadsAugmentation s b r x → r ≡ Known p q
+    → Rests s b (lettersOf p) q x
+found s b x m e = subst (λ (r : AugmentationRead). ReadsAugmentation s b r x) e m
 
-lost : (s : List ℕ) {r : AugmentationRead} (x : Read Letters) → ReadsAugmentation s r x → r ≡ Unknown → x ≡ none
-lost s x m e = subst (λ (r : AugmentationRead). ReadsAugmentation s r x) e m
+lost : (s : List ℕ) (b : Bool) {r : AugmentationRead} (x : Read Letters) → ReadsAugmentation s b r x → r ≡ Unknown → x ≡ none
+lost s b x m e = subst (λ (r : AugmentationRead). ReadsAugmentation s b r x) e m
 
-module _ (s : List ℕ) (at : ℕ) {r : AugmentationRead} (m : ReadsAugmentation s r (readLetters bare (drop at s))) where
-  pub first-two : {p : Augmentation} {q : ℕ} → r ≡ Known p q → Rests s (lettersOf p) q (readLetters (spellings false) (drop at s))
+module _ (s : List ℕ) (p₀ : Position) {r : AugmentationRead} (m : ReadsAugmentation s (p₀ .shortest) r (readLetters bare (drop (p₀ .at) s))) where
+  pub first-two : {p : Augmentation} {q : Position} → r ≡ Known p q → Rests s (p₀ .shortest) (lettersOf p) q (readLetters (spellings false) (drop (p₀ .at) s))
   first-two e =
-      let f = found (readLetters bare (drop at s)) m e in
-      record { inside = f .inside; read = rw eh-strings (letters-before (owned ++ sited) (drop at s) _ bare (f .read)) }
+      let f = found s (p₀ .shortest) (readLetters bare (drop (p₀ .at) s)) m e in
+      record { inside = f .inside; mark = f .mark; read = rw eh-strings (letters-before (owned ++ sited) (drop (p₀ .at) s) _ bare (f .read)) }
 
   module _ (e : r ≡ Unknown) where
-    past-two : readLetters (spellings false) (drop at s) ≡ readLetters (owned ++ sited) (drop at s)
-    past-two = rw eh-strings (letters-behind (owned ++ sited) (drop at s) bare (lost s (readLetters bare (drop at s)) m e))
+    past-two : readLetters (spellings false) (drop (p₀ .at) s) ≡ readLetters (owned ++ sited) (drop (p₀ .at) s)
+    past-two = rw eh-strings (letters-behind (owned ++ sited) (drop (p₀ .at) s) bare (lost s (p₀ .shortest) (readLetters bare (drop (p₀ .at) s)) m e))
 
-    module _ {r′ : AugmentationRead} (m′ : ReadsAugmentation s r′ (readLetters owned (drop at s))) where
-      pub next-two : {p : Augmentation} {q : ℕ} → r′ ≡ Known p q → Rests s (lettersOf p) q (readLetters (spellings false) (drop at s))
+    module _ {r′ : AugmentationRead} (m′ : ReadsAugmentation s (p₀ .shortest) r′ (readLetters owned (drop (p₀ .at) s))) where
+      pub next-two : {p : Augmentation} {q : Position} → r′ ≡ Known p q → Rests s (p₀ .shortest) (lettersOf p) q (readLetters (spellings false) (drop (p₀ .at) s))
       next-two e′ =
-          let f = found (readLetters owned (drop at s)) m′ e′ in
-          record { inside = f .inside; read = past-two ∙ letters-before sited (drop at s) _ owned (f .read) }
+          let f = found s (p₀ .shortest) (readLetters owned (drop (p₀ .at) s)) m′ e′ in
+          record { inside = f .inside; mark = f .mark; read = past-two ∙ letters-before sited (drop (p₀ .at) s) _ owned (f .read) }
 
-      pub past-four : r′ ≡ Unknown → readLetters (spellings false) (drop at s) ≡ readLetters sited (drop at s)
-      past-four e′ = past-two ∙ letters-behind sited (drop at s) owned (lost s (readLetters owned (drop at s)) m′ e′)
+      pub past-four : r′ ≡ Unknown → readLetters (spellings false) (drop (p₀ .at) s) ≡ readLetters sited (drop (p₀ .at) s)
+      past-four e′ = past-two ∙ letters-behind sited (drop (p₀ .at) s) owned (lost s (p₀ .shortest) (readLetters owned (drop (p₀ .at) s)) m′ e′)

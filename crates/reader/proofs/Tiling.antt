@@ -11,11 +11,12 @@ use lib.ListN.{length, take, drop, length-drop, drop-of-length-le}
 use lib.Seq.{drop-drop, length-take-le}
 use mir.Facts.{and-yes, leb-yes}
 use Rattle.format.specs.Prelude.{pick, Read, next, after}
-use Rattle.format.proofs.Positions.{littleAt}
+use Rattle.operations.specs.Positions.{littleAt, from}
 use Rattle.format.specs.Questions.{isSome}
 use Rattle.format.specs.Reader.{Entry, readEntry, entriesF, entries, valueOr0, second}
-use Rattle.format.specs.declared.Unsigned.the-variants as unsigned
-use Rattle.format.proofs.PositionLaws.{Takes, nothing, taken, takes-little, little-ahead, little-rest, little-none}
+use Rattle.operations.specs.declared.fields.Position.{Position}
+use Rattle.operations.specs.declared.fields.Unsigned.the-variants as unsigned
+use Rattle.operations.proofs.PositionLaws.{Takes, nothing, taken, takes-little, little-ahead, little-rest, little-none}
 use Rattle.reader.specs.Spans.{part, entryIn, entriesFrom, listed, endFrom, endAt, Ends}
 use Rattle.reader.specs.declared.entries.Number.the-variants.{Is, Nothing}
 
@@ -45,32 +46,32 @@ entry-held bs = taken-held bs (takes-little 4 bs)
 -- ---- where the entry at a position ends
 
 module _ (s : List ℕ) (p : ℕ) where
-  pub end-none : littleAt 4 s p ≡ unsigned.Bad → endAt s p ≡ Nothing
+  pub end-none : littleAt 4 s (from p) ≡ unsigned.Bad → endAt s p ≡ Nothing
   unfolding endAt endFrom readEntry next
-  end-none e = rw (little-none s p 4 e)
+  end-none e = rw (little-none s (from p) 4 e)
 
-  module _ {n q : ℕ} (e : littleAt 4 s p ≡ unsigned.Value n q) where
-    opened : endAt s p ≡ endFrom (length s) (pick (leb 4 n && leb n (length (drop q s))) (some (take n (drop q s), drop n (drop q s))) none)
+  module _ {n : ℕ} {q : Position} (e : littleAt 4 s (from p) ≡ unsigned.Value n q) where
+    opened : endAt s p ≡ endFrom (length s) (pick (leb 4 n && leb n (length (drop (q .at) s))) (some (take n (drop (q .at) s), drop n (drop (q .at) s))) none)
     unfolding endAt readEntry next
-    opened = rw (little-rest s p (omega arith) e)
+    opened = rw (little-rest s (from p) (omega arith) e)
 
-    pub body-inside : q ≤ length s
-    body-inside = little-ahead s p (omega arith) e .1
+    pub body-inside : q .at ≤ length s
+    body-inside = little-ahead s (from p) (omega arith) e .1
 
     pub end-short : n < 4 → endAt s p ≡ Nothing
     unfolding endFrom pick
     end-short h = opened ∙ simp (lt-leb 4 n h)
 
-    pub end-over : 4 ≤ n → length s - q < n → endAt s p ≡ Nothing
+    pub end-over : 4 ≤ n → length s - q .at < n → endAt s p ≡ Nothing
     unfolding endFrom pick
-    end-over h l = opened ∙ simp (le-leb 4 n h, length-drop, lt-leb n (length s - q) l)
+    end-over h l = opened ∙ simp (le-leb 4 n h, length-drop, lt-leb n (length s - q .at) l)
 
-    pub end-there : 4 ≤ n → n ≤ length s - q → endAt s p ≡ Is (q + n)
+    pub end-there : 4 ≤ n → n ≤ length s - q .at → endAt s p ≡ Is (q .at + n)
     unfolding endFrom pick
     end-there h l =
         let b = body-inside in
-        let f : length s - (length s - (q + n)) ≡ q + n = omega arith in
-        opened ∙ simp (le-leb 4 n h, length-drop, le-leb n (length s - q) l, drop-drop, f)
+        let f : length s - (length s - (q .at + n)) ≡ q .at + n = omega arith in
+        opened ∙ simp (le-leb 4 n h, length-drop, le-leb n (length s - q .at) l, drop-drop, f)
 
 -- what was read where an entry ends at q
 pub record Entered (s : List ℕ) (p q : ℕ) : Type 0 where
@@ -199,10 +200,10 @@ module _ (s : List ℕ) (at : ℕ) (h : at < length s) (t : T (isSome (entriesFr
 -- ---- an entry's second field
 
 module _ (s : List ℕ) where
-  pub second-is : {v q : ℕ} → littleAt 4 s 0 ≡ unsigned.Value v q → second s ≡ v
+  pub second-is : {v : ℕ} {q : Position} → littleAt 4 s (from 0) ≡ unsigned.Value v q → second s ≡ v
   unfolding second valueOr0
-  second-is e = rw (little-rest s 0 (omega arith) e)
+  second-is e = rw (little-rest s (from 0) (omega arith) e)
 
-  pub second-none : littleAt 4 s 0 ≡ unsigned.Bad → second s ≡ 0
+  pub second-none : littleAt 4 s (from 0) ≡ unsigned.Bad → second s ≡ 0
   unfolding second valueOr0
-  second-none e = rw (little-none s 0 4 e)
+  second-none e = rw (little-none s (from 0) 4 e)

@@ -13,6 +13,7 @@ use Rattle.format.specs.Machine.{isWord}
 use Rattle.format.specs.Questions.{isSome}
 use Rattle.format.specs.Lists.{Relocation}
 use Rattle.format.specs.Reader.{Entry, entries, records, headerPlace, headerAt, parseHeader, parseRecord, headerShort, recordShort, Found, parsed, locate}
+use Rattle.operations.specs.declared.fields.Position.{Position}
 use Rattle.reader.specs.Spans.{part, entryIn, listed, Stands, Spans}
 use Rattle.reader.specs.Fields.{Heading, Heads, Recording, Records}
 use Rattle.reader.specs.Finds.{Stated}
@@ -40,45 +41,53 @@ drop-part s a b q = let e : b - a - q ≡ b - (a + q) = omega arith in rw (drop-
 abbrev fieldsOf : List ℕ → (debug : Bool) → (word cie past at end : ℕ) → Result Found
 fieldsOf s debug word cie past at end = parsed debug word (entryIn s cie past) (entryIn s at end)
 
-module _ (s : List ℕ) (debug : Bool) (word cie past at end : ℕ) {h : Header}
-    (m : Heads (part s (cie + 4) past) h (parseHeader debug word (part s (cie + 4) past))) where
-  pub fields-header : h ≡ header.Bad → fieldsOf s debug word cie past at end ≡ bad 64
-  unfolding parsed onward orElse
-  fields-header e = rw (subst (λ (h : Header). Heads (part s (cie + 4) past) h (parseHeader debug word (part s (cie + 4) past))) e m)
+module _ (s : List ℕ) (debug : Bool) (word cie past at end : ℕ) where
+  abbrev cieBody : List ℕ
+  cieBody = part s (cie + 4) past
 
-  module _ {q n : ℕ} {g : Bool} (e : h ≡ header.Fields q n g) where
-    heading : Heading (part s (cie + 4) past) q n g (parseHeader debug word (part s (cie + 4) past))
-    heading = subst (λ (h : Header). Heads (part s (cie + 4) past) h (parseHeader debug word (part s (cie + 4) past))) e m
+  abbrev fdeBody : List ℕ
+  fdeBody = part s (at + 4) end
 
-    pub header-held : cie + 8 ≤ past → past ≤ length s → cie + 4 + q ≤ past
-    header-held l i = omega (arith, heading .inside, length-take-le (past - (cie + 4)) (drop (cie + 4) s) (omega (arith, length-drop (cie + 4) s)))
+  module _ {h : Header} (m : Heads cieBody (headerShort debug cieBody) h (parseHeader debug word cieBody)) where
+    pub fields-header : h ≡ header.Bad → fieldsOf s debug word cie past at end ≡ bad 64
+    unfolding parsed onward orElse
+    fields-header e = rw (subst (λ (h : Header). Heads cieBody (headerShort debug cieBody) h (parseHeader debug word cieBody)) e m)
 
-    module _ {r : Record} (k : Records (part s (at + 4) end) r (parseRecord debug word n (part s (at + 4) end))) where
-      pub fields-record : r ≡ row.Bad → fieldsOf s debug word cie past at end ≡ bad 64
-      unfolding parsed onward orElse
-      fields-record f = rw (heading .read, subst (λ (r : Record). Records (part s (at + 4) end) r (parseRecord debug word n (part s (at + 4) end))) f k)
+    module _ {q : Position} {n : ℕ} {g : Bool} (e : h ≡ header.Fields q n g) where
+      heading : Heading cieBody (headerShort debug cieBody) q n g (parseHeader debug word cieBody)
+      heading = subst (λ (h : Header). Heads cieBody (headerShort debug cieBody) h (parseHeader debug word cieBody)) e m
 
-      module _ {t z : ℕ} (f : r ≡ row.Fields t z) where
-        recording : Recording (part s (at + 4) end) t z (parseRecord debug word n (part s (at + 4) end))
-        recording = subst (λ (r : Record). Records (part s (at + 4) end) r (parseRecord debug word n (part s (at + 4) end))) f k
+      pub header-held : cie + 8 ≤ past → past ≤ length s → cie + 4 + q .at ≤ past
+      header-held l i = omega (arith, heading .inside, length-take-le (past - (cie + 4)) (drop (cie + 4) s) (omega (arith, length-drop (cie + 4) s)))
 
-        pub record-held : at + 8 ≤ end → end ≤ length s → at + 4 + t ≤ end
-        record-held l i = omega (arith, recording .inside, length-take-le (end - (at + 4)) (drop (at + 4) s) (omega (arith, length-drop (at + 4) s)))
-
-        pub fields-there : T (isWord word) → cie + 8 ≤ past → past ≤ length s → at + 8 ≤ end → end ≤ length s
-            → {b : Bool} → b ≡ headerShort debug (part s (cie + 4) past) && recordShort debug (part s (at + 4) end)
-            → Stated s word (record { header = cie + 4 + q; «header_end» = past; «record» = at + 4 + t; «record_end» = end; size = z; pointer = n; signal = g; word = word; shortest = b }) (fieldsOf s debug word cie past at end)
+      module _ {r : Record} (k : Records fdeBody (q .shortest && recordShort debug fdeBody) r (parseRecord debug word n fdeBody)) where
+        pub fields-record : r ≡ row.Bad → fieldsOf s debug word cie past at end ≡ bad 64
         unfolding parsed onward orElse
-        fields-there is l i l′ i′ m =
-            record {
-              answer = rw (heading .read, recording .read, drop-part s (cie + 4) past q, drop-part s (at + 4) end t, m);
-              header-ordered = header-held l i;
-              header-inside = i;
-              record-ordered = record-held l′ i′;
-              record-inside = i′;
-              same-word = refl;
-              is-word = is;
-            }
+        fields-record f = rw (heading .read, subst (λ (r : Record). Records fdeBody (q .shortest && recordShort debug fdeBody) r (parseRecord debug word n fdeBody)) f k)
+
+        module _ {t : Position} {z : ℕ} (f : r ≡ row.Fields t z) where
+          recording : Recording fdeBody (q .shortest && recordShort debug fdeBody) t z (parseRecord debug word n fdeBody)
+          recording = subst (λ (r : Record). Records fdeBody (q .shortest && recordShort debug fdeBody) r (parseRecord debug word n fdeBody)) f k
+
+          pub record-held : at + 8 ≤ end → end ≤ length s → at + 4 + t .at ≤ end
+          record-held l i = omega (arith, recording .inside, length-take-le (end - (at + 4)) (drop (at + 4) s) (omega (arith, length-drop (at + 4) s)))
+
+          marks : t .shortest ≡ (headerShort debug cieBody && recordShort debug fdeBody)
+          marks = recording .mark ∙ ap (λ (b : Bool). b && recordShort debug fdeBody) (heading .mark)
+
+          pub fields-there : T (isWord word) → cie + 8 ≤ past → past ≤ length s → at + 8 ≤ end → end ≤ length s
+              → Stated s word (record { header = cie + 4 + q .at; «header_end» = past; «record» = at + 4 + t .at; «record_end» = end; size = z; pointer = n; signal = g; word = word; shortest = t .shortest }) (fieldsOf s debug word cie past at end)
+          unfolding parsed onward orElse
+          fields-there is l i l′ i′ =
+              record {
+                answer = rw (heading .read, recording .read, drop-part s (cie + 4) past (q .at), drop-part s (at + 4) end (t .at), marks);
+                header-ordered = header-held l i;
+                header-inside = i;
+                record-ordered = record-held l′ i′;
+                record-inside = i′;
+                same-word = refl;
+                is-word = is;
+              }
 
 -- ---- 61, 62 and 63
 

@@ -4,5 +4,4 @@ pub mod Fields
 pub mod Finds
 pub mod OneRegister
 pub mod States
-pub mod Marks
 pub mod Listing

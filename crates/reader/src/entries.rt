@@ -6,7 +6,8 @@ ghost use lib.Dec.{T};
 ghost use Rattle.format.specs.Questions.{isSome};
 ghost use Rattle.format.specs.Reader.{second, isHeader, records, entries};
 ghost use Rattle.reader.specs.Spans.{part, entryIn, entriesFrom, listed, endAt, Ends, Spans};
-use format::Unsigned;
+use operations::fields::Position;
+use operations::fields::Unsigned;
 use operations::fields::read_le;
 
 // A number, where there is one.
@@ -19,16 +20,18 @@ pub enum Number {
 pub fn entry_end(s: &[u8], at: usize) -> Number
     ensures { λ r. ⌜ r ≡ endAt (now (s .entry)) at ⌝ }
 {
-    let Unsigned::Value(n, body) = read_le(s, at, 4) else {
+    let place = Position { at, shortest: true };
+    let Unsigned::Value(n, body) = read_le(s, place, 4) else {
         return Number::Nothing;
     };
     if n < 4 {
         return Number::Nothing;
     }
-    if s.len() - body < n as usize {
+    let from = body.at;
+    if s.len() - from < n as usize {
         return Number::Nothing;
     }
-    Number::Is(body + n as usize)
+    Number::Is(from + n as usize)
 }
 
 // Question 61: the entries tile the section.
@@ -60,7 +63,7 @@ pub fn past(s: &[u8], at: usize) -> usize
 fn id_of(body: &[u8]) -> u64
     ensures { λ r. ⌜ r ≡ second (now (body .entry)) ⌝ }
 {
-    let Unsigned::Value(v, _) = read_le(body, 0, 4) else {
+    let Unsigned::Value(v, _) = read_le(body, Position::START, 4) else {
         return 0;
     };
     v

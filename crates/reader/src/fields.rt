@@ -1,20 +1,23 @@
 // The fields of headers and records: question 64.
 ghost use mathlib.Core.Path.{_≡_};
+ghost use mathlib.Core.Bool.{_&&_};
+ghost use mathlib.Core.List.{[], _∷_};
 ghost use Prim.Native.Nat.{_≤_};
 ghost use lib.ListN.{length, drop};
 ghost use lib.Dec.{T};
 ghost use Rattle.format.specs.Questions.{isSome};
-ghost use Rattle.format.specs.Reader.{strip, spellings, readLetters, readCounted, personalityIn, lsdaIn, lettersIn, headerTail, parseHeader, recordTail, parseRecord};
+ghost use Rattle.format.specs.Reader.{strip, spellings, readLetters, readCounted, personalityIn, lsdaIn, lettersIn, headerTail, parseHeader, recordTail, parseRecord, headerNumbers, headerShort, recordShort};
 ghost use Rattle.format.specs.Prelude.{pick};
+ghost use Rattle.format.specs.Shortest.{unsigned, numbersShort};
 ghost use Rattle.format.specs.Machine.{isWord};
 ghost use Rattle.format.specs.Rows.{sameOffset};
 ghost use Rattle.format.specs.Headers.{pointerSize, dataFactor};
 ghost use Rattle.reader.specs.Spans.{numberOf};
-ghost use Rattle.reader.specs.Fields.{lettersOf, twoOf, ReadsAugmentation, CountsIn, SkipsTo, Numbers, Heads, headerFactors, Records};
+ghost use Rattle.reader.specs.Fields.{lettersOf, twoOf, ReadsAugmentation, CountsIn, SkipsTo, Numbers, Heads, tailMark, headerFactors, Records};
 use crate::entries::Number;
-use crate::entries::Span;
-use format::Signed;
-use format::Unsigned;
+use operations::fields::Position;
+use operations::fields::Signed;
+use operations::fields::Unsigned;
 use operations::fields::read_le;
 use operations::fields::read_sleb;
 use operations::fields::read_uleb;
@@ -30,7 +33,7 @@ pub struct Augmentation {
 
 // What a string announces, and the position past it.
 pub enum AugmentationRead {
-    Known(Augmentation, usize),
+    Known(Augmentation, Position),
     Unknown,
 }
 
@@ -66,28 +69,42 @@ fn announced(personality: bool, lsda: bool, signal: bool) -> Augmentation
 // One string, or the one that marks a signal frame.
 fn marked(
     s: &[u8],
-    at: usize,
+    at: Position,
     plain: &[u8],
     signal: &[u8],
     personality: bool,
     lsda: bool,
 ) -> AugmentationRead
-    requires { ⌜ at ≤ length (now s) ⌝ }
-    ensures { λ r. ⌜ ReadsAugmentation (now (s .entry)) r (readLetters (twoOf (now (plain .entry)) (now (signal .entry)) personality lsda) (drop at (now (s .entry)))) ⌝ }
+    requires { ⌜ at .at ≤ length (now s) ⌝ }
+    ensures { λ r. ⌜ ReadsAugmentation (now (s .entry)) (at .shortest) r (readLetters (twoOf (now (plain .entry)) (now (signal .entry)) personality lsda) (drop (at .at) (now (s .entry)))) ⌝ }
 {
-    if text_at(s, at, plain) {
-        return AugmentationRead::Known(announced(personality, lsda, false), at + plain.len());
+    let from = at.at;
+    let shortest = at.shortest;
+    if text_at(s, from, plain) {
+        return AugmentationRead::Known(
+            announced(personality, lsda, false),
+            Position {
+                at: from + plain.len(),
+                shortest,
+            },
+        );
     }
-    if text_at(s, at, signal) {
-        return AugmentationRead::Known(announced(personality, lsda, true), at + signal.len());
+    if text_at(s, from, signal) {
+        return AugmentationRead::Known(
+            announced(personality, lsda, true),
+            Position {
+                at: from + signal.len(),
+                shortest,
+            },
+        );
     }
     AugmentationRead::Unknown
 }
 
 // The string at `at`, one of the source's.
-pub fn letters(s: &[u8], at: usize, debug: bool) -> AugmentationRead
-    requires { ⌜ at ≤ length (now s) ⌝ }
-    ensures { λ r. ⌜ ReadsAugmentation (now (s .entry)) r (readLetters (spellings debug) (drop at (now (s .entry)))) ⌝ }
+pub fn letters(s: &[u8], at: Position, debug: bool) -> AugmentationRead
+    requires { ⌜ at .at ≤ length (now s) ⌝ }
+    ensures { λ r. ⌜ ReadsAugmentation (now (s .entry)) (at .shortest) r (readLetters (spellings debug) (drop (at .at) (now (s .entry)))) ⌝ }
 {
     if debug {
         return marked(s, at, b"\0", b"S\0", false, false);
@@ -117,17 +134,24 @@ fn pointer_size(indirect: bool, word: u64, e: u8) -> Number
 
 // ---- augmentation data
 
-// A length and as many bytes: where these start and end.
-fn counted(s: &[u8], at: usize) -> Span
-    ensures { λ r. ⌜ CountsIn (now (s .entry)) r (readCounted (drop at (now (s .entry)))) ⌝ }
+// Augmentation data, which a length counts: its position, and where it ends.
+pub enum AugmentationData {
+    At(Position, usize),
+    Nothing,
+}
+
+// A length and as many bytes.
+fn counted(s: &[u8], at: Position) -> AugmentationData
+    ensures { λ r. ⌜ CountsIn (now (s .entry)) (at .shortest && numbersShort (unsigned ∷ []) (drop (at .at) (now (s .entry)))) r (readCounted (drop (at .at) (now (s .entry)))) ⌝ }
 {
     let Unsigned::Value(n, start) = read_uleb(s, at) else {
-        return Span::Nothing;
+        return AugmentationData::Nothing;
     };
-    if s.len() - start < n as usize {
-        return Span::Nothing;
+    let from = start.at;
+    if s.len() - from < n as usize {
+        return AugmentationData::Nothing;
     }
-    Span::At(start, start + n as usize)
+    AugmentationData::At(start, from + n as usize)
 }
 
 // The position past the personality's encoding and pointer, where there is one `here`.
@@ -151,20 +175,27 @@ fn personality_in(s: &[u8], here: bool, word: u64) -> Number
 }
 
 // The bytes of a record's pointer to call sites by the encoding at `at`, none where there is no encoding `here`.
-fn lsda_in(s: &[u8], at: usize, here: bool, word: u64) -> Unsigned
-    requires { ⌜ T (isWord word) × (at ≤ length (now s)) ⌝ }
-    ensures { λ r. ⌜ Numbers (now (s .entry)) r (lsdaIn here word (drop at (now (s .entry)))) ⌝ }
+fn lsda_in(s: &[u8], at: Position, here: bool, word: u64) -> Unsigned
+    requires { ⌜ T (isWord word) × (at .at ≤ length (now s)) ⌝ }
+    ensures { λ r. ⌜ Numbers (now (s .entry)) (at .shortest) r (lsdaIn here word (drop (at .at) (now (s .entry)))) ⌝ }
 {
     if !here {
         return Unsigned::Value(0, at);
     }
-    if s.len() <= at {
+    let from = at.at;
+    if s.len() <= from {
         return Unsigned::Bad;
     }
-    let Number::Is(n) = pointer_size(false, word, s[at]) else {
+    let Number::Is(n) = pointer_size(false, word, s[from]) else {
         return Unsigned::Bad;
     };
-    Unsigned::Value(n as u64, at + 1)
+    Unsigned::Value(
+        n as u64,
+        Position {
+            at: from + 1,
+            shortest: at.shortest,
+        },
+    )
 }
 
 // The data that the string promises, the records' own encoding last: the bytes of a record's pointer to call sites.
@@ -175,13 +206,15 @@ fn letters_in(s: &[u8], word: u64, p: Augmentation) -> Number
     let Number::Is(at) = personality_in(s, p.personality, word) else {
         return Number::Nothing;
     };
-    let Unsigned::Value(n, last) = lsda_in(s, at, p.lsda, word) else {
+    let start = Position { at, shortest: true };
+    let Unsigned::Value(n, last) = lsda_in(s, start, p.lsda, word) else {
         return Number::Nothing;
     };
-    if s.len() <= last {
+    let end = last.at;
+    if s.len() <= end {
         return Number::Nothing;
     }
-    if s[last] != 0x1b {
+    if s[end] != 0x1b {
         return Number::Nothing;
     }
     Number::Is(n as usize)
@@ -189,27 +222,32 @@ fn letters_in(s: &[u8], word: u64, p: Augmentation) -> Number
 
 // ---- the fields of a header
 
-// Where the operations start, the bytes of a record's pointer to call sites, and the signal mark.
+// The position of the operations, the bytes of a record's pointer to call sites, and the signal mark.
 pub enum Header {
-    Fields(usize, u64, bool),
+    Fields(Position, u64, bool),
     Bad,
 }
 
 // The augmentation data, of which debug_frame has none; the operations follow it.
-pub fn header_tail(s: &[u8], at: usize, debug: bool, word: u64, p: Augmentation) -> Header
-    requires { ⌜ T (isWord word) × (at ≤ length (now s)) ⌝ }
-    ensures { λ r. ⌜ Heads (now (s .entry)) r (headerTail debug (lettersOf p) word (drop at (now (s .entry)))) ⌝ }
+pub fn header_tail(s: &[u8], at: Position, debug: bool, word: u64, p: Augmentation) -> Header
+    requires { ⌜ T (isWord word) × (at .at ≤ length (now s)) ⌝ }
+    ensures { λ r. ⌜ Heads (now (s .entry)) (tailMark debug (now (s .entry)) at) r (headerTail debug (lettersOf p) word (drop (at .at) (now (s .entry)))) ⌝ }
 {
     if debug {
         return Header::Fields(at, 0, p.signal);
     }
-    let Span::At(start, end) = counted(s, at) else {
+    let AugmentationData::At(start, end) = counted(s, at) else {
         return Header::Bad;
     };
-    let Number::Is(n) = letters_in(&s[start..end], word, p) else {
+    let from = start.at;
+    let Number::Is(n) = letters_in(&s[from..end], word, p) else {
         return Header::Bad;
     };
-    Header::Fields(end, n as u64, p.signal)
+    let past = Position {
+        at: end,
+        shortest: start.shortest,
+    };
+    Header::Fields(past, n as u64, p.signal)
 }
 
 // The data alignment factor is minus the word.
@@ -221,9 +259,9 @@ pub fn factor_ok(z: i64, word: u64) -> bool
 }
 
 // From the code alignment factor on.
-fn header_factors(s: &[u8], at: usize, debug: bool, word: u64, p: Augmentation) -> Header
+fn header_factors(s: &[u8], at: Position, debug: bool, word: u64, p: Augmentation) -> Header
     requires { ⌜ T (isWord word) ⌝ }
-    ensures { λ r. ⌜ Heads (now (s .entry)) r (headerFactors debug (lettersOf p) word (drop at (now (s .entry)))) ⌝ }
+    ensures { λ r. ⌜ Heads (now (s .entry)) (at .shortest && numbersShort (headerNumbers debug) (drop (at .at) (now (s .entry)))) r (headerFactors debug (lettersOf p) word (drop (at .at) (now (s .entry)))) ⌝ }
 {
     let Unsigned::Value(code, data) = read_uleb(s, at) else {
         return Header::Bad;
@@ -249,18 +287,23 @@ fn header_factors(s: &[u8], at: usize, debug: bool, word: u64, p: Augmentation) 
 // Question 64 of a header, by the bytes behind its length.
 pub fn parse_header(s: &[u8], debug: bool, word: u64) -> Header
     requires { ⌜ T (isWord word) ⌝ }
-    ensures { λ r. ⌜ Heads (now (s .entry)) r (parseHeader debug word (now (s .entry))) ⌝ }
+    ensures { λ r. ⌜ Heads (now (s .entry)) (headerShort debug (now (s .entry))) r (parseHeader debug word (now (s .entry))) ⌝ }
 {
-    let Unsigned::Value(_, at) = read_le(s, 0, 4) else {
+    let Unsigned::Value(_, version) = read_le(s, Position::START, 4) else {
         return Header::Bad;
     };
-    if s.len() <= at {
+    let from = version.at;
+    if s.len() <= from {
         return Header::Bad;
     }
-    if s[at] != 1 {
+    if s[from] != 1 {
         return Header::Bad;
     }
-    let AugmentationRead::Known(p, past) = letters(s, at + 1, debug) else {
+    let string = Position {
+        at: from + 1,
+        shortest: version.shortest,
+    };
+    let AugmentationRead::Known(p, past) = letters(s, string, debug) else {
         return Header::Bad;
     };
     header_factors(s, past, debug, word, p)
@@ -268,27 +311,32 @@ pub fn parse_header(s: &[u8], debug: bool, word: u64) -> Header
 
 // ---- the fields of a record
 
-// Where the operations start, and the function's length.
+// The position of the operations, and the function's length.
 pub enum Record {
-    Fields(usize, u64),
+    Fields(Position, u64),
     Bad,
 }
 
 // The augmentation of a record holds its pointer to call sites.
-pub fn record_tail(s: &[u8], at: usize, debug: bool, pointer: u64, size: u64) -> Record
-    requires { ⌜ at ≤ length (now s) ⌝ }
-    ensures { λ r. ⌜ Records (now (s .entry)) r (recordTail debug pointer size (drop at (now (s .entry)))) ⌝ }
+pub fn record_tail(s: &[u8], at: Position, debug: bool, pointer: u64, size: u64) -> Record
+    requires { ⌜ at .at ≤ length (now s) ⌝ }
+    ensures { λ r. ⌜ Records (now (s .entry)) (tailMark debug (now (s .entry)) at) r (recordTail debug pointer size (drop (at .at) (now (s .entry)))) ⌝ }
 {
     if debug {
         return Record::Fields(at, size);
     }
-    let Span::At(start, end) = counted(s, at) else {
+    let AugmentationData::At(start, end) = counted(s, at) else {
         return Record::Bad;
     };
-    if ((end - start) as u64) < pointer {
+    let from = start.at;
+    if ((end - from) as u64) < pointer {
         return Record::Bad;
     }
-    Record::Fields(end, size)
+    let past = Position {
+        at: end,
+        shortest: start.shortest,
+    };
+    Record::Fields(past, size)
 }
 
 // The bytes of a function's place and of its length.
@@ -301,13 +349,14 @@ pub fn field_size(debug: bool, word: u64) -> u64
     4
 }
 
-// Question 64 of a record, by the bytes behind its length.
-pub fn parse_record(s: &[u8], debug: bool, word: u64, pointer: u64) -> Record
+// Question 64 of a record, by the bytes behind its length; `shortest` is the mark of what was read before.
+pub fn parse_record(s: &[u8], debug: bool, word: u64, pointer: u64, shortest: bool) -> Record
     requires { ⌜ T (isWord word) ⌝ }
-    ensures { λ r. ⌜ Records (now (s .entry)) r (parseRecord debug word pointer (now (s .entry))) ⌝ }
+    ensures { λ r. ⌜ Records (now (s .entry)) (shortest && recordShort debug (now (s .entry))) r (parseRecord debug word pointer (now (s .entry))) ⌝ }
 {
     let n = field_size(debug, word) as usize;
-    let Unsigned::Value(_, place) = read_le(s, 0, 4) else {
+    let start = Position { at: 0, shortest };
+    let Unsigned::Value(_, place) = read_le(s, start, 4) else {
         return Record::Bad;
     };
     let Unsigned::Value(_, length) = read_le(s, place, n) else {

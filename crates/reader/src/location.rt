@@ -5,11 +5,11 @@ ghost use Prim.Native.Nat.{_+_, _≤_};
 ghost use lib.ListN.{length};
 ghost use lib.Dec.{T, eqb, ltb};
 ghost use Rattle.format.specs.Questions.{isSome};
-ghost use Rattle.format.specs.Reader.{isHeader, distanceBack, firstAddend, headerPlace, headerAt, headerShort, recordShort, entries, parsed, locate};
+ghost use Rattle.format.specs.Reader.{isHeader, distanceBack, firstAddend, headerPlace, headerAt, entries, parsed, locate};
 ghost use Rattle.format.specs.Lists.{relocationsOf};
 ghost use Rattle.format.specs.Prelude.{after};
 ghost use Rattle.format.specs.Machine.{isWord};
-ghost use Rattle.reader.specs.Spans.{part, entryIn, listed, numberOf, Spans};
+ghost use Rattle.reader.specs.Spans.{entryIn, listed, numberOf, Spans};
 ghost use Rattle.reader.specs.Finds.{Locates};
 use crate::entries;
 use crate::entries::Number;
@@ -17,7 +17,6 @@ use crate::entries::Span;
 use crate::fields;
 use crate::fields::Header;
 use crate::fields::Record;
-use crate::shortest;
 
 // ---- the header of a record
 
@@ -124,26 +123,6 @@ pub enum Locating {
     No(u64),
 }
 
-// Whether the numbers among the fields of both are spelled shortest.
-pub fn fields_shortest(
-    s: &[u8],
-    debug: bool,
-    cie: usize,
-    past: usize,
-    at: usize,
-    end: usize,
-) -> bool
-    requires { ⌜ (cie + 8 ≤ past) × (past ≤ length (now s)) × (at + 8 ≤ end) × (end ≤ length (now s)) ⌝ }
-    ensures { λ r. ⌜ r ≡ headerShort debug (part (now (s .entry)) (cie + 4) past) && recordShort debug (part (now (s .entry)) (at + 4) end) ⌝ }
-{
-    let header = cie + 4;
-    if !shortest::header(&s[header..past], debug) {
-        return false;
-    }
-    let record = at + 4;
-    shortest::record(&s[record..end], debug)
-}
-
 // Question 64 of the header from `cie` to `past`, and then of the record from `at` to `end`.
 pub fn parse(
     s: &[u8],
@@ -163,21 +142,27 @@ pub fn parse(
         return Locating::No(64);
     };
     let record = at + 4;
-    let Record::Fields(rows, size) = fields::parse_record(&s[record..end], debug, word, pointer)
-    else {
+    let rules_at = rules.at;
+    let Record::Fields(rows, size) = fields::parse_record(
+        &s[record..end],
+        debug,
+        word,
+        pointer,
+        rules.shortest,
+    ) else {
         return Locating::No(64);
     };
-    let shortest = fields_shortest(s, debug, cie, past, at, end);
+    let rows_at = rows.at;
     Locating::Found(Located {
-        header: header + rules,
+        header: header + rules_at,
         header_end: past,
-        record: record + rows,
+        record: record + rows_at,
         record_end: end,
         size,
         pointer,
         signal,
         word,
-        shortest,
+        shortest: rows.shortest,
     })
 }
 

@@ -12,12 +12,13 @@ ghost use Rattle.reader.specs.Spans.{part};
 ghost use Rattle.reader.specs.OneRegister.{start, setCfa, setRule, changeOffset, changeRegister, remember, recall, negated, act};
 ghost use Rattle.reader.specs.States.{Held, runOf, Acts};
 use format::CfaRule;
-use format::Decoded;
 use format::Operation;
 use format::Reading;
 use format::Row;
 use format::Rule;
 use format::Rules;
+use operations::Decoded;
+use operations::fields::Position;
 
 // ---- the state
 
@@ -257,8 +258,8 @@ pub fn run(
         from = record;
         to = record_end;
         let mut loc = 0;
-        let mut at = 0;
-        'operations: while at < ops.len() {
+        let mut at = Position::START;
+        'operations: while at.at < ops.len() {
             let Decoded::Operation(op, next) = operations::operation(ops, at, word) else {
                 return Reading::Refused(66);
             };

@@ -1,6 +1,6 @@
 -- A function's fields and its address: readers at positions, and sums modulo the word's bits.
 use mathlib.Core.Path.{_≡_, refl, sym, ap, _∙_}
-use mathlib.Core.Bool.{Bool, true, false, not, _||_, _&&_}
+use mathlib.Core.Bool.{Bool, true, false, _||_, _&&_}
 use mathlib.Core.Option.{Option, none, some}
 use mathlib.Core.List.{List}
 use mathlib.Core.Logic.{⊎-elim}
@@ -18,11 +18,12 @@ use Rattle.reader.specs.declared.entries.Number.the-variants as number
 use Rattle.reads.specs.Places.{asked}
 use Rattle.reads.proofs.Placing.{entry-none, entry-here}
 use Rattle.format.specs.Machine.{isWord}
-use Rattle.format.specs.declared.Unsigned.the-variants as unsigned
+use Rattle.operations.specs.declared.fields.Position.{Position}
+use Rattle.operations.specs.declared.fields.Unsigned.the-variants as unsigned
 use Rattle.format.proofs.Choice.{if-le, if-gt}
 use Rattle.format.proofs.FieldsBack.{word-small}
-use Rattle.format.proofs.Positions.{littleAt}
-use Rattle.format.proofs.PositionLaws.{little-rest, little-none}
+use Rattle.operations.specs.Positions.{littleAt, from}
+use Rattle.operations.proofs.PositionLaws.{little-rest, little-none}
 use Rattle.reader.proofs.Recorded.{field-small}
 use Rattle.reader.specs.Spans.{part, entryIn}
 use Rattle.reads.specs.Addresses.{functionFields, sdata4, startOf, functionOf, unplaced, placedAs, functionAt, recordOf, holderAs, holderIn, holds}
@@ -38,26 +39,26 @@ module _ (s : List ℕ) (debug : Bool) (word : ℕ) where
   abbrev fields : Function
   fields = fieldsAs (functionFields debug word s)
 
-  pub fields-none : littleAt 4 s 0 ≡ unsigned.Bad → function.Bad ≡ fields
+  pub fields-none : littleAt 4 s (from 0) ≡ unsigned.Bad → function.Bad ≡ fields
   unfolding functionFields next fieldsAs
-  fields-none e = rw (little-none s 0 4 e) refl
+  fields-none e = rw (little-none s (from 0) 4 e) refl
 
-  module _ (t : T (isWord word)) {id p : ℕ} (e : littleAt 4 s 0 ≡ unsigned.Value id p) {n : ℕ} (w : n ≡ pick debug word 4) where
+  module _ (t : T (isWord word)) {id : ℕ} {p : Position} (e : littleAt 4 s (from 0) ≡ unsigned.Value id p) {n : ℕ} (w : n ≡ pick debug word 4) where
     pub fields-byte : 0 < n
     fields-byte = omega (arith, field-small debug word t .0)
 
     pub fields-placeless : littleAt n s p ≡ unsigned.Bad → function.Bad ≡ fields
     unfolding functionFields next fieldsAs
-    fields-placeless f = rw (← w, little-rest s 0 (omega arith) e, little-none s p n f) refl
+    fields-placeless f = rw (← w, little-rest s (from 0) (omega arith) e, little-none s p n f) refl
 
-    module _ {v q : ℕ} (f : littleAt n s p ≡ unsigned.Value v q) where
+    module _ {v : ℕ} {q : Position} (f : littleAt n s p ≡ unsigned.Value v q) where
       pub fields-sizeless : littleAt n s q ≡ unsigned.Bad → function.Bad ≡ fields
       unfolding functionFields next fieldsAs
-      fields-sizeless g = rw (← w, little-rest s 0 (omega arith) e, little-rest s p fields-byte f, little-none s q n g) refl
+      fields-sizeless g = rw (← w, little-rest s (from 0) (omega arith) e, little-rest s p fields-byte f, little-none s q n g) refl
 
-      pub fields-there : {size u : ℕ} → littleAt n s q ≡ unsigned.Value size u → function.Fields v size ≡ fields
+      pub fields-there : {size : ℕ} {u : Position} → littleAt n s q ≡ unsigned.Value size u → function.Fields v size ≡ fields
       unfolding functionFields next fieldsAs
-      fields-there g = rw (← w, little-rest s 0 (omega arith) e, little-rest s p fields-byte f, little-rest s q fields-byte g) refl
+      fields-there g = rw (← w, little-rest s (from 0) (omega arith) e, little-rest s p fields-byte f, little-rest s q fields-byte g) refl
 
 -- ---- addresses
 

@@ -16,7 +16,7 @@ use Rattle.format.specs.Machine.{isWord}
 use Rattle.format.specs.Answers.{bit}
 use Rattle.format.specs.Lists.{Relocation, relocationsOf}
 use Rattle.format.specs.Reader.{Entry, entries, records, headerPlace, headerAt, strip, Letters, Spelling, spellings, spellOr, readLetters, readByte, readMany, readCounted, lettersIn, HeaderFields, headerTail, require, parseHeader, RecordFields, recordTail, parseRecord, headerShort, recordShort, Found, parsed, locate, read, shortestAt}
-use Rattle.format.proofs.PositionLaws.{Takes, nothing, taken, takes-little, takes-uleb, takes-sleb}
+use Rattle.operations.proofs.PositionLaws.{Takes, nothing, taken, takes-little, takes-uleb, takes-sleb}
 use Rattle.reader.specs.Spans.{part, entryIn}
 use Rattle.reader.specs.Finds.{found, Stated}
 use Rattle.reader.specs.Finds as reader

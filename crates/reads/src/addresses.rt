@@ -11,7 +11,8 @@ ghost use Rattle.reads.specs.Addresses.{functionFields, startOf, functio
 ghost use Rattle.reads.specs.Standing.{fieldsAs};
 use crate::Holder;
 use crate::Placed;
-use format::Unsigned;
+use operations::fields::Position;
+use operations::fields::Unsigned;
 use operations::fields::read_le;
 
 // 2^31, and what a signed number of 4 bytes from there on lacks to 2^64.
@@ -40,7 +41,7 @@ fn fields_of(body: &[u8], debug: bool, word: u64) -> Function
     ensures { λ r. ⌜ r ≡ fieldsAs (functionFields debug word (now (body .entry))) ⌝ }
 {
     let n = reader::fields::field_size(debug, word) as usize;
-    let Unsigned::Value(_, place) = read_le(body, 0, 4) else {
+    let Unsigned::Value(_, place) = read_le(body, Position::START, 4) else {
         return Function::Bad;
     };
     let Unsigned::Value(field, size) = read_le(body, place, n) else {

@@ -53,26 +53,28 @@ pub fn locate_entries(
         return refused(64);
     };
     let record = at + 4;
+    let rules_at = rules.at;
     let Record::Fields(rows, length) = reader::fields::parse_record(
         &s[record..end],
         debug,
         word,
         pointer,
+        rules.shortest,
     ) else {
         return refused(64);
     };
-    let shortest = reader::location::fields_shortest(s, debug, cie, past, at, end);
+    let rows_at = rows.at;
     Located {
         number: 0,
-        header: (header + rules) as u64,
+        header: (header + rules_at) as u64,
         header_end: past as u64,
-        record: (record + rows) as u64,
+        record: (record + rows_at) as u64,
         record_end: end as u64,
         length,
         pointer,
         signal: unwind::number(signal),
         word,
-        shortest: unwind::number(shortest),
+        shortest: unwind::number(rows.shortest),
     }
 }
 

@@ -14,10 +14,11 @@ use Rattle.format.specs.Lists.{relocationsOf}
 use Rattle.format.specs.Rules.{State, answer}
 use Rattle.format.specs.Reader.{Entry, Found, entries, records, distanceBack, headerPlace, headerAt, parsed, locate, runTo, readSection, read}
 use Rattle.format.specs.declared.Reading.{Reading}
-use Rattle.format.specs.declared.Unsigned.{Unsigned}
-use Rattle.format.specs.declared.Unsigned.the-variants as unsigned
+use Rattle.operations.specs.declared.fields.Position.{Position}
+use Rattle.operations.specs.declared.fields.Unsigned.{Unsigned}
+use Rattle.operations.specs.declared.fields.Unsigned.the-variants as unsigned
 use Rattle.format.proofs.Choice.{pick-yes, is-true}
-use Rattle.format.proofs.Positions.{littleAt, unsignedFrom}
+use Rattle.operations.specs.Positions.{littleAt, unsignedFrom, from}
 use Rattle.reader.specs.Spans.{part, entryIn, listed, numberOf, Stands, Spans}
 use Rattle.reader.specs.Finds.{found, Stated, Locates, inSection, rulesFrom}
 use Rattle.reader.specs.declared.entries.Number.the-variants as number
@@ -48,14 +49,14 @@ module _ (s : List ℕ) (at end : ℕ) where
 
 -- ---- the length
 
-size-read : (size : ℕ) (x : Read ℕ) → sizeOf (unsignedFrom size x) ≡ next x λ n rest. some n
+size-read : (p : Position) (b : Bool) (size : ℕ) (x : Read ℕ) → sizeOf (unsignedFrom p b size x) ≡ next x λ n rest. some n
 unfolding sizeOf unsignedFrom next
-size-read size none = refl
-size-read size (some x) = refl
+size-read p b size none = refl
+size-read p b size (some x) = refl
 
-pub size-said : (s : List ℕ) (at end : ℕ) {r : Unsigned} → r ≡ littleAt 4 (part s (at + 4) end) 8 → sizeOf r ≡ lengthOf (entryIn s at end)
+pub size-said : (s : List ℕ) (at end : ℕ) {r : Unsigned} → r ≡ littleAt 4 (part s (at + 4) end) (from 8) → sizeOf r ≡ lengthOf (entryIn s at end)
 unfolding littleAt lengthOf
-size-said s at end e = rw e (size-read (length (part s (at + 4) end)) (readLittle 4 (drop 8 (part s (at + 4) end))))
+size-said s at end e = rw e (size-read _ true (length (part s (at + 4) end)) (readLittle 4 (drop 8 (part s (at + 4) end))))
 
 -- ---- the rules at an offset
 
@@ -112,7 +113,7 @@ module _ (s : List ℕ) (word at end : ℕ) {r : Unsigned} (m : sizeOf r ≡ len
   unfolding passesIn lastIn sizeOf
   no-size e = rw (← m, e)
 
-  module _ {n q : ℕ} (e : r ≡ unsigned.Value n q) where
+  module _ {n : ℕ} {q : Position} (e : r ≡ unsigned.Value n q) where
     pub size-zero : n ≡ 0 → true ≡ passesIn s word (entryIn s at end)
     unfolding passesIn lastIn sizeOf
     size-zero z = rw (← m, e, z)

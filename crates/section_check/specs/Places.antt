@@ -10,8 +10,8 @@ use Rattle.format.specs.Prelude.{pick, after, Result, onward, orElse}
 use Rattle.format.specs.Questions.{isSome}
 use Rattle.format.specs.Rules.{State, answer}
 use Rattle.format.specs.Reader.{Entry, entries, distanceBack, headerAt, parsed, runTo}
-use Rattle.format.specs.declared.Unsigned.{Unsigned}
-use Rattle.format.specs.declared.Unsigned.the-variants as unsigned
+use Rattle.operations.specs.declared.fields.Unsigned.{Unsigned}
+use Rattle.operations.specs.declared.fields.Unsigned.the-variants as unsigned
 use Rattle.reader.specs.Spans.{entriesFrom, listed}
 use Rattle.section_check.specs.Check.{lengthOf, answers}
 

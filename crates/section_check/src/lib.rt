@@ -12,7 +12,8 @@ ghost use Rattle.reader.specs.Spans.{entryIn, listed, Spans};
 ghost use Rattle.section_check.specs.Check.{lengthOf, checkFrom, checkSection, Means};
 ghost use Rattle.section_check.specs.Places.{Ahead, Marks, marked, markBefore, sizeOf, answersIn, passesIn};
 use format::Reading;
-use format::Unsigned;
+use operations::fields::Position;
+use operations::fields::Unsigned;
 use operations::fields::read_le;
 use reader::entries::Number;
 use reader::entries::Span;
@@ -93,7 +94,11 @@ fn size_of(s: &[u8], at: usize, end: usize) -> Unsigned
     ensures { λ r. ⌜ sizeOf r ≡ lengthOf (entryIn (now (s .entry)) at end) ⌝ }
 {
     let body = at + 4;
-    read_le(&s[body..end], 8, 4)
+    let length = Position {
+        at: 8,
+        shortest: true,
+    };
+    read_le(&s[body..end], length, 4)
 }
 
 // Whether the reader answers for register 0 at offset p of the record from `at` to `end`.

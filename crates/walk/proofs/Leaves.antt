@@ -16,10 +16,11 @@ use mir.Facts.{toZ-ofZ}
 use Rattle.format.specs.Prelude.{pick, next, after}
 use Rattle.format.specs.Leb.{readLittle}
 use Rattle.format.specs.Reader.{require, valueOr0}
-use Rattle.format.specs.declared.Unsigned.the-variants.{Value, Bad}
+use Rattle.operations.specs.declared.fields.Position.{Position}
+use Rattle.operations.specs.declared.fields.Unsigned.the-variants.{Value, Bad}
 use Rattle.format.proofs.Choice.{if-le, if-gt}
-use Rattle.format.proofs.Positions.{littleAt}
-use Rattle.format.proofs.PositionLaws.{little-rest, little-none}
+use Rattle.operations.specs.Positions.{littleAt}
+use Rattle.operations.proofs.PositionLaws.{little-rest, little-none}
 use Rattle.walk.specs.Walk.{sumOf, load, lookedUp}
 use Rattle.walk.specs.declared.Number.the-variants.{Is, Nothing}
 use Rattle.walk.specs.Standing.{numberOf, memoryOf}
@@ -81,27 +82,31 @@ module _ (a : ℕ) (z : ℤ) (f : SFits w64 z) {m : ℕ} (same : m ≡ mag z) wh
 
 -- ---- words
 
-module _ (s : List ℕ) (p : ℕ) where
-  pub word-none : littleAt 8 s p ≡ Bad → 0 ≡ valueOr0 (readLittle 8 (drop p s))
-  unfolding valueOr0
-  word-none e = rw (little-none s p 8 e)
+-- a place with nothing read in front of it
+abbrev pub from : ℕ → Position
+from p = record { at = p; shortest = true }
 
-  pub word-is : {v q : ℕ} → littleAt 8 s p ≡ Value v q → v ≡ valueOr0 (readLittle 8 (drop p s))
+module _ (s : List ℕ) (p : ℕ) where
+  pub word-none : littleAt 8 s (from p) ≡ Bad → 0 ≡ valueOr0 (readLittle 8 (drop p s))
   unfolding valueOr0
-  word-is e = rw (little-rest s p (omega arith) e)
+  word-none e = rw (little-none s (from p) 8 e)
+
+  pub word-is : {v : ℕ} {q : Position} → littleAt 8 s (from p) ≡ Value v q → v ≡ valueOr0 (readLittle 8 (drop p s))
+  unfolding valueOr0
+  word-is e = rw (little-rest s (from p) (omega arith) e)
 
 module _ (s : List ℕ) (address a : ℕ) where
   pub load-low : a < address → Nothing ≡ numberOf (load (memoryOf address s) a)
   unfolding load numberOf require
   load-low h = rw (if-gt address a)
 
-  pub load-none : address ≤ a → littleAt 8 s (a - address) ≡ Bad → Nothing ≡ numberOf (load (memoryOf address s) a)
+  pub load-none : address ≤ a → littleAt 8 s (from (a - address)) ≡ Bad → Nothing ≡ numberOf (load (memoryOf address s) a)
   unfolding load numberOf require next
-  load-none h e = rw (if-le address a, little-none s (a - address) 8 e)
+  load-none h e = rw (if-le address a, little-none s (from (a - address)) 8 e)
 
-  pub load-is : address ≤ a → {v q : ℕ} → littleAt 8 s (a - address) ≡ Value v q → Is v ≡ numberOf (load (memoryOf address s) a)
+  pub load-is : address ≤ a → {v : ℕ} {q : Position} → littleAt 8 s (from (a - address)) ≡ Value v q → Is v ≡ numberOf (load (memoryOf address s) a)
   unfolding load numberOf require next
-  load-is h e = rw (if-le address a, little-rest s (a - address) (omega arith) e)
+  load-is h e = rw (if-le address a, little-rest s (from (a - address)) (omega arith) e)
 
 -- what follows from a number
 pub after-none : {B : Type 0} (o : Option ℕ) (k : ℕ → Option B) → numberOf o ≡ Nothing → after o k ≡ none

@@ -12,12 +12,14 @@ use Rattle.format.proofs.Choice.{tested}
 use Rattle.format.specs.Prelude.{pick, next}
 use Rattle.format.specs.Leb.{readLittle}
 use Rattle.format.specs.Reader.{require}
-use Rattle.format.specs.declared.Unsigned.the-variants as unsigned
-use Rattle.format.proofs.Positions.{littleAt}
-use Rattle.format.proofs.PositionLaws.{little-rest, little-none}
+use Rattle.operations.specs.declared.fields.Position.{Position}
+use Rattle.operations.specs.declared.fields.Unsigned.the-variants as unsigned
+use Rattle.operations.specs.Positions.{littleAt}
+use Rattle.operations.proofs.PositionLaws.{little-rest, little-none}
 use Rattle.walk.specs.Recorded.{matches, readTrailer}
 use Rattle.walk.specs.declared.Trailer.the-variants.{Numbers, Bad}
 use Rattle.walk.specs.Standing.{trailerOf}
+use Rattle.walk.proofs.Leaves.{from}
 
 -- two tests of equal meaning
 eqb-both : (x y a b : ℕ) → (x ≡ y → a ≡ b) → (a ≡ b → x ≡ y) → eqb x y ≡ eqb a b
@@ -62,27 +64,27 @@ module _ (s : List ℕ) where
       unfolding readTrailer require pick
       asked = simp (le-leb 16 (length s) low, le-leb (length s) 65536 high)
 
-      pub no-distance : littleAt 8 s (length s - 16) ≡ unsigned.Bad → Bad ≡ trailerOf (readTrailer s)
+      pub no-distance : littleAt 8 s (from (length s - 16)) ≡ unsigned.Bad → Bad ≡ trailerOf (readTrailer s)
       unfolding trailerOf next
-      no-distance e = rw (asked, little-none s (length s - 16) 8 e)
+      no-distance e = rw (asked, little-none s (from (length s - 16)) 8 e)
 
-      module _ {distance p : ℕ} (d : littleAt 8 s (length s - 16) ≡ unsigned.Value distance p) where
-        first : readLittle 8 (drop (length s - 16) s) ≡ some (distance, drop p s)
-        first = little-rest s (length s - 16) (omega arith) d
+      module _ {distance : ℕ} {p : Position} (d : littleAt 8 s (from (length s - 16)) ≡ unsigned.Value distance p) where
+        first : readLittle 8 (drop (length s - 16) s) ≡ some (distance, drop (p .at) s)
+        first = little-rest s (from (length s - 16)) (omega arith) d
 
         pub no-count : littleAt 4 s p ≡ unsigned.Bad → Bad ≡ trailerOf (readTrailer s)
         unfolding trailerOf next
         no-count e = rw (asked, first, little-none s p 4 e)
 
-        module _ {count q : ℕ} (c : littleAt 4 s p ≡ unsigned.Value count q) where
-          second : readLittle 4 (drop p s) ≡ some (count, drop q s)
+        module _ {count : ℕ} {q : Position} (c : littleAt 4 s p ≡ unsigned.Value count q) where
+          second : readLittle 4 (drop (p .at) s) ≡ some (count, drop (q .at) s)
           second = little-rest s p (omega arith) c
 
           pub no-size : littleAt 4 s q ≡ unsigned.Bad → Bad ≡ trailerOf (readTrailer s)
           unfolding trailerOf next
           no-size e = rw (asked, first, second, little-none s q 4 e)
 
-          module _ {size r : ℕ} (z : littleAt 4 s q ≡ unsigned.Value size r) where
+          module _ {size : ℕ} {r : Position} (z : littleAt 4 s q ≡ unsigned.Value size r) where
             pub no-match : matches (length s) distance count size ≡ false → Bad ≡ trailerOf (readTrailer s)
             unfolding trailerOf next require pick
             no-match e = rw (asked, first, second, little-rest s q (omega arith) z, e)

@@ -13,7 +13,8 @@ ghost use Rattle.walk.specs.Walk.{sumOf, load, saved, leftBy, frameAddre
 ghost use Rattle.walk.specs.Standing.{numberOf, found, holderOf, addressOf, trailerOf, memoryOf, both, slots, leftOf, stepOf, framesOf};
 use format::CfaRule;
 use format::Rule;
-use format::Unsigned;
+use operations::fields::Position;
+use operations::fields::Unsigned;
 use operations::fields::read_le;
 
 // A number, where there is one.
@@ -49,7 +50,11 @@ pub fn load(stack: &[u8], address: u64, a: u64) -> Number
     if a < address {
         return Number::Nothing;
     }
-    let Unsigned::Value(v, _) = read_le(stack, (a - address) as usize, 8) else {
+    let place = Position {
+        at: (a - address) as usize,
+        shortest: true,
+    };
+    let Unsigned::Value(v, _) = read_le(stack, place, 8) else {
         return Number::Nothing;
     };
     Number::Is(v)
@@ -164,7 +169,11 @@ pub fn read_trailer(file: &[u8]) -> Trailer
     if 65536 < n {
         return Trailer::Bad;
     }
-    let Unsigned::Value(distance, counted) = read_le(file, n - 16, 8) else {
+    let trailer = Position {
+        at: n - 16,
+        shortest: true,
+    };
+    let Unsigned::Value(distance, counted) = read_le(file, trailer, 8) else {
         return Trailer::Bad;
     };
     let Unsigned::Value(count, sized) = read_le(file, counted, 4) else {
@@ -182,7 +191,8 @@ pub fn read_trailer(file: &[u8]) -> Trailer
 fn word_at(s: &[u8], at: usize) -> u64
     ensures { λ r. ⌜ r ≡ valueOr0 (readLittle 8 (drop at (now (s .entry)))) ⌝ }
 {
-    let Unsigned::Value(v, _) = read_le(s, at, 8) else {
+    let place = Position { at, shortest: true };
+    let Unsigned::Value(v, _) = read_le(s, place, 8) else {
         return 0;
     };
     v

@@ -15,12 +15,13 @@ ghost use Rattle.walk.specs.Standing.{memoryOf, both, slots, leftOf, stepOf, ho
 ghost use Rattle.walked.specs.Entry.{numbersOf, chainNumbers, chainStored};
 ghost use Rattle.walked.specs.Named.{names, operationNames, Marked, MarkedAll, MarksIn};
 ghost use Rattle.walked.specs.Standing.{stateIn, isGood, rulesIn, ruledIn, sourceIn, allLeft, walkedOf, fullEnding, faultOf};
-use format::Decoded;
 use format::Machine;
 use format::Operation;
 use format::Reading;
 use format::Row;
 use format::Rules;
+use operations::Decoded;
+use operations::fields::Position;
 use reader::location::Located;
 use reader::location::Locating;
 use walk::Address;
@@ -89,8 +90,8 @@ fn mark_all(ops: &[u8], word: u64, start: Marks) -> Marks
     ensures { λ r. ⌜ MarkedAll (start .named) (r .named) word (now (ops .entry)) ⌝ }
 {
     let mut m = start;
-    let mut at = 0;
-    while at < ops.len() {
+    let mut at = Position::START;
+    while at.at < ops.len() {
         let Decoded::Operation(op, next) = operations::operation(ops, at, word) else {
             return m;
         };

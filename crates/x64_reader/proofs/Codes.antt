@@ -1,5 +1,5 @@
 -- One code at a position: its operand, and what is read where a part of it is missing.
-use mathlib.Core.Path.{_≡_, refl, sym, ap, _∙_}
+use mathlib.Core.Path.{_≡_, refl}
 use Prim.Native.Nat.{ℕ, zero, suc, _+_, _-_, _*_, _/_, _%_, _^_, _≤_, _<_}
 use native.Mathlib.Omega.{arith}
 use native.Mathlib.Nat.{pow-le-pow-right}
@@ -11,17 +11,13 @@ use lib.ListN.{length, getD, drop, length-drop}
 use lib.Seq.{drop-cons, drop-drop, getD-drop}
 use Rattle.format.specs.Prelude.{pick, Read, next, after}
 use Rattle.format.specs.Leb.{readLittle}
-use Rattle.format.proofs.Positions.{unsignedFrom, littleAt}
-use Rattle.format.specs.declared.Seh.{Seh}
-use Rattle.format.specs.declared.Unsigned.{Unsigned}
-use Rattle.format.specs.declared.Unsigned.the-variants as unsigned
+use Rattle.operations.specs.Positions.{past, unsignedFrom, littleAt}
+use Rattle.operations.specs.declared.fields.Position.{Position}
+use Rattle.operations.specs.declared.fields.Unsigned.the-variants as unsigned
 use Rattle.format.specs.X64Reader.{operandBytes, meaning, fieldsOf, readOperand, readCode}
-use Rattle.format.proofs.Choice.{tested, pick-yes, pick-no}
-use Rattle.format.proofs.PositionLaws.{Takes, nothing, taken, takes-little, little-none}
+use Rattle.operations.proofs.PositionLaws.{Takes, nothing, taken, takes-little, past-at, little-none}
 use Rattle.x64_reader.specs.declared.Fields.{Fields}
 use Rattle.x64_reader.specs.declared.Operand.the-variants as operand
-use Rattle.x64_reader.specs.declared.Code.{Code}
-use Rattle.x64_reader.specs.declared.Code.the-variants as code
 use Rattle.x64_reader.specs.Reads.{operandOf, Small, fieldNumbers, CodeThere}
 
 -- ---- a field of bytes
@@ -44,17 +40,17 @@ little-below (suc k) (b ∷ bs) h =
     let e : 256 ^ suc k ≡ 256 * 256 ^ k = omega arith in
     rw e (one-more (256 ^ k) b (readLittle k bs) (h 0) (little-below k bs (λ i. h (suc i))))
 
-below-small : (m size : ℕ) (r : Read ℕ) → m ≤ 2 ^ 32 → Below m r → Small (unsignedFrom size r)
+below-small : (p : Position) (m size : ℕ) (r : Read ℕ) → m ≤ 2 ^ 32 → Below m r → Small (unsignedFrom p true size r)
 unfolding unsignedFrom
-below-small m size none h l = tt
-below-small m size (some x) h l = omega arith
+below-small p m size none h l = tt
+below-small p m size (some x) h l = omega arith
 
 -- an operand of at most four bytes
-pub little-small : (k : ℕ) (s : List ℕ) (p : ℕ) → k ≤ 4 → ((i : ℕ) → getD s i 0 < 256) → Small (littleAt k s p)
+pub little-small : (k : ℕ) (s : List ℕ) (p : Position) → k ≤ 4 → ((i : ℕ) → getD s i 0 < 256) → Small (littleAt k s p)
 unfolding littleAt
 little-small k s p h bytes =
-    below-small (256 ^ k) (length s) (readLittle k (drop p s)) (pow-le-pow-right {n = 256} (lit< tt) {i = k} {j = 4} h)
-    (little-below k (drop p s) (λ i. rw (getD-drop p s i 0) (bytes (p + i))))
+    below-small p (256 ^ k) (length s) (readLittle k (drop (p .at) s)) (pow-le-pow-right {n = 256} (lit< tt) {i = k} {j = 4} h)
+    (little-below k (drop (p .at) s) (λ i. rw (getD-drop (p .at) s i 0) (bytes (p .at + i))))
 
 -- the field of n bytes at p, which may be empty: q is the position past it
 pub record Field (n : ℕ) (s : List ℕ) (p v q : ℕ) (r : Read ℕ) : Type 0 where
@@ -62,19 +58,21 @@ pub record Field (n : ℕ) (s : List ℕ) (p v q : ℕ) (r : Read ℕ) : Type 0 
   pub inside : q ≤ length s
   pub reads : r ≡ some (v, drop q s)
 
-taken-field : {n : ℕ} (s : List ℕ) (p : ℕ) {v q : ℕ} {r : Read ℕ} → p ≤ length s → Takes n n (drop p s) r
-    → unsignedFrom (length s) r ≡ unsigned.Value v q → Field n s p v q r
+taken-field : {n : ℕ} (s : List ℕ) (p : Position) {v : ℕ} {q : Position} {r : Read ℕ} → p .at ≤ length s → Takes n n (drop (p .at) s) r
+    → unsignedFrom p true (length s) r ≡ unsigned.Value v q → Field n s (p .at) v (q .at) r
 unfolding unsignedFrom
 taken-field s p low nothing e = let z : _≡_ {A = ℕ} 0 1 = cc in absurd (omega arith)
 taken-field {n} s p {v} {q} low (taken m w l h k) e =
     let same : w ≡ v = cc in
-    let at : length s - length (drop m (drop p s)) ≡ q = cc in
-    let a : q ≡ p + m = omega (arith, length-drop m (drop p s), length-drop p s) in
-    record { past = omega arith; inside = omega (arith, length-drop p s); reads = rw (drop-drop, a, same) }
+    let i : past p true (length s - length (drop m (drop (p .at) s))) ≡ q = cc in
+    let at : length s - length (drop m (drop (p .at) s)) ≡ q .at = past-at p true _ i in
+    let a : q .at ≡ p .at + m = omega (arith, length-drop m (drop (p .at) s), length-drop (p .at) s) in
+    record { past = omega arith; inside = omega (arith, length-drop (p .at) s); reads = rw (drop-drop, a, same) }
 
-pub field-there : {n : ℕ} {s : List ℕ} {p v q : ℕ} → p ≤ length s → littleAt n s p ≡ unsigned.Value v q → Field n s p v q (readLittle n (drop p s))
+pub field-there : {n : ℕ} (s : List ℕ) (p : Position) {v : ℕ} {q : Position} → p .at ≤ length s → littleAt n s p ≡ unsigned.Value v q
+    → Field n s (p .at) v (q .at) (readLittle n (drop (p .at) s))
 unfolding littleAt
-field-there {n} {s} {p} low e = taken-field s p low (takes-little n (drop p s)) e
+field-there {n} s p low e = taken-field s p low (takes-little n (drop (p .at) s)) e
 
 -- ---- an operation's operand
 
@@ -118,32 +116,36 @@ short-list frame [] h = refl
 short-list frame (a ∷ []) h = refl
 short-list frame (a ∷ b ∷ bs) h = absurd (omega arith)
 
-pub short-code : (frame : ℕ) (s : List ℕ) (p : ℕ) → length s < p + 2 → readCode frame (drop p s) ≡ none
-short-code frame s p h = short-list frame (drop p s) (omega (arith, length-drop p s))
+pub short-code : (frame : ℕ) (s : List ℕ) (p : Position) → length s < p .at + 2 → readCode frame (drop (p .at) s) ≡ none
+short-code frame s p h = short-list frame (drop (p .at) s) (omega (arith, length-drop (p .at) s))
+
+-- the position past a code's two bytes
+abbrev behind : Position → Position
+behind p = record { at = p .at + 2; shortest = p .shortest }
 
 -- a code whose two bytes are there
-module _ (frame : ℕ) (s : List ℕ) (p : ℕ) {offset b : ℕ} (room : p + 2 ≤ length s) (o : offset ≡ getD s p 0) (e : b ≡ getD s (p + 1) 0) where
-  two-bytes : readCode frame (drop p s)
-      ≡ next (readOperand frame (b % 16) (b / 16) (drop (p + 2) s)) (λ c rest. some ((offset, c), rest))
+module _ (frame : ℕ) (s : List ℕ) (p : Position) {offset b : ℕ} (room : p .at + 2 ≤ length s) (o : offset ≡ getD s (p .at) 0) (e : b ≡ getD s (p .at + 1) 0) where
+  two-bytes : readCode frame (drop (p .at) s)
+      ≡ next (readOperand frame (b % 16) (b / 16) (drop (p .at + 2) s)) (λ c rest. some ((offset, c), rest))
   unfolding readCode
   two-bytes =
-      let a : suc p ≡ p + 1 = omega arith in
-      let d : suc (p + 1) ≡ p + 2 = omega arith in
-      rw (drop-cons s p 0 (omega arith), a, drop-cons s (p + 1) 0 (omega arith), d, ← o, ← e)
+      let a : suc (p .at) ≡ p .at + 1 = omega arith in
+      let d : suc (p .at + 1) ≡ p .at + 2 = omega arith in
+      rw (drop-cons s (p .at) 0 (omega arith), a, drop-cons s (p .at + 1) 0 (omega arith), d, ← o, ← e)
 
-  pub no-operation : operandBytes (b % 16) (b / 16) ≡ none → readCode frame (drop p s) ≡ none
+  pub no-operation : operandBytes (b % 16) (b / 16) ≡ none → readCode frame (drop (p .at) s) ≡ none
   unfolding readOperand after next
   no-operation z = rw (two-bytes, z)
 
-  pub no-operand : {n : ℕ} → operandBytes (b % 16) (b / 16) ≡ some n → littleAt n s (p + 2) ≡ unsigned.Bad → readCode frame (drop p s) ≡ none
+  pub no-operand : {n : ℕ} → operandBytes (b % 16) (b / 16) ≡ some n → littleAt n s (behind p) ≡ unsigned.Bad → readCode frame (drop (p .at) s) ≡ none
   unfolding readOperand after next
-  no-operand {n} z l = rw (two-bytes, z, little-none s (p + 2) n l)
+  no-operand {n} z l = rw (two-bytes, z, little-none s (behind p) n l)
 
-  pub one-code : {n v q : ℕ} {f : Fields} → operandBytes (b % 16) (b / 16) ≡ some n → littleAt n s (p + 2) ≡ unsigned.Value v q
+  pub one-code : {n v : ℕ} {q : Position} {f : Fields} → operandBytes (b % 16) (b / 16) ≡ some n → littleAt n s (behind p) ≡ unsigned.Value v q
       → fieldNumbers f ≡ fieldsOf (meaning frame (b % 16) (b / 16) v) → CodeThere frame s p offset f q
   unfolding readOperand after next
   one-code {n} {v} {q} z l m =
-      let t : Field n s (p + 2) v q (readLittle n (drop (p + 2) s)) = field-there room l in
+      let t : Field n s (p .at + 2) v (q .at) (readLittle n (drop (p .at + 2) s)) = field-there s (behind p) room l in
       record {
         said = meaning frame (b % 16) (b / 16) v;
         fields = m;

@@ -2,7 +2,7 @@
 use mathlib.Core.Path.{_≡_, refl, sym, ap, _∙_}
 use Prim.Native.Nat.{ℕ, zero, suc, _+_, _-_, _*_, _≤_, _<_}
 use native.Mathlib.Omega.{arith}
-use mathlib.Core.Bool.{Bool, true, false, _||_}
+use mathlib.Core.Bool.{Bool, false}
 use mathlib.Core.Option.{Option, none, some}
 use mathlib.Core.List.{List, [], _∷_, _++_}
 use lib.Dec.{eqb}
@@ -13,6 +13,8 @@ use Rattle.format.specs.declared.Seh.{Seh}
 use Rattle.format.specs.declared.Seh.the-variants.{Push, Alloc, Frame, Save}
 use Rattle.format.specs.X64Reader.{fieldsOf, codeNumbers, isFrame, hasFrame, readCode, readCodesF, readCodes}
 use Rattle.format.proofs.PutLaws.{set-put, length-put}
+use Rattle.operations.specs.declared.fields.Position.{Position}
+use Rattle.operations.specs.Positions.{from}
 use Rattle.x64_reader.specs.declared.Fields.{Fields}
 use Rattle.x64_reader.specs.declared.Counted.the-variants as counted
 use Rattle.x64_reader.specs.Reads.{fieldNumbers, CodeThere, orFrame, countedOf, Held, storedOf}
@@ -57,24 +59,24 @@ codes-hold (suc f) frame cs (b ∷ bs) =
 
 -- ---- the loop
 
-pub record Going (P : List (ℕ × Seh) → Type 0) (frame : ℕ) (s : List ℕ) (i : ℕ) : Type 0 where
+pub record Going (P : List (ℕ × Seh) → Type 0) (frame : ℕ) (s : List ℕ) (p : Position) : Type 0 where
   pub fuel : ℕ
   pub codes : List (ℕ × Seh)
-  pub enough : length s < fuel + i
-  pub inside : i ≤ length s
-  pub same : readCodesF fuel frame codes (drop i s) ≡ readCodes frame s
+  pub enough : length s < fuel + p .at
+  pub inside : p .at ≤ length s
+  pub same : readCodesF fuel frame codes (drop (p .at) s) ≡ readCodes frame s
   pub here : P codes
 
-pub start : {P : List (ℕ × Seh) → Type 0} {frame : ℕ} {s : List ℕ} → P [] → Going P frame s 0
+pub start : {P : List (ℕ × Seh) → Type 0} {frame : ℕ} {s : List ℕ} → P [] → Going P frame s (from 0)
 unfolding readCodes
 start {s = s} h = record { fuel = suc (length s); codes = []; enough = omega arith; inside = omega arith; same = refl; here = h }
 
-module _ {P : List (ℕ × Seh) → Type 0} {frame : ℕ} {s : List ℕ} {i : ℕ} (g : Going P frame s i) where
-  module _ (h : i < length s) where
-    step : readCodes frame s ≡ next (readCode frame (drop i s)) (λ c rest. readCodesF (g .fuel - 1) frame (c ∷ g .codes) rest)
-    step = sym (g .same) ∙ codes-step frame (g .fuel) (g .codes) (drop i s) (omega (arith, g .enough)) (omega (arith, length-drop i s))
+module _ {P : List (ℕ × Seh) → Type 0} {frame : ℕ} {s : List ℕ} {p : Position} (g : Going P frame s p) where
+  module _ (h : p .at < length s) where
+    step : readCodes frame s ≡ next (readCode frame (drop (p .at) s)) (λ c rest. readCodesF (g .fuel - 1) frame (c ∷ g .codes) rest)
+    step = sym (g .same) ∙ codes-step frame (g .fuel) (g .codes) (drop (p .at) s) (omega (arith, g .enough)) (omega (arith, length-drop (p .at) s))
 
-    pub turn : {Q : List (ℕ × Seh) → Type 0} {offset : ℕ} {f : Fields} {q : ℕ} (c : CodeThere frame s i offset f q)
+    pub turn : {Q : List (ℕ × Seh) → Type 0} {offset : ℕ} {f : Fields} {q : Position} (c : CodeThere frame s p offset f q)
         → ((cs : List (ℕ × Seh)) → P cs → Q ((offset, c .said) ∷ cs)) → Going Q frame s q
     unfolding next
     turn {offset = offset} c k = record {
@@ -86,18 +88,18 @@ module _ {P : List (ℕ × Seh) → Type 0} {frame : ℕ} {s : List ℕ} {i : �
       here = k (g .codes) (g .here);
     }
 
-    pub unread : readCode frame (drop i s) ≡ none → readCodes frame s ≡ none
+    pub unread : readCode frame (drop (p .at) s) ≡ none → readCodes frame s ≡ none
     unfolding next
     unread e = rw e at step
 
-  pub ended : length s ≤ i → readCodes frame s ≡ some (g .codes)
+  pub ended : length s ≤ p .at → readCodes frame s ≡ some (g .codes)
   ended h =
-      let e : drop i s ≡ [] = drop-of-length-le s h in
+      let e : drop (p .at) s ≡ [] = drop-of-length-le s h in
       sym (g .same) ∙ rw e (codes-done frame (g .fuel) (g .codes) (omega (arith, g .enough, g .inside)))
 
   -- at most as many codes as there are
   pub few : {ds : List (ℕ × Seh)} → readCodes frame s ≡ some ds → length (g .codes) ≤ length ds
-  few e = rw (g .same ∙ e) at (codes-hold (g .fuel) frame (g .codes) (drop i s))
+  few e = rw (g .same ∙ e) at (codes-hold (g .fuel) frame (g .codes) (drop (p .at) s))
 
 -- ---- counted
 
@@ -117,8 +119,8 @@ pub counting : Counting 0 false 0 []
 unfolding hasFrame
 counting = record { many = refl; frames = refl; least = omega arith }
 
-pub count-turn : {frame : ℕ} {s : List ℕ} {n : ℕ} {framed now : Bool} {i offset q : ℕ} {f : Fields} (c : CodeThere frame s i offset f q)
-    → now ≡ orFrame framed (f .kind) → (cs : List (ℕ × Seh)) → Counting n framed i cs → Counting (n + 1) now q ((offset, c .said) ∷ cs)
+pub count-turn : {frame : ℕ} {s : List ℕ} {n : ℕ} {framed now : Bool} {p q : Position} {offset : ℕ} {f : Fields} (c : CodeThere frame s p offset f q)
+    → now ≡ orFrame framed (f .kind) → (cs : List (ℕ × Seh)) → Counting n framed (p .at) cs → Counting (n + 1) now (q .at) ((offset, c .said) ∷ cs)
 unfolding hasFrame orFrame
 count-turn {f = f} c e cs h = record {
   many = omega (arith, h .many);
@@ -126,13 +128,13 @@ count-turn {f = f} c e cs h = record {
   least = omega (arith, h .least, c .ahead);
 }
 
-pub all-counted : {frame : ℕ} {s : List ℕ} {n : ℕ} {framed : Bool} {i : ℕ} → Going (Counting n framed i) frame s i → length s ≤ i
+pub all-counted : {frame : ℕ} {s : List ℕ} {n : ℕ} {framed : Bool} {p : Position} → Going (Counting n framed (p .at)) frame s p → length s ≤ p .at
     → counted.Codes n framed ≡ countedOf (readCodes frame s)
 unfolding countedOf
 all-counted g h = rw (ended g h, g .here .many, g .here .frames)
 
-pub none-counted : {P : List (ℕ × Seh) → Type 0} {frame : ℕ} {s : List ℕ} {i : ℕ} → Going P frame s i → i < length s
-    → readCode frame (drop i s) ≡ none → counted.Bad ≡ countedOf (readCodes frame s)
+pub none-counted : {P : List (ℕ × Seh) → Type 0} {frame : ℕ} {s : List ℕ} {p : Position} → Going P frame s p → p .at < length s
+    → readCode frame (drop (p .at) s) ≡ none → counted.Bad ≡ countedOf (readCodes frame s)
 unfolding countedOf
 none-counted g h e = rw (unread g h e)
 
@@ -166,7 +168,7 @@ pub storing : {n : ℕ} {old : List ℕ} → Storing n n old old []
 unfolding codeNumbers put
 storing = record { many = omega arith; stored = refl }
 
-pub store-turn : {frame : ℕ} {s : List ℕ} {n left : ℕ} {old new newer : List ℕ} {i offset q : ℕ} {f : Fields} (c : CodeThere frame s i offset f q)
+pub store-turn : {frame : ℕ} {s : List ℕ} {n left : ℕ} {old new newer : List ℕ} {p q : Position} {offset : ℕ} {f : Fields} (c : CodeThere frame s p offset f q)
     → 0 < left → newer ≡ put new (5 * (left - 1)) (offset ∷ fieldNumbers f) → (cs : List (ℕ × Seh)) → Storing n left old new cs
     → Storing n (left - 1) old newer ((offset, c .said) ∷ cs)
 unfolding codeNumbers
@@ -179,8 +181,8 @@ store-turn {left = left} {old = old} {offset = offset} {f = f} c l e cs w =
     }
 
 -- there is room for a code that stands there
-module _ {frame : ℕ} {s : List ℕ} {n left i : ℕ} {old new : List ℕ} (g : Going (Storing n left old new) frame s i) (held : Held (readCodes frame s) n) where
-  pub some-left : {offset : ℕ} {f : Fields} {q : ℕ} → i < length s → CodeThere frame s i offset f q → 0 < left
+module _ {frame : ℕ} {s : List ℕ} {n left : ℕ} {p : Position} {old new : List ℕ} (g : Going (Storing n left old new) frame s p) (held : Held (readCodes frame s) n) where
+  pub some-left : {offset : ℕ} {f : Fields} {q : Position} → p .at < length s → CodeThere frame s p offset f q → 0 < left
   unfolding turn
   some-left h c =
       let next : Going (λ cs. 0 < length cs) frame s _ = turn g h c (λ cs w. omega arith) in
@@ -188,7 +190,7 @@ module _ {frame : ℕ} {s : List ℕ} {n left i : ℕ} {old new : List ℕ} (g :
       let m : length (next .codes) ≡ suc (length (g .codes)) = refl in
       omega (arith, g .here .many, held .many)
 
-  pub all-stored : length s ≤ i → new ≡ storedOf (readCodes frame s) old
+  pub all-stored : length s ≤ p .at → new ≡ storedOf (readCodes frame s) old
   unfolding storedOf
   all-stored h =
       let e : readCodes frame s ≡ some (g .codes) = ended g h in
@@ -196,5 +198,5 @@ module _ {frame : ℕ} {s : List ℕ} {n left i : ℕ} {old new : List ℕ} (g :
       let z : left ≡ 0 = omega (arith, g .here .many, held .many, ap length same) in
       rw e (g .here .stored ∙ rw z)
 
-  pub never-unread : i < length s → readCode frame (drop i s) ≡ none → ⊥
+  pub never-unread : p .at < length s → readCode frame (drop (p .at) s) ≡ none → ⊥
   never-unread h e = let z : _≡_ {A = ℕ} 0 1 = cc (unread g h e, held .are) in omega arith

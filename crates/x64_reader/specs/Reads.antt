@@ -1,15 +1,16 @@
 -- What the reader's functions promise: an operand, a code at a position, the codes counted and stored, and a record's header.
 use mathlib.Core.Path.{_≡_}
 use Prim.Native.Nat.{ℕ, _+_, _*_, _^_, _≤_, _<_}
-use mathlib.Core.Bool.{Bool, true, false, _||_}
+use mathlib.Core.Bool.{Bool, false, _||_}
 use mathlib.Core.Option.{Option, none, some}
 use mathlib.Core.List.{List, [], _∷_}
 use lib.Dec.{T, eqb}
 use lib.ListN.{length, getD, drop}
 use Rattle.format.specs.Put.{put}
 use Rattle.format.specs.declared.Seh.{Seh}
-use Rattle.format.specs.declared.Unsigned.{Unsigned}
-use Rattle.format.specs.declared.Unsigned.the-variants as unsigned
+use Rattle.operations.specs.declared.fields.Position.{Position}
+use Rattle.operations.specs.declared.fields.Unsigned.{Unsigned}
+use Rattle.operations.specs.declared.fields.Unsigned.the-variants as unsigned
 use Rattle.format.specs.X64Reader.{readCode, fieldsOf, codeNumbers, hasFrame, headerOk}
 use Rattle.x64_reader.specs.declared.Operand.{Operand}
 use Rattle.x64_reader.specs.declared.Operand.the-variants as operand
@@ -37,16 +38,16 @@ abbrev pub fieldNumbers : Fields → List ℕ
 fieldNumbers f = f .kind ∷ f .register ∷ f .vector ∷ f .value ∷ []
 
 -- what stands at p is a code at `offset`, and q is the position past it
-pub record CodeThere (frame : ℕ) (s : List ℕ) (p offset : ℕ) (f : Fields) (q : ℕ) : Type 0 where
+pub record CodeThere (frame : ℕ) (s : List ℕ) (p : Position) (offset : ℕ) (f : Fields) (q : Position) : Type 0 where
   pub said : Seh
   pub fields : fieldNumbers f ≡ fieldsOf said
-  pub ahead : p < q
-  pub inside : q ≤ length s
-  pub reads : readCode frame (drop p s) ≡ some ((offset, said), drop q s)
+  pub ahead : p .at < q .at
+  pub inside : q .at ≤ length s
+  pub reads : readCode frame (drop (p .at) s) ≡ some ((offset, said), drop (q .at) s)
 
-abbrev pub CodeSays : (frame : ℕ) → List ℕ → ℕ → Code → Type 0
+abbrev pub CodeSays : (frame : ℕ) → List ℕ → Position → Code → Type 0
 CodeSays frame s p (code.Code offset f q) = CodeThere frame s p offset f q
-CodeSays frame s p code.Bad = readCode frame (drop p s) ≡ none
+CodeSays frame s p code.Bad = readCode frame (drop (p .at) s) ≡ none
 
 -- ---- the codes
 

@@ -5,13 +5,14 @@ ghost use mathlib.Core.List.{[], _∷_};
 ghost use mathlib.Core.Bool.{_||_};
 ghost use lib.ListN.{length, drop};
 ghost use Rattle.format.specs.Put.{put};
-ghost use Rattle.format.proofs.Positions.{littleAt};
+ghost use Rattle.operations.specs.Positions.{littleAt};
 ghost use Rattle.format.specs.Answers.{bit};
 ghost use Rattle.format.specs.X64Reader.{operandBytes, largeSize, meaning, fieldsOf, frameRegister, frameOffset, readCodes, readX64, infoNumbers, codesStored};
 ghost use Rattle.x64_reader.specs.Reads.{operandOf, Small, fieldNumbers, CodeSays, orFrame, countedOf, Held, storedOf, HeaderSays, readNumbers};
-use format::Unsigned;
 use numbers::codes;
 use numbers::uwop;
+use operations::fields::Position;
+use operations::fields::Unsigned;
 use operations::fields::read_le;
 
 // ---- one code
@@ -95,7 +96,7 @@ fn meaning(frame: u64, op: u64, info: u64, v: u64) -> Fields
 }
 
 // The operand of n bytes behind a code.
-fn operand_at(s: &[u8], at: usize, n: usize) -> Unsigned
+fn operand_at(s: &[u8], at: Position, n: usize) -> Unsigned
     requires { ⌜ n ≤ 4 ⌝ }
     ensures { λ r. ⌜ (r ≡ littleAt n (now (s .entry)) at) × Small r ⌝ }
 {
@@ -104,30 +105,35 @@ fn operand_at(s: &[u8], at: usize, n: usize) -> Unsigned
 
 // A code: its offset in the prologue, what it says, and the position past it.
 pub enum Code {
-    Code(u64, Fields, usize),
+    Code(u64, Fields, Position),
     Bad,
 }
 
 // The code at a position of a record's slots.
-fn code_at(s: &[u8], at: usize, frame: u64) -> Code
+fn code_at(s: &[u8], at: Position, frame: u64) -> Code
     ensures { λ r. ⌜ CodeSays frame (now (s .entry)) at r ⌝ }
 {
+    let from = at.at;
     if s.len() < 2 {
         return Code::Bad;
     }
-    if s.len() - 2 < at {
+    if s.len() - 2 < from {
         return Code::Bad;
     }
-    let b = leb::wide(s[at + 1]);
+    let b = leb::wide(s[from + 1]);
     let op = b % 16;
     let info = b / 16;
     let Operand::Bytes(n) = operand_bytes(op, info) else {
         return Code::Bad;
     };
-    let Unsigned::Value(v, past) = operand_at(s, at + 2, n) else {
+    let behind = Position {
+        at: from + 2,
+        shortest: at.shortest,
+    };
+    let Unsigned::Value(v, past) = operand_at(s, behind, n) else {
         return Code::Bad;
     };
-    Code::Code(leb::wide(s[at]), meaning(frame, op, info, v), past)
+    Code::Code(leb::wide(s[from]), meaning(frame, op, info, v), past)
 }
 
 // ---- the codes of a record: first counted, then stored
@@ -150,16 +156,16 @@ pub enum Counted {
 fn count(s: &[u8], frame: u64) -> Counted
     ensures { λ r. ⌜ r ≡ countedOf (readCodes frame (now (s .entry))) ⌝ }
 {
-    let mut i = 0;
+    let mut at = Position::START;
     let mut n = 0usize;
     let mut framed = false;
-    while i < s.len() {
-        let Code::Code(_, f, past) = code_at(s, i, frame) else {
+    while at.at < s.len() {
+        let Code::Code(_, f, past) = code_at(s, at, frame) else {
             return Counted::Bad;
         };
         framed = or_frame(framed, f.kind);
         n += 1;
-        i = past;
+        at = past;
     }
     Counted::Codes(n, framed)
 }
@@ -180,15 +186,15 @@ fn store(s: &[u8], frame: u64, n: usize, codes: &mut [u64])
     requires { ⌜ (5 * n ≤ length (now codes)) × Held (readCodes frame (now s)) n ⌝ }
     ensures { λ r. ⌜ now (codes .exit) ≡ storedOf (readCodes frame (now (s .entry))) (now (codes .entry)) ⌝ }
 {
-    let mut i = 0;
+    let mut at = Position::START;
     let mut left = n;
-    while i < s.len() {
-        let Code::Code(offset, f, past) = code_at(s, i, frame) else {
+    while at.at < s.len() {
+        let Code::Code(offset, f, past) = code_at(s, at, frame) else {
             return;
         };
         left -= 1;
         put_code(codes, 5 * left, offset, f);
-        i = past;
+        at = past;
     }
 }
 

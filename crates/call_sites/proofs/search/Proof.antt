@@ -10,10 +10,10 @@ use Rattle.call_sites.proofs.search.Statement.{statement}
 use Rattle.call_sites.proofs.search.Tie as tie
 
 abbrev Inv-loop : tie.InvT-loop
-Inv-loop s offset i₀ site₀ i site = Going offset s i site
+Inv-loop s offset at₀ site₀ at site = Going offset s at site
 
 abbrev μ-loop : tie.MeasureT-loop
-μ-loop s offset i₀ site₀ i site = length s - i
+μ-loop s offset at₀ site₀ at site = length s - at .at
 
 refused-requires : tie.Need-refused-requires Inv-loop μ-loop
 refused-requires c κs = search needs
@@ -34,19 +34,27 @@ refused-requires-2 : tie.Need-refused-requires-2 Inv-loop μ-loop
 refused-requires-2 c κs = search needs
 
 returns : tie.Need-returns Inv-loop μ-loop
-returns c = unread (c .before .before .before .before .before .loop .inv) (c .before .before .before .before .loop-test .taken) (subst (EntrySays (c .before .before .before .before .before .before .before .before .args .s .now) (c .before .before .before .before .before .loop .i)) (c .before .enum-told .given .1) (c .before .before .before .entry-at .ensures)) (c .refused2 .ensures)
+returns c =
+    unread (c .before .before .before .before .before .before .loop .inv) (c .before .before .before .before .if1 .taken)
+    (subst (EntrySays (c .before .before .before .before .before .before .before .before .before .args .s .now) (c .before .before .before .before .before .before .loop .at)) (c .before .enum-told .given .1) (c .before .before .before .entry-at .ensures))
+    (c .refused2 .ensures)
 
 kept-requires : tie.Need-kept-requires Inv-loop μ-loop
 kept-requires c κs = search needs
 
 loop-less : tie.Need-loop-less Inv-loop μ-loop
-loop-less c = let t = subst (EntrySays (c .before .before .before .before .before .before .before .before .before .args .s .now) (c .before .before .before .before .before .before .loop .i)) (c .before .before .start .given .1) (c .before .before .before .before .entry-at .ensures) in omega (arith, t .ahead, t .inside)
+loop-less c =
+    let t = subst (EntrySays (c .before .before .before .before .before .before .before .before .before .before .args .s .now) (c .before .before .before .before .before .before .before .loop .at)) (c .before .before .start .given .1) (c .before .before .before .before .entry-at .ensures) in
+    omega (arith, t .ahead, t .inside)
 
 loop-again : tie.Need-loop-again Inv-loop μ-loop
-loop-again c = turn (c .before .before .before .before .before .before .loop .inv) (c .before .before .before .before .before .loop-test .taken) (subst (EntrySays (c .before .before .before .before .before .before .before .before .before .args .s .now) (c .before .before .before .before .before .before .loop .i)) (c .before .before .start .given .1) (c .before .before .before .before .entry-at .ensures)) (c .kept .ensures)
+loop-again c =
+    turn (c .before .before .before .before .before .before .before .loop .inv) (c .before .before .before .before .before .if1 .taken)
+    (subst (EntrySays (c .before .before .before .before .before .before .before .before .before .before .args .s .now) (c .before .before .before .before .before .before .before .loop .at)) (c .before .before .start .given .1) (c .before .before .before .before .entry-at .ensures))
+    (c .kept .ensures)
 
 returns-2 : tie.Need-returns-2 Inv-loop μ-loop
-returns-2 c = ended (c .before .loop .inv) (c .loop-test .left)
+returns-2 c = ended (c .before .before .loop .inv) (c .if1 .left)
 
 pub search-spec : {M : Type 1} → statement M
 search-spec =

@@ -2,7 +2,7 @@
 use mathlib.Core.Path.{sym, _∙_}
 use native.Mathlib.Omega.{arith}
 use borrow.Author.Tests.{not-true, not-false}
-use Rattle.format.proofs.PositionLaws.{uleb-ahead}
+use Rattle.operations.proofs.PositionLaws.{uleb-ahead}
 use Rattle.call_sites.proofs.Tables.{no-head, other-head, no-size, past-end, table-there}
 use borrow.Author.Needs.{needs}
 use Rattle.call_sites.proofs.table_at.Statement.{statement}
@@ -35,8 +35,8 @@ head-ok-requires c κs = search needs
 returns-3 : tie.Need-returns-3
 returns-3 c = let a = c .before .before .before .before .before .before .before .before .args in other-head (a .sites .now) (a .place) (omega arith) (c .before .head-ok .ensures) (not-true _ (c .if3 .taken))
 
-add-read-uleb : tie.Need-add-read-uleb
-add-read-uleb c = search needs
+add-if4 : tie.Need-add-if4
+add-if4 c = search needs
 
 read-uleb-requires : tie.Need-read-uleb-requires
 read-uleb-requires c κs = search needs
@@ -56,8 +56,8 @@ sub-if4 c = omega (arith, uleb-ahead _ _ (sym (c .before .before .before .read-u
 returns-5 : tie.Need-returns-5
 returns-5 c = let a = c .before .before .before .before .before .before .before .before .before .before .before .before .before .args in past-end (a .sites .now) (a .place) (omega arith) (c .before .before .before .before .before .before .head-ok .ensures) (not-false _ (c .before .before .before .before .before .if3 .left)) (sym (c .before .before .before .before .read-uleb .ensures) ∙ c .before .before .n .given .1) (c .if4 .taken)
 
-add-t8 : tie.Need-add-t8
-add-t8 c = omega (arith, uleb-ahead _ _ (sym (c .before .before .before .before .read-uleb .ensures) ∙ c .before .before .n .given .1) .1)
+add-t10 : tie.Need-add-t10
+add-t10 c = omega (arith, uleb-ahead _ _ (sym (c .before .before .before .before .read-uleb .ensures) ∙ c .before .before .n .given .1) .1)
 
 returns-6 : tie.Need-returns-6
 returns-6 c = let a = c .before .before .before .before .before .before .before .before .before .before .before .before .before .args in table-there (a .sites .now) (a .place) (omega arith) (c .before .before .before .before .before .before .head-ok .ensures) (not-false _ (c .before .before .before .before .before .if3 .left)) (sym (c .before .before .before .before .read-uleb .ensures) ∙ c .before .before .n .given .1) (c .if4 .left)
@@ -75,12 +75,12 @@ table-at-spec =
     shared-slice-read-head-ok-3
     head-ok-requires
     returns-3
-    add-read-uleb
+    add-if4
     read-uleb-requires
     enum-known-n
     enum-told
     returns-4
     sub-if4
     returns-5
-    add-t8
+    add-t10
     returns-6)

@@ -4,11 +4,12 @@ use borrow.Author.Tests.{ne-eqb}
 use borrow.Author.Needs.{needs}
 use Rattle.format.specs.Prelude.{pick}
 use Rattle.format.specs.Rows.{readExtended}
-use Rattle.format.proofs.Positions.{decodedFrom}
+use Rattle.format.specs.Shortest.{extendedOperands, numbersShort}
+use Rattle.operations.specs.Positions.{decodedFrom}
 use Rattle.format.specs.declared.Row.the-variants.{RememberState, RestoreState, NegateRaState}
 use Rattle.format.specs.declared.Operation.the-variants.{Nop, Does}
-use Rattle.operations.specs.Reads.{readOperand, registerRow, pairRow, stepAt, registerRowAt, offsetRowAt, pairRowAt, inRegisterAt, extendedAt}
-use Rattle.operations.proofs.Operations.{there}
+use Rattle.operations.specs.Reads.{readOperand, operandNumber, registerRow, pairRow, stepAt, registerRowAt, offsetRowAt, pairRowAt, inRegisterAt, extendedAt}
+use Rattle.operations.proofs.Operations.{here}
 use Rattle.operations.proofs.extended_at.Statement.{statement}
 use Rattle.operations.proofs.extended_at.Tie as tie
 
@@ -55,79 +56,79 @@ offset-row-at-requires-2 : tie.Need-offset-row-at-requires-2
 offset-row-at-requires-2 c κs = search needs
 
 returns : tie.Need-returns
-unfolding extendedAt readExtended pick
-returns c = rw (c .match .keys1) (sym (there (c .before .before .args .s .now) (c .before .before .args .at) Nop (c .before .before .pre .1)))
+unfolding extendedAt readExtended extendedOperands numbersShort pick
+returns c = rw (c .match .keys1) (sym (here (c .before .before .args .s .now) (c .before .before .args .at) Nop (c .before .before .pre .1)))
 
 returns-2 : tie.Need-returns-2
-unfolding extendedAt readExtended pick stepAt
+unfolding extendedAt readExtended extendedOperands numbersShort pick stepAt
 returns-2 c = rw (c .before .match .keys2) (c .step-at .ensures)
 
 returns-3 : tie.Need-returns-3
-unfolding extendedAt readExtended pick stepAt
+unfolding extendedAt readExtended extendedOperands numbersShort pick stepAt
 returns-3 c = rw (c .before .match .keys3) (c .step-at2 .ensures)
 
 returns-4 : tie.Need-returns-4
-unfolding extendedAt readExtended pick stepAt
+unfolding extendedAt readExtended extendedOperands numbersShort pick stepAt
 returns-4 c = rw (c .before .match .keys4) (c .step-at3 .ensures)
 
 returns-5 : tie.Need-returns-5
-unfolding extendedAt readExtended pick pairRowAt readOperand pairRow
+unfolding extendedAt readExtended extendedOperands numbersShort pick pairRowAt readOperand operandNumber pairRow
 returns-5 c = rw (c .before .match .keys5) (rw (c .before .match .keys5) at (c .pair-row-at .ensures))
 
 returns-6 : tie.Need-returns-6
-unfolding extendedAt readExtended pick registerRowAt registerRow
+unfolding extendedAt readExtended extendedOperands numbersShort pick registerRowAt registerRow
 returns-6 c = rw (c .before .match .keys6) (rw (c .before .match .keys6) at (c .register-row-at .ensures))
 
 returns-7 : tie.Need-returns-7
-unfolding extendedAt readExtended pick registerRowAt registerRow
+unfolding extendedAt readExtended extendedOperands numbersShort pick registerRowAt registerRow
 returns-7 c = rw (c .before .match .keys7) (rw (c .before .match .keys7) at (c .register-row-at2 .ensures))
 
 returns-8 : tie.Need-returns-8
-unfolding extendedAt readExtended pick registerRowAt registerRow
+unfolding extendedAt readExtended extendedOperands numbersShort pick registerRowAt registerRow
 returns-8 c = rw (c .before .match .keys8) (rw (c .before .match .keys8) at (c .register-row-at3 .ensures))
 
 returns-9 : tie.Need-returns-9
-unfolding extendedAt readExtended pick inRegisterAt
+unfolding extendedAt readExtended extendedOperands numbersShort pick inRegisterAt
 returns-9 c = rw (c .before .match .keys9) (c .in-register-at .ensures)
 
 returns-10 : tie.Need-returns-10
-unfolding extendedAt readExtended pick
-returns-10 c = rw (c .match .keys10) (sym (there (c .before .before .args .s .now) (c .before .before .args .at) (Does RememberState) (c .before .before .pre .1)))
+unfolding extendedAt readExtended extendedOperands numbersShort pick
+returns-10 c = rw (c .match .keys10) (sym (here (c .before .before .args .s .now) (c .before .before .args .at) (Does RememberState) (c .before .before .pre .1)))
 
 returns-11 : tie.Need-returns-11
-unfolding extendedAt readExtended pick
-returns-11 c = rw (c .match .keys11) (sym (there (c .before .before .args .s .now) (c .before .before .args .at) (Does RestoreState) (c .before .before .pre .1)))
+unfolding extendedAt readExtended extendedOperands numbersShort pick
+returns-11 c = rw (c .match .keys11) (sym (here (c .before .before .args .s .now) (c .before .before .args .at) (Does RestoreState) (c .before .before .pre .1)))
 
 returns-12 : tie.Need-returns-12
-unfolding extendedAt readExtended pick pairRowAt readOperand pairRow
+unfolding extendedAt readExtended extendedOperands numbersShort pick pairRowAt readOperand operandNumber pairRow
 returns-12 c = rw (c .before .match .keys12) (rw (c .before .match .keys12) at (c .pair-row-at2 .ensures))
 
 returns-13 : tie.Need-returns-13
-unfolding extendedAt readExtended pick registerRowAt registerRow
+unfolding extendedAt readExtended extendedOperands numbersShort pick registerRowAt registerRow
 returns-13 c = rw (c .before .match .keys13) (rw (c .before .match .keys13) at (c .register-row-at4 .ensures))
 
 returns-14 : tie.Need-returns-14
-unfolding extendedAt readExtended pick offsetRowAt readOperand
+unfolding extendedAt readExtended extendedOperands numbersShort pick offsetRowAt readOperand operandNumber
 returns-14 c = rw (c .before .match .keys14) (rw (c .before .match .keys14) at (c .offset-row-at .ensures))
 
 returns-15 : tie.Need-returns-15
-unfolding extendedAt readExtended pick pairRowAt readOperand pairRow
+unfolding extendedAt readExtended extendedOperands numbersShort pick pairRowAt readOperand operandNumber pairRow
 returns-15 c = rw (c .before .match .keys15) (rw (c .before .match .keys15) at (c .pair-row-at3 .ensures))
 
 returns-16 : tie.Need-returns-16
-unfolding extendedAt readExtended pick pairRowAt readOperand pairRow
+unfolding extendedAt readExtended extendedOperands numbersShort pick pairRowAt readOperand operandNumber pairRow
 returns-16 c = rw (c .before .match .keys16) (rw (c .before .match .keys16) at (c .pair-row-at4 .ensures))
 
 returns-17 : tie.Need-returns-17
-unfolding extendedAt readExtended pick offsetRowAt readOperand
+unfolding extendedAt readExtended extendedOperands numbersShort pick offsetRowAt readOperand operandNumber
 returns-17 c = rw (c .before .match .keys17) (rw (c .before .match .keys17) at (c .offset-row-at2 .ensures))
 
 returns-18 : tie.Need-returns-18
-unfolding extendedAt readExtended pick
-returns-18 c = rw (c .match .keys18) (sym (there (c .before .before .args .s .now) (c .before .before .args .at) (Does NegateRaState) (c .before .before .pre .1)))
+unfolding extendedAt readExtended extendedOperands numbersShort pick
+returns-18 c = rw (c .match .keys18) (sym (here (c .before .before .args .s .now) (c .before .before .args .at) (Does NegateRaState) (c .before .before .pre .1)))
 
 returns-19 : tie.Need-returns-19
-unfolding extendedAt readExtended pick decodedFrom
+unfolding extendedAt readExtended extendedOperands numbersShort pick decodedFrom
 returns-19 c =
     let n = c .match .rest in
     let b = c .before .before .args .b in

@@ -12,8 +12,8 @@ returns c = sym (past-end (c .before .before .args .word) (c .before .before .ar
 shared-slice-read-b : tie.Need-shared-slice-read-b
 shared-slice-read-b c = search needs
 
-add-extended-at : tie.Need-add-extended-at
-add-extended-at c = search needs
+add-t7 : tie.Need-add-t7
+add-t7 c = search needs
 
 extended-at-requires : tie.Need-extended-at-requires
 extended-at-requires c κs = search needs
@@ -21,17 +21,11 @@ extended-at-requires c κs = search needs
 returns-2 : tie.Need-returns-2
 returns-2 c = c .extended-at .ensures ∙ sym (op-extended (c .before .before .before .before .before .args .word) (c .before .before .before .before .before .args .s .now) (c .before .before .before .before .before .args .at) (c .before .before .before .if1 .left) (c .before .if2 .taken))
 
-cast-t11 : tie.Need-cast-t11
-cast-t11 c = search needs
-
-add-t13 : tie.Need-add-t13
-add-t13 c = search needs
+cast-t12 : tie.Need-cast-t12
+cast-t12 c = search needs
 
 returns-3 : tie.Need-returns-3
 returns-3 c = sym (op-step (c .before .before .before .before .before .args .word) (c .before .before .before .before .before .args .s .now) (c .before .before .before .before .before .args .at) (c .before .before .before .if1 .left) (c .before .if2 .left) (c .if3 .taken))
-
-add-saved-at : tie.Need-add-saved-at
-add-saved-at c = search needs
 
 cast-saved-at : tie.Need-cast-saved-at
 cast-saved-at c = search needs
@@ -42,11 +36,8 @@ saved-at-requires c κs = search needs
 returns-4 : tie.Need-returns-4
 returns-4 c = c .saved-at .ensures ∙ sym (op-saved (c .before .before .before .before .before .before .before .args .word) (c .before .before .before .before .before .before .before .args .s .now) (c .before .before .before .before .before .before .before .args .at) (c .before .before .before .before .before .if1 .left) (c .before .before .if3 .left) (c .before .if4 .taken))
 
-cast-t17 : tie.Need-cast-t17
-cast-t17 c = record { fits = omega (arith, c .before .before .before .shared-slice-known2 .given (c .before .before .before .before .before .before .args .at)) }
-
-add-t5 : tie.Need-add-t5
-add-t5 c = search needs
+cast-t16 : tie.Need-cast-t16
+cast-t16 c = record { fits = omega (arith, c .before .before .before .shared-slice-known2 .given (c .before .before .before .before .before .before .args .at .at)) }
 
 returns-5 : tie.Need-returns-5
 returns-5 c = sym (op-restore (c .before .before .before .before .before .before .args .word) (c .before .before .before .before .before .before .args .s .now) (c .before .before .before .before .before .before .args .at) (c .before .before .before .before .if1 .left) (c .before .if3 .left) (c .if4 .left))
@@ -57,16 +48,13 @@ operation-spec =
     (tie.spec
     returns
     shared-slice-read-b
-    add-extended-at
+    add-t7
     extended-at-requires
     returns-2
-    cast-t11
-    add-t13
+    cast-t12
     returns-3
-    add-saved-at
     cast-saved-at
     saved-at-requires
     returns-4
-    cast-t17
-    add-t5
+    cast-t16
     returns-5)

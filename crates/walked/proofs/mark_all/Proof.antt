@@ -11,7 +11,7 @@ abbrev Inv-loop : tie.InvT-loop
 Inv-loop ops word m₀ at₀ m at = Marking word ops (m₀ .named) (m .named) at
 
 abbrev μ-loop : tie.MeasureT-loop
-μ-loop ops word m₀ at₀ m at = length ops - at
+μ-loop ops word m₀ at₀ m at = length ops - at .at
 
 loop-holds : tie.Need-loop-holds Inv-loop μ-loop
 loop-holds c = mark-start _ _ _
@@ -26,19 +26,19 @@ enum-told : tie.Need-enum-told Inv-loop μ-loop
 enum-told c = search needs
 
 returns : tie.Need-returns Inv-loop μ-loop
-returns c = mark-bad (c .before .before .before .before .loop .inv) (sym (c .before .before .operation .ensures) ∙ c .enum-told .given .1)
+returns c = mark-bad (c .before .before .before .before .before .loop .inv) (sym (c .before .before .operation .ensures) ∙ c .enum-told .given .1)
 
 mark-operation-requires : tie.Need-mark-operation-requires Inv-loop μ-loop
 mark-operation-requires c κs = search needs
 
 loop-less : tie.Need-loop-less Inv-loop μ-loop
-loop-less c = mark-shorter (c .before .before .before .before .before .before .loop .inv) (sym (c .before .before .before .before .operation .ensures) ∙ c .before .before .op .given .1) (c .before .before .before .before .before .loop-test .taken)
+loop-less c = mark-shorter (c .before .before .before .before .before .before .before .loop .inv) (sym (c .before .before .before .before .operation .ensures) ∙ c .before .before .op .given .1) (c .before .before .before .before .before .if1 .taken)
 
 loop-again : tie.Need-loop-again Inv-loop μ-loop
-loop-again c = mark-turn (c .before .before .before .before .before .before .loop .inv) (sym (c .before .before .before .before .operation .ensures) ∙ c .before .before .op .given .1) (c .mark-operation .ensures)
+loop-again c = mark-turn (c .before .before .before .before .before .before .before .loop .inv) (sym (c .before .before .before .before .operation .ensures) ∙ c .before .before .op .given .1) (c .mark-operation .ensures)
 
 returns-2 : tie.Need-returns-2 Inv-loop μ-loop
-returns-2 c = mark-ended (c .before .loop .inv) (c .loop-test .left)
+returns-2 c = mark-ended (c .before .before .loop .inv) (c .if1 .left)
 
 pub mark-all-spec : {M : Type 1} → statement M
 mark-all-spec =

@@ -37,8 +37,8 @@ enum-told c = search needs
 returns-3 : tie.Need-returns-3
 returns-3 c = let a = c .before .before .before .before .before .before .before .before .args in no-operation (a .frame) (a .s .now) (a .at) (omega arith) refl (c .before .before .before .wide .ensures .0) (bad-op _ (sym (c .before .before .operand-bytes .ensures) ∙ c .enum-told .given .1))
 
-add-operand-at : tie.Need-add-operand-at
-add-operand-at c = search needs
+add-t14 : tie.Need-add-t14
+add-t14 c = search needs
 
 operand-at-requires : tie.Need-operand-at-requires
 operand-at-requires c κs = few-op _ _ (bytes-op _ (sym (c .before .before .before .operand-bytes .ensures) ∙ c .before .n .given .1))
@@ -78,7 +78,7 @@ code-at-spec =
     enum-known-n
     enum-told
     returns-3
-    add-operand-at
+    add-t14
     operand-at-requires
     enum-known-v
     enum-told-2

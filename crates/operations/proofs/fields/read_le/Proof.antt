@@ -6,10 +6,10 @@ use Rattle.operations.proofs.fields.read_le.Statement.{statement}
 use Rattle.operations.proofs.fields.read_le.Tie as tie
 
 abbrev Inv-loop : tie.InvT-loop
-Inv-loop s at n left₀ acc₀ left acc = Reading s at n left acc
+Inv-loop s n from shortest left₀ acc₀ left acc = Reading s from n left acc
 
 abbrev μ-loop : tie.MeasureT-loop
-μ-loop s at n left₀ acc₀ left acc = left
+μ-loop s n from shortest left₀ acc₀ left acc = left
 
 returns : tie.Need-returns Inv-loop μ-loop
 returns c = nothing _ _ _ (c .if2 .taken) (c .before .if1 .taken)
@@ -50,11 +50,11 @@ loop-less c = search needs
 loop-again : tie.Need-loop-again Inv-loop μ-loop
 loop-again c = turn (c .before .before .before .loop .inv) (c .before .before .loop-test .taken) (c .wide .ensures .0) (c .wide .ensures .1)
 
-add-t7 : tie.Need-add-t7 Inv-loop μ-loop
-add-t7 c = search needs
+add-t9 : tie.Need-add-t9 Inv-loop μ-loop
+add-t9 c = search needs
 
 returns-4 : tie.Need-returns-4 Inv-loop μ-loop
-returns-4 c = ended (c .before .loop .inv) (omega (arith, c .loop-test .left))
+returns-4 c = ended (c .before .loop .inv) (c .before .before .before .before .before .args .at .shortest) (omega (arith, c .loop-test .left))
 
 pub read-le-spec : {M : Type 1} → statement M
 read-le-spec =
@@ -75,5 +75,5 @@ read-le-spec =
     add-acc
     loop-less
     loop-again
-    add-t7
+    add-t9
     returns-4)

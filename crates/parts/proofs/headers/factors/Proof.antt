@@ -5,7 +5,7 @@ use borrow.Author.Tests.{not-true, not-false}
 use Rattle.rows.proofs.Signs.{passed}
 use Rattle.format.specs.Headers.{dataFactor}
 use Rattle.format.specs.Rows.{sameOffset}
-use Rattle.format.proofs.PositionLaws.{uleb-ahead}
+use Rattle.operations.proofs.PositionLaws.{uleb-ahead}
 use Rattle.reader.specs.Fields.{lettersOf}
 use Rattle.parts.specs.Headers.{headerNumbers}
 use Rattle.parts.proofs.Headed.{codeless, code-other, dataless, data-other, retless, ret-over, ret-there}

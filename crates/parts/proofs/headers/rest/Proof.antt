@@ -20,7 +20,7 @@ refused-requires : tie.Need-refused-requires
 refused-requires c κs = search needs
 
 returns : tie.Need-returns
-returns c = c .refused .ensures ∙ sym (rest-bad (c .before .before .before .before .before .args .body .now) (c .before .before .before .before .before .args .base) (c .before .before .before .before .before .args .at) (c .before .before .before .before .before .args .debug) (lettersOf (c .before .before .before .before .before .args .p)) (c .before .before .before .before .before .args .word) (c .before .before .before .before .before .args .reg) (c .before .before .before .header-tail .ensures) (c .before .enum-told .given .1))
+returns c = c .refused .ensures ∙ sym (rest-bad (c .before .before .before .before .before .args .body .now) (c .before .before .before .before .before .args .base) (c .before .before .before .before .before .args .at) (c .before .before .before .before .before .args .debug) (lettersOf (c .before .before .before .before .before .args .p)) (c .before .before .before .before .before .args .word) (c .before .before .before .before .before .args .reg) _ (c .before .before .before .header-tail .ensures) (c .before .enum-told .given .1))
 
 bit-requires : tie.Need-bit-requires
 bit-requires c κs = search needs
@@ -31,14 +31,14 @@ bit-requires-2 c κs = search needs
 bit-requires-3 : tie.Need-bit-requires-3
 bit-requires-3 c κs = search needs
 
-add-t16 : tie.Need-add-t16
-add-t16 c = omega (arith, heading (c .before .before .before .before .before .before .before .before .args .body .now) (c .before .before .before .before .before .before .before .before .args .base) (c .before .before .before .before .before .before .before .before .args .at) (c .before .before .before .before .before .before .before .before .args .debug) (lettersOf (c .before .before .before .before .before .before .before .before .args .p)) (c .before .before .before .before .before .before .before .before .args .word) (c .before .before .before .before .before .before .before .before .args .reg) (c .before .before .before .before .before .before .header-tail .ensures) (c .before .before .before .before .operations .given .1) .inside)
+add-t17 : tie.Need-add-t17
+add-t17 c = omega (arith, heading (c .before .before .before .before .before .before .before .before .args .body .now) (c .before .before .before .before .before .before .before .before .args .base) (c .before .before .before .before .before .before .before .before .args .at) (c .before .before .before .before .before .before .before .before .args .debug) (lettersOf (c .before .before .before .before .before .before .before .before .args .p)) (c .before .before .before .before .before .before .before .before .args .word) (c .before .before .before .before .before .before .before .before .args .reg) _ (c .before .before .before .before .before .before .header-tail .ensures) (c .before .before .before .before .operations .given .1) .inside)
 
-add-t19 : tie.Need-add-t19
-add-t19 c = search needs
+add-t20 : tie.Need-add-t20
+add-t20 c = search needs
 
 returns-2 : tie.Need-returns-2
-returns-2 c = rw (c .before .before .bit .ensures, c .before .bit2 .ensures, c .bit3 .ensures) (sym (rest-there (c .before .before .before .before .before .before .before .before .args .body .now) (c .before .before .before .before .before .before .before .before .args .base) (c .before .before .before .before .before .before .before .before .args .at) (c .before .before .before .before .before .before .before .before .args .debug) (lettersOf (c .before .before .before .before .before .before .before .before .args .p)) (c .before .before .before .before .before .before .before .before .args .word) (c .before .before .before .before .before .before .before .before .args .reg) (c .before .before .before .before .before .before .header-tail .ensures) (c .before .before .before .before .operations .given .1)))
+returns-2 c = rw (c .before .before .bit .ensures, c .before .bit2 .ensures, c .bit3 .ensures) (sym (rest-there (c .before .before .before .before .before .before .before .before .args .body .now) (c .before .before .before .before .before .before .before .before .args .base) (c .before .before .before .before .before .before .before .before .args .at) (c .before .before .before .before .before .before .before .before .args .debug) (lettersOf (c .before .before .before .before .before .before .before .before .args .p)) (c .before .before .before .before .before .before .before .before .args .word) (c .before .before .before .before .before .before .before .before .args .reg) _ (c .before .before .before .before .before .before .header-tail .ensures) (c .before .before .before .before .operations .given .1)))
 
 pub rest-spec : {M : Type 1} → statement M
 rest-spec =
@@ -52,6 +52,6 @@ rest-spec =
     bit-requires
     bit-requires-2
     bit-requires-3
-    add-t16
-    add-t19
+    add-t17
+    add-t20
     returns-2)

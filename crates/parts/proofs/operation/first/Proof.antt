@@ -1,7 +1,8 @@
 -- `parts::operation::first` meets its contract.
 use mathlib.Core.Path.{sym, _∙_}
 use native.Mathlib.Omega.{arith}
-use Rattle.format.proofs.OperationLaws.{operation-ahead}
+use Rattle.operations.specs.Positions.{from}
+use Rattle.operations.proofs.OperationLaws.{operation-ahead}
 use Rattle.parts.proofs.Operated.{answered, operation-from}
 use borrow.Author.Needs.{needs}
 use Rattle.parts.proofs.operation.first.Statement.{statement}
@@ -30,7 +31,7 @@ unfolding answered
 returns c = rw (operation-from _ _ _, sym (c .before .before .before .operation .ensures) ∙ c .before .enum-told .given .1) (rw (c .before .before .before .before .wide .ensures .0) at (c .refused .ensures))
 
 add-numbers-of : tie.Need-add-numbers-of
-add-numbers-of c = omega (arith, operation-ahead (c .before .before .before .before .before .before .before .args .word) (c .before .before .before .before .before .before .before .args .bytes .now) 0 (sym (c .before .before .before .operation .ensures) ∙ c .before .op .given .1) .1)
+add-numbers-of c = omega (arith, operation-ahead (c .before .before .before .before .before .before .before .args .word) (c .before .before .before .before .before .before .before .args .bytes .now) (from 0) (sym (c .before .before .before .operation .ensures) ∙ c .before .op .given .1) .1)
 
 numbers-of-requires : tie.Need-numbers-of-requires
 numbers-of-requires c κs = search needs

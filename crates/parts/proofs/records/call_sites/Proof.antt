@@ -1,7 +1,7 @@
 -- `parts::records::call_sites` meets its contract.
 use mathlib.Core.Path.{sym, _∙_}
 use native.Mathlib.Omega.{arith}
-use Rattle.format.proofs.PositionLaws.{uleb-ahead}
+use Rattle.operations.proofs.PositionLaws.{uleb-ahead}
 use Rattle.parts.proofs.Recorded.{sites-debug, sites-none, sites-bad, sites-there}
 use borrow.Author.Needs.{needs}
 use Rattle.parts.proofs.records.call_sites.Statement.{statement}

@@ -19,19 +19,19 @@ refused-requires : tie.Need-refused-requires
 refused-requires c κs = search needs
 
 returns : tie.Need-returns
-returns c = c .refused .ensures ∙ sym (rest-bad (c .before .before .before .before .before .args .body .now) (c .before .before .before .before .before .args .base) (c .before .before .before .before .before .args .at) (c .before .before .before .before .before .args .debug) (c .before .before .before .before .before .args .pointer) (c .before .before .before .before .before .args .f .header) (c .before .before .before .before .before .args .f .function) (c .before .before .before .before .before .args .f .length) (c .before .before .before .record-tail .ensures) (c .before .enum-told .given .1))
+returns c = c .refused .ensures ∙ sym (rest-bad (c .before .before .before .before .before .args .body .now) (c .before .before .before .before .before .args .base) (c .before .before .before .before .before .args .at) (c .before .before .before .before .before .args .debug) (c .before .before .before .before .before .args .pointer) (c .before .before .before .before .before .args .f .header) (c .before .before .before .before .before .args .f .function) (c .before .before .before .before .before .args .f .length) _ (c .before .before .before .record-tail .ensures) (c .before .enum-told .given .1))
 
 call-sites-requires : tie.Need-call-sites-requires
 call-sites-requires c κs = search needs
 
-add-t12 : tie.Need-add-t12
-add-t12 c = omega (arith, recording (c .before .before .before .before .before .before .args .body .now) (c .before .before .before .before .before .before .args .base) (c .before .before .before .before .before .before .args .at) (c .before .before .before .before .before .before .args .debug) (c .before .before .before .before .before .before .args .pointer) (c .before .before .before .before .before .before .args .f .header) (c .before .before .before .before .before .before .args .f .function) (c .before .before .before .before .before .before .args .f .length) (c .before .before .before .before .record-tail .ensures) (c .before .before .operations .given .1) .inside)
+add-t13 : tie.Need-add-t13
+add-t13 c = omega (arith, recording (c .before .before .before .before .before .before .args .body .now) (c .before .before .before .before .before .before .args .base) (c .before .before .before .before .before .before .args .at) (c .before .before .before .before .before .before .args .debug) (c .before .before .before .before .before .before .args .pointer) (c .before .before .before .before .before .before .args .f .header) (c .before .before .before .before .before .before .args .f .function) (c .before .before .before .before .before .before .args .f .length) _ (c .before .before .before .before .record-tail .ensures) (c .before .before .operations .given .1) .inside)
 
-add-t15 : tie.Need-add-t15
-add-t15 c = search needs
+add-t16 : tie.Need-add-t16
+add-t16 c = search needs
 
 returns-2 : tie.Need-returns-2
-returns-2 c = rw (c .call-sites .ensures) (sym (rest-there (c .before .before .before .before .before .before .args .body .now) (c .before .before .before .before .before .before .args .base) (c .before .before .before .before .before .before .args .at) (c .before .before .before .before .before .before .args .debug) (c .before .before .before .before .before .before .args .pointer) (c .before .before .before .before .before .before .args .f .header) (c .before .before .before .before .before .before .args .f .function) (c .before .before .before .before .before .before .args .f .length) (c .before .before .before .before .record-tail .ensures) (c .before .before .operations .given .1)))
+returns-2 c = rw (c .call-sites .ensures) (sym (rest-there (c .before .before .before .before .before .before .args .body .now) (c .before .before .before .before .before .before .args .base) (c .before .before .before .before .before .before .args .at) (c .before .before .before .before .before .before .args .debug) (c .before .before .before .before .before .before .args .pointer) (c .before .before .before .before .before .before .args .f .header) (c .before .before .before .before .before .before .args .f .function) (c .before .before .before .before .before .before .args .f .length) _ (c .before .before .before .before .record-tail .ensures) (c .before .before .operations .given .1)))
 
 pub rest-spec : {M : Type 1} → statement M
 rest-spec =
@@ -43,6 +43,6 @@ rest-spec =
     refused-requires
     returns
     call-sites-requires
-    add-t12
-    add-t15
+    add-t13
+    add-t16
     returns-2)

@@ -26,8 +26,8 @@ sub-if2 c = body-inside (c .before .before .before .before .before .before .args
 returns-3 : tie.Need-returns-3
 returns-3 c = sym (end-over (c .before .before .before .before .before .before .before .args .s .now) (c .before .before .before .before .before .before .before .args .at) (sym (c .before .before .before .before .before .read-le .ensures) ∙ c .before .before .before .n .given .1) (c .before .if1 .left) (c .if2 .taken))
 
-add-t8 : tie.Need-add-t8
-add-t8 c = search needs
+add-t10 : tie.Need-add-t10
+add-t10 c = search needs
 
 returns-4 : tie.Need-returns-4
 returns-4 c = sym (end-there (c .before .before .before .before .before .before .before .args .s .now) (c .before .before .before .before .before .before .before .args .at) (sym (c .before .before .before .before .before .read-le .ensures) ∙ c .before .before .before .n .given .1) (c .before .if1 .left) (c .if2 .left))
@@ -43,5 +43,5 @@ entry-end-spec =
     returns-2
     sub-if2
     returns-3
-    add-t8
+    add-t10
     returns-4)

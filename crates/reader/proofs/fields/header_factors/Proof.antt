@@ -6,8 +6,8 @@ use Rattle.format.specs.Headers.{dataFactor}
 use Rattle.format.specs.Rows.{sameOffset}
 use native.Mathlib.Omega.{arith}
 use borrow.Author.Tests.{not-true, not-false}
-use Rattle.format.proofs.PositionLaws.{uleb-ahead}
-use Rattle.reader.proofs.Headed.{factors-none, factors-code, factors-open, factors-data, factors-unnamed, factors-over, factors-there}
+use Rattle.operations.proofs.PositionLaws.{uleb-ahead}
+use Rattle.reader.proofs.Headed.{factors-none, factors-code, factors-open, factors-data, factors-unnamed, factors-over, factors-there, factors-mark}
 use Rattle.reader.proofs.fields.header_factors.Statement.{statement}
 use Rattle.reader.proofs.fields.header_factors.Tie as tie
 
@@ -67,7 +67,12 @@ header-tail-requires : tie.Need-header-tail-requires
 header-tail-requires c κs = (c .before .before .before .before .before .before .before .before .before .before .before .before .before .before .before .before .before .pre, uleb-ahead (c .before .before .before .before .before .before .before .before .before .before .before .before .before .before .before .before .before .args .s .now) (c .before .before .before .before .before .before .before .before .z .given .0 .1 .0) (sym (c .before .before .before .before .read-uleb2 .ensures) ∙ c .before .before .reg .given .1) .1)
 
 returns-7 : tie.Need-returns-7
-returns-7 c = rw (factors-there (c .before .before .before .before .before .before .before .before .before .before .before .before .before .before .before .before .before .before .args .s .now) (c .before .before .before .before .before .before .before .before .before .before .before .before .before .before .before .before .before .before .args .at) (c .before .before .before .before .before .before .before .before .before .before .before .before .before .before .before .before .before .before .args .debug) (c .before .before .before .before .before .before .before .before .before .before .before .before .before .before .before .before .before .before .args .word) (c .before .before .before .before .before .before .before .before .before .before .before .before .before .before .before .before .before .before .args .p) (sym (c .before .before .before .before .before .before .before .before .before .before .before .before .before .before .before .before .read-uleb .ensures) ∙ c .before .before .before .before .before .before .before .before .before .before .before .before .before .before .code .given .1) (c .before .before .before .before .before .before .before .before .before .before .before .before .if1 .left) (sym (c .before .before .before .before .before .before .before .before .before .before .before .read-sleb .ensures) ∙ c .before .before .before .before .before .before .before .before .before .z .given .1) (sym (same (c .before .before .before .before .before .before .before)) ∙ not-false _ (c .before .before .before .before .before .before .if2 .left)) (sym (c .before .before .before .before .before .read-uleb2 .ensures) ∙ c .before .before .before .reg .given .1) (c .before .if3 .left)) (c .header-tail .ensures)
+returns-7 c =
+    rw (
+      factors-there (c .before .before .before .before .before .before .before .before .before .before .before .before .before .before .before .before .before .before .args .s .now) (c .before .before .before .before .before .before .before .before .before .before .before .before .before .before .before .before .before .before .args .at) (c .before .before .before .before .before .before .before .before .before .before .before .before .before .before .before .before .before .before .args .debug) (c .before .before .before .before .before .before .before .before .before .before .before .before .before .before .before .before .before .before .args .word) (c .before .before .before .before .before .before .before .before .before .before .before .before .before .before .before .before .before .before .args .p) (sym (c .before .before .before .before .before .before .before .before .before .before .before .before .before .before .before .before .read-uleb .ensures) ∙ c .before .before .before .before .before .before .before .before .before .before .before .before .before .before .code .given .1) (c .before .before .before .before .before .before .before .before .before .before .before .before .if1 .left) (sym (c .before .before .before .before .before .before .before .before .before .before .before .read-sleb .ensures) ∙ c .before .before .before .before .before .before .before .before .before .z .given .1) (sym (same (c .before .before .before .before .before .before .before)) ∙ not-false _ (c .before .before .before .before .before .before .if2 .left)) (sym (c .before .before .before .before .before .read-uleb2 .ensures) ∙ c .before .before .before .reg .given .1) (c .before .if3 .left),
+      factors-mark (c .before .before .before .before .before .before .before .before .before .before .before .before .before .before .before .before .before .before .args .s .now) (c .before .before .before .before .before .before .before .before .before .before .before .before .before .before .before .before .before .before .args .at) (c .before .before .before .before .before .before .before .before .before .before .before .before .before .before .before .before .before .before .args .debug) (c .before .before .before .before .before .before .before .before .before .before .before .before .before .before .before .before .before .before .args .word) (c .before .before .before .before .before .before .before .before .before .before .before .before .before .before .before .before .before .before .args .p) (sym (c .before .before .before .before .before .before .before .before .before .before .before .before .before .before .before .before .read-uleb .ensures) ∙ c .before .before .before .before .before .before .before .before .before .before .before .before .before .before .code .given .1) (c .before .before .before .before .before .before .before .before .before .before .before .before .if1 .left) (sym (c .before .before .before .before .before .before .before .before .before .before .before .read-sleb .ensures) ∙ c .before .before .before .before .before .before .before .before .before .z .given .1) (sym (same (c .before .before .before .before .before .before .before)) ∙ not-false _ (c .before .before .before .before .before .before .if2 .left)) (sym (c .before .before .before .before .before .read-uleb2 .ensures) ∙ c .before .before .before .reg .given .1),
+    )
+    (c .header-tail .ensures)
 
 pub header-factors-spec : {M : Type 1} → statement M
 header-factors-spec =

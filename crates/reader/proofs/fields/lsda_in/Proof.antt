@@ -26,8 +26,8 @@ enum-told c = search needs
 returns-3 : tie.Need-returns-3
 returns-3 c = lsda-unknown (c .before .before .before .before .before .before .before .args .s .now) (c .before .before .before .before .before .before .before .args .at) (c .before .before .before .before .before .before .before .args .here) (c .before .before .before .before .before .before .before .args .word) (c .before .before .before .before .before .if1 .left) (c .before .before .before .before .if2 .left) (sym (c .before .before .pointer-size .ensures) ∙ c .enum-told .given .1)
 
-add-t7 : tie.Need-add-t7
-add-t7 c = search needs
+add-t8 : tie.Need-add-t8
+add-t8 c = search needs
 
 returns-4 : tie.Need-returns-4
 returns-4 c = lsda-there (c .before .before .before .before .before .before .before .before .args .s .now) (c .before .before .before .before .before .before .before .before .args .at) (c .before .before .before .before .before .before .before .before .args .here) (c .before .before .before .before .before .before .before .before .args .word) (c .before .before .before .before .before .before .if1 .left) (c .before .before .before .before .before .if2 .left) (sym (c .before .before .before .pointer-size .ensures) ∙ c .before .n .given .1)
@@ -43,5 +43,5 @@ lsda-in-spec =
     enum-known-n
     enum-told
     returns-3
-    add-t7
+    add-t8
     returns-4)

@@ -12,12 +12,12 @@ text-at-requires c κs = search needs
 announced-requires : tie.Need-announced-requires
 announced-requires c κs = search needs
 
-add-t10 : tie.Need-add-t10
-add-t10 c = search needs
+add-t12 : tie.Need-add-t12
+add-t12 c = search needs
 
 returns : tie.Need-returns
 unfolding spelled
-returns c = rw (c .announced .ensures) (met (trying (c .before .before .before .before .before .before .args .s .now) (c .before .before .before .before .before .before .args .at) (twoOf (c .before .before .before .before .before .before .args .plain .now) (c .before .before .before .before .before .before .args .signal .now) (c .before .before .before .before .before .before .args .personality) (c .before .before .before .before .before .before .args .lsda))) (c .before .before .text-at .ensures) (c .before .if1 .taken) (c .before .before .before .before .before .before .pre))
+returns c = rw (c .announced .ensures) (met (trying (c .before .before .before .before .before .before .args .s .now) (c .before .before .before .before .before .before .args .at .at) (twoOf (c .before .before .before .before .before .before .args .plain .now) (c .before .before .before .before .before .before .args .signal .now) (c .before .before .before .before .before .before .args .personality) (c .before .before .before .before .before .before .args .lsda))) (c .before .before .text-at .ensures) (c .before .if1 .taken) (c .before .before .before .before .before .before .pre) (c .before .before .before .before .before .before .args .at .shortest))
 
 text-at-requires-2 : tie.Need-text-at-requires-2
 text-at-requires-2 c κs = search needs
@@ -25,16 +25,16 @@ text-at-requires-2 c κs = search needs
 announced-requires-2 : tie.Need-announced-requires-2
 announced-requires-2 c κs = search needs
 
-add-t14 : tie.Need-add-t14
-add-t14 c = search needs
+add-t17 : tie.Need-add-t17
+add-t17 c = search needs
 
 returns-2 : tie.Need-returns-2
 unfolding spelled
-returns-2 c = rw (c .announced2 .ensures) (met (missed (trying (c .before .before .before .before .before .before .before .before .args .s .now) (c .before .before .before .before .before .before .before .before .args .at) (twoOf (c .before .before .before .before .before .before .before .before .args .plain .now) (c .before .before .before .before .before .before .before .before .args .signal .now) (c .before .before .before .before .before .before .before .before .args .personality) (c .before .before .before .before .before .before .before .before .args .lsda))) (c .before .before .before .before .text-at .ensures) (c .before .before .before .if1 .left)) (c .before .before .text-at2 .ensures) (c .before .if2 .taken) (c .before .before .before .before .before .before .before .before .pre))
+returns-2 c = rw (c .announced2 .ensures) (met (missed (trying (c .before .before .before .before .before .before .before .before .args .s .now) (c .before .before .before .before .before .before .before .before .args .at .at) (twoOf (c .before .before .before .before .before .before .before .before .args .plain .now) (c .before .before .before .before .before .before .before .before .args .signal .now) (c .before .before .before .before .before .before .before .before .args .personality) (c .before .before .before .before .before .before .before .before .args .lsda))) (c .before .before .before .before .text-at .ensures) (c .before .before .before .if1 .left)) (c .before .before .text-at2 .ensures) (c .before .if2 .taken) (c .before .before .before .before .before .before .before .before .pre) (c .before .before .before .before .before .before .before .before .args .at .shortest))
 
 returns-3 : tie.Need-returns-3
 unfolding spelled
-returns-3 c = unmet (missed (missed (trying (c .before .before .before .before .before .before .before .args .s .now) (c .before .before .before .before .before .before .before .args .at) (twoOf (c .before .before .before .before .before .before .before .args .plain .now) (c .before .before .before .before .before .before .before .args .signal .now) (c .before .before .before .before .before .before .before .args .personality) (c .before .before .before .before .before .before .before .args .lsda))) (c .before .before .before .text-at .ensures) (c .before .before .if1 .left)) (c .before .text-at2 .ensures) (c .if2 .left))
+returns-3 c = unmet (missed (missed (trying (c .before .before .before .before .before .before .before .args .s .now) (c .before .before .before .before .before .before .before .args .at .at) (twoOf (c .before .before .before .before .before .before .before .args .plain .now) (c .before .before .before .before .before .before .before .args .signal .now) (c .before .before .before .before .before .before .before .args .personality) (c .before .before .before .before .before .before .before .args .lsda))) (c .before .before .before .text-at .ensures) (c .before .before .if1 .left)) (c .before .text-at2 .ensures) (c .if2 .left))
 
 pub marked-spec : {M : Type 1} → statement M
 marked-spec =
@@ -42,10 +42,10 @@ marked-spec =
     (tie.spec
     text-at-requires
     announced-requires
-    add-t10
+    add-t12
     returns
     text-at-requires-2
     announced-requires-2
-    add-t14
+    add-t17
     returns-2
     returns-3)

@@ -53,17 +53,14 @@ enum-told-2 c = search needs
 returns-2 : tie.Need-returns-2
 returns-2 c = fields-record (c .before .before .before .before .before .before .before .before .before .before .args .s .now) (c .before .before .before .before .before .before .before .before .before .before .args .debug) (c .before .before .before .before .before .before .before .before .before .before .args .word) (c .before .before .before .before .before .before .before .before .before .before .args .cie) (c .before .before .before .before .before .before .before .before .before .before .args .past) (c .before .before .before .before .before .before .before .before .before .before .args .at) (c .before .before .before .before .before .before .before .before .before .before .args .end) (c .before .before .before .before .before .before .before .parse-header .ensures) (c .before .before .before .before .before .rules .given .1) (c .before .before .parse-record .ensures) (c .enum-told2 .given .1)
 
-fields-shortest-requires : tie.Need-fields-shortest-requires
-fields-shortest-requires c κs = search needs
+add-t19 : tie.Need-add-t19
+add-t19 c = record { fits = omega (arith, header-held (c .before .before .before .before .before .before .before .before .before .before .before .args .s .now) (c .before .before .before .before .before .before .before .before .before .before .before .args .debug) (c .before .before .before .before .before .before .before .before .before .before .before .args .word) (c .before .before .before .before .before .before .before .before .before .before .before .args .cie) (c .before .before .before .before .before .before .before .before .before .before .before .args .past) (c .before .before .before .before .before .before .before .before .before .before .before .args .at) (c .before .before .before .before .before .before .before .before .before .before .before .args .end) (c .before .before .before .before .before .before .before .before .parse-header .ensures) (c .before .before .before .before .before .before .rules .given .1) (c .before .before .before .before .before .before .before .before .before .before .before .pre .1) (c .before .before .before .before .before .before .before .before .before .before .before .pre .2)) }
 
-add-t18 : tie.Need-add-t18
-add-t18 c = record { fits = omega (arith, header-held (c .before .before .before .before .before .before .before .before .before .before .before .before .args .s .now) (c .before .before .before .before .before .before .before .before .before .before .before .before .args .debug) (c .before .before .before .before .before .before .before .before .before .before .before .before .args .word) (c .before .before .before .before .before .before .before .before .before .before .before .before .args .cie) (c .before .before .before .before .before .before .before .before .before .before .before .before .args .past) (c .before .before .before .before .before .before .before .before .before .before .before .before .args .at) (c .before .before .before .before .before .before .before .before .before .before .before .before .args .end) (c .before .before .before .before .before .before .before .before .before .parse-header .ensures) (c .before .before .before .before .before .before .before .rules .given .1) (c .before .before .before .before .before .before .before .before .before .before .before .before .pre .1) (c .before .before .before .before .before .before .before .before .before .before .before .before .pre .2)) }
-
-add-t25 : tie.Need-add-t25
-add-t25 c = record { fits = omega (arith, record-held (c .before .before .before .before .before .before .before .before .before .before .before .before .args .s .now) (c .before .before .before .before .before .before .before .before .before .before .before .before .args .debug) (c .before .before .before .before .before .before .before .before .before .before .before .before .args .word) (c .before .before .before .before .before .before .before .before .before .before .before .before .args .cie) (c .before .before .before .before .before .before .before .before .before .before .before .before .args .past) (c .before .before .before .before .before .before .before .before .before .before .before .before .args .at) (c .before .before .before .before .before .before .before .before .before .before .before .before .args .end) (c .before .before .before .before .before .before .before .before .before .parse-header .ensures) (c .before .before .before .before .before .before .before .rules .given .1) (c .before .before .before .before .parse-record .ensures) (c .before .before .rows .given .1) (c .before .before .before .before .before .before .before .before .before .before .before .before .pre .3) (c .before .before .before .before .before .before .before .before .before .before .before .before .pre .4)) }
+add-t26 : tie.Need-add-t26
+add-t26 c = record { fits = omega (arith, record-held (c .before .before .before .before .before .before .before .before .before .before .before .args .s .now) (c .before .before .before .before .before .before .before .before .before .before .before .args .debug) (c .before .before .before .before .before .before .before .before .before .before .before .args .word) (c .before .before .before .before .before .before .before .before .before .before .before .args .cie) (c .before .before .before .before .before .before .before .before .before .before .before .args .past) (c .before .before .before .before .before .before .before .before .before .before .before .args .at) (c .before .before .before .before .before .before .before .before .before .before .before .args .end) (c .before .before .before .before .before .before .before .before .parse-header .ensures) (c .before .before .before .before .before .before .rules .given .1) (c .before .before .before .parse-record .ensures) (c .before .rows .given .1) (c .before .before .before .before .before .before .before .before .before .before .before .pre .3) (c .before .before .before .before .before .before .before .before .before .before .before .pre .4)) }
 
 returns-3 : tie.Need-returns-3
-returns-3 c = fields-there (c .before .before .before .before .before .before .before .before .before .before .before .before .args .s .now) (c .before .before .before .before .before .before .before .before .before .before .before .before .args .debug) (c .before .before .before .before .before .before .before .before .before .before .before .before .args .word) (c .before .before .before .before .before .before .before .before .before .before .before .before .args .cie) (c .before .before .before .before .before .before .before .before .before .before .before .before .args .past) (c .before .before .before .before .before .before .before .before .before .before .before .before .args .at) (c .before .before .before .before .before .before .before .before .before .before .before .before .args .end) (c .before .before .before .before .before .before .before .before .before .parse-header .ensures) (c .before .before .before .before .before .before .before .rules .given .1) (c .before .before .before .before .parse-record .ensures) (c .before .before .rows .given .1) (c .before .before .before .before .before .before .before .before .before .before .before .before .pre .0) (c .before .before .before .before .before .before .before .before .before .before .before .before .pre .1) (c .before .before .before .before .before .before .before .before .before .before .before .before .pre .2) (c .before .before .before .before .before .before .before .before .before .before .before .before .pre .3) (c .before .before .before .before .before .before .before .before .before .before .before .before .pre .4) (c .fields-shortest .ensures)
+returns-3 c = fields-there (c .before .before .before .before .before .before .before .before .before .before .before .args .s .now) (c .before .before .before .before .before .before .before .before .before .before .before .args .debug) (c .before .before .before .before .before .before .before .before .before .before .before .args .word) (c .before .before .before .before .before .before .before .before .before .before .before .args .cie) (c .before .before .before .before .before .before .before .before .before .before .before .args .past) (c .before .before .before .before .before .before .before .before .before .before .before .args .at) (c .before .before .before .before .before .before .before .before .before .before .before .args .end) (c .before .before .before .before .before .before .before .before .parse-header .ensures) (c .before .before .before .before .before .before .rules .given .1) (c .before .before .before .parse-record .ensures) (c .before .rows .given .1) (c .before .before .before .before .before .before .before .before .before .before .before .pre .0) (c .before .before .before .before .before .before .before .before .before .before .before .pre .1) (c .before .before .before .before .before .before .before .before .before .before .before .pre .2) (c .before .before .before .before .before .before .before .before .before .before .before .pre .3) (c .before .before .before .before .before .before .before .before .before .before .before .pre .4)
 
 pub parse-spec : {M : Type 1} → statement M
 parse-spec =
@@ -85,7 +82,6 @@ parse-spec =
     enum-known-rows
     enum-told-2
     returns-2
-    fields-shortest-requires
-    add-t18
-    add-t25
+    add-t19
+    add-t26
     returns-3)

@@ -16,7 +16,7 @@ Inv-operations s header header-end «record» record-end word p q state₀ left 
     (remaining word p (part s header header-end) (part s «record» record-end) left) at loc state
 
 abbrev μ-operations : tie.MeasureT-operations
-μ-operations s header header-end «record» record-end word p q state₀ left from to ops first initial loc₀ at₀ state loc at = length ops - at
+μ-operations s header header-end «record» record-end word p q state₀ left from to ops first initial loc₀ at₀ state loc at = length ops - at .at
 
 abbrev Inv-entries : tie.InvT-entries
 Inv-entries s header header-end «record» record-end word p q state₀ left₀ from₀ to₀ state left from to =
@@ -50,10 +50,10 @@ entries-less : tie.Need-entries-less Inv-operations μ-operations Inv-entries μ
 entries-less c = search needs
 
 entries-again : tie.Need-entries-again Inv-operations μ-operations Inv-entries μ-entries
-entries-again c = again (c .before .before .before .before .before .entries .inv) (c .before .before .before .before .entries-test .taken) (c .before .before .before .before .before .before .before .before .pre .3) (c .before .before .before .before .before .before .before .before .pre .4) (c .before .operations .inv .held) (c .before .operations .inv .all) (c .before .operations .inv .seen) (all-done (c .before .operations .inv) (c .operations-test .left))
+entries-again c = again (c .before .before .before .before .before .before .entries .inv) (c .before .before .before .before .before .entries-test .taken) (c .before .before .before .before .before .before .before .before .before .pre .3) (c .before .before .before .before .before .before .before .before .before .pre .4) (c .before .before .operations .inv .held) (c .before .before .operations .inv .all) (c .before .before .operations .inv .seen) (all-done (c .before .before .operations .inv) (c .if1 .left))
 
 operation-requires : tie.Need-operation-requires Inv-operations μ-operations Inv-entries μ-entries
-operation-requires c κs = word-small (c .before .before .before .before .before .before .before .before .args .word) (c .before .before .before .before .before .before .before .before .pre .0) .0
+operation-requires c κs = word-small (c .before .before .before .before .before .before .before .before .before .args .word) (c .before .before .before .before .before .before .before .before .before .pre .0) .0
 
 enum-known-op : tie.Need-enum-known-op Inv-operations μ-operations Inv-entries μ-entries
 enum-known-op c = search needs
@@ -62,55 +62,55 @@ enum-told : tie.Need-enum-told Inv-operations μ-operations Inv-entries μ-entri
 enum-told c = search needs
 
 returns : tie.Need-returns Inv-operations μ-operations Inv-entries μ-entries
-returns c = bad-operation (c .before .before .before .before .operations .inv) (c .before .before .before .operations-test .taken) (sym (c .before .before .operation .ensures) ∙ c .enum-told .given .1)
+returns c = bad-operation (c .before .before .before .before .before .operations .inv) (c .before .before .before .if1 .taken) (sym (c .before .before .operation .ensures) ∙ c .enum-told .given .1)
 
 enum-told-2 : tie.Need-enum-told-2 Inv-operations μ-operations Inv-entries μ-entries
 enum-told-2 c = search needs
 
 operations-less : tie.Need-operations-less Inv-operations μ-operations Inv-entries μ-entries
-operations-less c = shorter (c .before .before .before .before .before .before .before .operations .inv) (sym (c .before .before .before .before .before .operation .ensures) ∙ c .before .before .before .op .given .1)
+operations-less c = shorter (c .before .before .before .before .before .before .before .before .operations .inv) (sym (c .before .before .before .before .before .operation .ensures) ∙ c .before .before .before .op .given .1)
 
 operations-again : tie.Need-operations-again Inv-operations μ-operations Inv-entries μ-entries
-operations-again c = padding (c .before .before .before .before .before .before .before .operations .inv) (sym (c .before .before .before .before .before .operation .ensures) ∙ c .before .before .before .op .given .1) (c .enum-told2 .given .1)
+operations-again c = padding (c .before .before .before .before .before .before .before .before .operations .inv) (sym (c .before .before .before .before .before .operation .ensures) ∙ c .before .before .before .op .given .1) (c .enum-told2 .given .1)
 
 enum-known-op-2 : tie.Need-enum-known-op-2 Inv-operations μ-operations Inv-entries μ-entries
 enum-known-op-2 c = search needs
 
 returns-2 : tie.Need-returns-2 Inv-operations μ-operations Inv-entries μ-entries
-returns-2 c = bad-step (c .before .before .before .before .before .before .before .before .before .operations .inv) (sym (c .before .before .before .before .before .before .before .operation .ensures) ∙ c .before .before .before .before .before .op .given .1) (c .before .before .op2 .given .1) (c .if1 .taken)
+returns-2 c = bad-step (c .before .before .before .before .before .before .before .before .before .before .operations .inv) (sym (c .before .before .before .before .before .before .before .operation .ensures) ∙ c .before .before .before .before .before .op .given .1) (c .before .before .op2 .given .1) (c .if2 .taken)
 
-sub-if2 : tie.Need-sub-if2 Inv-operations μ-operations Inv-entries μ-entries
-sub-if2 c = c .before .before .before .before .before .before .before .before .before .operations .inv .near
+sub-if3 : tie.Need-sub-if3 Inv-operations μ-operations Inv-entries μ-entries
+sub-if3 c = c .before .before .before .before .before .before .before .before .before .before .operations .inv .near
 
 entries-less-2 : tie.Need-entries-less-2 Inv-operations μ-operations Inv-entries μ-entries
 entries-less-2 c = search needs
 
 entries-again-2 : tie.Need-entries-again-2 Inv-operations μ-operations Inv-entries μ-entries
-entries-again-2 c = again (c .before .before .before .before .before .before .before .before .before .before .before .before .before .before .entries .inv) (c .before .before .before .before .before .before .before .before .before .before .before .before .before .entries-test .taken) (c .before .before .before .before .before .before .before .before .before .before .before .before .before .before .before .before .before .pre .3) (c .before .before .before .before .before .before .before .before .before .before .before .before .before .before .before .before .before .pre .4) (c .before .before .before .before .before .before .before .before .before .before .operations .inv .held) (c .before .before .before .before .before .before .before .before .before .before .operations .inv .all) (c .before .before .before .before .before .before .before .before .before .before .operations .inv .seen) (far-step (c .before .before .before .before .before .before .before .before .before .before .operations .inv) (sym (c .before .before .before .before .before .before .before .before .operation .ensures) ∙ c .before .before .before .before .before .before .op .given .1) (c .before .before .before .op2 .given .1) (c .before .if1 .left) (c .if2 .taken))
+entries-again-2 c = again (c .before .before .before .before .before .before .before .before .before .before .before .before .before .before .before .entries .inv) (c .before .before .before .before .before .before .before .before .before .before .before .before .before .before .entries-test .taken) (c .before .before .before .before .before .before .before .before .before .before .before .before .before .before .before .before .before .before .pre .3) (c .before .before .before .before .before .before .before .before .before .before .before .before .before .before .before .before .before .before .pre .4) (c .before .before .before .before .before .before .before .before .before .before .before .operations .inv .held) (c .before .before .before .before .before .before .before .before .before .before .before .operations .inv .all) (c .before .before .before .before .before .before .before .before .before .before .before .operations .inv .seen) (far-step (c .before .before .before .before .before .before .before .before .before .before .before .operations .inv) (sym (c .before .before .before .before .before .before .before .before .operation .ensures) ∙ c .before .before .before .before .before .before .op .given .1) (c .before .before .before .op2 .given .1) (c .before .if2 .left) (c .if3 .taken))
 
 add-loc : tie.Need-add-loc Inv-operations μ-operations Inv-entries μ-entries
 add-loc c = search needs
 
 operations-less-2 : tie.Need-operations-less-2 Inv-operations μ-operations Inv-entries μ-entries
-operations-less-2 c = shorter (c .before .before .before .before .before .before .before .before .before .before .operations .inv) (sym (c .before .before .before .before .before .before .before .before .operation .ensures) ∙ c .before .before .before .before .before .before .op .given .1)
+operations-less-2 c = shorter (c .before .before .before .before .before .before .before .before .before .before .before .operations .inv) (sym (c .before .before .before .before .before .before .before .before .operation .ensures) ∙ c .before .before .before .before .before .before .op .given .1)
 
 operations-again-2 : tie.Need-operations-again-2 Inv-operations μ-operations Inv-entries μ-entries
-operations-again-2 c = near-step (c .before .before .before .before .before .before .before .before .before .before .operations .inv) (sym (c .before .before .before .before .before .before .before .before .operation .ensures) ∙ c .before .before .before .before .before .before .op .given .1) (c .before .before .before .op2 .given .1) (c .before .if1 .left) (c .if2 .left)
+operations-again-2 c = near-step (c .before .before .before .before .before .before .before .before .before .before .before .operations .inv) (sym (c .before .before .before .before .before .before .before .before .operation .ensures) ∙ c .before .before .before .before .before .before .op .given .1) (c .before .before .before .op2 .given .1) (c .before .if2 .left) (c .if3 .left)
 
 enum-known-op-3 : tie.Need-enum-known-op-3 Inv-operations μ-operations Inv-entries μ-entries
 enum-known-op-3 c = search needs
 
 act-requires : tie.Need-act-requires Inv-operations μ-operations Inv-entries μ-entries
-act-requires c κs = c .before .before .before .before .before .before .before .before .operations .inv .held
+act-requires c κs = c .before .before .before .before .before .before .before .before .before .operations .inv .held
 
 returns-3 : tie.Need-returns-3 Inv-operations μ-operations Inv-entries μ-entries
-returns-3 c = bad-row (c .before .before .before .before .before .before .before .before .before .before .before .operations .inv) (sym (c .before .before .before .before .before .before .before .before .before .operation .ensures) ∙ c .before .before .before .before .before .before .before .op .given .1) (c .before .before .before .before .op3 .given .1) (c .before .before .act .ensures) (c .if3 .taken)
+returns-3 c = bad-row (c .before .before .before .before .before .before .before .before .before .before .before .before .operations .inv) (sym (c .before .before .before .before .before .before .before .before .before .operation .ensures) ∙ c .before .before .before .before .before .before .before .op .given .1) (c .before .before .before .before .op3 .given .1) (c .before .before .act .ensures) (c .if4 .taken)
 
 operations-less-3 : tie.Need-operations-less-3 Inv-operations μ-operations Inv-entries μ-entries
-operations-less-3 c = shorter (c .before .before .before .before .before .before .before .before .before .before .before .before .operations .inv) (sym (c .before .before .before .before .before .before .before .before .before .before .operation .ensures) ∙ c .before .before .before .before .before .before .before .before .op .given .1)
+operations-less-3 c = shorter (c .before .before .before .before .before .before .before .before .before .before .before .before .before .operations .inv) (sym (c .before .before .before .before .before .before .before .before .before .before .operation .ensures) ∙ c .before .before .before .before .before .before .before .before .op .given .1)
 
 operations-again-3 : tie.Need-operations-again-3 Inv-operations μ-operations Inv-entries μ-entries
-operations-again-3 c = good-row (c .before .before .before .before .before .before .before .before .before .before .before .before .operations .inv) (sym (c .before .before .before .before .before .before .before .before .before .before .operation .ensures) ∙ c .before .before .before .before .before .before .before .before .op .given .1) (c .before .before .before .before .before .op3 .given .1) (c .before .before .before .act .ensures) (c .before .if3 .left)
+operations-again-3 c = good-row (c .before .before .before .before .before .before .before .before .before .before .before .before .before .operations .inv) (sym (c .before .before .before .before .before .before .before .before .before .before .operation .ensures) ∙ c .before .before .before .before .before .before .before .before .op .given .1) (c .before .before .before .before .before .op3 .given .1) (c .before .before .before .act .ensures) (c .before .if4 .left)
 
 returns-4 : tie.Need-returns-4 Inv-operations μ-operations Inv-entries μ-entries
 returns-4 c = ended (c .before .before .entries .inv) (c .before .entries-test .left)
@@ -141,7 +141,7 @@ run-spec =
     operations-again
     enum-known-op-2
     returns-2
-    sub-if2
+    sub-if3
     entries-less-2
     entries-again-2
     add-loc

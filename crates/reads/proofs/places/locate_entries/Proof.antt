@@ -69,20 +69,17 @@ returns-2 c =
     ∙ entries-refused (a .s .now) (a .debug) (a .word) (a .cie) (a .past) (a .at) (a .end)
     (fields-record (a .s .now) (a .debug) (a .word) (a .cie) (a .past) (a .at) (a .end) (c .before .before .before .before .before .before .before .before .parse-header .ensures) (c .before .before .before .before .before .before .rules .given .1) (c .before .before .before .parse-record .ensures) (c .before .enum-told2 .given .1))
 
-fields-shortest-requires : tie.Need-fields-shortest-requires
-fields-shortest-requires c κs = search needs
+add-t19 : tie.Need-add-t19
+add-t19 c =
+    let a = c .before .before .before .before .before .before .before .before .before .before .before .args in
+    let h = c .before .before .before .before .before .before .before .before .before .before .before .pre in
+    record { fits = omega (arith, header-held (a .s .now) (a .debug) (a .word) (a .cie) (a .past) (a .at) (a .end) (c .before .before .before .before .before .before .before .before .parse-header .ensures) (c .before .before .before .before .before .before .rules .given .1) (h .1) (h .2)) }
 
-add-t18 : tie.Need-add-t18
-add-t18 c =
-    let a = c .before .before .before .before .before .before .before .before .before .before .before .before .args in
-    let h = c .before .before .before .before .before .before .before .before .before .before .before .before .pre in
-    record { fits = omega (arith, header-held (a .s .now) (a .debug) (a .word) (a .cie) (a .past) (a .at) (a .end) (c .before .before .before .before .before .before .before .before .before .parse-header .ensures) (c .before .before .before .before .before .before .before .rules .given .1) (h .1) (h .2)) }
-
-add-t27 : tie.Need-add-t27
-add-t27 c =
-    let a = c .before .before .before .before .before .before .before .before .before .before .before .before .args in
-    let h = c .before .before .before .before .before .before .before .before .before .before .before .before .pre in
-    record { fits = omega (arith, record-held (a .s .now) (a .debug) (a .word) (a .cie) (a .past) (a .at) (a .end) (c .before .before .before .before .before .before .before .before .before .parse-header .ensures) (c .before .before .before .before .before .before .before .rules .given .1) (c .before .before .before .before .parse-record .ensures) (c .before .before .rows .given .1) (h .3) (h .4)) }
+add-t28 : tie.Need-add-t28
+add-t28 c =
+    let a = c .before .before .before .before .before .before .before .before .before .before .before .args in
+    let h = c .before .before .before .before .before .before .before .before .before .before .before .pre in
+    record { fits = omega (arith, record-held (a .s .now) (a .debug) (a .word) (a .cie) (a .past) (a .at) (a .end) (c .before .before .before .before .before .before .before .before .parse-header .ensures) (c .before .before .before .before .before .before .rules .given .1) (c .before .before .before .parse-record .ensures) (c .before .rows .given .1) (h .3) (h .4)) }
 
 number-requires : tie.Need-number-requires
 number-requires c κs = search needs
@@ -92,11 +89,11 @@ number-requires-2 c κs = search needs
 
 returns-3 : tie.Need-returns-3
 returns-3 c =
-    let a = c .before .before .before .before .before .before .before .before .before .before .before .before .before .before .args in
-    let h = c .before .before .before .before .before .before .before .before .before .before .before .before .before .before .pre in
+    let a = c .before .before .before .before .before .before .before .before .before .before .before .before .before .args in
+    let h = c .before .before .before .before .before .before .before .before .before .before .before .before .before .pre in
     rw (c .before .number .ensures, c .number2 .ensures)
     (entries-located (a .s .now) (a .debug) (a .word) (a .cie) (a .past) (a .at) (a .end) (h .1) (h .2) (h .3) (h .4)
-    (fields-there (a .s .now) (a .debug) (a .word) (a .cie) (a .past) (a .at) (a .end) (c .before .before .before .before .before .before .before .before .before .before .before .parse-header .ensures) (c .before .before .before .before .before .before .before .before .before .rules .given .1) (c .before .before .before .before .before .before .parse-record .ensures) (c .before .before .before .before .rows .given .1) (h .0) (h .1) (h .2) (h .3) (h .4) (c .before .before .fields-shortest .ensures))
+    (fields-there (a .s .now) (a .debug) (a .word) (a .cie) (a .past) (a .at) (a .end) (c .before .before .before .before .before .before .before .before .before .before .parse-header .ensures) (c .before .before .before .before .before .before .before .before .rules .given .1) (c .before .before .before .before .before .parse-record .ensures) (c .before .before .before .rows .given .1) (h .0) (h .1) (h .2) (h .3) (h .4))
     refl
     refl)
 
@@ -122,9 +119,8 @@ locate-entries-spec =
     enum-told-2
     refused-requires-2
     returns-2
-    fields-shortest-requires
-    add-t18
-    add-t27
+    add-t19
+    add-t28
     number-requires
     number-requires-2
     returns-3)

@@ -2,21 +2,24 @@
 use mathlib.Core.Path.{_≡_, refl}
 use Prim.Native.Nat.{ℕ, _-_, _≤_, _<_}
 use native.Mathlib.Omega.{arith}
+use mathlib.Core.Bool.{Bool}
 use mathlib.Core.Option.{none, some}
 use mathlib.Core.List.{List, [], _∷_}
 use lib.ListN.{length, drop}
 use lib.Dec.{leb, ltb, eqb}
 use lib.IntN.{ℤ, pos}
 use Rattle.format.specs.Prelude.{Read}
 use Rattle.format.specs.Leb.{fits64}
+use Rattle.format.specs.Shortest.{operationShort}
 use Rattle.format.specs.declared.Row.{Row}
 use Rattle.format.specs.declared.Row.the-variants.{DefCfa, DefCfaOffset, DefCfaRegister, Offset, Restore, Undefined, RememberState, RestoreState, NegateRaState, SameValue, InRegister}
 use Rattle.format.specs.declared.Operation.{Operation}
 use Rattle.format.specs.declared.Operation.the-variants.{Nop, Step, Does}
-use Rattle.format.specs.declared.Decoded.the-variants as decoded
 use Rattle.format.specs.Rows.{unfactor, readRegister, inRange, readOffset, readFactored, readSigned, one, two, readExtended, readOperation}
-use Rattle.format.proofs.Positions.{decodedFrom, operationAt}
-use Rattle.format.proofs.PositionLaws.{Takes, nothing, taken, takes-pick, takes-byte, takes-next, takes-within, gives, takes-little, takes-uleb, takes-sleb, Ahead, ahead}
+use Rattle.operations.specs.declared.fields.Position.{Position}
+use Rattle.operations.specs.declared.Decoded.the-variants as decoded
+use Rattle.operations.specs.Positions.{past, decodedFrom, operationAt}
+use Rattle.operations.proofs.PositionLaws.{Past, past-at, past-is, Takes, nothing, taken, takes-pick, takes-byte, takes-next, takes-within, gives, takes-little, takes-uleb, takes-sleb, Ahead, ahead}
 
 -- ---- operands
 
@@ -87,29 +90,41 @@ takes-operation w (b ∷ bs) =
 
 -- ---- what the callers know
 
-decoded-ahead : {lo hi : ℕ} (byte : 0 < lo) (s : List ℕ) (p : ℕ) {r : Read Operation} {op : Operation} {q : ℕ} → Takes lo hi (drop p s) r
-    → decodedFrom (length s) r ≡ decoded.Operation op q → Ahead lo hi s p q r op
+decoded-ahead : {lo hi : ℕ} (byte : 0 < lo) (s : List ℕ) (p : Position) (b : Bool) {r : Read Operation} {op : Operation} {q : Position} → Takes lo hi (drop (p .at) s) r
+    → decodedFrom p b (length s) r ≡ decoded.Operation op q → Ahead lo hi s (p .at) (q .at) r op
 unfolding decodedFrom
-decoded-ahead byte s p nothing e = let z : _≡_ {A = ℕ} 0 1 = cc in absurd (omega arith)
-decoded-ahead byte s p {op = op} {q = q} (taken n w l h m) e = ahead byte s p n w op q l h m (cc) (cc)
+decoded-ahead byte s p b nothing e = let z : _≡_ {A = ℕ} 0 1 = cc in absurd (omega arith)
+decoded-ahead byte s p b {op = op} {q = q} (taken n w l h m) e =
+    let i : past p b (length s - length (drop n (drop (p .at) s))) ≡ q = cc in
+    ahead byte s (p .at) n w op (q .at) l h m (cc) (past-at p b _ i)
 
-decoded-none : (size : ℕ) (r : Read Operation) → decodedFrom size r ≡ decoded.Bad → r ≡ none
-unfolding decodedFrom
-decoded-none size none e = refl
-decoded-none size (some x) e = let z : _≡_ {A = ℕ} 0 1 = cc in absurd (omega arith)
+module _ (p : Position) (b : Bool) (size : ℕ) where
+  decoded-past : (r : Read Operation) {op : Operation} {q : Position} → decodedFrom p b size r ≡ decoded.Operation op q → Past p b q
+  unfolding decodedFrom
+  decoded-past none e = let z : _≡_ {A = ℕ} 0 1 = cc in absurd (omega arith)
+  decoded-past (some x) {q = q} e = let i : past p b (size - length (x .1)) ≡ q = cc in past-is p b _ i
 
-module _ (w : ℕ) (s : List ℕ) (p : ℕ) where
-  module _ {op : Operation} {q : ℕ} (e : operationAt w s p ≡ decoded.Operation op q) where
-    there : Ahead 1 21 s p q (readOperation w (drop p s)) op
+  decoded-none : (r : Read Operation) → decodedFrom p b size r ≡ decoded.Bad → r ≡ none
+  unfolding decodedFrom
+  decoded-none none e = refl
+  decoded-none (some x) e = let z : _≡_ {A = ℕ} 0 1 = cc in absurd (omega arith)
+
+module _ (w : ℕ) (s : List ℕ) (p : Position) where
+  module _ {op : Operation} {q : Position} (e : operationAt w s p ≡ decoded.Operation op q) where
+    there : Ahead 1 21 s (p .at) (q .at) (readOperation w (drop (p .at) s)) op
     unfolding operationAt
-    there = decoded-ahead (omega arith) s p (takes-operation w (drop p s)) e
+    there = decoded-ahead (omega arith) s p _ (takes-operation w (drop (p .at) s)) e
 
-    pub operation-ahead : (p < q) × (q ≤ length s)
+    pub operation-ahead : (p .at < q .at) × (q .at ≤ length s)
     operation-ahead = (omega (arith, there .least), there .inside)
 
-    pub operation-rest : readOperation w (drop p s) ≡ some (op, drop q s)
+    pub operation-rest : readOperation w (drop (p .at) s) ≡ some (op, drop (q .at) s)
     operation-rest = there .rest
 
-  pub operation-none : operationAt w s p ≡ decoded.Bad → readOperation w (drop p s) ≡ none
+    pub operation-past : Past p (operationShort (drop (p .at) s)) q
+    unfolding operationAt
+    operation-past = decoded-past p _ (length s) (readOperation w (drop (p .at) s)) e
+
+  pub operation-none : operationAt w s p ≡ decoded.Bad → readOperation w (drop (p .at) s) ≡ none
   unfolding operationAt
-  operation-none e = decoded-none (length s) (readOperation w (drop p s)) e
+  operation-none e = decoded-none p _ (length s) (readOperation w (drop (p .at) s)) e
