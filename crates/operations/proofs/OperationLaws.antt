@@ -27,7 +27,7 @@ takes-one : {A : Type 0} {lo hi : ℕ} {bs : List ℕ} {r : Read A} (f : A → O
 unfolding one
 takes-one f t = takes-within (omega arith) (omega arith) (takes-next t (λ v r. gives (f v) r))
 
-takes-register : (bs : List ℕ) → Takes 1 10 bs (readRegister bs)
+pub takes-register : (bs : List ℕ) → Takes 1 10 bs (readRegister bs)
 unfolding readRegister
 takes-register bs = takes-next (takes-uleb bs) (λ v r. takes-pick (leb v 0xffff) (gives v r) nothing)
 
@@ -35,15 +35,15 @@ takes-range : (z : ℤ) (r : List ℕ) → Takes 0 0 r (inRange z r)
 unfolding inRange
 takes-range z r = takes-pick (fits64 z) (gives z r) nothing
 
-takes-offset : (bs : List ℕ) → Takes 1 10 bs (readOffset bs)
+pub takes-offset : (bs : List ℕ) → Takes 1 10 bs (readOffset bs)
 unfolding readOffset
 takes-offset bs = takes-next (takes-uleb bs) (λ v r. takes-range (pos v) r)
 
-takes-factored : (w : ℕ) (bs : List ℕ) → Takes 1 10 bs (readFactored w bs)
+pub takes-factored : (w : ℕ) (bs : List ℕ) → Takes 1 10 bs (readFactored w bs)
 unfolding readFactored
 takes-factored w bs = takes-next (takes-uleb bs) (λ v r. takes-range (unfactor w (pos v)) r)
 
-takes-signed : (w : ℕ) (bs : List ℕ) → Takes 1 10 bs (readSigned w bs)
+pub takes-signed : (w : ℕ) (bs : List ℕ) → Takes 1 10 bs (readSigned w bs)
 unfolding readSigned
 takes-signed w bs = takes-next (takes-sleb bs) (λ v r. takes-range (unfactor w v) r)
 

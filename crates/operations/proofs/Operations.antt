@@ -10,7 +10,7 @@ use mathlib.Core.Logic.{_≢_}
 use borrow.Author.Tests.{ne-eqb}
 use lib.Dec.{leb, ltb, eqb, leb→le}
 use lib.IntN.{ℤ, pos}
-use lib.ListN.{length, drop, getD, length-drop, drop-of-length-le}
+use lib.ListN.{length, drop, getD, drop-of-length-le}
 use lib.Seq.{drop-cons}
 use Rattle.format.specs.Prelude.{pick, Read, next}
 use Rattle.format.specs.Leb.{uleb, fits64, readUleb}
@@ -25,12 +25,13 @@ use Rattle.operations.specs.declared.fields.Unsigned.the-variants as uns
 use Rattle.operations.specs.declared.fields.Signed.the-variants as signedCase
 use Rattle.operations.specs.declared.Decoded.the-variants as decoded
 use Rattle.operations.specs.Positions.{past, unsignedFrom, signedFrom, decodedFrom, ulebAt, slebAt, littleAt, operationAt}
-use Rattle.operations.proofs.PositionLaws.{Past, Ahead, Takes, nothing, taken, takes-pick, takes-next, takes-uleb, takes-sleb, unsigned-ahead, signed-ahead, unsigned-past, signed-past, unsigned-none, signed-none as none-signed, uleb-ahead, uleb-rest, uleb-past, uleb-none, sleb-ahead, sleb-rest, sleb-past, sleb-none, little-ahead, little-rest, little-past, little-none, mark-first, past-both}
+use Rattle.operations.proofs.PositionLaws.{Past, Ahead, Takes, takes-pick, unsigned-ahead, signed-ahead, unsigned-past, signed-past, unsigned-none, signed-none as none-signed, uleb-ahead, uleb-rest, uleb-past, uleb-none, sleb-ahead, sleb-rest, sleb-past, sleb-none, little-ahead, little-rest, little-past, little-none, mark-first, past-both, past-drop}
+use Rattle.operations.proofs.OperationLaws.{takes-register, takes-offset, takes-factored, takes-signed}
 use Rattle.operations.specs.Reads.{registerAt, plainAt, factoredAt, signedAt, held, readOperand, operandAt, registerRow, pairRow, stepAt, registerRowAt, offsetRowAt, pairRowAt, inRegisterAt, savedAt, extendedAt, operandNumber}
 
 -- the position in front of what is left
 in-front : (s : List ℕ) {p q : Position} {b : Bool} → Past p b q → q .at ≤ length s → past p b (length s - length (drop (q .at) s)) ≡ q
-in-front s {p} {q} {b} e h = let n : length s - length (drop (q .at) s) ≡ q .at = omega (arith, length-drop (q .at) s) in ap (past p b) n ∙ e .is
+in-front s {p} {q} {b} e h = ap (past p b) (past-drop s (q .at) h) ∙ e .is
 
 -- ---- operands
 
@@ -99,28 +100,10 @@ module _ (w b : ℕ) (s : List ℕ) (p : Position) where
   unfolding operandAt operandNumber readOperand signedAt pick
   operand-signed e f g = rw (ne-eqb b 0x05 e, ne-eqb b 0x0c f, ne-eqb b 0x0e g)
 
--- ---- what an operand takes
-
-takes-range : (z : ℤ) (bs : List ℕ) → Takes 0 0 bs (inRange z bs)
-unfolding inRange
-takes-range z bs = takes-pick (fits64 z) (taken 0 z (omega arith) (omega arith) (omega arith)) nothing
-
-takes-register : (bs : List ℕ) → Takes 1 10 bs (readRegister bs)
-unfolding readRegister
-takes-register bs =
-    takes-next {lo′ = 0} {hi′ = 0} (takes-uleb bs)
-    (λ v r. takes-pick (leb v 0xffff) (taken 0 v (omega arith) (omega arith) (omega arith)) nothing)
-
-takes-factored : (w : ℕ) (bs : List ℕ) → Takes 1 10 bs (readFactored w bs)
-unfolding readFactored
-takes-factored w bs = takes-next (takes-uleb bs) (λ v r. takes-range (unfactor w (pos v)) r)
-
 takes-operand : (w b : ℕ) (bs : List ℕ) → Takes 1 10 bs (readOperand w b bs)
-unfolding readOperand readOffset readSigned
+unfolding readOperand
 takes-operand w b bs =
-    let plain : Takes 1 10 bs (readOffset bs) = takes-next (takes-uleb bs) (λ v r. takes-range (pos v) r) in
-    takes-pick (eqb b 0x05) (takes-factored w bs)
-    (takes-pick (eqb b 0x0c) plain (takes-pick (eqb b 0x0e) plain (takes-next (takes-sleb bs) (λ v r. takes-range (unfactor w v) r))))
+    takes-pick (eqb b 0x05) (takes-factored w bs) (takes-pick (eqb b 0x0c) (takes-offset bs) (takes-pick (eqb b 0x0e) (takes-offset bs) (takes-signed w bs)))
 
 -- ---- operations
 
@@ -257,9 +240,7 @@ module _ (s : List ℕ) (p : Position) where
 -- the position as it is, past nothing
 pub here : (s : List ℕ) (p : Position) (op : Operation) → p .at ≤ length s → decodedFrom p true (length s) (some (op, drop (p .at) s)) ≡ decoded.Operation op p
 unfolding decodedFrom past
-here s p op h =
-    let n : length s - length (drop (p .at) s) ≡ p .at = omega (arith, length-drop (p .at) s) in
-    rw (n, and-true (p .shortest))
+here s p op h = rw (past-drop s (p .at) h, and-true (p .shortest))
 
 pub past-end : (w : ℕ) (s : List ℕ) (p : Position) → length s ≤ p .at → operationAt w s p ≡ decoded.Bad
 unfolding operationAt readOperation decodedFrom

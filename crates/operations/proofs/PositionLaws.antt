@@ -104,6 +104,10 @@ ahead byte s p n w v q l h m same e =
     let a : q ≡ p + n = omega (arith, length-drop n (drop p s), length-drop p s) in
     record { least = omega arith; most = omega arith; inside = omega (arith, length-drop p s); rest = rw (drop-drop, a, same) }
 
+-- the place in front of what is left
+pub past-drop : (s : List ℕ) (q : ℕ) → q ≤ length s → length s - length (drop q s) ≡ q
+past-drop s q h = omega (arith, length-drop q s)
+
 -- q is the position past what was read from p on, with its mark
 pub record Past (p : Position) (b : Bool) (q : Position) : Type 0 where
   pub is : past p b (q .at) ≡ q

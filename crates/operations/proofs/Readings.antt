@@ -24,6 +24,7 @@ use Rattle.operations.specs.Positions.{past, unsignedFrom, signedFrom, u
 use Rattle.format.proofs.Choice.{if-le, if-gt, either}
 use Rattle.operations.specs.Signs.{signed, spelledTo, held, under}
 use Rattle.operations.specs.Groups.{Found}
+use Rattle.operations.proofs.PositionLaws.{past-drop}
 use Rattle.operations.proofs.Signs.{signed-fits}
 use Rattle.operations.proofs.GroupLoop.{scale-below, scale-full}
 
@@ -40,9 +41,6 @@ module _ (k scale top low : ℕ) (e : scale ≡ 128 ^ k) (l : low < scale) where
   past-tenth least h m = rw (← scale-full k scale e h) (omega (arith, mul-le-mul-right {m = least} {n = top} scale m))
 
 -- ---- unsigned
-
-past-drop : (s : List ℕ) (q : ℕ) → q ≤ length s → length s - length (drop q s) ≡ q
-past-drop s q h = omega (arith, length-drop q s)
 
 taken-drop : (s : List ℕ) (p q : ℕ) → p ≤ q → q ≤ length s → length (drop p s) - length (drop q s) ≡ q - p
 taken-drop s p q l h = omega (arith, length-drop p s, length-drop q s)

@@ -1,8 +1,8 @@
 -- Augmentation data at positions: bytes with their length in front, encodings, and the pointers that they promise.
 use mathlib.Core.Path.{_≡_, refl, subst}
-use mathlib.Core.Bool.{Bool, true, false, not, _&&_}
+use mathlib.Core.Bool.{Bool, true, false, not}
 use mathlib.Core.Option.{none, some}
-use mathlib.Core.List.{List, [], _∷_}
+use mathlib.Core.List.{List}
 use Prim.Native.Nat.{ℕ, _+_, _-_, _≤_, _<_}
 use native.Mathlib.Omega.{arith}
 use native.Mathlib.Numerals.{add-one}
@@ -13,13 +13,12 @@ use Rattle.format.specs.Prelude.{pick, Read, next, after}
 use Rattle.operations.specs.Positions.{ulebAt}
 use Rattle.format.specs.Headers.{pointerSize}
 use Rattle.format.specs.Reader.{readByte, readMany, readCounted, personalityIn, lsdaIn, lettersIn}
-use Rattle.format.specs.Shortest.{unsigned as unsignedNumber, numbersShort}
 use Rattle.operations.specs.declared.fields.Position.{Position}
 use Rattle.operations.specs.declared.fields.Unsigned.{Unsigned}
 use Rattle.operations.specs.declared.fields.Unsigned.the-variants as unsigned
 use Rattle.operations.proofs.PositionLaws.{past-mark, uleb-ahead, uleb-rest, uleb-past, uleb-none}
 use Rattle.reader.specs.Spans.{numberOf}
-use Rattle.reader.specs.Fields.{Rests, lettersOf, Counts, CountsIn, Skips, SkipsTo, Numbers}
+use Rattle.reader.specs.Fields.{Rests, lettersOf, Counts, CountsIn, tailMark, Skips, SkipsTo, Numbers}
 use Rattle.reader.specs.declared.entries.Number.{Number}
 use Rattle.reader.specs.declared.entries.Number.the-variants as number
 use Rattle.reader.specs.declared.fields.AugmentationData.{AugmentationData}
@@ -64,8 +63,8 @@ module _ (s : List ℕ) (p : Position) where
     counted-over h = rw (uleb-rest s p e) (many-none s (q .at) n h)
 
     pub counted-there : n ≤ length s - q .at
-        → Counts s (p .shortest && numbersShort (unsignedNumber ∷ []) (drop (p .at) s)) q (q .at + n) (readCounted (drop (p .at) s))
-    unfolding readCounted next
+        → Counts s (tailMark false s p) q (q .at + n) (readCounted (drop (p .at) s))
+    unfolding readCounted next tailMark pick
     counted-there h =
         let l : q .at + n ≤ length s = omega (arith, uleb-ahead s p e .1) in
         let k : q .at + n - q .at ≡ n = omega arith in

@@ -47,13 +47,13 @@ module _ (s : List ℕ) (p : Position) (debug : Bool) (word : ℕ) (l : Augmenta
   unfolding headerTail tailMark numbersShort pick
   tail-debug d h = record { inside = h; read = rw d; mark = rw (d, and-true (p .shortest)) }
 
-  module _ (d : debug ≡ false) {r : AugmentationData} (m : CountsIn s (p .shortest && numbersShort (unsignedNumber ∷ []) (drop (p .at) s)) r (readCounted (drop (p .at) s))) where
+  module _ (d : debug ≡ false) {r : AugmentationData} (m : CountsIn s (tailMark false s p) r (readCounted (drop (p .at) s))) where
     pub tail-none : r ≡ counted.Nothing → tail ≡ none
     unfolding headerTail next
     tail-none e = rw (d, counts-none s _ (readCounted (drop (p .at) s)) m e)
 
     module _ {a : Position} {e : ℕ} (q : r ≡ counted.At a e) where
-      pub tail-counts : Counts s (p .shortest && numbersShort (unsignedNumber ∷ []) (drop (p .at) s)) a e (readCounted (drop (p .at) s))
+      pub tail-counts : Counts s (tailMark false s p) a e (readCounted (drop (p .at) s))
       tail-counts = counts s _ (readCounted (drop (p .at) s)) m q
 
       pub tail-unknown : numberOf (lettersIn (lettersOf l) word (part s (a .at) e)) ≡ Nothing → tail ≡ none
@@ -62,7 +62,7 @@ module _ (s : List ℕ) (p : Position) (debug : Bool) (word : ℕ) (l : Augmenta
 
       pub tail-there : {n : ℕ} → numberOf (lettersIn (lettersOf l) word (part s (a .at) e)) ≡ Is n
           → Heading s (tailMark debug s p) (record { at = e; shortest = a .shortest }) n (l .signal) tail
-      unfolding headerTail next after tailMark pick
+      unfolding headerTail next after
       tail-there w = record { inside = tail-counts .inside; read = rw (d, tail-counts .read, number-is _ w); mark = rw d (tail-counts .mark) }
 
 -- ---- the factors and the return address register
@@ -138,9 +138,6 @@ module _ (s : List ℕ) (debug : Bool) (word : ℕ) where
   parse-none e = rw (little-none s (from 0) 4 e)
 
   module _ {id : ℕ} {p : Position} (e : littleAt 4 s (from 0) ≡ unsigned.Value id p) where
-    abbrev string : Position
-    string = record { at = p .at + 1; shortest = p .shortest }
-
     pub parse-ended : length s ≤ p .at → parseHeader debug word s ≡ none
     unfolding parseHeader next
     parse-ended h = rw (little-rest s (from 0) (omega arith) e, byte-none s (p .at) h)

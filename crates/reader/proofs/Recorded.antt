@@ -2,7 +2,7 @@
 use mathlib.Core.Path.{_≡_, _∙_}
 use mathlib.Core.Bool.{Bool, true, false, _&&_, and-true}
 use mathlib.Core.Option.{Option, none}
-use mathlib.Core.List.{List, [], _∷_}
+use mathlib.Core.List.{List}
 use Prim.Native.Nat.{ℕ, _+_, _-_, _≤_, _<_}
 use native.Mathlib.Omega.{arith}
 use borrow.Author.Tests.{le-leb, lt-leb}
@@ -13,7 +13,7 @@ use Rattle.format.specs.Prelude.{pick, next}
 use Rattle.operations.specs.Positions.{littleAt}
 use Rattle.format.specs.Machine.{isWord}
 use Rattle.format.specs.Reader.{readCounted, RecordFields, require, recordTail, parseRecord, recordShort}
-use Rattle.format.specs.Shortest.{unsigned as unsignedNumber, numbersShort}
+use Rattle.format.specs.Shortest.{numbersShort}
 use Rattle.operations.specs.declared.fields.Position.{Position}
 use Rattle.operations.specs.declared.fields.Unsigned.the-variants as unsigned
 use Rattle.format.proofs.FieldsBack.{word-small}
@@ -34,13 +34,13 @@ module _ (s : List ℕ) (p : Position) (debug : Bool) (pointer size : ℕ) where
   unfolding recordTail tailMark numbersShort pick
   tail-debug d h = record { inside = h; read = rw d; mark = rw (d, and-true (p .shortest)) }
 
-  module _ (d : debug ≡ false) {r : AugmentationData} (m : CountsIn s (p .shortest && numbersShort (unsignedNumber ∷ []) (drop (p .at) s)) r (readCounted (drop (p .at) s))) where
+  module _ (d : debug ≡ false) {r : AugmentationData} (m : CountsIn s (tailMark false s p) r (readCounted (drop (p .at) s))) where
     pub tail-none : r ≡ counted.Nothing → tail ≡ none
     unfolding recordTail next
     tail-none e = rw (d, counts-none s _ (readCounted (drop (p .at) s)) m e)
 
     module _ {a : Position} {e : ℕ} (q : r ≡ counted.At a e) where
-      pub tail-counts : Counts s (p .shortest && numbersShort (unsignedNumber ∷ []) (drop (p .at) s)) a e (readCounted (drop (p .at) s))
+      pub tail-counts : Counts s (tailMark false s p) a e (readCounted (drop (p .at) s))
       tail-counts = counts s _ (readCounted (drop (p .at) s)) m q
 
       held : length (part s (a .at) e) ≡ e - a .at
@@ -51,7 +51,7 @@ module _ (s : List ℕ) (p : Position) (debug : Bool) (pointer size : ℕ) where
       tail-short h = rw (d, tail-counts .read, held) (simp (lt-leb pointer (e - a .at) h))
 
       pub tail-there : pointer ≤ e - a .at → Recording s (tailMark debug s p) (record { at = e; shortest = a .shortest }) size tail
-      unfolding recordTail next require tailMark pick
+      unfolding recordTail next require pick
       tail-there h = record { inside = tail-counts .inside; read = rw (d, tail-counts .read, held) (simp (le-leb pointer (e - a .at) h)); mark = rw d (tail-counts .mark) }
 
 -- ---- the fields in front of it

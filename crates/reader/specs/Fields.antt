@@ -51,6 +51,10 @@ ReadsAugmentation s b augmentation.Unknown x = x ≡ none
 
 -- ---- the augmentation data
 
+-- the mark behind the augmentation data, whose length is a number, of which debug_frame has none
+unfoldable pub tailMark : (debug : Bool) → List ℕ → Position → Bool
+tailMark debug s p = p .shortest && numbersShort (pick debug [] (unsignedNumber ∷ [])) (drop (p .at) s)
+
 -- bytes from the position `at`, which has the mark b, up to `end`, and the rest
 pub record Counts (s : List ℕ) (b : Bool) (at : Position) (end : ℕ) (x : Read (List ℕ)) : Type 0 where
   pub ordered : at .at ≤ end
@@ -90,10 +94,6 @@ pub record Heading (s : List ℕ) (b : Bool) (q : Position) (pointer : ℕ) (sig
 abbrev pub Heads : List ℕ → Bool → Header → Option HeaderFields → Type 0
 Heads s b (header.Fields q pointer signal) x = Heading s b q pointer signal x
 Heads s b header.Bad x = x ≡ none
-
--- the mark behind the augmentation data, whose length is a number, of which debug_frame has none
-unfoldable pub tailMark : (debug : Bool) → List ℕ → Position → Bool
-tailMark debug s p = p .shortest && numbersShort (pick debug [] (unsignedNumber ∷ [])) (drop (p .at) s)
 
 -- from the code alignment factor on
 unfoldable pub headerFactors : (debug : Bool) → Letters → ℕ → List ℕ → Option HeaderFields

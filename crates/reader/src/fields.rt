@@ -1,14 +1,13 @@
 // The fields of headers and records: question 64.
 ghost use mathlib.Core.Path.{_≡_};
-ghost use mathlib.Core.Bool.{_&&_};
-ghost use mathlib.Core.List.{[], _∷_};
+ghost use mathlib.Core.Bool.{false, _&&_};
 ghost use Prim.Native.Nat.{_≤_};
 ghost use lib.ListN.{length, drop};
 ghost use lib.Dec.{T};
 ghost use Rattle.format.specs.Questions.{isSome};
 ghost use Rattle.format.specs.Reader.{strip, spellings, readLetters, readCounted, personalityIn, lsdaIn, lettersIn, headerTail, parseHeader, recordTail, parseRecord, headerNumbers, headerShort, recordShort};
 ghost use Rattle.format.specs.Prelude.{pick};
-ghost use Rattle.format.specs.Shortest.{unsigned, numbersShort};
+ghost use Rattle.format.specs.Shortest.{numbersShort};
 ghost use Rattle.format.specs.Machine.{isWord};
 ghost use Rattle.format.specs.Rows.{sameOffset};
 ghost use Rattle.format.specs.Headers.{pointerSize, dataFactor};
@@ -142,7 +141,7 @@ pub enum AugmentationData {
 
 // A length and as many bytes.
 fn counted(s: &[u8], at: Position) -> AugmentationData
-    ensures { λ r. ⌜ CountsIn (now (s .entry)) (at .shortest && numbersShort (unsigned ∷ []) (drop (at .at) (now (s .entry)))) r (readCounted (drop (at .at) (now (s .entry)))) ⌝ }
+    ensures { λ r. ⌜ CountsIn (now (s .entry)) (tailMark false (now (s .entry)) at) r (readCounted (drop (at .at) (now (s .entry)))) ⌝ }
 {
     let Unsigned::Value(n, start) = read_uleb(s, at) else {
         return AugmentationData::Nothing;
