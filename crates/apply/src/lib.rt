@@ -1,4 +1,6 @@
 // Relocations applied: a section put in place (request W-211). `Reloc` is ported from rucc-asm/src/unwind.rs of tamnd/rucc, changed: see NOTICE; the rest is added.
+#![tactic(auto)]
+
 ghost use Rattle.std.specs.Prelude.{◌≡◌, ◌+◌, ◌-◌, ◌*◌, ◌/◌, ◌^◌, ◌<◌, ◌≤◌, T, length, pos, ◌+ℤ◌, ◌-ℤ◌, nat_le};
 ghost use Rattle.std.proofs.Math.Option.{none, some};
 ghost use Rattle.format.specs.Questions.{is_some};
@@ -15,7 +17,7 @@ ghost use Rattle.apply.specs.Apply.{partners, leads, follows, paired, measured, 
 ghost use Rattle.apply.specs.Standing.{meant, beside, before_at, behind_at, total_of, FieldSize};
 
 // The width of a field that Set and Sub patch, in bits.
-#[derive(Drop)]
+#[derive(Clone, Copy)]
 pub enum Width {
     W6,
     W8,
@@ -24,7 +26,7 @@ pub enum Width {
 }
 
 // What a relocation is by its number.
-#[derive(Drop)]
+#[derive(Clone, Copy)]
 pub enum Kind {
     Data,
     Address,
@@ -37,13 +39,13 @@ pub enum Kind {
 }
 
 // A number, where there is one.
-#[derive(Drop)]
+#[derive(Clone, Copy)]
 pub enum Number {
     Is(u64),
     Nothing,
 }
 
-#[derive(Drop)]
+#[derive(Clone, Copy)]
 pub struct Reloc {
     pub place: u64,
     pub symbol: u64,
@@ -53,7 +55,7 @@ pub struct Reloc {
 }
 
 // The relocation right before or right behind another, where there is one.
-#[derive(Drop)]
+#[derive(Clone, Copy)]
 pub enum Beside {
     There(Reloc),
     Nothing,
@@ -254,7 +256,7 @@ fn biased(addend: u64) -> u64
 }
 
 // A sum of a few numbers: high times 2^64, and low.
-#[derive(Drop)]
+#[derive(Clone, Copy)]
 pub struct Sum {
     pub high: u64,
     pub low: u64,

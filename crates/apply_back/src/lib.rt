@@ -1,1 +1,2 @@
 // An eh_frame section written, put in place and read: laws alone.
+#![tactic(auto)]

@@ -1,5 +1,6 @@
 // Ported from crates/rucc-asm/src/xdata.rs of tamnd/rucc (Code) and changed; see NOTICE.
 // The types of Windows' unwind data on ARM64: codes, the fields of a record and of a packed word, and the reader's answer. What they mean is in specs/.
+#![tactic(auto)]
 
 pub mod fields;
 pub mod header_bits;
@@ -8,7 +9,7 @@ pub mod packed_bits;
 
 // A code: its kind, 0 to 17 in the source's order, its register by number (x19 is 19, d8 is 8) and its offset or size in bytes. An operand that the
 // kind does not have is 0.
-#[derive(Drop)]
+#[derive(Clone, Copy)]
 pub struct Code {
     pub kind: u64,
     pub register: u64,
@@ -57,7 +58,7 @@ pub const RESERVED: u64 = 19;
 
 // How a code is spelled: `size` bytes, of which the first is `op` where every field is 0. Behind op stands one number, first byte highest: the
 // register's field times `unit`, plus the offset's field. The register is `first` plus `step` for each of its field, the offset `scale` times its field and `more`.
-#[derive(Drop)]
+#[derive(Clone, Copy)]
 pub struct Form {
     pub kind: u64,
     pub op: u64,
@@ -70,7 +71,7 @@ pub struct Form {
 }
 
 // What reading a code gives: the code and the place past it.
-#[derive(Drop)]
+#[derive(Clone, Copy)]
 pub enum CodeRead {
     Code(Code, usize),
     Bad,
@@ -78,7 +79,7 @@ pub enum CodeRead {
 
 // A full record's header: the length in instructions, the handler's mark X, the mark E of one epilogue at the end, the count of epilogues (with E the
 // index of its codes), the words of codes, and the place past the header, where the epilogues' words start.
-#[derive(Drop)]
+#[derive(Clone, Copy)]
 pub struct Header {
     pub length: u64,
     pub handler: u64,
@@ -89,7 +90,7 @@ pub struct Header {
 }
 
 // A packed word: the flag (1 a function, 2 a fragment), the length in instructions, RegF, RegI, H, CR and the frame's size in 16 bytes.
-#[derive(Drop)]
+#[derive(Clone, Copy)]
 pub struct Packed {
     pub flag: u64,
     pub length: u64,
@@ -101,7 +102,7 @@ pub struct Packed {
 }
 
 // A place of a packed word's prologue: the code of its instruction, or none.
-#[derive(Drop)]
+#[derive(Clone, Copy)]
 pub enum Slot {
     Coded(Code),
     Empty,
@@ -110,7 +111,7 @@ pub enum Slot {
 // What the reader answers: 0 or the question's number, the length in bytes, and how many codes the prologue has, how many epilogues there are, and how
 // many codes in all.
 #[repr(C)]
-#[derive(Drop)]
+#[derive(Clone, Copy)]
 pub struct Arm64Reading {
     pub number: u64,
     pub length: u64,

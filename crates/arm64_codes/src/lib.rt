@@ -1,4 +1,6 @@
 // Unwind codes of Windows on ARM64 out of a record's bytes: one code by its form. Ported from rucc-asm/src/xdata.rs (Code) of tamnd/rucc, changed: see NOTICE.
+#![tactic(auto)]
+
 ghost use Rattle.std.specs.Prelude.{◌≡◌, ◌+◌, ◌*◌, ◌≤◌, ◌<◌, ◌^◌, length, get_or};
 ghost use Rattle.format.proofs.Wrote.{Wrote};
 ghost use Rattle.arm64.specs.Codes.{form, short_form, integer_form, vector_form, other_form, form_of, field_at, code_in, code_as, code_at};

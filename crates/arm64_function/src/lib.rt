@@ -1,5 +1,7 @@
 // One function of the lists that the writer of Windows' unwind data on ARM64 takes: questions 81 to 83, the packed word, and the record. Ported from
 // rucc-asm/src/xdata.rs (describe) of tamnd/rucc, changed: see NOTICE.
+#![tactic(auto)]
+
 ghost use Rattle.std.specs.Prelude.{◌≡◌, true, ◌&&◌, ◌||◌, ◌+◌, ◌-◌, ◌*◌, ◌^◌, ◌≤◌, ◌<◌, leb, ltb, eqb, length};
 ghost use Rattle.format.specs.Prelude.{pick};
 ghost use Rattle.format.specs.Lists.{field, all_in};
@@ -21,7 +23,7 @@ use arm64_simple::Run;
 const TOO_MANY: usize = limits::MOST_CODES + 1;
 
 // A function's codes: its prologue's, and its epilogues from `first` to `end`.
-#[derive(Drop)]
+#[derive(Clone, Copy)]
 pub struct Parts {
     pub prologue: Run,
     pub first: usize,
@@ -276,7 +278,7 @@ fn leading_index(es: &[u64], cs: &[u64], p: Parts, i: usize) -> usize
 }
 
 // An epilogue's index, and the bytes of codes once its run is written.
-#[derive(Drop)]
+#[derive(Clone, Copy)]
 pub struct Scope {
     pub index: usize,
     pub next: usize,
@@ -401,7 +403,7 @@ fn is_single(es: &[u64], cs: &[u64], p: Parts, size: u64, codes: usize) -> bool
 }
 
 // What the header says beside the length, and how many bytes of codes there are.
-#[derive(Drop)]
+#[derive(Clone, Copy)]
 pub struct Shape {
     pub single: bool,
     pub count: u64,

@@ -1,5 +1,7 @@
 // The header of a full record of Windows' unwind data on ARM64, and the padding of its codes. Ported from rucc-asm/src/xdata.rs (describe) of tamnd/rucc,
 // changed: see NOTICE.
+#![tactic(auto)]
+
 ghost use Rattle.std.specs.Prelude.{◌≡◌, ◌+◌, ◌*◌, ◌^◌, ◌≤◌, ◌<◌, length, replicate};
 ghost use Rattle.format.proofs.Wrote.{Wrote};
 ghost use Rattle.arm64.specs.Writer.{nop_byte};

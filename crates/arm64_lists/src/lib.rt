@@ -1,4 +1,6 @@
 // Question 13 of the lists that the writer of Windows' unwind data on ARM64 takes: ranges, symbols, kinds and absent operands.
+#![tactic(auto)]
+
 ghost use Rattle.std.specs.Prelude.{◌≡◌, ℕ, ◌+◌, ◌*◌, ◌≤◌, ◌<◌, leb, length};
 ghost use Rattle.format.specs.Lists.{count, field, all_in, sum_of, most_records};
 ghost use Rattle.arm64_lists.specs.Sums.{up_to};

@@ -1,4 +1,6 @@
 // The packed word of Windows' unwind data on ARM64: its fields, whether the page defines it, and the codes of the prologue and epilogue that it stands for.
+#![tactic(auto)]
+
 ghost use Rattle.std.specs.Prelude.{◌≡◌, true, [], ◌∷◌, ◌+◌, ◌*◌, ◌≤◌, ◌<◌, length};
 ghost use Rattle.format.proofs.Wrote.{Wrote};
 ghost use Rattle.arm64.specs.Lists.{code_numbers};

@@ -1,5 +1,7 @@
 // Whether a packed word stands for a function of Windows on ARM64: the only word that may, and its instructions compared with the given ones. Ported from
 // rucc-asm/src/xdata.rs (pack) of tamnd/rucc, changed: see NOTICE.
+#![tactic(auto)]
+
 ghost use Rattle.std.specs.Prelude.{◌≡◌, true, ◌&&◌, ◌-◌, ◌*◌, ◌^◌, ◌≤◌, ◌<◌, eqb};
 ghost use Rattle.format.specs.Prelude.{pick};
 ghost use Rattle.format.specs.Lists.{most_records};

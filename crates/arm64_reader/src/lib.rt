@@ -1,4 +1,6 @@
 // The reader of Windows' unwind data on ARM64: an entry's second word and, where that is not packed, the record at a place.
+#![tactic(auto)]
+
 ghost use Rattle.std.specs.Prelude.{◌≡◌, true, ◌≢◌, ◌+◌, ◌*◌, ◌<◌, length};
 ghost use Rattle.format.specs.Prelude.{bad, onward};
 ghost use Rattle.arm64.specs.Records.{codes_from, codes_of};

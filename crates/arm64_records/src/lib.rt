@@ -1,4 +1,6 @@
 // The full record of Windows' unwind data on ARM64: its header in both forms, and its epilogues' codes counted and stored.
+#![tactic(auto)]
+
 ghost use Rattle.std.specs.Prelude.{◌≡◌, [], ◌∷◌, ◌+◌, ◌*◌, ◌≤◌, ◌<◌, length};
 ghost use Rattle.std.proofs.Math.Option.{some};
 ghost use Rattle.format.specs.Put.{put};
@@ -16,7 +18,7 @@ use arm64_runs::Count;
 // ---- the header
 
 // A header whose parts lie inside.
-#[derive(Drop)]
+#[derive(Clone, Copy)]
 pub enum HeaderRead {
     Is(Header),
     Bad,

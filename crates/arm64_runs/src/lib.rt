@@ -1,4 +1,6 @@
 // Runs of unwind codes of Windows on ARM64: how many codes a run has up to its end, and the run stored as numbers, forwards and backwards.
+#![tactic(auto)]
+
 ghost use Rattle.std.specs.Prelude.{◌≡◌, [], ◌∷◌, ◌+◌, ◌*◌, ◌≤◌, ◌<◌, length};
 ghost use Rattle.std.proofs.Math.Option.{some};
 ghost use Rattle.format.specs.Put.{put};
@@ -11,7 +13,7 @@ ghost use Rattle.arm64_runs.specs.Runs.{Within, count_of, codes_in};
 use arm64::{Code, CodeRead};
 
 // How many codes a run has; nothing where there is no run.
-#[derive(Drop)]
+#[derive(Clone, Copy)]
 pub enum Count {
     Is(usize),
     Bad,

@@ -1,5 +1,7 @@
 // The bytes of a run of unwind codes of Windows on ARM64, and whether an epilogue's run is the end of the prologue's or equal to another. Ported from
 // rucc-asm/src/xdata.rs (describe, in_prologue) of tamnd/rucc, changed: see NOTICE.
+#![tactic(auto)]
+
 ghost use Rattle.std.specs.Prelude.{◌≡◌, true, [], ◌∷◌, ◌+◌, ◌*◌, ◌≤◌, ◌<◌, length};
 ghost use Rattle.format.proofs.Wrote.{Wrote};
 ghost use Rattle.arm64.specs.Runs.{simplify, run_fits, backwards, run_bytes, no_pair, leads, same_codes};

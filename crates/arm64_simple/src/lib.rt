@@ -1,5 +1,7 @@
 // Runs of unwind codes of Windows on ARM64 as they are written, in the order in which they save: shorter codes that say the same, question 83, sizes and
 // bytes. Ported from rucc-asm/src/xdata.rs (simplify, size, in_prologue) of tamnd/rucc, changed: see NOTICE.
+#![tactic(auto)]
+
 ghost use Rattle.std.specs.Prelude.{◌≡◌, true, ◌+◌, ◌*◌, ◌^◌, ◌≤◌, ◌<◌, length};
 ghost use Rattle.format.proofs.Wrote.{Wrote};
 ghost use Rattle.arm64.specs.Codes.{code};
@@ -9,7 +11,7 @@ ghost use Rattle.arm64_simple.specs.Saves.{place_of, saved_at, saves, Inside};
 use arm64::{Code, fields};
 
 // Where the codes of a run stand in a list: an epilogue's save backwards.
-#[derive(Drop)]
+#[derive(Clone, Copy)]
 pub struct Run {
     pub at: usize,
     pub count: usize,

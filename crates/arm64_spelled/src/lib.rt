@@ -1,5 +1,7 @@
 // An unwind code of Windows on ARM64 as bytes: its form, whether its fields hold it, how many bytes it has, and its bytes. Ported from
 // rucc-asm/src/xdata.rs (Code::bytes) of tamnd/rucc, changed: see NOTICE.
+#![tactic(auto)]
+
 ghost use Rattle.std.specs.Prelude.{◌≡◌, true, ◌+◌, ◌*◌, ◌≤◌, ◌<◌, length, get_or};
 ghost use Rattle.format.proofs.Wrote.{Wrote};
 ghost use Rattle.arm64.specs.Codes.{last_registers, form_of, form_for, register_field, offset_field, register_fits, offset_fits, code_fits, code_bytes, big};

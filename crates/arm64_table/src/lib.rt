@@ -1,5 +1,7 @@
 // The table of Windows' unwind data on ARM64: the rows of .pdata and their relocations, the records of .xdata and where each stands, and the export.
 // Ported from rucc-asm/src/xdata.rs (table) of tamnd/rucc, changed: see NOTICE.
+#![tactic(auto)]
+
 ghost use Rattle.std.specs.Prelude.{◌≡◌, ◌++◌, ◌+◌, ◌*◌, ◌^◌, ◌≤◌, ◌<◌, length};
 ghost use Rattle.format.specs.Put.{put};
 ghost use Rattle.format.specs.Leb.{little};
@@ -94,7 +96,7 @@ fn first_no(fs: &[u64], es: &[u64], cs: &[u64], n: usize) -> Question
 // ---- the results
 
 // How many bytes the records have, and how many relocations the rows.
-#[derive(Drop)]
+#[derive(Clone, Copy)]
 struct Needed {
     info: usize,
     relocations: usize,

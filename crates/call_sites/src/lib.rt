@@ -1,5 +1,7 @@
 // Call sites read: the table at a place of the exception bytes, and the first site of it that covers a code offset (Itanium C++ ABI, "LSDA"), which
 // rucc-asm/src/unwind.rs of tamnd/rucc does not have.
+#![tactic(auto)]
+
 ghost use Rattle.std.specs.Prelude.{◌≡◌, [], ◌∷◌, eqb};
 ghost use Rattle.format.specs.Prelude.{pick};
 ghost use Rattle.format.specs.Answers.{bit};
@@ -13,7 +15,7 @@ use operations::fields::{Position, Unsigned, read_uleb};
 // ---- one entry
 
 // The start, length and pad of an entry, and the position past it.
-#[derive(Drop)]
+#[derive(Clone, Copy)]
 pub enum Entry {
     Site(u64, u64, u64, Position),
     Bad,
@@ -54,7 +56,7 @@ fn covers(start: u64, length: u64, pad: u64, offset: u64) -> bool
 
 // What unwind_call_site answers.
 #[repr(C)]
-#[derive(Drop)]
+#[derive(Clone, Copy)]
 pub struct Site {
     pub number: u64,
     pub found: u64,
@@ -122,7 +124,7 @@ fn search(s: &[u8], offset: u64) -> Site
 }
 
 // Where the entries of a table start and end.
-#[derive(Drop)]
+#[derive(Clone, Copy)]
 pub enum Table {
     Entries(usize, usize),
     Bad,

@@ -1,5 +1,7 @@
 // Replays a fixed list of the Rust's answers on the library and compares. The file stdin is what differential/fixed.py stored; its first
 // lines there say what form it has.
+#![tactic(auto)]
+
 ghost use Rattle.std.specs.Prelude.{◌+◌, ◌≤◌, ◌<◌, length};
 ghost use Rattle.cases.specs.Total.{total};
 
@@ -13,7 +15,7 @@ const NUMBER: u64 = 11936128518282651045;
 const BYTE: u8 = 165;
 
 // What a list turned out to be; that none is left; or that the rest cannot be read.
-#[derive(Drop)]
+#[derive(Clone, Copy)]
 enum Step {
     End,
     Broken,
@@ -24,7 +26,7 @@ enum Step {
 }
 
 // How many lists of each kind there were.
-#[derive(Drop)]
+#[derive(Clone, Copy)]
 struct Sums {
     accepted: u64,
     refused: u64,
@@ -33,7 +35,7 @@ struct Sums {
 }
 
 // The elements of a counted list.
-#[derive(Drop)]
+#[derive(Clone, Copy)]
 struct Range {
     from: usize,
     to: usize,

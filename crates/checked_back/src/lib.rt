@@ -1,4 +1,6 @@
 // The writer of eh_frame, and then the check of the section that it wrote.
+#![tactic(auto)]
+
 ghost use Rattle.std.specs.Prelude.{◌≡◌};
 ghost use Rattle.format.specs.Answers.{Writes};
 ghost use Rattle.format.specs.Questions.{relaxed_table, given_of, room_in};
@@ -8,7 +10,7 @@ use format::Outcome;
 use section_check::Checked;
 
 // What the writer answered, and what the check answered of what it wrote.
-#[derive(Drop)]
+#[derive(Clone, Copy)]
 pub struct WrittenAndChecked {
     pub outcome: Outcome,
     pub checked: Checked,

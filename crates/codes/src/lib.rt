@@ -1,4 +1,6 @@
 // One x64 unwind code: its questions and its bytes. Ported from rucc-asm/src/unwind.rs (nodes, large, slot) of tamnd/rucc, changed: see NOTICE.
+#![tactic(auto)]
+
 ghost use Rattle.std.specs.Prelude.{◌≡◌, [], ◌∷◌, ◌++◌, ◌+◌, ◌*◌, ◌≤◌, ◌<◌, length, take};
 ghost use Rattle.std.proofs.Math.Option.{none, some};
 ghost use Rattle.format.specs.Prelude.{pick};
@@ -133,7 +135,7 @@ pub fn frame_or(b: u8, code: Seh) -> u8
 // ---- the bytes of a code
 
 // A code's bytes, the first `count` of six.
-#[derive(Drop)]
+#[derive(Clone, Copy)]
 pub struct Code {
     pub bytes: [u8; 6],
     pub count: usize,

@@ -1,4 +1,6 @@
 // The DWARF sections: questions 21 to 25, sizes, 51 to 54, and the writing of them. Ported from rucc-asm/src/unwind.rs (dwarf, relaxed_debug_frame, Table) of tamnd/rucc, changed: see NOTICE.
+#![tactic(auto)]
+
 ghost use Rattle.std.specs.Prelude.{◌≡◌, ℕ, ◌+◌, ◌*◌, ◌^◌, ◌≤◌, ◌<◌, true, not, [], T, ltb, eqb, length, get_or};
 ghost use Rattle.format.specs.Prelude.{all, each};
 ghost use Rattle.format.specs.Machine.{is_word_size};
@@ -246,7 +248,7 @@ fn all_asks(s: Section, word: u64, fs: &[u64], rows: &[u64], pairs: &[u64]) -> Q
 // ---- the sizing pass
 
 // What stands in the lent lists of bytes, relocations and call sites by now, in their elements.
-#[derive(Drop)]
+#[derive(Clone, Copy)]
 pub struct Table {
     pub bytes: usize,
     pub relocations: usize,
@@ -262,7 +264,7 @@ impl Table {
 }
 
 // A function's header: whether it has one of its own, and the header's place.
-#[derive(Drop)]
+#[derive(Clone, Copy)]
 pub struct Chosen {
     pub own: bool,
     pub cie: usize,
@@ -419,7 +421,7 @@ fn sizes(
 // ---- questions, owners and sizes in one pass
 
 // What stands behind all functions, where one pass saw that they pass questions 13 and 21 to 25.
-#[derive(Drop)]
+#[derive(Clone, Copy)]
 pub enum Surveyed {
     Behind(Table),
     Unsure,

@@ -1,11 +1,13 @@
 // Ported from crates/rucc-asm/src/unwind.rs of tamnd/rucc (CfiOp, Seh, CallRegs) and changed; see NOTICE.
 // The types of the library: the machine, rows, x64 codes, and every answer. What they mean is in specs/.
+#![tactic(auto)]
+
 ghost use Rattle.std.specs.Prelude.{◌≡◌};
 ghost use Rattle.format.specs.Machine.{x8664, machine_with};
 
 // A machine as the tables see it: the pointer width in bytes, the bytes that a call pushes, DWARF's numbers of the stack
 // pointer, the return address and the frame pointer (65,536: none), and what register of the machine a DWARF number is.
-#[derive(Drop)]
+#[derive(Clone, Copy)]
 pub struct Machine {
     pub word: u64,
     pub pushed: u64,
@@ -56,7 +58,7 @@ impl Machine {
 
 // What a row says (DWARF 5, 6.4.2). Registers have 16 bits. An offset has 32 bits, signed, in a function's rows, and 64 in
 // what the reader finds.
-#[derive(Drop)]
+#[derive(Clone, Copy)]
 pub enum Row {
     DefCfa(u16, i64),
     DefCfaOffset(i64),
@@ -73,7 +75,7 @@ pub enum Row {
 }
 
 // A code of an x64 prologue. A direct code may name any register; one above 15 is question 34.
-#[derive(Drop)]
+#[derive(Clone, Copy)]
 pub enum Seh {
     Push(u64),
     Alloc(i64),
@@ -82,14 +84,14 @@ pub enum Seh {
 }
 
 // The rule of the canonical frame address (CFA): none, or a register plus an offset.
-#[derive(Drop)]
+#[derive(Clone, Copy)]
 pub enum CfaRule {
     Unset,
     Register(u16, i64),
 }
 
 // A register's rule: where the caller's value is.
-#[derive(Drop)]
+#[derive(Clone, Copy)]
 pub enum Rule {
     Unstated,
     Undefined,
@@ -99,7 +101,7 @@ pub enum Rule {
 }
 
 // What holds at a place, for one register: the CFA rule, the register's rule and the signing state.
-#[derive(Drop)]
+#[derive(Clone, Copy)]
 pub struct Rules {
     pub cfa: CfaRule,
     pub rule: Rule,
@@ -107,21 +109,21 @@ pub struct Rules {
 }
 
 // What the reader answers: the rules, or a question's number.
-#[derive(Drop)]
+#[derive(Clone, Copy)]
 pub enum Reading {
     Answered(Rules),
     Refused(u64),
 }
 
 // The DWARF sections: ELF's eh_frame and ELF's debug_frame.
-#[derive(Drop)]
+#[derive(Clone, Copy)]
 pub enum Section {
     Elf,
     Debug,
 }
 
 // An operation of an unwind table: padding, a step, or a row.
-#[derive(Drop)]
+#[derive(Clone, Copy)]
 pub enum Operation {
     Nop,
     Step(u64),
@@ -129,14 +131,14 @@ pub enum Operation {
 }
 
 // A question answered by no: its number and the function's position.
-#[derive(Drop)]
+#[derive(Clone, Copy)]
 pub enum Question {
     Yes,
     No(u64, u64),
 }
 
 // What a writer wrote, by the counts of its results; or nothing, in a format that has no table; or a refusal.
-#[derive(Drop)]
+#[derive(Clone, Copy)]
 pub enum Outcome {
     Accepted(Counts),
     Empty,
@@ -144,7 +146,7 @@ pub enum Outcome {
 }
 
 // Elements of header places (or markers), bytes, relocations (of five numbers), bytes of call sites (or x64 info).
-#[derive(Drop)]
+#[derive(Clone, Copy)]
 pub struct Counts {
     pub places: u64,
     pub bytes: u64,

@@ -1,4 +1,6 @@
 // What a header is reused by: a function's record as a section takes it, the kind of its header, and its leading rows. Ported from rucc-asm/src/unwind.rs (leading, dwarf) of tamnd/rucc, changed: see NOTICE.
+#![tactic(auto)]
+
 ghost use Rattle.std.specs.Prelude.{◌≡◌, [], ◌+◌, ◌*◌, ◌≤◌, ◌<◌, length, get_or};
 ghost use Rattle.format.specs.Prelude.{pick, each};
 ghost use Rattle.format.specs.declared.Row.TheVariants.{RememberState};
@@ -29,7 +31,7 @@ pub fn taken(s: Section, e: Extent) -> Extent
 // ---- the kind of a header
 
 // What a header names: no personality, that of functions with landings, or one by its symbol.
-#[derive(Drop)]
+#[derive(Clone, Copy)]
 pub enum Kind {
     Plain,
     Personal,

@@ -1,5 +1,7 @@
 // Runs the leaves over numbers around their boundaries, and prints a line for each. The file stdout is what differential/leaves.py
 // makes of the same numbers without Rattle.
+#![tactic(auto)]
+
 ghost use Rattle.std.specs.Prelude.{◌<◌};
 
 use format::{Operation, Row};

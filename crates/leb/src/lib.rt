@@ -1,4 +1,6 @@
 // Numbers as bytes in a lent buffer. Ported from rucc-asm/src/unwind.rs (uleb, sleb) of tamnd/rucc, changed: see NOTICE.
+#![tactic(auto)]
+
 ghost use Rattle.std.specs.Prelude.{◌≡◌, [], ◌∷◌, ◌+◌, ◌*◌, ◌/◌, ◌%◌, ◌^◌, ◌≤◌, ◌<◌, length, replicate};
 ghost use Rattle.std.specs.Int.Signed.{mag};
 ghost use Rattle.format.proofs.Wrote.{Wrote};

@@ -1,4 +1,6 @@
 // The rules at every location of a record in one run, and its export (include/dekvoz.h).
+#![tactic(auto)]
+
 ghost use Rattle.std.specs.Prelude.{◌≡◌, length};
 ghost use Rattle.reader.specs.Finds.{in_section};
 ghost use Rattle.reads.specs.Places.{reader_places};
@@ -11,7 +13,7 @@ pub mod run;
 // What unwind_rules_along answers: the lines, and the question by which the reader refuses from the offset `from` on. On a refusal all but the
 // question's number is 0.
 #[repr(C)]
-#[derive(Drop)]
+#[derive(Clone, Copy)]
 pub struct Listed {
     pub number: u64,
     pub lines: u64,

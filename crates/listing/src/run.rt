@@ -18,7 +18,7 @@ const HIGHEST: u64 = 0xffffffffffffffff;
 
 // The rules after a row that touches no stored ones, or the number of the question that it is refused by. `stack` is 1 where the rules are to be
 // stored, and 2 where stored ones come back.
-#[derive(Drop)]
+#[derive(Clone, Copy)]
 pub struct Changed {
     pub number: u64,
     pub stack: u64,

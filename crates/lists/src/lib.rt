@@ -1,4 +1,6 @@
 // The machine, functions and codes out of the lists of numbers, and questions 11, 12 and 13. Ported from rucc-asm/src/unwind.rs (Extent, Named, Relaxed) of tamnd/rucc, changed: see NOTICE.
+#![tactic(auto)]
+
 ghost use Rattle.std.specs.Prelude.{◌≡◌, ◌+◌, ◌*◌, ◌≤◌, ◌<◌, length, take, drop, T, leb, eqb};
 ghost use Rattle.std.specs.Int.{w64};
 ghost use Rattle.std.proofs.Common.{to_z};
@@ -120,7 +122,7 @@ pub fn machine_of(ms: &[u64]) -> Machine
 // ---- records out of the lists
 
 // Function k of the list: its numbers, with the marks as answers. What they say is function_at of the definitions.
-#[derive(Drop)]
+#[derive(Clone, Copy)]
 pub struct Extent {
     pub symbol: u64,
     pub length: u64,
@@ -170,7 +172,7 @@ pub fn extent_at(fs: &[u64], k: usize) -> Extent
 }
 
 // Landing i: a call's start and length and its pad, from the function's start.
-#[derive(Drop)]
+#[derive(Clone, Copy)]
 pub struct Landing {
     pub start: u64,
     pub size: u64,
@@ -189,7 +191,7 @@ pub fn landing_at(ls: &[u64], i: usize) -> Landing
 }
 
 // Two places of a function and the label at each.
-#[derive(Drop)]
+#[derive(Clone, Copy)]
 pub struct Pair {
     pub place1: u64,
     pub place2: u64,
@@ -210,7 +212,7 @@ pub fn pair_at(ps: &[u64], i: usize) -> Pair
 }
 
 // Function k of direct codes.
-#[derive(Drop)]
+#[derive(Clone, Copy)]
 pub struct Prologue {
     pub symbol: u64,
     pub length: u64,

@@ -1,4 +1,6 @@
 // Numbers that the writers and the readers share: sizes of words and of pointers by their encodings, what marks a header, signed numbers as 64 bits; and the constants of the formats and of the lists. Ported from rucc-asm/src/unwind.rs (pointer_size) of tamnd/rucc, changed: see NOTICE.
+#![tactic(auto)]
+
 ghost use Rattle.std.specs.Prelude.{◌≡◌, ◌≤◌};
 ghost use Rattle.std.specs.Int.{w64};
 ghost use Rattle.std.proofs.Common.{of_z};

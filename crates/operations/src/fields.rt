@@ -8,7 +8,7 @@ ghost use Rattle.operations.specs.Signs.{signed, spelled_to, held};
 ghost use Rattle.operations.specs.Groups.{GroupsAt};
 
 // Where the next number stands, and whether every LEB number in front of it that was read is spelled shortest.
-#[derive(Drop)]
+#[derive(Clone, Copy)]
 pub struct Position {
     pub at: usize,
     pub shortest: bool,
@@ -23,20 +23,20 @@ impl Position {
 }
 
 // A number that was read, and the position past it.
-#[derive(Drop)]
+#[derive(Clone, Copy)]
 pub enum Unsigned {
     Value(u64, Position),
     Bad,
 }
 
-#[derive(Drop)]
+#[derive(Clone, Copy)]
 pub enum Signed {
     Value(i64, Position),
     Bad,
 }
 
 // A LEB number's last byte, the count of the groups before it, the scale that they stand below, what they make, and the place past the number.
-#[derive(Drop)]
+#[derive(Clone, Copy)]
 enum Groups {
     Last(u64, u64, u64, u64, usize),
     Bad,

@@ -1,5 +1,7 @@
 // Operations read out of a slice: an opcode's operands, by the numbers that the module fields reads, and the row or the step that they
 // make.
+#![tactic(auto)]
+
 ghost use Rattle.std.specs.Prelude.{◌≡◌, ◌*◌, ◌≤◌, ◌<◌, length, pos};
 ghost use Rattle.format.specs.Rows.{unfactor};
 ghost use Rattle.operations.specs.Positions.{operation_at};
@@ -12,7 +14,7 @@ use numbers::opcodes;
 pub mod fields;
 
 // An operation that was read, and the position past it.
-#[derive(Drop)]
+#[derive(Clone, Copy)]
 pub enum Decoded {
     Operation(Operation, Position),
     Bad,

@@ -1,4 +1,6 @@
 // Header owners: the first earlier function whose header a function can use. Ported from rucc-asm/src/unwind.rs (choose) of tamnd/rucc, changed: see NOTICE.
+#![tactic(auto)]
+
 ghost use Rattle.std.specs.Prelude.{◌≡◌, true, ◌&&◌, ◌+◌, ◌*◌, ◌^◌, ◌≤◌, ◌<◌, eqb, length};
 ghost use Rattle.std.specs.Bool.{beq};
 ghost use Rattle.format.specs.Headers.{same_encoding, same_kind, same_key};

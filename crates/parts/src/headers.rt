@@ -10,7 +10,7 @@ use reader::fields::{Augmentation, AugmentationRead, Header};
 
 // What unwind_read_header answers.
 #[repr(C)]
-#[derive(Drop)]
+#[derive(Clone, Copy)]
 pub struct HeaderRead {
     pub number: u64,
     pub field: u64,

@@ -1,4 +1,6 @@
 // A section taken apart, as numbers for C: what stands at a position, the fields of a header and of a record, and their operations.
+#![tactic(auto)]
+
 ghost use Rattle.std.specs.Prelude.{◌≡◌};
 ghost use Rattle.format.specs.Answers.{bit};
 ghost use Rattle.parts.specs.Entries.{next_entry};
@@ -11,7 +13,7 @@ pub mod records;
 
 // What unwind_next_entry answers.
 #[repr(C)]
-#[derive(Drop)]
+#[derive(Clone, Copy)]
 pub struct EntryRead {
     pub number: u64,
     pub header: u64,

@@ -8,7 +8,7 @@ use operations::fields::Position;
 
 // What unwind_read_operation answers.
 #[repr(C)]
-#[derive(Drop)]
+#[derive(Clone, Copy)]
 pub struct OperationRead {
     pub number: u64,
     pub kind: u64,

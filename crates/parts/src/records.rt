@@ -8,7 +8,7 @@ use reader::fields::Record;
 
 // What unwind_read_record answers.
 #[repr(C)]
-#[derive(Drop)]
+#[derive(Clone, Copy)]
 pub struct RecordRead {
     pub number: u64,
     pub field: u64,
@@ -54,7 +54,7 @@ fn call_sites(body: &[u8], base: u64, at: Position, debug: bool, pointer: u64) -
 }
 
 // The fields in front of the augmentation data.
-#[derive(Drop)]
+#[derive(Clone, Copy)]
 struct Front {
     header: u64,
     function: u64,

@@ -1,4 +1,6 @@
 // From a function's rows to x64 codes: questions 31 to 34, and the codes one by one. Ported from rucc-asm/src/unwind.rs (prologue, machine) of tamnd/rucc, changed: see NOTICE.
+#![tactic(auto)]
+
 ghost use Rattle.std.specs.Prelude.{◌≡◌, false, ◌&&◌, [], ◌∷◌, ◌+◌, ◌-◌, ◌*◌, ◌^◌, ◌≤◌, ◌<◌, pos, ◌+ℤ◌, ◌-ℤ◌, length, T, eqb};
 ghost use Rattle.format.specs.Lists.{row_stride, count, most_records, row_at, row_ok_at};
 ghost use Rattle.format.specs.Prelude.{pick, each};
@@ -19,7 +21,7 @@ use rows::{offset_at, row_at};
 // ---- registers
 
 // A register of the machine: its number, below 16, and whether it is a vector register; or none.
-#[derive(Drop)]
+#[derive(Clone, Copy)]
 enum Found {
     Number(u64, bool),
     Unknown,
@@ -97,7 +99,7 @@ fn third(rows: &[u64], at: usize, i: usize) -> bool
 // What is known of the rows so far: 0, or the number of the question that was answered by no; the distance of the frame address
 // above the stack pointer; no step (0), the push of the frame pointer (1) or anything else (2); and whether the machine has a
 // number below 16 for each register.
-#[derive(Drop)]
+#[derive(Clone, Copy)]
 struct Walk {
     number: u64,
     below: i64,
@@ -338,7 +340,7 @@ fn answer(w: Walk) -> u64
 
 // What the rows of a function say: 0, or the number of the question that was answered by no; where it is 0, the distance of the
 // frame address above the stack pointer behind the prologue, and the index past the prologue's last row.
-#[derive(Drop)]
+#[derive(Clone, Copy)]
 pub struct Shape {
     pub number: u64,
     pub below: i64,
@@ -362,7 +364,7 @@ pub fn prologue(m: Machine, rows: &[u64], at: usize, n: usize) -> Shape
 // ---- the codes one by one
 
 // A code and the offset where its instruction ends, or none.
-#[derive(Drop)]
+#[derive(Clone, Copy)]
 pub enum Piece {
     Nothing,
     Code(u64, Seh),

@@ -6,7 +6,7 @@ use crate::entries;
 use crate::entries::Number;
 
 // What stands at a position. Number 0 is an entry: whether it is a header, where it stands, the value of its length field and where the next one stands. 61 says that no entry fits the rest of the section, 62 that the section ends here; the cursor then stays.
-#[derive(Drop)]
+#[derive(Clone, Copy)]
 pub struct Entry {
     pub number: u64,
     pub header: bool,
@@ -51,7 +51,7 @@ pub fn entry_at(section: &[u8], debug: bool, at: usize) -> Entry
 // ---- the cursor
 
 // A section and a position in it. The borrow checker covers no function over it, so the few below are proved by walks of their own; the work is `entry_at`'s.
-#[derive(Drop)]
+#[derive(Clone, Copy)]
 pub struct Cursor<'a> {
     pub section: &'a [u8],
     pub at: usize,

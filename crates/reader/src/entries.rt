@@ -8,7 +8,7 @@ ghost use Rattle.reader.specs.Spans.{part, entry_in, entries_from, listed, end_a
 use operations::fields::{Position, Unsigned, read_le};
 
 // A number, where there is one.
-#[derive(Drop)]
+#[derive(Clone, Copy)]
 pub enum Number {
     Is(usize),
     Nothing,
@@ -84,7 +84,7 @@ pub fn is_header(s: &[u8], at: usize, end: usize, debug: bool) -> bool
 }
 
 // A part of a slice by where it starts and ends, where there is one.
-#[derive(Drop)]
+#[derive(Clone, Copy)]
 pub enum Span {
     At(usize, usize),
     Nothing,

@@ -16,7 +16,7 @@ use operations::fields::{Position, Signed, Unsigned, read_le, read_sleb, read_ul
 // ---- the augmentation string of a header
 
 // What the string announces: a personality, a pointer to call sites, a signal frame.
-#[derive(Drop)]
+#[derive(Clone, Copy)]
 pub struct Augmentation {
     pub personality: bool,
     pub lsda: bool,
@@ -24,7 +24,7 @@ pub struct Augmentation {
 }
 
 // What a string announces, and the position past it.
-#[derive(Drop)]
+#[derive(Clone, Copy)]
 pub enum AugmentationRead {
     Known(Augmentation, Position),
     Unknown,
@@ -128,7 +128,7 @@ fn pointer_size(indirect: bool, word: u64, e: u8) -> Number
 // ---- augmentation data
 
 // Augmentation data, which a length counts: its position, and where it ends.
-#[derive(Drop)]
+#[derive(Clone, Copy)]
 pub enum AugmentationData {
     At(Position, usize),
     Nothing,
@@ -217,7 +217,7 @@ fn letters_in(s: &[u8], word: u64, p: Augmentation) -> Number
 // ---- the fields of a header
 
 // The position of the operations, the bytes of a record's pointer to call sites, and the signal mark.
-#[derive(Drop)]
+#[derive(Clone, Copy)]
 pub enum Header {
     Fields(Position, u64, bool),
     Bad,
@@ -307,7 +307,7 @@ pub fn parse_header(s: &[u8], debug: bool, word: u64) -> Header
 // ---- the fields of a record
 
 // The position of the operations, and the function's length.
-#[derive(Drop)]
+#[derive(Clone, Copy)]
 pub enum Record {
     Fields(Position, u64),
     Bad,

@@ -1,6 +1,8 @@
 // The reader: from the bytes of a section to the rules at an offset of a record's function. entries, fields and location find the record
 // and its header (61 to 64), run goes over their operations (65 to 69), shortest tells how their numbers are spelled,
 // and cursor goes from entry to entry.
+#![tactic(auto)]
+
 ghost use Rattle.std.specs.Prelude.{◌≡◌};
 ghost use Rattle.format.specs.Reader.{read};
 ghost use Rattle.reader.specs.Finds.{Locates, locate_in, in_section, rules_from, shortest_from};

@@ -99,7 +99,7 @@ pub fn header_of(s: &[u8], relocs: &[u64], debug: bool, at: usize, end: usize) -
 
 // Where the operations of record k and of its header are, the function's length, the header's signal mark, the bytes of a record's pointer
 // to call sites, the word, and whether the numbers among the fields of both are spelled shortest.
-#[derive(Drop)]
+#[derive(Clone, Copy)]
 pub struct Located {
     pub header: usize,
     pub header_end: usize,
@@ -113,7 +113,7 @@ pub struct Located {
 }
 
 // That, or the number of the question that was answered by no.
-#[derive(Drop)]
+#[derive(Clone, Copy)]
 pub enum Locating {
     Found(Located),
     No(u64),

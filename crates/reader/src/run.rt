@@ -15,7 +15,7 @@ use operations::fields::Position;
 // ---- the state
 
 // The rules that hold, and the `depth` rules stored, the last at depth - 1.
-#[derive(Drop)]
+#[derive(Clone, Copy)]
 pub struct State {
     pub rules: Rules,
     pub depth: usize,
@@ -23,7 +23,7 @@ pub struct State {
 }
 
 // What a row does: the state after it, or the number of the question that it is refused by.
-#[derive(Drop)]
+#[derive(Clone, Copy)]
 pub struct Acted {
     pub number: u64,
     pub state: State,

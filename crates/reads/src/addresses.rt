@@ -25,7 +25,7 @@ pub fn unplaced(number: u64) -> Placed
 }
 
 // The fields of a function's place and length.
-#[derive(Drop)]
+#[derive(Clone, Copy)]
 pub enum Function {
     Fields(u64, u64),
     Bad,

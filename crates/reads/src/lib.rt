@@ -1,5 +1,7 @@
 // The reader's exports by place (include/dekvoz.h): where a record's operations are, the rules from there, the function of a record and the
 // record of an address, and the index of all records.
+#![tactic(auto)]
+
 ghost use Rattle.std.specs.Prelude.{◌≡◌, length};
 ghost use Rattle.format.specs.Answers.{marked_numbers};
 ghost use Rattle.format.specs.Reader.{read};
@@ -22,7 +24,7 @@ pub mod places;
 // to call sites, the header's signal mark, the word, and whether the numbers among the fields of both are spelled shortest. On a refusal all
 // but the question's number is 0.
 #[repr(C)]
-#[derive(Drop)]
+#[derive(Clone, Copy)]
 pub struct Located {
     pub number: u64,
     pub header: u64,
@@ -38,7 +40,7 @@ pub struct Located {
 
 // What unwind_function_at answers: where the function of a record starts, and its length.
 #[repr(C)]
-#[derive(Drop)]
+#[derive(Clone, Copy)]
 pub struct Placed {
     pub number: u64,
     pub address: u64,
@@ -47,7 +49,7 @@ pub struct Placed {
 
 // What unwind_record_of answers: the record's number and its place.
 #[repr(C)]
-#[derive(Drop)]
+#[derive(Clone, Copy)]
 pub struct Holder {
     pub number: u64,
     pub k: u64,
@@ -56,7 +58,7 @@ pub struct Holder {
 
 // What unwind_index answers: how many records there are.
 #[repr(C)]
-#[derive(Drop)]
+#[derive(Clone, Copy)]
 pub struct Indexed {
     pub number: u64,
     pub records: u64,

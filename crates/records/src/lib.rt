@@ -1,4 +1,6 @@
 // Call sites, and a record's bytes, size and relocations. Ported from rucc-asm/src/unwind.rs (call_sites, record, eh_record, debug_record, relaxed_advance, pair) of tamnd/rucc, changed: see NOTICE.
+#![tactic(auto)]
+
 ghost use Rattle.std.specs.Prelude.{◌≡◌, true, false, [], ◌+◌, ◌-◌, ◌*◌, ◌^◌, ◌≤◌, ◌<◌, T, length, replicate};
 ghost use Rattle.std.proofs.Math.Option.{some};
 ghost use Rattle.format.proofs.Wrote.{Wrote};
@@ -160,7 +162,7 @@ pub fn stepped_rows_size(word: u64, rows: &[u64], first: usize, n: usize) -> usi
 // ---- rows asked and sized at once
 
 // The bytes of rows with the steps between them, where all of the rows pass questions 13, 23 and 24. Unsure says nothing.
-#[derive(Drop)]
+#[derive(Clone, Copy)]
 pub enum RowsSize {
     Bytes(usize),
     Unsure,
@@ -333,7 +335,7 @@ pub fn record(
 // ---- the relocations of steps
 
 // The pair of a step, if it has one.
-#[derive(Drop)]
+#[derive(Clone, Copy)]
 enum Found {
     At(Pair),
     Absent,

@@ -1,4 +1,6 @@
 // Relocations in a lent list of numbers. Ported from rucc-asm/src/unwind.rs (Reloc) of tamnd/rucc, changed: see NOTICE.
+#![tactic(auto)]
+
 ghost use Rattle.std.specs.Prelude.{[], ◌∷◌, ◌+◌, ◌≤◌, length};
 ghost use Rattle.format.proofs.Wrote.{Wrote};
 ghost use Rattle.format.specs.Lists.{numbers_of};

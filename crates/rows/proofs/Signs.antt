@@ -16,7 +16,7 @@ use Rattle.format.proofs.Complements.{below_zero, above_zero}
 
 -- what is passed on is what was there
 pub passed : (z : ℤ) → mag z < 2 ^ 63 → to_z w64 (of_z w64 z) ≡ z
-passed z h = to_z-of_z (record { sfits = h })
+passed z h = to_z-of_z {w = w64} (record { sfits = h })
 
 -- ---- by the code's test of the sign
 

@@ -1,4 +1,6 @@
 // The row check: whether a function's rows state rules at each place. An addition to rucc-asm/src/unwind.rs of tamnd/rucc, which does not ask it.
+#![tactic(auto)]
+
 ghost use Rattle.std.specs.Prelude.{◌≡◌, Bool, ◌&&◌, ◌+◌, ◌≤◌, T, eqb};
 ghost use Rattle.format.specs.Prelude.{each};
 ghost use Rattle.format.specs.Lists.{count, row_stride, row_at, row_ok_at, all_in};
@@ -10,7 +12,7 @@ use format::Row;
 
 // Between two rows: whether all so far lead, whether there is a frame address rule, and of the `depth` RememberStates that
 // are open, the last at depth - 1, whether there was one there.
-#[derive(Drop)]
+#[derive(Clone, Copy)]
 pub struct Order {
     pub leading: bool,
     pub framed: bool,
@@ -19,7 +21,7 @@ pub struct Order {
 }
 
 // Whether a row may stand where it does, and what follows.
-#[derive(Drop)]
+#[derive(Clone, Copy)]
 pub struct Stepped {
     pub ok: bool,
     pub after: Order,

@@ -1,4 +1,6 @@
 // The check of an eh_frame section that another tool wrote, and its export. rucc-asm/src/unwind.rs of tamnd/rucc has no such check.
+#![tactic(auto)]
+
 ghost use Rattle.std.specs.Prelude.{◌≡◌, false, ◌+◌, ◌≤◌, ◌<◌, length, T};
 ghost use Rattle.format.specs.Prelude.{after};
 ghost use Rattle.format.specs.Machine.{is_word_size};
@@ -15,7 +17,7 @@ use reader::location::Locating;
 
 // What is answered: 0, or 11, 61 or 84; with 84 the first record that does not pass, counted from 0.
 #[repr(C)]
-#[derive(Drop)]
+#[derive(Clone, Copy)]
 pub struct Checked {
     pub number: u64,
     pub record: u64,

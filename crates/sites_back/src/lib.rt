@@ -1,4 +1,6 @@
 // Call sites written and read back.
+#![tactic(auto)]
+
 ghost use Rattle.std.specs.Prelude.{◌≡◌};
 ghost use Rattle.format.specs.Lists.{relocations_of};
 ghost use Rattle.format.specs.Questions.{relaxed_table, given_of, room_in};
@@ -33,7 +35,7 @@ fn table_place(section: &[u8], relocations: &[u64], k: u64) -> u64
 }
 
 // What the writer answered, and the site that was read.
-#[derive(Drop)]
+#[derive(Clone, Copy)]
 pub struct WrittenAndRead {
     pub outcome: Outcome,
     pub site: Site,

@@ -1,5 +1,7 @@
 // The entries over lists of structs, and their C interface (include/dekvoz.h): functions and rows as structs, for callers that have them so. What walks a
 // slice of structs is proved by hand, and stands here alone. Ported from rucc-asm/src/unwind.rs (Extent, Rows) of tamnd/rucc, changed: see NOTICE.
+#![tactic(auto)]
+
 ghost use Rattle.std.specs.Prelude.{◌≡◌, true, false, [], ◌∷◌, ◌+◌, ◌*◌, ◌≤◌, length, take, drop, leb};
 ghost use Rattle.std.specs.Int.{w32};
 ghost use Rattle.std.proofs.Common.{of_z};
@@ -22,7 +24,7 @@ use unwind::Written;
 // A row of a function: its offset, its kind (0 to 10, in document 01's order and then W-207's) and its operands; one that the kind does not have
 // is 0. The value of an InRegister is the other register, 0 to 65,535.
 #[repr(C)]
-#[derive(Drop)]
+#[derive(Clone, Copy)]
 pub struct RowAt {
     pub offset: u64,
     pub kind: u8,
@@ -32,7 +34,7 @@ pub struct RowAt {
 
 // A function: its rows, landings and pairs are ranges of the lists beside it. A mark is 0 or 1; another number is question 13.
 #[repr(C)]
-#[derive(Drop)]
+#[derive(Clone, Copy)]
 pub struct Function {
     pub symbol: u64,
     pub length: u64,

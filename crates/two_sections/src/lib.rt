@@ -1,4 +1,6 @@
 // One list written as eh_frame and as debug_frame, and both read: they say the same.
+#![tactic(auto)]
+
 ghost use Rattle.std.specs.Prelude.{◌≡◌, [], true, false};
 ghost use Rattle.format.specs.Answers.{Writes};
 ghost use Rattle.format.specs.Questions.{given_of, room_in, relaxed_table, relaxed_debug_frame};
@@ -8,7 +10,7 @@ ghost use Rattle.two_sections.specs.Story.{OneStory};
 use format::{Outcome, Reading};
 
 // What the writers of both sections answered, and what the reader answered of each.
-#[derive(Drop)]
+#[derive(Clone, Copy)]
 pub struct TwoSections {
     pub eh: Outcome,
     pub debug: Outcome,

@@ -1,4 +1,6 @@
 // The public library: its entries over number lists, and their C interface (include/dekvoz.h). Ported from rucc-asm/src/unwind.rs (relaxed_table, relaxed_debug_frame, seh) of tamnd/rucc, changed: see NOTICE.
+#![tactic(auto)]
+
 ghost use Rattle.std.specs.Prelude.{◌≡◌, ◌*◌, ◌≤◌, [], ◌∷◌, get_or};
 ghost use Rattle.format.specs.Questions.{relaxed_table, relaxed_debug_frame, seh, given_of, room_in};
 ghost use Rattle.format.specs.RowCheck.{row_check_at};
@@ -274,7 +276,7 @@ pub fn write(
 }
 
 // What a writer answered, and what the reader answered of what it wrote.
-#[derive(Drop)]
+#[derive(Clone, Copy)]
 pub struct WrittenAndRead {
     pub outcome: Outcome,
     pub reading: Reading,
@@ -336,7 +338,7 @@ pub fn write_and_read(
 
 // What unwind_read answers.
 #[repr(C)]
-#[derive(Drop)]
+#[derive(Clone, Copy)]
 pub struct Numbers {
     pub number: u64,
     pub frame: u64,
@@ -350,7 +352,7 @@ pub struct Numbers {
 
 // What the writers answer.
 #[repr(C)]
-#[derive(Drop)]
+#[derive(Clone, Copy)]
 pub struct Written {
     pub number: u64,
     pub position: u64,
@@ -361,14 +363,14 @@ pub struct Written {
 }
 
 // A frame address rule, and a register's rule, as numbers.
-#[derive(Drop)]
+#[derive(Clone, Copy)]
 struct Address {
     kind: u64,
     register: u64,
     offset: u64,
 }
 
-#[derive(Drop)]
+#[derive(Clone, Copy)]
 struct Saving {
     kind: u64,
     value: u64,

@@ -1,5 +1,7 @@
 // The walk over the frames of a recorded fault (request W-202), which rucc-asm/src/unwind.rs of tamnd/rucc does not have: the record file, the
 // function that holds an address, and what leaving a frame does to one register. The rules come from a reader, in `walked`.
+#![tactic(auto)]
+
 ghost use Rattle.std.specs.Prelude.{◌≡◌, ◌+◌, ◌*◌, ◌≤◌, ◌<◌, length, drop, get_or, set};
 ghost use Rattle.std.proofs.Math.Option.{none, some};
 ghost use Rattle.format.specs.Prelude.{after, good, bad};
@@ -14,7 +16,7 @@ use format::{CfaRule, Rule};
 use operations::fields::{Position, Unsigned, read_le};
 
 // A number, where there is one.
-#[derive(Drop)]
+#[derive(Clone, Copy)]
 pub enum Number {
     Is(u64),
     Nothing,
@@ -92,7 +94,7 @@ pub fn looked_up(exact: bool, a: u64) -> Number
 // ---- the function that holds an address
 
 // The position of a function in the list, and the offset from its start.
-#[derive(Drop)]
+#[derive(Clone, Copy)]
 pub enum Holder {
     At(u64, u64),
     Nobody,
@@ -135,7 +137,7 @@ pub fn held(functions: &[u64], lookup: Number) -> Holder
 // ---- the record file
 
 // The stack's length and the count of registers.
-#[derive(Drop)]
+#[derive(Clone, Copy)]
 pub enum Trailer {
     Numbers(usize, usize),
     Bad,
@@ -198,7 +200,7 @@ fn word_at(s: &[u8], at: usize) -> u64
 }
 
 // The registers 0 to 127: a value that is not present means nothing.
-#[derive(Drop)]
+#[derive(Clone, Copy)]
 pub struct File {
     pub values: [u64; 128],
     pub present: [bool; 128],
@@ -235,7 +237,7 @@ pub fn slot(file: File, r: u64) -> Number
 }
 
 // The frame address, or 75 or 74.
-#[derive(Drop)]
+#[derive(Clone, Copy)]
 pub enum Address {
     At(u64),
     Refused(u64),
@@ -271,7 +273,7 @@ pub fn undefined(rule: Rule) -> bool
 }
 
 // A register after a frame is left, or a refusal's number.
-#[derive(Drop)]
+#[derive(Clone, Copy)]
 pub struct Left {
     pub number: u64,
     pub present: bool,
@@ -357,7 +359,7 @@ pub fn with_stack(file: File, reg: u64, cfa: u64) -> File
 // ---- a caller
 
 // The caller's registers, its return address and whether it is looked up exactly there; or that the return address is undefined; or a refusal.
-#[derive(Drop)]
+#[derive(Clone, Copy)]
 pub struct Step {
     pub refused: bool,
     pub number: u64,
@@ -413,7 +415,7 @@ pub fn returned(file: File, ret: u64, signing: bool, exact: bool) -> Step
 // ---- the frames
 
 // Up to 64 frames: the position of each one's function, and the pc or return address.
-#[derive(Drop)]
+#[derive(Clone, Copy)]
 pub struct Frames {
     pub positions: [u64; 64],
     pub pcs: [u64; 64],

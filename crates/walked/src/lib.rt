@@ -1,4 +1,6 @@
 // The walk by a section (request W-202): the rules of each frame come from the reader.
+#![tactic(auto)]
+
 ghost use Rattle.std.specs.Prelude.{◌≡◌, true, false, [], ◌∷◌, ◌<◌, ◌≤◌, T, eqb, length, take, drop};
 ghost use Rattle.format.specs.Prelude.{pick, after, good, bad, onward};
 ghost use Rattle.format.specs.Machine.{is_word_size, machine_ok, machine_of};
@@ -20,7 +22,7 @@ use walk::{Address, File, Frames, Holder, Left, Step, Trailer};
 // ---- the registers that a record and its header name
 
 // The registers 0 to 127 that an operation names.
-#[derive(Drop)]
+#[derive(Clone, Copy)]
 pub struct Marks {
     pub named: [bool; 128],
 }
@@ -135,7 +137,7 @@ fn one<'a>(
 }
 
 // All registers, or a refusal's number.
-#[derive(Drop)]
+#[derive(Clone, Copy)]
 pub struct AllLeft {
     pub number: u64,
     pub file: File,
@@ -313,7 +315,7 @@ fn caller_by(
 // ---- the frames
 
 // Up to 64 frames and why the walk ended, or a refusal.
-#[derive(Drop)]
+#[derive(Clone, Copy)]
 pub struct Walked {
     pub refused: bool,
     pub number: u64,
@@ -466,7 +468,7 @@ fn recorded(
 
 // What `unwind_walk` answers: 0 or a refusal's number, the count of frames that are stored, and why the walk ended.
 #[repr(C)]
-#[derive(Drop)]
+#[derive(Clone, Copy)]
 pub struct Answer {
     pub number: u64,
     pub frames: u64,

@@ -1,4 +1,6 @@
 // A writer, and then the walk by the section that it wrote.
+#![tactic(auto)]
+
 ghost use Rattle.std.specs.Prelude.{◌≡◌, length};
 ghost use Rattle.format.specs.Answers.{Writes};
 ghost use Rattle.format.specs.Questions.{given_of, room_in};
@@ -10,7 +12,7 @@ use format::Outcome;
 use walked::Answer;
 
 // What the writer answered, and what the walk by what it wrote answered.
-#[derive(Drop)]
+#[derive(Clone, Copy)]
 pub struct WrittenAndWalked {
     pub outcome: Outcome,
     pub answer: Answer,

@@ -1,4 +1,6 @@
 // Windows x64 unwind data, from direct codes and from rows. Ported from rucc-asm/src/unwind.rs (windows, seh, describe) of tamnd/rucc, changed: see NOTICE.
+#![tactic(auto)]
+
 ghost use Rattle.std.specs.Prelude.{◌≡◌, ℕ, ◌+◌, ◌*◌, ◌^◌, ◌≤◌, ◌<◌, pos, length};
 ghost use Rattle.std.proofs.Math.Option.{none};
 ghost use Rattle.format.specs.Prelude.{each};
@@ -74,7 +76,7 @@ fn put_runtime(out: &mut [u64], fs: &[u64], stride: usize, n: usize) -> usize
 // ---- codes
 
 // Direct codes, or the rows of functions for a machine.
-#[derive(Drop)]
+#[derive(Clone, Copy)]
 struct Source {
     direct: bool,
     machine: Machine,
@@ -82,7 +84,7 @@ struct Source {
 
 // A function: 0, or the number of the question that its rows do not answer by yes; its symbol and its length, where its prologue
 // ends, its codes or the rows of its prologue, from `first` to `past`, and the distance of the frame address behind them.
-#[derive(Drop)]
+#[derive(Clone, Copy)]
 struct Span {
     number: u64,
     symbol: u64,
@@ -94,7 +96,7 @@ struct Span {
 }
 
 // What some codes say: the first no of 34 to 39 or 0, how many slots of two bytes they have, and the first no of 41 or 0.
-#[derive(Drop)]
+#[derive(Clone, Copy)]
 struct Summary {
     number: u64,
     slots: usize,

@@ -1,4 +1,6 @@
 // x64 records written and read back.
+#![tactic(auto)]
+
 ghost use Rattle.std.specs.Prelude.{◌≡◌, get_or};
 ghost use Rattle.format.specs.Answers.{Writes};
 ghost use Rattle.format.specs.Questions.{seh, room_in};
@@ -19,7 +21,7 @@ fn marker_at(markers: &[u64], k: usize) -> u64
 }
 
 // What `seh` answered, and what the reader answered at function k's marker.
-#[derive(Drop)]
+#[derive(Clone, Copy)]
 pub struct WrittenAndRead {
     pub outcome: Outcome,
     pub reading: X64Reading,

@@ -1,4 +1,6 @@
 // x64 unwind data read: an UNWIND_INFO's header and its codes (Microsoft, "x64 exception handling"), which rucc-asm/src/unwind.rs of tamnd/rucc does not have.
+#![tactic(auto)]
+
 ghost use Rattle.std.specs.Prelude.{◌≡◌, ◌+◌, ◌*◌, ◌^◌, ◌≤◌, ◌<◌, [], ◌∷◌, ◌||◌, length, drop};
 ghost use Rattle.format.specs.Put.{put};
 ghost use Rattle.operations.specs.Positions.{little_at};
@@ -12,7 +14,7 @@ use operations::fields::{Position, Unsigned, read_le};
 // ---- one code
 
 // How many bytes of operand an operation has; none where it is one that `seh` never writes.
-#[derive(Drop)]
+#[derive(Clone, Copy)]
 pub enum Operand {
     Bytes(usize),
     Bad,
@@ -45,7 +47,7 @@ fn operand_bytes(op: u64, info: u64) -> Operand
 }
 
 // A code behind its offset, as `seh` takes it.
-#[derive(Drop)]
+#[derive(Clone, Copy)]
 pub struct Fields {
     pub kind: u64,
     pub register: u64,
@@ -100,7 +102,7 @@ fn operand_at(s: &[u8], at: Position, n: usize) -> Unsigned
 }
 
 // A code: its offset in the prologue, what it says, and the position past it.
-#[derive(Drop)]
+#[derive(Clone, Copy)]
 pub enum Code {
     Code(u64, Fields, Position),
     Bad,
@@ -145,7 +147,7 @@ fn or_frame(framed: bool, kind: u64) -> bool
 }
 
 // How many codes there are, and whether one sets the frame register; none where one cannot be read.
-#[derive(Drop)]
+#[derive(Clone, Copy)]
 pub enum Counted {
     Codes(usize, bool),
     Bad,
@@ -199,7 +201,7 @@ fn store(s: &[u8], frame: u64, n: usize, codes: &mut [u64])
 // ---- a record
 
 // The prologue's end and the frame byte of a header, and where its slots start and end.
-#[derive(Drop)]
+#[derive(Clone, Copy)]
 pub enum Header {
     Slots(u64, u64, usize, usize),
     Bad,
@@ -233,7 +235,7 @@ fn header_at(info: &[u8], place: u64) -> Header
 
 // What unwind_read_x64 answers.
 #[repr(C)]
-#[derive(Drop)]
+#[derive(Clone, Copy)]
 pub struct X64Reading {
     pub number: u64,
     pub end: u64,

@@ -1,0 +1,50 @@
+-- `apply::near` meets its contract.
+use Rattle.std.proofs.Common.{ℕ, ◌-◌, sym, ap, ◌∙◌}
+use Rattle.format.specs.Prelude.{after}
+use Rattle.apply.specs.Kinds.{is_number, number_of}
+use Rattle.apply.specs.Fields.{up_to}
+use Rattle.apply.specs.Values.{symbols_of, apart, distance_of}
+use Rattle.apply.specs.Apply.{near_as}
+use Rattle.apply.specs.Standing.{meant, beside}
+use Rattle.apply.proofs.Tests.{is_some_lem}
+use Rattle.apply.proofs.near.Goals as goal
+
+pub returns-in-Data : goal.returns-in-Data
+unfolding near_as
+returns-in-Data c = rw (sym c.kind_of-k.ensures ∙ c.in-Data.is)
+
+pub returns-in-Address : goal.returns-in-Address
+unfolding near_as
+returns-in-Address c = rw (sym c.kind_of-k.ensures ∙ c.in-Address.is)
+
+pub returns-in-SumPlus : goal.returns-in-SumPlus
+unfolding near_as
+returns-in-SumPlus c = rw (sym c.kind_of-k.ensures ∙ c.in-SumPlus.is)
+
+pub returns-in-SumMinus : goal.returns-in-SumMinus
+unfolding near_as
+returns-in-SumMinus c = rw (sym c.kind_of-k.ensures ∙ c.in-SumMinus.is)
+
+pub returns-in-Image : goal.returns-in-Image
+unfolding near_as
+returns-in-Image c = rw (sym c.kind_of-k.ensures ∙ c.in-Image.is)
+
+pub returns-in-Set : goal.returns-in-Set
+unfolding near_as distance_of
+returns-in-Set c =
+    let a = c.args in
+    let ss = symbols_of a.addresses.now in
+    rw (sym c.kind_of-k.ensures ∙ c.in-Set.is)
+    (c.is_number.ensures
+    ∙ ap is_number
+    (c.apart.ensures
+    ∙ ap (λ (m : ℕ). number_of (after (apart ss (meant a.r) (beside a.behind)) (λ z. up_to (m - 1) z))) c.modulus.ensures.0)
+    ∙ is_some_lem _)
+
+pub returns-in-Sub : goal.returns-in-Sub
+unfolding near_as
+returns-in-Sub c = rw (sym c.kind_of-k.ensures ∙ c.in-Sub.is)
+
+pub returns-in-Unknown : goal.returns-in-Unknown
+unfolding near_as
+returns-in-Unknown c = rw (sym c.kind_of-k.ensures ∙ c.in-Unknown.is)

@@ -1,0 +1,35 @@
+-- `apply::paired` meets its contract.
+use Rattle.apply.specs.Apply.{paired}
+use Rattle.apply.proofs.paired.Goals as goal
+
+pub returns-in-Data : goal.returns-in-Data
+unfolding paired
+returns-in-Data c = rw c.in-Data.is
+
+pub returns-in-Address : goal.returns-in-Address
+unfolding paired
+returns-in-Address c = rw c.in-Address.is
+
+pub returns-in-SumPlus : goal.returns-in-SumPlus
+unfolding paired
+returns-in-SumPlus c = rw c.in-SumPlus.is c.leads.ensures
+
+pub returns-in-SumMinus : goal.returns-in-SumMinus
+unfolding paired
+returns-in-SumMinus c = rw c.in-SumMinus.is c.follows.ensures
+
+pub returns-in-Image : goal.returns-in-Image
+unfolding paired
+returns-in-Image c = rw c.in-Image.is
+
+pub returns-in-Set : goal.returns-in-Set
+unfolding paired
+returns-in-Set c = rw c.in-Set.is c.leads-in-Set.ensures
+
+pub returns-in-Sub : goal.returns-in-Sub
+unfolding paired
+returns-in-Sub c = rw c.in-Sub.is c.follows-in-Sub.ensures
+
+pub returns-in-Unknown : goal.returns-in-Unknown
+unfolding paired
+returns-in-Unknown c = rw c.in-Unknown.is

@@ -1,0 +1,21 @@
+-- `apply::value_ok` meets its contract.
+use Rattle.std.proofs.Common.{◌≡◌, true, false, sym, ap, ◌∙◌}
+use borrow.Author.Tests.{not-true, not-false}
+use Rattle.apply.specs.Kinds.{is_number}
+use Rattle.apply.specs.Apply.{measured, value_ok}
+use Rattle.apply.proofs.Tests.{is_some_lem}
+use Rattle.apply.proofs.value_ok.Goals as goal
+
+pub returns-then-not-measured : goal.returns-then-not-measured
+unfolding value_ok
+returns-then-not-measured c =
+    let a = c.args in
+    let e : measured a.k ≡ false = sym c.measured.ensures ∙ not-true _ c.if-not-measured.true in
+    simp e
+
+pub returns : goal.returns
+unfolding value_ok
+returns c =
+    let a = c.args in
+    let e : measured a.k ≡ true = sym c.measured.ensures ∙ not-false _ c.if-not-measured.false in
+    simp e (c.is_number.ensures ∙ ap is_number c.value.ensures ∙ is_some_lem _)

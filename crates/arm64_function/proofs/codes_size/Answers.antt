@@ -1,0 +1,32 @@
+-- `arm64_function::codes_size` meets its contract.
+use native.Mathlib.Omega.{arith}
+use Rattle.arm64_function.proofs.Own.{summing_start, summing_turn, summing_high, summing_ended}
+use Prim.Native.Nat.{◌-◌}
+use Rattle.arm64_function.proofs.codes_size.Goals as goal
+
+pub run_size-size-requires : goal.run_size-size-requires
+run_size-size-requires c = c.requires.prologue
+
+pub overflow_add-size : goal.overflow_add-size
+overflow_add-size c = omega (arith, c.run_size-size.ensures.1, c.requires.prologue.low)
+
+pub loop-i-init : goal.loop-i-init
+loop-i-init c = summing_start c.run_size-size.ensures.0
+
+pub returns-then-size-gt-MOST_CODES : goal.returns-then-size-gt-MOST_CODES
+returns-then-size-gt-MOST_CODES c = summing_high c.loop-i.invariant c.if-size-gt-MOST_CODES.true
+
+pub own_size-size-requires : goal.own_size-size-requires
+own_size-size-requires c = (c.requires, c.loop-i.invariant.low, c.loop-i-test.true)
+
+pub overflow_add-size-in-loop-i : goal.overflow_add-size-in-loop-i
+overflow_add-size-in-loop-i c = omega (arith, c.if-size-gt-MOST_CODES.false, c.own_size-size.ensures.1)
+
+pub loop-i-preserved : goal.loop-i-preserved
+loop-i-preserved c = summing_turn c.loop-i.invariant c.loop-i-test.true c.own_size-size.ensures.0
+
+pub returns-then-size-gt-MOST_CODES-2 : goal.returns-then-size-gt-MOST_CODES-2
+returns-then-size-gt-MOST_CODES-2 c = summing_high c.loop-i.invariant c.if-size-gt-MOST_CODES-2.true
+
+pub returns : goal.returns
+returns c = summing_ended c.loop-i.invariant (omega (arith, c.loop-i-test.false)) (omega (arith, c.if-size-gt-MOST_CODES-2.false))

@@ -1,0 +1,15 @@
+-- `arm64_lists::codes_ok_in` meets its contract.
+use Rattle.lists.proofs.Answers.{accepted, refused, reached}
+use Rattle.arm64.specs.Writer.{codes_ok_in}
+use Rattle.arm64_lists.proofs.codes_ok_in.Goals as goal
+
+pub returns-then-not-inside : goal.returns-then-not-inside
+unfolding codes_ok_in
+returns-then-not-inside c = simp (refused c.inside.ensures c.if-not-inside.true)
+
+pub codes_in-requires : goal.codes_in-requires
+codes_in-requires c = reached _ _ _ (accepted c.inside.ensures c.if-not-inside.false)
+
+pub returns : goal.returns
+unfolding codes_ok_in
+returns c = simp (accepted c.inside.ensures c.if-not-inside.false) c.codes_in.ensures

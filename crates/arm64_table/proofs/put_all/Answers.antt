@@ -1,0 +1,14 @@
+-- `arm64_table::put_all` meets its contract.
+use Rattle.arm64.specs.Lists.{numbered_function}
+use Rattle.arm64_table.proofs.Results.{all_stored}
+use native.Mathlib.Omega.{arith}
+use Rattle.arm64_table.proofs.put_all.Goals as goal
+
+pub put_rows-requires : goal.put_rows-requires
+put_rows-requires c = let p = c.requires in (p.0, p.4, omega (arith, p.2, p.5))
+
+pub put_infos-requires : goal.put_infos-requires
+put_infos-requires c = let p = c.requires in (p.0, p.3, omega (arith, p.1, p.6))
+
+pub returns : goal.returns
+returns c = let a = c.args in let p = c.requires in all_stored (numbered_function a.fs.now a.es.now a.cs.now) a.n p.1 p.2 c.put_rows.ensures.0 c.put_rows.ensures.1 c.put_infos.ensures.0 c.put_infos.ensures.1

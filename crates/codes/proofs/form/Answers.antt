@@ -1,0 +1,6 @@
+-- `codes::form` meets its contract.
+use Rattle.codes.proofs.Forms.{form_holds}
+use Rattle.codes.proofs.form.Goals as goal
+
+pub returns : goal.returns
+returns c = form_holds c.args.at c.args.op c.args.info c.args.n c.args.v c.requires.2

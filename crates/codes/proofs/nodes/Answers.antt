@@ -1,0 +1,55 @@
+-- `codes::nodes` meets its contract.
+use mathlib.Core.Path.{ap, ◌∙◌}
+use native.Mathlib.Omega.{arith}
+use Rattle.format.specs.Leb.{little}
+use Rattle.format.specs.X64.{node, code_bytes, register_in, operand_no, size64}
+use Rattle.rows.proofs.Signs.{passed}
+use Rattle.codes.proofs.Questions.{Said, said, alloc_said}
+use Rattle.codes.proofs.nodes.Goals as goal
+use Rattle.codes.proofs.nodes.Goals.{Start}
+
+-- what the questions of the code say
+agreed : (c : Start) → Said c.args.at c.args.code
+agreed c = said c.args.at c.args.code c.requires
+
+pub overflow_cast-a : goal.overflow_cast-a
+overflow_cast-a c = omega (arith, agreed c)
+
+pub overflow_cast-reg : goal.overflow_cast-reg
+unfolding register_in
+overflow_cast-reg c = let h = rw c.in-Push.is at (agreed (goal.at.overflow_cast-reg c).Start).register in omega (arith, h)
+
+pub form-requires : goal.form-requires
+unfolding register_in
+form-requires c = let h = rw c.in-Push.is at (agreed (goal.at.form-requires c).Start).register in omega (arith, h)
+
+pub alloc-requires : goal.alloc-requires
+unfolding operand_no
+alloc-requires c =
+    let e = c.size.ensures ∙ ap size64 (passed c.in-Alloc.z (omega (arith, c.in-Alloc.known_told-in-Alloc-1-own.given))) in
+    let h = alloc_said c.in-Alloc.z (rw c.in-Alloc.is at (agreed (goal.at.alloc-requires c).Start).operand) in
+    omega (arith, e, h)
+
+pub overflow_cast-reg-in-Save : goal.overflow_cast-reg-in-Save
+unfolding register_in
+overflow_cast-reg-in-Save c = let h = rw c.in-Save.is at (agreed (goal.at.overflow_cast-reg-in-Save c).Start).register in omega (arith, h)
+
+pub slot-requires : goal.slot-requires
+unfolding register_in
+slot-requires c = let h = rw c.in-Save.is at (agreed (goal.at.slot-requires c).Start).register in omega (arith, h)
+
+pub returns-in-Push : goal.returns-in-Push
+unfolding code_bytes node little
+returns-in-Push c = rw c.in-Push.is c.form.ensures
+
+pub returns-in-Alloc : goal.returns-in-Alloc
+unfolding code_bytes
+returns-in-Alloc c = rw c.in-Alloc.is (rw (c.size.ensures ∙ ap size64 (passed c.in-Alloc.z (omega (arith, c.in-Alloc.known_told-in-Alloc-1-own.given)))) at c.alloc.ensures)
+
+pub returns-in-Frame : goal.returns-in-Frame
+unfolding code_bytes node little
+returns-in-Frame c = rw c.in-Frame.is c.form-in-Frame.ensures
+
+pub returns-in-Save : goal.returns-in-Save
+unfolding code_bytes
+returns-in-Save c = rw c.in-Save.is (rw (c.size-in-Save.ensures ∙ ap size64 (passed c.in-Save.z (omega (arith, c.in-Save.known_told-in-Save-1-own.given)))) at c.slot.ensures)

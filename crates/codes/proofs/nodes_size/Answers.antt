@@ -1,0 +1,29 @@
+-- `codes::nodes_size` meets its contract.
+use mathlib.Core.Path.{sym, ap, ◌∙◌}
+use native.Mathlib.Omega.{arith}
+use Rattle.format.specs.X64.{node, code_bytes, size64}
+use Rattle.rows.proofs.Signs.{passed}
+use Rattle.codes.specs.Codes.{alloc_size, save_size}
+use Rattle.codes.proofs.Forms.{alloc_length, save-length}
+use Rattle.codes.proofs.nodes_size.Goals as goal
+
+pub returns-in-Push : goal.returns-in-Push
+unfolding code_bytes node
+returns-in-Push c = rw c.in-Push.is
+
+pub returns-in-Alloc : goal.returns-in-Alloc
+unfolding code_bytes
+returns-in-Alloc c =
+    let e = c.size.ensures ∙ ap size64 (passed c.in-Alloc.z (omega (arith, c.in-Alloc.known_told-1-own.given))) in
+    rw c.in-Alloc.is (c.alloc_size.ensures ∙ ap alloc_size e ∙ sym (alloc_length c.args.at (size64 c.in-Alloc.z)))
+
+pub returns-in-Frame : goal.returns-in-Frame
+unfolding code_bytes node
+returns-in-Frame c = rw c.in-Frame.is
+
+pub returns-in-Save : goal.returns-in-Save
+unfolding code_bytes
+returns-in-Save c =
+    let p = c.code-in-Save-1.given in
+    let e = c.size-in-Save.ensures ∙ ap size64 (passed c.in-Save.z (omega (arith, c.in-Save.known_told-in-Save-1-own.given))) in
+    rw p.1 (c.save_size.ensures ∙ ap (save_size p.0.1.0) e ∙ sym (save-length p.0.1.0 c.args.at p.0.0 (size64 p.0.1.1.0)))

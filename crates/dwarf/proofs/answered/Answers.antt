@@ -1,0 +1,31 @@
+-- `dwarf::answered` meets its contract.
+use mathlib.Core.Path.{refl}
+use Rattle.dwarf.specs.Parts.{inputs}
+use Rattle.dwarf.proofs.Passed.{counted}
+use Rattle.dwarf.proofs.Cleared.{cleared}
+use Rattle.dwarf.proofs.Whole.{lists_passed, asked_passed, says_all}
+use Rattle.dwarf.proofs.Surveying.{behind_say}
+use Rattle.dwarf.proofs.answered.Goals as goal
+use Rattle.dwarf.proofs.answered.Goals.{Start}
+
+pub tried-v-requires : goal.tried-v-requires
+tried-v-requires c = c.requires
+
+pub roomed-requires : goal.roomed-requires
+roomed-requires c =
+    let s = (goal.at.roomed-requires c).Start in
+    let b = behind_say (inputs s.args.s s.args.m s.args.fs.now s.args.rows.now s.args.landings.now s.args.pairs.now) c.tried-v.ensures.0 c.in-Behind.is in
+    (cleared (inputs s.args.s s.args.m s.args.fs.now s.args.rows.now s.args.landings.now s.args.pairs.now) s.requires.0 (counted s.args.fs.now s.requires.1) b.0, b.2, b.1)
+
+pub returns-in-Behind : goal.returns-in-Behind
+returns-in-Behind c =
+    let s = (goal.at.returns-in-Behind c).Start in
+    let b = behind_say (inputs s.args.s s.args.m s.args.fs.now s.args.rows.now s.args.landings.now s.args.pairs.now) c.tried-v.ensures.0 c.in-Behind.is in
+    says_all (inputs s.args.s s.args.m s.args.fs.now s.args.rows.now s.args.landings.now s.args.pairs.now) s.args.places.now s.args.out.now s.args.relocs.now s.args.sites.now (lists_passed (inputs s.args.s s.args.m s.args.fs.now s.args.rows.now s.args.landings.now s.args.pairs.now) s.requires.1 b.0) (asked_passed (inputs s.args.s s.args.m s.args.fs.now s.args.rows.now s.args.landings.now s.args.pairs.now) s.requires.1 b.0) refl c.roomed.ensures
+
+pub asked-requires : goal.asked-requires
+asked-requires c =
+    (c.requires.0, c.requires.1, record { enough = rw c.unchain.ensures.0 c.tried-v.ensures.1; clear = c.unchain.ensures.1 })
+
+pub returns : goal.returns
+returns c = c.asked.ensures

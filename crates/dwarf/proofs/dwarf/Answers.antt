@@ -1,0 +1,22 @@
+-- `dwarf::dwarf` meets its contract.
+use mathlib.Core.Path.{refl}
+use Rattle.format.proofs.Accepted.{machine_fits}
+use Rattle.format.proofs.Choice.{is_yes_lem}
+use Rattle.lists.proofs.Answers.{accepted, refused}
+use Rattle.dwarf.proofs.Whole.{says_11, says_listed, no_sums}
+use Rattle.dwarf.proofs.dwarf.Goals as goal
+
+pub returns-then-not-machine_ok : goal.returns-then-not-machine_ok
+returns-then-not-machine_ok c = says_11 _ _ _ _ _ _ (refused c.machine_ok.ensures c.if-not-machine_ok.true)
+
+pub returns-then-not-sums_ok : goal.returns-then-not-sums_ok
+returns-then-not-sums_ok c = says_listed _ _ _ _ _ _ (accepted c.machine_ok.ensures c.if-not-machine_ok.false) refl (no_sums _ _ _ _ _ (refused c.sums_ok.ensures c.if-not-sums_ok.true))
+
+pub machine_of-m-requires : goal.machine_of-m-requires
+machine_of-m-requires c = is_yes_lem (accepted c.machine_ok.ensures c.if-not-machine_ok.false)
+
+pub deliver-requires : goal.deliver-requires
+deliver-requires c = (rw c.machine_of-m.ensures (machine_fits _ (is_yes_lem (accepted c.machine_ok.ensures c.if-not-machine_ok.false))), is_yes_lem (accepted c.sums_ok.ensures c.if-not-sums_ok.false))
+
+pub returns : goal.returns
+returns c = says_listed _ _ _ _ _ _ (accepted c.machine_ok.ensures c.if-not-machine_ok.false) c.machine_of-m.ensures c.deliver.ensures

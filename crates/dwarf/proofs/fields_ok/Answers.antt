@@ -1,0 +1,21 @@
+-- `dwarf::fields_ok` meets its contract.
+use mathlib.Core.Path.{sym, ◌∙◌}
+use Rattle.format.proofs.FieldsBack.{word_small}
+use Rattle.rows.proofs.WholeNumbers.{never}
+use Rattle.lists.proofs.Answers.{accepted}
+use Rattle.dwarf.proofs.fields_ok.Goals as goal
+
+pub returns-then-not-size_ok : goal.returns-then-not-size_ok
+returns-then-not-size_ok c = λ p. never p
+
+pub encodings_ok-requires : goal.encodings_ok-requires
+encodings_ok-requires c = (word_small _ c.requires.0).0
+
+pub returns-then-not-encodings_ok : goal.returns-then-not-encodings_ok
+returns-then-not-encodings_ok c = λ p. never p
+
+pub pairs_ok-requires : goal.pairs_ok-requires
+pairs_ok-requires c = c.requires.1
+
+pub returns : goal.returns
+returns c = λ p. (accepted c.size_ok.ensures c.if-not-size_ok.false, accepted c.encodings_ok.ensures c.if-not-encodings_ok.false, sym c.pairs_ok.ensures ∙ p)

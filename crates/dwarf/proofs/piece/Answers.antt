@@ -1,0 +1,22 @@
+-- `dwarf::piece` meets its contract.
+use native.Mathlib.Omega.{arith}
+use Rattle.dwarf.proofs.PartStores.{front_ready, table_fits, sites_ready, record_ready, relocs_ready, stored}
+use Rattle.dwarf.proofs.piece.Goals as goal
+
+pub front-u-requires : goal.front-u-requires
+front-u-requires c = front_ready c.requires
+
+pub record-at-requires : goal.record-at-requires
+record-at-requires c = record_ready c.requires c.front-u.ensures
+
+pub overflow_add-table : goal.overflow_add-table
+overflow_add-table c = omega (arith, table_fits c.requires c.padding.ensures)
+
+pub record_relocs-i-requires : goal.record_relocs-i-requires
+record_relocs-i-requires c = relocs_ready c.requires c.front-u.ensures _
+
+pub call_sites-end-requires : goal.call_sites-end-requires
+call_sites-end-requires c = sites_ready c.requires
+
+pub returns : goal.returns
+returns c = stored c.requires c.front-u.ensures c.padding.ensures c.«record».ensures c.record_relocs-i.ensures c.call_sites-end.ensures

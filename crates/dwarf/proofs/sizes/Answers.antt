@@ -1,0 +1,23 @@
+-- `dwarf::sizes` meets its contract.
+use native.Mathlib.Omega.{arith}
+use Prim.Native.Nat.{◌-◌}
+use Rattle.dwarf.proofs.Sizing.{start, next, turn, ended, owned_to}
+use Rattle.dwarf.proofs.sizes.Goals as goal
+
+pub loop-k-init : goal.loop-k-init
+loop-k-init c = start _
+
+pub rows_size-size-requires : goal.rows_size-size-requires
+rows_size-size-requires c =
+    let x = next c.loop-k.invariant c.requires.0 c.loop-k-test.true in
+    (omega (arith, x.writable.listed.within), x.writable.sound)
+
+pub size_next-t-requires : goal.size_next-t-requires
+size_next-t-requires c =
+    (next c.loop-k.invariant c.requires.0 c.loop-k-test.true, owned_to (omega (arith, c.loop-k-test.true, c.loop-k.invariant.counted)) c.requires.1, c.rows_size-size.ensures)
+
+pub loop-k-preserved : goal.loop-k-preserved
+loop-k-preserved c = turn c.loop-k.invariant c.loop-k-test.true c.size_next-t.ensures
+
+pub returns : goal.returns
+returns c = ended c.loop-k.invariant c.loop-k-test.false

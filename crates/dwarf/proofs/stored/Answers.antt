@@ -1,0 +1,6 @@
+-- `dwarf::stored` meets its contract.
+use Rattle.dwarf.proofs.Outcomes.{delivers}
+use Rattle.dwarf.proofs.stored.Goals as goal
+
+pub returns : goal.returns
+returns c = delivers _ _ _ _ _ c.requires.1 c.store-t.ensures

@@ -1,0 +1,10 @@
+use Prim.Native.Nat.{ℕ, ◌-◌}
+use Rattle.format.specs.Lists.{field, function_stride}
+use Rattle.lists.proofs.Sums.{Summing}
+use Rattle.dwarf.proofs.total.Given as goal
+
+abbrev pub invariant-loop-k : goal.invariant-loop-k
+invariant-loop-k l = Summing (λ (l.k : ℕ). field function_stride l.fs l.k l.j) l.n l.k l.sum
+
+abbrev pub decreases-loop-k : goal.decreases-loop-k
+decreases-loop-k l = l.n - l.k

@@ -1,0 +1,42 @@
+-- `named_header` stores the fields of a named personality behind the version.
+use native.Mathlib.Omega.{arith}
+use lib.ListN.{length-append}
+use borrow.Author.Rules.{rules}
+use Rattle.format.proofs.PutLaws.{◌then◌}
+use Rattle.headers.proofs.Tails.{named_tail}
+use Rattle.headers.proofs.named_header.Goals as goal
+
+pub named_letters-a-requires : goal.named_letters-a-requires
+named_letters-a-requires c =
+    let h = simp (named_tail c.args.word c.args.ret c.args.e 0 c.args.l c.args.signal c.args.lsda, length-append) at c.requires.3 in
+    omega arith
+
+pub middle-b-requires : goal.middle-b-requires
+middle-b-requires c =
+    let h = simp (named_tail c.args.word c.args.ret c.args.e 0 c.args.l c.args.signal c.args.lsda, length-append) at c.requires.3 in
+    search rules
+
+pub overflow_add-size : goal.overflow_add-size
+overflow_add-size c = omega (arith, c.pointer_bytes-size.ensures.1 c.requires.0)
+
+pub overflow_add-size-2 : goal.overflow_add-size-2
+overflow_add-size-2 c = omega (arith, c.pointer_bytes-size.ensures.1 c.requires.0, c.flag.ensures.1)
+
+pub uleb-c-requires : goal.uleb-c-requires
+uleb-c-requires c =
+    let h = simp (named_tail c.args.word c.args.ret c.args.e 0 c.args.l c.args.signal c.args.lsda, length-append) at c.requires.3 in
+    rw (c.pointer_bytes-size.ensures.0, c.flag.ensures.0) (search rules)
+
+pub named_data-requires : goal.named_data-requires
+named_data-requires c =
+    let h = simp (named_tail c.args.word c.args.ret c.args.e 0 c.args.l c.args.signal c.args.lsda, length-append) at c.requires.3 in
+    let s = rw (c.pointer_bytes-size.ensures.0, c.flag.ensures.0) at c.uleb-c.ensures in
+    (c.requires.1, c.requires.2, rw c.pointer_bytes-size.ensures.0 (search rules))
+
+pub returns : goal.returns
+returns c =
+    rw (named_tail c.args.word c.args.ret c.args.e 0 c.args.l c.args.signal c.args.lsda)
+    (c.named_letters-a.ensures
+    then c.middle-b.ensures
+    then (rw (c.pointer_bytes-size.ensures.0, c.flag.ensures.0) at c.uleb-c.ensures)
+    then (rw c.pointer_bytes-size.ensures.0 at c.named_data.ensures))

@@ -1,0 +1,30 @@
+-- `plain_header` stores the fields of a plain header behind the version.
+use native.Mathlib.Omega.{arith}
+use lib.ListN.{length-append}
+use borrow.Author.Rules.{rules}
+use Rattle.format.specs.Leb.{little}
+use Rattle.format.proofs.PutLaws.{◌then◌}
+use Rattle.headers.proofs.Tails.{plain_tail}
+use Rattle.headers.proofs.plain_header.Goals as goal
+
+pub le-a-requires : goal.le-a-requires
+le-a-requires c =
+    omega (arith, simp (plain_tail c.args.word c.args.ret c.args.signal, length-append) at c.requires.1)
+
+pub middle-b-requires : goal.middle-b-requires
+unfolding little
+middle-b-requires c =
+    let h = simp (plain_tail c.args.word c.args.ret c.args.signal, length-append) at c.requires.1 in
+    search rules
+
+pub le-requires : goal.le-requires
+unfolding little
+le-requires c =
+    let h = simp (plain_tail c.args.word c.args.ret c.args.signal, length-append) at c.requires.1 in
+    search rules
+
+pub returns : goal.returns
+unfolding little
+returns c =
+    rw (plain_tail c.args.word c.args.ret c.args.signal)
+    (c.le-a.ensures then c.middle-b.ensures then c.le.ensures)

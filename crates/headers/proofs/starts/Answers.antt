@@ -1,0 +1,29 @@
+-- `starts` stores the leading rows.
+use Prim.Native.Nat.{◌-◌}
+use native.Mathlib.Omega.{arith}
+use Rattle.headers.proofs.Words.{word_bounds}
+use Rattle.headers.proofs.Turns.{start, room, turn, ended}
+use Rattle.headers.proofs.starts.Goals as goal
+
+pub leading_count-n-requires : goal.leading_count-n-requires
+leading_count-n-requires c = c.requires.0.ready
+
+pub loop-i-init : goal.loop-i-init
+loop-i-init c = start c.requires.1
+
+pub leading_at-requires : goal.leading_at-requires
+leading_at-requires c = (c.requires.0.machine, c.requires.0.ready, omega (arith, c.leading_count-n.ensures, c.loop-i-test.true))
+
+pub row-p-requires : goal.row-p-requires
+row-p-requires c =
+    let w = word_bounds c.args.m.word c.requires.0.machine.is_word in
+    (w.0, w.1, room c.loop-i.invariant (omega (arith, c.leading_count-n.ensures, c.loop-i-test.true)) c.leading_at.ensures)
+
+pub loop-i-preserved : goal.loop-i-preserved
+loop-i-preserved c = turn c.loop-i.invariant (omega (arith, c.leading_count-n.ensures, c.loop-i-test.true)) c.leading_at.ensures c.row-p.ensures
+
+pub shape_of-out : goal.shape_of-out
+shape_of-out c = c.loop-i.invariant.bytes.kept
+
+pub returns : goal.returns
+returns c = ended c.loop-i.invariant (omega (arith, c.leading_count-n.ensures, c.loop-i-test.false))

@@ -1,0 +1,17 @@
+-- `lists::functions_ok` meets its contract.
+use Prim.Native.Nat.{◌-◌}
+use native.Mathlib.Omega.{arith}
+use Rattle.lists.proofs.Ranges.{start, turn, stopped, ended}
+use Rattle.lists.proofs.functions_ok.Goals as goal
+
+pub loop-k-init : goal.loop-k-init
+loop-k-init c = start _ _ _
+
+pub returns-then-not-function_ok : goal.returns-then-not-function_ok
+returns-then-not-function_ok c = stopped c.loop-k.invariant (omega arith) c.function_ok.ensures c.if-not-function_ok.true
+
+pub loop-k-preserved : goal.loop-k-preserved
+loop-k-preserved c = turn c.loop-k.invariant (omega arith) c.function_ok.ensures c.if-not-function_ok.false
+
+pub returns : goal.returns
+returns c = ended c.loop-k.invariant (omega arith)

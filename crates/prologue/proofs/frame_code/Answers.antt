@@ -1,0 +1,11 @@
+-- `prologue::frame_code` meets its contract.
+use Rattle.format.specs.declared.Seh.TheVariants.{Frame}
+use lib.IntN.{pos}
+use Rattle.prologue.proofs.Registers.{code_none, code_some}
+use Rattle.prologue.proofs.frame_code.Goals as goal
+
+pub returns-in_default : goal.returns-in_default
+returns-in_default c = code_none c.args.m c.args.off c.args.m.frame (λ x. Frame x.number (pos 0)) c.machine.ensures c.in_default.is
+
+pub returns : goal.returns
+returns c = code_some c.args.m c.args.off c.args.m.frame (λ x. Frame x.number (pos 0)) c.machine.ensures c.in-Number.is

@@ -1,0 +1,16 @@
+-- `prologue::read_row` meets its contract.
+use mathlib.Core.Path.{sym, ◌∙◌}
+use Rattle.prologue.proofs.Walked.{at_third, at_open, at_last}
+use Rattle.prologue.proofs.read_row.Goals as goal
+
+pub returns-then-third : goal.returns-then-third
+returns-then-third c =
+    rw (at_third c.args.m _ c.args.at c.args.end c.args.i c.args.w (sym c.third.ensures ∙ c.if-third.true)) c.refused.ensures
+
+pub returns-then-joins : goal.returns-then-joins
+returns-then-joins c =
+    sym (at_open c.args.m _ c.args.at c.args.end c.args.i c.args.w (sym c.third.ensures ∙ c.if-third.false) (sym c.joins.ensures ∙ c.if-joins.true))
+
+pub returns : goal.returns
+returns c =
+    rw (at_last c.args.m _ c.args.at c.args.end c.args.i c.args.w (sym c.third.ensures ∙ c.if-third.false) (sym c.joins.ensures ∙ c.if-joins.false)) c.read_last.ensures

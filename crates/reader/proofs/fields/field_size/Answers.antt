@@ -1,0 +1,11 @@
+-- `reader::fields::field_size` meets its contract.
+use Rattle.format.specs.Prelude.{pick}
+use Rattle.reader.proofs.fields.field_size.Goals as goal
+
+pub returns-then-debug : goal.returns-then-debug
+unfolding pick
+returns-then-debug c = simp c.if-debug.true
+
+pub returns : goal.returns
+unfolding pick
+returns c = simp c.if-debug.false

@@ -1,0 +1,24 @@
+-- `reader::fields::parse_header` meets its contract.
+use mathlib.Core.Path.{sym, ◌∙◌}
+use Rattle.reader.proofs.Headed.{parse_none, parse_ended, parse_version, parse_string, parse_rest, parse_mark}
+use Rattle.reader.proofs.fields.parse_header.Goals as goal
+
+pub returns-in_default : goal.returns-in_default
+returns-in_default c = parse_none c.args.s.now c.args.debug c.args.word (sym c.read_le.ensures ∙ c.in_default.is)
+
+pub returns-then-s-from : goal.returns-then-s-from
+returns-then-s-from c = parse_ended c.args.s.now c.args.debug c.args.word (sym c.read_le.ensures ∙ c.in-Value.is) c.if-s-from.true
+
+pub returns-then-s-from-ne1 : goal.returns-then-s-from-ne1
+returns-then-s-from-ne1 c = parse_version c.args.s.now c.args.debug c.args.word (sym c.read_le.ensures ∙ c.in-Value.is) c.if-s-from.false c.if-s-from-ne1.true
+
+pub returns-in_default-letters : goal.returns-in_default-letters
+returns-in_default-letters c = parse_string c.args.s.now c.args.debug c.args.word (sym c.read_le.ensures ∙ c.in-Value.is) c.if-s-from.false c.if-s-from-ne1.false c.letters.ensures c.in_default-letters.is
+
+pub returns : goal.returns
+returns c =
+    rw (
+      parse_rest c.args.s.now c.args.debug c.args.word (sym c.read_le.ensures ∙ c.in-Value.is) c.if-s-from.false c.if-s-from-ne1.false c.letters.ensures c.in-Known.is,
+      parse_mark c.args.s.now c.args.debug c.args.word (sym c.read_le.ensures ∙ c.in-Value.is) c.if-s-from.false c.if-s-from-ne1.false c.letters.ensures c.in-Known.is,
+    )
+    c.header_factors.ensures

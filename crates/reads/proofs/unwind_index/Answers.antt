@@ -1,0 +1,15 @@
+-- `reads::unwind_index` meets its contract.
+use Rattle.reads.proofs.Indexing.{index_unasked, index_asked}
+use borrow.Author.Tests.{not-true, not-false}
+use Rattle.std.proofs.Common.{sym, ◌∙◌}
+use Rattle.reads.proofs.unwind_index.Goals as goal
+
+pub returns-then-not-asked : goal.returns-then-not-asked
+returns-then-not-asked c =
+    let a = c.args in
+    rw c.unindexed.ensures (index_unasked a.section.now a.relocations.now a.kind a.word a.places.now (sym c.asked.ensures ∙ not-true _ c.if-not-asked.true))
+
+pub returns : goal.returns
+returns c =
+    let a = c.args in
+    index_asked a.section.now a.relocations.now a.kind a.word a.places.now (sym c.asked.ensures ∙ not-false _ c.if-not-asked.false) c.index_in.ensures

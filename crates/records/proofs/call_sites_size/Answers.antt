@@ -1,0 +1,21 @@
+-- `records::call_sites_size` meets its contract.
+use native.Mathlib.Omega.{arith}
+use Rattle.format.proofs.EntryBack.{padding_small}
+use Rattle.records.proofs.CallSites.{uleb_most, sites_most, added_none, added_length}
+use borrow.Author.Rules.{rules}
+use Rattle.records.proofs.call_sites_size.Goals as goal
+
+pub returns-then-e-eq0 : goal.returns-then-e-eq0
+returns-then-e-eq0 c = let h = c.if-e-eq0.true in rw added_none
+
+pub overflow_add-result : goal.overflow_add-result
+overflow_add-result c = omega (arith, padding_small 4 c.args.at (omega arith), c.padding.ensures)
+
+pub overflow_add-result-2 : goal.overflow_add-result-2
+overflow_add-result-2 c = omega (arith, padding_small 4 c.args.at (omega arith), c.padding.ensures, uleb_most c.sites_size-n.result)
+
+pub overflow_add-result-3 : goal.overflow_add-result-3
+overflow_add-result-3 c = omega (arith, padding_small 4 c.args.at (omega arith), c.padding.ensures, uleb_most c.sites_size-n.result, sites_most c.args.landings.now c.args.e.landings_at c.args.e.landings)
+
+pub returns : goal.returns
+returns c = let n = c.if-e-eq0.false in rw (added_length, ← c.sites_size-n.ensures) (search rules)

@@ -1,0 +1,16 @@
+-- `records::site_table` meets its contract.
+use Rattle.format.proofs.PutLaws.{◌then◌}
+use Rattle.records.proofs.CallSites.{table_bytes}
+use borrow.Author.Rules.{rules}
+use Rattle.records.proofs.site_table.Goals as goal
+
+pub uleb-d-requires : goal.uleb-d-requires
+uleb-d-requires c = rw c.sites_size.ensures (search rules)
+
+pub sites-requires : goal.sites-requires
+sites-requires c = (c.requires.0, let h = rw c.sites_size.ensures at c.uleb-d.ensures in search rules)
+
+pub returns : goal.returns
+returns c =
+    rw table_bytes
+    (c.byte-a.ensures then c.byte-b.ensures then c.byte-c.ensures then (rw c.sites_size.ensures at c.uleb-d.ensures) then c.sites.ensures)

@@ -1,0 +1,25 @@
+-- `records::stepped_row_size` meets its contract.
+use native.Mathlib.Omega.{arith}
+use Rattle.format.specs.Lists.{row_at}
+use Rattle.records.proofs.RowLoops.{offset_of, row_at-length, row_at_short}
+use Rattle.records.proofs.stepped_row_size.Goals as goal
+
+pub offset_at-requires : goal.offset_at-requires
+offset_at-requires c = c.requires.inside
+
+pub overflow_sub-offset_at : goal.overflow_sub-offset_at
+overflow_sub-offset_at c = omega (arith, c.offset_at.ensures, offset_of c.args.rows.now c.args.i, c.requires.forward)
+
+pub row_in_size-requires : goal.row_in_size-requires
+row_in_size-requires c = let p = c.requires in (p.word_low, p.word_high, p.inside, p.ok)
+
+pub returns : goal.returns
+returns c =
+    let e = row_at-length c.args.word c.args.from (row_at c.args.rows.now c.args.i) in
+    let a = rw (c.offset_at.ensures, ← offset_of c.args.rows.now c.args.i) at c.advance_size.ensures in
+    let b = c.row_in_size.ensures in
+    let l = row_at_short c.requires in
+    (omega arith, omega arith)
+
+pub overflow_add-result : goal.overflow_add-result
+overflow_add-result c = omega (arith, (returns c).1)

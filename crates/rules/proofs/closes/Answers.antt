@@ -1,0 +1,10 @@
+-- `rules::closes` meets its contract.
+use native.Mathlib.Omega.{arith}
+use Rattle.rules.proofs.Ordering.{none_open, restored}
+use Rattle.rules.proofs.closes.Goals as goal
+
+pub returns-then-depth-eq0 : goal.returns-then-depth-eq0
+returns-then-depth-eq0 c = rw c.passes.ensures (none_open c.args.o c.args.first c.requires c.if-depth-eq0.true)
+
+pub returns : goal.returns
+returns c = restored c.args.o c.args.first c.requires (omega arith)

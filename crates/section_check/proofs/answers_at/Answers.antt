@@ -1,0 +1,24 @@
+-- `section_check::answers_at` meets its contract.
+use mathlib.Core.Path.{ap, sym, ◌∙◌}
+use Rattle.section_check.specs.Check.{answers}
+use Rattle.section_check.proofs.Entries.{headless, header_stands, unparsed, answered_in}
+use Rattle.section_check.proofs.answers_at.Goals as goal
+
+pub returns-in_default : goal.returns-in_default
+returns-in_default c = headless c.args.s.now c.args.word c.args.at c.args.end c.args.p c.header_of.ensures c.in_default.is
+
+pub parse-requires : goal.parse-requires
+parse-requires c =
+    let h = header_stands c.args.s.now c.args.word c.args.at c.args.end c.args.p c.header_of.ensures c.in-At.is in
+    (c.requires.0, h.long, h.inside, c.requires.1, c.requires.2)
+
+pub returns-in_default-parse : goal.returns-in_default-parse
+returns-in_default-parse c = unparsed c.args.s.now c.args.word c.args.at c.args.end c.args.p c.header_of.ensures c.in-At.is c.parse.ensures c.in_default-parse.is
+
+pub returns-in-Answered : goal.returns-in-Answered
+unfolding answers
+returns-in-Answered c = ap answers (sym c.in-Answered.is) ∙ answered_in c.args.s.now c.args.word c.args.at c.args.end c.args.p c.header_of.ensures c.in-At.is c.parse.ensures c.in-Found.is c.rules_at.ensures
+
+pub returns-in-Refused : goal.returns-in-Refused
+unfolding answers
+returns-in-Refused c = ap answers (sym c.in-Refused.is) ∙ answered_in c.args.s.now c.args.word c.args.at c.args.end c.args.p c.header_of.ensures c.in-At.is c.parse.ensures c.in-Found.is c.rules_at.ensures

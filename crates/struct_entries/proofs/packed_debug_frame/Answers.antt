@@ -1,0 +1,38 @@
+-- `struct_entries::packed_debug_frame` meets its contract.
+use mathlib.Core.Path.{sym}
+use lib.Seq.{length-take-le}
+use borrow.Author.Rules.{rules}
+use Rattle.format.specs.Questions.{relaxed_debug_frame}
+use Rattle.struct_entries.specs.Entries.{needed}
+use Rattle.struct_entries.proofs.Parts.{handed}
+use Rattle.struct_entries.proofs.packed_debug_frame.Goals as goal
+
+pub overflow_mul-a : goal.overflow_mul-a
+unfolding needed
+overflow_mul-a c = search rules
+
+pub overflow_mul-b : goal.overflow_mul-b
+unfolding needed
+overflow_mul-b c = search rules
+
+pub overflow_add-b : goal.overflow_add-b
+unfolding needed
+overflow_add-b c = search rules
+
+pub slice_bounds-relaxed_debug_frame-end : goal.slice_bounds-relaxed_debug_frame-end
+unfolding needed
+slice_bounds-relaxed_debug_frame-end c = sym (length-take-le _ _ (search rules))
+
+pub offset_bounds-t-a : goal.offset_bounds-t-a
+unfolding needed
+offset_bounds-t-a c = search rules
+
+pub clear-requires : goal.clear-requires
+unfolding needed
+clear-requires c = search rules
+
+pub returns : goal.returns
+unfolding needed
+returns c =
+    let a = c.args in
+    (handed a.machine.now a.numbers.now a.functions a.rows a.landings.now a.pairs.now (relaxed_debug_frame a.format) _ c.written_of.ensures c.relaxed_debug_frame-outcome.ensures, c.clear.ensures)

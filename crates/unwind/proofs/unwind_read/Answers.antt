@@ -1,0 +1,16 @@
+-- `unwind::unwind_read` meets its contract.
+use mathlib.Core.Path.{◌∙◌}
+use Rattle.reader.proofs.Asked.{place_found, place_refused, located_read, located_shortest, refused_read}
+use Rattle.unwind.proofs.Marks.{both_marked, refused_marked}
+use Rattle.unwind.proofs.unwind_read.Goals as goal
+
+pub returns-in-Found : goal.returns-in-Found
+returns-in-Found c =
+    let x = place_found c.in-Found.is c.locate.ensures in
+    c.numbers_of.ensures
+    ∙ both_marked (c.rules_at-rules.ensures ∙ located_read _ _ _ _ _ _ _ x) (c.shortest_at-shortest.ensures ∙ located_shortest _ _ _ _ _ _ x)
+
+pub returns-in-No : goal.returns-in-No
+returns-in-No c =
+    c.numbers_of-in-No.ensures
+    ∙ refused_marked _ (refused_read _ _ _ _ _ _ _ (place_refused _ _ c.in-No.is c.locate.ensures))

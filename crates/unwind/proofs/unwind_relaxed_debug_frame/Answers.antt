@@ -1,0 +1,6 @@
+-- `unwind::unwind_relaxed_debug_frame` meets its contract.
+use Rattle.unwind.proofs.Delivering.{exports}
+use Rattle.unwind.proofs.unwind_relaxed_debug_frame.Goals as goal
+
+pub returns : goal.returns
+returns c = exports c.written_of.ensures c.relaxed_debug_frame.ensures

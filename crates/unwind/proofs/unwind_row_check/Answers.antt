@@ -1,0 +1,7 @@
+-- `unwind::unwind_row_check` meets its contract.
+use mathlib.Core.Path.{ap, ◌∙◌}
+use Rattle.format.specs.Answers.{bit}
+use Rattle.unwind.proofs.unwind_row_check.Goals as goal
+
+pub returns : goal.returns
+returns c = c.number.ensures ∙ ap bit c.row_check.ensures

@@ -1,0 +1,12 @@
+-- `walked::mark` meets its contract.
+use native.Mathlib.Omega.{arith}
+use borrow.Author.Rules.{rules}
+use borrow.Author.Tests.{ne_eqb}
+use Rattle.walked.proofs.Marking.{mark_set}
+use Rattle.walked.proofs.mark.Goals as goal
+
+pub returns-then-reg-ge128 : goal.returns-then-reg-ge128
+returns-then-reg-ge128 c = λ q b e. (e, ne_eqb q c.args.reg (λ d. omega arith))
+
+pub returns : goal.returns
+returns c = mark_set c.args.m.named c.args.reg (search rules)

@@ -1,0 +1,20 @@
+-- `walked::one` meets its contract.
+use mathlib.Core.Path.{sym, ◌∙◌}
+use Rattle.walk.specs.Walk.{left_by}
+use borrow.Author.Tests.{not-true}
+use Rattle.walked.proofs.Rules.{answered, never, by_rule}
+use Rattle.walked.proofs.one.Goals as goal
+
+pub returns-then-not-named : goal.returns-then-not-named
+unfolding left_by
+returns-then-not-named c = rw (c.requires.4 (not-true _ c.if-not-named.true)) c.kept.ensures
+
+pub returns-in-Answered : goal.returns-in-Answered
+returns-in-Answered c =
+    let z = c.args in
+    let a = answered z.section.now z.l z.reg z.p (sym c.rules_at.ensures ∙ c.in-Answered.is) in
+    c.left_by.ensures ∙ by_rule _ _ _ _ _ a.1
+
+pub returns-in-Refused : goal.returns-in-Refused
+returns-in-Refused c =
+    absurd (never c.args.section.now c.args.l c.args.reg c.args.p (sym c.rules_at.ensures ∙ c.in-Refused.is) c.requires.3)

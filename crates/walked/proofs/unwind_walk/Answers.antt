@@ -1,0 +1,17 @@
+-- `walked::unwind_walk` meets its contract.
+use mathlib.Core.Path.{sym, ◌∙◌}
+use Rattle.walk.specs.Recorded.{read_trailer}
+use Rattle.walked.proofs.Entering.{trailer_bad, trailer_is, trailer_inside, no_file, with_file, refuses, answers_as}
+use Rattle.walked.proofs.unwind_walk.Goals as goal
+
+pub returns-in_default : goal.returns-in_default
+returns-in_default c = let z = c.args in refuses (no_file _ _ z.file.now _ _ _ _ (trailer_bad (read_trailer z.file.now) (sym c.read_trailer.ensures ∙ c.in_default.is))) c.refusing.ensures
+
+pub recorded-r-requires : goal.recorded-r-requires
+recorded-r-requires c = let z = c.args in trailer_inside z.file.now (trailer_is (read_trailer z.file.now) (sym c.read_trailer.ensures ∙ c.in-Numbers.is))
+
+pub returns : goal.returns
+returns c =
+    let z = c.args in
+    let t = trailer_is (read_trailer z.file.now) (sym c.read_trailer.ensures ∙ c.in-Numbers.is) in
+    answers_as _ z.frames.now c.recorded-r.ensures.0 (with_file _ _ z.file.now _ _ _ _ t) c.stored.ensures

@@ -1,0 +1,29 @@
+-- `x64::put_infos` meets its contract.
+use Rattle.x64.proofs.Spans.{codes_yes, info_is}
+use Rattle.x64.proofs.Results.{describing, mark_room, info_room, described, all_marked, all_described}
+use Prim.Native.Nat.{◌-◌}
+use Rattle.x64.proofs.put_infos.Goals as goal
+
+pub loop-k-init : goal.loop-k-init
+loop-k-init c = describing _ _ c.requires.1 c.requires.2
+
+pub span_at-p-requires : goal.span_at-p-requires
+span_at-p-requires c = c.requires.0.listed.each_one _ c.loop-k-test.true
+
+pub number-requires : goal.number-requires
+number-requires c = mark_room c.loop-k.invariant c.loop-k-test.true
+
+pub describe-at-requires : goal.describe-at-requires
+describe-at-requires c = let t = c.loop-k-test.true in let h = c.span_at-p.ensures in let y = c.requires.0.agreed _ t in (h.readable, codes_yes h y, rw (info_is h y) (info_room c.loop-k.invariant t))
+
+pub loop-k-preserved : goal.loop-k-preserved
+loop-k-preserved c = let t = c.loop-k-test.true in let h = c.span_at-p.ensures in let y = c.requires.0.agreed _ t in described c.loop-k.invariant t c.number.ensures (rw (info_is h y) at c.describe-at.ensures)
+
+pub shape_of-markers : goal.shape_of-markers
+shape_of-markers c = c.loop-k.invariant.marks_left.kept
+
+pub shape_of-info : goal.shape_of-info
+shape_of-info c = c.loop-k.invariant.infos_left.kept
+
+pub returns : goal.returns
+returns c = (all_marked c.loop-k.invariant c.loop-k-test.false, all_described c.loop-k.invariant c.loop-k-test.false)

@@ -1,0 +1,27 @@
+-- `x64::total` meets its contract.
+use Rattle.x64.proofs.Spans.{codes_yes, info_is}
+use Rattle.x64.proofs.Results.{summing, summed, all_summed}
+use Rattle.x64.proofs.Infos.{info_few}
+use lib.ListN.{length}
+use native.Mathlib.Omega.{arith}
+use Prim.Native.Nat.{◌-◌}
+use mathlib.Core.Path.{ap, ◌∙◌}
+use Rattle.x64.proofs.total.Goals as goal
+
+pub loop-k-init : goal.loop-k-init
+loop-k-init c = summing _ _
+
+pub span_at-requires : goal.span_at-requires
+span_at-requires c = c.requires.listed.each_one _ c.loop-k-test.true
+
+pub info_size-sum-requires : goal.info_size-sum-requires
+info_size-sum-requires c = let y = c.requires.agreed _ c.loop-k-test.true in (c.span_at.ensures.readable, codes_yes c.span_at.ensures y)
+
+pub overflow_add-sum : goal.overflow_add-sum
+overflow_add-sum c = let g = c.loop-k.invariant in let y = c.requires.agreed _ c.loop-k-test.true in omega (arith, g.small, c.loop-k-test.true, c.info_size-sum.ensures, info_few _ _ (codes_yes c.span_at.ensures y), c.requires.listed.most)
+
+pub loop-k-preserved : goal.loop-k-preserved
+loop-k-preserved c = let g = c.loop-k.invariant in let y = c.requires.agreed _ c.loop-k-test.true in summed g c.loop-k-test.true (c.info_size-sum.ensures ∙ ap length (info_is c.span_at.ensures y)) (omega (arith, c.info_size-sum.ensures, info_few _ _ (codes_yes c.span_at.ensures y)))
+
+pub returns : goal.returns
+returns c = all_summed c.loop-k.invariant c.loop-k-test.false

@@ -1,0 +1,6 @@
+-- `x64_back::seh_and_read` meets its contract.
+use Rattle.x64_back.proofs.SehBack.{together}
+use Rattle.x64_back.proofs.seh_and_read.Goals as goal
+
+pub returns : goal.returns
+returns c = let a = c.args in let w = c.seh-outcome.ensures in (w, together a.functions.now a.codes.now a.markers.now a.bytes.now a.relocations.now a.info.now a.held.now a.k w c.marker_at-place.ensures c.unwind_read_x64-reading.ensures)
