@@ -17,7 +17,7 @@ returns-then-not-near c =
     let a = c.args in
     let b : before_at a.relocs.now k.i ≡ before_at a.relocs.now k.i = refl in
     let e = same_test (near (symbols_of a.addresses.now)) b c.reloc_at-r.ensures c.behind_at-behind.ensures in
-    ask_no a.relocs.now k.invariant c.loop-i-test.true (sym e ∙ sym c.near.ensures ∙ not-true _ c.if-not-near.true)
+    ask_no a.relocs.now k.invariant c.loop-i-test.true (sym e ∙ sym c.near.ensures ∙ c.if-not-near.true)
 
 pub loop-i-preserved : goal.loop-i-preserved
 unfolding near
@@ -26,7 +26,7 @@ loop-i-preserved c =
     let a = c.args in
     let b : before_at a.relocs.now k.i ≡ before_at a.relocs.now k.i = refl in
     let e = same_test (near (symbols_of a.addresses.now)) b c.reloc_at-r.ensures c.behind_at-behind.ensures in
-    ask_turn a.relocs.now k.invariant c.loop-i-test.true (sym e ∙ sym c.near.ensures ∙ not-false _ c.if-not-near.false)
+    ask_turn a.relocs.now k.invariant c.loop-i-test.true (sym e ∙ sym c.near.ensures ∙ c.if-not-near.false)
 
 pub returns : goal.returns
 returns c = ask_ended c.args.relocs.now c.loop-i.invariant c.loop-i-test.false

@@ -15,7 +15,7 @@ returns-then-not-sound c =
     let a = c.args in
     let e =
     same_test (sound (layout_of a.addresses.now a.section a.image) a.size) c.before_at-before.ensures c.reloc_at-r.ensures c.behind_at-behind.ensures in
-    ask_no a.relocs.now k.invariant c.loop-i-test.true (sym e ∙ sym c.sound.ensures ∙ not-true _ c.if-not-sound.true)
+    ask_no a.relocs.now k.invariant c.loop-i-test.true (sym e ∙ sym c.sound.ensures ∙ c.if-not-sound.true)
 
 pub loop-i-preserved : goal.loop-i-preserved
 loop-i-preserved c =
@@ -23,7 +23,7 @@ loop-i-preserved c =
     let a = c.args in
     let e =
     same_test (sound (layout_of a.addresses.now a.section a.image) a.size) c.before_at-before.ensures c.reloc_at-r.ensures c.behind_at-behind.ensures in
-    ask_turn a.relocs.now k.invariant c.loop-i-test.true (sym e ∙ sym c.sound.ensures ∙ not-false _ c.if-not-sound.false)
+    ask_turn a.relocs.now k.invariant c.loop-i-test.true (sym e ∙ sym c.sound.ensures ∙ c.if-not-sound.false)
 
 pub returns : goal.returns
 returns c = ask_ended c.args.relocs.now c.loop-i.invariant c.loop-i-test.false

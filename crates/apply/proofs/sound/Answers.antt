@@ -34,7 +34,7 @@ returns-then-not-inside c =
 
 pub value_ok-requires : goal.value_ok-requires
 value_ok-requires c =
-    subst T (sym (not-false _ c.if-not-size_ok.false) ∙ c.size_ok.ensures) tt
+    subst T (sym c.if-not-size_ok.false ∙ c.size_ok.ensures) tt
 
 pub returns : goal.returns
 returns c =

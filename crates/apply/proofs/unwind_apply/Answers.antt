@@ -36,7 +36,7 @@ store_all-requires c =
     let p = ap (take (length a.bytes.now)) c.copy_in.ensures ∙ front_is a.out.now a.bytes.now c.if-out-n.false in
     let l = layout_of a.addresses.now a.section a.image in
     subst (λ (x : List ℕ). T (everywhere (sound l (length x)) none (relocations_of a.relocations.now))) (sym p)
-    (subst T (sym (not-false _ c.if-not-all_sound.false) ∙ c.all_sound.ensures) tt)
+    (subst T (sym c.if-not-all_sound.false ∙ c.all_sound.ensures) tt)
 
 pub returns : goal.returns
 returns c =

@@ -10,12 +10,12 @@ pub returns-then-not-measured : goal.returns-then-not-measured
 unfolding value_ok
 returns-then-not-measured c =
     let a = c.args in
-    let e : measured a.k ≡ false = sym c.measured.ensures ∙ not-true _ c.if-not-measured.true in
+    let e : measured a.k ≡ false = sym c.measured.ensures ∙ c.if-not-measured.true in
     simp e
 
 pub returns : goal.returns
 unfolding value_ok
 returns c =
     let a = c.args in
-    let e : measured a.k ≡ true = sym c.measured.ensures ∙ not-false _ c.if-not-measured.false in
+    let e : measured a.k ≡ true = sym c.measured.ensures ∙ c.if-not-measured.false in
     simp e (c.is_number.ensures ∙ ap is_number c.value.ensures ∙ is_some_lem _)

@@ -9,8 +9,8 @@ pub returns-then-before-ne0 : goal.returns-then-before-ne0
 returns-then-before-ne0 c = kept_found _ _ _ c.if-before-ne0.true
 
 pub returns-then-not-covers : goal.returns-then-not-covers
-returns-then-not-covers c = kept_uncovered _ _ _ (sym c.covers.ensures ∙ not-true _ c.if-not-covers.true)
+returns-then-not-covers c = kept_uncovered _ _ _ (sym c.covers.ensures ∙ c.if-not-covers.true)
 
 pub returns : goal.returns
 unfolding site_numbers site_of
-returns c = c.found_at.ensures ∙ sym (kept_this _ _ _ c.if-before-ne0.false (sym c.covers.ensures ∙ not-false _ c.if-not-covers.false))
+returns c = c.found_at.ensures ∙ sym (kept_this _ _ _ c.if-before-ne0.false (sym c.covers.ensures ∙ c.if-not-covers.false))

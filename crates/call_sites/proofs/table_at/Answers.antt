@@ -13,19 +13,19 @@ pub returns-then-size-p : goal.returns-then-size-p
 returns-then-size-p c = let a = c.args in no_head a.sites.now a.place (omega arith)
 
 pub returns-then-not-head_ok : goal.returns-then-not-head_ok
-returns-then-not-head_ok c = let a = c.args in other_head a.sites.now a.place (omega arith) c.head_ok.ensures (not-true _ c.if-not-head_ok.true)
+returns-then-not-head_ok c = let a = c.args in other_head a.sites.now a.place (omega arith) c.head_ok.ensures c.if-not-head_ok.true
 
 pub returns-in_default : goal.returns-in_default
-returns-in_default c = let a = c.args in no_size a.sites.now a.place (omega arith) c.head_ok.ensures (not-false _ c.if-not-head_ok.false) (sym c.read_uleb.ensures ∙ c.in_default.is)
+returns-in_default c = let a = c.args in no_size a.sites.now a.place (omega arith) c.head_ok.ensures c.if-not-head_ok.false (sym c.read_uleb.ensures ∙ c.in_default.is)
 
 pub overflow_sub-size-2 : goal.overflow_sub-size-2
 overflow_sub-size-2 c = omega (arith, (uleb_ahead _ _ (sym c.read_uleb.ensures ∙ c.in-Value.is)).1)
 
 pub returns-then-size-at : goal.returns-then-size-at
-returns-then-size-at c = let a = c.args in past_end a.sites.now a.place (omega arith) c.head_ok.ensures (not-false _ c.if-not-head_ok.false) (sym c.read_uleb.ensures ∙ c.in-Value.is) c.if-size-at.true
+returns-then-size-at c = let a = c.args in past_end a.sites.now a.place (omega arith) c.head_ok.ensures c.if-not-head_ok.false (sym c.read_uleb.ensures ∙ c.in-Value.is) c.if-size-at.true
 
 pub overflow_add-result : goal.overflow_add-result
 overflow_add-result c = omega (arith, (uleb_ahead _ _ (sym c.read_uleb.ensures ∙ c.in-Value.is)).1)
 
 pub returns : goal.returns
-returns c = let a = c.args in table_there a.sites.now a.place (omega arith) c.head_ok.ensures (not-false _ c.if-not-head_ok.false) (sym c.read_uleb.ensures ∙ c.in-Value.is) c.if-size-at.false
+returns c = let a = c.args in table_there a.sites.now a.place (omega arith) c.head_ok.ensures c.if-not-head_ok.false (sym c.read_uleb.ensures ∙ c.in-Value.is) c.if-size-at.false

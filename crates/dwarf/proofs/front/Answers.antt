@@ -4,13 +4,13 @@ use borrow.Author.Tests.{not-true, not-false}
 use Rattle.dwarf.proofs.front.Goals as goal
 
 pub returns-then-not-own : goal.returns-then-not-own
-returns-then-not-own c = without_own c.requires (not-true _ c.if-not-own.true)
+returns-then-not-own c = without_own c.requires c.if-not-own.true
 
 pub header-at-requires : goal.header-at-requires
-header-at-requires c = header_room c.requires (not-false _ c.if-not-own.false)
+header-at-requires c = header_room c.requires c.if-not-own.false
 
 pub header_relocs-i-requires : goal.header_relocs-i-requires
-header_relocs-i-requires c = relocs_room c.requires (not-false _ c.if-not-own.false)
+header_relocs-i-requires c = relocs_room c.requires c.if-not-own.false
 
 pub returns : goal.returns
-returns c = with_own c.requires (not-false _ c.if-not-own.false) c.header-at.ensures c.header_relocs-i.ensures
+returns c = with_own c.requires c.if-not-own.false c.header-at.ensures c.header_relocs-i.ensures

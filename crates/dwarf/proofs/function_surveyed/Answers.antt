@@ -32,4 +32,4 @@ surveyed_rows-requires c =
 pub returns : goal.returns
 returns c =
     rows_say (inputs c.args.s c.args.m c.args.fs.now c.args.rows.now c.args.landings.now c.args.pairs.now) c.args.k (accepted c.outline_ok.ensures c.if-not-outline_ok.false)
-    (rw (c.taken-e.ensures, c.extent_at.ensures) at (c.fields_ok.ensures (not-false _ c.if-not-fields_ok.false))) c.surveyed_rows.result (rw (c.taken-e.ensures, c.extent_at.ensures) at c.surveyed_rows.ensures)
+    (rw (c.taken-e.ensures, c.extent_at.ensures) at (c.fields_ok.ensures c.if-not-fields_ok.false)) c.surveyed_rows.result (rw (c.taken-e.ensures, c.extent_at.ensures) at c.surveyed_rows.ensures)

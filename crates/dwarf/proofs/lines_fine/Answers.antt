@@ -28,7 +28,7 @@ pub returns-then-not-row_surely_whole : goal.returns-then-not-row_surely_whole
 returns-then-not-row_surely_whole c = λ p. never p
 
 pub loop-i-preserved : goal.loop-i-preserved
-loop-i-preserved c = turn c.loop-i.invariant c.loop-i-test.true c.offset_at-to.ensures c.if-to-from.false c.if-to-from-ge-STEPS.false (c.row_surely_whole.ensures (not-false _ c.if-not-row_surely_whole.false))
+loop-i-preserved c = turn c.loop-i.invariant c.loop-i-test.true c.offset_at-to.ensures c.if-to-from.false c.if-to-from-ge-STEPS.false (c.row_surely_whole.ensures c.if-not-row_surely_whole.false)
 
 pub returns : goal.returns
 returns c = λ p. ended c.loop-i.invariant c.loop-i-test.false

@@ -14,7 +14,7 @@ pub returns-then-reg-m : goal.returns-then-reg-m
 returns-then-reg-m c = c.refused.ensures ∙ early_other c.args.m c.args.reg c.args.w c.args.last c.if-reg-m.true
 
 pub returns-then-not-last : goal.returns-then-not-last
-returns-then-not-last c = c.refused-then-not-last.ensures ∙ early_more c.args.m c.args.reg c.args.w c.args.last (not-true _ c.if-not-last.true)
+returns-then-not-last c = c.refused-then-not-last.ensures ∙ early_more c.args.m c.args.reg c.args.w c.args.last c.if-not-last.true
 
 pub returns-then-not-same : goal.returns-then-not-same
 returns-then-not-same c =
@@ -27,4 +27,4 @@ returns-then-w-ne1 c = c.refused-then-w-ne1.ensures ∙ early_steps c.args.m c.a
 pub returns : goal.returns
 returns c =
     let e = rw (to_z_pos w64 {n = 2 * c.args.m.word} (omega arith), passed c.args.w.below c.struct_told-1.given.1.0.1) at (accepted c.same.ensures c.if-not-same.false) in
-    c.framed.ensures ∙ early_yes c.args.m c.args.reg c.args.w c.args.last c.if-reg-m.false (not-false _ c.if-not-last.false) e c.if-w-ne1.false
+    c.framed.ensures ∙ early_yes c.args.m c.args.reg c.args.w c.args.last c.if-reg-m.false c.if-not-last.false e c.if-w-ne1.false

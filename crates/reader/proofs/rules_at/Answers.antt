@@ -6,14 +6,14 @@ use Rattle.reader.proofs.Asked.{fits, not_in_section, past_the_end, within}
 use Rattle.reader.proofs.rules_at.Goals as goal
 
 pub returns-then-not-in_section : goal.returns-then-not-in_section
-returns-then-not-in_section c = not_in_section _ _ _ _ (sym c.in_section.ensures ∙ not-true _ c.if-not-in_section.true)
+returns-then-not-in_section c = not_in_section _ _ _ _ (sym c.in_section.ensures ∙ c.if-not-in_section.true)
 
 pub returns-then-l-p : goal.returns-then-l-p
-returns-then-l-p c = past_the_end _ _ _ _ (sym c.in_section.ensures ∙ not-false _ c.if-not-in_section.false) c.if-l-p.true
+returns-then-l-p c = past_the_end _ _ _ _ (sym c.in_section.ensures ∙ c.if-not-in_section.false) c.if-l-p.true
 
 pub run-requires : goal.run-requires
-run-requires c = fits _ _ (sym c.in_section.ensures ∙ not-false _ c.if-not-in_section.false)
+run-requires c = fits _ _ (sym c.in_section.ensures ∙ c.if-not-in_section.false)
 
 pub returns : goal.returns
 returns c =
-    c.run.ensures ∙ within _ _ _ _ (sym c.in_section.ensures ∙ not-false _ c.if-not-in_section.false) (omega (arith, c.if-l-p.false))
+    c.run.ensures ∙ within _ _ _ _ (sym c.in_section.ensures ∙ c.if-not-in_section.false) (omega (arith, c.if-l-p.false))

@@ -5,10 +5,10 @@ use Rattle.std.proofs.Common.{sym, ◌∙◌}
 use Rattle.reads.proofs.unwind_locate.Goals as goal
 
 pub returns-then-not-asked : goal.returns-then-not-asked
-returns-then-not-asked c = c.refused.ensures ∙ locate_unasked _ _ _ _ _ (sym c.asked.ensures ∙ not-true _ c.if-not-asked.true)
+returns-then-not-asked c = c.refused.ensures ∙ locate_unasked _ _ _ _ _ (sym c.asked.ensures ∙ c.if-not-asked.true)
 
 pub locate_nth-requires : goal.locate_nth-requires
-locate_nth-requires c = asked_word _ _ (sym c.asked.ensures ∙ not-false _ c.if-not-asked.false)
+locate_nth-requires c = asked_word _ _ (sym c.asked.ensures ∙ c.if-not-asked.false)
 
 pub returns : goal.returns
-returns c = c.locate_nth.ensures ∙ locate_asked _ _ _ _ _ (sym c.asked.ensures ∙ not-false _ c.if-not-asked.false)
+returns c = c.locate_nth.ensures ∙ locate_asked _ _ _ _ _ (sym c.asked.ensures ∙ c.if-not-asked.false)

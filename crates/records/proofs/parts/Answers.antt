@@ -18,7 +18,7 @@ pub returns-then-not-parts_below : goal.returns-then-not-parts_below
 returns-then-not-parts_below c = λ p. never p
 
 pub returns-then-i-at-2 : goal.returns-then-i-at-2
-returns-then-i-at-2 c = λ p. parted (c.requires.1 (not-false _ c.if-not-rising.false)) c.if-i-at.false c.if-at-n.false (c.parts_below.ensures (not-false _ c.if-not-parts_below.false)) (λ l. absurd (omega arith))
+returns-then-i-at-2 c = λ p. parted (c.requires.1 c.if-not-rising.false) c.if-i-at.false c.if-at-n.false (c.parts_below.ensures c.if-not-parts_below.false) (λ l. absurd (omega arith))
 
 pub returns : goal.returns
-returns c = λ p. parted (c.requires.1 (not-false _ c.if-not-rising.false)) c.if-i-at.false c.if-at-n.false (c.parts_below.ensures (not-false _ c.if-not-parts_below.false)) (λ l. from_is c.place_of.ensures p)
+returns c = λ p. parted (c.requires.1 c.if-not-rising.false) c.if-i-at.false c.if-at-n.false (c.parts_below.ensures c.if-not-parts_below.false) (λ l. from_is c.place_of.ensures p)

@@ -39,8 +39,8 @@ overflow_add-result-in-InRegister c = omega (arith, uleb_ten c.in-InRegister.reg
 pub overflow_add-result-in-InRegister-2 : goal.overflow_add-result-in-InRegister-2
 overflow_add-result-in-InRegister-2 c =
     let k = c.in-InRegister.known_told-in-InRegister-1-own.given in
-    let r = c.r-in-InRegister-1.given.0 in
-    omega (arith, uleb_ten r.0 (omega (arith, k)), uleb_ten r.1.0 (omega (arith, k)))
+    let r = c.in-InRegister in
+    omega (arith, uleb_ten r.reg (omega (arith, k)), uleb_ten r.other (omega (arith, k)))
 
 pub returns-in-DefCfa : goal.returns-in-DefCfa
 unfolding row_bytes

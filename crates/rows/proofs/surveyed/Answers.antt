@@ -12,15 +12,15 @@ returns-then-not-row_ok c = λ p. absurd (omega arith)
 
 pub row_surely_whole-requires : goal.row_surely_whole-requires
 row_surely_whole-requires c =
-    (c.requires.0, c.requires.1, is_yes_lem (sym c.row_ok.ensures ∙ not-false _ c.if-not-row_ok.false))
+    (c.requires.0, c.requires.1, is_yes_lem (sym c.row_ok.ensures ∙ c.if-not-row_ok.false))
 
 pub returns-then-not-row_surely_whole : goal.returns-then-not-row_surely_whole
 returns-then-not-row_surely_whole c = λ p. absurd (omega arith)
 
 pub row_in_size-requires : goal.row_in_size-requires
 row_in_size-requires c =
-    (word_least c.args.word c.requires.0, (word_small c.args.word c.requires.0).1, c.requires.1, is_yes_lem (sym c.row_ok.ensures ∙ not-false _ c.if-not-row_ok.false))
+    (word_least c.args.word c.requires.0, (word_small c.args.word c.requires.0).1, c.requires.1, is_yes_lem (sym c.row_ok.ensures ∙ c.if-not-row_ok.false))
 
 pub returns : goal.returns
 returns c = λ p.
-    (is_yes_lem (sym c.row_ok.ensures ∙ not-false _ c.if-not-row_ok.false), c.row_surely_whole.ensures (not-false _ c.if-not-row_surely_whole.false), c.row_in_size.ensures)
+    (is_yes_lem (sym c.row_ok.ensures ∙ c.if-not-row_ok.false), c.row_surely_whole.ensures c.if-not-row_surely_whole.false, c.row_in_size.ensures)

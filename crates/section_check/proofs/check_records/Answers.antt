@@ -30,7 +30,7 @@ passes-requires c = (c.requires.0, c.past-next.ensures.long, c.past-next.ensures
 
 pub returns-then-not-passes : goal.returns-then-not-passes
 unfolding saying
-returns-then-not-passes c = fails_here c.entries.invariant c.past-next.ensures (sym c.is_header.ensures ∙ c.if-is_header.false) c.requires.0 (sym c.passes.ensures ∙ not-true _ c.if-not-passes.true)
+returns-then-not-passes c = fails_here c.entries.invariant c.past-next.ensures (sym c.is_header.ensures ∙ c.if-is_header.false) c.requires.0 (sym c.passes.ensures ∙ c.if-not-passes.true)
 
 pub overflow_add-k : goal.overflow_add-k
 overflow_add-k c = omega (arith, c.entries.invariant.few, c.past-next.ensures.long, c.past-next.ensures.inside)
@@ -39,7 +39,7 @@ pub entries-smaller : goal.entries-smaller
 entries-smaller c = omega (arith, c.past-next.ensures.long, c.past-next.ensures.inside)
 
 pub entries-preserved : goal.entries-preserved
-entries-preserved c = past_record c.entries.invariant c.past-next.ensures (sym c.is_header.ensures ∙ c.if-is_header.false) c.requires.0 _ c.mark.ensures (sym c.passes.ensures ∙ not-false _ c.if-not-passes.false)
+entries-preserved c = past_record c.entries.invariant c.past-next.ensures (sym c.is_header.ensures ∙ c.if-is_header.false) c.requires.0 _ c.mark.ensures (sym c.passes.ensures ∙ c.if-not-passes.false)
 
 pub returns : goal.returns
 unfolding saying

@@ -7,14 +7,14 @@ use Rattle.section_check.proofs.unwind_check_section.Goals as goal
 
 pub returns-then-not-is_word : goal.returns-then-not-is_word
 unfolding saying
-returns-then-not-is_word c = with_meaning _ _ (no_word _ _ (sym c.is_word.ensures ∙ not-true _ c.if-not-is_word.true))
+returns-then-not-is_word c = with_meaning _ _ (no_word _ _ (sym c.is_word.ensures ∙ c.if-not-is_word.true))
 
 pub returns-then-not-tiles : goal.returns-then-not-tiles
 unfolding saying
-returns-then-not-tiles c = with_meaning _ _ (untiled _ _ (sym c.is_word.ensures ∙ not-false _ c.if-not-is_word.false) (sym c.tiles.ensures ∙ not-true _ c.if-not-tiles.true))
+returns-then-not-tiles c = with_meaning _ _ (untiled _ _ (sym c.is_word.ensures ∙ c.if-not-is_word.false) (sym c.tiles.ensures ∙ c.if-not-tiles.true))
 
 pub check_records-requires : goal.check_records-requires
-check_records-requires c = (rw (sym c.is_word.ensures ∙ not-false _ c.if-not-is_word.false) tt, rw (sym c.tiles.ensures ∙ not-false _ c.if-not-tiles.false) tt)
+check_records-requires c = (rw (sym c.is_word.ensures ∙ c.if-not-is_word.false) tt, rw (sym c.tiles.ensures ∙ c.if-not-tiles.false) tt)
 
 pub returns : goal.returns
-returns c = with_meaning _ _ (c.check_records.ensures ∙ gone_over _ _ (sym c.is_word.ensures ∙ not-false _ c.if-not-is_word.false) (rw (sym c.tiles.ensures ∙ not-false _ c.if-not-tiles.false) tt))
+returns c = with_meaning _ _ (c.check_records.ensures ∙ gone_over _ _ (sym c.is_word.ensures ∙ c.if-not-is_word.false) (rw (sym c.tiles.ensures ∙ c.if-not-tiles.false) tt))

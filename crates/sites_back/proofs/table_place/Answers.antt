@@ -11,10 +11,10 @@ use Rattle.sites_back.proofs.Places.{untiled, no_record, no_pointer, pointer_the
 use Rattle.sites_back.proofs.table_place.Goals as goal
 
 pub returns-then-not-tiles : goal.returns-then-not-tiles
-returns-then-not-tiles c = let a = c.args in untiled a.section.now _ a.k (sym c.tiles.ensures ∙ not-true _ c.if-not-tiles.true)
+returns-then-not-tiles c = let a = c.args in untiled a.section.now _ a.k (sym c.tiles.ensures ∙ c.if-not-tiles.true)
 
 pub record_span-requires : goal.record_span-requires
-record_span-requires c = rw (sym c.tiles.ensures ∙ not-false _ c.if-not-tiles.false) tt
+record_span-requires c = rw (sym c.tiles.ensures ∙ c.if-not-tiles.false) tt
 
 pub returns-in_default : goal.returns-in_default
 returns-in_default c = let a = c.args in no_record a.section.now _ a.k (subst (λ (x : Span). Spans c.args.section.now x (get_elem? (records false (listed (entries c.args.section.now))) c.args.k)) c.in_default.is c.record_span.ensures)

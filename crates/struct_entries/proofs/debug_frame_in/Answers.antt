@@ -7,11 +7,11 @@ pub returns-then-not-ok : goal.returns-then-not-ok
 returns-then-not-ok c = refuses _ _ _ _ _ c.args.ok c.if-not-ok.true c.debug_frame_without_numbers.ensures c.written_of.ensures
 
 pub packed_debug_frame-requires : goal.packed_debug_frame-requires
-packed_debug_frame-requires c = c.requires (not-false c.args.ok c.if-not-ok.false)
+packed_debug_frame-requires c = c.requires c.if-not-ok.false
 
 pub returns : goal.returns
 returns c =
     let a = c.args in
     accepts _ _ _ _ _ a.ok c.if-not-ok.false
-    (debug_frame_ready a.format a.machine.now a.numbers.now a.functions a.rows a.landings.now a.pairs.now _ (c.requires (not-false a.ok c.if-not-ok.false)))
+    (debug_frame_ready a.format a.machine.now a.numbers.now a.functions a.rows a.landings.now a.pairs.now _ (c.requires c.if-not-ok.false))
     c.packed_debug_frame.ensures

@@ -20,7 +20,7 @@ pub returns-in_default-read_le-2 : goal.returns-in_default-read_le-2
 returns-in_default-read_le-2 c = no_size _ c.if-n-lt16.false c.if-n-gt65536.false (sym c.read_le.ensures ∙ c.in-Value.is) (sym c.read_le-2.ensures ∙ c.in-Value-read_le.is) (sym c.read_le-3.ensures ∙ c.in_default-read_le-2.is)
 
 pub returns-then-not-matches : goal.returns-then-not-matches
-returns-then-not-matches c = no_match _ c.if-n-lt16.false c.if-n-gt65536.false (sym c.read_le.ensures ∙ c.in-Value.is) (sym c.read_le-2.ensures ∙ c.in-Value-read_le.is) (sym c.read_le-3.ensures ∙ c.in-Value-read_le-2.is) (sym c.matches.ensures ∙ not-true _ c.if-not-matches.true)
+returns-then-not-matches c = no_match _ c.if-n-lt16.false c.if-n-gt65536.false (sym c.read_le.ensures ∙ c.in-Value.is) (sym c.read_le-2.ensures ∙ c.in-Value-read_le.is) (sym c.read_le-3.ensures ∙ c.in-Value-read_le-2.is) (sym c.matches.ensures ∙ c.if-not-matches.true)
 
 pub returns : goal.returns
-returns c = numbers _ c.if-n-lt16.false c.if-n-gt65536.false (sym c.read_le.ensures ∙ c.in-Value.is) (sym c.read_le-2.ensures ∙ c.in-Value-read_le.is) (sym c.read_le-3.ensures ∙ c.in-Value-read_le-2.is) (sym c.matches.ensures ∙ not-false _ c.if-not-matches.false)
+returns c = numbers _ c.if-n-lt16.false c.if-n-gt65536.false (sym c.read_le.ensures ∙ c.in-Value.is) (sym c.read_le-2.ensures ∙ c.in-Value-read_le.is) (sym c.read_le-3.ensures ∙ c.in-Value-read_le-2.is) (sym c.matches.ensures ∙ c.if-not-matches.false)

@@ -7,7 +7,7 @@ use Rattle.walked.proofs.one.Goals as goal
 
 pub returns-then-not-named : goal.returns-then-not-named
 unfolding left_by
-returns-then-not-named c = rw (c.requires.4 (not-true _ c.if-not-named.true)) c.kept.ensures
+returns-then-not-named c = rw (c.requires.4 c.if-not-named.true) c.kept.ensures
 
 pub returns-in-Answered : goal.returns-in-Answered
 returns-in-Answered c =

@@ -10,24 +10,24 @@ use Rattle.walked.proofs.Entering.{no_machine, other_word, right_word, frames_of
 use Rattle.walked.proofs.recorded.Goals as goal
 
 pub returns-then-not-machine_ok : goal.returns-then-not-machine_ok
-returns-then-not-machine_ok c = (c.refused.ensures.0 ∙ no_machine c.args.machine.now _ (sym c.machine_ok.ensures ∙ not-true _ c.if-not-machine_ok.true), omega (arith, c.refused.ensures.1))
+returns-then-not-machine_ok c = (c.refused.ensures.0 ∙ no_machine c.args.machine.now _ (sym c.machine_ok.ensures ∙ c.if-not-machine_ok.true), omega (arith, c.refused.ensures.1))
 
 pub machine_of-m-requires : goal.machine_of-m-requires
-machine_of-m-requires c = rw (sym c.machine_ok.ensures ∙ not-false _ c.if-not-machine_ok.false) tt
+machine_of-m-requires c = rw (sym c.machine_ok.ensures ∙ c.if-not-machine_ok.false) tt
 
 pub returns-then-m-ne8 : goal.returns-then-m-ne8
-returns-then-m-ne8 c = (c.refused-then-m-ne8.ensures.0 ∙ other_word c.args.machine.now _ (sym c.machine_ok.ensures ∙ not-false _ c.if-not-machine_ok.false) c.machine_of-m.result c.machine_of-m.ensures c.if-m-ne8.true, omega (arith, c.refused-then-m-ne8.ensures.1))
+returns-then-m-ne8 c = (c.refused-then-m-ne8.ensures.0 ∙ other_word c.args.machine.now _ (sym c.machine_ok.ensures ∙ c.if-not-machine_ok.false) c.machine_of-m.result c.machine_of-m.ensures c.if-m-ne8.true, omega (arith, c.refused-then-m-ne8.ensures.1))
 
 pub slice_bounds-frames-end : goal.slice_bounds-frames-end
 slice_bounds-frames-end c = sym (length-take-le _ _ c.requires.0)
 
 pub frames-requires : goal.frames-requires
 frames-requires c =
-    let t : T (machine_ok c.args.machine.now) = rw (sym c.machine_ok.ensures ∙ not-false _ c.if-not-machine_ok.false) tt in
+    let t : T (machine_ok c.args.machine.now) = rw (sym c.machine_ok.ensures ∙ c.if-not-machine_ok.false) tt in
     rw c.machine_of-m.ensures (machine_fits _ t).ret_small
 
 pub returns : goal.returns
 returns c =
-    let ok = sym c.machine_ok.ensures ∙ not-false _ c.if-not-machine_ok.false in
+    let ok = sym c.machine_ok.ensures ∙ c.if-not-machine_ok.false in
     let m = c.machine_of-m in
     (c.frames.ensures.0 ∙ frames_of_lem _ _ _ _ _ m.ensures c.registers-start.ensures ∙ right_word _ _ ok m.result m.ensures c.if-m-ne8.false, c.frames.ensures.1)

@@ -30,18 +30,18 @@ returns-in_default-read_sleb c = rw (dataless c.args.body.now c.args.at c.args.d
 
 pub returns-then-not-factor_ok : goal.returns-then-not-factor_ok
 unfolding header_numbers
-returns-then-not-factor_ok c = rw (data_other c.args.body.now c.args.at c.args.debug (letters_of c.args.p) c.args.word (sym c.read_uleb.ensures ∙ c.in-Value.is) c.if-code-ne1.false (sym c.read_sleb.ensures ∙ c.in-Value-read_sleb.is) (sym (same (goal.at.returns-then-not-factor_ok c).After-factor_ok) ∙ not-true _ c.if-not-factor_ok.true)) c.refused-then-not-factor_ok.ensures
+returns-then-not-factor_ok c = rw (data_other c.args.body.now c.args.at c.args.debug (letters_of c.args.p) c.args.word (sym c.read_uleb.ensures ∙ c.in-Value.is) c.if-code-ne1.false (sym c.read_sleb.ensures ∙ c.in-Value-read_sleb.is) (sym (same (goal.at.returns-then-not-factor_ok c).After-factor_ok) ∙ c.if-not-factor_ok.true)) c.refused-then-not-factor_ok.ensures
 
 pub returns-in_default-read_uleb : goal.returns-in_default-read_uleb
 unfolding header_numbers
-returns-in_default-read_uleb c = rw (retless c.args.body.now c.args.at c.args.debug (letters_of c.args.p) c.args.word (sym c.read_uleb.ensures ∙ c.in-Value.is) c.if-code-ne1.false (sym c.read_sleb.ensures ∙ c.in-Value-read_sleb.is) (sym (same (goal.at.returns-in_default-read_uleb c).After-factor_ok) ∙ not-false _ c.if-not-factor_ok.false) (sym c.read_uleb-2.ensures ∙ c.in_default-read_uleb.is)) c.refused-in_default-read_uleb.ensures
+returns-in_default-read_uleb c = rw (retless c.args.body.now c.args.at c.args.debug (letters_of c.args.p) c.args.word (sym c.read_uleb.ensures ∙ c.in-Value.is) c.if-code-ne1.false (sym c.read_sleb.ensures ∙ c.in-Value-read_sleb.is) (sym (same (goal.at.returns-in_default-read_uleb c).After-factor_ok) ∙ c.if-not-factor_ok.false) (sym c.read_uleb-2.ensures ∙ c.in_default-read_uleb.is)) c.refused-in_default-read_uleb.ensures
 
 pub returns-then-reg-gt65535 : goal.returns-then-reg-gt65535
 unfolding header_numbers
-returns-then-reg-gt65535 c = rw (ret_over c.args.body.now c.args.at c.args.debug (letters_of c.args.p) c.args.word (sym c.read_uleb.ensures ∙ c.in-Value.is) c.if-code-ne1.false (sym c.read_sleb.ensures ∙ c.in-Value-read_sleb.is) (sym (same (goal.at.returns-then-reg-gt65535 c).After-factor_ok) ∙ not-false _ c.if-not-factor_ok.false) (sym c.read_uleb-2.ensures ∙ c.in-Value-read_uleb.is) c.if-reg-gt65535.true) c.refused-then-reg-gt65535.ensures
+returns-then-reg-gt65535 c = rw (ret_over c.args.body.now c.args.at c.args.debug (letters_of c.args.p) c.args.word (sym c.read_uleb.ensures ∙ c.in-Value.is) c.if-code-ne1.false (sym c.read_sleb.ensures ∙ c.in-Value-read_sleb.is) (sym (same (goal.at.returns-then-reg-gt65535 c).After-factor_ok) ∙ c.if-not-factor_ok.false) (sym c.read_uleb-2.ensures ∙ c.in-Value-read_uleb.is) c.if-reg-gt65535.true) c.refused-then-reg-gt65535.ensures
 
 pub rest-requires : goal.rest-requires
 rest-requires c = (c.requires.0, (uleb_ahead c.args.body.now c.in-Value-read_sleb.b (sym c.read_uleb-2.ensures ∙ c.in-Value-read_uleb.is)).1, c.requires.1)
 
 pub returns : goal.returns
-returns c = rw (ret_there c.args.body.now c.args.at c.args.debug (letters_of c.args.p) c.args.word (sym c.read_uleb.ensures ∙ c.in-Value.is) c.if-code-ne1.false (sym c.read_sleb.ensures ∙ c.in-Value-read_sleb.is) (sym (same (goal.at.returns c).After-factor_ok) ∙ not-false _ c.if-not-factor_ok.false) (sym c.read_uleb-2.ensures ∙ c.in-Value-read_uleb.is) c.if-reg-gt65535.false) c.rest.ensures
+returns c = rw (ret_there c.args.body.now c.args.at c.args.debug (letters_of c.args.p) c.args.word (sym c.read_uleb.ensures ∙ c.in-Value.is) c.if-code-ne1.false (sym c.read_sleb.ensures ∙ c.in-Value-read_sleb.is) (sym (same (goal.at.returns c).After-factor_ok) ∙ c.if-not-factor_ok.false) (sym c.read_uleb-2.ensures ∙ c.in-Value-read_uleb.is) c.if-reg-gt65535.false) c.rest.ensures

@@ -24,13 +24,13 @@ pub returns-in_default-read_sleb : goal.returns-in_default-read_sleb
 returns-in_default-read_sleb c = factors_open c.args.s.now c.args.at c.args.debug c.args.word c.args.p (sym c.read_uleb.ensures ∙ c.in-Value.is) c.if-code-ne1.false (sym c.read_sleb.ensures ∙ c.in_default-read_sleb.is)
 
 pub returns-then-not-factor_ok : goal.returns-then-not-factor_ok
-returns-then-not-factor_ok c = factors_data c.args.s.now c.args.at c.args.debug c.args.word c.args.p (sym c.read_uleb.ensures ∙ c.in-Value.is) c.if-code-ne1.false (sym c.read_sleb.ensures ∙ c.in-Value-read_sleb.is) (sym (same (goal.at.returns-then-not-factor_ok c).After-factor_ok) ∙ not-true _ c.if-not-factor_ok.true)
+returns-then-not-factor_ok c = factors_data c.args.s.now c.args.at c.args.debug c.args.word c.args.p (sym c.read_uleb.ensures ∙ c.in-Value.is) c.if-code-ne1.false (sym c.read_sleb.ensures ∙ c.in-Value-read_sleb.is) (sym (same (goal.at.returns-then-not-factor_ok c).After-factor_ok) ∙ c.if-not-factor_ok.true)
 
 pub returns-in_default-read_uleb : goal.returns-in_default-read_uleb
-returns-in_default-read_uleb c = factors_unnamed c.args.s.now c.args.at c.args.debug c.args.word c.args.p (sym c.read_uleb.ensures ∙ c.in-Value.is) c.if-code-ne1.false (sym c.read_sleb.ensures ∙ c.in-Value-read_sleb.is) (sym (same (goal.at.returns-in_default-read_uleb c).After-factor_ok) ∙ not-false _ c.if-not-factor_ok.false) (sym c.read_uleb-2.ensures ∙ c.in_default-read_uleb.is)
+returns-in_default-read_uleb c = factors_unnamed c.args.s.now c.args.at c.args.debug c.args.word c.args.p (sym c.read_uleb.ensures ∙ c.in-Value.is) c.if-code-ne1.false (sym c.read_sleb.ensures ∙ c.in-Value-read_sleb.is) (sym (same (goal.at.returns-in_default-read_uleb c).After-factor_ok) ∙ c.if-not-factor_ok.false) (sym c.read_uleb-2.ensures ∙ c.in_default-read_uleb.is)
 
 pub returns-then-reg-gt65535 : goal.returns-then-reg-gt65535
-returns-then-reg-gt65535 c = factors_over c.args.s.now c.args.at c.args.debug c.args.word c.args.p (sym c.read_uleb.ensures ∙ c.in-Value.is) c.if-code-ne1.false (sym c.read_sleb.ensures ∙ c.in-Value-read_sleb.is) (sym (same (goal.at.returns-then-reg-gt65535 c).After-factor_ok) ∙ not-false _ c.if-not-factor_ok.false) (sym c.read_uleb-2.ensures ∙ c.in-Value-read_uleb.is) c.if-reg-gt65535.true
+returns-then-reg-gt65535 c = factors_over c.args.s.now c.args.at c.args.debug c.args.word c.args.p (sym c.read_uleb.ensures ∙ c.in-Value.is) c.if-code-ne1.false (sym c.read_sleb.ensures ∙ c.in-Value-read_sleb.is) (sym (same (goal.at.returns-then-reg-gt65535 c).After-factor_ok) ∙ c.if-not-factor_ok.false) (sym c.read_uleb-2.ensures ∙ c.in-Value-read_uleb.is) c.if-reg-gt65535.true
 
 pub header_tail-requires : goal.header_tail-requires
 header_tail-requires c = (c.requires, (uleb_ahead c.args.s.now c.in-Value-read_sleb.ret (sym c.read_uleb-2.ensures ∙ c.in-Value-read_uleb.is)).1)
@@ -38,7 +38,7 @@ header_tail-requires c = (c.requires, (uleb_ahead c.args.s.now c.in-Value-read_s
 pub returns : goal.returns
 returns c =
     rw (
-      factors_there c.args.s.now c.args.at c.args.debug c.args.word c.args.p (sym c.read_uleb.ensures ∙ c.in-Value.is) c.if-code-ne1.false (sym c.read_sleb.ensures ∙ c.in-Value-read_sleb.is) (sym (same (goal.at.returns c).After-factor_ok) ∙ not-false _ c.if-not-factor_ok.false) (sym c.read_uleb-2.ensures ∙ c.in-Value-read_uleb.is) c.if-reg-gt65535.false,
-      factors_mark c.args.s.now c.args.at c.args.debug c.args.word c.args.p (sym c.read_uleb.ensures ∙ c.in-Value.is) c.if-code-ne1.false (sym c.read_sleb.ensures ∙ c.in-Value-read_sleb.is) (sym (same (goal.at.returns c).After-factor_ok) ∙ not-false _ c.if-not-factor_ok.false) (sym c.read_uleb-2.ensures ∙ c.in-Value-read_uleb.is),
+      factors_there c.args.s.now c.args.at c.args.debug c.args.word c.args.p (sym c.read_uleb.ensures ∙ c.in-Value.is) c.if-code-ne1.false (sym c.read_sleb.ensures ∙ c.in-Value-read_sleb.is) (sym (same (goal.at.returns c).After-factor_ok) ∙ c.if-not-factor_ok.false) (sym c.read_uleb-2.ensures ∙ c.in-Value-read_uleb.is) c.if-reg-gt65535.false,
+      factors_mark c.args.s.now c.args.at c.args.debug c.args.word c.args.p (sym c.read_uleb.ensures ∙ c.in-Value.is) c.if-code-ne1.false (sym c.read_sleb.ensures ∙ c.in-Value-read_sleb.is) (sym (same (goal.at.returns c).After-factor_ok) ∙ c.if-not-factor_ok.false) (sym c.read_uleb-2.ensures ∙ c.in-Value-read_uleb.is),
     )
     c.header_tail.ensures

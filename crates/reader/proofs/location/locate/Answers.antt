@@ -6,27 +6,27 @@ use Rattle.reader.proofs.Whole.{locate_untiled, locate_missing, record_stands, l
 use Rattle.reader.proofs.location.locate.Goals as goal
 
 pub returns-then-not-tiles : goal.returns-then-not-tiles
-returns-then-not-tiles c = locate_untiled c.args.s.now (relocations_of c.args.relocs.now) c.args.debug c.args.word c.args.k (sym c.tiles.ensures ∙ not-true _ c.if-not-tiles.true)
+returns-then-not-tiles c = locate_untiled c.args.s.now (relocations_of c.args.relocs.now) c.args.debug c.args.word c.args.k (sym c.tiles.ensures ∙ c.if-not-tiles.true)
 
 pub record_span-requires : goal.record_span-requires
-record_span-requires c = rw (sym c.tiles.ensures ∙ not-false _ c.if-not-tiles.false) tt
+record_span-requires c = rw (sym c.tiles.ensures ∙ c.if-not-tiles.false) tt
 
 pub returns-in_default : goal.returns-in_default
-returns-in_default c = locate_missing c.args.s.now (relocations_of c.args.relocs.now) c.args.debug c.args.word c.args.k (sym c.tiles.ensures ∙ not-false _ c.if-not-tiles.false) c.record_span.ensures c.in_default.is
+returns-in_default c = locate_missing c.args.s.now (relocations_of c.args.relocs.now) c.args.debug c.args.word c.args.k (sym c.tiles.ensures ∙ c.if-not-tiles.false) c.record_span.ensures c.in_default.is
 
 pub header_of-requires : goal.header_of-requires
 header_of-requires c =
-    let p = record_stands c.args.s.now (relocations_of c.args.relocs.now) c.args.debug c.args.word c.args.k (sym c.tiles.ensures ∙ not-false _ c.if-not-tiles.false) c.record_span.ensures c.in-At.is in
-    (p.long, p.inside, rw (sym c.tiles.ensures ∙ not-false _ c.if-not-tiles.false) tt)
+    let p = record_stands c.args.s.now (relocations_of c.args.relocs.now) c.args.debug c.args.word c.args.k (sym c.tiles.ensures ∙ c.if-not-tiles.false) c.record_span.ensures c.in-At.is in
+    (p.long, p.inside, rw (sym c.tiles.ensures ∙ c.if-not-tiles.false) tt)
 
 pub returns-in_default-header_of : goal.returns-in_default-header_of
-returns-in_default-header_of c = locate_headless c.args.s.now (relocations_of c.args.relocs.now) c.args.debug c.args.word c.args.k (sym c.tiles.ensures ∙ not-false _ c.if-not-tiles.false) c.record_span.ensures c.in-At.is c.header_of.ensures c.in_default-header_of.is
+returns-in_default-header_of c = locate_headless c.args.s.now (relocations_of c.args.relocs.now) c.args.debug c.args.word c.args.k (sym c.tiles.ensures ∙ c.if-not-tiles.false) c.record_span.ensures c.in-At.is c.header_of.ensures c.in_default-header_of.is
 
 pub parse-requires : goal.parse-requires
 parse-requires c =
-    let p = record_stands c.args.s.now (relocations_of c.args.relocs.now) c.args.debug c.args.word c.args.k (sym c.tiles.ensures ∙ not-false _ c.if-not-tiles.false) c.record_span.ensures c.in-At.is in
-    let h = header_stands c.args.s.now (relocations_of c.args.relocs.now) c.args.debug c.args.word c.args.k (sym c.tiles.ensures ∙ not-false _ c.if-not-tiles.false) c.record_span.ensures c.in-At.is c.header_of.ensures c.in-At-header_of.is in
+    let p = record_stands c.args.s.now (relocations_of c.args.relocs.now) c.args.debug c.args.word c.args.k (sym c.tiles.ensures ∙ c.if-not-tiles.false) c.record_span.ensures c.in-At.is in
+    let h = header_stands c.args.s.now (relocations_of c.args.relocs.now) c.args.debug c.args.word c.args.k (sym c.tiles.ensures ∙ c.if-not-tiles.false) c.record_span.ensures c.in-At.is c.header_of.ensures c.in-At-header_of.is in
     (c.requires, h.long, h.inside, p.long, p.inside)
 
 pub returns : goal.returns
-returns c = rw (locate_rest c.args.s.now (relocations_of c.args.relocs.now) c.args.debug c.args.word c.args.k (sym c.tiles.ensures ∙ not-false _ c.if-not-tiles.false) c.record_span.ensures c.in-At.is c.header_of.ensures c.in-At-header_of.is) c.parse.ensures
+returns c = rw (locate_rest c.args.s.now (relocations_of c.args.relocs.now) c.args.debug c.args.word c.args.k (sym c.tiles.ensures ∙ c.if-not-tiles.false) c.record_span.ensures c.in-At.is c.header_of.ensures c.in-At-header_of.is) c.parse.ensures

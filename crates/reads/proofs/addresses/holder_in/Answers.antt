@@ -7,12 +7,12 @@ use Rattle.reads.proofs.addresses.holder_in.Goals as goal
 pub returns-then-not-tiles : goal.returns-then-not-tiles
 returns-then-not-tiles c =
     let a = c.args in
-    c.nowhere.ensures ∙ holder_untiled a.s.now a.debug a.word a.address a.pc (sym c.tiles.ensures ∙ not-true _ c.if-not-tiles.true)
+    c.nowhere.ensures ∙ holder_untiled a.s.now a.debug a.word a.address a.pc (sym c.tiles.ensures ∙ c.if-not-tiles.true)
 
 pub entries-init : goal.entries-init
 entries-init c =
     let a = c.args in
-    holding a.s.now a.debug (holding_pc a.s.now a.debug a.word a.address a.pc) (rw (sym c.tiles.ensures ∙ not-false _ c.if-not-tiles.false) tt)
+    holding a.s.now a.debug (holding_pc a.s.now a.debug a.word a.address a.pc) (rw (sym c.tiles.ensures ∙ c.if-not-tiles.false) tt)
 
 pub past-next-requires : goal.past-next-requires
 past-next-requires c = (c.entries-test.true, c.entries.invariant.pass.tiles)
@@ -34,7 +34,7 @@ record_holds-requires c = (c.requires, c.past-next.ensures.long, c.past-next.ens
 pub returns-then-record_holds : goal.returns-then-record_holds
 returns-then-record_holds c =
     let a = c.args in
-    holder_there a.s.now a.debug a.word a.address a.pc (sym c.tiles.ensures ∙ not-false _ c.if-not-tiles.false)
+    holder_there a.s.now a.debug a.word a.address a.pc (sym c.tiles.ensures ∙ c.if-not-tiles.false)
     (here a.s.now a.debug (holding_pc a.s.now a.debug a.word a.address a.pc) c.entries.invariant c.past-next.ensures (sym c.is_header.ensures ∙ c.if-is_header.false) (sym c.record_holds.ensures ∙ c.if-record_holds.true))
 
 pub entries-smaller : goal.entries-smaller
@@ -49,5 +49,5 @@ pub returns : goal.returns
 returns c =
     let a = c.args in
     c.nowhere-2.ensures
-    ∙ holder_none a.s.now a.debug a.word a.address a.pc (sym c.tiles.ensures ∙ not-false _ c.if-not-tiles.false)
+    ∙ holder_none a.s.now a.debug a.word a.address a.pc (sym c.tiles.ensures ∙ c.if-not-tiles.false)
     (nobody a.s.now a.debug (holding_pc a.s.now a.debug a.word a.address a.pc) c.entries.invariant c.entries-test.false)
