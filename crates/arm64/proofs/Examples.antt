@@ -2,18 +2,17 @@
 use mathlib.Core.Path.{◌≡◌, refl}
 use Prim.Native.Nat.{ℕ, ◌+◌}
 use mathlib.Core.List.{List, [], ◌∷◌, map}
-use mathlib.Core.Option.{Option, none, some}
-use mathlib.Core.Bool.{Bool, true, false}
-use lib.ListN.{length, replicate}
-use Rattle.format.specs.Prelude.{pick, after, each, onward, or_else, Result, good, bad}
+use mathlib.Core.Option.{none, some}
+use mathlib.Core.Bool.{false}
+use lib.ListN.{replicate}
+use Rattle.format.specs.Prelude.{pick, after, each, onward, or_else, Result}
 use Rattle.format.specs.Put.{put}
-use Rattle.arm64.specs.declared.Code.{Code}
 use Rattle.arm64.specs.declared.Arm64Reading.{Arm64Reading}
-use Rattle.arm64.specs.Codes.{code, short_form, integer_form, vector_form, other_form, form_of, field_at, code_in, code_as, code_at, big, register_field, offset_field, spelled, alloc_form, form_for, code_bytes, register_fits, offset_fits, code_fits, k_alloc, k_r19_r20_x, k_fplr, k_fplr_x, k_regp, k_regp_x, k_reg, k_reg_x, k_lrpair, k_fregp, k_fregp_x, k_freg, k_freg_x, k_set_fp, k_add_fp, k_nop, k_save_next, k_pac_sign_lr}
-use Rattle.arm64.specs.Lists.{Epilogue, code_numbers, epilogue_numbers}
+use Rattle.arm64.specs.Codes.{code, short_form, integer_form, vector_form, other_form, form_of, field_at, code_in, code_as, code_at, big, register_field, offset_field, spelled, alloc_form, form_for, code_bytes, k_alloc, k_r19_r20_x, k_fplr, k_fplr_x, k_regp, k_regp_x, k_reg, k_reg_x, k_lrpair, k_fregp, k_fregp_x, k_freg, k_freg_x, k_set_fp, k_add_fp, k_nop, k_save_next, k_pac_sign_lr}
+use Rattle.arm64.specs.Lists.{code_numbers, epilogue_numbers}
 use Rattle.arm64.specs.Records.{word_at, version_of, is_long, short_header, long_header, header_at, scopes_in, codes_from, codes_to, header_fits, record_ok, codes_of, scope_start, scope_index, scope_at}
 use Rattle.arm64.specs.Packed.{packed_of, saves_lr, integer_size, vector_count, saved_size, local_size, packed_ok, chain_ok, sign_slot, lone, integer_pair, integer_odd, integer_slot, vector_pair, vector_slot, home_slot, alloc_slot, rest_slot, chain_slot, frame_slot, local_slot, slot, with_slot, slots_from, undone, slot_at, packed_prologue, packed_epilogue}
-use Rattle.arm64.specs.Meaning.{Effect, Store, Step, Pair, stored, storing, only, save_one, save_two, save_pair, save_next, pair_step, integer_step, vector_step, frame_step, or_step, step_of, pair_of, effect_of, effects, reverse, prologue_means, epilogue_means}
+use Rattle.arm64.specs.Meaning.{Store, stored, storing, only, save_one, save_pair, save_next, pair_step, integer_step, frame_step, or_step, step_of, pair_of, effect_of, effects, reverse, prologue_means, epilogue_means}
 use Rattle.arm64.specs.Reader.{Unwound, on_code, in_front, run_f, run_at, epilogue, at_end, scoped, record_epilogues, unwound, record_unwound, full_record, packed_epilogues, packed_unwound, unwound_by, epilogue_codes, all_codes, fits_in, read_arm64, reading_of, epilogues_after, codes_after}
 
 -- ---- each kind's bytes: the smallest and the largest operands

@@ -7,12 +7,10 @@ use Prim.Native.Nat.{ℕ, ◌+◌, ◌<◌}
 use native.Mathlib.Omega.{arith}
 use lib.Dec.{T, leb, ltb, eqb}
 use borrow.Author.Tests.{eqb-true, eq-eqb, ne_eqb, ltb-true}
-use mir.Facts.{eqb_yes, eqb_no}
 use Rattle.format.specs.Prelude.{pick}
-use Rattle.format.proofs.Choice.{tested, pick_yes, pick_no, if-eq, if-ne}
 use Rattle.arm64.specs.declared.Code.{Code}
-use Rattle.arm64.specs.Codes.{code, k_regp, k_regp_x, k_r19_r20_x, k_fregp, k_fregp_x, k_fplr, k_fplr_x, k_set_fp, k_add_fp, k_nop, k_save_next, fp}
-use Rattle.arm64.specs.Meaning.{Effect, Store, Step, Pair, stored, storing, only, save_one, save_two, save_pair, save_next, pair_step, integer_step, vector_step, frame_step, or_step, step_of, pair_of, effect_of, effects, prologue_means}
+use Rattle.arm64.specs.Codes.{code, k_regp, k_regp_x, k_r19_r20_x, k_fregp, k_fregp_x, k_fplr, k_fplr_x, k_set_fp, k_add_fp, k_save_next, fp}
+use Rattle.arm64.specs.Meaning.{Pair, only, save_two, save_pair, save_next, pair_step, integer_step, vector_step, frame_step, or_step, step_of, pair_of, effect_of, effects, prologue_means}
 use Rattle.arm64.specs.Runs.{same_code, shorter, pair_in, has_next, next_pair, resolved, next_or, simple, pair_behind, simplify, no_pair}
 
 pub no_yes : false ≡ true → ⊥

@@ -1,22 +1,22 @@
 -- A packed function read back: the reader answers its length, a prologue and an epilogue that mean what was given, and the epilogue's start.
-use mathlib.Core.Path.{◌≡◌, refl, subst, sym, ap, ◌∙◌}
-use mathlib.Core.Bool.{Bool, true, false, not, ◌&&◌, ◌||◌}
-use mathlib.Core.Option.{Option, none, some}
-use mathlib.Core.List.{List, [], ◌∷◌, ◌++◌}
-use Prim.Native.Nat.{ℕ, zero, suc, ◌+◌, ◌-◌, ◌*◌, ◌/◌, ◌%◌, ◌^◌, ◌≤◌, ◌<◌}
+use mathlib.Core.Path.{◌≡◌, refl, sym, ap, ◌∙◌}
+use mathlib.Core.Bool.{Bool, true, false, ◌&&◌, ◌||◌}
+use mathlib.Core.Option.{none, some}
+use mathlib.Core.List.{List, [], ◌∷◌}
+use Prim.Native.Nat.{ℕ, suc, ◌+◌, ◌-◌, ◌*◌, ◌/◌, ◌%◌, ◌^◌, ◌≤◌, ◌<◌}
 use native.Mathlib.Omega.{arith}
 use lib.Dec.{leb, ltb, eqb}
 use lib.ListN.{length}
-use borrow.Author.Tests.{eqb-true, leb-true, ltb-true, eq-eqb, ne_eqb, lt-ltb}
-use Rattle.format.specs.Prelude.{pick, after, Result, good, bad, or_else}
-use Rattle.format.proofs.Choice.{if-eq, if-ne, if-le}
+use borrow.Author.Tests.{eqb-true, leb-true, ltb-true, lt-ltb}
+use Rattle.format.specs.Prelude.{pick, after, Result, good, or_else}
+use Rattle.format.proofs.Choice.{if-ne, if-le}
 use Rattle.arm64.specs.declared.Code.{Code}
 use Rattle.arm64.specs.declared.Packed.{Packed}
 use Rattle.arm64.specs.Lists.{Epilogue, Function}
-use Rattle.arm64.specs.Packed.{packed_of, packed_ok, chain_ok, saved_size, packed_prologue, packed_epilogue}
+use Rattle.arm64.specs.Packed.{packed_of, packed_ok, packed_prologue, packed_epilogue}
 use Rattle.arm64.specs.Meaning.{effects, reverse, prologue_means, epilogue_means}
 use Rattle.arm64.specs.Reader.{Unwound, epilogue, at_end, unwound, packed_epilogues, packed_unwound, unwound_by}
-use Rattle.arm64.specs.Runs.{no_pair, simple, simplify, resolved, resolve, pair_behind, same_codes, leads}
+use Rattle.arm64.specs.Runs.{no_pair, simple, simplify, resolve, pair_behind, same_codes, leads}
 use Rattle.arm64.specs.Packing.{chain_behind, tally, tallies, nothing_yet, as_fields, candidate, packed_word, fields_hold, stands_for}
 use Rattle.arm64.specs.Writer.{instructions, prologue_run, epilogue_run, index_in, codes_of, ends_with, packed_for}
 use Rattle.arm64.proofs.MeaningLaws.{both_true, no_yes, simplify_means}

@@ -1,22 +1,22 @@
 -- A packed word means what was given: where `stands_for` says so, the effects of its prologue and of its epilogue are those of the given runs.
 use mathlib.Core.Path.{◌≡◌, refl, subst, sym, ap, ◌∙◌}
-use mathlib.Core.Bool.{Bool, true, false, not, ◌&&◌, ◌||◌}
-use mathlib.Core.Option.{Option, none, some}
+use mathlib.Core.Bool.{Bool, true, false, ◌&&◌}
+use mathlib.Core.Option.{Option, none}
 use mathlib.Core.List.{List, [], ◌∷◌, ◌++◌}
-use Prim.Native.Nat.{ℕ, zero, suc, ◌+◌, ◌-◌, ◌*◌, ◌<◌}
+use Prim.Native.Nat.{ℕ, zero, suc, ◌+◌, ◌-◌, ◌*◌}
 use native.Mathlib.Omega.{arith}
-use lib.Dec.{T, leb, ltb, eqb}
+use lib.Dec.{leb, ltb, eqb}
 use lib.ListN.{length, length-append}
-use borrow.Author.Tests.{eqb-true, eqb-false, ne_eqb}
+use borrow.Author.Tests.{eqb-true, ne_eqb}
 use Rattle.format.specs.Prelude.{pick}
 use Rattle.arm64.specs.declared.Code.{Code}
 use Rattle.arm64.specs.declared.Packed.{Packed}
 use Rattle.arm64.specs.declared.Slot.{Slot}
 use Rattle.arm64.specs.declared.Slot.TheVariants.{Coded, Empty}
 use Rattle.arm64.specs.Codes.{code, k_regp, k_fregp, k_save_next, fp, lr}
-use Rattle.arm64.specs.Packed.{packed_ok, sign_slot, lone, integer_pair, integer_odd, integer_slot, vector_pair, vector_slot, home_slot, alloc_slot, rest_slot, chain_slot, frame_slot, local_slot, slot, with_slot, slots_from, undone, slot_at, packed_prologue, packed_epilogue, local_size, saved_size, integer_size, vector_count}
-use Rattle.arm64.specs.Meaning.{Effect, Pair, Step, stored, storing, only, save_two, save_pair, save_next, pair_step, integer_step, vector_step, frame_step, or_step, step_of, pair_of, effect_of, effects, reverse, prologue_means, epilogue_means}
-use Rattle.arm64.specs.Runs.{same_code, same_codes, pair_in, has_next, next_pair, resolved, resolve, pair_behind, no_pair}
+use Rattle.arm64.specs.Packed.{packed_ok, sign_slot, lone, integer_pair, integer_odd, integer_slot, vector_pair, vector_slot, home_slot, alloc_slot, rest_slot, chain_slot, frame_slot, local_slot, slot, with_slot, slots_from, undone, slot_at, packed_prologue, packed_epilogue, local_size, integer_size, vector_count}
+use Rattle.arm64.specs.Meaning.{Pair, only, save_two, save_pair, pair_step, integer_step, vector_step, frame_step, or_step, step_of, pair_of, effect_of, effects, reverse, prologue_means, epilogue_means}
+use Rattle.arm64.specs.Runs.{same_code, same_codes, has_next, next_pair, resolved, resolve, pair_behind, no_pair}
 use Rattle.arm64.specs.Packing.{fields_hold, stands_for}
 use Rattle.arm64.proofs.MeaningLaws.{Same, both_true, no_yes, equal, by_pick, of_kind, no_next, next_kind, next_means, step_9, step_16, or_split, behind_same}
 

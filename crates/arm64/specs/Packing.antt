@@ -1,10 +1,10 @@
 -- When a function is packed into its entry's word (Microsoft, "ARM64 exception handling", "Packed unwind data"; `pack` of the source): where the
 -- instructions that the word stands for are those that were given.
-use Rattle.std.specs.Prelude.{ℕ, ◌+◌, ◌-◌, ◌*◌, ◌/◌, ◌^◌, Bool, ◌&&◌, ◌||◌, List, [], ◌∷◌, leb, ltb, eqb}
+use Rattle.std.specs.Prelude.{ℕ, ◌+◌, ◌-◌, ◌*◌, ◌/◌, ◌^◌, Bool, ◌&&◌, ◌||◌, List, [], ◌∷◌, ltb, eqb}
 use Rattle.format.specs.Prelude.{pick}
 use Rattle.arm64.specs.declared.Code.{Code}
 use Rattle.arm64.specs.declared.Packed.{Packed}
-use Rattle.arm64.specs.Codes.{lr, k_alloc, k_r19_r20_x, k_fplr, k_fplr_x, k_regp, k_regp_x, k_reg, k_reg_x, k_lrpair, k_fregp, k_fregp_x, k_freg, k_freg_x, k_pac_sign_lr}
+use Rattle.arm64.specs.Codes.{lr, k_alloc, k_r19_r20_x, k_fplr, k_fplr_x, k_regp, k_reg, k_reg_x, k_lrpair, k_fregp, k_fregp_x, k_freg, k_pac_sign_lr}
 use Rattle.arm64.specs.Packed.{packed_ok, packed_prologue, packed_epilogue}
 use Rattle.arm64.specs.Meaning.{reverse}
 use Rattle.arm64.specs.Runs.{no_pair, resolve, same_codes}

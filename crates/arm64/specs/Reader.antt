@@ -1,7 +1,7 @@
 -- The reader: from an entry's second word and, where that is not packed, the record at a place, to the length, the prologue's codes and the epilogues.
 -- 76: a part past the end, or a version other than 0. 77: a reserved flag, a packed word that is not defined, an incomplete code, a run without its end,
 -- an epilogue that starts before the function, a code that `describe` never writes. 54: a lent list is too short; asked last.
-use Rattle.std.specs.Prelude.{ℕ, zero, suc, ◌+◌, ◌-◌, ◌*◌, ◌/◌, ◌%◌, ◌^◌, Bool, ◌&&◌, List, [], ◌∷◌, ◌++◌, length, leb, ltb, eqb}
+use Rattle.std.specs.Prelude.{ℕ, zero, suc, ◌-◌, ◌*◌, ◌%◌, ◌^◌, ◌&&◌, List, [], ◌∷◌, ◌++◌, length, leb, ltb, eqb}
 use Rattle.std.proofs.Math.Option.{Option, none, some}
 use Rattle.format.specs.Prelude.{pick, after, Result, good, bad, onward, or_else}
 use Rattle.format.specs.Lists.{count}
@@ -14,7 +14,7 @@ use Rattle.arm64.specs.declared.Packed.{Packed}
 use Rattle.arm64.specs.declared.Arm64Reading.{Arm64Reading}
 use Rattle.arm64.specs.Codes.{code_at, k_end}
 use Rattle.arm64.specs.Lists.{Epilogue, epilogue_stride, code_stride, code_numbers, epilogue_numbers}
-use Rattle.arm64.specs.Records.{header_at, record_ok, scopes_in, codes_of, scope_start, scope_index, scope_at}
+use Rattle.arm64.specs.Records.{header_at, record_ok, codes_of, scope_start, scope_index, scope_at}
 use Rattle.arm64.specs.Packed.{packed_of, packed_ok, packed_prologue, packed_epilogue}
 use Rattle.arm64.specs.Meaning.{reverse}
 

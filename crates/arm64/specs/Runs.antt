@@ -1,6 +1,6 @@
 -- A run of codes as it is written (Microsoft, "ARM64 exception handling", "Unwind codes"; `simplify`, `size` and `in_prologue` of the source).
 -- Codes stand here in the order in which they save: a prologue's as given, an epilogue's in reverse.
-use Rattle.std.specs.Prelude.{ℕ, ◌+◌, ◌-◌, Bool, true, false, not, ◌&&◌, ◌||◌, List, [], ◌∷◌, ◌++◌, length, leb, ltb, eqb}
+use Rattle.std.specs.Prelude.{ℕ, ◌+◌, ◌-◌, Bool, true, false, ◌&&◌, ◌||◌, List, [], ◌∷◌, ◌++◌, length, leb, ltb, eqb}
 use Rattle.format.specs.Prelude.{pick}
 use Rattle.arm64.specs.declared.Code.{Code}
 use Rattle.arm64.specs.Codes.{code, fp, k_r19_r20_x, k_fplr, k_fplr_x, k_regp, k_regp_x, k_fregp, k_fregp_x, k_set_fp, k_add_fp, k_nop, k_save_next, form_for, register_fits, code_fits, code_bytes}

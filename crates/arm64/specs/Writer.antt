@@ -1,7 +1,7 @@
 -- The writer: a row of .pdata for each function and, where that is not packed, its record in .xdata (Microsoft, "ARM64 exception handling"; `describe`
 -- and `table` of the source). 13: counts, ranges, symbols, kinds, absent operands. Then function by function 81: the length; 82: the epilogues' starts;
 -- 83: values that no field holds. Then 51 to 54.
-use Rattle.std.specs.Prelude.{ℕ, ◌+◌, ◌-◌, ◌*◌, ◌/◌, ◌%◌, ◌^◌, Bool, true, false, not, ◌&&◌, ◌||◌, List, [], ◌∷◌, ◌++◌, map, length, replicate, leb, ltb, eqb}
+use Rattle.std.specs.Prelude.{ℕ, ◌+◌, ◌-◌, ◌*◌, ◌/◌, ◌%◌, ◌^◌, Bool, false, ◌&&◌, ◌||◌, List, [], ◌∷◌, ◌++◌, map, length, replicate, leb, ltb, eqb}
 use Rattle.format.specs.Prelude.{pick, all}
 use Rattle.format.specs.Constants.{image_reloc}
 use Rattle.format.specs.Leb.{little}
@@ -14,7 +14,7 @@ use Rattle.arm64.specs.declared.Code.{Code}
 use Rattle.arm64.specs.Codes.{k_regp, k_freg_x, k_add_fp, k_pac_sign_lr}
 use Rattle.arm64.specs.Lists.{Epilogue, Function, function_stride, epilogue_stride, code_stride, functions_of}
 use Rattle.arm64.specs.Meaning.{reverse}
-use Rattle.arm64.specs.Runs.{no_pair, simplify, run_fits, run_bytes, run_size, leads, own_runs, runs_bytes, index_of}
+use Rattle.arm64.specs.Runs.{no_pair, simplify, run_fits, run_bytes, leads, own_runs, runs_bytes, index_of}
 use Rattle.arm64.specs.Packing.{candidate, packed_word, stands_for}
 
 -- ---- question 13
