@@ -1,5 +1,5 @@
 -- A machine as the list of numbers that the writers take (document 01, "Machine, function and row").
-use Rattle.std.specs.Prelude.{ℕ, List, [], ◌∷◌, length, leb}
+use Rattle.std.specs.Prelude.{ℕ, List, ◌∷◌, length, leb}
 use Rattle.format.specs.Prelude.{pick}
 use Rattle.format.specs.Put.{put}
 use Rattle.format.specs.declared.Machine.{Machine}

@@ -1,5 +1,4 @@
 -- `machines::map` meets its contract.
-use Prim.Native.Nat.{◌-◌}
 use native.Mathlib.Omega.{arith}
 use borrow.Author.Rules.{rules}
 use Rattle.machines.proofs.Stores.{start, turn, ended}
