@@ -1,20 +1,19 @@
 -- A code that is read lies inside, and the next place is behind it. What a run is at a place, by the code there.
-use mathlib.Core.Path.{◌≡◌, refl, sym, ap, ◌∙◌}
+use mathlib.Core.Path.{◌≡◌, refl, sym, ◌∙◌}
 use mathlib.Core.Logic.{◌≢◌}
-use mathlib.Core.Bool.{Bool}
 use mathlib.Core.Option.{none, some}
-use mathlib.Core.List.{List, [], ◌∷◌}
+use mathlib.Core.List.{List, []}
 use Prim.Native.Nat.{ℕ, zero, suc, ◌+◌, ◌-◌, ◌≤◌, ◌<◌}
 use native.Mathlib.Omega.{arith}
-use lib.Dec.{T, leb, eqb}
+use lib.Dec.{leb, eqb}
 use lib.ListN.{length, get_or}
 use mir.Facts.{leb_yes}
 use Rattle.format.specs.Prelude.{pick}
-use Rattle.format.proofs.Choice.{pick_yes, pick_no, if-le, if-gt, if-eq, if-ne, either, tested}
+use Rattle.format.proofs.Choice.{pick_yes, pick_no, if-le, if-eq, if-ne, either, tested}
 use Rattle.arm64.specs.declared.Code.{Code}
 use Rattle.arm64.specs.declared.Form.{Form}
 use Rattle.arm64.specs.declared.CodeRead.TheVariants as codeRead
-use Rattle.arm64.specs.Codes.{form_of, field_at, code_in, code_as, code_at, k_end, k_reserved}
+use Rattle.arm64.specs.Codes.{form_of, field_at, code_in, code_as, code_at, k_reserved}
 use Rattle.arm64.specs.Reader.{on_code, in_front, run_f}
 use Rattle.arm64_codes.proofs.Spellings.{any_4, other_8}
 use Rattle.arm64_codes.proofs.Formed.{form_ok}

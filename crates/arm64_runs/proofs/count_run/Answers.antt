@@ -1,6 +1,5 @@
 -- `arm64_runs::count_run` meets its contract.
 use mathlib.Core.Path.{sym, ◌∙◌}
-use Prim.Native.Nat.{◌-◌}
 use native.Mathlib.Omega.{arith}
 use Rattle.arm64_runs.proofs.Ahead.{ahead}
 use Rattle.arm64_runs.proofs.Turns.{start, turn, ended, refused, past}

@@ -1,6 +1,5 @@
 -- `arm64_runs::put_back` meets its contract.
 use mathlib.Core.Path.{sym, ◌∙◌}
-use Prim.Native.Nat.{◌-◌}
 use native.Mathlib.Omega.{arith}
 use Rattle.arm64_runs.proofs.Ahead.{ahead}
 use Rattle.arm64_runs.proofs.Stores.{back_start, back_room, back_turn, back_ended, never_bad, never_past}

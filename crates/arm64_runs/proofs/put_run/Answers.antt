@@ -1,6 +1,5 @@
 -- `arm64_runs::put_run` meets its contract.
 use mathlib.Core.Path.{sym, ◌∙◌}
-use Prim.Native.Nat.{◌-◌}
 use native.Mathlib.Omega.{arith}
 use Rattle.arm64_runs.proofs.Ahead.{ahead}
 use Rattle.arm64_runs.proofs.Stores.{put_start, put_room, put_turn, put_ended, never_bad, never_past}
