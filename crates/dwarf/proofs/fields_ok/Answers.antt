@@ -1,5 +1,6 @@
 -- `dwarf::fields_ok` meets its contract.
-use mathlib.Core.Path.{sym, ◌∙◌}
+use mathlib.Core.Bool.{not}
+use mathlib.Core.Path.{ap, sym, ◌∙◌}
 use Rattle.format.proofs.FieldsBack.{word_small}
 use Rattle.rows.proofs.WholeNumbers.{never}
 use Rattle.lists.proofs.Answers.{accepted}
@@ -18,4 +19,4 @@ pub pairs_ok-requires : goal.pairs_ok-requires
 pairs_ok-requires c = c.requires.1
 
 pub returns : goal.returns
-returns c = λ p. (accepted c.size_ok.ensures c.if-not-size_ok.false, accepted c.encodings_ok.ensures c.if-not-encodings_ok.false, sym c.pairs_ok.ensures ∙ p)
+returns c = λ p. (accepted c.size_ok.ensures (ap not c.if-not-size_ok.false), accepted c.encodings_ok.ensures (ap not c.if-not-encodings_ok.false), sym c.pairs_ok.ensures ∙ p)

@@ -1,4 +1,6 @@
 -- `lists::ranges_ok` meets its contract.
+use mathlib.Core.Bool.{not}
+use mathlib.Core.Path.{ap}
 use native.Mathlib.Nat.{add-zero}
 use Rattle.lists.specs.Parts.{ranges_ok_at}
 use Rattle.lists.proofs.Answers.{accepted, refused}
@@ -6,12 +8,12 @@ use Rattle.lists.proofs.ranges_ok.Goals as goal
 
 pub returns-then-not-symbol_ok : goal.returns-then-not-symbol_ok
 unfolding ranges_ok_at
-returns-then-not-symbol_ok c = simp (add-zero, refused c.symbol_ok.ensures c.if-not-symbol_ok.true)
+returns-then-not-symbol_ok c = simp (add-zero, refused c.symbol_ok.ensures (ap not c.if-not-symbol_ok.true))
 
 pub returns-then-not-inside : goal.returns-then-not-inside
 unfolding ranges_ok_at
-returns-then-not-inside c = simp (add-zero, accepted c.symbol_ok.ensures c.if-not-symbol_ok.false, refused c.inside.ensures c.if-not-inside.true)
+returns-then-not-inside c = simp (add-zero, accepted c.symbol_ok.ensures (ap not c.if-not-symbol_ok.false), refused c.inside.ensures (ap not c.if-not-inside.true))
 
 pub returns : goal.returns
 unfolding ranges_ok_at
-returns c = simp (add-zero, accepted c.symbol_ok.ensures c.if-not-symbol_ok.false, accepted c.inside.ensures c.if-not-inside.false) c.inside-2.ensures
+returns c = simp (add-zero, accepted c.symbol_ok.ensures (ap not c.if-not-symbol_ok.false), accepted c.inside.ensures (ap not c.if-not-inside.false)) c.inside-2.ensures

@@ -1,6 +1,6 @@
 -- `owners::choose` meets its contract.
-use mathlib.Core.Path.{◌≡◌, ◌∙◌, sym}
-use mathlib.Core.Bool.{false}
+use mathlib.Core.Path.{ap, ◌≡◌, ◌∙◌, sym}
+use mathlib.Core.Bool.{not, false}
 use Prim.Native.Nat.{◌-◌, ◌<◌}
 use native.Mathlib.Omega.{arith}
 use borrow.Author.Rules.{rules}
@@ -64,7 +64,7 @@ functions-smaller-then-not-same_kind_and_signal c = goes_down (goal.at.functions
 
 pub functions-preserved-then-not-same_kind_and_signal : goal.functions-preserved-then-not-same_kind_and_signal
 functions-preserved-then-not-same_kind_and_signal c =
-    on-next (goal.at.functions-preserved-then-not-same_kind_and_signal c).After-same_kind_and_signal (unlike (asked (goal.at.functions-preserved-then-not-same_kind_and_signal c).After-same_kind_and_signal) c.if-not-same_kind_and_signal.true)
+    on-next (goal.at.functions-preserved-then-not-same_kind_and_signal c).After-same_kind_and_signal (unlike (asked (goal.at.functions-preserved-then-not-same_kind_and_signal c).After-same_kind_and_signal) (ap not c.if-not-same_kind_and_signal.true))
 
 pub leading_count-requires : goal.leading_count-requires
 leading_count-requires c = other-ready (goal.at.leading_count-requires c).After-taken_at-other
@@ -75,7 +75,7 @@ functions-smaller-then-leading_count-count c = goes_down (goal.at.functions-smal
 pub functions-preserved-then-leading_count-count : goal.functions-preserved-then-leading_count-count
 functions-preserved-then-leading_count-count c =
     on-next (goal.at.functions-preserved-then-leading_count-count c).After-same_kind_and_signal
-    (by_counts (asked (goal.at.functions-preserved-then-leading_count-count c).After-same_kind_and_signal) c.if-not-same_kind_and_signal.false c.leading_count.ensures c.leading_count-count.ensures c.if-leading_count-count.true)
+    (by_counts (asked (goal.at.functions-preserved-then-leading_count-count c).After-same_kind_and_signal) (ap not c.if-not-same_kind_and_signal.false) c.leading_count.ensures c.leading_count-count.ensures c.if-leading_count-count.true)
 
 pub rows-init : goal.rows-init
 rows-init c =
@@ -97,17 +97,17 @@ functions-smaller c = goes_down (goal.at.functions-smaller c).After-behind-next
 pub functions-preserved : goal.functions-preserved
 functions-preserved c =
     on-next (goal.at.functions-preserved c).After-same_kind_and_signal
-    (by_rows_lem (asked (goal.at.functions-preserved c).After-same_kind_and_signal) c.if-not-same_kind_and_signal.false
-    (differ c.rows.invariant c.rows-test.true c.same_leading.ensures c.if-not-same_leading.true))
+    (by_rows_lem (asked (goal.at.functions-preserved c).After-same_kind_and_signal) (ap not c.if-not-same_kind_and_signal.false)
+    (differ c.rows.invariant c.rows-test.true c.same_leading.ensures (ap not c.if-not-same_leading.true)))
 
 pub rows-preserved : goal.rows-preserved
 rows-preserved c =
-    turn c.rows.invariant c.rows-test.true c.same_leading.ensures c.if-not-same_leading.false
+    turn c.rows.invariant c.rows-test.true c.same_leading.ensures (ap not c.if-not-same_leading.false)
 
 pub returns-in-functions : goal.returns-in-functions
 returns-in-functions c =
     found c.requires.2 c.functions.invariant c.functions-test.true
-    (by_rows_lem (asked (goal.at.returns-in-functions c).After-same_kind_and_signal) c.if-not-same_kind_and_signal.false (comparing.ended c.rows.invariant c.rows-test.false))
+    (by_rows_lem (asked (goal.at.returns-in-functions c).After-same_kind_and_signal) (ap not c.if-not-same_kind_and_signal.false) (comparing.ended c.rows.invariant c.rows-test.false))
 
 pub returns : goal.returns
 returns c = walking.ended c.requires.2 c.functions.invariant c.functions-test.false

@@ -1,4 +1,6 @@
 -- `owners::surely_shares` meets its contract.
+use mathlib.Core.Bool.{not}
+use mathlib.Core.Path.{ap}
 use native.Mathlib.Omega.{arith}
 use mir.Facts.{eqb_yes}
 use Rattle.rows.proofs.WholeNumbers.{never}
@@ -24,5 +26,5 @@ ahead-requires-2 c = rows_taken c.args.s c.args.fs.now c.args.rows.now c.args.k 
 
 pub returns : goal.returns
 returns c = λ p.
-    sharing (record { first = c.taken_at-a.ensures; second = c.taken_at-b.ensures; answer = c.same_kind_and_signal.ensures }) c.if-not-same_kind_and_signal.false c.if-a-b.false
+    sharing (record { first = c.taken_at-a.ensures; second = c.taken_at-b.ensures; answer = c.same_kind_and_signal.ensures }) (ap not c.if-not-same_kind_and_signal.false) c.if-a-b.false
     (omega (arith, c.ahead.ensures.0, c.if-ahead-gt0.false)) (omega (arith, c.ahead-2.ensures.0, eqb_yes {a = c.ahead-2.result} {b = 0} (is_yes_lem p)))

@@ -1,4 +1,6 @@
 -- `struct_entries::put_function` stores its function where it fits.
+use mathlib.Core.Bool.{not}
+use mathlib.Core.Path.{ap}
 use Prim.Native.Nat.{◌+◌, ◌*◌, ◌≤◌}
 use lib.ListN.{length}
 use borrow.Author.Rules.{rules}
@@ -12,10 +14,10 @@ use Rattle.struct_entries.proofs.put_function.Goals.{Else-not-has_room}
 
 pub returns-then-not-has_room : goal.returns-then-not-has_room
 unfolding function_numbers
-returns-then-not-has_room c = no_room _ _ _ (refused c.has_room.ensures c.if-not-has_room.true)
+returns-then-not-has_room c = no_room _ _ _ (refused c.has_room.ensures (ap not c.if-not-has_room.true))
 
 inside : (c : Else-not-has_room) → c.args.at + 18 * c.args.i + 18 ≤ length c.args.numbers.now
-inside c = leb-true _ _ (accepted c.has_room.ensures c.if-not-has_room.false)
+inside c = leb-true _ _ (accepted c.has_room.ensures (ap not c.if-not-has_room.false))
 
 pub overflow_mul-p : goal.overflow_mul-p
 overflow_mul-p c = search (inside c, rules)
@@ -32,4 +34,4 @@ function_back-requires c = search (inside (goal.at.function_back-requires c).Els
 
 pub returns : goal.returns
 unfolding function_numbers
-returns c = room (accepted c.has_room.ensures c.if-not-has_room.false) (c.function_front-q.ensures then c.function_back.ensures)
+returns c = room (accepted c.has_room.ensures (ap not c.if-not-has_room.false)) (c.function_front-q.ensures then c.function_back.ensures)

@@ -1,4 +1,5 @@
 -- `struct_entries::put_row` stores its row where it fits.
+use mathlib.Core.Bool.{not}
 use mathlib.Core.Path.{◌≡◌, ap, ◌∙◌}
 use mathlib.Core.List.{[], ◌∷◌}
 use Prim.Native.Nat.{◌+◌, ◌*◌, ◌≤◌}
@@ -17,10 +18,10 @@ use Rattle.struct_entries.proofs.put_row.Goals.{After-bits-value, Else-not-has_r
 
 pub returns-then-not-has_room : goal.returns-then-not-has_room
 unfolding row_numbers
-returns-then-not-has_room c = no_room _ _ _ (refused c.has_room.ensures c.if-not-has_room.true)
+returns-then-not-has_room c = no_room _ _ _ (refused c.has_room.ensures (ap not c.if-not-has_room.true))
 
 inside : (c : Else-not-has_room) → c.args.at + 4 * c.args.i + 4 ≤ length c.args.numbers.now
-inside c = leb-true _ _ (accepted c.has_room.ensures c.if-not-has_room.false)
+inside c = leb-true _ _ (accepted c.has_room.ensures (ap not c.if-not-has_room.false))
 
 pub overflow_mul-p : goal.overflow_mul-p
 overflow_mul-p c = search (inside c, rules)
@@ -39,5 +40,5 @@ pub returns : goal.returns
 unfolding row_numbers
 returns c =
     let x = c.args.x in
-    room (accepted c.has_room.ensures c.if-not-has_room.false) c.four.ensures
+    room (accepted c.has_room.ensures (ap not c.if-not-has_room.false)) c.four.ensures
     ∙ ap (λ d. stored c.args.numbers.now (c.args.at + 4 * c.args.i) (x.offset ∷ x.kind ∷ x.register ∷ d ∷ [])) (value (goal.at.returns c).After-bits-value)

@@ -1,5 +1,6 @@
 -- `struct_entries::ready` meets its contract.
-use mathlib.Core.Path.{refl, sym}
+use mathlib.Core.Bool.{not}
+use mathlib.Core.Path.{ap, refl, sym}
 use Prim.Native.Nat.{◌≤◌}
 use lib.ListN.{length}
 use lib.Seq.{length-take-le}
@@ -12,10 +13,10 @@ use Rattle.struct_entries.proofs.ready.Goals as goal
 use Rattle.struct_entries.proofs.ready.Goals.{After-slice_known-1, Else-not-long_enough}
 
 pub returns-then-not-long_enough : goal.returns-then-not-long_enough
-returns-then-not-long_enough c = (too_short _ _ _ c.long_enough.ensures c.if-not-long_enough.true, refl)
+returns-then-not-long_enough c = (too_short _ _ _ c.long_enough.ensures (ap not c.if-not-long_enough.true), refl)
 
 enough : (c : Else-not-long_enough) → needed c.args.functions c.args.rows ≤ length c.args.numbers.now
-enough c = leb-true _ _ (accepted c.long_enough.ensures c.if-not-long_enough.false)
+enough c = leb-true _ _ (accepted c.long_enough.ensures (ap not c.if-not-long_enough.false))
 
 pub overflow_mul-n : goal.overflow_mul-n
 unfolding needed
@@ -35,4 +36,4 @@ slice_bounds-all_zero-end c = sym (length-take-le _ _ (enough (goal.at.slice_bou
 
 pub returns : goal.returns
 unfolding needed
-returns c = (by_zeros _ _ _ c.long_enough.ensures c.if-not-long_enough.false c.all_zero.ensures, refl)
+returns c = (by_zeros _ _ _ c.long_enough.ensures (ap not c.if-not-long_enough.false) c.all_zero.ensures, refl)

@@ -1,10 +1,12 @@
 -- `struct_entries::table_in` meets its contract.
+use mathlib.Core.Bool.{not}
+use mathlib.Core.Path.{ap}
 use borrow.Author.Tests.{not-false}
 use Rattle.struct_entries.proofs.Parts.{refuses, accepts, table_ready}
 use Rattle.struct_entries.proofs.table_in.Goals as goal
 
 pub returns-then-not-ok : goal.returns-then-not-ok
-returns-then-not-ok c = refuses _ _ _ _ _ c.args.ok c.if-not-ok.true c.table_without_numbers.ensures c.written_of.ensures
+returns-then-not-ok c = refuses _ _ _ _ _ c.args.ok (ap not c.if-not-ok.true) c.table_without_numbers.ensures c.written_of.ensures
 
 pub packed_table-requires : goal.packed_table-requires
 packed_table-requires c = c.requires c.if-not-ok.false
@@ -12,6 +14,6 @@ packed_table-requires c = c.requires c.if-not-ok.false
 pub returns : goal.returns
 returns c =
     let a = c.args in
-    accepts _ _ _ _ _ a.ok c.if-not-ok.false
+    accepts _ _ _ _ _ a.ok (ap not c.if-not-ok.false)
     (table_ready a.format a.machine.now a.numbers.now a.functions a.rows a.landings.now a.pairs.now _ (c.requires c.if-not-ok.false))
     c.packed_table.ensures

@@ -1,4 +1,5 @@
 -- `struct_entries::table_without_numbers` meets its contract.
+use mathlib.Core.Bool.{not}
 use mathlib.Core.Path.{sym, ap, subst, ◌∙◌}
 use lib.Dec.{T, eqb}
 use Rattle.format.specs.declared.Machine.{Machine}
@@ -19,20 +20,20 @@ pub returns-then-format-eq2 : goal.returns-then-format-eq2
 returns-then-format-eq2 c = table_no_mach_o _ _ _ c.if-functions-eq0.false c.if-format-eq2.true
 
 pub returns-then-not-machine_ok : goal.returns-then-not-machine_ok
-returns-then-not-machine_ok c = table_no_machine _ _ _ c.if-functions-eq0.false c.if-format-ge3.false c.if-format-eq2.false (refused c.machine_ok.ensures c.if-not-machine_ok.true)
+returns-then-not-machine_ok c = table_no_machine _ _ _ c.if-functions-eq0.false c.if-format-ge3.false c.if-format-eq2.false (refused c.machine_ok.ensures (ap not c.if-not-machine_ok.true))
 
 pub machine_of-requires : goal.machine_of-requires
-machine_of-requires c = subst T (sym (accepted c.machine_ok.ensures c.if-not-machine_ok.false)) tt
+machine_of-requires c = subst T (sym (accepted c.machine_ok.ensures (ap not c.if-not-machine_ok.false))) tt
 
 pub returns-then-not-word_ok : goal.returns-then-not-word_ok
 returns-then-not-word_ok c =
-    table_no_word _ _ _ c.if-functions-eq0.false c.if-format-ge3.false c.if-format-eq2.false (accepted c.machine_ok.ensures c.if-not-machine_ok.false) c.if-format-eq1.true
-    (refused (c.word_ok.ensures ∙ ap (λ (m : Machine). eqb m.word 8) c.machine_of.ensures) c.if-not-word_ok.true)
+    table_no_word _ _ _ c.if-functions-eq0.false c.if-format-ge3.false c.if-format-eq2.false (accepted c.machine_ok.ensures (ap not c.if-not-machine_ok.false)) c.if-format-eq1.true
+    (refused (c.word_ok.ensures ∙ ap (λ (m : Machine). eqb m.word 8) c.machine_of.ensures) (ap not c.if-not-word_ok.true))
 
 pub returns-else-not-word_ok : goal.returns-else-not-word_ok
 returns-else-not-word_ok c =
-    table_unready_coff _ _ _ c.if-functions-eq0.false c.if-format-ge3.false c.if-format-eq2.false (accepted c.machine_ok.ensures c.if-not-machine_ok.false) c.if-format-eq1.true
-    (accepted (c.word_ok.ensures ∙ ap (λ (m : Machine). eqb m.word 8) c.machine_of.ensures) c.if-not-word_ok.false)
+    table_unready_coff _ _ _ c.if-functions-eq0.false c.if-format-ge3.false c.if-format-eq2.false (accepted c.machine_ok.ensures (ap not c.if-not-machine_ok.false)) c.if-format-eq1.true
+    (accepted (c.word_ok.ensures ∙ ap (λ (m : Machine). eqb m.word 8) c.machine_of.ensures) (ap not c.if-not-word_ok.false))
 
 pub returns-else-format-eq1 : goal.returns-else-format-eq1
-returns-else-format-eq1 c = table_unready _ _ _ c.if-functions-eq0.false c.if-format-ge3.false c.if-format-eq2.false (accepted c.machine_ok.ensures c.if-not-machine_ok.false) c.if-format-eq1.false
+returns-else-format-eq1 c = table_unready _ _ _ c.if-functions-eq0.false c.if-format-ge3.false c.if-format-eq2.false (accepted c.machine_ok.ensures (ap not c.if-not-machine_ok.false)) c.if-format-eq1.false
