@@ -1,5 +1,5 @@
 -- The sizes of a packed word, and what stands in each place of its prologue, by the tests that the code makes.
-use mathlib.Core.Path.{◌≡◌, refl}
+use mathlib.Core.Path.{◌≡◌}
 use mathlib.Core.Logic.{◌≢◌}
 use Prim.Native.Nat.{ℕ, suc, ◌+◌, ◌-◌, ◌*◌, ◌≤◌, ◌<◌}
 use native.Mathlib.Omega.{arith}
@@ -8,7 +8,7 @@ use Rattle.format.specs.Prelude.{pick}
 use Rattle.format.proofs.Choice.{if-le, if-gt, if-eq, if-ne, either}
 use Rattle.arm64.specs.declared.Packed.{Packed}
 use Rattle.arm64.specs.declared.Slot.TheVariants.{Coded, Empty}
-use Rattle.arm64.specs.Codes.{code, lr, k_alloc, k_r19_r20_x, k_fplr, k_fplr_x, k_regp, k_reg, k_reg_x, k_lrpair, k_fregp, k_fregp_x, k_freg, k_set_fp, k_nop, k_pac_sign_lr}
+use Rattle.arm64.specs.Codes.{code, k_alloc, k_r19_r20_x, k_fplr, k_fplr_x, k_regp, k_reg, k_reg_x, k_lrpair, k_fregp, k_fregp_x, k_freg, k_set_fp, k_nop, k_pac_sign_lr}
 use Rattle.arm64.specs.Packed.{saves_lr, integer_size, vector_count, saved_size, local_size, sign_slot, lone, integer_pair, integer_odd, integer_slot, vector_pair, vector_slot, home_slot, alloc_slot, rest_slot, chain_slot, frame_slot, local_slot, slot}
 
 module _ (p : Packed) where

@@ -1,5 +1,5 @@
 -- What holds of a packed word's fields: their widths, and room for what is saved.
-use Rattle.std.specs.Prelude.{ℕ, ◌*◌, ◌≤◌, ◌<◌}
+use Rattle.std.specs.Prelude.{◌*◌, ◌≤◌, ◌<◌}
 use Rattle.arm64.specs.declared.Packed.{Packed}
 use Rattle.arm64.specs.Packed.{saved_size}
 

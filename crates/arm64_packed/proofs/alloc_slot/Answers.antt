@@ -1,7 +1,5 @@
 -- `arm64_packed::alloc_slot` meets its contract.
 use mathlib.Core.Path.{sym, ap, ◌∙◌}
-use mathlib.Core.Bool.{true, false}
-use Prim.Native.Nat.{◌-◌}
 use native.Mathlib.Omega.{arith}
 use Rattle.arm64.specs.declared.Slot.TheVariants.{Coded}
 use Rattle.arm64_packed.proofs.Slots.{alloc_none, alloc_chained, alloc_plain, alloc_large, alloc_most}

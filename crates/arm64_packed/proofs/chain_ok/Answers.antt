@@ -1,7 +1,5 @@
 -- `arm64_packed::chain_ok` meets its contract.
 use mathlib.Core.Path.{sym}
-use mathlib.Core.Bool.{true, false}
-use Prim.Native.Nat.{◌-◌}
 use native.Mathlib.Omega.{arith}
 use Rattle.arm64_packed.proofs.Places.{chain_any, chain_locals}
 use Rattle.arm64_packed.proofs.chain_ok.Goals as goal

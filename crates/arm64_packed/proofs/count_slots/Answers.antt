@@ -1,7 +1,5 @@
 -- `arm64_packed::count_slots` meets its contract.
 use mathlib.Core.Path.{ap, ◌∙◌}
-use mathlib.Core.Bool.{true}
-use Prim.Native.Nat.{◌-◌}
 use native.Mathlib.Omega.{arith}
 use mathlib.Core.List.{[]}
 use lib.ListN.{length}

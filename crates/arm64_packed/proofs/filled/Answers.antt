@@ -1,5 +1,4 @@
 -- `arm64_packed::filled` meets its contract.
-use Prim.Native.Nat.{◌-◌}
 use native.Mathlib.Omega.{arith}
 use Rattle.arm64_packed.proofs.Places.{none_filled, one_filled}
 use Rattle.arm64_packed.proofs.filled.Goals as goal

@@ -1,7 +1,7 @@
 -- `arm64_packed::packed_ok` meets its contract.
 use mathlib.Core.Path.{◌≡◌, sym, ◌∙◌}
 use mathlib.Core.Bool.{true, false}
-use Prim.Native.Nat.{ℕ, ◌-◌}
+use Prim.Native.Nat.{ℕ}
 use native.Mathlib.Omega.{arith}
 use Rattle.arm64_packed.proofs.Places.{ok_registers, ok_saved, ok_lr, ok_homes, ok_homed, ok_bare}
 use Rattle.arm64_packed.proofs.packed_ok.Goals as goal

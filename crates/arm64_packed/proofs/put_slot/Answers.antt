@@ -1,6 +1,5 @@
 -- `arm64_packed::put_slot` meets its contract.
 use mathlib.Core.Path.{sym}
-use Prim.Native.Nat.{◌-◌}
 use native.Mathlib.Omega.{arith}
 use Rattle.format.proofs.PutLaws.{idle}
 use Rattle.arm64_packed.proofs.Places.{no_code, one_code, one_filled}

@@ -1,6 +1,4 @@
 -- `arm64_packed::put_slots` meets its contract.
-use mathlib.Core.Bool.{true}
-use Prim.Native.Nat.{◌-◌}
 use native.Mathlib.Omega.{arith}
 use Rattle.arm64.specs.Packed.{slot_at}
 use Rattle.arm64_packed.proofs.Places.{put_start, put_room, put_turn, put_ended}

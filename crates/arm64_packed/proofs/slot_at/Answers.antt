@@ -1,7 +1,5 @@
 -- `arm64_packed::slot_at` meets its contract.
 use mathlib.Core.Path.{ap, ◌∙◌}
-use mathlib.Core.Bool.{true, false}
-use Prim.Native.Nat.{◌-◌}
 use native.Mathlib.Omega.{arith}
 use Rattle.arm64.specs.Packed.{undone}
 use Rattle.arm64_packed.proofs.Places.{slot_back, slot_forth}

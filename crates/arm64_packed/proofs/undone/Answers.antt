@@ -1,6 +1,4 @@
 -- `arm64_packed::undone` meets its contract.
-use mathlib.Core.Bool.{true, false}
-use Prim.Native.Nat.{◌-◌}
 use Rattle.arm64_packed.proofs.Places.{undone_empty, undone_nop, undone_set, undone_kept}
 use Rattle.arm64_packed.proofs.undone.Goals as goal
 
