@@ -1,15 +1,15 @@
 -- Question 83 of a code, and its bytes.
 use mathlib.Core.Path.{◌≡◌, refl, subst, sym, ap, ◌∙◌}
-use mathlib.Core.Bool.{Bool, true, false, not, ◌&&◌, ◌||◌, and-true, and-false, or-true, or-false}
-use mathlib.Core.List.{List, [], ◌∷◌, ◌++◌}
+use mathlib.Core.Bool.{Bool, true, false, ◌&&◌, ◌||◌}
+use mathlib.Core.List.{[], ◌∷◌}
 use Prim.Native.Nat.{ℕ, zero, suc, ◌+◌, ◌-◌, ◌*◌, ◌/◌, ◌%◌, ◌≤◌, ◌<◌, ◌^◌}
 use native.Mathlib.Nat.{div-le_self, div-lt_iff_lt-mul, mul-le-mul, zero-add}
 use native.Mathlib.Omega.{arith}
 use lib.Dec.{T, leb, ltb, eqb}
 use lib.ListN.{length, get_or, length-append}
 use mir.Facts.{leb_yes}
-use borrow.Author.Tests.{lt-leb, le-leb, ne_eqb, eq-eqb, leb-true, ltb-true, not-true, not-false}
-use Rattle.format.specs.Prelude.{pick, each, all}
+use borrow.Author.Tests.{lt-leb, le-leb, ne_eqb, eq-eqb, leb-true, ltb-true}
+use Rattle.format.specs.Prelude.{each, all}
 use Rattle.format.specs.Lists.{all_in}
 use Rattle.format.proofs.ListLaws.{in_range}
 use Rattle.format.proofs.Choice.{if-eq, if-ne, either}
@@ -177,13 +177,6 @@ code_bytes_lem c = refl
 
 pub four : {f : Form} → FormGood f → (f.size ≡ 1 → ⊥) → (f.size ≡ 2 → ⊥) → f.size ≡ 4
 four {f} g a b = omega (arith, g.some_bytes, g.few_bytes, g.not_three, a, b)
-
--- the answer of a test that was turned round
-pub accepted : {r x : Bool} → r ≡ x → not r ≡ false → x ≡ true
-accepted {r} {x} e n = sym e ∙ not-false r n
-
-pub refused : {r x : Bool} → r ≡ x → not r ≡ true → x ≡ false
-refused {r} {x} e n = sym e ∙ not-true r n
 
 pub fits_by : (c : Code) → register_fits (form_for c) c ≡ true → code_fits c ≡ offset_fits (form_for c) c
 unfolding code_fits
