@@ -1,10 +1,10 @@
 -- One code: the answers of the leaves, by the code's own tests.
 use mathlib.Core.Path.{◌≡◌, sym, ap, ◌∙◌}
-use mathlib.Core.Bool.{Bool, true, false, not, ◌&&◌, ◌||◌, and-true, and-false, or-true, or-false}
-use Prim.Native.Nat.{ℕ, suc, ◌+◌, ◌-◌, ◌*◌, ◌≤◌, ◌<◌}
+use mathlib.Core.Bool.{true, false, ◌&&◌, ◌||◌, and-true, and-false, or-true}
+use Prim.Native.Nat.{ℕ, ◌+◌, ◌*◌, ◌≤◌, ◌<◌}
 use native.Mathlib.Omega.{arith}
-use lib.Dec.{leb, ltb, eqb}
-use borrow.Author.Tests.{le-leb, lt-leb, eq-eqb, ne_eqb, lt-ltb, le-ltb, not-true, not-false, ltb-true}
+use lib.Dec.{ltb, eqb}
+use borrow.Author.Tests.{le-leb, lt-leb, eq-eqb, ne_eqb, lt-ltb, le-ltb, ltb-true}
 use Rattle.format.specs.Prelude.{pick}
 use Rattle.arm64.specs.declared.Code.{Code}
 use mathlib.Core.List.{List}
@@ -203,13 +203,6 @@ module _ (b c : Code) where
   pub fits_by : register_fits (form_for (shorter c)) (shorter c) ≡ true → code_fits (simple b c) ≡ simple_fits b c
   unfolding simple_fits
   fits_by e = simp e
-
--- the answer of a test that was turned round
-pub accepted : {r x : Bool} → r ≡ x → not r ≡ false → x ≡ true
-accepted {r} {x} e n = sym e ∙ not-false r n
-
-pub refused : {r x : Bool} → r ≡ x → not r ≡ true → x ≡ false
-refused {r} {x} e n = sym e ∙ not-true r n
 
 pub saved_by : (cs : List ℕ) (r : Run) (i j : ℕ) → i ≡ place_of r j → code (get_or cs (3 * i) 0) (get_or cs (3 * i + 1) 0) (get_or cs (3 * i + 2) 0) ≡ saved_at cs r j
 unfolding saved_at numbered_code

@@ -1,9 +1,7 @@
 -- `arm64_simple::run_fits` meets its contract.
-use mathlib.Core.Path.{ap, ◌∙◌}
+use mathlib.Core.Path.{sym, ap, ◌∙◌}
 use native.Mathlib.Omega.{arith}
-use Prim.Native.Nat.{◌-◌}
 use Rattle.arm64.specs.Runs.{pair_behind}
-use Rattle.arm64_simple.proofs.Codes.{accepted, refused}
 use Rattle.arm64_simple.proofs.Loops.{fitting_start, fitting_stopped, fitting_turn, fitting_ended}
 use Rattle.arm64_simple.proofs.run_fits.Goals as goal
 
@@ -14,10 +12,10 @@ pub saved_at-c-requires : goal.saved_at-c-requires
 saved_at-c-requires c = (c.requires, c.loop-j-test.true)
 
 pub returns-then-not-simple_fits : goal.returns-then-not-simple_fits
-returns-then-not-simple_fits c = fitting_stopped c.loop-j.invariant c.loop-j-test.true c.saved_at-c.ensures (refused c.simple_fits.ensures c.if-not-simple_fits.true)
+returns-then-not-simple_fits c = fitting_stopped c.loop-j.invariant c.loop-j-test.true c.saved_at-c.ensures (sym c.simple_fits.ensures ∙ c.if-not-simple_fits.true)
 
 pub loop-j-preserved : goal.loop-j-preserved
-loop-j-preserved c = fitting_turn c.loop-j.invariant c.loop-j-test.true c.saved_at-c.ensures (accepted c.simple_fits.ensures c.if-not-simple_fits.false) (c.pair_behind-b.ensures ∙ ap (pair_behind _) c.simple.ensures)
+loop-j-preserved c = fitting_turn c.loop-j.invariant c.loop-j-test.true c.saved_at-c.ensures (sym c.simple_fits.ensures ∙ c.if-not-simple_fits.false) (c.pair_behind-b.ensures ∙ ap (pair_behind _) c.simple.ensures)
 
 pub returns : goal.returns
 returns c = fitting_ended c.loop-j.invariant (omega (arith, c.loop-j-test.false))

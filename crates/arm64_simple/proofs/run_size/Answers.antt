@@ -1,6 +1,5 @@
 -- `arm64_simple::run_size` meets its contract.
 use native.Mathlib.Omega.{arith}
-use Prim.Native.Nat.{◌-◌}
 use Rattle.arm64_simple.proofs.Loops.{sizing_start, sizing_turn, sizing_ended}
 use Rattle.arm64_simple.proofs.run_size.Goals as goal
 
