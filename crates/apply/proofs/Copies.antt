@@ -1,7 +1,6 @@
 -- A list copied to the front of a buffer, and the front changed.
-use Rattle.std.proofs.Common.{◌≡◌, ℕ, zero, suc, ◌+◌, ◌<◌, ◌≤◌, List, [], ◌∷◌, ◌++◌, length, get_or, drop, set, sym, refl, ap, ◌∙◌, add-one, arith, length-drop, drop-cons}
+use Rattle.std.proofs.Common.{◌≡◌, ℕ, zero, suc, ◌+◌, ◌<◌, ◌≤◌, List, [], ◌∷◌, length, get_or, drop, set, refl, add-one, arith, drop-cons}
 use Rattle.format.specs.Put.{put}
-use Rattle.format.proofs.Wrote.{Wrote}
 use Rattle.format.proofs.Storing.{Storing, start, turn, ended}
 
 none_left : (xs : List ℕ) (i : ℕ) → length xs ≤ i → drop i xs ≡ []

@@ -1,10 +1,10 @@
 -- The loops over the relocations: what is asked of all is asked of the rest, and what is to be stored is stored by the rest.
-use Rattle.std.proofs.Common.{◌≡◌, ℕ, zero, suc, ◌+◌, ◌-◌, ◌*◌, ◌/◌, ◌<◌, ◌≤◌, Bool, true, false, ◌&&◌, T, eqb, ltb, List, [], ◌∷◌, length, sym, refl, ap, ◌∙◌, subst, add-one, arith, ne_eqb}
+use Rattle.std.proofs.Common.{◌≡◌, ℕ, zero, suc, ◌+◌, ◌-◌, ◌/◌, ◌<◌, ◌≤◌, Bool, true, false, ◌&&◌, T, List, [], ◌∷◌, length, sym, refl, ap, ◌∙◌, subst, add-one, arith, ne_eqb}
 use mathlib.Core.Option.{Option, none, some}
 use mir.Facts.{and_yes}
 use Rattle.format.specs.Prelude.{pick, each}
 use Rattle.format.specs.Lists.{Relocation, relocation_at, relocations_of}
-use Rattle.format.proofs.Choice.{if-le, if-gt, either}
+use Rattle.format.proofs.Choice.{if-le, if-gt}
 use Rattle.apply.specs.Values.{Layout, store_of}
 use Rattle.apply.specs.Apply.{Test, front, everywhere, sound, stores}
 use Rattle.apply.specs.Standing.{before_at, behind_at}

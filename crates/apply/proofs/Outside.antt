@@ -1,5 +1,5 @@
 -- Applying changes only the fields of the relocations: every byte outside them is as it was.
-use Rattle.std.proofs.Common.{◌≡◌, ℕ, ◌+◌, ◌<◌, ◌≤◌, T, ◌⊎◌, List, [], ◌∷◌, length, get_or, ℤ, sym, refl, ap, ◌∙◌, subst, ⊎_elim, arith}
+use Rattle.std.proofs.Common.{◌≡◌, ℕ, ◌+◌, ◌<◌, ◌≤◌, T, ◌⊎◌, List, [], ◌∷◌, get_or, ℤ, refl, ◌∙◌, subst, ⊎_elim, arith}
 use mathlib.Core.Option.{Option, none, some}
 use Rattle.format.specs.Put.{put}
 use Rattle.format.specs.Leb.{little}

@@ -1,5 +1,5 @@
 -- What the code stores in a field of Set and Sub is what the definition stores.
-use Rattle.std.proofs.Common.{◌≡◌, ℕ, ◌+◌, ◌*◌, ◌/◌, ◌%◌, ◌^◌, ◌<◌, ◌≤◌, List, pos, ◌+ℤ◌, sym, ap, ◌∙◌, arith, w64, to_z}
+use Rattle.std.proofs.Common.{◌≡◌, ℕ, ◌+◌, ◌*◌, ◌/◌, ◌%◌, ◌^◌, ◌<◌, ◌≤◌, List, pos, ◌+ℤ◌, ap, ◌∙◌, arith, w64, to_z}
 use mathlib.Core.Option.{some}
 use Rattle.format.specs.Put.{put}
 use Rattle.format.specs.Leb.{little}

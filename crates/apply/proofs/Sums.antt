@@ -1,5 +1,5 @@
 -- Addresses looked up, and the values that are made of them.
-use Rattle.std.proofs.Common.{◌≡◌, ℕ, suc, ◌+◌, ◌-◌, ◌*◌, ◌/◌, ◌%◌, ◌^◌, ◌<◌, ◌≤◌, eqb, List, [], ◌∷◌, length, get_or, ℤ, pos, ◌+ℤ◌, ◌-ℤ◌, sym, refl, ap, ◌∙◌, add-zero, add-one, arith, w64, to_z, eq-eqb, ne_eqb}
+use Rattle.std.proofs.Common.{◌≡◌, ℕ, suc, ◌+◌, ◌-◌, ◌*◌, ◌/◌, ◌%◌, ◌^◌, ◌<◌, ◌≤◌, eqb, List, length, get_or, ℤ, pos, ◌+ℤ◌, ◌-ℤ◌, sym, refl, ap, ◌∙◌, add-zero, add-one, arith, w64, to_z, eq-eqb, ne_eqb}
 use mathlib.Core.Option.{Option, none, some}
 use Rattle.format.specs.Prelude.{pick, after, first, each}
 use Rattle.format.specs.Lists.{Relocation}

@@ -12,7 +12,6 @@ use Rattle.format.proofs.Choice.{either}
 use Rattle.apply.specs.declared.Width.{Width}
 use Rattle.apply.specs.declared.Kind.{Kind}
 use Rattle.apply.specs.declared.Kind.TheVariants.{Set, Sub}
-use Rattle.apply.specs.declared.Number.{Number}
 use Rattle.apply.specs.Kinds.{kind_of, bytes_of, size_ok, number_of, is_number, found}
 use Rattle.apply.specs.Fields.{up_to, whole_in}
 use Rattle.apply.specs.Values.{Layout, address_of, value_as, store_as, store_of}

@@ -1,5 +1,5 @@
 -- The wrapping law: the low bits of sums and differences of integers, at any width.
-use Rattle.std.proofs.Common.{◌≡◌, ℕ, suc, ◌+◌, ◌-◌, ◌*◌, ◌/◌, ◌%◌, ◌^◌, ◌<◌, ◌≤◌, ℤ, pos, negsuc, ◌+ℤ◌, ◌-ℤ◌, neg_ℤ, nat_abs, sym, refl, ap, ◌∙◌, mod-lt, mod-eq_of_lt, add-mul, one-mul, div-add-mod', zero-mul, arith, pow_pos, pow-add, w64, to_z}
+use Rattle.std.proofs.Common.{◌≡◌, ℕ, suc, ◌+◌, ◌-◌, ◌*◌, ◌/◌, ◌%◌, ◌^◌, ◌<◌, ◌≤◌, ℤ, pos, negsuc, ◌+ℤ◌, ◌-ℤ◌, neg_ℤ, nat_abs, sym, ap, ◌∙◌, mod-lt, mod-eq_of_lt, add-mul, one-mul, div-add-mod', zero-mul, arith, pow_pos, pow-add, w64, to_z}
 use native.Mathlib.Nat.{add-mul-mod_self_right, mod-mod_of_dvd, dvd-mul_left}
 use lib.IntN.{+ℤ_assoc, +ℤ_comm, +ℤ_invl, +ℤ_idl, +ℤ-neg_ℤ_cancel, pos-+ℤ-pos}
 use mir.Facts.{to_z_pos, to_z-neg}

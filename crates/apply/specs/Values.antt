@@ -1,5 +1,5 @@
 -- What a relocation stores (request W-211): S is the symbol's address, A the addend, P the field's address (RISC-V psABI, "Relocations").
-use Rattle.std.specs.Prelude.{ℕ, ◌+◌, ◌-◌, ◌*◌, ◌/◌, ◌^◌, Bool, List, ℤ, pos, ◌+ℤ◌, ◌-ℤ◌, nat_eq}
+use Rattle.std.specs.Prelude.{ℕ, ◌+◌, ◌-◌, ◌*◌, ◌^◌, List, ℤ, pos, ◌+ℤ◌, ◌-ℤ◌, nat_eq}
 use Rattle.std.proofs.Math.Option.{Option, none, some}
 use Rattle.std.specs.Int.{w64}
 use Rattle.std.proofs.Common.{to_z}

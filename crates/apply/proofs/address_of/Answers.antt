@@ -1,5 +1,4 @@
 -- `apply::address_of` meets its contract.
-use Rattle.std.proofs.Common.{◌-◌}
 use Rattle.apply.proofs.Sums.{search_start, search_met, search_turn, search_ended}
 use Rattle.apply.proofs.address_of.Goals as goal
 

@@ -1,6 +1,5 @@
 -- `apply::all_near` meets its contract.
-use Rattle.std.proofs.Common.{◌≡◌, ◌-◌, sym, refl, ◌∙◌}
-use borrow.Author.Tests.{not-true, not-false}
+use Rattle.std.proofs.Common.{◌≡◌, sym, refl, ◌∙◌}
 use Rattle.apply.specs.Values.{symbols_of}
 use Rattle.apply.specs.Apply.{near}
 use Rattle.apply.specs.Standing.{before_at}

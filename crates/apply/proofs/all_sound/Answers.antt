@@ -1,6 +1,5 @@
 -- `apply::all_sound` meets its contract.
-use Rattle.std.proofs.Common.{◌-◌, sym, ◌∙◌}
-use borrow.Author.Tests.{not-true, not-false}
+use Rattle.std.proofs.Common.{sym, ◌∙◌}
 use Rattle.apply.specs.Values.{layout_of}
 use Rattle.apply.specs.Apply.{sound}
 use Rattle.apply.proofs.Loops.{ask_start, ask_no, ask_turn, ask_ended, same_test}

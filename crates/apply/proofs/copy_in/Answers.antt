@@ -1,5 +1,5 @@
 -- `apply::copy_in` meets its contract.
-use Rattle.std.proofs.Common.{◌-◌, arith}
+use Rattle.std.proofs.Common.{arith}
 use Rattle.apply.proofs.Copies.{copy_start, copy_turn, copy_ended}
 use Rattle.apply.proofs.copy_in.Goals as goal
 

@@ -1,5 +1,5 @@
 -- `apply::number_at` meets its contract.
-use Rattle.std.proofs.Common.{◌≡◌, ℕ, ◌+◌, ◌-◌, get_or, ap, arith}
+use Rattle.std.proofs.Common.{◌≡◌, ℕ, ◌+◌, get_or, ap, arith}
 use Rattle.apply.specs.Fields.{number_at}
 use Rattle.apply.proofs.number_at.Goals as goal
 

@@ -1,6 +1,5 @@
 -- `apply::sound` meets its contract.
-use Rattle.std.proofs.Common.{T, sym, ◌∙◌, subst}
-use borrow.Author.Tests.{not-false}
+use Rattle.std.proofs.Common.{not, T, sym, ap, ◌∙◌, subst}
 use Rattle.apply.specs.Values.{layout_of}
 use Rattle.apply.specs.Standing.{meant, beside}
 use Rattle.apply.proofs.Tests.{not_sized, not_paired, not_known, not_inside, value_left}
@@ -10,27 +9,27 @@ pub returns-then-not-size_ok : goal.returns-then-not-size_ok
 returns-then-not-size_ok c =
     let a = c.args in
     not_sized (layout_of a.addresses.now a.section a.image) a.size (beside a.before) (meant a.r) (beside a.behind) _
-    c.kind_of-k.ensures c.size_ok.ensures c.if-not-size_ok.true
+    c.kind_of-k.ensures c.size_ok.ensures (ap not c.if-not-size_ok.true)
 
 pub returns-then-not-paired : goal.returns-then-not-paired
 returns-then-not-paired c =
     let a = c.args in
     not_paired (layout_of a.addresses.now a.section a.image) a.size (beside a.before) (meant a.r) (beside a.behind) _
-    c.kind_of-k.ensures c.size_ok.ensures c.if-not-size_ok.false c.paired.ensures c.if-not-paired.true
+    c.kind_of-k.ensures c.size_ok.ensures (ap not c.if-not-size_ok.false) c.paired.ensures (ap not c.if-not-paired.true)
 
 pub returns-then-not-known : goal.returns-then-not-known
 returns-then-not-known c =
     let a = c.args in
     not_known (layout_of a.addresses.now a.section a.image) a.size (beside a.before) (meant a.r) (beside a.behind) _
-    c.kind_of-k.ensures c.size_ok.ensures c.if-not-size_ok.false c.paired.ensures c.if-not-paired.false c.known.ensures
-    c.if-not-known.true
+    c.kind_of-k.ensures c.size_ok.ensures (ap not c.if-not-size_ok.false) c.paired.ensures (ap not c.if-not-paired.false) c.known.ensures
+    (ap not c.if-not-known.true)
 
 pub returns-then-not-inside : goal.returns-then-not-inside
 returns-then-not-inside c =
     let a = c.args in
     not_inside (layout_of a.addresses.now a.section a.image) a.size (beside a.before) (meant a.r) (beside a.behind) _
-    c.kind_of-k.ensures c.size_ok.ensures c.if-not-size_ok.false c.paired.ensures c.if-not-paired.false c.known.ensures
-    c.if-not-known.false c.inside.ensures c.if-not-inside.true
+    c.kind_of-k.ensures c.size_ok.ensures (ap not c.if-not-size_ok.false) c.paired.ensures (ap not c.if-not-paired.false) c.known.ensures
+    (ap not c.if-not-known.false) c.inside.ensures (ap not c.if-not-inside.true)
 
 pub value_ok-requires : goal.value_ok-requires
 value_ok-requires c =
@@ -41,5 +40,5 @@ returns c =
     let a = c.args in
     c.value_ok.ensures
     ∙ value_left (layout_of a.addresses.now a.section a.image) a.size (beside a.before) (meant a.r) (beside a.behind) _
-    c.kind_of-k.ensures c.size_ok.ensures c.if-not-size_ok.false c.paired.ensures c.if-not-paired.false c.known.ensures
-    c.if-not-known.false c.inside.ensures c.if-not-inside.false
+    c.kind_of-k.ensures c.size_ok.ensures (ap not c.if-not-size_ok.false) c.paired.ensures (ap not c.if-not-paired.false) c.known.ensures
+    (ap not c.if-not-known.false) c.inside.ensures (ap not c.if-not-inside.false)

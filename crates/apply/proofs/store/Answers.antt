@@ -1,5 +1,5 @@
 -- `apply::store` meets its contract.
-use Rattle.std.proofs.Common.{◌-◌, T, sym, refl, ◌∙◌, subst, arith}
+use Rattle.std.proofs.Common.{T, sym, refl, ◌∙◌, subst, arith}
 use Rattle.apply.specs.declared.Kind.{Kind}
 use Rattle.apply.specs.Kinds.{size_ok}
 use Rattle.apply.specs.Values.{layout_of, store_as}

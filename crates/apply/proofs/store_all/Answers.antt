@@ -1,5 +1,5 @@
 -- `apply::store_all` meets its contract.
-use Rattle.std.proofs.Common.{◌+◌, ◌-◌, ◌≤◌, T, length, sym, ap, ◌∙◌, subst, arith, rules}
+use Rattle.std.proofs.Common.{◌+◌, ◌≤◌, T, length, sym, ap, ◌∙◌, subst, arith, rules}
 use Rattle.format.specs.Lists.{Relocation, relocation_at}
 use Rattle.apply.specs.Kinds.{kind_of, size_ok}
 use Rattle.apply.specs.Values.{layout_of, store_of}
@@ -27,7 +27,7 @@ loop-i-preserved c =
     let k = c.loop-i in
     let a = c.args in
     let l = layout_of a.addresses.now a.section a.image in
-    place_turn a.relocs.now k.invariant c.loop-i-test.true c.store.new.0 (search rules)
+    place_turn a.relocs.now k.invariant c.loop-i-test.true c.store.new.copy (search rules)
     (c.store.ensures
     ∙ ap (λ (r : Relocation). store_of l k.copy r (beside c.behind_at-behind.result)) c.reloc_at-r.ensures
     ∙ ap (store_of l k.copy (relocation_at a.relocs.now k.i)) c.behind_at-behind.ensures)

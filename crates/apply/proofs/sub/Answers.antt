@@ -1,5 +1,5 @@
 -- `apply::sub` meets its contract.
-use Rattle.std.proofs.Common.{◌-◌, ◌%◌, ◌<◌, sym, ◌∙◌, subst, mod-lt, div-add-mod', arith, rules}
+use Rattle.std.proofs.Common.{◌%◌, ◌<◌, sym, ◌∙◌, subst, mod-lt, div-add-mod', arith, rules}
 use Rattle.apply.specs.Standing.{FieldSize}
 use Rattle.apply.proofs.Patches.{field_size, sub_is}
 use Rattle.apply.proofs.sub.Goals as goal
@@ -26,4 +26,4 @@ returns c =
     let z = (goal.at.returns c).Start in
     c.le.ensures.stored
     ∙ sub_is z.args.w z.args.copy.now z.args.p _ _ _ z.args.s z.args.a z.ranges.a.fits c.bytes_of-n.ensures c.modulus-m.ensures.0 c.number_at-old.ensures.0 _ _
-    c.wrapping_add_u64.ensures c.wrapping_sub_u64.ensures
+    c.wrapping_add_u64.ensures.value c.wrapping_sub_u64.ensures.value

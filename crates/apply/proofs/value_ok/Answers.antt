@@ -1,6 +1,5 @@
 -- `apply::value_ok` meets its contract.
 use Rattle.std.proofs.Common.{◌≡◌, true, false, sym, ap, ◌∙◌}
-use borrow.Author.Tests.{not-true, not-false}
 use Rattle.apply.specs.Kinds.{is_number}
 use Rattle.apply.specs.Apply.{measured, value_ok}
 use Rattle.apply.proofs.Tests.{is_some_lem}

@@ -1,5 +1,4 @@
 -- `apply::whole` meets its contract.
-use Rattle.std.proofs.Common.{◌-◌}
 use Rattle.apply.specs.Kinds.{found}
 use Rattle.apply.specs.Fields.{whole_in}
 use Rattle.apply.proofs.whole.Goals as goal
