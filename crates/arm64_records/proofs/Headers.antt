@@ -3,7 +3,7 @@ use mathlib.Core.Path.{◌≡◌, refl, sym, ap, ◌∙◌}
 use mathlib.Core.Logic.{◌≢◌}
 use mathlib.Core.Bool.{Bool, true, false, ◌&&◌}
 use mathlib.Core.List.{List}
-use Prim.Native.Nat.{ℕ, suc, ◌+◌, ◌-◌, ◌*◌, ◌/◌, ◌%◌, ◌≤◌, ◌<◌}
+use Prim.Native.Nat.{ℕ, ◌+◌, ◌*◌, ◌/◌, ◌%◌, ◌≤◌, ◌<◌}
 use native.Mathlib.Omega.{arith}
 use lib.Dec.{leb, eqb}
 use lib.ListN.{length}
@@ -12,7 +12,6 @@ use Rattle.format.proofs.Choice.{if-le, if-gt, if-eq, if-ne, either}
 use Rattle.arm64.specs.declared.Header.{Header}
 use Rattle.arm64.specs.Records.{word_at, version_of, is_long, short_header, long_header, header_at, scopes_in, codes_from, codes_to, header_fits, record_ok}
 use Rattle.arm64_records.specs.Parts.{fitting, headed_at, Narrow, Inside}
-use Rattle.arm64_records.specs.declared.HeaderRead.{HeaderRead}
 use Rattle.arm64_records.specs.declared.HeaderRead.TheVariants.{Is, Bad}
 
 pick_and : {X : Type 0} (a b : Bool) (x y : X) → pick (a && b) x y ≡ pick a (pick b x y) y

@@ -2,25 +2,23 @@
 use mathlib.Core.Path.{◌≡◌, refl, sym, ap, ◌∙◌}
 use mathlib.Core.Logic.{◌≢◌}
 use mathlib.Core.Option.{Option, none, some}
-use mathlib.Core.List.{List, [], ◌∷◌, ◌++◌, append-nil}
-use Prim.Native.Nat.{ℕ, zero, suc, ◌+◌, ◌-◌, ◌*◌, ◌≤◌, ◌<◌}
+use mathlib.Core.List.{List, [], ◌∷◌, append-nil}
+use Prim.Native.Nat.{ℕ, suc, ◌+◌, ◌-◌, ◌*◌, ◌≤◌, ◌<◌}
 use native.Mathlib.Omega.{arith}
-use lib.ListN.{length, take, drop, length-drop}
+use lib.ListN.{length, drop, length-drop}
 use lib.Seq.{length-take-le}
 use Rattle.format.specs.Prelude.{after}
-use Rattle.format.specs.Put.{put}
 use Rattle.format.proofs.Choice.{if-le, if-gt, if-eq, if-ne, either}
 use Rattle.arm64.specs.declared.Code.{Code}
 use Rattle.arm64.specs.declared.Header.{Header}
-use Rattle.arm64.specs.Lists.{Epilogue, code_numbers, epilogue_numbers}
-use Rattle.arm64.specs.Records.{scopes_in, codes_from, codes_to, codes_of, scope_at}
+use Rattle.arm64.specs.Lists.{Epilogue, epilogue_numbers}
+use Rattle.arm64.specs.Records.{codes_from, codes_to, codes_of, scope_at}
 use Rattle.arm64.specs.Reader.{run_at, epilogue, at_end, scoped, record_epilogues, epilogue_codes}
-use Rattle.arm64_runs.specs.Runs.{count_of, codes_in}
-use Rattle.arm64_runs.specs.declared.Count.{Count}
-use Rattle.arm64_runs.specs.declared.Count.TheVariants.{Is, Bad}
+use Rattle.arm64_runs.specs.Runs.{codes_in}
+use Rattle.arm64_runs.specs.declared.Count.TheVariants.{Is}
 use Rattle.arm64_records.specs.Parts.{words_from, total_of, epilogues_in, how_many, Inside, Listed, Placed}
 use Rattle.arm64_records.proofs.Headers.{scopes_all}
-use Rattle.arm64_records.proofs.Epilogues.{scoped_same, counted_run, no_run, scoped-length}
+use Rattle.arm64_records.proofs.Epilogues.{scoped_same}
 
 pub total_some : (x : Option (List Epilogue)) {m : ℕ} → Is m ≡ total_of x → (x ≡ some (epilogues_in x)) × (length (epilogue_codes (epilogues_in x)) ≡ m)
 unfolding total_of epilogues_in

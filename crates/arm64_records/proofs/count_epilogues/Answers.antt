@@ -1,6 +1,5 @@
 -- `arm64_records::count_epilogues` meets its contract.
 use mathlib.Core.Path.{sym, ap, ◌∙◌}
-use Prim.Native.Nat.{◌-◌}
 use native.Mathlib.Omega.{arith}
 use lib.ListN.{length}
 use Rattle.arm64.specs.Reader.{run_at}

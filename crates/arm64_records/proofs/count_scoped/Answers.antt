@@ -1,6 +1,6 @@
 -- `arm64_records::count_scoped` meets its contract.
 use mathlib.Core.Path.{sym, ap, ◌∙◌}
-use Prim.Native.Nat.{ℕ, ◌-◌}
+use Prim.Native.Nat.{ℕ}
 use native.Mathlib.Omega.{arith}
 use Rattle.arm64.specs.Reader.{run_at}
 use Rattle.arm64_runs.specs.Runs.{count_of}

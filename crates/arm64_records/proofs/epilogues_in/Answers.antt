@@ -1,6 +1,5 @@
 -- `arm64_records::epilogues_in` meets its contract.
 use mathlib.Core.Path.{sym}
-use Prim.Native.Nat.{◌-◌}
 use Rattle.arm64_records.proofs.Whole.{many_all, many_one}
 use Rattle.arm64_records.proofs.epilogues_in.Goals as goal
 

@@ -1,6 +1,5 @@
 -- `arm64_records::put_epilogues` meets its contract.
 use mathlib.Core.Path.{ap}
-use Prim.Native.Nat.{◌-◌}
 use native.Mathlib.Omega.{arith}
 use lib.ListN.{length}
 use mathlib.Core.Option.{Option}

@@ -1,5 +1,4 @@
 -- `arm64_records::put_scoped` meets its contract.
-use Prim.Native.Nat.{◌-◌}
 use native.Mathlib.Omega.{arith}
 use Rattle.arm64_records.specs.Parts.{words_from}
 use Rattle.arm64_records.proofs.Epilogues.{list_start, here, numbers_room, codes_room, list_turn, list_ended, index_is, start_is}
