@@ -1,15 +1,13 @@
 -- Two runs compared code by code.
 use mathlib.Core.Path.{◌≡◌, refl, sym, ap, ◌∙◌}
-use mathlib.Core.Bool.{Bool, true, false, not, ◌&&◌}
+use mathlib.Core.Bool.{Bool, true, false, ◌&&◌}
 use mathlib.Core.List.{List, [], ◌∷◌}
-use Prim.Native.Nat.{ℕ, suc, ◌+◌, ◌-◌, ◌≤◌, ◌<◌}
+use Prim.Native.Nat.{ℕ, suc, ◌+◌, ◌≤◌, ◌<◌}
 use native.Mathlib.Omega.{arith}
 use lib.ListN.{length}
-use borrow.Author.Tests.{not-true, not-false}
 use Rattle.format.specs.Prelude.{each}
 use Rattle.format.proofs.ListLaws.{each-length}
 use Rattle.arm64.specs.declared.Code.{Code}
-use Rattle.arm64.specs.Codes.{code}
 use Rattle.arm64.specs.Runs.{no_pair, same_code, same_codes, simple, pair_behind, simplify, leads}
 use Rattle.arm64.proofs.MeaningLaws.{equal}
 use Rattle.arm64_simple.specs.declared.Run.{Run}
@@ -108,10 +106,3 @@ counts_equal cs r o e = equal_length _ _ (written_length cs r ∙ e ∙ sym (wri
 pub counts_differ : (cs : List ℕ) (r o : Run) → (r.count ≡ o.count → ⊥)
     → false ≡ same_codes (simplify no_pair (saves cs r)) (simplify no_pair (saves cs o))
 counts_differ cs r o n = sym (other_length _ _ (λ e. n (sym (written_length cs r) ∙ e ∙ written_length cs o)))
-
--- the answer of a test that was turned round
-pub accepted : {r x : Bool} → r ≡ x → not r ≡ false → x ≡ true
-accepted {r} {x} e n = sym e ∙ not-false r n
-
-pub refused : {r x : Bool} → r ≡ x → not r ≡ true → x ≡ false
-refused {r} {x} e n = sym e ∙ not-true r n

@@ -3,7 +3,6 @@ use Rattle.arm64.specs.Runs.{no_pair, simplify}
 use Rattle.arm64_simple.specs.Saves.{saves}
 use mathlib.Core.Path.{sym, ◌∙◌}
 use native.Mathlib.Omega.{arith}
-use Prim.Native.Nat.{◌-◌}
 use Rattle.format.proofs.PutLaws.{kept, ◌then◌}
 use Rattle.arm64_sharing.proofs.Storing.{put_start, put_low, put_fits, put_turn, put_ended, run_bytes_lem}
 use Rattle.arm64_sharing.proofs.put_run.Goals as goal
