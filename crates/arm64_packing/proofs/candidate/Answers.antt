@@ -1,6 +1,5 @@
 -- `arm64_packing::candidate` meets its contract.
 use native.Mathlib.Omega.{arith}
-use Prim.Native.Nat.{◌-◌}
 use Rattle.arm64_packing.proofs.Tallies.{tallying_start, tallying_low, tallying_down, tallying_turn, tallying_ended}
 use Rattle.arm64.specs.Packing.{nothing_yet}
 use Rattle.arm64_packing.proofs.candidate.Goals as goal

@@ -1,8 +1,7 @@
 -- `arm64_packing::chain_behind` meets its contract.
-use mathlib.Core.Path.{◌∙◌}
+use mathlib.Core.Path.{sym, ◌∙◌}
 use native.Mathlib.Omega.{arith}
 use Rattle.arm64_packing.proofs.Counts.{by_kind, chain_kept, chain_first, chain_later}
-use Rattle.arm64_simple.proofs.Codes.{accepted, refused}
 use Rattle.arm64.specs.Packing.{chain_behind}
 use Rattle.format.specs.Prelude.{pick}
 use Rattle.arm64_packing.proofs.chain_behind.Goals as goal
@@ -20,10 +19,10 @@ unfolding chain_behind pick
 returns-then-c-eq-FPLR_X c = (c.chain_recorded-then-c-eq-FPLR_X.ensures.0 ∙ by_kind (chain_behind c.args.chain) c.args.c c.if-c-eq-FPLR_X.true, c.chain_recorded-then-c-eq-FPLR_X.ensures.1)
 
 pub returns-then-not-stores_lr : goal.returns-then-not-stores_lr
-returns-then-not-stores_lr c = (chain_kept c.args.c c.args.chain c.if-c-eq-PAC_SIGN_LR.false c.if-c-eq-FPLR.false c.if-c-eq-FPLR_X.false (refused c.stores_lr.ensures c.if-not-stores_lr.true), c.requires)
+returns-then-not-stores_lr c = (chain_kept c.args.c c.args.chain c.if-c-eq-PAC_SIGN_LR.false c.if-c-eq-FPLR.false c.if-c-eq-FPLR_X.false (sym c.stores_lr.ensures ∙ c.if-not-stores_lr.true), c.requires)
 
 pub returns-then-chain-eq0 : goal.returns-then-chain-eq0
-returns-then-chain-eq0 c = (chain_first c.args.c c.args.chain c.if-c-eq-PAC_SIGN_LR.false c.if-c-eq-FPLR.false c.if-c-eq-FPLR_X.false (accepted c.stores_lr.ensures c.if-not-stores_lr.false) c.if-chain-eq0.true, omega arith)
+returns-then-chain-eq0 c = (chain_first c.args.c c.args.chain c.if-c-eq-PAC_SIGN_LR.false c.if-c-eq-FPLR.false c.if-c-eq-FPLR_X.false (sym c.stores_lr.ensures ∙ c.if-not-stores_lr.false) c.if-chain-eq0.true, omega arith)
 
 pub returns : goal.returns
-returns c = (chain_later c.args.c c.args.chain c.if-c-eq-PAC_SIGN_LR.false c.if-c-eq-FPLR.false c.if-c-eq-FPLR_X.false (accepted c.stores_lr.ensures c.if-not-stores_lr.false) c.if-chain-eq0.false, c.requires)
+returns c = (chain_later c.args.c c.args.chain c.if-c-eq-PAC_SIGN_LR.false c.if-c-eq-FPLR.false c.if-c-eq-FPLR_X.false (sym c.stores_lr.ensures ∙ c.if-not-stores_lr.false) c.if-chain-eq0.false, c.requires)

@@ -1,7 +1,7 @@
 -- `arm64_packing::integers_in` meets its contract.
+use mathlib.Core.Path.{sym, ◌∙◌}
 use native.Mathlib.Omega.{arith}
 use Rattle.arm64_packing.proofs.Counts.{by_kind, integers_none, integers_lr, integers_one}
-use Rattle.arm64_simple.proofs.Codes.{accepted, refused}
 use Rattle.arm64.specs.Packing.{integers_in}
 use Rattle.format.specs.Prelude.{pick}
 use Rattle.arm64_packing.proofs.integers_in.Goals as goal
@@ -19,10 +19,10 @@ unfolding integers_in pick
 returns-then-c-eq-LRPAIR c = (by_kind integers_in c.args.c c.if-c-eq-LRPAIR.true, omega arith)
 
 pub returns-then-not-stores_one : goal.returns-then-not-stores_one
-returns-then-not-stores_one c = (integers_none c.args.c c.if-c-eq-LRPAIR.false c.if-c-eq-R19R20X.false c.if-c-eq-REGP.false (refused c.stores_one.ensures c.if-not-stores_one.true), omega arith)
+returns-then-not-stores_one c = (integers_none c.args.c c.if-c-eq-LRPAIR.false c.if-c-eq-R19R20X.false c.if-c-eq-REGP.false (sym c.stores_one.ensures ∙ c.if-not-stores_one.true), omega arith)
 
 pub returns-then-c-eq30 : goal.returns-then-c-eq30
-returns-then-c-eq30 c = (integers_lr c.args.c c.if-c-eq-LRPAIR.false c.if-c-eq-R19R20X.false c.if-c-eq-REGP.false (accepted c.stores_one.ensures c.if-not-stores_one.false) c.if-c-eq30.true, omega arith)
+returns-then-c-eq30 c = (integers_lr c.args.c c.if-c-eq-LRPAIR.false c.if-c-eq-R19R20X.false c.if-c-eq-REGP.false (sym c.stores_one.ensures ∙ c.if-not-stores_one.false) c.if-c-eq30.true, omega arith)
 
 pub returns : goal.returns
-returns c = (integers_one c.args.c c.if-c-eq-LRPAIR.false c.if-c-eq-R19R20X.false c.if-c-eq-REGP.false (accepted c.stores_one.ensures c.if-not-stores_one.false) c.if-c-eq30.false, omega arith)
+returns c = (integers_one c.args.c c.if-c-eq-LRPAIR.false c.if-c-eq-R19R20X.false c.if-c-eq-REGP.false (sym c.stores_one.ensures ∙ c.if-not-stores_one.false) c.if-c-eq30.false, omega arith)
