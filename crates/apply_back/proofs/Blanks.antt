@@ -60,12 +60,24 @@ module _ (l : Layout) (size : ℕ) where
   unfolding store_as value_as
   store_single Data bs r behind t = refl
   store_single Address bs r behind t = refl
+  store_single SumPlus bs r behind t = elim t [ ]
+  store_single SumMinus bs r behind t = elim t [ ]
+  store_single Image bs r behind t = elim t [ ]
+  store_single (Set _) bs r behind t = elim t [ ]
+  store_single (Sub _) bs r behind t = elim t [ ]
+  store_single Unknown bs r behind t = elim t [ ]
 
   value_single : (k : kind.Kind) (r : Relocation) (behind : Option Relocation) → Single k → T (value_ok k l r behind)
       → value_as k l r none ≡ some (or_zero (value_as k l r none))
   unfolding value_ok measured value_as
   value_single Data r behind s t = is_some_lem _ t
   value_single Address r behind s t = is_some_lem _ t
+  value_single SumPlus r behind s t = elim s [ ]
+  value_single SumMinus r behind s t = elim s [ ]
+  value_single Image r behind s t = elim s [ ]
+  value_single (Set _) r behind s t = elim s [ ]
+  value_single (Sub _) r behind s t = elim s [ ]
+  value_single Unknown r behind s t = elim s [ ]
 
   blank_none : (at n : ℕ) → Blank l size [] at n
   blank_none at n = (replicate n 0, (length-replicate {A = ℕ} n 0, fills_none l size at (replicate n 0)))
