@@ -1,6 +1,5 @@
 -- `arm64_reader::codes_from` meets its contract.
 use mathlib.Core.Path.{refl}
-use Prim.Native.Nat.{◌-◌}
 use native.Mathlib.Omega.{arith}
 use Rattle.arm64.specs.Records.{codes_from}
 use Rattle.arm64_records.proofs.Headers.{scopes_all, scopes_none}
