@@ -1,5 +1,5 @@
 -- A sum of records as the code counts it.
-use Rattle.std.specs.Prelude.{ℕ, suc, leb}
+use Rattle.std.specs.Prelude.{ℕ, leb}
 use Rattle.format.specs.Prelude.{pick}
 use Rattle.format.specs.Lists.{most_records}
 

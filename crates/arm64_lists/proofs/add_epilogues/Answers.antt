@@ -1,6 +1,6 @@
 -- `arm64_lists::add_epilogues` meets its contract.
 use native.Mathlib.Omega.{arith}
-use Prim.Native.Nat.{ℕ, ◌-◌}
+use Prim.Native.Nat.{ℕ}
 use mathlib.Core.Path.{refl}
 use Rattle.format.specs.Lists.{field}
 use Rattle.arm64.specs.Lists.{epilogue_stride}

@@ -5,7 +5,7 @@ use Rattle.arm64_lists.proofs.Totals.{Adding}
 use Rattle.arm64_lists.proofs.add_epilogues.Given as goal
 
 abbrev pub invariant-loop-i : goal.invariant-loop-i
-invariant-loop-i l = Adding (λ (l.i : ℕ). field epilogue_stride l.es l.i 2) l.at l.n l.sum l.i l.total
+invariant-loop-i l = Adding (λ (i : ℕ). field epilogue_stride l.es i 2) l.at l.n l.sum l.i l.total
 
 abbrev pub decreases-loop-i : goal.decreases-loop-i
 decreases-loop-i l = l.end - l.i

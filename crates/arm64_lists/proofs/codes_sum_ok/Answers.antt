@@ -1,6 +1,5 @@
 -- `arm64_lists::codes_sum_ok` meets its contract.
 use native.Mathlib.Omega.{arith}
-use Prim.Native.Nat.{◌-◌}
 use Rattle.lists.proofs.Sums.{start, ended}
 use Rattle.arm64_lists.proofs.Totals.{total_turn, total_stopped}
 use Rattle.arm64_lists.proofs.codes_sum_ok.Goals as goal

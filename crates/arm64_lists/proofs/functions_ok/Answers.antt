@@ -1,6 +1,7 @@
 -- `arm64_lists::functions_ok` meets its contract.
+use mathlib.Core.Bool.{not}
+use mathlib.Core.Path.{ap}
 use native.Mathlib.Omega.{arith}
-use Prim.Native.Nat.{◌-◌}
 use Rattle.lists.proofs.Ranges.{start, turn, stopped, ended}
 use Rattle.arm64_lists.proofs.functions_ok.Goals as goal
 
@@ -8,10 +9,10 @@ pub loop-k-init : goal.loop-k-init
 loop-k-init c = start _ _ _
 
 pub returns-then-not-function_ok : goal.returns-then-not-function_ok
-returns-then-not-function_ok c = stopped c.loop-k.invariant (omega arith) c.function_ok.ensures c.if-not-function_ok.true
+returns-then-not-function_ok c = stopped c.loop-k.invariant (omega arith) c.function_ok.ensures (ap not c.if-not-function_ok.true)
 
 pub loop-k-preserved : goal.loop-k-preserved
-loop-k-preserved c = turn c.loop-k.invariant (omega arith) c.function_ok.ensures c.if-not-function_ok.false
+loop-k-preserved c = turn c.loop-k.invariant (omega arith) c.function_ok.ensures (ap not c.if-not-function_ok.false)
 
 pub returns : goal.returns
 returns c = ended c.loop-k.invariant (omega arith)

@@ -1,8 +1,8 @@
 -- `arm64_lists::lists_ok` meets its contract.
+use mathlib.Core.Path.{sym, ◌∙◌}
 use native.Mathlib.Omega.{arith}
 use borrow.Author.Tests.{le-leb, lt-leb}
 use mathlib.Core.Bool.{and-true, and-false}
-use Rattle.lists.proofs.Answers.{accepted, refused}
 use Rattle.arm64_lists.proofs.Totals.{ranges}
 use Rattle.arm64.specs.Writer.{lists_ok}
 use Rattle.arm64_lists.proofs.lists_ok.Goals as goal
@@ -13,15 +13,15 @@ returns-then-n-gt-MOST_FUNCTIONS c = simp (lt-leb _ _ c.if-n-gt-MOST_FUNCTIONS.t
 
 pub returns-then-not-sum_ok : goal.returns-then-not-sum_ok
 unfolding lists_ok
-returns-then-not-sum_ok c = simp (le-leb _ _ c.if-n-gt-MOST_FUNCTIONS.false, refused c.sum_ok.ensures c.if-not-sum_ok.true)
+returns-then-not-sum_ok c = simp (le-leb _ _ c.if-n-gt-MOST_FUNCTIONS.false, sym c.sum_ok.ensures ∙ c.if-not-sum_ok.true)
 
 pub returns-then-not-functions_ok : goal.returns-then-not-functions_ok
 unfolding lists_ok
-returns-then-not-functions_ok c = simp (refused c.functions_ok.ensures c.if-not-functions_ok.true, and-false)
+returns-then-not-functions_ok c = simp (sym c.functions_ok.ensures ∙ c.if-not-functions_ok.true, and-false)
 
 pub codes_sum_ok-requires : goal.codes_sum_ok-requires
-codes_sum_ok-requires c = (omega arith, ranges c.args.fs.now c.args.es.now c.args.cs.now _ (accepted c.functions_ok.ensures c.if-not-functions_ok.false))
+codes_sum_ok-requires c = (omega arith, ranges c.args.fs.now c.args.es.now c.args.cs.now _ (sym c.functions_ok.ensures ∙ c.if-not-functions_ok.false))
 
 pub returns : goal.returns
 unfolding lists_ok
-returns c = simp (le-leb _ _ c.if-n-gt-MOST_FUNCTIONS.false, accepted c.sum_ok.ensures c.if-not-sum_ok.false, accepted c.functions_ok.ensures c.if-not-functions_ok.false, and-true) c.codes_sum_ok.ensures
+returns c = simp (le-leb _ _ c.if-n-gt-MOST_FUNCTIONS.false, sym c.sum_ok.ensures ∙ c.if-not-sum_ok.false, sym c.functions_ok.ensures ∙ c.if-not-functions_ok.false, and-true) c.codes_sum_ok.ensures
