@@ -44,9 +44,9 @@ module _ (f : Function) (a : Asked f) (t : is_packed f ≡ true) where
   pub word_fits : word_for f < 2 ^ 32
   unfolding packed_for
   word_fits =
-      let e : Epilogue = only_one.one in
+      let e : Epilogue = only_one_lem.one in
       let word : Packed = candidate (instructions f.size) (prologue_run f) in
-      let s = (both_true (ends_with f e && leads (epilogue_run e) (prologue_run f)) (stands_for word (prologue_run f) (epilogue_run e)) only_one.passes).1 in
+      let s = (both_true (ends_with f e && leads (epilogue_run e) (prologue_run f)) (stands_for word (prologue_run f) (epilogue_run e)) only_one_lem.passes).1 in
       word_low word (held (instructions f.size) (prologue_run f) (epilogue_run e) s)
 
   -- A packed word, whatever the bytes and the place: the length and the epilogue's start as given, and codes that mean what was given.
