@@ -19,7 +19,7 @@ use Rattle.listing.specs.Lines.{Lines, lines_of, along, listed_as, list_after, L
 
 -- the lines of the places that l has
 abbrev pub lines_at : List ℕ → Located → Lines
-lines_at s l = lines_of l.word (part s l.header l.header_end) (part s l.«record» l.record_end)
+lines_at s l = lines_of l.word (part s l.header l.header_end) (part s l.record l.record_end)
 
 said : {A : Type 0} (b : Bool) (x y : A) → b ≡ true → pick b x y ≡ x
 unfolding pick
@@ -46,21 +46,21 @@ module _ (s : List ℕ) (l : Located) (q : ℕ) (old : List ℕ) where
     outside e = no (if-eq l.number 0 _ (bad l.number) z ∙ denied (in_section s (reader_places l)) _ (bad 64) e)
 
     module _ (e : in_section s (reader_places l) ≡ true) where
-      room_asked : along s l (length old) ≡ pick (leb (7 * (l.record_end - l.«record» + 1)) (length old)) (good (lines_at s l)) (bad 54)
+      room_asked : along s l (length old) ≡ pick (leb (7 * (l.record_end - l.record + 1)) (length old)) (good (lines_at s l)) (bad 54)
       unfolding along
       room_asked =
           if-eq l.number 0
-          (pick (in_section s (reader_places l)) (pick (leb (7 * (l.record_end - l.«record» + 1)) (length old)) (good (lines_at s l)) (bad 54)) (bad 64))
+          (pick (in_section s (reader_places l)) (pick (leb (7 * (l.record_end - l.record + 1)) (length old)) (good (lines_at s l)) (bad 54)) (bad 64))
           (bad l.number) z
-          ∙ said (in_section s (reader_places l)) (pick (leb (7 * (l.record_end - l.«record» + 1)) (length old)) (good (lines_at s l)) (bad 54)) (bad 64) e
+          ∙ said (in_section s (reader_places l)) (pick (leb (7 * (l.record_end - l.record + 1)) (length old)) (good (lines_at s l)) (bad 54)) (bad 64) e
 
       -- 54
-      pub short : length old / 7 ≤ l.record_end - l.«record» → Lists q (along s l (length old)) (record { number = 54; lines = 0; ending = 0; from = 0 }) old old
-      short h = no (room_asked ∙ if-gt (7 * (l.record_end - l.«record» + 1)) (length old) (good (lines_at s l)) (bad 54) (omega arith))
+      pub short : length old / 7 ≤ l.record_end - l.record → Lists q (along s l (length old)) (record { number = 54; lines = 0; ending = 0; from = 0 }) old old
+      short h = no (room_asked ∙ if-gt (7 * (l.record_end - l.record + 1)) (length old) (good (lines_at s l)) (bad 54) (omega arith))
 
-      pub asked : l.record_end - l.«record» < length old / 7
-          → T (is_word_size l.word) × (l.header ≤ l.header_end) × (l.header_end ≤ length s) × (l.«record» ≤ l.record_end) × (l.record_end ≤ length s)
-          × (7 * (l.record_end - l.«record» + 1) ≤ length old)
+      pub asked : l.record_end - l.record < length old / 7
+          → T (is_word_size l.word) × (l.header ≤ l.header_end) × (l.header_end ≤ length s) × (l.record ≤ l.record_end) × (l.record_end ≤ length s)
+          × (7 * (l.record_end - l.record + 1) ≤ length old)
       unfolding reader_places
       asked h =
           let f = fits s (reader_places l) e in (
@@ -72,10 +72,10 @@ module _ (s : List ℕ) (l : Located) (q : ℕ) (old : List ℕ) where
             omega arith,
           )
 
-      pub listed : l.record_end - l.«record» < length old / 7 → {r : Listed} {new : List ℕ} → Lists q (good (lines_at s l)) r old new
+      pub listed : l.record_end - l.record < length old / 7 → {r : Listed} {new : List ℕ} → Lists q (good (lines_at s l)) r old new
           → Lists q (along s l (length old)) r old new
-      listed h x = rw (room_asked ∙ if-le (7 * (l.record_end - l.«record» + 1)) (length old) (good (lines_at s l)) (bad 54) (omega arith)) x
+      listed h x = rw (room_asked ∙ if-le (7 * (l.record_end - l.record + 1)) (length old) (good (lines_at s l)) (bad 54) (omega arith)) x
 
-    pub in_order : in_section s (reader_places l) ≡ true → l.«record» ≤ l.record_end
+    pub in_order : in_section s (reader_places l) ≡ true → l.record ≤ l.record_end
     unfolding reader_places
     in_order e = (fits s (reader_places l) e).3

@@ -195,7 +195,7 @@ unfolding along rules_of rules_from run_to reader_places pick
 along_reads s l room ls q p e h low =
     let a = right (eqb l.number 0) _ l.number ls e in
     let b = right (in_section s (reader_places l)) _ 64 ls a.1 in
-    let c = right (leb (7 * (l.record_end - l.«record» + 1)) room) (good (lines_at s l)) 54 ls b.1 in
+    let c = right (leb (7 * (l.record_end - l.record + 1)) room) (good (lines_at s l)) 54 ls b.1 in
     let d : lines_at s l ≡ ls = cc in
-    rw (a.0, b.0, ← d, run_holds l.word p (part s l.header l.header_end) (part s l.«record» l.record_end) low)
+    rw (a.0, b.0, ← d, run_holds l.word p (part s l.header l.header_end) (part s l.record l.record_end) low)
     (ap (answer q) (if-le (suc p) l.length _ (bad 65) h))

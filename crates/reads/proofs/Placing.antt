@@ -82,7 +82,7 @@ numbered l =
       number = 0;
       header = l.header;
       header_end = l.header_end;
-      «record» = l.«record»;
+      «record» = l.record;
       record_end = l.record_end;
       length = l.size;
       pointer = l.pointer;
@@ -121,7 +121,7 @@ module _ (s : List ℕ) (debug : Bool) (word cie past at end : ℕ) where
         end_in s cie past h₁ h₂,
         end_in s at end h₃ h₄,
         operations_in s cie past l.header h₁ h₂ (omega (arith, x.header_ordered)),
-        operations_in s at end l.«record» h₃ h₄ (omega (arith, x.record_ordered)),
+        operations_in s at end l.record h₃ h₄ (omega (arith, x.record_ordered)),
         x.same_word,
       )
       refl

@@ -24,6 +24,5 @@ returns-in-Frame c = rw c.in-Frame.is
 pub returns-in-Save : goal.returns-in-Save
 unfolding code_bytes
 returns-in-Save c =
-    let p = c.code-in-Save-1.given in
     let e = c.size-in-Save.ensures ∙ ap size64 (passed c.in-Save.z (omega (arith, c.in-Save.known_told-in-Save-1-own.given))) in
-    rw p.1 (c.save_size.ensures ∙ ap (save_size p.0.1.0) e ∙ sym (save-length p.0.1.0 c.args.at p.0.0 (size64 p.0.1.1.0)))
+    rw c.in-Save.is (c.save_size.ensures ∙ ap (save_size c.in-Save.vector) e ∙ sym (save-length c.in-Save.vector c.args.at c.in-Save.field-0 (size64 c.in-Save.z)))

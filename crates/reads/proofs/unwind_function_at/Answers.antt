@@ -13,24 +13,24 @@ pub returns-in_default : goal.returns-in_default
 returns-in_default c =
     let a = c.args in
     c.unplaced-in_default.ensures
-    ∙ function_missing a.section.now a.kind a.word a.address a.«record» (sym c.asked.ensures ∙ c.if-not-asked.false) (sym c.entry_end.ensures ∙ c.in_default.is)
+    ∙ function_missing a.section.now a.kind a.word a.address a.record (sym c.asked.ensures ∙ c.if-not-asked.false) (sym c.entry_end.ensures ∙ c.in_default.is)
 
 pub is_header-requires : goal.is_header-requires
-is_header-requires c = let e = entered c.args.section.now c.args.«record» (sym c.entry_end.ensures ∙ c.in-Is.is) in (e.long, e.inside)
+is_header-requires c = let e = entered c.args.section.now c.args.record (sym c.entry_end.ensures ∙ c.in-Is.is) in (e.long, e.inside)
 
 pub returns-then-is_header : goal.returns-then-is_header
 returns-then-is_header c =
     let a = c.args in
     c.unplaced-then-is_header.ensures
-    ∙ function_header a.section.now a.kind a.word a.address a.«record» (sym c.asked.ensures ∙ c.if-not-asked.false) (sym c.entry_end.ensures ∙ c.in-Is.is) (sym c.is_header.ensures ∙ c.if-is_header.true)
+    ∙ function_header a.section.now a.kind a.word a.address a.record (sym c.asked.ensures ∙ c.if-not-asked.false) (sym c.entry_end.ensures ∙ c.in-Is.is) (sym c.is_header.ensures ∙ c.if-is_header.true)
 
 pub function_of-requires : goal.function_of-requires
 function_of-requires c =
-    let e = entered c.args.section.now c.args.«record» (sym c.entry_end.ensures ∙ c.in-Is.is) in
+    let e = entered c.args.section.now c.args.record (sym c.entry_end.ensures ∙ c.in-Is.is) in
     (asked_word _ _ (sym c.asked.ensures ∙ c.if-not-asked.false), e.long, e.inside)
 
 pub returns : goal.returns
 returns c =
     let a = c.args in
     c.function_of.ensures
-    ∙ function_record a.section.now a.kind a.word a.address a.«record» (sym c.asked.ensures ∙ c.if-not-asked.false) (sym c.entry_end.ensures ∙ c.in-Is.is) (sym c.is_header.ensures ∙ c.if-is_header.false)
+    ∙ function_record a.section.now a.kind a.word a.address a.record (sym c.asked.ensures ∙ c.if-not-asked.false) (sym c.entry_end.ensures ∙ c.in-Is.is) (sym c.is_header.ensures ∙ c.if-is_header.false)

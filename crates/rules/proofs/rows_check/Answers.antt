@@ -16,10 +16,10 @@ pub step-stepped-requires : goal.step-stepped-requires
 step-stepped-requires c = c.loop-i.invariant.held
 
 pub returns-then-not-stepped : goal.returns-then-not-stepped
-returns-then-not-stepped c = stopped c.loop-i.invariant c.loop-i-test.true (rw c.offset_at.ensures at c.at_start-first.ensures) (rw c.row_at.ensures at c.step-stepped.ensures) (ap not c.if-not-stepped.true)
+returns-then-not-stepped c = stopped c.loop-i.invariant c.loop-i-test.true (rw c.offset_at.ensures at c.at_start-first.ensures) (rw c.row_at.ensures at c.step-stepped.ensures) c.if-not-stepped.true
 
 pub loop-i-preserved : goal.loop-i-preserved
-loop-i-preserved c = turn c.loop-i.invariant c.loop-i-test.true (rw c.offset_at.ensures at c.at_start-first.ensures) (rw c.row_at.ensures at c.step-stepped.ensures) (ap not c.if-not-stepped.false)
+loop-i-preserved c = turn c.loop-i.invariant c.loop-i-test.true (rw c.offset_at.ensures at c.at_start-first.ensures) (rw c.row_at.ensures at c.step-stepped.ensures) c.if-not-stepped.false
 
 pub returns : goal.returns
 returns c = ended c.loop-i.invariant c.loop-i-test.false

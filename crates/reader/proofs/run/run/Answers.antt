@@ -1,4 +1,5 @@
 -- `reader::run::run` meets its contract.
+use borrow.Author.Tests.{eq-eqb, ne_eqb}
 use mathlib.Core.Path.{sym, ◌∙◌}
 use Prim.Native.Nat.{◌-◌}
 use Rattle.format.proofs.FieldsBack.{word_small}
@@ -28,19 +29,19 @@ pub operations-preserved-in-Nop : goal.operations-preserved-in-Nop
 operations-preserved-in-Nop c = padding c.operations.invariant (sym c.operation.ensures ∙ c.in-Operation.is) c.in-Nop.is
 
 pub returns-then-first : goal.returns-then-first
-returns-then-first c = bad_step c.operations.invariant (sym c.operation.ensures ∙ c.in-Operation.is) c.in-Step.is c.if-first.true
+returns-then-first c = bad_step c.operations.invariant (sym c.operation.ensures ∙ c.in-Operation.is) c.in-Step.is (eq-eqb _ _ c.if-first.true)
 
 pub overflow_sub-p : goal.overflow_sub-p
 overflow_sub-p c = c.operations.invariant.near
 
 pub entries-preserved-then-p-loc : goal.entries-preserved-then-p-loc
-entries-preserved-then-p-loc c = again c.entries.invariant c.entries-test.true c.requires.3 c.requires.4 c.operations.invariant.held c.operations.invariant.all c.operations.invariant.seen (far_step c.operations.invariant (sym c.operation.ensures ∙ c.in-Operation.is) c.in-Step.is c.if-first.false c.if-p-loc.true)
+entries-preserved-then-p-loc c = again c.entries.invariant c.entries-test.true c.requires.3 c.requires.4 c.operations.invariant.held c.operations.invariant.all c.operations.invariant.seen (far_step c.operations.invariant (sym c.operation.ensures ∙ c.in-Operation.is) c.in-Step.is (ne_eqb _ _ c.if-first.false) c.if-p-loc.true)
 
 pub operations-smaller-in-Step : goal.operations-smaller-in-Step
 operations-smaller-in-Step c = shorter c.operations.invariant (sym c.operation.ensures ∙ c.in-Operation.is)
 
 pub operations-preserved-in-Step : goal.operations-preserved-in-Step
-operations-preserved-in-Step c = near_step c.operations.invariant (sym c.operation.ensures ∙ c.in-Operation.is) c.in-Step.is c.if-first.false c.if-p-loc.false
+operations-preserved-in-Step c = near_step c.operations.invariant (sym c.operation.ensures ∙ c.in-Operation.is) c.in-Step.is (ne_eqb _ _ c.if-first.false) c.if-p-loc.false
 
 pub act-acted-requires : goal.act-acted-requires
 act-acted-requires c = c.operations.invariant.held
