@@ -21,7 +21,7 @@ use Rattle.walk.proofs.Leaves.{number_is, number_none}
 
 -- a signed number that was passed on: the bound that a call or a variant hands over
 pub passed : (z : ℤ) → mag z < 2 ^ 63 → to_z w64 (of_z w64 z) ≡ z
-passed z h = to_z-of_z (record { sfits = h })
+passed z h = to_z-of_z {w = w64} (record { sfits = h })
 
 module _ (m : Memory) (cfa : ℕ) (z : ℤ) where
   pub saved_none : number_of (after (sum_of cfa z) (load m)) ≡ Nothing → bad 74 ≡ saved m cfa z

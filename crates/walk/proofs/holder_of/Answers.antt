@@ -1,5 +1,4 @@
 -- `walk::holder_of` meets its contract.
-use Prim.Native.Nat.{◌-◌}
 use mathlib.Core.Path.{sym, ◌∙◌}
 use Rattle.walk.proofs.Holders.{seek_start, seek_met, seek_turn, seek_ended, held_start}
 use Rattle.walk.proofs.holder_of.Goals as goal

@@ -1,7 +1,6 @@
 -- `walk::read_trailer` meets its contract.
 use Rattle.walk.proofs.Trailers.{too_short, too_long, no_distance, no_count, no_size, no_match, numbers}
 use mathlib.Core.Path.{sym, ◌∙◌}
-use borrow.Author.Tests.{not-true, not-false}
 use Rattle.walk.proofs.read_trailer.Goals as goal
 
 pub returns-then-n-lt16 : goal.returns-then-n-lt16

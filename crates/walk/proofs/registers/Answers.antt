@@ -1,6 +1,5 @@
 -- `walk::registers` meets its contract.
 use borrow.Author.Rules.{rules}
-use Prim.Native.Nat.{◌-◌}
 use lib.ListN.{length-set}
 use Rattle.walk.proofs.Files.{fill_start, fill_turn, fill_ended}
 use Rattle.walk.proofs.registers.Goals as goal

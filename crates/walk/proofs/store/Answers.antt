@@ -1,12 +1,11 @@
 -- `walk::store` meets its contract.
-use Prim.Native.Nat.{◌-◌}
 use native.Mathlib.Omega.{arith}
 use lib.ListN.{length-set}
 use Rattle.walk.proofs.Listing.{list_start, list_turn, list_ended}
 use Rattle.walk.proofs.store.Goals as goal
 
 pub loop-i-init : goal.loop-i-init
-loop-i-init c = list_start c.args.t1.positions c.args.t1.pcs c.args.n c.args.out.now c.requires.0 c.requires.1
+loop-i-init c = list_start c.args.f.positions c.args.f.pcs c.args.n c.args.out.now c.requires.0 c.requires.1
 
 pub bounds-out-i : goal.bounds-out-i
 bounds-out-i c = omega (arith, c.loop-i.invariant.room, c.loop-i-test.true)
