@@ -1,6 +1,5 @@
 -- `call_sites::kept` meets its contract.
 use mathlib.Core.Path.{sym, ◌∙◌}
-use borrow.Author.Tests.{not-true, not-false}
 use Rattle.format.specs.CallSiteReader.{site_of, site_numbers}
 use Rattle.call_sites.proofs.Runs.{kept_found, kept_uncovered, kept_this}
 use Rattle.call_sites.proofs.kept.Goals as goal

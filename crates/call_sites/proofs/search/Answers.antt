@@ -1,7 +1,6 @@
 -- `call_sites::search` meets its contract.
 use mathlib.Core.Path.{subst}
 use native.Mathlib.Omega.{arith}
-use Prim.Native.Nat.{◌-◌}
 use Rattle.call_sites.specs.Reads.{EntrySays}
 use Rattle.call_sites.proofs.Runs.{start, turn, unread, ended}
 use Rattle.call_sites.proofs.search.Goals as goal

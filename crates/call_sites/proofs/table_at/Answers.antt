@@ -1,7 +1,6 @@
 -- `call_sites::table_at` meets its contract.
 use mathlib.Core.Path.{sym, ◌∙◌}
 use native.Mathlib.Omega.{arith}
-use borrow.Author.Tests.{not-true, not-false}
 use Rattle.operations.proofs.PositionLaws.{uleb_ahead}
 use Rattle.call_sites.proofs.Tables.{no_head, other_head, no_size, past_end, table_there}
 use Rattle.call_sites.proofs.table_at.Goals as goal
