@@ -1,7 +1,6 @@
 -- `x64_reader::count` meets its contract.
 use mathlib.Core.Path.{subst}
 use native.Mathlib.Omega.{arith}
-use Prim.Native.Nat.{◌-◌}
 use Rattle.x64_reader.specs.Reads.{CodeSays}
 use Rattle.x64_reader.proofs.Runs.{start, turn, counting, count_turn, all_counted, none_counted}
 use Rattle.x64_reader.proofs.count.Goals as goal

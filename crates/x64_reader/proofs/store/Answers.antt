@@ -1,7 +1,6 @@
 -- `x64_reader::store` meets its contract.
 use mathlib.Core.Path.{subst}
 use native.Mathlib.Omega.{arith}
-use Prim.Native.Nat.{◌-◌}
 use Rattle.x64_reader.specs.Reads.{CodeSays}
 use Rattle.x64_reader.proofs.Runs.{start, turn, storing, kept, store_turn, some_left, all_stored, never_unread}
 use Rattle.x64_reader.proofs.store.Goals as goal
