@@ -1,27 +1,25 @@
 -- Questions 81 to 83, by their answers.
-use mathlib.Core.Path.{◌≡◌, refl, subst, sym, ap, ◌∙◌}
-use mathlib.Core.Bool.{Bool, true, false, not, ◌&&◌, ◌||◌, and-true, and-false}
-use mathlib.Core.Option.{Option, none, some}
-use mathlib.Core.List.{List, [], ◌∷◌, ◌++◌}
-use Prim.Native.Nat.{ℕ, zero, suc, ◌+◌, ◌-◌, ◌*◌, ◌/◌, ◌%◌, ◌^◌, ◌≤◌, ◌<◌}
+use mathlib.Core.Path.{◌≡◌, refl, sym, ap, ◌∙◌}
+use mathlib.Core.Bool.{Bool, true, false, ◌&&◌}
+use mathlib.Core.Option.{none}
+use mathlib.Core.List.{List, [], ◌∷◌}
+use Prim.Native.Nat.{ℕ, ◌+◌, ◌-◌, ◌/◌, ◌^◌, ◌≤◌, ◌<◌}
 use native.Mathlib.Omega.{arith}
-use lib.Dec.{T, leb, ltb, eqb}
+use lib.Dec.{leb, ltb, eqb}
 use lib.ListN.{length}
-use borrow.Author.Tests.{leb-true, le-leb, lt-leb, lt-ltb, le-ltb, ltb-true}
-use Rattle.format.specs.Prelude.{pick, each, all}
+use borrow.Author.Tests.{leb-true, le-leb, lt-leb, lt-ltb, le-ltb}
+use Rattle.format.specs.Prelude.{pick, all}
 use Rattle.format.specs.Lists.{all_in, field}
-use Rattle.format.specs.Questions.{Question, ask, and_then}
+use Rattle.format.specs.Questions.{ask, and_then}
 use Rattle.format.proofs.Choice.{either, if-le, if-gt}
-use Rattle.format.proofs.ListLaws.{each-length, in_range}
-use Rattle.lists.proofs.Answers.{same_leb}
-use Rattle.arm64.specs.Lists.{Epilogue, Function, function_stride, epilogue_stride, numbered_epilogue, numbered_function}
-use Rattle.arm64.specs.Meaning.{reverse}
+use Rattle.format.proofs.ListLaws.{each-length}
+use Rattle.arm64.specs.Lists.{Epilogue, Function, function_stride, numbered_epilogue, numbered_function}
 use Rattle.arm64.specs.Runs.{no_pair, run_fits}
 use Rattle.arm64.specs.Writer.{codes_of, index_in, instructions, ends_with, only_one, single, first_index, count_of, words_of, size_ok, start_ok, values_ok, function_asks}
 use Rattle.arm64_simple.specs.Saves.{saves}
 use Rattle.arm64_function.specs.declared.Parts.{Parts}
-use Rattle.arm64_function.specs.Listed.{Listed, Fine, asks}
-use Rattle.arm64_function.specs.Own.{parts_at, codes_in, start_ok_at, fits_at, parts_ok, length_ok, held_to, Fitted}
+use Rattle.arm64_function.specs.Listed.{asks}
+use Rattle.arm64_function.specs.Own.{parts_at, codes_in, start_ok_at, fits_at, parts_ok, length_ok, held_to}
 use Rattle.arm64.proofs.MeaningLaws.{both_true}
 use Rattle.arm64_function.proofs.Given.{prologue_saves, epilogues_same, codes_same, starts_same, fits_same}
 

@@ -1,20 +1,18 @@
 -- Where an epilogue's run stands: an own run behind all that were written before it.
-use mathlib.Core.Path.{◌≡◌, refl, subst, sym, ap, ◌∙◌}
-use mathlib.Core.Bool.{Bool, true, false, not, ◌&&◌, ◌||◌}
+use mathlib.Core.Path.{◌≡◌, sym, ap, ◌∙◌}
+use mathlib.Core.Bool.{Bool, true, false, ◌||◌}
 use mathlib.Core.List.{List, [], ◌∷◌, ◌++◌}
-use Prim.Native.Nat.{ℕ, ◌+◌, ◌-◌, ◌*◌, ◌≤◌, ◌<◌}
+use Prim.Native.Nat.{ℕ, ◌+◌, ◌-◌, ◌≤◌, ◌<◌}
 use native.Mathlib.Omega.{arith}
-use lib.Dec.{T, ltb}
 use lib.ListN.{length, length-append}
 use borrow.Author.Tests.{le-ltb}
 use Rattle.format.specs.Prelude.{pick}
 use Rattle.arm64.specs.declared.Code.{Code}
 use Rattle.arm64.specs.Runs.{no_pair, same_codes, simplify, backwards, run_bytes, run_size, leads, is_in, runs_bytes, place_in, index_of}
-use Rattle.arm64_simple.specs.declared.Run.{Run}
 use Rattle.arm64_simple.specs.Saves.{saves}
 use Rattle.arm64_function.specs.declared.Parts.{Parts}
-use Rattle.arm64_function.specs.Own.{prologue_in, run_at, seen_from, seen_at, own_at, own_in, later_at, Ahead, codes_in, index_at, Nearest, epilogue_at}
-use Rattle.arm64_function.proofs.Own.{both_false, is_in_first, runs_self, leading, run_size_lem, later_all, later_own, seen_next, own_alone, one_bytes, size_is, prologue_size, size_of}
+use Rattle.arm64_function.specs.Own.{prologue_in, run_at, seen_at, own_at, own_in, later_at, Ahead, codes_in, index_at, Nearest}
+use Rattle.arm64_function.proofs.Own.{both_false, is_in_first, runs_self, leading, run_size_lem, later_all, later_own, seen_next, own_alone, one_bytes, size_is, prologue_size}
 
 place_other : (r q : List Code) (b : Bool) (l : List (List Code)) → same_codes r q ≡ false
     → place_in r (pick b [] (q ∷ []) ++ l) ≡ length (runs_bytes (pick b [] (q ∷ []))) + place_in r l

@@ -1,23 +1,22 @@
 -- Runs of their own: what loops over a function's epilogues know.
 use mathlib.Core.Path.{◌≡◌, refl, subst, sym, ap, ◌∙◌}
-use mathlib.Core.Bool.{Bool, true, false, not, ◌&&◌, ◌||◌}
+use mathlib.Core.Bool.{Bool, true, false, ◌&&◌, ◌||◌}
 use mathlib.Core.List.{List, [], ◌∷◌, ◌++◌, append-nil, append_assoc}
-use Prim.Native.Nat.{ℕ, zero, suc, ◌+◌, ◌-◌, ◌*◌, ◌^◌, ◌≤◌, ◌<◌}
+use Prim.Native.Nat.{ℕ, suc, ◌+◌, ◌-◌, ◌^◌, ◌≤◌, ◌<◌}
 use native.Mathlib.Omega.{arith}
-use lib.Dec.{T, leb, ltb, eqb}
 use lib.ListN.{length, length-append}
-use borrow.Author.Tests.{le-leb, lt-leb, lt-ltb, le-ltb, ltb-true, ltb-false, eq-eqb}
+use borrow.Author.Tests.{lt-ltb, le-ltb, eq-eqb}
 use Rattle.format.specs.Prelude.{pick, each}
 use Rattle.format.proofs.Choice.{if-le, if-gt}
 use Rattle.arm64.specs.declared.Code.{Code}
 use Rattle.arm64.specs.Codes.{code_bytes}
-use Rattle.arm64.specs.Runs.{no_pair, same_code, same_codes, simplify, run_fits, backwards, run_bytes, run_size, leads, is_in, own_runs, runs_bytes, place_in, index_of}
+use Rattle.arm64.specs.Runs.{no_pair, same_code, same_codes, simplify, run_fits, backwards, run_bytes, run_size, leads, is_in, own_runs, runs_bytes}
 use Rattle.arm64_simple.specs.declared.Run.{Run}
 use Rattle.arm64_simple.specs.Saves.{saves, Inside}
 use Rattle.arm64_function.specs.declared.Parts.{Parts}
 use Rattle.arm64.proofs.MeaningLaws.{both_true, no_yes, equal}
 use Rattle.arm64.proofs.PackingLaws.{equal_all}
-use Rattle.arm64_function.specs.Own.{prologue_in, run_at, seen_from, seen_at, own_at, own_in, later_at, codes_in, index_at, Nearest, held_to, epilogue_at, fits_at}
+use Rattle.arm64_function.specs.Own.{prologue_in, run_at, seen_from, seen_at, own_at, own_in, later_at, codes_in, Nearest, held_to, epilogue_at, fits_at}
 
 pub both_false : (a b : Bool) → a || b ≡ false → (a ≡ false) × (b ≡ false)
 both_false true b e = absurd (no_yes (sym e))

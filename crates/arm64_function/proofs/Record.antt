@@ -1,11 +1,11 @@
 -- A function's record by its parts is the function's, and what its writers know.
 use mathlib.Core.Path.{◌≡◌, refl, subst, sym, ap, ◌∙◌}
-use mathlib.Core.Bool.{Bool, true, false, not, ◌&&◌, ◌||◌, and-true, and-false}
+use mathlib.Core.Bool.{Bool, true, false, ◌&&◌, and-true, and-false}
 use mathlib.Core.List.{List, [], ◌∷◌, ◌++◌}
-use Prim.Native.Nat.{ℕ, zero, suc, ◌+◌, ◌-◌, ◌*◌, ◌/◌, ◌%◌, ◌^◌, ◌≤◌, ◌<◌}
+use Prim.Native.Nat.{ℕ, zero, suc, ◌+◌, ◌-◌, ◌*◌, ◌/◌, ◌^◌, ◌≤◌, ◌<◌}
 use native.Mathlib.Omega.{arith}
 use native.Mathlib.Nat.{add-zero}
-use lib.Dec.{T, leb, ltb, eqb}
+use lib.Dec.{leb, ltb, eqb}
 use lib.ListN.{length, get_or, replicate, length-append, length-replicate}
 use borrow.Author.Tests.{leb-true, le-leb, lt-leb, ltb-true, eq-eqb, ne_eqb, eqb-true}
 use Rattle.format.specs.Prelude.{pick, each}
@@ -16,11 +16,10 @@ use Rattle.format.proofs.PutLaws.{kept}
 use Rattle.format.proofs.ListLaws.{each-length}
 use Rattle.arm64.specs.declared.Code.{Code}
 use Rattle.arm64.specs.declared.Packed.{Packed}
-use Rattle.arm64.specs.Lists.{Epilogue, Function, function_stride, epilogue_stride, numbered_epilogue, numbered_function}
+use Rattle.arm64.specs.Lists.{Function, function_stride, epilogue_stride, numbered_epilogue, numbered_function}
 use Rattle.arm64.specs.Packing.{candidate, packed_word, tally, tallies, nothing_yet, as_fields}
 use Rattle.arm64.specs.Runs.{no_pair, simplify, backwards, leads, run_fits, resolve}
-use Rattle.arm64.specs.Writer.{codes_of, index_in, instructions, ends_with, only_one, single, first_index, count_of, words_of, header_bytes, scope_bytes, scopes_of, record_bytes, info_of, is_packed, prologue_run, nop_byte}
-use Rattle.arm64_simple.specs.declared.Run.{Run}
+use Rattle.arm64.specs.Writer.{codes_of, instructions, ends_with, only_one, single, first_index, count_of, words_of, header_bytes, scope_bytes, scopes_of, record_bytes, info_of, is_packed, prologue_run, nop_byte}
 use Rattle.arm64_simple.specs.Saves.{saves}
 use Rattle.arm64_header.specs.Header.{header_of}
 use Rattle.arm64_header.proofs.Header.{header_is}
@@ -31,7 +30,7 @@ use Rattle.arm64_function.specs.Own.{parts_at, epilogue_at, prologue_in, run_at,
 use Rattle.arm64_function.specs.Record.{Whole, single_at, count_at, words_at, Shaped, scopes_at, record_at}
 use Rattle.arm64.proofs.MeaningLaws.{both_true}
 use Rattle.arm64_function.proofs.Given.{epilogues_same, codes_same, index_same, ready}
-use Rattle.arm64_function.proofs.Own.{leads_is, searching_start, searching_ended}
+use Rattle.arm64_function.proofs.Own.{searching_start, searching_ended}
 use Rattle.arm64_function.proofs.Indexes.{ahead_start, index_own, index_low}
 use Rattle.arm64_function.proofs.Scopes.{words_length}
 use Rattle.arm64_function.proofs.PackedWord.{ends_same, only_one_lem, only_other, fitted, size_short, start_low, values}

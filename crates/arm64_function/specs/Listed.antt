@@ -4,7 +4,7 @@ use Rattle.std.proofs.Math.Option.{none, some}
 use Rattle.format.specs.Prelude.{pick}
 use Rattle.format.specs.Lists.{field, most_records}
 use Rattle.format.specs.Questions.{Question}
-use Rattle.arm64.specs.Lists.{Function, function_stride, numbered_function}
+use Rattle.arm64.specs.Lists.{function_stride, numbered_function}
 use Rattle.arm64.specs.Writer.{function_ok_at, codes_in, function_asks}
 
 -- question 13 has been asked of it

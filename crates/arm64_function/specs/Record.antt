@@ -1,5 +1,5 @@
 -- A function's record by its parts (Microsoft, "ARM64 exception handling", ".xdata records").
-use Rattle.std.specs.Prelude.{◌≡◌, Bool, true, false, ◌&&◌, List, [], ◌∷◌, ◌++◌, ℕ, ◌+◌, ◌-◌, ◌*◌, ◌/◌, ◌^◌, ◌≤◌, ◌<◌, leb, eqb, length, replicate}
+use Rattle.std.specs.Prelude.{◌≡◌, Bool, ◌&&◌, List, [], ◌++◌, ℕ, ◌+◌, ◌-◌, ◌*◌, ◌/◌, ◌^◌, ◌≤◌, ◌<◌, leb, eqb, length, replicate}
 use Rattle.format.specs.Prelude.{pick}
 use Rattle.format.specs.Lists.{field}
 use Rattle.arm64.specs.Lists.{epilogue_stride}

@@ -1,7 +1,6 @@
 -- `arm64_function::codes_size` meets its contract.
 use native.Mathlib.Omega.{arith}
 use Rattle.arm64_function.proofs.Own.{summing_start, summing_turn, summing_high, summing_ended}
-use Prim.Native.Nat.{◌-◌}
 use Rattle.arm64_function.proofs.codes_size.Goals as goal
 
 pub run_size-size-requires : goal.run_size-size-requires

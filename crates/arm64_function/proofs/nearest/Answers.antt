@@ -3,7 +3,6 @@ use native.Mathlib.Omega.{arith}
 use mathlib.Core.Path.{subst, sym}
 use Prim.Native.Nat.{◌-◌}
 use Rattle.arm64_simple.specs.Saves.{Inside}
-use Rattle.arm64_function.specs.Own.{epilogue_at}
 use Rattle.arm64_function.proofs.Own.{searching_start, searching_turn, searching_found, searching_ended}
 use Rattle.arm64_function.proofs.nearest.Goals as goal
 

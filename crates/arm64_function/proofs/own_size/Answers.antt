@@ -2,7 +2,7 @@
 use native.Mathlib.Omega.{arith}
 use Rattle.arm64_function.proofs.Own.{none_size, one_size, own_leading, own_shared, own_alone, leads_is, size_of, own_count}
 use Rattle.arm64_simple.specs.Saves.{Inside}
-use Prim.Native.Nat.{ℕ, ◌+◌, ◌-◌}
+use Prim.Native.Nat.{ℕ, ◌+◌}
 use mathlib.Core.Path.{subst, sym, ap, ◌∙◌}
 use Rattle.arm64_function.proofs.own_size.Goals as goal
 

@@ -1,6 +1,6 @@
 -- `arm64_function::packed_one` meets its contract.
+use mathlib.Core.Path.{sym, ◌∙◌}
 use Rattle.arm64_function.proofs.PackedWord.{only_start, only_inside, unshared, shared}
-use Rattle.lists.proofs.Answers.{accepted, refused}
 use Rattle.arm64_function.proofs.packed_one.Goals as goal
 
 pub overflow_sub-left : goal.overflow_sub-left
@@ -10,10 +10,10 @@ pub shares-requires : goal.shares-requires
 shares-requires c = (c.requires.ready.prologue, only_inside c.args.es.now c.args.cs.now c.args.p c.args.size c.epilogue_at-epilogue.ensures c.requires)
 
 pub returns-then-not-shares : goal.returns-then-not-shares
-returns-then-not-shares c = unshared c.args.es.now c.args.cs.now c.args.p c.args.size c.epilogue_at-epilogue.ensures (refused c.shares.ensures c.if-not-shares.true)
+returns-then-not-shares c = unshared c.args.es.now c.args.cs.now c.args.p c.args.size c.epilogue_at-epilogue.ensures (sym c.shares.ensures ∙ c.if-not-shares.true)
 
 pub packed-requires : goal.packed-requires
 packed-requires c = let o = c.requires in let e = c.epilogue_at-epilogue.ensures in (o.ready.prologue, only_inside c.args.es.now c.args.cs.now c.args.p c.args.size e o, o.prologue, o.few_prologue)
 
 pub returns : goal.returns
-returns c = shared c.args.es.now c.args.cs.now c.args.p c.args.size c.epilogue_at-epilogue.ensures (accepted c.shares.ensures c.if-not-shares.false) c.packed.ensures
+returns c = shared c.args.es.now c.args.cs.now c.args.p c.args.size c.epilogue_at-epilogue.ensures (sym c.shares.ensures ∙ c.if-not-shares.false) c.packed.ensures

@@ -1,6 +1,6 @@
 -- `arm64_function::parts_at` meets its contract.
 use lib.ListN.{get_or}
-use Prim.Native.Nat.{◌+◌, ◌-◌, ◌*◌}
+use Prim.Native.Nat.{◌+◌, ◌*◌}
 use mathlib.Core.Path.{ap}
 use Rattle.arm64_function.specs.Own.{parts_at}
 use Rattle.arm64_function.proofs.parts_at.Goals as goal

@@ -1,7 +1,6 @@
 -- `arm64_function::put_owns` meets its contract.
 use native.Mathlib.Omega.{arith}
 use Rattle.arm64_function.proofs.Codes.{codes_start, codes_turn, codes_ended, codes_room}
-use Prim.Native.Nat.{◌-◌}
 use Rattle.arm64_function.proofs.put_owns.Goals as goal
 
 pub loop-i-init : goal.loop-i-init

@@ -2,7 +2,6 @@
 use native.Mathlib.Omega.{arith}
 use Rattle.arm64_function.proofs.Scopes.{scoping_start, scoping_low, scoping_room, scoping_turn, scoping_ended, start_low}
 use Rattle.arm64_function.proofs.Indexes.{index_low}
-use Prim.Native.Nat.{◌-◌}
 use Rattle.arm64_function.proofs.put_scopes.Goals as goal
 
 pub run_size-next-requires : goal.run_size-next-requires
