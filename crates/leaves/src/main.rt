@@ -5,9 +5,9 @@
 ghost use Rattle.std.specs.Prelude.{◌<◌};
 
 use format::{Operation, Row};
-use libc::STDOUT_FILENO;
 use operations::Decoded;
 use operations::fields::{Position, Signed, Unsigned, read_sleb, read_uleb};
+use std::io;
 
 const UNSIGNED: [u64; 12] = [
     0,
@@ -52,262 +52,255 @@ const WORD: u64 = 8;
 // An offset of 32 bits, in two's complement.
 const MINUS_16: u64 = 4294967280;
 
-fn number(n: u64) {
-    io::write_all(STDOUT_FILENO, b" ");
-    io::print_decimal(STDOUT_FILENO, n);
+fn number(rt: &impl Print, n: u64) -> io::Result<()> {
+    print!(rt; " {n}")
 }
 
 // The sign, and v or, where v is negative, -(v + 1).
-fn signed_number(v: i64) {
+fn signed_number(rt: &impl Print, v: i64) -> io::Result<()> {
     if v < 0 {
-        io::write_all(STDOUT_FILENO, b" -");
-        number((-1 - v) as u64);
+        print!(rt; " -")?;
+        number(rt, (-1 - v) as u64)
     } else {
-        io::write_all(STDOUT_FILENO, b" +");
-        number(v as u64);
+        print!(rt; " +")?;
+        number(rt, v as u64)
     }
 }
 
-fn bytes(s: &[u8]) {
-    io::write_all(STDOUT_FILENO, b" ");
-    for i in 0..s.len() {
-        io::print_hex(STDOUT_FILENO, leb::wide(s[i]), 2);
+fn bytes(rt: &impl Print, s: &[u8]) -> io::Result<()> {
+    print!(rt; " ")?;
+    for b in s {
+        print!(rt; "{b:02x}")?;
     }
+    Ok(())
 }
 
 // The start of a line: what is tried, and the vector's index.
-fn begin(name: &[u8], i: usize) {
-    io::write_all(STDOUT_FILENO, name);
-    number(i as u64);
+fn begin(rt: &impl Print, name: &str, i: usize) -> io::Result<()> {
+    print!(rt; "{name} {i}")
 }
 
 // What was written, and how many bytes it was said to take.
-fn written(s: &[u8], size: usize) {
-    bytes(s);
-    number(size as u64);
+fn written(rt: &impl Print, s: &[u8], size: usize) -> io::Result<()> {
+    bytes(rt, s)?;
+    number(rt, size as u64)
 }
 
 // The end of a line: what is read, and the place past it.
-fn read_unsigned(s: &[u8]) {
+fn read_unsigned(rt: &impl Print, s: &[u8]) -> io::Result<()> {
     match read_uleb(s, Position::START) {
         Unsigned::Value(v, next) => {
-            number(v);
-            number(next.at as u64);
+            number(rt, v)?;
+            number(rt, next.at as u64)?;
         }
-        Unsigned::Bad => {
-            io::write_all(STDOUT_FILENO, b" bad");
-        }
+        Unsigned::Bad => print!(rt; " bad")?,
     }
-    io::write_all(STDOUT_FILENO, b"\n");
+    println!(rt)
 }
 
-fn read_signed(s: &[u8]) {
+fn read_signed(rt: &impl Print, s: &[u8]) -> io::Result<()> {
     match read_sleb(s, Position::START) {
         Signed::Value(v, next) => {
-            signed_number(v);
-            number(next.at as u64);
+            signed_number(rt, v)?;
+            number(rt, next.at as u64)?;
         }
-        Signed::Bad => {
-            io::write_all(STDOUT_FILENO, b" bad");
-        }
+        Signed::Bad => print!(rt; " bad")?,
     }
-    io::write_all(STDOUT_FILENO, b"\n");
+    println!(rt)
 }
 
 // A row's kind, register and second operand.
-fn row_parts(kind: u64, reg: u16, z: i64) {
-    number(kind);
-    number(reg as u64);
-    signed_number(z);
+fn row_parts(rt: &impl Print, kind: u64, reg: u16, z: i64) -> io::Result<()> {
+    number(rt, kind)?;
+    number(rt, reg as u64)?;
+    signed_number(rt, z)
 }
 
-fn print_row(r: Row) {
+fn print_row(rt: &impl Print, r: Row) -> io::Result<()> {
     match r {
-        Row::DefCfa(reg, z) => row_parts(0, reg, z),
-        Row::DefCfaOffset(z) => row_parts(1, 0, z),
-        Row::DefCfaRegister(reg) => row_parts(2, reg, 0),
-        Row::Offset(reg, z) => row_parts(3, reg, z),
-        Row::Restore(reg) => row_parts(4, reg, 0),
-        Row::Undefined(reg) => row_parts(5, reg, 0),
-        Row::RememberState => row_parts(6, 0, 0),
-        Row::RestoreState => row_parts(7, 0, 0),
-        Row::NegateRaState => row_parts(8, 0, 0),
-        Row::SameValue(reg) => row_parts(9, reg, 0),
-        Row::InRegister(reg, other) => row_parts(10, reg, other as i64),
+        Row::DefCfa(reg, z) => row_parts(rt, 0, reg, z),
+        Row::DefCfaOffset(z) => row_parts(rt, 1, 0, z),
+        Row::DefCfaRegister(reg) => row_parts(rt, 2, reg, 0),
+        Row::Offset(reg, z) => row_parts(rt, 3, reg, z),
+        Row::Restore(reg) => row_parts(rt, 4, reg, 0),
+        Row::Undefined(reg) => row_parts(rt, 5, reg, 0),
+        Row::RememberState => row_parts(rt, 6, 0, 0),
+        Row::RestoreState => row_parts(rt, 7, 0, 0),
+        Row::NegateRaState => row_parts(rt, 8, 0, 0),
+        Row::SameValue(reg) => row_parts(rt, 9, reg, 0),
+        Row::InRegister(reg, other) => row_parts(rt, 10, reg, other as i64),
     }
 }
 
-fn print_operation(op: Operation) {
+fn print_operation(rt: &impl Print, op: Operation) -> io::Result<()> {
     match op {
-        Operation::Nop => {
-            io::write_all(STDOUT_FILENO, b" nop");
-        }
-        Operation::Step(n) => number(n),
-        Operation::Does(r) => print_row(r),
+        Operation::Nop => print!(rt; " nop"),
+        Operation::Step(n) => number(rt, n),
+        Operation::Does(r) => print_row(rt, r),
     }
 }
 
-fn read_operation(s: &[u8]) {
+fn read_operation(rt: &impl Print, s: &[u8]) -> io::Result<()> {
     match operations::operation(s, Position::START, WORD) {
         Decoded::Operation(op, next) => {
-            print_operation(op);
-            number(next.at as u64);
+            print_operation(rt, op)?;
+            number(rt, next.at as u64)?;
         }
-        Decoded::Bad => {
-            io::write_all(STDOUT_FILENO, b" bad");
-        }
+        Decoded::Bad => print!(rt; " bad")?,
     }
-    io::write_all(STDOUT_FILENO, b"\n");
+    println!(rt)
 }
 
-fn unsigned(i: usize, v: u64) {
+fn unsigned(rt: &impl Print, i: usize, v: u64) -> io::Result<()> {
     let mut out = [0u8; 10];
     let n = leb::uleb(&mut out, 0, v);
     let s = &out[..n];
-    begin(b"uleb", i);
-    written(s, leb::uleb_size(v));
-    read_unsigned(s);
+    begin(rt, "uleb", i)?;
+    written(rt, s, leb::uleb_size(v))?;
+    read_unsigned(rt, s)
 }
 
-fn signed(i: usize, v: i64) {
+fn signed(rt: &impl Print, i: usize, v: i64) -> io::Result<()> {
     let mut out = [0u8; 10];
     let n = leb::sleb(&mut out, 0, v);
     let s = &out[..n];
-    begin(b"sleb", i);
-    written(s, leb::sleb_size(v));
-    read_signed(s);
+    begin(rt, "sleb", i)?;
+    written(rt, s, leb::sleb_size(v))?;
+    read_signed(rt, s)
 }
 
 // Nine bytes hold a row whose offset has 32 bits.
-fn write_row(r: Row) {
+fn write_row(rt: &impl Print, r: Row) -> io::Result<()> {
     let size = rows::row_size(WORD, r);
     if 9 < size {
-        io::write_all(STDOUT_FILENO, b" long\n");
-        return;
+        return println!(rt; " long");
     }
     let mut out = [0u8; 9];
     let n = rows::row(&mut out, 0, WORD, r);
     let s = &out[..n];
-    written(s, size);
-    read_operation(s);
+    written(rt, s, size)?;
+    read_operation(rt, s)
 }
 
 // The second row of a list.
-fn row(i: usize, kind: u64, reg: u64, off: u64) {
+fn row(rt: &impl Print, i: usize, kind: u64, reg: u64, off: u64) -> io::Result<()> {
     let list = [7, 5, 9, 0, 0, kind, reg, off];
-    begin(b"row", i);
+    begin(rt, "row", i)?;
     if rows::row_ok(&list, 1) {
-        write_row(rows::row_at(&list, 1));
+        write_row(rt, rows::row_at(&list, 1))
     } else {
-        io::write_all(STDOUT_FILENO, b" no row\n");
+        println!(rt; " no row")
     }
 }
 
-fn step(i: usize, by: u64) {
+fn step(rt: &impl Print, i: usize, by: u64) -> io::Result<()> {
     let mut out = [0u8; 5];
     let n = rows::advance(&mut out, 0, by);
     let s = &out[..n];
-    begin(b"step", i);
-    written(s, rows::advance_size(by));
-    read_operation(s);
+    begin(rt, "step", i)?;
+    written(rt, s, rows::advance_size(by))?;
+    read_operation(rt, s)
 }
 
-fn foreign_unsigned(i: usize, s: &[u8]) {
-    begin(b"read uleb", i);
-    read_unsigned(s);
+fn foreign_unsigned(rt: &impl Print, i: usize, s: &[u8]) -> io::Result<()> {
+    begin(rt, "read uleb", i)?;
+    read_unsigned(rt, s)
 }
 
-fn foreign_signed(i: usize, s: &[u8]) {
-    begin(b"read sleb", i);
-    read_signed(s);
+fn foreign_signed(rt: &impl Print, i: usize, s: &[u8]) -> io::Result<()> {
+    begin(rt, "read sleb", i)?;
+    read_signed(rt, s)
 }
 
-fn all_unsigned() {
+fn all_unsigned(rt: &impl Print) -> io::Result<()> {
     for i in 0..UNSIGNED.len() {
-        unsigned(i, UNSIGNED[i]);
+        unsigned(rt, i, UNSIGNED[i])?;
     }
+    Ok(())
 }
 
-fn all_signed() {
+fn all_signed(rt: &impl Print) -> io::Result<()> {
     for i in 0..SIGNED.len() {
-        signed(i, SIGNED[i]);
+        signed(rt, i, SIGNED[i])?;
     }
+    Ok(())
 }
 
 // Every kind that names a register.
-fn rows_of(first: usize, reg: u64)
+fn rows_of(rt: &impl Print, first: usize, reg: u64) -> io::Result<()>
     requires { first < 50 }
 {
-    row(first, 0, reg, 8);
-    row(first + 1, 0, reg, MINUS_16);
-    row(first + 2, 2, reg, 0);
-    row(first + 3, 3, reg, MINUS_16);
-    row(first + 4, 3, reg, 8);
-    row(first + 5, 4, reg, 0);
-    row(first + 6, 5, reg, 0);
+    row(rt, first, 0, reg, 8)?;
+    row(rt, first + 1, 0, reg, MINUS_16)?;
+    row(rt, first + 2, 2, reg, 0)?;
+    row(rt, first + 3, 3, reg, MINUS_16)?;
+    row(rt, first + 4, 3, reg, 8)?;
+    row(rt, first + 5, 4, reg, 0)?;
+    row(rt, first + 6, 5, reg, 0)
 }
 
-fn all_rows() {
-    rows_of(0, 0);
-    rows_of(7, 63);
-    rows_of(14, 64);
-    rows_of(21, 127);
-    rows_of(28, 128);
-    rows_of(35, 65535);
-    row(42, 1, 0, 0);
-    row(43, 1, 0, 16);
-    row(44, 1, 0, MINUS_16);
-    row(45, 1, 0, 2147483647);
-    row(46, 1, 0, 2147483648);
-    row(47, 6, 0, 0);
-    row(48, 7, 0, 0);
-    row(49, 8, 0, 0);
+fn all_rows(rt: &impl Print) -> io::Result<()> {
+    rows_of(rt, 0, 0)?;
+    rows_of(rt, 7, 63)?;
+    rows_of(rt, 14, 64)?;
+    rows_of(rt, 21, 127)?;
+    rows_of(rt, 28, 128)?;
+    rows_of(rt, 35, 65535)?;
+    row(rt, 42, 1, 0, 0)?;
+    row(rt, 43, 1, 0, 16)?;
+    row(rt, 44, 1, 0, MINUS_16)?;
+    row(rt, 45, 1, 0, 2147483647)?;
+    row(rt, 46, 1, 0, 2147483648)?;
+    row(rt, 47, 6, 0, 0)?;
+    row(rt, 48, 7, 0, 0)?;
+    row(rt, 49, 8, 0, 0)
 }
 
 // A register that keeps its value, and one that is held in another; the last two are no rows.
-fn register_rows() {
-    row(50, 9, 0, 0);
-    row(51, 9, 128, 0);
-    row(52, 9, 65535, 0);
-    row(53, 10, 0, 127);
-    row(54, 10, 127, 128);
-    row(55, 10, 65535, 0);
-    row(56, 10, 128, 65535);
-    row(57, 9, 3, 1);
-    row(58, 10, 3, 65536);
+fn register_rows(rt: &impl Print) -> io::Result<()> {
+    row(rt, 50, 9, 0, 0)?;
+    row(rt, 51, 9, 128, 0)?;
+    row(rt, 52, 9, 65535, 0)?;
+    row(rt, 53, 10, 0, 127)?;
+    row(rt, 54, 10, 127, 128)?;
+    row(rt, 55, 10, 65535, 0)?;
+    row(rt, 56, 10, 128, 65535)?;
+    row(rt, 57, 9, 3, 1)?;
+    row(rt, 58, 10, 3, 65536)
 }
 
-fn all_steps() {
+fn all_steps(rt: &impl Print) -> io::Result<()> {
     for i in 0..STEPS.len() {
-        step(i, STEPS[i]);
+        step(rt, i, STEPS[i])?;
     }
+    Ok(())
 }
 
 // Numbers of ten and eleven bytes, cut ones, and long forms.
-fn foreign() {
-    foreign_unsigned(0, b"\x80\x80\x80\x80\x80\x80\x80\x80\x80\x01");
-    foreign_unsigned(1, b"\xff\xff\xff\xff\xff\xff\xff\xff\xff\x01");
-    foreign_unsigned(2, b"\x80\x80\x80\x80\x80\x80\x80\x80\x80\x02");
-    foreign_unsigned(3, b"\x80\x80\x80\x80\x80\x80\x80\x80\x80\x80\x00");
-    foreign_unsigned(4, b"\x80");
-    foreign_unsigned(5, b"\x80\x00");
-    foreign_unsigned(6, b"\xe5\x8e\x26");
-    foreign_signed(0, b"\x80\x80\x80\x80\x80\x80\x80\x80\x80\x7f");
-    foreign_signed(1, b"\x80\x80\x80\x80\x80\x80\x80\x80\x80\x00");
-    foreign_signed(2, b"\x80\x80\x80\x80\x80\x80\x80\x80\x80\x01");
-    foreign_signed(3, b"\xff\xff\xff\xff\xff\xff\xff\xff\xff\x00");
-    foreign_signed(4, b"\xff\xff\xff\xff\xff\xff\xff\xff\xff\x7f");
-    foreign_signed(5, b"\x80\x80\x80\x80\x80\x80\x80\x80\x80\x80\x00");
-    foreign_signed(6, b"\xc0");
-    foreign_signed(7, b"\xc0\x00");
-    foreign_signed(8, b"\x40");
+fn foreign(rt: &impl Print) -> io::Result<()> {
+    foreign_unsigned(rt, 0, b"\x80\x80\x80\x80\x80\x80\x80\x80\x80\x01")?;
+    foreign_unsigned(rt, 1, b"\xff\xff\xff\xff\xff\xff\xff\xff\xff\x01")?;
+    foreign_unsigned(rt, 2, b"\x80\x80\x80\x80\x80\x80\x80\x80\x80\x02")?;
+    foreign_unsigned(rt, 3, b"\x80\x80\x80\x80\x80\x80\x80\x80\x80\x80\x00")?;
+    foreign_unsigned(rt, 4, b"\x80")?;
+    foreign_unsigned(rt, 5, b"\x80\x00")?;
+    foreign_unsigned(rt, 6, b"\xe5\x8e\x26")?;
+    foreign_signed(rt, 0, b"\x80\x80\x80\x80\x80\x80\x80\x80\x80\x7f")?;
+    foreign_signed(rt, 1, b"\x80\x80\x80\x80\x80\x80\x80\x80\x80\x00")?;
+    foreign_signed(rt, 2, b"\x80\x80\x80\x80\x80\x80\x80\x80\x80\x01")?;
+    foreign_signed(rt, 3, b"\xff\xff\xff\xff\xff\xff\xff\xff\xff\x00")?;
+    foreign_signed(rt, 4, b"\xff\xff\xff\xff\xff\xff\xff\xff\xff\x7f")?;
+    foreign_signed(rt, 5, b"\x80\x80\x80\x80\x80\x80\x80\x80\x80\x80\x00")?;
+    foreign_signed(rt, 6, b"\xc0")?;
+    foreign_signed(rt, 7, b"\xc0\x00")?;
+    foreign_signed(rt, 8, b"\x40")
 }
 
-fn main() {
-    all_unsigned();
-    all_signed();
-    all_rows();
-    register_rows();
-    all_steps();
-    foreign();
+fn main(rt: HostRuntime) -> io::Result<()> {
+    all_unsigned(&rt)?;
+    all_signed(&rt)?;
+    all_rows(&rt)?;
+    register_rows(&rt)?;
+    all_steps(&rt)?;
+    foreign(&rt)
 }
