@@ -21,7 +21,7 @@ extent_at-requires c = omega (arith, c.requires.2)
 
 pub fields_ok-requires : goal.fields_ok-requires
 fields_ok-requires c =
-    (c.requires.0.is_IsWord, rw (c.taken-e.ensures, c.extent_at.ensures) (pairs_taken c.args.fs.now c.args.rows.now c.args.landings.now c.args.pairs.now (counted _ c.requires.1) _ c.requires.2 (is_yes_lem (accepted c.outline_ok.ensures (ap not c.if-not-outline_ok.false))) _))
+    (c.requires.0.is_word, rw (c.taken-e.ensures, c.extent_at.ensures) (pairs_taken c.args.fs.now c.args.rows.now c.args.landings.now c.args.pairs.now (counted _ c.requires.1) _ c.requires.2 (is_yes_lem (accepted c.outline_ok.ensures (ap not c.if-not-outline_ok.false))) _))
 
 pub returns-then-not-fields_ok : goal.returns-then-not-fields_ok
 returns-then-not-fields_ok c = tt
@@ -29,7 +29,7 @@ returns-then-not-fields_ok c = tt
 pub surveyed_rows-requires : goal.surveyed_rows-requires
 surveyed_rows-requires c =
     let o = is_yes_lem (accepted c.outline_ok.ensures (ap not c.if-not-outline_ok.false)) in
-    (c.requires.0.is_IsWord, rw (c.taken-e.ensures, c.extent_at.ensures) (rows_taken c.args.fs.now c.args.rows.now c.args.landings.now c.args.pairs.now (counted _ c.requires.1) _ c.requires.2 o _), rw (c.taken-e.ensures, c.extent_at.ensures) (rows_few_at c.args.fs.now c.args.rows.now c.args.landings.now c.args.pairs.now (counted _ c.requires.1) _ c.requires.2 _))
+    (c.requires.0.is_word, rw (c.taken-e.ensures, c.extent_at.ensures) (rows_taken c.args.fs.now c.args.rows.now c.args.landings.now c.args.pairs.now (counted _ c.requires.1) _ c.requires.2 o _), rw (c.taken-e.ensures, c.extent_at.ensures) (rows_few_at c.args.fs.now c.args.rows.now c.args.landings.now c.args.pairs.now (counted _ c.requires.1) _ c.requires.2 _))
 
 pub returns : goal.returns
 returns c =

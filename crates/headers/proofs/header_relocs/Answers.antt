@@ -12,13 +12,13 @@ unfolding numbers_of
 returns-then-debug c = rw (relocs_debug c.args.debug c.args.m c.args.at c.args.e c.if-debug.true) idle
 
 pub pointer_place-requires : goal.pointer_place-requires
-pointer_place-requires c = ((word_bounds c.args.m.word c.requires.0.is_IsWord).1, c.requires.1)
+pointer_place-requires c = ((word_bounds c.args.m.word c.requires.0.is_word).1, c.requires.1)
 
 pub pointer-requires : goal.pointer-requires
 pointer-requires c = let h = rw (count_personal c.args.debug c.args.e c.if-debug.false (decides_personal c.args.e c.kind_of.ensures c.in-Personal.is)) at c.requires.2 in search rules
 
 pub pointer_place-requires-in-Named : goal.pointer_place-requires-in-Named
-pointer_place-requires-in-Named c = ((word_bounds c.args.m.word c.requires.0.is_IsWord).1, c.requires.1)
+pointer_place-requires-in-Named c = ((word_bounds c.args.m.word c.requires.0.is_word).1, c.requires.1)
 
 pub pointer-requires-in-Named : goal.pointer-requires-in-Named
 pointer-requires-in-Named c = let d = decides_named c.args.e c.kind_of.ensures c.in-Named.is in let h = rw (count_named c.args.debug c.args.e c.if-debug.false d.0 d.1) at c.requires.2 in search rules
