@@ -1,6 +1,5 @@
 -- `walked::all_left` meets its contract.
 use mathlib.Core.Path.{sym, ◌∙◌}
-use Prim.Native.Nat.{◌-◌}
 use borrow.Author.Rules.{rules}
 use lib.ListN.{length-set}
 use Rattle.format.specs.Prelude.{pick}
@@ -17,16 +16,15 @@ pub loop-i-init : goal.loop-i-init
 loop-i-init c = turn_start _ _ _ (search rules) (search rules)
 
 pub one-f-requires : goal.one-f-requires
-one-f-requires c =
-    (
-      search rules,
-      search rules,
-      search rules,
-      c.requires,
-      λ e.
-          let m = c.named-marks.ensures c.loop-i.i (search rules) e in
-          unnamed_unstated c.args.section.now c.args.l c.args.p c.loop-i.i c.requires m.0 m.1,
-    )
+one-f-requires c = (
+  search rules,
+  search rules,
+  search rules,
+  c.requires,
+  λ e.
+      let m = c.named-marks.ensures c.loop-i.i (search rules) e in
+      unnamed_unstated c.args.section.now c.args.l c.args.p c.loop-i.i c.requires m.0 m.1,
+)
 
 pub returns-then-f-ne0 : goal.returns-then-f-ne0
 returns-then-f-ne0 c = sym (all_bad _ c.if-f-ne0.true) ∙ turn_refused c.loop-i.invariant c.loop-i-test.true c.one-f.result c.if-f-ne0.true c.one-f.ensures

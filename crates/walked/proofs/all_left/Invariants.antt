@@ -1,5 +1,4 @@
 use Prim.Native.Nat.{◌-◌}
-use borrow.Author.Rules.{rules}
 use Rattle.walk.specs.Walk.{left_by}
 use Rattle.walk.specs.Standing.{memory_of, slots}
 use Rattle.walk.proofs.Turns.{Turning}

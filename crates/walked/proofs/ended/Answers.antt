@@ -6,4 +6,4 @@ use Rattle.walked.proofs.ended.Goals as goal
 
 pub returns : goal.returns
 unfolding walked_of pick
-returns c = (refl, refl)
+returns c = record { result_value = refl; count_value = refl }

@@ -1,6 +1,5 @@
 -- `walked::frames` meets its contract.
 use mathlib.Core.Path.{sym, ◌∙◌}
-use Prim.Native.Nat.{◌-◌}
 use native.Mathlib.Omega.{arith}
 use borrow.Author.Rules.{rules}
 use lib.ListN.{length-set}
@@ -18,7 +17,10 @@ returns-in_default c =
     let a = c.args in
     let l = c.loop-k in
     let n = unheld (fault_of a.machine a.address a.stack.now a.functions.now) (caller_at l.file l.pc l.exact) c.held_at.ensures c.in_default.is in
-    (c.ended.ensures.0 ∙ go_unheld l.invariant c.loop-k-test.true n, omega (arith, c.ended.ensures.1, l.invariant.inside))
+    record {
+      result_value = c.ended.ensures.result_value ∙ go_unheld l.invariant c.loop-k-test.true n;
+      count_bound = omega (arith, c.ended.ensures.count_value, l.invariant.inside);
+    }
 
 pub caller_by-s-requires : goal.caller_by-s-requires
 caller_by-s-requires c = c.requires
@@ -29,7 +31,10 @@ returns-then-s c =
     let l = c.loop-k in
     let h = (held_by (fault_of a.machine a.address a.stack.now a.functions.now) (caller_at l.file l.pc l.exact) c.held_at.ensures c.in-At.is) in
     let s = c.caller_by-s in
-    (c.refused.ensures.0 ∙ go_refused l.invariant c.loop-k-test.true _ h (sym s.ensures ∙ step_refused s.result c.if-s.true), omega (arith, c.refused.ensures.1))
+    record {
+      result_value = c.refused.ensures.result_value ∙ go_refused l.invariant c.loop-k-test.true _ h (sym s.ensures ∙ step_refused s.result c.if-s.true);
+      count_bound = omega (arith, c.refused.ensures.count_value);
+    }
 
 pub returns-then-s-2 : goal.returns-then-s-2
 returns-then-s-2 c =
@@ -38,7 +43,10 @@ returns-then-s-2 c =
     let h = (held_by (fault_of a.machine a.address a.stack.now a.functions.now) (caller_at l.file l.pc l.exact) c.held_at.ensures c.in-At.is) in
     let s = c.caller_by-s in
     let o = c.listed-list.ensures in
-    (c.ended-then-s-2.ensures.0 ∙ rw (o.0, o.1) (go_undefined l.invariant c.loop-k-test.true _ h (sym s.ensures ∙ step_ended s.result c.if-s.false c.if-s-2.true)), omega (arith, c.ended-then-s-2.ensures.1, c.loop-k-test.true))
+    record {
+      result_value = c.ended-then-s-2.ensures.result_value ∙ rw (o.0, o.1) (go_undefined l.invariant c.loop-k-test.true _ h (sym s.ensures ∙ step_ended s.result c.if-s.false c.if-s-2.true));
+      count_bound = omega (arith, c.ended-then-s-2.ensures.count_value, c.loop-k-test.true);
+    }
 
 pub loop-k-preserved : goal.loop-k-preserved
 loop-k-preserved c =
@@ -51,4 +59,8 @@ loop-k-preserved c =
 
 pub returns : goal.returns
 unfolding held_at
-returns c = (c.full.ensures.0 ∙ go_full c.loop-k.invariant c.loop-k-test.false, omega (arith, c.full.ensures.1))
+returns c =
+    record {
+      result_value = c.full.ensures.result_value ∙ go_full c.loop-k.invariant c.loop-k-test.false;
+      count_bound = omega (arith, c.full.ensures.count_value);
+    }

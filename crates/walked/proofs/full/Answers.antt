@@ -10,10 +10,16 @@ pub returns-in_default : goal.returns-in_default
 unfolding full_ending
 returns-in_default c =
     let z = c.args in
-    (c.ended.ensures.0 ∙ ap (λ (h : Holder). good (record { frames = frames_of z.frames.positions z.frames.pcs 64; ending = full_ending h })) (sym c.in_default.is ∙ c.held_at.ensures), c.ended.ensures.1)
+    record {
+      result_value = c.ended.ensures.result_value ∙ ap (λ (h : Holder). good (record { frames = frames_of z.frames.positions z.frames.pcs 64; ending = full_ending h })) (sym c.in_default.is ∙ c.held_at.ensures);
+      count_value = c.ended.ensures.count_value;
+    }
 
 pub returns : goal.returns
 unfolding full_ending
 returns c =
     let z = c.args in
-    (c.ended-2.ensures.0 ∙ ap (λ (h : Holder). good (record { frames = frames_of z.frames.positions z.frames.pcs 64; ending = full_ending h })) (sym c.in-At.is ∙ c.held_at.ensures), c.ended-2.ensures.1)
+    record {
+      result_value = c.ended-2.ensures.result_value ∙ ap (λ (h : Holder). good (record { frames = frames_of z.frames.positions z.frames.pcs 64; ending = full_ending h })) (sym c.in-At.is ∙ c.held_at.ensures);
+      count_value = c.ended-2.ensures.count_value;
+    }

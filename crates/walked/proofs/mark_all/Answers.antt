@@ -1,6 +1,5 @@
 -- `walked::mark_all` meets its contract.
 use mathlib.Core.Path.{sym, ◌∙◌}
-use Prim.Native.Nat.{◌-◌}
 use Rattle.walked.proofs.Marking.{mark_start, mark_bad, mark_ended, mark_shorter, mark_turn}
 use Rattle.walked.proofs.mark_all.Goals as goal
 

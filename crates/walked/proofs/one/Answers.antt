@@ -1,7 +1,6 @@
 -- `walked::one` meets its contract.
 use mathlib.Core.Path.{sym, ◌∙◌}
 use Rattle.walk.specs.Walk.{left_by}
-use borrow.Author.Tests.{not-true}
 use Rattle.walked.proofs.Rules.{answered, never, by_rule}
 use Rattle.walked.proofs.one.Goals as goal
 
