@@ -2,12 +2,13 @@
 // lines there say what form it has.
 #![tactic(auto)]
 
-ghost use Rattle.std.specs.Prelude.{◌+◌, ◌≤◌, ◌<◌, length};
+ghost use Rattle.std.specs.Prelude.{◌+◌, ◌≤◌, ◌<◌, length, IfOk};
 ghost use Rattle.cases.specs.Total.{total};
 
 use format::{Counts, Outcome};
-use libc::{STDIN_FILENO, STDOUT_FILENO};
 use operations::fields::{Position, Unsigned, read_le, read_uleb};
+use std::io;
+use std::io::Read;
 
 // What the lent buffers hold before a call.
 const NUMBER: u64 = 11936128518282651045;
@@ -170,17 +171,16 @@ fn same_outcome(said: Outcome, answer: &[u64]) -> bool {
 }
 
 // Says what differs, and gives back whether nothing does.
-fn report(index: u64, what: &[u8], same: bool) -> bool {
+fn report(rt: &impl Print, index: u64, what: &str, same: bool) -> io::Result<bool> {
     if !same {
-        io::write_all(STDOUT_FILENO, b"list ");
-        io::print_decimal(STDOUT_FILENO, index);
-        io::write_all(STDOUT_FILENO, what);
+        println!(rt; "list {index}: {what}")?;
     }
-    same
+    Ok(same)
 }
 
 // Whether the library answers as the fixed answer says, with nothing stored past its results and nothing at all where it refuses.
 fn compare(
+    rt: &impl Print,
     index: u64,
     answer: &[u64],
     said: Outcome,
@@ -188,29 +188,23 @@ fn compare(
     bytes: &[u8; 4000],
     relocations: &[u64; 4000],
     sites: &[u8; 4000],
-) -> bool {
-    let a = report(index, b": another outcome\n", same_outcome(said, answer));
+) -> io::Result<bool> {
+    let a = report(rt, index, "another outcome", same_outcome(said, answer))?;
     let b = report(
+        rt,
         index,
-        b": other places\n",
+        "other places",
         same_numbers(places, list(answer, 0)),
-    );
-    let c = report(
-        index,
-        b": other bytes\n",
-        same_bytes(bytes, list(answer, 1)),
-    );
+    )?;
+    let c = report(rt, index, "other bytes", same_bytes(bytes, list(answer, 1)))?;
     let d = report(
+        rt,
         index,
-        b": other relocations\n",
+        "other relocations",
         same_numbers(relocations, list(answer, 2)),
-    );
-    let e = report(
-        index,
-        b": other sites\n",
-        same_bytes(sites, list(answer, 3)),
-    );
-    a && b && c && d && e
+    )?;
+    let e = report(rt, index, "other sites", same_bytes(sites, list(answer, 3)))?;
+    Ok(a && b && c && d && e)
 }
 
 fn table(
@@ -278,7 +272,7 @@ fn ask(
     )
 }
 
-fn replay(index: u64, numbers: &[u64]) -> Step {
+fn replay(rt: &impl Print, index: u64, numbers: &[u64]) -> io::Result<Step> {
     let mut places = [NUMBER; 4000];
     let mut bytes = [BYTE; 4000];
     let mut relocations = [NUMBER; 4000];
@@ -292,48 +286,58 @@ fn replay(index: u64, numbers: &[u64]) -> Step {
     );
     let at = start(numbers, 6);
     let answer = &numbers[at..];
-    if compare(index, answer, said, &places, &bytes, &relocations, &sites) {
-        return kind(answer);
+    if compare(
+        rt,
+        index,
+        answer,
+        said,
+        &places,
+        &bytes,
+        &relocations,
+        &sites,
+    )? {
+        return Ok(kind(answer));
     }
-    Step::Different
+    Ok(Step::Different)
 }
 
-fn broken(index: u64) -> Step {
-    report(index, b": no block\n", false);
-    Step::Broken
+fn broken(rt: &impl Print, index: u64) -> io::Result<Step> {
+    report(rt, index, "no block", false)?;
+    Ok(Step::Broken)
 }
 
 // The block of this size that is next on the input.
-fn block(index: u64, size: usize) -> Step
+fn block(rt: &impl Print, input: &mut impl Read, index: u64, size: usize) -> io::Result<Step>
     requires { size ≤ 60000 }
 {
-    let mut bytes = io::large_buffer();
-    let n = io::read_full(STDIN_FILENO, &mut bytes[..size]);
-    if n < size {
-        return broken(index);
+    let mut bytes = [0u8; 60000];
+    if input.read_exact(&mut bytes[..size]).is_err() {
+        return broken(rt, index);
     }
     let mut numbers = [0u64; 40014];
     let k = decode(&bytes[..size], &mut numbers);
     if k == 0 {
-        return broken(index);
+        return broken(rt, index);
     }
-    replay(index, &numbers[..k])
+    replay(rt, index, &numbers[..k])
 }
 
 // The next block, behind its size in 4 bytes. A size of 0 ends the input.
-fn next(index: u64) -> Step {
+fn next(rt: &impl Print, input: &mut impl Read, index: u64) -> io::Result<Step> {
     let mut head = [0u8; 4];
-    let n = io::read_full(STDIN_FILENO, &mut head);
-    let Unsigned::Value(size, _) = read_le(&head[..n], Position::START, 4) else {
-        return broken(index);
+    if input.read_exact(&mut head).is_err() {
+        return broken(rt, index);
+    }
+    let Unsigned::Value(size, _) = read_le(&head, Position::START, 4) else {
+        return broken(rt, index);
     };
     if size == 0 {
-        return Step::End;
+        return Ok(Step::End);
     }
     if 60000 < size {
-        return broken(index);
+        return broken(rt, index);
     }
-    block(index, size as usize)
+    block(rt, input, index, size as usize)
 }
 
 fn is_last(step: Step) -> bool {
@@ -371,8 +375,8 @@ fn add(s: Sums, step: Step) -> Sums
 }
 
 // Every block of the input.
-fn all() -> Sums
-    ensures { total result ≤ 1000000 }
+fn all(rt: &impl Print, input: &mut impl Read) -> io::Result<Sums>
+    ensures { IfOk result (λ sums. total sums ≤ 1000000) }
 {
     let mut sums = Sums {
         accepted: 0,
@@ -382,33 +386,29 @@ fn all() -> Sums
     };
     let mut index = 0u64;
     while index < 1000000 {
-        let step = next(index);
+        let step = next(rt, input, index)?;
         sums = add(sums, step);
         if is_last(step) {
-            return sums;
+            return Ok(sums);
         }
         index += 1;
     }
-    sums
+    Ok(sums)
 }
 
-fn print_count(n: u64, what: &[u8]) {
-    io::print_decimal(STDOUT_FILENO, n);
-    io::write_all(STDOUT_FILENO, what);
-}
-
-fn main() {
-    let s = all();
-    print_count(s.accepted + s.refused + s.empty + s.different, b" lists: ");
-    print_count(s.accepted, b" accepted, ");
-    print_count(s.refused, b" refused, ");
-    print_count(s.empty, b" empty\n");
-    if s.different == 0 {
-        io::write_all(
-            STDOUT_FILENO,
-            b"all answers are the Rust's, or document 01's where it refuses\n",
-        );
+fn main(rt: HostRuntime) -> io::Result<()> {
+    let s = all(&rt, &mut rt.reader())?;
+    let lists = s.accepted + s.refused + s.empty + s.different;
+    let Sums {
+        accepted,
+        refused,
+        empty,
+        different,
+    } = s;
+    println!(rt; "{lists} lists: {accepted} accepted, {refused} refused, {empty} empty")?;
+    if different == 0 {
+        println!(rt; "all answers are the Rust's, or document 01's where it refuses")
     } else {
-        print_count(s.different, b" lists are answered differently\n");
+        println!(rt; "{different} lists are answered differently")
     }
 }
