@@ -1,5 +1,4 @@
 -- `arm64_table::first_no` meets its contract.
-use Prim.Native.Nat.{◌-◌}
 use Rattle.arm64_table.proofs.Loops.{asking, answered, stopped, all_answered}
 use Rattle.arm64_table.proofs.first_no.Goals as goal
 

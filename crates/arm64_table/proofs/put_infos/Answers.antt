@@ -1,5 +1,4 @@
 -- `arm64_table::put_infos` meets its contract.
-use Prim.Native.Nat.{◌-◌}
 use Rattle.arm64_table.proofs.Loops.{describing, mark_room, info_room, described, all_marked, all_described}
 use Rattle.arm64_table.proofs.put_infos.Goals as goal
 

@@ -1,5 +1,4 @@
 -- `arm64_table::put_rows` meets its contract.
-use Prim.Native.Nat.{◌-◌}
 use native.Mathlib.Omega.{arith}
 use Rattle.arm64_table.proofs.Rows.{row_is, relocs_are}
 use Rattle.arm64_table.proofs.Loops.{rowing, row_room, relocs_room, rowed, all_rows, all_relocs}

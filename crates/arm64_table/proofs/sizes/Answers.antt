@@ -1,5 +1,4 @@
 -- `arm64_table::sizes` meets its contract.
-use Prim.Native.Nat.{◌-◌}
 use native.Mathlib.Omega.{arith}
 use Rattle.arm64_table.proofs.Loops.{summing, summed, info_sum, relocs_sum}
 use Rattle.arm64_table.proofs.sizes.Goals as goal

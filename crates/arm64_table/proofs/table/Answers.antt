@@ -1,6 +1,6 @@
 -- `arm64_table::table` meets its contract.
+use mathlib.Core.Path.{sym, ◌∙◌}
 use Rattle.format.specs.Questions.{room_in}
-use Rattle.lists.proofs.Answers.{accepted, refused}
 use Rattle.arm64_table.proofs.Entries.{all_listed, table_empty, table_refused, table_answers}
 use Rattle.arm64_table.proofs.table.Goals as goal
 
@@ -8,10 +8,10 @@ pub returns-then-n-eq0 : goal.returns-then-n-eq0
 returns-then-n-eq0 c = let a = c.args in table_empty a.functions.now a.epilogues.now a.codes.now (room_in a.markers.now a.bytes.now a.relocations.now a.info.now) c.if-n-eq0.true
 
 pub returns-then-not-lists_ok : goal.returns-then-not-lists_ok
-returns-then-not-lists_ok c = let a = c.args in table_refused a.functions.now a.epilogues.now a.codes.now (room_in a.markers.now a.bytes.now a.relocations.now a.info.now) c.if-n-eq0.false (refused c.lists_ok.ensures c.if-not-lists_ok.true)
+returns-then-not-lists_ok c = let a = c.args in table_refused a.functions.now a.epilogues.now a.codes.now (room_in a.markers.now a.bytes.now a.relocations.now a.info.now) c.if-n-eq0.false (sym c.lists_ok.ensures ∙ c.if-not-lists_ok.true)
 
 pub answer-requires : goal.answer-requires
-answer-requires c = let a = c.args in all_listed a.functions.now a.epilogues.now a.codes.now (accepted c.lists_ok.ensures c.if-not-lists_ok.false)
+answer-requires c = let a = c.args in all_listed a.functions.now a.epilogues.now a.codes.now (sym c.lists_ok.ensures ∙ c.if-not-lists_ok.false)
 
 pub returns : goal.returns
-returns c = let a = c.args in rw (table_answers a.functions.now a.epilogues.now a.codes.now (room_in a.markers.now a.bytes.now a.relocations.now a.info.now) c.if-n-eq0.false (accepted c.lists_ok.ensures c.if-not-lists_ok.false)) at c.answer.ensures
+returns c = let a = c.args in rw (table_answers a.functions.now a.epilogues.now a.codes.now (room_in a.markers.now a.bytes.now a.relocations.now a.info.now) c.if-n-eq0.false (sym c.lists_ok.ensures ∙ c.if-not-lists_ok.false)) at c.answer.ensures
