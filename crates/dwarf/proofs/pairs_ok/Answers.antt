@@ -7,11 +7,11 @@ use Rattle.dwarf.proofs.pairs_ok.Goals as goal
 
 pub returns-then-not-e : goal.returns-then-not-e
 unfolding pairs_ok meant pick
-returns-then-not-e c = simp c.if-not-e.true
+returns-then-not-e c = simp (not-true c.args.e.relaxed c.if-not-e.true)
 
 pub pairs_differ-requires : goal.pairs_differ-requires
-pairs_differ-requires c = (c.requires c.if-not-e.false).inside
+pairs_differ-requires c = (c.requires (not-false c.args.e.relaxed c.if-not-e.false)).inside
 
 pub returns : goal.returns
 unfolding pairs_ok meant pick
-returns c = simp c.if-not-e.false c.pairs_differ.ensures
+returns c = simp (not-false c.args.e.relaxed c.if-not-e.false) c.pairs_differ.ensures

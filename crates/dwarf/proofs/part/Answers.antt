@@ -10,10 +10,10 @@ pub header_for-c-requires : goal.header_for-c-requires
 header_for-c-requires c = choosable c.requires.0 c.requires.1
 
 pub overflow_add-k : goal.overflow_add-k
-overflow_add-k c = omega (arith, c.well-formed.1.1.1.1.1.1.1.1.1.1.0, c.requires.0.fit.places_fit)
+overflow_add-k c = omega (arith, c.well_formed.1.1.1.1.1.1.1.1.1.1.0, c.requires.0.fit.places_fit)
 
 pub offset_bounds-places-k : goal.offset_bounds-places-k
-offset_bounds-places-k c = omega (arith, c.well-formed.1.1.1.1.1.1.1.1.1.1.0, c.requires.0.fit.places_fit)
+offset_bounds-places-k c = omega (arith, c.well_formed.1.1.1.1.1.1.1.1.1.1.0, c.requires.0.fit.places_fit)
 
 pub bounds-places-k : goal.bounds-places-k
 bounds-places-k c = omega (arith, c.requires.0.fit.places_fit)

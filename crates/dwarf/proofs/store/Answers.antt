@@ -14,7 +14,7 @@ part-t-requires c =
     (ready c.loop-k.invariant c.requires.0 c.loop-k-test.true, owned_to (omega (arith, c.loop-k-test.true, c.loop-k.invariant.counted)) c.requires.2)
 
 pub overflow_add-k : goal.overflow_add-k
-overflow_add-k c = omega (arith, c.loop-k-test.true, c.well-formed.1.1.0)
+overflow_add-k c = omega (arith, c.loop-k-test.true, c.well_formed.1.1.0)
 
 pub loop-k-preserved : goal.loop-k-preserved
 loop-k-preserved c = turn c.loop-k.invariant c.loop-k-test.true c.part-t.ensures

@@ -9,7 +9,7 @@ use Rattle.records.proofs.lsda_blank.Goals as goal
 
 pub returns-then-not-e : goal.returns-then-not-e
 unfolding blank_in
-returns-then-not-e c = let e = c.args.e in let d = decides_named (e) c.kind_of.ensures c.in-Named.is in (sym (by_no_lsda e _ _ _ d.0 d.1 (ap not c.if-not-e.true)), omega arith)
+returns-then-not-e c = let e = c.args.e in let d = decides_named (e) c.kind_of.ensures c.in-Named.is in (sym (by_no_lsda e _ _ _ d.0 d.1 c.if-not-e.true), omega arith)
 
 pub returns-in-Plain : goal.returns-in-Plain
 unfolding blank_in
@@ -21,4 +21,4 @@ returns-in-Personal c = let e = c.args.e in (sym (by_landings e _ _ _ (decides_p
 
 pub returns-else-not-e : goal.returns-else-not-e
 unfolding blank_in
-returns-else-not-e c = let e = c.args.e in let d = decides_named (e) c.kind_of.ensures c.in-Named.is in (c.pointer_bytes.ensures.0 ∙ sym (by_lsda e _ _ _ d.0 d.1 (ap not c.if-not-e.false)), c.pointer_bytes.ensures.1 c.requires)
+returns-else-not-e c = let e = c.args.e in let d = decides_named (e) c.kind_of.ensures c.in-Named.is in (c.pointer_bytes.ensures.0 ∙ sym (by_lsda e _ _ _ d.0 d.1 c.if-not-e.false), c.pointer_bytes.ensures.1 c.requires)

@@ -9,7 +9,7 @@ use Rattle.records.proofs.lsda_count.Goals as goal
 
 pub returns-then-not-e : goal.returns-then-not-e
 unfolding lsda_in
-returns-then-not-e c = let e = c.args.e in let d = decides_named (e) c.kind_of.ensures c.in-Named.is in (rw (by_no_lsda e _ _ _ d.0 d.1 (ap not c.if-not-e.true)), omega arith)
+returns-then-not-e c = let e = c.args.e in let d = decides_named (e) c.kind_of.ensures c.in-Named.is in (rw (by_no_lsda e _ _ _ d.0 d.1 c.if-not-e.true), omega arith)
 
 pub returns-in-Plain : goal.returns-in-Plain
 unfolding lsda_in
@@ -21,4 +21,4 @@ returns-in-Personal c = let e = c.args.e in (rw (by_landings e _ _ _ (decides_pe
 
 pub returns-else-not-e : goal.returns-else-not-e
 unfolding lsda_in
-returns-else-not-e c = let e = c.args.e in let d = decides_named (e) c.kind_of.ensures c.in-Named.is in (rw (by_lsda e _ _ _ d.0 d.1 (ap not c.if-not-e.false)), omega arith)
+returns-else-not-e c = let e = c.args.e in let d = decides_named (e) c.kind_of.ensures c.in-Named.is in (rw (by_lsda e _ _ _ d.0 d.1 c.if-not-e.false), omega arith)

@@ -15,11 +15,11 @@ relocation-requires c = let e = c.args.e in let h = rw (by_landings e _ _ _ (dec
 
 pub returns-then-not-e : goal.returns-then-not-e
 unfolding lsda_in numbers_of
-returns-then-not-e c = let e = c.args.e in let d = decides_named (e) c.kind_of.ensures c.in-Named.is in rw (by_no_lsda e _ _ _ d.0 d.1 (ap not c.if-not-e.true)) idle
+returns-then-not-e c = let e = c.args.e in let d = decides_named (e) c.kind_of.ensures c.in-Named.is in rw (by_no_lsda e _ _ _ d.0 d.1 c.if-not-e.true) idle
 
 pub pointer-requires : goal.pointer-requires
 unfolding lsda_in numbers_of
-pointer-requires c = let e = c.args.e in let d = decides_named (e) c.kind_of.ensures c.in-Named.is in let h = rw (by_lsda e _ _ _ d.0 d.1 (ap not c.if-not-e.false)) at c.requires in search rules
+pointer-requires c = let e = c.args.e in let d = decides_named (e) c.kind_of.ensures c.in-Named.is in let h = rw (by_lsda e _ _ _ d.0 d.1 c.if-not-e.false) at c.requires in search rules
 
 pub returns-in-Plain : goal.returns-in-Plain
 unfolding lsda_in numbers_of
@@ -31,4 +31,4 @@ returns-in-Personal c = let e = c.args.e in rw (by_landings e _ _ _ (decides_per
 
 pub returns-else-not-e : goal.returns-else-not-e
 unfolding lsda_in numbers_of
-returns-else-not-e c = let e = c.args.e in let d = decides_named (e) c.kind_of.ensures c.in-Named.is in rw (by_lsda e _ _ _ d.0 d.1 (ap not c.if-not-e.false)) c.pointer.ensures
+returns-else-not-e c = let e = c.args.e in let d = decides_named (e) c.kind_of.ensures c.in-Named.is in rw (by_lsda e _ _ _ d.0 d.1 c.if-not-e.false) c.pointer.ensures

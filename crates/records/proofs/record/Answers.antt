@@ -31,7 +31,7 @@ fields-b-requires c = (
 )
 
 pub overflow_add-e : goal.overflow_add-e
-overflow_add-e c = omega (arith, c.requires.0.ready.inside, c.ahead-k.ensures.1, c.well-formed)
+overflow_add-e c = omega (arith, c.requires.0.ready.inside, c.ahead-k.ensures.1, c.well_formed)
 
 pub overflow_sub-e : goal.overflow_sub-e
 overflow_sub-e c = omega (arith, c.ahead-k.ensures.1)

@@ -24,7 +24,7 @@ step_pair-q-requires c = (
 )
 
 pub overflow_add-e : goal.overflow_add-e
-overflow_add-e c = omega (arith, c.requires.1.inside, c.well-formed)
+overflow_add-e c = omega (arith, c.requires.1.inside, c.well_formed)
 
 pub next_near-near-requires : goal.next_near-near-requires
 next_near-near-requires c = c.requires.1.inside
@@ -36,7 +36,7 @@ pub overflow_add-p : goal.overflow_add-p
 overflow_add-p c = omega (arith, c.loop-k.invariant.near, c.requires.2, c.requires.0.few, c.loop-k.invariant.going.low, c.loop-k-test.true, c.stepped_row_size.ensures.1)
 
 pub overflow_add-k : goal.overflow_add-k
-overflow_add-k c = omega (arith, c.loop-k-test.true, c.requires.0.ready.inside, c.well-formed)
+overflow_add-k c = omega (arith, c.loop-k-test.true, c.requires.0.ready.inside, c.well_formed)
 
 pub loop-k-preserved : goal.loop-k-preserved
 loop-k-preserved c = turn c.loop-k.invariant c.loop-k-test.true c.offset_at-to.ensures c.requires.0 c.step_pair-q.ensures c.stepped_row_size.ensures.0
