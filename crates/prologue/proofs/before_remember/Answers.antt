@@ -1,5 +1,4 @@
 -- `prologue::before_remember` meets its contract.
-use Prim.Native.Nat.{◌-◌}
 use native.Mathlib.Omega.{arith}
 use Rattle.prologue.proofs.Turns.{seek_start, seek_turn, seek_found, seek_ended}
 use Rattle.prologue.proofs.before_remember.Goals as goal

@@ -5,7 +5,6 @@ use native.Mathlib.Omega.{arith}
 use mir.Syntax.{w64}
 use mir.Facts.{to_z_pos}
 use Prim.Native.Nat.{◌*◌}
-use borrow.Author.Tests.{not-true, not-false}
 use Rattle.lists.proofs.Answers.{accepted, refused}
 use Rattle.rows.proofs.Signs.{passed}
 use Rattle.prologue.proofs.Frames.{early_other, early_more, early_far, early_steps, early_yes}

@@ -1,4 +1,5 @@
 -- `prologue::lone_row` meets its contract.
+use borrow.Enum.Refused.{opened}
 use mathlib.Core.Path.{sym, ◌∙◌}
 use native.Mathlib.Omega.{arith}
 use Rattle.format.specs.X64.{is_push}
@@ -31,4 +32,4 @@ returns-in-Offset c =
 
 pub returns-in_default : goal.returns-in_default
 returns-in_default c =
-    c.refused.ensures ∙ sym (lone_other c.args.m c.args.last c.args.r c.args.w (high_kind c.args.r c.in_default.in_default-own.keys5))
+    c.refused.ensures ∙ sym (lone_other c.args.m c.args.last c.args.r c.args.w (high_kind c.args.r (opened c.in_default.in_default-own.keys5)))

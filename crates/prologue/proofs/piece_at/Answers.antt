@@ -1,4 +1,5 @@
 -- `prologue::piece_at` meets its contract.
+use borrow.Enum.Refused.{opened}
 use native.Mathlib.Omega.{arith}
 use borrow.Author.Rules.{rules}
 use Rattle.format.specs.Rows.{offset_of}
@@ -16,18 +17,16 @@ row_at-r-requires c = (omega arith, c.requires.1.ok c.args.i c.requires.2 c.requ
 pub alloc_code-requires : goal.alloc_code-requires
 unfolding offset_of
 alloc_code-requires c =
-    let r = c.r-1.given in
-    let e = passed r.0.0 (omega (arith, c.in-DefCfaOffset.known_told-1-own.given)) in
+    let e = passed c.in-DefCfaOffset.z (omega (arith, c.in-DefCfaOffset.known_told-1-own.given)) in
     let h = row_at_short _ c.args.i (c.requires.1.ok c.args.i c.requires.2 c.requires.3) in
-    (search rules, search rules, search rules, rw e (rw (← c.row_at-r.ensures, r.1) at h))
+    (search rules, search rules, search rules, rw e (rw (← c.row_at-r.ensures, c.in-DefCfaOffset.is) at h))
 
 pub slot_code-requires : goal.slot_code-requires
 unfolding offset_of
 slot_code-requires c =
-    let r = c.r-in-Offset-1.given in
-    let e = passed r.0.1.0 (omega (arith, c.in-Offset.known_told-in-Offset-1-own.given)) in
+    let e = passed c.in-Offset.z (omega (arith, c.in-Offset.known_told-in-Offset-1-own.given)) in
     let h = row_at_short _ c.args.i (c.requires.1.ok c.args.i c.requires.2 c.requires.3) in
-    (search rules, search rules, search rules, rw e (rw (← c.row_at-r.ensures, r.1) at h))
+    (search rules, search rules, search rules, rw e (rw (← c.row_at-r.ensures, c.in-Offset.is) at h))
 
 pub returns-in-DefCfa : goal.returns-in-DefCfa
 returns-in-DefCfa c =
@@ -35,9 +34,8 @@ returns-in-DefCfa c =
 
 pub returns-in-DefCfaOffset : goal.returns-in-DefCfaOffset
 returns-in-DefCfaOffset c =
-    let r = c.r-1.given in
-    let e = passed r.0.0 (omega (arith, c.in-DefCfaOffset.known_told-1-own.given)) in
-    rw (alloc_piece c.args.m c.args.below c.args.sofar _ c.args.at c.args.i c.args.end c.row_at-r.ensures c.offset_at-off.ensures r.0.0 r.1) (rw (short_passed c.args.sofar c.requires.5, e) at c.alloc_code.ensures)
+    let e = passed c.in-DefCfaOffset.z (omega (arith, c.in-DefCfaOffset.known_told-1-own.given)) in
+    rw (alloc_piece c.args.m c.args.below c.args.sofar _ c.args.at c.args.i c.args.end c.row_at-r.ensures c.offset_at-off.ensures c.in-DefCfaOffset.z c.in-DefCfaOffset.is) (rw (short_passed c.args.sofar c.requires.5, e) at c.alloc_code.ensures)
 
 pub returns-in-DefCfaRegister : goal.returns-in-DefCfaRegister
 returns-in-DefCfaRegister c =
@@ -45,11 +43,10 @@ returns-in-DefCfaRegister c =
 
 pub returns-in-Offset : goal.returns-in-Offset
 returns-in-Offset c =
-    let r = c.r-in-Offset-1.given in
-    let e = passed r.0.1.0 (omega (arith, c.in-Offset.known_told-in-Offset-1-own.given)) in
-    rw (slot_piece c.args.m c.args.below c.args.sofar _ c.args.at c.args.i c.args.end c.row_at-r.ensures c.offset_at-off.ensures r.0.0 r.0.1.0 r.1) (rw (short_passed c.args.below c.requires.4, e) at c.slot_code.ensures)
+    let e = passed c.in-Offset.z (omega (arith, c.in-Offset.known_told-in-Offset-1-own.given)) in
+    rw (slot_piece c.args.m c.args.below c.args.sofar _ c.args.at c.args.i c.args.end c.row_at-r.ensures c.offset_at-off.ensures c.in-Offset.reg c.in-Offset.z c.in-Offset.is) (rw (short_passed c.args.below c.requires.4, e) at c.slot_code.ensures)
 
 pub returns-in_default : goal.returns-in_default
 unfolding piece_of
 returns-in_default c =
-    rw (no_piece c.args.m c.args.below c.args.sofar _ c.args.at c.args.i c.args.end c.row_at-r.ensures c.offset_at-off.ensures (high_kind c.row_at-r.result c.in_default.in_default-own.keys5))
+    rw (no_piece c.args.m c.args.below c.args.sofar _ c.args.at c.args.i c.args.end c.row_at-r.ensures c.offset_at-off.ensures (high_kind c.row_at-r.result (opened c.in_default.in_default-own.keys5)))

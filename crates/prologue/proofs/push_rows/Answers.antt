@@ -1,4 +1,5 @@
 -- `prologue::push_rows` meets its contract.
+use borrow.Enum.Refused.{opened}
 use mathlib.Core.Path.{◌∙◌}
 use native.Mathlib.Omega.{arith}
 use Rattle.format.specs.Rows.{offset_of}
@@ -7,17 +8,16 @@ use Rattle.prologue.proofs.Frames.{push_first, push_second}
 use Rattle.prologue.proofs.push_rows.Goals as goal
 
 pub returns-in_default : goal.returns-in_default
-returns-in_default c = c.refused.ensures ∙ push_first c.args.m c.args.a c.args.b c.args.w c.in_default.in_default-own.keys2
+returns-in_default c = c.refused.ensures ∙ push_first c.args.m c.args.a c.args.b c.args.w (opened c.in_default.in_default-own.keys2)
 
 pub returns-in_default-b : goal.returns-in_default-b
-returns-in_default-b c = c.refused-in_default-b.ensures ∙ push_second c.args.m c.args.a c.args.b c.args.w c.in_default-b.in_default-b-own.keys2
+returns-in_default-b c = c.refused-in_default-b.ensures ∙ push_second c.args.m c.args.a c.args.b c.args.w (opened c.in_default-b.in_default-b-own.keys2)
 
 pub pushed-requires : goal.pushed-requires
 unfolding offset_of
 pushed-requires c =
-    let a = c.a-1.given in
-    let e = passed a.0.0 (omega (arith, c.in-DefCfaOffset.known_told-1-own.given)) in
-    (c.requires.0, c.requires.1, rw e (rw a.1 at c.requires.2), c.requires.3)
+    let e = passed c.in-DefCfaOffset.z (omega (arith, c.in-DefCfaOffset.known_told-1-own.given)) in
+    (c.requires.0, c.requires.1, rw e (rw c.in-DefCfaOffset.is at c.requires.2), c.requires.3)
 
 pub returns : goal.returns
 returns c =

@@ -1,5 +1,4 @@
 -- `prologue::read_rows` meets its contract.
-use Prim.Native.Nat.{◌-◌}
 use native.Mathlib.Omega.{arith}
 use mir.Syntax.{w64}
 use mir.Facts.{to_z_pos}
