@@ -5,10 +5,12 @@
     .ci/believed.py --write      write the table's line counts
     .ci/believed.py --of NAME    list what one definition (as Demanded) reaches
 
-Public entries are the `pub fn` of crates format, unwind, two_sections and walked_back and of the reader's module cursor, and every `pub extern "C" fn`. The names in their `requires` and `ensures`
-are followed, definition by definition, through the `ghost use` lines of the sources and the `use` lines of the definitions. It fails
-where a reached file is not in the table or stands in a proofs/ folder, where a file of the table is not reached, where a definition
-of crates/format/specs or crates/unwind/specs is not reached, and where a line count is off by more than a tenth."""
+Public entries are the `pub fn` of crates format, unwind, two_sections and walked_back and of the reader's module cursor, and every
+`pub extern "C" fn` of a library. The names in their `requires` and `ensures` are followed, definition by definition, through the
+`ghost use` lines of the sources and the `use` lines of the definitions. It fails where a reached file is not in the table or stands in
+a proofs/ folder, where a file of the table is not reached, where a definition of crates/format/specs or crates/unwind/specs is not
+reached, where a line count is off by more than a tenth, and where crates/dekvoz does not export each `pub extern "C" fn` of the
+libraries, and no other, with the parameters, the result and the clauses that it has there."""
 import os, re, sys
 
 ROOT = os.path.join(os.path.dirname(os.path.abspath(__file__)), '..')
@@ -16,8 +18,9 @@ PUBLIC = ('format', 'unwind', 'two_sections', 'walked_back')
 MODULES = ('crates/reader/src/cursor.rt',)
 WHOLE = ('crates/format/specs/', 'crates/unwind/specs/')
 DEMAND = 'Demanded'
+EXPORTS = 'crates/dekvoz/'
 
-PATH = re.compile(r'Rattle·([a-z_0-9]+?)(?:·(?:specs|proofs))?\.(specs|proofs)\.(.+)')
+PATH = re.compile(r'Rattle\.([a-z_0-9]+)\.(specs|proofs)\.(.+)')
 START = re.compile(r'(?:unfoldable |abbrev )?(?:pub )?(?:(record|data) )?([^\s:({]+)')
 WORD = re.compile(r'[^\s(){}\[\];,]+')
 
@@ -35,22 +38,24 @@ def files(folder, ending):
 
 
 def words(text):
-    """The names in a text, without comments and field accesses."""
+    """The names in a text, without comments and field accesses: of `x.f` both `x.f`, where x may be an alias, and `x`."""
     for line in text.split('\n'):
         for word in WORD.findall(line.split('--')[0]):
             if not word.startswith('.'):
                 yield word.rstrip('.')
+                if '.' in word.rstrip('.'):
+                    yield word.split('.')[0]
 
 
 def target(module, name):
     """The file and the name that a `use` line means, or None for the toolchain's."""
     found = PATH.match(module)
-    if not found:
+    if not found or not os.path.isdir(os.path.join(ROOT, 'crates', found.group(1))):
         return None
     crate, folder, rest = found.groups()
     if rest.startswith('declared.'):
-        return (f'crates/{crate}/src', rest.split('.')[1])
-    return (f'crates/{crate}/{folder}/{rest}.antt', name)
+        return (f'crates/{crate}/src', rest.removesuffix('.TheVariants').split('.')[-1])
+    return (f'crates/{crate}/{folder}/{rest.replace(".", "/")}.antt', name)
 
 
 def uses(lines):
@@ -146,16 +151,27 @@ def reach(roots):
     return seen
 
 
+def clause(lines, i):
+    """What stands between the braces of the clause that begins in line i."""
+    text = lines[i]
+    while text.count('{') > text.count('}'):
+        i += 1
+        text += '\n' + lines[i]
+    return text[text.index('{') + 1:]
+
+
 def contracts():
     """The names that the contracts of the public entries cite, by entry."""
     for path in [f'crates/{crate}' for crate in PUBLIC] + list(MODULES):
         if not os.path.exists(os.path.join(ROOT, path)):
             sys.exit(f'believed: {path} is not there; PUBLIC and MODULES name where public entries stand')
     for path in files('crates', '.rt'):
+        if path.startswith(EXPORTS):
+            continue
         lines = read(path)
         names, aliases = uses(lines)
         crate, entry, method = path.split('/')[1], None, ''
-        for line in lines:
+        for i, line in enumerate(lines):
             owner = re.match(r'impl (\w+)', line)
             method = owner.group(1) + '::' if owner else ('' if line.startswith('}') else method)
             made = re.match(r'\s*pub (extern "C" )?fn (\w+)', line)
@@ -165,11 +181,31 @@ def contracts():
                     yield entry, None
             elif re.match(r'\s*fn ', line):
                 entry = None
-            elif entry and re.match(r'\s*(requires|ensures) ', line):
-                for word in words(line):
+            elif entry and re.match(r'\s*(requires|ensures)\b', line):
+                for word in words(clause(lines, i)):
                     found = meaning(word, names, aliases)
                     if found:
                         yield entry, found
+
+
+def exported():
+    """Where the exports of crates/dekvoz are not the libraries': what a C caller gets, and what is proved of it, have to be the same."""
+    here, there = {}, {}
+    for path in files('crates', '.rt'):
+        text = '\n'.join(read(path))
+        names, aliases = uses(text.split('\n'))
+        for name, head, clauses in re.findall(r'^pub extern "C" fn (\w+)(.*?)\n?((?:^ +(?:requires|ensures)\b[^\n]*\n)*)\{\n', text, re.M | re.S):
+            means = {word: meaning(word, names, aliases) for word in words(clauses)}
+            says = (' '.join(head.split()).replace('( ', '(').replace(', )', ')').removesuffix(' {'), clauses, means)
+            if (here if path.startswith(EXPORTS) else there).setdefault(name, says) is not says:
+                yield f'{path}: {name} is exported twice'
+    for name in sorted(here.keys() | there.keys()):
+        if name not in here:
+            yield f'{EXPORTS} does not export {name}'
+        elif name not in there:
+            yield f'{EXPORTS} exports {name}, which no library has'
+        elif here[name] != there[name]:
+            yield f'{EXPORTS} exports {name} with another type or other clauses than the library\'s'
 
 
 def table():
@@ -200,7 +236,7 @@ def main():
     believed = reach(roots)
     demand = reach({root for root in roots if root[1] == DEMAND})
     reached = {path for path, _ in believed if not path.endswith('/src')}
-    bad = []
+    bad = list(exported())
     for path in sorted(reached):
         if '/proofs/' in path:
             bad += [f'{path} stands in a proofs/ folder, and public contracts reach {name}' for p, name in sorted(believed) if p == path]
