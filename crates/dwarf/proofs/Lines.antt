@@ -24,4 +24,4 @@ module _ {word : ℕ} {rows : List ℕ} {at n from i : ℕ} (l : Lining word row
   turn h e f g w = record { stepping = lines.turn l.stepping h e f g; asking = ranges.turn l.asking h (sym w) refl }
 
   pub ended : at + n ≤ i → (steps_ok 0 (each (row_at rows) at n) ≡ true) × (all (λ x. row_whole word x.1) (each (row_at rows) at n) ≡ true)
-  ended h = (sym (lines.ended l.stepping h), sym (ranges.ended l.asking h ∙ lines.all_in _ _ _ _))
+  ended h = (sym (lines.ended l.stepping h), sym (ranges.ended l.asking h ∙ lines.all_in_lem _ _ _ _))

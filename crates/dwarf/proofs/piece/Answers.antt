@@ -19,4 +19,4 @@ pub call_sites-end-requires : goal.call_sites-end-requires
 call_sites-end-requires c = sites_ready c.requires
 
 pub returns : goal.returns
-returns c = stored c.requires c.front-u.ensures c.padding.ensures c.record.ensures c.record_relocs-i.ensures c.call_sites-end.ensures
+returns c = stored c.requires c.front-u.ensures c.padding.ensures c.record-at.ensures c.record_relocs-i.ensures c.call_sites-end.ensures
