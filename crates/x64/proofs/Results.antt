@@ -22,7 +22,7 @@ infos_next p ps = refl
 pub markers_length : (at : ℕ) (ps : List Prologue) → length (markers_from at ps) ≡ length ps
 unfolding markers_from
 markers_length at [] = refl
-markers_length at (p ∷ ps) = ap suc (markers_length _ ps)
+markers_length at (p ∷ ps) = ap suc (markers_length (at + length (info_bytes p.end p.codes)) ps)
 
 -- ---- how many bytes the records have
 

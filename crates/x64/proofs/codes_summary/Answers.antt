@@ -5,7 +5,6 @@ use Rattle.x64.specs.declared.Summary.{Summary}
 use Rattle.x64.specs.Sources.{codes_in}
 use native.Mathlib.Omega.{arith}
 use mathlib.Core.Path.{ap}
-use Prim.Native.Nat.{◌-◌}
 use Rattle.x64.proofs.codes_summary.Goals as goal
 
 pub start-sofar-requires : goal.start-sofar-requires

@@ -13,13 +13,13 @@ use Rattle.x64.proofs.describe.Goals as goal
 use Rattle.x64.proofs.describe.Goals.{After-codes_summary-t, Start}
 
 -- the codes, and what the questions say of them
-abbrev cs : tie.Start → List (ℕ × Seh)
+abbrev cs : Start → List (ℕ × Seh)
 cs s = codes_in s.args.s s.args.list.now s.args.p
 
-answered : (s : tie.Start) → Agreed s.args.p.end (cs s)
+answered : (s : Start) → Agreed s.args.p.end (cs s)
 answered s = agreed s.args.p.end (cs s) s.requires.1
 
-held : (c : After-codes_summary-t) → c.codes_summary-t.result.slots ≡ slots (cs c.TO-Start)
+held : (c : After-codes_summary-t) → c.codes_summary-t.result.slots ≡ slots (codes_in c.args.s c.args.list.now c.args.p)
 held c = counted _ c.codes_summary-t.ensures
 
 pub frame_byte-frame-requires : goal.frame_byte-frame-requires

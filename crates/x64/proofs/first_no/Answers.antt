@@ -1,6 +1,5 @@
 -- `x64::first_no` meets its contract.
 use Rattle.x64.proofs.Asked.{start, turn, stopped, ended}
-use Prim.Native.Nat.{◌-◌}
 use Rattle.x64.proofs.first_no.Goals as goal
 
 pub loop-k-init : goal.loop-k-init

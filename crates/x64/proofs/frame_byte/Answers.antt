@@ -1,6 +1,5 @@
 -- `x64::frame_byte` meets its contract.
 use Rattle.x64.proofs.Walks.{start, taken, turn, ended, framing, frame_asked, framed, all_framed}
-use Prim.Native.Nat.{◌-◌}
 use Rattle.x64.proofs.frame_byte.Goals as goal
 
 pub start-sofar-requires : goal.start-sofar-requires

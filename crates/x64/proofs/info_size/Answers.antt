@@ -9,7 +9,7 @@ use Rattle.x64.proofs.info_size.Goals as goal
 use Rattle.x64.proofs.info_size.Goals.{After-codes_summary-t, Start}
 
 -- what the questions say of the codes
-few : (s : tie.Start) → Agreed s.args.p.end (codes_in s.args.s s.args.list.now s.args.p)
+few : (s : Start) → Agreed s.args.p.end (codes_in s.args.s s.args.list.now s.args.p)
 few s = agreed s.args.p.end (codes_in s.args.s s.args.list.now s.args.p) s.requires.1
 
 held : (c : After-codes_summary-t) → c.codes_summary-t.result.slots ≡ slots (codes_in c.args.s c.args.list.now c.args.p)

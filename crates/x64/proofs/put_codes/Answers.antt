@@ -1,7 +1,6 @@
 -- `x64::put_codes` meets its contract.
 use Rattle.x64.proofs.Walks.{start, taken, turn, ended, putting, put_asked, put_low, put_room, put_turn, all-put}
 use native.Mathlib.Omega.{arith}
-use Prim.Native.Nat.{◌-◌}
 use Rattle.x64.proofs.put_codes.Goals as goal
 
 pub start-sofar-requires : goal.start-sofar-requires

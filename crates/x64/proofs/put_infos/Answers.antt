@@ -1,7 +1,6 @@
 -- `x64::put_infos` meets its contract.
 use Rattle.x64.proofs.Spans.{codes_yes, info_is}
 use Rattle.x64.proofs.Results.{describing, mark_room, info_room, described, all_marked, all_described}
-use Prim.Native.Nat.{◌-◌}
 use Rattle.x64.proofs.put_infos.Goals as goal
 
 pub loop-k-init : goal.loop-k-init

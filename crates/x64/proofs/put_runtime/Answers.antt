@@ -5,7 +5,6 @@ use Rattle.lists.proofs.Sums.{within}
 use Rattle.format.proofs.ListLaws.{each-length}
 use Rattle.format.specs.Prelude.{each}
 use native.Mathlib.Omega.{arith}
-use Prim.Native.Nat.{◌-◌}
 use Rattle.x64.proofs.put_runtime.Goals as goal
 
 pub loop-k-init : goal.loop-k-init

@@ -4,7 +4,6 @@ use Rattle.x64.proofs.Results.{summing, summed, all_summed}
 use Rattle.x64.proofs.Infos.{info_few}
 use lib.ListN.{length}
 use native.Mathlib.Omega.{arith}
-use Prim.Native.Nat.{◌-◌}
 use mathlib.Core.Path.{ap, ◌∙◌}
 use Rattle.x64.proofs.total.Goals as goal
 

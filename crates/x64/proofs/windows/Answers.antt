@@ -12,11 +12,11 @@ use Rattle.x64.proofs.windows.Goals as goal
 use Rattle.x64.proofs.windows.Goals.{Start}
 
 -- the lists, and the lengths of the lent ones
-abbrev given : tie.Start → Given
+abbrev given : Start → Given
 given s =
     record { machine = s.args.machine.now; functions = s.args.functions.now; rows = s.args.rows.now; landings = s.args.landings.now; pairs = s.args.pairs.now }
 
-abbrev room : tie.Start → Room
+abbrev room : Start → Room
 room s = room_in s.args.markers.now s.args.bytes.now s.args.relocations.now s.args.info.now
 
 pub returns-then-not-machine_ok : goal.returns-then-not-machine_ok
