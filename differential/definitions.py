@@ -1,8 +1,8 @@
 #!/usr/bin/env python3
 """The definitions of crates/format, computed on the stored cases and compared with the Rust's answers.
 
-Writes a copy of the crate whose only proof file states, for each case, that the definition's answer is the expected one, and has
-`rt check` compute both sides. The expected answer is the Rust's (expected/), by number where it refuses; where the library differs on
+Writes a copy of the crate, outside the repository, whose only proof file states, for each case, that the definition's answer is the
+expected one, and has `rt check` compute both sides. The expected answer is the Rust's (expected/), by number where it refuses; where the library differs on
 purpose it is that of ours.txt. A case whose answer differs in bytes on purpose is left out there by the word `other`."""
 
 import os
@@ -10,6 +10,7 @@ import re
 import shutil
 import subprocess
 import sys
+import tempfile
 
 HERE = os.path.dirname(os.path.abspath(__file__))
 # random.py has the name of a module of the standard library, so this folder is searched last.
@@ -18,7 +19,7 @@ sys.path = [folder for folder in sys.path if os.path.abspath(folder) != HERE] + 
 from oracle import mach_o  # noqa: E402
 
 ROOT = os.path.dirname(HERE)
-OUT = os.path.join(ROOT, "target", "differential", "definitions", "format")
+CRATE = os.path.join(ROOT, "crates", "format")
 X86_64 = [8, 8, 7, 16, 6, 0, 0, 2, 1, 3, 6, 7, 5, 4, *range(8, 16), 255, *range(128, 144), *[255] * 31]
 LISTS = ("machine", "functions", "rows", "landings", "pairs", "codes")
 WRITERS = ("Prelude", "Leb", "Machine", "Rows", "Lists", "Headers", "CallSites", "Records", "X64", "Questions", "Writer")
@@ -119,22 +120,22 @@ def term(case):
     if case["entry"] == "seh":
         return f"seh ({numbers(case['functions'])}) ({numbers(case['codes'])}) {room}"
     given = "; ".join(f"{key} = {numbers(case[key])}" for key in LISTS[:5])
-    entry = {"relaxed_table": "relaxedTable", "relaxed_debug_frame": "relaxedDebugFrame"}[case["entry"]]
-    return f"{entry} {case['format']} (record {{ {given} }}) {room}"
+    return f"{case['entry']} {case['format']} (record {{ {given} }}) {room}"
 
 
 def unfoldable(module):
-    return re.findall(r"^unfoldable pub (\S+)", open(os.path.join(OUT, "specs", module + ".antt")).read(), re.M)
+    with open(os.path.join(CRATE, "specs", module + ".antt")) as file:
+        return re.findall(r"^unfoldable pub (\S+)", file.read(), re.M)
 
 
 def text(claims):
     names = {module: unfoldable(module) for module in WRITERS}
     head = [
-        "use mathlib.Core.Path.{_≡_, refl}", "use Prim.Native.Nat.{ℕ}", "use mathlib.Core.List.{List, [], _∷_}",
-        "use Rattle·format·specs.specs.Questions.{Answer, refused, empty, accepted}",
-        *(f"use Rattle·format·specs.specs.{module}.{{{', '.join(found)}}}" for module, found in names.items()),
+        "use Rattle.std.proofs.Common.{◌≡◌, refl, ℕ, List, [], ◌∷◌}",
+        "use Rattle.format.specs.Questions.{Answer, refused, empty, accepted}",
+        *(f"use Rattle.format.specs.{module}.{{{', '.join(found)}}}" for module, found in names.items() if found),
         "", "unfoldable view : Answer → List (List ℕ)", "view (refused n k) = (n ∷ k ∷ []) ∷ []", "view empty = []",
-        "view (accepted w) = w .places ∷ w .bytes ∷ numbersOf (w .relocations) ∷ w .sites ∷ []", "",
+        "view (accepted w) = w.places ∷ w.bytes ∷ numbers_of w.relocations ∷ w.sites ∷ []", "",
     ]
     opened = "unfolding view " + " ".join(name for found in names.values() for name in found)
     for name, claim, answer in claims:
@@ -164,16 +165,13 @@ def random_claims(count, seed):
     made = subprocess.run(
         [sys.executable, os.path.join(HERE, "random.py"), count, "--seed", seed], capture_output=True, text=True, check=True
     ).stdout
-    path = os.path.join(os.path.dirname(OUT), "random.txt")
-    with open(path, "w") as file:
-        file.write(made)
     debug, release = (
         subprocess.run([os.path.join(ROOT, "target", "differential", build, "harness")], input=made, capture_output=True, text=True)
         for build in ("debug", "release")
     )
     in_debug, said = by_case(debug.stdout.split("\n")), by_case(release.stdout.split("\n"))
     claims = []
-    for case in cases(path):
+    for case in parse(made.split("\n")):
         answer = said[case["name"]]
         if mach_o(case) and case["functions"]:
             claims.append((case["name"].replace("_", "-"), term(case), [[78, 0]]))
@@ -197,18 +195,24 @@ def stored_claims():
     return claims, left
 
 
+def checked(claims):
+    """What `rt check` says of the copy."""
+    with tempfile.TemporaryDirectory() as top:
+        crate = os.path.join(top, "crates", "format")
+        for part in ("src", "specs"):
+            shutil.copytree(os.path.join(CRATE, part), os.path.join(crate, part))
+        os.makedirs(os.path.join(crate, "proofs"))
+        written = {"crates/format/proofs/Lib.antt": "mod Judged\n", "crates/format/proofs/Judged.antt": text(claims), "crates.txt": "format:\n"}
+        for name, content in written.items():
+            with open(os.path.join(top, name), "w") as file:
+                file.write(content)
+        return subprocess.run(["rt", "check"], cwd=crate, capture_output=True, text=True)
+
+
 def main():
-    shutil.rmtree(OUT, ignore_errors=True)
-    for part in ("src", "specs"):
-        shutil.copytree(os.path.join(ROOT, "crates", "format", part), os.path.join(OUT, part))
-    os.makedirs(os.path.join(OUT, "proofs"))
     claims, left = random_claims(*sys.argv[2:]) if sys.argv[1:2] == ["--random"] else stored_claims()
-    with open(os.path.join(OUT, "proofs", "Lib.antt"), "w") as file:
-        file.write("mod Judged\n")
-    with open(os.path.join(OUT, "proofs", "Judged.antt"), "w") as file:
-        file.write(text(claims))
-    run = subprocess.run(["rt", "check", OUT], capture_output=True, text=True)
-    if run.returncode != 0:
+    run = checked(claims)
+    if run.returncode != 0 or "logic=proved" not in run.stdout:
         print("\n".join(line[:300] for line in (run.stdout + run.stderr).split("\n") if "error" in line))
         sys.exit("definitions: the check says no")
     kind = "random" if sys.argv[1:] else "stored"

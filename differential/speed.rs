@@ -39,7 +39,7 @@ struct Reading {
 }
 
 #[rustfmt::skip]
-#[link(name = "unwind", kind = "static")]
+#[link(name = "dekvoz", kind = "static")]
 unsafe extern "C" {
     fn unwind_relaxed_table(
         machine: *const u64, machine_n: usize, format: u64,
