@@ -1,14 +1,14 @@
 -- One code's bytes read as the code.
-use mathlib.Core.Path.{◌≡◌, refl, sym, ap, ◌∙◌}
+use mathlib.Core.Path.{◌≡◌, ap, ◌∙◌}
 use Prim.Native.Nat.{ℕ, suc, ◌+◌, ◌-◌, ◌*◌, ◌/◌, ◌%◌, ◌^◌, ◌≤◌, ◌<◌}
 use native.Mathlib.Omega.{arith}
-use mathlib.Core.Bool.{Bool, true, false, not, ◌&&◌, ◌||◌}
-use mathlib.Core.Option.{Option, none, some}
-use mathlib.Core.List.{List, [], ◌∷◌, ◌++◌}
-use lib.Dec.{T, leb, ltb, eqb, leb→le, ltb→lt, eqb→eq}
+use mathlib.Core.Bool.{Bool, true, false, ◌&&◌}
+use mathlib.Core.Option.{some}
+use mathlib.Core.List.{List, ◌∷◌, ◌++◌}
+use lib.Dec.{ltb, eqb, ltb→lt, eqb→eq}
 use lib.IntN.{ℤ, pos, negsuc}
 use mir.Facts.{and_yes}
-use Rattle.format.specs.Prelude.{pick, Read, next, after}
+use Rattle.format.specs.Prelude.{pick, next, after}
 use Rattle.format.specs.Leb.{little, read_little}
 use Rattle.format.specs.declared.Seh.{Seh}
 use Rattle.format.specs.declared.Seh.TheVariants.{Push, Alloc, Frame, Save}

@@ -1,8 +1,8 @@
 -- The codes of a record, undone in reverse after the full prologue, give the entry's stack pointer back.
 use mathlib.Core.Path.{◌≡◌, refl, sym, subst, ◌∙◌}
-use Prim.Native.Nat.{ℕ, ◌+◌, ◌-◌, ◌≤◌, ◌<◌}
+use Prim.Native.Nat.{ℕ, ◌+◌, ◌-◌}
 use native.Mathlib.Omega.{arith}
-use mathlib.Core.Bool.{Bool, true, false, not}
+use mathlib.Core.Bool.{true, false, not}
 use mathlib.Core.List.{List, [], ◌∷◌}
 use lib.Dec.{T, eqb}
 use lib.IntN.{ℤ}
@@ -14,7 +14,7 @@ use Rattle.format.specs.X64.{size64}
 use Rattle.format.specs.X64Reader.{Info, has_frame, read_x64}
 use Rattle.format.proofs.Choice.{pick_yes, pick_no}
 use Rattle.x64_back.specs.Given.{frame_of}
-use Rattle.x64_back.specs.Undo.{State, rsp, stack_pointer, set_at, stored, loaded, with_register, with_memory, with_vector, does, prologue_from, below, base_in, done, undoes, undo_from, undone, names, Unnamed, KeptBy, FrameKept, FitsCode, AddressesFit}
+use Rattle.x64_back.specs.Undo.{State, rsp, stack_pointer, set_at, loaded, with_register, with_memory, with_vector, does, prologue_from, below, base_in, done, undoes, undo_from, undone, names, Unnamed, KeptBy, FrameKept, FitsCode, AddressesFit}
 
 turned : (a b : ℕ) → T (not (eqb a b)) → T (not (eqb b a))
 turned a b t = no_eqb {a = b} {b = a} (λ e. eqb_no {a = a} {b = b} t (sym e))

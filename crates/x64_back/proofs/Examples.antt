@@ -2,17 +2,15 @@
 -- write it, document 01's allocations, and a refusal of each kind.
 use mathlib.Core.Path.{◌≡◌, refl}
 use Prim.Native.Nat.{ℕ}
-use mathlib.Core.Bool.{true, false}
-use mathlib.Core.Option.{none, some}
+use mathlib.Core.Bool.{true}
+use mathlib.Core.Option.{some}
 use mathlib.Core.List.{List, [], ◌∷◌}
 use lib.IntN.{pos}
-use Rattle.format.specs.Prelude.{pick, next, after, Result, good, bad, onward, or_else}
+use Rattle.format.specs.Prelude.{pick, next, after, good, bad, onward, or_else}
 use Rattle.format.specs.Leb.{read_little}
 use Rattle.format.specs.Put.{put}
-use Rattle.format.specs.Answers.{bit}
-use Rattle.format.specs.declared.Seh.{Seh}
 use Rattle.format.specs.declared.Seh.TheVariants.{Push, Alloc, Frame, Save}
-use Rattle.format.specs.X64Reader.{operand_bytes, large_size, meaning, read_operand, read_code, read_codes_f, read_codes, header_ok, slot_bytes_in, Info, info_with, read_info, read_x64, fields_of, code_numbers, is_frame, has_frame, info_numbers, codes_stored}
+use Rattle.format.specs.X64Reader.{operand_bytes, large_size, meaning, read_operand, read_code, read_codes_f, read_codes, header_ok, slot_bytes_in, info_with, read_info, read_x64, fields_of, code_numbers, codes_stored}
 
 frame_bytes : List ℕ
 frame_bytes = 1 ∷ 8 ∷ 3 ∷ 5 ∷ 8 ∷ 0x32 ∷ 4 ∷ 3 ∷ 1 ∷ 0x50 ∷ 0 ∷ 0 ∷ []

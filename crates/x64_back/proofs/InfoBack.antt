@@ -1,24 +1,23 @@
 -- A record's bytes read as the function that they were made of.
-use mathlib.Core.Path.{◌≡◌, refl, sym, ap, ◌∙◌}
-use Prim.Native.Nat.{ℕ, zero, suc, ◌+◌, ◌-◌, ◌*◌, ◌/◌, ◌%◌, ◌^◌, ◌≤◌, ◌<◌}
+use mathlib.Core.Path.{◌≡◌, refl, ◌∙◌}
+use Prim.Native.Nat.{ℕ, suc, ◌+◌, ◌-◌, ◌*◌, ◌/◌, ◌%◌, ◌^◌, ◌≤◌, ◌<◌}
 use native.Mathlib.Omega.{arith}
-use mathlib.Core.Bool.{Bool, true, false, not, ◌&&◌, ◌||◌}
+use mathlib.Core.Bool.{Bool, true, false, not, ◌||◌}
 use mathlib.Core.Option.{Option, none, some}
 use mathlib.Core.List.{List, [], ◌∷◌, ◌++◌, append_assoc, append-nil}
 use lib.Dec.{T, leb, ltb, eqb, leb→le, ltb→lt, eqb→eq}
 use lib.IntN.{ℤ, pos, negsuc}
-use lib.ListN.{length, take, replicate, length-append}
+use lib.ListN.{length, replicate, length-append}
 use lib.Seq.{take_at}
 use mir.Facts.{and_yes, or_no, eqb_no, T_not-not}
 use borrow.Author.Tests.{le-leb}
-use Rattle.format.specs.Prelude.{pick, next, Result, good, onward, or_else}
+use Rattle.format.specs.Prelude.{pick, next, good, onward, or_else}
 use Rattle.format.specs.Answers.{bit}
 use Rattle.format.specs.Lists.{Prologue}
 use Rattle.format.specs.declared.Seh.{Seh}
 use Rattle.format.specs.declared.Seh.TheVariants.{Push, Alloc, Frame, Save}
 use Rattle.format.specs.X64.{size64, code_bytes, register_in, alloc_no, save_no, operand_no, code_no, frame_ok, frame_no, first_no, slots, prologue_no, frame_or, frame_byte, reversed, info_bytes}
-use Rattle.format.specs.X64Reader.{is_frame, read_code, read_codes_f, read_codes, header_ok, slot_bytes_in, Info, info_with, read_info}
-use Rattle.format.proofs.Choice.{tested, pick_yes, pick_no}
+use Rattle.format.specs.X64Reader.{is_frame, read_codes_f, read_codes, header_ok, slot_bytes_in, info_with, read_info}
 use Rattle.codes.specs.Codes.{frame_ask}
 use Rattle.codes.proofs.Questions.{yes_of}
 use Rattle.codes.proofs.Sizes.{code_few, reversed-length}
