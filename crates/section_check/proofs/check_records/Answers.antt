@@ -1,8 +1,6 @@
 -- `section_check::check_records` meets its contract.
 use mathlib.Core.Path.{sym, ◌∙◌}
 use native.Mathlib.Omega.{arith}
-use Prim.Native.Nat.{◌-◌}
-use borrow.Author.Tests.{not-true, not-false}
 use Rattle.section_check.specs.Check.{saying}
 use Rattle.section_check.proofs.Pass.{start, marks_on, past_header, fails_here, past_record, ended}
 use Rattle.section_check.proofs.check_records.Goals as goal

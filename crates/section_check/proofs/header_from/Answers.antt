@@ -1,7 +1,6 @@
 -- `section_check::header_from` meets its contract.
 use mathlib.Core.Path.{sym, ◌∙◌}
 use native.Mathlib.Omega.{arith}
-use Prim.Native.Nat.{◌-◌}
 use Rattle.format.specs.Reader.{header_at}
 use Rattle.reader.proofs.Seeking.{turn, met, ended, header_here_lem, header_later, header_none}
 use Rattle.section_check.proofs.Pass.{seeking}
