@@ -1,7 +1,6 @@
 -- `parts::headers::factors` meets its contract.
 use mathlib.Core.Path.{◌≡◌, sym, ◌∙◌}
 use native.Mathlib.Omega.{arith}
-use borrow.Author.Tests.{not-true, not-false}
 use Rattle.rows.proofs.Signs.{passed}
 use Rattle.format.specs.Headers.{data_factor}
 use Rattle.format.specs.Rows.{same_offset}

@@ -18,12 +18,20 @@ pub returns-then-e-ne0 : goal.returns-then-e-ne0
 returns-then-e-ne0 c = c.refused-then-e-ne0.ensures ∙ sym (entryless (header_entry_lem c.args.section.now c.args.kind c.args.word c.args.place) (sym c.is_word.ensures ∙ c.if-not-is_word.false) c.if-kind-gt1.false c.next_entry-e.ensures c.if-e-ne0.true)
 
 pub returns-then-not-e : goal.returns-then-not-e
-returns-then-not-e c = c.refused-then-not-e.ensures ∙ sym (at_record (header_entry_lem c.args.section.now c.args.kind c.args.word c.args.place) (sym c.is_word.ensures ∙ c.if-not-is_word.false) c.if-kind-gt1.false c.next_entry-e.ensures c.if-e-ne0.false c.if-not-e.true)
+returns-then-not-e c = c.refused-then-not-e.ensures ∙ sym (at_record (header_entry_lem c.args.section.now c.args.kind c.args.word c.args.place) (sym c.is_word.ensures ∙ c.if-not-is_word.false) c.if-kind-gt1.false c.next_entry-e.ensures c.if-e-ne0.false (not-true _ c.if-not-e.true))
 
 pub overflow_add-from : goal.overflow_add-from
 overflow_add-from c =
     let f = entry_fits _ c.args.section.now c.args.place c.next_entry-e.ensures c.if-e-ne0.false in
     omega (arith, f.here, f.past, f.inside)
+
+pub slice_bounds-fields-start : goal.slice_bounds-fields-start
+slice_bounds-fields-start c =
+    let f = entry_fits _ c.args.section.now c.args.place c.next_entry-e.ensures c.if-e-ne0.false in
+    omega (arith, f.here, f.past)
+
+pub slice_bounds-fields-end : goal.slice_bounds-fields-end
+slice_bounds-fields-end c = (entry_fits _ c.args.section.now c.args.place c.next_entry-e.ensures c.if-e-ne0.false).inside
 
 pub slice_bounds-fields-count : goal.slice_bounds-fields-count
 slice_bounds-fields-count c =
@@ -36,4 +44,4 @@ fields-requires c =
     (rw (sym c.is_word.ensures ∙ c.if-not-is_word.false) tt, omega (arith, body_ends c.args.section.now f, f.inside))
 
 pub returns : goal.returns
-returns c = c.fields.ensures ∙ sym (at_header (header_entry_lem c.args.section.now c.args.kind c.args.word c.args.place) (sym c.is_word.ensures ∙ c.if-not-is_word.false) c.if-kind-gt1.false c.next_entry-e.ensures c.if-e-ne0.false c.if-not-e.false)
+returns c = c.fields.ensures ∙ sym (at_header (header_entry_lem c.args.section.now c.args.kind c.args.word c.args.place) (sym c.is_word.ensures ∙ c.if-not-is_word.false) c.if-kind-gt1.false c.next_entry-e.ensures c.if-e-ne0.false (not-false _ c.if-not-e.false))

@@ -1,7 +1,6 @@
 -- `parts::operation::unwind_read_operation` meets its contract.
 use mathlib.Core.Path.{sym, ◌∙◌}
 use native.Mathlib.Omega.{arith}
-use borrow.Author.Tests.{not-true, not-false}
 use Rattle.format.proofs.FieldsBack.{word_small}
 use Rattle.parts.proofs.Operated.{wordless, ended, behind, over, inside, some_bytes}
 use Rattle.parts.proofs.operation.unwind_read_operation.Goals as goal

@@ -1,7 +1,6 @@
 -- `parts::records::unwind_read_record` meets its contract.
 use mathlib.Core.Path.{sym, ◌∙◌}
 use native.Mathlib.Omega.{arith}
-use borrow.Author.Tests.{not-true, not-false}
 use Rattle.reader.proofs.Steps.{entry_fits}
 use Rattle.parts.proofs.Entered.{body_ends}
 use Rattle.parts.proofs.Entered.{wordless, kindless, entryless, at_header, at_record}
@@ -24,6 +23,14 @@ pub overflow_add-from : goal.overflow_add-from
 overflow_add-from c =
     let f = entry_fits _ c.args.section.now c.args.place c.next_entry-e.ensures c.if-e-ne0.false in
     omega (arith, f.here, f.past, f.inside)
+
+pub slice_bounds-fields-start : goal.slice_bounds-fields-start
+slice_bounds-fields-start c =
+    let f = entry_fits _ c.args.section.now c.args.place c.next_entry-e.ensures c.if-e-ne0.false in
+    omega (arith, f.here, f.past)
+
+pub slice_bounds-fields-end : goal.slice_bounds-fields-end
+slice_bounds-fields-end c = (entry_fits _ c.args.section.now c.args.place c.next_entry-e.ensures c.if-e-ne0.false).inside
 
 pub slice_bounds-fields-count : goal.slice_bounds-fields-count
 slice_bounds-fields-count c =
