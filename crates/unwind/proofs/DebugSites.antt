@@ -1,11 +1,11 @@
 -- debug_frame has no call sites, so the room for them does not matter.
 use mathlib.Core.Path.{◌≡◌, refl}
-use Prim.Native.Nat.{ℕ}
+use Prim.Native.Nat.{ℕ, ◌+◌}
 use mathlib.Core.Bool.{Bool, true, false}
 use lib.ListN.{length}
 use lib.Dec.{leb, leb-zero}
 use mathlib.Core.Option.{Option, none, some}
-use mathlib.Core.List.{List, [], ◌∷◌, map}
+use mathlib.Core.List.{List, [], ◌∷◌, ◌++◌, map}
 use Rattle.format.specs.declared.Machine.{Machine}
 use Rattle.format.specs.declared.Section.TheVariants.{Debug}
 use Rattle.format.specs.Lists.{Function}
@@ -16,7 +16,7 @@ use Rattle.format.specs.Prelude.{pick}
 use Rattle.format.specs.Put.{put}
 use Rattle.format.specs.Answers.{afterwards}
 use Rattle.format.specs.Questions.{Given, Room, Question, Answer, empty, accepted, unless, given_functions, room_asks, fitting, dwarf_answer, dwarf_given, relaxed_debug_frame}
-use Rattle.format.specs.Writer.{Seen, Written, taken, without_exceptions, part_with, part_of, parts_from, parts_of, joined, dwarf, place_in, align_for, is_empty}
+use Rattle.format.specs.Writer.{Seen, Part, Written, taken, without_exceptions, part_with, part_of, parts_from, parts_of, joined, dwarf, place_in, align_for, is_empty}
 
 without_landings : (o : Option ℕ) (m : Machine) (align at sites : ℕ) (f : Function) → (part_with o Debug m align at sites (taken Debug f)).sites ≡ []
 unfolding part_with taken without_exceptions site_added
@@ -28,8 +28,9 @@ no_sites_from : (m : Machine) (at sites : ℕ) (seen : List Seen) (fs : List Fun
 unfolding parts_from part_of joined
 no_sites_from m at sites seen [] = refl
 no_sites_from m at sites seen (f ∷ fs) =
+    let p : Part = part_of Debug m (is_empty (map (taken Debug) fs)) at sites seen (taken Debug f) in
     rw (without_landings (place_in (key_of m (taken Debug f)) seen) m (align_for Debug m.word (is_empty (map (taken Debug) fs))) at sites f)
-    (no_sites_from m _ _ _ fs)
+    (no_sites_from m (at + length p.bytes) (sites + 0) (seen ++ (record { key = key_of m (taken Debug f); place = p.place } ∷ [])) fs)
 
 pub no_sites : (m : Machine) (fs : List Function) → (dwarf Debug m fs).sites ≡ []
 unfolding dwarf parts_of
