@@ -1,16 +1,14 @@
 -- The check over structs and the check over lists of numbers are one: a function that has a part of the rows, wherever it starts, has the same answer.
-use mathlib.Core.Path.{◌≡◌, refl, sym, ap, subst, ◌∙◌}
+use mathlib.Core.Path.{◌≡◌, refl, sym, ap, ◌∙◌}
 use Prim.Native.Nat.{ℕ, zero, suc, ◌+◌, ◌≤◌, ◌<◌}
 use native.Mathlib.Nat.{add-zero, zero-add}
 use native.Mathlib.Omega.{arith}
 use mathlib.Core.Bool.{Bool, ◌&&◌, and-true}
 use mathlib.Core.List.{List}
-use lib.Dec.{T}
 use lib.ListN.{length, get_or, take, drop, length-drop}
 use lib.Seq.{length-take-le, get_or-take, get_or-drop}
 use borrow.Author.Tests.{le-leb, lt-ltb}
 use Rattle.format.specs.Prelude.{each}
-use Rattle.format.specs.Rows as rows
 use Rattle.format.specs.Lists.{function_stride, field, count, inside, all_in, row_ok_at, row_at, mark_ok}
 use Rattle.format.specs.RowCheck.{row_check_at}
 use Rattle.lists.proofs.Ranges.{none_left, one_more}

@@ -1,10 +1,8 @@
--- Laws of the structs as numbers and of the entries over them, and what the walks by hand have in common.
+-- Laws of the structs as numbers and of the entries over them.
 pub mod Signs
 pub mod Rooms
 pub mod Stored
 pub mod Strides
-pub mod Lending
-pub mod Walking
 pub mod Meaning
 pub mod CheckLoop
 pub mod Agrees

@@ -37,11 +37,6 @@ room {xs} {ys} {p} {q} {ns} e w = w.stored ∙ sym (fitting xs p ns (leb-true _ 
 
 -- ---- a list of structs
 
--- an element of a list that has one
-pub any : {A : Type 0} (ys : List A) {i : ℕ} → i < length ys → A
-any [] h = absurd (omega arith)
-any (y ∷ ys) h = y
-
 module _ {A : Type 0} (one : A → List ℕ) where
   pub length-all : (xs : List ℕ) (p : ℕ) (ys : List A) → length (stored_all one xs p ys) ≡ length xs
   unfolding stored_all

@@ -1,5 +1,5 @@
-// The entries over lists of structs, and their C interface (include/dekvoz.h): functions and rows as structs, for callers that have them so. What walks a
-// slice of structs is proved by hand, and stands here alone. Ported from rucc-asm/src/unwind.rs (Extent, Rows) of tamnd/rucc, changed: see NOTICE.
+// The entries over lists of structs, and their C interface (include/dekvoz.h): functions and rows as structs, for callers that have them so. Ported
+// from rucc-asm/src/unwind.rs (Extent, Rows) of tamnd/rucc, changed: see NOTICE.
 #![tactic(auto)]
 
 ghost use Rattle.std.specs.Prelude.{◌≡◌, true, false, [], ◌∷◌, ◌+◌, ◌*◌, ◌≤◌, length, take, drop, leb};
@@ -266,8 +266,8 @@ fn all_zero(numbers: &[u64]) -> bool
     true
 }
 
-// Whether the list is long enough for so many structs, and all zero so far. It is lent as the functions that store in it are: the entries are
-// proved by hand, and so lend it in one way only.
+// Whether the list is long enough for so many structs, and all zero so far. It is lent as to the functions that
+// store in it.
 fn ready(numbers: &mut [u64], functions: usize, rows: usize) -> bool
     ensures { (result ≡ ready_for numbers.old functions rows) × (numbers.new ≡ numbers.old) }
 {

@@ -1,6 +1,5 @@
 -- `struct_entries::all_zero` meets its contract: what is left to be looked at says what the whole list does.
 use mathlib.Core.Path.{sym, ◌∙◌}
-use Prim.Native.Nat.{◌-◌}
 use Rattle.struct_entries.proofs.Zeros.{zero_turn, zero_not, zero_ended}
 use Rattle.struct_entries.proofs.all_zero.Goals as goal
 

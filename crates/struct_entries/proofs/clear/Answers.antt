@@ -1,6 +1,5 @@
 -- `struct_entries::clear` meets its contract: what stands before i is cleared.
 use mathlib.Core.Path.{refl, ap, ◌∙◌}
-use Prim.Native.Nat.{◌-◌}
 use lib.ListN.{set, length-set}
 use Rattle.struct_entries.specs.Entries.{cleared}
 use Rattle.struct_entries.proofs.Zeros.{clear_turn, cleared_none}

@@ -1,7 +1,6 @@
 -- `struct_entries::debug_frame_in` meets its contract.
 use mathlib.Core.Bool.{not}
 use mathlib.Core.Path.{ap}
-use borrow.Author.Tests.{not-false}
 use Rattle.struct_entries.proofs.Parts.{refuses, accepts, debug_frame_ready}
 use Rattle.struct_entries.proofs.debug_frame_in.Goals as goal
 
@@ -16,4 +15,4 @@ returns c =
     let a = c.args in
     accepts _ _ _ _ _ a.ok (ap not c.if-not-ok.false)
     (debug_frame_ready a.format a.machine.now a.numbers.now a.functions a.rows a.landings.now a.pairs.now _ (c.requires c.if-not-ok.false))
-    c.packed_debug_frame.ensures
+    (c.packed_debug_frame.ensures.exports, c.packed_debug_frame.ensures.numbers_after)

@@ -13,10 +13,10 @@ pub returns-then-room-at : goal.returns-then-room-at
 returns-then-room-at c = too_far _ _ _ _ c.if-room-at.true
 
 pub returns-then-not-fits : goal.returns-then-not-fits
-returns-then-not-fits c = too_many _ _ _ _ c.if-room-at.false (leb-false _ _ (refused c.fits2.ensures (ap not c.if-not-fits.true)))
+returns-then-not-fits c = too_many _ _ _ _ c.if-room-at.false (leb-false _ _ (refused c.fits.ensures (ap not c.if-not-fits.true)))
 
 inside : (c : Else-not-fits) → c.args.stride * c.args.i ≤ c.args.room - c.args.at
-inside c = leb-true _ _ (accepted c.fits2.ensures (ap not c.if-not-fits.false))
+inside c = leb-true _ _ (accepted c.fits.ensures (ap not c.if-not-fits.false))
 
 pub overflow_mul-result : goal.overflow_mul-result
 overflow_mul-result c = search (inside c, rules)

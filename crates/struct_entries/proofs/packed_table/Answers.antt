@@ -23,6 +23,10 @@ pub slice_bounds-relaxed_table-end : goal.slice_bounds-relaxed_table-end
 unfolding needed
 slice_bounds-relaxed_table-end c = sym (length-take-le _ _ (search rules))
 
+pub slice_bounds-relaxed_table-end-2 : goal.slice_bounds-relaxed_table-end-2
+unfolding needed
+slice_bounds-relaxed_table-end-2 c = search rules
+
 pub offset_bounds-t-a : goal.offset_bounds-t-a
 unfolding needed
 offset_bounds-t-a c = search rules
@@ -35,4 +39,7 @@ pub returns : goal.returns
 unfolding needed
 returns c =
     let a = c.args in
-    (handed a.machine.now a.numbers.now a.functions a.rows a.landings.now a.pairs.now (relaxed_table a.format) _ c.written_of.ensures c.relaxed_table-outcome.ensures, c.clear.ensures)
+    record {
+      exports = handed a.machine.now a.numbers.now a.functions a.rows a.landings.now a.pairs.now (relaxed_table a.format) _ c.written_of.ensures c.relaxed_table-outcome.ensures;
+      numbers_after = c.clear.ensures;
+    }

@@ -10,7 +10,7 @@ use Rattle.lists.proofs.Answers.{accepted}
 use Rattle.struct_entries.specs.Entries.{needed}
 use Rattle.struct_entries.proofs.Zeros.{too_short, by_zeros}
 use Rattle.struct_entries.proofs.ready.Goals as goal
-use Rattle.struct_entries.proofs.ready.Goals.{After-slice_known-1, Else-not-long_enough}
+use Rattle.struct_entries.proofs.ready.Goals.{Else-not-long_enough}
 
 pub returns-then-not-long_enough : goal.returns-then-not-long_enough
 returns-then-not-long_enough c = (too_short _ _ _ c.long_enough.ensures (ap not c.if-not-long_enough.true), refl)
@@ -32,7 +32,7 @@ overflow_add-n c = search (enough c, rules)
 
 pub slice_bounds-all_zero-end : goal.slice_bounds-all_zero-end
 unfolding needed
-slice_bounds-all_zero-end c = sym (length-take-le _ _ (enough (goal.at.slice_bounds-all_zero-end c).After-slice_known-1))
+slice_bounds-all_zero-end c = sym (length-take-le _ _ (enough (goal.at.slice_bounds-all_zero-end c).Else-not-long_enough))
 
 pub returns : goal.returns
 unfolding needed

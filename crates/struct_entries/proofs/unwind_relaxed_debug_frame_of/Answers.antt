@@ -1,0 +1,14 @@
+-- `struct_entries::unwind_relaxed_debug_frame_of` meets its contract.
+use mathlib.Core.List.{[]}
+use Rattle.format.specs.Questions.{room_in}
+use Rattle.struct_entries.proofs.Packing.{there, debug_frame_finished}
+use Rattle.struct_entries.proofs.unwind_relaxed_debug_frame_of.Goals as goal
+
+pub debug_frame_in-requires : goal.debug_frame_in-requires
+debug_frame_in-requires c = rw c.pack-ok.ensures.1 (there c.args.numbers.now c.args.functions.now c.args.rows.now c.pack-ok.result c.pack-ok.ensures.0)
+
+pub returns : goal.returns
+returns c =
+    let a = c.args in
+    debug_frame_finished a.numbers.now a.functions.now a.rows.now c.pack-ok.result c.pack-ok.ensures.0 a.format a.machine.now a.landings.now a.pairs.now
+    (room_in a.places.now a.bytes.now a.relocations.now []) c.pack-ok.ensures.1 c.debug_frame_in.ensures
