@@ -18,7 +18,7 @@ command = target/cli/release/dekvoz
 .PHONY: all check install uninstall
 all: $(command)
 
-$(archive): $(shell find crates -path '*/src/*' -o -path '*/specs/*' -o -path '*/proofs/*') crates.txt bindings/archive
+$(archive): $(shell find crates -name out -prune -o \( -path '*/src/*' -o -path '*/specs/*' -o -path '*/proofs/*' \) -print) crates.txt bindings/archive
 	bindings/archive
 
 $(command): $(archive) $(wildcard cli/src/* cli/Cargo.toml bindings/rust/src/* bindings/rust/Cargo.toml bindings/rust/build.rs)
