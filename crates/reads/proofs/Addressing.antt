@@ -1,5 +1,5 @@
 -- A function's fields and its address: readers at positions, and sums modulo the word's bits.
-use Rattle.std.proofs.Common.{◌≡◌, ℕ, suc, ◌+◌, ◌-◌, ◌*◌, ◌%◌, ◌^◌, ◌<◌, ◌≤◌, Bool, true, false, ◌&&◌, ◌||◌, T, eqb, ltb, leb, List, length, sym, refl, ap, ◌∙◌, ⊎_elim, arith, pow-add}
+use Rattle.std.proofs.Common.{◌≡◌, ℕ, suc, ◌+◌, ◌-◌, ◌*◌, ◌%◌, ◌^◌, ◌<◌, ◌≤◌, Bool, true, false, ◌&&◌, ◌||◌, T, eqb, ltb, leb, List, sym, refl, ap, ◌∙◌, ⊎_elim, arith, pow-add}
 use mathlib.Core.Option.{Option, none, some}
 use native.Mathlib.Nat.{mod-add-mod, mod-mod_of_dvd, dvd-mul_left}
 use mir.Facts.{or_yes, eqb_yes}

@@ -1,5 +1,5 @@
 -- The header of a record by its place, and the index stored number by number.
-use Rattle.std.proofs.Common.{◌≡◌, ℕ, ◌+◌, ◌-◌, ◌*◌, ◌/◌, ◌^◌, ◌<◌, ◌≤◌, Bool, true, false, ◌&&◌, T, eqb, ltb, leb, List, [], ◌∷◌, length, get_or, set, sym, refl, ap, ◌∙◌, subst, arith, length-set, le-ltb, lt-ltb, eq-eqb}
+use Rattle.std.proofs.Common.{◌≡◌, ℕ, ◌+◌, ◌*◌, ◌/◌, ◌^◌, ◌<◌, ◌≤◌, Bool, true, false, ◌&&◌, T, eqb, ltb, leb, List, [], ◌∷◌, length, get_or, set, sym, refl, ap, ◌∙◌, subst, arith, length-set, le-ltb, lt-ltb, eq-eqb}
 use mathlib.Core.Option.{Option, none, some}
 use mir.Facts.{eqb_yes}
 use Rattle.format.specs.Prelude.{pick, after, first, Result, good, bad, onward, or_else}
@@ -15,7 +15,7 @@ use Rattle.reader.specs.declared.entries.Span.{Span}
 use Rattle.reader.specs.declared.entries.Span.TheVariants as span
 use Rattle.reader.proofs.Seeking.{search_start, search_turn, number_is, number_none, absent, header_here_lem, header_later}
 use Rattle.reader.proofs.Tiling.{tiled_end}
-use Rattle.reader.proofs.Whole.{tiled, spans, spans_none}
+use Rattle.reader.proofs.Whole.{spans, spans_none}
 use Rattle.reads.specs.Places.{asked, header_of}
 use Rattle.reads.specs.Index.{nowhere, place_or, index_from, index_of, index_in, index, indexed_as, list_after}
 use Rattle.reads.specs.Standing.{Skipped, Headed, Indexes}

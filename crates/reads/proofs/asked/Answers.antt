@@ -1,6 +1,5 @@
 -- `reads::asked` meets its contract.
 use Rattle.reads.proofs.Placing.{no_word, a_word}
-use borrow.Author.Tests.{not-true, not-false}
 use Rattle.std.proofs.Common.{sym, ◌∙◌}
 use Rattle.reads.proofs.asked.Goals as goal
 

@@ -2,7 +2,6 @@
 use Rattle.reads.proofs.Addressing.{function_unasked, function_missing, function_header, function_record}
 use Rattle.reads.proofs.Placing.{asked_word}
 use Rattle.reader.proofs.Tiling.{entered}
-use borrow.Author.Tests.{not-true, not-false}
 use Rattle.std.proofs.Common.{sym, ◌∙◌}
 use Rattle.reads.proofs.unwind_function_at.Goals as goal
 

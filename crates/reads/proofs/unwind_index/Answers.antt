@@ -1,6 +1,5 @@
 -- `reads::unwind_index` meets its contract.
 use Rattle.reads.proofs.Indexing.{index_unasked, index_asked}
-use borrow.Author.Tests.{not-true, not-false}
 use Rattle.std.proofs.Common.{sym, ◌∙◌}
 use Rattle.reads.proofs.unwind_index.Goals as goal
 

@@ -1,6 +1,5 @@
 -- `reads::unwind_locate` meets its contract.
 use Rattle.reads.proofs.Placing.{asked_word, locate_unasked, locate_asked}
-use borrow.Author.Tests.{not-true, not-false}
 use Rattle.std.proofs.Common.{sym, ◌∙◌}
 use Rattle.reads.proofs.unwind_locate.Goals as goal
 

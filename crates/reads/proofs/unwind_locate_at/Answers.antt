@@ -1,6 +1,5 @@
 -- `reads::unwind_locate_at` meets its contract.
 use Rattle.reads.proofs.Placing.{asked_word, at_unasked, at_asked}
-use borrow.Author.Tests.{not-true, not-false}
 use Rattle.std.proofs.Common.{sym, ◌∙◌}
 use Rattle.reads.proofs.unwind_locate_at.Goals as goal
 

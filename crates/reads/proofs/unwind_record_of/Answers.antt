@@ -1,7 +1,6 @@
 -- `reads::unwind_record_of` meets its contract.
 use Rattle.reads.proofs.Addressing.{holder_unasked, holder_asked}
 use Rattle.reads.proofs.Placing.{asked_word}
-use borrow.Author.Tests.{not-true, not-false}
 use Rattle.std.proofs.Common.{sym, ◌∙◌}
 use Rattle.reads.proofs.unwind_record_of.Goals as goal
 

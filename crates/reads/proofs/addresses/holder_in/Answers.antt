@@ -1,7 +1,6 @@
 -- `reads::addresses::holder_in` meets its contract.
-use Rattle.std.proofs.Common.{◌-◌, sym, ◌∙◌, arith}
+use Rattle.std.proofs.Common.{sym, ◌∙◌, arith}
 use Rattle.reads.proofs.Passing.{holding, past_header, past_record, here, nobody, holding_pc, holder_untiled, holder_none, holder_there}
-use borrow.Author.Tests.{not-true, not-false}
 use Rattle.reads.proofs.addresses.holder_in.Goals as goal
 
 pub returns-then-not-tiles : goal.returns-then-not-tiles

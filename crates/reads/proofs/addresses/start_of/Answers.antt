@@ -10,10 +10,10 @@ returns-then-debug c = simp c.if-debug.true
 pub returns-then-field-lt-NEGATIVE : goal.returns-then-field-lt-NEGATIVE
 returns-then-field-lt-NEGATIVE c =
     let a = c.args in
-    rw c.if-debug.false (start_above a.word c.requires.0 a.address a.at a.field c.wrapping_add_u64-here.ensures c.wrapping_add_u64-sum.ensures c.if-field-lt-NEGATIVE.true c.address_of.ensures)
+    rw c.if-debug.false (start_above a.word c.requires.0 a.address a.at a.field c.wrapping_add_u64-here.ensures.value c.wrapping_add_u64-sum.ensures.value c.if-field-lt-NEGATIVE.true c.address_of.ensures)
 
 pub returns : goal.returns
 returns c =
     let a = c.args in
     rw c.if-debug.false
-    (start_below a.word c.requires.0 a.address a.at a.field c.wrapping_add_u64-here.ensures c.wrapping_add_u64-sum.ensures c.if-field-lt-NEGATIVE.false c.wrapping_add_u64.ensures c.address_of-2.ensures)
+    (start_below a.word c.requires.0 a.address a.at a.field c.wrapping_add_u64-here.ensures.value c.wrapping_add_u64-sum.ensures.value c.if-field-lt-NEGATIVE.false c.wrapping_add_u64.ensures.value c.address_of-2.ensures)

@@ -1,5 +1,4 @@
 -- `reads::index::addend_from` meets its contract.
-use Rattle.std.proofs.Common.{◌-◌}
 use Rattle.reader.proofs.Seeking.{search_met, search_turn, search_ended}
 use Rattle.reads.proofs.index.addend_from.Goals as goal
 

@@ -1,5 +1,5 @@
 -- `reads::index::count` meets its contract.
-use Rattle.std.proofs.Common.{◌-◌, sym, ◌∙◌, arith}
+use Rattle.std.proofs.Common.{sym, ◌∙◌, arith}
 use Rattle.reads.proofs.Indexing.{counting, count_header, count_record, counted}
 use Rattle.reads.proofs.index.count.Goals as goal
 

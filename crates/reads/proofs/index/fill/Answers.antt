@@ -1,5 +1,5 @@
 -- `reads::index::fill` meets its contract.
-use Rattle.std.proofs.Common.{◌-◌, sym, ◌∙◌, arith, length-set, rules}
+use Rattle.std.proofs.Common.{sym, ◌∙◌, arith, length-set, rules}
 use Rattle.reads.proofs.Indexing.{filling, fill_skipped, fill_header, fill_room, fill_record, filled}
 use Rattle.reads.proofs.Marking.{marking, marks_on, marking_on}
 use Rattle.reads.proofs.index.fill.Goals as goal

@@ -1,7 +1,6 @@
 -- `reads::index::index_in` meets its contract.
 use Rattle.reads.proofs.Indexing.{index_untiled, twice, index_short, index_there}
 use Rattle.format.specs.Lists.{relocations_of}
-use borrow.Author.Tests.{not-true, not-false}
 use Rattle.std.proofs.Common.{sym, ◌∙◌, arith}
 use Rattle.reads.proofs.index.index_in.Goals as goal
 

@@ -1,5 +1,5 @@
 -- `reads::index::skipped` meets its contract.
-use Rattle.std.proofs.Common.{◌-◌, arith}
+use Rattle.std.proofs.Common.{arith}
 use Rattle.reads.proofs.Indexing.{skipped_one}
 use Rattle.reads.proofs.index.skipped.Goals as goal
 

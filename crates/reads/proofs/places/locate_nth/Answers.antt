@@ -2,7 +2,6 @@
 use Rattle.reads.proofs.Placing.{nth_untiled, nth_missing, record_stands, nth_headless, header_stands, nth_rest}
 use Rattle.reads.specs.Places.{header_of}
 use Rattle.format.specs.Lists.{relocations_of}
-use borrow.Author.Tests.{not-true, not-false}
 use Rattle.std.proofs.Common.{sym, ◌∙◌}
 use Rattle.reads.proofs.places.locate_nth.Goals as goal
 
