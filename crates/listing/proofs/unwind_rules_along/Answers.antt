@@ -1,6 +1,5 @@
 -- `listing::unwind_rules_along` meets its contract.
 use mathlib.Core.Path.{sym, ◌∙◌}
-use borrow.Author.Tests.{not-true, not-false}
 use Rattle.listing.proofs.Asking.{unlocated, outside, short, asked, listed, in_order}
 use Rattle.listing.proofs.unwind_rules_along.Goals as goal
 

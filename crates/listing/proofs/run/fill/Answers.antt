@@ -1,8 +1,8 @@
 -- `listing::run::fill` meets its contract.
 use mathlib.Core.Path.{sym, ◌∙◌}
-use Prim.Native.Nat.{◌-◌}
 use native.Mathlib.Omega.{arith}
 use borrow.Author.Rules.{rules}
+use borrow.Author.Tests.{eq-eqb, ne_eqb}
 use lib.ListN.{length-replicate}
 use Rattle.format.proofs.FieldsBack.{word_small}
 use Rattle.format.proofs.PutLaws.{kept}
@@ -44,25 +44,25 @@ pub shape_of-out-then-first : goal.shape_of-out-then-first
 shape_of-out-then-first c = (stored_joined c.entries.invariant.lines c.operations.invariant.lines).long
 
 pub returns-then-first : goal.returns-then-first
-returns-then-first c = rw c.listed-then-first.ensures (refuses c.entries.invariant (bad_step c.operations.invariant (sym c.operation.ensures ∙ c.in-Operation.is) c.in-Step.is c.if-first.true))
+returns-then-first c = rw c.listed-then-first.ensures (refuses c.entries.invariant (bad_step c.operations.invariant (sym c.operation.ensures ∙ c.in-Operation.is) c.in-Step.is (eq-eqb _ _ c.if-first.true)))
 
 pub operations-smaller-then-n-eq0 : goal.operations-smaller-then-n-eq0
 operations-smaller-then-n-eq0 c = shorter c.operations.invariant (sym c.operation.ensures ∙ c.in-Operation.is)
 
 pub operations-preserved-then-n-eq0 : goal.operations-preserved-then-n-eq0
-operations-preserved-then-n-eq0 c = no_step c.operations.invariant (sym c.operation.ensures ∙ c.in-Operation.is) c.in-Step.is c.if-first.false c.if-n-eq0.true
+operations-preserved-then-n-eq0 c = no_step c.operations.invariant (sym c.operation.ensures ∙ c.in-Operation.is) c.in-Step.is (ne_eqb _ _ c.if-first.false) c.if-n-eq0.true
 
 pub entries-preserved-then-loc-n : goal.entries-preserved-then-loc-n
-entries-preserved-then-loc-n c = cut c.entries.invariant c.operations.invariant c.entries-test.true c.requires.3 c.requires.4 c.if-first.false (far_step c.operations.invariant (sym c.operation.ensures ∙ c.in-Operation.is) c.in-Step.is c.if-first.false c.if-n-eq0.false c.if-loc-n.true)
+entries-preserved-then-loc-n c = cut c.entries.invariant c.operations.invariant c.entries-test.true c.requires.3 c.requires.4 (ne_eqb _ _ c.if-first.false) (far_step c.operations.invariant (sym c.operation.ensures ∙ c.in-Operation.is) c.in-Step.is (ne_eqb _ _ c.if-first.false) c.if-n-eq0.false c.if-loc-n.true)
 
 pub line-i-requires : goal.line-i-requires
-line-i-requires c = line_room c.operations.invariant (sym c.operation.ensures ∙ c.in-Operation.is) c.in-Step.is c.if-first.false c.if-n-eq0.false
+line-i-requires c = line_room c.operations.invariant (sym c.operation.ensures ∙ c.in-Operation.is) c.in-Step.is (ne_eqb _ _ c.if-first.false) c.if-n-eq0.false
 
 pub operations-smaller-in-Step : goal.operations-smaller-in-Step
 operations-smaller-in-Step c = shorter c.operations.invariant (sym c.operation.ensures ∙ c.in-Operation.is)
 
 pub operations-preserved-in-Step : goal.operations-preserved-in-Step
-operations-preserved-in-Step c = near_step c.operations.invariant (sym c.operation.ensures ∙ c.in-Operation.is) c.in-Step.is c.if-first.false c.if-n-eq0.false c.if-loc-n.false c.line-i.ensures (kept c.line-i.ensures)
+operations-preserved-in-Step c = near_step c.operations.invariant (sym c.operation.ensures ∙ c.in-Operation.is) c.in-Step.is (ne_eqb _ _ c.if-first.false) c.if-n-eq0.false c.if-loc-n.false c.line-i.ensures (kept c.line-i.ensures)
 
 pub shape_of-out-then-changed-ne0 : goal.shape_of-out-then-changed-ne0
 shape_of-out-then-changed-ne0 c = (stored_joined c.entries.invariant.lines c.operations.invariant.lines).long

@@ -1,5 +1,4 @@
 use Prim.Native.Nat.{◌-◌}
-use borrow.Author.Rules.{rules}
 use lib.ListN.{length}
 use Rattle.reader.specs.Spans.{part}
 use Rattle.listing.specs.Lines.{lines_of}

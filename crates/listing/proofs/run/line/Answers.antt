@@ -1,7 +1,6 @@
 -- `listing::run::line` meets its contract.
 use Rattle.format.proofs.PutLaws.{◌then◌}
 use Rattle.listing.proofs.StoredLines.{line_wrote}
-use borrow.Author.Rules.{rules}
 use Rattle.listing.proofs.run.line.Goals as goal
 
 pub returns : goal.returns

@@ -1,6 +1,5 @@
 -- `listing::run::rule_is` meets its contract.
 use mathlib.Core.Path.{refl}
-use borrow.Author.Rules.{rules}
 use Rattle.format.specs.Prelude.{pick}
 use Rattle.format.proofs.Choice.{if-eq, if-ne}
 use Rattle.listing.specs.Changes.{rules_of, rule_is}
