@@ -1,17 +1,17 @@
 -- From functions that pass questions 13 and 21 to 25 to what the passes rely on. What stands behind the first of them is bounded by the counts of question 13.
 use mathlib.Core.Path.{◌≡◌, refl, ◌∙◌}
-use Prim.Native.Nat.{ℕ, zero, suc, ◌+◌, ◌*◌, ◌^◌, ◌≤◌, ◌<◌}
+use Prim.Native.Nat.{ℕ, zero, suc, ◌+◌, ◌*◌, ◌≤◌, ◌<◌}
 use native.Mathlib.Omega.{arith}
 use native.Mathlib.Nat.{add-zero}
 use mathlib.Core.Bool.{Bool, true, false}
 use mathlib.Core.Option.{none, some}
-use mathlib.Core.List.{List, []}
+use mathlib.Core.List.{List}
 use lib.Dec.{T}
 use lib.ListN.{length, length-append}
 use Rattle.format.specs.Prelude.{pick}
 use Rattle.format.specs.declared.Section.{Section}
 use Rattle.format.specs.declared.Section.TheVariants.{Elf, Debug}
-use Rattle.format.specs.Lists.{Function, Relaxed, function_stride, field, row_ok_at, all_in, sum_of, numbers_of}
+use Rattle.format.specs.Lists.{Relaxed, function_stride, field, row_ok_at, all_in, sum_of}
 use Rattle.format.specs.Writer.{joined}
 use Rattle.format.proofs.Accepted.{function_fits}
 use Rattle.format.proofs.Accepted as accepted
@@ -24,7 +24,7 @@ use Rattle.lists.specs.declared.Extent.{Extent}
 use Rattle.lists.specs.Extents.{extent_at, meant}
 use Rattle.lists.specs.Parts.{outline_ok_at}
 use Rattle.dwarf.specs.Parts.{Inputs, count_in, extent_in, function_in, align_in, earlier_in, bytes_in, relocs_in, sites_in, part_behind, parts_to}
-use Rattle.dwarf.specs.Tables.{labelled_rows, total_of, most_in, Covers}
+use Rattle.dwarf.specs.Tables.{labelled_rows, most_in}
 use Rattle.dwarf.specs.Writable.{Writable, Cleared}
 use Rattle.dwarf.specs.Surveys.{PassedAt}
 use Rattle.dwarf.proofs.Alignment.{align_ok}

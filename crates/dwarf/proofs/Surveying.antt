@@ -1,9 +1,9 @@
 -- The one pass over the functions: what it has made sure of so far.
-use mathlib.Core.Path.{◌≡◌, refl, sym, subst, ◌∙◌}
+use mathlib.Core.Path.{◌≡◌, subst}
 use Prim.Native.Nat.{ℕ, suc, ◌+◌, ◌^◌, ◌≤◌, ◌<◌}
 use native.Mathlib.Omega.{arith}
 use native.Mathlib.Numerals.{add-one}
-use mathlib.Core.Bool.{true, ◌&&◌}
+use mathlib.Core.Bool.{true}
 use mathlib.Core.Option.{none}
 use mathlib.Core.List.{List, []}
 use lib.Dec.{T, ltb}
@@ -20,7 +20,7 @@ use Rattle.header_keys.specs.Functions.{body_of, Listed}
 use Rattle.records.specs.declared.RowsSize.{RowsSize}
 use Rattle.records.specs.declared.RowsSize.TheVariants.{Bytes, Unsure}
 use Rattle.records.specs.Stepped.{SurveyedRows, Surveyed}
-use Rattle.owners.specs.Chains.{Owned, OwnersFound, Enough, Unused}
+use Rattle.owners.specs.Chains.{OwnersFound, Enough, Unused}
 use Rattle.owners.proofs.OwnerLoop.{Going}
 use Rattle.owners.proofs.OwnerLoop as owning
 use Rattle.dwarf.specs.declared.Table.{Table}

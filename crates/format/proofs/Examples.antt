@@ -3,7 +3,6 @@
 -- bytes for two_functions, debug_two and landing_and_named (differential/gas), and those of in_registers, which the Rust cannot be handed.
 use mathlib.Core.Path.{◌≡◌, refl}
 use Prim.Native.Nat.{ℕ}
-use mathlib.Core.Option.{some}
 use mathlib.Core.Bool.{Bool, true, false}
 use mathlib.Core.List.{List, [], ◌∷◌, ◌++◌}
 use lib.ListN.{get_or, replicate, set}

@@ -1,12 +1,11 @@
 -- Worked examples, computed: padded numbers alone (DWARF 5, 7.6), in operations, in a header and in a record.
 use mathlib.Core.Path.{◌≡◌, refl}
-use Prim.Native.Nat.{ℕ}
-use mathlib.Core.Bool.{Bool, true, false}
+use mathlib.Core.Bool.{true, false}
 use mathlib.Core.Option.{none, some}
-use mathlib.Core.List.{List, [], ◌∷◌, map}
-use Rattle.format.specs.Prelude.{pick, Read, next}
+use mathlib.Core.List.{[], ◌∷◌, map}
+use Rattle.format.specs.Prelude.{pick, next}
 use Rattle.format.specs.Leb.{uleb_f, uleb, bits7, sleb_f, sleb, read_uleb_f, read_uleb, push, last7, read_sleb_f, fits64, read_sleb}
-use Rattle.format.specs.Rows.{unfactor, read_register, in_range, read_offset, read_factored, read_signed, one, two, read_extended, read_operation}
+use Rattle.format.specs.Rows.{unfactor, in_range, read_offset, read_factored, one, read_extended, read_operation}
 use Rattle.format.specs.Shortest.{unsigned, signed, shortest, read_mark, marked, numbers_short, every_short_f, every_short, extended_operands, operands_of, operation_short, behind, while_read, run_short_f, run_short}
 use Rattle.format.specs.Reader.{strip, spelled, spellings, spell_or, read_letters, header_numbers, mark_after, header_short, record_short}
 

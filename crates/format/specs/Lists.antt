@@ -4,7 +4,7 @@ use Rattle.std.proofs.Math.Option.{Option, none, some}
 use Rattle.std.specs.Int.{w32, w64}
 use Rattle.std.proofs.Common.{to_z}
 use Rattle.format.specs.Prelude.{pick, each, all}
-use Rattle.format.specs.Constants.{def_cfa_kind, def_cfa_offset_kind, def_cfa_register_kind, offset_kind, restore_kind, undefined_kind, remember_state_kind, restore_state_kind, negate_ra_state_kind, same_value_kind, in_register_kind, push_kind, alloc_kind, frame_kind, save_kind}
+use Rattle.format.specs.Constants.{def_cfa_kind, def_cfa_offset_kind, def_cfa_register_kind, offset_kind, restore_kind, undefined_kind, remember_state_kind, restore_state_kind, same_value_kind, in_register_kind, push_kind, alloc_kind, frame_kind, save_kind}
 use Rattle.format.specs.declared.Row.{Row}
 use Rattle.format.specs.declared.Row.TheVariants.{DefCfa, DefCfaOffset, DefCfaRegister, Offset, Restore, Undefined, RememberState, RestoreState, NegateRaState, SameValue, InRegister}
 use Rattle.format.specs.declared.Seh.{Seh}

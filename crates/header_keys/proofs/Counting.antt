@@ -1,10 +1,10 @@
 -- How many rows lead, counted by a loop that stops at the first that does not.
 use mathlib.Core.Path.{◌≡◌, refl, sym, ap, ◌∙◌}
-use Prim.Native.Nat.{ℕ, zero, suc, ◌+◌, ◌-◌, ◌≤◌, ◌<◌}
+use Prim.Native.Nat.{ℕ, suc, ◌+◌, ◌-◌, ◌≤◌, ◌<◌}
 use native.Mathlib.Omega.{arith}
 use mathlib.Core.Bool.{Bool, true, false, not}
 use mathlib.Core.List.{◌∷◌}
-use lib.Dec.{T, eqb}
+use lib.Dec.{eqb}
 use mir.Facts.{eqb_yes}
 use borrow.Author.Tests.{ne_eqb}
 use lib.ListN.{length}

@@ -10,7 +10,7 @@ use lib.Dec.{T}
 use Rattle.format.specs.Prelude.{pick}
 use Rattle.format.specs.declared.Machine.{Machine}
 use Rattle.format.specs.Rows.{rows_bytes}
-use Rattle.format.specs.Headers.{Kind, named, key_of, leading, pointer_size, padding, padded, entry, augmentation, header_fields, header_bytes, pointer_place, header_relocs}
+use Rattle.format.specs.Headers.{Kind, key_of, leading, pointer_size, padding, padded, entry, augmentation, header_fields, header_bytes, pointer_place, header_relocs}
 use Rattle.format.specs.Questions.{is_some, encodings_ok}
 use Rattle.format.proofs.Choice.{either}
 use Rattle.format.proofs.EntryBack.{entry_length, padded_length}

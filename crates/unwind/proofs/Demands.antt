@@ -1,10 +1,9 @@
 -- Demand 3 of a writer and the reader behind it.
 use mathlib.Core.Path.{◌≡◌, refl, sym, ap, subst, ◌∙◌}
 use Prim.Native.Nat.{ℕ, ◌<◌, ◌≤◌}
-use mathlib.Core.Bool.{Bool, true, false, not, ◌||◌}
-use mathlib.Core.Option.{some}
+use mathlib.Core.Bool.{Bool, true, false}
 use mathlib.Core.List.{List, [], ◌∷◌}
-use lib.Dec.{T, ltb, eqb, ltb→lt, eqb→eq}
+use lib.Dec.{T, ltb, ltb→lt, eqb→eq}
 use lib.ListN.{take}
 use Rattle.format.specs.Prelude.{pick, each}
 use Rattle.format.specs.declared.Counts.{Counts}

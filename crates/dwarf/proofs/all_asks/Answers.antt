@@ -1,5 +1,4 @@
 -- `dwarf::all_asks` meets its contract.
-use Prim.Native.Nat.{◌-◌}
 use Rattle.dwarf.proofs.Asking.{start, turn, stopped, ended}
 use Rattle.dwarf.proofs.all_asks.Goals as goal
 

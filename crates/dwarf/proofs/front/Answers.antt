@@ -1,6 +1,5 @@
 -- `dwarf::front` meets its contract.
 use Rattle.dwarf.proofs.OwnHeaders.{without_own, header_room, relocs_room, with_own}
-use borrow.Author.Tests.{not-true, not-false}
 use Rattle.dwarf.proofs.front.Goals as goal
 
 pub returns-then-not-own : goal.returns-then-not-own

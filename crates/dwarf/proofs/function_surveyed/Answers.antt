@@ -5,7 +5,6 @@ use native.Mathlib.Omega.{arith}
 use Rattle.dwarf.proofs.Passed.{counted, pairs_taken, rows_taken, rows_few_at}
 use Rattle.lists.proofs.Answers.{accepted}
 use Rattle.dwarf.proofs.Surveying.{rows_say}
-use borrow.Author.Tests.{not-false}
 use Rattle.dwarf.specs.Parts.{inputs}
 use Rattle.format.proofs.Choice.{is_yes_lem}
 use Rattle.dwarf.proofs.function_surveyed.Goals as goal

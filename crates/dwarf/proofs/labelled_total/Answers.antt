@@ -1,5 +1,4 @@
 -- `dwarf::labelled_total` meets its contract.
-use Prim.Native.Nat.{◌-◌}
 use native.Mathlib.Omega.{arith}
 use Rattle.lists.proofs.Sums.{start}
 use Rattle.dwarf.proofs.AtMost.{left, turn, ended}

@@ -1,7 +1,5 @@
 -- `dwarf::lines_fine` meets its contract.
-use borrow.Author.Tests.{not-false}
 use borrow.Author.Rules.{rules}
-use Prim.Native.Nat.{◌-◌}
 use Rattle.rows.proofs.WholeNumbers.{never}
 use Rattle.dwarf.proofs.Rows.{row_ready}
 use Rattle.dwarf.proofs.Lines.{start, turn, ended}

@@ -1,7 +1,6 @@
 -- `dwarf::pairs_differ` meets its contract.
 use mathlib.Core.Bool.{not}
 use mathlib.Core.Path.{ap, ◌∙◌}
-use Prim.Native.Nat.{◌-◌}
 use Rattle.lists.proofs.Ranges.{start, turn, stopped, ended}
 use Rattle.dwarf.proofs.Rows.{all_in_lem}
 use Rattle.dwarf.proofs.pairs_differ.Goals as goal

@@ -2,9 +2,7 @@
 use mathlib.Core.Bool.{not}
 use borrow.Author.Rules.{rules}
 use mathlib.Core.Path.{ap, ◌∙◌}
-use Prim.Native.Nat.{◌-◌}
 use Rattle.format.specs.Rows.{row_whole}
-use Rattle.format.specs.Lists.{row_at}
 use Rattle.lists.proofs.Ranges.{start, turn, stopped, ended}
 use Rattle.dwarf.proofs.Rows.{all_in_lem, row_ready}
 use Rattle.dwarf.proofs.rows_whole.Goals as goal

@@ -1,6 +1,5 @@
 -- `dwarf::sizes` meets its contract.
 use native.Mathlib.Omega.{arith}
-use Prim.Native.Nat.{◌-◌}
 use Rattle.dwarf.proofs.Sizing.{start, next, turn, ended, owned_to}
 use Rattle.dwarf.proofs.sizes.Goals as goal
 

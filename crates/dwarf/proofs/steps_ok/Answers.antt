@@ -1,5 +1,4 @@
 -- `dwarf::steps_ok` meets its contract.
-use Prim.Native.Nat.{◌-◌}
 use Rattle.dwarf.proofs.Rows.{start, turn, back, far, ended}
 use Rattle.dwarf.proofs.steps_ok.Goals as goal
 

@@ -1,6 +1,5 @@
 -- `dwarf::store` meets its contract.
 use native.Mathlib.Omega.{arith}
-use Prim.Native.Nat.{◌-◌}
 use Rattle.format.proofs.PutLaws.{kept}
 use Rattle.dwarf.proofs.Sizing.{owned_to}
 use Rattle.dwarf.proofs.Writing.{start, ready, turn, ended}

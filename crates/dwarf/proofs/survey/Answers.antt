@@ -1,6 +1,5 @@
 -- `dwarf::survey` meets its contract.
 use native.Mathlib.Omega.{arith}
-use Prim.Native.Nat.{◌-◌}
 use Rattle.owners.proofs.OwnerLoop.{heads_kept}
 use Rattle.dwarf.proofs.Surveying.{start, bytes_say, owner_ready, next, turn, enough, ended}
 use Rattle.dwarf.proofs.survey.Goals as goal

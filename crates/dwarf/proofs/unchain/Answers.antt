@@ -1,5 +1,4 @@
 -- `dwarf::unchain` meets its contract.
-use Prim.Native.Nat.{◌-◌}
 use native.Mathlib.Omega.{arith}
 use Rattle.dwarf.proofs.Working.{start, turn, ended}
 use Rattle.dwarf.proofs.unchain.Goals as goal

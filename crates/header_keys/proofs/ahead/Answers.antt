@@ -1,7 +1,6 @@
 -- `header_keys::ahead` meets its contract.
 use mathlib.Core.Bool.{not}
 use mathlib.Core.Path.{ap}
-use Prim.Native.Nat.{◌-◌}
 use Rattle.header_keys.proofs.Counting.{start, turn, stopped, ended}
 use Rattle.header_keys.proofs.ahead.Goals as goal
 

@@ -32,11 +32,10 @@ pub overflow_add-e : goal.overflow_add-e
 overflow_add-e c = search (rules, (own c).0, c.requires.1.inside)
 
 pub row_at-requires : goal.row_at-requires
-row_at-requires c =
-    (
-      omega (arith, (own c).0, c.requires.1.inside),
-      in_range _ c.args.e.rows_at c.args.e.rows _ c.requires.1.ok (own c).0,
-    )
+row_at-requires c = (
+  omega (arith, (own c).0, c.requires.1.inside),
+  in_range _ c.args.e.rows_at c.args.e.rows _ c.requires.1.ok (own c).0,
+)
 
 pub returns : goal.returns
 returns c = c.row_at.ensures ∙ sym (own (goal.at.returns c).After-struct_known-1).1

@@ -1,5 +1,4 @@
 -- `starts` stores the leading rows.
-use Prim.Native.Nat.{◌-◌}
 use native.Mathlib.Omega.{arith}
 use Rattle.headers.proofs.Words.{word_bounds}
 use Rattle.headers.proofs.Turns.{start, room, turn, ended}

@@ -1,5 +1,4 @@
 -- `starts_size` adds the sizes of the leading rows.
-use Prim.Native.Nat.{◌-◌}
 use native.Mathlib.Omega.{arith}
 use Rattle.headers.proofs.Words.{word_bounds}
 use Rattle.headers.proofs.Turns.{size_start, size_turn, size_ended, starts_short}

@@ -1,5 +1,4 @@
 -- `fill_ones` stores one zero a turn.
-use Prim.Native.Nat.{◌-◌}
 use mathlib.Core.Path.{refl}
 use native.Mathlib.Omega.{arith}
 use Rattle.leb.proofs.Zeros.{nothing, one_more, all}

@@ -1,7 +1,6 @@
 -- `lists::functions_ok` meets its contract.
 use mathlib.Core.Bool.{not}
 use mathlib.Core.Path.{ap}
-use Prim.Native.Nat.{◌-◌}
 use native.Mathlib.Omega.{arith}
 use Rattle.lists.proofs.Ranges.{start, turn, stopped, ended}
 use Rattle.lists.proofs.functions_ok.Goals as goal

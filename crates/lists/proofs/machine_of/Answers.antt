@@ -1,5 +1,4 @@
 -- `lists::machine_of` meets its contract.
-use Prim.Native.Nat.{◌-◌}
 use native.Mathlib.Omega.{arith}
 use Rattle.format.specs.Machine.{machine_of}
 use Rattle.lists.proofs.Machines.{byte, start, turn, ended}

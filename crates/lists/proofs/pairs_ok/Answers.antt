@@ -1,8 +1,6 @@
 -- `lists::pairs_ok` meets its contract.
 use mathlib.Core.Bool.{not}
 use mathlib.Core.Path.{ap}
-use Prim.Native.Nat.{◌-◌}
-use Prim.Native.Nat.{◌-◌}
 use Rattle.format.specs.Lists.{pair_ok_at}
 use Rattle.lists.proofs.Ranges.{start, turn, stopped, ended}
 use Rattle.lists.proofs.pairs_ok.Goals as goal

@@ -1,5 +1,4 @@
 -- `lists::pairs_sum_ok` meets its contract.
-use Prim.Native.Nat.{◌-◌}
 use Rattle.lists.proofs.Sums.{start, turn, stopped, ended}
 use Rattle.lists.proofs.pairs_sum_ok.Goals as goal
 

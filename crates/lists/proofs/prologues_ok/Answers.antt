@@ -2,7 +2,6 @@
 use mathlib.Core.Bool.{not}
 use mathlib.Core.Path.{ap}
 use native.Mathlib.Omega.{arith}
-use Prim.Native.Nat.{◌-◌}
 use Rattle.lists.proofs.Ranges.{start, turn, stopped, ended}
 use Rattle.lists.proofs.prologues_ok.Goals as goal
 

@@ -1,7 +1,6 @@
 -- `lists::rows_ok` meets its contract.
 use mathlib.Core.Bool.{not}
 use mathlib.Core.Path.{ap}
-use Prim.Native.Nat.{◌-◌}
 use Rattle.format.specs.Lists.{row_ok_at}
 use Rattle.lists.proofs.Ranges.{start, turn, stopped, ended}
 use Rattle.lists.proofs.rows_ok.Goals as goal

@@ -82,14 +82,13 @@ rows-init c =
     comparing.start (sym c.if-leading_count-count.false ∙ c.leading_count.ensures) c.leading_count-count.ensures
 
 pub same_leading-requires : goal.same_leading-requires
-same_leading-requires c =
-    (
-      c.requires.0,
-      other-ready (goal.at.same_leading-requires c).After-taken_at-other,
-      own-ready (goal.at.same_leading-requires c).After-taken_at-own,
-      omega (arith, c.rows-test.true, c.rows.invariant.first_count),
-      omega (arith, c.rows-test.true, c.rows.invariant.second_count),
-    )
+same_leading-requires c = (
+  c.requires.0,
+  other-ready (goal.at.same_leading-requires c).After-taken_at-other,
+  own-ready (goal.at.same_leading-requires c).After-taken_at-own,
+  omega (arith, c.rows-test.true, c.rows.invariant.first_count),
+  omega (arith, c.rows-test.true, c.rows.invariant.second_count),
+)
 
 pub functions-smaller : goal.functions-smaller
 functions-smaller c = goes_down (goal.at.functions-smaller c).After-behind-next

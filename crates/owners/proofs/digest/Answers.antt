@@ -1,6 +1,5 @@
 -- `owners::digest` meets its contract.
 use mathlib.Core.Path.{ap, sym, ◌∙◌}
-use Prim.Native.Nat.{◌-◌}
 use native.Mathlib.Omega.{arith}
 use Rattle.owners.specs.Owners.{leading_in}
 use Rattle.owners.specs.Chains.{rows_digest}

@@ -1,5 +1,4 @@
 -- `owners::owners` meets its contract.
-use Prim.Native.Nat.{◌-◌}
 use native.Mathlib.Omega.{arith}
 use Rattle.owners.proofs.OwnerLoop.{start, heads_kept, fewer, room, so_far, turn, ended}
 use Rattle.owners.proofs.owners.Goals as goal

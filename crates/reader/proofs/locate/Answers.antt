@@ -1,7 +1,6 @@
 -- `reader::locate` meets its contract.
 use mathlib.Core.Path.{sym, ◌∙◌}
 use native.Mathlib.Omega.{arith}
-use borrow.Author.Tests.{not-true, not-false}
 use Rattle.reader.proofs.Asked.{no_word, no_kind, kind_and_word}
 use Rattle.reader.proofs.locate.Goals as goal
 

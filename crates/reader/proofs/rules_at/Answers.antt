@@ -1,7 +1,6 @@
 -- `reader::rules_at` meets its contract.
 use mathlib.Core.Path.{sym, ◌∙◌}
 use native.Mathlib.Omega.{arith}
-use borrow.Author.Tests.{not-true, not-false}
 use Rattle.reader.proofs.Asked.{fits, not_in_section, past_the_end, within}
 use Rattle.reader.proofs.rules_at.Goals as goal
 

@@ -1,7 +1,6 @@
 -- `records::lsda_blank` meets its contract.
-use mathlib.Core.Bool.{not}
 use native.Mathlib.Omega.{arith}
-use mathlib.Core.Path.{ap, sym, ◌∙◌}
+use mathlib.Core.Path.{sym, ◌∙◌}
 use Rattle.header_keys.proofs.KindMeans.{decides_plain, decides_personal, decides_named}
 use Rattle.records.specs.Fields.{blank_in}
 use Rattle.records.proofs.FieldLaws.{by_landings, by_none, by_no_lsda, by_lsda}

@@ -1,6 +1,4 @@
 -- `records::lsda_count` meets its contract.
-use mathlib.Core.Bool.{not}
-use mathlib.Core.Path.{ap}
 use native.Mathlib.Omega.{arith}
 use Rattle.header_keys.proofs.KindMeans.{decides_plain, decides_personal, decides_named}
 use Rattle.records.specs.Fields.{lsda_in}

@@ -1,6 +1,4 @@
 -- `records::lsda_reloc` meets its contract.
-use mathlib.Core.Bool.{not}
-use mathlib.Core.Path.{ap}
 use borrow.Author.Rules.{rules}
 use Rattle.format.specs.Lists.{numbers_of}
 use Rattle.format.proofs.PutLaws.{idle}

@@ -1,5 +1,4 @@
 -- `records::pair_for` meets its contract.
-use Prim.Native.Nat.{◌-◌}
 use Rattle.format.specs.Lists.{pair_at}
 use Rattle.records.specs.Labels.{found_pair}
 use Rattle.records.proofs.LabelLaws.{start, turn, found, ended}

@@ -1,5 +1,4 @@
 -- `records::pair_near` meets its contract.
-use borrow.Author.Tests.{not-false}
 use Rattle.format.specs.Lists.{pair_at}
 use Rattle.records.specs.Labels.{found_pair}
 use Rattle.records.proofs.PairOrder.{none_behind, found_there, absent_there}

@@ -1,6 +1,5 @@
 -- `records::parts` meets its contract.
 use native.Mathlib.Omega.{arith}
-use borrow.Author.Tests.{not-false}
 use Rattle.rows.proofs.WholeNumbers.{never}
 use Rattle.records.proofs.PairOrder.{parted, from_is}
 use Rattle.records.proofs.parts.Goals as goal

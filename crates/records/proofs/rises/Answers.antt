@@ -1,5 +1,4 @@
 -- `records::rises` meets its contract.
-use Prim.Native.Nat.{◌-◌}
 use borrow.Author.Rules.{rules}
 use Rattle.rows.proofs.WholeNumbers.{never}
 use Rattle.records.proofs.PairOrder.{start_climb, turn_climb, ended_climb}

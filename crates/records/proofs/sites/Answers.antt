@@ -1,5 +1,4 @@
 -- `records::sites` meets its contract.
-use Prim.Native.Nat.{◌-◌}
 use Rattle.format.specs.Lists.{landing_at}
 use Rattle.records.proofs.CallSites.{start, room, turn, ended}
 use Rattle.records.proofs.sites.Goals as goal

@@ -1,5 +1,4 @@
 -- `records::sites_size` meets its contract.
-use Prim.Native.Nat.{◌-◌}
 use native.Mathlib.Omega.{arith}
 use Rattle.format.specs.Lists.{landing_at}
 use Rattle.records.proofs.CallSites.{start_count, turn_count, count_small, ended_count}

@@ -1,6 +1,5 @@
 -- `records::step_relocs` meets its contract.
 use native.Mathlib.Omega.{arith}
-use Prim.Native.Nat.{◌-◌}
 use Rattle.records.proofs.RowLoops.{offset_of, row_at_ready}
 use Rattle.records.proofs.StepLoops.{start, room, turn, ended}
 use Rattle.records.proofs.step_relocs.Goals as goal

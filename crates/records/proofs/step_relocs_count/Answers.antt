@@ -1,6 +1,5 @@
 -- `records::step_relocs_count` meets its contract.
 use native.Mathlib.Omega.{arith}
-use Prim.Native.Nat.{◌-◌}
 use Rattle.records.proofs.StepLoops.{tally_most, start_tally, turn_tally, ended_tally}
 use Rattle.records.proofs.step_relocs_count.Goals as goal
 

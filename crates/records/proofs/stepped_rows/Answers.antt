@@ -1,5 +1,4 @@
 -- `records::stepped_rows` meets its contract.
-use Prim.Native.Nat.{◌-◌}
 use Rattle.records.proofs.RowLoops.{row_at_ready, start, room, turn, ended}
 use Rattle.records.proofs.stepped_rows.Goals as goal
 

@@ -1,6 +1,5 @@
 -- `records::stepped_rows_size` meets its contract.
 use native.Mathlib.Omega.{arith}
-use Prim.Native.Nat.{◌-◌}
 use mathlib.Core.Path.{refl}
 use Rattle.records.proofs.RowLoops.{row_at_ready, rows_at_most, start_size, turn_size, ended_size}
 use Rattle.records.proofs.stepped_rows_size.Goals as goal

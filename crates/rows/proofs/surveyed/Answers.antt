@@ -1,7 +1,6 @@
 -- `rows::surveyed` meets its contract.
 use native.Mathlib.Omega.{arith}
 use mathlib.Core.Path.{sym, ◌∙◌}
-use borrow.Author.Tests.{not-false}
 use Rattle.format.proofs.Choice.{is_yes_lem}
 use Rattle.format.proofs.FieldsBack.{word_small}
 use Rattle.rows.proofs.WholeNumbers.{word_least}

@@ -1,7 +1,4 @@
 -- `rules::rows_check` meets its contract.
-use mathlib.Core.Bool.{not}
-use mathlib.Core.Path.{ap}
-use Prim.Native.Nat.{◌-◌}
 use borrow.Author.Rules.{rules}
 use Rattle.rules.proofs.Checking.{start, shape, turn, stopped, ended}
 use Rattle.rules.proofs.rows_check.Goals as goal

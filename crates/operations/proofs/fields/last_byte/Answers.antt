@@ -1,5 +1,4 @@
 -- `last_byte` finds what both readers of LEB numbers read.
-use Prim.Native.Nat.{◌-◌}
 use native.Mathlib.Omega.{arith}
 use Rattle.operations.proofs.GroupLoop.{start, ended, found, long, turn, scale_most}
 use Rattle.operations.proofs.fields.last_byte.Goals as goal

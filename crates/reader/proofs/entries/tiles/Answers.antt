@@ -1,7 +1,6 @@
 -- `reader::entries::tiles` meets its contract.
 use mathlib.Core.Path.{sym, ◌∙◌}
 use native.Mathlib.Omega.{arith}
-use Prim.Native.Nat.{◌-◌}
 use Rattle.reader.proofs.Tiling.{entered, start, stopped, turn, ended}
 use Rattle.reader.proofs.entries.tiles.Goals as goal
 

@@ -4,7 +4,6 @@ use Rattle.rows.proofs.Signs.{passed}
 use Rattle.format.specs.Headers.{data_factor}
 use Rattle.format.specs.Rows.{same_offset}
 use native.Mathlib.Omega.{arith}
-use borrow.Author.Tests.{not-true, not-false}
 use Rattle.operations.proofs.PositionLaws.{uleb_ahead}
 use Rattle.reader.proofs.Headed.{factors_none, factors_code, factors_open, factors_data, factors_unnamed, factors_over, factors_there, factors_mark}
 use Rattle.reader.proofs.fields.header_factors.Goals as goal

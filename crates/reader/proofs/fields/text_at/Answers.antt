@@ -1,5 +1,4 @@
 -- `reader::fields::text_at` meets its contract.
-use Prim.Native.Nat.{◌-◌}
 use Rattle.reader.proofs.Strings.{start, short, differs, turn, ended}
 use Rattle.reader.proofs.fields.text_at.Goals as goal
 

@@ -1,5 +1,4 @@
 -- `reader::location::first_addend` meets its contract.
-use Prim.Native.Nat.{◌-◌}
 use Rattle.reader.proofs.Seeking.{search_start, search_met, search_turn, search_ended}
 use Rattle.reader.proofs.location.first_addend.Goals as goal
 

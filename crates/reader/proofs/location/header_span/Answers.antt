@@ -1,7 +1,6 @@
 -- `reader::location::header_span` meets its contract.
 use mathlib.Core.Path.{sym, ◌∙◌}
 use native.Mathlib.Omega.{arith}
-use Prim.Native.Nat.{◌-◌}
 use Rattle.format.specs.Reader.{header_at}
 use Rattle.reader.proofs.Seeking.{start, turn, met, ended, header_here_lem, header_later, header_none}
 use Rattle.reader.proofs.location.header_span.Goals as goal

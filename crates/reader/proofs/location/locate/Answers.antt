@@ -1,6 +1,5 @@
 -- `reader::location::locate` meets its contract.
 use mathlib.Core.Path.{sym, ◌∙◌}
-use borrow.Author.Tests.{not-true, not-false}
 use Rattle.format.specs.Lists.{relocations_of}
 use Rattle.reader.proofs.Whole.{locate_untiled, locate_missing, record_stands, locate_headless, header_stands, locate_rest}
 use Rattle.reader.proofs.location.locate.Goals as goal

@@ -1,7 +1,6 @@
 -- `reader::run::run` meets its contract.
 use borrow.Author.Tests.{eq-eqb, ne_eqb}
 use mathlib.Core.Path.{sym, ◌∙◌}
-use Prim.Native.Nat.{◌-◌}
 use Rattle.format.proofs.FieldsBack.{word_small}
 use Rattle.reader.proofs.Operations.{bad_operation, all_done, shorter, padding, bad_step, far_step, near_step, bad_row, good_row}
 use Rattle.reader.proofs.Both.{begin, enter, again, ended}

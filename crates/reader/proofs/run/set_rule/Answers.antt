@@ -1,5 +1,4 @@
 -- `reader::run::set_rule` meets its contract.
-use borrow.Author.Rules.{rules}
 use Rattle.format.proofs.Choice.{if-eq, if-ne}
 use Rattle.reader.specs.OneRegister.{set_rule}
 use Rattle.reader.specs.States.{run_of}

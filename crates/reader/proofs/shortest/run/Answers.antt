@@ -1,6 +1,5 @@
 -- `reader::shortest::run` meets its contract.
 use mathlib.Core.Path.{sym, ◌∙◌}
-use Prim.Native.Nat.{◌-◌}
 use borrow.Author.Tests.{not-true, not-false}
 use Rattle.reader.proofs.Marks.{start, ended, unread, shorter, long_operand, far_step, near_step, pad_passed, row_passed}
 use Rattle.reader.proofs.shortest.run.Goals as goal
