@@ -6,4 +6,11 @@ pub returns : goal.returns
 returns c =
     let w = c.write_and_read-table.ensures in
     let w⁺ = c.write_and_read-frame.ensures in
-    promised _ _ _ _ _ _ _ _ _ _ _ _ _ _ w.0 w.1.0 _ _ _ _ _ _ _ _ _ w⁺.0 w⁺.1.0
+    let p = promised _ _ _ _ _ _ _ _ _ _ _ _ _ _ w.writes w.reading_value _ _ _ _ _ _ _ _ _ w⁺.writes w⁺.reading_value in
+    record {
+      writes = p.0;
+      writes_2 = p.1.0;
+      of_eh_value = p.1.1.0;
+      of_debug_value = p.1.1.1.0;
+      one_story = p.1.1.1.1;
+    }
