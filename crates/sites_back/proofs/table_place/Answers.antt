@@ -3,7 +3,6 @@ use mathlib.Core.Path.{sym, subst, ◌∙◌}
 use native.Mathlib.Omega.{arith}
 use mathlib.Core.Bool.{false}
 use lib.ListN.{get_elem?}
-use borrow.Author.Tests.{not-true, not-false}
 use Rattle.format.specs.Reader.{entries, records}
 use Rattle.reader.specs.Spans.{listed, Spans}
 use Rattle.reader.specs.declared.entries.Span.{Span}

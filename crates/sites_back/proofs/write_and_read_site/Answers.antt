@@ -14,4 +14,9 @@ pub slice_bounds-table_place-end-2 : goal.slice_bounds-table_place-end-2
 slice_bounds-table_place-end-2 c = sym (length-take-le _ _ (rw c.numbers_in-m.ensures (front_of _ _ _ _ _ c.relaxed_table-outcome.ensures).relocations_fit))
 
 pub returns : goal.returns
-returns c = let w = c.relaxed_table-outcome.ensures in (w, together _ _ _ _ _ w _ _ c.bytes_in-n.ensures c.numbers_in-m.ensures c.table_place-place.ensures c.unwind_call_site-site.ensures)
+returns c =
+    let w = c.relaxed_table-outcome.ensures in
+    record {
+      writes = w;
+      read_back = together _ _ _ _ _ w _ _ c.bytes_in-n.ensures c.numbers_in-m.ensures c.table_place-place.ensures c.unwind_call_site-site.ensures;
+    }
