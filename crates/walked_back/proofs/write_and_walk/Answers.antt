@@ -29,6 +29,11 @@ returns c =
     let a = c.args in
     let s = walk_of _ _ _ _ _ a.file.now a.pc a.stack a.placed.now _ _ _ _ c.bytes_in-n.ensures c.numbers_in-m.ensures c.number.ensures in
     let u = c.unwind_walk-answer.ensures in
-    let n = u.0 ∙ ap chain_numbers s in
-    let q = u.1 ∙ ap (λ (x : Result Chain). chain_stored x a.frames.now) s in
-    (w, (n, (q, walks_back _ _ _ _ _ _ _ _ _ _ _ _ _ _ w.outcome f n q)))
+    let n = u.result_value ∙ ap chain_numbers s in
+    let q = u.frames_after ∙ ap (λ (x : Result Chain). chain_stored x a.frames.now) s in
+    record {
+      writes = w;
+      answer_value = n;
+      frames_after = q;
+      walks_back = walks_back _ _ _ _ _ _ _ _ _ _ _ _ _ _ w.outcome f n q;
+    }
