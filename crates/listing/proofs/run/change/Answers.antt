@@ -6,12 +6,12 @@ use Rattle.listing.proofs.run.change.Goals as goal
 
 pub returns-in-DefCfa : goal.returns-in-DefCfa
 unfolding stack_use changed
-returns-in-DefCfa c = let e = passed c.in-DefCfa.z (omega (arith, c.in-DefCfa.known_told-1-own.given)) in
+returns-in-DefCfa c = let e = passed c.in-DefCfa.z (omega arith) in
     rw c.in-DefCfa.is (rw e at c.cfa_is.ensures)
 
 pub returns-in-DefCfaOffset : goal.returns-in-DefCfaOffset
 unfolding stack_use changed
-returns-in-DefCfaOffset c = let e = passed c.in-DefCfaOffset.z (omega (arith, c.in-DefCfaOffset.known_told-in-DefCfaOffset-1-own.given)) in
+returns-in-DefCfaOffset c = let e = passed c.in-DefCfaOffset.z (omega arith) in
     rw c.in-DefCfaOffset.is (rw e at c.offset_is.ensures)
 
 pub returns-in-DefCfaRegister : goal.returns-in-DefCfaRegister
@@ -20,7 +20,7 @@ returns-in-DefCfaRegister c = rw c.in-DefCfaRegister.is c.register_is.ensures
 
 pub returns-in-Offset : goal.returns-in-Offset
 unfolding stack_use changed
-returns-in-Offset c = let e = passed c.in-Offset.z (omega (arith, c.in-Offset.known_told-in-Offset-1-own.given)) in
+returns-in-Offset c = let e = passed c.in-Offset.z (omega arith) in
     rw c.in-Offset.is (rw e at c.rule_is.ensures)
 
 pub returns-in-Restore : goal.returns-in-Restore

@@ -11,5 +11,5 @@ returns-in_default c = rw c.in_default.is c.no.ensures
 pub returns : goal.returns
 unfolding register_is cfa_is
 returns c =
-    let e = passed c.in-Register.z (omega (arith, c.in-Register.known_told-1-own.given)) in
+    let e = passed c.in-Register.z (omega arith) in
     rw c.in-Register.is (rw e at c.cfa_is.ensures)
