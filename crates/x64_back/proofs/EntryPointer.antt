@@ -48,7 +48,7 @@ module _ (base k : ℕ) (low : T (not (eqb rsp k))) where
   unfolding undoes names with_vector
   undoes_keeps (Push reg) s t =
       let v : ℕ = loaded s.memory (stack_pointer s) 8 in
-      other (with_register s reg v) rsp (stack_pointer s + 8) k low ∙ other s reg v k t
+      other (with_register s reg v) rsp _ k low ∙ other s reg v k t
   undoes_keeps (Alloc z) s t = other s rsp (stack_pointer s + size64 z) k low
   undoes_keeps (Frame reg z) s t = other s rsp (s.registers reg - size64 z) k low
   undoes_keeps (Save reg false z) s t = other s reg (loaded s.memory (base + size64 z) 8) k t
@@ -81,7 +81,7 @@ module _ (base base' : ℕ) where
   unfolding undoes names below with_vector
   one_back (Push reg) cs s t k f e =
       let u : State = undo_from base' cs (prologue_from base cs (does base (Push reg) s)) in
-      same (with_register u reg (loaded u.memory (stack_pointer u) 8)) (stack_pointer u + 8) ∙ omega arith
+      same (with_register u reg (loaded u.memory (stack_pointer u) 8)) _ ∙ omega arith
   one_back (Alloc z) cs s t k f e =
       let u : State = undo_from base' cs (prologue_from base cs (does base (Alloc z) s)) in
       same u (stack_pointer u + size64 z) ∙ omega arith
