@@ -396,19 +396,23 @@ fn all(rt: &impl Print, input: &mut impl Read) -> io::Result<Sums>
     Ok(sums)
 }
 
+fn print_count(rt: &impl Print, n: u64, what: &str) -> io::Result<()> {
+    print!(rt; "{n}{what}")
+}
+
 fn main(rt: HostRuntime) -> io::Result<()> {
     let s = all(&rt, &mut rt.reader())?;
-    let lists = s.accepted + s.refused + s.empty + s.different;
-    let Sums {
-        accepted,
-        refused,
-        empty,
-        different,
-    } = s;
-    println!(rt; "{lists} lists: {accepted} accepted, {refused} refused, {empty} empty")?;
-    if different == 0 {
+    print_count(
+        &rt,
+        s.accepted + s.refused + s.empty + s.different,
+        " lists: ",
+    )?;
+    print_count(&rt, s.accepted, " accepted, ")?;
+    print_count(&rt, s.refused, " refused, ")?;
+    print_count(&rt, s.empty, " empty\n")?;
+    if s.different == 0 {
         println!(rt; "all answers are the Rust's, or document 01's where it refuses")
     } else {
-        println!(rt; "{different} lists are answered differently")
+        print_count(&rt, s.different, " lists are answered differently\n")
     }
 }
