@@ -50,7 +50,7 @@ pub fn entry_at(section: &[u8], debug: bool, at: usize) -> Entry
 
 // ---- the cursor
 
-// A section and a position in it. The borrow checker covers no function over it, so the few below are proved by walks of their own; the work is `entry_at`'s.
+// A section and a position in it, for whoever goes over a section's entries. The work is `entry_at`'s.
 #[derive(Clone, Copy)]
 pub struct Cursor<'a> {
     pub section: &'a [u8],
@@ -71,7 +71,7 @@ pub fn next<'a>(c: Cursor<'a>, debug: bool) -> Entry
     entry_at(c.section, debug, c.at)
 }
 
-// What stands at a position, by a cursor made for it: callers of this one need no walk.
+// What stands at a position, by a cursor made for it.
 pub fn next_entry(section: &[u8], debug: bool, at: usize) -> Entry
     ensures { result ≡ entry_at debug section.now at }
 {
