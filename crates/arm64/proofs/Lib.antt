@@ -1,4 +1,5 @@
 -- Worked examples of the definitions.
+pub mod Coded
 pub mod Examples
 pub mod WriterExamples
 pub mod MeaningLaws

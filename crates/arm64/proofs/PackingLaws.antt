@@ -1,7 +1,7 @@
 -- A packed word means what was given: where `stands_for` says so, the effects of its prologue and of its epilogue are those of the given runs.
 use mathlib.Core.Path.{◌≡◌, refl, subst, sym, ap, ◌∙◌}
 use mathlib.Core.Bool.{Bool, true, false, ◌&&◌}
-use mathlib.Core.Option.{Option, none}
+use mathlib.Core.Option.{Option, none, some}
 use mathlib.Core.List.{List, [], ◌∷◌, ◌++◌}
 use Prim.Native.Nat.{ℕ, zero, suc, ◌+◌, ◌-◌, ◌*◌}
 use native.Mathlib.Omega.{arith}
@@ -11,8 +11,6 @@ use borrow.Author.Tests.{eqb-true, ne_eqb}
 use Rattle.format.specs.Prelude.{pick}
 use Rattle.arm64.specs.declared.Code.{Code}
 use Rattle.arm64.specs.declared.Packed.{Packed}
-use Rattle.arm64.specs.declared.Slot.{Slot}
-use Rattle.arm64.specs.declared.Slot.TheVariants.{Coded, Empty}
 use Rattle.arm64.specs.Codes.{code, k_regp, k_fregp, k_save_next, fp, lr}
 use Rattle.arm64.specs.Packed.{packed_ok, sign_slot, lone, integer_pair, integer_odd, integer_slot, vector_pair, vector_slot, home_slot, alloc_slot, rest_slot, chain_slot, frame_slot, local_slot, slot, with_slot, slots_from, undone, slot_at, packed_prologue, packed_epilogue, local_size, integer_size, vector_count}
 use Rattle.arm64.specs.Meaning.{Pair, only, save_two, save_pair, pair_step, integer_step, vector_step, frame_step, or_step, step_of, pair_of, effect_of, effects, reverse, prologue_means, epilogue_means}
@@ -108,9 +106,9 @@ resolve_effects b p q s (c ∷ cs) n =
 
 -- ---- a packed word stands for no save_next
 
-abbrev SlotPlain : Slot → Type 0
-SlotPlain Empty = Unit {0}
-SlotPlain (Coded c) = Plain c
+abbrev SlotPlain : Option Code → Type 0
+SlotPlain none = Unit {0}
+SlotPlain (some c) = Plain c
 
 module _ (p : Packed) where
   lone_plain : (j r : ℕ) → Plain (lone p j r)
@@ -130,8 +128,8 @@ module _ (p : Packed) where
   integer_plain j =
       by_pick SlotPlain (ltb (2 * j + 1) p.registers) _ _ (λ t. pair_plain j) λ t.
       by_pick SlotPlain (eqb (2 * j + 1) p.registers) _ _ (λ u. odd_plain j) λ u.
-      by_pick SlotPlain (eqb (2 * j) p.registers) _ Empty
-      (λ v. by_pick SlotPlain (eqb p.chain 1) _ Empty (λ w. lone_plain j lr) λ w. tt) λ v. tt
+      by_pick SlotPlain (eqb (2 * j) p.registers) _ none
+      (λ v. by_pick SlotPlain (eqb p.chain 1) _ none (λ w. lone_plain j lr) λ w. tt) λ v. tt
 
   vector_pair_plain : (j : ℕ) → Plain (vector_pair p j)
   unfolding vector_pair
@@ -141,25 +139,25 @@ module _ (p : Packed) where
   unfolding vector_slot
   vector_plain j =
       by_pick SlotPlain (ltb (2 * j + 1) (vector_count p)) _ _ (λ t. vector_pair_plain j) λ t.
-      by_pick SlotPlain (eqb (2 * j + 1) (vector_count p)) _ Empty (λ u e. absurd (omega (arith, e))) λ u. tt
+      by_pick SlotPlain (eqb (2 * j + 1) (vector_count p)) _ none (λ u e. absurd (omega (arith, e))) λ u. tt
 
   alloc_plain : SlotPlain (alloc_slot p)
   unfolding alloc_slot
-  alloc_plain = by_pick SlotPlain (leb (local_size p) (pick (leb 2 p.chain) 512 0)) Empty _ (λ t. tt) λ t e. absurd (omega (arith, e))
+  alloc_plain = by_pick SlotPlain (leb (local_size p) (pick (leb 2 p.chain) 512 0)) none _ (λ t. tt) λ t e. absurd (omega (arith, e))
 
   rest_plain : SlotPlain (rest_slot p)
   unfolding rest_slot
-  rest_plain = by_pick SlotPlain (leb (local_size p) 4080) Empty _ (λ t. tt) λ t e. absurd (omega (arith, e))
+  rest_plain = by_pick SlotPlain (leb (local_size p) 4080) none _ (λ t. tt) λ t e. absurd (omega (arith, e))
 
   chain_plain : SlotPlain (chain_slot p)
   unfolding chain_slot
   chain_plain =
-      by_pick SlotPlain (leb 2 p.chain) _ Empty
+      by_pick SlotPlain (leb 2 p.chain) _ none
       (λ t. by_pick Plain (leb (local_size p) 512) _ _ (λ u e. absurd (omega (arith, e))) λ u e. absurd (omega (arith, e))) λ t. tt
 
   frame_plain : SlotPlain (frame_slot p)
   unfolding frame_slot
-  frame_plain = by_pick SlotPlain (leb 2 p.chain) _ Empty (λ t e. absurd (omega (arith, e))) λ t. tt
+  frame_plain = by_pick SlotPlain (leb 2 p.chain) _ none (λ t e. absurd (omega (arith, e))) λ t. tt
 
   local_plain : (j : ℕ) → SlotPlain (local_slot p j)
   unfolding local_slot
@@ -169,11 +167,11 @@ module _ (p : Packed) where
 
   sign_plain : SlotPlain (sign_slot p)
   unfolding sign_slot
-  sign_plain = by_pick SlotPlain (eqb p.chain 2) _ Empty (λ t e. absurd (omega (arith, e))) λ t. tt
+  sign_plain = by_pick SlotPlain (eqb p.chain 2) _ none (λ t e. absurd (omega (arith, e))) λ t. tt
 
   home_plain : SlotPlain (home_slot p)
   unfolding home_slot
-  home_plain = by_pick SlotPlain (eqb p.homes 1) _ Empty (λ t e. absurd (omega (arith, e))) λ t. tt
+  home_plain = by_pick SlotPlain (eqb p.homes 1) _ none (λ t e. absurd (omega (arith, e))) λ t. tt
 
   slot_plain : (i : ℕ) → SlotPlain (slot p i)
   unfolding slot
@@ -183,23 +181,23 @@ module _ (p : Packed) where
       by_pick SlotPlain (ltb i 11) _ _ (λ v. vector_plain (i - 7)) λ v.
       by_pick SlotPlain (ltb i 15) _ _ (λ w. home_plain) λ w. local_plain (i - 15)
 
-  undone_plain : (s : Slot) → SlotPlain s → SlotPlain (undone s)
+  undone_plain : (s : Option Code) → SlotPlain s → SlotPlain (undone s)
   unfolding undone
-  undone_plain Empty h = tt
-  undone_plain (Coded c) h =
-      by_pick SlotPlain (eqb c.kind 15) Empty _ (λ t. tt) λ t. by_pick SlotPlain (eqb c.kind 13) Empty (Coded c) (λ u. tt) λ u. h
+  undone_plain none h = tt
+  undone_plain (some c) h =
+      by_pick SlotPlain (eqb c.kind 15) none _ (λ t. tt) λ t. by_pick SlotPlain (eqb c.kind 13) none (some c) (λ u. tt) λ u. h
 
   at_plain : (back : Bool) (i : ℕ) → SlotPlain (slot_at back p i)
   unfolding slot_at
   at_plain false i = slot_plain i
   at_plain true i = undone_plain (slot p (18 - i)) (slot_plain (18 - i))
 
-with_plain : (s : Slot) (cs : List Code) → SlotPlain s → NoNext cs → NoNext (with_slot s cs)
+with_plain : (s : Option Code) (cs : List Code) → SlotPlain s → NoNext cs → NoNext (with_slot s cs)
 unfolding with_slot
-with_plain Empty cs h n = n
-with_plain (Coded c) cs h n = (h, n)
+with_plain none cs h n = n
+with_plain (some c) cs h n = (h, n)
 
-slots_plain : (f : ℕ → Slot) → ((i : ℕ) → SlotPlain (f i)) → (k n : ℕ) → NoNext (slots_from f k n)
+slots_plain : (f : ℕ → Option Code) → ((i : ℕ) → SlotPlain (f i)) → (k n : ℕ) → NoNext (slots_from f k n)
 unfolding slots_from
 slots_plain f h k zero = tt
 slots_plain f h k (suc n) = with_plain (f k) (slots_from f (suc k) n) (h k) (slots_plain f h (suc k) n)

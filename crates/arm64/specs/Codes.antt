@@ -1,10 +1,9 @@
 -- Unwind codes: their kinds, how each is spelled in bytes, and one code read (Microsoft, "ARM64 exception handling", "Unwind codes").
 use Rattle.std.specs.Prelude.{ℕ, zero, suc, ◌+◌, ◌-◌, ◌*◌, ◌/◌, ◌%◌, ◌^◌, Bool, ◌&&◌, ◌||◌, List, [], ◌∷◌, ◌++◌, length, get_or, leb, ltb, eqb}
+use Rattle.std.proofs.Math.Option.{Option, none, some}
 use Rattle.format.specs.Prelude.{pick}
 use Rattle.arm64.specs.declared.Code.{Code}
 use Rattle.arm64.specs.declared.Form.{Form}
-use Rattle.arm64.specs.declared.CodeRead.{CodeRead}
-use Rattle.arm64.specs.declared.CodeRead.TheVariants as codeRead
 
 -- ---- the kinds, in the source's order
 
@@ -199,14 +198,14 @@ field_at f s p =
 unfoldable pub code_in : Form → ℕ → Code
 code_in f v = code f.kind (f.first + f.step * (v / f.unit)) (f.scale * (v % f.unit) + f.more)
 
--- the code at p by its form: it is one that `describe` writes, and complete
-unfoldable pub code_as : Form → List ℕ → ℕ → CodeRead
+-- the code at p by its form, and the place past it: the code is one that `describe` writes, and complete
+unfoldable pub code_as : Form → List ℕ → ℕ → Option (Code × ℕ)
 code_as f s p =
-    pick (eqb f.kind k_reserved) codeRead.Bad
-    (pick (leb (p + f.size) (length s)) (codeRead.Code (code_in f (field_at f s p)) (p + f.size)) codeRead.Bad)
+    pick (eqb f.kind k_reserved) none
+    (pick (leb (p + f.size) (length s)) (some (code_in f (field_at f s p), p + f.size)) none)
 
-unfoldable pub code_at : List ℕ → ℕ → CodeRead
-code_at s p = pick (ltb p (length s)) (code_as (form_of (get_or s p 0)) s p) codeRead.Bad
+unfoldable pub code_at : List ℕ → ℕ → Option (Code × ℕ)
+code_at s p = pick (ltb p (length s)) (code_as (form_of (get_or s p 0)) s p) none
 
 -- ---- one code written (`Code::bytes` of the source)
 

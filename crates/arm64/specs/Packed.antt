@@ -1,10 +1,9 @@
 -- The packed word of an entry (Microsoft, "ARM64 exception handling", "Packed unwind data"), and the prologue and epilogue that it stands for.
 use Rattle.std.specs.Prelude.{ℕ, zero, suc, ◌+◌, ◌-◌, ◌*◌, ◌/◌, ◌%◌, ◌^◌, Bool, true, false, not, List, [], ◌∷◌, leb, ltb, eqb}
+use Rattle.std.proofs.Math.Option.{Option, none, some}
 use Rattle.format.specs.Prelude.{pick}
 use Rattle.arm64.specs.declared.Code.{Code}
 use Rattle.arm64.specs.declared.Packed.{Packed}
-use Rattle.arm64.specs.declared.Slot.{Slot}
-use Rattle.arm64.specs.declared.Slot.TheVariants.{Coded, Empty}
 use Rattle.arm64.specs.Codes.{code, lr, k_alloc, k_r19_r20_x, k_fplr, k_fplr_x, k_regp, k_reg, k_reg_x, k_lrpair, k_fregp, k_fregp_x, k_freg, k_set_fp, k_nop, k_pac_sign_lr}
 
 -- flag 2 bits, length 11, RegF 3, RegI 4, H 1, CR 2, FrameSize 9
@@ -54,8 +53,8 @@ packed_ok p =
 -- ---- the prologue, by its places: 0 signs, 1 to 6 save integer registers, 7 to 10 vector registers, 11 to 14 store parameters, 15 to 18 take the locals
 
 -- place 0. CR 2: pacibsp
-unfoldable pub sign_slot : Packed → Slot
-sign_slot p = pick (eqb p.chain 2) (Coded (code k_pac_sign_lr 0 0)) Empty
+unfoldable pub sign_slot : Packed → Option Code
+sign_slot p = pick (eqb p.chain 2) (some (code k_pac_sign_lr 0 0)) none
 
 -- a register alone in place j: the first save moves the stack pointer
 unfoldable pub lone : Packed → (j register : ℕ) → Code
@@ -70,67 +69,67 @@ unfoldable pub integer_odd : Packed → (j : ℕ) → Code
 integer_odd p j = pick (eqb p.chain 1) (code k_lrpair (19 + 2 * j) (16 * j)) (lone p j (19 + 2 * j))
 
 -- behind an even number of registers CR 1 saves lr alone
-unfoldable pub integer_slot : Packed → (j : ℕ) → Slot
+unfoldable pub integer_slot : Packed → (j : ℕ) → Option Code
 integer_slot p j =
-    pick (ltb (2 * j + 1) p.registers) (Coded (integer_pair p j))
-    (pick (eqb (2 * j + 1) p.registers) (Coded (integer_odd p j))
-    (pick (eqb (2 * j) p.registers) (pick (eqb p.chain 1) (Coded (lone p j lr)) Empty) Empty))
+    pick (ltb (2 * j + 1) p.registers) (some (integer_pair p j))
+    (pick (eqb (2 * j + 1) p.registers) (some (integer_odd p j))
+    (pick (eqb (2 * j) p.registers) (pick (eqb p.chain 1) (some (lone p j lr)) none) none))
 
 -- the first pair of vector registers moves the stack pointer where no integer register did
 unfoldable pub vector_pair : Packed → (j : ℕ) → Code
 vector_pair p j = pick (eqb (integer_size p + j) 0) (code k_fregp_x 8 (saved_size p)) (code k_fregp (8 + 2 * j) (integer_size p + 16 * j))
 
 -- registers d(8 + 2j) and d(9 + 2j) as a pair, an odd last one alone
-unfoldable pub vector_slot : Packed → (j : ℕ) → Slot
+unfoldable pub vector_slot : Packed → (j : ℕ) → Option Code
 vector_slot p j =
-    pick (ltb (2 * j + 1) (vector_count p)) (Coded (vector_pair p j))
-    (pick (eqb (2 * j + 1) (vector_count p)) (Coded (code k_freg (8 + 2 * j) (integer_size p + 16 * j))) Empty)
+    pick (ltb (2 * j + 1) (vector_count p)) (some (vector_pair p j))
+    (pick (eqb (2 * j + 1) (vector_count p)) (some (code k_freg (8 + 2 * j) (integer_size p + 16 * j))) none)
 
 -- H: four instructions store the parameters
-unfoldable pub home_slot : Packed → Slot
-home_slot p = pick (eqb p.homes 1) (Coded (code k_nop 0 0)) Empty
+unfoldable pub home_slot : Packed → Option Code
+home_slot p = pick (eqb p.homes 1) (some (code k_nop 0 0)) none
 
 -- one instruction takes 4,080 bytes at most; the frame record of CR 2 and 3 takes up to 512 itself
-unfoldable pub alloc_slot : Packed → Slot
+unfoldable pub alloc_slot : Packed → Option Code
 alloc_slot p =
-    pick (leb (local_size p) (pick (leb 2 p.chain) 512 0)) Empty
-    (Coded (code k_alloc 0 (pick (leb (local_size p) 4080) (local_size p) 4080)))
+    pick (leb (local_size p) (pick (leb 2 p.chain) 512 0)) none
+    (some (code k_alloc 0 (pick (leb (local_size p) 4080) (local_size p) 4080)))
 
-unfoldable pub rest_slot : Packed → Slot
-rest_slot p = pick (leb (local_size p) 4080) Empty (Coded (code k_alloc 0 (local_size p - 4080)))
+unfoldable pub rest_slot : Packed → Option Code
+rest_slot p = pick (leb (local_size p) 4080) none (some (code k_alloc 0 (local_size p - 4080)))
 
 -- CR 2 and 3: the frame record
-unfoldable pub chain_slot : Packed → Slot
-chain_slot p = pick (leb 2 p.chain) (Coded (pick (leb (local_size p) 512) (code k_fplr_x 0 (local_size p)) (code k_fplr 0 0))) Empty
+unfoldable pub chain_slot : Packed → Option Code
+chain_slot p = pick (leb 2 p.chain) (some (pick (leb (local_size p) 512) (code k_fplr_x 0 (local_size p)) (code k_fplr 0 0))) none
 
 -- and the frame pointer
-unfoldable pub frame_slot : Packed → Slot
-frame_slot p = pick (leb 2 p.chain) (Coded (code k_set_fp 0 0)) Empty
+unfoldable pub frame_slot : Packed → Option Code
+frame_slot p = pick (leb 2 p.chain) (some (code k_set_fp 0 0)) none
 
-unfoldable pub local_slot : Packed → (j : ℕ) → Slot
+unfoldable pub local_slot : Packed → (j : ℕ) → Option Code
 local_slot p j = pick (eqb j 0) (alloc_slot p) (pick (eqb j 1) (rest_slot p) (pick (eqb j 2) (chain_slot p) (frame_slot p)))
 
-unfoldable pub slot : Packed → (i : ℕ) → Slot
+unfoldable pub slot : Packed → (i : ℕ) → Option Code
 slot p i =
     pick (ltb i 1) (sign_slot p)
     (pick (ltb i 7) (integer_slot p (i - 1)) (pick (ltb i 11) (vector_slot p (i - 7)) (pick (ltb i 15) (home_slot p) (local_slot p (i - 15)))))
 
 -- the instructions that n places from k on have
-unfoldable pub with_slot : Slot → List Code → List Code
-with_slot (Coded c) cs = c ∷ cs
-with_slot Empty cs = cs
+unfoldable pub with_slot : Option Code → List Code → List Code
+with_slot (some c) cs = c ∷ cs
+with_slot none cs = cs
 
-unfoldable pub slots_from : (ℕ → Slot) → (k n : ℕ) → List Code
+unfoldable pub slots_from : (ℕ → Option Code) → (k n : ℕ) → List Code
 slots_from at k zero = []
 slots_from at k (suc n) = with_slot (at k) (slots_from at (suc k) n)
 
 -- ---- the epilogue: the prologue backwards, without the homing and without the setting of the frame pointer
 
-unfoldable pub undone : Slot → Slot
-undone Empty = Empty
-undone (Coded c) = pick (eqb c.kind k_nop) Empty (pick (eqb c.kind k_set_fp) Empty (Coded c))
+unfoldable pub undone : Option Code → Option Code
+undone none = none
+undone (some c) = pick (eqb c.kind k_nop) none (pick (eqb c.kind k_set_fp) none (some c))
 
-unfoldable pub slot_at : (back : Bool) → Packed → (i : ℕ) → Slot
+unfoldable pub slot_at : (back : Bool) → Packed → (i : ℕ) → Option Code
 slot_at false p i = slot p i
 slot_at true p i = undone (slot p (18 - i))
 

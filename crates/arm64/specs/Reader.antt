@@ -7,8 +7,6 @@ use Rattle.format.specs.Prelude.{pick, after, Result, good, bad, onward, or_else
 use Rattle.format.specs.Lists.{count}
 use Rattle.format.specs.Put.{put}
 use Rattle.arm64.specs.declared.Code.{Code}
-use Rattle.arm64.specs.declared.CodeRead.{CodeRead}
-use Rattle.arm64.specs.declared.CodeRead.TheVariants as codeRead
 use Rattle.arm64.specs.declared.Header.{Header}
 use Rattle.arm64.specs.declared.Packed.{Packed}
 use Rattle.arm64.specs.declared.Arm64Reading.{Arm64Reading}
@@ -26,11 +24,6 @@ pub record Unwound : Type 0 where
 
 -- ---- a run of codes, up to its end
 
--- what follows from a code that was read
-unfoldable pub on_code : {A : Type 0} → CodeRead → (Code → ℕ → Option A) → Option A
-on_code (codeRead.Code c q) k = k c q
-on_code codeRead.Bad k = none
-
 unfoldable pub in_front : {A : Type 0} → A → Option (List A) → Option (List A)
 in_front c none = none
 in_front c (some cs) = some (c ∷ cs)
@@ -38,7 +31,7 @@ in_front c (some cs) = some (c ∷ cs)
 -- from p on; a code has a byte at least, so the list's length is fuel enough
 unfoldable pub run_f : ℕ → List ℕ → ℕ → Option (List Code)
 run_f zero s p = none
-run_f (suc f) s p = on_code (code_at s p) λ c q. pick (eqb c.kind k_end) (some []) (in_front c (run_f f s q))
+run_f (suc f) s p = after (code_at s p) λ t. pick (eqb t.0.kind k_end) (some []) (in_front t.0 (run_f f s t.1))
 
 unfoldable pub run_at : List ℕ → ℕ → Option (List Code)
 run_at s p = run_f (suc (length s)) s p

@@ -2,6 +2,9 @@
 // The types of Windows' unwind data on ARM64: codes, the fields of a record and of a packed word, and the reader's answer. What they mean is in specs/.
 #![tactic(auto)]
 
+ghost use Rattle.std.specs.Prelude.{◌≡◌};
+ghost use Rattle.arm64.specs.Codes.{code};
+
 pub mod fields;
 pub mod header_bits;
 pub mod limits;
@@ -9,11 +12,24 @@ pub mod packed_bits;
 
 // A code: its kind, 0 to 17 in the source's order, its register by number (x19 is 19, d8 is 8) and its offset or size in bytes. An operand that the
 // kind does not have is 0.
-#[derive(Clone, Copy)]
+// Kept: the kinds are numbers, and no enum: C's lists hold them as such, and which kinds have operands is told by their order.
+#[derive(Clone, Copy, PartialEq, Eq)]
 pub struct Code {
     pub kind: u64,
     pub register: u64,
     pub offset: u64,
+}
+
+impl Code {
+    pub fn new(kind: u64, register: u64, offset: u64) -> Code
+        ensures { result ≡ code kind register offset }
+    {
+        Code {
+            kind,
+            register,
+            offset,
+        }
+    }
 }
 
 pub const ALLOC: u64 = 0;
@@ -70,13 +86,6 @@ pub struct Form {
     pub more: u64,
 }
 
-// What reading a code gives: the code and the place past it.
-#[derive(Clone, Copy)]
-pub enum CodeRead {
-    Code(Code, usize),
-    Bad,
-}
-
 // A full record's header: the length in instructions, the handler's mark X, the mark E of one epilogue at the end, the count of epilogues (with E the
 // index of its codes), the words of codes, and the place past the header, where the epilogues' words start.
 #[derive(Clone, Copy)]
@@ -101,15 +110,9 @@ pub struct Packed {
     pub frame: u64,
 }
 
-// A place of a packed word's prologue: the code of its instruction, or none.
-#[derive(Clone, Copy)]
-pub enum Slot {
-    Coded(Code),
-    Empty,
-}
-
 // What the reader answers: 0 or the question's number, the length in bytes, and how many codes the prologue has, how many epilogues there are, and how
 // many codes in all.
+// Kept: a number beside the fields, and no Result: C reads the fields.
 #[repr(C)]
 #[derive(Clone, Copy)]
 pub struct Arm64Reading {
