@@ -2,5 +2,4 @@
 pub mod Questions
 pub mod Forms
 pub mod Copies
-pub mod Numbers
 pub mod Sizes

@@ -1,9 +1,10 @@
--- The questions of one code: by the code's tests, what a yes says, and that no question has the number 0.
+-- The questions of one code: by the code's tests, and what an answer and a yes say.
 use mathlib.Core.Path.{◌≡◌, refl, sym, ap, ◌∙◌}
 use Prim.Native.Nat.{ℕ, ◌%◌, ◌^◌, ◌≤◌, ◌<◌}
 use native.Mathlib.Omega.{arith}
 use mathlib.Core.Bool.{Bool, true, false, not, ◌||◌}
 use mathlib.Core.Option.{Option, none, some}
+use Rattle.std.specs.Prelude.{Ok, Err}
 use borrow.Author.Tests.{lt-ltb, le-ltb, le-leb, lt-leb, ne_eqb}
 use lib.Dec.{T, leb, ltb, eqb, leb→le, eqb→eq}
 use lib.IntN.{ℤ, pos, negsuc}
@@ -17,7 +18,7 @@ use Rattle.format.specs.declared.Seh.TheVariants.{Frame}
 use Rattle.format.specs.X64.{size64, register_in, alloc_no, save_no, operand_no, code_no, frame_ok, frame_no}
 use Rattle.format.proofs.Choice.{if-le, if-gt}
 use Rattle.rows.proofs.Signs.{negative, positive}
-use Rattle.codes.specs.Codes.{number_of}
+use Rattle.codes.specs.Codes.{yes_or_no}
 
 -- ---- an allocation, by its size
 
@@ -30,33 +31,33 @@ module _ {z : ℤ} (f : SFits w64 z) {n : ℕ} (e : n ≡ size64 (to_z w64 (of_z
   sized : size64 z ≡ n
   sized = sym (e ∙ ap size64 (to_z-of_z f))
 
-  pub alloc_none : n ≡ 0 → 36 ≡ number_of (alloc_no z)
-  unfolding number_of pick
+  pub alloc_none : n ≡ 0 → Err 36 ≡ yes_or_no (alloc_no z)
+  unfolding yes_or_no pick
   alloc_none h = simp (alloc_as z, sized, h)
 
-  pub alloc_odd : (n % 8 ≡ 0 → ⊥) → 36 ≡ number_of (alloc_no z)
-  unfolding number_of pick
+  pub alloc_odd : (n % 8 ≡ 0 → ⊥) → Err 36 ≡ yes_or_no (alloc_no z)
+  unfolding yes_or_no pick
   alloc_odd h = let k : n ≡ 0 → ⊥ = λ g. h (rw g) in simp (alloc_as z, sized, ne_eqb n 0 k, ne_eqb (n % 8) 0 h)
 
   module _ (k : n ≡ 0 → ⊥) (h : n % 8 ≡ 0) where
-    pub alloc_fits : n < 2 ^ 32 → 0 ≡ number_of (alloc_no z)
-    unfolding number_of pick
+    pub alloc_fits : n < 2 ^ 32 → Ok tt ≡ yes_or_no (alloc_no z)
+    unfolding yes_or_no pick
     alloc_fits l = simp (alloc_as z, sized, ne_eqb n 0 k, h, lt-ltb n (2 ^ 32) l)
 
-    pub alloc_far : 2 ^ 32 ≤ n → 37 ≡ number_of (alloc_no z)
-    unfolding number_of pick
+    pub alloc_far : 2 ^ 32 ≤ n → Err 37 ≡ yes_or_no (alloc_no z)
+    unfolding yes_or_no pick
     alloc_far l = simp (alloc_as z, sized, ne_eqb n 0 k, h, le-ltb n (2 ^ 32) l)
 
 -- ---- a save and a frame offset, by the sign and the size
 
 module _ {z : ℤ} (f : SFits w64 z) where
   module _ (s : lt_z (to_z w64 (of_z w64 z)) (pos 0) ≡ true) where
-    pub save_below : 38 ≡ number_of (save_no z)
-    unfolding number_of save_no
+    pub save_below : Err 38 ≡ yes_or_no (save_no z)
+    unfolding yes_or_no save_no
     save_below = rw (negative z f s)
 
-    pub frame_below : 41 ≡ number_of (pick (frame_ok z) none (some 41))
-    unfolding number_of frame_ok pick
+    pub frame_below : Err 41 ≡ yes_or_no (pick (frame_ok z) none (some 41))
+    unfolding yes_or_no frame_ok pick
     frame_below = rw (negative z f s)
 
   module _ (s : lt_z (to_z w64 (of_z w64 z)) (pos 0) ≡ false) {n : ℕ} (e : n ≡ size64 (to_z w64 (of_z w64 z))) where
@@ -64,42 +65,54 @@ module _ {z : ℤ} (f : SFits w64 z) where
     unfolding size64
     placed = let p = positive z f s in p ∙ ap pos (sym (e ∙ ap size64 (to_z-of_z f ∙ p)))
 
-    pub save_fits : n < 2 ^ 32 → 0 ≡ number_of (save_no z)
-    unfolding number_of save_no pick
+    pub save_fits : n < 2 ^ 32 → Ok tt ≡ yes_or_no (save_no z)
+    unfolding yes_or_no save_no pick
     save_fits l = simp (placed, lt-ltb n (2 ^ 32) l)
 
-    pub save_far : 2 ^ 32 ≤ n → 39 ≡ number_of (save_no z)
-    unfolding number_of save_no pick
+    pub save_far : 2 ^ 32 ≤ n → Err 39 ≡ yes_or_no (save_no z)
+    unfolding yes_or_no save_no pick
     save_far l = simp (placed, le-ltb n (2 ^ 32) l)
 
-    pub frame_far : 240 < n → 41 ≡ number_of (pick (frame_ok z) none (some 41))
-    unfolding number_of frame_ok pick
+    pub frame_far : 240 < n → Err 41 ≡ yes_or_no (pick (frame_ok z) none (some 41))
+    unfolding yes_or_no frame_ok pick
     frame_far l = simp (placed, lt-leb n 240 l)
 
     module _ (l : n ≤ 240) where
-      pub frame_odd : (n % 16 ≡ 0 → ⊥) → 41 ≡ number_of (pick (frame_ok z) none (some 41))
-      unfolding number_of frame_ok pick
+      pub frame_odd : (n % 16 ≡ 0 → ⊥) → Err 41 ≡ yes_or_no (pick (frame_ok z) none (some 41))
+      unfolding yes_or_no frame_ok pick
       frame_odd h = simp (placed, le-leb n 240 l, ne_eqb (n % 16) 0 h)
 
-      pub frame_fits : n % 16 ≡ 0 → 0 ≡ number_of (pick (frame_ok z) none (some 41))
-      unfolding number_of frame_ok pick
+      pub frame_fits : n % 16 ≡ 0 → Ok tt ≡ yes_or_no (pick (frame_ok z) none (some 41))
+      unfolding yes_or_no frame_ok pick
       frame_fits h = simp (placed, le-leb n 240 l, h)
 
 -- ---- a code, by its parts
 
 module _ (at : ℕ) (code : Seh) {reg : ℕ} (e : reg ≡ register_in code) where
-  pub no_register : 15 < reg → 34 ≡ number_of (code_no (at, code))
-  unfolding number_of code_no
+  pub no_register : 15 < reg → Err 34 ≡ yes_or_no (code_no (at, code))
+  unfolding yes_or_no code_no
   no_register h = rw (← e, if-gt reg 15)
 
   module _ (h : reg ≤ 15) where
-    pub no_offset : 255 < at → 35 ≡ number_of (code_no (at, code))
-    unfolding number_of code_no
+    pub no_offset : 255 < at → Err 35 ≡ yes_or_no (code_no (at, code))
+    unfolding yes_or_no code_no
     no_offset l = rw (← e, if-le reg 15, if-gt at 255)
 
-    pub no_operand : at ≤ 255 → number_of (operand_no code) ≡ number_of (code_no (at, code))
+    pub no_operand : at ≤ 255 → yes_or_no (operand_no code) ≡ yes_or_no (code_no (at, code))
     unfolding code_no
     no_operand l = rw (← e, if-le reg 15, if-le at 255)
+
+-- ---- what an answer says
+
+pub none_of : (o : Option ℕ) → Ok tt ≡ yes_or_no o → o ≡ none
+unfolding yes_or_no
+none_of none e = refl
+none_of (some n) e = cc
+
+pub some_of : (o : Option ℕ) (n : ℕ) → Err n ≡ yes_or_no o → o ≡ some n
+unfolding yes_or_no
+some_of none n e = cc
+some_of (some m) n e = cc
 
 -- ---- what a yes says
 

@@ -1,15 +1,15 @@
--- The number of a question, and a code held as bytes beside their count.
-use Rattle.std.specs.Prelude.{◌≡◌, ℕ, ◌/◌, ◌%◌, ◌≤◌, Bool, true, false, ◌&&◌, List, leb, ltb, eqb, length, take}
+-- The answer to a question, and a code held as bytes beside their count.
+use Rattle.std.specs.Prelude.{◌≡◌, ℕ, ◌/◌, ◌%◌, ◌≤◌, Bool, true, false, ◌&&◌, List, Result, Ok, Err, leb, ltb, eqb, length, take}
 use Rattle.std.proofs.Math.Option.{Option, none, some}
 use Rattle.format.specs.Prelude.{pick}
 use Rattle.format.specs.declared.Seh.{Seh}
 use Rattle.format.specs.X64.{frame_no}
 use Rattle.codes.specs.declared.Code.{Code}
 
--- the question that was answered by no, or 0
-unfoldable pub number_of : Option ℕ → ℕ
-number_of none = 0
-number_of (some n) = n
+-- a yes, or the number of the question that was answered by no
+unfoldable pub yes_or_no : Option ℕ → Result (Unit {0}) ℕ
+yes_or_no none = Ok tt
+yes_or_no (some n) = Err n
 
 -- question 41 of a code with its offset
 abbrev pub frame_ask : ℕ × Seh → Option ℕ

@@ -8,12 +8,12 @@ ghost use Rattle.format.specs.Lists.{count};
 ghost use Rattle.format.proofs.Wrote.{Wrote};
 ghost use Rattle.format.specs.Leb.{little};
 ghost use Rattle.format.specs.X64.{size64, register_in, alloc_no, save_no, operand_no, code_no, frame_ok, frame_no, frame_or, node, alloc_bytes, slot_bytes, save_bytes, code_bytes};
-ghost use Rattle.codes.specs.Codes.{Holds, number_of, is_near, alloc_size, save_size};
+ghost use Rattle.codes.specs.Codes.{Holds, yes_or_no, is_near, alloc_size, save_size};
 
 use format::Seh;
 use numbers::uwop;
 
-// ---- the questions of a code: the number of a no, or 0
+// ---- the questions of a code: the number of a no is the error
 
 // A size or an offset without its sign; 0 where it is negative.
 fn size(z: i64) -> u64
@@ -37,85 +37,85 @@ fn register_in(code: Seh) -> u64
 }
 
 // 36 and 37.
-fn alloc_no(z: i64) -> u64
-    ensures { result ≡ number_of (alloc_no z) }
+fn alloc_no(z: i64) -> Result<(), u64>
+    ensures { result ≡ yes_or_no (alloc_no z) }
 {
     let n = size(z);
     if n == 0 {
-        return 36;
+        return Err(36);
     }
     if n % 8 != 0 {
-        return 36;
+        return Err(36);
     }
     if n < 4294967296 {
-        return 0;
+        return Ok(());
     }
-    37
+    Err(37)
 }
 
 // 38 and 39.
-fn save_no(z: i64) -> u64
-    ensures { result ≡ number_of (save_no z) }
+fn save_no(z: i64) -> Result<(), u64>
+    ensures { result ≡ yes_or_no (save_no z) }
 {
     if z < 0 {
-        return 38;
+        return Err(38);
     }
     if size(z) < 4294967296 {
-        return 0;
+        return Ok(());
     }
-    39
+    Err(39)
 }
 
-fn operand_no(code: Seh) -> u64
-    ensures { result ≡ number_of (operand_no code) }
+fn operand_no(code: Seh) -> Result<(), u64>
+    ensures { result ≡ yes_or_no (operand_no code) }
 {
     match code {
-        Seh::Push(_) => 0,
+        Seh::Push(_) => Ok(()),
         Seh::Alloc(z) => alloc_no(z),
-        Seh::Frame(_, _) => 0,
+        Seh::Frame(_, _) => Ok(()),
         Seh::Save(_, _, z) => save_no(z),
     }
 }
 
 // 34 to 39.
-pub fn code_no(at: u64, code: Seh) -> u64
-    ensures { result ≡ number_of (code_no (at, code)) }
+pub fn code_no(at: u64, code: Seh) -> Result<(), u64>
+    ensures { result ≡ yes_or_no (code_no (at, code)) }
 {
     if 15 < register_in(code) {
-        return 34;
+        return Err(34);
     }
     if 255 < at {
-        return 35;
+        return Err(35);
     }
     operand_no(code)
 }
 
 // 41 of a frame code's offset.
-fn frame_offset_no(z: i64) -> u64
-    ensures { result ≡ number_of (pick (frame_ok z) none (some 41)) }
+fn frame_offset_no(z: i64) -> Result<(), u64>
+    ensures { result ≡ yes_or_no (pick (frame_ok z) none (some 41)) }
 {
     if z < 0 {
-        return 41;
+        return Err(41);
     }
     let n = size(z);
     if 240 < n {
-        return 41;
+        return Err(41);
     }
     if n % 16 != 0 {
-        return 41;
+        return Err(41);
     }
-    0
+    Ok(())
 }
 
 // 41.
-pub fn frame_no(code: Seh) -> u64
-    ensures { result ≡ number_of (frame_no code) }
+pub fn frame_no(code: Seh) -> Result<(), u64>
+    ensures { result ≡ yes_or_no (frame_no code) }
 {
     match code {
-        Seh::Push(_) => 0,
-        Seh::Alloc(_) => 0,
+        Seh::Push(_) => Ok(()),
+        Seh::Alloc(_) => Ok(()),
         Seh::Frame(_, z) => frame_offset_no(z),
-        Seh::Save(_, _, _) => 0,
+        Seh::Save(_, _, _) => Ok(()),
     }
 }
 
@@ -135,6 +135,7 @@ pub fn frame_or(b: u8, code: Seh) -> u8
 // ---- the bytes of a code
 
 // A code's bytes, the first `count` of six.
+// Kept: a project rule holds an x64 code as `[u8; 6]` by value beside its count.
 #[derive(Clone, Copy)]
 pub struct Code {
     pub bytes: [u8; 6],
@@ -277,14 +278,9 @@ pub fn put_nodes(out: &mut [u8], at: usize, n: Code) -> usize
     requires { (n.count ≤ 6) × (at + n.count ≤ length out.old) }
     ensures { Wrote out.old out.new at result (take n.count n.bytes) }
 {
-    let bytes = n.bytes;
-    let count = n.count;
-    let mut i = 0;
-    while i < count {
-        out[at + i] = bytes[i];
-        i += 1;
-    }
-    at + count
+    let past = at + n.count;
+    out[at..past].copy_from_slice(&n.bytes[..n.count]);
+    past
 }
 
 // ---- UNWIND_INFO

@@ -2,15 +2,15 @@
 use native.Mathlib.Omega.{arith}
 use Rattle.format.specs.X64.{frame_no}
 use Rattle.rows.proofs.Signs.{passed}
-use Rattle.codes.specs.Codes.{number_of}
+use Rattle.codes.specs.Codes.{yes_or_no}
 use Rattle.codes.proofs.frame_no.Goals as goal
 
 pub returns-in-Push : goal.returns-in-Push
-unfolding number_of frame_no
+unfolding yes_or_no frame_no
 returns-in-Push c = rw c.in-Push.is
 
 pub returns-in-Alloc : goal.returns-in-Alloc
-unfolding number_of frame_no
+unfolding yes_or_no frame_no
 returns-in-Alloc c = rw c.in-Alloc.is
 
 pub returns-in-Frame : goal.returns-in-Frame
@@ -18,5 +18,5 @@ unfolding frame_no
 returns-in-Frame c = rw c.in-Frame.is (rw (passed c.in-Frame.z (omega (arith, c.in-Frame.known_told-1-own.given))) at c.frame_offset_no.ensures)
 
 pub returns-in-Save : goal.returns-in-Save
-unfolding number_of frame_no
+unfolding yes_or_no frame_no
 returns-in-Save c = rw c.in-Save.is
