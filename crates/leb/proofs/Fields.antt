@@ -1,6 +1,6 @@
 -- Fields byte by byte, and a field of zeros.
 use mathlib.Core.Path.{◌≡◌, refl}
-use Prim.Native.Nat.{ℕ, zero, suc, ◌-◌, ◌/◌, ◌%◌, ◌<◌}
+use Prim.Native.Nat.{ℕ, zero, suc, ◌+◌, ◌/◌, ◌%◌}
 use native.Mathlib.Omega.{arith}
 use mathlib.Core.List.{[], ◌∷◌}
 use lib.ListN.{replicate}
@@ -11,10 +11,10 @@ unfolding little
 little_done zero v h = refl
 little_done (suc n) v h = absurd (omega arith)
 
-pub little_more : (n v : ℕ) → 0 < n → little n v ≡ v % 256 ∷ little (n - 1) (v / 256)
+pub little_more : (n m v : ℕ) → n ≡ m + 1 → little n v ≡ v % 256 ∷ little m (v / 256)
 unfolding little
-little_more zero v h = absurd (omega arith)
-little_more (suc n) v h = let e : suc n - 1 ≡ n = omega arith in rw e
+little_more zero m v h = absurd (omega arith)
+little_more (suc n) m v h = let e : n ≡ m = omega arith in rw e
 
 pub little_zeros : (n : ℕ) → little n 0 ≡ replicate n 0
 unfolding little

@@ -1,11 +1,18 @@
 -- Zeros stored one behind the other: what the loops of `fill` know, and their turns.
-use mathlib.Core.Path.{◌≡◌, refl, sym}
+use mathlib.Core.Path.{◌≡◌, refl, sym, ap, ◌∙◌}
 use Prim.Native.Nat.{ℕ, zero, suc, ◌+◌, ◌-◌, ◌≤◌}
 use native.Mathlib.Omega.{arith}
-use mathlib.Core.List.{List, ◌++◌}
-use lib.ListN.{length, set, length-set, replicate, length-replicate}
+use native.Mathlib.Numerals.{add-one}
+use mathlib.Core.List.{List, [], ◌∷◌, ◌++◌, append_assoc}
+use lib.ListN.{length, take, drop, set, length-set, replicate, length-replicate}
+use lib.Seq.{paste, take-suc-set}
+use borrow.Rule.Slice.PartMut.{put_mid}
+use Rattle.std.proofs.lemmas.List.Edits.{paste_none}
+use Rattle.std.proofs.lemmas.List.{drop-set-lt}
+use Rattle.std.proofs.lemmas.Slice.{put_mid-paste}
+use Rattle.format.specs.Put.{put}
 use Rattle.format.proofs.Wrote.{Wrote}
-use Rattle.format.proofs.PutLaws.{put_one, ◌then◌, idle}
+use Rattle.format.proofs.PutLaws.{put_none, put_cons, kept, ◌then◌, idle}
 
 zeros_more : (k n : ℕ) → ◌++◌ {A = ℕ} (replicate k 0) (replicate n 0) ≡ replicate (k + n) 0
 zeros_more zero n = let e : 0 + n ≡ n = omega arith in rw e
@@ -20,20 +27,26 @@ pub record Zeros (xs ys : List ℕ) (p q k : ℕ) : Type 0 where
 pub nothing : {xs : List ℕ} {p : ℕ} → Zeros xs xs p p 0
 nothing {xs} {p} = record { same_size = refl; place = omega arith; wrote = idle }
 
-pub one_more : {xs ys : List ℕ} {p q j k : ℕ} → Zeros xs ys p q k → j ≡ q → Zeros xs (set ys j 0) p (j + 1) (k + 1)
-one_more {xs} {ys} {p} {q} {j} {k} z e = record {
-  same_size = simp length-set z.same_size;
-  place = omega (arith, z.place);
-  wrote =
-      let w : Wrote xs ys p j (replicate k 0) = rw e z.wrote in
-      rw (zeros_more k 1) at (w then record { past = refl; stored = sym (put_one ys j 0) });
-}
+-- a run of stores, as the library says what a part of the buffer holds
+stored : (xs : List ℕ) (p : ℕ) (bs : List ℕ) → p + length bs ≤ length xs → put xs p bs ≡ paste xs p bs (length bs)
+stored xs p [] h = rw put_none (paste_none xs p [])
+stored xs p (b ∷ bs) h =
+    let e : p + length (b ∷ bs) ≡ suc p + length bs = omega arith in
+    rw (put_cons, stored (set xs p b) (p + 1) bs (omega (arith, length-set xs p b)), add-one p, take-suc-set xs p b (omega arith), drop-set-lt (suc p + length bs) xs p b (omega arith), e)
+    (ap (λ l. l ++ drop (suc p + length bs) xs) (append_assoc (take p xs) (b ∷ []) (take (length bs) bs)))
 
-pub as_many : {xs ys : List ℕ} {p q r k n : ℕ} → Zeros xs ys p q k → r ≡ q → n ≡ k → Zeros xs ys p r n
-as_many z e d = rw (e, d) z
-
-pub all : {xs ys : List ℕ} {p q k n : ℕ} → Zeros xs ys p q k → n ≡ k → Wrote xs ys p (p + n) (replicate n 0)
-all z e = rw (e, sym z.place) z.wrote
+-- n zeros more, by the library's `fill` of a part of the buffer
+pub more : {xs ys zs : List ℕ} {p q k : ℕ} (n m j : ℕ) → Zeros xs ys p q k → zs ≡ replicate n 0 → n ≡ j → q + n ≤ length ys → m ≡ k + n
+    → Zeros xs (put_mid q j ys zs) p (q + n) m
+more {xs} {ys} {zs} {p} {q} {k} n m j z e d h f =
+    let s : put_mid q j ys zs ≡ put ys q (replicate n 0) =
+    put_mid-paste q j ys zs (replicate n 0) n e d (sym (length-replicate {A = ℕ} n 0)) ∙ sym (rw (length-replicate {A = ℕ} n 0) at (stored ys q (replicate n 0) (omega (arith, length-replicate {A = ℕ} n 0)))) in
+    let w : Wrote ys (put_mid q j ys zs) q (q + n) (replicate n 0) = record { past = ap (λ l. q + l) (sym (length-replicate {A = ℕ} n 0)); stored = s } in
+    record {
+      same_size = kept w ∙ z.same_size;
+      place = omega (arith, z.place);
+      wrote = rw (f, ← zeros_more k n) (z.wrote then w);
+    }
 
 -- the first k of n zeros, and the others behind them
 pub behind : {xs ys zs : List ℕ} {p q r : ℕ} (k n : ℕ) → k ≤ n → Wrote xs ys p q (replicate k 0) → Wrote ys zs q r (replicate (n - k) 0)

@@ -8,6 +8,8 @@ ghost use Rattle.format.specs.Leb.{little, uleb, bits7, sleb_f, sleb};
 ghost use Rattle.leb.specs.Signs.{is_negative};
 
 // A byte at `at`. This and every other writer gives the place past what it stored.
+// Kept: `relocs::number` is its twin at u64. `Wrote` speaks of lists of numbers, and the elements of a type parameter are none: one
+// generic function would promise less, and each of the two would be proved over it, in more lines than their two.
 pub fn byte(out: &mut [u8], at: usize, b: u8) -> usize
     requires { at + 1 ≤ length out.old }
     ensures { Wrote out.old out.new at result (b ∷ []) }
@@ -84,58 +86,37 @@ pub fn le(out: &mut [u8], at: usize, n: usize, v: u64) -> usize
 {
     let mut i = at;
     let mut x = v;
-    let mut left = n;
-    while 0 < left {
+    for _ in 0..n {
         out[i] = (x % 256) as u8;
         x = x / 256;
         i += 1;
-        left -= 1;
     }
     i
 }
 
-// Zeros, four in a turn, while four or more of n are left. It answers its turns.
-fn fill_fours(out: &mut [u8], at: usize, n: usize) -> usize
-    requires { at + n ≤ length out.old }
-    ensures { (result ≡ n / 4) × Wrote out.old out.new at (at + 4 * result) (replicate (4 * result) 0) }
-{
-    let mut i = at;
-    let mut left = n;
-    let mut turns = 0;
-    while 4 <= left {
-        out[i] = 0;
-        out[i + 1] = 0;
-        out[i + 2] = 0;
-        out[i + 3] = 0;
-        i += 4;
-        left -= 4;
-        turns += 1;
-    }
-    turns
-}
-
-// n zeros, one in a turn. It answers its turns.
-fn fill_ones(out: &mut [u8], at: usize, n: usize) -> usize
-    requires { at + n ≤ length out.old }
-    ensures { (result ≡ n) × Wrote out.old out.new at (at + n) (replicate n 0) }
+// Zeros, N in a turn, while N or more of n are left. It answers its turns.
+fn fill_by<const N: usize>(out: &mut [u8], at: usize, n: usize) -> usize
+    requires { (0 < N) × (at + n ≤ length out.old) }
+    ensures { (result ≡ n / N) × Wrote out.old out.new at (at + N * result) (replicate (N * result) 0) }
 {
     let mut i = at;
     let mut turns = 0;
-    while turns < n {
-        out[i] = 0;
-        i += 1;
+    for _ in 0..n / N {
+        out[i..i + N].fill(0);
+        i += N;
         turns += 1;
     }
     turns
 }
 
 // The core of `fill`: four zeros in a turn, then the remainder singly. It answers its turns.
+// Kept: the specification asks for these turns and for their count (W-205), so one `fill` of all n zeros is not enough.
 fn fill_turns(out: &mut [u8], at: usize, n: usize) -> usize
     requires { at + n ≤ length out.old }
     ensures { (result ≡ n / 4 + n % 4) × Wrote out.old out.new at (at + n) (replicate n 0) }
 {
-    let fours = fill_fours(out, at, n);
-    let ones = fill_ones(out, at + 4 * fours, n - 4 * fours);
+    let fours = fill_by::<4>(out, at, n);
+    let ones = fill_by::<1>(out, at + 4 * fours, n - 4 * fours);
     fours + ones
 }
 
@@ -169,5 +150,5 @@ pub fn sleb_size(v: i64) -> usize
 pub fn wide(x: u8) -> u64
     ensures { (result ≡ x) × (result < 256) }
 {
-    x as u64
+    u64::from(x)
 }
