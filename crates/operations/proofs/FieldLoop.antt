@@ -9,11 +9,11 @@ use native.Mathlib.Omega.{arith}
 use lib.Dec.{lit<}
 use lib.ListN.{length, get_or, drop, length-drop}
 use lib.Seq.{drop-cons}
+use Rattle.std.specs.Prelude.{Some, None}
 use Rattle.format.specs.Prelude.{next}
 use Rattle.format.specs.Leb.{read_little}
 use Rattle.operations.specs.declared.fields.Position.{Position}
-use Rattle.operations.specs.declared.fields.Unsigned.TheVariants.{Value, Bad}
-use Rattle.operations.specs.Positions.{past, unsigned_from, little_at}
+use Rattle.operations.specs.Positions.{past, read_from, little_at}
 
 -- ---- the loop
 
@@ -56,8 +56,8 @@ module _ {s : List ℕ} {p n left acc : ℕ} (c : Reading s p n left acc) where
         }
 
   -- the mark is as it was
-  pub ended : (m : Bool) → left ≡ 0 → Value acc (record { at = p + n; shortest = m }) ≡ little_at n s (record { at = p; shortest = m })
-  unfolding little_at unsigned_from past
+  pub ended : (m : Bool) → left ≡ 0 → Some (acc, record { at = p + n; shortest = m }) ≡ little_at n s (record { at = p; shortest = m })
+  unfolding little_at read_from past
   ended m z =
       let a : n - left ≡ n = omega arith in
       let d : p + left ≡ p = omega arith in
@@ -72,13 +72,13 @@ short zero bs h = absurd (omega arith)
 short (suc k) [] h = refl
 short (suc k) (b ∷ bs) h = rw (short k bs (omega arith))
 
-pub missing : (s : List ℕ) (p : Position) (n : ℕ) → length s - p.at < n → Bad ≡ little_at n s p
-unfolding little_at unsigned_from
+pub missing : (s : List ℕ) (p : Position) (n : ℕ) → length s - p.at < n → None ≡ little_at n s p
+unfolding little_at read_from
 missing s p n h = rw (short n (drop p.at s) (omega (arith, length-drop p.at s)))
 
 -- a field of no bytes past the end
-pub nothing : (s : List ℕ) (p : Position) (n : ℕ) → n ≡ 0 → length s < p.at → Value 0 (record { at = length s; shortest = p.shortest }) ≡ little_at n s p
-unfolding little_at unsigned_from read_little past
+pub nothing : (s : List ℕ) (p : Position) (n : ℕ) → n ≡ 0 → length s < p.at → Some (0, record { at = length s; shortest = p.shortest }) ≡ little_at n s p
+unfolding little_at read_from read_little past
 nothing s p n e h =
     let f : length s - length (drop p.at s) ≡ length s = omega (arith, length-drop p.at s) in
     rw (e, f, and-true p.shortest)

@@ -16,7 +16,7 @@ use Rattle.format.specs.Leb.{read_uleb_f, push, last7, read_sleb_f}
 use Rattle.format.proofs.Choice.{if-le, if-gt}
 use Rattle.operations.specs.Signs.{under}
 use Rattle.operations.specs.Groups.{GroupsAt}
-use Rattle.operations.specs.declared.fields.Groups.TheVariants.{Last, Bad}
+use Rattle.std.specs.Prelude.{Some, None}
 
 -- what is read, changed by g
 unfoldable over : {A : Type 0} → (A → A) → Read A → Read A
@@ -128,30 +128,32 @@ scale_full k scale e h = e ∙ ap (λ n. 128 ^ n) h
 
 -- ---- what the loop of last_byte knows at each turn
 
-pub record Reading (s : List ℕ) (p i k scale acc : ℕ) : Type 0 where
-  pub few : k ≤ 9
-  pub scaled : scale ≡ 128 ^ k
+pub record Reading (s : List ℕ) (p i scale acc : ℕ) : Type 0 where
+  pub few : i - p ≤ 9
+  pub scaled : scale ≡ 128 ^ (i - p)
   pub below : acc < scale
   pub reached : p ≤ i
-  unsigned : read_uleb_f 10 (drop p s) ≡ over (λ v. v * scale + acc) (read_uleb_f (10 - k) (drop i s))
-  signed : read_sleb_f 10 (drop p s) ≡ over (under scale acc) (read_sleb_f (10 - k) (drop i s))
+  unsigned : read_uleb_f 10 (drop p s) ≡ over (λ v. v * scale + acc) (read_uleb_f (10 - (i - p)) (drop i s))
+  signed : read_sleb_f 10 (drop p s) ≡ over (under scale acc) (read_sleb_f (10 - (i - p)) (drop i s))
 
-pub start : (s : List ℕ) (p : ℕ) → Reading s p p 0 1 0
-start s p = record {
-  few = omega arith;
-  scaled = refl;
-  below = omega arith;
-  reached = omega arith;
-  unsigned = all_left unsigned_groups s p;
-  signed = all_left signed_groups s p;
-}
+pub start : (s : List ℕ) (p : ℕ) → Reading s p p 1 0
+start s p =
+    let e : p - p ≡ 0 = omega arith in
+    record {
+      few = omega arith;
+      scaled = rw e;
+      below = omega arith;
+      reached = omega arith;
+      unsigned = rw e (all_left unsigned_groups s p);
+      signed = rw e (all_left signed_groups s p);
+    }
 
-module _ {s : List ℕ} {p i k scale acc : ℕ} (c : Reading s p i k scale acc) where
-  pub ended : length s ≤ i → GroupsAt s p Bad
-  ended h = (at_end_lem unsigned_groups s p i k scale acc c.few c.unsigned h, at_end_lem signed_groups s p i k scale acc c.few c.signed h)
+module _ {s : List ℕ} {p i scale acc : ℕ} (c : Reading s p i scale acc) where
+  pub ended : length s ≤ i → GroupsAt s p None
+  ended h = (at_end_lem unsigned_groups s p i (i - p) scale acc c.few c.unsigned h, at_end_lem signed_groups s p i (i - p) scale acc c.few c.signed h)
 
   module _ {b : ℕ} (e : b ≡ get_or s i 0) (h : i < length s) where
-    pub found : b < 128 → GroupsAt s p (Last b k scale acc (i + 1))
+    pub found : b < 128 → GroupsAt s p (Some (record { top = b; count = i - p; scale = scale; low = acc; end = i + 1 }))
     found l = record {
       few = c.few;
       scaled = c.scaled;
@@ -159,19 +161,21 @@ module _ {s : List ℕ} {p i k scale acc : ℕ} (c : Reading s p i k scale acc) 
       last = l;
       ahead = omega (arith, c.reached);
       inside = omega arith;
-      unsigned = at_last unsigned_groups s p i k scale acc c.few c.unsigned b e h l;
-      signed = at_last signed_groups s p i k scale acc c.few c.signed b e h l;
+      unsigned = at_last unsigned_groups s p i (i - p) scale acc c.few c.unsigned b e h l;
+      signed = at_last signed_groups s p i (i - p) scale acc c.few c.signed b e h l;
     }
 
-    pub long : 9 ≤ k → 128 ≤ b → GroupsAt s p Bad
-    long m l = (too_long unsigned_groups s p i k scale acc c.few c.unsigned b e h m l, too_long signed_groups s p i k scale acc c.few c.signed b e h m l)
+    pub long : 9 ≤ i - p → 128 ≤ b → GroupsAt s p None
+    long m l = (too_long unsigned_groups s p i (i - p) scale acc c.few c.unsigned b e h m l, too_long signed_groups s p i (i - p) scale acc c.few c.signed b e h m l)
 
-    pub turn : k < 9 → 128 ≤ b → b < 256 → Reading s p (i + 1) (k + 1) (scale * 128) ((b - 128) * scale + acc)
-    turn m l u = record {
-      few = omega arith;
-      scaled = rw (c.scaled, add-one k) (omega arith);
-      below = omega (arith, digits_lt {q = b - 128} {m = 128} {r = acc} {c = scale} (omega arith) c.below);
-      reached = omega (arith, c.reached);
-      unsigned = one_less unsigned_groups s p i k scale acc c.few c.unsigned b e h c.below l u;
-      signed = one_less signed_groups s p i k scale acc c.few c.signed b e h c.below l u;
-    }
+    pub turn : i - p < 9 → 128 ≤ b → b < 256 → Reading s p (i + 1) (scale * 128) ((b - 128) * scale + acc)
+    turn m l u =
+        let k : i + 1 - p ≡ i - p + 1 = omega (arith, c.reached) in
+        record {
+          few = omega arith;
+          scaled = rw (k, c.scaled, add-one (i - p)) (omega arith);
+          below = omega (arith, digits_lt {q = b - 128} {m = 128} {r = acc} {c = scale} (omega arith) c.below);
+          reached = omega (arith, c.reached);
+          unsigned = rw k (one_less unsigned_groups s p i (i - p) scale acc c.few c.unsigned b e h c.below l u);
+          signed = rw k (one_less signed_groups s p i (i - p) scale acc c.few c.signed b e h c.below l u);
+        }

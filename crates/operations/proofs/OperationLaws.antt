@@ -1,13 +1,13 @@
 -- Laws of operations at positions: how far the position past an operation is, and what is left there. So a walk ends.
-use mathlib.Core.Path.{◌≡◌, refl}
+use mathlib.Core.Path.{◌≡◌}
 use Prim.Native.Nat.{ℕ, ◌-◌, ◌≤◌, ◌<◌}
 use native.Mathlib.Omega.{arith}
-use mathlib.Core.Bool.{Bool}
 use mathlib.Core.Option.{none, some}
 use mathlib.Core.List.{List, [], ◌∷◌}
 use lib.ListN.{length, drop}
 use lib.Dec.{leb, ltb, eqb}
 use lib.IntN.{ℤ, pos}
+use Rattle.std.specs.Prelude.{Some, None}
 use Rattle.format.specs.Prelude.{Read}
 use Rattle.format.specs.Leb.{fits64}
 use Rattle.format.specs.Shortest.{operation_short}
@@ -17,9 +17,8 @@ use Rattle.format.specs.declared.Operation.{Operation}
 use Rattle.format.specs.declared.Operation.TheVariants.{Nop, Step, Does}
 use Rattle.format.specs.Rows.{unfactor, read_register, in_range, read_offset, read_factored, read_signed, one, two, read_extended, read_operation}
 use Rattle.operations.specs.declared.fields.Position.{Position}
-use Rattle.operations.specs.declared.Decoded.TheVariants as decoded
-use Rattle.operations.specs.Positions.{past, decoded_from, operation_at}
-use Rattle.operations.proofs.PositionLaws.{Past, past_at, past_is, Takes, nothing, taken, takes_pick, takes_byte, takes_next, takes_within, gives, takes_little, takes_uleb, takes_sleb, Ahead, ahead}
+use Rattle.operations.specs.Positions.{operation_at}
+use Rattle.operations.proofs.PositionLaws.{Past, Takes, nothing, takes_pick, takes_byte, takes_next, takes_within, gives, takes_little, takes_uleb, takes_sleb, Ahead, read_ahead, read_past, read_none}
 
 -- ---- operands
 
@@ -90,30 +89,11 @@ takes_operation w (b ∷ bs) =
 
 -- ---- what the callers know
 
-decoded_ahead : {lo hi : ℕ} (byte : 0 < lo) (s : List ℕ) (p : Position) (b : Bool) {r : Read Operation} {op : Operation} {q : Position} → Takes lo hi (drop p.at s) r
-    → decoded_from p b (length s) r ≡ decoded.Operation op q → Ahead lo hi s p.at q.at r op
-unfolding decoded_from
-decoded_ahead byte s p b nothing e = let z : ◌≡◌ {A = ℕ} 0 1 = cc in absurd (omega arith)
-decoded_ahead byte s p b {op = op} {q = q} (taken n w l h m) e =
-    let i : past p b (length s - length (drop n (drop p.at s))) ≡ q = cc in
-    ahead byte s p.at n w op q.at l h m (cc) (past_at p b _ i)
-
-module _ (p : Position) (b : Bool) (size : ℕ) where
-  decoded_past : (r : Read Operation) {op : Operation} {q : Position} → decoded_from p b size r ≡ decoded.Operation op q → Past p b q
-  unfolding decoded_from
-  decoded_past none e = let z : ◌≡◌ {A = ℕ} 0 1 = cc in absurd (omega arith)
-  decoded_past (some x) {q = q} e = let i : past p b (size - length x.1) ≡ q = cc in past_is p b _ i
-
-  decoded_none : (r : Read Operation) → decoded_from p b size r ≡ decoded.Bad → r ≡ none
-  unfolding decoded_from
-  decoded_none none e = refl
-  decoded_none (some x) e = let z : ◌≡◌ {A = ℕ} 0 1 = cc in absurd (omega arith)
-
 module _ (w : ℕ) (s : List ℕ) (p : Position) where
-  module _ {op : Operation} {q : Position} (e : operation_at w s p ≡ decoded.Operation op q) where
+  module _ {op : Operation} {q : Position} (e : operation_at w s p ≡ Some (op, q)) where
     there : Ahead 1 21 s p.at q.at (read_operation w (drop p.at s)) op
     unfolding operation_at
-    there = decoded_ahead (omega arith) s p _ (takes_operation w (drop p.at s)) e
+    there = read_ahead (omega arith) s p _ (takes_operation w (drop p.at s)) e
 
     pub operation_ahead : (p.at < q.at) × (q.at ≤ length s)
     operation_ahead = (omega (arith, there.least), there.inside)
@@ -123,8 +103,8 @@ module _ (w : ℕ) (s : List ℕ) (p : Position) where
 
     pub operation_past : Past p (operation_short (drop p.at s)) q
     unfolding operation_at
-    operation_past = decoded_past p _ (length s) (read_operation w (drop p.at s)) e
+    operation_past = read_past p _ (length s) (read_operation w (drop p.at s)) e
 
-  pub operation_none : operation_at w s p ≡ decoded.Bad → read_operation w (drop p.at s) ≡ none
+  pub operation_none : operation_at w s p ≡ None → read_operation w (drop p.at s) ≡ none
   unfolding operation_at
-  operation_none e = decoded_none p _ (length s) (read_operation w (drop p.at s)) e
+  operation_none e = read_none p _ (length s) (read_operation w (drop p.at s)) e

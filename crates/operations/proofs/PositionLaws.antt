@@ -9,13 +9,12 @@ use lib.ListN.{length, drop, length-drop}
 use lib.Seq.{drop-drop}
 use lib.Dec.{ltb, eqb}
 use lib.IntN.{ℤ}
+use Rattle.std.specs.Prelude.{Some, None}
 use Rattle.format.specs.Prelude.{pick, Read, next}
 use Rattle.format.specs.Leb.{uleb, sleb, read_little, read_uleb_f, read_uleb, push, last7, read_sleb_f, fits64, read_sleb}
 use Rattle.format.specs.Shortest.{Number, unsigned, signed, shortest, read_mark, marked, numbers_short}
-use Rattle.operations.specs.Positions.{past, unsigned_from, signed_from, uleb_at, sleb_at, little_at}
+use Rattle.operations.specs.Positions.{past, read_from, uleb_at, sleb_at, little_at}
 use Rattle.operations.specs.declared.fields.Position.{Position}
-use Rattle.operations.specs.declared.fields.Unsigned.TheVariants as unsignedCase
-use Rattle.operations.specs.declared.fields.Signed.TheVariants as signedCase
 
 -- ---- what a reader takes: where it reads something, at least lo and at most hi bytes of bs, and the rest is left
 
@@ -120,51 +119,34 @@ module _ (p : Position) (b : Bool) (n : ℕ) {q : Position} (e : past p b n ≡ 
   pub past_is : Past p b q
   past_is = record { is = ap (past p b) (sym past_at) ∙ e }
 
-module _ {lo hi : ℕ} (byte : 0 < lo) (s : List ℕ) (p : Position) (b : Bool) where
-  pub unsigned_ahead : {r : Read ℕ} {v : ℕ} {q : Position} → Takes lo hi (drop p.at s) r → unsigned_from p b (length s) r ≡ unsignedCase.Value v q
-      → Ahead lo hi s p.at q.at r v
-  unfolding unsigned_from
-  unsigned_ahead nothing e = let z : ◌≡◌ {A = ℕ} 0 1 = cc in absurd (omega arith)
-  unsigned_ahead {v = v} {q = q} (taken n w l h m) e =
-      let i : past p b (length s - length (drop n (drop p.at s))) ≡ q = cc in
-      ahead byte s p.at n w v q.at l h m (cc) (past_at p b _ i)
+-- what was read, and the position past it
+pub both_are : {A B : Type 0} {x y : A × B} → Some x ≡ Some y → (x.0 ≡ y.0) × (x.1 ≡ y.1)
+both_are {A} {B} {x} {y} e = let i : x ≡ y = cc in (ap (λ (z : A × B). z.0) i, ap (λ (z : A × B). z.1) i)
 
-  pub signed_ahead : {r : Read ℤ} {v : ℤ} {q : Position} → Takes lo hi (drop p.at s) r → signed_from p b (length s) r ≡ signedCase.Value v q
-      → Ahead lo hi s p.at q.at r v
-  unfolding signed_from
-  signed_ahead nothing e = let z : ◌≡◌ {A = ℕ} 0 1 = cc in absurd (omega arith)
-  signed_ahead {v = v} {q = q} (taken n w l h m) e =
-      let i : past p b (length s - length (drop n (drop p.at s))) ≡ q = cc in
-      ahead byte s p.at n w v q.at l h m (cc) (past_at p b _ i)
+pub read_ahead : {A : Type 0} {lo hi : ℕ} (byte : 0 < lo) (s : List ℕ) (p : Position) (b : Bool) {r : Read A} {v : A} {q : Position}
+    → Takes lo hi (drop p.at s) r → read_from p b (length s) r ≡ Some (v, q) → Ahead lo hi s p.at q.at r v
+unfolding read_from
+read_ahead byte s p b nothing e = let z : ◌≡◌ {A = ℕ} 0 1 = cc in absurd (omega arith)
+read_ahead byte s p b {v = v} {q = q} (taken n w l h m) e = ahead byte s p.at n w v q.at l h m (both_are e).0 (past_at p b _ (both_are e).1)
 
-module _ (p : Position) (b : Bool) (size : ℕ) where
-  pub unsigned_past : (r : Read ℕ) {v : ℕ} {q : Position} → unsigned_from p b size r ≡ unsignedCase.Value v q → Past p b q
-  unfolding unsigned_from
-  unsigned_past none e = let z : ◌≡◌ {A = ℕ} 0 1 = cc in absurd (omega arith)
-  unsigned_past (some x) {q = q} e = let i : past p b (size - length x.1) ≡ q = cc in past_is p b _ i
+module _ {A : Type 0} (p : Position) (b : Bool) (size : ℕ) where
+  pub read_past : (r : Read A) {v : A} {q : Position} → read_from p b size r ≡ Some (v, q) → Past p b q
+  unfolding read_from
+  read_past none e = let z : ◌≡◌ {A = ℕ} 0 1 = cc in absurd (omega arith)
+  read_past (some x) e = past_is p b _ (both_are e).1
 
-  pub signed_past : (r : Read ℤ) {v : ℤ} {q : Position} → signed_from p b size r ≡ signedCase.Value v q → Past p b q
-  unfolding signed_from
-  signed_past none e = let z : ◌≡◌ {A = ℕ} 0 1 = cc in absurd (omega arith)
-  signed_past (some x) {q = q} e = let i : past p b (size - length x.1) ≡ q = cc in past_is p b _ i
-
-  pub unsigned_none : (r : Read ℕ) → unsigned_from p b size r ≡ unsignedCase.Bad → r ≡ none
-  unfolding unsigned_from
-  unsigned_none none e = refl
-  unsigned_none (some x) e = let z : ◌≡◌ {A = ℕ} 0 1 = cc in absurd (omega arith)
-
-  pub signed_none : (r : Read ℤ) → signed_from p b size r ≡ signedCase.Bad → r ≡ none
-  unfolding signed_from
-  signed_none none e = refl
-  signed_none (some x) e = let z : ◌≡◌ {A = ℕ} 0 1 = cc in absurd (omega arith)
+  pub read_none : (r : Read A) → read_from p b size r ≡ None → r ≡ none
+  unfolding read_from
+  read_none none e = refl
+  read_none (some x) e = let z : ◌≡◌ {A = ℕ} 0 1 = cc in absurd (omega arith)
 
 -- ---- what the callers of the readers know: the position past, what the rest of the definition reads, and a refusal
 
 module _ (s : List ℕ) (p : Position) where
-  module _ {v : ℕ} {q : Position} (e : uleb_at s p ≡ unsignedCase.Value v q) where
+  module _ {v : ℕ} {q : Position} (e : uleb_at s p ≡ Some (v, q)) where
     uleb_there : Ahead 1 10 s p.at q.at (read_uleb (drop p.at s)) v
     unfolding uleb_at
-    uleb_there = unsigned_ahead (omega arith) s p _ (takes_uleb (drop p.at s)) e
+    uleb_there = read_ahead (omega arith) s p _ (takes_uleb (drop p.at s)) e
 
     pub uleb_ahead : (p.at < q.at) × (q.at ≤ length s)
     uleb_ahead = (omega (arith, uleb_there.least), uleb_there.inside)
@@ -174,16 +156,16 @@ module _ (s : List ℕ) (p : Position) where
 
     pub uleb_past : Past p (numbers_short (unsigned ∷ []) (drop p.at s)) q
     unfolding uleb_at
-    uleb_past = unsigned_past p _ (length s) (read_uleb (drop p.at s)) e
+    uleb_past = read_past p _ (length s) (read_uleb (drop p.at s)) e
 
-  pub uleb_none : uleb_at s p ≡ unsignedCase.Bad → read_uleb (drop p.at s) ≡ none
+  pub uleb_none : uleb_at s p ≡ None → read_uleb (drop p.at s) ≡ none
   unfolding uleb_at
-  uleb_none e = unsigned_none p _ (length s) (read_uleb (drop p.at s)) e
+  uleb_none e = read_none p _ (length s) (read_uleb (drop p.at s)) e
 
-  module _ {v : ℤ} {q : Position} (e : sleb_at s p ≡ signedCase.Value v q) where
+  module _ {v : ℤ} {q : Position} (e : sleb_at s p ≡ Some (v, q)) where
     sleb_there : Ahead 1 10 s p.at q.at (read_sleb (drop p.at s)) v
     unfolding sleb_at
-    sleb_there = signed_ahead (omega arith) s p _ (takes_sleb (drop p.at s)) e
+    sleb_there = read_ahead (omega arith) s p _ (takes_sleb (drop p.at s)) e
 
     pub sleb_ahead : (p.at < q.at) × (q.at ≤ length s)
     sleb_ahead = (omega (arith, sleb_there.least), sleb_there.inside)
@@ -193,17 +175,17 @@ module _ (s : List ℕ) (p : Position) where
 
     pub sleb_past : Past p (numbers_short (signed ∷ []) (drop p.at s)) q
     unfolding sleb_at
-    sleb_past = signed_past p _ (length s) (read_sleb (drop p.at s)) e
+    sleb_past = read_past p _ (length s) (read_sleb (drop p.at s)) e
 
-  pub sleb_none : sleb_at s p ≡ signedCase.Bad → read_sleb (drop p.at s) ≡ none
+  pub sleb_none : sleb_at s p ≡ None → read_sleb (drop p.at s) ≡ none
   unfolding sleb_at
-  sleb_none e = signed_none p _ (length s) (read_sleb (drop p.at s)) e
+  sleb_none e = read_none p _ (length s) (read_sleb (drop p.at s)) e
 
   -- a field of no bytes past the end is read as 0, at the end: so k is not 0
-  module _ {k v : ℕ} {q : Position} (byte : 0 < k) (e : little_at k s p ≡ unsignedCase.Value v q) where
+  module _ {k v : ℕ} {q : Position} (byte : 0 < k) (e : little_at k s p ≡ Some (v, q)) where
     little_there : Ahead k k s p.at q.at (read_little k (drop p.at s)) v
     unfolding little_at
-    little_there = unsigned_ahead byte s p true (takes_little k (drop p.at s)) e
+    little_there = read_ahead byte s p true (takes_little k (drop p.at s)) e
 
     pub little_ahead : (p.at + k ≡ q.at) × (q.at ≤ length s)
     little_ahead = (omega (arith, little_there.least, little_there.most), little_there.inside)
@@ -213,11 +195,11 @@ module _ (s : List ℕ) (p : Position) where
 
     pub little_past : Past p true q
     unfolding little_at
-    little_past = unsigned_past p true (length s) (read_little k (drop p.at s)) e
+    little_past = read_past p true (length s) (read_little k (drop p.at s)) e
 
-  pub little_none : (k : ℕ) → little_at k s p ≡ unsignedCase.Bad → read_little k (drop p.at s) ≡ none
+  pub little_none : (k : ℕ) → little_at k s p ≡ None → read_little k (drop p.at s) ≡ none
   unfolding little_at
-  little_none k e = unsigned_none p true (length s) (read_little k (drop p.at s)) e
+  little_none k e = read_none p true (length s) (read_little k (drop p.at s)) e
 
 -- ---- marks of numbers one behind the other
 
@@ -250,16 +232,16 @@ module _ (s : List ℕ) (p : Position) where
       ∙ sym (and_assoc p.shortest (numbers_short (n ∷ []) (drop p.at s)) (numbers_short ns (drop q.at s)))
       ∙ ap (λ (b : Bool). b && numbers_short ns (drop q.at s)) (sym (past_mark i))
 
-  pub uleb_on : {v : ℕ} {q : Position} → uleb_at s p ≡ unsignedCase.Value v q → (ns : List Number)
+  pub uleb_on : {v : ℕ} {q : Position} → uleb_at s p ≡ Some (v, q) → (ns : List Number)
       → (p.shortest && numbers_short (unsigned ∷ ns) (drop p.at s)) ≡ (q.shortest && numbers_short ns (drop q.at s))
   unfolding read_mark shortest next
   uleb_on {v} {q} e ns = mark_on unsigned {m = eqb (length (drop p.at s) - length (drop q.at s)) (length (uleb v))} (rw (uleb_rest s p e)) (uleb_past s p e) ns
 
-  pub sleb_on : {v : ℤ} {q : Position} → sleb_at s p ≡ signedCase.Value v q → (ns : List Number)
+  pub sleb_on : {v : ℤ} {q : Position} → sleb_at s p ≡ Some (v, q) → (ns : List Number)
       → (p.shortest && numbers_short (signed ∷ ns) (drop p.at s)) ≡ (q.shortest && numbers_short ns (drop q.at s))
   unfolding read_mark shortest next
   sleb_on {v} {q} e ns = mark_on signed {m = eqb (length (drop p.at s) - length (drop q.at s)) (length (sleb v))} (rw (sleb_rest s p e)) (sleb_past s p e) ns
 
 -- a field has no mark
-pub little_kept : (s : List ℕ) (p : Position) {k v : ℕ} {q : Position} → 0 < k → little_at k s p ≡ unsignedCase.Value v q → q.shortest ≡ p.shortest
+pub little_kept : (s : List ℕ) (p : Position) {k v : ℕ} {q : Position} → 0 < k → little_at k s p ≡ Some (v, q) → q.shortest ≡ p.shortest
 little_kept s p h e = past_mark (little_past s p h e) ∙ and-true p.shortest

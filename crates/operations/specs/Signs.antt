@@ -1,10 +1,8 @@
 -- Signed numbers by sign and magnitude: n, or its complement -(n + 1).
-use Rattle.std.specs.Prelude.{ℕ, ◌+◌, ◌-◌, ◌*◌, ◌^◌, Bool, true, false, ltb, eqb, length, ℤ, pos, negsuc}
+use Rattle.std.specs.Prelude.{ℕ, ◌+◌, ◌-◌, ◌*◌, ◌^◌, Bool, true, false, ltb, eqb, length, ℤ, pos, negsuc, Option, Some, None}
 use Rattle.format.specs.Prelude.{pick}
 use Rattle.format.specs.Leb.{sleb}
 use Rattle.operations.specs.declared.fields.Position.{Position}
-use Rattle.operations.specs.declared.fields.Signed.{Signed}
-use Rattle.operations.specs.declared.fields.Signed.TheVariants.{Value, Bad}
 use Rattle.operations.specs.Positions.{past}
 
 unfoldable pub signed : Bool → ℕ → ℤ
@@ -12,12 +10,12 @@ signed false n = pos n
 signed true n = negsuc n
 
 -- a number that was read from p to `end`
-unfoldable pub spelled_to : ℤ → Position → (end : ℕ) → Signed
-spelled_to z p end = Value z (past p (eqb (end - p.at) (length (sleb z))) end)
+unfoldable pub spelled_to : ℤ → Position → (end : ℕ) → Option (ℤ × Position)
+spelled_to z p end = Some (z, past p (eqb (end - p.at) (length (sleb z))) end)
 
 -- what is read, where 64 bits hold it
-unfoldable pub held : Bool → ℕ → Position → (end : ℕ) → Signed
-held neg n p end = pick (ltb n (2 ^ 63)) (spelled_to (signed neg n) p end) Bad
+unfoldable pub held : Bool → ℕ → Position → (end : ℕ) → Option (ℤ × Position)
+held neg n p end = pick (ltb n (2 ^ 63)) (spelled_to (signed neg n) p end) None
 
 -- what the groups that make a, below the scale s, add to what is read past them
 unfoldable pub under : ℕ → ℕ → ℤ → ℤ

@@ -1,8 +1,6 @@
 // Numbers read out of a slice: LEB numbers, with whether they are spelled shortest, and fields of a fixed width. Each reading leaf takes a
 // position by value and gives the position past what it read.
 ghost use Rattle.std.specs.Prelude.{◌≡◌, ◌+◌, ◌-◌, ◌*◌, ◌^◌, ◌≤◌, ◌<◌, eqb, length};
-ghost use Rattle.format.specs.Leb.{uleb};
-ghost use Rattle.operations.specs.declared.fields.Unsigned.TheVariants.{Value};
 ghost use Rattle.operations.specs.Positions.{uleb_at, sleb_at, little_at, past};
 ghost use Rattle.operations.specs.Signs.{signed, spelled_to, held};
 ghost use Rattle.operations.specs.Groups.{GroupsAt};
@@ -22,48 +20,41 @@ impl Position {
     };
 }
 
-// A number that was read, and the position past it.
-#[derive(Clone, Copy)]
-pub enum Unsigned {
-    Value(u64, Position),
-    Bad,
-}
-
-#[derive(Clone, Copy)]
-pub enum Signed {
-    Value(i64, Position),
-    Bad,
-}
-
 // A LEB number's last byte, the count of the groups before it, the scale that they stand below, what they make, and the place past the number.
 #[derive(Clone, Copy)]
-enum Groups {
-    Last(u64, u64, u64, u64, usize),
-    Bad,
+struct Groups {
+    top: u64,
+    count: usize,
+    scale: u64,
+    low: u64,
+    end: usize,
 }
 
 // The bytes of a LEB number: ten at most, and the last is below 128.
-fn last_byte(s: &[u8], at: usize) -> Groups
+fn last_byte(s: &[u8], at: usize) -> Option<Groups>
     ensures { GroupsAt s.now at result }
 {
-    let mut i = at;
-    let mut k = 0u64;
     let mut scale = 1u64;
     let mut acc = 0u64;
-    while i < s.len() {
+    for i in at..s.len() {
+        let k = i - at;
         let b = leb::wide(s[i]);
         if b < 128 {
-            return Groups::Last(b, k, scale, acc, i + 1);
+            return Some(Groups {
+                top: b,
+                count: k,
+                scale,
+                low: acc,
+                end: i + 1,
+            });
         }
         if k == 9 {
-            return Groups::Bad;
+            return None;
         }
         acc = (b - 128) * scale + acc;
         scale = scale * 128;
-        k += 1;
-        i += 1;
     }
-    Groups::Bad
+    None
 }
 
 // The position `end`, past a number from `at` on that `size` bytes would hold.
@@ -71,40 +62,22 @@ fn past(at: Position, end: usize, size: usize) -> Position
     requires { at.at ≤ end }
     ensures { result ≡ past at (eqb (end - at.at) size) end }
 {
-    if end - at.at == size {
-        return Position {
-            at: end,
-            shortest: at.shortest,
-        };
-    }
     Position {
         at: end,
-        shortest: false,
+        shortest: at.shortest && end - at.at == size,
     }
 }
 
-// A number that was read, from `at` to `end`.
-fn unsigned_value(v: u64, at: Position, end: usize) -> Unsigned
-    requires { at.at ≤ end }
-    ensures { result ≡ Value v (past at (eqb (end - at.at) (length (uleb v))) end) }
-{
-    Unsigned::Value(v, past(at, end, leb::uleb_size(v)))
-}
-
-// The unsigned LEB number at `at`, of ten bytes at most and below 2^64.
-pub fn read_uleb(s: &[u8], at: Position) -> Unsigned
+// The unsigned LEB number at `at`, of ten bytes at most and below 2^64, and the position past it.
+pub fn read_uleb(s: &[u8], at: Position) -> Option<(u64, Position)>
     ensures { result ≡ uleb_at s.now at }
 {
-    let Groups::Last(b, k, scale, acc, end) = last_byte(s, at.at) else {
-        return Unsigned::Bad;
-    };
-    if k == 9 {
-        if b < 2 {
-            return unsigned_value(b * scale + acc, at, end);
-        }
-        return Unsigned::Bad;
+    let g = last_byte(s, at.at)?;
+    if g.count == 9 && 2 <= g.top {
+        return None;
     }
-    unsigned_value(b * scale + acc, at, end)
+    let v = g.top * g.scale + g.low;
+    Some((v, past(at, g.end, leb::uleb_size(v))))
 }
 
 // m, or -(m + 1) where neg is true.
@@ -116,50 +89,42 @@ fn signed_of(neg: bool, m: u64) -> i64
 }
 
 // A number that was read, from `at` to `end`.
-fn signed_value(v: i64, at: Position, end: usize) -> Signed
+fn signed_value(v: i64, at: Position, end: usize) -> Option<(i64, Position)>
     requires { at.at ≤ end }
     ensures { result ≡ spelled_to v at end }
 {
-    Signed::Value(v, past(at, end, leb::sleb_size(v)))
+    Some((v, past(at, end, leb::sleb_size(v))))
 }
 
-// What is read where the last group is `top` and the k groups before it make `low`: the tenth byte holds a sign alone.
-fn signed_past(
-    neg: bool,
-    top: u64,
-    k: u64,
-    scale: u64,
-    low: u64,
-    at: Position,
-    end: usize,
-) -> Signed
-    requires { (k ≤ 9) × (scale ≡ 128 ^ k) × (top < 64) × (low < scale) × (at.at ≤ end) }
-    ensures { result ≡ held neg (top * scale + low) at end }
+// What is read where the groups are turned: the tenth byte holds a sign alone.
+fn signed_past(neg: bool, g: Groups, at: Position) -> Option<(i64, Position)>
+    requires { (g.count ≤ 9) × (g.scale ≡ 128 ^ g.count) × (g.top < 64) × (g.low < g.scale) × (at.at ≤ g.end) }
+    ensures { result ≡ held neg (g.top * g.scale + g.low) at g.end }
 {
-    if k == 9 {
-        if 0 < top {
-            return Signed::Bad;
-        }
-        return signed_value(signed_of(neg, low), at, end);
+    if g.count == 9 && 0 < g.top {
+        return None;
     }
-    signed_value(signed_of(neg, top * scale + low), at, end)
+    signed_value(signed_of(neg, g.top * g.scale + g.low), at, g.end)
 }
 
-// The signed LEB number at `at`, of ten bytes at most and of 64 bits.
-pub fn read_sleb(s: &[u8], at: Position) -> Signed
+// The signed LEB number at `at`, of ten bytes at most and of 64 bits, and the position past it.
+pub fn read_sleb(s: &[u8], at: Position) -> Option<(i64, Position)>
     ensures { result ≡ sleb_at s.now at }
 {
-    let Groups::Last(b, k, scale, acc, end) = last_byte(s, at.at) else {
-        return Signed::Bad;
-    };
-    if b < 64 {
-        return signed_past(false, b, k, scale, acc, at, end);
+    let g = last_byte(s, at.at)?;
+    if g.top < 64 {
+        return signed_past(false, g, at);
     }
-    signed_past(true, 127 - b, k, scale, scale - 1 - acc, at, end)
+    let turned = Groups {
+        top: 127 - g.top,
+        low: g.scale - 1 - g.low,
+        ..g
+    };
+    signed_past(true, turned, at)
 }
 
-// The field of n bytes at `at`, the lowest first: it is read from its end.
-pub fn read_le(s: &[u8], at: Position, n: usize) -> Unsigned
+// The field of n bytes at `at`, the lowest first, and the position past it: it is read from its end.
+pub fn read_le(s: &[u8], at: Position, n: usize) -> Option<(u64, Position)>
     requires { n ≤ 8 }
     ensures { result ≡ little_at n s.now at }
 {
@@ -167,18 +132,18 @@ pub fn read_le(s: &[u8], at: Position, n: usize) -> Unsigned
     let shortest = at.shortest;
     if s.len() < from {
         if n == 0 {
-            return Unsigned::Value(
+            return Some((
                 0,
                 Position {
                     at: s.len(),
                     shortest,
                 },
-            );
+            ));
         }
-        return Unsigned::Bad;
+        return None;
     }
     if s.len() - from < n {
-        return Unsigned::Bad;
+        return None;
     }
     let mut left = n;
     let mut acc = 0u64;
@@ -187,11 +152,11 @@ pub fn read_le(s: &[u8], at: Position, n: usize) -> Unsigned
         let b = leb::wide(s[from + left]);
         acc = acc * 256 + b;
     }
-    Unsigned::Value(
+    Some((
         acc,
         Position {
             at: from + n,
             shortest,
         },
-    )
+    ))
 }

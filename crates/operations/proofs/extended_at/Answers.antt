@@ -4,7 +4,7 @@ use borrow.Author.Tests.{ne_eqb}
 use Rattle.format.specs.Prelude.{pick}
 use Rattle.format.specs.Rows.{read_extended}
 use Rattle.format.specs.Shortest.{extended_operands, numbers_short}
-use Rattle.operations.specs.Positions.{decoded_from}
+use Rattle.operations.specs.Positions.{read_from}
 use Rattle.format.specs.declared.Row.TheVariants.{RememberState, RestoreState, NegateRaState}
 use Rattle.format.specs.declared.Operation.TheVariants.{Nop, Does}
 use Rattle.operations.specs.Reads.{read_operand, operand_number, register_row, pair_row, step_at, register_row_at, offset_row_at, pair_row_at, in_register_at, extended_at}
@@ -84,7 +84,7 @@ unfolding extended_at read_extended extended_operands numbers_short pick
 returns-in-45 c = rw c.in-45.is (sym (here c.args.s.now c.args.at (Does NegateRaState) c.requires.1))
 
 pub returns-in_default : goal.returns-in_default
-unfolding extended_at read_extended extended_operands numbers_short pick decoded_from
+unfolding extended_at read_extended extended_operands numbers_short pick read_from
 returns-in_default c =
     let n = c.in_default.in_default-own.rest in
     let b = c.args.b in

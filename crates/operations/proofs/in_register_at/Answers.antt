@@ -4,27 +4,27 @@ use native.Mathlib.Omega.{arith}
 use Rattle.operations.proofs.Operations.{in_register_unnamed, in_register_none, in_register_some, register_small}
 use Rattle.operations.proofs.in_register_at.Goals as goal
 
-pub returns-in_default : goal.returns-in_default
-returns-in_default c =
+pub returns-in_err-reg : goal.returns-in_err-reg
+returns-in_err-reg c =
     let a = c.args in
-    sym (in_register_unnamed a.s.now a.at (sym c.register_at.ensures ∙ c.in_default.is))
+    c.from_residual.ensures ∙ sym (in_register_unnamed a.s.now a.at (sym c.in_err-reg.ensures))
 
-pub returns-in_default-register_at : goal.returns-in_default-register_at
-returns-in_default-register_at c =
+pub returns-in_err-other : goal.returns-in_err-other
+returns-in_err-other c =
     let a = c.args in
-    sym (in_register_none a.s.now a.at (sym c.register_at.ensures ∙ c.in-Value.is) (sym c.register_at-2.ensures ∙ c.in_default-register_at.is))
+    c.from_residual-in_err-other.ensures ∙ sym (in_register_none a.s.now a.at (sym c.in_ok-reg.ensures) (sym c.in_err-other.ensures))
 
 pub overflow_cast-result : goal.overflow_cast-result
 overflow_cast-result c =
     let a = c.args in
-    record { fits = omega (arith, register_small a.s.now a.at (sym c.register_at.ensures ∙ c.in-Value.is)) }
+    record { fits = omega (arith, register_small a.s.now a.at (sym c.in_ok-reg.ensures)) }
 
 pub overflow_cast-result-2 : goal.overflow_cast-result-2
 overflow_cast-result-2 c =
     let a = c.args in
-    record { fits = omega (arith, register_small a.s.now c.in-Value.next (sym c.register_at-2.ensures ∙ c.in-Value-register_at.is)) }
+    record { fits = omega (arith, register_small a.s.now c.in_ok-reg.next (sym c.in_ok-other.ensures)) }
 
 pub returns : goal.returns
 returns c =
     let a = c.args in
-    sym (in_register_some a.s.now a.at (sym c.register_at.ensures ∙ c.in-Value.is) (sym c.register_at-2.ensures ∙ c.in-Value-register_at.is))
+    sym (in_register_some a.s.now a.at (sym c.in_ok-reg.ensures) (sym c.in_ok-other.ensures))

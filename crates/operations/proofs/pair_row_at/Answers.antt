@@ -5,16 +5,16 @@ use Rattle.rows.proofs.Signs.{passed}
 use Rattle.operations.proofs.Operations.{pair_unnamed, pair_none, pair_some, register_small}
 use Rattle.operations.proofs.pair_row_at.Goals as goal
 
-pub returns-in_default : goal.returns-in_default
-returns-in_default c = sym (pair_unnamed c.args.s.now c.args.at c.args.word c.args.b (sym c.register_at.ensures ∙ c.in_default.is))
+pub returns-in_err-reg : goal.returns-in_err-reg
+returns-in_err-reg c = c.from_residual.ensures ∙ sym (pair_unnamed c.args.s.now c.args.at c.args.word c.args.b (sym c.in_err-reg.ensures))
 
-pub returns-in_default-operand_at : goal.returns-in_default-operand_at
-returns-in_default-operand_at c = sym (pair_none c.args.s.now c.args.at (sym c.register_at.ensures ∙ c.in-Value.is) c.args.word c.args.b (sym c.operand_at.ensures ∙ c.in_default-operand_at.is))
+pub returns-in_err-z : goal.returns-in_err-z
+returns-in_err-z c = c.from_residual-in_err-z.ensures ∙ sym (pair_none c.args.s.now c.args.at (sym c.in_ok-reg.ensures) c.args.word c.args.b (sym c.in_err-z.ensures))
 
 pub overflow_cast-reg : goal.overflow_cast-reg
-overflow_cast-reg c = record { fits = omega (arith, register_small c.args.s.now c.args.at (sym c.register_at.ensures ∙ c.in-Value.is)) }
+overflow_cast-reg c = record { fits = omega (arith, register_small c.args.s.now c.args.at (sym c.in_ok-reg.ensures)) }
 
 pub returns : goal.returns
 returns c =
-    let e = rw (passed c.in-Value-operand_at.z (omega (arith, c.in-Value-operand_at.known_told-in-Value-operand_at-1-own.given))) at c.pair_row.ensures in
-    rw e (sym (pair_some c.args.s.now c.args.at (sym c.register_at.ensures ∙ c.in-Value.is) c.args.word c.args.b (sym c.operand_at.ensures ∙ c.in-Value-operand_at.is)))
+    let e = rw (passed c.in_ok-z.z (omega (arith, c.in_ok-z.known_told-in-Continue-branch-2-1-own.given))) at c.pair_row.ensures in
+    rw e (sym (pair_some c.args.s.now c.args.at (sym c.in_ok-reg.ensures) c.args.word c.args.b (sym c.in_ok-z.ensures)))

@@ -6,13 +6,13 @@ use Rattle.operations.proofs.Operations.{plain_none, plain_held}
 use Rattle.operations.proofs.Products.{held_above, over_above}
 use Rattle.operations.proofs.plain_at.Goals as goal
 
-pub returns-in_default : goal.returns-in_default
-returns-in_default c = sym (plain_none c.args.s.now c.args.at (sym c.read_uleb.ensures ∙ c.in_default.is))
+pub returns-in_err-v : goal.returns-in_err-v
+returns-in_err-v c = c.from_residual.ensures ∙ sym (plain_none c.args.s.now c.args.at (sym c.in_err-v.ensures))
 
 pub returns-then-v-lt9223372036854775808 : goal.returns-then-v-lt9223372036854775808
 returns-then-v-lt9223372036854775808 c =
-    let e = plain_held c.args.s.now c.args.at (sym c.read_uleb.ensures ∙ c.in-Value.is) ∙ held_above c.in-Value.v c.in-Value.past c.if-v-lt9223372036854775808.true in
-    rw (to_z_pos w64 {n = c.in-Value.v} c.if-v-lt9223372036854775808.true) (sym e)
+    let e = plain_held c.args.s.now c.args.at (sym c.in_ok-v.ensures) ∙ held_above c.in_ok-v.v c.in_ok-v.past c.if-v-lt9223372036854775808.true in
+    rw (to_z_pos w64 {n = c.in_ok-v.v} c.if-v-lt9223372036854775808.true) (sym e)
 
 pub returns : goal.returns
-returns c = sym (plain_held c.args.s.now c.args.at (sym c.read_uleb.ensures ∙ c.in-Value.is) ∙ over_above c.in-Value.v c.in-Value.past c.if-v-lt9223372036854775808.false)
+returns c = sym (plain_held c.args.s.now c.args.at (sym c.in_ok-v.ensures) ∙ over_above c.in_ok-v.v c.in_ok-v.past c.if-v-lt9223372036854775808.false)

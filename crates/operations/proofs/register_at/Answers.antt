@@ -3,11 +3,11 @@ use mathlib.Core.Path.{sym, ◌∙◌}
 use Rattle.operations.proofs.Operations.{register_none, register_held, register_over}
 use Rattle.operations.proofs.register_at.Goals as goal
 
-pub returns-in_default : goal.returns-in_default
-returns-in_default c = sym (register_none c.args.s.now c.args.at (sym c.read_uleb.ensures ∙ c.in_default.is))
+pub returns-in_err-v : goal.returns-in_err-v
+returns-in_err-v c = c.from_residual.ensures ∙ sym (register_none c.args.s.now c.args.at (sym c.in_err-v.ensures))
 
 pub returns-then-v-le65535 : goal.returns-then-v-le65535
-returns-then-v-le65535 c = sym (register_held c.args.s.now c.args.at (sym c.read_uleb.ensures ∙ c.in-Value.is) c.if-v-le65535.true)
+returns-then-v-le65535 c = sym (register_held c.args.s.now c.args.at (sym c.in_ok-v.ensures) c.if-v-le65535.true)
 
 pub returns : goal.returns
-returns c = sym (register_over c.args.s.now c.args.at (sym c.read_uleb.ensures ∙ c.in-Value.is) c.if-v-le65535.false)
+returns c = sym (register_over c.args.s.now c.args.at (sym c.in_ok-v.ensures) c.if-v-le65535.false)

@@ -10,22 +10,22 @@ use Rattle.operations.proofs.Operations.{signed_none, signed_held}
 use Rattle.operations.proofs.Products.{above_words}
 use Rattle.operations.proofs.signed_at.Goals as goal
 
-pub returns-in_default : goal.returns-in_default
-returns-in_default c = sym (signed_none c.args.s.now c.args.at c.args.word (sym c.read_sleb.ensures ∙ c.in_default.is))
+pub returns-in_err-z : goal.returns-in_err-z
+returns-in_err-z c = c.from_residual.ensures ∙ sym (signed_none c.args.s.now c.args.at c.args.word (sym c.in_err-z.ensures))
 
 pub returns-then-z-lt0 : goal.returns-then-z-lt0
 returns-then-z-lt0 c =
-    let f : SFits w64 c.in-Value.z = record { sfits = omega (arith, c.in-Value.known_told-1-own.given) } in
+    let f : SFits w64 c.in_ok-z.z = record { sfits = omega (arith, c.in_ok-z.known_told-1-own.given) } in
     let n = rw (to_z-of_z f) at c.size.ensures.0 in
-    let e = above_words c.args.word c.in-Value.z (negative c.in-Value.z f c.if-z-lt0.true) in
-    (rw n at c.words_above.ensures) ∙ sym (rw e at (signed_held c.args.s.now c.args.at c.args.word (sym c.read_sleb.ensures ∙ c.in-Value.is)))
+    let e = above_words c.args.word c.in_ok-z.z (negative c.in_ok-z.z f c.if-z-lt0.true) in
+    (rw n at c.words_above.ensures) ∙ sym (rw e at (signed_held c.args.s.now c.args.at c.args.word (sym c.in_ok-z.ensures)))
 
 pub overflow_cast-z : goal.overflow_cast-z
-overflow_cast-z c = let f : SFits w64 c.in-Value.z = record { sfits = omega (arith, c.in-Value.known_told-1-own.given) } in same_cast c.in-Value.z f c.if-z-lt0.false
+overflow_cast-z c = let f : SFits w64 c.in_ok-z.z = record { sfits = omega (arith, c.in_ok-z.known_told-1-own.given) } in same_cast c.in_ok-z.z f c.if-z-lt0.false
 
 pub returns : goal.returns
 returns c =
-    let f : SFits w64 c.in-Value.z = record { sfits = omega (arith, c.in-Value.known_told-1-own.given) } in
-    let e = positive c.in-Value.z f c.if-z-lt0.false in
-    let m = same_is c.in-Value.z f c.if-z-lt0.false in
-    (rw (m, ← e) at c.words_below.ensures) ∙ sym (signed_held c.args.s.now c.args.at c.args.word (sym c.read_sleb.ensures ∙ c.in-Value.is))
+    let f : SFits w64 c.in_ok-z.z = record { sfits = omega (arith, c.in_ok-z.known_told-1-own.given) } in
+    let e = positive c.in_ok-z.z f c.if-z-lt0.false in
+    let m = same_is c.in_ok-z.z f c.if-z-lt0.false in
+    (rw (m, ← e) at c.words_below.ensures) ∙ sym (signed_held c.args.s.now c.args.at c.args.word (sym c.in_ok-z.ensures))

@@ -3,8 +3,8 @@ use mathlib.Core.Path.{sym, ◌∙◌}
 use Rattle.operations.proofs.Operations.{step_none, step_some}
 use Rattle.operations.proofs.step_at.Goals as goal
 
-pub returns-in_default : goal.returns-in_default
-returns-in_default c = sym (step_none c.args.s.now c.args.at c.args.n (sym c.read_le.ensures ∙ c.in_default.is))
+pub returns-in_err-v : goal.returns-in_err-v
+returns-in_err-v c = c.from_residual.ensures ∙ sym (step_none c.args.s.now c.args.at c.args.n (sym c.in_err-v.ensures))
 
 pub returns : goal.returns
-returns c = sym (step_some c.args.s.now c.args.at c.args.n c.requires.0 (sym c.read_le.ensures ∙ c.in-Value.is))
+returns c = sym (step_some c.args.s.now c.args.at c.args.n c.requires.0 (sym c.in_ok-v.ensures))

@@ -1,13 +1,13 @@
 -- `operations::fields::past` meets its contract.
-use mathlib.Core.Bool.{and-true, and-false}
-use borrow.Author.Tests.{eq-eqb, ne_eqb}
+use Rattle.std.proofs.Common.{rules}
 use Rattle.operations.specs.Positions.{past}
 use Rattle.operations.proofs.fields.past.Goals as goal
+use borrow.Author.Tests.{tests}
 
-pub returns-then-end-at : goal.returns-then-end-at
+pub returns-then-at : goal.returns-then-at
 unfolding past
-returns-then-end-at c = rw (eq-eqb _ _ c.if-end-at.true, and-true c.args.at.shortest)
+returns-then-at c = search (rules, tests)
 
-pub returns : goal.returns
+pub returns-else-at : goal.returns-else-at
 unfolding past
-returns c = rw (ne_eqb _ _ c.if-end-at.false, and-false c.args.at.shortest)
+returns-else-at c = search (rules, tests)
