@@ -1,5 +1,5 @@
 -- Sums that stop once they pass the most of records.
-use mathlib.Core.Path.{◌≡◌, refl, sym, ap, ◌∙◌}
+use mathlib.Core.Path.{◌≡◌, sym, ap, ◌∙◌}
 use Prim.Native.Nat.{ℕ, suc, ◌+◌, ◌-◌, ◌≤◌, ◌<◌}
 use native.Mathlib.Omega.{arith}
 use lib.Dec.{leb}
@@ -8,25 +8,46 @@ use Rattle.format.specs.Lists.{field, sum_of, most_records}
 use Rattle.format.proofs.Choice.{if-le, if-gt, either, is_true, is_yes_lem}
 use Rattle.arm64.specs.Lists.{function_stride, epilogue_stride}
 use Rattle.arm64.specs.Writer.{codes_in}
-use mathlib.Core.Bool.{true, false, ◌&&◌}
+use mathlib.Core.Bool.{true, ◌&&◌}
 use lib.Dec.{T}
 use mathlib.Core.Path.{subst}
 use Rattle.format.specs.Lists.{count, inside, symbol_ok, all_in}
 use Rattle.format.proofs.ListLaws.{in_range}
 use native.Mathlib.Nat.{zero-add}
-use Rattle.lists.proofs.Sums as sums
+use Rattle.std.specs.Prelude.{Option, Some, None}
+use Rattle.std.specs.Option.{unwrap_or, is_some}
+use Rattle.std.proofs.lemmas.Option.{none-some}
+use borrow.Author.Tests.{le-leb, lt-leb}
+use Rattle.format.specs.Prelude.{pick}
 use Rattle.lists.proofs.Answers.{reached}
 use Rattle.arm64.specs.Writer.{codes_ok_in, epilogue_ok_at, function_ok_at}
 use Rattle.arm64.proofs.MeaningLaws.{both_true}
 use Rattle.arm64_lists.specs.Sums.{up_to}
 
-pub up_low : (n : ℕ) → n ≤ most_records → n ≡ up_to n
+pub up_low : (n : ℕ) → n ≤ most_records → Some n ≡ up_to n
 unfolding up_to
 up_low n h = rw (if-le n most_records)
 
-pub up_high : (n : ℕ) → most_records < n → 1048577 ≡ up_to n
+pub up_high : (n : ℕ) → most_records < n → None ≡ up_to n
 unfolding up_to
 up_high n h = rw (if-gt n most_records)
+
+some_none : {n : ℕ} → Some n ≡ None → ⊥
+some_none {n} e = none-some n (sym e)
+
+some_same : {n m : ℕ} → Some n ≡ Some m → n ≡ m
+some_same e = ap (λ o. unwrap_or o 0) e
+
+pub up_some : {r : Option ℕ} {n m : ℕ} → r ≡ up_to n → r ≡ Some m → (m ≡ n) × (n ≤ most_records)
+up_some {r} {n} {m} e s =
+    either n most_records (λ l. (some_same (sym s ∙ e ∙ sym (up_low n l)), l)) λ l. absurd (some_none (sym s ∙ e ∙ sym (up_high n l)))
+
+pub up_none : {r : Option ℕ} {n : ℕ} → r ≡ up_to n → r ≡ None → most_records < n
+up_none {r} {n} e s = either n most_records (λ l. absurd (some_none (up_low n l ∙ sym e ∙ s))) λ l. l
+
+pub up_is : (n : ℕ) → is_some (up_to n) ≡ leb n most_records
+unfolding up_to pick
+up_is n = either n most_records (λ l. simp (le-leb n most_records l)) λ l. simp (lt-leb n most_records l)
 
 sum_first : (f : ℕ → ℕ) (i m : ℕ) → i < m → sum_of f i (m - i) ≡ f i + sum_of f (i + 1) (m - (i + 1))
 unfolding sum_of
@@ -47,50 +68,35 @@ pub adding : (f : ℕ → ℕ) (at n sum : ℕ) → sum ≤ most_records → Add
 adding f at n sum h =
     let e : n ≡ at + n - at = omega arith in record { low = omega arith; small = h; rest = ap (λ (k : ℕ). sum + sum_of f at k) e }
 
-module _ {f : ℕ → ℕ} {at n sum i total x : ℕ} (a : Adding f at n sum i total) (h : i < at + n) (e : x ≡ f i) where
-  pub add_turn : x ≤ most_records - total → Adding f at n sum (i + 1) (total + x)
-  add_turn l =
+module _ {f : ℕ → ℕ} {at n sum i total : ℕ} {r : Option ℕ} (a : Adding f at n sum i total) (h : i < at + n) (e : r ≡ up_to (total + f i)) where
+  pub add_turn : {t : ℕ} → r ≡ Some t → Adding f at n sum (i + 1) t
+  add_turn {t} s =
+      let w = up_some e s in
       record {
         low = omega (arith, a.low);
-        small = omega (arith, a.small, l);
-        rest = omega (arith, a.rest, sum_first f i (at + n) h, e);
+        small = omega (arith, w.0, w.1);
+        rest = omega (arith, a.rest, sum_first f i (at + n) h, w.0);
       }
 
-  pub add_stopped : most_records - total < x → 1048577 ≡ up_to (sum + sum_of f at n)
-  add_stopped l = up_high (sum + sum_of f at n) (omega (arith, a.rest, a.small, sum_first f i (at + n) h, e, l))
+  pub add_stopped : r ≡ None → None ≡ up_to (sum + sum_of f at n)
+  add_stopped s = up_high (sum + sum_of f at n) (omega (arith, a.rest, sum_first f i (at + n) h, up_none e s))
 
-pub add_ended : {f : ℕ → ℕ} {at n sum i total : ℕ} → Adding f at n sum i total → at + n ≤ i → total ≡ up_to (sum + sum_of f at n)
+pub add_ended : {f : ℕ → ℕ} {at n sum i total : ℕ} → Adding f at n sum i total → at + n ≤ i → Some total ≡ up_to (sum + sum_of f at n)
 add_ended {f} {at} {n} {sum} {i} {total} a h =
     let e : total ≡ sum + sum_of f at n = omega (arith, a.rest, sum_none f i (at + n) h) in
-    e ∙ up_low (sum + sum_of f at n) (omega (arith, a.small, e))
+    ap Some e ∙ up_low (sum + sum_of f at n) (omega (arith, a.small, e))
 
 module _ (fs es : List ℕ) (k sum : ℕ) where
-  pub function_over : most_records - sum < field function_stride fs k 3 → sum ≤ most_records → 1048577 ≡ up_to (sum + codes_in fs es k)
+  pub function_over : {r : Option ℕ} → r ≡ up_to (sum + field function_stride fs k 3) → r ≡ None → None ≡ up_to (sum + codes_in fs es k)
   unfolding codes_in
-  function_over h l = up_high _ (omega (arith, h, l))
+  function_over e s = up_high _ (omega (arith, up_none e s))
 
-  pub function_sum : up_to (sum + field function_stride fs k 3 + sum_of (λ i. field epilogue_stride es i 2) (field function_stride fs k 4) (field function_stride fs k 5))
-      ≡ up_to (sum + codes_in fs es k)
+  pub function_sum : {t : ℕ} → t ≡ sum + field function_stride fs k 3
+      → up_to (t + sum_of (λ i. field epilogue_stride es i 2) (field function_stride fs k 4) (field function_stride fs k 5)) ≡ up_to (sum + codes_in fs es k)
   unfolding codes_in
-  function_sum = let e : sum + field function_stride fs k 3 + sum_of (λ i. field epilogue_stride es i 2) (field function_stride fs k 4) (field function_stride fs k 5)
-      ≡ sum + (field function_stride fs k 3 + sum_of (λ i. field epilogue_stride es i 2) (field function_stride fs k 4) (field function_stride fs k 5)) = omega arith in ap up_to e
-
--- ---- the codes of all functions
-
-up_back : (s m : ℕ) → s ≡ up_to m → s ≤ most_records → s ≡ m
-up_back s m e h = either m most_records (λ l. e ∙ sym (up_low m l)) λ l. absurd (omega (arith, e, up_high m l, h))
-
-up_over : (s m : ℕ) → s ≡ up_to m → most_records < s → most_records < m
-up_over s m e h = either m most_records (λ l. absurd (omega (arith, e, up_low m l, h))) λ l. l
-
-module _ {f : ℕ → ℕ} {n k sum s : ℕ} (a : sums.Summing f n k sum) (h : k < n) (e : s ≡ up_to (sum + f k)) where
-  pub total_turn : s ≤ most_records → sums.Summing f n (k + 1) s
-  total_turn l =
-      let g : s ≡ sum + f k = up_back s (sum + f k) e l in
-      subst (λ (x : ℕ). sums.Summing f n (k + 1) x) (sym g) (sums.turn a h refl (omega (arith, g, l)))
-
-  pub total_stopped : most_records < s → false ≡ leb (sum_of f 0 n) most_records
-  total_stopped l = sums.stopped a h refl (omega (arith, up_over s (sum + f k) e l, a.small))
+  function_sum {t} g =
+      let e : t + sum_of (λ i. field epilogue_stride es i 2) (field function_stride fs k 4) (field function_stride fs k 5)
+      ≡ sum + (field function_stride fs k 3 + sum_of (λ i. field epilogue_stride es i 2) (field function_stride fs k 4) (field function_stride fs k 5)) = omega (arith, g) in ap up_to e
 
 -- ---- the ranges of functions that pass
 

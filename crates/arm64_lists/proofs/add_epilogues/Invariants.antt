@@ -1,4 +1,4 @@
-use Prim.Native.Nat.{ℕ, ◌-◌}
+use Prim.Native.Nat.{ℕ}
 use Rattle.format.specs.Lists.{field}
 use Rattle.arm64.specs.Lists.{epilogue_stride}
 use Rattle.arm64_lists.proofs.Totals.{Adding}
@@ -6,6 +6,3 @@ use Rattle.arm64_lists.proofs.add_epilogues.Given as goal
 
 abbrev pub invariant-loop-i : goal.invariant-loop-i
 invariant-loop-i l = Adding (λ (i : ℕ). field epilogue_stride l.es i 2) l.at l.n l.sum l.i l.total
-
-abbrev pub decreases-loop-i : goal.decreases-loop-i
-decreases-loop-i l = l.end - l.i

@@ -1,18 +1,13 @@
 -- `arm64_lists::codes_in` meets its contract.
-use mathlib.Core.Bool.{not}
-use mathlib.Core.Path.{ap}
-use Rattle.lists.proofs.Ranges.{start, turn, stopped, ended}
+use Rattle.std.proofs.Common.{rules, ◌∙◌, refl, arith}
+use Rattle.std.proofs.lemmas.Iterator.{YieldsList-from_range}
+use Rattle.std.proofs.lemmas.Iterator.Search.{all_from_yields_List}
+use borrow.Author.Tests.{tests}
+use Rattle.format.proofs.Asking.{all_in_range}
 use Rattle.arm64.specs.Writer.{code_ok_at}
 use Rattle.arm64_lists.proofs.codes_in.Goals as goal
 
-pub loop-i-init : goal.loop-i-init
-loop-i-init c = start (code_ok_at c.args.cs.now) c.args.at c.args.n
-
-pub returns-then-not-code_ok : goal.returns-then-not-code_ok
-returns-then-not-code_ok c = stopped c.loop-i.invariant c.loop-i-test.true c.code_ok.ensures (ap not c.if-not-code_ok.true)
-
-pub loop-i-preserved : goal.loop-i-preserved
-loop-i-preserved c = turn c.loop-i.invariant c.loop-i-test.true c.code_ok.ensures (ap not c.if-not-code_ok.false)
-
 pub returns : goal.returns
-returns c = ended c.loop-i.invariant c.loop-i-test.false
+returns c =
+    all_from_yields_List (code_ok_at c.args.cs.now) _ _ _ c.all.ensures.ran (YieldsList-from_range _ _ c.args.n refl (omega arith)) (λ x b q k. search (rules, tests))
+    ∙ all_in_range (code_ok_at c.args.cs.now) c.args.at c.args.n
