@@ -1,19 +1,21 @@
--- Every byte's form is one whose codes' numbers fit: a computed test of the 256.
+-- Every byte's form is one whose codes' numbers fit, a computed test of the 256; where a code that is read ends.
 use mathlib.Core.Path.{◌≡◌, subst}
 use mathlib.Core.Bool.{Bool, true, not}
+use mathlib.Core.Option.{some, none}
 use mathlib.Core.List.{List, [], ◌∷◌}
 use Prim.Native.Nat.{ℕ, ◌+◌, ◌*◌, ◌/◌, ◌%◌, ◌≤◌, ◌<◌}
 use native.Mathlib.Nat.{mul-le-mul, div-le_self, mod-lt}
 use native.Mathlib.Omega.{arith}
 use lib.Dec.{T, leb, eqb}
-use lib.ListN.{get_or}
+use lib.ListN.{length, get_or}
 use mir.Facts.{leb_yes, yes_eqb}
 use Rattle.format.specs.Prelude.{pick, each, all}
 use Rattle.format.specs.Lists.{all_in}
 use Rattle.format.proofs.ListLaws.{chain, chained, in_range}
 use Rattle.format.proofs.Choice.{not_both}
+use Rattle.arm64.specs.declared.Code.{Code}
 use Rattle.arm64.specs.declared.Form.{Form}
-use Rattle.arm64.specs.Codes.{form_of, short_form, integer_form, vector_form, other_form}
+use Rattle.arm64.specs.Codes.{form_of, short_form, integer_form, vector_form, other_form, code_as, code_at}
 use Rattle.arm64_codes.specs.Forms.{FormOk}
 
 abbrev tests : ℕ → Form → List Bool
@@ -48,6 +50,22 @@ pub form_ok : (b : ℕ) → b < 256 → FormOk b (form_of b)
 form_ok b h =
     let e : 0 + b ≡ b = omega arith in
     passed b (form_of b) (subst (λ (i : ℕ). T (form_test i)) e (in_range form_test 0 256 b form_tests h))
+
+-- ---- a code's bytes
+
+some_bytes : (b : ℕ) → 1 ≤ (form_of b).size
+unfolding form_of short_form integer_form vector_form other_form pick
+some_bytes b = grind arith
+
+module _ (s : List ℕ) (p : ℕ) where
+  pub code_past : length s ≤ p → code_at s p ≡ none
+  unfolding code_at pick
+  code_past h = grind arith
+
+  -- a code that is read lies inside, and the next place is behind it
+  pub ahead : {c : Code} {q : ℕ} → code_at s p ≡ some (c, q) → (p < q) × (q ≤ length s)
+  unfolding code_at code_as pick
+  ahead e = grind (arith, some_bytes)
 
 -- ---- a code's numbers fit
 

@@ -1,4 +1,2 @@
--- Laws behind the proofs of the functions.
-pub mod Spellings
+-- Laws of one code and its form.
 pub mod Formed
-pub mod OneCode
