@@ -1,3 +1,2 @@
 -- The lemmas of this crate's functions.
 pub mod Pointers
-pub mod Signs

@@ -4,8 +4,9 @@
 ghost use Rattle.std.specs.Prelude.{◌≡◌, ◌≤◌};
 ghost use Rattle.std.specs.Int.{w64};
 ghost use Rattle.std.proofs.Common.{of_z};
+ghost use Rattle.format.specs.Coded.{option_of};
 ghost use Rattle.format.specs.Machine.{is_word_size};
-ghost use Rattle.format.specs.Headers.{size_of, size_or0, pointer_size, pointer_bytes, header_id};
+ghost use Rattle.format.specs.Headers.{size_of, pointer_size, pointer_bytes, header_id};
 
 pub mod codes;
 pub mod encodings;
@@ -15,19 +16,15 @@ pub mod opcodes;
 pub mod uwop;
 
 // A machine's word has 2, 4 or 8 bytes.
+#[tactic(auto, unfolding(format::specs::Machine::is_word_size))]
 pub fn is_word(w: u64) -> bool
     ensures { result ≡ is_word_size w }
 {
-    if w == 2 {
-        return true;
-    }
-    if w == 4 {
-        return true;
-    }
-    w == 8
+    matches!(w, 2 | 4 | 8)
 }
 
 // What marks a header, in the field where a record has the place of its header.
+#[tactic(auto, unfolding(format::specs::Headers::header_id, format::specs::Prelude::pick))]
 pub fn header_id(debug: bool) -> u64
     ensures { result ≡ header_id debug }
 {
@@ -36,18 +33,19 @@ pub fn header_id(debug: bool) -> u64
 
 // ---- pointers by their encodings
 
-// The bytes of a pointer: 0 where the encoding is none that is written.
-fn size_of(word: u64, e: u64) -> u64
-    ensures { result ≡ size_or0 (size_of word e) }
+// The bytes of a pointer, where its encoding is one that is written.
+#[tactic(auto, unfolding(format::specs::Headers::size_of, format::specs::Prelude::pick))]
+fn size_of(word: u64, e: u64) -> Option<u64>
+    ensures { result ≡ option_of (size_of word e) }
 {
     match e {
-        encodings::DW_EH_PE_ABSPTR => word,
+        encodings::DW_EH_PE_ABSPTR => Some(word),
         encodings::DW_EH_PE_UDATA4
         | encodings::DW_EH_PE_SDATA4
         | encodings::PCREL_UDATA4
-        | encodings::PCREL_SDATA4 => 4,
-        encodings::DW_EH_PE_UDATA8 | encodings::DW_EH_PE_SDATA8 => 8,
-        _ => 0,
+        | encodings::PCREL_SDATA4 => Some(4),
+        encodings::DW_EH_PE_UDATA8 | encodings::DW_EH_PE_SDATA8 => Some(8),
+        _ => None,
     }
 }
 
@@ -55,20 +53,18 @@ fn size_of(word: u64, e: u64) -> u64
 pub fn pointer_bytes(word: u64, e: u64) -> u64
     ensures { (result ≡ pointer_bytes word e) × (word ≤ 8 → result ≤ 8) }
 {
-    size_of(word, e % encodings::DW_EH_PE_INDIRECT)
+    size_of(word, e % encodings::DW_EH_PE_INDIRECT).unwrap_or(0)
 }
 
-// Question 22 of one encoding: 0 where it is not accepted, else the pointer's bytes. The indirect bit is taken for a personality only.
-pub fn pointer_size(indirect: bool, word: u64, e: u64) -> u64
-    ensures { result ≡ size_or0 (pointer_size indirect word e) }
+// Question 22 of one encoding: the pointer's bytes, where it is accepted. The indirect bit is taken for a personality only.
+#[tactic(auto, unfolding(format::specs::Headers::pointer_size, format::specs::Prelude::pick))]
+pub fn pointer_size(indirect: bool, word: u64, e: u64) -> Option<u64>
+    ensures { result ≡ option_of (pointer_size indirect word e) }
 {
-    if e < encodings::DW_EH_PE_INDIRECT {
-        return size_of(word, e % encodings::DW_EH_PE_INDIRECT);
+    if encodings::DW_EH_PE_INDIRECT <= e && !indirect {
+        return None;
     }
-    if indirect {
-        return size_of(word, e % encodings::DW_EH_PE_INDIRECT);
-    }
-    0
+    size_of(word, e % encodings::DW_EH_PE_INDIRECT)
 }
 
 // ---- signed numbers
@@ -77,8 +73,5 @@ pub fn pointer_size(indirect: bool, word: u64, e: u64) -> u64
 pub fn bits(z: i64) -> u64
     ensures { result ≡ of_z w64 z }
 {
-    if z < 0 {
-        return 18446744073709551615 - ((-1 - z) as u64);
-    }
-    z as u64
+    z.cast_unsigned()
 }
