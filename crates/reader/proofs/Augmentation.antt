@@ -17,12 +17,10 @@ use Rattle.operations.specs.declared.fields.Position.{Position}
 use Rattle.operations.specs.declared.fields.Unsigned.{Unsigned}
 use Rattle.operations.specs.declared.fields.Unsigned.TheVariants as unsigned
 use Rattle.operations.proofs.PositionLaws.{past_mark, uleb_ahead, uleb_rest, uleb_past, uleb_none}
-use Rattle.reader.specs.Spans.{number_of}
+use Rattle.std.specs.Prelude.{Some, None}
+use Rattle.std.specs.Prelude as code
+use Rattle.format.specs.Coded.{option_of}
 use Rattle.reader.specs.Fields.{Rests, letters_of, Counts, CountsIn, tail_mark, Skips, SkipsTo, Numbers}
-use Rattle.reader.specs.declared.entries.Number.{Number}
-use Rattle.reader.specs.declared.entries.Number.TheVariants as number
-use Rattle.reader.specs.declared.fields.AugmentationData.{AugmentationData}
-use Rattle.reader.specs.declared.fields.AugmentationData.TheVariants as counted
 use Rattle.reader.specs.declared.fields.Augmentation.{Augmentation}
 use Rattle.reader.proofs.Seeking.{number_is, number_none}
 
@@ -71,12 +69,12 @@ module _ (s : List ℕ) (p : Position) where
         record { ordered = omega arith; inside = l; read = rw (uleb_rest s p e, k) (many_there s q.at n l); mark = past_mark (uleb_past s p e) }
 
 -- what a caller knows
-module _ (s : List ℕ) (b : Bool) (x : Read (List ℕ)) {r : AugmentationData} (m : CountsIn s b r x) where
-  pub counts : {a : Position} {e : ℕ} → r ≡ counted.At a e → Counts s b a e x
-  counts q = subst (λ (r : AugmentationData). CountsIn s b r x) q m
+module _ (s : List ℕ) (b : Bool) (x : Read (List ℕ)) {r : code.Option (Position × ℕ)} (m : CountsIn s b r x) where
+  pub counts : {a : Position} {e : ℕ} → r ≡ Some (a, e) → Counts s b a e x
+  counts q = subst (λ (r : code.Option (Position × ℕ)). CountsIn s b r x) q m
 
-  pub counts_none : r ≡ counted.Nothing → x ≡ none
-  counts_none q = subst (λ (r : AugmentationData). CountsIn s b r x) q m
+  pub counts_none : r ≡ None → x ≡ none
+  counts_none q = subst (λ (r : code.Option (Position × ℕ)). CountsIn s b r x) q m
 
 -- ---- the personality
 
@@ -94,11 +92,11 @@ module _ (s : List ℕ) (here : Bool) (word : ℕ) where
     personality_empty h = rw (not-false here y, byte_none s 0 (omega arith))
 
     module _ (l : length s ≡ 0 → ⊥) where
-      pub personality_unknown : number_of (pointer_size true word (get_or s 0 0)) ≡ number.Nothing → personality_in here word s ≡ none
+      pub personality_unknown : option_of (pointer_size true word (get_or s 0 0)) ≡ None → personality_in here word s ≡ none
       unfolding personality_in next after
       personality_unknown e = rw (not-false here y, first_byte s l, number_none _ e)
 
-      module _ {n : ℕ} (e : number_of (pointer_size true word (get_or s 0 0)) ≡ number.Is n) where
+      module _ {n : ℕ} (e : option_of (pointer_size true word (get_or s 0 0)) ≡ Some n) where
         pub personality_over : length s - 1 < n → personality_in here word s ≡ none
         unfolding personality_in next after
         personality_over h = rw (not-false here y, first_byte s l, number_is _ e, many_none s 1 n h)
@@ -122,47 +120,47 @@ module _ (s : List ℕ) (p : Position) (here : Bool) (word : ℕ) where
     lsda_empty h = rw (not-false here y, byte_none s p.at h)
 
     module _ (l : p.at < length s) where
-      pub lsda_unknown : number_of (pointer_size false word (get_or s p.at 0)) ≡ number.Nothing → lsda_in here word (drop p.at s) ≡ none
+      pub lsda_unknown : option_of (pointer_size false word (get_or s p.at 0)) ≡ None → lsda_in here word (drop p.at s) ≡ none
       unfolding lsda_in next after
       lsda_unknown e = rw (not-false here y, byte_there s p.at l, number_none _ e)
 
-      pub lsda_there : {n : ℕ} → number_of (pointer_size false word (get_or s p.at 0)) ≡ number.Is n
+      pub lsda_there : {n : ℕ} → option_of (pointer_size false word (get_or s p.at 0)) ≡ Some n
           → Rests s p.shortest n (record { at = p.at + 1; shortest = p.shortest }) (lsda_in here word (drop p.at s))
       unfolding lsda_in next after
       lsda_there e = record { inside = omega arith; read = rw (not-false here y, byte_there s p.at l, number_is _ e); mark = refl }
 
 -- ---- all of them, and the records' encoding
 
-module _ (s : List ℕ) (word : ℕ) (p : Augmentation) {r : Number} (m : SkipsTo s r (personality_in p.personality word s)) where
-  pub letters_first : r ≡ number.Nothing → number.Nothing ≡ number_of (letters_in (letters_of p) word s)
-  unfolding letters_in after number_of
-  letters_first e = rw (subst (λ (r : Number). SkipsTo s r (personality_in p.personality word s)) e m)
+module _ (s : List ℕ) (word : ℕ) (p : Augmentation) {r : code.Option ℕ} (m : SkipsTo s r (personality_in p.personality word s)) where
+  pub letters_first : r ≡ None → None ≡ option_of (letters_in (letters_of p) word s)
+  unfolding letters_in after
+  letters_first e = rw (subst (λ (r : code.Option ℕ). SkipsTo s r (personality_in p.personality word s)) e m)
 
-  module _ {a : ℕ} (e : r ≡ number.Is a) where
+  module _ {a : ℕ} (e : r ≡ Some a) where
     skipped : Skips s a (personality_in p.personality word s)
-    skipped = subst (λ (r : Number). SkipsTo s r (personality_in p.personality word s)) e m
+    skipped = subst (λ (r : code.Option ℕ). SkipsTo s r (personality_in p.personality word s)) e m
 
     pub letters_inside : a ≤ length s
     letters_inside = skipped.inside
 
     module _ (b : Bool) {v : Unsigned} (k : Numbers s b v (lsda_in p.lsda word (drop a s))) where
-      pub letters_second : v ≡ unsigned.Bad → number.Nothing ≡ number_of (letters_in (letters_of p) word s)
-      unfolding letters_in after next number_of
+      pub letters_second : v ≡ unsigned.Bad → None ≡ option_of (letters_in (letters_of p) word s)
+      unfolding letters_in after next
       letters_second f = rw (skipped.rest, subst (λ (v : Unsigned). Numbers s b v (lsda_in p.lsda word (drop a s))) f k)
 
       module _ {n : ℕ} {q : Position} (f : v ≡ unsigned.Value n q) where
         lsda_read : Rests s b n q (lsda_in p.lsda word (drop a s))
         lsda_read = subst (λ (v : Unsigned). Numbers s b v (lsda_in p.lsda word (drop a s))) f k
 
-        pub letters_ended : length s ≤ q.at → number.Nothing ≡ number_of (letters_in (letters_of p) word s)
-        unfolding letters_in after next number_of
+        pub letters_ended : length s ≤ q.at → None ≡ option_of (letters_in (letters_of p) word s)
+        unfolding letters_in after next
         letters_ended h = rw (skipped.rest, lsda_read.read, byte_none s q.at h)
 
         module _ (h : q.at < length s) where
-          pub letters_other : (get_or s q.at 0 ≡ 0x1b → ⊥) → number.Nothing ≡ number_of (letters_in (letters_of p) word s)
-          unfolding letters_in after next number_of pick
+          pub letters_other : (get_or s q.at 0 ≡ 0x1b → ⊥) → None ≡ option_of (letters_in (letters_of p) word s)
+          unfolding letters_in after next pick
           letters_other d = rw (skipped.rest, lsda_read.read, byte_there s q.at h) (simp (ne_eqb _ _ d))
 
-          pub letters_there : get_or s q.at 0 ≡ 0x1b → number.Is n ≡ number_of (letters_in (letters_of p) word s)
-          unfolding letters_in after next number_of pick
+          pub letters_there : get_or s q.at 0 ≡ 0x1b → Some n ≡ option_of (letters_in (letters_of p) word s)
+          unfolding letters_in after next pick
           letters_there d = rw (skipped.rest, lsda_read.read, byte_there s q.at h) (simp (eq-eqb _ _ d))

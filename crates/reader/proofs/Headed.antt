@@ -26,14 +26,12 @@ use Rattle.operations.specs.declared.fields.Signed.TheVariants as signed
 use Rattle.format.proofs.FieldsBack.{word_small}
 use Rattle.operations.proofs.PositionLaws.{past_mark, uleb_rest, uleb_none, uleb_on, sleb_rest, sleb_none, sleb_on, little_ahead, little_rest, little_past, little_none}
 use Rattle.rows.proofs.Signs.{same_bits}
-use Rattle.reader.specs.Spans.{part, number_of}
+use Rattle.std.specs.Prelude.{Some, None}
+use Rattle.std.specs.Prelude as code
+use Rattle.format.specs.Coded.{option_of}
+use Rattle.reader.specs.Spans.{part}
 use Rattle.reader.specs.Fields.{Rests, letters_of, ReadsAugmentation, Counts, CountsIn, Heading, tail_mark, header_factors}
-use Rattle.reader.specs.declared.fields.AugmentationData.{AugmentationData}
-use Rattle.reader.specs.declared.fields.AugmentationData.TheVariants as counted
 use Rattle.reader.specs.declared.fields.Augmentation.{Augmentation}
-use Rattle.reader.specs.declared.fields.AugmentationRead.{AugmentationRead}
-use Rattle.reader.specs.declared.fields.AugmentationRead.TheVariants as augmentation
-use Rattle.reader.specs.declared.entries.Number.TheVariants.{Is, Nothing}
 use Rattle.reader.proofs.Augmentation.{byte_there, byte_none, counts, counts_none}
 use Rattle.reader.proofs.Seeking.{number_is, number_none}
 
@@ -47,20 +45,20 @@ module _ (s : List ℕ) (p : Position) (debug : Bool) (word : ℕ) (l : Augmenta
   unfolding header_tail tail_mark numbers_short pick
   tail_debug d h = record { inside = h; read = rw d; mark = rw (d, and-true p.shortest) }
 
-  module _ (d : debug ≡ false) {r : AugmentationData} (m : CountsIn s (tail_mark false s p) r (read_counted (drop p.at s))) where
-    pub tail_none : r ≡ counted.Nothing → tail ≡ none
+  module _ (d : debug ≡ false) {r : code.Option (Position × ℕ)} (m : CountsIn s (tail_mark false s p) r (read_counted (drop p.at s))) where
+    pub tail_none : r ≡ None → tail ≡ none
     unfolding header_tail next
     tail_none e = rw (d, counts_none s _ (read_counted (drop p.at s)) m e)
 
-    module _ {a : Position} {e : ℕ} (q : r ≡ counted.At a e) where
+    module _ {a : Position} {e : ℕ} (q : r ≡ Some (a, e)) where
       pub tail_counts : Counts s (tail_mark false s p) a e (read_counted (drop p.at s))
       tail_counts = counts s _ (read_counted (drop p.at s)) m q
 
-      pub tail_unknown : number_of (letters_in (letters_of l) word (part s a.at e)) ≡ Nothing → tail ≡ none
+      pub tail_unknown : option_of (letters_in (letters_of l) word (part s a.at e)) ≡ None → tail ≡ none
       unfolding header_tail next after
       tail_unknown w = rw (d, tail_counts.read, number_none _ w)
 
-      pub tail_there : {n : ℕ} → number_of (letters_in (letters_of l) word (part s a.at e)) ≡ Is n
+      pub tail_there : {n : ℕ} → option_of (letters_in (letters_of l) word (part s a.at e)) ≡ Some n
           → Heading s (tail_mark debug s p) (record { at = e; shortest = a.shortest }) n l.signal tail
       unfolding header_tail next after
       tail_there w = record { inside = tail_counts.inside; read = rw (d, tail_counts.read, number_is _ w); mark = rw d tail_counts.mark }
@@ -147,15 +145,15 @@ module _ (s : List ℕ) (debug : Bool) (word : ℕ) where
       unfolding parse_header next require pick
       parse_version n = rw (little_rest s (from 0) (omega arith) e, byte_there s p.at h) (simp (ne_eqb _ _ n))
 
-      module _ (v : get_or s p.at 0 ≡ 1) {r : AugmentationRead} (m : ReadsAugmentation s p.shortest r (read_letters (spellings debug) (drop (p.at + 1) s))) where
-        pub parse_string : r ≡ augmentation.Unknown → parse_header debug word s ≡ none
+      module _ (v : get_or s p.at 0 ≡ 1) {r : code.Option (Augmentation × Position)} (m : ReadsAugmentation s p.shortest r (read_letters (spellings debug) (drop (p.at + 1) s))) where
+        pub parse_string : r ≡ None → parse_header debug word s ≡ none
         unfolding parse_header next require pick
         parse_string f =
-            rw (little_rest s (from 0) (omega arith) e, byte_there s p.at h, v, subst (λ (r : AugmentationRead). ReadsAugmentation s p.shortest r (read_letters (spellings debug) (drop (p.at + 1) s))) f m)
+            rw (little_rest s (from 0) (omega arith) e, byte_there s p.at h, v, subst (λ (r : code.Option (Augmentation × Position)). ReadsAugmentation s p.shortest r (read_letters (spellings debug) (drop (p.at + 1) s))) f m)
 
-        module _ {l : Augmentation} {q : Position} (f : r ≡ augmentation.Known l q) where
+        module _ {l : Augmentation} {q : Position} (f : r ≡ Some (l, q)) where
           string_read : Rests s p.shortest (letters_of l) q (read_letters (spellings debug) (drop (p.at + 1) s))
-          string_read = subst (λ (r : AugmentationRead). ReadsAugmentation s p.shortest r (read_letters (spellings debug) (drop (p.at + 1) s))) f m
+          string_read = subst (λ (r : code.Option (Augmentation × Position)). ReadsAugmentation s p.shortest r (read_letters (spellings debug) (drop (p.at + 1) s))) f m
 
           pub parse_rest : parse_header debug word s ≡ header_factors debug (letters_of l) word (drop q.at s)
           unfolding parse_header header_factors next require pick

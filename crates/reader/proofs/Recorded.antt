@@ -20,8 +20,8 @@ use Rattle.format.proofs.FieldsBack.{word_small}
 use Rattle.operations.proofs.PositionLaws.{little_ahead, little_rest, little_kept, little_none}
 use Rattle.reader.specs.Spans.{part}
 use Rattle.reader.specs.Fields.{Counts, CountsIn, tail_mark, Recording}
-use Rattle.reader.specs.declared.fields.AugmentationData.{AugmentationData}
-use Rattle.reader.specs.declared.fields.AugmentationData.TheVariants as counted
+use Rattle.std.specs.Prelude.{Some, None}
+use Rattle.std.specs.Prelude as code
 use Rattle.reader.proofs.Augmentation.{counts, counts_none}
 
 -- ---- the augmentation, and the operations behind it
@@ -34,12 +34,12 @@ module _ (s : List ℕ) (p : Position) (debug : Bool) (pointer size : ℕ) where
   unfolding record_tail tail_mark numbers_short pick
   tail_debug d h = record { inside = h; read = rw d; mark = rw (d, and-true p.shortest) }
 
-  module _ (d : debug ≡ false) {r : AugmentationData} (m : CountsIn s (tail_mark false s p) r (read_counted (drop p.at s))) where
-    pub tail_none : r ≡ counted.Nothing → tail ≡ none
+  module _ (d : debug ≡ false) {r : code.Option (Position × ℕ)} (m : CountsIn s (tail_mark false s p) r (read_counted (drop p.at s))) where
+    pub tail_none : r ≡ None → tail ≡ none
     unfolding record_tail next
     tail_none e = rw (d, counts_none s _ (read_counted (drop p.at s)) m e)
 
-    module _ {a : Position} {e : ℕ} (q : r ≡ counted.At a e) where
+    module _ {a : Position} {e : ℕ} (q : r ≡ Some (a, e)) where
       pub tail_counts : Counts s (tail_mark false s p) a e (read_counted (drop p.at s))
       tail_counts = counts s _ (read_counted (drop p.at s)) m q
 

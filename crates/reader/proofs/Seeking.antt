@@ -7,15 +7,18 @@ use Prim.Native.Nat.{ℕ, zero, suc, ◌+◌, ◌-◌, ◌*◌, ◌/◌, ◌≤�
 use native.Mathlib.Omega.{arith}
 use native.Mathlib.Nat.{add-zero}
 use native.Mathlib.Numerals.{add-one}
-use borrow.Author.Tests.{eq-eqb, ne_eqb}
+use borrow.Author.Tests.{eq-eqb, ne_eqb, le-leb, lt-leb}
 use lib.Dec.{T, eqb, ltb}
 use lib.ListN.{length, get_or, get_elem?}
 use Rattle.format.specs.Prelude.{pick, after, first, each}
 use Rattle.format.specs.Questions.{is_some}
-use Rattle.format.specs.Reader.{Entry, is_header, records, first_addend, header_at, entries}
+use Rattle.format.specs.Reader.{Entry, second, distance_back, is_header, records, first_addend, header_at, entries}
 use Rattle.format.specs.Lists.{relocation_at, relocations_of}
-use Rattle.reader.specs.Spans.{entry_in, entries_from, listed, number_of, Ends, Stands}
-use Rattle.reader.specs.declared.entries.Number.TheVariants.{Is, Nothing}
+use Rattle.format.specs.Coded.{option_of}
+use Rattle.reader.specs.Spans.{part, entry_in, entries_from, listed, Ends, Stands}
+use Rattle.std.specs.Prelude.{Some, None}
+use Rattle.std.specs.Prelude as code
+use Rattle.std.specs.Option.{SomeIff}
 use Rattle.reader.proofs.Tiling.{tiled_end}
 
 -- a search of the entries, `find`, goes on in those from `at` on as `find'`
@@ -109,27 +112,33 @@ module _ {xs : List ℕ} {place i : ℕ} (k : Searching xs place i) where
         let e : length xs / 5 - i ≡ suc (length xs / 5 - (i + 1)) = omega arith in
         k.rest ∙ rw e (simp (add-zero, add-one))
 
-    pub search_met : get_or xs (5 * i) 0 ≡ place → Is (get_or xs (5 * i + 4) 0) ≡ number_of (first_addend place (relocations_of xs))
-    unfolding number_of after pick relocation_at
+    pub search_met : get_or xs (5 * i) 0 ≡ place → Some (get_or xs (5 * i + 4) 0) ≡ option_of (first_addend place (relocations_of xs))
+    unfolding after pick relocation_at
     search_met e = sym (rw at_one (simp (eq-eqb _ _ e)))
 
     pub search_turn : (get_or xs (5 * i) 0 ≡ place → ⊥) → Searching xs place (i + 1)
     unfolding pick first_addend
     search_turn n = record { inside = omega arith; rest = at_one ∙ simp (ne_eqb _ _ n) }
 
-  pub search_ended : length xs / 5 ≤ i → Nothing ≡ number_of (first_addend place (relocations_of xs))
-  unfolding number_of first_addend first each after
+  pub search_ended : length xs / 5 ≤ i → None ≡ option_of (first_addend place (relocations_of xs))
+  unfolding first_addend first each after
   search_ended h = let e : length xs / 5 - i ≡ 0 = omega arith in sym (rw (k.rest, e))
+
+-- ---- the place that lies a distance before another
+
+pub less_by : (s : List ℕ) (at end : ℕ) {d : ℕ} → d ≡ second (part s (at + 4) end) → (r : code.Option ℕ) → SomeIff r (d ≤ at + 4) (at + 4 - d)
+    → r ≡ option_of (distance_back (entry_in s at end))
+unfolding distance_back pick
+less_by s at end {d} e None h = rw (← e, lt-leb d (at + 4) (omega arith)) refl
+less_by s at end {d} e (Some x) h = rw (← e, le-leb d (at + 4) h.0, h.1) refl
 
 -- ---- a number that was found, and a value that was not
 
-pub number_is : (o : Option ℕ) {p : ℕ} → number_of o ≡ Is p → o ≡ some p
-unfolding number_of
+pub number_is : (o : Option ℕ) {p : ℕ} → option_of o ≡ Some p → o ≡ some p
 number_is none e = let z : ◌≡◌ {A = ℕ} 0 1 = cc in absurd (omega arith)
 number_is (some n) e = cc
 
-pub number_none : (o : Option ℕ) → number_of o ≡ Nothing → o ≡ none
-unfolding number_of
+pub number_none : (o : Option ℕ) → option_of o ≡ None → o ≡ none
 number_none none e = refl
 number_none (some n) e = let z : ◌≡◌ {A = ℕ} 0 1 = cc in absurd (omega arith)
 

@@ -1,15 +1,17 @@
--- A string that stands at a position: the loop that compares it, and the first of a list of strings that stands there.
+-- A string that stands at a position: the library's test of it, and the first of a list of strings that stands there.
 use mathlib.Core.Path.{◌≡◌, refl, sym, subst, ◌∙◌}
-use mathlib.Core.Bool.{Bool, true, false}
+use mathlib.Core.Bool.{Bool, true, false, ◌&&◌}
 use mathlib.Core.Option.{Option, none, some}
 use mathlib.Core.List.{List, [], ◌∷◌, ◌++◌}
-use Prim.Native.Nat.{ℕ, ◌+◌, ◌≤◌, ◌<◌}
+use Prim.Native.Nat.{ℕ, ◌+◌, ◌-◌, ◌≤◌}
 use native.Mathlib.Omega.{arith}
 use native.Mathlib.Numerals.{add-one}
 use borrow.Author.Tests.{eq-eqb, ne_eqb}
 use lib.Dec.{eqb}
-use lib.ListN.{length, drop, get_or, length-drop, drop_of_length-le}
-use lib.Seq.{drop-cons, drop-drop}
+use lib.Pointwise.{pointwise}
+use Rattle.std.proofs.lemmas.List.{take_rest}
+use lib.ListN.{length, take, drop, length-drop}
+use lib.Seq.{drop-drop}
 use Rattle.format.specs.Prelude.{pick, Read}
 use Rattle.format.specs.Questions.{is_some}
 use Rattle.format.specs.Reader.{Letters, Spelling, strip, spellings, spell_or, read_letters}
@@ -17,41 +19,26 @@ use Rattle.format.proofs.Choice.{pick_yes, pick_no, tested}
 use Rattle.operations.specs.declared.fields.Position.{Position}
 use Rattle.reader.specs.Fields.{Rests, letters_of, two_of, ReadsAugmentation}
 use Rattle.reader.specs.declared.fields.Augmentation.{Augmentation}
-use Rattle.reader.specs.declared.fields.AugmentationRead.{AugmentationRead}
-use Rattle.reader.specs.declared.fields.AugmentationRead.TheVariants.{Known, Unknown}
+use Rattle.std.specs.Prelude.{Some, None}
+use Rattle.std.specs.Prelude as code
 use Rattle.reader.proofs.Seeking.{absent}
 
--- ---- the loop: i bytes of the text were met
+-- ---- the library's test of a slice's front
 
-pub record Matching (s text : List ℕ) (at i next : ℕ) : Type 0 where
-  pub inside : i ≤ length text
-  pub rest : is_some (strip text (drop at s)) ≡ is_some (strip (drop i text) (drop next s))
+front_is : (text bs : List ℕ) → pointwise eqb text (take (length text) bs) ≡ is_some (strip text bs)
+unfolding is_some strip pick
+front_is [] bs = refl
+front_is (a ∷ xs) [] = refl
+front_is (a ∷ xs) (b ∷ bs) = met_by (eqb a b) (front_is xs bs)
+  where
+    met_by : (t : Bool) → pointwise eqb xs (take (length xs) bs) ≡ is_some (strip xs bs)
+        → (t && pointwise eqb xs (take (length xs) bs)) ≡ is_some (pick t (strip xs bs) none)
+    met_by true e = e
+    met_by false e = refl
 
-pub start : (s text : List ℕ) (at : ℕ) → Matching s text at 0 at
-start s text at = record { inside = omega arith; rest = refl }
-
-module _ {s text : List ℕ} {at i next : ℕ} (k : Matching s text at i next) where
-  module _ (h : i < length text) where
-    pub short : length s ≤ next → false ≡ is_some (strip text (drop at s))
-    unfolding is_some strip
-    short l = sym (k.rest ∙ rw (drop-cons text i 0, drop_of_length-le s l))
-
-    module _ (l : next < length s) where
-      one : is_some (strip text (drop at s)) ≡ is_some (pick (eqb (get_or text i 0) (get_or s next 0)) (strip (drop (i + 1) text) (drop (next + 1) s)) none)
-      unfolding strip
-      one = k.rest ∙ rw (drop-cons text i 0, drop-cons s next 0, add-one i, add-one next)
-
-      pub differs : (get_or text i 0 ≡ get_or s next 0 → ⊥) → false ≡ is_some (strip text (drop at s))
-      unfolding is_some pick
-      differs n = sym (one ∙ simp (ne_eqb _ _ n))
-
-      pub turn : get_or text i 0 ≡ get_or s next 0 → Matching s text at (i + 1) (next + 1)
-      unfolding pick
-      turn e = record { inside = omega arith; rest = one ∙ simp (eq-eqb _ _ e) }
-
-  pub ended : length text ≤ i → true ≡ is_some (strip text (drop at s))
-  unfolding is_some strip
-  ended h = sym (k.rest ∙ rw (drop_of_length-le text h))
+pub front_at : (s text : List ℕ) (at : ℕ) {r : Bool} → r ≡ pointwise eqb text (take (length text) (take (length s - at) (drop at s)))
+    → r ≡ is_some (strip text (drop at s))
+front_at s text at e = (rw (take_rest s at) at e) ∙ front_is text (drop at s)
 
 -- ---- what is left behind a string
 
@@ -135,28 +122,28 @@ eh_strings : spellings false ≡ bare ++ (owned ++ sited)
 unfolding spellings
 eh_strings = refl
 
-found : (s : List ℕ) (b : Bool) {r : AugmentationRead} {p : Augmentation} {q : Position} (x : Read Letters) → ReadsAugmentation s b r x → r ≡ Known p q
+found : (s : List ℕ) (b : Bool) {r : code.Option (Augmentation × Position)} {p : Augmentation} {q : Position} (x : Read Letters) → ReadsAugmentation s b r x → r ≡ Some (p, q)
     → Rests s b (letters_of p) q x
-found s b x m e = subst (λ (r : AugmentationRead). ReadsAugmentation s b r x) e m
+found s b x m e = subst (λ (r : code.Option (Augmentation × Position)). ReadsAugmentation s b r x) e m
 
-lost : (s : List ℕ) (b : Bool) {r : AugmentationRead} (x : Read Letters) → ReadsAugmentation s b r x → r ≡ Unknown → x ≡ none
-lost s b x m e = subst (λ (r : AugmentationRead). ReadsAugmentation s b r x) e m
+lost : (s : List ℕ) (b : Bool) {r : code.Option (Augmentation × Position)} (x : Read Letters) → ReadsAugmentation s b r x → r ≡ None → x ≡ none
+lost s b x m e = subst (λ (r : code.Option (Augmentation × Position)). ReadsAugmentation s b r x) e m
 
-module _ (s : List ℕ) (p₀ : Position) {r : AugmentationRead} (m : ReadsAugmentation s p₀.shortest r (read_letters bare (drop p₀.at s))) where
-  pub first_two : {p : Augmentation} {q : Position} → r ≡ Known p q → Rests s p₀.shortest (letters_of p) q (read_letters (spellings false) (drop p₀.at s))
+module _ (s : List ℕ) (p₀ : Position) {r : code.Option (Augmentation × Position)} (m : ReadsAugmentation s p₀.shortest r (read_letters bare (drop p₀.at s))) where
+  pub first_two : {p : Augmentation} {q : Position} → r ≡ Some (p, q) → Rests s p₀.shortest (letters_of p) q (read_letters (spellings false) (drop p₀.at s))
   first_two e =
       let f = found s p₀.shortest (read_letters bare (drop p₀.at s)) m e in
       record { inside = f.inside; mark = f.mark; read = rw eh_strings (letters_before (owned ++ sited) (drop p₀.at s) _ bare f.read) }
 
-  module _ (e : r ≡ Unknown) where
+  module _ (e : r ≡ None) where
     past_two : read_letters (spellings false) (drop p₀.at s) ≡ read_letters (owned ++ sited) (drop p₀.at s)
     past_two = rw eh_strings (letters_behind (owned ++ sited) (drop p₀.at s) bare (lost s p₀.shortest (read_letters bare (drop p₀.at s)) m e))
 
-    module _ {r' : AugmentationRead} (m' : ReadsAugmentation s p₀.shortest r' (read_letters owned (drop p₀.at s))) where
-      pub next_two : {p : Augmentation} {q : Position} → r' ≡ Known p q → Rests s p₀.shortest (letters_of p) q (read_letters (spellings false) (drop p₀.at s))
+    module _ {r' : code.Option (Augmentation × Position)} (m' : ReadsAugmentation s p₀.shortest r' (read_letters owned (drop p₀.at s))) where
+      pub next_two : {p : Augmentation} {q : Position} → r' ≡ Some (p, q) → Rests s p₀.shortest (letters_of p) q (read_letters (spellings false) (drop p₀.at s))
       next_two e' =
           let f = found s p₀.shortest (read_letters owned (drop p₀.at s)) m' e' in
           record { inside = f.inside; mark = f.mark; read = past_two ∙ letters_before sited (drop p₀.at s) _ owned f.read }
 
-      pub past_four : r' ≡ Unknown → read_letters (spellings false) (drop p₀.at s) ≡ read_letters sited (drop p₀.at s)
+      pub past_four : r' ≡ None → read_letters (spellings false) (drop p₀.at s) ≡ read_letters sited (drop p₀.at s)
       past_four e' = past_two ∙ letters_behind sited (drop p₀.at s) owned (lost s p₀.shortest (read_letters owned (drop p₀.at s)) m' e')

@@ -11,10 +11,10 @@ use Rattle.format.specs.Reader.{entries}
 use Rattle.format.specs.Reader as reader
 use Rattle.format.proofs.Choice.{either}
 use Rattle.reader.specs.Spans.{entry_in, entries_from, end_at}
-use Rattle.reader.specs.declared.entries.Number.{Number}
-use Rattle.reader.specs.declared.entries.Number.TheVariants.{Is, Nothing}
+use Rattle.std.specs.Prelude.{Some, None}
+use Rattle.std.specs.Prelude as code
 use Rattle.reader.proofs.Tiling.{Entered, entered, tiled_end, tiled_none, tiled_more}
-use Rattle.reader.specs.Listing.{stopped, shown, entry_at, joined, listing_f, listing}
+use Rattle.reader.specs.Listing.{shown, entry_at, joined, listing_f, listing}
 use Rattle.reader.specs.declared.cursor.Entry.{Entry}
 use Rattle.reader.proofs.Steps.{spanned, shown_span, at_end_lem, at_none, at_there}
 
@@ -52,18 +52,18 @@ module _ (debug : Bool) (s : List ℕ) where
         → Lists debug s (after found λ es. some (spanned debug s p q ∷ es)) (after r λ es. some (entry_in s p q ∷ es))
     lists_more a {found} {r} l = record { tiles = tiles_more found ∙ rw l.tiles; shows = rw l.shows (shows_more a r) }
 
-  from_end : (f p : ℕ) (o : Number) → end_at s p ≡ o → p < length s → ((q : ℕ) → p < q → q ≤ length s → Lists debug s (listing_f f debug s q) (entries_from s q))
-      → Lists debug s (joined (entry_at debug s p) (listing_f f debug s (entry_at debug s p).next)) (entries_from s p)
-  unfolding joined stopped pick
-  from_end f p Nothing e h more = rw (at_none debug s p h e, tiled_none s p h e) lists_none
-  from_end f p (Is q) e h more =
+  from_end : (f p : ℕ) (o : code.Option ℕ) → end_at s p ≡ o → p < length s → ((q : ℕ) → p < q → q ≤ length s → Lists debug s (listing_f f debug s q) (entries_from s q))
+      → Lists debug s (joined (entry_at debug s p) (listing_f f debug s)) (entries_from s p)
+  unfolding joined pick
+  from_end f p None e h more = rw (at_none debug s p h e, tiled_none s p h e) lists_none
+  from_end f p (Some q) e h more =
       let a = entered s p e in
       rw (at_there debug s p h e, tiled_more s p h e)
       (lists_more p q a (more q (omega (arith, a.long)) a.inside))
 
   -- more fuel than bytes is enough
   from : (f p : ℕ) → length s < p + f → p ≤ length s → Lists debug s (listing_f f debug s p) (entries_from s p)
-  unfolding listing_f joined stopped pick
+  unfolding listing_f joined pick
   from zero p h l = absurd (omega arith)
   from (suc f) p h l =
       either (length s) p

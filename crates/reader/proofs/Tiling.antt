@@ -18,7 +18,7 @@ use Rattle.operations.specs.declared.fields.Position.{Position}
 use Rattle.operations.specs.declared.fields.Unsigned.TheVariants as unsigned
 use Rattle.operations.proofs.PositionLaws.{Takes, nothing, taken, takes_little, little_ahead, little_rest, little_none}
 use Rattle.reader.specs.Spans.{part, entry_in, entries_from, listed, end_from, end_at, Ends}
-use Rattle.reader.specs.declared.entries.Number.TheVariants.{Is, Nothing}
+use Rattle.std.specs.Prelude.{Some, None}
 
 -- ---- an entry of a list: nothing, or at least 8 bytes
 
@@ -46,7 +46,7 @@ entry_held bs = taken_held bs (takes_little 4 bs)
 -- ---- where the entry at a position ends
 
 module _ (s : List ℕ) (p : ℕ) where
-  pub end_none : little_at 4 s (from p) ≡ unsigned.Bad → end_at s p ≡ Nothing
+  pub end_none : little_at 4 s (from p) ≡ unsigned.Bad → end_at s p ≡ None
   unfolding end_at end_from read_entry next
   end_none e = rw (little_none s (from p) 4 e)
 
@@ -58,15 +58,15 @@ module _ (s : List ℕ) (p : ℕ) where
     pub body_inside : q.at ≤ length s
     body_inside = (little_ahead s (from p) (omega arith) e).1
 
-    pub end_short : n < 4 → end_at s p ≡ Nothing
+    pub end_short : n < 4 → end_at s p ≡ None
     unfolding end_from pick
     end_short h = opened ∙ simp (lt-leb 4 n h)
 
-    pub end_over : 4 ≤ n → length s - q.at < n → end_at s p ≡ Nothing
+    pub end_over : 4 ≤ n → length s - q.at < n → end_at s p ≡ None
     unfolding end_from pick
     end_over h l = opened ∙ simp (le-leb 4 n h, length-drop, lt-leb n (length s - q.at) l)
 
-    pub end_there : 4 ≤ n → n ≤ length s - q.at → end_at s p ≡ Is (q.at + n)
+    pub end_there : 4 ≤ n → n ≤ length s - q.at → end_at s p ≡ Some (q.at + n)
     unfolding end_from pick
     end_there h l =
         let b = body_inside in
@@ -79,7 +79,7 @@ pub record Entered (s : List ℕ) (p q : ℕ) : Type 0 where
   pub inside : q ≤ length s
   pub read : read_entry (drop p s) ≡ some (part s (p + 4) q, drop q s)
 
-held_entered : (s : List ℕ) (p q : ℕ) {r : Read (List ℕ)} → read_entry (drop p s) ≡ r → Held (drop p s) r → end_from (length s) r ≡ Is q → Entered s p q
+held_entered : (s : List ℕ) (p q : ℕ) {r : Read (List ℕ)} → read_entry (drop p s) ≡ r → Held (drop p s) r → end_from (length s) r ≡ Some q → Entered s p q
 unfolding end_from
 held_entered s p q same bare e = let z : ◌≡◌ {A = ℕ} 0 1 = cc in absurd (omega arith)
 held_entered s p q same (held n l h) e =
@@ -90,11 +90,11 @@ held_entered s p q same (held n l h) e =
     let k : n ≡ q - (p + 4) = omega arith in
     record { long = omega arith; inside = omega arith; read = same ∙ rw (drop-drop 4 p s, drop-drop (4 + n) p s, ← g, k) }
 
-pub entered : (s : List ℕ) (p : ℕ) {q : ℕ} → end_at s p ≡ Is q → Entered s p q
+pub entered : (s : List ℕ) (p : ℕ) {q : ℕ} → end_at s p ≡ Some q → Entered s p q
 unfolding end_at
 entered s p {q} e = held_entered s p q refl (entry_held (drop p s)) e
 
-pub none_read : (s : List ℕ) (r : Read (List ℕ)) → end_from (length s) r ≡ Nothing → r ≡ none
+pub none_read : (s : List ℕ) (r : Read (List ℕ)) → end_from (length s) r ≡ None → r ≡ none
 unfolding end_from
 none_read s none e = refl
 none_read s (some x) e = let z : ◌≡◌ {A = ℕ} 0 1 = cc in absurd (omega arith)
@@ -136,11 +136,11 @@ module _ (s : List ℕ) (p : ℕ) where
     unfolding entries_from
     step = one_step (length (drop p s)) p (drop p s) (omega (arith, length-drop p s))
 
-    pub tiled_none : end_at s p ≡ Nothing → entries_from s p ≡ none
+    pub tiled_none : end_at s p ≡ None → entries_from s p ≡ none
     unfolding end_at next
     tiled_none e = step ∙ rw (none_read s (read_entry (drop p s)) e)
 
-    pub tiled_more : {q : ℕ} → end_at s p ≡ Is q → entries_from s p ≡ after (entries_from s q) λ es. some (entry_in s p q ∷ es)
+    pub tiled_more : {q : ℕ} → end_at s p ≡ Some q → entries_from s p ≡ after (entries_from s q) λ es. some (entry_in s p q ∷ es)
     unfolding entries_from next
     tiled_more {q} e =
         let a = entered s p e in
@@ -168,11 +168,11 @@ start s = record { inside = omega arith; rest = refl }
 
 module _ {s : List ℕ} {at : ℕ} (t : Tiling s at) where
   module _ (h : at < length s) where
-    pub stopped : end_at s at ≡ Nothing → false ≡ is_some (entries s)
+    pub stopped : end_at s at ≡ None → false ≡ is_some (entries s)
     unfolding is_some
     stopped e = sym (t.rest ∙ rw (tiled_none s at h e))
 
-    pub turn : {q : ℕ} → end_at s at ≡ Is q → Tiling s q
+    pub turn : {q : ℕ} → end_at s at ≡ Some q → Tiling s q
     turn {q} e = record { inside = (entered s at e).inside; rest = t.rest ∙ rw (tiled_more s at h e) (tiled_after (entry_in s at q) (entries_from s q)) }
 
   pub ended : length s ≤ at → true ≡ is_some (entries s)
@@ -186,11 +186,11 @@ listed_after e none t = absurd t
 listed_after e (some es) t = refl
 
 module _ (s : List ℕ) (at : ℕ) (h : at < length s) (t : T (is_some (entries_from s at))) where
-  pub ends_somewhere : end_at s at ≡ Nothing → ⊥
+  pub ends_somewhere : end_at s at ≡ None → ⊥
   unfolding is_some
   ends_somewhere e = absurd (rw (tiled_none s at h e) at t)
 
-  pub ends : {q : ℕ} → end_at s at ≡ Is q → Ends s at q
+  pub ends : {q : ℕ} → end_at s at ≡ Some q → Ends s at q
   ends {q} e =
       let a = entered s at e in
       let m = tiled_more s at h e in

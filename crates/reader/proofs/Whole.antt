@@ -17,12 +17,10 @@ use Rattle.operations.specs.declared.fields.Position.{Position}
 use Rattle.reader.specs.Spans.{part, entry_in, listed, Stands, Spans}
 use Rattle.reader.specs.Fields.{Heading, Heads, Recording, Records}
 use Rattle.reader.specs.Finds.{Stated}
-use Rattle.reader.specs.declared.entries.Span.{Span}
-use Rattle.reader.specs.declared.entries.Span.TheVariants as span
+use Rattle.std.specs.Prelude.{Some, None}
+use Rattle.std.specs.Prelude as code
 use Rattle.reader.specs.declared.fields.Header.{Header}
-use Rattle.reader.specs.declared.fields.Header.TheVariants as header
 use Rattle.reader.specs.declared.fields.Record.{Record}
-use Rattle.reader.specs.declared.fields.Record.TheVariants as row
 use Rattle.reader.proofs.Seeking.{absent}
 
 -- ---- what is left of a part
@@ -48,26 +46,26 @@ module _ (s : List ℕ) (debug : Bool) (word cie past at end : ℕ) where
   abbrev fde_body : List ℕ
   fde_body = part s (at + 4) end
 
-  module _ {h : Header} (m : Heads cie_body (header_short debug cie_body) h (parse_header debug word cie_body)) where
-    pub fields_header : h ≡ header.Bad → fields_of s debug word cie past at end ≡ bad 64
+  module _ {h : code.Option Header} (m : Heads cie_body (header_short debug cie_body) h (parse_header debug word cie_body)) where
+    pub fields_header : h ≡ None → fields_of s debug word cie past at end ≡ bad 64
     unfolding parsed onward or_else
-    fields_header e = rw (subst (λ (h : Header). Heads cie_body (header_short debug cie_body) h (parse_header debug word cie_body)) e m)
+    fields_header e = rw (subst (λ (h : code.Option Header). Heads cie_body (header_short debug cie_body) h (parse_header debug word cie_body)) e m)
 
-    module _ {q : Position} {n : ℕ} {g : Bool} (e : h ≡ header.Fields q n g) where
+    module _ {q : Position} {n : ℕ} {g : Bool} (e : h ≡ Some (record { operations = q; pointer = n; signal = g })) where
       heading : Heading cie_body (header_short debug cie_body) q n g (parse_header debug word cie_body)
-      heading = subst (λ (h : Header). Heads cie_body (header_short debug cie_body) h (parse_header debug word cie_body)) e m
+      heading = subst (λ (h : code.Option Header). Heads cie_body (header_short debug cie_body) h (parse_header debug word cie_body)) e m
 
       pub header_held : cie + 8 ≤ past → past ≤ length s → cie + 4 + q.at ≤ past
       header_held l i = omega (arith, heading.inside, length-take-le (past - (cie + 4)) (drop (cie + 4) s) (omega (arith, length-drop (cie + 4) s)))
 
-      module _ {r : Record} (k : Records fde_body (q.shortest && record_short debug fde_body) r (parse_record debug word n fde_body)) where
-        pub fields_record : r ≡ row.Bad → fields_of s debug word cie past at end ≡ bad 64
+      module _ {r : code.Option Record} (k : Records fde_body (q.shortest && record_short debug fde_body) r (parse_record debug word n fde_body)) where
+        pub fields_record : r ≡ None → fields_of s debug word cie past at end ≡ bad 64
         unfolding parsed onward or_else
-        fields_record f = rw (heading.read, subst (λ (r : Record). Records fde_body (q.shortest && record_short debug fde_body) r (parse_record debug word n fde_body)) f k)
+        fields_record f = rw (heading.read, subst (λ (r : code.Option Record). Records fde_body (q.shortest && record_short debug fde_body) r (parse_record debug word n fde_body)) f k)
 
-        module _ {t : Position} {z : ℕ} (f : r ≡ row.Fields t z) where
+        module _ {t : Position} {z : ℕ} (f : r ≡ Some (record { operations = t; size = z })) where
           recording : Recording fde_body (q.shortest && record_short debug fde_body) t z (parse_record debug word n fde_body)
-          recording = subst (λ (r : Record). Records fde_body (q.shortest && record_short debug fde_body) r (parse_record debug word n fde_body)) f k
+          recording = subst (λ (r : code.Option Record). Records fde_body (q.shortest && record_short debug fde_body) r (parse_record debug word n fde_body)) f k
 
           pub record_held : at + 8 ≤ end → end ≤ length s → at + 4 + t.at ≤ end
           record_held l i = omega (arith, recording.inside, length-take-le (end - (at + 4)) (drop (at + 4) s) (omega (arith, length-drop (at + 4) s)))
@@ -91,12 +89,12 @@ module _ (s : List ℕ) (debug : Bool) (word cie past at end : ℕ) where
 
 -- ---- 61, 62 and 63
 
-module _ (s : List ℕ) (x : Option Entry) {r : Span} (m : Spans s r x) where
-  pub spans : {a e : ℕ} → r ≡ span.At a e → Stands s a e x
-  spans q = subst (λ (r : Span). Spans s r x) q m
+module _ (s : List ℕ) (x : Option Entry) {r : code.Option (ℕ × ℕ)} (m : Spans s r x) where
+  pub spans : {a e : ℕ} → r ≡ Some (a, e) → Stands s a e x
+  spans q = subst (λ (r : code.Option (ℕ × ℕ)). Spans s r x) q m
 
-  pub spans_none : r ≡ span.Nothing → x ≡ none
-  spans_none q = subst (λ (r : Span). Spans s r x) q m
+  pub spans_none : r ≡ None → x ≡ none
+  spans_none q = subst (λ (r : code.Option (ℕ × ℕ)). Spans s r x) q m
 
 pub tiled : (o : Option (List Entry)) → is_some o ≡ true → o ≡ some (listed o)
 unfolding is_some listed
@@ -114,24 +112,24 @@ module _ (s : List ℕ) (rs : List Relocation) (debug : Bool) (word k : ℕ) whe
   abbrev es : List Entry
   es = listed (entries s)
 
-  module _ (t : is_some (entries s) ≡ true) {r : Span} (m : Spans s r (get_elem? (records debug es) k)) where
-    pub locate_missing : r ≡ span.Nothing → whole ≡ bad 62
+  module _ (t : is_some (entries s) ≡ true) {r : code.Option (ℕ × ℕ)} (m : Spans s r (get_elem? (records debug es) k)) where
+    pub locate_missing : r ≡ None → whole ≡ bad 62
     unfolding locate onward or_else
     locate_missing q = rw (tiled (entries s) t, spans_none s (get_elem? (records debug es) k) m q)
 
-    module _ {a e : ℕ} (q : r ≡ span.At a e) where
+    module _ {a e : ℕ} (q : r ≡ Some (a, e)) where
       pub record_stands : Stands s a e (get_elem? (records debug es) k)
       record_stands = spans s (get_elem? (records debug es) k) m q
 
       abbrev cie_at : Option Entry
       cie_at = after (header_place debug rs (entry_in s a e)) λ place. header_at debug place a es
 
-      module _ {r' : Span} (m' : Spans s r' cie_at) where
-        pub locate_headless : r' ≡ span.Nothing → whole ≡ bad 63
+      module _ {r' : code.Option (ℕ × ℕ)} (m' : Spans s r' cie_at) where
+        pub locate_headless : r' ≡ None → whole ≡ bad 63
         unfolding locate onward or_else
         locate_headless q' = rw (tiled (entries s) t, record_stands.found, spans_none s cie_at m' q')
 
-        module _ {c p : ℕ} (q' : r' ≡ span.At c p) where
+        module _ {c p : ℕ} (q' : r' ≡ Some (c, p)) where
           pub header_stands : Stands s c p cie_at
           header_stands = spans s cie_at m' q'
 

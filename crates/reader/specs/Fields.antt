@@ -1,5 +1,6 @@
 -- The fields of a header and of a record by positions: what was read, and where the rest stands.
-use Rattle.std.specs.Prelude.{◌≡◌, ℕ, ◌≤◌, Bool, true, false, ◌&&◌, List, [], ◌∷◌, length, drop, eqb}
+use Rattle.std.specs.Prelude.{◌≡◌, ℕ, ◌≤◌, Bool, true, false, ◌&&◌, List, [], ◌∷◌, length, drop, eqb, Some, None}
+use Rattle.std.specs.Prelude as code
 use Rattle.std.proofs.Math.Option.{Option, none, some}
 use Rattle.format.specs.Prelude.{pick, Read, next}
 use Rattle.format.specs.Leb.{read_uleb, read_sleb}
@@ -11,17 +12,9 @@ use Rattle.operations.specs.declared.fields.Position.{Position}
 use Rattle.operations.specs.declared.fields.Unsigned.{Unsigned}
 use Rattle.operations.specs.declared.fields.Unsigned.TheVariants as unsigned
 use Rattle.reader.specs.Spans.{part}
-use Rattle.reader.specs.declared.entries.Number.{Number}
-use Rattle.reader.specs.declared.entries.Number.TheVariants as number
 use Rattle.reader.specs.declared.fields.Augmentation.{Augmentation}
-use Rattle.reader.specs.declared.fields.AugmentationRead.{AugmentationRead}
-use Rattle.reader.specs.declared.fields.AugmentationRead.TheVariants as augmentation
-use Rattle.reader.specs.declared.fields.AugmentationData.{AugmentationData}
-use Rattle.reader.specs.declared.fields.AugmentationData.TheVariants as counted
 use Rattle.reader.specs.declared.fields.Header.{Header}
-use Rattle.reader.specs.declared.fields.Header.TheVariants as header
 use Rattle.reader.specs.declared.fields.Record.{Record}
-use Rattle.reader.specs.declared.fields.Record.TheVariants as row
 
 -- a value, and at position q, with the mark b, the rest
 pub record Rests {A : Type 0} (s : List ℕ) (b : Bool) (v : A) (q : Position) (x : Read A) : Type 0 where
@@ -40,9 +33,9 @@ abbrev pub two_of : (plain signal : List ℕ) (personality lsda : Bool) → List
 two_of plain signal personality lsda = spelled plain personality lsda false ∷ spelled signal personality lsda true ∷ []
 
 -- a string's letters and the position past it, or none
-abbrev pub ReadsAugmentation : List ℕ → Bool → AugmentationRead → Read Letters → Type 0
-ReadsAugmentation s b (augmentation.Known p q) x = Rests s b (letters_of p) q x
-ReadsAugmentation s b augmentation.Unknown x = x ≡ none
+abbrev pub ReadsAugmentation : List ℕ → Bool → code.Option (Augmentation × Position) → Read Letters → Type 0
+ReadsAugmentation s b (Some p) x = Rests s b (letters_of p.0) p.1 x
+ReadsAugmentation s b None x = x ≡ none
 
 -- ---- the augmentation data
 
@@ -58,9 +51,9 @@ pub record Counts (s : List ℕ) (b : Bool) (at : Position) (end : ℕ) (x : Rea
   pub mark : at.shortest ≡ b
 
 -- these, or none
-abbrev pub CountsIn : List ℕ → Bool → AugmentationData → Read (List ℕ) → Type 0
-CountsIn s b (counted.At at end) x = Counts s b at end x
-CountsIn s b counted.Nothing x = x ≡ none
+abbrev pub CountsIn : List ℕ → Bool → code.Option (Position × ℕ) → Read (List ℕ) → Type 0
+CountsIn s b (Some p) x = Counts s b p.0 p.1 x
+CountsIn s b None x = x ≡ none
 
 -- something is skipped, and the rest stands at position q
 pub record Skips (s : List ℕ) (q : ℕ) (x : Option (List ℕ)) : Type 0 where
@@ -68,9 +61,9 @@ pub record Skips (s : List ℕ) (q : ℕ) (x : Option (List ℕ)) : Type 0 where
   pub rest : x ≡ some (drop q s)
 
 -- that position, or none
-abbrev pub SkipsTo : List ℕ → Number → Option (List ℕ) → Type 0
-SkipsTo s (number.Is q) x = Skips s q x
-SkipsTo s number.Nothing x = x ≡ none
+abbrev pub SkipsTo : List ℕ → code.Option ℕ → Option (List ℕ) → Type 0
+SkipsTo s (Some q) x = Skips s q x
+SkipsTo s None x = x ≡ none
 
 -- a number and the position past it, or none
 abbrev pub Numbers : List ℕ → Bool → Unsigned → Read ℕ → Type 0
@@ -86,9 +79,9 @@ pub record Heading (s : List ℕ) (b : Bool) (q : Position) (pointer : ℕ) (sig
   pub mark : q.shortest ≡ b
 
 -- these, or none
-abbrev pub Heads : List ℕ → Bool → Header → Option HeaderFields → Type 0
-Heads s b (header.Fields q pointer signal) x = Heading s b q pointer signal x
-Heads s b header.Bad x = x ≡ none
+abbrev pub Heads : List ℕ → Bool → code.Option Header → Option HeaderFields → Type 0
+Heads s b (Some h) x = Heading s b h.operations h.pointer h.signal x
+Heads s b None x = x ≡ none
 
 -- from the code alignment factor on
 unfoldable pub header_factors : (debug : Bool) → Letters → ℕ → List ℕ → Option HeaderFields
@@ -105,6 +98,6 @@ pub record Recording (s : List ℕ) (b : Bool) (q : Position) (size : ℕ) (x : 
   pub mark : q.shortest ≡ b
 
 -- these, or none
-abbrev pub Records : List ℕ → Bool → Record → Option RecordFields → Type 0
-Records s b (row.Fields q size) x = Recording s b q size x
-Records s b row.Bad x = x ≡ none
+abbrev pub Records : List ℕ → Bool → code.Option Record → Option RecordFields → Type 0
+Records s b (Some r) x = Recording s b r.operations r.size x
+Records s b None x = x ≡ none

@@ -1,5 +1,6 @@
 -- What is found of record k: where its operations and its header's are, the few numbers that go with them, and the rules from there on.
-use Rattle.std.specs.Prelude.{◌≡◌, Bool, ◌&&◌, ℕ, ◌≤◌, List, length, T, leb, eqb}
+use Rattle.std.specs.Prelude.{◌≡◌, Bool, ◌&&◌, ℕ, ◌≤◌, List, length, T, leb, eqb, Ok, Err}
+use Rattle.std.specs.Prelude as code
 use Rattle.format.specs.Prelude.{pick, Result, good, bad}
 use Rattle.format.specs.Machine.{is_word_size}
 use Rattle.format.specs.Lists.{relocations_of}
@@ -8,8 +9,6 @@ use Rattle.format.specs.Reader.{Found, locate, run_to, shortest_to}
 use Rattle.format.specs.declared.Reading.{Reading}
 use Rattle.reader.specs.Spans.{part}
 use Rattle.reader.specs.declared.location.Located.{Located}
-use Rattle.reader.specs.declared.location.Locating.{Locating}
-use Rattle.reader.specs.declared.location.Locating.TheVariants as locating
 
 -- the fields of the record and of its header, by positions of the section
 abbrev pub found : List ℕ → Located → Found
@@ -31,9 +30,9 @@ pub record Stated (s : List ℕ) (word : ℕ) (l : Located) (x : Result Found) :
   pub is_word : T (is_word_size word)
 
 -- 61 to 64: what is found, or the question's number
-abbrev pub Locates : List ℕ → ℕ → Locating → Result Found → Type 0
-Locates s word (locating.Found l) x = Stated s word l x
-Locates s word (locating.No n) x = x ≡ bad n
+abbrev pub Locates : List ℕ → ℕ → code.Result Located ℕ → Result Found → Type 0
+Locates s word (Ok l) x = Stated s word l x
+Locates s word (Err n) x = x ≡ bad n
 
 -- 11, and then 61 to 64
 unfoldable pub locate_in : (section relocations : List ℕ) (kind word k : ℕ) → Result Found

@@ -1,13 +1,10 @@
 -- Entries of a section by the positions where they start and end.
-use Rattle.std.specs.Prelude.{◌≡◌, ℕ, suc, ◌+◌, ◌-◌, ◌≤◌, List, [], ◌∷◌, T, length, take, drop}
+use Rattle.std.specs.Prelude.{◌≡◌, ℕ, suc, ◌+◌, ◌-◌, ◌≤◌, List, [], ◌∷◌, T, length, take, drop, Some, None}
+use Rattle.std.specs.Prelude as code
 use Rattle.std.proofs.Math.Option.{Option, none, some}
 use Rattle.format.specs.Prelude.{Read}
 use Rattle.format.specs.Questions.{is_some}
 use Rattle.format.specs.Reader.{Entry, read_entry, entries_f}
-use Rattle.reader.specs.declared.entries.Number.{Number}
-use Rattle.reader.specs.declared.entries.Number.TheVariants as number
-use Rattle.reader.specs.declared.entries.Span.{Span}
-use Rattle.reader.specs.declared.entries.Span.TheVariants as span
 
 -- the bytes from a up to b
 abbrev pub part : List ℕ → (a b : ℕ) → List ℕ
@@ -26,17 +23,12 @@ unfoldable pub listed : Option (List Entry) → List Entry
 listed none = []
 listed (some es) = es
 
--- a number, where there is one
-unfoldable pub number_of : Option ℕ → Number
-number_of none = number.Nothing
-number_of (some n) = number.Is n
-
 -- where the entry at a position ends
-unfoldable pub end_from : (size : ℕ) → Read (List ℕ) → Number
-end_from size none = number.Nothing
-end_from size (some x) = number.Is (size - length x.1)
+unfoldable pub end_from : (size : ℕ) → Read (List ℕ) → code.Option ℕ
+end_from size none = None
+end_from size (some x) = Some (size - length x.1)
 
-unfoldable pub end_at : List ℕ → ℕ → Number
+unfoldable pub end_at : List ℕ → ℕ → code.Option ℕ
 end_at s p = end_from (length s) (read_entry (drop p s))
 
 -- the first of the entries from `at` on ends at `end`, and entries follow
@@ -53,6 +45,6 @@ pub record Stands (s : List ℕ) (at end : ℕ) (x : Option Entry) : Type 0 wher
   pub found : x ≡ some (entry_in s at end)
 
 -- that entry, or none
-abbrev pub Spans : List ℕ → Span → Option Entry → Type 0
-Spans s (span.At at end) x = Stands s at end x
-Spans s span.Nothing x = x ≡ none
+abbrev pub Spans : List ℕ → code.Option (ℕ × ℕ) → Option Entry → Type 0
+Spans s (Some p) x = Stands s p.0 p.1 x
+Spans s None x = x ≡ none

@@ -7,29 +7,22 @@ ghost use Rattle.reader.specs.Spans.{part, entry_in, entries_from, listed, end_a
 
 use operations::fields::{Position, Unsigned, read_le};
 
-// A number, where there is one.
-#[derive(Clone, Copy)]
-pub enum Number {
-    Is(usize),
-    Nothing,
-}
-
 // Where the entry at `at` ends: a 4-byte length, at least 4, and as many bytes.
-pub fn entry_end(s: &[u8], at: usize) -> Number
+pub fn entry_end(s: &[u8], at: usize) -> Option<usize>
     ensures { result ≡ end_at s.now at }
 {
     let place = Position { at, shortest: true };
     let Unsigned::Value(n, body) = read_le(s, place, 4) else {
-        return Number::Nothing;
+        return None;
     };
     if n < 4 {
-        return Number::Nothing;
+        return None;
     }
     let from = body.at;
     if s.len() - from < n as usize {
-        return Number::Nothing;
+        return None;
     }
-    Number::Is(from + n as usize)
+    Some(from + n as usize)
 }
 
 // Question 61: the entries tile the section.
@@ -38,7 +31,7 @@ pub fn tiles(s: &[u8]) -> bool
 {
     let mut at = 0;
     while at < s.len() {
-        let Number::Is(end) = entry_end(s, at) else {
+        let Some(end) = entry_end(s, at) else {
             return false;
         };
         at = end;
@@ -51,7 +44,7 @@ pub fn past(s: &[u8], at: usize) -> usize
     requires { (at < length s.now) × T (is_some (entries_from s.now at)) }
     ensures { Ends s.now at result }
 {
-    let Number::Is(end) = entry_end(s, at) else {
+    let Some(end) = entry_end(s, at) else {
         return 0;
     };
     end
@@ -83,15 +76,8 @@ pub fn is_header(s: &[u8], at: usize, end: usize, debug: bool) -> bool
     second(s, at, end) == numbers::header_id(debug)
 }
 
-// A part of a slice by where it starts and ends, where there is one.
-#[derive(Clone, Copy)]
-pub enum Span {
-    At(usize, usize),
-    Nothing,
-}
-
-// Question 62: record k.
-pub fn record_span(s: &[u8], debug: bool, k: u64) -> Span
+// Question 62: where record k starts and ends.
+pub fn record_span(s: &[u8], debug: bool, k: u64) -> Option<(usize, usize)>
     requires { T (is_some (entries s.now)) }
     ensures { Spans s.now result (get_elem? (records debug (listed (entries s.now))) k) }
 {
@@ -104,9 +90,9 @@ pub fn record_span(s: &[u8], debug: bool, k: u64) -> Span
             continue 'entries;
         }
         if left == 0 {
-            return Span::At(at, next);
+            return Some((at, next));
         }
         left -= 1;
     }
-    Span::Nothing
+    None
 }

@@ -7,7 +7,7 @@ ghost use Rattle.std.specs.Prelude.{◌≡◌};
 ghost use Rattle.format.specs.Reader.{read};
 ghost use Rattle.reader.specs.Finds.{Locates, locate_in, in_section, rules_from, shortest_from};
 
-use crate::location::{Located, Locating};
+use crate::location::Located;
 use format::Reading;
 
 pub mod cursor;
@@ -19,35 +19,28 @@ pub mod shortest;
 
 // Where the operations of record k and of its header are: questions 11 and 61 to 64. A caller who asks for several registers or offsets of
 // one record passes over the section once.
-pub fn locate(section: &[u8], relocations: &[u64], kind: u64, word: u64, k: u64) -> Locating
+pub fn locate(section: &[u8], relocations: &[u64], kind: u64, word: u64, k: u64) -> Result<Located, u64>
     ensures { Locates section.now word result (locate_in section.now relocations.now kind word k) }
 {
     if !numbers::is_word(word) {
-        return Locating::No(11);
+        return Err(11);
     }
     if 1 < kind {
-        return Locating::No(11);
+        return Err(11);
     }
     location::locate(section, relocations, kind == 1, word, k)
 }
 
 // Numbers whose positions lie in the section, and whose word is one.
+#[tactic(auto, unfolding(crate::specs::Finds::in_section))]
 pub fn in_section(section: &[u8], l: Located) -> bool
     ensures { result ≡ in_section section.now l }
 {
-    if l.header_end < l.header {
-        return false;
-    }
-    if section.len() < l.header_end {
-        return false;
-    }
-    if l.record_end < l.record {
-        return false;
-    }
-    if section.len() < l.record_end {
-        return false;
-    }
-    numbers::is_word(l.word)
+    l.header <= l.header_end
+        && l.header_end <= section.len()
+        && l.record <= l.record_end
+        && l.record_end <= section.len()
+        && numbers::is_word(l.word)
 }
 
 // The CFA rule, register q's rule and the signing state at offset p from what `locate` found: questions 65 to 69. Other numbers than its
@@ -106,7 +99,7 @@ pub fn read(
     ensures { result ≡ read section.now relocations.now kind word k q p }
 {
     match locate(section, relocations, kind, word, k) {
-        Locating::Found(l) => rules_at(section, l, q, p),
-        Locating::No(n) => Reading::Refused(n),
+        Ok(l) => rules_at(section, l, q, p),
+        Err(n) => Reading::Refused(n),
     }
 }

@@ -5,48 +5,43 @@ ghost use Rattle.format.specs.Reader.{is_header, distance_back, first_addend, he
 ghost use Rattle.format.specs.Lists.{relocations_of};
 ghost use Rattle.format.specs.Prelude.{after};
 ghost use Rattle.format.specs.Machine.{is_word_size};
-ghost use Rattle.reader.specs.Spans.{entry_in, listed, number_of, Spans};
+ghost use Rattle.format.specs.Coded.{option_of};
+ghost use Rattle.reader.specs.Spans.{entry_in, listed, Spans};
 ghost use Rattle.reader.specs.Finds.{Locates};
 
-use crate::entries::{Number, Span};
 use crate::fields::{Header, Record};
 use crate::{entries, fields};
 
 // ---- the header of a record
 
 // The addend of the first relocation at a place; a relocation is five numbers, the place first and the addend last.
-pub fn first_addend(relocs: &[u64], place: u64) -> Number
-    ensures { result ≡ number_of (first_addend place (relocations_of relocs.now)) }
+pub fn first_addend(relocs: &[u64], place: u64) -> Option<usize>
+    ensures { result ≡ option_of (first_addend place (relocations_of relocs.now)) }
 {
     let n = relocs.len() / relocs::RELOCATION_STRIDE;
-    let mut i = 0;
-    while i < n {
+    for i in 0..n {
         if relocs[relocs::RELOCATION_STRIDE * i] == place {
-            return Number::Is(
+            return Some(
                 relocs[relocs::RELOCATION_STRIDE * i + relocs::RELOCATION_ADDEND] as usize,
             );
         }
-        i += 1;
     }
-    Number::Nothing
+    None
 }
 
 // The place that lies the entry's second field before that field.
-pub fn distance_back(s: &[u8], at: usize, end: usize) -> Number
+pub fn distance_back(s: &[u8], at: usize, end: usize) -> Option<usize>
     requires { (at + 8 ≤ end) × (end ≤ length s.now) }
-    ensures { result ≡ number_of (distance_back (entry_in s.now at end)) }
+    ensures { result ≡ option_of (distance_back (entry_in s.now at end)) }
 {
     let distance = entries::second(s, at, end) as usize;
-    if at + 4 < distance {
-        return Number::Nothing;
-    }
-    Number::Is(at + 4 - distance)
+    (at + 4).checked_sub(distance)
 }
 
 // Where the header of the record from `at` to `end` starts, as its second field says or, in debug_frame, that field's relocation.
-pub fn header_place(s: &[u8], relocs: &[u64], debug: bool, at: usize, end: usize) -> Number
+pub fn header_place(s: &[u8], relocs: &[u64], debug: bool, at: usize, end: usize) -> Option<usize>
     requires { (at + 8 ≤ end) × (end ≤ length s.now) }
-    ensures { result ≡ number_of (header_place debug (relocations_of relocs.now) (entry_in s.now at end)) }
+    ensures { result ≡ option_of (header_place debug (relocations_of relocs.now) (entry_in s.now at end)) }
 {
     if debug {
         return first_addend(relocs, (at + 4) as u64);
@@ -59,17 +54,11 @@ pub fn starts(s: &[u8], at: usize, end: usize, debug: bool, place: usize, before
     requires { (at + 8 ≤ end) × (end ≤ length s.now) }
     ensures { result ≡ eqb at place && ltb place before && is_header debug (entry_in s.now at end) }
 {
-    if at != place {
-        return false;
-    }
-    if before <= place {
-        return false;
-    }
-    entries::is_header(s, at, end, debug)
+    at == place && place < before && entries::is_header(s, at, end, debug)
 }
 
 // The header that starts at a place earlier than `before`.
-pub fn header_span(s: &[u8], debug: bool, place: usize, before: usize) -> Span
+pub fn header_span(s: &[u8], debug: bool, place: usize, before: usize) -> Option<(usize, usize)>
     requires { T (is_some (entries s.now)) }
     ensures { Spans s.now result (header_at debug place before (listed (entries s.now))) }
 {
@@ -78,20 +67,18 @@ pub fn header_span(s: &[u8], debug: bool, place: usize, before: usize) -> Span
         let at = next;
         next = entries::past(s, at);
         if starts(s, at, next, debug, place, before) {
-            return Span::At(at, next);
+            return Some((at, next));
         }
     }
-    Span::Nothing
+    None
 }
 
 // Question 63: the header of the record from `at` to `end`.
-pub fn header_of(s: &[u8], relocs: &[u64], debug: bool, at: usize, end: usize) -> Span
+pub fn header_of(s: &[u8], relocs: &[u64], debug: bool, at: usize, end: usize) -> Option<(usize, usize)>
     requires { (at + 8 ≤ end) × (end ≤ length s.now) × T (is_some (entries s.now)) }
     ensures { Spans s.now result (after (header_place debug (relocations_of relocs.now) (entry_in s.now at end)) λ place. header_at debug place at (listed (entries s.now))) }
 {
-    let Number::Is(place) = header_place(s, relocs, debug, at, end) else {
-        return Span::Nothing;
-    };
+    let place = header_place(s, relocs, debug, at, end)?;
     header_span(s, debug, place, at)
 }
 
@@ -112,14 +99,7 @@ pub struct Located {
     pub shortest: bool,
 }
 
-// That, or the number of the question that was answered by no.
-#[derive(Clone, Copy)]
-pub enum Locating {
-    Found(Located),
-    No(u64),
-}
-
-// Question 64 of the header from `cie` to `past`, and then of the record from `at` to `end`.
+// Question 64 of the header from `cie` to `past`, and then of the record from `at` to `end`: what is found, or the question's number.
 pub fn parse(
     s: &[u8],
     debug: bool,
@@ -128,28 +108,28 @@ pub fn parse(
     past: usize,
     at: usize,
     end: usize,
-) -> Locating
+) -> Result<Located, u64>
     requires { T (is_word_size word) × (cie + 8 ≤ past) × (past ≤ length s.now) × (at + 8 ≤ end) × (end ≤ length s.now) }
     ensures { Locates s.now word result (parsed debug word (entry_in s.now cie past) (entry_in s.now at end)) }
 {
     let header = cie + 4;
-    let Header::Fields(rules, pointer, signal) = fields::parse_header(&s[header..past], debug, word)
-    else {
-        return Locating::No(64);
+    let Some(Header {
+        operations: rules,
+        pointer,
+        signal,
+    }) = fields::parse_header(&s[header..past], debug, word) else {
+        return Err(64);
     };
     let record = at + 4;
-    let rules_at = rules.at;
-    let Record::Fields(rows, size) = fields::parse_record(
-        &s[record..end],
-        debug,
-        word,
-        pointer,
-        rules.shortest,
-    ) else {
-        return Locating::No(64);
+    let Some(Record {
+        operations: rows,
+        size,
+    }) = fields::parse_record(&s[record..end], debug, word, pointer, rules.shortest) else {
+        return Err(64);
     };
+    let rules_at = rules.at;
     let rows_at = rows.at;
-    Locating::Found(Located {
+    Ok(Located {
         header: header + rules_at,
         header_end: past,
         record: record + rows_at,
@@ -163,18 +143,18 @@ pub fn parse(
 }
 
 // Questions 61 to 64, in this order.
-pub fn locate(s: &[u8], relocs: &[u64], debug: bool, word: u64, k: u64) -> Locating
+pub fn locate(s: &[u8], relocs: &[u64], debug: bool, word: u64, k: u64) -> Result<Located, u64>
     requires { T (is_word_size word) }
     ensures { Locates s.now word result (locate debug (relocations_of relocs.now) word k s.now) }
 {
     if !entries::tiles(s) {
-        return Locating::No(61);
+        return Err(61);
     }
-    let Span::At(at, end) = entries::record_span(s, debug, k) else {
-        return Locating::No(62);
+    let Some((at, end)) = entries::record_span(s, debug, k) else {
+        return Err(62);
     };
-    let Span::At(cie, past) = header_of(s, relocs, debug, at, end) else {
-        return Locating::No(63);
+    let Some((cie, past)) = header_of(s, relocs, debug, at, end) else {
+        return Err(63);
     };
     parse(s, debug, word, cie, past, at, end)
 }

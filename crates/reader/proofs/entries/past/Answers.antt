@@ -7,4 +7,4 @@ pub returns-in_default : goal.returns-in_default
 returns-in_default c = absurd (ends_somewhere c.args.s.now c.args.at c.requires.0 c.requires.1 (sym c.entry_end.ensures ∙ c.in_default.is))
 
 pub returns : goal.returns
-returns c = ends c.args.s.now c.args.at c.requires.0 c.requires.1 (sym c.entry_end.ensures ∙ c.in-Is.is)
+returns c = ends c.args.s.now c.args.at c.requires.0 c.requires.1 (sym c.entry_end.ensures ∙ c.in-Some.is)

@@ -11,10 +11,10 @@ pub returns-in_default : goal.returns-in_default
 returns-in_default c = stopped c.loop-at.invariant c.loop-at-test.true (sym c.entry_end.ensures ∙ c.in_default.is)
 
 pub loop-at-smaller : goal.loop-at-smaller
-loop-at-smaller c = omega (arith, (entered c.args.s.now c.loop-at.at (sym c.entry_end.ensures ∙ c.in-Is.is)).long)
+loop-at-smaller c = omega (arith, (entered c.args.s.now c.loop-at.at (sym c.entry_end.ensures ∙ c.in-Some.is)).long)
 
 pub loop-at-preserved : goal.loop-at-preserved
-loop-at-preserved c = turn c.loop-at.invariant c.loop-at-test.true (sym c.entry_end.ensures ∙ c.in-Is.is)
+loop-at-preserved c = turn c.loop-at.invariant c.loop-at-test.true (sym c.entry_end.ensures ∙ c.in-Some.is)
 
 pub returns : goal.returns
 returns c = ended c.loop-at.invariant c.loop-at-test.false

@@ -14,4 +14,4 @@ pub returns-in_default : goal.returns-in_default
 returns-in_default c = lsda_unknown c.args.s.now c.args.at c.args.here c.args.word (ap not c.if-not-here.false) c.if-s-from.false (sym c.pointer_size.ensures ∙ c.in_default.is)
 
 pub returns : goal.returns
-returns c = lsda_there c.args.s.now c.args.at c.args.here c.args.word (ap not c.if-not-here.false) c.if-s-from.false (sym c.pointer_size.ensures ∙ c.in-Is.is)
+returns c = lsda_there c.args.s.now c.args.at c.args.here c.args.word (ap not c.if-not-here.false) c.if-s-from.false (sym c.pointer_size.ensures ∙ c.in-Some.is)

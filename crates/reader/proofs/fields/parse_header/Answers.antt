@@ -12,13 +12,13 @@ returns-then-s-from c = parse_ended c.args.s.now c.args.debug c.args.word (sym c
 pub returns-then-s-from-ne1 : goal.returns-then-s-from-ne1
 returns-then-s-from-ne1 c = parse_version c.args.s.now c.args.debug c.args.word (sym c.read_le.ensures ∙ c.in-Value.is) c.if-s-from.false c.if-s-from-ne1.true
 
-pub returns-in_default-letters : goal.returns-in_default-letters
-returns-in_default-letters c = parse_string c.args.s.now c.args.debug c.args.word (sym c.read_le.ensures ∙ c.in-Value.is) c.if-s-from.false c.if-s-from-ne1.false c.letters.ensures c.in_default-letters.is
+pub returns-in_err-p : goal.returns-in_err-p
+returns-in_err-p c = rw c.from_residual.ensures (parse_string c.args.s.now c.args.debug c.args.word (sym c.read_le.ensures ∙ c.in-Value.is) c.if-s-from.false c.if-s-from-ne1.false c.letters.ensures c.in_err-p.was)
 
 pub returns : goal.returns
 returns c =
     rw (
-      parse_rest c.args.s.now c.args.debug c.args.word (sym c.read_le.ensures ∙ c.in-Value.is) c.if-s-from.false c.if-s-from-ne1.false c.letters.ensures c.in-Known.is,
-      parse_mark c.args.s.now c.args.debug c.args.word (sym c.read_le.ensures ∙ c.in-Value.is) c.if-s-from.false c.if-s-from-ne1.false c.letters.ensures c.in-Known.is,
+      parse_rest c.args.s.now c.args.debug c.args.word (sym c.read_le.ensures ∙ c.in-Value.is) c.if-s-from.false c.if-s-from-ne1.false c.letters.ensures c.in_ok-p.was,
+      parse_mark c.args.s.now c.args.debug c.args.word (sym c.read_le.ensures ∙ c.in-Value.is) c.if-s-from.false c.if-s-from-ne1.false c.letters.ensures c.in_ok-p.was,
     )
     c.header_factors.ensures

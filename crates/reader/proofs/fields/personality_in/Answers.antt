@@ -10,11 +10,11 @@ returns-then-not-here c = personality_absent c.args.s.now c.args.here c.args.wor
 pub returns-then-s-eq0 : goal.returns-then-s-eq0
 returns-then-s-eq0 c = personality_empty c.args.s.now c.args.here c.args.word (ap not c.if-not-here.false) c.if-s-eq0.true
 
-pub returns-in_default : goal.returns-in_default
-returns-in_default c = personality_unknown c.args.s.now c.args.here c.args.word (ap not c.if-not-here.false) c.if-s-eq0.false (sym c.pointer_size.ensures ∙ c.in_default.is)
+pub returns-in_err-n : goal.returns-in_err-n
+returns-in_err-n c = rw c.from_residual.ensures (personality_unknown c.args.s.now c.args.here c.args.word (ap not c.if-not-here.false) c.if-s-eq0.false (sym c.pointer_size.ensures ∙ c.in_err-n.was))
 
 pub returns-then-s-n : goal.returns-then-s-n
-returns-then-s-n c = personality_over c.args.s.now c.args.here c.args.word (ap not c.if-not-here.false) c.if-s-eq0.false (sym c.pointer_size.ensures ∙ c.in-Is.is) c.if-s-n.true
+returns-then-s-n c = personality_over c.args.s.now c.args.here c.args.word (ap not c.if-not-here.false) c.if-s-eq0.false (sym c.pointer_size.ensures ∙ c.in_ok-n.was) c.if-s-n.true
 
 pub returns : goal.returns
-returns c = personality_there c.args.s.now c.args.here c.args.word (ap not c.if-not-here.false) c.if-s-eq0.false (sym c.pointer_size.ensures ∙ c.in-Is.is) c.if-s-n.false
+returns c = personality_there c.args.s.now c.args.here c.args.word (ap not c.if-not-here.false) c.if-s-eq0.false (sym c.pointer_size.ensures ∙ c.in_ok-n.was) c.if-s-n.false

@@ -4,10 +4,10 @@ use Rattle.format.specs.Prelude.{after}
 use Rattle.reader.proofs.Seeking.{number_is, number_none}
 use Rattle.reader.proofs.location.header_of.Goals as goal
 
-pub returns-in_default : goal.returns-in_default
+pub returns-in_err-place : goal.returns-in_err-place
 unfolding after
-returns-in_default c = rw (number_none _ (sym c.header_place.ensures ∙ c.in_default.is))
+returns-in_err-place c = rw (c.from_residual.ensures, number_none _ (sym c.header_place.ensures ∙ c.in_err-place.was))
 
 pub returns : goal.returns
 unfolding after
-returns c = rw (number_is _ (sym c.header_place.ensures ∙ c.in-Is.is)) c.header_span.ensures
+returns c = rw (number_is _ (sym c.header_place.ensures ∙ c.in_ok-place.was)) c.header_span.ensures

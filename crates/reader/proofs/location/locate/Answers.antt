@@ -15,17 +15,17 @@ returns-in_default c = locate_missing c.args.s.now (relocations_of c.args.relocs
 
 pub header_of-requires : goal.header_of-requires
 header_of-requires c =
-    let p = record_stands c.args.s.now (relocations_of c.args.relocs.now) c.args.debug c.args.word c.args.k (sym c.tiles.ensures ∙ c.if-not-tiles.false) c.record_span.ensures c.in-At.is in
+    let p = record_stands c.args.s.now (relocations_of c.args.relocs.now) c.args.debug c.args.word c.args.k (sym c.tiles.ensures ∙ c.if-not-tiles.false) c.record_span.ensures c.in-Some.is in
     (p.long, p.inside, rw (sym c.tiles.ensures ∙ c.if-not-tiles.false) tt)
 
 pub returns-in_default-header_of : goal.returns-in_default-header_of
-returns-in_default-header_of c = locate_headless c.args.s.now (relocations_of c.args.relocs.now) c.args.debug c.args.word c.args.k (sym c.tiles.ensures ∙ c.if-not-tiles.false) c.record_span.ensures c.in-At.is c.header_of.ensures c.in_default-header_of.is
+returns-in_default-header_of c = locate_headless c.args.s.now (relocations_of c.args.relocs.now) c.args.debug c.args.word c.args.k (sym c.tiles.ensures ∙ c.if-not-tiles.false) c.record_span.ensures c.in-Some.is c.header_of.ensures c.in_default-header_of.is
 
 pub parse-requires : goal.parse-requires
 parse-requires c =
-    let p = record_stands c.args.s.now (relocations_of c.args.relocs.now) c.args.debug c.args.word c.args.k (sym c.tiles.ensures ∙ c.if-not-tiles.false) c.record_span.ensures c.in-At.is in
-    let h = header_stands c.args.s.now (relocations_of c.args.relocs.now) c.args.debug c.args.word c.args.k (sym c.tiles.ensures ∙ c.if-not-tiles.false) c.record_span.ensures c.in-At.is c.header_of.ensures c.in-At-header_of.is in
+    let p = record_stands c.args.s.now (relocations_of c.args.relocs.now) c.args.debug c.args.word c.args.k (sym c.tiles.ensures ∙ c.if-not-tiles.false) c.record_span.ensures c.in-Some.is in
+    let h = header_stands c.args.s.now (relocations_of c.args.relocs.now) c.args.debug c.args.word c.args.k (sym c.tiles.ensures ∙ c.if-not-tiles.false) c.record_span.ensures c.in-Some.is c.header_of.ensures c.in-Some-header_of.is in
     (c.requires, h.long, h.inside, p.long, p.inside)
 
 pub returns : goal.returns
-returns c = rw (locate_rest c.args.s.now (relocations_of c.args.relocs.now) c.args.debug c.args.word c.args.k (sym c.tiles.ensures ∙ c.if-not-tiles.false) c.record_span.ensures c.in-At.is c.header_of.ensures c.in-At-header_of.is) c.parse.ensures
+returns c = rw (locate_rest c.args.s.now (relocations_of c.args.relocs.now) c.args.debug c.args.word c.args.k (sym c.tiles.ensures ∙ c.if-not-tiles.false) c.record_span.ensures c.in-Some.is c.header_of.ensures c.in-Some-header_of.is) c.parse.ensures

@@ -7,13 +7,13 @@ pub returns-in_default : goal.returns-in_default
 returns-in_default c = fields_header c.args.s.now c.args.debug c.args.word c.args.cie c.args.past c.args.at c.args.end c.parse_header.ensures c.in_default.is
 
 pub returns-in_default-parse_record : goal.returns-in_default-parse_record
-returns-in_default-parse_record c = fields_record c.args.s.now c.args.debug c.args.word c.args.cie c.args.past c.args.at c.args.end c.parse_header.ensures c.in-Fields.is c.parse_record.ensures c.in_default-parse_record.is
+returns-in_default-parse_record c = fields_record c.args.s.now c.args.debug c.args.word c.args.cie c.args.past c.args.at c.args.end c.parse_header.ensures c.in-Some.is c.parse_record.ensures c.in_default-parse_record.is
 
 pub overflow_add-result : goal.overflow_add-result
-overflow_add-result c = record { fits = omega (arith, header_held c.args.s.now c.args.debug c.args.word c.args.cie c.args.past c.args.at c.args.end c.parse_header.ensures c.in-Fields.is c.requires.1 c.requires.2) }
+overflow_add-result c = record { fits = omega (arith, header_held c.args.s.now c.args.debug c.args.word c.args.cie c.args.past c.args.at c.args.end c.parse_header.ensures c.in-Some.is c.requires.1 c.requires.2) }
 
 pub overflow_add-result-2 : goal.overflow_add-result-2
-overflow_add-result-2 c = record { fits = omega (arith, record_held c.args.s.now c.args.debug c.args.word c.args.cie c.args.past c.args.at c.args.end c.parse_header.ensures c.in-Fields.is c.parse_record.ensures c.in-Fields-parse_record.is c.requires.3 c.requires.4) }
+overflow_add-result-2 c = record { fits = omega (arith, record_held c.args.s.now c.args.debug c.args.word c.args.cie c.args.past c.args.at c.args.end c.parse_header.ensures c.in-Some.is c.parse_record.ensures c.in-Some-parse_record.is c.requires.3 c.requires.4) }
 
 pub returns : goal.returns
-returns c = fields_there c.args.s.now c.args.debug c.args.word c.args.cie c.args.past c.args.at c.args.end c.parse_header.ensures c.in-Fields.is c.parse_record.ensures c.in-Fields-parse_record.is c.requires.0 c.requires.1 c.requires.2 c.requires.3 c.requires.4
+returns c = fields_there c.args.s.now c.args.debug c.args.word c.args.cie c.args.past c.args.at c.args.end c.parse_header.ensures c.in-Some.is c.parse_record.ensures c.in-Some-parse_record.is c.requires.0 c.requires.1 c.requires.2 c.requires.3 c.requires.4
