@@ -14,8 +14,6 @@ use Rattle.operations.specs.Positions.{uleb_at}
 use Rattle.format.specs.Headers.{pointer_size}
 use Rattle.format.specs.Reader.{read_byte, read_many, read_counted, personality_in, lsda_in, letters_in}
 use Rattle.operations.specs.declared.fields.Position.{Position}
-use Rattle.operations.specs.declared.fields.Unsigned.{Unsigned}
-use Rattle.operations.specs.declared.fields.Unsigned.TheVariants as unsigned
 use Rattle.operations.proofs.PositionLaws.{past_mark, uleb_ahead, uleb_rest, uleb_past, uleb_none}
 use Rattle.std.specs.Prelude.{Some, None}
 use Rattle.std.specs.Prelude as code
@@ -51,11 +49,11 @@ module _ (s : List ℕ) (p : ℕ) where
 -- ---- a length and as many bytes
 
 module _ (s : List ℕ) (p : Position) where
-  pub counted_none : uleb_at s p ≡ unsigned.Bad → read_counted (drop p.at s) ≡ none
+  pub counted_none : uleb_at s p ≡ None → read_counted (drop p.at s) ≡ none
   unfolding read_counted next
   counted_none e = rw (uleb_none s p e)
 
-  module _ {n : ℕ} {q : Position} (e : uleb_at s p ≡ unsigned.Value n q) where
+  module _ {n : ℕ} {q : Position} (e : uleb_at s p ≡ Some (n, q)) where
     pub counted_over : length s - q.at < n → read_counted (drop p.at s) ≡ none
     unfolding read_counted next
     counted_over h = rw (uleb_rest s p e) (many_none s q.at n h)
@@ -143,14 +141,14 @@ module _ (s : List ℕ) (word : ℕ) (p : Augmentation) {r : code.Option ℕ} (m
     pub letters_inside : a ≤ length s
     letters_inside = skipped.inside
 
-    module _ (b : Bool) {v : Unsigned} (k : Numbers s b v (lsda_in p.lsda word (drop a s))) where
-      pub letters_second : v ≡ unsigned.Bad → None ≡ option_of (letters_in (letters_of p) word s)
+    module _ (b : Bool) {v : code.Option (ℕ × Position)} (k : Numbers s b v (lsda_in p.lsda word (drop a s))) where
+      pub letters_second : v ≡ None → None ≡ option_of (letters_in (letters_of p) word s)
       unfolding letters_in after next
-      letters_second f = rw (skipped.rest, subst (λ (v : Unsigned). Numbers s b v (lsda_in p.lsda word (drop a s))) f k)
+      letters_second f = rw (skipped.rest, subst (λ (v : code.Option (ℕ × Position)). Numbers s b v (lsda_in p.lsda word (drop a s))) f k)
 
-      module _ {n : ℕ} {q : Position} (f : v ≡ unsigned.Value n q) where
+      module _ {n : ℕ} {q : Position} (f : v ≡ Some (n, q)) where
         lsda_read : Rests s b n q (lsda_in p.lsda word (drop a s))
-        lsda_read = subst (λ (v : Unsigned). Numbers s b v (lsda_in p.lsda word (drop a s))) f k
+        lsda_read = subst (λ (v : code.Option (ℕ × Position)). Numbers s b v (lsda_in p.lsda word (drop a s))) f k
 
         pub letters_ended : length s ≤ q.at → None ≡ option_of (letters_in (letters_of p) word s)
         unfolding letters_in after next

@@ -21,8 +21,6 @@ use Rattle.format.specs.Headers.{data_factor}
 use Rattle.format.specs.Reader.{spellings, read_letters, read_counted, letters_in, HeaderFields, header_tail, require, parse_header, header_numbers, mark_after, header_short}
 use Rattle.format.specs.Shortest.{unsigned as unsignedNumber, signed as signedNumber, numbers_short}
 use Rattle.operations.specs.declared.fields.Position.{Position}
-use Rattle.operations.specs.declared.fields.Unsigned.TheVariants as unsigned
-use Rattle.operations.specs.declared.fields.Signed.TheVariants as signed
 use Rattle.format.proofs.FieldsBack.{word_small}
 use Rattle.operations.proofs.PositionLaws.{past_mark, uleb_rest, uleb_none, uleb_on, sleb_rest, sleb_none, sleb_on, little_ahead, little_rest, little_past, little_none}
 use Rattle.rows.proofs.Signs.{same_bits}
@@ -88,31 +86,31 @@ module _ (s : List ℕ) (p : Position) (debug : Bool) (word : ℕ) (l : Augmenta
   abbrev factors : Option HeaderFields
   factors = header_factors debug (letters_of l) word (drop p.at s)
 
-  pub factors_none : uleb_at s p ≡ unsigned.Bad → factors ≡ none
+  pub factors_none : uleb_at s p ≡ None → factors ≡ none
   unfolding header_factors next
   factors_none e = rw (uleb_none s p e)
 
-  module _ {code : ℕ} {q : Position} (e : uleb_at s p ≡ unsigned.Value code q) where
+  module _ {code : ℕ} {q : Position} (e : uleb_at s p ≡ Some (code, q)) where
     pub factors_code : (code ≡ 1 → ⊥) → factors ≡ none
     unfolding header_factors next require pick
     factors_code n = rw (uleb_rest s p e) (simp (ne_eqb code 1 n))
 
     module _ (one : code ≡ 1) where
-      pub factors_open : sleb_at s q ≡ signed.Bad → factors ≡ none
+      pub factors_open : sleb_at s q ≡ None → factors ≡ none
       unfolding header_factors next require pick
       factors_open f = rw (uleb_rest s p e, one, sleb_none s q f)
 
-      module _ {z : ℤ} {t : Position} (f : sleb_at s q ≡ signed.Value z t) where
+      module _ {z : ℤ} {t : Position} (f : sleb_at s q ≡ Some (z, t)) where
         pub factors_data : same_offset z (data_factor word) ≡ false → factors ≡ none
         unfolding header_factors next require pick
         factors_data g = rw (uleb_rest s p e, one, sleb_rest s q f) (simp g)
 
         module _ (g : same_offset z (data_factor word) ≡ true) where
-          pub factors_unnamed : uleb_at s t ≡ unsigned.Bad → factors ≡ none
+          pub factors_unnamed : uleb_at s t ≡ None → factors ≡ none
           unfolding header_factors read_register next require pick
           factors_unnamed k = rw (uleb_rest s p e, one, sleb_rest s q f, uleb_none s t k) (simp g)
 
-          module _ {v : ℕ} {u : Position} (k : uleb_at s t ≡ unsigned.Value v u) where
+          module _ {v : ℕ} {u : Position} (k : uleb_at s t ≡ Some (v, u)) where
             pub factors_over : 0xffff < v → factors ≡ none
             unfolding header_factors read_register next require pick
             factors_over h = rw (uleb_rest s p e, one, sleb_rest s q f, uleb_rest s t k) (simp (g, lt-leb v 0xffff h))
@@ -131,11 +129,11 @@ module _ (s : List ℕ) (p : Position) (debug : Bool) (word : ℕ) (l : Augmenta
 -- ---- the id, the version and the string
 
 module _ (s : List ℕ) (debug : Bool) (word : ℕ) where
-  pub parse_none : little_at 4 s (from 0) ≡ unsigned.Bad → parse_header debug word s ≡ none
+  pub parse_none : little_at 4 s (from 0) ≡ None → parse_header debug word s ≡ none
   unfolding parse_header next
   parse_none e = rw (little_none s (from 0) 4 e)
 
-  module _ {id : ℕ} {p : Position} (e : little_at 4 s (from 0) ≡ unsigned.Value id p) where
+  module _ {id : ℕ} {p : Position} (e : little_at 4 s (from 0) ≡ Some (id, p)) where
     pub parse_ended : length s ≤ p.at → parse_header debug word s ≡ none
     unfolding parse_header next
     parse_ended h = rw (little_rest s (from 0) (omega arith) e, byte_none s p.at h)

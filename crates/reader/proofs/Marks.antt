@@ -1,4 +1,5 @@
 -- The run over the operations of an entry that looks at their marks.
+use Rattle.std.specs.Prelude.{Some, None}
 use mathlib.Core.Path.{◌≡◌, refl, sym, ◌∙◌}
 use mathlib.Core.Bool.{true, false, ◌&&◌}
 use mathlib.Core.List.{List, [], ◌∷◌}
@@ -13,7 +14,6 @@ use Rattle.format.specs.declared.Operation.TheVariants.{Nop, Step, Does}
 use Rattle.format.specs.Shortest.{operation_short, behind, while_read, run_short_f, run_short}
 use Rattle.format.proofs.Choice.{if-le, if-gt}
 use Rattle.operations.specs.declared.fields.Position.{Position}
-use Rattle.operations.specs.declared.Decoded.TheVariants as decoded
 use Rattle.operations.specs.Positions.{operation_at, from}
 use Rattle.operations.proofs.PositionLaws.{past_mark}
 use Rattle.operations.proofs.OperationLaws.{operation_ahead, operation_rest, operation_past, operation_none}
@@ -53,11 +53,11 @@ module _ {s : List ℕ} {word p : ℕ} {at : Position} {loc : ℕ} (i : Left s w
         ≡ while_read (read_operation word (drop at.at s)) λ op r. operation_short (drop at.at s) && behind p op loc λ loc'. run_short_f word p (i.fuel - 1) loc' r
     opened = i.rest ∙ opens i.fuel (omega (arith, i.enough))
 
-    pub unread : operation_at word s at ≡ decoded.Bad → false ≡ run_short word p s
+    pub unread : operation_at word s at ≡ None → false ≡ run_short word p s
     unfolding while_read
     unread e = sym (opened ∙ rw (operation_none word s at e))
 
-    module _ {op : Operation} {next : Position} (e : operation_at word s at ≡ decoded.Operation op next) where
+    module _ {op : Operation} {next : Position} (e : operation_at word s at ≡ Some (op, next)) where
       -- less is left
       pub shorter : length s - next.at < length s - at.at
       shorter = omega (arith, operation_ahead word s at e)

@@ -1,4 +1,5 @@
 -- The run of the operations of one entry: at each operation, what is left of the entry decides.
+use Rattle.std.specs.Prelude.{Some, None}
 use mathlib.Core.Path.{◌≡◌, refl, sym, ◌∙◌}
 use Prim.Native.Nat.{ℕ, zero, suc, ◌+◌, ◌-◌, ◌≤◌, ◌<◌}
 use native.Mathlib.Omega.{arith}
@@ -13,7 +14,6 @@ use Rattle.format.specs.declared.Rule.{Rule}
 use Rattle.format.specs.declared.Operation.{Operation}
 use Rattle.format.specs.declared.Operation.TheVariants.{Nop, Step, Does}
 use Rattle.operations.specs.declared.fields.Position.{Position}
-use Rattle.operations.specs.declared.Decoded.TheVariants as decoded
 use Rattle.format.specs.declared.Reading.{Reading}
 use Rattle.format.specs.declared.Reading.TheVariants.{Refused}
 use Rattle.format.specs.Rows.{read_operation}
@@ -90,7 +90,7 @@ pub record Inside (whole : Reading) (header : Bool) (word p q : ℕ) (initial : 
 module _ {whole : Reading} {header : Bool} {word p q : ℕ} {initial : Rule} {ops : List ℕ} {k : State → Result State} {at : Position} {loc : ℕ} {state : code.State}
     (i : Inside whole header word p q initial ops k at loc state) where
   -- 66: an operation that cannot be read
-  pub bad_operation : at.at < length ops → operation_at word ops at ≡ decoded.Bad → Refused 66 ≡ whole
+  pub bad_operation : at.at < length ops → operation_at word ops at ≡ None → Refused 66 ≡ whole
   unfolding onward answer
   bad_operation h e =
       sym (i.rest ∙ rw (unread header word p i.first (drop at.at ops) loc i.all (operation_none word ops at e) (omega (arith, length-drop at.at ops))))
@@ -100,7 +100,7 @@ module _ {whole : Reading} {header : Bool} {word p q : ℕ} {initial : Rule} {op
   unfolding run_f onward
   all_done h = i.rest ∙ rw (drop_of_length-le ops h)
 
-  module _ {op : Operation} {next : Position} (e : operation_at word ops at ≡ decoded.Operation op next) where
+  module _ {op : Operation} {next : Position} (e : operation_at word ops at ≡ Some (op, next)) where
     opened : whole ≡ answer q (onward (perform header p i.first op loc i.all λ m u. running header word p i.first m u (drop next.at ops)) k)
     opened =
         i.rest

@@ -15,7 +15,6 @@ use Rattle.format.specs.Machine.{is_word_size}
 use Rattle.format.specs.Reader.{read_counted, RecordFields, require, record_tail, parse_record, record_short}
 use Rattle.format.specs.Shortest.{numbers_short}
 use Rattle.operations.specs.declared.fields.Position.{Position}
-use Rattle.operations.specs.declared.fields.Unsigned.TheVariants as unsigned
 use Rattle.format.proofs.FieldsBack.{word_small}
 use Rattle.operations.proofs.PositionLaws.{little_ahead, little_rest, little_kept, little_none}
 use Rattle.reader.specs.Spans.{part}
@@ -72,24 +71,24 @@ module _ (s : List ℕ) (debug : Bool) (word pointer : ℕ) (shortest : Bool) wh
   abbrev start : Position
   start = record { at = 0; shortest = shortest }
 
-  pub parse_none : little_at 4 s start ≡ unsigned.Bad → parse_record debug word pointer s ≡ none
+  pub parse_none : little_at 4 s start ≡ None → parse_record debug word pointer s ≡ none
   unfolding parse_record next
   parse_none e = rw (little_none s start 4 e)
 
-  module _ (t : T (is_word_size word)) {id : ℕ} {p : Position} (e : little_at 4 s start ≡ unsigned.Value id p) {n : ℕ} (w : n ≡ pick debug word 4) where
+  module _ (t : T (is_word_size word)) {id : ℕ} {p : Position} (e : little_at 4 s start ≡ Some (id, p)) {n : ℕ} (w : n ≡ pick debug word 4) where
     byte : 0 < n
     byte = omega (arith, (field_small debug word t).0)
 
-    pub parse_placeless : little_at n s p ≡ unsigned.Bad → parse_record debug word pointer s ≡ none
+    pub parse_placeless : little_at n s p ≡ None → parse_record debug word pointer s ≡ none
     unfolding parse_record next
     parse_placeless f = rw (← w, little_rest s start (omega arith) e, little_none s p n f)
 
-    module _ {v : ℕ} {q : Position} (f : little_at n s p ≡ unsigned.Value v q) where
-      pub parse_sizeless : little_at n s q ≡ unsigned.Bad → parse_record debug word pointer s ≡ none
+    module _ {v : ℕ} {q : Position} (f : little_at n s p ≡ Some (v, q)) where
+      pub parse_sizeless : little_at n s q ≡ None → parse_record debug word pointer s ≡ none
       unfolding parse_record next
       parse_sizeless g = rw (← w, little_rest s start (omega arith) e, little_rest s p byte f, little_none s q n g)
 
-      module _ {size : ℕ} {u : Position} (g : little_at n s q ≡ unsigned.Value size u) where
+      module _ {size : ℕ} {u : Position} (g : little_at n s q ≡ Some (size, u)) where
         pub tail_inside : u.at ≤ length s
         tail_inside = (little_ahead s q byte g).1
 

@@ -12,7 +12,7 @@ use Rattle.reader.specs.Spans.{part, entry_in, end_at}
 use Rattle.std.specs.Prelude.{Some, None}
 use Rattle.std.specs.Prelude as code
 use Rattle.reader.proofs.Tiling.{entered, none_read}
-use Rattle.format.specs.Prelude.{Result, good, bad}
+use Rattle.format.specs.Prelude.{good, bad}
 use Rattle.reader.specs.Listing.{shown, entry_read, entry_from, entry_at}
 use Rattle.reader.specs.declared.cursor.Entry.{Entry}
 

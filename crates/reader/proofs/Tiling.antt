@@ -15,7 +15,6 @@ use Rattle.operations.specs.Positions.{little_at, from}
 use Rattle.format.specs.Questions.{is_some}
 use Rattle.format.specs.Reader.{Entry, read_entry, entries_f, entries, value_or0, second}
 use Rattle.operations.specs.declared.fields.Position.{Position}
-use Rattle.operations.specs.declared.fields.Unsigned.TheVariants as unsigned
 use Rattle.operations.proofs.PositionLaws.{Takes, nothing, taken, takes_little, little_ahead, little_rest, little_none}
 use Rattle.reader.specs.Spans.{part, entry_in, entries_from, listed, end_from, end_at, Ends}
 use Rattle.std.specs.Prelude.{Some, None}
@@ -46,11 +45,11 @@ entry_held bs = taken_held bs (takes_little 4 bs)
 -- ---- where the entry at a position ends
 
 module _ (s : List ℕ) (p : ℕ) where
-  pub end_none : little_at 4 s (from p) ≡ unsigned.Bad → end_at s p ≡ None
+  pub end_none : little_at 4 s (from p) ≡ None → end_at s p ≡ None
   unfolding end_at end_from read_entry next
   end_none e = rw (little_none s (from p) 4 e)
 
-  module _ {n : ℕ} {q : Position} (e : little_at 4 s (from p) ≡ unsigned.Value n q) where
+  module _ {n : ℕ} {q : Position} (e : little_at 4 s (from p) ≡ Some (n, q)) where
     opened : end_at s p ≡ end_from (length s) (pick (leb 4 n && leb n (length (drop q.at s))) (some (take n (drop q.at s), drop n (drop q.at s))) none)
     unfolding end_at read_entry next
     opened = rw (little_rest s (from p) (omega arith) e)
@@ -200,10 +199,10 @@ module _ (s : List ℕ) (at : ℕ) (h : at < length s) (t : T (is_some (entries_
 -- ---- an entry's second field
 
 module _ (s : List ℕ) where
-  pub second_is : {v : ℕ} {q : Position} → little_at 4 s (from 0) ≡ unsigned.Value v q → second s ≡ v
+  pub second_is : {v : ℕ} {q : Position} → little_at 4 s (from 0) ≡ Some (v, q) → second s ≡ v
   unfolding second value_or0
   second_is e = rw (little_rest s (from 0) (omega arith) e)
 
-  pub second_none : little_at 4 s (from 0) ≡ unsigned.Bad → second s ≡ 0
+  pub second_none : little_at 4 s (from 0) ≡ None → second s ≡ 0
   unfolding second value_or0
   second_none e = rw (little_none s (from 0) 4 e)

@@ -9,8 +9,6 @@ use Rattle.format.specs.Headers.{data_factor}
 use Rattle.format.specs.Reader.{Letters, Spelling, spelled, HeaderFields, require, header_tail, RecordFields}
 use Rattle.format.specs.Shortest.{unsigned as unsignedNumber, numbers_short}
 use Rattle.operations.specs.declared.fields.Position.{Position}
-use Rattle.operations.specs.declared.fields.Unsigned.{Unsigned}
-use Rattle.operations.specs.declared.fields.Unsigned.TheVariants as unsigned
 use Rattle.reader.specs.Spans.{part}
 use Rattle.reader.specs.declared.fields.Augmentation.{Augmentation}
 use Rattle.reader.specs.declared.fields.Header.{Header}
@@ -66,9 +64,9 @@ SkipsTo s (Some q) x = Skips s q x
 SkipsTo s None x = x ≡ none
 
 -- a number and the position past it, or none
-abbrev pub Numbers : List ℕ → Bool → Unsigned → Read ℕ → Type 0
-Numbers s b (unsigned.Value v q) x = Rests s b v q x
-Numbers s b unsigned.Bad x = x ≡ none
+abbrev pub Numbers : List ℕ → Bool → code.Option (ℕ × Position) → Read ℕ → Type 0
+Numbers s b (Some p) x = Rests s b p.0 p.1 x
+Numbers s b None x = x ≡ none
 
 -- ---- a header
 

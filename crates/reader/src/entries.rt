@@ -5,16 +5,14 @@ ghost use Rattle.format.specs.Questions.{is_some};
 ghost use Rattle.format.specs.Reader.{second, is_header, records, entries};
 ghost use Rattle.reader.specs.Spans.{part, entry_in, entries_from, listed, end_at, Ends, Spans};
 
-use operations::fields::{Position, Unsigned, read_le};
+use operations::fields::{Position, read_le};
 
 // Where the entry at `at` ends: a 4-byte length, at least 4, and as many bytes.
 pub fn entry_end(s: &[u8], at: usize) -> Option<usize>
     ensures { result ≡ end_at s.now at }
 {
     let place = Position { at, shortest: true };
-    let Unsigned::Value(n, body) = read_le(s, place, 4) else {
-        return None;
-    };
+    let (n, body) = read_le(s, place, 4)?;
     if n < 4 {
         return None;
     }
@@ -54,7 +52,7 @@ pub fn past(s: &[u8], at: usize) -> usize
 fn id_of(body: &[u8]) -> u64
     ensures { result ≡ second body.now }
 {
-    let Unsigned::Value(v, _) = read_le(body, Position::START, 4) else {
+    let Some((v, _)) = read_le(body, Position::START, 4) else {
         return 0;
     };
     v

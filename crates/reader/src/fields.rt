@@ -10,7 +10,7 @@ ghost use Rattle.format.specs.Headers.{pointer_size, data_factor};
 ghost use Rattle.format.specs.Coded.{option_of};
 ghost use Rattle.reader.specs.Fields.{letters_of, two_of, ReadsAugmentation, CountsIn, SkipsTo, Numbers, Heads, tail_mark, header_factors, Records};
 
-use operations::fields::{Position, Signed, Unsigned, read_le, read_sleb, read_uleb};
+use operations::fields::{Position, read_le, read_sleb, read_uleb};
 
 // ---- the augmentation string of a header
 
@@ -104,9 +104,7 @@ fn pointer_size(indirect: bool, word: u64, e: u8) -> Option<usize>
 fn counted(s: &[u8], at: Position) -> Option<(Position, usize)>
     ensures { CountsIn s.now (tail_mark false s.now at) result (read_counted (drop at.at s.now)) }
 {
-    let Unsigned::Value(n, start) = read_uleb(s, at) else {
-        return None;
-    };
+    let (n, start) = read_uleb(s, at)?;
     let from = start.at;
     if s.len() - from < n as usize {
         return None;
@@ -133,27 +131,25 @@ fn personality_in(s: &[u8], here: bool, word: u64) -> Option<usize>
 }
 
 // The bytes of a record's pointer to call sites by the encoding at `at`, none where there is no encoding `here`.
-fn lsda_in(s: &[u8], at: Position, here: bool, word: u64) -> Unsigned
+fn lsda_in(s: &[u8], at: Position, here: bool, word: u64) -> Option<(u64, Position)>
     requires { T (is_word_size word) × (at.at ≤ length s.now) }
     ensures { Numbers s.now at.shortest result (lsda_in here word (drop at.at s.now)) }
 {
     if !here {
-        return Unsigned::Value(0, at);
+        return Some((0, at));
     }
     let from = at.at;
     if s.len() <= from {
-        return Unsigned::Bad;
+        return None;
     }
-    let Some(n) = pointer_size(false, word, s[from]) else {
-        return Unsigned::Bad;
-    };
-    Unsigned::Value(
+    let n = pointer_size(false, word, s[from])?;
+    Some((
         n as u64,
         Position {
             at: from + 1,
             shortest: at.shortest,
         },
-    )
+    ))
 }
 
 // The data that the string promises, the records' own encoding last: the bytes of a record's pointer to call sites.
@@ -163,9 +159,7 @@ fn letters_in(s: &[u8], word: u64, p: Augmentation) -> Option<usize>
 {
     let at = personality_in(s, p.personality, word)?;
     let start = Position { at, shortest: true };
-    let Unsigned::Value(n, last) = lsda_in(s, start, p.lsda, word) else {
-        return None;
-    };
+    let (n, last) = lsda_in(s, start, p.lsda, word)?;
     let end = last.at;
     if s.len() <= end {
         return None;
@@ -187,7 +181,13 @@ pub struct Header {
 }
 
 // The augmentation data, of which debug_frame has none; the operations follow it.
-pub fn header_tail(s: &[u8], at: Position, debug: bool, word: u64, p: Augmentation) -> Option<Header>
+pub fn header_tail(
+    s: &[u8],
+    at: Position,
+    debug: bool,
+    word: u64,
+    p: Augmentation,
+) -> Option<Header>
     requires { T (is_word_size word) × (at.at ≤ length s.now) }
     ensures { Heads s.now (tail_mark debug s.now at) result (header_tail debug (letters_of p) word (drop at.at s.now)) }
 {
@@ -225,21 +225,15 @@ fn header_factors(s: &[u8], at: Position, debug: bool, word: u64, p: Augmentatio
     requires { T (is_word_size word) }
     ensures { Heads s.now (at.shortest && numbers_short (header_numbers debug) (drop at.at s.now)) result (header_factors debug (letters_of p) word (drop at.at s.now)) }
 {
-    let Unsigned::Value(code, data) = read_uleb(s, at) else {
-        return None;
-    };
+    let (code, data) = read_uleb(s, at)?;
     if code != 1 {
         return None;
     }
-    let Signed::Value(z, ret) = read_sleb(s, data) else {
-        return None;
-    };
+    let (z, ret) = read_sleb(s, data)?;
     if !factor_ok(z, word) {
         return None;
     }
-    let Unsigned::Value(reg, tail) = read_uleb(s, ret) else {
-        return None;
-    };
+    let (reg, tail) = read_uleb(s, ret)?;
     if 0xffff < reg {
         return None;
     }
@@ -251,9 +245,7 @@ pub fn parse_header(s: &[u8], debug: bool, word: u64) -> Option<Header>
     requires { T (is_word_size word) }
     ensures { Heads s.now (header_short debug s.now) result (parse_header debug word s.now) }
 {
-    let Unsigned::Value(_, version) = read_le(s, Position::START, 4) else {
-        return None;
-    };
+    let (_, version) = read_le(s, Position::START, 4)?;
     let from = version.at;
     if s.len() <= from {
         return None;
@@ -315,20 +307,20 @@ pub fn field_size(debug: bool, word: u64) -> u64
 }
 
 // Question 64 of a record, by the bytes behind its length; `shortest` is the mark of what was read before.
-pub fn parse_record(s: &[u8], debug: bool, word: u64, pointer: u64, shortest: bool) -> Option<Record>
+pub fn parse_record(
+    s: &[u8],
+    debug: bool,
+    word: u64,
+    pointer: u64,
+    shortest: bool,
+) -> Option<Record>
     requires { T (is_word_size word) }
     ensures { Records s.now (shortest && record_short debug s.now) result (parse_record debug word pointer s.now) }
 {
     let n = field_size(debug, word) as usize;
     let start = Position { at: 0, shortest };
-    let Unsigned::Value(_, place) = read_le(s, start, 4) else {
-        return None;
-    };
-    let Unsigned::Value(_, length) = read_le(s, place, n) else {
-        return None;
-    };
-    let Unsigned::Value(size, tail) = read_le(s, length, n) else {
-        return None;
-    };
+    let (_, place) = read_le(s, start, 4)?;
+    let (_, length) = read_le(s, place, n)?;
+    let (size, tail) = read_le(s, length, n)?;
     record_tail(s, tail, debug, pointer, size)
 }

@@ -19,7 +19,13 @@ pub mod shortest;
 
 // Where the operations of record k and of its header are: questions 11 and 61 to 64. A caller who asks for several registers or offsets of
 // one record passes over the section once.
-pub fn locate(section: &[u8], relocations: &[u64], kind: u64, word: u64, k: u64) -> Result<Located, u64>
+pub fn locate(
+    section: &[u8],
+    relocations: &[u64],
+    kind: u64,
+    word: u64,
+    k: u64,
+) -> Result<Located, u64>
     ensures { Locates section.now word result (locate_in section.now relocations.now kind word k) }
 {
     if !numbers::is_word(word) {

@@ -21,9 +21,7 @@ pub fn first_addend(relocs: &[u64], place: u64) -> Option<usize>
     let n = relocs.len() / relocs::RELOCATION_STRIDE;
     for i in 0..n {
         if relocs[relocs::RELOCATION_STRIDE * i] == place {
-            return Some(
-                relocs[relocs::RELOCATION_STRIDE * i + relocs::RELOCATION_ADDEND] as usize,
-            );
+            return Some(relocs[relocs::RELOCATION_STRIDE * i + relocs::RELOCATION_ADDEND] as usize);
         }
     }
     None
@@ -74,7 +72,13 @@ pub fn header_span(s: &[u8], debug: bool, place: usize, before: usize) -> Option
 }
 
 // Question 63: the header of the record from `at` to `end`.
-pub fn header_of(s: &[u8], relocs: &[u64], debug: bool, at: usize, end: usize) -> Option<(usize, usize)>
+pub fn header_of(
+    s: &[u8],
+    relocs: &[u64],
+    debug: bool,
+    at: usize,
+    end: usize,
+) -> Option<(usize, usize)>
     requires { (at + 8 ≤ end) × (end ≤ length s.now) × T (is_some (entries s.now)) }
     ensures { Spans s.now result (after (header_place debug (relocations_of relocs.now) (entry_in s.now at end)) λ place. header_at debug place at (listed (entries s.now))) }
 {
@@ -113,18 +117,24 @@ pub fn parse(
     ensures { Locates s.now word result (parsed debug word (entry_in s.now cie past) (entry_in s.now at end)) }
 {
     let header = cie + 4;
-    let Some(Header {
-        operations: rules,
-        pointer,
-        signal,
-    }) = fields::parse_header(&s[header..past], debug, word) else {
+    let Some(
+        Header {
+            operations: rules,
+            pointer,
+            signal,
+        },
+    ) = fields::parse_header(&s[header..past], debug, word)
+    else {
         return Err(64);
     };
     let record = at + 4;
-    let Some(Record {
-        operations: rows,
-        size,
-    }) = fields::parse_record(&s[record..end], debug, word, pointer, rules.shortest) else {
+    let Some(
+        Record {
+            operations: rows,
+            size,
+        },
+    ) = fields::parse_record(&s[record..end], debug, word, pointer, rules.shortest)
+    else {
         return Err(64);
     };
     let rules_at = rules.at;

@@ -9,7 +9,6 @@ ghost use Rattle.reader.specs.OneRegister.{start, set_cfa, set_rule, change_offs
 ghost use Rattle.reader.specs.States.{Held, run_of, Acts};
 
 use format::{CfaRule, Operation, Reading, Row, Rule, Rules};
-use operations::Decoded;
 use operations::fields::Position;
 
 // ---- the state
@@ -254,7 +253,7 @@ pub fn run(
         let mut loc = 0;
         let mut at = Position::START;
         'operations: while at.at < ops.len() {
-            let Decoded::Operation(op, next) = operations::operation(ops, at, word) else {
+            let Some((op, next)) = operations::operation(ops, at, word) else {
                 return Reading::Refused(66);
             };
             at = next;

@@ -3,7 +3,6 @@ ghost use Rattle.std.specs.Prelude.{◌≡◌, ◌<◌};
 ghost use Rattle.format.specs.Shortest.{run_short};
 
 use format::Operation;
-use operations::Decoded;
 use operations::fields::Position;
 
 // All operations, or those up to the step that would pass p.
@@ -14,7 +13,7 @@ pub fn run(s: &[u8], word: u64, p: u64) -> bool
     let mut at = Position::START;
     let mut loc = 0;
     'operations: while at.at < s.len() {
-        let Decoded::Operation(op, next) = operations::operation(s, at, word) else {
+        let Some((op, next)) = operations::operation(s, at, word) else {
             return false;
         };
         if !next.shortest {

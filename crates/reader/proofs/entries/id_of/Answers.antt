@@ -7,4 +7,4 @@ pub returns-in_default : goal.returns-in_default
 returns-in_default c = sym (second_none c.args.body.now (sym c.read_le.ensures ∙ c.in_default.is))
 
 pub returns : goal.returns
-returns c = sym (second_is c.args.body.now (sym c.read_le.ensures ∙ c.in-Value.is))
+returns c = sym (second_is c.args.body.now (sym c.read_le.ensures ∙ c.in-Some.is))

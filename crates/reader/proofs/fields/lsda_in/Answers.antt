@@ -10,8 +10,8 @@ returns-then-not-here c = lsda_absent c.args.s.now c.args.at c.args.here c.args.
 pub returns-then-s-from : goal.returns-then-s-from
 returns-then-s-from c = lsda_empty c.args.s.now c.args.at c.args.here c.args.word (ap not c.if-not-here.false) c.if-s-from.true
 
-pub returns-in_default : goal.returns-in_default
-returns-in_default c = lsda_unknown c.args.s.now c.args.at c.args.here c.args.word (ap not c.if-not-here.false) c.if-s-from.false (sym c.pointer_size.ensures ∙ c.in_default.is)
+pub returns-in_err-n : goal.returns-in_err-n
+returns-in_err-n c = rw c.from_residual.ensures (lsda_unknown c.args.s.now c.args.at c.args.here c.args.word (ap not c.if-not-here.false) c.if-s-from.false (sym c.pointer_size.ensures ∙ c.in_err-n.was))
 
 pub returns : goal.returns
-returns c = lsda_there c.args.s.now c.args.at c.args.here c.args.word (ap not c.if-not-here.false) c.if-s-from.false (sym c.pointer_size.ensures ∙ c.in-Some.is)
+returns c = lsda_there c.args.s.now c.args.at c.args.here c.args.word (ap not c.if-not-here.false) c.if-s-from.false (sym c.pointer_size.ensures ∙ c.in_ok-n.was)

@@ -9,13 +9,13 @@ use Rattle.reader.proofs.run.act.Goals as goal
 pub returns-in-DefCfa : goal.returns-in-DefCfa
 unfolding act
 returns-in-DefCfa c =
-    let e = passed c.in-DefCfa.z (omega (arith, c.in-DefCfa.known_told-1-own.given)) in
+    let e = passed c.in-DefCfa.z (omega arith) in
     rw c.in-DefCfa.is (rw e at c.set_cfa.ensures)
 
 pub returns-in-DefCfaOffset : goal.returns-in-DefCfaOffset
 unfolding act run_of
 returns-in-DefCfaOffset c =
-    let e = passed c.in-DefCfaOffset.z (omega (arith, c.in-DefCfaOffset.known_told-in-DefCfaOffset-1-own.given)) in
+    let e = passed c.in-DefCfaOffset.z (omega arith) in
     rw c.in-DefCfaOffset.is (rw e at c.change_offset.ensures)
 
 pub returns-in-DefCfaRegister : goal.returns-in-DefCfaRegister
@@ -25,7 +25,7 @@ returns-in-DefCfaRegister c = rw c.in-DefCfaRegister.is c.change_register.ensure
 pub returns-in-Offset : goal.returns-in-Offset
 unfolding act
 returns-in-Offset c =
-    let e = passed c.in-Offset.z (omega (arith, c.in-Offset.known_told-in-Offset-1-own.given)) in
+    let e = passed c.in-Offset.z (omega arith) in
     rw c.in-Offset.is (rw e at c.set_rule.ensures)
 
 pub returns-in-Restore : goal.returns-in-Restore

@@ -13,5 +13,5 @@ returns-in_default c = rw c.in_default.is (denied (omega arith) c.requires)
 pub returns : goal.returns
 unfolding change_register run_of set_cfa
 returns c =
-    let e = passed c.in-Register.z (omega (arith, c.in-Register.known_told-1-own.given)) in
+    let e = passed c.in-Register.z (omega arith) in
     rw c.in-Register.is (rw e at c.set_cfa.ensures)

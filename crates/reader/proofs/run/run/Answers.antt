@@ -22,37 +22,37 @@ pub returns-in_default : goal.returns-in_default
 returns-in_default c = bad_operation c.operations.invariant c.operations-test.true (sym c.operation.ensures ∙ c.in_default.is)
 
 pub operations-smaller-in-Nop : goal.operations-smaller-in-Nop
-operations-smaller-in-Nop c = shorter c.operations.invariant (sym c.operation.ensures ∙ c.in-Operation.is)
+operations-smaller-in-Nop c = shorter c.operations.invariant (sym c.operation.ensures ∙ c.in-Some.is)
 
 pub operations-preserved-in-Nop : goal.operations-preserved-in-Nop
-operations-preserved-in-Nop c = padding c.operations.invariant (sym c.operation.ensures ∙ c.in-Operation.is) c.in-Nop.is
+operations-preserved-in-Nop c = padding c.operations.invariant (sym c.operation.ensures ∙ c.in-Some.is) c.in-Nop.is
 
 pub returns-then-first : goal.returns-then-first
-returns-then-first c = bad_step c.operations.invariant (sym c.operation.ensures ∙ c.in-Operation.is) c.in-Step.is (eq-eqb _ _ c.if-first.true)
+returns-then-first c = bad_step c.operations.invariant (sym c.operation.ensures ∙ c.in-Some.is) c.in-Step.is (eq-eqb _ _ c.if-first.true)
 
 pub overflow_sub-p : goal.overflow_sub-p
 overflow_sub-p c = c.operations.invariant.near
 
 pub entries-preserved-then-p-loc : goal.entries-preserved-then-p-loc
-entries-preserved-then-p-loc c = again c.entries.invariant c.entries-test.true c.requires.3 c.requires.4 c.operations.invariant.held c.operations.invariant.all c.operations.invariant.seen (far_step c.operations.invariant (sym c.operation.ensures ∙ c.in-Operation.is) c.in-Step.is (ne_eqb _ _ c.if-first.false) c.if-p-loc.true)
+entries-preserved-then-p-loc c = again c.entries.invariant c.entries-test.true c.requires.3 c.requires.4 c.operations.invariant.held c.operations.invariant.all c.operations.invariant.seen (far_step c.operations.invariant (sym c.operation.ensures ∙ c.in-Some.is) c.in-Step.is (ne_eqb _ _ c.if-first.false) c.if-p-loc.true)
 
 pub operations-smaller-in-Step : goal.operations-smaller-in-Step
-operations-smaller-in-Step c = shorter c.operations.invariant (sym c.operation.ensures ∙ c.in-Operation.is)
+operations-smaller-in-Step c = shorter c.operations.invariant (sym c.operation.ensures ∙ c.in-Some.is)
 
 pub operations-preserved-in-Step : goal.operations-preserved-in-Step
-operations-preserved-in-Step c = near_step c.operations.invariant (sym c.operation.ensures ∙ c.in-Operation.is) c.in-Step.is (ne_eqb _ _ c.if-first.false) c.if-p-loc.false
+operations-preserved-in-Step c = near_step c.operations.invariant (sym c.operation.ensures ∙ c.in-Some.is) c.in-Step.is (ne_eqb _ _ c.if-first.false) c.if-p-loc.false
 
 pub act-acted-requires : goal.act-acted-requires
 act-acted-requires c = c.operations.invariant.held
 
 pub returns-then-acted-ne0 : goal.returns-then-acted-ne0
-returns-then-acted-ne0 c = bad_row c.operations.invariant (sym c.operation.ensures ∙ c.in-Operation.is) c.in-Does.is c.act-acted.ensures c.if-acted-ne0.true
+returns-then-acted-ne0 c = bad_row c.operations.invariant (sym c.operation.ensures ∙ c.in-Some.is) c.in-Does.is c.act-acted.ensures c.if-acted-ne0.true
 
 pub operations-smaller : goal.operations-smaller
-operations-smaller c = shorter c.operations.invariant (sym c.operation.ensures ∙ c.in-Operation.is)
+operations-smaller c = shorter c.operations.invariant (sym c.operation.ensures ∙ c.in-Some.is)
 
 pub operations-preserved : goal.operations-preserved
-operations-preserved c = good_row c.operations.invariant (sym c.operation.ensures ∙ c.in-Operation.is) c.in-Does.is c.act-acted.ensures c.if-acted-ne0.false
+operations-preserved c = good_row c.operations.invariant (sym c.operation.ensures ∙ c.in-Some.is) c.in-Does.is c.act-acted.ensures c.if-acted-ne0.false
 
 pub returns : goal.returns
 returns c = ended c.entries.invariant c.entries-test.false
