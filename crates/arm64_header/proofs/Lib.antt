@@ -1,2 +1,2 @@
 -- Laws of the header by its numbers.
-pub mod Header
+pub mod Forms

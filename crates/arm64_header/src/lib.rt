@@ -5,62 +5,78 @@
 ghost use Rattle.std.specs.Prelude.{◌≡◌, ◌+◌, ◌*◌, ◌^◌, ◌≤◌, ◌<◌, length, replicate};
 ghost use Rattle.format.proofs.Wrote.{Wrote};
 ghost use Rattle.arm64.specs.Writer.{nop_byte};
-ghost use Rattle.arm64_header.specs.Header.{is_long_of, first_word, header_of};
+ghost use Rattle.arm64_header.specs.Header.{only_in, count_in, is_long_of, first_word, header_by};
 
 use arm64::{header_bits, limits};
 
-// The short form holds counts below 32 and 31 words of codes.
-fn is_long(count: u64, words: u64) -> bool
-    ensures { result ≡ is_long_of count words }
-{
-    if limits::SHORT_COUNT < count {
-        return true;
-    }
-    limits::SHORT_COUNT < words
+// What the count's field tells: the index of an only epilogue's codes, which is the mark E, or how many epilogues have words of their own.
+#[derive(Clone, Copy)]
+pub enum Epilogues {
+    Only(u64),
+    Many(u64),
 }
 
-// The length in instructions, and E.
-fn first_word(size: u64, single: bool) -> u64
-    requires { size < 2 ^ 18 }
-    ensures { (result ≡ first_word size single) × (result < 2 ^ 22) }
-{
-    if single {
-        return size + header_bits::SINGLE;
+impl Epilogues {
+    fn count(self) -> u64
+        ensures { result ≡ count_in self }
+    {
+        match self {
+            Epilogues::Only(index) => index,
+            Epilogues::Many(count) => count,
+        }
     }
-    size
 }
 
-pub fn header_size(size: u64, single: bool, count: u64, words: u64) -> usize
-    ensures { (result ≡ length (header_of size single count words)) × (4 ≤ result) × (result ≤ 8) }
-{
-    if is_long(count, words) {
-        return 8;
-    }
-    4
+// A full record's header: the length in instructions, the count's field, and the words of codes.
+#[derive(Clone, Copy)]
+pub struct Header {
+    pub length: u64,
+    pub epilogues: Epilogues,
+    pub words: u64,
 }
 
-pub fn put_header(
-    out: &mut [u8],
-    at: usize,
-    size: u64,
-    single: bool,
-    count: u64,
-    words: u64,
-) -> usize
-    requires { (size < 2 ^ 18) × (count < 2 ^ 16) × (words < 2 ^ 8) × (at + length (header_of size single count words) ≤ length out.old) }
-    ensures { Wrote out.old out.new at result (header_of size single count words) }
-{
-    let first = first_word(size, single);
-    if is_long(count, words) {
-        let a = leb::le(out, at, 4, first);
-        return leb::le(out, a, 4, count + header_bits::LONG_WORDS * words);
+impl Header {
+    // The short form holds counts below 32 and 31 words of codes.
+    fn is_long(self) -> bool
+        ensures { result ≡ is_long_of (count_in self.epilogues) self.words }
+    {
+        limits::SHORT_COUNT < self.epilogues.count() || limits::SHORT_COUNT < self.words
     }
-    leb::le(
-        out,
-        at,
-        4,
-        first + header_bits::COUNT * count + header_bits::WORDS * words,
-    )
+
+    // The length in instructions, and E.
+    fn first_word(self) -> u64
+        requires { self.length < 2 ^ 18 }
+        ensures { (result ≡ first_word self.length (only_in self.epilogues)) × (result < 2 ^ 22) }
+    {
+        match self.epilogues {
+            Epilogues::Only(_) => self.length + header_bits::SINGLE,
+            Epilogues::Many(_) => self.length,
+        }
+    }
+
+    pub fn size(self) -> usize
+        ensures { (result ≡ length (header_by self)) × (4 ≤ result) × (result ≤ 8) }
+    {
+        if self.is_long() { 8 } else { 4 }
+    }
+
+    pub fn put(self, out: &mut [u8], at: usize) -> usize
+        requires { (self.length < 2 ^ 18) × (count_in self.epilogues < 2 ^ 16) × (self.words < 2 ^ 8) × (at + length (header_by self) ≤ length out.old) }
+        ensures { Wrote out.old out.new at result (header_by self) }
+    {
+        let first = self.first_word();
+        let count = self.epilogues.count();
+        if self.is_long() {
+            let a = leb::le(out, at, 4, first);
+            return leb::le(out, a, 4, count + header_bits::LONG_WORDS * self.words);
+        }
+        leb::le(
+            out,
+            at,
+            4,
+            first + header_bits::COUNT * count + header_bits::WORDS * self.words,
+        )
+    }
 }
 
 // Codes are padded to words with nop.

@@ -1,5 +1,5 @@
 -- `arm64_header::pad` meets its contract.
-use Rattle.arm64_header.proofs.Header.{nops}
+use Rattle.arm64_header.proofs.Forms.{nops}
 use mathlib.Core.Path.{sym}
 use Rattle.arm64_header.proofs.pad.Goals as goal
 

@@ -74,17 +74,20 @@ module _ (size : ℕ) (single : Bool) (count words : ℕ) where
   pub short_size : is_long_of count words ≡ false → length (header_of size single count words) ≡ 4
   short_size e = ap length (short_form e) ∙ little-length 4 (first_word size single + 4194304 * count + 134217728 * words)
 
-  module _ {b : Bool} (h : b ≡ is_long_of count words) where
-    module _ {first : ℕ} (g : first ≡ first_word size single) {xs ys : List ℕ} {at a : ℕ} where
-      pub wrote_long : {zs : List ℕ} {r : ℕ} → b ≡ true → Wrote xs ys at a (little 4 first) → Wrote ys zs a r (little 4 (count + 65536 * words))
-          → Wrote xs zs at r (header_of size single count words)
-      wrote_long e v w =
-          rw (long_form (sym h ∙ e)) (subst (λ (n : ℕ). Wrote xs ys at a (little 4 n)) g v then w)
+  -- by the test, the first word and the count as the code has them
+  module _ {b : Bool} (h : b ≡ is_long_of count words) {first n : ℕ} (g : first ≡ first_word size single) (k : n ≡ count) {xs ys : List ℕ} {at a : ℕ} where
+    pub wrote_long : {zs : List ℕ} {r : ℕ} → b ≡ true → Wrote xs ys at a (little 4 first) → Wrote ys zs a r (little 4 (n + 65536 * words))
+        → Wrote xs zs at r (header_of size single count words)
+    wrote_long {zs} {r} e v w =
+        rw (long_form (sym h ∙ e))
+        (subst (λ (i : ℕ). Wrote xs ys at a (little 4 i)) g v then subst (λ (i : ℕ). Wrote ys zs a r (little 4 (i + 65536 * words))) k w)
 
-      pub wrote_short : b ≡ false → Wrote xs ys at a (little 4 (first + 4194304 * count + 134217728 * words))
-          → Wrote xs ys at a (header_of size single count words)
-      wrote_short e v =
-          rw (short_form (sym h ∙ e)) (subst (λ (n : ℕ). Wrote xs ys at a (little 4 (n + 4194304 * count + 134217728 * words))) g v)
+    pub wrote_short : b ≡ false → Wrote xs ys at a (little 4 (first + 4194304 * n + 134217728 * words))
+        → Wrote xs ys at a (header_of size single count words)
+    wrote_short e v =
+        rw (short_form (sym h ∙ e))
+        (subst (λ (i : ℕ). Wrote xs ys at a (little 4 (first_word size single + 4194304 * i + 134217728 * words))) k
+        (subst (λ (i : ℕ). Wrote xs ys at a (little 4 (i + 4194304 * n + 134217728 * words))) g v))
 
 -- ---- padding
 
