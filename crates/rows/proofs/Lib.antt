@@ -1,5 +1,4 @@
 -- The lemmas of this crate's functions.
-pub mod Lists
 pub mod Signs
 pub mod Factors
 pub mod Bytes

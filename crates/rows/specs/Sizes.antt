@@ -1,5 +1,5 @@
 -- The size of a row's operation out of the row's numbers.
-use Rattle.std.specs.Prelude.{◌≡◌, ℕ, ◌-◌, ◌*◌, ◌%◌, ◌^◌, ◌≤◌, ◌<◌, [], ◌∷◌, eqb, ltb, length, get_or}
+use Rattle.std.specs.Prelude.{◌≡◌, ℕ, ◌-◌, ◌*◌, ◌%◌, ◌^◌, ◌≤◌, ◌<◌, [], ◌∷◌, eqb, ltb, length, get_or, Option, None, Some}
 use Rattle.format.specs.Prelude.{pick}
 use Rattle.format.specs.Constants.{offset_kind}
 use Rattle.format.specs.Rows.{step_bytes}
@@ -16,10 +16,7 @@ scaled w kind off = pick (eqb kind offset_kind) ((2 ^ 32 - off) % 2 ^ 32) (off *
 unfoldable pub second_byte : (w y : ℕ) → ℕ
 second_byte w y = pick (ltb y (128 * w)) 0 1
 
--- a size that no step has
-abbrev pub too_far : ℕ
-too_far = 6
-
--- the size of a step that passes question 23, and that of no step where it does not
-abbrev pub StepSurveyed : (by size : ℕ) → Type 0
-StepSurveyed by size = (by < 2 ^ 32 → (size ≡ length (step_bytes by)) × (size ≤ 5)) × (2 ^ 32 ≤ by → size ≡ too_far)
+-- the size of a step that passes question 23, or none where it does not
+abbrev pub StepSurveyed : (by : ℕ) → Option ℕ → Type 0
+StepSurveyed by None = 2 ^ 32 ≤ by
+StepSurveyed by (Some size) = (by < 2 ^ 32) × (size ≡ length (step_bytes by)) × (size ≤ 5)

@@ -3,6 +3,7 @@
 
 ghost use Rattle.std.specs.Prelude.{◌≡◌, [], ◌∷◌, ◌++◌, true, ◌+◌, ◌*◌, ◌%◌, ◌^◌, ◌≤◌, ◌<◌, length, T, eqb, nat_abs};
 ghost use Rattle.std.specs.Int.{w32};
+ghost use Rattle.std.specs.Option.{IfSome};
 ghost use Rattle.std.proofs.Common.{to_z};
 ghost use Rattle.format.specs.Machine.{is_word_size};
 ghost use Rattle.format.specs.Lists.{row_stride, field, has_register, second_operands, row_of, row_ok, row_at, row_ok_at};
@@ -29,8 +30,6 @@ pub const ROW_OPERAND: usize = 3;
 pub const REGISTERS: u64 = 65536;
 
 const OFFSETS: u64 = 4294967296;
-
-const HIGHEST_OFFSET: u64 = 4294967295;
 
 const NEGATIVE: u64 = 2147483648;
 
@@ -62,11 +61,7 @@ fn signed32(x: u64) -> i64
     requires { x < 2 ^ 32 }
     ensures { result ≡ to_z w32 x }
 {
-    if x < NEGATIVE {
-        x as i64
-    } else {
-        -1 - ((HIGHEST_OFFSET - x) as i64)
-    }
+    i64::from((x as u32).cast_signed())
 }
 
 fn row_of(kind: u64, reg: u64, off: u64) -> Row
@@ -170,7 +165,7 @@ pub fn row_ok(rows: &[u64], i: usize) -> bool
 pub fn size(z: i64) -> u64
     ensures { (result ≡ nat_abs z) × (result ≤ 2 ^ 63) }
 {
-    if z < 0 { (-1 - z) as u64 + 1 } else { z as u64 }
+    z.unsigned_abs()
 }
 
 // A multiple of the word.
@@ -676,18 +671,18 @@ pub fn row_in_size(word: u64, rows: &[u64], i: usize) -> usize
 
 // ---- a row asked and sized at once
 
-// The size of row i's operation, where the row passes questions 13 and 24. 0 says nothing.
-pub fn surveyed(word: u64, rows: &[u64], i: usize) -> usize
+// The size of row i's operation, where the row passes questions 13 and 24. None says nothing.
+pub fn surveyed(word: u64, rows: &[u64], i: usize) -> Option<usize>
     requires { T (is_word_size word) × (4 * i + 4 ≤ length rows.now) }
-    ensures { 0 < result → T (row_ok_at rows.now i) × (row_whole word (row_at rows.now i).1 ≡ true) × (result ≡ length (row_bytes word (row_at rows.now i).1)) }
+    ensures { IfSome result (λ n. T (row_ok_at rows.now i) × (row_whole word (row_at rows.now i).1 ≡ true) × (n ≡ length (row_bytes word (row_at rows.now i).1))) }
 {
     if !row_ok(rows, i) {
-        return 0;
+        return None;
     }
     if !row_surely_whole(word, rows, i) {
-        return 0;
+        return None;
     }
-    row_in_size(word, rows, i)
+    Some(row_in_size(word, rows, i))
 }
 
 // ---- a step written, and its size
@@ -765,21 +760,18 @@ pub fn advance_size(by: u64) -> usize
     1 + step_form(by) as usize
 }
 
-// A size that no step has.
-pub const TOO_FAR: usize = 6;
-
-// The size of a step that passes question 23, or TOO_FAR. Most steps have a byte.
-pub fn step_surveyed(by: u64) -> usize
+// The size of a step that passes question 23. Most steps have a byte.
+pub fn step_surveyed(by: u64) -> Option<usize>
     ensures { StepSurveyed by result }
 {
     if by <= MOST_IN_OPCODE {
         if by == 0 {
-            return 0;
+            return Some(0);
         }
-        return 1;
+        return Some(1);
     }
     if STEPS <= by {
-        return TOO_FAR;
+        return None;
     }
-    advance_size(by)
+    Some(advance_size(by))
 }
