@@ -9,16 +9,16 @@ use mathlib.Core.List.{List, [], ◌∷◌}
 use lib.Dec.{lit<, eqb}
 use lib.ListN.{length, get_or, drop, length-drop}
 use lib.Seq.{drop-cons, drop-drop, get_or-drop}
+use Rattle.std.specs.Prelude.{Some, None}
+use Rattle.format.specs.Coded.{option_of}
 use Rattle.format.specs.Prelude.{pick, Read, next, after}
 use Rattle.format.specs.Leb.{read_little}
-use Rattle.operations.specs.Positions.{past, unsigned_from, little_at}
+use Rattle.operations.specs.Positions.{read_from, little_at}
 use Rattle.operations.specs.declared.fields.Position.{Position}
-use Rattle.operations.specs.declared.fields.Unsigned.TheVariants as unsigned
 use Rattle.format.specs.X64Reader.{operand_bytes, meaning, fields_of, read_operand, read_code}
-use Rattle.operations.proofs.PositionLaws.{Takes, nothing, taken, takes_little, past_at, little_none}
+use Rattle.operations.proofs.PositionLaws.{Takes, nothing, taken, takes_little, past_at, both_are, little_none}
 use Rattle.x64_reader.specs.declared.Fields.{Fields}
-use Rattle.x64_reader.specs.declared.Operand.TheVariants as operand
-use Rattle.x64_reader.specs.Reads.{operand_of, Small, field_numbers, CodeThere}
+use Rattle.x64_reader.specs.Reads.{Small, field_numbers, CodeThere}
 
 -- ---- a field of bytes
 
@@ -40,8 +40,8 @@ little_below (suc k) (b ∷ bs) h =
     let e : 256 ^ suc k ≡ 256 * 256 ^ k = omega arith in
     rw e (one_more (256 ^ k) b (read_little k bs) (h 0) (little_below k bs (λ i. h (suc i))))
 
-below_small : (p : Position) (m size : ℕ) (r : Read ℕ) → m ≤ 2 ^ 32 → Below m r → Small (unsigned_from p true size r)
-unfolding unsigned_from
+below_small : (p : Position) (m size : ℕ) (r : Read ℕ) → m ≤ 2 ^ 32 → Below m r → Small (read_from p true size r)
+unfolding read_from
 below_small p m size none h l = tt
 below_small p m size (some x) h l = omega arith
 
@@ -59,30 +59,27 @@ pub record Field (n : ℕ) (s : List ℕ) (p v q : ℕ) (r : Read ℕ) : Type 0 
   pub reads : r ≡ some (v, drop q s)
 
 taken_field : {n : ℕ} (s : List ℕ) (p : Position) {v : ℕ} {q : Position} {r : Read ℕ} → p.at ≤ length s → Takes n n (drop p.at s) r
-    → unsigned_from p true (length s) r ≡ unsigned.Value v q → Field n s p.at v q.at r
-unfolding unsigned_from
+    → read_from p true (length s) r ≡ Some (v, q) → Field n s p.at v q.at r
+unfolding read_from
 taken_field s p low nothing e = let z : ◌≡◌ {A = ℕ} 0 1 = cc in absurd (omega arith)
 taken_field {n} s p {v} {q} low (taken m w l h k) e =
-    let same : w ≡ v = cc in
-    let i : past p true (length s - length (drop m (drop p.at s))) ≡ q = cc in
-    let at : length s - length (drop m (drop p.at s)) ≡ q.at = past_at p true _ i in
+    let same : w ≡ v = (both_are e).0 in
+    let at : length s - length (drop m (drop p.at s)) ≡ q.at = past_at p true _ (both_are e).1 in
     let a : q.at ≡ p.at + m = omega (arith, length-drop m (drop p.at s), length-drop p.at s) in
     record { past = omega arith; inside = omega (arith, length-drop p.at s); reads = rw (drop-drop, a, same) }
 
-pub field_there : {n : ℕ} (s : List ℕ) (p : Position) {v : ℕ} {q : Position} → p.at ≤ length s → little_at n s p ≡ unsigned.Value v q
+pub field_there : {n : ℕ} (s : List ℕ) (p : Position) {v : ℕ} {q : Position} → p.at ≤ length s → little_at n s p ≡ Some (v, q)
     → Field n s p.at v q.at (read_little n (drop p.at s))
 unfolding little_at
 field_there {n} s p low e = taken_field s p low (takes_little n (drop p.at s)) e
 
 -- ---- an operation's operand
 
-pub bytes_op : (r : Option ℕ) {n : ℕ} → operand_of r ≡ operand.Bytes n → r ≡ some n
-unfolding operand_of
+pub bytes_op : (r : Option ℕ) {n : ℕ} → Some n ≡ option_of r → r ≡ some n
 bytes_op none e = let z : ◌≡◌ {A = ℕ} 0 1 = cc in absurd (omega arith)
 bytes_op (some m) e = cc
 
-pub bad_op : (r : Option ℕ) → operand_of r ≡ operand.Bad → r ≡ none
-unfolding operand_of
+pub bad_op : (r : Option ℕ) → None ≡ option_of r → r ≡ none
 bad_op none e = refl
 bad_op (some m) e = let z : ◌≡◌ {A = ℕ} 0 1 = cc in absurd (omega arith)
 
@@ -137,11 +134,11 @@ module _ (frame : ℕ) (s : List ℕ) (p : Position) {offset b : ℕ} (room : p.
   unfolding read_operand after next
   no_operation z = rw (two_bytes, z)
 
-  pub no_operand : {n : ℕ} → operand_bytes (b % 16) (b / 16) ≡ some n → little_at n s (behind p) ≡ unsigned.Bad → read_code frame (drop p.at s) ≡ none
+  pub no_operand : {n : ℕ} → operand_bytes (b % 16) (b / 16) ≡ some n → little_at n s (behind p) ≡ None → read_code frame (drop p.at s) ≡ none
   unfolding read_operand after next
   no_operand {n} z l = rw (two_bytes, z, little_none s (behind p) n l)
 
-  pub one_code : {n v : ℕ} {q : Position} {f : Fields} → operand_bytes (b % 16) (b / 16) ≡ some n → little_at n s (behind p) ≡ unsigned.Value v q
+  pub one_code : {n v : ℕ} {q : Position} {f : Fields} → operand_bytes (b % 16) (b / 16) ≡ some n → little_at n s (behind p) ≡ Some (v, q)
       → field_numbers f ≡ fields_of (meaning frame (b % 16) (b / 16) v) → CodeThere frame s p offset f q
   unfolding read_operand after next
   one_code {n} {v} {q} z l m =

@@ -12,7 +12,8 @@ use Rattle.format.specs.Answers.{bit}
 use Rattle.format.specs.declared.Seh.{Seh}
 use Rattle.format.specs.X64Reader.{frame_register, frame_offset, has_frame, header_ok, slot_bytes_in, Info, info_with, read_codes, read_info, read_x64, info_numbers, codes_stored}
 use Rattle.format.proofs.Choice.{pick_yes, if-le, if-gt}
-use Rattle.x64_reader.specs.declared.Counted.TheVariants as counted
+use Rattle.std.specs.Prelude.{Some, None}
+use Rattle.operations.proofs.PositionLaws.{both_are}
 use Rattle.x64_reader.specs.Reads.{counted_of, Held, stored_of, HeaderThere}
 
 -- the answer as numbers, and the lent list at exit
@@ -29,7 +30,7 @@ no_record s p room e = rw e
 
 -- ---- the codes that were counted
 
-pub none_read : (r : Option (List (ℕ × Seh))) → counted_of r ≡ counted.Bad → r ≡ none
+pub none_read : (r : Option (List (ℕ × Seh))) → None ≡ counted_of r → r ≡ none
 unfolding counted_of
 none_read none e = refl
 none_read (some cs) e = let z : ◌≡◌ {A = ℕ} 0 1 = cc in absurd (omega arith)
@@ -38,10 +39,10 @@ pub record Read (r : Option (List (ℕ × Seh))) (n : ℕ) (framed : Bool) : Typ
   pub held : Held r n
   pub frames : framed ≡ has_frame held.codes
 
-pub some_read : (r : Option (List (ℕ × Seh))) {n : ℕ} {framed : Bool} → counted_of r ≡ counted.Codes n framed → Read r n framed
+pub some_read : (r : Option (List (ℕ × Seh))) {n : ℕ} {framed : Bool} → Some (n, framed) ≡ counted_of r → Read r n framed
 unfolding counted_of
 some_read none e = let z : ◌≡◌ {A = ℕ} 0 1 = cc in absurd (omega arith)
-some_read (some cs) e = record { held = record { codes = cs; are = refl; many = cc }; frames = cc }
+some_read (some cs) e = record { held = record { codes = cs; are = refl; many = (both_are e).0 }; frames = (both_are e).1 }
 
 module _ (s : List ℕ) (p : ℕ) {end frame at q : ℕ} (h : HeaderThere (drop p s) (length s) p end frame at q) where
   -- the slots that the code reads

@@ -7,6 +7,7 @@ use mathlib.Core.Option.{Option, none, some}
 use mathlib.Core.List.{List, [], ◌∷◌, ◌++◌}
 use lib.Dec.{eqb}
 use lib.ListN.{length, set, drop, length-drop, drop_of_length-le}
+use Rattle.std.specs.Prelude.{Some, None}
 use Rattle.format.specs.Prelude.{Read, next}
 use Rattle.format.specs.Put.{put}
 use Rattle.format.specs.declared.Seh.{Seh}
@@ -16,7 +17,6 @@ use Rattle.format.proofs.PutLaws.{set-put, length-put}
 use Rattle.operations.specs.declared.fields.Position.{Position}
 use Rattle.operations.specs.Positions.{from}
 use Rattle.x64_reader.specs.declared.Fields.{Fields}
-use Rattle.x64_reader.specs.declared.Counted.TheVariants as counted
 use Rattle.x64_reader.specs.Reads.{field_numbers, CodeThere, or_frame, counted_of, Held, stored_of}
 
 -- ---- one step of the definition
@@ -129,12 +129,12 @@ count_turn {f = f} c e cs h = record {
 }
 
 pub all_counted : {frame : ℕ} {s : List ℕ} {n : ℕ} {framed : Bool} {p : Position} → Going (Counting n framed p.at) frame s p → length s ≤ p.at
-    → counted.Codes n framed ≡ counted_of (read_codes frame s)
+    → Some (n, framed) ≡ counted_of (read_codes frame s)
 unfolding counted_of
 all_counted g h = rw (ended g h, g.here.many, g.here.frames)
 
 pub none_counted : {P : List (ℕ × Seh) → Type 0} {frame : ℕ} {s : List ℕ} {p : Position} → Going P frame s p → p.at < length s
-    → read_code frame (drop p.at s) ≡ none → counted.Bad ≡ counted_of (read_codes frame s)
+    → read_code frame (drop p.at s) ≡ none → None ≡ counted_of (read_codes frame s)
 unfolding counted_of
 none_counted g h e = rw (unread g h e)
 

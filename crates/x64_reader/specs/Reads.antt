@@ -1,33 +1,22 @@
 -- What the reader's functions promise: an operand, a code at a position, the codes counted and stored, and a record's header.
-use Rattle.std.specs.Prelude.{◌≡◌, ℕ, ◌+◌, ◌*◌, ◌^◌, ◌≤◌, ◌<◌, Bool, false, ◌||◌, List, [], ◌∷◌, T, eqb, length, get_or, drop}
+use Rattle.std.specs.Prelude.{◌≡◌, ℕ, ◌+◌, ◌*◌, ◌^◌, ◌≤◌, ◌<◌, Bool, false, ◌||◌, List, [], ◌∷◌, T, eqb, length, get_or, drop, Some, None}
+use Rattle.std.specs.Prelude as code
 use Rattle.std.proofs.Math.Option.{Option, none, some}
 use Rattle.format.specs.Put.{put}
 use Rattle.format.specs.declared.Seh.{Seh}
 use Rattle.operations.specs.declared.fields.Position.{Position}
-use Rattle.operations.specs.declared.fields.Unsigned.{Unsigned}
-use Rattle.operations.specs.declared.fields.Unsigned.TheVariants as unsigned
 use Rattle.format.specs.X64Reader.{read_code, fields_of, code_numbers, has_frame, header_ok}
-use Rattle.x64_reader.specs.declared.Operand.{Operand}
-use Rattle.x64_reader.specs.declared.Operand.TheVariants as operand
 use Rattle.x64_reader.specs.declared.Fields.{Fields}
 use Rattle.x64_reader.specs.declared.Code.{Code}
-use Rattle.x64_reader.specs.declared.Code.TheVariants as code
-use Rattle.x64_reader.specs.declared.Counted.{Counted}
-use Rattle.x64_reader.specs.declared.Counted.TheVariants as counted
 use Rattle.x64_reader.specs.declared.Header.{Header}
-use Rattle.x64_reader.specs.declared.Header.TheVariants as header
 use Rattle.x64_reader.specs.declared.X64Reading.{X64Reading}
 
 -- ---- one code
 
-unfoldable pub operand_of : Option ℕ → Operand
-operand_of none = operand.Bad
-operand_of (some n) = operand.Bytes n
-
 -- an operand has at most 32 bits
-abbrev pub Small : Unsigned → Type 0
-Small (unsigned.Value v q) = v < 2 ^ 32
-Small unsigned.Bad = Unit
+abbrev pub Small : code.Option (ℕ × Position) → Type 0
+Small (Some v) = v.0 < 2 ^ 32
+Small None = Unit
 
 abbrev pub field_numbers : Fields → List ℕ
 field_numbers f = f.kind ∷ f.register ∷ f.vector ∷ f.value ∷ []
@@ -40,9 +29,9 @@ pub record CodeThere (frame : ℕ) (s : List ℕ) (p : Position) (offset : ℕ) 
   pub inside : q.at ≤ length s
   pub reads : read_code frame (drop p.at s) ≡ some ((offset, said), drop q.at s)
 
-abbrev pub CodeSays : (frame : ℕ) → List ℕ → Position → Code → Type 0
-CodeSays frame s p (code.Code offset f q) = CodeThere frame s p offset f q
-CodeSays frame s p code.Bad = read_code frame (drop p.at s) ≡ none
+abbrev pub CodeSays : (frame : ℕ) → List ℕ → Position → code.Option Code → Type 0
+CodeSays frame s p (Some c) = CodeThere frame s p c.offset c.fields c.past
+CodeSays frame s p None = read_code frame (drop p.at s) ≡ none
 
 -- ---- the codes
 
@@ -50,9 +39,9 @@ CodeSays frame s p code.Bad = read_code frame (drop p.at s) ≡ none
 unfoldable pub or_frame : Bool → ℕ → Bool
 or_frame framed kind = eqb kind 2 || framed
 
-unfoldable pub counted_of : Option (List (ℕ × Seh)) → Counted
-counted_of none = counted.Bad
-counted_of (some cs) = counted.Codes (length cs) (has_frame cs)
+unfoldable pub counted_of : Option (List (ℕ × Seh)) → code.Option (ℕ × Bool)
+counted_of none = None
+counted_of (some cs) = Some (length cs, has_frame cs)
 
 -- there are n codes
 pub record Held (r : Option (List (ℕ × Seh))) (n : ℕ) : Type 0 where
@@ -75,9 +64,9 @@ pub record HeaderThere (bs : List ℕ) (size p end frame at q : ℕ) : Type 0 wh
   pub past : q ≡ at + 2 * get_or bs 2 0
   pub inside : q ≤ size
 
-abbrev pub HeaderSays : List ℕ → ℕ → Header → Type 0
-HeaderSays s p (header.Slots end frame at q) = HeaderThere (drop p s) (length s) p end frame at q
-HeaderSays s p header.Bad = header_ok (drop p s) ≡ false
+abbrev pub HeaderSays : List ℕ → ℕ → code.Option Header → Type 0
+HeaderSays s p (Some h) = HeaderThere (drop p s) (length s) p h.end h.frame h.at h.past
+HeaderSays s p None = header_ok (drop p s) ≡ false
 
 -- the numbers of a reading, in the order of include/dekvoz.h
 abbrev pub read_numbers : X64Reading → List ℕ

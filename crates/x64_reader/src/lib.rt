@@ -2,47 +2,42 @@
 #![tactic(auto)]
 
 ghost use Rattle.std.specs.Prelude.{◌≡◌, ◌+◌, ◌*◌, ◌^◌, ◌≤◌, ◌<◌, [], ◌∷◌, ◌||◌, length, drop};
+ghost use Rattle.format.specs.Coded.{option_of};
 ghost use Rattle.format.specs.Put.{put};
 ghost use Rattle.operations.specs.Positions.{little_at};
 ghost use Rattle.format.specs.Answers.{bit};
 ghost use Rattle.format.specs.X64Reader.{operand_bytes, large_size, meaning, fields_of, frame_register, frame_offset, read_codes, read_x64, info_numbers, codes_stored};
-ghost use Rattle.x64_reader.specs.Reads.{operand_of, Small, field_numbers, CodeSays, or_frame, counted_of, Held, stored_of, HeaderSays, read_numbers};
+ghost use Rattle.x64_reader.specs.Reads.{Small, field_numbers, CodeSays, or_frame, counted_of, Held, stored_of, HeaderSays, read_numbers};
 
 use numbers::{codes, uwop};
-use operations::fields::{Position, Unsigned, read_le};
+use operations::fields::{Position, read_le};
 
 // ---- one code
 
-// How many bytes of operand an operation has; none where it is one that `seh` never writes.
-#[derive(Clone, Copy)]
-pub enum Operand {
-    Bytes(usize),
-    Bad,
-}
-
-fn large_bytes(info: u64) -> Operand
-    ensures { result ≡ operand_of (operand_bytes 1 info) }
+fn large_bytes(info: u64) -> Option<usize>
+    ensures { result ≡ option_of (operand_bytes 1 info) }
 {
     match info {
-        0 => Operand::Bytes(2),
-        1 => Operand::Bytes(4),
-        _ => Operand::Bad,
+        0 => Some(2),
+        1 => Some(4),
+        _ => None,
     }
 }
 
-fn operand_bytes(op: u64, info: u64) -> Operand
-    ensures { result ≡ operand_of (operand_bytes op info) }
+// How many bytes of operand an operation has, where it is one that `seh` writes.
+fn operand_bytes(op: u64, info: u64) -> Option<usize>
+    ensures { result ≡ option_of (operand_bytes op info) }
 {
     match op {
-        uwop::UWOP_PUSH_NONVOL => Operand::Bytes(0),
+        uwop::UWOP_PUSH_NONVOL => Some(0),
         uwop::UWOP_ALLOC_LARGE => large_bytes(info),
-        uwop::UWOP_ALLOC_SMALL => Operand::Bytes(0),
-        uwop::UWOP_SET_FPREG => Operand::Bytes(0),
-        uwop::UWOP_SAVE_NONVOL => Operand::Bytes(2),
-        uwop::UWOP_SAVE_NONVOL_FAR => Operand::Bytes(4),
-        uwop::UWOP_SAVE_XMM128 => Operand::Bytes(2),
-        uwop::UWOP_SAVE_XMM128_FAR => Operand::Bytes(4),
-        _ => Operand::Bad,
+        uwop::UWOP_ALLOC_SMALL => Some(0),
+        uwop::UWOP_SET_FPREG => Some(0),
+        uwop::UWOP_SAVE_NONVOL => Some(2),
+        uwop::UWOP_SAVE_NONVOL_FAR => Some(4),
+        uwop::UWOP_SAVE_XMM128 => Some(2),
+        uwop::UWOP_SAVE_XMM128_FAR => Some(4),
+        _ => None,
     }
 }
 
@@ -70,10 +65,7 @@ fn large_size(info: u64, v: u64) -> u64
     requires { v < 2 ^ 32 }
     ensures { (result ≡ large_size info v) × (result < 2 ^ 36) }
 {
-    if info == 0 {
-        return 8 * v;
-    }
-    v
+    if info == 0 { 8 * v } else { v }
 }
 
 // What an operation says, by the header's frame byte, its info and its operand.
@@ -94,7 +86,7 @@ fn meaning(frame: u64, op: u64, info: u64, v: u64) -> Fields
 }
 
 // The operand of n bytes behind a code.
-fn operand_at(s: &[u8], at: Position, n: usize) -> Unsigned
+fn operand_at(s: &[u8], at: Position, n: usize) -> Option<(u64, Position)>
     requires { n ≤ 4 }
     ensures { (result ≡ little_at n s.now at) × Small result }
 {
@@ -103,36 +95,34 @@ fn operand_at(s: &[u8], at: Position, n: usize) -> Unsigned
 
 // A code: its offset in the prologue, what it says, and the position past it.
 #[derive(Clone, Copy)]
-pub enum Code {
-    Code(u64, Fields, Position),
-    Bad,
+pub struct Code {
+    pub offset: u64,
+    pub fields: Fields,
+    pub past: Position,
 }
 
 // The code at a position of a record's slots.
-fn code_at(s: &[u8], at: Position, frame: u64) -> Code
+fn code_at(s: &[u8], at: Position, frame: u64) -> Option<Code>
     ensures { CodeSays frame s.now at result }
 {
     let from = at.at;
-    if s.len() < 2 {
-        return Code::Bad;
-    }
-    if s.len() - 2 < from {
-        return Code::Bad;
+    if s.len() < 2 || s.len() - 2 < from {
+        return None;
     }
     let b = leb::wide(s[from + 1]);
     let op = b % 16;
     let info = b / 16;
-    let Operand::Bytes(n) = operand_bytes(op, info) else {
-        return Code::Bad;
-    };
+    let n = operand_bytes(op, info)?;
     let behind = Position {
         at: from + 2,
         shortest: at.shortest,
     };
-    let Unsigned::Value(v, past) = operand_at(s, behind, n) else {
-        return Code::Bad;
-    };
-    Code::Code(leb::wide(s[from]), meaning(frame, op, info, v), past)
+    let (v, past) = operand_at(s, behind, n)?;
+    Some(Code {
+        offset: leb::wide(s[from]),
+        fields: meaning(frame, op, info, v),
+        past,
+    })
 }
 
 // ---- the codes of a record: first counted, then stored
@@ -140,34 +130,23 @@ fn code_at(s: &[u8], at: Position, frame: u64) -> Code
 fn or_frame(framed: bool, kind: u64) -> bool
     ensures { result ≡ or_frame framed kind }
 {
-    if kind == codes::FRAME {
-        return true;
-    }
-    framed
+    kind == codes::FRAME || framed
 }
 
-// How many codes there are, and whether one sets the frame register; none where one cannot be read.
-#[derive(Clone, Copy)]
-pub enum Counted {
-    Codes(usize, bool),
-    Bad,
-}
-
-fn count(s: &[u8], frame: u64) -> Counted
+// How many codes there are, and whether one sets the frame register, where each can be read.
+fn count(s: &[u8], frame: u64) -> Option<(usize, bool)>
     ensures { result ≡ counted_of (read_codes frame s.now) }
 {
     let mut at = Position::START;
     let mut n = 0usize;
     let mut framed = false;
     while at.at < s.len() {
-        let Code::Code(_, f, past) = code_at(s, at, frame) else {
-            return Counted::Bad;
-        };
-        framed = or_frame(framed, f.kind);
+        let code = code_at(s, at, frame)?;
+        framed = or_frame(framed, code.fields.kind);
         n += 1;
-        at = past;
+        at = code.past;
     }
-    Counted::Codes(n, framed)
+    Some((n, framed))
 }
 
 fn put_code(codes: &mut [u64], at: usize, offset: u64, f: Fields)
@@ -189,12 +168,12 @@ fn store(s: &[u8], frame: u64, n: usize, codes: &mut [u64])
     let mut at = Position::START;
     let mut left = n;
     while at.at < s.len() {
-        let Code::Code(offset, f, past) = code_at(s, at, frame) else {
+        let Some(code) = code_at(s, at, frame) else {
             return;
         };
         left -= 1;
-        put_code(codes, 5 * left, offset, f);
-        at = past;
+        put_code(codes, 5 * left, code.offset, code.fields);
+        at = code.past;
     }
 }
 
@@ -202,35 +181,31 @@ fn store(s: &[u8], frame: u64, n: usize, codes: &mut [u64])
 
 // The prologue's end and the frame byte of a header, and where its slots start and end.
 #[derive(Clone, Copy)]
-pub enum Header {
-    Slots(u64, u64, usize, usize),
-    Bad,
+pub struct Header {
+    pub end: u64,
+    pub frame: u64,
+    pub at: usize,
+    pub past: usize,
 }
 
-fn header_at(info: &[u8], place: u64) -> Header
+fn header_at(info: &[u8], place: u64) -> Option<Header>
     ensures { HeaderSays info.now place result }
 {
     let size = info.len();
     let p = place as usize;
-    if size < 4 {
-        return Header::Bad;
-    }
-    if size - 4 < p {
-        return Header::Bad;
-    }
-    if info[p] != 1 {
-        return Header::Bad;
+    if size < 4 || size - 4 < p || info[p] != 1 {
+        return None;
     }
     let slots = leb::wide(info[p + 2]) as usize;
     if size - 4 - p < 2 * slots {
-        return Header::Bad;
+        return None;
     }
-    Header::Slots(
-        leb::wide(info[p + 1]),
-        leb::wide(info[p + 3]),
-        p + 4,
-        p + 4 + 2 * slots,
-    )
+    Some(Header {
+        end: leb::wide(info[p + 1]),
+        frame: leb::wide(info[p + 3]),
+        at: p + 4,
+        past: p + 4 + 2 * slots,
+    })
 }
 
 // What unwind_read_x64 answers.
@@ -258,21 +233,15 @@ fn refused(number: u64) -> X64Reading
     }
 }
 
-fn bit(b: bool) -> u64
-    ensures { result ≡ bit b }
-{
-    if b { 1 } else { 0 }
-}
-
-fn read_as(end: u64, frame: u64, framed: bool, n: usize) -> X64Reading
-    ensures { read_numbers result ≡ 0 ∷ end ∷ bit framed ∷ frame_register frame ∷ frame_offset frame ∷ n ∷ [] }
+fn read_as(header: Header, framed: bool, n: usize) -> X64Reading
+    ensures { read_numbers result ≡ 0 ∷ header.end ∷ bit framed ∷ frame_register header.frame ∷ frame_offset header.frame ∷ n ∷ [] }
 {
     X64Reading {
         number: 0,
-        end,
-        frame: bit(framed),
-        frame_register: frame % 16,
-        frame_offset: 16 * (frame / 16),
+        end: header.end,
+        frame: u64::from(framed),
+        frame_register: header.frame % 16,
+        frame_offset: 16 * (header.frame / 16),
         codes: n as u64,
     }
 }
@@ -285,16 +254,16 @@ pub extern "C" fn unwind_read_x64(info: &[u8], place: u64, codes: &mut [u64]) ->
     ensures result_value { read_numbers result ≡ info_numbers (read_x64 info.now place (length codes.old)) }
     ensures codes_after { codes.new ≡ codes_stored (read_x64 info.now place (length codes.old)) codes.old }
 {
-    let Header::Slots(end, frame, at, past) = header_at(info, place) else {
+    let Some(header) = header_at(info, place) else {
         return refused(76);
     };
-    let slots = &info[at..past];
-    let Counted::Codes(n, framed) = count(slots, frame) else {
+    let slots = &info[header.at..header.past];
+    let Some((n, framed)) = count(slots, header.frame) else {
         return refused(77);
     };
     if codes.len() / 5 < n {
         return refused(54);
     }
-    store(slots, frame, n, codes);
-    read_as(end, frame, framed, n)
+    store(slots, header.frame, n, codes);
+    read_as(header, framed, n)
 }

@@ -10,6 +10,6 @@ pub returns-then-info-eq0 : goal.returns-then-info-eq0
 unfolding large_size
 returns-then-info-eq0 c = let v = c.args.v in (sym (if-eq c.args.info 0 (8 * v) v c.if-info-eq0.true), omega (arith, c.requires))
 
-pub returns : goal.returns
+pub returns-else-info-eq0 : goal.returns-else-info-eq0
 unfolding large_size
-returns c = let v = c.args.v in (sym (if-ne c.args.info 0 (8 * v) v c.if-info-eq0.false), omega (arith, c.requires))
+returns-else-info-eq0 c = let v = c.args.v in (sym (if-ne c.args.info 0 (8 * v) v c.if-info-eq0.false), omega (arith, c.requires))

@@ -7,6 +7,6 @@ pub returns-then-kind-eq-FRAME : goal.returns-then-kind-eq-FRAME
 unfolding or_frame
 returns-then-kind-eq-FRAME c = rw c.if-kind-eq-FRAME.true
 
-pub returns : goal.returns
+pub returns-else-kind-eq-FRAME : goal.returns-else-kind-eq-FRAME
 unfolding or_frame
-returns c = rw (ne_eqb c.args.kind 2 c.if-kind-eq-FRAME.false)
+returns-else-kind-eq-FRAME c = rw (ne_eqb c.args.kind 2 c.if-kind-eq-FRAME.false)

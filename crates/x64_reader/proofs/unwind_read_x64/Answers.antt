@@ -1,42 +1,40 @@
 -- `x64_reader::unwind_read_x64` meets its contract.
-use mathlib.Core.Path.{sym, subst, ◌∙◌}
 use native.Mathlib.Omega.{arith}
 use lib.ListN.{length}
-use Rattle.x64_reader.specs.Reads.{HeaderSays}
 use Rattle.x64_reader.proofs.Entry.{refuses, no_record, none_read, some_read, no_codes, no_space, reads}
 use Rattle.x64_reader.proofs.unwind_read_x64.Goals as goal
 
 pub returns-in_default : goal.returns-in_default
 returns-in_default c =
     let a = c.args in
-    let x = refuses (no_record a.info.now a.place (length a.codes.now) (subst (HeaderSays c.args.info.now c.args.place) c.in_default.is c.header_at.ensures)) c.refused.ensures in
+    let x = refuses (no_record a.info.now a.place (length a.codes.now) c.in_default.ensures) c.refused.ensures in
     record { result_value = x.0; codes_after = x.1 }
 
 pub slice_bounds-slots-count : goal.slice_bounds-slots-count
 slice_bounds-slots-count c =
-    let h = subst (HeaderSays c.args.info.now c.args.place) c.in-Slots.is c.header_at.ensures in
+    let h = c.in-Some.ensures in
     omega (arith, h.past, h.starts)
 
 pub returns-in_default-count : goal.returns-in_default-count
 returns-in_default-count c =
     let a = c.args in
-    let h = subst (HeaderSays c.args.info.now c.args.place) c.in-Slots.is c.header_at.ensures in
-    let x = refuses (no_codes a.info.now a.place h (length a.codes.now) (none_read _ (sym c.count.ensures ∙ c.in_default-count.is))) c.refused-in_default-count.ensures in
+    let h = c.in-Some.ensures in
+    let x = refuses (no_codes a.info.now a.place h (length a.codes.now) (none_read _ c.in_default-count.ensures)) c.refused-in_default-count.ensures in
     record { result_value = x.0; codes_after = x.1 }
 
 pub returns-then-codes-n : goal.returns-then-codes-n
 returns-then-codes-n c =
     let a = c.args in
-    let h = subst (HeaderSays c.args.info.now c.args.place) c.in-Slots.is c.header_at.ensures in
-    let x = refuses (no_space a.info.now a.place h (length a.codes.now) (some_read _ (sym c.count.ensures ∙ c.in-Codes.is)).held c.if-codes-n.true) c.refused-then-codes-n.ensures in
+    let h = c.in-Some.ensures in
+    let x = refuses (no_space a.info.now a.place h (length a.codes.now) (some_read _ c.in-Some-count.ensures).held c.if-codes-n.true) c.refused-then-codes-n.ensures in
     record { result_value = x.0; codes_after = x.1 }
 
 pub store-requires : goal.store-requires
-store-requires c = (omega (arith, c.if-codes-n.false), (some_read _ (sym c.count.ensures ∙ c.in-Codes.is)).held)
+store-requires c = (omega (arith, c.if-codes-n.false), (some_read _ c.in-Some-count.ensures).held)
 
 pub returns : goal.returns
 returns c =
     let a = c.args in
-    let h = subst (HeaderSays c.args.info.now c.args.place) c.in-Slots.is c.header_at.ensures in
-    let x = reads a.info.now a.place h a.codes.now (some_read _ (sym c.count.ensures ∙ c.in-Codes.is)) c.if-codes-n.false c.read_as.ensures c.store.ensures in
+    let h = c.in-Some.ensures in
+    let x = reads a.info.now a.place h a.codes.now (some_read _ c.in-Some-count.ensures) c.if-codes-n.false c.read_as.ensures c.store.ensures in
     record { result_value = x.0; codes_after = x.1 }
