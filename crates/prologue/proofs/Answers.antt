@@ -5,10 +5,10 @@ use native.Mathlib.Omega.{arith}
 use mathlib.Core.Bool.{Bool, true, false}
 use mathlib.Core.Option.{Option, none, some}
 use mathlib.Core.List.{List, [], ◌∷◌, ◌++◌, append-nil, append_assoc}
-use lib.Dec.{T, ltb, eqb}
+use lib.Dec.{T, ltb}
 use lib.IntN.{ℤ, pos, ◌+ℤ◌}
-use borrow.Author.Tests.{ne_eqb}
 use mir.Facts.{and_yes}
+use Rattle.std.specs.Prelude.{Ok, Err}
 use Rattle.format.specs.Prelude.{pick, Result, good, bad, onward, all, each}
 use Rattle.format.specs.declared.Machine.{Machine}
 use Rattle.format.specs.Machine.{Register, register_of}
@@ -16,11 +16,10 @@ use Rattle.format.specs.declared.Seh.{Seh}
 use Rattle.format.specs.declared.Seh.TheVariants.{Push, Frame, Save}
 use Rattle.format.specs.Lists.{Function, row_at}
 use Rattle.format.specs.X64.{Step, push, alloc, frame, save, Prefix, before_remember, groups, read_groups, low16, code_for, codes_for, codes_of, end_of}
-use Rattle.format.proofs.Choice.{if-le}
+use Rattle.format.proofs.Choice.{if-le, is_yes_lem}
 use Rattle.prologue.specs.declared.Walk.{Walk}
-use Rattle.prologue.specs.declared.Shape.{Shape}
-use Rattle.prologue.specs.Groups.{is_good, knows, known, refused, start, number_of, walk_from}
-use Rattle.prologue.specs.Pieces.{moved_in, step_in, code_in, codes_in, piece_in, pieces_from, pieces_of, end_in, Short, Shaped}
+use Rattle.prologue.specs.Groups.{is_good, knows, known, start, walk_from}
+use Rattle.prologue.specs.Pieces.{moved_in, step_in, code_in, codes_in, piece_in, pieces_from, end_in, Short, Shaped}
 use Rattle.prologue.proofs.Neighbours.{joined_first}
 use Rattle.prologue.proofs.Prefixes.{all_known, count_of, walk_of, last_of, Reads, reads, refuses, past}
 use Rattle.prologue.proofs.Walked.{past_row, past_rows, said}
@@ -102,37 +101,27 @@ module _ (m : Machine) (below : ℤ) where
 
 -- ---- what a function's rows say
 
-answered : (b : Bool) (cs : List (ℕ × Seh)) → pick b (good cs) (bad 34) ≡ pick (eqb (pick b 0 34) 0) (good cs) (bad (pick b 0 34))
-unfolding pick
-answered true cs = refl
-answered false cs = refl
+says : {m : Machine} {t : Prefix} {off : ℕ} {result : Result Prefix} {w : Result Walk} → Reads m t off result w
+    → onward result (λ s. codes_for m s.below s.steps) ≡ onward w (λ v. pick v.named (good (codes_in m v.below t.steps)) (bad 34))
+unfolding onward walk_of
+says {m} {t} (reads e u l) = rw (e, u) (all_codes m t.below t.steps)
+says (refuses n e u) = rw (e, u)
 
-says : {m : Machine} {t : Prefix} {off : ℕ} {result : Result Prefix} {w : Walk} → Reads m t off result w
-    → onward result (λ s. codes_for m s.below s.steps) ≡ pick (eqb (number_of w) 0) (good (codes_in m w.below t.steps)) (bad (number_of w))
-unfolding onward number_of walk_of refused pick
-says {m} {t} (reads e u l) = rw (e, u, all_codes m t.below t.steps) (answered (all_known m t.steps) (codes_in m t.below t.steps))
-says (refuses n h e u) = rw (e, u, ne_eqb n 0 h, ne_eqb n 0 h)
-
-all_named : (b : Bool) → ◌≡◌ {A = ℕ} (pick b 0 34) 0 → T b
-unfolding pick
-all_named true e = tt
-all_named false e = absurd (omega arith)
-
-ends : {m : Machine} {t : Prefix} {off : ℕ} {result : Result Prefix} {w : Walk} → Reads m t off result w → number_of w ≡ 0 → end_of 0 (codes_in m w.below t.steps) ≡ off
-unfolding number_of walk_of refused pick
-ends {m} {t} (reads e u l) z = rw u (all_ends m t.below 0 t.steps (all_named (all_known m t.steps) (rw u at z)) ∙ l)
-ends (refuses n h e u) z = absurd (h (rw (u, ne_eqb n 0 h) at z))
+ends : {m : Machine} {t : Prefix} {off : ℕ} {result : Result Prefix} {w : Result Walk} {v : Walk} → Reads m t off result w → w ≡ good v → v.named ≡ true
+    → end_of 0 (codes_in m v.below t.steps) ≡ off
+unfolding walk_of
+ends {m} {t} {v = v} (reads e u l) g z =
+    let f : v ≡ walk_of m t = cc in
+    rw f (all_ends m t.below 0 t.steps (is_yes_lem (rw f at z)) ∙ l)
+ends (refuses n e u) g z = cc
 
 module _ (m : Machine) (rows : List ℕ) (at n end : ℕ) (low : at ≤ end) (high : end ≤ at + n)
     (before : before_remember (each (row_at rows) at n) ≡ each (row_at rows) at (end - at)) where
   abbrev none_yet : Prefix
   none_yet = record { steps = []; below = pos m.pushed }
 
-  abbrev walked : Walk
+  abbrev walked : Result Walk
   walked = walk_from m rows at end at (end - at) (start m)
-
-  abbrev shape : Shape
-  shape = record { number = number_of walked; below = walked.below; end = end }
 
   whole : Reads m (past_rows rows at end at (end - at) none_yet) (end_in rows at end) (read_groups m (groups (each (row_at rows) at (end - at))) none_yet) walked
   unfolding start walk_of count_of all_known all last_of end_in
@@ -142,14 +131,27 @@ module _ (m : Machine) (rows : List ℕ) (at n end : ℕ) (low : at ≤ end) (hi
   unfolding codes_in
   pieces_all below = pieces_past m below rows at end at (end - at) none_yet
 
-  pub codes : (f : Function) → f.rows ≡ each (row_at rows) at n
-      → codes_of m f ≡ pick (eqb shape.number 0) (good (pieces_of m rows at shape)) (bad shape.number)
+  codes : (f : Function) → f.rows ≡ each (row_at rows) at n
+      → codes_of m f ≡ onward walked (λ v. pick v.named (good (codes_in m v.below (past_rows rows at end at (end - at) none_yet).steps)) (bad 34))
   unfolding codes_of
-  codes f e = rw (e, before, ← pieces_all walked.below) (says whole)
+  codes f e = rw (e, before) (says whole)
 
-  pub last : shape.number ≡ 0 → end_of 0 (pieces_of m rows at shape) ≡ end_in rows at end
-  last z = rw (← pieces_all walked.below) (ends whole z)
+  module _ {v : Walk} (g : walked ≡ good v) where
+    pub shaped : Short v.below → v.named ≡ true → Shaped m rows at n (Ok (record { below = v.below; end = end }))
+    unfolding onward pick
+    shaped h z =
+        record {
+          low = low;
+          high = high;
+          short = h;
+          codes = λ f e. codes f e ∙ rw (g, z) (ap good (pieces_all v.below));
+          last = rw (← pieces_all v.below) (ends whole g z);
+        }
 
-  pub shaped : {w : Walk} {number : ℕ} → w ≡ walked → Short w.below → number ≡ number_of w
-      → Shaped m rows at n (record { number = number; below = w.below; end = end })
-  shaped e h f = rw (f, e) (record { low = low; high = high; short = rw e at h; codes = codes; last = last })
+    pub unnamed : v.named ≡ false → Shaped m rows at n (Err 34)
+    unfolding onward pick
+    unnamed z f e = codes f e ∙ rw (g, z)
+
+  pub stopped : {k : ℕ} → walked ≡ bad k → Shaped m rows at n (Err k)
+  unfolding onward
+  stopped g f e = codes f e ∙ rw g

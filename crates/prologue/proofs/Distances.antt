@@ -1,14 +1,16 @@
 -- Distances of 32 bits added and subtracted in 64, as the machine passes them on.
 use mathlib.Core.Path.{◌≡◌, ◌∙◌}
 use mathlib.Core.Bool.{Bool, true, false, cond}
-use Prim.Native.Nat.{ℕ, zero, suc, ◌+◌, ◌≤◌}
+use Prim.Native.Nat.{ℕ, zero, suc, ◌+◌, ◌^◌, ◌≤◌, ◌<◌}
 use native.Mathlib.Omega.{arith}
 use lib.IntN.{ℤ, pos, negsuc, neg_ℤ, sub_ℕ, ◌+ℤ◌, ◌-ℤ◌, +ℤ_idl}
-use lib.Dec.{ltb}
+use lib.Dec.{ltb, eqb}
 use lib.Signed.{mag}
 use mir.Syntax.{w64}
 use mir.Val.{SFits, of_z, to_z}
 use mir.Facts.{to_z-of_z}
+use Rattle.format.specs.Rows.{same_offset}
+use Rattle.rows.proofs.Signs.{same_bits}
 use Rattle.prologue.specs.Pieces.{Short}
 
 -- ---- how large they get
@@ -50,12 +52,19 @@ module _ (a b : ℤ) (h : Short a) (k : Short b) where
   pub difference_fits : SFits w64 (to_z w64 (of_z w64 a) -ℤ to_z w64 (of_z w64 b))
   difference_fits = rw (short_passed a h, short_passed b k) (record { sfits = omega (arith, mag_sum a (neg_ℤ b), mag_opposite b) })
 
+  -- and compared
+  pub difference_same : (x : ℤ) → mag x < 2 ^ 63 → eqb (of_z w64 (to_z w64 (of_z w64 a) -ℤ to_z w64 (of_z w64 b))) (of_z w64 x) ≡ same_offset (a -ℤ b) x
+  difference_same x k' = rw (short_passed a h, short_passed b k) (same_bits (a -ℤ b) x (omega (arith, mag_sum a (neg_ℤ b), mag_opposite b)) k')
+
   pub difference_is : to_z w64 (of_z w64 (to_z w64 (of_z w64 a) -ℤ to_z w64 (of_z w64 b))) ≡ a -ℤ b
   difference_is = to_z-of_z difference_fits ∙ rw (short_passed a h, short_passed b k)
 
 module _ (z : ℤ) (h : Short z) where
   pub opposite_fits : SFits w64 (pos 0 -ℤ to_z w64 (of_z w64 z))
   opposite_fits = rw (short_passed z h, +ℤ_idl) (record { sfits = omega (arith, mag_opposite z) })
+
+  pub opposite_same : (x : ℤ) → mag x < 2 ^ 63 → eqb (of_z w64 x) (of_z w64 (pos 0 -ℤ to_z w64 (of_z w64 z))) ≡ same_offset x (neg_ℤ z)
+  opposite_same x k = rw (short_passed z h, +ℤ_idl) (same_bits x (neg_ℤ z) k (omega (arith, mag_opposite z)))
 
   pub opposite_is : to_z w64 (of_z w64 (pos 0 -ℤ to_z w64 (of_z w64 z))) ≡ neg_ℤ z
   opposite_is = to_z-of_z opposite_fits ∙ rw (short_passed z h) (+ℤ_idl (neg_ℤ z))

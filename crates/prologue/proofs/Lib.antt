@@ -4,6 +4,8 @@ pub mod Neighbours
 pub mod Prefixes
 pub mod Walked
 pub mod Answers
+pub mod Told
+pub mod Counting
 pub mod Registers
 pub mod Distances
 pub mod Arms

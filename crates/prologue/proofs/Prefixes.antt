@@ -1,12 +1,9 @@
 -- What is known of a prologue's steps in a few numbers, and that a row read on these numbers is the row read on the steps.
-use mathlib.Core.Path.{◌≡◌, refl, sym}
+use mathlib.Core.Path.{◌≡◌, refl, sym, ap}
 use Prim.Native.Nat.{ℕ, ◌*◌}
-use native.Mathlib.Omega.{arith}
 use mathlib.Core.Bool.{Bool, true, false, ◌&&◌, and_assoc, and-true}
-use mathlib.Core.Logic.{◌≢◌}
 use mathlib.Core.List.{List, [], ◌∷◌, ◌++◌, append-nil}
 use lib.Dec.{T, eqb}
-use borrow.Author.Tests.{ne_eqb}
 use lib.IntN.{ℤ, pos, neg_ℤ, ◌-ℤ◌}
 use mir.Facts.{and_yes, eqb_yes}
 use Rattle.format.specs.Prelude.{pick, Result, good, bad, onward, all}
@@ -16,23 +13,25 @@ use Rattle.format.specs.declared.Row.TheVariants.{DefCfa, DefCfaOffset, DefCfaRe
 use Rattle.format.specs.Rows.{kind_of, reg_of, offset_of, same_offset}
 use Rattle.format.specs.X64.{Step, push, alloc, frame, save, Prefix, more, is_push, only_push, lone_row, push_rows}
 use Rattle.prologue.specs.declared.Walk.{Walk}
-use Rattle.prologue.specs.Groups.{refused, known, counted, stepped, added, lone_in, push_in}
+use Rattle.prologue.specs.declared.Steps.{Steps}
+use Rattle.prologue.specs.declared.Steps.TheVariants.{NoStep, PointerPushed, Others}
+use Rattle.prologue.specs.Groups.{known, counted, is_pushed, stepped, added, lone_in, push_in}
 use Rattle.prologue.specs.Pieces.{moved_by, row_step}
 
 -- ---- the steps in numbers
 
-unfoldable pub count_of : (reg : ℕ) → List (ℕ × Step) → ℕ
-count_of reg [] = 0
-count_of reg (x ∷ []) = pick (is_push reg x.1) 1 2
-count_of reg (x ∷ y ∷ xs) = 2
+unfoldable pub count_of : (reg : ℕ) → List (ℕ × Step) → Steps
+count_of reg [] = NoStep
+count_of reg (x ∷ []) = pick (is_push reg x.1) PointerPushed Others
+count_of reg (x ∷ y ∷ xs) = Others
 
-one_or_two : (b c : Bool) → (eqb (pick b 1 2) 1 ≡ b) × (counted (pick b 1 2) c ≡ 2)
-unfolding pick counted
+one_or_two : (b c : Bool) → (is_pushed (pick b PointerPushed Others) ≡ b) × (counted (pick b PointerPushed Others) c ≡ Others)
+unfolding pick counted is_pushed
 one_or_two true c = (refl, refl)
 one_or_two false c = (refl, refl)
 
-count_only : (reg : ℕ) (xs : List (ℕ × Step)) → eqb (count_of reg xs) 1 ≡ only_push reg xs
-unfolding count_of only_push
+count_only : (reg : ℕ) (xs : List (ℕ × Step)) → is_pushed (count_of reg xs) ≡ only_push reg xs
+unfolding count_of only_push is_pushed
 count_only reg [] = refl
 count_only reg (x ∷ []) = (one_or_two (is_push reg x.1) true).0
 count_only reg (x ∷ y ∷ xs) = refl
@@ -52,7 +51,7 @@ known_more m [] x = and-true (known m x.1)
 known_more m (y ∷ xs) x = rw (known_more m xs x, and_assoc)
 
 unfoldable pub walk_of : Machine → Prefix → Walk
-walk_of m s = record { number = 0; below = s.below; steps = count_of m.frame s.steps; named = all_known m s.steps }
+walk_of m s = record { below = s.below; steps = count_of m.frame s.steps; named = all_known m s.steps }
 
 walk_more : (m : Machine) (s : Prefix) (off : ℕ) (step : Step) (below : ℤ) → added m (walk_of m s) step below ≡ walk_of m (more s off step below)
 unfolding added stepped walk_of more
@@ -76,33 +75,33 @@ ends_more : (s : Prefix) (off : ℕ) (step : Step) (below : ℤ) → Ends (more 
 unfolding more
 ends_more s off step below = last_more 0 s.steps (off, step)
 
--- ---- a result beside the numbers
+-- ---- a result beside what is known
 
--- the steps come to s, whose last is at `off`, and the numbers are those of s; or both refuse by one number
-pub data Reads (m : Machine) (s : Prefix) (off : ℕ) (result : Result Prefix) (w : Walk) : Type 0 where
-  reads : result ≡ good s → w ≡ walk_of m s → Ends s off → Reads m s off result w
-  refuses : (n : ℕ) → n ≢ 0 → result ≡ bad n → w ≡ refused n → Reads m s off result w
+-- the steps come to s, whose last is at `off`, and what is known is of s; or both refuse by one number
+pub data Reads (m : Machine) (s : Prefix) (off : ℕ) (result : Result Prefix) (w : Result Walk) : Type 0 where
+  reads : result ≡ good s → w ≡ good (walk_of m s) → Ends s off → Reads m s off result w
+  refuses : (n : ℕ) → result ≡ bad n → w ≡ bad n → Reads m s off result w
 
 -- a continuation of what was read
-on : {m : Machine} {s t : Prefix} {off : ℕ} {result : Result Prefix} {w : Walk} (k : Prefix → Result Prefix) (f : Walk → Walk)
-    → result ≡ good s → w ≡ walk_of m s → Reads m t off (k s) (f (walk_of m s)) → Reads m t off (onward result k) (pick (eqb w.number 0) (f w) w)
-unfolding onward walk_of pick
+on : {m : Machine} {s t : Prefix} {off : ℕ} {result : Result Prefix} {w : Result Walk} (k : Prefix → Result Prefix) (f : Walk → Result Walk)
+    → result ≡ good s → w ≡ good (walk_of m s) → Reads m t off (k s) (f (walk_of m s)) → Reads m t off (onward result k) (onward w f)
+unfolding onward
 on k f e u (reads e' u' l) = reads (rw e e') (rw u u') l
-on k f e u (refuses n h e' u') = refuses n h (rw e e') (rw u u')
+on k f e u (refuses n e' u') = refuses n (rw e e') (rw u u')
 
 -- one instruction behind the other
-pub link : {m : Machine} {s t : Prefix} {off off' : ℕ} {result : Result Prefix} {w : Walk} (k : Prefix → Result Prefix) (f : Walk → Walk)
-    → Reads m s off result w → (Ends s off → Reads m t off' (k s) (f (walk_of m s))) → Reads m t off' (onward result k) (pick (eqb w.number 0) (f w) w)
-unfolding onward refused pick
+pub link : {m : Machine} {s t : Prefix} {off off' : ℕ} {result : Result Prefix} {w : Result Walk} (k : Prefix → Result Prefix) (f : Walk → Result Walk)
+    → Reads m s off result w → (Ends s off → Reads m t off' (k s) (f (walk_of m s))) → Reads m t off' (onward result k) (onward w f)
+unfolding onward
 link k f (reads e u l) r = on k f e u (r l)
-link k f (refuses n h e u) r = refuses n h (rw e) (rw (u, ne_eqb n 0 h))
+link k f (refuses n e u) r = refuses n (rw e) (rw u)
 
 -- an instruction that is read where a test says yes
-asked : {m : Machine} {s t : Prefix} {off : ℕ} (b : Bool) (n : ℕ) → n ≢ 0 → Ends s off → (T b → s ≡ t)
-    → Reads m t off (pick b (good s) (bad n)) (pick b (walk_of m s) (refused n))
+asked : {m : Machine} {s t : Prefix} {off : ℕ} (b : Bool) (n : ℕ) → Ends s off → (T b → s ≡ t)
+    → Reads m t off (pick b (good s) (bad n)) (pick b (good (walk_of m s)) (bad n))
 unfolding pick
-asked true n h l e = reads (rw (e tt)) (rw (e tt)) (rw (e tt) at l)
-asked false n h l e = refuses n h refl refl
+asked true n l e = reads (rw (e tt)) (rw (e tt)) (rw (e tt) at l)
+asked false n l e = refuses n refl refl
 
 -- what a row adds
 unfoldable pub past : (off : ℕ) (joins joined : Bool) → Row → Prefix → Prefix
@@ -112,19 +111,19 @@ module _ (m : Machine) (off : ℕ) (s : Prefix) where
   pub lone_reads : (last : Bool) (r : Row) → Reads m (past off false false r s) off (lone_row m last off r s) (lone_in m last r (walk_of m s))
   unfolding lone_row lone_in past more row_step moved_by kind_of reg_of offset_of walk_of pick
   lone_reads last (DefCfa reg z) =
-      rw (walk_more m s off frame s.below) (asked (eqb reg m.frame && same_offset z s.below) 32 (λ e. omega arith) (ends_more s off frame s.below) (λ t. refl))
-  lone_reads last (DefCfaOffset z) = reads refl (walk_more m s off (alloc (z -ℤ s.below)) z) (ends_more s off (alloc (z -ℤ s.below)) z)
+      rw (walk_more m s off frame s.below) (asked (eqb reg m.frame && same_offset z s.below) 32 (ends_more s off frame s.below) (λ t. refl))
+  lone_reads last (DefCfaOffset z) = reads refl (ap good (walk_more m s off (alloc (z -ℤ s.below)) z)) (ends_more s off (alloc (z -ℤ s.below)) z)
   lone_reads last (DefCfaRegister reg) =
       rw (walk_more m s off frame s.below, count_only m.frame s.steps)
-      (asked (eqb reg m.frame && last && same_offset s.below (pos (2 * m.word)) && only_push m.frame s.steps) 31 (λ e. omega arith) (ends_more s off frame s.below) (λ t. refl))
-  lone_reads last (Offset reg z) = reads refl (walk_more m s off (save reg z) s.below) (ends_more s off (save reg z) s.below)
-  lone_reads last (Restore reg) = refuses 33 (λ e. omega arith) refl refl
-  lone_reads last (Undefined reg) = refuses 33 (λ e. omega arith) refl refl
-  lone_reads last RememberState = refuses 33 (λ e. omega arith) refl refl
-  lone_reads last RestoreState = refuses 33 (λ e. omega arith) refl refl
-  lone_reads last NegateRaState = refuses 33 (λ e. omega arith) refl refl
-  lone_reads last (SameValue reg) = refuses 33 (λ e. omega arith) refl refl
-  lone_reads last (InRegister reg other) = refuses 33 (λ e. omega arith) refl refl
+      (asked (eqb reg m.frame && last && same_offset s.below (pos (2 * m.word)) && only_push m.frame s.steps) 31 (ends_more s off frame s.below) (λ t. refl))
+  lone_reads last (Offset reg z) = reads refl (ap good (walk_more m s off (save reg z) s.below)) (ends_more s off (save reg z) s.below)
+  lone_reads last (Restore reg) = refuses 33 refl refl
+  lone_reads last (Undefined reg) = refuses 33 refl refl
+  lone_reads last RememberState = refuses 33 refl refl
+  lone_reads last RestoreState = refuses 33 refl refl
+  lone_reads last NegateRaState = refuses 33 refl refl
+  lone_reads last (SameValue reg) = refuses 33 refl refl
+  lone_reads last (InRegister reg other) = refuses 33 refl refl
 
   pushed : (a b : Row) → kind_of a ≡ 1 → kind_of b ≡ 3 → more s off (push (reg_of b)) (offset_of a) ≡ past off false true b (past off true false a s)
   unfolding more past row_step moved_by pick
@@ -137,7 +136,7 @@ module _ (m : Machine) (off : ℕ) (s : Prefix) where
       let moves : Bool = same_offset (offset_of a -ℤ s.below) (pos m.word) in
       let stores : Bool = same_offset (offset_of b) (neg_ℤ (offset_of a)) in
       rw (walk_more m s off (push (reg_of b)) (offset_of a))
-      (asked (kinds && moves && stores) 33 (λ e. omega arith) (ends_more s off (push (reg_of b)) (offset_of a))
+      (asked (kinds && moves && stores) 33 (ends_more s off (push (reg_of b)) (offset_of a))
       (λ t.
       let h = and_yes (eqb (kind_of a) 1) (eqb (kind_of b) 3) (and_yes kinds moves (and_yes (kinds && moves) stores t).0).0 in
       pushed a b (eqb_yes h.0) (eqb_yes h.1)))

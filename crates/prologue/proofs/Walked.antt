@@ -6,20 +6,19 @@ use mathlib.Core.Bool.{Bool, true, false, not}
 use mathlib.Core.List.{List}
 use lib.Dec.{T, eqb}
 use borrow.Author.Tests.{eq-eqb, ne_eqb}
-use Rattle.format.specs.Prelude.{pick, each}
+use Rattle.format.specs.Prelude.{pick, Result, good, bad, onward, each}
 use Rattle.format.specs.declared.Machine.{Machine}
 use Rattle.format.specs.Lists.{row_at}
 use Rattle.format.specs.Writer.{is_empty}
 use Rattle.format.specs.X64.{Prefix, groups, push_rows, read_groups}
 use Rattle.format.proofs.Choice.{if-gt, tested, is_true, is_false}
 use Rattle.prologue.specs.declared.Walk.{Walk}
-use Rattle.prologue.specs.Groups.{joined, joins, third, refused, lone_in, push_in, last_in, row_in, walk_from}
+use Rattle.prologue.specs.Groups.{joined, joins, third, lone_in, push_in, last_in, row_in, walk_from}
 use Rattle.prologue.specs.Pieces.{end_in}
 use Rattle.prologue.proofs.Instructions.{Parted, read_lone, read_push, read_third}
 use Rattle.prologue.proofs.Neighbours.{joins_last, joins_yes, joins_no, next_yes, next_no, not_third, is_third}
 use Rattle.prologue.proofs.Prefixes.{walk_of, Ends, Reads, refuses, reads, link, past, lone_reads, push_reads}
 
--- a test that said yes or no, as an equation
 -- what a row adds, and what n rows from i on add
 unfoldable pub past_row : (rows : List ℕ) (at end i : ℕ) → Prefix → Prefix
 past_row rows at end i s = past (row_at rows i).0 (joins rows i end) (joined rows at i) (row_at rows i).1 s
@@ -38,11 +37,11 @@ module _ (m : Machine) (rows : List ℕ) (at end : ℕ) where
   -- ---- one row
 
   module _ (i : ℕ) (w : Walk) where
-    pub at_third : third rows at i ≡ true → row_in m rows at end i w ≡ refused 33
+    pub at_third : third rows at i ≡ true → row_in m rows at end i w ≡ bad 33
     unfolding row_in pick
     at_third e = rw e
 
-    pub at_open : third rows at i ≡ false → joins rows i end ≡ true → row_in m rows at end i w ≡ w
+    pub at_open : third rows at i ≡ false → joins rows i end ≡ true → row_in m rows at end i w ≡ good w
     unfolding row_in pick
     at_open e g = rw (e, g)
 
@@ -59,8 +58,8 @@ module _ (m : Machine) (rows : List ℕ) (at end : ℕ) where
     at_lone e = rw e
 
   -- the walk over one row
-  pub turned : (i n : ℕ) (w v : Walk) → row_in m rows at end i w ≡ v
-      → walk_from m rows at end i (suc n) w ≡ pick (eqb v.number 0) (walk_from m rows at end (suc i) n v) v
+  pub turned : (i n : ℕ) (w : Walk) (v : Result Walk) → row_in m rows at end i w ≡ v
+      → walk_from m rows at end i (suc n) w ≡ onward v (walk_from m rows at end (suc i) n)
   unfolding walk_from
   turned i n w v e = rw e
 
@@ -109,8 +108,8 @@ module _ (m : Machine) (rows : List ℕ) (at end : ℕ) where
 
   passed : (i n : ℕ) (s : Prefix) → third rows at i ≡ false → joins rows i end ≡ true
       → walk_from m rows at end i (suc n) (walk_of m s) ≡ walk_from m rows at end (suc i) n (walk_of m s)
-  unfolding walk_of pick
-  passed i n s e g = turned i n (walk_of m s) (walk_of m s) (at_open i (walk_of m s) e g)
+  unfolding onward
+  passed i n s e g = turned i n (walk_of m s) (good (walk_of m s)) (at_open i (walk_of m s) e g)
 
   -- what is left behind two rows
   abbrev Last : (i n : ℕ) → Prefix → Type 0
@@ -138,7 +137,7 @@ module _ (m : Machine) (rows : List ℕ) (at end : ℕ) where
 
   third_step : (i n : ℕ) → at ≤ i → joined rows at i ≡ false → T (joins rows i end) → T (joins rows (suc i) end) → (s : Prefix)
       → Said i (suc (suc (suc n))) s
-  unfolding each past_rows refused pick
+  unfolding each past_rows onward
   third_step i n h j t t' s =
       let L = row_at rows in
       let equal = (joins_yes rows i end t).1 in
@@ -146,11 +145,11 @@ module _ (m : Machine) (rows : List ℕ) (at end : ℕ) where
       let j' = next_yes rows at i h equal in
       let j'' = next_yes rows at (suc i) (omega arith) equal' in
       let w = walk_of m s in
-      let walk : walk_from m rows at end i (suc (suc (suc n))) w ≡ refused 33 =
+      let walk : walk_from m rows at end i (suc (suc (suc n))) w ≡ bad 33 =
       passed i (suc (suc n)) s (not_third rows at i j) (is_true (joins rows i end) t)
       ∙ passed (suc i) (suc n) s (third_behind i j' ∙ j) (is_true (joins rows (suc i) end) t')
-      ∙ turned (suc (suc i)) n w (refused 33) (at_third (suc (suc i)) w (third_behind (suc i) j'' ∙ j')) in
-      refuses 33 (λ z. omega arith) (read_third m s (L i) (L (suc i)) (L (suc (suc i))) (each L (suc (suc (suc i))) n) equal equal') walk
+      ∙ turned (suc (suc i)) n w (bad 33) (at_third (suc (suc i)) w (third_behind (suc i) j'' ∙ j')) in
+      refuses 33 (read_third m s (L i) (L (suc i)) (L (suc (suc i))) (each L (suc (suc (suc i))) n) equal equal') walk
 
   -- ---- all of them
 

@@ -1,5 +1,6 @@
 -- The codes of a prologue one by one: what a row that ends an instruction yields. Where a row is no prologue's, what it yields means nothing.
-use Rattle.std.specs.Prelude.{◌≡◌, ℕ, zero, suc, ◌+◌, ◌-◌, ◌*◌, ◌^◌, ◌≤◌, ◌<◌, Bool, List, [], ◌∷◌, ◌++◌, length, T, leb, eqb, ℤ, pos, ◌-ℤ◌}
+use Rattle.std.specs.Prelude.{◌≡◌, ℕ, zero, suc, ◌+◌, ◌-◌, ◌*◌, ◌^◌, ◌≤◌, ◌<◌, Bool, List, [], ◌∷◌, ◌++◌, length, T, leb, eqb, Option, Some, None, Ok, Err, ℤ, pos, ◌-ℤ◌}
+use Rattle.std.specs.Prelude as code
 use Rattle.std.specs.Int.Signed.{mag}
 use Rattle.format.specs.Prelude.{pick, Result, good, bad, onward, each}
 use Rattle.format.specs.declared.Machine.{Machine}
@@ -9,8 +10,6 @@ use Rattle.format.specs.declared.Seh.{Seh}
 use Rattle.format.specs.Rows.{kind_of, reg_of, offset_of}
 use Rattle.format.specs.Lists.{Function, row_at, row_ok_at}
 use Rattle.format.specs.X64.{Step, push, alloc, frame, save, low16, code_for, codes_of, end_of}
-use Rattle.prologue.specs.declared.Piece.{Piece}
-use Rattle.prologue.specs.declared.Piece.TheVariants.{Nothing, Code}
 use Rattle.prologue.specs.declared.Shape.{Shape}
 use Rattle.prologue.specs.Groups.{joined, joins}
 
@@ -67,10 +66,10 @@ pieces_from m below sofar rows at i end (suc n) = piece_in m below sofar rows at
 unfoldable pub end_in : (rows : List ℕ) (at end : ℕ) → ℕ
 end_in rows at end = pick (leb end at) 0 (row_at rows (end - 1)).0
 
--- what an answer of `piece_at` holds
-unfoldable pub piece_of : Piece → List (ℕ × Seh)
-piece_of Nothing = []
-piece_of (Code off c) = (off, c) ∷ []
+-- what an answer of `piece_at` holds, as a list
+unfoldable pub piece_of : Option (ℕ × Seh) → List (ℕ × Seh)
+piece_of None = []
+piece_of (Some x) = x ∷ []
 
 -- a code that names a register
 unfoldable pub named_code : Machine → (off reg : ℕ) → (Register → Seh) → List (ℕ × Seh)
@@ -82,10 +81,15 @@ named_code m off reg f = code_in off (onward (low16 (register_of m reg)) λ r. g
 abbrev pub pieces_of : Machine → (rows : List ℕ) (at : ℕ) → Shape → List (ℕ × Seh)
 pieces_of m rows at r = pieces_from m r.below (pos m.pushed) rows at at r.end (r.end - at)
 
--- what a function's codes are, for a function of these rows
-pub record Shaped (m : Machine) (rows : List ℕ) (at n : ℕ) (r : Shape) : Type 0 where
+-- what a function's rows say, for a function of these rows: its codes
+pub record Says (m : Machine) (rows : List ℕ) (at n : ℕ) (r : Shape) : Type 0 where
   pub low : at ≤ r.end
   pub high : r.end ≤ at + n
   pub short : Short r.below
-  pub codes : (f : Function) → f.rows ≡ each (row_at rows) at n → codes_of m f ≡ pick (eqb r.number 0) (good (pieces_of m rows at r)) (bad r.number)
-  pub last : r.number ≡ 0 → end_of 0 (pieces_of m rows at r) ≡ end_in rows at r.end
+  pub codes : (f : Function) → f.rows ≡ each (row_at rows) at n → codes_of m f ≡ good (pieces_of m rows at r)
+  pub last : end_of 0 (pieces_of m rows at r) ≡ end_in rows at r.end
+
+-- or the number of the question that was answered by no
+abbrev pub Shaped : Machine → (rows : List ℕ) (at n : ℕ) → code.Result Shape ℕ → Type 0
+Shaped m rows at n (Ok r) = Says m rows at n r
+Shaped m rows at n (Err k) = (f : Function) → f.rows ≡ each (row_at rows) at n → codes_of m f ≡ bad k

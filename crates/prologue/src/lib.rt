@@ -1,17 +1,18 @@
 // From a function's rows to x64 codes: questions 31 to 34, and the codes one by one. Ported from rucc-asm/src/unwind.rs (prologue, machine) of tamnd/rucc, changed: see NOTICE.
 #![tactic(auto)]
 
-ghost use Rattle.std.specs.Prelude.{◌≡◌, false, ◌&&◌, [], ◌∷◌, ◌+◌, ◌-◌, ◌*◌, ◌^◌, ◌≤◌, ◌<◌, pos, ◌+ℤ◌, ◌-ℤ◌, length, T, eqb};
+ghost use Rattle.std.specs.Prelude.{IfOk, ◌≡◌, false, ◌&&◌, [], ◌∷◌, ◌+◌, ◌-◌, ◌*◌, ◌^◌, ◌≤◌, ◌<◌, pos, ◌+ℤ◌, ◌-ℤ◌, length, T, eqb};
 ghost use Rattle.format.specs.Lists.{row_stride, count, most_records, row_at, row_ok_at};
 ghost use Rattle.format.specs.Prelude.{pick, each};
 ghost use Rattle.format.specs.Machine.{register_of};
 ghost use Rattle.format.specs.Rows.{kind_of, offset_of, same_offset};
 ghost use Rattle.format.specs.X64.{low16, frame, before_remember};
+ghost use Rattle.format.specs.Coded.{result_of};
 ghost use Rattle.format.specs.declared.Row.TheVariants.{DefCfa, DefCfaOffset, DefCfaRegister, Offset};
 ghost use Rattle.format.specs.declared.Seh.TheVariants.{Push, Alloc, Frame, Save};
 ghost use Rattle.format.proofs.Fits.{MachineFits};
 ghost use Rattle.header_keys.specs.Functions.{RowsReady};
-ghost use Rattle.prologue.specs.Groups.{found_of, knows, joined, joins, third, refused, counted, stepped, added, lone_in, push_in, last_in, row_in, walk_from, start, number_of};
+ghost use Rattle.prologue.specs.Groups.{found_of, knows, joined, joins, third, counted, stepped, added, lone_in, push_in, last_in, row_in, walk_from, start};
 ghost use Rattle.prologue.specs.Pieces.{Short, Ready, Shaped, piece_of, named_code, moved_in, piece_in, end_in};
 
 use format::{Machine, Row, Seh};
@@ -20,32 +21,26 @@ use rows::{offset_at, row_at};
 
 // ---- registers
 
-// A register of the machine: its number, below 16, and whether it is a vector register; or none.
-#[derive(Clone, Copy)]
-enum Found {
-    Number(u64, bool),
-    Unknown,
-}
-
-// What register DWARF's number `reg` is. Question 34 is about those that are none.
-fn machine(m: Machine, reg: u64) -> Found
+// What register of the machine DWARF's number `reg` is: its number, below 16, and whether it is a vector register; or none.
+// Question 34 is about those that are none.
+fn machine(m: Machine, reg: u64) -> Option<(u64, bool)>
     requires { length m.map ≡ 64 }
     ensures { result ≡ found_of (low16 (register_of m reg)) }
 {
     if 64 <= reg {
-        return Found::Unknown;
+        return None;
     }
     let n = wide(m.map[reg as usize]);
     if n < 16 {
-        return Found::Number(n, false);
+        return Some((n, false));
     }
     if n < 128 {
-        return Found::Unknown;
+        return None;
     }
     if n < 144 {
-        return Found::Number(n - 128, true);
+        return Some((n - 128, true));
     }
-    Found::Unknown
+    None
 }
 
 // The machine has a number below 16 for it.
@@ -53,10 +48,7 @@ fn knows(m: Machine, reg: u64) -> bool
     requires { length m.map ≡ 64 }
     ensures { result ≡ knows m reg }
 {
-    let Found::Number(_, _) = machine(m, reg) else {
-        return false;
-    };
-    true
+    machine(m, reg).is_some()
 }
 
 // ---- the rows of one instruction
@@ -66,10 +58,7 @@ fn joined(rows: &[u64], at: usize, i: usize) -> bool
     requires { 4 * i + 4 ≤ length rows.now }
     ensures { result ≡ joined rows.now at i }
 {
-    if i <= at {
-        return false;
-    }
-    offset_at(rows, i - 1) == offset_at(rows, i)
+    at < i && offset_at(rows, i - 1) == offset_at(rows, i)
 }
 
 // Row i + 1 is of the instruction of row i, where that is one of the prologue's rows, which stop at `end`.
@@ -77,10 +66,7 @@ fn joins(rows: &[u64], i: usize, end: usize) -> bool
     requires { (4 * i + 4 ≤ length rows.now) × (4 * end ≤ length rows.now) }
     ensures { result ≡ joins rows.now i end }
 {
-    if end <= i + 1 {
-        return false;
-    }
-    offset_at(rows, i) == offset_at(rows, i + 1)
+    i + 1 < end && offset_at(rows, i) == offset_at(rows, i + 1)
 }
 
 // Row i is of the instruction of the two rows before it.
@@ -88,65 +74,37 @@ fn third(rows: &[u64], at: usize, i: usize) -> bool
     requires { 4 * i + 4 ≤ length rows.now }
     ensures { result ≡ third rows.now at i }
 {
-    if !joined(rows, at, i) {
-        return false;
-    }
-    joined(rows, at, i - 1)
+    joined(rows, at, i) && joined(rows, at, i - 1)
 }
 
 // ---- what is known so far
 
-// What is known of the rows so far: 0, or the number of the question that was answered by no; the distance of the frame address
-// above the stack pointer; no step (0), the push of the frame pointer (1) or anything else (2); and whether the machine has a
-// number below 16 for each register.
+// The steps so far.
+#[derive(Clone, Copy, PartialEq, Eq)]
+enum Steps {
+    NoStep,
+    // The push of the frame pointer, and no other one.
+    PointerPushed,
+    Others,
+}
+
+// What is known of the rows so far: the distance of the frame address above the stack pointer, the steps, and whether the machine
+// has a number below 16 for each register.
 #[derive(Clone, Copy)]
 struct Walk {
-    number: u64,
     below: i64,
-    steps: u64,
+    steps: Steps,
     named: bool,
 }
 
-// A question answered by no.
-fn refused(number: u64) -> Walk
-    ensures { result ≡ refused number }
-{
-    Walk {
-        number,
-        below: 0,
-        steps: 0,
-        named: false,
-    }
-}
-
-// Both tests say yes.
-fn both(a: bool, b: bool) -> bool
-    ensures { result ≡ a && b }
-{
-    if a {
-        return b;
-    }
-    false
-}
-
-// Two offsets are equal.
-fn same(a: i64, b: i64) -> bool
-    ensures { result ≡ same_offset a b }
-{
-    a == b
-}
-
-// How many steps there are with one more, as a walk counts them.
-fn counted(before: u64, pushes: bool) -> u64
+// The steps with one more, which pushes the frame pointer or not.
+fn counted(before: Steps, pushes: bool) -> Steps
     ensures { result ≡ counted before pushes }
 {
-    if before != 0 {
-        return 2;
+    if pushes && before == Steps::NoStep {
+        return Steps::PointerPushed;
     }
-    if pushes {
-        return 1;
-    }
-    2
+    Steps::Others
 }
 
 // One step more: it pushes the frame pointer, or not; the machine knows its register, or not.
@@ -154,10 +112,9 @@ fn stepped(w: Walk, pushes: bool, knows: bool, below: i64) -> Walk
     ensures { result ≡ stepped w pushes knows below }
 {
     Walk {
-        number: 0,
         below,
         steps: counted(w.steps, pushes),
-        named: both(w.named, knows),
+        named: w.named && knows,
     }
 }
 
@@ -172,89 +129,99 @@ fn framed(m: Machine, w: Walk) -> Walk
 }
 
 // DefCfa alone: the frame pointer at the present distance, or a frame that is counted from another register (32).
-fn frame_set(m: Machine, reg: u64, z: i64, w: Walk) -> Walk
+fn frame_set(m: Machine, reg: u64, z: i64, w: Walk) -> Result<Walk, u64>
     requires { length m.map ≡ 64 }
-    ensures { result ≡ lone_in m false (DefCfa reg z) w }
+    ensures { result ≡ result_of (lone_in m false (DefCfa reg z) w) }
 {
     if reg != m.frame {
-        return refused(32);
+        return Err(32);
     }
-    if !same(z, w.below) {
-        return refused(32);
+    if z != w.below {
+        return Err(32);
     }
-    framed(m, w)
+    Ok(framed(m, w))
 }
 
 // DefCfaRegister alone: the frame pointer, pushed by the only step before, and nothing behind it; else it is set before the frame
 // is taken (31).
-fn frame_early(m: Machine, last: bool, reg: u64, w: Walk) -> Walk
+fn frame_early(m: Machine, last: bool, reg: u64, w: Walk) -> Result<Walk, u64>
     requires { (length m.map ≡ 64) × (m.word ≡ 8) }
-    ensures { result ≡ lone_in m last (DefCfaRegister reg) w }
+    ensures { result ≡ result_of (lone_in m last (DefCfaRegister reg) w) }
 {
     if reg != m.frame {
-        return refused(31);
+        return Err(31);
     }
     if !last {
-        return refused(31);
+        return Err(31);
     }
-    if !same(w.below, (2 * m.word) as i64) {
-        return refused(31);
+    if w.below != (2 * m.word) as i64 {
+        return Err(31);
     }
-    if w.steps != 1 {
-        return refused(31);
+    if w.steps != Steps::PointerPushed {
+        return Err(31);
     }
-    framed(m, w)
+    Ok(framed(m, w))
 }
 
 // DefCfaOffset, then Offset: a register that is put into the word by which the frame address moved, or no push (33).
-fn pushed(m: Machine, reg: u64, z: i64, y: i64, w: Walk) -> Walk
+fn pushed(m: Machine, reg: u64, z: i64, y: i64, w: Walk) -> Result<Walk, u64>
     requires { (length m.map ≡ 64) × (m.word ≡ 8) × Short z × Short w.below }
-    ensures { result ≡ push_in m (DefCfaOffset z) (Offset reg y) w }
+    ensures { result ≡ result_of (push_in m (DefCfaOffset z) (Offset reg y) w) }
 {
-    if !same(z - w.below, m.word as i64) {
-        return refused(33);
+    if z - w.below != m.word as i64 {
+        return Err(33);
     }
-    if !same(y, 0 - z) {
-        return refused(33);
+    if y != -z {
+        return Err(33);
     }
     let known = knows(m, reg);
-    stepped(w, reg == m.frame, known, z)
+    Ok(stepped(w, reg == m.frame, known, z))
 }
 
 // An instruction of two rows.
-fn push_rows(m: Machine, a: Row, b: Row, w: Walk) -> Walk
+fn push_rows(m: Machine, a: Row, b: Row, w: Walk) -> Result<Walk, u64>
     requires { (length m.map ≡ 64) × (m.word ≡ 8) × Short (offset_of a) × Short w.below }
-    ensures { result ≡ push_in m a b w }
+    ensures { result ≡ result_of (push_in m a b w) }
 {
     let Row::DefCfaOffset(z) = a else {
-        return refused(33);
+        return Err(33);
     };
     let Row::Offset(reg, y) = b else {
-        return refused(33);
+        return Err(33);
     };
     pushed(m, reg as u64, z, y, w)
 }
 
 // An instruction of one row; it is the last of the prologue, or not.
-fn lone_row(m: Machine, last: bool, r: Row, w: Walk) -> Walk
+fn lone_row(m: Machine, last: bool, r: Row, w: Walk) -> Result<Walk, u64>
     requires { (length m.map ≡ 64) × (m.word ≡ 8) }
-    ensures { result ≡ lone_in m last r w }
+    ensures { result ≡ result_of (lone_in m last r w) }
 {
     match r {
         Row::DefCfa(reg, z) => frame_set(m, reg as u64, z, w),
-        Row::DefCfaOffset(z) => stepped(w, false, true, z),
+        Row::DefCfaOffset(z) => Ok(stepped(w, false, true, z)),
         Row::DefCfaRegister(reg) => frame_early(m, last, reg as u64, w),
-        Row::Offset(reg, _) => stepped(w, false, knows(m, reg as u64), w.below),
-        _ => refused(33),
+        Row::Offset(reg, _) => {
+            let known = knows(m, reg as u64);
+            Ok(stepped(w, false, known, w.below))
+        }
+        _ => Err(33),
     }
 }
 
 // ---- row by row
 
 // Row i of the rows from `at` to `end`, the last of its instruction's.
-fn read_last(m: Machine, rows: &[u64], at: usize, end: usize, i: usize, w: Walk) -> Walk
+fn read_last(
+    m: Machine,
+    rows: &[u64],
+    at: usize,
+    end: usize,
+    i: usize,
+    w: Walk,
+) -> Result<Walk, u64>
     requires { (length m.map ≡ 64) × (m.word ≡ 8) × Ready rows.now at end × (at ≤ i) × (i < end) × Short w.below }
-    ensures { result ≡ last_in m rows.now at end i w }
+    ensures { result ≡ result_of (last_in m rows.now at end i w) }
 {
     let r = row_at(rows, i);
     if joined(rows, at, i) {
@@ -264,39 +231,33 @@ fn read_last(m: Machine, rows: &[u64], at: usize, end: usize, i: usize, w: Walk)
 }
 
 // Row i: an instruction is read at its last row, and refused at its third.
-fn read_row(m: Machine, rows: &[u64], at: usize, end: usize, i: usize, w: Walk) -> Walk
+fn read_row(m: Machine, rows: &[u64], at: usize, end: usize, i: usize, w: Walk) -> Result<Walk, u64>
     requires { (length m.map ≡ 64) × (m.word ≡ 8) × Ready rows.now at end × (at ≤ i) × (i < end) × Short w.below }
-    ensures { result ≡ row_in m rows.now at end i w }
+    ensures { result ≡ result_of (row_in m rows.now at end i w) }
 {
     if third(rows, at, i) {
-        return refused(33);
+        return Err(33);
     }
     if joins(rows, i, end) {
-        return w;
+        return Ok(w);
     }
     read_last(m, rows, at, end, i, w)
 }
 
 // The rows from `at` to `end`, to the first no.
-fn read_rows(m: Machine, rows: &[u64], at: usize, end: usize) -> Walk
+fn read_rows(m: Machine, rows: &[u64], at: usize, end: usize) -> Result<Walk, u64>
     requires { (length m.map ≡ 64) × (m.word ≡ 8) × (m.pushed < 2 ^ 31) × Ready rows.now at end × (at ≤ end) }
-    ensures { (result ≡ walk_from m rows.now at end at (end - at) (start m)) × Short result.below }
+    ensures { (result ≡ result_of (walk_from m rows.now at end at (end - at) (start m))) × IfOk result (λ w. Short w.below) }
 {
     let mut w = Walk {
-        number: 0,
         below: m.pushed as i64,
-        steps: 0,
+        steps: Steps::NoStep,
         named: true,
     };
-    let mut i = at;
-    while i < end {
-        w = read_row(m, rows, at, end, i, w);
-        if w.number != 0 {
-            return w;
-        }
-        i += 1;
+    for i in at..end {
+        w = read_row(m, rows, at, end, i, w)?;
     }
-    w
+    Ok(w)
 }
 
 // ---- the prologue
@@ -315,101 +276,76 @@ fn before_remember(rows: &[u64], at: usize, n: usize) -> usize
     ensures { (at ≤ result) × (result ≤ at + n) × (before_remember (each (row_at rows.now) at n) ≡ each (row_at rows.now) at (result - at)) }
 {
     let end = at + n;
-    let mut i = at;
-    while i < end {
-        if remembers(rows, i) {
-            return i;
-        }
-        i += 1;
-    }
-    end
+    (at..end).find(|i| remembers(rows, *i)).unwrap_or(end)
 }
 
-// Every question of the rows: those of the instructions, then 34.
-fn answer(w: Walk) -> u64
-    ensures { result ≡ number_of w }
-{
-    if w.number != 0 {
-        return w.number;
-    }
-    if w.named {
-        return 0;
-    }
-    34
-}
-
-// What the rows of a function say: 0, or the number of the question that was answered by no; where it is 0, the distance of the
-// frame address above the stack pointer behind the prologue, and the index past the prologue's last row.
+// What the rows of a function say: the distance of the frame address above the stack pointer behind the prologue, and the index
+// past the prologue's last row.
 #[derive(Clone, Copy)]
 pub struct Shape {
-    pub number: u64,
     pub below: i64,
     pub end: usize,
 }
 
-// A function's codes, from the n rows from `at` on.
-pub fn prologue(m: Machine, rows: &[u64], at: usize, n: usize) -> Shape
+// A function's codes, from the n rows from `at` on. The questions are those of the instructions, then 34.
+pub fn prologue(m: Machine, rows: &[u64], at: usize, n: usize) -> Result<Shape, u64>
     requires { MachineFits m × (m.word ≡ 8) × (length m.map ≡ 64) × RowsReady rows.now at n × (n ≤ most_records) }
     ensures { Shaped m rows.now at n result }
 {
     let end = before_remember(rows, at, n);
-    let w = read_rows(m, rows, at, end);
-    Shape {
-        number: answer(w),
-        below: w.below,
-        end,
+    let w = read_rows(m, rows, at, end)?;
+    if !w.named {
+        return Err(34);
     }
+    let below = w.below;
+    Ok(Shape { below, end })
 }
 
 // ---- the codes one by one
 
-// A code and the offset where its instruction ends, or none.
-#[derive(Clone, Copy)]
-pub enum Piece {
-    Nothing,
-    Code(u64, Seh),
-}
+// A code stands behind the offset where its instruction ends.
 
 // The code of a push, of a frame and of a save, where the machine has the register.
-fn push_code(m: Machine, off: u64, reg: u64) -> Piece
+fn push_code(m: Machine, off: u64, reg: u64) -> Option<(u64, Seh)>
     requires { length m.map ≡ 64 }
     ensures { piece_of result ≡ named_code m off reg (λ x. Push x.number) }
 {
-    let Found::Number(n, _) = machine(m, reg) else {
-        return Piece::Nothing;
-    };
-    Piece::Code(off, Seh::Push(n))
+    let (n, _) = machine(m, reg)?;
+    Some((off, Seh::Push(n)))
 }
 
-fn frame_code(m: Machine, off: u64) -> Piece
+fn frame_code(m: Machine, off: u64) -> Option<(u64, Seh)>
     requires { length m.map ≡ 64 }
     ensures { piece_of result ≡ named_code m off m.frame (λ x. Frame x.number (pos 0)) }
 {
-    let Found::Number(n, _) = machine(m, m.frame) else {
-        return Piece::Nothing;
-    };
-    Piece::Code(off, Seh::Frame(n, 0))
+    let (n, _) = machine(m, m.frame)?;
+    Some((off, Seh::Frame(n, 0)))
 }
 
-fn save_code(m: Machine, off: u64, reg: u64, above: i64) -> Piece
+fn save_code(m: Machine, off: u64, reg: u64, above: i64) -> Option<(u64, Seh)>
     requires { length m.map ≡ 64 }
     ensures { piece_of result ≡ named_code m off reg (λ x. Save x.number x.vector above) }
 {
-    let Found::Number(n, vector) = machine(m, reg) else {
-        return Piece::Nothing;
-    };
-    Piece::Code(off, Seh::Save(n, vector, above))
+    let (n, vector) = machine(m, reg)?;
+    Some((off, Seh::Save(n, vector, above)))
 }
 
 // DefCfaOffset: an allocation, or the first row of a push.
-fn alloc_code(rows: &[u64], i: usize, end: usize, off: u64, sofar: i64, z: i64) -> Piece
+fn alloc_code(
+    rows: &[u64],
+    i: usize,
+    end: usize,
+    off: u64,
+    sofar: i64,
+    z: i64,
+) -> Option<(u64, Seh)>
     requires { (4 * i + 4 ≤ length rows.now) × (4 * end ≤ length rows.now) × Short sofar × Short z }
     ensures { piece_of result ≡ pick (joins rows.now i end) [] ((off, Alloc (z -ℤ sofar)) ∷ []) }
 {
     if joins(rows, i, end) {
-        return Piece::Nothing;
+        return None;
     }
-    Piece::Code(off, Seh::Alloc(z - sofar))
+    Some((off, Seh::Alloc(z - sofar)))
 }
 
 // Offset: the second row of a push, or a save. A save counts from the stack pointer at the prologue's end.
@@ -422,7 +358,7 @@ fn slot_code(
     reg: u64,
     below: i64,
     z: i64,
-) -> Piece
+) -> Option<(u64, Seh)>
     requires { (length m.map ≡ 64) × (4 * i + 4 ≤ length rows.now) × Short below × Short z }
     ensures { piece_of result ≡ pick (joined rows.now at i) (named_code m off reg (λ x. Push x.number)) (named_code m off reg (λ x. Save x.number x.vector (below +ℤ z))) }
 {
@@ -442,7 +378,7 @@ pub fn piece_at(
     at: usize,
     i: usize,
     end: usize,
-) -> Piece
+) -> Option<(u64, Seh)>
     requires { (length m.map ≡ 64) × Ready rows.now at end × (at ≤ i) × (i < end) × Short below × Short sofar }
     ensures { piece_of result ≡ piece_in m below sofar rows.now at i end }
 {
@@ -453,7 +389,7 @@ pub fn piece_at(
         Row::DefCfaOffset(z) => alloc_code(rows, i, end, off, sofar, z),
         Row::DefCfaRegister(_) => frame_code(m, off),
         Row::Offset(reg, z) => slot_code(m, rows, at, i, off, reg as u64, below, z),
-        _ => Piece::Nothing,
+        _ => None,
     }
 }
 

@@ -1,17 +1,17 @@
 -- `prologue::before_remember` meets its contract.
-use native.Mathlib.Omega.{arith}
-use Rattle.prologue.proofs.Turns.{seek_start, seek_turn, seek_found, seek_ended}
+use mathlib.Core.Path.{◌≡◌}
+use mathlib.Core.Bool.{true, false}
+use borrow.Author.Rules.{rules}
+use borrow.Author.Tests.{tests}
+use lib.Dec.{eqb}
+use Rattle.std.proofs.lemmas.Iterator.{first_from_Range}
+use Rattle.format.specs.Rows.{kind_of}
+use Rattle.format.specs.Lists.{row_at}
+use Rattle.prologue.proofs.Turns.{first_is}
 use Rattle.prologue.proofs.before_remember.Goals as goal
 
-pub loop-i-init : goal.loop-i-init
-loop-i-init c = seek_start _ c.args.at c.args.n
-
-pub returns-then-remembers : goal.returns-then-remembers
-returns-then-remembers c =
-    (omega arith, omega arith, seek_found c.loop-i.invariant c.loop-i-test.true c.remembers.ensures c.if-remembers.true)
-
-pub loop-i-preserved : goal.loop-i-preserved
-loop-i-preserved c = seek_turn c.loop-i.invariant c.loop-i-test.true c.remembers.ensures c.if-remembers.false
-
 pub returns : goal.returns
-returns c = (omega arith, omega arith, seek_ended c.loop-i.invariant c.loop-i-test.false)
+returns c =
+    let rows = c.args.rows.now in
+    let h = first_from_Range _ _ _ c.find.result (λ k. eqb (kind_of (row_at rows k).1) 6 ≡ true) (λ k. eqb (kind_of (row_at rows k).1) 6 ≡ false) c.find.ensures.ran (λ x q k. search (rules, tests)) (λ x q k. search (rules, tests)) in
+    rw c.unwrap_or.ensures (first_is rows c.args.at c.args.n c.find.result h)

@@ -1,17 +1,14 @@
 -- `prologue::counted` meets its contract.
-use Rattle.format.specs.Prelude.{pick}
-use Rattle.prologue.specs.Groups.{counted}
-use borrow.Author.Tests.{eq-eqb, ne_eqb}
+use Rattle.prologue.proofs.Counting.{first_push, no_push, more_steps}
 use Rattle.prologue.proofs.counted.Goals as goal
+use Rattle.prologue.proofs.counted.Goals.{else-pushes-via-then-pushes+else-eq, else-pushes-via-else-pushes}
 
-pub returns-then-before-ne0 : goal.returns-then-before-ne0
-unfolding counted pick
-returns-then-before-ne0 c = simp (ne_eqb _ _ c.if-before-ne0.true)
-
-pub returns-then-pushes : goal.returns-then-pushes
-unfolding counted pick
-returns-then-pushes c = simp (eq-eqb _ _ c.if-before-ne0.false, c.if-pushes.true)
+pub returns-then-eq : goal.returns-then-eq
+returns-then-eq c = first_push c.args.before c.if-pushes.true c.if-eq.ensures
 
 pub returns : goal.returns
-unfolding counted pick
-returns c = simp (eq-eqb _ _ c.if-before-ne0.false, c.if-pushes.false)
+returns c =
+    elim c.else-pushes.branch [
+      | else-pushes-via-then-pushes+else-eq w ↦ more_steps c.args.before c.args.pushes w.if-eq.ensures
+      | else-pushes-via-else-pushes w ↦ no_push c.args.before w.if-pushes.false
+    ]

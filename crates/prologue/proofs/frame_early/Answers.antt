@@ -1,30 +1,32 @@
 -- `prologue::frame_early` meets its contract.
-use mathlib.Core.Bool.{not}
-use mathlib.Core.Path.{ap, ◌∙◌}
+use mathlib.Core.Path.{sym, ap, ◌∙◌}
 use native.Mathlib.Omega.{arith}
-use mir.Syntax.{w64}
-use mir.Facts.{to_z_pos}
+use lib.IntN.{pos}
 use Prim.Native.Nat.{◌*◌}
-use Rattle.lists.proofs.Answers.{accepted, refused}
-use Rattle.rows.proofs.Signs.{passed}
+use borrow.Author.Tests.{eq-eqb, ne_eqb}
+use Rattle.std.specs.Prelude.{Ok}
+use Rattle.rows.proofs.Signs.{same_bits}
+use Rattle.prologue.proofs.Counting.{same_pushed, not_true, not_false}
 use Rattle.prologue.proofs.Frames.{early_other, early_more, early_far, early_steps, early_yes}
 use Rattle.prologue.proofs.frame_early.Goals as goal
 
 pub returns-then-reg-m : goal.returns-then-reg-m
-returns-then-reg-m c = c.refused.ensures ∙ early_other c.args.m c.args.reg c.args.w c.args.last c.if-reg-m.true
+returns-then-reg-m c = rw (← early_other c.args.m c.args.reg c.args.w c.args.last c.if-reg-m.true)
 
 pub returns-then-not-last : goal.returns-then-not-last
-returns-then-not-last c = c.refused-then-not-last.ensures ∙ early_more c.args.m c.args.reg c.args.w c.args.last c.if-not-last.true
+returns-then-not-last c = rw (← early_more c.args.m c.args.reg c.args.w c.args.last c.if-not-last.true)
 
-pub returns-then-not-same : goal.returns-then-not-same
-returns-then-not-same c =
-    let e = rw (to_z_pos w64 {n = 2 * c.args.m.word} (omega arith), passed c.args.w.below c.struct_told-1.given.1.0.1) at (refused c.same.ensures (ap not c.if-not-same.true)) in
-    c.refused-then-not-same.ensures ∙ early_far c.args.m c.args.reg c.args.w c.args.last e
+pub returns-then-w-m : goal.returns-then-w-m
+returns-then-w-m c =
+    let e = sym (same_bits c.args.w.below (pos (2 * c.args.m.word)) (omega (arith, c.struct_told-1.given)) (omega arith)) ∙ ne_eqb _ _ c.if-w-m.true in
+    rw (← early_far c.args.m c.args.reg c.args.w c.args.last e)
 
-pub returns-then-w-ne1 : goal.returns-then-w-ne1
-returns-then-w-ne1 c = c.refused-then-w-ne1.ensures ∙ early_steps c.args.m c.args.reg c.args.w c.args.last c.if-w-ne1.true
+pub returns-then-ne : goal.returns-then-ne
+returns-then-ne c =
+    rw (← early_steps c.args.m c.args.reg c.args.w c.args.last (sym (same_pushed c.args.w.steps) ∙ not_true _ (sym c.if-ne.ensures)))
 
 pub returns : goal.returns
 returns c =
-    let e = rw (to_z_pos w64 {n = 2 * c.args.m.word} (omega arith), passed c.args.w.below c.struct_told-1.given.1.0.1) at (accepted c.same.ensures (ap not c.if-not-same.false)) in
-    c.framed.ensures ∙ early_yes c.args.m c.args.reg c.args.w c.args.last c.if-reg-m.false c.if-not-last.false e c.if-w-ne1.false
+    let e = sym (same_bits c.args.w.below (pos (2 * c.args.m.word)) (omega (arith, c.struct_told-1.given)) (omega arith)) ∙ eq-eqb _ _ c.if-w-m.false in
+    let s = sym (same_pushed c.args.w.steps) ∙ not_false _ (sym c.if-ne.ensures) in
+    rw (← early_yes c.args.m c.args.reg c.args.w c.args.last c.if-reg-m.false c.if-not-last.false e s) (ap Ok c.framed.ensures)

@@ -1,21 +1,21 @@
 -- `prologue::frame_set` meets its contract.
-use mathlib.Core.Bool.{not}
-use mathlib.Core.Path.{ap, ◌∙◌}
-use Rattle.lists.proofs.Answers.{accepted, refused}
-use Rattle.rows.proofs.Signs.{passed}
+use mathlib.Core.Path.{sym, ap, ◌∙◌}
+use native.Mathlib.Omega.{arith}
+use borrow.Author.Tests.{eq-eqb, ne_eqb}
+use Rattle.std.specs.Prelude.{Ok}
+use Rattle.rows.proofs.Signs.{same_bits}
 use Rattle.prologue.proofs.Frames.{set_other, set_moved, set_yes}
-use mir.Facts.{to_z-of_z}
 use Rattle.prologue.proofs.frame_set.Goals as goal
 
 pub returns-then-reg-m : goal.returns-then-reg-m
-returns-then-reg-m c = c.refused.ensures ∙ set_other c.args.m c.args.reg c.args.w c.args.z c.if-reg-m.true
+returns-then-reg-m c = rw (← set_other c.args.m c.args.reg c.args.w c.args.z c.if-reg-m.true)
 
-pub returns-then-not-same : goal.returns-then-not-same
-returns-then-not-same c =
-    let e = rw (to_z-of_z c.ranges.z, passed c.args.w.below c.struct_told-1.given.1.0.1) at (refused c.same.ensures (ap not c.if-not-same.true)) in
-    c.refused-then-not-same.ensures ∙ set_moved c.args.m c.args.reg c.args.w c.args.z e
+pub returns-then-z-w : goal.returns-then-z-w
+returns-then-z-w c =
+    let e = sym (same_bits c.args.z c.args.w.below c.ranges.z.sfits (omega (arith, c.struct_told-1.given))) ∙ ne_eqb _ _ c.if-z-w.true in
+    rw (← set_moved c.args.m c.args.reg c.args.w c.args.z e)
 
 pub returns : goal.returns
 returns c =
-    let e = rw (to_z-of_z c.ranges.z, passed c.args.w.below c.struct_told-1.given.1.0.1) at (accepted c.same.ensures (ap not c.if-not-same.false)) in
-    c.framed.ensures ∙ set_yes c.args.m c.args.reg c.args.w c.args.z c.if-reg-m.false e
+    let e = sym (same_bits c.args.z c.args.w.below c.ranges.z.sfits (omega (arith, c.struct_told-1.given))) ∙ eq-eqb _ _ c.if-z-w.false in
+    rw (← set_yes c.args.m c.args.reg c.args.w c.args.z c.if-reg-m.false e) (ap Ok c.framed.ensures)

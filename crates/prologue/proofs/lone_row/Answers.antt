@@ -1,6 +1,7 @@
 -- `prologue::lone_row` meets its contract.
 use borrow.Enum.Refused.{opened}
-use mathlib.Core.Path.{sym, ◌∙◌}
+use mathlib.Core.Path.{ap, ◌∙◌}
+use Rattle.std.specs.Prelude.{Ok}
 use native.Mathlib.Omega.{arith}
 use Rattle.format.specs.X64.{is_push}
 use Rattle.rows.proofs.Signs.{passed}
@@ -19,7 +20,7 @@ pub returns-in-DefCfaOffset : goal.returns-in-DefCfaOffset
 unfolding lone_in added is_push known
 returns-in-DefCfaOffset c =
     let e = passed c.in-DefCfaOffset.z (omega (arith, c.in-DefCfaOffset.known_told-in-DefCfaOffset-1-own.given)) in
-    rw c.in-DefCfaOffset.is (rw e at c.stepped.ensures)
+    rw c.in-DefCfaOffset.is (ap Ok (rw e at c.stepped.ensures))
 
 pub returns-in-DefCfaRegister : goal.returns-in-DefCfaRegister
 returns-in-DefCfaRegister c = rw c.in-DefCfaRegister.is c.frame_early.ensures
@@ -27,9 +28,9 @@ returns-in-DefCfaRegister c = rw c.in-DefCfaRegister.is c.frame_early.ensures
 pub returns-in-Offset : goal.returns-in-Offset
 unfolding lone_in added is_push known
 returns-in-Offset c =
-    let e = passed c.args.w.below c.struct_told-1.given.1.0.1 in
-    rw c.in-Offset.is (c.stepped-in-Offset.ensures ∙ rw (e, c.knows.ensures))
+    let e = passed c.args.w.below (omega (arith, c.struct_told-1.given)) in
+    rw c.in-Offset.is (ap Ok (c.stepped-in-Offset.ensures ∙ rw (e, c.knows-known.ensures)))
 
 pub returns-in_default : goal.returns-in_default
 returns-in_default c =
-    c.refused.ensures ∙ sym (lone_other c.args.m c.args.last c.args.r c.args.w (high_kind c.args.r (opened c.in_default.in_default-own.keys5)))
+    rw (lone_other c.args.m c.args.last c.args.r c.args.w (high_kind c.args.r (opened c.in_default.in_default-own.keys5)))

@@ -1,17 +1,33 @@
 -- `prologue::prologue` meets its contract.
+use mathlib.Core.Path.{◌∙◌, sym}
+use native.Mathlib.Omega.{arith}
+use Rattle.std.proofs.lemmas.Result.{err_from_is_err_and}
 use Rattle.rows.proofs.Signs.{passed}
+use Rattle.prologue.proofs.Counting.{not_true, not_false}
 use Rattle.prologue.proofs.Rows.{ready}
-use Rattle.prologue.proofs.Answers.{shaped}
+use Rattle.prologue.proofs.Told.{ok_of, err_of}
+use Rattle.prologue.proofs.Answers.{shaped, unnamed, stopped}
 use Rattle.prologue.proofs.prologue.Goals as goal
 
-pub read_rows-w-requires : goal.read_rows-w-requires
-read_rows-w-requires c =
+pub read_rows-requires : goal.read_rows-requires
+read_rows-requires c =
     let e = c.before_remember-end.ensures in
     (c.requires.2, c.requires.1, c.requires.0.pushed_small, ready _ c.args.at c.args.n c.before_remember-end.result c.requires.3 e.1, e.0)
+
+pub returns-in_err-w : goal.returns-in_err-w
+returns-in_err-w c =
+    let e = c.before_remember-end.ensures in
+    let p = err_from_is_err_and c.from_residual.result c.from_residual.ensures.1 in
+    rw (p.1, p.2) (stopped c.args.m _ c.args.at c.args.n c.before_remember-end.result e.0 e.1 e.2 (err_of _ _ (sym c.in_err-w.was ∙ c.read_rows.ensures.0)))
+
+pub returns-then-not-w : goal.returns-then-not-w
+returns-then-not-w c =
+    let e = c.before_remember-end.ensures in
+    unnamed c.args.m _ c.args.at c.args.n c.before_remember-end.result e.0 e.1 e.2 (ok_of _ _ (sym c.in_ok-w.was ∙ c.read_rows.ensures.0)) (not_true _ c.if-not-w.true)
 
 pub returns : goal.returns
 returns c =
     let e = c.before_remember-end.ensures in
-    let w = c.read_rows-w in
-    rw (passed w.result.below c.struct_told-1.given.1.0.1)
-    (shaped c.args.m _ c.args.at c.args.n c.before_remember-end.result e.0 e.1 e.2 w.ensures.0 w.ensures.1 c.answer.ensures)
+    let h = rw c.in_ok-w.was at c.read_rows.ensures in
+    rw (passed c.in_ok-w.w.below (omega (arith, h.1)))
+    (shaped c.args.m _ c.args.at c.args.n c.before_remember-end.result e.0 e.1 e.2 (ok_of _ _ h.0) h.1 (not_false _ c.if-not-w.false))

@@ -3,8 +3,8 @@ use Rattle.format.specs.declared.Seh.TheVariants.{Push}
 use Rattle.prologue.proofs.Registers.{code_none, code_some}
 use Rattle.prologue.proofs.push_code.Goals as goal
 
-pub returns-in_default : goal.returns-in_default
-returns-in_default c = code_none c.args.m c.args.off c.args.reg (λ x. Push x.number) c.machine.ensures c.in_default.is
+pub returns-in_err-n : goal.returns-in_err-n
+returns-in_err-n c = rw c.from_residual.ensures (code_none c.args.m c.args.off c.args.reg (λ x. Push x.number) c.machine.ensures c.in_err-n.was)
 
 pub returns : goal.returns
-returns c = code_some c.args.m c.args.off c.args.reg (λ x. Push x.number) c.machine.ensures c.in-Number.is
+returns c = code_some c.args.m c.args.off c.args.reg (λ x. Push x.number) c.machine.ensures c.in_ok-n.was

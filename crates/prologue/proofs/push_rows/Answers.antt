@@ -1,6 +1,5 @@
 -- `prologue::push_rows` meets its contract.
 use borrow.Enum.Refused.{opened}
-use mathlib.Core.Path.{◌∙◌}
 use native.Mathlib.Omega.{arith}
 use Rattle.format.specs.Rows.{offset_of}
 use Rattle.rows.proofs.Signs.{passed}
@@ -8,10 +7,10 @@ use Rattle.prologue.proofs.Frames.{push_first, push_second}
 use Rattle.prologue.proofs.push_rows.Goals as goal
 
 pub returns-in_default : goal.returns-in_default
-returns-in_default c = c.refused.ensures ∙ push_first c.args.m c.args.a c.args.b c.args.w (opened c.in_default.in_default-own.keys2)
+returns-in_default c = rw (← push_first c.args.m c.args.a c.args.b c.args.w (opened c.in_default.in_default-own.keys2))
 
 pub returns-in_default-b : goal.returns-in_default-b
-returns-in_default-b c = c.refused-in_default-b.ensures ∙ push_second c.args.m c.args.a c.args.b c.args.w (opened c.in_default-b.in_default-b-own.keys2)
+returns-in_default-b c = rw (← push_second c.args.m c.args.a c.args.b c.args.w (opened c.in_default-b.in_default-b-own.keys2))
 
 pub pushed-requires : goal.pushed-requires
 unfolding offset_of

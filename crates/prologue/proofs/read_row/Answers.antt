@@ -5,11 +5,11 @@ use Rattle.prologue.proofs.read_row.Goals as goal
 
 pub returns-then-third : goal.returns-then-third
 returns-then-third c =
-    rw (at_third c.args.m _ c.args.at c.args.end c.args.i c.args.w (sym c.third.ensures ∙ c.if-third.true)) c.refused.ensures
+    rw (at_third c.args.m _ c.args.at c.args.end c.args.i c.args.w (sym c.third.ensures ∙ c.if-third.true))
 
 pub returns-then-joins : goal.returns-then-joins
 returns-then-joins c =
-    sym (at_open c.args.m _ c.args.at c.args.end c.args.i c.args.w (sym c.third.ensures ∙ c.if-third.false) (sym c.joins.ensures ∙ c.if-joins.true))
+    rw (at_open c.args.m _ c.args.at c.args.end c.args.i c.args.w (sym c.third.ensures ∙ c.if-third.false) (sym c.joins.ensures ∙ c.if-joins.true))
 
 pub returns : goal.returns
 returns c =
