@@ -1,26 +1,46 @@
--- The loops that store a run's codes as numbers, forwards and backwards: what they know at each turn.
+-- A run's codes counted and stored as numbers, forwards and backwards: what one turn of each loop does.
 use mathlib.Core.Path.{◌≡◌, refl, sym, ap, ◌∙◌}
 use mathlib.Core.Logic.{◌≢◌}
 use mathlib.Core.Option.{Option, none, some}
-use mathlib.Core.List.{List, [], ◌∷◌, ◌++◌}
-use Prim.Native.Nat.{ℕ, suc, ◌+◌, ◌-◌, ◌*◌, ◌≤◌, ◌<◌}
+use mathlib.Core.List.{List, [], ◌∷◌, ◌++◌, append_assoc}
+use Prim.Native.Nat.{ℕ, suc, ◌+◌, ◌-◌, ◌*◌, ◌≤◌}
 use native.Mathlib.Omega.{arith}
-use lib.ListN.{length}
+use native.Mathlib.Numerals.{add-one}
+use lib.ListN.{length, take, drop, set, length-set}
+use lib.Seq.{paste, take-suc-set}
+use borrow.Rule.Slice.PartMut.{put_mid}
+use Rattle.std.proofs.lemmas.List.Edits.{paste_none}
+use Rattle.std.proofs.lemmas.List.{drop-set-lt}
+use Rattle.std.proofs.lemmas.Slice.{put_mid-paste}
 use Rattle.format.specs.Put.{put}
 use Rattle.format.proofs.Wrote.{Wrote}
-use Rattle.format.proofs.PutLaws.{put-append, kept, put-in_front}
+use Rattle.format.proofs.PutLaws.{put_none, put_cons, put-append, kept, put-in_front}
 use Rattle.format.proofs.Storing.{Storing, stored_next}
 use Rattle.format.proofs.Storing as storing
 use Rattle.arm64.specs.declared.Code.{Code}
-use Rattle.arm64.specs.declared.CodeRead.TheVariants as codeRead
 use Rattle.arm64.specs.Codes.{code_at}
 use Rattle.arm64.specs.Lists.{code_numbers}
 use Rattle.arm64.specs.Meaning.{reverse}
-use Rattle.arm64.specs.Reader.{in_front, run_f, run_at}
+use Rattle.arm64.specs.Reader.{in_front, run_at}
 use Rattle.arm64.proofs.PackingLaws.{reverse-length}
-use Rattle.arm64_runs.specs.Runs.{codes_in}
-use Rattle.arm64_codes.proofs.OneCode.{code_past}
-use Rattle.arm64_runs.proofs.Ahead.{ahead, runs_on, runs_out, runs_none}
+use Rattle.arm64_runs.specs.Runs.{count_of, codes_in}
+use Rattle.arm64_runs.proofs.Ahead.{run_none, run_on, run_out}
+
+-- ---- numbers copied
+
+stored : (xs : List ℕ) (p : ℕ) (bs : List ℕ) → p + length bs ≤ length xs → put xs p bs ≡ paste xs p bs (length bs)
+stored xs p [] h = rw put_none (paste_none xs p [])
+stored xs p (b ∷ bs) h =
+    let e : p + length (b ∷ bs) ≡ suc p + length bs = omega arith in
+    rw (put_cons, stored (set xs p b) (p + 1) bs (omega (arith, length-set xs p b)), add-one p, take-suc-set xs p b (omega arith), drop-set-lt (suc p + length bs) xs p b (omega arith), e)
+    (ap (λ l. l ++ drop (suc p + length bs) xs) (append_assoc (take p xs) (b ∷ []) (take (length bs) bs)))
+
+-- bs, by the library's `copy_from_slice` of a part of the buffer
+pub copied : {xs ys bs : List ℕ} {p n j : ℕ} → ys ≡ bs → n ≡ length bs → j ≡ n → p + n ≤ length xs → Wrote xs (put_mid p j xs ys) p (p + n) bs
+copied {xs} {ys} {bs} {p} {n} {j} e l d h = record {
+  past = omega arith;
+  stored = put_mid-paste p j xs ys bs n e (sym d) l ∙ sym (rw (sym l) at (stored xs p bs (omega arith)));
+}
 
 -- ---- codes as numbers
 
@@ -34,101 +54,96 @@ unfolding code_numbers
 code_numbers-append [] bs = refl
 code_numbers-append (u ∷ us) bs = rw (code_numbers-append us bs)
 
--- ---- what is left of a run
+-- ---- counted
 
--- fuel enough at p, and the codes from there on
-pub record Left (s : List ℕ) (p : ℕ) (rest : List Code) : Type 0 where
-  pub fuel : ℕ
-  pub enough : length s < p + fuel
-  pub run : run_f fuel s p ≡ some rest
+-- the count of a run behind n codes
+pub more : ℕ → Option (List Code) → Option ℕ
+more n none = none
+more n (some cs) = some (n + length cs)
 
-pub all_left : (s : List ℕ) (p : ℕ) → run_at s p ≡ some (codes_in (run_at s p)) → Left s p (codes_in (run_at s p))
-unfolding run_at
-all_left s p e = record { fuel = suc (length s); enough = omega arith; run = e }
+pub more_first : (x : Option (List Code)) → count_of x ≡ more 0 x
+unfolding count_of more
+more_first none = refl
+more_first (some cs) = ap some (omega arith)
 
--- the first code of a run, and the run behind it
-split_front : {c : Code} {rest : List Code} (x : Option (List Code)) → in_front c x ≡ some rest → (x ≡ some (codes_in x)) × (rest ≡ c ∷ codes_in x)
+more_next : (n : ℕ) (c : Code) (x : Option (List Code)) → more n (in_front c x) ≡ more (n + 1) x
+unfolding more in_front
+more_next n c none = refl
+more_next n c (some cs) = ap some (omega arith)
+
+module _ (s : List ℕ) (p n : ℕ) where
+  pub more_none : code_at s p ≡ none → more n (run_at s p) ≡ none
+  unfolding more
+  more_none e = rw (run_none s p e)
+
+  module _ {c : Code} {q : ℕ} (e : code_at s p ≡ some (c, q)) where
+    pub more_on : c.kind ≢ 18 → more n (run_at s p) ≡ more (n + 1) (run_at s q)
+    more_on k = ap (more n) (run_on s p e k) ∙ more_next n c (run_at s q)
+
+    pub more_out : c.kind ≡ 18 → more n (run_at s p) ≡ some n
+    unfolding more
+    more_out k = rw (run_out s p e k) (ap some (omega arith))
+
+-- ---- a run that is there, turn by turn
+
+-- there is a run at p
+pub record Runs (s : List ℕ) (p : ℕ) : Type 0 where
+  pub there : run_at s p ≡ some (codes_in (run_at s p))
+
+split_front : {c : Code} {y : Option (List Code)} (x : Option (List Code)) → y ≡ in_front c x → y ≡ some (codes_in y) → (x ≡ some (codes_in x)) × (codes_in y ≡ c ∷ codes_in x)
 unfolding in_front codes_in
-split_front none e = let z : ◌≡◌ {A = ℕ} 0 1 = cc in absurd (omega arith)
-split_front (some cs) e = (refl, cc)
+split_front none e h = absurd cc
+split_front (some cs) e h = (refl, rw e)
 
-module _ {s : List ℕ} {p : ℕ} {rest : List Code} (l : Left s p rest) where
-  module _ {c : Code} {q : ℕ} (e : code_at s p ≡ codeRead.Code c q) where
-    -- what is left behind the code
-    pub behind : List Code
-    behind = codes_in (run_f (l.fuel - 1) s q)
+module _ {s : List ℕ} {p : ℕ} (r : Runs s p) where
+  pub never_none : code_at s p ≡ none → ⊥
+  never_none e = cc (run_none s p e, r.there)
 
-    module _ (k : c.kind ≢ 18) where
-      parts : (run_f (l.fuel - 1) s q ≡ some (codes_in (run_f (l.fuel - 1) s q))) × (rest ≡ c ∷ codes_in (run_f (l.fuel - 1) s q))
-      parts = split_front (run_f (l.fuel - 1) s q) (sym (runs_on s p l.fuel l.enough e k) ∙ l.run)
+  module _ {c : Code} {q : ℕ} (e : code_at s p ≡ some (c, q)) where
+    pub run_next : c.kind ≢ 18 → Runs s q × (codes_in (run_at s p) ≡ c ∷ codes_in (run_at s q))
+    run_next k = let t = split_front (run_at s q) (run_on s p e k) r.there in (record { there = t.0 }, t.1)
 
-      pub next_code : rest ≡ c ∷ behind
-      unfolding behind
-      next_code = parts.1
-
-      pub next_left : Left s q behind
-      unfolding behind
-      next_left = record { fuel = l.fuel - 1; enough = omega (arith, l.enough, ahead s p e); run = parts.0 }
-
-    pub no_more : c.kind ≡ 18 → rest ≡ []
-    no_more k = cc (runs_out s p l.fuel l.enough e k, l.run)
-
-  pub never_bad : code_at s p ≡ codeRead.Bad → ⊥
-  never_bad e = let z : ◌≡◌ {A = ℕ} 0 1 = cc (runs_none s p l.fuel e, l.run) in omega arith
-
-  pub never_past : length s ≤ p → ⊥
-  never_past h = never_bad (code_past s p h)
+    pub run_ended : c.kind ≡ 18 → codes_in (run_at s p) ≡ []
+    unfolding codes_in
+    run_ended k = rw (run_out s p e k)
 
 -- ---- forwards
 
 -- xs₀ is xs by now, and the codes from p on go to i
 pub record Putting (s xs₀ xs : List ℕ) (at from p i : ℕ) : Type 0 where
-  pub rest : List Code
-  pub left : Left s p rest
-  pub storing : Storing xs₀ xs at i (code_numbers (codes_in (run_at s from))) (code_numbers rest)
+  pub runs : Runs s p
+  pub storing : Storing xs₀ xs at i (code_numbers (codes_in (run_at s from))) (code_numbers (codes_in (run_at s p)))
 
-pub put_start : {s xs : List ℕ} {at from : ℕ} → run_at s from ≡ some (codes_in (run_at s from)) → at + 3 * length (codes_in (run_at s from)) ≤ length xs
-    → Putting s xs xs at from from at
-put_start {s} {xs} {at} {from} e h = record {
-  rest = codes_in (run_at s from);
-  left = all_left s from e;
-  storing = storing.start (omega (arith, code_numbers-length (codes_in (run_at s from))));
-}
+pub put_start : {s xs : List ℕ} {at from : ℕ} → run_at s from ≡ some (codes_in (run_at s from)) → at + 3 * length (codes_in (run_at s from)) ≤ length xs → Putting s xs xs at from from at
+put_start {s} {xs} {at} {from} r h = record { runs = record { there = r }; storing = storing.start (omega (arith, code_numbers-length (codes_in (run_at s from)))) }
 
-module _ {s xs₀ xs : List ℕ} {at from p i : ℕ} (d : Putting s xs₀ xs at from p i) where
-  module _ {c : Code} {q : ℕ} (e : code_at s p ≡ codeRead.Code c q) where
-    module _ (k : c.kind ≢ 18) where
-      first_numbers : code_numbers d.rest ≡ code_numbers (c ∷ []) ++ code_numbers (behind d.left e)
-      unfolding code_numbers
-      first_numbers = ap code_numbers (next_code d.left e k)
-
-      pub put_room : i + 3 ≤ length xs
-      put_room = omega (arith, d.storing.room, code_numbers-length d.rest, ap length (next_code d.left e k))
-
-      pub put_turn : {ys : List ℕ} {j : ℕ} → Wrote xs ys i j (code_numbers (c ∷ [])) → Putting s xs₀ ys at from q j
-      put_turn w = record {
-        rest = behind d.left e;
-        left = next_left d.left e k;
-        storing = stored_next (code_numbers (c ∷ [])) (rw first_numbers at d.storing) w;
-      }
-
-    pub put_ended : c.kind ≡ 18 → Wrote xs₀ xs at i (code_numbers (codes_in (run_at s from)))
+module _ {s xs₀ xs : List ℕ} {at from p i : ℕ} (d : Putting s xs₀ xs at from p i) {c : Code} {q : ℕ} (e : code_at s p ≡ some (c, q)) where
+  module _ (k : c.kind ≢ 18) where
+    first_numbers : code_numbers (codes_in (run_at s p)) ≡ code_numbers (c ∷ []) ++ code_numbers (codes_in (run_at s q))
     unfolding code_numbers
-    put_ended k = storing.ended (rw (no_more d.left e k) at d.storing)
+    first_numbers = ap code_numbers (run_next d.runs e k).1
+
+    pub put_room : i + 3 ≤ length xs
+    put_room = omega (arith, d.storing.room, code_numbers-length (codes_in (run_at s p)), ap length (run_next d.runs e k).1)
+
+    pub put_turn : {ys : List ℕ} {j : ℕ} → Wrote xs ys i j (code_numbers (c ∷ [])) → Putting s xs₀ ys at from q j
+    put_turn w = record { runs = (run_next d.runs e k).0; storing = stored_next (code_numbers (c ∷ [])) (rw first_numbers at d.storing) w }
+
+  pub put_ended : c.kind ≡ 18 → Wrote xs₀ xs at i (code_numbers (codes_in (run_at s from)))
+  unfolding code_numbers
+  put_ended k = storing.ended (rw (run_ended d.runs e k) at d.storing)
 
 -- ---- backwards
 
 pub record Backing (s xs₀ xs : List ℕ) (p i : ℕ) : Type 0 where
-  pub rest : List Code
-  pub left : Left s p rest
-  pub place : i ≡ 3 * length rest
+  pub runs : Runs s p
+  pub place : i ≡ 3 * length (codes_in (run_at s p))
   pub room : i ≤ length xs
   pub same_length : length xs ≡ length xs₀
-  same : put xs 0 (code_numbers (reverse rest)) ≡ put xs₀ 0 (code_numbers (reverse (codes_in (run_at s 0))))
+  same : put xs 0 (code_numbers (reverse (codes_in (run_at s p)))) ≡ put xs₀ 0 (code_numbers (reverse (codes_in (run_at s 0))))
 
-pub back_start : {s xs : List ℕ} {end : ℕ} → run_at s 0 ≡ some (codes_in (run_at s 0)) → end ≡ 3 * length (codes_in (run_at s 0)) → end ≤ length xs
-    → Backing s xs xs 0 end
-back_start {s} {xs} {end} e n h = record { rest = codes_in (run_at s 0); left = all_left s 0 e; place = n; room = h; same_length = refl; same = refl }
+pub back_start : {s xs : List ℕ} {end : ℕ} → run_at s 0 ≡ some (codes_in (run_at s 0)) → end ≡ 3 * length (codes_in (run_at s 0)) → end ≤ length xs → Backing s xs xs 0 end
+back_start r n h = record { runs = record { there = r }; place = n; room = h; same_length = refl; same = refl }
 
 -- the last code of a reversed list may be stored first
 back_put : (xs : List ℕ) (c : Code) (cs : List Code) (i : ℕ) → i ≡ 3 * length cs
@@ -141,24 +156,22 @@ back_put xs c cs i n =
     ∙ sym (put-append xs 0 (code_numbers (reverse cs)) (code_numbers (c ∷ [])))
     ∙ ap (put xs 0) (sym (code_numbers-append (reverse cs) (c ∷ [])))
 
-module _ {s xs₀ xs : List ℕ} {p i : ℕ} (d : Backing s xs₀ xs p i) where
-  module _ {c : Code} {q : ℕ} (e : code_at s p ≡ codeRead.Code c q) where
-    module _ (k : c.kind ≢ 18) where
-      pub back_room : 3 ≤ i
-      back_room = omega (arith, d.place, ap length (next_code d.left e k))
+module _ {s xs₀ xs : List ℕ} {p i : ℕ} (d : Backing s xs₀ xs p i) {c : Code} {q : ℕ} (e : code_at s p ≡ some (c, q)) where
+  module _ (k : c.kind ≢ 18) where
+    pub back_room : 3 ≤ i
+    back_room = omega (arith, d.place, ap length (run_next d.runs e k).1)
 
-      pub back_turn : {ys : List ℕ} {j : ℕ} → Wrote xs ys (i - 3) j (code_numbers (c ∷ [])) → Backing s xs₀ ys q (i - 3)
-      back_turn {ys} w =
-          let n : i - 3 ≡ 3 * length (behind d.left e) = omega (arith, d.place, ap length (next_code d.left e k)) in
-          record {
-            rest = behind d.left e;
-            left = next_left d.left e k;
-            place = n;
-            room = omega (arith, kept w, d.room);
-            same_length = kept w ∙ d.same_length;
-            same = rw w.stored (back_put xs c (behind d.left e) (i - 3) n ∙ rw (next_code d.left e k) at d.same);
-          }
+    pub back_turn : {ys : List ℕ} {j : ℕ} → Wrote xs ys (i - 3) j (code_numbers (c ∷ [])) → Backing s xs₀ ys q (i - 3)
+    back_turn {ys} w =
+        let n : i - 3 ≡ 3 * length (codes_in (run_at s q)) = omega (arith, d.place, ap length (run_next d.runs e k).1) in
+        record {
+          runs = (run_next d.runs e k).0;
+          place = n;
+          room = omega (arith, kept w, d.room);
+          same_length = kept w ∙ d.same_length;
+          same = rw w.stored (back_put xs c (codes_in (run_at s q)) (i - 3) n ∙ rw (run_next d.runs e k).1 at d.same);
+        }
 
-    pub back_ended : c.kind ≡ 18 → xs ≡ put xs₀ 0 (code_numbers (reverse (codes_in (run_at s 0))))
-    unfolding code_numbers reverse put
-    back_ended k = rw (no_more d.left e k) at d.same
+  pub back_ended : c.kind ≡ 18 → xs ≡ put xs₀ 0 (code_numbers (reverse (codes_in (run_at s 0))))
+  unfolding code_numbers reverse put
+  back_ended k = rw (run_ended d.runs e k) at d.same

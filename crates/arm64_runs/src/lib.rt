@@ -1,59 +1,50 @@
 // Runs of unwind codes of Windows on ARM64: how many codes a run has up to its end, and the run stored as numbers, forwards and backwards.
 #![tactic(auto)]
 
-ghost use Rattle.std.specs.Prelude.{◌≡◌, [], ◌∷◌, ◌+◌, ◌*◌, ◌≤◌, ◌<◌, length};
+ghost use Rattle.std.specs.Prelude.{◌≡◌, [], ◌∷◌, ◌+◌, ◌*◌, ◌≤◌, ◌<◌, length, IfSome};
 ghost use Rattle.std.proofs.Math.Option.{some};
+ghost use Rattle.format.specs.Coded.{option_of};
 ghost use Rattle.format.specs.Put.{put};
 ghost use Rattle.format.proofs.Wrote.{Wrote};
 ghost use Rattle.arm64.specs.Lists.{code_numbers};
 ghost use Rattle.arm64.specs.Meaning.{reverse};
 ghost use Rattle.arm64.specs.Reader.{run_at};
-ghost use Rattle.arm64_runs.specs.Runs.{Within, count_of, codes_in};
+ghost use Rattle.arm64_runs.specs.Runs.{count_of, codes_in};
 
-use arm64::{Code, CodeRead};
+use arm64::Code;
 
-// How many codes a run has; nothing where there is no run.
-#[derive(Clone, Copy)]
-pub enum Count {
-    Is(usize),
-    Bad,
-}
-
-// The codes from a place on, up to the end code.
-pub fn count_run(s: &[u8], at: usize) -> Count
-    ensures { (result ≡ count_of (run_at s.now at)) × Within (length s.now) result }
+// How many codes the run from a place on has, up to its end code; nothing where there is no run.
+// Kept: a `while let` by places here and below, and no iterator of codes: its None would tell the run's end and a place without a code alike.
+pub fn count_run(s: &[u8], at: usize) -> Option<usize>
+    ensures { (result ≡ option_of (count_of (run_at s.now at))) × IfSome result (λ n. n ≤ length s.now) }
 {
     let mut p = at;
-    let mut n: usize = 0;
-    while p < s.len() {
-        let CodeRead::Code(c, q) = arm64_codes::code_at(s, p) else {
-            return Count::Bad;
-        };
+    let mut n = 0;
+    while let Some((c, q)) = arm64_codes::code_at(s, p) {
         if c.kind == arm64::END {
-            return Count::Is(n);
+            return Some(n);
         }
         n += 1;
         p = q;
     }
-    Count::Bad
+    None
 }
 
 // Three numbers: a code's or an epilogue's.
-pub fn put_three(out: &mut [u64], at: usize, a: u64, b: u64, c: u64) -> usize
+pub fn put_three(out: &mut [u64], at: usize, numbers: [u64; 3]) -> usize
     requires { at + 3 ≤ length out.old }
-    ensures { Wrote out.old out.new at result (a ∷ b ∷ c ∷ []) }
+    ensures { Wrote out.old out.new at result numbers }
 {
-    out[at] = a;
-    out[at + 1] = b;
-    out[at + 2] = c;
+    out[at..at + 3].copy_from_slice(&numbers);
     at + 3
 }
 
+#[tactic(auto, unfolding(arm64::specs::Lists::code_numbers))]
 pub fn put_code(out: &mut [u64], at: usize, c: Code) -> usize
     requires { at + 3 ≤ length out.old }
     ensures { Wrote out.old out.new at result (code_numbers (c ∷ [])) }
 {
-    put_three(out, at, c.kind, c.register, c.offset)
+    put_three(out, at, [c.kind, c.register, c.offset])
 }
 
 // A run's codes, in its order.
@@ -63,12 +54,9 @@ pub fn put_run(out: &mut [u64], at: usize, s: &[u8], from: usize) -> usize
 {
     let mut p = from;
     let mut i = at;
-    while p < s.len() {
-        let CodeRead::Code(c, q) = arm64_codes::code_at(s, p) else {
-            return i;
-        };
+    while let Some((c, q)) = arm64_codes::code_at(s, p) {
         if c.kind == arm64::END {
-            return i;
+            break;
         }
         i = put_code(out, i, c);
         p = q;
@@ -77,22 +65,18 @@ pub fn put_run(out: &mut [u64], at: usize, s: &[u8], from: usize) -> usize
 }
 
 // The codes of the run at 0, the last of them first, at the list's front, up to `end`.
-pub fn put_back(out: &mut [u64], end: usize, s: &[u8]) -> usize
+pub fn put_back(out: &mut [u64], end: usize, s: &[u8])
     requires { (run_at s.now 0 ≡ some (codes_in (run_at s.now 0))) × (end ≡ 3 * length (codes_in (run_at s.now 0))) × (end ≤ length out.old) }
     ensures { out.new ≡ put out.old 0 (code_numbers (reverse (codes_in (run_at s.now 0)))) }
 {
     let mut p = 0;
     let mut i = end;
-    while p < s.len() {
-        let CodeRead::Code(c, q) = arm64_codes::code_at(s, p) else {
-            return i;
-        };
+    while let Some((c, q)) = arm64_codes::code_at(s, p) {
         if c.kind == arm64::END {
-            return i;
+            break;
         }
         i -= 3;
-        let _past = put_code(out, i, c);
+        put_code(out, i, c);
         p = q;
     }
-    i
 }

@@ -1,10 +1,13 @@
-use Prim.Native.Nat.{◌-◌}
+use mathlib.Core.Path.{◌≡◌}
+use Prim.Native.Nat.{◌-◌, ◌≤◌}
 use lib.ListN.{length}
-use Rattle.arm64_runs.proofs.Turns.{Counting}
+use Rattle.arm64.specs.Reader.{run_at}
+use Rattle.arm64_runs.specs.Runs.{count_of}
+use Rattle.arm64_runs.proofs.Stores.{more}
 use Rattle.arm64_runs.proofs.count_run.Given as goal
 
-abbrev pub invariant-loop-p : goal.invariant-loop-p
-invariant-loop-p l = Counting l.s l.at l.p l.n
+abbrev pub invariant-loop-c : goal.invariant-loop-c
+invariant-loop-c l = (l.n ≤ l.p) × (count_of (run_at l.s l.at) ≡ more l.n (run_at l.s l.p))
 
-abbrev pub decreases-loop-p : goal.decreases-loop-p
-decreases-loop-p l = length l.s - l.p
+abbrev pub decreases-loop-c : goal.decreases-loop-c
+decreases-loop-c l = length l.s - l.p

@@ -1,39 +1,29 @@
 -- `arm64_runs::put_back` meets its contract.
 use mathlib.Core.Path.{sym, ◌∙◌}
 use native.Mathlib.Omega.{arith}
-use Rattle.arm64_runs.proofs.Ahead.{ahead}
-use Rattle.arm64_runs.proofs.Stores.{back_start, back_room, back_turn, back_ended, never_bad, never_past}
+use Rattle.arm64.proofs.Coded.{is_none, is_some}
+use Rattle.arm64.specs.Codes.{code_at}
+use Rattle.arm64_codes.proofs.Formed.{ahead}
+use Rattle.arm64_runs.proofs.Stores.{back_start, back_room, back_turn, back_ended, never_none}
 use Rattle.arm64_runs.proofs.put_back.Goals as goal
 
-pub loop-p-init : goal.loop-p-init
-loop-p-init c = back_start c.requires.0 c.requires.1 c.requires.2
-
-pub shape_of-out-in_default : goal.shape_of-out-in_default
-shape_of-out-in_default c = c.loop-p.invariant.same_length
-
-pub returns-in_default : goal.returns-in_default
-returns-in_default c = absurd (never_bad c.loop-p.invariant.left (sym c.code_at.ensures ∙ c.in_default.is))
-
-pub shape_of-out-then-c-eq-END : goal.shape_of-out-then-c-eq-END
-shape_of-out-then-c-eq-END c = c.loop-p.invariant.same_length
-
-pub returns-then-c-eq-END : goal.returns-then-c-eq-END
-returns-then-c-eq-END c = back_ended c.loop-p.invariant (sym c.code_at.ensures ∙ c.in-Code.is) c.if-c-eq-END.true
+pub loop-c-init : goal.loop-c-init
+loop-c-init c = back_start c.requires.0 c.requires.1 c.requires.2
 
 pub overflow_sub-i : goal.overflow_sub-i
-overflow_sub-i c = back_room c.loop-p.invariant (sym c.code_at.ensures ∙ c.in-Code.is) c.if-c-eq-END.false
+overflow_sub-i c = back_room c.loop-c.invariant (is_some (code_at c.args.s.now c.loop-c.p) (sym c.code_at.ensures ∙ c.in-Some.is)) c.if-c-eq-END.false
 
-pub put_code-past-requires : goal.put_code-past-requires
-put_code-past-requires c = omega (arith, c.loop-p.invariant.room, back_room c.loop-p.invariant (sym c.code_at.ensures ∙ c.in-Code.is) c.if-c-eq-END.false)
+pub put_code-requires : goal.put_code-requires
+put_code-requires c = omega (arith, c.loop-c.invariant.room, back_room c.loop-c.invariant (is_some (code_at c.args.s.now c.loop-c.p) (sym c.code_at.ensures ∙ c.in-Some.is)) c.if-c-eq-END.false)
 
-pub loop-p-smaller : goal.loop-p-smaller
-loop-p-smaller c = omega (arith, ahead c.args.s.now c.loop-p.p (sym c.code_at.ensures ∙ c.in-Code.is))
+pub loop-c-smaller : goal.loop-c-smaller
+loop-c-smaller c = omega (arith, ahead c.args.s.now c.loop-c.p (is_some (code_at c.args.s.now c.loop-c.p) (sym c.code_at.ensures ∙ c.in-Some.is)))
 
-pub loop-p-preserved : goal.loop-p-preserved
-loop-p-preserved c = back_turn c.loop-p.invariant (sym c.code_at.ensures ∙ c.in-Code.is) c.if-c-eq-END.false c.put_code-past.ensures
+pub loop-c-preserved : goal.loop-c-preserved
+loop-c-preserved c = back_turn c.loop-c.invariant (is_some (code_at c.args.s.now c.loop-c.p) (sym c.code_at.ensures ∙ c.in-Some.is)) c.if-c-eq-END.false c.put_code.ensures
 
-pub shape_of-out : goal.shape_of-out
-shape_of-out c = c.loop-p.invariant.same_length
+pub returns-then-c-eq-END : goal.returns-then-c-eq-END
+returns-then-c-eq-END c = back_ended c.loop-c.invariant (is_some (code_at c.args.s.now c.loop-c.p) (sym c.code_at.ensures ∙ c.in-Some.is)) c.if-c-eq-END.true
 
-pub returns : goal.returns
-returns c = absurd (never_past c.loop-p.invariant.left (omega arith))
+pub returns-in_default : goal.returns-in_default
+returns-in_default c = absurd (never_none c.loop-c.invariant.runs (is_none (code_at c.args.s.now c.loop-c.p) (sym c.code_at.ensures ∙ c.in_default.is)))

@@ -3,8 +3,8 @@ use lib.ListN.{length}
 use Rattle.arm64_runs.proofs.Stores.{Backing}
 use Rattle.arm64_runs.proofs.put_back.Given as goal
 
-abbrev pub invariant-loop-p : goal.invariant-loop-p
-invariant-loop-p l = Backing l.s l.initial.out l.out l.p l.i
+abbrev pub invariant-loop-c : goal.invariant-loop-c
+invariant-loop-c l = Backing l.s l.initial.out l.out l.p l.i
 
-abbrev pub decreases-loop-p : goal.decreases-loop-p
-decreases-loop-p l = length l.s - l.p
+abbrev pub decreases-loop-c : goal.decreases-loop-c
+decreases-loop-c l = length l.s - l.p

@@ -1,10 +1,10 @@
 -- `arm64_runs::put_three` meets its contract.
-use mathlib.Core.Path.{◌≡◌}
-use Prim.Native.Nat.{◌+◌}
 use native.Mathlib.Omega.{arith}
-use Rattle.format.specs.Put.{put}
+use Rattle.std.proofs.lemmas.Grind.{common_steps}
+use Rattle.arm64_runs.proofs.Stores.{copied}
 use Rattle.arm64_runs.proofs.put_three.Goals as goal
 
 pub returns : goal.returns
-unfolding put
-returns c = let e : c.args.at + 1 + 1 ≡ c.args.at + 2 = omega arith in record { past = omega arith; stored = rw e }
+returns c =
+    let h = c.copy_from_slice.ensures in
+    copied h.after (grind (arith, common_steps, h.len, h.after)) (omega arith) (omega arith)
