@@ -58,7 +58,7 @@ impl Machine {
 
 // What a row says (DWARF 5, 6.4.2). Registers have 16 bits. An offset has 32 bits, signed, in a function's rows, and 64 in
 // what the reader finds.
-#[derive(Clone, Copy)]
+#[derive(Clone, Copy, PartialEq, Eq)]
 pub enum Row {
     DefCfa(u16, i64),
     DefCfaOffset(i64),

@@ -81,7 +81,7 @@ fn same_leading(m: Machine, a: Extent, b: Extent, rows: &[u64], i: usize) -> boo
 {
     let x = header_keys::leading_at(m, a, rows, i);
     let y = header_keys::leading_at(m, b, rows, i);
-    rows::same_row(x, y)
+    x == y
 }
 
 // ---- functions

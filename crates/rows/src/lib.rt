@@ -64,6 +64,7 @@ fn signed32(x: u64) -> i64
     i64::from((x as u32).cast_signed())
 }
 
+#[tactic(auto, unfolding(format::specs::Lists::row_of, format::specs::Prelude::pick))]
 fn row_of(kind: u64, reg: u64, off: u64) -> Row
     requires { T (row_ok kind reg off) }
     ensures { result ≡ row_of kind reg off }
@@ -86,6 +87,7 @@ fn row_of(kind: u64, reg: u64, off: u64) -> Row
 }
 
 // Row i.
+#[tactic(auto, unfolding(format::specs::Lists::row_at, format::specs::Lists::row_ok_at))]
 pub fn row_at(rows: &[u64], i: usize) -> Row
     requires { (4 * i + 4 ≤ length rows.now) × T (row_ok_at rows.now i) }
     ensures { result ≡ (row_at rows.now i).1 }
@@ -98,6 +100,7 @@ pub fn row_at(rows: &[u64], i: usize) -> Row
 }
 
 // How many registers and how many second operands a kind may name.
+#[tactic(auto, unfolding(format::specs::Lists::has_register, format::specs::Prelude::pick))]
 fn registers(kind: u64) -> u64
     ensures { result ≡ pick (has_register kind) 65536 1 }
 {
@@ -114,6 +117,7 @@ fn registers(kind: u64) -> u64
 }
 
 // Every kind has an arm, and no kind another number, so that the compiler makes a table of them and no jumps.
+#[tactic(auto, unfolding(format::specs::Lists::second_operands, format::specs::Lists::has_offset, format::specs::Prelude::pick))]
 fn second_operands(kind: u64) -> u64
     requires { kind ≤ 10 }
     ensures { result ≡ second_operands kind }
@@ -135,6 +139,7 @@ fn second_operands(kind: u64) -> u64
 }
 
 // Three numbers are a row.
+#[tactic(auto, unfolding(format::specs::Lists::row_ok))]
 fn row_shape(kind: u64, reg: u64, off: u64) -> bool
     ensures { result ≡ row_ok kind reg off }
 {
@@ -148,6 +153,7 @@ fn row_shape(kind: u64, reg: u64, off: u64) -> bool
 }
 
 // Row i is one.
+#[tactic(auto, unfolding(format::specs::Lists::row_ok_at))]
 pub fn row_ok(rows: &[u64], i: usize) -> bool
     requires { 4 * i + 4 ≤ length rows.now }
     ensures { result ≡ row_ok_at rows.now i }
@@ -187,6 +193,7 @@ fn whole(word: u64, z: i64) -> bool
     multiple(word, z)
 }
 
+#[tactic(auto, unfolding(format::specs::Rows::whole_below))]
 fn whole_below(word: u64, z: i64) -> bool
     requires { 0 < word }
     ensures { result ≡ whole_below word z }
@@ -198,6 +205,7 @@ fn whole_below(word: u64, z: i64) -> bool
 }
 
 // Question 24 of one row: an offset that is written factored is a multiple of the word.
+#[tactic(auto, unfolding(format::specs::Rows::row_whole))]
 pub fn row_whole(word: u64, r: Row) -> bool
     requires { 0 < word }
     ensures { result ≡ row_whole word r }
@@ -259,6 +267,7 @@ pub fn row_surely_whole(word: u64, rows: &[u64], i: usize) -> bool
 }
 
 // A row's kind, register (or 0) and second operand (or 0).
+#[tactic(auto, unfolding(format::specs::Rows::kind_of))]
 pub fn kind(r: Row) -> u64
     ensures { result ≡ kind_of r }
 {
@@ -277,6 +286,7 @@ pub fn kind(r: Row) -> u64
     }
 }
 
+#[tactic(auto, unfolding(format::specs::Rows::reg_of))]
 pub fn register(r: Row) -> u16
     ensures { result ≡ reg_of r }
 {
@@ -295,6 +305,7 @@ pub fn register(r: Row) -> u16
     }
 }
 
+#[tactic(auto, unfolding(format::specs::Rows::offset_of))]
 pub fn offset(r: Row) -> i64
     ensures { result ≡ offset_of r }
 {
@@ -313,19 +324,6 @@ pub fn offset(r: Row) -> i64
     }
 }
 
-// Two rows are equal.
-pub fn same_row(a: Row, b: Row) -> bool
-    ensures { result ≡ same_row a b }
-{
-    if kind(a) != kind(b) {
-        return false;
-    }
-    if register(a) != register(b) {
-        return false;
-    }
-    offset(a) == offset(b)
-}
-
 // ---- a row written, and its size
 
 // An offset divided by minus the word.
@@ -337,6 +335,7 @@ fn factored(word: u64, z: i64) -> i64
 }
 
 // One opcode or the other, by the offset's sign.
+#[tactic(auto, unfolding(crate::specs::Operands::by_sign))]
 fn by_sign(plain: u8, signed: u8, z: i64) -> u8
     ensures { result ≡ by_sign plain signed z }
 {
@@ -598,6 +597,7 @@ fn operation_size(word: u64, kind: u64, reg: u64, off: u64) -> usize
 }
 
 // The size of an operation whose operands are a byte each, by kind. The arms are as those of `second_operands`.
+#[tactic(auto, unfolding(crate::specs::Sizes::short_size))]
 fn short_size(kind: u64) -> usize
     requires { kind ≤ 10 }
     ensures { (result ≡ short_size kind) × (result ≤ 3) }
@@ -619,6 +619,7 @@ fn short_size(kind: u64) -> usize
 }
 
 // The word times the second operand that is written: a saved register's offset is divided by minus the word.
+#[tactic(auto, unfolding(crate::specs::Sizes::scaled, format::specs::Prelude::pick))]
 fn scaled(word: u64, kind: u64, off: u64) -> u64
     requires { (word ≤ 8) × (off < 2 ^ 32) }
     ensures { result ≡ scaled word kind off }
@@ -630,6 +631,7 @@ fn scaled(word: u64, kind: u64, off: u64) -> u64
 }
 
 // The second byte of a second operand that has two at most.
+#[tactic(auto, unfolding(crate::specs::Sizes::second_byte, format::specs::Prelude::pick))]
 fn second_byte(word: u64, y: u64) -> usize
     requires { word ≤ 8 }
     ensures { (result ≡ second_byte word y) × (result ≤ 1) }
@@ -688,6 +690,7 @@ pub fn surveyed(word: u64, rows: &[u64], i: usize) -> Option<usize>
 // ---- a step written, and its size
 
 // How many bytes of operand the shortest form of a step has.
+#[tactic(auto, unfolding(format::specs::Rows::step_form, format::specs::Prelude::pick))]
 pub fn step_form(by: u64) -> u64
     ensures { result ≡ step_form by }
 {
@@ -704,6 +707,7 @@ pub fn step_form(by: u64) -> u64
 }
 
 // The opcode of a form that has an operand, and how long the operand is.
+#[tactic(auto, unfolding(crate::specs::Operands::step_opcode, format::specs::Prelude::pick))]
 fn step_opcode(form: u64) -> u8
     ensures { result ≡ step_opcode form }
 {
@@ -716,6 +720,7 @@ fn step_opcode(form: u64) -> u8
     opcodes::DW_CFA_ADVANCE_LOC4
 }
 
+#[tactic(auto, unfolding(crate::specs::Operands::step_width, format::specs::Prelude::pick))]
 fn step_width(form: u64) -> usize
     ensures { result ≡ step_width form }
 {
