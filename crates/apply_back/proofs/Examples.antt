@@ -10,8 +10,8 @@ use Rattle.format.specs.declared.Section.TheVariants.{Elf}
 use Rattle.format.specs.declared.Row.TheVariants.{DefCfaOffset}
 use Rattle.format.specs.declared.CfaRule.TheVariants.{Register as register}
 use Rattle.format.specs.declared.Rule.TheVariants.{Unstated}
-use Rattle.format.specs.declared.Reading.{Reading}
-use Rattle.format.specs.declared.Reading.TheVariants.{Answered, Refused}
+use Rattle.format.specs.Coded.{Reading}
+use Rattle.std.specs.Prelude.{Ok, Err}
 use Rattle.format.specs.CallSites.{site_added, site_bytes, site_pad, site_table, sites_bytes}
 use Rattle.format.specs.Headers.{ahead, augmentation, augmentation_data, counted, data_factor, encoding_of, entry, header_bytes, header_data, header_fields, header_id, header_relocs, implied, key_of, kind_for, kind_relocs, leading, leads, letters, lsda_letter, named_kind, others, padded, padding, pointer_bytes, pointer_place, pointer_reloc, pointer_size, same_encoding, same_key, same_kind, same_rows, size_of, size_or0}
 use Rattle.format.specs.Leb.{bits7, fits64, last7, little, push, read_little, read_sleb, read_sleb_f, read_uleb, read_uleb_f, sleb, sleb_f, uleb, uleb_f}
@@ -85,10 +85,10 @@ puts = refl
 
 -- at 3, 4, 7, 8, 13 and past the end
 abbrev frame : ℕ → Reading
-frame n = Answered (record { cfa = register 7 (pos n); rule = Unstated; signing = false })
+frame n = Ok (record { cfa = register 7 (pos n); rule = Unstated; signing = false })
 
 reads : read placed [] 0 8 0 6 3 ∷ read placed [] 0 8 0 6 4 ∷ read placed [] 0 8 0 6 7 ∷ read placed [] 0 8 0 6 8 ∷ read placed [] 0 8 0 6 13 ∷ read placed [] 0 8 0 6 14 ∷ []
-    ≡ frame 8 ∷ frame 16 ∷ frame 16 ∷ frame 8 ∷ frame 8 ∷ Refused 65 ∷ []
+    ≡ frame 8 ∷ frame 16 ∷ frame 16 ∷ frame 8 ∷ frame 8 ∷ Err 65 ∷ []
 unfolding pick next after onward or_else all first each read_little read_uleb_f read_uleb push last7 read_sleb_f fits64 read_sleb unfactor read_register in_range read_offset read_factored read_signed one two read_extended read_operation same_offset relocation_at relocations_of size_of pointer_size header_id data_factor is_word_size blank with_cfa with_rule reoffset reregister restored negated apply rules_for seen without_cfa without_stored refusal unless_refused act answer read_entry entries_f entries value_or0 second is_header records distance_back first_addend header_place header_at strip spelled spellings spell_or read_letters read_byte read_many read_counted personality_in lsda_in letters_in header_tail require parse_header record_tail parse_record perform when_read run_f run parsed locate run_to read_section read
 reads = refl
 

@@ -7,7 +7,8 @@ use mathlib.Core.List.{List, [], ◌∷◌}
 use lib.Dec.{T, leb, leb→le}
 use lib.ListN.{get_or}
 use borrow.Author.Tests.{eq-eqb, ne_eqb}
-use Rattle.format.specs.declared.Outcome.TheVariants as outcome
+use Rattle.std.specs.Prelude.{Some, None, Ok, Err}
+use Rattle.format.specs.Coded.{refusal}
 use Rattle.format.specs.Prelude.{pick}
 use Rattle.format.specs.Lists.{field, count, most_functions, most_records, sum_of, inside, symbol_ok, all_in}
 use Rattle.format.specs.Questions.{Room, ask, unless, fitting, per_function}
@@ -62,13 +63,13 @@ module _ (fs es cs : List ℕ) where
 
 module _ (fs es cs : List ℕ) (r : Room) where
   pub table_empty : {places bytes relocations sites : List ℕ} → count function_stride fs ≡ 0
-      → Writes (arm64_answer fs es cs r) outcome.Empty places places bytes bytes relocations relocations sites sites
+      → Writes (arm64_answer fs es cs r) (Ok None) places places bytes bytes relocations relocations sites sites
   unfolding arm64_answer outcome_of afterwards pick
   table_empty e = rw (eq-eqb (count function_stride fs) 0 e) (record { outcome = refl; placed = refl; stored = refl; related = refl; sited = refl })
 
   module _ (some-there : count function_stride fs ≡ 0 → ⊥) where
     pub table_refused : {places bytes relocations sites : List ℕ} → lists_ok fs es cs ≡ false
-        → Writes (arm64_answer fs es cs r) (outcome.Refused 13 0) places places bytes bytes relocations relocations sites sites
+        → Writes (arm64_answer fs es cs r) (Err (refusal 13 0)) places places bytes bytes relocations relocations sites sites
     unfolding arm64_answer outcome_of afterwards pick ask unless
     table_refused e =
         rw (ne_eqb (count function_stride fs) 0 some-there, e)

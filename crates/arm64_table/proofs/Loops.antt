@@ -6,7 +6,8 @@ use native.Mathlib.Numerals.{add-one}
 use mathlib.Core.Option.{none, some}
 use mathlib.Core.List.{List, [], ◌∷◌}
 use lib.ListN.{length, length-append}
-use Rattle.format.specs.declared.Question.TheVariants.{Yes, No}
+use Rattle.std.specs.Prelude.{Ok, Err}
+use Rattle.format.specs.Coded.{refusal}
 use Rattle.format.specs.Prelude.{pick, each}
 use Rattle.format.specs.Put.{put}
 use Rattle.format.specs.Lists.{numbers_of}
@@ -49,11 +50,11 @@ module _ {f : ℕ → Function} {n k : ℕ} (a : Asking f n k) where
     unfolding asks and_then
     answered z = record { high = omega arith; rest = asked_here h ∙ rw (e ∙ if-eq r 0 none (some (r, 0)) z) }
 
-    pub stopped : (r ≡ 0 → ⊥) → No r 0 ≡ question_of (per_function function_asks 0 (each f 0 n))
+    pub stopped : (r ≡ 0 → ⊥) → Err (refusal r 0) ≡ question_of (per_function function_asks 0 (each f 0 n))
     unfolding asks and_then question_of
     stopped z = sym (ap question_of (asked_here h) ∙ rw (e ∙ if-ne r 0 none (some (r, 0)) z))
 
-  pub all_answered : n ≤ k → Yes ≡ question_of (per_function function_asks 0 (each f 0 n))
+  pub all_answered : n ≤ k → Ok tt ≡ question_of (per_function function_asks 0 (each f 0 n))
   unfolding per_function question_of
   all_answered h = sym (ap question_of a.rest ∙ rw (each_none f n k h))
 

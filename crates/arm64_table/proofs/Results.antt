@@ -3,8 +3,10 @@ use mathlib.Core.Path.{◌≡◌}
 use Prim.Native.Nat.{ℕ, ◌*◌}
 use mathlib.Core.List.{List}
 use lib.ListN.{length}
-use Rattle.format.specs.declared.Outcome.TheVariants as outcome
-use Rattle.format.specs.declared.Question.TheVariants.{Yes}
+use Rattle.std.specs.Prelude.{Some, None, Ok, Err}
+use Rattle.format.specs.Coded.{refusal}
+use Rattle.std.specs.Prelude.{Ok, Err}
+use Rattle.format.specs.Coded.{refusal}
 use Rattle.format.specs.Prelude.{each}
 use Rattle.format.specs.Put.{put}
 use Rattle.format.specs.Lists.{numbers_of}
@@ -18,7 +20,7 @@ use Rattle.arm64.specs.Writer.{function_asks, markers_from, rows_of, relocs_from
 use Rattle.arm64_table.specs.Tables.{first_of, AllListed, AllFine}
 use Rattle.arm64_table.proofs.Loops.{each_yes, rows-length, markers_length}
 
-pub all_fine : {fs es cs : List ℕ} {n : ℕ} → AllListed fs es cs n → question_of (per_function function_asks 0 (first_of fs es cs n)) ≡ Yes
+pub all_fine : {fs es cs : List ℕ} {n : ℕ} → AllListed fs es cs n → question_of (per_function function_asks 0 (first_of fs es cs n)) ≡ Ok tt
     → AllFine fs es cs n
 all_fine {fs} {es} {cs} {n} a e =
     let yes = each_yes (numbered_function fs es cs) n (said_yes (per_function function_asks 0 (first_of fs es cs n)) e) in
@@ -33,7 +35,7 @@ module _ (f : ℕ → Function) (n : ℕ) {info relocs : ℕ} (i : info ≡ leng
   unfolding room_for room_asks arm64
   room_same r = rw (i, j, markers_length 0 (each f 0 n), rows-length (each f 0 n), each-length f 0 n)
 
-  accepted_as : outcome.Accepted (record { places = n; bytes = 8 * n; relocations = relocs; sites = info }) ≡ outcome_of (accepted (arm64 (each f 0 n)))
+  accepted_as : Ok (Some (record { places = n; bytes = 8 * n; relocations = relocs; sites = info })) ≡ outcome_of (accepted (arm64 (each f 0 n)))
   unfolding outcome_of arm64
   accepted_as = rw (i, j, markers_length 0 (each f 0 n), rows-length (each f 0 n), each-length f 0 n)
 
@@ -41,7 +43,7 @@ module _ (f : ℕ → Function) (n : ℕ) {info relocs : ℕ} (i : info ≡ leng
       → relocations' ≡ put relocations 0 (numbers_of (relocs_from 0 (each f 0 n)))
       → places' ≡ put places 0 (markers_from 0 (each f 0 n))
       → sites' ≡ put sites 0 (infos_of (each f 0 n))
-      → Writes (accepted (arm64 (each f 0 n))) (outcome.Accepted (record { places = n; bytes = 8 * n; relocations = relocs; sites = info }))
+      → Writes (accepted (arm64 (each f 0 n))) (Ok (Some (record { places = n; bytes = 8 * n; relocations = relocs; sites = info })))
       places places' bytes bytes' relocations relocations' sites sites'
   unfolding afterwards relocation_numbers arm64
   all_stored b r m s = record { outcome = accepted_as; placed = m; stored = b; related = r; sited = s }

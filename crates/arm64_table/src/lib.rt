@@ -17,7 +17,7 @@ ghost use Rattle.arm64_table.specs.Tables.{relocs_by, reloc_count, mark_by, firs
 use arm64::fields;
 use arm64_function::{function_no, info_size, packed_word, put_info};
 use arm64_lists::lists_ok;
-use format::{Counts, Outcome, Question};
+use format::{Counts, Refusal};
 use relocs::{number, relocation};
 use unwind::{Written, written_of};
 
@@ -78,7 +78,7 @@ fn mark(at: usize, past: usize) -> u64
 // ---- the questions of all functions
 
 // 81 to 83 of n functions: the position is 0.
-fn first_no(fs: &[u64], es: &[u64], cs: &[u64], n: usize) -> Question
+fn first_no(fs: &[u64], es: &[u64], cs: &[u64], n: usize) -> Result<(), Refusal>
     requires { AllListed fs.now es.now cs.now n }
     ensures { result ≡ question_of (per_function function_asks 0 (first_of fs.now es.now cs.now n)) }
 {
@@ -86,11 +86,11 @@ fn first_no(fs: &[u64], es: &[u64], cs: &[u64], n: usize) -> Question
     while k < n {
         let r = function_no(fs, es, cs, k);
         if r != 0 {
-            return Question::No(r, 0);
+            return Err(Refusal { number: r, position: 0 });
         }
         k += 1;
     }
-    Question::Yes
+    Ok(())
 }
 
 // ---- the results
@@ -183,18 +183,18 @@ fn put_all(
     bytes: &mut [u8],
     relocations: &mut [u64],
     info: &mut [u8],
-) -> Outcome
+) -> Result<Option<Counts>, Refusal>
     requires { AllFine fs.now es.now cs.now n × (needed.info ≡ length (infos_of (first_of fs.now es.now cs.now n))) × (needed.relocations ≡ length (relocs_from 0 (first_of fs.now es.now cs.now n))) × (n ≤ length markers.old) × (8 * n ≤ length bytes.old) × (5 * needed.relocations ≤ length relocations.old) × (needed.info ≤ length info.old) }
     ensures { Writes (accepted (arm64 (first_of fs.now es.now cs.now n))) result markers.old markers.new bytes.old bytes.new relocations.old relocations.new info.old info.new }
 {
     put_rows(bytes, relocations, fs, es, cs, n);
     put_infos(markers, info, fs, es, cs, n);
-    Outcome::Accepted(Counts {
+    Ok(Some(Counts {
         places: n as u64,
         bytes: (8 * n) as u64,
         relocations: needed.relocations as u64,
         sites: needed.info as u64,
-    })
+    }))
 }
 
 // ---- the answer
@@ -209,7 +209,7 @@ fn write(
     bytes: &mut [u8],
     relocations: &mut [u64],
     info: &mut [u8],
-) -> Outcome
+) -> Result<Option<Counts>, Refusal>
     requires { AllFine fs.now es.now cs.now n }
     ensures { Writes (fitting (room_in markers.old bytes.old relocations.old info.old) (arm64 (first_of fs.now es.now cs.now n))) result markers.old markers.new bytes.old bytes.new relocations.old relocations.new info.old info.new }
 {
@@ -226,10 +226,8 @@ fn write(
         relocations: relocations.len() as u64,
         sites: info.len() as u64,
     };
-    match lists::room(counts, lent) {
-        Question::Yes => put_all(fs, es, cs, n, needed, markers, bytes, relocations, info),
-        Question::No(a, k) => Outcome::Refused(a, k),
-    }
+    lists::room(counts, lent)?;
+    put_all(fs, es, cs, n, needed, markers, bytes, relocations, info)
 }
 
 // The questions of n functions, and the results.
@@ -242,14 +240,12 @@ fn answer(
     bytes: &mut [u8],
     relocations: &mut [u64],
     info: &mut [u8],
-) -> Outcome
+) -> Result<Option<Counts>, Refusal>
     requires { AllListed fs.now es.now cs.now n }
     ensures { Writes (unless (per_function function_asks 0 (first_of fs.now es.now cs.now n)) (fitting (room_in markers.old bytes.old relocations.old info.old) (arm64 (first_of fs.now es.now cs.now n)))) result markers.old markers.new bytes.old bytes.new relocations.old relocations.new info.old info.new }
 {
-    match first_no(fs, es, cs, n) {
-        Question::Yes => write(fs, es, cs, n, markers, bytes, relocations, info),
-        Question::No(a, k) => Outcome::Refused(a, k),
-    }
+    first_no(fs, es, cs, n)?;
+    write(fs, es, cs, n, markers, bytes, relocations, info)
 }
 
 // The table of the functions in three lists: functions of 6 numbers (symbol, length, prologue_at, prologue, epilogues_at, epilogues), epilogues of 3
@@ -264,15 +260,15 @@ pub fn table(
     bytes: &mut [u8],
     relocations: &mut [u64],
     info: &mut [u8],
-) -> Outcome
+) -> Result<Option<Counts>, Refusal>
     ensures { Writes (arm64_answer functions.now epilogues.now codes.now (room_in markers.old bytes.old relocations.old info.old)) result markers.old markers.new bytes.old bytes.new relocations.old relocations.new info.old info.new }
 {
     let n = functions.len() / fields::FUNCTION_STRIDE;
     if n == 0 {
-        return Outcome::Empty;
+        return Ok(None);
     }
     if !lists_ok(functions, epilogues, codes) {
-        return Outcome::Refused(13, 0);
+        return Err(Refusal { number: 13, position: 0 });
     }
     answer(
         functions,

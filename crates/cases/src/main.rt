@@ -5,7 +5,7 @@
 ghost use Rattle.std.specs.Prelude.{◌+◌, ◌≤◌, ◌<◌, length, IfOk};
 ghost use Rattle.cases.specs.Total.{total};
 
-use format::{Counts, Outcome};
+use format::{Counts, Refusal};
 use operations::fields::{Position, Unsigned, read_le, read_uleb};
 use std::io;
 use std::io::Read;
@@ -162,11 +162,11 @@ fn same_refusal(number: u64, position: u64, answer: &[u64]) -> bool {
 }
 
 // Whether this is the fixed answer: two numbers, and four results, of which only an acceptance has an element.
-fn same_outcome(said: Outcome, answer: &[u64]) -> bool {
+fn same_outcome(said: Result<Option<Counts>, Refusal>, answer: &[u64]) -> bool {
     match said {
-        Outcome::Accepted(c) => 6 < answer.len() && same_counts(c, answer),
-        Outcome::Empty => answer.len() == 6 && element(answer, 0, 0) == 0,
-        Outcome::Refused(n, k) => answer.len() == 6 && same_refusal(n, k, answer),
+        Ok(Some(c)) => 6 < answer.len() && same_counts(c, answer),
+        Ok(None) => answer.len() == 6 && element(answer, 0, 0) == 0,
+        Err(r) => answer.len() == 6 && same_refusal(r.number, r.position, answer),
     }
 }
 
@@ -183,7 +183,7 @@ fn compare(
     rt: &impl Print,
     index: u64,
     answer: &[u64],
-    said: Outcome,
+    said: Result<Option<Counts>, Refusal>,
     places: &[u64; 4000],
     bytes: &[u8; 4000],
     relocations: &[u64; 4000],
@@ -213,7 +213,7 @@ fn table(
     bytes: &mut [u8],
     relocations: &mut [u64],
     sites: &mut [u8],
-) -> Outcome {
+) -> Result<Option<Counts>, Refusal> {
     unwind::relaxed_table(
         list(numbers, 0),
         element(numbers, 1, 0),
@@ -233,7 +233,7 @@ fn debug_frame(
     places: &mut [u64],
     bytes: &mut [u8],
     relocations: &mut [u64],
-) -> Outcome {
+) -> Result<Option<Counts>, Refusal> {
     unwind::relaxed_debug_frame(
         list(numbers, 0),
         element(numbers, 1, 0),
@@ -254,7 +254,7 @@ fn ask(
     bytes: &mut [u8],
     relocations: &mut [u64],
     sites: &mut [u8],
-) -> Outcome {
+) -> Result<Option<Counts>, Refusal> {
     let entry = element(numbers, 0, 0);
     if entry == 0 {
         return table(numbers, places, bytes, relocations, sites);

@@ -5,7 +5,7 @@ use mathlib.Core.List.{List}
 use Prim.Native.Nat.{ℕ}
 use lib.ListN.{get_or, take}
 use Rattle.format.specs.Constants.{elf}
-use Rattle.format.specs.declared.Outcome.{Outcome}
+use Rattle.format.specs.Coded.{Outcome}
 use Rattle.format.specs.declared.Section.TheVariants.{Elf}
 use Rattle.format.specs.Machine.{machine_of}
 use Rattle.format.specs.Writer.{Written}

@@ -3,8 +3,9 @@ use Rattle.std.specs.Prelude.{◌≡◌, List, ℕ, ◌<◌, T, get_or, take}
 use Rattle.std.proofs.Math.Option.{none}
 use Rattle.format.specs.Constants.{elf}
 use Rattle.format.specs.declared.Counts.{Counts}
-use Rattle.format.specs.declared.Outcome.{Outcome}
-use Rattle.format.specs.declared.Outcome.TheVariants as outcome
+use Rattle.format.specs.Coded.{Outcome}
+use Rattle.std.specs.Prelude.{Some, None, Ok, Err}
+use Rattle.format.specs.Coded.{refusal}
 use Rattle.format.specs.Lists.{function_stride, count}
 use Rattle.format.specs.Questions.{Given, given_function}
 use Rattle.format.specs.RowCheck.{row_check_at}
@@ -19,7 +20,7 @@ check_for machine o bytes = check_section (take (bytes_in o) bytes) (get_or mach
 -- Where the list was accepted for ELF, every function passes the row check and none is relaxed, the section passes.
 abbrev pub PassesBack : (format : ℕ) → Given → Outcome → Checked → Type 0
 PassesBack format g o r =
-    (c : Counts) → format ≡ elf → o ≡ outcome.Accepted c
+    (c : Counts) → format ≡ elf → o ≡ Ok (Some c)
     → ((k : ℕ) → k < count function_stride g.functions → (given_function g k).relaxed ≡ none)
     → ((k : ℕ) → k < count function_stride g.functions → T (row_check_at g.functions g.rows k))
     → (r.number ≡ 0) × (r.«record» ≡ 0)

@@ -6,13 +6,13 @@ ghost use Rattle.format.specs.Answers.{Writes};
 ghost use Rattle.format.specs.Questions.{relaxed_table, given_of, room_in};
 ghost use Rattle.checked_back.specs.Together.{check_for, PassesBack};
 
-use format::Outcome;
+use format::{Counts, Refusal};
 use section_check::Checked;
 
 // What the writer answered, and what the check answered of what it wrote.
 #[derive(Clone, Copy)]
 pub struct WrittenAndChecked {
-    pub outcome: Outcome,
+    pub outcome: Result<Option<Counts>, Refusal>,
     pub checked: Checked,
 }
 

@@ -6,13 +6,14 @@ use native.Mathlib.Numerals.{add-one}
 use mathlib.Core.Option.{none, some}
 use Rattle.format.specs.Prelude.{each}
 use Rattle.format.proofs.Asked.{question_of, said_yes}
-use Rattle.format.specs.declared.Question as declared
-use Rattle.format.specs.declared.Question.TheVariants.{Yes, No}
+use Rattle.format.specs.Coded.{Asked}
+use Rattle.std.specs.Prelude.{Ok, Err}
+use Rattle.format.specs.declared.Refusal.{Refusal}
 use Rattle.format.specs.Questions.{Question, and_then, per_function}
 
 -- ---- one answer
 
-pub said_no : (o p : Question) {i j : ℕ} → question_of o ≡ No i j → question_of (and_then o p) ≡ question_of o
+pub said_no : (o p : Question) {r : Refusal} → question_of o ≡ Err r → question_of (and_then o p) ≡ question_of o
 unfolding question_of and_then
 said_no none p e = let z : ◌≡◌ {A = ℕ} 0 1 = cc in absurd (omega arith)
 said_no (some r) p e = refl
@@ -39,14 +40,14 @@ module _ {A : Type 0} where
         let e : n - k ≡ suc (n - suc k) = omega arith in
         a.rest ∙ rw (add-one k, e)
 
-    module _ {q : declared.Question} (h : k < n) (e : q ≡ question_of (ask k (f k))) where
-      pub turn : q ≡ Yes → Asking ask f n (k + 1)
+    module _ {q : Asked} (h : k < n) (e : q ≡ question_of (ask k (f k))) where
+      pub turn : q ≡ Ok tt → Asking ask f n (k + 1)
       turn y = record { high = omega arith; rest = here h ∙ rw (said_yes (ask k (f k)) (sym e ∙ y)) then_none }
 
-      pub stopped : {i j : ℕ} → q ≡ No i j → q ≡ question_of (per_function ask 0 (each f 0 n))
-      stopped {i} {j} y = e ∙ (sym (said_no (ask k (f k)) _ (sym e ∙ y)) ∙ sym (ap question_of (here h)))
+      pub stopped : {r : Refusal} → q ≡ Err r → q ≡ question_of (per_function ask 0 (each f 0 n))
+      stopped y = e ∙ (sym (said_no (ask k (f k)) _ (sym e ∙ y)) ∙ sym (ap question_of (here h)))
 
-    pub ended : n ≤ k → Yes ≡ question_of (per_function ask 0 (each f 0 n))
+    pub ended : n ≤ k → Ok tt ≡ question_of (per_function ask 0 (each f 0 n))
     unfolding per_function each question_of
     ended h =
         let e : n - k ≡ 0 = omega arith in

@@ -11,9 +11,10 @@ use lib.ListN.{length}
 use Rattle.format.specs.Prelude.{pick, each}
 use Rattle.format.specs.declared.Section.{Section}
 use Rattle.format.specs.declared.Counts.{Counts}
-use Rattle.format.specs.declared.Outcome.TheVariants as outcome
-use Rattle.format.specs.declared.Question as declared
-use Rattle.format.specs.declared.Question.TheVariants.{Yes, No}
+use Rattle.std.specs.Prelude.{Some, None, Ok, Err}
+use Rattle.format.specs.Coded.{refusal}
+use Rattle.format.specs.Coded.{Asked}
+use Rattle.format.specs.declared.Refusal.{Refusal}
 use Rattle.format.specs.Machine.{machine_of, machine_ok}
 use Rattle.format.specs.Lists.{numbers_of, functions_of, lists_ok}
 use Rattle.format.specs.Questions.{Question, ask, and_then, per_function, dwarf_asks, Given, Room, room_in, Answer, refused, accepted, unless, fitting, room_asks, given_asks, given_functions, dwarf_answer, dwarf_given}
@@ -33,15 +34,17 @@ use Rattle.dwarf.proofs.Fronts.{places_length, functions_each, written_parts}
 -- ---- refusals
 
 pub unchanged : (n k : ℕ) (places bytes relocs sites : List ℕ)
-    → Writes (refused n k) (outcome.Refused n k) places places bytes bytes relocs relocs sites sites
+    → Writes (refused n k) (Err (refusal n k)) places places bytes bytes relocs relocs sites sites
 unfolding outcome_of afterwards
 unchanged n k places bytes relocs sites = record { outcome = refl; placed = refl; stored = refl; related = refl; sited = refl }
 
 -- a question that says no decides
-pub no_decides : (o : Question) (a : Answer) {i j : ℕ} → question_of o ≡ No i j → unless o a ≡ refused i j
+pub no_decides : (o : Question) (a : Answer) {r : Refusal} → question_of o ≡ Err r → unless o a ≡ refused r.number r.position
 unfolding question_of unless
 no_decides none a e = let z : ◌≡◌ {A = ℕ} 0 1 = cc in absurd (omega arith)
-no_decides (some r) a e = cc
+no_decides (some x) a {r} e =
+    let h : r ≡ refusal x.0 x.1 = cc in
+    rw h refl
 
 -- ---- room
 
@@ -56,15 +59,15 @@ module _ (x : Inputs) {t : Table} (e : t ≡ totals_in (parts_to x (count_in x))
   abbrev answer : Answer
   answer = fitting (room_in places bytes relocs sites) (written_in (parts_to x (count_in x)))
 
-  module _ {q : declared.Question} (k : q ≡ question_of (room_for (counts_of (count_in x) t) (counts_of (length places) lent))) where
-    pub refuses : {i j : ℕ} → q ≡ No i j → Writes answer (outcome.Refused i j) places places bytes bytes relocs relocs sites sites
+  module _ {q : Asked} (k : q ≡ question_of (room_for (counts_of (count_in x) t) (counts_of (length places) lent))) where
+    pub refuses : {r : Refusal} → q ≡ Err r → Writes answer (Err r) places places bytes bytes relocs relocs sites sites
     unfolding fitting
-    refuses {i} {j} n = rw (no_decides _ (accepted (written_in (parts_to x (count_in x)))) (sym (ap question_of room_is) ∙ (sym k ∙ n))) (unchanged i j places bytes relocs sites)
+    refuses {r} n = rw (no_decides _ (accepted (written_in (parts_to x (count_in x)))) (sym (ap question_of room_is) ∙ (sym k ∙ n))) (unchanged r.number r.position places bytes relocs sites)
 
 -- a yes to t is room for what t covers
-module _ (x : Inputs) {t : Table} (places bytes relocs sites : List ℕ) {q : declared.Question}
+module _ (x : Inputs) {t : Table} (places bytes relocs sites : List ℕ) {q : Asked}
     (k : q ≡ question_of (room_for (counts_of (count_in x) t) (counts_of (length places) (record { bytes = length bytes; relocations = length relocs; sites = length sites })))) where
-  pub room_for_lem : q ≡ Yes → Covers x t → Holds x (count_in x) places bytes relocs sites
+  pub room_for_lem : q ≡ Ok tt → Covers x t → Holds x (count_in x) places bytes relocs sites
   unfolding room_for
   room_for_lem y v =
       let a = both _ _ (said_yes _ (sym k ∙ y)) in
@@ -103,7 +106,7 @@ module _ (x : Inputs) (places bytes relocs sites : List ℕ) (h : Holds x (count
     abbrev counts : Counts
     counts = record { places = count_in x; bytes = u.bytes; relocations = u.relocations / 5; sites = u.sites }
 
-    pub delivers : Writes (answer x refl places bytes relocs sites) (outcome.Accepted counts) places places' bytes bytes' relocs relocs' sites sites'
+    pub delivers : Writes (answer x refl places bytes relocs sites) (Ok (Some counts)) places places' bytes bytes' relocs relocs' sites sites'
     unfolding outcome_of afterwards relocation_numbers written_in
     delivers =
         let n : count_in x ≡ length (places_in (parts_to x (count_in x))) = sym (places_length x (count_in x)) in
@@ -143,13 +146,13 @@ module _ (x : Inputs) where
     unfolding listed_answer ask unless pick
     no_lists l = rw l
 
-    module _ (l : lists_ok x.functions x.rows x.landings x.pairs ≡ true) {q : declared.Question}
+    module _ (l : lists_ok x.functions x.rows x.landings x.pairs ≡ true) {q : Asked}
         (k : q ≡ question_of (per_function (dwarf_asks x.section x.machine.word) 0 (each (asked_in x.section x.functions x.rows x.pairs) 0 (count_in x)))) where
-      pub no_function : {i j : ℕ} → q ≡ No i j → listed ≡ refused i j
+      pub no_function : {r : Refusal} → q ≡ Err r → listed ≡ refused r.number r.position
       unfolding listed_answer dwarf_answer ask unless pick
       no_function n = rw (l, asks_are) (no_decides _ _ (sym k ∙ n))
 
-      pub all_yes : q ≡ Yes → listed ≡ fitting r (written_in (parts_to x (count_in x)))
+      pub all_yes : q ≡ Ok tt → listed ≡ fitting r (written_in (parts_to x (count_in x)))
       unfolding listed_answer dwarf_answer ask unless pick
       all_yes y = rw (l, asks_are, said_yes _ (sym k ∙ y)) (ap (fitting r) (written_parts x))
 

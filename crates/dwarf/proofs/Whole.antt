@@ -10,10 +10,11 @@ use mir.Facts.{yes_and}
 use Rattle.format.specs.Prelude.{all, each}
 use Rattle.format.specs.declared.Machine.{Machine}
 use Rattle.format.specs.declared.Section.{Section}
-use Rattle.format.specs.declared.Outcome.{Outcome}
-use Rattle.format.specs.declared.Outcome.TheVariants as outcome
-use Rattle.format.specs.declared.Question as declared
-use Rattle.format.specs.declared.Question.TheVariants.{Yes, No}
+use Rattle.format.specs.Coded.{Outcome}
+use Rattle.std.specs.Prelude.{Some, None, Ok, Err}
+use Rattle.format.specs.Coded.{refusal}
+use Rattle.format.specs.Coded.{Asked}
+use Rattle.format.specs.declared.Refusal.{Refusal}
 use Rattle.format.specs.Machine.{machine_of, machine_ok, is_word_size}
 use Rattle.format.specs.Lists.{function_ok_at, all_in, lists_ok}
 use Rattle.format.specs.Questions.{Question, and_then, dwarf_asks, per_function, Given, Room, fitting, dwarf_given, room_in}
@@ -74,9 +75,9 @@ module _ (x : Inputs) (fit : MachineFits x.machine) (b : lists_ok x.functions x.
         asked = rw z at (per_at (dwarf_asks x.section x.machine.word) (asked_in x.section x.functions x.rows x.pairs) 0 (count_in x) k h e);
       }
 
-  pub cleared_is : {q : declared.Question}
+  pub cleared_is : {q : Asked}
       → q ≡ question_of (per_function (dwarf_asks x.section x.machine.word) 0 (each (asked_in x.section x.functions x.rows x.pairs) 0 (count_in x)))
-      → q ≡ Yes → Cleared x
+      → q ≡ Ok tt → Cleared x
   cleared_is k y = cleared x fit (all_counted x.functions x.rows x.landings x.pairs (is_yes_lem b)) (passed (said_yes _ (sym k ∙ y)))
 
 -- question 13 of the lists is that of the functions, behind that of the sums
@@ -99,7 +100,7 @@ module _ (x : Inputs) (few : T (sums_ok x.functions)) (p : (k : ℕ) → k < cou
       lists_is x.functions x.rows x.landings x.pairs
       ∙ is_true _ (yes_and (sums_ok x.functions) _ few (all_held (function_ok_at x.functions x.rows x.landings x.pairs) 0 (count_in x) (λ k h. let z : k ≡ 0 + k = omega arith in rw z at (p k h).listed)))
 
-  pub asked_passed : Yes ≡ question_of (per_function (dwarf_asks x.section x.machine.word) 0 (each (asked_in x.section x.functions x.rows x.pairs) 0 (count_in x)))
+  pub asked_passed : Ok tt ≡ question_of (per_function (dwarf_asks x.section x.machine.word) 0 (each (asked_in x.section x.functions x.rows x.pairs) 0 (count_in x)))
   unfolding question_of
   asked_passed =
       rw (per_all (dwarf_asks x.section x.machine.word) (asked_in x.section x.functions x.rows x.pairs) 0 (count_in x)
@@ -109,7 +110,7 @@ module _ (x : Inputs) (few : T (sums_ok x.functions)) (p : (k : ℕ) → k < cou
 
 module _ (s : Section) (g : Given) (places bytes relocs sites : List ℕ) where
   pub says_11 : machine_ok g.machine ≡ false
-      → Writes (dwarf_given s g (room_in places bytes relocs sites)) (outcome.Refused 11 0) places places bytes bytes relocs relocs sites sites
+      → Writes (dwarf_given s g (room_in places bytes relocs sites)) (Err (refusal 11 0)) places places bytes bytes relocs relocs sites sites
   says_11 n = rw (no_machine s g (room_in places bytes relocs sites) n) (unchanged 11 0 places bytes relocs sites)
 
   pub says_listed : machine_ok g.machine ≡ true → {m : Machine} → m ≡ machine_of g.machine
@@ -126,18 +127,18 @@ module _ (x : Inputs) (places bytes relocs sites : List ℕ) where
   Answers r places' bytes' relocs' sites' =
       Writes (listed_answer x.section x.machine x.functions x.rows x.landings x.pairs room) r places places' bytes bytes' relocs relocs' sites sites'
 
-  pub says_13 : lists_ok x.functions x.rows x.landings x.pairs ≡ false → Answers (outcome.Refused 13 0) places bytes relocs sites
+  pub says_13 : lists_ok x.functions x.rows x.landings x.pairs ≡ false → Answers (Err (refusal 13 0)) places bytes relocs sites
   says_13 n = rw (no_lists x room n) (unchanged 13 0 places bytes relocs sites)
 
-  pub no_sums : sums_ok x.functions ≡ false → Answers (outcome.Refused 13 0) places bytes relocs sites
+  pub no_sums : sums_ok x.functions ≡ false → Answers (Err (refusal 13 0)) places bytes relocs sites
   no_sums n = says_13 (lists_is x.functions x.rows x.landings x.pairs ∙ rw n)
 
-  module _ (b : lists_ok x.functions x.rows x.landings x.pairs ≡ true) {q : declared.Question}
+  module _ (b : lists_ok x.functions x.rows x.landings x.pairs ≡ true) {q : Asked}
       (k : q ≡ question_of (per_function (dwarf_asks x.section x.machine.word) 0 (each (asked_in x.section x.functions x.rows x.pairs) 0 (count_in x)))) where
-    pub says_no : {i j : ℕ} → q ≡ No i j → Answers (outcome.Refused i j) places bytes relocs sites
-    says_no {i} {j} n = rw (no_function x room b k n) (unchanged i j places bytes relocs sites)
+    pub says_no : {r : Refusal} → q ≡ Err r → Answers (Err r) places bytes relocs sites
+    says_no {r} n = rw (no_function x room b k n) (unchanged r.number r.position places bytes relocs sites)
 
-    pub says_all : q ≡ Yes → {r : Outcome} {places' bytes' relocs' sites' : List ℕ}
+    pub says_all : q ≡ Ok tt → {r : Outcome} {places' bytes' relocs' sites' : List ℕ}
         → Writes (fitting room (written_in (parts_to x (count_in x)))) r places places' bytes bytes' relocs relocs' sites sites'
         → Answers r places' bytes' relocs' sites'
     says_all y d = rw (all_yes x room b k y) d

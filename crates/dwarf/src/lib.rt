@@ -25,7 +25,7 @@ ghost use Rattle.records.specs.Stepped.{rows_in};
 ghost use Rattle.dwarf.specs.Surveys.{rows_size, FunctionSurveyed, AllSurveyed};
 ghost use Rattle.dwarf.specs.Pieces.{front_in, reloc_numbers, part_in};
 
-use format::{Counts, Machine, Outcome, Question, Section};
+use format::{Counts, Machine, Refusal, Section};
 use header_keys::{Kind, kind_of, taken};
 use headers::{header, header_relocs, header_relocs_count, header_size, padding};
 use lists::{Extent, extent_at, functions_ok, machine_of, machine_ok, outline_ok, sums_ok};
@@ -204,45 +204,62 @@ fn pairs_ok(e: Extent, pairs: &[u64]) -> bool
 }
 
 // Questions 21 to 25 of function k, as the section takes it.
-fn dwarf_asks(s: Section, word: u64, k: usize, e: Extent, rows: &[u64], pairs: &[u64]) -> Question
+fn dwarf_asks(
+    s: Section,
+    word: u64,
+    k: usize,
+    e: Extent,
+    rows: &[u64],
+    pairs: &[u64],
+) -> Result<(), Refusal>
     requires { T (is_word_size word) × Askable e rows.now pairs.now }
     ensures { result ≡ question_of (dwarf_asks s word k (meant e rows.now [] pairs.now)) }
 {
     if !size_ok(s, word, e.length) {
-        return Question::No(21, k as u64);
+        return Err(Refusal {
+            number: 21,
+            position: k as u64,
+        });
     }
     if !encodings_ok(word, e) {
-        return Question::No(22, k as u64);
+        return Err(Refusal {
+            number: 22,
+            position: k as u64,
+        });
     }
     let fine = lines_fine(word, rows, e.rows_at, e.rows);
     if !steps_asked(fine, rows, e.rows_at, e.rows) {
-        return Question::No(23, k as u64);
+        return Err(Refusal {
+            number: 23,
+            position: k as u64,
+        });
     }
     if !whole_asked(fine, word, rows, e.rows_at, e.rows) {
-        return Question::No(24, k as u64);
+        return Err(Refusal {
+            number: 24,
+            position: k as u64,
+        });
     }
     if !pairs_ok(e, pairs) {
-        return Question::No(25, k as u64);
+        return Err(Refusal {
+            number: 25,
+            position: k as u64,
+        });
     }
-    Question::Yes
+    Ok(())
 }
 
 // Questions 21 to 25, function by function.
-fn all_asks(s: Section, word: u64, fs: &[u64], rows: &[u64], pairs: &[u64]) -> Question
+fn all_asks(s: Section, word: u64, fs: &[u64], rows: &[u64], pairs: &[u64]) -> Result<(), Refusal>
     requires { T (is_word_size word) × AllAskable s fs.now rows.now pairs.now }
     ensures { result ≡ question_of (per_function (dwarf_asks s word) 0 (each (asked_in s fs.now rows.now pairs.now) 0 (count function_stride fs.now))) }
 {
     let n = fs.len() / lists::FUNCTION_STRIDE;
-    let mut k = 0;
-    while k < n {
+    for k in 0..n {
         let e = taken(s, extent_at(fs, k));
-        let q = dwarf_asks(s, word, k, e, rows, pairs);
-        let Question::Yes = q else {
-            return q;
-        };
-        k += 1;
+        dwarf_asks(s, word, k, e, rows, pairs)?;
     }
-    Question::Yes
+    Ok(())
 }
 
 // ---- the sizing pass
@@ -561,7 +578,7 @@ fn counts(n: usize, t: Table) -> Counts
 }
 
 // Questions 51 to 54: n header places and t fit the lists that are lent, of `places` elements and as many as `lent` says.
-fn room(n: usize, t: Table, places: usize, lent: Table) -> Question
+fn room(n: usize, t: Table, places: usize, lent: Table) -> Result<(), Refusal>
     ensures { result ≡ question_of (room_for (counts_of n t) (counts_of places lent)) }
 {
     lists::room(counts(n, t), counts(places, lent))
@@ -736,7 +753,7 @@ fn stored(
     out: &mut [u8],
     relocs: &mut [u64],
     sites: &mut [u8],
-) -> Outcome
+) -> Result<Option<Counts>, Refusal>
     requires { Cleared (inputs s m fs.now rows.now landings.now pairs.now) × Holds (inputs s m fs.now rows.now landings.now pairs.now) (count function_stride fs.now) places.old out.old relocs.old sites.old × Owned s m fs.now rows.now (count function_stride fs.now) owners.now }
     ensures { Writes (fitting (room_in places.old out.old relocs.old sites.old) (written_in (parts_to (inputs s m fs.now rows.now landings.now pairs.now) (count function_stride fs.now)))) result places.old places.new out.old out.new relocs.old relocs.new sites.old sites.new }
 {
@@ -744,12 +761,12 @@ fn stored(
     let t = store(
         s, m, fs, rows, landings, pairs, owners, places, out, relocs, sites,
     );
-    Outcome::Accepted(Counts {
+    Ok(Some(Counts {
         places: n as u64,
         bytes: t.bytes as u64,
         relocations: (t.relocations / relocs::RELOCATION_STRIDE) as u64,
         sites: t.sites as u64,
-    })
+    }))
 }
 
 // The functions written where there is room for t, which stands behind them.
@@ -766,7 +783,7 @@ fn roomed(
     out: &mut [u8],
     relocs: &mut [u64],
     sites: &mut [u8],
-) -> Outcome
+) -> Result<Option<Counts>, Refusal>
     requires { Cleared (inputs s m fs.now rows.now landings.now pairs.now) × Owned s m fs.now rows.now (count function_stride fs.now) owners.now × (t ≡ totals_in (parts_to (inputs s m fs.now rows.now landings.now pairs.now) (count function_stride fs.now))) }
     ensures { Writes (fitting (room_in places.old out.old relocs.old sites.old) (written_in (parts_to (inputs s m fs.now rows.now landings.now pairs.now) (count function_stride fs.now)))) result places.old places.new out.old out.new relocs.old relocs.new sites.old sites.new }
 {
@@ -776,10 +793,7 @@ fn roomed(
         relocations: relocs.len(),
         sites: sites.len(),
     };
-    let q = room(n, t, places.len(), lent);
-    if let Question::No(number, position) = q {
-        return Outcome::Refused(number, position);
-    }
+    room(n, t, places.len(), lent)?;
     stored(
         s, m, fs, rows, landings, pairs, owners, places, out, relocs, sites,
     )
@@ -801,7 +815,7 @@ fn fitted(
     out: &mut [u8],
     relocs: &mut [u64],
     sites: &mut [u8],
-) -> Outcome
+) -> Result<Option<Counts>, Refusal>
     requires { Cleared (inputs s m fs.now rows.now landings.now pairs.now) × Unused (count function_stride fs.now) heads.old links.old owners.old }
     ensures { Writes (fitting (room_in places.old out.old relocs.old sites.old) (written_in (parts_to (inputs s m fs.now rows.now landings.now pairs.now) (count function_stride fs.now)))) result places.old places.new out.old out.new relocs.old relocs.new sites.old sites.new }
 {
@@ -812,8 +826,7 @@ fn fitted(
         relocations: relocs.len(),
         sites: sites.len(),
     };
-    let q = room(n, most(fs), places.len(), lent);
-    if let Question::No(_, _) = q {
+    if room(n, most(fs), places.len(), lent).is_err() {
         let t = sizes(s, m, fs, rows, landings, pairs, owners);
         return roomed(
             s, m, fs, rows, landings, pairs, owners, t, places, out, relocs, sites,
@@ -839,17 +852,17 @@ fn asked(
     out: &mut [u8],
     relocs: &mut [u64],
     sites: &mut [u8],
-) -> Outcome
+) -> Result<Option<Counts>, Refusal>
     requires { MachineFits m × T (sums_ok fs.now) × Unused (count function_stride fs.now) heads.old links.old owners.old }
     ensures { Writes (listed_answer s m fs.now rows.now landings.now pairs.now (room_in places.old out.old relocs.old sites.old)) result places.old places.new out.old out.new relocs.old relocs.new sites.old sites.new }
 {
     if !functions_ok(fs, rows, landings, pairs, fs.len() / lists::FUNCTION_STRIDE) {
-        return Outcome::Refused(13, 0);
+        return Err(Refusal {
+            number: 13,
+            position: 0,
+        });
     }
-    let q = all_asks(s, m.word, fs, rows, pairs);
-    if let Question::No(number, position) = q {
-        return Outcome::Refused(number, position);
-    }
+    all_asks(s, m.word, fs, rows, pairs)?;
     fitted(
         s, m, fs, rows, landings, pairs, heads, links, owners, places, out, relocs, sites,
     )
@@ -870,11 +883,7 @@ fn unchain(heads: &mut [u16])
 fn ample(fs: &[u64], places: usize, lent: Table) -> bool
     requires { Few fs.now }
 {
-    let q = room(fs.len() / lists::FUNCTION_STRIDE, most(fs), places, lent);
-    let Question::Yes = q else {
-        return false;
-    };
-    true
+    room(fs.len() / lists::FUNCTION_STRIDE, most(fs), places, lent).is_ok()
 }
 
 // The one pass, where sizes are needed.
@@ -915,7 +924,7 @@ fn answered(
     out: &mut [u8],
     relocs: &mut [u64],
     sites: &mut [u8],
-) -> Outcome
+) -> Result<Option<Counts>, Refusal>
     requires { MachineFits m × T (sums_ok fs.now) × Unused (count function_stride fs.now) heads.old links.old owners.old }
     ensures { Writes (listed_answer s m fs.now rows.now landings.now pairs.now (room_in places.old out.old relocs.old sites.old)) result places.old places.new out.old out.new relocs.old relocs.new sites.old sites.new }
 {
@@ -961,7 +970,7 @@ fn deliver(
     out: &mut [u8],
     relocs: &mut [u64],
     sites: &mut [u8],
-) -> Outcome
+) -> Result<Option<Counts>, Refusal>
     requires { MachineFits m × T (sums_ok fs.now) }
     ensures { Writes (listed_answer s m fs.now rows.now landings.now pairs.now (room_in places.old out.old relocs.old sites.old)) result places.old places.new out.old out.new relocs.old relocs.new sites.old sites.new }
 {
@@ -1039,14 +1048,20 @@ pub fn dwarf(
     bytes: &mut [u8],
     relocations: &mut [u64],
     sites: &mut [u8],
-) -> Outcome
+) -> Result<Option<Counts>, Refusal>
     ensures { Writes (dwarf_given s (given_of machine.now functions.now rows.now landings.now pairs.now) (room_in places.old bytes.old relocations.old sites.old)) result places.old places.new bytes.old bytes.new relocations.old relocations.new sites.old sites.new }
 {
     if !machine_ok(machine) {
-        return Outcome::Refused(11, 0);
+        return Err(Refusal {
+            number: 11,
+            position: 0,
+        });
     }
     if !sums_ok(functions) {
-        return Outcome::Refused(13, 0);
+        return Err(Refusal {
+            number: 13,
+            position: 0,
+        });
     }
     let m = machine_of(machine);
     deliver(

@@ -3,15 +3,28 @@ use mathlib.Core.Path.{◌≡◌, refl}
 use Prim.Native.Nat.{ℕ}
 use native.Mathlib.Omega.{arith}
 use mathlib.Core.Option.{Option, none, some}
-use Rattle.format.specs.declared.Question.{Question}
-use Rattle.format.specs.declared.Question.TheVariants as question
+use Rattle.format.specs.declared.Refusal.{Refusal}
+use Rattle.format.specs.Coded.{Asked}
+use Rattle.std.specs.Prelude.{Ok, Err, is_err}
+use mathlib.Core.Bool.{false}
+use Rattle.format.specs.Coded.{refusal}
 
 -- what a function that asks answers, by what the definition answers: yes, or the number and the position of the first no
-unfoldable pub question_of : Option (ℕ × ℕ) → Question
-question_of none = question.Yes
-question_of (some x) = question.No x.0 x.1
+unfoldable pub question_of : Option (ℕ × ℕ) → Asked
+question_of none = Ok tt
+question_of (some x) = Err (refusal x.0 x.1)
 
-pub said_yes : (o : Option (ℕ × ℕ)) → question_of o ≡ question.Yes → o ≡ none
+pub said_yes : (o : Option (ℕ × ℕ)) → question_of o ≡ Ok tt → o ≡ none
 unfolding question_of
 said_yes none e = refl
 said_yes (some r) e = let z : ◌≡◌ {A = ℕ} 0 1 = cc in absurd (omega arith)
+
+-- a no is the question's
+pub said_no : (o : Option (ℕ × ℕ)) {r : Refusal} → question_of o ≡ Err r → (x : ℕ × ℕ) × ((o ≡ some x) × (r ≡ refusal x.0 x.1))
+unfolding question_of
+said_no none e = let z : ◌≡◌ {A = ℕ} 0 1 = cc in absurd (omega arith)
+said_no (some x) e = (x, (refl, cc))
+
+pub no_error : (q : Asked) → is_err q ≡ false → q ≡ Ok tt
+no_error (Ok u) e = refl
+no_error (Err r) e = let z : ◌≡◌ {A = ℕ} 0 1 = cc in absurd (omega arith)

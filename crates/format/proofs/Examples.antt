@@ -11,10 +11,10 @@ use Rattle.format.specs.Put.{put}
 use Rattle.format.specs.Answers.{cfa_numbers, rule_numbers, bit, reading_numbers, outcome_numbers, outcome_of, afterwards, relocation_numbers}
 use Rattle.format.specs.declared.CfaRule.TheVariants.{Register as register}
 use Rattle.format.specs.declared.Rule.TheVariants.{Saved, Unstated as unstated, SameValue, InRegister}
-use Rattle.format.specs.declared.Reading.{Reading}
+use Rattle.format.specs.Coded.{Reading}
 use Rattle.format.specs.declared.CfaRule.{CfaRule}
 use Rattle.format.specs.declared.Rule.{Rule}
-use Rattle.format.specs.declared.Reading.TheVariants.{Answered, Refused as refusedBy}
+use Rattle.std.specs.Prelude.{Ok, Err}
 use Rattle.format.specs.CallSites.{site_bytes, sites_bytes, site_table, site_pad, site_added}
 use Rattle.format.specs.Headers.{implied, leads, ahead, others, leading, encoding_of, named_kind, kind_for, key_of, same_encoding, same_kind, same_rows, same_key, size_of, pointer_size, size_or0, pointer_bytes, pointer_reloc, padding, padded, entry, letters, augmentation, lsda_letter, augmentation_data, counted, header_data, header_id, data_factor, header_fields, header_bytes, pointer_place, kind_relocs, header_relocs}
 use Rattle.format.specs.Leb.{little, read_little, uleb_f, uleb, bits7, sleb_f, sleb, read_uleb_f, read_uleb, push, last7, read_sleb_f, fits64, read_sleb}
@@ -182,7 +182,7 @@ unfolding pick next after onward or_else all first each little read_little uleb_
 read_debug w k q p = read (get_or w 1 []) (get_or w 2 []) 1 8 k q p
 
 abbrev rules : CfaRule → Rule → Bool → Reading
-rules c r s = Answered (record { cfa = c; rule = r; signing = s })
+rules c r s = Ok (record { cfa = c; rule = r; signing = s })
 
 -- both functions push rbp (6) at 1 and take it for their frame at 4; the second is 11 bytes long
 reads : List Reading
@@ -193,8 +193,8 @@ reads =
 
 reads_are : reads
     ≡ rules (register 7 (pos 8)) unstated false ∷ rules (register 7 (pos 16)) (Saved (negsuc 15)) false
-    ∷ rules (register 6 (pos 16)) (Saved (negsuc 7)) false ∷ rules (register 7 (pos 16)) (Saved (negsuc 15)) false ∷ refusedBy 65
-    ∷ refusedBy 62 ∷ rules (register 6 (pos 16)) (Saved (negsuc 15)) false ∷ rules (register 7 (pos 16)) (Saved (negsuc 15)) false ∷ []
+    ∷ rules (register 6 (pos 16)) (Saved (negsuc 7)) false ∷ rules (register 7 (pos 16)) (Saved (negsuc 15)) false ∷ Err 65
+    ∷ Err 62 ∷ rules (register 6 (pos 16)) (Saved (negsuc 15)) false ∷ rules (register 7 (pos 16)) (Saved (negsuc 15)) false ∷ []
 unfolding reads read_eh read_debug two_functions_written two_functions_debug_lem landing_named_written
 reads_are = refl
 
@@ -220,7 +220,7 @@ damaged =
     ∷ read_debug ([] ∷ get_or two_functions_debug_lem 1 [] ∷ [] ∷ []) 0 6 0
     ∷ read (get_or two_functions_written 1 []) [] 0 3 0 6 0 ∷ []
 
-damaged_are : damaged ≡ refusedBy 61 ∷ refusedBy 64 ∷ refusedBy 63 ∷ refusedBy 63 ∷ refusedBy 11 ∷ []
+damaged_are : damaged ≡ Err 61 ∷ Err 64 ∷ Err 63 ∷ Err 63 ∷ Err 11 ∷ []
 unfolding damaged read_eh read_debug two_functions_written two_functions_debug_lem
 damaged_are = refl
 
@@ -231,7 +231,7 @@ damaged_are = refl
 answers : List (List ℕ)
 answers =
     reading_numbers (rules (register 7 (pos 16)) (Saved (negsuc 15)) true) ∷ reading_numbers (rules (register 7 (pos 8)) SameValue false)
-    ∷ reading_numbers (rules (register 7 (pos 8)) (InRegister 200) false) ∷ reading_numbers (refusedBy 65)
+    ∷ reading_numbers (rules (register 7 (pos 8)) (InRegister 200) false) ∷ reading_numbers (Err 65)
     ∷ outcome_numbers (outcome_of (relaxed_table 0 two_functions ample)) ∷ outcome_numbers (outcome_of (refused 24 1))
     ∷ afterwards relocation_numbers (relaxed_table 0 two_functions ample) (replicate 12 9) ∷ afterwards (λ w. w.places) (refused 24 1) (5 ∷ []) ∷ []
 

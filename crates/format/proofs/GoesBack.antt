@@ -10,7 +10,7 @@ use Rattle.format.specs.declared.Machine.{Machine}
 use Rattle.format.specs.declared.Row.TheVariants.{NegateRaState}
 use Rattle.format.specs.declared.CfaRule.TheVariants.{Unset}
 use Rattle.format.specs.declared.Rule.TheVariants as rule
-use Rattle.format.specs.declared.Reading.TheVariants.{Answered}
+use Rattle.std.specs.Prelude.{Ok}
 use Rattle.format.specs.Lists.{Function}
 use Rattle.format.specs.Headers.{leads, ahead, others, leading}
 use Rattle.format.specs.RowCheck.{in_order, rows_of, row_check}
@@ -27,11 +27,11 @@ unfolding row_check all ahead leads in_order rows_of pick
 checked = tt
 
 -- the run stops at the first row, which is past 0
-pub goes_back : (m : Machine) (q : ℕ) → answer q (run_rows m flips 0) ≡ Answered (record { cfa = Unset; rule = rule.Unstated; signing = false })
+pub goes_back : (m : Machine) (q : ℕ) → answer q (run_rows m flips 0) ≡ Ok (record { cfa = Unset; rule = rule.Unstated; signing = false })
 unfolding run_rows answer seen rules_for onward act_all leading others ahead leads blank while pick
 goes_back m q = refl
 
 -- the second row has an offset of at most 0
-pub goes_back_rules : (m : Machine) (q : ℕ) → seen q (rules_at m flips 0) ≡ Answered (record { cfa = Unset; rule = rule.Unstated; signing = true })
+pub goes_back_rules : (m : Machine) (q : ℕ) → seen q (rules_at m flips 0) ≡ Ok (record { cfa = Unset; rule = rule.Unstated; signing = true })
 unfolding seen rules_for negated rules_at entry_state apply_rows apply blank leading others ahead leads up_to pick
 goes_back_rules m q = refl

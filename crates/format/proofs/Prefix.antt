@@ -12,8 +12,8 @@ use Rattle.format.specs.Machine.{is_word_size}
 use Rattle.format.specs.declared.Rule.{Rule}
 use Rattle.format.specs.declared.Operation.{Operation}
 use Rattle.format.specs.declared.Operation.TheVariants.{Nop, Step, Does}
-use Rattle.format.specs.declared.Reading.{Reading}
-use Rattle.format.specs.declared.Reading.TheVariants.{Answered, Refused}
+use Rattle.format.specs.Coded.{Reading}
+use Rattle.std.specs.Prelude.{Ok, Err}
 use Rattle.format.specs.Rows.{read_operation}
 use Rattle.format.specs.Lists.{relocations_of}
 use Rattle.format.specs.Rules.{State, blank, act, seen, answer}
@@ -24,8 +24,8 @@ use Rattle.format.proofs.WalkBack.{onward_ext}
 -- ---- what is answered
 
 abbrev pub Answers : Reading → Type 0
-Answers (Answered a) = Unit
-Answers (Refused n) = ⊥
+Answers (Ok a) = Unit
+Answers (Err n) = ⊥
 
 abbrev Good : {A : Type 0} → Result A → Type 0
 Good (good a) = Unit

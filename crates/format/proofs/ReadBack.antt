@@ -10,8 +10,8 @@ use lib.Dec.{T, leb, eqb}
 use mir.Facts.{yes_and}
 use Rattle.format.specs.Prelude.{good, bad}
 use Rattle.format.specs.declared.Machine.{Machine}
-use Rattle.format.specs.declared.Reading.{Reading}
-use Rattle.format.specs.declared.Reading.TheVariants.{Answered, Refused}
+use Rattle.format.specs.Coded.{Reading}
+use Rattle.std.specs.Prelude.{Ok, Err}
 use Rattle.format.specs.declared.Rules.{Rules}
 use Rattle.format.specs.Machine.{machine_of, is_word_size}
 use Rattle.format.specs.Lists.{Function, Relocation, function_stride, count, numbers_of, relocations_of}
@@ -142,16 +142,16 @@ module _ (s : Section) (g : Given) (r : Room) (w : Written) (e : dwarf_written s
   refuses_given k p h check past =
       refuses (machine_of g.machine) (given_function g k) p (forward a k h) (rw (check_at a k h) at check) past
 
-  shortest_by : (k q p : ℕ) (o : Option Function) → get_elem? functions k ≡ o → (r : Rules) → read_back s g w k q p ≡ Answered r → shortest_back s g w k p ≡ true
+  shortest_by : (k q p : ℕ) (o : Option Function) → get_elem? functions k ≡ o → (r : Rules) → read_back s g w k q p ≡ Ok r → shortest_back s g w k p ≡ true
   unfolding machine functions answer
   shortest_by k q p none e r said =
-      let z : Refused 62 ≡ Answered r
+      let z : ◌≡◌ {A = Reading} (Err 62) (Ok r)
       = sym (read_in k q p ∙ ap (answer q) (section_past s machine functions a.machine a.functions a.bounded k p e)) ∙ said in
       let o : ◌≡◌ {A = ℕ} 0 1 = cc in absurd (omega arith)
   shortest_by k q p (some f) e r said = located_in k p ∙ section_shortest s machine functions a.machine a.functions a.bounded k f e p
 
   -- Whatever the reader answers of a section that was written, every number that it read is spelled shortest; relaxed functions in the list or not.
-  pub written_shortest : (k q p : ℕ) (r : Rules) → read_back s g w k q p ≡ Answered r → shortest_back s g w k p ≡ true
+  pub written_shortest : (k q p : ℕ) (r : Rules) → read_back s g w k q p ≡ Ok r → shortest_back s g w k p ≡ true
   written_shortest k q p r said = shortest_by k q p (get_elem? functions k) refl r said
 
 -- Demand 3. For every list that is accepted for DWARF output the entries' lengths tile the section. And for every function of it without

@@ -5,15 +5,15 @@ use mathlib.Core.List.{List}
 use Rattle.format.specs.Prelude.{Result, good, bad}
 use Rattle.format.specs.declared.CfaRule.{CfaRule}
 use Rattle.format.specs.declared.Rule.{Rule}
-use Rattle.format.specs.declared.Reading.{Reading}
-use Rattle.format.specs.declared.Reading.TheVariants.{Answered, Refused}
+use Rattle.format.specs.Coded.{Reading}
+use Rattle.std.specs.Prelude.{Ok, Err}
 use Rattle.format.specs.Rules.{State, rules_for, seen, answer}
 use Rattle.format.specs.Reader.{read}
 
 pub data Alike : Reading → Reading → Type 0 where
-  refused : (n : ℕ) → Alike (Refused n) (Refused n)
+  refused : (n : ℕ) → Alike (Err n) (Err n)
   answered : (c : CfaRule) (r r' : Rule) (signing : Bool)
-      → Alike (Answered (record { cfa = c; rule = r; signing = signing })) (Answered (record { cfa = c; rule = r'; signing = signing }))
+      → Alike (Ok (record { cfa = c; rule = r; signing = signing })) (Ok (record { cfa = c; rule = r'; signing = signing }))
 
 answers_alike : (q q' : ℕ) (x : Result State) → Alike (answer q x) (answer q' x)
 unfolding answer seen rules_for

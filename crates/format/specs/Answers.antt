@@ -6,10 +6,11 @@ use Rattle.format.specs.declared.CfaRule.{CfaRule}
 use Rattle.format.specs.declared.CfaRule.TheVariants.{Unset, Register}
 use Rattle.format.specs.declared.Rule.{Rule}
 use Rattle.format.specs.declared.Rule.TheVariants.{Unstated, Undefined, Saved, SameValue, InRegister}
-use Rattle.format.specs.declared.Reading.{Reading}
-use Rattle.format.specs.declared.Reading.TheVariants as reading
-use Rattle.format.specs.declared.Outcome.{Outcome}
-use Rattle.format.specs.declared.Outcome.TheVariants as outcome
+use Rattle.format.specs.Coded.{Reading}
+use Rattle.std.specs.Prelude.{Ok, Err}
+use Rattle.format.specs.Coded.{Outcome}
+use Rattle.std.specs.Prelude.{Some, None, Ok, Err}
+use Rattle.format.specs.Coded.{refusal}
 use Rattle.format.specs.Writer.{Written}
 use Rattle.format.specs.Lists.{numbers_of}
 use Rattle.format.specs.Put.{put}
@@ -34,13 +35,13 @@ bit false = 0
 bit true = 1
 
 unfoldable pub reading_numbers : Reading → List ℕ
-reading_numbers (reading.Answered a) = 0 ∷ (cfa_numbers a.cfa ++ (rule_numbers a.rule ++ (bit a.signing ∷ [])))
-reading_numbers (reading.Refused n) = n ∷ 0 ∷ 0 ∷ 0 ∷ 0 ∷ 0 ∷ 0 ∷ []
+reading_numbers (Ok a) = 0 ∷ (cfa_numbers a.cfa ++ (rule_numbers a.rule ++ (bit a.signing ∷ [])))
+reading_numbers (Err n) = n ∷ 0 ∷ 0 ∷ 0 ∷ 0 ∷ 0 ∷ 0 ∷ []
 
 -- and last whether every number that was read is spelled shortest (document 02, W-206)
 unfoldable pub mark_of : Reading → Bool → ℕ
-mark_of (reading.Answered a) shortest = bit shortest
-mark_of (reading.Refused n) shortest = 0
+mark_of (Ok a) shortest = bit shortest
+mark_of (Err n) shortest = 0
 
 unfoldable pub marked_numbers : Reading → (shortest : Bool) → List ℕ
 marked_numbers r shortest = reading_numbers r ++ (mark_of r shortest ∷ [])
@@ -48,16 +49,16 @@ marked_numbers r shortest = reading_numbers r ++ (mark_of r shortest ∷ [])
 -- ---- the writers: number (0: accepted), position, and the counts of header places (or markers), bytes, relocations and call-site (or x64 info) bytes
 
 unfoldable pub outcome_numbers : Outcome → List ℕ
-outcome_numbers (outcome.Accepted c) = 0 ∷ 0 ∷ c.places ∷ c.bytes ∷ c.relocations ∷ c.sites ∷ []
-outcome_numbers outcome.Empty = 0 ∷ 0 ∷ 0 ∷ 0 ∷ 0 ∷ 0 ∷ []
-outcome_numbers (outcome.Refused n k) = n ∷ k ∷ 0 ∷ 0 ∷ 0 ∷ 0 ∷ []
+outcome_numbers (Ok (Some c)) = 0 ∷ 0 ∷ c.places ∷ c.bytes ∷ c.relocations ∷ c.sites ∷ []
+outcome_numbers (Ok None) = 0 ∷ 0 ∷ 0 ∷ 0 ∷ 0 ∷ 0 ∷ []
+outcome_numbers (Err r) = r.number ∷ r.position ∷ 0 ∷ 0 ∷ 0 ∷ 0 ∷ []
 
 -- what a writer's function answers, by what the definition answers
 unfoldable pub outcome_of : Answer → Outcome
-outcome_of (refused n k) = outcome.Refused n k
-outcome_of empty = outcome.Empty
+outcome_of (refused n k) = Err (refusal n k)
+outcome_of empty = Ok None
 outcome_of (accepted w) =
-    outcome.Accepted (record { places = length w.places; bytes = length w.bytes; relocations = length w.relocations; sites = length w.sites })
+    Ok (Some (record { places = length w.places; bytes = length w.bytes; relocations = length w.relocations; sites = length w.sites }))
 
 -- what a lent buffer holds at exit: on acceptance the result at its front and the rest as it was; else it is unchanged
 unfoldable pub afterwards : (Written → List ℕ) → Answer → List ℕ → List ℕ

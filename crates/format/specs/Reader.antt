@@ -8,7 +8,7 @@ use Rattle.format.specs.Machine.{is_word_size}
 use Rattle.format.specs.declared.Operation.{Operation}
 use Rattle.format.specs.declared.Operation.TheVariants.{Nop, Step, Does}
 use Rattle.format.specs.declared.Rule.{Rule}
-use Rattle.format.specs.declared.Reading.{Reading}
+use Rattle.format.specs.Coded.{Reading}
 use Rattle.format.specs.Rows.{read_register, read_operation, same_offset}
 use Rattle.format.specs.Lists.{Relocation, relocations_of}
 use Rattle.format.specs.Constants.{pcrel_sdata4}

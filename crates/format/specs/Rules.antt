@@ -10,8 +10,8 @@ use Rattle.format.specs.declared.CfaRule.TheVariants.{Unset, Register}
 use Rattle.format.specs.declared.Rule.{Rule}
 use Rattle.format.specs.declared.Rule.TheVariants as rule
 use Rattle.format.specs.declared.Rules.{Rules}
-use Rattle.format.specs.declared.Reading.{Reading}
-use Rattle.format.specs.declared.Reading.TheVariants.{Answered, Refused}
+use Rattle.format.specs.Coded.{Reading}
+use Rattle.std.specs.Prelude.{Ok, Err}
 use Rattle.format.specs.Rows.{RowAt}
 use Rattle.format.specs.Lists.{Function}
 use Rattle.format.specs.Headers.{leading, others}
@@ -97,7 +97,7 @@ unfoldable pub rules_for : ℕ → AllRules → Rules
 rules_for q a = record { cfa = a.cfa; rule = a.rules q; signing = a.signing }
 
 unfoldable pub seen : ℕ → State → Reading
-seen q s = Answered (rules_for q s.current)
+seen q s = Ok (rules_for q s.current)
 
 -- ---- what the reader refuses
 
@@ -136,4 +136,4 @@ act header initial r s = unless_refused (refusal header r s) (apply initial r s)
 -- what the reader answers of register q
 unfoldable pub answer : ℕ → Result State → Reading
 answer q (good s) = seen q s
-answer q (bad n) = Refused n
+answer q (bad n) = Err n

@@ -108,13 +108,6 @@ pub struct Rules {
     pub signing: bool,
 }
 
-// What the reader answers: the rules, or a question's number.
-#[derive(Clone, Copy)]
-pub enum Reading {
-    Answered(Rules),
-    Refused(u64),
-}
-
 // The DWARF sections: ELF's eh_frame and ELF's debug_frame.
 #[derive(Clone, Copy)]
 pub enum Section {
@@ -130,19 +123,12 @@ pub enum Operation {
     Does(Row),
 }
 
-// A question answered by no: its number and the function's position.
-#[derive(Clone, Copy)]
-pub enum Question {
-    Yes,
-    No(u64, u64),
-}
-
-// What a writer wrote, by the counts of its results; or nothing, in a format that has no table; or a refusal.
-#[derive(Clone, Copy)]
-pub enum Outcome {
-    Accepted(Counts),
-    Empty,
-    Refused(u64, u64),
+// A question answered by no: its number and the function's position. A writer answers `Result<Option<Counts>, Refusal>`: what it
+// wrote, by the counts of its results, or nothing, in a format that has no table.
+#[derive(Clone, Copy, PartialEq, Eq)]
+pub struct Refusal {
+    pub number: u64,
+    pub position: u64,
 }
 
 // Elements of header places (or markers), bytes, relocations (of five numbers), bytes of call sites (or x64 info).

@@ -14,7 +14,7 @@ use Rattle.format.specs.declared.CfaRule.TheVariants.{Unset, Register}
 use Rattle.format.specs.declared.Rule.{Rule}
 use Rattle.format.specs.declared.Rule.TheVariants as rule
 use Rattle.format.specs.declared.Rules.{Rules}
-use Rattle.format.specs.declared.Reading.TheVariants.{Answered}
+use Rattle.std.specs.Prelude.{Ok, Err}
 use Rattle.format.specs.Rules.{State, rules_for}
 use Rattle.format.proofs.Choice.{either}
 use Rattle.format.proofs.Wrote.{Wrote}
@@ -46,16 +46,16 @@ take-front [] ys = refl
 take-front (x ∷ xs) ys = ap (λ (l : List ℕ). x ∷ l) (take-front xs ys)
 
 -- a line has no mark
-line_is : (at : ℕ) (n : Numbers) (a : Rules) → read_numbers n ≡ marked_numbers (Answered a) false
+line_is : (at : ℕ) (n : Numbers) (a : Rules) → read_numbers n ≡ marked_numbers (Ok a) false
     → at ∷ n.frame ∷ n.frame_register ∷ n.frame_offset ∷ n.rule ∷ n.rule_value ∷ n.signing ∷ [] ≡ line_numbers at a
 unfolding reading_numbers marked_numbers line_numbers
 line_is at n a e =
-    let front : take 7 (marked_numbers (Answered a) false) ≡ reading_numbers (Answered a) =
-    subst (λ (k : ℕ). take k (marked_numbers (Answered a) false) ≡ reading_numbers (Answered a)) (line_length 0 a) (take-front (reading_numbers (Answered a)) _) in
+    let front : take 7 (marked_numbers (Ok a) false) ≡ reading_numbers (Ok a) =
+    subst (λ (k : ℕ). take k (marked_numbers (Ok a) false) ≡ reading_numbers (Ok a)) (line_length 0 a) (take-front (reading_numbers (Ok a)) _) in
     ap (λ (l : List ℕ). at ∷ drop 1 (take 7 l)) e ∙ ap (λ (l : List ℕ). at ∷ drop 1 l) front
 
 -- the numbers of a reading, stored behind an offset
-pub line_wrote : {xs ys : List ℕ} {p r : ℕ} (at : ℕ) (n : Numbers) (a : Rules) → read_numbers n ≡ marked_numbers (Answered a) false
+pub line_wrote : {xs ys : List ℕ} {p r : ℕ} (at : ℕ) (n : Numbers) (a : Rules) → read_numbers n ≡ marked_numbers (Ok a) false
     → Wrote xs ys p r (at ∷ n.frame ∷ n.frame_register ∷ n.frame_offset ∷ n.rule ∷ n.rule_value ∷ n.signing ∷ [])
     → Wrote xs ys p r (line_numbers at a)
 line_wrote at n a e w = rw (sym (line_is at n a e)) w

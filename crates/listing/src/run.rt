@@ -9,7 +9,7 @@ ghost use Rattle.listing.specs.Lines.{lines_of, line_numbers, Lists};
 ghost use Rattle.listing.specs.Changes.{stack_use, cfa_is, rule_is, offset_is, register_is, changed, Changes};
 
 use crate::Listed;
-use format::{CfaRule, Operation, Reading, Row, Rule, Rules};
+use format::{CfaRule, Operation, Row, Rule, Rules};
 use operations::Decoded;
 use operations::fields::Position;
 
@@ -163,7 +163,7 @@ fn line(out: &mut [u64], at: usize, offset: u64, rules: Rules) -> usize
     requires { at + 7 ≤ length out.old }
     ensures { Wrote out.old out.new at result (line_numbers offset rules) }
 {
-    let n = unwind::numbers_of(Reading::Answered(rules), false);
+    let n = unwind::numbers_of(Ok(rules), false);
     let a = relocs::number(out, at, offset);
     let b = relocs::number(out, a, n.frame);
     let c = relocs::number(out, b, n.frame_register);

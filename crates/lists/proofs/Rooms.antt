@@ -1,14 +1,14 @@
 -- What is answered and what stays, by what a question was answered; and what a yes to 51 to 54 says.
-use mathlib.Core.Path.{◌≡◌, refl}
+use mathlib.Core.Path.{◌≡◌, refl, sym}
 use Prim.Native.Nat.{ℕ, ◌≤◌}
 use native.Mathlib.Omega.{arith}
 use mathlib.Core.Option.{none, some}
 use mathlib.Core.List.{List}
 use lib.Dec.{leb, leb→le}
 use Rattle.format.specs.declared.Counts.{Counts}
-use Rattle.format.specs.declared.Question.TheVariants.{Yes, No}
-use Rattle.format.specs.declared.Outcome.{Outcome}
-use Rattle.format.specs.declared.Outcome.TheVariants as outcome
+use Rattle.std.specs.Prelude.{Ok, Err}
+use Rattle.format.specs.declared.Refusal.{Refusal}
+use Rattle.format.specs.Coded.{refusal, Outcome}
 use Rattle.format.specs.Questions.{Question, Answer, unless, ask, and_then}
 use Rattle.format.specs.Answers.{outcome_of, afterwards, Writes}
 use Rattle.format.proofs.Accepted.{asked as said, both}
@@ -18,16 +18,15 @@ use Rattle.lists.specs.Room.{room_for}
 -- ---- a question
 
 module _ {places bytes relocations sites : List ℕ} where
-  pub stays : (q : Question) (x : Answer) {n k : ℕ} → question_of q ≡ No n k
-      → Writes (unless q x) (outcome.Refused n k) places places bytes bytes relocations relocations sites sites
+  pub stays : (q : Question) (x : Answer) {r : Refusal} → question_of q ≡ Err r
+      → Writes (unless q x) (Err r) places places bytes bytes relocations relocations sites sites
   unfolding unless question_of outcome_of afterwards
   stays none x e = let z : ◌≡◌ {A = ℕ} 0 1 = cc in absurd (omega arith)
-  stays (some r) x {n} {k} e =
-      let a : n ≡ r.0 = cc in
-      let b : k ≡ r.1 = cc in
-      record { outcome = rw (a, b); placed = refl; stored = refl; related = refl; sited = refl }
+  stays (some q) x {r} e =
+      let h : r ≡ refusal q.0 q.1 = cc in
+      record { outcome = rw h refl; placed = refl; stored = refl; related = refl; sited = refl }
 
-pub goes : {x : Answer} {o : Outcome} {places places' bytes bytes' relocations relocations' sites sites' : List ℕ} (q : Question) → question_of q ≡ Yes
+pub goes : {x : Answer} {o : Outcome} {places places' bytes bytes' relocations relocations' sites sites' : List ℕ} (q : Question) → question_of q ≡ Ok tt
     → Writes x o places places' bytes bytes' relocations relocations' sites sites'
     → Writes (unless q x) o places places' bytes bytes' relocations relocations' sites sites'
 unfolding unless

@@ -12,7 +12,7 @@ ghost use Rattle.lists.specs.Room.{room_for};
 ghost use Rattle.lists.specs.Parts.{ranges_ok_at, named_ok_at, relaxed_ok_at, outline_ok_at, sums_ok};
 ghost use Rattle.lists.specs.Extents.{extent_at, landing_in, pair_in, prologue_in};
 
-use format::{Counts, Machine, Question, Seh};
+use format::{Counts, Machine, Refusal, Seh};
 use numbers::{codes, machine};
 use rows::{ROW_STRIDE, row_ok};
 
@@ -635,20 +635,32 @@ pub fn codes_ok(fs: &[u64], codes: &[u64]) -> bool
 // ---- room
 
 // Questions 51 to 54: what is needed fits what is lent, in the elements of the lent lists.
-pub fn room(needed: Counts, lent: Counts) -> Question
+pub fn room(needed: Counts, lent: Counts) -> Result<(), Refusal>
     ensures { result ≡ question_of (room_for needed lent) }
 {
     if lent.places < needed.places {
-        return Question::No(51, 0);
+        return Err(Refusal {
+            number: 51,
+            position: 0,
+        });
     }
     if lent.bytes < needed.bytes {
-        return Question::No(52, 0);
+        return Err(Refusal {
+            number: 52,
+            position: 0,
+        });
     }
     if lent.relocations < needed.relocations {
-        return Question::No(53, 0);
+        return Err(Refusal {
+            number: 53,
+            position: 0,
+        });
     }
     if lent.sites < needed.sites {
-        return Question::No(54, 0);
+        return Err(Refusal {
+            number: 54,
+            position: 0,
+        });
     }
-    Question::Yes
+    Ok(())
 }

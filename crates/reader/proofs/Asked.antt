@@ -10,7 +10,7 @@ use borrow.Author.Tests.{le-leb, lt-leb}
 use mir.Facts.{and_yes}
 use Rattle.format.specs.Prelude.{pick, Result, bad, onward}
 use Rattle.format.specs.Machine.{is_word_size}
-use Rattle.format.specs.declared.Reading.TheVariants.{Refused}
+use Rattle.std.specs.Prelude.{Ok, Err}
 use Rattle.format.specs.Lists.{relocations_of}
 use Rattle.format.specs.Rules.{State, blank, answer}
 use Rattle.format.specs.Shortest.{run_short}
@@ -88,7 +88,7 @@ module _ (s : List ℕ) (l : Located) where
 
   -- 64, 65, and the run
   module _ (q p : ℕ) where
-    pub not_in_section : in_section s l ≡ false → Refused 64 ≡ rules_from s l q p
+    pub not_in_section : in_section s l ≡ false → Err 64 ≡ rules_from s l q p
     unfolding rules_from pick answer
     not_in_section e = rw e refl
 
@@ -97,7 +97,7 @@ module _ (s : List ℕ) (l : Located) where
       unfolding rules_from pick
       run_from = rw e refl
 
-      pub past_the_end : l.size ≤ p → Refused 65 ≡ rules_from s l q p
+      pub past_the_end : l.size ≤ p → Err 65 ≡ rules_from s l q p
       unfolding run_to answer
       past_the_end h = sym (run_from ∙ ap (answer q) (if-gt (suc p) l.size _ (bad 65) (omega arith)))
 
@@ -164,7 +164,7 @@ module _ (section relocations : List ℕ) (kind word k q p : ℕ) where
       all_inside section l x.header_ordered x.header_inside x.record_ordered x.record_inside ∙ w in
       rw (e, x.same_word) (sym (read_is ∙ rw x.answer))
 
-  pub refused_read : {n : ℕ} → locate_in section relocations kind word k ≡ bad n → Refused n ≡ read section relocations kind word k q p
+  pub refused_read : {n : ℕ} → locate_in section relocations kind word k ≡ bad n → Err n ≡ read section relocations kind word k q p
   unfolding onward answer
   refused_read e = sym (read_is ∙ rw e)
 

@@ -7,8 +7,8 @@ use mathlib.Core.List.{List}
 use lib.ListN.{length}
 use lib.Dec.{eqb}
 use Rattle.format.specs.Prelude.{pick, Result, good, bad, onward}
-use Rattle.format.specs.declared.Reading.{Reading}
-use Rattle.format.specs.declared.Reading.TheVariants.{Answered}
+use Rattle.format.specs.Coded.{Reading}
+use Rattle.std.specs.Prelude.{Ok, Err}
 use Rattle.format.specs.Rules.{State, blank, rules_for, seen, answer}
 use Rattle.format.specs.Reader.{run}
 use Rattle.format.proofs.Choice.{if-ne}
@@ -104,6 +104,6 @@ module _ {word p q : ℕ} {s : List ℕ} {x y u v : ℕ} where
           rest = e;
         }
 
-    pub ended : left ≡ 0 → Answered state.rules ≡ whole
+    pub ended : left ≡ 0 → Ok state.rules ≡ whole
     unfolding remaining answer seen run_of one.at
-    ended e = sym ((rw e at b.rest) ∙ ap (λ (r : one.Run). Answered r.current) b.seen)
+    ended e = sym ((rw e at b.rest) ∙ ap (λ (r : one.Run). Ok r.current) b.seen)

@@ -14,8 +14,8 @@ use Rattle.format.specs.declared.Rule.{Rule}
 use Rattle.format.specs.declared.Operation.{Operation}
 use Rattle.format.specs.declared.Operation.TheVariants.{Nop, Step, Does}
 use Rattle.operations.specs.declared.fields.Position.{Position}
-use Rattle.format.specs.declared.Reading.{Reading}
-use Rattle.format.specs.declared.Reading.TheVariants.{Refused}
+use Rattle.format.specs.Coded.{Reading}
+use Rattle.std.specs.Prelude.{Ok, Err}
 use Rattle.format.specs.Rows.{read_operation}
 use Rattle.operations.specs.Positions.{operation_at}
 use Rattle.format.specs.Rules.{State, act, answer}
@@ -90,7 +90,7 @@ pub record Inside (whole : Reading) (header : Bool) (word p q : ℕ) (initial : 
 module _ {whole : Reading} {header : Bool} {word p q : ℕ} {initial : Rule} {ops : List ℕ} {k : State → Result State} {at : Position} {loc : ℕ} {state : code.State}
     (i : Inside whole header word p q initial ops k at loc state) where
   -- 66: an operation that cannot be read
-  pub bad_operation : at.at < length ops → operation_at word ops at ≡ None → Refused 66 ≡ whole
+  pub bad_operation : at.at < length ops → operation_at word ops at ≡ None → Err 66 ≡ whole
   unfolding onward answer
   bad_operation h e =
       sym (i.rest ∙ rw (unread header word p i.first (drop at.at ops) loc i.all (operation_none word ops at e) (omega (arith, length-drop at.at ops))))
@@ -119,7 +119,7 @@ module _ {whole : Reading} {header : Bool} {word p q : ℕ} {initial : Rule} {op
 
     -- 66: a step in a header
     module _ {n : ℕ} (o : op ≡ Step n) where
-      pub bad_step : header ≡ true → Refused 66 ≡ whole
+      pub bad_step : header ≡ true → Err 66 ≡ whole
       unfolding perform pick onward answer
       bad_step h = sym (rw (o, h) at opened)
 
@@ -149,14 +149,14 @@ module _ {whole : Reading} {header : Bool} {word p q : ℕ} {initial : Rule} {op
       row_seen : SeenAs q (act header i.first row i.all) (result_of r)
       row_seen = rw (a.says, ← i.first_is, ← i.seen) (seen_row header q i.first i.all row)
 
-      pub bad_row : (r.number ≡ 0 → ⊥) → Refused r.number ≡ whole
+      pub bad_row : (r.number ≡ 0 → ⊥) → Err r.number ≡ whole
       unfolding perform onward answer result_of
       bad_row h = by row_seen
         where
           said : result_of r ≡ bad r.number
           said = if-ne r.number 0 (good (run_of r.state)) (bad r.number) h
 
-          by : SeenAs q (act header i.first row i.all) (result_of r) → Refused r.number ≡ whole
+          by : SeenAs q (act header i.first row i.all) (result_of r) → Err r.number ≡ whole
           by (answered s x y) = let w = sym said ∙ y in let z : ◌≡◌ {A = ℕ} 0 1 = cc in absurd (omega arith)
           by (refused n x y) = let w = sym said ∙ y in let z : n ≡ r.number = cc in sym (opened ∙ rw (o, x, z))
 

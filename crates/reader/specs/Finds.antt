@@ -6,7 +6,7 @@ use Rattle.format.specs.Machine.{is_word_size}
 use Rattle.format.specs.Lists.{relocations_of}
 use Rattle.format.specs.Rules.{answer}
 use Rattle.format.specs.Reader.{Found, locate, run_to, shortest_to}
-use Rattle.format.specs.declared.Reading.{Reading}
+use Rattle.format.specs.Coded.{Reading}
 use Rattle.reader.specs.Spans.{part}
 use Rattle.reader.specs.declared.location.Located.{Located}
 

@@ -8,7 +8,7 @@ ghost use Rattle.format.specs.Reader.{read};
 ghost use Rattle.reader.specs.Finds.{Locates, locate_in, in_section, rules_from, shortest_from};
 
 use crate::location::Located;
-use format::Reading;
+use format::Rules;
 
 pub mod cursor;
 pub mod entries;
@@ -51,14 +51,14 @@ pub fn in_section(section: &[u8], l: Located) -> bool
 
 // The CFA rule, register q's rule and the signing state at offset p from what `locate` found: questions 65 to 69. Other numbers than its
 // answers are taken too; those that lie in no section are 64.
-pub fn rules_at(section: &[u8], l: Located, q: u16, p: u64) -> Reading
+pub fn rules_at(section: &[u8], l: Located, q: u16, p: u64) -> Result<Rules, u64>
     ensures { result ≡ rules_from section.now l q p }
 {
     if !in_section(section, l) {
-        return Reading::Refused(64);
+        return Err(64);
     }
     if l.size <= p {
-        return Reading::Refused(65);
+        return Err(65);
     }
     run::run(
         section,
@@ -101,11 +101,11 @@ pub fn read(
     k: u64,
     q: u16,
     p: u64,
-) -> Reading
+) -> Result<Rules, u64>
     ensures { result ≡ read section.now relocations.now kind word k q p }
 {
     match locate(section, relocations, kind, word, k) {
         Ok(l) => rules_at(section, l, q, p),
-        Err(n) => Reading::Refused(n),
+        Err(n) => Err(n),
     }
 }

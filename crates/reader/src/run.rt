@@ -8,7 +8,7 @@ ghost use Rattle.reader.specs.Spans.{part};
 ghost use Rattle.reader.specs.OneRegister.{start, set_cfa, set_rule, change_offset, change_register, remember, recall, negated, act};
 ghost use Rattle.reader.specs.States.{Held, run_of, Acts};
 
-use format::{CfaRule, Operation, Reading, Row, Rule, Rules};
+use format::{CfaRule, Operation, Row, Rule, Rules};
 use operations::fields::Position;
 
 // ---- the state
@@ -233,7 +233,7 @@ pub fn run(
     word: u64,
     p: u64,
     q: u16,
-) -> Reading
+) -> Result<Rules, u64>
     requires { T (is_word_size word) × (header ≤ header_end) × (header_end ≤ length s.now) × («record» ≤ record_end) × (record_end ≤ length s.now) }
     ensures { result ≡ answer q (onward (run true word p blank.current.rules blank (part s.now header header_end)) λ t. run false word p t.current.rules t (part s.now «record» record_end)) }
 {
@@ -254,14 +254,14 @@ pub fn run(
         let mut at = Position::START;
         'operations: while at.at < ops.len() {
             let Some((op, next)) = operations::operation(ops, at, word) else {
-                return Reading::Refused(66);
+                return Err(66);
             };
             at = next;
             match op {
                 Operation::Nop => continue 'operations,
                 Operation::Step(n) => {
                     if first {
-                        return Reading::Refused(66);
+                        return Err(66);
                     }
                     if p - loc < n {
                         continue 'entries;
@@ -272,7 +272,7 @@ pub fn run(
                 Operation::Does(row) => {
                     let acted = act(first, q, initial, row, state);
                     if acted.number != 0 {
-                        return Reading::Refused(acted.number);
+                        return Err(acted.number);
                     }
                     state = acted.state;
                 }
@@ -280,5 +280,5 @@ pub fn run(
         }
     }
     let rules = state.rules;
-    Reading::Answered(rules)
+    Ok(rules)
 }

@@ -16,7 +16,7 @@ use Rattle.reader.specs.declared.entries.Span.TheVariants as span
 use Rattle.reader.specs.declared.location.Located as reader
 use Rattle.reader.proofs.Whole.{tiled, spans, spans_none}
 use Rattle.reader.proofs.Seeking.{absent}
-use Rattle.format.specs.declared.Reading.TheVariants.{Refused}
+use Rattle.std.specs.Prelude.{Ok, Err}
 use Rattle.reader.specs.Spans.{end_at}
 use Rattle.reader.specs.Finds.{rules_from, shortest_from}
 use Rattle.reader.specs.declared.entries.Number.TheVariants as number
@@ -188,7 +188,7 @@ module _ (s : List ℕ) (debug : Bool) (word at cie : ℕ) where
 -- ---- the rules from there
 
 module _ (section : List ℕ) (l : Located) (q p : ℕ) where
-  pub rules_refused : (l.number ≡ 0 → ⊥) → Refused l.number ≡ rules_of section l q p
+  pub rules_refused : (l.number ≡ 0 → ⊥) → Err l.number ≡ rules_of section l q p
   unfolding rules_of pick
   rules_refused n = rw (ne_eqb l.number 0 n) refl
 

@@ -7,8 +7,8 @@ use Rattle.format.specs.Machine.{is_word_size}
 use Rattle.format.specs.Lists.{Relocation, relocations_of}
 use Rattle.format.specs.Answers.{bit}
 use Rattle.format.specs.Reader.{Entry, entries, records, header_place, header_at, Found, parsed}
-use Rattle.format.specs.declared.Reading.{Reading}
-use Rattle.format.specs.declared.Reading.TheVariants.{Refused}
+use Rattle.format.specs.Coded.{Reading}
+use Rattle.std.specs.Prelude.{Ok, Err}
 use Rattle.reader.specs.Finds.{rules_from}
 use Rattle.reader.specs.declared.location.Located as reader
 use Rattle.reads.specs.declared.Located.{Located}
@@ -87,4 +87,4 @@ reader_places l =
 
 -- a refusal stays; of other numbers 64 where they do not lie in the section, and then 65 to 69
 unfoldable pub rules_of : List ℕ → Located → (q p : ℕ) → Reading
-rules_of section l q p = pick (l.number == 0) (rules_from section (reader_places l) q p) (Refused l.number)
+rules_of section l q p = pick (l.number == 0) (rules_from section (reader_places l) q p) (Err l.number)

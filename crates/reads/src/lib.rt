@@ -12,7 +12,7 @@ ghost use Rattle.reads.specs.Addresses.{function_at, record_of};
 ghost use Rattle.reads.specs.Index.{index, locate_at};
 ghost use Rattle.reads.specs.Standing.{Indexes};
 
-use format::Reading;
+use format::Rules;
 use reader::entries::Number;
 use unwind::Numbers;
 
@@ -108,11 +108,11 @@ pub fn reader_places(l: Located) -> reader::location::Located
 }
 
 // The rules from any numbers; a refusal of the locating is answered as it is.
-pub fn rules_of(section: &[u8], l: Located, q: u16, p: u64) -> Reading
+pub fn rules_of(section: &[u8], l: Located, q: u16, p: u64) -> Result<Rules, u64>
     ensures { result ≡ rules_of section.now l q p }
 {
     if l.number != 0 {
-        return Reading::Refused(l.number);
+        return Err(l.number);
     }
     reader::rules_at(section, reader_places(l), q, p)
 }
@@ -133,7 +133,7 @@ pub fn read_located(
     k: u64,
     q: u16,
     p: u64,
-) -> Reading
+) -> Result<Rules, u64>
     ensures { result ≡ read section.now relocations.now kind word k q p }
 {
     let located = unwind_locate(section, relocations, kind, word, k);

@@ -13,7 +13,7 @@ use Rattle.format.specs.Machine.{is_word_size}
 use Rattle.format.specs.Lists.{relocations_of}
 use Rattle.format.specs.Rules.{State, answer}
 use Rattle.format.specs.Reader.{Entry, Found, entries, records, distance_back, header_place, header_at, parsed, locate, run_to, read_section, read}
-use Rattle.format.specs.declared.Reading.{Reading}
+use Rattle.format.specs.Coded.{Reading}
 use Rattle.operations.specs.declared.fields.Position.{Position}
 use Rattle.operations.specs.declared.fields.Unsigned.{Unsigned}
 use Rattle.operations.specs.declared.fields.Unsigned.TheVariants as unsigned

@@ -11,8 +11,8 @@ use Rattle.format.specs.Prelude.{pick}
 use Rattle.format.specs.Machine.{is_word_size}
 use Rattle.format.specs.Questions.{is_some}
 use Rattle.format.specs.Reader.{Entry, entries, records}
-use Rattle.format.specs.declared.Reading.{Reading}
-use Rattle.format.specs.declared.Reading.TheVariants.{Answered, Refused}
+use Rattle.format.specs.Coded.{Reading}
+use Rattle.std.specs.Prelude.{Ok, Err}
 use Rattle.format.proofs.Choice.{pick_yes, pick_no, tested}
 use Rattle.format.proofs.Prefix.{Answers, prefix}
 use Rattle.format.proofs.RegisterFree.{Alike, refused, answered, register_free}
@@ -25,13 +25,13 @@ use Rattle.section_check.specs.declared.Checked.{Checked}
 
 to_answers : (r : Reading) → T (answers r) → Answers r
 unfolding answers
-to_answers (Answered a) t = tt
-to_answers (Refused n) t = absurd t
+to_answers (Ok a) t = tt
+to_answers (Err n) t = absurd t
 
 from_answers : (r : Reading) → Answers r → T (answers r)
 unfolding answers
-from_answers (Answered a) t = tt
-from_answers (Refused n) t = absurd t
+from_answers (Ok a) t = tt
+from_answers (Err n) t = absurd t
 
 alike_answers : {r r' : Reading} → Alike r r' → T (answers r) → T (answers r')
 unfolding answers

@@ -6,8 +6,8 @@ use Rattle.format.specs.Prelude.{pick, next}
 use Rattle.format.specs.Leb.{read_little}
 use Rattle.format.specs.Machine.{is_word_size}
 use Rattle.format.specs.Reader.{Entry, entries, records, read}
-use Rattle.format.specs.declared.Reading.{Reading}
-use Rattle.format.specs.declared.Reading.TheVariants.{Answered, Refused}
+use Rattle.format.specs.Coded.{Reading}
+use Rattle.std.specs.Prelude.{Ok, Err}
 use Rattle.section_check.specs.declared.Checked.{Checked}
 
 -- ---- a record
@@ -19,8 +19,8 @@ length_of e = next (read_little 4 (drop 8 e.body)) λ n rest. some n
 
 -- the reader answers
 unfoldable pub answers : Reading → Bool
-answers (Answered rules) = true
-answers (Refused number) = false
+answers (Ok rules) = true
+answers (Err number) = false
 
 -- register q at offset p in record k of an eh_frame section, which has no relocations
 abbrev pub read_at : (section : List ℕ) (word k q p : ℕ) → Reading

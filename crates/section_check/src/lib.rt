@@ -10,7 +10,7 @@ ghost use Rattle.reader.specs.Spans.{entry_in, listed, Spans};
 ghost use Rattle.section_check.specs.Check.{length_of, check_from, check_section, Means};
 ghost use Rattle.section_check.specs.Places.{Ahead, Marks, marked, mark_before, size_of, answers_in, passes_in};
 
-use format::Reading;
+
 use operations::fields::{Position, Unsigned, read_le};
 use reader::entries::{Number, Span};
 use reader::location::Locating;
@@ -118,8 +118,8 @@ fn answers_at(
         return false;
     };
     match reader::rules_at(s, l, 0, p) {
-        Reading::Answered(_) => true,
-        Reading::Refused(_) => false,
+        Ok(_) => true,
+        Err(_) => false,
     }
 }
 

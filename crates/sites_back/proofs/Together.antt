@@ -6,7 +6,7 @@ use mathlib.Core.Option.{some}
 use mathlib.Core.List.{List, ◌++◌}
 use lib.ListN.{length, take, drop, take-append-drop}
 use Rattle.format.specs.Prelude.{pick, after, good, onward}
-use Rattle.format.specs.declared.Outcome.{Outcome}
+use Rattle.format.specs.Coded.{Outcome}
 use Rattle.format.specs.Lists.{Landing, relocations_of}
 use Rattle.format.specs.Writer.{Written}
 use Rattle.format.specs.Questions.{Given, room_in, accepted, relaxed_table, given_function}

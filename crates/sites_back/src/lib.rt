@@ -9,7 +9,7 @@ ghost use Rattle.call_sites.specs.Reads.{marked_of};
 ghost use Rattle.sites_back.specs.Back.{table_place, place_in, ReadBack};
 
 use call_sites::Site;
-use format::Outcome;
+use format::{Counts, Refusal};
 use reader::entries::{Number, Span};
 use reader::{entries, location};
 
@@ -37,7 +37,7 @@ fn table_place(section: &[u8], relocations: &[u64], k: u64) -> u64
 // What the writer answered, and the site that was read.
 #[derive(Clone, Copy)]
 pub struct WrittenAndRead {
-    pub outcome: Outcome,
+    pub outcome: Result<Option<Counts>, Refusal>,
     pub site: Site,
 }
 

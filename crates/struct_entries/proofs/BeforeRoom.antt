@@ -9,8 +9,9 @@ use native.Mathlib.Omega.{arith}
 use lib.Dec.{eqb}
 use borrow.Author.Tests.{eq-eqb, ne_eqb, le-leb, lt-leb}
 use Rattle.format.specs.Prelude.{pick}
-use Rattle.format.specs.declared.Outcome.{Outcome}
-use Rattle.format.specs.declared.Outcome.TheVariants as outcome
+use Rattle.format.specs.Coded.{Outcome}
+use Rattle.std.specs.Prelude.{Some, None, Ok, Err}
+use Rattle.format.specs.Coded.{refusal}
 use Rattle.format.specs.declared.Section.TheVariants.{Elf, Debug}
 use Rattle.format.specs.Machine.{machine_of, machine_ok}
 use Rattle.format.specs.Lists.{count, function_stride, lists_ok}
@@ -29,55 +30,55 @@ module _ (format f : ℕ) (machine : List ℕ) where
   abbrev debug_frame : Outcome
   debug_frame = outcome_of (once_ready (debug_frame_is_empty format f) (debug_frame_asks machine) false empty)
 
-  pub table_no_functions : f ≡ 0 → outcome.Empty ≡ table
+  pub table_no_functions : f ≡ 0 → (Ok None) ≡ table
   unfolding once_ready table_is_empty pick outcome_of
   table_no_functions e = rw (eq-eqb f 0 e) refl
 
-  pub debug_frame_no_functions : f ≡ 0 → outcome.Empty ≡ debug_frame
+  pub debug_frame_no_functions : f ≡ 0 → (Ok None) ≡ debug_frame
   unfolding once_ready debug_frame_is_empty pick outcome_of
   debug_frame_no_functions e = rw (eq-eqb f 0 e) refl
 
   module _ (h : f ≢ 0) where
-    pub table_no_format : 4 < format → outcome.Refused 11 0 ≡ table
+    pub table_no_format : 4 < format → Err (refusal 11 0) ≡ table
     unfolding once_ready table_is_empty table_asks unless and_then ask pick outcome_of
     table_no_format l = rw (ne_eqb f 0 h, lt-leb format 4 l, le-leb 3 format (omega arith), ne_eqb format 2 (λ e. omega arith)) refl
 
-    pub table_no_table : format ≤ 4 → 3 ≤ format → outcome.Empty ≡ table
+    pub table_no_table : format ≤ 4 → 3 ≤ format → (Ok None) ≡ table
     unfolding once_ready table_is_empty pick outcome_of
     table_no_table l m = rw (ne_eqb f 0 h, le-leb format 4 l, le-leb 3 format m) refl
 
-    pub table_no_mach_o : format ≡ 2 → outcome.Refused 78 0 ≡ table
+    pub table_no_mach_o : format ≡ 2 → Err (refusal 78 0) ≡ table
     unfolding once_ready table_is_empty table_asks unless and_then ask pick outcome_of
     table_no_mach_o e = rw (ne_eqb f 0 h, lt-leb 3 format (omega arith), eq-eqb format 2 e) refl
 
     module _ (l : format < 3) (m : format ≢ 2) where
-      pub table_no_machine : machine_ok machine ≡ false → outcome.Refused 11 0 ≡ table
+      pub table_no_machine : machine_ok machine ≡ false → Err (refusal 11 0) ≡ table
       unfolding once_ready table_is_empty table_asks unless and_then ask pick outcome_of
       table_no_machine e = rw (ne_eqb f 0 h, lt-leb 3 format l, ne_eqb format 2 m, le-leb format 4 (omega arith), e) refl
 
       module _ (ok : machine_ok machine ≡ true) where
-        pub table_no_word : format ≡ 1 → eqb (machine_of machine).word 8 ≡ false → outcome.Refused 12 0 ≡ table
+        pub table_no_word : format ≡ 1 → eqb (machine_of machine).word 8 ≡ false → Err (refusal 12 0) ≡ table
         unfolding once_ready table_is_empty table_asks unless and_then ask pick outcome_of
         table_no_word e w = rw (ne_eqb f 0 h, lt-leb 3 format l, ne_eqb format 2 m, le-leb format 4 (omega arith), ok, eq-eqb format 1 e, w) refl
 
-        pub table_unready_coff : format ≡ 1 → eqb (machine_of machine).word 8 ≡ true → outcome.Refused 54 0 ≡ table
+        pub table_unready_coff : format ≡ 1 → eqb (machine_of machine).word 8 ≡ true → Err (refusal 54 0) ≡ table
         unfolding once_ready table_is_empty table_asks unless and_then ask pick outcome_of
         table_unready_coff e w = rw (ne_eqb f 0 h, lt-leb 3 format l, ne_eqb format 2 m, le-leb format 4 (omega arith), ok, eq-eqb format 1 e, w) refl
 
-        pub table_unready : format ≢ 1 → outcome.Refused 54 0 ≡ table
+        pub table_unready : format ≢ 1 → Err (refusal 54 0) ≡ table
         unfolding once_ready table_is_empty table_asks unless and_then ask pick outcome_of
         table_unready e = rw (ne_eqb f 0 h, lt-leb 3 format l, ne_eqb format 2 m, le-leb format 4 (omega arith), ok, ne_eqb format 1 e) refl
 
-    pub debug_frame_other : format ≢ 0 → outcome.Empty ≡ debug_frame
+    pub debug_frame_other : format ≢ 0 → (Ok None) ≡ debug_frame
     unfolding once_ready debug_frame_is_empty pick outcome_of
     debug_frame_other e = rw (ne_eqb f 0 h, ne_eqb format 0 e) refl
 
     module _ (e : format ≡ 0) where
-      pub debug_frame_no_machine : machine_ok machine ≡ false → outcome.Refused 11 0 ≡ debug_frame
+      pub debug_frame_no_machine : machine_ok machine ≡ false → Err (refusal 11 0) ≡ debug_frame
       unfolding once_ready debug_frame_is_empty debug_frame_asks unless and_then ask pick outcome_of
       debug_frame_no_machine ok = rw (ne_eqb f 0 h, eq-eqb format 0 e, ok) refl
 
-      pub debug_frame_unready : machine_ok machine ≡ true → outcome.Refused 54 0 ≡ debug_frame
+      pub debug_frame_unready : machine_ok machine ≡ true → Err (refusal 54 0) ≡ debug_frame
       unfolding once_ready debug_frame_is_empty debug_frame_asks unless and_then ask pick outcome_of
       debug_frame_unready ok = rw (ne_eqb f 0 h, eq-eqb format 0 e, ok) refl
 

@@ -9,7 +9,7 @@ use native.Mathlib.Omega.{arith}
 use lib.Seq.{length-take-le}
 use lib.ListN.{length, take, drop}
 use lib.Dec.{T}
-use Rattle.format.specs.declared.Outcome.{Outcome}
+use Rattle.format.specs.Coded.{Outcome}
 use Rattle.format.specs.Lists.{count, function_stride}
 use Rattle.format.specs.Questions.{Question, Given, Room, Answer, empty, ask, and_then, unless, given_of, relaxed_table, relaxed_debug_frame}
 use Rattle.format.specs.Prelude.{pick}

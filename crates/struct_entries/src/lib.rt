@@ -17,7 +17,7 @@ ghost use Rattle.struct_entries.specs.Packed.{stored, stored_all, Packs};
 ghost use Rattle.struct_entries.specs.Checks.{check_of, CheckStarts, CheckedRow};
 ghost use Rattle.struct_entries.specs.Entries.{needed, is_zero, ready_for, cleared, packed, once_ready, table_is_empty, table_asks, debug_frame_is_empty, debug_frame_asks, numbers_in, relaxed_table_of, relaxed_debug_frame_of};
 
-use format::Outcome;
+use format::{Counts, Refusal};
 use rules::Stepped;
 use unwind::Written;
 
@@ -364,45 +364,45 @@ fn packed_debug_frame(
 }
 
 // What a writer answers where the list is not ready: an empty result, 78, 11 or 12, else 54.
-fn table_without_numbers(functions: usize, machine: &[u64], format: u64) -> Outcome
+fn table_without_numbers(functions: usize, machine: &[u64], format: u64) -> Result<Option<Counts>, Refusal>
     ensures { result ≡ outcome_of (once_ready (table_is_empty format functions) (table_asks format machine.now) false empty) }
 {
     if functions == 0 {
-        return Outcome::Empty;
+        return Ok(None);
     }
     if 4 < format {
-        return Outcome::Refused(11, 0);
+        return Err(Refusal { number: 11, position: 0 });
     }
     if 3 <= format {
-        return Outcome::Empty;
+        return Ok(None);
     }
     if format == 2 {
-        return Outcome::Refused(78, 0);
+        return Err(Refusal { number: 78, position: 0 });
     }
     if !lists::machine_ok(machine) {
-        return Outcome::Refused(11, 0);
+        return Err(Refusal { number: 11, position: 0 });
     }
     if format == 1 {
         if !lists::word_ok(lists::machine_of(machine)) {
-            return Outcome::Refused(12, 0);
+            return Err(Refusal { number: 12, position: 0 });
         }
     }
-    Outcome::Refused(54, 0)
+    Err(Refusal { number: 54, position: 0 })
 }
 
-fn debug_frame_without_numbers(functions: usize, machine: &[u64], format: u64) -> Outcome
+fn debug_frame_without_numbers(functions: usize, machine: &[u64], format: u64) -> Result<Option<Counts>, Refusal>
     ensures { result ≡ outcome_of (once_ready (debug_frame_is_empty format functions) (debug_frame_asks machine.now) false empty) }
 {
     if functions == 0 {
-        return Outcome::Empty;
+        return Ok(None);
     }
     if format != 0 {
-        return Outcome::Empty;
+        return Ok(None);
     }
     if !lists::machine_ok(machine) {
-        return Outcome::Refused(11, 0);
+        return Err(Refusal { number: 11, position: 0 });
     }
-    Outcome::Refused(54, 0)
+    Err(Refusal { number: 54, position: 0 })
 }
 
 // A writer on the list, which was ready or not; where it was not nothing is changed.

@@ -5,8 +5,8 @@ use mathlib.Core.Bool.{true, false}
 use mathlib.Core.List.{List, []}
 use lib.ListN.{length}
 use Rattle.format.specs.Prelude.{pick}
-use Rattle.format.specs.declared.Outcome.{Outcome}
-use Rattle.format.specs.declared.Reading.{Reading}
+use Rattle.format.specs.Coded.{Outcome}
+use Rattle.format.specs.Coded.{Reading}
 use Rattle.format.specs.declared.Section.TheVariants.{Elf, Debug}
 use Rattle.format.specs.Questions.{Given, room_in, relaxed_table, relaxed_debug_frame}
 use Rattle.format.specs.Answers.{Writes, bit}

@@ -2,9 +2,10 @@
 use Rattle.std.specs.Prelude.{◌≡◌, ℕ, ◌<◌}
 use Rattle.std.proofs.Math.Option.{none}
 use Rattle.format.specs.declared.Counts.{Counts}
-use Rattle.format.specs.declared.Outcome.{Outcome}
-use Rattle.format.specs.declared.Outcome.TheVariants as outcome
-use Rattle.format.specs.declared.Reading.{Reading}
+use Rattle.format.specs.Coded.{Outcome}
+use Rattle.std.specs.Prelude.{Some, None, Ok, Err}
+use Rattle.format.specs.Coded.{refusal}
+use Rattle.format.specs.Coded.{Reading}
 use Rattle.format.specs.Lists.{function_stride, count}
 use Rattle.format.specs.Questions.{Given, given_function}
 
@@ -12,5 +13,5 @@ use Rattle.format.specs.Questions.{Given, given_function}
 -- one: the same rules, or the same number.
 abbrev pub OneStory : (g : Given) (eh debug : Outcome) (k p : ℕ) (ofEh ofDebug : Reading) → Type 0
 OneStory g eh debug k p ofEh ofDebug =
-    (c d : Counts) → eh ≡ outcome.Accepted c → debug ≡ outcome.Accepted d
+    (c d : Counts) → eh ≡ Ok (Some c) → debug ≡ Ok (Some d)
     → k < count function_stride g.functions → (given_function g k).relaxed ≡ none → p < (given_function g k).size → ofEh ≡ ofDebug

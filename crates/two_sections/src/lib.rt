@@ -7,15 +7,15 @@ ghost use Rattle.format.specs.Questions.{given_of, room_in, relaxed_table, relax
 ghost use Rattle.unwind.specs.Together.{reading_for};
 ghost use Rattle.two_sections.specs.Story.{OneStory};
 
-use format::{Outcome, Reading};
+use format::{Counts, Refusal, Rules};
 
 // What the writers of both sections answered, and what the reader answered of each.
 #[derive(Clone, Copy)]
 pub struct TwoSections {
-    pub eh: Outcome,
-    pub debug: Outcome,
-    pub of_eh: Reading,
-    pub of_debug: Reading,
+    pub eh: Result<Option<Counts>, Refusal>,
+    pub debug: Result<Option<Counts>, Refusal>,
+    pub of_eh: Result<Rules, u64>,
+    pub of_debug: Result<Rules, u64>,
 }
 
 // The list as ELF's eh_frame and as debug_frame, and the reader on exactly what was written of each: where both were accepted, and function

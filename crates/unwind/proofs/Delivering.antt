@@ -5,7 +5,7 @@ use mathlib.Core.Logic.{◌≢◌}
 use mathlib.Core.List.{List, [], ◌∷◌}
 use lib.ListN.{length}
 use Rattle.format.specs.Put.{put}
-use Rattle.format.specs.declared.Outcome.{Outcome}
+use Rattle.format.specs.Coded.{Outcome}
 use Rattle.format.specs.declared.Section.TheVariants.{Debug}
 use Rattle.format.specs.Lists.{count, function_stride}
 use Rattle.format.specs.Writer.{Written}

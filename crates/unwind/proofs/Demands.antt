@@ -7,11 +7,12 @@ use lib.Dec.{T, ltb, ltb→lt, eqb→eq}
 use lib.ListN.{take}
 use Rattle.format.specs.Prelude.{pick, each}
 use Rattle.format.specs.declared.Counts.{Counts}
-use Rattle.format.specs.declared.Outcome.{Outcome}
-use Rattle.format.specs.declared.Outcome.TheVariants as outcome
+use Rattle.format.specs.Coded.{Outcome}
+use Rattle.std.specs.Prelude.{Some, None, Ok, Err}
+use Rattle.format.specs.Coded.{refusal}
 use Rattle.format.specs.declared.Section.{Section}
 use Rattle.format.specs.declared.Section.TheVariants.{Elf, Debug}
-use Rattle.format.specs.declared.Reading.{Reading}
+use Rattle.format.specs.Coded.{Reading}
 use Rattle.format.specs.Machine.{machine_of}
 use Rattle.format.specs.Lists.{function_stride, row_stride, field, count, inside, all_in, row_ok_at, mark_ok, mark, row_at}
 use Rattle.format.specs.Writer.{Written}
@@ -28,11 +29,11 @@ use Rattle.unwind.proofs.Fronts.{Fronts, bytes_of, relocs_of}
 
 -- an outcome that is an acceptance is an accepted answer's
 abbrev is_accepted : Outcome → Bool
-is_accepted (outcome.Accepted c) = true
-is_accepted outcome.Empty = false
-is_accepted (outcome.Refused n k) = false
+is_accepted (Ok (Some c)) = true
+is_accepted (Ok None) = false
+is_accepted (Err (refusal n k)) = false
 
-pub accepted_by : (a : Answer) (c : Counts) → outcome.Accepted c ≡ outcome_of a → (w : Written) × (a ≡ accepted w)
+pub accepted_by : (a : Answer) (c : Counts) → Ok (Some c) ≡ outcome_of a → (w : Written) × (a ≡ accepted w)
 unfolding outcome_of
 accepted_by (refused n k) c e = absurd (subst (λ (o : Outcome). T (is_accepted o)) e tt)
 accepted_by empty c e = absurd (subst (λ (o : Outcome). T (is_accepted o)) e tt)
@@ -59,7 +60,7 @@ module _ (s : Section) (debug : Bool) (g : Given) (w : Written) (a : Answer) (o 
   read_accepted b = rw (front_is, f.relocations_are, e, b) refl
 
   demand : (r : Room) (c : Counts) (reading : Reading) → reading ≡ reading_for debug g.machine o bytes relocations k q p → q ≤ 65535
-      → o ≡ outcome.Accepted c → a ≡ dwarf_written s g r → kind_of s ≡ bit debug → Demand g k q p (take c.bytes bytes) reading
+      → o ≡ Ok (Some c) → a ≡ dwarf_written s g r → kind_of s ≡ bit debug → Demand g k q p (take c.bytes bytes) reading
   unfolding bytes_in
   demand r c reading h small y d b =
       let x = demand_3 s g r w (sym d ∙ e) in

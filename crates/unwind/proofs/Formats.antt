@@ -6,8 +6,9 @@ use mathlib.Core.Logic.{◌≢◌}
 use mathlib.Core.List.{List}
 use borrow.Author.Tests.{eq-eqb, ne_eqb, le-leb, lt-leb}
 use Rattle.format.specs.Prelude.{pick}
-use Rattle.format.specs.declared.Outcome.{Outcome}
-use Rattle.format.specs.declared.Outcome.TheVariants as outcome
+use Rattle.format.specs.Coded.{Outcome}
+use Rattle.std.specs.Prelude.{Some, None, Ok, Err}
+use Rattle.format.specs.Coded.{refusal}
 use Rattle.format.specs.declared.Section.TheVariants.{Elf, Debug}
 use Rattle.format.specs.Machine.{machine_of}
 use Rattle.format.specs.Lists.{count, function_stride}
@@ -17,11 +18,11 @@ use Rattle.format.specs.Answers.{Writes, outcome_of, afterwards}
 
 -- a call that writes nothing
 module _ {p b r s : List ℕ} where
-  pub writes_empty : (a : Answer) → a ≡ empty → Writes a outcome.Empty p p b b r r s s
+  pub writes_empty : (a : Answer) → a ≡ empty → Writes a (Ok None) p p b b r r s s
   unfolding outcome_of afterwards
   writes_empty a e = rw e (record { outcome = refl; placed = refl; stored = refl; related = refl; sited = refl })
 
-  pub writes_refused : (a : Answer) (n k : ℕ) → a ≡ refused n k → Writes a (outcome.Refused n k) p p b b r r s s
+  pub writes_refused : (a : Answer) (n k : ℕ) → a ≡ refused n k → Writes a (Err (refusal n k)) p p b b r r s s
   unfolding outcome_of afterwards
   writes_refused a n k e = rw e (record { outcome = refl; placed = refl; stored = refl; related = refl; sited = refl })
 

@@ -6,8 +6,9 @@ use mathlib.Core.Bool.{Bool}
 use mathlib.Core.List.{List, [], ◌∷◌}
 use lib.ListN.{length, take, get_or}
 use Rattle.format.specs.declared.Counts.{Counts}
-use Rattle.format.specs.declared.Outcome.{Outcome}
-use Rattle.format.specs.declared.Outcome.TheVariants as outcome
+use Rattle.format.specs.Coded.{Outcome}
+use Rattle.std.specs.Prelude.{Some, None, Ok, Err}
+use Rattle.format.specs.Coded.{refusal}
 use Rattle.format.specs.Lists.{numbers_of}
 use Rattle.format.specs.Reader.{read}
 use Rattle.format.specs.Questions.{room_in, Answer, refused, empty, accepted}
@@ -64,6 +65,6 @@ unfolding reading_for
 reading_of debug machine o bytes relocations n m kind word k q p en em ek ew = rw (en, em, ek, ew) refl
 
 -- the relocations of an accepted list
-pub accepted_relocs : (o : Outcome) (k : Counts) → o ≡ outcome.Accepted k → relocs_in o ≡ k.relocations
+pub accepted_relocs : (o : Outcome) (k : Counts) → o ≡ Ok (Some k) → relocs_in o ≡ k.relocations
 unfolding relocs_in
 accepted_relocs o k e = rw e refl

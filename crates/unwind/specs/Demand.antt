@@ -3,9 +3,10 @@ use Rattle.std.specs.Prelude.{◌≡◌, ℕ, ◌<◌, Bool, List, T, eqb, take}
 use Rattle.std.proofs.Math.Option.{none, some}
 use Rattle.format.specs.Constants.{elf}
 use Rattle.format.specs.declared.Counts.{Counts}
-use Rattle.format.specs.declared.Outcome.{Outcome}
-use Rattle.format.specs.declared.Outcome.TheVariants as outcome
-use Rattle.format.specs.declared.Reading.{Reading}
+use Rattle.format.specs.Coded.{Outcome}
+use Rattle.std.specs.Prelude.{Some, None, Ok, Err}
+use Rattle.format.specs.Coded.{refusal}
+use Rattle.format.specs.Coded.{Reading}
 use Rattle.format.specs.Machine.{machine_of}
 use Rattle.format.specs.Questions.{Given, given_function}
 use Rattle.format.specs.Rules.{rules_at, seen}
@@ -26,4 +27,4 @@ pub record Demand (g : Given) (k q p : ℕ) (written : List ℕ) (reading : Read
 -- where the lists were accepted for DWARF output: the section is as many bytes of the buffer as the outcome says
 abbrev pub Demanded : (format : ℕ) (g : Given) (o : Outcome) (bytes : List ℕ) (k q p : ℕ) (reading : Reading) → Type 0
 Demanded format g o bytes k q p reading =
-    (c : Counts) → T (dwarf_output format) → o ≡ outcome.Accepted c → Demand g k q p (take c.bytes bytes) reading
+    (c : Counts) → T (dwarf_output format) → o ≡ Ok (Some c) → Demand g k q p (take c.bytes bytes) reading

@@ -1,9 +1,10 @@
 -- A writer and then the reader on exactly what it wrote.
 use Rattle.std.specs.Prelude.{ℕ, ◌*◌, Bool, List, get_or, take}
 use Rattle.format.specs.Prelude.{pick}
-use Rattle.format.specs.declared.Outcome.{Outcome}
-use Rattle.format.specs.declared.Outcome.TheVariants as outcome
-use Rattle.format.specs.declared.Reading.{Reading}
+use Rattle.format.specs.Coded.{Outcome}
+use Rattle.std.specs.Prelude.{Some, None, Ok, Err}
+use Rattle.format.specs.Coded.{refusal}
+use Rattle.format.specs.Coded.{Reading}
 use Rattle.format.specs.Lists.{relocation_stride}
 use Rattle.format.specs.Questions.{Given, Room, Answer, relaxed_table, relaxed_debug_frame}
 use Rattle.format.specs.Answers.{bit}
@@ -15,14 +16,14 @@ answer_for debug format g r = pick debug (relaxed_debug_frame format g r) (relax
 
 -- how many bytes, and how many relocations, an outcome says were written
 unfoldable pub bytes_in : Outcome → ℕ
-bytes_in (outcome.Accepted c) = c.bytes
-bytes_in outcome.Empty = 0
-bytes_in (outcome.Refused n k) = 0
+bytes_in (Ok (Some c)) = c.bytes
+bytes_in (Ok None) = 0
+bytes_in (Err (refusal n k)) = 0
 
 unfoldable pub relocs_in : Outcome → ℕ
-relocs_in (outcome.Accepted c) = c.relocations
-relocs_in outcome.Empty = 0
-relocs_in (outcome.Refused n k) = 0
+relocs_in (Ok (Some c)) = c.relocations
+relocs_in (Ok None) = 0
+relocs_in (Err (refusal n k)) = 0
 
 -- the reader on as much of the two buffers as the outcome says, with the writer's kind and word
 unfoldable pub reading_for : (debug : Bool) (machine : List ℕ) → Outcome → (bytes relocations : List ℕ) → (k q p : ℕ) → Reading

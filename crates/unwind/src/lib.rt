@@ -11,7 +11,7 @@ ghost use Rattle.unwind.specs.Demand.{Demanded};
 ghost use Rattle.unwind.specs.Together.{answer_for, bytes_in, relocs_in, reading_for};
 ghost use Rattle.unwind.specs.Entries.{read_numbers, written_numbers, Exports};
 
-use format::{CfaRule, Outcome, Reading, Rule, Section};
+use format::{CfaRule, Counts, Refusal, Rule, Rules, Section};
 use reader::location::Locating;
 
 // ---- the writers
@@ -30,12 +30,12 @@ pub fn relaxed_table(
     bytes: &mut [u8],
     relocations: &mut [u64],
     sites: &mut [u8],
-) -> Outcome
+) -> Result<Option<Counts>, Refusal>
     ensures { Writes (relaxed_table format (given_of machine.now functions.now rows.now landings.now pairs.now) (room_in places.old bytes.old relocations.old sites.old)) result places.old places.new bytes.old bytes.new relocations.old relocations.new sites.old sites.new }
 {
     let listed = functions.len() / lists::FUNCTION_STRIDE;
     if listed == 0 {
-        return Outcome::Empty;
+        return Ok(None);
     }
     match format {
         0 => dwarf::dwarf(
@@ -61,10 +61,10 @@ pub fn relaxed_table(
             relocations,
             sites,
         ),
-        2 => Outcome::Refused(78, 0),
-        3 => Outcome::Empty,
-        4 => Outcome::Empty,
-        _ => Outcome::Refused(11, 0),
+        2 => Err(Refusal { number: 78, position: 0 }),
+        3 => Ok(None),
+        4 => Ok(None),
+        _ => Err(Refusal { number: 11, position: 0 }),
     }
 }
 
@@ -79,7 +79,7 @@ pub fn table(
     bytes: &mut [u8],
     relocations: &mut [u64],
     sites: &mut [u8],
-) -> Outcome
+) -> Result<Option<Counts>, Refusal>
     ensures { Writes (relaxed_table format (given_of machine.now functions.now rows.now landings.now []) (room_in places.old bytes.old relocations.old sites.old)) result places.old places.new bytes.old bytes.new relocations.old relocations.new sites.old sites.new }
 {
     relaxed_table(
@@ -104,7 +104,7 @@ pub fn seh(
     bytes: &mut [u8],
     relocations: &mut [u64],
     info: &mut [u8],
-) -> Outcome
+) -> Result<Option<Counts>, Refusal>
     ensures { Writes (seh functions.now codes.now (room_in markers.old bytes.old relocations.old info.old)) result markers.old markers.new bytes.old bytes.new relocations.old relocations.new info.old info.new }
 {
     x64::seh(functions, codes, markers, bytes, relocations, info)
@@ -122,14 +122,14 @@ pub fn relaxed_debug_frame(
     places: &mut [u64],
     bytes: &mut [u8],
     relocations: &mut [u64],
-) -> Outcome
+) -> Result<Option<Counts>, Refusal>
     ensures { Writes (relaxed_debug_frame format (given_of machine.now functions.now rows.now landings.now pairs.now) (room_in places.old bytes.old relocations.old [])) result places.old places.new bytes.old bytes.new relocations.old relocations.new [] [] }
 {
     if functions.len() / lists::FUNCTION_STRIDE == 0 {
-        return Outcome::Empty;
+        return Ok(None);
     }
     if format != 0 {
-        return Outcome::Empty;
+        return Ok(None);
     }
     // debug_frame has no call sites: nothing is stored here.
     let mut sites = [0u8; 1];
@@ -157,7 +157,7 @@ pub fn debug_frame(
     places: &mut [u64],
     bytes: &mut [u8],
     relocations: &mut [u64],
-) -> Outcome
+) -> Result<Option<Counts>, Refusal>
     ensures { Writes (relaxed_debug_frame format (given_of machine.now functions.now rows.now landings.now []) (room_in places.old bytes.old relocations.old [])) result places.old places.new bytes.old bytes.new relocations.old relocations.new [] [] }
 {
     relaxed_debug_frame(
@@ -192,7 +192,7 @@ pub fn read(
     k: u64,
     q: u16,
     p: u64,
-) -> Reading
+) -> Result<Rules, u64>
     ensures { result ≡ read section.now relocations.now kind word k q p }
 {
     reader::read(section, relocations, kind, word, k, q, p)
@@ -201,24 +201,24 @@ pub fn read(
 // ---- a writer and then the reader
 
 // How many bytes, and how many numbers of relocations, were written.
-pub fn bytes_in(o: Outcome) -> usize
+pub fn bytes_in(o: Result<Option<Counts>, Refusal>) -> usize
     ensures { result ≡ bytes_in o }
 {
     match o {
-        Outcome::Accepted(c) => c.bytes as usize,
-        Outcome::Empty => 0,
-        Outcome::Refused(_, _) => 0,
+        Ok(Some(c)) => c.bytes as usize,
+        Ok(None) => 0,
+        Err(_) => 0,
     }
 }
 
-pub fn numbers_in(o: Outcome, room: usize) -> usize
+pub fn numbers_in(o: Result<Option<Counts>, Refusal>, room: usize) -> usize
     requires { 5 * relocs_in o ≤ room }
     ensures { result ≡ 5 * relocs_in o }
 {
     match o {
-        Outcome::Accepted(c) => 5 * (c.relocations as usize),
-        Outcome::Empty => 0,
-        Outcome::Refused(_, _) => 0,
+        Ok(Some(c)) => 5 * (c.relocations as usize),
+        Ok(None) => 0,
+        Err(_) => 0,
     }
 }
 
@@ -245,7 +245,7 @@ pub fn write(
     bytes: &mut [u8],
     relocations: &mut [u64],
     sites: &mut [u8],
-) -> Outcome
+) -> Result<Option<Counts>, Refusal>
     ensures { Writes (answer_for debug format (given_of machine.now functions.now rows.now landings.now pairs.now) (room_in places.old bytes.old relocations.old sites.old)) result places.old places.new bytes.old bytes.new relocations.old relocations.new sites.old sites.new }
 {
     if debug {
@@ -278,8 +278,8 @@ pub fn write(
 // What a writer answered, and what the reader answered of what it wrote.
 #[derive(Clone, Copy)]
 pub struct WrittenAndRead {
-    pub outcome: Outcome,
-    pub reading: Reading,
+    pub outcome: Result<Option<Counts>, Refusal>,
+    pub reading: Result<Rules, u64>,
 }
 
 // A writer, debug_frame's or the other, and then the reader on exactly what was written, with the writer's kind and word: demand 3 on running
@@ -434,16 +434,16 @@ fn rules_numbers(c: CfaRule, r: Rule, signing: bool, shortest: bool) -> Numbers
     }
 }
 
-pub fn numbers_of(r: Reading, shortest: bool) -> Numbers
+pub fn numbers_of(r: Result<Rules, u64>, shortest: bool) -> Numbers
     ensures { read_numbers result ≡ marked_numbers r shortest }
 {
     match r {
-        Reading::Answered(rules) => {
+        Ok(rules) => {
             let cfa = rules.cfa;
             let rule = rules.rule;
             rules_numbers(cfa, rule, rules.signing, shortest)
         }
-        Reading::Refused(n) => Numbers {
+        Err(n) => Numbers {
             number: n,
             frame: 0,
             frame_register: 0,
@@ -456,11 +456,11 @@ pub fn numbers_of(r: Reading, shortest: bool) -> Numbers
     }
 }
 
-pub fn written_of(o: Outcome) -> Written
+pub fn written_of(o: Result<Option<Counts>, Refusal>) -> Written
     ensures { written_numbers result ≡ outcome_numbers o }
 {
     match o {
-        Outcome::Accepted(c) => Written {
+        Ok(Some(c)) => Written {
             number: 0,
             position: 0,
             places: c.places,
@@ -468,7 +468,7 @@ pub fn written_of(o: Outcome) -> Written
             relocations: c.relocations,
             sites: c.sites,
         },
-        Outcome::Empty => Written {
+        Ok(None) => Written {
             number: 0,
             position: 0,
             places: 0,
@@ -476,9 +476,9 @@ pub fn written_of(o: Outcome) -> Written
             relocations: 0,
             sites: 0,
         },
-        Outcome::Refused(n, k) => Written {
-            number: n,
-            position: k,
+        Err(r) => Written {
+            number: r.number,
+            position: r.position,
             places: 0,
             bytes: 0,
             relocations: 0,
@@ -582,6 +582,6 @@ pub extern "C" fn unwind_read(
             let shortest = reader::shortest_at(section, l, p);
             numbers_of(rules, shortest)
         }
-        Locating::No(n) => numbers_of(Reading::Refused(n), false),
+        Locating::No(n) => numbers_of(Err(n), false),
     }
 }

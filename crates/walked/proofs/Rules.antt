@@ -7,7 +7,7 @@ use mathlib.Core.List.{List}
 use lib.Dec.{T, leb, eqb}
 use Rattle.format.specs.Prelude.{pick, Result, good, bad, onward}
 use Rattle.format.specs.declared.Rules.{Rules}
-use Rattle.format.specs.declared.Reading.TheVariants.{Answered, Refused}
+use Rattle.std.specs.Prelude.{Ok, Err}
 use Rattle.format.specs.Machine.{is_word_size}
 use Rattle.format.specs.Lists.{relocations_of}
 use Rattle.format.specs.Rules.{AllRules, State, rules_for, seen, answer}
@@ -26,12 +26,12 @@ use lib.ListN.{length, set}
 use Rattle.walked.specs.declared.AllLeft.{AllLeft}
 use Rattle.walked.specs.Standing.{state_in, is_good, rules_of, rules_in, ruled_in, source_in, all_left}
 
-answered_of : (o : Result State) (q : ℕ) {x : Rules} → answer q o ≡ Answered x → (T (is_good o)) × (x ≡ rules_for q (rules_of o))
+answered_of : (o : Result State) (q : ℕ) {x : Rules} → answer q o ≡ Ok x → (T (is_good o)) × (x ≡ rules_for q (rules_of o))
 unfolding answer seen is_good rules_of
 answered_of (good s) q e = (tt, cc)
 answered_of (bad n) q e = let z : ◌≡◌ {A = ℕ} 0 1 = cc in absurd (omega arith)
 
-refused_of : (o : Result State) (q : ℕ) {n : ℕ} → answer q o ≡ Refused n → o ≡ bad n
+refused_of : (o : Result State) (q : ℕ) {n : ℕ} → answer q o ≡ Err n → o ≡ bad n
 unfolding answer seen
 refused_of (good s) q e = let z : ◌≡◌ {A = ℕ} 0 1 = cc in absurd (omega arith)
 refused_of (bad n) q e = cc
@@ -41,15 +41,15 @@ unfolding is_good
 not_good e t = rw e at t
 
 module _ (s : List ℕ) (l : Located) (q p : ℕ) where
-  pub answered : {x : Rules} → rules_from s l q p ≡ Answered x → (T (is_good (state_in s l p))) × (x ≡ rules_for q (rules_in s l p))
+  pub answered : {x : Rules} → rules_from s l q p ≡ Ok x → (T (is_good (state_in s l p))) × (x ≡ rules_for q (rules_in s l p))
   unfolding rules_from state_in rules_in
   answered e = answered_of (state_in s l p) q e
 
-  pub refused : {n : ℕ} → rules_from s l q p ≡ Refused n → state_in s l p ≡ bad n
+  pub refused : {n : ℕ} → rules_from s l q p ≡ Err n → state_in s l p ≡ bad n
   unfolding rules_from state_in
   refused e = refused_of (state_in s l p) q e
 
-  pub never : {n : ℕ} → rules_from s l q p ≡ Refused n → T (is_good (state_in s l p)) → ⊥
+  pub never : {n : ℕ} → rules_from s l q p ≡ Err n → T (is_good (state_in s l p)) → ⊥
   never e t = not_good (refused e) t
 
 refused_address : (r : Result ℕ) {n : ℕ} → address_of r ≡ address.Refused n → r ≡ bad n

@@ -13,7 +13,7 @@ ghost use Rattle.walked.specs.Entry.{numbers_of, chain_numbers, chain_stored};
 ghost use Rattle.walked.specs.Named.{names, operation_names, Marked, MarkedAll, MarksIn};
 ghost use Rattle.walked.specs.Standing.{state_in, is_good, rules_in, ruled_in, source_in, all_left, walked_of, full_ending, fault_of};
 
-use format::{Machine, Operation, Reading, Row, Rules};
+use format::{Machine, Operation, Row, Rules};
 use operations::Decoded;
 use operations::fields::Position;
 use reader::location::{Located, Locating};
@@ -124,11 +124,11 @@ fn one<'a>(
         return walk::kept(values, present, reg);
     }
     match reader::rules_at(section, l, reg as u16, p) {
-        Reading::Answered(rules) => {
+        Ok(rules) => {
             let rule = rules.rule;
             walk::left_by(values, present, rule, reg, stack, address, cfa)
         }
-        Reading::Refused(n) => Left {
+        Err(n) => Left {
             number: n,
             present: false,
             value: 0,
@@ -284,10 +284,10 @@ fn caller(
     ensures { step_of result ≡ onward (source_in section.now l p) (λ u. caller_of machine (memory_of address stack.now) u (slots file)) }
 {
     match reader::rules_at(section, l, machine.ret as u16, p) {
-        Reading::Answered(rules) => left_by_rules(
+        Ok(rules) => left_by_rules(
             machine, file, rules, section, l, p, stack, address,
         ),
-        Reading::Refused(n) => walk::refused(file, n),
+        Err(n) => walk::refused(file, n),
     }
 }
 

@@ -8,7 +8,7 @@ use mathlib.Core.List.{List, [], ◌∷◌}
 use lib.Dec.{T, eqb, eqb→eq}
 use lib.ListN.{length, take, get_elem?}
 use Rattle.format.specs.Prelude.{pick, Result, good, bad}
-use Rattle.format.specs.declared.Outcome.{Outcome}
+use Rattle.format.specs.Coded.{Outcome}
 use Rattle.format.specs.declared.Section.{Section}
 use Rattle.format.specs.declared.Section.TheVariants.{Elf, Debug}
 use Rattle.format.specs.Machine.{machine_ok, machine_of}

@@ -3,8 +3,9 @@ use Rattle.std.specs.Prelude.{◌≡◌, ℕ, ◌*◌, ◌<◌, Bool, ◌||◌, 
 use Rattle.std.proofs.Math.Option.{none}
 use Rattle.format.specs.Prelude.{Result}
 use Rattle.format.specs.declared.Counts.{Counts}
-use Rattle.format.specs.declared.Outcome.{Outcome}
-use Rattle.format.specs.declared.Outcome.TheVariants as outcome
+use Rattle.format.specs.Coded.{Outcome}
+use Rattle.std.specs.Prelude.{Some, None, Ok, Err}
+use Rattle.format.specs.Coded.{refusal}
 use Rattle.format.specs.Lists.{function_stride, relocation_stride, count, field}
 use Rattle.format.specs.Questions.{Given, given_function}
 use Rattle.format.specs.Answers.{bit}
@@ -39,5 +40,5 @@ pub record ByRows (g : Given) (file : List ℕ) (pc stack : ℕ) (placed old : L
 
 abbrev pub WalksBack : (format : ℕ) (g : Given) (o : Outcome) (file : List ℕ) (pc stack : ℕ) (placed old : List ℕ) (a : Answer) (new : List ℕ) → Type 0
 WalksBack format g o file pc stack placed old a new =
-    (c : Counts) → T (dwarf_output format) → o ≡ outcome.Accepted c
+    (c : Counts) → T (dwarf_output format) → o ≡ Ok (Some c)
     → ((k : ℕ) → k < count 2 placed → Placing g placed k) → ByRows g file pc stack placed old a new

@@ -8,13 +8,13 @@ ghost use Rattle.unwind.specs.Together.{answer_for};
 ghost use Rattle.walked.specs.Entry.{numbers_of, chain_numbers, chain_stored};
 ghost use Rattle.walked_back.specs.Together.{walk_for, WalksBack};
 
-use format::Outcome;
+use format::{Counts, Refusal};
 use walked::Answer;
 
 // What the writer answered, and what the walk by what it wrote answered.
 #[derive(Clone, Copy)]
 pub struct WrittenAndWalked {
-    pub outcome: Outcome,
+    pub outcome: Result<Option<Counts>, Refusal>,
     pub answer: Answer,
 }
 

@@ -5,7 +5,8 @@ use native.Mathlib.Omega.{arith}
 use native.Mathlib.Numerals.{add-one}
 use mathlib.Core.Option.{Option, none, some}
 use Rattle.format.proofs.Asked.{question_of}
-use Rattle.format.specs.declared.Question.TheVariants.{Yes, No}
+use Rattle.std.specs.Prelude.{Ok, Err}
+use Rattle.format.specs.Coded.{refusal}
 use Rattle.format.specs.Questions.{Question, and_then, no_at}
 use Rattle.format.proofs.Choice.{if-eq, if-ne}
 use Rattle.codes.specs.Codes.{number_of}
@@ -49,11 +50,11 @@ module _ {f : ℕ → Option ℕ} {n k : ℕ} (a : Passing f n k) where
     unfolding no_at and_then
     turn z = record { high = omega arith; rest = here h ∙ rw (e ∙ said_none z) }
 
-    pub stopped : (r ≡ 0 → ⊥) → No r k ≡ question_of (ask_each f 0 n)
+    pub stopped : (r ≡ 0 → ⊥) → Err (refusal r k) ≡ question_of (ask_each f 0 n)
     unfolding no_at and_then question_of
     stopped z = sym (ap question_of (here h) ∙ rw (e ∙ said_some z))
 
-  pub ended : n ≤ k → Yes ≡ question_of (ask_each f 0 n)
+  pub ended : n ≤ k → Ok tt ≡ question_of (ask_each f 0 n)
   unfolding ask_each question_of
   ended h =
       let e : n - k ≡ 0 = omega arith in

@@ -13,7 +13,8 @@ use Rattle.format.specs.declared.Machine.{Machine}
 use Rattle.format.specs.Lists.{field, count, prologue_stride, code_stride, most_functions, most_records, sum_of, inside, symbol_ok, all_in, code_ok_at, prologue_ok_at, codes_ok, prologue_at, prologues_of}
 use Rattle.format.specs.X64.{x64}
 use Rattle.format.specs.Questions.{Question, Room, Answer, ask, and_then, no_at, unless, fitting, per_function, code_asks, codes_answer, short_ones, seh}
-use Rattle.format.specs.declared.Outcome.TheVariants as outcome
+use Rattle.std.specs.Prelude.{Some, None, Ok, Err}
+use Rattle.format.specs.Coded.{refusal}
 use Rattle.format.specs.Answers.{outcome_of, afterwards, Writes}
 use Rattle.format.proofs.ListLaws.{chained, part_of, at_each, symbol_small}
 use Rattle.x64.specs.declared.Source.{Source}
@@ -112,13 +113,13 @@ module _ (m : Machine) (small : m.pushed < 2 ^ 31) (map : length m.map ≡ 64) (
 
 module _ (fs codes : List ℕ) (r : Room) where
   pub seh_empty : {places bytes relocations sites : List ℕ} → count prologue_stride fs ≡ 0
-      → Writes (seh fs codes r) outcome.Empty places places bytes bytes relocations relocations sites sites
+      → Writes (seh fs codes r) (Ok None) places places bytes bytes relocations relocations sites sites
   unfolding seh outcome_of afterwards pick
   seh_empty e = rw (eq-eqb (count prologue_stride fs) 0 e) (record { outcome = refl; placed = refl; stored = refl; related = refl; sited = refl })
 
   module _ (some-there : count prologue_stride fs ≡ 0 → ⊥) where
     pub seh_refused : {places bytes relocations sites : List ℕ} → codes_ok fs codes ≡ false
-        → Writes (seh fs codes r) (outcome.Refused 13 0) places places bytes bytes relocations relocations sites sites
+        → Writes (seh fs codes r) (Err (refusal 13 0)) places places bytes bytes relocations relocations sites sites
     unfolding seh outcome_of afterwards pick ask unless
     seh_refused e =
         rw (ne_eqb (count prologue_stride fs) 0 some-there, e) (record { outcome = refl; placed = refl; stored = refl; related = refl; sited = refl })

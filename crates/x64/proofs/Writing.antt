@@ -10,9 +10,10 @@ use Rattle.format.specs.Prelude.{pick, Result, good, bad, onward, each}
 use Rattle.format.specs.declared.Machine.{Machine}
 use Rattle.format.specs.declared.Seh.{Seh}
 use Rattle.format.specs.declared.Counts.{Counts}
-use Rattle.format.specs.declared.Question as declared
-use Rattle.format.specs.declared.Question.TheVariants.{Yes, No}
-use Rattle.format.specs.declared.Outcome.TheVariants as outcome
+use Rattle.format.specs.Coded.{Asked}
+use Rattle.format.specs.declared.Refusal.{Refusal}
+use Rattle.std.specs.Prelude.{Some, None, Ok, Err}
+use Rattle.format.specs.Coded.{refusal}
 use Rattle.format.specs.Put.{put}
 use Rattle.format.proofs.Wrote.{Wrote}
 use Rattle.format.specs.Lists.{Function, Prologue, field, function_at, prologue_at, numbers_of}
@@ -23,22 +24,22 @@ use Rattle.format.proofs.Asked.{question_of, said_yes}
 use Rattle.format.proofs.ListLaws.{each-length}
 use Rattle.x64.specs.declared.Source.{Source}
 use Rattle.lists.specs.Room.{room_for}
-use Rattle.x64.specs.Answers.{named_at, ask_each, infos_of, is_yes}
+use Rattle.x64.specs.Answers.{named_at, ask_each, infos_of}
 use Rattle.x64.specs.Sources.{by_rows, result_at, stride_of, Listed, Writable, codes_no, pass_no, or_none, found_at, asks_of, table_of}
 use Rattle.x64.proofs.Asked.{each_yes}
 use Rattle.x64.proofs.Results.{markers_length}
 
 -- ---- answers
 
-pub not_yes : (q p : Question) {r : declared.Question} → r ≡ question_of q → not (is_yes r) ≡ true → r ≡ question_of (and_then q p)
-unfolding question_of and_then is_yes
-not_yes none p e t = let z : not (is_yes Yes) ≡ true = rw e at t in let w : ◌≡◌ {A = ℕ} 0 1 = cc in absurd (omega arith)
-not_yes (some x) p e t = e
+pub then_err : (q p : Question) {x : Asked} {r : Refusal} → x ≡ question_of q → x ≡ Err r → Err r ≡ question_of (and_then q p)
+unfolding question_of and_then
+then_err none p {x} {r} e y = let z : ◌≡◌ {A = Asked} (Ok tt) (Err r) = sym e ∙ y in let w : ◌≡◌ {A = ℕ} 0 1 = cc in absurd (omega arith)
+then_err (some x) p e y = sym y ∙ e
 
-pub is_yes_lem : (q p : Question) {r : declared.Question} → r ≡ question_of q → not (is_yes r) ≡ false → question_of p ≡ question_of (and_then q p)
-unfolding question_of and_then is_yes
-is_yes_lem none p e t = refl
-is_yes_lem (some x) p e t = let z : not (is_yes (No x.0 x.1)) ≡ false = rw e at t in let w : ◌≡◌ {A = ℕ} 0 1 = cc in absurd (omega arith)
+pub then_ok : (q p : Question) {x : Asked} → x ≡ question_of q → x ≡ Ok tt → question_of p ≡ question_of (and_then q p)
+unfolding question_of and_then
+then_ok none p e y = refl
+then_ok (some x) p e y = let z : ◌≡◌ {A = Asked} (Err (refusal x.0 x.1)) (Ok tt) = sym e ∙ y in let w : ◌≡◌ {A = ℕ} 0 1 = cc in absurd (omega arith)
 
 -- ---- every question answered by yes
 
@@ -48,7 +49,7 @@ last_of none none c e = e
 last_of none (some x) c e = let w : ◌≡◌ {A = ℕ} 0 1 = cc in absurd (omega arith)
 last_of (some x) b c e = let w : ◌≡◌ {A = ℕ} 0 1 = cc in absurd (omega arith)
 
-pub writable : {s : Source} {fs list : List ℕ} {n : ℕ} → Listed s fs list n → question_of (asks_of s fs list n) ≡ Yes → Writable s fs list n
+pub writable : {s : Source} {fs list : List ℕ} {n : ℕ} → Listed s fs list n → question_of (asks_of s fs list n) ≡ Ok tt → Writable s fs list n
 unfolding asks_of pass_no pick
 writable {s} {fs} {list} {n} l e = record {
   listed = l;
@@ -97,7 +98,7 @@ module _ (s : Source) (fs list : List ℕ) (n : ℕ) where
       rw (markers_count, bytes_count, five, sites_are)
 
   pub accepted_as : {total : ℕ} → total ≡ length (infos_of (each (found_at s fs list) 0 n))
-      → outcome.Accepted (record { places = n; bytes = 12 * n; relocations = 3 * n; sites = total }) ≡ outcome_of (accepted (table_of s fs list n))
+      → Ok (Some (record { places = n; bytes = 12 * n; relocations = 3 * n; sites = total })) ≡ outcome_of (accepted (table_of s fs list n))
   unfolding outcome_of
   accepted_as e = rw (markers_count, bytes_count, relocs_count, sites_are, e)
 
@@ -146,7 +147,7 @@ module _ {s : Source} {fs list : List ℕ} {n : ℕ} (a : Writable s fs list n) 
       → Wrote relocations relocations' 0 r (numbers_of (runtime_from 0 (each (named_at (stride_of s) fs) 0 n)))
       → places' ≡ put places 0 (markers_from 0 (each (found_at s fs list) 0 n))
       → sites' ≡ put sites 0 (infos_of (each (found_at s fs list) 0 n))
-      → Writes (accepted (table_of s fs list n)) (outcome.Accepted (record { places = n; bytes = 12 * n; relocations = 3 * n; sites = total }))
+      → Writes (accepted (table_of s fs list n)) (Ok (Some (record { places = n; bytes = 12 * n; relocations = 3 * n; sites = total })))
       places places' bytes bytes' relocations relocations' sites sites'
   unfolding afterwards
   all_stored {places} {places'} {bytes} {bytes'} {relocations} {relocations'} {sites} {sites'} t b w m i = record {

@@ -9,8 +9,9 @@ use Rattle.format.specs.X64.{code_no, first_no, slots, info_bytes}
 use Rattle.format.specs.declared.Seh.{Seh}
 use Rattle.codes.specs.Codes.{number_of, frame_ask}
 use Rattle.x64.specs.declared.Summary.{Summary}
-use Rattle.format.specs.declared.Question as declared
-use Rattle.format.specs.declared.Question.TheVariants.{Yes, No}
+use Rattle.format.specs.Coded.{Asked}
+use Rattle.std.specs.Prelude.{Ok, Err}
+use Rattle.format.specs.declared.Refusal.{Refusal}
 
 -- what a RUNTIME_FUNCTION names: a symbol and a length; and those of function k
 abbrev pub named : (symbol size : ℕ) → Prologue
@@ -48,8 +49,3 @@ ask_each f at (suc n) = and_then (no_at at (f at)) (ask_each f (suc at) n)
 -- the records of some prologues, one behind the other
 unfoldable pub infos_of : List Prologue → List ℕ
 infos_of ps = joined (map (λ f. info_bytes f.end f.codes) ps)
-
--- a yes
-unfoldable pub is_yes : declared.Question → Bool
-is_yes Yes = true
-is_yes (No n k) = false

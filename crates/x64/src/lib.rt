@@ -20,7 +20,7 @@ ghost use Rattle.x64.specs.Sources.{Readable, piece_at, moved_at, codes_in, dire
 ghost use Rattle.x64.specs.Answers.{named, named_at, said_by, first_of, summed, summary_of, ask_each, infos_of, is_yes};
 
 use codes::{Code, code_no, frame_no, frame_or, head, nodes, nodes_size, put_nodes};
-use format::{Counts, Machine, Outcome, Question};
+use format::{Counts, Machine, Refusal};
 use leb::fill;
 use lists::{
     code_at, code_offset_at, codes_ok, extent_at, lists_ok, machine_of, machine_ok, prologue_at,
@@ -376,7 +376,7 @@ fn pass_no(pass: u64, s: Source, fs: &[u64], list: &[u64], k: usize) -> u64
 }
 
 // A pass over n functions.
-fn first_no(pass: u64, s: Source, fs: &[u64], list: &[u64], n: usize) -> Question
+fn first_no(pass: u64, s: Source, fs: &[u64], list: &[u64], n: usize) -> Result<(), Refusal>
     requires { Listed s fs.now list.now n }
     ensures { result ≡ question_of (ask_each (pass_no pass s fs.now list.now) 0 n) }
 {
@@ -384,11 +384,14 @@ fn first_no(pass: u64, s: Source, fs: &[u64], list: &[u64], n: usize) -> Questio
     while k < n {
         let r = pass_no(pass, s, fs, list, k);
         if r != 0 {
-            return Question::No(r, k as u64);
+            return Err(Refusal {
+                number: r,
+                position: k as u64,
+            });
         }
         k += 1;
     }
-    Question::Yes
+    Ok(())
 }
 
 // ---- the results
@@ -442,45 +445,30 @@ fn put_all(
     bytes: &mut [u8],
     relocations: &mut [u64],
     info: &mut [u8],
-) -> Outcome
+) -> Result<Option<Counts>, Refusal>
     requires { Writable s fs.now list.now n × (sites ≡ length (infos_of (each (found_at s fs.now list.now) 0 n))) × (n ≤ length markers.old) × (12 * n ≤ length bytes.old) × (15 * n ≤ length relocations.old) × (sites ≤ length info.old) }
     ensures { Writes (accepted (table_of s fs.now list.now n)) result markers.old markers.new bytes.old bytes.new relocations.old relocations.new info.old info.new }
 {
     fill(bytes, 0, 12 * n);
     put_runtime(relocations, fs, stride(s), n);
     put_infos(markers, info, s, fs, list, n);
-    Outcome::Accepted(Counts {
+    Ok(Some(Counts {
         places: n as u64,
         bytes: (12 * n) as u64,
         relocations: (3 * n) as u64,
         sites: sites as u64,
-    })
+    }))
 }
 
 // ---- the answer
 
-fn is_yes(q: Question) -> bool
-    ensures { result ≡ is_yes q }
-{
-    match q {
-        Question::Yes => true,
-        Question::No(_, _) => false,
-    }
-}
-
 // The passes over n functions.
-fn asks(s: Source, fs: &[u64], list: &[u64], n: usize) -> Question
+fn asks(s: Source, fs: &[u64], list: &[u64], n: usize) -> Result<(), Refusal>
     requires { Listed s fs.now list.now n }
     ensures { result ≡ question_of (asks_of s fs.now list.now n) }
 {
-    let a = first_no(0, s, fs, list, n);
-    if !is_yes(a) {
-        return a;
-    }
-    let b = first_no(1, s, fs, list, n);
-    if !is_yes(b) {
-        return b;
-    }
+    first_no(0, s, fs, list, n)?;
+    first_no(1, s, fs, list, n)?;
     first_no(2, s, fs, list, n)
 }
 
@@ -494,7 +482,7 @@ fn write(
     bytes: &mut [u8],
     relocations: &mut [u64],
     info: &mut [u8],
-) -> Outcome
+) -> Result<Option<Counts>, Refusal>
     requires { Writable s fs.now list.now n }
     ensures { Writes (fitting (room_in markers.old bytes.old relocations.old info.old) (table_of s fs.now list.now n)) result markers.old markers.new bytes.old bytes.new relocations.old relocations.new info.old info.new }
 {
@@ -511,10 +499,8 @@ fn write(
         relocations: relocations.len() as u64,
         sites: info.len() as u64,
     };
-    match room(needed, lent) {
-        Question::Yes => put_all(s, fs, list, n, sites, markers, bytes, relocations, info),
-        Question::No(a, k) => Outcome::Refused(a, k),
-    }
+    room(needed, lent)?;
+    put_all(s, fs, list, n, sites, markers, bytes, relocations, info)
 }
 
 // The questions of n functions, and the results.
@@ -527,14 +513,12 @@ fn answer(
     bytes: &mut [u8],
     relocations: &mut [u64],
     info: &mut [u8],
-) -> Outcome
+) -> Result<Option<Counts>, Refusal>
     requires { Listed s fs.now list.now n }
     ensures { Writes (unless (asks_of s fs.now list.now n) (fitting (room_in markers.old bytes.old relocations.old info.old) (table_of s fs.now list.now n))) result markers.old markers.new bytes.old bytes.new relocations.old relocations.new info.old info.new }
 {
-    match asks(s, fs, list, n) {
-        Question::Yes => write(s, fs, list, n, markers, bytes, relocations, info),
-        Question::No(a, k) => Outcome::Refused(a, k),
-    }
+    asks(s, fs, list, n)?;
+    write(s, fs, list, n, markers, bytes, relocations, info)
 }
 
 // x64 unwind data from direct codes.
@@ -545,15 +529,18 @@ pub fn seh(
     bytes: &mut [u8],
     relocations: &mut [u64],
     info: &mut [u8],
-) -> Outcome
+) -> Result<Option<Counts>, Refusal>
     ensures { Writes (seh functions.now codes.now (room_in markers.old bytes.old relocations.old info.old)) result markers.old markers.new bytes.old bytes.new relocations.old relocations.new info.old info.new }
 {
     let n = functions.len() / lists::PROLOGUE_STRIDE;
     if n == 0 {
-        return Outcome::Empty;
+        return Ok(None);
     }
     if !codes_ok(functions, codes) {
-        return Outcome::Refused(13, 0);
+        return Err(Refusal {
+            number: 13,
+            position: 0,
+        });
     }
     let s = Source {
         direct: true,
@@ -573,18 +560,27 @@ pub fn windows(
     bytes: &mut [u8],
     relocations: &mut [u64],
     info: &mut [u8],
-) -> Outcome
+) -> Result<Option<Counts>, Refusal>
     ensures { Writes (unless (windows_asks (given_of machine.now functions.now rows.now landings.now pairs.now)) (windows_answer (machine_of machine.now) (given_functions (given_of machine.now functions.now rows.now landings.now pairs.now)) (room_in markers.old bytes.old relocations.old info.old))) result markers.old markers.new bytes.old bytes.new relocations.old relocations.new info.old info.new }
 {
     if !machine_ok(machine) {
-        return Outcome::Refused(11, 0);
+        return Err(Refusal {
+            number: 11,
+            position: 0,
+        });
     }
     let m = machine_of(machine);
     if !word_ok(m) {
-        return Outcome::Refused(12, 0);
+        return Err(Refusal {
+            number: 12,
+            position: 0,
+        });
     }
     if !lists_ok(functions, rows, landings, pairs) {
-        return Outcome::Refused(13, 0);
+        return Err(Refusal {
+            number: 13,
+            position: 0,
+        });
     }
     let s = Source {
         direct: false,

@@ -18,7 +18,7 @@ use Rattle.format.specs.X64Reader.{read_info, read_x64, info_numbers, codes_stor
 use Rattle.format.specs.Questions.{per_function, no_at, code_asks, Room, room_in, room_asks, accepted, fitting, codes_answer, Prologues, made, stopped, made_one, prologues_for, prologues_answer, windows_answer, Given, given_functions, given_function, no_functions, format_answer, relaxed_table, seh}
 use Rattle.format.specs.Put.{put}
 use Rattle.format.specs.Answers.{Writes, afterwards}
-use Rattle.format.specs.declared.Outcome.{Outcome}
+use Rattle.format.specs.Coded.{Outcome}
 use Rattle.x64.proofs.Results.{markers_length}
 use Rattle.format.proofs.Choice.{if-le}
 use Rattle.format.proofs.Accepted.{asked, both, function_at_lem, passed, not_empty}

@@ -7,7 +7,7 @@ ghost use Rattle.format.specs.Questions.{seh, room_in};
 ghost use Rattle.x64_reader.specs.Reads.{read_numbers};
 ghost use Rattle.x64_back.specs.Given.{ReadBack};
 
-use format::Outcome;
+use format::{Counts, Refusal};
 use x64_reader::X64Reading;
 
 // Number k of a list; 0 past its end.
@@ -23,7 +23,7 @@ fn marker_at(markers: &[u64], k: usize) -> u64
 // What `seh` answered, and what the reader answered at function k's marker.
 #[derive(Clone, Copy)]
 pub struct WrittenAndRead {
-    pub outcome: Outcome,
+    pub outcome: Result<Option<Counts>, Refusal>,
     pub reading: X64Reading,
 }
 

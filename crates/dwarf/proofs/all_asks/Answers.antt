@@ -1,18 +1,23 @@
 -- `dwarf::all_asks` meets its contract.
+use Rattle.std.proofs.Common.{sym, ◌∙◌}
+use Rattle.std.proofs.lemmas.Result.{err_from_is_err_and}
 use Rattle.dwarf.proofs.Asking.{start, turn, stopped, ended}
 use Rattle.dwarf.proofs.all_asks.Goals as goal
 
 pub loop-k-init : goal.loop-k-init
 loop-k-init c = start _ _ _
 
-pub dwarf_asks-q-requires : goal.dwarf_asks-q-requires
-dwarf_asks-q-requires c = (c.requires.0, rw (c.taken-e.ensures, c.extent_at.ensures) (c.requires.1.each_one _ c.loop-k-test.true))
+pub dwarf_asks-requires : goal.dwarf_asks-requires
+dwarf_asks-requires c = (c.requires.0, rw (c.taken-e.ensures, c.extent_at.ensures) (c.requires.1.each_one _ c.loop-k-test.true))
 
-pub returns-in_default : goal.returns-in_default
-returns-in_default c = stopped c.loop-k.invariant c.loop-k-test.true (rw (c.taken-e.ensures, c.extent_at.ensures) at c.dwarf_asks-q.ensures) c.in_default.is
+pub returns-in_err-dwarf_asks : goal.returns-in_err-dwarf_asks
+returns-in_err-dwarf_asks c =
+    let p = err_from_is_err_and c.from_residual.result c.from_residual.ensures.1 in
+    rw (p.1, p.2)
+    (sym c.in_err-dwarf_asks.was ∙ stopped c.loop-k.invariant c.loop-k-test.true (rw (c.taken-e.ensures, c.extent_at.ensures) at c.dwarf_asks.ensures) c.in_err-dwarf_asks.was)
 
 pub loop-k-preserved : goal.loop-k-preserved
-loop-k-preserved c = turn c.loop-k.invariant c.loop-k-test.true (rw (c.taken-e.ensures, c.extent_at.ensures) at c.dwarf_asks-q.ensures) c.in-Yes.is
+loop-k-preserved c = turn c.loop-k.invariant c.loop-k-test.true (rw (c.taken-e.ensures, c.extent_at.ensures) at c.dwarf_asks.ensures) c.in_ok-dwarf_asks.was
 
 pub returns : goal.returns
 returns c = ended c.loop-k.invariant c.loop-k-test.false

@@ -1,4 +1,3 @@
-use Prim.Native.Nat.{◌-◌}
 use Rattle.format.specs.Questions.{dwarf_asks}
 use Rattle.dwarf.specs.Asks.{asked_in}
 use Rattle.dwarf.proofs.Asking.{Asking}
@@ -6,6 +5,3 @@ use Rattle.dwarf.proofs.all_asks.Given as goal
 
 abbrev pub invariant-loop-k : goal.invariant-loop-k
 invariant-loop-k l = Asking (dwarf_asks l.s l.word) (asked_in l.s l.fs l.rows l.pairs) l.n l.k
-
-abbrev pub decreases-loop-k : goal.decreases-loop-k
-decreases-loop-k l = l.n - l.k

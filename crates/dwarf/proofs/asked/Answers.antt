@@ -1,6 +1,7 @@
 -- `dwarf::asked` meets its contract.
 use mathlib.Core.Bool.{not}
 use mathlib.Core.Path.{ap}
+use Rattle.std.proofs.lemmas.Result.{err_from_is_err_and}
 use Rattle.dwarf.specs.Parts.{inputs}
 use Rattle.lists.proofs.Answers.{accepted, refused}
 use Rattle.dwarf.proofs.Whole.{behind_sums, askable_is, cleared_is, says_13, says_no, says_all}
@@ -10,18 +11,18 @@ pub returns-then-not-functions_ok : goal.returns-then-not-functions_ok
 returns-then-not-functions_ok c =
     says_13 (inputs c.args.s c.args.m c.args.fs.now c.args.rows.now c.args.landings.now c.args.pairs.now) c.args.places.now c.args.out.now c.args.relocs.now c.args.sites.now (refused (behind_sums (inputs c.args.s c.args.m c.args.fs.now c.args.rows.now c.args.landings.now c.args.pairs.now) c.requires.1 c.functions_ok.ensures) (ap not c.if-not-functions_ok.true))
 
-pub all_asks-q-requires : goal.all_asks-q-requires
-all_asks-q-requires c =
+pub all_asks-requires : goal.all_asks-requires
+all_asks-requires c =
     askable_is (inputs c.args.s c.args.m c.args.fs.now c.args.rows.now c.args.landings.now c.args.pairs.now) c.requires.0 (accepted (behind_sums (inputs c.args.s c.args.m c.args.fs.now c.args.rows.now c.args.landings.now c.args.pairs.now) c.requires.1 c.functions_ok.ensures) (ap not c.if-not-functions_ok.false))
 
-pub returns-in-No : goal.returns-in-No
-returns-in-No c =
-    says_no (inputs c.args.s c.args.m c.args.fs.now c.args.rows.now c.args.landings.now c.args.pairs.now) c.args.places.now c.args.out.now c.args.relocs.now c.args.sites.now (accepted (behind_sums (inputs c.args.s c.args.m c.args.fs.now c.args.rows.now c.args.landings.now c.args.pairs.now) c.requires.1 c.functions_ok.ensures) (ap not c.if-not-functions_ok.false)) c.all_asks-q.ensures c.in-No.is
+pub returns-in_err-all_asks : goal.returns-in_err-all_asks
+returns-in_err-all_asks c = let p = err_from_is_err_and c.from_residual.result c.from_residual.ensures.1 in rw (p.1, p.2)
+    (says_no (inputs c.args.s c.args.m c.args.fs.now c.args.rows.now c.args.landings.now c.args.pairs.now) c.args.places.now c.args.out.now c.args.relocs.now c.args.sites.now (accepted (behind_sums (inputs c.args.s c.args.m c.args.fs.now c.args.rows.now c.args.landings.now c.args.pairs.now) c.requires.1 c.functions_ok.ensures) (ap not c.if-not-functions_ok.false)) c.all_asks.ensures c.in_err-all_asks.was)
 
 pub fitted-requires : goal.fitted-requires
 fitted-requires c =
-    (cleared_is (inputs c.args.s c.args.m c.args.fs.now c.args.rows.now c.args.landings.now c.args.pairs.now) c.requires.0 (accepted (behind_sums (inputs c.args.s c.args.m c.args.fs.now c.args.rows.now c.args.landings.now c.args.pairs.now) c.requires.1 c.functions_ok.ensures) (ap not c.if-not-functions_ok.false)) c.all_asks-q.ensures c.in_default.is, c.requires.2)
+    (cleared_is (inputs c.args.s c.args.m c.args.fs.now c.args.rows.now c.args.landings.now c.args.pairs.now) c.requires.0 (accepted (behind_sums (inputs c.args.s c.args.m c.args.fs.now c.args.rows.now c.args.landings.now c.args.pairs.now) c.requires.1 c.functions_ok.ensures) (ap not c.if-not-functions_ok.false)) c.all_asks.ensures c.in_ok-all_asks.was, c.requires.2)
 
 pub returns : goal.returns
 returns c =
-    says_all (inputs c.args.s c.args.m c.args.fs.now c.args.rows.now c.args.landings.now c.args.pairs.now) c.args.places.now c.args.out.now c.args.relocs.now c.args.sites.now (accepted (behind_sums (inputs c.args.s c.args.m c.args.fs.now c.args.rows.now c.args.landings.now c.args.pairs.now) c.requires.1 c.functions_ok.ensures) (ap not c.if-not-functions_ok.false)) c.all_asks-q.ensures c.in_default.is c.fitted.ensures
+    says_all (inputs c.args.s c.args.m c.args.fs.now c.args.rows.now c.args.landings.now c.args.pairs.now) c.args.places.now c.args.out.now c.args.relocs.now c.args.sites.now (accepted (behind_sums (inputs c.args.s c.args.m c.args.fs.now c.args.rows.now c.args.landings.now c.args.pairs.now) c.requires.1 c.functions_ok.ensures) (ap not c.if-not-functions_ok.false)) c.all_asks.ensures c.in_ok-all_asks.was c.fitted.ensures

@@ -1,6 +1,8 @@
 -- `dwarf::fitted` meets its contract.
 use Rattle.dwarf.specs.Parts.{inputs}
+use Rattle.std.proofs.Common.{sym, ◌∙◌}
 use Rattle.dwarf.proofs.Outcomes.{room_for_lem}
+use Rattle.format.proofs.Asked.{no_error}
 use borrow.Author.Rules.{rules}
 use Rattle.dwarf.proofs.fitted.Goals as goal
 use Rattle.dwarf.proofs.fitted.Goals.{Start}
@@ -18,19 +20,13 @@ sizes-t-requires c = (c.requires.0, c.owners.ensures)
 pub roomed-requires : goal.roomed-requires
 roomed-requires c = (c.requires.0, c.owners.ensures, c.sizes-t.ensures)
 
-pub shape_of-heads-in-No : goal.shape_of-heads-in-No
-shape_of-heads-in-No c = search (rules, c.heads-1.given)
-
-pub shape_of-links-in-No : goal.shape_of-links-in-No
-shape_of-links-in-No c = search (rules, c.links-1.given)
-
-pub returns-in-No : goal.returns-in-No
-returns-in-No c = c.roomed.ensures
+pub returns-then-is_err : goal.returns-then-is_err
+returns-then-is_err c = c.roomed.ensures
 
 pub stored-requires : goal.stored-requires
 stored-requires c =
     let s = (goal.at.stored-requires c).Start in
-    (s.requires.0, room_for_lem (inputs s.args.s s.args.m s.args.fs.now s.args.rows.now s.args.landings.now s.args.pairs.now) s.args.places.now s.args.out.now s.args.relocs.now s.args.sites.now c.room-q.ensures c.in_default.is (rw c.most.ensures s.requires.0.covered), c.owners.ensures)
+    (s.requires.0, room_for_lem (inputs s.args.s s.args.m s.args.fs.now s.args.rows.now s.args.landings.now s.args.pairs.now) s.args.places.now s.args.out.now s.args.relocs.now s.args.sites.now c.room.ensures (no_error _ (sym c.is_err.ensures.value ∙ c.if-is_err.false)) (rw c.most.ensures s.requires.0.covered), c.owners.ensures)
 
 pub returns : goal.returns
 returns c = c.stored.ensures

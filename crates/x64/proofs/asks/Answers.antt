@@ -1,18 +1,22 @@
 -- `x64::asks` meets its contract.
-use Rattle.x64.proofs.Writing.{not_yes, is_yes_lem}
+use mathlib.Core.Path.{◌∙◌}
+use Rattle.std.proofs.lemmas.Result.{err_from_is_err_and}
+use Rattle.x64.proofs.Writing.{then_err, then_ok}
 use Rattle.x64.specs.Sources.{asks_of}
-use mathlib.Core.Path.{ap, ◌∙◌}
-use mathlib.Core.Bool.{not}
 use Rattle.x64.proofs.asks.Goals as goal
 
-pub returns-then-not-is_yes : goal.returns-then-not-is_yes
+pub returns-in_err-first_no : goal.returns-in_err-first_no
 unfolding asks_of
-returns-then-not-is_yes c = not_yes _ _ c.first_no-a.ensures (rw c.is_yes.ensures at (ap not c.if-not-is_yes.true))
+returns-in_err-first_no c =
+    let p = err_from_is_err_and c.from_residual.result c.from_residual.ensures.1 in
+    rw (p.1, p.2) (then_err _ _ c.first_no.ensures c.in_err-first_no.was)
 
-pub returns-then-not-is_yes-2 : goal.returns-then-not-is_yes-2
+pub returns-in_err-first_no-2 : goal.returns-in_err-first_no-2
 unfolding asks_of
-returns-then-not-is_yes-2 c = not_yes _ _ c.first_no-b.ensures (rw c.is_yes-2.ensures at (ap not c.if-not-is_yes-2.true)) ∙ is_yes_lem _ _ c.first_no-a.ensures (rw c.is_yes.ensures at (ap not c.if-not-is_yes.false))
+returns-in_err-first_no-2 c =
+    let p = err_from_is_err_and c.from_residual.result c.from_residual.ensures.1 in
+    rw (p.1, p.2) (then_err _ _ c.first_no-2.ensures c.in_err-first_no-2.was ∙ then_ok _ _ c.first_no.ensures c.in_ok-first_no.was)
 
 pub returns : goal.returns
 unfolding asks_of
-returns c = c.first_no.ensures ∙ is_yes_lem _ _ c.first_no-b.ensures (rw c.is_yes-2.ensures at (ap not c.if-not-is_yes-2.false)) ∙ is_yes_lem _ _ c.first_no-a.ensures (rw c.is_yes.ensures at (ap not c.if-not-is_yes.false))
+returns c = c.first_no-3.ensures ∙ then_ok _ _ c.first_no-2.ensures c.in_ok-first_no-2.was ∙ then_ok _ _ c.first_no.ensures c.in_ok-first_no.was
