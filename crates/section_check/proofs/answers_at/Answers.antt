@@ -15,10 +15,10 @@ parse-requires c =
 pub returns-in_default-parse : goal.returns-in_default-parse
 returns-in_default-parse c = unparsed c.args.s.now c.args.word c.args.at c.args.end c.args.p c.header_of.ensures c.in-At.is c.parse.ensures c.in_default-parse.is
 
-pub returns-in-Answered : goal.returns-in-Answered
+pub returns-in-Ok : goal.returns-in-Ok
 unfolding answers
-returns-in-Answered c = ap answers (sym c.in-Answered.is) ∙ answered_in c.args.s.now c.args.word c.args.at c.args.end c.args.p c.header_of.ensures c.in-At.is c.parse.ensures c.in-Found.is c.rules_at.ensures
+returns-in-Ok c = ap answers (sym c.in-Ok.is) ∙ answered_in c.args.s.now c.args.word c.args.at c.args.end c.args.p c.header_of.ensures c.in-At.is c.parse.ensures c.in-Found.is c.rules_at.ensures
 
-pub returns-in-Refused : goal.returns-in-Refused
+pub returns-in-Err : goal.returns-in-Err
 unfolding answers
-returns-in-Refused c = ap answers (sym c.in-Refused.is) ∙ answered_in c.args.s.now c.args.word c.args.at c.args.end c.args.p c.header_of.ensures c.in-At.is c.parse.ensures c.in-Found.is c.rules_at.ensures
+returns-in-Err c = ap answers (sym c.in-Err.is) ∙ answered_in c.args.s.now c.args.word c.args.at c.args.end c.args.p c.header_of.ensures c.in-At.is c.parse.ensures c.in-Found.is c.rules_at.ensures

@@ -6,16 +6,16 @@ use Rattle.unwind.proofs.Fronts.{accepted_relocs}
 use Rattle.unwind.proofs.numbers_in.Goals as goal
 
 pub overflow_mul-result : goal.overflow_mul-result
-overflow_mul-result c = record { fits = omega (arith, accepted_relocs _ _ c.in-Accepted.is, c.requires, c.ranges.room.fits) }
+overflow_mul-result c = record { fits = omega (arith, accepted_relocs _ _ c.in-Ok-Some.is, c.requires, c.ranges.room.fits) }
 
-pub returns-in-Accepted : goal.returns-in-Accepted
+pub returns-in-Ok-Some : goal.returns-in-Ok-Some
 unfolding relocs_in
-returns-in-Accepted c = rw c.in-Accepted.is refl
+returns-in-Ok-Some c = rw c.in-Ok-Some.is refl
 
-pub returns-in-Empty : goal.returns-in-Empty
+pub returns-in-Ok-None : goal.returns-in-Ok-None
 unfolding relocs_in
-returns-in-Empty c = rw c.in-Empty.is refl
+returns-in-Ok-None c = rw c.in-Ok-None.is refl
 
-pub returns-in-Refused : goal.returns-in-Refused
+pub returns-in-Err : goal.returns-in-Err
 unfolding relocs_in
-returns-in-Refused c = rw c.in-Refused.is refl
+returns-in-Err c = rw c.in-Err.is refl

@@ -3,9 +3,9 @@ use mathlib.Core.Path.{refl}
 use Rattle.format.specs.Answers.{reading_numbers, mark_of, marked_numbers}
 use Rattle.unwind.proofs.numbers_of.Goals as goal
 
-pub returns-in-Answered : goal.returns-in-Answered
-returns-in-Answered c = rw c.in-Answered.is c.rules_numbers.ensures
+pub returns-in-Ok : goal.returns-in-Ok
+returns-in-Ok c = rw c.in-Ok.is c.rules_numbers.ensures
 
-pub returns-in-Refused : goal.returns-in-Refused
+pub returns-in-Err : goal.returns-in-Err
 unfolding reading_numbers mark_of marked_numbers
-returns-in-Refused c = rw c.in-Refused.is refl
+returns-in-Err c = rw c.in-Err.is refl

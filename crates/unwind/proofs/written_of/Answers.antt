@@ -3,14 +3,14 @@ use mathlib.Core.Path.{refl}
 use Rattle.format.specs.Answers.{outcome_numbers}
 use Rattle.unwind.proofs.written_of.Goals as goal
 
-pub returns-in-Accepted : goal.returns-in-Accepted
+pub returns-in-Ok-Some : goal.returns-in-Ok-Some
 unfolding outcome_numbers
-returns-in-Accepted c = rw c.in-Accepted.is refl
+returns-in-Ok-Some c = rw c.in-Ok-Some.is refl
 
-pub returns-in-Empty : goal.returns-in-Empty
+pub returns-in-Ok-None : goal.returns-in-Ok-None
 unfolding outcome_numbers
-returns-in-Empty c = rw c.in-Empty.is refl
+returns-in-Ok-None c = rw c.in-Ok-None.is refl
 
-pub returns-in-Refused : goal.returns-in-Refused
+pub returns-in-Err : goal.returns-in-Err
 unfolding outcome_numbers
-returns-in-Refused c = rw c.in-Refused.is refl
+returns-in-Err c = rw c.in-Err.is refl
