@@ -50,14 +50,7 @@ fn map_ok(ms: &[u64]) -> bool
     requires { 70 ≤ length ms.now }
     ensures { result ≡ all (λ n. leb n 255) (take 64 (drop 6 ms.now)) }
 {
-    let mut i = machine::MAP;
-    while i < machine::STRIDE {
-        if 255 < ms[i] {
-            return false;
-        }
-        i += 1;
-    }
-    true
+    ms[machine::MAP..machine::STRIDE].iter().all(|n| *n <= 255)
 }
 
 // Question 11.
@@ -104,10 +97,8 @@ pub fn machine_of(ms: &[u64]) -> Machine
     ensures { result ≡ machine_of ms.now }
 {
     let mut map = [0; machine::MAPPED];
-    let mut i = 0;
-    while i < machine::MAPPED {
+    for i in 0..machine::MAPPED {
         map[i] = ms[machine::MAP + i] as u8;
-        i += 1;
     }
     Machine {
         word: ms[machine::WORD],
@@ -234,17 +225,6 @@ pub fn prologue_at(fs: &[u64], k: usize) -> Prologue
     }
 }
 
-// The number whose 64 bits, in two's complement, are x.
-fn signed64(x: u64) -> i64
-    ensures { result ≡ to_z w64 x }
-{
-    if x < 9223372036854775808 {
-        x as i64
-    } else {
-        -1 - ((18446744073709551615 - x) as i64)
-    }
-}
-
 // The offset where the instruction of code i ends.
 pub fn code_offset_at(cs: &[u64], i: usize) -> u64
     requires { 5 * i + 5 ≤ length cs.now }
@@ -254,13 +234,14 @@ pub fn code_offset_at(cs: &[u64], i: usize) -> u64
 }
 
 // Code i.
+#[tactic(auto, unfolding(format::specs::Lists::code_at, format::specs::Lists::code_of, format::specs::Lists::mark, format::specs::Prelude::pick))]
 pub fn code_at(cs: &[u64], i: usize) -> Seh
     requires { 5 * i + 5 ≤ length cs.now }
     ensures { result ≡ (code_at cs.now i).1 }
 {
     let kind = cs[CODE_STRIDE * i + direct::CODE_KIND];
     let reg = cs[CODE_STRIDE * i + direct::CODE_REGISTER];
-    let value = signed64(cs[CODE_STRIDE * i + direct::CODE_VALUE]);
+    let value = cs[CODE_STRIDE * i + direct::CODE_VALUE].cast_signed();
     if kind == codes::PUSH {
         return Seh::Push(reg);
     }
@@ -347,15 +328,7 @@ pub fn rows_ok(rows: &[u64], at: usize, n: usize) -> bool
     requires { at + n ≤ count row_stride rows.now }
     ensures { result ≡ all_in (row_ok_at rows.now) at n }
 {
-    let end = at + n;
-    let mut i = at;
-    while i < end {
-        if !row_ok(rows, i) {
-            return false;
-        }
-        i += 1;
-    }
-    true
+    (at..at + n).all(|i| row_ok(rows, i))
 }
 
 // The n pairs from `at` on.
@@ -363,15 +336,7 @@ fn pairs_ok(ps: &[u64], at: usize, n: usize) -> bool
     requires { at + n ≤ count pair_stride ps.now }
     ensures { result ≡ all_in (pair_ok_at ps.now) at n }
 {
-    let end = at + n;
-    let mut i = at;
-    while i < end {
-        if !pair_ok(ps, i) {
-            return false;
-        }
-        i += 1;
-    }
-    true
+    (at..at + n).all(|i| pair_ok(ps, i))
 }
 
 // The n codes from `at` on.
@@ -379,15 +344,7 @@ fn codes_in(cs: &[u64], at: usize, n: usize) -> bool
     requires { at + n ≤ count code_stride cs.now }
     ensures { result ≡ all_in (code_ok_at cs.now) at n }
 {
-    let end = at + n;
-    let mut i = at;
-    while i < end {
-        if !code_ok(cs, i) {
-            return false;
-        }
-        i += 1;
-    }
-    true
+    (at..at + n).all(|i| code_ok(cs, i))
 }
 
 // The symbol of function k, and where its rows and landings are.
@@ -566,14 +523,7 @@ pub fn functions_ok(fs: &[u64], rows: &[u64], landings: &[u64], pairs: &[u64], n
     requires { 18 * n ≤ length fs.now }
     ensures { result ≡ all_in (function_ok_at fs.now rows.now landings.now pairs.now) 0 n }
 {
-    let mut k = 0;
-    while k < n {
-        if !function_ok(fs, rows, landings, pairs, k) {
-            return false;
-        }
-        k += 1;
-    }
-    true
+    (0..n).all(|k| function_ok(fs, rows, landings, pairs, k))
 }
 
 // Question 13, as far as the functions are counted, and what they reach.
@@ -608,14 +558,7 @@ fn prologues_ok(fs: &[u64], codes: &[u64], n: usize) -> bool
     requires { 5 * n ≤ length fs.now }
     ensures { result ≡ all_in (prologue_ok_at fs.now codes.now) 0 n }
 {
-    let mut k = 0;
-    while k < n {
-        if !prologue_ok(fs, codes, k) {
-            return false;
-        }
-        k += 1;
-    }
-    true
+    (0..n).all(|k| prologue_ok(fs, codes, k))
 }
 
 // Question 13 of the lists of direct codes.

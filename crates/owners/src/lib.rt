@@ -75,6 +75,7 @@ fn same_kind_and_signal(a: Extent, b: Extent) -> bool
 // ---- leading rows
 
 // Leading row i of two functions is the same.
+#[tactic(auto, unfolding(crate::specs::Owners::same_at, format::specs::Rows::same_row, format::specs::Rows::kind_of, format::specs::Rows::reg_of, format::specs::Rows::offset_of, format::specs::Rows::same_offset))]
 fn same_leading(m: Machine, a: Extent, b: Extent, rows: &[u64], i: usize) -> bool
     requires { MachineFits m × RowsReady rows.now a.rows_at a.rows × RowsReady rows.now b.rows_at b.rows × (i < length (leading_in m a rows.now)) × (i < length (leading_in m b rows.now)) }
     ensures { result ≡ same_at (leading_in m a rows.now) (leading_in m b rows.now) i }

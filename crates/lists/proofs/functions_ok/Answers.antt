@@ -1,18 +1,14 @@
--- `lists::functions_ok` meets its contract.
-use mathlib.Core.Bool.{not}
-use mathlib.Core.Path.{ap}
-use native.Mathlib.Omega.{arith}
-use Rattle.lists.proofs.Ranges.{start, turn, stopped, ended}
+-- `lists::functions_ok` asks its test at each record of a range.
+use Rattle.std.proofs.Common.{rules, ◌∙◌, refl, arith}
+use Rattle.std.proofs.lemmas.Iterator.{YieldsList-from_range}
+use Rattle.std.proofs.lemmas.Iterator.Search.{all_from_yields_List}
+use borrow.Author.Tests.{tests}
+use Rattle.format.specs.Lists.{function_ok_at}
+use Rattle.format.proofs.Asking.{all_in_range}
 use Rattle.lists.proofs.functions_ok.Goals as goal
 
-pub loop-k-init : goal.loop-k-init
-loop-k-init c = start _ _ _
-
-pub returns-then-not-function_ok : goal.returns-then-not-function_ok
-returns-then-not-function_ok c = stopped c.loop-k.invariant (omega arith) c.function_ok.ensures (ap not c.if-not-function_ok.true)
-
-pub loop-k-preserved : goal.loop-k-preserved
-loop-k-preserved c = turn c.loop-k.invariant (omega arith) c.function_ok.ensures (ap not c.if-not-function_ok.false)
-
 pub returns : goal.returns
-returns c = ended c.loop-k.invariant (omega arith)
+returns c =
+    let a = c.args in
+    all_from_yields_List (function_ok_at a.fs.now a.rows.now a.landings.now a.pairs.now) _ _ _ c.all.ensures.ran (YieldsList-from_range _ _ a.n refl (omega arith)) (λ x b q k. search (rules, tests))
+    ∙ all_in_range (function_ok_at a.fs.now a.rows.now a.landings.now a.pairs.now) 0 a.n

@@ -1,18 +1,14 @@
--- `lists::pairs_ok` meets its contract.
-use mathlib.Core.Bool.{not}
-use mathlib.Core.Path.{ap}
+-- `lists::pairs_ok` asks its test at each record of a range.
+use Rattle.std.proofs.Common.{rules, ◌∙◌, refl, arith}
+use Rattle.std.proofs.lemmas.Iterator.{YieldsList-from_range}
+use Rattle.std.proofs.lemmas.Iterator.Search.{all_from_yields_List}
+use borrow.Author.Tests.{tests}
 use Rattle.format.specs.Lists.{pair_ok_at}
-use Rattle.lists.proofs.Ranges.{start, turn, stopped, ended}
+use Rattle.format.proofs.Asking.{all_in_range}
 use Rattle.lists.proofs.pairs_ok.Goals as goal
 
-pub loop-i-init : goal.loop-i-init
-loop-i-init c = start (pair_ok_at c.args.ps.now) c.args.at c.args.n
-
-pub returns-then-not-pair_ok : goal.returns-then-not-pair_ok
-returns-then-not-pair_ok c = stopped c.loop-i.invariant c.loop-i-test.true c.pair_ok.ensures (ap not c.if-not-pair_ok.true)
-
-pub loop-i-preserved : goal.loop-i-preserved
-loop-i-preserved c = turn c.loop-i.invariant c.loop-i-test.true c.pair_ok.ensures (ap not c.if-not-pair_ok.false)
-
 pub returns : goal.returns
-returns c = ended c.loop-i.invariant c.loop-i-test.false
+returns c =
+    let a = c.args in
+    all_from_yields_List (pair_ok_at a.ps.now) _ _ _ c.all.ensures.ran (YieldsList-from_range _ _ a.n refl (omega arith)) (λ x b q k. search (rules, tests))
+    ∙ all_in_range (pair_ok_at a.ps.now) a.at a.n

@@ -1,18 +1,14 @@
--- `lists::prologues_ok` meets its contract.
-use mathlib.Core.Bool.{not}
-use mathlib.Core.Path.{ap}
-use native.Mathlib.Omega.{arith}
-use Rattle.lists.proofs.Ranges.{start, turn, stopped, ended}
+-- `lists::prologues_ok` asks its test at each record of a range.
+use Rattle.std.proofs.Common.{rules, ◌∙◌, refl, arith}
+use Rattle.std.proofs.lemmas.Iterator.{YieldsList-from_range}
+use Rattle.std.proofs.lemmas.Iterator.Search.{all_from_yields_List}
+use borrow.Author.Tests.{tests}
+use Rattle.format.specs.Lists.{prologue_ok_at}
+use Rattle.format.proofs.Asking.{all_in_range}
 use Rattle.lists.proofs.prologues_ok.Goals as goal
 
-pub loop-k-init : goal.loop-k-init
-loop-k-init c = start _ _ _
-
-pub returns-then-not-prologue_ok : goal.returns-then-not-prologue_ok
-returns-then-not-prologue_ok c = stopped c.loop-k.invariant (omega arith) c.prologue_ok.ensures (ap not c.if-not-prologue_ok.true)
-
-pub loop-k-preserved : goal.loop-k-preserved
-loop-k-preserved c = turn c.loop-k.invariant (omega arith) c.prologue_ok.ensures (ap not c.if-not-prologue_ok.false)
-
 pub returns : goal.returns
-returns c = ended c.loop-k.invariant (omega arith)
+returns c =
+    let a = c.args in
+    all_from_yields_List (prologue_ok_at a.fs.now a.codes.now) _ _ _ c.all.ensures.ran (YieldsList-from_range _ _ a.n refl (omega arith)) (λ x b q k. search (rules, tests))
+    ∙ all_in_range (prologue_ok_at a.fs.now a.codes.now) 0 a.n
