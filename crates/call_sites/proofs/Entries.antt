@@ -8,9 +8,9 @@ use mathlib.Core.List.{List}
 use lib.Dec.{ltb}
 use lib.ListN.{drop}
 use borrow.Author.Tests.{lt-ltb, le-ltb, le-leb, lt-leb}
+use Rattle.std.specs.Prelude.{Some, None}
 use Rattle.format.specs.Prelude.{next}
 use Rattle.operations.specs.declared.fields.Position.{Position}
-use Rattle.operations.specs.declared.fields.Unsigned.TheVariants as unsigned
 use Rattle.format.specs.CallSiteReader.{site_of, read_site, covers}
 use Rattle.format.proofs.Choice.{if-le, if-gt, either}
 use Rattle.operations.specs.Positions.{uleb_at}
@@ -18,26 +18,26 @@ use Rattle.operations.proofs.PositionLaws.{uleb_ahead, uleb_rest, uleb_none}
 use Rattle.call_sites.specs.Reads.{EntryThere}
 
 module _ (s : List ℕ) (p : Position) where
-  pub no_start : uleb_at s p ≡ unsigned.Bad → read_site (drop p.at s) ≡ none
+  pub no_start : uleb_at s p ≡ None → read_site (drop p.at s) ≡ none
   unfolding read_site next
   no_start e = rw (uleb_none s p e)
 
-  module _ {start : ℕ} {q₁ : Position} (e₁ : uleb_at s p ≡ unsigned.Value start q₁) where
-    pub no_length : uleb_at s q₁ ≡ unsigned.Bad → read_site (drop p.at s) ≡ none
+  module _ {start : ℕ} {q₁ : Position} (e₁ : uleb_at s p ≡ Some (start, q₁)) where
+    pub no_length : uleb_at s q₁ ≡ None → read_site (drop p.at s) ≡ none
     unfolding read_site next
     no_length e = rw (uleb_rest s p e₁, uleb_none s q₁ e)
 
-    module _ {size : ℕ} {q₂ : Position} (e₂ : uleb_at s q₁ ≡ unsigned.Value size q₂) where
-      pub no_pad : uleb_at s q₂ ≡ unsigned.Bad → read_site (drop p.at s) ≡ none
+    module _ {size : ℕ} {q₂ : Position} (e₂ : uleb_at s q₁ ≡ Some (size, q₂)) where
+      pub no_pad : uleb_at s q₂ ≡ None → read_site (drop p.at s) ≡ none
       unfolding read_site next
       no_pad e = rw (uleb_rest s p e₁, uleb_rest s q₁ e₂, uleb_none s q₂ e)
 
-      module _ {pad : ℕ} {q₃ : Position} (e₃ : uleb_at s q₂ ≡ unsigned.Value pad q₃) where
-        pub no_action : uleb_at s q₃ ≡ unsigned.Bad → read_site (drop p.at s) ≡ none
+      module _ {pad : ℕ} {q₃ : Position} (e₃ : uleb_at s q₂ ≡ Some (pad, q₃)) where
+        pub no_action : uleb_at s q₃ ≡ None → read_site (drop p.at s) ≡ none
         unfolding read_site next
         no_action e = rw (uleb_rest s p e₁, uleb_rest s q₁ e₂, uleb_rest s q₂ e₃, uleb_none s q₃ e)
 
-        module _ {action : ℕ} {q : Position} (e₄ : uleb_at s q₃ ≡ unsigned.Value action q) where
+        module _ {action : ℕ} {q : Position} (e₄ : uleb_at s q₃ ≡ Some (action, q)) where
           pub too_far : 2 ^ 64 ≤ start + size → read_site (drop p.at s) ≡ none
           unfolding read_site next
           too_far h =

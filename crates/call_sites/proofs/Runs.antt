@@ -2,20 +2,22 @@
 use mathlib.Core.Path.{◌≡◌, refl, sym, ap, ◌∙◌}
 use Prim.Native.Nat.{ℕ, zero, suc, ◌+◌, ◌-◌, ◌≤◌, ◌<◌}
 use native.Mathlib.Omega.{arith}
-use mathlib.Core.Bool.{Bool, true, false, ◌&&◌, and-false}
+use mathlib.Core.Bool.{Bool, true, false}
 use mathlib.Core.Option.{Option, none, some}
 use mathlib.Core.List.{List, [], ◌∷◌, ◌++◌, append_assoc, append-nil}
-use lib.Dec.{eqb}
 use lib.ListN.{length, drop, length-drop, drop_of_length-le}
-use borrow.Author.Tests.{eq-eqb, ne_eqb}
-use Rattle.format.specs.Prelude.{pick, next, after, first}
+use Rattle.std.specs.Prelude.{Some, None, Ok, Err}
+use Rattle.std.specs.Option.{option_or}
+use Rattle.std.specs.Bool.{then_some}
+use Rattle.std.specs.Prelude as code
+use Rattle.format.specs.Prelude.{pick, next, after, onward, or_else, first}
 use Rattle.format.specs.Lists.{Landing}
-use Rattle.format.specs.CallSiteReader.{read_site, read_sites_f, read_sites, covers, site_numbers}
+use Rattle.format.specs.CallSiteReader.{site_of, read_site, read_sites_f, read_sites, covers}
 use Rattle.format.proofs.Choice.{pick_yes, pick_no, tested}
 use Rattle.operations.specs.declared.fields.Position.{Position}
 use Rattle.operations.specs.Positions.{from}
-use Rattle.call_sites.specs.declared.Site.{Site}
-use Rattle.call_sites.specs.Reads.{EntryThere, numbers_of, kept_of, found_of}
+use Rattle.call_sites.specs.declared.Entry.{Entry}
+use Rattle.call_sites.specs.Reads.{landing_of, EntryThere, entry_of, first_covering}
 
 -- ---- one step of the definition
 
@@ -61,75 +63,61 @@ module _ {A : Type 0} (f : A → Bool) where
 
 -- ---- the loop
 
-pub record Going (offset : ℕ) (s : List ℕ) (p : Position) (site : Site) : Type 0 where
+pub record Going (offset : ℕ) (s : List ℕ) (p : Position) (found : code.Option Entry) : Type 0 where
   fuel : ℕ
   before : List Landing
   enough : length s < fuel + p.at
   inside : p.at ≤ length s
   same : read_sites s ≡ after (read_sites_f fuel (drop p.at s)) (λ ls. some (before ++ ls))
-  here : numbers_of site ≡ site_numbers (first (covers offset) before)
+  here : found ≡ entry_of (first (covers offset) before)
 
-pub start : {offset : ℕ} {s : List ℕ} {site : Site} → numbers_of site ≡ 0 ∷ 0 ∷ 0 ∷ 0 ∷ 0 ∷ [] → Going offset s (from 0) site
-unfolding read_sites site_numbers first
-start {s = s} h =
-    record { fuel = suc (length s); before = []; enough = omega arith; inside = omega arith; same = in_front (read_sites_f (suc (length s)) s); here = h }
+pub start : {offset : ℕ} {s : List ℕ} → Going offset s (from 0) None
+unfolding read_sites first
+start {s = s} =
+    record { fuel = suc (length s); before = []; enough = omega arith; inside = omega arith; same = in_front (read_sites_f (suc (length s)) s); here = refl }
 
--- ---- the site that is kept
+-- ---- the entry that covers the offset
 
-module _ (site : Site) (offset : ℕ) (l : Landing) where
-  pub kept_found : (site.found ≡ 0 → ⊥) → numbers_of site ≡ kept_of site offset l
-  unfolding kept_of pick
-  kept_found h = rw (ne_eqb site.found 0 h)
+entry_is : (e : Entry) → entry_of (some (landing_of e)) ≡ Some e
+unfolding site_of
+entry_is e = refl
 
-  pub kept_uncovered : covers offset l ≡ false → numbers_of site ≡ kept_of site offset l
-  unfolding kept_of pick
-  kept_uncovered e = rw (e, and-false (eqb site.found 0))
-
-  pub kept_this : site.found ≡ 0 → covers offset l ≡ true → kept_of site offset l ≡ site_numbers (some l)
-  unfolding kept_of pick
-  kept_this z e = rw (eq-eqb site.found 0 z, e)
-
-kept_none : (b : Bool) (l : Landing) {ns : List ℕ} → ns ≡ site_numbers none → pick b (site_numbers (some l)) ns ≡ site_numbers (pick b (some l) none)
+kept_none : (b : Bool) (e : Entry) → then_some b e ≡ entry_of (pick b (some (landing_of e)) none)
 unfolding pick
-kept_none true l h = refl
-kept_none false l h = h
+kept_none true e = sym (entry_is e)
+kept_none false e = refl
 
-kept_by : (site : Site) (offset : ℕ) (xs : List Landing) (l : Landing) (o : Option Landing) → first (covers offset) xs ≡ o → numbers_of site ≡ site_numbers o
-    → kept_of site offset l ≡ site_numbers (first (covers offset) (xs ++ (l ∷ [])))
-unfolding kept_of site_numbers pick
-kept_by site offset xs l none e h =
-    let z : site.found ≡ 0 = cc in
-    let y : eqb site.found 0 && covers offset l ≡ covers offset l = rw z refl in
-    rw (y, first_none (covers offset) xs l e) (kept_none (covers offset l) l h)
-kept_by site offset xs l (some x) e h =
-    let z : site.found ≡ 1 = cc in
-    let y : eqb site.found 0 && covers offset l ≡ false = rw z refl in
-    rw (y, first_some (covers offset) xs (l ∷ []) x e) h
+-- the entry found before, or else this one where it covers the offset
+kept_by : (offset : ℕ) (xs : List Landing) (e : Entry) (o : Option Landing) → first (covers offset) xs ≡ o
+    → option_or (entry_of o) (then_some (covers offset (landing_of e)) e) ≡ entry_of (first (covers offset) (xs ++ (landing_of e ∷ [])))
+kept_by offset xs e none h = rw (first_none (covers offset) xs (landing_of e) h) (kept_none (covers offset (landing_of e)) e)
+kept_by offset xs e (some x) h = rw (first_some (covers offset) xs (landing_of e ∷ []) x h)
 
-module _ {offset : ℕ} {s : List ℕ} {p : Position} {site : Site} (g : Going offset s p site) where
+module _ {offset : ℕ} {s : List ℕ} {p : Position} {found : code.Option Entry} (g : Going offset s p found) where
   module _ (h : p.at < length s) where
     step : read_sites s ≡ after (next (read_site (drop p.at s)) (λ l rest. after (read_sites_f (g.fuel - 1) rest) λ ls. some (l ∷ ls))) (λ ls. some (g.before ++ ls))
     step = g.same ∙ ap (λ r. after r (λ ls. some (g.before ++ ls))) (sites_step g.fuel (drop p.at s) (omega (arith, g.enough)) (omega (arith, length-drop p.at s)))
 
-    pub turn : {l : Landing} {q : Position} {newer : Site} → EntryThere s p l q → numbers_of newer ≡ kept_of site offset l → Going offset s q newer
+    pub turn : (e : Entry) {q : Position} {b : Bool} {this newer : code.Option Entry} → EntryThere s p (landing_of e) q → b ≡ covers offset (landing_of e)
+        → this ≡ then_some b e → newer ≡ option_or found this → Going offset s q newer
     unfolding next
-    turn {l = l} {q = q} c k = record {
+    turn e {q = q} c i j k = record {
       fuel = g.fuel - 1;
-      before = g.before ++ (l ∷ []);
+      before = g.before ++ (landing_of e ∷ []);
       enough = omega (arith, g.enough, c.ahead);
       inside = c.inside;
-      same = (rw c.reads at step) ∙ one_more g.before l (read_sites_f (g.fuel - 1) (drop q.at s));
-      here = k ∙ kept_by site offset g.before l (first (covers offset) g.before) refl g.here;
+      same = (rw c.reads at step) ∙ one_more g.before (landing_of e) (read_sites_f (g.fuel - 1) (drop q.at s));
+      here = k ∙ rw (j, i, g.here) (kept_by offset g.before e (first (covers offset) g.before) refl);
     }
 
-    pub unread : {ns : List ℕ} → read_site (drop p.at s) ≡ none → ns ≡ 72 ∷ 0 ∷ 0 ∷ 0 ∷ 0 ∷ [] → ns ≡ found_of offset (read_sites s)
-    unfolding next after found_of
-    unread e k = let r : read_sites s ≡ none = rw e at step in k ∙ rw r
+    pub unread : read_site (drop p.at s) ≡ none → Err 72 ≡ first_covering offset s
+    unfolding next after first_covering or_else onward
+    unread e = let r : read_sites s ≡ none = rw e at step in rw r
 
-  pub ended : length s ≤ p.at → numbers_of site ≡ found_of offset (read_sites s)
-  unfolding after found_of
+  pub ended : length s ≤ p.at → Ok found ≡ first_covering offset s
+  unfolding after first_covering or_else onward
   ended h =
       let e : drop p.at s ≡ [] = drop_of_length-le s h in
       let d : read_sites_f g.fuel (drop p.at s) ≡ some [] = rw e (sites_done g.fuel (omega (arith, g.enough, g.inside))) in
       let r : read_sites s ≡ some g.before = g.same ∙ rw (d, append-nil g.before) in
-      g.here ∙ rw r
+      rw r (ap Ok g.here)

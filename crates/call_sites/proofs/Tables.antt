@@ -4,24 +4,24 @@ use Prim.Native.Nat.{ℕ, zero, suc, ◌+◌, ◌-◌, ◌≤◌, ◌<◌}
 use native.Mathlib.Omega.{arith}
 use mathlib.Core.Bool.{Bool, true, false, ◌&&◌, and-true}
 use mathlib.Core.Option.{Option, none, some}
-use mathlib.Core.List.{List, [], ◌∷◌, ◌++◌}
+use mathlib.Core.List.{List, [], ◌∷◌}
 use lib.Dec.{eqb}
 use lib.ListN.{length, get_or, take, drop, length-drop, drop_of_length-le}
 use lib.Seq.{drop-cons, drop-drop}
-use Rattle.format.specs.Prelude.{pick, next, good, onward, or_else, first}
+use Rattle.std.specs.Prelude.{Some, None, Err}
+use Rattle.std.specs.Prelude as code
+use Rattle.format.specs.Prelude.{pick, next, Result, good, bad, onward, or_else, first}
 use Rattle.operations.specs.declared.fields.Position.{Position}
-use Rattle.operations.specs.declared.fields.Unsigned.TheVariants as value
 use Rattle.format.specs.Lists.{Landing}
 use Rattle.format.specs.Reader.{read_many, read_counted}
-use Rattle.format.specs.Answers.{bit}
 use Rattle.format.specs.Leb.{uleb}
 use Rattle.format.specs.Shortest.{unsigned, shortest, read_mark, marked, numbers_short, every_short_f, every_short}
 use Rattle.format.specs.CallSiteReader.{head_ok, read_sites, read_table, sites_at, covers, site_at, entries_short, sites_short, site_numbers, answer_numbers, site_mark, marked_site}
 use Rattle.format.proofs.Choice.{if-le, if-gt}
 use Rattle.operations.specs.Positions.{past, uleb_at, from}
 use Rattle.operations.proofs.PositionLaws.{uleb_ahead, uleb_rest, uleb_past, uleb_none}
-use Rattle.call_sites.specs.declared.Site.{Site}
-use Rattle.call_sites.specs.Reads.{TableThere, numbers_of, found_of}
+use Rattle.call_sites.specs.declared.Entry.{Entry}
+use Rattle.call_sites.specs.Reads.{TableThere, read_of, first_covering, answer_of}
 
 short : (bs : List ℕ) → length bs < 3 → read_table bs ≡ none
 unfolding read_table
@@ -56,11 +56,11 @@ module _ (s : List ℕ) (p : ℕ) where
       unfolding pick
       counted_next = rw f at (by_head e)
 
-      pub no_size : uleb_at s (from (p + 3)) ≡ value.Bad → read_table (drop p s) ≡ none
+      pub no_size : uleb_at s (from (p + 3)) ≡ None → read_table (drop p s) ≡ none
       unfolding read_counted next
       no_size n = counted_next ∙ rw (uleb_none s (from (p + 3)) n)
 
-      module _ {n : ℕ} {q : Position} (v : uleb_at s (from (p + 3)) ≡ value.Value n q) where
+      module _ {n : ℕ} {q : Position} (v : uleb_at s (from (p + 3)) ≡ Some (n, q)) where
         pub past_end : length s - q.at < n → read_table (drop p s) ≡ none
         unfolding read_counted read_many next
         past_end l = let m : length (drop q.at s) < n = omega (arith, length-drop q.at s) in counted_next ∙ rw (uleb_rest s (from (p + 3)) v, if-gt n (length (drop q.at s)))
@@ -79,46 +79,33 @@ module _ (s : List ℕ) (p : ℕ) where
 
 -- ---- the answer
 
--- the site that was found, and the mark behind its numbers
-abbrev with_mark : Site → Bool → List ℕ
-with_mark site shortest =
-    site.number ∷ site.found ∷ site.start ∷ site.length ∷ site.pad ∷ pick (eqb site.number 0) (bit shortest) 0 ∷ []
+-- in C's form
+in_numbers : (r : Result (Option Landing)) (shortest : Bool) → answer_of (read_of r) shortest ≡ marked_site r shortest
+unfolding answer_of marked_site answer_numbers site_mark site_numbers
+in_numbers (bad n) shortest = refl
+in_numbers (good none) shortest = refl
+in_numbers (good (some l)) shortest = refl
 
-pub no_table : (s : List ℕ) (p offset : ℕ) (shortest : Bool) (site : Site) {ns : List ℕ} → read_table (drop p s) ≡ none → numbers_of site ≡ 71 ∷ 0 ∷ 0 ∷ 0 ∷ 0 ∷ []
-    → ns ≡ with_mark site false → ns ≡ marked_site (site_at s p offset) shortest
-unfolding site_at sites_at onward or_else answer_numbers site_mark marked_site pick
-no_table s p offset shortest site e h k =
-    let z : site.number ≡ 71 = cc in
-    let m : with_mark site false ≡ 71 ∷ 0 ∷ 0 ∷ 0 ∷ 0 ∷ 0 ∷ [] = rw z (ap (λ (ns : List ℕ). ns ++ (0 ∷ [])) (rw z at h)) in
-    k ∙ m ∙ rw e
+pub no_table : (s : List ℕ) (p offset : ℕ) (shortest : Bool) {ns : List ℕ} → read_table (drop p s) ≡ none → ns ≡ answer_of (Err 71) false
+    → ns ≡ marked_site (site_at s p offset) shortest
+unfolding site_at sites_at onward or_else answer_of marked_site answer_numbers site_mark
+no_table s p offset shortest e k = k ∙ rw e
 
-found_marked : (site : Site) (o : Option Landing) (shortest : Bool) → numbers_of site ≡ site_numbers o → with_mark site shortest ≡ site_numbers o ++ (bit shortest ∷ [])
-unfolding site_numbers pick
-found_marked site none shortest e = let z : site.number ≡ 0 = cc in rw z (ap (λ (ns : List ℕ). ns ++ (bit shortest ∷ [])) (rw z at e))
-found_marked site (some l) shortest e = let z : site.number ≡ 0 = cc in rw z (ap (λ (ns : List ℕ). ns ++ (bit shortest ∷ [])) (rw z at e))
-
-answers : (offset : ℕ) (r : Option (List Landing)) (site : Site) (shortest : Bool) → numbers_of site ≡ found_of offset r
-    → with_mark site shortest ≡ marked_site (onward (or_else r 72) λ ls. good (first (covers offset) ls)) shortest
-unfolding or_else onward found_of answer_numbers site_mark marked_site pick
-answers offset none site shortest e = let z : site.number ≡ 72 = cc in rw z (ap (λ (ns : List ℕ). ns ++ (0 ∷ [])) (rw z at e))
-answers offset (some ls) site shortest e = found_marked site (first (covers offset) ls) shortest e
-
-pub table_answers : (s : List ℕ) (p offset : ℕ) {at q : ℕ} (site : Site) {b c : Bool} {ns : List ℕ} → TableThere s p at q
-    → numbers_of site ≡ found_of offset (read_sites (take (q - at) (drop at s))) → b ≡ c → ns ≡ with_mark site b
-    → ns ≡ marked_site (site_at s p offset) c
-unfolding site_at sites_at onward or_else
-table_answers s p offset {at = at} {q = q} site {b = b} t h e k =
-    k ∙ rw (← e, t.reads) (answers offset (read_sites (take (q - at) (drop at s))) site b h)
+pub table_answers : (s : List ℕ) (p offset : ℕ) {at q : ℕ} {read : code.Result (code.Option Entry) ℕ} {b c : Bool} {ns : List ℕ} → TableThere s p at q
+    → read ≡ first_covering offset (take (q - at) (drop at s)) → b ≡ c → ns ≡ answer_of read b → ns ≡ marked_site (site_at s p offset) c
+unfolding site_at sites_at onward or_else first_covering
+table_answers s p offset {at = at} {q = q} {c = c} t h e k =
+    k ∙ rw (h, e) (in_numbers (onward (or_else (read_sites (take (q - at) (drop at s))) 72) λ ls. good (first (covers offset) ls)) c ∙ rw t.reads)
 
 -- ---- the mark
 
 module _ (s : List ℕ) (p : Position) where
-  mark_none : uleb_at s p ≡ value.Bad → read_mark unsigned (drop p.at s) ≡ none
+  mark_none : uleb_at s p ≡ None → read_mark unsigned (drop p.at s) ≡ none
   unfolding read_mark shortest next
   mark_none e = rw (uleb_none s p e)
 
   -- the position past a number has its mark where every number in front of it is shortest
-  mark_some : {v : ℕ} {q : Position} → p.shortest ≡ true → uleb_at s p ≡ value.Value v q → read_mark unsigned (drop p.at s) ≡ some (q.shortest, drop q.at s)
+  mark_some : {v : ℕ} {q : Position} → p.shortest ≡ true → uleb_at s p ≡ Some (v, q) → read_mark unsigned (drop p.at s) ≡ some (q.shortest, drop q.at s)
   unfolding read_mark shortest next numbers_short marked past
   mark_some {v} {q} t e =
       let b : Bool = eqb (length (drop p.at s) - length (drop q.at s)) (length (uleb v)) in
@@ -131,11 +118,11 @@ module _ {s : List ℕ} {p at q : ℕ} (t : TableThere s p at q) where
   unfolding sites_short entries_short numbers_short
   table_mark = let e : drop 3 (drop p s) ≡ drop (p + 3) s = drop-drop 3 p s in rw (t.reads, e)
 
-  pub size_unread : uleb_at s (from (p + 3)) ≡ value.Bad → false ≡ sites_short s p
+  pub size_unread : uleb_at s (from (p + 3)) ≡ None → false ≡ sites_short s p
   unfolding marked
   size_unread e = sym (table_mark ∙ rw (mark_none s (from (p + 3)) e))
 
-  module _ {n : ℕ} {r : Position} (e : uleb_at s (from (p + 3)) ≡ value.Value n r) where
+  module _ {n : ℕ} {r : Position} (e : uleb_at s (from (p + 3)) ≡ Some (n, r)) where
     pub size_long : r.shortest ≡ false → false ≡ sites_short s p
     unfolding marked
     size_long f = sym (table_mark ∙ rw (mark_some s (from (p + 3)) refl e, f))
@@ -174,11 +161,11 @@ module _ {s : List ℕ} {p : Position} (g : Left s p) where
     opened : every_short s ≡ marked (read_mark unsigned (drop p.at s)) (every_short_f (g.fuel - 1))
     opened = g.rest ∙ every_step g.fuel (drop p.at s) (omega (arith, g.enough)) (omega (arith, length-drop p.at s))
 
-    pub number_unread : uleb_at s p ≡ value.Bad → false ≡ every_short s
+    pub number_unread : uleb_at s p ≡ None → false ≡ every_short s
     unfolding marked
     number_unread e = sym (opened ∙ rw (mark_none s p e))
 
-    module _ {v : ℕ} {q : Position} (e : uleb_at s p ≡ value.Value v q) where
+    module _ {v : ℕ} {q : Position} (e : uleb_at s p ≡ Some (v, q)) where
       pub number_long : q.shortest ≡ false → false ≡ every_short s
       unfolding marked
       number_long f = sym (opened ∙ rw (mark_some s p g.before e, f))

@@ -1,17 +1,20 @@
--- What the reader's functions promise: an entry at a position, a table's entries, and the site that is kept while the entries are read.
-use Rattle.std.specs.Prelude.{◌≡◌, ℕ, ◌+◌, ◌-◌, ◌≤◌, ◌<◌, ◌&&◌, List, [], ◌∷◌, eqb, length, take, drop}
+-- What the reader's functions promise: an entry at a position, a table's entries, and the first of them that covers an offset.
+use Rattle.std.specs.Prelude.{◌≡◌, ℕ, ◌+◌, ◌-◌, ◌≤◌, ◌<◌, Bool, List, [], ◌∷◌, length, take, drop, Some, None, Ok, Err}
+use Rattle.std.specs.Prelude as code
 use Rattle.std.proofs.Math.Option.{Option, none, some}
-use Rattle.format.specs.Prelude.{pick, first}
+use Rattle.format.specs.Prelude.{Result, good, bad, onward, or_else, first}
 use Rattle.format.specs.Lists.{Landing}
-use Rattle.format.specs.CallSiteReader.{site_of, read_site, read_table, covers, site_numbers}
+use Rattle.format.specs.Answers.{bit}
+use Rattle.format.specs.CallSiteReader.{site_of, read_site, read_sites, read_table, covers}
 use Rattle.operations.specs.declared.fields.Position.{Position}
 use Rattle.call_sites.specs.declared.Entry.{Entry}
-use Rattle.call_sites.specs.declared.Entry.TheVariants as entry
-use Rattle.call_sites.specs.declared.Site.{Site}
 use Rattle.call_sites.specs.declared.Table.{Table}
-use Rattle.call_sites.specs.declared.Table.TheVariants as table
+use Rattle.call_sites.specs.declared.Site.{Site}
 
 -- ---- one entry
+
+abbrev pub landing_of : Entry → Landing
+landing_of e = site_of e.start e.length e.pad
 
 -- what stands at p is an entry, and q is the position past it
 pub record EntryThere (s : List ℕ) (p : Position) (l : Landing) (q : Position) : Type 0 where
@@ -19,9 +22,9 @@ pub record EntryThere (s : List ℕ) (p : Position) (l : Landing) (q : Position)
   pub inside : q.at ≤ length s
   pub reads : read_site (drop p.at s) ≡ some (l, drop q.at s)
 
-abbrev pub EntrySays : List ℕ → Position → Entry → Type 0
-EntrySays s p (entry.Site start size pad q) = EntryThere s p (site_of start size pad) q
-EntrySays s p entry.Bad = read_site (drop p.at s) ≡ none
+abbrev pub EntrySays : List ℕ → Position → code.Option (Entry × Position) → Type 0
+EntrySays s p (Some x) = EntryThere s p (landing_of x.0) x.1
+EntrySays s p None = read_site (drop p.at s) ≡ none
 
 -- ---- a table
 
@@ -31,24 +34,31 @@ pub record TableThere (s : List ℕ) (p at q : ℕ) : Type 0 where
   pub inside : q ≤ length s
   pub reads : read_table (drop p s) ≡ some (take (q - at) (drop at s))
 
-abbrev pub TableSays : List ℕ → ℕ → Table → Type 0
-TableSays s p (table.Entries at q) = TableThere s p at q
-TableSays s p table.Bad = read_table (drop p s) ≡ none
+abbrev pub TableSays : List ℕ → ℕ → code.Option Table → Type 0
+TableSays s p (Some t) = TableThere s p t.at t.past
+TableSays s p None = read_table (drop p s) ≡ none
+
+-- ---- the entry that covers an offset
+
+abbrev pub entry_of : Option Landing → code.Option Entry
+entry_of none = None
+entry_of (some l) = Some (record { start = l.start; length = l.size; pad = l.pad })
+
+abbrev pub read_of : Result (Option Landing) → code.Result (code.Option Entry) ℕ
+read_of (good o) = Ok (entry_of o)
+read_of (bad n) = Err n
+
+-- the first entry of those that the bytes of a table make that covers the offset
+unfoldable pub first_covering : (offset : ℕ) → List ℕ → code.Result (code.Option Entry) ℕ
+first_covering offset bs = read_of (onward (or_else (read_sites bs) 72) λ ls. good (first (covers offset) ls))
 
 -- ---- the answer
 
--- its numbers, in the order of include/dekvoz.h; the first five are the site's
+-- its numbers, in the order of include/dekvoz.h
 abbrev pub marked_of : Site → List ℕ
 marked_of r = r.number ∷ r.found ∷ r.start ∷ r.length ∷ r.pad ∷ r.shortest ∷ []
 
-abbrev pub numbers_of : Site → List ℕ
-numbers_of r = r.number ∷ r.found ∷ r.start ∷ r.length ∷ r.pad ∷ []
-
--- the site found before, or else this one where it covers the offset
-unfoldable pub kept_of : Site → (offset : ℕ) → Landing → List ℕ
-kept_of before offset l = pick (eqb before.found 0 && covers offset l) (site_numbers (some l)) (numbers_of before)
-
--- the first entry that covers the offset
-unfoldable pub found_of : (offset : ℕ) → Option (List Landing) → List ℕ
-found_of offset none = 72 ∷ 0 ∷ 0 ∷ 0 ∷ 0 ∷ []
-found_of offset (some ls) = site_numbers (first (covers offset) ls)
+unfoldable pub answer_of : code.Result (code.Option Entry) ℕ → (shortest : Bool) → List ℕ
+answer_of (Err n) shortest = n ∷ 0 ∷ 0 ∷ 0 ∷ 0 ∷ 0 ∷ []
+answer_of (Ok None) shortest = 0 ∷ 0 ∷ 0 ∷ 0 ∷ 0 ∷ bit shortest ∷ []
+answer_of (Ok (Some e)) shortest = 0 ∷ 1 ∷ e.start ∷ e.length ∷ e.pad ∷ bit shortest ∷ []

@@ -4,7 +4,7 @@ use Rattle.call_sites.proofs.Runs.{Going}
 use Rattle.call_sites.proofs.search.Given as goal
 
 abbrev pub invariant-loop-at : goal.invariant-loop-at
-invariant-loop-at l = Going l.offset l.s l.at l.site
+invariant-loop-at l = Going l.offset l.s l.at l.found
 
 abbrev pub decreases-loop-at : goal.decreases-loop-at
 decreases-loop-at l = length l.s - l.at.at
