@@ -175,9 +175,6 @@ pub code_bytes_lem : (c : Code) → big (form_for c).size (word_of (form_for c) 
 unfolding code_bytes spelled word_of
 code_bytes_lem c = refl
 
-pub four : {f : Form} → FormGood f → (f.size ≡ 1 → ⊥) → (f.size ≡ 2 → ⊥) → f.size ≡ 4
-four {f} g a b = omega (arith, g.some_bytes, g.few_bytes, g.not_three, a, b)
-
 pub fits_by : (c : Code) → register_fits (form_for c) c ≡ true → code_fits c ≡ offset_fits (form_for c) c
 unfolding code_fits
 fits_by c e = simp e

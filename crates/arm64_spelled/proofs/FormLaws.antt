@@ -21,7 +21,7 @@ abbrev pub opcodes : List ℕ
 opcodes =
     0xe0 ∷ 0x20 ∷ 0x40 ∷ 0x80 ∷ 0xc8 ∷ 0xcc ∷ 0xd0 ∷ 0xd4 ∷ 0xd6 ∷ 0xd8 ∷ 0xda ∷ 0xdc ∷ 0xde ∷ 0xe1 ∷ 0xe2 ∷ 0xe3 ∷ 0xe6 ∷ 0xfc ∷ []
 
-opcode_form : (k : ℕ) → k < 18 → form_of (get_or opcodes k 0) ≡ get_or kind_forms k reserved
+opcode_form : (k : ℕ) → k < 18 → form_of (get_or opcodes k 0xdf) ≡ get_or kind_forms k reserved
 unfolding form_of short_form integer_form vector_form other_form pick
 opcode_form zero h = refl
 opcode_form (suc zero) h = refl
@@ -53,14 +53,11 @@ past_kinds : (k : ℕ) → 17 < k → get_or kind_forms k reserved ≡ reserved
 past_kinds k h = past_end kind_forms k reserved h
 
 module _ (c : Code) where
-  pub no_kind : 17 < c.kind → form_of 0xdf ≡ form_for c
+  pub by_kind : (c.kind ≡ 0 → ⊥) → form_of (get_or opcodes c.kind 0xdf) ≡ form_for c
   unfolding form_for form_of vector_form pick
-  no_kind h =
-      let n : c.kind ≡ 0 → ⊥ = λ e. absurd (omega (arith, e, h)) in rw (if-ne c.kind 0) (sym (past_kinds c.kind h))
-
-  pub by_kind : c.kind < 18 → (c.kind ≡ 0 → ⊥) → form_of (get_or opcodes c.kind 0) ≡ form_for c
-  unfolding form_for
-  by_kind h n = rw (if-ne c.kind 0) (opcode_form c.kind h)
+  by_kind n =
+      either (suc c.kind) 18 (λ h. rw (if-ne c.kind 0) (opcode_form c.kind h)) λ h.
+      rw (if-ne c.kind 0, past_end opcodes c.kind 0xdf (omega (arith, h))) (sym (past_kinds c.kind (omega (arith, h))))
 
   module _ (e : c.kind ≡ 0) where
     alloc : form_for c ≡ alloc_form c.offset

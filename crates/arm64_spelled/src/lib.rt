@@ -24,117 +24,117 @@ const LAST: [u64; 18] = [
 fn opcode(c: Code) -> u64
     ensures { form_of result ≡ form_for c }
 {
-    if 17 < c.kind {
-        return 0xdf;
-    }
     if c.kind != arm64::ALLOC {
-        return leb::wide(OPCODES[c.kind as usize]);
+        return u64::from(OPCODES.get(c.kind as usize).copied().unwrap_or(0xdf));
     }
-    if c.offset / 16 < 32 {
-        return 0x00;
+    match c.offset / 16 {
+        0..32 => 0x00,
+        32..2048 => 0xc0,
+        _ => 0xe0,
     }
-    if c.offset / 16 < 2048 {
-        return 0xc0;
-    }
-    0xe0
 }
 
-fn form_for(c: Code) -> Form
-    ensures { (result ≡ form_for c) × FormGood result }
-{
-    arm64_codes::form_of(opcode(c))
+// A code with the form of its kind.
+#[derive(Clone, Copy)]
+struct Spelling {
+    code: Code,
+    form: Form,
+    ghost good: { FormGood form },
 }
 
-// ---- question 83 of a code
+impl Spelling {
+    fn of(code: Code) -> Spelling
+        ensures { (result.code ≡ code) × (result.form ≡ form_for code) }
+    {
+        Spelling {
+            code,
+            form: arm64_codes::form_of(opcode(code)),
+        }
+    }
 
+    // ---- question 83 of a code
+
+    fn register_fits(self) -> bool
+        ensures { result ≡ register_fits self.form self.code }
+    {
+        let register = self.code.register;
+        if self.form.step == 0 {
+            return true;
+        }
+        if register < self.form.first {
+            return false;
+        }
+        if last_register(self.code.kind) < register {
+            return false;
+        }
+        (register - self.form.first) % self.form.step == 0
+    }
+
+    fn offset_fits(self) -> bool
+        ensures { result ≡ offset_fits self.form self.code }
+    {
+        let offset = self.code.offset;
+        if offset < self.form.more {
+            return false;
+        }
+        if offset % self.form.scale != 0 {
+            return false;
+        }
+        (offset - self.form.more) / self.form.scale < self.form.unit
+    }
+
+    // ---- bytes
+
+    fn register_field(self) -> u64
+        requires { InRanges self.form self.code }
+        ensures { (result ≡ register_field self.form self.code) × (result ≤ 30) }
+    {
+        if self.form.step == 0 {
+            return 0;
+        }
+        (self.code.register - self.form.first) / self.form.step
+    }
+
+    // The opcode and the fields as one number, first byte highest.
+    fn word(self) -> u64
+        requires { InRanges self.form self.code }
+        ensures { result ≡ word_of self.form self.code }
+    {
+        let f = self.form;
+        let field = f.unit * self.register_field() + (self.code.offset - f.more) / f.scale;
+        match f.size {
+            1 => f.op + field,
+            2 => 256 * f.op + field,
+            _ => 16777216 * f.op + field,
+        }
+    }
+}
+
+// The last register that a kind can name.
 fn last_register(kind: u64) -> u64
     ensures { result ≡ get_or last_registers kind 0 }
 {
-    if 17 < kind {
-        return 0;
-    }
-    LAST[kind as usize]
-}
-
-fn register_fits(f: Form, c: Code) -> bool
-    requires { FormGood f }
-    ensures { result ≡ register_fits f c }
-{
-    if f.step == 0 {
-        return true;
-    }
-    if c.register < f.first {
-        return false;
-    }
-    if last_register(c.kind) < c.register {
-        return false;
-    }
-    (c.register - f.first) % f.step == 0
-}
-
-fn offset_fits(f: Form, c: Code) -> bool
-    requires { FormGood f }
-    ensures { result ≡ offset_fits f c }
-{
-    if c.offset < f.more {
-        return false;
-    }
-    if c.offset % f.scale != 0 {
-        return false;
-    }
-    (c.offset - f.more) / f.scale < f.unit
+    LAST.get(kind as usize).copied().unwrap_or(0)
 }
 
 // Whether the register is one that the kind can name.
 pub fn register_ok(c: Code) -> bool
     ensures { result ≡ register_fits (form_for c) c }
 {
-    let f = form_for(c);
-    register_fits(f, c)
+    Spelling::of(c).register_fits()
 }
 
 pub fn code_fits(c: Code) -> bool
     ensures { result ≡ code_fits c }
 {
-    let f = form_for(c);
-    if !register_fits(f, c) {
-        return false;
-    }
-    offset_fits(f, c)
+    let s = Spelling::of(c);
+    s.register_fits() && s.offset_fits()
 }
-
-// ---- bytes
 
 pub fn code_size(c: Code) -> usize
     ensures { (result ≡ length (code_bytes c)) × (1 ≤ result) × (result ≤ 4) }
 {
-    let f = form_for(c);
-    f.size as usize
-}
-
-fn register_field(f: Form, c: Code) -> u64
-    requires { FormGood f × InRanges f c }
-    ensures { (result ≡ register_field f c) × (result ≤ 30) }
-{
-    if f.step == 0 {
-        return 0;
-    }
-    (c.register - f.first) / f.step
-}
-
-// The opcode and the fields as one number, first byte highest.
-fn word_of(f: Form, c: Code) -> u64
-    requires { FormGood f × InRanges f c }
-    ensures { result ≡ word_of f c }
-{
-    let field = f.unit * register_field(f, c) + (c.offset - f.more) / f.scale;
-    if f.size == 1 {
-        return f.op + field;
-    }
-    if f.size == 2 {
-        return 256 * f.op + field;
-    }
-    16777216 * f.op + field
+    Spelling::of(c).form.size as usize
 }
 
 // A number in 1, 2 or 4 bytes, the first highest.
@@ -159,6 +159,6 @@ pub fn put_code(out: &mut [u8], at: usize, c: Code) -> usize
     requires { (code_fits c ≡ true) × (at + length (code_bytes c) ≤ length out.old) }
     ensures { Wrote out.old out.new at result (code_bytes c) }
 {
-    let f = form_for(c);
-    put_big(out, at, f.size, word_of(f, c))
+    let s = Spelling::of(c);
+    put_big(out, at, s.form.size, s.word())
 }

@@ -1,12 +1,13 @@
 -- `arm64_spelled::code_fits` meets its contract.
 use mathlib.Core.Path.{sym, ap, ◌∙◌}
-use Rattle.arm64.specs.Codes.{code_fits, register_fits, offset_fits}
+use mathlib.Core.Bool.{◌&&◌}
+use Rattle.arm64.specs.Codes.{form_for, code_fits, offset_fits}
 use Rattle.arm64_spelled.proofs.FitLaws.{fits_by}
 use Rattle.arm64_spelled.proofs.code_fits.Goals as goal
 
-pub returns-then-not-register_fits : goal.returns-then-not-register_fits
-unfolding code_fits
-returns-then-not-register_fits c = simp (sym (c.register_fits.ensures ∙ ap (λ f. register_fits f c.args.c) c.form_for-f.ensures.0) ∙ c.if-not-register_fits.true)
+pub returns-then-register_fits : goal.returns-then-register_fits
+returns-then-register_fits c = rw (c.of-s.ensures.0, c.of-s.ensures.1) at c.offset_fits.ensures ∙ sym (fits_by c.args.c (sym (rw (c.of-s.ensures.0, c.of-s.ensures.1) at c.register_fits.ensures) ∙ c.if-register_fits.true))
 
-pub returns : goal.returns
-returns c = c.offset_fits.ensures ∙ ap (λ f. offset_fits f c.args.c) c.form_for-f.ensures.0 ∙ sym (fits_by _ (sym (c.register_fits.ensures ∙ ap (λ f. register_fits f c.args.c) c.form_for-f.ensures.0) ∙ c.if-not-register_fits.false))
+pub returns-else-register_fits : goal.returns-else-register_fits
+unfolding code_fits
+returns-else-register_fits c = c.if-register_fits.false ∙ sym (ap (λ b. b && offset_fits (form_for c.args.c) c.args.c) (sym (rw (c.of-s.ensures.0, c.of-s.ensures.1) at c.register_fits.ensures) ∙ c.if-register_fits.false))

@@ -3,11 +3,11 @@ use native.Mathlib.Omega.{arith}
 use Rattle.arm64_spelled.proofs.FitLaws.{fits_told, code-length, code_bytes_lem}
 use Rattle.arm64_spelled.proofs.put_code.Goals as goal
 
-pub word_of-requires : goal.word_of-requires
-word_of-requires c = (c.form_for-f.ensures.1, rw c.form_for-f.ensures.0 (fits_told c.args.c c.requires.0))
+pub word-requires : goal.word-requires
+word-requires c = rw (c.of-s.ensures.0, c.of-s.ensures.1) (fits_told c.args.c c.requires.0)
 
 pub put_big-requires : goal.put_big-requires
-put_big-requires c = (c.form_for-f.ensures.1.some_bytes, c.form_for-f.ensures.1.few_bytes, c.form_for-f.ensures.1.not_three, (rw c.form_for-f.ensures.0 (omega (arith, code-length c.args.c, c.requires.1))))
+put_big-requires c = (c.of-s.result.good.some_bytes, c.of-s.result.good.few_bytes, c.of-s.result.good.not_three, rw c.of-s.ensures.1 (omega (arith, code-length c.args.c, c.requires.1)))
 
 pub returns : goal.returns
-returns c = rw (c.word_of.ensures, c.form_for-f.ensures.0, code_bytes_lem c.args.c) at c.put_big.ensures
+returns c = rw (c.word.ensures, c.of-s.ensures.0, c.of-s.ensures.1, code_bytes_lem c.args.c) at c.put_big.ensures
