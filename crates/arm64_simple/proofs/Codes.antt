@@ -1,6 +1,6 @@
 -- One code: the answers of the leaves, by the code's own tests.
-use mathlib.Core.Path.{◌≡◌, sym, ap, ◌∙◌}
-use mathlib.Core.Bool.{true, false, ◌&&◌, ◌||◌, and-true, and-false, or-true}
+use mathlib.Core.Path.{◌≡◌, refl, sym, ap, ◌∙◌}
+use mathlib.Core.Bool.{Bool, true, false, ◌&&◌, ◌||◌, and-true, and-false, or-true}
 use Prim.Native.Nat.{ℕ, ◌+◌, ◌*◌, ◌≤◌, ◌<◌}
 use native.Mathlib.Omega.{arith}
 use lib.Dec.{ltb, eqb}
@@ -16,19 +16,14 @@ use Rattle.arm64.specs.Codes.{code, form_for, register_fits, code_fits}
 use Rattle.arm64.specs.Runs.{same_code, shorter, pair_in, has_next, next_pair, resolved, next_or, simple, simple_fits}
 use Rattle.arm64.proofs.MeaningLaws.{both_true}
 
-module _ (a b : Code) where
-  pub kinds_differ : (a.kind ≡ b.kind → ⊥) → false ≡ same_code a b
-  unfolding same_code
-  kinds_differ n = simp (ne_eqb a.kind b.kind n)
+and_assoc : (x y z : Bool) → (x && (y && z)) ≡ ((x && y) && z)
+and_assoc true y z = refl
+and_assoc false y z = refl
 
-  module _ (e : a.kind ≡ b.kind) where
-    pub registers_differ : (a.register ≡ b.register → ⊥) → false ≡ same_code a b
-    unfolding same_code
-    registers_differ n = simp (eq-eqb a.kind b.kind e, ne_eqb a.register b.register n)
-
-    pub by_offset : a.register ≡ b.register → eqb a.offset b.offset ≡ same_code a b
-    unfolding same_code
-    by_offset r = simp (eq-eqb a.kind b.kind e, eq-eqb a.register b.register r)
+-- what the derived comparison tells
+pub same_is : (a b : Code) → (eqb a.kind b.kind && (eqb a.register b.register && eqb a.offset b.offset)) ≡ same_code a b
+unfolding same_code
+same_is a b = and_assoc (eqb a.kind b.kind) (eqb a.register b.register) (eqb a.offset b.offset)
 
 module _ (c : Code) where
   -- shorter

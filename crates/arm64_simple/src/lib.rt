@@ -4,8 +4,7 @@
 
 ghost use Rattle.std.specs.Prelude.{◌≡◌, true, ◌+◌, ◌*◌, ◌^◌, ◌≤◌, ◌<◌, length};
 ghost use Rattle.format.proofs.Wrote.{Wrote};
-ghost use Rattle.arm64.specs.Codes.{code};
-ghost use Rattle.arm64.specs.Runs.{same_code, shorter, pair_in, has_next, next_pair, resolved, next_or, simple, pair_behind, simplify, simple_fits, run_fits, backwards, no_pair, leads};
+ghost use Rattle.arm64.specs.Runs.{shorter, pair_in, has_next, next_pair, resolved, next_or, simple, pair_behind, simplify, simple_fits, run_fits, backwards, no_pair, leads};
 ghost use Rattle.arm64_simple.specs.Saves.{place_of, saved_at, saves, Inside};
 
 use arm64::{Code, fields};
@@ -18,36 +17,21 @@ pub struct Run {
     pub back: bool,
 }
 
+// What stands before a run's first code: no pair.
+pub const NO_PAIR: Code = Code {
+    kind: arm64::NOP,
+    register: 0,
+    offset: 0,
+};
+
 // ---- one code
-
-fn coded(kind: u64, register: u64, offset: u64) -> Code
-    ensures { result ≡ code kind register offset }
-{
-    Code {
-        kind,
-        register,
-        offset,
-    }
-}
-
-pub fn same_code(a: Code, b: Code) -> bool
-    ensures { result ≡ same_code a b }
-{
-    if a.kind != b.kind {
-        return false;
-    }
-    if a.register != b.register {
-        return false;
-    }
-    a.offset == b.offset
-}
 
 fn shorter_push(c: Code) -> Code
     requires { c.kind ≡ 5 }
     ensures { result ≡ shorter c }
 {
     if c.register == 29 {
-        return coded(arm64::FPLR_X, 0, c.offset);
+        return Code::new(arm64::FPLR_X, 0, c.offset);
     }
     if c.register != 19 {
         return c;
@@ -55,7 +39,7 @@ fn shorter_push(c: Code) -> Code
     if 248 < c.offset {
         return c;
     }
-    coded(arm64::R19R20X, 0, c.offset)
+    Code::new(arm64::R19R20X, 0, c.offset)
 }
 
 fn shorter(c: Code) -> Code
@@ -63,7 +47,7 @@ fn shorter(c: Code) -> Code
 {
     if c.kind == arm64::REGP {
         if c.register == 29 {
-            return coded(arm64::FPLR, 0, c.offset);
+            return Code::new(arm64::FPLR, 0, c.offset);
         }
         return c;
     }
@@ -72,7 +56,7 @@ fn shorter(c: Code) -> Code
     }
     if c.kind == arm64::ADD_FP {
         if c.offset == 0 {
-            return coded(arm64::SET_FP, 0, 0);
+            return Code::new(arm64::SET_FP, 0, 0);
         }
         return c;
     }
@@ -89,15 +73,15 @@ fn pair_in(c: Code) -> Code
         return c;
     }
     if c.kind == arm64::R19R20X {
-        return coded(arm64::REGP, 19, 0);
+        return Code::new(arm64::REGP, 19, 0);
     }
     if c.kind == arm64::REGP_X {
-        return coded(arm64::REGP, c.register, 0);
+        return Code::new(arm64::REGP, c.register, 0);
     }
     if c.kind == arm64::FREGP_X {
-        return coded(arm64::FREGP, c.register, 0);
+        return Code::new(arm64::FREGP, c.register, 0);
     }
-    coded(arm64::NOP, 0, 0)
+    Code::new(arm64::NOP, 0, 0)
 }
 
 fn has_next(b: Code) -> bool
@@ -119,9 +103,9 @@ fn next_pair(b: Code) -> Code
     ensures { result ≡ next_pair b }
 {
     if has_next(b) {
-        return coded(b.kind, b.register + 2, b.offset + 16);
+        return Code::new(b.kind, b.register + 2, b.offset + 16);
     }
-    coded(arm64::SAVE_NEXT, 0, 0)
+    Code::new(arm64::SAVE_NEXT, 0, 0)
 }
 
 pub fn resolved(b: Code, c: Code) -> Code
@@ -139,8 +123,8 @@ fn next_or(b: Code, c: Code) -> Code
     if c.kind != arm64::REGP {
         return c;
     }
-    if same_code(next_pair(b), c) {
-        return coded(arm64::SAVE_NEXT, 0, 0);
+    if next_pair(b) == c {
+        return Code::new(arm64::SAVE_NEXT, 0, 0);
     }
     c
 }
@@ -185,7 +169,7 @@ pub fn saved_at(cs: &[u64], run: Run, j: usize) -> Code
     ensures { result ≡ saved_at cs.now run j }
 {
     let i = place_of(run, j);
-    coded(
+    Code::new(
         cs[fields::CODE_STRIDE * i],
         cs[fields::CODE_STRIDE * i + fields::REGISTER],
         cs[fields::CODE_STRIDE * i + fields::OFFSET],
@@ -196,15 +180,13 @@ pub fn run_fits(cs: &[u64], run: Run) -> bool
     requires { Inside cs.now run }
     ensures { result ≡ run_fits no_pair (saves cs.now run) }
 {
-    let mut b = coded(arm64::NOP, 0, 0);
-    let mut j = 0;
-    while j < run.count {
+    let mut b = NO_PAIR;
+    for j in 0..run.count {
         let c = saved_at(cs, run, j);
         if !simple_fits(b, c) {
             return false;
         }
         b = pair_behind(b, simple(b, c));
-        j += 1;
     }
     true
 }
@@ -214,14 +196,12 @@ pub fn run_size(cs: &[u64], run: Run) -> usize
     requires { Inside cs.now run }
     ensures { (result ≡ length (backwards (simplify no_pair (saves cs.now run)))) × (result ≤ 4 * run.count) }
 {
-    let mut b = coded(arm64::NOP, 0, 0);
+    let mut b = NO_PAIR;
     let mut size = 0;
-    let mut j = 0;
-    while j < run.count {
+    for j in 0..run.count {
         let c = simple(b, saved_at(cs, run, j));
         size += arm64_spelled::code_size(c);
         b = pair_behind(b, c);
-        j += 1;
     }
     size
 }

@@ -11,7 +11,7 @@ pub overflow_add-b-then-has_next : goal.overflow_add-b-then-has_next
 overflow_add-b-then-has_next c = omega (arith, (next_low c.args.b (sym c.has_next.ensures ∙ c.if-has_next.true)).1)
 
 pub returns-then-has_next : goal.returns-then-has_next
-returns-then-has_next c = c.coded.ensures ∙ next_there c.args.b (sym c.has_next.ensures ∙ c.if-has_next.true)
+returns-then-has_next c = c.new.ensures ∙ next_there c.args.b (sym c.has_next.ensures ∙ c.if-has_next.true)
 
 pub returns : goal.returns
-returns c = c.coded-2.ensures ∙ next_none c.args.b (sym c.has_next.ensures ∙ c.if-has_next.false)
+returns c = c.new-2.ensures ∙ next_none c.args.b (sym c.has_next.ensures ∙ c.if-has_next.false)

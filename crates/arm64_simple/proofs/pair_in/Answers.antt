@@ -10,13 +10,13 @@ pub returns-then-c-eq-FREGP : goal.returns-then-c-eq-FREGP
 returns-then-c-eq-FREGP c = pair_9 c.args.c c.if-c-eq-FREGP.true
 
 pub returns-then-c-eq-R19R20X : goal.returns-then-c-eq-R19R20X
-returns-then-c-eq-R19R20X c = c.coded.ensures ∙ pair_1 c.args.c c.if-c-eq-REGP.false c.if-c-eq-FREGP.false c.if-c-eq-R19R20X.true
+returns-then-c-eq-R19R20X c = c.new.ensures ∙ pair_1 c.args.c c.if-c-eq-REGP.false c.if-c-eq-FREGP.false c.if-c-eq-R19R20X.true
 
 pub returns-then-c-eq-REGP_X : goal.returns-then-c-eq-REGP_X
-returns-then-c-eq-REGP_X c = c.coded-then-c-eq-REGP_X.ensures ∙ pair_5 c.args.c c.if-c-eq-REGP.false c.if-c-eq-FREGP.false c.if-c-eq-R19R20X.false c.if-c-eq-REGP_X.true
+returns-then-c-eq-REGP_X c = c.new-then-c-eq-REGP_X.ensures ∙ pair_5 c.args.c c.if-c-eq-REGP.false c.if-c-eq-FREGP.false c.if-c-eq-R19R20X.false c.if-c-eq-REGP_X.true
 
 pub returns-then-c-eq-FREGP_X : goal.returns-then-c-eq-FREGP_X
-returns-then-c-eq-FREGP_X c = c.coded-then-c-eq-FREGP_X.ensures ∙ pair_10 c.args.c c.if-c-eq-REGP.false c.if-c-eq-FREGP.false c.if-c-eq-R19R20X.false c.if-c-eq-REGP_X.false c.if-c-eq-FREGP_X.true
+returns-then-c-eq-FREGP_X c = c.new-then-c-eq-FREGP_X.ensures ∙ pair_10 c.args.c c.if-c-eq-REGP.false c.if-c-eq-FREGP.false c.if-c-eq-R19R20X.false c.if-c-eq-REGP_X.false c.if-c-eq-FREGP_X.true
 
 pub returns : goal.returns
-returns c = c.coded-2.ensures ∙ pair_none c.args.c c.if-c-eq-REGP.false c.if-c-eq-FREGP.false c.if-c-eq-R19R20X.false c.if-c-eq-REGP_X.false c.if-c-eq-FREGP_X.false
+returns c = c.new-2.ensures ∙ pair_none c.args.c c.if-c-eq-REGP.false c.if-c-eq-FREGP.false c.if-c-eq-R19R20X.false c.if-c-eq-REGP_X.false c.if-c-eq-FREGP_X.false

@@ -1,12 +1,12 @@
 -- `arm64_simple::run_fits` meets its contract.
-use mathlib.Core.Path.{sym, ap, ◌∙◌}
+use mathlib.Core.Path.{refl, sym, ap, ◌∙◌}
 use native.Mathlib.Omega.{arith}
 use Rattle.arm64.specs.Runs.{pair_behind}
 use Rattle.arm64_simple.proofs.Loops.{fitting_start, fitting_stopped, fitting_turn, fitting_ended}
 use Rattle.arm64_simple.proofs.run_fits.Goals as goal
 
 pub loop-j-init : goal.loop-j-init
-loop-j-init c = fitting_start c.coded-b.ensures
+loop-j-init c = fitting_start refl
 
 pub saved_at-c-requires : goal.saved_at-c-requires
 saved_at-c-requires c = (c.requires, c.loop-j-test.true)

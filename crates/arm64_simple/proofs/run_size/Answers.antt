@@ -1,10 +1,11 @@
 -- `arm64_simple::run_size` meets its contract.
+use mathlib.Core.Path.{refl}
 use native.Mathlib.Omega.{arith}
 use Rattle.arm64_simple.proofs.Loops.{sizing_start, sizing_turn, sizing_ended}
 use Rattle.arm64_simple.proofs.run_size.Goals as goal
 
 pub loop-j-init : goal.loop-j-init
-loop-j-init c = sizing_start c.coded-b.ensures
+loop-j-init c = sizing_start refl
 
 pub saved_at-requires : goal.saved_at-requires
 saved_at-requires c = (c.requires, c.loop-j-test.true)

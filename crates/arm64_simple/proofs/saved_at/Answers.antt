@@ -41,4 +41,4 @@ pub bounds-cs-i-3 : goal.bounds-cs-i-3
 bounds-cs-i-3 c = omega (arith, c.place_of-i.ensures.1, c.requires.0.room, c.requires.0.low)
 
 pub returns : goal.returns
-returns c = c.coded.ensures ∙ saved_by c.args.cs.now c.args.run c.place_of-i.result c.args.j c.place_of-i.ensures.0
+returns c = c.new.ensures ∙ saved_by c.args.cs.now c.args.run c.place_of-i.result c.args.j c.place_of-i.ensures.0

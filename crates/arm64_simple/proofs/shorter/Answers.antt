@@ -4,13 +4,13 @@ use Rattle.arm64_simple.proofs.Codes.{pair_frame, pair_other, add_none, add_some
 use Rattle.arm64_simple.proofs.shorter.Goals as goal
 
 pub returns-then-c-eq29 : goal.returns-then-c-eq29
-returns-then-c-eq29 c = c.coded.ensures ∙ pair_frame c.args.c c.if-c-eq-REGP.true c.if-c-eq29.true
+returns-then-c-eq29 c = c.new.ensures ∙ pair_frame c.args.c c.if-c-eq-REGP.true c.if-c-eq29.true
 
 pub returns-then-c-eq-REGP : goal.returns-then-c-eq-REGP
 returns-then-c-eq-REGP c = pair_other c.args.c c.if-c-eq-REGP.true c.if-c-eq29.false
 
 pub returns-then-c-eq0 : goal.returns-then-c-eq0
-returns-then-c-eq0 c = c.coded-then-c-eq0.ensures ∙ add_none c.args.c c.if-c-eq-ADD_FP.true c.if-c-eq0.true
+returns-then-c-eq0 c = c.new-then-c-eq0.ensures ∙ add_none c.args.c c.if-c-eq-ADD_FP.true c.if-c-eq0.true
 
 pub returns-then-c-eq-ADD_FP : goal.returns-then-c-eq-ADD_FP
 returns-then-c-eq-ADD_FP c = add_some c.args.c c.if-c-eq-ADD_FP.true c.if-c-eq0.false
