@@ -7,7 +7,6 @@ ghost use Rattle.format.proofs.Wrote.{Wrote};
 ghost use Rattle.arm64.specs.Runs.{simplify, run_fits, backwards, run_bytes, no_pair, leads, same_codes};
 ghost use Rattle.arm64_simple.specs.Saves.{saves, Inside};
 
-use arm64::Code;
 use arm64_simple::Run;
 
 // A run's bytes: its codes, which have `size` of them, the last saved first, and its end.
@@ -16,18 +15,12 @@ pub fn put_run(out: &mut [u8], at: usize, size: usize, cs: &[u64], run: Run) -> 
     ensures { Wrote out.old out.new at result (run_bytes (simplify no_pair (saves cs.now run))) }
 {
     let mut to = at + size;
-    let mut b = Code {
-        kind: arm64::NOP,
-        register: 0,
-        offset: 0,
-    };
-    let mut j = 0;
-    while j < run.count {
+    let mut b = arm64_simple::NO_PAIR;
+    for j in 0..run.count {
         let c = arm64_simple::simple(b, arm64_simple::saved_at(cs, run, j));
         to -= arm64_spelled::code_size(c);
         let _past = arm64_spelled::put_code(out, to, c);
         b = arm64_simple::pair_behind(b, c);
-        j += 1;
     }
     leb::byte(out, at + size, 0xe4)
 }
@@ -37,20 +30,14 @@ fn leads_long(cs: &[u64], run: Run, other: Run) -> bool
     requires { Inside cs.now run × Inside cs.now other × (run.count ≤ other.count) }
     ensures { result ≡ leads (simplify no_pair (saves cs.now run)) (simplify no_pair (saves cs.now other)) }
 {
-    let mut b = Code {
-        kind: arm64::NOP,
-        register: 0,
-        offset: 0,
-    };
-    let mut j = 0;
-    while j < run.count {
+    let mut b = arm64_simple::NO_PAIR;
+    for j in 0..run.count {
         let c = arm64_simple::simple(b, arm64_simple::saved_at(cs, run, j));
         let d = arm64_simple::simple(b, arm64_simple::saved_at(cs, other, j));
-        if !arm64_simple::same_code(c, d) {
+        if c != d {
             return false;
         }
         b = arm64_simple::pair_behind(b, c);
-        j += 1;
     }
     true
 }
@@ -59,18 +46,12 @@ pub fn leads(cs: &[u64], run: Run, other: Run) -> bool
     requires { Inside cs.now run × Inside cs.now other }
     ensures { result ≡ leads (simplify no_pair (saves cs.now run)) (simplify no_pair (saves cs.now other)) }
 {
-    if other.count < run.count {
-        return false;
-    }
-    leads_long(cs, run, other)
+    run.count <= other.count && leads_long(cs, run, other)
 }
 
 pub fn same_run(cs: &[u64], run: Run, other: Run) -> bool
     requires { Inside cs.now run × Inside cs.now other }
     ensures { result ≡ same_codes (simplify no_pair (saves cs.now run)) (simplify no_pair (saves cs.now other)) }
 {
-    if run.count != other.count {
-        return false;
-    }
-    leads(cs, run, other)
+    run.count == other.count && leads_long(cs, run, other)
 }

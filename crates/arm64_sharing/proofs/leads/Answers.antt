@@ -1,6 +1,8 @@
 -- `arm64_sharing::leads` meets its contract.
+use mathlib.Core.Path.{◌∙◌}
+use borrow.Author.Tests.{lt-leb}
 use Rattle.arm64_sharing.proofs.Comparing.{longer}
 use Rattle.arm64_sharing.proofs.leads.Goals as goal
 
-pub returns-then-other-run : goal.returns-then-other-run
-returns-then-other-run c = longer c.args.cs.now c.args.run c.args.other c.if-other-run.true
+pub returns-else-run-other : goal.returns-else-run-other
+returns-else-run-other c = lt-leb _ _ c.if-run-other.false ∙ longer c.args.cs.now c.args.run c.args.other c.if-run-other.false
