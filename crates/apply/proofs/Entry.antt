@@ -1,11 +1,11 @@
 -- The whole: each answer of the entry, and the front of the buffer changed.
-use Rattle.std.proofs.Common.{◌≡◌, ℕ, zero, suc, ◌+◌, ◌<◌, ◌≤◌, Bool, true, false, not, List, [], ◌∷◌, ◌++◌, length, take, drop, set, ℤ, sym, refl, ap, ◌∙◌, arith, take-append-drop, le-ltb, lt-ltb}
+use Rattle.std.proofs.Common.{◌≡◌, ℕ, suc, ◌+◌, ◌<◌, ◌≤◌, Bool, true, false, not, List, [], ◌∷◌, ◌++◌, length, take, drop, set, ℤ, sym, refl, ap, ◌∙◌, arith, le-ltb, lt-ltb}
 use mathlib.Core.Option.{Option, none, some}
 use borrow.Author.Tests.{not-true, not-false}
 use Rattle.format.specs.Prelude.{pick}
 use Rattle.format.specs.Put.{put}
 use Rattle.format.specs.Lists.{Relocation, relocations_of}
-use Rattle.format.proofs.PutLaws.{put_none, put_cons, length-put, front_is}
+use Rattle.format.proofs.PutLaws.{length-put}
 use Rattle.apply.specs.declared.Width.{Width}
 use Rattle.apply.specs.declared.Kind.{Kind}
 use Rattle.apply.specs.declared.Kind.TheVariants.{Data, Address, SumPlus, SumMinus, Image, Set, Sub, Unknown}
@@ -13,6 +13,7 @@ use Rattle.apply.specs.Kinds.{kind_of}
 use Rattle.apply.specs.Fields.{set_in, sub_in, whole_in}
 use Rattle.apply.specs.Values.{Layout, layout_of, sum_of, value_as, store_as, store_of}
 use Rattle.apply.specs.Apply.{front, everywhere, sound, near, stores, apply, number_in, buffer_in, Applies}
+use Rattle.std.proofs.lemmas.List.{take_at, drop_at}
 use Rattle.apply.proofs.Distances.{in_length}
 
 -- ---- stores keep the length
@@ -54,25 +55,24 @@ stores-length l bs (r ∷ rs) = stores-length l (store_of l bs r (front rs)) rs 
 
 -- ---- the front of a buffer
 
-past_set : (xs : List ℕ) (p b n : ℕ) → p < n → drop n (set xs p b) ≡ drop n xs
-past_set [] p b n h = refl
-past_set (x ∷ xs) p b zero h = absurd (omega arith)
-past_set (x ∷ xs) zero b (suc n) h = refl
-past_set (x ∷ xs) (suc p) b (suc n) h = past_set xs p b n (omega arith)
+put-behind : (x : ℕ) (xs : List ℕ) (p : ℕ) (bs : List ℕ) → put (x ∷ xs) (suc p) bs ≡ x ∷ put xs p bs
+unfolding put
+put-behind x xs p [] = refl
+put-behind x xs p (b ∷ bs) = let e : suc p + 1 ≡ suc (p + 1) = omega arith in rw e (put-behind x (set xs p b) (p + 1) bs)
 
-past_put : (xs : List ℕ) (p : ℕ) (bs : List ℕ) (n : ℕ) → p + length bs ≤ n → drop n (put xs p bs) ≡ drop n xs
-past_put xs p [] n h = ap (drop n) (put_none xs p)
-past_put xs p (b ∷ bs) n h = ap (drop n) (put_cons xs p b bs) ∙ past_put (set xs p b) (p + 1) bs n (omega arith) ∙ past_set xs p b n (omega arith)
+pub put_front : (xs bs : List ℕ) → length bs ≤ length xs → put xs 0 bs ≡ bs ++ drop (length bs) xs
+unfolding put
+put_front xs [] h = refl
+put_front [] (b ∷ bs) h = absurd (omega arith)
+put_front (x ∷ xs) (b ∷ bs) h = put-behind b xs 0 bs ∙ ap (λ (l : List ℕ). b ∷ l) (put_front xs bs (omega arith))
 
--- a front that was changed in place
-pub front_changed : (out bytes new : List ℕ) → length new ≡ length bytes → length bytes ≤ length out
-    → new ++ drop (length bytes) (put out 0 bytes) ≡ put out 0 new
-front_changed out bytes new e h =
-    let l : length new ≤ length out = omega arith in
-    ap (λ (x : List ℕ). new ++ x) (past_put out 0 bytes (length bytes) (omega arith) ∙ sym (past_put out 0 new (length bytes) (omega arith)))
-    ∙ ap (λ (x : List ℕ). x ++ drop (length bytes) (put out 0 new)) (sym (front_is out new l))
-    ∙ ap (λ (n : ℕ). take (length new) (put out 0 new) ++ drop n (put out 0 new)) (sym e)
-    ∙ take-append-drop (length new) (put out 0 new)
+-- a front that was copied and then changed in place
+pub front_changed : (out bytes : List ℕ) (f : List ℕ → List ℕ) → ((xs : List ℕ) → length (f xs) ≡ length xs) → length bytes ≤ length out
+    → {copy new : List ℕ} → copy ≡ bytes → new ≡ f (take (length bytes) (copy ++ drop (length bytes) out))
+    → new ++ drop (length bytes) (copy ++ drop (length bytes) out) ≡ put out 0 (f bytes)
+front_changed out bytes f l h e g =
+    rw (g, e, take_at bytes (drop (length bytes) out) (length bytes) refl, drop_at bytes (drop (length bytes) out) (length bytes) refl)
+    (rw (put_front out (f bytes) (omega (arith, l bytes)), l bytes))
 
 -- ---- the answers
 

@@ -7,6 +7,5 @@ pub mod Patches
 pub mod Loops
 pub mod Distances
 pub mod Outside
-pub mod Copies
 pub mod Entry
 pub mod Vectors

@@ -1,6 +1,7 @@
 -- The loops over the relocations: what is asked of all is asked of the rest, and what is to be stored is stored by the rest.
-use Rattle.std.proofs.Common.{◌≡◌, ℕ, zero, suc, ◌+◌, ◌-◌, ◌/◌, ◌<◌, ◌≤◌, Bool, true, false, ◌&&◌, T, List, [], ◌∷◌, length, sym, refl, ap, ◌∙◌, subst, add-one, arith, ne_eqb}
+use Rattle.std.proofs.Common.{◌≡◌, ℕ, zero, suc, ◌+◌, ◌-◌, ◌/◌, ◌<◌, ◌≤◌, Bool, ◌&&◌, T, List, [], ◌∷◌, length, sym, refl, ap, ◌∙◌, subst, add-one, arith, ne_eqb}
 use mathlib.Core.Option.{Option, none, some}
+use Rattle.std.specs.List.{range_with_len, list_all}
 use mir.Facts.{and_yes}
 use Rattle.format.specs.Prelude.{pick, each}
 use Rattle.format.specs.Lists.{Relocation, relocation_at, relocations_of}
@@ -47,38 +48,29 @@ module _ (rs : List ℕ) where
 
   -- ---- a test of all
 
-  pub record Asking (test : Test) (i : ℕ) : Type 0 where
-    pub inside : i ≤ length rs / 5
-    pub rest : everywhere test none (relocations_of rs) ≡ everywhere test (before_at rs i) (rest_at rs i)
+  -- the test of relocation i
+  abbrev pub asked : Test → ℕ → Bool
+  asked test i = test (before_at rs i) (relocation_at rs i) (behind_at rs i)
 
-  pub ask_start : (test : Test) → Asking test 0
-  ask_start test = record {
-    inside = omega arith;
-    rest = ap (everywhere test none) (sym all_rest) ∙ ap (λ (b : Option Relocation). everywhere test b (rest_at rs 0)) (sym first_before);
-  }
+  one_more : (test : Test) (i : ℕ) → i < length rs / 5
+      → everywhere test (before_at rs i) (rest_at rs i) ≡ asked test i && everywhere test (before_at rs (i + 1)) (rest_at rs (i + 1))
+  unfolding everywhere
+  one_more test i h =
+      ap (everywhere test (before_at rs i)) (rest_more i h)
+      ∙ ap (λ (o : Option Relocation). test (before_at rs i) (relocation_at rs i) o && everywhere test (some (relocation_at rs i)) (rest_at rs (i + 1))) (front_rest i)
+      ∙ ap (λ (o : Option Relocation). asked test i && everywhere test o (rest_at rs (i + 1))) (next_before i)
 
-  module _ {test : Test} {i : ℕ} (k : Asking test i) where
-    pub ask_ended : length rs / 5 ≤ i → true ≡ everywhere test none (relocations_of rs)
-    unfolding everywhere
-    ask_ended h = sym (k.rest ∙ rw (rest_none i h))
+  rest_asked : (test : Test) (i n : ℕ) → i + n ≡ length rs / 5 → list_all (asked test) (range_with_len i n) ≡ everywhere test (before_at rs i) (rest_at rs i)
+  unfolding everywhere
+  rest_asked test i zero e = rw (rest_none i (omega arith))
+  rest_asked test i (suc n) e =
+      rw (one_more test i (omega arith)) (ap (λ (b : Bool). asked test i && b) (rest_asked test (i + 1) n (omega arith)))
 
-    module _ (h : i < length rs / 5) where
-      ask_one : everywhere test none (relocations_of rs)
-          ≡ test (before_at rs i) (relocation_at rs i) (behind_at rs i) && everywhere test (before_at rs (i + 1)) (rest_at rs (i + 1))
-      unfolding everywhere
-      ask_one =
-          k.rest ∙ ap (everywhere test (before_at rs i)) (rest_more i h)
-          ∙ ap (λ (o : Option Relocation). test (before_at rs i) (relocation_at rs i) o && everywhere test (some (relocation_at rs i)) (rest_at rs (i + 1))) (front_rest i)
-          ∙ ap (λ (o : Option Relocation). test (before_at rs i) (relocation_at rs i) (behind_at rs i) && everywhere test o (rest_at rs (i + 1))) (next_before i)
+  none_before : (test : Test) → everywhere test none (relocations_of rs) ≡ everywhere test (before_at rs 0) (rest_at rs 0)
+  none_before test = ap (everywhere test none) (sym all_rest) ∙ ap (λ (b : Option Relocation). everywhere test b (rest_at rs 0)) (sym first_before)
 
-      pub ask_no : test (before_at rs i) (relocation_at rs i) (behind_at rs i) ≡ false → false ≡ everywhere test none (relocations_of rs)
-      ask_no e = sym (ask_one ∙ ap (λ (b : Bool). b && everywhere test (before_at rs (i + 1)) (rest_at rs (i + 1))) e)
-
-      pub ask_turn : test (before_at rs i) (relocation_at rs i) (behind_at rs i) ≡ true → Asking test (i + 1)
-      ask_turn e = record {
-        inside = omega arith;
-        rest = ask_one ∙ ap (λ (b : Bool). b && everywhere test (before_at rs (i + 1)) (rest_at rs (i + 1))) e;
-      }
+  pub all_asked : (test : Test) → list_all (asked test) (range_with_len 0 (length rs / 5)) ≡ everywhere test none (relocations_of rs)
+  all_asked test = rest_asked test 0 (length rs / 5) (omega arith) ∙ sym (none_before test)
 
   -- ---- the stores
 
@@ -92,7 +84,7 @@ module _ (rs : List ℕ) where
   place_start l bs t = record {
     inside = omega arith;
     kept = refl;
-    sound_rest = subst T (ask_start (sound l (length bs))).rest t;
+    sound_rest = subst T (none_before (sound l (length bs))) t;
     rest = ap (stores l bs) all_rest;
   }
 
@@ -106,11 +98,7 @@ module _ (rs : List ℕ) where
       unfolding everywhere
       split =
           and_yes (sound l (length bs₀) (before_at rs i) (relocation_at rs i) (behind_at rs i)) (everywhere (sound l (length bs₀)) (before_at rs (i + 1)) (rest_at rs (i + 1)))
-          (subst T
-          (ap (everywhere (sound l (length bs₀)) (before_at rs i)) (rest_more i h)
-          ∙ ap (λ (o : Option Relocation). sound l (length bs₀) (before_at rs i) (relocation_at rs i) o && everywhere (sound l (length bs₀)) (some (relocation_at rs i)) (rest_at rs (i + 1))) (front_rest i)
-          ∙ ap (λ (o : Option Relocation). sound l (length bs₀) (before_at rs i) (relocation_at rs i) (behind_at rs i) && everywhere (sound l (length bs₀)) o (rest_at rs (i + 1))) (next_before i))
-          k.sound_rest)
+          (subst T (one_more (sound l (length bs₀)) i h) k.sound_rest)
 
       pub here_sound : T (sound l (length bs₀) (before_at rs i) (relocation_at rs i) (behind_at rs i))
       here_sound = split.0

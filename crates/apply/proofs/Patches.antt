@@ -22,26 +22,25 @@ narrow W8 = omega arith
 narrow W16 = omega arith
 narrow W32 = omega arith
 
-stored : (w : Width) (bs : List ℕ) (p n m old v x : ℕ) → n ≡ bytes_of w → m ≡ 2 ^ bits_of w → old ≡ number_at bs p n → v ≡ x
-    → put bs p (little n (old / m * m + v)) ≡ in_field w bs p x
+pub stored : (w : Width) (bs : List ℕ) (p n m old v : ℕ) → n ≡ bytes_of w → m ≡ 2 ^ bits_of w → old ≡ number_at bs p n
+    → put bs p (little n (old / m * m + v)) ≡ in_field w bs p v
 unfolding in_field
-stored w bs p n m old v x en em eo ev =
-    ap (λ (t : ℕ). put bs p (little n (old / m * m + t))) ev
-    ∙ ap (λ (t : ℕ). put bs p (little n (old / t * t + x))) em
-    ∙ ap (λ (t : ℕ). put bs p (little n (t / 2 ^ bits_of w * 2 ^ bits_of w + x))) eo
-    ∙ ap (λ (t : ℕ). put bs p (little t (number_at bs p t / 2 ^ bits_of w * 2 ^ bits_of w + x))) en
+stored w bs p n m old v en em eo =
+    ap (λ (t : ℕ). put bs p (little n (old / t * t + v))) em
+    ∙ ap (λ (t : ℕ). put bs p (little n (t / 2 ^ bits_of w * 2 ^ bits_of w + v))) eo
+    ∙ ap (λ (t : ℕ). put bs p (little t (number_at bs p t / 2 ^ bits_of w * 2 ^ bits_of w + v))) en
 
-module _ (w : Width) (bs : List ℕ) (p n m old s a : ℕ) (l : a < 2 ^ 64) (en : n ≡ bytes_of w) (em : m ≡ 2 ^ bits_of w) (eo : old ≡ number_at bs p n) where
-  pub set_is : (b : ℕ) → b ≡ (s + a) % 2 ^ 64 → put bs p (little n (old / m * m + b % m)) ≡ set_in w bs p (some (pos s +ℤ to_z w64 a))
+module _ (w : Width) (bs : List ℕ) (p m s a : ℕ) (l : a < 2 ^ 64) (em : m ≡ 2 ^ bits_of w) where
+  pub set_is : (b : ℕ) → b ≡ (s + a) % 2 ^ 64 → in_field w bs p (b % m) ≡ set_in w bs p (some (pos s +ℤ to_z w64 a))
   unfolding set_in
   set_is b e =
-      stored w bs p n m old (b % m) _ en em eo
+      ap (in_field w bs p)
       (ap (λ (t : ℕ). t % m) e ∙ ap (λ (t : ℕ). (s + a) % 2 ^ 64 % t) em ∙ set_low (bits_of w) (narrow w) s a l)
 
-  pub sub_is : (b r : ℕ) → b ≡ (s + a) % 2 ^ 64 → (r + b) % 2 ^ 64 ≡ old % m
-      → put bs p (little n (old / m * m + r % m)) ≡ sub_in w bs p (some (pos s +ℤ to_z w64 a))
+  pub sub_is : (b r n old : ℕ) → n ≡ bytes_of w → old ≡ number_at bs p n → b ≡ (s + a) % 2 ^ 64 → (r + b) % 2 ^ 64 ≡ old % m
+      → in_field w bs p (r % m) ≡ sub_in w bs p (some (pos s +ℤ to_z w64 a))
   unfolding sub_in field_at
-  sub_is b r e g =
+  sub_is b r n old en eo e g =
       let f : old % m ≡ number_at bs p (bytes_of w) % 2 ^ bits_of w =
       ap (λ (t : ℕ). old % t) em ∙ ap (λ (t : ℕ). t % 2 ^ bits_of w) (eo ∙ ap (number_at bs p) en) in
-      stored w bs p n m old (r % m) _ en em eo (ap (λ (t : ℕ). r % t) em ∙ sub_low (bits_of w) (narrow w) r b _ s a l e (g ∙ f))
+      ap (in_field w bs p) (ap (λ (t : ℕ). r % t) em ∙ sub_low (bits_of w) (narrow w) r b _ s a l e (g ∙ f))

@@ -1,63 +1,64 @@
 -- Addresses looked up, and the values that are made of them.
-use Rattle.std.proofs.Common.{◌≡◌, ℕ, suc, ◌+◌, ◌-◌, ◌*◌, ◌/◌, ◌%◌, ◌^◌, ◌<◌, ◌≤◌, eqb, List, length, get_or, ℤ, pos, ◌+ℤ◌, ◌-ℤ◌, sym, refl, ap, ◌∙◌, add-zero, add-one, arith, w64, to_z, eq-eqb, ne_eqb}
+use Rattle.std.proofs.Common.{◌≡◌, ℕ, suc, ◌+◌, ◌-◌, ◌*◌, ◌/◌, ◌%◌, ◌^◌, zero, ◌<◌, ◌≤◌, Bool, true, false, eqb, List, length, get_or, ℤ, pos, ◌+ℤ◌, ◌-ℤ◌, sym, refl, ap, ◌∙◌, add-zero, zero-add, arith, w64, to_z}
 use mathlib.Core.Option.{Option, none, some}
 use Rattle.format.specs.Prelude.{pick, after, first, each}
 use Rattle.format.specs.Lists.{Relocation}
-use Rattle.apply.specs.declared.Number.{Number}
-use Rattle.apply.specs.declared.Number.TheVariants.{Is, Nothing}
-use Rattle.apply.specs.Kinds.{number_of}
+use Rattle.std.specs.Prelude.{Some, None, MatchOption, option_map}
+use Rattle.std.specs.Prelude as code
+use Rattle.format.specs.Coded.{option_of}
+use Rattle.format.proofs.Choice.{either}
 use Rattle.apply.specs.Fields.{up_to, signed32}
 use Rattle.apply.specs.Values.{symbol_at, symbols_of, address_of, sum_of, apart}
 use Rattle.apply.proofs.Integers.{base_less, apart_less, data_less, signed_is, signed_none}
 
-pub number_same : (o q : Option ℕ) → number_of o ≡ number_of q → o ≡ q
-unfolding number_of
-number_same none none e = refl
-number_same none (some n) e = let z : ◌≡◌ {A = ℕ} 0 1 = cc in absurd (omega arith)
-number_same (some n) none e = let z : ◌≡◌ {A = ℕ} 0 1 = cc in absurd (omega arith)
-number_same (some n) (some m) e = cc
+-- what an answer in the code's type says of the definition's
+pub option_same : (o q : Option ℕ) → option_of o ≡ option_of q → o ≡ q
+option_same none none e = refl
+option_same none (some n) e = cc
+option_same (some n) none e = cc
+option_same (some n) (some m) e = cc
 
-pub number_is : (o : Option ℕ) {x : Number} {p : ℕ} → x ≡ number_of o → x ≡ Is p → o ≡ some p
-unfolding number_of
-number_is o {x} {p} e t = number_same o (some p) (sym e ∙ t)
+pub some_of : (o : Option ℕ) {n : ℕ} → Some n ≡ option_of o → o ≡ some n
+some_of none e = cc
+some_of (some m) e = cc
 
-pub number_none : (o : Option ℕ) {x : Number} → x ≡ number_of o → x ≡ Nothing → o ≡ none
-unfolding number_of
-number_none o e t = number_same o none (sym e ∙ t)
+pub none_of : (o : Option ℕ) → ◌≡◌ {A = code.Option ℕ} None (option_of o) → o ≡ none
+none_of none e = refl
+none_of (some m) e = cc
 
 -- ---- the first address of a symbol
 
--- what the symbols from the i-th on add
-pub record Searching (xs : List ℕ) (symbol i : ℕ) : Type 0 where
-  pub inside : i ≤ length xs / 2
-  pub rest : address_of (symbols_of xs) symbol ≡ address_of (each (symbol_at xs) i (length xs / 2 - i)) symbol
+-- the first of those from `at` on whose test says yes, where `find` found it at r
+first_at : {A : Type 0} (test : A → Bool) (f : ℕ → A) (at n : ℕ) (r : code.Option ℕ)
+    → MatchOption r ((k : ℕ) → at ≤ k → k < at + n → test (f k) ≡ false)
+    (λ i. (at ≤ i) × (i < at + n) × (test (f i) ≡ true) × ((k : ℕ) → at ≤ k → k < i → test (f k) ≡ false))
+    → option_map f r ≡ option_of (first test (each f at n))
+unfolding first each pick
+first_at test f at zero None h = refl
+first_at test f at zero (Some i) h = absurd (omega (arith, h.0, h.1))
+first_at test f at (suc n) None h =
+    rw (h at (omega arith) (omega arith)) (first_at test f (suc at) n None (λ k l g. h k (omega arith) (omega arith)))
+first_at test f at (suc n) (Some i) h =
+    either i at
+    (λ l. let e : i ≡ at = omega (arith, h.0) in let g : test (f at) ≡ true = rw e at h.2 in rw (e, g))
+    (λ l.
+    rw (h.3 at (omega arith) l)
+    (first_at test f (suc at) n (Some i) (omega arith, omega (arith, h.1), h.2, λ k g m. h.3 k (omega arith) m)))
 
-pub search_start : (xs : List ℕ) (symbol : ℕ) → Searching xs symbol 0
-unfolding symbols_of
-search_start xs symbol =
-    let e : length xs / 2 ≡ length xs / 2 - 0 = omega arith in
-    record { inside = omega arith; rest = ap (λ (n : ℕ). address_of (each (symbol_at xs) 0 n) symbol) e }
+seconds : (xs : List ℕ) (o : Option (ℕ × ℕ)) (r : code.Option ℕ) → option_map (symbol_at xs) r ≡ option_of o
+    → option_map (λ i. get_or xs (2 * i + 1) 0) r ≡ option_of (after o λ a. some a.1)
+unfolding symbol_at after
+seconds xs none None e = refl
+seconds xs none (Some i) e = cc
+seconds xs (some a) None e = cc
+seconds xs (some a) (Some i) e = let f : (get_or xs (2 * i + 0) 0, get_or xs (2 * i + 1) 0) ≡ a = cc in ap (λ (x : ℕ × ℕ). Some x.1) f
 
-module _ {xs : List ℕ} {symbol i : ℕ} (k : Searching xs symbol i) where
-  module _ (h : i < length xs / 2) where
-    at_one : address_of (symbols_of xs) symbol
-        ≡ after (pick (eqb (get_or xs (2 * i) 0) symbol) (some (symbol_at xs i)) (first (λ a. eqb a.0 symbol) (each (symbol_at xs) (i + 1) (length xs / 2 - (i + 1))))) λ a. some a.1
-    unfolding address_of first each symbol_at
-    at_one =
-        let e : length xs / 2 - i ≡ suc (length xs / 2 - (i + 1)) = omega arith in
-        k.rest ∙ rw e (simp (add-zero, add-one))
-
-    pub search_met : get_or xs (2 * i) 0 ≡ symbol → Is (get_or xs (2 * i + 1) 0) ≡ number_of (address_of (symbols_of xs) symbol)
-    unfolding number_of after pick symbol_at
-    search_met e = sym (rw at_one (simp (eq-eqb _ _ e)))
-
-    pub search_turn : (get_or xs (2 * i) 0 ≡ symbol → ⊥) → Searching xs symbol (i + 1)
-    unfolding pick address_of
-    search_turn n = record { inside = omega arith; rest = at_one ∙ simp (ne_eqb _ _ n) }
-
-  pub search_ended : length xs / 2 ≤ i → Nothing ≡ number_of (address_of (symbols_of xs) symbol)
-  unfolding number_of address_of first each after
-  search_ended h = let e : length xs / 2 - i ≡ 0 = omega arith in sym (rw (k.rest, e))
+pub address_found : (xs : List ℕ) (symbol : ℕ) (r : code.Option ℕ)
+    → MatchOption r ((k : ℕ) → 0 ≤ k → k < length xs / 2 → eqb (get_or xs (2 * k) 0) symbol ≡ false)
+    (λ i. (0 ≤ i) × (i < length xs / 2) × (eqb (get_or xs (2 * i) 0) symbol ≡ true) × ((k : ℕ) → 0 ≤ k → k < i → eqb (get_or xs (2 * k) 0) symbol ≡ false))
+    → option_map (λ i. get_or xs (2 * i + 1) 0) r ≡ option_of (address_of (symbols_of xs) symbol)
+unfolding address_of symbols_of symbol_at
+address_found xs symbol r h = seconds xs _ r (first_at (λ a. eqb a.0 symbol) (symbol_at xs) 0 (length xs / 2) r (simp (add-zero, zero-add) h))
 
 -- ---- symbol plus addend
 

@@ -12,34 +12,34 @@ use Rattle.format.proofs.Choice.{either}
 use Rattle.apply.specs.declared.Width.{Width}
 use Rattle.apply.specs.declared.Kind.{Kind}
 use Rattle.apply.specs.declared.Kind.TheVariants.{Set, Sub}
-use Rattle.apply.specs.Kinds.{kind_of, bytes_of, size_ok, number_of, is_number, found}
+use Rattle.apply.specs.Kinds.{kind_of, bytes_of, size_ok}
+use Rattle.std.specs.Prelude as code
+use Rattle.std.specs.Prelude.{Some, None, MatchOption}
+use Rattle.apply.specs.declared.Reloc.{Reloc}
+use Rattle.apply.specs.Standing.{meant, beside}
+use Rattle.format.specs.Coded.{option_of}
 use Rattle.apply.specs.Fields.{up_to, whole_in}
 use Rattle.apply.specs.Values.{Layout, address_of, value_as, store_as, store_of}
-use Rattle.apply.specs.Apply.{partners, paired, value_ok, sound}
+use Rattle.apply.specs.Apply.{partners, leads, follows, paired, value_ok, sound}
 
 pub word_eight : (n : ℕ) → T (is_word_size n) → (n ≡ 2 → ⊥) → (n ≡ 4 → ⊥) → n ≡ 8
 unfolding is_word_size
 word_eight n t a b =
     ⊎_elim (λ u. ⊎_elim (λ v. absurd (a (eqb_yes v))) (λ v. absurd (b (eqb_yes v))) (or_yes (eqb n 2) (eqb n 4) u)) (λ u. eqb_yes u) (or_yes (eqb n 2 || eqb n 4) (eqb n 8) t)
 
-pub is_some_lem : (o : Option ℕ) → is_number (number_of o) ≡ is_some o
-unfolding is_number number_of is_some
+pub is_some_lem : (o : Option ℕ) → code.is_some (option_of o) ≡ is_some o
+unfolding is_some
 is_some_lem none = refl
 is_some_lem (some n) = refl
-
-pub found_is : (o : Option ℕ) → found (number_of o) ≡ o
-unfolding found number_of
-found_is none = refl
-found_is (some n) = refl
 
 pub le_less : (p b n : ℕ) → p ≤ n → leb b (n - p) ≡ leb (p + b) n
 le_less p b n h =
     either b (n - p) (λ l. le-leb b (n - p) l ∙ sym (le-leb (p + b) n (omega arith))) (λ g. lt-leb b (n - p) g ∙ sym (lt-leb (p + b) n (omega arith)))
 
-pub base_zero : (o : Option ℤ) (m k : ℕ) → m ≡ k → number_of (after o (λ z. up_to m (z -ℤ pos 0))) ≡ number_of (after o (λ z. up_to k z))
+pub base_zero : (o : Option ℤ) (m k : ℕ) → m ≡ k → option_of (after o (λ z. up_to m (z -ℤ pos 0))) ≡ option_of (after o (λ z. up_to k z))
 unfolding after
 base_zero none m k e = refl
-base_zero (some z) m k e = ap (λ (x : ℕ). number_of (up_to x (z -ℤ pos 0))) e ∙ ap (λ (y : ℤ). number_of (up_to k y)) (+ℤ_idr z)
+base_zero (some z) m k e = ap (λ (x : ℕ). option_of (up_to x (z -ℤ pos 0))) e ∙ ap (λ (y : ℤ). option_of (up_to k y)) (+ℤ_idr z)
 
 -- ---- question 79, test by test
 
@@ -127,3 +127,19 @@ step_size w n t = eqb_yes t
 pub step_size_2 : (w : Width) (n : ℕ) → T (size_ok (Sub w) n) → n ≡ bytes_of w
 unfolding size_ok
 step_size_2 w n t = eqb_yes t
+
+-- ---- a partner beside, where there is one
+
+pub matched : {A : Type 0} {P P' : Type 0} {Q Q' : A → Type 0} (o : code.Option A) → MatchOption o P Q → (P → P') → ((x : A) → Q x → Q' x) → MatchOption o P' Q'
+matched None h f g = f h
+matched (Some x) h f g = g x h
+
+pub leads_is : (r : Reloc) (o : code.Option Reloc) (b : Bool) → MatchOption o (b ≡ false) (λ s. b ≡ partners (meant r) (meant s)) → b ≡ leads (meant r) (beside o)
+unfolding leads beside
+leads_is r None b h = h
+leads_is r (Some s) b h = h
+
+pub follows_is : (r : Reloc) (o : code.Option Reloc) (b : Bool) → MatchOption o (b ≡ false) (λ s. b ≡ partners (meant s) (meant r)) → b ≡ follows (meant r) (beside o)
+unfolding follows beside
+follows_is r None b h = h
+follows_is r (Some s) b h = h

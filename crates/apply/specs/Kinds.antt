@@ -1,14 +1,11 @@
 -- The kinds of relocations by number, and the fields that they stand at (document 01, "Machine, function and row").
-use Rattle.std.specs.Prelude.{ℕ, Bool, true, false, ◌==◌}
-use Rattle.std.proofs.Math.Option.{Option, none, some}
+use Rattle.std.specs.Prelude.{ℕ, Bool, false, ◌==◌}
 use Rattle.format.specs.Prelude.{pick}
 use Rattle.format.specs.Machine.{is_word_size}
 use Rattle.apply.specs.declared.Width.{Width}
 use Rattle.apply.specs.declared.Width.TheVariants.{W6, W8, W16, W32}
 use Rattle.apply.specs.declared.Kind.{Kind}
 use Rattle.apply.specs.declared.Kind.TheVariants.{Data, Address, SumPlus, SumMinus, Image, Set, Sub, Unknown}
-use Rattle.apply.specs.declared.Number.{Number}
-use Rattle.apply.specs.declared.Number.TheVariants.{Is, Nothing}
 
 unfoldable pub kind_of : ℕ → Kind
 kind_of n =
@@ -49,16 +46,3 @@ size_ok Image n = n == 4
 size_ok (Set w) n = n == bytes_of w
 size_ok (Sub w) n = n == bytes_of w
 size_ok Unknown n = false
-
--- a number that a function of the code found, or not
-unfoldable pub number_of : Option ℕ → Number
-number_of none = Nothing
-number_of (some n) = Is n
-
-unfoldable pub is_number : Number → Bool
-is_number (Is n) = true
-is_number Nothing = false
-
-unfoldable pub found : Number → Option ℕ
-found (Is n) = some n
-found Nothing = none

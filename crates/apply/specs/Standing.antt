@@ -1,19 +1,18 @@
 -- The code's relocations as the definitions' records, and what stands beside one in a list of numbers.
-use Rattle.std.specs.Prelude.{ℕ, ◌+◌, ◌-◌, ◌*◌, ◌^◌, ◌<◌, List, ◌==◌, ◌≢◌, nat_lt}
+use Rattle.std.specs.Prelude.{ℕ, ◌+◌, ◌-◌, ◌*◌, ◌^◌, ◌<◌, List, ◌==◌, ◌≢◌, Some, None, nat_lt}
+use Rattle.std.specs.Prelude as code
 use Rattle.std.proofs.Math.Option.{Option, none, some}
 use Rattle.format.specs.Prelude.{pick}
 use Rattle.format.specs.Lists.{Relocation, relocation_stride, relocation_at, count}
 use Rattle.apply.specs.declared.Reloc.{Reloc}
-use Rattle.apply.specs.declared.Beside.{Beside}
-use Rattle.apply.specs.declared.Beside.TheVariants.{There, Nothing}
 use Rattle.apply.specs.declared.Sum.{Sum}
 
 abbrev pub meant : Reloc → Relocation
 meant r = record { place = r.place; symbol = r.symbol; kind = r.kind; bytes = r.bytes; addend = r.addend }
 
-unfoldable pub beside : Beside → Option Relocation
-beside (There r) = some (meant r)
-beside Nothing = none
+unfoldable pub beside : code.Option Reloc → Option Relocation
+beside (Some r) = some (meant r)
+beside None = none
 
 unfoldable pub before_at : List ℕ → ℕ → Option Relocation
 before_at rs i = pick (i == 0) none (some (relocation_at rs (i - 1)))

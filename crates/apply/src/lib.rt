@@ -8,12 +8,12 @@ ghost use Rattle.std.specs.Int.{w64};
 ghost use Rattle.std.proofs.Common.{to_z};
 ghost use Rattle.format.specs.Prelude.{after};
 ghost use Rattle.format.specs.Machine.{is_word_size};
-ghost use Rattle.format.specs.Put.{put};
 ghost use Rattle.format.specs.Lists.{relocation_stride, relocation_at, relocations_of, count};
-ghost use Rattle.apply.specs.Kinds.{kind_of, bits_of, bytes_of, size_ok, number_of, is_number, found};
-ghost use Rattle.apply.specs.Fields.{up_to, signed32, number_at, set_in, sub_in, whole_in};
+ghost use Rattle.apply.specs.Kinds.{kind_of, bits_of, bytes_of, size_ok};
+ghost use Rattle.format.specs.Coded.{option_of};
+ghost use Rattle.apply.specs.Fields.{up_to, signed32, number_at, in_field, set_in, sub_in, whole_in};
 ghost use Rattle.apply.specs.Values.{symbols_of, layout_of, address_of, sum_of, apart, value_as, store_of};
-ghost use Rattle.apply.specs.Apply.{partners, leads, follows, paired, measured, value_ok, near_as, sound, near, everywhere, stores, apply, Applies};
+ghost use Rattle.apply.specs.Apply.{partners, paired, measured, value_ok, near_as, sound, near, everywhere, stores, apply, Applies};
 ghost use Rattle.apply.specs.Standing.{meant, beside, before_at, behind_at, total_of, FieldSize};
 
 // The width of a field that Set and Sub patch, in bits.
@@ -38,13 +38,6 @@ pub enum Kind {
     Unknown,
 }
 
-// A number, where there is one.
-#[derive(Clone, Copy)]
-pub enum Number {
-    Is(u64),
-    Nothing,
-}
-
 #[derive(Clone, Copy)]
 pub struct Reloc {
     pub place: u64,
@@ -52,13 +45,6 @@ pub struct Reloc {
     pub kind: u64,
     pub bytes: u64,
     pub addend: u64,
-}
-
-// The relocation right before or right behind another, where there is one.
-#[derive(Clone, Copy)]
-pub enum Beside {
-    There(Reloc),
-    Nothing,
 }
 
 // The kinds of Sub: each is one more than that of its Set.
@@ -91,27 +77,29 @@ fn kind_of(n: u64) -> Kind
     }
 }
 
+fn bits_of(w: Width) -> u64
+    ensures { result ≡ bits_of w }
+{
+    match w {
+        Width::W6 => 6,
+        Width::W8 => 8,
+        Width::W16 => 16,
+        Width::W32 => 32,
+    }
+}
+
 // 2 to the bits of a width.
 fn modulus(w: Width) -> u64
     ensures { (result ≡ 2 ^ bits_of w) × (0 < result) × (result ≤ 4294967296) }
 {
-    match w {
-        Width::W6 => 64,
-        Width::W8 => 256,
-        Width::W16 => 65536,
-        Width::W32 => 4294967296,
-    }
+    1 << bits_of(w)
 }
 
+// The bytes that hold a field of that width.
 fn bytes_of(w: Width) -> u64
     ensures { result ≡ bytes_of w }
 {
-    match w {
-        Width::W6 => 1,
-        Width::W8 => 1,
-        Width::W16 => 2,
-        Width::W32 => 4,
-    }
+    bits_of(w).div_ceil(8)
 }
 
 // The sizes that the writers give each kind.
@@ -159,24 +147,24 @@ fn reloc_at(relocs: &[u64], i: usize) -> Reloc
     }
 }
 
-fn before_at(relocs: &[u64], i: usize) -> Beside
+fn before_at(relocs: &[u64], i: usize) -> Option<Reloc>
     requires { i < length relocs.now / 5 }
     ensures { beside result ≡ before_at relocs.now i }
 {
     if i == 0 {
-        return Beside::Nothing;
+        return None;
     }
-    Beside::There(reloc_at(relocs, i - 1))
+    Some(reloc_at(relocs, i - 1))
 }
 
-fn behind_at(relocs: &[u64], i: usize) -> Beside
+fn behind_at(relocs: &[u64], i: usize) -> Option<Reloc>
     requires { i < length relocs.now / 5 }
     ensures { beside result ≡ behind_at relocs.now i }
 {
     if i + 1 < relocs.len() / relocs::RELOCATION_STRIDE {
-        return Beside::There(reloc_at(relocs, i + 1));
+        return Some(reloc_at(relocs, i + 1));
     }
-    Beside::Nothing
+    None
 }
 
 // Whether s is the second of a pair that r is the first of.
@@ -195,35 +183,17 @@ fn partners(r: Reloc, s: Reloc) -> bool
     s.bytes == r.bytes
 }
 
-fn leads(r: Reloc, behind: Beside) -> bool
-    ensures { result ≡ leads (meant r) (beside behind) }
-{
-    let Beside::There(s) = behind else {
-        return false;
-    };
-    partners(r, s)
-}
-
-fn follows(r: Reloc, before: Beside) -> bool
-    ensures { result ≡ follows (meant r) (beside before) }
-{
-    let Beside::There(s) = before else {
-        return false;
-    };
-    partners(s, r)
-}
-
-fn paired(k: Kind, before: Beside, r: Reloc, behind: Beside) -> bool
+fn paired(k: Kind, before: Option<Reloc>, r: Reloc, behind: Option<Reloc>) -> bool
     ensures { result ≡ paired k (beside before) (meant r) (beside behind) }
 {
     match k {
         Kind::Data => true,
         Kind::Address => true,
-        Kind::SumPlus => leads(r, behind),
-        Kind::SumMinus => follows(r, before),
+        Kind::SumPlus => behind.is_some_and(|s| partners(r, s)),
+        Kind::SumMinus => before.is_some_and(|s| partners(s, r)),
         Kind::Image => true,
-        Kind::Set(_) => leads(r, behind),
-        Kind::Sub(_) => follows(r, before),
+        Kind::Set(_) => behind.is_some_and(|s| partners(r, s)),
+        Kind::Sub(_) => before.is_some_and(|s| partners(s, r)),
         Kind::Unknown => true,
     }
 }
@@ -231,18 +201,12 @@ fn paired(k: Kind, before: Beside, r: Reloc, behind: Beside) -> bool
 // ---- values: symbol plus addend less a base, without a width
 
 // The address of a symbol: the first one listed.
-fn address_of(addresses: &[u64], symbol: u64) -> Number
-    ensures { result ≡ number_of (address_of (symbols_of addresses.now) symbol) }
+fn address_of(addresses: &[u64], symbol: u64) -> Option<u64>
+    ensures { result ≡ option_of (address_of (symbols_of addresses.now) symbol) }
 {
     let n = addresses.len() / 2;
-    let mut i = 0;
-    while i < n {
-        if addresses[2 * i] == symbol {
-            return Number::Is(addresses[2 * i + 1]);
-        }
-        i += 1;
-    }
-    Number::Nothing
+    let i = (0..n).find(|i| addresses[2 * *i] == symbol)?;
+    Some(addresses[2 * i + 1])
 }
 
 // An addend plus 2^63, which is not negative.
@@ -285,26 +249,26 @@ fn total(x: u64, y: u64, z: u64) -> Sum
 }
 
 // A number, where it is at most `most`.
-fn up_to(d: u64, most: u64) -> Number
-    ensures { result ≡ number_of (up_to most (pos d)) }
+fn up_to(d: u64, most: u64) -> Option<u64>
+    ensures { result ≡ option_of (up_to most (pos d)) }
 {
     if d <= most {
-        return Number::Is(d);
+        return Some(d);
     }
-    Number::Nothing
+    None
 }
 
 // One sum less another, where it is from 0 to `most`.
-fn less_by(p: Sum, n: Sum, most: u64) -> Number
-    ensures { result ≡ number_of (up_to most (pos (total_of p) -ℤ pos (total_of n))) }
+fn less_by(p: Sum, n: Sum, most: u64) -> Option<u64>
+    ensures { result ≡ option_of (up_to most (pos (total_of p) -ℤ pos (total_of n))) }
 {
     if p.high < n.high {
-        return Number::Nothing;
+        return None;
     }
     let carry = p.high - n.high;
     if carry == 0 {
         if p.low < n.low {
-            return Number::Nothing;
+            return None;
         }
         return up_to(p.low - n.low, most);
     }
@@ -312,18 +276,16 @@ fn less_by(p: Sum, n: Sum, most: u64) -> Number
         if p.low < n.low {
             return up_to(18446744073709551615 - n.low + p.low + 1, most);
         }
-        return Number::Nothing;
+        return None;
     }
-    Number::Nothing
+    None
 }
 
 // Symbol plus addend less a base, where it is from 0 to `most`.
-fn less_base(addresses: &[u64], r: Reloc, base: u64, most: u64) -> Number
-    ensures { result ≡ number_of (after (sum_of (symbols_of addresses.now) (meant r)) λ z. up_to most (z -ℤ pos base)) }
+fn less_base(addresses: &[u64], r: Reloc, base: u64, most: u64) -> Option<u64>
+    ensures { result ≡ option_of (after (sum_of (symbols_of addresses.now) (meant r)) λ z. up_to most (z -ℤ pos base)) }
 {
-    let Number::Is(s) = address_of(addresses, r.symbol) else {
-        return Number::Nothing;
-    };
+    let s = address_of(addresses, r.symbol)?;
     less_by(
         total(s, biased(r.addend), 0),
         total(base, 9223372036854775808, 0),
@@ -332,35 +294,25 @@ fn less_base(addresses: &[u64], r: Reloc, base: u64, most: u64) -> Number
 }
 
 // Symbol plus addend less the field's address, in signed 32 bits: 2^31 more is from 0 to 2^32 - 1.
-fn data_value(addresses: &[u64], r: Reloc, section: u64) -> Number
-    ensures { result ≡ number_of (after (sum_of (symbols_of addresses.now) (meant r)) λ z. signed32 (z -ℤ pos (section + r.place))) }
+fn data_value(addresses: &[u64], r: Reloc, section: u64) -> Option<u64>
+    ensures { result ≡ option_of (after (sum_of (symbols_of addresses.now) (meant r)) λ z. signed32 (z -ℤ pos (section + r.place))) }
 {
-    let Number::Is(s) = address_of(addresses, r.symbol) else {
-        return Number::Nothing;
-    };
-    let Number::Is(d) = less_by(
+    let s = address_of(addresses, r.symbol)?;
+    let d = less_by(
         total(s, biased(r.addend), 2147483648),
         total(section, r.place, 9223372036854775808),
         4294967295,
-    ) else {
-        return Number::Nothing;
-    };
-    Number::Is((d + 2147483648) % 4294967296)
+    )?;
+    Some((d + 2147483648) % 4294967296)
 }
 
 // Symbol plus addend less that of the relocation behind, where it is from 0 to `most`.
-fn apart(addresses: &[u64], r: Reloc, behind: Beside, most: u64) -> Number
-    ensures { result ≡ number_of (after (apart (symbols_of addresses.now) (meant r) (beside behind)) λ z. up_to most z) }
+fn apart(addresses: &[u64], r: Reloc, behind: Option<Reloc>, most: u64) -> Option<u64>
+    ensures { result ≡ option_of (after (apart (symbols_of addresses.now) (meant r) (beside behind)) λ z. up_to most z) }
 {
-    let Number::Is(s) = address_of(addresses, r.symbol) else {
-        return Number::Nothing;
-    };
-    let Beside::There(b) = behind else {
-        return Number::Nothing;
-    };
-    let Number::Is(t) = address_of(addresses, b.symbol) else {
-        return Number::Nothing;
-    };
+    let s = address_of(addresses, r.symbol)?;
+    let b = behind?;
+    let t = address_of(addresses, b.symbol)?;
     less_by(
         total(s, biased(r.addend), 0),
         total(t, biased(b.addend), 0),
@@ -369,28 +321,26 @@ fn apart(addresses: &[u64], r: Reloc, behind: Beside, most: u64) -> Number
 }
 
 // The value as it stands in its field, where it fits.
-fn value(k: Kind, addresses: &[u64], section: u64, image: u64, r: Reloc, behind: Beside) -> Number
+fn value(
+    k: Kind,
+    addresses: &[u64],
+    section: u64,
+    image: u64,
+    r: Reloc,
+    behind: Option<Reloc>,
+) -> Option<u64>
     requires { T (size_ok k r.bytes) }
-    ensures { result ≡ number_of (value_as k (layout_of addresses.now section image) (meant r) (beside behind)) }
+    ensures { result ≡ option_of (value_as k (layout_of addresses.now section image) (meant r) (beside behind)) }
 {
     match k {
         Kind::Data => data_value(addresses, r, section),
         Kind::Address => less_base(addresses, r, 0, most(r.bytes)),
         Kind::SumPlus => apart(addresses, r, behind, most(r.bytes)),
-        Kind::SumMinus => Number::Nothing,
+        Kind::SumMinus => None,
         Kind::Image => less_base(addresses, r, image, 4294967295),
-        Kind::Set(_) => Number::Nothing,
-        Kind::Sub(_) => Number::Nothing,
-        Kind::Unknown => Number::Nothing,
-    }
-}
-
-fn is_number(n: Number) -> bool
-    ensures { result ≡ is_number n }
-{
-    match n {
-        Number::Is(_) => true,
-        Number::Nothing => false,
+        Kind::Set(_) => None,
+        Kind::Sub(_) => None,
+        Kind::Unknown => None,
     }
 }
 
@@ -412,20 +362,27 @@ fn measured(k: Kind) -> bool
     }
 }
 
-fn value_ok(k: Kind, addresses: &[u64], section: u64, image: u64, r: Reloc, behind: Beside) -> bool
+fn value_ok(
+    k: Kind,
+    addresses: &[u64],
+    section: u64,
+    image: u64,
+    r: Reloc,
+    behind: Option<Reloc>,
+) -> bool
     requires { T (size_ok k r.bytes) }
     ensures { result ≡ value_ok k (layout_of addresses.now section image) (meant r) (beside behind) }
 {
     if !measured(k) {
         return true;
     }
-    is_number(value(k, addresses, section, image, r, behind))
+    value(k, addresses, section, image, r, behind).is_some()
 }
 
 fn known(addresses: &[u64], symbol: u64) -> bool
     ensures { result ≡ is_some (address_of (symbols_of addresses.now) symbol) }
 {
-    is_number(address_of(addresses, symbol))
+    address_of(addresses, symbol).is_some()
 }
 
 // The field lies inside a section of `size` bytes.
@@ -445,9 +402,9 @@ fn sound(
     section: u64,
     image: u64,
     size: usize,
-    before: Beside,
+    before: Option<Reloc>,
     r: Reloc,
-    behind: Beside,
+    behind: Option<Reloc>,
 ) -> bool
     ensures { result ≡ sound (layout_of addresses.now section image) size (beside before) (meant r) (beside behind) }
 {
@@ -468,7 +425,7 @@ fn sound(
 }
 
 // Question 80 of one relocation.
-fn near(addresses: &[u64], r: Reloc, behind: Beside) -> bool
+fn near(addresses: &[u64], r: Reloc, behind: Option<Reloc>) -> bool
     ensures { result ≡ near_as (kind_of r.kind) (symbols_of addresses.now) (meant r) (beside behind) }
 {
     let k = kind_of(r.kind);
@@ -478,7 +435,7 @@ fn near(addresses: &[u64], r: Reloc, behind: Beside) -> bool
         Kind::SumPlus => true,
         Kind::SumMinus => true,
         Kind::Image => true,
-        Kind::Set(w) => is_number(apart(addresses, r, behind, modulus(w) - 1)),
+        Kind::Set(w) => apart(addresses, r, behind, modulus(w) - 1).is_some(),
         Kind::Sub(_) => true,
         Kind::Unknown => true,
     }
@@ -488,33 +445,23 @@ fn all_sound(relocs: &[u64], addresses: &[u64], section: u64, image: u64, size: 
     ensures { result ≡ everywhere (sound (layout_of addresses.now section image) size) none (relocations_of relocs.now) }
 {
     let n = relocs.len() / relocs::RELOCATION_STRIDE;
-    let mut i = 0;
-    while i < n {
+    (0..n).all(|i| {
         let before = before_at(relocs, i);
         let r = reloc_at(relocs, i);
         let behind = behind_at(relocs, i);
-        if !sound(addresses, section, image, size, before, r, behind) {
-            return false;
-        }
-        i += 1;
-    }
-    true
+        sound(addresses, section, image, size, before, r, behind)
+    })
 }
 
 fn all_near(relocs: &[u64], addresses: &[u64]) -> bool
     ensures { result ≡ everywhere (near (symbols_of addresses.now)) none (relocations_of relocs.now) }
 {
     let n = relocs.len() / relocs::RELOCATION_STRIDE;
-    let mut i = 0;
-    while i < n {
+    (0..n).all(|i| {
         let r = reloc_at(relocs, i);
         let behind = behind_at(relocs, i);
-        if !near(addresses, r, behind) {
-            return false;
-        }
-        i += 1;
-    }
-    true
+        near(addresses, r, behind)
+    })
 }
 
 // ---- stores
@@ -537,16 +484,24 @@ fn number_at(copy: &[u8], p: usize, n: u64) -> u64
     x + 256 * (y + 256 * (z + 256 * t))
 }
 
+// A number in a field's low bits, and the bits above it as they were.
+fn put_low(copy: &mut [u8], p: usize, w: Width, v: u64)
+    requires { (p + bytes_of w ≤ length copy.old) × (v < 2 ^ bits_of w) }
+    ensures { copy.new ≡ in_field w copy.old p v }
+{
+    let m = modulus(w);
+    let n = bytes_of(w);
+    let old = number_at(copy, p, n);
+    leb::le(copy, p, n as usize, old / m * m + v);
+}
+
 // Set: the low bits of a symbol's address plus an addend.
 fn set(copy: &mut [u8], p: usize, w: Width, s: u64, a: u64)
     requires { p + bytes_of w ≤ length copy.old }
     ensures { copy.new ≡ set_in w copy.old p (some (pos s +ℤ to_z w64 a)) }
 {
-    let m = modulus(w);
-    let n = bytes_of(w);
-    let old = number_at(copy, p, n);
-    let v = std::num::wrapping_add_u64(s, a) % m;
-    leb::le(copy, p, n as usize, old / m * m + v);
+    let v = std::num::wrapping_add_u64(s, a) % modulus(w);
+    put_low(copy, p, w, v);
 }
 
 // Sub: what stands there less a symbol's address plus an addend, wrapping at the field's width.
@@ -555,42 +510,9 @@ fn sub(copy: &mut [u8], p: usize, w: Width, s: u64, a: u64)
     ensures { copy.new ≡ sub_in w copy.old p (some (pos s +ℤ to_z w64 a)) }
 {
     let m = modulus(w);
-    let n = bytes_of(w);
-    let old = number_at(copy, p, n);
+    let old = number_at(copy, p, bytes_of(w));
     let v = std::num::wrapping_sub_u64(old % m, std::num::wrapping_add_u64(s, a)) % m;
-    leb::le(copy, p, n as usize, old / m * m + v);
-}
-
-// Set and Sub of a relocation.
-fn set_sum(copy: &mut [u8], w: Width, addresses: &[u64], r: Reloc)
-    requires { r.place + bytes_of w ≤ length copy.old }
-    ensures { copy.new ≡ set_in w copy.old r.place (sum_of (symbols_of addresses.now) (meant r)) }
-{
-    let Number::Is(s) = address_of(addresses, r.symbol) else {
-        return;
-    };
-    set(copy, r.place as usize, w, s, r.addend)
-}
-
-fn sub_sum(copy: &mut [u8], w: Width, addresses: &[u64], r: Reloc)
-    requires { r.place + bytes_of w ≤ length copy.old }
-    ensures { copy.new ≡ sub_in w copy.old r.place (sum_of (symbols_of addresses.now) (meant r)) }
-{
-    let Number::Is(s) = address_of(addresses, r.symbol) else {
-        return;
-    };
-    sub(copy, r.place as usize, w, s, r.addend)
-}
-
-// A value in a whole field, where there is one.
-fn whole(copy: &mut [u8], r: Reloc, v: Number)
-    requires { r.place + r.bytes ≤ length copy.old }
-    ensures { copy.new ≡ whole_in r.bytes copy.old r.place (found v) }
-{
-    let Number::Is(n) = v else {
-        return;
-    };
-    leb::le(copy, r.place as usize, r.bytes as usize, n);
+    put_low(copy, p, w, v);
 }
 
 // The value of a relocation that a field holds whole.
@@ -601,16 +523,25 @@ fn store_value(
     section: u64,
     image: u64,
     r: Reloc,
-    behind: Beside,
+    behind: Option<Reloc>,
 )
     requires { (r.place + r.bytes ≤ length copy.old) × T (size_ok k r.bytes) }
     ensures { copy.new ≡ whole_in r.bytes copy.old r.place (value_as k (layout_of addresses.now section image) (meant r) (beside behind)) }
 {
-    whole(copy, r, value(k, addresses, section, image, r, behind));
+    if let Some(v) = value(k, addresses, section, image, r, behind) {
+        leb::le(copy, r.place as usize, r.bytes as usize, v);
+    }
 }
 
 // The store of one relocation.
-fn store(copy: &mut [u8], addresses: &[u64], section: u64, image: u64, r: Reloc, behind: Beside)
+fn store(
+    copy: &mut [u8],
+    addresses: &[u64],
+    section: u64,
+    image: u64,
+    r: Reloc,
+    behind: Option<Reloc>,
+)
     requires { (r.place + r.bytes ≤ length copy.old) × T (size_ok (kind_of r.kind) r.bytes) }
     ensures { copy.new ≡ store_of (layout_of addresses.now section image) copy.old (meant r) (beside behind) }
 {
@@ -621,8 +552,16 @@ fn store(copy: &mut [u8], addresses: &[u64], section: u64, image: u64, r: Reloc,
         Kind::SumPlus => store_value(copy, k, addresses, section, image, r, behind),
         Kind::SumMinus => {}
         Kind::Image => store_value(copy, k, addresses, section, image, r, behind),
-        Kind::Set(w) => set_sum(copy, w, addresses, r),
-        Kind::Sub(w) => sub_sum(copy, w, addresses, r),
+        Kind::Set(w) => {
+            if let Some(s) = address_of(addresses, r.symbol) {
+                set(copy, r.place as usize, w, s, r.addend);
+            }
+        }
+        Kind::Sub(w) => {
+            if let Some(s) = address_of(addresses, r.symbol) {
+                sub(copy, r.place as usize, w, s, r.addend);
+            }
+        }
         Kind::Unknown => {}
     }
 }
@@ -633,24 +572,10 @@ fn store_all(copy: &mut [u8], relocs: &[u64], addresses: &[u64], section: u64, i
     ensures { copy.new ≡ stores (layout_of addresses.now section image) copy.old (relocations_of relocs.now) }
 {
     let n = relocs.len() / relocs::RELOCATION_STRIDE;
-    let mut i = 0;
-    while i < n {
+    for i in 0..n {
         let r = reloc_at(relocs, i);
         let behind = behind_at(relocs, i);
         store(copy, addresses, section, image, r, behind);
-        i += 1;
-    }
-}
-
-// Bytes at the front of a buffer.
-fn copy_in(out: &mut [u8], bytes: &[u8])
-    requires { length bytes.now ≤ length out.old }
-    ensures { out.new ≡ put out.old 0 bytes.now }
-{
-    let mut i = 0;
-    while i < bytes.len() {
-        out[i] = bytes[i];
-        i += 1;
     }
 }
 
@@ -679,7 +604,7 @@ pub extern "C" fn unwind_apply(
     if !all_near(relocations, addresses) {
         return 80;
     }
-    copy_in(out, bytes);
+    out[..n].copy_from_slice(bytes);
     store_all(&mut out[..n], relocations, addresses, section, image);
     0
 }

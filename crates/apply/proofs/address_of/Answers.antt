@@ -1,15 +1,33 @@
 -- `apply::address_of` meets its contract.
-use Rattle.apply.proofs.Sums.{search_start, search_met, search_turn, search_ended}
+use Rattle.std.proofs.Common.{◌≡◌, ℕ, ◌*◌, ◌/◌, ◌<◌, ◌≤◌, true, false, eqb, get_or, length, MatchOption, arith, rules}
+use borrow.Author.Tests.{tests}
+use Rattle.std.proofs.lemmas.Iterator.{first_from_Range}
+use Rattle.apply.proofs.Sums.{address_found}
 use Rattle.apply.proofs.address_of.Goals as goal
+use Rattle.apply.proofs.address_of.Goals.{After-find}
 
-pub loop-i-init : goal.loop-i-init
-loop-i-init c = search_start c.args.addresses.now c.args.symbol
+-- what `find` found
+seen : (c : After-find)
+    → MatchOption c.find.result ((k : ℕ) → 0 ≤ k → k < length c.args.addresses.now / 2 → eqb (get_or c.args.addresses.now (2 * k) 0) c.args.symbol ≡ false)
+    (λ i. (0 ≤ i) × (i < length c.args.addresses.now / 2) × (eqb (get_or c.args.addresses.now (2 * i) 0) c.args.symbol ≡ true) × ((k : ℕ) → 0 ≤ k → k < i → eqb (get_or c.args.addresses.now (2 * k) 0) c.args.symbol ≡ false))
+seen c =
+    first_from_Range _ _ _ c.find.result (λ k. eqb (get_or c.args.addresses.now (2 * k) 0) c.args.symbol ≡ true) (λ k. eqb (get_or c.args.addresses.now (2 * k) 0) c.args.symbol ≡ false)
+    c.find.ensures.ran (λ x q k. search (rules, tests)) (λ x q k. search (rules, tests))
 
-pub returns-then-addresses-i : goal.returns-then-addresses-i
-returns-then-addresses-i c = search_met c.loop-i.invariant c.loop-i-test.true c.if-addresses-i.true
+pub returns-in_err-i : goal.returns-in_err-i
+returns-in_err-i c = rw (c.from_residual.ensures) (rw c.in_err-i.was at (address_found c.args.addresses.now c.args.symbol c.find.result (seen (goal.at.returns-in_err-i c).After-find)))
 
-pub loop-i-preserved : goal.loop-i-preserved
-loop-i-preserved c = search_turn c.loop-i.invariant c.loop-i-test.true c.if-addresses-i.false
+pub overflow_mul-result : goal.overflow_mul-result
+overflow_mul-result c = let h = rw c.in_ok-i.was at (seen (goal.at.overflow_mul-result c).After-find) in record { fits = omega (arith, h.1) }
+
+pub overflow_add-result : goal.overflow_add-result
+overflow_add-result c = let h = rw c.in_ok-i.was at (seen (goal.at.overflow_add-result c).After-find) in record { fits = omega (arith, h.1) }
+
+pub offset_bounds-addresses-i : goal.offset_bounds-addresses-i
+offset_bounds-addresses-i c = let h = rw c.in_ok-i.was at (seen (goal.at.offset_bounds-addresses-i c).After-find) in record { fits = omega (arith, h.1) }
+
+pub bounds-addresses-i : goal.bounds-addresses-i
+bounds-addresses-i c = let h = rw c.in_ok-i.was at (seen (goal.at.bounds-addresses-i c).After-find) in omega (arith, h.1)
 
 pub returns : goal.returns
-returns c = search_ended c.loop-i.invariant c.loop-i-test.false
+returns c = rw c.in_ok-i.was at (address_found c.args.addresses.now c.args.symbol c.find.result (seen (goal.at.returns c).After-find))

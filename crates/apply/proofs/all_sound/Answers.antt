@@ -1,28 +1,17 @@
 -- `apply::all_sound` meets its contract.
-use Rattle.std.proofs.Common.{sym, ◌∙◌}
+use Rattle.std.proofs.Common.{length, ◌/◌, refl, ◌∙◌, arith, rules}
+use borrow.Author.Tests.{tests}
+use Rattle.std.proofs.lemmas.Iterator.{YieldsList-from_range}
+use Rattle.std.proofs.lemmas.Iterator.Search.{all_from_yields_List}
 use Rattle.apply.specs.Values.{layout_of}
 use Rattle.apply.specs.Apply.{sound}
-use Rattle.apply.proofs.Loops.{ask_start, ask_no, ask_turn, ask_ended, same_test}
+use Rattle.apply.proofs.Loops.{asked, all_asked}
 use Rattle.apply.proofs.all_sound.Goals as goal
 
-pub loop-i-init : goal.loop-i-init
-loop-i-init c = let a = c.args in ask_start a.relocs.now (sound (layout_of a.addresses.now a.section a.image) a.size)
-
-pub returns-then-not-sound : goal.returns-then-not-sound
-returns-then-not-sound c =
-    let k = c.loop-i in
-    let a = c.args in
-    let e =
-    same_test (sound (layout_of a.addresses.now a.section a.image) a.size) c.before_at-before.ensures c.reloc_at-r.ensures c.behind_at-behind.ensures in
-    ask_no a.relocs.now k.invariant c.loop-i-test.true (sym e ∙ sym c.sound.ensures ∙ c.if-not-sound.true)
-
-pub loop-i-preserved : goal.loop-i-preserved
-loop-i-preserved c =
-    let k = c.loop-i in
-    let a = c.args in
-    let e =
-    same_test (sound (layout_of a.addresses.now a.section a.image) a.size) c.before_at-before.ensures c.reloc_at-r.ensures c.behind_at-behind.ensures in
-    ask_turn a.relocs.now k.invariant c.loop-i-test.true (sym e ∙ sym c.sound.ensures ∙ c.if-not-sound.false)
-
 pub returns : goal.returns
-returns c = ask_ended c.args.relocs.now c.loop-i.invariant c.loop-i-test.false
+unfolding sound
+returns c =
+    let a = c.args in
+    let test = sound (layout_of a.addresses.now a.section a.image) a.size in
+    all_from_yields_List (asked a.relocs.now test) _ _ _ c.all.ensures.ran (YieldsList-from_range _ _ (length a.relocs.now / 5) refl (omega arith)) (λ x b q k. search (rules, tests))
+    ∙ all_asked a.relocs.now test

@@ -1,45 +1,44 @@
 -- `apply::apart` meets its contract.
-use Rattle.std.proofs.Common.{ap, ◌∙◌}
-use Rattle.apply.specs.Kinds.{number_of}
+use Rattle.std.proofs.Common.{sym, ap, ◌∙◌}
+use Rattle.format.specs.Coded.{option_of}
 use Rattle.apply.specs.Values.{symbols_of}
 use Rattle.apply.specs.Standing.{meant, beside, total_of}
-use Rattle.apply.proofs.Sums.{number_is, number_none, no_first, no_behind, no_second, apart_value}
+use Rattle.apply.proofs.Sums.{some_of, none_of, no_first, no_behind, no_second, apart_value}
 use Rattle.apply.proofs.apart.Goals as goal
 
-pub returns-in_default : goal.returns-in_default
-unfolding number_of
-returns-in_default c =
+pub returns-in_err-s : goal.returns-in_err-s
+returns-in_err-s c =
     let a = c.args in
     let ss = symbols_of a.addresses.now in
-    let e = number_none _ c.address_of.ensures c.in_default.is in
-    ap number_of (no_first ss (meant a.r) a.most (beside a.behind) e)
+    let e = none_of _ (sym c.in_err-s.was ∙ c.address_of.ensures) in
+    rw c.from_residual.ensures (ap option_of (no_first ss (meant a.r) a.most (beside a.behind) e))
 
-pub returns-in_default-behind : goal.returns-in_default-behind
-unfolding number_of beside
-returns-in_default-behind c =
+pub returns-in_err-b : goal.returns-in_err-b
+unfolding beside
+returns-in_err-b c =
     let a = c.args in
     let ss = symbols_of a.addresses.now in
-    let e = number_is _ c.address_of.ensures c.in-Is.is in
-    rw c.in_default-behind.is (ap number_of (no_behind ss (meant a.r) _ e a.most))
+    let e = some_of _ (sym c.in_ok-s.was ∙ c.address_of.ensures) in
+    rw (c.from_residual-in_err-b.ensures, c.in_err-b.was) (ap option_of (no_behind ss (meant a.r) _ e a.most))
 
-pub returns-in_default-address_of : goal.returns-in_default-address_of
-unfolding number_of beside
-returns-in_default-address_of c =
+pub returns-in_err-t : goal.returns-in_err-t
+unfolding beside
+returns-in_err-t c =
     let a = c.args in
     let ss = symbols_of a.addresses.now in
-    let e = number_is _ c.address_of.ensures c.in-Is.is in
-    let f = number_none _ c.address_of-2.ensures c.in_default-address_of.is in
-    rw c.in-There.is (ap number_of (no_second ss (meant a.r) _ e a.most _ f))
+    let e = some_of _ (sym c.in_ok-s.was ∙ c.address_of.ensures) in
+    let f = none_of _ (sym c.in_err-t.was ∙ c.address_of-2.ensures) in
+    rw (c.from_residual-in_err-t.ensures, c.in_ok-b.was) (ap option_of (no_second ss (meant a.r) _ e a.most _ f))
 
 pub returns : goal.returns
 unfolding beside
 returns c =
     let a = c.args in
     let ss = symbols_of a.addresses.now in
-    let e = number_is _ c.address_of.ensures c.in-Is.is in
-    let f = number_is _ c.address_of-2.ensures c.in-Is-address_of.is in
-    rw c.in-There.is
+    let e = some_of _ (sym c.in_ok-s.was ∙ c.address_of.ensures) in
+    let f = some_of _ (sym c.in_ok-t.was ∙ c.address_of-2.ensures) in
+    rw c.in_ok-b.was
     (c.less_by.ensures
-    ∙ ap number_of
+    ∙ ap option_of
     (apart_value ss (meant a.r) _ e a.most _ _ _ _ (total_of c.total.result) (total_of c.total-2.result) c.biased.ensures f
     c.biased-2.ensures c.total.ensures c.total-2.ensures))

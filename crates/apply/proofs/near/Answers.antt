@@ -1,11 +1,12 @@
 -- `apply::near` meets its contract.
 use Rattle.std.proofs.Common.{ℕ, ◌-◌, sym, ap, ◌∙◌}
 use Rattle.format.specs.Prelude.{after}
-use Rattle.apply.specs.Kinds.{is_number, number_of}
 use Rattle.apply.specs.Fields.{up_to}
 use Rattle.apply.specs.Values.{symbols_of, apart, distance_of}
 use Rattle.apply.specs.Apply.{near_as}
 use Rattle.apply.specs.Standing.{meant, beside}
+use Rattle.format.specs.Coded.{option_of}
+use Rattle.std.specs.Prelude as code
 use Rattle.apply.proofs.Tests.{is_some_lem}
 use Rattle.apply.proofs.near.Goals as goal
 
@@ -35,10 +36,10 @@ returns-in-Set c =
     let a = c.args in
     let ss = symbols_of a.addresses.now in
     rw (sym c.kind_of-k.ensures ∙ c.in-Set.is)
-    (c.is_number.ensures
-    ∙ ap is_number
+    (c.is_some.ensures
+    ∙ ap code.is_some
     (c.apart.ensures
-    ∙ ap (λ (m : ℕ). number_of (after (apart ss (meant a.r) (beside a.behind)) (λ z. up_to (m - 1) z))) c.modulus.ensures.0)
+    ∙ ap (λ (m : ℕ). option_of (after (apart ss (meant a.r) (beside a.behind)) (λ z. up_to (m - 1) z))) c.modulus.ensures.0)
     ∙ is_some_lem _)
 
 pub returns-in-Sub : goal.returns-in-Sub

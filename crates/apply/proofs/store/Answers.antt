@@ -1,36 +1,20 @@
 -- `apply::store` meets its contract.
-use Rattle.std.proofs.Common.{T, sym, refl, ◌∙◌, subst, arith}
-use Rattle.apply.specs.declared.Kind.{Kind}
-use Rattle.apply.specs.Kinds.{size_ok}
-use Rattle.apply.specs.Values.{layout_of, store_as}
+use Rattle.std.proofs.Common.{sym, refl, ap, ◌∙◌, arith}
+use Rattle.apply.specs.Fields.{set_in, sub_in}
+use Rattle.apply.specs.Values.{symbols_of, layout_of, store_as}
 use Rattle.apply.specs.Standing.{meant, beside}
 use Rattle.apply.proofs.Tests.{stored_as, value_as_lem, sized_as, step_size, step_size_2}
+use Rattle.apply.proofs.Sums.{some_of, none_of, is_sum, no_sum}
 use Rattle.apply.proofs.store.Goals as goal
 
-pub store_value-requires : goal.store_value-requires
-store_value-requires c =
-    (c.requires.0, subst (λ (x : Kind). T (size_ok x c.args.r.bytes)) (sym c.kind_of-k.ensures) c.requires.1)
-
-pub store_value-requires-in-Address : goal.store_value-requires-in-Address
-store_value-requires-in-Address c =
-    (c.requires.0, subst (λ (x : Kind). T (size_ok x c.args.r.bytes)) (sym c.kind_of-k.ensures) c.requires.1)
-
-pub store_value-requires-in-SumPlus : goal.store_value-requires-in-SumPlus
-store_value-requires-in-SumPlus c =
-    (c.requires.0, subst (λ (x : Kind). T (size_ok x c.args.r.bytes)) (sym c.kind_of-k.ensures) c.requires.1)
-
-pub store_value-requires-in-Image : goal.store_value-requires-in-Image
-store_value-requires-in-Image c =
-    (c.requires.0, subst (λ (x : Kind). T (size_ok x c.args.r.bytes)) (sym c.kind_of-k.ensures) c.requires.1)
-
-pub set_sum-requires : goal.set_sum-requires
-set_sum-requires c =
+pub set-requires : goal.set-requires
+set-requires c =
     let a = c.args in
     let e = step_size _ a.r.bytes (sized_as (layout_of a.addresses.now a.section a.image) a.copy.now (meant a.r) (beside a.behind) c.kind_of-k.ensures c.in-Set.is c.requires.1) in
     omega (arith, e, c.requires.0)
 
-pub sub_sum-requires : goal.sub_sum-requires
-sub_sum-requires c =
+pub sub-requires : goal.sub-requires
+sub-requires c =
     let a = c.args in
     let e = step_size_2 _ a.r.bytes (sized_as (layout_of a.addresses.now a.section a.image) a.copy.now (meant a.r) (beside a.behind) c.kind_of-k.ensures c.in-Sub.is c.requires.1) in
     omega (arith, e, c.requires.0)
@@ -65,17 +49,33 @@ returns-in-Image c =
     let a = c.args in
     value_as_lem (layout_of a.addresses.now a.section a.image) a.copy.now (meant a.r) (beside a.behind) c.kind_of-k.ensures c.in-Image.is c.store_value-in-Image.ensures refl
 
-pub returns-in-Set : goal.returns-in-Set
-unfolding store_as
-returns-in-Set c =
+pub returns-in-Some : goal.returns-in-Some
+unfolding store_as set_in
+returns-in-Some c =
     let a = c.args in
-    c.set_sum.ensures ∙ stored_as (layout_of a.addresses.now a.section a.image) a.copy.now (meant a.r) (beside a.behind) c.kind_of-k.ensures c.in-Set.is
+    let e = is_sum (symbols_of a.addresses.now) (meant a.r) _ (some_of _ (sym c.in-Some.is ∙ c.address_of.ensures)) in
+    c.set.ensures ∙ ap (set_in c.in-Set.w a.copy.now a.r.place) (sym e) ∙ stored_as (layout_of a.addresses.now a.section a.image) a.copy.now (meant a.r) (beside a.behind) c.kind_of-k.ensures c.in-Set.is
 
-pub returns-in-Sub : goal.returns-in-Sub
-unfolding store_as
-returns-in-Sub c =
+pub returns-in_default : goal.returns-in_default
+unfolding store_as set_in
+returns-in_default c =
     let a = c.args in
-    c.sub_sum.ensures ∙ stored_as (layout_of a.addresses.now a.section a.image) a.copy.now (meant a.r) (beside a.behind) c.kind_of-k.ensures c.in-Sub.is
+    let e = no_sum (symbols_of a.addresses.now) (meant a.r) (none_of _ (sym c.in_default.is ∙ c.address_of.ensures)) in
+    ap (set_in c.in-Set.w a.copy.now a.r.place) (sym e) ∙ stored_as (layout_of a.addresses.now a.section a.image) a.copy.now (meant a.r) (beside a.behind) c.kind_of-k.ensures c.in-Set.is
+
+pub returns-in-Some-address_of : goal.returns-in-Some-address_of
+unfolding store_as sub_in
+returns-in-Some-address_of c =
+    let a = c.args in
+    let e = is_sum (symbols_of a.addresses.now) (meant a.r) _ (some_of _ (sym c.in-Some-address_of.is ∙ c.address_of-in-Sub.ensures)) in
+    c.sub.ensures ∙ ap (sub_in c.in-Sub.w a.copy.now a.r.place) (sym e) ∙ stored_as (layout_of a.addresses.now a.section a.image) a.copy.now (meant a.r) (beside a.behind) c.kind_of-k.ensures c.in-Sub.is
+
+pub returns-in_default-address_of : goal.returns-in_default-address_of
+unfolding store_as sub_in
+returns-in_default-address_of c =
+    let a = c.args in
+    let e = no_sum (symbols_of a.addresses.now) (meant a.r) (none_of _ (sym c.in_default-address_of.is ∙ c.address_of-in-Sub.ensures)) in
+    ap (sub_in c.in-Sub.w a.copy.now a.r.place) (sym e) ∙ stored_as (layout_of a.addresses.now a.section a.image) a.copy.now (meant a.r) (beside a.behind) c.kind_of-k.ensures c.in-Sub.is
 
 pub returns-in-Unknown : goal.returns-in-Unknown
 unfolding store_as

@@ -3,10 +3,11 @@ use Rattle.std.proofs.Common.{ℕ, ◌-◌, ◌*◌, ◌^◌, T, eqb, pos, ◌-�
 use mir.Facts.{eqb_yes}
 use Rattle.format.specs.Prelude.{after}
 use Rattle.apply.specs.declared.Kind.{Kind}
-use Rattle.apply.specs.Kinds.{size_ok, number_of}
+use Rattle.apply.specs.Kinds.{size_ok}
 use Rattle.apply.specs.Fields.{up_to}
 use Rattle.apply.specs.Values.{symbols_of, sum_of, apart, value_as}
 use Rattle.apply.specs.Standing.{meant, beside}
+use Rattle.format.specs.Coded.{option_of}
 use Rattle.apply.proofs.Tests.{base_zero}
 use Rattle.apply.proofs.value.Goals as goal
 
@@ -36,10 +37,10 @@ returns-in-SumPlus c =
     let ss = symbols_of a.addresses.now in
     rw c.in-SumPlus.is
     (c.apart.ensures
-    ∙ ap (λ (m : ℕ). number_of (after (apart ss (meant a.r) (beside a.behind)) (λ z. up_to m z))) c.most-in-SumPlus.ensures)
+    ∙ ap (λ (m : ℕ). option_of (after (apart ss (meant a.r) (beside a.behind)) (λ z. up_to m z))) c.most-in-SumPlus.ensures)
 
 pub returns-in-SumMinus : goal.returns-in-SumMinus
-unfolding value_as number_of
+unfolding value_as
 returns-in-SumMinus c = rw c.in-SumMinus.is
 
 pub returns-in-Image : goal.returns-in-Image
@@ -49,16 +50,16 @@ returns-in-Image c =
     let t : T (eqb a.r.bytes 4) = subst (λ (k : Kind). T (size_ok k a.r.bytes)) c.in-Image.is c.requires in
     rw c.in-Image.is
     (c.less_base-in-Image.ensures
-    ∙ ap (λ (n : ℕ). number_of (after (sum_of (symbols_of a.addresses.now) (meant a.r)) (λ z. up_to (2 ^ (8 * n) - 1) (z -ℤ pos a.image)))) (sym (eqb_yes t)))
+    ∙ ap (λ (n : ℕ). option_of (after (sum_of (symbols_of a.addresses.now) (meant a.r)) (λ z. up_to (2 ^ (8 * n) - 1) (z -ℤ pos a.image)))) (sym (eqb_yes t)))
 
 pub returns-in-Set : goal.returns-in-Set
-unfolding value_as number_of
+unfolding value_as
 returns-in-Set c = rw c.in-Set.is
 
 pub returns-in-Sub : goal.returns-in-Sub
-unfolding value_as number_of
+unfolding value_as
 returns-in-Sub c = rw c.in-Sub.is
 
 pub returns-in-Unknown : goal.returns-in-Unknown
-unfolding value_as number_of
+unfolding value_as
 returns-in-Unknown c = rw c.in-Unknown.is

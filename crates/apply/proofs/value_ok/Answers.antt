@@ -1,7 +1,7 @@
 -- `apply::value_ok` meets its contract.
 use Rattle.std.proofs.Common.{◌≡◌, true, false, sym, ap, ◌∙◌}
-use Rattle.apply.specs.Kinds.{is_number}
 use Rattle.apply.specs.Apply.{measured, value_ok}
+use Rattle.std.specs.Prelude as code
 use Rattle.apply.proofs.Tests.{is_some_lem}
 use Rattle.apply.proofs.value_ok.Goals as goal
 
@@ -17,4 +17,4 @@ unfolding value_ok
 returns c =
     let a = c.args in
     let e : measured a.k ≡ true = sym c.measured.ensures ∙ c.if-not-measured.false in
-    simp e (c.is_number.ensures ∙ ap is_number c.value.ensures ∙ is_some_lem _)
+    simp e (c.is_some.ensures ∙ ap code.is_some c.value.ensures ∙ is_some_lem _)
