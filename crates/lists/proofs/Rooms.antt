@@ -1,5 +1,5 @@
 -- What is answered and what stays, by what a question was answered; and what a yes to 51 to 54 says.
-use mathlib.Core.Path.{◌≡◌, refl, sym}
+use mathlib.Core.Path.{◌≡◌, refl}
 use Prim.Native.Nat.{ℕ, ◌≤◌}
 use native.Mathlib.Omega.{arith}
 use mathlib.Core.Option.{none, some}

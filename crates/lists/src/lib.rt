@@ -1,7 +1,7 @@
 // The machine, functions and codes out of the lists of numbers, and questions 11, 12 and 13. Ported from rucc-asm/src/unwind.rs (Extent, Named, Relaxed) of tamnd/rucc, changed: see NOTICE.
 #![tactic(auto)]
 
-ghost use Rattle.std.specs.Prelude.{◌≡◌, ◌+◌, ◌*◌, ◌≤◌, ◌<◌, length, take, drop, T, leb, eqb};
+ghost use Rattle.std.specs.Prelude.{◌≡◌, ℕ, ◌+◌, ◌*◌, ◌≤◌, ◌<◌, length, take, drop, T, leb, eqb};
 ghost use Rattle.std.specs.Int.{w64};
 ghost use Rattle.std.proofs.Common.{to_z};
 ghost use Rattle.format.specs.Prelude.{all};
@@ -471,22 +471,28 @@ fn prologue_ok(fs: &[u64], codes: &[u64], k: usize) -> bool
 
 // ---- question 13 of the lists
 
+// What `number` says of each of n records, summed, is at most the most of records.
+fn sum_fits<F: Fn(usize) -> u64>(number: F, n: usize) -> bool
+    requires { (k : ℕ) → k < n → F.pre number k }
+    ensures { (of : ℕ → ℕ) → ((k x : ℕ) → k < n → F.post number k x → x ≡ of k) → result ≡ leb (sum_of of 0 n) most_records }
+{
+    let mut sum = 0;
+    for k in 0..n {
+        let x = number(k);
+        if MOST_RECORDS - sum < x {
+            return false;
+        }
+        sum += x;
+    }
+    true
+}
+
 // Number j of n records, summed, is at most the most of records.
 pub fn sum_ok(xs: &[u64], stride: usize, j: usize, n: usize) -> bool
     requires { (j < stride) × (stride * n ≤ length xs.now) }
     ensures { result ≡ leb (sum_of (λ k. field stride xs.now k j) 0 n) most_records }
 {
-    let mut sum = 0;
-    let mut k = 0;
-    while k < n {
-        let x = xs[stride * k + j];
-        if MOST_RECORDS - sum < x {
-            return false;
-        }
-        sum += x;
-        k += 1;
-    }
-    true
+    sum_fits(|k| xs[stride * k + j], n)
 }
 
 // How many pairs function k has.
@@ -505,17 +511,7 @@ fn pairs_sum_ok(fs: &[u64], n: usize) -> bool
     requires { 18 * n ≤ length fs.now }
     ensures { result ≡ leb (sum_of (pairs_in fs.now) 0 n) most_records }
 {
-    let mut sum = 0;
-    let mut k = 0;
-    while k < n {
-        let pairs = pairs_in(fs, k);
-        if MOST_RECORDS - sum < pairs {
-            return false;
-        }
-        sum += pairs;
-        k += 1;
-    }
-    true
+    sum_fits(|k| pairs_in(fs, k), n)
 }
 
 // The first n functions.
