@@ -91,10 +91,7 @@ fn pointer_size(indirect: bool, word: u64, e: u8) -> Option<usize>
     requires { T (is_word_size word) }
     ensures { result ≡ option_of (pointer_size indirect word e) }
 {
-    let n = numbers::pointer_size(indirect, word, leb::wide(e));
-    if n == 0 {
-        return None;
-    }
+    let n = numbers::pointer_size(indirect, word, u64::from(e))?;
     Some(n as usize)
 }
 

@@ -9,28 +9,25 @@ use lib.Dec.{T}
 use lib.ListN.{length, drop, get_elem?}
 use Rattle.format.specs.Prelude.{pick, Read, next, after, Result, good, bad, onward, or_else}
 use Rattle.format.specs.Leb.{read_little}
+use Rattle.format.specs.Coded.{option_of}
+use Rattle.std.specs.Prelude.{Some, None, Ok, Err}
+use Rattle.std.specs.Prelude as code
 use Rattle.format.specs.Machine.{is_word_size}
 use Rattle.format.specs.Lists.{relocations_of}
 use Rattle.format.specs.Rules.{State, answer}
 use Rattle.format.specs.Reader.{Entry, Found, entries, records, distance_back, header_place, header_at, parsed, locate, run_to, read_section, read}
 use Rattle.format.specs.Coded.{Reading}
 use Rattle.operations.specs.declared.fields.Position.{Position}
-use Rattle.operations.specs.declared.fields.Unsigned.{Unsigned}
-use Rattle.operations.specs.declared.fields.Unsigned.TheVariants as unsigned
 use Rattle.format.proofs.Choice.{pick_yes, is_true}
-use Rattle.operations.specs.Positions.{little_at, unsigned_from, from}
-use Rattle.reader.specs.Spans.{part, entry_in, listed, number_of, Stands, Spans}
+use Rattle.operations.specs.Positions.{little_at, read_from, from}
+use Rattle.reader.specs.Spans.{part, entry_in, listed, Stands, Spans}
 use Rattle.reader.specs.Finds.{found, Stated, Locates, in_section, rules_from}
-use Rattle.reader.specs.declared.entries.Number.TheVariants as number
-use Rattle.reader.specs.declared.entries.Span.{Span}
-use Rattle.reader.specs.declared.entries.Span.TheVariants as span
 use Rattle.reader.specs.declared.location.Located.{Located}
-use Rattle.reader.specs.declared.location.Locating.{Locating}
-use Rattle.reader.specs.declared.location.Locating.TheVariants as locating
 use Rattle.reader.proofs.Seeking.{number_is, number_none}
+use Rattle.operations.proofs.PositionLaws.{both_are}
 use Rattle.reader.proofs.Asked.{place_found, place_refused, all_inside}
 use Rattle.section_check.specs.Check.{length_of, answers, read_at, last_answers, passes}
-use Rattle.section_check.specs.Places.{size_of, read_in, answers_in, last_in, passes_in}
+use Rattle.section_check.specs.Places.{read_in, answers_in, last_in, passes_in}
 
 -- ---- the header
 
@@ -38,25 +35,39 @@ module _ (s : List ℕ) (at end : ℕ) where
   abbrev header_of : Option Entry
   header_of = after (distance_back (entry_in s at end)) λ place. header_at false place at (listed (entries s))
 
-  pub no_place : number.Nothing ≡ number_of (distance_back (entry_in s at end)) → header_of ≡ none
+  pub no_place : None ≡ option_of (distance_back (entry_in s at end)) → header_of ≡ none
   unfolding after
   no_place e = rw (number_none (distance_back (entry_in s at end)) (sym e))
 
-  module _ {place : ℕ} (e : number.Is place ≡ number_of (distance_back (entry_in s at end))) where
+  module _ {place : ℕ} (e : Some place ≡ option_of (distance_back (entry_in s at end))) where
     pub place_of : header_of ≡ header_at false place at (listed (entries s))
     unfolding after
     place_of = rw (number_is (distance_back (entry_in s at end)) (sym e))
 
 -- ---- the length
 
-size_read : (p : Position) (b : Bool) (size : ℕ) (x : Read ℕ) → size_of (unsigned_from p b size x) ≡ next x λ n rest. some n
-unfolding size_of unsigned_from next
-size_read p b size none = refl
-size_read p b size (some x) = refl
+-- the first of what was read
+first_none : (p : Position) (b : Bool) (size : ℕ) (x : Read ℕ) → read_from p b size x ≡ None → None ≡ option_of (next x λ n rest. some n)
+unfolding read_from next
+first_none p b size none e = refl
+first_none p b size (some x) e = let z : ◌≡◌ {A = ℕ} 0 1 = cc in absurd (omega arith)
 
-pub size_said : (s : List ℕ) (at end : ℕ) {r : Unsigned} → r ≡ little_at 4 (part s (at + 4) end) (from 8) → size_of r ≡ length_of (entry_in s at end)
-unfolding little_at length_of
-size_said s at end e = rw e (size_read _ true (length (part s (at + 4) end)) (read_little 4 (drop 8 (part s (at + 4) end))))
+first_some : (p : Position) (b : Bool) (size : ℕ) {n : ℕ} {q : Position} (x : Read ℕ) → read_from p b size x ≡ Some (n, q) → Some n ≡ option_of (next x λ n rest. some n)
+unfolding read_from next
+first_some p b size none e = let z : ◌≡◌ {A = ℕ} 0 1 = cc in absurd (omega arith)
+first_some p b size (some x) e = ap Some (sym (both_are e).0)
+
+module _ (s : List ℕ) (at end : ℕ) where
+  abbrev four : code.Option (ℕ × Position)
+  four = little_at 4 (part s (at + 4) end) (from 8)
+
+  pub sizeless : four ≡ None → None ≡ option_of (length_of (entry_in s at end))
+  unfolding little_at length_of
+  sizeless e = first_none _ _ _ (read_little 4 (drop 8 (part s (at + 4) end))) e
+
+  pub sized : {n : ℕ} {q : Position} → four ≡ Some (n, q) → Some n ≡ option_of (length_of (entry_in s at end))
+  unfolding little_at length_of
+  sized e = first_some _ _ _ (read_little 4 (drop 8 (part s (at + 4) end))) e
 
 -- ---- the rules at an offset
 
@@ -72,25 +83,25 @@ module _ (s : List ℕ) (word at end p : ℕ) where
   abbrev entry : Entry
   entry = entry_in s at end
 
-  module _ {r : Span} (m : Spans s r (header_of s at end)) where
-    pub headless : r ≡ span.Nothing → false ≡ answers_in s word entry p
+  module _ {r : code.Option (ℕ × ℕ)} (m : Spans s r (header_of s at end)) where
+    pub headless : r ≡ None → false ≡ answers_in s word entry p
     unfolding answers_in read_in onward or_else answer answers
-    headless e = let n : header_of s at end ≡ none = subst (λ (r : Span). Spans s r (header_of s at end)) e m in rw n
+    headless e = let n : header_of s at end ≡ none = subst (λ (r : code.Option (ℕ × ℕ)). Spans s r (header_of s at end)) e m in rw n
 
-    module _ {c z : ℕ} (e : r ≡ span.At c z) where
+    module _ {c z : ℕ} (e : r ≡ Some (c, z)) where
       pub header_stands : Stands s c z (header_of s at end)
-      header_stands = subst (λ (r : Span). Spans s r (header_of s at end)) e m
+      header_stands = subst (λ (r : code.Option (ℕ × ℕ)). Spans s r (header_of s at end)) e m
 
       behind_header : read_in s word entry p ≡ onward (parsed false word (entry_in s c z) entry) (run_to word p)
       unfolding read_in onward or_else
       behind_header = rw header_stands.found
 
-      module _ {l : Locating} (k : Locates s word l (parsed false word (entry_in s c z) entry)) where
-        pub unparsed : {n : ℕ} → l ≡ locating.No n → false ≡ answers_in s word entry p
+      module _ {l : code.Result Located ℕ} (k : Locates s word l (parsed false word (entry_in s c z) entry)) where
+        pub unparsed : {n : ℕ} → l ≡ Err n → false ≡ answers_in s word entry p
         unfolding answers_in onward answer answers
         unparsed f = rw (behind_header, place_refused s word f k)
 
-        module _ {x : Located} (f : l ≡ locating.Found x) where
+        module _ {x : Located} (f : l ≡ Ok x) where
           rules_in : rules_from s x 0 p ≡ answer 0 (read_in s word entry p)
           unfolding onward
           rules_in =
@@ -108,19 +119,19 @@ unfolding last_in
 last_in_lem s word e zero z = absurd (z refl)
 last_in_lem s word e (suc n) z = let m : suc n - 1 ≡ n = omega arith in rw m
 
-module _ (s : List ℕ) (word at end : ℕ) {r : Unsigned} (m : size_of r ≡ length_of (entry_in s at end)) where
-  pub no_size : r ≡ unsigned.Bad → false ≡ passes_in s word (entry_in s at end)
-  unfolding passes_in last_in size_of
-  no_size e = rw (← m, e)
+module _ (s : List ℕ) (word at end : ℕ) {r : code.Option ℕ} (m : r ≡ option_of (length_of (entry_in s at end))) where
+  pub no_size : r ≡ None → false ≡ passes_in s word (entry_in s at end)
+  unfolding passes_in last_in
+  no_size e = rw (number_none _ (sym m ∙ e))
 
-  module _ {n : ℕ} {q : Position} (e : r ≡ unsigned.Value n q) where
+  module _ {n : ℕ} (e : r ≡ Some n) where
     pub size_zero : n ≡ 0 → true ≡ passes_in s word (entry_in s at end)
-    unfolding passes_in last_in size_of
-    size_zero z = rw (← m, e, z)
+    unfolding passes_in last_in
+    size_zero z = rw (number_is _ (sym m ∙ e), z)
 
     pub size_more : (n ≡ 0 → ⊥) → answers_in s word (entry_in s at end) (n - 1) ≡ passes_in s word (entry_in s at end)
-    unfolding passes_in size_of
-    size_more z = rw (← m, e) (last_in_lem s word (entry_in s at end) n z)
+    unfolding passes_in
+    size_more z = rw (number_is _ (sym m ∙ e)) (last_in_lem s word (entry_in s at end) n z)
 
 -- ---- record k
 

@@ -5,8 +5,6 @@ use Rattle.format.specs.Prelude.{pick, after, Result, onward, or_else}
 use Rattle.format.specs.Questions.{is_some}
 use Rattle.format.specs.Rules.{State, answer}
 use Rattle.format.specs.Reader.{Entry, entries, distance_back, header_at, parsed, run_to}
-use Rattle.operations.specs.declared.fields.Unsigned.{Unsigned}
-use Rattle.operations.specs.declared.fields.Unsigned.TheVariants as unsigned
 use Rattle.reader.specs.Spans.{entries_from, listed}
 use Rattle.section_check.specs.Check.{length_of, answers}
 
@@ -32,11 +30,6 @@ unfoldable pub mark_before : (step place : ℕ) → List ℕ → ℕ
 mark_before step place marks = pick (leb (get_or marks (place / step) 0) place) (get_or marks (place / step) 0) 0
 
 -- ---- a record by its entry
-
--- the length that was read, where one was
-unfoldable pub size_of : Unsigned → Option ℕ
-size_of (unsigned.Value n q) = some n
-size_of unsigned.Bad = none
 
 -- 63 to 69 of the record that is entry e
 unfoldable pub read_in : List ℕ → (word : ℕ) → Entry → (p : ℕ) → Result State

@@ -2,18 +2,16 @@
 #![tactic(auto)]
 
 ghost use Rattle.std.specs.Prelude.{◌≡◌, false, ◌+◌, ◌≤◌, ◌<◌, length, T};
+ghost use Rattle.format.specs.Coded.{option_of};
 ghost use Rattle.format.specs.Prelude.{after};
 ghost use Rattle.format.specs.Machine.{is_word_size};
 ghost use Rattle.format.specs.Questions.{is_some};
 ghost use Rattle.format.specs.Reader.{distance_back, header_at, records, entries};
 ghost use Rattle.reader.specs.Spans.{entry_in, listed, Spans};
 ghost use Rattle.section_check.specs.Check.{length_of, check_from, check_section, Means};
-ghost use Rattle.section_check.specs.Places.{Ahead, Marks, marked, mark_before, size_of, answers_in, passes_in};
+ghost use Rattle.section_check.specs.Places.{Ahead, Marks, marked, mark_before, answers_in, passes_in};
 
-
-use operations::fields::{Position, Unsigned, read_le};
-use reader::entries::{Number, Span};
-use reader::location::Locating;
+use operations::fields::{Position, read_le};
 
 // What is answered: 0, or 11, 61 or 84; with 84 the first record that does not pass, counted from 0.
 #[repr(C)]
@@ -57,7 +55,7 @@ pub fn mark_before(marks: &[usize], step: usize, place: usize) -> usize
 }
 
 // The header that starts at a place earlier than `before`, searched for from an entry in front of it.
-pub fn header_from(s: &[u8], debug: bool, from: usize, place: usize, before: usize) -> Span
+pub fn header_from(s: &[u8], debug: bool, from: usize, place: usize, before: usize) -> Option<(usize, usize)>
     requires { Ahead s.now from × (from ≤ place) }
     ensures { Spans s.now result (header_at debug place before (listed (entries s.now))) }
 {
@@ -66,36 +64,41 @@ pub fn header_from(s: &[u8], debug: bool, from: usize, place: usize, before: usi
         let at = next;
         next = reader::entries::past(s, at);
         if reader::location::starts(s, at, next, debug, place, before) {
-            return Span::At(at, next);
+            return Some((at, next));
         }
     }
-    Span::Nothing
+    None
 }
 
 // The header of the record from `at` to `end`.
-fn header_of(s: &[u8], marks: &[usize], step: usize, at: usize, end: usize) -> Span
+fn header_of(
+    s: &[u8],
+    marks: &[usize],
+    step: usize,
+    at: usize,
+    end: usize,
+) -> Option<(usize, usize)>
     requires { (at + 8 ≤ end) × (end ≤ length s.now) × (0 < step) × Marks s.now marks.now }
     ensures { Spans s.now result (after (distance_back (entry_in s.now at end)) λ place. header_at false place at (listed (entries s.now))) }
 {
-    let Number::Is(place) = reader::location::distance_back(s, at, end) else {
-        return Span::Nothing;
-    };
+    let place = reader::location::distance_back(s, at, end)?;
     header_from(s, false, mark_before(marks, step, place), place, at)
 }
 
 // ---- a record
 
 // The length of the record from `at` to `end`.
-fn size_of(s: &[u8], at: usize, end: usize) -> Unsigned
+fn size_of(s: &[u8], at: usize, end: usize) -> Option<u64>
     requires { (at + 8 ≤ end) × (end ≤ length s.now) }
-    ensures { size_of result ≡ length_of (entry_in s.now at end) }
+    ensures { result ≡ option_of (length_of (entry_in s.now at end)) }
 {
     let body = at + 4;
     let length = Position {
         at: 8,
         shortest: true,
     };
-    read_le(&s[body..end], length, 4)
+    let (n, _) = read_le(&s[body..end], length, 4)?;
+    Some(n)
 }
 
 // Whether the reader answers for register 0 at offset p of the record from `at` to `end`.
@@ -111,10 +114,10 @@ fn answers_at(
     requires { T (is_word_size word) × (at + 8 ≤ end) × (end ≤ length s.now) × (0 < step) × Marks s.now marks.now }
     ensures { result ≡ answers_in s.now word (entry_in s.now at end) p }
 {
-    let Span::At(cie, past) = header_of(s, marks, step, at, end) else {
+    let Some((cie, past)) = header_of(s, marks, step, at, end) else {
         return false;
     };
-    let Locating::Found(l) = reader::location::parse(s, false, word, cie, past, at, end) else {
+    let Ok(l) = reader::location::parse(s, false, word, cie, past, at, end) else {
         return false;
     };
     match reader::rules_at(s, l, 0, p) {
@@ -128,7 +131,7 @@ fn passes(s: &[u8], word: u64, marks: &[usize], step: usize, at: usize, end: usi
     requires { T (is_word_size word) × (at + 8 ≤ end) × (end ≤ length s.now) × (0 < step) × Marks s.now marks.now }
     ensures { result ≡ passes_in s.now word (entry_in s.now at end) }
 {
-    let Unsigned::Value(n, _) = size_of(s, at, end) else {
+    let Some(n) = size_of(s, at, end) else {
         return false;
     };
     if n == 0 {

@@ -9,16 +9,16 @@ returns-in_default c = headless c.args.s.now c.args.word c.args.at c.args.end c.
 
 pub parse-requires : goal.parse-requires
 parse-requires c =
-    let h = header_stands c.args.s.now c.args.word c.args.at c.args.end c.args.p c.header_of.ensures c.in-At.is in
+    let h = header_stands c.args.s.now c.args.word c.args.at c.args.end c.args.p c.header_of.ensures c.in-Some.is in
     (c.requires.0, h.long, h.inside, c.requires.1, c.requires.2)
 
 pub returns-in_default-parse : goal.returns-in_default-parse
-returns-in_default-parse c = unparsed c.args.s.now c.args.word c.args.at c.args.end c.args.p c.header_of.ensures c.in-At.is c.parse.ensures c.in_default-parse.is
+returns-in_default-parse c = unparsed c.args.s.now c.args.word c.args.at c.args.end c.args.p c.header_of.ensures c.in-Some.is c.parse.ensures c.in_default-parse.is
 
 pub returns-in-Ok : goal.returns-in-Ok
 unfolding answers
-returns-in-Ok c = ap answers (sym c.in-Ok.is) ∙ answered_in c.args.s.now c.args.word c.args.at c.args.end c.args.p c.header_of.ensures c.in-At.is c.parse.ensures c.in-Found.is c.rules_at.ensures
+returns-in-Ok c = ap answers (sym c.in-Ok.is) ∙ answered_in c.args.s.now c.args.word c.args.at c.args.end c.args.p c.header_of.ensures c.in-Some.is c.parse.ensures c.in-Ok.is c.rules_at.ensures
 
 pub returns-in-Err : goal.returns-in-Err
 unfolding answers
-returns-in-Err c = ap answers (sym c.in-Err.is) ∙ answered_in c.args.s.now c.args.word c.args.at c.args.end c.args.p c.header_of.ensures c.in-At.is c.parse.ensures c.in-Found.is c.rules_at.ensures
+returns-in-Err c = ap answers (sym c.in-Err.is) ∙ answered_in c.args.s.now c.args.word c.args.at c.args.end c.args.p c.header_of.ensures c.in-Some.is c.parse.ensures c.in-Ok.is c.rules_at.ensures

@@ -7,7 +7,7 @@ pub returns-in_default : goal.returns-in_default
 returns-in_default c = no_size c.args.s.now c.args.word c.args.at c.args.end c.size_of.ensures c.in_default.is
 
 pub returns-then-n-eq0 : goal.returns-then-n-eq0
-returns-then-n-eq0 c = size_zero c.args.s.now c.args.word c.args.at c.args.end c.size_of.ensures c.in-Value.is c.if-n-eq0.true
+returns-then-n-eq0 c = size_zero c.args.s.now c.args.word c.args.at c.args.end c.size_of.ensures c.in-Some.is c.if-n-eq0.true
 
 pub returns : goal.returns
-returns c = c.answers_at.ensures ∙ size_more c.args.s.now c.args.word c.args.at c.args.end c.size_of.ensures c.in-Value.is c.if-n-eq0.false
+returns c = c.answers_at.ensures ∙ size_more c.args.s.now c.args.word c.args.at c.args.end c.size_of.ensures c.in-Some.is c.if-n-eq0.false

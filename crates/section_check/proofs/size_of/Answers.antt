@@ -1,6 +1,10 @@
 -- `section_check::size_of` meets its contract.
-use Rattle.section_check.proofs.Entries.{size_said}
+use mathlib.Core.Path.{sym, ◌∙◌}
+use Rattle.section_check.proofs.Entries.{sizeless, sized}
 use Rattle.section_check.proofs.size_of.Goals as goal
 
+pub returns-in_err-n : goal.returns-in_err-n
+returns-in_err-n c = c.from_residual.ensures ∙ sizeless c.args.s.now c.args.at c.args.end (sym c.read_le.ensures ∙ c.in_err-n.was)
+
 pub returns : goal.returns
-returns c = size_said c.args.s.now c.args.at c.args.end c.read_le.ensures
+returns c = sized c.args.s.now c.args.at c.args.end (sym c.read_le.ensures ∙ c.in_ok-n.was)
