@@ -150,18 +150,18 @@ unfolding header_numbers no_header
 header_numbers_named end (both a) = named_other 0 (λ e. omega arith)
 header_numbers_named end (neither n a b) = ((λ e. omega arith), (λ k. absurd (k refl)))
 
+header_of_named : (section : List ℕ) (debug : Bool) (word : ℕ) (r : Result Entry) → Named (header_of debug word section r).number (header_of debug word section r).«field»
+unfolding header_of no_header
+header_of_named section debug word (bad n) = named_other 61 (λ h. omega arith)
+header_of_named section debug word (good e) =
+    named_pick (λ (r : HeaderRead). r.number) (λ r. r.«field») e.header _ _
+    (header_numbers_named e.next (agree_header debug word (part section (e.place + 4) e.next))) (named_other 63 (λ h. omega arith))
+
 pub header_named : (section : List ℕ) (kind word place : ℕ) → Named (read_header_at section kind word place).number (read_header_at section kind word place).«field»
-unfolding read_header_at header_of no_header
+unfolding read_header_at no_header
 header_named section kind word place =
-    let number : HeaderRead → ℕ = λ r. r.number in
-    let fault : HeaderRead → ℕ = λ r. r.«field» in
-    let debug : Bool = eqb kind 1 in
-    let e : Entry = entry_at debug section place in
-    named_pick number fault (is_word_size word && leb kind 1) _ _
-    (named_pick number fault (eqb e.number 0) _ _
-    (named_pick number fault e.header _ _
-    (header_numbers_named e.next (agree_header debug word (part section (e.place + 4) e.next))) (named_other 63 (λ h. omega arith)))
-    (named_other 61 (λ h. omega arith))) (named_other 11 (λ h. omega arith))
+    named_pick (λ (r : HeaderRead). r.number) (λ r. r.«field») (is_word_size word && leb kind 1) _ _
+    (header_of_named section (eqb kind 1) word (entry_at (eqb kind 1) section place)) (named_other 11 (λ h. omega arith))
 
 record_numbers_named : (debug : Bool) (pointer end : ℕ) {r : Result RecordParts} {o : Option RecordFields} → Agree (λ (x : RecordParts). x.fields) 7 9 r o
     → Named (record_numbers debug pointer end r).number (record_numbers debug pointer end r).«field»
@@ -169,16 +169,17 @@ unfolding record_numbers no_record
 record_numbers_named debug pointer end (both a) = named_other 0 (λ e. omega arith)
 record_numbers_named debug pointer end (neither n a b) = ((λ e. omega arith), (λ k. absurd (k refl)))
 
+record_of_named : (section : List ℕ) (debug : Bool) (word pointer : ℕ) (r : Result Entry)
+    → Named (record_of debug word pointer section r).number (record_of debug word pointer section r).«field»
+unfolding record_of no_record
+record_of_named section debug word pointer (bad n) = named_other 61 (λ h. omega arith)
+record_of_named section debug word pointer (good e) =
+    named_pick (λ (r : RecordRead). r.number) (λ r. r.«field») e.header _ _ (named_other 62 (λ h. omega arith))
+    (record_numbers_named debug pointer e.next (agree_record debug word pointer (part section (e.place + 4) e.next)))
+
 pub record_named : (section : List ℕ) (kind word pointer place : ℕ)
     → Named (read_record_at section kind word pointer place).number (read_record_at section kind word pointer place).«field»
-unfolding read_record_at record_of no_record
+unfolding read_record_at no_record
 record_named section kind word pointer place =
-    let number : RecordRead → ℕ = λ r. r.number in
-    let fault : RecordRead → ℕ = λ r. r.«field» in
-    let debug : Bool = eqb kind 1 in
-    let e : Entry = entry_at debug section place in
-    named_pick number fault (is_word_size word && leb kind 1) _ _
-    (named_pick number fault (eqb e.number 0) _ _
-    (named_pick number fault e.header _ _ (named_other 62 (λ h. omega arith))
-    (record_numbers_named debug pointer e.next (agree_record debug word pointer (part section (e.place + 4) e.next))))
-    (named_other 61 (λ h. omega arith))) (named_other 11 (λ h. omega arith))
+    named_pick (λ (r : RecordRead). r.number) (λ r. r.«field») (is_word_size word && leb kind 1) _ _
+    (record_of_named section (eqb kind 1) word pointer (entry_at (eqb kind 1) section place)) (named_other 11 (λ h. omega arith))

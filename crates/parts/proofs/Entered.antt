@@ -7,21 +7,21 @@ use mathlib.Core.List.{List}
 use lib.Dec.{eqb, leb}
 use lib.ListN.{length, drop, length-drop}
 use lib.Seq.{length-take-le}
-use borrow.Author.Tests.{eq-eqb, ne_eqb, le-leb, lt-leb}
-use Rattle.format.specs.Prelude.{pick}
+use borrow.Author.Tests.{le-leb, lt-leb}
+use Rattle.format.specs.Prelude.{pick, Result, good, bad}
 use Rattle.format.specs.Machine.{is_word_size}
 use Rattle.reader.specs.Spans.{part}
-use Rattle.reader.specs.Listing.{stopped, entry_at}
+use Rattle.reader.specs.Listing.{entry_at}
 use Rattle.reader.specs.declared.cursor.Entry.{Entry}
 use Rattle.reader.proofs.Steps.{Fits, entry_fits}
-use Rattle.parts.specs.Entries.{entry_numbers, next_entry}
+use Rattle.parts.specs.Entries.{stopped, standing, next_entry}
 
 module _ (section : List ℕ) (kind at : ℕ) where
-  pub entry_kind : 1 < kind → next_entry section kind at ≡ entry_numbers (stopped 11 at)
+  pub entry_kind : 1 < kind → next_entry section kind at ≡ stopped 11 at
   unfolding next_entry pick
   entry_kind h = simp (lt-leb kind 1 h)
 
-  pub entry_there : kind ≤ 1 → next_entry section kind at ≡ entry_numbers (entry_at (eqb kind 1) section at)
+  pub entry_there : kind ≤ 1 → next_entry section kind at ≡ standing at (entry_at (eqb kind 1) section at)
   unfolding next_entry pick
   entry_there h = simp (le-leb kind 1 h)
 
@@ -42,9 +42,9 @@ left s base q h = omega (arith, length-drop q s)
 abbrev pub body : List ℕ → Entry → List ℕ
 body section e = part section (e.place + 4) e.next
 
-unfoldable pub by_header : {A : Type 0} → List ℕ → (none : A) → (onHeader onRecord : ℕ → List ℕ → A) → Entry → A
-by_header section none onHeader onRecord e =
-    pick (eqb e.number 0) (pick e.header (onHeader e.next (body section e)) (onRecord e.next (body section e))) none
+unfoldable pub by_header : {A : Type 0} → List ℕ → (none : A) → (onHeader onRecord : ℕ → List ℕ → A) → Result Entry → A
+by_header section none onHeader onRecord (bad n) = none
+by_header section none onHeader onRecord (good e) = pick e.header (onHeader e.next (body section e)) (onRecord e.next (body section e))
 
 -- it answers `no` of a word or a kind, `none` where no entry stands, and else by where the entry ends and by its bytes
 pub record ByEntry {A : Type 0} (section : List ℕ) (kind word place : ℕ) (here no none : A) (onHeader onRecord : ℕ → List ℕ → A) : Type 0 where
@@ -61,16 +61,16 @@ module _ {A : Type 0} {section : List ℕ} {kind word place : ℕ} {here no none
       unfolding pick
       kindless h = c.says ∙ rw (w, lt-leb kind 1 h)
 
-      module _ (k : kind ≤ 1) {e : Entry} (same : e ≡ entry_at (eqb kind 1) section place) where
-        pub entryless : (e.number ≡ 0 → ⊥) → here ≡ none
+      module _ (k : kind ≤ 1) where
+        pub entryless : {n : ℕ} → entry_at (eqb kind 1) section place ≡ bad n → here ≡ none
         unfolding by_header pick
-        entryless n = c.says ∙ rw (w, le-leb kind 1 k, ← same, ne_eqb e.number 0 n)
+        entryless e = c.says ∙ rw (w, le-leb kind 1 k, e)
 
-        module _ (n : e.number ≡ 0) where
+        module _ {e : Entry} (same : entry_at (eqb kind 1) section place ≡ good e) where
           pub at_header : e.header ≡ true → here ≡ onHeader (e.place + 4 + length (body section e)) (body section e)
           unfolding by_header pick
-          at_header h = c.says ∙ rw (w, le-leb kind 1 k, ← same, eq-eqb e.number 0 n, h, body_ends section (entry_fits (eqb kind 1) section place same n))
+          at_header h = c.says ∙ rw (w, le-leb kind 1 k, same, h, body_ends section (entry_fits (eqb kind 1) section place same))
 
           pub at_record : e.header ≡ false → here ≡ onRecord (e.place + 4 + length (body section e)) (body section e)
           unfolding by_header pick
-          at_record h = c.says ∙ rw (w, le-leb kind 1 k, ← same, eq-eqb e.number 0 n, h, body_ends section (entry_fits (eqb kind 1) section place same n))
+          at_record h = c.says ∙ rw (w, le-leb kind 1 k, same, h, body_ends section (entry_fits (eqb kind 1) section place same))

@@ -9,9 +9,9 @@ use Rattle.format.specs.Rows.{unfactor, read_register, in_range, read_factored, 
 use Rattle.format.specs.Headers.{header_id, data_factor}
 use Rattle.format.specs.Answers.{bit}
 use Rattle.format.specs.Reader.{read_entry, value_or0, second, is_header, strip, spelled, spellings, spell_or, read_letters, read_byte, read_many, read_counted, personality_in, lsda_in, letters_in, header_tail, require, record_tail}
-use Rattle.reader.specs.Listing.{stopped, shown, entry_read, entry_from, entry_at}
+use Rattle.reader.specs.Listing.{shown, entry_read, entry_from, entry_at}
 use Rattle.parts.specs.Faults.{reading, testing}
-use Rattle.parts.specs.Entries.{entry_numbers, next_entry}
+use Rattle.parts.specs.Entries.{standing, entry_numbers, next_entry}
 use Rattle.parts.specs.Operations.{operation_numbers, decoded_numbers, operation_from, read_operation_at}
 use Rattle.parts.specs.Headers.{header_rest, header_from, header_parts, no_header, header_numbers, header_of, read_header_at}
 use Rattle.parts.specs.Records.{record_rest, record_parts, call_site_bytes, no_record, record_numbers, record_of, read_record_at}
@@ -28,7 +28,7 @@ table : List ℕ
 table = cie ++ fde
 
 second_entry : next_entry table 0 24 ≡ record { number = 0; header = 0; place = 24; length = 20; next = 48 }
-unfolding table cie fde next_entry entry_numbers entry_at entry_from entry_read shown stopped is_header second value_or0 header_id read_entry read_little next pick bit
+unfolding table cie fde next_entry standing entry_numbers entry_at entry_from entry_read shown is_header second value_or0 header_id read_entry read_little next pick bit
 second_entry = refl
 
 header_read : read_header_at table 0 8 0

@@ -1,4 +1,6 @@
 -- One operation of those from a position to another, by the code's tests.
+use Rattle.std.specs.Prelude.{Some, None}
+use Rattle.std.specs.Prelude as code
 use mathlib.Core.Path.{◌≡◌, refl, ◌∙◌}
 use mathlib.Core.Bool.{Bool, true, false, ◌&&◌}
 use Prim.Native.Nat.{ℕ, ◌+◌, ◌-◌, ◌^◌, ◌≤◌, ◌<◌}
@@ -15,9 +17,7 @@ use Rattle.format.specs.Rows.{read_operation}
 use Rattle.format.specs.declared.Operation.{Operation}
 use Rattle.format.specs.declared.Operation.TheVariants.{Nop, Step, Does}
 use Rattle.operations.specs.declared.fields.Position.{Position}
-use Rattle.operations.specs.declared.Decoded.{Decoded}
-use Rattle.operations.specs.declared.Decoded.TheVariants as decoded
-use Rattle.operations.specs.Positions.{past, decoded_from, operation_at, from}
+use Rattle.operations.specs.Positions.{past, read_from, operation_at, from}
 use Rattle.operations.proofs.OperationLaws.{operation_ahead, operation_rest}
 use Rattle.reader.specs.Spans.{part}
 use Rattle.reader.proofs.Whole.{drop-part}
@@ -26,12 +26,12 @@ use Rattle.parts.specs.declared.operation.OperationRead.{OperationRead}
 
 -- ---- an operation by the code's answer
 
-unfoldable pub answered : (at opcode : ℕ) → Decoded → OperationRead
-answered at opcode (decoded.Operation op past) = operation_numbers op (at + past.at) opcode
-answered at opcode decoded.Bad = no_operation 66 at opcode
+unfoldable pub answered : (at opcode : ℕ) → code.Option (Operation × Position) → OperationRead
+answered at opcode (Some x) = operation_numbers x.0 (at + x.1.at) opcode
+answered at opcode None = no_operation 66 at opcode
 
-by_answer : (p : Position) (b : Bool) (at size opcode : ℕ) (r : Read Operation) → decoded_numbers at size opcode r ≡ answered at opcode (decoded_from p b size r)
-unfolding decoded_numbers answered decoded_from past
+by_answer : (p : Position) (b : Bool) (at size opcode : ℕ) (r : Read Operation) → decoded_numbers at size opcode r ≡ answered at opcode (read_from p b size r)
+unfolding decoded_numbers answered read_from past
 by_answer p b at size opcode none = refl
 by_answer p b at size opcode (some x) = refl
 
@@ -92,10 +92,10 @@ goes_next (Step n) q opcode h k e = (h, k)
 goes_next (Does row) q opcode h k e = (h, k)
 
 module _ (section : List ℕ) (at end word : ℕ) where
-  goes_decoded : (d : Decoded) → operation_at word (part section at end) (from 0) ≡ d → (opcode : ℕ) → Goes at end (answered at opcode d)
+  goes_decoded : (d : code.Option (Operation × Position)) → operation_at word (part section at end) (from 0) ≡ d → (opcode : ℕ) → Goes at end (answered at opcode d)
   unfolding answered
-  goes_decoded decoded.Bad s opcode = goes_not 66 opcode (omega arith)
-  goes_decoded (decoded.Operation op q) s opcode =
+  goes_decoded None s opcode = goes_not 66 opcode (omega arith)
+  goes_decoded (Some (op, q)) s opcode =
       let a = operation_ahead word (part section at end) (from 0) s in
       goes_next op (at + q.at) opcode (omega (arith, a.0)) (omega (arith, a.0, a.1, length-take (end - at) (drop at section)))
 
@@ -108,6 +108,6 @@ module _ (section : List ℕ) (at end word : ℕ) where
       (goes_pick (leb at end && leb end (length section)) _ _ (goes_decoded _ refl _) (goes_not 66 0 (omega arith)))) (goes_not 11 0 (omega arith)))
 
   -- what the reader reads there, and what it leaves
-  pub operation_reads : {op : Operation} {q : Position} → operation_at word (part section at end) (from 0) ≡ decoded.Operation op q
+  pub operation_reads : {op : Operation} {q : Position} → operation_at word (part section at end) (from 0) ≡ Some (op, q)
       → read_operation word (part section at end) ≡ some (op, part section (at + q.at) end)
   operation_reads {q = q} s = operation_rest word (part section at end) (from 0) s ∙ rw (drop-part section at end q.at)

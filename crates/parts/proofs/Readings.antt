@@ -1,5 +1,6 @@
 -- At an entry of a section: a header or a record is answered exactly where the reader takes its fields, with the same values and the same operations.
-use mathlib.Core.Path.{◌≡◌, refl, sym}
+use Rattle.std.specs.Prelude.{Some}
+use mathlib.Core.Path.{◌≡◌, refl}
 use mathlib.Core.Bool.{Bool, true, false}
 use mathlib.Core.Option.{Option, none, some}
 use mathlib.Core.List.{List}
@@ -7,11 +8,11 @@ use Prim.Native.Nat.{ℕ, ◌+◌, ◌≤◌, ◌<◌}
 use native.Mathlib.Omega.{arith}
 use lib.Dec.{eqb}
 use lib.ListN.{length}
+use Rattle.format.specs.Prelude.{good}
 use Rattle.format.specs.Machine.{is_word_size}
 use Rattle.format.specs.Answers.{bit}
 use Rattle.format.specs.Reader.{is_header, HeaderFields, parse_header, RecordFields, parse_record}
 use Rattle.reader.specs.Spans.{part, entry_in, end_at}
-use Rattle.reader.specs.declared.entries.Number.TheVariants.{Is}
 use Rattle.reader.proofs.Tiling.{entered}
 use Rattle.reader.specs.Listing.{entry_at}
 use Rattle.reader.proofs.Steps.{spanned, at_there, entry_fits}
@@ -45,21 +46,21 @@ RecordReading section r none = Faulty r.number r.«field» 7 9
 RecordReading section r (some f) = RecordReads section f r
 
 -- the entry from `place` to q
-module _ (section : List ℕ) (kind word place : ℕ) (w : is_word_size word ≡ true) (k : kind ≤ 1) (h : place < length section) {q : ℕ} (e : end_at section place ≡ Is q) where
+module _ (section : List ℕ) (kind word place : ℕ) (w : is_word_size word ≡ true) (k : kind ≤ 1) (h : place < length section) {q : ℕ} (e : end_at section place ≡ Some q) where
   abbrev debug : Bool
   debug = eqb kind 1
 
   abbrev bytes : List ℕ
   bytes = part section (place + 4) q
 
-  there : spanned debug section place q ≡ entry_at debug section place
-  there = sym (at_there debug section place h e)
+  there : entry_at debug section place ≡ good (spanned debug section place q)
+  there = at_there debug section place h e
 
   before : place + 4 ≤ q
   before = omega (arith, (entered section place e).long)
 
   ends : place + 4 + length bytes ≡ q
-  ends = body_ends section (entry_fits debug section place there refl)
+  ends = body_ends section (entry_fits debug section place there)
 
   header_reads : (r : HeaderRead) (o : Option HeaderFields) → parse_header debug word bytes ≡ o → HeaderAgrees q r o → HeaderReading section r o
   header_reads r none p a = a
@@ -73,7 +74,7 @@ module _ (section : List ℕ) (kind word place : ℕ) (w : is_word_size word ≡
 
   pub header_at : is_header debug (entry_in section place q) ≡ true → HeaderReading section (read_header_at section kind word place) (parse_header debug word bytes)
   header_at t =
-      rw (at_header (header_entry_lem section kind word place) w k there refl t, ends)
+      rw (at_header (header_entry_lem section kind word place) w k there t, ends)
       (header_reads (header_numbers q (header_parts debug word bytes)) (parse_header debug word bytes) refl (header_agrees debug word q bytes))
 
   module _ (pointer : ℕ) where
@@ -89,5 +90,5 @@ module _ (section : List ℕ) (kind word place : ℕ) (w : is_word_size word ≡
     pub record_at : is_header debug (entry_in section place q) ≡ false
         → RecordReading section (read_record_at section kind word pointer place) (parse_record debug word pointer bytes)
     record_at t =
-        rw (at_record (record_entry_lem section kind word pointer place) w k there refl t, ends)
+        rw (at_record (record_entry_lem section kind word pointer place) w k there t, ends)
         (record_reads (record_numbers debug pointer q (record_parts debug word pointer bytes)) (parse_record debug word pointer bytes) refl (record_agrees debug word pointer q bytes))

@@ -3,16 +3,19 @@ use mathlib.Core.Path.{◌≡◌, refl, ◌∙◌}
 use mathlib.Core.Bool.{Bool, true, false}
 use mathlib.Core.Option.{Option, none, some}
 use mathlib.Core.List.{List, [], ◌∷◌, map}
-use Prim.Native.Nat.{ℕ, zero, suc, ◌≤◌}
+use Prim.Native.Nat.{ℕ, zero, suc, ◌≤◌, ◌<◌}
+use native.Mathlib.Omega.{arith}
+use borrow.Author.Tests.{ne_eqb}
 use lib.Dec.{eqb}
 use lib.ListN.{length}
-use Rattle.format.specs.Prelude.{pick, after}
+use Rattle.format.specs.Prelude.{pick, after, Result, good, bad}
 use Rattle.format.specs.Reader.{entries}
 use Rattle.format.specs.Reader as reader
 use Rattle.reader.specs.Listing.{shown, entry_at, joined, listing_f, listing}
 use Rattle.reader.specs.declared.cursor.Entry.{Entry}
+use Rattle.reader.proofs.Steps.{refused_by}
 use Rattle.reader.proofs.Tiles.{listing_lists}
-use Rattle.parts.specs.Entries.{entry_numbers, next_entry}
+use Rattle.parts.specs.Entries.{stopped, entry_numbers, standing, next_entry}
 use Rattle.parts.specs.declared.EntryRead.{EntryRead}
 use Rattle.parts.proofs.Entered.{entry_there}
 
@@ -31,25 +34,30 @@ walk section kind = walk_f (suc (length section)) section kind 0
 numbered : Option (List Entry) → Option (List EntryRead)
 numbered o = after o λ es. some (map entry_numbers es)
 
-picked : (zero? end? : Bool) (e : Entry) (more : Option (List Entry))
-    → pick zero? (after (numbered more) λ rs. some (entry_numbers e ∷ rs)) (pick end? (some []) none) ≡ numbered (pick zero? (after more λ es. some (e ∷ es)) (pick end? (some []) none))
-unfolding numbered pick after
-picked true end? e none = refl
-picked true end? e (some es) = refl
-picked false true e more = refl
-picked false false e more = refl
+behind : (e : Entry) (o : Option (List Entry)) → after (numbered o) (λ rs. some (entry_numbers e ∷ rs)) ≡ numbered (after o λ es. some (e ∷ es))
+unfolding numbered after
+behind e none = refl
+behind e (some es) = refl
 
-on_joined : (e : Entry) (more : Option (List Entry)) → walk_on (entry_numbers e) (numbered more) ≡ numbered (joined e more)
-unfolding walk_on joined entry_numbers
-on_joined e more = picked (eqb e.number 0) (eqb e.number 62) e more
+stops : (end? : Bool) → pick end? (some []) none ≡ numbered (pick end? (some []) none)
+unfolding numbered after pick
+stops true = refl
+stops false = refl
+
+on_joined : (at : ℕ) (x : Result Entry) (more : ℕ → Option (List Entry)) → ((n : ℕ) → x ≡ bad n → 0 < n)
+    → walk_on (standing at x) (numbered (more (standing at x).next)) ≡ numbered (joined x more)
+unfolding walk_on joined standing stopped entry_numbers pick
+on_joined at (good e) more h = behind e (more e.next)
+on_joined at (bad n) more h = rw (ne_eqb n 0 (λ z. omega (arith, h n refl))) (stops (eqb n 62))
 
 module _ (section : List ℕ) (kind : ℕ) (k : kind ≤ 1) where
   walked : (f at : ℕ) → walk_f f section kind at ≡ numbered (listing_f f (eqb kind 1) section at)
-  unfolding walk_f listing_f numbered after entry_numbers
+  unfolding walk_f listing_f numbered after
   walked zero at = refl
   walked (suc f) at =
-      rw (entry_there section kind at k, walked f (entry_at (eqb kind 1) section at).next)
-      (on_joined (entry_at (eqb kind 1) section at) (listing_f f (eqb kind 1) section (entry_at (eqb kind 1) section at).next))
+      let x : Result Entry = entry_at (eqb kind 1) section at in
+      rw (entry_there section kind at k, walked f (standing at x).next)
+      (on_joined at x (listing_f f (eqb kind 1) section) (λ n e. refused_by (eqb kind 1) section at e))
 
   shown_all : (o : Option (List reader.Entry)) → numbered (after o λ es. some (map (shown (eqb kind 1)) es)) ≡ after o λ es. some (map entry_numbers (map (shown (eqb kind 1)) es))
   unfolding numbered after

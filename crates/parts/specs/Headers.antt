@@ -1,5 +1,6 @@
 -- The fields of the header (CIE) at a place (DWARF 5, 6.4.1; LSB, "The Common Information Entry Format"), as numbers.
-use Rattle.std.specs.Prelude.{ℕ, ◌+◌, ◌-◌, Bool, ◌&&◌, List, leb, eqb, length}
+use Rattle.std.specs.Prelude.{ℕ, ◌+◌, ◌-◌, Bool, ◌&&◌, List, leb, eqb, length, Ok, Err}
+use Rattle.std.specs.Prelude as code
 use Rattle.format.specs.Prelude.{pick, Result, good, bad, onward, or_else}
 use Rattle.format.specs.Leb.{read_little, read_uleb, read_sleb}
 use Rattle.format.specs.Machine.{is_word_size}
@@ -68,12 +69,16 @@ header_numbers end (good x) =
       end = end;
     }
 
+-- what was read, or 64 with the field at fault
+abbrev pub header_answer : code.Result HeaderRead ℕ → HeaderRead
+header_answer (Ok r) = r
+header_answer (Err n) = no_header 64 n
+
 -- 61: an entry stands at the place; 63: it is no record
-unfoldable pub header_of : (debug : Bool) → (word : ℕ) → List ℕ → Entry → HeaderRead
-header_of debug word section e =
-    pick (eqb e.number 0)
-    (pick e.header (header_numbers e.next (header_parts debug word (part section (e.place + 4) e.next))) (no_header 63 0))
-    (no_header 61 0)
+unfoldable pub header_of : (debug : Bool) → (word : ℕ) → List ℕ → Result Entry → HeaderRead
+header_of debug word section (bad n) = no_header 61 0
+header_of debug word section (good e) =
+    pick e.header (header_numbers e.next (header_parts debug word (part section (e.place + 4) e.next))) (no_header 63 0)
 
 -- 11: word 2, 4 or 8, and kind 0 (eh) or 1 (debug)
 unfoldable pub read_header_at : (section : List ℕ) (kind word place : ℕ) → HeaderRead

@@ -1,5 +1,6 @@
 -- The fields of the record (FDE) at a place (DWARF 5, 6.4.1; LSB, "The Frame Description Entry Format"), as numbers.
-use Rattle.std.specs.Prelude.{ℕ, ◌+◌, ◌-◌, Bool, ◌&&◌, List, leb, eqb, length}
+use Rattle.std.specs.Prelude.{ℕ, ◌+◌, ◌-◌, Bool, ◌&&◌, List, leb, eqb, length, Ok, Err}
+use Rattle.std.specs.Prelude as code
 use Rattle.std.proofs.Math.Option.{none, some}
 use Rattle.format.specs.Prelude.{pick, Read, Result, good, bad, onward, or_else}
 use Rattle.format.specs.Leb.{read_little, read_uleb}
@@ -59,13 +60,17 @@ record_numbers debug pointer end (good x) =
       end = end;
     }
 
+-- what was read, or 64 with the field at fault
+abbrev pub record_answer : code.Result RecordRead ℕ → RecordRead
+record_answer (Ok r) = r
+record_answer (Err n) = no_record 64 n
+
 -- 61: an entry stands at the place; 62: it is no header
-unfoldable pub record_of : (debug : Bool) → (word pointer : ℕ) → List ℕ → Entry → RecordRead
-record_of debug word pointer section e =
-    pick (eqb e.number 0)
-    (pick e.header (no_record 62 0)
-    (record_numbers debug pointer e.next (record_parts debug word pointer (part section (e.place + 4) e.next))))
-    (no_record 61 0)
+unfoldable pub record_of : (debug : Bool) → (word pointer : ℕ) → List ℕ → Result Entry → RecordRead
+record_of debug word pointer section (bad n) = no_record 61 0
+record_of debug word pointer section (good e) =
+    pick e.header (no_record 62 0)
+    (record_numbers debug pointer e.next (record_parts debug word pointer (part section (e.place + 4) e.next)))
 
 -- 11: word 2, 4 or 8, and kind 0 (eh) or 1 (debug)
 unfoldable pub read_record_at : (section : List ℕ) (kind word pointer place : ℕ) → RecordRead

@@ -2,11 +2,11 @@
 ghost use Rattle.std.specs.Prelude.{◌≡◌, ◌+◌, ◌^◌, ◌≤◌, ◌<◌, T, length, drop};
 ghost use Rattle.format.specs.Machine.{is_word_size};
 ghost use Rattle.reader.specs.Fields.{letters_of};
-ghost use Rattle.parts.specs.Headers.{no_header, header_rest, header_from, header_parts, header_numbers, read_header_at};
+ghost use Rattle.parts.specs.Headers.{no_header, header_rest, header_from, header_parts, header_numbers, header_answer, read_header_at};
 
 use crate::bit;
-use operations::fields::{Position, Signed, Unsigned, read_le, read_sleb, read_uleb};
-use reader::fields::{Augmentation, AugmentationRead, Header};
+use operations::fields::{Position, read_le, read_sleb, read_uleb};
+use reader::fields::{Augmentation, Header};
 
 // What unwind_read_header answers.
 #[repr(C)]
@@ -23,6 +23,7 @@ pub struct HeaderRead {
     pub end: u64,
 }
 
+#[tactic(auto, unfolding(crate::specs::Headers::no_header))]
 fn refused(number: u64, field: u64) -> HeaderRead
     ensures { result ≡ no_header number field }
 {
@@ -39,7 +40,7 @@ fn refused(number: u64, field: u64) -> HeaderRead
     }
 }
 
-// From the augmentation data on. `base` is the section's place of the body.
+// From the augmentation data on, or the field at fault. `base` is the section's place of the body.
 fn rest(
     body: &[u8],
     base: u64,
@@ -48,17 +49,22 @@ fn rest(
     word: u64,
     p: Augmentation,
     reg: u64,
-) -> HeaderRead
+) -> Result<HeaderRead, u64>
     requires { T (is_word_size word) × (at.at ≤ length body.now) × (base + length body.now < 2 ^ 64) }
-    ensures { result ≡ header_numbers (base + length body.now) (header_rest debug (letters_of p) word reg (drop at.at body.now)) }
+    ensures { header_answer result ≡ header_numbers (base + length body.now) (header_rest debug (letters_of p) word reg (drop at.at body.now)) }
 {
-    let Header::Fields(operations, pointer, signal) = reader::fields::header_tail(
-        body, at, debug, word, p,
-    ) else {
-        return refused(64, 6);
+    let Some(
+        Header {
+            operations,
+            pointer,
+            signal,
+        },
+    ) = reader::fields::header_tail(body, at, debug, word, p)
+    else {
+        return Err(6);
     };
     let start = operations.at;
-    HeaderRead {
+    Ok(HeaderRead {
         number: 0,
         field: 0,
         personality: bit(p.personality),
@@ -68,7 +74,7 @@ fn rest(
         pointer,
         operations: base + start as u64,
         end: base + body.len() as u64,
-    }
+    })
 }
 
 // From the code alignment factor on.
@@ -79,52 +85,52 @@ fn factors(
     debug: bool,
     word: u64,
     p: Augmentation,
-) -> HeaderRead
+) -> Result<HeaderRead, u64>
     requires { T (is_word_size word) × (base + length body.now < 2 ^ 64) }
-    ensures { result ≡ header_numbers (base + length body.now) (header_from debug (letters_of p) word (drop at.at body.now)) }
+    ensures { header_answer result ≡ header_numbers (base + length body.now) (header_from debug (letters_of p) word (drop at.at body.now)) }
 {
-    let Unsigned::Value(code, a) = read_uleb(body, at) else {
-        return refused(64, 3);
+    let Some((code, a)) = read_uleb(body, at) else {
+        return Err(3);
     };
     if code != 1 {
-        return refused(64, 3);
+        return Err(3);
     }
-    let Signed::Value(z, b) = read_sleb(body, a) else {
-        return refused(64, 4);
+    let Some((z, b)) = read_sleb(body, a) else {
+        return Err(4);
     };
     if !reader::fields::factor_ok(z, word) {
-        return refused(64, 4);
+        return Err(4);
     }
-    let Unsigned::Value(reg, c) = read_uleb(body, b) else {
-        return refused(64, 5);
+    let Some((reg, c)) = read_uleb(body, b) else {
+        return Err(5);
     };
     if 0xffff < reg {
-        return refused(64, 5);
+        return Err(5);
     }
     rest(body, base, c, debug, word, p, reg)
 }
 
 // The fields in the bytes behind a header's length.
-fn fields(body: &[u8], base: u64, debug: bool, word: u64) -> HeaderRead
+fn fields(body: &[u8], base: u64, debug: bool, word: u64) -> Result<HeaderRead, u64>
     requires { T (is_word_size word) × (base + length body.now < 2 ^ 64) }
-    ensures { result ≡ header_numbers (base + length body.now) (header_parts debug word body.now) }
+    ensures { header_answer result ≡ header_numbers (base + length body.now) (header_parts debug word body.now) }
 {
-    let Unsigned::Value(_, version) = read_le(body, Position::START, 4) else {
-        return refused(64, 1);
+    let Some((_, version)) = read_le(body, Position::START, 4) else {
+        return Err(1);
     };
     let from = version.at;
     if body.len() <= from {
-        return refused(64, 1);
+        return Err(1);
     }
     if body[from] != 1 {
-        return refused(64, 1);
+        return Err(1);
     }
     let string = Position {
         at: from + 1,
         shortest: version.shortest,
     };
-    let AugmentationRead::Known(p, past) = reader::fields::letters(body, string, debug) else {
-        return refused(64, 2);
+    let Some((p, past)) = reader::fields::letters(body, string, debug) else {
+        return Err(2);
     };
     factors(body, base, past, debug, word, p)
 }
@@ -140,14 +146,16 @@ pub extern "C" fn unwind_read_header(section: &[u8], kind: u64, word: u64, place
     if 1 < kind {
         return refused(11, 0);
     }
-    let e = reader::cursor::next_entry(section, kind == 1, place as usize);
-    if e.number != 0 {
+    let Ok(e) = reader::cursor::next_entry(section, kind == 1, place as usize) else {
         return refused(61, 0);
-    }
+    };
     if !e.header {
         return refused(63, 0);
     }
     let from = e.place + 4;
     let to = e.next;
-    fields(&section[from..to], from as u64, kind == 1, word)
+    match fields(&section[from..to], from as u64, kind == 1, word) {
+        Ok(header) => header,
+        Err(field) => refused(64, field),
+    }
 }

@@ -3,7 +3,7 @@
 
 ghost use Rattle.std.specs.Prelude.{◌≡◌};
 ghost use Rattle.format.specs.Answers.{bit};
-ghost use Rattle.parts.specs.Entries.{next_entry};
+ghost use Rattle.parts.specs.Entries.{stopped, next_entry};
 
 pub mod headers;
 pub mod operation;
@@ -22,10 +22,25 @@ pub struct EntryRead {
     pub next: u64,
 }
 
+#[tactic(auto, unfolding(format::specs::Answers::bit))]
 pub fn bit(b: bool) -> u64
     ensures { result ≡ bit b }
 {
-    if b { 1 } else { 0 }
+    u64::from(b)
+}
+
+// No entry; the position stays.
+#[tactic(auto, unfolding(crate::specs::Entries::stopped))]
+fn stopped(number: u64, at: u64) -> EntryRead
+    ensures { result ≡ stopped number at }
+{
+    EntryRead {
+        number,
+        header: 0,
+        place: at,
+        length: 0,
+        next: at,
+    }
 }
 
 // The entry at a position: 0; 11, 61 or 62, and the position stays.
@@ -34,20 +49,16 @@ pub extern "C" fn unwind_next_entry(section: &[u8], kind: u64, at: u64) -> Entry
     ensures { result ≡ next_entry section.now kind at }
 {
     if 1 < kind {
-        return EntryRead {
-            number: 11,
-            header: 0,
-            place: at,
-            length: 0,
-            next: at,
-        };
+        return stopped(11, at);
     }
-    let e = reader::cursor::next_entry(section, kind == 1, at as usize);
-    EntryRead {
-        number: e.number,
-        header: bit(e.header),
-        place: e.place as u64,
-        length: e.length as u64,
-        next: e.next as u64,
+    match reader::cursor::next_entry(section, kind == 1, at as usize) {
+        Ok(e) => EntryRead {
+            number: 0,
+            header: bit(e.header),
+            place: e.place as u64,
+            length: e.length as u64,
+            next: e.next as u64,
+        },
+        Err(number) => stopped(number, at),
     }
 }

@@ -3,7 +3,6 @@ ghost use Rattle.std.specs.Prelude.{◌≡◌, ◌+◌, ◌^◌, ◌<◌, length
 ghost use Rattle.parts.specs.Operations.{no_operation, operation_numbers, operation_from, read_operation_at};
 
 use format::Operation;
-use operations::Decoded;
 use operations::fields::Position;
 
 // What unwind_read_operation answers.
@@ -18,6 +17,7 @@ pub struct OperationRead {
     pub opcode: u64,
 }
 
+#[tactic(auto, unfolding(crate::specs::Operations::no_operation))]
 fn refused(number: u64, at: u64, opcode: u64) -> OperationRead
     ensures { result ≡ no_operation number at opcode }
 {
@@ -66,7 +66,7 @@ fn first(bytes: &[u8], at: u64, word: u64) -> OperationRead
     ensures { result ≡ operation_from word at bytes.now }
 {
     let opcode = leb::wide(bytes[0]);
-    let Decoded::Operation(op, past) = operations::operation(bytes, Position::START, word) else {
+    let Some((op, past)) = operations::operation(bytes, Position::START, word) else {
         return refused(66, at, opcode);
     };
     let size = past.at;

@@ -1,9 +1,9 @@
 // The fields of a record (FDE), by its place.
 ghost use Rattle.std.specs.Prelude.{◌≡◌, ◌+◌, ◌^◌, ◌≤◌, ◌<◌, T, length, drop};
 ghost use Rattle.format.specs.Machine.{is_word_size};
-ghost use Rattle.parts.specs.Records.{call_site_bytes, no_record, record_rest, record_parts, record_numbers, read_record_at};
+ghost use Rattle.parts.specs.Records.{call_site_bytes, no_record, record_rest, record_parts, record_numbers, record_answer, read_record_at};
 
-use operations::fields::{Position, Unsigned, read_le, read_uleb};
+use operations::fields::{Position, read_le, read_uleb};
 use reader::fields::Record;
 
 // What unwind_read_record answers.
@@ -20,6 +20,7 @@ pub struct RecordRead {
     pub end: u64,
 }
 
+#[tactic(auto, unfolding(crate::specs::Records::no_record))]
 fn refused(number: u64, field: u64) -> RecordRead
     ensures { result ≡ no_record number field }
 {
@@ -46,7 +47,7 @@ fn call_sites(body: &[u8], base: u64, at: Position, debug: bool, pointer: u64) -
     if pointer == 0 {
         return 0;
     }
-    let Unsigned::Value(_, past) = read_uleb(body, at) else {
+    let Some((_, past)) = read_uleb(body, at) else {
         return 0;
     };
     let data = past.at;
@@ -61,43 +62,50 @@ struct Front {
     length: u64,
 }
 
-// From the augmentation data on.
-fn rest(body: &[u8], base: u64, at: Position, debug: bool, pointer: u64, f: Front) -> RecordRead
+// From the augmentation data on, or the field at fault.
+fn rest(
+    body: &[u8],
+    base: u64,
+    at: Position,
+    debug: bool,
+    pointer: u64,
+    f: Front,
+) -> Result<RecordRead, u64>
     requires { (at.at ≤ length body.now) × (base + length body.now < 2 ^ 64) }
-    ensures { result ≡ record_numbers debug pointer (base + length body.now) (record_rest debug pointer f.header f.function f.length (drop at.at body.now)) }
+    ensures { record_answer result ≡ record_numbers debug pointer (base + length body.now) (record_rest debug pointer f.header f.function f.length (drop at.at body.now)) }
 {
-    let Record::Fields(operations, length) = reader::fields::record_tail(
+    let Some(Record { operations, size }) = reader::fields::record_tail(
         body, at, debug, pointer, f.length,
     ) else {
-        return refused(64, 9);
+        return Err(9);
     };
     let start = operations.at;
-    RecordRead {
+    Ok(RecordRead {
         number: 0,
         field: 0,
         header: f.header,
         function: f.function,
-        length,
+        length: size,
         call_sites: call_sites(body, base, at, debug, pointer),
         operations: base + start as u64,
         end: base + body.len() as u64,
-    }
+    })
 }
 
 // The fields in the bytes behind a record's length.
-fn fields(body: &[u8], base: u64, debug: bool, word: u64, pointer: u64) -> RecordRead
+fn fields(body: &[u8], base: u64, debug: bool, word: u64, pointer: u64) -> Result<RecordRead, u64>
     requires { T (is_word_size word) × (base + length body.now < 2 ^ 64) }
-    ensures { result ≡ record_numbers debug pointer (base + length body.now) (record_parts debug word pointer body.now) }
+    ensures { record_answer result ≡ record_numbers debug pointer (base + length body.now) (record_parts debug word pointer body.now) }
 {
     let n = reader::fields::field_size(debug, word) as usize;
-    let Unsigned::Value(header, a) = read_le(body, Position::START, 4) else {
-        return refused(64, 7);
+    let Some((header, a)) = read_le(body, Position::START, 4) else {
+        return Err(7);
     };
-    let Unsigned::Value(function, b) = read_le(body, a, n) else {
-        return refused(64, 7);
+    let Some((function, b)) = read_le(body, a, n) else {
+        return Err(7);
     };
-    let Unsigned::Value(length, at) = read_le(body, b, n) else {
-        return refused(64, 8);
+    let Some((length, at)) = read_le(body, b, n) else {
+        return Err(8);
     };
     let f = Front {
         header,
@@ -124,14 +132,16 @@ pub extern "C" fn unwind_read_record(
     if 1 < kind {
         return refused(11, 0);
     }
-    let e = reader::cursor::next_entry(section, kind == 1, place as usize);
-    if e.number != 0 {
+    let Ok(e) = reader::cursor::next_entry(section, kind == 1, place as usize) else {
         return refused(61, 0);
-    }
+    };
     if e.header {
         return refused(62, 0);
     }
     let from = e.place + 4;
     let to = e.next;
-    fields(&section[from..to], from as u64, kind == 1, word, pointer)
+    match fields(&section[from..to], from as u64, kind == 1, word, pointer) {
+        Ok(record) => record,
+        Err(field) => refused(64, field),
+    }
 }

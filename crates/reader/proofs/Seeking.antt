@@ -10,13 +10,13 @@ use native.Mathlib.Numerals.{add-one}
 use borrow.Author.Tests.{eq-eqb, ne_eqb, le-leb, lt-leb}
 use lib.Dec.{T, eqb, ltb}
 use lib.ListN.{length, get_or, get_elem?}
-use Rattle.format.specs.Prelude.{pick, after, first, each}
+use Rattle.format.specs.Prelude.{pick, after, first, each, Result, good, bad}
 use Rattle.format.specs.Questions.{is_some}
 use Rattle.format.specs.Reader.{Entry, second, distance_back, is_header, records, first_addend, header_at, entries}
 use Rattle.format.specs.Lists.{relocation_at, relocations_of}
-use Rattle.format.specs.Coded.{option_of}
+use Rattle.format.specs.Coded.{option_of, result_of}
 use Rattle.reader.specs.Spans.{part, entry_in, entries_from, listed, Ends, Stands}
-use Rattle.std.specs.Prelude.{Some, None}
+use Rattle.std.specs.Prelude.{Some, None, Ok, Err}
 use Rattle.std.specs.Prelude as code
 use Rattle.std.specs.Option.{SomeIff}
 use Rattle.reader.proofs.Tiling.{tiled_end}
@@ -132,15 +132,23 @@ unfolding distance_back pick
 less_by s at end {d} e None h = rw (← e, lt-leb d (at + 4) (omega arith)) refl
 less_by s at end {d} e (Some x) h = rw (← e, le-leb d (at + 4) h.0, h.1) refl
 
--- ---- a number that was found, and a value that was not
+-- ---- a value that was found, and one that was not
 
-pub number_is : (o : Option ℕ) {p : ℕ} → option_of o ≡ Some p → o ≡ some p
+pub number_is : {A : Type 0} (o : Option A) {a : A} → option_of o ≡ Some a → o ≡ some a
 number_is none e = let z : ◌≡◌ {A = ℕ} 0 1 = cc in absurd (omega arith)
 number_is (some n) e = cc
 
-pub number_none : (o : Option ℕ) → option_of o ≡ None → o ≡ none
+pub number_none : {A : Type 0} (o : Option A) → option_of o ≡ None → o ≡ none
 number_none none e = refl
 number_none (some n) e = let z : ◌≡◌ {A = ℕ} 0 1 = cc in absurd (omega arith)
+
+pub answer_is : {A : Type 0} (r : Result A) {a : A} → result_of r ≡ Ok a → r ≡ good a
+answer_is (good a) e = cc
+answer_is (bad n) e = let z : ◌≡◌ {A = ℕ} 0 1 = cc in absurd (omega arith)
+
+pub answer_no : {A : Type 0} (r : Result A) {n : ℕ} → result_of r ≡ Err n → r ≡ bad n
+answer_no (good a) e = let z : ◌≡◌ {A = ℕ} 0 1 = cc in absurd (omega arith)
+answer_no (bad n) e = cc
 
 pub absent : {A : Type 0} (o : Option A) → is_some o ≡ false → o ≡ none
 unfolding is_some

@@ -1,6 +1,7 @@
 -- What stands at a position, by where the entry there ends.
 use mathlib.Core.Path.{◌≡◌, refl, sym, ap, ◌∙◌}
 use mathlib.Core.Bool.{Bool}
+use mathlib.Core.Option.{none, some}
 use mathlib.Core.List.{List, [], ◌∷◌}
 use Prim.Native.Nat.{ℕ, ◌+◌, ◌-◌, ◌≤◌, ◌<◌}
 use native.Mathlib.Omega.{arith}
@@ -12,7 +13,7 @@ use Rattle.reader.specs.Spans.{part, entry_in, end_at}
 use Rattle.std.specs.Prelude.{Some, None}
 use Rattle.std.specs.Prelude as code
 use Rattle.reader.proofs.Tiling.{entered, none_read}
-use Rattle.format.specs.Prelude.{good, bad}
+use Rattle.format.specs.Prelude.{Read, good, bad}
 use Rattle.reader.specs.Listing.{shown, entry_read, entry_from, entry_at}
 use Rattle.reader.specs.declared.cursor.Entry.{Entry}
 
@@ -61,6 +62,21 @@ pub record Fits (s : List ℕ) (p : ℕ) (e : Entry) : Type 0 where
 
 spanned_fits : (debug : Bool) (s : List ℕ) (p q : ℕ) → p + 8 ≤ q → q ≤ length s → Fits s p (spanned debug s p q)
 spanned_fits debug s p q l h = record { here = refl; least = omega arith; past = omega arith; inside = h }
+
+read_number : (debug : Bool) (p : ℕ) (r : Read (List ℕ)) {n : ℕ} → entry_read debug p r ≡ bad n → 0 < n
+unfolding entry_read
+read_number debug p none {n} e = let z : 61 ≡ n = cc in omega arith
+read_number debug p (some x) e = let z : ◌≡◌ {A = ℕ} 0 1 = cc in absurd (omega arith)
+
+from_number : (debug : Bool) (p : ℕ) (bs : List ℕ) {n : ℕ} → entry_from debug p bs ≡ bad n → 0 < n
+unfolding entry_from
+from_number debug p [] {n} e = let z : 62 ≡ n = cc in omega arith
+from_number debug p (b ∷ bs) e = read_number debug p (read_entry (b ∷ bs)) e
+
+-- a refusal has a question's number
+pub refused_by : (debug : Bool) (s : List ℕ) (p : ℕ) {n : ℕ} → entry_at debug s p ≡ bad n → 0 < n
+unfolding entry_at
+refused_by debug s p e = from_number debug p (drop p s) e
 
 module _ (debug : Bool) (s : List ℕ) (p : ℕ) where
   none_here : {n : ℕ} {e : Entry} → entry_at debug s p ≡ bad n → entry_at debug s p ≡ good e → Fits s p e

@@ -6,7 +6,7 @@ use mathlib.Core.List.{List, []}
 use Prim.Native.Nat.{ℕ, zero, suc, ◌+◌, ◌-◌}
 use native.Mathlib.Omega.{arith}
 use lib.Dec.{T}
-use lib.ListN.{length, drop, get_elem?}
+use lib.ListN.{drop, get_elem?}
 use Rattle.format.specs.Prelude.{pick, Read, next, after, Result, good, bad, onward, or_else}
 use Rattle.format.specs.Leb.{read_little}
 use Rattle.format.specs.Coded.{option_of}

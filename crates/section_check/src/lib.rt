@@ -55,7 +55,13 @@ pub fn mark_before(marks: &[usize], step: usize, place: usize) -> usize
 }
 
 // The header that starts at a place earlier than `before`, searched for from an entry in front of it.
-pub fn header_from(s: &[u8], debug: bool, from: usize, place: usize, before: usize) -> Option<(usize, usize)>
+pub fn header_from(
+    s: &[u8],
+    debug: bool,
+    from: usize,
+    place: usize,
+    before: usize,
+) -> Option<(usize, usize)>
     requires { Ahead s.now from × (from ≤ place) }
     ensures { Spans s.now result (header_at debug place before (listed (entries s.now))) }
 {

@@ -1,5 +1,5 @@
 -- `parts::headers::factors` meets its contract.
-use mathlib.Core.Path.{◌≡◌, sym, ◌∙◌}
+use mathlib.Core.Path.{refl, ◌≡◌, sym, ◌∙◌}
 use native.Mathlib.Omega.{arith}
 use Rattle.rows.proofs.Signs.{passed}
 use Rattle.format.specs.Headers.{data_factor}
@@ -12,35 +12,35 @@ use Rattle.parts.proofs.headers.factors.Goals as goal
 use Rattle.parts.proofs.headers.factors.Goals.{After-factor_ok}
 
 -- what the test of the data alignment factor says of the number that was read
-same : (c : After-factor_ok) → c.factor_ok.result ≡ same_offset c.in-Value-read_sleb.z (data_factor c.args.word)
-same c = rw (passed c.in-Value-read_sleb.z (omega (arith, c.in-Value-read_sleb.known_told-in-Value-read_sleb-1-own.given))) at c.factor_ok.ensures
+same : (c : After-factor_ok) → c.factor_ok.result ≡ same_offset c.in-Some-read_sleb.z (data_factor c.args.word)
+same c = rw (passed c.in-Some-read_sleb.z (omega arith)) at c.factor_ok.ensures
 
 pub returns-in_default : goal.returns-in_default
 unfolding header_numbers
-returns-in_default c = rw (codeless c.args.body.now c.args.at c.args.debug (letters_of c.args.p) c.args.word (sym c.read_uleb.ensures ∙ c.in_default.is)) c.refused.ensures
+returns-in_default c = rw (codeless c.args.body.now c.args.at c.args.debug (letters_of c.args.p) c.args.word (sym c.read_uleb.ensures ∙ c.in_default.is)) refl
 
 pub returns-then-code-ne1 : goal.returns-then-code-ne1
 unfolding header_numbers
-returns-then-code-ne1 c = rw (code_other c.args.body.now c.args.at c.args.debug (letters_of c.args.p) c.args.word (sym c.read_uleb.ensures ∙ c.in-Value.is) c.if-code-ne1.true) c.refused-then-code-ne1.ensures
+returns-then-code-ne1 c = rw (code_other c.args.body.now c.args.at c.args.debug (letters_of c.args.p) c.args.word (sym c.read_uleb.ensures ∙ c.in-Some.is) c.if-code-ne1.true) refl
 
 pub returns-in_default-read_sleb : goal.returns-in_default-read_sleb
 unfolding header_numbers
-returns-in_default-read_sleb c = rw (dataless c.args.body.now c.args.at c.args.debug (letters_of c.args.p) c.args.word (sym c.read_uleb.ensures ∙ c.in-Value.is) c.if-code-ne1.false (sym c.read_sleb.ensures ∙ c.in_default-read_sleb.is)) c.refused-in_default-read_sleb.ensures
+returns-in_default-read_sleb c = rw (dataless c.args.body.now c.args.at c.args.debug (letters_of c.args.p) c.args.word (sym c.read_uleb.ensures ∙ c.in-Some.is) c.if-code-ne1.false (sym c.read_sleb.ensures ∙ c.in_default-read_sleb.is)) refl
 
 pub returns-then-not-factor_ok : goal.returns-then-not-factor_ok
 unfolding header_numbers
-returns-then-not-factor_ok c = rw (data_other c.args.body.now c.args.at c.args.debug (letters_of c.args.p) c.args.word (sym c.read_uleb.ensures ∙ c.in-Value.is) c.if-code-ne1.false (sym c.read_sleb.ensures ∙ c.in-Value-read_sleb.is) (sym (same (goal.at.returns-then-not-factor_ok c).After-factor_ok) ∙ c.if-not-factor_ok.true)) c.refused-then-not-factor_ok.ensures
+returns-then-not-factor_ok c = rw (data_other c.args.body.now c.args.at c.args.debug (letters_of c.args.p) c.args.word (sym c.read_uleb.ensures ∙ c.in-Some.is) c.if-code-ne1.false (sym c.read_sleb.ensures ∙ c.in-Some-read_sleb.is) (sym (same (goal.at.returns-then-not-factor_ok c).After-factor_ok) ∙ c.if-not-factor_ok.true)) refl
 
 pub returns-in_default-read_uleb : goal.returns-in_default-read_uleb
 unfolding header_numbers
-returns-in_default-read_uleb c = rw (retless c.args.body.now c.args.at c.args.debug (letters_of c.args.p) c.args.word (sym c.read_uleb.ensures ∙ c.in-Value.is) c.if-code-ne1.false (sym c.read_sleb.ensures ∙ c.in-Value-read_sleb.is) (sym (same (goal.at.returns-in_default-read_uleb c).After-factor_ok) ∙ c.if-not-factor_ok.false) (sym c.read_uleb-2.ensures ∙ c.in_default-read_uleb.is)) c.refused-in_default-read_uleb.ensures
+returns-in_default-read_uleb c = rw (retless c.args.body.now c.args.at c.args.debug (letters_of c.args.p) c.args.word (sym c.read_uleb.ensures ∙ c.in-Some.is) c.if-code-ne1.false (sym c.read_sleb.ensures ∙ c.in-Some-read_sleb.is) (sym (same (goal.at.returns-in_default-read_uleb c).After-factor_ok) ∙ c.if-not-factor_ok.false) (sym c.read_uleb-2.ensures ∙ c.in_default-read_uleb.is)) refl
 
 pub returns-then-reg-gt65535 : goal.returns-then-reg-gt65535
 unfolding header_numbers
-returns-then-reg-gt65535 c = rw (ret_over c.args.body.now c.args.at c.args.debug (letters_of c.args.p) c.args.word (sym c.read_uleb.ensures ∙ c.in-Value.is) c.if-code-ne1.false (sym c.read_sleb.ensures ∙ c.in-Value-read_sleb.is) (sym (same (goal.at.returns-then-reg-gt65535 c).After-factor_ok) ∙ c.if-not-factor_ok.false) (sym c.read_uleb-2.ensures ∙ c.in-Value-read_uleb.is) c.if-reg-gt65535.true) c.refused-then-reg-gt65535.ensures
+returns-then-reg-gt65535 c = rw (ret_over c.args.body.now c.args.at c.args.debug (letters_of c.args.p) c.args.word (sym c.read_uleb.ensures ∙ c.in-Some.is) c.if-code-ne1.false (sym c.read_sleb.ensures ∙ c.in-Some-read_sleb.is) (sym (same (goal.at.returns-then-reg-gt65535 c).After-factor_ok) ∙ c.if-not-factor_ok.false) (sym c.read_uleb-2.ensures ∙ c.in-Some-read_uleb.is) c.if-reg-gt65535.true) refl
 
 pub rest-requires : goal.rest-requires
-rest-requires c = (c.requires.0, (uleb_ahead c.args.body.now c.in-Value-read_sleb.b (sym c.read_uleb-2.ensures ∙ c.in-Value-read_uleb.is)).1, c.requires.1)
+rest-requires c = (c.requires.0, (uleb_ahead c.args.body.now c.in-Some-read_sleb.b (sym c.read_uleb-2.ensures ∙ c.in-Some-read_uleb.is)).1, c.requires.1)
 
 pub returns : goal.returns
-returns c = rw (ret_there c.args.body.now c.args.at c.args.debug (letters_of c.args.p) c.args.word (sym c.read_uleb.ensures ∙ c.in-Value.is) c.if-code-ne1.false (sym c.read_sleb.ensures ∙ c.in-Value-read_sleb.is) (sym (same (goal.at.returns c).After-factor_ok) ∙ c.if-not-factor_ok.false) (sym c.read_uleb-2.ensures ∙ c.in-Value-read_uleb.is) c.if-reg-gt65535.false) c.rest.ensures
+returns c = rw (ret_there c.args.body.now c.args.at c.args.debug (letters_of c.args.p) c.args.word (sym c.read_uleb.ensures ∙ c.in-Some.is) c.if-code-ne1.false (sym c.read_sleb.ensures ∙ c.in-Some-read_sleb.is) (sym (same (goal.at.returns c).After-factor_ok) ∙ c.if-not-factor_ok.false) (sym c.read_uleb-2.ensures ∙ c.in-Some-read_uleb.is) c.if-reg-gt65535.false) c.rest.ensures

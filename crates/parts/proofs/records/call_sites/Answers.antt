@@ -15,7 +15,7 @@ pub returns-in_default : goal.returns-in_default
 returns-in_default c = sym (sites_bad c.args.body.now c.args.base c.args.at c.args.debug c.args.pointer c.if-debug.false c.if-pointer-eq0.false (sym c.read_uleb.ensures ∙ c.in_default.is))
 
 pub overflow_add-result : goal.overflow_add-result
-overflow_add-result c = omega (arith, (uleb_ahead c.args.body.now c.args.at (sym c.read_uleb.ensures ∙ c.in-Value.is)).1)
+overflow_add-result c = omega (arith, (uleb_ahead c.args.body.now c.args.at (sym c.read_uleb.ensures ∙ c.in-Some.is)).1)
 
 pub returns : goal.returns
-returns c = sym (sites_there c.args.body.now c.args.base c.args.at c.args.debug c.args.pointer c.if-debug.false c.if-pointer-eq0.false (sym c.read_uleb.ensures ∙ c.in-Value.is))
+returns c = sym (sites_there c.args.body.now c.args.base c.args.at c.args.debug c.args.pointer c.if-debug.false c.if-pointer-eq0.false (sym c.read_uleb.ensures ∙ c.in-Some.is))
