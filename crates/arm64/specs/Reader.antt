@@ -53,7 +53,7 @@ scoped word codes k (suc n) =
 
 unfoldable pub record_epilogues : Header → List ℕ → Option (List Epilogue)
 record_epilogues h s =
-    pick (eqb h.single 0) (scoped (scope_at h s) (codes_of h s) 0 h.count) (after (run_at (codes_of h s) h.count) (at_end h.length))
+    pick h.single (after (run_at (codes_of h s) h.count) (at_end h.length)) (scoped (scope_at h s) (codes_of h s) 0 h.count)
 
 -- ---- the two forms
 

@@ -17,29 +17,25 @@ version_of w = w / 2 ^ 18 % 4
 unfoldable pub is_long : ℕ → Bool
 is_long w = eqb (w / 2 ^ 22) 0
 
--- length 18 bits, version 2, X 1, E 1, epilogues 5, words 5
-unfoldable pub short_header : (w past : ℕ) → Header
-short_header w past =
+-- the first word in both forms: length 18 bits, version 2, X 1, E 1
+unfoldable pub header_with : (w count words past : ℕ) → Header
+header_with w count words past =
     record {
       length = w % 2 ^ 18;
-      handler = w / 2 ^ 20 % 2;
-      single = w / 2 ^ 21 % 2;
-      count = w / 2 ^ 22 % 32;
-      words = w / 2 ^ 27;
+      handler = eqb (w / 2 ^ 20 % 2) 1;
+      single = eqb (w / 2 ^ 21 % 2) 1;
+      count = count;
+      words = words;
       past = past;
     }
 
+-- behind it epilogues 5 bits, words 5
+unfoldable pub short_header : (w past : ℕ) → Header
+short_header w past = header_with w (w / 2 ^ 22 % 32) (w / 2 ^ 27) past
+
 -- a second word v: epilogues 16 bits, words 8, and 8 that are not looked at
 unfoldable pub long_header : (w v past : ℕ) → Header
-long_header w v past =
-    record {
-      length = w % 2 ^ 18;
-      handler = w / 2 ^ 20 % 2;
-      single = w / 2 ^ 21 % 2;
-      count = v % 2 ^ 16;
-      words = v / 2 ^ 16 % 256;
-      past = past;
-    }
+long_header w v past = header_with w (v % 2 ^ 16) (v / 2 ^ 16 % 256) past
 
 unfoldable pub header_at : List ℕ → ℕ → Header
 header_at s p = pick (is_long (word_at s p)) (long_header (word_at s p) (word_at s (p + 4)) (p + 8)) (short_header (word_at s p) (p + 4))
@@ -48,7 +44,7 @@ header_at s p = pick (is_long (word_at s p)) (long_header (word_at s p) (word_at
 
 -- the epilogues' words: none where E is set
 unfoldable pub scopes_in : Header → ℕ
-scopes_in h = pick (eqb h.single 0) h.count 0
+scopes_in h = pick h.single 0 h.count
 
 -- where the codes start and end; behind them the handler's word, where X is set
 unfoldable pub codes_from : Header → ℕ
@@ -59,7 +55,7 @@ codes_to h = codes_from h + 4 * h.words
 
 -- the parts that the header names lie inside
 unfoldable pub header_fits : Header → (size : ℕ) → Bool
-header_fits h size = leb (codes_to h + 4 * h.handler) size
+header_fits h size = leb (codes_to h + pick h.handler 4 0) size
 
 -- a record at p: version 0, and no part past the end
 unfoldable pub record_ok : List ℕ → ℕ → Bool

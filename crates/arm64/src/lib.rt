@@ -88,11 +88,12 @@ pub struct Form {
 
 // A full record's header: the length in instructions, the handler's mark X, the mark E of one epilogue at the end, the count of epilogues (with E the
 // index of its codes), the words of codes, and the place past the header, where the epilogues' words start.
+// Kept: no invariant on the fields' widths, here and in Packed: the definitions make both of any numbers, and would have to prove it.
 #[derive(Clone, Copy)]
 pub struct Header {
     pub length: u64,
-    pub handler: u64,
-    pub single: u64,
+    pub handler: bool,
+    pub single: bool,
     pub count: u64,
     pub words: u64,
     pub past: u64,

@@ -14,8 +14,6 @@ use Rattle.arm64.specs.Lists.{Epilogue, code_numbers, epilogue_numbers}
 use Rattle.arm64.specs.Records.{word_at, scope_start, scope_index}
 use Rattle.arm64.specs.Reader.{in_front, run_at, epilogue, scoped, epilogue_codes}
 use Rattle.arm64_runs.specs.Runs.{count_of, codes_in}
-use Rattle.arm64_runs.specs.declared.Count.{Count}
-use Rattle.arm64_runs.specs.declared.Count.TheVariants.{Is, Bad}
 use Rattle.arm64_runs.proofs.Stores.{code_numbers-length, code_numbers-append}
 use Rattle.arm64_records.specs.Parts.{words_from, total_of, epilogues_in, Listed, Placed}
 
@@ -28,32 +26,32 @@ scoped_same f g codes k (suc n) h = rw (h k, scoped_same f g codes (suc k) n h)
 
 -- ---- a run that was counted
 
-pub counted_run : (x : Option (List Code)) {m : ℕ} → Is m ≡ count_of x → (x ≡ some (codes_in x)) × (length (codes_in x) ≡ m)
+pub counted_run : (x : Option (List Code)) {m : ℕ} → count_of x ≡ some m → (x ≡ some (codes_in x)) × (length (codes_in x) ≡ m)
 unfolding count_of codes_in
-counted_run none e = let z : ◌≡◌ {A = ℕ} 0 1 = cc in absurd (omega arith)
+counted_run none e = absurd cc
 counted_run (some cs) e = (refl, cc)
 
-pub no_run : (x : Option (List Code)) → Bad ≡ count_of x → x ≡ none
+pub no_run : (x : Option (List Code)) → count_of x ≡ none → x ≡ none
 unfolding count_of
 no_run none e = refl
-no_run (some cs) e = let z : ◌≡◌ {A = ℕ} 0 1 = cc in absurd (omega arith)
+no_run (some cs) e = absurd cc
 
 -- ---- the count
 
 -- the codes of epilogues behind n codes
-more : ℕ → Option (List Epilogue) → Count
-more n none = Bad
-more n (some es) = Is (n + length (epilogue_codes es))
+more : ℕ → Option (List Epilogue) → Option ℕ
+more n none = none
+more n (some es) = some (n + length (epilogue_codes es))
 
 more_first : (x : Option (List Epilogue)) → total_of x ≡ more 0 x
 unfolding total_of more
 more_first none = refl
-more_first (some es) = ap Is (omega arith)
+more_first (some es) = ap some (omega arith)
 
 more_next : (n : ℕ) (e : Epilogue) (x : Option (List Epilogue)) → more n (in_front e x) ≡ more (n + length e.codes) x
 unfolding more in_front epilogue_codes
 more_next n e none = refl
-more_next n e (some es) = ap Is (omega (arith, length-append e.codes (epilogue_codes es)))
+more_next n e (some es) = ap some (omega (arith, length-append e.codes (epilogue_codes es)))
 
 module _ (word : ℕ → ℕ) (codes : List ℕ) where
   -- one epilogue further
@@ -69,63 +67,60 @@ module _ (word : ℕ → ℕ) (codes : List ℕ) where
   front_length : (n : ℕ) (d : Epilogue) {es : List Epilogue} (y : Option (List Epilogue)) → ((us : List Epilogue) → y ≡ some us → length us ≡ n)
       → in_front d y ≡ some es → length es ≡ suc n
   unfolding in_front
-  front_length n d none h e = let z : ◌≡◌ {A = ℕ} 0 1 = cc in absurd (omega arith)
+  front_length n d none h e = absurd cc
   front_length n d {es} (some us) h e = let z : es ≡ d ∷ us = cc in ap length z ∙ ap suc (h us refl)
 
   scoped_length_of : (k n : ℕ) (x : Option (List Code)) {es : List Epilogue} → run_at codes (scope_index (word k)) ≡ x
       → ((us : List Epilogue) → scoped word codes (suc k) n ≡ some us → length us ≡ n) → scoped word codes k (suc n) ≡ some es → length es ≡ suc n
-  scoped_length_of k n none r h e = let z : ◌≡◌ {A = ℕ} 0 1 = cc (scoped_none k n r, e) in absurd (omega arith)
+  scoped_length_of k n none r h e = absurd (cc (scoped_none k n r, e))
   scoped_length_of k n (some cs) r h e = front_length n (epilogue (4 * scope_start (word k)) cs) (scoped word codes (suc k) n) h (sym (scoped_on k n r) ∙ e)
 
   -- as many epilogues as words
   pub scoped-length : (k n : ℕ) (es : List Epilogue) → scoped word codes k n ≡ some es → length es ≡ n
   unfolding scoped
   scoped-length k zero [] e = refl
-  scoped-length k zero (d ∷ es) e = let z : ◌≡◌ {A = ℕ} 0 1 = cc in absurd (omega arith)
+  scoped-length k zero (d ∷ es) e = absurd cc
   scoped-length k (suc n) es e = scoped_length_of k n (run_at codes (scope_index (word k))) refl (scoped-length (suc k) n) e
 
   pub record Totalling (count k n : ℕ) : Type 0 where
-    pub few : k ≤ count
     pub small : n ≤ 1020 * k
     same : total_of (scoped word codes 0 count) ≡ more n (scoped word codes k (count - k))
 
   pub total_start : (count : ℕ) → Totalling count 0 0
   total_start count = let z : count - 0 ≡ count = omega arith in
-      record { few = omega arith; small = omega arith; same = rw z (more_first (scoped word codes 0 count)) }
+      record { small = omega arith; same = rw z (more_first (scoped word codes 0 count)) }
 
   module _ {count k n : ℕ} (i : Totalling count k n) where
-    pub total_turn : {m : ℕ} → k < count → Is m ≡ count_of (run_at codes (scope_index (word k))) → m ≤ 1020 → Totalling count (k + 1) (n + m)
+    pub total_turn : {m : ℕ} → k < count → count_of (run_at codes (scope_index (word k))) ≡ some m → m ≤ 1020 → Totalling count (k + 1) (n + m)
     unfolding epilogue
     total_turn {m} h e l =
         let r = counted_run (run_at codes (scope_index (word k))) e in
         let z : count - k ≡ suc (count - (k + 1)) = omega arith in
         record {
-          few = omega arith;
           small = omega (arith, i.small);
           same =
               i.same
               ∙ rw (z, scoped_on k (count - (k + 1)) r.0, more_next n (epilogue (4 * scope_start (word k)) (codes_in (run_at codes (scope_index (word k))))) (scoped word codes (suc k) (count - (k + 1))), r.1, add-one k) refl;
         }
 
-    pub total_refused : k < count → Bad ≡ count_of (run_at codes (scope_index (word k))) → Bad ≡ total_of (scoped word codes 0 count)
+    pub total_refused : k < count → count_of (run_at codes (scope_index (word k))) ≡ none → total_of (scoped word codes 0 count) ≡ none
     unfolding more
     total_refused h e =
         let z : count - k ≡ suc (count - (k + 1)) = omega arith in
-        sym (i.same ∙ rw (z, scoped_none k (count - (k + 1)) (no_run (run_at codes (scope_index (word k))) e)) refl)
+        i.same ∙ rw (z, scoped_none k (count - (k + 1)) (no_run (run_at codes (scope_index (word k))) e)) refl
 
-    pub total_ended : count ≤ k → Is n ≡ total_of (scoped word codes 0 count)
+    pub total_ended : count ≤ k → total_of (scoped word codes 0 count) ≡ some n
     unfolding more scoped epilogue_codes
     total_ended h =
         let z : count - k ≡ 0 = omega arith in
-        let y : n ≡ n + 0 = omega arith in
-        ap Is y ∙ sym (i.same ∙ rw z refl)
+        let y : n + 0 ≡ n = omega arith in
+        i.same ∙ rw z (ap some y)
 
   -- ---- the epilogues stored
 
   -- es₀ and cs₀ are es and cs by now, epilogue k is next, and its codes go behind `at` codes
   pub record Listing (es₀ es cs₀ cs : List ℕ) (n count k at : ℕ) : Type 0 where
     pub rest : List Epilogue
-    pub few : k ≤ count
     pub left : scoped word codes k (count - k) ≡ some rest
     pub numbers : Storing es₀ es 0 (3 * k) (epilogue_numbers n (epilogues_in (scoped word codes 0 count))) (epilogue_numbers at rest)
     pub runs : Storing cs₀ cs (3 * n) (3 * at) (code_numbers (epilogue_codes (epilogues_in (scoped word codes 0 count)))) (code_numbers (epilogue_codes rest))
@@ -141,7 +136,6 @@ module _ (word : ℕ → ℕ) (codes : List ℕ) where
       let z : count - 0 ≡ count = omega arith in
       record {
         rest = epilogues_in (scoped word codes 0 count);
-        few = omega arith;
         left = rw z e;
         numbers = storing.start (omega (arith, numbers_length n (epilogues_in (scoped word codes 0 count)), scoped-length 0 count (epilogues_in (scoped word codes 0 count)) e));
         runs = storing.start (omega (arith, code_numbers-length (epilogue_codes (epilogues_in (scoped word codes 0 count)))));
@@ -155,13 +149,13 @@ module _ (word : ℕ → ℕ) (codes : List ℕ) where
 
   front_some : {e : Epilogue} {rest : List Epilogue} (y : Option (List Epilogue)) → in_front e y ≡ some rest → (y ≡ some (epilogues_in y)) × (rest ≡ e ∷ epilogues_in y)
   unfolding in_front epilogues_in
-  front_some none e = let z : ◌≡◌ {A = ℕ} 0 1 = cc in absurd (omega arith)
+  front_some none e = absurd cc
   front_some (some us) e = (refl, cc)
 
   run_of : (k m : ℕ) {rest : List Epilogue} (x : Option (List Code)) → run_at codes (scope_index (word k)) ≡ x → scoped word codes k (suc m) ≡ some rest
       → run_at codes (scope_index (word k)) ≡ some (codes_in (run_at codes (scope_index (word k))))
   unfolding codes_in
-  run_of k m none r e = let z : ◌≡◌ {A = ℕ} 0 1 = cc (scoped_none k m r, e) in absurd (omega arith)
+  run_of k m none r e = absurd (cc (scoped_none k m r, e))
   run_of k m (some cs) r e = rw r
 
   pub next_of : (k m : ℕ) {rest : List Epilogue} → scoped word codes k (suc m) ≡ some rest → Next k m rest
@@ -206,7 +200,6 @@ module _ (word : ℕ → ℕ) (codes : List ℕ) where
           → Listing es₀ es' cs₀ cs' n count (k + 1) r
       list_turn p = record {
         rest = epilogues_in (scoped word codes (suc k) (count - (k + 1)));
-        few = omega arith;
         left = ap (λ (j : ℕ). scoped word codes j (count - (k + 1))) (add-one k) ∙ here.behind;
         numbers = rw p.behind (stored_next _ (rw numbers_split at i.numbers) p.numbers);
         runs = stored_next _ (rw codes_split at i.runs) p.codes;

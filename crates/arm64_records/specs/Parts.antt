@@ -1,5 +1,5 @@
 -- A record's header where there is one, and its epilogues counted and stored.
-use Rattle.std.specs.Prelude.{◌≡◌, ℕ, ◌+◌, ◌*◌, ◌≤◌, ◌<◌, List, [], ◌∷◌, length, eqb}
+use Rattle.std.specs.Prelude.{◌≡◌, ℕ, ◌+◌, ◌*◌, ◌≤◌, ◌<◌, List, [], ◌∷◌, length, leb}
 use Rattle.std.proofs.Math.Option.{Option, none, some}
 use Rattle.format.specs.Prelude.{pick}
 use Rattle.arm64.specs.declared.Header.{Header}
@@ -9,24 +9,22 @@ use Rattle.arm64.specs.declared.Code.{Code}
 use Rattle.arm64.specs.Lists.{Epilogue, epilogue_numbers, code_numbers}
 use Rattle.arm64.specs.Records.{word_at, record_ok, header_fits, header_at, codes_to}
 use Rattle.arm64.specs.Reader.{epilogue_codes}
-use Rattle.arm64_runs.specs.declared.Count.{Count}
-use Rattle.arm64_runs.specs.declared.Count.TheVariants as counted
-use Rattle.arm64_records.specs.declared.HeaderRead.{HeaderRead}
-use Rattle.arm64_records.specs.declared.HeaderRead.TheVariants.{Is, Bad}
+
+-- the word at p, where it lies inside
+unfoldable pub word_there : List ℕ → ℕ → Option ℕ
+word_there s p = pick (leb (p + 4) (length s)) (some (word_at s p)) none
 
 -- a header whose parts lie inside `size` bytes
-unfoldable pub fitting : (size : ℕ) → Header → HeaderRead
-fitting size h = pick (header_fits h size) (Is h) Bad
+unfoldable pub fitting : (size : ℕ) → Header → Option Header
+fitting size h = pick (header_fits h size) (some h) none
 
 -- the header of the record at p
-unfoldable pub headed_at : List ℕ → ℕ → HeaderRead
-headed_at s p = pick (record_ok s p) (Is (header_at s p)) Bad
+unfoldable pub headed_at : List ℕ → ℕ → Option Header
+headed_at s p = pick (record_ok s p) (some (header_at s p)) none
 
 -- the numbers of a header are those of its fields
 pub record Narrow (h : Header) : Type 0 where
   pub low_length : h.length < 262144
-  pub low_handler : h.handler < 2
-  pub low_single : h.single < 2
   pub low_count : h.count < 65536
   pub low_words : h.words < 256
 
@@ -35,19 +33,14 @@ pub record Inside (s : List ℕ) (h : Header) : Type 0 where
   pub narrow : Narrow h
   pub ends : codes_to h ≤ length s
 
--- what holds of a header that was read
-abbrev pub Read : List ℕ → HeaderRead → Type 0
-Read s (Is h) = Inside s h
-Read s Bad = Unit {0}
-
 -- the words from `past` on
 unfoldable pub words_from : (past : ℕ) → List ℕ → ℕ → ℕ
 words_from past s k = word_at s (past + 4 * k)
 
 -- how many codes epilogues have in all
-unfoldable pub total_of : Option (List Epilogue) → Count
-total_of none = counted.Bad
-total_of (some es) = counted.Is (length (epilogue_codes es))
+unfoldable pub total_of : Option (List Epilogue) → Option ℕ
+total_of none = none
+total_of (some es) = some (length (epilogue_codes es))
 
 unfoldable pub epilogues_in : Option (List Epilogue) → List Epilogue
 epilogues_in none = []
@@ -55,7 +48,7 @@ epilogues_in (some es) = es
 
 -- how many epilogues a record has
 unfoldable pub how_many : Header → ℕ
-how_many h = pick (eqb h.single 0) h.count 1
+how_many h = pick h.single 1 h.count
 
 -- what a writer of epilogues does: their numbers at the front of one list, and their codes behind n codes of the other
 pub record Listed (es es' cs cs' : List ℕ) (n : ℕ) (all : List Epilogue) : Type 0 where

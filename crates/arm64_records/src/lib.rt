@@ -1,132 +1,118 @@
 // The full record of Windows' unwind data on ARM64: its header in both forms, and its epilogues' codes counted and stored.
 #![tactic(auto)]
 
-ghost use Rattle.std.specs.Prelude.{◌≡◌, [], ◌∷◌, ◌+◌, ◌*◌, ◌≤◌, ◌<◌, length};
+ghost use Rattle.std.specs.Prelude.{◌≡◌, [], ◌∷◌, ◌+◌, ◌*◌, ◌≤◌, ◌<◌, length, Some, IfSome};
 ghost use Rattle.std.proofs.Math.Option.{some};
+ghost use Rattle.format.specs.Coded.{option_of};
 ghost use Rattle.format.specs.Put.{put};
 ghost use Rattle.format.proofs.Wrote.{Wrote};
 ghost use Rattle.arm64.specs.Lists.{code_numbers, epilogue_numbers};
-ghost use Rattle.arm64.specs.Records.{word_at, short_header, long_header, scope_at, scopes_in, codes_from, codes_to, codes_of};
+ghost use Rattle.arm64.specs.Records.{word_at, header_with, scope_at, scopes_in, codes_from, codes_to, codes_of};
 ghost use Rattle.arm64.specs.Reader.{run_at, scoped, at_end, record_epilogues, epilogue_codes};
-ghost use Rattle.arm64_runs.specs.Runs.{Within, codes_in};
-ghost use Rattle.arm64_records.specs.Parts.{fitting, headed_at, Narrow, Inside, Read, words_from, total_of, epilogues_in, how_many, Listed, Placed};
-ghost use Rattle.arm64_runs.specs.declared.Count.TheVariants as counted;
+ghost use Rattle.arm64_runs.specs.Runs.{codes_in};
+ghost use Rattle.arm64_records.specs.Parts.{word_there, fitting, headed_at, Narrow, Inside, words_from, total_of, epilogues_in, how_many, Listed, Placed};
 
 use arm64::{Header, fields, header_bits};
-use arm64_runs::Count;
 
 // ---- the header
 
-// A header whose parts lie inside.
-#[derive(Clone, Copy)]
-pub enum HeaderRead {
-    Is(Header),
-    Bad,
-}
-
 // The word at a place, the lowest byte first.
+#[tactic(auto, unfolding(arm64::specs::Records::word_at))]
 pub fn word_at(s: &[u8], at: usize) -> u64
     requires { at + 4 ≤ length s.now }
     ensures { (result ≡ word_at s.now at) × (result < 4294967296) }
 {
-    leb::wide(s[at])
-        + 256 * leb::wide(s[at + 1])
-        + 65536 * leb::wide(s[at + 2])
-        + 16777216 * leb::wide(s[at + 3])
+    u64::from(u32::from_le_bytes([s[at], s[at + 1], s[at + 2], s[at + 3]]))
 }
 
-fn short_header(w: u64, past: u64) -> Header
-    requires { w < 4294967296 }
-    ensures { (result ≡ short_header w past) × Narrow result }
+// The word at a place, where it lies inside.
+#[tactic(auto, unfolding(crate::specs::Parts::word_there, format::specs::Prelude::pick))]
+fn word_there(s: &[u8], at: u64) -> Option<u64>
+    ensures { (result ≡ option_of (word_there s.now at)) × IfSome result (λ w. (w < 4294967296) × (at + 4 ≤ length s.now)) }
 {
-    Header {
-        length: w % header_bits::VERSION,
-        handler: w / header_bits::HANDLER % 2,
-        single: w / header_bits::SINGLE % 2,
-        count: w / header_bits::COUNT % 32,
-        words: w / header_bits::WORDS,
-        past,
+    let n = s.len() as u64;
+    if n < 4 || n - 4 < at {
+        return None;
     }
+    Some(word_at(s, at as usize))
 }
 
-fn long_header(w: u64, v: u64, past: u64) -> Header
-    ensures { (result ≡ long_header w v past) × Narrow result }
+// A header by its first word, and what its form says of the epilogues and the words of codes.
+#[tactic(auto, unfolding(arm64::specs::Records::header_with))]
+fn header_with(w: u64, count: u64, words: u64, past: u64) -> Header
+    ensures { result ≡ header_with w count words past }
 {
     Header {
         length: w % header_bits::VERSION,
-        handler: w / header_bits::HANDLER % 2,
-        single: w / header_bits::SINGLE % 2,
-        count: v % header_bits::LONG_WORDS,
-        words: v / header_bits::LONG_WORDS % 256,
+        handler: w / header_bits::HANDLER % 2 == 1,
+        single: w / header_bits::SINGLE % 2 == 1,
+        count,
+        words,
         past,
     }
 }
 
 // How many words of epilogues stand behind the header: none where E is set.
+#[tactic(auto, unfolding(arm64::specs::Records::scopes_in, format::specs::Prelude::pick))]
 fn scopes_in(h: Header) -> u64
     ensures { result ≡ scopes_in h }
 {
-    if h.single == 0 {
-        return h.count;
-    }
-    0
+    if h.single { 0 } else { h.count }
 }
 
 // Whether the parts that a header names lie inside.
-fn fit(s: &[u8], h: Header) -> HeaderRead
+#[tactic(auto, unfolding(crate::specs::Parts::fitting, arm64::specs::Records::header_fits, arm64::specs::Records::codes_to, arm64::specs::Records::codes_from, arm64::specs::Records::scopes_in, format::specs::Prelude::pick))]
+fn fit(s: &[u8], h: Header) -> Option<Header>
     requires { Narrow h × (h.past ≤ length s.now) }
-    ensures { (result ≡ fitting (length s.now) h) × Read s.now result }
+    ensures { (result ≡ option_of (fitting (length s.now) h)) × IfSome result (Inside s.now) }
 {
-    let left = s.len() as u64 - h.past;
-    if left < 4 * scopes_in(h) + 4 * h.words + 4 * h.handler {
-        return HeaderRead::Bad;
-    }
-    HeaderRead::Is(h)
+    let parts = 4 * scopes_in(h) + 4 * h.words + 4 * u64::from(h.handler);
+    (parts <= s.len() as u64 - h.past).then_some(h)
 }
 
 // The header of the record at a place: version 0, and no part past the end.
-pub fn header(s: &[u8], at: u64) -> HeaderRead
-    ensures { (result ≡ headed_at s.now at) × Read s.now result }
+#[tactic(auto, unfolding(crate::specs::Parts::headed_at, crate::specs::Parts::word_there, crate::specs::Parts::fitting, arm64::specs::Records::record_ok, arm64::specs::Records::version_of, arm64::specs::Records::header_at, arm64::specs::Records::is_long, arm64::specs::Records::short_header, arm64::specs::Records::long_header, arm64::specs::Records::header_with, arm64::specs::Records::header_fits, arm64::specs::Records::codes_to, arm64::specs::Records::codes_from, format::specs::Prelude::pick))]
+pub fn header(s: &[u8], at: u64) -> Option<Header>
+    ensures { (result ≡ option_of (headed_at s.now at)) × IfSome result (Inside s.now) }
 {
-    let n = s.len() as u64;
-    if n < 4 {
-        return HeaderRead::Bad;
-    }
-    if n - 4 < at {
-        return HeaderRead::Bad;
-    }
-    let w = word_at(s, at as usize);
+    let w = word_there(s, at)?;
     if w / header_bits::VERSION % 4 != 0 {
-        return HeaderRead::Bad;
+        return None;
     }
     if w / header_bits::COUNT != 0 {
-        return fit(s, short_header(w, at + 4));
+        let h = header_with(
+            w,
+            w / header_bits::COUNT % 32,
+            w / header_bits::WORDS,
+            at + 4,
+        );
+        return fit(s, h);
     }
-    if n - at < 8 {
-        return HeaderRead::Bad;
-    }
-    let v = word_at(s, at as usize + 4);
-    fit(s, long_header(w, v, at + 8))
+    let v = word_there(s, at + 4)?;
+    fit(
+        s,
+        header_with(
+            w,
+            v % header_bits::LONG_WORDS,
+            v / header_bits::LONG_WORDS % 256,
+            at + 8,
+        ),
+    )
 }
 
 // ---- the epilogues
 
 // How many codes `count` epilogues have, for each of which a word stands, from `past` on.
-fn count_scoped(s: &[u8], past: usize, count: usize, codes: &[u8]) -> Count
+fn count_scoped(s: &[u8], past: usize, count: usize, codes: &[u8]) -> Option<usize>
     requires { (count < 65536) × (past + 4 * count ≤ length s.now) × (length codes.now ≤ 1020) }
-    ensures { (result ≡ total_of (scoped (words_from past s.now) codes.now 0 count)) × Within 66846720 result }
+    ensures { (result ≡ option_of (total_of (scoped (words_from past s.now) codes.now 0 count))) × IfSome result (λ m. m ≤ 66846720) }
 {
-    let mut k: usize = 0;
-    let mut n: usize = 0;
-    while k < count {
+    let mut n = 0;
+    for k in 0..count {
         let w = word_at(s, past + 4 * k);
-        let Count::Is(m) = arm64_runs::count_run(codes, (w / header_bits::INDEX) as usize) else {
-            return Count::Bad;
-        };
-        n += m;
-        k += 1;
+        n += arm64_runs::count_run(codes, (w / header_bits::INDEX) as usize)?;
     }
-    Count::Is(n)
+    Some(n)
 }
 
 // An epilogue in place k: its start, where its codes stand and how many there are, and the codes. This gives the place past them.
@@ -144,12 +130,10 @@ pub fn put_one(
 {
     let past = arm64_runs::put_run(cs, fields::CODE_STRIDE * at, codes, index)
         / fields::CODE_STRIDE;
-    let _past = arm64_runs::put_three(
+    arm64_runs::put_three(
         es,
         fields::EPILOGUE_STRIDE * k,
-        start,
-        at as u64,
-        (past - at) as u64,
+        [start, at as u64, (past - at) as u64],
     );
     past
 }
@@ -163,13 +147,12 @@ fn put_scoped(
     past: usize,
     count: usize,
     codes: &[u8],
-) -> usize
+)
     requires { (count < 65536) × (past + 4 * count ≤ length s.now) × (scoped (words_from past s.now) codes.now 0 count ≡ some (epilogues_in (scoped (words_from past s.now) codes.now 0 count))) × (3 * count ≤ length es.old) × (3 * (n + length (epilogue_codes (epilogues_in (scoped (words_from past s.now) codes.now 0 count)))) ≤ length cs.old) }
     ensures { Listed es.old es.new cs.old cs.new n (epilogues_in (scoped (words_from past s.now) codes.now 0 count)) }
 {
-    let mut k: usize = 0;
     let mut at = n;
-    while k < count {
+    for k in 0..count {
         let w = word_at(s, past + 4 * k);
         at = put_one(
             es,
@@ -180,36 +163,27 @@ fn put_scoped(
             4 * (w % header_bits::RESERVED),
             (w / header_bits::INDEX) as usize,
         );
-        k += 1;
     }
-    at
 }
 
 // How many codes a record's epilogues have.
-pub fn count_epilogues(s: &[u8], h: Header, codes: &[u8]) -> Count
+pub fn count_epilogues(s: &[u8], h: Header, codes: &[u8]) -> Option<usize>
     requires { Inside s.now h × (codes.now ≡ codes_of h s.now) }
-    ensures { (result ≡ total_of (record_epilogues h s.now)) × Within 66846720 result }
+    ensures { (result ≡ option_of (total_of (record_epilogues h s.now))) × IfSome result (λ m. m ≤ 66846720) }
 {
-    if h.single == 0 {
-        return count_scoped(s, h.past as usize, h.count as usize, codes);
+    if h.single {
+        let m = arm64_runs::count_run(codes, h.count as usize)?;
+        return ((m as u64) < h.length).then_some(m);
     }
-    let Count::Is(m) = arm64_runs::count_run(codes, h.count as usize) else {
-        return Count::Bad;
-    };
-    if (m as u64) < h.length {
-        return Count::Is(m);
-    }
-    Count::Bad
+    count_scoped(s, h.past as usize, h.count as usize, codes)
 }
 
 // How many epilogues a record has: one where E is set.
+#[tactic(auto, unfolding(crate::specs::Parts::how_many, format::specs::Prelude::pick))]
 pub fn epilogues_in(h: Header) -> u64
     ensures { result ≡ how_many h }
 {
-    if h.single == 0 {
-        return h.count;
-    }
-    1
+    if h.single { 1 } else { h.count }
 }
 
 // A record's epilogues, behind n codes of the prologue; their codes are m.
@@ -221,20 +195,14 @@ pub fn put_epilogues(
     s: &[u8],
     h: Header,
     codes: &[u8],
-) -> usize
-    requires { Inside s.now h × (codes.now ≡ codes_of h s.now) × (counted.Is m ≡ total_of (record_epilogues h s.now)) × (3 * how_many h ≤ length es.old) × (3 * (n + m) ≤ length cs.old) }
+)
+    requires { Inside s.now h × (codes.now ≡ codes_of h s.now) × (total_of (record_epilogues h s.now) ≡ some m) × (3 * how_many h ≤ length es.old) × (3 * (n + m) ≤ length cs.old) }
     ensures { Listed es.old es.new cs.old cs.new n (epilogues_in (record_epilogues h s.now)) }
 {
-    if h.single == 0 {
-        return put_scoped(es, cs, n, s, h.past as usize, h.count as usize, codes);
+    if h.single {
+        let start = 4 * (h.length - 1 - m as u64);
+        put_one(es, 0, cs, n, codes, start, h.count as usize);
+    } else {
+        put_scoped(es, cs, n, s, h.past as usize, h.count as usize, codes);
     }
-    put_one(
-        es,
-        0,
-        cs,
-        n,
-        codes,
-        4 * (h.length - 1 - m as u64),
-        h.count as usize,
-    )
 }

@@ -9,4 +9,4 @@ use Rattle.arm64_runs.proofs.Stores.{code_numbers-length}
 use Rattle.arm64_records.proofs.put_one.Goals as goal
 
 pub returns : goal.returns
-returns c = let l = code_numbers-length (codes_in (run_at c.args.codes.now c.args.index)) in let m : c.put_run-past.result / 3 - c.args.at ≡ length (codes_in (run_at c.args.codes.now c.args.index)) = omega (arith, c.put_run-past.ensures.past) in record { behind = omega (arith, c.put_run-past.ensures.past); numbers = record { past = omega arith; stored = rw m at c.put_three-past.ensures.stored }; codes = record { past = omega (arith, c.put_run-past.ensures.past); stored = c.put_run-past.ensures.stored } }
+returns c = let l = code_numbers-length (codes_in (run_at c.args.codes.now c.args.index)) in let m : c.put_run-past.result / 3 - c.args.at ≡ length (codes_in (run_at c.args.codes.now c.args.index)) = omega (arith, c.put_run-past.ensures.past) in record { behind = omega (arith, c.put_run-past.ensures.past); numbers = record { past = omega arith; stored = rw m at c.put_three.ensures.stored }; codes = record { past = omega (arith, c.put_run-past.ensures.past); stored = c.put_run-past.ensures.stored } }

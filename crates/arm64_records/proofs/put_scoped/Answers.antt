@@ -13,11 +13,5 @@ put_one-at-requires c = rw (index_is c.args.past c.loop-k.k c.args.s.now c.word_
 pub loop-k-preserved : goal.loop-k-preserved
 loop-k-preserved c = list_turn (words_from c.args.past c.args.s.now) c.args.codes.now c.loop-k.invariant c.loop-k-test.true (rw ((index_is c.args.past c.loop-k.k c.args.s.now c.word_at-w.ensures.0), (start_is c.args.past c.loop-k.k c.args.s.now c.word_at-w.ensures.0)) at c.put_one-at.ensures)
 
-pub shape_of-es : goal.shape_of-es
-shape_of-es c = c.loop-k.invariant.numbers.kept
-
-pub shape_of-cs : goal.shape_of-cs
-shape_of-cs c = c.loop-k.invariant.runs.kept
-
 pub returns : goal.returns
 returns c = list_ended (words_from c.args.past c.args.s.now) c.args.codes.now c.loop-k.invariant (omega arith)
