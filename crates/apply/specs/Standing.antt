@@ -6,9 +6,15 @@ use Rattle.format.specs.Prelude.{pick}
 use Rattle.format.specs.Lists.{Relocation, relocation_stride, relocation_at, count}
 use Rattle.apply.specs.declared.Reloc.{Reloc}
 use Rattle.apply.specs.declared.Sum.{Sum}
+use Rattle.apply.specs.declared.Placement.{Placement}
+use Rattle.apply.specs.Values.{Layout, layout_of}
 
 abbrev pub meant : Reloc → Relocation
 meant r = record { place = r.place; symbol = r.symbol; kind = r.kind; bytes = r.bytes; addend = r.addend }
+
+-- the layout that the code passes on
+abbrev pub placed : Placement → Layout
+placed l = layout_of l.addresses.now l.section l.image
 
 unfoldable pub beside : code.Option Reloc → Option Relocation
 beside (Some r) = some (meant r)

@@ -12,9 +12,9 @@ ghost use Rattle.format.specs.Lists.{relocation_stride, relocation_at, relocatio
 ghost use Rattle.apply.specs.Kinds.{kind_of, bits_of, bytes_of, size_ok};
 ghost use Rattle.format.specs.Coded.{option_of};
 ghost use Rattle.apply.specs.Fields.{up_to, signed32, number_at, in_field, set_in, sub_in, whole_in};
-ghost use Rattle.apply.specs.Values.{symbols_of, layout_of, address_of, sum_of, apart, value_as, store_of};
+ghost use Rattle.apply.specs.Values.{symbols_of, address_of, sum_of, apart, value_as, store_of};
 ghost use Rattle.apply.specs.Apply.{partners, paired, measured, value_ok, near_as, sound, near, everywhere, stores, apply, Applies};
-ghost use Rattle.apply.specs.Standing.{meant, beside, before_at, behind_at, total_of, FieldSize};
+ghost use Rattle.apply.specs.Standing.{meant, placed, beside, before_at, behind_at, total_of, FieldSize};
 
 // The width of a field that Set and Sub patch, in bits.
 #[derive(Clone, Copy)]
@@ -200,6 +200,14 @@ fn paired(k: Kind, before: Option<Reloc>, r: Reloc, behind: Option<Reloc>) -> bo
 
 // ---- values: symbol plus addend less a base, without a width
 
+// Where everything ended up: two numbers for each symbol, it and its address; the section's first byte; the image.
+#[derive(Clone, Copy)]
+pub struct Placement<'a> {
+    pub addresses: &'a [u64],
+    pub section: u64,
+    pub image: u64,
+}
+
 // The address of a symbol: the first one listed.
 fn address_of(addresses: &[u64], symbol: u64) -> Option<u64>
     ensures { result ≡ option_of (address_of (symbols_of addresses.now) symbol) }
@@ -321,23 +329,16 @@ fn apart(addresses: &[u64], r: Reloc, behind: Option<Reloc>, most: u64) -> Optio
 }
 
 // The value as it stands in its field, where it fits.
-fn value(
-    k: Kind,
-    addresses: &[u64],
-    section: u64,
-    image: u64,
-    r: Reloc,
-    behind: Option<Reloc>,
-) -> Option<u64>
+fn value(k: Kind, l: Placement, r: Reloc, behind: Option<Reloc>) -> Option<u64>
     requires { T (size_ok k r.bytes) }
-    ensures { result ≡ option_of (value_as k (layout_of addresses.now section image) (meant r) (beside behind)) }
+    ensures { result ≡ option_of (value_as k (placed l.entry) (meant r) (beside behind)) }
 {
     match k {
-        Kind::Data => data_value(addresses, r, section),
-        Kind::Address => less_base(addresses, r, 0, most(r.bytes)),
-        Kind::SumPlus => apart(addresses, r, behind, most(r.bytes)),
+        Kind::Data => data_value(l.addresses, r, l.section),
+        Kind::Address => less_base(l.addresses, r, 0, most(r.bytes)),
+        Kind::SumPlus => apart(l.addresses, r, behind, most(r.bytes)),
         Kind::SumMinus => None,
-        Kind::Image => less_base(addresses, r, image, 4294967295),
+        Kind::Image => less_base(l.addresses, r, l.image, 4294967295),
         Kind::Set(_) => None,
         Kind::Sub(_) => None,
         Kind::Unknown => None,
@@ -362,21 +363,14 @@ fn measured(k: Kind) -> bool
     }
 }
 
-fn value_ok(
-    k: Kind,
-    addresses: &[u64],
-    section: u64,
-    image: u64,
-    r: Reloc,
-    behind: Option<Reloc>,
-) -> bool
+fn value_ok(k: Kind, l: Placement, r: Reloc, behind: Option<Reloc>) -> bool
     requires { T (size_ok k r.bytes) }
-    ensures { result ≡ value_ok k (layout_of addresses.now section image) (meant r) (beside behind) }
+    ensures { result ≡ value_ok k (placed l.entry) (meant r) (beside behind) }
 {
     if !measured(k) {
         return true;
     }
-    value(k, addresses, section, image, r, behind).is_some()
+    value(k, l, r, behind).is_some()
 }
 
 fn known(addresses: &[u64], symbol: u64) -> bool
@@ -397,16 +391,8 @@ fn inside(place: u64, bytes: u64, size: usize) -> bool
 }
 
 // Question 79 of one relocation.
-fn sound(
-    addresses: &[u64],
-    section: u64,
-    image: u64,
-    size: usize,
-    before: Option<Reloc>,
-    r: Reloc,
-    behind: Option<Reloc>,
-) -> bool
-    ensures { result ≡ sound (layout_of addresses.now section image) size (beside before) (meant r) (beside behind) }
+fn sound(l: Placement, size: usize, before: Option<Reloc>, r: Reloc, behind: Option<Reloc>) -> bool
+    ensures { result ≡ sound (placed l.entry) size (beside before) (meant r) (beside behind) }
 {
     let k = kind_of(r.kind);
     if !size_ok(k, r.bytes) {
@@ -415,13 +401,13 @@ fn sound(
     if !paired(k, before, r, behind) {
         return false;
     }
-    if !known(addresses, r.symbol) {
+    if !known(l.addresses, r.symbol) {
         return false;
     }
     if !inside(r.place, r.bytes, size) {
         return false;
     }
-    value_ok(k, addresses, section, image, r, behind)
+    value_ok(k, l, r, behind)
 }
 
 // Question 80 of one relocation.
@@ -441,15 +427,15 @@ fn near(addresses: &[u64], r: Reloc, behind: Option<Reloc>) -> bool
     }
 }
 
-fn all_sound(relocs: &[u64], addresses: &[u64], section: u64, image: u64, size: usize) -> bool
-    ensures { result ≡ everywhere (sound (layout_of addresses.now section image) size) none (relocations_of relocs.now) }
+fn all_sound(relocs: &[u64], l: Placement, size: usize) -> bool
+    ensures { result ≡ everywhere (sound (placed l.entry) size) none (relocations_of relocs.now) }
 {
     let n = relocs.len() / relocs::RELOCATION_STRIDE;
     (0..n).all(|i| {
         let before = before_at(relocs, i);
         let r = reloc_at(relocs, i);
         let behind = behind_at(relocs, i);
-        sound(addresses, section, image, size, before, r, behind)
+        sound(l, size, before, r, behind)
     })
 }
 
@@ -516,49 +502,34 @@ fn sub(copy: &mut [u8], p: usize, w: Width, s: u64, a: u64)
 }
 
 // The value of a relocation that a field holds whole.
-fn store_value(
-    copy: &mut [u8],
-    k: Kind,
-    addresses: &[u64],
-    section: u64,
-    image: u64,
-    r: Reloc,
-    behind: Option<Reloc>,
-)
+fn store_value(copy: &mut [u8], k: Kind, l: Placement, r: Reloc, behind: Option<Reloc>)
     requires { (r.place + r.bytes ≤ length copy.old) × T (size_ok k r.bytes) }
-    ensures { copy.new ≡ whole_in r.bytes copy.old r.place (value_as k (layout_of addresses.now section image) (meant r) (beside behind)) }
+    ensures { copy.new ≡ whole_in r.bytes copy.old r.place (value_as k (placed l.entry) (meant r) (beside behind)) }
 {
-    if let Some(v) = value(k, addresses, section, image, r, behind) {
+    if let Some(v) = value(k, l, r, behind) {
         leb::le(copy, r.place as usize, r.bytes as usize, v);
     }
 }
 
 // The store of one relocation.
-fn store(
-    copy: &mut [u8],
-    addresses: &[u64],
-    section: u64,
-    image: u64,
-    r: Reloc,
-    behind: Option<Reloc>,
-)
+fn store(copy: &mut [u8], l: Placement, r: Reloc, behind: Option<Reloc>)
     requires { (r.place + r.bytes ≤ length copy.old) × T (size_ok (kind_of r.kind) r.bytes) }
-    ensures { copy.new ≡ store_of (layout_of addresses.now section image) copy.old (meant r) (beside behind) }
+    ensures { copy.new ≡ store_of (placed l.entry) copy.old (meant r) (beside behind) }
 {
     let k = kind_of(r.kind);
     match k {
-        Kind::Data => store_value(copy, k, addresses, section, image, r, behind),
-        Kind::Address => store_value(copy, k, addresses, section, image, r, behind),
-        Kind::SumPlus => store_value(copy, k, addresses, section, image, r, behind),
+        Kind::Data => store_value(copy, k, l, r, behind),
+        Kind::Address => store_value(copy, k, l, r, behind),
+        Kind::SumPlus => store_value(copy, k, l, r, behind),
         Kind::SumMinus => {}
-        Kind::Image => store_value(copy, k, addresses, section, image, r, behind),
+        Kind::Image => store_value(copy, k, l, r, behind),
         Kind::Set(w) => {
-            if let Some(s) = address_of(addresses, r.symbol) {
+            if let Some(s) = address_of(l.addresses, r.symbol) {
                 set(copy, r.place as usize, w, s, r.addend);
             }
         }
         Kind::Sub(w) => {
-            if let Some(s) = address_of(addresses, r.symbol) {
+            if let Some(s) = address_of(l.addresses, r.symbol) {
                 sub(copy, r.place as usize, w, s, r.addend);
             }
         }
@@ -567,15 +538,15 @@ fn store(
 }
 
 // The stores of all relocations, in list order.
-fn store_all(copy: &mut [u8], relocs: &[u64], addresses: &[u64], section: u64, image: u64)
-    requires { T (everywhere (sound (layout_of addresses.now section image) (length copy.old)) none (relocations_of relocs.now)) }
-    ensures { copy.new ≡ stores (layout_of addresses.now section image) copy.old (relocations_of relocs.now) }
+fn store_all(copy: &mut [u8], relocs: &[u64], l: Placement)
+    requires { T (everywhere (sound (placed l) (length copy.old)) none (relocations_of relocs.now)) }
+    ensures { copy.new ≡ stores (placed l.entry) copy.old (relocations_of relocs.now) }
 {
     let n = relocs.len() / relocs::RELOCATION_STRIDE;
     for i in 0..n {
         let r = reloc_at(relocs, i);
         let behind = behind_at(relocs, i);
-        store(copy, addresses, section, image, r, behind);
+        store(copy, l, r, behind);
     }
 }
 
@@ -598,13 +569,18 @@ pub extern "C" fn unwind_apply(
     if out.len() < n {
         return 52;
     }
-    if !all_sound(relocations, addresses, section, image, n) {
+    let l = Placement {
+        addresses,
+        section,
+        image,
+    };
+    if !all_sound(relocations, l, n) {
         return 79;
     }
     if !all_near(relocations, addresses) {
         return 80;
     }
     out[..n].copy_from_slice(bytes);
-    store_all(&mut out[..n], relocations, addresses, section, image);
+    store_all(&mut out[..n], relocations, l);
     0
 }

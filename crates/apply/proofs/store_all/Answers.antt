@@ -2,8 +2,8 @@
 use Rattle.std.proofs.Common.{◌+◌, ◌≤◌, T, length, sym, ap, ◌∙◌, subst, arith, rules}
 use Rattle.format.specs.Lists.{Relocation, relocation_at}
 use Rattle.apply.specs.Kinds.{kind_of, size_ok}
-use Rattle.apply.specs.Values.{layout_of, store_of}
-use Rattle.apply.specs.Standing.{beside}
+use Rattle.apply.specs.Values.{store_of}
+use Rattle.apply.specs.Standing.{placed, beside}
 use Rattle.apply.proofs.Tests.{sound_store}
 use Rattle.apply.proofs.Loops.{place_start, here_sound, place_turn, place_ended}
 use Rattle.apply.proofs.store_all.Goals as goal
@@ -11,14 +11,14 @@ use Rattle.apply.proofs.store_all.Goals as goal
 pub loop-i-init : goal.loop-i-init
 loop-i-init c =
     let a = c.args in
-    place_start a.relocs.now (layout_of a.addresses.now a.section a.image) a.copy.now c.requires
+    place_start a.relocs.now (placed a.l) a.copy.now c.requires
 
 pub store-requires : goal.store-requires
 store-requires c =
     let k = c.loop-i in
     let a = c.args in
     let h = here_sound a.relocs.now k.invariant c.loop-i-test.true in
-    let x = sound_store (layout_of a.addresses.now a.section a.image) (length a.copy.now) _ (relocation_at a.relocs.now k.i) _ h in
+    let x = sound_store (placed a.l) (length a.copy.now) _ (relocation_at a.relocs.now k.i) _ h in
     let y = subst (λ (r : Relocation). (r.place + r.bytes ≤ length a.copy.now) × T (size_ok (kind_of r.kind) r.bytes)) (sym c.reloc_at-r.ensures) x in
     (omega (arith, y.0, k.invariant.kept), y.1)
 
@@ -26,7 +26,7 @@ pub loop-i-preserved : goal.loop-i-preserved
 loop-i-preserved c =
     let k = c.loop-i in
     let a = c.args in
-    let l = layout_of a.addresses.now a.section a.image in
+    let l = placed a.l in
     place_turn a.relocs.now k.invariant c.loop-i-test.true c.store.new.copy (search rules)
     (c.store.ensures
     ∙ ap (λ (r : Relocation). store_of l k.copy r (beside c.behind_at-behind.result)) c.reloc_at-r.ensures

@@ -28,13 +28,13 @@ unfolding value_as
 returns-in-Address c =
     let a = c.args in
     rw c.in-Address.is
-    (c.less_base.ensures ∙ base_zero (sum_of (symbols_of a.addresses.now) (meant a.r)) _ _ c.most.ensures)
+    (c.less_base.ensures ∙ base_zero (sum_of (symbols_of a.l.addresses.now) (meant a.r)) _ _ c.most.ensures)
 
 pub returns-in-SumPlus : goal.returns-in-SumPlus
 unfolding value_as
 returns-in-SumPlus c =
     let a = c.args in
-    let ss = symbols_of a.addresses.now in
+    let ss = symbols_of a.l.addresses.now in
     rw c.in-SumPlus.is
     (c.apart.ensures
     ∙ ap (λ (m : ℕ). option_of (after (apart ss (meant a.r) (beside a.behind)) (λ z. up_to m z))) c.most-in-SumPlus.ensures)
@@ -50,7 +50,7 @@ returns-in-Image c =
     let t : T (eqb a.r.bytes 4) = subst (λ (k : Kind). T (size_ok k a.r.bytes)) c.in-Image.is c.requires in
     rw c.in-Image.is
     (c.less_base-in-Image.ensures
-    ∙ ap (λ (n : ℕ). option_of (after (sum_of (symbols_of a.addresses.now) (meant a.r)) (λ z. up_to (2 ^ (8 * n) - 1) (z -ℤ pos a.image)))) (sym (eqb_yes t)))
+    ∙ ap (λ (n : ℕ). option_of (after (sum_of (symbols_of a.l.addresses.now) (meant a.r)) (λ z. up_to (2 ^ (8 * n) - 1) (z -ℤ pos a.l.image)))) (sym (eqb_yes t)))
 
 pub returns-in-Set : goal.returns-in-Set
 unfolding value_as
