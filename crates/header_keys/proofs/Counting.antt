@@ -76,9 +76,9 @@ module _ {f : ℕ → RowAt} {at n i : ℕ} (l : Counting f at n i) where
         let x : length (ahead (each f (at + i) (n - i))) ≡ 0 = simp (here, refused e t) in
         (omega (arith, l.rest), omega arith)
 
-  pub ended : n ≤ i → (i ≡ length (ahead (each f at n))) × (i ≤ n)
+  pub ended : n ≤ i → (n ≡ length (ahead (each f at n))) × (n ≤ n)
   unfolding each ahead
   ended h =
       let e : n - i ≡ 0 = omega arith in
       let x : length (ahead (each f (at + i) (n - i))) ≡ 0 = simp e in
-      (omega (arith, l.rest), l.high)
+      (omega (arith, l.rest, l.high), omega arith)

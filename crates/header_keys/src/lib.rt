@@ -14,18 +14,18 @@ use format::{Machine, Row, Section};
 use lists::Extent;
 
 // What a section takes of a function: debug_frame has no landings and no personality.
+#[tactic(auto, unfolding(crate::specs::Functions::taken_in, crate::specs::Functions::without))]
 pub fn taken(s: Section, e: Extent) -> Extent
     ensures { result ≡ taken_in s e }
 {
-    let mut t = e;
     match s {
-        Section::Elf => {}
-        Section::Debug => {
-            t.landings = 0;
-            t.personality = false;
-        }
+        Section::Elf => e,
+        Section::Debug => Extent {
+            landings: 0,
+            personality: false,
+            ..e
+        },
     }
-    t
 }
 
 // ---- the kind of a header
@@ -69,17 +69,16 @@ pub fn ahead(rows: &[u64], at: usize, n: usize) -> usize
     requires { RowsReady rows.now at n }
     ensures { (result ≡ length (ahead (each (row_at rows.now) at n))) × (result ≤ n) }
 {
-    let mut i = 0;
-    while i < n {
+    for i in 0..n {
         if !leads_at(rows, at + i) {
             return i;
         }
-        i += 1;
     }
-    i
+    n
 }
 
 // How many rows a call implies: none where the function is simple, and the second only where the call pushes bytes.
+#[tactic(auto, unfolding(format::specs::Headers::implied, format::specs::Prelude::pick))]
 fn implied_count(m: Machine, simple: bool) -> usize
     ensures { (result ≡ length (pick simple [] (implied m))) × (result ≤ 2) }
 {

@@ -54,6 +54,7 @@ fn map_ok(ms: &[u64]) -> bool
 }
 
 // Question 11.
+#[tactic(auto, unfolding(format::specs::Machine::machine_ok, format::specs::Machine::machine_of))]
 pub fn machine_ok(ms: &[u64]) -> bool
     ensures { result ≡ machine_ok ms.now }
 {
@@ -135,6 +136,7 @@ pub struct Extent {
     pub pairs: usize,
 }
 
+#[tactic(auto, unfolding(crate::specs::Extents::extent_at, format::specs::Lists::mark))]
 pub fn extent_at(fs: &[u64], k: usize) -> Extent
     requires { 18 * k + 18 ≤ length fs.now }
     ensures { result ≡ extent_at fs.now k }
@@ -257,6 +259,7 @@ pub fn code_at(cs: &[u64], i: usize) -> Seh
 // ---- question 13 of one record
 
 // A range of n records from `at` lies inside a list of `size` records.
+#[tactic(auto, unfolding(format::specs::Lists::inside))]
 pub fn inside(at: u64, n: u64, size: u64) -> bool
     ensures { result ≡ inside at n size }
 {
@@ -267,6 +270,7 @@ pub fn inside(at: u64, n: u64, size: u64) -> bool
 }
 
 // A caller's symbol.
+#[tactic(auto, unfolding(format::specs::Lists::symbol_ok))]
 pub fn symbol_ok(s: u64) -> bool
     ensures { result ≡ symbol_ok s }
 {
@@ -277,6 +281,7 @@ pub fn symbol_ok(s: u64) -> bool
 }
 
 // An encoding byte and a symbol.
+#[tactic(auto, unfolding(format::specs::Lists::pointer_ok))]
 fn pointer_ok(encoding: u64, symbol: u64) -> bool
     ensures { result ≡ pointer_ok encoding symbol }
 {
@@ -287,6 +292,7 @@ fn pointer_ok(encoding: u64, symbol: u64) -> bool
 }
 
 // Both symbols of pair i.
+#[tactic(auto, unfolding(format::specs::Lists::pair_ok_at))]
 fn pair_ok(ps: &[u64], i: usize) -> bool
     requires { 4 * i + 4 ≤ length ps.now }
     ensures { result ≡ pair_ok_at ps.now i }
@@ -298,6 +304,7 @@ fn pair_ok(ps: &[u64], i: usize) -> bool
 }
 
 // The operands of code i: only those that its kind has.
+#[tactic(auto, unfolding(format::specs::Lists::code_ok_at, format::specs::Lists::code_ok, format::specs::Prelude::pick))]
 fn code_ok(cs: &[u64], i: usize) -> bool
     requires { 5 * i + 5 ≤ length cs.now }
     ensures { result ≡ code_ok_at cs.now i }
@@ -348,6 +355,7 @@ fn codes_in(cs: &[u64], at: usize, n: usize) -> bool
 }
 
 // The symbol of function k, and where its rows and landings are.
+#[tactic(auto, unfolding(crate::specs::Parts::ranges_ok_at))]
 fn ranges_ok(fs: &[u64], rows: &[u64], landings: &[u64], k: usize) -> bool
     requires { 18 * k + 18 ≤ length fs.now }
     ensures { result ≡ ranges_ok_at fs.now rows.now landings.now k }
@@ -368,6 +376,7 @@ fn ranges_ok(fs: &[u64], rows: &[u64], landings: &[u64], k: usize) -> bool
 }
 
 // The named personality of function k, where it has one.
+#[tactic(auto, unfolding(crate::specs::Parts::named_ok_at, format::specs::Lists::mark_ok, format::specs::Lists::when_marked))]
 fn named_ok(fs: &[u64], k: usize) -> bool
     requires { 18 * k + 18 ≤ length fs.now }
     ensures { result ≡ named_ok_at fs.now k }
@@ -413,6 +422,7 @@ fn relaxed_ok(fs: &[u64], pairs: &[u64], k: usize) -> bool
 }
 
 // Function k, and the records that it reaches but its rows.
+#[tactic(auto, unfolding(crate::specs::Parts::outline_ok_at, format::specs::Lists::mark_ok))]
 pub fn outline_ok(fs: &[u64], rows: &[u64], landings: &[u64], pairs: &[u64], k: usize) -> bool
     requires { 18 * k + 18 ≤ length fs.now }
     ensures { result ≡ outline_ok_at fs.now rows.now landings.now pairs.now k }
@@ -496,6 +506,7 @@ pub fn sum_ok(xs: &[u64], stride: usize, j: usize, n: usize) -> bool
 }
 
 // How many pairs function k has.
+#[tactic(auto, unfolding(format::specs::Lists::pairs_in, format::specs::Lists::mark, format::specs::Prelude::pick))]
 fn pairs_in(fs: &[u64], k: usize) -> u64
     requires { 18 * k + 18 ≤ length fs.now }
     ensures { result ≡ pairs_in fs.now k }
@@ -523,6 +534,7 @@ pub fn functions_ok(fs: &[u64], rows: &[u64], landings: &[u64], pairs: &[u64], n
 }
 
 // Question 13, as far as the functions are counted, and what they reach.
+#[tactic(auto, unfolding(crate::specs::Parts::sums_ok))]
 pub fn sums_ok(fs: &[u64]) -> bool
     ensures { result ≡ sums_ok fs.now }
 {
@@ -540,6 +552,7 @@ pub fn sums_ok(fs: &[u64]) -> bool
 }
 
 // Question 13 of the lists of functions.
+#[tactic(auto, unfolding(format::specs::Lists::lists_ok, crate::specs::Parts::sums_ok))]
 pub fn lists_ok(fs: &[u64], rows: &[u64], landings: &[u64], pairs: &[u64]) -> bool
     ensures { result ≡ lists_ok fs.now rows.now landings.now pairs.now }
 {
@@ -558,6 +571,7 @@ fn prologues_ok(fs: &[u64], codes: &[u64], n: usize) -> bool
 }
 
 // Question 13 of the lists of direct codes.
+#[tactic(auto, unfolding(format::specs::Lists::codes_ok))]
 pub fn codes_ok(fs: &[u64], codes: &[u64]) -> bool
     ensures { result ≡ codes_ok fs.now codes.now }
 {

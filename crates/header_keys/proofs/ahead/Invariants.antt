@@ -1,10 +1,6 @@
-use Prim.Native.Nat.{◌-◌}
 use Rattle.format.specs.Lists.{row_at}
 use Rattle.header_keys.proofs.Counting.{Counting}
 use Rattle.header_keys.proofs.ahead.Given as goal
 
 abbrev pub invariant-loop-i : goal.invariant-loop-i
 invariant-loop-i l = Counting (row_at l.rows) l.at l.n l.i
-
-abbrev pub decreases-loop-i : goal.decreases-loop-i
-decreases-loop-i l = l.n - l.i
