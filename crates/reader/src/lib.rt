@@ -104,8 +104,6 @@ pub fn read(
 ) -> Result<Rules, u64>
     ensures { result ≡ read section.now relocations.now kind word k q p }
 {
-    match locate(section, relocations, kind, word, k) {
-        Ok(l) => rules_at(section, l, q, p),
-        Err(n) => Err(n),
-    }
+    let l = locate(section, relocations, kind, word, k)?;
+    rules_at(section, l, q, p)
 }

@@ -12,6 +12,7 @@ use Rattle.format.specs.Leb.{read_little}
 use Rattle.format.specs.Coded.{option_of}
 use Rattle.std.specs.Prelude.{Some, None, Ok, Err}
 use Rattle.std.specs.Prelude as code
+use Rattle.std.specs.Result.{is_ok}
 use Rattle.format.specs.Machine.{is_word_size}
 use Rattle.format.specs.Lists.{relocations_of}
 use Rattle.format.specs.Rules.{State, answer}
@@ -70,6 +71,12 @@ module _ (s : List ℕ) (at end : ℕ) where
   sized e = first_some _ _ _ (read_little 4 (drop 8 (part s (at + 4) end))) e
 
 -- ---- the rules at an offset
+
+-- the reader answers where its result is a value
+pub ok_answers : (r : Reading) → is_ok r ≡ answers r
+unfolding answers
+ok_answers (Ok rules) = refl
+ok_answers (Err n) = refl
 
 -- the rules from what was parsed
 located_rules : (s : List ℕ) (word : ℕ) (x : Located) (p : ℕ) {y : Result Found} → Stated s word x y → rules_from s x 0 p ≡ answer 0 (run_to word p (found s x))

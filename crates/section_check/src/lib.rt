@@ -126,10 +126,7 @@ fn answers_at(
     let Ok(l) = reader::location::parse(s, false, word, cie, past, at, end) else {
         return false;
     };
-    match reader::rules_at(s, l, 0, p) {
-        Ok(_) => true,
-        Err(_) => false,
-    }
+    reader::rules_at(s, l, 0, p).is_ok()
 }
 
 // Whether the record from `at` to `end` passes: one read, at the last offset.

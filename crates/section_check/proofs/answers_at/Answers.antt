@@ -1,7 +1,6 @@
 -- `section_check::answers_at` meets its contract.
-use mathlib.Core.Path.{ap, sym, ◌∙◌}
-use Rattle.section_check.specs.Check.{answers}
-use Rattle.section_check.proofs.Entries.{headless, header_stands, unparsed, answered_in}
+use mathlib.Core.Path.{◌∙◌}
+use Rattle.section_check.proofs.Entries.{headless, header_stands, unparsed, ok_answers, answered_in}
 use Rattle.section_check.proofs.answers_at.Goals as goal
 
 pub returns-in_default : goal.returns-in_default
@@ -15,10 +14,8 @@ parse-requires c =
 pub returns-in_default-parse : goal.returns-in_default-parse
 returns-in_default-parse c = unparsed c.args.s.now c.args.word c.args.at c.args.end c.args.p c.header_of.ensures c.in-Some.is c.parse.ensures c.in_default-parse.is
 
-pub returns-in-Ok : goal.returns-in-Ok
-unfolding answers
-returns-in-Ok c = ap answers (sym c.in-Ok.is) ∙ answered_in c.args.s.now c.args.word c.args.at c.args.end c.args.p c.header_of.ensures c.in-Some.is c.parse.ensures c.in-Ok.is c.rules_at.ensures
-
-pub returns-in-Err : goal.returns-in-Err
-unfolding answers
-returns-in-Err c = ap answers (sym c.in-Err.is) ∙ answered_in c.args.s.now c.args.word c.args.at c.args.end c.args.p c.header_of.ensures c.in-Some.is c.parse.ensures c.in-Ok.is c.rules_at.ensures
+pub returns : goal.returns
+returns c =
+    c.is_ok.ensures.value
+    ∙ ok_answers c.rules_at.result
+    ∙ answered_in c.args.s.now c.args.word c.args.at c.args.end c.args.p c.header_of.ensures c.in-Some.is c.parse.ensures c.in-Ok.is c.rules_at.ensures
