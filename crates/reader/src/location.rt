@@ -1,5 +1,5 @@
 // Where the operations of record k and of its header are: questions 61 to 64, in this order.
-ghost use Rattle.std.specs.Prelude.{◌≡◌, ◌&&◌, ◌+◌, ◌≤◌, length, T, eqb, ltb};
+ghost use Rattle.std.specs.Prelude.{◌≡◌, ◌&&◌, ◌+◌, ◌≤◌, length, T, eqb, ltb, IfOk};
 ghost use Rattle.format.specs.Questions.{is_some};
 ghost use Rattle.format.specs.Reader.{is_header, distance_back, first_addend, header_place, header_at, entries, parsed, locate};
 ghost use Rattle.format.specs.Lists.{relocations_of};
@@ -114,7 +114,8 @@ pub fn parse(
     end: usize,
 ) -> Result<Located, u64>
     requires { T (is_word_size word) × (cie + 8 ≤ past) × (past ≤ length s.now) × (at + 8 ≤ end) × (end ≤ length s.now) }
-    ensures { Locates s.now word result (parsed debug word (entry_in s.now cie past) (entry_in s.now at end)) }
+    ensures located { Locates s.now word result (parsed debug word (entry_in s.now cie past) (entry_in s.now at end)) }
+    ensures ends { IfOk result (λ l. (l.header_end ≡ past) × (l.record_end ≡ end)) }
 {
     let header = cie + 4;
     let Some(

@@ -6,50 +6,50 @@ use mir.Facts.{or_yes, eqb_yes}
 use Rattle.format.specs.Prelude.{pick, next, after}
 use Rattle.format.specs.Reader.{is_header, require}
 use Rattle.reader.specs.Spans.{end_at}
-use Rattle.reader.specs.declared.entries.Number.TheVariants as number
 use Rattle.reads.specs.Places.{asked}
 use Rattle.reads.proofs.Placing.{entry_none, entry_here}
 use Rattle.format.specs.Machine.{is_word_size}
 use Rattle.operations.specs.declared.fields.Position.{Position}
-use Rattle.operations.specs.declared.fields.Unsigned.TheVariants as unsigned
 use Rattle.format.proofs.Choice.{if-le, if-gt}
 use Rattle.format.proofs.FieldsBack.{word_small}
 use Rattle.operations.specs.Positions.{little_at, from}
 use Rattle.operations.proofs.PositionLaws.{little_rest, little_none}
 use Rattle.reader.proofs.Recorded.{field_small}
 use Rattle.reader.specs.Spans.{part, entry_in}
-use Rattle.reads.specs.Addresses.{function_fields, sdata4, start_of, function_of, unplaced, placed_as, function_at, record_of, holder_as, holder_in, holds}
-use Rattle.format.specs.Prelude.{bad}
-use Rattle.reads.specs.Standing.{fields_as}
+use Rattle.reads.specs.Addresses.{function_fields, sdata4, start_of, function_of, function_found, placed_as, function_at, record_of, holder_as, holder_in, holds}
+use Rattle.format.specs.Prelude.{Result, bad, or_else}
+use Rattle.format.specs.Coded.{option_of, result_of}
+use Rattle.std.specs.Prelude.{Some, None, Ok, Err}
+use Rattle.std.specs.Prelude as code
+use Rattle.std.specs.Option.{ok_or}
+use Rattle.reader.proofs.Seeking.{number_is, number_none}
 use Rattle.reads.specs.declared.Placed.{Placed}
-use Rattle.reads.specs.declared.addresses.Function.{Function}
-use Rattle.reads.specs.declared.addresses.Function.TheVariants as function
 
 -- ---- the fields
 
 module _ (s : List ℕ) (debug : Bool) (word : ℕ) where
-  abbrev fields : Function
-  fields = fields_as (function_fields debug word s)
+  abbrev fields : code.Option (ℕ × ℕ)
+  fields = option_of (function_fields debug word s)
 
-  pub fields_none : little_at 4 s (from 0) ≡ unsigned.Bad → function.Bad ≡ fields
-  unfolding function_fields next fields_as
+  pub fields_none : little_at 4 s (from 0) ≡ None → None ≡ fields
+  unfolding function_fields next
   fields_none e = rw (little_none s (from 0) 4 e) refl
 
-  module _ (t : T (is_word_size word)) {id : ℕ} {p : Position} (e : little_at 4 s (from 0) ≡ unsigned.Value id p) {n : ℕ} (w : n ≡ pick debug word 4) where
+  module _ (t : T (is_word_size word)) {id : ℕ} {p : Position} (e : little_at 4 s (from 0) ≡ Some (id, p)) {n : ℕ} (w : n ≡ pick debug word 4) where
     pub fields_byte : 0 < n
     fields_byte = omega (arith, (field_small debug word t).0)
 
-    pub fields_placeless : little_at n s p ≡ unsigned.Bad → function.Bad ≡ fields
-    unfolding function_fields next fields_as
+    pub fields_placeless : little_at n s p ≡ None → None ≡ fields
+    unfolding function_fields next
     fields_placeless f = rw (← w, little_rest s (from 0) (omega arith) e, little_none s p n f) refl
 
-    module _ {v : ℕ} {q : Position} (f : little_at n s p ≡ unsigned.Value v q) where
-      pub fields_sizeless : little_at n s q ≡ unsigned.Bad → function.Bad ≡ fields
-      unfolding function_fields next fields_as
+    module _ {v : ℕ} {q : Position} (f : little_at n s p ≡ Some (v, q)) where
+      pub fields_sizeless : little_at n s q ≡ None → None ≡ fields
+      unfolding function_fields next
       fields_sizeless g = rw (← w, little_rest s (from 0) (omega arith) e, little_rest s p fields_byte f, little_none s q n g) refl
 
-      pub fields_there : {size : ℕ} {u : Position} → little_at n s q ≡ unsigned.Value size u → function.Fields v size ≡ fields
-      unfolding function_fields next fields_as
+      pub fields_there : {size : ℕ} {u : Position} → little_at n s q ≡ Some (size, u) → Some (v, size) ≡ fields
+      unfolding function_fields next
       fields_there g = rw (← w, little_rest s (from 0) (omega arith) e, little_rest s p fields_byte f, little_rest s q fields_byte g) refl
 
 -- ---- addresses
@@ -96,68 +96,77 @@ module _ (word : ℕ) (t : T (is_word_size word)) where
 
 -- ---- the function of a record
 
-module _ (s : List ℕ) (debug : Bool) (word address at end : ℕ) {r : Function} (m : r ≡ fields_as (function_fields debug word (part s (at + 4) end))) where
-  abbrev placed : Placed
-  placed = placed_as (function_of debug word address (entry_in s at end))
+module _ (s : List ℕ) (debug : Bool) (word address at end : ℕ) where
+  abbrev fields_in : code.Option (ℕ × ℕ)
+  fields_in = option_of (function_fields debug word (part s (at + 4) end))
 
-  read_of : (o : Option (ℕ × ℕ)) {v size : ℕ} → function.Fields v size ≡ fields_as o → o ≡ some (v, size)
-  unfolding fields_as
-  read_of none e = let z : ◌≡◌ {A = ℕ} 0 1 = cc in absurd (omega arith)
-  read_of (some f) {v} {size} e = let a : f.0 ≡ v = cc in let b : f.1 ≡ size = cc in rw (a, b) refl
+  pub function_bad : fields_in ≡ None → None ≡ option_of (function_of debug word address (entry_in s at end))
+  unfolding function_of after
+  function_bad e = rw (number_none (function_fields debug word (part s (at + 4) end)) e) refl
 
-  none_of : (o : Option (ℕ × ℕ)) → function.Bad ≡ fields_as o → o ≡ none
-  unfolding fields_as
-  none_of none e = refl
-  none_of (some f) e = let z : ◌≡◌ {A = ℕ} 0 1 = cc in absurd (omega arith)
-
-  pub function_bad : r ≡ function.Bad → unplaced 64 ≡ placed
-  unfolding function_of after placed_as
-  function_bad e = rw (none_of (function_fields debug word (part s (at + 4) end)) (sym e ∙ m)) refl
-
-  pub function_there : {v size start : ℕ} → r ≡ function.Fields v size → start ≡ start_of debug word address at v
-      → ◌≡◌ {A = Placed} (record { number = 0; address = start; length = size }) placed
-  unfolding function_of after placed_as
-  function_there {v} {size} e f = rw (read_of (function_fields debug word (part s (at + 4) end)) (sym e ∙ m), f) refl
+  pub function_there : {v size start : ℕ} → fields_in ≡ Some (v, size) → start ≡ start_of debug word address at v
+      → Some (start, size) ≡ option_of (function_of debug word address (entry_in s at end))
+  unfolding function_of after
+  function_there e f = rw (number_is (function_fields debug word (part s (at + 4) end)) e, f) refl
 
 -- ---- what a function holds
 
-pub holds_placed : (pc : ℕ) (o : Option (ℕ × ℕ)) (f : Placed) → f ≡ placed_as o → (eqb f.number 0 && (leb f.address pc && ltb (pc - f.address) f.length)) ≡ holds pc o
-unfolding placed_as unplaced holds
-holds_placed pc none f e = rw e refl
-holds_placed pc (some x) f e = rw e refl
+module _ (pc : ℕ) (o : Option (ℕ × ℕ)) where
+  pub holds_none : option_of o ≡ None → false ≡ holds pc o
+  unfolding holds
+  holds_none e = rw (number_none o e) refl
+
+  pub holds_by : {start size : ℕ} → option_of o ≡ Some (start, size) → (leb start pc && ltb (pc - start) size) ≡ holds pc o
+  unfolding holds
+  holds_by e = rw (number_is o e) refl
 
 -- ---- the function of the record at a place
 
-module _ (section : List ℕ) (kind word address place : ℕ) where
-  abbrev wanted : Placed
-  wanted = function_at section kind word address place
+module _ (s : List ℕ) (debug : Bool) (word address place : ℕ) where
+  abbrev wanted : code.Result (ℕ × ℕ) ℕ
+  wanted = result_of (function_found debug word address place s)
 
-  pub function_unasked : asked kind word ≡ false → unplaced 11 ≡ wanted
+  pub function_missing : end_at s place ≡ None → Err 64 ≡ wanted
+  unfolding function_found after or_else
+  function_missing e = rw (entry_none s place e) refl
+
+  module _ {end : ℕ} (e : end_at s place ≡ Some end) where
+    pub function_header : is_header debug (entry_in s place end) ≡ true → Err 64 ≡ wanted
+    unfolding function_found after require pick or_else
+    function_header y = rw (entry_here s place e, y) refl
+
+    module _ (y : is_header debug (entry_in s place end) ≡ false) where
+      abbrev of_entry : code.Option (ℕ × ℕ)
+      of_entry = option_of (function_of debug word address (entry_in s place end))
+
+      function_short : of_entry ≡ None → Err 64 ≡ wanted
+      unfolding function_found after require pick or_else
+      function_short n = rw (entry_here s place e, y, number_none (function_of debug word address (entry_in s place end)) n) refl
+
+      function_record : {f : ℕ × ℕ} → of_entry ≡ Some f → Ok f ≡ wanted
+      unfolding function_found after require pick or_else
+      function_record n = rw (entry_here s place e, y, number_is (function_of debug word address (entry_in s place end)) n) refl
+
+      pub function_given : (o : code.Option (ℕ × ℕ)) → o ≡ of_entry → ok_or o 64 ≡ wanted
+      function_given None n = function_short (sym n)
+      function_given (Some f) n = function_record (sym n)
+
+module _ (section : List ℕ) (kind word address place : ℕ) where
+  pub function_unasked : asked kind word ≡ false → placed_as (Err 11) ≡ function_at section kind word address place
   unfolding function_at pick
   function_unasked e = rw e refl
 
-  module _ (a : asked kind word ≡ true) where
-    pub function_missing : end_at section place ≡ number.Nothing → unplaced 64 ≡ wanted
-    unfolding function_at pick after placed_as
-    function_missing e = rw (a, entry_none section place e) refl
-
-    module _ {end : ℕ} (e : end_at section place ≡ number.Is end) where
-      pub function_header : is_header (eqb kind 1) (entry_in section place end) ≡ true → unplaced 64 ≡ wanted
-      unfolding function_at pick after require placed_as
-      function_header y = rw (a, entry_here section place e, y) refl
-
-      pub function_record : is_header (eqb kind 1) (entry_in section place end) ≡ false
-          → placed_as (function_of (eqb kind 1) word address (entry_in section place end)) ≡ wanted
-      unfolding function_at pick after require
-      function_record y = rw (a, entry_here section place e, y) refl
+  pub function_asked : asked kind word ≡ true → placed_as (result_of (function_found (eqb kind 1) word address place section)) ≡ function_at section kind word address place
+  unfolding function_at pick
+  function_asked e = rw e refl
 
 -- ---- 11 of the record that holds an address
 
 module _ (section : List ℕ) (kind word address pc : ℕ) where
-  pub holder_unasked : asked kind word ≡ false → holder_as (bad 11) ≡ record_of section kind word address pc
+  pub holder_unasked : asked kind word ≡ false → holder_as (Err 11) ≡ record_of section kind word address pc
   unfolding record_of pick
   holder_unasked e = rw e refl
 
-  pub holder_asked : asked kind word ≡ true → holder_as (holder_in (eqb kind 1) word address pc section) ≡ record_of section kind word address pc
+  pub holder_asked : asked kind word ≡ true → holder_as (result_of (holder_in (eqb kind 1) word address pc section)) ≡ record_of section kind word address pc
   unfolding record_of pick
   holder_asked e = rw e refl

@@ -6,6 +6,7 @@ use Rattle.format.specs.Prelude.{pick, after, Result, good, bad, onward, or_else
 use Rattle.format.specs.Lists.{Relocation, relocations_of}
 use Rattle.format.specs.Reader.{Entry, entries, records, header_place, header_at, read}
 use Rattle.format.proofs.Choice.{either}
+use Rattle.format.specs.Coded.{result_of}
 use Rattle.reads.specs.Places.{asked, refused, located_as, locate_entries, header_of, locate_nth, locate_record, rules_of}
 use Rattle.reads.specs.Index.{nowhere, place_or, index_from, index_of, index_in, index, locate_in, locate_at}
 use Rattle.reads.specs.declared.Located.{Located}
@@ -103,7 +104,7 @@ module _ (section relocations : List ℕ) (kind word : ℕ) (small : length sect
   unfolding locate_at locate_record
   by_some k none q n = absurd (n refl)
   by_some k (some e) q n =
-      ap (λ (x : Result Located). located_as (pick (asked kind word) x (bad 11))) (nth_by_index section (eqb kind 1) (relocations_of relocations) word small t k q)
+      ap (λ (x : Result Located). located_as (result_of (pick (asked kind word) x (bad 11)))) (nth_by_index section (eqb kind 1) (relocations_of relocations) word small t k q)
 
   locate_by_numbers : (k : ℕ) → 2 * k < length numbers
       → locate_at section kind word (get_or numbers (2 * k) 0) (get_or numbers (2 * k + 1) 0) ≡ locate_record section relocations kind word k

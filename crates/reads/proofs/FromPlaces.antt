@@ -18,6 +18,7 @@ use Rattle.reader.proofs.Whole.{drop-part}
 use Rattle.reader.proofs.Asked.{located_read, located_shortest, refused_read, refused_mark}
 use Rattle.reads.specs.Places.{asked, end_of, operations_at, places_of, refused, located_as, locate_entries, header_of, locate_nth, locate_record, reader_places, rules_of}
 use Rattle.reads.specs.declared.Located.{Located}
+use Rattle.format.specs.Coded.{result_of}
 use Rattle.reads.proofs.Placing.{asked_word, end_in, operations_in}
 use Rattle.reads.proofs.Standing.{Standing, entries_stand, records_stand, nth_stands, first_stands}
 
@@ -258,7 +259,7 @@ module _ (section relocations : List ℕ) (kind word k q p : ℕ) where
   agree_all false e = refuses 11 (λ z. omega arith)
 
   agree_reads : {x : Result Located} {y : Result Found} → Agree section word x y → reader.locate_in section relocations kind word k ≡ y
-      → rules_of section (located_as x) q p ≡ read section relocations kind word k q p
+      → rules_of section (located_as (result_of x)) q p ≡ read section relocations kind word k q p
   unfolding rules_of located_as refused pick
   agree_reads (refuses n z) e = rw (ne_eqb n 0 z) (refused_read section relocations kind word k q p e)
   agree_reads (answers l x z a) e = rw (eq-eqb l.number 0 z) (located_read section relocations kind word k q p (rw e a))
@@ -274,7 +275,7 @@ module _ (section relocations : List ℕ) (kind word k q p : ℕ) where
   refused_unmarked n = rw (le-leb 0 (length section) (omega arith))
 
   agree_marks : {x : Result Located} {y : Result Found} → Agree section word x y → reader.locate_in section relocations kind word k ≡ y
-      → reader.shortest_from section (reader_places (located_as x)) p ≡ shortest_at section relocations kind word k p
+      → reader.shortest_from section (reader_places (located_as (result_of x))) p ≡ shortest_at section relocations kind word k p
   unfolding located_as
   agree_marks (refuses n z) e = refused_unmarked n ∙ sym (refused_mark section relocations kind word k p e)
   agree_marks (answers l x z a) e = located_shortest section relocations kind word k p (rw e a)

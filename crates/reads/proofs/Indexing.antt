@@ -4,21 +4,20 @@ use mathlib.Core.Option.{Option, none, some}
 use mir.Facts.{eqb_yes}
 use Rattle.format.specs.Prelude.{pick, after, first, Result, good, bad, onward, or_else}
 use Rattle.format.specs.Put.{put}
+use Rattle.format.specs.Coded.{option_of, result_of}
+use Rattle.std.specs.Prelude.{Some, None, Ok, Err}
+use Rattle.std.specs.Prelude as code
 use Rattle.format.specs.Questions.{is_some}
 use Rattle.format.specs.Lists.{Relocation, relocations_of}
 use Rattle.format.specs.Reader.{Entry, is_header, records, entries, header_place, header_at}
 use Rattle.format.proofs.Choice.{if-le, if-gt}
-use Rattle.reader.specs.Spans.{entry_in, entries_from, listed, number_of, Ends, Spans}
-use Rattle.reader.specs.declared.entries.Number.{Number}
-use Rattle.reader.specs.declared.entries.Number.TheVariants as number
-use Rattle.reader.specs.declared.entries.Span.{Span}
-use Rattle.reader.specs.declared.entries.Span.TheVariants as span
+use Rattle.reader.specs.Spans.{entry_in, entries_from, listed, Ends, Spans}
 use Rattle.reader.proofs.Seeking.{search_start, search_turn, number_is, number_none, absent, header_here_lem, header_later}
 use Rattle.reader.proofs.Tiling.{tiled_end}
 use Rattle.reader.proofs.Whole.{spans, spans_none}
 use Rattle.reads.specs.Places.{asked, header_of}
-use Rattle.reads.specs.Index.{nowhere, place_or, index_from, index_of, index_in, index, indexed_as, list_after}
-use Rattle.reads.specs.Standing.{Skipped, Headed, Indexes}
+use Rattle.reads.specs.Index.{nowhere, place_or, index_from, index_of, index_in, index, counted, indexed_as, list_after}
+use Rattle.reads.specs.Standing.{Skipped, Headed, Stores, Indexes}
 use Rattle.reads.specs.declared.Indexed.{Indexed}
 use Rattle.reads.proofs.Passing.{Passing, begun, passed, all_passed, records_header, records_record}
 
@@ -100,16 +99,16 @@ module _ (debug : Bool) (es : List Entry) (e : Entry) (y : is_header debug e ≡
 
 -- ---- the header of a record
 
-module _ (s : List ℕ) (rs : List Relocation) (debug : Bool) (es : List Entry) (at end : ℕ) {r : Number}
-    (m : r ≡ number_of (header_place debug rs (entry_in s at end))) where
+module _ (s : List ℕ) (rs : List Relocation) (debug : Bool) (es : List Entry) (at end : ℕ) {r : code.Option ℕ}
+    (m : r ≡ option_of (header_place debug rs (entry_in s at end))) where
   abbrev start : ℕ
   start = place_or (header_of debug rs es (entry_in s at end))
 
-  pub start_none : r ≡ number.Nothing → nowhere ≡ start
+  pub start_none : r ≡ None → nowhere ≡ start
   unfolding header_of after place_or
   start_none e = rw (number_none _ (sym m ∙ e)) refl
 
-  module _ {place : ℕ} (e : r ≡ number.Is place) where
+  module _ {place : ℕ} (e : r ≡ Some place) where
     at_place : start ≡ place_or (header_at debug place at es)
     unfolding header_of after
     at_place = rw (number_is _ (sym m ∙ e)) refl
@@ -121,12 +120,12 @@ module _ (s : List ℕ) (rs : List Relocation) (debug : Bool) (es : List Entry) 
     pub start_last : {last : ℕ} → Headed debug es last → place ≡ last → place < at → at < 2 ^ 64 → place ≡ start
     start_last {last} k q h l = sym (at_place ∙ rw q (k.starts at (omega arith) l))
 
-    module _ {t : Span} (k : Spans s t (header_at debug place at es)) where
-      pub start_missing : t ≡ span.Nothing → nowhere ≡ start
+    module _ {t : code.Option (ℕ × ℕ)} (k : Spans s t (header_at debug place at es)) where
+      pub start_missing : t ≡ None → nowhere ≡ start
       unfolding place_or
       start_missing q = sym (at_place ∙ rw (spans_none s (header_at debug place at es) k q) refl)
 
-      module _ {c p : ℕ} (q : t ≡ span.At c p) where
+      module _ {c p : ℕ} (q : t ≡ Some (c, p)) where
         pub start_found : c ≡ start
         unfolding place_or
         start_found = sym (at_place ∙ rw (spans s (header_at debug place at es) k q).found refl)
@@ -267,14 +266,15 @@ module _ (s : List ℕ) (debug : Bool) (xs old : List ℕ) where
 -- ---- 11
 
 module _ (section relocations : List ℕ) (kind word : ℕ) (old : List ℕ) where
-  pub index_unasked : asked kind word ≡ false → Indexes (index section relocations kind word (length old)) (record { number = 11; records = 0 }) old old
-  unfolding index pick indexed_as list_after
-  index_unasked e = rw e (record { answered = refl; stored = refl })
+  pub index_unasked : asked kind word ≡ false → {r : Indexed} → r ≡ indexed_as (Err 11) → Indexes (index section relocations kind word (length old)) r old old
+  unfolding index pick counted list_after
+  index_unasked e x = rw e (record { answered = x; stored = refl })
 
-  pub index_asked : asked kind word ≡ true → {r : Indexed} {new : List ℕ} → Indexes (index_in (eqb kind 1) (relocations_of relocations) (length old) section) r old new
+  pub index_asked : asked kind word ≡ true → {n : code.Result ℕ ℕ} {r : Indexed} {new : List ℕ} → r ≡ indexed_as n
+      → Stores (index_in (eqb kind 1) (relocations_of relocations) (length old) section) n old new
       → Indexes (index section relocations kind word (length old)) r old new
   unfolding index pick
-  index_asked e x = rw e x
+  index_asked e x y = rw e (record { answered = x ∙ ap indexed_as y.answered; stored = y.stored })
 
 -- ---- the whole
 
@@ -282,8 +282,8 @@ module _ (s : List ℕ) (rs : List Relocation) (debug : Bool) (old : List ℕ) w
   abbrev whole : Result (List ℕ)
   whole = index_in debug rs (length old) s
 
-  pub index_untiled : is_some (entries s) ≡ false → Indexes whole (record { number = 61; records = 0 }) old old
-  unfolding index_in onward or_else indexed_as list_after
+  pub index_untiled : is_some (entries s) ≡ false → Stores whole (Err 61) old old
+  unfolding index_in onward or_else counted list_after
   index_untiled e = let q : whole ≡ bad 61 = rw (absent (entries s) e) refl in record { answered = rw q refl; stored = rw q refl }
 
   room_asked : List Entry → Result (List ℕ)
@@ -303,16 +303,16 @@ module _ (s : List ℕ) (rs : List Relocation) (debug : Bool) (old : List ℕ) w
     unfolding index_in room_asked
     opened = room_first (entries s) t
 
-    pub index_short : length old / 2 < n → Indexes whole (record { number = 54; records = 0 }) old old
-    unfolding index_in onward or_else indexed_as list_after
+    pub index_short : length old / 2 < n → Stores whole (Err 54) old old
+    unfolding index_in onward or_else counted list_after
     index_short h =
         let q : whole ≡ bad 54 =
         opened ∙ if-gt (length (index_of debug rs (listed (entries s)))) (length old) (good (index_of debug rs (listed (entries s)))) (bad 54) (omega (arith, twice)) in
         record { answered = rw q refl; stored = rw q refl }
 
     pub index_there : {new : List ℕ} → n ≤ length old / 2 → new ≡ put old 0 (index_of debug rs (listed (entries s)))
-        → Indexes whole (record { number = 0; records = n }) old new
-    unfolding index_in onward or_else indexed_as list_after
+        → Stores whole (Ok n) old new
+    unfolding index_in onward or_else counted list_after
     index_there h e =
         let q : whole ≡ good (index_of debug rs (listed (entries s))) =
         opened ∙ if-le (length (index_of debug rs (listed (entries s)))) (length old) (good (index_of debug rs (listed (entries s)))) (bad 54) (omega (arith, twice)) in

@@ -8,8 +8,10 @@ use Rattle.reader.specs.Spans.{entry_in, entries_from, listed, Ends}
 use Rattle.reader.proofs.Tiling.{tiled_end}
 use Rattle.reader.proofs.Whole.{tiled}
 use Rattle.reader.proofs.Seeking.{absent}
-use Rattle.reads.specs.Addresses.{function_of, holds, holder_from, holder_as, holder_in}
-use Rattle.reads.specs.declared.Holder.{Holder}
+use Rattle.reads.specs.Addresses.{function_of, holds, holder_from, holder_in}
+use Rattle.std.specs.Prelude.{Ok, Err}
+use Rattle.std.specs.Prelude as code
+use Rattle.format.specs.Coded.{result_of}
 
 pub record Passing {A : Type 0} (s : List ℕ) (ask rest : List Entry → A) (at : ℕ) : Type 0 where
   pub inside : at ≤ length s
@@ -86,19 +88,19 @@ module _ (s : List ℕ) (debug : Bool) (word address pc : ℕ) where
   abbrev pub holding_pc : Entry → Bool
   holding_pc e = holds pc (function_of debug word address e)
 
-  abbrev answer : Holder
-  answer = holder_as (holder_in debug word address pc s)
+  abbrev answer : code.Result (ℕ × ℕ) ℕ
+  answer = result_of (holder_in debug word address pc s)
 
-  pub holder_untiled : is_some (entries s) ≡ false → holder_as (bad 61) ≡ answer
+  pub holder_untiled : is_some (entries s) ≡ false → Err 61 ≡ answer
   unfolding holder_in onward or_else
   holder_untiled e = rw (absent (entries s) e) refl
 
   module _ (t : is_some (entries s) ≡ true) where
-    pub holder_none : holders_from debug holding_pc 0 (listed (entries s)) ≡ none → holder_as (bad 62) ≡ answer
+    pub holder_none : holders_from debug holding_pc 0 (listed (entries s)) ≡ none → Err 62 ≡ answer
     unfolding holder_in onward or_else
     holder_none e = rw (tiled (entries s) t, e) refl
 
     pub holder_there : {k at : ℕ} → holders_from debug holding_pc 0 (listed (entries s)) ≡ some (k, at)
-        → ◌≡◌ {A = Holder} (record { number = 0; k = k; place = at }) answer
-    unfolding holder_in onward or_else holder_as
+        → Ok (k, at) ≡ answer
+    unfolding holder_in onward or_else
     holder_there e = rw (tiled (entries s) t, e) refl

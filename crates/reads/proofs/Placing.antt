@@ -11,15 +11,15 @@ use Rattle.format.specs.Answers.{bit}
 use Rattle.format.specs.Reader.{Entry, Found, read_entry, entries, records, parsed}
 use Rattle.reader.specs.Spans.{part, entry_in, listed, Stands, Spans}
 use Rattle.reader.specs.Finds.{Stated}
-use Rattle.reader.specs.declared.entries.Span.{Span}
-use Rattle.reader.specs.declared.entries.Span.TheVariants as span
 use Rattle.reader.specs.declared.location.Located as reader
 use Rattle.reader.proofs.Whole.{tiled, spans, spans_none}
 use Rattle.reader.proofs.Seeking.{absent}
-use Rattle.std.specs.Prelude.{Ok, Err}
+use Rattle.std.specs.Prelude.{Some, None, Ok, Err}
+use Rattle.std.specs.Prelude as code
+use Rattle.format.specs.Coded.{result_of}
+use Rattle.reads.specs.Standing.{numbered}
 use Rattle.reader.specs.Spans.{end_at}
 use Rattle.reader.specs.Finds.{rules_from, shortest_from}
-use Rattle.reader.specs.declared.entries.Number.TheVariants as number
 use Rattle.reader.proofs.Tiling.{entered, none_read}
 use Rattle.reads.specs.Addresses.{entry_at}
 use Rattle.reads.specs.Index.{locate_in, locate_at}
@@ -42,31 +42,31 @@ module _ (kind word : ℕ) where
   asked_word e = let t : T (is_word_size word && leb kind 1) = rw e tt in (and_yes (is_word_size word) (leb kind 1) t).0
 
 module _ (section relocations : List ℕ) (kind word k : ℕ) where
-  pub locate_unasked : asked kind word ≡ false → refused 11 ≡ locate_record section relocations kind word k
-  unfolding locate_record pick located_as
+  pub locate_unasked : asked kind word ≡ false → located_as (Err 11) ≡ locate_record section relocations kind word k
+  unfolding locate_record pick
   locate_unasked e = rw e refl
 
-  pub locate_asked : asked kind word ≡ true → located_as (locate_nth (eqb kind 1) (relocations_of relocations) word k section) ≡ locate_record section relocations kind word k
+  pub locate_asked : asked kind word ≡ true → located_as (result_of (locate_nth (eqb kind 1) (relocations_of relocations) word k section)) ≡ locate_record section relocations kind word k
   unfolding locate_record pick
   locate_asked e = rw e refl
 
 module _ (section : List ℕ) (kind word place header : ℕ) where
-  pub at_unasked : asked kind word ≡ false → refused 11 ≡ locate_at section kind word place header
-  unfolding locate_at pick located_as
+  pub at_unasked : asked kind word ≡ false → located_as (Err 11) ≡ locate_at section kind word place header
+  unfolding locate_at pick
   at_unasked e = rw e refl
 
-  pub at_asked : asked kind word ≡ true → located_as (locate_in (eqb kind 1) word section place header) ≡ locate_at section kind word place header
+  pub at_asked : asked kind word ≡ true → located_as (result_of (locate_in (eqb kind 1) word section place header)) ≡ locate_at section kind word place header
   unfolding locate_at pick
   at_asked e = rw e refl
 
 -- ---- the entry at a place
 
 module _ (s : List ℕ) (p : ℕ) where
-  pub entry_none : end_at s p ≡ number.Nothing → entry_at s p ≡ none
+  pub entry_none : end_at s p ≡ None → entry_at s p ≡ none
   unfolding entry_at end_at next
   entry_none e = rw (none_read s (read_entry (drop p s)) e) refl
 
-  pub entry_here : {q : ℕ} → end_at s p ≡ number.Is q → entry_at s p ≡ some (entry_in s p q)
+  pub entry_here : {q : ℕ} → end_at s p ≡ Some q → entry_at s p ≡ some (entry_in s p q)
   unfolding entry_at next
   entry_here e = rw (entered s p e).read refl
 
@@ -74,22 +74,6 @@ module _ (s : List ℕ) (p : ℕ) where
 
 part_length : (s : List ℕ) (a b : ℕ) → a ≤ b → b ≤ length s → length (part s a b) ≡ b - a
 part_length s a b h l = length-take-le (b - a) (drop a s) (omega (arith, length-drop a s))
-
--- the numbers of what the reader located
-abbrev numbered : reader.Located → Located
-numbered l =
-    record {
-      number = 0;
-      header = l.header;
-      header_end = l.header_end;
-      «record» = l.record;
-      record_end = l.record_end;
-      length = l.size;
-      pointer = l.pointer;
-      signal = bit l.signal;
-      word = l.word;
-      shortest = bit l.shortest;
-    }
 
 pub end_in : (s : List ℕ) (at end : ℕ) → at + 8 ≤ end → end ≤ length s → end_of (entry_in s at end) ≡ end
 unfolding end_of
@@ -106,13 +90,13 @@ module _ (s : List ℕ) (debug : Bool) (word cie past at end : ℕ) where
   abbrev whole : Result Located
   whole = locate_entries debug word (entry_in s cie past) (entry_in s at end)
 
-  pub entries_refused : {n : ℕ} → fields ≡ bad n → refused n ≡ located_as whole
-  unfolding locate_entries onward located_as
+  pub entries_refused : {n : ℕ} → fields ≡ bad n → Err n ≡ result_of whole
+  unfolding locate_entries onward
   entries_refused e = rw e refl
 
   pub entries_located : cie + 8 ≤ past → past ≤ length s → at + 8 ≤ end → end ≤ length s → {l : reader.Located} → Stated s word l fields
-      → l.header_end ≡ past → l.record_end ≡ end → numbered l ≡ located_as whole
-  unfolding locate_entries onward located_as places_of
+      → l.header_end ≡ past → l.record_end ≡ end → Ok (numbered l) ≡ result_of whole
+  unfolding locate_entries onward places_of numbered
   entries_located h₁ h₂ h₃ h₄ {l} x e f =
       rw (
         x.answer,
@@ -129,59 +113,59 @@ module _ (s : List ℕ) (debug : Bool) (word cie past at end : ℕ) where
 -- ---- 61, 62 and 63
 
 module _ (s : List ℕ) (rs : List Relocation) (debug : Bool) (word k : ℕ) where
-  abbrev located : Located
-  located = located_as (locate_nth debug rs word k s)
+  abbrev located : code.Result Located ℕ
+  located = result_of (locate_nth debug rs word k s)
 
-  pub nth_untiled : is_some (entries s) ≡ false → refused 61 ≡ located
-  unfolding locate_nth onward or_else located_as
+  pub nth_untiled : is_some (entries s) ≡ false → Err 61 ≡ located
+  unfolding locate_nth onward or_else
   nth_untiled e = rw (absent (entries s) e) refl
 
   abbrev es : List Entry
   es = listed (entries s)
 
-  module _ (t : is_some (entries s) ≡ true) {r : Span} (m : Spans s r (get_elem? (records debug es) k)) where
-    pub nth_missing : r ≡ span.Nothing → refused 62 ≡ located
-    unfolding locate_nth onward or_else located_as
+  module _ (t : is_some (entries s) ≡ true) {r : code.Option (ℕ × ℕ)} (m : Spans s r (get_elem? (records debug es) k)) where
+    pub nth_missing : r ≡ None → Err 62 ≡ located
+    unfolding locate_nth onward or_else
     nth_missing q = rw (tiled (entries s) t, spans_none s (get_elem? (records debug es) k) m q) refl
 
-    module _ {a e : ℕ} (q : r ≡ span.At a e) where
+    module _ {a e : ℕ} (q : r ≡ Some (a, e)) where
       pub record_stands : Stands s a e (get_elem? (records debug es) k)
       record_stands = spans s (get_elem? (records debug es) k) m q
 
-      module _ {r' : Span} (m' : Spans s r' (header_of debug rs es (entry_in s a e))) where
-        pub nth_headless : r' ≡ span.Nothing → refused 63 ≡ located
-        unfolding locate_nth onward or_else located_as
+      module _ {r' : code.Option (ℕ × ℕ)} (m' : Spans s r' (header_of debug rs es (entry_in s a e))) where
+        pub nth_headless : r' ≡ None → Err 63 ≡ located
+        unfolding locate_nth onward or_else
         nth_headless q' = rw (tiled (entries s) t, record_stands.found, spans_none s (header_of debug rs es (entry_in s a e)) m' q') refl
 
-        module _ {c p : ℕ} (q' : r' ≡ span.At c p) where
+        module _ {c p : ℕ} (q' : r' ≡ Some (c, p)) where
           pub header_stands : Stands s c p (header_of debug rs es (entry_in s a e))
           header_stands = spans s (header_of debug rs es (entry_in s a e)) m' q'
 
-          pub nth_rest : located_as (locate_entries debug word (entry_in s c p) (entry_in s a e)) ≡ located
+          pub nth_rest : result_of (locate_entries debug word (entry_in s c p) (entry_in s a e)) ≡ located
           unfolding locate_nth onward or_else
           nth_rest = rw (tiled (entries s) t, record_stands.found, header_stands.found) refl
 
 -- ---- by places
 
 module _ (s : List ℕ) (debug : Bool) (word at cie : ℕ) where
-  abbrev there : Located
-  there = located_as (locate_in debug word s at cie)
+  abbrev there : code.Result Located ℕ
+  there = result_of (locate_in debug word s at cie)
 
-  pub at_behind : at ≤ cie → refused 63 ≡ there
-  unfolding locate_in pick located_as
+  pub at_behind : at ≤ cie → Err 63 ≡ there
+  unfolding locate_in pick
   at_behind h = rw (le-ltb cie at h) refl
 
   module _ (h : cie < at) where
-    pub at_headless : end_at s cie ≡ number.Nothing → refused 64 ≡ there
-    unfolding locate_in pick onward or_else located_as
+    pub at_headless : end_at s cie ≡ None → Err 64 ≡ there
+    unfolding locate_in pick onward or_else
     at_headless e = rw (lt-ltb cie at h, entry_none s cie e) refl
 
-    module _ {past : ℕ} (e : end_at s cie ≡ number.Is past) where
-      pub at_missing : end_at s at ≡ number.Nothing → refused 64 ≡ there
-      unfolding locate_in pick onward or_else located_as
+    module _ {past : ℕ} (e : end_at s cie ≡ Some past) where
+      pub at_missing : end_at s at ≡ None → Err 64 ≡ there
+      unfolding locate_in pick onward or_else
       at_missing f = rw (lt-ltb cie at h, entry_here s cie e, entry_none s at f) refl
 
-      pub at_both : {end : ℕ} → end_at s at ≡ number.Is end → located_as (locate_entries debug word (entry_in s cie past) (entry_in s at end)) ≡ there
+      pub at_both : {end : ℕ} → end_at s at ≡ Some end → result_of (locate_entries debug word (entry_in s cie past) (entry_in s at end)) ≡ there
       unfolding locate_in pick onward or_else
       at_both f = rw (lt-ltb cie at h, entry_here s cie e, entry_here s at f) refl
 

@@ -6,8 +6,8 @@ use Rattle.format.specs.Prelude.{pick, next, after, first}
 use Rattle.format.specs.Reader.{Entry, entries, records, is_header}
 use Rattle.format.proofs.Choice.{either}
 use Rattle.reader.specs.Spans.{entry_in, entries_from, listed, end_at}
-use Rattle.reader.specs.declared.entries.Number.{Number}
-use Rattle.reader.specs.declared.entries.Number.TheVariants.{Is, Nothing}
+use Rattle.std.specs.Prelude.{Some, None}
+use Rattle.std.specs.Prelude as code
 use Rattle.reader.proofs.Tiling.{Entered, entered, tiled_end, tiled_none, tiled_more}
 use Rattle.reads.specs.Addresses.{entry_at}
 
@@ -27,11 +27,11 @@ module _ (s : List ℕ) where
   behind_one e none k a = tt
   behind_one e (some es) k a = (k, a)
 
-  from_end : (p : ℕ) (o : Number) → end_at s p ≡ o → p < length s → ((q : ℕ) → p < q → q ≤ length s → AllStand s (listed (entries_from s q)))
+  from_end : (p : ℕ) (o : code.Option ℕ) → end_at s p ≡ o → p < length s → ((q : ℕ) → p < q → q ≤ length s → AllStand s (listed (entries_from s q)))
       → AllStand s (listed (entries_from s p))
   unfolding listed
-  from_end p Nothing e h more = rw (tiled_none s p h e) tt
-  from_end p (Is q) e h more =
+  from_end p None e h more = rw (tiled_none s p h e) tt
+  from_end p (Some q) e h more =
       let a = entered s p e in
       rw (tiled_more s p h e)
       (behind_one (entry_in s p q) (entries_from s q) (record { end = q; there = a; same = refl }) (more q (omega (arith, a.long)) a.inside))

@@ -1,5 +1,7 @@
 -- The function of a record by the record's own fields (LSB Core, "Exception Frames": PC Begin and PC Range; DWARF 4, 6.4.1: initial_location and address_range), and the record that holds an address.
-use Rattle.std.specs.Prelude.{ℕ, suc, ◌+◌, ◌-◌, ◌*◌, ◌%◌, ◌^◌, Bool, true, false, not, ◌&&◌, List, [], ◌∷◌, drop, ◌==◌, nat_le, nat_lt}
+use Rattle.std.specs.Prelude.{ℕ, suc, ◌+◌, ◌-◌, ◌*◌, ◌%◌, ◌^◌, Bool, true, false, not, ◌&&◌, List, [], ◌∷◌, drop, ◌==◌, nat_le, nat_lt, Ok, Err}
+use Rattle.std.specs.Prelude as code
+use Rattle.format.specs.Coded.{result_of}
 use Rattle.std.proofs.Math.Option.{Option, none, some}
 use Rattle.format.specs.Prelude.{pick, next, after, Result, good, bad, onward, or_else}
 use Rattle.format.specs.Leb.{read_little}
@@ -32,19 +34,20 @@ unfoldable pub function_of : (debug : Bool) (word address : ℕ) → Entry → O
 function_of debug word address e =
     after (function_fields debug word e.body) λ f. some (start_of debug word address e.at f.0, f.1)
 
-unfoldable pub unplaced : ℕ → Placed
-unplaced n = record { number = n; address = 0; length = 0 }
+-- 64: no record with these fields stands there
+unfoldable pub function_found : (debug : Bool) (word address place : ℕ) → List ℕ → Result (ℕ × ℕ)
+function_found debug word address place section =
+    or_else (after (entry_at section place) λ e. require (not (is_header debug e)) (function_of debug word address e)) 64
 
-unfoldable pub placed_as : Option (ℕ × ℕ) → Placed
-placed_as none = unplaced 64
-placed_as (some f) = record { number = 0; address = f.0; length = f.1 }
+-- as the export answers it
+unfoldable pub placed_as : code.Result (ℕ × ℕ) ℕ → Placed
+placed_as (Ok f) = record { number = 0; address = f.0; length = f.1 }
+placed_as (Err n) = record { number = n; address = 0; length = 0 }
 
--- 11; 64: no record with these fields stands there
+-- 11 in front of it
 unfoldable pub function_at : (section : List ℕ) (kind word address place : ℕ) → Placed
 function_at section kind word address place =
-    pick (asked kind word)
-    (placed_as (after (entry_at section place) λ e. require (not (is_header (kind == 1) e)) (function_of (kind == 1) word address e)))
-    (unplaced 11)
+    placed_as (result_of (pick (asked kind word) (function_found (kind == 1) word address place section) (bad 11)))
 
 -- ---- the record that holds an address
 
@@ -58,9 +61,10 @@ unfoldable pub holder_from : (Entry → Bool) → ℕ → List Entry → Option 
 holder_from test k [] = none
 holder_from test k (e ∷ es) = pick (test e) (some (k, e.at)) (holder_from test (suc k) es)
 
-unfoldable pub holder_as : Result (ℕ × ℕ) → Holder
-holder_as (good h) = record { number = 0; k = h.0; place = h.1 }
-holder_as (bad n) = record { number = n; k = 0; place = 0 }
+-- as the export answers it
+unfoldable pub holder_as : code.Result (ℕ × ℕ) ℕ → Holder
+holder_as (Ok h) = record { number = 0; k = h.0; place = h.1 }
+holder_as (Err n) = record { number = n; k = 0; place = 0 }
 
 unfoldable pub holder_in : (debug : Bool) (word address pc : ℕ) → List ℕ → Result (ℕ × ℕ)
 holder_in debug word address pc section =
@@ -69,4 +73,4 @@ holder_in debug word address pc section =
 
 -- 11, 61; 62 where no record holds the address
 unfoldable pub record_of : (section : List ℕ) (kind word address pc : ℕ) → Holder
-record_of section kind word address pc = holder_as (pick (asked kind word) (holder_in (kind == 1) word address pc section) (bad 11))
+record_of section kind word address pc = holder_as (result_of (pick (asked kind word) (holder_in (kind == 1) word address pc section) (bad 11)))

@@ -1,5 +1,7 @@
 -- The places of all records and of their headers, and a record located by such places: no pass over the section (questions 11, 61, 63, 64; 54 where the lent list is too short).
-use Rattle.std.specs.Prelude.{ℕ, ◌-◌, ◌/◌, ◌^◌, Bool, List, [], ◌∷◌, length, ◌==◌, nat_le, nat_lt}
+use Rattle.std.specs.Prelude.{ℕ, ◌-◌, ◌/◌, ◌^◌, Bool, List, [], ◌∷◌, length, ◌==◌, nat_le, nat_lt, Ok, Err}
+use Rattle.std.specs.Prelude as code
+use Rattle.format.specs.Coded.{result_of}
 use Rattle.std.proofs.Math.Option.{Option, none, some}
 use Rattle.format.specs.Prelude.{pick, Result, good, bad, onward, or_else}
 use Rattle.format.specs.Put.{put}
@@ -36,9 +38,15 @@ unfoldable pub index : (section relocations : List ℕ) (kind word room : ℕ) �
 index section relocations kind word room =
     pick (asked kind word) (index_in (kind == 1) (relocations_of relocations) room section) (bad 11)
 
-unfoldable pub indexed_as : Result (List ℕ) → Indexed
-indexed_as (good ns) = record { number = 0; records = length ns / 2 }
-indexed_as (bad n) = record { number = n; records = 0 }
+-- how many records these are
+unfoldable pub counted : Result (List ℕ) → Result ℕ
+counted (good ns) = good (length ns / 2)
+counted (bad n) = bad n
+
+-- as the export answers it
+unfoldable pub indexed_as : code.Result ℕ ℕ → Indexed
+indexed_as (Ok n) = record { number = 0; records = n }
+indexed_as (Err n) = record { number = n; records = 0 }
 
 -- the lent list at exit: the numbers at its front and the rest as it was; on a refusal it is unchanged
 unfoldable pub list_after : Result (List ℕ) → List ℕ → List ℕ
@@ -55,4 +63,4 @@ locate_in debug word section place header =
     (bad 63)
 
 unfoldable pub locate_at : (section : List ℕ) (kind word place header : ℕ) → Located
-locate_at section kind word place header = located_as (pick (asked kind word) (locate_in (kind == 1) word section place header) (bad 11))
+locate_at section kind word place header = located_as (result_of (pick (asked kind word) (locate_in (kind == 1) word section place header) (bad 11)))

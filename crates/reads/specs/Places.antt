@@ -7,8 +7,9 @@ use Rattle.format.specs.Machine.{is_word_size}
 use Rattle.format.specs.Lists.{Relocation, relocations_of}
 use Rattle.format.specs.Answers.{bit}
 use Rattle.format.specs.Reader.{Entry, entries, records, header_place, header_at, Found, parsed}
-use Rattle.format.specs.Coded.{Reading}
+use Rattle.format.specs.Coded.{result_of, Reading}
 use Rattle.std.specs.Prelude.{Ok, Err}
+use Rattle.std.specs.Prelude as code
 use Rattle.reader.specs.Finds.{rules_from}
 use Rattle.reader.specs.declared.location.Located as reader
 use Rattle.reads.specs.declared.Located.{Located}
@@ -44,9 +45,10 @@ places_of word h e x =
 unfoldable pub refused : ℕ → Located
 refused n = record { number = n; header = 0; header_end = 0; «record» = 0; record_end = 0; length = 0; pointer = 0; signal = 0; word = 0; shortest = 0 }
 
-unfoldable pub located_as : Result Located → Located
-located_as (good l) = l
-located_as (bad n) = refused n
+-- as an export answers it
+unfoldable pub located_as : code.Result Located ℕ → Located
+located_as (Ok l) = l
+located_as (Err n) = refused n
 
 -- 64, of the header and then of the record
 unfoldable pub locate_entries : (debug : Bool) → ℕ → (header found : Entry) → Result Located
@@ -66,7 +68,7 @@ locate_nth debug rs word k section =
 
 unfoldable pub locate_record : (section relocations : List ℕ) (kind word k : ℕ) → Located
 locate_record section relocations kind word k =
-    located_as (pick (asked kind word) (locate_nth (kind == 1) (relocations_of relocations) word k section) (bad 11))
+    located_as (result_of (pick (asked kind word) (locate_nth (kind == 1) (relocations_of relocations) word k section) (bad 11)))
 
 -- ---- the rules from there
 

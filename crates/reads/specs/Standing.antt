@@ -1,18 +1,31 @@
 -- What the code's answers and what it carries mean, for the contracts of its functions.
 use Rattle.std.specs.Prelude.{◌≡◌, ℕ, ◌^◌, ◌<◌, ◌≤◌, Bool, List}
-use Rattle.std.proofs.Math.Option.{Option, none, some}
+use Rattle.std.specs.Prelude as code
 use Rattle.format.specs.Prelude.{Result}
+use Rattle.format.specs.Coded.{result_of}
+use Rattle.format.specs.Answers.{bit}
 use Rattle.format.specs.Reader.{Entry, header_at}
+use Rattle.reader.specs.declared.location.Located as reader
 use Rattle.reader.proofs.Seeking.{Searching}
-use Rattle.reads.specs.Index.{place_or, indexed_as, list_after}
+use Rattle.reads.specs.Index.{place_or, counted, indexed_as, list_after}
 use Rattle.reads.specs.declared.Indexed.{Indexed}
-use Rattle.reads.specs.declared.addresses.Function.{Function}
-use Rattle.reads.specs.declared.addresses.Function.TheVariants as function
+use Rattle.reads.specs.declared.Located.{Located}
 
--- the fields of a function's place and length, where they could be read
-unfoldable pub fields_as : Option (ℕ × ℕ) → Function
-fields_as none = function.Bad
-fields_as (some f) = function.Fields f.0 f.1
+-- the numbers of what the reader located
+unfoldable pub numbered : reader.Located → Located
+numbered l =
+    record {
+      number = 0;
+      header = l.header;
+      header_end = l.header_end;
+      «record» = l.«record»;
+      record_end = l.record_end;
+      length = l.size;
+      pointer = l.pointer;
+      signal = bit l.signal;
+      word = l.word;
+      shortest = bit l.shortest;
+    }
 
 -- a header starts at a place, for any record behind it; it is none where no record is behind it
 pub record Headed (debug : Bool) (es : List Entry) (place : ℕ) : Type 0 where
@@ -22,7 +35,12 @@ pub record Headed (debug : Bool) (es : List Entry) (place : ℕ) : Type 0 where
 pub record Skipped (xs : List ℕ) (place i : ℕ) : Type 0 where
   pub searching : (q : ℕ) → place ≤ q → Searching xs q i
 
--- an index is answered, and stored in a lent list
+-- an index is counted, and stored in a lent list
+pub record Stores (a : Result (List ℕ)) (r : code.Result ℕ ℕ) (old new : List ℕ) : Type 0 where
+  pub answered : r ≡ result_of (counted a)
+  pub stored : new ≡ list_after a old
+
+-- the same of what the export answers
 pub record Indexes (a : Result (List ℕ)) (r : Indexed) (old new : List ℕ) : Type 0 where
-  pub answered : r ≡ indexed_as a
+  pub answered : r ≡ indexed_as (result_of (counted a))
   pub stored : new ≡ list_after a old

@@ -4,27 +4,19 @@ ghost use Rattle.format.specs.Put.{put};
 ghost use Rattle.format.specs.Lists.{relocations_of};
 ghost use Rattle.format.specs.Questions.{is_some};
 ghost use Rattle.format.specs.Reader.{first_addend, header_place, records, entries};
-ghost use Rattle.reader.specs.Spans.{entry_in, listed, number_of};
+ghost use Rattle.format.specs.Coded.{option_of};
+ghost use Rattle.reader.specs.Spans.{entry_in, listed};
 ghost use Rattle.reader.proofs.Seeking.{Searching};
 ghost use Rattle.section_check.specs.Places.{Marks};
 ghost use Rattle.reads.specs.Places.{header_of};
 ghost use Rattle.reads.specs.Index.{place_or, index_of, index_in};
-ghost use Rattle.reads.specs.Standing.{Skipped, Headed, Indexes};
-
-use crate::Indexed;
-use reader::entries::{Number, Span};
+ghost use Rattle.reads.specs.Standing.{Skipped, Headed, Stores};
 
 // A section has so many marks: half of those of section_check, since a frame above some 32 KiB is compiled wrong (docs/DECISIONS.md, D86).
 const MARKS: usize = 1024;
 
 // The place of no header.
 const NOWHERE: usize = 0xffffffffffffffff;
-
-pub fn unindexed(number: u64) -> Indexed
-    ensures { result ≡ record { number = number; records = 0 } }
-{
-    Indexed { number, records: 0 }
-}
 
 // How many records there are.
 fn count(s: &[u8], debug: bool) -> usize
@@ -54,38 +46,34 @@ fn skipped(relocs: &[u64], debug: bool, place: u64, from: usize) -> usize
         return from;
     }
     let n = relocs.len() / relocs::RELOCATION_STRIDE;
-    let mut i = from;
-    while i < n {
+    for i in from..n {
         if place <= relocs[relocs::RELOCATION_STRIDE * i] {
             return i;
         }
-        i += 1;
     }
-    i
+    n
 }
 
 // The addend of the first relocation at a place, which none in front of the i-th has.
-fn addend_from(relocs: &[u64], place: u64, from: usize) -> Number
+fn addend_from(relocs: &[u64], place: u64, from: usize) -> Option<usize>
     requires { Searching relocs.now place from }
-    ensures { result ≡ number_of (first_addend place (relocations_of relocs.now)) }
+    ensures { result ≡ option_of (first_addend place (relocations_of relocs.now)) }
 {
     let n = relocs.len() / relocs::RELOCATION_STRIDE;
-    let mut i = from;
-    while i < n {
+    for i in from..n {
         if relocs[relocs::RELOCATION_STRIDE * i] == place {
-            return Number::Is(
+            return Some(
                 relocs[relocs::RELOCATION_STRIDE * i + relocs::RELOCATION_ADDEND] as usize,
             );
         }
-        i += 1;
     }
-    Number::Nothing
+    None
 }
 
 // Where the header of the record from `at` to `end` starts, as its second field says or, in debug_frame, that field's relocation.
-fn header_place(s: &[u8], relocs: &[u64], debug: bool, at: usize, end: usize, from: usize) -> Number
+fn header_place(s: &[u8], relocs: &[u64], debug: bool, at: usize, end: usize, from: usize) -> Option<usize>
     requires { (at + 8 ≤ end) × (end ≤ length s.now) × Searching relocs.now (at + 4) from }
-    ensures { result ≡ number_of (header_place debug (relocations_of relocs.now) (entry_in s.now at end)) }
+    ensures { result ≡ option_of (header_place debug (relocations_of relocs.now) (entry_in s.now at end)) }
 {
     if debug {
         return addend_from(relocs, (at + 4) as u64, from);
@@ -109,7 +97,7 @@ fn header_start(
     requires { (at + 8 ≤ end) × (end ≤ length s.now) × T (is_some (entries s.now)) × Headed debug (listed (entries s.now)) last × Searching relocs.now (at + 4) from × (0 < step) × Marks s.now marks.now }
     ensures { (result ≡ place_or (header_of debug (relocations_of relocs.now) (listed (entries s.now)) (entry_in s.now at end))) × Headed debug (listed (entries s.now)) result }
 {
-    let Number::Is(place) = header_place(s, relocs, debug, at, end, from) else {
+    let Some(place) = header_place(s, relocs, debug, at, end, from) else {
         return NOWHERE;
     };
     if at <= place {
@@ -119,7 +107,7 @@ fn header_start(
         return place;
     }
     let mark = section_check::mark_before(marks, step, place);
-    let Span::At(cie, _) = section_check::header_from(s, debug, mark, place, at) else {
+    let Some((cie, _)) = section_check::header_from(s, debug, mark, place, at) else {
         return NOWHERE;
     };
     cie
@@ -152,20 +140,17 @@ fn fill(s: &[u8], relocs: &[u64], debug: bool, places: &mut [u64])
     }
 }
 
-// Questions 61 and 54, and the index.
-pub fn index_in(s: &[u8], relocs: &[u64], debug: bool, places: &mut [u64]) -> Indexed
-    ensures { Indexes (index_in debug (relocations_of relocs.now) (length places.old) s.now) result places.old places.new }
+// Questions 61 and 54, and the index: how many records there are.
+pub fn index_in(s: &[u8], relocs: &[u64], debug: bool, places: &mut [u64]) -> Result<usize, u64>
+    ensures { Stores (index_in debug (relocations_of relocs.now) (length places.old) s.now) result places.old places.new }
 {
     if !reader::entries::tiles(s) {
-        return unindexed(61);
+        return Err(61);
     }
     let n = count(s, debug);
     if places.len() / 2 < n {
-        return unindexed(54);
+        return Err(54);
     }
     fill(s, relocs, debug, places);
-    Indexed {
-        number: 0,
-        records: n as u64,
-    }
+    Ok(n)
 }

@@ -6,14 +6,13 @@ ghost use Rattle.std.specs.Prelude.{◌≡◌, length};
 ghost use Rattle.format.specs.Answers.{marked_numbers};
 ghost use Rattle.format.specs.Reader.{read};
 ghost use Rattle.unwind.specs.Entries.{read_numbers};
-ghost use Rattle.reads.specs.Places.{asked, locate_record, reader_places, rules_of};
+ghost use Rattle.reads.specs.Places.{asked, located_as, locate_record, reader_places, rules_of};
 ghost use Rattle.reader.specs.Finds.{shortest_from};
-ghost use Rattle.reads.specs.Addresses.{function_at, record_of};
-ghost use Rattle.reads.specs.Index.{index, locate_at};
+ghost use Rattle.reads.specs.Addresses.{placed_as, function_at, holder_as, record_of};
+ghost use Rattle.reads.specs.Index.{index, indexed_as, locate_at};
 ghost use Rattle.reads.specs.Standing.{Indexes};
 
 use format::Rules;
-use reader::entries::Number;
 use unwind::Numbers;
 
 pub mod addresses;
@@ -64,14 +63,86 @@ pub struct Indexed {
     pub records: u64,
 }
 
+// ---- the exports' answers, by what was found
+
+#[tactic(auto, unfolding(crate::specs::Places::located_as, crate::specs::Places::refused))]
+fn located(found: Result<Located, u64>) -> Located
+    ensures { result ≡ located_as found }
+{
+    match found {
+        Ok(l) => l,
+        Err(number) => Located {
+            number,
+            header: 0,
+            header_end: 0,
+            record: 0,
+            record_end: 0,
+            length: 0,
+            pointer: 0,
+            signal: 0,
+            word: 0,
+            shortest: 0,
+        },
+    }
+}
+
+#[tactic(auto, unfolding(crate::specs::Addresses::placed_as))]
+fn placed(found: Result<(u64, u64), u64>) -> Placed
+    ensures { result ≡ placed_as found }
+{
+    match found {
+        Ok((address, length)) => Placed {
+            number: 0,
+            address,
+            length,
+        },
+        Err(number) => Placed {
+            number,
+            address: 0,
+            length: 0,
+        },
+    }
+}
+
+#[tactic(auto, unfolding(crate::specs::Addresses::holder_as))]
+fn holder(found: Result<(u64, u64), u64>) -> Holder
+    ensures { result ≡ holder_as found }
+{
+    match found {
+        Ok((k, place)) => Holder {
+            number: 0,
+            k,
+            place,
+        },
+        Err(number) => Holder {
+            number,
+            k: 0,
+            place: 0,
+        },
+    }
+}
+
+#[tactic(auto, unfolding(crate::specs::Index::indexed_as))]
+fn indexed(found: Result<usize, u64>) -> Indexed
+    ensures { result ≡ indexed_as found }
+{
+    match found {
+        Ok(n) => Indexed {
+            number: 0,
+            records: n as u64,
+        },
+        Err(number) => Indexed { number, records: 0 },
+    }
+}
+
+// ---- the exports
+
 // Question 11.
+#[tactic(auto, unfolding(crate::specs::Places::asked))]
 fn asked(kind: u64, word: u64) -> bool
     ensures { result ≡ asked kind word }
 {
-    if !numbers::is_word(word) {
-        return false;
-    }
-    kind <= 1
+    numbers::is_word(word) && kind <= 1
 }
 
 #[unsafe(no_mangle)]
@@ -85,9 +156,9 @@ pub extern "C" fn unwind_locate(
     ensures { result ≡ locate_record section.now relocations.now kind word k }
 {
     if !asked(kind, word) {
-        return places::refused(11);
+        return located(Err(11));
     }
-    places::locate_nth(section, relocations, kind == 1, word, k)
+    located(places::locate_nth(section, relocations, kind == 1, word, k))
 }
 
 // The numbers as the reader takes them.
@@ -160,16 +231,9 @@ pub extern "C" fn unwind_function_at(
     ensures { result ≡ function_at section.now kind word address «record» }
 {
     if !asked(kind, word) {
-        return addresses::unplaced(11);
+        return placed(Err(11));
     }
-    let at = record as usize;
-    let Number::Is(end) = reader::entries::entry_end(section, at) else {
-        return addresses::unplaced(64);
-    };
-    if reader::entries::is_header(section, at, end, kind == 1) {
-        return addresses::unplaced(64);
-    }
-    addresses::function_of(section, kind == 1, word, address, at, end)
+    placed(addresses::function_at(section, kind == 1, word, address, record as usize))
 }
 
 #[unsafe(no_mangle)]
@@ -183,9 +247,9 @@ pub extern "C" fn unwind_record_of(
     ensures { result ≡ record_of section.now kind word address pc }
 {
     if !asked(kind, word) {
-        return addresses::nowhere(11);
+        return holder(Err(11));
     }
-    addresses::holder_in(section, kind == 1, word, address, pc)
+    holder(addresses::holder_in(section, kind == 1, word, address, pc))
 }
 
 #[unsafe(no_mangle)]
@@ -199,9 +263,9 @@ pub extern "C" fn unwind_index(
     ensures { Indexes (index section.now relocations.now kind word (length places.old)) result places.old places.new }
 {
     if !asked(kind, word) {
-        return index::unindexed(11);
+        return indexed(Err(11));
     }
-    index::index_in(section, relocations, kind == 1, places)
+    indexed(index::index_in(section, relocations, kind == 1, places))
 }
 
 #[unsafe(no_mangle)]
@@ -215,7 +279,13 @@ pub extern "C" fn unwind_locate_at(
     ensures { result ≡ locate_at section.now kind word «record» header }
 {
     if !asked(kind, word) {
-        return places::refused(11);
+        return located(Err(11));
     }
-    places::locate_at(section, kind == 1, word, record as usize, header as usize)
+    located(places::locate_at(
+        section,
+        kind == 1,
+        word,
+        record as usize,
+        header as usize,
+    ))
 }

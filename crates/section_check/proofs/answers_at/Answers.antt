@@ -12,10 +12,10 @@ parse-requires c =
     (c.requires.0, h.long, h.inside, c.requires.1, c.requires.2)
 
 pub returns-in_default-parse : goal.returns-in_default-parse
-returns-in_default-parse c = unparsed c.args.s.now c.args.word c.args.at c.args.end c.args.p c.header_of.ensures c.in-Some.is c.parse.ensures c.in_default-parse.is
+returns-in_default-parse c = unparsed c.args.s.now c.args.word c.args.at c.args.end c.args.p c.header_of.ensures c.in-Some.is c.parse.ensures.located c.in_default-parse.is
 
 pub returns : goal.returns
 returns c =
     c.is_ok.ensures.value
     ∙ ok_answers c.rules_at.result
-    ∙ answered_in c.args.s.now c.args.word c.args.at c.args.end c.args.p c.header_of.ensures c.in-Some.is c.parse.ensures c.in-Ok.is c.rules_at.ensures
+    ∙ answered_in c.args.s.now c.args.word c.args.at c.args.end c.args.p c.header_of.ensures c.in-Some.is c.parse.ensures.located c.in-Ok.is c.rules_at.ensures

@@ -28,4 +28,4 @@ parse-requires c =
     (c.requires, h.long, h.inside, p.long, p.inside)
 
 pub returns : goal.returns
-returns c = rw (locate_rest c.args.s.now (relocations_of c.args.relocs.now) c.args.debug c.args.word c.args.k (sym c.tiles.ensures ∙ c.if-not-tiles.false) c.record_span.ensures c.in-Some.is c.header_of.ensures c.in-Some-header_of.is) c.parse.ensures
+returns c = rw (locate_rest c.args.s.now (relocations_of c.args.relocs.now) c.args.debug c.args.word c.args.k (sym c.tiles.ensures ∙ c.if-not-tiles.false) c.record_span.ensures c.in-Some.is c.header_of.ensures c.in-Some-header_of.is) c.parse.ensures.located

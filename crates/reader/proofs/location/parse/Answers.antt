@@ -3,11 +3,11 @@ use native.Mathlib.Omega.{arith}
 use Rattle.reader.proofs.Whole.{fields_header, header_held, fields_record, record_held, fields_there}
 use Rattle.reader.proofs.location.parse.Goals as goal
 
-pub returns-in_default : goal.returns-in_default
-returns-in_default c = fields_header c.args.s.now c.args.debug c.args.word c.args.cie c.args.past c.args.at c.args.end c.parse_header.ensures c.in_default.is
+pub returns-in_default-clause-located : goal.returns-in_default-clause-located
+returns-in_default-clause-located c = fields_header c.args.s.now c.args.debug c.args.word c.args.cie c.args.past c.args.at c.args.end c.parse_header.ensures c.in_default.is
 
-pub returns-in_default-parse_record : goal.returns-in_default-parse_record
-returns-in_default-parse_record c = fields_record c.args.s.now c.args.debug c.args.word c.args.cie c.args.past c.args.at c.args.end c.parse_header.ensures c.in-Some.is c.parse_record.ensures c.in_default-parse_record.is
+pub returns-in_default-parse_record-clause-located : goal.returns-in_default-parse_record-clause-located
+returns-in_default-parse_record-clause-located c = fields_record c.args.s.now c.args.debug c.args.word c.args.cie c.args.past c.args.at c.args.end c.parse_header.ensures c.in-Some.is c.parse_record.ensures c.in_default-parse_record.is
 
 pub overflow_add-result : goal.overflow_add-result
 overflow_add-result c = record { fits = omega (arith, header_held c.args.s.now c.args.debug c.args.word c.args.cie c.args.past c.args.at c.args.end c.parse_header.ensures c.in-Some.is c.requires.1 c.requires.2) }
@@ -15,5 +15,5 @@ overflow_add-result c = record { fits = omega (arith, header_held c.args.s.now c
 pub overflow_add-result-2 : goal.overflow_add-result-2
 overflow_add-result-2 c = record { fits = omega (arith, record_held c.args.s.now c.args.debug c.args.word c.args.cie c.args.past c.args.at c.args.end c.parse_header.ensures c.in-Some.is c.parse_record.ensures c.in-Some-parse_record.is c.requires.3 c.requires.4) }
 
-pub returns : goal.returns
-returns c = fields_there c.args.s.now c.args.debug c.args.word c.args.cie c.args.past c.args.at c.args.end c.parse_header.ensures c.in-Some.is c.parse_record.ensures c.in-Some-parse_record.is c.requires.0 c.requires.1 c.requires.2 c.requires.3 c.requires.4
+pub returns-clause-located : goal.returns-clause-located
+returns-clause-located c = fields_there c.args.s.now c.args.debug c.args.word c.args.cie c.args.past c.args.at c.args.end c.parse_header.ensures c.in-Some.is c.parse_record.ensures c.in-Some-parse_record.is c.requires.0 c.requires.1 c.requires.2 c.requires.3 c.requires.4

@@ -6,7 +6,7 @@ use Rattle.reads.proofs.addresses.holder_in.Goals as goal
 pub returns-then-not-tiles : goal.returns-then-not-tiles
 returns-then-not-tiles c =
     let a = c.args in
-    c.nowhere.ensures ∙ holder_untiled a.s.now a.debug a.word a.address a.pc (sym c.tiles.ensures ∙ c.if-not-tiles.true)
+    holder_untiled a.s.now a.debug a.word a.address a.pc (sym c.tiles.ensures ∙ c.if-not-tiles.true)
 
 pub entries-init : goal.entries-init
 entries-init c =
@@ -47,6 +47,5 @@ entries-preserved c =
 pub returns : goal.returns
 returns c =
     let a = c.args in
-    c.nowhere-2.ensures
-    ∙ holder_none a.s.now a.debug a.word a.address a.pc (sym c.tiles.ensures ∙ c.if-not-tiles.false)
+    holder_none a.s.now a.debug a.word a.address a.pc (sym c.tiles.ensures ∙ c.if-not-tiles.false)
     (nobody a.s.now a.debug (holding_pc a.s.now a.debug a.word a.address a.pc) c.entries.invariant c.entries-test.false)

@@ -1,11 +1,11 @@
 -- `reads::addresses::record_holds` meets its contract.
-use Rattle.reads.proofs.Addressing.{holds_placed}
+use Rattle.reads.proofs.Addressing.{holds_none, holds_by}
 use Rattle.reads.specs.Addresses.{function_of}
 use Rattle.reader.specs.Spans.{entry_in}
-use Rattle.std.proofs.Common.{◌∙◌}
+use Rattle.std.proofs.Common.{sym, ◌∙◌}
 use Rattle.reads.proofs.addresses.record_holds.Goals as goal
 
-pub returns : goal.returns
-returns c =
+pub returns-in_default : goal.returns-in_default
+returns-in_default c =
     let a = c.args in
-    c.holds.ensures ∙ holds_placed a.pc (function_of a.debug a.word a.address (entry_in a.s.now a.at a.end)) c.function_of.result c.function_of.ensures
+    holds_none a.pc (function_of a.debug a.word a.address (entry_in a.s.now a.at a.end)) (sym c.function_of.ensures ∙ c.in_default.is)

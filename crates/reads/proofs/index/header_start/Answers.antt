@@ -15,13 +15,13 @@ returns-in_default c =
 pub returns-then-at-place : goal.returns-then-at-place
 returns-then-at-place c =
     let a = c.args in
-    (start_behind a.s.now (relocations_of a.relocs.now) a.debug (listed (entries a.s.now)) a.at a.end c.header_place.ensures c.in-Is.is c.if-at-place.true, headed_nowhere a.debug (listed (entries a.s.now)))
+    (start_behind a.s.now (relocations_of a.relocs.now) a.debug (listed (entries a.s.now)) a.at a.end c.header_place.ensures c.in-Some.is c.if-at-place.true, headed_nowhere a.debug (listed (entries a.s.now)))
 
 pub returns-then-place-last : goal.returns-then-place-last
 returns-then-place-last c =
     let a = c.args in
     let p = c.requires in (
-      start_last a.s.now (relocations_of a.relocs.now) a.debug (listed (entries a.s.now)) a.at a.end c.header_place.ensures c.in-Is.is p.3 c.if-place-last.true (omega (arith, c.if-at-place.false)) (search rules),
+      start_last a.s.now (relocations_of a.relocs.now) a.debug (listed (entries a.s.now)) a.at a.end c.header_place.ensures c.in-Some.is p.3 c.if-place-last.true (omega (arith, c.if-at-place.false)) (search rules),
       rw c.if-place-last.true p.3,
     )
 
@@ -34,11 +34,11 @@ header_from-requires c =
 pub returns-in_default-header_from : goal.returns-in_default-header_from
 returns-in_default-header_from c =
     let a = c.args in
-    (start_missing a.s.now (relocations_of a.relocs.now) a.debug (listed (entries a.s.now)) a.at a.end c.header_place.ensures c.in-Is.is c.header_from.ensures c.in_default-header_from.is, headed_nowhere a.debug (listed (entries a.s.now)))
+    (start_missing a.s.now (relocations_of a.relocs.now) a.debug (listed (entries a.s.now)) a.at a.end c.header_place.ensures c.in-Some.is c.header_from.ensures c.in_default-header_from.is, headed_nowhere a.debug (listed (entries a.s.now)))
 
 pub returns : goal.returns
 returns c =
     let a = c.args in (
-      start_found a.s.now (relocations_of a.relocs.now) a.debug (listed (entries a.s.now)) a.at a.end c.header_place.ensures c.in-Is.is c.header_from.ensures c.in-At.is,
-      found_headed a.s.now (relocations_of a.relocs.now) a.debug (listed (entries a.s.now)) a.at a.end c.header_place.ensures c.in-Is.is c.header_from.ensures c.in-At.is (omega (arith, c.if-at-place.false)),
+      start_found a.s.now (relocations_of a.relocs.now) a.debug (listed (entries a.s.now)) a.at a.end c.header_place.ensures c.in-Some.is c.header_from.ensures c.in-Some-header_from.is,
+      found_headed a.s.now (relocations_of a.relocs.now) a.debug (listed (entries a.s.now)) a.at a.end c.header_place.ensures c.in-Some.is c.header_from.ensures c.in-Some-header_from.is (omega (arith, c.if-at-place.false)),
     )
