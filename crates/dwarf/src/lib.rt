@@ -32,7 +32,7 @@ use lists::{Extent, extent_at, functions_ok, machine_of, machine_ok, outline_ok,
 use numbers::pointer_size;
 use owners::position;
 use records::{
-    RowsSize, call_sites, call_sites_size, record, record_relocs, record_relocs_count, record_size,
+    call_sites, call_sites_size, record, record_relocs, record_relocs_count, record_size,
     surveyed_rows,
 };
 use rows::{offset_at, row_at, row_surely_whole, row_whole};
@@ -73,13 +73,13 @@ fn encodings_ok(word: u64, e: Extent) -> bool
         Kind::Plain => true,
         Kind::Personal => true,
         Kind::Named => {
-            if pointer_size(true, word, e.encoding) == 0 {
+            if pointer_size(true, word, e.encoding).is_none() {
                 return false;
             }
             if !e.lsda {
                 return true;
             }
-            pointer_size(false, word, e.lsda_encoding) != 0
+            pointer_size(false, word, e.lsda_encoding).is_some()
         }
     }
 }
@@ -89,10 +89,8 @@ fn steps_ok(rows: &[u64], at: usize, n: usize) -> bool
     requires { RowsReady rows.now at n }
     ensures { result ≡ steps_ok 0 (each (row_at rows.now) at n) }
 {
-    let end = at + n;
     let mut from = 0;
-    let mut i = at;
-    while i < end {
+    for i in at..at + n {
         let to = offset_at(rows, i);
         if to < from {
             return false;
@@ -101,7 +99,6 @@ fn steps_ok(rows: &[u64], at: usize, n: usize) -> bool
             return false;
         }
         from = to;
-        i += 1;
     }
     true
 }
@@ -111,15 +108,7 @@ fn rows_whole(word: u64, rows: &[u64], at: usize, n: usize) -> bool
     requires { (0 < word) × RowsReady rows.now at n }
     ensures { result ≡ all (λ x. row_whole word x.1) (each (row_at rows.now) at n) }
 {
-    let end = at + n;
-    let mut i = at;
-    while i < end {
-        if !row_whole(word, row_at(rows, i)) {
-            return false;
-        }
-        i += 1;
-    }
-    true
+    (at..at + n).all(|i| row_whole(word, row_at(rows, i)))
 }
 
 // Questions 23 and 24 in one pass, asked for more. A no says nothing.
@@ -127,10 +116,8 @@ fn lines_fine(word: u64, rows: &[u64], at: usize, n: usize) -> bool
     requires { T (is_word_size word) × RowsReady rows.now at n }
     ensures { result ≡ true → (steps_ok 0 (each (row_at rows.now) at n) ≡ true) × (all (λ x. row_whole word x.1) (each (row_at rows.now) at n) ≡ true) }
 {
-    let end = at + n;
     let mut from = 0;
-    let mut i = at;
-    while i < end {
+    for i in at..at + n {
         let to = offset_at(rows, i);
         if to < from {
             return false;
@@ -142,30 +129,8 @@ fn lines_fine(word: u64, rows: &[u64], at: usize, n: usize) -> bool
             return false;
         }
         from = to;
-        i += 1;
     }
     true
-}
-
-// Question 23, asked where it is not known that all is fine; and question 24.
-fn steps_asked(fine: bool, rows: &[u64], at: usize, n: usize) -> bool
-    requires { RowsReady rows.now at n × (fine ≡ true → steps_ok 0 (each (row_at rows.now) at n) ≡ true) }
-    ensures { result ≡ steps_ok 0 (each (row_at rows.now) at n) }
-{
-    if fine {
-        return true;
-    }
-    steps_ok(rows, at, n)
-}
-
-fn whole_asked(fine: bool, word: u64, rows: &[u64], at: usize, n: usize) -> bool
-    requires { (0 < word) × RowsReady rows.now at n × (fine ≡ true → all (λ x. row_whole word x.1) (each (row_at rows.now) at n) ≡ true) }
-    ensures { result ≡ all (λ x. row_whole word x.1) (each (row_at rows.now) at n) }
-{
-    if fine {
-        return true;
-    }
-    rows_whole(word, rows, at, n)
 }
 
 // The two places of pair i are different.
@@ -181,15 +146,7 @@ fn pairs_differ(pairs: &[u64], at: usize, n: usize) -> bool
     requires { at + n ≤ count pair_stride pairs.now }
     ensures { result ≡ all (λ p. not (eqb p.place1 p.place2)) (each (pair_at pairs.now) at n) }
 {
-    let end = at + n;
-    let mut i = at;
-    while i < end {
-        if !pair_differs(pairs, i) {
-            return false;
-        }
-        i += 1;
-    }
-    true
+    (at..at + n).all(|i| pair_differs(pairs, i))
 }
 
 // Question 25 of a function, where it has relaxing labels.
@@ -228,13 +185,13 @@ fn dwarf_asks(
         });
     }
     let fine = lines_fine(word, rows, e.rows_at, e.rows);
-    if !steps_asked(fine, rows, e.rows_at, e.rows) {
+    if !fine && !steps_ok(rows, e.rows_at, e.rows) {
         return Err(Refusal {
             number: 23,
             position: k as u64,
         });
     }
-    if !whole_asked(fine, word, rows, e.rows_at, e.rows) {
+    if !fine && !rows_whole(word, rows, e.rows_at, e.rows) {
         return Err(Refusal {
             number: 24,
             position: k as u64,
@@ -290,10 +247,7 @@ pub struct Chosen {
 fn is_debug(s: Section) -> bool
     ensures { result ≡ is_debug s }
 {
-    match s {
-        Section::Elf => false,
-        Section::Debug => true,
-    }
+    matches!(s, Section::Debug)
 }
 
 // What a function's entries are padded to.
@@ -426,23 +380,14 @@ fn sizes(
 {
     let n = fs.len() / lists::FUNCTION_STRIDE;
     let mut t = Table::NOTHING;
-    let mut k = 0;
-    while k < n {
+    for k in 0..n {
         let size = rows_size(s, m, fs, rows, k);
         t = size_next(s, m, fs, rows, landings, pairs, owners, k, n, size, t);
-        k += 1;
     }
     t
 }
 
 // ---- questions, owners and sizes in one pass
-
-// What stands behind all functions, where one pass saw that they pass questions 13 and 21 to 25.
-#[derive(Clone, Copy)]
-pub enum Surveyed {
-    Behind(Table),
-    Unsure,
-}
 
 // Questions 21, 22 and 25 of a function, as the section takes it.
 fn fields_ok(s: Section, word: u64, e: Extent, pairs: &[u64]) -> bool
@@ -458,7 +403,7 @@ fn fields_ok(s: Section, word: u64, e: Extent, pairs: &[u64]) -> bool
     pairs_ok(e, pairs)
 }
 
-// The bytes of function k's rows, where it passes questions 13 and 21 to 25.
+// The bytes of function k's rows, where it passes questions 13 and 21 to 25. None says nothing.
 fn function_surveyed(
     s: Section,
     m: Machine,
@@ -467,21 +412,21 @@ fn function_surveyed(
     landings: &[u64],
     pairs: &[u64],
     k: usize,
-) -> RowsSize
+) -> Option<usize>
     requires { MachineFits m × T (sums_ok fs.now) × (k < count function_stride fs.now) }
     ensures { FunctionSurveyed (inputs s m fs.now rows.now landings.now pairs.now) k result }
 {
     if !outline_ok(fs, rows, landings, pairs, k) {
-        return RowsSize::Unsure;
+        return None;
     }
     let e = taken(s, extent_at(fs, k));
     if !fields_ok(s, m.word, e, pairs) {
-        return RowsSize::Unsure;
+        return None;
     }
     surveyed_rows(m.word, rows, e.rows_at, e.rows)
 }
 
-// The functions' owners, and what stands behind the functions, where all pass questions 13 and 21 to 25.
+// The functions' owners, and what stands behind the functions, where all pass questions 13 and 21 to 25. None says nothing.
 fn survey(
     s: Section,
     m: Machine,
@@ -492,23 +437,18 @@ fn survey(
     heads: &mut [u16],
     links: &mut [u16],
     owners: &mut [u16],
-) -> Surveyed
+) -> Option<Table>
     requires { MachineFits m × T (sums_ok fs.now) × Unused (count function_stride fs.now) heads.old links.old owners.old }
     ensures { AllSurveyed (inputs s m fs.now rows.now landings.now pairs.now) owners.new result × Enough (count function_stride fs.now) (length heads.new) links.new owners.new }
 {
     let n = fs.len() / lists::FUNCTION_STRIDE;
     let mut t = Table::NOTHING;
-    let mut k = 0;
-    while k < n {
-        let v = function_surveyed(s, m, fs, rows, landings, pairs, k);
-        let RowsSize::Bytes(size) = v else {
-            return Surveyed::Unsure;
-        };
+    for k in 0..n {
+        let size = function_surveyed(s, m, fs, rows, landings, pairs, k)?;
         owners::find_owner(s, m, fs, rows, k, heads, links, owners);
         t = size_next(s, m, fs, rows, landings, pairs, owners, k, n, size, t);
-        k += 1;
     }
-    Surveyed::Behind(t)
+    Some(t)
 }
 
 // ---- what the functions can be at most
@@ -519,10 +459,8 @@ fn total(fs: &[u64], j: usize, n: usize) -> u64
     ensures { result ≡ sum_of (λ k. field function_stride fs.now k j) 0 n }
 {
     let mut sum = 0;
-    let mut k = 0;
-    while k < n {
+    for k in 0..n {
         sum += fs[lists::FUNCTION_STRIDE * k + j];
-        k += 1;
     }
     sum
 }
@@ -544,10 +482,8 @@ fn labelled_total(fs: &[u64], n: usize) -> u64
     ensures { result ≡ sum_of (labelled_rows fs.now) 0 n }
 {
     let mut sum = 0;
-    let mut k = 0;
-    while k < n {
+    for k in 0..n {
         sum += labelled_rows(fs, k);
-        k += 1;
     }
     sum
 }
@@ -728,12 +664,10 @@ fn store(
 {
     let functions = fs.len() / lists::FUNCTION_STRIDE;
     let mut t = Table::NOTHING;
-    let mut k = 0;
-    while k < functions {
+    for k in 0..functions {
         t = part(
             s, m, fs, rows, landings, pairs, owners, k, functions, t, places, out, relocs, sites,
         );
-        k += 1;
     }
     t
 }
@@ -872,11 +806,7 @@ fn asked(
 fn unchain(heads: &mut [u16])
     ensures { (length heads.new ≡ length heads.old) × ((h : ℕ) → h < length heads.new → get_or heads.new h 0 ≡ 0) }
 {
-    let mut h = 0;
-    while h < heads.len() {
-        heads[h] = 0;
-        h += 1;
-    }
+    heads.fill(0);
 }
 
 // The lists that are lent hold whatever such functions can be, so that sizes are not needed.
@@ -899,12 +829,12 @@ fn tried(
     heads: &mut [u16],
     links: &mut [u16],
     owners: &mut [u16],
-) -> Surveyed
+) -> Option<Table>
     requires { MachineFits m × T (sums_ok fs.now) × Unused (count function_stride fs.now) heads.old links.old owners.old }
     ensures { AllSurveyed (inputs s m fs.now rows.now landings.now pairs.now) owners.new result × Enough (count function_stride fs.now) (length heads.new) links.new owners.new }
 {
     if ample(fs, places, lent) {
-        return Surveyed::Unsure;
+        return None;
     }
     survey(s, m, fs, rows, landings, pairs, heads, links, owners)
 }
@@ -946,7 +876,7 @@ fn answered(
         links,
         owners,
     );
-    if let Surveyed::Behind(t) = v {
+    if let Some(t) = v {
         return roomed(
             s, m, fs, rows, landings, pairs, owners, t, places, out, relocs, sites,
         );
@@ -957,8 +887,44 @@ fn answered(
     )
 }
 
-// The functions asked, sized and, where there is room, written. The lists that their owners are found in lie on the stack, and
-// clearing them for a few functions is to cost little: there are three sizes of them.
+// The same with the lists that the functions' owners are found in, which lie on the stack.
+fn answered_with<const HEADS: usize, const FUNCTIONS: usize>(
+    s: Section,
+    m: Machine,
+    fs: &[u64],
+    rows: &[u64],
+    landings: &[u64],
+    pairs: &[u64],
+    places: &mut [u64],
+    out: &mut [u8],
+    relocs: &mut [u64],
+    sites: &mut [u8],
+) -> Result<Option<Counts>, Refusal>
+    requires { MachineFits m × T (sums_ok fs.now) × (count function_stride fs.now ≤ FUNCTIONS) × (FUNCTIONS ≤ 65536) × (0 < HEADS) × (HEADS ≤ 65536) }
+    ensures { Writes (listed_answer s m fs.now rows.now landings.now pairs.now (room_in places.old out.old relocs.old sites.old)) result places.old places.new out.old out.new relocs.old relocs.new sites.old sites.new }
+{
+    let mut heads = [0u16; HEADS];
+    let mut links = [0u16; FUNCTIONS];
+    let mut owners = [0u16; FUNCTIONS];
+    answered(
+        s,
+        m,
+        fs,
+        rows,
+        landings,
+        pairs,
+        &mut heads,
+        &mut links,
+        &mut owners,
+        places,
+        out,
+        relocs,
+        sites,
+    )
+}
+
+// The functions asked, sized and, where there is room, written. Clearing the lists for their owners is to cost little for a few
+// functions: there are three sizes of them.
 fn deliver(
     s: Section,
     m: Machine,
@@ -976,62 +942,17 @@ fn deliver(
 {
     let n = fs.len() / lists::FUNCTION_STRIDE;
     if n <= 64 {
-        let mut heads = [0u16; 61];
-        let mut links = [0u16; 64];
-        let mut owners = [0u16; 64];
-        return answered(
-            s,
-            m,
-            fs,
-            rows,
-            landings,
-            pairs,
-            &mut heads,
-            &mut links,
-            &mut owners,
-            places,
-            out,
-            relocs,
-            sites,
+        return answered_with::<61, 64>(
+            s, m, fs, rows, landings, pairs, places, out, relocs, sites,
         );
     }
     if n <= 2048 {
-        let mut heads = [0u16; 2039];
-        let mut links = [0u16; 2048];
-        let mut owners = [0u16; 2048];
-        return answered(
-            s,
-            m,
-            fs,
-            rows,
-            landings,
-            pairs,
-            &mut heads,
-            &mut links,
-            &mut owners,
-            places,
-            out,
-            relocs,
-            sites,
+        return answered_with::<2039, 2048>(
+            s, m, fs, rows, landings, pairs, places, out, relocs, sites,
         );
     }
-    let mut heads = [0u16; 16381];
-    let mut links = [0u16; lists::MOST_FUNCTIONS];
-    let mut owners = [0u16; lists::MOST_FUNCTIONS];
-    answered(
-        s,
-        m,
-        fs,
-        rows,
-        landings,
-        pairs,
-        &mut heads,
-        &mut links,
-        &mut owners,
-        places,
-        out,
-        relocs,
-        sites,
+    answered_with::<16381, { lists::MOST_FUNCTIONS }>(
+        s, m, fs, rows, landings, pairs, places, out, relocs, sites,
     )
 }
 
