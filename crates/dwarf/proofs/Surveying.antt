@@ -17,15 +17,12 @@ use Rattle.lists.specs.Extents.{extent_at, meant}
 use Rattle.lists.specs.Parts.{outline_ok_at, sums_ok}
 use Rattle.lists.proofs.Outlines.{function_is}
 use Rattle.header_keys.specs.Functions.{body_of, Listed}
-use Rattle.records.specs.declared.RowsSize.{RowsSize}
-use Rattle.records.specs.declared.RowsSize.TheVariants.{Bytes, Unsure}
+use Rattle.std.specs.Prelude.{Option, Some, None}
 use Rattle.records.specs.Stepped.{SurveyedRows, Surveyed}
 use Rattle.owners.specs.Chains.{OwnersFound, Enough, Unused}
 use Rattle.owners.proofs.OwnerLoop.{Going}
 use Rattle.owners.proofs.OwnerLoop as owning
 use Rattle.dwarf.specs.declared.Table.{Table}
-use Rattle.dwarf.specs.declared.Surveyed as answers-type
-use Rattle.dwarf.specs.declared.Surveyed.TheVariants as answers
 use Rattle.dwarf.specs.Parts.{Inputs, count_in, extent_in, parts_to}
 use Rattle.dwarf.specs.Tables.{nothing, totals_in, Few}
 use Rattle.dwarf.specs.Writable.{Writable, Next}
@@ -53,14 +50,14 @@ module _ (x : Inputs) (k : ℕ) (o : outline_ok_at x.functions x.rows x.landings
     function_passed : PassedAt x k
     function_passed = record { listed = rw (function_is x.functions x.rows x.landings x.pairs k, o) rows_listed; asked = none_asked }
 
-  pub rows_say : (r : RowsSize) → Surveyed x.machine.word x.rows (extent_in x k).rows_at (extent_in x k).rows r → FunctionSurveyed x k r
-  rows_say (Bytes n) s = (function_passed s, s.bytes)
-  rows_say Unsure s = tt
+  pub rows_say : (r : Option ℕ) → Surveyed x.machine.word x.rows (extent_in x k).rows_at (extent_in x k).rows r → FunctionSurveyed x k r
+  rows_say (Some n) s = (function_passed s, s.bytes)
+  rows_say None s = tt
 
-pub bytes_say : {x : Inputs} {k : ℕ} {r : RowsSize} {n : ℕ} → FunctionSurveyed x k r → r ≡ Bytes n → PassedAt x k × (n ≡ rows_size x k)
+pub bytes_say : {x : Inputs} {k : ℕ} {r : Option ℕ} {n : ℕ} → FunctionSurveyed x k r → r ≡ Some n → PassedAt x k × (n ≡ rows_size x k)
 bytes_say {x} {k} s e = subst (FunctionSurveyed x k) e s
 
-pub behind_say : (x : Inputs) {owners : List ℕ} {r : answers-type.Surveyed} {t : Table} → AllSurveyed x owners r → r ≡ answers.Behind t → AllSurveyed x owners (answers.Behind t)
+pub behind_say : (x : Inputs) {owners : List ℕ} {r : Option Table} {t : Table} → AllSurveyed x owners r → r ≡ Some t → AllSurveyed x owners (Some t)
 behind_say x {owners} s e = subst (AllSurveyed x owners) e s
 
 pub few_of : (fs : List ℕ) → T (sums_ok fs) → Few fs
@@ -110,7 +107,7 @@ module _ {x : Inputs} {n k : ℕ} {t : Table} {heads₀ links₀ owners₀ heads
   pub enough : Enough (count_in x) (length heads) links owners
   enough = rw (← g.sizes.counted, owning.heads_kept g.owned) g.owned.enough
 
-  pub ended : n ≤ k → AllSurveyed x owners (answers.Behind t)
+  pub ended : n ≤ k → AllSurveyed x owners (Some t)
   ended h = (
     λ j l. g.passed j (omega (arith, g.sizes.counted)),
     sizing.ended g.sizes h,

@@ -942,9 +942,7 @@ fn deliver(
 {
     let n = fs.len() / lists::FUNCTION_STRIDE;
     if n <= 64 {
-        return answered_with::<61, 64>(
-            s, m, fs, rows, landings, pairs, places, out, relocs, sites,
-        );
+        return answered_with::<61, 64>(s, m, fs, rows, landings, pairs, places, out, relocs, sites);
     }
     if n <= 2048 {
         return answered_with::<2039, 2048>(

@@ -1,10 +1,6 @@
-use Prim.Native.Nat.{◌-◌}
 use Rattle.dwarf.specs.Parts.{inputs}
 use Rattle.dwarf.proofs.Surveying.{Surveying}
 use Rattle.dwarf.proofs.survey.Given as goal
 
 abbrev pub invariant-loop-k : goal.invariant-loop-k
 invariant-loop-k l = Surveying (inputs l.s l.m l.fs l.rows l.landings l.pairs) l.n l.k l.t l.initial.heads l.initial.links l.initial.owners l.heads l.links l.owners
-
-abbrev pub decreases-loop-k : goal.decreases-loop-k
-decreases-loop-k l = l.n - l.k

@@ -5,6 +5,3 @@ use Rattle.dwarf.proofs.total.Given as goal
 
 abbrev pub invariant-loop-k : goal.invariant-loop-k
 invariant-loop-k l = Summing (λ (k : ℕ). field function_stride l.fs k l.j) l.n l.k l.sum
-
-abbrev pub decreases-loop-k : goal.decreases-loop-k
-decreases-loop-k l = l.n - l.k
