@@ -7,6 +7,7 @@ use Rattle.format.specs.Lists.{Function, Relocation, count, function_stride}
 use Rattle.format.specs.Headers.{Key, key_of}
 use Rattle.format.specs.Writer.{Part, Seen, Written, place_in, part_with, align_for, joined}
 use Rattle.lists.specs.declared.Extent.{Extent}
+use Rattle.dwarf.specs.declared.Input.{Input}
 use Rattle.lists.specs.Extents.{extent_at, meant}
 use Rattle.header_keys.specs.Functions.{taken_in}
 
@@ -22,6 +23,9 @@ pub record Inputs : Type 0 where
 abbrev pub inputs : Section → Machine → (functions rows landings pairs : List ℕ) → Inputs
 inputs s m functions rows landings pairs =
     record { section = s; machine = m; functions = functions; rows = rows; landings = landings; pairs = pairs }
+
+abbrev pub inputs_of : Input → Inputs
+inputs_of x = inputs x.section x.machine x.functions.now x.rows.now x.landings.now x.pairs.now
 
 abbrev pub count_in : Inputs → ℕ
 count_in x = count function_stride x.functions

@@ -17,9 +17,9 @@ ghost use Rattle.lists.specs.Room.{room_for};
 ghost use Rattle.format.proofs.SectionSize.{Aligned};
 ghost use Rattle.header_keys.specs.Functions.{taken_in, body_of, Sound, RowsReady, PairsReady};
 ghost use Rattle.dwarf.specs.Asks.{Askable, AllAskable, asked_in, listed_answer};
-ghost use Rattle.dwarf.specs.Parts.{inputs, written_in, parts_to};
+ghost use Rattle.dwarf.specs.Parts.{inputs_of, extent_in, written_in, parts_to};
 ghost use Rattle.dwarf.specs.Writable.{Cleared, Next, PartReady};
-ghost use Rattle.dwarf.specs.Tables.{totals_in, grown_by, SizeReady, labelled_rows, most_in, Few, counts_of, FrontReady, FrontStored, PieceReady, Stored, Added, Written, Holds, chosen_by};
+ghost use Rattle.dwarf.specs.Tables.{totals_in, grown_by, SizeReady, labelled_rows, most_in, Few, lent_in, counts_of, FrontReady, FrontStored, PieceReady, Stored, Added, Written, Holds, chosen_by};
 ghost use Rattle.owners.specs.Chains.{Owned, Enough, Unused};
 ghost use Rattle.records.specs.Stepped.{rows_in};
 ghost use Rattle.dwarf.specs.Surveys.{rows_size, FunctionSurveyed, AllSurveyed};
@@ -28,7 +28,9 @@ ghost use Rattle.dwarf.specs.Pieces.{front_in, reloc_numbers, part_in};
 use format::{Counts, Machine, Refusal, Section};
 use header_keys::{Kind, kind_of, taken};
 use headers::{header, header_relocs, header_relocs_count, header_size, padding};
-use lists::{Extent, extent_at, functions_ok, machine_of, machine_ok, outline_ok, sums_ok};
+use lists::{
+    Extent, MOST_FUNCTIONS, extent_at, functions_ok, machine_of, machine_ok, outline_ok, sums_ok,
+};
 use numbers::pointer_size;
 use owners::position;
 use records::{
@@ -36,6 +38,45 @@ use records::{
     surveyed_rows,
 };
 use rows::{offset_at, row_at, row_surely_whole, row_whole};
+
+// What a section is written from: its kind, the machine, and the lists of functions, rows, landings and pairs.
+#[derive(Clone, Copy)]
+pub struct Input<'a> {
+    pub section: Section,
+    pub machine: Machine,
+    pub functions: &'a [u64],
+    pub rows: &'a [u64],
+    pub landings: &'a [u64],
+    pub pairs: &'a [u64],
+}
+
+// The lists that are lent for what is written: header places, bytes, relocations and call sites.
+pub struct Output<'a> {
+    pub places: &'a mut [u64],
+    pub bytes: &'a mut [u8],
+    pub relocations: &'a mut [u64],
+    pub sites: &'a mut [u8],
+}
+
+impl Output<'_> {
+    // How many elements the lists have, but for the header places.
+    fn lent(&self) -> Table
+        ensures { result ≡ lent_in self.now.bytes.now self.now.relocations.now self.now.sites.now }
+    {
+        Table {
+            bytes: self.bytes.len(),
+            relocations: self.relocations.len(),
+            sites: self.sites.len(),
+        }
+    }
+}
+
+// The lists that the functions' owners are found in.
+pub struct Chains<'a> {
+    pub heads: &'a mut [u16],
+    pub links: &'a mut [u16],
+    pub owners: &'a mut [u16],
+}
 
 // ---- questions 21 to 25
 
@@ -207,14 +248,14 @@ fn dwarf_asks(
 }
 
 // Questions 21 to 25, function by function.
-fn all_asks(s: Section, word: u64, fs: &[u64], rows: &[u64], pairs: &[u64]) -> Result<(), Refusal>
-    requires { T (is_word_size word) × AllAskable s fs.now rows.now pairs.now }
-    ensures { result ≡ question_of (per_function (dwarf_asks s word) 0 (each (asked_in s fs.now rows.now pairs.now) 0 (count function_stride fs.now))) }
+fn all_asks(x: &Input) -> Result<(), Refusal>
+    requires { T (is_word_size x.now.machine.word) × AllAskable x.now.section x.now.functions.now x.now.rows.now x.now.pairs.now }
+    ensures { result ≡ question_of (per_function (dwarf_asks x.now.section x.now.machine.word) 0 (each (asked_in x.now.section x.now.functions.now x.now.rows.now x.now.pairs.now) 0 (count function_stride x.now.functions.now))) }
 {
-    let n = fs.len() / lists::FUNCTION_STRIDE;
+    let n = x.functions.len() / lists::FUNCTION_STRIDE;
     for k in 0..n {
-        let e = taken(s, extent_at(fs, k));
-        dwarf_asks(s, word, k, e, rows, pairs)?;
+        let e = taken(x.section, extent_at(x.functions, k));
+        dwarf_asks(x.section, x.machine.word, k, e, x.rows, x.pairs)?;
     }
     Ok(())
 }
@@ -299,90 +340,50 @@ fn relocs_size(own: bool, debug: bool, m: Machine, e: Extent, rows: &[u64], pair
 
 // What stands behind a function that is behind t and whose rows have `size` bytes. The place of a header that it does not own
 // does not matter.
-fn sized(
-    size: usize,
-    own: bool,
-    debug: bool,
-    m: Machine,
-    align: usize,
-    e: Extent,
-    t: Table,
-    rows: &[u64],
-    landings: &[u64],
-    pairs: &[u64],
-) -> Table
-    requires { SizeReady own debug m align e t rows.now landings.now pairs.now × (size ≡ length (rows_in m.word 0 rows.now e.rows_at e.rows)) }
-    ensures { result ≡ grown_by t (part_in own debug m align t.bytes 0 t.sites e rows.now landings.now pairs.now) }
+fn sized(x: &Input, size: usize, own: bool, align: usize, e: Extent, t: Table) -> Table
+    requires { SizeReady own (is_debug x.now.section) x.now.machine align e t x.now.rows.now x.now.landings.now x.now.pairs.now × (size ≡ length (rows_in x.now.machine.word 0 x.now.rows.now e.rows_at e.rows)) }
+    ensures { result ≡ grown_by t (part_in own (is_debug x.now.section) x.now.machine align t.bytes 0 t.sites e x.now.rows.now x.now.landings.now x.now.pairs.now) }
 {
-    let behind = t.bytes + front_size(own, debug, m, align, t.bytes, e, rows);
+    let debug = is_debug(x.section);
+    let m = x.machine;
+    let behind = t.bytes + front_size(own, debug, m, align, t.bytes, e, x.rows);
     Table {
-        bytes: behind + record_size(debug, m, align, behind, e, rows, size),
-        relocations: t.relocations + relocs_size(own, debug, m, e, rows, pairs),
-        sites: t.sites + call_sites_size(t.sites, e, landings),
+        bytes: behind + record_size(debug, m, align, behind, e, x.rows, size),
+        relocations: t.relocations + relocs_size(own, debug, m, e, x.rows, x.pairs),
+        sites: t.sites + call_sites_size(t.sites, e, x.landings),
     }
 }
 
 // What stands behind function k of n, behind t, where its rows have `size` bytes.
-fn size_next(
-    s: Section,
-    m: Machine,
-    fs: &[u64],
-    rows: &[u64],
-    landings: &[u64],
-    pairs: &[u64],
-    owners: &[u16],
-    k: usize,
-    n: usize,
-    size: usize,
-    t: Table,
-) -> Table
-    requires { Next (inputs s m fs.now rows.now landings.now pairs.now) k n t × Owned s m fs.now rows.now (k + 1) owners.now × (size ≡ rows_size (inputs s m fs.now rows.now landings.now pairs.now) k) }
-    ensures { result ≡ totals_in (parts_to (inputs s m fs.now rows.now landings.now pairs.now) (k + 1)) }
+fn size_next(x: &Input, owners: &[u16], k: usize, n: usize, size: usize, t: Table) -> Table
+    requires { Next (inputs_of x.now) k n t × Owned x.now.section x.now.machine x.now.functions.now x.now.rows.now (k + 1) owners.now × (size ≡ rows_size (inputs_of x.now) k) }
+    ensures { result ≡ totals_in (parts_to (inputs_of x.now) (k + 1)) }
 {
-    let e = taken(s, extent_at(fs, k));
+    let e = taken(x.section, extent_at(x.functions, k));
     let own = position(owners[k]) == k;
-    let align = align_for(s, m.word, k + 1 == n);
-    sized(
-        size,
-        own,
-        is_debug(s),
-        m,
-        align,
-        e,
-        t,
-        rows,
-        landings,
-        pairs,
-    )
+    let align = align_for(x.section, x.machine.word, k + 1 == n);
+    sized(x, size, own, align, e, t)
 }
 
 // The bytes of function k's rows, with the steps between them.
-fn rows_size(s: Section, m: Machine, fs: &[u64], rows: &[u64], k: usize) -> usize
-    requires { (18 * k + 18 ≤ length fs.now) × Sound m (taken_in s (extent_at fs.now k)) rows.now }
-    ensures { result ≡ rows_size (inputs s m fs.now rows.now [] []) k }
+fn rows_size(x: &Input, k: usize) -> usize
+    requires { (18 * k + 18 ≤ length x.now.functions.now) × Sound x.now.machine (extent_in (inputs_of x.now) k) x.now.rows.now }
+    ensures { result ≡ rows_size (inputs_of x.now) k }
 {
-    let e = taken(s, extent_at(fs, k));
-    records::stepped_rows_size(m.word, rows, e.rows_at, e.rows)
+    let e = taken(x.section, extent_at(x.functions, k));
+    records::stepped_rows_size(x.machine.word, x.rows, e.rows_at, e.rows)
 }
 
 // What stands behind all functions.
-fn sizes(
-    s: Section,
-    m: Machine,
-    fs: &[u64],
-    rows: &[u64],
-    landings: &[u64],
-    pairs: &[u64],
-    owners: &[u16],
-) -> Table
-    requires { Cleared (inputs s m fs.now rows.now landings.now pairs.now) × Owned s m fs.now rows.now (count function_stride fs.now) owners.now }
-    ensures { result ≡ totals_in (parts_to (inputs s m fs.now rows.now landings.now pairs.now) (count function_stride fs.now)) }
+fn sizes(x: &Input, owners: &[u16]) -> Table
+    requires { Cleared (inputs_of x.now) × Owned x.now.section x.now.machine x.now.functions.now x.now.rows.now (count function_stride x.now.functions.now) owners.now }
+    ensures { result ≡ totals_in (parts_to (inputs_of x.now) (count function_stride x.now.functions.now)) }
 {
-    let n = fs.len() / lists::FUNCTION_STRIDE;
+    let n = x.functions.len() / lists::FUNCTION_STRIDE;
     let mut t = Table::NOTHING;
     for k in 0..n {
-        let size = rows_size(s, m, fs, rows, k);
-        t = size_next(s, m, fs, rows, landings, pairs, owners, k, n, size, t);
+        let size = rows_size(x, k);
+        t = size_next(x, owners, k, n, size, t);
     }
     t
 }
@@ -404,49 +405,40 @@ fn fields_ok(s: Section, word: u64, e: Extent, pairs: &[u64]) -> bool
 }
 
 // The bytes of function k's rows, where it passes questions 13 and 21 to 25. None says nothing.
-fn function_surveyed(
-    s: Section,
-    m: Machine,
-    fs: &[u64],
-    rows: &[u64],
-    landings: &[u64],
-    pairs: &[u64],
-    k: usize,
-) -> Option<usize>
-    requires { MachineFits m × T (sums_ok fs.now) × (k < count function_stride fs.now) }
-    ensures { FunctionSurveyed (inputs s m fs.now rows.now landings.now pairs.now) k result }
+fn function_surveyed(x: &Input, k: usize) -> Option<usize>
+    requires { MachineFits x.now.machine × T (sums_ok x.now.functions.now) × (k < count function_stride x.now.functions.now) }
+    ensures { FunctionSurveyed (inputs_of x.now) k result }
 {
-    if !outline_ok(fs, rows, landings, pairs, k) {
+    if !outline_ok(x.functions, x.rows, x.landings, x.pairs, k) {
         return None;
     }
-    let e = taken(s, extent_at(fs, k));
-    if !fields_ok(s, m.word, e, pairs) {
+    let e = taken(x.section, extent_at(x.functions, k));
+    if !fields_ok(x.section, x.machine.word, e, x.pairs) {
         return None;
     }
-    surveyed_rows(m.word, rows, e.rows_at, e.rows)
+    surveyed_rows(x.machine.word, x.rows, e.rows_at, e.rows)
 }
 
 // The functions' owners, and what stands behind the functions, where all pass questions 13 and 21 to 25. None says nothing.
-fn survey(
-    s: Section,
-    m: Machine,
-    fs: &[u64],
-    rows: &[u64],
-    landings: &[u64],
-    pairs: &[u64],
-    heads: &mut [u16],
-    links: &mut [u16],
-    owners: &mut [u16],
-) -> Option<Table>
-    requires { MachineFits m × T (sums_ok fs.now) × Unused (count function_stride fs.now) heads.old links.old owners.old }
-    ensures { AllSurveyed (inputs s m fs.now rows.now landings.now pairs.now) owners.new result × Enough (count function_stride fs.now) (length heads.new) links.new owners.new }
+fn survey(x: &Input, chains: &mut Chains) -> Option<Table>
+    requires { MachineFits x.now.machine × T (sums_ok x.now.functions.now) × Unused (count function_stride x.now.functions.now) chains.old.heads.now chains.old.links.now chains.old.owners.now }
+    ensures { AllSurveyed (inputs_of x.now) chains.new.owners.now result × Enough (count function_stride x.now.functions.now) (length chains.new.heads.now) chains.new.links.now chains.new.owners.now }
 {
-    let n = fs.len() / lists::FUNCTION_STRIDE;
+    let n = x.functions.len() / lists::FUNCTION_STRIDE;
     let mut t = Table::NOTHING;
     for k in 0..n {
-        let size = function_surveyed(s, m, fs, rows, landings, pairs, k)?;
-        owners::find_owner(s, m, fs, rows, k, heads, links, owners);
-        t = size_next(s, m, fs, rows, landings, pairs, owners, k, n, size, t);
+        let size = function_surveyed(x, k)?;
+        owners::find_owner(
+            x.section,
+            x.machine,
+            x.functions,
+            x.rows,
+            k,
+            chains.heads,
+            chains.links,
+            chains.owners,
+        );
+        t = size_next(x, chains.owners, k, n, size, t);
     }
     Some(t)
 }
@@ -523,25 +515,18 @@ fn room(n: usize, t: Table, places: usize, lent: Table) -> Result<(), Refusal>
 // ---- the writing pass
 
 // A function's own header with its relocation, where it has one.
-fn front(
-    own: bool,
-    debug: bool,
-    m: Machine,
-    align: usize,
-    e: Extent,
-    t: Table,
-    rows: &[u64],
-    out: &mut [u8],
-    relocs: &mut [u64],
-) -> Table
-    requires { FrontReady own debug m align e t rows.now out.old relocs.old }
-    ensures { FrontStored own debug m align e t result rows.now out.old out.new relocs.old relocs.new }
+fn front(x: &Input, own: bool, align: usize, e: Extent, t: Table, to: &mut Output) -> Table
+    requires { FrontReady own (is_debug x.now.section) x.now.machine align e t x.now.rows.now to.old.bytes.now to.old.relocations.now }
+    ensures stored { FrontStored own (is_debug x.now.section) x.now.machine align e t result x.now.rows.now to.old.bytes.now to.new.bytes.now to.old.relocations.now to.new.relocations.now }
+    ensures sites_kept { to.new.sites.now ≡ to.old.sites.now }
+    ensures places_kept { to.new.places.now ≡ to.old.places.now }
 {
     if !own {
         return t;
     }
-    let at = header(out, t.bytes, debug, m, align, e, rows);
-    let i = header_relocs(relocs, t.relocations, debug, m, t.bytes, e);
+    let debug = is_debug(x.section);
+    let at = header(to.bytes, t.bytes, debug, x.machine, align, e, x.rows);
+    let i = header_relocs(to.relocations, t.relocations, debug, x.machine, t.bytes, e);
     Table {
         bytes: at,
         relocations: i,
@@ -550,39 +535,28 @@ fn front(
 }
 
 // A function's part behind t: its own header, where it has one, its record and its call sites.
-fn piece(
-    c: Chosen,
-    debug: bool,
-    m: Machine,
-    align: usize,
-    e: Extent,
-    t: Table,
-    rows: &[u64],
-    landings: &[u64],
-    pairs: &[u64],
-    out: &mut [u8],
-    relocs: &mut [u64],
-    sites: &mut [u8],
-) -> Table
-    requires { PieceReady c.own debug m align c.cie e t rows.now landings.now pairs.now out.old relocs.old sites.old }
-    ensures { Stored (part_in c.own debug m align t.bytes c.cie t.sites e rows.now landings.now pairs.now) t result out.old out.new relocs.old relocs.new sites.old sites.new }
+fn piece(x: &Input, c: Chosen, align: usize, e: Extent, t: Table, to: &mut Output) -> Table
+    requires { PieceReady c.own (is_debug x.now.section) x.now.machine align c.cie e t x.now.rows.now x.now.landings.now x.now.pairs.now to.old.bytes.now to.old.relocations.now to.old.sites.now }
+    ensures stored { Stored (part_in c.own (is_debug x.now.section) x.now.machine align t.bytes c.cie t.sites e x.now.rows.now x.now.landings.now x.now.pairs.now) t result to.old.bytes.now to.new.bytes.now to.old.relocations.now to.new.relocations.now to.old.sites.now to.new.sites.now }
+    ensures places_kept { to.new.places.now ≡ to.old.places.now }
 {
-    let u = front(c.own, debug, m, align, e, t, rows, out, relocs);
-    let at = record(out, u.bytes, debug, m, align, c.cie, e, rows);
+    let debug = is_debug(x.section);
+    let u = front(x, c.own, align, e, t, to);
+    let at = record(to.bytes, u.bytes, debug, x.machine, align, c.cie, e, x.rows);
     let table = t.sites + padding(4, t.sites);
     let i = record_relocs(
-        relocs,
+        to.relocations,
         u.relocations,
         debug,
-        m,
+        x.machine,
         u.bytes,
         c.cie,
         table,
         e,
-        rows,
-        pairs,
+        x.rows,
+        x.pairs,
     );
-    let end = call_sites(sites, t.sites, e, landings);
+    let end = call_sites(to.sites, t.sites, e, x.landings);
     Table {
         bytes: at,
         relocations: i,
@@ -606,68 +580,26 @@ fn header_for(k: usize, at: usize, owners: &[u16], places: &[u64]) -> Chosen
 }
 
 // Function k of n, behind t.
-fn part(
-    s: Section,
-    m: Machine,
-    fs: &[u64],
-    rows: &[u64],
-    landings: &[u64],
-    pairs: &[u64],
-    owners: &[u16],
-    k: usize,
-    n: usize,
-    t: Table,
-    places: &mut [u64],
-    out: &mut [u8],
-    relocs: &mut [u64],
-    sites: &mut [u8],
-) -> Table
-    requires { PartReady (inputs s m fs.now rows.now landings.now pairs.now) k n t places.old out.old relocs.old sites.old × Owned s m fs.now rows.now (k + 1) owners.now }
-    ensures { Added (inputs s m fs.now rows.now landings.now pairs.now) k t result places.old places.new out.old out.new relocs.old relocs.new sites.old sites.new }
+fn part(x: &Input, owners: &[u16], k: usize, n: usize, t: Table, to: &mut Output) -> Table
+    requires { PartReady (inputs_of x.now) k n t to.old.places.now to.old.bytes.now to.old.relocations.now to.old.sites.now × Owned x.now.section x.now.machine x.now.functions.now x.now.rows.now (k + 1) owners.now }
+    ensures { Added (inputs_of x.now) k t result to.old.places.now to.new.places.now to.old.bytes.now to.new.bytes.now to.old.relocations.now to.new.relocations.now to.old.sites.now to.new.sites.now }
 {
-    let e = taken(s, extent_at(fs, k));
-    let c = header_for(k, t.bytes, owners, places);
-    let align = align_for(s, m.word, k + 1 == n);
-    places[k] = c.cie as u64;
-    piece(
-        c,
-        is_debug(s),
-        m,
-        align,
-        e,
-        t,
-        rows,
-        landings,
-        pairs,
-        out,
-        relocs,
-        sites,
-    )
+    let e = taken(x.section, extent_at(x.functions, k));
+    let c = header_for(k, t.bytes, owners, to.places);
+    let align = align_for(x.section, x.machine.word, k + 1 == n);
+    to.places[k] = c.cie as u64;
+    piece(x, c, align, e, t, to)
 }
 
 // All functions.
-fn store(
-    s: Section,
-    m: Machine,
-    fs: &[u64],
-    rows: &[u64],
-    landings: &[u64],
-    pairs: &[u64],
-    owners: &[u16],
-    places: &mut [u64],
-    out: &mut [u8],
-    relocs: &mut [u64],
-    sites: &mut [u8],
-) -> Table
-    requires { Cleared (inputs s m fs.now rows.now landings.now pairs.now) × Holds (inputs s m fs.now rows.now landings.now pairs.now) (count function_stride fs.now) places.old out.old relocs.old sites.old × Owned s m fs.now rows.now (count function_stride fs.now) owners.now }
-    ensures { Written (inputs s m fs.now rows.now landings.now pairs.now) (count function_stride fs.now) result places.old places.new out.old out.new relocs.old relocs.new sites.old sites.new }
+fn store(x: &Input, owners: &[u16], to: &mut Output) -> Table
+    requires { Cleared (inputs_of x.now) × Holds (inputs_of x.now) (count function_stride x.now.functions.now) to.old.places.now to.old.bytes.now to.old.relocations.now to.old.sites.now × Owned x.now.section x.now.machine x.now.functions.now x.now.rows.now (count function_stride x.now.functions.now) owners.now }
+    ensures { Written (inputs_of x.now) (count function_stride x.now.functions.now) result to.old.places.now to.new.places.now to.old.bytes.now to.new.bytes.now to.old.relocations.now to.new.relocations.now to.old.sites.now to.new.sites.now }
 {
-    let functions = fs.len() / lists::FUNCTION_STRIDE;
+    let functions = x.functions.len() / lists::FUNCTION_STRIDE;
     let mut t = Table::NOTHING;
     for k in 0..functions {
-        t = part(
-            s, m, fs, rows, landings, pairs, owners, k, functions, t, places, out, relocs, sites,
-        );
+        t = part(x, owners, k, functions, t, to);
     }
     t
 }
@@ -675,26 +607,12 @@ fn store(
 // ---- the whole
 
 // The functions written into lists that have room for them.
-fn stored(
-    s: Section,
-    m: Machine,
-    fs: &[u64],
-    rows: &[u64],
-    landings: &[u64],
-    pairs: &[u64],
-    owners: &[u16],
-    places: &mut [u64],
-    out: &mut [u8],
-    relocs: &mut [u64],
-    sites: &mut [u8],
-) -> Result<Option<Counts>, Refusal>
-    requires { Cleared (inputs s m fs.now rows.now landings.now pairs.now) × Holds (inputs s m fs.now rows.now landings.now pairs.now) (count function_stride fs.now) places.old out.old relocs.old sites.old × Owned s m fs.now rows.now (count function_stride fs.now) owners.now }
-    ensures { Writes (fitting (room_in places.old out.old relocs.old sites.old) (written_in (parts_to (inputs s m fs.now rows.now landings.now pairs.now) (count function_stride fs.now)))) result places.old places.new out.old out.new relocs.old relocs.new sites.old sites.new }
+fn stored(x: &Input, owners: &[u16], to: &mut Output) -> Result<Option<Counts>, Refusal>
+    requires { Cleared (inputs_of x.now) × Holds (inputs_of x.now) (count function_stride x.now.functions.now) to.old.places.now to.old.bytes.now to.old.relocations.now to.old.sites.now × Owned x.now.section x.now.machine x.now.functions.now x.now.rows.now (count function_stride x.now.functions.now) owners.now }
+    ensures { Writes (fitting (room_in to.old.places.now to.old.bytes.now to.old.relocations.now to.old.sites.now) (written_in (parts_to (inputs_of x.now) (count function_stride x.now.functions.now)))) result to.old.places.now to.new.places.now to.old.bytes.now to.new.bytes.now to.old.relocations.now to.new.relocations.now to.old.sites.now to.new.sites.now }
 {
-    let n = fs.len() / lists::FUNCTION_STRIDE;
-    let t = store(
-        s, m, fs, rows, landings, pairs, owners, places, out, relocs, sites,
-    );
+    let n = x.functions.len() / lists::FUNCTION_STRIDE;
+    let t = store(x, owners, to);
     Ok(Some(Counts {
         places: n as u64,
         bytes: t.bytes as u64,
@@ -704,102 +622,53 @@ fn stored(
 }
 
 // The functions written where there is room for t, which stands behind them.
-fn roomed(
-    s: Section,
-    m: Machine,
-    fs: &[u64],
-    rows: &[u64],
-    landings: &[u64],
-    pairs: &[u64],
-    owners: &[u16],
-    t: Table,
-    places: &mut [u64],
-    out: &mut [u8],
-    relocs: &mut [u64],
-    sites: &mut [u8],
-) -> Result<Option<Counts>, Refusal>
-    requires { Cleared (inputs s m fs.now rows.now landings.now pairs.now) × Owned s m fs.now rows.now (count function_stride fs.now) owners.now × (t ≡ totals_in (parts_to (inputs s m fs.now rows.now landings.now pairs.now) (count function_stride fs.now))) }
-    ensures { Writes (fitting (room_in places.old out.old relocs.old sites.old) (written_in (parts_to (inputs s m fs.now rows.now landings.now pairs.now) (count function_stride fs.now)))) result places.old places.new out.old out.new relocs.old relocs.new sites.old sites.new }
+fn roomed(x: &Input, owners: &[u16], t: Table, to: &mut Output) -> Result<Option<Counts>, Refusal>
+    requires { Cleared (inputs_of x.now) × Owned x.now.section x.now.machine x.now.functions.now x.now.rows.now (count function_stride x.now.functions.now) owners.now × (t ≡ totals_in (parts_to (inputs_of x.now) (count function_stride x.now.functions.now))) }
+    ensures { Writes (fitting (room_in to.old.places.now to.old.bytes.now to.old.relocations.now to.old.sites.now) (written_in (parts_to (inputs_of x.now) (count function_stride x.now.functions.now)))) result to.old.places.now to.new.places.now to.old.bytes.now to.new.bytes.now to.old.relocations.now to.new.relocations.now to.old.sites.now to.new.sites.now }
 {
-    let n = fs.len() / lists::FUNCTION_STRIDE;
-    let lent = Table {
-        bytes: out.len(),
-        relocations: relocs.len(),
-        sites: sites.len(),
-    };
-    room(n, t, places.len(), lent)?;
-    stored(
-        s, m, fs, rows, landings, pairs, owners, places, out, relocs, sites,
-    )
+    let n = x.functions.len() / lists::FUNCTION_STRIDE;
+    room(n, t, to.places.len(), to.lent())?;
+    stored(x, owners, to)
 }
 
 // The functions written where there is room; their owners are found first, in the lists lent for that. Lists that hold all
 // that functions like these can be save the pass that sizes them.
-fn fitted(
-    s: Section,
-    m: Machine,
-    fs: &[u64],
-    rows: &[u64],
-    landings: &[u64],
-    pairs: &[u64],
-    heads: &mut [u16],
-    links: &mut [u16],
-    owners: &mut [u16],
-    places: &mut [u64],
-    out: &mut [u8],
-    relocs: &mut [u64],
-    sites: &mut [u8],
-) -> Result<Option<Counts>, Refusal>
-    requires { Cleared (inputs s m fs.now rows.now landings.now pairs.now) × Unused (count function_stride fs.now) heads.old links.old owners.old }
-    ensures { Writes (fitting (room_in places.old out.old relocs.old sites.old) (written_in (parts_to (inputs s m fs.now rows.now landings.now pairs.now) (count function_stride fs.now)))) result places.old places.new out.old out.new relocs.old relocs.new sites.old sites.new }
+fn fitted(x: &Input, chains: &mut Chains, to: &mut Output) -> Result<Option<Counts>, Refusal>
+    requires { Cleared (inputs_of x.now) × Unused (count function_stride x.now.functions.now) chains.old.heads.now chains.old.links.now chains.old.owners.now }
+    ensures { Writes (fitting (room_in to.old.places.now to.old.bytes.now to.old.relocations.now to.old.sites.now) (written_in (parts_to (inputs_of x.now) (count function_stride x.now.functions.now)))) result to.old.places.now to.new.places.now to.old.bytes.now to.new.bytes.now to.old.relocations.now to.new.relocations.now to.old.sites.now to.new.sites.now }
 {
-    let n = fs.len() / lists::FUNCTION_STRIDE;
-    owners::owners(s, m, fs, rows, n, heads, links, owners);
-    let lent = Table {
-        bytes: out.len(),
-        relocations: relocs.len(),
-        sites: sites.len(),
-    };
-    if room(n, most(fs), places.len(), lent).is_err() {
-        let t = sizes(s, m, fs, rows, landings, pairs, owners);
-        return roomed(
-            s, m, fs, rows, landings, pairs, owners, t, places, out, relocs, sites,
-        );
+    let n = x.functions.len() / lists::FUNCTION_STRIDE;
+    owners::owners(
+        x.section,
+        x.machine,
+        x.functions,
+        x.rows,
+        n,
+        chains.heads,
+        chains.links,
+        chains.owners,
+    );
+    if room(n, most(x.functions), to.places.len(), to.lent()).is_err() {
+        let t = sizes(x, chains.owners);
+        return roomed(x, chains.owners, t, to);
     }
-    stored(
-        s, m, fs, rows, landings, pairs, owners, places, out, relocs, sites,
-    )
+    stored(x, chains.owners, to)
 }
 
 // Every question asked by itself, and the functions written where there is room.
-fn asked(
-    s: Section,
-    m: Machine,
-    fs: &[u64],
-    rows: &[u64],
-    landings: &[u64],
-    pairs: &[u64],
-    heads: &mut [u16],
-    links: &mut [u16],
-    owners: &mut [u16],
-    places: &mut [u64],
-    out: &mut [u8],
-    relocs: &mut [u64],
-    sites: &mut [u8],
-) -> Result<Option<Counts>, Refusal>
-    requires { MachineFits m × T (sums_ok fs.now) × Unused (count function_stride fs.now) heads.old links.old owners.old }
-    ensures { Writes (listed_answer s m fs.now rows.now landings.now pairs.now (room_in places.old out.old relocs.old sites.old)) result places.old places.new out.old out.new relocs.old relocs.new sites.old sites.new }
+fn asked(x: &Input, chains: &mut Chains, to: &mut Output) -> Result<Option<Counts>, Refusal>
+    requires { MachineFits x.now.machine × T (sums_ok x.now.functions.now) × Unused (count function_stride x.now.functions.now) chains.old.heads.now chains.old.links.now chains.old.owners.now }
+    ensures { Writes (listed_answer x.now.section x.now.machine x.now.functions.now x.now.rows.now x.now.landings.now x.now.pairs.now (room_in to.old.places.now to.old.bytes.now to.old.relocations.now to.old.sites.now)) result to.old.places.now to.new.places.now to.old.bytes.now to.new.bytes.now to.old.relocations.now to.new.relocations.now to.old.sites.now to.new.sites.now }
 {
-    if !functions_ok(fs, rows, landings, pairs, fs.len() / lists::FUNCTION_STRIDE) {
+    let n = x.functions.len() / lists::FUNCTION_STRIDE;
+    if !functions_ok(x.functions, x.rows, x.landings, x.pairs, n) {
         return Err(Refusal {
             number: 13,
             position: 0,
         });
     }
-    all_asks(s, m.word, fs, rows, pairs)?;
-    fitted(
-        s, m, fs, rows, landings, pairs, heads, links, owners, places, out, relocs, sites,
-    )
+    all_asks(x)?;
+    fitted(x, chains, to)
 }
 
 // The chains of owners empty again.
@@ -817,141 +686,61 @@ fn ample(fs: &[u64], places: usize, lent: Table) -> bool
 }
 
 // The one pass, where sizes are needed.
-fn tried(
-    s: Section,
-    m: Machine,
-    fs: &[u64],
-    rows: &[u64],
-    landings: &[u64],
-    pairs: &[u64],
-    places: usize,
-    lent: Table,
-    heads: &mut [u16],
-    links: &mut [u16],
-    owners: &mut [u16],
-) -> Option<Table>
-    requires { MachineFits m × T (sums_ok fs.now) × Unused (count function_stride fs.now) heads.old links.old owners.old }
-    ensures { AllSurveyed (inputs s m fs.now rows.now landings.now pairs.now) owners.new result × Enough (count function_stride fs.now) (length heads.new) links.new owners.new }
+fn tried(x: &Input, places: usize, lent: Table, chains: &mut Chains) -> Option<Table>
+    requires { MachineFits x.now.machine × T (sums_ok x.now.functions.now) × Unused (count function_stride x.now.functions.now) chains.old.heads.now chains.old.links.now chains.old.owners.now }
+    ensures { AllSurveyed (inputs_of x.now) chains.new.owners.now result × Enough (count function_stride x.now.functions.now) (length chains.new.heads.now) chains.new.links.now chains.new.owners.now }
 {
-    if ample(fs, places, lent) {
+    if ample(x.functions, places, lent) {
         return None;
     }
-    survey(s, m, fs, rows, landings, pairs, heads, links, owners)
+    survey(x, chains)
 }
 
 // One pass where it is enough, and every question by itself where it is not.
-fn answered(
-    s: Section,
-    m: Machine,
-    fs: &[u64],
-    rows: &[u64],
-    landings: &[u64],
-    pairs: &[u64],
-    heads: &mut [u16],
-    links: &mut [u16],
-    owners: &mut [u16],
-    places: &mut [u64],
-    out: &mut [u8],
-    relocs: &mut [u64],
-    sites: &mut [u8],
-) -> Result<Option<Counts>, Refusal>
-    requires { MachineFits m × T (sums_ok fs.now) × Unused (count function_stride fs.now) heads.old links.old owners.old }
-    ensures { Writes (listed_answer s m fs.now rows.now landings.now pairs.now (room_in places.old out.old relocs.old sites.old)) result places.old places.new out.old out.new relocs.old relocs.new sites.old sites.new }
+fn answered(x: &Input, chains: &mut Chains, to: &mut Output) -> Result<Option<Counts>, Refusal>
+    requires { MachineFits x.now.machine × T (sums_ok x.now.functions.now) × Unused (count function_stride x.now.functions.now) chains.old.heads.now chains.old.links.now chains.old.owners.now }
+    ensures { Writes (listed_answer x.now.section x.now.machine x.now.functions.now x.now.rows.now x.now.landings.now x.now.pairs.now (room_in to.old.places.now to.old.bytes.now to.old.relocations.now to.old.sites.now)) result to.old.places.now to.new.places.now to.old.bytes.now to.new.bytes.now to.old.relocations.now to.new.relocations.now to.old.sites.now to.new.sites.now }
 {
-    let lent = Table {
-        bytes: out.len(),
-        relocations: relocs.len(),
-        sites: sites.len(),
-    };
-    let v = tried(
-        s,
-        m,
-        fs,
-        rows,
-        landings,
-        pairs,
-        places.len(),
-        lent,
-        heads,
-        links,
-        owners,
-    );
-    if let Some(t) = v {
-        return roomed(
-            s, m, fs, rows, landings, pairs, owners, t, places, out, relocs, sites,
-        );
+    if let Some(t) = tried(x, to.places.len(), to.lent(), chains) {
+        return roomed(x, chains.owners, t, to);
     }
-    unchain(heads);
-    asked(
-        s, m, fs, rows, landings, pairs, heads, links, owners, places, out, relocs, sites,
-    )
+    unchain(chains.heads);
+    asked(x, chains, to)
 }
 
 // The same with the lists that the functions' owners are found in, which lie on the stack.
 fn answered_with<const HEADS: usize, const FUNCTIONS: usize>(
-    s: Section,
-    m: Machine,
-    fs: &[u64],
-    rows: &[u64],
-    landings: &[u64],
-    pairs: &[u64],
-    places: &mut [u64],
-    out: &mut [u8],
-    relocs: &mut [u64],
-    sites: &mut [u8],
+    x: &Input,
+    to: &mut Output,
 ) -> Result<Option<Counts>, Refusal>
-    requires { MachineFits m × T (sums_ok fs.now) × (count function_stride fs.now ≤ FUNCTIONS) × (FUNCTIONS ≤ 65536) × (0 < HEADS) × (HEADS ≤ 65536) }
-    ensures { Writes (listed_answer s m fs.now rows.now landings.now pairs.now (room_in places.old out.old relocs.old sites.old)) result places.old places.new out.old out.new relocs.old relocs.new sites.old sites.new }
+    requires { MachineFits x.now.machine × T (sums_ok x.now.functions.now) × (count function_stride x.now.functions.now ≤ FUNCTIONS) × (FUNCTIONS ≤ 65536) × (0 < HEADS) × (HEADS ≤ 65536) }
+    ensures { Writes (listed_answer x.now.section x.now.machine x.now.functions.now x.now.rows.now x.now.landings.now x.now.pairs.now (room_in to.old.places.now to.old.bytes.now to.old.relocations.now to.old.sites.now)) result to.old.places.now to.new.places.now to.old.bytes.now to.new.bytes.now to.old.relocations.now to.new.relocations.now to.old.sites.now to.new.sites.now }
 {
     let mut heads = [0u16; HEADS];
     let mut links = [0u16; FUNCTIONS];
     let mut owners = [0u16; FUNCTIONS];
-    answered(
-        s,
-        m,
-        fs,
-        rows,
-        landings,
-        pairs,
-        &mut heads,
-        &mut links,
-        &mut owners,
-        places,
-        out,
-        relocs,
-        sites,
-    )
+    let mut chains = Chains {
+        heads: &mut heads,
+        links: &mut links,
+        owners: &mut owners,
+    };
+    answered(x, &mut chains, to)
 }
 
 // The functions asked, sized and, where there is room, written. Clearing the lists for their owners is to cost little for a few
 // functions: there are three sizes of them.
-fn deliver(
-    s: Section,
-    m: Machine,
-    fs: &[u64],
-    rows: &[u64],
-    landings: &[u64],
-    pairs: &[u64],
-    places: &mut [u64],
-    out: &mut [u8],
-    relocs: &mut [u64],
-    sites: &mut [u8],
-) -> Result<Option<Counts>, Refusal>
-    requires { MachineFits m × T (sums_ok fs.now) }
-    ensures { Writes (listed_answer s m fs.now rows.now landings.now pairs.now (room_in places.old out.old relocs.old sites.old)) result places.old places.new out.old out.new relocs.old relocs.new sites.old sites.new }
+fn deliver(x: &Input, to: &mut Output) -> Result<Option<Counts>, Refusal>
+    requires { MachineFits x.now.machine × T (sums_ok x.now.functions.now) }
+    ensures { Writes (listed_answer x.now.section x.now.machine x.now.functions.now x.now.rows.now x.now.landings.now x.now.pairs.now (room_in to.old.places.now to.old.bytes.now to.old.relocations.now to.old.sites.now)) result to.old.places.now to.new.places.now to.old.bytes.now to.new.bytes.now to.old.relocations.now to.new.relocations.now to.old.sites.now to.new.sites.now }
 {
-    let n = fs.len() / lists::FUNCTION_STRIDE;
+    let n = x.functions.len() / lists::FUNCTION_STRIDE;
     if n <= 64 {
-        return answered_with::<61, 64>(s, m, fs, rows, landings, pairs, places, out, relocs, sites);
+        return answered_with::<61, 64>(x, to);
     }
     if n <= 2048 {
-        return answered_with::<2039, 2048>(
-            s, m, fs, rows, landings, pairs, places, out, relocs, sites,
-        );
+        return answered_with::<2039, 2048>(x, to);
     }
-    answered_with::<16381, { lists::MOST_FUNCTIONS }>(
-        s, m, fs, rows, landings, pairs, places, out, relocs, sites,
-    )
+    answered_with::<16381, MOST_FUNCTIONS>(x, to)
 }
 
 // A DWARF section of functions: headers and records, their relocations, the call sites, and each function's header place. A
@@ -982,17 +771,19 @@ pub fn dwarf(
             position: 0,
         });
     }
-    let m = machine_of(machine);
-    deliver(
-        s,
-        m,
+    let x = Input {
+        section: s,
+        machine: machine_of(machine),
         functions,
         rows,
         landings,
         pairs,
+    };
+    let mut to = Output {
         places,
         bytes,
         relocations,
         sites,
-    )
+    };
+    deliver(&x, &mut to)
 }

@@ -1,6 +1,6 @@
 -- `dwarf::answered` meets its contract.
 use mathlib.Core.Path.{refl}
-use Rattle.dwarf.specs.Parts.{inputs}
+use Rattle.dwarf.specs.Parts.{inputs_of}
 use Rattle.dwarf.proofs.Passed.{counted}
 use Rattle.dwarf.proofs.Cleared.{cleared}
 use Rattle.dwarf.proofs.Whole.{lists_passed, asked_passed, says_all}
@@ -14,14 +14,14 @@ tried-v-requires c = c.requires
 pub roomed-requires : goal.roomed-requires
 roomed-requires c =
     let s = (goal.at.roomed-requires c).Start in
-    let b = behind_say (inputs s.args.s s.args.m s.args.fs.now s.args.rows.now s.args.landings.now s.args.pairs.now) c.tried-v.ensures.0 c.in-Behind.is in
-    (cleared (inputs s.args.s s.args.m s.args.fs.now s.args.rows.now s.args.landings.now s.args.pairs.now) s.requires.0 (counted s.args.fs.now s.requires.1) b.0, b.2, b.1)
+    let b = behind_say (inputs_of s.args.x.now) c.tried-v.ensures.0 c.in-Behind.is in
+    (cleared (inputs_of s.args.x.now) s.requires.0 (counted s.args.x.now.functions.now s.requires.1) b.0, b.2, b.1)
 
 pub returns-in-Behind : goal.returns-in-Behind
 returns-in-Behind c =
     let s = (goal.at.returns-in-Behind c).Start in
-    let b = behind_say (inputs s.args.s s.args.m s.args.fs.now s.args.rows.now s.args.landings.now s.args.pairs.now) c.tried-v.ensures.0 c.in-Behind.is in
-    says_all (inputs s.args.s s.args.m s.args.fs.now s.args.rows.now s.args.landings.now s.args.pairs.now) s.args.places.now s.args.out.now s.args.relocs.now s.args.sites.now (lists_passed (inputs s.args.s s.args.m s.args.fs.now s.args.rows.now s.args.landings.now s.args.pairs.now) s.requires.1 b.0) (asked_passed (inputs s.args.s s.args.m s.args.fs.now s.args.rows.now s.args.landings.now s.args.pairs.now) s.requires.1 b.0) refl c.roomed.ensures
+    let b = behind_say (inputs_of s.args.x.now) c.tried-v.ensures.0 c.in-Behind.is in
+    says_all (inputs_of s.args.x.now) s.args.to.now.places.now s.args.to.now.bytes.now s.args.to.now.relocations.now s.args.to.now.sites.now (lists_passed (inputs_of s.args.x.now) s.requires.1 b.0) (asked_passed (inputs_of s.args.x.now) s.requires.1 b.0) refl c.roomed.ensures
 
 pub asked-requires : goal.asked-requires
 asked-requires c =

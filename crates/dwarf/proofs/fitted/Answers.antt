@@ -1,5 +1,5 @@
 -- `dwarf::fitted` meets its contract.
-use Rattle.dwarf.specs.Parts.{inputs}
+use Rattle.dwarf.specs.Parts.{inputs_of}
 use Rattle.std.proofs.Common.{sym, ◌∙◌}
 use Rattle.dwarf.proofs.Outcomes.{room_for_lem}
 use Rattle.format.proofs.Asked.{no_error}
@@ -26,7 +26,7 @@ returns-then-is_err c = c.roomed.ensures
 pub stored-requires : goal.stored-requires
 stored-requires c =
     let s = (goal.at.stored-requires c).Start in
-    (s.requires.0, room_for_lem (inputs s.args.s s.args.m s.args.fs.now s.args.rows.now s.args.landings.now s.args.pairs.now) s.args.places.now s.args.out.now s.args.relocs.now s.args.sites.now c.room.ensures (no_error _ (sym c.is_err.ensures.value ∙ c.if-is_err.false)) (rw c.most.ensures s.requires.0.covered), c.owners.ensures)
+    (s.requires.0, room_for_lem (inputs_of s.args.x.now) s.args.to.now.places.now s.args.to.now.bytes.now s.args.to.now.relocations.now s.args.to.now.sites.now c.room.ensures (no_error _ (sym c.is_err.ensures.value ∙ c.if-is_err.false)) (rw c.most.ensures s.requires.0.covered), c.owners.ensures)
 
 pub returns : goal.returns
 returns c = c.stored.ensures

@@ -9,7 +9,7 @@ use Rattle.dwarf.proofs.size_next.Goals as goal
 use Rattle.dwarf.proofs.size_next.Goals.{After-position}
 
 -- the owner that was looked up is function k's
-owner-is : (c : After-position) → c.position.result ≡ owner c.args.s c.args.m c.args.fs.now c.args.rows.now c.args.k
+owner-is : (c : After-position) → c.position.result ≡ owner c.args.x.now.section c.args.x.now.machine c.args.x.now.functions.now c.args.x.now.rows.now c.args.k
 owner-is c =
     c.position.ensures.0 ∙ c.requires.1.each_one c.args.k (omega arith)
 
