@@ -69,40 +69,32 @@ one_more {w} {from} {rows} {i} {end} {r} {x} h s p =
           (omega (arith, s.bytes, p.bytes, length-append (stepped_row_bytes w from (row_at rows i)) (rows_in w (row_at rows i).0 rows (i + 1) (end - (i + 1)))));
     }
 
--- ---- the loop: at row i with `left` to go, all rows pass where those do
+-- ---- the loop: at row i all rows pass where those from it on do
 
-pub record Surveying (w : ℕ) (rows : List ℕ) (first n i left from size : ℕ) : Type 0 where
-  pub low : first ≤ i
-  pub past : i + left ≡ first + n
-  pub small : size ≤ 14 * (n - left)
+pub record Surveying (w : ℕ) (rows : List ℕ) (first n i from size : ℕ) : Type 0 where
+  pub small : size ≤ 14 * (i - first)
   pub rest : (x : ℕ) → Passed w from rows i (first + n - i) x → Passed w 0 rows first n (size + x)
 
-pub start : (w : ℕ) (rows : List ℕ) (first n : ℕ) → Surveying w rows first n first n 0 0
+pub start : (w : ℕ) (rows : List ℕ) (first n : ℕ) → Surveying w rows first n first 0 0
 start w rows first n = record {
-  low = omega arith;
-  past = refl;
   small = omega arith;
   rest = λ x p. let e : first + n - first ≡ n = omega arith in let z : x ≡ 0 + x = omega arith in subst (Passed w 0 rows first n) z (rw e at p);
 }
 
-module _ {w : ℕ} {rows : List ℕ} {first n i left from size : ℕ} (s : Surveying w rows first n i left from size) where
-  pub turn : {to r : ℕ} → 0 < left → to ≡ field row_stride rows i 0 → r ≤ 14 → SurveyedRow w from rows i r
-      → Surveying w rows first n (i + 1) (left - 1) to (size + r)
-  turn {to} {r} h o l q =
-      let b : i < first + n = omega (arith, s.past) in
-      record {
-        low = omega (arith, s.low);
-        past = omega (arith, s.past);
-        small = omega (arith, s.small, s.past, s.low);
-        rest = λ x p.
-            let z : size + (r + x) ≡ size + r + x = omega arith in
-            subst (Passed w 0 rows first n) z (s.rest (r + x) (one_more b q (rw (o, ← offset_of rows i) at p)));
-      }
+module _ {w : ℕ} {rows : List ℕ} {first n i from size : ℕ} (s : Surveying w rows first n i from size) where
+  pub turn : {to r : ℕ} → first ≤ i → i < first + n → to ≡ field row_stride rows i 0 → r ≤ 14 → SurveyedRow w from rows i r
+      → Surveying w rows first n (i + 1) to (size + r)
+  turn {to} {r} low h o l q = record {
+    small = omega (arith, s.small);
+    rest = λ x p.
+        let z : size + (r + x) ≡ size + r + x = omega arith in
+        subst (Passed w 0 rows first n) z (s.rest (r + x) (one_more h q (rw (o, ← offset_of rows i) at p)));
+  }
 
-  pub ended : left ≡ 0 → first + n ≤ count row_stride rows → SurveyedRows w rows first n size
+  pub ended : first + n ≤ i → first + n ≤ count row_stride rows → SurveyedRows w rows first n size
   unfolding all_in
   ended h k =
-      let e : first + n - i ≡ 0 = omega (arith, s.past) in
+      let e : first + n - i ≡ 0 = omega arith in
       let z : size + 0 ≡ size = omega arith in
       let p = subst (Passed w 0 rows first n) z (s.rest 0 (rw e (none w from rows i))) in
       record { ready = record { inside = k; ok = is_yes_lem p.ok }; steps = p.steps; whole = p.whole; bytes = p.bytes }

@@ -1,5 +1,5 @@
 -- Rows and the steps between them, in a list of numbers.
-use Rattle.std.specs.Prelude.{◌≡◌, ℕ, ◌+◌, ◌-◌, ◌*◌, ◌^◌, ◌≤◌, ◌<◌, true, List, ◌++◌, T, length}
+use Rattle.std.specs.Prelude.{◌≡◌, ℕ, ◌+◌, ◌-◌, ◌*◌, ◌^◌, ◌≤◌, ◌<◌, true, List, ◌++◌, T, length, Option, Some, None}
 use Rattle.format.specs.Prelude.{all, each}
 use Rattle.format.specs.Rows.{RowAt, row_bytes, step_bytes, stepped_bytes, row_whole}
 use Rattle.format.specs.Lists.{row_at, row_ok_at, most_records}
@@ -7,8 +7,6 @@ use Rattle.format.specs.Questions.{steps_ok}
 use Rattle.format.proofs.RowBack.{RowFits}
 use Rattle.format.proofs.WalkBack.{RowsAtOk}
 use Rattle.header_keys.specs.Functions.{RowsReady}
-use Rattle.records.specs.declared.RowsSize.{RowsSize}
-use Rattle.records.specs.declared.RowsSize.TheVariants.{Bytes, Unsure}
 
 -- a row and its step, from the offset `from` on
 unfoldable pub stepped_row_bytes : (w from : ℕ) → RowAt → List ℕ
@@ -50,6 +48,6 @@ pub record SurveyedRows (w : ℕ) (rows : List ℕ) (at n size : ℕ) : Type 0 w
   pub whole : all (λ x. row_whole w x.1) (each (row_at rows) at n) ≡ true
   pub bytes : size ≡ length (rows_in w 0 rows at n)
 
-abbrev pub Surveyed : (w : ℕ) (rows : List ℕ) (at n : ℕ) → RowsSize → Type 0
-Surveyed w rows at n (Bytes size) = SurveyedRows w rows at n size
-Surveyed w rows at n Unsure = Unit
+abbrev pub Surveyed : (w : ℕ) (rows : List ℕ) (at n : ℕ) → Option ℕ → Type 0
+Surveyed w rows at n (Some size) = SurveyedRows w rows at n size
+Surveyed w rows at n None = Unit

@@ -1,7 +1,7 @@
 // Call sites, and a record's bytes, size and relocations. Ported from rucc-asm/src/unwind.rs (call_sites, record, eh_record, debug_record, relaxed_advance, pair) of tamnd/rucc, changed: see NOTICE.
 #![tactic(auto)]
 
-ghost use Rattle.std.specs.Prelude.{◌≡◌, true, false, [], ◌+◌, ◌-◌, ◌*◌, ◌^◌, ◌≤◌, ◌<◌, T, length, replicate};
+ghost use Rattle.std.specs.Prelude.{◌≡◌, true, false, [], ◌+◌, ◌-◌, ◌*◌, ◌^◌, ◌≤◌, ◌<◌, T, length, replicate, IfSome};
 ghost use Rattle.std.proofs.Math.Option.{some};
 ghost use Rattle.format.proofs.Wrote.{Wrote};
 ghost use Rattle.format.specs.Prelude.{each};
@@ -161,53 +161,32 @@ pub fn stepped_rows_size(word: u64, rows: &[u64], first: usize, n: usize) -> usi
 
 // ---- rows asked and sized at once
 
-// The bytes of rows with the steps between them, where all of the rows pass questions 13, 23 and 24. Unsure says nothing.
-#[derive(Clone, Copy)]
-pub enum RowsSize {
-    Bytes(usize),
-    Unsure,
-}
-
-// The size of row i and its step, from the offset `from` on, where the row passes the three. 0 says nothing.
-fn surveyed_row(word: u64, from: u64, rows: &[u64], i: usize) -> usize
+// The size of row i and its step, from the offset `from` on, where the row passes questions 13, 23 and 24. None says nothing.
+fn surveyed_row(word: u64, from: u64, rows: &[u64], i: usize) -> Option<usize>
     requires { T (is_word_size word) × (4 * i + 4 ≤ length rows.now) }
-    ensures { (result ≤ 14) × (0 < result → SurveyedRow word from rows.now i result) }
+    ensures { IfSome result (λ n. (n ≤ 14) × SurveyedRow word from rows.now i n) }
 {
     let to = rows::offset_at(rows, i);
     if to < from {
-        return 0;
+        return None;
     }
-    let r = rows::surveyed(word, rows, i);
-    if r == 0 {
-        return 0;
-    }
-    let a = rows::step_surveyed(to - from);
-    if a == rows::TOO_FAR {
-        return 0;
-    }
-    a + r
+    let row = rows::surveyed(word, rows, i)?;
+    let step = rows::step_surveyed(to - from)?;
+    Some(step + row)
 }
 
-// The size of n rows from `first` on.
-pub fn surveyed_rows(word: u64, rows: &[u64], first: usize, n: usize) -> RowsSize
+// The size of n rows from `first` on with the steps between them, where all of the rows pass the three. None says nothing.
+pub fn surveyed_rows(word: u64, rows: &[u64], first: usize, n: usize) -> Option<usize>
     requires { T (is_word_size word) × (first + n ≤ count row_stride rows.now) × (n ≤ most_records) }
     ensures { Surveyed word rows.now first n result }
 {
-    let mut i = first;
-    let mut left = n;
     let mut from = 0;
     let mut size = 0;
-    while left != 0 {
-        let r = surveyed_row(word, from, rows, i);
-        if r == 0 {
-            return RowsSize::Unsure;
-        }
-        size += r;
+    for i in first..first + n {
+        size += surveyed_row(word, from, rows, i)?;
         from = rows::offset_at(rows, i);
-        i += 1;
-        left -= 1;
     }
-    RowsSize::Bytes(size)
+    Some(size)
 }
 
 // ---- a record's fields
