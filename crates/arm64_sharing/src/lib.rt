@@ -7,7 +7,7 @@ ghost use Rattle.format.proofs.Wrote.{Wrote};
 ghost use Rattle.arm64.specs.Runs.{simplify, run_fits, backwards, run_bytes, no_pair, leads, same_codes};
 ghost use Rattle.arm64_simple.specs.Saves.{saves, Inside};
 
-use arm64_simple::Run;
+use arm64_simple::{Run, Steps};
 
 // A run's bytes: its codes, which have `size` of them, the last saved first, and its end.
 pub fn put_run(out: &mut [u8], at: usize, size: usize, cs: &[u64], run: Run) -> usize
@@ -15,31 +15,21 @@ pub fn put_run(out: &mut [u8], at: usize, size: usize, cs: &[u64], run: Run) -> 
     ensures { Wrote out.old out.new at result (run_bytes (simplify no_pair (saves cs.now run))) }
 {
     let mut to = at + size;
-    let mut b = arm64_simple::NO_PAIR;
-    for j in 0..run.count {
-        let c = arm64_simple::simple(b, arm64_simple::saved_at(cs, run, j));
-        to -= arm64_spelled::code_size(c);
-        let _past = arm64_spelled::put_code(out, to, c);
-        b = arm64_simple::pair_behind(b, c);
+    for s in Steps::of(cs, run) {
+        to -= arm64_spelled::code_size(s.written);
+        let _past = arm64_spelled::put_code(out, to, s.written);
     }
     leb::byte(out, at + size, 0xe4)
 }
 
-// Whether a run is the first part of another, which is as long or longer: the pair before is the same in both while their codes are.
+// Whether a run is the first part of another, which is as long or longer.
 fn leads_long(cs: &[u64], run: Run, other: Run) -> bool
     requires { Inside cs.now run × Inside cs.now other × (run.count ≤ other.count) }
     ensures { result ≡ leads (simplify no_pair (saves cs.now run)) (simplify no_pair (saves cs.now other)) }
 {
-    let mut b = arm64_simple::NO_PAIR;
-    for j in 0..run.count {
-        let c = arm64_simple::simple(b, arm64_simple::saved_at(cs, run, j));
-        let d = arm64_simple::simple(b, arm64_simple::saved_at(cs, other, j));
-        if c != d {
-            return false;
-        }
-        b = arm64_simple::pair_behind(b, c);
-    }
-    true
+    Steps::of(cs, run)
+        .zip(Steps::of(cs, other))
+        .all(|(s, t)| s.written == t.written)
 }
 
 pub fn leads(cs: &[u64], run: Run, other: Run) -> bool

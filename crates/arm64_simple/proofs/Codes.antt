@@ -12,8 +12,8 @@ use lib.ListN.{get_or}
 use Rattle.arm64.specs.Lists.{numbered_code}
 use Rattle.arm64_simple.specs.declared.Run.{Run}
 use Rattle.arm64_simple.specs.Saves.{place_of, saved_at}
-use Rattle.arm64.specs.Codes.{code, form_for, register_fits, code_fits}
-use Rattle.arm64.specs.Runs.{same_code, shorter, pair_in, has_next, next_pair, resolved, next_or, simple, simple_fits}
+use Rattle.arm64.specs.Codes.{code}
+use Rattle.arm64.specs.Runs.{same_code, shorter, pair_in, has_next, next_pair, resolved, next_or}
 use Rattle.arm64.proofs.MeaningLaws.{both_true}
 
 and_assoc : (x y z : Bool) → (x && (y && z)) ≡ ((x && y) && z)
@@ -204,14 +204,6 @@ module _ (b c : Code) where
   pub or_same : c.kind ≡ 4 → same_code (next_pair b) c ≡ false → c ≡ next_or b c
   unfolding next_or pick
   or_same k e = simp (eq-eqb c.kind 4 k, e)
-
-  pub fits_no : register_fits (form_for (shorter c)) (shorter c) ≡ false → false ≡ simple_fits b c
-  unfolding simple_fits
-  fits_no e = simp e
-
-  pub fits_by : register_fits (form_for (shorter c)) (shorter c) ≡ true → code_fits (simple b c) ≡ simple_fits b c
-  unfolding simple_fits
-  fits_by e = simp e
 
 pub saved_by : (cs : List ℕ) (r : Run) (i j : ℕ) → i ≡ place_of r j → code (get_or cs (3 * i) 0) (get_or cs (3 * i + 1) 0) (get_or cs (3 * i + 2) 0) ≡ saved_at cs r j
 unfolding saved_at numbered_code

@@ -1,2 +1,3 @@
 -- A run's codes out of a list of numbers.
 pub mod Saves
+pub mod Steps

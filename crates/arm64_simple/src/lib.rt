@@ -4,7 +4,7 @@
 
 ghost use Rattle.std.specs.Prelude.{◌≡◌, true, ◌+◌, ◌*◌, ◌^◌, ◌≤◌, ◌<◌, length};
 ghost use Rattle.format.proofs.Wrote.{Wrote};
-ghost use Rattle.arm64.specs.Runs.{shorter, pair_in, has_next, next_pair, resolved, next_or, simple, pair_behind, simplify, simple_fits, run_fits, backwards, no_pair, leads};
+ghost use Rattle.arm64.specs.Runs.{shorter, pair_in, has_next, next_pair, resolved, next_or, simple, pair_behind, simplify, run_fits, backwards, no_pair, leads};
 ghost use Rattle.arm64_simple.specs.Saves.{place_of, saved_at, saves, Inside};
 
 use arm64::{Code, fields};
@@ -141,16 +141,6 @@ pub fn pair_behind(b: Code, c: Code) -> Code
     pair_in(resolved(b, c))
 }
 
-// Question 83.
-fn simple_fits(b: Code, c: Code) -> bool
-    ensures { result ≡ simple_fits b c }
-{
-    if !arm64_spelled::register_ok(shorter(c)) {
-        return false;
-    }
-    arm64_spelled::code_fits(simple(b, c))
-}
-
 // ---- runs
 
 // The place of the j-th code that a run saves.
@@ -176,19 +166,91 @@ pub fn saved_at(cs: &[u64], run: Run, j: usize) -> Code
     )
 }
 
+// A code of a run: what stands before it, how it is given and how it is written.
+#[derive(Clone, Copy)]
+pub struct Step {
+    pub before: Code,
+    pub given: Code,
+    pub written: Code,
+}
+
+impl Step {
+    ghost use Rattle.arm64_simple.specs.Steps.{step_fits};
+
+    // As it is written, a SaveNext as the pair that it saves.
+    pub fn resolved(self) -> Code
+        ensures { result ≡ resolved self.before self.written }
+    {
+        resolved(self.before, self.written)
+    }
+
+    // Question 83.
+    fn fits(self) -> bool
+        ensures { result ≡ step_fits self }
+    {
+        arm64_spelled::register_ok(shorter(self.given)) && arm64_spelled::code_fits(self.written)
+    }
+}
+
+// The codes of a run from the next on, in the order in which they save.
+#[derive(Drop)]
+pub struct Steps<'a> {
+    codes: &'a [u64],
+    run: Run,
+    next: usize,
+    before: Code,
+    ghost inside: { Inside codes.now run },
+    ghost within: { next ≤ run.count },
+}
+
+impl<'a> Steps<'a> {
+    ghost use Rattle.arm64_simple.specs.Steps.{steps, steps_left};
+
+    pub fn of(codes: &'a [u64], run: Run) -> Steps<'a>
+        requires { Inside codes.now run }
+        ensures { steps_left result ≡ steps no_pair (saves codes.now run) }
+    {
+        Steps {
+            codes,
+            run,
+            next: 0,
+            before: NO_PAIR,
+        }
+    }
+}
+
+impl Iterator for Steps<'_> {
+    ghost use Rattle.std.specs.Iterator.{YieldsFirst, item_count};
+    ghost use Rattle.arm64_simple.specs.Steps.{steps_left};
+
+    type Item = Step;
+
+    ghost next_gives = { YieldsFirst steps_left };
+
+    ghost remaining = { item_count steps_left };
+
+    fn next(&mut self) -> Option<Step> {
+        if self.next == self.run.count {
+            return None;
+        }
+        let before = self.before;
+        let given = saved_at(self.codes, self.run, self.next);
+        let written = simple(before, given);
+        self.before = pair_behind(before, written);
+        self.next += 1;
+        Some(Step {
+            before,
+            given,
+            written,
+        })
+    }
+}
+
 pub fn run_fits(cs: &[u64], run: Run) -> bool
     requires { Inside cs.now run }
     ensures { result ≡ run_fits no_pair (saves cs.now run) }
 {
-    let mut b = NO_PAIR;
-    for j in 0..run.count {
-        let c = saved_at(cs, run, j);
-        if !simple_fits(b, c) {
-            return false;
-        }
-        b = pair_behind(b, simple(b, c));
-    }
-    true
+    Steps::of(cs, run).all(|s| s.fits())
 }
 
 // How many bytes the codes of a run have, without its end.
@@ -196,12 +258,9 @@ pub fn run_size(cs: &[u64], run: Run) -> usize
     requires { Inside cs.now run }
     ensures { (result ≡ length (backwards (simplify no_pair (saves cs.now run)))) × (result ≤ 4 * run.count) }
 {
-    let mut b = NO_PAIR;
     let mut size = 0;
-    for j in 0..run.count {
-        let c = simple(b, saved_at(cs, run, j));
-        size += arm64_spelled::code_size(c);
-        b = pair_behind(b, c);
+    for s in Steps::of(cs, run) {
+        size += arm64_spelled::code_size(s.written);
     }
     size
 }

@@ -1,23 +1,16 @@
 -- `arm64_sharing::leads_long` meets its contract.
-use native.Mathlib.Omega.{arith}
-use Rattle.arm64_simple.proofs.Codes.{differing, agreeing}
-use Rattle.arm64_sharing.proofs.Comparing.{comparing_start, comparing_stopped, comparing_turn, comparing_ended}
+use Rattle.std.proofs.Common.{rules, ap, ◌∙◌}
+use Rattle.std.proofs.lemmas.Iterator.{YieldsList-from_zip}
+use Rattle.std.proofs.lemmas.Iterator.Consumers.{YieldsList-from_first}
+use Rattle.std.proofs.lemmas.Iterator.Search.{all_from_yields_List}
+use borrow.Author.Tests.{tests}
+use Rattle.arm64_simple.specs.Steps.{steps_left}
+use Rattle.arm64_sharing.proofs.Comparing.{same_written, leads_all}
 use Rattle.arm64_sharing.proofs.leads_long.Goals as goal
 
-pub loop-j-init : goal.loop-j-init
-loop-j-init c = comparing_start c.args.cs.now c.args.run c.args.other
-
-pub saved_at-requires : goal.saved_at-requires
-saved_at-requires c = (c.requires.0, c.loop-j-test.true)
-
-pub saved_at-requires-in-loop-j : goal.saved_at-requires-in-loop-j
-saved_at-requires-in-loop-j c = (c.requires.1, omega (arith, c.loop-j-test.true, c.requires.2))
-
-pub returns-then-ne : goal.returns-then-ne
-returns-then-ne c = comparing_stopped c.loop-j.invariant c.loop-j-test.true c.requires.2 c.saved_at.ensures c.simple-c.ensures c.saved_at-in-loop-j.ensures c.simple-d.ensures (differing _ _ c.if-ne.ensures)
-
-pub loop-j-preserved : goal.loop-j-preserved
-loop-j-preserved c = comparing_turn c.loop-j.invariant c.loop-j-test.true c.requires.2 c.saved_at.ensures c.simple-c.ensures c.saved_at-in-loop-j.ensures c.simple-d.ensures (agreeing _ _ c.if-ne.ensures) c.pair_behind-b.ensures
-
 pub returns : goal.returns
-returns c = comparing_ended c.loop-j.invariant (omega (arith, c.loop-j-test.false))
+returns c =
+    all_from_yields_List same_written c.all.new.self _ _ c.all.ensures.ran
+    (YieldsList-from_zip (YieldsList-from_first (λ x. x) steps_left {s = c.zip.result.a} _ (ap steps_left c.zip.ensures.first ∙ c.of.ensures)) (YieldsList-from_first (λ x. x) steps_left {s = c.zip.result.b} _ (ap steps_left c.zip.ensures.second ∙ c.of-2.ensures)))
+    (λ x b q k. search (rules, tests))
+    ∙ leads_all c.args.cs.now c.args.run c.args.other c.requires.2

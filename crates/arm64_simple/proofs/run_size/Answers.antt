@@ -1,20 +1,19 @@
 -- `arm64_simple::run_size` meets its contract.
-use mathlib.Core.Path.{refl}
-use native.Mathlib.Omega.{arith}
+use Rattle.std.proofs.Common.{arith}
+use lib.ListN.{length}
+use mathlib.Core.Path.{ap, ◌∙◌}
+use Rattle.arm64_simple.specs.Steps.{steps_left}
 use Rattle.arm64_simple.proofs.Loops.{sizing_start, sizing_turn, sizing_ended}
 use Rattle.arm64_simple.proofs.run_size.Goals as goal
 
-pub loop-j-init : goal.loop-j-init
-loop-j-init c = sizing_start refl
-
-pub saved_at-requires : goal.saved_at-requires
-saved_at-requires c = (c.requires, c.loop-j-test.true)
+pub loop-s-init : goal.loop-s-init
+loop-s-init c = sizing_start c.args.cs.now c.args.run (ap steps_left c.into_iter-s-iterator.ensures.into_iter_gives ∙ c.of-s-items.ensures)
 
 pub overflow_add-size : goal.overflow_add-size
-overflow_add-size c = omega (arith, c.loop-j.invariant.few, c.loop-j.invariant.high, c.code_size-size.ensures.2, c.requires.low, c.loop-j-test.true)
+overflow_add-size c = omega (arith, c.loop-s.invariant.few, ap length c.in-Some.ensures.steps, c.code_size-size.ensures.2, c.requires.low)
 
-pub loop-j-preserved : goal.loop-j-preserved
-loop-j-preserved c = sizing_turn c.loop-j.invariant c.loop-j-test.true c.saved_at.ensures c.simple-c.ensures c.code_size-size.ensures.0 c.code_size-size.ensures.2 c.pair_behind-b.ensures
+pub loop-s-preserved : goal.loop-s-preserved
+loop-s-preserved c = sizing_turn c.loop-s.invariant c.in-Some.ensures.steps c.code_size-size.ensures.0 c.code_size-size.ensures.2
 
 pub returns : goal.returns
-returns c = sizing_ended c.loop-j.invariant (omega (arith, c.loop-j-test.false))
+returns c = sizing_ended c.loop-s.invariant c.in-None.ensures.steps.0
