@@ -1,14 +1,11 @@
 -- Digests of keys, row by row.
 use mathlib.Core.Path.{◌≡◌, refl, sym, ap, ◌∙◌}
-use Prim.Native.Nat.{ℕ, suc, ◌+◌, ◌%◌, ◌^◌, ◌≤◌, ◌<◌}
+use Prim.Native.Nat.{ℕ, suc, ◌+◌, ◌^◌, ◌≤◌, ◌<◌}
 use native.Mathlib.Omega.{arith}
 use native.Mathlib.Numerals.{add-one}
-use mathlib.Core.Bool.{true, false}
 use mathlib.Core.List.{List, [], ◌∷◌}
-use borrow.Author.Tests.{eq-eqb, ne_eqb}
 use lib.ListN.{length, drop, get_or, drop_of_length-le}
 use lib.Seq.{drop-cons}
-use Rattle.format.specs.Prelude.{pick}
 use Rattle.format.specs.declared.Machine.{Machine}
 use Rattle.format.specs.declared.Row.{Row}
 use Rattle.format.specs.declared.Row.TheVariants.{DefCfa, DefCfaOffset, DefCfaRegister, Offset, Restore, Undefined, RememberState, RestoreState, NegateRaState, SameValue, InRegister}
@@ -35,22 +32,6 @@ kind_low RestoreState = omega arith
 kind_low NegateRaState = omega arith
 kind_low (SameValue reg) = omega arith
 kind_low (InRegister reg other) = omega arith
-
--- ---- kinds, by the code's tests
-
-module _ (e : Extent) where
-  pub landed : (e.landings ≡ 0 → ⊥) → 1 ≡ kind_number (kind_in e)
-  unfolding kind_in kind_number pick
-  landed x = simp (ne_eqb _ _ x)
-
-  module _ (x : e.landings ≡ 0) where
-    pub by_name : e.personality ≡ true → 2 + e.routine % 4294967296 ≡ kind_number (kind_in e)
-    unfolding kind_in kind_number pick
-    by_name p = simp (eq-eqb _ _ x, p)
-
-    pub by_none : e.personality ≡ false → 0 ≡ kind_number (kind_in e)
-    unfolding kind_in kind_number pick
-    by_none p = simp (eq-eqb _ _ x, p)
 
 -- ---- rows
 

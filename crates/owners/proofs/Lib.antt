@@ -1,5 +1,4 @@
 -- The lemmas of this crate's functions, and the laws that callers of it need.
-pub mod KindLaws
 pub mod Finding
 pub mod Comparing
 pub mod Firsts

@@ -18,58 +18,38 @@ use lists::Extent;
 // ---- kinds of header
 
 // Two functions have LSDAs of one encoding, or neither has one.
+#[tactic(auto, unfolding(header_keys::specs::Kinds::lsda_in, header_keys::specs::Kinds::lsda_of, format::specs::Headers::same_encoding, format::specs::Prelude::pick))]
 fn same_lsda(a: Extent, b: Extent) -> bool
     ensures { result ≡ same_encoding (lsda_in a) (lsda_in b) }
 {
-    if a.lsda {
-        if b.lsda {
-            return a.lsda_encoding == b.lsda_encoding;
-        }
-        return false;
-    }
-    !b.lsda
+    a.lsda == b.lsda && (!a.lsda || a.lsda_encoding == b.lsda_encoding)
 }
 
 // Two named personalities make one kind: by their encodings, their symbols and the LSDA's encoding.
 fn same_named(a: Extent, b: Extent) -> bool
     ensures { result ≡ eqb a.encoding b.encoding && eqb a.routine b.routine && same_encoding (lsda_in a) (lsda_in b) }
 {
-    if a.encoding != b.encoding {
-        return false;
-    }
-    if a.routine != b.routine {
-        return false;
-    }
-    same_lsda(a, b)
+    a.encoding == b.encoding && a.routine == b.routine && same_lsda(a, b)
 }
 
 // Two functions ask for one kind of header.
+#[tactic(auto, unfolding(header_keys::specs::Kinds::kind_in, format::specs::Headers::same_kind, format::specs::Prelude::pick))]
 fn same_kind(a: Extent, b: Extent) -> bool
     ensures { result ≡ same_kind (kind_in a) (kind_in b) }
 {
-    if a.landings != 0 {
-        return b.landings != 0;
+    match (kind_of(a), kind_of(b)) {
+        (Kind::Plain, Kind::Plain) => true,
+        (Kind::Personal, Kind::Personal) => true,
+        (Kind::Named, Kind::Named) => same_named(a, b),
+        _ => false,
     }
-    if b.landings != 0 {
-        return false;
-    }
-    if a.personality {
-        if b.personality {
-            return same_named(a, b);
-        }
-        return false;
-    }
-    !b.personality
 }
 
 // Two functions ask for one kind of header and agree in the signal mark.
 fn same_kind_and_signal(a: Extent, b: Extent) -> bool
     ensures { result ≡ same_kind (kind_in a) (kind_in b) && beq a.signal b.signal }
 {
-    if !same_kind(a, b) {
-        return false;
-    }
-    a.signal == b.signal
+    same_kind(a, b) && a.signal == b.signal
 }
 
 // ---- leading rows
@@ -115,6 +95,7 @@ fn mixed(d: u64, r: Row) -> u64
 }
 
 // What the digest of a function's key starts with: its kind of header.
+#[tactic(auto, unfolding(header_keys::specs::Kinds::kind_in, crate::specs::Chains::kind_number, format::specs::Prelude::pick))]
 fn kind_number(e: Extent) -> u64
     ensures { (result ≡ kind_number (kind_in e)) × (result < 2 ^ 34) }
 {
@@ -132,10 +113,8 @@ fn digest(m: Machine, e: Extent, rows: &[u64]) -> u64
 {
     let n = header_keys::leading_count(m, e, rows);
     let mut d = kind_number(e);
-    let mut i = 0;
-    while i < n {
+    for i in 0..n {
         d = mixed(d, header_keys::leading_at(m, e, rows, i));
-        i += 1;
     }
     d
 }
@@ -150,13 +129,8 @@ fn slot(s: Section, m: Machine, fs: &[u64], rows: &[u64], k: usize, size: usize)
 
 // ---- functions
 
-pub fn position(x: u16) -> usize
-    ensures { (result ≡ x) × (result < 65536) }
-{
-    x as usize
-}
-
 // The function behind function j in its chain, plus 1. Function 0 ends every chain.
+#[tactic(auto, unfolding(crate::specs::Chains::behind_in, format::specs::Prelude::pick))]
 fn behind(links: &[u16], j: usize) -> usize
     requires { j < length links.now }
     ensures { result ≡ behind_in links.now j }
@@ -164,7 +138,7 @@ fn behind(links: &[u16], j: usize) -> usize
     if j == 0 {
         return 0;
     }
-    position(links[j]) + 1
+    usize::from(links[j]) + 1
 }
 
 // The first earlier function whose header function k can use, sought in the chain of its slot, which starts at `first`; k where
@@ -195,12 +169,10 @@ fn choose(
         if header_keys::leading_count(m, other, rows) != count {
             continue 'functions;
         }
-        let mut i = 0;
-        'rows: while i < count {
+        'rows: for i in 0..count {
             if !same_leading(m, other, own, rows, i) {
                 continue 'functions;
             }
-            i += 1;
         }
         return j;
     }
@@ -235,7 +207,7 @@ fn inherited(s: Section, m: Machine, fs: &[u64], rows: &[u64], owners: &[u16], k
     if k == 0 {
         return k;
     }
-    let o = position(owners[k - 1]);
+    let o = usize::from(owners[k - 1]);
     if surely_shares(s, m, fs, rows, o, k) {
         return o;
     }
@@ -260,7 +232,7 @@ fn seek(
     let h = slot(s, m, fs, rows, k, size);
     let first = heads[h];
     links[k] = first;
-    let o = choose(s, m, fs, rows, links, position(first), size, k);
+    let o = choose(s, m, fs, rows, links, usize::from(first), size, k);
     owners[k] = o as u16;
     if o != k {
         return;
@@ -305,9 +277,7 @@ pub fn owners(
     requires { Listed fs.now rows.now n × Unused n heads.old links.old owners.old × (0 < n → MachineFits m) }
     ensures { Owned s m fs.now rows.now n owners.new }
 {
-    let mut k = 0;
-    while k < n {
+    for k in 0..n {
         find_owner(s, m, fs, rows, k, heads, links, owners);
-        k += 1;
     }
 }

@@ -1,10 +1,6 @@
-use Prim.Native.Nat.{◌-◌}
 use Rattle.owners.specs.Owners.{leading_in}
 use Rattle.owners.proofs.Digests.{Digesting}
 use Rattle.owners.proofs.digest.Given as goal
 
 abbrev pub invariant-loop-i : goal.invariant-loop-i
 invariant-loop-i l = Digesting (leading_in l.m l.e l.rows) l.initial.d l.n l.d l.i
-
-abbrev pub decreases-loop-i : goal.decreases-loop-i
-decreases-loop-i l = l.n - l.i

@@ -13,9 +13,6 @@ find_owner-requires c =
     let h = c.loop-k-test.true in
     (c.requires.2 (omega arith), fewer g h c.requires.0, room g h, so_far g h)
 
-pub overflow_add-k : goal.overflow_add-k
-overflow_add-k c = omega (arith, c.loop-k-test.true, c.loop-k.invariant.enough.few)
-
 pub loop-k-preserved : goal.loop-k-preserved
 loop-k-preserved c = turn c.loop-k.invariant c.loop-k-test.true c.find_owner.ensures
 

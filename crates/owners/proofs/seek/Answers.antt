@@ -8,7 +8,7 @@ use Rattle.owners.proofs.seek.Goals.{Start}
 pub choose-o-requires : goal.choose-o-requires
 choose-o-requires c =
     let s = (goal.at.choose-o-requires c).Start in
-    (s.requires.0, s.requires.1, chained s.requires.3 s.requires.2 c.slot-h.ensures c.position.ensures.0)
+    (s.requires.0, s.requires.1, chained s.requires.3 s.requires.2 c.slot-h.ensures c.from.ensures)
 
 pub overflow_cast-owners : goal.overflow_cast-owners
 overflow_cast-owners c =
