@@ -13,7 +13,7 @@ use lib.Dec.{ltb}
 use Rattle.format.specs.Prelude.{pick, each}
 use Rattle.format.proofs.Choice.{either}
 use Rattle.walk.specs.Walk.{Placed, holds, held_from, placed_at, placed_of}
-use Rattle.walk.specs.declared.Holder.TheVariants.{At, Nobody}
+use Rattle.std.specs.Prelude.{Some, None}
 use Rattle.walk.specs.Standing.{holder_of}
 
 abbrev pub placed : ℕ → ℕ → Placed
@@ -51,14 +51,14 @@ module _ {xs : List ℕ} {a i : ℕ} (k : Seeking xs a i) where
         let e : length xs / 2 - i ≡ suc (length xs / 2 - (i + 1)) = omega arith in
         k.rest ∙ rw e (simp (add-zero, add-one))
 
-    pub seek_met : holds a (placed (get_or xs (2 * i) 0) (get_or xs (2 * i + 1) 0)) ≡ true → At i (a - get_or xs (2 * i) 0) ≡ holder_of (held_from a 0 (placed_of xs))
-    unfolding holder_of pick
+    pub seek_met : holds a (placed (get_or xs (2 * i) 0) (get_or xs (2 * i + 1) 0)) ≡ true → Some (i, a - get_or xs (2 * i) 0) ≡ holder_of (held_from a 0 (placed_of xs))
+    unfolding pick
     seek_met e = sym (rw (at_one, e))
 
     pub seek_turn : holds a (placed (get_or xs (2 * i) 0) (get_or xs (2 * i + 1) 0)) ≡ false → Seeking xs a (i + 1)
     unfolding pick
     seek_turn e = record { inside = omega arith; rest = at_one ∙ rw e }
 
-  pub seek_ended : length xs / 2 ≤ i → Nobody ≡ holder_of (held_from a 0 (placed_of xs))
-  unfolding holder_of held_from each
+  pub seek_ended : length xs / 2 ≤ i → None ≡ holder_of (held_from a 0 (placed_of xs))
+  unfolding held_from each
   seek_ended h = let e : length xs / 2 - i ≡ 0 = omega arith in sym (rw (k.rest, e))

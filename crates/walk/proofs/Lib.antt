@@ -3,9 +3,9 @@ pub mod SameSource
 pub mod ByRows
 pub mod Leaves
 pub mod Holders
-pub mod Files
 pub mod Trailers
 pub mod Leaving
+pub mod Files
 pub mod Turns
 pub mod Listing
 pub mod Chains

@@ -9,15 +9,14 @@ use borrow.Author.Tests.{lt-leb, le-leb, eq-eqb, ne_eqb}
 use lib.ListN.{length, drop}
 use lib.Dec.{eqb, eqb→eq}
 use Rattle.format.proofs.Choice.{tested}
+use Rattle.std.specs.Prelude.{Some, None}
 use Rattle.format.specs.Prelude.{pick, next}
 use Rattle.format.specs.Leb.{read_little}
 use Rattle.format.specs.Reader.{require}
 use Rattle.operations.specs.declared.fields.Position.{Position}
-use Rattle.operations.specs.declared.fields.Unsigned.TheVariants as unsigned
 use Rattle.operations.specs.Positions.{little_at}
 use Rattle.operations.proofs.PositionLaws.{little_rest, little_none}
 use Rattle.walk.specs.Recorded.{matches, read_trailer}
-use Rattle.walk.specs.declared.Trailer.TheVariants.{Numbers, Bad}
 use Rattle.walk.specs.Standing.{trailer_of}
 use Rattle.walk.proofs.Leaves.{from}
 
@@ -48,13 +47,13 @@ module _ (file distance count size : ℕ) where
           simp (le-leb count 128 few, eq-eqb distance (8 * count) e) (eqb_both size (file - 16 - distance) (size + distance + 16) file (λ q. omega arith) (λ q. omega arith))
 
 module _ (s : List ℕ) where
-  pub too_short : length s < 16 → Bad ≡ trailer_of (read_trailer s)
-  unfolding read_trailer trailer_of require pick
+  pub too_short : length s < 16 → None ≡ trailer_of (read_trailer s)
+  unfolding read_trailer require pick
   too_short h = simp (lt-leb 16 (length s) h)
 
   module _ (low : 16 ≤ length s) where
-    pub too_long : 65536 < length s → Bad ≡ trailer_of (read_trailer s)
-    unfolding read_trailer trailer_of require pick
+    pub too_long : 65536 < length s → None ≡ trailer_of (read_trailer s)
+    unfolding read_trailer require pick
     too_long h = simp (le-leb 16 (length s) low, lt-leb (length s) 65536 h)
 
     module _ (high : length s ≤ 65536) where
@@ -64,31 +63,31 @@ module _ (s : List ℕ) where
       unfolding read_trailer require pick
       asked = simp (le-leb 16 (length s) low, le-leb (length s) 65536 high)
 
-      pub no_distance : little_at 8 s (from (length s - 16)) ≡ unsigned.Bad → Bad ≡ trailer_of (read_trailer s)
-      unfolding trailer_of next
+      pub no_distance : little_at 8 s (from (length s - 16)) ≡ None → None ≡ trailer_of (read_trailer s)
+      unfolding next
       no_distance e = rw (asked, little_none s (from (length s - 16)) 8 e)
 
-      module _ {distance : ℕ} {p : Position} (d : little_at 8 s (from (length s - 16)) ≡ unsigned.Value distance p) where
+      module _ {distance : ℕ} {p : Position} (d : little_at 8 s (from (length s - 16)) ≡ Some (distance, p)) where
         first : read_little 8 (drop (length s - 16) s) ≡ some (distance, drop p.at s)
         first = little_rest s (from (length s - 16)) (omega arith) d
 
-        pub no_count : little_at 4 s p ≡ unsigned.Bad → Bad ≡ trailer_of (read_trailer s)
-        unfolding trailer_of next
+        pub no_count : little_at 4 s p ≡ None → None ≡ trailer_of (read_trailer s)
+        unfolding next
         no_count e = rw (asked, first, little_none s p 4 e)
 
-        module _ {count : ℕ} {q : Position} (c : little_at 4 s p ≡ unsigned.Value count q) where
+        module _ {count : ℕ} {q : Position} (c : little_at 4 s p ≡ Some (count, q)) where
           second : read_little 4 (drop p.at s) ≡ some (count, drop q.at s)
           second = little_rest s p (omega arith) c
 
-          pub no_size : little_at 4 s q ≡ unsigned.Bad → Bad ≡ trailer_of (read_trailer s)
-          unfolding trailer_of next
+          pub no_size : little_at 4 s q ≡ None → None ≡ trailer_of (read_trailer s)
+          unfolding next
           no_size e = rw (asked, first, second, little_none s q 4 e)
 
-          module _ {size : ℕ} {r : Position} (z : little_at 4 s q ≡ unsigned.Value size r) where
-            pub no_match : matches (length s) distance count size ≡ false → Bad ≡ trailer_of (read_trailer s)
-            unfolding trailer_of next require pick
+          module _ {size : ℕ} {r : Position} (z : little_at 4 s q ≡ Some (size, r)) where
+            pub no_match : matches (length s) distance count size ≡ false → None ≡ trailer_of (read_trailer s)
+            unfolding next require pick
             no_match e = rw (asked, first, second, little_rest s q (omega arith) z, e)
 
-            pub numbers : matches (length s) distance count size ≡ true → Numbers size count ≡ trailer_of (read_trailer s)
-            unfolding trailer_of next require pick
+            pub numbers : matches (length s) distance count size ≡ true → Some (size, count) ≡ trailer_of (read_trailer s)
+            unfolding next require pick
             numbers e = rw (asked, first, second, little_rest s q (omega arith) z, e)

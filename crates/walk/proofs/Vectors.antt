@@ -9,8 +9,7 @@ use Rattle.format.specs.Prelude.{pick, next, each}
 use Rattle.format.specs.Leb.{read_little}
 use Rattle.format.specs.Reader.{require}
 use Rattle.walk.specs.Recorded.{matches, read_trailer}
-use Rattle.walk.specs.Walk.{sum_of, load, looked_up, holds, held_from, placed_at, placed_of}
-use Rattle.walk.specs.Standing.{memory_of}
+use Rattle.walk.specs.Walk.{Memory, sum_of, load, looked_up, holds, held_from, placed_at, placed_of}
 
 past : sum_of 18446744073709551615 (pos 1) ≡ none
 unfolding sum_of require pick
@@ -27,15 +26,18 @@ zeroth = refl
 abbrev stack : List ℕ
 stack = 9 ∷ 1 ∷ 2 ∷ 0 ∷ 0 ∷ 0 ∷ 0 ∷ 0 ∷ 0 ∷ []
 
-word : load (memory_of 100 stack) 101 ≡ some 513
+abbrev stack_at : Memory
+stack_at = record { address = 100; bytes = stack }
+
+word : load stack_at 101 ≡ some 513
 unfolding load require pick next read_little
 word = refl
 
-outside : load (memory_of 100 stack) 102 ≡ none
+outside : load stack_at 102 ≡ none
 unfolding load require pick next read_little
 outside = refl
 
-before : load (memory_of 100 stack) 99 ≡ none
+before : load stack_at 99 ≡ none
 unfolding load require pick
 before = refl
 

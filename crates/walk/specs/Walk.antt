@@ -13,6 +13,7 @@ use Rattle.format.specs.Lists.{count, field, relocations_of}
 use Rattle.format.specs.Questions.{Given, given_function}
 use Rattle.format.specs.Rules.{AllRules, rules_at}
 use Rattle.format.specs.Reader.{locate, run_to, require}
+use Rattle.walk.specs.declared.Frame.{Frame}
 use Rattle.walk.specs.Recorded.{Slot, followed, read_recorded}
 
 -- ---- what a walk stands on
@@ -39,11 +40,6 @@ pub record Fault : Type 0 where
   pub machine : Machine
   pub memory : Memory
   pub functions : List Placed
-
--- a frame: the position of its function in the list, and the pc or return address
-pub record Frame : Type 0 where
-  pub position : ℕ
-  pub pc : ℕ
 
 -- ending 1: the return address is undefined; 2: no function holds the address; 3: a 65th frame would follow
 pub record Chain : Type 0 where

@@ -2,146 +2,117 @@
 // function that holds an address, and what leaving a frame does to one register. The rules come from a reader, in `walked`.
 #![tactic(auto)]
 
-ghost use Rattle.std.specs.Prelude.{◌≡◌, ◌+◌, ◌*◌, ◌≤◌, ◌<◌, length, drop, get_or, set};
+ghost use Rattle.std.specs.Prelude.{◌≡◌, ◌+◌, ◌*◌, ◌≤◌, ◌<◌, length, take, drop, get_or, set};
 ghost use Rattle.std.proofs.Math.Option.{none, some};
-ghost use Rattle.format.specs.Prelude.{after, good, bad};
+ghost use Rattle.format.specs.Prelude.{after};
+ghost use Rattle.format.specs.Coded.{option_of, result_of};
 ghost use Rattle.format.specs.Put.{put};
 ghost use Rattle.format.specs.Leb.{read_little};
 ghost use Rattle.format.specs.Reader.{value_or0};
 ghost use Rattle.walk.specs.Recorded.{matches, read_trailer, slots_of};
 ghost use Rattle.walk.specs.Walk.{sum_of, load, saved, left_by, frame_address, unsigned, looked_up, undefined, returned_to, holds, held_from, placed_of, frame_numbers};
-ghost use Rattle.walk.specs.Standing.{number_of, found, holder_of, address_of, trailer_of, memory_of, both, slots, left_of, step_of, frames_of};
+ghost use Rattle.walk.specs.Standing.{holder_of, trailer_of, memory_of, slot_of, slots, left_of, step_of};
 
 use format::{CfaRule, Rule};
-use operations::fields::{Position, Unsigned, read_le};
-
-// A number, where there is one.
-#[derive(Clone, Copy)]
-pub enum Number {
-    Is(u64),
-    Nothing,
-}
+use operations::fields::{Position, read_le};
 
 // ---- addresses
 
+// The stack's bytes, the first of which is at the address.
+#[derive(Clone, Copy)]
+pub struct Memory<'a> {
+    pub address: u64,
+    pub bytes: &'a [u8],
+}
+
 // An address and an offset, where 64 bits hold the sum.
-pub fn sum(a: u64, o: i64) -> Number
-    ensures { result ≡ number_of (sum_of a o) }
+pub fn sum(a: u64, o: i64) -> Option<u64>
+    ensures { result ≡ option_of (sum_of a o) }
 {
     if o < 0 {
         let m = (-1 - o) as u64;
         if m < a {
-            return Number::Is(a - 1 - m);
+            return Some(a - 1 - m);
         }
-        return Number::Nothing;
+        return None;
     }
     let n = o as u64;
-    if n <= 18446744073709551615 - a {
-        return Number::Is(a + n);
+    if n <= u64::MAX - a {
+        return Some(a + n);
     }
-    Number::Nothing
+    None
 }
 
-// The 8 bytes at an address, where all of them are the stack's, whose first is at `address`.
-pub fn load(stack: &[u8], address: u64, a: u64) -> Number
-    ensures { result ≡ number_of (load (memory_of address stack.now) a) }
+// The 8 bytes at an address, where all of them are the stack's.
+pub fn load(m: Memory, a: u64) -> Option<u64>
+    ensures { result ≡ option_of (load (memory_of m.entry) a) }
 {
-    if a < address {
-        return Number::Nothing;
+    if a < m.address {
+        return None;
     }
     let place = Position {
-        at: (a - address) as usize,
+        at: (a - m.address) as usize,
         shortest: true,
     };
-    let Unsigned::Value(v, _) = read_le(stack, place, 8) else {
-        return Number::Nothing;
-    };
-    Number::Is(v)
+    let (v, _) = read_le(m.bytes, place, 8)?;
+    Some(v)
 }
 
-fn saved(stack: &[u8], address: u64, cfa: u64, o: i64) -> Number
-    ensures { result ≡ number_of (after (sum_of cfa o) (load (memory_of address stack.now))) }
+fn saved(m: Memory, cfa: u64, o: i64) -> Option<u64>
+    ensures { result ≡ option_of (after (sum_of cfa o) (load (memory_of m.entry))) }
 {
-    let Number::Is(a) = sum(cfa, o) else {
-        return Number::Nothing;
-    };
-    load(stack, address, a)
+    load(m, sum(cfa, o)?)
 }
 
 // A return address: with signing on, the low 48 bits.
 pub fn unsigned(signing: bool, a: u64) -> u64
     ensures { result ≡ unsigned signing a }
 {
-    if signing {
-        return a % 281474976710656;
-    }
-    a
+    if signing { a % 281474976710656 } else { a }
 }
 
 // Where a caller is looked up: one byte before its return address, but exactly there behind a signal frame.
-pub fn looked_up(exact: bool, a: u64) -> Number
-    ensures { result ≡ number_of (looked_up exact a) }
+pub fn looked_up(exact: bool, a: u64) -> Option<u64>
+    ensures { result ≡ option_of (looked_up exact a) }
 {
     if exact {
-        return Number::Is(a);
+        return Some(a);
     }
     if a == 0 {
-        return Number::Nothing;
+        return None;
     }
-    Number::Is(a - 1)
+    Some(a - 1)
 }
 
 // ---- the function that holds an address
 
-// The position of a function in the list, and the offset from its start.
-#[derive(Clone, Copy)]
-pub enum Holder {
-    At(u64, u64),
-    Nobody,
-}
-
 fn holds(start: u64, size: u64, a: u64) -> bool
     ensures { result ≡ holds a (record { start = start; size = size }) }
 {
-    if a < start {
-        return false;
-    }
-    a - start < size
+    start <= a && a - start < size
 }
 
-// The first function in list order.
-fn holder_of(functions: &[u64], a: u64) -> Holder
+// The first function in list order: its position in the list, and the offset from its start.
+fn holder_of(functions: &[u64], a: u64) -> Option<(u64, u64)>
     ensures { result ≡ holder_of (held_from a 0 (placed_of functions.now)) }
 {
-    let n = functions.len() / 2;
-    let mut i = 0;
-    while i < n {
+    for i in 0..functions.len() / 2 {
         let start = functions[2 * i];
         if holds(start, functions[2 * i + 1], a) {
-            return Holder::At(i as u64, a - start);
+            return Some((i as u64, a - start));
         }
-        i += 1;
     }
-    Holder::Nobody
+    None
 }
 
-pub fn held(functions: &[u64], lookup: Number) -> Holder
-    ensures { result ≡ holder_of (after (found lookup) (λ a. held_from a 0 (placed_of functions.now))) }
+// The function that holds the address where a caller is looked up.
+pub fn held(functions: &[u64], exact: bool, pc: u64) -> Option<(u64, u64)>
+    ensures { result ≡ holder_of (after (looked_up exact pc) (λ a. held_from a 0 (placed_of functions.now))) }
 {
-    let Number::Is(a) = lookup else {
-        return Holder::Nobody;
-    };
-    holder_of(functions, a)
+    holder_of(functions, looked_up(exact, pc)?)
 }
 
 // ---- the record file
-
-// The stack's length and the count of registers.
-#[derive(Clone, Copy)]
-pub enum Trailer {
-    Numbers(usize, usize),
-    Bad,
-}
 
 fn matches(file: u64, distance: u64, count: u64, size: u64) -> bool
     requires { 16 ≤ file }
@@ -159,289 +130,162 @@ fn matches(file: u64, distance: u64, count: u64, size: u64) -> bool
     size == file - 16 - distance
 }
 
-// 73: the trailer, where it matches the file.
-pub fn read_trailer(file: &[u8]) -> Trailer
+// 73: the trailer, where it matches the file: the stack's length and the count of registers.
+pub fn read_trailer(file: &[u8]) -> Option<(usize, usize)>
     ensures { result ≡ trailer_of (read_trailer file.now) }
 {
     let n = file.len();
     if n < 16 {
-        return Trailer::Bad;
+        return None;
     }
     if 65536 < n {
-        return Trailer::Bad;
+        return None;
     }
     let trailer = Position {
         at: n - 16,
         shortest: true,
     };
-    let Unsigned::Value(distance, counted) = read_le(file, trailer, 8) else {
-        return Trailer::Bad;
-    };
-    let Unsigned::Value(count, sized) = read_le(file, counted, 4) else {
-        return Trailer::Bad;
-    };
-    let Unsigned::Value(size, _) = read_le(file, sized, 4) else {
-        return Trailer::Bad;
-    };
+    let (distance, counted) = read_le(file, trailer, 8)?;
+    let (count, sized) = read_le(file, counted, 4)?;
+    let (size, _) = read_le(file, sized, 4)?;
     if !matches(n as u64, distance, count, size) {
-        return Trailer::Bad;
+        return None;
     }
-    Trailer::Numbers(size as usize, count as usize)
+    Some((size as usize, count as usize))
 }
 
 fn word_at(s: &[u8], at: usize) -> u64
     ensures { result ≡ value_or0 (read_little 8 (drop at s.now)) }
 {
     let place = Position { at, shortest: true };
-    let Unsigned::Value(v, _) = read_le(s, place, 8) else {
+    let Some((v, _)) = read_le(s, place, 8) else {
         return 0;
     };
     v
 }
 
-// The registers 0 to 127: a value that is not present means nothing.
-#[derive(Clone, Copy)]
-pub struct File {
-    pub values: [u64; 128],
-    pub present: [bool; 128],
-}
-
-// The registers from a place of the record file on.
-pub fn registers(file: &[u8], at: usize, count: usize) -> File
+// The registers 0 to 127 from a place of the record file on.
+pub fn registers(file: &[u8], at: usize, count: usize) -> [Option<u64>; 128]
     requires { at ≤ 65536 }
     ensures { slots result ≡ slots_of count (drop at file.now) }
 {
-    let mut values = [0u64; 128];
-    let mut present = [false; 128];
-    let mut i = 0;
-    while i < 128 {
-        values[i] = word_at(file, at + 8 * i);
-        present[i] = i < count;
-        i += 1;
+    let mut registers = [None; 128];
+    for i in 0..128 {
+        registers[i] = (i < count).then_some(word_at(file, at + 8 * i));
     }
-    File { values, present }
+    registers
 }
 
 // ---- a frame left
 
-pub fn slot(file: File, r: u64) -> Number
-    ensures { result ≡ number_of (get_or (slots file) r none) }
+// A register, where it is present.
+pub fn slot(registers: &[Option<u64>], reg: usize) -> Option<u64>
+    ensures { slot_of result ≡ get_or (slots registers.now) reg none }
 {
-    if r < 128 {
-        let k = r as usize;
-        if file.present[k] {
-            return Number::Is(file.values[k]);
-        }
+    if reg < registers.len() {
+        return registers[reg];
     }
-    Number::Nothing
+    None
 }
 
 // The frame address, or 75 or 74.
-#[derive(Clone, Copy)]
-pub enum Address {
-    At(u64),
-    Refused(u64),
-}
-
-pub fn frame_address(rule: CfaRule, file: File) -> Address
-    ensures { result ≡ address_of (frame_address rule (slots file)) }
+pub fn frame_address(rule: CfaRule, registers: &[Option<u64>]) -> Result<u64, u64>
+    ensures { result ≡ result_of (frame_address rule (slots registers.now)) }
 {
-    match rule {
-        CfaRule::Unset => Address::Refused(75),
-        CfaRule::Register(reg, o) => {
-            let Number::Is(a) = slot(file, reg as u64) else {
-                return Address::Refused(75);
-            };
-            let Number::Is(cfa) = sum(a, o) else {
-                return Address::Refused(74);
-            };
-            Address::At(cfa)
-        }
-    }
+    let CfaRule::Register(reg, o) = rule else {
+        return Err(75);
+    };
+    let Some(a) = slot(registers, reg as usize) else {
+        return Err(75);
+    };
+    sum(a, o).ok_or(74)
 }
 
 pub fn undefined(rule: Rule) -> bool
     ensures { result ≡ undefined rule }
 {
-    match rule {
-        Rule::Unstated => false,
-        Rule::Undefined => true,
-        Rule::Saved(_) => false,
-        Rule::SameValue => false,
-        Rule::InRegister(_) => false,
-    }
+    matches!(rule, Rule::Undefined)
 }
 
-// A register after a frame is left, or a refusal's number.
-#[derive(Clone, Copy)]
-pub struct Left {
-    pub number: u64,
-    pub present: bool,
-    pub value: u64,
-}
-
-// What it was before.
-pub fn kept<'a>(values: &'a [u64; 128], present: &'a [bool; 128], reg: usize) -> Left
-    requires { (length values.now ≡ 128) × (length present.now ≡ 128) }
-    ensures { left_of result ≡ good (get_or (both values.now present.now) reg none) }
-{
-    if reg < 128 {
-        return Left {
-            number: 0,
-            present: present[reg],
-            value: values[reg],
-        };
-    }
-    Left {
-        number: 0,
-        present: false,
-        value: 0,
-    }
-}
-
-fn loaded(stack: &[u8], address: u64, cfa: u64, o: i64) -> Left
-    ensures { left_of result ≡ saved (memory_of address stack.now) cfa o }
-{
-    let Number::Is(v) = saved(stack, address, cfa, o) else {
-        return Left {
-            number: 74,
-            present: false,
-            value: 0,
-        };
-    };
-    Left {
-        number: 0,
-        present: true,
-        value: v,
-    }
-}
-
-// By its rule, from the registers before.
-pub fn left_by<'a>(
-    values: &'a [u64; 128],
-    present: &'a [bool; 128],
+// A register after a frame is left, by its rule and the registers before.
+pub fn left_by(
+    registers: &[Option<u64>],
     rule: Rule,
     reg: usize,
-    stack: &[u8],
-    address: u64,
+    m: Memory,
     cfa: u64,
-) -> Left
-    requires { (length values.now ≡ 128) × (length present.now ≡ 128) }
-    ensures { left_of result ≡ left_by (memory_of address stack.now) cfa (both values.now present.now) reg rule }
+) -> Result<Option<u64>, u64>
+    ensures { left_of result ≡ left_by (memory_of m.entry) cfa (slots registers.now) reg rule }
 {
     match rule {
-        Rule::Unstated => kept(values, present, reg),
-        Rule::SameValue => kept(values, present, reg),
-        Rule::Undefined => Left {
-            number: 0,
-            present: false,
-            value: 0,
-        },
-        Rule::InRegister(other) => kept(values, present, other as usize),
-        Rule::Saved(o) => loaded(stack, address, cfa, o),
+        Rule::Unstated => Ok(slot(registers, reg)),
+        Rule::SameValue => Ok(slot(registers, reg)),
+        Rule::Undefined => Ok(None),
+        Rule::InRegister(other) => Ok(slot(registers, other as usize)),
+        Rule::Saved(o) => {
+            let Some(v) = saved(m, cfa, o) else {
+                return Err(74);
+            };
+            Ok(Some(v))
+        }
     }
 }
 
 // The stack pointer's register set, where it is one of those that are followed.
-pub fn with_stack(file: File, reg: u64, cfa: u64) -> File
-    ensures { slots result ≡ set (slots file) reg (some cfa) }
+pub fn with_stack(mut registers: [Option<u64>; 128], reg: u64, cfa: u64) -> [Option<u64>; 128]
+    ensures { slots result ≡ set (slots registers) reg (some cfa) }
 {
-    if 128 <= reg {
-        return file;
+    if reg < 128 {
+        registers[reg as usize] = Some(cfa);
     }
-    let mut values = file.values;
-    let mut present = file.present;
-    values[reg as usize] = cfa;
-    present[reg as usize] = true;
-    File { values, present }
+    registers
 }
 
 // ---- a caller
 
-// The caller's registers, its return address and whether it is looked up exactly there; or that the return address is undefined; or a refusal.
+// Its registers, its return address and whether it is looked up exactly there.
 #[derive(Clone, Copy)]
-pub struct Step {
-    pub refused: bool,
-    pub number: u64,
-    pub ended: bool,
+pub struct Caller {
+    pub registers: [Option<u64>; 128],
     pub pc: u64,
     pub exact: bool,
-    pub file: File,
-}
-
-pub fn refused(file: File, number: u64) -> Step
-    ensures { step_of result ≡ bad number }
-{
-    Step {
-        refused: true,
-        number,
-        ended: false,
-        pc: 0,
-        exact: false,
-        file,
-    }
-}
-
-pub fn unreturning(file: File) -> Step
-    ensures { step_of result ≡ good none }
-{
-    Step {
-        refused: false,
-        number: 0,
-        ended: true,
-        pc: 0,
-        exact: false,
-        file,
-    }
 }
 
 // The return address is what its register holds: 75 where that is absent.
-pub fn returned(file: File, ret: u64, signing: bool, exact: bool) -> Step
-    ensures { step_of result ≡ returned_to (slots file) ret signing exact }
+pub fn returned(
+    registers: [Option<u64>; 128],
+    ret: u64,
+    signing: bool,
+    exact: bool,
+) -> Result<Option<Caller>, u64>
+    ensures { step_of result ≡ returned_to (slots registers) ret signing exact }
 {
-    let Number::Is(a) = slot(file, ret) else {
-        return refused(file, 75);
+    let Some(a) = slot(&registers, ret as usize) else {
+        return Err(75);
     };
-    Step {
-        refused: false,
-        number: 0,
-        ended: false,
+    Ok(Some(Caller {
+        registers,
         pc: unsigned(signing, a),
         exact,
-        file,
-    }
+    }))
 }
 
 // ---- the frames
 
-// Up to 64 frames: the position of each one's function, and the pc or return address.
+// The position of its function in the list, and the pc or return address.
 #[derive(Clone, Copy)]
-pub struct Frames {
-    pub positions: [u64; 64],
-    pub pcs: [u64; 64],
-}
-
-// Frame k put into the list.
-pub fn listed(f: Frames, k: usize, position: u64, pc: u64) -> Frames
-    requires { k < 64 }
-    ensures { (result.positions ≡ set f.positions k position) × (result.pcs ≡ set f.pcs k pc) }
-{
-    let mut positions = f.positions;
-    let mut pcs = f.pcs;
-    positions[k] = position;
-    pcs[k] = pc;
-    Frames { positions, pcs }
+pub struct Frame {
+    pub position: u64,
+    pub pc: u64,
 }
 
 // The first n frames stored, two numbers each.
-pub fn store(f: Frames, n: usize, out: &mut [u64])
-    requires { (n ≤ 64) × (2 * n ≤ length out.old) }
-    ensures { out.new ≡ put out.old 0 (frame_numbers (frames_of f.positions f.pcs n)) }
+pub fn store(frames: &[Frame], n: usize, out: &mut [u64])
+    requires { (n ≤ length frames.now) × (2 * n ≤ length out.old) }
+    ensures { out.new ≡ put out.old 0 (frame_numbers (take n frames.now)) }
 {
-    let mut i = 0;
-    while i < n {
-        out[2 * i] = f.positions[i];
-        out[2 * i + 1] = f.pcs[i];
-        i += 1;
+    for i in 0..n {
+        out[2 * i] = frames[i].position;
+        out[2 * i + 1] = frames[i].pc;
     }
 }

@@ -1,12 +1,12 @@
 -- `walk::held` meets its contract.
-use Rattle.format.specs.Prelude.{after}
-use Rattle.walk.specs.Standing.{holder_of, found}
+use mathlib.Core.Path.{sym, ap, ◌∙◌}
+use Rattle.walk.proofs.Leaves.{after_none, after_is}
+use Rattle.walk.specs.Standing.{holder_of}
+use Rattle.walk.specs.Walk.{looked_up}
 use Rattle.walk.proofs.held.Goals as goal
 
-pub returns-in_default : goal.returns-in_default
-unfolding holder_of found after
-returns-in_default c = rw c.in_default.is
+pub returns-in_err-looked_up : goal.returns-in_err-looked_up
+returns-in_err-looked_up c = c.from_residual.ensures ∙ ap holder_of (sym (after_none (looked_up c.args.exact c.args.pc) _ (sym c.in_err-looked_up.ensures)))
 
 pub returns : goal.returns
-unfolding found after
-returns c = rw c.in-Is.is c.holder_of.ensures
+returns c = c.holder_of.ensures ∙ ap holder_of (sym (after_is (looked_up c.args.exact c.args.pc) _ (sym c.in_ok-looked_up.ensures)))

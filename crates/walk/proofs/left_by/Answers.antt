@@ -1,29 +1,30 @@
 -- `walk::left_by` meets its contract.
-use mathlib.Core.Path.{ap, ◌∙◌}
-use Rattle.format.specs.Prelude.{pick}
-use Rattle.walk.specs.Walk.{left_by, saved}
-use Rattle.walk.specs.Standing.{left_of, slot_of, memory_of}
-use Rattle.walk.proofs.Leaving.{passed}
+use mathlib.Core.Path.{ap}
+use Rattle.format.specs.Prelude.{good}
+use Rattle.walk.specs.Walk.{left_by}
+use Rattle.walk.proofs.Leaving.{passed, saved_none, saved_is}
 use Rattle.walk.proofs.left_by.Goals as goal
 
 pub returns-in-Unstated : goal.returns-in-Unstated
 unfolding left_by
-returns-in-Unstated c = rw c.in-Unstated.is c.kept.ensures
+returns-in-Unstated c = rw c.in-Unstated.is (ap good c.slot.ensures)
 
 pub returns-in-SameValue : goal.returns-in-SameValue
 unfolding left_by
-returns-in-SameValue c = rw c.in-SameValue.is c.kept-in-SameValue.ensures
+returns-in-SameValue c = rw c.in-SameValue.is (ap good c.slot-in-SameValue.ensures)
 
 pub returns-in-Undefined : goal.returns-in-Undefined
-unfolding left_by left_of slot_of pick
+unfolding left_by
 returns-in-Undefined c = rw c.in-Undefined.is
 
 pub returns-in-InRegister : goal.returns-in-InRegister
 unfolding left_by
-returns-in-InRegister c = rw c.in-InRegister.is c.kept-in-InRegister.ensures
+returns-in-InRegister c = rw c.in-InRegister.is (ap good c.slot-in-InRegister.ensures)
 
-pub returns-in-Saved : goal.returns-in-Saved
+pub returns-in_default : goal.returns-in_default
 unfolding left_by
-returns-in-Saved c =
-    let a = c.args in
-    rw c.in-Saved.is (c.loaded.ensures ∙ ap (saved (memory_of a.address a.stack.now) a.cfa) (passed _ c.in-Saved.known_told-in-Saved-1-own.given.0.1))
+returns-in_default c = rw c.in-Saved.is (saved_none _ _ _ (rw (passed _ c.in-Saved.known_told-in-Saved-1-own.given.0.1) at c.in_default.ensures))
+
+pub returns-in-Some : goal.returns-in-Some
+unfolding left_by
+returns-in-Some c = rw c.in-Saved.is (saved_is _ _ _ (rw (passed _ c.in-Saved.known_told-in-Saved-1-own.given.0.1) at c.in-Some.ensures))

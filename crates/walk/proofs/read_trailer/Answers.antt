@@ -9,17 +9,21 @@ returns-then-n-lt16 c = too_short _ c.if-n-lt16.true
 pub returns-then-n-gt65536 : goal.returns-then-n-gt65536
 returns-then-n-gt65536 c = too_long _ c.if-n-lt16.false c.if-n-gt65536.true
 
-pub returns-in_default : goal.returns-in_default
-returns-in_default c = no_distance _ c.if-n-lt16.false c.if-n-gt65536.false (sym c.read_le.ensures ∙ c.in_default.is)
+pub returns-in_err-distance : goal.returns-in_err-distance
+returns-in_err-distance c = c.from_residual.ensures ∙ no_distance _ c.if-n-lt16.false c.if-n-gt65536.false (sym c.in_err-distance.ensures)
 
-pub returns-in_default-read_le : goal.returns-in_default-read_le
-returns-in_default-read_le c = no_count _ c.if-n-lt16.false c.if-n-gt65536.false (sym c.read_le.ensures ∙ c.in-Value.is) (sym c.read_le-2.ensures ∙ c.in_default-read_le.is)
+pub returns-in_err-count : goal.returns-in_err-count
+returns-in_err-count c = c.from_residual-in_err-count.ensures ∙ no_count _ c.if-n-lt16.false c.if-n-gt65536.false (sym c.in_ok-distance.ensures) (sym c.in_err-count.ensures)
 
-pub returns-in_default-read_le-2 : goal.returns-in_default-read_le-2
-returns-in_default-read_le-2 c = no_size _ c.if-n-lt16.false c.if-n-gt65536.false (sym c.read_le.ensures ∙ c.in-Value.is) (sym c.read_le-2.ensures ∙ c.in-Value-read_le.is) (sym c.read_le-3.ensures ∙ c.in_default-read_le-2.is)
+pub returns-in_err-size : goal.returns-in_err-size
+returns-in_err-size c =
+    c.from_residual-in_err-size.ensures
+    ∙ no_size _ c.if-n-lt16.false c.if-n-gt65536.false (sym c.in_ok-distance.ensures) (sym c.in_ok-count.ensures) (sym c.in_err-size.ensures)
 
 pub returns-then-not-matches : goal.returns-then-not-matches
-returns-then-not-matches c = no_match _ c.if-n-lt16.false c.if-n-gt65536.false (sym c.read_le.ensures ∙ c.in-Value.is) (sym c.read_le-2.ensures ∙ c.in-Value-read_le.is) (sym c.read_le-3.ensures ∙ c.in-Value-read_le-2.is) (sym c.matches.ensures ∙ c.if-not-matches.true)
+returns-then-not-matches c =
+    no_match _ c.if-n-lt16.false c.if-n-gt65536.false (sym c.in_ok-distance.ensures) (sym c.in_ok-count.ensures) (sym c.in_ok-size.ensures) (sym c.matches.ensures ∙ c.if-not-matches.true)
 
 pub returns : goal.returns
-returns c = numbers _ c.if-n-lt16.false c.if-n-gt65536.false (sym c.read_le.ensures ∙ c.in-Value.is) (sym c.read_le-2.ensures ∙ c.in-Value-read_le.is) (sym c.read_le-3.ensures ∙ c.in-Value-read_le-2.is) (sym c.matches.ensures ∙ c.if-not-matches.false)
+returns c =
+    numbers _ c.if-n-lt16.false c.if-n-gt65536.false (sym c.in_ok-distance.ensures) (sym c.in_ok-count.ensures) (sym c.in_ok-size.ensures) (sym c.matches.ensures ∙ c.if-not-matches.false)

@@ -1,23 +1,22 @@
 -- `walk::undefined` meets its contract.
+use mathlib.Core.Path.{◌≡◌, refl}
+use mathlib.Core.Bool.{false}
+use Rattle.format.specs.declared.Rule.{Rule}
+use Rattle.format.specs.declared.Rule.TheVariants as rule
 use Rattle.walk.specs.Walk.{undefined}
 use Rattle.walk.proofs.undefined.Goals as goal
 
-pub returns-in-Unstated : goal.returns-in-Unstated
+other : (r : Rule) → (r ≡ rule.Undefined → ⊥) → false ≡ undefined r
 unfolding undefined
-returns-in-Unstated c = rw c.in-Unstated.is
+other rule.Unstated n = refl
+other rule.Undefined n = absurd (n refl)
+other (rule.Saved z) n = refl
+other rule.SameValue n = refl
+other (rule.InRegister reg) n = refl
 
 pub returns-in-Undefined : goal.returns-in-Undefined
 unfolding undefined
 returns-in-Undefined c = rw c.in-Undefined.is
 
-pub returns-in-Saved : goal.returns-in-Saved
-unfolding undefined
-returns-in-Saved c = rw c.in-Saved.is
-
-pub returns-in-SameValue : goal.returns-in-SameValue
-unfolding undefined
-returns-in-SameValue c = rw c.in-SameValue.is
-
-pub returns-in-InRegister : goal.returns-in-InRegister
-unfolding undefined
-returns-in-InRegister c = rw c.in-InRegister.is
+pub returns-in_default : goal.returns-in_default
+returns-in_default c = other c.args.rule c.in_default.not-Undefined

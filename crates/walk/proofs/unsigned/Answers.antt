@@ -7,6 +7,6 @@ pub returns-then-signing : goal.returns-then-signing
 unfolding unsigned pick
 returns-then-signing c = rw c.if-signing.true
 
-pub returns : goal.returns
+pub returns-else-signing : goal.returns-else-signing
 unfolding unsigned pick
-returns c = rw c.if-signing.false
+returns-else-signing c = rw c.if-signing.false

@@ -2,16 +2,12 @@
 use mathlib.Core.Path.{◌≡◌}
 use native.Mathlib.Omega.{arith}
 use lib.ListN.{length}
-use Rattle.walk.proofs.Listing.{not_followed, followed-set}
 use borrow.Author.Rules.{rules}
+use Rattle.walk.proofs.Files.{slots_set, slots_out}
 use Rattle.walk.proofs.with_stack.Goals as goal
 
-pub returns-then-reg-ge128 : goal.returns-then-reg-ge128
-returns-then-reg-ge128 c =
-    let a = c.args in
-    let l : length a.file.values ≡ 128 = search rules in
-    let m : length a.file.present ≡ 128 = search rules in
-    not_followed a.file.values a.file.present a.reg a.cfa (omega arith) (omega (arith, c.if-reg-ge128.true))
+pub returns-then-reg-lt128 : goal.returns-then-reg-lt128
+returns-then-reg-lt128 c = slots_set _ _ _
 
-pub returns : goal.returns
-returns c = let a = c.args in followed-set a.file.values a.file.present a.reg a.cfa
+pub returns-else-reg-lt128 : goal.returns-else-reg-lt128
+returns-else-reg-lt128 c = let l : length c.args.registers ≡ 128 = search rules in slots_out c.args.registers c.args.reg _ (omega (arith, c.if-reg-lt128.false))
