@@ -1,3 +1,2 @@
 -- Laws behind the proofs of the functions.
-pub mod Slots
 pub mod Places

@@ -2,16 +2,17 @@
 #![tactic(auto)]
 
 ghost use Rattle.std.specs.Prelude.{◌≡◌, true, [], ◌∷◌, ◌+◌, ◌*◌, ◌≤◌, ◌<◌, length};
+ghost use Rattle.format.specs.Coded.{option_of};
 ghost use Rattle.format.proofs.Wrote.{Wrote};
 ghost use Rattle.arm64.specs.Lists.{code_numbers};
-ghost use Rattle.arm64.specs.Packed.{packed_of, integer_size, vector_count, saved_size, local_size, chain_ok, packed_ok, sign_slot, lone, integer_pair, integer_odd, integer_slot, vector_pair, vector_slot, home_slot, alloc_slot, rest_slot, chain_slot, frame_slot, local_slot, slot, with_slot, slots_from, undone, slot_at};
-ghost use Rattle.arm64.specs.Codes.{code};
+ghost use Rattle.arm64.specs.Packed.{packed_of, integer_size, vector_count, saved_size, local_size, chain_ok, packed_ok, lone, integer_pair, integer_odd, integer_slot, vector_pair, vector_slot, alloc_slot, rest_slot, chain_slot, local_slot, slot, slots_from, undone, slot_at};
 ghost use Rattle.arm64_packed.specs.Fields.{Small, Sound};
 
-use arm64::{Code, Packed, Slot, packed_bits};
+use arm64::{Code, Packed, packed_bits};
 
 // ---- the fields
 
+#[tactic(auto, unfolding(arm64::specs::Packed::packed_of, format::specs::Prelude::pick))]
 pub fn packed_of(w: u64) -> Packed
     requires { w < 4294967296 }
     ensures { (result ≡ packed_of w) × Small result }
@@ -28,26 +29,23 @@ pub fn packed_of(w: u64) -> Packed
 }
 
 // Bytes of integer registers, lr among them where CR is 1.
+#[tactic(auto, unfolding(arm64::specs::Packed::integer_size, arm64::specs::Packed::saves_lr, format::specs::Prelude::pick))]
 fn integer_size(p: Packed) -> u64
     requires { Small p }
     ensures { (result ≡ integer_size p) × (result ≤ 128) }
 {
-    if p.chain == 1 {
-        return 8 * p.registers + 8;
-    }
-    8 * p.registers
+    8 * p.registers + 8 * u64::from(p.chain == 1)
 }
 
+#[tactic(auto, unfolding(arm64::specs::Packed::vector_count, format::specs::Prelude::pick))]
 fn vector_count(p: Packed) -> u64
     requires { Small p }
     ensures { (result ≡ vector_count p) × (result ≤ 8) }
 {
-    if p.vectors == 0 {
-        return 0;
-    }
-    p.vectors + 1
+    if p.vectors == 0 { 0 } else { p.vectors + 1 }
 }
 
+#[tactic(auto, unfolding(arm64::specs::Packed::saved_size, format::specs::Prelude::pick))]
 fn saved_size(p: Packed) -> u64
     requires { Small p }
     ensures { result ≡ saved_size p }
@@ -55,6 +53,7 @@ fn saved_size(p: Packed) -> u64
     (integer_size(p) + 8 * vector_count(p) + 64 * p.homes + 15) / 16 * 16
 }
 
+#[tactic(auto, unfolding(arm64::specs::Packed::local_size, format::specs::Prelude::pick))]
 fn local_size(p: Packed) -> u64
     requires { Sound p }
     ensures { result ≡ local_size p }
@@ -64,226 +63,157 @@ fn local_size(p: Packed) -> u64
 
 // ---- the places of the prologue
 
-fn coded(kind: u64, register: u64, offset: u64) -> Code
-    ensures { result ≡ code kind register offset }
-{
-    Code {
-        kind,
-        register,
-        offset,
-    }
-}
-
+#[tactic(auto, unfolding(arm64::specs::Packed::lone, format::specs::Prelude::pick))]
 fn lone(p: Packed, j: u64, register: u64) -> Code
     requires { Small p × (j < 6) }
     ensures { result ≡ lone p j register }
 {
     if j == 0 {
-        return coded(arm64::REG_X, register, saved_size(p));
+        return Code::new(arm64::REG_X, register, saved_size(p));
     }
-    coded(arm64::REG, register, 16 * j)
+    Code::new(arm64::REG, register, 16 * j)
 }
 
+#[tactic(auto, unfolding(arm64::specs::Packed::integer_pair, format::specs::Prelude::pick))]
 fn integer_pair(p: Packed, j: u64) -> Code
     requires { Small p × (j < 6) }
     ensures { result ≡ integer_pair p j }
 {
     if j == 0 {
-        return coded(arm64::R19R20X, 0, saved_size(p));
+        return Code::new(arm64::R19R20X, 0, saved_size(p));
     }
-    coded(arm64::REGP, 19 + 2 * j, 16 * j)
+    Code::new(arm64::REGP, 19 + 2 * j, 16 * j)
 }
 
+#[tactic(auto, unfolding(arm64::specs::Packed::integer_odd, format::specs::Prelude::pick))]
 fn integer_odd(p: Packed, j: u64) -> Code
     requires { Small p × (j < 6) }
     ensures { result ≡ integer_odd p j }
 {
     if p.chain == 1 {
-        return coded(arm64::LRPAIR, 19 + 2 * j, 16 * j);
+        return Code::new(arm64::LRPAIR, 19 + 2 * j, 16 * j);
     }
     lone(p, j, 19 + 2 * j)
 }
 
-fn integer_slot(p: Packed, j: u64) -> Slot
+#[tactic(auto, unfolding(arm64::specs::Packed::integer_slot, format::specs::Prelude::pick))]
+fn integer_slot(p: Packed, j: u64) -> Option<Code>
     requires { Small p × (j < 6) }
-    ensures { result ≡ integer_slot p j }
+    ensures { result ≡ option_of (integer_slot p j) }
 {
     if 2 * j + 1 < p.registers {
-        return Slot::Coded(integer_pair(p, j));
+        return Some(integer_pair(p, j));
     }
     if 2 * j + 1 == p.registers {
-        return Slot::Coded(integer_odd(p, j));
+        return Some(integer_odd(p, j));
     }
-    if 2 * j != p.registers {
-        return Slot::Empty;
+    if 2 * j == p.registers && p.chain == 1 {
+        return Some(lone(p, j, 30));
     }
-    if p.chain == 1 {
-        return Slot::Coded(lone(p, j, 30));
-    }
-    Slot::Empty
+    None
 }
 
+#[tactic(auto, unfolding(arm64::specs::Packed::vector_pair, format::specs::Prelude::pick))]
 fn vector_pair(p: Packed, j: u64) -> Code
     requires { Small p × (j < 4) }
     ensures { result ≡ vector_pair p j }
 {
     let n = integer_size(p);
     if n + j == 0 {
-        return coded(arm64::FREGP_X, 8, saved_size(p));
+        return Code::new(arm64::FREGP_X, 8, saved_size(p));
     }
-    coded(arm64::FREGP, 8 + 2 * j, n + 16 * j)
+    Code::new(arm64::FREGP, 8 + 2 * j, n + 16 * j)
 }
 
-fn vector_slot(p: Packed, j: u64) -> Slot
+#[tactic(auto, unfolding(arm64::specs::Packed::vector_slot, format::specs::Prelude::pick))]
+fn vector_slot(p: Packed, j: u64) -> Option<Code>
     requires { Small p × (j < 4) }
-    ensures { result ≡ vector_slot p j }
+    ensures { result ≡ option_of (vector_slot p j) }
 {
     let n = vector_count(p);
     if 2 * j + 1 < n {
-        return Slot::Coded(vector_pair(p, j));
+        return Some(vector_pair(p, j));
     }
     if 2 * j + 1 == n {
-        return Slot::Coded(coded(arm64::FREG, 8 + 2 * j, integer_size(p) + 16 * j));
+        return Some(Code::new(arm64::FREG, 8 + 2 * j, integer_size(p) + 16 * j));
     }
-    Slot::Empty
+    None
 }
 
-fn alloc_slot(p: Packed) -> Slot
+// One instruction takes 4,080 bytes at most, and the frame record of CR 2 and 3 up to 512 itself.
+#[tactic(auto, unfolding(arm64::specs::Packed::alloc_slot, format::specs::Prelude::pick))]
+fn alloc_slot(p: Packed) -> Option<Code>
     requires { Sound p }
-    ensures { result ≡ alloc_slot p }
+    ensures { result ≡ option_of (alloc_slot p) }
 {
     let n = local_size(p);
-    if n == 0 {
-        return Slot::Empty;
-    }
-    if n <= 512 {
-        if 2 <= p.chain {
-            return Slot::Empty;
-        }
-        return Slot::Coded(coded(arm64::ALLOC, 0, n));
-    }
-    if n <= 4080 {
-        return Slot::Coded(coded(arm64::ALLOC, 0, n));
-    }
-    Slot::Coded(coded(arm64::ALLOC, 0, 4080))
+    let taken = if 2 <= p.chain { 512 } else { 0 };
+    (taken < n).then_some(Code::new(arm64::ALLOC, 0, n.min(4080)))
 }
 
-fn rest_slot(p: Packed) -> Slot
+#[tactic(auto, unfolding(arm64::specs::Packed::rest_slot, format::specs::Prelude::pick))]
+fn rest_slot(p: Packed) -> Option<Code>
     requires { Sound p }
-    ensures { result ≡ rest_slot p }
+    ensures { result ≡ option_of (rest_slot p) }
 {
-    let n = local_size(p);
-    if n <= 4080 {
-        return Slot::Empty;
-    }
-    Slot::Coded(coded(arm64::ALLOC, 0, n - 4080))
+    let rest = local_size(p).saturating_sub(4080);
+    (rest != 0).then_some(Code::new(arm64::ALLOC, 0, rest))
 }
 
-fn chain_slot(p: Packed) -> Slot
+#[tactic(auto, unfolding(arm64::specs::Packed::chain_slot, format::specs::Prelude::pick))]
+fn chain_slot(p: Packed) -> Option<Code>
     requires { Sound p }
-    ensures { result ≡ chain_slot p }
+    ensures { result ≡ option_of (chain_slot p) }
 {
     if p.chain < 2 {
-        return Slot::Empty;
+        return None;
     }
     let n = local_size(p);
     if n <= 512 {
-        return Slot::Coded(coded(arm64::FPLR_X, 0, n));
+        return Some(Code::new(arm64::FPLR_X, 0, n));
     }
-    Slot::Coded(coded(arm64::FPLR, 0, 0))
+    Some(Code::new(arm64::FPLR, 0, 0))
 }
 
-fn local_slot(p: Packed, j: u64) -> Slot
+#[tactic(auto, unfolding(arm64::specs::Packed::local_slot, arm64::specs::Packed::frame_slot, format::specs::Prelude::pick))]
+fn local_slot(p: Packed, j: u64) -> Option<Code>
     requires { Sound p }
-    ensures { result ≡ local_slot p j }
+    ensures { result ≡ option_of (local_slot p j) }
 {
-    if j == 0 {
-        return alloc_slot(p);
+    match j {
+        0 => alloc_slot(p),
+        1 => rest_slot(p),
+        2 => chain_slot(p),
+        _ => (2 <= p.chain).then_some(Code::new(arm64::SET_FP, 0, 0)),
     }
-    if j == 1 {
-        return rest_slot(p);
-    }
-    if j == 2 {
-        return chain_slot(p);
-    }
-    if p.chain < 2 {
-        return Slot::Empty;
-    }
-    Slot::Coded(coded(arm64::SET_FP, 0, 0))
 }
 
-fn slot(p: Packed, i: u64) -> Slot
+#[tactic(auto, unfolding(arm64::specs::Packed::slot, arm64::specs::Packed::sign_slot, arm64::specs::Packed::home_slot, format::specs::Prelude::pick))]
+fn slot(p: Packed, i: u64) -> Option<Code>
     requires { Sound p × (i < 19) }
-    ensures { result ≡ slot p i }
+    ensures { result ≡ option_of (slot p i) }
 {
-    if i < 1 {
-        if p.chain == 2 {
-            return Slot::Coded(coded(arm64::PAC_SIGN_LR, 0, 0));
-        }
-        return Slot::Empty;
+    match i {
+        0 => (p.chain == 2).then_some(Code::new(arm64::PAC_SIGN_LR, 0, 0)),
+        1..=6 => integer_slot(p, i - 1),
+        7..=10 => vector_slot(p, i - 7),
+        11..=14 => (p.homes == 1).then_some(Code::new(arm64::NOP, 0, 0)),
+        _ => local_slot(p, i - 15),
     }
-    if i < 7 {
-        return integer_slot(p, i - 1);
-    }
-    if i < 11 {
-        return vector_slot(p, i - 7);
-    }
-    if i < 15 {
-        if p.homes == 1 {
-            return Slot::Coded(coded(arm64::NOP, 0, 0));
-        }
-        return Slot::Empty;
-    }
-    local_slot(p, i - 15)
 }
 
 // ---- the prologue and the epilogue
 
-// A place of the epilogue: homing and the setting of the frame pointer are not undone.
-fn undone(s: Slot) -> Slot
-    ensures { result ≡ undone s }
-{
-    let Slot::Coded(c) = s else {
-        return Slot::Empty;
-    };
-    if c.kind == arm64::NOP {
-        return Slot::Empty;
-    }
-    if c.kind == arm64::SET_FP {
-        return Slot::Empty;
-    }
-    Slot::Coded(c)
-}
-
-// Place i of the prologue or, backwards, of the epilogue.
-pub fn slot_at(back: bool, p: Packed, i: u64) -> Slot
+// Place i of the prologue or, backwards, of the epilogue: homing and the setting of the frame pointer are not undone.
+#[tactic(auto, unfolding(arm64::specs::Packed::slot_at, arm64::specs::Packed::undone, format::specs::Prelude::pick))]
+pub fn slot_at(back: bool, p: Packed, i: u64) -> Option<Code>
     requires { Sound p × (i < 19) }
-    ensures { result ≡ slot_at back p i }
+    ensures { result ≡ option_of (slot_at back p i) }
 {
     if back {
-        return undone(slot(p, 18 - i));
+        return slot(p, 18 - i).filter(|c| c.kind != arm64::NOP && c.kind != arm64::SET_FP);
     }
     slot(p, i)
-}
-
-// How many codes a place has.
-fn filled(s: Slot) -> usize
-    ensures { (result ≡ length (with_slot s [])) × (result ≤ 1) }
-{
-    let Slot::Coded(_) = s else {
-        return 0;
-    };
-    1
-}
-
-fn put_slot(out: &mut [u64], at: usize, s: Slot) -> usize
-    requires { at + 3 * length (with_slot s []) ≤ length out.old }
-    ensures { Wrote out.old out.new at result (code_numbers (with_slot s [])) }
-{
-    let Slot::Coded(c) = s else {
-        return at;
-    };
-    arm64_runs::put_code(out, at, c)
 }
 
 // How many codes the prologue has or, backwards, the epilogue.
@@ -291,13 +221,7 @@ pub fn count_slots(back: bool, p: Packed) -> usize
     requires { Sound p }
     ensures { (result ≡ length (slots_from (slot_at back p) 0 19)) × (result ≤ 19) }
 {
-    let mut i: u64 = 0;
-    let mut n: usize = 0;
-    while i < 19 {
-        n += filled(slot_at(back, p, i));
-        i += 1;
-    }
-    n
+    (0..19).filter_map(|i| slot_at(back, p, i)).count()
 }
 
 // The prologue's codes or, backwards, the epilogue's.
@@ -305,45 +229,36 @@ pub fn put_slots(out: &mut [u64], at: usize, back: bool, p: Packed) -> usize
     requires { Sound p × (at + 3 * length (slots_from (slot_at back p) 0 19) ≤ length out.old) }
     ensures { Wrote out.old out.new at result (code_numbers (slots_from (slot_at back p) 0 19)) }
 {
-    let mut i: u64 = 0;
     let mut to = at;
-    while i < 19 {
-        to = put_slot(out, to, slot_at(back, p, i));
-        i += 1;
+    for c in (0..19).filter_map(|i| slot_at(back, p, i)) {
+        to = arm64_runs::put_code(out, to, c);
     }
     to
 }
 
 // ---- words that the page defines
 
+#[tactic(auto, unfolding(arm64::specs::Packed::chain_ok, format::specs::Prelude::pick))]
 fn chain_ok(p: Packed) -> bool
     requires { Sound p }
     ensures { result ≡ chain_ok p }
 {
-    if p.chain < 2 {
-        return true;
-    }
-    local_size(p) != 0
+    p.chain < 2 || local_size(p) != 0
 }
 
+#[tactic(auto, unfolding(arm64::specs::Packed::packed_ok, format::specs::Prelude::pick))]
 pub fn packed_ok(p: Packed) -> bool
     requires { Small p }
     ensures { (result ≡ packed_ok p) × (result ≡ true → Sound p) }
 {
-    if 10 < p.registers {
-        return false;
-    }
-    if 16 * p.frame < saved_size(p) {
+    if 10 < p.registers || 16 * p.frame < saved_size(p) {
         return false;
     }
     if p.chain == 1 {
         return p.registers != 1;
     }
-    if p.homes == 1 {
-        if integer_size(p) + 8 * vector_count(p) == 0 {
-            return false;
-        }
-        return chain_ok(p);
+    if p.homes == 1 && integer_size(p) + 8 * vector_count(p) == 0 {
+        return false;
     }
     chain_ok(p)
 }

@@ -1,23 +1,18 @@
 -- `arm64_packed::count_slots` meets its contract.
-use mathlib.Core.Path.{ap, ◌∙◌}
+use mathlib.Core.Path.{refl, ap, ◌∙◌}
 use native.Mathlib.Omega.{arith}
-use mathlib.Core.List.{[]}
 use lib.ListN.{length}
-use Rattle.arm64.specs.Packed.{slot_at, with_slot}
-use Rattle.arm64_packed.proofs.Places.{fill_start, fill_turn, fill_ended}
+use borrow.Author.Tests.{tests}
+use Rattle.std.proofs.Common.{rules}
+use Rattle.std.proofs.lemmas.Iterator.{YieldsList-from_range}
+use Rattle.std.proofs.lemmas.Iterator.Consumers.{YieldsList-at, YieldsList-from_filter_map, count_from_yields_List}
+use Rattle.format.specs.Coded.{option_of}
+use Rattle.arm64.specs.Packed.{slot_at}
+use Rattle.arm64_packed.proofs.Places.{slots_mapped, slots_few}
 use Rattle.arm64_packed.proofs.count_slots.Goals as goal
 
-pub loop-i-init : goal.loop-i-init
-loop-i-init c = fill_start (slot_at c.args.back c.args.p)
-
-pub slot_at-requires : goal.slot_at-requires
-slot_at-requires c = (c.requires, omega arith)
-
-pub overflow_add-n : goal.overflow_add-n
-overflow_add-n c = omega (arith, c.loop-i.invariant.few, c.filled-n.ensures.1)
-
-pub loop-i-preserved : goal.loop-i-preserved
-loop-i-preserved c = fill_turn (slot_at c.args.back c.args.p) c.loop-i.invariant c.loop-i-test.true (c.filled-n.ensures.0 ∙ ap (λ s. length (with_slot s [])) c.slot_at.ensures) c.filled-n.ensures.1
-
 pub returns : goal.returns
-returns c = (fill_ended (slot_at c.args.back c.args.p) c.loop-i.invariant (omega arith), omega (arith, c.loop-i.invariant.few, c.loop-i.invariant.most))
+returns c =
+    let at = slot_at c.args.back c.args.p in
+    let e = count_from_yields_List c.filter_map.result c.count.result c.count.ensures.ran (YieldsList-from_filter_map _ (λ i. option_of (at i)) (YieldsList-at c.filter_map.ensures.source (YieldsList-from_range 0 19 19 refl (omega arith))) c.filter_map.ensures.closure (λ x r q k. search (rules, tests))) ∙ ap length (slots_mapped at 0 19) in
+    (e, omega (arith, slots_few at 0 19))

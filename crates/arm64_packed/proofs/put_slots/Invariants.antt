@@ -1,10 +1,8 @@
-use Prim.Native.Nat.{◌-◌}
-use Rattle.arm64.specs.Packed.{slot_at}
-use Rattle.arm64_packed.proofs.Places.{Putting}
+use lib.ListN.{length, drop}
+use Rattle.format.proofs.Storing.{Storing}
+use Rattle.arm64.specs.Lists.{code_numbers}
+use Rattle.arm64.specs.Packed.{slot_at, slots_from}
 use Rattle.arm64_packed.proofs.put_slots.Given as goal
 
-abbrev pub invariant-loop-i : goal.invariant-loop-i
-invariant-loop-i l = Putting (slot_at l.back l.p) l.initial.out l.out l.at l.to l.i
-
-abbrev pub decreases-loop-i : goal.decreases-loop-i
-decreases-loop-i l = 19 - l.i
+abbrev pub invariant-loop-c : goal.invariant-loop-c
+invariant-loop-c l = let all = slots_from (slot_at l.fn.back l.fn.p) 0 19 in Storing l.initial.out l.out l.at l.to (code_numbers all) (code_numbers (drop (length l.yielded) all))
