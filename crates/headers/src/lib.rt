@@ -21,6 +21,7 @@ use numbers::encodings;
 // ---- the end of an entry
 
 // Zeros after n bytes of a section, up to the alignment.
+#[tactic(auto, unfolding(format::specs::Headers::padding))]
 fn gap(align: usize, n: usize) -> usize
     requires { 0 < align }
     ensures { result ≡ padding align n }
@@ -29,6 +30,7 @@ fn gap(align: usize, n: usize) -> usize
 }
 
 // The same; to 4 and 8 without a division.
+#[tactic(auto, unfolding(format::specs::Headers::padding))]
 pub fn padding(align: usize, n: usize) -> usize
     requires { 0 < align }
     ensures { result ≡ padding align n }
@@ -55,6 +57,7 @@ pub fn pad(out: &mut [u8], start: usize, at: usize, align: usize) -> usize
 // ---- pointers by their encodings
 
 // A pointer's relocation: a distance of 4 bytes where it is relative, else an address.
+#[tactic(auto, unfolding(format::specs::Headers::pointer_reloc, format::specs::Prelude::pick))]
 pub fn pointer(out: &mut [u64], i: usize, word: u64, place: u64, symbol: u64, e: u64) -> usize
     requires { i + 5 ≤ length out.old }
     ensures { Wrote out.old out.new i result (numbers_of (pointer_reloc word place symbol e ∷ [])) }
@@ -87,6 +90,7 @@ fn ending(out: &mut [u8], at: usize, signal: bool) -> usize
 }
 
 // The data alignment factor, minus the word.
+#[tactic(auto, unfolding(format::specs::Headers::data_factor))]
 fn data_factor(word: u64) -> i64
     requires { word ≤ 8 }
     ensures { result ≡ data_factor word }
@@ -115,10 +119,11 @@ fn plain_header(out: &mut [u8], at: usize, word: u64, ret: u64, signal: bool) ->
     leb::le(out, b, 2, 0x1b01)
 }
 
+#[tactic(auto, unfolding(crate::specs::Kinds::flag, format::specs::Prelude::pick))]
 fn flag(b: bool) -> u64
     ensures { (result ≡ flag b) × (result ≤ 1) }
 {
-    if b { 1 } else { 0 }
+    u64::from(b)
 }
 
 // z, P, L where there is an LSDA, R.
@@ -235,10 +240,8 @@ fn starts(out: &mut [u8], at: usize, m: Machine, e: Extent, rows: &[u64]) -> usi
 {
     let n = header_keys::leading_count(m, e, rows);
     let mut p = at;
-    let mut i = 0;
-    while i < n {
+    for i in 0..n {
         p = rows::row(out, p, m.word, header_keys::leading_at(m, e, rows, i));
-        i += 1;
     }
     p
 }
@@ -250,10 +253,8 @@ fn starts_size(m: Machine, e: Extent, rows: &[u64]) -> usize
 {
     let n = header_keys::leading_count(m, e, rows);
     let mut size = 0;
-    let mut i = 0;
-    while i < n {
+    for i in 0..n {
         size += rows::row_size(m.word, header_keys::leading_at(m, e, rows, i));
-        i += 1;
     }
     size
 }
@@ -344,6 +345,7 @@ pub fn header(
 // ---- its relocation
 
 // How many relocations a header has: one where it names a personality, none in debug_frame.
+#[tactic(auto, unfolding(crate::specs::Kinds::header_reloc_count, crate::specs::Kinds::flag, format::specs::Prelude::pick))]
 pub fn header_relocs_count(debug: bool, e: Extent) -> usize
     ensures { result ≡ header_reloc_count debug e }
 {

@@ -1,4 +1,3 @@
-use Prim.Native.Nat.{◌-◌}
 use Rattle.format.specs.Headers.{leading}
 use Rattle.header_keys.specs.Functions.{body_of}
 use Rattle.headers.proofs.Turns.{Sizing}
@@ -6,6 +5,3 @@ use Rattle.headers.proofs.starts_size.Given as goal
 
 abbrev pub invariant-loop-i : goal.invariant-loop-i
 invariant-loop-i l = Sizing l.m.word (leading l.m (body_of l.e l.rows)) l.size l.i
-
-abbrev pub decreases-loop-i : goal.decreases-loop-i
-decreases-loop-i l = l.n - l.i
