@@ -2,6 +2,7 @@
 use Rattle.std.proofs.Common.{◌≡◌, ℕ, suc, ◌+◌, ◌-◌, ◌*◌, ◌%◌, ◌^◌, ◌<◌, ◌≤◌, Bool, true, false, ◌&&◌, ◌||◌, T, eqb, ltb, leb, List, sym, refl, ap, ◌∙◌, ⊎_elim, arith, pow-add}
 use mathlib.Core.Option.{Option, none, some}
 use native.Mathlib.Nat.{mod-add-mod, mod-mod_of_dvd, dvd-mul_left}
+use borrow.Author.Tests.{le-leb, lt-leb}
 use mir.Facts.{or_yes, eqb_yes}
 use Rattle.format.specs.Prelude.{pick, next, after}
 use Rattle.format.specs.Reader.{is_header, require}
@@ -116,9 +117,16 @@ module _ (pc : ℕ) (o : Option (ℕ × ℕ)) where
   unfolding holds
   holds_none e = rw (number_none o e) refl
 
-  pub holds_by : {start size : ℕ} → option_of o ≡ Some (start, size) → (leb start pc && ltb (pc - start) size) ≡ holds pc o
-  unfolding holds
-  holds_by e = rw (number_is o e) refl
+  module _ {start size : ℕ} (e : option_of o ≡ Some (start, size)) where
+    holds_by : (leb start pc && ltb (pc - start) size) ≡ holds pc o
+    unfolding holds
+    holds_by = rw (number_is o e) refl
+
+    pub holds_from : start ≤ pc → ltb (pc - start) size ≡ holds pc o
+    holds_from h = sym (ap (λ (b : Bool). b && ltb (pc - start) size) (le-leb start pc h)) ∙ holds_by
+
+    pub holds_later : pc < start → leb start pc ≡ holds pc o
+    holds_later h = lt-leb start pc h ∙ sym (ap (λ (b : Bool). b && ltb (pc - start) size) (lt-leb start pc h)) ∙ holds_by
 
 -- ---- the function of the record at a place
 

@@ -16,7 +16,7 @@ use Rattle.reader.proofs.Seeking.{search_start, search_turn, number_is, number_n
 use Rattle.reader.proofs.Tiling.{tiled_end}
 use Rattle.reader.proofs.Whole.{spans, spans_none}
 use Rattle.reads.specs.Places.{asked, header_of}
-use Rattle.reads.specs.Index.{nowhere, place_or, index_from, index_of, index_in, index, counted, indexed_as, list_after}
+use Rattle.reads.specs.Index.{nowhere, place_or, index_from, index_of, index_in, index, records_of, indexed_as, list_after}
 use Rattle.reads.specs.Standing.{Skipped, Headed, Stores, Indexes}
 use Rattle.reads.specs.declared.Indexed.{Indexed}
 use Rattle.reads.proofs.Passing.{Passing, begun, passed, all_passed, records_header, records_record}
@@ -267,7 +267,7 @@ module _ (s : List ℕ) (debug : Bool) (xs old : List ℕ) where
 
 module _ (section relocations : List ℕ) (kind word : ℕ) (old : List ℕ) where
   pub index_unasked : asked kind word ≡ false → {r : Indexed} → r ≡ indexed_as (Err 11) → Indexes (index section relocations kind word (length old)) r old old
-  unfolding index pick counted list_after
+  unfolding index pick records_of list_after
   index_unasked e x = rw e (record { answered = x; stored = refl })
 
   pub index_asked : asked kind word ≡ true → {n : code.Result ℕ ℕ} {r : Indexed} {new : List ℕ} → r ≡ indexed_as n
@@ -283,7 +283,7 @@ module _ (s : List ℕ) (rs : List Relocation) (debug : Bool) (old : List ℕ) w
   whole = index_in debug rs (length old) s
 
   pub index_untiled : is_some (entries s) ≡ false → Stores whole (Err 61) old old
-  unfolding index_in onward or_else counted list_after
+  unfolding index_in onward or_else records_of list_after
   index_untiled e = let q : whole ≡ bad 61 = rw (absent (entries s) e) refl in record { answered = rw q refl; stored = rw q refl }
 
   room_asked : List Entry → Result (List ℕ)
@@ -304,7 +304,7 @@ module _ (s : List ℕ) (rs : List Relocation) (debug : Bool) (old : List ℕ) w
     opened = room_first (entries s) t
 
     pub index_short : length old / 2 < n → Stores whole (Err 54) old old
-    unfolding index_in onward or_else counted list_after
+    unfolding index_in onward or_else records_of list_after
     index_short h =
         let q : whole ≡ bad 54 =
         opened ∙ if-gt (length (index_of debug rs (listed (entries s)))) (length old) (good (index_of debug rs (listed (entries s)))) (bad 54) (omega (arith, twice)) in
@@ -312,7 +312,7 @@ module _ (s : List ℕ) (rs : List Relocation) (debug : Bool) (old : List ℕ) w
 
     pub index_there : {new : List ℕ} → n ≤ length old / 2 → new ≡ put old 0 (index_of debug rs (listed (entries s)))
         → Stores whole (Ok n) old new
-    unfolding index_in onward or_else counted list_after
+    unfolding index_in onward or_else records_of list_after
     index_there h e =
         let q : whole ≡ good (index_of debug rs (listed (entries s))) =
         opened ∙ if-le (length (index_of debug rs (listed (entries s)))) (length old) (good (index_of debug rs (listed (entries s)))) (bad 54) (omega (arith, twice)) in

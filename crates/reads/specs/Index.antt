@@ -39,9 +39,9 @@ index section relocations kind word room =
     pick (asked kind word) (index_in (kind == 1) (relocations_of relocations) room section) (bad 11)
 
 -- how many records these are
-unfoldable pub counted : Result (List ℕ) → Result ℕ
-counted (good ns) = good (length ns / 2)
-counted (bad n) = bad n
+unfoldable pub records_of : Result (List ℕ) → Result ℕ
+records_of (good ns) = good (length ns / 2)
+records_of (bad n) = bad n
 
 -- as the export answers it
 unfoldable pub indexed_as : code.Result ℕ ℕ → Indexed

@@ -7,7 +7,7 @@ use Rattle.format.specs.Answers.{bit}
 use Rattle.format.specs.Reader.{Entry, header_at}
 use Rattle.reader.specs.declared.location.Located as reader
 use Rattle.reader.proofs.Seeking.{Searching}
-use Rattle.reads.specs.Index.{place_or, counted, indexed_as, list_after}
+use Rattle.reads.specs.Index.{place_or, records_of, indexed_as, list_after}
 use Rattle.reads.specs.declared.Indexed.{Indexed}
 use Rattle.reads.specs.declared.Located.{Located}
 
@@ -35,12 +35,12 @@ pub record Headed (debug : Bool) (es : List Entry) (place : ℕ) : Type 0 where
 pub record Skipped (xs : List ℕ) (place i : ℕ) : Type 0 where
   pub searching : (q : ℕ) → place ≤ q → Searching xs q i
 
--- an index is counted, and stored in a lent list
+-- an index is records_of, and stored in a lent list
 pub record Stores (a : Result (List ℕ)) (r : code.Result ℕ ℕ) (old new : List ℕ) : Type 0 where
-  pub answered : r ≡ result_of (counted a)
+  pub answered : r ≡ result_of (records_of a)
   pub stored : new ≡ list_after a old
 
 -- the same of what the export answers
 pub record Indexes (a : Result (List ℕ)) (r : Indexed) (old new : List ℕ) : Type 0 where
-  pub answered : r ≡ indexed_as (result_of (counted a))
+  pub answered : r ≡ indexed_as (result_of (records_of a))
   pub stored : new ≡ list_after a old

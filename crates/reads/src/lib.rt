@@ -66,7 +66,7 @@ pub struct Indexed {
 // ---- the exports' answers, by what was found
 
 #[tactic(auto, unfolding(crate::specs::Places::located_as, crate::specs::Places::refused))]
-fn located(found: Result<Located, u64>) -> Located
+fn answer_located(found: Result<Located, u64>) -> Located
     ensures { result ≡ located_as found }
 {
     match found {
@@ -87,7 +87,7 @@ fn located(found: Result<Located, u64>) -> Located
 }
 
 #[tactic(auto, unfolding(crate::specs::Addresses::placed_as))]
-fn placed(found: Result<(u64, u64), u64>) -> Placed
+fn answer_placed(found: Result<(u64, u64), u64>) -> Placed
     ensures { result ≡ placed_as found }
 {
     match found {
@@ -105,7 +105,7 @@ fn placed(found: Result<(u64, u64), u64>) -> Placed
 }
 
 #[tactic(auto, unfolding(crate::specs::Addresses::holder_as))]
-fn holder(found: Result<(u64, u64), u64>) -> Holder
+fn answer_holder(found: Result<(u64, u64), u64>) -> Holder
     ensures { result ≡ holder_as found }
 {
     match found {
@@ -123,7 +123,7 @@ fn holder(found: Result<(u64, u64), u64>) -> Holder
 }
 
 #[tactic(auto, unfolding(crate::specs::Index::indexed_as))]
-fn indexed(found: Result<usize, u64>) -> Indexed
+fn answer_indexed(found: Result<usize, u64>) -> Indexed
     ensures { result ≡ indexed_as found }
 {
     match found {
@@ -156,9 +156,9 @@ pub extern "C" fn unwind_locate(
     ensures { result ≡ locate_record section.now relocations.now kind word k }
 {
     if !asked(kind, word) {
-        return located(Err(11));
+        return answer_located(Err(11));
     }
-    located(places::locate_nth(section, relocations, kind == 1, word, k))
+    answer_located(places::locate_nth(section, relocations, kind == 1, word, k))
 }
 
 // The numbers as the reader takes them.
@@ -231,9 +231,9 @@ pub extern "C" fn unwind_function_at(
     ensures { result ≡ function_at section.now kind word address «record» }
 {
     if !asked(kind, word) {
-        return placed(Err(11));
+        return answer_placed(Err(11));
     }
-    placed(addresses::function_at(section, kind == 1, word, address, record as usize))
+    answer_placed(addresses::function_at(section, kind == 1, word, address, record as usize))
 }
 
 #[unsafe(no_mangle)]
@@ -247,9 +247,9 @@ pub extern "C" fn unwind_record_of(
     ensures { result ≡ record_of section.now kind word address pc }
 {
     if !asked(kind, word) {
-        return holder(Err(11));
+        return answer_holder(Err(11));
     }
-    holder(addresses::holder_in(section, kind == 1, word, address, pc))
+    answer_holder(addresses::holder_in(section, kind == 1, word, address, pc))
 }
 
 #[unsafe(no_mangle)]
@@ -263,9 +263,9 @@ pub extern "C" fn unwind_index(
     ensures { Indexes (index section.now relocations.now kind word (length places.old)) result places.old places.new }
 {
     if !asked(kind, word) {
-        return indexed(Err(11));
+        return answer_indexed(Err(11));
     }
-    indexed(index::index_in(section, relocations, kind == 1, places))
+    answer_indexed(index::index_in(section, relocations, kind == 1, places))
 }
 
 #[unsafe(no_mangle)]
@@ -279,9 +279,9 @@ pub extern "C" fn unwind_locate_at(
     ensures { result ≡ locate_at section.now kind word «record» header }
 {
     if !asked(kind, word) {
-        return located(Err(11));
+        return answer_located(Err(11));
     }
-    located(places::locate_at(
+    answer_located(places::locate_at(
         section,
         kind == 1,
         word,

@@ -12,6 +12,7 @@ use crate::Located;
 use reader::{entries, location};
 
 // The numbers of what the reader located.
+#[tactic(auto, unfolding(crate::specs::Standing::numbered))]
 fn numbers_of(l: location::Located) -> Located
     ensures { result ≡ numbered l }
 {
