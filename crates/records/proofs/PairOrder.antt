@@ -15,26 +15,25 @@ use Rattle.records.proofs.LabelLaws.{Seeking, start, turn, found, ended}
 
 -- ---- the loop that asks whether they rise
 
-pub record Climbing (pairs : List ℕ) (at n i : ℕ) : Type 0 where
-  pub low : at ≤ i
-  pub high : i ≤ at + n
-  pub so : (j k : ℕ) → at ≤ j → j < k → k ≤ i → (pair_at pairs j).place1 < (pair_at pairs k).place1
+-- those in front of pair i rise
+pub record Climbing (pairs : List ℕ) (at i : ℕ) : Type 0 where
+  pub low : at < i
+  pub so : (j k : ℕ) → at ≤ j → j < k → k < i → (pair_at pairs j).place1 < (pair_at pairs k).place1
 
-pub start_climb : (pairs : List ℕ) (at n : ℕ) → Climbing pairs at n at
-start_climb pairs at n = record { low = omega arith; high = omega arith; so = λ j k a b c. absurd (omega arith) }
+pub start_climb : (pairs : List ℕ) (at : ℕ) → Climbing pairs at (at + 1)
+start_climb pairs at = record { low = omega arith; so = λ j k a b c. absurd (omega arith) }
 
-module _ {pairs : List ℕ} {at n i : ℕ} (s : Climbing pairs at n i) where
-  pub turn_climb : {x y : ℕ} → i + 1 < at + n → x ≡ (pair_at pairs i).place1 → y ≡ (pair_at pairs (i + 1)).place1 → x < y → Climbing pairs at n (i + 1)
-  turn_climb h e f l = record {
+module _ {pairs : List ℕ} {at i : ℕ} (s : Climbing pairs at i) where
+  pub turn_climb : {x y : ℕ} → x ≡ (pair_at pairs (i - 1)).place1 → y ≡ (pair_at pairs i).place1 → x < y → Climbing pairs at (i + 1)
+  turn_climb e f l = record {
     low = omega (arith, s.low);
-    high = omega arith;
     so = λ j k a b c.
-        either k i (λ m. s.so j k a b m)
-        (λ g. let q : k ≡ i + 1 = omega arith in
-        either i j (λ m. let r : j ≡ i = omega arith in rw (q, r) (omega arith)) (λ m. let u = s.so j i a m (omega arith) in rw q (omega arith)));
+        either (suc k) i (λ m. s.so j k a b m)
+        (λ g. let q : k ≡ i = omega arith in
+        either (i - 1) j (λ m. let r : j ≡ i - 1 = omega arith in rw (q, r) (omega arith)) (λ m. let u = s.so j (i - 1) a m (omega arith) in rw q (omega arith)));
   }
 
-  pub ended_climb : at + n ≤ i + 1 → Rising pairs at n
+  pub ended_climb : {n : ℕ} → at + n ≤ i → Rising pairs at n
   ended_climb h = record { rise = λ j k a b c. s.so j k a b (omega arith) }
 
 -- ---- a place among them

@@ -7,17 +7,18 @@ use Rattle.format.specs.Lists.{Pair, Relocation, row_at, pair_at}
 use Rattle.format.specs.Records.{pair_for, set_pair, step_relocs}
 use Rattle.lists.specs.declared.Extent.{Extent}
 use Rattle.lists.specs.Extents.{meant_pair}
-use Rattle.records.specs.declared.Found.{Found}
-use Rattle.records.specs.declared.Found.TheVariants.{At, Absent}
+use Rattle.lists.specs.declared.Pair as lists
+use Rattle.std.specs.Prelude as code
+use Rattle.std.specs.Prelude.{Some, None}
 
 -- a pair is for the step from one place to another
 unfoldable pub is_for : (from to : ℕ) → Pair → Bool
 is_for from to p = eqb p.place1 from && eqb p.place2 to
 
 -- what a search for a pair found
-unfoldable pub found_pair : Found → Option Pair
-found_pair (At p) = some (meant_pair p)
-found_pair Absent = none
+unfoldable pub found_pair : code.Option lists.Pair → Option Pair
+found_pair (Some p) = some (meant_pair p)
+found_pair None = none
 
 -- the pair of a step, of n pairs from `at` on
 unfoldable pub pair_between : (from to : ℕ) (pairs : List ℕ) (at n : ℕ) → Option Pair

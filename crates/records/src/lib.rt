@@ -48,12 +48,9 @@ fn sites(out: &mut [u8], at: usize, landings: &[u64], first: usize, n: usize) ->
     requires { (first + n ≤ count landing_stride landings.now) × (at + length (sites_in landings.now first n) ≤ length out.old) }
     ensures { Wrote out.old out.new at result (sites_in landings.now first n) }
 {
-    let end = first + n;
-    let mut i = first;
     let mut p = at;
-    while i < end {
+    for i in first..first + n {
         p = site(out, p, lists::landing_at(landings, i));
-        i += 1;
     }
     p
 }
@@ -62,12 +59,9 @@ fn sites_size(landings: &[u64], first: usize, n: usize) -> usize
     requires { (first + n ≤ count landing_stride landings.now) × (n ≤ most_records) }
     ensures { result ≡ length (sites_in landings.now first n) }
 {
-    let end = first + n;
-    let mut i = first;
     let mut size = 0;
-    while i < end {
+    for i in first..first + n {
         size += site_size(lists::landing_at(landings, i));
-        i += 1;
     }
     size
 }
@@ -130,14 +124,11 @@ fn stepped_rows(out: &mut [u8], at: usize, word: u64, rows: &[u64], first: usize
     requires { SteppedReady word rows.now first n × (at + length (rows_in word 0 rows.now first n) ≤ length out.old) }
     ensures { Wrote out.old out.new at result (rows_in word 0 rows.now first n) }
 {
-    let end = first + n;
-    let mut i = first;
     let mut from = 0;
     let mut p = at;
-    while i < end {
+    for i in first..first + n {
         p = stepped_row(out, p, word, from, rows, i);
         from = rows::offset_at(rows, i);
-        i += 1;
     }
     p
 }
@@ -147,14 +138,11 @@ pub fn stepped_rows_size(word: u64, rows: &[u64], first: usize, n: usize) -> usi
     requires { SteppedReady word rows.now first n }
     ensures { result ≡ length (rows_in word 0 rows.now first n) }
 {
-    let end = first + n;
-    let mut i = first;
     let mut from = 0;
     let mut size = 0;
-    while i < end {
+    for i in first..first + n {
         size += stepped_row_size(word, from, rows, i);
         from = rows::offset_at(rows, i);
-        i += 1;
     }
     size
 }
@@ -313,38 +301,26 @@ pub fn record(
 
 // ---- the relocations of steps
 
-// The pair of a step, if it has one.
-#[derive(Clone, Copy)]
-enum Found {
-    At(Pair),
-    Absent,
-}
-
 // A pair is for the step from one place to another.
+#[tactic(auto, unfolding(crate::specs::Labels::is_for))]
 fn is_for(p: Pair, from: u64, to: u64) -> bool
     ensures { result ≡ is_for from to (meant_pair p) }
 {
-    if p.place1 != from {
-        return false;
-    }
-    p.place2 == to
+    p.place1 == from && p.place2 == to
 }
 
 // The first of the n pairs from `at` on that is for a step.
-fn pair_for(pairs: &[u64], at: usize, n: usize, from: u64, to: u64) -> Found
+fn pair_for(pairs: &[u64], at: usize, n: usize, from: u64, to: u64) -> Option<Pair>
     requires { at + n ≤ count pair_stride pairs.now }
     ensures { found_pair result ≡ pair_between from to pairs.now at n }
 {
-    let end = at + n;
-    let mut i = at;
-    while i < end {
+    for i in at..at + n {
         let p = lists::pair_at(pairs, i);
         if is_for(p, from, to) {
-            return Found::At(p);
+            return Some(p);
         }
-        i += 1;
     }
-    Found::Absent
+    None
 }
 
 // The first place of pair i.
@@ -360,13 +336,10 @@ fn rises(pairs: &[u64], at: usize, n: usize) -> bool
     requires { at + n ≤ count pair_stride pairs.now }
     ensures { result ≡ true → Rising pairs.now at n }
 {
-    let end = at + n;
-    let mut i = at;
-    while i + 1 < end {
-        if place_of(pairs, i + 1) <= place_of(pairs, i) {
+    for i in at + 1..at + n {
+        if place_of(pairs, i) <= place_of(pairs, i - 1) {
             return false;
         }
-        i += 1;
     }
     true
 }
@@ -414,7 +387,7 @@ fn pair_near(
     i: usize,
     from: u64,
     to: u64,
-) -> Found
+) -> Option<Pair>
     requires { (at + n ≤ count pair_stride pairs.now) × (rising ≡ true → Rising pairs.now at n) }
     ensures { found_pair result ≡ pair_between from to pairs.now at n }
 {
@@ -422,13 +395,13 @@ fn pair_near(
         return pair_for(pairs, at, n, from, to);
     }
     if at + n <= i {
-        return Found::Absent;
+        return None;
     }
     let p = lists::pair_at(pairs, i);
     if is_for(p, from, to) {
-        return Found::At(p);
+        return Some(p);
     }
-    Found::Absent
+    None
 }
 
 // Where the next step's pair is to be looked for: past the pairs below its start.
@@ -436,14 +409,12 @@ fn next_near(pairs: &[u64], end: usize, i: usize, to: u64) -> usize
     requires { end ≤ count pair_stride pairs.now }
     ensures { i ≤ result }
 {
-    let mut k = i;
-    while k < end {
+    for k in i..end {
         if to <= place_of(pairs, k) {
             return k;
         }
-        k += 1;
     }
-    k
+    usize::max(i, end)
 }
 
 // Where a linker writes a step of a form: on the opcode, or behind it.
@@ -505,7 +476,7 @@ fn step_pair(
     requires { PairsReady e pairs.now × (rising ≡ true → Rising pairs.now e.pairs_at e.pairs) × (place < 2 ^ 63) × (from ≤ to) × (i + length (numbers_of (step_pair place from to e pairs.now)) ≤ length out.old) }
     ensures { Wrote out.old out.new i result (numbers_of (step_pair place from to e pairs.now)) }
 {
-    let Found::At(p) = pair_near(rising, pairs, e.pairs_at, e.pairs, near, from, to) else {
+    let Some(p) = pair_near(rising, pairs, e.pairs_at, e.pairs, near, from, to) else {
         return i;
     };
     relaxed_advance(out, i, place, rows::step_form(to - from), p)
@@ -515,7 +486,7 @@ fn step_pair_count(from: u64, to: u64, e: Extent, pairs: &[u64], rising: bool, n
     requires { PairsReady e pairs.now × (rising ≡ true → Rising pairs.now e.pairs_at e.pairs) }
     ensures { result ≡ length (step_pair 0 from to e pairs.now) }
 {
-    let Found::At(_) = pair_near(rising, pairs, e.pairs_at, e.pairs, near, from, to) else {
+    let Some(_) = pair_near(rising, pairs, e.pairs_at, e.pairs, near, from, to) else {
         return 0;
     };
     2
@@ -536,20 +507,17 @@ fn step_relocs(
     requires { SteppedReady word rows.now first n × PairsReady e pairs.now × (place < 2 ^ 62) × (i + length (numbers_of (steps_in word place 0 rows.now first n e pairs.now)) ≤ length out.old) }
     ensures { Wrote out.old out.new i result (numbers_of (steps_in word place 0 rows.now first n e pairs.now)) }
 {
-    let end = first + n;
-    let mut k = first;
     let mut from = 0;
     let mut p = place;
     let mut q = i;
     let rising = rises(pairs, e.pairs_at, e.pairs);
     let mut near = e.pairs_at;
-    while k < end {
+    for k in first..first + n {
         let to = rows::offset_at(rows, k);
         q = step_pair(out, q, p, from, to, e, pairs, rising, near);
         near = next_near(pairs, e.pairs_at + e.pairs, near, to);
         p += stepped_row_size(word, from, rows, k) as u64;
         from = to;
-        k += 1;
     }
     q
 }
@@ -558,18 +526,15 @@ fn step_relocs_count(rows: &[u64], first: usize, n: usize, e: Extent, pairs: &[u
     requires { RowsReady rows.now first n × (n ≤ most_records) × PairsReady e pairs.now }
     ensures { (result ≡ length (steps_in 0 0 0 rows.now first n e pairs.now)) × (result ≤ 2 * n) }
 {
-    let end = first + n;
-    let mut k = first;
     let mut from = 0;
     let mut size = 0;
     let rising = rises(pairs, e.pairs_at, e.pairs);
     let mut near = e.pairs_at;
-    while k < end {
+    for k in first..first + n {
         let to = rows::offset_at(rows, k);
         size += step_pair_count(from, to, e, pairs, rising, near);
         near = next_near(pairs, e.pairs_at + e.pairs, near, to);
         from = to;
-        k += 1;
     }
     size
 }

@@ -18,10 +18,10 @@ overflow_sub-to c = omega (arith, c.requires.3)
 pub relaxed_advance-requires : goal.relaxed_advance-requires
 unfolding found_pair numbers_of set_pair
 relaxed_advance-requires c =
-    let h = rw (pair_found _ _ _ c.args.e _ _ (rw c.in-At.is at c.pair_near.ensures)) at c.requires.4 in
+    let h = rw (pair_found _ _ _ c.args.e _ _ (rw c.in-Some.is at c.pair_near.ensures)) at c.requires.4 in
     (c.requires.2, search rules)
 
 pub returns : goal.returns
 unfolding found_pair
 returns c =
-    rw (pair_found _ _ _ c.args.e _ _ (rw c.in-At.is at c.pair_near.ensures), ← c.step_form.ensures) c.relaxed_advance.ensures
+    rw (pair_found _ _ _ c.args.e _ _ (rw c.in-Some.is at c.pair_near.ensures), ← c.step_form.ensures) c.relaxed_advance.ensures

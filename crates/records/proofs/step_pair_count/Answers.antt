@@ -10,4 +10,4 @@ returns-in_default c = rw (pair_absent _ _ _ c.args.e _ (rw c.in_default.is at c
 
 pub returns : goal.returns
 unfolding found_pair set_pair
-returns c = rw (pair_found _ _ _ c.args.e _ _ (rw c.in-At.is at c.pair_near.ensures))
+returns c = rw (pair_found _ _ _ c.args.e _ _ (rw c.in-Some.is at c.pair_near.ensures))

@@ -34,9 +34,6 @@ stepped_row_size-requires c = row_at_ready c.requires.0 c.loop-k.invariant.going
 pub overflow_add-p : goal.overflow_add-p
 overflow_add-p c = omega (arith, c.loop-k.invariant.near, c.requires.2, c.requires.0.few, c.loop-k.invariant.going.low, c.loop-k-test.true, c.stepped_row_size.ensures.1)
 
-pub overflow_add-k : goal.overflow_add-k
-overflow_add-k c = omega (arith, c.loop-k-test.true, c.requires.0.ready.inside, c.well_formed)
-
 pub loop-k-preserved : goal.loop-k-preserved
 loop-k-preserved c = turn c.loop-k.invariant c.loop-k-test.true c.offset_at-to.ensures c.requires.0 c.step_pair-q.ensures c.stepped_row_size.ensures.0
 

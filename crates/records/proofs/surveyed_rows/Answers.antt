@@ -1,5 +1,4 @@
 -- `records::surveyed_rows` meets its contract.
-use native.Mathlib.Omega.{arith}
 use Rattle.records.proofs.SurveyLoops.{start, turn, ended}
 use Rattle.records.proofs.surveyed_rows.Goals as goal
 
