@@ -1,4 +1,5 @@
 -- The run that lists, operation by operation: what is left of the entry gives the lines that are left.
+use Rattle.std.specs.Prelude.{Some, None}
 use mathlib.Core.Path.{◌≡◌, refl, sym, ap, ◌∙◌}
 use Prim.Native.Nat.{ℕ, zero, suc, ◌+◌, ◌-◌, ◌*◌, ◌≤◌, ◌<◌}
 use native.Mathlib.Omega.{arith}
@@ -14,7 +15,6 @@ use Rattle.format.specs.declared.Rules.{Rules}
 use Rattle.format.specs.declared.Operation.{Operation}
 use Rattle.format.specs.declared.Operation.TheVariants.{Nop, Step, Does}
 use Rattle.operations.specs.declared.fields.Position.{Position}
-use Rattle.operations.specs.declared.Decoded.TheVariants as decoded
 use Rattle.format.specs.Rows.{read_operation}
 use Rattle.format.specs.Rules.{State, act, rules_for}
 use Rattle.operations.specs.Positions.{operation_at}
@@ -105,7 +105,7 @@ module _ {whole : Lines} {header : Bool} {word q : ℕ} {initial : Rule} {ops : 
   rules_kept = ap (λ (r : one.Run). r.current) n.seen
 
   -- 66: an operation that cannot be read
-  pub bad_operation : at.at < length ops → operation_at word ops at ≡ decoded.Bad → LinesStored q whole (ended loc 66) old out i
+  pub bad_operation : at.at < length ops → operation_at word ops at ≡ None → LinesStored q whole (ended loc 66) old out i
   bad_operation h e =
       rw (unread header word n.first k (drop at.at ops) loc n.all (operation_none word ops at e) (omega (arith, length-drop at.at ops))) at n.lines
 
@@ -114,7 +114,7 @@ module _ {whole : Lines} {header : Bool} {word q : ℕ} {initial : Rule} {ops : 
   unfolding lines_f
   all_done h = rw (drop_of_length-le ops h) at n.lines
 
-  module _ {op : Operation} {next : Position} (e : operation_at word ops at ≡ decoded.Operation op next) where
+  module _ {op : Operation} {next : Position} (e : operation_at word ops at ≡ Some (op, next)) where
     opened : LinesStored q whole (doing header n.first op loc n.all λ m u. listing header word n.first k m u (drop next.at ops)) old out i
     opened =
         rw

@@ -10,7 +10,6 @@ ghost use Rattle.listing.specs.Changes.{stack_use, cfa_is, rule_is, offset_is, r
 
 use crate::Listed;
 use format::{CfaRule, Operation, Row, Rule, Rules};
-use operations::Decoded;
 use operations::fields::Position;
 
 // The largest offset.
@@ -217,7 +216,7 @@ pub fn fill(
         to = record_end;
         let mut at = Position::START;
         'operations: while at.at < ops.len() {
-            let Decoded::Operation(op, next) = operations::operation(ops, at, word) else {
+            let Some((op, next)) = operations::operation(ops, at, word) else {
                 return listed(i, 66, loc);
             };
             at = next;
