@@ -7,7 +7,6 @@ ghost use Rattle.format.specs.Machine.{x8664};
 ghost use Rattle.machines.specs.Numbers.{machine_numbers, stored};
 
 use format::Machine;
-use leb::wide;
 use numbers::machine::{MAPPED, STRIDE};
 use relocs::number;
 
@@ -29,10 +28,8 @@ fn map(out: &mut [u64], at: usize, numbers: [u8; 64]) -> usize
     requires { at + 64 ≤ length out.old }
     ensures { Wrote out.old out.new at result numbers }
 {
-    let mut i = 0;
-    while i < MAPPED {
-        out[at + i] = wide(numbers[i]);
-        i += 1;
+    for i in 0..MAPPED {
+        out[at + i] = u64::from(numbers[i]);
     }
     at + MAPPED
 }
