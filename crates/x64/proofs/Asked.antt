@@ -6,27 +6,30 @@ use native.Mathlib.Numerals.{add-one}
 use mathlib.Core.Option.{Option, none, some}
 use Rattle.format.proofs.Asked.{question_of}
 use Rattle.std.specs.Prelude.{Ok, Err}
-use Rattle.format.specs.Coded.{refusal}
+use Rattle.format.specs.Coded.{Asked}
 use Rattle.format.specs.Questions.{Question, and_then, no_at}
-use Rattle.format.proofs.Choice.{if-eq, if-ne}
-use Rattle.codes.specs.Codes.{number_of}
-use Rattle.codes.proofs.Numbers.{Nonzero}
-use Rattle.x64.specs.Answers.{said_by, ask_each}
+use Rattle.codes.specs.Codes.{yes_or_no}
+use Rattle.std.specs.Prelude as code
+use Rattle.format.specs.declared.Refusal.{Refusal}
+use Rattle.x64.specs.Answers.{refused_at, ask_each}
 
--- ---- one number
+-- ---- one answer
 
-pub said_none : {r : ℕ} → r ≡ 0 → said_by r ≡ none
-unfolding said_by
-said_none {r} e = if-eq r 0 none (some r) e
+pub then_err : (q p : Question) {x : Asked} {r : Refusal} → x ≡ question_of q → x ≡ Err r → Err r ≡ question_of (and_then q p)
+unfolding question_of and_then
+then_err none p {x} {r} e y = let z : ◌≡◌ {A = Asked} (Ok tt) (Err r) = sym e ∙ y in cc
+then_err (some x) p e y = sym y ∙ e
 
-pub said_some : {r : ℕ} → (r ≡ 0 → ⊥) → said_by r ≡ some r
-unfolding said_by
-said_some {r} h = if-ne r 0 none (some r) h
+-- of function k: a no with its position, and a yes
+pub no_with : (o : Option ℕ) (k : ℕ) {a : code.Result Unit ℕ} {x : Asked} → x ≡ refused_at k a → a ≡ yes_or_no o → x ≡ question_of (no_at k o)
+unfolding yes_or_no no_at question_of
+no_with none k e g = rw (e, g)
+no_with (some n) k e g = rw (e, g)
 
-pub said_of : (o : Option ℕ) {r : ℕ} → Nonzero o → r ≡ number_of o → o ≡ said_by r
-unfolding number_of
-said_of none t e = sym (said_none e)
-said_of (some n) t e = rw e (sym (said_some (λ z. omega arith)))
+no_none : (o : Option ℕ) (k : ℕ) → question_of (no_at k o) ≡ Ok tt → o ≡ none
+unfolding no_at question_of
+no_none none k e = refl
+no_none (some n) k e = cc
 
 -- ---- function by function
 
@@ -45,20 +48,39 @@ module _ {f : ℕ → Option ℕ} {n k : ℕ} (a : Passing f n k) where
       let e : n - k ≡ suc (n - suc k) = omega arith in
       a.rest ∙ rw (add-one k, e)
 
-  module _ {r : ℕ} (h : k < n) (e : f k ≡ said_by r) where
-    pub turn : r ≡ 0 → Passing f n (k + 1)
+  module _ {x : Asked} (h : k < n) (e : x ≡ question_of (no_at k (f k))) where
+    pub turn : x ≡ Ok tt → Passing f n (k + 1)
     unfolding no_at and_then
-    turn z = record { high = omega arith; rest = here h ∙ rw (e ∙ said_none z) }
+    turn z = record { high = omega arith; rest = here h ∙ rw (no_none (f k) k (sym e ∙ z)) }
 
-    pub stopped : (r ≡ 0 → ⊥) → Err (refusal r k) ≡ question_of (ask_each f 0 n)
-    unfolding no_at and_then question_of
-    stopped z = sym (ap question_of (here h) ∙ rw (e ∙ said_some z))
+    pub stopped : {r : Refusal} → x ≡ Err r → Err r ≡ question_of (ask_each f 0 n)
+    stopped z = rw (here h) (then_err _ _ e z)
 
-  pub ended : n ≤ k → Ok tt ≡ question_of (ask_each f 0 n)
-  unfolding ask_each question_of
+  pub ended : n ≤ k → ask_each f 0 n ≡ none
+  unfolding ask_each
   ended h =
       let e : n - k ≡ 0 = omega arith in
-      sym (ap question_of a.rest ∙ rw e)
+      a.rest ∙ rw e
+
+-- ---- pass by pass
+
+module _ (a b c : Question) where
+  pub first_err : {r : Refusal} → Err r ≡ question_of a → Err r ≡ question_of (and_then a (and_then b c))
+  first_err e = then_err a (and_then b c) refl (sym e)
+
+  module _ (h : a ≡ none) where
+    pub second_err : {r : Refusal} → Err r ≡ question_of b → Err r ≡ question_of (and_then a (and_then b c))
+    unfolding and_then
+    second_err e = rw h (then_err b c refl (sym e))
+
+    module _ (g : b ≡ none) where
+      pub third_err : {r : Refusal} → Err r ≡ question_of c → Err r ≡ question_of (and_then a (and_then b c))
+      unfolding and_then
+      third_err e = rw (h, g) e
+
+      pub all_yes : c ≡ none → Ok tt ≡ question_of (and_then a (and_then b c))
+      unfolding and_then question_of
+      all_yes e = rw (h, g, e)
 
 both : (o : Option ℕ) (at : ℕ) (q : Question) → and_then (no_at at o) q ≡ none → (o ≡ none) × (q ≡ none)
 unfolding and_then no_at

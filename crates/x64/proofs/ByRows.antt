@@ -10,7 +10,7 @@ use lib.ListN.{length, get_or, drop, length-drop}
 use lib.Seq.{length-take-le}
 use Rattle.format.specs.Prelude.{pick, Result, good, bad, each}
 use Rattle.format.specs.declared.Machine.{Machine}
-use Rattle.std.specs.Prelude.{Some, None, Ok, Err}
+use Rattle.std.specs.Prelude.{Err}
 use Rattle.format.specs.Coded.{refusal}
 use Rattle.format.specs.Machine.{machine_of, machine_ok}
 use Rattle.format.specs.Lists.{Function, Prologue, field, count, function_stride, row_stride, landing_stride, pair_stride, most_functions, most_records, sum_of, pairs_in, inside, symbol_ok, pointer_ok, mark_ok, when_marked, all_in, row_ok_at, pair_ok_at, function_ok_at, lists_ok, function_at, functions_of}
@@ -21,13 +21,11 @@ use Rattle.format.proofs.Accepted.{machine_fits}
 use Rattle.format.proofs.ListLaws.{chained, part_of, at_each, symbol_small}
 use Rattle.lists.proofs.Machines.{long}
 use Rattle.x64.specs.declared.Source.{Source}
+use Rattle.x64.specs.declared.Source.TheVariants.{Rows}
 use Rattle.x64.specs.Answers.{ask_each}
-use Rattle.x64.specs.Sources.{by_rows, result_at, stride_of, Listed, rows_no, codes_no, pass_no, or_none, found_at, asks_of, table_of}
+use Rattle.x64.specs.Sources.{by_rows, result_at, stride_of, Listed, pushed_by, ListedAt, rows_no, codes_no, length_at, rows_at, codes_at, or_none, found_at, asks_of, table_of}
 use Rattle.x64.proofs.Asked.{each_yes}
 use Rattle.x64.proofs.Entries.{unless_then, per_each, ask_long, within_of}
-
-abbrev pub rowwise : Machine → Source
-rowwise m = record { direct = false; machine = m }
 
 -- ---- prologues, or the first no
 
@@ -64,37 +62,37 @@ module _ (m : Machine) (fs rows landings pairs : List ℕ) where
   abbrev f : ℕ → Function
   f k = function_at fs rows landings pairs k
 
-  result_same : (k : ℕ) → by_rows m (f k) ≡ result_at (rowwise m) fs rows k
-  unfolding result_at pick function_at codes_of prologue_of
+  result_same : (k : ℕ) → by_rows m (f k) ≡ result_at (Rows m) fs rows k
+  unfolding result_at function_at codes_of prologue_of
   result_same k = refl
 
-  rows_long : short_ones (λ g. g.size) (functions_of fs rows landings pairs) ≡ ask_each (pass_no 0 (rowwise m) fs rows) 0 n
-  unfolding short_ones functions_of pass_no pick stride_of function_at
-  rows_long = per_each _ f (pass_no 0 (rowwise m) fs rows) 0 n (λ k l. ask_long (field function_stride fs k 1) k)
+  rows_long : short_ones (λ g. g.size) (functions_of fs rows landings pairs) ≡ ask_each (length_at (Rows m) fs) 0 n
+  unfolding short_ones functions_of stride_of function_at
+  rows_long = per_each _ f (length_at (Rows m) fs) 0 n (λ k l. ask_long (field function_stride fs k 1) k)
 
-  made_each : (at d : ℕ) → prologues_for m at (each f at d) ≡ gather (ask_each (pass_no 1 (rowwise m) fs rows) at d) (each (found_at (rowwise m) fs rows) at d)
-  unfolding prologues_for each ask_each gather pass_no pick
+  made_each : (at d : ℕ) → prologues_for m at (each f at d) ≡ gather (ask_each (rows_at (Rows m) fs rows) at d) (each (found_at (Rows m) fs rows) at d)
+  unfolding prologues_for each ask_each gather
   made_each at zero = refl
   made_each at (suc d) =
       rw (made_each (suc at) d, result_same at)
-      (gather_one at (result_at (rowwise m) fs rows at) (ask_each (pass_no 1 (rowwise m) fs rows) (suc at) d) (each (found_at (rowwise m) fs rows) (suc at) d))
+      (gather_one at (result_at (Rows m) fs rows at) (ask_each (rows_at (Rows m) fs rows) (suc at) d) (each (found_at (Rows m) fs rows) (suc at) d))
 
-  rows_codes : ask_each (pass_no 1 (rowwise m) fs rows) 0 n ≡ none
-      → code_asks (each (found_at (rowwise m) fs rows) 0 n) ≡ ask_each (pass_no 2 (rowwise m) fs rows) 0 n
-  unfolding code_asks pass_no pick
+  rows_codes : ask_each (rows_at (Rows m) fs rows) 0 n ≡ none
+      → code_asks (each (found_at (Rows m) fs rows) 0 n) ≡ ask_each (codes_at (Rows m) fs rows) 0 n
+  unfolding code_asks
   rows_codes e =
-      per_each _ (found_at (rowwise m) fs rows) (pass_no 2 (rowwise m) fs rows) 0 n
-      (λ k l. ap (no_at k) (codes_same (result_at (rowwise m) fs rows k) (each_yes (pass_no 1 (rowwise m) fs rows) n e k (omega arith))))
+      per_each _ (found_at (Rows m) fs rows) (codes_at (Rows m) fs rows) 0 n
+      (λ k l. ap (no_at k) (codes_same (result_at (Rows m) fs rows k) (each_yes (rows_at (Rows m) fs rows) n e k (omega arith))))
 
   pub rows_answer : (r : Room) → windows_answer m (functions_of fs rows landings pairs) r
-      ≡ unless (asks_of (rowwise m) fs rows n) (fitting r (table_of (rowwise m) fs rows n))
+      ≡ unless (asks_of (Rows m) fs rows n) (fitting r (table_of (Rows m) fs rows n))
   unfolding windows_answer functions_of asks_of codes_answer
   rows_answer r =
-      let s : Source = rowwise m in
+      let s : Source = Rows m in
       let w : Answer = fitting r (table_of s fs rows n) in
-      let a : Question = ask_each (pass_no 0 s fs rows) 0 n in
-      let b : Question = ask_each (pass_no 1 s fs rows) 0 n in
-      let c : Question = ask_each (pass_no 2 s fs rows) 0 n in
+      let a : Question = ask_each (length_at s fs) 0 n in
+      let b : Question = ask_each (rows_at s fs rows) 0 n in
+      let c : Question = ask_each (codes_at s fs rows) 0 n in
       ap (λ (q : Question). unless q (prologues_answer (prologues_for m 0 (each f 0 n)) r)) rows_long
       ∙ ap (unless a)
       (ap (λ (p : Prologues). prologues_answer p r) (made_each 0 n) ∙ gathered b (each (found_at s fs rows) 0 n) r
@@ -128,8 +126,8 @@ module _ (ms fs rows landings pairs : List ℕ) (t : T (machine_ok ms)) (w : (ma
       let u = at_each (function_ok_at fs rows landings pairs) total k (says 4) h in
       (tell 0 u, tell 1 u, tell 2 u)
 
-  pub rows_listed : Listed (rowwise (machine_of ms)) fs rows total
-  unfolding stride_of pick
+  pub rows_listed : Listed (Rows (machine_of ms)) fs rows total
+  unfolding stride_of pushed_by ListedAt
   rows_listed = record {
     most = leb→le total most_functions (says 0);
     whole = omega arith;
@@ -137,13 +135,13 @@ module _ (ms fs rows landings pairs : List ℕ) (t : T (machine_ok ms)) (w : (ma
       within = omega arith;
       symbol = symbol_small (field function_stride fs k 0) (tells k h).0;
       pushed = (machine_fits ms t).pushed_small;
-      map = map_long ms t;
-      codes = λ e. let z : ◌≡◌ {A = ℕ} 0 1 = cc in absurd (omega arith);
-      rows = λ e. (
+      records = (
+        machine_fits ms t,
+        w,
+        map_long ms t,
         record { inside = within_of (field function_stride fs k 2) (field function_stride fs k 3) (count row_stride rows) (tells k h).1; ok = (tells k h).2 },
         omega (arith, part_of (λ i. field function_stride fs i 3) total k h, leb→le (sum_of (λ i. field function_stride fs i 3) 0 total) most_records (says 1)),
       );
-      machine = λ e. (machine_fits ms t, w);
     };
   }
 
@@ -169,6 +167,6 @@ module _ (g : Given) (r : Room) where
     no_lists e d b = rw (e, d, b) (record { outcome = refl; placed = refl; stored = refl; related = refl; sited = refl })
 
   pub rows_answers : machine_ok g.machine ≡ true → eqb (machine_of g.machine).word 8 ≡ true → lists_ok g.functions g.rows g.landings g.pairs ≡ true
-      → unless (asks_of (rowwise (machine_of g.machine)) g.functions g.rows (count function_stride g.functions)) (fitting r (table_of (rowwise (machine_of g.machine)) g.functions g.rows (count function_stride g.functions))) ≡ whole
+      → unless (asks_of (Rows (machine_of g.machine)) g.functions g.rows (count function_stride g.functions)) (fitting r (table_of (Rows (machine_of g.machine)) g.functions g.rows (count function_stride g.functions))) ≡ whole
   unfolding windows_asks unless ask and_then pick given_functions
   rows_answers e d b = sym (rw (e, d, b) (rows_answer (machine_of g.machine) g.functions g.rows g.landings g.pairs r))

@@ -6,20 +6,19 @@ use mathlib.Core.Bool.{Bool, true, false}
 use mathlib.Core.Option.{Option, none, some}
 use mathlib.Core.List.{List, [], ◌∷◌}
 use lib.Dec.{T, leb, ltb, leb→le}
-use lib.ListN.{length, get_or}
+use lib.ListN.{get_or}
 use borrow.Author.Tests.{eq-eqb, ne_eqb}
 use Rattle.format.specs.Prelude.{pick, each}
-use Rattle.format.specs.declared.Machine.{Machine}
 use Rattle.format.specs.Lists.{field, count, prologue_stride, code_stride, most_functions, most_records, sum_of, inside, symbol_ok, all_in, code_ok_at, prologue_ok_at, codes_ok, prologue_at, prologues_of}
 use Rattle.format.specs.X64.{x64}
 use Rattle.format.specs.Questions.{Question, Room, Answer, ask, and_then, no_at, unless, fitting, per_function, code_asks, codes_answer, short_ones, seh}
-use Rattle.std.specs.Prelude.{Some, None, Ok, Err}
+use Rattle.std.specs.Prelude.{None, Ok, Err}
 use Rattle.format.specs.Coded.{refusal}
 use Rattle.format.specs.Answers.{outcome_of, afterwards, Writes}
 use Rattle.format.proofs.ListLaws.{chained, part_of, at_each, symbol_small}
-use Rattle.x64.specs.declared.Source.{Source}
+use Rattle.x64.specs.declared.Source.TheVariants.{Direct}
 use Rattle.x64.specs.Answers.{ask_each}
-use Rattle.x64.specs.Sources.{result_at, stride_of, Listed, long_no, rows_no, codes_no, pass_no, or_none, asks_of, table_of}
+use Rattle.x64.specs.Sources.{result_at, stride_of, Listed, pushed_by, ListedAt, long_no, rows_no, codes_no, length_at, rows_at, codes_at, or_none, asks_of, table_of}
 
 -- ---- questions
 
@@ -56,37 +55,34 @@ within_of at n size t = leb→le (at + n) size t
 
 -- ---- direct codes
 
-abbrev pub directly : Machine → Source
-directly m = record { direct = true; machine = m }
-
-module _ (m : Machine) (fs codes : List ℕ) where
+module _ (fs codes : List ℕ) where
   abbrev n : ℕ
   n = count prologue_stride fs
 
-  direct_long : short_ones (λ p. p.size) (prologues_of fs codes) ≡ ask_each (pass_no 0 (directly m) fs codes) 0 n
-  unfolding short_ones prologues_of pass_no pick stride_of prologue_at
-  direct_long = per_each _ (prologue_at fs codes) (pass_no 0 (directly m) fs codes) 0 n (λ k l. ask_long (field prologue_stride fs k 1) k)
+  direct_long : short_ones (λ p. p.size) (prologues_of fs codes) ≡ ask_each (length_at Direct fs) 0 n
+  unfolding short_ones prologues_of stride_of prologue_at
+  direct_long = per_each _ (prologue_at fs codes) (length_at Direct fs) 0 n (λ k l. ask_long (field prologue_stride fs k 1) k)
 
-  direct_rows : ask_each (pass_no 1 (directly m) fs codes) 0 n ≡ none
-  unfolding pass_no pick result_at rows_no
-  direct_rows = none_each (pass_no 1 (directly m) fs codes) 0 n (λ k. refl)
+  direct_rows : ask_each (rows_at Direct fs codes) 0 n ≡ none
+  unfolding result_at rows_no
+  direct_rows = none_each (rows_at Direct fs codes) 0 n (λ k. refl)
 
-  direct_codes : code_asks (prologues_of fs codes) ≡ ask_each (pass_no 2 (directly m) fs codes) 0 n
-  unfolding code_asks prologues_of pass_no pick result_at codes_no
-  direct_codes = per_each _ (prologue_at fs codes) (pass_no 2 (directly m) fs codes) 0 n (λ k l. refl)
+  direct_codes : code_asks (prologues_of fs codes) ≡ ask_each (codes_at Direct fs codes) 0 n
+  unfolding code_asks prologues_of result_at codes_no
+  direct_codes = per_each _ (prologue_at fs codes) (codes_at Direct fs codes) 0 n (λ k l. refl)
 
-  direct_table : x64 (prologues_of fs codes) ≡ table_of (directly m) fs codes n
-  unfolding prologues_of result_at pick or_none
+  direct_table : x64 (prologues_of fs codes) ≡ table_of Direct fs codes n
+  unfolding prologues_of result_at or_none
   direct_table = refl
 
   pub direct_answer : (r : Room) → unless (short_ones (λ p. p.size) (prologues_of fs codes)) (codes_answer (prologues_of fs codes) r)
-      ≡ unless (asks_of (directly m) fs codes n) (fitting r (table_of (directly m) fs codes n))
+      ≡ unless (asks_of Direct fs codes n) (fitting r (table_of Direct fs codes n))
   unfolding codes_answer asks_of and_then
   direct_answer r =
       rw (direct_long, direct_codes, direct_table, direct_rows)
-      (sym (unless_then (ask_each (pass_no 0 (directly m) fs codes) 0 n) (ask_each (pass_no 2 (directly m) fs codes) 0 n) (fitting r (table_of (directly m) fs codes n))))
+      (sym (unless_then (ask_each (length_at Direct fs) 0 n) (ask_each (codes_at Direct fs codes) 0 n) (fitting r (table_of Direct fs codes n))))
 
-module _ (m : Machine) (small : m.pushed < 2 ^ 31) (map : length m.map ≡ 64) (fs codes : List ℕ) (t : T (codes_ok fs codes)) where
+module _ (fs codes : List ℕ) (t : T (codes_ok fs codes)) where
   says : (k : ℕ) → T (get_or (leb (count prologue_stride fs) most_functions ∷ leb (sum_of (λ k. field prologue_stride fs k 4) 0 (count prologue_stride fs)) most_records ∷ all_in (prologue_ok_at fs codes) 0 (count prologue_stride fs) ∷ []) k true)
   unfolding codes_ok
   says k = chained (leb (count prologue_stride fs) most_functions) (leb (sum_of (λ k. field prologue_stride fs k 4) 0 (count prologue_stride fs)) most_records ∷ all_in (prologue_ok_at fs codes) 0 (count prologue_stride fs) ∷ []) k t
@@ -95,19 +91,16 @@ module _ (m : Machine) (small : m.pushed < 2 ^ 31) (map : length m.map ≡ 64) (
   unfolding prologue_ok_at
   tells k h j = chained (symbol_ok (field prologue_stride fs k 0)) (inside (field prologue_stride fs k 3) (field prologue_stride fs k 4) (count code_stride codes) ∷ all_in (code_ok_at codes) (field prologue_stride fs k 3) (field prologue_stride fs k 4) ∷ []) j (at_each (prologue_ok_at fs codes) (count prologue_stride fs) k (says 2) h)
 
-  pub direct_listed : Listed (directly m) fs codes (count prologue_stride fs)
-  unfolding stride_of pick
+  pub direct_listed : Listed Direct fs codes (count prologue_stride fs)
+  unfolding stride_of pushed_by ListedAt
   direct_listed = record {
     most = leb→le (count prologue_stride fs) most_functions (says 0);
     whole = omega arith;
     each_one = λ k h. record {
       within = omega arith;
       symbol = symbol_small (field prologue_stride fs k 0) (tells k h 0);
-      pushed = small;
-      map = map;
-      codes = λ e. (within_of (field prologue_stride fs k 3) (field prologue_stride fs k 4) (count code_stride codes) (tells k h 1), omega (arith, part_of (λ i. field prologue_stride fs i 4) (count prologue_stride fs) k h, leb→le (sum_of (λ i. field prologue_stride fs i 4) 0 (count prologue_stride fs)) most_records (says 1)));
-      rows = λ e. let w : ◌≡◌ {A = ℕ} 0 1 = cc in absurd (omega arith);
-      machine = λ e. let w : ◌≡◌ {A = ℕ} 0 1 = cc in absurd (omega arith);
+      pushed = omega arith;
+      records = (within_of (field prologue_stride fs k 3) (field prologue_stride fs k 4) (count code_stride codes) (tells k h 1), omega (arith, part_of (λ i. field prologue_stride fs i 4) (count prologue_stride fs) k h, leb→le (sum_of (λ i. field prologue_stride fs i 4) 0 (count prologue_stride fs)) most_records (says 1)));
     };
   }
 
@@ -124,7 +117,7 @@ module _ (fs codes : List ℕ) (r : Room) where
     seh_refused e =
         rw (ne_eqb (count prologue_stride fs) 0 some-there, e) (record { outcome = refl; placed = refl; stored = refl; related = refl; sited = refl })
 
-    pub seh_answers : (m : Machine) → codes_ok fs codes ≡ true
-        → unless (asks_of (directly m) fs codes (count prologue_stride fs)) (fitting r (table_of (directly m) fs codes (count prologue_stride fs))) ≡ seh fs codes r
+    pub seh_answers : codes_ok fs codes ≡ true
+        → unless (asks_of Direct fs codes (count prologue_stride fs)) (fitting r (table_of Direct fs codes (count prologue_stride fs))) ≡ seh fs codes r
     unfolding seh pick ask unless
-    seh_answers m e = sym (rw (ne_eqb (count prologue_stride fs) 0 some-there, e) (direct_answer m fs codes r))
+    seh_answers e = sym (rw (ne_eqb (count prologue_stride fs) 0 some-there, e) (direct_answer fs codes r))

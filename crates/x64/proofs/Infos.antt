@@ -1,5 +1,5 @@
 -- The record of a function's codes: its questions by the code's tests, what a yes to all says, and its bytes part by part.
-use mathlib.Core.Path.{◌≡◌, sym, ap}
+use mathlib.Core.Path.{◌≡◌, sym, ap, ◌∙◌}
 use Prim.Native.Nat.{ℕ, ◌*◌, ◌%◌, ◌≤◌, ◌<◌}
 use native.Mathlib.Omega.{arith}
 use mathlib.Core.Option.{none, some}
@@ -12,9 +12,9 @@ use Rattle.format.specs.declared.Seh.{Seh}
 use Rattle.format.specs.X64.{code_no, or_no, first_no, slots, prologue_no, frame_byte, reversed, info_bytes}
 use Rattle.format.proofs.Choice.{if-le, if-gt}
 use Rattle.format.proofs.PutLaws.{◌then◌}
-use Rattle.codes.specs.Codes.{number_of, frame_ask}
-use Rattle.codes.proofs.Numbers.{none_of, some_of, nonzero_first, nonzero_code}
-use Rattle.codes.proofs.Questions.{yes_of}
+use Rattle.std.specs.Prelude.{Ok, Err}
+use Rattle.codes.specs.Codes.{yes_or_no, frame_ask}
+use Rattle.codes.proofs.Questions.{none_of, some_of, yes_of}
 use Rattle.codes.proofs.Sizes.{info_length}
 use Rattle.x64.specs.declared.Summary.{Summary}
 use Rattle.x64.specs.Answers.{summary_of}
@@ -26,26 +26,29 @@ pub counted : (cs : List (ℕ × Seh)) {t : Summary} → t ≡ summary_of cs →
 counted cs e = ap (λ (t : Summary). t.slots) e
 
 module _ (end : ℕ) (cs : List (ℕ × Seh)) {t : Summary} (e : t ≡ summary_of cs) where
-  pub no_code : (t.number ≡ 0 → ⊥) → t.number ≡ number_of (prologue_no end cs)
-  unfolding prologue_no or_no number_of
-  no_code h = rw e (sym (rw (some_of (first_no code_no cs) (rw e at h))))
+  asked : t.codes ≡ yes_or_no (first_no code_no cs)
+  asked = ap (λ (t : Summary). t.codes) e
 
-  module _ (z : t.number ≡ 0) where
+  pub no_code : {n : ℕ} → t.codes ≡ Err n → Err n ≡ yes_or_no (prologue_no end cs)
+  unfolding prologue_no or_no yes_or_no
+  no_code {n} h = rw (some_of (first_no code_no cs) n (sym h ∙ asked))
+
+  module _ (z : t.codes ≡ Ok tt) where
     every : first_no code_no cs ≡ none
-    every = none_of (first_no code_no cs) (nonzero_first code_no nonzero_code cs) (rw e at z)
+    every = none_of (first_no code_no cs) (sym z ∙ asked)
 
-    pub no_end : 255 < end → 35 ≡ number_of (prologue_no end cs)
-    unfolding prologue_no or_no number_of
+    pub no_end : 255 < end → Err 35 ≡ yes_or_no (prologue_no end cs)
+    unfolding prologue_no or_no yes_or_no
     no_end h = rw (every, if-gt end 255)
 
     module _ (h : end ≤ 255) where
-      pub no_slots : 255 < t.slots → 40 ≡ number_of (prologue_no end cs)
-      unfolding prologue_no or_no number_of
+      pub no_slots : 255 < t.slots → Err 40 ≡ yes_or_no (prologue_no end cs)
+      unfolding prologue_no or_no yes_or_no
       no_slots l = rw (every, if-le end 255, ← counted cs e, if-gt t.slots 255)
 
-      pub no_frame : t.slots ≤ 255 → t.frame ≡ number_of (prologue_no end cs)
+      pub no_frame : t.slots ≤ 255 → t.frames ≡ yes_or_no (prologue_no end cs)
       unfolding prologue_no or_no
-      no_frame l = rw (every, if-le end 255, ← counted cs e, if-le t.slots 255) (ap (λ (t : Summary). t.frame) e)
+      no_frame l = rw (every, if-le end 255, ← counted cs e, if-le t.slots 255) (ap (λ (t : Summary). t.frames) e)
 
 pub record Agreed (end : ℕ) (cs : List (ℕ × Seh)) : Type 0 where
   pub codes : first_no code_no cs ≡ none

@@ -1,6 +1,6 @@
 -- Loops over a function's records: what is known of the codes that are left. A record yields a code or none.
 use mathlib.Core.Path.{◌≡◌, refl, sym, ap, ◌∙◌}
-use Prim.Native.Nat.{ℕ, zero, suc, ◌+◌, ◌-◌, ◌*◌, ◌/◌, ◌≤◌, ◌<◌}
+use Prim.Native.Nat.{ℕ, suc, ◌+◌, ◌-◌, ◌*◌, ◌/◌, ◌≤◌, ◌<◌}
 use native.Mathlib.Omega.{arith}
 use native.Mathlib.Numerals.{add-one}
 use mathlib.Core.Option.{Option, none, some}
@@ -16,17 +16,19 @@ use Rattle.format.specs.declared.Seh.{Seh}
 use Rattle.format.specs.X64.{code_bytes, code_no, or_no, first_no, slots, frame_or, frame_byte, reversed}
 use Rattle.format.proofs.PutLaws.{put_none, set-put, length-put}
 use Rattle.codes.specs.declared.Code.{Code}
-use Rattle.codes.specs.Codes.{number_of, frame_ask, Holds}
-use Rattle.codes.proofs.Numbers.{Nonzero, nonzero_first, nonzero_code, nonzero_frame}
+use Rattle.codes.specs.Codes.{yes_or_no, frame_ask, Holds}
+use Rattle.std.specs.Prelude.{Ok, Err}
+use Rattle.std.specs.Prelude as code
+use Rattle.std.specs.Result.{result_and}
 use Rattle.codes.proofs.Sizes.{reversed-length}
 use Rattle.prologue.specs.Pieces.{Short}
 use Rattle.prologue.proofs.Distances.{short_passed}
 use Rattle.x64.specs.declared.Source.{Source}
 use Rattle.x64.specs.declared.Span.{Span}
 use Rattle.x64.specs.declared.Summary.{Summary}
-use Rattle.x64.specs.Answers.{first_of, summed, summary_of}
+use Rattle.x64.specs.Answers.{summed, summary_of}
 use Rattle.x64.proofs.Leaves.{no_of_one}
-use Rattle.x64.specs.Sources.{piece_at, moved_at, codes_from, codes_in, Readable}
+use Rattle.x64.specs.Sources.{pushed_by, piece_at, moved_at, codes_from, codes_in, Readable}
 
 -- what is known of a record's codes and those behind it
 pub record Front {A : Type 0} (P : List A → Type 0) (ps rest : List A) : Type 0 where
@@ -41,7 +43,7 @@ pub record Going (P : List (ℕ × Seh) → Type 0) (s : Source) (list : List �
   pub here : P (codes_from s list p sofar i (p.past - i))
 
 module _ {s : Source} {list : List ℕ} {p : Span} where
-  pub start : {P : List (ℕ × Seh) → Type 0} {z : ℤ} → Readable s list p → z ≡ pos s.machine.pushed → P (codes_in s list p) → Going P s list p (to_z w64 (of_z w64 z)) p.first
+  pub start : {P : List (ℕ × Seh) → Type 0} {z : ℤ} → Readable s list p → z ≡ pos (pushed_by s) → P (codes_in s list p) → Going P s list p (to_z w64 (of_z w64 z)) p.first
   start {P} {z} r e h =
       let k : Short z = rw e r.pushed in
       rw (short_passed z k) (record { low = omega arith; high = r.order; short = k; here = rw e h })
@@ -77,32 +79,24 @@ unfolding first_no or_no
 first_append f [] ys = refl
 first_append f (x ∷ xs) ys = rw (first_append f xs ys, or_again)
 
--- the same by numbers, none of which is 0
-number_or : (a b : Option ℕ) → Nonzero a → number_of (or_no a b) ≡ first_of (number_of a) (number_of b)
-unfolding or_no number_of first_of
-number_or none b t = refl
-number_or (some zero) b t = absurd (omega arith)
-number_or (some (suc n)) b t = refl
+-- the same by the code's answers
+answer_or : (a b : Option ℕ) → yes_or_no (or_no a b) ≡ result_and (yes_or_no a) (yes_or_no b)
+unfolding or_no yes_or_no
+answer_or none b = refl
+answer_or (some n) b = refl
 
-first_again : (a b c : ℕ) → first_of a (first_of b c) ≡ first_of (first_of a b) c
-unfolding first_of
-first_again zero b c = refl
-first_again (suc a) b c = refl
+and_again : (a b c : code.Result Unit ℕ) → result_and a (result_and b c) ≡ result_and (result_and a b) c
+and_again (Ok u) b c = refl
+and_again (Err n) b c = refl
 
-pub first_some : (k n : ℕ) → (k ≡ 0 → ⊥) → k ≡ first_of k n
-unfolding first_of
-first_some zero n h = absurd (h refl)
-first_some (suc k) n h = refl
+and_yes : (a : code.Result Unit ℕ) → result_and a (Ok tt) ≡ a
+and_yes (Ok u) = refl
+and_yes (Err n) = refl
 
-first_zero : (k : ℕ) → first_of k 0 ≡ k
-unfolding first_of
-first_zero zero = refl
-first_zero (suc k) = refl
-
-number_append : {A : Type 0} (f : A → Option ℕ) → ((x : A) → Nonzero (f x)) → (k : ℕ) (xs ys : List A)
-    → first_of k (number_of (first_no f (xs ++ ys))) ≡ first_of (first_of k (number_of (first_no f xs))) (number_of (first_no f ys))
-number_append f t k xs ys =
-    rw (first_append f xs ys, number_or (first_no f xs) (first_no f ys) (nonzero_first f t xs)) (first_again k (number_of (first_no f xs)) (number_of (first_no f ys)))
+answer_append : {A : Type 0} (f : A → Option ℕ) (a : code.Result Unit ℕ) (xs ys : List A)
+    → result_and a (yes_or_no (first_no f (xs ++ ys))) ≡ result_and (result_and a (yes_or_no (first_no f xs))) (yes_or_no (first_no f ys))
+answer_append f a xs ys =
+    rw (first_append f xs ys, answer_or (first_no f xs) (first_no f ys)) (and_again a (yes_or_no (first_no f xs)) (yes_or_no (first_no f ys)))
 
 pub ors : (a b : Option ℕ) → or_no a b ≡ none → (a ≡ none) × (b ≡ none)
 unfolding or_no
@@ -123,25 +117,24 @@ slots-append (x ∷ xs) ys = omega (arith, slots-append xs ys)
 -- ---- the summary
 
 pub summed_none : (t : Summary) → t ≡ summed t []
-unfolding first_no number_of slots
-summed_none t = rw (first_zero t.number, first_zero t.frame, add-zero)
+unfolding first_no yes_or_no slots
+summed_none t = rw (and_yes t.codes, and_yes t.frames, add-zero)
 
-pub summed_one : (t : Summary) (x : ℕ × Seh) {a n b : ℕ} → a ≡ first_of t.number (number_of (code_no x)) → n ≡ length (code_bytes x.0 x.1) → b ≡ first_of t.frame (number_of (frame_ask x))
-    → record { number = a; slots = t.slots + n / 2; frame = b } ≡ summed t (x ∷ [])
+pub summed_one : (t : Summary) (x : ℕ × Seh) {a b : code.Result Unit ℕ} {n : ℕ} → a ≡ result_and t.codes (yes_or_no (code_no x)) → n ≡ length (code_bytes x.0 x.1) → b ≡ result_and t.frames (yes_or_no (frame_ask x))
+    → record { codes = a; slots = t.slots + n / 2; frames = b } ≡ summed t (x ∷ [])
 unfolding slots
 summed_one t x e h k = rw (e, h, k, no_of_one code_no x, no_of_one frame_ask x, add-zero)
 
 pub record Summing (all rest : List (ℕ × Seh)) (t : Summary) : Type 0 where
   same : summary_of all ≡ summed t rest
 
-pub summing : (all : List (ℕ × Seh)) → Summing all all (record { number = 0; slots = 0; frame = 0 })
-unfolding first_of
+pub summing : (all : List (ℕ × Seh)) → Summing all all (record { codes = Ok tt; slots = 0; frames = Ok tt })
 summing all = record { same = rw zero-add }
 
 pub summed_on : {all ps rest : List (ℕ × Seh)} {t r : Summary} → Front (λ (l : List (ℕ × Seh)). Summing all l t) ps rest → r ≡ summed t ps → Summing all rest r
 summed_on {all} {ps} {rest} {t} w e =
     record {
-      same = w.whole.same ∙ rw (e, number_append code_no nonzero_code t.number ps rest, slots-append ps rest, number_append frame_ask (λ x. nonzero_frame x.1) t.frame ps rest) (let z : t.slots + (slots ps + slots rest) ≡ t.slots + slots ps + slots rest = omega arith in rw z);
+      same = w.whole.same ∙ rw (e, answer_append code_no t.codes ps rest, slots-append ps rest, answer_append frame_ask t.frames ps rest) (let z : t.slots + (slots ps + slots rest) ≡ t.slots + slots ps + slots rest = omega arith in rw z);
     }
 
 pub all_summed : {all : List (ℕ × Seh)} {t : Summary} → Summing all [] t → t ≡ summary_of all

@@ -2,18 +2,13 @@
 use mathlib.Core.Path.{◌≡◌, refl, sym, ap, ◌∙◌}
 use Prim.Native.Nat.{ℕ, zero, suc, ◌+◌, ◌*◌, ◌<◌}
 use native.Mathlib.Omega.{arith}
-use mathlib.Core.Bool.{Bool, true, false, not}
 use mathlib.Core.Option.{none, some}
 use mathlib.Core.List.{List, [], ◌∷◌}
 use lib.ListN.{length, replicate, length-replicate}
-use Rattle.format.specs.Prelude.{pick, Result, good, bad, onward, each}
-use Rattle.format.specs.declared.Machine.{Machine}
+use Rattle.format.specs.Prelude.{Result, good, bad, onward, each}
 use Rattle.format.specs.declared.Seh.{Seh}
 use Rattle.format.specs.declared.Counts.{Counts}
-use Rattle.format.specs.Coded.{Asked}
-use Rattle.format.specs.declared.Refusal.{Refusal}
-use Rattle.std.specs.Prelude.{Some, None, Ok, Err}
-use Rattle.format.specs.Coded.{refusal}
+use Rattle.std.specs.Prelude.{Some, Ok}
 use Rattle.format.specs.Put.{put}
 use Rattle.format.proofs.Wrote.{Wrote}
 use Rattle.format.specs.Lists.{Function, Prologue, field, function_at, prologue_at, numbers_of}
@@ -23,23 +18,12 @@ use Rattle.format.specs.Answers.{outcome_of, afterwards, relocation_numbers, Wri
 use Rattle.format.proofs.Asked.{question_of, said_yes}
 use Rattle.format.proofs.ListLaws.{each-length}
 use Rattle.x64.specs.declared.Source.{Source}
+use Rattle.x64.specs.declared.Source.TheVariants.{Direct, Rows}
 use Rattle.lists.specs.Room.{room_for}
 use Rattle.x64.specs.Answers.{named_at, ask_each, infos_of}
-use Rattle.x64.specs.Sources.{by_rows, result_at, stride_of, Listed, Writable, codes_no, pass_no, or_none, found_at, asks_of, table_of}
+use Rattle.x64.specs.Sources.{result_at, stride_of, Listed, Writable, codes_no, length_at, rows_at, codes_at, or_none, found_at, asks_of, table_of}
 use Rattle.x64.proofs.Asked.{each_yes}
 use Rattle.x64.proofs.Results.{markers_length}
-
--- ---- answers
-
-pub then_err : (q p : Question) {x : Asked} {r : Refusal} → x ≡ question_of q → x ≡ Err r → Err r ≡ question_of (and_then q p)
-unfolding question_of and_then
-then_err none p {x} {r} e y = let z : ◌≡◌ {A = Asked} (Ok tt) (Err r) = sym e ∙ y in let w : ◌≡◌ {A = ℕ} 0 1 = cc in absurd (omega arith)
-then_err (some x) p e y = sym y ∙ e
-
-pub then_ok : (q p : Question) {x : Asked} → x ≡ question_of q → x ≡ Ok tt → question_of p ≡ question_of (and_then q p)
-unfolding question_of and_then
-then_ok none p e y = refl
-then_ok (some x) p e y = let z : ◌≡◌ {A = Asked} (Err (refusal x.0 x.1)) (Ok tt) = sym e ∙ y in let w : ◌≡◌ {A = ℕ} 0 1 = cc in absurd (omega arith)
 
 -- ---- every question answered by yes
 
@@ -50,10 +34,10 @@ last_of none (some x) c e = let w : ◌≡◌ {A = ℕ} 0 1 = cc in absurd (omeg
 last_of (some x) b c e = let w : ◌≡◌ {A = ℕ} 0 1 = cc in absurd (omega arith)
 
 pub writable : {s : Source} {fs list : List ℕ} {n : ℕ} → Listed s fs list n → question_of (asks_of s fs list n) ≡ Ok tt → Writable s fs list n
-unfolding asks_of pass_no pick
+unfolding asks_of
 writable {s} {fs} {list} {n} l e = record {
   listed = l;
-  agreed = each_yes (pass_no 2 s fs list) n (last_of (ask_each (pass_no 0 s fs list) 0 n) (ask_each (pass_no 1 s fs list) 0 n) (ask_each (pass_no 2 s fs list) 0 n) (said_yes (asks_of s fs list n) e));
+  agreed = each_yes (codes_at s fs list) n (last_of (ask_each (length_at s fs) 0 n) (ask_each (rows_at s fs list) 0 n) (ask_each (codes_at s fs list) 0 n) (said_yes (asks_of s fs list n) e));
 }
 
 -- ---- counts
@@ -111,18 +95,11 @@ module _ (f : Function) where
   by_codes (good cs) e = (refl, refl)
   by_codes (bad n) e = let w : ◌≡◌ {A = ℕ} 0 1 = cc in absurd (omega arith)
 
-by_source : (d : Bool) (m : Machine) (fs list : List ℕ) (k : ℕ)
-    → codes_no (pick d (good (prologue_at fs list k)) (by_rows m (function_at fs list [] [] k))) ≡ none
-    → ((or_none (pick d (good (prologue_at fs list k)) (by_rows m (function_at fs list [] [] k)))).symbol ≡ field (pick d 5 18) fs k 0)
-    × ((or_none (pick d (good (prologue_at fs list k)) (by_rows m (function_at fs list [] [] k)))).size ≡ field (pick d 5 18) fs k 1)
-unfolding pick or_none prologue_at function_at
-by_source true m fs list k e = (refl, refl)
-by_source false m fs list k e = by_codes (function_at fs list [] [] k) (codes_of m (function_at fs list [] [] k)) e
-
 named_as : (s : Source) (fs list : List ℕ) (k : ℕ) → codes_no (result_at s fs list k) ≡ none
     → ((found_at s fs list k).symbol ≡ field (stride_of s) fs k 0) × ((found_at s fs list k).size ≡ field (stride_of s) fs k 1)
-unfolding result_at stride_of
-named_as s fs list k e = by_source s.direct s.machine fs list k e
+unfolding result_at stride_of or_none prologue_at function_at
+named_as Direct fs list k e = (refl, refl)
+named_as (Rows m) fs list k e = by_codes (function_at fs list [] [] k) (codes_of m (function_at fs list [] [] k)) e
 
 runtime_same : (f g : ℕ → Prologue) (at k n : ℕ) → ((j : ℕ) → j < k + n → ((f j).symbol ≡ (g j).symbol) × ((f j).size ≡ (g j).size))
     → runtime_from at (each f k n) ≡ runtime_from at (each g k n)

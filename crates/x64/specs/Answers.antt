@@ -1,17 +1,16 @@
 -- Both writers' answers by the numbers of functions one after another.
-use Rattle.std.specs.Prelude.{ℕ, zero, suc, ◌+◌, Bool, true, false, List, [], map, eqb}
-use Rattle.std.proofs.Math.Option.{Option, none, some}
-use Rattle.format.specs.Prelude.{pick}
+use Rattle.std.specs.Prelude.{ℕ, zero, suc, ◌+◌, List, [], map}
+use Rattle.std.proofs.Math.Option.{Option, none}
 use Rattle.format.specs.Lists.{Prologue, field}
 use Rattle.format.specs.Questions.{Question, and_then, no_at}
 use Rattle.format.specs.Writer.{joined}
 use Rattle.format.specs.X64.{code_no, first_no, slots, info_bytes}
 use Rattle.format.specs.declared.Seh.{Seh}
-use Rattle.codes.specs.Codes.{number_of, frame_ask}
+use Rattle.codes.specs.Codes.{yes_or_no, frame_ask}
 use Rattle.x64.specs.declared.Summary.{Summary}
-use Rattle.format.specs.Coded.{Asked}
-use Rattle.std.specs.Prelude.{Ok, Err}
-use Rattle.format.specs.declared.Refusal.{Refusal}
+use Rattle.format.specs.Coded.{Asked, refusal}
+use Rattle.std.specs.Prelude.{Result, Ok, Err}
+use Rattle.std.specs.Result.{result_and}
 
 -- what a RUNTIME_FUNCTION names: a symbol and a length; and those of function k
 abbrev pub named : (symbol size : ℕ) → Prologue
@@ -20,26 +19,22 @@ named symbol size = record { symbol = symbol; size = size; end = 0; codes = [] }
 abbrev pub named_at : (stride : ℕ) (fs : List ℕ) → ℕ → Prologue
 named_at stride fs k = named (field stride fs k 0) (field stride fs k 1)
 
--- a no by its number, or a yes (0)
-unfoldable pub said_by : ℕ → Option ℕ
-said_by n = pick (eqb n 0) none (some n)
-
--- the first no of two, by their numbers
-unfoldable pub first_of : ℕ → ℕ → ℕ
-first_of zero n = n
-first_of (suc k) n = suc k
-
 -- the summary of some codes, and behind that of the codes in front of them
 abbrev pub summary_of : List (ℕ × Seh) → Summary
-summary_of cs = record { number = number_of (first_no code_no cs); slots = slots cs; frame = number_of (first_no frame_ask cs) }
+summary_of cs = record { codes = yes_or_no (first_no code_no cs); slots = slots cs; frames = yes_or_no (first_no frame_ask cs) }
 
 abbrev pub summed : Summary → List (ℕ × Seh) → Summary
 summed t cs =
     record {
-      number = first_of t.number (number_of (first_no code_no cs));
+      codes = result_and t.codes (yes_or_no (first_no code_no cs));
       slots = t.slots + slots cs;
-      frame = first_of t.frame (number_of (first_no frame_ask cs));
+      frames = result_and t.frames (yes_or_no (first_no frame_ask cs));
     }
+
+-- an answer with the function's position
+abbrev pub refused_at : ℕ → Result Unit ℕ → Asked
+refused_at k (Ok u) = Ok tt
+refused_at k (Err n) = Err (refusal n k)
 
 -- the first no of n functions from `at` on
 unfoldable pub ask_each : (ℕ → Option ℕ) → (at n : ℕ) → Question

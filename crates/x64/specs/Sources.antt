@@ -1,5 +1,6 @@
 -- Where the codes of a function come from: direct codes, or the rows of its prologue.
-use Rattle.std.specs.Prelude.{◌≡◌, ℕ, zero, suc, ◌+◌, ◌-◌, ◌*◌, ◌^◌, ◌≤◌, ◌<◌, true, false, List, [], ◌∷◌, ◌++◌, length, ltb, eqb, ℤ, pos}
+use Rattle.std.specs.Prelude.{◌≡◌, ℕ, zero, suc, ◌+◌, ◌-◌, ◌*◌, ◌^◌, ◌≤◌, ◌<◌, List, [], ◌∷◌, ◌++◌, length, ltb, Ok, Err, ℤ, pos}
+use Rattle.std.specs.Prelude as code
 use Rattle.std.proofs.Math.Option.{Option, none, some}
 use Rattle.format.specs.Prelude.{pick, Result, good, bad, onward, each}
 use Rattle.format.specs.declared.Machine.{Machine}
@@ -10,20 +11,28 @@ use Rattle.format.specs.Questions.{Question, and_then}
 use Rattle.format.specs.Writer.{Written}
 use Rattle.format.proofs.Fits.{MachineFits}
 use Rattle.header_keys.specs.Functions.{RowsReady}
-use Rattle.prologue.specs.Pieces.{Short, Ready, piece_in, moved_in, end_in, Shaped}
+use Rattle.prologue.specs.Pieces.{Short, Ready, piece_in, moved_in, end_in, Says, Shaped}
 use Rattle.x64.specs.Answers.{ask_each}
 use Rattle.x64.specs.declared.Source.{Source}
+use Rattle.x64.specs.declared.Source.TheVariants.{Direct, Rows}
 use Rattle.x64.specs.declared.Span.{Span}
 
 -- ---- a function's codes
 
 -- record i of those of a function, with the distance `sofar` in front of it: a code at its offset, or none
 unfoldable pub piece_at : Source → (list : List ℕ) → Span → (sofar : ℤ) → ℕ → List (ℕ × Seh)
-piece_at s list p sofar i = pick s.direct (code_at list i ∷ []) (piece_in s.machine p.below sofar list p.first i p.past)
+piece_at Direct list p sofar i = code_at list i ∷ []
+piece_at (Rows m) list p sofar i = piece_in m p.below sofar list p.first i p.past
 
 -- the distance behind it
 unfoldable pub moved_at : Source → (list : List ℕ) → (sofar : ℤ) → ℕ → ℤ
-moved_at s list sofar i = pick s.direct sofar (moved_in sofar list i)
+moved_at Direct list sofar i = sofar
+moved_at (Rows m) list sofar i = moved_in sofar list i
+
+-- the distance in front of the first; direct codes pass none on
+unfoldable pub pushed_by : Source → ℕ
+pushed_by Direct = 0
+pushed_by (Rows m) = m.pushed
 
 -- n records from i on
 unfoldable pub codes_from : Source → (list : List ℕ) → Span → (sofar : ℤ) → (i n : ℕ) → List (ℕ × Seh)
@@ -32,16 +41,19 @@ codes_from s list p sofar i (suc n) = piece_at s list p sofar i ++ codes_from s 
 
 -- all of them
 abbrev pub codes_in : Source → (list : List ℕ) → Span → List (ℕ × Seh)
-codes_in s list p = codes_from s list p (pos s.machine.pushed) p.first (p.past - p.first)
+codes_in s list p = codes_from s list p (pos (pushed_by s)) p.first (p.past - p.first)
 
--- the records of a function can be read
+-- the records of a function are there
+unfoldable pub HeldBy : Source → (list : List ℕ) → Span → Type 0
+HeldBy Direct list p = 5 * p.past ≤ length list
+HeldBy (Rows m) list p = (length m.map ≡ 64) × Ready list p.first p.past
+
+-- and can be read
 pub record Readable (s : Source) (list : List ℕ) (p : Span) : Type 0 where
   pub order : p.first ≤ p.past
   pub few : p.past ≤ p.first + most_records
-  pub pushed : s.machine.pushed < 2 ^ 31
-  pub codes : s.direct ≡ true → 5 * p.past ≤ length list
-  pub map : length s.machine.map ≡ 64
-  pub rows : s.direct ≡ false → Ready list p.first p.past
+  pub pushed : pushed_by s < 2 ^ 31
+  pub held : HeldBy s list p
   pub below : Short p.below
 
 -- ---- a function
@@ -56,13 +68,14 @@ by_rows m f = onward (codes_of m f) λ cs. good (prologue_of f cs)
 
 -- function k's prologue
 unfoldable pub result_at : Source → (fs list : List ℕ) → ℕ → Result Prologue
-result_at s fs list k = pick s.direct (good (prologue_at fs list k)) (by_rows s.machine (function_at fs list [] [] k))
+result_at Direct fs list k = good (prologue_at fs list k)
+result_at (Rows m) fs list k = by_rows m (function_at fs list [] [] k)
 
 -- function k of direct codes
 abbrev pub direct_span : (fs : List ℕ) → ℕ → Span
 direct_span fs k =
     let f : ℕ → ℕ = λ j. field prologue_stride fs k j in
-    record { number = 0; symbol = f 0; length = f 1; end = f 2; first = f 3; past = f 3 + f 4; below = pos 0 }
+    record { symbol = f 0; length = f 1; end = f 2; first = f 3; past = f 3 + f 4; below = pos 0 }
 
 -- function k by its rows
 pub record RowsSpan (m : Machine) (fs rows : List ℕ) (k : ℕ) (p : Span) : Type 0 where
@@ -70,27 +83,38 @@ pub record RowsSpan (m : Machine) (fs rows : List ℕ) (k : ℕ) (p : Span) : Ty
   pub size : p.length ≡ field function_stride fs k 1
   pub first : p.first ≡ field function_stride fs k 2
   pub end : p.end ≡ end_in rows p.first p.past
-  pub shaped : Shaped m rows (field function_stride fs k 2) (field function_stride fs k 3) (record { number = p.number; below = p.below; end = p.past })
+  pub says : Says m rows (field function_stride fs k 2) (field function_stride fs k 3) (record { below = p.below; end = p.past })
+
+abbrev pub RowsFound : Machine → (fs rows : List ℕ) → ℕ → code.Result Span ℕ → Type 0
+RowsFound m fs rows k (Ok p) = RowsSpan m fs rows k p
+RowsFound m fs rows k (Err n) = Shaped m rows (field function_stride fs k 2) (field function_stride fs k 3) (Err n)
 
 unfoldable pub stride_of : Source → ℕ
-stride_of s = pick s.direct prologue_stride function_stride
+stride_of Direct = prologue_stride
+stride_of (Rows m) = function_stride
 
 -- what is found for function k
-pub record Found (s : Source) (fs list : List ℕ) (k : ℕ) (p : Span) : Type 0 where
+pub record FoundAt (s : Source) (fs list : List ℕ) (k : ℕ) (p : Span) : Type 0 where
   pub readable : Readable s list p
-  pub said : result_at s fs list k ≡ pick (eqb p.number 0) (good (meant_by s list p)) (bad p.number)
+  pub said : result_at s fs list k ≡ good (meant_by s list p)
+
+abbrev pub Found : Source → (fs list : List ℕ) → ℕ → code.Result Span ℕ → Type 0
+Found s fs list k (Ok p) = FoundAt s fs list k p
+Found s fs list k (Err n) = result_at s fs list k ≡ bad n
+
+-- the records of function k of the lists are there
+unfoldable pub ListedAt : Source → (fs list : List ℕ) → ℕ → Type 0
+ListedAt Direct fs list k = (field prologue_stride fs k 3 + field prologue_stride fs k 4 ≤ count code_stride list) × (field prologue_stride fs k 4 ≤ most_records)
+ListedAt (Rows m) fs list k =
+    MachineFits m × (m.word ≡ 8) × (length m.map ≡ 64) × RowsReady list (field function_stride fs k 2) (field function_stride fs k 3)
+    × (field function_stride fs k 3 ≤ most_records)
 
 -- function k of the lists can be read
 pub record Askable (s : Source) (fs list : List ℕ) (k : ℕ) : Type 0 where
   pub within : stride_of s * k + stride_of s ≤ length fs
   pub symbol : field (stride_of s) fs k 0 < 2 ^ 32
-  pub pushed : s.machine.pushed < 2 ^ 31
-  pub map : length s.machine.map ≡ 64
-  pub codes : s.direct ≡ true
-      → (field prologue_stride fs k 3 + field prologue_stride fs k 4 ≤ count code_stride list) × (field prologue_stride fs k 4 ≤ most_records)
-  pub rows : s.direct ≡ false
-      → RowsReady list (field function_stride fs k 2) (field function_stride fs k 3) × (field function_stride fs k 3 ≤ most_records)
-  pub machine : s.direct ≡ false → MachineFits s.machine × (s.machine.word ≡ 8)
+  pub pushed : pushed_by s < 2 ^ 31
+  pub records : ListedAt s fs list k
 
 -- and the first n
 pub record Listed (s : Source) (fs list : List ℕ) (n : ℕ) : Type 0 where
@@ -113,12 +137,6 @@ unfoldable pub codes_no : Result Prologue → Option ℕ
 codes_no (good p) = prologue_no p.end p.codes
 codes_no (bad n) = some n
 
--- the passes over the functions: 0 the lengths, 1 the rows, 2 the codes
-unfoldable pub pass_no : ℕ → Source → (fs list : List ℕ) → ℕ → Option ℕ
-pass_no pass s fs list k =
-    pick (eqb pass 0) (long_no (field (stride_of s) fs k 1))
-    (pick (eqb pass 1) (rows_no (result_at s fs list k)) (codes_no (result_at s fs list k)))
-
 -- a function's prologue where it has one
 unfoldable pub or_none : Result Prologue → Prologue
 or_none (good p) = p
@@ -132,10 +150,19 @@ pub record Writable (s : Source) (fs list : List ℕ) (n : ℕ) : Type 0 where
   pub listed : Listed s fs list n
   pub agreed : (k : ℕ) → k < n → codes_no (result_at s fs list k) ≡ none
 
--- all questions but those of the room, and what is written
+-- all questions but those of the room, in three passes over the functions: the lengths, the rows, the codes
+abbrev pub length_at : Source → (fs : List ℕ) → ℕ → Option ℕ
+length_at s fs k = long_no (field (stride_of s) fs k 1)
+
+abbrev pub rows_at : Source → (fs list : List ℕ) → ℕ → Option ℕ
+rows_at s fs list k = rows_no (result_at s fs list k)
+
+abbrev pub codes_at : Source → (fs list : List ℕ) → ℕ → Option ℕ
+codes_at s fs list k = codes_no (result_at s fs list k)
+
 unfoldable pub asks_of : Source → (fs list : List ℕ) → ℕ → Question
 asks_of s fs list n =
-    and_then (ask_each (pass_no 0 s fs list) 0 n) (and_then (ask_each (pass_no 1 s fs list) 0 n) (ask_each (pass_no 2 s fs list) 0 n))
+    and_then (ask_each (length_at s fs) 0 n) (and_then (ask_each (rows_at s fs list) 0 n) (ask_each (codes_at s fs list) 0 n))
 
 abbrev pub table_of : Source → (fs list : List ℕ) → ℕ → Written
 table_of s fs list n = x64 (each (found_at s fs list) 0 n)

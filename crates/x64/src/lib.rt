@@ -14,19 +14,19 @@ ghost use Rattle.format.specs.Questions.{accepted, unless, fitting, given_functi
 ghost use Rattle.format.specs.Machine.{machine_of};
 ghost use Rattle.format.proofs.Fits.{MachineFits};
 ghost use Rattle.header_keys.specs.Functions.{RowsReady};
-ghost use Rattle.codes.specs.Codes.{Holds, number_of, frame_ask};
+ghost use Rattle.codes.specs.Codes.{Holds, yes_or_no, frame_ask};
 ghost use Rattle.prologue.specs.Pieces.{Short, piece_of};
-ghost use Rattle.x64.specs.Sources.{Readable, piece_at, moved_at, codes_in, direct_span, RowsSpan, Askable, Found, Listed, Writable, stride_of, long_no, pass_no, found_at, asks_of, table_of};
-ghost use Rattle.x64.specs.Answers.{named, named_at, said_by, first_of, summed, summary_of, ask_each, infos_of, is_yes};
+ghost use Rattle.x64.specs.Sources.{pushed_by, Readable, piece_at, moved_at, codes_in, direct_span, RowsFound, Askable, Found, Listed, Writable, stride_of, result_at, long_no, rows_no, codes_no, found_at, asks_of, table_of};
+ghost use Rattle.x64.specs.Answers.{named, named_at, summed, summary_of, refused_at, infos_of};
 
 use codes::{Code, code_no, frame_no, frame_or, head, nodes, nodes_size, put_nodes};
-use format::{Counts, Machine, Refusal};
+use format::{Counts, Machine, Refusal, Seh};
 use leb::fill;
 use lists::{
     code_at, code_offset_at, codes_ok, extent_at, lists_ok, machine_of, machine_ok, prologue_at,
     room, word_ok,
 };
-use prologue::{Piece, moved, piece_at, prologue, prologue_end};
+use prologue::{moved, piece_at, prologue, prologue_end};
 use relocs::{number, relocation};
 
 // ---- RUNTIME_FUNCTION
@@ -63,12 +63,10 @@ fn put_runtime(out: &mut [u64], fs: &[u64], stride: usize, n: usize) -> usize
     ensures { Wrote out.old out.new 0 result (numbers_of (runtime_from 0 (each (named_at stride fs.now) 0 n))) }
 {
     let mut to = 0;
-    let mut k = 0;
-    while k < n {
+    for k in 0..n {
         let symbol = number_at(fs, stride, k, 0);
         let size = number_at(fs, stride, k, 1);
         to = runtime(out, to, (12 * k) as u64, symbol, size);
-        k += 1;
     }
     to
 }
@@ -77,16 +75,15 @@ fn put_runtime(out: &mut [u64], fs: &[u64], stride: usize, n: usize) -> usize
 
 // Direct codes, or the rows of functions for a machine.
 #[derive(Clone, Copy)]
-struct Source {
-    direct: bool,
-    machine: Machine,
+enum Source {
+    Direct,
+    Rows(Machine),
 }
 
-// A function: 0, or the number of the question that its rows do not answer by yes; its symbol and its length, where its prologue
-// ends, its codes or the rows of its prologue, from `first` to `past`, and the distance of the frame address behind them.
+// A function: its symbol and its length, where its prologue ends, its codes or the rows of its prologue, from `first` to `past`, and
+// the distance of the frame address behind them.
 #[derive(Clone, Copy)]
 struct Span {
-    number: u64,
     symbol: u64,
     length: u64,
     end: u64,
@@ -95,113 +92,103 @@ struct Span {
     below: i64,
 }
 
-// What some codes say: the first no of 34 to 39 or 0, how many slots of two bytes they have, and the first no of 41 or 0.
+// What some codes say: 34 to 39, how many slots of two bytes they have, and 41.
 #[derive(Clone, Copy)]
 struct Summary {
-    number: u64,
+    codes: Result<(), u64>,
     slots: usize,
-    frame: u64,
+    frames: Result<(), u64>,
 }
 
-// What record i of a function yields, with the distance `sofar` in front of it.
-fn piece_in(s: Source, list: &[u64], p: Span, sofar: i64, i: usize) -> Piece
+// What record i of a function yields, with the distance `sofar` in front of it: a code at its offset, or none.
+fn piece_in(s: Source, list: &[u64], p: Span, sofar: i64, i: usize) -> Option<(u64, Seh)>
     requires { Readable s list.now p × (p.first ≤ i) × (i < p.past) × Short sofar }
     ensures { piece_of result ≡ piece_at s list.now p sofar i }
 {
-    if s.direct {
-        return Piece::Code(code_offset_at(list, i), code_at(list, i));
+    match s {
+        Source::Direct => Some((code_offset_at(list, i), code_at(list, i))),
+        Source::Rows(m) => piece_at(m, p.below, sofar, list, p.first, i, p.past),
     }
-    let m = s.machine;
-    piece_at(m, p.below, sofar, list, p.first, i, p.past)
 }
 
 // The distance in front of the first record, and behind record i.
 fn start(s: Source) -> i64
-    requires { s.machine.pushed < 2 ^ 31 }
-    ensures { result ≡ pos s.machine.pushed }
+    requires { pushed_by s < 2 ^ 31 }
+    ensures { result ≡ pos (pushed_by s) }
 {
-    let m = s.machine;
-    m.pushed as i64
+    match s {
+        Source::Direct => 0,
+        Source::Rows(m) => m.pushed as i64,
+    }
 }
 
 fn moved_in(s: Source, list: &[u64], p: Span, sofar: i64, i: usize) -> i64
     requires { Readable s list.now p × (p.first ≤ i) × (i < p.past) × Short sofar }
     ensures { (result ≡ moved_at s list.now sofar i) × Short result }
 {
-    if s.direct {
-        return sofar;
+    match s {
+        Source::Direct => sofar,
+        Source::Rows(_) => moved(sofar, list, i),
     }
-    moved(sofar, list, i)
 }
 
 // ---- what a loop takes from a piece
 
-// The first no of two, by their numbers.
-fn first_of(k: u64, n: u64) -> u64
-    ensures { result ≡ first_of k n }
-{
-    if k != 0 {
-        return k;
-    }
-    n
-}
-
 // The summary of the codes in front and of a piece behind them.
-fn with_piece(t: Summary, c: Piece) -> Summary
+fn with_piece(t: Summary, c: Option<(u64, Seh)>) -> Summary
     requires { t.slots < 2 ^ 32 }
     ensures { result ≡ summed t (piece_of c) }
 {
-    match c {
-        Piece::Nothing => t,
-        Piece::Code(at, code) => Summary {
-            number: first_of(t.number, code_no(at, code)),
-            slots: t.slots + nodes_size(at, code) / 2,
-            frame: first_of(t.frame, frame_no(code)),
-        },
+    let Some((at, code)) = c else {
+        return t;
+    };
+    Summary {
+        codes: t.codes.and(code_no(at, code)),
+        slots: t.slots + nodes_size(at, code) / 2,
+        frames: t.frames.and(frame_no(code)),
     }
 }
 
-fn piece_frame(b: u8, c: Piece) -> u8
+fn piece_frame(b: u8, c: Option<(u64, Seh)>) -> u8
     requires { (first_no code_no (piece_of c) ≡ none) × (first_no frame_ask (piece_of c) ≡ none) }
     ensures { result ≡ frame_byte b (piece_of c) }
 {
-    match c {
-        Piece::Nothing => b,
-        Piece::Code(_, code) => frame_or(b, code),
-    }
+    let Some((_, code)) = c else {
+        return b;
+    };
+    frame_or(b, code)
 }
 
-fn piece_nodes(c: Piece) -> Code
+fn piece_nodes(c: Option<(u64, Seh)>) -> Code
     requires { first_no code_no (piece_of c) ≡ none }
     ensures { Holds result (reversed (piece_of c)) }
 {
-    match c {
-        Piece::Nothing => Code {
-            bytes: [0, 0, 0, 0, 0, 0],
+    let Some((at, code)) = c else {
+        return Code {
+            bytes: [0; 6],
             count: 0,
-        },
-        Piece::Code(at, code) => nodes(at, code),
-    }
+        };
+    };
+    nodes(at, code)
 }
 
 // ---- the codes of a function
 
+// Kept: the three loops over the codes stand apart. What each asks of a code holds only of the codes that are left, one of them stores,
+// and a fold's closure may be called with any: with that and the distance to pass on, the fold is longer than a loop.
 fn codes_summary(s: Source, list: &[u64], p: Span) -> Summary
     requires { Readable s list.now p }
     ensures { result ≡ summary_of (codes_in s list.now p) }
 {
-    let past = p.past;
     let mut t = Summary {
-        number: 0,
+        codes: Ok(()),
         slots: 0,
-        frame: 0,
+        frames: Ok(()),
     };
     let mut sofar = start(s);
-    let mut i = p.first;
-    while i < past {
+    for i in p.first..p.past {
         t = with_piece(t, piece_in(s, list, p, sofar, i));
         sofar = moved_in(s, list, p, sofar, i);
-        i += 1;
     }
     t
 }
@@ -211,14 +198,11 @@ fn frame_byte(s: Source, list: &[u64], p: Span) -> u8
     requires { Readable s list.now p × (first_no code_no (codes_in s list.now p) ≡ none) × (first_no frame_ask (codes_in s list.now p) ≡ none) }
     ensures { result ≡ frame_byte 0 (codes_in s list.now p) }
 {
-    let past = p.past;
     let mut b = 0;
     let mut sofar = start(s);
-    let mut i = p.first;
-    while i < past {
+    for i in p.first..p.past {
         b = piece_frame(b, piece_in(s, list, p, sofar, i));
         sofar = moved_in(s, list, p, sofar, i);
-        i += 1;
     }
     b
 }
@@ -228,37 +212,31 @@ fn put_codes(out: &mut [u8], at: usize, held: usize, s: Source, list: &[u64], p:
     requires { Readable s list.now p × (first_no code_no (codes_in s list.now p) ≡ none) × (held ≡ slots (codes_in s list.now p)) × (at + 2 * held ≤ length out.old) }
     ensures { Wrote out.old out.new at result (reversed (codes_in s list.now p)) }
 {
-    let past = p.past;
     let mut to = at + 2 * held;
     let mut sofar = start(s);
-    let mut i = p.first;
-    while i < past {
-        let j = i;
-        i += 1;
-        let c = piece_nodes(piece_in(s, list, p, sofar, j));
+    for i in p.first..p.past {
+        let c = piece_nodes(piece_in(s, list, p, sofar, i));
         to -= c.count;
         put_nodes(out, to, c);
-        sofar = moved_in(s, list, p, sofar, j);
+        sofar = moved_in(s, list, p, sofar, i);
     }
     at + 2 * held
 }
 
 // The questions of a function's codes: 34 to 39 of each, 35 of the prologue's end, 40, and 41 of each.
-fn prologue_no(s: Source, list: &[u64], p: Span) -> u64
+fn prologue_no(s: Source, list: &[u64], p: Span) -> Result<(), u64>
     requires { Readable s list.now p }
-    ensures { result ≡ number_of (prologue_no p.end (codes_in s list.now p)) }
+    ensures { result ≡ yes_or_no (prologue_no p.end (codes_in s list.now p)) }
 {
     let t = codes_summary(s, list, p);
-    if t.number != 0 {
-        return t.number;
-    }
+    t.codes?;
     if 255 < p.end {
-        return 35;
+        return Err(35);
     }
     if 255 < t.slots {
-        return 40;
+        return Err(40);
     }
-    t.frame
+    t.frames
 }
 
 // ---- UNWIND_INFO
@@ -295,7 +273,6 @@ fn direct_span(fs: &[u64], k: usize) -> Span
 {
     let p = prologue_at(fs, k);
     Span {
-        number: 0,
         symbol: p.symbol,
         length: p.length,
         end: p.end,
@@ -306,92 +283,90 @@ fn direct_span(fs: &[u64], k: usize) -> Span
 }
 
 // Function k by its rows.
-fn rows_span(m: Machine, fs: &[u64], rows: &[u64], k: usize) -> Span
+fn rows_span(m: Machine, fs: &[u64], rows: &[u64], k: usize) -> Result<Span, u64>
     requires { (18 * k + 18 ≤ length fs.now) × MachineFits m × (m.word ≡ 8) × (length m.map ≡ 64) × RowsReady rows.now (field function_stride fs.now k 2) (field function_stride fs.now k 3) × (field function_stride fs.now k 3 ≤ most_records) }
-    ensures { RowsSpan m fs.now rows.now k result }
+    ensures { RowsFound m fs.now rows.now k result }
 {
     let e = extent_at(fs, k);
-    let r = prologue(m, rows, e.rows_at, e.rows);
-    Span {
-        number: r.number,
+    let r = prologue(m, rows, e.rows_at, e.rows)?;
+    Ok(Span {
         symbol: e.symbol,
         length: e.length,
         end: prologue_end(rows, e.rows_at, r.end),
         first: e.rows_at,
         past: r.end,
         below: r.below,
-    }
+    })
 }
 
-// Function k.
-fn span_at(s: Source, fs: &[u64], list: &[u64], k: usize) -> Span
+// Function k, or the question that its rows do not answer by yes.
+fn span_at(s: Source, fs: &[u64], list: &[u64], k: usize) -> Result<Span, u64>
     requires { Askable s fs.now list.now k }
     ensures { Found s fs.now list.now k result }
 {
-    if s.direct {
-        return direct_span(fs, k);
+    match s {
+        Source::Direct => Ok(direct_span(fs, k)),
+        Source::Rows(m) => rows_span(m, fs, list, k),
     }
-    let m = s.machine;
-    rows_span(m, fs, list, k)
 }
 
 // How many numbers the record of a function has.
 fn stride(s: Source) -> usize
     ensures { result ≡ stride_of s }
 {
-    if s.direct {
-        return lists::PROLOGUE_STRIDE;
+    match s {
+        Source::Direct => lists::PROLOGUE_STRIDE,
+        Source::Rows(_) => lists::FUNCTION_STRIDE,
     }
-    lists::FUNCTION_STRIDE
 }
 
 // ---- the questions of all functions
 
 // 21.
-fn long_no(size: u64) -> u64
-    ensures { long_no size ≡ said_by result }
+fn long_no(size: u64) -> Result<(), u64>
+    ensures { result ≡ yes_or_no (long_no size) }
 {
     if size < 4294967296 {
-        return 0;
+        return Ok(());
     }
-    21
+    Err(21)
 }
 
-// The questions of function k in a pass: 0 its length, 1 its rows, 2 its codes.
-fn pass_no(pass: u64, s: Source, fs: &[u64], list: &[u64], k: usize) -> u64
-    requires { Askable s fs.now list.now k }
-    ensures { pass_no pass s fs.now list.now k ≡ said_by result }
+// The questions of function k in the three passes: of its length, of its rows, and of its codes.
+fn length_asked(s: Source, fs: &[u64], k: usize) -> Result<(), u64>
+    requires { stride_of s * k + stride_of s ≤ length fs.now }
+    ensures { result ≡ yes_or_no (long_no (field (stride_of s) fs.now k 1)) }
 {
-    if pass == 0 {
-        return long_no(number_at(fs, stride(s), k, 1));
-    }
-    let p = span_at(s, fs, list, k);
-    if p.number != 0 {
-        return p.number;
-    }
-    if pass == 1 {
-        return 0;
-    }
+    long_no(number_at(fs, stride(s), k, 1))
+}
+
+fn rows_asked(s: Source, fs: &[u64], list: &[u64], k: usize) -> Result<(), u64>
+    requires { Askable s fs.now list.now k }
+    ensures { result ≡ yes_or_no (rows_no (result_at s fs.now list.now k)) }
+{
+    span_at(s, fs, list, k)?;
+    Ok(())
+}
+
+fn codes_asked(s: Source, fs: &[u64], list: &[u64], k: usize) -> Result<(), u64>
+    requires { Askable s fs.now list.now k }
+    ensures { result ≡ yes_or_no (codes_no (result_at s fs.now list.now k)) }
+{
+    let p = span_at(s, fs, list, k)?;
     prologue_no(s, list, p)
 }
 
-// A pass over n functions.
-fn first_no(pass: u64, s: Source, fs: &[u64], list: &[u64], n: usize) -> Result<(), Refusal>
-    requires { Listed s fs.now list.now n }
-    ensures { result ≡ question_of (ask_each (pass_no pass s fs.now list.now) 0 n) }
+// A no with the function's position.
+fn refused_at(k: usize, asked: Result<(), u64>) -> Result<(), Refusal>
+    ensures { result ≡ refused_at k asked }
 {
-    let mut k = 0;
-    while k < n {
-        let r = pass_no(pass, s, fs, list, k);
-        if r != 0 {
-            return Err(Refusal {
-                number: r,
-                position: k as u64,
-            });
-        }
-        k += 1;
+    match asked {
+        Ok(()) => Ok(()),
+        Err(number) => Err(Refusal {
+            number,
+            position: k as u64,
+        }),
     }
-    Ok(())
 }
 
 // ---- the results
@@ -402,10 +377,8 @@ fn total(s: Source, fs: &[u64], list: &[u64], n: usize) -> usize
     ensures { result ≡ length (infos_of (each (found_at s fs.now list.now) 0 n)) }
 {
     let mut sum = 0;
-    let mut k = 0;
-    while k < n {
-        sum += info_size(s, list, span_at(s, fs, list, k));
-        k += 1;
+    for k in 0..n {
+        sum += info_size(s, list, span_at(s, fs, list, k).unwrap());
     }
     sum
 }
@@ -423,12 +396,9 @@ fn put_infos(
     ensures { (markers.new ≡ put markers.old 0 (markers_from 0 (each (found_at s fs.now list.now) 0 n))) × (info.new ≡ put info.old 0 (infos_of (each (found_at s fs.now list.now) 0 n))) }
 {
     let mut at = 0;
-    let mut k = 0;
-    while k < n {
-        let j = k;
-        k += 1;
-        let p = span_at(s, fs, list, j);
-        number(markers, j, at as u64);
+    for k in 0..n {
+        let p = span_at(s, fs, list, k).unwrap();
+        number(markers, k, at as u64);
         at = describe(info, at, s, list, p);
     }
     at
@@ -467,9 +437,16 @@ fn asks(s: Source, fs: &[u64], list: &[u64], n: usize) -> Result<(), Refusal>
     requires { Listed s fs.now list.now n }
     ensures { result ≡ question_of (asks_of s fs.now list.now n) }
 {
-    first_no(0, s, fs, list, n)?;
-    first_no(1, s, fs, list, n)?;
-    first_no(2, s, fs, list, n)
+    for k in 0..n {
+        refused_at(k, length_asked(s, fs, k))?;
+    }
+    for k in 0..n {
+        refused_at(k, rows_asked(s, fs, list, k))?;
+    }
+    for k in 0..n {
+        refused_at(k, codes_asked(s, fs, list, k))?;
+    }
+    Ok(())
 }
 
 // The results, where they have room.
@@ -542,11 +519,16 @@ pub fn seh(
             position: 0,
         });
     }
-    let s = Source {
-        direct: true,
-        machine: Machine::X86_64,
-    };
-    answer(s, functions, codes, n, markers, bytes, relocations, info)
+    answer(
+        Source::Direct,
+        functions,
+        codes,
+        n,
+        markers,
+        bytes,
+        relocations,
+        info,
+    )
 }
 
 // x64 unwind data from rows.
@@ -582,12 +564,8 @@ pub fn windows(
             position: 0,
         });
     }
-    let s = Source {
-        direct: false,
-        machine: m,
-    };
     answer(
-        s,
+        Source::Rows(m),
         functions,
         rows,
         functions.len() / lists::FUNCTION_STRIDE,

@@ -7,6 +7,3 @@ use Rattle.x64.proofs.codes_summary.Given as goal
 
 abbrev pub invariant-loop-i : goal.invariant-loop-i
 invariant-loop-i l = Going (λ (cs : List (ℕ × Seh)). Summing (codes_in l.s l.list l.p) cs l.t) l.s l.list l.p l.sofar l.i × (l.t.slots ≤ 3 * (l.i - l.p.first))
-
-abbrev pub decreases-loop-i : goal.decreases-loop-i
-decreases-loop-i l = l.past - l.i

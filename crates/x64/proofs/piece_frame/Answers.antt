@@ -8,12 +8,12 @@ use mathlib.Core.Path.{◌∙◌}
 use Rattle.x64.proofs.piece_frame.Goals as goal
 
 pub frame_or-requires : goal.frame_or-requires
-frame_or-requires c = ((said _ _ (of_one code_no c.in-Code.is ∙ c.requires.0)).register, of_one frame_ask c.in-Code.is ∙ c.requires.1)
+frame_or-requires c = ((said _ _ (of_one code_no c.in-Some.is ∙ c.requires.0)).register, of_one frame_ask c.in-Some.is ∙ c.requires.1)
 
-pub returns-in-Nothing : goal.returns-in-Nothing
+pub returns-in_default : goal.returns-in_default
 unfolding frame_byte piece_of
-returns-in-Nothing c = rw c.in-Nothing.is
+returns-in_default c = rw c.in_default.is
 
-pub returns-in-Code : goal.returns-in-Code
+pub returns : goal.returns
 unfolding frame_byte piece_of
-returns-in-Code c = rw c.in-Code.is c.frame_or.ensures
+returns c = rw c.in-Some.is c.frame_or.ensures

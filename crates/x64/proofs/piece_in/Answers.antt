@@ -1,23 +1,28 @@
 -- `x64::piece_in` meets its contract.
-use Rattle.x64.proofs.Leaves.{direct_piece, rows_piece}
 use Rattle.prologue.proofs.Distances.{short_passed}
 use Rattle.prologue.specs.Pieces.{piece_of}
+use Rattle.x64.specs.Sources.{HeldBy, piece_at}
 use native.Mathlib.Omega.{arith}
-use mathlib.Core.Path.{◌∙◌}
 use Rattle.x64.proofs.piece_in.Goals as goal
 
 pub code_offset_at-requires : goal.code_offset_at-requires
-code_offset_at-requires c = omega (arith, c.requires.0.codes c.if-s.true, c.requires.2)
+unfolding HeldBy
+code_offset_at-requires c = let h = rw c.in-Direct.is at c.requires.0.held in omega (arith, h, c.requires.2)
 
 pub code_at-requires : goal.code_at-requires
-code_at-requires c = omega (arith, c.requires.0.codes c.if-s.true, c.requires.2)
+unfolding HeldBy
+code_at-requires c = let h = rw c.in-Direct.is at c.requires.0.held in omega (arith, h, c.requires.2)
 
-pub returns-then-s : goal.returns-then-s
-unfolding piece_of
-returns-then-s c = rw (c.code_offset_at.ensures, c.code_at.ensures) (direct_piece c.args.s _ c.args.p c.args.sofar c.args.i c.if-s.true)
+pub returns-in-Direct : goal.returns-in-Direct
+unfolding piece_of piece_at
+returns-in-Direct c = rw (c.code_offset_at.ensures, c.code_at.ensures, c.in-Direct.is)
 
 pub piece_at-requires : goal.piece_at-requires
-piece_at-requires c = rw (short_passed c.args.sofar c.requires.3, short_passed c.args.p.below c.requires.0.below) (c.requires.0.map, c.requires.0.rows c.if-s.false, c.requires.1, c.requires.2, c.requires.0.below, c.requires.3)
+unfolding HeldBy
+piece_at-requires c =
+    let h = rw c.in-Rows.is at c.requires.0.held in
+    rw (short_passed c.args.sofar c.requires.3, short_passed c.args.p.below c.requires.0.below) (h.0, h.1, c.requires.1, c.requires.2, c.requires.0.below, c.requires.3)
 
-pub returns : goal.returns
-returns c = (rw (short_passed c.args.sofar c.requires.3, short_passed c.args.p.below c.requires.0.below) at c.piece_at.ensures) ∙ rows_piece c.args.s _ c.args.p c.args.sofar c.args.i c.if-s.false
+pub returns-in-Rows : goal.returns-in-Rows
+unfolding piece_at
+returns-in-Rows c = rw c.in-Rows.is (rw (short_passed c.args.sofar c.requires.3, short_passed c.args.p.below c.requires.0.below) at c.piece_at.ensures)

@@ -7,12 +7,12 @@ use mathlib.Core.Path.{refl, ◌∙◌}
 use Rattle.x64.proofs.piece_nodes.Goals as goal
 
 pub nodes-requires : goal.nodes-requires
-nodes-requires c = of_one code_no c.in-Code.is ∙ c.requires
+nodes-requires c = of_one code_no c.in-Some.is ∙ c.requires
 
-pub returns-in-Nothing : goal.returns-in-Nothing
+pub returns-in_default : goal.returns-in_default
 unfolding reversed piece_of
-returns-in-Nothing c = rw c.in-Nothing.is (record { bytes = refl; counted = refl; most = omega arith; six = refl })
+returns-in_default c = rw c.in_default.is (record { bytes = refl; counted = refl; most = omega arith; six = refl })
 
-pub returns-in-Code : goal.returns-in-Code
+pub returns : goal.returns
 unfolding reversed piece_of
-returns-in-Code c = rw c.in-Code.is c.nodes.ensures
+returns c = rw c.in-Some.is c.nodes.ensures

@@ -1,10 +1,6 @@
 use Rattle.x64.proofs.Walks.{Going, Putting}
 use Rattle.x64.specs.Sources.{codes_in}
-use Prim.Native.Nat.{◌-◌}
 use Rattle.x64.proofs.put_codes.Given as goal
 
 abbrev pub invariant-loop-i : goal.invariant-loop-i
 invariant-loop-i l = Going (Putting l.initial.out l.out l.at l.to (codes_in l.s l.list l.p)) l.s l.list l.p l.sofar l.i
-
-abbrev pub decreases-loop-i : goal.decreases-loop-i
-decreases-loop-i l = l.past - l.i

@@ -1,22 +1,32 @@
 -- `x64::put_infos` meets its contract.
-use Rattle.x64.proofs.Spans.{codes_yes, info_is}
+use Rattle.x64.proofs.Spans.{is_there, codes_yes, info_is}
 use Rattle.x64.proofs.Results.{describing, mark_room, info_room, described, all_marked, all_described}
 use Rattle.x64.proofs.put_infos.Goals as goal
 
 pub loop-k-init : goal.loop-k-init
 loop-k-init c = describing _ _ c.requires.1 c.requires.2
 
-pub span_at-p-requires : goal.span_at-p-requires
-span_at-p-requires c = c.requires.0.listed.each_one _ c.loop-k-test.true
+pub span_at-requires : goal.span_at-requires
+span_at-requires c = c.requires.0.listed.each_one _ c.loop-k-test.true
+
+pub unwrap-p-requires : goal.unwrap-p-requires
+unwrap-p-requires c = is_there _ _ _ _ _ c.span_at.ensures (c.requires.0.agreed _ c.loop-k-test.true)
 
 pub number-requires : goal.number-requires
 number-requires c = mark_room c.loop-k.invariant c.loop-k-test.true
 
 pub describe-at-requires : goal.describe-at-requires
-describe-at-requires c = let t = c.loop-k-test.true in let h = c.span_at-p.ensures in let y = c.requires.0.agreed _ t in (h.readable, codes_yes h y, rw (info_is h y) (info_room c.loop-k.invariant t))
+describe-at-requires c =
+    let t = c.loop-k-test.true in
+    let h = rw c.unwrap-p.ensures at c.span_at.ensures in
+    let y = c.requires.0.agreed _ t in
+    (h.readable, codes_yes h y, rw (info_is h) (info_room c.loop-k.invariant t))
 
 pub loop-k-preserved : goal.loop-k-preserved
-loop-k-preserved c = let t = c.loop-k-test.true in let h = c.span_at-p.ensures in let y = c.requires.0.agreed _ t in described c.loop-k.invariant t c.number.ensures (rw (info_is h y) at c.describe-at.ensures)
+loop-k-preserved c =
+    let t = c.loop-k-test.true in
+    let h = rw c.unwrap-p.ensures at c.span_at.ensures in
+    described c.loop-k.invariant t c.number.ensures (rw (info_is h) at c.describe-at.ensures)
 
 pub shape_of-markers : goal.shape_of-markers
 shape_of-markers c = c.loop-k.invariant.marks_left.kept

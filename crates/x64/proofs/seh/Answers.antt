@@ -3,10 +3,8 @@ use mathlib.Core.Bool.{not}
 use Rattle.x64.proofs.Entries.{seh_empty, seh_refused, seh_answers, direct_listed}
 use Rattle.format.specs.Questions.{room_in}
 use Rattle.lists.proofs.Answers.{accepted, refused}
-use Rattle.format.specs.Machine.{x8664}
 use Rattle.format.proofs.Choice.{is_yes_lem}
-use native.Mathlib.Omega.{arith}
-use mathlib.Core.Path.{ap, refl}
+use mathlib.Core.Path.{ap}
 use Rattle.x64.proofs.seh.Goals as goal
 
 pub returns-then-n-eq0 : goal.returns-then-n-eq0
@@ -16,7 +14,7 @@ pub returns-then-not-codes_ok : goal.returns-then-not-codes_ok
 returns-then-not-codes_ok c = let a = c.args in seh_refused a.functions.now a.codes.now (room_in a.markers.now a.bytes.now a.relocations.now a.info.now) c.if-n-eq0.false (refused c.codes_ok.ensures (ap not c.if-not-codes_ok.true))
 
 pub answer-requires : goal.answer-requires
-answer-requires c = let a = c.args in direct_listed x8664 (omega arith) refl a.functions.now a.codes.now (is_yes_lem (accepted c.codes_ok.ensures (ap not c.if-not-codes_ok.false)))
+answer-requires c = let a = c.args in direct_listed a.functions.now a.codes.now (is_yes_lem (accepted c.codes_ok.ensures (ap not c.if-not-codes_ok.false)))
 
 pub returns : goal.returns
-returns c = let a = c.args in rw (seh_answers a.functions.now a.codes.now (room_in a.markers.now a.bytes.now a.relocations.now a.info.now) c.if-n-eq0.false x8664 (accepted c.codes_ok.ensures (ap not c.if-not-codes_ok.false))) at c.answer.ensures
+returns c = let a = c.args in rw (seh_answers a.functions.now a.codes.now (room_in a.markers.now a.bytes.now a.relocations.now a.info.now) c.if-n-eq0.false (accepted c.codes_ok.ensures (ap not c.if-not-codes_ok.false))) at c.answer.ensures

@@ -2,8 +2,17 @@
 use mir.Facts.{to_z_pos}
 use mir.Syntax.{w64}
 use native.Mathlib.Omega.{arith}
-use mathlib.Core.Path.{refl}
+use Rattle.x64.specs.Sources.{pushed_by}
 use Rattle.x64.proofs.start.Goals as goal
 
-pub returns : goal.returns
-returns c = rw (to_z_pos w64 {n = c.args.s.machine.pushed} (omega (arith, c.requires))) refl
+pub overflow_cast-result : goal.overflow_cast-result
+unfolding pushed_by
+overflow_cast-result c = let h = rw c.in-Rows.is at c.requires in omega (arith, h)
+
+pub returns-in-Direct : goal.returns-in-Direct
+unfolding pushed_by
+returns-in-Direct c = rw c.in-Direct.is
+
+pub returns-in-Rows : goal.returns-in-Rows
+unfolding pushed_by
+returns-in-Rows c = let h = rw c.in-Rows.is at c.requires in rw (to_z_pos w64 {n = c.in-Rows.m.pushed} (omega (arith, h)), c.in-Rows.is)

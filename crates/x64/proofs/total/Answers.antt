@@ -1,5 +1,5 @@
 -- `x64::total` meets its contract.
-use Rattle.x64.proofs.Spans.{codes_yes, info_is}
+use Rattle.x64.proofs.Spans.{is_there, codes_yes, info_is}
 use Rattle.x64.proofs.Results.{summing, summed, all_summed}
 use Rattle.x64.proofs.Infos.{info_few}
 use lib.ListN.{length}
@@ -13,14 +13,25 @@ loop-k-init c = summing _ _
 pub span_at-requires : goal.span_at-requires
 span_at-requires c = c.requires.listed.each_one _ c.loop-k-test.true
 
+pub unwrap-requires : goal.unwrap-requires
+unwrap-requires c = is_there _ _ _ _ _ c.span_at.ensures (c.requires.agreed _ c.loop-k-test.true)
+
 pub info_size-sum-requires : goal.info_size-sum-requires
-info_size-sum-requires c = let y = c.requires.agreed _ c.loop-k-test.true in (c.span_at.ensures.readable, codes_yes c.span_at.ensures y)
+info_size-sum-requires c =
+    let h = rw c.unwrap.ensures at c.span_at.ensures in
+    (h.readable, codes_yes h (c.requires.agreed _ c.loop-k-test.true))
 
 pub overflow_add-sum : goal.overflow_add-sum
-overflow_add-sum c = let g = c.loop-k.invariant in let y = c.requires.agreed _ c.loop-k-test.true in omega (arith, g.small, c.loop-k-test.true, c.info_size-sum.ensures, info_few _ _ (codes_yes c.span_at.ensures y), c.requires.listed.most)
+overflow_add-sum c =
+    let g = c.loop-k.invariant in
+    let h = rw c.unwrap.ensures at c.span_at.ensures in
+    omega (arith, g.small, c.loop-k-test.true, c.info_size-sum.ensures, info_few _ _ (codes_yes h (c.requires.agreed _ c.loop-k-test.true)), c.requires.listed.most)
 
 pub loop-k-preserved : goal.loop-k-preserved
-loop-k-preserved c = let g = c.loop-k.invariant in let y = c.requires.agreed _ c.loop-k-test.true in summed g c.loop-k-test.true (c.info_size-sum.ensures ∙ ap length (info_is c.span_at.ensures y)) (omega (arith, c.info_size-sum.ensures, info_few _ _ (codes_yes c.span_at.ensures y)))
+loop-k-preserved c =
+    let h = rw c.unwrap.ensures at c.span_at.ensures in
+    let y = c.requires.agreed _ c.loop-k-test.true in
+    summed c.loop-k.invariant c.loop-k-test.true (c.info_size-sum.ensures ∙ ap length (info_is h)) (omega (arith, c.info_size-sum.ensures, info_few _ _ (codes_yes h y)))
 
 pub returns : goal.returns
 returns c = all_summed c.loop-k.invariant c.loop-k-test.false

@@ -1,10 +1,6 @@
 use Rattle.x64.proofs.Results.{Summing}
 use Rattle.x64.specs.Sources.{found_at}
-use Prim.Native.Nat.{◌-◌}
 use Rattle.x64.proofs.total.Given as goal
 
 abbrev pub invariant-loop-k : goal.invariant-loop-k
 invariant-loop-k l = Summing (found_at l.s l.fs l.list) l.n l.k l.sum
-
-abbrev pub decreases-loop-k : goal.decreases-loop-k
-decreases-loop-k l = l.n - l.k
