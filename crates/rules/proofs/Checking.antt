@@ -3,9 +3,8 @@ use mathlib.Core.Path.{◌≡◌, refl, sym, ap, ◌∙◌}
 use Prim.Native.Nat.{ℕ, suc, ◌+◌, ◌-◌, ◌/◌, ◌≤◌, ◌<◌}
 use native.Mathlib.Omega.{arith}
 use native.Mathlib.Numerals.{add-one}
-use mathlib.Core.Bool.{Bool, true, false, not, ◌&&◌}
+use mathlib.Core.Bool.{Bool, true, false, ◌&&◌}
 use mathlib.Core.List.{List, []}
-use borrow.Author.Tests.{not-true, not-false}
 use lib.ListN.{length}
 use lib.Dec.{T, eqb}
 use mir.Facts.{and_yes}
@@ -15,8 +14,8 @@ use Rattle.format.specs.Headers.{ahead}
 use Rattle.format.specs.RowCheck.{in_order, rows_of, row_check}
 use Rattle.lists.proofs.Ranges.{one_more}
 use Rattle.rules.specs.declared.Order.{Order}
-use Rattle.rules.specs.declared.Stepped.{Stepped}
-use Rattle.rules.specs.Orders.{Held, leaders_ok, follow, Starts, Steps}
+use Rattle.std.specs.Prelude.{Option, Some, None}
+use Rattle.rules.specs.Orders.{Held, leaders_ok, follow, follow_some, Starts, Steps}
 
 -- before row i of the n from `at` on
 pub record Checking (rows : List ℕ) (at n : ℕ) (simple : Bool) (i : ℕ) (o : Order) : Type 0 where
@@ -64,14 +63,14 @@ module _ {rows : List ℕ} {at n i : ℕ} {simple : Bool} {o : Order} (c : Check
     pub shape : T (row_ok_at rows i) × T (all_in (row_ok_at rows) (i + 1) (at + n - (i + 1)))
     shape = and_yes (row_ok_at rows i) (all_in (row_ok_at rows) (i + 1) (at + n - (i + 1))) (rw (left, one_more, ← add-one i) at c.shaped)
 
-    module _ {first : Bool} {s : Stepped} (f : first ≡ o.leading && eqb (field row_stride rows i 0) 0) (g : Steps o first (row_at rows i).1 s) where
-      here : row_check simple (each (row_at rows) at n) ≡ s.ok && follow s.after (each (row_at rows) (i + 1) (at + n - (i + 1)))
+    module _ {first : Bool} {s : Option Order} (f : first ≡ o.leading && eqb (field row_stride rows i 0) 0) (g : Steps o first (row_at rows i).1 s) where
+      here : row_check simple (each (row_at rows) at n) ≡ follow_some s (each (row_at rows) (i + 1) (at + n - (i + 1)))
       unfolding each row_at
       here = c.rest ∙ rw (left, ← add-one i) (g.decides (field row_stride rows i 0) f (each (row_at rows) (i + 1) (at + n - (i + 1))))
 
-      pub turn : not s.ok ≡ false → Checking rows at n simple (i + 1) s.after
-      turn t =
-          record { low = omega (arith, c.low); high = omega arith; inside = c.inside; shaped = shape.1; held = g.held; rest = here ∙ rw (not-false s.ok t) }
+      pub turn : {after : Order} → s ≡ Some after → Checking rows at n simple (i + 1) after
+      turn {after} e =
+          record { low = omega (arith, c.low); high = omega arith; inside = c.inside; shaped = shape.1; held = rw e at g.held; rest = rw e at here }
 
-      pub stopped : not s.ok ≡ true → false ≡ row_check simple (each (row_at rows) at n)
-      stopped t = sym (here ∙ rw (not-true s.ok t))
+      pub stopped : s ≡ None → false ≡ row_check simple (each (row_at rows) at n)
+      stopped e = sym (rw e at here)

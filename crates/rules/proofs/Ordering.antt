@@ -12,12 +12,13 @@ use borrow.Author.Tests.{le-leb, lt-leb}
 use Rattle.format.specs.Prelude.{pick, all}
 use Rattle.format.specs.declared.Row.{Row}
 use Rattle.format.specs.declared.Row.TheVariants.{RememberState, RestoreState}
-use Rattle.format.specs.Rows.{kind_of}
+use Rattle.format.specs.Rows.{RowAt, kind_of}
 use Rattle.format.specs.Headers.{leads, ahead}
 use Rattle.format.specs.RowCheck.{may_lead, in_order, rows_of}
 use Rattle.rules.specs.declared.Order.{Order}
-use Rattle.rules.specs.declared.Stepped.{Stepped}
-use Rattle.rules.specs.Orders.{Held, open_of, leaders_ok, follow, passing, Steps}
+use Rattle.std.specs.Prelude.{Some, None}
+use Rattle.std.specs.Option.{IfSome}
+use Rattle.rules.specs.Orders.{Held, open_of, leaders_ok, follow, follow_some, passing, Steps}
 
 -- ---- leading
 
@@ -37,11 +38,21 @@ swap true b true d = refl
 swap true b false d = and-false b
 swap false b c d = refl
 
+follow_pick : (b : Bool) (s : Order) (xs : List RowAt) → b && follow s xs ≡ follow_some (pick b (Some s) None) xs
+unfolding pick
+follow_pick true s xs = refl
+follow_pick false s xs = refl
+
+held_pick : (b : Bool) (s : Order) → Held s → IfSome (pick b (Some s) None) Held
+unfolding pick
+held_pick true s h = h
+held_pick false s h = tt
+
 -- a row decides where the rest of the leaders and the rest of the order are known
-module _ (o : Order) (first : Bool) (r : Row) (s : Stepped) (ok : Bool) where
-  pub decided : s.after.leading ≡ still_leads first r → s.ok ≡ pick (still_leads first r) (may_lead r) true && ok
-      → ((rs : List Row) → in_order o.framed (open_of o.marks o.depth) (r ∷ rs) ≡ ok && in_order s.after.framed (open_of s.after.marks s.after.depth) rs)
-      → Held s.after → Steps o first r s
+module _ (o : Order) (first : Bool) (r : Row) (s : Order) (may ok : Bool) where
+  pub decided : s.leading ≡ still_leads first r → may ≡ pick (still_leads first r) (may_lead r) true && ok
+      → ((rs : List Row) → in_order o.framed (open_of o.marks o.depth) (r ∷ rs) ≡ ok && in_order s.framed (open_of s.marks s.depth) rs)
+      → Held s → Steps o first r (pick may (Some s) None)
   unfolding follow leaders_ok leads ahead rows_of
   decided l e n h =
       record {
@@ -49,9 +60,11 @@ module _ (o : Order) (first : Bool) (r : Row) (s : Stepped) (ok : Bool) where
             let still : o.leading && (eqb offset 0 && not (eqb (kind_of r) 6)) ≡ still_leads first r =
             rw f (sym (and_assoc o.leading (eqb offset 0) (not (eqb (kind_of r) 6))))
             in
+            let both : follow o ((offset, r) ∷ xs) ≡ may && follow s xs =
             rw (one_leader o.leading (eqb offset 0 && not (eqb (kind_of r) 6)) r (ahead xs), still, n (rows_of xs), l, e)
-            (swap (pick (still_leads first r) (may_lead r) true) (pick (still_leads first r) (all may_lead (ahead xs)) true) ok _);
-        held = h;
+            (swap (pick (still_leads first r) (may_lead r) true) (pick (still_leads first r) (all may_lead (ahead xs)) true) ok _)
+            in both ∙ follow_pick may s xs;
+        held = held_pick may s h;
       }
 
 -- ---- rows that open and close nothing
@@ -72,14 +85,14 @@ module _ (o : Order) (first : Bool) (r : Row) (framed : Bool) (h : Held o) (k : 
       → ((rs : List Row) → in_order o.framed (open_of o.marks o.depth) (r ∷ rs) ≡ ok && in_order framed (open_of o.marks o.depth) rs)
       → Steps o first r (passing ok o first framed)
   unfolding passing
-  passed ok m n = decided o first r (passing ok o first framed) ok (rw (k, and-true)) (rw m (free (still_leads first r) ok)) n h
+  passed ok m n = decided o first r _ ok ok (rw (k, and-true)) (rw m (free (still_leads first r) ok)) n h
 
   -- one that may not
   pub kept_back : may_lead r ≡ false
       → ((rs : List Row) → in_order o.framed (open_of o.marks o.depth) (r ∷ rs) ≡ in_order framed (open_of o.marks o.depth) rs)
       → Steps o first r (passing (not first) o first framed)
   unfolding passing
-  kept_back m n = decided o first r (passing (not first) o first framed) true (rw (k, and-true)) (rw (m, k) (barred first)) n h
+  kept_back m n = decided o first r _ (not first) true (rw (k, and-true)) (rw (m, k) (barred first)) n h
 
 -- ---- rows that open and close
 
@@ -104,37 +117,44 @@ module _ (o : Order) (first : Bool) (h : Held o) where
   full_length = open_length o.marks o.depth (omega (arith, h.deep, h.long))
 
   -- a RememberState, where 16 are open and where fewer are
-  pub full : 16 ≤ o.depth → Steps o first RememberState (passing false o false o.framed)
-  unfolding passing kind_of in_order opened
+  pub full : 16 ≤ o.depth → Steps o first RememberState None
+  unfolding kind_of in_order opened pick
   full l =
       let e : ltb (length opened) 16 ≡ false = lt-leb (suc (length opened)) 16 (omega (arith, full_length)) in
-      decided o first RememberState (passing false o false o.framed) false (sym (and-false first))
+      decided o first RememberState (record { leading = false; framed = o.framed; depth = o.depth; marks = o.marks }) false false (sym (and-false first))
       (sym (and-false (pick (still_leads first RememberState) (may_lead RememberState) true))) (λ rs. rw e) h
 
   pub remembered : o.depth < 16
-      → Steps o first RememberState
-      (record { ok = true; after = record { leading = false; framed = o.framed; depth = o.depth + 1; marks = set o.marks o.depth o.framed } })
+      → Steps o first RememberState (Some (record { leading = false; framed = o.framed; depth = o.depth + 1; marks = set o.marks o.depth o.framed }))
   unfolding kind_of may_lead in_order opened pick
   remembered l =
       let e : ltb (length opened) 16 ≡ true = le-leb (suc (length opened)) 16 (omega (arith, full_length)) in
-      decided o first RememberState _ true (sym (and-false first)) (rw (and-false first))
+      decided o first RememberState _ true true (sym (and-false first)) (rw (and-false first))
       (λ rs. rw (e, add-one o.depth, open_more o.marks o.framed o.depth (omega (arith, h.long))))
       (record { deep = omega arith; long = length-set o.marks o.depth o.framed ∙ h.long })
 
-  -- a RestoreState, where none is open and where one is
-  pub none_open : o.depth ≡ 0 → Steps o first RestoreState (passing false o first o.framed)
-  unfolding passing kind_of in_order open_of
+  -- a RestoreState, where none is open, and where one is: it may not lead
+  pub none_open : o.depth ≡ 0 → Steps o first RestoreState None
+  unfolding kind_of in_order open_of pick
   none_open e =
-      decided o first RestoreState (passing false o first o.framed) false (sym (and-true first))
+      decided o first RestoreState (record { leading = first; framed = o.framed; depth = o.depth; marks = o.marks }) false false (sym (and-true first))
       (sym (and-false (pick (still_leads first RestoreState) (may_lead RestoreState) true))) (λ rs. rw e) h
 
-  pub restored : 0 < o.depth
-      → Steps o first RestoreState
-      (record { ok = not first; after = record { leading = first; framed = get_or o.marks (o.depth - 1) false; depth = o.depth - 1; marks = o.marks } })
-  unfolding kind_of may_lead in_order
-  restored l =
-      let e : o.depth ≡ suc (o.depth - 1) = omega arith in
-      let f : open_of o.marks o.depth ≡ get_or o.marks (o.depth - 1) false ∷ open_of o.marks (o.depth - 1) =
-      ap (open_of o.marks) e ∙ open_last o.marks (o.depth - 1) (omega (arith, h.deep, h.long))
-      in
-      decided o first RestoreState _ true (sym (and-true first)) (barred first) (λ rs. rw f) (record { deep = omega (arith, h.deep); long = h.long })
+  module _ (l : 0 < o.depth) where
+    closed : Steps o first RestoreState (pick (not first) (Some (record { leading = first; framed = get_or o.marks (o.depth - 1) false; depth = o.depth - 1; marks = o.marks })) None)
+    unfolding kind_of may_lead in_order
+    closed =
+        let e : o.depth ≡ suc (o.depth - 1) = omega arith in
+        let f : open_of o.marks o.depth ≡ get_or o.marks (o.depth - 1) false ∷ open_of o.marks (o.depth - 1) =
+        ap (open_of o.marks) e ∙ open_last o.marks (o.depth - 1) (omega (arith, h.deep, h.long))
+        in
+        decided o first RestoreState _ (not first) true (sym (and-true first)) (barred first) (λ rs. rw f) (record { deep = omega (arith, h.deep); long = h.long })
+
+    pub in_front : first ≡ true → Steps o first RestoreState None
+    unfolding pick
+    in_front t = rw t (rw t at closed)
+
+    pub restored : first ≡ false
+        → Steps o first RestoreState (Some (record { leading = false; framed = get_or o.marks (o.depth - 1) false; depth = o.depth - 1; marks = o.marks }))
+    unfolding pick
+    restored t = rw t (rw t at closed)

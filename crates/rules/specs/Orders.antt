@@ -1,12 +1,12 @@
 -- What the state of the row check means: the part of the check that is left.
-use Rattle.std.specs.Prelude.{◌≡◌, ℕ, ◌≤◌, Bool, true, ◌&&◌, List, ◌∷◌, reverse, length, take, eqb}
+use Rattle.std.specs.Prelude.{◌≡◌, ℕ, ◌≤◌, Bool, true, false, ◌&&◌, List, ◌∷◌, reverse, length, take, eqb, Option, Some, None}
+use Rattle.std.specs.Option.{IfSome}
 use Rattle.format.specs.Prelude.{pick, all}
 use Rattle.format.specs.declared.Row.{Row}
 use Rattle.format.specs.Rows.{RowAt}
 use Rattle.format.specs.Headers.{ahead}
 use Rattle.format.specs.RowCheck.{may_lead, in_order, rows_of, row_check}
 use Rattle.rules.specs.declared.Order.{Order}
-use Rattle.rules.specs.declared.Stepped.{Stepped}
 
 -- at most 16 are open, in 16 places
 pub record Room (depth : ℕ) (marks : List Bool) : Type 0 where
@@ -29,16 +29,21 @@ leaders_ok leading xs = pick leading (all may_lead (ahead xs)) true
 unfoldable pub follow : Order → List RowAt → Bool
 follow o xs = leaders_ok o.leading xs && in_order o.framed (open_of o.marks o.depth) (rows_of xs)
 
+-- where a row may not stand, a no
+abbrev pub follow_some : Option Order → List RowAt → Bool
+follow_some None xs = false
+follow_some (Some o) xs = follow o xs
+
 -- the state before the first row
 pub record Starts (simple : Bool) (o : Order) : Type 0 where
   pub whole : (xs : List RowAt) → row_check simple xs ≡ follow o xs
   pub held : Held o
 
 -- a row that opens and closes nothing
-unfoldable pub passing : (ok : Bool) (o : Order) (first framed : Bool) → Stepped
-passing ok o first framed = record { ok = ok; after = record { leading = first; framed = framed; depth = o.depth; marks = o.marks } }
+unfoldable pub passing : (ok : Bool) (o : Order) (first framed : Bool) → Option Order
+passing ok o first framed = pick ok (Some (record { leading = first; framed = framed; depth = o.depth; marks = o.marks })) None
 
 -- what a row does, where `first` says that it is at offset 0 behind rows that all lead: whatever rows follow, it decides with them
-pub record Steps (o : Order) (first : Bool) (r : Row) (s : Stepped) : Type 0 where
-  pub decides : (offset : ℕ) → first ≡ o.leading && eqb offset 0 → (xs : List RowAt) → follow o ((offset, r) ∷ xs) ≡ s.ok && follow s.after xs
-  pub held : Held s.after
+pub record Steps (o : Order) (first : Bool) (r : Row) (s : Option Order) : Type 0 where
+  pub decides : (offset : ℕ) → first ≡ o.leading && eqb offset 0 → (xs : List RowAt) → follow o ((offset, r) ∷ xs) ≡ follow_some s xs
+  pub held : IfSome s Held

@@ -20,13 +20,6 @@ pub struct Order {
     pub marks: [bool; 16],
 }
 
-// Whether a row may stand where it does, and what follows.
-#[derive(Clone, Copy)]
-pub struct Stepped {
-    pub ok: bool,
-    pub after: Order,
-}
-
 // Unless simple a frame address rule leads.
 pub fn start(simple: bool) -> Order
     ensures { Starts simple result }
@@ -44,68 +37,66 @@ pub fn start(simple: bool) -> Order
 pub fn at_start(leading: bool, offset: u64) -> bool
     ensures { result ≡ leading && eqb offset 0 }
 {
-    if leading {
-        return offset == 0;
-    }
-    false
+    leading && offset == 0
 }
 
-// A row that opens and closes nothing.
-fn passes(ok: bool, o: Order, first: bool, framed: bool) -> Stepped
+// A row that opens and closes nothing, where it may stand.
+#[tactic(auto, unfolding(crate::specs::Orders::passing, format::specs::Prelude::pick))]
+fn passes(ok: bool, o: Order, first: bool, framed: bool) -> Option<Order>
     ensures { result ≡ passing ok o first framed }
 {
-    let marks = o.marks;
-    let after = Order {
+    if !ok {
+        return None;
+    }
+    Some(Order {
         leading: first,
         framed,
-        depth: o.depth,
-        marks,
-    };
-    Stepped { ok, after }
+        ..o
+    })
 }
 
 // A RememberState: at most 16 are open.
-fn opens(o: Order) -> Stepped
+fn opens(o: Order) -> Option<Order>
     requires { Held o }
     ensures { (first : Bool) → Steps o first row.RememberState result }
 {
     let depth = o.depth;
     if 16 <= depth {
-        return passes(false, o, false, o.framed);
+        return None;
     }
     let mut marks = o.marks;
     marks[depth] = o.framed;
-    let after = Order {
+    Some(Order {
         leading: false,
         framed: o.framed,
         depth: depth + 1,
         marks,
-    };
-    Stepped { ok: true, after }
+    })
 }
 
 // A RestoreState: one is open, and it does not lead.
-fn closes(o: Order, first: bool) -> Stepped
+fn closes(o: Order, first: bool) -> Option<Order>
     requires { Held o }
     ensures { Steps o first row.RestoreState result }
 {
     let depth = o.depth;
     if depth == 0 {
-        return passes(false, o, first, o.framed);
+        return None;
     }
-    let marks = o.marks;
+    if first {
+        return None;
+    }
     let last = depth - 1;
-    let after = Order {
-        leading: first,
-        framed: marks[last],
+    Some(Order {
+        leading: false,
+        framed: o.marks[last],
         depth: last,
-        marks,
-    };
-    Stepped { ok: !first, after }
+        ..o
+    })
 }
 
-// A row, `first` where it is at offset 0 behind rows that all lead.
-pub fn step(o: Order, first: bool, row: Row) -> Stepped
+// A row, `first` where it is at offset 0 behind rows that all lead: what follows, where it may stand there.
+pub fn step(o: Order, first: bool, row: Row) -> Option<Order>
     requires { Held o }
     ensures { Steps o first row result }
 {
@@ -129,22 +120,19 @@ fn rows_check(rows: &[u64], at: usize, n: usize, simple: bool) -> bool
     requires { (at + n ≤ count row_stride rows.now) × T (all_in (row_ok_at rows.now) at n) }
     ensures { result ≡ row_check simple (each (row_at rows.now) at n) }
 {
-    let end = at + n;
     let mut o = start(simple);
-    let mut i = at;
-    while i < end {
+    for i in at..at + n {
         let first = at_start(o.leading, rows::offset_at(rows, i));
-        let stepped = step(o, first, rows::row_at(rows, i));
-        if !stepped.ok {
+        let Some(after) = step(o, first, rows::row_at(rows, i)) else {
             return false;
-        }
-        o = stepped.after;
-        i += 1;
+        };
+        o = after;
     }
     true
 }
 
 // Function k of the lists. k past the list, a simple mark above 1, rows outside their list and numbers that are no row are a no.
+#[tactic(auto, unfolding(format::specs::RowCheck::row_check_at, format::specs::Lists::mark_ok, format::specs::Lists::mark))]
 pub fn row_check(fs: &[u64], rows: &[u64], k: u64) -> bool
     ensures { result ≡ row_check_at fs.now rows.now k }
 {

@@ -3,7 +3,7 @@ use Rattle.rules.proofs.Ordering.{full, remembered}
 use Rattle.rules.proofs.opens.Goals as goal
 
 pub returns-then-depth-ge16 : goal.returns-then-depth-ge16
-returns-then-depth-ge16 c = λ first. rw c.passes.ensures (full c.args.o first c.requires c.if-depth-ge16.true)
+returns-then-depth-ge16 c = λ first. full c.args.o first c.requires c.if-depth-ge16.true
 
 pub returns : goal.returns
 returns c = λ first. remembered c.args.o first c.requires c.if-depth-ge16.false
