@@ -1,17 +1,19 @@
 -- What a reader answers, by what it found and whether the lent lists hold it.
 use mathlib.Core.Path.{◌≡◌, refl, sym, ap, ◌∙◌}
-use mathlib.Core.Logic.{◌≢◌}
-use mathlib.Core.Bool.{Bool, true, false, ◌&&◌}
+use mathlib.Core.Logic.{◌≢◌, ◌⊎◌}
+use mathlib.Core.Bool.{Bool, true, false}
 use mathlib.Core.Option.{Option, none, some}
 use mathlib.Core.List.{List, [], ◌∷◌, ◌++◌, append-nil}
 use Prim.Native.Nat.{ℕ, suc, ◌+◌, ◌-◌, ◌*◌, ◌/◌, ◌%◌, ◌≤◌, ◌<◌}
 use native.Mathlib.Omega.{arith}
-use lib.Dec.{leb}
 use lib.ListN.{length, take, drop, length-append}
+use Rattle.std.specs.Prelude.{Ok, Err, MatchResult}
+use Rattle.std.specs.Prelude as code
 use Rattle.format.specs.Prelude.{pick, after, Result, good, bad, onward, or_else}
+use Rattle.format.specs.Coded.{result_of}
 use Rattle.format.specs.Put.{put}
 use Rattle.format.proofs.Wrote.{Wrote}
-use Rattle.format.proofs.Choice.{if-le, if-gt, if-eq, if-ne, either}
+use Rattle.format.proofs.Choice.{if-le, if-gt, if-eq, if-ne}
 use Rattle.format.proofs.PutLaws.{put-append}
 use Rattle.arm64.specs.declared.Code.{Code}
 use Rattle.arm64.specs.declared.Header.{Header}
@@ -19,52 +21,27 @@ use Rattle.arm64.specs.declared.Packed.{Packed}
 use Rattle.arm64.specs.declared.Arm64Reading.{Arm64Reading}
 use Rattle.arm64.specs.Lists.{Epilogue, code_numbers, epilogue_numbers}
 use Rattle.arm64.specs.Meaning.{reverse}
-use Rattle.arm64.specs.Records.{record_ok, header_at, codes_from, codes_of}
+use Rattle.arm64.specs.Records.{codes_from, codes_of}
 use Rattle.arm64.specs.Packed.{packed_of, packed_ok, slot_at, slots_from, packed_prologue, packed_epilogue}
 use Rattle.arm64.specs.Reader.{Unwound, run_at, epilogue, at_end, record_epilogues, unwound, record_unwound, full_record, packed_epilogues, packed_unwound, unwound_by, epilogue_codes, all_codes, fits_in, read_arm64, reading_of, epilogues_after, codes_after}
 use Rattle.arm64.proofs.PackingLaws.{reverse-length}
 use Rattle.arm64_runs.proofs.Stores.{code_numbers-length, code_numbers-append}
 use Rattle.arm64_runs.specs.Runs.{codes_in, count_of}
-use Rattle.arm64_runs.specs.declared.Count.TheVariants as counted
 use Rattle.arm64_records.specs.Parts.{headed_at, total_of, epilogues_in, words_from, how_many}
 use Rattle.arm64_records.proofs.Epilogues.{scoped-length, counted_run}
 use Rattle.arm64_records.proofs.Whole.{by_words, many_all, many_one, one, total_some}
-use Rattle.arm64_records.specs.declared.HeaderRead.TheVariants.{Is, Bad}
-use Rattle.arm64_reader.specs.Answers.{Answered, found}
+use Rattle.arm64_records.proofs.Headers.{when_true, when_false}
+use Rattle.arm64_reader.specs.Answers.{told, roomy, answer_of, Answered, found}
 
 -- ---- refusals
 
-pub refuses : {x : Result Unwound} {n : ℕ} {r : Arm64Reading} {es cs : List ℕ} → x ≡ bad n → r ≡ reading_of (bad n) → Answered x r es es cs cs
-unfolding epilogues_after codes_after
+pub refuses : {x : Result Unwound} {n : ℕ} {r : code.Result Arm64Reading ℕ} {es cs : List ℕ} → x ≡ bad n → r ≡ Err n → Answered x r es es cs cs
+unfolding answer_of epilogues_after codes_after
 refuses {x} {n} {r} {es} {cs} e q = rw e (record { reading = q; epilogues = refl; codes = refl })
 
 pub found_none : {x : Option Unwound} (es cs : List ℕ) → x ≡ none → found x es cs ≡ bad 77
 unfolding found onward or_else
 found_none es cs e = rw e
-
-pick_and : {X : Type 0} (a b : Bool) (x y : X) → pick (a && b) x y ≡ pick a (pick b x y) y
-unfolding pick
-pick_and true b x y = refl
-pick_and false b x y = refl
-
-when_true : {X : Type 0} (b : Bool) (x y : X) → b ≡ true → pick b x y ≡ x
-unfolding pick
-when_true b x y e = rw e
-
-module _ {x : Option Unwound} {u : Unwound} (es cs : List ℕ) (e : x ≡ some u) where
-  by_room : found x es cs ≡ pick (leb (length u.epilogues) (length es / 3)) (pick (leb (length (all_codes u)) (length cs / 3)) (good u) (bad 54)) (bad 54)
-  unfolding found onward or_else fits_in
-  by_room = rw e (pick_and (leb (length u.epilogues) (length es / 3)) (leb (length (all_codes u)) (length cs / 3)) (good u) (bad 54))
-
-  pub found_few : length es / 3 < length u.epilogues → found x es cs ≡ bad 54
-  found_few h = by_room ∙ rw (if-gt (length u.epilogues) (length es / 3))
-
-  module _ (h : length u.epilogues ≤ length es / 3) where
-    pub found_short : length cs / 3 < length (all_codes u) → found x es cs ≡ bad 54
-    found_short l = by_room ∙ rw (if-le (length u.epilogues) (length es / 3), if-gt (length (all_codes u)) (length cs / 3))
-
-    pub found_good : length (all_codes u) ≤ length cs / 3 → found x es cs ≡ good u
-    found_good l = by_room ∙ rw (if-le (length u.epilogues) (length es / 3), if-le (length (all_codes u)) (length cs / 3))
 
 -- ---- what was found, counted and stored
 
@@ -83,9 +60,9 @@ pub record Stored (u : Unwound) (es es' cs cs' : List ℕ) (n : ℕ) : Type 0 wh
   pub numbers : es' ≡ put es 0 (epilogue_numbers n u.epilogues)
   pub codes : cs' ≡ put (put cs 0 (code_numbers u.prologue)) (3 * n) (code_numbers (epilogue_codes u.epilogues))
 
-stored_answer : {x : Result Unwound} {u : Unwound} {r : Arm64Reading} {es es' cs cs' : List ℕ} {n m k : ℕ} → x ≡ good u → Counts u n m k
-    → r ≡ record { number = 0; length = u.size; prologue = n; epilogues = k; codes = n + m } → Stored u es es' cs cs' n → Answered x r es es' cs cs'
-unfolding reading_of epilogues_after codes_after all_codes
+stored_answer : {x : Result Unwound} {u : Unwound} {r : code.Result Arm64Reading ℕ} {es es' cs cs' : List ℕ} {n m k : ℕ} → x ≡ good u → Counts u n m k
+    → r ≡ Ok (told u.size n k m) → Stored u es es' cs cs' n → Answered x r es es' cs cs'
+unfolding answer_of reading_of epilogues_after codes_after all_codes
 stored_answer {x} {u} {r} {es} {es'} {cs} {cs'} {n} {m} {k} e d a w =
     let l : 0 + length (code_numbers u.prologue) ≡ 3 * n = omega (arith, code_numbers-length u.prologue, d.prologue) in
     let t : length (u.prologue ++ epilogue_codes u.epilogues) ≡ n + m = all-length d in
@@ -100,17 +77,21 @@ stored_answer {x} {u} {r} {es} {es'} {cs} {cs'} {n} {m} {k} e d a w =
           ∙ ap (put cs 0) (sym (code_numbers-append u.prologue (epilogue_codes u.epilogues)));
     })
 
+-- room for that many epilogues and codes
+pub has_room : (es cs : List ℕ) {k n : ℕ} → roomy es cs k n ≡ true → (k ≤ length es / 3) × (n ≤ length cs / 3)
+unfolding roomy
+has_room es cs e = grind arith
+
 module _ {x : Option Unwound} {u : Unwound} {n m k : ℕ} (es cs : List ℕ) (e : x ≡ some u) (d : Counts u n m k) where
-  pub few_epilogues : {r : Arm64Reading} → length es / 3 < k → r ≡ reading_of (bad 54) → Answered (found x es cs) r es es cs cs
-  few_epilogues h q = refuses (found_few es cs e (omega (arith, d.many))) q
+  by_room : found x es cs ≡ pick (roomy es cs k (n + m)) (good u) (bad 54)
+  unfolding found onward or_else fits_in roomy
+  by_room = rw e (rw (d.many, all-length d))
 
-  module _ (h : k ≤ length es / 3) where
-    pub few_codes : {r : Arm64Reading} → length cs / 3 < n + m → r ≡ reading_of (bad 54) → Answered (found x es cs) r es es cs cs
-    few_codes l q = refuses (found_short es cs e (omega (arith, d.many)) (omega (arith, all-length d))) q
+  pub no_room : {r : code.Result Arm64Reading ℕ} → roomy es cs k (n + m) ≡ false → r ≡ Err 54 → Answered (found x es cs) r es es cs cs
+  no_room f q = refuses (by_room ∙ when_false (roomy es cs k (n + m)) (good u) (bad 54) f) q
 
-    pub stored : {r : Arm64Reading} {es' cs' : List ℕ} → n + m ≤ length cs / 3
-        → r ≡ record { number = 0; length = u.size; prologue = n; epilogues = k; codes = n + m } → Stored u es es' cs cs' n → Answered (found x es cs) r es es' cs cs'
-    stored l a w = stored_answer (found_good es cs e (omega (arith, d.many)) (omega (arith, all-length d))) d a w
+  pub stored : {r : code.Result Arm64Reading ℕ} {es' cs' : List ℕ} → roomy es cs k (n + m) ≡ true → r ≡ Ok (told u.size n k m) → Stored u es es' cs cs' n → Answered (found x es cs) r es es' cs cs'
+  stored t a w = stored_answer (by_room ∙ when_true (roomy es cs k (n + m)) (good u) (bad 54) t) d a w
 
 -- ---- the record
 
@@ -163,13 +144,6 @@ module _ (p : Packed) {n : ℕ} (a : n ≡ length (slots_from (slot_at false p) 
   unfolding packed_part unwound packed_prologue epilogue_codes
   part_counts = record { prologue = sym a; behind = refl; many = refl }
 
-  -- no code stands behind the prologue's
-  pub part_answer : {r : Arm64Reading} → r ≡ record { number = 0; length = (packed_part p).size; prologue = n; epilogues = 0; codes = n }
-      → r ≡ record { number = 0; length = (packed_part p).size; prologue = n; epilogues = 0; codes = n + 0 }
-  part_answer e =
-      let z : n ≡ n + 0 = omega arith in
-      e ∙ ap (λ (t : ℕ). record { number = 0; length = (packed_part p).size; prologue = n; epilogues = 0; codes = t }) z
-
   pub part_stored : {es cs cs' : List ℕ} → cs' ≡ put cs 0 (code_numbers (slots_from (slot_at false p) 0 19)) → Stored (packed_part p) es es cs cs' n
   unfolding packed_part unwound packed_prologue epilogue_codes epilogue_numbers code_numbers put
   part_stored d = record { numbers = refl; codes = d }
@@ -192,27 +166,24 @@ module _ (p : Packed) {n : ℕ} (a : n ≡ length (slots_from (slot_at false p) 
 
 -- ---- records whose epilogues were counted
 
-pub total_none : (x : Option (List Epilogue)) → counted.Bad ≡ total_of x → x ≡ none
+pub total_none : (x : Option (List Epilogue)) → total_of x ≡ none → x ≡ none
 unfolding total_of
 total_none none e = refl
-total_none (some es) e = let z : ◌≡◌ {A = ℕ} 0 1 = cc in absurd (omega arith)
+total_none (some es) e = absurd cc
 
 -- as many epilogues as the header says
-pub many_of : (s : List ℕ) (h : Header) {all : List Epilogue} {m : ℕ} → counted.Is m ≡ total_of (record_epilogues h s) → record_epilogues h s ≡ some all → length all ≡ how_many h
+many_by : (s : List ℕ) (h : Header) {all : List Epilogue} {m : ℕ} (b : Bool) → h.single ≡ b → total_of (record_epilogues h s) ≡ some m → record_epilogues h s ≡ some all → length all ≡ how_many h
 unfolding epilogue
-many_of s h {all} {m} t e =
-    either h.single 0
-    (λ l. let z : h.single ≡ 0 = omega arith in scoped-length (words_from h.past s) (codes_of h s) 0 h.count all (sym (by_words s h refl z) ∙ e) ∙ sym (many_all h z))
-    (λ l.
-    let n : h.single ≢ 0 = λ e. omega arith in
-    let y : all ≡ epilogue (4 * (h.length - suc m)) (codes_in (run_at (codes_of h s) h.count)) ∷ [] = cc ((one s h refl n t).same, e) in
-    ap length y ∙ sym (many_one h n))
+many_by s h {all} false l t e = scoped-length (words_from h.past s) (codes_of h s) 0 h.count all (sym (by_words s h refl l) ∙ e) ∙ sym (many_all h l)
+many_by s h {all} {m} true l t e =
+    let y : all ≡ epilogue (4 * (h.length - suc m)) (codes_in (run_at (codes_of h s) h.count)) ∷ [] = cc ((one s h refl l t).same, e) in
+    ap length y ∙ sym (many_one h l)
 
 -- what a record with codes says, where it says something
 unfoldable pub recorded : Header → List ℕ → List ℕ → Unwound
 recorded h s codes = unwound h.length (reverse (codes_in (run_at codes 0))) (epilogues_in (record_epilogues h s))
 
-module _ (s : List ℕ) (h : Header) {codes : List ℕ} (c : codes ≡ codes_of h s) {n m : ℕ} (a : counted.Is n ≡ count_of (run_at codes 0)) (b : counted.Is m ≡ total_of (record_epilogues h s)) where
+module _ (s : List ℕ) (h : Header) {codes : List ℕ} (c : codes ≡ codes_of h s) {n m : ℕ} (a : count_of (run_at codes 0) ≡ some n) (b : total_of (record_epilogues h s) ≡ some m) where
   pub record_found : record_unwound h s ≡ some (recorded h s codes)
   unfolding recorded
   record_found = record_some h s c (counted_run (run_at codes 0) a).0 (total_some (record_epilogues h s) b).0
@@ -222,29 +193,19 @@ module _ (s : List ℕ) (h : Header) {codes : List ℕ} (c : codes ≡ codes_of 
   record_counts d = record {
     prologue = reverse-length (codes_in (run_at codes 0)) ∙ (counted_run (run_at codes 0) a).1;
     behind = (total_some (record_epilogues h s) b).1;
-    many = many_of s h b (total_some (record_epilogues h s) b).0 ∙ sym d;
+    many = many_by s h h.single refl b (total_some (record_epilogues h s) b).0 ∙ sym d;
   }
 
 -- ---- the record at a place
 
-no_header : (b : Bool) (g : Header) → Bad ≡ pick b (Is g) Bad → b ≡ false
-unfolding pick
-no_header true g e = let z : ◌≡◌ {A = ℕ} 0 1 = cc in absurd (omega arith)
-no_header false g e = refl
-
-some_header : (b : Bool) (g : Header) {h : Header} → Is h ≡ pick b (Is g) Bad → (b ≡ true) × (h ≡ g)
-unfolding pick
-some_header true g e = (refl, cc)
-some_header false g e = let z : ◌≡◌ {A = ℕ} 0 1 = cc in absurd (omega arith)
-
 module _ (s : List ℕ) (place : ℕ) (es cs : List ℕ) where
-  pub no_record : Bad ≡ headed_at s place → onward (full_record s place) (fits_in es cs) ≡ bad 76
+  pub no_record : headed_at s place ≡ none → onward (full_record s place) (fits_in es cs) ≡ bad 76
   unfolding headed_at full_record onward pick
-  no_record e = rw (no_header (record_ok s place) (header_at s place) e)
+  no_record e = grind arith
 
-  pub by_header : {h : Header} → Is h ≡ headed_at s place → onward (full_record s place) (fits_in es cs) ≡ found (record_unwound h s) es cs
+  pub by_header : {h : Header} → headed_at s place ≡ some h → onward (full_record s place) (fits_in es cs) ≡ found (record_unwound h s) es cs
   unfolding headed_at full_record found pick
-  by_header e = let t = some_header (record_ok s place) (header_at s place) e in rw (t.0, t.1)
+  by_header e = grind arith
 
 -- the bytes that the code takes
 pub codes_taken : (h : Header) (s : List ℕ) {from : ℕ} → from ≡ codes_from h → take (from + 4 * h.words - from) (drop from s) ≡ codes_of h s
@@ -259,20 +220,17 @@ module _ (word : ℕ) (s : List ℕ) (place : ℕ) (es cs : List ℕ) where
   word_record e = rw (if-eq (word % 4) 0)
 
   module _ (n : word % 4 ≢ 0) where
-    pub word_reserved : word % 4 ≡ 3 → read_arm64 word s place es cs ≡ bad 77
-    unfolding read_arm64 unwound_by onward
-    word_reserved e = rw (if-ne (word % 4) 0, if-eq (word % 4) 3)
+    pub word_no : (word % 4 ≡ 3) ⊎ ((word % 4 ≢ 3) × (4294967296 ≤ word)) → read_arm64 word s place es cs ≡ bad 77
+    unfolding read_arm64 unwound_by onward pick
+    word_no h = grind arith
 
-    module _ (m : word % 4 ≢ 3) where
-      pub word_packed : word < 4294967296 → read_arm64 word s place es cs ≡ found (packed_unwound (packed_of word)) es cs
-      unfolding read_arm64 unwound_by found
-      word_packed l = let g : suc word ≤ 4294967296 = omega arith in rw (if-ne (word % 4) 0, if-ne (word % 4) 3, if-le (suc word) 4294967296)
+    pub word_packed : word % 4 ≢ 3 → word < 4294967296 → read_arm64 word s place es cs ≡ found (packed_unwound (packed_of word)) es cs
+    unfolding read_arm64 unwound_by found
+    word_packed m l = let g : suc word ≤ 4294967296 = omega arith in rw (if-ne (word % 4) 0, if-ne (word % 4) 3, if-le (suc word) 4294967296)
 
-      pub word_wide : 4294967296 ≤ word → read_arm64 word s place es cs ≡ bad 77
-      unfolding read_arm64 unwound_by onward
-      word_wide l = let g : 4294967296 < suc word = omega arith in rw (if-ne (word % 4) 0, if-ne (word % 4) 3, if-gt (suc word) 4294967296)
+-- ---- the answer to C
 
--- the answer and both lists
-pub answers : {x y : Result Unwound} {r : Arm64Reading} {es es' cs cs' : List ℕ} → x ≡ y → Answered y r es es' cs cs'
-    → (r ≡ reading_of x) × ((es' ≡ epilogues_after es x) × (cs' ≡ codes_after cs x))
-answers e a = rw e (a.reading, (a.epilogues, a.codes))
+pub answered : (u : Result Unwound) {r : code.Result Arm64Reading ℕ} {x : Arm64Reading} → r ≡ result_of (answer_of u) → MatchResult r (λ y. x ≡ y) (λ n. x ≡ reading_of (bad n)) → x ≡ reading_of u
+unfolding answer_of
+answered (bad n) e m = rw e at m
+answered (good u) e m = rw e at m

@@ -1,12 +1,29 @@
 -- The answer and the lent lists of a reader, by what it found.
-use Rattle.std.specs.Prelude.{◌≡◌, List, ℕ}
+use Rattle.std.specs.Prelude.{◌≡◌, List, ℕ, ◌+◌, Bool, ◌&&◌, leb}
+use Rattle.std.specs.Prelude as code
 use Rattle.std.proofs.Math.Option.{Option}
-use Rattle.format.specs.Prelude.{Result, onward, or_else}
+use Rattle.format.specs.Prelude.{Result, good, bad, onward, or_else}
+use Rattle.format.specs.Coded.{result_of}
+use Rattle.format.specs.Lists.{count}
 use Rattle.arm64.specs.declared.Arm64Reading.{Arm64Reading}
+use Rattle.arm64.specs.Lists.{epilogue_stride, code_stride}
 use Rattle.arm64.specs.Reader.{Unwound, fits_in, reading_of, epilogues_after, codes_after}
 
-pub record Answered (u : Result Unwound) (r : Arm64Reading) (es es' cs cs' : List ℕ) : Type 0 where
-  pub reading : r ≡ reading_of u
+-- the reading where n codes of the prologue were found, and epilogues of m codes
+abbrev pub told : (length n epilogues m : ℕ) → Arm64Reading
+told length n epilogues m = record { number = 0; length = length; prologue = n; epilogues = epilogues; codes = n + m }
+
+-- the lent lists hold that many epilogues and codes
+unfoldable pub roomy : (es cs : List ℕ) → (epilogues codes : ℕ) → Bool
+roomy es cs epilogues codes = leb epilogues (count epilogue_stride es) && leb codes (count code_stride cs)
+
+-- the reading, or the question's number
+unfoldable pub answer_of : Result Unwound → Result Arm64Reading
+answer_of (bad n) = bad n
+answer_of (good u) = good (reading_of (good u))
+
+pub record Answered (u : Result Unwound) (r : code.Result Arm64Reading ℕ) (es es' cs cs' : List ℕ) : Type 0 where
+  pub reading : r ≡ result_of (answer_of u)
   pub epilogues : es' ≡ epilogues_after es u
   pub codes : cs' ≡ codes_after cs u
 

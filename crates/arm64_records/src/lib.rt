@@ -54,7 +54,7 @@ fn header_with(w: u64, count: u64, words: u64, past: u64) -> Header
 
 // How many words of epilogues stand behind the header: none where E is set.
 #[tactic(auto, unfolding(arm64::specs::Records::scopes_in, format::specs::Prelude::pick))]
-fn scopes_in(h: Header) -> u64
+pub fn scopes_in(h: Header) -> u64
     ensures { result ≡ scopes_in h }
 {
     if h.single { 0 } else { h.count }

@@ -1,13 +1,23 @@
 -- `arm64_reader::fragment` meets its contract.
-use mathlib.Core.Path.{refl}
+use mathlib.Core.Path.{◌≡◌, ap, ◌∙◌}
+use Prim.Native.Nat.{◌+◌}
 use native.Mathlib.Omega.{arith}
+use Rattle.std.specs.Prelude.{Ok}
 use Rattle.arm64.specs.Reader.{unwound}
-use Rattle.arm64_reader.proofs.Answers.{packed_part, packed_fragment, part_counts, part_answer, part_stored, few_codes, stored}
+use Rattle.arm64_reader.proofs.Answers.{packed_part, packed_fragment, part_counts, part_stored, has_room, no_room, stored}
+use Rattle.arm64_reader.specs.Answers.{roomy}
 use Rattle.arm64_reader.proofs.fragment.Goals as goal
 
-pub returns-then-cs-n : goal.returns-then-cs-n
-returns-then-cs-n c = few_codes c.args.es.now c.args.cs.now (packed_fragment c.args.p c.requires.2 c.requires.1) (part_counts c.args.p c.count_slots-n.ensures.0) (omega arith) (omega (arith, c.if-cs-n.true)) c.refused.ensures
+pub returns-in_err-room : goal.returns-in_err-room
+returns-in_err-room c =
+    let z : c.count_slots-n.result + 0 ≡ c.count_slots-n.result = omega arith in
+    no_room c.args.es.now c.args.cs.now (packed_fragment c.args.p c.requires.2 c.requires.1) (part_counts c.args.p c.count_slots-n.ensures.0) (ap (roomy c.args.es.now c.args.cs.now 0) z ∙ c.in_err-room.ensures.1) (grind (arith, c.from_residual.ensures, c.in_err-room.ensures.0))
+
+pub put_slots-requires : goal.put_slots-requires
+put_slots-requires c = (c.requires.0, omega (arith, c.count_slots-n.ensures.0, (has_room c.args.es.now c.args.cs.now c.in_ok-room.ensures).1))
 
 pub returns : goal.returns
 unfolding packed_part unwound
-returns c = stored c.args.es.now c.args.cs.now (packed_fragment c.args.p c.requires.2 c.requires.1) (part_counts c.args.p c.count_slots-n.ensures.0) (omega arith) (omega (arith, c.if-cs-n.false)) (part_answer c.args.p c.count_slots-n.ensures.0 refl) (part_stored c.args.p c.count_slots-n.ensures.0 c.put_slots-prologue.ensures.stored)
+returns c =
+    let z : c.count_slots-n.result + 0 ≡ c.count_slots-n.result = omega arith in
+    stored c.args.es.now c.args.cs.now (packed_fragment c.args.p c.requires.2 c.requires.1) (part_counts c.args.p c.count_slots-n.ensures.0) (ap (roomy c.args.es.now c.args.cs.now 0) z ∙ c.in_ok-room.ensures) (ap Ok c.reading.ensures) (part_stored c.args.p c.count_slots-n.ensures.0 c.put_slots.ensures.stored)

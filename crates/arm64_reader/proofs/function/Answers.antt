@@ -1,26 +1,30 @@
 -- `arm64_reader::function` meets its contract.
-use mathlib.Core.Path.{refl}
+use mathlib.Core.Path.{refl, ap}
 use native.Mathlib.Omega.{arith}
+use Rattle.std.specs.Prelude.{Ok}
+use Rattle.format.proofs.PutLaws.{kept}
 use Rattle.arm64.specs.Packed.{packed_epilogue}
 use Rattle.arm64.specs.Reader.{unwound}
-use Rattle.arm64_reader.proofs.Answers.{refuses, found_none, packed_whole, packed_late, packed_function, whole_counts, whole_stored, few_epilogues, few_codes, stored}
+use Rattle.arm64_reader.proofs.Answers.{refuses, found_none, packed_whole, packed_late, packed_function, whole_counts, whole_stored, has_room, no_room, stored}
 use Rattle.arm64_reader.proofs.function.Goals as goal
 
 pub returns-then-p-m : goal.returns-then-p-m
 unfolding packed_epilogue
-returns-then-p-m c = refuses (found_none c.args.es.now c.args.cs.now (packed_late c.args.p c.requires.2 c.requires.1 (omega (arith, c.if-p-m.true, c.count_slots-m.ensures.0)))) c.refused.ensures
+returns-then-p-m c = refuses (found_none c.args.es.now c.args.cs.now (packed_late c.args.p c.requires.2 c.requires.1 (omega (arith, c.if-p-m.true, c.count_slots-m.ensures.0)))) refl
 
-pub returns-then-es-lt3 : goal.returns-then-es-lt3
+pub returns-in_err-room : goal.returns-in_err-room
 unfolding packed_epilogue
-returns-then-es-lt3 c = few_epilogues c.args.es.now c.args.cs.now (packed_function c.args.p c.requires.2 c.requires.1 (omega (arith, c.if-p-m.false, c.count_slots-m.ensures.0))) (whole_counts c.args.p c.count_slots-n.ensures.0 c.count_slots-m.ensures.0) (omega (arith, c.if-es-lt3.true)) c.refused-then-es-lt3.ensures
+returns-in_err-room c = no_room c.args.es.now c.args.cs.now (packed_function c.args.p c.requires.2 c.requires.1 (omega (arith, c.if-p-m.false, c.count_slots-m.ensures.0))) (whole_counts c.args.p c.count_slots-n.ensures.0 c.count_slots-m.ensures.0) c.in_err-room.ensures.1 (grind (arith, c.from_residual.ensures, c.in_err-room.ensures.0))
 
-pub returns-then-cs-n : goal.returns-then-cs-n
-unfolding packed_epilogue
-returns-then-cs-n c = few_codes c.args.es.now c.args.cs.now (packed_function c.args.p c.requires.2 c.requires.1 (omega (arith, c.if-p-m.false, c.count_slots-m.ensures.0))) (whole_counts c.args.p c.count_slots-n.ensures.0 c.count_slots-m.ensures.0) (omega (arith, c.if-es-lt3.false)) c.if-cs-n.true c.refused-then-cs-n.ensures
+pub put_slots-requires : goal.put_slots-requires
+put_slots-requires c = (c.requires.0, omega (arith, c.count_slots-n.ensures.0, (has_room c.args.es.now c.args.cs.now c.in_ok-room.ensures).1))
 
-pub overflow_mul-result : goal.overflow_mul-result
-overflow_mul-result c = omega (arith, c.requires.0.small.low_length)
+pub put_slots-requires-2 : goal.put_slots-requires-2
+put_slots-requires-2 c = (c.requires.0, omega (arith, c.count_slots-m.ensures.0, kept c.put_slots.ensures, (has_room c.args.es.now c.args.cs.now c.in_ok-room.ensures).1))
+
+pub put_three-requires : goal.put_three-requires
+put_three-requires c = omega (arith, (has_room c.args.es.now c.args.cs.now c.in_ok-room.ensures).0)
 
 pub returns : goal.returns
 unfolding packed_epilogue packed_whole unwound
-returns c = stored c.args.es.now c.args.cs.now (packed_function c.args.p c.requires.2 c.requires.1 (omega (arith, c.if-p-m.false, c.count_slots-m.ensures.0))) (whole_counts c.args.p c.count_slots-n.ensures.0 c.count_slots-m.ensures.0) (omega (arith, c.if-es-lt3.false)) (omega (arith, c.if-cs-n.false)) refl (whole_stored c.args.p c.count_slots-n.ensures.0 c.count_slots-m.ensures.0 c.put_three-place.ensures c.put_slots-prologue.ensures c.put_slots-epilogue.ensures)
+returns c = stored c.args.es.now c.args.cs.now (packed_function c.args.p c.requires.2 c.requires.1 (omega (arith, c.if-p-m.false, c.count_slots-m.ensures.0))) (whole_counts c.args.p c.count_slots-n.ensures.0 c.count_slots-m.ensures.0) c.in_ok-room.ensures (ap Ok c.reading.ensures) (whole_stored c.args.p c.count_slots-n.ensures.0 c.count_slots-m.ensures.0 c.put_three.ensures c.put_slots.ensures c.put_slots-2.ensures)
