@@ -34,7 +34,10 @@ abbrev pub left_of : code.Result (code.Option ℕ) ℕ → Result Slot
 left_of (Ok o) = good (slot_of o)
 left_of (Err n) = bad n
 
+abbrev pub caller_as : Caller → walk.Caller
+caller_as c = record { slots = slots c.registers; pc = c.pc; exact = c.exact }
+
 abbrev pub step_of : code.Result (code.Option Caller) ℕ → Result (Option walk.Caller)
-step_of (Ok (Some c)) = good (some (record { slots = slots c.registers; pc = c.pc; exact = c.exact }))
+step_of (Ok (Some c)) = good (some (caller_as c))
 step_of (Ok None) = good none
 step_of (Err n) = bad n

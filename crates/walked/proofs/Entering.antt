@@ -7,33 +7,34 @@ use mathlib.Core.Option.{Option, none, some}
 use mathlib.Core.List.{List, [], ◌∷◌}
 use lib.Dec.{T, leb, eqb, leb→le, eqb→eq}
 use lib.ListN.{length, take, drop}
+use lib.Seq.{length-take-le}
 use mir.Facts.{and_yes}
 use Rattle.format.specs.Prelude.{pick, Read, next, after, Result, good, bad, onward, or_else}
+use Rattle.std.specs.Prelude.{Some, None, Ok, Err}
+use Rattle.std.specs.Prelude as code
 use Rattle.format.specs.Put.{put}
 use Rattle.format.specs.declared.Machine.{Machine}
 use Rattle.format.specs.Machine.{machine_ok, machine_of}
 use Rattle.format.specs.Reader.{require}
 use Rattle.format.proofs.Choice.{if-le, if-gt, if-eq, if-ne}
-use Rattle.format.proofs.ListLaws.{each-length}
+use Rattle.operations.proofs.PositionLaws.{both_are}
 use Rattle.walk.specs.Recorded.{Slot, Trailer, matches, read_trailer, read_recorded, slots_of}
-use Rattle.walk.specs.Walk.{Source, Chain, frame_numbers, frames_f, fitting, walk_by}
-use Rattle.walk.specs.Standing.{trailer_of, frame_at, frames_of}
-use Rattle.walk.specs.declared.Trailer.TheVariants as trailer
-use Rattle.walked.specs.declared.Walked.{Walked}
+use Rattle.walk.specs.Walk.{Source, Memory, frame_numbers, frames_f, fitting, walk_by}
+use Rattle.walk.specs.Walk as walk
+use Rattle.walk.specs.Standing.{trailer_of}
+use Rattle.walked.specs.declared.chain.Chain.{Chain}
 use Rattle.walked.specs.Standing.{walked_of, fault_of}
 use Rattle.walked.specs.Entry.{chain_numbers, chain_stored}
 
 -- ---- the trailer
 
-pub trailer_bad : (o : Option Trailer) → trailer_of o ≡ trailer.Bad → o ≡ none
-unfolding trailer_of
+pub trailer_bad : (o : Option Trailer) → None ≡ trailer_of o → o ≡ none
 trailer_bad none e = refl
 trailer_bad (some t) e = let z : ◌≡◌ {A = ℕ} 0 1 = cc in absurd (omega arith)
 
-pub trailer_is : (o : Option Trailer) {a b : ℕ} → trailer_of o ≡ trailer.Numbers a b → o ≡ some (record { size = a; count = b })
-unfolding trailer_of
+pub trailer_is : (o : Option Trailer) {a b : ℕ} → Some (a, b) ≡ trailer_of o → o ≡ some (record { size = a; count = b })
 trailer_is none e = let z : ◌≡◌ {A = ℕ} 0 1 = cc in absurd (omega arith)
-trailer_is (some t) {a} {b} e = let p : t.size ≡ a = cc in let q : t.count ≡ b = cc in ap₂ (λ (x y : ℕ). some (record { size = x; count = y })) p q
+trailer_is (some t) e = ap₂ (λ (x y : ℕ). some (record { size = x; count = y })) (sym (both_are e).0) (sym (both_are e).1)
 
 required : {A : Type 0} (t : Bool) (o : Option A) {a : A} → require t o ≡ some a → T t × (o ≡ some a)
 unfolding require pick
@@ -70,8 +71,8 @@ trailer_inside file {a} {b} e =
 
 -- ---- the machine
 
-module _ (ms : List ℕ) (frames : Result Chain) where
-  abbrev pub asked : Result Chain
+module _ (ms : List ℕ) (frames : Result walk.Chain) where
+  abbrev pub asked : Result walk.Chain
   asked = pick (machine_ok ms) (pick (eqb (machine_of ms).word 8) frames (bad 12)) (bad 11)
 
   pub no_machine : machine_ok ms ≡ false → bad 11 ≡ asked
@@ -88,10 +89,10 @@ module _ (ms : List ℕ) (frames : Result Chain) where
     right_word e = rw (ok, ← is) (sym (if-eq m.word 8 frames (bad 12) e))
 
 -- the frames, by what the code made of the machine and of the file
-pub frames_of_lem : (src : Source) (stack pc : ℕ) (bytes functions : List ℕ) {m n : Machine} {ss ts : List Slot} → m ≡ n → ss ≡ ts
-    → frames_f src (fault_of m stack bytes functions) 64 (record { slots = ss; pc = pc; exact = true })
-    ≡ frames_f src (fault_of n stack bytes functions) 64 (record { slots = ts; pc = pc; exact = true })
-frames_of_lem src stack pc bytes functions e f = rw (e, f)
+pub frames_of_lem : (src : Source) (pc : ℕ) (memory : Memory) (functions : List ℕ) {m n : Machine} {ss ts : List Slot} → m ≡ n → ss ≡ ts
+    → frames_f src (fault_of m memory functions) 64 (record { slots = ss; pc = pc; exact = true })
+    ≡ frames_f src (fault_of n memory functions) 64 (record { slots = ts; pc = pc; exact = true })
+frames_of_lem src pc memory functions e f = rw (e, f)
 
 -- ---- the whole
 
@@ -100,7 +101,7 @@ module _ (src : Source) (ms file : List ℕ) (pc stack : ℕ) (functions : List 
   unfolding walk_by read_recorded onward or_else after
   no_file e = rw e
 
-  moved : (a b : Bool) (r : Result Chain)
+  moved : (a b : Bool) (r : Result walk.Chain)
       → pick a (pick b (onward r (fitting room)) (bad 12)) (bad 11) ≡ onward (pick a (pick b r (bad 12)) (bad 11)) (fitting room)
   unfolding pick onward
   moved true true r = refl
@@ -109,47 +110,43 @@ module _ (src : Source) (ms file : List ℕ) (pc stack : ℕ) (functions : List 
 
   pub with_file : {size count : ℕ} → read_trailer file ≡ some (record { size = size; count = count })
       → walk_by src ms file pc stack functions room
-      ≡ onward (asked ms (frames_f src (fault_of (machine_of ms) stack (take size file) functions) 64 (record { slots = slots_of count (drop size file); pc = pc; exact = true }))) (fitting room)
+      ≡ onward (asked ms (frames_f src (fault_of (machine_of ms) (record { address = stack; bytes = take size file }) functions) 64 (record { slots = slots_of count (drop size file); pc = pc; exact = true }))) (fitting room)
   unfolding walk_by read_recorded onward or_else after
   with_file e = rw e (moved (machine_ok ms) (eqb (machine_of ms).word 8) _)
 
 -- ---- the list that is lent
 
-abbrev pub Answers : Result Chain → List ℕ → (old new : List ℕ) → Type 0
+abbrev pub Answers : Result walk.Chain → List ℕ → (old new : List ℕ) → Type 0
 Answers r ns old new = (ns ≡ chain_numbers r) × (new ≡ chain_stored r old)
 
-pub refuses : {r : Result Chain} {n : ℕ} {ns old : List ℕ} → r ≡ bad n → ns ≡ n ∷ 0 ∷ 0 ∷ [] → Answers r ns old old
+pub refuses : {r : Result walk.Chain} {n : ℕ} {ns old : List ℕ} → r ≡ bad n → ns ≡ n ∷ 0 ∷ 0 ∷ [] → Answers r ns old old
 unfolding chain_numbers chain_stored
 refuses e h = (h ∙ rw e, rw e)
 
-module _ (r : Walked) where
-  pub walked_bad : (room : ℕ) → r.refused ≡ true → onward (walked_of r) (fitting room) ≡ bad r.number
-  unfolding walked_of pick onward
-  walked_bad room e = rw e
+module _ {r : code.Result Chain ℕ} (old : List ℕ) where
+  pub refused : {n : ℕ} {ns : List ℕ} → r ≡ Err n → ns ≡ n ∷ 0 ∷ 0 ∷ [] → Answers (onward (walked_of r) (fitting (length old))) ns old old
+  unfolding onward
+  refused e h = refuses (rw e) h
 
-  module _ (e : r.refused ≡ false) where
-    chain : Chain
-    chain = record { frames = frames_of r.frames.positions r.frames.pcs r.count; ending = r.ending }
+  module _ {c : Chain} (e : r ≡ Ok c) (few : c.count ≤ length c.frames) where
+    as_chain : onward (walked_of r) (fitting (length old)) ≡ fitting (length old) (record { frames = take c.count c.frames; ending = c.ending })
+    unfolding onward
+    as_chain = rw e
 
-    as_chain : (room : ℕ) → onward (walked_of r) (fitting room) ≡ fitting room chain
-    unfolding walked_of pick onward chain
-    as_chain room = rw e
+    counted : length (take c.count c.frames) ≡ c.count
+    counted = length-take-le c.count c.frames few
 
-    counted : length chain.frames ≡ r.count
-    unfolding chain frames_of
-    counted = each-length (frame_at r.frames.positions r.frames.pcs) 0 r.count
-
-    pub no_room : (room : ℕ) → room / 2 < r.count → onward (walked_of r) (fitting room) ≡ bad 54
+    pub no_room : {ns : List ℕ} → length old / 2 < c.count → ns ≡ 54 ∷ 0 ∷ 0 ∷ [] → Answers (onward (walked_of r) (fitting (length old))) ns old old
     unfolding fitting
-    no_room room h = as_chain room ∙ if-gt (length chain.frames) (room / 2) (good chain) (bad 54) (rw counted h)
+    no_room h k = refuses (as_chain ∙ if-gt (length (take c.count c.frames)) (length old / 2) _ (bad 54) (rw counted h)) k
 
-    pub stored : (old : List ℕ) {new : List ℕ} → r.count ≤ length old / 2 → new ≡ put old 0 (frame_numbers (frames_of r.frames.positions r.frames.pcs r.count))
-        → Answers (onward (walked_of r) (fitting (length old))) (0 ∷ r.count ∷ r.ending ∷ []) old new
-    unfolding fitting chain_numbers chain_stored chain
-    stored old h q =
-        let d = as_chain (length old) ∙ if-le (length chain.frames) (length old / 2) (good chain) (bad 54) (rw counted h) in
+    pub stored : {new : List ℕ} → c.count ≤ length old / 2 → new ≡ put old 0 (frame_numbers (take c.count c.frames))
+        → Answers (onward (walked_of r) (fitting (length old))) (0 ∷ c.count ∷ c.ending ∷ []) old new
+    unfolding fitting chain_numbers chain_stored
+    stored h q =
+        let d = as_chain ∙ if-le (length (take c.count c.frames)) (length old / 2) (good _) (bad 54) (rw counted h) in
         (rw (d, counted), rw d q)
 
 -- the answer of the walk that was made, as the walk of the definition
-pub answers_as : {x y r : Result Chain} (f : Chain → Result Chain) (old : List ℕ) {ns new : List ℕ} → x ≡ y → r ≡ onward y f → Answers (onward x f) ns old new → Answers r ns old new
+pub answers_as : {x y r : Result walk.Chain} (f : walk.Chain → Result walk.Chain) (old : List ℕ) {ns new : List ℕ} → x ≡ y → r ≡ onward y f → Answers (onward x f) ns old new → Answers r ns old new
 answers_as f old e d h = rw (d, ← e) h

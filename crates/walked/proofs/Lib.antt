@@ -2,6 +2,5 @@
 pub mod Rules
 pub mod Silent
 pub mod Marking
-pub mod Finding
 pub mod Steps
 pub mod Entering

@@ -9,9 +9,9 @@ use lib.Dec.{eqb}
 use lib.ListN.{length, get_or, set, drop, drop_of_length-le}
 use lib.Seq.{get_or-set_same, get_or-set_other}
 use borrow.Author.Tests.{eqb-true, eqb-false}
+use Rattle.std.specs.Prelude.{Some, None}
 use Rattle.format.specs.declared.Operation.{Operation}
 use Rattle.operations.specs.declared.fields.Position.{Position}
-use Rattle.operations.specs.declared.Decoded.TheVariants as decoded
 use Rattle.format.specs.Rows.{read_operation}
 use Rattle.operations.specs.Positions.{operation_at, from}
 use Rattle.operations.proofs.OperationLaws.{operation_ahead, operation_rest, operation_none}
@@ -42,14 +42,14 @@ module _ {word : ℕ} {ops : List ℕ} {m₀ m : List Bool} {at : Position} (k :
   finished : read_operation word (drop at.at ops) ≡ none → MarkedAll m₀ m word ops
   finished d = λ q b e. let r = k.rest q b e in (r.0, r.1 (ends d))
 
-  pub mark_bad : operation_at word ops at ≡ decoded.Bad → MarkedAll m₀ m word ops
+  pub mark_bad : operation_at word ops at ≡ None → MarkedAll m₀ m word ops
   mark_bad e = finished (operation_none word ops at e)
 
   pub mark_ended : length ops ≤ at.at → MarkedAll m₀ m word ops
   unfolding read_operation
   mark_ended h = finished (rw (drop_of_length-le ops h))
 
-  module _ {op : Operation} {next : Position} (e : operation_at word ops at ≡ decoded.Operation op next) where
+  module _ {op : Operation} {next : Position} (e : operation_at word ops at ≡ Some (op, next)) where
     pub mark_shorter : at.at < length ops → length ops - next.at < length ops - at.at
     mark_shorter h = omega (arith, operation_ahead word ops at e)
 

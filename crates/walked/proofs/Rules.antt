@@ -12,19 +12,17 @@ use Rattle.format.specs.Machine.{is_word_size}
 use Rattle.format.specs.Lists.{relocations_of}
 use Rattle.format.specs.Rules.{AllRules, State, rules_for, seen, answer}
 use Rattle.format.specs.Reader.{locate, run_to}
-use Rattle.format.proofs.Choice.{if-eq, if-ne, is_true}
+use Rattle.format.proofs.Choice.{is_true}
 use Rattle.reader.specs.Finds.{Stated, locate_in, in_section, rules_from}
 use Rattle.reader.proofs.Asked.{all_inside, fits}
 use Rattle.reader.specs.declared.location.Located.{Located}
 use Rattle.walk.specs.Recorded.{Slot}
 use Rattle.walk.specs.Walk.{Memory, Ruled, left_by, left_from, left, frame_address, undefined, returned_to, caller_of, by_section}
-use Rattle.walk.specs.Standing.{slots, address_of}
-use Rattle.walk.specs.declared.Address.TheVariants as address
+use Rattle.format.specs.Coded.{result_of}
 use Rattle.format.specs.declared.Machine.{Machine}
 use mathlib.Core.Option.{none, some}
 use lib.ListN.{length, set}
-use Rattle.walked.specs.declared.AllLeft.{AllLeft}
-use Rattle.walked.specs.Standing.{state_in, is_good, rules_of, rules_in, ruled_in, source_in, all_left}
+use Rattle.walked.specs.Standing.{state_in, is_good, rules_of, rules_in, ruled_in, source_in}
 
 answered_of : (o : Result State) (q : ℕ) {x : Rules} → answer q o ≡ Ok x → (T (is_good o)) × (x ≡ rules_for q (rules_of o))
 unfolding answer seen is_good rules_of
@@ -52,45 +50,33 @@ module _ (s : List ℕ) (l : Located) (q p : ℕ) where
   pub never : {n : ℕ} → rules_from s l q p ≡ Err n → T (is_good (state_in s l p)) → ⊥
   never e t = not_good (refused e) t
 
-refused_address : (r : Result ℕ) {n : ℕ} → address_of r ≡ address.Refused n → r ≡ bad n
-unfolding address_of
-refused_address (good a) e = let z : ◌≡◌ {A = ℕ} 0 1 = cc in absurd (omega arith)
-refused_address (bad n) e = cc
-
-found_address : (r : Result ℕ) {a : ℕ} → address_of r ≡ address.At a → r ≡ good a
-unfolding address_of
-found_address (good a) e = cc
-found_address (bad n) e = let z : ◌≡◌ {A = ℕ} 0 1 = cc in absurd (omega arith)
-
--- all registers, or a refusal
-pub all_bad : (r : AllLeft) → (r.number ≡ 0 → ⊥) → bad r.number ≡ all_left r
-unfolding all_left
-all_bad r e = sym (if-ne r.number 0 _ _ e)
-
-pub all_good : (r : AllLeft) → r.number ≡ 0 → good (slots r.file) ≡ all_left r
-unfolding all_left
-all_good r e = sym (if-eq r.number 0 _ _ e)
-
 -- ---- a caller, by what is asked before it
 
-module _ (ret : ℕ) (signing exact : Bool) (x : Result (List Slot)) (r : AllLeft) where
-  pub resumed_bad : (r.number ≡ 0 → ⊥) → all_left r ≡ x → bad r.number ≡ onward x (λ ss. returned_to ss ret signing exact)
+module _ (ret : ℕ) (signing exact : Bool) {x : Result (List Slot)} where
+  pub resumed_bad : {n : ℕ} → bad n ≡ x → bad n ≡ onward x (λ ss. returned_to ss ret signing exact)
   unfolding onward
-  resumed_bad z e = let b = sym e ∙ sym (all_bad r z) in rw b
+  resumed_bad e = rw (← e)
 
-  pub resumed_good : r.number ≡ 0 → all_left r ≡ x → returned_to (slots r.file) ret signing exact ≡ onward x (λ ss. returned_to ss ret signing exact)
+  pub resumed_good : (ss : List Slot) → good ss ≡ x → returned_to ss ret signing exact ≡ onward x (λ ss. returned_to ss ret signing exact)
   unfolding onward
-  resumed_good z e = let b = sym e ∙ sym (all_good r z) in rw b
+  resumed_good ss e = rw (← e)
 
 module _ (m : Memory) (stack cfa : ℕ) (u : AllRules) (before : List Slot) where
-  pub left_bad : (r : AllLeft) → (r.number ≡ 0 → ⊥) → all_left r ≡ left_from (λ reg. left_by m cfa before reg (u.rules reg)) 0 128 → bad r.number ≡ left m stack cfa u before
+  pub left_bad : {n : ℕ} → bad n ≡ left_from (λ reg. left_by m cfa before reg (u.rules reg)) 0 128 → bad n ≡ left m stack cfa u before
   unfolding left onward
-  left_bad r z e = let b = sym e ∙ sym (all_bad r z) in rw b
+  left_bad e = rw (← e)
 
-  pub left_good : (r : AllLeft) → r.number ≡ 0 → all_left r ≡ left_from (λ reg. left_by m cfa before reg (u.rules reg)) 0 128
-      → good (set (slots r.file) stack (some cfa)) ≡ left m stack cfa u before
+  pub left_good : (ss : List Slot) → good ss ≡ left_from (λ reg. left_by m cfa before reg (u.rules reg)) 0 128 → good (set ss stack (some cfa)) ≡ left m stack cfa u before
   unfolding left onward
-  left_good r z e = let b = sym e ∙ sym (all_good r z) in rw b
+  left_good ss e = rw (← e)
+
+address_bad : (r : Result ℕ) {n : ℕ} → Err n ≡ result_of r → r ≡ bad n
+address_bad (good a) e = let z : ◌≡◌ {A = ℕ} 0 1 = cc in absurd (omega arith)
+address_bad (bad n) e = cc
+
+address_good : (r : Result ℕ) {a : ℕ} → Ok a ≡ result_of r → r ≡ good a
+address_good (good a) e = cc
+address_good (bad n) e = let z : ◌≡◌ {A = ℕ} 0 1 = cc in absurd (omega arith)
 
 module _ (k : Machine) (m : Memory) (u : Ruled) (before : List Slot) where
   pub caller_none : undefined (u.rules.rules k.ret) ≡ true → good none ≡ caller_of k m u before
@@ -98,14 +84,14 @@ module _ (k : Machine) (m : Memory) (u : Ruled) (before : List Slot) where
   caller_none e = rw e
 
   module _ (d : undefined (u.rules.rules k.ret) ≡ false) where
-    pub caller_bad : {n : ℕ} → address_of (frame_address u.rules.cfa before) ≡ address.Refused n → bad n ≡ caller_of k m u before
+    pub caller_bad : {n : ℕ} → Err n ≡ result_of (frame_address u.rules.cfa before) → bad n ≡ caller_of k m u before
     unfolding caller_of pick onward
-    caller_bad e = rw (d, refused_address (frame_address u.rules.cfa before) e)
+    caller_bad e = rw (d, address_bad (frame_address u.rules.cfa before) e)
 
-    pub caller_at : {cfa : ℕ} → address_of (frame_address u.rules.cfa before) ≡ address.At cfa
+    pub caller_at : {cfa : ℕ} → Ok cfa ≡ result_of (frame_address u.rules.cfa before)
         → onward (left m k.stack cfa u.rules before) (λ ss. returned_to ss k.ret u.rules.signing u.signal) ≡ caller_of k m u before
     unfolding caller_of pick onward
-    caller_at e = rw (d, found_address (frame_address u.rules.cfa before) e)
+    caller_at e = rw (d, address_good (frame_address u.rules.cfa before) e)
 
 -- ---- what the reader says of a record that was located
 

@@ -1,18 +1,19 @@
 -- What the types of the code stand for, and the rules at an offset of a record that was located.
-use Rattle.std.specs.Prelude.{ℕ, Bool, true, false, List, eqb}
+use Rattle.std.specs.Prelude.{ℕ, Bool, true, false, List, take, Ok, Err}
+use Rattle.std.specs.Prelude as code
 use Rattle.format.specs.Prelude.{pick, Result, good, bad, onward}
 use Rattle.format.specs.Rules.{AllRules, State, blank}
 use Rattle.format.specs.Reader.{run_to}
 use Rattle.reader.specs.Finds.{found, in_section}
 use Rattle.reader.specs.declared.location.Located.{Located}
 use Rattle.walk.specs.Recorded.{Slot}
-use Rattle.walk.specs.Walk.{Ruled, Fault, Chain, placed_of, held_by_none, too_many}
-use Rattle.walk.specs.Standing.{slots, memory_of, frames_of}
-use Rattle.walk.specs.declared.Holder.{Holder}
-use Rattle.walk.specs.declared.Holder.TheVariants as holder
+use Rattle.walk.specs.Walk.{Source, Memory, Ruled, Fault, placed_of, by_section}
+use Rattle.walk.specs.Walk as walk
+use Rattle.walk.specs.Standing.{slots}
 use Rattle.format.specs.declared.Machine.{Machine}
-use Rattle.walked.specs.declared.AllLeft.{AllLeft}
-use Rattle.walked.specs.declared.Walked.{Walked}
+use Rattle.walked.specs.declared.Place.{Place}
+use Rattle.walked.specs.declared.Section.{Section}
+use Rattle.walked.specs.declared.chain.Chain.{Chain}
 
 unfoldable pub state_in : List ℕ → Located → (p : ℕ) → Result State
 state_in s l p = pick (in_section s l) (run_to l.word p (found s l)) (bad 64)
@@ -36,18 +37,32 @@ ruled_in s l p = record { rules = rules_in s l p; signal = l.signal }
 unfoldable pub source_in : List ℕ → Located → (p : ℕ) → Result Ruled
 source_in s l p = onward (state_in s l p) λ t. good (record { rules = t.current; signal = l.signal })
 
-unfoldable pub all_left : AllLeft → Result (List Slot)
-all_left r = pick (eqb r.number 0) (good (slots r.file)) (bad r.number)
+-- ---- a place of the code
+
+abbrev pub state_at : Place → Result State
+state_at x = state_in x.section.now x.located x.p
+
+abbrev pub rules_at : Place → AllRules
+rules_at x = rules_in x.section.now x.located x.p
+
+abbrev pub ruled_at : Place → Ruled
+ruled_at x = ruled_in x.section.now x.located x.p
+
+abbrev pub source_at : Place → Result Ruled
+source_at x = source_in x.section.now x.located x.p
+
+abbrev pub section_of : Section → Source
+section_of x = by_section x.bytes.now x.relocations.now x.kind
+
+abbrev pub all_left : code.Result (List (code.Option ℕ)) ℕ → Result (List Slot)
+all_left (Ok rs) = good (slots rs)
+all_left (Err n) = bad n
 
 -- ---- the frames
 
-unfoldable pub walked_of : Walked → Result Chain
-walked_of r = pick r.refused (bad r.number) (good (record { frames = frames_of r.frames.positions r.frames.pcs r.count; ending = r.ending }))
+abbrev pub walked_of : code.Result Chain ℕ → Result walk.Chain
+walked_of (Ok c) = good (record { frames = take c.count c.frames; ending = c.ending })
+walked_of (Err n) = bad n
 
--- the ending behind 64 frames
-unfoldable pub full_ending : Holder → ℕ
-full_ending holder.Nobody = held_by_none
-full_ending (holder.At position offset) = too_many
-
-abbrev pub fault_of : Machine → (address : ℕ) → (stack functions : List ℕ) → Fault
-fault_of m address stack functions = record { machine = m; memory = memory_of address stack; functions = placed_of functions }
+abbrev pub fault_of : Machine → Memory → (functions : List ℕ) → Fault
+fault_of m memory functions = record { machine = m; memory = memory; functions = placed_of functions }

@@ -2,46 +2,49 @@
 #![tactic(auto)]
 
 ghost use Rattle.std.specs.Prelude.{◌≡◌, true, false, [], ◌∷◌, ◌<◌, ◌≤◌, T, eqb, length, take, drop};
-ghost use Rattle.format.specs.Prelude.{pick, after, good, bad, onward};
+ghost use Rattle.format.specs.Prelude.{pick, good, bad, onward};
 ghost use Rattle.format.specs.Machine.{is_word_size, machine_ok, machine_of};
 ghost use Rattle.format.specs.Rules.{rules_for};
 ghost use Rattle.format.specs.declared.Rule.TheVariants.{Unstated};
 ghost use Rattle.walk.specs.Recorded.{slots_of};
-ghost use Rattle.walk.specs.Walk.{left_by, left_from, left, returned_to, caller_of, by_section, looked_up, held_from, placed_of, frames_f, fitting, walk_by};
-ghost use Rattle.walk.specs.Standing.{memory_of, both, slots, left_of, step_of, holder_of, frames_of};
+ghost use Rattle.walk.specs.Walk.{left_by, left_from, left, returned_to, caller_of, frames_f, fitting, walk_by, by_section};
+ghost use Rattle.walk.specs.Standing.{memory_of, slots, left_of, caller_as, step_of};
 ghost use Rattle.walked.specs.Entry.{numbers_of, chain_numbers, chain_stored};
 ghost use Rattle.walked.specs.Named.{names, operation_names, Marked, MarkedAll, MarksIn};
-ghost use Rattle.walked.specs.Standing.{state_in, is_good, rules_in, ruled_in, source_in, all_left, walked_of, full_ending, fault_of};
+ghost use Rattle.walked.specs.Standing.{is_good, state_at, rules_at, ruled_at, source_at, section_of, all_left, walked_of, fault_of};
 
+use crate::chain::Chain;
 use format::{Machine, Operation, Row, Rules};
-use operations::Decoded;
 use operations::fields::Position;
-use reader::location::{Located, Locating};
-use walk::{Address, File, Frames, Holder, Left, Step, Trailer};
+use reader::location::Located;
+use walk::{Caller, Frame, Memory};
+
+pub mod chain;
+
+// An offset of a record that was located.
+#[derive(Clone, Copy)]
+pub struct Place<'a> {
+    pub section: &'a [u8],
+    pub located: Located,
+    pub p: u64,
+}
 
 // ---- the registers that a record and its header name
 
 // The registers 0 to 127 that an operation names.
+// Kept: a struct around the array, since the borrow checker does not cover a loop that assigns a call's array to a local.
 #[derive(Clone, Copy)]
 pub struct Marks {
     pub named: [bool; 128],
 }
 
-fn unmarked() -> Marks {
-    Marks {
-        named: [false; 128],
-    }
-}
-
-fn mark(m: Marks, reg: u16) -> Marks
+fn mark(mut m: Marks, reg: u16) -> Marks
     ensures { Marked m.named result.named (λ q. eqb q reg) }
 {
-    if 128 <= reg {
-        return m;
+    if reg < 128 {
+        m.named[reg as usize] = true;
     }
-    let mut named = m.named;
-    named[reg as usize] = true;
-    Marks { named }
+    m
 }
 
 fn mark_row(m: Marks, row: Row) -> Marks
@@ -80,7 +83,7 @@ fn mark_all(ops: &[u8], word: u64, start: Marks) -> Marks
     let mut m = start;
     let mut at = Position::START;
     while at.at < ops.len() {
-        let Decoded::Operation(op, next) = operations::operation(ops, at, word) else {
+        let Some((op, next)) = operations::operation(ops, at, word) else {
             return m;
         };
         m = mark_operation(m, op);
@@ -94,121 +97,63 @@ fn named(section: &[u8], l: Located) -> Marks
     requires { T (is_word_size l.word) × (l.header ≤ l.header_end) × (l.header_end ≤ length section.now) × (l.«record» ≤ l.record_end) × (l.record_end ≤ length section.now) }
     ensures { MarksIn section.now l result.named }
 {
-    let from = l.header;
-    let to = l.header_end;
-    let m = mark_all(&section[from..to], l.word, unmarked());
-    let start = l.record;
-    let end = l.record_end;
-    mark_all(&section[start..end], l.word, m)
+    let unmarked = Marks {
+        named: [false; 128],
+    };
+    let m = mark_all(&section[l.header..l.header_end], l.word, unmarked);
+    mark_all(&section[l.record..l.record_end], l.word, m)
 }
 
 // ---- the registers of a frame that is left
 
 // One register: kept where no operation names it, and else by the rule that the reader gives.
-fn one<'a>(
-    values: &'a [u64; 128],
-    present: &'a [bool; 128],
+fn one(
+    registers: &[Option<u64>],
     named: bool,
-    section: &[u8],
-    l: Located,
-    p: u64,
+    at: Place,
     reg: usize,
-    stack: &[u8],
-    address: u64,
+    m: Memory,
     cfa: u64,
-) -> Left
-    requires { (reg < 128) × (length values.now ≡ 128) × (length present.now ≡ 128) × T (is_good (state_in section.now l p)) × (named ≡ false → (rules_in section.now l p).rules reg ≡ Unstated) }
-    ensures { left_of result ≡ left_by (memory_of address stack.now) cfa (both values.now present.now) reg ((rules_in section.now l p).rules reg) }
+) -> Result<Option<u64>, u64>
+    requires { (reg < 128) × T (is_good (state_at at)) × (named ≡ false → (rules_at at).rules reg ≡ Unstated) }
+    ensures { left_of result ≡ left_by (memory_of m.entry) cfa (slots registers.now) reg ((rules_at at.entry).rules reg) }
 {
     if !named {
-        return walk::kept(values, present, reg);
+        return Ok(walk::slot(registers, reg));
     }
-    match reader::rules_at(section, l, reg as u16, p) {
-        Ok(rules) => {
-            let rule = rules.rule;
-            walk::left_by(values, present, rule, reg, stack, address, cfa)
-        }
-        Err(n) => Left {
-            number: n,
-            present: false,
-            value: 0,
-        },
-    }
-}
-
-// All registers, or a refusal's number.
-#[derive(Clone, Copy)]
-pub struct AllLeft {
-    pub number: u64,
-    pub file: File,
+    let rules = reader::rules_at(at.section, at.located, reg as u16, at.p)?;
+    walk::left_by(registers, rules.rule, reg, m, cfa)
 }
 
 fn all_left(
-    old: File,
-    section: &[u8],
-    l: Located,
-    p: u64,
-    stack: &[u8],
-    address: u64,
+    before: [Option<u64>; 128],
+    at: Place,
+    m: Memory,
     cfa: u64,
-) -> AllLeft
-    requires { T (is_good (state_in section.now l p)) }
-    ensures { all_left result ≡ left_from (λ reg. left_by (memory_of address stack.now) cfa (slots old) reg ((rules_in section.now l p).rules reg)) 0 128 }
+) -> Result<[Option<u64>; 128], u64>
+    requires { T (is_good (state_at at)) }
+    ensures { all_left result ≡ left_from (λ reg. left_by (memory_of m.entry) cfa (slots before) reg ((rules_at at.entry).rules reg)) 0 128 }
 {
-    let marks = named(section, l);
-    let vs = old.values;
-    let ps = old.present;
-    let mut values = vs;
-    let mut present = ps;
-    let mut i = 0;
-    while i < 128 {
-        let f = one(
-            &vs,
-            &ps,
-            marks.named[i],
-            section,
-            l,
-            p,
-            i,
-            stack,
-            address,
-            cfa,
-        );
-        if f.number != 0 {
-            return AllLeft {
-                number: f.number,
-                file: old,
-            };
-        }
-        values[i] = f.value;
-        present[i] = f.present;
-        i += 1;
+    let marks = named(at.section, at.located);
+    let mut registers = before;
+    for i in 0..128 {
+        registers[i] = one(&before, marks.named[i], at, i, m, cfa)?;
     }
-    let file = File { values, present };
-    AllLeft { number: 0, file }
+    Ok(registers)
 }
 
 fn left(
-    old: File,
-    section: &[u8],
-    l: Located,
-    p: u64,
-    stack: &[u8],
-    address: u64,
+    before: [Option<u64>; 128],
+    at: Place,
+    m: Memory,
     reg: u64,
     cfa: u64,
-) -> AllLeft
-    requires { T (is_good (state_in section.now l p)) }
-    ensures { all_left result ≡ left (memory_of address stack.now) reg cfa (rules_in section.now l p) (slots old) }
+) -> Result<[Option<u64>; 128], u64>
+    requires { T (is_good (state_at at)) }
+    ensures { all_left result ≡ left (memory_of m.entry) reg cfa (rules_at at.entry) (slots before) }
 {
-    let r = all_left(old, section, l, p, stack, address, cfa);
-    if r.number != 0 {
-        return r;
-    }
-    AllLeft {
-        number: 0,
-        file: walk::with_stack(r.file, reg, cfa),
-    }
+    let registers = all_left(before, at, m, cfa)?;
+    Ok(walk::with_stack(registers, reg, cfa))
 }
 
 // ---- a caller
@@ -216,214 +161,125 @@ fn left(
 // From the frame address on: the registers, and the return address in them.
 fn resumed(
     machine: Machine,
-    file: File,
+    before: [Option<u64>; 128],
     signing: bool,
     cfa: u64,
-    section: &[u8],
-    l: Located,
-    p: u64,
-    stack: &[u8],
-    address: u64,
-) -> Step
-    requires { T (is_good (state_in section.now l p)) }
-    ensures { step_of result ≡ onward (left (memory_of address stack.now) machine.stack cfa (rules_in section.now l p) (slots file)) (λ ss. returned_to ss machine.ret signing l.signal) }
+    at: Place,
+    m: Memory,
+) -> Result<Option<Caller>, u64>
+    requires { T (is_good (state_at at)) }
+    ensures { step_of result ≡ onward (left (memory_of m.entry) machine.stack cfa (rules_at at.entry) (slots before)) (λ ss. returned_to ss machine.ret signing at.entry.located.signal) }
 {
-    let r = left(file, section, l, p, stack, address, machine.stack, cfa);
-    if r.number != 0 {
-        return walk::refused(file, r.number);
-    }
-    walk::returned(r.file, machine.ret, signing, l.signal)
+    let registers = left(before, at, m, machine.stack, cfa)?;
+    walk::returned(registers, machine.ret, signing, at.located.signal)
 }
 
 // By the rules of the return address's register.
 fn left_by_rules(
     machine: Machine,
-    file: File,
+    before: [Option<u64>; 128],
     rules: Rules,
-    section: &[u8],
-    l: Located,
-    p: u64,
-    stack: &[u8],
-    address: u64,
-) -> Step
-    requires { T (is_good (state_in section.now l p)) × (rules ≡ rules_for machine.ret (rules_in section.now l p)) }
-    ensures { step_of result ≡ caller_of machine (memory_of address stack.now) (ruled_in section.now l p) (slots file) }
+    at: Place,
+    m: Memory,
+) -> Result<Option<Caller>, u64>
+    requires { T (is_good (state_at at)) × (rules ≡ rules_for machine.ret (rules_at at)) }
+    ensures { step_of result ≡ caller_of machine (memory_of m.entry) (ruled_at at.entry) (slots before) }
 {
-    let rule = rules.rule;
-    if walk::undefined(rule) {
-        return walk::unreturning(file);
+    if walk::undefined(rules.rule) {
+        return Ok(None);
     }
-    let from = rules.cfa;
-    match walk::frame_address(from, file) {
-        Address::At(cfa) => resumed(
-            machine,
-            file,
-            rules.signing,
-            cfa,
-            section,
-            l,
-            p,
-            stack,
-            address,
-        ),
-        Address::Refused(n) => walk::refused(file, n),
-    }
+    let cfa = walk::frame_address(rules.cfa, &before)?;
+    resumed(machine, before, rules.signing, cfa, at, m)
 }
 
 // The caller of a frame at an offset of a record that was located.
 fn caller(
     machine: Machine,
-    file: File,
-    section: &[u8],
-    l: Located,
-    p: u64,
-    stack: &[u8],
-    address: u64,
-) -> Step
+    before: [Option<u64>; 128],
+    at: Place,
+    m: Memory,
+) -> Result<Option<Caller>, u64>
     requires { machine.ret < 65536 }
-    ensures { step_of result ≡ onward (source_in section.now l p) (λ u. caller_of machine (memory_of address stack.now) u (slots file)) }
+    ensures { step_of result ≡ onward (source_at at.entry) (λ u. caller_of machine (memory_of m.entry) u (slots before)) }
 {
-    match reader::rules_at(section, l, machine.ret as u16, p) {
-        Ok(rules) => left_by_rules(
-            machine, file, rules, section, l, p, stack, address,
-        ),
-        Err(n) => walk::refused(file, n),
-    }
+    let rules = reader::rules_at(at.section, at.located, machine.ret as u16, at.p)?;
+    left_by_rules(machine, before, rules, at, m)
+}
+
+// The section that the rules come from, its relocations and its kind.
+#[derive(Clone, Copy)]
+pub struct Section<'a> {
+    pub bytes: &'a [u8],
+    pub relocations: &'a [u64],
+    pub kind: u64,
 }
 
 // The caller of a frame at an offset of record k: one pass over the section.
 fn caller_by(
     machine: Machine,
-    file: File,
-    section: &[u8],
-    relocations: &[u64],
-    kind: u64,
+    before: [Option<u64>; 128],
+    section: Section,
     k: u64,
     p: u64,
-    stack: &[u8],
-    address: u64,
-) -> Step
+    m: Memory,
+) -> Result<Option<Caller>, u64>
     requires { machine.ret < 65536 }
-    ensures { step_of result ≡ onward (by_section section.now relocations.now kind k p) (λ u. caller_of machine (memory_of address stack.now) u (slots file)) }
+    ensures { step_of result ≡ onward (section_of section.entry k p) (λ u. caller_of machine (memory_of m.entry) u (slots before)) }
 {
-    match reader::locate(section, relocations, kind, 8, k) {
-        Locating::Found(l) => caller(machine, file, section, l, p, stack, address),
-        Locating::No(n) => walk::refused(file, n),
-    }
+    let located = reader::locate(section.bytes, section.relocations, section.kind, 8, k)?;
+    let at = Place {
+        section: section.bytes,
+        located,
+        p,
+    };
+    caller(machine, before, at, m)
 }
 
 // ---- the frames
 
-// Up to 64 frames and why the walk ended, or a refusal.
-#[derive(Clone, Copy)]
-pub struct Walked {
-    pub refused: bool,
-    pub number: u64,
-    pub count: usize,
-    pub ending: u64,
-    pub frames: Frames,
-}
-
-fn no_frames() -> Frames {
-    Frames {
-        positions: [0; 64],
-        pcs: [0; 64],
-    }
-}
-
-fn ended(frames: Frames, count: usize, ending: u64) -> Walked
-    ensures result_value { walked_of result ≡ good (record { frames = frames_of frames.positions frames.pcs count; ending = ending }) }
-    ensures count_value { result.count ≡ count }
-{
-    Walked {
-        refused: false,
-        number: 0,
-        count,
-        ending,
-        frames,
-    }
-}
-
-fn refused(number: u64) -> Walked
-    ensures result_value { walked_of result ≡ bad number }
-    ensures count_value { result.count ≡ 0 }
-{
-    Walked {
-        refused: true,
-        number,
-        count: 0,
-        ending: 0,
-        frames: no_frames(),
-    }
-}
-
-// The function that holds a frame.
-fn held_at(functions: &[u64], exact: bool, pc: u64) -> Holder
-    ensures { result ≡ holder_of (after (looked_up exact pc) (λ a. held_from a 0 (placed_of functions.now))) }
-{
-    walk::held(functions, walk::looked_up(exact, pc))
-}
-
-// Behind 64 frames: no function holds the address, or a 65th frame would follow.
-fn full(frames: Frames, functions: &[u64], exact: bool, pc: u64) -> Walked
-    ensures result_value { walked_of result ≡ good (record { frames = frames_of frames.positions frames.pcs 64; ending = full_ending (holder_of (after (looked_up exact pc) (λ a. held_from a 0 (placed_of functions.now)))) }) }
-    ensures count_value { result.count ≡ 64 }
-{
-    let Holder::At(_, _) = held_at(functions, exact, pc) else {
-        return ended(frames, 64, 2);
-    };
-    ended(frames, 64, 3)
-}
-
-// Up to 64 frames, by the section.
+// Up to 64 frames, by the section. Behind them no function holds the address, or a 65th frame would follow.
 pub fn frames(
     machine: Machine,
-    start: File,
-    begin: u64,
-    section: &[u8],
-    relocations: &[u64],
-    kind: u64,
-    stack: &[u8],
-    address: u64,
+    start: Caller,
+    section: Section,
+    m: Memory,
     functions: &[u64],
-) -> Walked
+) -> Result<Chain, u64>
     requires { machine.ret < 65536 }
-    ensures result_value { walked_of result ≡ frames_f (by_section section.now relocations.now kind) (fault_of machine address stack.now functions.now) 64 (record { slots = slots start; pc = begin; exact = true }) }
-    ensures count_bound { result.count ≤ 64 }
+    ensures { walked_of result ≡ frames_f (section_of section.entry) (fault_of machine (memory_of m.entry) functions.now) 64 (caller_as start) }
 {
-    let mut file = start;
-    let mut pc = begin;
-    let mut exact = true;
-    let mut list = no_frames();
-    let mut k = 0;
-    while k < 64 {
-        let Holder::At(position, offset) = held_at(functions, exact, pc) else {
-            return ended(list, k, 2);
+    let mut caller = start;
+    let mut frames = [Frame { position: 0, pc: 0 }; 64];
+    for k in 0..64 {
+        let Some((position, offset)) = walk::held(functions, caller.exact, caller.pc) else {
+            return Ok(Chain {
+                frames,
+                count: k,
+                ending: 2,
+            });
         };
-        list = walk::listed(list, k, position, pc);
-        k += 1;
-        let s = caller_by(
-            machine,
-            file,
-            section,
-            relocations,
-            kind,
+        frames[k] = Frame {
             position,
-            offset,
-            stack,
-            address,
-        );
-        if s.refused {
-            return refused(s.number);
-        }
-        if s.ended {
-            return ended(list, k, 1);
-        }
-        file = s.file;
-        pc = s.pc;
-        exact = s.exact;
+            pc: caller.pc,
+        };
+        let Some(next) = caller_by(machine, caller.registers, section, position, offset, m)? else {
+            return Ok(Chain {
+                frames,
+                count: k + 1,
+                ending: 1,
+            });
+        };
+        caller = next;
     }
-    full(list, functions, exact, pc)
+    let ending = match walk::held(functions, caller.exact, caller.pc) {
+        None => 2,
+        Some(_) => 3,
+    };
+    Ok(Chain {
+        frames,
+        count: 64,
+        ending,
+    })
 }
 
 // ---- the entry
@@ -434,36 +290,31 @@ fn recorded(
     file: &[u8],
     size: usize,
     count: usize,
-    section: &[u8],
-    relocations: &[u64],
-    kind: u64,
+    section: Section,
     pc: u64,
     stack: u64,
     functions: &[u64],
-) -> Walked
+) -> Result<Chain, u64>
     requires { (size ≤ length file.now) × (size ≤ 65536) }
-    ensures result_value { walked_of result ≡ pick (machine_ok machine.now) (pick (eqb (machine_of machine.now).word 8) (frames_f (by_section section.now relocations.now kind) (fault_of (machine_of machine.now) stack (take size file.now) functions.now) 64 (record { slots = slots_of count (drop size file.now); pc = pc; exact = true })) (bad 12)) (bad 11) }
-    ensures count_bound { result.count ≤ 64 }
+    ensures { walked_of result ≡ pick (machine_ok machine.now) (pick (eqb (machine_of machine.now).word 8) (frames_f (section_of section.entry) (fault_of (machine_of machine.now) (record { address = stack; bytes = take size file.now }) functions.now) 64 (record { slots = slots_of count (drop size file.now); pc = pc; exact = true })) (bad 12)) (bad 11) }
 {
     if !lists::machine_ok(machine) {
-        return refused(11);
+        return Err(11);
     }
-    let m = lists::machine_of(machine);
-    if m.word != 8 {
-        return refused(12);
+    let known = lists::machine_of(machine);
+    if known.word != 8 {
+        return Err(12);
     }
-    let start = walk::registers(file, size, count);
-    frames(
-        m,
-        start,
+    let start = Caller {
+        registers: walk::registers(file, size, count),
         pc,
-        section,
-        relocations,
-        kind,
-        &file[..size],
-        stack,
-        functions,
-    )
+        exact: true,
+    };
+    let m = Memory {
+        address: stack,
+        bytes: &file[..size],
+    };
+    frames(known, start, section, m, functions)
 }
 
 // What `unwind_walk` answers: 0 or a refusal's number, the count of frames that are stored, and why the walk ended.
@@ -486,24 +337,22 @@ fn refusing(number: u64) -> Answer
 }
 
 // The frames at the front of a lent list, or 54.
-fn stored(r: Walked, out: &mut [u64]) -> Answer
-    requires { r.count ≤ 64 }
+fn stored(r: Result<Chain, u64>, out: &mut [u64]) -> Answer
     ensures result_value { numbers_of result ≡ chain_numbers (onward (walked_of r) (fitting (length out.old))) }
     ensures out_after { out.new ≡ chain_stored (onward (walked_of r) (fitting (length out.old))) out.old }
 {
-    if r.refused {
-        return refusing(r.number);
-    }
-    let n = r.count;
-    if out.len() / 2 < n {
+    let chain = match r {
+        Ok(chain) => chain,
+        Err(number) => return refusing(number),
+    };
+    if out.len() / 2 < chain.count {
         return refusing(54);
     }
-    let list = r.frames;
-    walk::store(list, n, out);
+    walk::store(&chain.frames, chain.count, out);
     Answer {
         number: 0,
-        frames: n as u64,
-        ending: r.ending,
+        frames: chain.count as u64,
+        ending: chain.ending,
     }
 }
 
@@ -524,20 +373,14 @@ pub extern "C" fn unwind_walk(
     ensures result_value { numbers_of result ≡ chain_numbers (walk_by (by_section section.now relocations.now kind) machine.now file.now pc stack functions.now (length frames.old)) }
     ensures frames_after { frames.new ≡ chain_stored (walk_by (by_section section.now relocations.now kind) machine.now file.now pc stack functions.now (length frames.old)) frames.old }
 {
-    let Trailer::Numbers(size, count) = walk::read_trailer(file) else {
+    let Some((size, count)) = walk::read_trailer(file) else {
         return refusing(73);
     };
-    let r = recorded(
-        machine,
-        file,
-        size,
-        count,
-        section,
+    let from = Section {
+        bytes: section,
         relocations,
         kind,
-        pc,
-        stack,
-        functions,
-    );
+    };
+    let r = recorded(machine, file, size, count, from, pc, stack, functions);
     stored(r, frames)
 }

@@ -1,20 +1,21 @@
 -- `walked::caller` meets its contract.
 use mathlib.Core.Path.{sym, ◌∙◌}
+use Rattle.std.proofs.lemmas.Result.{err_from_is_err_and}
 use Rattle.walked.proofs.Rules.{answered, refused, caller_ruled, caller_unread}
 use Rattle.walked.proofs.caller.Goals as goal
 
+pub returns-in_err-rules : goal.returns-in_err-rules
+returns-in_err-rules c =
+    let z = c.args in
+    let x = z.at in
+    let p = err_from_is_err_and c.from_residual.result c.from_residual.ensures.1 in
+    rw (p.1, p.2) (caller_unread x.section.now x.located x.p z.machine _ _ (refused x.section.now x.located z.machine.ret x.p (sym c.in_err-rules.ensures)))
+
 pub left_by_rules-requires : goal.left_by_rules-requires
-left_by_rules-requires c =
-    let z = c.args in
-    answered z.section.now z.l z.machine.ret z.p (sym c.rules_at.ensures ∙ c.in-Ok.is)
+left_by_rules-requires c = let x = c.args.at in answered x.section.now x.located c.args.machine.ret x.p (sym c.in_ok-rules.ensures)
 
-pub returns-in-Ok : goal.returns-in-Ok
-returns-in-Ok c =
-    let z = c.args in
-    let g = answered z.section.now z.l z.machine.ret z.p (sym c.rules_at.ensures ∙ c.in-Ok.is) in
-    c.left_by_rules.ensures ∙ caller_ruled z.section.now z.l z.p z.machine _ _ g.0
-
-pub returns-in-Err : goal.returns-in-Err
-returns-in-Err c =
-    let z = c.args in
-    c.refused.ensures ∙ caller_unread z.section.now z.l z.p z.machine _ _ (refused z.section.now z.l z.machine.ret z.p (sym c.rules_at.ensures ∙ c.in-Err.is))
+pub returns : goal.returns
+returns c =
+    let x = c.args.at in
+    let g = answered x.section.now x.located c.args.machine.ret x.p (sym c.in_ok-rules.ensures) in
+    c.left_by_rules.ensures ∙ caller_ruled x.section.now x.located x.p c.args.machine _ _ g.0

@@ -1,15 +1,16 @@
 -- `walked::caller_by` meets its contract.
 use mathlib.Core.Path.{◌∙◌}
-use Rattle.reader.proofs.Asked.{place_found, place_refused}
+use Rattle.std.proofs.lemmas.Result.{err_from_is_err_and}
 use Rattle.walked.proofs.Rules.{caller_by, caller_no}
 use Rattle.walked.proofs.caller_by.Goals as goal
 
-pub returns-in-Found : goal.returns-in-Found
-returns-in-Found c =
+pub returns-in_err-located : goal.returns-in_err-located
+returns-in_err-located c =
     let z = c.args in
-    c.caller.ensures ∙ caller_by z.section.now z.relocations.now z.kind z.k z.p z.machine _ _ (place_found c.in-Found.is c.locate.ensures)
+    let p = err_from_is_err_and c.from_residual.result c.from_residual.ensures.1 in
+    rw (p.1, p.2) (caller_no z.section.bytes.now z.section.relocations.now z.section.kind z.k z.p z.machine _ _ c.in_err-located.ensures)
 
-pub returns-in-No : goal.returns-in-No
-returns-in-No c =
+pub returns : goal.returns
+returns c =
     let z = c.args in
-    c.refused.ensures ∙ caller_no z.section.now z.relocations.now z.kind z.k z.p z.machine _ _ (place_refused z.section.now 8 c.in-No.is c.locate.ensures)
+    c.caller.ensures ∙ caller_by z.section.bytes.now z.section.relocations.now z.section.kind z.k z.p z.machine _ _ c.in_ok-located.ensures

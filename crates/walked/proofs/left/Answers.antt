@@ -1,13 +1,14 @@
 -- `walked::left` meets its contract.
-use mathlib.Core.Path.{sym, ap, ◌∙◌}
-use Rattle.format.specs.Prelude.{pick, good}
-use Rattle.walked.specs.Standing.{all_left}
-use Rattle.walked.proofs.Rules.{all_bad, left_bad, left_good}
+use mathlib.Core.Path.{ap, ◌∙◌}
+use Rattle.std.proofs.lemmas.Result.{err_from_is_err_and}
+use Rattle.format.specs.Prelude.{good}
+use Rattle.walked.proofs.Rules.{left_bad, left_good}
 use Rattle.walked.proofs.left.Goals as goal
 
-pub returns-then-r-ne0 : goal.returns-then-r-ne0
-returns-then-r-ne0 c = sym (all_bad _ c.if-r-ne0.true) ∙ left_bad _ _ _ _ _ _ c.if-r-ne0.true c.all_left-r.ensures
+pub returns-in_err-registers : goal.returns-in_err-registers
+returns-in_err-registers c =
+    let p = err_from_is_err_and c.from_residual.result c.from_residual.ensures.1 in
+    rw (p.1, p.2) (left_bad _ _ _ _ _ c.in_err-registers.ensures)
 
 pub returns : goal.returns
-unfolding all_left pick
-returns c = ap good c.with_stack.ensures ∙ left_good _ _ _ _ _ _ c.if-r-ne0.false c.all_left-r.ensures
+returns c = ap good c.with_stack.ensures ∙ left_good _ _ _ _ _ _ c.in_ok-registers.ensures

@@ -5,8 +5,8 @@ use borrow.Author.Tests.{ne_eqb}
 use Rattle.walked.proofs.Marking.{mark_set}
 use Rattle.walked.proofs.mark.Goals as goal
 
-pub returns-then-reg-ge128 : goal.returns-then-reg-ge128
-returns-then-reg-ge128 c = λ q b e. (e, ne_eqb q c.args.reg (λ d. omega arith))
+pub returns-then-reg-lt128 : goal.returns-then-reg-lt128
+returns-then-reg-lt128 c = mark_set c.args.m.named c.args.reg (search rules)
 
-pub returns : goal.returns
-returns c = mark_set c.args.m.named c.args.reg (search rules)
+pub returns-else-reg-lt128 : goal.returns-else-reg-lt128
+returns-else-reg-lt128 c = λ q b e. (e, ne_eqb q c.args.reg (λ d. omega arith))

@@ -1,4 +1,6 @@
 -- `walked::named` meets its contract.
+use mathlib.Core.Bool.{false}
+use lib.ListN.{replicate}
 use Rattle.format.proofs.FieldsBack.{word_small}
 use Rattle.walked.proofs.Marking.{both_marked}
 use Rattle.walked.proofs.named.Goals as goal
@@ -10,4 +12,4 @@ pub mark_all-requires : goal.mark_all-requires
 mark_all-requires c = (word_small c.args.l.word c.requires.0).0
 
 pub returns : goal.returns
-returns c = let z = c.args in both_marked z.section.now z.l c.unmarked.result.named c.mark_all-m.result.named c.mark_all.result.named c.mark_all-m.ensures c.mark_all.ensures
+returns c = let z = c.args in both_marked z.section.now z.l (replicate 128 false) c.mark_all-m.result.named c.mark_all.result.named c.mark_all-m.ensures c.mark_all.ensures

@@ -1,19 +1,21 @@
 -- `walked::one` meets its contract.
-use mathlib.Core.Path.{sym, ◌∙◌}
+use mathlib.Core.Path.{sym, ap, ◌∙◌}
+use Rattle.format.specs.Prelude.{good}
 use Rattle.walk.specs.Walk.{left_by}
 use Rattle.walked.proofs.Rules.{answered, never, by_rule}
 use Rattle.walked.proofs.one.Goals as goal
 
 pub returns-then-not-named : goal.returns-then-not-named
 unfolding left_by
-returns-then-not-named c = rw (c.requires.4 c.if-not-named.true) c.kept.ensures
+returns-then-not-named c = rw (c.requires.2 c.if-not-named.true) (ap good c.slot.ensures)
 
-pub returns-in-Ok : goal.returns-in-Ok
-returns-in-Ok c =
+pub returns-in_err-rules : goal.returns-in_err-rules
+returns-in_err-rules c =
     let z = c.args in
-    let a = answered z.section.now z.l z.reg z.p (sym c.rules_at.ensures ∙ c.in-Ok.is) in
-    c.left_by.ensures ∙ by_rule _ _ _ _ _ a.1
+    absurd (never z.at.section.now z.at.located z.reg z.at.p (sym c.in_err-rules.ensures) c.requires.1)
 
-pub returns-in-Err : goal.returns-in-Err
-returns-in-Err c =
-    absurd (never c.args.section.now c.args.l c.args.reg c.args.p (sym c.rules_at.ensures ∙ c.in-Err.is) c.requires.3)
+pub returns : goal.returns
+returns c =
+    let z = c.args in
+    let a = answered z.at.section.now z.at.located z.reg z.at.p (sym c.in_ok-rules.ensures) in
+    c.left_by.ensures ∙ by_rule _ _ _ _ _ a.1

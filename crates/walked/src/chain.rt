@@ -1,0 +1,13 @@
+// The frames of a walk.
+ghost use Rattle.std.specs.Prelude.{◌≤◌};
+
+use walk::Frame;
+
+// Up to 64 frames and why the walk ended.
+#[derive(Clone, Copy)]
+pub struct Chain {
+    pub frames: [Frame; 64],
+    pub count: usize,
+    pub ending: u64,
+    ghost few: { count ≤ 64 },
+}
