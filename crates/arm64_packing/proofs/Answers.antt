@@ -5,6 +5,7 @@ use mathlib.Core.List.{List}
 use Prim.Native.Nat.{ℕ, ◌≤◌, ◌<◌}
 use native.Mathlib.Omega.{arith}
 use borrow.Author.Tests.{lt-ltb, le-ltb}
+use Rattle.std.specs.Prelude.{Option, Some, None}
 use Rattle.format.specs.Prelude.{pick}
 use Rattle.arm64.specs.declared.Code.{Code}
 use Rattle.arm64.specs.declared.Packed.{Packed}
@@ -42,27 +43,27 @@ module _ (p : Packed) where
 
 -- ---- the whole
 
-abbrev pub answered : Packed → (ps r : List Code) → ℕ
-answered p ps r = pick (stands_for p ps r) (packed_word p) 0
+abbrev pub answered : Packed → (ps r : List Code) → Option ℕ
+answered p ps r = pick (stands_for p ps r) (Some (packed_word p)) None
 
 module _ {p q : Packed} (ps r : List Code) (e : p ≡ q) where
-  moved : {n : ℕ} → n ≡ answered p ps r → n ≡ answered q ps r
+  moved : {n : Option ℕ} → n ≡ answered p ps r → n ≡ answered q ps r
   moved f = f ∙ ap (λ x. answered x ps r) e
 
-  pub not_defined : (fields_hold p && packed_ok p) ≡ false → 0 ≡ answered q ps r
+  pub not_defined : (fields_hold p && packed_ok p) ≡ false → None ≡ answered q ps r
   unfolding stands_for pick
   not_defined d = moved (simp d)
 
   module _ (d : (fields_hold p && packed_ok p) ≡ true) where
-    pub other_prologue : same_codes (resolve no_pair ps) (slots_from (placed false p) 0 19) ≡ false → 0 ≡ answered q ps r
+    pub other_prologue : same_codes (resolve no_pair ps) (slots_from (placed false p) 0 19) ≡ false → None ≡ answered q ps r
     unfolding stands_for pick
     other_prologue f = moved (simp (d, sym (prologue_same (resolve no_pair ps) p) ∙ f))
 
     module _ (f : same_codes (resolve no_pair ps) (slots_from (placed false p) 0 19) ≡ true) where
-      pub other_epilogue : same_codes (resolve no_pair r) (slots_from (placed true p) 0 19) ≡ false → 0 ≡ answered q ps r
+      pub other_epilogue : same_codes (resolve no_pair r) (slots_from (placed true p) 0 19) ≡ false → None ≡ answered q ps r
       unfolding stands_for pick
       other_epilogue g = moved (simp (d, sym (prologue_same (resolve no_pair ps) p) ∙ f, sym (epilogue_same (resolve no_pair r) p) ∙ g))
 
-      pub stood : same_codes (resolve no_pair r) (slots_from (placed true p) 0 19) ≡ true → packed_word p ≡ answered q ps r
+      pub stood : same_codes (resolve no_pair r) (slots_from (placed true p) 0 19) ≡ true → Some (packed_word p) ≡ answered q ps r
       unfolding stands_for pick
       stood g = moved (simp (d, sym (prologue_same (resolve no_pair ps) p) ∙ f, sym (epilogue_same (resolve no_pair r) p) ∙ g))

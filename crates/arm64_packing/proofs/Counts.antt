@@ -11,44 +11,13 @@ use Rattle.arm64.specs.declared.Packed.{Packed}
 use Rattle.arm64.specs.Codes.{code}
 use Rattle.arm64.specs.Packing.{integers_in, vectors_in, down_in, chain_behind, tally, as_fields}
 use Rattle.arm64.proofs.MeaningLaws.{of_kind}
-use Rattle.arm64_packing.specs.Places.{stores_one, stores_lr}
+use Rattle.arm64_packing.specs.Places.{stores_lr}
 
 -- what is said of a code, by its kind
 pub by_kind : {X : Type 0} (f : Code → X) (c : Code) {k : ℕ} → c.kind ≡ k → f (code k c.register c.offset) ≡ f c
 by_kind f c e = sym (ap f (of_kind c e))
 
 module _ (c : Code) where
-  pub one_other : c.kind ≢ 6 → eqb c.kind 7 ≡ stores_one c
-  one_other n = simp (ne_eqb c.kind 6 n)
-
-  module _ (n : c.kind ≢ 8) where
-    pub lr_none : stores_one c ≡ false → false ≡ stores_lr c
-    lr_none e = simp (ne_eqb c.kind 8 n, e)
-
-    pub lr_alone : stores_one c ≡ true → eqb c.register 30 ≡ stores_lr c
-    lr_alone e = simp (ne_eqb c.kind 8 n, e)
-
-    module _ (l : c.kind ≢ 1) (m : c.kind ≢ 4) where
-      pub integers_none : stores_one c ≡ false → 0 ≡ integers_in c
-      unfolding integers_in pick
-      integers_none e = simp (ne_eqb c.kind 1 l, ne_eqb c.kind 4 m, e, ne_eqb c.kind 8 n)
-
-      pub integers_lr : stores_one c ≡ true → c.register ≡ 30 → 0 ≡ integers_in c
-      unfolding integers_in pick
-      integers_lr e r = simp (ne_eqb c.kind 1 l, ne_eqb c.kind 4 m, e, eq-eqb c.register 30 r)
-
-      pub integers_one : stores_one c ≡ true → c.register ≢ 30 → 1 ≡ integers_in c
-      unfolding integers_in pick
-      integers_one e r = simp (ne_eqb c.kind 1 l, ne_eqb c.kind 4 m, e, ne_eqb c.register 30 r)
-
-  pub vectors_none : c.kind ≢ 9 → c.kind ≢ 10 → c.kind ≢ 11 → 0 ≡ vectors_in c
-  unfolding vectors_in pick
-  vectors_none l m n = simp (ne_eqb c.kind 9 l, ne_eqb c.kind 10 m, ne_eqb c.kind 11 n)
-
-  pub down_none : c.kind ≢ 0 → c.kind ≢ 1 → c.kind ≢ 3 → c.kind ≢ 7 → c.kind ≢ 10 → 0 ≡ down_in c
-  unfolding down_in pick
-  down_none h l m n o = simp (ne_eqb c.kind 0 h, ne_eqb c.kind 1 l, ne_eqb c.kind 3 m, ne_eqb c.kind 7 n, ne_eqb c.kind 10 o)
-
   module _ (chain : ℕ) (l : c.kind ≢ 17) (m : c.kind ≢ 2) (n : c.kind ≢ 3) where
     pub chain_kept : stores_lr c ≡ false → chain ≡ chain_behind chain c
     unfolding chain_behind pick

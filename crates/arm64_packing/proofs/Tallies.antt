@@ -1,22 +1,26 @@
 -- The counts of a prologue: what the loop knows at each turn.
 use mathlib.Core.Path.{◌≡◌, refl, sym, ap, ◌∙◌}
-use mathlib.Core.Bool.{true, ◌&&◌, ◌||◌}
+use mathlib.Core.Bool.{true, ◌||◌}
 use mathlib.Core.List.{List, [], ◌∷◌}
-use Prim.Native.Nat.{ℕ, ◌+◌, ◌*◌, ◌^◌, ◌≤◌, ◌<◌}
+use lib.ListN.{length}
+use Rattle.std.specs.List.{list_all}
+use Prim.Native.Nat.{ℕ, suc, ◌+◌, ◌*◌, ◌^◌, ◌≤◌, ◌<◌}
 use native.Mathlib.Omega.{arith}
 use lib.Dec.{eqb}
 use Rattle.format.specs.Lists.{most_records}
 use Rattle.arm64.specs.declared.Code.{Code}
 use Rattle.arm64.specs.declared.Packed.{Packed}
-use Rattle.arm64.specs.Codes.{code, k_alloc, k_r19_r20_x, k_fplr_x, k_reg_x, k_fregp_x, k_save_next, register_fits, form_for, code_fits}
-use Rattle.arm64.specs.Runs.{no_pair, has_next, next_pair, resolved, simple, shorter, pair_behind, simplify, resolve, simple_fits, run_fits}
+use Rattle.arm64.specs.Codes.{code, k_alloc, k_r19_r20_x, k_fplr_x, k_reg_x, k_fregp_x, k_save_next, code_fits}
+use Rattle.arm64.specs.Runs.{no_pair, has_next, next_pair, resolved, simplify, resolve, run_fits}
 use Rattle.arm64.specs.Packing.{down_in, tally, tallies, nothing_yet, as_fields, candidate}
 use Rattle.arm64.proofs.MeaningLaws.{both_true, by_pick}
 use Rattle.arm64_spelled.proofs.FitLaws.{fits_low}
 use Rattle.arm64_simple.specs.declared.Run.{Run}
-use Rattle.arm64_simple.specs.Saves.{saved_at, saves}
+use Rattle.arm64_simple.specs.Saves.{saves}
 use Rattle.arm64_simple.proofs.Codes.{next_low}
-use Rattle.arm64_simple.proofs.Loops.{rest, rest_start, rest_first, rest_none}
+use Rattle.arm64_simple.specs.declared.Step.{Step}
+use Rattle.arm64_simple.specs.Steps.{steps, step_fits}
+use Rattle.arm64_simple.proofs.Loops.{steps-length, saves-length, resolves, resolves_all, fits_all, fits_code}
 use Rattle.arm64_packing.specs.Places.{Low, Counted}
 
 -- ---- how far one code moves the stack pointer
@@ -41,94 +45,81 @@ resolved_near b c e =
 
 -- ---- the loop
 
-fits_parts : (b c : Code) (ds : List Code) → run_fits b (c ∷ ds) ≡ true
-    → (code_fits (simple b c) ≡ true) × (run_fits (pair_behind b (simple b c)) ds ≡ true)
-unfolding run_fits simple_fits
-fits_parts b c ds e =
-    let p = both_true (register_fits (form_for (shorter c)) (shorter c) && code_fits (simple b c)) (run_fits (pair_behind b (simple b c)) ds) e in
-    ((both_true (register_fits (form_for (shorter c)) (shorter c)) (code_fits (simple b c)) p.0).1, p.1)
+tallies_next : (p : Packed) (s : Step) (ss : List Step) → tallies p (resolves (s ∷ ss)) ≡ tallies (tally p (resolved s.before s.written)) (resolves ss)
+unfolding tallies
+tallies_next p s ss = refl
 
-tallies_first : (p : Packed) (b c : Code) (ds : List Code) → tallies p (resolve b (simplify b (c ∷ ds)))
-    ≡ tallies (tally p (resolved b (simple b c))) (resolve (pair_behind b (simple b c)) (simplify (pair_behind b (simple b c)) ds))
-unfolding tallies resolve simplify
-tallies_first p b c ds = refl
+tallies_none : (p : Packed) → tallies p (resolves []) ≡ p
+unfolding tallies
+tallies_none p = refl
 
-tallies_none : (p : Packed) (b : Code) → tallies p (resolve b (simplify b [])) ≡ p
-unfolding tallies resolve simplify
-tallies_none p b = refl
-
-pub record Tallying (cs : List ℕ) (size : ℕ) (r : Run) (p : Packed) (b : Code) (j : ℕ) : Type 0 where
-  pub high : j ≤ r.count
+-- of `count` codes, ps as they are written, some are left
+pub record Tallying (ps : List Code) (size count : ℕ) (left : List Step) (p : Packed) : Type 0 where
   pub flag : p.flag ≡ 1
   pub homes : p.homes ≡ 0
   pub chain : p.chain < 4
-  pub vectors : p.vectors ≤ 2 * j
-  pub registers : p.registers ≤ 2 * j
-  pub frame : p.frame ≤ 2 ^ 29 * j
-  pub fits : run_fits b (rest cs r j) ≡ true
-  pub same : tallies (nothing_yet size) (resolve no_pair (simplify no_pair (saves cs r))) ≡ tallies p (resolve b (simplify b (rest cs r j)))
+  pub vectors : p.vectors + 2 * length left ≤ 2 * count
+  pub registers : p.registers + 2 * length left ≤ 2 * count
+  pub frame : p.frame + 2 ^ 29 * length left ≤ 2 ^ 29 * count
+  pub fits : list_all step_fits left ≡ true
+  pub same : tallies (nothing_yet size) (resolve no_pair ps) ≡ tallies p (resolves left)
 
-pub tallying_start : (cs : List ℕ) (size : ℕ) (r : Run) → run_fits no_pair (saves cs r) ≡ true → Tallying cs size r (nothing_yet size) no_pair 0
+pub tallying_start : (cs : List ℕ) (size : ℕ) (r : Run) {left : List Step} → left ≡ steps no_pair (saves cs r) → run_fits no_pair (saves cs r) ≡ true
+    → Tallying (simplify no_pair (saves cs r)) size r.count left (nothing_yet size)
 unfolding nothing_yet
-tallying_start cs size r e =
+tallying_start cs size r {left} l e =
+    let n : length left ≡ r.count = ap length l ∙ steps-length no_pair (saves cs r) ∙ saves-length cs r in
     record {
-      high = omega arith;
       flag = refl;
       homes = refl;
       chain = omega arith;
-      vectors = omega arith;
-      registers = omega arith;
-      frame = omega arith;
-      fits = ap (run_fits no_pair) (sym (rest_start cs r)) ∙ e;
-      same = ap (λ ds. tallies (nothing_yet size) (resolve no_pair (simplify no_pair ds))) (rest_start cs r);
+      vectors = omega (arith, n);
+      registers = omega (arith, n);
+      frame = omega (arith, n);
+      fits = ap (list_all step_fits) l ∙ fits_all no_pair (saves cs r) ∙ e;
+      same = ap (tallies (nothing_yet size)) (sym (ap resolves l ∙ resolves_all no_pair (saves cs r)));
     }
 
-module _ {cs : List ℕ} {size : ℕ} {r : Run} {p : Packed} {b : Code} {j : ℕ} (s : Tallying cs size r p b j) where
-  pub tallying_low : r.count ≤ most_records → Low p
+module _ {ps : List Code} {size count : ℕ} {left : List Step} {p : Packed} (t : Tallying ps size count left p) where
+  pub tallying_low : count ≤ most_records → Low p
   tallying_low m =
       record {
-        vectors = omega (arith, s.vectors, s.high);
-        registers = omega (arith, s.registers, s.high);
-        chain = s.chain;
-        frame = omega (arith, s.frame, s.high);
+        vectors = omega (arith, t.vectors, m);
+        registers = omega (arith, t.registers, m);
+        chain = t.chain;
+        frame = omega (arith, t.frame, m);
       }
 
-  module _ {x c d : Code} (h : j < r.count) (e : x ≡ saved_at cs r j) (f : c ≡ simple b x) (g : d ≡ resolved b c) where
-    parts : (code_fits c ≡ true) × (run_fits (pair_behind b c) (rest cs r (j + 1)) ≡ true)
-    parts =
-        let q = fits_parts b x (rest cs r (j + 1)) (ap (run_fits b) (sym (rest_first cs r h e)) ∙ s.fits) in
-        (ap code_fits f ∙ q.0, ap (λ y. run_fits (pair_behind b y) (rest cs r (j + 1))) f ∙ q.1)
+  module _ {later : List Step} {s : Step} (e : left ≡ s ∷ later) {d : Code} (g : d ≡ resolved s.before s.written) where
+    parts : (step_fits s ≡ true) × (list_all step_fits later ≡ true)
+    parts = both_true (step_fits s) (list_all step_fits later) (sym (ap (list_all step_fits) e) ∙ t.fits)
 
     pub tallying_down : down_in d < 2 ^ 29
     tallying_down =
-        let n : (resolved b c).offset < 2 ^ 29 = resolved_near b c parts.0 in
-        let m : down_in d ≡ down_in (resolved b c) = ap down_in g in
-        omega (arith, n, m, down_most (resolved b c))
+        let n : (resolved s.before s.written).offset < 2 ^ 29 = resolved_near s.before s.written (fits_code s parts.0) in
+        let m : down_in d ≡ down_in (resolved s.before s.written) = ap down_in g in
+        omega (arith, n, m, down_most (resolved s.before s.written))
 
-    pub tallying_turn : {q : Packed} {z : Code} → q ≡ tally p d → Counted p q → z ≡ pair_behind b c → Tallying cs size r q z (j + 1)
-    tallying_turn {q} {z} k n m =
+    pub tallying_turn : {q : Packed} → q ≡ tally p d → Counted p q → Tallying ps size count later q
+    tallying_turn {q} k n =
+        let l : length left ≡ suc (length later) = ap length e in
         record {
-          high = omega arith;
-          flag = n.flag ∙ s.flag;
-          homes = n.homes ∙ s.homes;
+          flag = n.flag ∙ t.flag;
+          homes = n.homes ∙ t.homes;
           chain = n.chain;
-          vectors = omega (arith, n.vectors, s.vectors);
-          registers = omega (arith, n.registers, s.registers);
-          frame = omega (arith, n.frame, s.frame);
-          fits = ap (λ y. run_fits y (rest cs r (j + 1))) m ∙ parts.1;
-          same = s.same ∙ ap (λ ds. tallies p (resolve b (simplify b ds))) (rest_first cs r h e) ∙ tallies_first p b x (rest cs r (j + 1))
-              ∙ ap (λ y. tallies (tally p (resolved b y)) (resolve (pair_behind b y) (simplify (pair_behind b y) (rest cs r (j + 1))))) (sym f)
-              ∙ ap (λ y. tallies y (resolve (pair_behind b c) (simplify (pair_behind b c) (rest cs r (j + 1))))) (sym (k ∙ ap (tally p) g))
-              ∙ ap (λ y. tallies q (resolve y (simplify y (rest cs r (j + 1))))) (sym m);
+          vectors = omega (arith, n.vectors, t.vectors, l);
+          registers = omega (arith, n.registers, t.registers, l);
+          frame = omega (arith, n.frame, t.frame, l);
+          fits = parts.1;
+          same = t.same ∙ ap (λ x. tallies p (resolves x)) e ∙ tallies_next p s later ∙ ap (λ x. tallies x (resolves later)) (sym (k ∙ ap (tally p) g));
         }
 
-  ended : r.count ≤ j → as_fields p ≡ candidate size (simplify no_pair (saves cs r))
+  ended : left ≡ [] → as_fields p ≡ candidate size ps
   unfolding candidate
-  ended h = ap as_fields (sym (s.same ∙ ap (λ ds. tallies p (resolve b (simplify b ds))) (rest_none cs r h) ∙ tallies_none p b))
+  ended h = ap as_fields (sym (t.same ∙ ap (λ x. tallies p (resolves x)) h ∙ tallies_none p))
 
-  pub tallying_ended : {q : Packed} → q ≡ as_fields p → r.count ≤ j
-      → (q ≡ candidate size (simplify no_pair (saves cs r))) × (q.flag ≡ 1) × (q.homes ≡ 0) × (q.chain < 4)
+  pub tallying_ended : {q : Packed} → q ≡ as_fields p → left ≡ [] → (q ≡ candidate size ps) × (q.flag ≡ 1) × (q.homes ≡ 0) × (q.chain < 4)
   unfolding as_fields
   tallying_ended {q} e h =
       let k : q.chain ≡ p.chain = ap (λ x. x.chain) e in
-      (e ∙ ended h, ap (λ x. x.flag) e ∙ s.flag, ap (λ x. x.homes) e ∙ s.homes, omega (arith, k, s.chain))
+      (e ∙ ended h, ap (λ x. x.flag) e ∙ t.flag, ap (λ x. x.homes) e ∙ t.homes, omega (arith, k, t.chain))

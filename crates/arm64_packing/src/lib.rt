@@ -2,7 +2,8 @@
 // rucc-asm/src/xdata.rs (pack) of tamnd/rucc, changed: see NOTICE.
 #![tactic(auto)]
 
-ghost use Rattle.std.specs.Prelude.{◌≡◌, true, ◌&&◌, ◌-◌, ◌*◌, ◌^◌, ◌≤◌, ◌<◌, eqb};
+ghost use Rattle.std.specs.Prelude.{◌≡◌, true, ◌&&◌, ◌*◌, ◌^◌, ◌≤◌, ◌<◌, eqb, Some, None};
+ghost use Rattle.format.specs.Coded.{option_of};
 ghost use Rattle.format.specs.Prelude.{pick};
 ghost use Rattle.format.specs.Lists.{most_records};
 ghost use Rattle.arm64.specs.Packed.{packed_ok, slots_from};
@@ -12,8 +13,8 @@ ghost use Rattle.arm64_packed.specs.Fields.{Small, Sound};
 ghost use Rattle.arm64_simple.specs.Saves.{saves, Inside};
 ghost use Rattle.arm64_packing.specs.Places.{stores_one, stores_lr, placed, given, Low, Counted};
 
-use arm64::{Code, Packed, Slot, packed_bits};
-use arm64_simple::Run;
+use arm64::{Code, Packed, packed_bits};
+use arm64_simple::{Run, Steps};
 
 // ---- what a code counts
 
@@ -21,79 +22,46 @@ use arm64_simple::Run;
 fn stores_one(c: Code) -> bool
     ensures { result ≡ stores_one c }
 {
-    if c.kind == arm64::REG {
-        return true;
-    }
-    c.kind == arm64::REG_X
+    c.kind == arm64::REG || c.kind == arm64::REG_X
 }
 
 fn stores_lr(c: Code) -> bool
     ensures { result ≡ stores_lr c }
 {
-    if c.kind == arm64::LRPAIR {
-        return true;
-    }
-    if !stores_one(c) {
-        return false;
-    }
-    c.register == 30
+    c.kind == arm64::LRPAIR || stores_one(c) && c.register == 30
 }
 
+#[tactic(auto, unfolding(arm64::specs::Packing::integers_in, format::specs::Prelude::pick))]
 fn integers_in(c: Code) -> u64
     ensures { (result ≡ integers_in c) × (result ≤ 2) }
 {
-    if c.kind == arm64::R19R20X {
-        return 2;
+    match c.kind {
+        arm64::R19R20X | arm64::REGP => 2,
+        arm64::LRPAIR => 1,
+        arm64::REG | arm64::REG_X if c.register != 30 => 1,
+        _ => 0,
     }
-    if c.kind == arm64::REGP {
-        return 2;
-    }
-    if c.kind == arm64::LRPAIR {
-        return 1;
-    }
-    if !stores_one(c) {
-        return 0;
-    }
-    if c.register == 30 {
-        return 0;
-    }
-    1
 }
 
+#[tactic(auto, unfolding(arm64::specs::Packing::vectors_in, format::specs::Prelude::pick))]
 fn vectors_in(c: Code) -> u64
     ensures { (result ≡ vectors_in c) × (result ≤ 2) }
 {
-    if c.kind == arm64::FREGP {
-        return 2;
+    match c.kind {
+        arm64::FREGP | arm64::FREGP_X => 2,
+        arm64::FREG => 1,
+        _ => 0,
     }
-    if c.kind == arm64::FREGP_X {
-        return 2;
-    }
-    if c.kind == arm64::FREG {
-        return 1;
-    }
-    0
 }
 
+#[tactic(auto, unfolding(arm64::specs::Packing::down_in, format::specs::Prelude::pick))]
 fn down_in(c: Code) -> u64
     ensures { result ≡ down_in c }
 {
-    if c.kind == arm64::ALLOC {
-        return c.offset;
+    match c.kind {
+        arm64::ALLOC | arm64::R19R20X | arm64::FPLR_X | arm64::REG_X | arm64::FREGP_X => c.offset,
+        _ => 0,
     }
-    if c.kind == arm64::R19R20X {
-        return c.offset;
-    }
-    if c.kind == arm64::FPLR_X {
-        return c.offset;
-    }
-    if c.kind == arm64::REG_X {
-        return c.offset;
-    }
-    if c.kind == arm64::FREGP_X {
-        return c.offset;
-    }
-    0
 }
 
 // CR behind the frame record.
@@ -140,37 +108,21 @@ fn tally(p: Packed, c: Code) -> Packed
     let chain = chain_behind(p.chain, c);
     let frame = down_in(c);
     Packed {
-        flag: p.flag,
-        length: p.length,
         vectors: p.vectors + vectors,
         registers: p.registers + registers,
-        homes: p.homes,
         chain,
         frame: p.frame + frame,
+        ..p
     }
-}
-
-fn one_less(n: u64) -> u64
-    ensures { result ≡ n - 1 }
-{
-    if n == 0 {
-        return 0;
-    }
-    n - 1
 }
 
 fn as_fields(p: Packed) -> Packed
     ensures { result ≡ as_fields p }
 {
-    let vectors = one_less(p.vectors);
     Packed {
-        flag: p.flag,
-        length: p.length,
-        vectors,
-        registers: p.registers,
-        homes: p.homes,
-        chain: p.chain,
+        vectors: p.vectors.saturating_sub(1),
         frame: p.frame / 16,
+        ..p
     }
 }
 
@@ -188,17 +140,8 @@ fn candidate(cs: &[u64], size: u64, run: Run) -> Packed
         chain: 0,
         frame: 0,
     };
-    let mut b = Code {
-        kind: arm64::NOP,
-        register: 0,
-        offset: 0,
-    };
-    let mut j = 0;
-    while j < run.count {
-        let c = arm64_simple::simple(b, arm64_simple::saved_at(cs, run, j));
-        p = tally(p, arm64_simple::resolved(b, c));
-        b = arm64_simple::pair_behind(b, c);
-        j += 1;
+    for s in Steps::of(cs, run) {
+        p = tally(p, s.resolved());
     }
     as_fields(p)
 }
@@ -226,9 +169,9 @@ fn defined(p: Packed) -> bool
 }
 
 // A place in the order in which it saves: the prologue's, or what the epilogue undoes of it.
-fn place(undone: bool, p: Packed, i: u64) -> Slot
+fn place(undone: bool, p: Packed, i: u64) -> Option<Code>
     requires { Sound p × (i < 19) }
-    ensures { result ≡ placed undone p i }
+    ensures { result ≡ option_of (placed undone p i) }
 {
     if undone {
         return arm64_packed::slot_at(true, p, 18 - i);
@@ -241,31 +184,19 @@ fn same_places(cs: &[u64], run: Run, undone: bool, p: Packed) -> bool
     requires { Inside cs.now run × Sound p }
     ensures { result ≡ same_codes (given cs.now run) (slots_from (placed undone p) 0 19) }
 {
-    let mut b = Code {
-        kind: arm64::NOP,
-        register: 0,
-        offset: 0,
-    };
-    let mut j = 0;
-    let mut next: u64 = 0;
-    'places: while next < 19 {
-        let i = next;
-        next += 1;
-        let s = place(undone, p, i);
-        let Slot::Coded(d) = s else {
+    let mut steps = Steps::of(cs, run);
+    'places: for i in 0..19 {
+        let Some(d) = place(undone, p, i) else {
             continue 'places;
         };
-        if j == run.count {
+        let Some(s) = steps.next() else {
+            return false;
+        };
+        if s.resolved() != d {
             return false;
         }
-        let c = arm64_simple::simple(b, arm64_simple::saved_at(cs, run, j));
-        if !arm64_simple::same_code(arm64_simple::resolved(b, c), d) {
-            return false;
-        }
-        b = arm64_simple::pair_behind(b, c);
-        j += 1;
     }
-    j == run.count
+    steps.next().is_none()
 }
 
 fn packed_word(p: Packed) -> u64
@@ -281,20 +212,20 @@ fn packed_word(p: Packed) -> u64
         + packed_bits::FRAME * p.frame
 }
 
-// The packed word that stands for a function of `size` instructions, or 0.
-pub fn packed(cs: &[u64], size: u64, prologue: Run, epilogue: Run) -> u64
+// The packed word that stands for a function of `size` instructions.
+pub fn packed(cs: &[u64], size: u64, prologue: Run, epilogue: Run) -> Option<u64>
     requires { Inside cs.now prologue × Inside cs.now epilogue × (run_fits no_pair (saves cs.now prologue) ≡ true) × (prologue.count ≤ most_records) }
-    ensures { result ≡ pick (stands_for (candidate size (simplify no_pair (saves cs.now prologue))) (simplify no_pair (saves cs.now prologue)) (simplify no_pair (saves cs.now epilogue))) (packed_word (candidate size (simplify no_pair (saves cs.now prologue)))) 0 }
+    ensures { result ≡ pick (stands_for (candidate size (simplify no_pair (saves cs.now prologue))) (simplify no_pair (saves cs.now prologue)) (simplify no_pair (saves cs.now epilogue))) (Some (packed_word (candidate size (simplify no_pair (saves cs.now prologue))))) None }
 {
     let p = candidate(cs, size, prologue);
     if !defined(p) {
-        return 0;
+        return None;
     }
     if !same_places(cs, prologue, false, p) {
-        return 0;
+        return None;
     }
     if !same_places(cs, epilogue, true, p) {
-        return 0;
+        return None;
     }
-    packed_word(p)
+    Some(packed_word(p))
 }

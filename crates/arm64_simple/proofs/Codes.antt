@@ -25,11 +25,11 @@ pub same_is : (a b : Code) → (eqb a.kind b.kind && (eqb a.register b.register 
 unfolding same_code
 same_is a b = and_assoc (eqb a.kind b.kind) (eqb a.register b.register) (eqb a.offset b.offset)
 
-not_yes : (x : Bool) → true ≡ not x → x ≡ false
+pub not_yes : (x : Bool) → true ≡ not x → x ≡ false
 not_yes true e = e
 not_yes false e = refl
 
-not_no : (x : Bool) → false ≡ not x → x ≡ true
+pub not_no : (x : Bool) → false ≡ not x → x ≡ true
 not_no true e = refl
 not_no false e = e
 

@@ -10,7 +10,7 @@ use Rattle.format.specs.Prelude.{each}
 use Rattle.format.proofs.ListLaws.{each_next, each_none, each-length}
 use Rattle.arm64.specs.declared.Code.{Code}
 use Rattle.arm64.specs.Codes.{code_bytes, code_fits, form_for, register_fits}
-use Rattle.arm64.specs.Runs.{no_pair, shorter, simple, pair_behind, simplify, simple_fits, run_fits, backwards}
+use Rattle.arm64.specs.Runs.{no_pair, shorter, resolved, simple, pair_behind, simplify, resolve, simple_fits, run_fits, backwards}
 use Rattle.arm64.proofs.MeaningLaws.{both_true}
 use Rattle.arm64_simple.specs.declared.Run.{Run}
 use Rattle.arm64_simple.specs.declared.Step.{Step}
@@ -61,6 +61,15 @@ pub written_all : (b : Code) (cs : List Code) → written (steps b cs) ≡ simpl
 unfolding steps simplify
 written_all b [] = refl
 written_all b (c ∷ cs) = ap (λ x. simple b c ∷ x) (written_all (pair_behind b (simple b c)) cs)
+
+-- SaveNexts as the pairs that they save
+abbrev pub resolves : List Step → List Code
+resolves ss = map (λ s. resolved s.before s.written) ss
+
+pub resolves_all : (b : Code) (cs : List Code) → resolves (steps b cs) ≡ resolve b (simplify b cs)
+unfolding steps simplify resolve
+resolves_all b [] = refl
+resolves_all b (c ∷ cs) = ap (λ x. resolved b (simple b c) ∷ x) (resolves_all (pair_behind b (simple b c)) cs)
 
 -- ---- question 83
 

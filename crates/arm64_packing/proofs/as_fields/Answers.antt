@@ -3,4 +3,4 @@ use Rattle.arm64_packing.proofs.Counts.{fields_by}
 use Rattle.arm64_packing.proofs.as_fields.Goals as goal
 
 pub returns : goal.returns
-returns c = fields_by c.args.p c.one_less-vectors.ensures
+returns c = fields_by c.args.p c.saturating_sub.ensures

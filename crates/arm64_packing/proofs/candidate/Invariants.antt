@@ -1,9 +1,8 @@
-use Prim.Native.Nat.{◌-◌}
+use Rattle.arm64.specs.Runs.{no_pair, simplify}
+use Rattle.arm64_simple.specs.Saves.{saves}
+use Rattle.arm64_simple.specs.Steps.{steps_left}
 use Rattle.arm64_packing.proofs.Tallies.{Tallying}
 use Rattle.arm64_packing.proofs.candidate.Given as goal
 
-abbrev pub invariant-loop-j : goal.invariant-loop-j
-invariant-loop-j l = Tallying l.cs l.size l.run l.p l.b l.j
-
-abbrev pub decreases-loop-j : goal.decreases-loop-j
-decreases-loop-j l = l.run.count - l.j
+abbrev pub invariant-loop-s : goal.invariant-loop-s
+invariant-loop-s l = Tallying (simplify no_pair (saves l.cs l.fn.run)) l.size l.fn.run.count (steps_left l.s-iterator) l.p

@@ -1,5 +1,6 @@
 -- `arm64_packing::packed` meets its contract.
-use mathlib.Core.Path.{sym, ◌∙◌}
+use mathlib.Core.Path.{sym, ap, ◌∙◌}
+use Rattle.std.specs.Prelude.{Some}
 use Rattle.arm64.specs.Runs.{no_pair, simplify}
 use Rattle.arm64_simple.specs.Saves.{saves}
 use Rattle.arm64_packing.proofs.Answers.{not_defined, other_prologue, other_epilogue, stood}
@@ -30,4 +31,4 @@ pub packed_word-requires : goal.packed_word-requires
 packed_word-requires c = ((c.defined.ensures.1 c.if-not-defined.false).small, c.candidate-p.ensures.1)
 
 pub returns : goal.returns
-returns c = c.packed_word.ensures ∙ stood (simplify no_pair (saves c.args.cs.now c.args.prologue)) (simplify no_pair (saves c.args.cs.now c.args.epilogue)) c.candidate-p.ensures.0 (sym c.defined.ensures.0 ∙ c.if-not-defined.false) (sym c.same_places.ensures ∙ c.if-not-same_places.false) (sym c.same_places-2.ensures ∙ c.if-not-same_places-2.false)
+returns c = ap Some c.packed_word.ensures ∙ stood (simplify no_pair (saves c.args.cs.now c.args.prologue)) (simplify no_pair (saves c.args.cs.now c.args.epilogue)) c.candidate-p.ensures.0 (sym c.defined.ensures.0 ∙ c.if-not-defined.false) (sym c.same_places.ensures ∙ c.if-not-same_places.false) (sym c.same_places-2.ensures ∙ c.if-not-same_places-2.false)
