@@ -1,6 +1,7 @@
 -- One code's bytes read as the code: by its form, of the 20 that the kinds have.
 use mathlib.Core.Path.{◌≡◌, refl, subst, sym, ap, ◌∙◌}
 use mathlib.Core.Bool.{Bool, true, false, not, ◌&&◌, ◌||◌}
+use mathlib.Core.Option.{some}
 use mathlib.Core.Logic.{◌≢◌, ⊎_elim}
 use mathlib.Core.List.{List, [], ◌∷◌, ◌++◌}
 use Prim.Native.Nat.{ℕ, zero, suc, ◌+◌, ◌-◌, ◌*◌, ◌/◌, ◌%◌, ◌≤◌, ◌<◌, ◌^◌}
@@ -18,7 +19,6 @@ use Rattle.format.proofs.Choice.{if-le, if-gt, if-eq, if-ne, tested, either}
 use Rattle.format.proofs.ListLaws.{chain, chained, in_range}
 use Rattle.arm64.specs.declared.Code.{Code}
 use Rattle.arm64.specs.declared.Form.{Form}
-use Rattle.arm64.specs.declared.CodeRead.TheVariants as codeRead
 use Rattle.arm64.specs.Codes.{code, form, form_of, short_form, integer_form, vector_form, other_form, field_at, code_in, code_as, code_at, big, register_field, offset_field, spelled, alloc_form, kind_forms, reserved, f_alloc_s, f_alloc_m, f_alloc_l, form_for, code_bytes, last_registers, register_fits, offset_fits, code_fits}
 use Rattle.arm64.specs.Writer.{has_register, has_offset, code_ok}
 use Rattle.arm64.proofs.MeaningLaws.{both_true, no_yes}
@@ -206,7 +206,7 @@ module _ (f : Form) (v : ℕ) (us vs : List ℕ) where
       let a : f.size ≢ 1 = eqb_no s in
       let b : f.size ≢ 2 = eqb_no t in told_4 k r h (omega (arith, r.some_bytes, r.few_bytes, r.not_three, a, b))
 
-  pub number_back : (k : ℕ) → Reads k f → v < spread k f → code_at numbered (length us) ≡ codeRead.Code (code_in f v) (length us + f.size)
+  pub number_back : (k : ℕ) → Reads k f → v < spread k f → code_at numbered (length us) ≡ some (code_in f v, length us + f.size)
   unfolding code_at code_as
   number_back k r h =
       let bs : List ℕ = big f.size (f.op * 256 ^ (f.size - 1) + v) in
@@ -330,12 +330,12 @@ module _ (k : ℕ) (f : Form) (c : Code) (r : Reads k f) (is : c.kind ≡ k) (ok
         let e : f.kind ≡ c.kind = r.kind ∙ sym is in
         λ i. code (e i) (x i) (y i)
 
-    form_back : (us vs : List ℕ) → code_at (us ++ (spelled f c ++ vs)) (length us) ≡ codeRead.Code c (length us + f.size)
+    form_back : (us vs : List ℕ) → code_at (us ++ (spelled f c ++ vs)) (length us) ≡ some (c, length us + f.size)
     unfolding spelled
     form_back us vs =
         let e : f.op * 256 ^ (f.size - 1) + f.unit * register_field f c + offset_field f c ≡ f.op * 256 ^ (f.size - 1) + number = omega arith in
         ap (λ (n : ℕ). code_at (us ++ (big f.size n ++ vs)) (length us)) e ∙ number_back f number us vs k r number_low
-        ∙ ap (λ d. codeRead.Code d (length us + f.size)) code_in_lem
+        ∙ ap (λ d. some (d, length us + f.size)) code_in_lem
 
 -- ---- the form of a code
 
@@ -384,9 +384,9 @@ module _ (c : Code) (ok : whole_code c ≡ true) where
   code_some = omega (arith, code-length, form_reads.some_bytes)
 
   -- A code whose fields hold its values, with anything in front and behind, is read as itself: the same kind, register and offset.
-  pub code_back : code_fits c ≡ true → (us vs : List ℕ) → code_at (us ++ (code_bytes c ++ vs)) (length us) ≡ codeRead.Code c (length us + length (code_bytes c))
+  pub code_back : code_fits c ≡ true → (us vs : List ℕ) → code_at (us ++ (code_bytes c ++ vs)) (length us) ≡ some (c, length us + length (code_bytes c))
   unfolding code_fits code_bytes
   code_back fits us vs =
       let p = both_true (register_fits (form_for c) c) (offset_fits (form_for c) c) fits in
       form_back c.kind (form_for c) c form_reads refl ok p.0 p.1 us vs
-      ∙ ap (λ (n : ℕ). codeRead.Code c (length us + n)) (sym code-length)
+      ∙ ap (λ (n : ℕ). some (c, length us + n)) (sym code-length)

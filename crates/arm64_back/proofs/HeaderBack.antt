@@ -4,7 +4,7 @@ use mathlib.Core.Bool.{Bool, true, false, ◌||◌}
 use mathlib.Core.List.{List, [], ◌∷◌, ◌++◌}
 use Prim.Native.Nat.{ℕ, ◌+◌, ◌*◌, ◌/◌, ◌%◌, ◌^◌, ◌≤◌, ◌<◌}
 use native.Mathlib.Omega.{arith}
-use lib.Dec.{leb, ltb}
+use lib.Dec.{leb, ltb, eqb}
 use lib.ListN.{length, get_or, length-append}
 use lib.Seq.{get_or-append-add}
 use borrow.Author.Tests.{leb-false, ltb-false, eq-eqb, ne_eqb}
@@ -13,7 +13,7 @@ use Rattle.format.specs.Leb.{little}
 use Rattle.format.proofs.LebBack.{little-length}
 use Rattle.arm64.specs.declared.Header.{Header}
 use Rattle.arm64.specs.Lists.{Function}
-use Rattle.arm64.specs.Records.{word_at, version_of, is_long, short_header, long_header, header_at}
+use Rattle.arm64.specs.Records.{word_at, version_of, is_long, header_with, short_header, long_header, header_at}
 use Rattle.arm64.specs.Runs.{run_bytes, runs_bytes, backwards, end_byte}
 use Rattle.arm64.specs.Writer.{prologue_run, own_of, instructions, single, count_of, words_of, is_long_for, header_word, header_bytes, codes_of}
 use Rattle.arm64.proofs.MeaningLaws.{no_yes}
@@ -40,20 +40,20 @@ module _ (n : ℕ) {s : List ℕ} {p : ℕ} (t : BytesAt s p (little 4 n)) where
 -- ---- the header
 
 -- a header by its fields
-abbrev pub header : (size single count words past : ℕ) → Header
-header size single count words past = record { length = size; handler = 0; single = single; count = count; words = words; past = past }
+abbrev pub header : (size : ℕ) → (single : Bool) → (count words past : ℕ) → Header
+header size single count words past = record { length = size; handler = false; single = single; count = count; words = words; past = past }
 
 header_by : {l l' h e e' c c' w w' : ℕ} (past : ℕ) → l ≡ l' → h ≡ 0 → e ≡ e' → c ≡ c' → w ≡ w'
-    → (let x : Header = record { length = l; handler = h; single = e; count = c; words = w; past = past } in x) ≡ header l' e' c' w' past
-header_by past a b c d e = λ i. record { length = a i; handler = b i; single = c i; count = d i; words = e i; past = past }
+    → (let x : Header = record { length = l; handler = eqb h 1; single = eqb e 1; count = c; words = w; past = past } in x) ≡ header l' (eqb e' 1) c' w' past
+header_by past a b c d e = λ i. record { length = a i; handler = eqb (b i) 1; single = eqb (c i) 1; count = d i; words = e i; past = past }
 
 module _ (l e c w past : ℕ) (length-low : l < 2 ^ 18) (single-low : e ≤ 1) where
   module _ (count_low : c < 32) (words-low : w < 32) where
     abbrev short_word : ℕ
     short_word = l + 2 ^ 21 * e + 2 ^ 22 * c + 2 ^ 27 * w
 
-    short_fields : short_header short_word past ≡ header l e c w past
-    unfolding short_header
+    short_fields : short_header short_word past ≡ header l (eqb e 1) c w past
+    unfolding short_header header_with
     short_fields =
         header_by past (omega arith) (omega arith) (omega arith) (omega arith) (omega arith)
 
@@ -75,8 +75,8 @@ module _ (l e c w past : ℕ) (length-low : l < 2 ^ 18) (single-low : e ≤ 1) w
     abbrev second_word_lem : ℕ
     second_word_lem = c + 2 ^ 16 * w
 
-    long_fields : long_header long_word second_word_lem past ≡ header l e c w past
-    unfolding long_header
+    long_fields : long_header long_word second_word_lem past ≡ header l (eqb e 1) c w past
+    unfolding long_header header_with
     long_fields = header_by past (omega arith) (omega arith) (omega arith) (omega arith) (omega arith)
 
     long_version : version_of long_word ≡ 0
@@ -123,9 +123,13 @@ mark_low : (f : Function) → mark f ≤ 1
 unfolding pick
 mark_low f = either_way (single f) (λ t. rw t (omega arith)) λ t. rw t (omega arith)
 
+mark_is : (f : Function) → eqb (mark f) 1 ≡ single f
+unfolding pick
+mark_is f = either_way (single f) (λ t. rw t refl) λ t. rw t refl
+
 -- the header that a function's is read as
 abbrev pub header_for : Function → (past : ℕ) → Header
-header_for f past = header (instructions f.size) (mark f) (count_of f) (words_of f) past
+header_for f past = header (instructions f.size) (single f) (count_of f) (words_of f) past
 
 pub record Headed (s : List ℕ) (p : ℕ) (f : Function) : Type 0 where
   pub fields : header_at s p ≡ header_for f (p + length (header_bytes f))
@@ -151,7 +155,7 @@ module _ (f : Function) (h : Held f) (s : List ℕ) (p : ℕ) where
       record {
         fields = rw first (rw (is_long_lem l (mark f) (count_of f) (words_of f) (p + 8) h.long low h.count h.words, second)
             (long_fields l (mark f) (count_of f) (words_of f) (p + 8) h.long low h.count h.words))
-            ∙ ap (λ (n : ℕ). header_for f (p + n)) (sym eight);
+            ∙ ap (λ (b : Bool). header l b (count_of f) (words_of f) (p + 8)) (mark_is f) ∙ ap (λ (n : ℕ). header_for f (p + n)) (sym eight);
         version = ap version_of first ∙ long_version l (mark f) (count_of f) (words_of f) (p + 8) h.long low h.count h.words;
         inside = omega (arith, stands_inside t);
       }
@@ -171,7 +175,7 @@ module _ (f : Function) (h : Held f) (s : List ℕ) (p : ℕ) where
       record {
         fields = rw first (rw (is_short l (mark f) (count_of f) (words_of f) (p + 4) h.long low few.0 few.1 (words_some f))
             (short_fields l (mark f) (count_of f) (words_of f) (p + 4) h.long low few.0 few.1))
-            ∙ ap (λ (n : ℕ). header_for f (p + n)) (sym four);
+            ∙ ap (λ (b : Bool). header l b (count_of f) (words_of f) (p + 4)) (mark_is f) ∙ ap (λ (n : ℕ). header_for f (p + n)) (sym four);
         version = ap version_of first ∙ short_version l (mark f) (count_of f) (words_of f) (p + 4) h.long low few.0 few.1;
         inside = omega (arith, stands_inside t);
       }

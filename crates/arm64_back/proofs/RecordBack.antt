@@ -178,12 +178,12 @@ module _ (f : Function) (a : Asked f) (s : List ℕ) (p : ℕ) (t : BytesAt s p 
       ∙ take_at bs u.behind (4 * words_of f) (padded_length f)
 
   record_ok_lem : record_ok s p ≡ true
-  unfolding record_ok header_fits codes_to
+  unfolding record_ok header_fits codes_to pick
   record_ok_lem =
       let h = headed in
-      let l : codes_from (header_for f past) + 4 * words_of f + 4 * 0 ≤ length s = omega (arith, stands_inside codes_there, padded_length f) in
+      let l : codes_from (header_for f past) + 4 * words_of f + 0 ≤ length s = omega (arith, stands_inside codes_there, padded_length f) in
       both_yes (both_yes (le-leb (p + 4) (length s) h.inside) (eq-eqb (version_of (word_at s p)) 0 h.version))
-      (rw h.fields (le-leb (codes_from (header_for f past) + 4 * words_of f + 4 * 0) (length s) l))
+      (rw h.fields (le-leb (codes_from (header_for f past) + 4 * words_of f + 0) (length s) l))
 
   pub record_read : full_record s p ≡ good (written f)
   unfolding full_record pick or_else

@@ -8,14 +8,13 @@ use Prim.Native.Nat.{ℕ, zero, suc, ◌+◌, ◌-◌, ◌≤◌, ◌<◌}
 use native.Mathlib.Omega.{arith}
 use lib.ListN.{length, length-append}
 use lib.Seq.{get_or-append_seam}
-use Rattle.format.specs.Prelude.{pick}
+use Rattle.format.specs.Prelude.{pick, after}
 use Rattle.format.proofs.Choice.{if-le, if-eq, if-ne}
 use Rattle.arm64.specs.declared.Code.{Code}
-use Rattle.arm64.specs.declared.CodeRead.TheVariants as codeRead
 use Rattle.arm64.specs.Codes.{code, k_end, form_of, other_form, field_at, code_in, code_as, code_at, code_bytes}
 use Rattle.arm64.specs.Meaning.{reverse}
 use Rattle.arm64.specs.Runs.{same_code, backwards, end_byte, run_bytes, run_size, leads}
-use Rattle.arm64.specs.Reader.{on_code, in_front, run_f, run_at}
+use Rattle.arm64.specs.Reader.{in_front, run_f, run_at}
 use Rattle.arm64.proofs.MeaningLaws.{both_true, no_yes, equal}
 use Rattle.arm64_back.specs.Back.{Fine, AllFine, BytesAt}
 use Rattle.arm64_back.proofs.CodeBack.{known_kind, code_some, code_back}
@@ -70,23 +69,23 @@ stands_right us vs t =
 abbrev Gives : List ℕ → ℕ → List Code → Type 0
 Gives s p cs = (f : ℕ) → length s < p + f → run_f f s p ≡ some cs
 
-module _ (s : List ℕ) (p : ℕ) {c : Code} {q : ℕ} (e : code_at s p ≡ codeRead.Code c q) (l : p < q) (h : q ≤ length s) where
+module _ (s : List ℕ) (p : ℕ) {c : Code} {q : ℕ} (e : code_at s p ≡ some (c, q)) (l : p < q) (h : q ≤ length s) where
   end_given : c.kind ≡ k_end → Gives s p []
-  unfolding run_f on_code
+  unfolding run_f after
   end_given k zero g = absurd (omega arith)
   end_given k (suc f) g = rw e (if-eq c.kind k_end _ _ k)
 
   one_given : c.kind ≢ k_end → {cs : List Code} → Gives s q cs → Gives s p (c ∷ cs)
-  unfolding run_f on_code in_front
+  unfolding run_f after in_front
   one_given k next zero g = absurd (omega arith)
   one_given k next (suc f) g = rw e (if-ne c.kind k_end _ _ k ∙ rw (next f (omega arith)))
 
 module _ (s : List ℕ) where
   code_given : (p : ℕ) (c : Code) → Fine c → BytesAt s p (code_bytes c) → {ds : List Code} → Gives s (p + length (code_bytes c)) ds → Gives s p (c ∷ ds)
   code_given p c fine t next =
-      let e : code_at s p ≡ codeRead.Code c (p + length (code_bytes c)) =
+      let e : code_at s p ≡ some (c, p + length (code_bytes c)) =
       (λ i. code_at (t.is i) (t.place i)) ∙ code_back c fine.0 fine.1 t.front t.behind
-      ∙ ap (λ (n : ℕ). codeRead.Code c (n + length (code_bytes c))) (sym t.place) in
+      ∙ ap (λ (n : ℕ). some (c, n + length (code_bytes c))) (sym t.place) in
       let k : c.kind ≢ k_end = λ g. absurd (omega (arith, known_kind c fine.0, g)) in
       one_given s p e (omega (arith, code_some c fine.0)) (stands_inside t) k next
 
@@ -104,7 +103,7 @@ module _ (s : List ℕ) where
 
 -- ---- the end of a run
 
-end_code : (us vs : List ℕ) → code_at (us ++ end_byte ∷ vs) (length us) ≡ codeRead.Code (code k_end 0 0) (length us + 1)
+end_code : (us vs : List ℕ) → code_at (us ++ end_byte ∷ vs) (length us) ≡ some (code k_end 0 0, length us + 1)
 unfolding code_at code_as code_in field_at form_of other_form pick
 end_code us vs =
     let there : suc (length us) ≤ length (us ++ end_byte ∷ vs) = omega (arith, length-append us (end_byte ∷ vs)) in
@@ -116,9 +115,9 @@ module _ (s : List ℕ) (p : ℕ) (cs : List Code) (fine : AllFine cs) (t : Byte
   unfolding run_bytes
   end_there =
       let u = stands_right (backwards cs) (end_byte ∷ []) t in
-      let e : code_at s (p + length (backwards cs)) ≡ codeRead.Code (code k_end 0 0) (p + length (backwards cs) + 1) =
+      let e : code_at s (p + length (backwards cs)) ≡ some (code k_end 0 0, p + length (backwards cs) + 1) =
       (λ i. code_at (u.is i) (u.place i)) ∙ end_code u.front u.behind
-      ∙ ap (λ (n : ℕ). codeRead.Code (code k_end 0 0) (n + 1)) (sym u.place) in
+      ∙ ap (λ (n : ℕ). some (code k_end 0 0, n + 1)) (sym u.place) in
       end_given s (p + length (backwards cs)) e (omega arith) (stands_inside u) refl
 
   -- A run that stands at a place, with anything in front and behind, is read from there: the last saved code first.
