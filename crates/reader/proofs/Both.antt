@@ -8,14 +8,14 @@ use lib.ListN.{length}
 use lib.Dec.{eqb}
 use Rattle.format.specs.Prelude.{pick, Result, good, bad, onward}
 use Rattle.format.specs.Coded.{Reading}
-use Rattle.std.specs.Prelude.{Ok, Err}
+use Rattle.std.specs.Prelude.{Ok}
 use Rattle.format.specs.Rules.{State, blank, rules_for, seen, answer}
 use Rattle.format.specs.Reader.{run}
 use Rattle.format.proofs.Choice.{if-ne}
 use Rattle.reader.specs.declared.run.State as code
 use Rattle.reader.specs.OneRegister as one
 use Rattle.reader.specs.Spans.{part}
-use Rattle.reader.specs.States.{Held, run_of}
+use Rattle.reader.specs.States.{run_of}
 use Rattle.reader.proofs.Operations.{Inside}
 
 -- the run of as many entries as are left: 2, the header h and the record r; 1, the record
@@ -50,7 +50,6 @@ pub record Between (whole : Reading) (word p q : ℕ) (s : List ℕ) (x y u v le
   pub inside : to ≤ length s
   pub starts : from ≡ pick (eqb left 2) x u
   pub ends : to ≡ pick (eqb left 2) y v
-  pub held : Held state
   pub all : State
   pub seen : one.at q all ≡ run_of state
   pub rest : whole ≡ answer q (remaining word p (part s x y) (part s u v) left all)
@@ -61,11 +60,11 @@ both word p q s x y u v =
     answer q (onward (run true word p blank.current.rules blank (part s x y)) λ t. run false word p t.current.rules t (part s u v))
 
 module _ {word p q : ℕ} {s : List ℕ} {x y u v : ℕ} where
-  pub begin : {state : code.State} → x ≤ y → y ≤ length s → run_of state ≡ one.start → Held state
+  pub begin : {state : code.State} → x ≤ y → y ≤ length s → run_of state ≡ one.start
       → Between (both word p q s x y u v) word p q s x y u v 2 x y state
   unfolding pick remaining blank rules_for one.start one.at
-  begin a b e h =
-      record { high = omega arith; forward = a; inside = b; starts = refl; ends = refl; held = h; all = blank; seen = sym e; rest = refl }
+  begin a b e =
+      record { high = omega arith; forward = a; inside = b; starts = refl; ends = refl; all = blank; seen = sym e; rest = refl }
 
   module _ {whole : Reading} {left from to : ℕ} {state : code.State} (b : Between whole word p q s x y u v left from to state) where
     pub enter : (left ≡ 0 → ⊥)
@@ -75,7 +74,6 @@ module _ {word p q : ℕ} {s : List ℕ} {x y u v : ℕ} where
         let l : 0 < left = omega arith in
         record {
           near = omega arith;
-          held = b.held;
           first = b.all.current.rules;
           first_is = ap (λ (r : one.Run). r.current.rule) b.seen;
           all = b.all;
@@ -87,10 +85,10 @@ module _ {word p q : ℕ} {s : List ℕ} {x y u v : ℕ} where
         }
 
     -- an entry is done
-    pub again : {after : code.State} → (left ≡ 0 → ⊥) → u ≤ v → v ≤ length s → Held after → (all : State) → one.at q all ≡ run_of after
+    pub again : {after : code.State} → (left ≡ 0 → ⊥) → u ≤ v → v ≤ length s → (all : State) → one.at q all ≡ run_of after
         → whole ≡ answer q (remaining word p (part s x y) (part s u v) (left - 1) all)
         → Between whole word p q s x y u v (left - 1) u v after
-    again n f i h all see e =
+    again n f i all see e =
         let m : left - 1 ≡ 2 → ⊥ = λ g. omega (arith, b.high) in
         record {
           high = omega (arith, b.high);
@@ -98,7 +96,6 @@ module _ {word p q : ℕ} {s : List ℕ} {x y u v : ℕ} where
           inside = i;
           starts = sym (if-ne (left - 1) 2 x u m);
           ends = sym (if-ne (left - 1) 2 y v m);
-          held = h;
           all = all;
           seen = see;
           rest = e;

@@ -15,19 +15,18 @@ use Rattle.format.specs.declared.Operation.{Operation}
 use Rattle.format.specs.declared.Operation.TheVariants.{Nop, Step, Does}
 use Rattle.operations.specs.declared.fields.Position.{Position}
 use Rattle.format.specs.Coded.{Reading}
-use Rattle.std.specs.Prelude.{Ok, Err}
+use Rattle.std.specs.Prelude.{Err}
 use Rattle.format.specs.Rows.{read_operation}
 use Rattle.operations.specs.Positions.{operation_at}
 use Rattle.format.specs.Rules.{State, act, answer}
 use Rattle.format.specs.Reader.{perform, when_read, run_f}
-use Rattle.format.proofs.Choice.{if-le, if-gt, if-eq, if-ne}
+use Rattle.format.proofs.Choice.{if-le, if-gt}
 use Rattle.operations.proofs.PositionLaws.{Takes, nothing, taken}
 use Rattle.operations.proofs.OperationLaws.{takes_operation, operation_ahead, operation_rest, operation_none}
 use Rattle.format.proofs.WalkBack.{onward_ext}
 use Rattle.reader.specs.declared.run.State as code
-use Rattle.reader.specs.declared.run.Acted.{Acted}
 use Rattle.reader.specs.OneRegister as one
-use Rattle.reader.specs.States.{Held, run_of, result_of, Acts}
+use Rattle.reader.specs.States.{run_of}
 use Rattle.reader.proofs.Seen.{SeenAs, answered, refused, seen_row}
 
 module _ (header : Bool) (word p : ℕ) (initial : ℕ → Rule) where
@@ -80,7 +79,6 @@ module _ (header : Bool) (word p : ℕ) (initial : ℕ → Rule) where
 
 pub record Inside (whole : Reading) (header : Bool) (word p q : ℕ) (initial : Rule) (ops : List ℕ) (k : State → Result State) (at : Position) (loc : ℕ) (state : code.State) : Type 0 where
   pub near : loc ≤ p
-  pub held : Held state
   pub first : ℕ → Rule
   pub first_is : first q ≡ initial
   pub all : State
@@ -115,7 +113,7 @@ module _ {whole : Reading} {header : Bool} {word p q : ℕ} {initial : Rule} {op
     pub padding : op ≡ Nop → Inside whole header word p q initial ops k next loc state
     unfolding perform
     padding o =
-        record { near = i.near; held = i.held; first = i.first; first_is = i.first_is; all = i.all; seen = i.seen; rest = rw o at opened }
+        record { near = i.near; first = i.first; first_is = i.first_is; all = i.all; seen = i.seen; rest = rw o at opened }
 
     -- 66: a step in a header
     module _ {n : ℕ} (o : op ≡ Step n) where
@@ -136,7 +134,6 @@ module _ {whole : Reading} {header : Bool} {word p q : ℕ} {initial : Rule} {op
           let g : loc + n ≤ p = omega (arith, i.near) in
           record {
             near = g;
-            held = i.held;
             first = i.first;
             first_is = i.first_is;
             all = i.all;
@@ -144,31 +141,26 @@ module _ {whole : Reading} {header : Bool} {word p q : ℕ} {initial : Rule} {op
             rest = opened ∙ rw (o, h, if-le (loc + n) p (running false word p i.first (loc + n) i.all (drop next.at ops)) (good i.all) g);
           }
 
-    module _ {row : Row} {r : Acted} (o : op ≡ Does row) (a : Acts r (one.act header q initial row (run_of state))) where
+    module _ {row : Row} (o : op ≡ Does row) where
       -- what the row does to the rules of all registers
-      row_seen : SeenAs q (act header i.first row i.all) (result_of r)
-      row_seen = rw (a.says, ← i.first_is, ← i.seen) (seen_row header q i.first i.all row)
+      row_seen : SeenAs q (act header i.first row i.all) (one.act header q initial row (run_of state))
+      row_seen = rw (← i.first_is, ← i.seen) (seen_row header q i.first i.all row)
 
-      pub bad_row : (r.number ≡ 0 → ⊥) → Err r.number ≡ whole
-      unfolding perform onward answer result_of
-      bad_row h = by row_seen
+      pub bad_row : {n : ℕ} → one.act header q initial row (run_of state) ≡ bad n → Err n ≡ whole
+      unfolding perform onward answer
+      bad_row {n} a = by row_seen
         where
-          said : result_of r ≡ bad r.number
-          said = if-ne r.number 0 (good (run_of r.state)) (bad r.number) h
+          by : SeenAs q (act header i.first row i.all) (one.act header q initial row (run_of state)) → Err n ≡ whole
+          by (answered s x y) = let w = sym a ∙ y in let z : ◌≡◌ {A = ℕ} 0 1 = cc in absurd (omega arith)
+          by (refused m x y) = let w = sym a ∙ y in let z : m ≡ n = cc in sym (opened ∙ rw (o, x, z))
 
-          by : SeenAs q (act header i.first row i.all) (result_of r) → Err r.number ≡ whole
-          by (answered s x y) = let w = sym said ∙ y in let z : ◌≡◌ {A = ℕ} 0 1 = cc in absurd (omega arith)
-          by (refused n x y) = let w = sym said ∙ y in let z : n ≡ r.number = cc in sym (opened ∙ rw (o, x, z))
-
-      pub good_row : r.number ≡ 0 → Inside whole header word p q initial ops k next loc r.state
-      unfolding perform onward result_of
-      good_row h = by row_seen
+      pub good_row : {after : code.State} → one.act header q initial row (run_of state) ≡ good (run_of after)
+          → Inside whole header word p q initial ops k next loc after
+      unfolding perform onward
+      good_row {after} a = by row_seen
         where
-          said : result_of r ≡ good (run_of r.state)
-          said = if-eq r.number 0 (good (run_of r.state)) (bad r.number) h
-
-          by : SeenAs q (act header i.first row i.all) (result_of r) → Inside whole header word p q initial ops k next loc r.state
+          by : SeenAs q (act header i.first row i.all) (one.act header q initial row (run_of state)) → Inside whole header word p q initial ops k next loc after
           by (answered s x y) =
-              let w = sym said ∙ y in
-              record { near = i.near; held = a.held; first = i.first; first_is = i.first_is; all = s; seen = cc; rest = opened ∙ rw (o, x) }
-          by (refused n x y) = let w = sym said ∙ y in let z : ◌≡◌ {A = ℕ} 0 1 = cc in absurd (omega arith)
+              let w = sym a ∙ y in
+              record { near = i.near; first = i.first; first_is = i.first_is; all = s; seen = cc; rest = opened ∙ rw (o, x) }
+          by (refused n x y) = let w = sym a ∙ y in let z : ◌≡◌ {A = ℕ} 0 1 = cc in absurd (omega arith)

@@ -1,224 +1,190 @@
 // The run of the operations of a header and a record: questions 66 to 69 of the reader, which rucc-asm/src/unwind.rs of tamnd/rucc does not have.
-ghost use Rattle.std.specs.Prelude.{◌≡◌, true, false, ◌≤◌, length, T};
+ghost use Rattle.std.specs.Prelude.{◌≡◌, true, false, ◌∷◌, ◌≤◌, ◌<◌, leb, length, T};
 ghost use Rattle.format.specs.Prelude.{pick, good, bad, onward};
 ghost use Rattle.format.specs.Machine.{is_word_size};
 ghost use Rattle.format.specs.Reader.{run};
 ghost use Rattle.format.specs.Rules.{blank, answer};
 ghost use Rattle.reader.specs.Spans.{part};
 ghost use Rattle.reader.specs.OneRegister.{start, set_cfa, set_rule, change_offset, change_register, remember, recall, negated, act};
-ghost use Rattle.reader.specs.States.{Held, run_of, Acts};
+ghost use Rattle.reader.specs.States.{Pops, run_of, Acts};
 
 use format::{CfaRule, Operation, Row, Rule, Rules};
 use operations::fields::Position;
+use std::marker::Model;
 
 // ---- the state
 
-// The rules that hold, and the `depth` rules stored, the last at depth - 1.
-#[derive(Clone, Copy)]
+// The rules stored, at most 16. A clause sees them as a list, the last first.
+// Kept: an array and how many of it are taken, and no `ArrayVec`: that wants a `Default` for its unused places, which the rules have not.
+#[derive(Drop)]
+pub struct Stored {
+    places: [Rules; 16],
+    depth: usize,
+}
+
+impl Model for Stored {
+    ghost use Rattle.std.specs.Prelude.{◌≡◌, ◌≤◌, List, length, reverse, take};
+    ghost use Rattle.format.specs.declared.Rules.{Rules};
+
+    ghost Value = { List Rules };
+
+    ghost view = { λ s. reverse (take s.depth s.places) };
+
+    ghost invariant = { λ s. (s.depth ≤ 16) × (length s.places ≡ 16) };
+}
+
+impl Stored {
+    fn is_full(&self) -> bool
+        ensures { result ≡ leb 16 (length self.now) }
+    {
+        16 <= self.depth
+    }
+
+    fn push(&mut self, rules: Rules)
+        requires { length self.old < 16 }
+        ensures { self.new ≡ rules ∷ self.old }
+    {
+        self.places[self.depth] = rules;
+        self.depth += 1;
+    }
+
+    fn pop(&mut self) -> Option<Rules>
+        ensures { Pops self.old result self.new }
+    {
+        if self.depth == 0 {
+            return None;
+        }
+        self.depth -= 1;
+        Some(self.places[self.depth])
+    }
+}
+
+// The rules that hold, and those stored.
+#[derive(Drop)]
 pub struct State {
     pub rules: Rules,
-    pub depth: usize,
-    pub stored: [Rules; 16],
+    pub stored: Stored,
 }
 
-// What a row does: the state after it, or the number of the question that it is refused by.
-#[derive(Clone, Copy)]
-pub struct Acted {
-    pub number: u64,
-    pub state: State,
-}
-
-fn start() -> State
-    ensures { (run_of result ≡ start) × Held result }
+// The state in front of a header's operations.
+#[tactic(auto, unfolding(crate::specs::States::run_of, crate::specs::OneRegister::start))]
+pub fn start() -> State
+    ensures { run_of result ≡ start }
 {
     let rules = Rules {
         cfa: CfaRule::Unset,
         rule: Rule::Unstated,
         signing: false,
     };
-    let stored = [rules; 16];
     State {
         rules,
-        depth: 0,
-        stored,
+        stored: Stored {
+            places: [rules; 16],
+            depth: 0,
+        },
     }
 }
 
 // ---- what a row does
 
-// Other rules, and the same stored.
-fn with(s: State, rules: Rules) -> Acted
-    requires { Held s }
-    ensures { Acts result (good (record { current = rules; stored = (run_of s).stored })) }
-{
-    let stored = s.stored;
-    let state = State {
-        rules,
-        depth: s.depth,
-        stored,
-    };
-    Acted { number: 0, state }
-}
-
 // Another CFA rule.
-fn set_cfa(s: State, cfa: CfaRule) -> Acted
-    requires { Held s }
-    ensures { Acts result (good (set_cfa cfa (run_of s))) }
+#[tactic(auto, unfolding(crate::specs::States::run_of, crate::specs::OneRegister::set_cfa))]
+fn set_cfa(s: &mut State, cfa: CfaRule)
+    ensures { run_of s.new ≡ set_cfa cfa (run_of s.old) }
 {
-    let rules = s.rules;
-    let rule = rules.rule;
-    with(
-        s,
-        Rules {
-            cfa,
-            rule,
-            signing: rules.signing,
-        },
-    )
+    s.rules.cfa = cfa;
 }
 
 // Another rule of register reg, which counts where it is the followed one.
-fn set_rule(s: State, q: u16, reg: u16, rule: Rule) -> Acted
-    requires { Held s }
-    ensures { Acts result (good (set_rule q reg rule (run_of s))) }
+fn set_rule(s: &mut State, q: u16, reg: u16, rule: Rule)
+    ensures { run_of s.new ≡ set_rule q reg rule (run_of s.old) }
 {
-    if q != reg {
-        return Acted {
-            number: 0,
-            state: s,
-        };
+    if q == reg {
+        s.rules.rule = rule;
     }
-    let rules = s.rules;
-    let cfa = rules.cfa;
-    with(
-        s,
-        Rules {
-            cfa,
-            rule,
-            signing: rules.signing,
-        },
-    )
 }
 
 // Question 69: a CFA rule whose offset, or register, is another now.
-fn change_offset(s: State, z: i64) -> Acted
-    requires { Held s }
-    ensures { Acts result (change_offset z s.rules.cfa (run_of s)) }
+fn change_offset(s: &mut State, z: i64) -> Result<(), u64>
+    ensures { Acts result (run_of s.new) (change_offset z s.old.rules.cfa (run_of s.old)) }
 {
-    let rules = s.rules;
-    let cfa = rules.cfa;
-    let CfaRule::Register(reg, _) = cfa else {
-        return Acted {
-            number: 69,
-            state: s,
-        };
+    let CfaRule::Register(reg, _) = s.rules.cfa else {
+        return Err(69);
     };
-    set_cfa(s, CfaRule::Register(reg, z))
+    set_cfa(s, CfaRule::Register(reg, z));
+    Ok(())
 }
 
-fn change_register(s: State, reg: u16) -> Acted
-    requires { Held s }
-    ensures { Acts result (change_register reg s.rules.cfa (run_of s)) }
+fn change_register(s: &mut State, reg: u16) -> Result<(), u64>
+    ensures { Acts result (run_of s.new) (change_register reg s.old.rules.cfa (run_of s.old)) }
 {
-    let rules = s.rules;
-    let cfa = rules.cfa;
-    let CfaRule::Register(_, z) = cfa else {
-        return Acted {
-            number: 69,
-            state: s,
-        };
+    let CfaRule::Register(_, z) = s.rules.cfa else {
+        return Err(69);
     };
-    set_cfa(s, CfaRule::Register(reg, z))
+    set_cfa(s, CfaRule::Register(reg, z));
+    Ok(())
 }
 
 // Question 67: no Restore in a header.
-fn restore(header: bool, s: State, q: u16, reg: u16, initial: Rule) -> Acted
-    requires { Held s }
-    ensures { Acts result (pick header (bad 67) (good (set_rule q reg initial (run_of s)))) }
+fn restore(s: &mut State, header: bool, q: u16, reg: u16, initial: Rule) -> Result<(), u64>
+    ensures { Acts result (run_of s.new) (pick header (bad 67) (good (set_rule q reg initial (run_of s.old)))) }
 {
     if header {
-        return Acted {
-            number: 67,
-            state: s,
-        };
+        return Err(67);
     }
-    set_rule(s, q, reg, initial)
+    set_rule(s, q, reg, initial);
+    Ok(())
 }
 
 // Question 68: at most 16 stored.
-fn remember(s: State) -> Acted
-    requires { Held s }
-    ensures { Acts result (remember (run_of s)) }
+fn remember(s: &mut State) -> Result<(), u64>
+    ensures { Acts result (run_of s.new) (remember (run_of s.old)) }
 {
-    let depth = s.depth;
-    if 16 <= depth {
-        return Acted {
-            number: 68,
-            state: s,
-        };
+    if s.stored.is_full() {
+        return Err(68);
     }
     let rules = s.rules;
-    let mut stored = s.stored;
-    stored[depth] = rules;
-    let state = State {
-        rules,
-        depth: depth + 1,
-        stored,
-    };
-    Acted { number: 0, state }
+    s.stored.push(rules);
+    Ok(())
 }
 
 // Question 67: stored rules for a RestoreState.
-fn recall(s: State) -> Acted
-    requires { Held s }
-    ensures { Acts result (recall (run_of s).stored (run_of s)) }
+fn recall(s: &mut State) -> Result<(), u64>
+    ensures { Acts result (run_of s.new) (recall (run_of s.old).stored (run_of s.old)) }
 {
-    let depth = s.depth;
-    if depth == 0 {
-        return Acted {
-            number: 67,
-            state: s,
-        };
-    }
-    let last = depth - 1;
-    let stored = s.stored;
-    let rules = stored[last];
-    let state = State {
-        rules,
-        depth: last,
-        stored,
+    let Some(rules) = s.stored.pop() else {
+        return Err(67);
     };
-    Acted { number: 0, state }
+    s.rules = rules;
+    Ok(())
 }
 
 // The other signing state.
-fn negate(s: State) -> Acted
-    requires { Held s }
-    ensures { Acts result (good (negated (run_of s))) }
+#[tactic(auto, unfolding(crate::specs::States::run_of, crate::specs::OneRegister::negated))]
+fn negate(s: &mut State)
+    ensures { run_of s.new ≡ negated (run_of s.old) }
 {
-    let mut rules = s.rules;
-    rules.signing = !rules.signing;
-    with(s, rules)
+    s.rules.signing = !s.rules.signing;
 }
 
-// A row; `initial` is the followed register's rule after the header.
-fn act(header: bool, q: u16, initial: Rule, row: Row, s: State) -> Acted
-    requires { Held s }
-    ensures { Acts result (act header q initial row (run_of s)) }
+// A row, or the number of the question that it is refused by; `initial` is the followed register's rule after the header.
+pub fn act(s: &mut State, header: bool, q: u16, initial: Rule, row: Row) -> Result<(), u64>
+    ensures { Acts result (run_of s.new) (act header q initial row (run_of s.old)) }
 {
     match row {
         Row::DefCfa(reg, z) => set_cfa(s, CfaRule::Register(reg, z)),
-        Row::DefCfaOffset(z) => change_offset(s, z),
-        Row::DefCfaRegister(reg) => change_register(s, reg),
+        Row::DefCfaOffset(z) => return change_offset(s, z),
+        Row::DefCfaRegister(reg) => return change_register(s, reg),
         Row::Offset(reg, z) => set_rule(s, q, reg, Rule::Saved(z)),
-        Row::Restore(reg) => restore(header, s, q, reg, initial),
+        Row::Restore(reg) => return restore(s, header, q, reg, initial),
         Row::Undefined(reg) => set_rule(s, q, reg, Rule::Undefined),
-        Row::RememberState => remember(s),
-        Row::RestoreState => recall(s),
+        Row::RememberState => return remember(s),
+        Row::RestoreState => return recall(s),
         Row::NegateRaState => negate(s),
         Row::SameValue(reg) => set_rule(s, q, reg, Rule::SameValue),
         Row::InRegister(reg, other) => set_rule(s, q, reg, Rule::InRegister(other)),
     }
+    Ok(())
 }
 
 // ---- the operations of two entries
@@ -245,8 +211,7 @@ pub fn run(
     'entries: while left != 0 {
         let ops = &s[from..to];
         let first = left == 2;
-        let rules = state.rules;
-        let initial = rules.rule;
+        let initial = state.rules.rule;
         left -= 1;
         from = record;
         to = record_end;
@@ -270,15 +235,10 @@ pub fn run(
                     continue 'operations;
                 }
                 Operation::Does(row) => {
-                    let acted = act(first, q, initial, row, state);
-                    if acted.number != 0 {
-                        return Err(acted.number);
-                    }
-                    state = acted.state;
+                    act(&mut state, first, q, initial, row)?;
                 }
             }
         }
     }
-    let rules = state.rules;
-    Ok(rules)
+    Ok(state.rules)
 }

@@ -1,9 +1,13 @@
 -- `reader::run::remember` meets its contract.
-use Rattle.reader.proofs.Acting.{full, remembered}
+use mathlib.Core.Path.{sym, ◌∙◌}
+use Rattle.reader.proofs.Acting.{full, remembered, room}
 use Rattle.reader.proofs.run.remember.Goals as goal
 
-pub returns-then-depth-ge16 : goal.returns-then-depth-ge16
-returns-then-depth-ge16 c = full c.args.s c.requires c.if-depth-ge16.true
+pub returns-then-is_full : goal.returns-then-is_full
+returns-then-is_full c = full c.args.s.now (sym c.is_full.ensures ∙ c.if-is_full.true)
+
+pub push-requires : goal.push-requires
+push-requires c = room c.args.s.now (sym c.is_full.ensures ∙ c.if-is_full.false)
 
 pub returns : goal.returns
-returns c = remembered c.args.s c.requires c.if-depth-ge16.false
+returns c = remembered c.args.s.now (sym c.is_full.ensures ∙ c.if-is_full.false) c.push.ensures

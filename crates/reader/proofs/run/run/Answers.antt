@@ -1,19 +1,20 @@
 -- `reader::run::run` meets its contract.
 use borrow.Author.Tests.{eq-eqb, ne_eqb}
 use mathlib.Core.Path.{sym, ◌∙◌}
+use Rattle.std.proofs.lemmas.Result.{err_from_is_err_and}
 use Rattle.format.proofs.FieldsBack.{word_small}
 use Rattle.reader.proofs.Operations.{bad_operation, all_done, shorter, padding, bad_step, far_step, near_step, bad_row, good_row}
 use Rattle.reader.proofs.Both.{begin, enter, again, ended}
 use Rattle.reader.proofs.run.run.Goals as goal
 
 pub entries-init : goal.entries-init
-entries-init c = begin c.requires.1 c.requires.2 c.start-state.ensures.0 c.start-state.ensures.1
+entries-init c = begin c.requires.1 c.requires.2 c.start-state.ensures
 
 pub operations-init : goal.operations-init
 operations-init c = enter c.entries.invariant c.entries-test.true
 
 pub entries-preserved : goal.entries-preserved
-entries-preserved c = again c.entries.invariant c.entries-test.true c.requires.3 c.requires.4 c.operations.invariant.held c.operations.invariant.all c.operations.invariant.seen (all_done c.operations.invariant c.operations-test.false)
+entries-preserved c = again c.entries.invariant c.entries-test.true c.requires.3 c.requires.4 c.operations.invariant.all c.operations.invariant.seen (all_done c.operations.invariant c.operations-test.false)
 
 pub operation-requires : goal.operation-requires
 operation-requires c = (word_small c.args.word c.requires.0).0
@@ -34,7 +35,7 @@ pub overflow_sub-p : goal.overflow_sub-p
 overflow_sub-p c = c.operations.invariant.near
 
 pub entries-preserved-then-p-loc : goal.entries-preserved-then-p-loc
-entries-preserved-then-p-loc c = again c.entries.invariant c.entries-test.true c.requires.3 c.requires.4 c.operations.invariant.held c.operations.invariant.all c.operations.invariant.seen (far_step c.operations.invariant (sym c.operation.ensures ∙ c.in-Some.is) c.in-Step.is (ne_eqb _ _ c.if-first.false) c.if-p-loc.true)
+entries-preserved-then-p-loc c = again c.entries.invariant c.entries-test.true c.requires.3 c.requires.4 c.operations.invariant.all c.operations.invariant.seen (far_step c.operations.invariant (sym c.operation.ensures ∙ c.in-Some.is) c.in-Step.is (ne_eqb _ _ c.if-first.false) c.if-p-loc.true)
 
 pub operations-smaller-in-Step : goal.operations-smaller-in-Step
 operations-smaller-in-Step c = shorter c.operations.invariant (sym c.operation.ensures ∙ c.in-Some.is)
@@ -42,17 +43,16 @@ operations-smaller-in-Step c = shorter c.operations.invariant (sym c.operation.e
 pub operations-preserved-in-Step : goal.operations-preserved-in-Step
 operations-preserved-in-Step c = near_step c.operations.invariant (sym c.operation.ensures ∙ c.in-Some.is) c.in-Step.is (ne_eqb _ _ c.if-first.false) c.if-p-loc.false
 
-pub act-acted-requires : goal.act-acted-requires
-act-acted-requires c = c.operations.invariant.held
-
-pub returns-then-acted-ne0 : goal.returns-then-acted-ne0
-returns-then-acted-ne0 c = bad_row c.operations.invariant (sym c.operation.ensures ∙ c.in-Some.is) c.in-Does.is c.act-acted.ensures c.if-acted-ne0.true
+pub returns-in_err-act-in-Does : goal.returns-in_err-act-in-Does
+returns-in_err-act-in-Does c =
+    let p = err_from_is_err_and c.from_residual.result c.from_residual.ensures.1 in
+    rw (p.1, p.2) (bad_row c.operations.invariant (sym c.operation.ensures ∙ c.in-Some.is) c.in-Does.is c.in_err-act-in-Does.ensures)
 
 pub operations-smaller : goal.operations-smaller
 operations-smaller c = shorter c.operations.invariant (sym c.operation.ensures ∙ c.in-Some.is)
 
 pub operations-preserved : goal.operations-preserved
-operations-preserved c = good_row c.operations.invariant (sym c.operation.ensures ∙ c.in-Some.is) c.in-Does.is c.act-acted.ensures c.if-acted-ne0.false
+operations-preserved c = good_row c.operations.invariant (sym c.operation.ensures ∙ c.in-Some.is) c.in-Does.is c.in_ok-act-in-Does.ensures
 
 pub returns : goal.returns
 returns c = ended c.entries.invariant c.entries-test.false
