@@ -8,18 +8,17 @@ use lib.ListN.{length, length-take}
 use lib.Dec.{eqb}
 use Rattle.format.specs.Prelude.{pick, good}
 use Rattle.format.specs.declared.Rule.{Rule}
-use Rattle.format.specs.declared.Rules.{Rules}
 use Rattle.format.specs.Rules.{State, blank, rules_for}
 use Rattle.format.proofs.Choice.{if-ne}
 use Rattle.format.proofs.Wrote.{Wrote}
 use Rattle.operations.specs.declared.fields.Position.{Position}
 use Rattle.reader.specs.OneRegister as one
 use Rattle.reader.specs.Spans.{part}
-use Rattle.reader.specs.States.{Room, run_of, stored_of}
-use Rattle.reader.proofs.Acting.{nothing}
+use Rattle.reader.specs.States.{run_of}
+use Rattle.reader.specs.declared.run.State as code
 use Rattle.listing.specs.Lines.{Lines, last, ended, highest, lines_f, record_lines, lines_of, line_numbers, Lists}
 use Rattle.listing.proofs.StoredLines.{LinesStored, stored_none, stored_since, stored_joined, stored_last, stored_ended}
-use Rattle.listing.proofs.Doing.{state, Inside}
+use Rattle.listing.proofs.Doing.{Inside}
 
 -- the lines of as many entries as are left: 2, the header h and the record r; 1, the record
 unfoldable pub remaining : (word : ℕ) (h r : List ℕ) → ℕ → ℕ → State → Lines
@@ -74,24 +73,23 @@ behind word h r (suc (suc zero)) at t a b e = let z : ◌≡◌ {A = ℕ} 0 1 = 
 behind word h r (suc (suc (suc n))) at t a b e = absurd (omega arith)
 
 -- between two entries: the next one is at `from` up to `to`; `all` are the rules of all registers
-pub record Between (whole : Lines) (word q : ℕ) (s : List ℕ) (x y u v : ℕ) (old out : List ℕ) (rules : Rules) (stored : List Rules) (depth i loc left from to : ℕ) : Type 0 where
+pub record Between (whole : Lines) (word q : ℕ) (s : List ℕ) (x y u v : ℕ) (old out : List ℕ) (state : code.State) (i loc left from to : ℕ) : Type 0 where
   pub high : left ≤ 2
   pub forward : from ≤ to
   pub inside : to ≤ length s
   pub starts : from ≡ pick (eqb left 2) x u
   pub ends : to ≡ pick (eqb left 2) y v
   pub near : loc ≤ highest
-  pub held : Room depth stored
   pub all : State
-  pub seen : one.at q all ≡ run_of (state rules stored depth)
+  pub seen : one.at q all ≡ run_of state
   pub lines : LinesStored q whole (remaining word (part s x y) (part s u v) left loc all) old out i
   pub room : i + 7 * (bytes left (v - u) + 1) ≤ length out
 
 module _ {word q : ℕ} {s : List ℕ} {x y u v : ℕ} {old : List ℕ} where
-  pub begin : {rules : Rules} {stored : List Rules} → x ≤ y → y ≤ length s → rules ≡ nothing → length stored ≡ 16 → 7 * (v - u + 1) ≤ length old
-      → Between (lines_of word (part s x y) (part s u v)) word q s x y u v old old rules stored 0 0 0 2 x y
-  unfolding pick remaining lines_of bytes blank rules_for run_of stored_of one.at
-  begin {stored = stored} a b e l m =
+  pub begin : {state : code.State} → x ≤ y → y ≤ length s → run_of state ≡ one.start → 7 * (v - u + 1) ≤ length old
+      → Between (lines_of word (part s x y) (part s u v)) word q s x y u v old old state 0 0 2 x y
+  unfolding pick remaining lines_of bytes blank rules_for one.start one.at
+  begin a b e m =
       record {
         high = omega arith;
         forward = a;
@@ -99,24 +97,22 @@ module _ {word q : ℕ} {s : List ℕ} {x y u v : ℕ} {old : List ℕ} where
         starts = refl;
         ends = refl;
         near = omega arith;
-        held = record { deep = omega arith; long = l };
         all = blank;
-        seen = rw e refl;
+        seen = sym e;
         lines = stored_none q (lines_of word (part s x y) (part s u v)) old;
         room = omega (arith, m);
       }
 
-  module _ {whole : Lines} {out : List ℕ} {rules : Rules} {stored : List Rules} {depth i loc left from to : ℕ}
-      (b : Between whole word q s x y u v old out rules stored depth i loc left from to) where
+  module _ {whole : Lines} {out : List ℕ} {state : code.State} {i loc left from to : ℕ}
+      (b : Between whole word q s x y u v old out state i loc left from to) where
     pub enter : (left ≡ 0 → ⊥)
-        → Inside whole (eqb left 2) word q rules.rule (part s from to) (remaining word (part s x y) (part s u v) (left - 1)) (v - u) out out rules stored depth i loc (record { at = 0; shortest = true })
+        → Inside whole (eqb left 2) word q state.rules.rule (part s from to) (remaining word (part s x y) (part s u v) (left - 1)) (v - u) out out state i loc (record { at = 0; shortest = true })
     unfolding run_of rules_for one.at
     enter n =
         let l : 0 < left = omega arith in
         let p : part s from to ≡ pick (eqb left 2) (part s x y) (part s u v) = rw (b.starts, b.ends) (picked (eqb left 2) s x y u v) in
         record {
           near = b.near;
-          held = b.held;
           first = b.all.current.rules;
           first_is = ap (λ (r : one.Run). r.current.rule) b.seen;
           all = b.all;
@@ -125,12 +121,12 @@ module _ {word q : ℕ} {s : List ℕ} {x y u v : ℕ} {old : List ℕ} where
           room = rw p (omega (arith, b.room, enter_room left s (part s x y) u v l b.high));
         }
 
-    module _ {initial : Rule} {ops out' : List ℕ} {rules' : Rules} {stored' : List Rules} {depth' j loc' : ℕ} {at : Position}
-        (n : Inside whole (eqb left 2) word q initial ops (remaining word (part s x y) (part s u v) (left - 1)) (v - u) out out' rules' stored' depth' j loc' at)
+    module _ {initial : Rule} {ops out' : List ℕ} {after : code.State} {j loc' : ℕ} {at : Position}
+        (n : Inside whole (eqb left 2) word q initial ops (remaining word (part s x y) (part s u v) (left - 1)) (v - u) out out' after j loc' at)
         (c : left ≡ 0 → ⊥) (f : u ≤ v) (g : v ≤ length s) where
       -- an entry is done
       pub again : LinesStored q whole (remaining word (part s x y) (part s u v) (left - 1) loc' n.all) out out' j
-          → Between whole word q s x y u v old out' rules' stored' depth' j loc' (left - 1) u v
+          → Between whole word q s x y u v old out' after j loc' (left - 1) u v
       again t =
           let m : left - 1 ≡ 2 → ⊥ = λ h. omega (arith, b.high) in
           record {
@@ -140,7 +136,6 @@ module _ {word q : ℕ} {s : List ℕ} {x y u v : ℕ} {old : List ℕ} where
             starts = sym (if-ne (left - 1) 2 x u m);
             ends = sym (if-ne (left - 1) 2 y v m);
             near = n.near;
-            held = n.held;
             all = n.all;
             seen = n.seen;
             lines = stored_joined b.lines t;
@@ -149,7 +144,7 @@ module _ {word q : ℕ} {s : List ℕ} {x y u v : ℕ} {old : List ℕ} where
 
       -- a step past every offset ends the record
       pub cut : eqb left 2 ≡ false → LinesStored q whole (last loc' n.all) out out' j
-          → Between whole word q s x y u v old out' rules' stored' depth' j loc' (left - 1) u v
+          → Between whole word q s x y u v old out' after j loc' (left - 1) u v
       cut e t = again (rw (← behind word (part s x y) (part s u v) left loc' n.all (omega arith) b.high e) t)
 
     -- a question ends the run inside of an entry
@@ -159,6 +154,6 @@ module _ {word q : ℕ} {s : List ℕ} {x y u v : ℕ} {old : List ℕ} where
     pub end_room : left ≡ 0 → i + 7 ≤ length out
     end_room e = omega (arith, b.room)
 
-    pub ended_all : left ≡ 0 → {out' : List ℕ} {j : ℕ} → Wrote out out' i j (line_numbers loc rules) → Lists q (good whole) (record { number = 0; lines = j / 7; ending = 0; from = 0 }) old out'
+    pub ended_all : left ≡ 0 → {out' : List ℕ} {j : ℕ} → Wrote out out' i j (line_numbers loc state.rules) → Lists q (good whole) (record { number = 0; lines = j / 7; ending = 0; from = 0 }) old out'
     unfolding remaining one.at run_of
     ended_all e w = stored_last (rw e at b.lines) (rw (ap (λ (r : one.Run). r.current) b.seen) w)

@@ -11,7 +11,6 @@ use lib.ListN.{length, drop, length-drop, drop_of_length-le}
 use Rattle.format.specs.Prelude.{pick, Read, Result, good, bad}
 use Rattle.format.specs.declared.Row.{Row}
 use Rattle.format.specs.declared.Rule.{Rule}
-use Rattle.format.specs.declared.Rules.{Rules}
 use Rattle.format.specs.declared.Operation.{Operation}
 use Rattle.format.specs.declared.Operation.TheVariants.{Nop, Step, Does}
 use Rattle.operations.specs.declared.fields.Position.{Position}
@@ -23,7 +22,7 @@ use Rattle.operations.proofs.PositionLaws.{Takes, nothing, taken}
 use Rattle.operations.proofs.OperationLaws.{takes_operation, operation_ahead, operation_rest, operation_none}
 use Rattle.format.proofs.Wrote.{Wrote}
 use Rattle.reader.specs.OneRegister as one
-use Rattle.reader.specs.States.{Room, run_of}
+use Rattle.reader.specs.States.{run_of}
 use Rattle.reader.specs.declared.run.State as code
 use Rattle.reader.proofs.Seen.{SeenAs, answered, refused, seen_row}
 use Rattle.listing.specs.Lines.{Lines, line, last, ended, highest, when_read, when_acted, stepping, doing, lines_f, line_numbers}
@@ -79,28 +78,24 @@ module _ (header : Bool) (word : ℕ) (initial : ℕ → Rule) (k : ℕ → Stat
 
 -- ---- the loop: `more` is the number of bytes of the record's operations, `all` are the rules of all registers, of which the code keeps register q's
 
-abbrev pub state : Rules → List Rules → ℕ → code.State
-state rules stored depth = record { rules = rules; depth = depth; stored = stored }
-
 less_room : (header : Bool) (more a b : ℕ) → a ≤ b → pick header more a ≤ pick header more b
 unfolding pick
 less_room true more a b h = le_refl _
 less_room false more a b h = h
 
-pub record Inside (whole : Lines) (header : Bool) (word q : ℕ) (initial : Rule) (ops : List ℕ) (k : ℕ → State → Lines) (more : ℕ) (old out : List ℕ) (rules : Rules) (stored : List Rules) (depth i loc : ℕ) (at : Position) : Type 0 where
+pub record Inside (whole : Lines) (header : Bool) (word q : ℕ) (initial : Rule) (ops : List ℕ) (k : ℕ → State → Lines) (more : ℕ) (old out : List ℕ) (state : code.State) (i loc : ℕ) (at : Position) : Type 0 where
   pub near : loc ≤ highest
-  pub held : Room depth stored
   pub first : ℕ → Rule
   pub first_is : first q ≡ initial
   pub all : State
-  pub seen : one.at q all ≡ run_of (state rules stored depth)
+  pub seen : one.at q all ≡ run_of state
   pub lines : LinesStored q whole (listing header word first k loc all (drop at.at ops)) old out i
   pub room : i + 7 * (pick header more (length ops - at.at) + 1) ≤ length out
 
-module _ {whole : Lines} {header : Bool} {word q : ℕ} {initial : Rule} {ops : List ℕ} {k : ℕ → State → Lines} {more : ℕ} {old out : List ℕ} {rules : Rules} {stored : List Rules} {depth i loc : ℕ} {at : Position}
-    (n : Inside whole header word q initial ops k more old out rules stored depth i loc at) where
+module _ {whole : Lines} {header : Bool} {word q : ℕ} {initial : Rule} {ops : List ℕ} {k : ℕ → State → Lines} {more : ℕ} {old out : List ℕ} {state : code.State} {i loc : ℕ} {at : Position}
+    (n : Inside whole header word q initial ops k more old out state i loc at) where
   -- the rules that hold are those that the code keeps
-  rules_kept : rules_for q n.all.current ≡ rules
+  rules_kept : rules_for q n.all.current ≡ state.rules
   unfolding one.at run_of
   rules_kept = ap (λ (r : one.Run). r.current) n.seen
 
@@ -130,10 +125,10 @@ module _ {whole : Lines} {header : Bool} {word q : ℕ} {initial : Rule} {ops : 
     room_left : i + 7 * (pick header more (length ops - next.at) + 1) ≤ length out
     room_left = omega (arith, n.room, less_room header more (length ops - next.at) (length ops - at.at) (omega (arith, shorter)))
 
-    pub padding : op ≡ Nop → Inside whole header word q initial ops k more old out rules stored depth i loc next
+    pub padding : op ≡ Nop → Inside whole header word q initial ops k more old out state i loc next
     unfolding doing
     padding o =
-        record { near = n.near; held = n.held; first = n.first; first_is = n.first_is; all = n.all; seen = n.seen; lines = rw o at opened; room = room_left }
+        record { near = n.near; first = n.first; first_is = n.first_is; all = n.all; seen = n.seen; lines = rw o at opened; room = room_left }
 
     module _ {d : ℕ} (o : op ≡ Step d) where
       -- 66: a step in a header
@@ -146,12 +141,11 @@ module _ {whole : Lines} {header : Bool} {word q : ℕ} {initial : Rule} {ops : 
         unfolding doing
         stepped = rw (ap (λ (b : Bool). stepping b d loc n.all λ m u. listing header word n.first k m u (drop next.at ops)) (sym h)) (rw o at opened)
 
-        pub no_step : d ≡ 0 → Inside whole header word q initial ops k more old out rules stored depth i loc next
+        pub no_step : d ≡ 0 → Inside whole header word q initial ops k more old out state i loc next
         unfolding stepping pick
         no_step z =
             record {
               near = n.near;
-              held = n.held;
               first = n.first;
               first_is = n.first_is;
               all = n.all;
@@ -177,19 +171,18 @@ module _ {whole : Lines} {header : Bool} {word q : ℕ} {initial : Rule} {ops : 
           pub line_room : i + 7 ≤ length out
           line_room = omega (arith, n.room)
 
-          room_behind : {out' : List ℕ} {j : ℕ} → Wrote out out' i j (line_numbers loc rules) → length out' ≡ length out
+          room_behind : {out' : List ℕ} {j : ℕ} → Wrote out out' i j (line_numbers loc state.rules) → length out' ≡ length out
               → j + 7 * (pick header more (length ops - next.at) + 1) ≤ length out'
           unfolding pick
           room_behind w g =
-              let a : i + 7 * (length ops - at.at + 1) ≤ length out = rw h at n.room in rw h (omega (arith, a, g, w.past, line_length loc rules, shorter))
+              let a : i + 7 * (length ops - at.at + 1) ≤ length out = rw h at n.room in rw h (omega (arith, a, g, w.past, line_length loc state.rules, shorter))
 
-          pub near_step : d ≤ highest - loc → {out' : List ℕ} {j : ℕ} → Wrote out out' i j (line_numbers loc rules) → length out' ≡ length out
-              → Inside whole header word q initial ops k more old out' rules stored depth j (loc + d) next
+          pub near_step : d ≤ highest - loc → {out' : List ℕ} {j : ℕ} → Wrote out out' i j (line_numbers loc state.rules) → length out' ≡ length out
+              → Inside whole header word q initial ops k more old out' state j (loc + d) next
           near_step l w g =
               record {
                 near = omega (arith, n.near);
-                held = n.held;
-                first = n.first;
+                  first = n.first;
                 first_is = n.first_is;
                 all = n.all;
                 seen = n.seen;
@@ -198,29 +191,28 @@ module _ {whole : Lines} {header : Bool} {word q : ℕ} {initial : Rule} {ops : 
               }
 
     module _ {row : Row} (o : op ≡ Does row) where
-      row_seen : SeenAs q (act header n.first row n.all) (one.act header q initial row (run_of (state rules stored depth)))
+      row_seen : SeenAs q (act header n.first row n.all) (one.act header q initial row (run_of state))
       row_seen = rw (← n.first_is, ← n.seen) (seen_row header q n.first n.all row)
 
-      pub bad_row : {m : ℕ} → one.act header q initial row (run_of (state rules stored depth)) ≡ bad m → LinesStored q whole (ended loc m) old out i
+      pub bad_row : {m : ℕ} → one.act header q initial row (run_of state) ≡ bad m → LinesStored q whole (ended loc m) old out i
       unfolding doing when_acted
       bad_row {m} a = by row_seen
         where
-          by : SeenAs q (act header n.first row n.all) (one.act header q initial row (run_of (state rules stored depth))) → LinesStored q whole (ended loc m) old out i
+          by : SeenAs q (act header n.first row n.all) (one.act header q initial row (run_of state)) → LinesStored q whole (ended loc m) old out i
           by (answered s x y) = let w = sym a ∙ y in let z : ◌≡◌ {A = ℕ} 0 1 = cc in absurd (omega arith)
           by (refused l x y) = let w = sym a ∙ y in let z : l ≡ m = cc in rw (← z) (rw (o, x) at opened)
 
-      pub good_row : {rules' : Rules} {stored' : List Rules} {depth' : ℕ} → one.act header q initial row (run_of (state rules stored depth)) ≡ good (run_of (state rules' stored' depth'))
-          → Room depth' stored' → Inside whole header word q initial ops k more old out rules' stored' depth' i loc next
+      pub good_row : {after : code.State} → one.act header q initial row (run_of state) ≡ good (run_of after)
+          → Inside whole header word q initial ops k more old out after i loc next
       unfolding doing when_acted
-      good_row {rules'} {stored'} {depth'} a r = by row_seen
+      good_row {after} a = by row_seen
         where
-          by : SeenAs q (act header n.first row n.all) (one.act header q initial row (run_of (state rules stored depth)))
-              → Inside whole header word q initial ops k more old out rules' stored' depth' i loc next
+          by : SeenAs q (act header n.first row n.all) (one.act header q initial row (run_of state))
+              → Inside whole header word q initial ops k more old out after i loc next
           by (answered s x y) =
               let w = sym a ∙ y in
               record {
                 near = n.near;
-                held = r;
                 first = n.first;
                 first_is = n.first_is;
                 all = s;

@@ -1,3 +1,2 @@
--- What the listing of a record's rules answers. Read Lines; Changes is for the code's contracts.
+-- What the listing of a record's rules answers.
 pub mod Lines
-pub mod Changes
