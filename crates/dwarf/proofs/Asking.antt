@@ -1,10 +1,12 @@
 -- Questions 21 to 25 asked function by function, up to the first no.
 use mathlib.Core.Path.{◌≡◌, refl, sym, ap, ◌∙◌}
-use Prim.Native.Nat.{ℕ, suc, ◌+◌, ◌-◌, ◌≤◌, ◌<◌}
+use Prim.Native.Nat.{ℕ, zero, suc, ◌+◌, ◌-◌, ◌≤◌, ◌<◌}
 use native.Mathlib.Omega.{arith}
 use native.Mathlib.Numerals.{add-one}
 use mathlib.Core.Option.{none, some}
-use Rattle.format.specs.Prelude.{each}
+use mathlib.Core.Bool.{Bool, ◌&&◌}
+use Rattle.std.specs.List.{range_with_len, list_all}
+use Rattle.format.specs.Prelude.{all, each}
 use Rattle.format.proofs.Asked.{question_of, said_yes}
 use Rattle.format.specs.Coded.{Asked}
 use Rattle.std.specs.Prelude.{Ok, Err}
@@ -52,3 +54,9 @@ module _ {A : Type 0} where
     ended h =
         let e : n - k ≡ 0 = omega arith in
         sym (ap question_of a.rest ∙ rw e)
+
+-- a test of each value over a range, asked by `all` of an iterator over the range
+pub all_each_range : {A : Type 0} (test : A → Bool) (f : ℕ → A) (at n : ℕ) → list_all (λ i. test (f i)) (range_with_len at n) ≡ all test (each f at n)
+unfolding all each
+all_each_range test f at zero = refl
+all_each_range test f at (suc n) = rw (add-one at) (ap (λ b. test (f at) && b) (all_each_range test f (suc at) n))

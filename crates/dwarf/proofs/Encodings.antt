@@ -3,18 +3,24 @@ use mathlib.Core.Path.{◌≡◌, refl, sym, ◌∙◌}
 use Prim.Native.Nat.{ℕ, zero, suc, ◌<◌}
 use native.Mathlib.Omega.{arith}
 use mathlib.Core.Bool.{Bool, true, false, not}
-use mathlib.Core.Option.{Option}
+use mathlib.Core.Option.{Option, none, some}
+use Rattle.std.specs.Prelude as code
+use Rattle.format.specs.Coded.{option_of}
 use mathlib.Core.List.{[]}
-use borrow.Author.Tests.{ne_eqb}
-use lib.Dec.{eqb}
 use Rattle.format.specs.Prelude.{pick, each}
 use Rattle.format.specs.Lists.{Named, Landing, landing_at}
-use Rattle.format.specs.Headers.{pointer_size, size_or0}
+use Rattle.format.specs.Headers.{pointer_size}
 use Rattle.format.specs.Questions.{is_some, lsda_ok, named_ok, encodings_ok}
 use Rattle.lists.specs.declared.Extent.{Extent}
 use Rattle.lists.specs.Extents.{meant}
 use Rattle.header_keys.specs.Functions.{body_of}
-use Rattle.numbers.proofs.Pointers.{size_accepts}
+
+-- ---- an encoding's size, as the code has it
+
+pub some_is : (o : Option ℕ) → code.is_some (option_of o) ≡ is_some o
+unfolding is_some
+some_is none = refl
+some_is (some n) = refl
 
 -- ---- a function's encodings
 
@@ -36,21 +42,16 @@ module _ (word : ℕ) (e : Extent) where
     unfolding meant each encodings_ok named_ok pick
     unnamed p = rw (n, p)
 
-    module _ (p : e.personality ≡ true) (w : 0 < word) where
-      pub unknown : {r : ℕ} → r ≡ size_or0 (pointer_size true word e.encoding) → r ≡ 0 → false ≡ ok word e
+    module _ (p : e.personality ≡ true) where
+      pub unknown : is_some (pointer_size true word e.encoding) ≡ false → false ≡ ok word e
       unfolding meant each encodings_ok named_ok pick
-      unknown {r} q z =
-          let k : size_or0 (pointer_size true word e.encoding) ≡ 0 = sym q ∙ z in
-          rw (n, p, size_accepts true word e.encoding w, k)
+      unknown k = rw (n, p, k)
 
-      module _ {r : ℕ} (q : r ≡ size_or0 (pointer_size true word e.encoding)) (z : r ≡ 0 → ⊥) where
-        known : is_some (pointer_size true word e.encoding) ≡ true
-        known = size_accepts true word e.encoding w ∙ rw (ne_eqb (size_or0 (pointer_size true word e.encoding)) 0 (λ k. z (q ∙ k)))
-
+      module _ (k : is_some (pointer_size true word e.encoding) ≡ true) where
         pub no_lsda : e.lsda ≡ false → true ≡ ok word e
         unfolding meant each encodings_ok named_ok lsda_ok pick
-        no_lsda l = rw (n, p, l, known)
+        no_lsda l = rw (n, p, l, k)
 
-        pub both : e.lsda ≡ true → {t : ℕ} → t ≡ size_or0 (pointer_size false word e.lsda_encoding) → not (eqb t 0) ≡ ok word e
+        pub both : e.lsda ≡ true → is_some (pointer_size false word e.lsda_encoding) ≡ ok word e
         unfolding meant each encodings_ok named_ok lsda_ok pick
-        both l {t} u = rw (n, p, l, known, u) (sym (size_accepts false word e.lsda_encoding w))
+        both l = rw (n, p, l, k) refl

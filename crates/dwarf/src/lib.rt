@@ -51,6 +51,7 @@ pub struct Input<'a> {
 }
 
 // The lists that are lent for what is written: header places, bytes, relocations and call sites.
+#[derive(Drop)]
 pub struct Output<'a> {
     pub places: &'a mut [u64],
     pub bytes: &'a mut [u8],
@@ -72,6 +73,7 @@ impl Output<'_> {
 }
 
 // The lists that the functions' owners are found in.
+#[derive(Drop)]
 pub struct Chains<'a> {
     pub heads: &'a mut [u16],
     pub links: &'a mut [u16],
@@ -149,7 +151,12 @@ fn rows_whole(word: u64, rows: &[u64], at: usize, n: usize) -> bool
     requires { (0 < word) × RowsReady rows.now at n }
     ensures { result ≡ all (λ x. row_whole word x.1) (each (row_at rows.now) at n) }
 {
-    (at..at + n).all(|i| row_whole(word, row_at(rows, i)))
+    for i in at..at + n {
+        if !row_whole(word, row_at(rows, i)) {
+            return false;
+        }
+    }
+    true
 }
 
 // Questions 23 and 24 in one pass, asked for more. A no says nothing.
@@ -172,6 +179,21 @@ fn lines_fine(word: u64, rows: &[u64], at: usize, n: usize) -> bool
         from = to;
     }
     true
+}
+
+// Question 23, asked where it is not known that all is fine; and question 24.
+fn steps_asked(fine: bool, rows: &[u64], at: usize, n: usize) -> bool
+    requires { RowsReady rows.now at n × (fine ≡ true → steps_ok 0 (each (row_at rows.now) at n) ≡ true) }
+    ensures { result ≡ steps_ok 0 (each (row_at rows.now) at n) }
+{
+    fine || steps_ok(rows, at, n)
+}
+
+fn whole_asked(fine: bool, word: u64, rows: &[u64], at: usize, n: usize) -> bool
+    requires { (0 < word) × RowsReady rows.now at n × (fine ≡ true → all (λ x. row_whole word x.1) (each (row_at rows.now) at n) ≡ true) }
+    ensures { result ≡ all (λ x. row_whole word x.1) (each (row_at rows.now) at n) }
+{
+    fine || rows_whole(word, rows, at, n)
 }
 
 // The two places of pair i are different.
@@ -226,13 +248,13 @@ fn dwarf_asks(
         });
     }
     let fine = lines_fine(word, rows, e.rows_at, e.rows);
-    if !fine && !steps_ok(rows, e.rows_at, e.rows) {
+    if !steps_asked(fine, rows, e.rows_at, e.rows) {
         return Err(Refusal {
             number: 23,
             position: k as u64,
         });
     }
-    if !fine && !rows_whole(word, rows, e.rows_at, e.rows) {
+    if !whole_asked(fine, word, rows, e.rows_at, e.rows) {
         return Err(Refusal {
             number: 24,
             position: k as u64,
@@ -285,6 +307,7 @@ pub struct Chosen {
     pub cie: usize,
 }
 
+#[tactic(auto, unfolding(format::specs::Writer::is_debug))]
 fn is_debug(s: Section) -> bool
     ensures { result ≡ is_debug s }
 {
@@ -355,12 +378,12 @@ fn sized(x: &Input, size: usize, own: bool, align: usize, e: Extent, t: Table) -
 }
 
 // What stands behind function k of n, behind t, where its rows have `size` bytes.
-fn size_next(x: &Input, owners: &[u16], k: usize, n: usize, size: usize, t: Table) -> Table
-    requires { Next (inputs_of x.now) k n t × Owned x.now.section x.now.machine x.now.functions.now x.now.rows.now (k + 1) owners.now × (size ≡ rows_size (inputs_of x.now) k) }
+fn size_next(x: &Input, chains: &Chains, k: usize, n: usize, size: usize, t: Table) -> Table
+    requires { Next (inputs_of x.now) k n t × Owned x.now.section x.now.machine x.now.functions.now x.now.rows.now (k + 1) chains.now.owners.now × (size ≡ rows_size (inputs_of x.now) k) }
     ensures { result ≡ totals_in (parts_to (inputs_of x.now) (k + 1)) }
 {
     let e = taken(x.section, extent_at(x.functions, k));
-    let own = position(owners[k]) == k;
+    let own = position(chains.owners[k]) == k;
     let align = align_for(x.section, x.machine.word, k + 1 == n);
     sized(x, size, own, align, e, t)
 }
@@ -375,15 +398,15 @@ fn rows_size(x: &Input, k: usize) -> usize
 }
 
 // What stands behind all functions.
-fn sizes(x: &Input, owners: &[u16]) -> Table
-    requires { Cleared (inputs_of x.now) × Owned x.now.section x.now.machine x.now.functions.now x.now.rows.now (count function_stride x.now.functions.now) owners.now }
+fn sizes(x: &Input, chains: &Chains) -> Table
+    requires { Cleared (inputs_of x.now) × Owned x.now.section x.now.machine x.now.functions.now x.now.rows.now (count function_stride x.now.functions.now) chains.now.owners.now }
     ensures { result ≡ totals_in (parts_to (inputs_of x.now) (count function_stride x.now.functions.now)) }
 {
     let n = x.functions.len() / lists::FUNCTION_STRIDE;
     let mut t = Table::NOTHING;
     for k in 0..n {
         let size = rows_size(x, k);
-        t = size_next(x, owners, k, n, size, t);
+        t = size_next(x, chains, k, n, size, t);
     }
     t
 }
@@ -438,7 +461,7 @@ fn survey(x: &Input, chains: &mut Chains) -> Option<Table>
             chains.links,
             chains.owners,
         );
-        t = size_next(x, chains.owners, k, n, size, t);
+        t = size_next(x, chains, k, n, size, t);
     }
     Some(t)
 }
@@ -565,41 +588,41 @@ fn piece(x: &Input, c: Chosen, align: usize, e: Extent, t: Table, to: &mut Outpu
 }
 
 // The header of function k, behind `at` bytes: its own, or that of its owner.
-fn header_for(k: usize, at: usize, owners: &[u16], places: &[u64]) -> Chosen
-    requires { (k < length owners.now) × (get_or owners.now k 0 ≤ k) × (k ≤ length places.now) }
-    ensures { result ≡ chosen_by (get_or owners.now k 0) k at places.now }
+fn header_for(k: usize, at: usize, chains: &Chains, to: &Output) -> Chosen
+    requires { (k < length chains.now.owners.now) × (get_or chains.now.owners.now k 0 ≤ k) × (k ≤ length to.now.places.now) }
+    ensures { result ≡ chosen_by (get_or chains.now.owners.now k 0) k at to.now.places.now }
 {
-    let o = position(owners[k]);
+    let o = position(chains.owners[k]);
     if o == k {
         return Chosen { own: true, cie: at };
     }
     Chosen {
         own: false,
-        cie: places[o] as usize,
+        cie: to.places[o] as usize,
     }
 }
 
 // Function k of n, behind t.
-fn part(x: &Input, owners: &[u16], k: usize, n: usize, t: Table, to: &mut Output) -> Table
-    requires { PartReady (inputs_of x.now) k n t to.old.places.now to.old.bytes.now to.old.relocations.now to.old.sites.now × Owned x.now.section x.now.machine x.now.functions.now x.now.rows.now (k + 1) owners.now }
+fn part(x: &Input, chains: &Chains, k: usize, n: usize, t: Table, to: &mut Output) -> Table
+    requires { PartReady (inputs_of x.now) k n t to.old.places.now to.old.bytes.now to.old.relocations.now to.old.sites.now × Owned x.now.section x.now.machine x.now.functions.now x.now.rows.now (k + 1) chains.now.owners.now }
     ensures { Added (inputs_of x.now) k t result to.old.places.now to.new.places.now to.old.bytes.now to.new.bytes.now to.old.relocations.now to.new.relocations.now to.old.sites.now to.new.sites.now }
 {
     let e = taken(x.section, extent_at(x.functions, k));
-    let c = header_for(k, t.bytes, owners, to.places);
+    let c = header_for(k, t.bytes, chains, to);
     let align = align_for(x.section, x.machine.word, k + 1 == n);
     to.places[k] = c.cie as u64;
     piece(x, c, align, e, t, to)
 }
 
 // All functions.
-fn store(x: &Input, owners: &[u16], to: &mut Output) -> Table
-    requires { Cleared (inputs_of x.now) × Holds (inputs_of x.now) (count function_stride x.now.functions.now) to.old.places.now to.old.bytes.now to.old.relocations.now to.old.sites.now × Owned x.now.section x.now.machine x.now.functions.now x.now.rows.now (count function_stride x.now.functions.now) owners.now }
+fn store(x: &Input, chains: &Chains, to: &mut Output) -> Table
+    requires { Cleared (inputs_of x.now) × Holds (inputs_of x.now) (count function_stride x.now.functions.now) to.old.places.now to.old.bytes.now to.old.relocations.now to.old.sites.now × Owned x.now.section x.now.machine x.now.functions.now x.now.rows.now (count function_stride x.now.functions.now) chains.now.owners.now }
     ensures { Written (inputs_of x.now) (count function_stride x.now.functions.now) result to.old.places.now to.new.places.now to.old.bytes.now to.new.bytes.now to.old.relocations.now to.new.relocations.now to.old.sites.now to.new.sites.now }
 {
     let functions = x.functions.len() / lists::FUNCTION_STRIDE;
     let mut t = Table::NOTHING;
     for k in 0..functions {
-        t = part(x, owners, k, functions, t, to);
+        t = part(x, chains, k, functions, t, to);
     }
     t
 }
@@ -607,12 +630,12 @@ fn store(x: &Input, owners: &[u16], to: &mut Output) -> Table
 // ---- the whole
 
 // The functions written into lists that have room for them.
-fn stored(x: &Input, owners: &[u16], to: &mut Output) -> Result<Option<Counts>, Refusal>
-    requires { Cleared (inputs_of x.now) × Holds (inputs_of x.now) (count function_stride x.now.functions.now) to.old.places.now to.old.bytes.now to.old.relocations.now to.old.sites.now × Owned x.now.section x.now.machine x.now.functions.now x.now.rows.now (count function_stride x.now.functions.now) owners.now }
+fn stored(x: &Input, chains: &Chains, to: &mut Output) -> Result<Option<Counts>, Refusal>
+    requires { Cleared (inputs_of x.now) × Holds (inputs_of x.now) (count function_stride x.now.functions.now) to.old.places.now to.old.bytes.now to.old.relocations.now to.old.sites.now × Owned x.now.section x.now.machine x.now.functions.now x.now.rows.now (count function_stride x.now.functions.now) chains.now.owners.now }
     ensures { Writes (fitting (room_in to.old.places.now to.old.bytes.now to.old.relocations.now to.old.sites.now) (written_in (parts_to (inputs_of x.now) (count function_stride x.now.functions.now)))) result to.old.places.now to.new.places.now to.old.bytes.now to.new.bytes.now to.old.relocations.now to.new.relocations.now to.old.sites.now to.new.sites.now }
 {
     let n = x.functions.len() / lists::FUNCTION_STRIDE;
-    let t = store(x, owners, to);
+    let t = store(x, chains, to);
     Ok(Some(Counts {
         places: n as u64,
         bytes: t.bytes as u64,
@@ -622,13 +645,13 @@ fn stored(x: &Input, owners: &[u16], to: &mut Output) -> Result<Option<Counts>, 
 }
 
 // The functions written where there is room for t, which stands behind them.
-fn roomed(x: &Input, owners: &[u16], t: Table, to: &mut Output) -> Result<Option<Counts>, Refusal>
-    requires { Cleared (inputs_of x.now) × Owned x.now.section x.now.machine x.now.functions.now x.now.rows.now (count function_stride x.now.functions.now) owners.now × (t ≡ totals_in (parts_to (inputs_of x.now) (count function_stride x.now.functions.now))) }
+fn roomed(x: &Input, chains: &Chains, t: Table, to: &mut Output) -> Result<Option<Counts>, Refusal>
+    requires { Cleared (inputs_of x.now) × Owned x.now.section x.now.machine x.now.functions.now x.now.rows.now (count function_stride x.now.functions.now) chains.now.owners.now × (t ≡ totals_in (parts_to (inputs_of x.now) (count function_stride x.now.functions.now))) }
     ensures { Writes (fitting (room_in to.old.places.now to.old.bytes.now to.old.relocations.now to.old.sites.now) (written_in (parts_to (inputs_of x.now) (count function_stride x.now.functions.now)))) result to.old.places.now to.new.places.now to.old.bytes.now to.new.bytes.now to.old.relocations.now to.new.relocations.now to.old.sites.now to.new.sites.now }
 {
     let n = x.functions.len() / lists::FUNCTION_STRIDE;
     room(n, t, to.places.len(), to.lent())?;
-    stored(x, owners, to)
+    stored(x, chains, to)
 }
 
 // The functions written where there is room; their owners are found first, in the lists lent for that. Lists that hold all
@@ -649,10 +672,10 @@ fn fitted(x: &Input, chains: &mut Chains, to: &mut Output) -> Result<Option<Coun
         chains.owners,
     );
     if room(n, most(x.functions), to.places.len(), to.lent()).is_err() {
-        let t = sizes(x, chains.owners);
-        return roomed(x, chains.owners, t, to);
+        let t = sizes(x, chains);
+        return roomed(x, chains, t, to);
     }
-    stored(x, chains.owners, to)
+    stored(x, chains, to)
 }
 
 // Every question asked by itself, and the functions written where there is room.
@@ -702,7 +725,7 @@ fn answered(x: &Input, chains: &mut Chains, to: &mut Output) -> Result<Option<Co
     ensures { Writes (listed_answer x.now.section x.now.machine x.now.functions.now x.now.rows.now x.now.landings.now x.now.pairs.now (room_in to.old.places.now to.old.bytes.now to.old.relocations.now to.old.sites.now)) result to.old.places.now to.new.places.now to.old.bytes.now to.new.bytes.now to.old.relocations.now to.new.relocations.now to.old.sites.now to.new.sites.now }
 {
     if let Some(t) = tried(x, to.places.len(), to.lent(), chains) {
-        return roomed(x, chains.owners, t, to);
+        return roomed(x, chains, t, to);
     }
     unchain(chains.heads);
     asked(x, chains, to)

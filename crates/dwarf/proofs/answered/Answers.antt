@@ -8,24 +8,24 @@ use Rattle.dwarf.proofs.Surveying.{behind_say}
 use Rattle.dwarf.proofs.answered.Goals as goal
 use Rattle.dwarf.proofs.answered.Goals.{Start}
 
-pub tried-v-requires : goal.tried-v-requires
-tried-v-requires c = c.requires
+pub tried-requires : goal.tried-requires
+tried-requires c = c.requires
 
 pub roomed-requires : goal.roomed-requires
 roomed-requires c =
     let s = (goal.at.roomed-requires c).Start in
-    let b = behind_say (inputs_of s.args.x.now) c.tried-v.ensures.0 c.in-Behind.is in
+    let b = behind_say (inputs_of s.args.x.now) c.tried.ensures.0 c.in-Some.is in
     (cleared (inputs_of s.args.x.now) s.requires.0 (counted s.args.x.now.functions.now s.requires.1) b.0, b.2, b.1)
 
-pub returns-in-Behind : goal.returns-in-Behind
-returns-in-Behind c =
-    let s = (goal.at.returns-in-Behind c).Start in
-    let b = behind_say (inputs_of s.args.x.now) c.tried-v.ensures.0 c.in-Behind.is in
+pub returns-in-Some : goal.returns-in-Some
+returns-in-Some c =
+    let s = (goal.at.returns-in-Some c).Start in
+    let b = behind_say (inputs_of s.args.x.now) c.tried.ensures.0 c.in-Some.is in
     says_all (inputs_of s.args.x.now) s.args.to.now.places.now s.args.to.now.bytes.now s.args.to.now.relocations.now s.args.to.now.sites.now (lists_passed (inputs_of s.args.x.now) s.requires.1 b.0) (asked_passed (inputs_of s.args.x.now) s.requires.1 b.0) refl c.roomed.ensures
 
 pub asked-requires : goal.asked-requires
 asked-requires c =
-    (c.requires.0, c.requires.1, record { enough = rw c.unchain.ensures.0 c.tried-v.ensures.1; clear = c.unchain.ensures.1 })
+    (c.requires.0, c.requires.1, record { enough = rw c.unchain.ensures.0 c.tried.ensures.1; clear = c.unchain.ensures.1 })
 
 pub returns : goal.returns
 returns c = c.asked.ensures

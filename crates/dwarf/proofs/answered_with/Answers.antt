@@ -1,7 +1,8 @@
 -- `dwarf::answered_with` meets its contract.
+use Rattle.dwarf.proofs.Passed.{counted}
 use Rattle.dwarf.proofs.Working.{unused}
-use borrow.Author.Rules.{rules}
 use Rattle.dwarf.proofs.answered_with.Goals as goal
 
 pub answered-requires : goal.answered-requires
-answered-requires g c = ?
+answered-requires g c =
+    (c.requires.0, c.requires.1, unused _ _ _ (counted _ c.requires.1).functions_at_most c.requires.4 c.requires.2)

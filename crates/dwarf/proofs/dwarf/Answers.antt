@@ -13,11 +13,11 @@ returns-then-not-machine_ok c = says_11 _ _ _ _ _ _ (refused c.machine_ok.ensure
 pub returns-then-not-sums_ok : goal.returns-then-not-sums_ok
 returns-then-not-sums_ok c = says_listed _ _ _ _ _ _ (accepted c.machine_ok.ensures (ap not c.if-not-machine_ok.false)) refl (no_sums _ _ _ _ _ (refused c.sums_ok.ensures (ap not c.if-not-sums_ok.true)))
 
-pub machine_of-m-requires : goal.machine_of-m-requires
-machine_of-m-requires c = is_yes_lem (accepted c.machine_ok.ensures (ap not c.if-not-machine_ok.false))
+pub machine_of-requires : goal.machine_of-requires
+machine_of-requires c = is_yes_lem (accepted c.machine_ok.ensures (ap not c.if-not-machine_ok.false))
 
 pub deliver-requires : goal.deliver-requires
-deliver-requires c = (rw c.machine_of-m.ensures (machine_fits _ (is_yes_lem (accepted c.machine_ok.ensures (ap not c.if-not-machine_ok.false)))), is_yes_lem (accepted c.sums_ok.ensures (ap not c.if-not-sums_ok.false)))
+deliver-requires c = (rw c.machine_of.ensures (machine_fits _ (is_yes_lem (accepted c.machine_ok.ensures (ap not c.if-not-machine_ok.false)))), is_yes_lem (accepted c.sums_ok.ensures (ap not c.if-not-sums_ok.false)))
 
 pub returns : goal.returns
-returns c = says_listed _ _ _ _ _ _ (accepted c.machine_ok.ensures (ap not c.if-not-machine_ok.false)) c.machine_of-m.ensures c.deliver.ensures
+returns c = says_listed _ _ _ _ _ _ (accepted c.machine_ok.ensures (ap not c.if-not-machine_ok.false)) c.machine_of.ensures c.deliver.ensures

@@ -26,7 +26,7 @@ returns-then-is_err c = c.roomed.ensures
 pub stored-requires : goal.stored-requires
 stored-requires c =
     let s = (goal.at.stored-requires c).Start in
-    (s.requires.0, room_for_lem (inputs_of s.args.x.now) s.args.to.now.places.now s.args.to.now.bytes.now s.args.to.now.relocations.now s.args.to.now.sites.now c.room.ensures (no_error _ (sym c.is_err.ensures.value ∙ c.if-is_err.false)) (rw c.most.ensures s.requires.0.covered), c.owners.ensures)
+    (s.requires.0, room_for_lem (inputs_of s.args.x.now) s.args.to.now.places.now s.args.to.now.bytes.now s.args.to.now.relocations.now s.args.to.now.sites.now (rw c.lent.ensures at c.room.ensures) (no_error _ (sym c.is_err.ensures.value ∙ c.if-is_err.false)) (rw c.most.ensures s.requires.0.covered), c.owners.ensures)
 
 pub returns : goal.returns
 returns c = c.stored.ensures

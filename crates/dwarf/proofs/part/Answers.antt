@@ -1,5 +1,5 @@
 -- `dwarf::part` meets its contract.
-use mathlib.Core.Path.{ap, ◌∙◌}
+use mathlib.Core.Path.{ap, refl, ◌∙◌}
 use native.Mathlib.Omega.{arith}
 use Rattle.header_keys.specs.Functions.{taken_in}
 use Rattle.dwarf.proofs.Writing.{choosable, chosen_by_lem, piece_ready, added}
@@ -9,21 +9,13 @@ use Rattle.dwarf.proofs.part.Goals.{Start}
 pub header_for-c-requires : goal.header_for-c-requires
 header_for-c-requires c = choosable c.requires.0 c.requires.1
 
-pub overflow_add-k : goal.overflow_add-k
-overflow_add-k c = omega (arith, c.well_formed.1.1.1.1.1.1.1.1.1.1.0, c.requires.0.fit.places_fit)
-
-pub offset_bounds-places-k : goal.offset_bounds-places-k
-offset_bounds-places-k c = omega (arith, c.well_formed.1.1.1.1.1.1.1.1.1.1.0, c.requires.0.fit.places_fit)
-
-pub bounds-places-k : goal.bounds-places-k
-bounds-places-k c = omega (arith, c.requires.0.fit.places_fit)
-
 pub piece-requires : goal.piece-requires
 piece-requires c =
     let s = (goal.at.piece-requires c).Start in
-    piece_ready s.requires.0 (chosen_by_lem s.requires.0 s.requires.1 s.args.t.bytes c.header_for-c.ensures) c.is_debug.ensures c.align_for-align.ensures (c.taken-e.ensures ∙ ap (taken_in _) c.extent_at.ensures)
+    piece_ready s.requires.0 (chosen_by_lem s.requires.0 s.requires.1 s.args.t.bytes c.header_for-c.ensures) refl c.align_for-align.ensures (c.taken-e.ensures ∙ ap (taken_in _) c.extent_at.ensures)
 
 pub returns : goal.returns
 returns c =
     let s = (goal.at.returns c).Start in
-    added s.requires.0 (chosen_by_lem s.requires.0 s.requires.1 s.args.t.bytes c.header_for-c.ensures) c.is_debug.ensures c.align_for-align.ensures (c.taken-e.ensures ∙ ap (taken_in _) c.extent_at.ensures) c.piece.ensures
+    rw c.piece.ensures.places_kept
+    (added s.requires.0 (chosen_by_lem s.requires.0 s.requires.1 s.args.t.bytes c.header_for-c.ensures) refl c.align_for-align.ensures (c.taken-e.ensures ∙ ap (taken_in _) c.extent_at.ensures) c.piece.ensures.stored)

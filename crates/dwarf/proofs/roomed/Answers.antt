@@ -6,11 +6,11 @@ use Rattle.dwarf.proofs.roomed.Goals as goal
 
 pub returns-in_err-room : goal.returns-in_err-room
 returns-in_err-room c = let p = err_from_is_err_and c.from_residual.result c.from_residual.ensures.1 in rw (p.1, p.2)
-    (refuses (inputs_of c.args.x.now) c.requires.2 c.args.to.now.places.now c.args.to.now.bytes.now c.args.to.now.relocations.now c.args.to.now.sites.now c.room.ensures c.in_err-room.was)
+    (refuses (inputs_of c.args.x.now) c.requires.2 c.args.to.now.places.now c.args.to.now.bytes.now c.args.to.now.relocations.now c.args.to.now.sites.now (rw c.lent.ensures at c.room.ensures) c.in_err-room.was)
 
 pub stored-requires : goal.stored-requires
 stored-requires c =
-    (c.requires.0, room_for_lem (inputs_of c.args.x.now) c.args.to.now.places.now c.args.to.now.bytes.now c.args.to.now.relocations.now c.args.to.now.sites.now c.room.ensures c.in_ok-room.was (sizes_cover (inputs_of c.args.x.now) c.requires.2), c.requires.1)
+    (c.requires.0, room_for_lem (inputs_of c.args.x.now) c.args.to.now.places.now c.args.to.now.bytes.now c.args.to.now.relocations.now c.args.to.now.sites.now (rw c.lent.ensures at c.room.ensures) c.in_ok-room.was (sizes_cover (inputs_of c.args.x.now) c.requires.2), c.requires.1)
 
 pub returns : goal.returns
 returns c = c.stored.ensures

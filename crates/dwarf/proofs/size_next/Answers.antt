@@ -1,5 +1,5 @@
 -- `dwarf::size_next` meets its contract.
-use mathlib.Core.Path.{◌≡◌, ap, ◌∙◌}
+use mathlib.Core.Path.{◌≡◌, refl, ap, ◌∙◌}
 use native.Mathlib.Omega.{arith}
 use Rattle.header_keys.specs.Functions.{taken_in}
 use Rattle.owners.specs.Owners.{owner}
@@ -16,21 +16,15 @@ owner-is c =
 pub extent_at-requires : goal.extent_at-requires
 extent_at-requires c = omega (arith, c.requires.0.writable.listed.within)
 
-pub offset_bounds-owners-k : goal.offset_bounds-owners-k
-offset_bounds-owners-k c = search (rules, c.requires.1.long)
-
-pub bounds-owners-k : goal.bounds-owners-k
-bounds-owners-k c = omega (arith, c.requires.1.long)
-
 pub overflow_add-k : goal.overflow_add-k
 overflow_add-k c = search (rules, c.requires.1.long)
 
 pub sized-requires : goal.sized-requires
 sized-requires c =
     let e = c.taken-e.ensures ∙ ap (taken_in _) c.extent_at.ensures in
-    (size_ready c.requires.0 (owner-is (goal.at.sized-requires c).After-position) c.is_debug.ensures c.align_for-align.ensures e, rw e c.requires.2)
+    (size_ready c.requires.0 (owner-is (goal.at.sized-requires c).After-position) refl c.align_for-align.ensures e, rw e c.requires.2)
 
 pub returns : goal.returns
 returns c =
-    size_done c.requires.0 (owner-is (goal.at.returns c).After-position) c.is_debug.ensures c.align_for-align.ensures
+    size_done c.requires.0 (owner-is (goal.at.returns c).After-position) refl c.align_for-align.ensures
     (c.taken-e.ensures ∙ ap (taken_in _) c.extent_at.ensures) c.sized.ensures

@@ -4,4 +4,4 @@ use Rattle.dwarf.proofs.store.Given as goal
 
 abbrev pub invariant-loop-k : goal.invariant-loop-k
 invariant-loop-k l =
-    Going (inputs_of l.x) l.functions l.k l.t l.initial.places l.places l.initial.out l.out l.initial.relocs l.relocs l.initial.sites l.sites
+    Going (inputs_of l.x) l.functions l.k l.t l.initial.to.places.now l.to.places.now l.initial.to.bytes.now l.to.bytes.now l.initial.to.relocations.now l.to.relocations.now l.initial.to.sites.now l.to.sites.now

@@ -1,0 +1,13 @@
+-- `dwarf::pairs_differ` meets its contract.
+use Rattle.std.proofs.Common.{rules, ◌∙◌, refl, arith, not, eqb}
+use Rattle.std.proofs.lemmas.Iterator.{YieldsList-from_range}
+use Rattle.std.proofs.lemmas.Iterator.Search.{all_from_yields_List}
+use borrow.Author.Tests.{tests}
+use Rattle.format.specs.Lists.{pair_at}
+use Rattle.dwarf.proofs.Asking.{all_each_range}
+use Rattle.dwarf.proofs.pairs_differ.Goals as goal
+
+pub returns : goal.returns
+returns c =
+    all_from_yields_List (λ i. not (eqb (pair_at c.args.pairs.now i).place1 (pair_at c.args.pairs.now i).place2)) _ _ _ c.all.ensures.ran (YieldsList-from_range _ _ c.args.n refl (omega arith)) (λ x b q k. search (rules, tests))
+    ∙ all_each_range (λ p. not (eqb p.place1 p.place2)) (pair_at c.args.pairs.now) c.args.at c.args.n
