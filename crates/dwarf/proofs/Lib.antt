@@ -23,3 +23,4 @@ pub mod Outcomes
 pub mod Whole
 pub mod Working
 pub mod Surveying
+pub mod Lent

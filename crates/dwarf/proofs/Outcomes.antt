@@ -11,7 +11,7 @@ use lib.ListN.{length}
 use Rattle.format.specs.Prelude.{pick, each}
 use Rattle.format.specs.declared.Section.{Section}
 use Rattle.format.specs.declared.Counts.{Counts}
-use Rattle.std.specs.Prelude.{Some, None, Ok, Err}
+use Rattle.std.specs.Prelude.{Some, Ok, Err}
 use Rattle.format.specs.Coded.{refusal}
 use Rattle.format.specs.Coded.{Asked}
 use Rattle.format.specs.declared.Refusal.{Refusal}

@@ -11,7 +11,7 @@ use Rattle.format.specs.Prelude.{all, each}
 use Rattle.format.specs.declared.Machine.{Machine}
 use Rattle.format.specs.declared.Section.{Section}
 use Rattle.format.specs.Coded.{Outcome}
-use Rattle.std.specs.Prelude.{Some, None, Ok, Err}
+use Rattle.std.specs.Prelude.{Ok, Err}
 use Rattle.format.specs.Coded.{refusal}
 use Rattle.format.specs.Coded.{Asked}
 use Rattle.format.specs.declared.Refusal.{Refusal}

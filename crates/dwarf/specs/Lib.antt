@@ -5,3 +5,4 @@ pub mod Pieces
 pub mod Writable
 pub mod Tables
 pub mod Surveys
+pub mod Lent

@@ -23,6 +23,7 @@ ghost use Rattle.dwarf.specs.Tables.{totals_in, grown_by, SizeReady, labelled_ro
 ghost use Rattle.owners.specs.Chains.{Owned, Enough, Unused};
 ghost use Rattle.records.specs.Stepped.{rows_in};
 ghost use Rattle.dwarf.specs.Surveys.{rows_size, FunctionSurveyed, AllSurveyed};
+ghost use Rattle.dwarf.specs.Lent.{SameLists, room_of, WritesTo};
 ghost use Rattle.dwarf.specs.Pieces.{front_in, reloc_numbers, part_in};
 
 use format::{Counts, Machine, Refusal, Section};
@@ -543,6 +544,7 @@ fn front(x: &Input, own: bool, align: usize, e: Extent, t: Table, to: &mut Outpu
     ensures stored { FrontStored own (is_debug x.now.section) x.now.machine align e t result x.now.rows.now to.old.bytes.now to.new.bytes.now to.old.relocations.now to.new.relocations.now }
     ensures sites_kept { to.new.sites.now ≡ to.old.sites.now }
     ensures places_kept { to.new.places.now ≡ to.old.places.now }
+    ensures same { SameLists to.old to.new }
 {
     if !own {
         return t;
@@ -562,6 +564,7 @@ fn piece(x: &Input, c: Chosen, align: usize, e: Extent, t: Table, to: &mut Outpu
     requires { PieceReady c.own (is_debug x.now.section) x.now.machine align c.cie e t x.now.rows.now x.now.landings.now x.now.pairs.now to.old.bytes.now to.old.relocations.now to.old.sites.now }
     ensures stored { Stored (part_in c.own (is_debug x.now.section) x.now.machine align t.bytes c.cie t.sites e x.now.rows.now x.now.landings.now x.now.pairs.now) t result to.old.bytes.now to.new.bytes.now to.old.relocations.now to.new.relocations.now to.old.sites.now to.new.sites.now }
     ensures places_kept { to.new.places.now ≡ to.old.places.now }
+    ensures same { SameLists to.old to.new }
 {
     let debug = is_debug(x.section);
     let u = front(x, c.own, align, e, t, to);
@@ -605,7 +608,7 @@ fn header_for(k: usize, at: usize, chains: &Chains, to: &Output) -> Chosen
 // Function k of n, behind t.
 fn part(x: &Input, chains: &Chains, k: usize, n: usize, t: Table, to: &mut Output) -> Table
     requires { PartReady (inputs_of x.now) k n t to.old.places.now to.old.bytes.now to.old.relocations.now to.old.sites.now × Owned x.now.section x.now.machine x.now.functions.now x.now.rows.now (k + 1) chains.now.owners.now }
-    ensures { Added (inputs_of x.now) k t result to.old.places.now to.new.places.now to.old.bytes.now to.new.bytes.now to.old.relocations.now to.new.relocations.now to.old.sites.now to.new.sites.now }
+    ensures { Added (inputs_of x.now) k t result to.old.places.now to.new.places.now to.old.bytes.now to.new.bytes.now to.old.relocations.now to.new.relocations.now to.old.sites.now to.new.sites.now × SameLists to.old to.new }
 {
     let e = taken(x.section, extent_at(x.functions, k));
     let c = header_for(k, t.bytes, chains, to);
@@ -617,7 +620,7 @@ fn part(x: &Input, chains: &Chains, k: usize, n: usize, t: Table, to: &mut Outpu
 // All functions.
 fn store(x: &Input, chains: &Chains, to: &mut Output) -> Table
     requires { Cleared (inputs_of x.now) × Holds (inputs_of x.now) (count function_stride x.now.functions.now) to.old.places.now to.old.bytes.now to.old.relocations.now to.old.sites.now × Owned x.now.section x.now.machine x.now.functions.now x.now.rows.now (count function_stride x.now.functions.now) chains.now.owners.now }
-    ensures { Written (inputs_of x.now) (count function_stride x.now.functions.now) result to.old.places.now to.new.places.now to.old.bytes.now to.new.bytes.now to.old.relocations.now to.new.relocations.now to.old.sites.now to.new.sites.now }
+    ensures { Written (inputs_of x.now) (count function_stride x.now.functions.now) result to.old.places.now to.new.places.now to.old.bytes.now to.new.bytes.now to.old.relocations.now to.new.relocations.now to.old.sites.now to.new.sites.now × SameLists to.old to.new }
 {
     let functions = x.functions.len() / lists::FUNCTION_STRIDE;
     let mut t = Table::NOTHING;
@@ -632,7 +635,7 @@ fn store(x: &Input, chains: &Chains, to: &mut Output) -> Table
 // The functions written into lists that have room for them.
 fn stored(x: &Input, chains: &Chains, to: &mut Output) -> Result<Option<Counts>, Refusal>
     requires { Cleared (inputs_of x.now) × Holds (inputs_of x.now) (count function_stride x.now.functions.now) to.old.places.now to.old.bytes.now to.old.relocations.now to.old.sites.now × Owned x.now.section x.now.machine x.now.functions.now x.now.rows.now (count function_stride x.now.functions.now) chains.now.owners.now }
-    ensures { Writes (fitting (room_in to.old.places.now to.old.bytes.now to.old.relocations.now to.old.sites.now) (written_in (parts_to (inputs_of x.now) (count function_stride x.now.functions.now)))) result to.old.places.now to.new.places.now to.old.bytes.now to.new.bytes.now to.old.relocations.now to.new.relocations.now to.old.sites.now to.new.sites.now }
+    ensures { WritesTo (fitting (room_of to.old) (written_in (parts_to (inputs_of x.now) (count function_stride x.now.functions.now)))) result to.old to.new }
 {
     let n = x.functions.len() / lists::FUNCTION_STRIDE;
     let t = store(x, chains, to);
@@ -647,7 +650,7 @@ fn stored(x: &Input, chains: &Chains, to: &mut Output) -> Result<Option<Counts>,
 // The functions written where there is room for t, which stands behind them.
 fn roomed(x: &Input, chains: &Chains, t: Table, to: &mut Output) -> Result<Option<Counts>, Refusal>
     requires { Cleared (inputs_of x.now) × Owned x.now.section x.now.machine x.now.functions.now x.now.rows.now (count function_stride x.now.functions.now) chains.now.owners.now × (t ≡ totals_in (parts_to (inputs_of x.now) (count function_stride x.now.functions.now))) }
-    ensures { Writes (fitting (room_in to.old.places.now to.old.bytes.now to.old.relocations.now to.old.sites.now) (written_in (parts_to (inputs_of x.now) (count function_stride x.now.functions.now)))) result to.old.places.now to.new.places.now to.old.bytes.now to.new.bytes.now to.old.relocations.now to.new.relocations.now to.old.sites.now to.new.sites.now }
+    ensures { WritesTo (fitting (room_of to.old) (written_in (parts_to (inputs_of x.now) (count function_stride x.now.functions.now)))) result to.old to.new }
 {
     let n = x.functions.len() / lists::FUNCTION_STRIDE;
     room(n, t, to.places.len(), to.lent())?;
@@ -658,7 +661,7 @@ fn roomed(x: &Input, chains: &Chains, t: Table, to: &mut Output) -> Result<Optio
 // that functions like these can be save the pass that sizes them.
 fn fitted(x: &Input, chains: &mut Chains, to: &mut Output) -> Result<Option<Counts>, Refusal>
     requires { Cleared (inputs_of x.now) × Unused (count function_stride x.now.functions.now) chains.old.heads.now chains.old.links.now chains.old.owners.now }
-    ensures { Writes (fitting (room_in to.old.places.now to.old.bytes.now to.old.relocations.now to.old.sites.now) (written_in (parts_to (inputs_of x.now) (count function_stride x.now.functions.now)))) result to.old.places.now to.new.places.now to.old.bytes.now to.new.bytes.now to.old.relocations.now to.new.relocations.now to.old.sites.now to.new.sites.now }
+    ensures { WritesTo (fitting (room_of to.old) (written_in (parts_to (inputs_of x.now) (count function_stride x.now.functions.now)))) result to.old to.new }
 {
     let n = x.functions.len() / lists::FUNCTION_STRIDE;
     owners::owners(
@@ -681,7 +684,7 @@ fn fitted(x: &Input, chains: &mut Chains, to: &mut Output) -> Result<Option<Coun
 // Every question asked by itself, and the functions written where there is room.
 fn asked(x: &Input, chains: &mut Chains, to: &mut Output) -> Result<Option<Counts>, Refusal>
     requires { MachineFits x.now.machine × T (sums_ok x.now.functions.now) × Unused (count function_stride x.now.functions.now) chains.old.heads.now chains.old.links.now chains.old.owners.now }
-    ensures { Writes (listed_answer x.now.section x.now.machine x.now.functions.now x.now.rows.now x.now.landings.now x.now.pairs.now (room_in to.old.places.now to.old.bytes.now to.old.relocations.now to.old.sites.now)) result to.old.places.now to.new.places.now to.old.bytes.now to.new.bytes.now to.old.relocations.now to.new.relocations.now to.old.sites.now to.new.sites.now }
+    ensures { WritesTo (listed_answer x.now.section x.now.machine x.now.functions.now x.now.rows.now x.now.landings.now x.now.pairs.now (room_of to.old)) result to.old to.new }
 {
     let n = x.functions.len() / lists::FUNCTION_STRIDE;
     if !functions_ok(x.functions, x.rows, x.landings, x.pairs, n) {
@@ -722,7 +725,7 @@ fn tried(x: &Input, places: usize, lent: Table, chains: &mut Chains) -> Option<T
 // One pass where it is enough, and every question by itself where it is not.
 fn answered(x: &Input, chains: &mut Chains, to: &mut Output) -> Result<Option<Counts>, Refusal>
     requires { MachineFits x.now.machine × T (sums_ok x.now.functions.now) × Unused (count function_stride x.now.functions.now) chains.old.heads.now chains.old.links.now chains.old.owners.now }
-    ensures { Writes (listed_answer x.now.section x.now.machine x.now.functions.now x.now.rows.now x.now.landings.now x.now.pairs.now (room_in to.old.places.now to.old.bytes.now to.old.relocations.now to.old.sites.now)) result to.old.places.now to.new.places.now to.old.bytes.now to.new.bytes.now to.old.relocations.now to.new.relocations.now to.old.sites.now to.new.sites.now }
+    ensures { WritesTo (listed_answer x.now.section x.now.machine x.now.functions.now x.now.rows.now x.now.landings.now x.now.pairs.now (room_of to.old)) result to.old to.new }
 {
     if let Some(t) = tried(x, to.places.len(), to.lent(), chains) {
         return roomed(x, chains, t, to);
@@ -737,7 +740,7 @@ fn answered_with<const HEADS: usize, const FUNCTIONS: usize>(
     to: &mut Output,
 ) -> Result<Option<Counts>, Refusal>
     requires { MachineFits x.now.machine × T (sums_ok x.now.functions.now) × (count function_stride x.now.functions.now ≤ FUNCTIONS) × (FUNCTIONS ≤ 65536) × (0 < HEADS) × (HEADS ≤ 65536) }
-    ensures { Writes (listed_answer x.now.section x.now.machine x.now.functions.now x.now.rows.now x.now.landings.now x.now.pairs.now (room_in to.old.places.now to.old.bytes.now to.old.relocations.now to.old.sites.now)) result to.old.places.now to.new.places.now to.old.bytes.now to.new.bytes.now to.old.relocations.now to.new.relocations.now to.old.sites.now to.new.sites.now }
+    ensures { WritesTo (listed_answer x.now.section x.now.machine x.now.functions.now x.now.rows.now x.now.landings.now x.now.pairs.now (room_of to.old)) result to.old to.new }
 {
     let mut heads = [0u16; HEADS];
     let mut links = [0u16; FUNCTIONS];
@@ -754,7 +757,7 @@ fn answered_with<const HEADS: usize, const FUNCTIONS: usize>(
 // functions: there are three sizes of them.
 fn deliver(x: &Input, to: &mut Output) -> Result<Option<Counts>, Refusal>
     requires { MachineFits x.now.machine × T (sums_ok x.now.functions.now) }
-    ensures { Writes (listed_answer x.now.section x.now.machine x.now.functions.now x.now.rows.now x.now.landings.now x.now.pairs.now (room_in to.old.places.now to.old.bytes.now to.old.relocations.now to.old.sites.now)) result to.old.places.now to.new.places.now to.old.bytes.now to.new.bytes.now to.old.relocations.now to.new.relocations.now to.old.sites.now to.new.sites.now }
+    ensures { WritesTo (listed_answer x.now.section x.now.machine x.now.functions.now x.now.rows.now x.now.landings.now x.now.pairs.now (room_of to.old)) result to.old to.new }
 {
     let n = x.functions.len() / lists::FUNCTION_STRIDE;
     if n <= 64 {

@@ -21,7 +21,7 @@ pub returns-in-Some : goal.returns-in-Some
 returns-in-Some c =
     let s = (goal.at.returns-in-Some c).Start in
     let b = behind_say (inputs_of s.args.x.now) c.tried.ensures.0 c.in-Some.is in
-    says_all (inputs_of s.args.x.now) s.args.to.now.places.now s.args.to.now.bytes.now s.args.to.now.relocations.now s.args.to.now.sites.now (lists_passed (inputs_of s.args.x.now) s.requires.1 b.0) (asked_passed (inputs_of s.args.x.now) s.requires.1 b.0) refl c.roomed.ensures
+    (says_all (inputs_of s.args.x.now) s.args.to.now.places.now s.args.to.now.bytes.now s.args.to.now.relocations.now s.args.to.now.sites.now (lists_passed (inputs_of s.args.x.now) s.requires.1 b.0) (asked_passed (inputs_of s.args.x.now) s.requires.1 b.0) refl c.roomed.ensures.0, c.roomed.ensures.1)
 
 pub asked-requires : goal.asked-requires
 asked-requires c =

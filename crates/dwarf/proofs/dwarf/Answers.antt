@@ -1,6 +1,6 @@
 -- `dwarf::dwarf` meets its contract.
 use mathlib.Core.Bool.{not}
-use mathlib.Core.Path.{ap, refl}
+use mathlib.Core.Path.{ap, refl, sym}
 use Rattle.format.proofs.Accepted.{machine_fits}
 use Rattle.format.proofs.Choice.{is_yes_lem}
 use Rattle.lists.proofs.Answers.{accepted, refused}
@@ -20,4 +20,7 @@ pub deliver-requires : goal.deliver-requires
 deliver-requires c = (rw c.machine_of.ensures (machine_fits _ (is_yes_lem (accepted c.machine_ok.ensures (ap not c.if-not-machine_ok.false)))), is_yes_lem (accepted c.sums_ok.ensures (ap not c.if-not-sums_ok.false)))
 
 pub returns : goal.returns
-returns c = says_listed _ _ _ _ _ _ (accepted c.machine_ok.ensures (ap not c.if-not-machine_ok.false)) c.machine_of.ensures c.deliver.ensures
+returns c =
+    let s = c.deliver.ensures.1 in
+    rw (c.places-1.given.1.1 (sym s.places), c.bytes-1.given.1.1 (sym s.bytes), c.relocations-1.given.1.1 (sym s.relocations), c.sites-1.given.1.1 (sym s.sites))
+    (says_listed _ _ _ _ _ _ (accepted c.machine_ok.ensures (ap not c.if-not-machine_ok.false)) c.machine_of.ensures c.deliver.ensures.0)

@@ -3,7 +3,6 @@ use Rattle.dwarf.specs.Parts.{inputs_of}
 use Rattle.std.proofs.Common.{sym, ◌∙◌}
 use Rattle.dwarf.proofs.Outcomes.{room_for_lem}
 use Rattle.format.proofs.Asked.{no_error}
-use borrow.Author.Rules.{rules}
 use Rattle.dwarf.proofs.fitted.Goals as goal
 use Rattle.dwarf.proofs.fitted.Goals.{Start}
 

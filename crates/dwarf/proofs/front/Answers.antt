@@ -1,10 +1,11 @@
 -- `dwarf::front` meets its contract.
 use Rattle.std.proofs.Common.{refl}
+use Rattle.dwarf.proofs.Lent.{same}
 use Rattle.dwarf.proofs.OwnHeaders.{without_own, header_room, relocs_room, with_own}
 use Rattle.dwarf.proofs.front.Goals as goal
 
 pub returns-then-not-own : goal.returns-then-not-own
-returns-then-not-own c = record { stored = without_own c.requires c.if-not-own.true; sites_kept = refl; places_kept = refl }
+returns-then-not-own c = record { stored = without_own c.requires c.if-not-own.true; sites_kept = refl; places_kept = refl; same = same }
 
 pub header-at-requires : goal.header-at-requires
 header-at-requires c = rw c.is_debug-debug.ensures (header_room c.requires c.if-not-own.false)
@@ -17,4 +18,5 @@ returns c = record {
   stored = with_own c.requires c.if-not-own.false (rw c.is_debug-debug.ensures at c.header-at.ensures) (rw c.is_debug-debug.ensures at c.header_relocs-i.ensures);
   sites_kept = refl;
   places_kept = refl;
+  same = record { places = refl; bytes = refl; relocations = refl; sites = refl };
 }

@@ -1,6 +1,5 @@
 -- `dwarf::part` meets its contract.
 use mathlib.Core.Path.{ap, refl, ◌∙◌}
-use native.Mathlib.Omega.{arith}
 use Rattle.header_keys.specs.Functions.{taken_in}
 use Rattle.dwarf.proofs.Writing.{choosable, chosen_by_lem, piece_ready, added}
 use Rattle.dwarf.proofs.part.Goals as goal
@@ -16,6 +15,8 @@ piece-requires c =
 
 pub returns : goal.returns
 returns c =
-    let s = (goal.at.returns c).Start in
-    rw c.piece.ensures.places_kept
-    (added s.requires.0 (chosen_by_lem s.requires.0 s.requires.1 s.args.t.bytes c.header_for-c.ensures) refl c.align_for-align.ensures (c.taken-e.ensures ∙ ap (taken_in _) c.extent_at.ensures) c.piece.ensures.stored)
+    let s = (goal.at.returns c).Start in (
+      rw c.piece.ensures.places_kept
+          (added s.requires.0 (chosen_by_lem s.requires.0 s.requires.1 s.args.t.bytes c.header_for-c.ensures) refl c.align_for-align.ensures (c.taken-e.ensures ∙ ap (taken_in _) c.extent_at.ensures) c.piece.ensures.stored),
+      let s = c.piece.ensures.same in record { places = s.places; bytes = s.bytes; relocations = s.relocations; sites = s.sites },
+    )

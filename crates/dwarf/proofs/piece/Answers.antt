@@ -22,4 +22,5 @@ pub returns : goal.returns
 returns c = record {
   stored = stored c.requires c.front-u.ensures.stored c.padding.ensures (rw c.is_debug-debug.ensures at c.record-at.ensures) (rw c.is_debug-debug.ensures at c.record_relocs-i.ensures) (rw c.front-u.ensures.sites_kept at c.call_sites-end.ensures);
   places_kept = c.front-u.ensures.places_kept;
+  same = let s = c.front-u.ensures.same in record { places = s.places; bytes = s.bytes; relocations = s.relocations; sites = s.sites };
 }

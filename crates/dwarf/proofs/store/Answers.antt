@@ -1,18 +1,21 @@
 -- `dwarf::store` meets its contract.
 use native.Mathlib.Omega.{arith}
+use Rattle.dwarf.proofs.Lent.{same, then}
 use Rattle.dwarf.proofs.Sizing.{owned_to}
 use Rattle.dwarf.proofs.Writing.{start, ready, turn, ended}
 use Rattle.dwarf.proofs.store.Goals as goal
 
 pub loop-k-init : goal.loop-k-init
-loop-k-init c = start _ c.requires.1
+loop-k-init c = (start _ c.requires.1, same)
 
 pub part-t-requires : goal.part-t-requires
 part-t-requires c =
-    (ready c.loop-k.invariant c.requires.0 c.loop-k-test.true, owned_to (omega (arith, c.loop-k-test.true, c.loop-k.invariant.counted)) c.requires.2)
+    let g = c.loop-k.invariant.0 in
+    (ready g c.requires.0 c.loop-k-test.true, owned_to (omega (arith, c.loop-k-test.true, g.counted)) c.requires.2)
 
 pub loop-k-preserved : goal.loop-k-preserved
-loop-k-preserved c = turn c.loop-k.invariant c.loop-k-test.true c.part-t.ensures
+loop-k-preserved c =
+    (turn c.loop-k.invariant.0 c.loop-k-test.true c.part-t.ensures.0, then c.loop-k.invariant.1 c.part-t.ensures.1)
 
 pub returns : goal.returns
-returns c = ended c.loop-k.invariant c.loop-k-test.false
+returns c = (ended c.loop-k.invariant.0 c.loop-k-test.false, c.loop-k.invariant.1)

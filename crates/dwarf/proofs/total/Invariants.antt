@@ -1,4 +1,4 @@
-use Prim.Native.Nat.{ℕ, ◌-◌}
+use Prim.Native.Nat.{ℕ}
 use Rattle.format.specs.Lists.{field, function_stride}
 use Rattle.lists.proofs.Sums.{Summing}
 use Rattle.dwarf.proofs.total.Given as goal
