@@ -33,7 +33,6 @@ use lists::{
     Extent, MOST_FUNCTIONS, extent_at, functions_ok, machine_of, machine_ok, outline_ok, sums_ok,
 };
 use numbers::pointer_size;
-use owners::position;
 use records::{
     call_sites, call_sites_size, record, record_relocs, record_relocs_count, record_size,
     surveyed_rows,
@@ -384,7 +383,7 @@ fn size_next(x: &Input, chains: &Chains, k: usize, n: usize, size: usize, t: Tab
     ensures { result ≡ totals_in (parts_to (inputs_of x.now) (k + 1)) }
 {
     let e = taken(x.section, extent_at(x.functions, k));
-    let own = position(chains.owners[k]) == k;
+    let own = usize::from(chains.owners[k]) == k;
     let align = align_for(x.section, x.machine.word, k + 1 == n);
     sized(x, size, own, align, e, t)
 }
@@ -595,7 +594,7 @@ fn header_for(k: usize, at: usize, chains: &Chains, to: &Output) -> Chosen
     requires { (k < length chains.now.owners.now) × (get_or chains.now.owners.now k 0 ≤ k) × (k ≤ length to.now.places.now) }
     ensures { result ≡ chosen_by (get_or chains.now.owners.now k 0) k at to.now.places.now }
 {
-    let o = position(chains.owners[k]);
+    let o = usize::from(chains.owners[k]);
     if o == k {
         return Chosen { own: true, cie: at };
     }
