@@ -5,8 +5,7 @@
 ghost use Rattle.std.specs.Prelude.{◌<◌};
 
 use format::{Operation, Row};
-use operations::Decoded;
-use operations::fields::{Position, Signed, Unsigned, read_sleb, read_uleb};
+use operations::fields::{Position, read_sleb, read_uleb};
 use std::io;
 
 const UNSIGNED: [u64; 12] = [
@@ -89,22 +88,22 @@ fn written(rt: &impl Print, s: &[u8], size: usize) -> io::Result<()> {
 // The end of a line: what is read, and the place past it.
 fn read_unsigned(rt: &impl Print, s: &[u8]) -> io::Result<()> {
     match read_uleb(s, Position::START) {
-        Unsigned::Value(v, next) => {
+        Some((v, next)) => {
             number(rt, v)?;
             number(rt, next.at as u64)?;
         }
-        Unsigned::Bad => print!(rt; " bad")?,
+        None => print!(rt; " bad")?,
     }
     println!(rt)
 }
 
 fn read_signed(rt: &impl Print, s: &[u8]) -> io::Result<()> {
     match read_sleb(s, Position::START) {
-        Signed::Value(v, next) => {
+        Some((v, next)) => {
             signed_number(rt, v)?;
             number(rt, next.at as u64)?;
         }
-        Signed::Bad => print!(rt; " bad")?,
+        None => print!(rt; " bad")?,
     }
     println!(rt)
 }
@@ -142,11 +141,11 @@ fn print_operation(rt: &impl Print, op: Operation) -> io::Result<()> {
 
 fn read_operation(rt: &impl Print, s: &[u8]) -> io::Result<()> {
     match operations::operation(s, Position::START, WORD) {
-        Decoded::Operation(op, next) => {
+        Some((op, next)) => {
             print_operation(rt, op)?;
             number(rt, next.at as u64)?;
         }
-        Decoded::Bad => print!(rt; " bad")?,
+        None => print!(rt; " bad")?,
     }
     println!(rt)
 }
@@ -213,15 +212,15 @@ fn foreign_signed(rt: &impl Print, i: usize, s: &[u8]) -> io::Result<()> {
 }
 
 fn all_unsigned(rt: &impl Print) -> io::Result<()> {
-    for i in 0..UNSIGNED.len() {
-        unsigned(rt, i, UNSIGNED[i])?;
+    for (i, v) in UNSIGNED.iter().enumerate() {
+        unsigned(rt, i, *v)?;
     }
     Ok(())
 }
 
 fn all_signed(rt: &impl Print) -> io::Result<()> {
-    for i in 0..SIGNED.len() {
-        signed(rt, i, SIGNED[i])?;
+    for (i, v) in SIGNED.iter().enumerate() {
+        signed(rt, i, *v)?;
     }
     Ok(())
 }
@@ -270,8 +269,8 @@ fn register_rows(rt: &impl Print) -> io::Result<()> {
 }
 
 fn all_steps(rt: &impl Print) -> io::Result<()> {
-    for i in 0..STEPS.len() {
-        step(rt, i, STEPS[i])?;
+    for (i, v) in STEPS.iter().enumerate() {
+        step(rt, i, *v)?;
     }
     Ok(())
 }
