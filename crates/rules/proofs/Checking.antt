@@ -15,7 +15,7 @@ use Rattle.format.specs.RowCheck.{in_order, rows_of, row_check}
 use Rattle.lists.proofs.Ranges.{one_more}
 use Rattle.rules.specs.declared.Order.{Order}
 use Rattle.std.specs.Prelude.{Option, Some, None}
-use Rattle.rules.specs.Orders.{Held, leaders_ok, follow, follow_some, Starts, Steps}
+use Rattle.rules.specs.Orders.{leaders_ok, follow, follow_some, Starts, Steps}
 
 -- before row i of the n from `at` on
 pub record Checking (rows : List ℕ) (at n : ℕ) (simple : Bool) (i : ℕ) (o : Order) : Type 0 where
@@ -23,7 +23,6 @@ pub record Checking (rows : List ℕ) (at n : ℕ) (simple : Bool) (i : ℕ) (o 
   pub high : i ≤ at + n
   pub inside : at + n ≤ length rows / 4
   pub shaped : T (all_in (row_ok_at rows) i (at + n - i))
-  pub held : Held o
   pub rest : row_check simple (each (row_at rows) at n) ≡ follow o (each (row_at rows) i (at + n - i))
 
 pub start : {rows : List ℕ} {at n : ℕ} {simple : Bool} {o : Order} → at + n ≤ count row_stride rows → T (all_in (row_ok_at rows) at n) → Starts simple o
@@ -35,7 +34,6 @@ start {rows} {at} {n} {o = o} h t s =
       high = omega arith;
       inside = h;
       shaped = rw e at t;
-      held = s.held;
       rest = s.whole (each (row_at rows) at n) ∙ ap (λ m. follow o (each (row_at rows) at m)) e;
     }
 
@@ -70,7 +68,7 @@ module _ {rows : List ℕ} {at n i : ℕ} {simple : Bool} {o : Order} (c : Check
 
       pub turn : {after : Order} → s ≡ Some after → Checking rows at n simple (i + 1) after
       turn {after} e =
-          record { low = omega (arith, c.low); high = omega arith; inside = c.inside; shaped = shape.1; held = rw e at g.held; rest = rw e at here }
+          record { low = omega (arith, c.low); high = omega arith; inside = c.inside; shaped = shape.1; rest = rw e at here }
 
       pub stopped : s ≡ None → false ≡ row_check simple (each (row_at rows) at n)
       stopped e = sym (rw e at here)

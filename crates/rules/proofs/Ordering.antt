@@ -1,12 +1,10 @@
 -- One row of the row check: it may lead where it does, and it is in order.
-use mathlib.Core.Path.{◌≡◌, refl, sym, ap, ◌∙◌}
-use Prim.Native.Nat.{ℕ, suc, ◌+◌, ◌-◌, ◌≤◌, ◌<◌}
+use mathlib.Core.Path.{◌≡◌, refl, sym, ◌∙◌}
+use Prim.Native.Nat.{suc, ◌<◌}
 use native.Mathlib.Omega.{arith}
-use native.Mathlib.Numerals.{add-one}
 use mathlib.Core.Bool.{Bool, true, false, not, ◌&&◌, and-true, and-false, and_assoc}
-use mathlib.Core.List.{List, [], ◌∷◌, reverse-append}
-use lib.ListN.{length, get_or, set, length-set, length-take, length-reverse}
-use lib.Seq.{take-suc, take-suc-set}
+use mathlib.Core.List.{List, [], ◌∷◌, ◌++◌, reverse, reverse-append}
+use lib.ListN.{length, length-reverse}
 use lib.Dec.{eqb, ltb}
 use borrow.Author.Tests.{le-leb, lt-leb}
 use Rattle.format.specs.Prelude.{pick, all}
@@ -17,8 +15,8 @@ use Rattle.format.specs.Headers.{leads, ahead}
 use Rattle.format.specs.RowCheck.{may_lead, in_order, rows_of}
 use Rattle.rules.specs.declared.Order.{Order}
 use Rattle.std.specs.Prelude.{Some, None}
-use Rattle.std.specs.Option.{IfSome}
-use Rattle.rules.specs.Orders.{Held, open_of, leaders_ok, follow, follow_some, passing, Steps}
+use Rattle.arrayvec.specs.ArrayVec.{ArrayVec}
+use Rattle.rules.specs.Orders.{leaders_ok, follow, follow_some, passing, Steps}
 
 -- ---- leading
 
@@ -43,18 +41,13 @@ unfolding pick
 follow_pick true s xs = refl
 follow_pick false s xs = refl
 
-held_pick : (b : Bool) (s : Order) → Held s → IfSome (pick b (Some s) None) Held
-unfolding pick
-held_pick true s h = h
-held_pick false s h = tt
-
 -- a row decides where the rest of the leaders and the rest of the order are known
 module _ (o : Order) (first : Bool) (r : Row) (s : Order) (may ok : Bool) where
   pub decided : s.leading ≡ still_leads first r → may ≡ pick (still_leads first r) (may_lead r) true && ok
-      → ((rs : List Row) → in_order o.framed (open_of o.marks o.depth) (r ∷ rs) ≡ ok && in_order s.framed (open_of s.marks s.depth) rs)
-      → Held s → Steps o first r (pick may (Some s) None)
+      → ((rs : List Row) → in_order o.framed (reverse o.marks.items) (r ∷ rs) ≡ ok && in_order s.framed (reverse s.marks.items) rs)
+      → Steps o first r (pick may (Some s) None)
   unfolding follow leaders_ok leads ahead rows_of
-  decided l e n h =
+  decided l e n =
       record {
         decides = λ offset f xs.
             let still : o.leading && (eqb offset 0 && not (eqb (kind_of r) 6)) ≡ still_leads first r =
@@ -64,7 +57,6 @@ module _ (o : Order) (first : Bool) (r : Row) (s : Order) (may ok : Bool) where
             rw (one_leader o.leading (eqb offset 0 && not (eqb (kind_of r) 6)) r (ahead xs), still, n (rows_of xs), l, e)
             (swap (pick (still_leads first r) (may_lead r) true) (pick (still_leads first r) (all may_lead (ahead xs)) true) ok _)
             in both ∙ follow_pick may s xs;
-        held = held_pick may s h;
       }
 
 -- ---- rows that open and close nothing
@@ -79,82 +71,60 @@ unfolding pick
 barred true = refl
 barred false = refl
 
-module _ (o : Order) (first : Bool) (r : Row) (framed : Bool) (h : Held o) (k : eqb (kind_of r) 6 ≡ false) where
+module _ (o : Order) (first : Bool) (r : Row) (framed : Bool) (k : eqb (kind_of r) 6 ≡ false) where
   -- one that may lead
   pub passed : (ok : Bool) → may_lead r ≡ true
-      → ((rs : List Row) → in_order o.framed (open_of o.marks o.depth) (r ∷ rs) ≡ ok && in_order framed (open_of o.marks o.depth) rs)
+      → ((rs : List Row) → in_order o.framed (reverse o.marks.items) (r ∷ rs) ≡ ok && in_order framed (reverse o.marks.items) rs)
       → Steps o first r (passing ok o first framed)
   unfolding passing
-  passed ok m n = decided o first r _ ok ok (rw (k, and-true)) (rw m (free (still_leads first r) ok)) n h
+  passed ok m n = decided o first r _ ok ok (rw (k, and-true)) (rw m (free (still_leads first r) ok)) n
 
   -- one that may not
   pub kept_back : may_lead r ≡ false
-      → ((rs : List Row) → in_order o.framed (open_of o.marks o.depth) (r ∷ rs) ≡ in_order framed (open_of o.marks o.depth) rs)
+      → ((rs : List Row) → in_order o.framed (reverse o.marks.items) (r ∷ rs) ≡ in_order framed (reverse o.marks.items) rs)
       → Steps o first r (passing (not first) o first framed)
   unfolding passing
-  kept_back m n = decided o first r _ (not first) true (rw (k, and-true)) (rw (m, k) (barred first)) n h
+  kept_back m n = decided o first r _ (not first) true (rw (k, and-true)) (rw (m, k) (barred first)) n
 
 -- ---- rows that open and close
 
-open_length : (ms : List Bool) (n : ℕ) → n ≤ length ms → length (open_of ms n) ≡ n
-unfolding open_of
-open_length ms n h = simp (length-reverse, length-take) (omega arith)
+no_items : (xs : List Bool) → (0 < length xs → ⊥) → xs ≡ []
+no_items [] n = refl
+no_items (x ∷ xs) n = absurd (n (omega arith))
 
-open_more : (ms : List Bool) (b : Bool) (n : ℕ) → n < length ms → open_of (set ms n b) (suc n) ≡ b ∷ open_of ms n
-unfolding open_of
-open_more ms b n h = rw (take-suc-set ms n b h, reverse-append)
-
-open_last : (ms : List Bool) (n : ℕ) → n < length ms → open_of ms (suc n) ≡ get_or ms n false ∷ open_of ms n
-unfolding open_of
-open_last ms n h = rw (take-suc ms n false h, reverse-append)
-
-module _ (o : Order) (first : Bool) (h : Held o) where
-  opened : List Bool
-  opened = open_of o.marks o.depth
-
-  full_length : length opened ≡ o.depth
-  unfolding opened
-  full_length = open_length o.marks o.depth (omega (arith, h.deep, h.long))
-
+module _ (o : Order) (first : Bool) where
   -- a RememberState, where 16 are open and where fewer are
-  pub full : 16 ≤ o.depth → Steps o first RememberState None
-  unfolding kind_of in_order opened pick
+  pub full : length o.marks.items ≡ 16 → Steps o first RememberState None
+  unfolding kind_of in_order pick
   full l =
-      let e : ltb (length opened) 16 ≡ false = lt-leb (suc (length opened)) 16 (omega (arith, full_length)) in
-      decided o first RememberState (record { leading = false; framed = o.framed; depth = o.depth; marks = o.marks }) false false (sym (and-false first))
-      (sym (and-false (pick (still_leads first RememberState) (may_lead RememberState) true))) (λ rs. rw e) h
+      let e : ltb (length (reverse o.marks.items)) 16 ≡ false = lt-leb (suc (length (reverse o.marks.items))) 16 (omega (arith, length-reverse o.marks.items)) in
+      decided o first RememberState (record { leading = false; framed = o.framed; marks = o.marks }) false false (sym (and-false first))
+      (sym (and-false (pick (still_leads first RememberState) (may_lead RememberState) true))) (λ rs. rw e)
 
-  pub remembered : o.depth < 16
-      → Steps o first RememberState (Some (record { leading = false; framed = o.framed; depth = o.depth + 1; marks = set o.marks o.depth o.framed }))
-  unfolding kind_of may_lead in_order opened pick
-  remembered l =
-      let e : ltb (length opened) 16 ≡ true = le-leb (suc (length opened)) 16 (omega (arith, full_length)) in
-      decided o first RememberState _ true true (sym (and-false first)) (rw (and-false first))
-      (λ rs. rw (e, add-one o.depth, open_more o.marks o.framed o.depth (omega (arith, h.long))))
-      (record { deep = omega arith; long = length-set o.marks o.depth o.framed ∙ h.long })
+  pub remembered : {marks : ArrayVec Bool} → length o.marks.items < 16 → marks.items ≡ o.marks.items ++ (o.framed ∷ [])
+      → Steps o first RememberState (Some (record { leading = false; framed = o.framed; marks = marks }))
+  unfolding kind_of may_lead in_order pick
+  remembered l m =
+      let e : ltb (length (reverse o.marks.items)) 16 ≡ true = le-leb (suc (length (reverse o.marks.items))) 16 (omega (arith, length-reverse o.marks.items)) in
+      decided o first RememberState _ true true (sym (and-false first)) (rw (and-false first)) (λ rs. rw (e, m, reverse-append))
 
   -- a RestoreState, where none is open, and where one is: it may not lead
-  pub none_open : o.depth ≡ 0 → Steps o first RestoreState None
-  unfolding kind_of in_order open_of pick
-  none_open e =
-      decided o first RestoreState (record { leading = first; framed = o.framed; depth = o.depth; marks = o.marks }) false false (sym (and-true first))
-      (sym (and-false (pick (still_leads first RestoreState) (may_lead RestoreState) true))) (λ rs. rw e) h
+  pub none_open : (0 < length o.marks.items → ⊥) → Steps o first RestoreState None
+  unfolding kind_of in_order pick
+  none_open n =
+      let e = no_items o.marks.items n in
+      decided o first RestoreState (record { leading = first; framed = o.framed; marks = o.marks }) false false (sym (and-true first))
+      (sym (and-false (pick (still_leads first RestoreState) (may_lead RestoreState) true))) (λ rs. rw e)
 
-  module _ (l : 0 < o.depth) where
-    closed : Steps o first RestoreState (pick (not first) (Some (record { leading = first; framed = get_or o.marks (o.depth - 1) false; depth = o.depth - 1; marks = o.marks })) None)
+  module _ (marks : ArrayVec Bool) (framed : Bool) (m : o.marks.items ≡ marks.items ++ (framed ∷ [])) where
+    closed : Steps o first RestoreState (pick (not first) (Some (record { leading = first; framed = framed; marks = marks })) None)
     unfolding kind_of may_lead in_order
-    closed =
-        let e : o.depth ≡ suc (o.depth - 1) = omega arith in
-        let f : open_of o.marks o.depth ≡ get_or o.marks (o.depth - 1) false ∷ open_of o.marks (o.depth - 1) =
-        ap (open_of o.marks) e ∙ open_last o.marks (o.depth - 1) (omega (arith, h.deep, h.long))
-        in
-        decided o first RestoreState _ (not first) true (sym (and-true first)) (barred first) (λ rs. rw f) (record { deep = omega (arith, h.deep); long = h.long })
+    closed = decided o first RestoreState _ (not first) true (sym (and-true first)) (barred first) (λ rs. rw (m, reverse-append))
 
     pub in_front : first ≡ true → Steps o first RestoreState None
     unfolding pick
     in_front t = rw t (rw t at closed)
 
-    pub restored : first ≡ false
-        → Steps o first RestoreState (Some (record { leading = false; framed = get_or o.marks (o.depth - 1) false; depth = o.depth - 1; marks = o.marks }))
+    pub restored : first ≡ false → Steps o first RestoreState (Some (record { leading = false; framed = framed; marks = marks }))
     unfolding pick
     restored t = rw t (rw t at closed)

@@ -1,6 +1,5 @@
 -- What the state of the row check means: the part of the check that is left.
-use Rattle.std.specs.Prelude.{◌≡◌, ℕ, ◌≤◌, Bool, true, false, ◌&&◌, List, ◌∷◌, reverse, length, take, eqb, Option, Some, None}
-use Rattle.std.specs.Option.{IfSome}
+use Rattle.std.specs.Prelude.{◌≡◌, ℕ, Bool, true, false, ◌&&◌, List, ◌∷◌, reverse, eqb, Option, Some, None}
 use Rattle.format.specs.Prelude.{pick, all}
 use Rattle.format.specs.declared.Row.{Row}
 use Rattle.format.specs.Rows.{RowAt}
@@ -8,26 +7,13 @@ use Rattle.format.specs.Headers.{ahead}
 use Rattle.format.specs.RowCheck.{may_lead, in_order, rows_of, row_check}
 use Rattle.rules.specs.declared.Order.{Order}
 
--- at most 16 are open, in 16 places
-pub record Room (depth : ℕ) (marks : List Bool) : Type 0 where
-  pub deep : depth ≤ 16
-  pub long : length marks ≡ 16
-
--- the places of a state
-abbrev pub Held : Order → Type 0
-Held o = Room o.depth o.marks
-
--- the open ones, the last first
-unfoldable pub open_of : List Bool → ℕ → List Bool
-open_of ms n = reverse (take n ms)
-
 -- those of the rows that lead may; where the rows before do not lead there are none
 unfoldable pub leaders_ok : (leading : Bool) → List RowAt → Bool
 leaders_ok leading xs = pick leading (all may_lead (ahead xs)) true
 
--- the check of the rows that follow
+-- the check of the rows that follow: the open ones, the last first
 unfoldable pub follow : Order → List RowAt → Bool
-follow o xs = leaders_ok o.leading xs && in_order o.framed (open_of o.marks o.depth) (rows_of xs)
+follow o xs = leaders_ok o.leading xs && in_order o.framed (reverse o.marks.items) (rows_of xs)
 
 -- where a row may not stand, a no
 abbrev pub follow_some : Option Order → List RowAt → Bool
@@ -37,13 +23,11 @@ follow_some (Some o) xs = follow o xs
 -- the state before the first row
 pub record Starts (simple : Bool) (o : Order) : Type 0 where
   pub whole : (xs : List RowAt) → row_check simple xs ≡ follow o xs
-  pub held : Held o
 
 -- a row that opens and closes nothing
 unfoldable pub passing : (ok : Bool) (o : Order) (first framed : Bool) → Option Order
-passing ok o first framed = pick ok (Some (record { leading = first; framed = framed; depth = o.depth; marks = o.marks })) None
+passing ok o first framed = pick ok (Some (record { leading = first; framed = framed; marks = o.marks })) None
 
 -- what a row does, where `first` says that it is at offset 0 behind rows that all lead: whatever rows follow, it decides with them
 pub record Steps (o : Order) (first : Bool) (r : Row) (s : Option Order) : Type 0 where
   pub decides : (offset : ℕ) → first ≡ o.leading && eqb offset 0 → (xs : List RowAt) → follow o ((offset, r) ∷ xs) ≡ follow_some s xs
-  pub held : IfSome s Held

@@ -6,30 +6,28 @@ ghost use Rattle.format.specs.Prelude.{each};
 ghost use Rattle.format.specs.Lists.{count, row_stride, row_at, row_ok_at, all_in};
 ghost use Rattle.format.specs.RowCheck.{row_check, row_check_at};
 ghost use Rattle.format.specs.declared.Row.TheVariants as row;
-ghost use Rattle.rules.specs.Orders.{Held, Starts, passing, Steps};
+ghost use Rattle.rules.specs.Orders.{Starts, passing, Steps};
 
+use arrayvec::ArrayVec;
 use format::Row;
 
-// Between two rows: whether all so far lead, whether there is a frame address rule, and of the `depth` RememberStates that
-// are open, the last at depth - 1, whether there was one there.
-#[derive(Clone, Copy)]
+// Between two rows: whether all so far lead, whether there is a frame address rule, and of the RememberStates that are open,
+// the last at the end, whether there was one there.
+#[derive(Drop)]
 pub struct Order {
     pub leading: bool,
     pub framed: bool,
-    pub depth: usize,
-    pub marks: [bool; 16],
+    pub marks: ArrayVec<bool, 16>,
 }
 
 // Unless simple a frame address rule leads.
 pub fn start(simple: bool) -> Order
     ensures { Starts simple result }
 {
-    let marks = [false; 16];
     Order {
         leading: true,
         framed: !simple,
-        depth: 0,
-        marks,
+        marks: ArrayVec::new(),
     }
 }
 
@@ -57,61 +55,54 @@ fn passes(ok: bool, o: Order, first: bool, framed: bool) -> Option<Order>
 
 // A RememberState: at most 16 are open.
 fn opens(o: Order) -> Option<Order>
-    requires { Held o }
     ensures { (first : Bool) → Steps o first row.RememberState result }
 {
-    let depth = o.depth;
-    if 16 <= depth {
-        return None;
-    }
     let mut marks = o.marks;
-    marks[depth] = o.framed;
+    let Ok(()) = marks.try_push(o.framed) else {
+        return None;
+    };
     Some(Order {
         leading: false,
         framed: o.framed,
-        depth: depth + 1,
         marks,
     })
 }
 
 // A RestoreState: one is open, and it does not lead.
 fn closes(o: Order, first: bool) -> Option<Order>
-    requires { Held o }
     ensures { Steps o first row.RestoreState result }
 {
-    let depth = o.depth;
-    if depth == 0 {
+    let mut marks = o.marks;
+    let Some(framed) = marks.pop() else {
         return None;
-    }
+    };
     if first {
         return None;
     }
-    let last = depth - 1;
     Some(Order {
         leading: false,
-        framed: o.marks[last],
-        depth: last,
-        ..o
+        framed,
+        marks,
     })
 }
 
 // A row, `first` where it is at offset 0 behind rows that all lead: what follows, where it may stand there.
 pub fn step(o: Order, first: bool, row: Row) -> Option<Order>
-    requires { Held o }
     ensures { Steps o first row result }
 {
+    let framed = o.framed;
     match row {
         Row::DefCfa(_, _) => passes(true, o, first, true),
-        Row::DefCfaOffset(_) => passes(o.framed, o, first, o.framed),
-        Row::DefCfaRegister(_) => passes(o.framed, o, first, o.framed),
-        Row::Offset(_, _) => passes(true, o, first, o.framed),
-        Row::Restore(_) => passes(!first, o, first, o.framed),
-        Row::Undefined(_) => passes(true, o, first, o.framed),
+        Row::DefCfaOffset(_) => passes(framed, o, first, framed),
+        Row::DefCfaRegister(_) => passes(framed, o, first, framed),
+        Row::Offset(_, _) => passes(true, o, first, framed),
+        Row::Restore(_) => passes(!first, o, first, framed),
+        Row::Undefined(_) => passes(true, o, first, framed),
         Row::RememberState => opens(o),
         Row::RestoreState => closes(o, first),
-        Row::NegateRaState => passes(true, o, first, o.framed),
-        Row::SameValue(_) => passes(true, o, first, o.framed),
-        Row::InRegister(_, _) => passes(true, o, first, o.framed),
+        Row::NegateRaState => passes(true, o, first, framed),
+        Row::SameValue(_) => passes(true, o, first, framed),
+        Row::InRegister(_, _) => passes(true, o, first, framed),
     }
 }
 

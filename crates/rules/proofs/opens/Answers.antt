@@ -1,9 +1,10 @@
 -- `rules::opens` meets its contract.
+use mathlib.Core.Path.{refl}
 use Rattle.rules.proofs.Ordering.{full, remembered}
 use Rattle.rules.proofs.opens.Goals as goal
 
-pub returns-then-depth-ge16 : goal.returns-then-depth-ge16
-returns-then-depth-ge16 c = λ first. full c.args.o first c.requires c.if-depth-ge16.true
+pub returns-in_default : goal.returns-in_default
+returns-in_default c = λ first. full c.args.o first c.in_default.ensures.full
 
 pub returns : goal.returns
-returns c = λ first. remembered c.args.o first c.requires c.if-depth-ge16.false
+returns c = λ first. remembered c.args.o first (c.in-Ok.ensures.variant.0 refl) c.in-Ok.ensures.ok

@@ -9,9 +9,6 @@ loop-i-init c = start c.requires.0 c.requires.1 c.start-o.ensures
 pub row_at-requires : goal.row_at-requires
 row_at-requires c = (search rules, (shape c.loop-i.invariant c.loop-i-test.true).0)
 
-pub step-requires : goal.step-requires
-step-requires c = c.loop-i.invariant.held
-
 pub loop-i-preserved : goal.loop-i-preserved
 loop-i-preserved c = turn c.loop-i.invariant c.loop-i-test.true (rw c.offset_at.ensures at c.at_start-first.ensures) (rw c.row_at.ensures at c.step.ensures) c.in-Some.is
 
