@@ -10,37 +10,40 @@ use lib.ListN.{length}
 use borrow.Author.Tests.{leb-true, le-leb, lt-leb, lt-ltb, le-ltb}
 use Rattle.format.specs.Prelude.{pick, all}
 use Rattle.format.specs.Lists.{all_in, field}
+use Rattle.std.specs.Prelude.{Option, Ok, Err}
+use Rattle.std.specs.Option.{is_some}
+use Rattle.format.specs.Coded.{refusal}
+use Rattle.format.proofs.Asked.{question_of}
 use Rattle.format.specs.Questions.{ask, and_then}
-use Rattle.format.proofs.Choice.{either, if-le, if-gt}
+use Rattle.format.proofs.Choice.{either}
 use Rattle.format.proofs.ListLaws.{each-length}
 use Rattle.arm64.specs.Lists.{Epilogue, Function, function_stride, numbered_epilogue, numbered_function}
 use Rattle.arm64.specs.Runs.{no_pair, run_fits}
 use Rattle.arm64.specs.Writer.{codes_of, index_in, instructions, ends_with, only_one, single, first_index, count_of, words_of, size_ok, start_ok, values_ok, function_asks}
 use Rattle.arm64_simple.specs.Saves.{saves}
 use Rattle.arm64_function.specs.declared.Parts.{Parts}
-use Rattle.arm64_function.specs.Listed.{asks}
 use Rattle.arm64_function.specs.Own.{parts_at, codes_in, start_ok_at, fits_at, parts_ok, length_ok, held_to}
 use Rattle.arm64.proofs.MeaningLaws.{both_true}
 use Rattle.arm64_function.proofs.Given.{prologue_saves, epilogues_same, codes_same, starts_same, fits_same}
 
 -- ---- the first no
 
-pub no_length : (k : ℕ) (f : Function) → size_ok f ≡ false → function_asks k f ≡ asks 81
-unfolding function_asks ask and_then asks pick
+pub no_length : (k : ℕ) (f : Function) → size_ok f ≡ false → Err (refusal 81 0) ≡ question_of (function_asks k f)
+unfolding function_asks ask and_then question_of pick
 no_length k f e = simp e
 
 module _ (k : ℕ) (f : Function) (e : size_ok f ≡ true) where
-  pub no_start : all (start_ok f) f.epilogues ≡ false → function_asks k f ≡ asks 82
-  unfolding function_asks ask and_then asks pick
+  pub no_start : all (start_ok f) f.epilogues ≡ false → Err (refusal 82 0) ≡ question_of (function_asks k f)
+  unfolding function_asks ask and_then question_of pick
   no_start g = simp (e, g)
 
   module _ (g : all (start_ok f) f.epilogues ≡ true) where
-    pub no_value : values_ok f ≡ false → function_asks k f ≡ asks 83
-    unfolding function_asks ask and_then asks pick
+    pub no_value : values_ok f ≡ false → Err (refusal 83 0) ≡ question_of (function_asks k f)
+    unfolding function_asks ask and_then question_of pick
     no_value h = simp (e, g, h)
 
-    pub no_question : values_ok f ≡ true → function_asks k f ≡ asks 0
-    unfolding function_asks ask and_then asks pick
+    pub no_question : values_ok f ≡ true → Ok tt ≡ question_of (function_asks k f)
+    unfolding function_asks ask and_then question_of pick
     no_question h = simp (e, g, h)
 
 -- ---- and where there is none
@@ -123,15 +126,9 @@ module _ (fs es cs : List ℕ) (k : ℕ) where
 
 -- ---- the parts by their answers
 
-pub held_leb : (d : ℕ) → leb (held_to d) 1020 ≡ leb d 1020
-unfolding held_to
-held_leb d = either d 1020 low high
-  where
-    low : d ≤ 1020 → leb (pick (leb d 1020) d 1021) 1020 ≡ leb d 1020
-    low l = ap (λ (x : ℕ). leb x 1020) (if-le d 1020 d 1021 l)
-
-    high : 1020 < d → leb (pick (leb d 1020) d 1021) 1020 ≡ leb d 1020
-    high l = ap (λ (x : ℕ). leb x 1020) (if-gt d 1020 d 1021 l) ∙ sym (lt-leb d 1020 l)
+held_some : (d : ℕ) → is_some (held_to d) ≡ leb d 1020
+unfolding held_to pick
+held_some d = either d 1020 (λ l. simp (le-leb d 1020 l)) λ l. simp (lt-leb d 1020 l)
 
 module _ (es cs : List ℕ) (p : Parts) where
   pub no_prologue : run_fits no_pair (saves cs p.prologue) ≡ false → false ≡ parts_ok es cs p
@@ -148,7 +145,6 @@ module _ (es cs : List ℕ) (p : Parts) where
       unfolding parts_ok
       too_many h = simp (e, g, le-ltb (p.end - p.first) 65536 (omega (arith, h)))
 
-      pub by_size : {n : ℕ} → p.end - p.first ≤ 65535 → n ≡ held_to (length (codes_in es cs p)) → leb n 1020 ≡ parts_ok es cs p
+      pub by_size : {r : Option ℕ} → p.end - p.first ≤ 65535 → r ≡ held_to (length (codes_in es cs p)) → is_some r ≡ parts_ok es cs p
       unfolding parts_ok
-      by_size {n} h s =
-          ap (λ (x : ℕ). leb x 1020) s ∙ held_leb (length (codes_in es cs p)) ∙ simp (e, g, lt-ltb (p.end - p.first) 65536 (omega (arith, h)))
+      by_size {r} h s = ap is_some s ∙ held_some (length (codes_in es cs p)) ∙ simp (e, g, lt-ltb (p.end - p.first) 65536 (omega (arith, h)))

@@ -7,7 +7,9 @@ use native.Mathlib.Omega.{arith}
 use lib.ListN.{length, length-append}
 use borrow.Author.Tests.{lt-ltb, le-ltb, eq-eqb}
 use Rattle.format.specs.Prelude.{pick, each}
-use Rattle.format.proofs.Choice.{if-le, if-gt}
+use Rattle.std.specs.Prelude.{Option, Some, None, IfSome}
+use Rattle.std.specs.Option.{unwrap_or, is_some}
+use Rattle.format.proofs.Choice.{if-gt}
 use Rattle.arm64.specs.declared.Code.{Code}
 use Rattle.arm64.specs.Codes.{code_bytes}
 use Rattle.arm64.specs.Runs.{no_pair, same_code, same_codes, simplify, run_fits, backwards, run_bytes, run_size, leads, is_in, own_runs, runs_bytes}
@@ -157,6 +159,15 @@ searching_ended {es} {cs} {p} {i} {j} s h =
           ∙ sym (le-ltb i i (omega arith));
     }
 
+-- by whether one was found
+pub near_some : (r : Option ℕ) (i : ℕ) → IfSome r (λ j. j < i) → is_some r ≡ true → unwrap_or r i < i
+near_some None i h e = absurd (no_yes e)
+near_some (Some j) i h e = h
+
+pub near_none : (r : Option ℕ) (i : ℕ) → is_some r ≡ false → i ≤ unwrap_or r i
+near_none None i e = omega arith
+near_none (Some j) i e = absurd (no_yes (sym e))
+
 -- ---- a run of its own
 
 pub not_own : (r : List Code) (b : Bool) → b ≡ true → pick b [] (r ∷ []) ≡ []
@@ -249,23 +260,15 @@ summing_turn {es} {cs} {p} {size} {i} {x} s h e =
     let g = ap length (bytes_own es cs p i s.low h) ∙ length-append (runs_bytes (own_at es cs p i)) (runs_bytes (later_at es cs p (i + 1))) in
     record { low = omega (arith, s.low); rest = omega (arith, s.rest, g, e) }
 
-held_low : (n : ℕ) → n ≤ 1020 → n ≡ held_to n
-unfolding held_to
-held_low n h = rw (if-le n 1020)
-
-held_high : (n : ℕ) → 1020 < n → 1021 ≡ held_to n
+held_high : (n : ℕ) → 1020 < n → None ≡ held_to n
 unfolding held_to
 held_high n h = rw (if-gt n 1020)
 
-pub summing_high : {es cs : List ℕ} {p : Parts} {size i : ℕ} → Summing es cs p size i → 1020 < size → 1021 ≡ held_to (length (codes_in es cs p))
+pub summing_high : {es cs : List ℕ} {p : Parts} {size i : ℕ} → Summing es cs p size i → 1020 < size → None ≡ held_to (length (codes_in es cs p))
 summing_high {es} {cs} {p} s h = held_high (length (codes_in es cs p)) (omega (arith, s.rest, h))
 
 pub summing_all : {es cs : List ℕ} {p : Parts} {size i : ℕ} → Summing es cs p size i → p.end ≤ i → size ≡ length (codes_in es cs p)
 summing_all {es} {cs} {p} {size} {i} s h = omega (arith, s.rest, ap length (bytes_end es cs p i h))
-
-pub summing_ended : {es cs : List ℕ} {p : Parts} {size i : ℕ} → Summing es cs p size i → p.end ≤ i → size ≤ 1020
-    → size ≡ held_to (length (codes_in es cs p))
-summing_ended {es} {cs} {p} {size} {i} s h l = held_low size l ∙ ap held_to (summing_all s h)
 
 pub leads_is : (es cs : List ℕ) (p : Parts) (i : ℕ) {r : Run} {b : Bool} → r ≡ epilogue_at es i
     → b ≡ leads (simplify no_pair (saves cs r)) (simplify no_pair (saves cs p.prologue)) → b ≡ leads (run_at es cs i) (prologue_in cs p)

@@ -8,6 +8,7 @@ use native.Mathlib.Nat.{add-zero}
 use lib.Dec.{T, leb, ltb, eqb}
 use lib.ListN.{length, get_or}
 use borrow.Author.Tests.{leb-true, le-leb, lt-leb, ltb-true, eq-eqb, ne_eqb}
+use Rattle.std.specs.Prelude.{Option, Some, None}
 use Rattle.format.specs.Prelude.{pick, each}
 use Rattle.format.specs.Lists.{all_in, field}
 use Rattle.format.proofs.ListLaws.{each-length, in_range}
@@ -126,28 +127,28 @@ module _ (fs es cs : List ℕ) (k : ℕ) where
         ∙ ap (λ b. b && stands_for (candidate (instructions size) (prologue_run f)) (prologue_run f) (epilogue_run last)) shared_same
         ∙ ap (λ b. shared_in cs left p.prologue (epilogue_at es i) && b) stands_same
 
-    pub word_one : packed_at es cs p size ≡ pick (is_packed f) (packed_word (candidate (instructions f.size) (prologue_run f))) 0
+    pub word_one : packed_at es cs p size ≡ pick (is_packed f) (Some (packed_word (candidate (instructions f.size) (prologue_run f)))) None
     unfolding packed_at numbered_function
     word_one =
         sym
-        (ap (λ b. pick b (packed_word (candidate (instructions size) (prologue_run f))) 0) packed_same
-        ∙ ap (λ x. pick (shared_in cs left p.prologue (epilogue_at es i) && stands_for (candidate (instructions size) P) P R) (packed_word (candidate (instructions size) x)) 0)
+        (ap (λ b. pick b (Some (packed_word (candidate (instructions size) (prologue_run f)))) None) packed_same
+        ∙ ap (λ x. pick (shared_in cs left p.prologue (epilogue_at es i) && stands_for (candidate (instructions size) P) P R) (Some (packed_word (candidate (instructions size) x))) None)
         (prologue_same fs es cs k))
 
-  pub word_none : (p.end - p.first ≡ 1 → ⊥) → 0 ≡ pick (is_packed f) (packed_word (candidate (instructions f.size) (prologue_run f))) 0
+  pub word_none : (p.end - p.first ≡ 1 → ⊥) → None ≡ pick (is_packed f) (Some (packed_word (candidate (instructions f.size) (prologue_run f)))) None
   unfolding is_packed pick
   word_none h =
       sym
-      (ap (λ b. pick b (packed_word (candidate (instructions f.size) (prologue_run f))) 0)
+      (ap (λ b. pick b (Some (packed_word (candidate (instructions f.size) (prologue_run f)))) None)
       (ap (only_one (packed_for f)) (epilogues_same fs es cs k) ∙ only_other (packed_for f) (numbered_epilogue es cs) i (p.end - p.first) h))
 
   -- by the parts as the code has them
   module _ {q : Parts} (e : q ≡ p) where
-    pub word_other : (q.end - q.first ≡ 1 → ⊥) → 0 ≡ pick (is_packed f) (packed_word (candidate (instructions f.size) (prologue_run f))) 0
+    pub word_other : (q.end - q.first ≡ 1 → ⊥) → None ≡ pick (is_packed f) (Some (packed_word (candidate (instructions f.size) (prologue_run f)))) None
     word_other h = word_none (λ g. h (ap (λ x. x.end - x.first) e ∙ g))
 
-    pub word_only : q.end - q.first ≡ 1 → {n : ℕ} → n ≡ packed_at es cs q size
-        → n ≡ pick (is_packed f) (packed_word (candidate (instructions f.size) (prologue_run f))) 0
+    pub word_only : q.end - q.first ≡ 1 → {n : Option ℕ} → n ≡ packed_at es cs q size
+        → n ≡ pick (is_packed f) (Some (packed_word (candidate (instructions f.size) (prologue_run f)))) None
     word_only h g = g ∙ ap (λ x. packed_at es cs x size) e ∙ word_one (sym (ap (λ x. x.end - x.first) e) ∙ h)
 
 -- ---- whether the run is shared, test by test
@@ -200,19 +201,19 @@ module _ (es cs : List ℕ) (p : Parts) (size : ℕ) {e : Run} (h : e ≡ epilog
   abbrev stands : Bool
   stands = stands_for (candidate (instructions size) (prologue_in cs p)) (prologue_in cs p) (run_at es cs p.first)
 
-  pub unshared : shared_in cs code_left p.prologue e ≡ false → 0 ≡ packed_at es cs p size
+  pub unshared : shared_in cs code_left p.prologue e ≡ false → None ≡ packed_at es cs p size
   unfolding packed_at pick
-  unshared g = sym (ap (λ b. pick (b && stands) (packed_word (candidate (instructions size) (prologue_in cs p))) 0) (sym shared_is ∙ g))
+  unshared g = sym (ap (λ b. pick (b && stands) (Some (packed_word (candidate (instructions size) (prologue_in cs p)))) None) (sym shared_is ∙ g))
 
   abbrev P₁ : List Code
   P₁ = simplify no_pair (saves cs p.prologue)
 
-  pub shared : shared_in cs code_left p.prologue e ≡ true → {n : ℕ}
-      → n ≡ pick (stands_for (candidate (size / 4) P₁) P₁ (simplify no_pair (saves cs e))) (packed_word (candidate (size / 4) P₁)) 0 → n ≡ packed_at es cs p size
+  pub shared : shared_in cs code_left p.prologue e ≡ true → {n : Option ℕ}
+      → n ≡ pick (stands_for (candidate (size / 4) P₁) P₁ (simplify no_pair (saves cs e))) (Some (packed_word (candidate (size / 4) P₁))) None → n ≡ packed_at es cs p size
   unfolding packed_at prologue_in run_at instructions
   shared g k =
-      k ∙ ap (λ x. pick (stands_for (candidate (size / 4) P₁) P₁ (simplify no_pair (saves cs x))) (packed_word (candidate (size / 4) P₁)) 0) h
-      ∙ sym (ap (λ b. pick (b && stands) (packed_word (candidate (size / 4) P₁)) 0) (sym shared_is ∙ g))
+      k ∙ ap (λ x. pick (stands_for (candidate (size / 4) P₁) P₁ (simplify no_pair (saves cs x))) (Some (packed_word (candidate (size / 4) P₁))) None) h
+      ∙ sym (ap (λ b. pick (b && stands) (Some (packed_word (candidate (size / 4) P₁))) None) (sym shared_is ∙ g))
 
   module _ (o : Only es cs p size) where
     pub only_inside : Inside cs e

@@ -1,7 +1,7 @@
 -- A function's record by its parts is the function's, and what its writers know.
 use mathlib.Core.Path.{◌≡◌, refl, subst, sym, ap, ◌∙◌}
 use mathlib.Core.Bool.{Bool, true, false, ◌&&◌, and-true, and-false}
-use mathlib.Core.List.{List, [], ◌∷◌, ◌++◌}
+use mathlib.Core.List.{List, [], ◌++◌}
 use Prim.Native.Nat.{ℕ, zero, suc, ◌+◌, ◌-◌, ◌*◌, ◌/◌, ◌^◌, ◌≤◌, ◌<◌}
 use native.Mathlib.Omega.{arith}
 use native.Mathlib.Nat.{add-zero}
@@ -14,21 +14,22 @@ use Rattle.format.specs.Lists.{all_in, field}
 use Rattle.format.proofs.Wrote.{Wrote}
 use Rattle.format.proofs.PutLaws.{kept}
 use Rattle.format.proofs.ListLaws.{each-length}
-use Rattle.arm64.specs.declared.Code.{Code}
-use Rattle.arm64.specs.declared.Packed.{Packed}
 use Rattle.arm64.specs.Lists.{Function, function_stride, epilogue_stride, numbered_epilogue, numbered_function}
-use Rattle.arm64.specs.Packing.{candidate, packed_word, tally, tallies, nothing_yet, as_fields}
-use Rattle.arm64.specs.Runs.{no_pair, simplify, backwards, leads, run_fits, resolve}
-use Rattle.arm64.specs.Writer.{codes_of, instructions, ends_with, only_one, single, first_index, count_of, words_of, header_bytes, scope_bytes, scopes_of, record_bytes, info_of, is_packed, prologue_run, nop_byte}
+use Rattle.arm64.specs.Runs.{no_pair, simplify, backwards, leads, run_fits}
+use Rattle.arm64.specs.Writer.{codes_of, instructions, ends_with, only_one, single, first_index, count_of, words_of, header_bytes, scope_bytes, scopes_of, record_bytes, info_of, is_packed, nop_byte}
 use Rattle.arm64_simple.specs.Saves.{saves}
-use Rattle.arm64_header.specs.Header.{header_of}
-use Rattle.arm64_header.proofs.Header.{header_is}
+use Rattle.arm64_header.specs.Header.{only_in, count_in, header_of}
+use Rattle.arm64_header.specs.declared.Epilogues.TheVariants.{Only, Many}
+use Rattle.arm64_header.proofs.Forms.{header_is}
 use Rattle.arm64_function.specs.declared.Parts.{Parts}
 use Rattle.arm64_function.specs.declared.Shape.{Shape}
 use Rattle.arm64_function.specs.Listed.{Fine}
 use Rattle.arm64_function.specs.Own.{parts_at, epilogue_at, prologue_in, run_at, codes_in, index_at, word_at, words_from, parts_ok, fits_at, held_to, most_codes}
 use Rattle.arm64_function.specs.Record.{Whole, single_at, count_at, words_at, Shaped, scopes_at, record_at}
-use Rattle.arm64.proofs.MeaningLaws.{both_true}
+use Rattle.arm64.proofs.MeaningLaws.{both_true, no_yes}
+use Rattle.std.specs.Prelude.{Option, Some, None}
+use Rattle.std.specs.Option.{unwrap_or, is_some}
+use Rattle.std.proofs.lemmas.Option.{none-some}
 use Rattle.arm64_function.proofs.Given.{epilogues_same, codes_same, index_same, ready}
 use Rattle.arm64_function.proofs.Own.{searching_start, searching_ended}
 use Rattle.arm64_function.proofs.Indexes.{ahead_start, index_own, index_low}
@@ -43,15 +44,16 @@ yes_pick : {X : Type 0} (x y : X) → pick true x y ≡ x
 unfolding pick
 yes_pick x y = refl
 
--- a packed word has its flag
-tallies_flag : (p : Packed) (cs : List Code) → (tallies p cs).flag ≡ p.flag
-unfolding tallies tally
-tallies_flag p [] = refl
-tallies_flag p (c ∷ cs) = tallies_flag (tally p c) cs
+-- a choice by whether it is there
+picked_some : (b : Bool) {i x : ℕ} → pick b (Some x) None ≡ Some i → (b ≡ true) × (i ≡ x)
+unfolding pick
+picked_some true e = (refl, sym (ap (λ o. unwrap_or o 0) e))
+picked_some false {i} e = absurd (none-some i e)
 
-pub word_there : (size : ℕ) (ps : List Code) → 0 < packed_word (candidate size ps)
-unfolding packed_word candidate as_fields nothing_yet
-word_there size ps = let z = tallies_flag (nothing_yet size) (resolve no_pair ps) in omega (arith, z)
+picked_none : (b : Bool) (x : ℕ) → pick b (Some x) None ≡ None → b ≡ false
+unfolding pick
+picked_none true x e = absurd (none-some x (sym e))
+picked_none false x e = refl
 
 -- ---- what the questions have answered
 
@@ -121,36 +123,49 @@ module _ {es cs : List ℕ} {p : Parts} {size : ℕ} (w : Whole es cs p size) (o
 
 -- ---- the shape
 
-held_is : (n d : ℕ) → n ≡ held_to d → d ≤ 1020 → n ≡ d
-unfolding held_to pick
-held_is n d e h = e ∙ ap (λ b. pick b d 1021) (le-leb d 1020 h)
+module _ (es cs : List ℕ) (p : Parts) (size : ℕ) where
+  pub index_no : false ≡ single_at es cs p size → None ≡ pick (single_at es cs p size) (Some (index_at es cs p p.first)) None
+  unfolding pick
+  index_no e = ap (λ b. pick b (Some (index_at es cs p p.first)) None) e
 
-module _ {es cs : List ℕ} {p : Parts} {size : ℕ} (w : Whole es cs p size) {codes : ℕ} (g : codes ≡ held_to (length (codes_in es cs p))) where
+  pub index_yes : true ≡ single_at es cs p size → {i : ℕ} → i ≡ index_at es cs p p.first
+      → Some i ≡ pick (single_at es cs p size) (Some (index_at es cs p p.first)) None
+  unfolding pick
+  index_yes e {i} g = ap Some g ∙ ap (λ b. pick b (Some (index_at es cs p p.first)) None) e
+
+module _ {es cs : List ℕ} {p : Parts} {size : ℕ} (w : Whole es cs p size) {codes : ℕ} (g : held_to (length (codes_in es cs p)) ≡ Some codes) where
   pub shape_codes : codes ≡ length (codes_in es cs p)
-  shape_codes = held_is codes (length (codes_in es cs p)) g w.small
+  unfolding held_to
+  shape_codes = (picked_some (leb (length (codes_in es cs p)) 1020) g).1
 
-  module _ {b : Bool} (e : b ≡ single_at es cs p size) where
-    pub shape_single : b ≡ true → {i : ℕ} → i ≡ index_at es cs p p.first → Shaped es cs p size (record { single = true; count = i; codes = codes })
+  module _ {r : Option ℕ} (e : r ≡ pick (single_at es cs p size) (Some (index_at es cs p p.first)) None) where
+    pub shape_only : {i : ℕ} → r ≡ Some i → Shaped es cs p size (record { epilogues = Only i; codes = codes })
     unfolding count_at pick
-    shape_single y {i} h =
+    shape_only {i} y =
+        let h = picked_some (single_at es cs p size) (sym e ∙ y) in
         record {
-          is_single = sym y ∙ e;
-          is_count = h ∙ sym (ap (λ b. pick b (index_at es cs p p.first) (p.end - p.first)) (sym e ∙ y));
+          is_only = sym h.0;
+          is_count = h.1 ∙ sym (ap (λ b. pick b (index_at es cs p p.first) (p.end - p.first)) h.0);
           is_codes = shape_codes;
-          few = omega (arith, h, index_low es cs p p.first, w.small);
+          few = omega (arith, h.1, index_low es cs p p.first, w.small);
           small = omega (arith, shape_codes, w.small);
         }
 
-    pub shape_other : b ≡ false → Shaped es cs p size (record { single = false; count = p.end - p.first; codes = codes })
+    pub shape_many : r ≡ None → Shaped es cs p size (record { epilogues = Many (p.end - p.first); codes = codes })
     unfolding count_at pick
-    shape_other y =
+    shape_many y =
+        let h = picked_none (single_at es cs p size) _ (sym e ∙ y) in
         record {
-          is_single = sym y ∙ e;
-          is_count = sym (ap (λ b. pick b (index_at es cs p p.first) (p.end - p.first)) (sym e ∙ y));
+          is_only = sym h;
+          is_count = sym (ap (λ b. pick b (index_at es cs p p.first) (p.end - p.first)) h);
           is_codes = shape_codes;
           few = w.few;
           small = omega (arith, shape_codes, w.small);
         }
+
+pub held_there : {es cs : List ℕ} {p : Parts} {size : ℕ} → Whole es cs p size → held_to (length (codes_in es cs p)) ≡ Some (length (codes_in es cs p))
+unfolding held_to pick
+held_there {es} {cs} {p} w = ap (λ b. pick b (Some (length (codes_in es cs p))) None) (le-leb (length (codes_in es cs p)) 1020 w.small)
 
 -- ---- the record by a shape
 
@@ -166,26 +181,26 @@ module _ {es cs : List ℕ} {p : Parts} {size : ℕ} {s : Shape} (h : Shaped es 
   abbrev words : ℕ
   words = (s.codes + 3) / 4
 
-  pub record_is : header_of (size / 4) s.single s.count words ++ (scopes_at es cs p s.single ++ (codes_in es cs p ++ replicate (4 * words - s.codes) nop_byte))
+  pub record_is : header_of (size / 4) (only_in s.epilogues) (count_in s.epilogues) words ++ (scopes_at es cs p (only_in s.epilogues) ++ (codes_in es cs p ++ replicate (4 * words - s.codes) nop_byte))
       ≡ record_at es cs p size
   unfolding record_at words_at instructions
   record_is =
-      ap (λ b. header_of (size / 4) b s.count words ++ (scopes_at es cs p b ++ (codes_in es cs p ++ replicate (4 * words - s.codes) nop_byte))) h.is_single
+      ap (λ b. header_of (size / 4) b (count_in s.epilogues) words ++ (scopes_at es cs p b ++ (codes_in es cs p ++ replicate (4 * words - s.codes) nop_byte))) h.is_only
       ∙ ap (λ (n : ℕ). header_of (size / 4) (single_at es cs p size) n words ++ (scopes_at es cs p (single_at es cs p size) ++ (codes_in es cs p ++ replicate (4 * words - s.codes) nop_byte))) h.is_count
       ∙ ap (λ (n : ℕ). header_of (size / 4) (single_at es cs p size) (count_at es cs p size) ((n + 3) / 4) ++ (scopes_at es cs p (single_at es cs p size) ++ (codes_in es cs p ++ replicate (4 * ((n + 3) / 4) - n) nop_byte))) h.is_codes
 
   pub record_length : length (record_at es cs p size)
-      ≡ length (header_of (size / 4) s.single s.count words) + (length (scopes_at es cs p s.single) + (length (codes_in es cs p) + (4 * words - s.codes)))
+      ≡ length (header_of (size / 4) (only_in s.epilogues) (count_in s.epilogues) words) + (length (scopes_at es cs p (only_in s.epilogues)) + (length (codes_in es cs p) + (4 * words - s.codes)))
   record_length =
-      let a = header_of (size / 4) s.single s.count words in
-      let b = scopes_at es cs p s.single in
+      let a = header_of (size / 4) (only_in s.epilogues) (count_in s.epilogues) words in
+      let b = scopes_at es cs p (only_in s.epilogues) in
       let d = replicate (4 * words - s.codes) nop_byte in
       omega (arith, ap length (sym record_is) ∙ length-append a (b ++ (codes_in es cs p ++ d)), length-append b (codes_in es cs p ++ d), length-append (codes_in es cs p) d, length-replicate {A = ℕ} (4 * words - s.codes) nop_byte)
 
-  pub length-single : {n : ℕ} → n ≡ length (header_of (size / 4) s.single s.count words) → s.single ≡ true → n + 4 * words ≡ length (record_at es cs p size)
+  pub length-single : {n : ℕ} → n ≡ length (header_of (size / 4) (only_in s.epilogues) (count_in s.epilogues) words) → (only_in s.epilogues) ≡ true → n + 4 * words ≡ length (record_at es cs p size)
   length-single {n} e y = omega (arith, record_length, e, ap length (sym (scopes_none es cs p y)), h.is_codes)
 
-  pub length-other : {n : ℕ} → n ≡ length (header_of (size / 4) s.single s.count words) → s.single ≡ false
+  pub length-other : {n : ℕ} → n ≡ length (header_of (size / 4) (only_in s.epilogues) (count_in s.epilogues) words) → (only_in s.epilogues) ≡ false
       → n + 4 * (p.end - p.first) + 4 * words ≡ length (record_at es cs p size)
   length-other {n} e y =
       omega (arith, record_length, e, ap length (sym (scopes_all es cs p y)), words_length es cs p p.first (p.end - p.first), h.is_codes)
@@ -194,14 +209,14 @@ module _ {es cs : List ℕ} {p : Parts} {size : ℕ} {s : Shape} (h : Shaped es 
 
 module _ {es cs : List ℕ} {p : Parts} {size : ℕ} {s : Shape} (h : Shaped es cs p size s) (xs : List ℕ) (at : ℕ)
     (room : at + length (record_at es cs p size) ≤ length xs) where
-  pub header_room : at + length (header_of (size / 4) s.single s.count ((s.codes + 3) / 4)) ≤ length xs
+  pub header_room : at + length (header_of (size / 4) (only_in s.epilogues) (count_in s.epilogues) ((s.codes + 3) / 4)) ≤ length xs
   header_room = omega (arith, room, record_length h)
 
-  module _ {ys : List ℕ} {a : ℕ} (u : Wrote xs ys at a (header_of (size / 4) s.single s.count ((s.codes + 3) / 4))) where
-    pub words_room : a + length (scopes_at es cs p s.single) ≤ length ys
+  module _ {ys : List ℕ} {a : ℕ} (u : Wrote xs ys at a (header_of (size / 4) (only_in s.epilogues) (count_in s.epilogues) ((s.codes + 3) / 4))) where
+    pub words_room : a + length (scopes_at es cs p (only_in s.epilogues)) ≤ length ys
     words_room = omega (arith, room, record_length h, u.past, kept u)
 
-    module _ {zs : List ℕ} {b : ℕ} (v : Wrote ys zs a b (scopes_at es cs p s.single)) where
+    module _ {zs : List ℕ} {b : ℕ} (v : Wrote ys zs a b (scopes_at es cs p (only_in s.epilogues))) where
       pub codes_fit : b + length (codes_in es cs p) ≤ length zs
       codes_fit = omega (arith, room, record_length h, u.past, kept u, v.past, kept v)
 
@@ -303,31 +318,22 @@ module _ (fs es cs : List ℕ) (k : ℕ) where
       header = header_of (instructions size) (single_at es cs p size) (count_at es cs p size) (words_at es cs p)
 
   -- by the packed word
-  module _ {w : ℕ} (c : ℕ) (e : w ≡ pick (is_packed f) c 0) where
-    pub info_packed : (w ≡ 0 → ⊥) → [] ≡ info_of f
+  module _ (c : ℕ) {w : Option ℕ} (e : w ≡ pick (is_packed f) (Some c) None) where
+    pub info_none : is_some w ≡ true → [] ≡ info_of f
     unfolding info_of
-    info_packed h = by (is_packed f) e
+    info_none h = by (is_packed f) e
       where
-        by : (b : Bool) → w ≡ pick b c 0 → [] ≡ pick b [] (record_bytes f)
+        by : (b : Bool) → w ≡ pick b (Some c) None → [] ≡ pick b [] (record_bytes f)
         by true g = sym (yes_pick [] (record_bytes f))
-        by false g = absurd (h (g ∙ no_pick ℕ c 0))
+        by false g = absurd (no_yes (sym (ap is_some (g ∙ no_pick (Option ℕ) (Some c) None)) ∙ h))
 
-    pub info_record : (0 < c) → w ≡ 0 → record_at es cs p size ≡ info_of f
+    pub info_of_lem : is_some w ≡ false → {q : Parts} → q ≡ p → record_at es cs q size ≡ info_of f
     unfolding info_of
-    info_record d h = by (is_packed f) e
+    info_of_lem h {q} z = ap (λ x. record_at es cs x size) z ∙ by (is_packed f) e
       where
-        by : (b : Bool) → w ≡ pick b c 0 → record_at es cs p size ≡ pick b [] (record_bytes f)
-        by true g = absurd (omega (arith, d, h, g ∙ yes_pick c 0))
+        by : (b : Bool) → w ≡ pick b (Some c) None → record_at es cs p size ≡ pick b [] (record_bytes f)
+        by true g = absurd (no_yes (sym h ∙ ap is_some (g ∙ yes_pick (Some c) None)))
         by false g = sym (no_pick (List ℕ) [] (record_bytes f) ∙ record_same)
-
-  pub info_none : {w : ℕ} → w ≡ pick (is_packed f) (packed_word (candidate (instructions f.size) (prologue_run f))) 0 → (w ≡ 0 → ⊥) → [] ≡ info_of f
-  info_none e h = info_packed (packed_word (candidate (instructions f.size) (prologue_run f))) e h
-
-  pub info_of_lem : {w : ℕ} → w ≡ pick (is_packed f) (packed_word (candidate (instructions f.size) (prologue_run f))) 0 → w ≡ 0
-      → {q : Parts} → q ≡ p → record_at es cs q size ≡ info_of f
-  info_of_lem e h {q} g =
-      let word = packed_word (candidate (instructions f.size) (prologue_run f)) in
-      ap (λ x. record_at es cs x size) g ∙ info_record word e (word_there (instructions f.size) (prologue_run f)) h
 
 pub whole_for : {fs es cs : List ℕ} {k : ℕ} → Fine fs es cs k → length cs * 8 < 2 ^ 63 → {q : Parts} → q ≡ parts_at fs k
     → Whole es cs q (field function_stride fs k 1)

@@ -1,9 +1,7 @@
--- Function k of the lists: what the caller has asked before, and its question as a number.
-use Rattle.std.specs.Prelude.{◌≡◌, true, List, ℕ, ◌+◌, ◌*◌, ◌≤◌, eqb, length}
-use Rattle.std.proofs.Math.Option.{none, some}
-use Rattle.format.specs.Prelude.{pick}
+-- Function k of the lists: what the caller has asked before.
+use Rattle.std.specs.Prelude.{◌≡◌, true, List, ℕ, ◌+◌, ◌*◌, ◌≤◌, length}
+use Rattle.std.proofs.Math.Option.{none}
 use Rattle.format.specs.Lists.{field, most_records}
-use Rattle.format.specs.Questions.{Question}
 use Rattle.arm64.specs.Lists.{function_stride, numbered_function}
 use Rattle.arm64.specs.Writer.{function_ok_at, codes_in, function_asks}
 
@@ -18,7 +16,3 @@ pub record Listed (fs es cs : List ℕ) (k : ℕ) : Type 0 where
 pub record Fine (fs es cs : List ℕ) (k : ℕ) : Type 0 where
   pub listed : Listed fs es cs k
   pub asked : function_asks k (numbered_function fs es cs k) ≡ none
-
--- a function's question by its number: 0 where each was answered by yes
-unfoldable pub asks : ℕ → Question
-asks n = pick (eqb n 0) none (some (n, 0))

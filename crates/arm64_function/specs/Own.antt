@@ -1,5 +1,5 @@
 -- The runs of a function as the code goes over them: which epilogue has a run of its own, and where each stands.
-use Rattle.std.specs.Prelude.{◌≡◌, Bool, true, false, ◌&&◌, ◌||◌, List, [], ◌∷◌, ◌++◌, ℕ, zero, suc, ◌+◌, ◌-◌, ◌*◌, ◌/◌, ◌%◌, ◌^◌, ◌≤◌, ◌<◌, leb, ltb, eqb, length, get_or}
+use Rattle.std.specs.Prelude.{◌≡◌, Bool, true, false, ◌&&◌, ◌||◌, List, [], ◌∷◌, ◌++◌, ℕ, zero, suc, ◌+◌, ◌-◌, ◌*◌, ◌/◌, ◌%◌, ◌^◌, ◌≤◌, ◌<◌, leb, ltb, eqb, length, get_or, Option, Some, None}
 use Rattle.format.specs.Prelude.{pick, each}
 use Rattle.format.specs.Leb.{little}
 use Rattle.format.specs.Lists.{field, all_in}
@@ -83,9 +83,9 @@ pub record Nearest (es cs : List ℕ) (p : Parts) (i j : ℕ) : Type 0 where
 abbrev pub most_codes : ℕ
 most_codes = 1020
 
--- a size, or one more than the most where it is larger
-unfoldable pub held_to : ℕ → ℕ
-held_to n = pick (leb n most_codes) n 1021
+-- a size, where it is not above the most
+unfoldable pub held_to : ℕ → Option ℕ
+held_to n = pick (leb n most_codes) (Some n) None
 
 -- ---- questions 82 and 83 of epilogue i
 

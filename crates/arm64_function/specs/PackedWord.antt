@@ -1,5 +1,5 @@
 -- The packed word of a function with one epilogue, as the code finds it: from the two runs alone.
-use Rattle.std.specs.Prelude.{◌≡◌, Bool, true, ◌&&◌, List, ℕ, ◌+◌, ◌-◌, ◌≤◌, ◌<◌, leb, eqb}
+use Rattle.std.specs.Prelude.{◌≡◌, Bool, true, ◌&&◌, List, ℕ, ◌+◌, ◌-◌, ◌≤◌, ◌<◌, leb, eqb, Option, Some, None}
 use Rattle.format.specs.Prelude.{pick}
 use Rattle.format.specs.Lists.{field, most_records}
 use Rattle.arm64.specs.Lists.{epilogue_stride}
@@ -19,12 +19,12 @@ shared_in cs left p e =
     && leb (run_size (simplify no_pair (saves cs p))) 124
 
 -- of a function of `size` bytes
-unfoldable pub packed_at : (es cs : List ℕ) → Parts → (size : ℕ) → ℕ
+unfoldable pub packed_at : (es cs : List ℕ) → Parts → (size : ℕ) → Option ℕ
 packed_at es cs p size =
     pick
     (shared_in cs (instructions (size - field epilogue_stride es p.first 0)) p.prologue (epilogue_at es p.first)
     && stands_for (candidate (instructions size) (prologue_in cs p)) (prologue_in cs p) (run_at es cs p.first))
-    (packed_word (candidate (instructions size) (prologue_in cs p))) 0
+    (Some (packed_word (candidate (instructions size) (prologue_in cs p)))) None
 
 -- one epilogue, and the questions passed
 pub record Only (es cs : List ℕ) (p : Parts) (size : ℕ) : Type 0 where

@@ -4,7 +4,7 @@ use Rattle.format.specs.Prelude.{pick}
 use Rattle.format.specs.Lists.{field}
 use Rattle.arm64.specs.Lists.{epilogue_stride}
 use Rattle.arm64.specs.Writer.{instructions, nop_byte}
-use Rattle.arm64_header.specs.Header.{header_of}
+use Rattle.arm64_header.specs.Header.{only_in, count_in, header_of}
 use Rattle.arm64_function.specs.declared.Parts.{Parts}
 use Rattle.arm64_function.specs.declared.Shape.{Shape}
 use Rattle.arm64_function.specs.Own.{Ready, Fitted, Started, codes_in, index_at, words_from, most_codes}
@@ -34,10 +34,10 @@ unfoldable pub words_at : (es cs : List ℕ) → Parts → ℕ
 words_at es cs p = (length (codes_in es cs p) + 3) / 4
 
 pub record Shaped (es cs : List ℕ) (p : Parts) (size : ℕ) (s : Shape) : Type 0 where
-  pub is_single : s.single ≡ single_at es cs p size
-  pub is_count : s.count ≡ count_at es cs p size
+  pub is_only : only_in s.epilogues ≡ single_at es cs p size
+  pub is_count : count_in s.epilogues ≡ count_at es cs p size
   pub is_codes : s.codes ≡ length (codes_in es cs p)
-  pub few : s.count < 65536
+  pub few : count_in s.epilogues < 65536
   pub small : s.codes ≤ most_codes
 
 unfoldable pub scopes_at : (es cs : List ℕ) → Parts → (single : Bool) → List ℕ

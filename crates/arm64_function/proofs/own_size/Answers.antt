@@ -4,6 +4,7 @@ use Rattle.arm64_function.proofs.Own.{none_size, one_size, own_leading, own_shar
 use Rattle.arm64_simple.specs.Saves.{Inside}
 use Prim.Native.Nat.{ℕ, ◌+◌}
 use mathlib.Core.Path.{subst, sym, ap, ◌∙◌}
+use Rattle.arm64_function.proofs.Own.{near_some, near_none}
 use Rattle.arm64_function.proofs.own_size.Goals as goal
 
 pub leads-requires : goal.leads-requires
@@ -12,8 +13,8 @@ leads-requires c = (subst (Inside c.args.cs.now) (sym c.epilogue_at-run.ensures)
 pub returns-then-leads : goal.returns-then-leads
 returns-then-leads c = (none_size (own_leading c.args.es.now c.args.cs.now c.args.p c.args.i (sym (leads_is c.args.es.now c.args.cs.now c.args.p c.args.i c.epilogue_at-run.ensures c.leads.ensures) ∙ c.if-leads.true)), omega arith)
 
-pub returns-then-nearest-i : goal.returns-then-nearest-i
-returns-then-nearest-i c = (none_size (own_shared c.args.es.now c.args.cs.now c.args.p c.args.i c.nearest.ensures (sym (leads_is c.args.es.now c.args.cs.now c.args.p c.args.i c.epilogue_at-run.ensures c.leads.ensures) ∙ c.if-leads.false) c.if-nearest-i.true), omega arith)
+pub returns-then-is_some : goal.returns-then-is_some
+returns-then-is_some c = (none_size (own_shared c.args.es.now c.args.cs.now c.args.p c.args.i c.nearest.ensures.0 (sym (leads_is c.args.es.now c.args.cs.now c.args.p c.args.i c.epilogue_at-run.ensures c.leads.ensures) ∙ c.if-leads.false) (near_some _ _ c.nearest.ensures.1 (sym c.is_some.ensures ∙ c.if-is_some.true))), omega arith)
 
 pub run_size-requires : goal.run_size-requires
 run_size-requires c = subst (Inside c.args.cs.now) (sym c.epilogue_at-run.ensures) (c.requires.0.inside c.args.i c.requires.1 c.requires.2)
@@ -22,4 +23,4 @@ pub overflow_add-result : goal.overflow_add-result
 overflow_add-result c = omega (arith, c.run_size.ensures.1, own_count c.args.es.now c.args.i (c.requires.0.inside c.args.i c.requires.1 c.requires.2) c.epilogue_at-run.ensures)
 
 pub returns : goal.returns
-returns c = (ap (λ (n : ℕ). n + 1) (size_of c.args.es.now c.args.cs.now c.args.i c.epilogue_at-run.ensures c.run_size.ensures.0) ∙ one_size (own_alone c.args.es.now c.args.cs.now c.args.p c.args.i c.nearest.ensures (sym (leads_is c.args.es.now c.args.cs.now c.args.p c.args.i c.epilogue_at-run.ensures c.leads.ensures) ∙ c.if-leads.false) c.if-nearest-i.false), omega (arith, c.run_size.ensures.1, own_count c.args.es.now c.args.i (c.requires.0.inside c.args.i c.requires.1 c.requires.2) c.epilogue_at-run.ensures))
+returns c = (ap (λ (n : ℕ). n + 1) (size_of c.args.es.now c.args.cs.now c.args.i c.epilogue_at-run.ensures c.run_size.ensures.0) ∙ one_size (own_alone c.args.es.now c.args.cs.now c.args.p c.args.i c.nearest.ensures.0 (sym (leads_is c.args.es.now c.args.cs.now c.args.p c.args.i c.epilogue_at-run.ensures c.leads.ensures) ∙ c.if-leads.false) (near_none _ _ (sym c.is_some.ensures ∙ c.if-is_some.false))), omega (arith, c.run_size.ensures.1, own_count c.args.es.now c.args.i (c.requires.0.inside c.args.i c.requires.1 c.requires.2) c.epilogue_at-run.ensures))

@@ -9,9 +9,6 @@ loop-i-init c = codes_start c.args.es.now c.args.cs.now c.args.p c.requires.2
 pub put_own-q-requires : goal.put_own-q-requires
 put_own-q-requires c = (c.requires.0, c.requires.1, c.loop-i.invariant.low, c.loop-i-test.true, codes_room c.loop-i.invariant c.loop-i-test.true)
 
-pub overflow_add-i : goal.overflow_add-i
-overflow_add-i c = omega (arith, c.loop-i-test.true)
-
 pub loop-i-smaller : goal.loop-i-smaller
 loop-i-smaller c = omega (arith, c.loop-i-test.true)
 

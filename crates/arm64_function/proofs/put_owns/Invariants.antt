@@ -1,9 +1,5 @@
 use Rattle.arm64_function.proofs.Codes.{Laying}
-use Prim.Native.Nat.{◌-◌}
 use Rattle.arm64_function.proofs.put_owns.Given as goal
 
 abbrev pub invariant-loop-i : goal.invariant-loop-i
 invariant-loop-i l = Laying l.initial.out l.out l.at l.q l.es l.cs l.p l.i
-
-abbrev pub decreases-loop-i : goal.decreases-loop-i
-decreases-loop-i l = l.p.end - l.i

@@ -5,17 +5,17 @@ use Rattle.format.proofs.PutLaws.{◌then◌}
 use mathlib.Core.Path.{sym}
 use Rattle.arm64_function.proofs.put_record.Goals as goal
 
-pub put_header-a-requires : goal.put_header-a-requires
-put_header-a-requires c = (short_is c.requires.0, c.shape_of-s.ensures.few, omega (arith, c.shape_of-s.ensures.small), header_room c.shape_of-s.ensures c.args.out.now c.args.at c.requires.1)
+pub put-a-requires : goal.put-a-requires
+put-a-requires c = (short_is c.requires.0, c.shape_of-s.ensures.few, omega (arith, c.shape_of-s.ensures.small), header_room c.shape_of-s.ensures c.args.out.now c.args.at c.requires.1)
 
 pub put_words-b-requires : goal.put_words-b-requires
-put_words-b-requires c = (c.requires.0.ready, c.requires.0.started, c.requires.0.small, words_room c.shape_of-s.ensures c.args.out.now c.args.at c.requires.1 c.put_header-a.ensures)
+put_words-b-requires c = (c.requires.0.ready, c.requires.0.started, c.requires.0.small, words_room c.shape_of-s.ensures c.args.out.now c.args.at c.requires.1 c.put-a.ensures)
 
 pub put_codes-c-requires : goal.put_codes-c-requires
-put_codes-c-requires c = (c.requires.0.ready, c.requires.0.fitted, codes_fit c.shape_of-s.ensures c.args.out.now c.args.at c.requires.1 c.put_header-a.ensures c.put_words-b.ensures)
+put_codes-c-requires c = (c.requires.0.ready, c.requires.0.fitted, codes_fit c.shape_of-s.ensures c.args.out.now c.args.at c.requires.1 c.put-a.ensures c.put_words-b.ensures)
 
 pub pad-requires : goal.pad-requires
-pad-requires c = (omega arith, pad_room c.shape_of-s.ensures c.args.out.now c.args.at c.requires.1 c.put_header-a.ensures c.put_words-b.ensures c.put_codes-c.ensures)
+pad-requires c = (omega arith, pad_room c.shape_of-s.ensures c.args.out.now c.args.at c.requires.1 c.put-a.ensures c.put_words-b.ensures c.put_codes-c.ensures)
 
 pub returns : goal.returns
-returns c = rw (sym (record_is c.shape_of-s.ensures)) (c.put_header-a.ensures then c.put_words-b.ensures then c.put_codes-c.ensures then c.pad.ensures)
+returns c = rw (sym (record_is c.shape_of-s.ensures)) (c.put-a.ensures then c.put_words-b.ensures then c.put_codes-c.ensures then c.pad.ensures)

@@ -34,9 +34,6 @@ overflow_add-es c = omega (arith, c.scope_of-s.ensures.0, index_low c.args.es.no
 pub le-q-requires : goal.le-q-requires
 le-q-requires c = scoping_room c.loop-i.invariant c.loop-i-test.true
 
-pub overflow_add-i : goal.overflow_add-i
-overflow_add-i c = omega (arith, c.loop-i-test.true)
-
 pub loop-i-smaller : goal.loop-i-smaller
 loop-i-smaller c = omega (arith, c.loop-i-test.true)
 

@@ -1,10 +1,12 @@
 -- `arm64_function::record_size` meets its contract.
 use native.Mathlib.Omega.{arith}
 use Rattle.arm64_function.proofs.Record.{length-single, length-other}
+use mathlib.Core.Path.{ap}
+use Rattle.arm64_header.specs.Header.{only_in}
 use Rattle.arm64_function.proofs.record_size.Goals as goal
 
-pub returns-then-s : goal.returns-then-s
-returns-then-s c = (length-single c.shape_of-s.ensures c.header_size-head.ensures.0 c.if-s.true, omega (arith, c.header_size-head.ensures.2, c.shape_of-s.ensures.small))
+pub returns-in-Only : goal.returns-in-Only
+returns-in-Only c = (length-single c.shape_of-s.ensures c.size-head.ensures.0 (ap only_in c.in-Only.is), omega (arith, c.size-head.ensures.2, c.shape_of-s.ensures.small))
 
-pub returns : goal.returns
-returns c = (length-other c.shape_of-s.ensures c.header_size-head.ensures.0 c.if-s.false, omega (arith, c.header_size-head.ensures.2, c.shape_of-s.ensures.small, c.requires.few))
+pub returns-in-Many : goal.returns-in-Many
+returns-in-Many c = (length-other c.shape_of-s.ensures c.size-head.ensures.0 (ap only_in c.in-Many.is), omega (arith, c.size-head.ensures.2, c.shape_of-s.ensures.small, c.requires.few))

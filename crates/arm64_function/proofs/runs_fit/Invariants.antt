@@ -4,7 +4,4 @@ use Rattle.arm64_function.specs.Own.{fits_at}
 use Rattle.arm64_function.proofs.runs_fit.Given as goal
 
 abbrev pub invariant-loop-i : goal.invariant-loop-i
-invariant-loop-i l = Asking (fits_at l.es l.cs) l.p.first (l.p.end - l.p.first) l.i
-
-abbrev pub decreases-loop-i : goal.decreases-loop-i
-decreases-loop-i l = l.p.end - l.i
+invariant-loop-i l = Asking (fits_at l.es l.cs) l.fn.p.first (l.fn.p.end - l.fn.p.first) l.i

@@ -15,8 +15,8 @@ leading_index-index-requires c = (c.requires.0, c.requires.1, c.requires.2, sym 
 pub returns-then-leads : goal.returns-then-leads
 returns-then-leads c = (c.leading_index-index.ensures, omega (arith, none_size (own_leading c.args.es.now c.args.cs.now c.args.p c.args.i (sym (leads_is c.args.es.now c.args.cs.now c.args.p c.args.i c.epilogue_at-run.ensures c.leads.ensures) ∙ c.if-leads.true))))
 
-pub returns-then-j-i : goal.returns-then-j-i
-returns-then-j-i c = (c.index_in-index.ensures ∙ c.requires.5.known c.nearest-j.result c.nearest-j.ensures.low c.if-j-i.true ∙ index_shared c.nearest-j.ensures c.if-j-i.true, omega (arith, none_size (own_shared c.args.es.now c.args.cs.now c.args.p c.args.i c.nearest-j.ensures (sym (leads_is c.args.es.now c.args.cs.now c.args.p c.args.i c.epilogue_at-run.ensures c.leads.ensures) ∙ c.if-leads.false) c.if-j-i.true)))
+pub returns-in-Some : goal.returns-in-Some
+returns-in-Some c = (c.index_in-index.ensures ∙ c.requires.5.known c.in-Some.j (rw c.in-Some.is at c.nearest.ensures.0).low c.in-Some.ensures.1 ∙ index_shared (rw c.in-Some.is at c.nearest.ensures.0) c.in-Some.ensures.1, omega (arith, none_size (own_shared c.args.es.now c.args.cs.now c.args.p c.args.i (rw c.in-Some.is at c.nearest.ensures.0) (sym (leads_is c.args.es.now c.args.cs.now c.args.p c.args.i c.epilogue_at-run.ensures c.leads.ensures) ∙ c.if-leads.false) c.in-Some.ensures.1)))
 
 pub run_size-size-requires : goal.run_size-size-requires
 run_size-size-requires c = subst (Inside c.args.cs.now) (sym c.epilogue_at-run.ensures) (c.requires.0.inside c.args.i c.requires.1 c.requires.2)
@@ -28,4 +28,4 @@ pub overflow_add-result : goal.overflow_add-result
 overflow_add-result c = omega (arith, c.run_size-size.ensures.1, c.requires.4, own_count c.args.es.now c.args.i (c.requires.0.inside c.args.i c.requires.1 c.requires.2) c.epilogue_at-run.ensures)
 
 pub returns : goal.returns
-returns c = (index_own c.requires.3 c.requires.1 c.requires.2 c.nearest-j.ensures (sym (leads_is c.args.es.now c.args.cs.now c.args.p c.args.i c.epilogue_at-run.ensures c.leads.ensures) ∙ c.if-leads.false) c.if-j-i.false, omega (arith, size_of c.args.es.now c.args.cs.now c.args.i c.epilogue_at-run.ensures c.run_size-size.ensures.0, one_size (own_alone c.args.es.now c.args.cs.now c.args.p c.args.i c.nearest-j.ensures (sym (leads_is c.args.es.now c.args.cs.now c.args.p c.args.i c.epilogue_at-run.ensures c.leads.ensures) ∙ c.if-leads.false) c.if-j-i.false)))
+returns c = (index_own c.requires.3 c.requires.1 c.requires.2 (rw c.in_default.is at c.nearest.ensures.0) (sym (leads_is c.args.es.now c.args.cs.now c.args.p c.args.i c.epilogue_at-run.ensures c.leads.ensures) ∙ c.if-leads.false) (omega arith), omega (arith, size_of c.args.es.now c.args.cs.now c.args.i c.epilogue_at-run.ensures c.run_size-size.ensures.0, one_size (own_alone c.args.es.now c.args.cs.now c.args.p c.args.i (rw c.in_default.is at c.nearest.ensures.0) (sym (leads_is c.args.es.now c.args.cs.now c.args.p c.args.i c.epilogue_at-run.ensures c.leads.ensures) ∙ c.if-leads.false) (omega arith))))

@@ -1,16 +1,16 @@
 -- `arm64_function::shape_of` meets its contract.
-use Rattle.arm64_function.proofs.Record.{shape_codes, shape_single, shape_other, single_one}
-use mathlib.Core.Path.{sym, ◌∙◌}
+use Rattle.arm64_function.proofs.Record.{held_there, shape_codes, shape_only, shape_many}
+use mathlib.Core.Path.{refl, sym, ◌∙◌}
 use Rattle.arm64_function.proofs.shape_of.Goals as goal
 
-pub is_single-requires : goal.is_single-requires
-is_single-requires c = (c.requires, shape_codes c.requires c.codes_size-codes.ensures)
+pub unwrap-codes-requires : goal.unwrap-codes-requires
+unwrap-codes-requires c = rw (c.codes_size.ensures ∙ held_there c.requires) refl
 
-pub only_index-requires : goal.only_index-requires
-only_index-requires c = (c.requires.ready, single_one c.args.es.now c.args.cs.now c.args.p c.args.size (sym c.is_single.ensures ∙ c.if-is_single.true))
+pub single_index-requires : goal.single_index-requires
+single_index-requires c = (c.requires, shape_codes c.requires (sym c.codes_size.ensures ∙ c.unwrap-codes.ensures))
 
-pub returns-then-is_single : goal.returns-then-is_single
-returns-then-is_single c = shape_single c.requires c.codes_size-codes.ensures c.is_single.ensures c.if-is_single.true c.only_index.ensures
+pub returns-in-Some : goal.returns-in-Some
+returns-in-Some c = shape_only c.requires (sym c.codes_size.ensures ∙ c.unwrap-codes.ensures) c.single_index.ensures c.in-Some.is
 
-pub returns : goal.returns
-returns c = shape_other c.requires c.codes_size-codes.ensures c.is_single.ensures c.if-is_single.false
+pub returns-in-None : goal.returns-in-None
+returns-in-None c = shape_many c.requires (sym c.codes_size.ensures ∙ c.unwrap-codes.ensures) c.single_index.ensures c.in-None.is

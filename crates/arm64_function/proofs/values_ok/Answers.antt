@@ -13,4 +13,4 @@ pub returns-then-p-gt-MOST_EPILOGUES : goal.returns-then-p-gt-MOST_EPILOGUES
 returns-then-p-gt-MOST_EPILOGUES c = too_many c.args.es.now c.args.cs.now c.args.p (sym c.run_fits.ensures ∙ c.if-not-run_fits.false) (sym c.runs_fit.ensures ∙ c.if-not-runs_fit.false) c.if-p-gt-MOST_EPILOGUES.true
 
 pub returns : goal.returns
-returns c = by_size c.args.es.now c.args.cs.now c.args.p (sym c.run_fits.ensures ∙ c.if-not-run_fits.false) (sym c.runs_fit.ensures ∙ c.if-not-runs_fit.false) c.if-p-gt-MOST_EPILOGUES.false c.codes_size.ensures
+returns c = c.is_some.ensures ∙ by_size c.args.es.now c.args.cs.now c.args.p (sym c.run_fits.ensures ∙ c.if-not-run_fits.false) (sym c.runs_fit.ensures ∙ c.if-not-runs_fit.false) c.if-p-gt-MOST_EPILOGUES.false c.codes_size.ensures

@@ -1,10 +1,10 @@
--- `arm64_function::function_no` meets its contract.
+-- `arm64_function::function_asks` meets its contract.
 use native.Mathlib.Omega.{arith}
 use Rattle.arm64_function.proofs.Asked.{no_length, no_start, no_value, no_question, length-same, starts_are, values_are}
 use Rattle.arm64_function.proofs.Given.{f, ready, in_list}
 use Rattle.arm64_function.specs.Own.{Ready}
 use mathlib.Core.Path.{sym, ◌∙◌, subst}
-use Rattle.arm64_function.proofs.function_no.Goals as goal
+use Rattle.arm64_function.proofs.function_asks.Goals as goal
 
 pub returns-then-not-length_ok : goal.returns-then-not-length_ok
 returns-then-not-length_ok c = no_length c.args.k (f c.args.fs.now c.args.es.now c.args.cs.now c.args.k) (length-same c.args.fs.now c.args.es.now c.args.cs.now c.args.k ∙ sym c.length_ok.ensures ∙ c.if-not-length_ok.true)
