@@ -145,11 +145,9 @@ pub fn read_le(s: &[u8], at: Position, n: usize) -> Option<(u64, Position)>
     if s.len() - from < n {
         return None;
     }
-    let mut left = n;
     let mut acc = 0u64;
-    while 0 < left {
-        left -= 1;
-        let b = leb::wide(s[from + left]);
+    for i in (0..n).rev() {
+        let b = leb::wide(s[from + i]);
         acc = acc * 256 + b;
     }
     Some((

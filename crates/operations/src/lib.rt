@@ -88,16 +88,12 @@ fn operand_at(s: &[u8], at: Position, word: u64, b: u8) -> Option<(i64, Position
     requires { 0 < word }
     ensures { result ≡ operand_at word b s.now at }
 {
-    if b == opcodes::DW_CFA_OFFSET_EXTENDED {
-        return factored_at(s, at, word);
+    match b {
+        opcodes::DW_CFA_OFFSET_EXTENDED => factored_at(s, at, word),
+        opcodes::DW_CFA_DEF_CFA => plain_at(s, at),
+        opcodes::DW_CFA_DEF_CFA_OFFSET => plain_at(s, at),
+        _ => signed_at(s, at, word),
     }
-    if b == opcodes::DW_CFA_DEF_CFA {
-        return plain_at(s, at);
-    }
-    if b == opcodes::DW_CFA_DEF_CFA_OFFSET {
-        return plain_at(s, at);
-    }
-    signed_at(s, at, word)
 }
 
 // ---- an operation read
@@ -106,28 +102,22 @@ fn operand_at(s: &[u8], at: Position, word: u64, b: u8) -> Option<(i64, Position
 fn register_row(b: u8, reg: u16) -> Row
     ensures { result ≡ register_row b reg }
 {
-    if b == opcodes::DW_CFA_RESTORE_EXTENDED {
-        return Row::Restore(reg);
+    match b {
+        opcodes::DW_CFA_RESTORE_EXTENDED => Row::Restore(reg),
+        opcodes::DW_CFA_UNDEFINED => Row::Undefined(reg),
+        opcodes::DW_CFA_SAME_VALUE => Row::SameValue(reg),
+        _ => Row::DefCfaRegister(reg),
     }
-    if b == opcodes::DW_CFA_UNDEFINED {
-        return Row::Undefined(reg);
-    }
-    if b == opcodes::DW_CFA_SAME_VALUE {
-        return Row::SameValue(reg);
-    }
-    Row::DefCfaRegister(reg)
 }
 
 fn pair_row(b: u8, reg: u16, z: i64) -> Row
     ensures { result ≡ pair_row b reg z }
 {
-    if b == opcodes::DW_CFA_OFFSET_EXTENDED {
-        return Row::Offset(reg, z);
+    match b {
+        opcodes::DW_CFA_OFFSET_EXTENDED => Row::Offset(reg, z),
+        opcodes::DW_CFA_OFFSET_EXTENDED_SF => Row::Offset(reg, z),
+        _ => Row::DefCfa(reg, z),
     }
-    if b == opcodes::DW_CFA_OFFSET_EXTENDED_SF {
-        return Row::Offset(reg, z);
-    }
-    Row::DefCfa(reg, z)
 }
 
 // A step whose operand has n bytes.

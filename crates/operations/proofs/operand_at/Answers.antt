@@ -1,16 +1,17 @@
 -- `operations::operand_at` meets its contract.
 use mathlib.Core.Path.{◌∙◌}
+use native.Mathlib.Omega.{arith}
 use Rattle.operations.proofs.Operations.{operand_factored, operand_first, operand_second, operand_signed}
 use Rattle.operations.proofs.operand_at.Goals as goal
 
-pub returns-then-b-eq-DW_CFA_OFFSET_EXTENDED : goal.returns-then-b-eq-DW_CFA_OFFSET_EXTENDED
-returns-then-b-eq-DW_CFA_OFFSET_EXTENDED c = c.factored_at.ensures ∙ operand_factored c.args.word c.args.b c.args.s.now c.args.at c.if-b-eq-DW_CFA_OFFSET_EXTENDED.true
+pub returns-in-5 : goal.returns-in-5
+returns-in-5 c = c.factored_at.ensures ∙ operand_factored c.args.word c.args.b c.args.s.now c.args.at c.in-5.is
 
-pub returns-then-b-eq-DW_CFA_DEF_CFA : goal.returns-then-b-eq-DW_CFA_DEF_CFA
-returns-then-b-eq-DW_CFA_DEF_CFA c = c.plain_at.ensures ∙ operand_first c.args.word c.args.b c.args.s.now c.args.at c.if-b-eq-DW_CFA_DEF_CFA.true
+pub returns-in-12 : goal.returns-in-12
+returns-in-12 c = c.plain_at.ensures ∙ operand_first c.args.word c.args.b c.args.s.now c.args.at c.in-12.is
 
-pub returns-then-b-eq-DW_CFA_DEF_CFA_OFFSET : goal.returns-then-b-eq-DW_CFA_DEF_CFA_OFFSET
-returns-then-b-eq-DW_CFA_DEF_CFA_OFFSET c = c.plain_at-then-b-eq-DW_CFA_DEF_CFA_OFFSET.ensures ∙ operand_second c.args.word c.args.b c.args.s.now c.args.at c.if-b-eq-DW_CFA_DEF_CFA_OFFSET.true
+pub returns-in-14 : goal.returns-in-14
+returns-in-14 c = c.plain_at-in-14.ensures ∙ operand_second c.args.word c.args.b c.args.s.now c.args.at c.in-14.is
 
-pub returns : goal.returns
-returns c = c.signed_at.ensures ∙ operand_signed c.args.word c.args.b c.args.s.now c.args.at c.if-b-eq-DW_CFA_OFFSET_EXTENDED.false c.if-b-eq-DW_CFA_DEF_CFA.false c.if-b-eq-DW_CFA_DEF_CFA_OFFSET.false
+pub returns-in_default : goal.returns-in_default
+returns-in_default c = c.signed_at.ensures ∙ operand_signed c.args.word c.args.b c.args.s.now c.args.at (λ e. omega arith) (λ e. omega arith) (λ e. omega arith)

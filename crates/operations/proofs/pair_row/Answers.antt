@@ -1,17 +1,19 @@
 -- `operations::pair_row` meets its contract.
+use native.Mathlib.Omega.{arith}
 use mir.Facts.{to_z-of_z}
-use Rattle.format.proofs.Choice.{if-eq, if-ne}
+use borrow.Author.Tests.{ne_eqb}
+use Rattle.format.specs.Prelude.{pick}
 use Rattle.operations.specs.Reads.{pair_row}
 use Rattle.operations.proofs.pair_row.Goals as goal
 
-pub returns-then-b-eq-DW_CFA_OFFSET_EXTENDED : goal.returns-then-b-eq-DW_CFA_OFFSET_EXTENDED
-unfolding pair_row
-returns-then-b-eq-DW_CFA_OFFSET_EXTENDED c = rw (to_z-of_z c.ranges.z, if-eq c.args.b 0x05 _ _ c.if-b-eq-DW_CFA_OFFSET_EXTENDED.true)
+pub returns-in-5 : goal.returns-in-5
+unfolding pair_row pick
+returns-in-5 c = rw (to_z-of_z c.ranges.z, c.in-5.is)
 
-pub returns-then-b-eq-DW_CFA_OFFSET_EXTENDED_SF : goal.returns-then-b-eq-DW_CFA_OFFSET_EXTENDED_SF
-unfolding pair_row
-returns-then-b-eq-DW_CFA_OFFSET_EXTENDED_SF c = rw (to_z-of_z c.ranges.z, if-ne c.args.b 0x05 _ _ c.if-b-eq-DW_CFA_OFFSET_EXTENDED.false, if-eq c.args.b 0x11 _ _ c.if-b-eq-DW_CFA_OFFSET_EXTENDED_SF.true)
+pub returns-in-17 : goal.returns-in-17
+unfolding pair_row pick
+returns-in-17 c = rw (to_z-of_z c.ranges.z, c.in-17.is)
 
-pub returns : goal.returns
-unfolding pair_row
-returns c = rw (to_z-of_z c.ranges.z, if-ne c.args.b 0x05 _ _ c.if-b-eq-DW_CFA_OFFSET_EXTENDED.false, if-ne c.args.b 0x11 _ _ c.if-b-eq-DW_CFA_OFFSET_EXTENDED_SF.false)
+pub returns-in_default : goal.returns-in_default
+unfolding pair_row pick
+returns-in_default c = let b = c.args.b in rw (to_z-of_z c.ranges.z) (simp (ne_eqb b 5 (λ e. omega arith), ne_eqb b 17 (λ e. omega arith)))

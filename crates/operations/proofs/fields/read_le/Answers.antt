@@ -12,17 +12,17 @@ returns-then-s-from c = missing _ _ _ (omega (arith, c.if-n-eq0.false))
 pub returns-then-s-from-2 : goal.returns-then-s-from-2
 returns-then-s-from-2 c = missing _ _ _ c.if-s-from-2.true
 
-pub loop-left-init : goal.loop-left-init
-loop-left-init c = start c.requires (omega arith)
+pub loop-i-init : goal.loop-i-init
+loop-i-init c = start c.requires (omega arith)
 
 pub overflow_mul-acc : goal.overflow_mul-acc
-overflow_mul-acc c = omega (arith, room c.loop-left.invariant c.loop-left-test.true c.wide-b.ensures.0 c.wide-b.ensures.1)
+overflow_mul-acc c = omega (arith, room c.loop-i.invariant c.loop-i-test.true c.wide-b.ensures.0 c.wide-b.ensures.1)
 
 pub overflow_add-acc : goal.overflow_add-acc
-overflow_add-acc c = omega (arith, room c.loop-left.invariant c.loop-left-test.true c.wide-b.ensures.0 c.wide-b.ensures.1)
+overflow_add-acc c = omega (arith, room c.loop-i.invariant c.loop-i-test.true c.wide-b.ensures.0 c.wide-b.ensures.1)
 
-pub loop-left-preserved : goal.loop-left-preserved
-loop-left-preserved c = turn c.loop-left.invariant c.loop-left-test.true c.wide-b.ensures.0 c.wide-b.ensures.1
+pub loop-i-preserved : goal.loop-i-preserved
+loop-i-preserved c = turn c.loop-i.invariant c.loop-i-test.true c.wide-b.ensures.0 c.wide-b.ensures.1
 
 pub returns : goal.returns
-returns c = ended c.loop-left.invariant c.args.at.shortest (omega (arith, c.loop-left-test.false))
+returns c = ended c.loop-i.invariant c.args.at.shortest (omega (arith, c.loop-i-test.false))
