@@ -1,35 +1,18 @@
 -- The pair of a step, searched by a loop, and the relocations of one step.
 use mathlib.Core.Path.{◌≡◌, refl, sym, ap, ◌∙◌}
-use Prim.Native.Nat.{ℕ, zero, suc, ◌+◌, ◌-◌, ◌*◌, ◌≤◌, ◌<◌}
+use Prim.Native.Nat.{ℕ, suc, ◌+◌, ◌-◌, ◌*◌, ◌≤◌, ◌<◌}
 use native.Mathlib.Omega.{arith}
 use native.Mathlib.Numerals.{add-one}
 use mathlib.Core.Bool.{Bool, true, false}
-use mathlib.Core.Logic.{◌≢◌}
 use mathlib.Core.Option.{Option, none, some}
 use mathlib.Core.List.{List, [], ◌∷◌}
 use lib.ListN.{length, length-append}
 use Rattle.format.specs.Prelude.{pick, first, each}
 use Rattle.format.specs.Rows.{RowAt, row_bytes, step_bytes, step_form}
 use Rattle.format.specs.Lists.{Pair, pair_at}
-use Rattle.format.specs.Records.{pair_for, set_kind, set_bytes, set_place, set_pair, step_relocs}
+use Rattle.format.specs.Records.{pair_for, set_pair, step_relocs}
 use Rattle.lists.specs.declared.Extent.{Extent}
 use Rattle.records.specs.Labels.{is_for, pair_between, step_pair}
-
--- ---- a step's form
-
-pub kind_wide : (form : ℕ) → 3 ≤ form → set_kind form ≡ 11
-unfolding set_kind
-kind_wide form h = let e : form ≡ suc (suc (suc (form - 3))) = omega arith in rw e
-
-pub place_behind : (place form : ℕ) → form ≢ 0 → set_place place form ≡ place + 1
-unfolding set_place
-place_behind place zero h = absurd (h refl)
-place_behind place (suc k) h = refl
-
-pub bytes_behind : (form : ℕ) → form ≢ 0 → set_bytes form ≡ form
-unfolding set_bytes
-bytes_behind zero h = absurd (h refl)
-bytes_behind (suc k) h = refl
 
 -- ---- the search
 

@@ -180,6 +180,7 @@ pub fn surveyed_rows(word: u64, rows: &[u64], first: usize, n: usize) -> Option<
 // ---- a record's fields
 
 // The length: a linker fills in that of a function with relaxing labels.
+#[tactic(auto, unfolding(crate::specs::Fields::size_in, format::specs::Prelude::pick))]
 fn size_field(e: Extent) -> u64
     ensures { result ≡ size_in e }
 {
@@ -190,6 +191,7 @@ fn size_field(e: Extent) -> u64
 }
 
 // The blank bytes of the pointer to the call sites.
+#[tactic(auto, unfolding(crate::specs::Fields::blank_in, crate::specs::Fields::pointed, format::specs::Prelude::pick))]
 fn lsda_blank(word: u64, e: Extent) -> usize
     requires { word ≤ 8 }
     ensures { (result ≡ blank_in word e) × (result ≤ 8) }
@@ -418,6 +420,7 @@ fn next_near(pairs: &[u64], end: usize, i: usize, to: u64) -> usize
 }
 
 // Where a linker writes a step of a form: on the opcode, or behind it.
+#[tactic(auto, unfolding(format::specs::Records::set_place))]
 fn set_place(place: u64, form: u64) -> u64
     requires { place < 2 ^ 63 }
     ensures { result ≡ set_place place form }
@@ -429,6 +432,7 @@ fn set_place(place: u64, form: u64) -> u64
 }
 
 // The kind of Set for a form; Sub's is one more.
+#[tactic(auto, unfolding(format::specs::Records::set_kind))]
 fn set_kind(form: u64) -> u64
     ensures { (result ≡ set_kind form) × (result ≤ 11) }
 {
@@ -440,6 +444,7 @@ fn set_kind(form: u64) -> u64
     }
 }
 
+#[tactic(auto, unfolding(format::specs::Records::set_bytes))]
 fn set_bytes(form: u64) -> u64
     ensures { result ≡ set_bytes form }
 {
@@ -553,6 +558,7 @@ fn sum_pair(out: &mut [u64], i: usize, place: u64, bytes: u64, e: Extent) -> usi
     relocs::relocation(out, a, place, e.symbol, relocs::SUM_MINUS, bytes, 0)
 }
 
+#[tactic(auto, unfolding(crate::specs::Fields::sum_in, format::specs::Prelude::pick))]
 fn sum_count(e: Extent) -> usize
     ensures { (result ≡ length (sum_in 0 0 e)) × (result ≤ 2) }
 {
@@ -581,18 +587,14 @@ fn lsda_reloc(out: &mut [u64], i: usize, word: u64, place: u64, table: u64, e: E
     }
 }
 
+#[tactic(auto, unfolding(crate::specs::Fields::lsda_in, crate::specs::Fields::pointed, format::specs::Prelude::pick))]
 fn lsda_count(e: Extent) -> usize
     ensures { (result ≡ length (lsda_in 0 0 0 e)) × (result ≤ 1) }
 {
     match kind_of(e) {
         Kind::Plain => 0,
         Kind::Personal => 1,
-        Kind::Named => {
-            if !e.lsda {
-                return 0;
-            }
-            1
-        }
+        Kind::Named => usize::from(e.lsda),
     }
 }
 
