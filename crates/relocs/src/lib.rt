@@ -46,6 +46,7 @@ pub const DEBUG_FRAME: u64 = 2;
 pub const MARKER: u64 = 4294967296;
 
 // A number at `at`. This and every other writer gives the place past what it stored.
+// Kept: `leb::byte` is its twin at u8, and says why.
 pub fn number(out: &mut [u64], at: usize, v: u64) -> usize
     requires { at + 1 ≤ length out.old }
     ensures { Wrote out.old out.new at result (v ∷ []) }
