@@ -2,6 +2,8 @@
 use Rattle.std.proofs.Common.{◌≡◌, ℕ, ◌+◌, ◌*◌, ◌/◌, ◌^◌, ◌<◌, ◌≤◌, Bool, true, false, ◌&&◌, T, eqb, ltb, leb, List, [], ◌∷◌, length, get_or, set, sym, refl, ap, ◌∙◌, subst, arith, length-set, le-ltb, lt-ltb, eq-eqb}
 use mathlib.Core.Option.{Option, none, some}
 use mir.Facts.{eqb_yes}
+use Rattle.std.specs.Option.{option_eq}
+use Rattle.std.proofs.lemmas.Bool.{eqb-true}
 use Rattle.format.specs.Prelude.{pick, after, first, Result, good, bad, onward, or_else}
 use Rattle.format.specs.Put.{put}
 use Rattle.format.specs.Coded.{option_of, result_of}
@@ -132,6 +134,10 @@ module _ (s : List ℕ) (rs : List Relocation) (debug : Bool) (es : List Entry) 
 
         pub found_headed : place < at → Headed debug es c
         found_headed l = headed_found debug es l (spans s (header_at debug place at es) k q).found
+
+pub last_is : (o : code.Option ℕ) {p : ℕ} → option_eq eqb o (Some p) ≡ true → o ≡ Some p
+last_is None e = let z : ◌≡◌ {A = ℕ} 0 1 = cc in absurd (omega arith)
+last_is (Some x) {p} e = ap Some (eqb-true x p e)
 
 -- ---- relocations passed by
 

@@ -1,5 +1,5 @@
 -- What the code's answers and what it carries mean, for the contracts of its functions.
-use Rattle.std.specs.Prelude.{◌≡◌, ℕ, ◌^◌, ◌<◌, ◌≤◌, Bool, List}
+use Rattle.std.specs.Prelude.{◌≡◌, ℕ, ◌^◌, ◌<◌, ◌≤◌, Bool, List, Some, None}
 use Rattle.std.specs.Prelude as code
 use Rattle.format.specs.Prelude.{Result}
 use Rattle.format.specs.Coded.{result_of}
@@ -7,7 +7,7 @@ use Rattle.format.specs.Answers.{bit}
 use Rattle.format.specs.Reader.{Entry, header_at}
 use Rattle.reader.specs.declared.location.Located as reader
 use Rattle.reader.proofs.Seeking.{Searching}
-use Rattle.reads.specs.Index.{place_or, records_of, indexed_as, list_after}
+use Rattle.reads.specs.Index.{nowhere, place_or, records_of, indexed_as, list_after}
 use Rattle.reads.specs.declared.Indexed.{Indexed}
 use Rattle.reads.specs.declared.Located.{Located}
 
@@ -26,6 +26,11 @@ numbered l =
       word = l.word;
       shortest = bit l.shortest;
     }
+
+-- the number that is stored for a header's place
+unfoldable pub stored_as : code.Option ℕ → ℕ
+stored_as (Some p) = p
+stored_as None = nowhere
 
 -- a header starts at a place, for any record behind it; it is none where no record is behind it
 pub record Headed (debug : Bool) (es : List Entry) (place : ℕ) : Type 0 where

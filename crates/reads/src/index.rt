@@ -10,13 +10,24 @@ ghost use Rattle.reader.proofs.Seeking.{Searching};
 ghost use Rattle.section_check.specs.Places.{Marks};
 ghost use Rattle.reads.specs.Places.{header_of};
 ghost use Rattle.reads.specs.Index.{place_or, index_of, index_in};
-ghost use Rattle.reads.specs.Standing.{Skipped, Headed, Stores};
+ghost use Rattle.reads.specs.Standing.{stored_as, Skipped, Headed, Stores};
 
 // A section has so many marks: half of those of section_check, since a frame above some 32 KiB is compiled wrong (docs/DECISIONS.md, D86).
 const MARKS: usize = 1024;
 
 // The place of no header.
-const NOWHERE: usize = 0xffffffffffffffff;
+const NOWHERE: u64 = 0xffffffffffffffff;
+
+// The number that is stored for a header's place.
+#[tactic(auto, unfolding(crate::specs::Standing::stored_as))]
+fn place_of(header: Option<usize>) -> u64
+    ensures { result ≡ stored_as header }
+{
+    match header {
+        Some(at) => at as u64,
+        None => NOWHERE,
+    }
+}
 
 // How many records there are.
 fn count(s: &[u8], debug: bool) -> usize
@@ -90,27 +101,23 @@ fn header_start(
     at: usize,
     end: usize,
     from: usize,
-    last: usize,
+    last: Option<usize>,
     marks: &[usize],
     step: usize,
-) -> usize
-    requires { (at + 8 ≤ end) × (end ≤ length s.now) × T (is_some (entries s.now)) × Headed debug (listed (entries s.now)) last × Searching relocs.now (at + 4) from × (0 < step) × Marks s.now marks.now }
-    ensures { (result ≡ place_or (header_of debug (relocations_of relocs.now) (listed (entries s.now)) (entry_in s.now at end))) × Headed debug (listed (entries s.now)) result }
+) -> Option<usize>
+    requires { (at + 8 ≤ end) × (end ≤ length s.now) × T (is_some (entries s.now)) × Headed debug (listed (entries s.now)) (stored_as last) × Searching relocs.now (at + 4) from × (0 < step) × Marks s.now marks.now }
+    ensures { (stored_as result ≡ place_or (header_of debug (relocations_of relocs.now) (listed (entries s.now)) (entry_in s.now at end))) × Headed debug (listed (entries s.now)) (stored_as result) }
 {
-    let Some(place) = header_place(s, relocs, debug, at, end, from) else {
-        return NOWHERE;
-    };
+    let place = header_place(s, relocs, debug, at, end, from)?;
     if at <= place {
-        return NOWHERE;
+        return None;
     }
-    if place == last {
-        return place;
+    if last == Some(place) {
+        return last;
     }
     let mark = section_check::mark_before(marks, step, place);
-    let Some((cie, _)) = section_check::header_from(s, debug, mark, place, at) else {
-        return NOWHERE;
-    };
-    cie
+    let (cie, _) = section_check::header_from(s, debug, mark, place, at)?;
+    Some(cie)
 }
 
 // Stores the index in a list that has room for it.
@@ -121,7 +128,7 @@ fn fill(s: &[u8], relocs: &[u64], debug: bool, places: &mut [u64])
     let step = s.len() / MARKS + 1;
     let mut marks = [0usize; MARKS];
     let mut from = 0;
-    let mut last = NOWHERE;
+    let mut last = None;
     let mut i = 0;
     let mut next = 0;
     'entries: while next < s.len() {
@@ -129,13 +136,13 @@ fn fill(s: &[u8], relocs: &[u64], debug: bool, places: &mut [u64])
         next = reader::entries::past(s, at);
         section_check::mark(&mut marks, step, at);
         if reader::entries::is_header(s, at, next, debug) {
-            last = at;
+            last = Some(at);
             continue 'entries;
         }
         from = skipped(relocs, debug, (at + 4) as u64, from);
         last = header_start(s, relocs, debug, at, next, from, last, &marks, step);
         places[i] = at as u64;
-        places[i + 1] = last as u64;
+        places[i + 1] = place_of(last);
         i += 2;
     }
 }

@@ -1,10 +1,12 @@
 -- `reads::index::fill` meets its contract.
 use Rattle.std.proofs.Common.{sym, ◌∙◌, arith, length-set, rules}
 use Rattle.reads.proofs.Indexing.{filling, fill_skipped, fill_header, fill_room, fill_record, filled}
+use Rattle.reads.specs.Standing.{stored_as}
 use Rattle.reads.proofs.Marking.{marking, marks_on, marking_on}
 use Rattle.reads.proofs.index.fill.Goals as goal
 
 pub entries-init : goal.entries-init
+unfolding stored_as
 entries-init c =
     let a = c.args in
     (filling a.s.now a.debug a.relocs.now a.places.now c.requires.0 c.requires.1, marking a.s.now c.requires.0)
@@ -22,6 +24,7 @@ pub entries-smaller-then-is_header : goal.entries-smaller-then-is_header
 entries-smaller-then-is_header c = omega (arith, c.past-next.ensures.long)
 
 pub entries-preserved-then-is_header : goal.entries-preserved-then-is_header
+unfolding stored_as
 entries-preserved-then-is_header c = (fill_header _ _ _ _ c.entries.invariant.0 c.past-next.ensures (sym c.is_header.ensures ∙ c.if-is_header.true), marking_on c.entries.invariant.1 c.past-next.ensures _ c.mark.ensures)
 
 pub overflow_add-at : goal.overflow_add-at
@@ -55,7 +58,7 @@ pub entries-smaller : goal.entries-smaller
 entries-smaller c = omega (arith, c.past-next.ensures.long)
 
 pub entries-preserved : goal.entries-preserved
-entries-preserved c = (fill_record _ _ _ _ c.entries.invariant.0 c.past-next.ensures (sym c.is_header.ensures ∙ c.if-is_header.false) c.skipped-from.ensures c.header_start-last.ensures.0 c.header_start-last.ensures.1, marking_on c.entries.invariant.1 c.past-next.ensures _ c.mark.ensures)
+entries-preserved c = rw c.place_of.ensures (fill_record _ _ _ _ c.entries.invariant.0 c.past-next.ensures (sym c.is_header.ensures ∙ c.if-is_header.false) c.skipped-from.ensures c.header_start-last.ensures.0 c.header_start-last.ensures.1, marking_on c.entries.invariant.1 c.past-next.ensures _ c.mark.ensures)
 
 pub shape_of-places : goal.shape_of-places
 shape_of-places c = c.entries.invariant.0.long

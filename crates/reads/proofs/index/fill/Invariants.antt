@@ -1,11 +1,12 @@
 use Rattle.std.proofs.Common.{◌-◌, length}
+use Rattle.reads.specs.Standing.{stored_as}
 use Rattle.reads.proofs.Indexing.{Filling}
 use Rattle.reads.proofs.Marking.{Marking}
 use Rattle.reads.proofs.index.fill.Given as goal
 
 abbrev pub invariant-entries : goal.invariant-entries
 invariant-entries l =
-    Filling l.s l.debug l.relocs l.initial.places l.places l.from l.last l.i l.next × Marking l.s l.marks l.next
+    Filling l.s l.debug l.relocs l.initial.places l.places l.from (stored_as l.last) l.i l.next × Marking l.s l.marks l.next
 
 abbrev pub decreases-entries : goal.decreases-entries
 decreases-entries l = length l.s - l.next
