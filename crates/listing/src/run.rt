@@ -72,6 +72,7 @@ pub fn fill(
         from = record;
         to = record_end;
         let mut at = Position::START;
+        // Kept: a `while`, which moves by each operation's length.
         'operations: while at.at < ops.len() {
             let Some((op, next)) = operations::operation(ops, at, word) else {
                 return listed(i, 66, loc);

@@ -28,6 +28,7 @@ pub fn tiles(s: &[u8]) -> bool
     ensures { result ≡ is_some (entries s.now) }
 {
     let mut at = 0;
+    // Kept: a `while`, which moves by each entry's length.
     while at < s.len() {
         let Some(end) = entry_end(s, at) else {
             return false;
@@ -81,6 +82,7 @@ pub fn record_span(s: &[u8], debug: bool, k: u64) -> Option<(usize, usize)>
 {
     let mut left = k;
     let mut next = 0;
+    // Kept: a `while`, which moves by each entry's length.
     'entries: while next < s.len() {
         let at = next;
         next = past(s, at);

@@ -22,16 +22,6 @@ pub struct Augmentation {
     pub signal: bool,
 }
 
-fn announced(personality: bool, lsda: bool, signal: bool) -> Augmentation
-    ensures { result ≡ record { personality = personality; lsda = lsda; signal = signal } }
-{
-    Augmentation {
-        personality,
-        lsda,
-        signal,
-    }
-}
-
 // One string, or the one that marks a signal frame: what it announces, and the position past it.
 fn marked(
     s: &[u8],
@@ -48,7 +38,11 @@ fn marked(
     let shortest = at.shortest;
     if s[from..].starts_with(plain) {
         return Some((
-            announced(personality, lsda, false),
+            Augmentation {
+                personality,
+                lsda,
+                signal: false,
+            },
             Position {
                 at: from + plain.len(),
                 shortest,
@@ -57,7 +51,11 @@ fn marked(
     }
     if s[from..].starts_with(signal) {
         return Some((
-            announced(personality, lsda, true),
+            Augmentation {
+                personality,
+                lsda,
+                signal: true,
+            },
             Position {
                 at: from + signal.len(),
                 shortest,
@@ -297,10 +295,7 @@ pub fn record_tail(s: &[u8], at: Position, debug: bool, pointer: u64, size: u64)
 pub fn field_size(debug: bool, word: u64) -> u64
     ensures { result ≡ pick debug word 4 }
 {
-    if debug {
-        return word;
-    }
-    4
+    if debug { word } else { 4 }
 }
 
 // Question 64 of a record, by the bytes behind its length; `shortest` is the mark of what was read before.

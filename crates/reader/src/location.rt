@@ -61,6 +61,7 @@ pub fn header_span(s: &[u8], debug: bool, place: usize, before: usize) -> Option
     ensures { Spans s.now result (header_at debug place before (listed (entries s.now))) }
 {
     let mut next = 0;
+    // Kept: a `while`, which moves by each entry's length.
     while next < s.len() {
         let at = next;
         next = entries::past(s, at);

@@ -217,6 +217,7 @@ pub fn run(
         to = record_end;
         let mut loc = 0;
         let mut at = Position::START;
+        // Kept: a `while`, which moves by each operation's length.
         'operations: while at.at < ops.len() {
             let Some((op, next)) = operations::operation(ops, at, word) else {
                 return Err(66);

@@ -12,6 +12,7 @@ pub fn run(s: &[u8], word: u64, p: u64) -> bool
 {
     let mut at = Position::START;
     let mut loc = 0;
+    // Kept: a `while`, which moves by each operation's length.
     'operations: while at.at < s.len() {
         let Some((op, next)) = operations::operation(s, at, word) else {
             return false;

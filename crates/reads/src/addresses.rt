@@ -121,6 +121,7 @@ pub fn holder_in(s: &[u8], debug: bool, word: u64, address: u64, pc: u64) -> Res
     }
     let mut k: u64 = 0;
     let mut next = 0;
+    // Kept: a `while`, which moves by each entry's length.
     'entries: while next < s.len() {
         let at = next;
         next = entries::past(s, at);

@@ -36,6 +36,7 @@ fn count(s: &[u8], debug: bool) -> usize
 {
     let mut n = 0;
     let mut next = 0;
+    // Kept: a `while`, which moves by each entry's length.
     'entries: while next < s.len() {
         let at = next;
         next = reader::entries::past(s, at);
@@ -131,6 +132,7 @@ fn fill(s: &[u8], relocs: &[u64], debug: bool, places: &mut [u64])
     let mut last = None;
     let mut i = 0;
     let mut next = 0;
+    // Kept: a `while`, which moves by each entry's length.
     'entries: while next < s.len() {
         let at = next;
         next = reader::entries::past(s, at);

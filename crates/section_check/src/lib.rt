@@ -29,13 +29,9 @@ pub fn mark(marks: &mut [usize], step: usize, at: usize)
     ensures { marks.new ≡ marked step at marks.old }
 {
     let i = at / step;
-    if marks.len() <= i {
-        return;
+    if i < marks.len() && marks[i] == 0 {
+        marks[i] = at;
     }
-    if marks[i] != 0 {
-        return;
-    }
-    marks[i] = at;
 }
 
 // Where the search for the entry at a place starts.
@@ -43,15 +39,10 @@ pub fn mark_before(marks: &[usize], step: usize, place: usize) -> usize
     requires { 0 < step }
     ensures { result ≡ mark_before step place marks.now }
 {
-    let i = place / step;
-    if marks.len() <= i {
-        return 0;
+    match marks.get(place / step) {
+        Some(at) if *at <= place => *at,
+        _ => 0,
     }
-    let at = marks[i];
-    if place < at {
-        return 0;
-    }
-    at
 }
 
 // The header that starts at a place earlier than `before`, searched for from an entry in front of it.
@@ -66,6 +57,7 @@ pub fn header_from(
     ensures { Spans s.now result (header_at debug place before (listed (entries s.now))) }
 {
     let mut next = from;
+    // Kept: a `while`, which moves by each entry's length.
     while next < s.len() {
         let at = next;
         next = reader::entries::past(s, at);
@@ -155,6 +147,7 @@ fn check_records(s: &[u8], word: u64) -> Checked
     let mut marks = [0usize; 2048];
     let mut k = 0;
     let mut next = 0;
+    // Kept: a `while`, which moves by each entry's length.
     'entries: while next < s.len() {
         let at = next;
         next = reader::entries::past(s, at);

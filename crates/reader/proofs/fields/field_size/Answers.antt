@@ -6,6 +6,6 @@ pub returns-then-debug : goal.returns-then-debug
 unfolding pick
 returns-then-debug c = simp c.if-debug.true
 
-pub returns : goal.returns
+pub returns-else-debug : goal.returns-else-debug
 unfolding pick
-returns c = simp c.if-debug.false
+returns-else-debug c = simp c.if-debug.false
