@@ -15,6 +15,7 @@ use arm64::Code;
 
 // How many codes the run from a place on has, up to its end code; nothing where there is no run.
 // Kept: a `while let` by places here and below, and no iterator of codes: its None would tell the run's end and a place without a code alike.
+#[tactic(auto, using(arm64::proofs::Coded::is_none, arm64::proofs::Coded::is_some, arm64_codes::proofs::Formed::ahead, crate::proofs::Stores::more_first, crate::proofs::Stores::more_none, crate::proofs::Stores::more_on, crate::proofs::Stores::more_out))]
 pub fn count_run(s: &[u8], at: usize) -> Option<usize>
     ensures { (result ≡ option_of (count_of (run_at s.now at))) × IfSome result (λ n. n ≤ length s.now) }
 {
@@ -48,6 +49,7 @@ pub fn put_code(out: &mut [u64], at: usize, c: Code) -> usize
 }
 
 // A run's codes, in its order.
+#[tactic(auto, using(arm64::proofs::Coded::is_none, arm64::proofs::Coded::is_some, arm64_codes::proofs::Formed::ahead, crate::proofs::Stores::put_room, crate::proofs::Stores::put_ended, crate::proofs::Stores::never_none))]
 pub fn put_run(out: &mut [u64], at: usize, s: &[u8], from: usize) -> usize
     requires { (run_at s.now from ≡ some (codes_in (run_at s.now from))) × (at + 3 * length (codes_in (run_at s.now from)) ≤ length out.old) }
     ensures { Wrote out.old out.new at result (code_numbers (codes_in (run_at s.now from))) }
@@ -65,6 +67,7 @@ pub fn put_run(out: &mut [u64], at: usize, s: &[u8], from: usize) -> usize
 }
 
 // The codes of the run at 0, the last of them first, at the list's front, up to `end`.
+#[tactic(auto, using(arm64::proofs::Coded::is_none, arm64::proofs::Coded::is_some, arm64_codes::proofs::Formed::ahead, crate::proofs::Stores::never_none))]
 pub fn put_back(out: &mut [u64], end: usize, s: &[u8])
     requires { (run_at s.now 0 ≡ some (codes_in (run_at s.now 0))) × (end ≡ 3 * length (codes_in (run_at s.now 0))) × (end ≤ length out.old) }
     ensures { out.new ≡ put out.old 0 (code_numbers (reverse (codes_in (run_at s.now 0)))) }
