@@ -70,6 +70,7 @@ pub const PAC_SIGN_LR: u64 = 17;
 // The code that ends a run of codes: a form has this kind, a list of codes never.
 pub const END: u64 = 18;
 // A first byte that `describe` never writes.
+// Kept: a form of this kind, and no None: the writer asks for the form of any code, also of one whose kind is none.
 pub const RESERVED: u64 = 19;
 
 // How a code is spelled: `size` bytes, of which the first is `op` where every field is 0. Behind op stands one number, first byte highest: the
@@ -100,6 +101,7 @@ pub struct Header {
 }
 
 // A packed word: the flag (1 a function, 2 a fragment), the length in instructions, RegF, RegI, H, CR and the frame's size in 16 bytes.
+// Kept: all fields as numbers: the word is the sum of them, sizes are computed from H and CR, and the writer counts in them.
 #[derive(Clone, Copy)]
 pub struct Packed {
     pub flag: u64,

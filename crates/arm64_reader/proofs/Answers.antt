@@ -1,6 +1,6 @@
 -- What a reader answers, by what it found and whether the lent lists hold it.
 use mathlib.Core.Path.{◌≡◌, refl, sym, ap, ◌∙◌}
-use mathlib.Core.Logic.{◌≢◌, ◌⊎◌}
+use mathlib.Core.Logic.{◌≢◌}
 use mathlib.Core.Bool.{Bool, true, false}
 use mathlib.Core.Option.{Option, none, some}
 use mathlib.Core.List.{List, [], ◌∷◌, ◌++◌, append-nil}
@@ -220,7 +220,7 @@ module _ (word : ℕ) (s : List ℕ) (place : ℕ) (es cs : List ℕ) where
   word_record e = rw (if-eq (word % 4) 0)
 
   module _ (n : word % 4 ≢ 0) where
-    pub word_no : (word % 4 ≡ 3) ⊎ ((word % 4 ≢ 3) × (4294967296 ≤ word)) → read_arm64 word s place es cs ≡ bad 77
+    pub word_no : (word % 4 < 3 → 4294967296 ≤ word) → read_arm64 word s place es cs ≡ bad 77
     unfolding read_arm64 unwound_by onward pick
     word_no h = grind arith
 

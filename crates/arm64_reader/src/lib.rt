@@ -40,6 +40,7 @@ fn refused(number: u64) -> Arm64Reading
 }
 
 // 54: a lent list is too short.
+// Kept: both lists beside each other here and below, and no struct of them: C lends two, and each is passed on by itself.
 #[tactic(auto, unfolding(crate::specs::Answers::roomy))]
 fn room(es: &[u64], cs: &[u64], epilogues: u64, codes: usize) -> Result<(), u64>
     ensures { MatchResult result (λ x. roomy es.now cs.now epilogues codes ≡ true) (λ e. (e ≡ 54) × (roomy es.now cs.now epilogues codes ≡ false)) }
@@ -76,6 +77,7 @@ fn record_with(
 }
 
 // A packed fragment, which has no epilogue.
+#[tactic(auto, using(crate::proofs::Answers::has_room))]
 fn fragment(p: Packed, es: &mut [u64], cs: &mut [u64]) -> Result<Arm64Reading, u64>
     requires { Sound p × (p.flag ≡ 2) × (packed_ok p ≡ true) }
     ensures { Answered (found (packed_unwound p) es.old cs.old) result es.old es.new cs.old cs.new }
@@ -87,6 +89,7 @@ fn fragment(p: Packed, es: &mut [u64], cs: &mut [u64]) -> Result<Arm64Reading, u
 }
 
 // A packed function, whose epilogue is its last instructions.
+#[tactic(auto, using(crate::proofs::Answers::has_room, format::proofs::PutLaws::kept))]
 fn function(p: Packed, es: &mut [u64], cs: &mut [u64]) -> Result<Arm64Reading, u64>
     requires { Sound p × (p.flag ≢ 2) × (packed_ok p ≡ true) }
     ensures { Answered (found (packed_unwound p) es.old cs.old) result es.old es.new cs.old cs.new }
@@ -119,6 +122,7 @@ fn packed(w: u64, es: &mut [u64], cs: &mut [u64]) -> Result<Arm64Reading, u64>
 }
 
 // The record at a place.
+#[tactic(auto, unfolding(arm64::specs::Records::codes_to, arm64::specs::Records::codes_from))]
 fn record(s: &[u8], place: u64, es: &mut [u64], cs: &mut [u64]) -> Result<Arm64Reading, u64>
     ensures { Answered (onward (full_record s.now place) (fits_in es.old cs.old)) result es.old es.new cs.old cs.new }
 {

@@ -167,6 +167,7 @@ fn put_scoped(
 }
 
 // How many codes a record's epilogues have.
+#[tactic(auto, using(arm64::proofs::Coded::is_none, crate::proofs::Whole::one_none, crate::proofs::Whole::codes_short, crate::proofs::Whole::words_inside, crate::proofs::Whole::by_words))]
 pub fn count_epilogues(s: &[u8], h: Header, codes: &[u8]) -> Option<usize>
     requires { Inside s.now h × (codes.now ≡ codes_of h s.now) }
     ensures { (result ≡ option_of (total_of (record_epilogues h s.now))) × IfSome result (λ m. m ≤ 66846720) }

@@ -4,7 +4,7 @@ use Prim.Native.Nat.{◌+◌}
 use native.Mathlib.Omega.{arith}
 use Rattle.std.specs.Prelude.{Ok}
 use Rattle.arm64.specs.Reader.{unwound}
-use Rattle.arm64_reader.proofs.Answers.{packed_part, packed_fragment, part_counts, part_stored, has_room, no_room, stored}
+use Rattle.arm64_reader.proofs.Answers.{packed_part, packed_fragment, part_counts, part_stored, no_room, stored}
 use Rattle.arm64_reader.specs.Answers.{roomy}
 use Rattle.arm64_reader.proofs.fragment.Goals as goal
 
@@ -12,9 +12,6 @@ pub returns-in_err-room : goal.returns-in_err-room
 returns-in_err-room c =
     let z : c.count_slots-n.result + 0 ≡ c.count_slots-n.result = omega arith in
     no_room c.args.es.now c.args.cs.now (packed_fragment c.args.p c.requires.2 c.requires.1) (part_counts c.args.p c.count_slots-n.ensures.0) (ap (roomy c.args.es.now c.args.cs.now 0) z ∙ c.in_err-room.ensures.1) (grind (arith, c.from_residual.ensures, c.in_err-room.ensures.0))
-
-pub put_slots-requires : goal.put_slots-requires
-put_slots-requires c = (c.requires.0, omega (arith, c.count_slots-n.ensures.0, (has_room c.args.es.now c.args.cs.now c.in_ok-room.ensures).1))
 
 pub returns : goal.returns
 unfolding packed_part unwound

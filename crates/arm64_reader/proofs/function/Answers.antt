@@ -2,10 +2,9 @@
 use mathlib.Core.Path.{refl, ap}
 use native.Mathlib.Omega.{arith}
 use Rattle.std.specs.Prelude.{Ok}
-use Rattle.format.proofs.PutLaws.{kept}
 use Rattle.arm64.specs.Packed.{packed_epilogue}
 use Rattle.arm64.specs.Reader.{unwound}
-use Rattle.arm64_reader.proofs.Answers.{refuses, found_none, packed_whole, packed_late, packed_function, whole_counts, whole_stored, has_room, no_room, stored}
+use Rattle.arm64_reader.proofs.Answers.{refuses, found_none, packed_whole, packed_late, packed_function, whole_counts, whole_stored, no_room, stored}
 use Rattle.arm64_reader.proofs.function.Goals as goal
 
 pub returns-then-p-m : goal.returns-then-p-m
@@ -15,15 +14,6 @@ returns-then-p-m c = refuses (found_none c.args.es.now c.args.cs.now (packed_lat
 pub returns-in_err-room : goal.returns-in_err-room
 unfolding packed_epilogue
 returns-in_err-room c = no_room c.args.es.now c.args.cs.now (packed_function c.args.p c.requires.2 c.requires.1 (omega (arith, c.if-p-m.false, c.count_slots-m.ensures.0))) (whole_counts c.args.p c.count_slots-n.ensures.0 c.count_slots-m.ensures.0) c.in_err-room.ensures.1 (grind (arith, c.from_residual.ensures, c.in_err-room.ensures.0))
-
-pub put_slots-requires : goal.put_slots-requires
-put_slots-requires c = (c.requires.0, omega (arith, c.count_slots-n.ensures.0, (has_room c.args.es.now c.args.cs.now c.in_ok-room.ensures).1))
-
-pub put_slots-requires-2 : goal.put_slots-requires-2
-put_slots-requires-2 c = (c.requires.0, omega (arith, c.count_slots-m.ensures.0, kept c.put_slots.ensures, (has_room c.args.es.now c.args.cs.now c.in_ok-room.ensures).1))
-
-pub put_three-requires : goal.put_three-requires
-put_three-requires c = omega (arith, (has_room c.args.es.now c.args.cs.now c.in_ok-room.ensures).0)
 
 pub returns : goal.returns
 unfolding packed_epilogue packed_whole unwound

@@ -2,29 +2,13 @@
 use mathlib.Core.Path.{refl, sym}
 use native.Mathlib.Omega.{arith}
 use Rattle.arm64.proofs.Coded.{is_none, is_some}
-use Rattle.arm64.specs.Records.{codes_from, codes_to}
+use Rattle.arm64.specs.Records.{codes_from}
 use Rattle.arm64_records.specs.Parts.{headed_at}
 use Rattle.arm64_reader.proofs.Answers.{refuses, no_record, by_header, codes_taken}
 use Rattle.arm64_reader.proofs.record.Goals as goal
 
 pub returns-in_default : goal.returns-in_default
 returns-in_default c = refuses (no_record c.args.s.now c.args.place c.args.es.now c.args.cs.now (is_none (headed_at c.args.s.now c.args.place) (sym c.in_default.ensures.0))) refl
-
-pub overflow_mul-from : goal.overflow_mul-from
-unfolding codes_to codes_from
-overflow_mul-from c = omega (arith, c.in-Some.ensures.1.ends, c.scopes_in.ensures)
-
-pub overflow_add-from : goal.overflow_add-from
-unfolding codes_to codes_from
-overflow_add-from c = omega (arith, c.in-Some.ensures.1.ends, c.scopes_in.ensures)
-
-pub overflow_add-to : goal.overflow_add-to
-unfolding codes_to codes_from
-overflow_add-to c = omega (arith, c.in-Some.ensures.1.ends, c.scopes_in.ensures)
-
-pub slice_bounds-record_with-end : goal.slice_bounds-record_with-end
-unfolding codes_to codes_from
-slice_bounds-record_with-end c = omega (arith, c.in-Some.ensures.1.ends, c.scopes_in.ensures)
 
 pub record_with-requires : goal.record_with-requires
 unfolding codes_from
