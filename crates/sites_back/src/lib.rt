@@ -10,7 +10,6 @@ ghost use Rattle.sites_back.specs.Back.{table_place, place_in, ReadBack};
 
 use call_sites::Site;
 use format::{Counts, Refusal};
-use reader::entries::{Number, Span};
 use reader::{entries, location};
 
 const ELF: u64 = 0;
@@ -18,20 +17,16 @@ const ELF: u64 = 0;
 // A record's pointer to call sites stands this far behind its start.
 const POINTER_FIELD: usize = 17;
 
-// The addend of the relocation of record k's pointer to call sites, in eh_frame; a place outside all bytes where there is none.
-fn table_place(section: &[u8], relocations: &[u64], k: u64) -> u64
-    ensures { result ≡ place_in (table_place section.now (relocations_of relocations.now) k) }
+// The addend of the relocation of record k's pointer to call sites, in eh_frame.
+fn table_place(section: &[u8], relocations: &[u64], k: u64) -> Option<u64>
+    ensures { result ≡ option_of (table_place section.now (relocations_of relocations.now) k) }
 {
     if !entries::tiles(section) {
-        return 18446744073709551615;
+        return None;
     }
-    let Span::At(at, _) = entries::record_span(section, false, k) else {
-        return 18446744073709551615;
-    };
-    let Number::Is(place) = location::first_addend(relocations, (at + POINTER_FIELD) as u64) else {
-        return 18446744073709551615;
-    };
-    place as u64
+    let (at, _) = entries::record_span(section, false, k)?;
+    let place = location::first_addend(relocations, (at + POINTER_FIELD) as u64)?;
+    Some(place as u64)
 }
 
 // What the writer answered, and the site that was read.
@@ -76,7 +71,8 @@ pub fn write_and_read_site(
     let m = unwind::numbers_in(outcome, relocations.len());
     let written = &bytes[..];
     let related = &relocations[..];
-    let place = table_place(&written[..n], &related[..m], k);
+    // Where there is no table, a place outside all bytes.
+    let place = table_place(&written[..n], &related[..m], k).unwrap_or(u64::MAX);
     let site = call_sites::unwind_call_site(sites, place, offset);
     WrittenAndRead { outcome, site }
 }

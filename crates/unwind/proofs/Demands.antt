@@ -31,7 +31,7 @@ use Rattle.unwind.proofs.Fronts.{Fronts, bytes_of, relocs_of}
 abbrev is_accepted : Outcome → Bool
 is_accepted (Ok (Some c)) = true
 is_accepted (Ok None) = false
-is_accepted (Err (refusal n k)) = false
+is_accepted (Err r) = false
 
 pub accepted_by : (a : Answer) (c : Counts) → Ok (Some c) ≡ outcome_of a → (w : Written) × (a ≡ accepted w)
 unfolding outcome_of

@@ -18,12 +18,12 @@ answer_for debug format g r = pick debug (relaxed_debug_frame format g r) (relax
 unfoldable pub bytes_in : Outcome → ℕ
 bytes_in (Ok (Some c)) = c.bytes
 bytes_in (Ok None) = 0
-bytes_in (Err (refusal n k)) = 0
+bytes_in (Err r) = 0
 
 unfoldable pub relocs_in : Outcome → ℕ
 relocs_in (Ok (Some c)) = c.relocations
 relocs_in (Ok None) = 0
-relocs_in (Err (refusal n k)) = 0
+relocs_in (Err r) = 0
 
 -- the reader on as much of the two buffers as the outcome says, with the writer's kind and word
 unfoldable pub reading_for : (debug : Bool) (machine : List ℕ) → Outcome → (bytes relocations : List ℕ) → (k q p : ℕ) → Reading

@@ -5,14 +5,12 @@ ghost use Rattle.std.specs.Prelude.{◌≡◌, ◌*◌, ◌≤◌, [], ◌∷◌
 ghost use Rattle.format.specs.Questions.{relaxed_table, relaxed_debug_frame, seh, given_of, room_in};
 ghost use Rattle.format.specs.RowCheck.{row_check_at};
 ghost use Rattle.format.specs.Reader.{read, shortest_at};
-ghost use Rattle.format.specs.declared.Reading.TheVariants.{Answered};
 ghost use Rattle.format.specs.Answers.{cfa_numbers, rule_numbers, marked_numbers, bit, outcome_numbers, Writes};
 ghost use Rattle.unwind.specs.Demand.{Demanded};
 ghost use Rattle.unwind.specs.Together.{answer_for, bytes_in, relocs_in, reading_for};
 ghost use Rattle.unwind.specs.Entries.{read_numbers, written_numbers, Exports};
 
 use format::{CfaRule, Counts, Refusal, Rule, Rules, Section};
-use reader::location::Locating;
 
 // ---- the writers
 
@@ -201,6 +199,7 @@ pub fn read(
 // ---- a writer and then the reader
 
 // How many bytes, and how many numbers of relocations, were written.
+#[tactic(auto, unfolding(crate::specs::Together::bytes_in))]
 pub fn bytes_in(o: Result<Option<Counts>, Refusal>) -> usize
     ensures { result ≡ bytes_in o }
 {
@@ -211,6 +210,7 @@ pub fn bytes_in(o: Result<Option<Counts>, Refusal>) -> usize
     }
 }
 
+#[tactic(auto, unfolding(crate::specs::Together::relocs_in))]
 pub fn numbers_in(o: Result<Option<Counts>, Refusal>, room: usize) -> usize
     requires { 5 * relocs_in o ≤ room }
     ensures { result ≡ 5 * relocs_in o }
@@ -418,7 +418,7 @@ fn saving_of(r: Rule) -> Saving
 }
 
 fn rules_numbers(c: CfaRule, r: Rule, signing: bool, shortest: bool) -> Numbers
-    ensures { read_numbers result ≡ marked_numbers (Answered (record { cfa = c; rule = r; signing = signing })) shortest }
+    ensures { read_numbers result ≡ marked_numbers (Ok (record { cfa = c; rule = r; signing = signing })) shortest }
 {
     let a = address_of(c);
     let b = saving_of(r);
@@ -456,6 +456,7 @@ pub fn numbers_of(r: Result<Rules, u64>, shortest: bool) -> Numbers
     }
 }
 
+#[tactic(auto, unfolding(format::specs::Answers::outcome_numbers))]
 pub fn written_of(o: Result<Option<Counts>, Refusal>) -> Written
     ensures { written_numbers result ≡ outcome_numbers o }
 {
@@ -577,11 +578,11 @@ pub extern "C" fn unwind_read(
     ensures { read_numbers result ≡ marked_numbers (read section.now relocations.now kind word k q p) (shortest_at section.now relocations.now kind word k p) }
 {
     match reader::locate(section, relocations, kind, word, k) {
-        Locating::Found(l) => {
+        Ok(l) => {
             let rules = reader::rules_at(section, l, q, p);
             let shortest = reader::shortest_at(section, l, p);
             numbers_of(rules, shortest)
         }
-        Locating::No(n) => numbers_of(Err(n), false),
+        Err(n) => numbers_of(Err(n), false),
     }
 }

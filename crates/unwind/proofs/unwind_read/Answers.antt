@@ -4,13 +4,13 @@ use Rattle.reader.proofs.Asked.{place_found, place_refused, located_read, locate
 use Rattle.unwind.proofs.Marks.{both_marked, refused_marked}
 use Rattle.unwind.proofs.unwind_read.Goals as goal
 
-pub returns-in-Found : goal.returns-in-Found
-returns-in-Found c =
-    let x = place_found c.in-Found.is c.locate.ensures in
+pub returns-in-Ok : goal.returns-in-Ok
+returns-in-Ok c =
+    let x = place_found c.in-Ok.is c.locate.ensures in
     c.numbers_of.ensures
     ∙ both_marked (c.rules_at-rules.ensures ∙ located_read _ _ _ _ _ _ _ x) (c.shortest_at-shortest.ensures ∙ located_shortest _ _ _ _ _ _ x)
 
-pub returns-in-No : goal.returns-in-No
-returns-in-No c =
-    c.numbers_of-in-No.ensures
-    ∙ refused_marked _ (refused_read _ _ _ _ _ _ _ (place_refused _ _ c.in-No.is c.locate.ensures))
+pub returns-in-Err : goal.returns-in-Err
+returns-in-Err c =
+    c.numbers_of-in-Err.ensures
+    ∙ refused_marked _ (refused_read _ _ _ _ _ _ _ (place_refused _ _ c.in-Err.is c.locate.ensures))
