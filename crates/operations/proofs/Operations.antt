@@ -158,9 +158,6 @@ module _ (s : List ℕ) (p : Position) where
     unfolding read_register
     register_is = small _ register_ahead.rest
 
-    pub register_small : v ≤ 0xffff
-    register_small = register_is.0
-
     -- and a number behind it
     behind_register : (n : Number) {r : Position} → Past q (numbers_short (n ∷ []) (drop q.at s)) r → Past p (numbers_short (unsigned ∷ n ∷ []) (drop p.at s)) r
     behind_register n i = past_both register_past i (first_mark (n ∷ []) (drop p.at s) register_is.1)

@@ -16,12 +16,12 @@ pub mod fields;
 // ---- an operand read
 
 // A register, to 65,535.
-fn register_at(s: &[u8], at: Position) -> Option<(u64, Position)>
+fn register_at(s: &[u8], at: Position) -> Option<(u16, Position)>
     ensures { result ≡ register_at s.now at }
 {
     let (v, past) = read_uleb(s, at)?;
     if v <= 0xffff {
-        return Some((v, past));
+        return Some((v as u16, past));
     }
     None
 }
@@ -134,7 +134,7 @@ fn register_row_at(s: &[u8], at: Position, b: u8) -> Option<(Operation, Position
     ensures { result ≡ register_row_at b s.now at }
 {
     let (reg, past) = register_at(s, at)?;
-    Some((Operation::Does(register_row(b, reg as u16)), past))
+    Some((Operation::Does(register_row(b, reg)), past))
 }
 
 // Opcode b with an offset.
@@ -153,7 +153,7 @@ fn pair_row_at(s: &[u8], at: Position, word: u64, b: u8) -> Option<(Operation, P
 {
     let (reg, next) = register_at(s, at)?;
     let (z, past) = operand_at(s, next, word, b)?;
-    Some((Operation::Does(pair_row(b, reg as u16, z)), past))
+    Some((Operation::Does(pair_row(b, reg, z)), past))
 }
 
 // Two registers: the second holds the value of the first.
@@ -162,10 +162,7 @@ fn in_register_at(s: &[u8], at: Position) -> Option<(Operation, Position)>
 {
     let (reg, next) = register_at(s, at)?;
     let (other, past) = register_at(s, next)?;
-    Some((
-        Operation::Does(Row::InRegister(reg as u16, other as u16)),
-        past,
-    ))
+    Some((Operation::Does(Row::InRegister(reg, other)), past))
 }
 
 // A saved register whose number was in the opcode.

@@ -1,7 +1,6 @@
 -- `operations::in_register_at` meets its contract.
 use mathlib.Core.Path.{sym, ◌∙◌}
-use native.Mathlib.Omega.{arith}
-use Rattle.operations.proofs.Operations.{in_register_unnamed, in_register_none, in_register_some, register_small}
+use Rattle.operations.proofs.Operations.{in_register_unnamed, in_register_none, in_register_some}
 use Rattle.operations.proofs.in_register_at.Goals as goal
 
 pub returns-in_err-reg : goal.returns-in_err-reg
@@ -13,16 +12,6 @@ pub returns-in_err-other : goal.returns-in_err-other
 returns-in_err-other c =
     let a = c.args in
     c.from_residual-in_err-other.ensures ∙ sym (in_register_none a.s.now a.at (sym c.in_ok-reg.ensures) (sym c.in_err-other.ensures))
-
-pub overflow_cast-result : goal.overflow_cast-result
-overflow_cast-result c =
-    let a = c.args in
-    record { fits = omega (arith, register_small a.s.now a.at (sym c.in_ok-reg.ensures)) }
-
-pub overflow_cast-result-2 : goal.overflow_cast-result-2
-overflow_cast-result-2 c =
-    let a = c.args in
-    record { fits = omega (arith, register_small a.s.now c.in_ok-reg.next (sym c.in_ok-other.ensures)) }
 
 pub returns : goal.returns
 returns c =

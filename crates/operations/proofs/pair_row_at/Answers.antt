@@ -2,7 +2,7 @@
 use mathlib.Core.Path.{sym, ◌∙◌}
 use native.Mathlib.Omega.{arith}
 use Rattle.rows.proofs.Signs.{passed}
-use Rattle.operations.proofs.Operations.{pair_unnamed, pair_none, pair_some, register_small}
+use Rattle.operations.proofs.Operations.{pair_unnamed, pair_none, pair_some}
 use Rattle.operations.proofs.pair_row_at.Goals as goal
 
 pub returns-in_err-reg : goal.returns-in_err-reg
@@ -10,9 +10,6 @@ returns-in_err-reg c = c.from_residual.ensures ∙ sym (pair_unnamed c.args.s.no
 
 pub returns-in_err-z : goal.returns-in_err-z
 returns-in_err-z c = c.from_residual-in_err-z.ensures ∙ sym (pair_none c.args.s.now c.args.at (sym c.in_ok-reg.ensures) c.args.word c.args.b (sym c.in_err-z.ensures))
-
-pub overflow_cast-reg : goal.overflow_cast-reg
-overflow_cast-reg c = record { fits = omega (arith, register_small c.args.s.now c.args.at (sym c.in_ok-reg.ensures)) }
 
 pub returns : goal.returns
 returns c =

@@ -1,14 +1,10 @@
 -- `operations::register_row_at` meets its contract.
 use mathlib.Core.Path.{sym, ◌∙◌}
-use native.Mathlib.Omega.{arith}
-use Rattle.operations.proofs.Operations.{register_row_none, register_row_some, register_small}
+use Rattle.operations.proofs.Operations.{register_row_none, register_row_some}
 use Rattle.operations.proofs.register_row_at.Goals as goal
 
 pub returns-in_err-reg : goal.returns-in_err-reg
 returns-in_err-reg c = c.from_residual.ensures ∙ sym (register_row_none c.args.s.now c.args.at c.args.b (sym c.in_err-reg.ensures))
-
-pub overflow_cast-reg : goal.overflow_cast-reg
-overflow_cast-reg c = record { fits = omega (arith, register_small c.args.s.now c.args.at (sym c.in_ok-reg.ensures)) }
 
 pub returns : goal.returns
 returns c = rw c.register_row.ensures (sym (register_row_some c.args.s.now c.args.at (sym c.in_ok-reg.ensures) c.args.b))
