@@ -175,6 +175,7 @@ pub fn size(z: i64) -> u64
 }
 
 // A multiple of the word.
+#[tactic(auto, unfolding(format::specs::Rows::whole))]
 fn multiple(word: u64, z: i64) -> bool
     requires { 0 < word }
     ensures { result ≡ whole word z }
@@ -226,6 +227,7 @@ pub fn row_whole(word: u64, r: Row) -> bool
 }
 
 // A multiple of the word, without a division by a variable.
+#[tactic(auto, unfolding(format::specs::Machine::is_word_size))]
 fn in_words(word: u64, off: u64) -> bool
     requires { T (is_word_size word) }
     ensures { result ≡ eqb (off % word) 0 }
@@ -254,6 +256,7 @@ fn numbers_whole(word: u64, kind: u64, reg: u64, off: u64) -> bool
 }
 
 // The same of row i.
+#[tactic(auto, unfolding(format::specs::Lists::row_at, format::specs::Lists::row_ok_at))]
 pub fn row_surely_whole(word: u64, rows: &[u64], i: usize) -> bool
     requires { T (is_word_size word) × (4 * i + 4 ≤ length rows.now) × T (row_ok_at rows.now i) }
     ensures { result ≡ true → row_whole word (row_at rows.now i).1 ≡ true }
@@ -561,6 +564,7 @@ fn operation_of(out: &mut [u8], at: usize, word: u64, kind: u64, reg: u64, off: 
 }
 
 // The operation of row i.
+#[tactic(auto, unfolding(format::specs::Lists::row_at, format::specs::Lists::row_ok_at))]
 pub fn row_in(out: &mut [u8], at: usize, word: u64, rows: &[u64], i: usize) -> usize
     requires { (2 ≤ word) × (word ≤ 8) × (4 * i + 4 ≤ length rows.now) × T (row_ok_at rows.now i) × (at + length (row_bytes word (row_at rows.now i).1) ≤ length out.old) }
     ensures { Wrote out.old out.new at result (row_bytes word (row_at rows.now i).1) }
@@ -659,6 +663,7 @@ fn numbers_size(word: u64, kind: u64, reg: u64, off: u64) -> usize
 }
 
 // That of row i.
+#[tactic(auto, unfolding(format::specs::Lists::row_at, format::specs::Lists::row_ok_at))]
 pub fn row_in_size(word: u64, rows: &[u64], i: usize) -> usize
     requires { (2 ≤ word) × (word ≤ 8) × (4 * i + 4 ≤ length rows.now) × T (row_ok_at rows.now i) }
     ensures { result ≡ length (row_bytes word (row_at rows.now i).1) }
