@@ -182,7 +182,7 @@ module _ {whole : Lines} {header : Bool} {word q : ℕ} {initial : Rule} {ops : 
           near_step l w g =
               record {
                 near = omega (arith, n.near);
-                  first = n.first;
+                first = n.first;
                 first_is = n.first_is;
                 all = n.all;
                 seen = n.seen;

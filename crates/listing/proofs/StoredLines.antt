@@ -14,7 +14,7 @@ use Rattle.format.specs.declared.CfaRule.TheVariants.{Unset, Register}
 use Rattle.format.specs.declared.Rule.{Rule}
 use Rattle.format.specs.declared.Rule.TheVariants as rule
 use Rattle.format.specs.declared.Rules.{Rules}
-use Rattle.std.specs.Prelude.{Ok, Err}
+use Rattle.std.specs.Prelude.{Ok}
 use Rattle.format.specs.Rules.{State, rules_for}
 use Rattle.format.proofs.Choice.{either}
 use Rattle.format.proofs.Wrote.{Wrote}

@@ -1,6 +1,6 @@
 -- A function's fields and its address: readers at positions, and sums modulo the word's bits.
 use Rattle.std.proofs.Common.{◌≡◌, ℕ, suc, ◌+◌, ◌-◌, ◌*◌, ◌%◌, ◌^◌, ◌<◌, ◌≤◌, Bool, true, false, ◌&&◌, ◌||◌, T, eqb, ltb, leb, List, sym, refl, ap, ◌∙◌, ⊎_elim, arith, pow-add}
-use mathlib.Core.Option.{Option, none, some}
+use mathlib.Core.Option.{Option}
 use native.Mathlib.Nat.{mod-add-mod, mod-mod_of_dvd, dvd-mul_left}
 use borrow.Author.Tests.{le-leb, lt-leb}
 use mir.Facts.{or_yes, eqb_yes}
@@ -18,13 +18,12 @@ use Rattle.operations.proofs.PositionLaws.{little_rest, little_none}
 use Rattle.reader.proofs.Recorded.{field_small}
 use Rattle.reader.specs.Spans.{part, entry_in}
 use Rattle.reads.specs.Addresses.{function_fields, sdata4, start_of, function_of, function_found, placed_as, function_at, record_of, holder_as, holder_in, holds}
-use Rattle.format.specs.Prelude.{Result, bad, or_else}
+use Rattle.format.specs.Prelude.{or_else}
 use Rattle.format.specs.Coded.{option_of, result_of}
 use Rattle.std.specs.Prelude.{Some, None, Ok, Err}
 use Rattle.std.specs.Prelude as code
 use Rattle.std.specs.Option.{ok_or}
 use Rattle.reader.proofs.Seeking.{number_is, number_none}
-use Rattle.reads.specs.declared.Placed.{Placed}
 
 -- ---- the fields
 

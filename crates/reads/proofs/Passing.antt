@@ -1,7 +1,7 @@
 -- A pass over the entries of a section that is tiled: what is asked of all of them goes on in those from a position on.
 use Rattle.std.proofs.Common.{◌≡◌, ℕ, ◌+◌, ◌≤◌, Bool, true, false, T, List, [], ◌∷◌, length, refl, ap, ◌∙◌, add-one, arith}
 use mathlib.Core.Option.{Option, none, some}
-use Rattle.format.specs.Prelude.{pick, bad, onward, or_else}
+use Rattle.format.specs.Prelude.{pick, onward, or_else}
 use Rattle.format.specs.Questions.{is_some}
 use Rattle.format.specs.Reader.{Entry, is_header, records, entries}
 use Rattle.reader.specs.Spans.{entry_in, entries_from, listed, Ends}

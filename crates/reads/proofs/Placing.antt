@@ -7,7 +7,6 @@ use Rattle.format.specs.Prelude.{pick, next, Result, bad, onward, or_else}
 use Rattle.format.specs.Machine.{is_word_size}
 use Rattle.format.specs.Questions.{is_some}
 use Rattle.format.specs.Lists.{Relocation, relocations_of}
-use Rattle.format.specs.Answers.{bit}
 use Rattle.format.specs.Reader.{Entry, Found, read_entry, entries, records, parsed}
 use Rattle.reader.specs.Spans.{part, entry_in, listed, Stands, Spans}
 use Rattle.reader.specs.Finds.{Stated}
@@ -23,7 +22,7 @@ use Rattle.reader.specs.Finds.{rules_from, shortest_from}
 use Rattle.reader.proofs.Tiling.{entered, none_read}
 use Rattle.reads.specs.Addresses.{entry_at}
 use Rattle.reads.specs.Index.{locate_in, locate_at}
-use Rattle.reads.specs.Places.{reader_places, rules_of, asked, end_of, operations_at, places_of, refused, located_as, locate_entries, header_of, locate_nth, locate_record}
+use Rattle.reads.specs.Places.{reader_places, rules_of, asked, end_of, operations_at, places_of, located_as, locate_entries, header_of, locate_nth, locate_record}
 use Rattle.reads.specs.declared.Located.{Located}
 
 -- ---- 11

@@ -3,7 +3,7 @@ use Rattle.std.specs.Prelude.{ℕ, suc, ◌+◌, ◌-◌, ◌*◌, ◌%◌, ◌^
 use Rattle.std.specs.Prelude as code
 use Rattle.format.specs.Coded.{result_of}
 use Rattle.std.proofs.Math.Option.{Option, none, some}
-use Rattle.format.specs.Prelude.{pick, next, after, Result, good, bad, onward, or_else}
+use Rattle.format.specs.Prelude.{pick, next, after, Result, bad, onward, or_else}
 use Rattle.format.specs.Leb.{read_little}
 use Rattle.format.specs.Reader.{Entry, read_entry, is_header, records, entries, require}
 use Rattle.reads.specs.Places.{asked}

@@ -74,16 +74,21 @@ fn addend_from(relocs: &[u64], place: u64, from: usize) -> Option<usize>
     let n = relocs.len() / relocs::RELOCATION_STRIDE;
     for i in from..n {
         if relocs[relocs::RELOCATION_STRIDE * i] == place {
-            return Some(
-                relocs[relocs::RELOCATION_STRIDE * i + relocs::RELOCATION_ADDEND] as usize,
-            );
+            return Some(relocs[relocs::RELOCATION_STRIDE * i + relocs::RELOCATION_ADDEND] as usize);
         }
     }
     None
 }
 
 // Where the header of the record from `at` to `end` starts, as its second field says or, in debug_frame, that field's relocation.
-fn header_place(s: &[u8], relocs: &[u64], debug: bool, at: usize, end: usize, from: usize) -> Option<usize>
+fn header_place(
+    s: &[u8],
+    relocs: &[u64],
+    debug: bool,
+    at: usize,
+    end: usize,
+    from: usize,
+) -> Option<usize>
     requires { (at + 8 ≤ end) × (end ≤ length s.now) × Searching relocs.now (at + 4) from }
     ensures { result ≡ option_of (header_place debug (relocations_of relocs.now) (entry_in s.now at end)) }
 {

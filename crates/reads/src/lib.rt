@@ -281,11 +281,5 @@ pub extern "C" fn unwind_locate_at(
     if !asked(kind, word) {
         return answer_located(Err(11));
     }
-    answer_located(places::locate_at(
-        section,
-        kind == 1,
-        word,
-        record as usize,
-        header as usize,
-    ))
+    answer_located(places::locate_at(section, kind == 1, word, record as usize, header as usize))
 }
