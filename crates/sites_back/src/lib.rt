@@ -2,11 +2,12 @@
 #![tactic(auto)]
 
 ghost use Rattle.std.specs.Prelude.{◌≡◌};
+ghost use Rattle.format.specs.Coded.{option_of};
 ghost use Rattle.format.specs.Lists.{relocations_of};
 ghost use Rattle.format.specs.Questions.{relaxed_table, given_of, room_in};
 ghost use Rattle.format.specs.Answers.{Writes};
 ghost use Rattle.call_sites.specs.Reads.{marked_of};
-ghost use Rattle.sites_back.specs.Back.{table_place, place_in, ReadBack};
+ghost use Rattle.sites_back.specs.Back.{table_place, ReadBack};
 
 use call_sites::Site;
 use format::{Counts, Refusal};

@@ -1,12 +1,7 @@
 -- `sites_back::table_place` meets its contract.
-use mathlib.Core.Path.{sym, subst, ◌∙◌}
+use mathlib.Core.Path.{sym, ◌∙◌}
 use native.Mathlib.Omega.{arith}
-use mathlib.Core.Bool.{false}
-use lib.ListN.{get_elem?}
-use Rattle.format.specs.Reader.{entries, records}
-use Rattle.reader.specs.Spans.{listed, Spans}
-use Rattle.reader.specs.declared.entries.Span.{Span}
-use Rattle.sites_back.proofs.Places.{untiled, no_record, no_pointer, pointer_there}
+use Rattle.sites_back.proofs.Places.{untiled, no_record, pointer}
 use Rattle.sites_back.proofs.table_place.Goals as goal
 
 pub returns-then-not-tiles : goal.returns-then-not-tiles
@@ -15,14 +10,14 @@ returns-then-not-tiles c = let a = c.args in untiled a.section.now _ a.k (sym c.
 pub record_span-requires : goal.record_span-requires
 record_span-requires c = rw (sym c.tiles.ensures ∙ c.if-not-tiles.false) tt
 
-pub returns-in_default : goal.returns-in_default
-returns-in_default c = let a = c.args in no_record a.section.now _ a.k (subst (λ (x : Span). Spans c.args.section.now x (get_elem? (records false (listed (entries c.args.section.now))) c.args.k)) c.in_default.is c.record_span.ensures)
+pub returns-in_err-at : goal.returns-in_err-at
+returns-in_err-at c = rw c.from_residual.ensures (no_record _ _ _ c.in_err-at.ensures)
 
 pub overflow_add-at : goal.overflow_add-at
-overflow_add-at c = let t = subst (λ (x : Span). Spans c.args.section.now x (get_elem? (records false (listed (entries c.args.section.now))) c.args.k)) c.in-At.is c.record_span.ensures in omega (arith, t.long, t.inside)
+overflow_add-at c = let t = c.in_ok-at.ensures in record { fits = omega (arith, t.long, t.inside) }
 
-pub returns-in_default-first_addend : goal.returns-in_default-first_addend
-returns-in_default-first_addend c = let a = c.args in no_pointer a.section.now _ a.k (subst (λ (x : Span). Spans c.args.section.now x (get_elem? (records false (listed (entries c.args.section.now))) c.args.k)) c.in-At.is c.record_span.ensures) c.first_addend.ensures c.in_default-first_addend.is
+pub returns-in_err-place : goal.returns-in_err-place
+returns-in_err-place c = rw c.from_residual-in_err-place.ensures (sym c.in_err-place.was ∙ pointer _ _ _ c.in_ok-at.ensures c.first_addend.ensures)
 
 pub returns : goal.returns
-returns c = let a = c.args in pointer_there a.section.now _ a.k (subst (λ (x : Span). Spans c.args.section.now x (get_elem? (records false (listed (entries c.args.section.now))) c.args.k)) c.in-At.is c.record_span.ensures) c.first_addend.ensures c.in-Is.is
+returns c = sym c.in_ok-place.was ∙ pointer _ _ _ c.in_ok-at.ensures c.first_addend.ensures

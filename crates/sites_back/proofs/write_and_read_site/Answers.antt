@@ -1,6 +1,9 @@
 -- `sites_back::write_and_read_site` meets its contract.
-use mathlib.Core.Path.{sym}
+use mathlib.Core.Path.{sym, ap, ◌∙◌}
+use Prim.Native.Nat.{◌-◌, ◌^◌}
+use Rattle.std.specs.Prelude.{unwrap_or}
 use lib.Seq.{length-take-le}
+use Rattle.sites_back.proofs.Places.{place_or}
 use Rattle.sites_back.proofs.Together.{front_of, together}
 use Rattle.sites_back.proofs.write_and_read_site.Goals as goal
 
@@ -18,5 +21,5 @@ returns c =
     let w = c.relaxed_table-outcome.ensures in
     record {
       writes = w;
-      read_back = together _ _ _ _ _ w _ _ c.bytes_in-n.ensures c.numbers_in-m.ensures c.table_place-place.ensures c.unwind_call_site-site.ensures;
+      read_back = together _ _ _ _ _ w _ _ c.bytes_in-n.ensures c.numbers_in-m.ensures (c.unwrap_or-place.ensures ∙ (ap (λ o. unwrap_or o (2 ^ 64 - 1)) c.table_place.ensures ∙ place_or _)) c.unwind_call_site-site.ensures;
     }
