@@ -17,7 +17,3 @@ module _ (h : Header) where
   pub scopes_all : h.single ≡ false → scopes_in h ≡ h.count
   unfolding scopes_in
   scopes_all e = when_false h.single 0 h.count e
-
-  pub scopes_none : h.single ≡ true → scopes_in h ≡ 0
-  unfolding scopes_in
-  scopes_none e = when_true h.single 0 h.count e
