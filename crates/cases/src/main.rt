@@ -6,7 +6,7 @@ ghost use Rattle.std.specs.Prelude.{◌+◌, ◌≤◌, ◌<◌, length, IfOk};
 ghost use Rattle.cases.specs.Total.{total};
 
 use format::{Counts, Refusal};
-use operations::fields::{Position, Unsigned, read_le, read_uleb};
+use operations::fields::{Position, read_uleb};
 use std::io;
 use std::io::Read;
 
@@ -15,10 +15,9 @@ const NUMBER: u64 = 11936128518282651045;
 
 const BYTE: u8 = 165;
 
-// What a list turned out to be; that none is left; or that the rest cannot be read.
-#[derive(Clone, Copy)]
-enum Step {
-    End,
+// What a list turned out to be, or that it cannot be read.
+#[derive(Clone, Copy, PartialEq, Eq)]
+enum Kind {
     Broken,
     Accepted,
     Refused,
@@ -35,59 +34,28 @@ struct Sums {
     different: u64,
 }
 
-// The elements of a counted list.
-#[derive(Clone, Copy)]
-struct Range {
-    from: usize,
-    to: usize,
+// The counted list at the front, and what stands behind it; nothing where it is cut off.
+fn counted(part: &[u64]) -> (&[u64], &[u64]) {
+    let Some((count, behind)) = part.split_first() else {
+        return (&[], &[]);
+    };
+    behind
+        .split_at_checked(*count as usize)
+        .unwrap_or((&[], &[]))
 }
 
-// The list whose count stands at `at`; none where it is cut off.
-fn counted(part: &[u64], at: usize) -> Range
-    ensures { (result.from ≤ result.to) × (result.to ≤ length part.now) }
-{
-    if part.len() <= at {
-        return Range {
-            from: part.len(),
-            to: part.len(),
-        };
+// What stands behind k lists, which stand behind two numbers.
+fn behind(part: &[u64], k: usize) -> &[u64] {
+    let mut rest = part.get(2..).unwrap_or(&[]);
+    for _ in 0..k {
+        rest = counted(rest).1;
     }
-    let from = at + 1;
-    let count = part[at] as usize;
-    if part.len() - from < count {
-        return Range {
-            from: part.len(),
-            to: part.len(),
-        };
-    }
-    Range {
-        from,
-        to: from + count,
-    }
-}
-
-// Where list k starts, in two numbers with lists behind them.
-fn start(part: &[u64], k: u64) -> usize
-    ensures { result ≤ length part.now }
-{
-    if part.len() < 2 {
-        return part.len();
-    }
-    let mut at = 2;
-    let mut left = k;
-    while 0 < left {
-        at = counted(part, at).to;
-        left -= 1;
-    }
-    at
+    rest
 }
 
 // List k of two numbers with lists behind them.
-fn list(part: &[u64], k: u64) -> &[u64] {
-    let r = counted(part, start(part, k));
-    let from = r.from;
-    let to = r.to;
-    &part[from..to]
+fn list(part: &[u64], k: usize) -> &[u64] {
+    counted(behind(part, k)).0
 }
 
 // The numbers of a block, and how many they are; none where a byte is left over.
@@ -100,7 +68,7 @@ fn decode(s: &[u8], numbers: &mut [u64]) -> usize
         if numbers.len() <= k {
             return 0;
         }
-        let Unsigned::Value(v, past) = read_uleb(s, at) else {
+        let Some((v, past)) = read_uleb(s, at) else {
             return 0;
         };
         numbers[k] = v;
@@ -112,37 +80,32 @@ fn decode(s: &[u8], numbers: &mut [u64]) -> usize
 
 // Element i of a list, or the other number behind its end.
 fn element(list: &[u64], i: usize, other: u64) -> u64 {
-    if i < list.len() { list[i] } else { other }
+    list.get(i).copied().unwrap_or(other)
 }
 
 // Whether a buffer holds these numbers, and behind them what it held before.
 fn same_numbers(found: &[u64; 4000], list: &[u64]) -> bool {
-    for i in 0..4000 {
-        if found[i] != element(list, i, NUMBER) {
-            return false;
-        }
-    }
     list.len() <= 4000
+        && found
+            .iter()
+            .enumerate()
+            .all(|(i, n)| *n == element(list, i, NUMBER))
 }
 
 fn same_bytes(found: &[u8; 4000], list: &[u64]) -> bool {
-    for i in 0..4000 {
-        if leb::wide(found[i]) != element(list, i, leb::wide(BYTE)) {
-            return false;
-        }
-    }
     list.len() <= 4000
+        && found.iter().enumerate().all(|(i, b)| u64::from(*b) == element(list, i, u64::from(BYTE)))
 }
 
 // What the fixed answer is: its number is not 0 in a refusal, and an empty answer has no results.
-fn kind(answer: &[u64]) -> Step {
+fn kind_of(answer: &[u64]) -> Kind {
     if element(answer, 0, 0) != 0 {
-        return Step::Refused;
+        return Kind::Refused;
     }
     if answer.len() <= 6 {
-        return Step::Empty;
+        return Kind::Empty;
     }
-    Step::Accepted
+    Kind::Accepted
 }
 
 // Whether these are the counts of the fixed results.
@@ -272,7 +235,7 @@ fn ask(
     )
 }
 
-fn replay(rt: &impl Print, index: u64, numbers: &[u64]) -> io::Result<Step> {
+fn replay(rt: &impl Print, index: u64, numbers: &[u64]) -> io::Result<Kind> {
     let mut places = [NUMBER; 4000];
     let mut bytes = [BYTE; 4000];
     let mut relocations = [NUMBER; 4000];
@@ -284,8 +247,7 @@ fn replay(rt: &impl Print, index: u64, numbers: &[u64]) -> io::Result<Step> {
         &mut relocations,
         &mut sites,
     );
-    let at = start(numbers, 6);
-    let answer = &numbers[at..];
+    let answer = behind(numbers, 6);
     if compare(
         rt,
         index,
@@ -296,18 +258,18 @@ fn replay(rt: &impl Print, index: u64, numbers: &[u64]) -> io::Result<Step> {
         &relocations,
         &sites,
     )? {
-        return Ok(kind(answer));
+        return Ok(kind_of(answer));
     }
-    Ok(Step::Different)
+    Ok(Kind::Different)
 }
 
-fn broken(rt: &impl Print, index: u64) -> io::Result<Step> {
+fn broken(rt: &impl Print, index: u64) -> io::Result<Kind> {
     report(rt, index, "no block", false)?;
-    Ok(Step::Broken)
+    Ok(Kind::Broken)
 }
 
 // The block of this size that is next on the input.
-fn block(rt: &impl Print, input: &mut impl Read, index: u64, size: usize) -> io::Result<Step>
+fn block(rt: &impl Print, input: &mut impl Read, index: u64, size: usize) -> io::Result<Kind>
     requires { size ≤ 60000 }
 {
     let mut bytes = [0u8; 60000];
@@ -323,58 +285,37 @@ fn block(rt: &impl Print, input: &mut impl Read, index: u64, size: usize) -> io:
 }
 
 // The next block, behind its size in 4 bytes. A size of 0 ends the input.
-fn next(rt: &impl Print, input: &mut impl Read, index: u64) -> io::Result<Step> {
+fn next(rt: &impl Print, input: &mut impl Read, index: u64) -> io::Result<Option<Kind>> {
     let mut head = [0u8; 4];
     if input.read_exact(&mut head).is_err() {
-        return broken(rt, index);
+        return Ok(Some(broken(rt, index)?));
     }
-    let Unsigned::Value(size, _) = read_le(&head, Position::START, 4) else {
-        return broken(rt, index);
-    };
+    let size = u32::from_le_bytes(head);
     if size == 0 {
-        return Ok(Step::End);
+        return Ok(None);
     }
     if 60000 < size {
-        return broken(rt, index);
+        return Ok(Some(broken(rt, index)?));
     }
-    block(rt, input, index, size as usize)
-}
-
-fn is_last(step: Step) -> bool {
-    match step {
-        Step::End | Step::Broken => true,
-        Step::Accepted | Step::Refused | Step::Empty | Step::Different => false,
-    }
+    Ok(Some(block(rt, input, index, size as usize)?))
 }
 
 // The sums with one list more.
-fn add(s: Sums, step: Step) -> Sums
+fn add(s: Sums, kind: Kind) -> Sums
     requires { total s < 1000000 }
     ensures { total result ≤ total s + 1 }
 {
     let mut r = s;
-    match step {
-        Step::End => r,
-        Step::Accepted => {
-            r.accepted += 1;
-            r
-        }
-        Step::Refused => {
-            r.refused += 1;
-            r
-        }
-        Step::Empty => {
-            r.empty += 1;
-            r
-        }
-        Step::Different | Step::Broken => {
-            r.different += 1;
-            r
-        }
+    match kind {
+        Kind::Accepted => r.accepted += 1,
+        Kind::Refused => r.refused += 1,
+        Kind::Empty => r.empty += 1,
+        Kind::Different | Kind::Broken => r.different += 1,
     }
+    r
 }
 
-// Every block of the input.
+// Every block of the input, up to one that cannot be read.
 fn all(rt: &impl Print, input: &mut impl Read) -> io::Result<Sums>
     ensures { IfOk result (λ sums. total sums ≤ 1000000) }
 {
@@ -384,14 +325,14 @@ fn all(rt: &impl Print, input: &mut impl Read) -> io::Result<Sums>
         empty: 0,
         different: 0,
     };
-    let mut index = 0u64;
-    while index < 1000000 {
-        let step = next(rt, input, index)?;
-        sums = add(sums, step);
-        if is_last(step) {
+    for index in 0..1000000 {
+        let Some(kind) = next(rt, input, index)? else {
+            return Ok(sums);
+        };
+        sums = add(sums, kind);
+        if kind == Kind::Broken {
             return Ok(sums);
         }
-        index += 1;
     }
     Ok(sums)
 }
