@@ -45,10 +45,6 @@ header_relocs_any debug m at e rows = relocs_head m e rows debug at ∙ sym (rel
 
 -- by the code's tests
 module _ (debug : Bool) (e : Extent) (eh : debug ≡ false) where
-  pub count_plain : e.landings ≡ 0 → e.personality ≡ false → header_reloc_count debug e ≡ 0
-  unfolding header_reloc_count flag pick
-  count_plain l p = rw (eh, eq-eqb e.landings 0 l, p)
-
   pub count_personal : e.landings ≢ 0 → header_reloc_count debug e ≡ 1
   unfolding header_reloc_count pick
   count_personal l = rw (eh, ne_eqb e.landings 0 l)

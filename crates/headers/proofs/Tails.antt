@@ -9,8 +9,8 @@ use lib.ListN.{length, length-append, length-replicate}
 use lib.IntN.{pos, neg_ℤ, ◌-ℤ◌, +ℤ_idl}
 use lib.Signed.{mag}
 use mir.Syntax.{w64}
-use mir.Val.{SFits, of_z, to_z}
-use mir.Facts.{to_z-of_z, to_z_pos}
+use mir.Val.{SFits, to_z}
+use mir.Facts.{to_z_pos}
 use Rattle.format.specs.Prelude.{pick}
 use Rattle.format.specs.Leb.{little, uleb_f, uleb}
 use Rattle.format.specs.declared.Machine.{Machine}
@@ -36,9 +36,6 @@ module _ (word : ℕ) (h : word ≤ 8) where
   pub factor_fits : SFits w64 (pos 0 -ℤ to_z w64 word)
   unfolding data_factor
   factor_fits = rw factor_value (record { sfits = neg_small word h })
-
-  pub factor_is : to_z w64 (of_z w64 (pos 0 -ℤ to_z w64 word)) ≡ data_factor word
-  factor_is = to_z-of_z factor_fits ∙ factor_value
 
 -- ---- the tails of the kinds
 

@@ -1,7 +1,6 @@
 -- What a test in the code says of a definition's test.
 use mathlib.Core.Path.{◌≡◌, sym, ◌∙◌}
-use Prim.Native.Nat.{ℕ, ◌+◌, ◌-◌, ◌≤◌, ◌<◌}
-use native.Mathlib.Omega.{arith}
+use Prim.Native.Nat.{ℕ, ◌+◌, ◌≤◌, ◌<◌}
 use mathlib.Core.Bool.{Bool, true, false, not}
 use borrow.Author.Tests.{le-leb, lt-leb, leb-true, not-true, not-false}
 use lib.Dec.{leb}
@@ -19,15 +18,7 @@ accepted {r} e t = sym e ∙ not-false r t
 pub refused : {r x : Bool} → r ≡ x → not r ≡ true → x ≡ false
 refused {r} e t = sym e ∙ not-true r t
 
--- a range that starts past its list, and one that is held to what is left of it
-pub far : (at n size : ℕ) → size < at → inside at n size ≡ false
-unfolding inside
-far at n size h = lt-leb (at + n) size (omega arith)
-
-pub near : (at n size : ℕ) → at ≤ size → leb n (size - at) ≡ inside at n size
-unfolding inside
-near at n size h = same_leb n (size - at) (at + n) size (λ l. omega arith) (λ l. omega arith)
-
+-- a range inside its list ends in it
 pub reached : (at n size : ℕ) → inside at n size ≡ true → at + n ≤ size
 unfolding inside
 reached at n size e = leb-true (at + n) size e

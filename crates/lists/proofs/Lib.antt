@@ -1,7 +1,6 @@
 -- The lemmas of this crate's functions.
 pub mod Answers
 pub mod Ranges
-pub mod Codes
 pub mod Sums
 pub mod Machines
 pub mod Extents

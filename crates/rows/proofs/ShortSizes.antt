@@ -1,7 +1,6 @@
 -- The size of a row's operation out of the row's numbers, where the register has a byte at most and the second operand two.
 use mathlib.Core.Path.{◌≡◌, refl, sym, ap, subst, ◌∙◌}
 use mathlib.Core.List.{List, [], ◌∷◌}
-use mathlib.Core.Logic.{◌≢◌}
 use Prim.Native.Nat.{ℕ, zero, suc, ◌+◌, ◌-◌, ◌*◌, ◌/◌, ◌%◌, ◌^◌, ◌≤◌, ◌<◌}
 use native.Mathlib.Omega.{arith}
 use native.Mathlib.Nat.{div-add-mod', mul-le-mul_right, mod-lt, div-le_self, zero-mul}
@@ -14,7 +13,7 @@ use Rattle.format.specs.Prelude.{pick}
 use Rattle.format.specs.Leb.{uleb}
 use Rattle.format.specs.Lists.{row_of, row_ok, has_register, has_offset, second_operands}
 use Rattle.format.specs.Rows.{factor, cfa_bytes, saved_bytes, row_bytes}
-use Rattle.format.proofs.Choice.{if-le, if-gt, if-eq, if-ne, either}
+use Rattle.format.proofs.Choice.{if-le, if-gt, either}
 use Rattle.format.proofs.LebSteps.{uleb_last, uleb_more}
 use Rattle.format.proofs.ListLaws.{chained, row_numbers}
 use Rattle.rows.specs.Sizes.{short_size, scaled, second_byte}
@@ -114,10 +113,6 @@ kinds P p0 p1 p2 p3 p4 p5 p6 p7 p8 p9 p10 (suc (suc (suc (suc (suc (suc (suc (su
 kinds P p0 p1 p2 p3 p4 p5 p6 p7 p8 p9 p10 (suc (suc (suc (suc (suc (suc (suc (suc (suc (suc zero)))))))))) h = p10
 kinds P p0 p1 p2 p3 p4 p5 p6 p7 p8 p9 p10 (suc (suc (suc (suc (suc (suc (suc (suc (suc (suc (suc k))))))))))) h = absurd (omega arith)
 
-pub no_kind : (k : ℕ) → k ≤ 10 → k ≢ 0 → k ≢ 1 → k ≢ 2 → k ≢ 3 → k ≢ 4 → k ≢ 5 → k ≢ 6 → k ≢ 7 → k ≢ 8 → k ≢ 9 → k ≢ 10 → ⊥
-no_kind k h n0 n1 n2 n3 n4 n5 n6 n7 n8 n9 n10 =
-    kinds (λ m. (k ≡ m) → ⊥) n0 n1 n2 n3 n4 n5 n6 n7 n8 n9 n10 k h refl
-
 -- a row is sized by its numbers
 Sized : (w reg off kind : ℕ) → Type 0
 Sized w reg off kind =
@@ -179,19 +174,3 @@ module _ (w reg off : ℕ) (lo : 2 ≤ w) (hi : w ≤ 8) (r : reg ≤ 63) where
       rw (p, q, e) (sym (s t (rw (← e) h)))
 
 -- ---- the code's parts
-
-pub scaled_saved : (w kind off : ℕ) → kind ≡ 3 → (4294967296 - off) % 4294967296 ≡ scaled w kind off
-unfolding scaled
-scaled_saved w kind off e = sym (if-eq {X = ℕ} kind 3 _ _ e)
-
-pub scaled_plain : (w kind off : ℕ) → (kind ≡ 3 → ⊥) → off * w ≡ scaled w kind off
-unfolding scaled
-scaled_plain w kind off n = sym (if-ne {X = ℕ} kind 3 _ _ n)
-
-pub byte_none : (w y : ℕ) → y < 128 * w → 0 ≡ second_byte w y
-unfolding second_byte
-byte_none w y h = sym (if-le {X = ℕ} (suc y) (128 * w) 0 1 h)
-
-pub byte_more : (w y : ℕ) → 128 * w ≤ y → 1 ≡ second_byte w y
-unfolding second_byte
-byte_more w y h = sym (if-gt {X = ℕ} (suc y) (128 * w) 0 1 (omega arith))

@@ -20,12 +20,6 @@ use Rattle.format.proofs.ListLaws.{row_numbers}
 
 -- ---- offsets
 
-pub word_left : (w : ℕ) → T (is_word_size w) → (w ≡ 8 → ⊥) → (w ≡ 4 → ⊥) → w ≡ 2
-unfolding is_word_size
-word_left w t a b =
-    ⊎_elim (λ u. ⊎_elim (λ v. eqb_yes v) (λ v. absurd (b (eqb_yes v))) (or_yes (eqb w 2) (eqb w 4) u)) (λ u. absurd (a (eqb_yes u)))
-    (or_yes (eqb w 2 || eqb w 4) (eqb w 8) t)
-
 -- a word has two bytes at least
 pub word_least : (w : ℕ) → T (is_word_size w) → 2 ≤ w
 unfolding is_word_size
