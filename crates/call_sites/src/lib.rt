@@ -47,6 +47,7 @@ fn search(s: &[u8], offset: u64) -> Result<Option<Entry>, u64>
 {
     let mut at = Position::START;
     let mut found = None;
+    // Kept: a while, since what was read says where the next stands; the position is the cursor.
     while at.at < s.len() {
         let Some((entry, past)) = entry_at(s, at) else {
             return Err(72);
@@ -105,6 +106,7 @@ fn every_short(s: &[u8]) -> bool
     ensures { result ≡ every_short s.now }
 {
     let mut at = Position::START;
+    // Kept: a while, since what was read says where the next stands; the position is the cursor.
     while at.at < s.len() {
         let Some((_, past)) = read_uleb(s, at) else {
             return false;
@@ -135,6 +137,7 @@ fn table_short(sites: &[u8], place: u64, table: Table) -> bool
 // ---- the answer
 
 // What unwind_call_site answers.
+// Kept: a number, and 0 or 1 for what may be missing, since C reads it.
 #[repr(C)]
 #[derive(Clone, Copy)]
 pub struct Site {

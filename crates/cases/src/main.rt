@@ -64,6 +64,7 @@ fn decode(s: &[u8], numbers: &mut [u64]) -> usize
 {
     let mut at = Position::START;
     let mut k = 0;
+    // Kept: a while, since what was read says where the next stands; the position is the cursor.
     while at.at < s.len() {
         if numbers.len() <= k {
             return 0;

@@ -82,6 +82,7 @@ fn mark_all(ops: &[u8], word: u64, start: Marks) -> Marks
 {
     let mut m = start;
     let mut at = Position::START;
+    // Kept: a while, since what was read says where the next stands; the position is the cursor.
     while at.at < ops.len() {
         let Some((op, next)) = operations::operation(ops, at, word) else {
             return m;
@@ -318,6 +319,7 @@ fn recorded(
 }
 
 // What `unwind_walk` answers: 0 or a refusal's number, the count of frames that are stored, and why the walk ended.
+// Kept: a number and fields that are 0 where it refuses, since C reads it.
 #[repr(C)]
 #[derive(Clone, Copy)]
 pub struct Answer {

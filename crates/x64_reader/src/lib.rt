@@ -140,6 +140,7 @@ fn count(s: &[u8], frame: u64) -> Option<(usize, bool)>
     let mut at = Position::START;
     let mut n = 0usize;
     let mut framed = false;
+    // Kept: a while, since what was read says where the next stands; the position is the cursor.
     while at.at < s.len() {
         let code = code_at(s, at, frame)?;
         framed = or_frame(framed, code.fields.kind);
@@ -167,6 +168,7 @@ fn store(s: &[u8], frame: u64, n: usize, codes: &mut [u64])
 {
     let mut at = Position::START;
     let mut left = n;
+    // Kept: a while, since what was read says where the next stands; the position is the cursor.
     while at.at < s.len() {
         let Some(code) = code_at(s, at, frame) else {
             return;
@@ -209,6 +211,7 @@ fn header_at(info: &[u8], place: u64) -> Option<Header>
 }
 
 // What unwind_read_x64 answers.
+// Kept: a number and fields that are 0 where it refuses, since C reads it.
 #[repr(C)]
 #[derive(Clone, Copy)]
 pub struct X64Reading {
