@@ -7,7 +7,7 @@ use mathlib.Core.List.{List, [], ◌∷◌}
 use lib.Dec.{T, leb, leb→le}
 use lib.ListN.{get_or}
 use borrow.Author.Tests.{eq-eqb, ne_eqb}
-use Rattle.std.specs.Prelude.{Some, None, Ok, Err}
+use Rattle.std.specs.Prelude.{None, Ok, Err}
 use Rattle.format.specs.Coded.{refusal}
 use Rattle.format.specs.Prelude.{pick}
 use Rattle.format.specs.Lists.{field, count, most_functions, most_records, sum_of, inside, symbol_ok, all_in}

@@ -3,24 +3,22 @@ use mathlib.Core.Path.{◌≡◌, refl, sym, ap, ◌∙◌}
 use Prim.Native.Nat.{ℕ, zero, suc, ◌+◌, ◌-◌, ◌*◌, ◌≤◌, ◌<◌}
 use native.Mathlib.Omega.{arith}
 use native.Mathlib.Numerals.{add-one}
-use mathlib.Core.Option.{none, some}
+use mathlib.Core.Option.{Option, none, some}
 use mathlib.Core.List.{List, [], ◌∷◌}
 use lib.ListN.{length, length-append}
 use Rattle.std.specs.Prelude.{Ok, Err}
-use Rattle.format.specs.Coded.{refusal}
+use Rattle.format.specs.declared.Refusal.{Refusal}
 use Rattle.format.specs.Prelude.{pick, each}
 use Rattle.format.specs.Put.{put}
 use Rattle.format.specs.Lists.{numbers_of}
 use Rattle.format.specs.Questions.{and_then, per_function}
 use Rattle.format.specs.Writer.{joined}
 use Rattle.format.proofs.Accepted.{both}
-use Rattle.format.proofs.Asked.{question_of}
-use Rattle.format.proofs.Choice.{if-eq, if-ne}
+use Rattle.format.proofs.Asked.{question_of, said_yes}
 use Rattle.format.proofs.ListLaws.{each-length, numbers_length, numbers_append, each_next, each_none}
 use Rattle.format.proofs.Wrote.{Wrote}
 use Rattle.arm64.specs.Lists.{Function}
 use Rattle.arm64.specs.Writer.{function_asks, is_packed, row_bytes, row_relocs, info_of, no_record, markers_from, rows_of, relocs_from, infos_of}
-use Rattle.arm64_function.specs.Listed.{asks}
 use Rattle.arm64_table.specs.Tables.{reloc_count, mark_by}
 use Rattle.arm64_table.proofs.Rows.{row_length, mark_is, relocs_count}
 use Rattle.arm64_table.proofs.Parts.{Counted, counted, count_next, all_counted, Filled, filled, room_for_lem, fill_next, all_filled}
@@ -39,20 +37,24 @@ asking f n =
       rest = let e : n ≡ n - 0 = omega arith in ap (λ (i : ℕ). per_function function_asks 0 (each f 0 i)) e;
     }
 
+first_stops : (o p : Option (ℕ × ℕ)) {r : Refusal} → question_of o ≡ Err r → question_of (and_then o p) ≡ Err r
+unfolding question_of and_then
+first_stops none p e = let z : ◌≡◌ {A = ℕ} 0 1 = cc in absurd (omega arith)
+first_stops (some x) p e = e
+
 module _ {f : ℕ → Function} {n k : ℕ} (a : Asking f n k) where
   asked_here : k < n
       → per_function function_asks 0 (each f 0 n) ≡ and_then (function_asks k (f k)) (per_function function_asks (k + 1) (each f (k + 1) (n - (k + 1))))
   unfolding per_function
   asked_here h = a.rest ∙ rw (each_next f n k h) (rw (add-one k))
 
-  module _ {r : ℕ} (h : k < n) (e : function_asks k (f k) ≡ asks r) where
-    pub answered : r ≡ 0 → Asking f n (k + 1)
-    unfolding asks and_then
-    answered z = record { high = omega arith; rest = asked_here h ∙ rw (e ∙ if-eq r 0 none (some (r, 0)) z) }
+  pub answered : k < n → question_of (function_asks k (f k)) ≡ Ok tt → Asking f n (k + 1)
+  unfolding and_then
+  answered h e = record { high = omega arith; rest = asked_here h ∙ rw (said_yes (function_asks k (f k)) e) refl }
 
-    pub stopped : (r ≡ 0 → ⊥) → Err (refusal r 0) ≡ question_of (per_function function_asks 0 (each f 0 n))
-    unfolding asks and_then question_of
-    stopped z = sym (ap question_of (asked_here h) ∙ rw (e ∙ if-ne r 0 none (some (r, 0)) z))
+  pub stopped : {r : Refusal} → k < n → question_of (function_asks k (f k)) ≡ Err r → Err r ≡ question_of (per_function function_asks 0 (each f 0 n))
+  stopped {r} h e =
+      sym (ap question_of (asked_here h) ∙ first_stops (function_asks k (f k)) (per_function function_asks (k + 1) (each f (k + 1) (n - (k + 1)))) e)
 
   pub all_answered : n ≤ k → Ok tt ≡ question_of (per_function function_asks 0 (each f 0 n))
   unfolding per_function question_of

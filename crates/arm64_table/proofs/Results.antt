@@ -3,10 +3,8 @@ use mathlib.Core.Path.{◌≡◌}
 use Prim.Native.Nat.{ℕ, ◌*◌}
 use mathlib.Core.List.{List}
 use lib.ListN.{length}
-use Rattle.std.specs.Prelude.{Some, None, Ok, Err}
-use Rattle.format.specs.Coded.{refusal}
-use Rattle.std.specs.Prelude.{Ok, Err}
-use Rattle.format.specs.Coded.{refusal}
+use Rattle.std.specs.Prelude.{Some, Ok}
+use Rattle.std.specs.Prelude.{Ok}
 use Rattle.format.specs.Prelude.{each}
 use Rattle.format.specs.Put.{put}
 use Rattle.format.specs.Lists.{numbers_of}

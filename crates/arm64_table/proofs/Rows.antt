@@ -6,6 +6,8 @@ use mathlib.Core.Bool.{Bool, true, false}
 use mathlib.Core.List.{List, [], ◌∷◌, ◌++◌}
 use lib.Dec.{eqb}
 use lib.ListN.{length, replicate, length-append}
+use Rattle.std.specs.Prelude.{Option, Some, None}
+use Rattle.std.specs.Option.{unwrap_or, is_some}
 use Rattle.format.specs.Prelude.{pick}
 use Rattle.format.specs.Constants.{image_reloc}
 use Rattle.format.specs.Leb.{little}
@@ -13,54 +15,45 @@ use Rattle.format.specs.Lists.{Relocation}
 use Rattle.format.specs.Headers.{reloc}
 use Rattle.format.specs.X64.{marker}
 use Rattle.format.proofs.Choice.{if-eq, if-ne}
-use Rattle.arm64.specs.declared.Code.{Code}
-use Rattle.arm64.specs.declared.Packed.{Packed}
 use Rattle.arm64.specs.Lists.{Function}
-use Rattle.arm64.specs.Runs.{no_pair, resolve}
-use Rattle.arm64.specs.Packing.{tally, tallies, nothing_yet, as_fields, candidate, packed_word}
+use Rattle.arm64.specs.Packing.{candidate, packed_word}
 use Rattle.arm64.specs.Writer.{prologue_run, instructions, is_packed, is_long_for, header_word, count_of, words_of, header_bytes, scopes_of, codes_of, nop_byte, record_bytes, row_bytes, row_relocs, info_of, no_record}
 use Rattle.arm64_table.specs.Tables.{relocs_by, reloc_count, mark_by}
 
 -- ---- by the word
 
-flag_kept : (p : Packed) (cs : List Code) → (tallies p cs).flag ≡ p.flag
-unfolding tallies tally
-flag_kept p [] = refl
-flag_kept p (c ∷ cs) = flag_kept (tally p c) cs
-
--- a packed word is not 0: its flag is 1
-word_some : (size : ℕ) (cs : List Code) → 0 < packed_word (candidate size cs)
-unfolding packed_word candidate as_fields nothing_yet
-word_some size cs = omega (arith, flag_kept (nothing_yet size) (resolve no_pair cs))
-
-by_word : {X : Type 0} (b : Bool) (w : ℕ) (x y : X) → 0 < w → pick (eqb (pick b w 0) 0) y x ≡ pick b x y
+word_of : (b : Bool) (w : ℕ) → unwrap_or (pick b (Some w) None) 0 ≡ pick b w 0
 unfolding pick
-by_word true w x y h = if-ne w 0 y x (λ z. omega arith)
-by_word false w x y h = if-eq 0 0 y x refl
+word_of true w = refl
+word_of false w = refl
 
-module _ (place symbol : ℕ) {word : ℕ} where
-  pub alone : (word ≡ 0 → ⊥) → relocs_by place symbol word ≡ reloc place symbol image_reloc 4 0 ∷ []
-  unfolding relocs_by
-  alone h = rw (if-ne word 0 (reloc (place + 4) (marker symbol) image_reloc 4 0 ∷ []) [] h)
+there : (b : Bool) (w : ℕ) → is_some (pick b (Some w) None) ≡ b
+unfolding pick
+there true w = refl
+there false w = refl
 
-  pub with_record : word ≡ 0
+module _ (place symbol : ℕ) (word : Option ℕ) where
+  pub alone : is_some word ≡ true → relocs_by place symbol word ≡ reloc place symbol image_reloc 4 0 ∷ []
+  unfolding relocs_by pick
+  alone h = rw h
+
+  pub with_record : is_some word ≡ false
       → relocs_by place symbol word ≡ reloc place symbol image_reloc 4 0 ∷ reloc (place + 4) (marker symbol) image_reloc 4 0 ∷ []
-  unfolding relocs_by
-  with_record h = rw (if-eq word 0 (reloc (place + 4) (marker symbol) image_reloc 4 0 ∷ []) [] h)
+  unfolding relocs_by pick
+  with_record h = rw h
 
-module _ (f : Function) {word : ℕ} (e : word ≡ pick (is_packed f) (packed_word (candidate (instructions f.size) (prologue_run f))) 0) where
-  pub row_is : little 4 0 ++ little 4 word ≡ row_bytes f
+module _ (f : Function) {word : Option ℕ} (e : word ≡ pick (is_packed f) (Some (packed_word (candidate (instructions f.size) (prologue_run f)))) None) where
+  pub row_is : {w : ℕ} → w ≡ unwrap_or word 0 → little 4 0 ++ little 4 w ≡ row_bytes f
   unfolding row_bytes
-  row_is = rw e
+  row_is g =
+      ap (λ (n : ℕ). little 4 0 ++ little 4 n)
+      (g ∙ ap (λ o. unwrap_or o 0) e ∙ word_of (is_packed f) (packed_word (candidate (instructions f.size) (prologue_run f))))
 
   pub relocs_are : (place : ℕ) → relocs_by place f.symbol word ≡ row_relocs place f
   unfolding relocs_by row_relocs
   relocs_are place =
-      let second : List Relocation = reloc (place + 4) (marker f.symbol) image_reloc 4 0 ∷ [] in
-      let w : ℕ = packed_word (candidate (instructions f.size) (prologue_run f)) in
-      rw e
-      (ap (λ (l : List Relocation). reloc place f.symbol image_reloc 4 0 ∷ l)
-      (by_word (is_packed f) w [] second (word_some (instructions f.size) (prologue_run f))))
+      ap (λ b. reloc place f.symbol image_reloc 4 0 ∷ pick b [] (reloc (place + 4) (marker f.symbol) image_reloc 4 0 ∷ []))
+      (ap is_some e ∙ there (is_packed f) (packed_word (candidate (instructions f.size) (prologue_run f))))
 
 pub row_length : (f : Function) → length (row_bytes f) ≡ 8
 unfolding row_bytes little

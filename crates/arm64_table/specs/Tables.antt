@@ -1,5 +1,6 @@
 -- A function's part of the table by its word and by its record's place, and what is known of the functions of the lists.
-use Rattle.std.specs.Prelude.{ℕ, ◌+◌, ◌<◌, ◌≤◌, List, [], ◌∷◌, eqb}
+use Rattle.std.specs.Prelude.{ℕ, ◌+◌, ◌<◌, ◌≤◌, List, [], ◌∷◌, eqb, Option}
+use Rattle.std.specs.Option.{is_some}
 use Rattle.format.specs.Prelude.{pick, each}
 use Rattle.format.specs.Constants.{image_reloc}
 use Rattle.format.specs.Lists.{Relocation, most_functions}
@@ -11,10 +12,10 @@ use Rattle.arm64_function.specs.Listed.{Listed, Fine}
 
 -- ---- one function
 
--- the relocations of a row at `place`: that of the function's start, and that of its record where the word is not packed, that is, 0
-unfoldable pub relocs_by : (place symbol word : ℕ) → List Relocation
+-- the relocations of a row at `place`: that of the function's start, and that of its record where there is no packed word
+unfoldable pub relocs_by : (place symbol : ℕ) → Option ℕ → List Relocation
 relocs_by place symbol word =
-    reloc place symbol image_reloc 4 0 ∷ pick (eqb word 0) (reloc (place + 4) (marker symbol) image_reloc 4 0 ∷ []) []
+    reloc place symbol image_reloc 4 0 ∷ pick (is_some word) [] (reloc (place + 4) (marker symbol) image_reloc 4 0 ∷ [])
 
 -- how many they are, by the bytes of the record: a packed function has none
 unfoldable pub reloc_count : (size : ℕ) → ℕ

@@ -15,7 +15,7 @@ ghost use Rattle.arm64.specs.Writer.{function_asks, markers_from, rows_of, reloc
 ghost use Rattle.arm64_table.specs.Tables.{relocs_by, reloc_count, mark_by, first_of, AllListed, AllFine};
 
 use arm64::fields;
-use arm64_function::{function_no, info_size, packed_word, put_info};
+use arm64_function::{function_asks, info_size, packed_word, put_info};
 use arm64_lists::lists_ok;
 use format::{Counts, Refusal};
 use relocs::{number, relocation};
@@ -33,12 +33,12 @@ fn put_row(out: &mut [u8], at: usize, word: u64) -> usize
 }
 
 // The relocations of the row at `place`.
-fn put_row_relocs(out: &mut [u64], at: usize, place: u64, symbol: u64, word: u64) -> usize
+fn put_row_relocs(out: &mut [u64], at: usize, place: u64, symbol: u64, word: Option<u64>) -> usize
     requires { (at + 5 * length (relocs_by place symbol word) ≤ length out.old) × (place < 2 ^ 32) × (symbol < 2 ^ 32) }
     ensures { Wrote out.old out.new at result (numbers_of (relocs_by place symbol word)) }
 {
     let a = relocation(out, at, place, symbol, relocs::IMAGE, 4, 0);
-    if word != 0 {
+    if word.is_some() {
         return a;
     }
     relocation(
@@ -82,13 +82,8 @@ fn first_no(fs: &[u64], es: &[u64], cs: &[u64], n: usize) -> Result<(), Refusal>
     requires { AllListed fs.now es.now cs.now n }
     ensures { result ≡ question_of (per_function function_asks 0 (first_of fs.now es.now cs.now n)) }
 {
-    let mut k = 0;
-    while k < n {
-        let r = function_no(fs, es, cs, k);
-        if r != 0 {
-            return Err(Refusal { number: r, position: 0 });
-        }
-        k += 1;
+    for k in 0..n {
+        function_asks(fs, es, cs, k)?;
     }
     Ok(())
 }
@@ -108,12 +103,10 @@ fn sizes(fs: &[u64], es: &[u64], cs: &[u64], n: usize) -> Needed
 {
     let mut info = 0;
     let mut relocations = 0;
-    let mut k = 0;
-    while k < n {
+    for k in 0..n {
         let size = info_size(fs, es, cs, k);
         info += size;
         relocations += row_relocs(size);
-        k += 1;
     }
     Needed { info, relocations }
 }
@@ -131,17 +124,14 @@ fn put_rows(
     ensures { (bytes.new ≡ put bytes.old 0 (rows_of (first_of fs.now es.now cs.now n))) × (relocations.new ≡ put relocations.old 0 (numbers_of (relocs_from 0 (first_of fs.now es.now cs.now n)))) }
 {
     let mut to = 0;
-    let mut k = 0;
-    while k < n {
-        let j = k;
-        k += 1;
-        let word = packed_word(fs, es, cs, j);
-        put_row(bytes, 8 * j, word);
+    for k in 0..n {
+        let word = packed_word(fs, es, cs, k);
+        put_row(bytes, 8 * k, word.unwrap_or(0));
         to = put_row_relocs(
             relocations,
             to,
-            (8 * j) as u64,
-            fs[fields::FUNCTION_STRIDE * j],
+            (8 * k) as u64,
+            fs[fields::FUNCTION_STRIDE * k],
             word,
         );
     }
@@ -161,12 +151,9 @@ fn put_infos(
     ensures { (markers.new ≡ put markers.old 0 (markers_from 0 (first_of fs.now es.now cs.now n))) × (info.new ≡ put info.old 0 (infos_of (first_of fs.now es.now cs.now n))) }
 {
     let mut at = 0;
-    let mut k = 0;
-    while k < n {
-        let j = k;
-        k += 1;
-        let past = put_info(info, at, fs, es, cs, j);
-        number(markers, j, mark(at, past));
+    for k in 0..n {
+        let past = put_info(info, at, fs, es, cs, k);
+        number(markers, k, mark(at, past));
         at = past;
     }
     at
@@ -268,7 +255,10 @@ pub fn table(
         return Ok(None);
     }
     if !lists_ok(functions, epilogues, codes) {
-        return Err(Refusal { number: 13, position: 0 });
+        return Err(Refusal {
+            number: 13,
+            position: 0,
+        });
     }
     answer(
         functions,

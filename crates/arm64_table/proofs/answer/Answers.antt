@@ -1,14 +1,15 @@
 -- `arm64_table::answer` meets its contract.
 use Rattle.lists.proofs.Rooms.{stays, goes}
-use mathlib.Core.Path.{sym, ◌∙◌}
+use Rattle.std.proofs.Common.{rules, Err}
+use mathlib.Core.Path.{◌≡◌, sym, ◌∙◌}
 use Rattle.arm64_table.proofs.Results.{all_fine}
 use Rattle.arm64_table.proofs.answer.Goals as goal
 
 pub write-requires : goal.write-requires
-write-requires c = all_fine c.requires (sym c.first_no.ensures ∙ c.in-Yes.is)
+write-requires c = all_fine c.requires (sym c.first_no.ensures ∙ c.in_ok-first_no.was)
 
-pub returns-in-Yes : goal.returns-in-Yes
-returns-in-Yes c = goes _ (sym c.first_no.ensures ∙ c.in-Yes.is) c.write.ensures
+pub returns-in_err-first_no : goal.returns-in_err-first_no
+returns-in_err-first_no c = let e : c.from_residual.result ≡ Err c.in_err-first_no.field-0.0 = search rules in rw e (stays _ _ (sym c.first_no.ensures ∙ c.in_err-first_no.was))
 
-pub returns-in-No : goal.returns-in-No
-returns-in-No c = stays _ _ (sym c.first_no.ensures ∙ c.in-No.is)
+pub returns : goal.returns
+returns c = goes _ (sym c.first_no.ensures ∙ c.in_ok-first_no.was) c.write.ensures

@@ -1,10 +1,6 @@
-use Prim.Native.Nat.{◌-◌}
 use Rattle.arm64.specs.Lists.{numbered_function}
 use Rattle.arm64_table.proofs.Loops.{Asking}
 use Rattle.arm64_table.proofs.first_no.Given as goal
 
 abbrev pub invariant-loop-k : goal.invariant-loop-k
 invariant-loop-k l = Asking (numbered_function l.fs l.es l.cs) l.n l.k
-
-abbrev pub decreases-loop-k : goal.decreases-loop-k
-decreases-loop-k l = l.n - l.k

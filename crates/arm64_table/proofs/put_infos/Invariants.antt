@@ -1,10 +1,6 @@
-use Prim.Native.Nat.{◌-◌}
 use Rattle.arm64.specs.Lists.{numbered_function}
 use Rattle.arm64_table.proofs.Loops.{Describing}
 use Rattle.arm64_table.proofs.put_infos.Given as goal
 
 abbrev pub invariant-loop-k : goal.invariant-loop-k
 invariant-loop-k l = Describing (numbered_function l.fs l.es l.cs) l.n l.initial.markers l.markers l.initial.info l.info l.k l.at
-
-abbrev pub decreases-loop-k : goal.decreases-loop-k
-decreases-loop-k l = l.n - l.k

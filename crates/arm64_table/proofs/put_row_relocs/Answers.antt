@@ -1,4 +1,5 @@
 -- `arm64_table::put_row_relocs` meets its contract.
+use mathlib.Core.Path.{sym, ◌∙◌}
 use native.Mathlib.Omega.{arith}
 use Rattle.format.specs.Lists.{numbers_of}
 use Rattle.format.proofs.PutLaws.{◌then◌, kept}
@@ -10,13 +11,13 @@ pub relocation-a-requires : goal.relocation-a-requires
 unfolding relocs_by
 relocation-a-requires c = omega (arith, c.requires.0)
 
-pub returns-then-word-ne0 : goal.returns-then-word-ne0
-returns-then-word-ne0 c = rw (alone c.args.place c.args.symbol c.if-word-ne0.true) c.relocation-a.ensures
+pub returns-then-is_some : goal.returns-then-is_some
+returns-then-is_some c = rw (alone c.args.place c.args.symbol c.args.word (sym c.is_some.ensures ∙ c.if-is_some.true)) c.relocation-a.ensures
 
 pub relocation-requires : goal.relocation-requires
 unfolding numbers_of
-relocation-requires c = let h = rw (with_record c.args.place c.args.symbol c.if-word-ne0.false) at c.requires.0 in omega (arith, h, c.relocation-a.ensures.past, kept c.relocation-a.ensures)
+relocation-requires c = let h = rw (with_record c.args.place c.args.symbol c.args.word (sym c.is_some.ensures ∙ c.if-is_some.false)) at c.requires.0 in omega (arith, h, c.relocation-a.ensures.past, kept c.relocation-a.ensures)
 
 pub returns : goal.returns
 unfolding numbers_of
-returns c = rw (with_record c.args.place c.args.symbol c.if-word-ne0.false) (c.relocation-a.ensures then c.relocation.ensures)
+returns c = rw (with_record c.args.place c.args.symbol c.args.word (sym c.is_some.ensures ∙ c.if-is_some.false)) (c.relocation-a.ensures then c.relocation.ensures)

@@ -11,29 +11,29 @@ loop-k-init c = rowing _ _ c.requires.1 c.requires.2
 pub packed_word-word-requires : goal.packed_word-word-requires
 packed_word-word-requires c = c.requires.0.each_one _ c.loop-k-test.true
 
-pub overflow_mul-j : goal.overflow_mul-j
-overflow_mul-j c = omega (arith, c.requires.0.most, c.loop-k-test.true)
+pub overflow_mul-k : goal.overflow_mul-k
+overflow_mul-k c = omega (arith, c.requires.0.most, c.loop-k-test.true)
 
 pub put_row-requires : goal.put_row-requires
 put_row-requires c = row_room c.loop-k.invariant c.loop-k-test.true
 
-pub overflow_mul-j-in-loop-k : goal.overflow_mul-j-in-loop-k
-overflow_mul-j-in-loop-k c = omega (arith, c.requires.0.most, c.loop-k-test.true)
+pub overflow_mul-k-in-loop-k : goal.overflow_mul-k-in-loop-k
+overflow_mul-k-in-loop-k c = omega (arith, c.requires.0.most, c.loop-k-test.true)
 
-pub overflow_mul-j-in-loop-k-2 : goal.overflow_mul-j-in-loop-k-2
-overflow_mul-j-in-loop-k-2 c = omega (arith, c.requires.0.most, c.loop-k-test.true)
+pub overflow_mul-k-in-loop-k-2 : goal.overflow_mul-k-in-loop-k-2
+overflow_mul-k-in-loop-k-2 c = omega (arith, c.requires.0.most, c.loop-k-test.true)
 
-pub offset_bounds-fs-j : goal.offset_bounds-fs-j
-offset_bounds-fs-j c = omega (arith, c.requires.0.most, c.loop-k-test.true)
+pub offset_bounds-fs-k : goal.offset_bounds-fs-k
+offset_bounds-fs-k c = omega (arith, c.requires.0.most, c.loop-k-test.true)
 
-pub bounds-fs-j : goal.bounds-fs-j
-bounds-fs-j c = let l = (c.requires.0.each_one _ c.loop-k-test.true).listed in omega (arith, l.room)
+pub bounds-fs-k : goal.bounds-fs-k
+bounds-fs-k c = let l = (c.requires.0.each_one _ c.loop-k-test.true).listed in omega (arith, l.room)
 
 pub put_row_relocs-to-requires : goal.put_row_relocs-to-requires
 put_row_relocs-to-requires c = let a = c.args in let l = (c.requires.0.each_one _ c.loop-k-test.true).listed in let e = c.packed_word-word.ensures in rw (symbol_at a.fs.now a.es.now a.cs.now) (rw (relocs_are _ e) (relocs_room c.loop-k.invariant c.loop-k-test.true), omega (arith, c.requires.0.most, c.loop-k-test.true), symbol_low a.fs.now a.es.now a.cs.now l)
 
 pub loop-k-preserved : goal.loop-k-preserved
-loop-k-preserved c = let a = c.args in let e = c.packed_word-word.ensures in rowed c.loop-k.invariant c.loop-k-test.true (rw (row_is _ e) at c.put_row.ensures) (rw (relocs_are _ e) at (rw (symbol_at a.fs.now a.es.now a.cs.now) at c.put_row_relocs-to.ensures))
+loop-k-preserved c = let a = c.args in let e = c.packed_word-word.ensures in rowed c.loop-k.invariant c.loop-k-test.true (rw (row_is _ e c.unwrap_or.ensures) at c.put_row.ensures) (rw (relocs_are _ e) at (rw (symbol_at a.fs.now a.es.now a.cs.now) at c.put_row_relocs-to.ensures))
 
 pub shape_of-bytes : goal.shape_of-bytes
 shape_of-bytes c = c.loop-k.invariant.rows_in.left.kept

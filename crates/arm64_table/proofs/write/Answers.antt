@@ -1,5 +1,6 @@
 -- `arm64_table::write` meets its contract.
-use mathlib.Core.Path.{sym, ap, ◌∙◌}
+use Rattle.std.proofs.Common.{rules, Err}
+use mathlib.Core.Path.{◌≡◌, sym, ap, ◌∙◌}
 use native.Mathlib.Omega.{arith}
 use Rattle.format.specs.Questions.{accepted, room_in, room_asks, fitting}
 use Rattle.format.proofs.Asked.{question_of, said_yes}
@@ -17,12 +18,12 @@ pub overflow_mul-counts-2 : goal.overflow_mul-counts-2
 overflow_mul-counts-2 c = omega (arith, c.sizes-needed.ensures.2)
 
 pub put_all-requires : goal.put_all-requires
-put_all-requires c = let h = room_says _ _ (said_yes _ (sym c.room.ensures ∙ c.in-Yes.is)) in (c.requires, c.sizes-needed.ensures.0, c.sizes-needed.ensures.1, h.0, h.1, h.2, h.3)
+put_all-requires c = let h = room_says _ _ (said_yes _ (sym c.room.ensures ∙ c.in_ok-room.was)) in (c.requires, c.sizes-needed.ensures.0, c.sizes-needed.ensures.1, h.0, h.1, h.2, h.3)
 
-pub returns-in-Yes : goal.returns-in-Yes
+pub returns : goal.returns
 unfolding fitting
-returns-in-Yes c = let a = c.args in goes (room_asks (room_in a.markers.now a.bytes.now a.relocations.now a.info.now) (arm64 (first_of a.fs.now a.es.now a.cs.now a.n))) (ap question_of (sym (room_same (numbered_function a.fs.now a.es.now a.cs.now) a.n c.sizes-needed.ensures.0 c.sizes-needed.ensures.1 (room_in a.markers.now a.bytes.now a.relocations.now a.info.now))) ∙ sym c.room.ensures ∙ c.in-Yes.is) c.put_all.ensures
+returns c = let a = c.args in goes (room_asks (room_in a.markers.now a.bytes.now a.relocations.now a.info.now) (arm64 (first_of a.fs.now a.es.now a.cs.now a.n))) (ap question_of (sym (room_same (numbered_function a.fs.now a.es.now a.cs.now) a.n c.sizes-needed.ensures.0 c.sizes-needed.ensures.1 (room_in a.markers.now a.bytes.now a.relocations.now a.info.now))) ∙ sym c.room.ensures ∙ c.in_ok-room.was) c.put_all.ensures
 
-pub returns-in-No : goal.returns-in-No
+pub returns-in_err-room : goal.returns-in_err-room
 unfolding fitting
-returns-in-No c = let a = c.args in stays (room_asks (room_in a.markers.now a.bytes.now a.relocations.now a.info.now) (arm64 (first_of a.fs.now a.es.now a.cs.now a.n))) (accepted (arm64 (first_of a.fs.now a.es.now a.cs.now a.n))) (ap question_of (sym (room_same (numbered_function a.fs.now a.es.now a.cs.now) a.n c.sizes-needed.ensures.0 c.sizes-needed.ensures.1 (room_in a.markers.now a.bytes.now a.relocations.now a.info.now))) ∙ sym c.room.ensures ∙ c.in-No.is)
+returns-in_err-room c = let a = c.args in let e : c.from_residual.result ≡ Err c.in_err-room.field-0.0 = search rules in rw e (stays (room_asks (room_in a.markers.now a.bytes.now a.relocations.now a.info.now) (arm64 (first_of a.fs.now a.es.now a.cs.now a.n))) (accepted (arm64 (first_of a.fs.now a.es.now a.cs.now a.n))) (ap question_of (sym (room_same (numbered_function a.fs.now a.es.now a.cs.now) a.n c.sizes-needed.ensures.0 c.sizes-needed.ensures.1 (room_in a.markers.now a.bytes.now a.relocations.now a.info.now))) ∙ sym c.room.ensures ∙ c.in_err-room.was))
