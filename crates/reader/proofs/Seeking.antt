@@ -15,6 +15,7 @@ use Rattle.format.specs.Questions.{is_some}
 use Rattle.format.specs.Reader.{Entry, second, distance_back, is_header, records, first_addend, header_at, entries}
 use Rattle.format.specs.Lists.{relocation_at, relocations_of}
 use Rattle.format.specs.Coded.{option_of, result_of}
+use Rattle.reader.specs.Finds.{Searching}
 use Rattle.reader.specs.Spans.{part, entry_in, entries_from, listed, Ends, Stands}
 use Rattle.std.specs.Prelude.{Some, None, Ok, Err}
 use Rattle.std.specs.Prelude as code
@@ -91,11 +92,6 @@ unfolding header_at first
 header_none debug place before = refl
 
 -- ---- the first relocation at a place
-
--- what the relocations from the i-th on add
-pub record Searching (xs : List ℕ) (place i : ℕ) : Type 0 where
-  pub inside : i ≤ length xs / 5
-  pub rest : first_addend place (relocations_of xs) ≡ first_addend place (each (relocation_at xs) i (length xs / 5 - i))
 
 pub search_start : (xs : List ℕ) (place : ℕ) → Searching xs place 0
 unfolding relocations_of

@@ -1,14 +1,19 @@
 -- What is found of record k: where its operations and its header's are, the few numbers that go with them, and the rules from there on.
-use Rattle.std.specs.Prelude.{◌≡◌, Bool, ◌&&◌, ℕ, ◌≤◌, List, length, T, leb, eqb, Ok, Err}
+use Rattle.std.specs.Prelude.{◌≡◌, Bool, ◌&&◌, ℕ, ◌-◌, ◌/◌, ◌≤◌, List, length, T, leb, eqb, Ok, Err}
 use Rattle.std.specs.Prelude as code
-use Rattle.format.specs.Prelude.{pick, Result, good, bad}
+use Rattle.format.specs.Prelude.{pick, each, Result, good, bad}
 use Rattle.format.specs.Machine.{is_word_size}
-use Rattle.format.specs.Lists.{relocations_of}
+use Rattle.format.specs.Lists.{relocation_at, relocations_of}
 use Rattle.format.specs.Rules.{answer}
-use Rattle.format.specs.Reader.{Found, locate, run_to, shortest_to}
+use Rattle.format.specs.Reader.{first_addend, Found, locate, run_to, shortest_to}
 use Rattle.format.specs.Coded.{Reading}
 use Rattle.reader.specs.Spans.{part}
 use Rattle.reader.specs.declared.location.Located.{Located}
+
+-- the first relocation at a place is one of those from the i-th on
+pub record Searching (xs : List ℕ) (place i : ℕ) : Type 0 where
+  pub inside : i ≤ length xs / 5
+  pub rest : first_addend place (relocations_of xs) ≡ first_addend place (each (relocation_at xs) i (length xs / 5 - i))
 
 -- the fields of the record and of its header, by positions of the section
 abbrev pub found : List ℕ → Located → Found

@@ -7,24 +7,33 @@ ghost use Rattle.format.specs.Prelude.{after};
 ghost use Rattle.format.specs.Machine.{is_word_size};
 ghost use Rattle.format.specs.Coded.{option_of};
 ghost use Rattle.reader.specs.Spans.{entry_in, listed, Spans};
-ghost use Rattle.reader.specs.Finds.{Locates};
+ghost use Rattle.reader.specs.Finds.{Searching, Locates};
 
 use crate::fields::{Header, Record};
 use crate::{entries, fields};
 
 // ---- the header of a record
 
-// The addend of the first relocation at a place; a relocation is five numbers, the place first and the addend last.
-pub fn first_addend(relocs: &[u64], place: u64) -> Option<usize>
+// The addend of the first relocation at a place, which none in front of the i-th has; a relocation is five numbers, the place first and the
+// addend last.
+pub fn addend_from(relocs: &[u64], place: u64, from: usize) -> Option<usize>
+    requires { Searching relocs.now place from }
     ensures { result ≡ option_of (first_addend place (relocations_of relocs.now)) }
 {
     let n = relocs.len() / relocs::RELOCATION_STRIDE;
-    for i in 0..n {
+    for i in from..n {
         if relocs[relocs::RELOCATION_STRIDE * i] == place {
             return Some(relocs[relocs::RELOCATION_STRIDE * i + relocs::RELOCATION_ADDEND] as usize);
         }
     }
     None
+}
+
+// The same of all relocations.
+pub fn first_addend(relocs: &[u64], place: u64) -> Option<usize>
+    ensures { result ≡ option_of (first_addend place (relocations_of relocs.now)) }
+{
+    addend_from(relocs, place, 0)
 }
 
 // The place that lies the entry's second field before that field.

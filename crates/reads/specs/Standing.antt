@@ -6,7 +6,7 @@ use Rattle.format.specs.Coded.{result_of}
 use Rattle.format.specs.Answers.{bit}
 use Rattle.format.specs.Reader.{Entry, header_at}
 use Rattle.reader.specs.declared.location.Located as reader
-use Rattle.reader.proofs.Seeking.{Searching}
+use Rattle.reader.specs.Finds.{Searching}
 use Rattle.reads.specs.Index.{nowhere, place_or, records_of, indexed_as, list_after}
 use Rattle.reads.specs.declared.Indexed.{Indexed}
 use Rattle.reads.specs.declared.Located.{Located}

@@ -3,10 +3,10 @@ ghost use Rattle.std.specs.Prelude.{◌≡◌, ◌+◌, ◌<◌, ◌≤◌, T, l
 ghost use Rattle.format.specs.Put.{put};
 ghost use Rattle.format.specs.Lists.{relocations_of};
 ghost use Rattle.format.specs.Questions.{is_some};
-ghost use Rattle.format.specs.Reader.{first_addend, header_place, records, entries};
+ghost use Rattle.format.specs.Reader.{header_place, records, entries};
 ghost use Rattle.format.specs.Coded.{option_of};
 ghost use Rattle.reader.specs.Spans.{entry_in, listed};
-ghost use Rattle.reader.proofs.Seeking.{Searching};
+ghost use Rattle.reader.specs.Finds.{Searching};
 ghost use Rattle.section_check.specs.Places.{Marks};
 ghost use Rattle.reads.specs.Places.{header_of};
 ghost use Rattle.reads.specs.Index.{place_or, index_of, index_in};
@@ -66,20 +66,6 @@ fn skipped(relocs: &[u64], debug: bool, place: u64, from: usize) -> usize
     n
 }
 
-// The addend of the first relocation at a place, which none in front of the i-th has.
-fn addend_from(relocs: &[u64], place: u64, from: usize) -> Option<usize>
-    requires { Searching relocs.now place from }
-    ensures { result ≡ option_of (first_addend place (relocations_of relocs.now)) }
-{
-    let n = relocs.len() / relocs::RELOCATION_STRIDE;
-    for i in from..n {
-        if relocs[relocs::RELOCATION_STRIDE * i] == place {
-            return Some(relocs[relocs::RELOCATION_STRIDE * i + relocs::RELOCATION_ADDEND] as usize);
-        }
-    }
-    None
-}
-
 // Where the header of the record from `at` to `end` starts, as its second field says or, in debug_frame, that field's relocation.
 fn header_place(
     s: &[u8],
@@ -93,7 +79,7 @@ fn header_place(
     ensures { result ≡ option_of (header_place debug (relocations_of relocs.now) (entry_in s.now at end)) }
 {
     if debug {
-        return addend_from(relocs, (at + 4) as u64, from);
+        return reader::location::addend_from(relocs, (at + 4) as u64, from);
     }
     reader::location::header_place(s, relocs, debug, at, end)
 }

@@ -1,6 +1,6 @@
--- `reads::index::addend_from` meets its contract.
+-- `reader::location::addend_from` meets its contract.
 use Rattle.reader.proofs.Seeking.{search_met, search_turn, search_ended}
-use Rattle.reads.proofs.index.addend_from.Goals as goal
+use Rattle.reader.proofs.location.addend_from.Goals as goal
 
 pub loop-i-init : goal.loop-i-init
 loop-i-init c = c.requires
