@@ -63,6 +63,7 @@ fn row_relocs(size: usize) -> usize
 }
 
 // The marker of a packed function.
+// Kept: a number, and no Option: C reads the markers.
 const NO_RECORD: u64 = 18446744073709551615;
 
 // The marker of a function whose record stands from `at` to `past`.
