@@ -2,11 +2,8 @@
 // from rucc-asm/src/unwind.rs (Extent, Rows) of tamnd/rucc, changed: see NOTICE.
 #![tactic(auto)]
 
-ghost use Rattle.std.specs.Prelude.{◌≡◌, true, false, [], ◌∷◌, ◌+◌, ◌*◌, ◌≤◌, length, take, drop, leb};
-ghost use Rattle.std.specs.Int.{w32};
-ghost use Rattle.std.proofs.Common.{of_z};
+ghost use Rattle.std.specs.Prelude.{◌≡◌, true, false, [], ◌+◌, ◌*◌, ◌≤◌, length, leb};
 ghost use Rattle.format.specs.Put.{put};
-ghost use Rattle.format.proofs.Wrote.{Wrote};
 ghost use Rattle.format.specs.Prelude.{all, pick};
 ghost use Rattle.format.specs.Questions.{relaxed_table, relaxed_debug_frame, room_in, empty};
 ghost use Rattle.format.specs.Answers.{bit, outcome_of};
@@ -56,16 +53,47 @@ pub struct Function {
     pub pairs: u64,
 }
 
-// The 32 bits of a number, in two's complement.
-fn bits(z: i32) -> u64
-    ensures { result ≡ of_z w32 z }
+// ---- the numbers that a struct means
+
+// A row's four.
+fn row_numbers(x: RowAt) -> [u64; 4]
+    ensures { result ≡ row_numbers x }
 {
-    let w = z as i64;
-    if w < 0 {
-        return 4294967295 - ((-1 - w) as u64);
-    }
-    w as u64
+    [
+        x.offset,
+        u64::from(x.kind),
+        u64::from(x.register),
+        u64::from(x.value.cast_unsigned()),
+    ]
 }
+
+// A function's eighteen.
+fn function_numbers(x: Function) -> [u64; 18]
+    ensures { result ≡ function_numbers x }
+{
+    [
+        x.symbol,
+        x.length,
+        x.rows_at,
+        x.rows,
+        x.landings_at,
+        x.landings,
+        u64::from(x.simple),
+        u64::from(x.signal),
+        u64::from(x.personality),
+        u64::from(x.encoding),
+        x.routine,
+        u64::from(x.lsda),
+        u64::from(x.lsda_encoding),
+        x.lsda_symbol,
+        u64::from(x.relaxed),
+        x.end,
+        x.pairs_at,
+        x.pairs,
+    ]
+}
+
+// ---- records stored where they fit
 
 // Whether `count` records of `stride` numbers fit a list of `room` numbers.
 fn fits(count: usize, stride: usize, room: usize) -> bool
@@ -90,122 +118,36 @@ fn has_room(at: usize, i: usize, stride: usize, room: usize) -> bool
     stride <= room - at - stride * i
 }
 
-// Three numbers from `at` on. This and `four` give the place past what they stored; their sums stand as the definition `put` has them.
-fn three(numbers: &mut [u64], at: usize, a: u64, b: u64, c: u64) -> usize
-    requires { at + 3 ≤ length numbers.old }
-    ensures { Wrote numbers.old numbers.new at result (a ∷ b ∷ c ∷ []) }
+// Record i of those that are stored from `at` on, where it fits.
+fn put_record(numbers: &mut [u64], at: usize, i: usize, record: &[u64])
+    ensures { numbers.new ≡ stored numbers.old (at + length record.now * i) record.now }
 {
-    numbers[at] = a;
-    numbers[at + 1] = b;
-    numbers[at + 1 + 1] = c;
-    at + 3
-}
-
-fn four(numbers: &mut [u64], at: usize, a: u64, b: u64, c: u64, d: u64) -> usize
-    requires { at + 4 ≤ length numbers.old }
-    ensures { Wrote numbers.old numbers.new at result (a ∷ b ∷ c ∷ d ∷ []) }
-{
-    numbers[at] = a;
-    numbers[at + 1] = b;
-    numbers[at + 1 + 1] = c;
-    numbers[at + 1 + 1 + 1] = d;
-    at + 4
-}
-
-// Struct i of those that are stored from `at` on, where it fits; so too put_function.
-fn put_row(numbers: &mut [u64], at: usize, i: usize, x: RowAt)
-    ensures { numbers.new ≡ stored numbers.old (at + 4 * i) (row_numbers x) }
-{
-    if !has_room(at, i, 4, numbers.len()) {
+    let n = record.len();
+    if !has_room(at, i, n, numbers.len()) {
         return;
     }
-    let p = at + 4 * i;
-    let value = bits(x.value);
-    four(
-        numbers,
-        p,
-        x.offset,
-        x.kind as u64,
-        x.register as u64,
-        value,
-    );
-}
-
-// A function's first nine numbers from `at` on, and its last nine.
-fn function_front(numbers: &mut [u64], at: usize, x: Function) -> usize
-    requires { at + 9 ≤ length numbers.old }
-    ensures { Wrote numbers.old numbers.new at result (take 9 (function_numbers x)) }
-{
-    let a = three(numbers, at, x.symbol, x.length, x.rows_at);
-    let b = three(numbers, a, x.rows, x.landings_at, x.landings);
-    three(
-        numbers,
-        b,
-        x.simple as u64,
-        x.signal as u64,
-        x.personality as u64,
-    )
-}
-
-fn function_back(numbers: &mut [u64], at: usize, x: Function) -> usize
-    requires { at + 9 ≤ length numbers.old }
-    ensures { Wrote numbers.old numbers.new at result (drop 9 (function_numbers x)) }
-{
-    let a = three(numbers, at, x.encoding as u64, x.routine, x.lsda as u64);
-    let b = three(
-        numbers,
-        a,
-        x.lsda_encoding as u64,
-        x.lsda_symbol,
-        x.relaxed as u64,
-    );
-    three(numbers, b, x.end, x.pairs_at, x.pairs)
-}
-
-fn put_function(numbers: &mut [u64], at: usize, i: usize, x: Function)
-    ensures { numbers.new ≡ stored numbers.old (at + 18 * i) (function_numbers x) }
-{
-    if !has_room(at, i, 18, numbers.len()) {
-        return;
-    }
-    let p = at + 18 * i;
-    let q = function_front(numbers, p, x);
-    function_back(numbers, q, x);
+    let p = at + n * i;
+    numbers[p..p + n].copy_from_slice(record);
 }
 
 // The structs of a list, one after the other from `at` on, each where it fits.
 fn put_rows(rows: &[RowAt], numbers: &mut [u64], at: usize)
     ensures { numbers.new ≡ stored_all row_numbers numbers.old at rows.now }
 {
-    let mut i = 0;
-    while i < rows.len() {
-        put_row(numbers, at, i, rows[i]);
-        i += 1;
+    for i in 0..rows.len() {
+        put_record(numbers, at, i, &row_numbers(rows[i]));
     }
 }
 
 fn put_functions(functions: &[Function], numbers: &mut [u64], at: usize)
     ensures { numbers.new ≡ stored_all function_numbers numbers.old at functions.now }
 {
-    let mut i = 0;
-    while i < functions.len() {
-        put_function(numbers, at, i, functions[i]);
-        i += 1;
+    for i in 0..functions.len() {
+        put_record(numbers, at, i, &function_numbers(functions[i]));
     }
 }
 
 // ---- the row check, row by row. It holds structs to the check over lists of numbers, in crate rules.
-
-// The numbers that a row means.
-fn row_numbers(x: RowAt) -> [u64; 4]
-    ensures { result ≡ row_numbers x }
-{
-    let offset = x.offset;
-    let kind = x.kind as u64;
-    let register = x.register as u64;
-    let value = bits(x.value);
-    [offset, kind, register, value]
-}
 
 // Before the first row. A simple mark above 1 is a no.
 fn check_start(simple: u64) -> Stepped
@@ -235,12 +177,6 @@ fn check_row(s: Stepped, x: RowAt) -> Stepped
     rules::step(after, first, rows::row_at(&ns, 0))
 }
 
-fn check_answer(s: Stepped) -> u64
-    ensures { result ≡ bit s.ok }
-{
-    if s.ok { 1 } else { 0 }
-}
-
 // ---- the lent list of numbers
 
 // Whether a list of n numbers holds so many structs.
@@ -256,27 +192,17 @@ fn long_enough(n: usize, functions: usize, rows: usize) -> bool
 fn all_zero(numbers: &[u64]) -> bool
     ensures { result ≡ all is_zero numbers.now }
 {
-    let mut i = 0;
-    while i < numbers.len() {
-        if numbers[i] != 0 {
-            return false;
-        }
-        i += 1;
-    }
-    true
+    numbers.iter().all(|x| *x == 0)
 }
 
-// Whether the list is long enough for so many structs, and all zero so far. It is lent as to the functions that
-// store in it.
-fn ready(numbers: &mut [u64], functions: usize, rows: usize) -> bool
-    ensures { (result ≡ ready_for numbers.old functions rows) × (numbers.new ≡ numbers.old) }
+// Whether the list is long enough for so many structs, and all zero so far.
+fn ready(numbers: &[u64], functions: usize, rows: usize) -> bool
+    ensures { result ≡ ready_for numbers.now functions rows }
 {
     if !long_enough(numbers.len(), functions, rows) {
         return false;
     }
-    let n = 18 * functions + 4 * rows;
-    let t = &numbers[..];
-    all_zero(&t[..n])
+    all_zero(&numbers[..18 * functions + 4 * rows])
 }
 
 // The first n numbers are 0 again.
@@ -284,11 +210,7 @@ fn clear(numbers: &mut [u64], n: usize)
     requires { n ≤ length numbers.old }
     ensures { numbers.new ≡ cleared numbers.old n }
 {
-    let mut i = 0;
-    while i < n {
-        numbers[i] = 0;
-        i += 1;
-    }
+    numbers[..n].fill(0);
 }
 
 // ---- the writers, on the two lists that stand in the lent one
@@ -519,12 +441,10 @@ pub extern "C" fn unwind_row_check_of(simple: u64, rows: &[RowAt]) -> u64
     ensures { result ≡ bit (check_of simple rows.now) }
 {
     let mut s = check_start(simple);
-    let mut i = 0;
-    while i < rows.len() {
-        s = check_row(s, rows[i]);
-        i += 1;
+    for x in rows {
+        s = check_row(s, *x);
     }
-    check_answer(s)
+    u64::from(s.ok)
 }
 
 // unwind_relaxed_table over lists of structs; landings and pairs are lists of numbers. `numbers` is room for 18 numbers a function and 4 a row, all

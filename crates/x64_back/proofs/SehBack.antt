@@ -23,6 +23,7 @@ use Rattle.x64.proofs.Results.{markers_length}
 use Rattle.format.proofs.Choice.{if-le}
 use Rattle.format.proofs.Accepted.{asked, both, function_at_lem, passed, not_empty}
 use Rattle.format.proofs.ListLaws.{each_get, each-length}
+use Rattle.codes.proofs.Copies.{put_from}
 use Rattle.x64_back.specs.Given.{frame_codes, given, ReadBack}
 use Rattle.x64_back.proofs.InfoBack.{info_back}
 
@@ -105,15 +106,6 @@ seh_back fs codes r w e k h one room l =
     rw (append-nil w.sites) at (seh_before fs codes r w e k h [] one room l)
 
 -- ---- the buffers that `seh` was lent
-
-put_from : (xs : List ℕ) (p : ℕ) (bs : List ℕ) → p + length bs ≤ length xs → put xs p bs ≡ take p xs ++ (bs ++ drop (p + length bs) xs)
-unfolding put
-put_from xs p [] h = let e : p + 0 ≡ p = omega arith in rw e (sym (take-append-drop p xs))
-put_from xs p (b ∷ bs) h =
-    let e : p + 1 + length bs ≡ p + length (b ∷ bs) = omega arith in
-    let a : p + 1 ≡ suc p = omega arith in
-    put_from (set xs p b) (p + 1) bs (omega (arith, length-set xs p b))
-    ∙ rw (e, a, take-suc-set xs p b (omega arith), drop-set-lt (p + length (b ∷ bs)) xs p b (omega arith)) (append_assoc (take p xs) (b ∷ []) (bs ++ drop (p + length (b ∷ bs)) xs))
 
 put_front : (xs bs : List ℕ) → length bs ≤ length xs → put xs 0 bs ≡ bs ++ drop (length bs) xs
 put_front xs bs h = let e : 0 + length bs ≡ length bs = omega arith in rw e at (put_from xs 0 bs (omega arith))

@@ -14,10 +14,7 @@ use x64_reader::X64Reading;
 fn marker_at(markers: &[u64], k: usize) -> u64
     ensures { result ≡ get_or markers.now k 0 }
 {
-    if k < markers.len() {
-        return markers[k];
-    }
-    0
+    markers.get(k).copied().unwrap_or(0)
 }
 
 // What `seh` answered, and what the reader answered at function k's marker.
