@@ -1,13 +1,13 @@
 -- The row check of row structs (document 01, "Rules and row check"; D19).
-use Rattle.std.specs.Prelude.{◌≡◌, ℕ, Bool, ◌&&◌, List, ◌∷◌}
+use Rattle.std.specs.Prelude.{◌≡◌, ℕ, Bool, ◌&&◌, List, ◌∷◌, Option, IfSome}
 use Rattle.format.specs.Prelude.{each}
 use Rattle.format.specs.Rows as rows
 use Rattle.format.specs.Lists.{row_stride, count, all_in, row_ok_at, row_at, mark_ok, mark}
 use Rattle.format.specs.RowCheck.{row_check}
 use Rattle.struct_entries.specs.declared.RowAt.{RowAt}
 use Rattle.struct_entries.specs.Structs.{row_numbers, numbers_of}
-use Rattle.rules.specs.declared.Stepped.{Stepped}
-use Rattle.rules.specs.Orders.{Held, follow}
+use Rattle.rules.specs.declared.Order.{Order}
+use Rattle.rules.specs.Orders.{Held, follow, follow_some}
 
 -- a function that has all rows of a list of numbers; a simple mark above 1 and numbers that are no row are a no
 unfoldable pub check_numbers : (simple : ℕ) → List ℕ → Bool
@@ -18,13 +18,7 @@ check_numbers simple ns =
 unfoldable pub check_of : (simple : ℕ) → List RowAt → Bool
 check_of simple rows = check_numbers simple (numbers_of row_numbers rows)
 
--- the state before the first row: with the rows that follow it decides
-pub record CheckStarts (simple : ℕ) (s : Stepped) : Type 0 where
-  pub whole : (xs : List rows.RowAt) → mark_ok simple && row_check (mark simple) xs ≡ s.ok && follow s.after xs
-  pub held : Held s.after
-
 -- what a row does: whatever rows follow, it decides with them
-pub record CheckedRow (s : Stepped) (x : RowAt) (r : Stepped) : Type 0 where
-  pub decides : (xs : List rows.RowAt)
-      → s.ok && (row_ok_at (row_numbers x) 0 && follow s.after (row_at (row_numbers x) 0 ∷ xs)) ≡ r.ok && follow r.after xs
-  pub held : Held r.after
+pub record CheckedRow (o : Order) (x : RowAt) (r : Option Order) : Type 0 where
+  pub decides : (xs : List rows.RowAt) → row_ok_at (row_numbers x) 0 && follow o (row_at (row_numbers x) 0 ∷ xs) ≡ follow_some r xs
+  pub held : IfSome r Held

@@ -11,11 +11,11 @@ ghost use Rattle.rules.specs.Orders.{Held};
 ghost use Rattle.unwind.specs.Entries.{Exports};
 ghost use Rattle.struct_entries.specs.Structs.{row_numbers, function_numbers, numbers_of};
 ghost use Rattle.struct_entries.specs.Packed.{stored, stored_all, Packs};
-ghost use Rattle.struct_entries.specs.Checks.{check_of, CheckStarts, CheckedRow};
+ghost use Rattle.struct_entries.specs.Checks.{check_of, CheckedRow};
 ghost use Rattle.struct_entries.specs.Entries.{needed, is_zero, ready_for, cleared, packed, once_ready, table_is_empty, table_asks, debug_frame_is_empty, debug_frame_asks, numbers_in, relaxed_table_of, relaxed_debug_frame_of};
 
 use format::{Counts, Refusal};
-use rules::Stepped;
+use rules::Order;
 use unwind::Written;
 
 // A row of a function: its offset, its kind (0 to 10, in document 01's order and then W-207's) and its operands; one that the kind does not have
@@ -119,15 +119,15 @@ fn has_room(at: usize, i: usize, stride: usize, room: usize) -> bool
 }
 
 // Record i of those that are stored from `at` on, where it fits.
-fn put_record(numbers: &mut [u64], at: usize, i: usize, record: &[u64])
-    ensures { numbers.new ≡ stored numbers.old (at + length record.now * i) record.now }
+fn put_record(numbers: &mut [u64], at: usize, i: usize, ns: &[u64])
+    ensures { numbers.new ≡ stored numbers.old (at + length ns.now * i) ns.now }
 {
-    let n = record.len();
+    let n = ns.len();
     if !has_room(at, i, n, numbers.len()) {
         return;
     }
     let p = at + n * i;
-    numbers[p..p + n].copy_from_slice(record);
+    numbers[p..p + n].copy_from_slice(ns);
 }
 
 // The structs of a list, one after the other from `at` on, each where it fits.
@@ -149,32 +149,34 @@ fn put_functions(functions: &[Function], numbers: &mut [u64], at: usize)
 
 // ---- the row check, row by row. It holds structs to the check over lists of numbers, in crate rules.
 
-// Before the first row. A simple mark above 1 is a no.
-fn check_start(simple: u64) -> Stepped
-    ensures { CheckStarts simple result }
+// A row more: what follows, where it may stand there. A struct that is no row may not.
+fn check_row(o: Order, x: RowAt) -> Option<Order>
+    requires { Held o }
+    ensures { CheckedRow o x result }
 {
-    let after = rules::start(simple != 0);
-    Stepped {
-        ok: simple <= 1,
-        after,
-    }
-}
-
-// A row more. A no stays, and a struct that is no row is one.
-fn check_row(s: Stepped, x: RowAt) -> Stepped
-    requires { Held s.after }
-    ensures { CheckedRow s x result }
-{
-    let after = s.after;
-    if !s.ok {
-        return s;
-    }
     let ns = row_numbers(x);
     if !rows::row_ok(&ns, 0) {
-        return Stepped { ok: false, after };
+        return None;
     }
-    let first = rules::at_start(after.leading, x.offset);
-    rules::step(after, first, rows::row_at(&ns, 0))
+    let first = rules::at_start(o.leading, x.offset);
+    rules::step(o, first, rows::row_at(&ns, 0))
+}
+
+// All rows of a function. A simple mark above 1 is a no.
+fn rows_checked(simple: u64, rows: &[RowAt]) -> bool
+    ensures { result ≡ check_of simple rows.now }
+{
+    if 1 < simple {
+        return false;
+    }
+    let mut o = rules::start(simple != 0);
+    for x in rows {
+        let Some(after) = check_row(o, *x) else {
+            return false;
+        };
+        o = after;
+    }
+    true
 }
 
 // ---- the lent list of numbers
@@ -440,11 +442,7 @@ pub extern "C" fn unwind_pack_functions(functions: &[Function], numbers: &mut [u
 pub extern "C" fn unwind_row_check_of(simple: u64, rows: &[RowAt]) -> u64
     ensures { result ≡ bit (check_of simple rows.now) }
 {
-    let mut s = check_start(simple);
-    for x in rows {
-        s = check_row(s, *x);
-    }
-    u64::from(s.ok)
+    u64::from(rows_checked(simple, rows))
 }
 
 // unwind_relaxed_table over lists of structs; landings and pairs are lists of numbers. `numbers` is room for 18 numbers a function and 4 a row, all
