@@ -17,7 +17,7 @@ use Rattle.struct_entries.specs.declared.RowAt.{RowAt}
 use Rattle.struct_entries.specs.Structs.{row_numbers}
 use Rattle.std.specs.Prelude.{Option, Some, None}
 use Rattle.rules.specs.declared.Order.{Order}
-use Rattle.rules.specs.Orders.{Held, follow, follow_some, Starts, Steps}
+use Rattle.rules.specs.Orders.{follow, follow_some, Starts, Steps}
 use Rattle.rules.proofs.Checking.{follow_none}
 use Rattle.struct_entries.specs.Checks.{check_numbers, check_of, CheckedRow}
 use Rattle.struct_entries.proofs.Meaning.{none, all_of, row_count, row_ok, row_at_here}
@@ -31,12 +31,12 @@ drawn false b c f h = rw (and-false b)
 
 module _ {o : Order} {x : RowAt} {ok : Bool} (e : ok ≡ row_ok_at (row_numbers x) 0) where
   pub no_row : not ok ≡ true → CheckedRow o x None
-  no_row u = record { decides = λ xs. rw (refused e u); held = tt }
+  no_row u = record { decides = λ xs. rw (refused e u) }
 
   pub one_row : not ok ≡ false → {first : Bool} {r : Option Order} → first ≡ o.leading && eqb x.offset 0
       → Steps o first (row_at (row_numbers x) 0).1 r → CheckedRow o x r
   unfolding row_at row_numbers
-  one_row u f g = record { decides = λ xs. rw (accepted e u) (g.decides x.offset f xs); held = g.held }
+  one_row u f g = record { decides = λ xs. rw (accepted e u) (g.decides x.offset f xs) }
 
 -- ---- the loop
 
@@ -46,20 +46,19 @@ left o ns i n = all_in (row_ok_at ns) i n && follow o (each (row_at ns) i n)
 
 -- before row i
 pub record CheckedTo (simple : ℕ) (ys : List RowAt) (i : ℕ) (o : Order) : Type 0 where
-  pub held : Held o
   pub rest : check_of simple ys ≡ left o (all_of ys) i (length ys - i)
 
-module _ {simple : ℕ} {ys : List RowAt} where
-  pub unmarked : 1 < simple → false ≡ check_of simple ys
-  unfolding check_of check_numbers mark_ok
-  unmarked h = rw (lt-leb simple 1 h)
+pub unmarked : (simple : ℕ) (ys : List RowAt) → 1 < simple → false ≡ check_of simple ys
+unfolding check_of check_numbers mark_ok
+unmarked simple ys h = rw (lt-leb simple 1 h)
 
+module _ {simple : ℕ} {ys : List RowAt} where
   pub start : simple ≤ 1 → {o : Order} → Starts (mark simple) o → CheckedTo simple ys 0 o
   unfolding check_of check_numbers mark_ok
   start h {o} w =
       let n : ℕ = length ys in
       let e : n - 0 ≡ n = omega arith in
-      record { held = w.held; rest = rw (row_count ys, e, le-leb simple 1 h, w.whole (each (row_at (all_of ys)) 0 n)) }
+      record { rest = rw (row_count ys, e, le-leb simple 1 h, w.whole (each (row_at (all_of ys)) 0 n)) }
 
   module _ {i : ℕ} {o : Order} {r : Option Order} (g : CheckedTo simple ys i o) (h : i < length ys) (t : CheckedRow o (get_or ys i none) r) where
     next : check_of simple ys ≡ all_in (row_ok_at (all_of ys)) (i + 1) (length ys - (i + 1)) && follow_some r (each (row_at (all_of ys)) (i + 1) (length ys - (i + 1)))
@@ -72,7 +71,7 @@ module _ {simple : ℕ} {ys : List RowAt} where
         (drawn (all_in (row_ok_at ns) (i + 1) n) (row_ok_at (row_numbers (get_or ys i none)) 0) _ _ (t.decides (each (row_at ns) (i + 1) n)))
 
     pub turn : {p : Order} → r ≡ Some p → CheckedTo simple ys (i + 1) p
-    turn {p} e = record { held = rw e at t.held; rest = rw e at next }
+    turn {p} e = record { rest = rw e at next }
 
     pub stopped : r ≡ None → false ≡ check_of simple ys
     stopped e = sym ((rw e at next) ∙ rw (and-false (all_in (row_ok_at (all_of ys)) (i + 1) (length ys - (i + 1)))))

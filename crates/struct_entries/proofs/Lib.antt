@@ -1,5 +1,4 @@
 -- Laws of the structs as numbers and of the entries over them.
-pub mod Signs
 pub mod Rooms
 pub mod Stored
 pub mod Strides

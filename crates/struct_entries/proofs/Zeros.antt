@@ -9,36 +9,18 @@ use lib.Dec.{T, leb, eqb}
 use lib.ListN.{length, get_or, take, drop, set, replicate, drop_of_length-le, length-append, length-replicate, length-drop, take-append-drop}
 use lib.Seq.{drop-cons, drop-set-lt, length-take-le}
 use borrow.Author.Tests.{eqb-true, eq-eqb, ne_eqb, not-true, not-false}
+use Rattle.std.specs.List.{list_all}
 use Rattle.format.specs.Prelude.{all}
 use Rattle.format.specs.Put.{put}
 use Rattle.format.proofs.PutLaws.{put_none, put_cons}
 use Rattle.struct_entries.specs.Entries.{needed, is_zero, ready_for, cleared}
 
-module _ (xs : List ℕ) (i : ℕ) where
-  pub zero_turn : i < length xs → get_or xs i 0 ≡ 0 → all is_zero (drop i xs) ≡ all is_zero (drop (i + 1) xs)
-  unfolding all is_zero
-  zero_turn h e = rw (add-one i, drop-cons xs i 0 h, eq-eqb (get_or xs i 0) 0 e)
-
-  pub zero_not : i < length xs → (get_or xs i 0 ≡ 0 → ⊥) → all is_zero (drop i xs) ≡ false
-  unfolding all is_zero
-  zero_not h e = rw (drop-cons xs i 0 h, ne_eqb (get_or xs i 0) 0 e)
-
-  pub zero_ended : length xs ≤ i → all is_zero (drop i xs) ≡ true
-  unfolding all
-  zero_ended h = rw (drop_of_length-le xs h)
+pub all_is : {A : Type 0} (test : A → Bool) (xs : List A) → list_all test xs ≡ all test xs
+unfolding all
+all_is test [] = refl
+all_is test (x ∷ xs) = ap (λ (b : Bool). test x && b) (all_is test xs)
 
 -- ---- what is cleared
-
--- one more
-pub clear_turn : (xs : List ℕ) (i : ℕ) → i < length xs → set (cleared xs i) i 0 ≡ cleared xs (i + 1)
-unfolding cleared
-clear_turn [] i h = absurd (omega arith)
-clear_turn (x ∷ xs) zero h = refl
-clear_turn (x ∷ xs) (suc i) h = let e : suc (i + 1) ≡ suc i + 1 = omega arith in ap (λ (l : List ℕ). 0 ∷ l) (clear_turn xs i (omega arith)) ∙ ap (cleared (x ∷ xs)) e
-
-pub cleared_none : (xs : List ℕ) → xs ≡ cleared xs 0
-unfolding cleared
-cleared_none xs = refl
 
 pub length_cleared : (xs : List ℕ) (n : ℕ) → n ≤ length xs → length (cleared xs n) ≡ length xs
 unfolding cleared

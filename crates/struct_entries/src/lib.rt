@@ -7,7 +7,6 @@ ghost use Rattle.format.specs.Put.{put};
 ghost use Rattle.format.specs.Prelude.{all, pick};
 ghost use Rattle.format.specs.Questions.{relaxed_table, relaxed_debug_frame, room_in, empty};
 ghost use Rattle.format.specs.Answers.{bit, outcome_of};
-ghost use Rattle.rules.specs.Orders.{Held};
 ghost use Rattle.unwind.specs.Entries.{Exports};
 ghost use Rattle.struct_entries.specs.Structs.{row_numbers, function_numbers, numbers_of};
 ghost use Rattle.struct_entries.specs.Packed.{stored, stored_all, Packs};
@@ -151,7 +150,6 @@ fn put_functions(functions: &[Function], numbers: &mut [u64], at: usize)
 
 // A row more: what follows, where it may stand there. A struct that is no row may not.
 fn check_row(o: Order, x: RowAt) -> Option<Order>
-    requires { Held o }
     ensures { CheckedRow o x result }
 {
     let ns = row_numbers(x);
