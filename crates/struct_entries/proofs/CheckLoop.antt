@@ -10,7 +10,6 @@ use lib.Dec.{eqb}
 use borrow.Author.Tests.{lt-leb, le-leb}
 use Rattle.format.specs.Prelude.{each}
 use Rattle.format.specs.Lists.{all_in, row_ok_at, row_at, mark_ok, mark}
-use Rattle.format.specs.RowCheck.{row_check}
 use Rattle.lists.proofs.Answers.{accepted, refused}
 use Rattle.lists.proofs.Ranges.{none_left, one_more}
 use Rattle.struct_entries.specs.declared.RowAt.{RowAt}

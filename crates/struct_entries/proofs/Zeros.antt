@@ -1,14 +1,13 @@
 -- A list that is zero as far as it is needed: the test, what is stored and cleared again, and what `ready` answers.
 use mathlib.Core.Path.{◌≡◌, refl, sym, ap, ◌∙◌}
-use Prim.Native.Nat.{ℕ, zero, suc, ◌+◌, ◌≤◌, ◌<◌}
+use Prim.Native.Nat.{ℕ, ◌+◌, ◌≤◌}
 use mathlib.Core.Bool.{Bool, true, false, not, ◌&&◌}
 use mathlib.Core.List.{List, [], ◌∷◌, ◌++◌}
-use native.Mathlib.Numerals.{add-one}
 use native.Mathlib.Omega.{arith}
 use lib.Dec.{T, leb, eqb}
-use lib.ListN.{length, get_or, take, drop, set, replicate, drop_of_length-le, length-append, length-replicate, length-drop, take-append-drop}
-use lib.Seq.{drop-cons, drop-set-lt, length-take-le}
-use borrow.Author.Tests.{eqb-true, eq-eqb, ne_eqb, not-true, not-false}
+use lib.ListN.{length, take, drop, set, replicate, length-append, length-replicate, length-drop, take-append-drop}
+use lib.Seq.{drop-set-lt, length-take-le}
+use borrow.Author.Tests.{eqb-true, not-true, not-false}
 use Rattle.std.specs.List.{list_all}
 use Rattle.format.specs.Prelude.{all}
 use Rattle.format.specs.Put.{put}

@@ -130,6 +130,8 @@ fn put_record(numbers: &mut [u64], at: usize, i: usize, ns: &[u64])
 }
 
 // The structs of a list, one after the other from `at` on, each where it fits.
+// Kept: put_rows and put_functions, and their exports, are three lines each over arrays of two lengths; a trait that gives such an array would
+// need a const parameter and a law of its own, and be longer than the twin.
 fn put_rows(rows: &[RowAt], numbers: &mut [u64], at: usize)
     ensures { numbers.new ≡ stored_all row_numbers numbers.old at rows.now }
 {
@@ -286,33 +288,56 @@ fn packed_debug_frame(
 }
 
 // What a writer answers where the list is not ready: an empty result, 78, 11 or 12, else 54.
-fn table_without_numbers(functions: usize, machine: &[u64], format: u64) -> Result<Option<Counts>, Refusal>
+fn table_without_numbers(
+    functions: usize,
+    machine: &[u64],
+    format: u64,
+) -> Result<Option<Counts>, Refusal>
     ensures { result ≡ outcome_of (once_ready (table_is_empty format functions) (table_asks format machine.now) false empty) }
 {
     if functions == 0 {
         return Ok(None);
     }
     if 4 < format {
-        return Err(Refusal { number: 11, position: 0 });
+        return Err(Refusal {
+            number: 11,
+            position: 0,
+        });
     }
     if 3 <= format {
         return Ok(None);
     }
     if format == 2 {
-        return Err(Refusal { number: 78, position: 0 });
+        return Err(Refusal {
+            number: 78,
+            position: 0,
+        });
     }
     if !lists::machine_ok(machine) {
-        return Err(Refusal { number: 11, position: 0 });
+        return Err(Refusal {
+            number: 11,
+            position: 0,
+        });
     }
     if format == 1 {
         if !lists::word_ok(lists::machine_of(machine)) {
-            return Err(Refusal { number: 12, position: 0 });
+            return Err(Refusal {
+                number: 12,
+                position: 0,
+            });
         }
     }
-    Err(Refusal { number: 54, position: 0 })
+    Err(Refusal {
+        number: 54,
+        position: 0,
+    })
 }
 
-fn debug_frame_without_numbers(functions: usize, machine: &[u64], format: u64) -> Result<Option<Counts>, Refusal>
+fn debug_frame_without_numbers(
+    functions: usize,
+    machine: &[u64],
+    format: u64,
+) -> Result<Option<Counts>, Refusal>
     ensures { result ≡ outcome_of (once_ready (debug_frame_is_empty format functions) (debug_frame_asks machine.now) false empty) }
 {
     if functions == 0 {
@@ -322,9 +347,15 @@ fn debug_frame_without_numbers(functions: usize, machine: &[u64], format: u64) -
         return Ok(None);
     }
     if !lists::machine_ok(machine) {
-        return Err(Refusal { number: 11, position: 0 });
+        return Err(Refusal {
+            number: 11,
+            position: 0,
+        });
     }
-    Err(Refusal { number: 54, position: 0 })
+    Err(Refusal {
+        number: 54,
+        position: 0,
+    })
 }
 
 // A writer on the list, which was ready or not; where it was not nothing is changed.

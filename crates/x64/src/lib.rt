@@ -50,6 +50,7 @@ fn runtime(out: &mut [u64], at: usize, place: u64, symbol: u64, size: u64) -> us
 }
 
 // Number j of record k, whose stride is `stride`.
+// Kept: the stride is a function's or a prologue's, so no array type has the record; written out, each read owes its product and sum.
 fn number_at(xs: &[u64], stride: usize, k: usize, j: usize) -> u64
     requires { stride * k + j < length xs.now }
     ensures { result ≡ field stride xs.now k j }

@@ -4,9 +4,9 @@ use Rattle.struct_entries.proofs.Packing.{says_no, says_yes}
 use Rattle.struct_entries.proofs.pack.Goals as goal
 
 pub returns-then-not-ready : goal.returns-then-not-ready
-returns-then-not-ready c = rw c.ready.ensures.1 (says_no c.args.numbers.now c.args.functions.now c.args.rows.now c.ready.result c.ready.ensures.0 (rw c.if-not-ready.true tt))
+returns-then-not-ready c = says_no c.args.numbers.now c.args.functions.now c.args.rows.now c.ready.result c.ready.ensures (rw c.if-not-ready.true tt)
 
 pub returns : goal.returns
 returns c =
-    let y = says_yes c.args.numbers.now c.args.functions.now c.args.rows.now c.ready.result c.ready.ensures.0 (rw c.if-not-ready.false tt) in
-    (y.0, rw (c.put_functions.ensures, c.ready.ensures.1) at c.put_rows.ensures ∙ y.1)
+    let y = says_yes c.args.numbers.now c.args.functions.now c.args.rows.now c.ready.result c.ready.ensures (rw c.if-not-ready.false tt) in
+    (y.0, (rw c.put_functions.ensures at c.put_rows.ensures) ∙ y.1)

@@ -1,6 +1,6 @@
 -- `struct_entries::put_record` stores its record where it fits.
 use mathlib.Core.Bool.{not}
-use mathlib.Core.Path.{ap, sym, ◌∙◌}
+use mathlib.Core.Path.{ap}
 use native.Mathlib.Omega.{arith}
 use borrow.Author.Tests.{leb-true}
 use Rattle.lists.proofs.Answers.{accepted, refused}
