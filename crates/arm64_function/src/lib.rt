@@ -141,12 +141,7 @@ fn runs_fit(es: &[u64], cs: &[u64], p: Parts) -> bool
     requires { Ready es.now cs.now p }
     ensures { result ≡ all_in (fits_at es.now cs.now) p.first (p.end - p.first) }
 {
-    for i in p.first..p.end {
-        if !arm64_simple::run_fits(cs, epilogue_at(es, i)) {
-            return false;
-        }
-    }
-    true
+    (p.first..p.end).all(|i| arm64_simple::run_fits(cs, epilogue_at(es, i)))
 }
 
 // ---- runs of their own
