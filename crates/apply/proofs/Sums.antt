@@ -5,7 +5,7 @@ use Rattle.format.specs.Prelude.{pick, after, first, each}
 use Rattle.format.specs.Lists.{Relocation}
 use Rattle.std.specs.Prelude.{Some, None, MatchOption, option_map}
 use Rattle.std.specs.Prelude as code
-use Rattle.format.specs.Coded.{option_of}
+use Rattle.format.proofs.Asked.{option_of}
 use Rattle.format.proofs.Choice.{either}
 use Rattle.apply.specs.Fields.{up_to, signed32}
 use Rattle.apply.specs.Values.{symbol_at, symbols_of, address_of, sum_of, apart}

@@ -17,7 +17,7 @@ use Rattle.std.specs.Prelude as code
 use Rattle.std.specs.Prelude.{Some, None, MatchOption}
 use Rattle.apply.specs.declared.Reloc.{Reloc}
 use Rattle.apply.specs.Standing.{meant, beside}
-use Rattle.format.specs.Coded.{option_of}
+use Rattle.format.proofs.Asked.{option_of}
 use Rattle.apply.specs.Fields.{up_to, whole_in}
 use Rattle.apply.specs.Values.{Layout, address_of, value_as, store_as, store_of}
 use Rattle.apply.specs.Apply.{partners, leads, follows, paired, value_ok, sound}

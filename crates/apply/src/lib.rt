@@ -10,7 +10,7 @@ ghost use Rattle.format.specs.Prelude.{after};
 ghost use Rattle.format.specs.Machine.{is_word_size};
 ghost use Rattle.format.specs.Lists.{relocation_stride, relocation_at, relocations_of, count};
 ghost use Rattle.apply.specs.Kinds.{kind_of, bits_of, bytes_of, size_ok};
-ghost use Rattle.format.specs.Coded.{option_of};
+ghost use Rattle.format.proofs.Asked.{option_of};
 ghost use Rattle.apply.specs.Fields.{up_to, signed32, number_at, in_field, set_in, sub_in, whole_in};
 ghost use Rattle.apply.specs.Values.{symbols_of, address_of, sum_of, apart, value_as, store_of};
 ghost use Rattle.apply.specs.Apply.{partners, paired, measured, value_ok, near_as, sound, near, everywhere, stores, apply, Applies};

@@ -2,7 +2,7 @@
 #![tactic(auto)]
 
 ghost use Rattle.std.specs.Prelude.{◌≡◌, ◌+◌, ◌*◌, ◌≤◌, ◌<◌, ◌^◌, length, get_or};
-ghost use Rattle.format.specs.Coded.{option_of};
+ghost use Rattle.format.proofs.Asked.{option_of};
 ghost use Rattle.arm64.specs.Codes.{form, short_form, integer_form, vector_form, other_form, form_of, field_at, code_in, code_as, code_at};
 ghost use Rattle.arm64.specs.Records.{word_at};
 ghost use Rattle.arm64_codes.specs.Forms.{FormOk};

@@ -9,7 +9,7 @@ use native.Mathlib.Numerals.{add-one}
 use lib.ListN.{length, get_or, drop, drop_of_length-le}
 use lib.Seq.{drop-cons}
 use Rattle.std.specs.List.{filter_map, cons_option, range_with_len}
-use Rattle.format.specs.Coded.{option_of}
+use Rattle.format.proofs.Asked.{option_of}
 use Rattle.format.specs.Prelude.{pick}
 use Rattle.format.proofs.Wrote.{Wrote}
 use Rattle.format.proofs.Storing.{Storing, stored_next}

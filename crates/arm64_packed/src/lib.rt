@@ -2,7 +2,7 @@
 #![tactic(auto)]
 
 ghost use Rattle.std.specs.Prelude.{◌≡◌, true, [], ◌∷◌, ◌+◌, ◌*◌, ◌≤◌, ◌<◌, length};
-ghost use Rattle.format.specs.Coded.{option_of};
+ghost use Rattle.format.proofs.Asked.{option_of};
 ghost use Rattle.format.proofs.Wrote.{Wrote};
 ghost use Rattle.arm64.specs.Lists.{code_numbers};
 ghost use Rattle.arm64.specs.Packed.{packed_of, integer_size, vector_count, saved_size, local_size, chain_ok, packed_ok, lone, integer_pair, integer_odd, integer_slot, vector_pair, vector_slot, alloc_slot, rest_slot, chain_slot, local_slot, slot, slots_from, undone, slot_at};

@@ -3,7 +3,7 @@
 
 ghost use Rattle.std.specs.Prelude.{◌≡◌, [], ◌∷◌, ◌+◌, ◌*◌, ◌≤◌, ◌<◌, length, Some, IfSome};
 ghost use Rattle.std.proofs.Math.Option.{some};
-ghost use Rattle.format.specs.Coded.{option_of};
+ghost use Rattle.format.proofs.Asked.{option_of};
 ghost use Rattle.format.specs.Put.{put};
 ghost use Rattle.format.proofs.Wrote.{Wrote};
 ghost use Rattle.arm64.specs.Lists.{code_numbers, epilogue_numbers};

@@ -7,8 +7,7 @@ use mathlib.Core.Option.{none, some}
 use mathlib.Core.Bool.{Bool, ◌&&◌}
 use Rattle.std.specs.List.{range_with_len, list_all}
 use Rattle.format.specs.Prelude.{all, each}
-use Rattle.format.proofs.Asked.{question_of, said_yes}
-use Rattle.format.specs.Coded.{Asked}
+use Rattle.format.proofs.Asked.{question_of, said_yes, Asked}
 use Rattle.std.specs.Prelude.{Ok, Err}
 use Rattle.format.specs.declared.Refusal.{Refusal}
 use Rattle.format.specs.Questions.{Question, and_then, per_function}

@@ -5,7 +5,7 @@ use native.Mathlib.Omega.{arith}
 use mathlib.Core.Bool.{Bool, true, false}
 use mathlib.Core.Option.{Option, none, some}
 use Rattle.std.specs.Prelude as code
-use Rattle.format.specs.Coded.{option_of}
+use Rattle.format.proofs.Asked.{option_of}
 use mathlib.Core.List.{[]}
 use Rattle.format.specs.Prelude.{pick, each}
 use Rattle.format.specs.Lists.{Named, Landing, landing_at}

@@ -13,13 +13,12 @@ use Rattle.format.specs.declared.Section.{Section}
 use Rattle.format.specs.declared.Counts.{Counts}
 use Rattle.std.specs.Prelude.{Some, Ok, Err}
 use Rattle.format.specs.Coded.{refusal}
-use Rattle.format.specs.Coded.{Asked}
+use Rattle.format.proofs.Asked.{Asked, question_of, said_yes}
 use Rattle.format.specs.declared.Refusal.{Refusal}
 use Rattle.format.specs.Machine.{machine_of, machine_ok}
 use Rattle.format.specs.Lists.{numbers_of, functions_of, lists_ok}
 use Rattle.format.specs.Questions.{Question, ask, and_then, per_function, dwarf_asks, Given, Room, room_in, Answer, refused, accepted, unless, fitting, room_asks, given_asks, given_functions, dwarf_answer, dwarf_given}
 use Rattle.format.specs.Answers.{outcome_of, afterwards, relocation_numbers, Writes}
-use Rattle.format.proofs.Asked.{question_of, said_yes}
 use Rattle.format.specs.Writer.{taken}
 use Rattle.format.proofs.Accepted.{asked, both}
 use Rattle.format.proofs.ListLaws.{numbers_length}

@@ -13,13 +13,12 @@ use Rattle.format.specs.declared.Section.{Section}
 use Rattle.format.specs.Coded.{Outcome}
 use Rattle.std.specs.Prelude.{Ok, Err}
 use Rattle.format.specs.Coded.{refusal}
-use Rattle.format.specs.Coded.{Asked}
+use Rattle.format.proofs.Asked.{Asked, question_of, said_yes}
 use Rattle.format.specs.declared.Refusal.{Refusal}
 use Rattle.format.specs.Machine.{machine_of, machine_ok, is_word_size}
 use Rattle.format.specs.Lists.{function_ok_at, all_in, lists_ok}
 use Rattle.format.specs.Questions.{Question, and_then, dwarf_asks, per_function, Given, Room, fitting, dwarf_given, room_in}
 use Rattle.format.specs.Answers.{Writes}
-use Rattle.format.proofs.Asked.{question_of, said_yes}
 use Rattle.format.proofs.Accepted.{both}
 use Rattle.format.proofs.Fits.{MachineFits}
 use Rattle.format.proofs.ListLaws.{in_range}

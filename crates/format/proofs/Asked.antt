@@ -4,10 +4,19 @@ use Prim.Native.Nat.{ℕ}
 use native.Mathlib.Omega.{arith}
 use mathlib.Core.Option.{Option, none, some}
 use Rattle.format.specs.declared.Refusal.{Refusal}
-use Rattle.format.specs.Coded.{Asked}
-use Rattle.std.specs.Prelude.{Ok, Err, is_err}
+use Rattle.std.specs.Prelude.{Some, None, Ok, Err, is_err}
+use Rattle.std.specs.Prelude as code
 use mathlib.Core.Bool.{false}
 use Rattle.format.specs.Coded.{refusal}
+
+-- a value, where there is one, as the code has it
+abbrev pub option_of : {A : Type 0} → Option A → code.Option A
+option_of none = None
+option_of (some a) = Some a
+
+-- what a function that asks questions answers
+abbrev pub Asked : Type 0
+Asked = code.Result Unit Refusal
 
 -- what a function that asks answers, by what the definition answers: yes, or the number and the position of the first no
 unfoldable pub question_of : Option (ℕ × ℕ) → Asked

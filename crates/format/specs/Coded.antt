@@ -1,16 +1,10 @@
--- The code's answers, and what they say: a value that may be absent, a value or a question's number, and what the writers and the reader answer.
-use Rattle.std.specs.Prelude.{ℕ, Some, None, Ok, Err}
+-- The code's answers: a value or a question's number, and what the writers and the reader answer.
+use Rattle.std.specs.Prelude.{ℕ, Ok, Err}
 use Rattle.std.specs.Prelude as code
-use Rattle.std.proofs.Math.Option.{Option, none, some}
 use Rattle.format.specs.declared.Counts.{Counts}
 use Rattle.format.specs.declared.Refusal.{Refusal}
 use Rattle.format.specs.declared.Rules.{Rules}
 use Rattle.format.specs.Prelude.{Result, good, bad}
-
--- a value, where there is one
-abbrev pub option_of : {A : Type 0} → Option A → code.Option A
-option_of none = None
-option_of (some a) = Some a
 
 -- a value, or the number of the question that was answered by no
 abbrev pub result_of : {A : Type 0} → Result A → code.Result A ℕ
@@ -20,10 +14,6 @@ result_of (bad n) = Err n
 -- a question answered by no: its number and the function's position
 abbrev pub refusal : (number position : ℕ) → Refusal
 refusal number position = record { number = number; position = position }
-
--- what a function that asks questions answers
-abbrev pub Asked : Type 0
-Asked = code.Result Unit Refusal
 
 -- what a writer answers: the counts of what it wrote; nothing, in a format that has no table; or a refusal
 abbrev pub Outcome : Type 0

@@ -17,7 +17,7 @@ use Rattle.operations.specs.declared.fields.Position.{Position}
 use Rattle.operations.proofs.PositionLaws.{past_mark, uleb_ahead, uleb_rest, uleb_past, uleb_none}
 use Rattle.std.specs.Prelude.{Some, None}
 use Rattle.std.specs.Prelude as code
-use Rattle.format.specs.Coded.{option_of}
+use Rattle.format.proofs.Asked.{option_of}
 use Rattle.reader.specs.Fields.{Rests, letters_of, Counts, CountsIn, tail_mark, Skips, SkipsTo, Numbers}
 use Rattle.reader.specs.declared.fields.Augmentation.{Augmentation}
 use Rattle.reader.proofs.Seeking.{number_is, number_none}

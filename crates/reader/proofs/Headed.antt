@@ -26,7 +26,7 @@ use Rattle.operations.proofs.PositionLaws.{past_mark, uleb_rest, uleb_none, uleb
 use Rattle.rows.proofs.Signs.{same_bits}
 use Rattle.std.specs.Prelude.{Some, None}
 use Rattle.std.specs.Prelude as code
-use Rattle.format.specs.Coded.{option_of}
+use Rattle.format.proofs.Asked.{option_of}
 use Rattle.reader.specs.Spans.{part}
 use Rattle.reader.specs.Fields.{Rests, letters_of, ReadsAugmentation, Counts, CountsIn, Heading, tail_mark, header_factors}
 use Rattle.reader.specs.declared.fields.Augmentation.{Augmentation}

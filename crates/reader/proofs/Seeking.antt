@@ -14,7 +14,8 @@ use Rattle.format.specs.Prelude.{pick, after, first, each, Result, good, bad}
 use Rattle.format.specs.Questions.{is_some}
 use Rattle.format.specs.Reader.{Entry, second, distance_back, is_header, records, first_addend, header_at, entries}
 use Rattle.format.specs.Lists.{relocation_at, relocations_of}
-use Rattle.format.specs.Coded.{option_of, result_of}
+use Rattle.format.specs.Coded.{result_of}
+use Rattle.format.proofs.Asked.{option_of}
 use Rattle.reader.specs.Finds.{Searching}
 use Rattle.reader.specs.Spans.{part, entry_in, entries_from, listed, Ends, Stands}
 use Rattle.std.specs.Prelude.{Some, None, Ok, Err}

@@ -7,7 +7,7 @@ ghost use Rattle.format.specs.Shortest.{numbers_short};
 ghost use Rattle.format.specs.Machine.{is_word_size};
 ghost use Rattle.format.specs.Rows.{same_offset};
 ghost use Rattle.format.specs.Headers.{pointer_size, data_factor};
-ghost use Rattle.format.specs.Coded.{option_of};
+ghost use Rattle.format.proofs.Asked.{option_of};
 ghost use Rattle.reader.specs.Fields.{letters_of, two_of, ReadsAugmentation, CountsIn, SkipsTo, Numbers, Heads, tail_mark, header_factors, Records};
 
 use operations::fields::{Position, read_le, read_sleb, read_uleb};

@@ -5,7 +5,7 @@ ghost use Rattle.format.specs.Reader.{is_header, distance_back, first_addend, he
 ghost use Rattle.format.specs.Lists.{relocations_of};
 ghost use Rattle.format.specs.Prelude.{after};
 ghost use Rattle.format.specs.Machine.{is_word_size};
-ghost use Rattle.format.specs.Coded.{option_of};
+ghost use Rattle.format.proofs.Asked.{option_of};
 ghost use Rattle.reader.specs.Spans.{entry_in, listed, Spans};
 ghost use Rattle.reader.specs.Finds.{Searching, Locates};
 

@@ -19,7 +19,8 @@ use Rattle.reader.proofs.Recorded.{field_small}
 use Rattle.reader.specs.Spans.{part, entry_in}
 use Rattle.reads.specs.Addresses.{function_fields, sdata4, start_of, function_of, function_found, placed_as, function_at, record_of, holder_as, holder_in, holds}
 use Rattle.format.specs.Prelude.{or_else}
-use Rattle.format.specs.Coded.{option_of, result_of}
+use Rattle.format.specs.Coded.{result_of}
+use Rattle.format.proofs.Asked.{option_of}
 use Rattle.std.specs.Prelude.{Some, None, Ok, Err}
 use Rattle.std.specs.Prelude as code
 use Rattle.std.specs.Option.{ok_or}

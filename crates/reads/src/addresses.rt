@@ -1,6 +1,7 @@
 // The function of a record by the record's own fields, and the record that holds an address.
 ghost use Rattle.std.specs.Prelude.{◌≡◌, ◌+◌, ◌*◌, ◌%◌, ◌^◌, ◌<◌, ◌≤◌, T, length};
-ghost use Rattle.format.specs.Coded.{option_of, result_of};
+ghost use Rattle.format.specs.Coded.{result_of};
+ghost use Rattle.format.proofs.Asked.{option_of};
 ghost use Rattle.format.specs.Machine.{is_word_size};
 ghost use Rattle.reader.specs.Spans.{entry_in};
 ghost use Rattle.reads.specs.Addresses.{function_fields, start_of, function_of, function_found, holds, holder_in};

@@ -4,7 +4,7 @@ ghost use Rattle.format.specs.Put.{put};
 ghost use Rattle.format.specs.Lists.{relocations_of};
 ghost use Rattle.format.specs.Questions.{is_some};
 ghost use Rattle.format.specs.Reader.{header_place, records, entries};
-ghost use Rattle.format.specs.Coded.{option_of};
+ghost use Rattle.format.proofs.Asked.{option_of};
 ghost use Rattle.reader.specs.Spans.{entry_in, listed};
 ghost use Rattle.reader.specs.Finds.{Searching};
 ghost use Rattle.section_check.specs.Places.{Marks};

@@ -9,7 +9,7 @@ use lib.Dec.{T}
 use lib.ListN.{drop, get_elem?}
 use Rattle.format.specs.Prelude.{pick, Read, next, after, Result, good, bad, onward, or_else}
 use Rattle.format.specs.Leb.{read_little}
-use Rattle.format.specs.Coded.{option_of}
+use Rattle.format.proofs.Asked.{option_of}
 use Rattle.std.specs.Prelude.{Some, None, Ok, Err}
 use Rattle.std.specs.Prelude as code
 use Rattle.std.specs.Result.{is_ok}

@@ -8,7 +8,7 @@ use mathlib.Core.List.{List, []}
 use lib.ListN.{get_elem?}
 use Rattle.std.specs.Prelude as code
 use Rattle.format.specs.Prelude.{after}
-use Rattle.format.specs.Coded.{option_of}
+use Rattle.format.proofs.Asked.{option_of}
 use Rattle.format.specs.Lists.{Relocation}
 use Rattle.format.specs.Questions.{is_some}
 use Rattle.format.specs.Reader.{Entry, entries, records, first_addend}

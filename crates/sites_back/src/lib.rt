@@ -2,7 +2,7 @@
 #![tactic(auto)]
 
 ghost use Rattle.std.specs.Prelude.{◌≡◌};
-ghost use Rattle.format.specs.Coded.{option_of};
+ghost use Rattle.format.proofs.Asked.{option_of};
 ghost use Rattle.format.specs.Lists.{relocations_of};
 ghost use Rattle.format.specs.Questions.{relaxed_table, given_of, room_in};
 ghost use Rattle.format.specs.Answers.{Writes};

@@ -14,7 +14,7 @@ use mir.Syntax.{w64}
 use mir.Val.{SFits, to_z, of_z}
 use mir.Facts.{to_z-of_z}
 use Rattle.std.specs.Prelude.{Some, None}
-use Rattle.format.specs.Coded.{option_of}
+use Rattle.format.proofs.Asked.{option_of}
 use Rattle.format.specs.Prelude.{pick, next, after}
 use Rattle.format.specs.Leb.{read_little}
 use Rattle.format.specs.Reader.{require, value_or0}

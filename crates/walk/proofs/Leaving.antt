@@ -13,7 +13,8 @@ use mir.Facts.{to_z-of_z}
 use Rattle.std.specs.Prelude.{Some, None, Err}
 use Rattle.std.specs.Prelude as code
 use Rattle.std.specs.Option.{ok_or}
-use Rattle.format.specs.Coded.{option_of, result_of}
+use Rattle.format.specs.Coded.{result_of}
+use Rattle.format.proofs.Asked.{option_of}
 use Rattle.format.specs.Prelude.{after, good, bad, onward, or_else}
 use Rattle.format.specs.declared.CfaRule.{CfaRule}
 use Rattle.format.specs.declared.CfaRule.TheVariants.{Unset, Register}

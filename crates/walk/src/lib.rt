@@ -5,7 +5,8 @@
 ghost use Rattle.std.specs.Prelude.{◌≡◌, ◌+◌, ◌*◌, ◌≤◌, ◌<◌, length, take, drop, get_or, set};
 ghost use Rattle.std.proofs.Math.Option.{none, some};
 ghost use Rattle.format.specs.Prelude.{after};
-ghost use Rattle.format.specs.Coded.{option_of, result_of};
+ghost use Rattle.format.specs.Coded.{result_of};
+ghost use Rattle.format.proofs.Asked.{option_of};
 ghost use Rattle.format.specs.Put.{put};
 ghost use Rattle.format.specs.Leb.{read_little};
 ghost use Rattle.format.specs.Reader.{value_or0};

@@ -4,9 +4,8 @@ use Prim.Native.Nat.{ℕ, zero, suc, ◌+◌, ◌-◌, ◌≤◌, ◌<◌}
 use native.Mathlib.Omega.{arith}
 use native.Mathlib.Numerals.{add-one}
 use mathlib.Core.Option.{Option, none, some}
-use Rattle.format.proofs.Asked.{question_of}
+use Rattle.format.proofs.Asked.{question_of, Asked}
 use Rattle.std.specs.Prelude.{Ok, Err}
-use Rattle.format.specs.Coded.{Asked}
 use Rattle.format.specs.Questions.{Question, and_then, no_at}
 use Rattle.codes.specs.Codes.{yes_or_no}
 use Rattle.std.specs.Prelude as code

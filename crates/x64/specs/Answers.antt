@@ -8,7 +8,8 @@ use Rattle.format.specs.X64.{code_no, first_no, slots, info_bytes}
 use Rattle.format.specs.declared.Seh.{Seh}
 use Rattle.codes.specs.Codes.{yes_or_no, frame_ask}
 use Rattle.x64.specs.declared.Summary.{Summary}
-use Rattle.format.specs.Coded.{Asked, refusal}
+use Rattle.format.specs.Coded.{refusal}
+use Rattle.format.proofs.Asked.{Asked}
 use Rattle.std.specs.Prelude.{Result, Ok, Err}
 use Rattle.std.specs.Result.{result_and}
 

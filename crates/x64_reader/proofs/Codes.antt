@@ -10,7 +10,7 @@ use lib.Dec.{lit<, eqb}
 use lib.ListN.{length, get_or, drop, length-drop}
 use lib.Seq.{drop-cons, drop-drop, get_or-drop}
 use Rattle.std.specs.Prelude.{Some, None}
-use Rattle.format.specs.Coded.{option_of}
+use Rattle.format.proofs.Asked.{option_of}
 use Rattle.format.specs.Prelude.{pick, Read, next, after}
 use Rattle.format.specs.Leb.{read_little}
 use Rattle.operations.specs.Positions.{read_from, little_at}

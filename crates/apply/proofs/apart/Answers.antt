@@ -1,6 +1,6 @@
 -- `apply::apart` meets its contract.
 use Rattle.std.proofs.Common.{sym, ap, ◌∙◌}
-use Rattle.format.specs.Coded.{option_of}
+use Rattle.format.proofs.Asked.{option_of}
 use Rattle.apply.specs.Values.{symbols_of}
 use Rattle.apply.specs.Standing.{meant, beside, total_of}
 use Rattle.apply.proofs.Sums.{some_of, none_of, no_first, no_behind, no_second, apart_value}

@@ -1,6 +1,6 @@
 -- `apply::data_value` meets its contract.
 use Rattle.std.proofs.Common.{◌≡◌, ℕ, ◌+◌, ◌%◌, ◌^◌, ℤ, pos, ◌-ℤ◌, sym, ap, ◌∙◌, arith}
-use Rattle.format.specs.Coded.{option_of}
+use Rattle.format.proofs.Asked.{option_of}
 use Rattle.apply.specs.Fields.{signed32}
 use Rattle.apply.specs.Values.{symbols_of, sum_of}
 use Rattle.apply.specs.Standing.{meant}

@@ -1,6 +1,6 @@
 -- `apply::less_base` meets its contract.
 use Rattle.std.proofs.Common.{ℤ, pos, ◌-ℤ◌, sym, ap, ◌∙◌}
-use Rattle.format.specs.Coded.{option_of}
+use Rattle.format.proofs.Asked.{option_of}
 use Rattle.apply.specs.Fields.{up_to}
 use Rattle.apply.specs.Values.{symbols_of}
 use Rattle.apply.specs.Standing.{meant, total_of}

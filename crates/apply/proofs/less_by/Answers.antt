@@ -1,6 +1,6 @@
 -- `apply::less_by` meets its contract.
 use Rattle.std.proofs.Common.{◌≡◌, suc, ◌+◌, ◌-◌, ◌^◌, ◌<◌, ◌≤◌, ap, ◌∙◌, arith}
-use Rattle.format.specs.Coded.{option_of}
+use Rattle.format.proofs.Asked.{option_of}
 use Rattle.apply.proofs.Integers.{carry_below, same_less, same_below, carry_less, carry_far, farther, less_is, less_below, less_far}
 use Rattle.apply.specs.Standing.{total_of}
 use Rattle.apply.proofs.less_by.Goals as goal

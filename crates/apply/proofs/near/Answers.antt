@@ -5,7 +5,7 @@ use Rattle.apply.specs.Fields.{up_to}
 use Rattle.apply.specs.Values.{symbols_of, apart, distance_of}
 use Rattle.apply.specs.Apply.{near_as}
 use Rattle.apply.specs.Standing.{meant, beside}
-use Rattle.format.specs.Coded.{option_of}
+use Rattle.format.proofs.Asked.{option_of}
 use Rattle.std.specs.Prelude as code
 use Rattle.apply.proofs.Tests.{is_some_lem}
 use Rattle.apply.proofs.near.Goals as goal

@@ -7,7 +7,7 @@ use Rattle.apply.specs.Kinds.{size_ok}
 use Rattle.apply.specs.Fields.{up_to}
 use Rattle.apply.specs.Values.{symbols_of, sum_of, apart, value_as}
 use Rattle.apply.specs.Standing.{meant, beside}
-use Rattle.format.specs.Coded.{option_of}
+use Rattle.format.proofs.Asked.{option_of}
 use Rattle.apply.proofs.Tests.{base_zero}
 use Rattle.apply.proofs.value.Goals as goal
 

@@ -6,7 +6,7 @@ use borrow.Author.Tests.{tests}
 use Rattle.std.proofs.Common.{rules}
 use Rattle.std.proofs.lemmas.Iterator.{YieldsList-from_range}
 use Rattle.std.proofs.lemmas.Iterator.Consumers.{YieldsList-at, YieldsList-from_filter_map, count_from_yields_List}
-use Rattle.format.specs.Coded.{option_of}
+use Rattle.format.proofs.Asked.{option_of}
 use Rattle.arm64.specs.Packed.{slot_at}
 use Rattle.arm64_packed.proofs.Places.{slots_mapped, slots_few}
 use Rattle.arm64_packed.proofs.count_slots.Goals as goal

@@ -6,7 +6,7 @@ use Rattle.std.proofs.Common.{rules}
 use Rattle.std.proofs.lemmas.List.{length_push}
 use Rattle.std.proofs.lemmas.Iterator.{YieldsList-from_range}
 use Rattle.std.proofs.lemmas.Iterator.Consumers.{YieldsList-at, YieldsList-from_filter_map, YieldsList-turn, YieldsList-end}
-use Rattle.format.specs.Coded.{option_of}
+use Rattle.format.proofs.Asked.{option_of}
 use Rattle.arm64.specs.Packed.{slot_at, slots_from}
 use Rattle.arm64_packed.proofs.Places.{slots_mapped, put_start, put_room, put_turn, put_ended}
 use Rattle.arm64_packed.proofs.put_slots.Goals as goal

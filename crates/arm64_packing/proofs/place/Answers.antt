@@ -1,6 +1,6 @@
 -- `arm64_packing::place` meets its contract.
 use mathlib.Core.Path.{ap, ◌∙◌}
-use Rattle.format.specs.Coded.{option_of}
+use Rattle.format.proofs.Asked.{option_of}
 use native.Mathlib.Omega.{arith}
 use Rattle.arm64_packing.proofs.Comparing.{place_undone, place_forth}
 use Rattle.arm64_packing.proofs.place.Goals as goal

@@ -4,7 +4,7 @@ use mathlib.Core.Option.{Option}
 use mathlib.Core.List.{List}
 use Prim.Native.Nat.{ℕ}
 use native.Mathlib.Omega.{arith}
-use Rattle.format.specs.Coded.{option_of}
+use Rattle.format.proofs.Asked.{option_of}
 use Rattle.arm64.proofs.Coded.{is_none, is_some}
 use Rattle.arm64.specs.Reader.{run_at}
 use Rattle.arm64_runs.specs.Runs.{count_of}

@@ -1,7 +1,7 @@
 -- `walk::saved` meets its contract.
 use mathlib.Core.Path.{sym, ap, ◌∙◌}
 use mir.Facts.{to_z-of_z}
-use Rattle.format.specs.Coded.{option_of}
+use Rattle.format.proofs.Asked.{option_of}
 use Rattle.walk.proofs.Leaves.{after_none, after_is}
 use Rattle.walk.specs.Walk.{sum_of}
 use Rattle.walk.proofs.saved.Goals as goal
