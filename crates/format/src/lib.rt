@@ -84,6 +84,7 @@ pub enum Seh {
 }
 
 // The rule of the canonical frame address (CFA): none, or a register plus an offset.
+// Kept: an enum, and no Option of a pair: unset is a state as unstated is one of Rule, and the two numbers have a name.
 #[derive(Clone, Copy)]
 pub enum CfaRule {
     Unset,

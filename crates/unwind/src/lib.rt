@@ -59,10 +59,16 @@ pub fn relaxed_table(
             relocations,
             sites,
         ),
-        2 => Err(Refusal { number: 78, position: 0 }),
+        2 => Err(Refusal {
+            number: 78,
+            position: 0,
+        }),
         3 => Ok(None),
         4 => Ok(None),
-        _ => Err(Refusal { number: 11, position: 0 }),
+        _ => Err(Refusal {
+            number: 11,
+            position: 0,
+        }),
     }
 }
 
@@ -376,10 +382,11 @@ struct Saving {
     value: u64,
 }
 
+#[tactic(auto, unfolding(format::specs::Answers::bit))]
 pub fn number(b: bool) -> u64
     ensures { result ≡ bit b }
 {
-    if b { 1 } else { 0 }
+    u64::from(b)
 }
 
 fn address_of(c: CfaRule) -> Address
