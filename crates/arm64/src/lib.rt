@@ -70,7 +70,7 @@ pub const PAC_SIGN_LR: u64 = 17;
 // The code that ends a run of codes: a form has this kind, a list of codes never.
 pub const END: u64 = 18;
 // A first byte that `describe` never writes.
-// Kept: a form of this kind, and no None: the writer asks for the form of any code, also of one whose kind is none.
+// Kept: a form of this kind, and no None: the writer asks for the form of any code, also of one whose kind is no kind.
 pub const RESERVED: u64 = 19;
 
 // How a code is spelled: `size` bytes, of which the first is `op` where every field is 0. Behind op stands one number, first byte highest: the
@@ -89,7 +89,7 @@ pub struct Form {
 
 // A full record's header: the length in instructions, the handler's mark X, the mark E of one epilogue at the end, the count of epilogues (with E the
 // index of its codes), the words of codes, and the place past the header, where the epilogues' words start.
-// Kept: no invariant on the fields' widths, here and in Packed: the definitions make both of any numbers, and would have to prove it.
+// Kept: no invariant on the fields' widths, here and in Packed: the definitions make both of any numbers, so it would be no plainer.
 #[derive(Clone, Copy)]
 pub struct Header {
     pub length: u64,

@@ -9,7 +9,7 @@ ghost use Rattle.arm64_header.specs.Header.{only_in, count_in, is_long_of, first
 
 use arm64::{header_bits, limits};
 
-// What the count's field tells: the index of an only epilogue's codes, which is the mark E, or how many epilogues have words of their own.
+// What the count's field tells: the index of an only epilogue's codes, where the mark E is set, or how many epilogues have words of their own.
 #[derive(Clone, Copy)]
 pub enum Epilogues {
     Only(u64),

@@ -40,7 +40,6 @@ fn refused(number: u64) -> Arm64Reading
 }
 
 // 54: a lent list is too short.
-// Kept: both lists beside each other here and below, and no struct of them: C lends two, and each is passed on by itself.
 #[tactic(auto, unfolding(crate::specs::Answers::roomy))]
 fn room(es: &[u64], cs: &[u64], epilogues: u64, codes: usize) -> Result<(), u64>
     ensures { MatchResult result (λ x. roomy es.now cs.now epilogues codes ≡ true) (λ e. (e ≡ 54) × (roomy es.now cs.now epilogues codes ≡ false)) }

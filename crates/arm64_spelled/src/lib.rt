@@ -138,7 +138,6 @@ pub fn code_size(c: Code) -> usize
 }
 
 // A number in 1, 2 or 4 bytes, the first highest.
-// Kept: each size written out: to_be_bytes gives eight bytes, whose last ones would have to be cut out and copied.
 fn put_big(out: &mut [u8], at: usize, size: u64, n: u64) -> usize
     requires { (1 ≤ size) × (size ≤ 4) × (size ≡ 3 → ⊥) × (at + size ≤ length out.old) }
     ensures { Wrote out.old out.new at result (big size n) }

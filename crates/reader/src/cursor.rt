@@ -15,7 +15,7 @@ pub struct Entry {
 }
 
 // The entry at a position of a slice, or a question's number: 61 says that no entry fits the rest of the section, 62 that the section ends here.
-// Whoever is refused stays where he is.
+// On a refusal a position stays what it was.
 pub fn entry_at(section: &[u8], debug: bool, at: usize) -> Result<Entry, u64>
     ensures { result ≡ result_of (entry_at debug section.now at) }
 {

@@ -15,7 +15,6 @@ use std::marker::Model;
 // ---- the state
 
 // The rules stored, at most 16. A clause sees them as a list, the last first.
-// Kept: an array and how many of it are taken, and no `ArrayVec`: that wants a `Default` for its unused places, which the rules have not.
 #[derive(Drop)]
 pub struct Stored {
     places: [Rules; 16],

@@ -32,7 +32,7 @@ pub struct Place<'a> {
 // ---- the registers that a record and its header name
 
 // The registers 0 to 127 that an operation names.
-// Kept: a struct around the array, since the borrow checker does not cover a loop that assigns a call's array to a local.
+// Kept: a struct around the array. Tried without it: a loop that assigns the array a call gives back to a local gets no proof.
 #[derive(Clone, Copy)]
 pub struct Marks {
     pub named: [bool; 128],
