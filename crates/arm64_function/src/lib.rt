@@ -21,6 +21,7 @@ ghost use Rattle.arm64_function.specs.Record.{Whole, single_at, Shaped, scopes_a
 
 use arm64::{fields, header_bits, limits};
 use arm64_header::{Epilogues, Header};
+use arm64_lists::Lists;
 use arm64_simple::Run;
 use format::Refusal;
 
@@ -90,29 +91,33 @@ fn shares(cs: &[u64], left: u64, prologue: Run, epilogue: Run) -> bool
 }
 
 // The packed word of a function of `size` bytes with one epilogue.
-fn packed_one(es: &[u64], cs: &[u64], p: Parts, size: u64) -> Option<u64>
-    requires { Only es.now cs.now p size }
-    ensures { result ≡ packed_at es.now cs.now p size }
+fn packed_one(x: &Lists, p: Parts, size: u64) -> Option<u64>
+    requires { Only x.now.epilogues.now x.now.codes.now p size }
+    ensures { result ≡ packed_at x.now.epilogues.now x.now.codes.now p size }
 {
     let prologue = p.prologue;
-    let epilogue = epilogue_at(es, p.first);
-    let left = (size - es[fields::EPILOGUE_STRIDE * p.first]) / 4;
-    if !shares(cs, left, prologue, epilogue) {
+    let epilogue = epilogue_at(x.epilogues, p.first);
+    let left = (size - x.epilogues[fields::EPILOGUE_STRIDE * p.first]) / 4;
+    if !shares(x.codes, left, prologue, epilogue) {
         return None;
     }
-    arm64_packing::packed(cs, size / 4, prologue, epilogue)
+    arm64_packing::packed(x.codes, size / 4, prologue, epilogue)
 }
 
 // The packed word of function k.
-pub fn packed_word(fs: &[u64], es: &[u64], cs: &[u64], k: usize) -> Option<u64>
-    requires { Fine fs.now es.now cs.now k }
-    ensures { result ≡ pick (is_packed (numbered_function fs.now es.now cs.now k)) (Some (packed_word (candidate (instructions (numbered_function fs.now es.now cs.now k).size) (prologue_run (numbered_function fs.now es.now cs.now k))))) None }
+pub fn packed_word(x: &Lists, k: usize) -> Option<u64>
+    requires { Fine x.now.functions.now x.now.epilogues.now x.now.codes.now k }
+    ensures { result ≡ pick (is_packed (numbered_function x.now.functions.now x.now.epilogues.now x.now.codes.now k)) (Some (packed_word (candidate (instructions (numbered_function x.now.functions.now x.now.epilogues.now x.now.codes.now k).size) (prologue_run (numbered_function x.now.functions.now x.now.epilogues.now x.now.codes.now k))))) None }
 {
-    let p = parts_at(fs, k);
+    let p = parts_at(x.functions, k);
     if p.end - p.first != 1 {
         return None;
     }
-    packed_one(es, cs, p, fs[fields::FUNCTION_STRIDE * k + fields::LENGTH])
+    packed_one(
+        x,
+        p,
+        x.functions[fields::FUNCTION_STRIDE * k + fields::LENGTH],
+    )
 }
 
 // ---- questions 81 to 83
@@ -137,23 +142,23 @@ fn starts_ok(es: &[u64], size: u64, first: usize, end: usize) -> bool
 }
 
 // The values of the epilogues' codes.
-fn runs_fit(es: &[u64], cs: &[u64], p: Parts) -> bool
-    requires { Ready es.now cs.now p }
-    ensures { result ≡ all_in (fits_at es.now cs.now) p.first (p.end - p.first) }
+fn runs_fit(x: &Lists, p: Parts) -> bool
+    requires { Ready x.now.epilogues.now x.now.codes.now p }
+    ensures { result ≡ all_in (fits_at x.now.epilogues.now x.now.codes.now) p.first (p.end - p.first) }
 {
-    (p.first..p.end).all(|i| arm64_simple::run_fits(cs, epilogue_at(es, i)))
+    (p.first..p.end).all(|i| arm64_simple::run_fits(x.codes, epilogue_at(x.epilogues, i)))
 }
 
 // ---- runs of their own
 
 // The nearest epilogue in front of i with the same run. The search goes backwards: epilogues with few runs among them find theirs soon.
-fn nearest(es: &[u64], cs: &[u64], p: Parts, i: usize) -> Option<usize>
-    requires { Ready es.now cs.now p × (p.first ≤ i) × (i < p.end) }
-    ensures { Nearest es.now cs.now p i (unwrap_or result i) × IfSome result (λ j. j < i) }
+fn nearest(x: &Lists, p: Parts, i: usize) -> Option<usize>
+    requires { Ready x.now.epilogues.now x.now.codes.now p × (p.first ≤ i) × (i < p.end) }
+    ensures { Nearest x.now.epilogues.now x.now.codes.now p i (unwrap_or result i) × IfSome result (λ j. j < i) }
 {
-    let run = epilogue_at(es, i);
+    let run = epilogue_at(x.epilogues, i);
     for j in (p.first..i).rev() {
-        if arm64_sharing::same_run(cs, run, epilogue_at(es, j)) {
+        if arm64_sharing::same_run(x.codes, run, epilogue_at(x.epilogues, j)) {
             return Some(j);
         }
     }
@@ -161,53 +166,53 @@ fn nearest(es: &[u64], cs: &[u64], p: Parts, i: usize) -> Option<usize>
 }
 
 // How many bytes the run of epilogue i adds to the codes: none where it is not its own.
-fn own_size(es: &[u64], cs: &[u64], p: Parts, i: usize) -> usize
-    requires { Ready es.now cs.now p × (p.first ≤ i) × (i < p.end) }
-    ensures { (result ≡ length (runs_bytes (own_at es.now cs.now p i))) × (result < 2 ^ 63) }
+fn own_size(x: &Lists, p: Parts, i: usize) -> usize
+    requires { Ready x.now.epilogues.now x.now.codes.now p × (p.first ≤ i) × (i < p.end) }
+    ensures { (result ≡ length (runs_bytes (own_at x.now.epilogues.now x.now.codes.now p i))) × (result < 2 ^ 63) }
 {
-    let run = epilogue_at(es, i);
+    let run = epilogue_at(x.epilogues, i);
     let prologue = p.prologue;
-    if arm64_sharing::leads(cs, run, prologue) {
+    if arm64_sharing::leads(x.codes, run, prologue) {
         return 0;
     }
-    if nearest(es, cs, p, i).is_some() {
+    if nearest(x, p, i).is_some() {
         return 0;
     }
-    arm64_simple::run_size(cs, run) + 1
+    arm64_simple::run_size(x.codes, run) + 1
 }
 
 // How many bytes of codes there are, where a record holds them.
-fn codes_size(es: &[u64], cs: &[u64], p: Parts) -> Option<usize>
-    requires { Ready es.now cs.now p }
-    ensures { result ≡ held_to (length (codes_in es.now cs.now p)) }
+fn codes_size(x: &Lists, p: Parts) -> Option<usize>
+    requires { Ready x.now.epilogues.now x.now.codes.now p }
+    ensures { result ≡ held_to (length (codes_in x.now.epilogues.now x.now.codes.now p)) }
 {
     let prologue = p.prologue;
-    let mut size = arm64_simple::run_size(cs, prologue) + 1;
+    let mut size = arm64_simple::run_size(x.codes, prologue) + 1;
     for i in p.first..p.end {
         if limits::MOST_CODES < size {
             return None;
         }
-        size += own_size(es, cs, p, i);
+        size += own_size(x, p, i);
     }
     (size <= limits::MOST_CODES).then_some(size)
 }
 
 // Question 83: values that no field holds. More epilogues than a header counts are answered before their runs are compared.
-fn values_ok(es: &[u64], cs: &[u64], p: Parts) -> bool
-    requires { Ready es.now cs.now p }
-    ensures { result ≡ parts_ok es.now cs.now p }
+fn values_ok(x: &Lists, p: Parts) -> bool
+    requires { Ready x.now.epilogues.now x.now.codes.now p }
+    ensures { result ≡ parts_ok x.now.epilogues.now x.now.codes.now p }
 {
     let prologue = p.prologue;
-    if !arm64_simple::run_fits(cs, prologue) {
+    if !arm64_simple::run_fits(x.codes, prologue) {
         return false;
     }
-    if !runs_fit(es, cs, p) {
+    if !runs_fit(x, p) {
         return false;
     }
     if limits::MOST_EPILOGUES < p.end - p.first {
         return false;
     }
-    codes_size(es, cs, p).is_some()
+    codes_size(x, p).is_some()
 }
 
 // Question 81.
@@ -221,25 +226,25 @@ fn length_ok(size: u64) -> bool
 }
 
 // Questions 81 to 83: the position is 0.
-pub fn function_asks(fs: &[u64], es: &[u64], cs: &[u64], k: usize) -> Result<(), Refusal>
-    requires { Listed fs.now es.now cs.now k }
-    ensures { result ≡ question_of (function_asks k (numbered_function fs.now es.now cs.now k)) }
+pub fn function_asks(x: &Lists, k: usize) -> Result<(), Refusal>
+    requires { Listed x.now.functions.now x.now.epilogues.now x.now.codes.now k }
+    ensures { result ≡ question_of (function_asks k (numbered_function x.now.functions.now x.now.epilogues.now x.now.codes.now k)) }
 {
-    let size = fs[fields::FUNCTION_STRIDE * k + fields::LENGTH];
+    let size = x.functions[fields::FUNCTION_STRIDE * k + fields::LENGTH];
     if !length_ok(size) {
         return Err(Refusal {
             number: 81,
             position: 0,
         });
     }
-    let p = parts_at(fs, k);
-    if !starts_ok(es, size, p.first, p.end) {
+    let p = parts_at(x.functions, k);
+    if !starts_ok(x.epilogues, size, p.first, p.end) {
         return Err(Refusal {
             number: 82,
             position: 0,
         });
     }
-    if !values_ok(es, cs, p) {
+    if !values_ok(x, p) {
         return Err(Refusal {
             number: 83,
             position: 0,
@@ -259,12 +264,13 @@ fn index_in(out: &[u8], at: usize) -> usize
 }
 
 // The index of epilogue i, whose run leads in the prologue's.
-fn leading_index(es: &[u64], cs: &[u64], p: Parts, i: usize) -> usize
-    requires { Ready es.now cs.now p × (p.first ≤ i) × (i < p.end) × (leads (run_at es.now cs.now i) (prologue_in cs.now p) ≡ true) }
-    ensures { result ≡ index_at es.now cs.now p i }
+fn leading_index(x: &Lists, p: Parts, i: usize) -> usize
+    requires { Ready x.now.epilogues.now x.now.codes.now p × (p.first ≤ i) × (i < p.end) × (leads (run_at x.now.epilogues.now x.now.codes.now i) (prologue_in x.now.codes.now p) ≡ true) }
+    ensures { result ≡ index_at x.now.epilogues.now x.now.codes.now p i }
 {
     let prologue = p.prologue;
-    arm64_simple::run_size(cs, prologue) - arm64_simple::run_size(cs, epilogue_at(es, i))
+    arm64_simple::run_size(x.codes, prologue)
+        - arm64_simple::run_size(x.codes, epilogue_at(x.epilogues, i))
 }
 
 // An epilogue's index, and the bytes of codes once its run is written.
@@ -275,21 +281,21 @@ pub struct Scope {
 }
 
 // The index of epilogue i where the words in front of its own stand from `to` on: a run that was there before has its index in the word.
-fn scope_of(out: &[u8], to: usize, es: &[u64], cs: &[u64], p: Parts, i: usize, next: usize) -> Scope
-    requires { Ready es.now cs.now p × (p.first ≤ i) × (i < p.end) × Ahead es.now cs.now p next i × (next ≤ 1020) × Known out.now to es.now cs.now p i × (to + 4 * (i - p.first) ≤ length out.now) }
-    ensures { (result.index ≡ index_at es.now cs.now p i) × (result.next ≡ next + length (runs_bytes (own_at es.now cs.now p i))) }
+fn scope_of(out: &[u8], to: usize, x: &Lists, p: Parts, i: usize, next: usize) -> Scope
+    requires { Ready x.now.epilogues.now x.now.codes.now p × (p.first ≤ i) × (i < p.end) × Ahead x.now.epilogues.now x.now.codes.now p next i × (next ≤ 1020) × Known out.now to x.now.epilogues.now x.now.codes.now p i × (to + 4 * (i - p.first) ≤ length out.now) }
+    ensures { (result.index ≡ index_at x.now.epilogues.now x.now.codes.now p i) × (result.next ≡ next + length (runs_bytes (own_at x.now.epilogues.now x.now.codes.now p i))) }
 {
-    let run = epilogue_at(es, i);
+    let run = epilogue_at(x.epilogues, i);
     let prologue = p.prologue;
-    if arm64_sharing::leads(cs, run, prologue) {
-        let index = leading_index(es, cs, p, i);
+    if arm64_sharing::leads(x.codes, run, prologue) {
+        let index = leading_index(x, p, i);
         return Scope { index, next };
     }
-    if let Some(j) = nearest(es, cs, p, i) {
+    if let Some(j) = nearest(x, p, i) {
         let index = index_in(out, to + 4 * (j - p.first));
         return Scope { index, next };
     }
-    let size = arm64_simple::run_size(cs, run) + 1;
+    let size = arm64_simple::run_size(x.codes, run) + 1;
     Scope {
         index: next,
         next: next + size,
@@ -299,55 +305,55 @@ fn scope_of(out: &[u8], to: usize, es: &[u64], cs: &[u64], p: Parts, i: usize, n
 // ---- the codes
 
 // The run of epilogue i, where it is its own.
-fn put_own(out: &mut [u8], at: usize, es: &[u64], cs: &[u64], p: Parts, i: usize) -> usize
-    requires { Ready es.now cs.now p × Fitted es.now cs.now p × (p.first ≤ i) × (i < p.end) × (at + length (runs_bytes (own_at es.now cs.now p i)) ≤ length out.old) }
-    ensures { Wrote out.old out.new at result (runs_bytes (own_at es.now cs.now p i)) }
+fn put_own(out: &mut [u8], at: usize, x: &Lists, p: Parts, i: usize) -> usize
+    requires { Ready x.now.epilogues.now x.now.codes.now p × Fitted x.now.epilogues.now x.now.codes.now p × (p.first ≤ i) × (i < p.end) × (at + length (runs_bytes (own_at x.now.epilogues.now x.now.codes.now p i)) ≤ length out.old) }
+    ensures { Wrote out.old out.new at result (runs_bytes (own_at x.now.epilogues.now x.now.codes.now p i)) }
 {
-    let size = own_size(es, cs, p, i);
+    let size = own_size(x, p, i);
     if size == 0 {
         return at;
     }
-    arm64_sharing::put_run(out, at, size - 1, cs, epilogue_at(es, i))
+    arm64_sharing::put_run(out, at, size - 1, x.codes, epilogue_at(x.epilogues, i))
 }
 
 // The runs of the epilogues that have their own.
-fn put_owns(out: &mut [u8], at: usize, es: &[u64], cs: &[u64], p: Parts) -> usize
-    requires { Ready es.now cs.now p × Fitted es.now cs.now p × (at + length (runs_bytes (own_in es.now cs.now p)) ≤ length out.old) }
-    ensures { Wrote out.old out.new at result (runs_bytes (own_in es.now cs.now p)) }
+fn put_owns(out: &mut [u8], at: usize, x: &Lists, p: Parts) -> usize
+    requires { Ready x.now.epilogues.now x.now.codes.now p × Fitted x.now.epilogues.now x.now.codes.now p × (at + length (runs_bytes (own_in x.now.epilogues.now x.now.codes.now p)) ≤ length out.old) }
+    ensures { Wrote out.old out.new at result (runs_bytes (own_in x.now.epilogues.now x.now.codes.now p)) }
 {
     let mut q = at;
     for i in p.first..p.end {
-        q = put_own(out, q, es, cs, p, i);
+        q = put_own(out, q, x, p, i);
     }
     q
 }
 
 // The prologue's codes, and those.
-fn put_codes(out: &mut [u8], at: usize, es: &[u64], cs: &[u64], p: Parts) -> usize
-    requires { Ready es.now cs.now p × Fitted es.now cs.now p × (at + length (codes_in es.now cs.now p) ≤ length out.old) }
-    ensures { Wrote out.old out.new at result (codes_in es.now cs.now p) }
+fn put_codes(out: &mut [u8], at: usize, x: &Lists, p: Parts) -> usize
+    requires { Ready x.now.epilogues.now x.now.codes.now p × Fitted x.now.epilogues.now x.now.codes.now p × (at + length (codes_in x.now.epilogues.now x.now.codes.now p) ≤ length out.old) }
+    ensures { Wrote out.old out.new at result (codes_in x.now.epilogues.now x.now.codes.now p) }
 {
     let prologue = p.prologue;
-    let size = arm64_simple::run_size(cs, prologue);
-    let q = arm64_sharing::put_run(out, at, size, cs, prologue);
-    put_owns(out, q, es, cs, p)
+    let size = arm64_simple::run_size(x.codes, prologue);
+    let q = arm64_sharing::put_run(out, at, size, x.codes, prologue);
+    put_owns(out, q, x, p)
 }
 
 // The words of the epilogues.
-fn put_scopes(out: &mut [u8], to: usize, es: &[u64], cs: &[u64], p: Parts) -> usize
-    requires { Ready es.now cs.now p × Started es.now p × (length (codes_in es.now cs.now p) ≤ 1020) × (to + 4 * (p.end - p.first) ≤ length out.old) }
-    ensures { Wrote out.old out.new to result (words_from es.now cs.now p p.first (p.end - p.first)) }
+fn put_scopes(out: &mut [u8], to: usize, x: &Lists, p: Parts) -> usize
+    requires { Ready x.now.epilogues.now x.now.codes.now p × Started x.now.epilogues.now p × (length (codes_in x.now.epilogues.now x.now.codes.now p) ≤ 1020) × (to + 4 * (p.end - p.first) ≤ length out.old) }
+    ensures { Wrote out.old out.new to result (words_from x.now.epilogues.now x.now.codes.now p p.first (p.end - p.first)) }
 {
     let prologue = p.prologue;
-    let mut next = arm64_simple::run_size(cs, prologue) + 1;
+    let mut next = arm64_simple::run_size(x.codes, prologue) + 1;
     let mut q = to;
     for i in p.first..p.end {
-        let s = scope_of(out, to, es, cs, p, i, next);
+        let s = scope_of(out, to, x, p, i, next);
         q = leb::le(
             out,
             q,
             4,
-            es[fields::EPILOGUE_STRIDE * i] / 4 + header_bits::INDEX * s.index as u64,
+            x.epilogues[fields::EPILOGUE_STRIDE * i] / 4 + header_bits::INDEX * s.index as u64,
         );
         next = s.next;
     }
@@ -357,22 +363,22 @@ fn put_scopes(out: &mut [u8], to: usize, es: &[u64], cs: &[u64], p: Parts) -> us
 // ---- the record
 
 // The index of the only epilogue.
-fn only_index(es: &[u64], cs: &[u64], p: Parts) -> usize
-    requires { Ready es.now cs.now p × (p.end - p.first ≡ 1) }
-    ensures { result ≡ index_at es.now cs.now p p.first }
+fn only_index(x: &Lists, p: Parts) -> usize
+    requires { Ready x.now.epilogues.now x.now.codes.now p × (p.end - p.first ≡ 1) }
+    ensures { result ≡ index_at x.now.epilogues.now x.now.codes.now p p.first }
 {
     let prologue = p.prologue;
-    let run = epilogue_at(es, p.first);
-    if arm64_sharing::leads(cs, run, prologue) {
-        return leading_index(es, cs, p, p.first);
+    let run = epilogue_at(x.epilogues, p.first);
+    if arm64_sharing::leads(x.codes, run, prologue) {
+        return leading_index(x, p, p.first);
     }
-    arm64_simple::run_size(cs, prologue) + 1
+    arm64_simple::run_size(x.codes, prologue) + 1
 }
 
 // E: the index of an only epilogue at the function's end, where the short header holds it and the codes.
-fn single_index(es: &[u64], cs: &[u64], p: Parts, size: u64, codes: usize) -> Option<u64>
-    requires { Whole es.now cs.now p size × (codes ≡ length (codes_in es.now cs.now p)) }
-    ensures { result ≡ pick (single_at es.now cs.now p size) (Some (index_at es.now cs.now p p.first)) None }
+fn single_index(x: &Lists, p: Parts, size: u64, codes: usize) -> Option<u64>
+    requires { Whole x.now.epilogues.now x.now.codes.now p size × (codes ≡ length (codes_in x.now.epilogues.now x.now.codes.now p)) }
+    ensures { result ≡ pick (single_at x.now.epilogues.now x.now.codes.now p size) (Some (index_at x.now.epilogues.now x.now.codes.now p p.first)) None }
 {
     if p.end - p.first != 1 {
         return None;
@@ -380,12 +386,12 @@ fn single_index(es: &[u64], cs: &[u64], p: Parts, size: u64, codes: usize) -> Op
     if limits::SHORT_CODES < codes {
         return None;
     }
-    let index = only_index(es, cs, p);
+    let index = only_index(x, p);
     if limits::SHORT_INDEX < index {
         return None;
     }
-    let left = (size - es[fields::EPILOGUE_STRIDE * p.first]) / 4;
-    if left != es[fields::EPILOGUE_STRIDE * p.first + fields::CODES] + 1 {
+    let left = (size - x.epilogues[fields::EPILOGUE_STRIDE * p.first]) / 4;
+    if left != x.epilogues[fields::EPILOGUE_STRIDE * p.first + fields::CODES] + 1 {
         return None;
     }
     Some(index as u64)
@@ -398,12 +404,12 @@ pub struct Shape {
     pub codes: usize,
 }
 
-fn shape_of(es: &[u64], cs: &[u64], p: Parts, size: u64) -> Shape
-    requires { Whole es.now cs.now p size }
-    ensures { Shaped es.now cs.now p size result }
+fn shape_of(x: &Lists, p: Parts, size: u64) -> Shape
+    requires { Whole x.now.epilogues.now x.now.codes.now p size }
+    ensures { Shaped x.now.epilogues.now x.now.codes.now p size result }
 {
-    let codes = codes_size(es, cs, p).unwrap();
-    match single_index(es, cs, p, size, codes) {
+    let codes = codes_size(x, p).unwrap();
+    match single_index(x, p, size, codes) {
         Some(index) => Shape {
             epilogues: Epilogues::Only(index),
             codes,
@@ -415,11 +421,11 @@ fn shape_of(es: &[u64], cs: &[u64], p: Parts, size: u64) -> Shape
     }
 }
 
-fn record_size(es: &[u64], cs: &[u64], p: Parts, size: u64) -> usize
-    requires { Whole es.now cs.now p size }
-    ensures { (result ≡ length (record_at es.now cs.now p size)) × (result ≤ 300000) }
+fn record_size(x: &Lists, p: Parts, size: u64) -> usize
+    requires { Whole x.now.epilogues.now x.now.codes.now p size }
+    ensures { (result ≡ length (record_at x.now.epilogues.now x.now.codes.now p size)) × (result ≤ 300000) }
 {
-    let s = shape_of(es, cs, p, size);
+    let s = shape_of(x, p, size);
     let words = (s.codes + 3) / 4;
     let header = Header {
         length: size / 4,
@@ -434,28 +440,21 @@ fn record_size(es: &[u64], cs: &[u64], p: Parts, size: u64) -> usize
 }
 
 // The epilogues' words, where E is not set.
-fn put_words(
-    out: &mut [u8],
-    at: usize,
-    es: &[u64],
-    cs: &[u64],
-    p: Parts,
-    epilogues: Epilogues,
-) -> usize
-    requires { Ready es.now cs.now p × Started es.now p × (length (codes_in es.now cs.now p) ≤ 1020) × (at + length (scopes_at es.now cs.now p (only_in epilogues)) ≤ length out.old) }
-    ensures { Wrote out.old out.new at result (scopes_at es.now cs.now p (only_in epilogues)) }
+fn put_words(out: &mut [u8], at: usize, x: &Lists, p: Parts, epilogues: Epilogues) -> usize
+    requires { Ready x.now.epilogues.now x.now.codes.now p × Started x.now.epilogues.now p × (length (codes_in x.now.epilogues.now x.now.codes.now p) ≤ 1020) × (at + length (scopes_at x.now.epilogues.now x.now.codes.now p (only_in epilogues)) ≤ length out.old) }
+    ensures { Wrote out.old out.new at result (scopes_at x.now.epilogues.now x.now.codes.now p (only_in epilogues)) }
 {
     match epilogues {
         Epilogues::Only(_) => at,
-        Epilogues::Many(_) => put_scopes(out, at, es, cs, p),
+        Epilogues::Many(_) => put_scopes(out, at, x, p),
     }
 }
 
-fn put_record(out: &mut [u8], at: usize, es: &[u64], cs: &[u64], p: Parts, size: u64) -> usize
-    requires { Whole es.now cs.now p size × (at + length (record_at es.now cs.now p size) ≤ length out.old) }
-    ensures { Wrote out.old out.new at result (record_at es.now cs.now p size) }
+fn put_record(out: &mut [u8], at: usize, x: &Lists, p: Parts, size: u64) -> usize
+    requires { Whole x.now.epilogues.now x.now.codes.now p size × (at + length (record_at x.now.epilogues.now x.now.codes.now p size) ≤ length out.old) }
+    ensures { Wrote out.old out.new at result (record_at x.now.epilogues.now x.now.codes.now p size) }
 {
-    let s = shape_of(es, cs, p, size);
+    let s = shape_of(x, p, size);
     let words = (s.codes + 3) / 4;
     let header = Header {
         length: size / 4,
@@ -463,41 +462,39 @@ fn put_record(out: &mut [u8], at: usize, es: &[u64], cs: &[u64], p: Parts, size:
         words: words as u64,
     };
     let a = header.put(out, at);
-    let b = put_words(out, a, es, cs, p, s.epilogues);
-    let c = put_codes(out, b, es, cs, p);
+    let b = put_words(out, a, x, p, s.epilogues);
+    let c = put_codes(out, b, x, p);
     arm64_header::pad(out, c, 4 * words - s.codes)
 }
 
 // How many bytes a function's record has: none where it is packed.
-pub fn info_size(fs: &[u64], es: &[u64], cs: &[u64], k: usize) -> usize
-    requires { Fine fs.now es.now cs.now k }
-    ensures { (result ≡ length (info_of (numbered_function fs.now es.now cs.now k))) × (result ≤ 300000) }
+pub fn info_size(x: &Lists, k: usize) -> usize
+    requires { Fine x.now.functions.now x.now.epilogues.now x.now.codes.now k }
+    ensures { (result ≡ length (info_of (numbered_function x.now.functions.now x.now.epilogues.now x.now.codes.now k))) × (result ≤ 300000) }
 {
-    if packed_word(fs, es, cs, k).is_some() {
+    if packed_word(x, k).is_some() {
         return 0;
     }
     record_size(
-        es,
-        cs,
-        parts_at(fs, k),
-        fs[fields::FUNCTION_STRIDE * k + fields::LENGTH],
+        x,
+        parts_at(x.functions, k),
+        x.functions[fields::FUNCTION_STRIDE * k + fields::LENGTH],
     )
 }
 
 // A function's record.
-pub fn put_info(out: &mut [u8], at: usize, fs: &[u64], es: &[u64], cs: &[u64], k: usize) -> usize
-    requires { Fine fs.now es.now cs.now k × (at + length (info_of (numbered_function fs.now es.now cs.now k)) ≤ length out.old) }
-    ensures { Wrote out.old out.new at result (info_of (numbered_function fs.now es.now cs.now k)) }
+pub fn put_info(out: &mut [u8], at: usize, x: &Lists, k: usize) -> usize
+    requires { Fine x.now.functions.now x.now.epilogues.now x.now.codes.now k × (at + length (info_of (numbered_function x.now.functions.now x.now.epilogues.now x.now.codes.now k)) ≤ length out.old) }
+    ensures { Wrote out.old out.new at result (info_of (numbered_function x.now.functions.now x.now.epilogues.now x.now.codes.now k)) }
 {
-    if packed_word(fs, es, cs, k).is_some() {
+    if packed_word(x, k).is_some() {
         return at;
     }
     put_record(
         out,
         at,
-        es,
-        cs,
-        parts_at(fs, k),
-        fs[fields::FUNCTION_STRIDE * k + fields::LENGTH],
+        x,
+        parts_at(x.functions, k),
+        x.functions[fields::FUNCTION_STRIDE * k + fields::LENGTH],
     )
 }

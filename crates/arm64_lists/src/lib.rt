@@ -9,6 +9,14 @@ ghost use Rattle.arm64.specs.Writer.{code_ok_at, codes_ok_in, epilogue_ok_at, fu
 
 use arm64::fields;
 
+// The writer's lists: functions of 6 numbers, epilogues of 3 and codes of 3.
+#[derive(Clone, Copy)]
+pub struct Lists<'a> {
+    pub functions: &'a [u64],
+    pub epilogues: &'a [u64],
+    pub codes: &'a [u64],
+}
+
 fn code_ok(cs: &[u64], i: usize) -> bool
     requires { 3 * i + 3 ≤ length cs.now }
     ensures { result ≡ code_ok_at cs.now i }
@@ -67,33 +75,33 @@ fn epilogues_in(es: &[u64], cs: &[u64], at: usize, n: usize) -> bool
     (at..at + n).all(|i| epilogue_ok(es, cs, i))
 }
 
-fn function_ok(fs: &[u64], es: &[u64], cs: &[u64], k: usize) -> bool
-    requires { 6 * k + 6 ≤ length fs.now }
-    ensures { result ≡ function_ok_at fs.now es.now cs.now k }
+fn function_ok(x: &Lists, k: usize) -> bool
+    requires { 6 * k + 6 ≤ length x.now.functions.now }
+    ensures { result ≡ function_ok_at x.now.functions.now x.now.epilogues.now x.now.codes.now k }
 {
-    if !lists::symbol_ok(fs[fields::FUNCTION_STRIDE * k]) {
+    if !lists::symbol_ok(x.functions[fields::FUNCTION_STRIDE * k]) {
         return false;
     }
     if !codes_ok_in(
-        cs,
-        fs[fields::FUNCTION_STRIDE * k + fields::PROLOGUE_AT],
-        fs[fields::FUNCTION_STRIDE * k + fields::PROLOGUE],
+        x.codes,
+        x.functions[fields::FUNCTION_STRIDE * k + fields::PROLOGUE_AT],
+        x.functions[fields::FUNCTION_STRIDE * k + fields::PROLOGUE],
     ) {
         return false;
     }
-    let at = fs[fields::FUNCTION_STRIDE * k + fields::EPILOGUES_AT];
-    let n = fs[fields::FUNCTION_STRIDE * k + fields::EPILOGUES];
-    if !lists::inside(at, n, (es.len() / fields::EPILOGUE_STRIDE) as u64) {
+    let at = x.functions[fields::FUNCTION_STRIDE * k + fields::EPILOGUES_AT];
+    let n = x.functions[fields::FUNCTION_STRIDE * k + fields::EPILOGUES];
+    if !lists::inside(at, n, (x.epilogues.len() / fields::EPILOGUE_STRIDE) as u64) {
         return false;
     }
-    epilogues_in(es, cs, at as usize, n as usize)
+    epilogues_in(x.epilogues, x.codes, at as usize, n as usize)
 }
 
-pub fn functions_ok(fs: &[u64], es: &[u64], cs: &[u64], n: usize) -> bool
-    requires { 6 * n ≤ length fs.now }
-    ensures { result ≡ all_in (function_ok_at fs.now es.now cs.now) 0 n }
+pub fn functions_ok(x: &Lists, n: usize) -> bool
+    requires { 6 * n ≤ length x.now.functions.now }
+    ensures { result ≡ all_in (function_ok_at x.now.functions.now x.now.epilogues.now x.now.codes.now) 0 n }
 {
-    (0..n).all(|k| function_ok(fs, es, cs, k))
+    (0..n).all(|k| function_ok(x, k))
 }
 
 // ---- sums
@@ -144,18 +152,18 @@ fn codes_sum(fs: &[u64], es: &[u64], n: usize) -> Option<u64>
 }
 
 // Question 13.
-pub fn lists_ok(fs: &[u64], es: &[u64], cs: &[u64]) -> bool
-    ensures { result ≡ lists_ok fs.now es.now cs.now }
+pub fn lists_ok(x: &Lists) -> bool
+    ensures { result ≡ lists_ok x.now.functions.now x.now.epilogues.now x.now.codes.now }
 {
-    let n = fs.len() / fields::FUNCTION_STRIDE;
+    let n = x.functions.len() / fields::FUNCTION_STRIDE;
     if lists::MOST_FUNCTIONS < n {
         return false;
     }
-    if !lists::sum_ok(fs, fields::FUNCTION_STRIDE, fields::EPILOGUES, n) {
+    if !lists::sum_ok(x.functions, fields::FUNCTION_STRIDE, fields::EPILOGUES, n) {
         return false;
     }
-    if !functions_ok(fs, es, cs, n) {
+    if !functions_ok(x, n) {
         return false;
     }
-    codes_sum(fs, es, n).is_some()
+    codes_sum(x.functions, x.epilogues, n).is_some()
 }

@@ -16,7 +16,7 @@ ghost use Rattle.arm64_table.specs.Tables.{relocs_by, reloc_count, mark_by, firs
 
 use arm64::fields;
 use arm64_function::{function_asks, info_size, packed_word, put_info};
-use arm64_lists::lists_ok;
+use arm64_lists::{Lists, lists_ok};
 use format::{Counts, Refusal};
 use relocs::{number, relocation};
 use unwind::{Written, written_of};
@@ -79,12 +79,12 @@ fn mark(at: usize, past: usize) -> u64
 // ---- the questions of all functions
 
 // 81 to 83 of n functions: the position is 0.
-fn first_no(fs: &[u64], es: &[u64], cs: &[u64], n: usize) -> Result<(), Refusal>
-    requires { AllListed fs.now es.now cs.now n }
-    ensures { result ≡ question_of (per_function function_asks 0 (first_of fs.now es.now cs.now n)) }
+fn first_no(x: &Lists, n: usize) -> Result<(), Refusal>
+    requires { AllListed x.now.functions.now x.now.epilogues.now x.now.codes.now n }
+    ensures { result ≡ question_of (per_function function_asks 0 (first_of x.now.functions.now x.now.epilogues.now x.now.codes.now n)) }
 {
     for k in 0..n {
-        function_asks(fs, es, cs, k)?;
+        function_asks(x, k)?;
     }
     Ok(())
 }
@@ -98,14 +98,14 @@ struct Needed {
     relocations: usize,
 }
 
-fn sizes(fs: &[u64], es: &[u64], cs: &[u64], n: usize) -> Needed
-    requires { AllFine fs.now es.now cs.now n }
-    ensures { (result.info ≡ length (infos_of (first_of fs.now es.now cs.now n))) × (result.relocations ≡ length (relocs_from 0 (first_of fs.now es.now cs.now n))) × (result.relocations ≤ 2 * most_functions) }
+fn sizes(x: &Lists, n: usize) -> Needed
+    requires { AllFine x.now.functions.now x.now.epilogues.now x.now.codes.now n }
+    ensures { (result.info ≡ length (infos_of (first_of x.now.functions.now x.now.epilogues.now x.now.codes.now n))) × (result.relocations ≡ length (relocs_from 0 (first_of x.now.functions.now x.now.epilogues.now x.now.codes.now n))) × (result.relocations ≤ 2 * most_functions) }
 {
     let mut info = 0;
     let mut relocations = 0;
     for k in 0..n {
-        let size = info_size(fs, es, cs, k);
+        let size = info_size(x, k);
         info += size;
         relocations += row_relocs(size);
     }
@@ -113,26 +113,19 @@ fn sizes(fs: &[u64], es: &[u64], cs: &[u64], n: usize) -> Needed
 }
 
 // The rows of n functions, and their relocations.
-fn put_rows(
-    bytes: &mut [u8],
-    relocations: &mut [u64],
-    fs: &[u64],
-    es: &[u64],
-    cs: &[u64],
-    n: usize,
-) -> usize
-    requires { AllFine fs.now es.now cs.now n × (8 * n ≤ length bytes.old) × (5 * length (relocs_from 0 (first_of fs.now es.now cs.now n)) ≤ length relocations.old) }
-    ensures { (bytes.new ≡ put bytes.old 0 (rows_of (first_of fs.now es.now cs.now n))) × (relocations.new ≡ put relocations.old 0 (numbers_of (relocs_from 0 (first_of fs.now es.now cs.now n)))) }
+fn put_rows(bytes: &mut [u8], relocations: &mut [u64], x: &Lists, n: usize) -> usize
+    requires { AllFine x.now.functions.now x.now.epilogues.now x.now.codes.now n × (8 * n ≤ length bytes.old) × (5 * length (relocs_from 0 (first_of x.now.functions.now x.now.epilogues.now x.now.codes.now n)) ≤ length relocations.old) }
+    ensures { (bytes.new ≡ put bytes.old 0 (rows_of (first_of x.now.functions.now x.now.epilogues.now x.now.codes.now n))) × (relocations.new ≡ put relocations.old 0 (numbers_of (relocs_from 0 (first_of x.now.functions.now x.now.epilogues.now x.now.codes.now n)))) }
 {
     let mut to = 0;
     for k in 0..n {
-        let word = packed_word(fs, es, cs, k);
+        let word = packed_word(x, k);
         put_row(bytes, 8 * k, word.unwrap_or(0));
         to = put_row_relocs(
             relocations,
             to,
             (8 * k) as u64,
-            fs[fields::FUNCTION_STRIDE * k],
+            x.functions[fields::FUNCTION_STRIDE * k],
             word,
         );
     }
@@ -140,20 +133,13 @@ fn put_rows(
 }
 
 // The records of n functions, and where each stands.
-fn put_infos(
-    markers: &mut [u64],
-    info: &mut [u8],
-    fs: &[u64],
-    es: &[u64],
-    cs: &[u64],
-    n: usize,
-) -> usize
-    requires { AllFine fs.now es.now cs.now n × (n ≤ length markers.old) × (length (infos_of (first_of fs.now es.now cs.now n)) ≤ length info.old) }
-    ensures { (markers.new ≡ put markers.old 0 (markers_from 0 (first_of fs.now es.now cs.now n))) × (info.new ≡ put info.old 0 (infos_of (first_of fs.now es.now cs.now n))) }
+fn put_infos(markers: &mut [u64], info: &mut [u8], x: &Lists, n: usize) -> usize
+    requires { AllFine x.now.functions.now x.now.epilogues.now x.now.codes.now n × (n ≤ length markers.old) × (length (infos_of (first_of x.now.functions.now x.now.epilogues.now x.now.codes.now n)) ≤ length info.old) }
+    ensures { (markers.new ≡ put markers.old 0 (markers_from 0 (first_of x.now.functions.now x.now.epilogues.now x.now.codes.now n))) × (info.new ≡ put info.old 0 (infos_of (first_of x.now.functions.now x.now.epilogues.now x.now.codes.now n))) }
 {
     let mut at = 0;
     for k in 0..n {
-        let past = put_info(info, at, fs, es, cs, k);
+        let past = put_info(info, at, x, k);
         number(markers, k, mark(at, past));
         at = past;
     }
@@ -162,9 +148,7 @@ fn put_infos(
 
 // All results of n functions, where they have room.
 fn put_all(
-    fs: &[u64],
-    es: &[u64],
-    cs: &[u64],
+    x: &Lists,
     n: usize,
     needed: Needed,
     markers: &mut [u64],
@@ -172,11 +156,11 @@ fn put_all(
     relocations: &mut [u64],
     info: &mut [u8],
 ) -> Result<Option<Counts>, Refusal>
-    requires { AllFine fs.now es.now cs.now n × (needed.info ≡ length (infos_of (first_of fs.now es.now cs.now n))) × (needed.relocations ≡ length (relocs_from 0 (first_of fs.now es.now cs.now n))) × (n ≤ length markers.old) × (8 * n ≤ length bytes.old) × (5 * needed.relocations ≤ length relocations.old) × (needed.info ≤ length info.old) }
-    ensures { Writes (accepted (arm64 (first_of fs.now es.now cs.now n))) result markers.old markers.new bytes.old bytes.new relocations.old relocations.new info.old info.new }
+    requires { AllFine x.now.functions.now x.now.epilogues.now x.now.codes.now n × (needed.info ≡ length (infos_of (first_of x.now.functions.now x.now.epilogues.now x.now.codes.now n))) × (needed.relocations ≡ length (relocs_from 0 (first_of x.now.functions.now x.now.epilogues.now x.now.codes.now n))) × (n ≤ length markers.old) × (8 * n ≤ length bytes.old) × (5 * needed.relocations ≤ length relocations.old) × (needed.info ≤ length info.old) }
+    ensures { Writes (accepted (arm64 (first_of x.now.functions.now x.now.epilogues.now x.now.codes.now n))) result markers.old markers.new bytes.old bytes.new relocations.old relocations.new info.old info.new }
 {
-    put_rows(bytes, relocations, fs, es, cs, n);
-    put_infos(markers, info, fs, es, cs, n);
+    put_rows(bytes, relocations, x, n);
+    put_infos(markers, info, x, n);
     Ok(Some(Counts {
         places: n as u64,
         bytes: (8 * n) as u64,
@@ -189,19 +173,17 @@ fn put_all(
 
 // The results, where they have room.
 fn write(
-    fs: &[u64],
-    es: &[u64],
-    cs: &[u64],
+    x: &Lists,
     n: usize,
     markers: &mut [u64],
     bytes: &mut [u8],
     relocations: &mut [u64],
     info: &mut [u8],
 ) -> Result<Option<Counts>, Refusal>
-    requires { AllFine fs.now es.now cs.now n }
-    ensures { Writes (fitting (room_in markers.old bytes.old relocations.old info.old) (arm64 (first_of fs.now es.now cs.now n))) result markers.old markers.new bytes.old bytes.new relocations.old relocations.new info.old info.new }
+    requires { AllFine x.now.functions.now x.now.epilogues.now x.now.codes.now n }
+    ensures { Writes (fitting (room_in markers.old bytes.old relocations.old info.old) (arm64 (first_of x.now.functions.now x.now.epilogues.now x.now.codes.now n))) result markers.old markers.new bytes.old bytes.new relocations.old relocations.new info.old info.new }
 {
-    let needed = sizes(fs, es, cs, n);
+    let needed = sizes(x, n);
     let counts = Counts {
         places: n as u64,
         bytes: (8 * n) as u64,
@@ -215,25 +197,23 @@ fn write(
         sites: info.len() as u64,
     };
     lists::room(counts, lent)?;
-    put_all(fs, es, cs, n, needed, markers, bytes, relocations, info)
+    put_all(x, n, needed, markers, bytes, relocations, info)
 }
 
 // The questions of n functions, and the results.
 fn answer(
-    fs: &[u64],
-    es: &[u64],
-    cs: &[u64],
+    x: &Lists,
     n: usize,
     markers: &mut [u64],
     bytes: &mut [u8],
     relocations: &mut [u64],
     info: &mut [u8],
 ) -> Result<Option<Counts>, Refusal>
-    requires { AllListed fs.now es.now cs.now n }
-    ensures { Writes (unless (per_function function_asks 0 (first_of fs.now es.now cs.now n)) (fitting (room_in markers.old bytes.old relocations.old info.old) (arm64 (first_of fs.now es.now cs.now n)))) result markers.old markers.new bytes.old bytes.new relocations.old relocations.new info.old info.new }
+    requires { AllListed x.now.functions.now x.now.epilogues.now x.now.codes.now n }
+    ensures { Writes (unless (per_function function_asks 0 (first_of x.now.functions.now x.now.epilogues.now x.now.codes.now n)) (fitting (room_in markers.old bytes.old relocations.old info.old) (arm64 (first_of x.now.functions.now x.now.epilogues.now x.now.codes.now n)))) result markers.old markers.new bytes.old bytes.new relocations.old relocations.new info.old info.new }
 {
-    first_no(fs, es, cs, n)?;
-    write(fs, es, cs, n, markers, bytes, relocations, info)
+    first_no(x, n)?;
+    write(x, n, markers, bytes, relocations, info)
 }
 
 // The table of the functions in three lists: functions of 6 numbers (symbol, length, prologue_at, prologue, epilogues_at, epilogues), epilogues of 3
@@ -255,22 +235,18 @@ pub fn table(
     if n == 0 {
         return Ok(None);
     }
-    if !lists_ok(functions, epilogues, codes) {
+    let x = Lists {
+        functions,
+        epilogues,
+        codes,
+    };
+    if !lists_ok(&x) {
         return Err(Refusal {
             number: 13,
             position: 0,
         });
     }
-    answer(
-        functions,
-        epilogues,
-        codes,
-        n,
-        markers,
-        bytes,
-        relocations,
-        info,
-    )
+    answer(&x, n, markers, bytes, relocations, info)
 }
 
 // ---- the C interface

@@ -16,7 +16,7 @@ pub epilogue_at-requires : goal.epilogue_at-requires
 epilogue_at-requires c = omega (arith, c.loop-j-test.true, c.loop-j.invariant.1.high, c.requires.0.room, c.requires.2)
 
 pub same_run-requires : goal.same_run-requires
-same_run-requires c = (subst (Inside c.args.cs.now) (sym c.loop-j.invariant.0) (c.requires.0.inside c.args.i c.requires.1 c.requires.2), subst (Inside c.args.cs.now) (sym c.epilogue_at.ensures) (c.requires.0.inside (c.loop-j.j - 1) (omega (arith, c.loop-j-test.true)) (omega (arith, c.loop-j-test.true, c.loop-j.invariant.1.high, c.requires.2))))
+same_run-requires c = (subst (Inside c.args.x.now.codes.now) (sym c.loop-j.invariant.0) (c.requires.0.inside c.args.i c.requires.1 c.requires.2), subst (Inside c.args.x.now.codes.now) (sym c.epilogue_at.ensures) (c.requires.0.inside (c.loop-j.j - 1) (omega (arith, c.loop-j-test.true)) (omega (arith, c.loop-j-test.true, c.loop-j.invariant.1.high, c.requires.2))))
 
 pub returns-then-same_run : goal.returns-then-same_run
 returns-then-same_run c = (searching_found c.loop-j.invariant.1 c.loop-j-test.true c.loop-j.invariant.0 c.epilogue_at.ensures c.same_run.ensures c.if-same_run.true, omega (arith, c.loop-j-test.true, c.loop-j.invariant.1.high))

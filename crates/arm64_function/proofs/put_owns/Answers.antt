@@ -4,7 +4,7 @@ use Rattle.arm64_function.proofs.Codes.{codes_start, codes_turn, codes_ended, co
 use Rattle.arm64_function.proofs.put_owns.Goals as goal
 
 pub loop-i-init : goal.loop-i-init
-loop-i-init c = codes_start c.args.es.now c.args.cs.now c.args.p c.requires.2
+loop-i-init c = codes_start c.args.x.now.epilogues.now c.args.x.now.codes.now c.args.p c.requires.2
 
 pub put_own-q-requires : goal.put_own-q-requires
 put_own-q-requires c = (c.requires.0, c.requires.1, c.loop-i.invariant.low, c.loop-i-test.true, codes_room c.loop-i.invariant c.loop-i-test.true)

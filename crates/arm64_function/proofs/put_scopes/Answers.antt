@@ -11,7 +11,7 @@ pub overflow_add-next : goal.overflow_add-next
 overflow_add-next c = omega (arith, c.run_size-next.ensures.1, c.requires.0.prologue.low)
 
 pub loop-i-init : goal.loop-i-init
-loop-i-init c = scoping_start c.args.es.now c.args.cs.now c.args.p c.requires.3 c.run_size-next.ensures.0
+loop-i-init c = scoping_start c.args.x.now.epilogues.now c.args.x.now.codes.now c.args.p c.requires.3 c.run_size-next.ensures.0
 
 pub scope_of-s-requires : goal.scope_of-s-requires
 scope_of-s-requires c = (c.requires.0, c.loop-i.invariant.sum.low, c.loop-i-test.true, c.loop-i.invariant.ahead, scoping_low c.loop-i.invariant c.requires.2, c.loop-i.invariant.known, omega (arith, c.loop-i.invariant.place, scoping_room c.loop-i.invariant c.loop-i-test.true))
@@ -19,17 +19,17 @@ scope_of-s-requires c = (c.requires.0, c.loop-i.invariant.sum.low, c.loop-i-test
 pub overflow_mul-i : goal.overflow_mul-i
 overflow_mul-i c = omega (arith, c.loop-i-test.true, c.requires.0.room)
 
-pub offset_bounds-es-i : goal.offset_bounds-es-i
-offset_bounds-es-i c = omega (arith, c.loop-i-test.true, c.requires.0.room)
+pub offset_bounds-x-i : goal.offset_bounds-x-i
+offset_bounds-x-i c = omega (arith, c.loop-i-test.true, c.requires.0.room)
 
-pub bounds-es-i : goal.bounds-es-i
-bounds-es-i c = omega (arith, c.loop-i-test.true, c.requires.0.room)
+pub bounds-x-i : goal.bounds-x-i
+bounds-x-i c = omega (arith, c.loop-i-test.true, c.requires.0.room)
 
 pub overflow_mul-s : goal.overflow_mul-s
-overflow_mul-s c = omega (arith, c.scope_of-s.ensures.0, index_low c.args.es.now c.args.cs.now c.args.p c.loop-i.i, c.requires.2)
+overflow_mul-s c = omega (arith, c.scope_of-s.ensures.0, index_low c.args.x.now.epilogues.now c.args.x.now.codes.now c.args.p c.loop-i.i, c.requires.2)
 
-pub overflow_add-es : goal.overflow_add-es
-overflow_add-es c = omega (arith, c.scope_of-s.ensures.0, index_low c.args.es.now c.args.cs.now c.args.p c.loop-i.i, c.requires.2, start_low c.requires.1 c.loop-i.invariant.sum.low c.loop-i-test.true)
+pub overflow_add-x : goal.overflow_add-x
+overflow_add-x c = omega (arith, c.scope_of-s.ensures.0, index_low c.args.x.now.epilogues.now c.args.x.now.codes.now c.args.p c.loop-i.i, c.requires.2, start_low c.requires.1 c.loop-i.invariant.sum.low c.loop-i-test.true)
 
 pub le-q-requires : goal.le-q-requires
 le-q-requires c = scoping_room c.loop-i.invariant c.loop-i-test.true
@@ -38,7 +38,7 @@ pub loop-i-smaller : goal.loop-i-smaller
 loop-i-smaller c = omega (arith, c.loop-i-test.true)
 
 pub loop-i-preserved : goal.loop-i-preserved
-loop-i-preserved c = scoping_turn c.loop-i.invariant c.loop-i-test.true c.requires.1 (omega (arith, index_low c.args.es.now c.args.cs.now c.args.p c.loop-i.i, c.requires.2)) c.scope_of-s.ensures c.le-q.ensures
+loop-i-preserved c = scoping_turn c.loop-i.invariant c.loop-i-test.true c.requires.1 (omega (arith, index_low c.args.x.now.epilogues.now c.args.x.now.codes.now c.args.p c.loop-i.i, c.requires.2)) c.scope_of-s.ensures c.le-q.ensures
 
 pub shape_of-out : goal.shape_of-out
 shape_of-out c = c.loop-i.invariant.left.kept

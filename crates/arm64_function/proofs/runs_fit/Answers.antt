@@ -10,5 +10,5 @@ use Rattle.arm64_function.proofs.runs_fit.Goals as goal
 pub returns : goal.returns
 unfolding fits_at
 returns c =
-    all_from_yields_List (fits_at c.args.es.now c.args.cs.now) _ _ _ c.all.ensures.ran (YieldsList-from_range _ _ (c.args.p.end - c.args.p.first) refl refl) (λ x b q k. search (rules, tests))
-    ∙ all_in_range (fits_at c.args.es.now c.args.cs.now) c.args.p.first (c.args.p.end - c.args.p.first)
+    all_from_yields_List (fits_at c.args.x.now.epilogues.now c.args.x.now.codes.now) _ _ _ c.all.ensures.ran (YieldsList-from_range _ _ (c.args.p.end - c.args.p.first) refl refl) (λ x b q k. search (rules, tests))
+    ∙ all_in_range (fits_at c.args.x.now.epilogues.now c.args.x.now.codes.now) c.args.p.first (c.args.p.end - c.args.p.first)

@@ -9,5 +9,5 @@ use Rattle.arm64_lists.proofs.functions_ok.Goals as goal
 
 pub returns : goal.returns
 returns c =
-    all_from_yields_List (function_ok_at c.args.fs.now c.args.es.now c.args.cs.now) _ _ _ c.all.ensures.ran (YieldsList-from_range _ _ c.args.n refl (omega arith)) (λ x b q k. search (rules, tests))
-    ∙ all_in_range (function_ok_at c.args.fs.now c.args.es.now c.args.cs.now) 0 c.args.n
+    all_from_yields_List (function_ok_at c.args.x.now.functions.now c.args.x.now.epilogues.now c.args.x.now.codes.now) _ _ _ c.all.ensures.ran (YieldsList-from_range _ _ c.args.n refl (omega arith)) (λ x b q k. search (rules, tests))
+    ∙ all_in_range (function_ok_at c.args.x.now.functions.now c.args.x.now.epilogues.now c.args.x.now.codes.now) 0 c.args.n

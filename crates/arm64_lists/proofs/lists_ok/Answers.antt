@@ -21,7 +21,7 @@ unfolding lists_ok
 returns-then-not-functions_ok c = simp (sym c.functions_ok.ensures ∙ c.if-not-functions_ok.true, and-false)
 
 pub codes_sum-requires : goal.codes_sum-requires
-codes_sum-requires c = (omega arith, ranges c.args.fs.now c.args.es.now c.args.cs.now _ (sym c.functions_ok.ensures ∙ c.if-not-functions_ok.false))
+codes_sum-requires c = (omega arith, ranges c.args.x.now.functions.now c.args.x.now.epilogues.now c.args.x.now.codes.now _ (sym c.functions_ok.ensures ∙ c.if-not-functions_ok.false))
 
 pub returns : goal.returns
 unfolding lists_ok

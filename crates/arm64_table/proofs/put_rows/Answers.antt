@@ -23,17 +23,17 @@ overflow_mul-k-in-loop-k c = omega (arith, c.requires.0.most, c.loop-k-test.true
 pub overflow_mul-k-in-loop-k-2 : goal.overflow_mul-k-in-loop-k-2
 overflow_mul-k-in-loop-k-2 c = omega (arith, c.requires.0.most, c.loop-k-test.true)
 
-pub offset_bounds-fs-k : goal.offset_bounds-fs-k
-offset_bounds-fs-k c = omega (arith, c.requires.0.most, c.loop-k-test.true)
+pub offset_bounds-x-k : goal.offset_bounds-x-k
+offset_bounds-x-k c = omega (arith, c.requires.0.most, c.loop-k-test.true)
 
-pub bounds-fs-k : goal.bounds-fs-k
-bounds-fs-k c = let l = (c.requires.0.each_one _ c.loop-k-test.true).listed in omega (arith, l.room)
+pub bounds-x-k : goal.bounds-x-k
+bounds-x-k c = let l = (c.requires.0.each_one _ c.loop-k-test.true).listed in omega (arith, l.room)
 
 pub put_row_relocs-to-requires : goal.put_row_relocs-to-requires
-put_row_relocs-to-requires c = let a = c.args in let l = (c.requires.0.each_one _ c.loop-k-test.true).listed in let e = c.packed_word-word.ensures in rw (symbol_at a.fs.now a.es.now a.cs.now) (rw (relocs_are _ e) (relocs_room c.loop-k.invariant c.loop-k-test.true), omega (arith, c.requires.0.most, c.loop-k-test.true), symbol_low a.fs.now a.es.now a.cs.now l)
+put_row_relocs-to-requires c = let a = c.args in let l = (c.requires.0.each_one _ c.loop-k-test.true).listed in let e = c.packed_word-word.ensures in rw (symbol_at a.x.now.functions.now a.x.now.epilogues.now a.x.now.codes.now) (rw (relocs_are _ e) (relocs_room c.loop-k.invariant c.loop-k-test.true), omega (arith, c.requires.0.most, c.loop-k-test.true), symbol_low a.x.now.functions.now a.x.now.epilogues.now a.x.now.codes.now l)
 
 pub loop-k-preserved : goal.loop-k-preserved
-loop-k-preserved c = let a = c.args in let e = c.packed_word-word.ensures in rowed c.loop-k.invariant c.loop-k-test.true (rw (row_is _ e c.unwrap_or.ensures) at c.put_row.ensures) (rw (relocs_are _ e) at (rw (symbol_at a.fs.now a.es.now a.cs.now) at c.put_row_relocs-to.ensures))
+loop-k-preserved c = let a = c.args in let e = c.packed_word-word.ensures in rowed c.loop-k.invariant c.loop-k-test.true (rw (row_is _ e c.unwrap_or.ensures) at c.put_row.ensures) (rw (relocs_are _ e) at (rw (symbol_at a.x.now.functions.now a.x.now.epilogues.now a.x.now.codes.now) at c.put_row_relocs-to.ensures))
 
 pub shape_of-bytes : goal.shape_of-bytes
 shape_of-bytes c = c.loop-k.invariant.rows_in.left.kept
