@@ -2,8 +2,13 @@
 use Rattle.std.specs.Prelude.{◌≡◌, true, List, ℕ, ◌+◌, ◌*◌, ◌≤◌, length}
 use Rattle.std.proofs.Math.Option.{none}
 use Rattle.format.specs.Lists.{field, most_records}
-use Rattle.arm64.specs.Lists.{function_stride, numbered_function}
+use Rattle.arm64.specs.Lists.{function_stride, Function, numbered_function}
 use Rattle.arm64.specs.Writer.{function_ok_at, codes_in, function_asks}
+use Rattle.arm64_lists.specs.declared.Lists.{Lists}
+
+-- function k of the lists as they are lent
+abbrev pub function_in : Lists → ℕ → Function
+function_in x k = numbered_function x.functions.now x.epilogues.now x.codes.now k
 
 -- question 13 has been asked of it
 pub record Listed (fs es cs : List ℕ) (k : ℕ) : Type 0 where

@@ -8,14 +8,14 @@ ghost use Rattle.format.specs.Lists.{field, all_in};
 ghost use Rattle.std.specs.Option.{unwrap_or};
 ghost use Rattle.format.proofs.Asked.{question_of};
 ghost use Rattle.format.proofs.Wrote.{Wrote};
-ghost use Rattle.arm64.specs.Lists.{function_stride, epilogue_stride, numbered_function};
+ghost use Rattle.arm64.specs.Lists.{function_stride, epilogue_stride};
 ghost use Rattle.arm64.specs.Packing.{candidate, packed_word};
 ghost use Rattle.arm64.specs.Runs.{no_pair, run_fits, leads, runs_bytes};
 ghost use Rattle.arm64.specs.Writer.{prologue_run, instructions, is_packed, info_of, function_asks};
 ghost use Rattle.arm64_simple.specs.Saves.{saves, Inside};
 ghost use Rattle.arm64_function.specs.PackedWord.{shared_in, packed_at, Only};
 ghost use Rattle.arm64_header.specs.Header.{only_in};
-ghost use Rattle.arm64_function.specs.Listed.{Listed, Fine};
+ghost use Rattle.arm64_function.specs.Listed.{function_in, Listed, Fine};
 ghost use Rattle.arm64_function.specs.Own.{prologue_at, epilogue_at, parts_at, Ready, Fitted, prologue_in, run_at, own_at, own_in, codes_in, index_at, Nearest, held_to, start_ok_at, fits_at, parts_ok, length_ok, words_from, index_in, Known, Ahead, Started};
 ghost use Rattle.arm64_function.specs.Record.{Whole, single_at, Shaped, scopes_at, record_at};
 
@@ -107,7 +107,7 @@ fn packed_one(x: &Lists, p: Parts, size: u64) -> Option<u64>
 // The packed word of function k.
 pub fn packed_word(x: &Lists, k: usize) -> Option<u64>
     requires { Fine x.now.functions.now x.now.epilogues.now x.now.codes.now k }
-    ensures { result ≡ pick (is_packed (numbered_function x.now.functions.now x.now.epilogues.now x.now.codes.now k)) (Some (packed_word (candidate (instructions (numbered_function x.now.functions.now x.now.epilogues.now x.now.codes.now k).size) (prologue_run (numbered_function x.now.functions.now x.now.epilogues.now x.now.codes.now k))))) None }
+    ensures { result ≡ pick (is_packed (function_in x.now k)) (Some (packed_word (candidate (instructions (function_in x.now k).size) (prologue_run (function_in x.now k))))) None }
 {
     let p = parts_at(x.functions, k);
     if p.end - p.first != 1 {
@@ -228,7 +228,7 @@ fn length_ok(size: u64) -> bool
 // Questions 81 to 83: the position is 0.
 pub fn function_asks(x: &Lists, k: usize) -> Result<(), Refusal>
     requires { Listed x.now.functions.now x.now.epilogues.now x.now.codes.now k }
-    ensures { result ≡ question_of (function_asks k (numbered_function x.now.functions.now x.now.epilogues.now x.now.codes.now k)) }
+    ensures { result ≡ question_of (function_asks k (function_in x.now k)) }
 {
     let size = x.functions[fields::FUNCTION_STRIDE * k + fields::LENGTH];
     if !length_ok(size) {
@@ -470,7 +470,7 @@ fn put_record(out: &mut [u8], at: usize, x: &Lists, p: Parts, size: u64) -> usiz
 // How many bytes a function's record has: none where it is packed.
 pub fn info_size(x: &Lists, k: usize) -> usize
     requires { Fine x.now.functions.now x.now.epilogues.now x.now.codes.now k }
-    ensures { (result ≡ length (info_of (numbered_function x.now.functions.now x.now.epilogues.now x.now.codes.now k))) × (result ≤ 300000) }
+    ensures { (result ≡ length (info_of (function_in x.now k))) × (result ≤ 300000) }
 {
     if packed_word(x, k).is_some() {
         return 0;
@@ -484,8 +484,8 @@ pub fn info_size(x: &Lists, k: usize) -> usize
 
 // A function's record.
 pub fn put_info(out: &mut [u8], at: usize, x: &Lists, k: usize) -> usize
-    requires { Fine x.now.functions.now x.now.epilogues.now x.now.codes.now k × (at + length (info_of (numbered_function x.now.functions.now x.now.epilogues.now x.now.codes.now k)) ≤ length out.old) }
-    ensures { Wrote out.old out.new at result (info_of (numbered_function x.now.functions.now x.now.epilogues.now x.now.codes.now k)) }
+    requires { Fine x.now.functions.now x.now.epilogues.now x.now.codes.now k × (at + length (info_of (function_in x.now k)) ≤ length out.old) }
+    ensures { Wrote out.old out.new at result (info_of (function_in x.now k)) }
 {
     if packed_word(x, k).is_some() {
         return at;

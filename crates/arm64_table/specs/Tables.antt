@@ -8,6 +8,7 @@ use Rattle.format.specs.Headers.{reloc}
 use Rattle.format.specs.X64.{marker}
 use Rattle.arm64.specs.Lists.{Function, numbered_function}
 use Rattle.arm64.specs.Writer.{no_record}
+use Rattle.arm64_lists.specs.declared.Lists.{Lists}
 use Rattle.arm64_function.specs.Listed.{Listed, Fine}
 
 -- ---- one function
@@ -30,6 +31,10 @@ mark_by at past = pick (eqb past at) no_record at
 -- the first n functions of the lists
 abbrev pub first_of : (fs es cs : List ℕ) → ℕ → List Function
 first_of fs es cs n = each (numbered_function fs es cs) 0 n
+
+-- and of the lists as they are lent
+abbrev pub first_in : Lists → ℕ → List Function
+first_in x n = first_of x.functions.now x.epilogues.now x.codes.now n
 
 -- they can be read
 pub record AllListed (fs es cs : List ℕ) (n : ℕ) : Type 0 where

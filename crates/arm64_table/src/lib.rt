@@ -12,7 +12,7 @@ ghost use Rattle.format.proofs.Asked.{question_of};
 ghost use Rattle.format.proofs.Wrote.{Wrote};
 ghost use Rattle.unwind.specs.Entries.{Exports};
 ghost use Rattle.arm64.specs.Writer.{function_asks, markers_from, rows_of, relocs_from, infos_of, arm64, arm64_answer};
-ghost use Rattle.arm64_table.specs.Tables.{relocs_by, reloc_count, mark_by, first_of, AllListed, AllFine};
+ghost use Rattle.arm64_table.specs.Tables.{relocs_by, reloc_count, mark_by, first_in, AllListed, AllFine};
 
 use arm64::fields;
 use arm64_function::{function_asks, info_size, packed_word, put_info};
@@ -81,7 +81,7 @@ fn mark(at: usize, past: usize) -> u64
 // 81 to 83 of n functions: the position is 0.
 fn first_no(x: &Lists, n: usize) -> Result<(), Refusal>
     requires { AllListed x.now.functions.now x.now.epilogues.now x.now.codes.now n }
-    ensures { result ≡ question_of (per_function function_asks 0 (first_of x.now.functions.now x.now.epilogues.now x.now.codes.now n)) }
+    ensures { result ≡ question_of (per_function function_asks 0 (first_in x.now n)) }
 {
     for k in 0..n {
         function_asks(x, k)?;
@@ -100,7 +100,7 @@ struct Needed {
 
 fn sizes(x: &Lists, n: usize) -> Needed
     requires { AllFine x.now.functions.now x.now.epilogues.now x.now.codes.now n }
-    ensures { (result.info ≡ length (infos_of (first_of x.now.functions.now x.now.epilogues.now x.now.codes.now n))) × (result.relocations ≡ length (relocs_from 0 (first_of x.now.functions.now x.now.epilogues.now x.now.codes.now n))) × (result.relocations ≤ 2 * most_functions) }
+    ensures { (result.info ≡ length (infos_of (first_in x.now n))) × (result.relocations ≡ length (relocs_from 0 (first_in x.now n))) × (result.relocations ≤ 2 * most_functions) }
 {
     let mut info = 0;
     let mut relocations = 0;
@@ -114,8 +114,8 @@ fn sizes(x: &Lists, n: usize) -> Needed
 
 // The rows of n functions, and their relocations.
 fn put_rows(bytes: &mut [u8], relocations: &mut [u64], x: &Lists, n: usize) -> usize
-    requires { AllFine x.now.functions.now x.now.epilogues.now x.now.codes.now n × (8 * n ≤ length bytes.old) × (5 * length (relocs_from 0 (first_of x.now.functions.now x.now.epilogues.now x.now.codes.now n)) ≤ length relocations.old) }
-    ensures { (bytes.new ≡ put bytes.old 0 (rows_of (first_of x.now.functions.now x.now.epilogues.now x.now.codes.now n))) × (relocations.new ≡ put relocations.old 0 (numbers_of (relocs_from 0 (first_of x.now.functions.now x.now.epilogues.now x.now.codes.now n)))) }
+    requires { AllFine x.now.functions.now x.now.epilogues.now x.now.codes.now n × (8 * n ≤ length bytes.old) × (5 * length (relocs_from 0 (first_in x.now n)) ≤ length relocations.old) }
+    ensures { (bytes.new ≡ put bytes.old 0 (rows_of (first_in x.now n))) × (relocations.new ≡ put relocations.old 0 (numbers_of (relocs_from 0 (first_in x.now n)))) }
 {
     let mut to = 0;
     for k in 0..n {
@@ -134,8 +134,8 @@ fn put_rows(bytes: &mut [u8], relocations: &mut [u64], x: &Lists, n: usize) -> u
 
 // The records of n functions, and where each stands.
 fn put_infos(markers: &mut [u64], info: &mut [u8], x: &Lists, n: usize) -> usize
-    requires { AllFine x.now.functions.now x.now.epilogues.now x.now.codes.now n × (n ≤ length markers.old) × (length (infos_of (first_of x.now.functions.now x.now.epilogues.now x.now.codes.now n)) ≤ length info.old) }
-    ensures { (markers.new ≡ put markers.old 0 (markers_from 0 (first_of x.now.functions.now x.now.epilogues.now x.now.codes.now n))) × (info.new ≡ put info.old 0 (infos_of (first_of x.now.functions.now x.now.epilogues.now x.now.codes.now n))) }
+    requires { AllFine x.now.functions.now x.now.epilogues.now x.now.codes.now n × (n ≤ length markers.old) × (length (infos_of (first_in x.now n)) ≤ length info.old) }
+    ensures { (markers.new ≡ put markers.old 0 (markers_from 0 (first_in x.now n))) × (info.new ≡ put info.old 0 (infos_of (first_in x.now n))) }
 {
     let mut at = 0;
     for k in 0..n {
@@ -156,8 +156,8 @@ fn put_all(
     relocations: &mut [u64],
     info: &mut [u8],
 ) -> Result<Option<Counts>, Refusal>
-    requires { AllFine x.now.functions.now x.now.epilogues.now x.now.codes.now n × (needed.info ≡ length (infos_of (first_of x.now.functions.now x.now.epilogues.now x.now.codes.now n))) × (needed.relocations ≡ length (relocs_from 0 (first_of x.now.functions.now x.now.epilogues.now x.now.codes.now n))) × (n ≤ length markers.old) × (8 * n ≤ length bytes.old) × (5 * needed.relocations ≤ length relocations.old) × (needed.info ≤ length info.old) }
-    ensures { Writes (accepted (arm64 (first_of x.now.functions.now x.now.epilogues.now x.now.codes.now n))) result markers.old markers.new bytes.old bytes.new relocations.old relocations.new info.old info.new }
+    requires { AllFine x.now.functions.now x.now.epilogues.now x.now.codes.now n × (needed.info ≡ length (infos_of (first_in x.now n))) × (needed.relocations ≡ length (relocs_from 0 (first_in x.now n))) × (n ≤ length markers.old) × (8 * n ≤ length bytes.old) × (5 * needed.relocations ≤ length relocations.old) × (needed.info ≤ length info.old) }
+    ensures { Writes (accepted (arm64 (first_in x.now n))) result markers.old markers.new bytes.old bytes.new relocations.old relocations.new info.old info.new }
 {
     put_rows(bytes, relocations, x, n);
     put_infos(markers, info, x, n);
@@ -181,7 +181,7 @@ fn write(
     info: &mut [u8],
 ) -> Result<Option<Counts>, Refusal>
     requires { AllFine x.now.functions.now x.now.epilogues.now x.now.codes.now n }
-    ensures { Writes (fitting (room_in markers.old bytes.old relocations.old info.old) (arm64 (first_of x.now.functions.now x.now.epilogues.now x.now.codes.now n))) result markers.old markers.new bytes.old bytes.new relocations.old relocations.new info.old info.new }
+    ensures { Writes (fitting (room_in markers.old bytes.old relocations.old info.old) (arm64 (first_in x.now n))) result markers.old markers.new bytes.old bytes.new relocations.old relocations.new info.old info.new }
 {
     let needed = sizes(x, n);
     let counts = Counts {
@@ -210,7 +210,7 @@ fn answer(
     info: &mut [u8],
 ) -> Result<Option<Counts>, Refusal>
     requires { AllListed x.now.functions.now x.now.epilogues.now x.now.codes.now n }
-    ensures { Writes (unless (per_function function_asks 0 (first_of x.now.functions.now x.now.epilogues.now x.now.codes.now n)) (fitting (room_in markers.old bytes.old relocations.old info.old) (arm64 (first_of x.now.functions.now x.now.epilogues.now x.now.codes.now n)))) result markers.old markers.new bytes.old bytes.new relocations.old relocations.new info.old info.new }
+    ensures { Writes (unless (per_function function_asks 0 (first_in x.now n)) (fitting (room_in markers.old bytes.old relocations.old info.old) (arm64 (first_in x.now n)))) result markers.old markers.new bytes.old bytes.new relocations.old relocations.new info.old info.new }
 {
     first_no(x, n)?;
     write(x, n, markers, bytes, relocations, info)
