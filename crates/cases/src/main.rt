@@ -25,6 +25,15 @@ enum Kind {
     Different,
 }
 
+// The buffers that are lent to the library.
+#[derive(Drop)]
+struct Buffers {
+    places: [u64; 4000],
+    bytes: [u8; 4000],
+    relocations: [u64; 4000],
+    sites: [u8; 4000],
+}
+
 // How many lists of each kind there were.
 #[derive(Clone, Copy)]
 struct Sums {
@@ -85,99 +94,80 @@ fn element(list: &[u64], i: usize, other: u64) -> u64 {
 }
 
 // Whether a buffer holds these numbers, and behind them what it held before.
-fn same_numbers(found: &[u64; 4000], list: &[u64]) -> bool {
+fn same<T: Copy + Into<u64>>(found: &[T; 4000], list: &[u64], before: T) -> bool {
     list.len() <= 4000
         && found
             .iter()
             .enumerate()
-            .all(|(i, n)| *n == element(list, i, NUMBER))
+            .all(|(i, x)| (*x).into() == element(list, i, before.into()))
 }
 
-fn same_bytes(found: &[u8; 4000], list: &[u64]) -> bool {
-    list.len() <= 4000
-        && found.iter().enumerate().all(|(i, b)| u64::from(*b) == element(list, i, u64::from(BYTE)))
-}
-
-// What the fixed answer is: its number is not 0 in a refusal, and an empty answer has no results.
-fn kind_of(answer: &[u64]) -> Kind {
-    if element(answer, 0, 0) != 0 {
-        return Kind::Refused;
+// What the library said of a list.
+fn kind_of(said: Result<Option<Counts>, Refusal>) -> Kind {
+    match said {
+        Ok(Some(_)) => Kind::Accepted,
+        Ok(None) => Kind::Empty,
+        Err(_) => Kind::Refused,
     }
-    if answer.len() <= 6 {
-        return Kind::Empty;
-    }
-    Kind::Accepted
 }
 
 // Whether these are the counts of the fixed results.
 fn same_counts(c: Counts, answer: &[u64]) -> bool {
     let relocations = list(answer, 2).len() as u64;
-    if relocations / 5 != c.relocations || relocations % 5 != 0 {
-        return false;
-    }
-    element(answer, 0, 0) == 0
-        && c.places == list(answer, 0).len() as u64
-        && c.bytes == list(answer, 1).len() as u64
-        && c.sites == list(answer, 3).len() as u64
+    let fixed = [
+        list(answer, 0).len() as u64,
+        list(answer, 1).len() as u64,
+        relocations / 5,
+        list(answer, 3).len() as u64,
+    ];
+    relocations % 5 == 0 && fixed == [c.places, c.bytes, c.relocations, c.sites]
 }
 
-fn same_refusal(number: u64, position: u64, answer: &[u64]) -> bool {
-    0 < number && number == element(answer, 0, 0) && position == element(answer, 1, 0)
-}
-
-// Whether this is the fixed answer: two numbers, and four results, of which only an acceptance has an element.
+// Whether this is the fixed answer: two numbers, and four results, of which only an acceptance has an element. Its number is not 0 in a
+// refusal.
 fn same_outcome(said: Result<Option<Counts>, Refusal>, answer: &[u64]) -> bool {
+    let fixed = Refusal {
+        number: element(answer, 0, 0),
+        position: element(answer, 1, 0),
+    };
     match said {
-        Ok(Some(c)) => 6 < answer.len() && same_counts(c, answer),
-        Ok(None) => answer.len() == 6 && element(answer, 0, 0) == 0,
-        Err(r) => answer.len() == 6 && same_refusal(r.number, r.position, answer),
+        Ok(Some(c)) => 6 < answer.len() && fixed.number == 0 && same_counts(c, answer),
+        Ok(None) => answer.len() == 6 && fixed.number == 0,
+        Err(r) => answer.len() == 6 && r.number != 0 && r == fixed,
     }
 }
 
-// Says what differs, and gives back whether nothing does.
-fn report(rt: &impl Print, index: u64, what: &str, same: bool) -> io::Result<bool> {
-    if !same {
-        println!(rt; "list {index}: {what}")?;
-    }
-    Ok(same)
-}
-
-// Whether the library answers as the fixed answer says, with nothing stored past its results and nothing at all where it refuses.
+// Whether the library answers as the fixed answer says, with nothing stored past its results and nothing at all where it refuses. Says
+// what differs.
 fn compare(
     rt: &impl Print,
     index: u64,
     answer: &[u64],
     said: Result<Option<Counts>, Refusal>,
-    places: &[u64; 4000],
-    bytes: &[u8; 4000],
-    relocations: &[u64; 4000],
-    sites: &[u8; 4000],
+    stored: &Buffers,
 ) -> io::Result<bool> {
-    let a = report(rt, index, "another outcome", same_outcome(said, answer))?;
-    let b = report(
-        rt,
-        index,
-        "other places",
-        same_numbers(places, list(answer, 0)),
-    )?;
-    let c = report(rt, index, "other bytes", same_bytes(bytes, list(answer, 1)))?;
-    let d = report(
-        rt,
-        index,
-        "other relocations",
-        same_numbers(relocations, list(answer, 2)),
-    )?;
-    let e = report(rt, index, "other sites", same_bytes(sites, list(answer, 3)))?;
-    Ok(a && b && c && d && e)
+    let compared = [
+        ("another outcome", same_outcome(said, answer)),
+        (
+            "other places",
+            same(&stored.places, list(answer, 0), NUMBER),
+        ),
+        ("other bytes", same(&stored.bytes, list(answer, 1), BYTE)),
+        (
+            "other relocations",
+            same(&stored.relocations, list(answer, 2), NUMBER),
+        ),
+        ("other sites", same(&stored.sites, list(answer, 3), BYTE)),
+    ];
+    for (what, same) in compared {
+        if !same {
+            println!(rt; "list {index}: {what}")?;
+        }
+    }
+    Ok(compared.iter().all(|(_, same)| *same))
 }
 
-fn table(
-    numbers: &[u64],
-    places: &mut [u64],
-    bytes: &mut [u8],
-    relocations: &mut [u64],
-    sites: &mut [u8],
-) -> Result<Option<Counts>, Refusal> {
+fn table(numbers: &[u64], out: &mut Buffers) -> Result<Option<Counts>, Refusal> {
     unwind::relaxed_table(
         list(numbers, 0),
         element(numbers, 1, 0),
@@ -185,19 +175,14 @@ fn table(
         list(numbers, 2),
         list(numbers, 3),
         list(numbers, 4),
-        places,
-        bytes,
-        relocations,
-        sites,
+        &mut out.places,
+        &mut out.bytes,
+        &mut out.relocations,
+        &mut out.sites,
     )
 }
 
-fn debug_frame(
-    numbers: &[u64],
-    places: &mut [u64],
-    bytes: &mut [u8],
-    relocations: &mut [u64],
-) -> Result<Option<Counts>, Refusal> {
+fn debug_frame(numbers: &[u64], out: &mut Buffers) -> Result<Option<Counts>, Refusal> {
     unwind::relaxed_debug_frame(
         list(numbers, 0),
         element(numbers, 1, 0),
@@ -205,67 +190,44 @@ fn debug_frame(
         list(numbers, 2),
         list(numbers, 3),
         list(numbers, 4),
-        places,
-        bytes,
-        relocations,
+        &mut out.places,
+        &mut out.bytes,
+        &mut out.relocations,
     )
 }
 
 // The library's answer to a block.
-fn ask(
-    numbers: &[u64],
-    places: &mut [u64],
-    bytes: &mut [u8],
-    relocations: &mut [u64],
-    sites: &mut [u8],
-) -> Result<Option<Counts>, Refusal> {
-    let entry = element(numbers, 0, 0);
-    if entry == 0 {
-        return table(numbers, places, bytes, relocations, sites);
+fn ask(numbers: &[u64], out: &mut Buffers) -> Result<Option<Counts>, Refusal> {
+    match element(numbers, 0, 0) {
+        0 => table(numbers, out),
+        1 => debug_frame(numbers, out),
+        _ => unwind::seh(
+            list(numbers, 1),
+            list(numbers, 5),
+            &mut out.places,
+            &mut out.bytes,
+            &mut out.relocations,
+            &mut out.sites,
+        ),
     }
-    if entry == 1 {
-        return debug_frame(numbers, places, bytes, relocations);
-    }
-    unwind::seh(
-        list(numbers, 1),
-        list(numbers, 5),
-        places,
-        bytes,
-        relocations,
-        sites,
-    )
 }
 
 fn replay(rt: &impl Print, index: u64, numbers: &[u64]) -> io::Result<Kind> {
-    let mut places = [NUMBER; 4000];
-    let mut bytes = [BYTE; 4000];
-    let mut relocations = [NUMBER; 4000];
-    let mut sites = [BYTE; 4000];
-    let said = ask(
-        numbers,
-        &mut places,
-        &mut bytes,
-        &mut relocations,
-        &mut sites,
-    );
-    let answer = behind(numbers, 6);
-    if compare(
-        rt,
-        index,
-        answer,
-        said,
-        &places,
-        &bytes,
-        &relocations,
-        &sites,
-    )? {
-        return Ok(kind_of(answer));
+    let mut out = Buffers {
+        places: [NUMBER; 4000],
+        bytes: [BYTE; 4000],
+        relocations: [NUMBER; 4000],
+        sites: [BYTE; 4000],
+    };
+    let said = ask(numbers, &mut out);
+    if compare(rt, index, behind(numbers, 6), said, &out)? {
+        return Ok(kind_of(said));
     }
     Ok(Kind::Different)
 }
 
 fn broken(rt: &impl Print, index: u64) -> io::Result<Kind> {
-    report(rt, index, "no block", false)?;
+    println!(rt; "list {index}: no block")?;
     Ok(Kind::Broken)
 }
 
