@@ -8,7 +8,7 @@ use Rattle.arm64_lists.specs.declared.Lists.{Lists}
 
 -- function k of the lists as they are lent
 abbrev pub function_in : Lists → ℕ → Function
-function_in x k = numbered_function x.functions.now x.epilogues.now x.codes.now k
+function_in x = numbered_function x.functions.now x.epilogues.now x.codes.now
 
 -- question 13 has been asked of it
 pub record Listed (fs es cs : List ℕ) (k : ℕ) : Type 0 where

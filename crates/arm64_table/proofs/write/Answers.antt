@@ -5,9 +5,9 @@ use native.Mathlib.Omega.{arith}
 use Rattle.format.specs.Questions.{accepted, room_in, room_asks, fitting}
 use Rattle.format.proofs.Asked.{question_of, said_yes}
 use Rattle.lists.proofs.Rooms.{stays, goes, room_says}
-use Rattle.arm64.specs.Lists.{numbered_function}
+use Rattle.arm64_function.specs.Listed.{function_in}
 use Rattle.arm64.specs.Writer.{arm64}
-use Rattle.arm64_table.specs.Tables.{first_of}
+use Rattle.arm64_table.specs.Tables.{first_in}
 use Rattle.arm64_table.proofs.Results.{room_same}
 use Rattle.arm64_table.proofs.write.Goals as goal
 
@@ -22,8 +22,8 @@ put_all-requires c = let h = room_says _ _ (said_yes _ (sym c.room.ensures ∙ c
 
 pub returns : goal.returns
 unfolding fitting
-returns c = let a = c.args in goes (room_asks (room_in a.markers.now a.bytes.now a.relocations.now a.info.now) (arm64 (first_of a.x.now.functions.now a.x.now.epilogues.now a.x.now.codes.now a.n))) (ap question_of (sym (room_same (numbered_function a.x.now.functions.now a.x.now.epilogues.now a.x.now.codes.now) a.n c.sizes-needed.ensures.0 c.sizes-needed.ensures.1 (room_in a.markers.now a.bytes.now a.relocations.now a.info.now))) ∙ sym c.room.ensures ∙ c.in_ok-room.was) c.put_all.ensures
+returns c = let a = c.args in goes (room_asks (room_in a.markers.now a.bytes.now a.relocations.now a.info.now) (arm64 (first_in a.x.now a.n))) (ap question_of (sym (room_same (function_in a.x.now) a.n c.sizes-needed.ensures.0 c.sizes-needed.ensures.1 (room_in a.markers.now a.bytes.now a.relocations.now a.info.now))) ∙ sym c.room.ensures ∙ c.in_ok-room.was) c.put_all.ensures
 
 pub returns-in_err-room : goal.returns-in_err-room
 unfolding fitting
-returns-in_err-room c = let a = c.args in let e : c.from_residual.result ≡ Err c.in_err-room.field-0.0 = search rules in rw e (stays (room_asks (room_in a.markers.now a.bytes.now a.relocations.now a.info.now) (arm64 (first_of a.x.now.functions.now a.x.now.epilogues.now a.x.now.codes.now a.n))) (accepted (arm64 (first_of a.x.now.functions.now a.x.now.epilogues.now a.x.now.codes.now a.n))) (ap question_of (sym (room_same (numbered_function a.x.now.functions.now a.x.now.epilogues.now a.x.now.codes.now) a.n c.sizes-needed.ensures.0 c.sizes-needed.ensures.1 (room_in a.markers.now a.bytes.now a.relocations.now a.info.now))) ∙ sym c.room.ensures ∙ c.in_err-room.was))
+returns-in_err-room c = let a = c.args in let e : c.from_residual.result ≡ Err c.in_err-room.field-0.0 = search rules in rw e (stays (room_asks (room_in a.markers.now a.bytes.now a.relocations.now a.info.now) (arm64 (first_in a.x.now a.n))) (accepted (arm64 (first_in a.x.now a.n))) (ap question_of (sym (room_same (function_in a.x.now) a.n c.sizes-needed.ensures.0 c.sizes-needed.ensures.1 (room_in a.markers.now a.bytes.now a.relocations.now a.info.now))) ∙ sym c.room.ensures ∙ c.in_err-room.was))
