@@ -2,7 +2,7 @@
 // lines there say what form it has.
 #![tactic(auto)]
 
-ghost use Rattle.std.specs.Prelude.{◌+◌, ◌≤◌, ◌<◌, length, IfOk};
+ghost use Rattle.std.specs.Prelude.{◌+◌, ◌≤◌, ◌<◌, length, IfOk, IfSome};
 ghost use Rattle.cases.specs.Total.{total};
 
 use format::{Counts, Refusal};
@@ -68,24 +68,24 @@ fn list(part: &[u64], k: usize) -> &[u64] {
 }
 
 // The numbers of a block, and how many they are; none where a byte is left over.
-fn decode(s: &[u8], numbers: &mut [u64]) -> usize
-    ensures { result ≤ length numbers.new }
+fn decode(s: &[u8], numbers: &mut [u64]) -> Option<usize>
+    ensures { IfSome result (λ k. k ≤ length numbers.new) }
 {
     let mut at = Position::START;
     let mut k = 0;
     // Kept: a while, since what was read says where the next stands; the position is the cursor.
     while at.at < s.len() {
         if numbers.len() <= k {
-            return 0;
+            return None;
         }
         let Some((v, past)) = read_uleb(s, at) else {
-            return 0;
+            return None;
         };
         numbers[k] = v;
         at = past;
         k += 1;
     }
-    k
+    Some(k)
 }
 
 // Element i of a list, or the other number behind its end.
@@ -240,10 +240,9 @@ fn block(rt: &impl Print, input: &mut impl Read, index: u64, size: usize) -> io:
         return broken(rt, index);
     }
     let mut numbers = [0u64; 40014];
-    let k = decode(&bytes[..size], &mut numbers);
-    if k == 0 {
+    let Some(k) = decode(&bytes[..size], &mut numbers) else {
         return broken(rt, index);
-    }
+    };
     replay(rt, index, &numbers[..k])
 }
 
@@ -300,23 +299,18 @@ fn all(rt: &impl Print, input: &mut impl Read) -> io::Result<Sums>
     Ok(sums)
 }
 
-fn print_count(rt: &impl Print, n: u64, what: &str) -> io::Result<()> {
-    print!(rt; "{n}{what}")
-}
-
 fn main(rt: HostRuntime) -> io::Result<()> {
-    let s = all(&rt, &mut rt.reader())?;
-    print_count(
-        &rt,
-        s.accepted + s.refused + s.empty + s.different,
-        " lists: ",
-    )?;
-    print_count(&rt, s.accepted, " accepted, ")?;
-    print_count(&rt, s.refused, " refused, ")?;
-    print_count(&rt, s.empty, " empty\n")?;
-    if s.different == 0 {
+    let Sums {
+        accepted,
+        refused,
+        empty,
+        different,
+    } = all(&rt, &mut rt.reader())?;
+    let lists = accepted + refused + empty + different;
+    println!(rt; "{lists} lists: {accepted} accepted, {refused} refused, {empty} empty")?;
+    if different == 0 {
         println!(rt; "all answers are the Rust's, or document 01's where it refuses")
     } else {
-        print_count(&rt, s.different, " lists are answered differently\n")
+        println!(rt; "{different} lists are answered differently")
     }
 }

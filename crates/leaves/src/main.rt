@@ -200,6 +200,7 @@ fn rest<T: Shown>(
     end(rt, read)
 }
 
+// Kept: a function for each writer. A trait of what they differ in (the name, the writer, the size, the reader) is longer by its impls.
 fn unsigned(rt: &impl Print, i: usize, v: u64) -> io::Result<()> {
     let mut out = [0u8; 10];
     let n = leb::uleb(&mut out, 0, v);
