@@ -40,7 +40,7 @@ pub record Headed (debug : Bool) (es : List Entry) (place : ℕ) : Type 0 where
 pub record Skipped (xs : List ℕ) (place i : ℕ) : Type 0 where
   pub searching : (q : ℕ) → place ≤ q → Searching xs q i
 
--- an index is records_of, and stored in a lent list
+-- the count of an index's records is answered, and the index is stored in a lent list
 pub record Stores (a : Result (List ℕ)) (r : code.Result ℕ ℕ) (old new : List ℕ) : Type 0 where
   pub answered : r ≡ result_of (records_of a)
   pub stored : new ≡ list_after a old
