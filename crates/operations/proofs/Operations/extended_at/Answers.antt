@@ -1,4 +1,4 @@
--- `operations::extended_at` meets its contract.
+-- `Operations::extended_at` meets its contract.
 use mathlib.Core.Path.{sym}
 use borrow.Author.Tests.{ne_eqb}
 use Rattle.format.specs.Prelude.{pick}
@@ -8,12 +8,12 @@ use Rattle.operations.specs.Positions.{read_from}
 use Rattle.format.specs.declared.Row.TheVariants.{RememberState, RestoreState, NegateRaState}
 use Rattle.format.specs.declared.Operation.TheVariants.{Nop, Does}
 use Rattle.operations.specs.Reads.{read_operand, operand_number, register_row, pair_row, step_at, register_row_at, offset_row_at, pair_row_at, in_register_at, extended_at}
-use Rattle.operations.proofs.Operations.{here}
-use Rattle.operations.proofs.extended_at.Goals as goal
+use Rattle.operations.proofs.OperandLaws.{here}
+use Rattle.operations.proofs.Operations.extended_at.Goals as goal
 
 pub returns-in-0 : goal.returns-in-0
 unfolding extended_at read_extended extended_operands numbers_short pick
-returns-in-0 c = rw c.in-0.is (sym (here c.args.s.now c.args.at Nop c.requires.1))
+returns-in-0 c = rw c.in-0.is (sym (here c.args.self.now.bytes.now c.args.at Nop c.requires))
 
 pub returns-in-2 : goal.returns-in-2
 unfolding extended_at read_extended extended_operands numbers_short pick step_at
@@ -49,11 +49,11 @@ returns-in-9 c = rw c.in-9.is c.in_register_at.ensures
 
 pub returns-in-10 : goal.returns-in-10
 unfolding extended_at read_extended extended_operands numbers_short pick
-returns-in-10 c = rw c.in-10.is (sym (here c.args.s.now c.args.at (Does RememberState) c.requires.1))
+returns-in-10 c = rw c.in-10.is (sym (here c.args.self.now.bytes.now c.args.at (Does RememberState) c.requires))
 
 pub returns-in-11 : goal.returns-in-11
 unfolding extended_at read_extended extended_operands numbers_short pick
-returns-in-11 c = rw c.in-11.is (sym (here c.args.s.now c.args.at (Does RestoreState) c.requires.1))
+returns-in-11 c = rw c.in-11.is (sym (here c.args.self.now.bytes.now c.args.at (Does RestoreState) c.requires))
 
 pub returns-in-12 : goal.returns-in-12
 unfolding extended_at read_extended extended_operands numbers_short pick pair_row_at read_operand operand_number pair_row
@@ -81,7 +81,7 @@ returns-in-19 c = rw c.in-19.is (rw c.in-19.is at c.offset_row_at-in-19.ensures)
 
 pub returns-in-45 : goal.returns-in-45
 unfolding extended_at read_extended extended_operands numbers_short pick
-returns-in-45 c = rw c.in-45.is (sym (here c.args.s.now c.args.at (Does NegateRaState) c.requires.1))
+returns-in-45 c = rw c.in-45.is (sym (here c.args.self.now.bytes.now c.args.at (Does NegateRaState) c.requires))
 
 pub returns-in_default : goal.returns-in_default
 unfolding extended_at read_extended extended_operands numbers_short pick read_from
