@@ -14,6 +14,8 @@ ghost use Rattle.struct_entries.specs.Checks.{check_of, CheckedRow};
 ghost use Rattle.struct_entries.specs.Entries.{needed, is_zero, ready_for, cleared, packed, once_ready, table_is_empty, table_asks, debug_frame_is_empty, debug_frame_asks, numbers_in, relaxed_table_of, relaxed_debug_frame_of};
 
 use format::{Counts, Refusal};
+use lists::FUNCTION_STRIDE;
+use rows::ROW_STRIDE;
 use rules::Order;
 use unwind::Written;
 
@@ -185,10 +187,10 @@ fn rows_checked(simple: u64, rows: &[RowAt]) -> bool
 fn long_enough(n: usize, functions: usize, rows: usize) -> bool
     ensures { result ≡ leb (needed functions rows) n }
 {
-    if n / 18 < functions {
+    if n / FUNCTION_STRIDE < functions {
         return false;
     }
-    rows <= (n - 18 * functions) / 4
+    rows <= (n - FUNCTION_STRIDE * functions) / ROW_STRIDE
 }
 
 fn all_zero(numbers: &[u64]) -> bool
@@ -204,7 +206,7 @@ fn ready(numbers: &[u64], functions: usize, rows: usize) -> bool
     if !long_enough(numbers.len(), functions, rows) {
         return false;
     }
-    all_zero(&numbers[..18 * functions + 4 * rows])
+    all_zero(&numbers[..FUNCTION_STRIDE * functions + ROW_STRIDE * rows])
 }
 
 // The first n numbers are 0 again.
@@ -241,8 +243,8 @@ fn packed_table(
     ensures exports { Exports (relaxed_table x.now.format (packed x.now.machine.now numbers.old x.now.functions x.now.rows x.now.landings.now x.now.pairs.now) (room_in places.old bytes.old relocations.old sites.old)) result places.old places.new bytes.old bytes.new relocations.old relocations.new sites.old sites.new }
     ensures numbers_after { numbers.new ≡ cleared numbers.old (needed x.now.functions x.now.rows) }
 {
-    let a = 18 * x.functions;
-    let b = a + 4 * x.rows;
+    let a = FUNCTION_STRIDE * x.functions;
+    let b = a + ROW_STRIDE * x.rows;
     let t = &numbers[..];
     let outcome = unwind::relaxed_table(
         x.machine,
@@ -271,8 +273,8 @@ fn packed_debug_frame(
     ensures exports { Exports (relaxed_debug_frame x.now.format (packed x.now.machine.now numbers.old x.now.functions x.now.rows x.now.landings.now x.now.pairs.now) (room_in places.old bytes.old relocations.old [])) result places.old places.new bytes.old bytes.new relocations.old relocations.new [] [] }
     ensures numbers_after { numbers.new ≡ cleared numbers.old (needed x.now.functions x.now.rows) }
 {
-    let a = 18 * x.functions;
-    let b = a + 4 * x.rows;
+    let a = FUNCTION_STRIDE * x.functions;
+    let b = a + ROW_STRIDE * x.rows;
     let t = &numbers[..];
     let outcome = unwind::relaxed_debug_frame(
         x.machine,
@@ -398,7 +400,7 @@ fn pack(functions: &[Function], rows: &[RowAt], numbers: &mut [u64]) -> bool
     if !ready(numbers, f, rows.len()) {
         return false;
     }
-    let a = 18 * f;
+    let a = FUNCTION_STRIDE * f;
     put_functions(functions, numbers, 0);
     put_rows(rows, numbers, a);
     true
@@ -409,7 +411,7 @@ fn pack(functions: &[Function], rows: &[RowAt], numbers: &mut [u64]) -> bool
 pub extern "C" fn unwind_pack_rows(rows: &[RowAt], numbers: &mut [u64]) -> u64
     ensures { Packs (numbers_of row_numbers rows.now) numbers.old numbers.new result }
 {
-    if !fits(rows.len(), 4, numbers.len()) {
+    if !fits(rows.len(), ROW_STRIDE, numbers.len()) {
         return 54;
     }
     put_rows(rows, numbers, 0);
@@ -420,7 +422,7 @@ pub extern "C" fn unwind_pack_rows(rows: &[RowAt], numbers: &mut [u64]) -> u64
 pub extern "C" fn unwind_pack_functions(functions: &[Function], numbers: &mut [u64]) -> u64
     ensures { Packs (numbers_of function_numbers functions.now) numbers.old numbers.new result }
 {
-    if !fits(functions.len(), 18, numbers.len()) {
+    if !fits(functions.len(), FUNCTION_STRIDE, numbers.len()) {
         return 54;
     }
     put_functions(functions, numbers, 0);

@@ -222,7 +222,7 @@ pub fn numbers_in(o: Result<Option<Counts>, Refusal>, room: usize) -> usize
     ensures { result ≡ 5 * relocs_in o }
 {
     match o {
-        Ok(Some(c)) => 5 * (c.relocations as usize),
+        Ok(Some(c)) => relocs::RELOCATION_STRIDE * (c.relocations as usize),
         Ok(None) => 0,
         Err(_) => 0,
     }
