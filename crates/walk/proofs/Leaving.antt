@@ -22,10 +22,6 @@ use Rattle.walk.specs.Recorded.{Slot}
 use Rattle.walk.specs.Walk.{Memory, sum_of, load, saved, frame_address, unsigned, returned_to}
 use Rattle.walk.proofs.Leaves.{number_is, number_none}
 
--- a signed number that was passed on: the bound that a call or a variant hands over
-pub passed : (z : ℤ) → mag z < 2 ^ 63 → to_z w64 (of_z w64 z) ≡ z
-passed z h = to_z-of_z {w = w64} (record { sfits = h })
-
 module _ (m : Memory) (cfa : ℕ) (z : ℤ) where
   pub saved_none : None ≡ option_of (after (sum_of cfa z) (load m)) → bad 74 ≡ saved m cfa z
   unfolding saved onward or_else
