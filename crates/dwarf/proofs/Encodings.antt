@@ -15,13 +15,6 @@ use Rattle.lists.specs.declared.Extent.{Extent}
 use Rattle.lists.specs.Extents.{meant}
 use Rattle.header_keys.specs.Functions.{body_of}
 
--- ---- an encoding's size, as the code has it
-
-pub some_is : (o : Option ℕ) → code.is_some (option_of o) ≡ is_some o
-unfolding is_some
-some_is none = refl
-some_is (some n) = refl
-
 -- ---- a function's encodings
 
 abbrev ok : ℕ → Extent → Bool

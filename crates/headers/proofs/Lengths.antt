@@ -10,15 +10,12 @@ use Rattle.format.specs.declared.Machine.{Machine}
 use Rattle.format.specs.Headers.{named, Key, pointer_bytes, letters, augmentation_data, counted, data_factor, header_fields}
 use Rattle.format.proofs.Choice.{if-le}
 use Rattle.format.proofs.LebBack.{little-length}
+use Rattle.rows.proofs.ShortSizes.{uleb_one}
 use Rattle.header_keys.specs.Kinds.{lsda_of}
 use Rattle.headers.specs.Kinds.{ending, middle, flag, named_data, tail_of}
 use Rattle.headers.proofs.Tails.{named_length, fields_debug, fields_eh}
 
 -- a number below 128 is one byte
-uleb_one : (n : ℕ) → n < 128 → length (uleb n) ≡ 1
-unfolding uleb uleb_f
-uleb_one n h = rw (if-le (suc n) 128)
-
 ending-length : (signal : Bool) → length (ending signal) ≡ 1 + flag signal
 unfolding ending flag pick
 ending-length true = refl

@@ -7,8 +7,7 @@ use Prim.Native.Nat.{ℕ, ◌+◌, ◌-◌, ◌*◌, ◌<◌, ◌≤◌}
 use native.Mathlib.Omega.{arith}
 use borrow.Author.Tests.{lt-leb, le-leb, eq-eqb, ne_eqb}
 use lib.ListN.{length, drop}
-use lib.Dec.{eqb, eqb→eq}
-use Rattle.format.proofs.Choice.{tested}
+use lib.Dec.{eqb}
 use Rattle.std.specs.Prelude.{Some, None}
 use Rattle.format.specs.Prelude.{pick, next}
 use Rattle.format.specs.Leb.{read_little}

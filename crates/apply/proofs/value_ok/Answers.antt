@@ -2,7 +2,7 @@
 use Rattle.std.proofs.Common.{◌≡◌, true, false, sym, ap, ◌∙◌}
 use Rattle.apply.specs.Apply.{measured, value_ok}
 use Rattle.std.specs.Prelude as code
-use Rattle.apply.proofs.Tests.{is_some_lem}
+use Rattle.format.proofs.Asked.{some_is}
 use Rattle.apply.proofs.value_ok.Goals as goal
 
 pub returns-then-not-measured : goal.returns-then-not-measured
@@ -17,4 +17,4 @@ unfolding value_ok
 returns c =
     let a = c.args in
     let e : measured a.k ≡ true = sym c.measured.ensures ∙ c.if-not-measured.false in
-    simp e (c.is_some.ensures ∙ ap code.is_some c.value.ensures ∙ is_some_lem _)
+    simp e (c.is_some.ensures ∙ ap code.is_some c.value.ensures ∙ some_is _)

@@ -2,7 +2,8 @@
 use Rattle.std.proofs.Common.{sym, ap, not, ◌∙◌}
 use borrow.Author.Tests.{not-true, not-false}
 use Rattle.header_keys.proofs.KindMeans.{decides_plain, decides_personal, decides_named}
-use Rattle.dwarf.proofs.Encodings.{some_is, landed, unnamed, unknown, no_lsda, both}
+use Rattle.format.proofs.Asked.{some_is}
+use Rattle.dwarf.proofs.Encodings.{landed, unnamed, unknown, no_lsda, both}
 use Rattle.dwarf.proofs.encodings_ok.Goals as goal
 
 pub returns-then-is_none : goal.returns-then-is_none
