@@ -383,13 +383,14 @@ impl FunctionRows<'_> {
         z
     }
 
-    // Where a prologue of these rows ends: at the last one's offset, which is the last code's.
-    pub fn prologue_end(&self) -> u64
-        ensures { result ≡ end_in self.now.list.now self.now.at self.now.end }
+    // Where a prologue of the rows in front of row `end` ends: at the last one's offset, which is the last code's.
+    pub fn prologue_end(&self, end: usize) -> u64
+        requires { end ≤ self.now.end }
+        ensures { result ≡ end_in self.now.list.now self.now.at end }
     {
-        if self.end <= self.at {
+        if end <= self.at {
             return 0;
         }
-        offset_at(self.list, self.end - 1)
+        offset_at(self.list, end - 1)
     }
 }
