@@ -6,8 +6,8 @@ use format::Machine;
 
 // A machine of eight bytes, as x64 data takes it.
 #[derive(Clone, Copy)]
-pub struct X64Machine<'a> {
-    pub machine: &'a Machine,
+pub struct X64Machine<'m> {
+    pub machine: &'m Machine,
     pub ghost registers: { length machine.now.map ≡ 64 },
     pub ghost word: { machine.now.word ≡ 8 },
     pub ghost pushed: { machine.now.pushed < 2 ^ 31 },
@@ -15,9 +15,9 @@ pub struct X64Machine<'a> {
 
 // The rows of a function or of its prologue, from `at` to `end` of a list, and the machine that they are for.
 #[derive(Clone, Copy)]
-pub struct FunctionRows<'a> {
-    pub machine: X64Machine<'a>,
-    pub list: &'a [u64],
+pub struct FunctionRows<'m, 'r> {
+    pub machine: X64Machine<'m>,
+    pub list: &'r [u64],
     pub at: usize,
     pub end: usize,
     pub ghost order: { at ≤ end },

@@ -55,7 +55,7 @@ impl X64Machine<'_> {
 
 // ---- the rows of one instruction
 
-impl FunctionRows<'_> {
+impl FunctionRows<'_, '_> {
     // Row i is of the instruction of the row before it, where that is one of these rows.
     fn joined(&self, i: usize) -> bool
         requires { i < self.now.end }
@@ -213,7 +213,7 @@ impl X64Machine<'_> {
 
 // ---- row by row
 
-impl FunctionRows<'_> {
+impl FunctionRows<'_, '_> {
     // Row i, the last of its instruction's.
     fn read_last(&self, i: usize, w: Walk) -> Result<Walk, u64>
         requires { IsRow self.now i × Short w.below }
@@ -266,7 +266,7 @@ pub struct Shape {
     pub end: usize,
 }
 
-impl FunctionRows<'_> {
+impl FunctionRows<'_, '_> {
     // Row i keeps the rules for the epilogues.
     fn remembers(&self, i: usize) -> bool
         requires { i < self.now.end }
@@ -332,7 +332,7 @@ impl X64Machine<'_> {
     }
 }
 
-impl FunctionRows<'_> {
+impl FunctionRows<'_, '_> {
     // DefCfaOffset: an allocation, or the first row of a push.
     fn alloc_code(&self, i: usize, off: u64, sofar: i64, z: i64) -> Option<(u64, Seh)>
         requires { (i < self.now.end) × Short sofar × Short z }
