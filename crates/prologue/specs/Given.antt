@@ -28,5 +28,5 @@ abbrev pub walk_of : FunctionRows → Result Walk
 walk_of x = let m = x.machine.machine.now in walk_from m x.list.now x.at x.end x.at (x.end - x.at) (start m)
 
 -- the code of row i, or none
-abbrev pub piece_at : FunctionRows → (below sofar : ℤ) (i : ℕ) → List (ℕ × Seh)
-piece_at x below sofar i = piece_in x.machine.machine.now below sofar x.list.now x.at i x.end
+abbrev pub piece_at : FunctionRows → (i : ℕ) → (below sofar : ℤ) → List (ℕ × Seh)
+piece_at x i below sofar = piece_in x.machine.machine.now below sofar x.list.now x.at i x.end

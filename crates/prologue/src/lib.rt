@@ -5,7 +5,7 @@ ghost use Rattle.std.specs.Prelude.{IfOk, ◌≡◌, false, [], ◌∷◌, ◌-�
 ghost use Rattle.format.specs.Lists.{row_at};
 ghost use Rattle.format.specs.Prelude.{pick, each};
 ghost use Rattle.format.specs.Machine.{register_of};
-ghost use Rattle.format.specs.Rows.{kind_of, offset_of, same_offset};
+ghost use Rattle.format.specs.Rows.{kind_of, offset_of};
 ghost use Rattle.format.specs.X64.{low16, frame, before_remember};
 ghost use Rattle.format.specs.Coded.{result_of};
 ghost use Rattle.format.specs.declared.Row.TheVariants.{DefCfa, DefCfaOffset, DefCfaRegister, Offset};
@@ -357,9 +357,9 @@ impl FunctionRows<'_, '_> {
 
     // Row i of a prologue's rows, with the distance `sofar` in front of it and `below` behind all of them: the code of the
     // instruction that it ends, or none.
-    pub fn piece_at(&self, below: i64, sofar: i64, i: usize) -> Option<(u64, Seh)>
+    pub fn piece_at(&self, i: usize, below: i64, sofar: i64) -> Option<(u64, Seh)>
         requires { IsRow self.now i × Short below × Short sofar }
-        ensures { piece_of result ≡ piece_at self.now below sofar i }
+        ensures { piece_of result ≡ piece_at self.now i below sofar }
     {
         let off = offset_at(self.list, i);
         let r = row_at(self.list, i);
@@ -373,7 +373,7 @@ impl FunctionRows<'_, '_> {
     }
 
     // The distance behind row i.
-    pub fn moved(&self, sofar: i64, i: usize) -> i64
+    pub fn moved(&self, i: usize, sofar: i64) -> i64
         requires { IsRow self.now i }
         ensures { result ≡ moved_in sofar self.now.list.now i }
     {

@@ -18,7 +18,7 @@ ghost use Rattle.x64.specs.declared.given.Source.TheVariants.{Direct, Rows};
 ghost use Rattle.x64.specs.Listed.{stride_of};
 ghost use Rattle.x64.specs.Sources.{pushed_by, DirectSpan, RowsFound, long_no, rows_no, codes_no};
 ghost use Rattle.x64.specs.Given.{IsRecord, piece_of_record, moved_past, codes_by, info_by, result_of, FoundIn, named_in, AllAgreed, functions_of, infos_in, asks_in, table_in};
-ghost use Rattle.x64.specs.Lent.{SameLists, room_of, WritesTo};
+ghost use Rattle.x64.specs.Lent.{room_of, WritesTo};
 ghost use Rattle.x64.specs.Answers.{summed, summary_of, refused_at};
 
 use codes::{Code, code_no, frame_no, frame_or, head, nodes, nodes_size, put_nodes};
@@ -129,7 +129,7 @@ impl Span<'_, '_> {
                     at: self.first,
                     end: self.past,
                 };
-                rows.piece_at(self.below, sofar, i)
+                rows.piece_at(i, self.below, sofar)
             }
         }
     }
@@ -148,7 +148,7 @@ impl Span<'_, '_> {
                     at: self.first,
                     end: self.past,
                 };
-                rows.moved(sofar, i)
+                rows.moved(i, sofar)
             }
         }
     }

@@ -8,6 +8,7 @@ pub overflow_mul-result : goal.overflow_mul-result
 overflow_mul-result c = record { fits = omega (arith, c.args.self.now.listed.most) }
 
 pub returns : goal.returns
-returns c =
-    (all_stored c.args.self.now.listed c.requires.0 c.requires.1 c.fill.ensures c.put_runtime.ensures c.put_infos.ensures.0 c.put_infos.ensures.1,
-    record { markers = refl; bytes = refl; relocations = refl; info = refl })
+returns c = (
+  all_stored c.args.self.now.listed c.requires.0 c.requires.1 c.fill.ensures c.put_runtime.ensures c.put_infos.ensures.0 c.put_infos.ensures.1,
+  record { markers = refl; bytes = refl; relocations = refl; info = refl },
+)
