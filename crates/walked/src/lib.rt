@@ -14,12 +14,14 @@ ghost use Rattle.walked.specs.Named.{names, operation_names, Marked, MarkedAll, 
 ghost use Rattle.walked.specs.Standing.{is_good, state_at, rules_at, ruled_at, source_at, section_of, all_left, walked_of, fault_of};
 
 use crate::chain::Chain;
+use crate::leaving::Leaving;
 use format::{Machine, Operation, Row, Rules};
 use operations::fields::Position;
 use reader::location::Located;
 use walk::{Caller, Frame, Memory};
 
 pub mod chain;
+pub mod leaving;
 
 // An offset of a record that was located.
 #[derive(Clone, Copy)]
@@ -105,106 +107,82 @@ fn named(section: &[u8], l: Located) -> Marks
     mark_all(&section[l.record..l.record_end], l.word, m)
 }
 
-// ---- the registers of a frame that is left
+// ---- a frame that is left
 
-// One register: kept where no operation names it, and else by the rule that the reader gives.
-fn one(
-    registers: &[Option<u64>],
-    named: bool,
-    at: Place,
-    reg: usize,
-    m: Memory,
-    cfa: u64,
-) -> Result<Option<u64>, u64>
-    requires { (reg < 128) × T (is_good (state_at at)) × (named ≡ false → (rules_at at).rules reg ≡ Unstated) }
-    ensures { left_of result ≡ left_by (memory_of m.entry) cfa (slots registers.now) reg ((rules_at at.entry).rules reg) }
-{
-    if !named {
-        return Ok(walk::slot(registers, reg));
+impl Leaving<'_, '_> {
+    // One register: kept where no operation names it, and else by the rule that the reader gives.
+    fn one(&self, named: bool, reg: usize, cfa: u64) -> Result<Option<u64>, u64>
+        requires { (reg < 128) × (named ≡ false → (rules_at self.now.at).rules reg ≡ Unstated) }
+        ensures { left_of result ≡ left_by (memory_of self.now.memory) cfa (slots self.now.registers) reg ((rules_at self.now.at).rules reg) }
+    {
+        if !named {
+            return Ok(walk::slot(&self.registers, reg));
+        }
+        let rules = reader::rules_at(self.at.section, self.at.located, reg as u16, self.at.p)?;
+        walk::left_by(&self.registers, rules.rule, reg, self.memory, cfa)
     }
-    let rules = reader::rules_at(at.section, at.located, reg as u16, at.p)?;
-    walk::left_by(registers, rules.rule, reg, m, cfa)
-}
 
-fn all_left(
-    before: [Option<u64>; 128],
-    at: Place,
-    m: Memory,
-    cfa: u64,
-) -> Result<[Option<u64>; 128], u64>
-    requires { T (is_good (state_at at)) }
-    ensures { all_left result ≡ left_from (λ reg. left_by (memory_of m.entry) cfa (slots before) reg ((rules_at at.entry).rules reg)) 0 128 }
-{
-    let marks = named(at.section, at.located);
-    let mut registers = before;
-    for i in 0..128 {
-        registers[i] = one(&before, marks.named[i], at, i, m, cfa)?;
+    // All of them.
+    fn all_left(&self, cfa: u64) -> Result<[Option<u64>; 128], u64>
+        ensures { all_left result ≡ left_from (λ reg. left_by (memory_of self.now.memory) cfa (slots self.now.registers) reg ((rules_at self.now.at).rules reg)) 0 128 }
+    {
+        let marks = named(self.at.section, self.at.located);
+        let mut registers = self.registers;
+        for i in 0..128 {
+            registers[i] = self.one(marks.named[i], i, cfa)?;
+        }
+        Ok(registers)
     }
-    Ok(registers)
-}
 
-fn left(
-    before: [Option<u64>; 128],
-    at: Place,
-    m: Memory,
-    reg: u64,
-    cfa: u64,
-) -> Result<[Option<u64>; 128], u64>
-    requires { T (is_good (state_at at)) }
-    ensures { all_left result ≡ left (memory_of m.entry) reg cfa (rules_at at.entry) (slots before) }
-{
-    let registers = all_left(before, at, m, cfa)?;
-    Ok(walk::with_stack(registers, reg, cfa))
-}
-
-// ---- a caller
-
-// From the frame address on: the registers, and the return address in them.
-fn resumed(
-    machine: Machine,
-    before: [Option<u64>; 128],
-    signing: bool,
-    cfa: u64,
-    at: Place,
-    m: Memory,
-) -> Result<Option<Caller>, u64>
-    requires { T (is_good (state_at at)) }
-    ensures { step_of result ≡ onward (left (memory_of m.entry) machine.stack cfa (rules_at at.entry) (slots before)) (λ ss. returned_to ss machine.ret signing at.entry.located.signal) }
-{
-    let registers = left(before, at, m, machine.stack, cfa)?;
-    walk::returned(registers, machine.ret, signing, at.located.signal)
-}
-
-// By the rules of the return address's register.
-fn left_by_rules(
-    machine: Machine,
-    before: [Option<u64>; 128],
-    rules: Rules,
-    at: Place,
-    m: Memory,
-) -> Result<Option<Caller>, u64>
-    requires { T (is_good (state_at at)) × (rules ≡ rules_for machine.ret (rules_at at)) }
-    ensures { step_of result ≡ caller_of machine (memory_of m.entry) (ruled_at at.entry) (slots before) }
-{
-    if walk::undefined(rules.rule) {
-        return Ok(None);
+    // And the stack pointer, which is the frame address.
+    fn left(&self, cfa: u64) -> Result<[Option<u64>; 128], u64>
+        ensures { all_left result ≡ left (memory_of self.now.memory) self.now.machine.stack cfa (rules_at self.now.at) (slots self.now.registers) }
+    {
+        let registers = self.all_left(cfa)?;
+        Ok(walk::with_stack(registers, self.machine.stack, cfa))
     }
-    let cfa = walk::frame_address(rules.cfa, &before)?;
-    resumed(machine, before, rules.signing, cfa, at, m)
+
+    // ---- its caller
+
+    // From the frame address on: the registers, and the return address in them.
+    fn resumed(&self, signing: bool, cfa: u64) -> Result<Option<Caller>, u64>
+        ensures { step_of result ≡ onward (left (memory_of self.now.memory) self.now.machine.stack cfa (rules_at self.now.at) (slots self.now.registers)) (λ ss. returned_to ss self.now.machine.ret signing self.now.at.located.signal) }
+    {
+        let registers = self.left(cfa)?;
+        walk::returned(registers, self.machine.ret, signing, self.at.located.signal)
+    }
+
+    // By the rules of the return address's register.
+    fn left_by_rules(&self, rules: Rules) -> Result<Option<Caller>, u64>
+        requires { rules ≡ rules_for self.now.machine.ret (rules_at self.now.at) }
+        ensures { step_of result ≡ caller_of self.now.machine (memory_of self.now.memory) (ruled_at self.now.at) (slots self.now.registers) }
+    {
+        if walk::undefined(rules.rule) {
+            return Ok(None);
+        }
+        let cfa = walk::frame_address(rules.cfa, &self.registers)?;
+        self.resumed(rules.signing, cfa)
+    }
 }
 
 // The caller of a frame at an offset of a record that was located.
 fn caller(
     machine: Machine,
-    before: [Option<u64>; 128],
+    registers: [Option<u64>; 128],
     at: Place,
-    m: Memory,
+    memory: Memory,
 ) -> Result<Option<Caller>, u64>
     requires { machine.ret < 65536 }
-    ensures { step_of result ≡ onward (source_at at.entry) (λ u. caller_of machine (memory_of m.entry) u (slots before)) }
+    ensures { step_of result ≡ onward (source_at at.entry) (λ u. caller_of machine (memory_of memory.entry) u (slots registers)) }
 {
     let rules = reader::rules_at(at.section, at.located, machine.ret as u16, at.p)?;
-    left_by_rules(machine, before, rules, at, m)
+    let frame = Leaving {
+        machine,
+        registers,
+        at,
+        memory,
+    };
+    frame.left_by_rules(rules)
 }
 
 // The section that the rules come from, its relocations and its kind.
@@ -360,6 +338,7 @@ fn stored(r: Result<Chain, u64>, out: &mut [u64]) -> Answer
 
 // The frames of a recorded fault, by the section: 73 for the record file, 11 and 12 for the machine, what a frame is refused by, and 54 last.
 // Of an accepted walk the frames, two numbers each, stand at the front of the lent list; on a refusal it is as it was.
+// Kept: the C interface passes the lists and numbers one by one.
 #[unsafe(no_mangle)]
 pub extern "C" fn unwind_walk(
     machine: &[u64],

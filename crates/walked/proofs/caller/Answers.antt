@@ -11,8 +11,11 @@ returns-in_err-rules c =
     let p = err_from_is_err_and c.from_residual.result c.from_residual.ensures.1 in
     rw (p.1, p.2) (caller_unread x.section.now x.located x.p z.machine _ _ (refused x.section.now x.located z.machine.ret x.p (sym c.in_err-rules.ensures)))
 
+pub invariant_of-frame : goal.invariant_of-frame
+invariant_of-frame c = let x = c.args.at in record { readable = (answered x.section.now x.located c.args.machine.ret x.p (sym c.in_ok-rules.ensures)).0 }
+
 pub left_by_rules-requires : goal.left_by_rules-requires
-left_by_rules-requires c = let x = c.args.at in answered x.section.now x.located c.args.machine.ret x.p (sym c.in_ok-rules.ensures)
+left_by_rules-requires c = let x = c.args.at in (answered x.section.now x.located c.args.machine.ret x.p (sym c.in_ok-rules.ensures)).1
 
 pub returns : goal.returns
 returns c =

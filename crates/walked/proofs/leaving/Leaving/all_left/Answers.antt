@@ -1,14 +1,14 @@
--- `walked::all_left` meets its contract.
+-- `leaving::Leaving::all_left` meets its contract.
 use borrow.Author.Rules.{rules}
 use lib.ListN.{length-set}
 use Rattle.std.proofs.lemmas.Result.{err_from_is_err_and}
 use Rattle.walk.proofs.Turns.{turn_start, turn_refused, turn, turn_ended}
 use Rattle.walked.proofs.Rules.{places}
 use Rattle.walked.proofs.Silent.{unnamed_unstated}
-use Rattle.walked.proofs.all_left.Goals as goal
+use Rattle.walked.proofs.leaving.Leaving.all_left.Goals as goal
 
 pub named-marks-requires : goal.named-marks-requires
-named-marks-requires c = let z = c.args.at in places z.section.now z.located z.p c.requires
+named-marks-requires c = let z = c.args.self.now.at in places z.section.now z.located z.p c.args.self.now.readable
 
 pub loop-i-init : goal.loop-i-init
 loop-i-init c = turn_start _ _ (search rules)
@@ -16,11 +16,10 @@ loop-i-init c = turn_start _ _ (search rules)
 pub one-requires : goal.one-requires
 one-requires c = (
   search rules,
-  c.requires,
   λ e.
-      let z = c.args.at in
+      let z = c.args.self.now.at in
       let m = c.named-marks.ensures c.loop-i.i (search rules) e in
-      unnamed_unstated z.section.now z.located z.p c.loop-i.i c.requires m.0 m.1,
+      unnamed_unstated z.section.now z.located z.p c.loop-i.i c.args.self.now.readable m.0 m.1,
 )
 
 pub returns-in_err-registers : goal.returns-in_err-registers

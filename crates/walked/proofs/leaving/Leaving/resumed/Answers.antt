@@ -1,8 +1,8 @@
--- `walked::resumed` meets its contract.
+-- `leaving::Leaving::resumed` meets its contract.
 use mathlib.Core.Path.{◌∙◌}
 use Rattle.std.proofs.lemmas.Result.{err_from_is_err_and}
 use Rattle.walked.proofs.Rules.{resumed_bad, resumed_good}
-use Rattle.walked.proofs.resumed.Goals as goal
+use Rattle.walked.proofs.leaving.Leaving.resumed.Goals as goal
 
 pub returns-in_err-registers : goal.returns-in_err-registers
 returns-in_err-registers c =

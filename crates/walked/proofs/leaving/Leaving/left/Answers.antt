@@ -1,9 +1,9 @@
--- `walked::left` meets its contract.
+-- `leaving::Leaving::left` meets its contract.
 use mathlib.Core.Path.{ap, ◌∙◌}
 use Rattle.std.proofs.lemmas.Result.{err_from_is_err_and}
 use Rattle.format.specs.Prelude.{good}
 use Rattle.walked.proofs.Rules.{left_bad, left_good}
-use Rattle.walked.proofs.left.Goals as goal
+use Rattle.walked.proofs.leaving.Leaving.left.Goals as goal
 
 pub returns-in_err-registers : goal.returns-in_err-registers
 returns-in_err-registers c =
