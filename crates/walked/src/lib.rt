@@ -2,7 +2,7 @@
 #![tactic(auto)]
 
 ghost use Rattle.std.specs.Prelude.{◌≡◌, true, false, [], ◌∷◌, ◌<◌, ◌≤◌, T, eqb, length, take, drop};
-ghost use Rattle.format.specs.Prelude.{pick, good, bad, onward};
+ghost use Rattle.format.specs.Prelude.{pick, bad, onward};
 ghost use Rattle.format.specs.Machine.{is_word_size, machine_ok, machine_of};
 ghost use Rattle.format.specs.Rules.{rules_for};
 ghost use Rattle.format.specs.declared.Rule.TheVariants.{Unstated};
@@ -11,7 +11,7 @@ ghost use Rattle.walk.specs.Walk.{left_by, left_from, left, returned_to, caller_
 ghost use Rattle.walk.specs.Standing.{memory_of, slots, left_of, caller_as, step_of};
 ghost use Rattle.walked.specs.Entry.{numbers_of, chain_numbers, chain_stored};
 ghost use Rattle.walked.specs.Named.{names, operation_names, Marked, MarkedAll, MarksIn};
-ghost use Rattle.walked.specs.Standing.{is_good, state_at, rules_at, ruled_at, source_at, section_of, all_left, walked_of, fault_of};
+ghost use Rattle.walked.specs.Standing.{rules_at, ruled_at, source_at, section_of, all_left, walked_of, fault_of};
 
 use crate::chain::Chain;
 use crate::leaving::Leaving;

@@ -1,9 +1,9 @@
--- `apply::value_ok` meets its contract.
+-- `Placement::value_ok` meets its contract.
 use Rattle.std.proofs.Common.{◌≡◌, true, false, sym, ap, ◌∙◌}
 use Rattle.apply.specs.Apply.{measured, value_ok}
 use Rattle.std.specs.Prelude as code
 use Rattle.apply.proofs.Tests.{is_some_lem}
-use Rattle.apply.proofs.value_ok.Goals as goal
+use Rattle.apply.proofs.Placement.value_ok.Goals as goal
 
 pub returns-then-not-measured : goal.returns-then-not-measured
 unfolding value_ok
