@@ -8,7 +8,7 @@ ghost use Rattle.std.specs.Int.{w64};
 ghost use Rattle.std.proofs.Common.{to_z};
 ghost use Rattle.format.specs.Prelude.{after};
 ghost use Rattle.format.specs.Machine.{is_word_size};
-ghost use Rattle.format.specs.Lists.{relocation_stride, relocation_at, relocations_of, count};
+ghost use Rattle.format.specs.Lists.{relocation_at, relocations_of};
 ghost use Rattle.apply.specs.Kinds.{kind_of, bits_of, bytes_of, size_ok};
 ghost use Rattle.format.proofs.Asked.{option_of};
 ghost use Rattle.apply.specs.Fields.{up_to, signed32, number_at, in_field, set_in, sub_in, whole_in};
