@@ -12,8 +12,10 @@ ghost use Rattle.walk.specs.Standing.{memory_of, slots, left_of, caller_as, step
 ghost use Rattle.walked.specs.Entry.{numbers_of, chain_numbers, chain_stored};
 ghost use Rattle.walked.specs.Named.{names, operation_names, Marked, MarkedAll, MarksIn};
 ghost use Rattle.walked.specs.Standing.{rules_at, ruled_at, source_at, section_of, all_left, walked_of, fault_of};
+ghost use Rattle.walked.specs.Faults.{fault_by};
 
 use crate::chain::Chain;
+use crate::fault::Fault;
 use crate::leaving::Leaving;
 use format::{Machine, Operation, Row, Rules};
 use operations::fields::Position;
@@ -21,6 +23,7 @@ use reader::location::Located;
 use walk::{Caller, Frame, Memory};
 
 pub mod chain;
+pub mod fault;
 pub mod leaving;
 
 // An offset of a record that was located.
@@ -165,26 +168,6 @@ impl Leaving<'_, '_> {
     }
 }
 
-// The caller of a frame at an offset of a record that was located.
-fn caller(
-    machine: Machine,
-    registers: [Option<u64>; 128],
-    at: Place,
-    memory: Memory,
-) -> Result<Option<Caller>, u64>
-    requires { machine.ret < 65536 }
-    ensures { step_of result ≡ onward (source_at at.entry) (λ u. caller_of machine (memory_of memory.entry) u (slots registers)) }
-{
-    let rules = reader::rules_at(at.section, at.located, machine.ret as u16, at.p)?;
-    let frame = Leaving {
-        machine,
-        registers,
-        at,
-        memory,
-    };
-    frame.left_by_rules(rules)
-}
-
 // The section that the rules come from, its relocations and its kind.
 #[derive(Clone, Copy)]
 pub struct Section<'a> {
@@ -193,72 +176,81 @@ pub struct Section<'a> {
     pub kind: u64,
 }
 
-// The caller of a frame at an offset of record k: one pass over the section.
-fn caller_by(
-    machine: Machine,
-    before: [Option<u64>; 128],
-    section: Section,
-    k: u64,
-    p: u64,
-    m: Memory,
-) -> Result<Option<Caller>, u64>
-    requires { machine.ret < 65536 }
-    ensures { step_of result ≡ onward (section_of section.entry k p) (λ u. caller_of machine (memory_of m.entry) u (slots before)) }
-{
-    let located = reader::locate(section.bytes, section.relocations, section.kind, 8, k)?;
-    let at = Place {
-        section: section.bytes,
-        located,
-        p,
-    };
-    caller(machine, before, at, m)
-}
-
-// ---- the frames
-
-// Up to 64 frames, by the section. Behind them no function holds the address, or a 65th frame would follow.
-pub fn frames(
-    machine: Machine,
-    start: Caller,
-    section: Section,
-    m: Memory,
-    functions: &[u64],
-) -> Result<Chain, u64>
-    requires { machine.ret < 65536 }
-    ensures { walked_of result ≡ frames_f (section_of section.entry) (fault_of machine (memory_of m.entry) functions.now) 64 (caller_as start) }
-{
-    let mut caller = start;
-    let mut frames = [Frame { position: 0, pc: 0 }; 64];
-    for k in 0..64 {
-        let Some((position, offset)) = walk::held(functions, caller.exact, caller.pc) else {
-            return Ok(Chain {
-                frames,
-                count: k,
-                ending: 2,
-            });
+impl Fault<'_, '_, '_> {
+    // The caller of a frame at an offset of a record that was located.
+    fn caller(&self, registers: [Option<u64>; 128], at: Place) -> Result<Option<Caller>, u64>
+        ensures { step_of result ≡ onward (source_at at.entry) (λ u. caller_of self.now.machine (memory_of self.now.memory) u (slots registers)) }
+    {
+        let ret = self.machine.ret as u16;
+        let rules = reader::rules_at(at.section, at.located, ret, at.p)?;
+        let frame = Leaving {
+            machine: self.machine,
+            registers,
+            at,
+            memory: self.memory,
         };
-        frames[k] = Frame {
-            position,
-            pc: caller.pc,
-        };
-        let Some(next) = caller_by(machine, caller.registers, section, position, offset, m)? else {
-            return Ok(Chain {
-                frames,
-                count: k + 1,
-                ending: 1,
-            });
-        };
-        caller = next;
+        frame.left_by_rules(rules)
     }
-    let ending = match walk::held(functions, caller.exact, caller.pc) {
-        None => 2,
-        Some(_) => 3,
-    };
-    Ok(Chain {
-        frames,
-        count: 64,
-        ending,
-    })
+
+    // The caller of a frame at an offset of record k: one pass over the section.
+    fn caller_by(
+        &self,
+        registers: [Option<u64>; 128],
+        k: u64,
+        p: u64,
+    ) -> Result<Option<Caller>, u64>
+        ensures { step_of result ≡ onward (section_of self.now.section k p) (λ u. caller_of self.now.machine (memory_of self.now.memory) u (slots registers)) }
+    {
+        let s = self.section;
+        let located = reader::locate(s.bytes, s.relocations, s.kind, 8, k)?;
+        let at = Place {
+            section: s.bytes,
+            located,
+            p,
+        };
+        self.caller(registers, at)
+    }
+
+    // ---- the frames
+
+    // Up to 64 frames, by the section. Behind them no function holds the address, or a 65th frame would follow.
+    pub fn frames(&self, start: Caller) -> Result<Chain, u64>
+        ensures { walked_of result ≡ frames_f (section_of self.now.section) (fault_by self.now) 64 (caller_as start) }
+    {
+        let mut caller = start;
+        let mut frames = [Frame { position: 0, pc: 0 }; 64];
+        for k in 0..64 {
+            let Some((position, offset)) = walk::held(self.functions, caller.exact, caller.pc)
+            else {
+                return Ok(Chain {
+                    frames,
+                    count: k,
+                    ending: 2,
+                });
+            };
+            frames[k] = Frame {
+                position,
+                pc: caller.pc,
+            };
+            let Some(next) = self.caller_by(caller.registers, position, offset)? else {
+                return Ok(Chain {
+                    frames,
+                    count: k + 1,
+                    ending: 1,
+                });
+            };
+            caller = next;
+        }
+        let ending = match walk::held(self.functions, caller.exact, caller.pc) {
+            None => 2,
+            Some(_) => 3,
+        };
+        Ok(Chain {
+            frames,
+            count: 64,
+            ending,
+        })
+    }
 }
 
 // ---- the entry
@@ -289,11 +281,17 @@ fn recorded(
         pc,
         exact: true,
     };
-    let m = Memory {
+    let memory = Memory {
         address: stack,
         bytes: &file[..size],
     };
-    frames(known, start, section, m, functions)
+    let fault = Fault {
+        machine: known,
+        section,
+        memory,
+        functions,
+    };
+    fault.frames(start)
 }
 
 // What `unwind_walk` answers: 0 or a refusal's number, the count of frames that are stored, and why the walk ended.
