@@ -4,7 +4,7 @@ ghost use Rattle.prologue.specs.Pieces.{Ready};
 
 use format::Machine;
 
-// A machine of eight bytes, as x64 data takes it.
+// A machine whose word has eight bytes, as x64 unwind data takes it.
 #[derive(Clone, Copy)]
 pub struct X64Machine<'m> {
     pub machine: &'m Machine,

@@ -94,6 +94,7 @@ enum Steps {
 
 // What is known of the rows so far: the distance of the frame address above the stack pointer, the steps, and whether the machine
 // has a number below 16 for each register.
+// Kept: a ghost field for the distance's 32 bits is no plainer, since the definitions make walks of any distance.
 #[derive(Clone, Copy)]
 struct Walk {
     below: i64,
