@@ -39,7 +39,7 @@ returns-in-Set c =
     (c.is_some.ensures
     ∙ ap code.is_some
     (c.apart.ensures
-    ∙ ap (λ (m : ℕ). option_of (after (apart ss (meant a.r) (beside a.behind)) (λ z. up_to (m - 1) z))) c.modulus.ensures.0)
+    ∙ ap (λ (m : ℕ). option_of (after (apart ss (meant a.x.now.reloc) (beside a.x.now.behind)) (λ z. up_to (m - 1) z))) c.modulus.ensures.0)
     ∙ some_is _)
 
 pub returns-in-Sub : goal.returns-in-Sub

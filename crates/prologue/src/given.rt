@@ -1,0 +1,25 @@
+// What a prologue is read from: a machine, and rows of a list.
+ghost use Rattle.std.specs.Prelude.{◌≡◌, ◌^◌, ◌≤◌, ◌<◌, length};
+ghost use Rattle.prologue.specs.Pieces.{Ready};
+
+use format::Machine;
+
+// A machine whose word has eight bytes, as x64 unwind data takes it.
+#[derive(Clone, Copy)]
+pub struct X64Machine<'m> {
+    pub machine: &'m Machine,
+    pub ghost registers: { length machine.now.map ≡ 64 },
+    pub ghost word: { machine.now.word ≡ 8 },
+    pub ghost pushed: { machine.now.pushed < 2 ^ 31 },
+}
+
+// The rows of a function or of its prologue, from `at` to `end` of a list, and the machine that they are for.
+#[derive(Clone, Copy)]
+pub struct FunctionRows<'m, 'r> {
+    pub machine: X64Machine<'m>,
+    pub list: &'r [u64],
+    pub at: usize,
+    pub end: usize,
+    pub ghost order: { at ≤ end },
+    pub ghost ready: { Ready list.now at end },
+}
