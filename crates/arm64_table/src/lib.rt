@@ -12,17 +12,42 @@ ghost use Rattle.format.proofs.Asked.{question_of};
 ghost use Rattle.format.proofs.Wrote.{Wrote};
 ghost use Rattle.unwind.specs.Entries.{Exports};
 ghost use Rattle.arm64.specs.Writer.{function_asks, markers_from, rows_of, relocs_from, infos_of, arm64, arm64_answer};
-ghost use Rattle.arm64_table.specs.Tables.{relocs_by, reloc_count, mark_by, first_in, AllListed, AllFine};
+ghost use Rattle.arm64_table.specs.Tables.{relocs_by, reloc_count, mark_by, first_in, AllListed, AllFine, lent_in};
+ghost use Rattle.arm64_table.specs.Lent.{room_of, WritesTo};
 
 use arm64::fields;
 use arm64_function::{function_asks, info_size, packed_word, put_info};
-use arm64_lists::{Lists, lists_ok};
+use arm64_lists::Lists;
 use format::{Counts, Refusal};
 use relocs::{number, relocation};
 use unwind::{Written, written_of};
 
+// The lists that are lent for what is written: markers, the rows of .pdata, their relocations, and the records of .xdata.
+#[derive(Drop)]
+pub struct Output<'a> {
+    pub markers: &'a mut [u64],
+    pub bytes: &'a mut [u8],
+    pub relocations: &'a mut [u64],
+    pub info: &'a mut [u8],
+}
+
+impl Output<'_> {
+    // How many elements the lists have.
+    fn lent(&self) -> Counts
+        ensures { result ≡ lent_in self.now.markers.now self.now.bytes.now self.now.relocations.now self.now.info.now }
+    {
+        Counts {
+            places: self.markers.len() as u64,
+            bytes: self.bytes.len() as u64,
+            relocations: self.relocations.len() as u64,
+            sites: self.info.len() as u64,
+        }
+    }
+}
+
 // ---- one function
 
+// Kept: the list and the place stand side by side here, as in each writer: the next one begins at the end that this one gives.
 // A row's eight bytes: the blank of the function's start, and its word.
 fn put_row(out: &mut [u8], at: usize, word: u64) -> usize
     requires { at + 8 ≤ length out.old }
@@ -147,20 +172,12 @@ fn put_infos(markers: &mut [u64], info: &mut [u8], x: &Lists, n: usize) -> usize
 }
 
 // All results of n functions, where they have room.
-fn put_all(
-    x: &Lists,
-    n: usize,
-    needed: Needed,
-    markers: &mut [u64],
-    bytes: &mut [u8],
-    relocations: &mut [u64],
-    info: &mut [u8],
-) -> Result<Option<Counts>, Refusal>
-    requires { AllFine x.now.functions.now x.now.epilogues.now x.now.codes.now n × (needed.info ≡ length (infos_of (first_in x.now n))) × (needed.relocations ≡ length (relocs_from 0 (first_in x.now n))) × (n ≤ length markers.old) × (8 * n ≤ length bytes.old) × (5 * needed.relocations ≤ length relocations.old) × (needed.info ≤ length info.old) }
-    ensures { Writes (accepted (arm64 (first_in x.now n))) result markers.old markers.new bytes.old bytes.new relocations.old relocations.new info.old info.new }
+fn put_all(x: &Lists, n: usize, needed: Needed, to: &mut Output) -> Result<Option<Counts>, Refusal>
+    requires { AllFine x.now.functions.now x.now.epilogues.now x.now.codes.now n × (needed.info ≡ length (infos_of (first_in x.now n))) × (needed.relocations ≡ length (relocs_from 0 (first_in x.now n))) × (n ≤ length to.old.markers.now) × (8 * n ≤ length to.old.bytes.now) × (5 * needed.relocations ≤ length to.old.relocations.now) × (needed.info ≤ length to.old.info.now) }
+    ensures { WritesTo (accepted (arm64 (first_in x.now n))) result to.old to.new }
 {
-    put_rows(bytes, relocations, x, n);
-    put_infos(markers, info, x, n);
+    put_rows(to.bytes, to.relocations, x, n);
+    put_infos(to.markers, to.info, x, n);
     Ok(Some(Counts {
         places: n as u64,
         bytes: (8 * n) as u64,
@@ -172,16 +189,9 @@ fn put_all(
 // ---- the answer
 
 // The results, where they have room.
-fn write(
-    x: &Lists,
-    n: usize,
-    markers: &mut [u64],
-    bytes: &mut [u8],
-    relocations: &mut [u64],
-    info: &mut [u8],
-) -> Result<Option<Counts>, Refusal>
+fn write(x: &Lists, n: usize, to: &mut Output) -> Result<Option<Counts>, Refusal>
     requires { AllFine x.now.functions.now x.now.epilogues.now x.now.codes.now n }
-    ensures { Writes (fitting (room_in markers.old bytes.old relocations.old info.old) (arm64 (first_in x.now n))) result markers.old markers.new bytes.old bytes.new relocations.old relocations.new info.old info.new }
+    ensures { WritesTo (fitting (room_of to.old) (arm64 (first_in x.now n))) result to.old to.new }
 {
     let needed = sizes(x, n);
     let counts = Counts {
@@ -190,32 +200,20 @@ fn write(
         relocations: (5 * needed.relocations) as u64,
         sites: needed.info as u64,
     };
-    let lent = Counts {
-        places: markers.len() as u64,
-        bytes: bytes.len() as u64,
-        relocations: relocations.len() as u64,
-        sites: info.len() as u64,
-    };
-    lists::room(counts, lent)?;
-    put_all(x, n, needed, markers, bytes, relocations, info)
+    lists::room(counts, to.lent())?;
+    put_all(x, n, needed, to)
 }
 
 // The questions of n functions, and the results.
-fn answer(
-    x: &Lists,
-    n: usize,
-    markers: &mut [u64],
-    bytes: &mut [u8],
-    relocations: &mut [u64],
-    info: &mut [u8],
-) -> Result<Option<Counts>, Refusal>
+fn answer(x: &Lists, n: usize, to: &mut Output) -> Result<Option<Counts>, Refusal>
     requires { AllListed x.now.functions.now x.now.epilogues.now x.now.codes.now n }
-    ensures { Writes (unless (per_function function_asks 0 (first_in x.now n)) (fitting (room_in markers.old bytes.old relocations.old info.old) (arm64 (first_in x.now n)))) result markers.old markers.new bytes.old bytes.new relocations.old relocations.new info.old info.new }
+    ensures { WritesTo (unless (per_function function_asks 0 (first_in x.now n)) (fitting (room_of to.old) (arm64 (first_in x.now n)))) result to.old to.new }
 {
     first_no(x, n)?;
-    write(x, n, markers, bytes, relocations, info)
+    write(x, n, to)
 }
 
+// Kept: here and in the export the lists stand one by one, as C lends them.
 // The table of the functions in three lists: functions of 6 numbers (symbol, length, prologue_at, prologue, epilogues_at, epilogues), epilogues of 3
 // (start, codes_at, codes) and codes of 3 (kind, register, offset). At the fronts of the lent lists stand a marker for each function, the place of its
 // record or 2^64 - 1 where it is packed; the rows of .pdata; their relocations; and the records. It refuses by 13, 81 to 83 and 51 to 54, and then the
@@ -240,13 +238,19 @@ pub fn table(
         epilogues,
         codes,
     };
-    if !lists_ok(&x) {
+    if !x.ok() {
         return Err(Refusal {
             number: 13,
             position: 0,
         });
     }
-    answer(&x, n, markers, bytes, relocations, info)
+    let mut to = Output {
+        markers,
+        bytes,
+        relocations,
+        info,
+    };
+    answer(&x, n, &mut to)
 }
 
 // ---- the C interface

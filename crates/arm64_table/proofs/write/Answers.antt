@@ -2,12 +2,14 @@
 use Rattle.std.proofs.Common.{rules, Err}
 use mathlib.Core.Path.{◌≡◌, sym, ap, ◌∙◌}
 use native.Mathlib.Omega.{arith}
-use Rattle.format.specs.Questions.{accepted, room_in, room_asks, fitting}
+use Rattle.format.specs.Questions.{accepted, room_asks, fitting}
 use Rattle.format.proofs.Asked.{question_of, said_yes}
 use Rattle.lists.proofs.Rooms.{stays, goes, room_says}
 use Rattle.arm64_function.specs.Listed.{function_in}
 use Rattle.arm64.specs.Writer.{arm64}
 use Rattle.arm64_table.specs.Tables.{first_in}
+use Rattle.arm64_table.specs.Lent.{room_of}
+use Rattle.arm64_table.proofs.Lent.{same}
 use Rattle.arm64_table.proofs.Results.{room_same}
 use Rattle.arm64_table.proofs.write.Goals as goal
 
@@ -18,12 +20,12 @@ pub overflow_mul-counts-2 : goal.overflow_mul-counts-2
 overflow_mul-counts-2 c = omega (arith, c.sizes-needed.ensures.2)
 
 pub put_all-requires : goal.put_all-requires
-put_all-requires c = let h = room_says _ _ (said_yes _ (sym c.room.ensures ∙ c.in_ok-room.was)) in (c.requires, c.sizes-needed.ensures.0, c.sizes-needed.ensures.1, h.0, h.1, h.2, h.3)
+put_all-requires c = let h = room_says _ _ (said_yes _ (sym (rw c.lent.ensures at c.room.ensures) ∙ c.in_ok-room.was)) in (c.requires, c.sizes-needed.ensures.0, c.sizes-needed.ensures.1, h.0, h.1, h.2, h.3)
 
 pub returns : goal.returns
 unfolding fitting
-returns c = let a = c.args in goes (room_asks (room_in a.markers.now a.bytes.now a.relocations.now a.info.now) (arm64 (first_in a.x.now a.n))) (ap question_of (sym (room_same (function_in a.x.now) a.n c.sizes-needed.ensures.0 c.sizes-needed.ensures.1 (room_in a.markers.now a.bytes.now a.relocations.now a.info.now))) ∙ sym c.room.ensures ∙ c.in_ok-room.was) c.put_all.ensures
+returns c = let a = c.args in (goes (room_asks (room_of a.to.now) (arm64 (first_in a.x.now a.n))) (ap question_of (sym (room_same (function_in a.x.now) a.n c.sizes-needed.ensures.0 c.sizes-needed.ensures.1 (room_of a.to.now))) ∙ sym (rw c.lent.ensures at c.room.ensures) ∙ c.in_ok-room.was) c.put_all.ensures.0, c.put_all.ensures.1)
 
 pub returns-in_err-room : goal.returns-in_err-room
 unfolding fitting
-returns-in_err-room c = let a = c.args in let e : c.from_residual.result ≡ Err c.in_err-room.field-0.0 = search rules in rw e (stays (room_asks (room_in a.markers.now a.bytes.now a.relocations.now a.info.now) (arm64 (first_in a.x.now a.n))) (accepted (arm64 (first_in a.x.now a.n))) (ap question_of (sym (room_same (function_in a.x.now) a.n c.sizes-needed.ensures.0 c.sizes-needed.ensures.1 (room_in a.markers.now a.bytes.now a.relocations.now a.info.now))) ∙ sym c.room.ensures ∙ c.in_err-room.was))
+returns-in_err-room c = let a = c.args in let e : c.from_residual.result ≡ Err c.in_err-room.field-0.0 = search rules in (rw e (stays (room_asks (room_of a.to.now) (arm64 (first_in a.x.now a.n))) (accepted (arm64 (first_in a.x.now a.n))) (ap question_of (sym (room_same (function_in a.x.now) a.n c.sizes-needed.ensures.0 c.sizes-needed.ensures.1 (room_of a.to.now))) ∙ sym (rw c.lent.ensures at c.room.ensures) ∙ c.in_err-room.was)), same)

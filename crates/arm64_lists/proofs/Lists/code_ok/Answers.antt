@@ -1,9 +1,9 @@
--- `arm64_lists::code_ok` meets its contract.
+-- `Lists::code_ok` meets its contract.
 use native.Mathlib.Omega.{arith}
 use native.Mathlib.Nat.{add-zero}
 use Rattle.arm64_lists.proofs.Codes.{no_kind, both, offset_alone, register_there, add_fp, neither}
 use Rattle.arm64.specs.Writer.{code_ok_at}
-use Rattle.arm64_lists.proofs.code_ok.Goals as goal
+use Rattle.arm64_lists.proofs.Lists.code_ok.Goals as goal
 
 pub returns-then-kind-gt-PAC_SIGN_LR : goal.returns-then-kind-gt-PAC_SIGN_LR
 unfolding code_ok_at
@@ -17,14 +17,14 @@ pub returns-then-kind-le-FREG_X : goal.returns-then-kind-le-FREG_X
 unfolding code_ok_at
 returns-then-kind-le-FREG_X c = rw add-zero (offset_alone _ _ _ c.if-kind-le-FREG_X.true (omega (arith, c.if-kind-ge-REGP.false)))
 
-pub returns-then-cs-i-ne0 : goal.returns-then-cs-i-ne0
+pub returns-then-self-i-ne0 : goal.returns-then-self-i-ne0
 unfolding code_ok_at
-returns-then-cs-i-ne0 c = rw add-zero (register_there _ _ _ (omega (arith, c.if-kind-gt-PAC_SIGN_LR.false)) (omega (arith, c.if-kind-le-FREG_X.false)) c.if-cs-i-ne0.true)
+returns-then-self-i-ne0 c = rw add-zero (register_there _ _ _ (omega (arith, c.if-kind-gt-PAC_SIGN_LR.false)) (omega (arith, c.if-kind-le-FREG_X.false)) c.if-self-i-ne0.true)
 
 pub returns-then-kind-eq-ADD_FP : goal.returns-then-kind-eq-ADD_FP
 unfolding code_ok_at
-returns-then-kind-eq-ADD_FP c = rw add-zero (add_fp _ _ _ (omega (arith, c.if-kind-gt-PAC_SIGN_LR.false)) (omega (arith, c.if-kind-le-FREG_X.false)) c.if-cs-i-ne0.false c.if-kind-eq-ADD_FP.true)
+returns-then-kind-eq-ADD_FP c = rw add-zero (add_fp _ _ _ (omega (arith, c.if-kind-gt-PAC_SIGN_LR.false)) (omega (arith, c.if-kind-le-FREG_X.false)) c.if-self-i-ne0.false c.if-kind-eq-ADD_FP.true)
 
 pub returns : goal.returns
 unfolding code_ok_at
-returns c = rw add-zero (neither _ _ _ (omega (arith, c.if-kind-gt-PAC_SIGN_LR.false)) (omega (arith, c.if-kind-le-FREG_X.false)) c.if-cs-i-ne0.false c.if-kind-eq-ADD_FP.false)
+returns c = rw add-zero (neither _ _ _ (omega (arith, c.if-kind-gt-PAC_SIGN_LR.false)) (omega (arith, c.if-kind-le-FREG_X.false)) c.if-self-i-ne0.false c.if-kind-eq-ADD_FP.false)

@@ -1,8 +1,8 @@
--- `arm64_lists::codes_ok_in` meets its contract.
+-- `Lists::codes_ok_in` meets its contract.
 use mathlib.Core.Path.{sym, ◌∙◌}
 use Rattle.lists.proofs.Answers.{reached}
 use Rattle.arm64.specs.Writer.{codes_ok_in}
-use Rattle.arm64_lists.proofs.codes_ok_in.Goals as goal
+use Rattle.arm64_lists.proofs.Lists.codes_ok_in.Goals as goal
 
 pub returns-then-not-inside : goal.returns-then-not-inside
 unfolding codes_ok_in

@@ -1,14 +1,14 @@
--- `arm64_lists::add_epilogues` meets its contract.
+-- `Lists::add_epilogues` meets its contract.
 use native.Mathlib.Omega.{arith}
 use Prim.Native.Nat.{ℕ}
 use mathlib.Core.Path.{◌∙◌}
 use Rattle.format.specs.Lists.{field}
 use Rattle.arm64.specs.Lists.{epilogue_stride}
 use Rattle.arm64_lists.proofs.Totals.{adding, add_turn, add_stopped, add_ended}
-use Rattle.arm64_lists.proofs.add_epilogues.Goals as goal
+use Rattle.arm64_lists.proofs.Lists.add_epilogues.Goals as goal
 
 pub loop-i-init : goal.loop-i-init
-loop-i-init c = adding (λ (i : ℕ). field epilogue_stride c.args.es.now i 2) c.args.at c.args.n c.args.sum c.requires.1
+loop-i-init c = adding (λ (i : ℕ). field epilogue_stride c.args.self.now.epilogues.now i 2) c.args.at c.args.n c.args.sum c.requires.1
 
 pub returns-in_err-total : goal.returns-in_err-total
 returns-in_err-total c = c.from_residual.ensures ∙ add_stopped c.loop-i.invariant c.loop-i-test.true c.add.ensures c.in_err-total.was

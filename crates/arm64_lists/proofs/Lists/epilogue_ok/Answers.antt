@@ -1,6 +1,6 @@
--- `arm64_lists::epilogue_ok` meets its contract.
+-- `Lists::epilogue_ok` meets its contract.
 use Rattle.arm64.specs.Writer.{epilogue_ok_at}
-use Rattle.arm64_lists.proofs.epilogue_ok.Goals as goal
+use Rattle.arm64_lists.proofs.Lists.epilogue_ok.Goals as goal
 
 pub returns : goal.returns
 unfolding epilogue_ok_at

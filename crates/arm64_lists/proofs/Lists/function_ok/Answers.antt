@@ -1,9 +1,9 @@
--- `arm64_lists::function_ok` meets its contract.
+-- `Lists::function_ok` meets its contract.
 use mathlib.Core.Path.{sym, ◌∙◌}
 use Rattle.lists.proofs.Answers.{reached}
 use native.Mathlib.Nat.{add-zero}
 use Rattle.arm64.specs.Writer.{function_ok_at}
-use Rattle.arm64_lists.proofs.function_ok.Goals as goal
+use Rattle.arm64_lists.proofs.Lists.function_ok.Goals as goal
 
 pub returns-then-not-symbol_ok : goal.returns-then-not-symbol_ok
 unfolding function_ok_at

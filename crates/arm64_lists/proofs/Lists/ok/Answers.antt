@@ -1,4 +1,4 @@
--- `arm64_lists::lists_ok` meets its contract.
+-- `Lists::ok` meets its contract.
 use mathlib.Core.Path.{sym, ap, ◌∙◌}
 use Rattle.std.specs.Option.{is_some}
 use native.Mathlib.Omega.{arith}
@@ -6,7 +6,7 @@ use borrow.Author.Tests.{le-leb, lt-leb}
 use mathlib.Core.Bool.{and-true, and-false}
 use Rattle.arm64_lists.proofs.Totals.{ranges, up_is}
 use Rattle.arm64.specs.Writer.{lists_ok}
-use Rattle.arm64_lists.proofs.lists_ok.Goals as goal
+use Rattle.arm64_lists.proofs.Lists.ok.Goals as goal
 
 pub returns-then-n-gt-MOST_FUNCTIONS : goal.returns-then-n-gt-MOST_FUNCTIONS
 unfolding lists_ok
@@ -21,7 +21,7 @@ unfolding lists_ok
 returns-then-not-functions_ok c = simp (sym c.functions_ok.ensures ∙ c.if-not-functions_ok.true, and-false)
 
 pub codes_sum-requires : goal.codes_sum-requires
-codes_sum-requires c = (omega arith, ranges c.args.x.now.functions.now c.args.x.now.epilogues.now c.args.x.now.codes.now _ (sym c.functions_ok.ensures ∙ c.if-not-functions_ok.false))
+codes_sum-requires c = (omega arith, ranges c.args.self.now.functions.now c.args.self.now.epilogues.now c.args.self.now.codes.now _ (sym c.functions_ok.ensures ∙ c.if-not-functions_ok.false))
 
 pub returns : goal.returns
 unfolding lists_ok
