@@ -109,12 +109,18 @@ impl Lists<'_> {
 
     // ---- sums
 
-    // The codes of epilogues, added to a sum.
-    fn add_epilogues(&self, at: usize, n: usize, sum: u64) -> Option<u64>
-        requires { (at + n ≤ count epilogue_stride self.now.epilogues.now) × (sum ≤ most_records) }
-        ensures { result ≡ up_to (sum + sum_of (λ i. field epilogue_stride self.now.epilogues.now i 2) at n) }
+    // The codes of function k, added to a sum.
+    fn add_function(&self, k: usize, sum: u64) -> Option<u64>
+        requires { (6 * k + 6 ≤ length self.now.functions.now) × (field function_stride self.now.functions.now k 4 + field function_stride self.now.functions.now k 5 ≤ count epilogue_stride self.now.epilogues.now) × (sum ≤ most_records) }
+        ensures { result ≡ up_to (sum + codes_in self.now.functions.now self.now.epilogues.now k) }
     {
-        let mut total = sum;
+        let at = self.functions[fields::FUNCTION_STRIDE * k + fields::EPILOGUES_AT] as usize;
+        let n = self.functions[fields::FUNCTION_STRIDE * k + fields::EPILOGUES] as usize;
+        let start = add(
+            sum,
+            self.functions[fields::FUNCTION_STRIDE * k + fields::PROLOGUE],
+        )?;
+        let mut total = start;
         for i in at..at + n {
             total = add(
                 total,
@@ -122,21 +128,6 @@ impl Lists<'_> {
             )?;
         }
         Some(total)
-    }
-
-    // The codes of function k, added to a sum.
-    fn add_function(&self, k: usize, sum: u64) -> Option<u64>
-        requires { (6 * k + 6 ≤ length self.now.functions.now) × (field function_stride self.now.functions.now k 4 + field function_stride self.now.functions.now k 5 ≤ count epilogue_stride self.now.epilogues.now) × (sum ≤ most_records) }
-        ensures { result ≡ up_to (sum + codes_in self.now.functions.now self.now.epilogues.now k) }
-    {
-        self.add_epilogues(
-            self.functions[fields::FUNCTION_STRIDE * k + fields::EPILOGUES_AT] as usize,
-            self.functions[fields::FUNCTION_STRIDE * k + fields::EPILOGUES] as usize,
-            add(
-                sum,
-                self.functions[fields::FUNCTION_STRIDE * k + fields::PROLOGUE],
-            )?,
-        )
     }
 
     // The codes of n functions.

@@ -93,11 +93,8 @@ fn function(p: Packed, to: &mut Output) -> Result<Arm64Reading, u64>
     room(to, 1, n + m)?;
     arm64_packed::put_slots(to.codes, 0, false, p);
     arm64_packed::put_slots(to.codes, fields::CODE_STRIDE * n, true, p);
-    arm64_runs::put_three(
-        to.epilogues,
-        0,
-        [4 * (p.length - 1 - m as u64), n as u64, m as u64],
-    );
+    let start = 4 * (p.length - 1 - m as u64);
+    arm64_runs::put_three(to.epilogues, 0, [start, n as u64, m as u64]);
     Ok(reading(4 * p.length, n, 1, m))
 }
 
