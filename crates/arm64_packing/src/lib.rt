@@ -184,19 +184,9 @@ fn same_places(run: &Codes, undone: bool, p: Packed) -> bool
     requires { Sound p }
     ensures { result ≡ same_codes (given run.now.list.now run.now.run) (slots_from (placed undone p) 0 19) }
 {
-    let mut steps = run.steps();
-    'places: for i in 0..19 {
-        let Some(d) = place(undone, p, i) else {
-            continue 'places;
-        };
-        let Some(s) = steps.next() else {
-            return false;
-        };
-        if s.resolved() != d {
-            return false;
-        }
-    }
-    steps.next().is_none()
+    run.steps()
+        .map(|s| s.resolved())
+        .eq((0..19).filter_map(|i| place(undone, p, i)))
 }
 
 fn packed_word(p: Packed) -> u64
