@@ -15,7 +15,7 @@ ghost use Rattle.arm64.specs.Writer.{prologue_run, instructions, is_packed, info
 ghost use Rattle.arm64_simple.specs.Saves.{saves};
 ghost use Rattle.arm64_simple.specs.Written.{saved_in};
 ghost use Rattle.arm64_header.specs.Header.{only_in};
-ghost use Rattle.arm64_function.specs.Listed.{function_in, Listed, Fine};
+ghost use Rattle.arm64_function.specs.Listed.{function_in, ListedIn, FineIn};
 ghost use Rattle.arm64_function.specs.Own.{prologue_at, epilogue_at, parts_at, Ready, start_ok_at, fits_at, length_ok, held_to, index_in};
 
 use arm64::{fields, header_bits, limits};
@@ -115,7 +115,7 @@ impl<'a> Function<'a> {
 
     // Function k of the lists.
     fn of(x: &Lists<'a>, k: usize) -> Function<'a>
-        requires { Listed x.now.functions.now x.now.epilogues.now x.now.codes.now k }
+        requires { ListedIn x.now k }
         ensures { Taken x.now k result }
     {
         Function {
@@ -482,7 +482,7 @@ impl<'a> Function<'a> {
 
 // The packed word of function k.
 pub fn packed_word(x: &Lists, k: usize) -> Option<u64>
-    requires { Fine x.now.functions.now x.now.epilogues.now x.now.codes.now k }
+    requires { FineIn x.now k }
     ensures { result ≡ pick (is_packed (function_in x.now k)) (Some (packed_word (candidate (instructions (function_in x.now k).size) (prologue_run (function_in x.now k))))) None }
 {
     let f = Function::of(x, k);
@@ -494,7 +494,7 @@ pub fn packed_word(x: &Lists, k: usize) -> Option<u64>
 
 // Questions 81 to 83: the position is 0.
 pub fn function_asks(x: &Lists, k: usize) -> Result<(), Refusal>
-    requires { Listed x.now.functions.now x.now.epilogues.now x.now.codes.now k }
+    requires { ListedIn x.now k }
     ensures { result ≡ question_of (function_asks k (function_in x.now k)) }
 {
     let f = Function::of(x, k);
@@ -521,7 +521,7 @@ pub fn function_asks(x: &Lists, k: usize) -> Result<(), Refusal>
 
 // How many bytes a function's record has: none where it is packed.
 pub fn info_size(x: &Lists, k: usize) -> usize
-    requires { Fine x.now.functions.now x.now.epilogues.now x.now.codes.now k }
+    requires { FineIn x.now k }
     ensures { (result ≡ length (info_of (function_in x.now k))) × (result ≤ 300000) }
 {
     if packed_word(x, k).is_some() {
@@ -532,7 +532,7 @@ pub fn info_size(x: &Lists, k: usize) -> usize
 
 // A function's record.
 pub fn put_info(out: &mut [u8], at: usize, x: &Lists, k: usize) -> usize
-    requires { Fine x.now.functions.now x.now.epilogues.now x.now.codes.now k × (at + length (info_of (function_in x.now k)) ≤ length out.old) }
+    requires { FineIn x.now k × (at + length (info_of (function_in x.now k)) ≤ length out.old) }
     ensures { Wrote out.old out.new at result (info_of (function_in x.now k)) }
 {
     if packed_word(x, k).is_some() {

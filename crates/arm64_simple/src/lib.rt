@@ -202,7 +202,7 @@ impl<'a> Codes<'a> {
     ghost use Rattle.arm64_simple.specs.Written.{saved_in, written_in};
 
     // The j-th code that the run saves.
-    fn saved_at(&self, j: usize) -> Code
+    pub fn saved_at(&self, j: usize) -> Code
         requires { j < self.now.run.count }
         ensures { result ≡ saved_at self.now.list.now self.now.run j }
     {

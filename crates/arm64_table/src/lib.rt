@@ -12,7 +12,7 @@ ghost use Rattle.format.proofs.Asked.{question_of};
 ghost use Rattle.format.proofs.Wrote.{Wrote};
 ghost use Rattle.unwind.specs.Entries.{Exports};
 ghost use Rattle.arm64.specs.Writer.{function_asks, markers_from, rows_of, relocs_from, infos_of, arm64, arm64_answer};
-ghost use Rattle.arm64_table.specs.Tables.{relocs_by, reloc_count, mark_by, first_in, AllListed, AllFine, lent_in};
+ghost use Rattle.arm64_table.specs.Tables.{relocs_by, reloc_count, mark_by, first_in, AllListedIn, AllFineIn, lent_in};
 ghost use Rattle.arm64_table.specs.Lent.{room_of, WritesTo};
 
 use arm64::fields;
@@ -105,7 +105,7 @@ fn mark(at: usize, past: usize) -> u64
 
 // 81 to 83 of n functions: the position is 0.
 fn first_no(x: &Lists, n: usize) -> Result<(), Refusal>
-    requires { AllListed x.now.functions.now x.now.epilogues.now x.now.codes.now n }
+    requires { AllListedIn x.now n }
     ensures { result ≡ question_of (per_function function_asks 0 (first_in x.now n)) }
 {
     for k in 0..n {
@@ -124,7 +124,7 @@ struct Needed {
 }
 
 fn sizes(x: &Lists, n: usize) -> Needed
-    requires { AllFine x.now.functions.now x.now.epilogues.now x.now.codes.now n }
+    requires { AllFineIn x.now n }
     ensures { (result.info ≡ length (infos_of (first_in x.now n))) × (result.relocations ≡ length (relocs_from 0 (first_in x.now n))) × (result.relocations ≤ 2 * most_functions) }
 {
     let mut info = 0;
@@ -139,7 +139,7 @@ fn sizes(x: &Lists, n: usize) -> Needed
 
 // The rows of n functions, and their relocations.
 fn put_rows(bytes: &mut [u8], relocations: &mut [u64], x: &Lists, n: usize) -> usize
-    requires { AllFine x.now.functions.now x.now.epilogues.now x.now.codes.now n × (8 * n ≤ length bytes.old) × (5 * length (relocs_from 0 (first_in x.now n)) ≤ length relocations.old) }
+    requires { AllFineIn x.now n × (8 * n ≤ length bytes.old) × (5 * length (relocs_from 0 (first_in x.now n)) ≤ length relocations.old) }
     ensures { (bytes.new ≡ put bytes.old 0 (rows_of (first_in x.now n))) × (relocations.new ≡ put relocations.old 0 (numbers_of (relocs_from 0 (first_in x.now n)))) }
 {
     let mut to = 0;
@@ -159,7 +159,7 @@ fn put_rows(bytes: &mut [u8], relocations: &mut [u64], x: &Lists, n: usize) -> u
 
 // The records of n functions, and where each stands.
 fn put_infos(markers: &mut [u64], info: &mut [u8], x: &Lists, n: usize) -> usize
-    requires { AllFine x.now.functions.now x.now.epilogues.now x.now.codes.now n × (n ≤ length markers.old) × (length (infos_of (first_in x.now n)) ≤ length info.old) }
+    requires { AllFineIn x.now n × (n ≤ length markers.old) × (length (infos_of (first_in x.now n)) ≤ length info.old) }
     ensures { (markers.new ≡ put markers.old 0 (markers_from 0 (first_in x.now n))) × (info.new ≡ put info.old 0 (infos_of (first_in x.now n))) }
 {
     let mut at = 0;
@@ -173,7 +173,7 @@ fn put_infos(markers: &mut [u64], info: &mut [u8], x: &Lists, n: usize) -> usize
 
 // All results of n functions, where they have room.
 fn put_all(x: &Lists, n: usize, needed: Needed, to: &mut Output) -> Result<Option<Counts>, Refusal>
-    requires { AllFine x.now.functions.now x.now.epilogues.now x.now.codes.now n × (needed.info ≡ length (infos_of (first_in x.now n))) × (needed.relocations ≡ length (relocs_from 0 (first_in x.now n))) × (n ≤ length to.old.markers.now) × (8 * n ≤ length to.old.bytes.now) × (5 * needed.relocations ≤ length to.old.relocations.now) × (needed.info ≤ length to.old.info.now) }
+    requires { AllFineIn x.now n × (needed.info ≡ length (infos_of (first_in x.now n))) × (needed.relocations ≡ length (relocs_from 0 (first_in x.now n))) × (n ≤ length to.old.markers.now) × (8 * n ≤ length to.old.bytes.now) × (5 * needed.relocations ≤ length to.old.relocations.now) × (needed.info ≤ length to.old.info.now) }
     ensures { WritesTo (accepted (arm64 (first_in x.now n))) result to.old to.new }
 {
     put_rows(to.bytes, to.relocations, x, n);
@@ -190,7 +190,7 @@ fn put_all(x: &Lists, n: usize, needed: Needed, to: &mut Output) -> Result<Optio
 
 // The results, where they have room.
 fn write(x: &Lists, n: usize, to: &mut Output) -> Result<Option<Counts>, Refusal>
-    requires { AllFine x.now.functions.now x.now.epilogues.now x.now.codes.now n }
+    requires { AllFineIn x.now n }
     ensures { WritesTo (fitting (room_of to.old) (arm64 (first_in x.now n))) result to.old to.new }
 {
     let needed = sizes(x, n);
@@ -206,7 +206,7 @@ fn write(x: &Lists, n: usize, to: &mut Output) -> Result<Option<Counts>, Refusal
 
 // The questions of n functions, and the results.
 fn answer(x: &Lists, n: usize, to: &mut Output) -> Result<Option<Counts>, Refusal>
-    requires { AllListed x.now.functions.now x.now.epilogues.now x.now.codes.now n }
+    requires { AllListedIn x.now n }
     ensures { WritesTo (unless (per_function function_asks 0 (first_in x.now n)) (fitting (room_of to.old) (arm64 (first_in x.now n)))) result to.old to.new }
 {
     first_no(x, n)?;
