@@ -52,9 +52,6 @@ pub record AllFine (fs es cs : List ℕ) (n : ℕ) : Type 0 where
   pub most : n ≤ most_functions
   pub each_one : (k : ℕ) → k < n → Fine fs es cs k
 
--- both of the lists as they are lent
-abbrev pub AllListedIn : Lists → ℕ → Type 0
-AllListedIn x n = AllListed x.functions.now x.epilogues.now x.codes.now n
-
+-- of the lists as they are lent
 abbrev pub AllFineIn : Lists → ℕ → Type 0
 AllFineIn x n = AllFine x.functions.now x.epilogues.now x.codes.now n

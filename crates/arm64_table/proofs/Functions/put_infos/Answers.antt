@@ -1,6 +1,6 @@
--- `arm64_table::put_infos` meets its contract.
+-- `Functions::put_infos` meets its contract.
 use Rattle.arm64_table.proofs.Loops.{describing, mark_room, info_room, described, all_marked, all_described}
-use Rattle.arm64_table.proofs.put_infos.Goals as goal
+use Rattle.arm64_table.proofs.Functions.put_infos.Goals as goal
 
 pub loop-k-init : goal.loop-k-init
 loop-k-init c = describing _ _ c.requires.1 c.requires.2

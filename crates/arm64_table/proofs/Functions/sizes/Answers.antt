@@ -1,7 +1,7 @@
--- `arm64_table::sizes` meets its contract.
+-- `Functions::sizes` meets its contract.
 use native.Mathlib.Omega.{arith}
 use Rattle.arm64_table.proofs.Loops.{summing, summed, info_sum, relocs_sum}
-use Rattle.arm64_table.proofs.sizes.Goals as goal
+use Rattle.arm64_table.proofs.Functions.sizes.Goals as goal
 
 pub loop-k-init : goal.loop-k-init
 loop-k-init c = summing _ _

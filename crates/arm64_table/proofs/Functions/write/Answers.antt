@@ -1,4 +1,4 @@
--- `arm64_table::write` meets its contract.
+-- `Functions::write` meets its contract.
 use Rattle.std.proofs.Common.{rules, Err}
 use mathlib.Core.Path.{◌≡◌, sym, ap, ◌∙◌}
 use native.Mathlib.Omega.{arith}
@@ -11,7 +11,7 @@ use Rattle.arm64_table.specs.Tables.{first_in}
 use Rattle.arm64_table.specs.Lent.{room_of}
 use Rattle.arm64_table.proofs.Lent.{same}
 use Rattle.arm64_table.proofs.Results.{room_same}
-use Rattle.arm64_table.proofs.write.Goals as goal
+use Rattle.arm64_table.proofs.Functions.write.Goals as goal
 
 pub overflow_mul-counts : goal.overflow_mul-counts
 overflow_mul-counts c = omega (arith, c.requires.most)
@@ -24,8 +24,8 @@ put_all-requires c = let h = room_says _ _ (said_yes _ (sym (rw c.lent.ensures a
 
 pub returns : goal.returns
 unfolding fitting
-returns c = let a = c.args in (goes (room_asks (room_of a.to.now) (arm64 (first_in a.x.now a.n))) (ap question_of (sym (room_same (function_in a.x.now) a.n c.sizes-needed.ensures.0 c.sizes-needed.ensures.1 (room_of a.to.now))) ∙ sym (rw c.lent.ensures at c.room.ensures) ∙ c.in_ok-room.was) c.put_all.ensures.0, c.put_all.ensures.1)
+returns c = let a = c.args in (goes (room_asks (room_of a.to.now) (arm64 (first_in a.self.now.lists a.self.now.count))) (ap question_of (sym (room_same (function_in a.self.now.lists) a.self.now.count c.sizes-needed.ensures.0 c.sizes-needed.ensures.1 (room_of a.to.now))) ∙ sym (rw c.lent.ensures at c.room.ensures) ∙ c.in_ok-room.was) c.put_all.ensures.0, c.put_all.ensures.1)
 
 pub returns-in_err-room : goal.returns-in_err-room
 unfolding fitting
-returns-in_err-room c = let a = c.args in let e : c.from_residual.result ≡ Err c.in_err-room.field-0.0 = search rules in (rw e (stays (room_asks (room_of a.to.now) (arm64 (first_in a.x.now a.n))) (accepted (arm64 (first_in a.x.now a.n))) (ap question_of (sym (room_same (function_in a.x.now) a.n c.sizes-needed.ensures.0 c.sizes-needed.ensures.1 (room_of a.to.now))) ∙ sym (rw c.lent.ensures at c.room.ensures) ∙ c.in_err-room.was)), same)
+returns-in_err-room c = let a = c.args in let e : c.from_residual.result ≡ Err c.in_err-room.field-0.0 = search rules in (rw e (stays (room_asks (room_of a.to.now) (arm64 (first_in a.self.now.lists a.self.now.count))) (accepted (arm64 (first_in a.self.now.lists a.self.now.count))) (ap question_of (sym (room_same (function_in a.self.now.lists) a.self.now.count c.sizes-needed.ensures.0 c.sizes-needed.ensures.1 (room_of a.to.now))) ∙ sym (rw c.lent.ensures at c.room.ensures) ∙ c.in_err-room.was)), same)
