@@ -3,3 +3,4 @@ pub mod Counts
 pub mod Tallies
 pub mod Comparing
 pub mod Answers
+pub mod Equal
