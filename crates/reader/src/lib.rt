@@ -8,6 +8,7 @@ ghost use Rattle.format.specs.Reader.{read};
 ghost use Rattle.reader.specs.Finds.{Locates, locate_in, in_section, rules_from, shortest_from};
 
 use crate::location::Located;
+use crate::section::{Layout, Section};
 use format::Rules;
 
 pub mod cursor;
@@ -15,6 +16,7 @@ pub mod entries;
 pub mod fields;
 pub mod location;
 pub mod run;
+pub mod section;
 pub mod shortest;
 
 // Where the operations of record k and of its header are: questions 11 and 61 to 64. A caller who asks for several registers or offsets of
@@ -34,7 +36,16 @@ pub fn locate(
     if 1 < kind {
         return Err(11);
     }
-    location::locate(section, relocations, kind == 1, word, k)
+    let layout = Layout {
+        debug: kind == 1,
+        word,
+    };
+    let section = Section {
+        bytes: section,
+        relocations,
+        layout,
+    };
+    section.locate(k)
 }
 
 // Numbers whose positions lie in the section, and whose word is one.

@@ -10,8 +10,8 @@ returns-then-not-is_word c = no_word _ _ _ _ _ (sym c.is_word.ensures ∙ c.if-n
 pub returns-then-kind-gt1 : goal.returns-then-kind-gt1
 returns-then-kind-gt1 c = no_kind _ _ _ _ _ (omega (arith, c.if-kind-gt1.true))
 
-pub locate-requires : goal.locate-requires
-locate-requires c = rw (sym c.is_word.ensures ∙ c.if-not-is_word.false) tt
+pub invariant_of-layout : goal.invariant_of-layout
+invariant_of-layout c = record { is_word = rw (sym c.is_word.ensures ∙ c.if-not-is_word.false) tt }
 
 pub returns : goal.returns
 returns c =

@@ -1,6 +1,6 @@
--- `reader::entries::is_header` meets its contract.
+-- `reader::section::Span::is_header` meets its contract.
 use Rattle.format.specs.Reader.{is_header}
-use Rattle.reader.proofs.entries.is_header.Goals as goal
+use Rattle.reader.proofs.section.Span.is_header.Goals as goal
 
 pub returns : goal.returns
 unfolding is_header

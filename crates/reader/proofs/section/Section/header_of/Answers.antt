@@ -1,8 +1,8 @@
--- `reader::location::header_of` meets its contract.
+-- `reader::section::Section::header_of` meets its contract.
 use mathlib.Core.Path.{sym, ◌∙◌}
 use Rattle.format.specs.Prelude.{after}
 use Rattle.reader.proofs.Seeking.{number_is, number_none}
-use Rattle.reader.proofs.location.header_of.Goals as goal
+use Rattle.reader.proofs.section.Section.header_of.Goals as goal
 
 pub returns-in_err-place : goal.returns-in_err-place
 unfolding after
