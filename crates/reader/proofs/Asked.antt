@@ -70,11 +70,10 @@ module _ (s : List ℕ) (l : Located) where
             refl
 
   -- what the run asks for
-  pub fits : in_section s l ≡ true
+  pub places : T (in_section s l)
       → T (is_word_size l.word) × (l.header ≤ l.header_end) × (l.header_end ≤ length s) × (l.«record» ≤ l.record_end) × (l.record_end ≤ length s)
   unfolding in_section
-  fits e =
-      let t : T (in_section s l) = rw e tt in
+  places t =
       let a = and_yes (leb l.header l.header_end) _ t in
       let b = and_yes (leb l.header_end (length s)) _ a.1 in
       let c = and_yes (leb l.«record» l.record_end) _ b.1 in
@@ -85,6 +84,10 @@ module _ (s : List ℕ) (l : Located) where
         leb→le l.«record» l.record_end c.0,
         leb→le l.record_end (length s) d.0,
       )
+
+  pub fits : in_section s l ≡ true
+      → T (is_word_size l.word) × (l.header ≤ l.header_end) × (l.header_end ≤ length s) × (l.«record» ≤ l.record_end) × (l.record_end ≤ length s)
+  fits e = places (rw e tt)
 
   -- 64, 65, and the run
   module _ (q p : ℕ) where

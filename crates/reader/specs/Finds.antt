@@ -1,19 +1,25 @@
 -- What is found of record k: where its operations and its header's are, the few numbers that go with them, and the rules from there on.
-use Rattle.std.specs.Prelude.{◌≡◌, Bool, ◌&&◌, ℕ, ◌-◌, ◌/◌, ◌≤◌, List, length, T, leb, eqb, Ok, Err}
+use Rattle.std.specs.Prelude.{◌≡◌, Bool, true, false, ◌&&◌, ℕ, ◌-◌, ◌/◌, ◌≤◌, List, length, T, leb, eqb, Ok, Err}
 use Rattle.std.specs.Prelude as code
-use Rattle.format.specs.Prelude.{pick, each, Result, good, bad}
+use Rattle.format.specs.Prelude.{pick, each, Result, good, bad, onward}
 use Rattle.format.specs.Machine.{is_word_size}
 use Rattle.format.specs.Lists.{relocation_at, relocations_of}
-use Rattle.format.specs.Rules.{answer}
-use Rattle.format.specs.Reader.{first_addend, Found, locate, run_to, shortest_to}
+use Rattle.format.specs.Rules.{State, blank, answer}
+use Rattle.format.specs.Reader.{first_addend, Found, locate, run, run_to, shortest_to}
 use Rattle.format.specs.Coded.{Reading}
 use Rattle.reader.specs.Spans.{part}
 use Rattle.reader.specs.declared.location.Located.{Located}
+use Rattle.reader.specs.declared.section.Span.{Span}
 
 -- the first relocation at a place is one of those from the i-th on
 pub record Searching (xs : List ℕ) (place i : ℕ) : Type 0 where
   pub inside : i ≤ length xs / 5
   pub rest : first_addend place (relocations_of xs) ≡ first_addend place (each (relocation_at xs) i (length xs / 5 - i))
+
+-- where the operations of the header are, or those of the record
+unfoldable pub operations_of : Located → (header : Bool) → Span
+operations_of l header =
+    record { at = pick header l.header l.«record»; end = pick header l.header_end l.record_end }
 
 -- the fields of the record and of its header, by positions of the section
 abbrev pub found : List ℕ → Located → Found
@@ -23,6 +29,11 @@ found s l =
       found = record { size = l.size; operations = part s l.«record» l.record_end };
       shortest = l.shortest;
     }
+
+-- the header's operations and then the record's, up to a step that would pass p
+abbrev pub run_both : (word p : ℕ) → Found → Result State
+run_both word p x =
+    onward (run true word p blank.current.rules blank x.header.operations) λ t. run false word p t.current.rules t x.found.operations
 
 -- an answer, that its positions lie in the section, and its word
 pub record Stated (s : List ℕ) (word : ℕ) (l : Located) (x : Result Found) : Type 0 where

@@ -1,10 +1,10 @@
 -- Entries of a section by the positions where they start and end.
-use Rattle.std.specs.Prelude.{◌≡◌, ℕ, suc, ◌+◌, ◌-◌, ◌≤◌, List, [], ◌∷◌, T, length, take, drop, Some, None}
+use Rattle.std.specs.Prelude.{◌≡◌, ℕ, suc, ◌+◌, ◌-◌, ◌≤◌, Bool, List, [], ◌∷◌, T, length, take, drop, Some, None}
 use Rattle.std.specs.Prelude as code
 use Rattle.std.proofs.Math.Option.{Option, none, some}
 use Rattle.format.specs.Prelude.{Read}
 use Rattle.format.specs.Questions.{is_some}
-use Rattle.format.specs.Reader.{Entry, read_entry, entries_f}
+use Rattle.format.specs.Reader.{Entry, read_entry, entries, entries_f, header_at}
 use Rattle.reader.specs.declared.section.Span.{Span}
 
 -- the bytes from a up to b
@@ -46,6 +46,13 @@ pub record Ends (s : List ℕ) (at end : ℕ) : Type 0 where
   pub inside : end ≤ length s
   pub tiled : T (is_some (entries_from s end))
   pub rest : listed (entries_from s at) ≡ entry_in s at end ∷ listed (entries_from s end)
+
+-- entries tile the section from a position on, and a header there or further on is found by a search from there
+pub record Ahead (s : List ℕ) (from : ℕ) : Type 0 where
+  pub inside : from ≤ length s
+  pub tiled : T (is_some (entries_from s from))
+  pub found : (debug : Bool) (place before : ℕ) → from ≤ place
+      → header_at debug place before (listed (entries s)) ≡ header_at debug place before (listed (entries_from s from))
 
 -- the entry that was looked for
 pub record Stands (s : List ℕ) (at end : ℕ) (x : Option Entry) : Type 0 where

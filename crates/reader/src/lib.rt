@@ -71,16 +71,7 @@ pub fn rules_at(section: &[u8], l: Located, q: u16, p: u64) -> Result<Rules, u64
     if l.size <= p {
         return Err(65);
     }
-    run::run(
-        section,
-        l.header,
-        l.header_end,
-        l.record,
-        l.record_end,
-        l.word,
-        p,
-        q,
-    )
+    run::run(section, &l, p, q)
 }
 
 // Whether every number that `rules_at` reads is spelled shortest; those of the fields were looked at by `locate`.

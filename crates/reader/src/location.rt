@@ -6,8 +6,8 @@ ghost use Rattle.format.specs.Lists.{relocations_of};
 ghost use Rattle.format.specs.Prelude.{after};
 ghost use Rattle.format.specs.Machine.{is_word_size};
 ghost use Rattle.format.proofs.Asked.{option_of};
-ghost use Rattle.reader.specs.Spans.{entry_of, listed, Holds, Spans};
-ghost use Rattle.reader.specs.Finds.{Searching, Locates};
+ghost use Rattle.reader.specs.Spans.{entry_of, listed, Holds, Ahead, Spans};
+ghost use Rattle.reader.specs.Finds.{Searching, operations_of, Locates};
 
 use crate::fields::{Header, Record};
 use crate::section::{Body, Section, Span};
@@ -68,12 +68,12 @@ impl<'a> Section<'a> {
         entry.at == place && place < before && entry.is_header(self.bytes, self.layout.debug)
     }
 
-    // The header that starts at a place earlier than `before`.
-    pub fn header_span(&self, place: usize, before: usize) -> Option<Span>
-        requires { T (is_some (entries self.now.bytes.now)) }
+    // The header that starts at a place earlier than `before`, searched for from an entry in front of it.
+    pub fn header_from(&self, from: usize, place: usize, before: usize) -> Option<Span>
+        requires { Ahead self.now.bytes.now from × (from ≤ place) }
         ensures { Spans self.now.bytes.now result (header_at self.now.layout.debug place before (listed (entries self.now.bytes.now))) }
     {
-        let mut next = 0;
+        let mut next = from;
         // Kept: a `while`, which moves by each entry's length.
         while next < self.bytes.len() {
             let entry = Span {
@@ -86,6 +86,14 @@ impl<'a> Section<'a> {
             }
         }
         None
+    }
+
+    // The same, searched for from the first entry.
+    pub fn header_span(&self, place: usize, before: usize) -> Option<Span>
+        requires { T (is_some (entries self.now.bytes.now)) }
+        ensures { Spans self.now.bytes.now result (header_at self.now.layout.debug place before (listed (entries self.now.bytes.now))) }
+    {
+        self.header_from(0, place, before)
     }
 
     // Question 63: the header of a record.
@@ -113,6 +121,25 @@ pub struct Located {
     pub signal: bool,
     pub word: u64,
     pub shortest: bool,
+}
+
+impl Located {
+    // Where the operations of the header are, or those of the record.
+    #[tactic(auto, unfolding(crate::specs::Finds::operations_of, format::specs::Prelude::pick))]
+    pub fn operations(&self, header: bool) -> Span
+        ensures { result ≡ operations_of self.now header }
+    {
+        if header {
+            return Span {
+                at: self.header,
+                end: self.header_end,
+            };
+        }
+        Span {
+            at: self.record,
+            end: self.record_end,
+        }
+    }
 }
 
 impl<'a> Section<'a> {

@@ -1,13 +1,12 @@
 // The run of the operations of a header and a record: questions 66 to 69 of the reader, which rucc-asm/src/unwind.rs of tamnd/rucc does not have.
 ghost use Rattle.std.specs.Prelude.{◌≡◌, true, false, ◌∷◌, ◌≤◌, ◌<◌, leb, length, T};
-ghost use Rattle.format.specs.Prelude.{pick, good, bad, onward};
-ghost use Rattle.format.specs.Machine.{is_word_size};
-ghost use Rattle.format.specs.Reader.{run};
-ghost use Rattle.format.specs.Rules.{blank, answer};
-ghost use Rattle.reader.specs.Spans.{part};
+ghost use Rattle.format.specs.Prelude.{pick, good, bad};
+ghost use Rattle.format.specs.Rules.{answer};
+ghost use Rattle.reader.specs.Finds.{in_section, found, run_both};
 ghost use Rattle.reader.specs.OneRegister.{start, set_cfa, set_rule, change_offset, change_register, remember, recall, negated, act};
 ghost use Rattle.reader.specs.States.{Pops, run_of, Acts};
 
+use crate::location::Located;
 use format::{CfaRule, Operation, Row, Rule, Rules};
 use operations::fields::Position;
 use std::marker::Model;
@@ -189,43 +188,29 @@ pub fn act(s: &mut State, header: bool, q: u16, initial: Rule, row: Row) -> Resu
 // ---- the operations of two entries
 
 // The header's operations and then the record's, for register q, until a step would pass p.
-pub fn run(
-    s: &[u8],
-    header: usize,
-    header_end: usize,
-    record: usize,
-    record_end: usize,
-    word: u64,
-    p: u64,
-    q: u16,
-) -> Result<Rules, u64>
-    requires { T (is_word_size word) × (header ≤ header_end) × (header_end ≤ length s.now) × («record» ≤ record_end) × (record_end ≤ length s.now) }
-    ensures { result ≡ answer q (onward (run true word p blank.current.rules blank (part s.now header header_end)) λ t. run false word p t.current.rules t (part s.now «record» record_end)) }
+pub fn run(s: &[u8], l: &Located, p: u64, q: u16) -> Result<Rules, u64>
+    requires { T (in_section s.now l.now) }
+    ensures { result ≡ answer q (run_both l.now.word p (found s.now l.now)) }
 {
     let mut state = start();
-    // The entries that are left, and where the next one is.
-    let mut left: usize = 2;
-    let mut from = header;
-    let mut to = header_end;
-    'entries: while left != 0 {
+    'entries: for header in [true, false] {
+        let span = l.operations(header);
+        let from = span.at;
+        let to = span.end;
         let ops = &s[from..to];
-        let first = left == 2;
         let initial = state.rules.rule;
-        left -= 1;
-        from = record;
-        to = record_end;
         let mut loc = 0;
         let mut at = Position::START;
         // Kept: a `while`, which moves by each operation's length.
         'operations: while at.at < ops.len() {
-            let Some((op, next)) = operations::operation(ops, at, word) else {
+            let Some((op, next)) = operations::operation(ops, at, l.word) else {
                 return Err(66);
             };
             at = next;
             match op {
                 Operation::Nop => continue 'operations,
                 Operation::Step(n) => {
-                    if first {
+                    if header {
                         return Err(66);
                     }
                     if p - loc < n {
@@ -235,7 +220,7 @@ pub fn run(
                     continue 'operations;
                 }
                 Operation::Does(row) => {
-                    act(&mut state, first, q, initial, row)?;
+                    act(&mut state, header, q, initial, row)?;
                 }
             }
         }

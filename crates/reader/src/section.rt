@@ -18,7 +18,7 @@ pub struct Section<'a> {
     pub layout: Layout,
 }
 
-// Where an entry of a section starts and ends.
+// Where an entry of a section starts and ends, or an entry's operations.
 #[derive(Clone, Copy)]
 pub struct Span {
     pub at: usize,

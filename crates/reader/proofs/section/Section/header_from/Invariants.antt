@@ -2,7 +2,7 @@ use Prim.Native.Nat.{◌-◌}
 use lib.ListN.{length}
 use Rattle.format.specs.Reader.{header_at}
 use Rattle.reader.proofs.Seeking.{Seeking}
-use Rattle.reader.proofs.section.Section.header_span.Given as goal
+use Rattle.reader.proofs.section.Section.header_from.Given as goal
 
 abbrev pub invariant-loop-next : goal.invariant-loop-next
 invariant-loop-next l = Seeking l.self.bytes.now (header_at l.self.layout.debug l.place l.before) (header_at l.self.layout.debug l.place l.before) l.next
