@@ -11,6 +11,8 @@ use Rattle.format.specs.Coded.{Reading}
 use Rattle.std.specs.Prelude.{Ok}
 use Rattle.format.specs.Rules.{State, blank, rules_for, seen, answer}
 use Rattle.format.specs.Reader.{run}
+use Rattle.format.specs.declared.Rule.{Rule}
+use Rattle.std.specs.Prelude as std
 use Rattle.reader.specs.declared.run.State as code
 use Rattle.reader.specs.OneRegister as one
 use Rattle.reader.specs.Spans.{part}
@@ -86,13 +88,14 @@ module _ {p q : ℕ} {s : List ℕ} {l : Located} where
 
   module _ {whole : Reading} {i : ℕ} {state : code.State} (b : Between whole p q s l i state) where
     pub enter : i < 2 → {header : Bool} → header ≡ eqb i 0 → {span : Span} → span ≡ operations_of l header
-        → Inside whole header l.word p q state.rules.rule (part s span.at span.end) (left s l l.word p (i + 1)) (record { at = 0; shortest = true }) 0 state
+        → {initial : std.Option Rule} → initial ≡ one.initial_of header state.rules.rule
+        → Inside whole header l.word p q initial (part s span.at span.end) (left s l l.word p (i + 1)) (record { at = 0; shortest = true }) 0 state
     unfolding run run_of rules_for one.at
-    enter h {header} e {span} f =
+    enter h {header} e {span} f g =
         record {
           near = omega arith;
           first = b.all.current.rules;
-          first_is = ap (λ (r : one.Run). r.current.rule) b.seen;
+          first_is = ap (λ (r : one.Run). one.initial_of header r.current.rule) b.seen ∙ sym g;
           all = b.all;
           seen = b.seen;
           rest = b.rest ∙ rw (bytes s l header f, e, one_entry l.word p (found s l).header.operations (found s l).found.operations b.all i h);

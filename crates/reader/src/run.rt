@@ -1,9 +1,9 @@
 // The run of the operations of a header and a record: questions 66 to 69 of the reader, which rucc-asm/src/unwind.rs of tamnd/rucc does not have.
 ghost use Rattle.std.specs.Prelude.{◌≡◌, true, false, ◌∷◌, ◌≤◌, ◌<◌, leb, length, T};
-ghost use Rattle.format.specs.Prelude.{pick, good, bad};
+ghost use Rattle.format.specs.Prelude.{good, bad};
 ghost use Rattle.format.specs.Rules.{answer};
 ghost use Rattle.reader.specs.Finds.{in_section, found, run_both};
-ghost use Rattle.reader.specs.OneRegister.{start, set_cfa, set_rule, change_offset, change_register, remember, recall, negated, act};
+ghost use Rattle.reader.specs.OneRegister.{start, set_cfa, set_rule, register_rule, initial_of, restored, remember, recall, negated, act};
 ghost use Rattle.reader.specs.States.{Pops, run_of, Acts};
 
 use crate::location::Located;
@@ -102,35 +102,32 @@ fn set_rule(s: &mut State, q: u16, reg: u16, rule: Rule)
     }
 }
 
-// Question 69: a CFA rule whose offset, or register, is another now.
-fn change_offset(s: &mut State, z: i64) -> Result<(), u64>
-    ensures { Acts result (run_of s.new) (change_offset z s.old.rules.cfa (run_of s.old)) }
+// Question 69: the register and the offset of a CFA rule that is changed.
+fn register_rule(cfa: CfaRule) -> Result<(u16, i64), u64>
+    ensures { result ≡ register_rule cfa }
 {
-    let CfaRule::Register(reg, _) = s.rules.cfa else {
-        return Err(69);
-    };
-    set_cfa(s, CfaRule::Register(reg, z));
-    Ok(())
+    match cfa {
+        CfaRule::Register(reg, z) => Ok((reg, z)),
+        CfaRule::Unset => Err(69),
+    }
 }
 
-fn change_register(s: &mut State, reg: u16) -> Result<(), u64>
-    ensures { Acts result (run_of s.new) (change_register reg s.old.rules.cfa (run_of s.old)) }
+// The followed register's rule after the header, which a header's operations do not have.
+#[tactic(auto, unfolding(crate::specs::OneRegister::initial_of))]
+fn initial_of(header: bool, rule: Rule) -> Option<Rule>
+    ensures { result ≡ initial_of header rule }
 {
-    let CfaRule::Register(_, z) = s.rules.cfa else {
-        return Err(69);
-    };
-    set_cfa(s, CfaRule::Register(reg, z));
-    Ok(())
+    if header { None } else { Some(rule) }
 }
 
 // Question 67: no Restore in a header.
-fn restore(s: &mut State, header: bool, q: u16, reg: u16, initial: Rule) -> Result<(), u64>
-    ensures { Acts result (run_of s.new) (pick header (bad 67) (good (set_rule q reg initial (run_of s.old)))) }
+fn restore(s: &mut State, q: u16, reg: u16, initial: Option<Rule>) -> Result<(), u64>
+    ensures { Acts result (run_of s.new) (restored q reg initial (run_of s.old)) }
 {
-    if header {
+    let Some(rule) = initial else {
         return Err(67);
-    }
-    set_rule(s, q, reg, initial);
+    };
+    set_rule(s, q, reg, rule);
     Ok(())
 }
 
@@ -166,15 +163,21 @@ fn negate(s: &mut State)
 }
 
 // A row, or the number of the question that it is refused by; `initial` is the followed register's rule after the header.
-pub fn act(s: &mut State, header: bool, q: u16, initial: Rule, row: Row) -> Result<(), u64>
-    ensures { Acts result (run_of s.new) (act header q initial row (run_of s.old)) }
+pub fn act(s: &mut State, q: u16, initial: Option<Rule>, row: Row) -> Result<(), u64>
+    ensures { Acts result (run_of s.new) (act q initial row (run_of s.old)) }
 {
     match row {
         Row::DefCfa(reg, z) => set_cfa(s, CfaRule::Register(reg, z)),
-        Row::DefCfaOffset(z) => return change_offset(s, z),
-        Row::DefCfaRegister(reg) => return change_register(s, reg),
+        Row::DefCfaOffset(z) => {
+            let (reg, _) = register_rule(s.rules.cfa)?;
+            set_cfa(s, CfaRule::Register(reg, z));
+        }
+        Row::DefCfaRegister(reg) => {
+            let (_, z) = register_rule(s.rules.cfa)?;
+            set_cfa(s, CfaRule::Register(reg, z));
+        }
         Row::Offset(reg, z) => set_rule(s, q, reg, Rule::Saved(z)),
-        Row::Restore(reg) => return restore(s, header, q, reg, initial),
+        Row::Restore(reg) => return restore(s, q, reg, initial),
         Row::Undefined(reg) => set_rule(s, q, reg, Rule::Undefined),
         Row::RememberState => return remember(s),
         Row::RestoreState => return recall(s),
@@ -198,7 +201,7 @@ pub fn run(s: &[u8], l: &Located, p: u64, q: u16) -> Result<Rules, u64>
         let from = span.at;
         let to = span.end;
         let ops = &s[from..to];
-        let initial = state.rules.rule;
+        let initial = initial_of(header, state.rules.rule);
         let mut loc = 0;
         let mut at = Position::START;
         // Kept: a `while`, which moves by each operation's length.
@@ -220,7 +223,7 @@ pub fn run(s: &[u8], l: &Located, p: u64, q: u16) -> Result<Rules, u64>
                     continue 'operations;
                 }
                 Operation::Does(row) => {
-                    act(&mut state, header, q, initial, row)?;
+                    act(&mut state, q, initial, row)?;
                 }
             }
         }

@@ -21,7 +21,7 @@ pub slice_bounds-ops-end : goal.slice_bounds-ops-end
 slice_bounds-ops-end c = let f = lies c.args.s.now c.args.l.now c.requires _ c.operations-span.ensures in omega (arith, f.0, f.1)
 
 pub operations-init : goal.operations-init
-operations-init c = enter c.entries.invariant c.entries-test.true (first_header _ _ c.entries-test.true) c.operations-span.ensures
+operations-init c = enter c.entries.invariant c.entries-test.true (first_header _ _ c.entries-test.true) c.operations-span.ensures c.initial_of-initial.ensures
 
 pub entries-preserved : goal.entries-preserved
 entries-preserved c = record { all = c.operations.invariant.all; seen = c.operations.invariant.seen; rest = all_done c.operations.invariant c.operations-test.false }
