@@ -2,7 +2,7 @@
 use mathlib.Core.Path.{◌≡◌, refl, sym, ap, subst, ◌∙◌}
 use Prim.Native.Nat.{ℕ, suc, ◌≤◌, ◌<◌}
 use native.Mathlib.Omega.{arith}
-use mathlib.Core.Bool.{Bool, true, false, ◌&&◌, and-false}
+use mathlib.Core.Bool.{Bool, true, false, ◌&&◌}
 use mathlib.Core.List.{List}
 use lib.Dec.{T, leb, eqb, leb→le}
 use lib.ListN.{length}
@@ -24,17 +24,13 @@ use Rattle.format.proofs.Choice.{if-le, if-gt, is_true}
 -- ---- 11
 
 module _ (section relocations : List ℕ) (kind word k : ℕ) where
-  pub no_word : is_word_size word ≡ false → locate_in section relocations kind word k ≡ bad 11
+  pub not_laid : is_word_size word && leb kind 1 ≡ false → locate_in section relocations kind word k ≡ bad 11
   unfolding locate_in pick
-  no_word e = rw e refl
+  not_laid e = rw e refl
 
-  pub no_kind : 1 < kind → locate_in section relocations kind word k ≡ bad 11
+  pub laid : is_word_size word && leb kind 1 ≡ true → locate_in section relocations kind word k ≡ locate (eqb kind 1) (relocations_of relocations) word k section
   unfolding locate_in pick
-  no_kind h = rw (lt-leb kind 1 h, and-false (is_word_size word)) refl
-
-  pub kind_and_word : is_word_size word ≡ true → kind ≤ 1 → locate_in section relocations kind word k ≡ locate (eqb kind 1) (relocations_of relocations) word k section
-  unfolding locate_in pick
-  kind_and_word e h = rw (e, le-leb kind 1 h) refl
+  laid e = rw e refl
 
 -- ---- numbers that lie in a section, and those that do not
 

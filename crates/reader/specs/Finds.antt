@@ -1,5 +1,5 @@
 -- What is found of record k: where its operations and its header's are, the few numbers that go with them, and the rules from there on.
-use Rattle.std.specs.Prelude.{◌≡◌, Bool, true, false, ◌&&◌, ℕ, ◌-◌, ◌/◌, ◌≤◌, List, length, T, leb, eqb, Ok, Err}
+use Rattle.std.specs.Prelude.{◌≡◌, Bool, true, false, ◌&&◌, ℕ, ◌-◌, ◌/◌, ◌≤◌, List, length, T, leb, eqb, Ok, Err, Some, None}
 use Rattle.std.specs.Prelude as code
 use Rattle.format.specs.Prelude.{pick, each, Result, good, bad, onward}
 use Rattle.format.specs.Machine.{is_word_size}
@@ -10,6 +10,12 @@ use Rattle.format.specs.Coded.{Reading}
 use Rattle.reader.specs.Spans.{part}
 use Rattle.reader.specs.declared.location.Located.{Located}
 use Rattle.reader.specs.declared.section.Span.{Span}
+use Rattle.reader.specs.declared.section.Layout.{Layout}
+
+-- 11: word 2, 4 or 8, and kind 0 (eh) or 1 (debug); then the fields are laid out by these
+abbrev pub LaidOut : (kind word : ℕ) → code.Option Layout → Type 0
+LaidOut kind word (Some l) = (is_word_size word && leb kind 1 ≡ true) × (l.debug ≡ eqb kind 1) × (l.word ≡ word)
+LaidOut kind word None = is_word_size word && leb kind 1 ≡ false
 
 -- the first relocation at a place is one of those from the i-th on
 pub record Searching (xs : List ℕ) (place i : ℕ) : Type 0 where

@@ -5,7 +5,7 @@
 
 ghost use Rattle.std.specs.Prelude.{◌≡◌};
 ghost use Rattle.format.specs.Reader.{read};
-ghost use Rattle.reader.specs.Finds.{Locates, locate_in, in_section, rules_from, shortest_from};
+ghost use Rattle.reader.specs.Finds.{LaidOut, Locates, locate_in, in_section, rules_from, shortest_from};
 
 use crate::location::Located;
 use crate::section::{Layout, Section};
@@ -19,6 +19,19 @@ pub mod run;
 pub mod section;
 pub mod shortest;
 
+// Question 11.
+pub fn layout_of(kind: u64, word: u64) -> Option<Layout>
+    ensures { LaidOut kind word result }
+{
+    if numbers::is_word(word) && kind <= 1 {
+        return Some(Layout {
+            debug: kind == 1,
+            word,
+        });
+    }
+    None
+}
+
 // Where the operations of record k and of its header are: questions 11 and 61 to 64. A caller who asks for several registers or offsets of
 // one record passes over the section once.
 pub fn locate(
@@ -30,15 +43,8 @@ pub fn locate(
 ) -> Result<Located, u64>
     ensures { Locates section.now word result (locate_in section.now relocations.now kind word k) }
 {
-    if !numbers::is_word(word) {
+    let Some(layout) = layout_of(kind, word) else {
         return Err(11);
-    }
-    if 1 < kind {
-        return Err(11);
-    }
-    let layout = Layout {
-        debug: kind == 1,
-        word,
     };
     let section = Section {
         bytes: section,
