@@ -62,11 +62,11 @@ module _ (s : List ℕ) (l : Located) where
   lies t false e = rw e ((places s l t).3, (places s l t).4)
 
   -- and are these bytes of it
-  bytes : (header : Bool) {span : Span} → span ≡ operations_of l header
+  pub operations_are : (header : Bool) {span : Span} → span ≡ operations_of l header
       → part s span.at span.end ≡ pick header (found s l).header.operations (found s l).found.operations
   unfolding operations_of pick
-  bytes true e = rw e
-  bytes false e = rw e
+  operations_are true e = rw e
+  operations_are false e = rw e
 
 abbrev pub left : (s : List ℕ) (l : Located) (word p i : ℕ) → State → Result State
 left s l word p i = remaining word p (found s l).header.operations (found s l).found.operations i
@@ -98,7 +98,7 @@ module _ {p q : ℕ} {s : List ℕ} {l : Located} where
           first_is = ap (λ (r : one.Run). one.initial_of header r.current.rule) b.seen ∙ sym g;
           all = b.all;
           seen = b.seen;
-          rest = b.rest ∙ rw (bytes s l header f, e, one_entry l.word p (found s l).header.operations (found s l).found.operations b.all i h);
+          rest = b.rest ∙ rw (operations_are s l header f, e, one_entry l.word p (found s l).header.operations (found s l).found.operations b.all i h);
         }
 
   pub ended : {whole : Reading} {i : ℕ} {state : code.State} → Between whole p q s l i state → 2 ≤ i → Ok state.rules ≡ whole

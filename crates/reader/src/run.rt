@@ -114,7 +114,7 @@ fn register_rule(cfa: CfaRule) -> Result<(u16, i64), u64>
 
 // The followed register's rule after the header, which a header's operations do not have.
 #[tactic(auto, unfolding(crate::specs::OneRegister::initial_of))]
-fn initial_of(header: bool, rule: Rule) -> Option<Rule>
+pub fn initial_of(header: bool, rule: Rule) -> Option<Rule>
     ensures { result ≡ initial_of header rule }
 {
     if header { None } else { Some(rule) }
