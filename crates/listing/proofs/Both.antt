@@ -4,7 +4,7 @@ use Prim.Native.Nat.{ℕ, zero, suc, ◌+◌, ◌-◌, ◌*◌, ◌/◌, ◌≤�
 use native.Mathlib.Omega.{arith}
 use mathlib.Core.Bool.{Bool, true, false}
 use mathlib.Core.List.{List}
-use lib.ListN.{length, length-take}
+use lib.ListN.{length, get_or, length-take}
 use lib.Dec.{eqb}
 use Rattle.format.specs.Prelude.{pick, good}
 use Rattle.format.specs.declared.Rule.{Rule}
@@ -13,10 +13,10 @@ use Rattle.format.proofs.Wrote.{Wrote}
 use Rattle.operations.specs.declared.fields.Position.{Position}
 use Rattle.reader.specs.OneRegister as one
 use Rattle.reader.specs.Spans.{part}
-use Rattle.reader.specs.Finds.{operations_of}
 use Rattle.reader.specs.declared.location.Located.{Located}
 use Rattle.reader.specs.declared.section.Span.{Span}
-use Rattle.reader.proofs.Both.{operations_are}
+use Rattle.reader.proofs.Both.{spans_of, operations_are, later, none_left}
+use Rattle.std.specs.Prelude.{Some, None}
 use Rattle.std.specs.Prelude as std
 use Rattle.reader.specs.States.{run_of}
 use Rattle.reader.specs.declared.run.State as code
@@ -84,7 +84,8 @@ abbrev pub more_in : Located → ℕ
 more_in l = l.record_end - l.«record»
 
 -- between two entries; `all` are the rules of all registers
-pub record Between (whole : Lines) (q : ℕ) (s : List ℕ) (l : Located) (old out : List ℕ) (state : code.State) (i loc done : ℕ) : Type 0 where
+pub record Between (whole : Lines) (q : ℕ) (s : List ℕ) (l : Located) (old out : List ℕ) (initial : std.Option Rule) (state : code.State) (i loc done : ℕ) : Type 0 where
+  pub given : done < 2 → initial ≡ one.initial_of (eqb done 0) state.rules.rule
   pub near : loc ≤ highest
   pub all : State
   pub seen : one.at q all ≡ run_of state
@@ -93,10 +94,11 @@ pub record Between (whole : Lines) (q : ℕ) (s : List ℕ) (l : Located) (old o
 
 module _ {q : ℕ} {s : List ℕ} {l : Located} {old : List ℕ} where
   pub begin : {state : code.State} → run_of state ≡ one.start → 7 * (more_in l + 1) ≤ length old
-      → Between (all_lines s l) q s l old old state 0 0 0
-  unfolding remaining lines_of bytes blank rules_for one.start one.at
+      → Between (all_lines s l) q s l old old None state 0 0 0
+  unfolding remaining lines_of bytes blank rules_for one.start one.at one.initial_of
   begin e m =
       record {
+        given = λ h. refl;
         near = omega arith;
         all = blank;
         seen = sym e;
@@ -104,41 +106,44 @@ module _ {q : ℕ} {s : List ℕ} {l : Located} {old : List ℕ} where
         room = omega (arith, m);
       }
 
-  module _ {whole : Lines} {out : List ℕ} {state : code.State} {i loc done : ℕ} (b : Between whole q s l old out state i loc done) where
-    pub enter : done < 2 → {header : Bool} → header ≡ eqb done 0 → {span : Span} → span ≡ operations_of l header
-        → {initial : std.Option Rule} → initial ≡ one.initial_of header state.rules.rule
-        → Inside whole header l.word q initial (part s span.at span.end) (left s l (done + 1)) (more_in l) out out state i loc (record { at = 0; shortest = true })
+  module _ {whole : Lines} {out : List ℕ} {initial : std.Option Rule} {state : code.State} {i loc done : ℕ} (b : Between whole q s l old out initial state i loc done) where
+    pub enter : done < 2 → (d : Span)
+        → Inside whole (eqb done 0) l.word q initial (part s (get_or (spans_of l) done d).at (get_or (spans_of l) done d).end) (left s l (done + 1)) (more_in l) out out state i loc (record { at = 0; shortest = true })
     unfolding run_of rules_for one.at
-    enter h {header} e {span} f g =
-        let p : part s span.at span.end ≡ pick (eqb done 0) (part s l.header l.header_end) (part s l.«record» l.record_end) =
-        operations_are s l header f ∙ ap (λ (b : Bool). pick b (part s l.header l.header_end) (part s l.«record» l.record_end)) e in
+    enter h d =
+        let p : part s (get_or (spans_of l) done d).at (get_or (spans_of l) done d).end ≡ pick (eqb done 0) (part s l.header l.header_end) (part s l.«record» l.record_end) =
+        operations_are s l d done h in
         record {
           near = b.near;
           first = b.all.current.rules;
-          first_is = ap (λ (r : one.Run). one.initial_of header r.current.rule) b.seen ∙ sym g;
+          first_is = ap (λ (r : one.Run). one.initial_of (eqb done 0) r.current.rule) b.seen ∙ sym (b.given h);
           all = b.all;
           seen = b.seen;
-          lines = stored_since {old = old} (rw (p, e) (rw (one_entry l.word (part s l.header l.header_end) (part s l.«record» l.record_end) loc b.all done h) at b.lines));
-          room = rw (p, e) (omega (arith, b.room, enter_room done s (part s l.header l.header_end) l.«record» l.record_end h));
+          lines = stored_since {old = old} (rw p (rw (one_entry l.word (part s l.header l.header_end) (part s l.«record» l.record_end) loc b.all done h) at b.lines));
+          room = rw p (omega (arith, b.room, enter_room done s (part s l.header l.header_end) l.«record» l.record_end h));
         }
 
-    module _ {header : Bool} {initial : std.Option Rule} {ops out' : List ℕ} {after : code.State} {j loc' : ℕ} {at : Position}
-        (n : Inside whole header l.word q initial ops (left s l (done + 1)) (more_in l) out out' after j loc' at)
-        (c : done < 2) (e : header ≡ eqb done 0) where
-      -- an entry is done
-      pub again : LinesStored q whole (left s l (done + 1) loc' n.all) out out' j → Between whole q s l old out' after j loc' (done + 1)
-      again t =
+    module _ {ops out' : List ℕ} {after : code.State} {j loc' : ℕ} {at : Position}
+        (n : Inside whole (eqb done 0) l.word q initial ops (left s l (done + 1)) (more_in l) out out' after j loc' at) (c : done < 2) where
+      on : {r : std.Option Rule} → (done + 1 < 2 → r ≡ one.initial_of (eqb (done + 1) 0) after.rules.rule)
+          → LinesStored q whole (left s l (done + 1) loc' n.all) out out' j → Between whole q s l old out' r after j loc' (done + 1)
+      on g t =
           record {
+            given = g;
             near = n.near;
             all = n.all;
             seen = n.seen;
             lines = stored_joined b.lines t;
-            room = omega (arith, rw e at n.room, leave_room done (more_in l) (length ops - at.at) c);
+            room = omega (arith, n.room, leave_room done (more_in l) (length ops - at.at) c);
           }
 
+      -- an entry is done: the header, after which the rule that it leaves is the initial one, or the record
+      pub again : LinesStored q whole (left s l (done + 1) loc' n.all) out out' j → Between whole q s l old out' (Some after.rules.rule) after j loc' (done + 1)
+      again t = on (later done c after.rules.rule) t
+
       -- a step past every offset ends the record
-      pub cut : header ≡ false → LinesStored q whole (last loc' n.all) out out' j → Between whole q s l old out' after j loc' (done + 1)
-      cut f t = again (rw (← behind l.word (part s l.header l.header_end) (part s l.«record» l.record_end) loc' n.all done c (sym e ∙ f)) t)
+      pub cut : {r : std.Option Rule} → eqb done 0 ≡ false → LinesStored q whole (last loc' n.all) out out' j → Between whole q s l old out' r after j loc' (done + 1)
+      cut f t = on (none_left done f) (rw (← behind l.word (part s l.header l.header_end) (part s l.«record» l.record_end) loc' n.all done c f) t)
 
     -- a question ends the run inside of an entry
     pub refuses : {out' : List ℕ} {j at m : ℕ} → LinesStored q whole (ended at m) out out' j → Lists q (good whole) (record { number = 0; lines = j / 7; ending = m; from = at }) old out'

@@ -5,7 +5,7 @@ use mathlib.Core.Path.{◌≡◌, refl, sym, ap, ◌∙◌}
 use Prim.Native.Nat.{ℕ, zero, suc, ◌+◌, ◌-◌, ◌*◌, ◌≤◌, ◌<◌}
 use native.Mathlib.Omega.{arith}
 use native.Mathlib.Nat.{le_refl}
-use mathlib.Core.Bool.{Bool, true, false}
+use mathlib.Core.Bool.{Bool, true, false, not}
 use mathlib.Core.Option.{none, some}
 use mathlib.Core.List.{List, [], ◌∷◌}
 use lib.ListN.{length, drop, length-drop, drop_of_length-le}
@@ -25,6 +25,8 @@ use Rattle.format.proofs.Wrote.{Wrote}
 use Rattle.reader.specs.OneRegister as one
 use Rattle.reader.specs.States.{run_of}
 use Rattle.reader.specs.declared.run.State as code
+use Rattle.std.specs.Option.{is_some}
+use Rattle.reader.proofs.Operations.{none_where}
 use Rattle.reader.proofs.Seen.{SeenAs, answered, refused, seen_row}
 use Rattle.listing.specs.Lines.{Lines, line, last, ended, highest, when_read, when_acted, stepping, doing, lines_f, line_numbers}
 use Rattle.listing.proofs.StoredLines.{LinesStored, stored_line, line_length}
@@ -99,6 +101,10 @@ module _ {whole : Lines} {header : Bool} {word q : ℕ} {initial : std.Option Ru
   rules_kept : rules_for q n.all.current ≡ state.rules
   unfolding one.at run_of
   rules_kept = ap (λ (r : one.Run). r.current) n.seen
+
+  -- a header's operations have no initial rule, a record's have one
+  pub which : {b : Bool} → is_some initial ≡ not b → header ≡ b
+  which e = none_where header (n.first q) n.first_is e
 
   -- 66: an operation that cannot be read
   pub bad_operation : at.at < length ops → operation_at word ops at ≡ None → LinesStored q whole (ended loc 66) old out i

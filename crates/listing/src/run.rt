@@ -11,6 +11,7 @@ use format::{Operation, Rules};
 use operations::fields::Position;
 use reader::location::Located;
 use reader::run;
+use reader::section::Span;
 
 // The largest offset.
 const HIGHEST: u64 = 0xffffffffffffffff;
@@ -52,12 +53,20 @@ pub fn fill(s: &[u8], l: &Located, q: u16, out: &mut [u64]) -> Listed
     let mut state = run::start();
     let mut i = 0;
     let mut loc = 0;
-    'entries: for header in [true, false] {
-        let span = l.operations(header);
+    let header = Span {
+        at: l.header,
+        end: l.header_end,
+    };
+    let record = Span {
+        at: l.record,
+        end: l.record_end,
+    };
+    // The followed register's rule after the header, which a header's operations do not have.
+    let mut initial = None;
+    'entries: for span in [header, record] {
         let from = span.at;
         let to = span.end;
         let ops = &s[from..to];
-        let initial = run::initial_of(header, state.rules.rule);
         let mut at = Position::START;
         // Kept: a `while`, which moves by each operation's length.
         'operations: while at.at < ops.len() {
@@ -68,7 +77,7 @@ pub fn fill(s: &[u8], l: &Located, q: u16, out: &mut [u64]) -> Listed
             match op {
                 Operation::Nop => continue 'operations,
                 Operation::Step(n) => {
-                    if header {
+                    if initial.is_none() {
                         return listed(i, 66, loc);
                     }
                     if n == 0 {
@@ -88,6 +97,7 @@ pub fn fill(s: &[u8], l: &Located, q: u16, out: &mut [u64]) -> Listed
                 }
             }
         }
+        initial = Some(state.rules.rule);
     }
     i = line(out, i, loc, state.rules);
     listed(i, 0, 0)

@@ -2,13 +2,13 @@
 use mathlib.Core.Path.{◌≡◌, refl, sym, ap, ◌∙◌}
 use Prim.Native.Nat.{ℕ, zero, suc, ◌+◌, ◌≤◌, ◌<◌}
 use native.Mathlib.Omega.{arith}
-use mathlib.Core.Bool.{Bool, true, false}
+use mathlib.Core.Bool.{true, false}
 use mathlib.Core.List.{List, [], ◌∷◌}
 use lib.ListN.{length, get_or}
 use lib.Dec.{T, eqb}
 use Rattle.format.specs.Prelude.{pick, Result, good, bad, onward}
 use Rattle.format.specs.Coded.{Reading}
-use Rattle.std.specs.Prelude.{Ok}
+use Rattle.std.specs.Prelude.{Ok, Some, None}
 use Rattle.format.specs.Rules.{State, blank, rules_for, seen, answer}
 use Rattle.format.specs.Reader.{run}
 use Rattle.format.specs.declared.Rule.{Rule}
@@ -16,7 +16,7 @@ use Rattle.std.specs.Prelude as std
 use Rattle.reader.specs.declared.run.State as code
 use Rattle.reader.specs.OneRegister as one
 use Rattle.reader.specs.Spans.{part}
-use Rattle.reader.specs.Finds.{found, run_both, in_section, operations_of}
+use Rattle.reader.specs.Finds.{found, run_both, in_section}
 use Rattle.reader.specs.declared.location.Located.{Located}
 use Rattle.reader.specs.declared.section.Span.{Span}
 use Rattle.reader.specs.States.{run_of}
@@ -48,31 +48,40 @@ module _ (word p : ℕ) (h r : List ℕ) (t : State) where
   all_run (suc zero) a = absurd (omega arith)
   all_run (suc (suc n)) a = refl
 
--- the header comes first, then the record
-pub first_header : (d : Bool) (i : ℕ) → i < 2 → get_or (true ∷ false ∷ []) i d ≡ eqb i 0
-first_header d zero a = refl
-first_header d (suc zero) a = refl
-first_header d (suc (suc n)) a = absurd (omega arith)
+-- where the operations of the header are, and those of the record
+abbrev pub spans_of : Located → List Span
+spans_of l = record { at = l.header; end = l.header_end } ∷ record { at = l.«record»; end = l.record_end } ∷ []
 
-module _ (s : List ℕ) (l : Located) where
-  -- the operations lie in the section
-  pub lies : T (in_section s l) → (header : Bool) {span : Span} → span ≡ operations_of l header → (span.at ≤ span.end) × (span.end ≤ length s)
-  unfolding operations_of pick
-  lies t true e = rw e ((places s l t).1, (places s l t).2)
-  lies t false e = rw e ((places s l t).3, (places s l t).4)
+module _ (s : List ℕ) (l : Located) (d : Span) where
+  -- they lie in the section
+  pub lies : T (in_section s l) → (i : ℕ) → i < 2 → ((get_or (spans_of l) i d).at ≤ (get_or (spans_of l) i d).end) × ((get_or (spans_of l) i d).end ≤ length s)
+  lies t zero a = ((places s l t).1, (places s l t).2)
+  lies t (suc zero) a = ((places s l t).3, (places s l t).4)
+  lies t (suc (suc n)) a = absurd (omega arith)
 
   -- and are these bytes of it
-  pub operations_are : (header : Bool) {span : Span} → span ≡ operations_of l header
-      → part s span.at span.end ≡ pick header (found s l).header.operations (found s l).found.operations
-  unfolding operations_of pick
-  operations_are true e = rw e
-  operations_are false e = rw e
+  pub operations_are : (i : ℕ) → i < 2
+      → part s (get_or (spans_of l) i d).at (get_or (spans_of l) i d).end ≡ pick (eqb i 0) (found s l).header.operations (found s l).found.operations
+  unfolding pick
+  operations_are zero a = refl
+  operations_are (suc zero) a = refl
+  operations_are (suc (suc n)) a = absurd (omega arith)
 
 abbrev pub left : (s : List ℕ) (l : Located) (word p i : ℕ) → State → Result State
 left s l word p i = remaining word p (found s l).header.operations (found s l).found.operations i
 
+pub later : (i : ℕ) → i < 2 → (r : Rule) → i + 1 < 2 → Some r ≡ one.initial_of (eqb (i + 1) 0) r
+unfolding one.initial_of
+later zero a r b = refl
+later (suc n) a r b = absurd (omega arith)
+
+pub none_left : {A : Type 0} (i : ℕ) → eqb i 0 ≡ false → i + 1 < 2 → A
+none_left zero e b = let z : ◌≡◌ {A = ℕ} 0 1 = cc in absurd (omega arith)
+none_left (suc n) e b = absurd (omega arith)
+
 -- between two entries: i are done; `all` are the rules of all registers
-pub record Between (whole : Reading) (p q : ℕ) (s : List ℕ) (l : Located) (i : ℕ) (state : code.State) : Type 0 where
+pub record Between (whole : Reading) (p q : ℕ) (s : List ℕ) (l : Located) (i : ℕ) (initial : std.Option Rule) (state : code.State) : Type 0 where
+  pub given : i < 2 → initial ≡ one.initial_of (eqb i 0) state.rules.rule
   pub all : State
   pub seen : one.at q all ≡ run_of state
   pub rest : whole ≡ answer q (left s l l.word p i all)
@@ -82,25 +91,34 @@ abbrev pub both : (p q : ℕ) (s : List ℕ) → Located → Reading
 both p q s l = answer q (run_both l.word p (found s l))
 
 module _ {p q : ℕ} {s : List ℕ} {l : Located} where
-  pub begin : {state : code.State} → run_of state ≡ one.start → Between (both p q s l) p q s l 0 state
-  unfolding remaining blank rules_for one.start one.at
-  begin e = record { all = blank; seen = sym e; rest = refl }
+  pub begin : {state : code.State} → run_of state ≡ one.start → Between (both p q s l) p q s l 0 None state
+  unfolding remaining blank rules_for one.start one.at one.initial_of
+  begin e = record { given = λ h. refl; all = blank; seen = sym e; rest = refl }
 
-  module _ {whole : Reading} {i : ℕ} {state : code.State} (b : Between whole p q s l i state) where
-    pub enter : i < 2 → {header : Bool} → header ≡ eqb i 0 → {span : Span} → span ≡ operations_of l header
-        → {initial : std.Option Rule} → initial ≡ one.initial_of header state.rules.rule
-        → Inside whole header l.word p q initial (part s span.at span.end) (left s l l.word p (i + 1)) (record { at = 0; shortest = true }) 0 state
+  module _ {whole : Reading} {i : ℕ} {initial : std.Option Rule} {state : code.State} (b : Between whole p q s l i initial state) where
+    pub enter : i < 2 → (d : Span)
+        → Inside whole (eqb i 0) l.word p q initial (part s (get_or (spans_of l) i d).at (get_or (spans_of l) i d).end) (left s l l.word p (i + 1)) (record { at = 0; shortest = true }) 0 state
     unfolding run run_of rules_for one.at
-    enter h {header} e {span} f g =
+    enter h d =
         record {
           near = omega arith;
           first = b.all.current.rules;
-          first_is = ap (λ (r : one.Run). one.initial_of header r.current.rule) b.seen ∙ sym g;
+          first_is = ap (λ (r : one.Run). one.initial_of (eqb i 0) r.current.rule) b.seen ∙ sym (b.given h);
           all = b.all;
           seen = b.seen;
-          rest = b.rest ∙ rw (operations_are s l header f, e, one_entry l.word p (found s l).header.operations (found s l).found.operations b.all i h);
+          rest = b.rest ∙ rw (operations_are s l d i h, one_entry l.word p (found s l).header.operations (found s l).found.operations b.all i h);
         }
 
-  pub ended : {whole : Reading} {i : ℕ} {state : code.State} → Between whole p q s l i state → 2 ≤ i → Ok state.rules ≡ whole
+    -- an entry is done: the header, after which the rule that it leaves is the initial one, or the record
+    pub again : {after : code.State} → i < 2 → (all : State) → one.at q all ≡ run_of after → whole ≡ answer q (left s l l.word p (i + 1) all)
+        → Between whole p q s l (i + 1) (Some after.rules.rule) after
+    unfolding one.initial_of
+    again {after} h all e f = record { given = later i h after.rules.rule; all = all; seen = e; rest = f }
+
+    pub cut : {after : code.State} {old : std.Option Rule} → i < 2 → eqb i 0 ≡ false → (all : State) → one.at q all ≡ run_of after
+        → whole ≡ answer q (left s l l.word p (i + 1) all) → Between whole p q s l (i + 1) old after
+    cut h n all e f = record { given = none_left i n; all = all; seen = e; rest = f }
+
+  pub ended : {whole : Reading} {i : ℕ} {initial : std.Option Rule} {state : code.State} → Between whole p q s l i initial state → 2 ≤ i → Ok state.rules ≡ whole
   unfolding answer seen run_of one.at
   ended b e = sym (b.rest ∙ rw (all_run l.word p (found s l).header.operations (found s l).found.operations b.all _ e) (ap (λ (r : one.Run). Ok r.current) b.seen))

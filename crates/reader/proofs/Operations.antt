@@ -1,10 +1,11 @@
 -- The run of the operations of one entry: at each operation, what is left of the entry decides.
 use Rattle.std.specs.Prelude.{Some, None}
-use mathlib.Core.Path.{◌≡◌, refl, sym, ◌∙◌}
+use Rattle.std.specs.Option.{is_some}
+use mathlib.Core.Path.{◌≡◌, refl, sym, ap, ◌∙◌}
 use Prim.Native.Nat.{ℕ, zero, suc, ◌+◌, ◌-◌, ◌≤◌, ◌<◌}
 use native.Mathlib.Omega.{arith}
 use native.Mathlib.Nat.{le_refl}
-use mathlib.Core.Bool.{Bool, true, false}
+use mathlib.Core.Bool.{Bool, true, false, not}
 use mathlib.Core.Option.{none, some}
 use mathlib.Core.List.{List, [], ◌∷◌}
 use lib.ListN.{length, drop, length-drop, drop_of_length-le}
@@ -29,6 +30,19 @@ use Rattle.std.specs.Prelude as std
 use Rattle.reader.specs.OneRegister as one
 use Rattle.reader.specs.States.{run_of}
 use Rattle.reader.proofs.Seen.{SeenAs, answered, refused, seen_row}
+
+-- the header's operations are those that have no initial rule
+pub none_where : (header : Bool) (r : Rule) {o : std.Option Rule} → one.initial_of header r ≡ o → {b : Bool} → is_some o ≡ not b → header ≡ b
+unfolding one.initial_of
+none_where header r {o} e {b} f = by header e ∙ ap not f ∙ twice b
+  where
+    twice : (b : Bool) → not (not b) ≡ b
+    twice true = refl
+    twice false = refl
+
+    by : (h : Bool) → one.initial_of h r ≡ o → h ≡ not (is_some o)
+    by true e = rw (← e)
+    by false e = rw (← e)
 
 module _ (header : Bool) (word p : ℕ) (initial : ℕ → Rule) where
   -- the run of what is left, with its length as fuel
@@ -88,6 +102,10 @@ pub record Inside (whole : Reading) (header : Bool) (word p q : ℕ) (initial : 
 
 module _ {whole : Reading} {header : Bool} {word p q : ℕ} {initial : std.Option Rule} {ops : List ℕ} {k : State → Result State} {at : Position} {loc : ℕ} {state : code.State}
     (i : Inside whole header word p q initial ops k at loc state) where
+  -- a header's operations have no initial rule, a record's have one
+  pub which : {b : Bool} → is_some initial ≡ not b → header ≡ b
+  which e = none_where header (i.first q) i.first_is e
+
   -- 66: an operation that cannot be read
   pub bad_operation : at.at < length ops → operation_at word ops at ≡ None → Err 66 ≡ whole
   unfolding onward answer

@@ -9,7 +9,6 @@ use Rattle.format.specs.Reader.{first_addend, Found, locate, run, run_to, shorte
 use Rattle.format.specs.Coded.{Reading}
 use Rattle.reader.specs.Spans.{part}
 use Rattle.reader.specs.declared.location.Located.{Located}
-use Rattle.reader.specs.declared.section.Span.{Span}
 use Rattle.reader.specs.declared.section.Layout.{Layout}
 
 -- 11: word 2, 4 or 8, and kind 0 (eh) or 1 (debug); then the fields are laid out by these
@@ -21,11 +20,6 @@ LaidOut kind word None = is_word_size word && leb kind 1 ≡ false
 pub record Searching (xs : List ℕ) (place i : ℕ) : Type 0 where
   pub inside : i ≤ length xs / 5
   pub rest : first_addend place (relocations_of xs) ≡ first_addend place (each (relocation_at xs) i (length xs / 5 - i))
-
--- where the operations of the header are, or those of the record
-unfoldable pub operations_of : Located → (header : Bool) → Span
-operations_of l header =
-    record { at = pick header l.header l.«record»; end = pick header l.header_end l.record_end }
 
 -- the fields of the record and of its header, by positions of the section
 abbrev pub found : List ℕ → Located → Found

@@ -7,7 +7,7 @@ ghost use Rattle.format.specs.Prelude.{after};
 ghost use Rattle.format.specs.Machine.{is_word_size};
 ghost use Rattle.format.proofs.Asked.{option_of};
 ghost use Rattle.reader.specs.Spans.{entry_of, listed, Holds, Ahead, Spans};
-ghost use Rattle.reader.specs.Finds.{Searching, operations_of, Locates};
+ghost use Rattle.reader.specs.Finds.{Searching, Locates};
 
 use crate::fields::{Header, Record};
 use crate::section::{Body, Section, Span};
@@ -121,25 +121,6 @@ pub struct Located {
     pub signal: bool,
     pub word: u64,
     pub shortest: bool,
-}
-
-impl Located {
-    // Where the operations of the header are, or those of the record.
-    #[tactic(auto, unfolding(crate::specs::Finds::operations_of, format::specs::Prelude::pick))]
-    pub fn operations(&self, header: bool) -> Span
-        ensures { result ≡ operations_of self.now header }
-    {
-        if header {
-            return Span {
-                at: self.header,
-                end: self.header_end,
-            };
-        }
-        Span {
-            at: self.record,
-            end: self.record_end,
-        }
-    }
 }
 
 impl<'a> Section<'a> {

@@ -3,10 +3,11 @@ ghost use Rattle.std.specs.Prelude.{◌≡◌, true, false, ◌∷◌, ◌≤◌
 ghost use Rattle.format.specs.Prelude.{good, bad};
 ghost use Rattle.format.specs.Rules.{answer};
 ghost use Rattle.reader.specs.Finds.{in_section, found, run_both};
-ghost use Rattle.reader.specs.OneRegister.{start, set_cfa, set_rule, register_rule, initial_of, restored, remember, recall, negated, act};
+ghost use Rattle.reader.specs.OneRegister.{start, set_cfa, set_rule, register_rule, restored, remember, recall, negated, act};
 ghost use Rattle.reader.specs.States.{Pops, run_of, Acts};
 
 use crate::location::Located;
+use crate::section::Span;
 use format::{CfaRule, Operation, Row, Rule, Rules};
 use operations::fields::Position;
 use std::marker::Model;
@@ -112,14 +113,6 @@ fn register_rule(cfa: CfaRule) -> Result<(u16, i64), u64>
     }
 }
 
-// The followed register's rule after the header, which a header's operations do not have.
-#[tactic(auto, unfolding(crate::specs::OneRegister::initial_of))]
-pub fn initial_of(header: bool, rule: Rule) -> Option<Rule>
-    ensures { result ≡ initial_of header rule }
-{
-    if header { None } else { Some(rule) }
-}
-
 // Question 67: no Restore in a header.
 fn restore(s: &mut State, q: u16, reg: u16, initial: Option<Rule>) -> Result<(), u64>
     ensures { Acts result (run_of s.new) (restored q reg initial (run_of s.old)) }
@@ -196,12 +189,20 @@ pub fn run(s: &[u8], l: &Located, p: u64, q: u16) -> Result<Rules, u64>
     ensures { result ≡ answer q (run_both l.now.word p (found s.now l.now)) }
 {
     let mut state = start();
-    'entries: for header in [true, false] {
-        let span = l.operations(header);
+    let header = Span {
+        at: l.header,
+        end: l.header_end,
+    };
+    let record = Span {
+        at: l.record,
+        end: l.record_end,
+    };
+    // The followed register's rule after the header, which a header's operations do not have.
+    let mut initial = None;
+    'entries: for span in [header, record] {
         let from = span.at;
         let to = span.end;
         let ops = &s[from..to];
-        let initial = initial_of(header, state.rules.rule);
         let mut loc = 0;
         let mut at = Position::START;
         // Kept: a `while`, which moves by each operation's length.
@@ -213,7 +214,7 @@ pub fn run(s: &[u8], l: &Located, p: u64, q: u16) -> Result<Rules, u64>
             match op {
                 Operation::Nop => continue 'operations,
                 Operation::Step(n) => {
-                    if header {
+                    if initial.is_none() {
                         return Err(66);
                     }
                     if p - loc < n {
@@ -227,6 +228,7 @@ pub fn run(s: &[u8], l: &Located, p: u64, q: u16) -> Result<Rules, u64>
                 }
             }
         }
+        initial = Some(state.rules.rule);
     }
     Ok(state.rules)
 }
