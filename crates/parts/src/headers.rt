@@ -120,6 +120,7 @@ fn fields(e: &Placed) -> Result<HeaderRead, u64>
     factors(e, past, p)
 }
 
+// Kept: its parameters one by one, as C passes them.
 // The header at a place: 0; 11, 61, 63 where it is a record, 64 and the field at fault.
 #[unsafe(no_mangle)]
 pub extern "C" fn unwind_read_header(section: &[u8], kind: u64, word: u64, place: u64) -> HeaderRead

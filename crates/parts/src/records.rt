@@ -108,6 +108,7 @@ fn fields(e: &Placed, pointer: u64) -> Result<RecordRead, u64>
     rest(e, at, pointer, f)
 }
 
+// Kept: its parameters one by one, as C passes them.
 // The record at a place, with its header's pointer size: 0; 11, 61, 62 where it is a header, 64 and the field at fault.
 #[unsafe(no_mangle)]
 pub extern "C" fn unwind_read_record(

@@ -10,11 +10,17 @@ use Rattle.format.specs.Coded.{Reading}
 use Rattle.reader.specs.Spans.{part}
 use Rattle.reader.specs.declared.location.Located.{Located}
 use Rattle.reader.specs.declared.section.Layout.{Layout}
+use Rattle.reader.specs.declared.section.Section.{Section}
 
 -- 11: word 2, 4 or 8, and kind 0 (eh) or 1 (debug); then the fields are laid out by these
 abbrev pub LaidOut : (kind word : ℕ) → code.Option Layout → Type 0
 LaidOut kind word (Some l) = (is_word_size word && leb kind 1 ≡ true) × (l.debug ≡ eqb kind 1) × (l.word ≡ word)
 LaidOut kind word None = is_word_size word && leb kind 1 ≡ false
+
+-- a section of these bytes and relocations, whose fields are laid out so
+abbrev pub SectionOf : (bytes relocations : List ℕ) (kind word : ℕ) → code.Option Section → Type 0
+SectionOf bs rs kind word (Some s) = (s.bytes.now ≡ bs) × (s.relocations.now ≡ rs) × LaidOut kind word (Some s.layout)
+SectionOf bs rs kind word None = LaidOut kind word None
 
 -- the first relocation at a place is one of those from the i-th on
 pub record Searching (xs : List ℕ) (place i : ℕ) : Type 0 where

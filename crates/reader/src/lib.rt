@@ -5,7 +5,7 @@
 
 ghost use Rattle.std.specs.Prelude.{◌≡◌};
 ghost use Rattle.format.specs.Reader.{read};
-ghost use Rattle.reader.specs.Finds.{LaidOut, Locates, locate_in, in_section, rules_from, shortest_from};
+ghost use Rattle.reader.specs.Finds.{LaidOut, SectionOf, Locates, locate_in, in_section, rules_from, shortest_from};
 
 use crate::location::Located;
 use crate::section::{Layout, Section};
@@ -32,6 +32,24 @@ pub fn layout_of(kind: u64, word: u64) -> Option<Layout>
     None
 }
 
+// A section, where its fields are laid out by a kind and a word.
+pub fn section_of<'a>(
+    bytes: &'a [u8],
+    relocations: &'a [u64],
+    kind: u64,
+    word: u64,
+) -> Option<Section<'a>>
+    ensures { SectionOf bytes.now relocations.now kind word result }
+{
+    let layout = layout_of(kind, word)?;
+    Some(Section {
+        bytes,
+        relocations,
+        layout,
+    })
+}
+
+// Kept: the parameters of `locate` and `read` one by one, as `unwind` has them from C.
 // Where the operations of record k and of its header are: questions 11 and 61 to 64. A caller who asks for several registers or offsets of
 // one record passes over the section once.
 pub fn locate(
@@ -43,13 +61,8 @@ pub fn locate(
 ) -> Result<Located, u64>
     ensures { Locates section.now word result (locate_in section.now relocations.now kind word k) }
 {
-    let Some(layout) = layout_of(kind, word) else {
+    let Some(section) = section_of(section, relocations, kind, word) else {
         return Err(11);
-    };
-    let section = Section {
-        bytes: section,
-        relocations,
-        layout,
     };
     section.locate(k)
 }

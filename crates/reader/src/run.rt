@@ -15,6 +15,7 @@ use std::marker::Model;
 // ---- the state
 
 // The rules stored, at most 16. A clause sees them as a list, the last first.
+// Kept: an array and a depth; an `ArrayVec` wants a `Default` of `Rules`, which means nothing elsewhere, and clauses would reverse its items.
 #[derive(Drop)]
 pub struct Stored {
     places: [Rules; 16],

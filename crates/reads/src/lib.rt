@@ -14,7 +14,6 @@ ghost use Rattle.reads.specs.Standing.{Indexes};
 
 use crate::addresses::Loaded;
 use format::Rules;
-use reader::section::Section;
 use unwind::Numbers;
 
 pub mod addresses;
@@ -139,6 +138,7 @@ fn answer_indexed(found: Result<usize, u64>) -> Indexed
 
 // ---- the exports
 
+// Kept: their parameters one by one, as C passes them; so for `read_located`, which is asked as `unwind_read` is.
 #[unsafe(no_mangle)]
 pub extern "C" fn unwind_locate(
     section: &[u8],
@@ -149,13 +149,8 @@ pub extern "C" fn unwind_locate(
 ) -> Located
     ensures { result ≡ locate_record section.now relocations.now kind word k }
 {
-    let Some(layout) = reader::layout_of(kind, word) else {
+    let Some(section) = reader::section_of(section, relocations, kind, word) else {
         return answer_located(Err(11));
-    };
-    let section = Section {
-        bytes: section,
-        relocations,
-        layout,
     };
     answer_located(places::locate_nth(&section, k))
 }
@@ -229,14 +224,9 @@ pub extern "C" fn unwind_function_at(
 ) -> Placed
     ensures { result ≡ function_at section.now kind word address «record» }
 {
-    let Some(layout) = reader::layout_of(kind, word) else {
-        return answer_placed(Err(11));
-    };
     let none = [];
-    let section = Section {
-        bytes: section,
-        relocations: &none,
-        layout,
+    let Some(section) = reader::section_of(section, &none, kind, word) else {
+        return answer_placed(Err(11));
     };
     answer_placed(Loaded { section, address }.function_at(record as usize))
 }
@@ -251,14 +241,9 @@ pub extern "C" fn unwind_record_of(
 ) -> Holder
     ensures { result ≡ record_of section.now kind word address pc }
 {
-    let Some(layout) = reader::layout_of(kind, word) else {
-        return answer_holder(Err(11));
-    };
     let none = [];
-    let section = Section {
-        bytes: section,
-        relocations: &none,
-        layout,
+    let Some(section) = reader::section_of(section, &none, kind, word) else {
+        return answer_holder(Err(11));
     };
     answer_holder(Loaded { section, address }.holder_in(pc))
 }
@@ -273,13 +258,8 @@ pub extern "C" fn unwind_index(
 ) -> Indexed
     ensures { Indexes (index section.now relocations.now kind word (length places.old)) result places.old places.new }
 {
-    let Some(layout) = reader::layout_of(kind, word) else {
+    let Some(section) = reader::section_of(section, relocations, kind, word) else {
         return answer_indexed(Err(11));
-    };
-    let section = Section {
-        bytes: section,
-        relocations,
-        layout,
     };
     answer_indexed(index::index_in(&section, places))
 }
@@ -294,14 +274,9 @@ pub extern "C" fn unwind_locate_at(
 ) -> Located
     ensures { result ≡ locate_at section.now kind word «record» header }
 {
-    let Some(layout) = reader::layout_of(kind, word) else {
-        return answer_located(Err(11));
-    };
     let none = [];
-    let section = Section {
-        bytes: section,
-        relocations: &none,
-        layout,
+    let Some(section) = reader::section_of(section, &none, kind, word) else {
+        return answer_located(Err(11));
     };
     answer_located(places::locate_at(&section, record as usize, header as usize))
 }
