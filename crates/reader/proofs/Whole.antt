@@ -14,7 +14,8 @@ use Rattle.format.specs.Questions.{is_some}
 use Rattle.format.specs.Lists.{Relocation}
 use Rattle.format.specs.Reader.{Entry, entries, records, header_place, header_at, parse_header, parse_record, header_short, record_short, Found, parsed, locate}
 use Rattle.operations.specs.declared.fields.Position.{Position}
-use Rattle.reader.specs.Spans.{part, entry_in, listed, Stands, Spans}
+use Rattle.reader.specs.Spans.{part, entry_in, entry_of, listed, Stands, Spans}
+use Rattle.reader.specs.declared.section.Span.{Span}
 use Rattle.reader.specs.Fields.{Heading, Heads, Recording, Records}
 use Rattle.reader.specs.Finds.{Stated}
 use Rattle.std.specs.Prelude.{Some, None}
@@ -89,12 +90,12 @@ module _ (s : List ℕ) (debug : Bool) (word cie past at end : ℕ) where
 
 -- ---- 61, 62 and 63
 
-module _ (s : List ℕ) (x : Option Entry) {r : code.Option (ℕ × ℕ)} (m : Spans s r x) where
-  pub spans : {a e : ℕ} → r ≡ Some (a, e) → Stands s a e x
-  spans q = subst (λ (r : code.Option (ℕ × ℕ)). Spans s r x) q m
+module _ (s : List ℕ) (x : Option Entry) {r : code.Option Span} (m : Spans s r x) where
+  pub spans : {e : Span} → r ≡ Some e → Stands s e.at e.end x
+  spans q = subst (λ (r : code.Option Span). Spans s r x) q m
 
   pub spans_none : r ≡ None → x ≡ none
-  spans_none q = subst (λ (r : code.Option (ℕ × ℕ)). Spans s r x) q m
+  spans_none q = subst (λ (r : code.Option Span). Spans s r x) q m
 
 pub tiled : (o : Option (List Entry)) → is_some o ≡ true → o ≡ some (listed o)
 unfolding is_some listed
@@ -112,27 +113,27 @@ module _ (s : List ℕ) (rs : List Relocation) (debug : Bool) (word k : ℕ) whe
   abbrev es : List Entry
   es = listed (entries s)
 
-  module _ (t : is_some (entries s) ≡ true) {r : code.Option (ℕ × ℕ)} (m : Spans s r (get_elem? (records debug es) k)) where
+  module _ (t : is_some (entries s) ≡ true) {r : code.Option Span} (m : Spans s r (get_elem? (records debug es) k)) where
     pub locate_missing : r ≡ None → whole ≡ bad 62
     unfolding locate onward or_else
     locate_missing q = rw (tiled (entries s) t, spans_none s (get_elem? (records debug es) k) m q)
 
-    module _ {a e : ℕ} (q : r ≡ Some (a, e)) where
-      pub record_stands : Stands s a e (get_elem? (records debug es) k)
+    module _ {e : Span} (q : r ≡ Some e) where
+      pub record_stands : Stands s e.at e.end (get_elem? (records debug es) k)
       record_stands = spans s (get_elem? (records debug es) k) m q
 
       abbrev cie_at : Option Entry
-      cie_at = after (header_place debug rs (entry_in s a e)) λ place. header_at debug place a es
+      cie_at = after (header_place debug rs (entry_of s e)) λ place. header_at debug place e.at es
 
-      module _ {r' : code.Option (ℕ × ℕ)} (m' : Spans s r' cie_at) where
+      module _ {r' : code.Option Span} (m' : Spans s r' cie_at) where
         pub locate_headless : r' ≡ None → whole ≡ bad 63
         unfolding locate onward or_else
         locate_headless q' = rw (tiled (entries s) t, record_stands.found, spans_none s cie_at m' q')
 
-        module _ {c p : ℕ} (q' : r' ≡ Some (c, p)) where
-          pub header_stands : Stands s c p cie_at
+        module _ {h : Span} (q' : r' ≡ Some h) where
+          pub header_stands : Stands s h.at h.end cie_at
           header_stands = spans s cie_at m' q'
 
-          pub locate_rest : whole ≡ parsed debug word (entry_in s c p) (entry_in s a e)
+          pub locate_rest : whole ≡ parsed debug word (entry_of s h) (entry_of s e)
           unfolding locate onward or_else
           locate_rest = rw (tiled (entries s) t, record_stands.found, header_stands.found)

@@ -2,10 +2,10 @@
 use Rattle.format.specs.Prelude.{pick}
 use Rattle.reader.proofs.fields.field_size.Goals as goal
 
-pub returns-then-debug : goal.returns-then-debug
+pub returns-then-l : goal.returns-then-l
 unfolding pick
-returns-then-debug c = simp c.if-debug.true
+returns-then-l c = simp c.if-l.true
 
-pub returns-else-debug : goal.returns-else-debug
+pub returns-else-l : goal.returns-else-l
 unfolding pick
-returns-else-debug c = simp c.if-debug.false
+returns-else-l c = simp c.if-l.false
