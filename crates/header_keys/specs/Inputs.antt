@@ -6,7 +6,7 @@ use Rattle.format.specs.Lists.{Function, count, function_stride}
 use Rattle.lists.specs.declared.Extent.{Extent}
 use Rattle.lists.specs.Extents.{extent_at, meant}
 use Rattle.header_keys.specs.declared.input.Input.{Input}
-use Rattle.header_keys.specs.Functions.{taken_in}
+use Rattle.header_keys.specs.Functions.{taken_in, Listed}
 
 -- what a pass goes over: a section of a machine's functions
 pub record Inputs : Type 0 where
@@ -33,3 +33,7 @@ extent_in x k = taken_in x.section (extent_at x.functions k)
 
 abbrev pub function_in : Inputs → ℕ → Function
 function_in x k = meant (extent_in x k) x.rows x.landings x.pairs
+
+-- the first n functions can be read, and their rows
+abbrev pub ListedTo : Inputs → ℕ → Type 0
+ListedTo x n = Listed x.functions x.rows n
