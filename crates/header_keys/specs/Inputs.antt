@@ -2,11 +2,13 @@
 use Rattle.std.specs.Prelude.{ℕ, List}
 use Rattle.format.specs.declared.Machine.{Machine}
 use Rattle.format.specs.declared.Section.{Section}
-use Rattle.format.specs.Lists.{Function, count, function_stride}
+use Rattle.format.specs.Prelude.{each}
+use Rattle.format.specs.Rows.{RowAt}
+use Rattle.format.specs.Lists.{Function, row_at, count, function_stride}
 use Rattle.lists.specs.declared.Extent.{Extent}
 use Rattle.lists.specs.Extents.{extent_at, meant}
 use Rattle.header_keys.specs.declared.input.Input.{Input}
-use Rattle.header_keys.specs.Functions.{taken_in, Listed}
+use Rattle.header_keys.specs.Functions.{taken_in, RowsReady, Listed}
 
 -- what a pass goes over: a section of a machine's functions
 pub record Inputs : Type 0 where
@@ -37,3 +39,10 @@ function_in x k = meant (extent_in x k) x.rows x.landings x.pairs
 -- the first n functions can be read, and their rows
 abbrev pub ListedTo : Inputs → ℕ → Type 0
 ListedTo x n = Listed x.functions x.rows n
+
+-- the rows of a function's record can be read; and they themselves
+abbrev pub RowsIn : Inputs → Extent → Type 0
+RowsIn x e = RowsReady x.rows e.rows_at e.rows
+
+abbrev pub rows_of : Inputs → Extent → List RowAt
+rows_of x e = each (row_at x.rows) e.rows_at e.rows

@@ -20,7 +20,7 @@ returns-then-to-from-ge-STEPS c = λ p. never p
 pub row_surely_whole-requires : goal.row_surely_whole-requires
 row_surely_whole-requires c =
     let l = c.loop-i.invariant.stepping in
-    (c.requires.0, search rules, row_ready c.requires.1 _ (search rules) (search rules))
+    (c.args.x.now.fits.is_word, search rules, row_ready c.requires _ (search rules) (search rules))
 
 pub returns-then-not-row_surely_whole : goal.returns-then-not-row_surely_whole
 returns-then-not-row_surely_whole c = λ p. never p
