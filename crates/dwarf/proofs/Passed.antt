@@ -18,7 +18,7 @@ use Rattle.lists.specs.Parts.{ranges_ok_at, named_ok_at, relaxed_ok_at, outline_
 use Rattle.lists.proofs.Outlines.{function_is, lists_is}
 use Rattle.header_keys.specs.Functions.{taken_in, without, RowsReady, LandingsReady, PairsReady, Listed}
 use Rattle.headers.specs.Kinds.{EncodingFits}
-use Rattle.dwarf.specs.Asks.{Askable, AllAskable}
+use Rattle.dwarf.specs.Asks.{Askable}
 
 -- ---- sums and marks
 

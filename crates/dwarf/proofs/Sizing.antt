@@ -7,7 +7,6 @@ use mathlib.Core.Bool.{Bool}
 use mathlib.Core.List.{List}
 use lib.Dec.{eqb}
 use Rattle.format.specs.declared.Machine.{Machine}
-use Rattle.format.specs.declared.Section.{Section}
 use Rattle.format.specs.Writer.{is_debug, align_for, joined}
 use Rattle.format.specs.Lists.{numbers_of}
 use Rattle.format.proofs.FieldsBack.{word_small}

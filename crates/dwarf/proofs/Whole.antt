@@ -15,7 +15,7 @@ use Rattle.std.specs.Prelude.{Ok, Err}
 use Rattle.format.specs.Coded.{refusal}
 use Rattle.format.proofs.Asked.{Asked, question_of, said_yes}
 use Rattle.format.specs.declared.Refusal.{Refusal}
-use Rattle.format.specs.Machine.{machine_of, machine_ok, is_word_size}
+use Rattle.format.specs.Machine.{machine_of, machine_ok}
 use Rattle.format.specs.Lists.{function_ok_at, all_in, lists_ok}
 use Rattle.format.specs.Questions.{Question, and_then, dwarf_asks, per_function, Given, Room, fitting, dwarf_given, room_in}
 use Rattle.format.specs.Answers.{Writes}

@@ -46,3 +46,7 @@ part_behind x k ps = part_with (earlier_in x k ps) x.section x.machine (align_in
 unfoldable pub parts_to : Inputs → ℕ → List Part
 parts_to x zero = []
 parts_to x (suc k) = parts_to x k ++ (part_behind x k (parts_to x k) ∷ [])
+
+-- all of them, as a section
+abbrev pub section_in : Inputs → Written
+section_in x = written_in (parts_to x (count_in x))

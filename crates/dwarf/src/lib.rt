@@ -16,14 +16,13 @@ ghost use Rattle.format.proofs.SectionSize.{Aligned};
 ghost use Rattle.header_keys.specs.Functions.{body_of, Sound, PairsReady};
 ghost use Rattle.header_keys.specs.Inputs.{inputs_of, count_in, extent_in, RowsIn, rows_of};
 ghost use Rattle.dwarf.specs.Asks.{Askable, AllAskable, whole_in, asked_in, listed_answer};
-ghost use Rattle.dwarf.specs.Parts.{written_in, parts_to};
-ghost use Rattle.dwarf.specs.Writable.{Cleared, Next, PartReady};
-ghost use Rattle.dwarf.specs.Tables.{totals_in, grown_by, SizeReady, labelled_rows, most_in, Few, lent_in, counts_of, FrontReady, FrontStored, PieceReady, Stored, Added, Written, Holds, chosen_by};
-ghost use Rattle.owners.specs.Chains.{Owned};
-ghost use Rattle.owners.specs.Lent.{LongFor, EmptyFor};
+ghost use Rattle.dwarf.specs.Parts.{parts_to, section_in};
+ghost use Rattle.dwarf.specs.Writable.{Cleared, Next};
+ghost use Rattle.dwarf.specs.Tables.{totals_in, grown_by, SizeReady, labelled_rows, most_in, Few, lent_in, counts_of, FrontReady, FrontStored, PieceReady, Stored, chosen_by};
+ghost use Rattle.owners.specs.Lent.{LongFor, EmptyFor, OwnedIn};
 ghost use Rattle.records.specs.Stepped.{rows_in};
 ghost use Rattle.dwarf.specs.Surveys.{rows_size, FunctionSurveyed, AllSurveyed};
-ghost use Rattle.dwarf.specs.Lent.{SameLists, room_of, WritesTo};
+ghost use Rattle.dwarf.specs.Lent.{SameLists, room_of, WritesTo, HasRoom, ReadyFor, AddsTo, FillsTo};
 ghost use Rattle.dwarf.specs.Pieces.{front_in, reloc_numbers, part_in};
 
 use format::{Counts, Machine, Refusal, Section};
@@ -352,7 +351,7 @@ fn sized(x: &Input, size: usize, own: bool, align: usize, e: Extent, t: Table) -
 
 // What stands behind function k of n, behind t, where its rows have `size` bytes.
 fn size_next(x: &Input, chains: &Chains, k: usize, n: usize, size: usize, t: Table) -> Table
-    requires { Next (inputs_of x.now) k n t × Owned (inputs_of x.now) (k + 1) chains.now.owners.now × (size ≡ rows_size (inputs_of x.now) k) }
+    requires { Next (inputs_of x.now) k n t × OwnedIn (inputs_of x.now) (k + 1) chains.now × (size ≡ rows_size (inputs_of x.now) k) }
     ensures { result ≡ totals_in (parts_to (inputs_of x.now) (k + 1)) }
 {
     let e = x.function(k);
@@ -372,7 +371,7 @@ fn rows_size(x: &Input, k: usize) -> usize
 
 // What stands behind all functions.
 fn sizes(x: &Input, chains: &Chains) -> Table
-    requires { Cleared (inputs_of x.now) × Owned (inputs_of x.now) (count_in (inputs_of x.now)) chains.now.owners.now }
+    requires { Cleared (inputs_of x.now) × OwnedIn (inputs_of x.now) (count_in (inputs_of x.now)) chains.now }
     ensures { result ≡ totals_in (parts_to (inputs_of x.now) (count_in (inputs_of x.now))) }
 {
     let n = x.lists.count();
@@ -583,8 +582,8 @@ fn header_for(k: usize, at: usize, chains: &Chains, to: &Output) -> Chosen
 
 // Function k of n, behind t.
 fn part(x: &Input, chains: &Chains, k: usize, n: usize, t: Table, to: &mut Output) -> Table
-    requires { PartReady (inputs_of x.now) k n t to.old.places.now to.old.bytes.now to.old.relocations.now to.old.sites.now × Owned (inputs_of x.now) (k + 1) chains.now.owners.now }
-    ensures { Added (inputs_of x.now) k t result to.old.places.now to.new.places.now to.old.bytes.now to.new.bytes.now to.old.relocations.now to.new.relocations.now to.old.sites.now to.new.sites.now × SameLists to.old to.new }
+    requires { ReadyFor (inputs_of x.now) k n t to.old × OwnedIn (inputs_of x.now) (k + 1) chains.now }
+    ensures { AddsTo (inputs_of x.now) k t result to.old to.new }
 {
     let e = x.function(k);
     let c = header_for(k, t.bytes, chains, to);
@@ -595,8 +594,8 @@ fn part(x: &Input, chains: &Chains, k: usize, n: usize, t: Table, to: &mut Outpu
 
 // All functions.
 fn store(x: &Input, chains: &Chains, to: &mut Output) -> Table
-    requires { Cleared (inputs_of x.now) × Holds (inputs_of x.now) (count_in (inputs_of x.now)) to.old.places.now to.old.bytes.now to.old.relocations.now to.old.sites.now × Owned (inputs_of x.now) (count_in (inputs_of x.now)) chains.now.owners.now }
-    ensures { Written (inputs_of x.now) (count_in (inputs_of x.now)) result to.old.places.now to.new.places.now to.old.bytes.now to.new.bytes.now to.old.relocations.now to.new.relocations.now to.old.sites.now to.new.sites.now × SameLists to.old to.new }
+    requires { Cleared (inputs_of x.now) × HasRoom (inputs_of x.now) (count_in (inputs_of x.now)) to.old × OwnedIn (inputs_of x.now) (count_in (inputs_of x.now)) chains.now }
+    ensures { FillsTo (inputs_of x.now) (count_in (inputs_of x.now)) result to.old to.new }
 {
     let functions = x.lists.count();
     let mut t = Table::NOTHING;
@@ -610,8 +609,8 @@ fn store(x: &Input, chains: &Chains, to: &mut Output) -> Table
 
 // The functions written into lists that have room for them.
 fn stored(x: &Input, chains: &Chains, to: &mut Output) -> Result<Option<Counts>, Refusal>
-    requires { Cleared (inputs_of x.now) × Holds (inputs_of x.now) (count_in (inputs_of x.now)) to.old.places.now to.old.bytes.now to.old.relocations.now to.old.sites.now × Owned (inputs_of x.now) (count_in (inputs_of x.now)) chains.now.owners.now }
-    ensures { WritesTo (fitting (room_of to.old) (written_in (parts_to (inputs_of x.now) (count_in (inputs_of x.now))))) result to.old to.new }
+    requires { Cleared (inputs_of x.now) × HasRoom (inputs_of x.now) (count_in (inputs_of x.now)) to.old × OwnedIn (inputs_of x.now) (count_in (inputs_of x.now)) chains.now }
+    ensures { WritesTo (fitting (room_of to.old) (section_in (inputs_of x.now))) result to.old to.new }
 {
     let n = x.lists.count();
     let t = store(x, chains, to);
@@ -625,43 +624,12 @@ fn stored(x: &Input, chains: &Chains, to: &mut Output) -> Result<Option<Counts>,
 
 // The functions written where there is room for t, which stands behind them.
 fn roomed(x: &Input, chains: &Chains, t: Table, to: &mut Output) -> Result<Option<Counts>, Refusal>
-    requires { Cleared (inputs_of x.now) × Owned (inputs_of x.now) (count_in (inputs_of x.now)) chains.now.owners.now × (t ≡ totals_in (parts_to (inputs_of x.now) (count_in (inputs_of x.now)))) }
-    ensures { WritesTo (fitting (room_of to.old) (written_in (parts_to (inputs_of x.now) (count_in (inputs_of x.now))))) result to.old to.new }
+    requires { Cleared (inputs_of x.now) × OwnedIn (inputs_of x.now) (count_in (inputs_of x.now)) chains.now × (t ≡ totals_in (parts_to (inputs_of x.now) (count_in (inputs_of x.now)))) }
+    ensures { WritesTo (fitting (room_of to.old) (section_in (inputs_of x.now))) result to.old to.new }
 {
     let n = x.lists.count();
     room(n, t, to.places.len(), to.lent())?;
     stored(x, chains, to)
-}
-
-// The functions written where there is room; their owners are found first, in the lists lent for that. Lists that hold all
-// that functions like these can be save the pass that sizes them.
-fn fitted(x: &Input, chains: &mut Chains, to: &mut Output) -> Result<Option<Counts>, Refusal>
-    requires { Cleared (inputs_of x.now) × EmptyFor (count_in (inputs_of x.now)) chains.old }
-    ensures { WritesTo (fitting (room_of to.old) (written_in (parts_to (inputs_of x.now) (count_in (inputs_of x.now))))) result to.old to.new }
-{
-    let n = x.lists.count();
-    owners::owners(x, n, chains);
-    if room(n, most(x.lists.functions), to.places.len(), to.lent()).is_err() {
-        let t = sizes(x, chains);
-        return roomed(x, chains, t, to);
-    }
-    stored(x, chains, to)
-}
-
-// Every question asked by itself, and the functions written where there is room.
-fn asked(x: &Input, chains: &mut Chains, to: &mut Output) -> Result<Option<Counts>, Refusal>
-    requires { T (sums_ok x.now.lists.functions.now) × EmptyFor (count_in (inputs_of x.now)) chains.old }
-    ensures { WritesTo (listed_answer (inputs_of x.now) (room_of to.old)) result to.old to.new }
-{
-    let n = x.lists.count();
-    if !x.lists.functions_ok(n) {
-        return Err(Refusal {
-            number: 13,
-            position: 0,
-        });
-    }
-    all_asks(x)?;
-    fitted(x, chains, to)
 }
 
 // The chains of owners empty again.
@@ -687,6 +655,39 @@ fn tried(x: &Input, places: usize, lent: Table, chains: &mut Chains) -> Option<T
         return None;
     }
     survey(x, chains)
+}
+
+// The functions written where there is room; their owners are found first, in the lists lent for that. Lists that hold all
+// that functions like these can be save the pass that sizes them.
+// Kept: what is read, what is worked in and what is written, here and in the next two. One struct of them would be lent to be
+// written as a whole, and each contract would have to say that the input stays.
+fn fitted(x: &Input, chains: &mut Chains, to: &mut Output) -> Result<Option<Counts>, Refusal>
+    requires { Cleared (inputs_of x.now) × EmptyFor (count_in (inputs_of x.now)) chains.old }
+    ensures { WritesTo (fitting (room_of to.old) (section_in (inputs_of x.now))) result to.old to.new }
+{
+    let n = x.lists.count();
+    owners::owners(x, n, chains);
+    if room(n, most(x.lists.functions), to.places.len(), to.lent()).is_err() {
+        let t = sizes(x, chains);
+        return roomed(x, chains, t, to);
+    }
+    stored(x, chains, to)
+}
+
+// Every question asked by itself, and the functions written where there is room.
+fn asked(x: &Input, chains: &mut Chains, to: &mut Output) -> Result<Option<Counts>, Refusal>
+    requires { T (sums_ok x.now.lists.functions.now) × EmptyFor (count_in (inputs_of x.now)) chains.old }
+    ensures { WritesTo (listed_answer (inputs_of x.now) (room_of to.old)) result to.old to.new }
+{
+    let n = x.lists.count();
+    if !x.lists.functions_ok(n) {
+        return Err(Refusal {
+            number: 13,
+            position: 0,
+        });
+    }
+    all_asks(x)?;
+    fitted(x, chains, to)
 }
 
 // One pass where it is enough, and every question by itself where it is not.
@@ -738,6 +739,7 @@ fn deliver(x: &Input, to: &mut Output) -> Result<Option<Counts>, Refusal>
 
 // A DWARF section of functions: headers and records, their relocations, the call sites, and each function's header place. A
 // refusal writes nothing.
+// Kept: C lends the lists one by one.
 pub fn dwarf(
     s: Section,
     machine: &[u64],

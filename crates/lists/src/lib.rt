@@ -340,9 +340,9 @@ fn code_ok(cs: &[u64], i: usize) -> bool
 
 // ---- question 13 of the records that a function reaches
 
-// Kept: three lists of other strides, each asked over a range by its own test. A struct of a list and a range would be made for
-// one call, and be no plainer.
 // The n rows from `at` on.
+// Kept: these three ask lists of other strides over a range, each by its own test. A struct of a list and a range would be made
+// for one call, and be no plainer.
 pub fn rows_ok(rows: &[u64], at: usize, n: usize) -> bool
     requires { at + n ≤ count row_stride rows.now }
     ensures { result ≡ all_in (row_ok_at rows.now) at n }

@@ -4,7 +4,6 @@ use Prim.Native.Nat.{ℕ, zero, suc, ◌+◌, ◌-◌, ◌≤◌, ◌<◌}
 use native.Mathlib.Omega.{arith}
 use native.Mathlib.Numerals.{add-one}
 use mathlib.Core.Bool.{Bool, true, false}
-use mathlib.Core.List.{List}
 use Rattle.format.specs.Prelude.{pick}
 use Rattle.format.specs.Headers.{same_key}
 use Rattle.format.proofs.Choice.{pick_yes, pick_no, tested}

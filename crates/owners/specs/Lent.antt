@@ -2,7 +2,7 @@
 use Rattle.std.specs.Prelude.{◌≡◌, ℕ, length}
 use Rattle.header_keys.specs.Inputs.{Inputs}
 use Rattle.owners.specs.declared.Chains.{Chains}
-use Rattle.owners.specs.Chains.{OwnersFound, Enough, Unused}
+use Rattle.owners.specs.Chains.{Owned, OwnersFound, Enough, Unused}
 
 -- the same lists are lent, as long as they were; `heads` is as long as OwnersFound says
 pub record SameChains (old new : Chains) : Type 0 where
@@ -22,3 +22,6 @@ EmptyFor n c = Unused n c.heads.now c.links.now c.owners.now
 -- they have the owners of the first k functions
 abbrev pub FoundIn : Inputs → (size k : ℕ) → Chains → Type 0
 FoundIn x size k c = OwnersFound x size k c.heads.now c.links.now c.owners.now
+
+abbrev pub OwnedIn : Inputs → (n : ℕ) → Chains → Type 0
+OwnedIn x n c = Owned x n c.owners.now

@@ -8,8 +8,8 @@ ghost use Rattle.header_keys.specs.Functions.{key_in, RowsReady};
 ghost use Rattle.header_keys.specs.Inputs.{inputs_of, ListedTo};
 ghost use Rattle.header_keys.specs.Kinds.{lsda_in, kind_in};
 ghost use Rattle.owners.specs.Owners.{key_at, leading_in, same_at, owner};
-ghost use Rattle.owners.specs.Chains.{row_number, mixed, kind_number, digest_of, slot_at, behind_in, Chained, Owned};
-ghost use Rattle.owners.specs.Lent.{SameChains, LongFor, EmptyFor, FoundIn};
+ghost use Rattle.owners.specs.Chains.{row_number, mixed, kind_number, digest_of, slot_at, behind_in, Chained};
+ghost use Rattle.owners.specs.Lent.{SameChains, LongFor, EmptyFor, FoundIn, OwnedIn};
 
 use format::Row;
 use header_keys::{Input, Kind, kind_of};
@@ -141,7 +141,7 @@ fn behind(links: &[u16], j: usize) -> usize
 
 // The first earlier function whose header function k can use, sought in the chain of its slot, which starts at `first`; k where
 // there is none.
-fn choose(x: &Input, chains: &Chains, first: usize, k: usize) -> usize
+fn choose(x: &Input, k: usize, first: usize, chains: &Chains) -> usize
     requires { ListedTo (inputs_of x.now) (k + 1) × Chained (inputs_of x.now) (length chains.now.heads.now) k first chains.now.links.now }
     ensures { result ≡ owner (inputs_of x.now) k }
 {
@@ -189,8 +189,8 @@ fn surely_shares(x: &Input, j: usize, k: usize) -> bool
 }
 
 // The owner of the function in front of function k, where it is surely function k's as well; or k.
-fn inherited(x: &Input, chains: &Chains, k: usize) -> usize
-    requires { ListedTo (inputs_of x.now) (k + 1) × Owned (inputs_of x.now) k chains.now.owners.now }
+fn inherited(x: &Input, k: usize, chains: &Chains) -> usize
+    requires { ListedTo (inputs_of x.now) (k + 1) × OwnedIn (inputs_of x.now) k chains.now }
     ensures { ((result ≡ k → ⊥) → result ≡ owner (inputs_of x.now) k) × (result ≤ k) }
 {
     if k == 0 {
@@ -211,7 +211,7 @@ fn seek(x: &Input, k: usize, chains: &mut Chains)
     let h = slot(x, k, chains.heads.len());
     let first = chains.heads[h];
     chains.links[k] = first;
-    let o = choose(x, chains, usize::from(first), k);
+    let o = choose(x, k, usize::from(first), chains);
     chains.owners[k] = o as u16;
     if o != k {
         return;
@@ -224,7 +224,7 @@ pub fn find_owner(x: &Input, k: usize, chains: &mut Chains)
     requires { ListedTo (inputs_of x.now) (k + 1) × LongFor (k + 1) chains.old × FoundIn (inputs_of x.now) (length chains.old.heads.now) k chains.old }
     ensures { FoundIn (inputs_of x.now) (length chains.old.heads.now) (k + 1) chains.new × SameChains chains.old chains.new }
 {
-    let i = inherited(x, chains, k);
+    let i = inherited(x, k, chains);
     if i != k {
         chains.owners[k] = i as u16;
         return;
@@ -236,7 +236,7 @@ pub fn find_owner(x: &Input, k: usize, chains: &mut Chains)
 // owners by the slots of their keys, so that only those of one slot are compared.
 pub fn owners(x: &Input, n: usize, chains: &mut Chains)
     requires { ListedTo (inputs_of x.now) n × EmptyFor n chains.old }
-    ensures { Owned (inputs_of x.now) n chains.new.owners.now × SameChains chains.old chains.new }
+    ensures { OwnedIn (inputs_of x.now) n chains.new × SameChains chains.old chains.new }
 {
     for k in 0..n {
         find_owner(x, k, chains);

@@ -1,5 +1,4 @@
 -- `owners::owners` meets its contract.
-use native.Mathlib.Omega.{arith}
 use Rattle.header_keys.specs.Inputs.{inputs_of}
 use Rattle.owners.proofs.Lent.{same, followed}
 use Rattle.owners.proofs.OwnerLoop.{start, fewer, room, so_far, turn, ended}
