@@ -1,10 +1,10 @@
--- `records::sites` meets its contract.
+-- `records::landing_list::Landings::put` meets its contract.
 use Rattle.format.specs.Lists.{landing_at}
 use Rattle.records.proofs.CallSites.{start, room, turn, ended}
-use Rattle.records.proofs.sites.Goals as goal
+use Rattle.records.proofs.landing_list.Landings.put.Goals as goal
 
 pub loop-i-init : goal.loop-i-init
-loop-i-init c = start _ _ _ _ _ c.requires.1
+loop-i-init c = start _ _ _ _ _ c.requires
 
 pub site-p-requires : goal.site-p-requires
 unfolding landing_at

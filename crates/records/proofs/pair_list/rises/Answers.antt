@@ -1,7 +1,7 @@
--- `records::rises` meets its contract.
+-- `records::pair_list::rises` meets its contract.
 use Rattle.rows.proofs.WholeNumbers.{never}
 use Rattle.records.proofs.PairOrder.{start_climb, turn_climb, ended_climb}
-use Rattle.records.proofs.rises.Goals as goal
+use Rattle.records.proofs.pair_list.rises.Goals as goal
 
 pub loop-i-init : goal.loop-i-init
 loop-i-init c = start_climb _ _

@@ -1,7 +1,7 @@
--- `records::place_of` meets its contract.
+-- `records::pair_list::place_of` meets its contract.
 use native.Mathlib.Nat.{add-zero}
 use Rattle.format.specs.Lists.{pair_at}
-use Rattle.records.proofs.place_of.Goals as goal
+use Rattle.records.proofs.pair_list.place_of.Goals as goal
 
 pub returns : goal.returns
 unfolding pair_at

@@ -1,8 +1,8 @@
--- `records::pair_for` meets its contract.
+-- `records::pair_list::Pairs::find` meets its contract.
 use Rattle.format.specs.Lists.{pair_at}
 use Rattle.records.specs.Labels.{found_pair}
 use Rattle.records.proofs.LabelLaws.{start, turn, found, ended}
-use Rattle.records.proofs.pair_for.Goals as goal
+use Rattle.records.proofs.pair_list.Pairs.find.Goals as goal
 
 pub loop-i-init : goal.loop-i-init
 loop-i-init c = start _ _ _ _ _
