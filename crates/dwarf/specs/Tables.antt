@@ -13,7 +13,8 @@ use Rattle.headers.specs.Kinds.{EncodingFits}
 use Rattle.dwarf.specs.declared.Table.{Table}
 use Rattle.dwarf.specs.declared.Chosen.{Chosen}
 use Rattle.dwarf.specs.Pieces.{front_in, front_relocs, part_in}
-use Rattle.dwarf.specs.Parts.{Inputs, count_in, places_in, bytes_in, relocs_in, sites_in, part_behind, parts_to}
+use Rattle.header_keys.specs.Inputs.{Inputs, count_in}
+use Rattle.dwarf.specs.Parts.{places_in, bytes_in, relocs_in, sites_in, part_behind, parts_to}
 
 -- ---- sizes
 

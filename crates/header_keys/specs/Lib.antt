@@ -2,3 +2,4 @@
 pub mod Functions
 pub mod Kinds
 pub mod OneProof
+pub mod Inputs

@@ -1,10 +1,10 @@
 -- What a function's questions make sure of has one proof at most, so that a struct can hold it.
 use Rattle.std.specs.Prelude.{ℕ, List, [], ◌∷◌, ℤ, pos, negsuc}
-use Rattle.std.specs.Coded.{×_prop, Unit-prop, le_prop}
+use Rattle.std.specs.Coded.{Unit-prop, le_prop}
 use denote.Struct.Props as logic
 use Rattle.format.specs.declared.Machine.{Machine}
 use Rattle.format.specs.declared.Row.{Row}
-use Rattle.format.specs.Rows.{RowAt, offset_of}
+use Rattle.format.specs.Rows.{RowAt}
 use Rattle.format.proofs.Fits.{MachineFits}
 use Rattle.format.proofs.RowBack.{Off32, RowFits}
 use Rattle.format.proofs.WalkBack.{RowsAtOk}

@@ -13,7 +13,10 @@ ghost use Rattle.header_keys.specs.Kinds.{Decides};
 use format::{Machine, Row, Section};
 use lists::Extent;
 
+pub mod input;
 pub mod written;
+
+pub use input::Input;
 
 // What a section takes of a function: debug_frame has no landings and no personality.
 #[tactic(auto, unfolding(crate::specs::Functions::taken_in, crate::specs::Functions::without))]

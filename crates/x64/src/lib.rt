@@ -23,7 +23,7 @@ use codes::{Code, code_no, frame_no, frame_or, head, nodes, nodes_size, put_node
 use format::{Counts, Machine, Refusal, Seh};
 use leb::fill;
 use lists::{
-    code_at, code_offset_at, codes_ok, extent_at, lists_ok, machine_of, machine_ok, prologue_at,
+    Lists, code_at, code_offset_at, codes_ok, extent_at, machine_of, machine_ok, prologue_at,
     room, word_ok,
 };
 use prologue::{moved, piece_at, prologue, prologue_end};
@@ -559,7 +559,13 @@ pub fn windows(
             position: 0,
         });
     }
-    if !lists_ok(functions, rows, landings, pairs) {
+    let given = Lists {
+        functions,
+        rows,
+        landings,
+        pairs,
+    };
+    if !given.ok() {
         return Err(Refusal {
             number: 13,
             position: 0,

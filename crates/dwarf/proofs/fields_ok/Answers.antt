@@ -10,13 +10,13 @@ pub returns-then-not-size_ok : goal.returns-then-not-size_ok
 returns-then-not-size_ok c = λ p. never p
 
 pub encodings_ok-requires : goal.encodings_ok-requires
-encodings_ok-requires c = (word_small _ c.requires.0).0
+encodings_ok-requires c = (word_small _ c.args.x.now.fits.is_word).0
 
 pub returns-then-not-encodings_ok : goal.returns-then-not-encodings_ok
 returns-then-not-encodings_ok c = λ p. never p
 
 pub pairs_ok-requires : goal.pairs_ok-requires
-pairs_ok-requires c = c.requires.1
+pairs_ok-requires c = c.requires
 
 pub returns : goal.returns
 returns c = λ p. (accepted c.size_ok.ensures (ap not c.if-not-size_ok.false), accepted c.encodings_ok.ensures (ap not c.if-not-encodings_ok.false), sym c.pairs_ok.ensures ∙ p)

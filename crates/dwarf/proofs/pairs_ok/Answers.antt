@@ -10,7 +10,7 @@ unfolding pairs_ok meant pick
 returns-then-not-e c = simp (not-true c.args.e.relaxed c.if-not-e.true)
 
 pub pairs_differ-requires : goal.pairs_differ-requires
-pairs_differ-requires c = (c.requires (not-false c.args.e.relaxed c.if-not-e.false)).inside
+pairs_differ-requires c = (c.requires (not-false c.args.e.relaxed c.if-not-e.false))
 
 pub returns : goal.returns
 unfolding pairs_ok meant pick

@@ -28,11 +28,11 @@ machine_of-m-requires c = is_yes_lem (accepted c.machine_ok.ensures (ap not c.if
 pub returns-then-not-word_ok : goal.returns-then-not-word_ok
 returns-then-not-word_ok c = no_word (given (goal.at.returns-then-not-word_ok c).Start) (room (goal.at.returns-then-not-word_ok c).Start) (accepted c.machine_ok.ensures (ap not c.if-not-machine_ok.false)) (rw c.machine_of-m.ensures at (refused c.word_ok.ensures (ap not c.if-not-word_ok.true)))
 
-pub returns-then-not-lists_ok : goal.returns-then-not-lists_ok
-returns-then-not-lists_ok c = no_lists (given (goal.at.returns-then-not-lists_ok c).Start) (room (goal.at.returns-then-not-lists_ok c).Start) (accepted c.machine_ok.ensures (ap not c.if-not-machine_ok.false)) (rw c.machine_of-m.ensures at (accepted c.word_ok.ensures (ap not c.if-not-word_ok.false))) (refused c.lists_ok.ensures (ap not c.if-not-lists_ok.true))
+pub returns-then-not-ok : goal.returns-then-not-ok
+returns-then-not-ok c = no_lists (given (goal.at.returns-then-not-ok c).Start) (room (goal.at.returns-then-not-ok c).Start) (accepted c.machine_ok.ensures (ap not c.if-not-machine_ok.false)) (rw c.machine_of-m.ensures at (accepted c.word_ok.ensures (ap not c.if-not-word_ok.false))) (refused c.ok.ensures (ap not c.if-not-ok.true))
 
 pub answer-requires : goal.answer-requires
-answer-requires c = let a = c.args in rw c.machine_of-m.ensures (rows_listed a.machine.now a.functions.now a.rows.now a.landings.now a.pairs.now (is_yes_lem (accepted c.machine_ok.ensures (ap not c.if-not-machine_ok.false))) (eqb→eq (machine_of a.machine.now).word 8 (is_yes_lem (rw c.machine_of-m.ensures at (accepted c.word_ok.ensures (ap not c.if-not-word_ok.false))))) (is_yes_lem (accepted c.lists_ok.ensures (ap not c.if-not-lists_ok.false))))
+answer-requires c = let a = c.args in rw c.machine_of-m.ensures (rows_listed a.machine.now a.functions.now a.rows.now a.landings.now a.pairs.now (is_yes_lem (accepted c.machine_ok.ensures (ap not c.if-not-machine_ok.false))) (eqb→eq (machine_of a.machine.now).word 8 (is_yes_lem (rw c.machine_of-m.ensures at (accepted c.word_ok.ensures (ap not c.if-not-word_ok.false))))) (is_yes_lem (accepted c.ok.ensures (ap not c.if-not-ok.false))))
 
 pub returns : goal.returns
-returns c = let e = rw c.machine_of-m.ensures at c.answer.ensures in rw (rows_answers (given (goal.at.returns c).Start) (room (goal.at.returns c).Start) (accepted c.machine_ok.ensures (ap not c.if-not-machine_ok.false)) (rw c.machine_of-m.ensures at (accepted c.word_ok.ensures (ap not c.if-not-word_ok.false))) (accepted c.lists_ok.ensures (ap not c.if-not-lists_ok.false))) at e
+returns c = let e = rw c.machine_of-m.ensures at c.answer.ensures in rw (rows_answers (given (goal.at.returns c).Start) (room (goal.at.returns c).Start) (accepted c.machine_ok.ensures (ap not c.if-not-machine_ok.false)) (rw c.machine_of-m.ensures at (accepted c.word_ok.ensures (ap not c.if-not-word_ok.false))) (accepted c.ok.ensures (ap not c.if-not-ok.false))) at e
