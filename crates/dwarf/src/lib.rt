@@ -76,40 +76,38 @@ fn word_holds(word: u64, size: u64) -> bool
 }
 
 // Question 21: a length fits its field.
-fn size_ok(s: Section, word: u64, size: u64) -> bool
-    requires { T (is_word_size word) }
-    ensures { result ≡ ltb size (256 ^ size_bytes s word) }
+fn size_ok(x: &Input, e: &Extent) -> bool
+    ensures { result ≡ ltb e.now.length (256 ^ size_bytes x.now.section x.now.machine.word) }
 {
-    match s {
-        Section::Elf => size < 4294967296,
-        Section::Debug => word_holds(word, size),
+    match x.section {
+        Section::Elf => e.length < 4294967296,
+        Section::Debug => word_holds(x.machine.word, e.length),
     }
 }
 
 // Question 22: the encodings that are used are written.
-fn encodings_ok(word: u64, e: Extent) -> bool
-    requires { 0 < word }
-    ensures { result ≡ encodings_ok word (body_of e []).landings (body_of e []).named }
+fn encodings_ok(x: &Input, e: &Extent) -> bool
+    ensures { result ≡ encodings_ok x.now.machine.word (body_of e.now []).landings (body_of e.now []).named }
 {
-    match kind_of(e) {
+    match kind_of(*e) {
         Kind::Plain => true,
         Kind::Personal => true,
         Kind::Named => {
-            if pointer_size(true, word, e.encoding).is_none() {
+            if pointer_size(true, x.machine.word, e.encoding).is_none() {
                 return false;
             }
             if !e.lsda {
                 return true;
             }
-            pointer_size(false, word, e.lsda_encoding).is_some()
+            pointer_size(false, x.machine.word, e.lsda_encoding).is_some()
         }
     }
 }
 
 // Question 23: no row goes back, nor steps above 2^32 - 1.
-fn steps_ok(x: &Input, e: Extent) -> bool
-    requires { RowsIn (inputs_of x.now) e }
-    ensures { result ≡ steps_ok 0 (rows_of (inputs_of x.now) e) }
+fn steps_ok(x: &Input, e: &Extent) -> bool
+    requires { RowsIn (inputs_of x.now) e.now }
+    ensures { result ≡ steps_ok 0 (rows_of (inputs_of x.now) e.now) }
 {
     let mut from = 0;
     for i in e.rows_at..e.rows_at + e.rows {
@@ -126,9 +124,9 @@ fn steps_ok(x: &Input, e: Extent) -> bool
 }
 
 // Question 24: each offset that is written factored is a multiple of the word.
-fn rows_whole(x: &Input, e: Extent) -> bool
-    requires { RowsIn (inputs_of x.now) e }
-    ensures { result ≡ whole_in (inputs_of x.now) e }
+fn rows_whole(x: &Input, e: &Extent) -> bool
+    requires { RowsIn (inputs_of x.now) e.now }
+    ensures { result ≡ whole_in (inputs_of x.now) e.now }
 {
     for i in e.rows_at..e.rows_at + e.rows {
         if !row_whole(x.machine.word, row_at(x.lists.rows, i)) {
@@ -139,9 +137,9 @@ fn rows_whole(x: &Input, e: Extent) -> bool
 }
 
 // Questions 23 and 24 in one pass, asked for more. A no says nothing.
-fn lines_fine(x: &Input, e: Extent) -> bool
-    requires { RowsIn (inputs_of x.now) e }
-    ensures { result ≡ true → (steps_ok 0 (rows_of (inputs_of x.now) e) ≡ true) × (whole_in (inputs_of x.now) e ≡ true) }
+fn lines_fine(x: &Input, e: &Extent) -> bool
+    requires { RowsIn (inputs_of x.now) e.now }
+    ensures { result ≡ true → (steps_ok 0 (rows_of (inputs_of x.now) e.now) ≡ true) × (whole_in (inputs_of x.now) e.now ≡ true) }
 {
     let mut from = 0;
     for i in e.rows_at..e.rows_at + e.rows {
@@ -161,16 +159,16 @@ fn lines_fine(x: &Input, e: Extent) -> bool
 }
 
 // Question 23, asked where it is not known that all is fine; and question 24.
-fn steps_asked(fine: bool, x: &Input, e: Extent) -> bool
-    requires { RowsIn (inputs_of x.now) e × (fine ≡ true → steps_ok 0 (rows_of (inputs_of x.now) e) ≡ true) }
-    ensures { result ≡ steps_ok 0 (rows_of (inputs_of x.now) e) }
+fn steps_asked(fine: bool, x: &Input, e: &Extent) -> bool
+    requires { RowsIn (inputs_of x.now) e.now × (fine ≡ true → steps_ok 0 (rows_of (inputs_of x.now) e.now) ≡ true) }
+    ensures { result ≡ steps_ok 0 (rows_of (inputs_of x.now) e.now) }
 {
     fine || steps_ok(x, e)
 }
 
-fn whole_asked(fine: bool, x: &Input, e: Extent) -> bool
-    requires { RowsIn (inputs_of x.now) e × (fine ≡ true → whole_in (inputs_of x.now) e ≡ true) }
-    ensures { result ≡ whole_in (inputs_of x.now) e }
+fn whole_asked(fine: bool, x: &Input, e: &Extent) -> bool
+    requires { RowsIn (inputs_of x.now) e.now × (fine ≡ true → whole_in (inputs_of x.now) e.now ≡ true) }
+    ensures { result ≡ whole_in (inputs_of x.now) e.now }
 {
     fine || rows_whole(x, e)
 }
@@ -184,17 +182,17 @@ fn pair_differs(pairs: &[u64], i: usize) -> bool
 }
 
 // Question 25: the two places of each pair are different.
-fn pairs_differ(x: &Input, e: Extent) -> bool
-    requires { PairsReady e x.now.lists.pairs.now }
-    ensures { result ≡ all (λ p. not (eqb p.place1 p.place2)) (each (pair_at x.now.lists.pairs.now) e.pairs_at e.pairs) }
+fn pairs_differ(x: &Input, e: &Extent) -> bool
+    requires { PairsReady e.now x.now.lists.pairs.now }
+    ensures { result ≡ all (λ p. not (eqb p.place1 p.place2)) (each (pair_at x.now.lists.pairs.now) e.now.pairs_at e.now.pairs) }
 {
     (e.pairs_at..e.pairs_at + e.pairs).all(|i| pair_differs(x.lists.pairs, i))
 }
 
 // Question 25 of a function, where it has relaxing labels.
-fn pairs_ok(x: &Input, e: Extent) -> bool
-    requires { e.relaxed ≡ true → PairsReady e x.now.lists.pairs.now }
-    ensures { result ≡ pairs_ok (meant e [] [] x.now.lists.pairs.now).relaxed }
+fn pairs_ok(x: &Input, e: &Extent) -> bool
+    requires { e.now.relaxed ≡ true → PairsReady e.now x.now.lists.pairs.now }
+    ensures { result ≡ pairs_ok (meant e.now [] [] x.now.lists.pairs.now).relaxed }
 {
     if !e.relaxed {
         return true;
@@ -203,17 +201,17 @@ fn pairs_ok(x: &Input, e: Extent) -> bool
 }
 
 // Questions 21 to 25 of function k, as the section takes it.
-fn dwarf_asks(x: &Input, k: usize, e: Extent) -> Result<(), Refusal>
-    requires { Askable e x.now.lists.rows.now x.now.lists.pairs.now }
-    ensures { result ≡ question_of (dwarf_asks x.now.section x.now.machine.word k (meant e x.now.lists.rows.now [] x.now.lists.pairs.now)) }
+fn dwarf_asks(x: &Input, k: usize, e: &Extent) -> Result<(), Refusal>
+    requires { Askable e.now x.now.lists.rows.now x.now.lists.pairs.now }
+    ensures { result ≡ question_of (dwarf_asks x.now.section x.now.machine.word k (meant e.now x.now.lists.rows.now [] x.now.lists.pairs.now)) }
 {
-    if !size_ok(x.section, x.machine.word, e.length) {
+    if !size_ok(x, e) {
         return Err(Refusal {
             number: 21,
             position: k as u64,
         });
     }
-    if !encodings_ok(x.machine.word, e) {
+    if !encodings_ok(x, e) {
         return Err(Refusal {
             number: 22,
             position: k as u64,
@@ -249,7 +247,7 @@ fn all_asks(x: &Input) -> Result<(), Refusal>
     let n = x.lists.count();
     for k in 0..n {
         let e = x.function(k);
-        dwarf_asks(x, k, e)?;
+        dwarf_asks(x, k, &e)?;
     }
     Ok(())
 }
@@ -395,14 +393,14 @@ fn sizes(x: &Input, chains: &Chains) -> Table
 // ---- questions, owners and sizes in one pass
 
 // Questions 21, 22 and 25 of a function, as the section takes it.
-fn fields_ok(x: &Input, e: Extent) -> bool
-    requires { e.relaxed ≡ true → PairsReady e x.now.lists.pairs.now }
-    ensures { result ≡ true → (ltb e.length (256 ^ size_bytes x.now.section x.now.machine.word) ≡ true) × (encodings_ok x.now.machine.word (body_of e []).landings (body_of e []).named ≡ true) × (pairs_ok (meant e [] [] x.now.lists.pairs.now).relaxed ≡ true) }
+fn fields_ok(x: &Input, e: &Extent) -> bool
+    requires { e.now.relaxed ≡ true → PairsReady e.now x.now.lists.pairs.now }
+    ensures { result ≡ true → (ltb e.now.length (256 ^ size_bytes x.now.section x.now.machine.word) ≡ true) × (encodings_ok x.now.machine.word (body_of e.now []).landings (body_of e.now []).named ≡ true) × (pairs_ok (meant e.now [] [] x.now.lists.pairs.now).relaxed ≡ true) }
 {
-    if !size_ok(x.section, x.machine.word, e.length) {
+    if !size_ok(x, e) {
         return false;
     }
-    if !encodings_ok(x.machine.word, e) {
+    if !encodings_ok(x, e) {
         return false;
     }
     pairs_ok(x, e)
@@ -417,7 +415,7 @@ fn function_surveyed(x: &Input, k: usize) -> Option<usize>
         return None;
     }
     let e = x.function(k);
-    if !fields_ok(x, e) {
+    if !fields_ok(x, &e) {
         return None;
     }
     surveyed_rows(x.machine.word, x.lists.rows, e.rows_at, e.rows)

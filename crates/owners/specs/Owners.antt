@@ -27,6 +27,9 @@ owner x k = first_from (λ j. same_key (key_at x j) (key_at x k)) 0 k
 abbrev pub leading_in : Machine → Extent → (rows : List ℕ) → List Row
 leading_in m e rows = leading m (body_of e rows)
 
+abbrev pub leading_of : Inputs → Extent → List Row
+leading_of x e = leading_in x.machine e x.rows
+
 -- row i of two lists is the same
 unfoldable pub same_at : (as1 bs : List Row) → ℕ → Bool
 same_at as1 bs i = same_row (get_or as1 i RememberState) (get_or bs i RememberState)

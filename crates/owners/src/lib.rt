@@ -4,10 +4,10 @@
 ghost use Rattle.std.specs.Prelude.{◌≡◌, true, ◌&&◌, ◌+◌, ◌*◌, ◌^◌, ◌≤◌, ◌<◌, eqb, length};
 ghost use Rattle.std.specs.Bool.{beq};
 ghost use Rattle.format.specs.Headers.{same_encoding, same_kind, same_key};
-ghost use Rattle.header_keys.specs.Functions.{key_in, RowsReady};
-ghost use Rattle.header_keys.specs.Inputs.{inputs_of, ListedTo};
+ghost use Rattle.header_keys.specs.Functions.{key_in};
+ghost use Rattle.header_keys.specs.Inputs.{inputs_of, ListedTo, RowsIn};
 ghost use Rattle.header_keys.specs.Kinds.{lsda_in, kind_in};
-ghost use Rattle.owners.specs.Owners.{key_at, leading_in, same_at, owner};
+ghost use Rattle.owners.specs.Owners.{key_at, leading_of, same_at, owner};
 ghost use Rattle.owners.specs.Chains.{row_number, mixed, kind_number, digest_of, slot_at, behind_in, Chained};
 ghost use Rattle.owners.specs.Lent.{SameChains, LongFor, EmptyFor, FoundIn, OwnedIn};
 
@@ -65,8 +65,8 @@ fn same_kind_and_signal(a: Extent, b: Extent) -> bool
 // Leading row i of two functions is the same.
 #[tactic(auto, unfolding(crate::specs::Owners::same_at, format::specs::Rows::same_row, format::specs::Rows::kind_of, format::specs::Rows::reg_of, format::specs::Rows::offset_of, format::specs::Rows::same_offset))]
 fn same_leading(x: &Input, a: Extent, b: Extent, i: usize) -> bool
-    requires { RowsReady x.now.lists.rows.now a.rows_at a.rows × RowsReady x.now.lists.rows.now b.rows_at b.rows × (i < length (leading_in x.now.machine a x.now.lists.rows.now)) × (i < length (leading_in x.now.machine b x.now.lists.rows.now)) }
-    ensures { result ≡ same_at (leading_in x.now.machine a x.now.lists.rows.now) (leading_in x.now.machine b x.now.lists.rows.now) i }
+    requires { RowsIn (inputs_of x.now) a × RowsIn (inputs_of x.now) b × (i < length (leading_of (inputs_of x.now) a)) × (i < length (leading_of (inputs_of x.now) b)) }
+    ensures { result ≡ same_at (leading_of (inputs_of x.now) a) (leading_of (inputs_of x.now) b) i }
 {
     let first = header_keys::leading_at(x.machine, a, x.lists.rows, i);
     let second = header_keys::leading_at(x.machine, b, x.lists.rows, i);
@@ -106,7 +106,7 @@ fn kind_number(e: Extent) -> u64
 
 // The digest of a function's key.
 fn digest(x: &Input, e: Extent) -> u64
-    requires { RowsReady x.now.lists.rows.now e.rows_at e.rows }
+    requires { RowsIn (inputs_of x.now) e }
     ensures { result ≡ digest_of (key_in x.now.machine e x.now.lists.rows.now) }
 {
     let n = header_keys::leading_count(x.machine, e, x.lists.rows);

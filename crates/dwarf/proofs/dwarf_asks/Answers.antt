@@ -4,7 +4,6 @@ use mathlib.Core.Path.{ap}
 use Rattle.format.specs.Prelude.{pick}
 use Rattle.format.proofs.Asked.{question_of}
 use Rattle.format.specs.Questions.{ask, and_then, dwarf_asks}
-use Rattle.format.proofs.FieldsBack.{word_small}
 use Rattle.lists.specs.Extents.{meant}
 use Rattle.lists.proofs.Answers.{accepted, refused}
 use Rattle.dwarf.proofs.dwarf_asks.Goals as goal
@@ -12,9 +11,6 @@ use Rattle.dwarf.proofs.dwarf_asks.Goals as goal
 pub returns-then-not-size_ok : goal.returns-then-not-size_ok
 unfolding dwarf_asks meant ask and_then question_of pick
 returns-then-not-size_ok c = simp (refused c.size_ok.ensures (ap not c.if-not-size_ok.true))
-
-pub encodings_ok-requires : goal.encodings_ok-requires
-encodings_ok-requires c = (word_small _ c.args.x.now.fits.is_word).0
 
 pub returns-then-not-encodings_ok : goal.returns-then-not-encodings_ok
 unfolding dwarf_asks meant ask and_then question_of pick

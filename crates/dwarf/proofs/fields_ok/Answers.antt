@@ -1,16 +1,12 @@
 -- `dwarf::fields_ok` meets its contract.
 use mathlib.Core.Bool.{not}
 use mathlib.Core.Path.{ap, sym, ◌∙◌}
-use Rattle.format.proofs.FieldsBack.{word_small}
 use Rattle.rows.proofs.WholeNumbers.{never}
 use Rattle.lists.proofs.Answers.{accepted}
 use Rattle.dwarf.proofs.fields_ok.Goals as goal
 
 pub returns-then-not-size_ok : goal.returns-then-not-size_ok
 returns-then-not-size_ok c = λ p. never p
-
-pub encodings_ok-requires : goal.encodings_ok-requires
-encodings_ok-requires c = (word_small _ c.args.x.now.fits.is_word).0
 
 pub returns-then-not-encodings_ok : goal.returns-then-not-encodings_ok
 returns-then-not-encodings_ok c = λ p. never p
