@@ -89,7 +89,7 @@ fn size_ok(x: &Input, e: &Extent) -> bool
 fn encodings_ok(x: &Input, e: &Extent) -> bool
     ensures { result ≡ encodings_ok x.now.machine.word (body_of e.now []).landings (body_of e.now []).named }
 {
-    match kind_of(*e) {
+    match kind_of(e) {
         Kind::Plain => true,
         Kind::Personal => true,
         Kind::Named => {
@@ -347,7 +347,7 @@ fn sized(lists: &Lists, size: usize, own: bool, f: &Function, t: Table) -> Table
     Table {
         bytes: behind + record_size(f, behind, size),
         relocations: t.relocations + relocs_size(own, f, lists.pairs),
-        sites: t.sites + call_sites_size(t.sites, f.extent, lists.landings),
+        sites: t.sites + call_sites_size(t.sites, &f.extent, lists.landings),
     }
 }
 
@@ -546,7 +546,7 @@ fn piece(lists: &Lists, c: Chosen, f: &Function, t: Table, to: &mut Output) -> T
         table: t.sites + padding(4, t.sites),
     };
     let i = record_relocs(to.relocations, u.relocations, f, &p, lists.pairs);
-    let end = call_sites(to.sites, t.sites, f.extent, lists.landings);
+    let end = call_sites(to.sites, t.sites, &f.extent, lists.landings);
     Table {
         bytes: at,
         relocations: i,

@@ -13,7 +13,6 @@ ghost use Rattle.headers.specs.Written.{middle_of, tail_by, fields_of, starts_of
 
 use header_keys::written::Function;
 use header_keys::{Kind, kind_of};
-use lists::Extent;
 use numbers::encodings;
 
 // ---- the end of an entry
@@ -189,7 +188,7 @@ fn tail(out: &mut [u8], at: usize, f: &Function) -> usize
     requires { NamedFits f.now.extent × (at + length (tail_by f.now (kind_in f.now.extent)) ≤ length out.old) }
     ensures { Wrote out.old out.new at result (tail_by f.now (kind_in f.now.extent)) }
 {
-    match kind_of(f.extent) {
+    match kind_of(&f.extent) {
         Kind::Plain => plain_header(out, at, f),
         Kind::Personal => personal_header(out, at, f),
         Kind::Named => {
@@ -219,10 +218,10 @@ fn starts(out: &mut [u8], at: usize, f: &Function) -> usize
     requires { at + length (starts_of f.now) ≤ length out.old }
     ensures { Wrote out.old out.new at result (starts_of f.now) }
 {
-    let n = header_keys::leading_count(*f.machine, f.extent, f.rows);
+    let n = header_keys::leading_count(f.machine, &f.extent, f.rows);
     let mut p = at;
     for i in 0..n {
-        let row = header_keys::leading_at(*f.machine, f.extent, f.rows, i);
+        let row = header_keys::leading_at(f.machine, &f.extent, f.rows, i);
         p = rows::row(out, p, f.machine.word, row);
     }
     p
@@ -232,10 +231,10 @@ fn starts(out: &mut [u8], at: usize, f: &Function) -> usize
 fn starts_size(f: &Function) -> usize
     ensures { result ≡ length (starts_of f.now) }
 {
-    let n = header_keys::leading_count(*f.machine, f.extent, f.rows);
+    let n = header_keys::leading_count(f.machine, &f.extent, f.rows);
     let mut size = 0;
     for i in 0..n {
-        let row = header_keys::leading_at(*f.machine, f.extent, f.rows, i);
+        let row = header_keys::leading_at(f.machine, &f.extent, f.rows, i);
         size += rows::row_size(f.machine.word, row);
     }
     size
@@ -252,26 +251,26 @@ fn middle_size(f: &Function) -> usize
 }
 
 // How many letters the augmentation string has.
-fn letters_size(e: Extent) -> usize
-    ensures { (result ≡ length (letters (kind_in e))) × (result ≤ 4) }
+fn letters_size(f: &Function) -> usize
+    ensures { (result ≡ length (letters (kind_in f.now.extent))) × (result ≤ 4) }
 {
-    match kind_of(e) {
+    match kind_of(&f.extent) {
         Kind::Plain => 2,
         Kind::Personal => 4,
-        Kind::Named => 3 + flag(e.lsda) as usize,
+        Kind::Named => 3 + flag(f.extent.lsda) as usize,
     }
 }
 
 // How many bytes the augmentation data has.
-fn data_size(word: u64, e: Extent) -> usize
-    requires { word ≤ 8 }
-    ensures { (result ≡ length (augmentation_data word (kind_in e))) × (result ≤ 11) }
+fn data_size(f: &Function) -> usize
+    ensures { (result ≡ length (augmentation_data f.now.machine.now.word (kind_in f.now.extent))) × (result ≤ 11) }
 {
-    match kind_of(e) {
+    match kind_of(&f.extent) {
         Kind::Plain => 1,
         Kind::Personal => 7,
         Kind::Named => {
-            2 + numbers::pointer_bytes(word, e.encoding) as usize + flag(e.lsda) as usize
+            let pointer = numbers::pointer_bytes(f.machine.word, f.extent.encoding);
+            2 + pointer as usize + flag(f.extent.lsda) as usize
         }
     }
 }
@@ -284,7 +283,7 @@ fn fields_size(f: &Function) -> usize
     if f.debug {
         return n;
     }
-    n + letters_size(f.extent) + 1 + data_size(f.machine.word, f.extent)
+    n + letters_size(f) + 1 + data_size(f)
 }
 
 // ---- a header
@@ -318,7 +317,7 @@ pub fn header_relocs_count(f: &Function) -> usize
     if f.debug {
         return 0;
     }
-    match kind_of(f.extent) {
+    match kind_of(&f.extent) {
         Kind::Plain => 0,
         Kind::Personal => 1,
         Kind::Named => 1,
@@ -330,7 +329,7 @@ fn pointer_place(f: &Function, at: usize) -> u64
     requires { (f.now.debug ≡ false) × (at < 2 ^ 32) }
     ensures { result ≡ pointer_place f.now.machine.now at (head_in f.now.extent) }
 {
-    (at + 4 + fields_size(f) - data_size(f.machine.word, f.extent) + 1) as u64
+    (at + 4 + fields_size(f) - data_size(f) + 1) as u64
 }
 
 // The relocation of a header's personality.
@@ -341,7 +340,7 @@ pub fn header_relocs(out: &mut [u64], i: usize, f: &Function, at: usize) -> usiz
     if f.debug {
         return i;
     }
-    match kind_of(f.extent) {
+    match kind_of(&f.extent) {
         Kind::Plain => i,
         Kind::Personal => pointer(
             out,

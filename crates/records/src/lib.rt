@@ -48,9 +48,9 @@ fn site_size(l: Landing) -> usize
 }
 
 // What a function adds to the call sites, of which there are `at` bytes.
-pub fn call_sites(out: &mut [u8], at: usize, e: Extent, landings: &[u64]) -> usize
-    requires { LandingsReady e landings.now × (at + length (site_added at (meant e [] landings.now []).landings) ≤ length out.old) }
-    ensures { Wrote out.old out.new at result (site_added at (meant e [] landings.now []).landings) }
+pub fn call_sites(out: &mut [u8], at: usize, e: &Extent, landings: &[u64]) -> usize
+    requires { LandingsReady e.now landings.now × (at + length (site_added at (meant e.now [] landings.now []).landings) ≤ length out.old) }
+    ensures { Wrote out.old out.new at result (site_added at (meant e.now [] landings.now []).landings) }
 {
     if e.landings == 0 {
         return at;
@@ -64,9 +64,9 @@ pub fn call_sites(out: &mut [u8], at: usize, e: Extent, landings: &[u64]) -> usi
     of_function.put_table(out, a)
 }
 
-pub fn call_sites_size(at: usize, e: Extent, landings: &[u64]) -> usize
-    requires { LandingsReady e landings.now × (at < 2 ^ 32) }
-    ensures { result ≡ length (site_added at (meant e [] landings.now []).landings) }
+pub fn call_sites_size(at: usize, e: &Extent, landings: &[u64]) -> usize
+    requires { LandingsReady e.now landings.now × (at < 2 ^ 32) }
+    ensures { result ≡ length (site_added at (meant e.now [] landings.now []).landings) }
 {
     if e.landings == 0 {
         return 0;
@@ -161,29 +161,28 @@ pub fn surveyed_rows(word: u64, rows: &[u64], first: usize, n: usize) -> Option<
 
 // The length: a linker fills in that of a function with relaxing labels.
 #[tactic(auto, unfolding(crate::specs::Fields::size_in, format::specs::Prelude::pick))]
-fn size_field(e: Extent) -> u64
-    ensures { result ≡ size_in e }
+fn size_field(f: &Function) -> u64
+    ensures { result ≡ size_in f.now.extent }
 {
-    if e.relaxed {
+    if f.extent.relaxed {
         return 0;
     }
-    e.length
+    f.extent.length
 }
 
 // The blank bytes of the pointer to the call sites.
 #[tactic(auto, unfolding(crate::specs::Fields::blank_in, crate::specs::Fields::pointed, format::specs::Prelude::pick))]
-fn lsda_blank(word: u64, e: Extent) -> usize
-    requires { word ≤ 8 }
-    ensures { (result ≡ blank_in word e) × (result ≤ 8) }
+fn lsda_blank(f: &Function) -> usize
+    ensures { (result ≡ blank_in f.now.machine.now.word f.now.extent) × (result ≤ 8) }
 {
-    match kind_of(e) {
+    match kind_of(&f.extent) {
         Kind::Plain => 0,
         Kind::Personal => 4,
         Kind::Named => {
-            if !e.lsda {
+            if !f.extent.lsda {
                 return 0;
             }
-            numbers::pointer_bytes(word, e.lsda_encoding) as usize
+            numbers::pointer_bytes(f.machine.word, f.extent.lsda_encoding) as usize
         }
     }
 }
@@ -204,8 +203,8 @@ fn eh_record(out: &mut [u8], at: usize, f: &Function, distance: u64) -> usize
 {
     let a = leb::le(out, at, 4, distance);
     let b = leb::fill(out, a, 4);
-    let c = leb::le(out, b, 4, size_field(f.extent));
-    blanks(out, c, lsda_blank(f.machine.word, f.extent))
+    let c = leb::le(out, b, 4, size_field(f));
+    blanks(out, c, lsda_blank(f))
 }
 
 // In debug_frame: the header's place, the function's address and its length.
@@ -216,7 +215,7 @@ fn debug_record(out: &mut [u8], at: usize, f: &Function) -> usize
     let word = f.machine.word as usize;
     let a = leb::fill(out, at, 4);
     let b = leb::fill(out, a, word);
-    leb::le(out, b, word, size_field(f.extent))
+    leb::le(out, b, word, size_field(f))
 }
 
 fn fields(out: &mut [u8], at: usize, f: &Function, distance: u64) -> usize
@@ -235,7 +234,7 @@ fn fields_size(f: &Function) -> usize
     if f.debug {
         return 4 + 2 * f.machine.word as usize;
     }
-    let n = lsda_blank(f.machine.word, f.extent);
+    let n = lsda_blank(f);
     12 + leb::uleb_size(n as u64) + n
 }
 
@@ -246,7 +245,7 @@ pub fn record_size(f: &Function, at: usize, size: usize) -> usize
     requires { (at < 2 ^ 32) × (size ≡ length (rows_of f.now)) }
     ensures { result ≡ length (record_of f.now at 0) }
 {
-    let k = header_keys::ahead(f.rows, f.extent.rows_at, f.extent.rows);
+    let k = header_keys::ahead(&f.extent, f.rows);
     let leading = Run {
         word: f.machine.word,
         rows: f.rows,
@@ -262,7 +261,7 @@ pub fn record(out: &mut [u8], at: usize, f: &Function, cie: usize) -> usize
     requires { (cie ≤ at + 4) × (at + length (record_of f.now at cie) ≤ length out.old) }
     ensures { Wrote out.old out.new at result (record_of f.now at cie) }
 {
-    let k = header_keys::ahead(f.rows, f.extent.rows_at, f.extent.rows);
+    let k = header_keys::ahead(&f.extent, f.rows);
     let left = f.extent.rows - k;
     let others = Run {
         word: f.machine.word,
@@ -391,10 +390,11 @@ fn step_relocs_count(run: &Run, pairs: &Pairs) -> usize
 // ---- a record's relocations
 
 // The length as the distance from the function to its end label, where it has relaxing labels.
-fn sum_pair(out: &mut [u64], i: usize, place: u64, bytes: u64, e: Extent) -> usize
-    requires { i + length (numbers_of (sum_in place bytes e)) ≤ length out.old }
-    ensures { Wrote out.old out.new i result (numbers_of (sum_in place bytes e)) }
+fn sum_pair(out: &mut [u64], i: usize, f: &Function, place: u64, bytes: u64) -> usize
+    requires { i + length (numbers_of (sum_in place bytes f.now.extent)) ≤ length out.old }
+    ensures { Wrote out.old out.new i result (numbers_of (sum_in place bytes f.now.extent)) }
 {
+    let e = &f.extent;
     if !e.relaxed {
         return i;
     }
@@ -403,10 +403,10 @@ fn sum_pair(out: &mut [u64], i: usize, place: u64, bytes: u64, e: Extent) -> usi
 }
 
 #[tactic(auto, unfolding(crate::specs::Fields::sum_in, format::specs::Prelude::pick))]
-fn sum_count(e: Extent) -> usize
-    ensures { (result ≡ length (sum_in 0 0 e)) × (result ≤ 2) }
+fn sum_count(f: &Function) -> usize
+    ensures { (result ≡ length (sum_in 0 0 f.now.extent)) × (result ≤ 2) }
 {
-    if e.relaxed {
+    if f.extent.relaxed {
         return 2;
     }
     0
@@ -417,7 +417,7 @@ fn lsda_reloc(out: &mut [u64], i: usize, f: &Function, place: u64, table: u64) -
     requires { i + length (numbers_of (lsda_in f.now.machine.now.word place table f.now.extent)) ≤ length out.old }
     ensures { Wrote out.old out.new i result (numbers_of (lsda_in f.now.machine.now.word place table f.now.extent)) }
 {
-    let e = f.extent;
+    let e = &f.extent;
     match kind_of(e) {
         Kind::Plain => i,
         Kind::Personal => {
@@ -440,13 +440,13 @@ fn lsda_reloc(out: &mut [u64], i: usize, f: &Function, place: u64, table: u64) -
 }
 
 #[tactic(auto, unfolding(crate::specs::Fields::lsda_in, crate::specs::Fields::pointed, format::specs::Prelude::pick))]
-fn lsda_count(e: Extent) -> usize
-    ensures { (result ≡ length (lsda_in 0 0 0 e)) × (result ≤ 1) }
+fn lsda_count(f: &Function) -> usize
+    ensures { (result ≡ length (lsda_in 0 0 0 f.now.extent)) × (result ≤ 1) }
 {
-    match kind_of(e) {
+    match kind_of(&f.extent) {
         Kind::Plain => 0,
         Kind::Personal => 1,
-        Kind::Named => usize::from(e.lsda),
+        Kind::Named => usize::from(f.extent.lsda),
     }
 }
 
@@ -468,7 +468,7 @@ fn debug_relocs(out: &mut [u64], i: usize, f: &Function, p: &Places) -> usize
     let cie = p.cie as u64;
     let a = relocs::relocation(out, i, at + 4, relocs::DEBUG_FRAME, relocs::ADDRESS, 4, cie);
     let b = relocs::relocation(out, a, at + 8, f.extent.symbol, relocs::ADDRESS, word, 0);
-    sum_pair(out, b, at + 8 + word, word, f.extent)
+    sum_pair(out, b, f, at + 8 + word, word)
 }
 
 // In eh_frame the function, the call sites and the length.
@@ -479,7 +479,7 @@ fn eh_relocs(out: &mut [u64], i: usize, f: &Function, p: &Places) -> usize
     let at = p.at as u64;
     let a = relocs::relocation(out, i, at + 8, f.extent.symbol, relocs::DATA, 4, 0);
     let b = lsda_reloc(out, a, f, at + 17, p.table as u64);
-    sum_pair(out, b, at + 12, 4, f.extent)
+    sum_pair(out, b, f, at + 12, 4)
 }
 
 fn field_relocs(out: &mut [u64], i: usize, f: &Function, p: &Places) -> usize
@@ -492,13 +492,13 @@ fn field_relocs(out: &mut [u64], i: usize, f: &Function, p: &Places) -> usize
     eh_relocs(out, i, f, p)
 }
 
-fn field_relocs_count(debug: bool, e: Extent) -> usize
-    ensures { (result ≡ length (field_relocs debug 0 0 0 0 e)) × (result ≤ 4) }
+fn field_relocs_count(f: &Function) -> usize
+    ensures { (result ≡ length (field_relocs f.now.debug 0 0 0 0 f.now.extent)) × (result ≤ 4) }
 {
-    if debug {
-        return 2 + sum_count(e);
+    if f.debug {
+        return 2 + sum_count(f);
     }
-    1 + lsda_count(e) + sum_count(e)
+    1 + lsda_count(f) + sum_count(f)
 }
 
 // How many relocations a record has.
@@ -506,18 +506,18 @@ pub fn record_relocs_count(f: &Function, pairs: &[u64]) -> usize
     requires { f.now.extent.relaxed ≡ true → PairsReady f.now.extent pairs.now }
     ensures { result ≡ length (record_relocs f.now.debug f.now.machine.now 0 0 0 (function_meant f.now pairs.now)) }
 {
-    let n = field_relocs_count(f.debug, f.extent);
+    let n = field_relocs_count(f);
     if !f.extent.relaxed {
         return n;
     }
-    let k = header_keys::ahead(f.rows, f.extent.rows_at, f.extent.rows);
+    let k = header_keys::ahead(&f.extent, f.rows);
     let others = Run {
         word: f.machine.word,
         rows: f.rows,
         at: f.extent.rows_at + k,
         n: f.extent.rows - k,
     };
-    n + step_relocs_count(&others, &Pairs::of(f.extent, pairs))
+    n + step_relocs_count(&others, &Pairs::of(&f.extent, pairs))
 }
 
 // Those of a record: of the fields, then of the steps.
@@ -529,7 +529,7 @@ pub fn record_relocs(out: &mut [u64], i: usize, f: &Function, p: &Places, pairs:
     if !f.extent.relaxed {
         return a;
     }
-    let k = header_keys::ahead(f.rows, f.extent.rows_at, f.extent.rows);
+    let k = header_keys::ahead(&f.extent, f.rows);
     let others = Run {
         word: f.machine.word,
         rows: f.rows,
@@ -537,5 +537,5 @@ pub fn record_relocs(out: &mut [u64], i: usize, f: &Function, p: &Places, pairs:
         n: f.extent.rows - k,
     };
     let place = p.at + 4 + fields_size(f);
-    step_relocs(out, a, place as u64, &others, &Pairs::of(f.extent, pairs))
+    step_relocs(out, a, place as u64, &others, &Pairs::of(&f.extent, pairs))
 }

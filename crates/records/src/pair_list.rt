@@ -51,9 +51,9 @@ impl<'a> Pairs<'a> {
     ghost use Rattle.records.specs.Written.{pairs_of, pairs_in};
 
     // A function's pairs.
-    pub fn of(e: Extent, list: &'a [u64]) -> Pairs<'a>
-        requires { PairsReady e list.now }
-        ensures { pairs_of result ≡ pairs_in e list.now }
+    pub fn of(e: &Extent, list: &'a [u64]) -> Pairs<'a>
+        requires { PairsReady e.now list.now }
+        ensures { pairs_of result ≡ pairs_in e.now list.now }
     {
         Pairs {
             list,

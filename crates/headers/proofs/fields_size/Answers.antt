@@ -2,7 +2,6 @@
 use native.Mathlib.Omega.{arith}
 use Rattle.headers.specs.Kinds.{head_in}
 use Rattle.headers.proofs.Lengths.{debug_length, eh_length}
-use Rattle.headers.proofs.Words.{word_bounds}
 use Rattle.headers.proofs.fields_size.Goals as goal
 
 pub returns-then-f : goal.returns-then-f
@@ -25,6 +24,3 @@ returns c = (
       )),
   omega (arith, c.middle_size-n.ensures.1, c.letters_size.ensures.1, c.data_size.ensures.1),
 )
-
-pub data_size-requires : goal.data_size-requires
-data_size-requires c = (word_bounds c.args.f.now.machine.now.word c.args.f.now.sound.machine.is_word).1

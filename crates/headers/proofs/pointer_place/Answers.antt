@@ -3,7 +3,6 @@ use native.Mathlib.Omega.{arith}
 use Rattle.format.specs.Headers.{pointer_place}
 use Rattle.headers.specs.Kinds.{head_in}
 use Rattle.headers.proofs.Lengths.{eh_length}
-use Rattle.headers.proofs.Words.{word_bounds}
 use Rattle.headers.proofs.pointer_place.Goals as goal
 
 pub overflow_sub-result : goal.overflow_sub-result
@@ -14,6 +13,3 @@ overflow_sub-result c =
 pub returns : goal.returns
 unfolding pointer_place head_in
 returns c = rw (← (rw c.requires.0 at c.fields_size.ensures.0), ← c.data_size.ensures.0)
-
-pub data_size-requires : goal.data_size-requires
-data_size-requires c = (word_bounds c.args.f.now.machine.now.word c.args.f.now.sound.machine.is_word).1

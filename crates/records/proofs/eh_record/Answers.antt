@@ -5,7 +5,6 @@ use Rattle.format.proofs.LebBack.{little-length}
 use Rattle.format.proofs.PutLaws.{◌then◌}
 use Rattle.records.specs.Fields.{fields_in}
 use borrow.Author.Rules.{rules}
-use Rattle.format.proofs.FieldsBack.{word_small}
 use Rattle.records.proofs.eh_record.Goals as goal
 
 pub fill-b-requires : goal.fill-b-requires
@@ -25,6 +24,3 @@ pub returns : goal.returns
 unfolding fields_in
 returns c =
     c.le-a.ensures then c.fill-b.ensures then (rw c.size_field.ensures at c.le-c.ensures) then (rw c.lsda_blank.ensures.0 at c.blanks.ensures)
-
-pub lsda_blank-requires : goal.lsda_blank-requires
-lsda_blank-requires c = (word_small _ c.args.f.now.sound.machine.is_word).1

@@ -22,6 +22,3 @@ overflow_mul-result c = omega (arith, (word_small _ c.args.f.now.sound.machine.i
 
 pub overflow_add-result : goal.overflow_add-result
 overflow_add-result c = omega (arith, (word_small _ c.args.f.now.sound.machine.is_word).1)
-
-pub lsda_blank-n-requires : goal.lsda_blank-n-requires
-lsda_blank-n-requires c = (word_small _ c.args.f.now.sound.machine.is_word).1
