@@ -12,30 +12,30 @@ ghost use Rattle.format.proofs.Asked.{question_of};
 ghost use Rattle.lists.specs.Extents.{meant};
 ghost use Rattle.lists.specs.Parts.{sums_ok};
 ghost use Rattle.lists.specs.Room.{room_for};
-ghost use Rattle.format.proofs.SectionSize.{Aligned};
 ghost use Rattle.header_keys.specs.Functions.{body_of, Sound, PairsReady};
 ghost use Rattle.header_keys.specs.Inputs.{inputs_of, count_in, extent_in, RowsIn, rows_of};
 ghost use Rattle.dwarf.specs.Asks.{Askable, AllAskable, whole_in, asked_in, listed_answer};
 ghost use Rattle.dwarf.specs.Parts.{parts_to, section_in};
-ghost use Rattle.dwarf.specs.Writable.{Cleared, Next};
-ghost use Rattle.dwarf.specs.Tables.{totals_in, grown_by, SizeReady, labelled_rows, most_in, Few, counts_of, FrontReady, FrontStored, PieceReady, Stored, chosen_by};
+ghost use Rattle.dwarf.specs.Writable.{Writable, Cleared, Next};
+ghost use Rattle.dwarf.specs.Tables.{totals_in, grown_by, labelled_rows, most_in, Few, counts_of, chosen_by};
 ghost use Rattle.owners.specs.Lent.{LongFor, EmptyFor, OwnedIn};
-ghost use Rattle.records.specs.Stepped.{rows_in};
 ghost use Rattle.dwarf.specs.Surveys.{rows_size, FunctionSurveyed, AllSurveyed};
 ghost use Rattle.dwarf.specs.Lent.{SameLists, room_of, lent_in, WritesTo, HasRoom, ReadyFor, AddsTo, FillsTo};
-ghost use Rattle.dwarf.specs.Pieces.{front_in, reloc_numbers, part_in};
+ghost use Rattle.dwarf.specs.Functions.{WrittenAs, front_of, numbers_for, part_for, rows_bytes_of, CanSize, FrontFits, FrontWritten, PieceFits, PieceWritten};
 
 use format::{Counts, Machine, Refusal, Section};
+use header_keys::written::{Function, Run};
 use header_keys::{Input, Kind, kind_of};
 use headers::{header, header_relocs, header_relocs_count, header_size, padding};
 use lists::{Extent, Lists, MOST_FUNCTIONS, machine_of, machine_ok, sums_ok};
 use numbers::pointer_size;
 use owners::Chains;
 use records::{
-    call_sites, call_sites_size, record, record_relocs, record_relocs_count, record_size,
+    Places, call_sites, call_sites_size, record, record_relocs, record_relocs_count, record_size,
     surveyed_rows,
 };
-use rows::{offset_at, row_at, row_surely_whole, row_whole};
+use rows::row_numbers::RowNumbers;
+use rows::{offset_at, row_at, row_whole};
 
 // The lists that are lent for what is written: header places, bytes, relocations and call sites.
 #[derive(Drop)]
@@ -90,7 +90,7 @@ fn size_ok(x: &Input, e: &Extent) -> bool
 fn encodings_ok(x: &Input, e: &Extent) -> bool
     ensures { result ≡ encodings_ok x.now.machine.word (body_of e.now []).landings (body_of e.now []).named }
 {
-    match kind_of(*e) {
+    match kind_of(e) {
         Kind::Plain => true,
         Kind::Personal => true,
         Kind::Named => {
@@ -151,7 +151,7 @@ fn lines_fine(x: &Input, e: &Extent) -> bool
         if rows::STEPS <= to - from {
             return false;
         }
-        if !row_surely_whole(x.machine.word, x.lists.rows, i) {
+        if !RowNumbers::at(x.lists.rows, i).surely_whole(x.machine.word) {
             return false;
         }
         from = to;
@@ -301,50 +301,54 @@ fn align_for(s: Section, word: u64, last: bool) -> usize
     }
 }
 
+// Function k as the section writes it, the last one or not.
+fn written<'a>(x: &'a Input, k: usize, last: bool) -> Function<'a>
+    requires { Writable (inputs_of x.now) k }
+    ensures { WrittenAs (inputs_of x.now) k last result }
+{
+    Function {
+        debug: is_debug(x.section),
+        machine: &x.machine,
+        align: align_for(x.section, x.machine.word, last),
+        extent: x.function(k),
+        rows: x.lists.rows,
+    }
+}
+
 // The bytes of a function's own header, where it has one.
-fn front_size(
-    own: bool,
-    debug: bool,
-    m: Machine,
-    align: usize,
-    at: usize,
-    e: Extent,
-    rows: &[u64],
-) -> usize
-    requires { Sound m e rows.now × Aligned align × (at < 2 ^ 32) }
-    ensures { result ≡ length (front_in own debug m align at e rows.now) }
+fn front_size(own: bool, f: &Function, at: usize) -> usize
+    requires { at < 2 ^ 32 }
+    ensures { result ≡ length (front_of own f.now at) }
 {
     if own {
-        return header_size(debug, m, align, at, e, rows);
+        return header_size(f, at);
     }
     0
 }
 
 // The numbers of a function's relocations, five each.
-fn relocs_size(own: bool, debug: bool, m: Machine, e: Extent, rows: &[u64], pairs: &[u64]) -> usize
-    requires { Sound m e rows.now × (e.relaxed ≡ true → PairsReady e pairs.now) }
-    ensures { result ≡ reloc_numbers own debug m e rows.now pairs.now }
+fn relocs_size(own: bool, f: &Function, pairs: &[u64]) -> usize
+    requires { f.now.extent.relaxed ≡ true → PairsReady f.now.extent pairs.now }
+    ensures { result ≡ numbers_for own f.now pairs.now }
 {
-    let n = record_relocs_count(debug, m, e, rows, pairs);
+    let n = record_relocs_count(f, pairs);
     if own {
-        return relocs::RELOCATION_STRIDE * (header_relocs_count(debug, e) + n);
+        return relocs::RELOCATION_STRIDE * (header_relocs_count(f) + n);
     }
     relocs::RELOCATION_STRIDE * n
 }
 
 // What stands behind a function that is behind t and whose rows have `size` bytes. The place of a header that it does not own
 // does not matter.
-fn sized(x: &Input, size: usize, own: bool, align: usize, e: Extent, t: Table) -> Table
-    requires { SizeReady own (is_debug x.now.section) x.now.machine align e t x.now.lists.rows.now x.now.lists.landings.now x.now.lists.pairs.now × (size ≡ length (rows_in x.now.machine.word 0 x.now.lists.rows.now e.rows_at e.rows)) }
-    ensures { result ≡ grown_by t (part_in own (is_debug x.now.section) x.now.machine align t.bytes 0 t.sites e x.now.lists.rows.now x.now.lists.landings.now x.now.lists.pairs.now) }
+fn sized(lists: &Lists, size: usize, own: bool, f: &Function, t: Table) -> Table
+    requires { CanSize own f.now lists.now t × (size ≡ length (rows_bytes_of f.now)) }
+    ensures { result ≡ grown_by t (part_for own f.now lists.now t 0) }
 {
-    let debug = is_debug(x.section);
-    let m = x.machine;
-    let behind = t.bytes + front_size(own, debug, m, align, t.bytes, e, x.lists.rows);
+    let behind = t.bytes + front_size(own, f, t.bytes);
     Table {
-        bytes: behind + record_size(debug, m, align, behind, e, x.lists.rows, size),
-        relocations: t.relocations + relocs_size(own, debug, m, e, x.lists.rows, x.lists.pairs),
-        sites: t.sites + call_sites_size(t.sites, e, x.lists.landings),
+        bytes: behind + record_size(f, behind, size),
+        relocations: t.relocations + relocs_size(own, f, lists.pairs),
+        sites: t.sites + call_sites_size(t.sites, &f.extent, lists.landings),
     }
 }
 
@@ -353,10 +357,9 @@ fn size_next(x: &Input, chains: &Chains, k: usize, n: usize, size: usize, t: Tab
     requires { Next (inputs_of x.now) k n t × OwnedIn (inputs_of x.now) (k + 1) chains.now × (size ≡ rows_size (inputs_of x.now) k) }
     ensures { result ≡ totals_in (parts_to (inputs_of x.now) (k + 1)) }
 {
-    let e = x.function(k);
     let own = usize::from(chains.owners[k]) == k;
-    let align = align_for(x.section, x.machine.word, k + 1 == n);
-    sized(x, size, own, align, e, t)
+    let f = written(x, k, k + 1 == n);
+    sized(&x.lists, size, own, &f, t)
 }
 
 // The bytes of function k's rows, with the steps between them.
@@ -365,7 +368,13 @@ fn rows_size(x: &Input, k: usize) -> usize
     ensures { result ≡ rows_size (inputs_of x.now) k }
 {
     let e = x.function(k);
-    records::stepped_rows_size(x.machine.word, x.lists.rows, e.rows_at, e.rows)
+    let run = Run {
+        word: x.machine.word,
+        rows: x.lists.rows,
+        at: e.rows_at,
+        n: e.rows,
+    };
+    records::stepped_rows_size(&run)
 }
 
 // What stands behind all functions.
@@ -504,9 +513,9 @@ fn room(n: usize, t: Table, lent: Counts) -> Result<(), Refusal>
 // ---- the writing pass
 
 // A function's own header with its relocation, where it has one.
-fn front(x: &Input, own: bool, align: usize, e: Extent, t: Table, to: &mut Output) -> Table
-    requires { FrontReady own (is_debug x.now.section) x.now.machine align e t x.now.lists.rows.now to.old.bytes.now to.old.relocations.now }
-    ensures stored { FrontStored own (is_debug x.now.section) x.now.machine align e t result x.now.lists.rows.now to.old.bytes.now to.new.bytes.now to.old.relocations.now to.new.relocations.now }
+fn front(own: bool, f: &Function, t: Table, to: &mut Output) -> Table
+    requires { FrontFits own f.now t to.old }
+    ensures stored { FrontWritten own f.now t result to.old to.new }
     ensures sites_kept { to.new.sites.now ≡ to.old.sites.now }
     ensures places_kept { to.new.places.now ≡ to.old.places.now }
     ensures same { SameLists to.old to.new }
@@ -514,9 +523,8 @@ fn front(x: &Input, own: bool, align: usize, e: Extent, t: Table, to: &mut Outpu
     if !own {
         return t;
     }
-    let debug = is_debug(x.section);
-    let at = header(to.bytes, t.bytes, debug, x.machine, align, e, x.lists.rows);
-    let i = header_relocs(to.relocations, t.relocations, debug, x.machine, t.bytes, e);
+    let at = header(to.bytes, t.bytes, f);
+    let i = header_relocs(to.relocations, t.relocations, f, t.bytes);
     Table {
         bytes: at,
         relocations: i,
@@ -525,38 +533,21 @@ fn front(x: &Input, own: bool, align: usize, e: Extent, t: Table, to: &mut Outpu
 }
 
 // A function's part behind t: its own header, where it has one, its record and its call sites.
-fn piece(x: &Input, c: Chosen, align: usize, e: Extent, t: Table, to: &mut Output) -> Table
-    requires { PieceReady c.own (is_debug x.now.section) x.now.machine align c.cie e t x.now.lists.rows.now x.now.lists.landings.now x.now.lists.pairs.now to.old.bytes.now to.old.relocations.now to.old.sites.now }
-    ensures stored { Stored (part_in c.own (is_debug x.now.section) x.now.machine align t.bytes c.cie t.sites e x.now.lists.rows.now x.now.lists.landings.now x.now.lists.pairs.now) t result to.old.bytes.now to.new.bytes.now to.old.relocations.now to.new.relocations.now to.old.sites.now to.new.sites.now }
+fn piece(lists: &Lists, c: Chosen, f: &Function, t: Table, to: &mut Output) -> Table
+    requires { PieceFits c f.now lists.now t to.old }
+    ensures stored { PieceWritten c f.now lists.now t result to.old to.new }
     ensures places_kept { to.new.places.now ≡ to.old.places.now }
     ensures same { SameLists to.old to.new }
 {
-    let debug = is_debug(x.section);
-    let u = front(x, c.own, align, e, t, to);
-    let at = record(
-        to.bytes,
-        u.bytes,
-        debug,
-        x.machine,
-        align,
-        c.cie,
-        e,
-        x.lists.rows,
-    );
-    let table = t.sites + padding(4, t.sites);
-    let i = record_relocs(
-        to.relocations,
-        u.relocations,
-        debug,
-        x.machine,
-        u.bytes,
-        c.cie,
-        table,
-        e,
-        x.lists.rows,
-        x.lists.pairs,
-    );
-    let end = call_sites(to.sites, t.sites, e, x.lists.landings);
+    let u = front(c.own, f, t, to);
+    let at = record(to.bytes, u.bytes, f, c.cie);
+    let p = Places {
+        at: u.bytes,
+        cie: c.cie,
+        table: t.sites + padding(4, t.sites),
+    };
+    let i = record_relocs(to.relocations, u.relocations, f, &p, lists.pairs);
+    let end = call_sites(to.sites, t.sites, &f.extent, lists.landings);
     Table {
         bytes: at,
         relocations: i,
@@ -584,11 +575,10 @@ fn part(x: &Input, chains: &Chains, k: usize, n: usize, t: Table, to: &mut Outpu
     requires { ReadyFor (inputs_of x.now) k n t to.old × OwnedIn (inputs_of x.now) (k + 1) chains.now }
     ensures { AddsTo (inputs_of x.now) k t result to.old to.new }
 {
-    let e = x.function(k);
     let c = header_for(k, t.bytes, chains, to);
-    let align = align_for(x.section, x.machine.word, k + 1 == n);
     to.places[k] = c.cie as u64;
-    piece(x, c, align, e, t, to)
+    let f = written(x, k, k + 1 == n);
+    piece(&x.lists, c, &f, t, to)
 }
 
 // All functions.

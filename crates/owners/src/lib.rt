@@ -45,7 +45,7 @@ fn same_named(a: Extent, b: Extent) -> bool
 fn same_kind(a: Extent, b: Extent) -> bool
     ensures { result ≡ same_kind (kind_in a) (kind_in b) }
 {
-    match (kind_of(a), kind_of(b)) {
+    match (kind_of(&a), kind_of(&b)) {
         (Kind::Plain, Kind::Plain) => true,
         (Kind::Personal, Kind::Personal) => true,
         (Kind::Named, Kind::Named) => same_named(a, b),
@@ -68,8 +68,8 @@ fn same_leading(x: &Input, a: Extent, b: Extent, i: usize) -> bool
     requires { RowsIn (inputs_of x.now) a × RowsIn (inputs_of x.now) b × (i < length (leading_of (inputs_of x.now) a)) × (i < length (leading_of (inputs_of x.now) b)) }
     ensures { result ≡ same_at (leading_of (inputs_of x.now) a) (leading_of (inputs_of x.now) b) i }
 {
-    let first = header_keys::leading_at(x.machine, a, x.lists.rows, i);
-    let second = header_keys::leading_at(x.machine, b, x.lists.rows, i);
+    let first = header_keys::leading_at(&x.machine, &a, x.lists.rows, i);
+    let second = header_keys::leading_at(&x.machine, &b, x.lists.rows, i);
     first == second
 }
 
@@ -97,7 +97,7 @@ fn mixed(d: u64, r: Row) -> u64
 fn kind_number(e: Extent) -> u64
     ensures { (result ≡ kind_number (kind_in e)) × (result < 2 ^ 34) }
 {
-    match kind_of(e) {
+    match kind_of(&e) {
         Kind::Plain => 0,
         Kind::Personal => 1,
         Kind::Named => 2 + e.routine % 4294967296,
@@ -109,10 +109,10 @@ fn digest(x: &Input, e: Extent) -> u64
     requires { RowsIn (inputs_of x.now) e }
     ensures { result ≡ digest_of (key_in x.now.machine e x.now.lists.rows.now) }
 {
-    let n = header_keys::leading_count(x.machine, e, x.lists.rows);
+    let n = header_keys::leading_count(&x.machine, &e, x.lists.rows);
     let mut d = kind_number(e);
     for i in 0..n {
-        d = mixed(d, header_keys::leading_at(x.machine, e, x.lists.rows, i));
+        d = mixed(d, header_keys::leading_at(&x.machine, &e, x.lists.rows, i));
     }
     d
 }
@@ -146,7 +146,7 @@ fn choose(x: &Input, k: usize, first: usize, chains: &Chains) -> usize
     ensures { result ≡ owner (inputs_of x.now) k }
 {
     let own = x.function(k);
-    let count = header_keys::leading_count(x.machine, own, x.lists.rows);
+    let count = header_keys::leading_count(&x.machine, &own, x.lists.rows);
     let mut next = first + 1;
     'functions: while 0 < next {
         let j = next - 1;
@@ -155,7 +155,7 @@ fn choose(x: &Input, k: usize, first: usize, chains: &Chains) -> usize
         if !same_kind_and_signal(other, own) {
             continue 'functions;
         }
-        if header_keys::leading_count(x.machine, other, x.lists.rows) != count {
+        if header_keys::leading_count(&x.machine, &other, x.lists.rows) != count {
             continue 'functions;
         }
         'rows: for i in 0..count {
@@ -182,10 +182,10 @@ fn surely_shares(x: &Input, j: usize, k: usize) -> bool
     if a.simple != b.simple {
         return false;
     }
-    if 0 < header_keys::ahead(x.lists.rows, a.rows_at, a.rows) {
+    if 0 < header_keys::ahead(&a, x.lists.rows) {
         return false;
     }
-    header_keys::ahead(x.lists.rows, b.rows_at, b.rows) == 0
+    header_keys::ahead(&b, x.lists.rows) == 0
 }
 
 // The owner of the function in front of function k, where it is surely function k's as well; or k.
