@@ -23,7 +23,8 @@ use Rattle.header_keys.specs.Functions.{taken_in, without}
 use Rattle.lists.specs.declared.Extent.{Extent}
 use Rattle.lists.specs.Extents.{extent_at, meant}
 use Rattle.lists.specs.Parts.{outline_ok_at}
-use Rattle.dwarf.specs.Parts.{Inputs, count_in, extent_in, function_in, align_in, earlier_in, bytes_in, relocs_in, sites_in, part_behind, parts_to}
+use Rattle.header_keys.specs.Inputs.{Inputs, count_in, extent_in, function_in}
+use Rattle.dwarf.specs.Parts.{align_in, earlier_in, bytes_in, relocs_in, sites_in, part_behind, parts_to}
 use Rattle.dwarf.specs.Tables.{labelled_rows, most_in}
 use Rattle.dwarf.specs.Writable.{Writable, Cleared}
 use Rattle.dwarf.specs.Surveys.{PassedAt}

@@ -18,7 +18,7 @@ use Rattle.lists.specs.Parts.{ranges_ok_at, named_ok_at, relaxed_ok_at, outline_
 use Rattle.lists.proofs.Outlines.{function_is, lists_is}
 use Rattle.header_keys.specs.Functions.{taken_in, without, RowsReady, LandingsReady, PairsReady, Listed}
 use Rattle.headers.specs.Kinds.{EncodingFits}
-use Rattle.dwarf.specs.Asks.{AllAskable}
+use Rattle.dwarf.specs.Asks.{Askable}
 
 -- ---- sums and marks
 
@@ -205,12 +205,10 @@ module _ (fs rows landings pairs : List ℕ) (t : T (lists_ok fs rows landings p
       of_function fs rows landings pairs k
       (rw e at (in_range (function_ok_at fs rows landings pairs) 0 (count function_stride fs) k (of_lists fs rows landings pairs t).1 h))
 
-  pub all_askable : (s : Section) → AllAskable s fs rows pairs
-  all_askable s = record {
-    each_one = λ k h.
-        let o = function_listed k h in
-        record { ready = ready_taken fs rows landings pairs all_counted k h o.0 o.1 s; paired = pairs_taken fs rows landings pairs all_counted k h o.0 s };
-  }
+  pub all_askable : (s : Section) (k : ℕ) → k < count function_stride fs → Askable (taken_in s (extent_at fs k)) rows pairs
+  all_askable s k h =
+      let o = function_listed k h in
+      record { ready = ready_taken fs rows landings pairs all_counted k h o.0 o.1 s; paired = pairs_taken fs rows landings pairs all_counted k h o.0 s }
 
   pub listed : (n : ℕ) → n ≤ count function_stride fs → Listed fs rows n
   listed n h = record {

@@ -13,7 +13,8 @@ use Rattle.headers.specs.Kinds.{EncodingFits}
 use Rattle.dwarf.specs.declared.Table.{Table}
 use Rattle.dwarf.specs.declared.Chosen.{Chosen}
 use Rattle.dwarf.specs.Pieces.{front_in, front_relocs, part_in}
-use Rattle.dwarf.specs.Parts.{Inputs, count_in, places_in, bytes_in, relocs_in, sites_in, part_behind, parts_to}
+use Rattle.header_keys.specs.Inputs.{Inputs, count_in}
+use Rattle.dwarf.specs.Parts.{places_in, bytes_in, relocs_in, sites_in, part_behind, parts_to}
 
 -- ---- sizes
 
@@ -49,10 +50,6 @@ pub record SizeReady (own debug : Bool) (m : Machine) (align : ℕ) (e : Extent)
   pub small : Small (grown_by t (part_in own debug m align t.bytes 0 t.sites e rows landings pairs))
 
 -- a table's counts behind n header places, in the elements of the lent lists
--- the elements of the lent lists
-abbrev pub lent_in : (bytes relocs sites : List ℕ) → Table
-lent_in bytes relocs sites = record { bytes = length bytes; relocations = length relocs; sites = length sites }
-
 abbrev pub counts_of : (n : ℕ) → Table → Counts
 counts_of n t = record { places = n; bytes = t.bytes; relocations = t.relocations; sites = t.sites }
 

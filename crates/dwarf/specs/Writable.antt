@@ -5,7 +5,8 @@ use Rattle.header_keys.specs.Functions.{Sound, LandingsReady, PairsReady, Listed
 use Rattle.headers.specs.Kinds.{EncodingFits}
 use Rattle.dwarf.specs.declared.Table.{Table}
 use Rattle.dwarf.specs.Tables.{totals_in, most_in, Few, Covers, Holds}
-use Rattle.dwarf.specs.Parts.{Inputs, count_in, extent_in, places_in, bytes_in, relocs_in, sites_in, parts_to}
+use Rattle.header_keys.specs.Inputs.{Inputs, count_in, extent_in}
+use Rattle.dwarf.specs.Parts.{places_in, bytes_in, relocs_in, sites_in, parts_to}
 
 -- function k can be written, and what stands behind it is small
 pub record Writable (x : Inputs) (k : ℕ) : Type 0 where

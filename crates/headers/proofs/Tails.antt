@@ -11,6 +11,9 @@ use lib.Signed.{mag}
 use mir.Syntax.{w64}
 use mir.Val.{SFits, to_z}
 use mir.Facts.{to_z_pos}
+use Rattle.std.specs.Prelude as code
+use Rattle.std.specs.Prelude.{Some, None, is_some, IfSome}
+use Rattle.std.specs.Bool.{then_some}
 use Rattle.format.specs.Prelude.{pick}
 use Rattle.format.specs.Leb.{little, uleb_f, uleb}
 use Rattle.format.specs.declared.Machine.{Machine}
@@ -20,7 +23,7 @@ use Rattle.format.proofs.Choice.{if-eq, if-ne}
 use Rattle.format.proofs.LebBack.{little-length}
 use Rattle.lists.specs.declared.Extent.{Extent}
 use Rattle.header_keys.specs.Kinds.{lsda_of, lsda_in, kind_in}
-use Rattle.headers.specs.Kinds.{ending, middle, flag, named_letters, named_data, tail_of}
+use Rattle.headers.specs.Kinds.{lsda_meant, ending, middle, flag, named_letters, named_data, tail_of}
 
 -- ---- the data alignment factor as the machine computes it
 
@@ -49,21 +52,42 @@ named_letters_lem e s l true = refl
 named_letters_lem e s l false = refl
 
 -- how many bytes of augmentation data a named personality has
-pub named_length : (e size l : ℕ) (lsda : Bool) → length (named_data e size lsda l) ≡ 2 + size + flag lsda
+pub named_length : (e size l : ℕ) (lsda : Bool) → length (named_data e size (lsda_of lsda l)) ≡ 2 + size + flag lsda
 unfolding named_data lsda_letter lsda_of flag pick
 named_length e size l true = simp (length-append, length-replicate {A = ℕ} size 0) (omega arith)
 named_length e size l false = simp (length-append, length-replicate {A = ℕ} size 0) (omega arith)
 
 pub named_tail : (word ret e s l : ℕ) (signal lsda : Bool) → tail_of word ret signal (named e s (lsda_of lsda l))
-    ≡ named_letters lsda ++ (middle word ret signal ++ (uleb (2 + pointer_bytes word e + flag lsda) ++ named_data e (pointer_bytes word e) lsda l))
+    ≡ named_letters lsda ++ (middle word ret signal ++ (uleb (2 + pointer_bytes word e + flag lsda) ++ named_data e (pointer_bytes word e) (lsda_of lsda l)))
 unfolding tail_of augmentation_data counted named_data
 named_tail word ret e s l signal lsda = rw (named_letters_lem e s l lsda, named_length e (pointer_bytes word e) l lsda)
+
+-- and where the LSDA's encoding is an Option
+pub option_tail : (word ret e s : ℕ) (signal : Bool) (lsda : code.Option ℕ) → tail_of word ret signal (named e s (lsda_meant lsda))
+    ≡ named_letters (is_some lsda) ++ (middle word ret signal ++ (uleb (2 + pointer_bytes word e + flag (is_some lsda)) ++ named_data e (pointer_bytes word e) (lsda_meant lsda)))
+unfolding lsda_meant lsda_of pick
+option_tail word ret e s signal (Some l) = named_tail word ret e s l signal true
+option_tail word ret e s signal None = named_tail word ret e s 0 signal false
+
+pub lsda_then : (b : Bool) (l : ℕ) → lsda_meant (then_some b l) ≡ lsda_of b l
+unfolding lsda_meant lsda_of pick
+lsda_then true l = refl
+lsda_then false l = refl
+
+pub lsda_fits : (b : Bool) (l : ℕ) → (b ≡ true → l < 256) → IfSome (then_some b l) (λ l. l < 256)
+lsda_fits true l h = h refl
+lsda_fits false l h = tt
 
 -- landings have a personality of their own
 pub personal_tail : (word ret : ℕ) (signal : Bool)
     → tail_of word ret signal personal ≡ tail_of word ret signal (named indirect_pcrel_sdata4 personality_symbol (lsda_of true pcrel_sdata4))
 unfolding tail_of letters augmentation_data lsda_letter lsda_of pointer_bytes size_of size_or0 pick
 personal_tail word ret signal = refl
+
+pub personal_option : (word ret : ℕ) (signal : Bool)
+    → tail_of word ret signal personal ≡ tail_of word ret signal (named indirect_pcrel_sdata4 personality_symbol (lsda_meant (Some pcrel_sdata4)))
+unfolding lsda_meant lsda_of pick
+personal_option word ret signal = personal_tail word ret signal
 
 -- ---- by a function's record
 

@@ -1,11 +1,14 @@
 -- The parts of a header's fields.
 use Rattle.std.specs.Prelude.{◌≡◌, ℕ, ◌<◌, Bool, true, List, [], ◌∷◌, ◌++◌, replicate, eqb}
+use Rattle.std.specs.Prelude as code
+use Rattle.std.specs.Prelude.{Some, None}
+use Rattle.std.proofs.Math.Option.{Option, none, some}
 use Rattle.format.specs.Prelude.{pick}
 use Rattle.format.specs.Leb.{uleb, sleb}
 use Rattle.format.specs.Constants.{pcrel_sdata4}
 use Rattle.format.specs.Headers.{Kind, Key, letters, lsda_letter, augmentation_data, counted, data_factor}
 use Rattle.lists.specs.declared.Extent.{Extent}
-use Rattle.header_keys.specs.Kinds.{lsda_of, kind_in}
+use Rattle.header_keys.specs.Kinds.{kind_in}
 
 -- the key without its rows: all that the fields and the relocations depend on
 unfoldable pub head_in : Extent → Key
@@ -18,6 +21,11 @@ EncodingFits e = e.personality ≡ true → e.encoding < 256
 -- where a personality is named, its encoding and the LSDA's are bytes
 abbrev pub NamedFits : Extent → Type 0
 NamedFits e = e.landings ≡ 0 → e.personality ≡ true → (e.encoding < 256) × (e.lsda ≡ true → e.lsda_encoding < 256)
+
+-- an LSDA's encoding, where there is an LSDA, as the definitions have it
+unfoldable pub lsda_meant : code.Option ℕ → Option ℕ
+lsda_meant (Some l) = some l
+lsda_meant None = none
 
 -- the end of the augmentation string: the signal mark and a 0
 unfoldable pub ending : Bool → List ℕ
@@ -35,8 +43,8 @@ flag lsda = pick lsda 1 0
 unfoldable pub named_letters : Bool → List ℕ
 named_letters lsda = pick lsda (0x7a ∷ 0x50 ∷ 0x4c ∷ 0x52 ∷ []) (0x7a ∷ 0x50 ∷ 0x52 ∷ [])
 
-unfoldable pub named_data : (e size : ℕ) → Bool → ℕ → List ℕ
-named_data e size lsda l = e ∷ (replicate size 0 ++ (lsda_letter (lsda_of lsda l) ++ (pcrel_sdata4 ∷ [])))
+unfoldable pub named_data : (e size : ℕ) → Option ℕ → List ℕ
+named_data e size lsda = e ∷ (replicate size 0 ++ (lsda_letter lsda ++ (pcrel_sdata4 ∷ [])))
 
 -- what follows the version in eh_frame
 unfoldable pub tail_of : (word ret : ℕ) → Bool → Kind → List ℕ

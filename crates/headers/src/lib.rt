@@ -1,21 +1,18 @@
 // Headers (CIE): their bytes, sizes and relocations. Ported from rucc-asm/src/unwind.rs (header, personal_header, named_header, pointer, starts, pad) of tamnd/rucc, changed: see NOTICE.
 #![tactic(auto)]
 
-ghost use Rattle.std.specs.Prelude.{◌≡◌, true, [], ◌∷◌, ◌+◌, ◌*◌, ◌^◌, ◌≤◌, ◌<◌, length};
+ghost use Rattle.std.specs.Prelude.{◌≡◌, false, [], ◌∷◌, ◌+◌, ◌*◌, ◌^◌, ◌≤◌, ◌<◌, length, IfSome};
 ghost use Rattle.format.proofs.Wrote.{Wrote};
-ghost use Rattle.format.specs.Rows.{rows_bytes};
 ghost use Rattle.format.specs.Lists.{numbers_of};
-ghost use Rattle.format.specs.Headers.{leading, padding, pointer_reloc, plain, personal, named, letters, lsda_letter, augmentation_data, data_factor, header_fields, header_bytes, pointer_place, header_relocs};
-ghost use Rattle.format.proofs.Fits.{MachineFits};
+ghost use Rattle.format.specs.Headers.{padding, pointer_reloc, plain, personal, named, letters, lsda_letter, augmentation_data, data_factor, pointer_place};
 ghost use Rattle.format.proofs.SectionSize.{Aligned};
-ghost use Rattle.header_keys.specs.Functions.{body_of, key_in, Sound};
 ghost use Rattle.headers.specs.Entries.{Closed};
-ghost use Rattle.header_keys.specs.Kinds.{lsda_of, kind_in};
-ghost use Rattle.headers.specs.Kinds.{head_in, EncodingFits, NamedFits, ending, middle, flag, named_letters, named_data, tail_of, header_reloc_count};
+ghost use Rattle.header_keys.specs.Kinds.{kind_in};
+ghost use Rattle.headers.specs.Kinds.{head_in, EncodingFits, NamedFits, lsda_meant, ending, flag, named_letters, named_data, header_reloc_count};
+ghost use Rattle.headers.specs.Written.{middle_of, tail_by, fields_of, starts_of, header_of, header_relocs_of};
 
-use format::Machine;
+use header_keys::written::Function;
 use header_keys::{Kind, kind_of};
-use lists::Extent;
 use numbers::encodings;
 
 // ---- the end of an entry
@@ -99,23 +96,23 @@ fn data_factor(word: u64) -> i64
 }
 
 // The string's end, the factors and the return address register.
-fn middle(out: &mut [u8], at: usize, word: u64, ret: u64, signal: bool) -> usize
-    requires { (word ≤ 8) × (at + length (middle word ret signal) ≤ length out.old) }
-    ensures { Wrote out.old out.new at result (middle word ret signal) }
+fn middle(out: &mut [u8], at: usize, f: &Function) -> usize
+    requires { at + length (middle_of f.now) ≤ length out.old }
+    ensures { Wrote out.old out.new at result (middle_of f.now) }
 {
-    let a = ending(out, at, signal);
+    let a = ending(out, at, f.extent.signal);
     let b = leb::uleb(out, a, 1);
-    let c = leb::sleb(out, b, data_factor(word));
-    leb::uleb(out, c, ret)
+    let c = leb::sleb(out, b, data_factor(f.machine.word));
+    leb::uleb(out, c, f.machine.ret)
 }
 
 // z, R; the middle; one byte of data, the records' encoding.
-fn plain_header(out: &mut [u8], at: usize, word: u64, ret: u64, signal: bool) -> usize
-    requires { (word ≤ 8) × (at + length (tail_of word ret signal plain) ≤ length out.old) }
-    ensures { Wrote out.old out.new at result (tail_of word ret signal plain) }
+fn plain_header(out: &mut [u8], at: usize, f: &Function) -> usize
+    requires { at + length (tail_by f.now plain) ≤ length out.old }
+    ensures { Wrote out.old out.new at result (tail_by f.now plain) }
 {
     let a = leb::le(out, at, 2, 0x527a);
-    let b = middle(out, a, word, ret, signal);
+    let b = middle(out, a, f);
     leb::le(out, b, 2, 0x1b01)
 }
 
@@ -137,124 +134,108 @@ fn named_letters(out: &mut [u8], at: usize, lsda: bool) -> usize
     leb::le(out, at, 3, 0x52507a)
 }
 
-// The LSDA's encoding.
-fn lsda_letter(out: &mut [u8], at: usize, lsda: bool, l: u64) -> usize
-    requires { (lsda ≡ true → l < 256) × (at + length (lsda_letter (lsda_of lsda l)) ≤ length out.old) }
-    ensures { Wrote out.old out.new at result (lsda_letter (lsda_of lsda l)) }
+// The LSDA's encoding, where there is an LSDA.
+fn lsda_letter(out: &mut [u8], at: usize, lsda: Option<u64>) -> usize
+    requires { IfSome lsda (λ l. l < 256) × (at + length (lsda_letter (lsda_meant lsda)) ≤ length out.old) }
+    ensures { Wrote out.old out.new at result (lsda_letter (lsda_meant lsda)) }
 {
-    if lsda {
-        return leb::byte(out, at, l as u8);
+    match lsda {
+        Some(l) => leb::byte(out, at, l as u8),
+        None => at,
     }
-    at
 }
 
 // The personality's encoding and blank pointer, the LSDA's encoding, the records' encoding.
-fn named_data(out: &mut [u8], at: usize, e: u64, size: usize, lsda: bool, l: u64) -> usize
-    requires { (e < 256) × (lsda ≡ true → l < 256) × (at + length (named_data e size lsda l) ≤ length out.old) }
-    ensures { Wrote out.old out.new at result (named_data e size lsda l) }
+fn named_data(out: &mut [u8], at: usize, e: u64, size: usize, lsda: Option<u64>) -> usize
+    requires { (e < 256) × IfSome lsda (λ l. l < 256) × (at + length (named_data e size (lsda_meant lsda)) ≤ length out.old) }
+    ensures { Wrote out.old out.new at result (named_data e size (lsda_meant lsda)) }
 {
     let a = leb::byte(out, at, e as u8);
     let b = leb::fill(out, a, size);
-    let c = lsda_letter(out, b, lsda, l);
+    let c = lsda_letter(out, b, lsda);
     leb::byte(out, c, encodings::PCREL_SDATA4 as u8)
 }
 
 // A personality by its encoding, and an LSDA by its.
-fn named_header(
-    out: &mut [u8],
-    at: usize,
-    word: u64,
-    ret: u64,
-    signal: bool,
-    e: u64,
-    lsda: bool,
-    l: u64,
-) -> usize
-    requires { (word ≤ 8) × (e < 256) × (lsda ≡ true → l < 256) × (at + length (tail_of word ret signal (named e 0 (lsda_of lsda l))) ≤ length out.old) }
-    ensures { Wrote out.old out.new at result (tail_of word ret signal (named e 0 (lsda_of lsda l))) }
+fn named_header(out: &mut [u8], at: usize, f: &Function, e: u64, lsda: Option<u64>) -> usize
+    requires { (e < 256) × IfSome lsda (λ l. l < 256) × (at + length (tail_by f.now (named e 0 (lsda_meant lsda))) ≤ length out.old) }
+    ensures { Wrote out.old out.new at result (tail_by f.now (named e 0 (lsda_meant lsda))) }
 {
-    let a = named_letters(out, at, lsda);
-    let b = middle(out, a, word, ret, signal);
-    let size = numbers::pointer_bytes(word, e);
-    let c = leb::uleb(out, b, 2 + size + flag(lsda));
-    named_data(out, c, e, size as usize, lsda, l)
+    let has_lsda = lsda.is_some();
+    let a = named_letters(out, at, has_lsda);
+    let b = middle(out, a, f);
+    let size = numbers::pointer_bytes(f.machine.word, e);
+    let c = leb::uleb(out, b, 2 + size + flag(has_lsda));
+    named_data(out, c, e, size as usize, lsda)
 }
 
 // The personality of functions with landings: indirect, relative, 4 bytes, and so is the LSDA.
-fn personal_header(out: &mut [u8], at: usize, word: u64, ret: u64, signal: bool) -> usize
-    requires { (word ≤ 8) × (at + length (tail_of word ret signal personal) ≤ length out.old) }
-    ensures { Wrote out.old out.new at result (tail_of word ret signal personal) }
+fn personal_header(out: &mut [u8], at: usize, f: &Function) -> usize
+    requires { at + length (tail_by f.now personal) ≤ length out.old }
+    ensures { Wrote out.old out.new at result (tail_by f.now personal) }
 {
     named_header(
         out,
         at,
-        word,
-        ret,
-        signal,
+        f,
         encodings::INDIRECT_PCREL_SDATA4,
-        true,
-        encodings::PCREL_SDATA4,
+        Some(encodings::PCREL_SDATA4),
     )
 }
 
 // What follows the version, by the function's record.
-fn tail(out: &mut [u8], at: usize, m: Machine, e: Extent) -> usize
-    requires { (m.word ≤ 8) × NamedFits e × (at + length (tail_of m.word m.ret e.signal (kind_in e)) ≤ length out.old) }
-    ensures { Wrote out.old out.new at result (tail_of m.word m.ret e.signal (kind_in e)) }
+fn tail(out: &mut [u8], at: usize, f: &Function) -> usize
+    requires { NamedFits f.now.extent × (at + length (tail_by f.now (kind_in f.now.extent)) ≤ length out.old) }
+    ensures { Wrote out.old out.new at result (tail_by f.now (kind_in f.now.extent)) }
 {
-    match kind_of(e) {
-        Kind::Plain => plain_header(out, at, m.word, m.ret, e.signal),
-        Kind::Personal => personal_header(out, at, m.word, m.ret, e.signal),
-        Kind::Named => named_header(
-            out,
-            at,
-            m.word,
-            m.ret,
-            e.signal,
-            e.encoding,
-            e.lsda,
-            e.lsda_encoding,
-        ),
+    match kind_of(&f.extent) {
+        Kind::Plain => plain_header(out, at, f),
+        Kind::Personal => personal_header(out, at, f),
+        Kind::Named => {
+            let lsda = f.extent.lsda.then_some(f.extent.lsda_encoding);
+            named_header(out, at, f, f.extent.encoding, lsda)
+        }
     }
 }
 
 // The fields in front of the rows. In debug_frame there is no augmentation but the signal mark.
-fn fields(out: &mut [u8], at: usize, debug: bool, m: Machine, e: Extent) -> usize
-    requires { (m.word ≤ 8) × NamedFits e × (at + length (header_fields debug m (head_in e)) ≤ length out.old) }
-    ensures { Wrote out.old out.new at result (header_fields debug m (head_in e)) }
+fn fields(out: &mut [u8], at: usize, f: &Function) -> usize
+    requires { NamedFits f.now.extent × (at + length (fields_of f.now) ≤ length out.old) }
+    ensures { Wrote out.old out.new at result (fields_of f.now) }
 {
-    let a = leb::le(out, at, 4, numbers::header_id(debug));
+    let a = leb::le(out, at, 4, numbers::header_id(f.debug));
     let b = leb::byte(out, a, 1);
-    if debug {
-        return middle(out, b, m.word, m.ret, e.signal);
+    if f.debug {
+        return middle(out, b, f);
     }
-    tail(out, b, m, e)
+    tail(out, b, f)
 }
 
 // ---- the leading rows
 
 // The leading rows, one after the other.
-fn starts(out: &mut [u8], at: usize, m: Machine, e: Extent, rows: &[u64]) -> usize
-    requires { Sound m e rows.now × (at + length (rows_bytes m.word (leading m (body_of e rows.now))) ≤ length out.old) }
-    ensures { Wrote out.old out.new at result (rows_bytes m.word (leading m (body_of e rows.now))) }
+fn starts(out: &mut [u8], at: usize, f: &Function) -> usize
+    requires { at + length (starts_of f.now) ≤ length out.old }
+    ensures { Wrote out.old out.new at result (starts_of f.now) }
 {
-    let n = header_keys::leading_count(m, e, rows);
+    let n = header_keys::leading_count(f.machine, &f.extent, f.rows);
     let mut p = at;
     for i in 0..n {
-        p = rows::row(out, p, m.word, header_keys::leading_at(m, e, rows, i));
+        let row = header_keys::leading_at(f.machine, &f.extent, f.rows, i);
+        p = rows::row(out, p, f.machine.word, row);
     }
     p
 }
 
 // How many bytes they have.
-fn starts_size(m: Machine, e: Extent, rows: &[u64]) -> usize
-    requires { Sound m e rows.now }
-    ensures { result ≡ length (rows_bytes m.word (leading m (body_of e rows.now))) }
+fn starts_size(f: &Function) -> usize
+    ensures { result ≡ length (starts_of f.now) }
 {
-    let n = header_keys::leading_count(m, e, rows);
+    let n = header_keys::leading_count(f.machine, &f.extent, f.rows);
     let mut size = 0;
     for i in 0..n {
-        size += rows::row_size(m.word, header_keys::leading_at(m, e, rows, i));
+        let row = header_keys::leading_at(f.machine, &f.extent, f.rows, i);
+        size += rows::row_size(f.machine.word, row);
     }
     size
 }
@@ -262,97 +243,81 @@ fn starts_size(m: Machine, e: Extent, rows: &[u64]) -> usize
 // ---- sizes
 
 // How many bytes `middle` stores.
-fn middle_size(word: u64, ret: u64, signal: bool) -> usize
-    requires { word ≤ 8 }
-    ensures { (result ≡ length (middle word ret signal)) × (result ≤ 23) }
+fn middle_size(f: &Function) -> usize
+    ensures { (result ≡ length (middle_of f.now)) × (result ≤ 23) }
 {
-    2 + flag(signal) as usize + leb::sleb_size(data_factor(word)) + leb::uleb_size(ret)
+    let factor = data_factor(f.machine.word);
+    2 + flag(f.extent.signal) as usize + leb::sleb_size(factor) + leb::uleb_size(f.machine.ret)
 }
 
 // How many letters the augmentation string has.
-fn letters_size(e: Extent) -> usize
-    ensures { (result ≡ length (letters (kind_in e))) × (result ≤ 4) }
+fn letters_size(f: &Function) -> usize
+    ensures { (result ≡ length (letters (kind_in f.now.extent))) × (result ≤ 4) }
 {
-    match kind_of(e) {
+    match kind_of(&f.extent) {
         Kind::Plain => 2,
         Kind::Personal => 4,
-        Kind::Named => 3 + flag(e.lsda) as usize,
+        Kind::Named => 3 + flag(f.extent.lsda) as usize,
     }
 }
 
 // How many bytes the augmentation data has.
-fn data_size(word: u64, e: Extent) -> usize
-    requires { word ≤ 8 }
-    ensures { (result ≡ length (augmentation_data word (kind_in e))) × (result ≤ 11) }
+fn data_size(f: &Function) -> usize
+    ensures { (result ≡ length (augmentation_data f.now.machine.now.word (kind_in f.now.extent))) × (result ≤ 11) }
 {
-    match kind_of(e) {
+    match kind_of(&f.extent) {
         Kind::Plain => 1,
         Kind::Personal => 7,
         Kind::Named => {
-            2 + numbers::pointer_bytes(word, e.encoding) as usize + flag(e.lsda) as usize
+            let pointer = numbers::pointer_bytes(f.machine.word, f.extent.encoding);
+            2 + pointer as usize + flag(f.extent.lsda) as usize
         }
     }
 }
 
 // How many bytes `fields` stores; the data's length is one of them.
-fn fields_size(debug: bool, m: Machine, e: Extent) -> usize
-    requires { m.word ≤ 8 }
-    ensures { (result ≡ length (header_fields debug m (head_in e))) × (result ≤ 44) }
+fn fields_size(f: &Function) -> usize
+    ensures { (result ≡ length (fields_of f.now)) × (result ≤ 44) }
 {
-    let n = 5 + middle_size(m.word, m.ret, e.signal);
-    if debug {
+    let n = 5 + middle_size(f);
+    if f.debug {
         return n;
     }
-    n + letters_size(e) + 1 + data_size(m.word, e)
+    n + letters_size(f) + 1 + data_size(f)
 }
 
 // ---- a header
 
-pub fn header_size(
-    debug: bool,
-    m: Machine,
-    align: usize,
-    at: usize,
-    e: Extent,
-    rows: &[u64],
-) -> usize
-    requires { Sound m e rows.now × Aligned align × (at < 2 ^ 32) }
-    ensures { result ≡ length (header_bytes debug m align at (key_in m e rows.now)) }
+pub fn header_size(f: &Function, at: usize) -> usize
+    requires { at < 2 ^ 32 }
+    ensures { result ≡ length (header_of f.now at) }
 {
-    let n = 4 + fields_size(debug, m, e) + starts_size(m, e, rows);
-    n + padding(align, at + n)
+    let n = 4 + fields_size(f) + starts_size(f);
+    n + padding(f.align, at + n)
 }
 
 // The bytes of a header: a blank length, the fields and the leading rows, and what `pad` adds.
-pub fn header(
-    out: &mut [u8],
-    at: usize,
-    debug: bool,
-    m: Machine,
-    align: usize,
-    e: Extent,
-    rows: &[u64],
-) -> usize
-    requires { Sound m e rows.now × EncodingFits e × Aligned align × (at + length (header_bytes debug m align at (key_in m e rows.now)) ≤ length out.old) }
-    ensures { Wrote out.old out.new at result (header_bytes debug m align at (key_in m e rows.now)) }
+pub fn header(out: &mut [u8], at: usize, f: &Function) -> usize
+    requires { EncodingFits f.now.extent × (at + length (header_of f.now at) ≤ length out.old) }
+    ensures { Wrote out.old out.new at result (header_of f.now at) }
 {
     let a = leb::fill(out, at, 4);
-    let b = fields(out, a, debug, m, e);
-    let c = starts(out, b, m, e, rows);
-    pad(out, at, c, align)
+    let b = fields(out, a, f);
+    let c = starts(out, b, f);
+    pad(out, at, c, f.align)
 }
 
 // ---- its relocation
 
 // How many relocations a header has: one where it names a personality, none in debug_frame.
 #[tactic(auto, unfolding(crate::specs::Kinds::header_reloc_count, crate::specs::Kinds::flag, format::specs::Prelude::pick))]
-pub fn header_relocs_count(debug: bool, e: Extent) -> usize
-    ensures { result ≡ header_reloc_count debug e }
+pub fn header_relocs_count(f: &Function) -> usize
+    ensures { result ≡ header_reloc_count f.now.debug f.now.extent }
 {
-    if debug {
+    if f.debug {
         return 0;
     }
-    match kind_of(e) {
+    match kind_of(&f.extent) {
         Kind::Plain => 0,
         Kind::Personal => 1,
         Kind::Named => 1,
@@ -360,45 +325,38 @@ pub fn header_relocs_count(debug: bool, e: Extent) -> usize
 }
 
 // The place of the personality's pointer, behind its encoding, the first byte of the augmentation data.
-fn pointer_place(m: Machine, at: usize, e: Extent) -> u64
-    requires { (m.word ≤ 8) × (at < 2 ^ 32) }
-    ensures { result ≡ pointer_place m at (head_in e) }
+fn pointer_place(f: &Function, at: usize) -> u64
+    requires { (f.now.debug ≡ false) × (at < 2 ^ 32) }
+    ensures { result ≡ pointer_place f.now.machine.now at (head_in f.now.extent) }
 {
-    (at + 4 + fields_size(false, m, e) - data_size(m.word, e) + 1) as u64
+    (at + 4 + fields_size(f) - data_size(f) + 1) as u64
 }
 
 // The relocation of a header's personality.
-pub fn header_relocs(
-    out: &mut [u64],
-    i: usize,
-    debug: bool,
-    m: Machine,
-    at: usize,
-    e: Extent,
-) -> usize
-    requires { MachineFits m × (at < 2 ^ 32) × (i + 5 * header_reloc_count debug e ≤ length out.old) }
-    ensures { Wrote out.old out.new i result (numbers_of (header_relocs debug m at (key_in m e []))) }
+pub fn header_relocs(out: &mut [u64], i: usize, f: &Function, at: usize) -> usize
+    requires { (at < 2 ^ 32) × (i + 5 * header_reloc_count f.now.debug f.now.extent ≤ length out.old) }
+    ensures { Wrote out.old out.new i result (numbers_of (header_relocs_of f.now at)) }
 {
-    if debug {
+    if f.debug {
         return i;
     }
-    match kind_of(e) {
+    match kind_of(&f.extent) {
         Kind::Plain => i,
         Kind::Personal => pointer(
             out,
             i,
-            m.word,
-            pointer_place(m, at, e),
+            f.machine.word,
+            pointer_place(f, at),
             relocs::PERSONALITY,
             encodings::INDIRECT_PCREL_SDATA4,
         ),
         Kind::Named => pointer(
             out,
             i,
-            m.word,
-            pointer_place(m, at, e),
-            e.routine,
-            e.encoding,
+            f.machine.word,
+            pointer_place(f, at),
+            f.extent.routine,
+            f.extent.encoding,
         ),
     }
 }

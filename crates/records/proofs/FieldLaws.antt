@@ -2,13 +2,13 @@
 use mathlib.Core.Path.{◌≡◌, refl}
 use Prim.Native.Nat.{ℕ, zero, suc, ◌+◌, ◌*◌}
 use native.Mathlib.Omega.{arith}
-use mathlib.Core.Bool.{Bool, true, false, not}
+use mathlib.Core.Bool.{Bool, true, false}
 use mathlib.Core.Logic.{◌≢◌}
 use mathlib.Core.Option.{none, some}
 use mathlib.Core.List.{List, ◌++◌}
 use lib.ListN.{length, replicate, length-append, length-replicate}
 use lib.Dec.{eqb}
-use borrow.Author.Tests.{eq-eqb, ne_eqb, not-true, not-false}
+use borrow.Author.Tests.{eq-eqb, ne_eqb}
 use Rattle.format.specs.Prelude.{pick, each}
 use Rattle.format.specs.Leb.{uleb}
 use Rattle.format.specs.Lists.{Landing, Pointer, Relaxed}
@@ -59,13 +59,13 @@ module _ {X : Type 0} (e : Extent) (without named table : X) where
     unfolding pointed pick
     by_none t = simp (eq-eqb _ _ h, t)
 
-    pub by_no_lsda : e.personality ≡ true → not e.lsda ≡ true → pointed e without named table ≡ without
+    pub by_no_lsda : e.personality ≡ true → e.lsda ≡ false → pointed e without named table ≡ without
     unfolding pointed pick
-    by_no_lsda t u = simp (eq-eqb _ _ h, t, not-true e.lsda u)
+    by_no_lsda t u = simp (eq-eqb _ _ h, t, u)
 
-    pub by_lsda : e.personality ≡ true → not e.lsda ≡ false → pointed e without named table ≡ named
+    pub by_lsda : e.personality ≡ true → e.lsda ≡ true → pointed e without named table ≡ named
     unfolding pointed pick
-    by_lsda t u = simp (eq-eqb _ _ h, t, not-false e.lsda u)
+    by_lsda t u = simp (eq-eqb _ _ h, t, u)
 
 -- ---- how long they are
 

@@ -9,7 +9,7 @@ use lib.ListN.{length, length-append}
 use Rattle.format.specs.Prelude.{pick, each}
 use Rattle.format.specs.declared.Machine.{Machine}
 use Rattle.format.specs.Rows.{RowAt}
-use Rattle.format.specs.Lists.{Function, Landing, Named, Pointer, Relaxed, row_at, numbers_of}
+use Rattle.format.specs.Lists.{Function, Landing, Named, Pointer, Relaxed, row_at, numbers_of, pair_at}
 use Rattle.format.specs.Headers.{ahead, others}
 use Rattle.format.proofs.ListLaws.{numbers_length, numbers_append}
 use Rattle.format.specs.Records.{pointer_to, named_reloc, lsda_reloc, record_fields, sum_pair, row_relocs, record_relocs}
@@ -90,26 +90,26 @@ module _ (debug : Bool) (m : Machine) (at cie table : ℕ) (e : Extent) (rows pa
 
   module _ {k : ℕ} (q : (k ≡ length (ahead (each (row_at rows) e.rows_at e.rows))) × (k ≤ e.rows)) (h : e.relaxed ≡ true) where
     relocs_relaxed : record_relocs debug m at cie table (meant e rows [] pairs) ≡ field_relocs debug m.word at cie table e
-        ++ steps_in m.word (at + 4 + length (fields_in debug m.word 0 e)) 0 rows (e.rows_at + k) (e.rows - k) e pairs
+        ++ steps_in m.word (at + 4 + length (fields_in debug m.word 0 e)) 0 rows (e.rows_at + k) (e.rows - k) (each (pair_at pairs) e.pairs_at e.pairs)
     unfolding meant row_relocs steps_in pick
     relocs_relaxed = relocs_are ∙ simp (h, others_are e rows q)
 
     pub relaxed_numbers : numbers_of (record_relocs debug m at cie table (meant e rows [] pairs)) ≡ numbers_of (field_relocs debug m.word at cie table e)
-        ++ numbers_of (steps_in m.word (at + 4 + length (fields_in debug m.word 0 e)) 0 rows (e.rows_at + k) (e.rows - k) e pairs)
+        ++ numbers_of (steps_in m.word (at + 4 + length (fields_in debug m.word 0 e)) 0 rows (e.rows_at + k) (e.rows - k) (each (pair_at pairs) e.pairs_at e.pairs))
     relaxed_numbers = rw (relocs_relaxed, numbers_append)
 
     pub relaxed_room : 5 * length (record_relocs debug m at cie table (meant e rows [] pairs)) ≡ length (numbers_of (field_relocs debug m.word at cie table e))
-        + length (numbers_of (steps_in m.word (at + 4 + length (fields_in debug m.word 0 e)) 0 rows (e.rows_at + k) (e.rows - k) e pairs))
+        + length (numbers_of (steps_in m.word (at + 4 + length (fields_in debug m.word 0 e)) 0 rows (e.rows_at + k) (e.rows - k) (each (pair_at pairs) e.pairs_at e.pairs)))
     relaxed_room = rw (← numbers_length, relaxed_numbers, length-append)
 
     pub relaxed_count : length (record_relocs debug m at cie table (meant e rows [] pairs))
-        ≡ length (field_relocs debug 0 0 0 0 e) + length (steps_in 0 0 0 rows (e.rows_at + k) (e.rows - k) e pairs)
+        ≡ length (field_relocs debug 0 0 0 0 e) + length (steps_in 0 0 0 rows (e.rows_at + k) (e.rows - k) (each (pair_at pairs) e.pairs_at e.pairs))
     relaxed_count =
         rw (relocs_relaxed, length-append)
         (omega (
           arith,
           field_count debug m.word at cie table e,
-          steps_counted m.word (at + 4 + length (fields_in debug m.word 0 e)) 0 rows (e.rows_at + k) (e.rows - k) e pairs,
+          steps_counted m.word (at + 4 + length (fields_in debug m.word 0 e)) 0 rows (e.rows_at + k) (e.rows - k) (each (pair_at pairs) e.pairs_at e.pairs),
         ))
 
   pub plain_count : e.relaxed ≡ false → length (record_relocs debug m at cie table (meant e rows [] pairs)) ≡ length (field_relocs debug 0 0 0 0 e)

@@ -26,8 +26,8 @@ use format::{Counts, Refusal, Seh};
 use given::{Input, Output, Source, Span};
 use leb::fill;
 use lists::{
-    code_at, code_offset_at, codes_ok, extent_at, lists_ok, machine_of, machine_ok, prologue_at,
-    room, word_ok,
+    Lists, code_at, code_offset_at, codes_ok, extent_at, machine_of, machine_ok, prologue_at, room,
+    word_ok,
 };
 use prologue::given::{FunctionRows, X64Machine};
 use relocs::{number, relocation};
@@ -558,7 +558,13 @@ pub fn windows(
             position: 0,
         });
     }
-    if !lists_ok(functions, rows, landings, pairs) {
+    let given = Lists {
+        functions,
+        rows,
+        landings,
+        pairs,
+    };
+    if !given.ok() {
         return Err(Refusal {
             number: 13,
             position: 0,
