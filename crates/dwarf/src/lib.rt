@@ -137,21 +137,23 @@ fn rows_whole(x: &Input, e: &Extent) -> bool
     true
 }
 
-// Questions 23 and 24 in one pass, asked for more. A no says nothing.
+// Questions 23 and 24 in one pass, asked for more. A no says nothing. With the word in a local the compiler tests it once.
 fn lines_fine(x: &Input, e: &Extent) -> bool
     requires { RowsIn (inputs_of x.now) e.now }
     ensures { result ≡ true → (steps_ok 0 (rows_of (inputs_of x.now) e.now) ≡ true) × (whole_in (inputs_of x.now) e.now ≡ true) }
 {
+    let word = x.machine.word;
+    let rows = x.lists.rows;
     let mut from = 0;
     for i in e.rows_at..e.rows_at + e.rows {
-        let to = offset_at(x.lists.rows, i);
+        let to = offset_at(rows, i);
         if to < from {
             return false;
         }
         if rows::STEPS <= to - from {
             return false;
         }
-        if !RowNumbers::at(x.lists.rows, i).surely_whole(x.machine.word) {
+        if !RowNumbers::at(rows, i).surely_whole(word) {
             return false;
         }
         from = to;

@@ -71,6 +71,7 @@ impl RowNumbers {
     }
 
     // The row's operation.
+    // Kept: a writer's buffer and place, as in leb, and the word, one number of the machine.
     pub fn put(self, out: &mut [u8], at: usize, word: u64) -> usize
         requires { (2 ≤ word) × (word ≤ 8) × (at + length (row_bytes word (means self)) ≤ length out.old) }
         ensures { Wrote out.old out.new at result (row_bytes word (means self)) }
