@@ -25,8 +25,8 @@ fn table_place(section: &[u8], relocations: &[u64], k: u64) -> Option<u64>
     if !entries::tiles(section) {
         return None;
     }
-    let (at, _) = entries::record_span(section, false, k)?;
-    let place = location::first_addend(relocations, (at + POINTER_FIELD) as u64)?;
+    let record = entries::record_span(section, false, k)?;
+    let place = location::first_addend(relocations, (record.at + POINTER_FIELD) as u64)?;
     Some(place as u64)
 }
 
