@@ -115,6 +115,7 @@ impl Operations<'_> {
     }
 
     // The offset behind opcode b.
+    // Kept: a position and an opcode, here and below, are two numbers of one call; a struct of them would be made for it alone.
     fn operand_at(&self, at: Position, b: u8) -> Option<(i64, Position)>
         ensures { result ≡ operand_at self.now.word b self.now.bytes.now at }
     {

@@ -21,6 +21,7 @@ pub struct Landings<'a> {
 
 impl Landings<'_> {
     // Their entries.
+    // Kept: the list and the place stand apart here and below, as in leb.
     fn put(&self, out: &mut [u8], at: usize) -> usize
         requires { at + length (sites_in self.now.list.now self.now.at self.now.n) ≤ length out.old }
         ensures { Wrote out.old out.new at result (sites_in self.now.list.now self.now.at self.now.n) }

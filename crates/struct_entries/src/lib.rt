@@ -437,6 +437,7 @@ pub extern "C" fn unwind_row_check_of(simple: u64, rows: &[RowAt]) -> u64
     u64::from(rows_checked(simple, rows))
 }
 
+// Kept: here and in the next one the lists one by one, as C lends them.
 // unwind_relaxed_table over lists of structs; landings and pairs are lists of numbers. `numbers` is room for 18 numbers a function and 4 a row, all
 // zero, else 54, asked behind 11 and 12. It goes back as it came.
 #[unsafe(no_mangle)]

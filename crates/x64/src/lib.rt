@@ -229,6 +229,7 @@ impl Span<'_, '_> {
         b
     }
 
+    // Kept: the list and the place stand apart here and in `describe`, as in leb.
     // The codes in reverse: the first stands last, `held` slots up from `at`, and each other one before it.
     fn put_codes(&self, out: &mut [u8], at: usize, held: usize) -> usize
         requires { (first_no code_no (codes_by self.now) ≡ none) × (held ≡ slots (codes_by self.now)) × (at + 2 * held ≤ length out.old) }
