@@ -3,7 +3,7 @@ use mathlib.Core.Path.{◌≡◌, refl, sym, ap, ◌∙◌}
 use mathlib.Core.Bool.{false}
 use mathlib.Core.Option.{Option, none, some}
 use mathlib.Core.List.{List, [], ◌∷◌, ◌++◌}
-use Prim.Native.Nat.{ℕ, zero, suc, ◌+◌, ◌*◌, ◌≤◌, ◌<◌}
+use Prim.Native.Nat.{ℕ, zero, suc, ◌+◌, ◌-◌, ◌*◌, ◌≤◌, ◌<◌}
 use native.Mathlib.Omega.{arith}
 use native.Mathlib.Numerals.{add-one}
 use lib.ListN.{length, get_or, drop, drop_of_length-le}
@@ -29,6 +29,15 @@ slot_few : (x : Option Code) (cs : List Code) → length (with_slot x cs) ≤ su
 unfolding with_slot
 slot_few none cs = omega arith
 slot_few (some c) cs = omega arith
+
+module _ (at : ℕ → Option Code) where
+  pub next_slot : (i : ℕ) → i < 19 → slots_from at i (19 - i) ≡ with_slot (at i) (slots_from at (i + 1) (19 - (i + 1)))
+  unfolding slots_from
+  next_slot i h = let z : 19 - i ≡ suc (19 - (i + 1)) = omega arith in rw (z, add-one i) refl
+
+  pub last_slot : (i : ℕ) → 19 ≤ i → slots_from at i (19 - i) ≡ []
+  unfolding slots_from
+  last_slot i h = let z : 19 - i ≡ 0 = omega arith in rw z
 
 -- the codes as the library's `filter_map` of the places gives them
 pub slots_mapped : (at : ℕ → Option Code) (k n : ℕ) → filter_map (λ i. option_of (at i)) (range_with_len k n) ≡ slots_from at k n

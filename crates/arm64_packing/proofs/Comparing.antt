@@ -1,22 +1,25 @@
--- A run compared with the places of a packed word, and the epilogue's places backwards.
+-- A run compared with the places of a packed word: what the loop knows at each turn, and the epilogue's places backwards.
 use mathlib.Core.Path.{◌≡◌, refl, sym, ap, ◌∙◌}
-use mathlib.Core.Bool.{Bool, true, false}
+use mathlib.Core.Bool.{Bool, true, false, not, ◌&&◌}
+use Rattle.arm64_simple.proofs.OneCode.{not_yes, not_no}
 use mathlib.Core.List.{List, [], ◌∷◌, ◌++◌, append-nil}
-use Prim.Native.Nat.{ℕ, zero, suc, ◌+◌, ◌-◌}
+use Prim.Native.Nat.{ℕ, zero, suc, ◌+◌, ◌-◌, ◌≤◌, ◌<◌}
 use native.Mathlib.Omega.{arith}
 use borrow.Author.Tests.{eq-eqb}
 use Rattle.arm64.specs.declared.Code.{Code}
 use Rattle.arm64.specs.declared.Packed.{Packed}
 use mathlib.Core.Option.{Option, none, some}
+use Rattle.std.specs.Prelude.{Some, None}
+use Rattle.std.specs.Prelude as code
+use Rattle.std.specs.Option.{MatchOption, is_some}
 use Rattle.arm64.specs.Packed.{with_slot, slots_from, slot_at, packed_prologue, packed_epilogue}
 use Rattle.arm64.specs.Meaning.{reverse}
-use Rattle.arm64.specs.Runs.{no_pair, same_code, same_codes}
+use Rattle.arm64.specs.Runs.{no_pair, same_code, same_codes, resolved}
 use Rattle.arm64.proofs.PackingLaws.{equal_all, reverse_twice}
-use Rattle.arm64_packed.proofs.Places.{slots_mapped}
-use Rattle.std.specs.List.{filter_map, range_with_len}
-use Rattle.format.proofs.Asked.{option_of}
+use Rattle.arm64_packed.proofs.Places.{next_slot, last_slot}
 use Rattle.arm64_simple.specs.declared.Run.{Run}
 use Rattle.arm64_simple.specs.Saves.{saves}
+use Rattle.arm64_simple.specs.declared.Step.{Step}
 use Rattle.arm64_simple.specs.Steps.{steps}
 use Rattle.arm64_simple.proofs.Loops.{resolves, resolves_all}
 use Rattle.arm64_packing.specs.Places.{placed, given}
@@ -31,13 +34,69 @@ pub place_forth : {undone : Bool} (p : Packed) (i : ℕ) → undone ≡ false �
 unfolding placed
 place_forth p i e = rw e
 
--- ---- the run, and the places that have a code
+-- ---- the loop
 
-pub given_places : (cs : List ℕ) (r : Run) (f : ℕ → Option Code) {b : Bool}
-    → b ≡ same_codes (resolves (steps no_pair (saves cs r))) (filter_map (λ i. option_of (f i)) (range_with_len 0 19)) → b ≡ same_codes (given cs r) (slots_from f 0 19)
-given_places cs r f e =
-    e ∙ ap (λ x. same_codes x (filter_map (λ i. option_of (f i)) (range_with_len 0 19))) (resolves_all no_pair (saves cs r))
-    ∙ ap (same_codes (given cs r)) (slots_mapped f 0 19)
+short : (d : Code) (es : List Code) → same_codes [] (d ∷ es) ≡ false
+unfolding same_codes
+short d es = refl
+
+same_next : (c d : Code) (cs es : List Code) → same_codes (c ∷ cs) (d ∷ es) ≡ (same_code c d && same_codes cs es)
+unfolding same_codes
+same_next c d cs es = refl
+
+pub record Matching (all : List Code) (f : ℕ → Option Code) (left : List Step) (next : ℕ) : Type 0 where
+  pub most : next ≤ 19
+  pub same : same_codes all (slots_from f 0 19) ≡ same_codes (resolves left) (slots_from f next (19 - next))
+
+pub matching_start : (cs : List ℕ) (r : Run) (f : ℕ → Option Code) {left : List Step} → left ≡ steps no_pair (saves cs r) → Matching (given cs r) f left 0
+matching_start cs r f l =
+    record { most = omega arith; same = ap (λ x. same_codes x (slots_from f 0 19)) (sym (ap resolves l ∙ resolves_all no_pair (saves cs r))) }
+
+module _ {all : List Code} {f : ℕ → Option Code} {left : List Step} {i : ℕ} (m : Matching all f left i) where
+  module _ (h : i < 19) where
+    behind : {o : Option Code} → f i ≡ o
+        → same_codes all (slots_from f 0 19) ≡ same_codes (resolves left) (with_slot o (slots_from f (i + 1) (19 - (i + 1))))
+    behind e =
+        m.same ∙ ap (same_codes (resolves left)) (next_slot f i h)
+        ∙ ap (λ t. same_codes (resolves left) (with_slot t (slots_from f (i + 1) (19 - (i + 1))))) e
+
+    pub matching_empty : f i ≡ none → Matching all f left (i + 1)
+    unfolding with_slot
+    matching_empty e = record { most = omega arith; same = behind e }
+
+    module _ {d : Code} (e : f i ≡ some d) where
+      pub matching_short : left ≡ [] → false ≡ same_codes all (slots_from f 0 19)
+      unfolding with_slot
+      matching_short n =
+          sym
+          (behind e ∙ ap (λ x. same_codes (resolves x) (d ∷ slots_from f (i + 1) (19 - (i + 1)))) n
+          ∙ short d (slots_from f (i + 1) (19 - (i + 1))))
+
+      module _ {later : List Step} {s : Step} (n : left ≡ s ∷ later) {y : Code} (g : y ≡ resolved s.before s.written) where
+        cut : same_codes all (slots_from f 0 19) ≡ (same_code y d && same_codes (resolves later) (slots_from f (i + 1) (19 - (i + 1))))
+        unfolding with_slot
+        cut =
+            behind e ∙ ap (λ x. same_codes (resolves x) (d ∷ slots_from f (i + 1) (19 - (i + 1)))) n
+            ∙ same_next (resolved s.before s.written) d (resolves later) (slots_from f (i + 1) (19 - (i + 1)))
+            ∙ ap (λ z. same_code z d && same_codes (resolves later) (slots_from f (i + 1) (19 - (i + 1)))) (sym g)
+
+        pub matching_stopped : same_code y d ≡ false → false ≡ same_codes all (slots_from f 0 19)
+        matching_stopped o = sym (cut ∙ ap (λ t. t && same_codes (resolves later) (slots_from f (i + 1) (19 - (i + 1)))) o)
+
+        pub matching_turn : same_code y d ≡ true → Matching all f later (i + 1)
+        matching_turn o =
+            record { most = omega arith; same = cut ∙ ap (λ t. t && same_codes (resolves later) (slots_from f (i + 1) (19 - (i + 1)))) o }
+
+  module _ (h : 19 ≤ i) where
+    ended : same_codes all (slots_from f 0 19) ≡ same_codes (resolves left) []
+    ended = m.same ∙ ap (same_codes (resolves left)) (last_slot f i h)
+
+    -- by what the next step is
+    pub matching_ended : (later : List Step) (r : code.Option Step) {b : Bool} → MatchOption r ((left ≡ []) × (later ≡ [])) (λ s. left ≡ s ∷ later)
+        → is_some r ≡ not b → b ≡ same_codes all (slots_from f 0 19)
+    unfolding same_codes
+    matching_ended later None {b} n e = not_no b e ∙ sym (ended ∙ ap (λ x. same_codes (resolves x) []) n.0)
+    matching_ended later (Some s) {b} n e = not_yes b e ∙ sym (ended ∙ ap (λ x. same_codes (resolves x) []) n)
 
 -- ---- the epilogue's places backwards
 

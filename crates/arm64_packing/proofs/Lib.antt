@@ -3,4 +3,3 @@ pub mod Counts
 pub mod Tallies
 pub mod Comparing
 pub mod Answers
-pub mod Equal

@@ -1,6 +1,6 @@
 -- One code: the answers of the leaves, by the code's own tests.
 use mathlib.Core.Path.{◌≡◌, refl, sym, ap, ◌∙◌}
-use mathlib.Core.Bool.{Bool, true, false, ◌&&◌, ◌||◌, and-true, and-false, or-true}
+use mathlib.Core.Bool.{Bool, true, false, not, ◌&&◌, ◌||◌, and-true, and-false, or-true}
 use Prim.Native.Nat.{ℕ, ◌+◌, ◌*◌, ◌≤◌, ◌<◌}
 use native.Mathlib.Omega.{arith}
 use lib.Dec.{ltb, eqb}
@@ -24,6 +24,20 @@ and_assoc false y z = refl
 pub same_is : (a b : Code) → (eqb a.kind b.kind && (eqb a.register b.register && eqb a.offset b.offset)) ≡ same_code a b
 unfolding same_code
 same_is a b = and_assoc (eqb a.kind b.kind) (eqb a.register b.register) (eqb a.offset b.offset)
+
+pub not_yes : (x : Bool) → true ≡ not x → x ≡ false
+not_yes true e = e
+not_yes false e = refl
+
+pub not_no : (x : Bool) → false ≡ not x → x ≡ true
+not_no true e = refl
+not_no false e = e
+
+pub differing : (a b : Code) → true ≡ not (eqb a.kind b.kind && (eqb a.register b.register && eqb a.offset b.offset)) → same_code a b ≡ false
+differing a b e = sym (same_is a b) ∙ not_yes (eqb a.kind b.kind && (eqb a.register b.register && eqb a.offset b.offset)) e
+
+pub agreeing : (a b : Code) → false ≡ not (eqb a.kind b.kind && (eqb a.register b.register && eqb a.offset b.offset)) → same_code a b ≡ true
+agreeing a b e = sym (same_is a b) ∙ not_no (eqb a.kind b.kind && (eqb a.register b.register && eqb a.offset b.offset)) e
 
 module _ (c : Code) where
   -- shorter

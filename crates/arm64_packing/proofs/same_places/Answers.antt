@@ -1,22 +1,28 @@
 -- `arm64_packing::same_places` meets its contract.
-use mathlib.Core.Path.{◌≡◌, refl}
-use native.Mathlib.Omega.{arith}
-use borrow.Author.Tests.{tests}
-use Rattle.std.proofs.Common.{rules}
-use Rattle.std.proofs.lemmas.Iterator.{YieldsList-from_range, YieldsList-from_map}
-use Rattle.std.proofs.lemmas.Iterator.Consumers.{YieldsList-at, YieldsList-from_first, YieldsList-from_filter_map}
-use Rattle.format.proofs.Asked.{option_of}
-use Rattle.arm64.specs.Runs.{resolved}
-use Rattle.arm64_simple.specs.Steps.{steps_left}
+use mathlib.Core.Path.{sym, ◌∙◌}
+use Rattle.arm64.proofs.Coded.{is_none, is_some}
+use Rattle.arm64_simple.proofs.OneCode.{differing, agreeing}
 use Rattle.arm64_packing.specs.Places.{placed}
-use Rattle.arm64_packing.proofs.Comparing.{given_places}
-use Rattle.arm64_packing.proofs.Equal.{same_from_yields}
+use Rattle.arm64_packing.proofs.Comparing.{matching_start, matching_empty, matching_short, matching_stopped, matching_turn, matching_ended}
 use Rattle.arm64_packing.proofs.same_places.Goals as goal
 
+pub places-init : goal.places-init
+places-init c = matching_start c.args.run.now.list.now c.args.run.now.run (placed c.args.undone c.args.p) c.steps-steps.ensures
+
+pub places-preserved-in_default-whole : goal.places-preserved-in_default-whole
+places-preserved-in_default-whole c = ((tt, tt), matching_empty c.places.invariant c.places-test.true (is_none _ (sym c.place.ensures ∙ c.in_default.is)))
+
+pub next-requires : goal.next-requires
+next-requires c = tt
+
+pub returns-in_default-next : goal.returns-in_default-next
+returns-in_default-next c = matching_short c.places.invariant c.places-test.true (is_some _ (sym c.place.ensures ∙ c.in-Some.is)) c.in_default-next.ensures.steps.0
+
+pub returns-then-ne : goal.returns-then-ne
+returns-then-ne c = matching_stopped c.places.invariant c.places-test.true (is_some _ (sym c.place.ensures ∙ c.in-Some.is)) c.in-Some-next.ensures.steps c.resolved.ensures (differing _ _ c.if-ne.ensures)
+
+pub places-preserved-whole : goal.places-preserved-whole
+places-preserved-whole c = ((tt, tt), matching_turn c.places.invariant c.places-test.true (is_some _ (sym c.place.ensures ∙ c.in-Some.is)) c.in-Some-next.ensures.steps c.resolved.ensures (agreeing _ _ c.if-ne.ensures))
+
 pub returns : goal.returns
-returns c =
-    let at = placed c.args.undone c.args.p in
-    given_places c.args.run.now.list.now c.args.run.now.run at
-    (same_from_yields (λ a b. b ≡ a) c.filter_map.result c.eq.result c.eq.ensures.ran
-    (YieldsList-from_map _ (λ s. resolved s.before s.written) (YieldsList-at c.map.ensures.source (YieldsList-from_first (λ x. x) steps_left {s = c.steps.result} _ c.steps.ensures)) c.map.ensures.closure (λ x r q k. search (rules, tests)))
-    (λ it b. YieldsList-at b (YieldsList-from_filter_map _ (λ i. option_of (at i)) (YieldsList-at c.filter_map.ensures.source (YieldsList-from_range 0 19 19 refl (omega arith))) c.filter_map.ensures.closure (λ x r q k. search (rules, tests)))))
+returns c = matching_ended c.places.invariant c.places-test.false _ _ c.next-2.ensures.steps c.is_none.ensures
