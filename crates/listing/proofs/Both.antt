@@ -2,7 +2,7 @@
 use mathlib.Core.Path.{◌≡◌, refl, sym, ap, ◌∙◌}
 use Prim.Native.Nat.{ℕ, zero, suc, ◌+◌, ◌-◌, ◌*◌, ◌/◌, ◌≤◌, ◌<◌}
 use native.Mathlib.Omega.{arith}
-use mathlib.Core.Bool.{Bool, true, false}
+use mathlib.Core.Bool.{true, false}
 use mathlib.Core.List.{List}
 use lib.ListN.{length, get_or, length-take}
 use lib.Dec.{eqb}
@@ -13,9 +13,10 @@ use Rattle.format.proofs.Wrote.{Wrote}
 use Rattle.operations.specs.declared.fields.Position.{Position}
 use Rattle.reader.specs.OneRegister as one
 use Rattle.reader.specs.Spans.{part}
+use Rattle.reader.specs.Finds.{spans_of}
 use Rattle.reader.specs.declared.location.Located.{Located}
 use Rattle.reader.specs.declared.section.Span.{Span}
-use Rattle.reader.proofs.Both.{spans_of, operations_are, later, none_left}
+use Rattle.reader.proofs.Both.{operations_are, later, none_left}
 use Rattle.std.specs.Prelude.{Some, None}
 use Rattle.std.specs.Prelude as std
 use Rattle.reader.specs.States.{run_of}
@@ -107,12 +108,12 @@ module _ {q : ℕ} {s : List ℕ} {l : Located} {old : List ℕ} where
       }
 
   module _ {whole : Lines} {out : List ℕ} {initial : std.Option Rule} {state : code.State} {i loc done : ℕ} (b : Between whole q s l old out initial state i loc done) where
-    pub enter : done < 2 → (d : Span)
-        → Inside whole (eqb done 0) l.word q initial (part s (get_or (spans_of l) done d).at (get_or (spans_of l) done d).end) (left s l (done + 1)) (more_in l) out out state i loc (record { at = 0; shortest = true })
+    pub enter : done < 2 → (d : Span) → {spans : List Span} → spans ≡ spans_of l
+        → Inside whole (eqb done 0) l.word q initial (part s (get_or spans done d).at (get_or spans done d).end) (left s l (done + 1)) (more_in l) out out state i loc (record { at = 0; shortest = true })
     unfolding run_of rules_for one.at
-    enter h d =
-        let p : part s (get_or (spans_of l) done d).at (get_or (spans_of l) done d).end ≡ pick (eqb done 0) (part s l.header l.header_end) (part s l.«record» l.record_end) =
-        operations_are s l d done h in
+    enter h d {spans} e =
+        let p : part s (get_or spans done d).at (get_or spans done d).end ≡ pick (eqb done 0) (part s l.header l.header_end) (part s l.«record» l.record_end) =
+        operations_are s l d e done h in
         record {
           near = b.near;
           first = b.all.current.rules;

@@ -11,7 +11,6 @@ use format::{Operation, Rules};
 use operations::fields::Position;
 use reader::location::Located;
 use reader::run;
-use reader::section::Span;
 
 // The largest offset.
 const HIGHEST: u64 = 0xffffffffffffffff;
@@ -53,17 +52,9 @@ pub fn fill(s: &[u8], l: &Located, q: u16, out: &mut [u64]) -> Listed
     let mut state = run::start();
     let mut i = 0;
     let mut loc = 0;
-    let header = Span {
-        at: l.header,
-        end: l.header_end,
-    };
-    let record = Span {
-        at: l.record,
-        end: l.record_end,
-    };
     // The followed register's rule after the header, which a header's operations do not have.
     let mut initial = None;
-    'entries: for span in [header, record] {
+    'entries: for span in l.operations() {
         let from = span.at;
         let to = span.end;
         let ops = &s[from..to];

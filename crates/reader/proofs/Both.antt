@@ -3,7 +3,7 @@ use mathlib.Core.Path.{◌≡◌, refl, sym, ap, ◌∙◌}
 use Prim.Native.Nat.{ℕ, zero, suc, ◌+◌, ◌≤◌, ◌<◌}
 use native.Mathlib.Omega.{arith}
 use mathlib.Core.Bool.{true, false}
-use mathlib.Core.List.{List, [], ◌∷◌}
+use mathlib.Core.List.{List}
 use lib.ListN.{length, get_or}
 use lib.Dec.{T, eqb}
 use Rattle.format.specs.Prelude.{pick, Result, good, bad, onward}
@@ -16,7 +16,7 @@ use Rattle.std.specs.Prelude as std
 use Rattle.reader.specs.declared.run.State as code
 use Rattle.reader.specs.OneRegister as one
 use Rattle.reader.specs.Spans.{part}
-use Rattle.reader.specs.Finds.{found, run_both, in_section}
+use Rattle.reader.specs.Finds.{spans_of, found, run_both, in_section}
 use Rattle.reader.specs.declared.location.Located.{Located}
 use Rattle.reader.specs.declared.section.Span.{Span}
 use Rattle.reader.specs.States.{run_of}
@@ -48,24 +48,28 @@ module _ (word p : ℕ) (h r : List ℕ) (t : State) where
   all_run (suc zero) a = absurd (omega arith)
   all_run (suc (suc n)) a = refl
 
--- where the operations of the header are, and those of the record
-abbrev pub spans_of : Located → List Span
-spans_of l = record { at = l.header; end = l.header_end } ∷ record { at = l.«record»; end = l.record_end } ∷ []
-
-module _ (s : List ℕ) (l : Located) (d : Span) where
-  -- they lie in the section
-  pub lies : T (in_section s l) → (i : ℕ) → i < 2 → ((get_or (spans_of l) i d).at ≤ (get_or (spans_of l) i d).end) × ((get_or (spans_of l) i d).end ≤ length s)
-  lies t zero a = ((places s l t).1, (places s l t).2)
-  lies t (suc zero) a = ((places s l t).3, (places s l t).4)
-  lies t (suc (suc n)) a = absurd (omega arith)
+module _ (s : List ℕ) (l : Located) (d : Span) {spans : List Span} (e : spans ≡ spans_of l) where
+  -- the operations lie in the section
+  pub lies : T (in_section s l) → (i : ℕ) → i < 2 → ((get_or spans i d).at ≤ (get_or spans i d).end) × ((get_or spans i d).end ≤ length s)
+  unfolding spans_of
+  lies t i a = rw e (by i a)
+    where
+      by : (i : ℕ) → i < 2 → ((get_or (spans_of l) i d).at ≤ (get_or (spans_of l) i d).end) × ((get_or (spans_of l) i d).end ≤ length s)
+      by zero a = ((places s l t).1, (places s l t).2)
+      by (suc zero) a = ((places s l t).3, (places s l t).4)
+      by (suc (suc n)) a = absurd (omega arith)
 
   -- and are these bytes of it
   pub operations_are : (i : ℕ) → i < 2
-      → part s (get_or (spans_of l) i d).at (get_or (spans_of l) i d).end ≡ pick (eqb i 0) (found s l).header.operations (found s l).found.operations
-  unfolding pick
-  operations_are zero a = refl
-  operations_are (suc zero) a = refl
-  operations_are (suc (suc n)) a = absurd (omega arith)
+      → part s (get_or spans i d).at (get_or spans i d).end ≡ pick (eqb i 0) (found s l).header.operations (found s l).found.operations
+  unfolding spans_of pick
+  operations_are i a = rw e (by i a)
+    where
+      by : (i : ℕ) → i < 2
+          → part s (get_or (spans_of l) i d).at (get_or (spans_of l) i d).end ≡ pick (eqb i 0) (found s l).header.operations (found s l).found.operations
+      by zero a = refl
+      by (suc zero) a = refl
+      by (suc (suc n)) a = absurd (omega arith)
 
 abbrev pub left : (s : List ℕ) (l : Located) (word p i : ℕ) → State → Result State
 left s l word p i = remaining word p (found s l).header.operations (found s l).found.operations i
@@ -96,17 +100,17 @@ module _ {p q : ℕ} {s : List ℕ} {l : Located} where
   begin e = record { given = λ h. refl; all = blank; seen = sym e; rest = refl }
 
   module _ {whole : Reading} {i : ℕ} {initial : std.Option Rule} {state : code.State} (b : Between whole p q s l i initial state) where
-    pub enter : i < 2 → (d : Span)
-        → Inside whole (eqb i 0) l.word p q initial (part s (get_or (spans_of l) i d).at (get_or (spans_of l) i d).end) (left s l l.word p (i + 1)) (record { at = 0; shortest = true }) 0 state
+    pub enter : i < 2 → (d : Span) → {spans : List Span} → spans ≡ spans_of l
+        → Inside whole (eqb i 0) l.word p q initial (part s (get_or spans i d).at (get_or spans i d).end) (left s l l.word p (i + 1)) (record { at = 0; shortest = true }) 0 state
     unfolding run run_of rules_for one.at
-    enter h d =
+    enter h d e =
         record {
           near = omega arith;
           first = b.all.current.rules;
           first_is = ap (λ (r : one.Run). one.initial_of (eqb i 0) r.current.rule) b.seen ∙ sym (b.given h);
           all = b.all;
           seen = b.seen;
-          rest = b.rest ∙ rw (operations_are s l d i h, one_entry l.word p (found s l).header.operations (found s l).found.operations b.all i h);
+          rest = b.rest ∙ rw (operations_are s l d e i h, one_entry l.word p (found s l).header.operations (found s l).found.operations b.all i h);
         }
 
     -- an entry is done: the header, after which the rule that it leaves is the initial one, or the record

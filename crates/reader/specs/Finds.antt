@@ -1,5 +1,5 @@
 -- What is found of record k: where its operations and its header's are, the few numbers that go with them, and the rules from there on.
-use Rattle.std.specs.Prelude.{◌≡◌, Bool, true, false, ◌&&◌, ℕ, ◌-◌, ◌/◌, ◌≤◌, List, length, T, leb, eqb, Ok, Err, Some, None}
+use Rattle.std.specs.Prelude.{◌≡◌, Bool, true, false, ◌&&◌, ℕ, ◌-◌, ◌/◌, ◌≤◌, List, [], ◌∷◌, length, T, leb, eqb, Ok, Err, Some, None}
 use Rattle.std.specs.Prelude as code
 use Rattle.format.specs.Prelude.{pick, each, Result, good, bad, onward}
 use Rattle.format.specs.Machine.{is_word_size}
@@ -11,6 +11,7 @@ use Rattle.reader.specs.Spans.{part}
 use Rattle.reader.specs.declared.location.Located.{Located}
 use Rattle.reader.specs.declared.section.Layout.{Layout}
 use Rattle.reader.specs.declared.section.Section.{Section}
+use Rattle.reader.specs.declared.section.Span.{Span}
 
 -- 11: word 2, 4 or 8, and kind 0 (eh) or 1 (debug); then the fields are laid out by these
 abbrev pub LaidOut : (kind word : ℕ) → code.Option Layout → Type 0
@@ -26,6 +27,10 @@ SectionOf bs rs kind word None = LaidOut kind word None
 pub record Searching (xs : List ℕ) (place i : ℕ) : Type 0 where
   pub inside : i ≤ length xs / 5
   pub rest : first_addend place (relocations_of xs) ≡ first_addend place (each (relocation_at xs) i (length xs / 5 - i))
+
+-- where the operations of the header are, and those of the record
+unfoldable pub spans_of : Located → List Span
+spans_of l = record { at = l.header; end = l.header_end } ∷ record { at = l.«record»; end = l.record_end } ∷ []
 
 -- the fields of the record and of its header, by positions of the section
 abbrev pub found : List ℕ → Located → Found

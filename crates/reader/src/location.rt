@@ -6,10 +6,9 @@ ghost use Rattle.format.specs.Lists.{relocations_of};
 ghost use Rattle.format.specs.Prelude.{after};
 ghost use Rattle.format.specs.Machine.{is_word_size};
 ghost use Rattle.format.proofs.Asked.{option_of};
-ghost use Rattle.reader.specs.Spans.{entry_of, listed, Holds, Ahead, Spans};
-ghost use Rattle.reader.specs.Finds.{Searching, Locates};
+ghost use Rattle.reader.specs.Spans.{part, entry_of, listed, Holds, Ahead, Spans};
+ghost use Rattle.reader.specs.Finds.{Searching, spans_of, Locates};
 
-use crate::fields::{Header, Record};
 use crate::section::{Body, Section, Span};
 use crate::{entries, fields};
 
@@ -123,56 +122,63 @@ pub struct Located {
     pub shortest: bool,
 }
 
+impl Located {
+    // Where the operations of the header are, and those of the record.
+    #[tactic(auto, unfolding(crate::specs::Finds::spans_of))]
+    pub fn operations(&self) -> [Span; 2]
+        ensures { result ≡ spans_of self.now }
+    {
+        [
+            Span {
+                at: self.header,
+                end: self.header_end,
+            },
+            Span {
+                at: self.record,
+                end: self.record_end,
+            },
+        ]
+    }
+}
+
 impl<'a> Section<'a> {
+    // The bytes behind an entry's length.
+    pub fn body(&self, e: Span) -> Body<'a>
+        requires { Holds self.now.bytes.now e }
+        ensures { (result.bytes.now ≡ part self.now.bytes.now (e.at + 4) e.end) × (result.layout ≡ self.now.layout) }
+    {
+        let from = e.at + 4;
+        let to = e.end;
+        Body {
+            bytes: &self.bytes[from..to],
+            layout: self.layout,
+        }
+    }
+
     // Question 64 of a header, and then of a record: what is found, or the question's number.
     pub fn parse(&self, cie: Span, fde: Span) -> Result<Located, u64>
         requires { Holds self.now.bytes.now cie × Holds self.now.bytes.now fde }
         ensures located { Locates self.now.bytes.now self.now.layout.word result (parsed self.now.layout.debug self.now.layout.word (entry_of self.now.bytes.now cie) (entry_of self.now.bytes.now fde)) }
         ensures ends { IfOk result (λ l. (l.header_end ≡ cie.end) × (l.record_end ≡ fde.end)) }
     {
-        let layout = self.layout;
-        let header = cie.at + 4;
-        let header_end = cie.end;
-        let body = Body {
-            bytes: &self.bytes[header..header_end],
-            layout,
+        let Some(header) = fields::parse_header(&self.body(cie)) else {
+            return Err(64);
         };
-        let Some(
-            Header {
-                operations: rules,
-                pointer,
-                signal,
-            },
-        ) = fields::parse_header(&body)
+        let rules = header.operations;
+        let Some(record) = fields::parse_record(&self.body(fde), header.pointer, rules.shortest)
         else {
             return Err(64);
         };
-        let record = fde.at + 4;
-        let record_end = fde.end;
-        let body = Body {
-            bytes: &self.bytes[record..record_end],
-            layout,
-        };
-        let Some(
-            Record {
-                operations: rows,
-                size,
-            },
-        ) = fields::parse_record(&body, pointer, rules.shortest)
-        else {
-            return Err(64);
-        };
-        let rules_at = rules.at;
-        let rows_at = rows.at;
+        let rows = record.operations;
         Ok(Located {
-            header: header + rules_at,
-            header_end,
-            record: record + rows_at,
-            record_end,
-            size,
-            pointer,
-            signal,
-            word: layout.word,
+            header: cie.at + 4 + rules.at,
+            header_end: cie.end,
+            record: fde.at + 4 + rows.at,
+            record_end: fde.end,
+            size: record.size,
+            pointer: header.pointer,
+            signal: header.signal,
+            word: self.layout.word,
             shortest: rows.shortest,
         })
     }

@@ -7,7 +7,6 @@ ghost use Rattle.reader.specs.OneRegister.{start, set_cfa, set_rule, register_ru
 ghost use Rattle.reader.specs.States.{Pops, run_of, Acts};
 
 use crate::location::Located;
-use crate::section::Span;
 use format::{CfaRule, Operation, Row, Rule, Rules};
 use operations::fields::Position;
 use std::marker::Model;
@@ -190,17 +189,9 @@ pub fn run(s: &[u8], l: &Located, p: u64, q: u16) -> Result<Rules, u64>
     ensures { result ≡ answer q (run_both l.now.word p (found s.now l.now)) }
 {
     let mut state = start();
-    let header = Span {
-        at: l.header,
-        end: l.header_end,
-    };
-    let record = Span {
-        at: l.record,
-        end: l.record_end,
-    };
     // The followed register's rule after the header, which a header's operations do not have.
     let mut initial = None;
-    'entries: for span in [header, record] {
+    'entries: for span in l.operations() {
         let from = span.at;
         let to = span.end;
         let ops = &s[from..to];

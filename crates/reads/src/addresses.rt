@@ -68,14 +68,9 @@ impl<'a> Loaded<'a> {
         requires { Holds self.now.section.bytes.now fde }
         ensures { result ≡ option_of (function_of self.now.section.layout.debug self.now.section.layout.word self.now.address (entry_of self.now.section.bytes.now fde)) }
     {
-        let layout = self.section.layout;
-        let body = fde.at + 4;
-        let end = fde.end;
-        let (field, length) = fields_of(&Body {
-            bytes: &self.section.bytes[body..end],
-            layout,
-        })?;
-        Some((start_of(layout, self.address, fde.at, field), length))
+        let (field, length) = fields_of(&self.section.body(fde))?;
+        let start = start_of(self.section.layout, self.address, fde.at, field);
+        Some((start, length))
     }
 
     // Question 64: the function of the record at a place.

@@ -12,16 +12,16 @@ pub entries-init : goal.entries-init
 entries-init c = begin c.start-state.ensures
 
 pub slice_bounds-ops-start : goal.slice_bounds-ops-start
-slice_bounds-ops-start c = let f = lies c.args.s.now c.args.l.now (record { at = 0; end = 0 }) c.requires _ c.entries-test.true in omega (arith, f.0, f.1)
+slice_bounds-ops-start c = let f = lies c.args.s.now c.args.l.now (record { at = 0; end = 0 }) c.operations-span-items.ensures c.requires _ c.entries-test.true in omega (arith, f.0, f.1)
 
 pub slice_bounds-ops-count : goal.slice_bounds-ops-count
-slice_bounds-ops-count c = let f = lies c.args.s.now c.args.l.now (record { at = 0; end = 0 }) c.requires _ c.entries-test.true in omega (arith, f.0, f.1)
+slice_bounds-ops-count c = let f = lies c.args.s.now c.args.l.now (record { at = 0; end = 0 }) c.operations-span-items.ensures c.requires _ c.entries-test.true in omega (arith, f.0, f.1)
 
 pub slice_bounds-ops-end : goal.slice_bounds-ops-end
-slice_bounds-ops-end c = let f = lies c.args.s.now c.args.l.now (record { at = 0; end = 0 }) c.requires _ c.entries-test.true in omega (arith, f.0, f.1)
+slice_bounds-ops-end c = let f = lies c.args.s.now c.args.l.now (record { at = 0; end = 0 }) c.operations-span-items.ensures c.requires _ c.entries-test.true in omega (arith, f.0, f.1)
 
 pub operations-init : goal.operations-init
-operations-init c = enter c.entries.invariant c.entries-test.true _
+operations-init c = enter c.entries.invariant c.entries-test.true _ c.operations-span-items.ensures
 
 pub entries-preserved : goal.entries-preserved
 entries-preserved c = again c.entries.invariant c.entries-test.true c.operations.invariant.all c.operations.invariant.seen (all_done c.operations.invariant c.operations-test.false)
