@@ -1,5 +1,6 @@
 -- The lists that are lent for what is written, and what a writer does with them.
-use Rattle.std.specs.Prelude.{◌≡◌, ℕ}
+use Rattle.std.specs.Prelude.{◌≡◌, ℕ, length}
+use Rattle.format.specs.declared.Counts.{Counts}
 use Rattle.format.specs.Coded.{Outcome}
 use Rattle.format.specs.Questions.{Room, room_in, Answer}
 use Rattle.format.specs.Answers.{Writes}
@@ -18,6 +19,11 @@ pub record SameLists (old new : Output) : Type 0 where
 
 abbrev pub room_of : Output → Room
 room_of to = room_in to.places.now to.bytes.now to.relocations.now to.sites.now
+
+-- how many elements they have
+abbrev pub lent_in : Output → Counts
+lent_in to =
+    record { places = length to.places.now; bytes = length to.bytes.now; relocations = length to.relocations.now; sites = length to.sites.now }
 
 abbrev pub WritesTo : Answer → Outcome → (old new : Output) → Type 0
 WritesTo a o old new =

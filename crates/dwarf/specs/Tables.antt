@@ -49,10 +49,6 @@ pub record SizeReady (own debug : Bool) (m : Machine) (align : ℕ) (e : Extent)
   pub pairs_ready : e.relaxed ≡ true → PairsReady e pairs
   pub small : Small (grown_by t (part_in own debug m align t.bytes 0 t.sites e rows landings pairs))
 
--- the elements of the lent lists
-abbrev pub lent_in : (bytes relocs sites : List ℕ) → Table
-lent_in bytes relocs sites = record { bytes = length bytes; relocations = length relocs; sites = length sites }
-
 -- a table's counts behind n header places, in the elements of the lent lists
 abbrev pub counts_of : (n : ℕ) → Table → Counts
 counts_of n t = record { places = n; bytes = t.bytes; relocations = t.relocations; sites = t.sites }

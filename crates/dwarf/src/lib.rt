@@ -17,10 +17,10 @@ ghost use Rattle.header_keys.specs.Inputs.{inputs_of, count_in, extent_in, RowsI
 ghost use Rattle.dwarf.specs.Asks.{Askable, AllAskable, whole_in, asked_in, listed_answer};
 ghost use Rattle.dwarf.specs.Parts.{parts_to, section_in};
 ghost use Rattle.dwarf.specs.Writable.{Writable, Cleared, Next};
-ghost use Rattle.dwarf.specs.Tables.{totals_in, grown_by, labelled_rows, most_in, Few, lent_in, counts_of, chosen_by};
+ghost use Rattle.dwarf.specs.Tables.{totals_in, grown_by, labelled_rows, most_in, Few, counts_of, chosen_by};
 ghost use Rattle.owners.specs.Lent.{LongFor, EmptyFor, OwnedIn};
 ghost use Rattle.dwarf.specs.Surveys.{rows_size, FunctionSurveyed, AllSurveyed};
-ghost use Rattle.dwarf.specs.Lent.{SameLists, room_of, WritesTo, HasRoom, ReadyFor, AddsTo, FillsTo};
+ghost use Rattle.dwarf.specs.Lent.{SameLists, room_of, lent_in, WritesTo, HasRoom, ReadyFor, AddsTo, FillsTo};
 ghost use Rattle.dwarf.specs.Functions.{WrittenAs, front_of, numbers_for, part_for, rows_bytes_of, CanSize, FrontFits, FrontWritten, PieceFits, PieceWritten};
 
 use format::{Counts, Machine, Refusal, Section};
@@ -47,14 +47,15 @@ pub struct Output<'a> {
 }
 
 impl Output<'_> {
-    // How many elements the lists have, but for the header places.
-    fn lent(&self) -> Table
-        ensures { result ≡ lent_in self.now.bytes.now self.now.relocations.now self.now.sites.now }
+    // How many elements the lists have.
+    fn lent(&self) -> Counts
+        ensures { result ≡ lent_in self.now }
     {
-        Table {
-            bytes: self.bytes.len(),
-            relocations: self.relocations.len(),
-            sites: self.sites.len(),
+        Counts {
+            places: self.places.len() as u64,
+            bytes: self.bytes.len() as u64,
+            relocations: self.relocations.len() as u64,
+            sites: self.sites.len() as u64,
         }
     }
 }
@@ -504,11 +505,11 @@ fn counts(n: usize, t: Table) -> Counts
     }
 }
 
-// Questions 51 to 54: n header places and t fit the lists that are lent, of `places` elements and as many as `lent` says.
-fn room(n: usize, t: Table, places: usize, lent: Table) -> Result<(), Refusal>
-    ensures { result ≡ question_of (room_for (counts_of n t) (counts_of places lent)) }
+// Questions 51 to 54: n header places and t fit the lists that are lent.
+fn room(n: usize, t: Table, lent: Counts) -> Result<(), Refusal>
+    ensures { result ≡ question_of (room_for (counts_of n t) lent) }
 {
-    lists::room(counts(n, t), counts(places, lent))
+    lists::room(counts(n, t), lent)
 }
 
 // ---- the writing pass
@@ -618,7 +619,7 @@ fn roomed(x: &Input, chains: &Chains, t: Table, to: &mut Output) -> Result<Optio
     ensures { WritesTo (fitting (room_of to.old) (section_in (inputs_of x.now))) result to.old to.new }
 {
     let n = x.lists.count();
-    room(n, t, to.places.len(), to.lent())?;
+    room(n, t, to.lent())?;
     stored(x, chains, to)
 }
 
@@ -630,18 +631,18 @@ fn unchain(heads: &mut [u16])
 }
 
 // The lists that are lent hold whatever such functions can be, so that sizes are not needed.
-fn ample(fs: &[u64], places: usize, lent: Table) -> bool
+fn ample(fs: &[u64], lent: Counts) -> bool
     requires { Few fs.now }
 {
-    room(fs.len() / lists::FUNCTION_STRIDE, most(fs), places, lent).is_ok()
+    room(fs.len() / lists::FUNCTION_STRIDE, most(fs), lent).is_ok()
 }
 
 // The one pass, where sizes are needed.
-fn tried(x: &Input, places: usize, lent: Table, chains: &mut Chains) -> Option<Table>
+fn tried(x: &Input, lent: Counts, chains: &mut Chains) -> Option<Table>
     requires { T (sums_ok x.now.lists.functions.now) × EmptyFor (count_in (inputs_of x.now)) chains.old }
     ensures { AllSurveyed (inputs_of x.now) chains.new.owners.now result × LongFor (count_in (inputs_of x.now)) chains.new }
 {
-    if ample(x.lists.functions, places, lent) {
+    if ample(x.lists.functions, lent) {
         return None;
     }
     survey(x, chains)
@@ -657,7 +658,7 @@ fn fitted(x: &Input, chains: &mut Chains, to: &mut Output) -> Result<Option<Coun
 {
     let n = x.lists.count();
     owners::owners(x, n, chains);
-    if room(n, most(x.lists.functions), to.places.len(), to.lent()).is_err() {
+    if room(n, most(x.lists.functions), to.lent()).is_err() {
         let t = sizes(x, chains);
         return roomed(x, chains, t, to);
     }
@@ -685,7 +686,7 @@ fn answered(x: &Input, chains: &mut Chains, to: &mut Output) -> Result<Option<Co
     requires { T (sums_ok x.now.lists.functions.now) × EmptyFor (count_in (inputs_of x.now)) chains.old }
     ensures { WritesTo (listed_answer (inputs_of x.now) (room_of to.old)) result to.old to.new }
 {
-    if let Some(t) = tried(x, to.places.len(), to.lent(), chains) {
+    if let Some(t) = tried(x, to.lent(), chains) {
         return roomed(x, chains, t, to);
     }
     unchain(chains.heads);

@@ -23,8 +23,8 @@ use codes::{Code, code_no, frame_no, frame_or, head, nodes, nodes_size, put_node
 use format::{Counts, Machine, Refusal, Seh};
 use leb::fill;
 use lists::{
-    Lists, code_at, code_offset_at, codes_ok, extent_at, machine_of, machine_ok, prologue_at,
-    room, word_ok,
+    Lists, code_at, code_offset_at, codes_ok, extent_at, machine_of, machine_ok, prologue_at, room,
+    word_ok,
 };
 use prologue::{moved, piece_at, prologue, prologue_end};
 use relocs::{number, relocation};
