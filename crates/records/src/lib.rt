@@ -159,7 +159,7 @@ pub fn surveyed_rows(word: u64, rows: &[u64], first: usize, n: usize) -> Option<
 
 // ---- a record's fields
 
-// Kept, in all that write bytes of a record: a writer's buffer and place, as in leb; what is written is the function.
+// Kept: in all that write bytes of a record, a writer's buffer and place, as in leb; what is written is the function.
 
 // The length: a linker fills in that of a function with relaxing labels.
 #[tactic(auto, unfolding(crate::specs::Fields::size_in, format::specs::Prelude::pick))]
@@ -279,8 +279,8 @@ pub fn record(out: &mut [u8], at: usize, f: &Function, cie: usize) -> usize
 
 // ---- the relocations of steps
 
-// Kept, in all that write relocations from here on: the list and the place in it, as in relocs, and the place that is relocated or the
-// function, of which each needs other numbers besides.
+// Kept: in all that write relocations from here on, the list and the place in it, as in relocs, before the place that is relocated or
+// the function; what else each needs differs.
 
 // Where a linker writes a step of a form: on the opcode, or behind it.
 #[tactic(auto, unfolding(format::specs::Records::set_place))]
