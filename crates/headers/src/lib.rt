@@ -75,9 +75,7 @@ pub fn pointer(out: &mut [u64], i: usize, word: u64, place: u64, symbol: u64, e:
 
 // ---- the fields
 
-// Kept: the list and the place stand apart in the writers below, as in leb.
-
-// Kept, in all that write a part of a header: a writer's buffer and place, as in leb; what is written is the function.
+// Kept: in all that write a part of a header, a writer's buffer and place, as in leb; what is written is the function.
 
 // The end of the augmentation string: S for a signal frame, and a 0.
 fn ending(out: &mut [u8], at: usize, signal: bool) -> usize
@@ -300,7 +298,6 @@ pub fn header_size(f: &Function, at: usize) -> usize
     n + padding(f.align, at + n)
 }
 
-// Kept: the list and the place stand apart here and in `header_relocs`, as in leb.
 // The bytes of a header: a blank length, the fields and the leading rows, and what `pad` adds.
 pub fn header(out: &mut [u8], at: usize, f: &Function) -> usize
     requires { EncodingFits f.now.extent × (at + length (header_of f.now at) ≤ length out.old) }

@@ -82,8 +82,6 @@ pub fn call_sites_size(at: usize, e: &Extent, landings: &[u64]) -> usize
 
 // ---- rows and the steps between them
 
-// Kept: the list and the place stand apart in the writers below, as in leb.
-
 // Row i and its step, from the offset `from` on.
 fn stepped_row(out: &mut [u8], at: usize, run: &Run, from: u64, i: usize) -> usize
     requires { SteppedRowReady run.now.word from run.now.rows.now i × (at + length (stepped_row_bytes run.now.word from (row_at run.now.rows.now i)) ≤ length out.old) }
@@ -161,9 +159,7 @@ pub fn surveyed_rows(word: u64, rows: &[u64], first: usize, n: usize) -> Option<
 
 // ---- a record's fields
 
-// Kept: the list and the place stand apart in the writers below, as in leb.
-
-// Kept, in all that write bytes of a record: a writer's buffer and place, as in leb; what is written is the function.
+// Kept: in all that write bytes of a record, a writer's buffer and place, as in leb; what is written is the function.
 
 // The length: a linker fills in that of a function with relaxing labels.
 #[tactic(auto, unfolding(crate::specs::Fields::size_in, format::specs::Prelude::pick))]
@@ -283,10 +279,8 @@ pub fn record(out: &mut [u8], at: usize, f: &Function, cie: usize) -> usize
 
 // ---- the relocations of steps
 
-// Kept: the list and the place stand apart in the writers below, as in leb.
-
-// Kept, in all that write relocations from here on: the list and the place in it, as in relocs, and the place that is relocated or the
-// function, of which each needs other numbers besides.
+// Kept: in all that write relocations from here on, the list and the place in it, as in relocs, before the place that is relocated or
+// the function; what else each needs differs.
 
 // Where a linker writes a step of a form: on the opcode, or behind it.
 #[tactic(auto, unfolding(format::specs::Records::set_place))]
@@ -399,8 +393,6 @@ fn step_relocs_count(run: &Run, pairs: &Pairs) -> usize
 }
 
 // ---- a record's relocations
-
-// Kept: the list and the place stand apart in the writers below, as in leb.
 
 // The length as the distance from the function to its end label, where it has relaxing labels.
 fn sum_pair(out: &mut [u64], i: usize, f: &Function, place: u64, bytes: u64) -> usize

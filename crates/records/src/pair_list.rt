@@ -81,7 +81,7 @@ impl<'a> Pairs<'a> {
         None
     }
 
-    // Kept: here and in the next two a place among the pairs and a step's start are two numbers that change with each step; a struct
+    // Kept: here and in the next two, a place among the pairs and a step's start are two numbers that change with each step; a struct
     // of them would be made anew for each.
     // The pair in front of pair i, where there is one, starts below `from`.
     fn parts_below(&self, i: usize, from: u64) -> bool

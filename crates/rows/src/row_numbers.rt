@@ -2,7 +2,7 @@
 
 ghost use Rattle.std.specs.Prelude.{◌≡◌, true, ◌+◌, ◌*◌, ◌≤◌, length, T};
 ghost use Rattle.format.specs.Machine.{is_word_size};
-ghost use Rattle.format.specs.Lists.{row_ok, row_at, row_ok_at};
+ghost use Rattle.format.specs.Lists.{row_ok, row_of, row_at, row_ok_at};
 ghost use Rattle.format.specs.Rows.{row_bytes, row_whole};
 ghost use Rattle.format.proofs.Wrote.{Wrote};
 
@@ -17,6 +17,28 @@ pub struct RowNumbers {
     register: u64,
     operand: u64,
     ghost ok: { T (row_ok kind register operand) },
+}
+
+// The size of the operation of a row that its numbers say, by kind.
+// Kept: the numbers one by one. As a struct they would be stored for each row that is sized, though few rows come here (tried).
+fn size_by_kind(word: u64, kind: u64, register: u64, operand: u64) -> usize
+    requires { (2 ≤ word) × (word ≤ 8) × T (row_ok kind register operand) }
+    ensures { result ≡ length (row_bytes word (row_of kind register operand)) }
+{
+    let z = crate::signed32(operand);
+    match kind {
+        kinds::DEF_CFA => 1 + leb::uleb_size(register) + crate::frame_offset_size(word, z),
+        kinds::DEF_CFA_OFFSET => 1 + crate::frame_offset_size(word, z),
+        kinds::DEF_CFA_REGISTER => 1 + leb::uleb_size(register),
+        kinds::OFFSET => crate::saved_size(register as u16, crate::factored(word, z)),
+        kinds::RESTORE => crate::opcode_size(register as u16),
+        kinds::UNDEFINED => 1 + leb::uleb_size(register),
+        kinds::REMEMBER_STATE => 1,
+        kinds::RESTORE_STATE => 1,
+        kinds::SAME_VALUE => 1 + leb::uleb_size(register),
+        kinds::IN_REGISTER => 1 + leb::uleb_size(register) + leb::uleb_size(operand),
+        _ => 1,
+    }
 }
 
 impl RowNumbers {
@@ -103,27 +125,6 @@ impl RowNumbers {
         }
     }
 
-    // Its size, by kind.
-    fn size_by_kind(self, word: u64) -> usize
-        requires { (2 ≤ word) × (word ≤ 8) }
-        ensures { result ≡ length (row_bytes word (means self)) }
-    {
-        let z = crate::signed32(self.operand);
-        match self.kind {
-            kinds::DEF_CFA => 1 + leb::uleb_size(self.register) + crate::frame_offset_size(word, z),
-            kinds::DEF_CFA_OFFSET => 1 + crate::frame_offset_size(word, z),
-            kinds::DEF_CFA_REGISTER => 1 + leb::uleb_size(self.register),
-            kinds::OFFSET => crate::saved_size(self.register as u16, crate::factored(word, z)),
-            kinds::RESTORE => crate::opcode_size(self.register as u16),
-            kinds::UNDEFINED => 1 + leb::uleb_size(self.register),
-            kinds::REMEMBER_STATE => 1,
-            kinds::RESTORE_STATE => 1,
-            kinds::SAME_VALUE => 1 + leb::uleb_size(self.register),
-            kinds::IN_REGISTER => 1 + leb::uleb_size(self.register) + leb::uleb_size(self.operand),
-            _ => 1,
-        }
-    }
-
     // Its size; without a jump by kind where the register has a byte at most and the second operand two.
     pub fn size(self, word: u64) -> usize
         requires { (2 ≤ word) × (word ≤ 8) }
@@ -131,10 +132,10 @@ impl RowNumbers {
     {
         let y = crate::scaled(word, self.kind, self.operand);
         if crate::MOST_IN_OPCODE < self.register {
-            return self.size_by_kind(word);
+            return size_by_kind(word, self.kind, self.register, self.operand);
         }
         if crate::TWO_BYTES * word <= y {
-            return self.size_by_kind(word);
+            return size_by_kind(word, self.kind, self.register, self.operand);
         }
         crate::short_size(self.kind) + crate::second_byte(word, y)
     }
