@@ -59,7 +59,7 @@ impl Source<'_> {
 impl Input<'_, '_, '_> {
     // Number j of function k's record.
     // Kept: the stride is a function's or a prologue's, so no array type has the record; written out, each read owes its product and sum.
-    fn number(&self, k: usize, j: usize) -> u64
+    fn number_at(&self, k: usize, j: usize) -> u64
         requires { (k < self.now.count) × (j < 2) }
         ensures { result ≡ field (stride_of self.now.source) self.now.functions.now k j }
     {
@@ -76,8 +76,8 @@ impl Input<'_, '_, '_> {
         ensures { Wrote out.old out.new at result (numbers_of (runtime_relocs (12 * k) (named_in self.now k))) }
     {
         let place = (12 * k) as u64;
-        let symbol = self.number(k, 0);
-        let size = self.number(k, 1);
+        let symbol = self.number_at(k, 0);
+        let size = self.number_at(k, 1);
         let a = relocation(out, at, place, symbol, relocs::IMAGE, 4, 0);
         let b = relocation(out, a, place + 4, symbol, relocs::IMAGE, 4, size);
         relocation(
@@ -377,7 +377,7 @@ impl Input<'_, '_, '_> {
         requires { k < self.now.count }
         ensures { result ≡ yes_or_no (long_no (field (stride_of self.now.source) self.now.functions.now k 1)) }
     {
-        long_no(self.number(k, 1))
+        long_no(self.number_at(k, 1))
     }
 
     fn rows_asked(&self, k: usize) -> Result<(), u64>
