@@ -30,6 +30,7 @@ use lists::{
     room, word_ok,
 };
 use prologue::given::{FunctionRows, X64Machine};
+use prologue::{moved, prologue_end};
 use relocs::{number, relocation};
 
 mod given;
@@ -124,12 +125,11 @@ impl Span<'_, '_> {
             Source::Direct => Some((code_offset_at(self.list, i), code_at(self.list, i))),
             Source::Rows(machine) => {
                 let rows = FunctionRows {
-                    machine,
                     list: self.list,
                     at: self.first,
                     end: self.past,
                 };
-                rows.piece_at(i, self.below, sofar)
+                rows.piece_at(&machine.registers(), i, self.below, sofar)
             }
         }
     }
@@ -141,15 +141,7 @@ impl Span<'_, '_> {
     {
         match self.source {
             Source::Direct => sofar,
-            Source::Rows(machine) => {
-                let rows = FunctionRows {
-                    machine,
-                    list: self.list,
-                    at: self.first,
-                    end: self.past,
-                };
-                rows.moved(i, sofar)
-            }
+            Source::Rows(_) => moved(sofar, self.list, i),
         }
     }
 }
@@ -316,18 +308,17 @@ impl<'m, 'l> Input<'m, '_, 'l> {
     {
         let e = extent_at(self.functions, k);
         let rows = FunctionRows {
-            machine,
             list: self.list,
             at: e.rows_at,
             end: e.rows_at + e.rows,
         };
-        let r = rows.prologue()?;
+        let r = rows.prologue(&machine)?;
         Ok(Span {
             source: self.source,
             list: self.list,
             symbol: e.symbol,
             length: e.length,
-            end: rows.prologue_end(r.end),
+            end: prologue_end(self.list, e.rows_at, r.end),
             first: e.rows_at,
             past: r.end,
             below: r.below,
