@@ -5,6 +5,8 @@ use Rattle.format.specs.declared.Row.{Row}
 use Rattle.format.specs.declared.Seh.{Seh}
 use Rattle.format.specs.Lists.{row_at}
 use Rattle.prologue.specs.declared.Walk.{Walk}
+use Rattle.prologue.specs.declared.given.Registers.{Registers}
+use Rattle.prologue.specs.declared.given.X64Machine.{X64Machine}
 use Rattle.prologue.specs.declared.given.FunctionRows.{FunctionRows}
 use Rattle.prologue.specs.Groups.{last_in, row_in, walk_from, start}
 use Rattle.prologue.specs.Pieces.{piece_in}
@@ -17,16 +19,16 @@ abbrev pub rows_of : FunctionRows → List (ℕ × Row)
 rows_of x = each (row_at x.list.now) x.at (x.end - x.at)
 
 -- row i read, as the last of its instruction's; and as any
-abbrev pub last_of : FunctionRows → (i : ℕ) → Walk → Result Walk
-last_of x i w = last_in x.machine.machine.now x.list.now x.at x.end i w
+abbrev pub last_of : X64Machine → FunctionRows → (i : ℕ) → Walk → Result Walk
+last_of m x i w = last_in m.machine.now x.list.now x.at x.end i w
 
-abbrev pub row_of : FunctionRows → (i : ℕ) → Walk → Result Walk
-row_of x i w = row_in x.machine.machine.now x.list.now x.at x.end i w
+abbrev pub row_of : X64Machine → FunctionRows → (i : ℕ) → Walk → Result Walk
+row_of m x i w = row_in m.machine.now x.list.now x.at x.end i w
 
 -- and all of them
-abbrev pub walk_of : FunctionRows → Result Walk
-walk_of x = let m = x.machine.machine.now in walk_from m x.list.now x.at x.end x.at (x.end - x.at) (start m)
+abbrev pub walk_of : X64Machine → FunctionRows → Result Walk
+walk_of m x = walk_from m.machine.now x.list.now x.at x.end x.at (x.end - x.at) (start m.machine.now)
 
 -- the code of row i, or none
-abbrev pub piece_at : FunctionRows → (i : ℕ) → (below sofar : ℤ) → List (ℕ × Seh)
-piece_at x i below sofar = piece_in x.machine.machine.now below sofar x.list.now x.at i x.end
+abbrev pub piece_at : Registers → FunctionRows → (i : ℕ) → (below sofar : ℤ) → List (ℕ × Seh)
+piece_at m x i below sofar = piece_in m.machine.now below sofar x.list.now x.at i x.end

@@ -1,8 +1,15 @@
-// What a prologue is read from: a machine, and rows of a list.
+// What a prologue is read from: a machine, its registers, and rows of a list.
 ghost use Rattle.std.specs.Prelude.{◌≡◌, ◌^◌, ◌≤◌, ◌<◌, length};
 ghost use Rattle.prologue.specs.Pieces.{Ready};
 
 use format::Machine;
+
+// The registers of a machine: its map has an entry for each of DWARF's numbers below 64.
+#[derive(Clone, Copy)]
+pub struct Registers<'m> {
+    pub machine: &'m Machine,
+    pub ghost registers: { length machine.now.map ≡ 64 },
+}
 
 // A machine whose word has eight bytes, as x64 unwind data takes it.
 #[derive(Clone, Copy)]
@@ -13,10 +20,9 @@ pub struct X64Machine<'m> {
     pub ghost pushed: { machine.now.pushed < 2 ^ 31 },
 }
 
-// The rows of a function or of its prologue, from `at` to `end` of a list, and the machine that they are for.
+// The rows of a function or of its prologue, from `at` to `end` of a list.
 #[derive(Clone, Copy)]
-pub struct FunctionRows<'m, 'r> {
-    pub machine: X64Machine<'m>,
+pub struct FunctionRows<'r> {
     pub list: &'r [u64],
     pub at: usize,
     pub end: usize,

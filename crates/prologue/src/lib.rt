@@ -1,8 +1,8 @@
 // From a function's rows to x64 codes: questions 31 to 34, and the codes one by one. Ported from rucc-asm/src/unwind.rs (prologue, machine) of tamnd/rucc, changed: see NOTICE.
 #![tactic(auto)]
 
-ghost use Rattle.std.specs.Prelude.{IfOk, ◌≡◌, false, [], ◌∷◌, ◌-◌, ◌≤◌, ◌<◌, pos, ◌+ℤ◌, ◌-ℤ◌, eqb};
-ghost use Rattle.format.specs.Lists.{row_at};
+ghost use Rattle.std.specs.Prelude.{IfOk, ◌≡◌, false, [], ◌∷◌, ◌+◌, ◌-◌, ◌*◌, ◌≤◌, ◌<◌, pos, ◌+ℤ◌, ◌-ℤ◌, length, T, eqb};
+ghost use Rattle.format.specs.Lists.{row_at, row_ok_at};
 ghost use Rattle.format.specs.Prelude.{pick, each};
 ghost use Rattle.format.specs.Machine.{register_of};
 ghost use Rattle.format.specs.Rows.{kind_of, offset_of};
@@ -15,7 +15,7 @@ ghost use Rattle.prologue.specs.Pieces.{Short, Shaped, piece_of, named_code, mov
 ghost use Rattle.prologue.specs.Given.{IsRow, rows_of, last_of, row_of, walk_of, piece_at};
 
 use format::{Row, Seh};
-use given::{FunctionRows, X64Machine};
+use given::{FunctionRows, Registers, X64Machine};
 use leb::wide;
 use rows::{offset_at, row_at};
 
@@ -23,7 +23,18 @@ pub mod given;
 
 // ---- registers
 
-impl X64Machine<'_> {
+impl<'m> X64Machine<'m> {
+    // Its registers alone.
+    pub fn registers(&self) -> Registers<'m>
+        ensures { result.machine.now ≡ self.now.machine.now }
+    {
+        Registers {
+            machine: self.machine,
+        }
+    }
+}
+
+impl Registers<'_> {
     // What register of the machine DWARF's number `reg` is: its number, below 16, and whether it is a vector register; or none.
     // Question 34 is about those that are none.
     fn register(&self, reg: u64) -> Option<(u64, bool)>
@@ -55,7 +66,7 @@ impl X64Machine<'_> {
 
 // ---- the rows of one instruction
 
-impl FunctionRows<'_, '_> {
+impl FunctionRows<'_> {
     // Row i is of the instruction of the row before it, where that is one of these rows.
     fn joined(&self, i: usize) -> bool
         requires { i < self.now.end }
@@ -130,7 +141,8 @@ impl X64Machine<'_> {
     fn framed(&self, w: Walk) -> Walk
         ensures { result ≡ added self.now.machine.now w frame w.below }
     {
-        stepped(w, false, self.knows(self.machine.frame), w.below)
+        let known = self.registers().knows(self.machine.frame);
+        stepped(w, false, known, w.below)
     }
 
     // DefCfa alone: the frame pointer at the present distance, or a frame that is counted from another register (32).
@@ -177,7 +189,7 @@ impl X64Machine<'_> {
         if y != -z {
             return Err(33);
         }
-        let known = self.knows(reg);
+        let known = self.registers().knows(reg);
         Ok(stepped(w, reg == self.machine.frame, known, z))
     }
 
@@ -204,7 +216,7 @@ impl X64Machine<'_> {
             Row::DefCfaOffset(z) => Ok(stepped(w, false, true, z)),
             Row::DefCfaRegister(reg) => self.frame_early(last, reg as u64, w),
             Row::Offset(reg, _) => {
-                let known = self.knows(reg as u64);
+                let known = self.registers().knows(reg as u64);
                 Ok(stepped(w, false, known, w.below))
             }
             _ => Err(33),
@@ -214,23 +226,23 @@ impl X64Machine<'_> {
 
 // ---- row by row
 
-impl FunctionRows<'_, '_> {
+impl FunctionRows<'_> {
     // Row i, the last of its instruction's.
-    fn read_last(&self, i: usize, w: Walk) -> Result<Walk, u64>
+    fn read_last(&self, m: &X64Machine, i: usize, w: Walk) -> Result<Walk, u64>
         requires { IsRow self.now i × Short w.below }
-        ensures { result ≡ result_of (last_of self.now i w) }
+        ensures { result ≡ result_of (last_of m.now self.now i w) }
     {
         let r = row_at(self.list, i);
         if self.joined(i) {
-            return self.machine.push_rows(row_at(self.list, i - 1), r, w);
+            return m.push_rows(row_at(self.list, i - 1), r, w);
         }
-        self.machine.lone_row(i + 1 == self.end, r, w)
+        m.lone_row(i + 1 == self.end, r, w)
     }
 
     // Row i: an instruction is read at its last row, and refused at its third.
-    fn read_row(&self, i: usize, w: Walk) -> Result<Walk, u64>
+    fn read_row(&self, m: &X64Machine, i: usize, w: Walk) -> Result<Walk, u64>
         requires { IsRow self.now i × Short w.below }
-        ensures { result ≡ result_of (row_of self.now i w) }
+        ensures { result ≡ result_of (row_of m.now self.now i w) }
     {
         if self.third(i) {
             return Err(33);
@@ -238,20 +250,20 @@ impl FunctionRows<'_, '_> {
         if self.joins(i) {
             return Ok(w);
         }
-        self.read_last(i, w)
+        self.read_last(m, i, w)
     }
 
     // All of the rows, to the first no.
-    fn read_rows(&self) -> Result<Walk, u64>
-        ensures { (result ≡ result_of (walk_of self.now)) × IfOk result (λ w. Short w.below) }
+    fn read_rows(&self, m: &X64Machine) -> Result<Walk, u64>
+        ensures { (result ≡ result_of (walk_of m.now self.now)) × IfOk result (λ w. Short w.below) }
     {
         let mut w = Walk {
-            below: self.machine.machine.pushed as i64,
+            below: m.machine.pushed as i64,
             steps: Steps::NoStep,
             named: true,
         };
         for i in self.at..self.end {
-            w = self.read_row(i, w)?;
+            w = self.read_row(m, i, w)?;
         }
         Ok(w)
     }
@@ -267,7 +279,7 @@ pub struct Shape {
     pub end: usize,
 }
 
-impl FunctionRows<'_, '_> {
+impl FunctionRows<'_> {
     // Row i keeps the rules for the epilogues.
     fn remembers(&self, i: usize) -> bool
         requires { i < self.now.end }
@@ -286,17 +298,16 @@ impl FunctionRows<'_, '_> {
     }
 
     // A function's codes. The questions are those of the instructions, then 34.
-    pub fn prologue(&self) -> Result<Shape, u64>
-        ensures { Shaped self.now.machine.machine.now self.now.list.now self.now.at (self.now.end - self.now.at) result }
+    pub fn prologue(&self, m: &X64Machine) -> Result<Shape, u64>
+        ensures { Shaped m.now.machine.now self.now.list.now self.now.at (self.now.end - self.now.at) result }
     {
         let end = self.before_remember();
         let leading = FunctionRows {
-            machine: self.machine,
             list: self.list,
             at: self.at,
             end,
         };
-        let w = leading.read_rows()?;
+        let w = leading.read_rows(m)?;
         if !w.named {
             return Err(34);
         }
@@ -309,7 +320,7 @@ impl FunctionRows<'_, '_> {
 
 // A code stands behind the offset where its instruction ends.
 
-impl X64Machine<'_> {
+impl Registers<'_> {
     // The code of a push, of a frame and of a save, where the machine has the register.
     fn push_code(&self, off: u64, reg: u64) -> Option<(u64, Seh)>
         ensures { piece_of result ≡ named_code self.now.machine.now off reg (λ x. Push x.number) }
@@ -333,7 +344,7 @@ impl X64Machine<'_> {
     }
 }
 
-impl FunctionRows<'_, '_> {
+impl FunctionRows<'_> {
     // DefCfaOffset: an allocation, or the first row of a push.
     fn alloc_code(&self, i: usize, off: u64, sofar: i64, z: i64) -> Option<(u64, Seh)>
         requires { (i < self.now.end) × Short sofar × Short z }
@@ -346,52 +357,60 @@ impl FunctionRows<'_, '_> {
     }
 
     // Offset: the second row of a push, or a save. A save counts from the stack pointer at the prologue's end.
-    fn slot_code(&self, i: usize, off: u64, reg: u64, below: i64, z: i64) -> Option<(u64, Seh)>
+    fn slot_code(
+        &self,
+        m: &Registers,
+        i: usize,
+        off: u64,
+        reg: u64,
+        below: i64,
+        z: i64,
+    ) -> Option<(u64, Seh)>
         requires { (i < self.now.end) × Short below × Short z }
-        ensures { piece_of result ≡ pick (joined self.now.list.now self.now.at i) (named_code self.now.machine.machine.now off reg (λ x. Push x.number)) (named_code self.now.machine.machine.now off reg (λ x. Save x.number x.vector (below +ℤ z))) }
+        ensures { piece_of result ≡ pick (joined self.now.list.now self.now.at i) (named_code m.now.machine.now off reg (λ x. Push x.number)) (named_code m.now.machine.now off reg (λ x. Save x.number x.vector (below +ℤ z))) }
     {
         if self.joined(i) {
-            return self.machine.push_code(off, reg);
+            return m.push_code(off, reg);
         }
-        self.machine.save_code(off, reg, below + z)
+        m.save_code(off, reg, below + z)
     }
 
     // Row i of a prologue's rows, with the distance `sofar` in front of it and `below` behind all of them: the code of the
     // instruction that it ends, or none.
-    pub fn piece_at(&self, i: usize, below: i64, sofar: i64) -> Option<(u64, Seh)>
+    pub fn piece_at(&self, m: &Registers, i: usize, below: i64, sofar: i64) -> Option<(u64, Seh)>
         requires { IsRow self.now i × Short below × Short sofar }
-        ensures { piece_of result ≡ piece_at self.now i below sofar }
+        ensures { piece_of result ≡ piece_at m.now self.now i below sofar }
     {
         let off = offset_at(self.list, i);
         let r = row_at(self.list, i);
         match r {
-            Row::DefCfa(_, _) => self.machine.frame_code(off),
+            Row::DefCfa(_, _) => m.frame_code(off),
             Row::DefCfaOffset(z) => self.alloc_code(i, off, sofar, z),
-            Row::DefCfaRegister(_) => self.machine.frame_code(off),
-            Row::Offset(reg, z) => self.slot_code(i, off, reg as u64, below, z),
+            Row::DefCfaRegister(_) => m.frame_code(off),
+            Row::Offset(reg, z) => self.slot_code(m, i, off, reg as u64, below, z),
             _ => None,
         }
     }
+}
 
-    // The distance behind row i.
-    pub fn moved(&self, i: usize, sofar: i64) -> i64
-        requires { IsRow self.now i }
-        ensures { result ≡ moved_in sofar self.now.list.now i }
-    {
-        let Row::DefCfaOffset(z) = row_at(self.list, i) else {
-            return sofar;
-        };
-        z
-    }
+// The distance behind row i.
+pub fn moved(sofar: i64, rows: &[u64], i: usize) -> i64
+    requires { (4 * i + 4 ≤ length rows.now) × T (row_ok_at rows.now i) }
+    ensures { result ≡ moved_in sofar rows.now i }
+{
+    let Row::DefCfaOffset(z) = row_at(rows, i) else {
+        return sofar;
+    };
+    z
+}
 
-    // Where a prologue of the rows in front of row `end` ends: at the last one's offset, which is the last code's.
-    pub fn prologue_end(&self, end: usize) -> u64
-        requires { end ≤ self.now.end }
-        ensures { result ≡ end_in self.now.list.now self.now.at end }
-    {
-        if end <= self.at {
-            return 0;
-        }
-        offset_at(self.list, end - 1)
+// Where the prologue of the rows from `at` to `end` ends: at the last one's offset, which is the last code's.
+pub fn prologue_end(rows: &[u64], at: usize, end: usize) -> u64
+    requires { 4 * end ≤ length rows.now }
+    ensures { result ≡ end_in rows.now at end }
+{
+    if end <= at {
+        return 0;
     }
+    offset_at(rows, end - 1)
 }

@@ -30,6 +30,7 @@ use lists::{
     word_ok,
 };
 use prologue::given::{FunctionRows, X64Machine};
+use prologue::{moved, prologue_end};
 use relocs::{number, relocation};
 
 mod given;
@@ -59,7 +60,7 @@ impl Source<'_> {
 impl Input<'_, '_, '_> {
     // Number j of function k's record.
     // Kept: the stride is a function's or a prologue's, so no array type has the record; written out, each read owes its product and sum.
-    fn number(&self, k: usize, j: usize) -> u64
+    fn number_at(&self, k: usize, j: usize) -> u64
         requires { (k < self.now.count) × (j < 2) }
         ensures { result ≡ field (stride_of self.now.source) self.now.functions.now k j }
     {
@@ -76,8 +77,8 @@ impl Input<'_, '_, '_> {
         ensures { Wrote out.old out.new at result (numbers_of (runtime_relocs (12 * k) (named_in self.now k))) }
     {
         let place = (12 * k) as u64;
-        let symbol = self.number(k, 0);
-        let size = self.number(k, 1);
+        let symbol = self.number_at(k, 0);
+        let size = self.number_at(k, 1);
         let a = relocation(out, at, place, symbol, relocs::IMAGE, 4, 0);
         let b = relocation(out, a, place + 4, symbol, relocs::IMAGE, 4, size);
         relocation(
@@ -124,12 +125,11 @@ impl Span<'_, '_> {
             Source::Direct => Some((code_offset_at(self.list, i), code_at(self.list, i))),
             Source::Rows(machine) => {
                 let rows = FunctionRows {
-                    machine,
                     list: self.list,
                     at: self.first,
                     end: self.past,
                 };
-                rows.piece_at(i, self.below, sofar)
+                rows.piece_at(&machine.registers(), i, self.below, sofar)
             }
         }
     }
@@ -141,15 +141,7 @@ impl Span<'_, '_> {
     {
         match self.source {
             Source::Direct => sofar,
-            Source::Rows(machine) => {
-                let rows = FunctionRows {
-                    machine,
-                    list: self.list,
-                    at: self.first,
-                    end: self.past,
-                };
-                rows.moved(i, sofar)
-            }
+            Source::Rows(_) => moved(sofar, self.list, i),
         }
     }
 }
@@ -317,18 +309,17 @@ impl<'m, 'l> Input<'m, '_, 'l> {
     {
         let e = extent_at(self.functions, k);
         let rows = FunctionRows {
-            machine,
             list: self.list,
             at: e.rows_at,
             end: e.rows_at + e.rows,
         };
-        let r = rows.prologue()?;
+        let r = rows.prologue(&machine)?;
         Ok(Span {
             source: self.source,
             list: self.list,
             symbol: e.symbol,
             length: e.length,
-            end: rows.prologue_end(r.end),
+            end: prologue_end(self.list, e.rows_at, r.end),
             first: e.rows_at,
             past: r.end,
             below: r.below,
@@ -378,7 +369,7 @@ impl Input<'_, '_, '_> {
         requires { k < self.now.count }
         ensures { result ≡ yes_or_no (long_no (field (stride_of self.now.source) self.now.functions.now k 1)) }
     {
-        long_no(self.number(k, 1))
+        long_no(self.number_at(k, 1))
     }
 
     fn rows_asked(&self, k: usize) -> Result<(), u64>

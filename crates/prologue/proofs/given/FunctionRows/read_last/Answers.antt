@@ -26,9 +26,9 @@ push_rows-requires c =
 pub returns-then-joined : goal.returns-then-joined
 returns-then-joined c =
     let e = sym c.joined.ensures ∙ c.if-joined.true in
-    rw (at_push c.args.self.now.machine.machine.now _ c.args.self.now.at c.args.self.now.end c.args.i c.args.w e) (rw (c.row_at.ensures, c.row_at-r.ensures) at c.push_rows.ensures)
+    rw (at_push c.args.m.now.machine.now _ c.args.self.now.at c.args.self.now.end c.args.i c.args.w e) (rw (c.row_at.ensures, c.row_at-r.ensures) at c.push_rows.ensures)
 
 pub returns : goal.returns
 returns c =
     let e = sym c.joined.ensures ∙ c.if-joined.false in
-    rw (at_lone c.args.self.now.machine.machine.now _ c.args.self.now.at c.args.self.now.end c.args.i c.args.w e) (rw (c.row_at-r.ensures, add-one) at c.lone_row.ensures)
+    rw (at_lone c.args.m.now.machine.now _ c.args.self.now.at c.args.self.now.end c.args.i c.args.w e) (rw (c.row_at-r.ensures, add-one) at c.lone_row.ensures)

@@ -5,12 +5,12 @@ use Rattle.prologue.proofs.given.FunctionRows.read_row.Goals as goal
 
 pub returns-then-third : goal.returns-then-third
 returns-then-third c =
-    rw (at_third c.args.self.now.machine.machine.now _ c.args.self.now.at c.args.self.now.end c.args.i c.args.w (sym c.third.ensures ∙ c.if-third.true))
+    rw (at_third c.args.m.now.machine.now _ c.args.self.now.at c.args.self.now.end c.args.i c.args.w (sym c.third.ensures ∙ c.if-third.true))
 
 pub returns-then-joins : goal.returns-then-joins
 returns-then-joins c =
-    rw (at_open c.args.self.now.machine.machine.now _ c.args.self.now.at c.args.self.now.end c.args.i c.args.w (sym c.third.ensures ∙ c.if-third.false) (sym c.joins.ensures ∙ c.if-joins.true))
+    rw (at_open c.args.m.now.machine.now _ c.args.self.now.at c.args.self.now.end c.args.i c.args.w (sym c.third.ensures ∙ c.if-third.false) (sym c.joins.ensures ∙ c.if-joins.true))
 
 pub returns : goal.returns
 returns c =
-    rw (at_last c.args.self.now.machine.machine.now _ c.args.self.now.at c.args.self.now.end c.args.i c.args.w (sym c.third.ensures ∙ c.if-third.false) (sym c.joins.ensures ∙ c.if-joins.false)) c.read_last.ensures
+    rw (at_last c.args.m.now.machine.now _ c.args.self.now.at c.args.self.now.end c.args.i c.args.w (sym c.third.ensures ∙ c.if-third.false) (sym c.joins.ensures ∙ c.if-joins.false)) c.read_last.ensures

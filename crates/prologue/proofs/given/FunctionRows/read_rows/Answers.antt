@@ -11,7 +11,7 @@ use Rattle.prologue.proofs.given.FunctionRows.read_rows.Goals as goal
 
 pub loop-i-init : goal.loop-i-init
 unfolding start
-loop-i-init c = rw (to_z_pos w64 {n = c.args.self.now.machine.machine.now.pushed} (omega arith)) (walk_start c.args.self.now.machine.machine.now _ c.args.self.now.at c.args.self.now.end c.args.self.now.order c.args.self.now.machine.pushed)
+loop-i-init c = rw (to_z_pos w64 {n = c.args.m.now.machine.now.pushed} (omega arith)) (walk_start c.args.m.now.machine.now _ c.args.self.now.at c.args.self.now.end c.args.self.now.order c.args.m.now.pushed)
 
 pub returns-in_err-w : goal.returns-in_err-w
 returns-in_err-w c =

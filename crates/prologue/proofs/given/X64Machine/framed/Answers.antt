@@ -8,4 +8,4 @@ use Rattle.prologue.proofs.given.X64Machine.framed.Goals as goal
 
 pub returns : goal.returns
 unfolding added is_push known
-returns c = c.stepped.ensures ∙ rw (passed c.args.w.below (omega (arith, c.struct_told-1.given)), c.knows.ensures)
+returns c = c.stepped.ensures ∙ rw (passed c.args.w.below (omega (arith, c.struct_told-1.given)), c.knows-known.ensures, c.registers.ensures)

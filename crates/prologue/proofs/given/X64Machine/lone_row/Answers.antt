@@ -29,7 +29,7 @@ pub returns-in-Offset : goal.returns-in-Offset
 unfolding lone_in added is_push known
 returns-in-Offset c =
     let e = passed c.args.w.below (omega (arith, c.struct_told-1.given)) in
-    rw c.in-Offset.is (ap Ok (c.stepped-in-Offset.ensures ∙ rw (e, c.knows-known.ensures)))
+    rw c.in-Offset.is (ap Ok (c.stepped-in-Offset.ensures ∙ rw (e, c.knows-known.ensures, c.registers.ensures)))
 
 pub returns-in_default : goal.returns-in_default
 returns-in_default c =

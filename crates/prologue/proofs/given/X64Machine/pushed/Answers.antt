@@ -22,4 +22,4 @@ pub returns : goal.returns
 returns c =
     let e = sym (difference_same c.args.z c.args.w.below c.requires.0 c.requires.1 (pos c.args.self.now.machine.now.word) (omega arith)) ∙ eq-eqb _ _ c.if-z-w.false in
     let f = sym (opposite_same c.args.z c.requires.0 c.args.y c.ranges.y.sfits) ∙ eq-eqb _ _ c.if-y-z.false in
-    rw (← push_yes c.args.self.now.machine.now c.args.reg c.args.z c.args.y c.args.w e f) (ap Ok (c.stepped.ensures ∙ rw (short_passed c.args.z c.requires.0, c.knows-known.ensures)))
+    rw (← push_yes c.args.self.now.machine.now c.args.reg c.args.z c.args.y c.args.w e f) (ap Ok (c.stepped.ensures ∙ rw (short_passed c.args.z c.requires.0, c.knows-known.ensures, c.registers.ensures)))

@@ -2,4 +2,4 @@
 use Rattle.x64.proofs.given.Input.length_asked.Goals as goal
 
 pub returns : goal.returns
-returns c = rw c.number.ensures at c.long_no.ensures
+returns c = rw c.number_at.ensures at c.long_no.ensures

@@ -34,7 +34,11 @@ returns-in_err-r c =
     rw (p.1, p.2) (rw (behind, c.extent_at-e.ensures, c.in_err-r.was) at c.prologue.ensures)
 
 pub prologue_end-requires : goal.prologue_end-requires
-prologue_end-requires c = let h = rw c.in_ok-r.was at c.prologue.ensures in omega (arith, h.high)
+unfolding extent_at
+prologue_end-requires c =
+    let b = rows_bounds (rows_askable c.requires.1 (c.args.self.now.listed.each_one _ c.requires.0)) in
+    let h = rw (behind, c.extent_at-e.ensures, c.in_ok-r.was) at c.prologue.ensures in
+    omega (arith, h.high, b.1.inside)
 
 pub invariant_of-result : goal.invariant_of-result
 unfolding extent_at

@@ -18,4 +18,4 @@ relocation-requires c = omega (arith, c.requires.1, c.relocation-b.ensures.past,
 
 pub returns : goal.returns
 unfolding numbers_of runtime_relocs
-returns c = rw (← c.number-symbol.ensures, ← c.number-size.ensures) (c.relocation-a.ensures then c.relocation-b.ensures then c.relocation.ensures)
+returns c = rw (← c.number_at-symbol.ensures, ← c.number_at-size.ensures) (c.relocation-a.ensures then c.relocation-b.ensures then c.relocation.ensures)

@@ -5,14 +5,17 @@ use Rattle.prologue.proofs.Pieced.{moved_short}
 use Rattle.prologue.proofs.Distances.{short_passed}
 use Rattle.x64.proofs.Held.{held_rows}
 use mathlib.Core.Path.{refl}
+use native.Mathlib.Omega.{arith}
 use Rattle.x64.proofs.given.Span.moved_in.Goals as goal
 
 pub returns-in-Direct : goal.returns-in-Direct
 unfolding moved_at
 returns-in-Direct c = rw (short_passed c.args.sofar c.requires.1) (simp c.in-Direct.is (refl, c.requires.1))
 
-pub invariant_of-rows : goal.invariant_of-rows
-invariant_of-rows c = record { order = c.args.self.now.order; ready = held_rows _ _ _ c.in-Rows.is c.args.self.now.held }
+pub moved-requires : goal.moved-requires
+moved-requires c =
+    let r = held_rows _ _ _ c.in-Rows.is c.args.self.now.held in
+    (omega (arith, r.inside, c.requires.0.1), r.ok c.args.i c.requires.0.0 c.requires.0.1)
 
 pub returns-in-Rows : goal.returns-in-Rows
 unfolding moved_at

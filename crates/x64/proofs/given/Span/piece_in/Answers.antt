@@ -25,4 +25,4 @@ piece_at-requires c =
 
 pub returns-in-Rows : goal.returns-in-Rows
 unfolding piece_at
-returns-in-Rows c = simp c.in-Rows.is (rw (short_passed c.args.sofar c.requires.1, short_passed c.args.self.now.below c.args.self.now.short) at c.piece_at.ensures)
+returns-in-Rows c = simp c.in-Rows.is (rw (c.registers.ensures, short_passed c.args.sofar c.requires.1, short_passed c.args.self.now.below c.args.self.now.short) at c.piece_at.ensures)

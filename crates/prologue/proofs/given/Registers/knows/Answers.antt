@@ -1,10 +1,10 @@
--- `given::X64Machine::knows` meets its contract.
+-- `given::Registers::knows` meets its contract.
 use mathlib.Core.Path.{◌∙◌}
 use Rattle.format.specs.Machine.{register_of}
 use Rattle.format.specs.X64.{low16}
 use Rattle.prologue.specs.Groups.{knows}
 use Rattle.prologue.proofs.Registers.{found_some}
-use Rattle.prologue.proofs.given.X64Machine.knows.Goals as goal
+use Rattle.prologue.proofs.given.Registers.knows.Goals as goal
 
 pub returns : goal.returns
 unfolding knows

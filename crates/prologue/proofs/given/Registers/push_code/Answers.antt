@@ -1,7 +1,7 @@
--- `given::X64Machine::push_code` meets its contract.
+-- `given::Registers::push_code` meets its contract.
 use Rattle.format.specs.declared.Seh.TheVariants.{Push}
 use Rattle.prologue.proofs.Registers.{code_none, code_some}
-use Rattle.prologue.proofs.given.X64Machine.push_code.Goals as goal
+use Rattle.prologue.proofs.given.Registers.push_code.Goals as goal
 
 pub returns-in_err-n : goal.returns-in_err-n
 returns-in_err-n c = rw c.from_residual.ensures (code_none c.args.self.now.machine.now c.args.off c.args.reg (λ x. Push x.number) c.register.ensures c.in_err-n.was)

@@ -1,4 +1,4 @@
--- `given::FunctionRows::moved` meets its contract.
+-- `prologue::moved` meets its contract.
 use borrow.Enum.Refused.{opened}
 use mathlib.Core.Path.{◌∙◌}
 use native.Mathlib.Omega.{arith}
@@ -7,7 +7,7 @@ use mir.Facts.{to_z-of_z}
 use Rattle.rows.proofs.Signs.{passed}
 use Rattle.prologue.proofs.Arms.{other_kind}
 use Rattle.prologue.proofs.Pieced.{moved_by_lem, stays}
-use Rattle.prologue.proofs.given.FunctionRows.moved.Goals as goal
+use Rattle.prologue.proofs.moved.Goals as goal
 
 pub returns-in_default : goal.returns-in_default
 returns-in_default c = to_z-of_z c.ranges.sofar ∙ stays c.args.sofar _ c.args.i c.row_at.ensures (other_kind (0 ∷ 2 ∷ 3 ∷ 4 ∷ 5 ∷ 6 ∷ 7 ∷ 8 ∷ 9 ∷ 10 ∷ []) 1 c.row_at.result tt (opened c.in_default.in_default-own.keys2))

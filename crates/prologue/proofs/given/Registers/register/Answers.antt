@@ -1,6 +1,6 @@
--- `given::X64Machine::register` meets its contract.
+-- `given::Registers::register` meets its contract.
 use Rattle.prologue.proofs.Registers.{past_map, low_integer, high_integer, low_vector, high_vector}
-use Rattle.prologue.proofs.given.X64Machine.register.Goals as goal
+use Rattle.prologue.proofs.given.Registers.register.Goals as goal
 
 pub returns-then-reg-ge64 : goal.returns-then-reg-ge64
 returns-then-reg-ge64 c = past_map c.args.self.now.machine.now c.args.reg c.args.self.now.registers c.if-reg-ge64.true
