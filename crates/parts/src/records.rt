@@ -90,7 +90,7 @@ fn fields(e: &Placed, pointer: u64) -> Result<RecordRead, u64>
     ensures { record_answer result ≡ record_numbers e.now.body.layout.debug pointer (e.now.base + length e.now.body.bytes.now) (record_parts e.now.body.layout.debug e.now.body.layout.word pointer e.now.body.bytes.now) }
 {
     let body = e.body.bytes;
-    let n = reader::fields::field_size(e.body.layout) as usize;
+    let n = reader::fields::field_size(e.body.layout.debug, e.body.layout.word) as usize;
     let Some((header, a)) = read_le(body, Position::START, 4) else {
         return Err(7);
     };

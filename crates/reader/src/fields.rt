@@ -289,10 +289,10 @@ pub fn record_tail(b: &Body, at: Position, pointer: u64, size: u64) -> Option<Re
 }
 
 // The bytes of a function's place and of its length.
-pub fn field_size(l: Layout) -> u64
-    ensures { result ≡ pick l.debug l.word 4 }
+pub fn field_size(debug: bool, word: u64) -> u64
+    ensures { result ≡ pick debug word 4 }
 {
-    if l.debug { l.word } else { 4 }
+    if debug { word } else { 4 }
 }
 
 // Question 64 of a record; `shortest` is the mark of what was read before.
@@ -300,7 +300,7 @@ pub fn parse_record(b: &Body, pointer: u64, shortest: bool) -> Option<Record>
     ensures { Records b.now.bytes.now (shortest && record_short b.now.layout.debug b.now.bytes.now) result (parse_record b.now.layout.debug b.now.layout.word pointer b.now.bytes.now) }
 {
     let s = b.bytes;
-    let n = field_size(b.layout) as usize;
+    let n = field_size(b.layout.debug, b.layout.word) as usize;
     let start = Position { at: 0, shortest };
     let (_, place) = read_le(s, start, 4)?;
     let (_, length) = read_le(s, place, n)?;

@@ -26,7 +26,7 @@ fn fields_of(b: &Body) -> Option<(u64, u64)>
     ensures { result ≡ option_of (function_fields b.now.layout.debug b.now.layout.word b.now.bytes.now) }
 {
     let s = b.bytes;
-    let n = reader::fields::field_size(b.layout) as usize;
+    let n = reader::fields::field_size(b.layout.debug, b.layout.word) as usize;
     let (_, place) = read_le(s, Position::START, 4)?;
     let (field, size) = read_le(s, place, n)?;
     let (length, _) = read_le(s, size, n)?;

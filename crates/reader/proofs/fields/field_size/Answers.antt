@@ -2,10 +2,10 @@
 use Rattle.format.specs.Prelude.{pick}
 use Rattle.reader.proofs.fields.field_size.Goals as goal
 
-pub returns-then-l : goal.returns-then-l
+pub returns-then-debug : goal.returns-then-debug
 unfolding pick
-returns-then-l c = simp c.if-l.true
+returns-then-debug c = simp c.if-debug.true
 
-pub returns-else-l : goal.returns-else-l
+pub returns-else-debug : goal.returns-else-debug
 unfolding pick
-returns-else-l c = simp c.if-l.false
+returns-else-debug c = simp c.if-debug.false
