@@ -4,15 +4,16 @@
 ghost use Rattle.std.specs.Prelude.{◌≡◌, false, [], ◌∷◌, ◌+◌, ◌*◌, ◌^◌, ◌≤◌, ◌<◌, length, IfSome};
 ghost use Rattle.format.proofs.Wrote.{Wrote};
 ghost use Rattle.format.specs.Lists.{numbers_of};
-ghost use Rattle.format.specs.Headers.{padding, pointer_reloc, plain, personal, named, letters, lsda_letter, augmentation_data, data_factor, pointer_place};
+ghost use Rattle.format.specs.Headers.{padding, pointer_reloc, plain, personal, letters, lsda_letter, augmentation_data, data_factor, pointer_place};
 ghost use Rattle.format.proofs.SectionSize.{Aligned};
 ghost use Rattle.headers.specs.Entries.{Closed};
-ghost use Rattle.header_keys.specs.Kinds.{kind_in};
-ghost use Rattle.headers.specs.Kinds.{head_in, EncodingFits, NamedFits, lsda_meant, ending, flag, named_letters, named_data, header_reloc_count};
+ghost use Rattle.header_keys.specs.Kinds.{lsda_of, named_by, asked_kind, kind_in};
+ghost use Rattle.headers.specs.Kinds.{head_in, EncodingFits, NamedFits, KindFits, ending, flag, named_letters, named_data, header_reloc_count};
 ghost use Rattle.headers.specs.Written.{middle_of, tail_by, fields_of, starts_of, header_of, header_relocs_of};
 
 use header_keys::written::Function;
 use header_keys::{Kind, kind_of};
+use lists::{Lsda, Personality};
 use numbers::encodings;
 
 // ---- the end of an entry
@@ -139,72 +140,72 @@ fn named_letters(out: &mut [u8], at: usize, lsda: bool) -> usize
 }
 
 // The LSDA's encoding, where there is an LSDA.
-fn lsda_letter(out: &mut [u8], at: usize, lsda: Option<u64>) -> usize
-    requires { IfSome lsda (λ l. l < 256) × (at + length (lsda_letter (lsda_meant lsda)) ≤ length out.old) }
-    ensures { Wrote out.old out.new at result (lsda_letter (lsda_meant lsda)) }
+fn lsda_letter(out: &mut [u8], at: usize, lsda: Option<Lsda>) -> usize
+    requires { IfSome lsda (λ l. l.encoding < 256) × (at + length (lsda_letter (lsda_of lsda)) ≤ length out.old) }
+    ensures { Wrote out.old out.new at result (lsda_letter (lsda_of lsda)) }
 {
     match lsda {
-        Some(l) => leb::byte(out, at, l as u8),
+        Some(l) => leb::byte(out, at, l.encoding as u8),
         None => at,
     }
 }
 
 // The personality's encoding and blank pointer, the LSDA's encoding, the records' encoding.
-fn named_data(out: &mut [u8], at: usize, e: u64, size: usize, lsda: Option<u64>) -> usize
-    requires { (e < 256) × IfSome lsda (λ l. l < 256) × (at + length (named_data e size (lsda_meant lsda)) ≤ length out.old) }
-    ensures { Wrote out.old out.new at result (named_data e size (lsda_meant lsda)) }
+fn named_data(out: &mut [u8], at: usize, p: &Personality, size: usize) -> usize
+    requires { NamedFits p.now × (at + length (named_data p.now.encoding size (lsda_of p.now.lsda)) ≤ length out.old) }
+    ensures { Wrote out.old out.new at result (named_data p.now.encoding size (lsda_of p.now.lsda)) }
 {
-    let a = leb::byte(out, at, e as u8);
+    let a = leb::byte(out, at, p.encoding as u8);
     let b = leb::fill(out, a, size);
-    let c = lsda_letter(out, b, lsda);
+    let c = lsda_letter(out, b, p.lsda);
     leb::byte(out, c, encodings::PCREL_SDATA4 as u8)
 }
 
 // A personality by its encoding, and an LSDA by its.
-fn named_header(out: &mut [u8], at: usize, f: &Function, e: u64, lsda: Option<u64>) -> usize
-    requires { (e < 256) × IfSome lsda (λ l. l < 256) × (at + length (tail_by f.now (named e 0 (lsda_meant lsda))) ≤ length out.old) }
-    ensures { Wrote out.old out.new at result (tail_by f.now (named e 0 (lsda_meant lsda))) }
+fn named_header(out: &mut [u8], at: usize, f: &Function, p: &Personality) -> usize
+    requires { NamedFits p.now × (at + length (tail_by f.now (named_by p.now)) ≤ length out.old) }
+    ensures { Wrote out.old out.new at result (tail_by f.now (named_by p.now)) }
 {
-    let has_lsda = lsda.is_some();
+    let has_lsda = p.lsda.is_some();
     let a = named_letters(out, at, has_lsda);
     let b = middle(out, a, f);
-    let size = numbers::pointer_bytes(f.machine.word, e);
+    let size = numbers::pointer_bytes(f.machine.word, p.encoding);
     let c = leb::uleb(out, b, 2 + size + flag(has_lsda));
-    named_data(out, c, e, size as usize, lsda)
+    named_data(out, c, p, size as usize)
 }
 
-// The personality of functions with landings: indirect, relative, 4 bytes, and so is the LSDA.
+// The personality of functions with landings: indirect, relative, 4 bytes, and so is the pointer to their call sites.
 fn personal_header(out: &mut [u8], at: usize, f: &Function) -> usize
     requires { at + length (tail_by f.now personal) ≤ length out.old }
     ensures { Wrote out.old out.new at result (tail_by f.now personal) }
 {
-    named_header(
-        out,
-        at,
-        f,
-        encodings::INDIRECT_PCREL_SDATA4,
-        Some(encodings::PCREL_SDATA4),
-    )
+    let call_sites = Lsda {
+        encoding: encodings::PCREL_SDATA4,
+        symbol: relocs::EXCEPT_TABLE,
+    };
+    let of_landings = Personality {
+        encoding: encodings::INDIRECT_PCREL_SDATA4,
+        routine: relocs::PERSONALITY,
+        lsda: Some(call_sites),
+    };
+    named_header(out, at, f, &of_landings)
 }
 
 // What follows the version, by the function's record.
 fn tail(out: &mut [u8], at: usize, f: &Function) -> usize
-    requires { NamedFits f.now.extent × (at + length (tail_by f.now (kind_in f.now.extent)) ≤ length out.old) }
+    requires { KindFits (asked_kind f.now.extent) × (at + length (tail_by f.now (kind_in f.now.extent)) ≤ length out.old) }
     ensures { Wrote out.old out.new at result (tail_by f.now (kind_in f.now.extent)) }
 {
     match kind_of(&f.extent) {
         Kind::Plain => plain_header(out, at, f),
         Kind::Personal => personal_header(out, at, f),
-        Kind::Named => {
-            let lsda = f.extent.lsda.then_some(f.extent.lsda_encoding);
-            named_header(out, at, f, f.extent.encoding, lsda)
-        }
+        Kind::Named(p) => named_header(out, at, f, &p),
     }
 }
 
 // The fields in front of the rows. In debug_frame there is no augmentation but the signal mark.
 fn fields(out: &mut [u8], at: usize, f: &Function) -> usize
-    requires { NamedFits f.now.extent × (at + length (fields_of f.now) ≤ length out.old) }
+    requires { KindFits (asked_kind f.now.extent) × (at + length (fields_of f.now) ≤ length out.old) }
     ensures { Wrote out.old out.new at result (fields_of f.now) }
 {
     let a = leb::le(out, at, 4, numbers::header_id(f.debug));
@@ -261,7 +262,7 @@ fn letters_size(f: &Function) -> usize
     match kind_of(&f.extent) {
         Kind::Plain => 2,
         Kind::Personal => 4,
-        Kind::Named => 3 + flag(f.extent.lsda) as usize,
+        Kind::Named(p) => 3 + flag(p.lsda.is_some()) as usize,
     }
 }
 
@@ -272,9 +273,9 @@ fn data_size(f: &Function) -> usize
     match kind_of(&f.extent) {
         Kind::Plain => 1,
         Kind::Personal => 7,
-        Kind::Named => {
-            let pointer = numbers::pointer_bytes(f.machine.word, f.extent.encoding);
-            2 + pointer as usize + flag(f.extent.lsda) as usize
+        Kind::Named(p) => {
+            let pointer = numbers::pointer_bytes(f.machine.word, p.encoding);
+            2 + pointer as usize + flag(p.lsda.is_some()) as usize
         }
     }
 }
@@ -315,7 +316,7 @@ pub fn header(out: &mut [u8], at: usize, f: &Function) -> usize
 // ---- its relocation
 
 // How many relocations a header has: one where it names a personality, none in debug_frame.
-#[tactic(auto, unfolding(crate::specs::Kinds::header_reloc_count, crate::specs::Kinds::flag, format::specs::Prelude::pick))]
+#[tactic(auto, unfolding(crate::specs::Kinds::header_reloc_count, crate::specs::Kinds::kind_reloc_count, format::specs::Prelude::pick))]
 pub fn header_relocs_count(f: &Function) -> usize
     ensures { result ≡ header_reloc_count f.now.debug f.now.extent }
 {
@@ -325,7 +326,7 @@ pub fn header_relocs_count(f: &Function) -> usize
     match kind_of(&f.extent) {
         Kind::Plain => 0,
         Kind::Personal => 1,
-        Kind::Named => 1,
+        Kind::Named(_) => 1,
     }
 }
 
@@ -355,13 +356,13 @@ pub fn header_relocs(out: &mut [u64], i: usize, f: &Function, at: usize) -> usiz
             relocs::PERSONALITY,
             encodings::INDIRECT_PCREL_SDATA4,
         ),
-        Kind::Named => pointer(
+        Kind::Named(p) => pointer(
             out,
             i,
             f.machine.word,
             pointer_place(f, at),
-            f.extent.routine,
-            f.extent.encoding,
+            p.routine,
+            p.encoding,
         ),
     }
 }
