@@ -1,19 +1,22 @@
 // Headers (CIE): their bytes, sizes and relocations. Ported from rucc-asm/src/unwind.rs (header, personal_header, named_header, pointer, starts, pad) of tamnd/rucc, changed: see NOTICE.
 #![tactic(auto)]
 
-ghost use Rattle.std.specs.Prelude.{◌≡◌, false, [], ◌∷◌, ◌+◌, ◌*◌, ◌^◌, ◌≤◌, ◌<◌, length, IfSome};
+ghost use Rattle.std.specs.Prelude.{◌≡◌, [], ◌∷◌, ◌+◌, ◌*◌, ◌^◌, ◌≤◌, ◌<◌, length, IfSome};
 ghost use Rattle.format.proofs.Wrote.{Wrote};
 ghost use Rattle.format.specs.Lists.{numbers_of};
-ghost use Rattle.format.specs.Headers.{padding, pointer_reloc, plain, personal, letters, lsda_letter, augmentation_data, data_factor, pointer_place};
+ghost use Rattle.format.specs.Headers.{padding, pointer_reloc, plain, personal, letters, lsda_letter, augmentation_data, data_factor, header_fields, pointer_place, header_relocs};
+ghost use Rattle.format.proofs.Fits.{MachineFits};
+ghost use Rattle.header_keys.specs.Functions.{key_in};
 ghost use Rattle.format.proofs.SectionSize.{Aligned};
 ghost use Rattle.headers.specs.Entries.{Closed};
 ghost use Rattle.header_keys.specs.Kinds.{lsda_of, named_by, asked_kind, kind_in};
-ghost use Rattle.headers.specs.Kinds.{head_in, EncodingFits, NamedFits, KindFits, ending, flag, named_letters, named_data, header_reloc_count};
+ghost use Rattle.headers.specs.Kinds.{head_in, EncodingFits, NamedFits, KindFits, ending, middle, flag, named_letters, named_data, header_reloc_count};
 ghost use Rattle.headers.specs.Written.{middle_of, tail_by, fields_of, starts_of, header_of, header_relocs_of};
 
+use format::Machine;
 use header_keys::written::Function;
 use header_keys::{Kind, kind_of};
-use lists::{Lsda, Personality};
+use lists::{Extent, Lsda, Personality};
 use numbers::encodings;
 
 // ---- the end of an entry
@@ -248,18 +251,18 @@ fn starts_size(f: &Function) -> usize
 // ---- sizes
 
 // How many bytes `middle` stores.
-fn middle_size(f: &Function) -> usize
-    ensures { (result ≡ length (middle_of f.now)) × (result ≤ 23) }
+fn middle_size(word: u64, ret: u64, signal: bool) -> usize
+    requires { word ≤ 8 }
+    ensures { (result ≡ length (middle word ret signal)) × (result ≤ 23) }
 {
-    let factor = data_factor(f.machine.word);
-    2 + flag(f.extent.signal) as usize + leb::sleb_size(factor) + leb::uleb_size(f.machine.ret)
+    2 + flag(signal) as usize + leb::sleb_size(data_factor(word)) + leb::uleb_size(ret)
 }
 
 // How many letters the augmentation string has.
-fn letters_size(f: &Function) -> usize
-    ensures { (result ≡ length (letters (kind_in f.now.extent))) × (result ≤ 4) }
+fn letters_size(e: &Extent) -> usize
+    ensures { (result ≡ length (letters (kind_in e.now))) × (result ≤ 4) }
 {
-    match kind_of(&f.extent) {
+    match kind_of(e) {
         Kind::Plain => 2,
         Kind::Personal => 4,
         Kind::Named(p) => 3 + flag(p.lsda.is_some()) as usize,
@@ -267,28 +270,30 @@ fn letters_size(f: &Function) -> usize
 }
 
 // How many bytes the augmentation data has.
-fn data_size(f: &Function) -> usize
-    ensures { (result ≡ length (augmentation_data f.now.machine.now.word (kind_in f.now.extent))) × (result ≤ 11) }
+fn data_size(word: u64, e: &Extent) -> usize
+    requires { word ≤ 8 }
+    ensures { (result ≡ length (augmentation_data word (kind_in e.now))) × (result ≤ 11) }
 {
-    match kind_of(&f.extent) {
+    match kind_of(e) {
         Kind::Plain => 1,
         Kind::Personal => 7,
         Kind::Named(p) => {
-            let pointer = numbers::pointer_bytes(f.machine.word, p.encoding);
+            let pointer = numbers::pointer_bytes(word, p.encoding);
             2 + pointer as usize + flag(p.lsda.is_some()) as usize
         }
     }
 }
 
 // How many bytes `fields` stores; the data's length is one of them.
-fn fields_size(f: &Function) -> usize
-    ensures { (result ≡ length (fields_of f.now)) × (result ≤ 44) }
+fn fields_size(debug: bool, m: &Machine, e: &Extent) -> usize
+    requires { m.now.word ≤ 8 }
+    ensures { (result ≡ length (header_fields debug m.now (head_in e.now))) × (result ≤ 44) }
 {
-    let n = 5 + middle_size(f);
-    if f.debug {
+    let n = 5 + middle_size(m.word, m.ret, e.signal);
+    if debug {
         return n;
     }
-    n + letters_size(f) + 1 + data_size(f)
+    n + letters_size(e) + 1 + data_size(m.word, e)
 }
 
 // ---- a header
@@ -297,11 +302,10 @@ pub fn header_size(f: &Function, at: usize) -> usize
     requires { at < 2 ^ 32 }
     ensures { result ≡ length (header_of f.now at) }
 {
-    let n = 4 + fields_size(f) + starts_size(f);
+    let n = 4 + fields_size(f.debug, f.machine, &f.extent) + starts_size(f);
     n + padding(f.align, at + n)
 }
 
-// Kept: the list and the place stand apart here and in `header_relocs`, as in leb.
 // The bytes of a header: a blank length, the fields and the leading rows, and what `pad` adds.
 pub fn header(out: &mut [u8], at: usize, f: &Function) -> usize
     requires { EncodingFits f.now.extent × (at + length (header_of f.now at) ≤ length out.old) }
@@ -317,13 +321,13 @@ pub fn header(out: &mut [u8], at: usize, f: &Function) -> usize
 
 // How many relocations a header has: one where it names a personality, none in debug_frame.
 #[tactic(auto, unfolding(crate::specs::Kinds::header_reloc_count, crate::specs::Kinds::kind_reloc_count, format::specs::Prelude::pick))]
-pub fn header_relocs_count(f: &Function) -> usize
-    ensures { result ≡ header_reloc_count f.now.debug f.now.extent }
+pub fn header_relocs_count(debug: bool, e: &Extent) -> usize
+    ensures { result ≡ header_reloc_count debug e.now }
 {
-    if f.debug {
+    if debug {
         return 0;
     }
-    match kind_of(&f.extent) {
+    match kind_of(e) {
         Kind::Plain => 0,
         Kind::Personal => 1,
         Kind::Named(_) => 1,
@@ -331,36 +335,43 @@ pub fn header_relocs_count(f: &Function) -> usize
 }
 
 // The place of the personality's pointer, behind its encoding, the first byte of the augmentation data.
-fn pointer_place(f: &Function, at: usize) -> u64
-    requires { (f.now.debug ≡ false) × (at < 2 ^ 32) }
-    ensures { result ≡ pointer_place f.now.machine.now at (head_in f.now.extent) }
+fn pointer_place(m: &Machine, at: usize, e: &Extent) -> u64
+    requires { (m.now.word ≤ 8) × (at < 2 ^ 32) }
+    ensures { result ≡ pointer_place m.now at (head_in e.now) }
 {
-    (at + 4 + fields_size(f) - data_size(f) + 1) as u64
+    (at + 4 + fields_size(false, m, e) - data_size(m.word, e) + 1) as u64
 }
 
-// The relocation of a header's personality.
-pub fn header_relocs(out: &mut [u64], i: usize, f: &Function, at: usize) -> usize
-    requires { (at < 2 ^ 32) × (i + 5 * header_reloc_count f.now.debug f.now.extent ≤ length out.old) }
-    ensures { Wrote out.old out.new i result (numbers_of (header_relocs_of f.now at)) }
+// The relocation of a header's personality. It asks no more of the function than its kind and the machine, so it takes no `Function`.
+pub fn header_relocs(
+    out: &mut [u64],
+    i: usize,
+    debug: bool,
+    m: &Machine,
+    at: usize,
+    e: &Extent,
+) -> usize
+    requires { MachineFits m.now × (at < 2 ^ 32) × (i + 5 * header_reloc_count debug e.now ≤ length out.old) }
+    ensures { Wrote out.old out.new i result (numbers_of (header_relocs debug m.now at (key_in m.now e.now []))) }
 {
-    if f.debug {
+    if debug {
         return i;
     }
-    match kind_of(&f.extent) {
+    match kind_of(e) {
         Kind::Plain => i,
         Kind::Personal => pointer(
             out,
             i,
-            f.machine.word,
-            pointer_place(f, at),
+            m.word,
+            pointer_place(m, at, e),
             relocs::PERSONALITY,
             encodings::INDIRECT_PCREL_SDATA4,
         ),
         Kind::Named(p) => pointer(
             out,
             i,
-            f.machine.word,
-            pointer_place(f, at),
+            m.word,
+            pointer_place(m, at, e),
             p.routine,
             p.encoding,
         ),

@@ -7,15 +7,15 @@ use Rattle.headers.proofs.letters_size.Goals as goal
 
 pub returns-in-Plain : goal.returns-in-Plain
 unfolding letters
-returns-in-Plain c = (rw (decides_plain c.args.f.now.extent c.kind_of.ensures c.in-Plain.is), omega arith)
+returns-in-Plain c = (rw (decides_plain c.args.e.now c.kind_of.ensures c.in-Plain.is), omega arith)
 
 pub returns-in-Personal : goal.returns-in-Personal
 unfolding letters
-returns-in-Personal c = (rw (decides_personal c.args.f.now.extent c.kind_of.ensures c.in-Personal.is), omega arith)
+returns-in-Personal c = (rw (decides_personal c.args.e.now c.kind_of.ensures c.in-Personal.is), omega arith)
 
 pub returns-in-Named : goal.returns-in-Named
 returns-in-Named c = (
-  rw (decides_named c.args.f.now.extent c.kind_of.ensures c.in-Named.is, letters-length c.in-Named.p)
+  rw (decides_named c.args.e.now c.kind_of.ensures c.in-Named.is, letters-length c.in-Named.p)
       (omega (arith, rw c.is_some.ensures at c.flag.ensures.0)),
   omega (arith, c.flag.ensures.1),
 )
