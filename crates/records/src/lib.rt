@@ -517,7 +517,7 @@ pub fn record_relocs_count(f: &Function, pairs: &[u64]) -> usize
         at: f.extent.rows_at + k,
         n: f.extent.rows - k,
     };
-    n + step_relocs_count(&others, &Pairs::of(labels, pairs))
+    n + step_relocs_count(&others, &Pairs::of(&labels, pairs))
 }
 
 // Those of a record: of the fields, then of the steps.
@@ -537,5 +537,5 @@ pub fn record_relocs(out: &mut [u64], i: usize, f: &Function, p: &Places, pairs:
         n: f.extent.rows - k,
     };
     let place = p.at + 4 + fields_size(f);
-    step_relocs(out, a, place as u64, &others, &Pairs::of(labels, pairs))
+    step_relocs(out, a, place as u64, &others, &Pairs::of(&labels, pairs))
 }

@@ -51,9 +51,9 @@ impl<'a> Pairs<'a> {
     ghost use Rattle.records.specs.Written.{pairs_of, pairs_in};
 
     // A function's pairs.
-    pub fn of(l: Labels, list: &'a [u64]) -> Pairs<'a>
-        requires { PairsReady l list.now }
-        ensures { pairs_of result ≡ pairs_in l list.now }
+    pub fn of(l: &Labels, list: &'a [u64]) -> Pairs<'a>
+        requires { PairsReady l.now list.now }
+        ensures { pairs_of result ≡ pairs_in l.now list.now }
     {
         Pairs {
             list,
