@@ -335,7 +335,7 @@ fn relocs_size(own: bool, f: &Function, pairs: &[u64]) -> usize
 {
     let n = record_relocs_count(f, pairs);
     if own {
-        return relocs::RELOCATION_STRIDE * (header_relocs_count(f) + n);
+        return relocs::RELOCATION_STRIDE * (header_relocs_count(f.debug, &f.extent) + n);
     }
     relocs::RELOCATION_STRIDE * n
 }
@@ -526,7 +526,14 @@ fn front(own: bool, f: &Function, t: Table, to: &mut Output) -> Table
         return t;
     }
     let at = header(to.bytes, t.bytes, f);
-    let i = header_relocs(to.relocations, t.relocations, f, t.bytes);
+    let i = header_relocs(
+        to.relocations,
+        t.relocations,
+        f.debug,
+        f.machine,
+        t.bytes,
+        &f.extent,
+    );
     Table {
         bytes: at,
         relocations: i,
