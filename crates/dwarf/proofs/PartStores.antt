@@ -2,7 +2,7 @@
 use mathlib.Core.Path.{◌≡◌, refl}
 use Prim.Native.Nat.{ℕ, ◌+◌, ◌*◌, ◌^◌, ◌≤◌, ◌<◌}
 use native.Mathlib.Omega.{arith}
-use mathlib.Core.Bool.{Bool, true}
+use mathlib.Core.Bool.{Bool}
 use mathlib.Core.List.{List, [], ◌++◌}
 use lib.ListN.{length, length-append}
 use Rattle.format.proofs.Wrote.{Wrote}
@@ -16,7 +16,7 @@ use Rattle.format.proofs.EntryBack.{padding_small}
 use Rattle.format.proofs.PutLaws.{◌then◌, kept}
 use Rattle.lists.specs.declared.Extent.{Extent}
 use Rattle.lists.specs.Extents.{meant}
-use Rattle.header_keys.specs.Functions.{body_of, LandingsReady, PairsReady}
+use Rattle.header_keys.specs.Functions.{body_of, LandingsReady, LabelsReady}
 use Rattle.format.proofs.ListLaws.{numbers_length, numbers_append}
 use Rattle.records.proofs.RelocLaws.{relocs_count}
 use Rattle.dwarf.specs.declared.Table.{Table}
@@ -90,7 +90,7 @@ module _ {own debug : Bool} {m : Machine} {align cie : ℕ} {e : Extent} {t : Ta
       rw behind (omega (arith, bytes_long, r.bytes_fit, kept f.bytes_stored)),
     )
 
-    pub relocs_ready : (table : ℕ) → (e.relaxed ≡ true → PairsReady e pairs) × (u.bytes < 2 ^ 32)
+    pub relocs_ready : (table : ℕ) → LabelsReady e pairs × (u.bytes < 2 ^ 32)
         × (u.relocations + 5 * length (relocs_at u.bytes table) ≤ length relocs₁)
     relocs_ready table = (
       r.pairs_ready,

@@ -1,18 +1,18 @@
 -- What the questions of one function and of all may rely on, and the answer behind question 11.
-use Rattle.std.specs.Prelude.{◌≡◌, Bool, true, ℕ, ◌<◌, List, []}
+use Rattle.std.specs.Prelude.{Bool, ℕ, ◌<◌, List, []}
 use Rattle.format.specs.Prelude.{all}
 use Rattle.format.specs.Rows.{row_whole}
 use Rattle.format.specs.Lists.{Function, functions_of, lists_ok}
 use Rattle.format.specs.Questions.{Answer, Room, ask, unless, dwarf_answer}
 use Rattle.lists.specs.declared.Extent.{Extent}
 use Rattle.lists.specs.Extents.{meant}
-use Rattle.header_keys.specs.Functions.{RowsReady, PairsReady}
+use Rattle.header_keys.specs.Functions.{RowsReady, LabelsReady}
 use Rattle.header_keys.specs.Inputs.{Inputs, count_in, extent_in, rows_of}
 
 -- its rows can be read and, where it has relaxing labels, its pairs
 pub record Askable (e : Extent) (rows pairs : List ℕ) : Type 0 where
   pub ready : RowsReady rows e.rows_at e.rows
-  pub paired : e.relaxed ≡ true → PairsReady e pairs
+  pub paired : LabelsReady e pairs
 
 pub record AllAskable (x : Inputs) : Type 0 where
   pub each_one : (k : ℕ) → k < count_in x → Askable (extent_in x k) x.rows x.pairs

@@ -1,5 +1,5 @@
 -- How much stands in the lent lists behind a pass, whether there is room, and what a function adds to them.
-use Rattle.std.specs.Prelude.{◌≡◌, ℕ, ◌+◌, ◌*◌, ◌^◌, ◌≤◌, ◌<◌, Bool, true, false, List, [], ◌∷◌, length, get_or, eqb}
+use Rattle.std.specs.Prelude.{ℕ, ◌+◌, ◌*◌, ◌^◌, ◌≤◌, ◌<◌, Bool, true, false, List, [], ◌∷◌, length, get_or, eqb}
 use Rattle.format.specs.Prelude.{pick}
 use Rattle.format.proofs.Wrote.{Wrote}
 use Rattle.format.specs.Lists.{numbers_of, field, function_stride, count, mark, sum_of, most_functions, most_records}
@@ -8,7 +8,7 @@ use Rattle.format.specs.declared.Counts.{Counts}
 use Rattle.format.specs.Writer.{Part}
 use Rattle.format.proofs.SectionSize.{Aligned}
 use Rattle.lists.specs.declared.Extent.{Extent}
-use Rattle.header_keys.specs.Functions.{Sound, LandingsReady, PairsReady}
+use Rattle.header_keys.specs.Functions.{Sound, LandingsReady, LabelsReady}
 use Rattle.headers.specs.Kinds.{EncodingFits}
 use Rattle.dwarf.specs.declared.Table.{Table}
 use Rattle.dwarf.specs.declared.Chosen.{Chosen}
@@ -46,7 +46,7 @@ pub record SizeReady (own debug : Bool) (m : Machine) (align : ℕ) (e : Extent)
   pub sound : Sound m e rows
   pub aligned : Aligned align
   pub landings_ready : LandingsReady e landings
-  pub pairs_ready : e.relaxed ≡ true → PairsReady e pairs
+  pub pairs_ready : LabelsReady e pairs
   pub small : Small (grown_by t (part_in own debug m align t.bytes 0 t.sites e rows landings pairs))
 
 -- a table's counts behind n header places, in the elements of the lent lists
@@ -112,7 +112,7 @@ pub record PieceReady (own debug : Bool) (m : Machine) (align cie : ℕ) (e : Ex
   pub encoding_fits : EncodingFits e
   pub aligned : Aligned align
   pub landings_ready : LandingsReady e landings
-  pub pairs_ready : e.relaxed ≡ true → PairsReady e pairs
+  pub pairs_ready : LabelsReady e pairs
   pub near : cie ≤ t.bytes
   pub small : Small (grown_by t (part_in own debug m align t.bytes cie t.sites e rows landings pairs))
   pub bytes_fit : t.bytes + length (part_in own debug m align t.bytes cie t.sites e rows landings pairs).bytes ≤ length bytes

@@ -12,7 +12,7 @@ ghost use Rattle.format.proofs.Asked.{question_of};
 ghost use Rattle.lists.specs.Extents.{meant};
 ghost use Rattle.lists.specs.Parts.{sums_ok};
 ghost use Rattle.lists.specs.Room.{room_for};
-ghost use Rattle.header_keys.specs.Functions.{body_of, Sound, PairsReady};
+ghost use Rattle.header_keys.specs.Functions.{body_of, Sound, PairsReady, LabelsReady};
 ghost use Rattle.header_keys.specs.Inputs.{inputs_of, count_in, extent_in, RowsIn, rows_of};
 ghost use Rattle.dwarf.specs.Asks.{Askable, AllAskable, whole_in, asked_in, listed_answer};
 ghost use Rattle.dwarf.specs.Parts.{parts_to, section_in};
@@ -27,7 +27,7 @@ use format::{Counts, Machine, Refusal, Section};
 use header_keys::written::{Function, Run};
 use header_keys::{Input, Kind, kind_of};
 use headers::{header, header_relocs, header_relocs_count, header_size, padding};
-use lists::{Extent, Lists, MOST_FUNCTIONS, machine_of, machine_ok, sums_ok};
+use lists::{Extent, Labels, Lists, MOST_FUNCTIONS, machine_of, machine_ok, sums_ok};
 use numbers::pointer_size;
 use owners::Chains;
 use records::{
@@ -93,14 +93,14 @@ fn encodings_ok(x: &Input, e: &Extent) -> bool
     match kind_of(e) {
         Kind::Plain => true,
         Kind::Personal => true,
-        Kind::Named => {
-            if pointer_size(true, x.machine.word, e.encoding).is_none() {
+        Kind::Named(p) => {
+            if pointer_size(true, x.machine.word, p.encoding).is_none() {
                 return false;
             }
-            if !e.lsda {
-                return true;
+            match p.lsda {
+                Some(l) => pointer_size(false, x.machine.word, l.encoding).is_some(),
+                None => true,
             }
-            pointer_size(false, x.machine.word, e.lsda_encoding).is_some()
         }
     }
 }
@@ -185,22 +185,22 @@ fn pair_differs(pairs: &[u64], i: usize) -> bool
 }
 
 // Question 25: the two places of each pair are different.
-fn pairs_differ(x: &Input, e: &Extent) -> bool
-    requires { PairsReady e.now x.now.lists.pairs.now }
-    ensures { result ≡ all (λ p. not (eqb p.place1 p.place2)) (each (pair_at x.now.lists.pairs.now) e.now.pairs_at e.now.pairs) }
+fn pairs_differ(x: &Input, l: &Labels) -> bool
+    requires { PairsReady l.now x.now.lists.pairs.now }
+    ensures { result ≡ all (λ p. not (eqb p.place1 p.place2)) (each (pair_at x.now.lists.pairs.now) l.now.pairs_at l.now.pairs) }
 {
-    (e.pairs_at..e.pairs_at + e.pairs).all(|i| pair_differs(x.lists.pairs, i))
+    (l.pairs_at..l.pairs_at + l.pairs).all(|i| pair_differs(x.lists.pairs, i))
 }
 
 // Question 25 of a function, where it has relaxing labels.
 fn pairs_ok(x: &Input, e: &Extent) -> bool
-    requires { e.now.relaxed ≡ true → PairsReady e.now x.now.lists.pairs.now }
+    requires { LabelsReady e.now x.now.lists.pairs.now }
     ensures { result ≡ pairs_ok (meant e.now [] [] x.now.lists.pairs.now).relaxed }
 {
-    if !e.relaxed {
-        return true;
+    match e.relaxed {
+        Some(l) => pairs_differ(x, &l),
+        None => true,
     }
-    pairs_differ(x, e)
 }
 
 // Questions 21 to 25 of function k, as the section takes it.
@@ -330,12 +330,12 @@ fn front_size(own: bool, f: &Function, at: usize) -> usize
 
 // The numbers of a function's relocations, five each.
 fn relocs_size(own: bool, f: &Function, pairs: &[u64]) -> usize
-    requires { f.now.extent.relaxed ≡ true → PairsReady f.now.extent pairs.now }
+    requires { LabelsReady f.now.extent pairs.now }
     ensures { result ≡ numbers_for own f.now pairs.now }
 {
     let n = record_relocs_count(f, pairs);
     if own {
-        return relocs::RELOCATION_STRIDE * (header_relocs_count(f) + n);
+        return relocs::RELOCATION_STRIDE * (header_relocs_count(f.debug, &f.extent) + n);
     }
     relocs::RELOCATION_STRIDE * n
 }
@@ -397,7 +397,7 @@ fn sizes(x: &Input, chains: &Chains) -> Table
 
 // Questions 21, 22 and 25 of a function, as the section takes it.
 fn fields_ok(x: &Input, e: &Extent) -> bool
-    requires { e.now.relaxed ≡ true → PairsReady e.now x.now.lists.pairs.now }
+    requires { LabelsReady e.now x.now.lists.pairs.now }
     ensures { result ≡ true → (ltb e.now.length (256 ^ size_bytes x.now.section x.now.machine.word) ≡ true) × (encodings_ok x.now.machine.word (body_of e.now []).landings (body_of e.now []).named ≡ true) × (pairs_ok (meant e.now [] [] x.now.lists.pairs.now).relaxed ≡ true) }
 {
     if !size_ok(x, e) {
@@ -526,7 +526,14 @@ fn front(own: bool, f: &Function, t: Table, to: &mut Output) -> Table
         return t;
     }
     let at = header(to.bytes, t.bytes, f);
-    let i = header_relocs(to.relocations, t.relocations, f, t.bytes);
+    let i = header_relocs(
+        to.relocations,
+        t.relocations,
+        f.debug,
+        f.machine,
+        t.bytes,
+        &f.extent,
+    );
     Table {
         bytes: at,
         relocations: i,

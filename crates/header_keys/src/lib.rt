@@ -8,10 +8,10 @@ ghost use Rattle.format.specs.Headers.{implied, leads, ahead, leading};
 ghost use Rattle.format.specs.Lists.{row_at};
 ghost use Rattle.format.proofs.Fits.{MachineFits};
 ghost use Rattle.header_keys.specs.Functions.{taken_in, body_of, RowsReady};
-ghost use Rattle.header_keys.specs.Kinds.{Decides};
+ghost use Rattle.header_keys.specs.Kinds.{asked_kind};
 
 use format::{Machine, Row, Section};
-use lists::Extent;
+use lists::{Extent, Personality};
 
 pub mod input;
 pub mod written;
@@ -27,7 +27,7 @@ pub fn taken(s: Section, e: Extent) -> Extent
         Section::Elf => e,
         Section::Debug => Extent {
             landings: 0,
-            personality: false,
+            personality: None,
             ..e
         },
     }
@@ -40,20 +40,21 @@ pub fn taken(s: Section, e: Extent) -> Extent
 pub enum Kind {
     Plain,
     Personal,
-    Named,
+    Named(Personality),
 }
 
 // The kind of header that a function asks for. Landings beat a named personality.
+#[tactic(auto, unfolding(crate::specs::Kinds::asked_kind, crate::specs::Kinds::by_personality, format::specs::Prelude::pick))]
 pub fn kind_of(e: &Extent) -> Kind
-    ensures { Decides e.now result }
+    ensures { result ≡ asked_kind e.now }
 {
     if e.landings != 0 {
         return Kind::Personal;
     }
-    if e.personality {
-        return Kind::Named;
+    match e.personality {
+        Some(p) => Kind::Named(p),
+        None => Kind::Plain,
     }
-    Kind::Plain
 }
 
 // ---- leading rows

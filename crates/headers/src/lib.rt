@@ -1,18 +1,22 @@
 // Headers (CIE): their bytes, sizes and relocations. Ported from rucc-asm/src/unwind.rs (header, personal_header, named_header, pointer, starts, pad) of tamnd/rucc, changed: see NOTICE.
 #![tactic(auto)]
 
-ghost use Rattle.std.specs.Prelude.{◌≡◌, false, [], ◌∷◌, ◌+◌, ◌*◌, ◌^◌, ◌≤◌, ◌<◌, length, IfSome};
+ghost use Rattle.std.specs.Prelude.{◌≡◌, [], ◌∷◌, ◌+◌, ◌*◌, ◌^◌, ◌≤◌, ◌<◌, length, IfSome};
 ghost use Rattle.format.proofs.Wrote.{Wrote};
 ghost use Rattle.format.specs.Lists.{numbers_of};
-ghost use Rattle.format.specs.Headers.{padding, pointer_reloc, plain, personal, named, letters, lsda_letter, augmentation_data, data_factor, pointer_place};
+ghost use Rattle.format.specs.Headers.{padding, pointer_reloc, plain, personal, letters, lsda_letter, augmentation_data, data_factor, header_fields, pointer_place, header_relocs};
+ghost use Rattle.format.proofs.Fits.{MachineFits};
+ghost use Rattle.header_keys.specs.Functions.{key_in};
 ghost use Rattle.format.proofs.SectionSize.{Aligned};
 ghost use Rattle.headers.specs.Entries.{Closed};
-ghost use Rattle.header_keys.specs.Kinds.{kind_in};
-ghost use Rattle.headers.specs.Kinds.{head_in, EncodingFits, NamedFits, lsda_meant, ending, flag, named_letters, named_data, header_reloc_count};
+ghost use Rattle.header_keys.specs.Kinds.{lsda_of, named_by, asked_kind, kind_in};
+ghost use Rattle.headers.specs.Kinds.{head_in, EncodingFits, NamedFits, KindFits, ending, middle, flag, named_letters, named_data, header_reloc_count};
 ghost use Rattle.headers.specs.Written.{middle_of, tail_by, fields_of, starts_of, header_of, header_relocs_of};
 
+use format::Machine;
 use header_keys::written::Function;
 use header_keys::{Kind, kind_of};
+use lists::{Extent, Lsda, Personality};
 use numbers::encodings;
 
 // ---- the end of an entry
@@ -137,72 +141,72 @@ fn named_letters(out: &mut [u8], at: usize, lsda: bool) -> usize
 }
 
 // The LSDA's encoding, where there is an LSDA.
-fn lsda_letter(out: &mut [u8], at: usize, lsda: Option<u64>) -> usize
-    requires { IfSome lsda (λ l. l < 256) × (at + length (lsda_letter (lsda_meant lsda)) ≤ length out.old) }
-    ensures { Wrote out.old out.new at result (lsda_letter (lsda_meant lsda)) }
+fn lsda_letter(out: &mut [u8], at: usize, lsda: Option<Lsda>) -> usize
+    requires { IfSome lsda (λ l. l.encoding < 256) × (at + length (lsda_letter (lsda_of lsda)) ≤ length out.old) }
+    ensures { Wrote out.old out.new at result (lsda_letter (lsda_of lsda)) }
 {
     match lsda {
-        Some(l) => leb::byte(out, at, l as u8),
+        Some(l) => leb::byte(out, at, l.encoding as u8),
         None => at,
     }
 }
 
 // The personality's encoding and blank pointer, the LSDA's encoding, the records' encoding.
-fn named_data(out: &mut [u8], at: usize, e: u64, size: usize, lsda: Option<u64>) -> usize
-    requires { (e < 256) × IfSome lsda (λ l. l < 256) × (at + length (named_data e size (lsda_meant lsda)) ≤ length out.old) }
-    ensures { Wrote out.old out.new at result (named_data e size (lsda_meant lsda)) }
+fn named_data(out: &mut [u8], at: usize, p: &Personality, size: usize) -> usize
+    requires { NamedFits p.now × (at + length (named_data p.now.encoding size (lsda_of p.now.lsda)) ≤ length out.old) }
+    ensures { Wrote out.old out.new at result (named_data p.now.encoding size (lsda_of p.now.lsda)) }
 {
-    let a = leb::byte(out, at, e as u8);
+    let a = leb::byte(out, at, p.encoding as u8);
     let b = leb::fill(out, a, size);
-    let c = lsda_letter(out, b, lsda);
+    let c = lsda_letter(out, b, p.lsda);
     leb::byte(out, c, encodings::PCREL_SDATA4 as u8)
 }
 
 // A personality by its encoding, and an LSDA by its.
-fn named_header(out: &mut [u8], at: usize, f: &Function, e: u64, lsda: Option<u64>) -> usize
-    requires { (e < 256) × IfSome lsda (λ l. l < 256) × (at + length (tail_by f.now (named e 0 (lsda_meant lsda))) ≤ length out.old) }
-    ensures { Wrote out.old out.new at result (tail_by f.now (named e 0 (lsda_meant lsda))) }
+fn named_header(out: &mut [u8], at: usize, f: &Function, p: &Personality) -> usize
+    requires { NamedFits p.now × (at + length (tail_by f.now (named_by p.now)) ≤ length out.old) }
+    ensures { Wrote out.old out.new at result (tail_by f.now (named_by p.now)) }
 {
-    let has_lsda = lsda.is_some();
+    let has_lsda = p.lsda.is_some();
     let a = named_letters(out, at, has_lsda);
     let b = middle(out, a, f);
-    let size = numbers::pointer_bytes(f.machine.word, e);
+    let size = numbers::pointer_bytes(f.machine.word, p.encoding);
     let c = leb::uleb(out, b, 2 + size + flag(has_lsda));
-    named_data(out, c, e, size as usize, lsda)
+    named_data(out, c, p, size as usize)
 }
 
-// The personality of functions with landings: indirect, relative, 4 bytes, and so is the LSDA.
+// The personality of functions with landings: indirect, relative, 4 bytes, and so is the pointer to their call sites.
 fn personal_header(out: &mut [u8], at: usize, f: &Function) -> usize
     requires { at + length (tail_by f.now personal) ≤ length out.old }
     ensures { Wrote out.old out.new at result (tail_by f.now personal) }
 {
-    named_header(
-        out,
-        at,
-        f,
-        encodings::INDIRECT_PCREL_SDATA4,
-        Some(encodings::PCREL_SDATA4),
-    )
+    let call_sites = Lsda {
+        encoding: encodings::PCREL_SDATA4,
+        symbol: relocs::EXCEPT_TABLE,
+    };
+    let of_landings = Personality {
+        encoding: encodings::INDIRECT_PCREL_SDATA4,
+        routine: relocs::PERSONALITY,
+        lsda: Some(call_sites),
+    };
+    named_header(out, at, f, &of_landings)
 }
 
 // What follows the version, by the function's record.
 fn tail(out: &mut [u8], at: usize, f: &Function) -> usize
-    requires { NamedFits f.now.extent × (at + length (tail_by f.now (kind_in f.now.extent)) ≤ length out.old) }
+    requires { KindFits (asked_kind f.now.extent) × (at + length (tail_by f.now (kind_in f.now.extent)) ≤ length out.old) }
     ensures { Wrote out.old out.new at result (tail_by f.now (kind_in f.now.extent)) }
 {
     match kind_of(&f.extent) {
         Kind::Plain => plain_header(out, at, f),
         Kind::Personal => personal_header(out, at, f),
-        Kind::Named => {
-            let lsda = f.extent.lsda.then_some(f.extent.lsda_encoding);
-            named_header(out, at, f, f.extent.encoding, lsda)
-        }
+        Kind::Named(p) => named_header(out, at, f, &p),
     }
 }
 
 // The fields in front of the rows. In debug_frame there is no augmentation but the signal mark.
 fn fields(out: &mut [u8], at: usize, f: &Function) -> usize
-    requires { NamedFits f.now.extent × (at + length (fields_of f.now) ≤ length out.old) }
+    requires { KindFits (asked_kind f.now.extent) × (at + length (fields_of f.now) ≤ length out.old) }
     ensures { Wrote out.old out.new at result (fields_of f.now) }
 {
     let a = leb::le(out, at, 4, numbers::header_id(f.debug));
@@ -245,47 +249,49 @@ fn starts_size(f: &Function) -> usize
 // ---- sizes
 
 // How many bytes `middle` stores.
-fn middle_size(f: &Function) -> usize
-    ensures { (result ≡ length (middle_of f.now)) × (result ≤ 23) }
+fn middle_size(word: u64, ret: u64, signal: bool) -> usize
+    requires { word ≤ 8 }
+    ensures { (result ≡ length (middle word ret signal)) × (result ≤ 23) }
 {
-    let factor = data_factor(f.machine.word);
-    2 + flag(f.extent.signal) as usize + leb::sleb_size(factor) + leb::uleb_size(f.machine.ret)
+    2 + flag(signal) as usize + leb::sleb_size(data_factor(word)) + leb::uleb_size(ret)
 }
 
 // How many letters the augmentation string has.
-fn letters_size(f: &Function) -> usize
-    ensures { (result ≡ length (letters (kind_in f.now.extent))) × (result ≤ 4) }
+fn letters_size(e: &Extent) -> usize
+    ensures { (result ≡ length (letters (kind_in e.now))) × (result ≤ 4) }
 {
-    match kind_of(&f.extent) {
+    match kind_of(e) {
         Kind::Plain => 2,
         Kind::Personal => 4,
-        Kind::Named => 3 + flag(f.extent.lsda) as usize,
+        Kind::Named(p) => 3 + flag(p.lsda.is_some()) as usize,
     }
 }
 
 // How many bytes the augmentation data has.
-fn data_size(f: &Function) -> usize
-    ensures { (result ≡ length (augmentation_data f.now.machine.now.word (kind_in f.now.extent))) × (result ≤ 11) }
+fn data_size(word: u64, e: &Extent) -> usize
+    requires { word ≤ 8 }
+    ensures { (result ≡ length (augmentation_data word (kind_in e.now))) × (result ≤ 11) }
 {
-    match kind_of(&f.extent) {
+    match kind_of(e) {
         Kind::Plain => 1,
         Kind::Personal => 7,
-        Kind::Named => {
-            let pointer = numbers::pointer_bytes(f.machine.word, f.extent.encoding);
-            2 + pointer as usize + flag(f.extent.lsda) as usize
+        Kind::Named(p) => {
+            let pointer = numbers::pointer_bytes(word, p.encoding);
+            2 + pointer as usize + flag(p.lsda.is_some()) as usize
         }
     }
 }
 
 // How many bytes `fields` stores; the data's length is one of them.
-fn fields_size(f: &Function) -> usize
-    ensures { (result ≡ length (fields_of f.now)) × (result ≤ 44) }
+fn fields_size(debug: bool, m: &Machine, e: &Extent) -> usize
+    requires { m.now.word ≤ 8 }
+    ensures { (result ≡ length (header_fields debug m.now (head_in e.now))) × (result ≤ 44) }
 {
-    let n = 5 + middle_size(f);
-    if f.debug {
+    let n = 5 + middle_size(m.word, m.ret, e.signal);
+    if debug {
         return n;
     }
-    n + letters_size(f) + 1 + data_size(f)
+    n + letters_size(e) + 1 + data_size(m.word, e)
 }
 
 // ---- a header
@@ -294,7 +300,7 @@ pub fn header_size(f: &Function, at: usize) -> usize
     requires { at < 2 ^ 32 }
     ensures { result ≡ length (header_of f.now at) }
 {
-    let n = 4 + fields_size(f) + starts_size(f);
+    let n = 4 + fields_size(f.debug, f.machine, &f.extent) + starts_size(f);
     n + padding(f.align, at + n)
 }
 
@@ -312,53 +318,60 @@ pub fn header(out: &mut [u8], at: usize, f: &Function) -> usize
 // ---- its relocation
 
 // How many relocations a header has: one where it names a personality, none in debug_frame.
-#[tactic(auto, unfolding(crate::specs::Kinds::header_reloc_count, crate::specs::Kinds::flag, format::specs::Prelude::pick))]
-pub fn header_relocs_count(f: &Function) -> usize
-    ensures { result ≡ header_reloc_count f.now.debug f.now.extent }
+#[tactic(auto, unfolding(crate::specs::Kinds::header_reloc_count, crate::specs::Kinds::kind_reloc_count, format::specs::Prelude::pick))]
+pub fn header_relocs_count(debug: bool, e: &Extent) -> usize
+    ensures { result ≡ header_reloc_count debug e.now }
 {
-    if f.debug {
+    if debug {
         return 0;
     }
-    match kind_of(&f.extent) {
+    match kind_of(e) {
         Kind::Plain => 0,
         Kind::Personal => 1,
-        Kind::Named => 1,
+        Kind::Named(_) => 1,
     }
 }
 
 // The place of the personality's pointer, behind its encoding, the first byte of the augmentation data.
-fn pointer_place(f: &Function, at: usize) -> u64
-    requires { (f.now.debug ≡ false) × (at < 2 ^ 32) }
-    ensures { result ≡ pointer_place f.now.machine.now at (head_in f.now.extent) }
+fn pointer_place(m: &Machine, at: usize, e: &Extent) -> u64
+    requires { (m.now.word ≤ 8) × (at < 2 ^ 32) }
+    ensures { result ≡ pointer_place m.now at (head_in e.now) }
 {
-    (at + 4 + fields_size(f) - data_size(f) + 1) as u64
+    (at + 4 + fields_size(false, m, e) - data_size(m.word, e) + 1) as u64
 }
 
-// The relocation of a header's personality.
-pub fn header_relocs(out: &mut [u64], i: usize, f: &Function, at: usize) -> usize
-    requires { (at < 2 ^ 32) × (i + 5 * header_reloc_count f.now.debug f.now.extent ≤ length out.old) }
-    ensures { Wrote out.old out.new i result (numbers_of (header_relocs_of f.now at)) }
+// The relocation of a header's personality. It asks no more of the function than its kind and the machine, so it takes no `Function`.
+pub fn header_relocs(
+    out: &mut [u64],
+    i: usize,
+    debug: bool,
+    m: &Machine,
+    at: usize,
+    e: &Extent,
+) -> usize
+    requires { MachineFits m.now × (at < 2 ^ 32) × (i + 5 * header_reloc_count debug e.now ≤ length out.old) }
+    ensures { Wrote out.old out.new i result (numbers_of (header_relocs debug m.now at (key_in m.now e.now []))) }
 {
-    if f.debug {
+    if debug {
         return i;
     }
-    match kind_of(&f.extent) {
+    match kind_of(e) {
         Kind::Plain => i,
         Kind::Personal => pointer(
             out,
             i,
-            f.machine.word,
-            pointer_place(f, at),
+            m.word,
+            pointer_place(m, at, e),
             relocs::PERSONALITY,
             encodings::INDIRECT_PCREL_SDATA4,
         ),
-        Kind::Named => pointer(
+        Kind::Named(p) => pointer(
             out,
             i,
-            f.machine.word,
-            pointer_place(f, at),
-            f.extent.routine,
-            f.extent.encoding,
+            m.word,
+            pointer_place(m, at, e),
+            p.routine,
+            p.encoding,
         ),
     }
 }

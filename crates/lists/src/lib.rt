@@ -11,7 +11,7 @@ ghost use Rattle.format.proofs.Asked.{question_of};
 ghost use Rattle.lists.specs.Room.{room_for};
 ghost use Rattle.lists.specs.Parts.{ranges_ok_at, named_ok_at, relaxed_ok_at, sums_ok};
 ghost use Rattle.lists.specs.Given.{count_of, outline_of, function_of, listed_of};
-ghost use Rattle.lists.specs.Extents.{extent_at, landing_in, pair_in, prologue_in};
+ghost use Rattle.lists.specs.Extents.{lsda_at, personality_at, labels_at, extent_at, landing_in, pair_in, prologue_in};
 
 use format::{Counts, Machine, Refusal, Seh};
 use numbers::{codes, machine};
@@ -123,6 +123,29 @@ pub fn machine_of(ms: &[u64]) -> Machine
 
 // ---- records out of the lists
 
+// The data of a function's exceptions, by the encoding and the symbol of the pointer to it.
+#[derive(Clone, Copy)]
+pub struct Lsda {
+    pub encoding: u64,
+    pub symbol: u64,
+}
+
+// A personality that the caller names, by the encoding and the symbol of the pointer to its routine.
+#[derive(Clone, Copy)]
+pub struct Personality {
+    pub encoding: u64,
+    pub routine: u64,
+    pub lsda: Option<Lsda>,
+}
+
+// Relaxing labels: that of the function's end, and those of pairs of places.
+#[derive(Clone, Copy)]
+pub struct Labels {
+    pub end: u64,
+    pub pairs_at: usize,
+    pub pairs: usize,
+}
+
 // Function k of the list: its numbers, with the marks as answers. What they say is function_at of the definitions.
 #[derive(Clone, Copy)]
 pub struct Extent {
@@ -134,16 +157,55 @@ pub struct Extent {
     pub landings: usize,
     pub simple: bool,
     pub signal: bool,
-    pub personality: bool,
-    pub encoding: u64,
-    pub routine: u64,
-    pub lsda: bool,
-    pub lsda_encoding: u64,
-    pub lsda_symbol: u64,
-    pub relaxed: bool,
-    pub end: u64,
-    pub pairs_at: usize,
-    pub pairs: usize,
+    pub personality: Option<Personality>,
+    pub relaxed: Option<Labels>,
+}
+
+#[tactic(auto, unfolding(crate::specs::Extents::lsda_at, crate::specs::Extents::marked, format::specs::Lists::mark, format::specs::Prelude::pick))]
+fn lsda_at(fs: &[u64], k: usize) -> Option<Lsda>
+    requires { 18 * k + 18 ≤ length fs.now }
+    ensures { result ≡ lsda_at fs.now k }
+{
+    let b = FUNCTION_STRIDE * k;
+    if fs[b + function::LSDA] == 0 {
+        return None;
+    }
+    Some(Lsda {
+        encoding: fs[b + function::LSDA_ENCODING],
+        symbol: fs[b + function::LSDA_SYMBOL],
+    })
+}
+
+#[tactic(auto, unfolding(crate::specs::Extents::personality_at, crate::specs::Extents::marked, format::specs::Lists::mark, format::specs::Prelude::pick))]
+fn personality_at(fs: &[u64], k: usize) -> Option<Personality>
+    requires { 18 * k + 18 ≤ length fs.now }
+    ensures { result ≡ personality_at fs.now k }
+{
+    let b = FUNCTION_STRIDE * k;
+    if fs[b + function::PERSONALITY] == 0 {
+        return None;
+    }
+    Some(Personality {
+        encoding: fs[b + function::ENCODING],
+        routine: fs[b + function::ROUTINE],
+        lsda: lsda_at(fs, k),
+    })
+}
+
+#[tactic(auto, unfolding(crate::specs::Extents::labels_at, crate::specs::Extents::marked, format::specs::Lists::mark, format::specs::Prelude::pick))]
+fn labels_at(fs: &[u64], k: usize) -> Option<Labels>
+    requires { 18 * k + 18 ≤ length fs.now }
+    ensures { result ≡ labels_at fs.now k }
+{
+    let b = FUNCTION_STRIDE * k;
+    if fs[b + function::RELAXED] == 0 {
+        return None;
+    }
+    Some(Labels {
+        end: fs[b + function::END],
+        pairs_at: fs[b + function::PAIRS_AT] as usize,
+        pairs: fs[b + function::PAIRS] as usize,
+    })
 }
 
 #[tactic(auto, unfolding(crate::specs::Extents::extent_at, format::specs::Lists::mark))]
@@ -161,16 +223,8 @@ pub fn extent_at(fs: &[u64], k: usize) -> Extent
         landings: fs[b + function::LANDINGS] as usize,
         simple: fs[b + function::SIMPLE] != 0,
         signal: fs[b + function::SIGNAL] != 0,
-        personality: fs[b + function::PERSONALITY] != 0,
-        encoding: fs[b + function::ENCODING],
-        routine: fs[b + function::ROUTINE],
-        lsda: fs[b + function::LSDA] != 0,
-        lsda_encoding: fs[b + function::LSDA_ENCODING],
-        lsda_symbol: fs[b + function::LSDA_SYMBOL],
-        relaxed: fs[b + function::RELAXED] != 0,
-        end: fs[b + function::END],
-        pairs_at: fs[b + function::PAIRS_AT] as usize,
-        pairs: fs[b + function::PAIRS] as usize,
+        personality: personality_at(fs, k),
+        relaxed: labels_at(fs, k),
     }
 }
 

@@ -6,14 +6,14 @@ ghost use Rattle.std.specs.Bool.{beq};
 ghost use Rattle.format.specs.Headers.{same_encoding, same_kind, same_key};
 ghost use Rattle.header_keys.specs.Functions.{key_in};
 ghost use Rattle.header_keys.specs.Inputs.{inputs_of, ListedTo, RowsIn};
-ghost use Rattle.header_keys.specs.Kinds.{lsda_in, kind_in};
+ghost use Rattle.header_keys.specs.Kinds.{lsda_of, kind_in};
 ghost use Rattle.owners.specs.Owners.{key_at, leading_of, same_at, owner};
 ghost use Rattle.owners.specs.Chains.{row_number, mixed, kind_number, digest_of, slot_at, behind_in, Chained};
 ghost use Rattle.owners.specs.Lent.{SameChains, LongFor, EmptyFor, FoundIn, OwnedIn};
 
 use format::Row;
 use header_keys::{Input, Kind, kind_of};
-use lists::Extent;
+use lists::{Extent, Lsda, Personality};
 
 // The lists that the functions' owners are found in: the last owner of each slot, the one behind each owner, and the owners.
 #[derive(Drop)]
@@ -25,30 +25,34 @@ pub struct Chains<'a> {
 
 // ---- kinds of header
 
-// Two functions have LSDAs of one encoding, or neither has one.
-#[tactic(auto, unfolding(header_keys::specs::Kinds::lsda_in, header_keys::specs::Kinds::lsda_of, format::specs::Headers::same_encoding, format::specs::Prelude::pick))]
-fn same_lsda(a: Extent, b: Extent) -> bool
-    ensures { result ≡ same_encoding (lsda_in a) (lsda_in b) }
+// Two LSDAs have one encoding, or there is neither.
+#[tactic(auto, unfolding(header_keys::specs::Kinds::lsda_of, format::specs::Headers::same_encoding))]
+fn same_lsda(a: Option<Lsda>, b: Option<Lsda>) -> bool
+    ensures { result ≡ same_encoding (lsda_of a) (lsda_of b) }
 {
-    a.lsda == b.lsda && (!a.lsda || a.lsda_encoding == b.lsda_encoding)
+    match (a, b) {
+        (None, None) => true,
+        (Some(a), Some(b)) => a.encoding == b.encoding,
+        _ => false,
+    }
 }
 
 // Two named personalities make one kind: by their encodings, their symbols and the LSDA's encoding.
-fn same_named(a: Extent, b: Extent) -> bool
-    ensures { result ≡ eqb a.encoding b.encoding && eqb a.routine b.routine && same_encoding (lsda_in a) (lsda_in b) }
+fn same_named(a: &Personality, b: &Personality) -> bool
+    ensures { result ≡ eqb a.now.encoding b.now.encoding && eqb a.now.routine b.now.routine && same_encoding (lsda_of a.now.lsda) (lsda_of b.now.lsda) }
 {
-    a.encoding == b.encoding && a.routine == b.routine && same_lsda(a, b)
+    a.encoding == b.encoding && a.routine == b.routine && same_lsda(a.lsda, b.lsda)
 }
 
 // Two functions ask for one kind of header.
-#[tactic(auto, unfolding(header_keys::specs::Kinds::kind_in, format::specs::Headers::same_kind, format::specs::Prelude::pick))]
+#[tactic(auto, unfolding(header_keys::specs::Kinds::kind_meant, format::specs::Headers::same_kind))]
 fn same_kind(a: Extent, b: Extent) -> bool
     ensures { result ≡ same_kind (kind_in a) (kind_in b) }
 {
     match (kind_of(&a), kind_of(&b)) {
         (Kind::Plain, Kind::Plain) => true,
         (Kind::Personal, Kind::Personal) => true,
-        (Kind::Named, Kind::Named) => same_named(a, b),
+        (Kind::Named(p), Kind::Named(q)) => same_named(&p, &q),
         _ => false,
     }
 }
@@ -93,14 +97,14 @@ fn mixed(d: u64, r: Row) -> u64
 }
 
 // What the digest of a function's key starts with: its kind of header.
-#[tactic(auto, unfolding(header_keys::specs::Kinds::kind_in, crate::specs::Chains::kind_number, format::specs::Prelude::pick))]
+#[tactic(auto, unfolding(header_keys::specs::Kinds::kind_meant, crate::specs::Chains::kind_number))]
 fn kind_number(e: Extent) -> u64
     ensures { (result ≡ kind_number (kind_in e)) × (result < 2 ^ 34) }
 {
     match kind_of(&e) {
         Kind::Plain => 0,
         Kind::Personal => 1,
-        Kind::Named => 2 + e.routine % 4294967296,
+        Kind::Named(p) => 2 + p.routine % 4294967296,
     }
 }
 

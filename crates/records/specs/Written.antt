@@ -3,7 +3,7 @@ use Rattle.std.specs.Prelude.{ℕ, List, []}
 use Rattle.format.specs.Prelude.{each}
 use Rattle.format.specs.Lists.{Function, Pair, Relocation, pair_at}
 use Rattle.format.specs.Records.{record_bytes, record_relocs}
-use Rattle.lists.specs.declared.Extent.{Extent}
+use Rattle.lists.specs.declared.Labels.{Labels}
 use Rattle.lists.specs.Extents.{meant}
 use Rattle.header_keys.specs.declared.written.Function as written
 use Rattle.header_keys.specs.declared.written.Run.{Run}
@@ -22,8 +22,8 @@ abbrev pub run_bytes : Run → List ℕ
 run_bytes x = rows_in x.word 0 x.rows.now x.at x.n
 
 -- a function's pairs
-abbrev pub pairs_in : Extent → (pairs : List ℕ) → List Pair
-pairs_in e pairs = each (pair_at pairs) e.pairs_at e.pairs
+abbrev pub pairs_in : Labels → (pairs : List ℕ) → List Pair
+pairs_in l pairs = each (pair_at pairs) l.pairs_at l.pairs
 
 abbrev pub pairs_of : Pairs → List Pair
 pairs_of x = each (pair_at x.list.now) x.at x.n

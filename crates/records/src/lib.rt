@@ -11,7 +11,7 @@ ghost use Rattle.format.specs.Lists.{row_stride, row_at, numbers_of, count, most
 ghost use Rattle.format.specs.CallSites.{site_bytes, site_added};
 ghost use Rattle.format.specs.Records.{record_relocs, set_kind, set_bytes, set_place, set_pair};
 ghost use Rattle.lists.specs.Extents.{meant, meant_landing, meant_pair};
-ghost use Rattle.header_keys.specs.Functions.{LandingsReady, PairsReady};
+ghost use Rattle.header_keys.specs.Functions.{LandingsReady, LabelsReady};
 ghost use Rattle.records.specs.Stepped.{stepped_row_bytes, SteppedRowReady, SurveyedRow, Surveyed};
 ghost use Rattle.records.specs.Fields.{size_in, blank_in, fields_in, sum_in, lsda_in, debug_relocs, eh_relocs, field_relocs};
 ghost use Rattle.records.specs.Labels.{step_pair, steps_in};
@@ -162,30 +162,28 @@ pub fn surveyed_rows(word: u64, rows: &[u64], first: usize, n: usize) -> Option<
 // Kept: in all that write bytes of a record, a writer's buffer and place, as in leb; what is written is the function.
 
 // The length: a linker fills in that of a function with relaxing labels.
-#[tactic(auto, unfolding(crate::specs::Fields::size_in, format::specs::Prelude::pick))]
+#[tactic(auto, unfolding(crate::specs::Fields::size_in, crate::specs::Fields::labelled))]
 fn size_field(f: &Function) -> u64
     ensures { result ≡ size_in f.now.extent }
 {
-    if f.extent.relaxed {
+    if f.extent.relaxed.is_some() {
         return 0;
     }
     f.extent.length
 }
 
 // The blank bytes of the pointer to the call sites.
-#[tactic(auto, unfolding(crate::specs::Fields::blank_in, crate::specs::Fields::pointed, format::specs::Prelude::pick))]
+#[tactic(auto, unfolding(crate::specs::Fields::blank_in, crate::specs::Fields::pointed, crate::specs::Fields::lsda_by))]
 fn lsda_blank(f: &Function) -> usize
     ensures { (result ≡ blank_in f.now.machine.now.word f.now.extent) × (result ≤ 8) }
 {
     match kind_of(&f.extent) {
         Kind::Plain => 0,
         Kind::Personal => 4,
-        Kind::Named => {
-            if !f.extent.lsda {
-                return 0;
-            }
-            numbers::pointer_bytes(f.machine.word, f.extent.lsda_encoding) as usize
-        }
+        Kind::Named(p) => match p.lsda {
+            Some(l) => numbers::pointer_bytes(f.machine.word, l.encoding) as usize,
+            None => 0,
+        },
     }
 }
 
@@ -399,19 +397,18 @@ fn sum_pair(out: &mut [u64], i: usize, f: &Function, place: u64, bytes: u64) -> 
     requires { i + length (numbers_of (sum_in place bytes f.now.extent)) ≤ length out.old }
     ensures { Wrote out.old out.new i result (numbers_of (sum_in place bytes f.now.extent)) }
 {
-    let e = &f.extent;
-    if !e.relaxed {
+    let Some(l) = f.extent.relaxed else {
         return i;
-    }
-    let a = relocs::relocation(out, i, place, e.end, relocs::SUM_PLUS, bytes, 0);
-    relocs::relocation(out, a, place, e.symbol, relocs::SUM_MINUS, bytes, 0)
+    };
+    let a = relocs::relocation(out, i, place, l.end, relocs::SUM_PLUS, bytes, 0);
+    relocs::relocation(out, a, place, f.extent.symbol, relocs::SUM_MINUS, bytes, 0)
 }
 
-#[tactic(auto, unfolding(crate::specs::Fields::sum_in, format::specs::Prelude::pick))]
+#[tactic(auto, unfolding(crate::specs::Fields::sum_in, crate::specs::Fields::labelled))]
 fn sum_count(f: &Function) -> usize
     ensures { (result ≡ length (sum_in 0 0 f.now.extent)) × (result ≤ 2) }
 {
-    if f.extent.relaxed {
+    if f.extent.relaxed.is_some() {
         return 2;
     }
     0
@@ -422,36 +419,26 @@ fn lsda_reloc(out: &mut [u64], i: usize, f: &Function, place: u64, table: u64) -
     requires { i + length (numbers_of (lsda_in f.now.machine.now.word place table f.now.extent)) ≤ length out.old }
     ensures { Wrote out.old out.new i result (numbers_of (lsda_in f.now.machine.now.word place table f.now.extent)) }
 {
-    let e = &f.extent;
-    match kind_of(e) {
+    match kind_of(&f.extent) {
         Kind::Plain => i,
         Kind::Personal => {
             relocs::relocation(out, i, place, relocs::EXCEPT_TABLE, relocs::DATA, 4, table)
         }
-        Kind::Named => {
-            if !e.lsda {
-                return i;
-            }
-            headers::pointer(
-                out,
-                i,
-                f.machine.word,
-                place,
-                e.lsda_symbol,
-                e.lsda_encoding,
-            )
-        }
+        Kind::Named(p) => match p.lsda {
+            Some(l) => headers::pointer(out, i, f.machine.word, place, l.symbol, l.encoding),
+            None => i,
+        },
     }
 }
 
-#[tactic(auto, unfolding(crate::specs::Fields::lsda_in, crate::specs::Fields::pointed, format::specs::Prelude::pick))]
+#[tactic(auto, unfolding(crate::specs::Fields::lsda_in, crate::specs::Fields::pointed, crate::specs::Fields::lsda_by))]
 fn lsda_count(f: &Function) -> usize
     ensures { (result ≡ length (lsda_in 0 0 0 f.now.extent)) × (result ≤ 1) }
 {
     match kind_of(&f.extent) {
         Kind::Plain => 0,
         Kind::Personal => 1,
-        Kind::Named => usize::from(f.extent.lsda),
+        Kind::Named(p) => usize::from(p.lsda.is_some()),
     }
 }
 
@@ -508,13 +495,13 @@ fn field_relocs_count(f: &Function) -> usize
 
 // How many relocations a record has.
 pub fn record_relocs_count(f: &Function, pairs: &[u64]) -> usize
-    requires { f.now.extent.relaxed ≡ true → PairsReady f.now.extent pairs.now }
+    requires { LabelsReady f.now.extent pairs.now }
     ensures { result ≡ length (record_relocs f.now.debug f.now.machine.now 0 0 0 (function_meant f.now pairs.now)) }
 {
     let n = field_relocs_count(f);
-    if !f.extent.relaxed {
+    let Some(labels) = f.extent.relaxed else {
         return n;
-    }
+    };
     let k = header_keys::ahead(&f.extent, f.rows);
     let others = Run {
         word: f.machine.word,
@@ -522,18 +509,18 @@ pub fn record_relocs_count(f: &Function, pairs: &[u64]) -> usize
         at: f.extent.rows_at + k,
         n: f.extent.rows - k,
     };
-    n + step_relocs_count(&others, &Pairs::of(&f.extent, pairs))
+    n + step_relocs_count(&others, &Pairs::of(&labels, pairs))
 }
 
 // Those of a record: of the fields, then of the steps.
 pub fn record_relocs(out: &mut [u64], i: usize, f: &Function, p: &Places, pairs: &[u64]) -> usize
-    requires { (f.now.extent.relaxed ≡ true → PairsReady f.now.extent pairs.now) × (p.now.at < 2 ^ 32) × (i + 5 * length (record_relocs_of f.now p.now pairs.now) ≤ length out.old) }
+    requires { LabelsReady f.now.extent pairs.now × (p.now.at < 2 ^ 32) × (i + 5 * length (record_relocs_of f.now p.now pairs.now) ≤ length out.old) }
     ensures { Wrote out.old out.new i result (numbers_of (record_relocs_of f.now p.now pairs.now)) }
 {
     let a = field_relocs(out, i, f, p);
-    if !f.extent.relaxed {
+    let Some(labels) = f.extent.relaxed else {
         return a;
-    }
+    };
     let k = header_keys::ahead(&f.extent, f.rows);
     let others = Run {
         word: f.machine.word,
@@ -542,5 +529,5 @@ pub fn record_relocs(out: &mut [u64], i: usize, f: &Function, p: &Places, pairs:
         n: f.extent.rows - k,
     };
     let place = p.at + 4 + fields_size(f);
-    step_relocs(out, a, place as u64, &others, &Pairs::of(&f.extent, pairs))
+    step_relocs(out, a, place as u64, &others, &Pairs::of(&labels, pairs))
 }

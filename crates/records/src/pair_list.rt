@@ -5,7 +5,7 @@ ghost use Rattle.lists.specs.Extents.{meant_pair};
 ghost use Rattle.header_keys.specs.Functions.{PairsReady};
 ghost use Rattle.records.specs.Labels.{is_for, found_pair, pair_between, Rising, Rising-prop, Parted};
 
-use lists::{Extent, Pair};
+use lists::{Labels, Pair};
 
 // A pair is for the step from one place to another.
 #[tactic(auto, unfolding(crate::specs::Labels::is_for))]
@@ -51,15 +51,15 @@ impl<'a> Pairs<'a> {
     ghost use Rattle.records.specs.Written.{pairs_of, pairs_in};
 
     // A function's pairs.
-    pub fn of(e: &Extent, list: &'a [u64]) -> Pairs<'a>
-        requires { PairsReady e.now list.now }
-        ensures { pairs_of result ≡ pairs_in e.now list.now }
+    pub fn of(l: &Labels, list: &'a [u64]) -> Pairs<'a>
+        requires { PairsReady l.now list.now }
+        ensures { pairs_of result ≡ pairs_in l.now list.now }
     {
         Pairs {
             list,
-            at: e.pairs_at,
-            n: e.pairs,
-            rising: rises(list, e.pairs_at, e.pairs),
+            at: l.pairs_at,
+            n: l.pairs,
+            rising: rises(list, l.pairs_at, l.pairs),
         }
     }
 

@@ -11,7 +11,7 @@ pub header-at-requires : goal.header-at-requires
 header-at-requires c = header_room c.requires c.if-not-own.false
 
 pub header_relocs-i-requires : goal.header_relocs-i-requires
-header_relocs-i-requires c = relocs_room c.requires c.if-not-own.false
+header_relocs-i-requires c = let r = relocs_room c.requires c.if-not-own.false in (c.args.f.now.sound.machine, r.0, r.1)
 
 pub returns : goal.returns
 returns c = record {

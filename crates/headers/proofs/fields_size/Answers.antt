@@ -4,20 +4,20 @@ use Rattle.headers.specs.Kinds.{head_in}
 use Rattle.headers.proofs.Lengths.{debug_length, eh_length}
 use Rattle.headers.proofs.fields_size.Goals as goal
 
-pub returns-then-f : goal.returns-then-f
+pub returns-then-debug : goal.returns-then-debug
 unfolding head_in
-returns-then-f c = (
-  rw c.if-f.true (omega (arith, debug_length c.args.f.now.machine.now (head_in c.args.f.now.extent), c.middle_size-n.ensures.0)),
+returns-then-debug c = (
+  rw c.if-debug.true (omega (arith, debug_length c.args.m.now (head_in c.args.e.now), c.middle_size-n.ensures.0)),
   omega (arith, c.middle_size-n.ensures.1),
 )
 
 pub returns : goal.returns
 unfolding head_in
 returns c = (
-  rw c.if-f.false
+  rw c.if-debug.false
       (omega (
         arith,
-        eh_length c.args.f.now.machine.now (head_in c.args.f.now.extent) (omega (arith, c.data_size.ensures)),
+        eh_length c.args.m.now (head_in c.args.e.now) (omega (arith, c.data_size.ensures)),
         c.middle_size-n.ensures.0,
         c.letters_size.ensures.0,
         c.data_size.ensures.0,

@@ -3,7 +3,7 @@ use native.Mathlib.Omega.{arith}
 use borrow.Author.Rules.{rules}
 use Rattle.format.proofs.PutLaws.{◌then◌}
 use Rattle.headers.proofs.Entries.{closes, closed}
-use Rattle.headers.proofs.Keys.{header_shape, header_length, named_fits}
+use Rattle.headers.proofs.Keys.{header_shape, header_length, kind_fits}
 use Rattle.headers.proofs.header.Goals as goal
 
 pub fill-a-requires : goal.fill-a-requires
@@ -13,7 +13,7 @@ pub fields-b-requires : goal.fields-b-requires
 fields-b-requires c =
     let h = header_length c.args.f.now.machine.now c.args.f.now.extent c.args.f.now.rows.now c.args.f.now.debug c.args.f.now.align c.args.at in
     let s = c.fill-a.ensures.past in (
-      named_fits c.args.f.now.machine.now c.args.f.now.extent c.args.f.now.rows.now c.args.f.now.sound c.requires.0,
+      kind_fits c.args.f.now.machine.now c.args.f.now.extent c.args.f.now.rows.now c.args.f.now.sound c.requires.0,
       search rules,
     )
 

@@ -8,8 +8,8 @@ use Rattle.records.proofs.record_relocs.Goals as goal
 pub field_relocs-a-requires : goal.field_relocs-a-requires
 field_relocs-a-requires c = (c.requires.1, omega (arith, field_room c.args.f.now.debug c.args.f.now.machine.now c.args.p.now.at c.args.p.now.cie c.args.p.now.table c.args.f.now.extent c.args.f.now.rows.now c.args.pairs.now, c.requires.2))
 
-pub returns-then-not-f : goal.returns-then-not-f
-returns-then-not-f c = rw (relocs_plain c.args.f.now.debug c.args.f.now.machine.now c.args.p.now.at c.args.p.now.cie c.args.p.now.table c.args.f.now.extent c.args.f.now.rows.now c.args.pairs.now c.if-not-f.true) c.field_relocs-a.ensures
+pub returns-in_default : goal.returns-in_default
+returns-in_default c = rw (relocs_plain c.args.f.now.debug c.args.f.now.machine.now c.args.p.now.at c.args.p.now.cie c.args.p.now.table c.args.f.now.extent c.args.f.now.rows.now c.args.pairs.now c.in_default.is) c.field_relocs-a.ensures
 
 pub ahead-k-requires : goal.ahead-k-requires
 ahead-k-requires c = c.args.f.now.sound.ready
@@ -30,13 +30,13 @@ pub step_relocs-requires : goal.step_relocs-requires
 step_relocs-requires c = (
   others_ready c.args.f.now.extent c.args.f.now.rows.now c.ahead-k.ensures c.args.f.now.sound,
   omega (arith, c.requires.1, c.fields_size.ensures.1),
-  let room = relaxed_room c.args.f.now.debug c.args.f.now.machine.now c.args.p.now.at c.args.p.now.cie c.args.p.now.table c.args.f.now.extent c.args.f.now.rows.now c.args.pairs.now c.ahead-k.ensures c.if-not-f.false in
+  let room = relaxed_room c.args.f.now.debug c.args.f.now.machine.now c.args.p.now.at c.args.p.now.cie c.args.p.now.table c.args.f.now.extent c.args.f.now.rows.now c.args.pairs.now c.ahead-k.ensures c.in-Some.is in
       rw (c.fields_size.ensures.0, c.of.ensures) (omega (arith, c.requires.2, c.field_relocs-a.ensures.past)),
 )
 
 pub returns : goal.returns
 returns c =
-    rw (relaxed_numbers c.args.f.now.debug c.args.f.now.machine.now c.args.p.now.at c.args.p.now.cie c.args.p.now.table c.args.f.now.extent c.args.f.now.rows.now c.args.pairs.now c.ahead-k.ensures c.if-not-f.false)
+    rw (relaxed_numbers c.args.f.now.debug c.args.f.now.machine.now c.args.p.now.at c.args.p.now.cie c.args.p.now.table c.args.f.now.extent c.args.f.now.rows.now c.args.pairs.now c.ahead-k.ensures c.in-Some.is)
     (c.field_relocs-a.ensures then (rw (c.fields_size.ensures.0, c.of.ensures) at c.step_relocs.ensures))
 
 pub invariant_of-others : goal.invariant_of-others
