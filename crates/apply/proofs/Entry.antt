@@ -1,11 +1,12 @@
 -- The whole: each answer of the entry, and the front of the buffer changed.
-use Rattle.std.proofs.Common.{◌≡◌, ℕ, suc, ◌+◌, ◌<◌, ◌≤◌, Bool, true, false, not, List, [], ◌∷◌, ◌++◌, length, take, drop, set, ℤ, sym, refl, ap, ◌∙◌, arith, le-ltb, lt-ltb}
+use Rattle.std.proofs.Common.{◌≡◌, ℕ, ◌<◌, ◌≤◌, Bool, true, false, not, List, [], ◌∷◌, ◌++◌, length, take, drop, ℤ, sym, refl, ◌∙◌, arith, le-ltb, lt-ltb}
 use mathlib.Core.Option.{Option, none, some}
 use borrow.Author.Tests.{not-true, not-false}
 use Rattle.format.specs.Prelude.{pick}
 use Rattle.format.specs.Put.{put}
 use Rattle.format.specs.Lists.{Relocation, relocations_of}
 use Rattle.format.proofs.PutLaws.{length-put}
+use Rattle.format.proofs.Copied.{put_front}
 use Rattle.apply.specs.declared.Width.{Width}
 use Rattle.apply.specs.declared.Kind.{Kind}
 use Rattle.apply.specs.declared.Kind.TheVariants.{Data, Address, SumPlus, SumMinus, Image, Set, Sub, Unknown}
@@ -54,17 +55,6 @@ stores-length l bs [] = refl
 stores-length l bs (r ∷ rs) = stores-length l (store_of l bs r (front rs)) rs ∙ store_length l bs r (front rs)
 
 -- ---- the front of a buffer
-
-put-behind : (x : ℕ) (xs : List ℕ) (p : ℕ) (bs : List ℕ) → put (x ∷ xs) (suc p) bs ≡ x ∷ put xs p bs
-unfolding put
-put-behind x xs p [] = refl
-put-behind x xs p (b ∷ bs) = let e : suc p + 1 ≡ suc (p + 1) = omega arith in rw e (put-behind x (set xs p b) (p + 1) bs)
-
-pub put_front : (xs bs : List ℕ) → length bs ≤ length xs → put xs 0 bs ≡ bs ++ drop (length bs) xs
-unfolding put
-put_front xs [] h = refl
-put_front [] (b ∷ bs) h = absurd (omega arith)
-put_front (x ∷ xs) (b ∷ bs) h = put-behind b xs 0 bs ∙ ap (λ (l : List ℕ). b ∷ l) (put_front xs bs (omega arith))
 
 -- a front that was copied and then changed in place
 pub front_changed : (out bytes : List ℕ) (f : List ℕ → List ℕ) → ((xs : List ℕ) → length (f xs) ≡ length xs) → length bytes ≤ length out

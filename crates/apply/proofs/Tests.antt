@@ -27,11 +27,6 @@ unfolding is_word_size
 word_eight n t a b =
     ⊎_elim (λ u. ⊎_elim (λ v. absurd (a (eqb_yes v))) (λ v. absurd (b (eqb_yes v))) (or_yes (eqb n 2) (eqb n 4) u)) (λ u. eqb_yes u) (or_yes (eqb n 2 || eqb n 4) (eqb n 8) t)
 
-pub is_some_lem : (o : Option ℕ) → code.is_some (option_of o) ≡ is_some o
-unfolding is_some
-is_some_lem none = refl
-is_some_lem (some n) = refl
-
 pub le_less : (p b n : ℕ) → p ≤ n → leb b (n - p) ≡ leb (p + b) n
 le_less p b n h =
     either b (n - p) (λ l. le-leb b (n - p) l ∙ sym (le-leb (p + b) n (omega arith))) (λ g. lt-leb b (n - p) g ∙ sym (lt-leb (p + b) n (omega arith)))

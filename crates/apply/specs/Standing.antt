@@ -1,12 +1,14 @@
 -- The code's relocations as the definitions' records, and what stands beside one in a list of numbers.
-use Rattle.std.specs.Prelude.{ℕ, ◌+◌, ◌-◌, ◌*◌, ◌^◌, ◌<◌, List, ◌==◌, ◌≢◌, Some, None, nat_lt}
+use Rattle.std.specs.Prelude.{ℕ, ◌+◌, ◌-◌, ◌*◌, ◌^◌, ◌≤◌, ◌<◌, List, length, ◌==◌, ◌≢◌, Some, None, nat_lt}
 use Rattle.std.specs.Prelude as code
 use Rattle.std.proofs.Math.Option.{Option, none, some}
 use Rattle.format.specs.Prelude.{pick}
 use Rattle.format.specs.Lists.{Relocation, relocation_stride, relocation_at, count}
 use Rattle.apply.specs.declared.Reloc.{Reloc}
+use Rattle.apply.specs.declared.Field.{Field}
 use Rattle.apply.specs.declared.Sum.{Sum}
 use Rattle.apply.specs.declared.Placement.{Placement}
+use Rattle.apply.specs.Kinds.{bytes_of}
 use Rattle.apply.specs.Values.{Layout, layout_of}
 
 abbrev pub meant : Reloc → Relocation
@@ -33,3 +35,7 @@ total_of s = s.high * 2 ^ 64 + s.low
 -- the bytes of a field of Set and Sub: 1, 2 or 4
 abbrev pub FieldSize : ℕ → Type 0
 FieldSize n = (0 < n) × (n < 5) × (n ≢ 3)
+
+-- the field's bytes are there
+abbrev pub LiesIn : Field → List ℕ → Type 0
+LiesIn f bs = f.place + bytes_of f.width ≤ length bs

@@ -8,13 +8,13 @@ ghost use Rattle.std.specs.Int.{w64};
 ghost use Rattle.std.proofs.Common.{to_z};
 ghost use Rattle.format.specs.Prelude.{after};
 ghost use Rattle.format.specs.Machine.{is_word_size};
-ghost use Rattle.format.specs.Lists.{relocation_stride, relocation_at, relocations_of, count};
+ghost use Rattle.format.specs.Lists.{relocation_at, relocations_of};
 ghost use Rattle.apply.specs.Kinds.{kind_of, bits_of, bytes_of, size_ok};
 ghost use Rattle.format.proofs.Asked.{option_of};
 ghost use Rattle.apply.specs.Fields.{up_to, signed32, number_at, in_field, set_in, sub_in, whole_in};
 ghost use Rattle.apply.specs.Values.{symbols_of, address_of, sum_of, apart, value_as, store_of};
 ghost use Rattle.apply.specs.Apply.{partners, paired, measured, value_ok, near_as, sound, near, everywhere, stores, apply, Applies};
-ghost use Rattle.apply.specs.Standing.{meant, placed, beside, before_at, behind_at, total_of, FieldSize};
+ghost use Rattle.apply.specs.Standing.{meant, placed, beside, before_at, behind_at, total_of, FieldSize, LiesIn};
 
 // The width of a field that Set and Sub patch, in bits.
 #[derive(Clone, Copy)]
@@ -167,6 +167,23 @@ fn behind_at(relocs: &[u64], i: usize) -> Option<Reloc>
     None
 }
 
+// A relocation of a list, and the one behind it.
+#[derive(Clone, Copy)]
+pub struct WithNext {
+    pub reloc: Reloc,
+    pub behind: Option<Reloc>,
+}
+
+fn with_next(relocs: &[u64], i: usize) -> WithNext
+    requires { i < length relocs.now / 5 }
+    ensures { (meant result.reloc ≡ relocation_at relocs.now i) × (beside result.behind ≡ behind_at relocs.now i) }
+{
+    WithNext {
+        reloc: reloc_at(relocs, i),
+        behind: behind_at(relocs, i),
+    }
+}
+
 // Whether s is the second of a pair that r is the first of.
 fn partners(r: Reloc, s: Reloc) -> bool
     ensures { result ≡ partners (meant r) (meant s) }
@@ -183,17 +200,17 @@ fn partners(r: Reloc, s: Reloc) -> bool
     s.bytes == r.bytes
 }
 
-fn paired(k: Kind, before: Option<Reloc>, r: Reloc, behind: Option<Reloc>) -> bool
-    ensures { result ≡ paired k (beside before) (meant r) (beside behind) }
+fn paired(k: Kind, before: Option<Reloc>, x: &WithNext) -> bool
+    ensures { result ≡ paired k (beside before) (meant x.now.reloc) (beside x.now.behind) }
 {
     match k {
         Kind::Data => true,
         Kind::Address => true,
-        Kind::SumPlus => behind.is_some_and(|s| partners(r, s)),
-        Kind::SumMinus => before.is_some_and(|s| partners(s, r)),
+        Kind::SumPlus => x.behind.is_some_and(|s| partners(x.reloc, s)),
+        Kind::SumMinus => before.is_some_and(|s| partners(s, x.reloc)),
         Kind::Image => true,
-        Kind::Set(_) => behind.is_some_and(|s| partners(r, s)),
-        Kind::Sub(_) => before.is_some_and(|s| partners(s, r)),
+        Kind::Set(_) => x.behind.is_some_and(|s| partners(x.reloc, s)),
+        Kind::Sub(_) => before.is_some_and(|s| partners(s, x.reloc)),
         Kind::Unknown => true,
     }
 }
@@ -315,33 +332,35 @@ fn data_value(addresses: &[u64], r: Reloc, section: u64) -> Option<u64>
 }
 
 // Symbol plus addend less that of the relocation behind, where it is from 0 to `most`.
-fn apart(addresses: &[u64], r: Reloc, behind: Option<Reloc>, most: u64) -> Option<u64>
-    ensures { result ≡ option_of (after (apart (symbols_of addresses.now) (meant r) (beside behind)) λ z. up_to most z) }
+fn apart(addresses: &[u64], x: &WithNext, most: u64) -> Option<u64>
+    ensures { result ≡ option_of (after (apart (symbols_of addresses.now) (meant x.now.reloc) (beside x.now.behind)) λ z. up_to most z) }
 {
-    let s = address_of(addresses, r.symbol)?;
-    let b = behind?;
+    let s = address_of(addresses, x.reloc.symbol)?;
+    let b = x.behind?;
     let t = address_of(addresses, b.symbol)?;
     less_by(
-        total(s, biased(r.addend), 0),
+        total(s, biased(x.reloc.addend), 0),
         total(t, biased(b.addend), 0),
         most,
     )
 }
 
-// The value as it stands in its field, where it fits.
-fn value(k: Kind, l: Placement, r: Reloc, behind: Option<Reloc>) -> Option<u64>
-    requires { T (size_ok k r.bytes) }
-    ensures { result ≡ option_of (value_as k (placed l.entry) (meant r) (beside behind)) }
-{
-    match k {
-        Kind::Data => data_value(l.addresses, r, l.section),
-        Kind::Address => less_base(l.addresses, r, 0, most(r.bytes)),
-        Kind::SumPlus => apart(l.addresses, r, behind, most(r.bytes)),
-        Kind::SumMinus => None,
-        Kind::Image => less_base(l.addresses, r, l.image, 4294967295),
-        Kind::Set(_) => None,
-        Kind::Sub(_) => None,
-        Kind::Unknown => None,
+impl Placement<'_> {
+    // The value as it stands in its field, where it fits.
+    fn value(&self, k: Kind, x: &WithNext) -> Option<u64>
+        requires { T (size_ok k x.now.reloc.bytes) }
+        ensures { result ≡ option_of (value_as k (placed self.now) (meant x.now.reloc) (beside x.now.behind)) }
+    {
+        match k {
+            Kind::Data => data_value(self.addresses, x.reloc, self.section),
+            Kind::Address => less_base(self.addresses, x.reloc, 0, most(x.reloc.bytes)),
+            Kind::SumPlus => apart(self.addresses, x, most(x.reloc.bytes)),
+            Kind::SumMinus => None,
+            Kind::Image => less_base(self.addresses, x.reloc, self.image, 4294967295),
+            Kind::Set(_) => None,
+            Kind::Sub(_) => None,
+            Kind::Unknown => None,
+        }
     }
 }
 
@@ -363,16 +382,6 @@ fn measured(k: Kind) -> bool
     }
 }
 
-fn value_ok(k: Kind, l: Placement, r: Reloc, behind: Option<Reloc>) -> bool
-    requires { T (size_ok k r.bytes) }
-    ensures { result ≡ value_ok k (placed l.entry) (meant r) (beside behind) }
-{
-    if !measured(k) {
-        return true;
-    }
-    value(k, l, r, behind).is_some()
-}
-
 fn known(addresses: &[u64], symbol: u64) -> bool
     ensures { result ≡ is_some (address_of (symbols_of addresses.now) symbol) }
 {
@@ -390,38 +399,50 @@ fn inside(place: u64, bytes: u64, size: usize) -> bool
     bytes <= n - place
 }
 
-// Question 79 of one relocation.
-fn sound(l: Placement, size: usize, before: Option<Reloc>, r: Reloc, behind: Option<Reloc>) -> bool
-    ensures { result ≡ sound (placed l.entry) size (beside before) (meant r) (beside behind) }
-{
-    let k = kind_of(r.kind);
-    if !size_ok(k, r.bytes) {
-        return false;
+impl Placement<'_> {
+    fn value_ok(&self, k: Kind, x: &WithNext) -> bool
+        requires { T (size_ok k x.now.reloc.bytes) }
+        ensures { result ≡ value_ok k (placed self.now) (meant x.now.reloc) (beside x.now.behind) }
+    {
+        if !measured(k) {
+            return true;
+        }
+        self.value(k, x).is_some()
     }
-    if !paired(k, before, r, behind) {
-        return false;
+
+    // Question 79 of one relocation.
+    fn sound(&self, size: usize, before: Option<Reloc>, x: &WithNext) -> bool
+        ensures { result ≡ sound (placed self.now) size (beside before) (meant x.now.reloc) (beside x.now.behind) }
+    {
+        let k = kind_of(x.reloc.kind);
+        if !size_ok(k, x.reloc.bytes) {
+            return false;
+        }
+        if !paired(k, before, x) {
+            return false;
+        }
+        if !known(self.addresses, x.reloc.symbol) {
+            return false;
+        }
+        if !inside(x.reloc.place, x.reloc.bytes, size) {
+            return false;
+        }
+        self.value_ok(k, x)
     }
-    if !known(l.addresses, r.symbol) {
-        return false;
-    }
-    if !inside(r.place, r.bytes, size) {
-        return false;
-    }
-    value_ok(k, l, r, behind)
 }
 
 // Question 80 of one relocation.
-fn near(addresses: &[u64], r: Reloc, behind: Option<Reloc>) -> bool
-    ensures { result ≡ near_as (kind_of r.kind) (symbols_of addresses.now) (meant r) (beside behind) }
+fn near(addresses: &[u64], x: &WithNext) -> bool
+    ensures { result ≡ near_as (kind_of x.now.reloc.kind) (symbols_of addresses.now) (meant x.now.reloc) (beside x.now.behind) }
 {
-    let k = kind_of(r.kind);
+    let k = kind_of(x.reloc.kind);
     match k {
         Kind::Data => true,
         Kind::Address => true,
         Kind::SumPlus => true,
         Kind::SumMinus => true,
         Kind::Image => true,
-        Kind::Set(w) => apart(addresses, r, behind, modulus(w) - 1).is_some(),
+        Kind::Set(w) => apart(addresses, x, modulus(w) - 1).is_some(),
         Kind::Sub(_) => true,
         Kind::Unknown => true,
     }
@@ -433,9 +454,8 @@ fn all_sound(relocs: &[u64], l: Placement, size: usize) -> bool
     let n = relocs.len() / relocs::RELOCATION_STRIDE;
     (0..n).all(|i| {
         let before = before_at(relocs, i);
-        let r = reloc_at(relocs, i);
-        let behind = behind_at(relocs, i);
-        sound(l, size, before, r, behind)
+        let x = with_next(relocs, i);
+        l.sound(size, before, &x)
     })
 }
 
@@ -444,9 +464,8 @@ fn all_near(relocs: &[u64], addresses: &[u64]) -> bool
 {
     let n = relocs.len() / relocs::RELOCATION_STRIDE;
     (0..n).all(|i| {
-        let r = reloc_at(relocs, i);
-        let behind = behind_at(relocs, i);
-        near(addresses, r, behind)
+        let x = with_next(relocs, i);
+        near(addresses, &x)
     })
 }
 
@@ -470,70 +489,89 @@ fn number_at(copy: &[u8], p: usize, n: u64) -> u64
     x + 256 * (y + 256 * (z + 256 * t))
 }
 
-// A number in a field's low bits, and the bits above it as they were.
-fn put_low(copy: &mut [u8], p: usize, w: Width, v: u64)
-    requires { (p + bytes_of w ≤ length copy.old) × (v < 2 ^ bits_of w) }
-    ensures { copy.new ≡ in_field w copy.old p v }
-{
-    let m = modulus(w);
-    let n = bytes_of(w);
-    let old = number_at(copy, p, n);
-    leb::le(copy, p, n as usize, old / m * m + v);
+// A field that Set and Sub patch.
+#[derive(Clone, Copy)]
+pub struct Field {
+    pub place: usize,
+    pub width: Width,
 }
 
-// Set: the low bits of a symbol's address plus an addend.
-fn set(copy: &mut [u8], p: usize, w: Width, s: u64, a: u64)
-    requires { p + bytes_of w ≤ length copy.old }
-    ensures { copy.new ≡ set_in w copy.old p (some (pos s +ℤ to_z w64 a)) }
-{
-    let v = std::num::wrapping_add_u64(s, a) % modulus(w);
-    put_low(copy, p, w, v);
-}
+impl Field {
+    // A number in its low bits, and the bits above it as they were.
+    fn put_low(&self, copy: &mut [u8], v: u64)
+        requires { LiesIn self.now copy.old × (v < 2 ^ bits_of self.now.width) }
+        ensures { copy.new ≡ in_field self.now.width copy.old self.now.place v }
+    {
+        let m = modulus(self.width);
+        let n = bytes_of(self.width);
+        let old = number_at(copy, self.place, n);
+        leb::le(copy, self.place, n as usize, old / m * m + v);
+    }
 
-// Sub: what stands there less a symbol's address plus an addend, wrapping at the field's width.
-fn sub(copy: &mut [u8], p: usize, w: Width, s: u64, a: u64)
-    requires { p + bytes_of w ≤ length copy.old }
-    ensures { copy.new ≡ sub_in w copy.old p (some (pos s +ℤ to_z w64 a)) }
-{
-    let m = modulus(w);
-    let old = number_at(copy, p, bytes_of(w));
-    let v = std::num::wrapping_sub_u64(old % m, std::num::wrapping_add_u64(s, a)) % m;
-    put_low(copy, p, w, v);
-}
+    // Set: the low bits of a symbol's address plus an addend.
+    fn set(&self, copy: &mut [u8], s: u64, a: u64)
+        requires { LiesIn self.now copy.old }
+        ensures { copy.new ≡ set_in self.now.width copy.old self.now.place (some (pos s +ℤ to_z w64 a)) }
+    {
+        let v = std::num::wrapping_add_u64(s, a) % modulus(self.width);
+        self.put_low(copy, v);
+    }
 
-// The value of a relocation that a field holds whole.
-fn store_value(copy: &mut [u8], k: Kind, l: Placement, r: Reloc, behind: Option<Reloc>)
-    requires { (r.place + r.bytes ≤ length copy.old) × T (size_ok k r.bytes) }
-    ensures { copy.new ≡ whole_in r.bytes copy.old r.place (value_as k (placed l.entry) (meant r) (beside behind)) }
-{
-    if let Some(v) = value(k, l, r, behind) {
-        leb::le(copy, r.place as usize, r.bytes as usize, v);
+    // Sub: what stands there less a symbol's address plus an addend, wrapping at the field's width.
+    fn sub(&self, copy: &mut [u8], s: u64, a: u64)
+        requires { LiesIn self.now copy.old }
+        ensures { copy.new ≡ sub_in self.now.width copy.old self.now.place (some (pos s +ℤ to_z w64 a)) }
+    {
+        let m = modulus(self.width);
+        let old = number_at(copy, self.place, bytes_of(self.width));
+        let v = std::num::wrapping_sub_u64(old % m, std::num::wrapping_add_u64(s, a)) % m;
+        self.put_low(copy, v);
     }
 }
 
-// The store of one relocation.
-fn store(copy: &mut [u8], l: Placement, r: Reloc, behind: Option<Reloc>)
-    requires { (r.place + r.bytes ≤ length copy.old) × T (size_ok (kind_of r.kind) r.bytes) }
-    ensures { copy.new ≡ store_of (placed l.entry) copy.old (meant r) (beside behind) }
-{
-    let k = kind_of(r.kind);
-    match k {
-        Kind::Data => store_value(copy, k, l, r, behind),
-        Kind::Address => store_value(copy, k, l, r, behind),
-        Kind::SumPlus => store_value(copy, k, l, r, behind),
-        Kind::SumMinus => {}
-        Kind::Image => store_value(copy, k, l, r, behind),
-        Kind::Set(w) => {
-            if let Some(s) = address_of(l.addresses, r.symbol) {
-                set(copy, r.place as usize, w, s, r.addend);
-            }
+impl Placement<'_> {
+    // The value of a relocation that a field holds whole.
+    fn store_value(&self, copy: &mut [u8], k: Kind, x: &WithNext)
+        requires { (x.now.reloc.place + x.now.reloc.bytes ≤ length copy.old) × T (size_ok k x.now.reloc.bytes) }
+        ensures { copy.new ≡ whole_in x.now.reloc.bytes copy.old x.now.reloc.place (value_as k (placed self.now) (meant x.now.reloc) (beside x.now.behind)) }
+    {
+        if let Some(v) = self.value(k, x) {
+            leb::le(copy, x.reloc.place as usize, x.reloc.bytes as usize, v);
         }
-        Kind::Sub(w) => {
-            if let Some(s) = address_of(l.addresses, r.symbol) {
-                sub(copy, r.place as usize, w, s, r.addend);
+    }
+
+    // The store of one relocation.
+    fn store(&self, copy: &mut [u8], x: &WithNext)
+        requires { (x.now.reloc.place + x.now.reloc.bytes ≤ length copy.old) × T (size_ok (kind_of x.now.reloc.kind) x.now.reloc.bytes) }
+        ensures { copy.new ≡ store_of (placed self.now) copy.old (meant x.now.reloc) (beside x.now.behind) }
+    {
+        let k = kind_of(x.reloc.kind);
+        match k {
+            Kind::Data => self.store_value(copy, k, x),
+            Kind::Address => self.store_value(copy, k, x),
+            Kind::SumPlus => self.store_value(copy, k, x),
+            Kind::SumMinus => {}
+            Kind::Image => self.store_value(copy, k, x),
+            Kind::Set(width) => {
+                if let Some(s) = address_of(self.addresses, x.reloc.symbol) {
+                    let field = Field {
+                        place: x.reloc.place as usize,
+                        width,
+                    };
+                    field.set(copy, s, x.reloc.addend);
+                }
             }
+            Kind::Sub(width) => {
+                if let Some(s) = address_of(self.addresses, x.reloc.symbol) {
+                    let field = Field {
+                        place: x.reloc.place as usize,
+                        width,
+                    };
+                    field.sub(copy, s, x.reloc.addend);
+                }
+            }
+            Kind::Unknown => {}
         }
-        Kind::Unknown => {}
     }
 }
 
@@ -544,9 +582,8 @@ fn store_all(copy: &mut [u8], relocs: &[u64], l: Placement)
 {
     let n = relocs.len() / relocs::RELOCATION_STRIDE;
     for i in 0..n {
-        let r = reloc_at(relocs, i);
-        let behind = behind_at(relocs, i);
-        store(copy, l, r, behind);
+        let x = with_next(relocs, i);
+        l.store(copy, &x);
     }
 }
 

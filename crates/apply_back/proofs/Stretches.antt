@@ -2,14 +2,15 @@
 use mathlib.Core.Path.{◌≡◌, refl, sym, ap, ◌∙◌}
 use mathlib.Core.Option.{some}
 use mathlib.Core.List.{List, [], ◌∷◌, ◌++◌}
-use Prim.Native.Nat.{ℕ, suc, ◌+◌, ◌*◌, ◌/◌, ◌^◌, ◌<◌, ◌≤◌}
+use Prim.Native.Nat.{ℕ, ◌+◌, ◌*◌, ◌/◌, ◌^◌, ◌<◌, ◌≤◌}
 use native.Mathlib.Nat.{mod-eq_of_lt, mul-add-mod_self_right, mul-add-div_right, div-eq_of_lt, add-zero}
 use native.Mathlib.Omega.{arith}
 use lib.IntN.{ℤ, pos, ◌-ℤ◌}
-use lib.ListN.{length, set, length-append}
+use lib.ListN.{length, length-append}
 use lib.Pow.{pow_pos}
 use Rattle.format.specs.Put.{put}
 use Rattle.format.specs.Leb.{little}
+use Rattle.format.proofs.Copied.{put-behind}
 use Rattle.format.proofs.LebBack.{little-length}
 use Rattle.apply.specs.declared.Width.{Width}
 use Rattle.apply.specs.Kinds.{bits_of, bytes_of}
@@ -19,22 +20,17 @@ use Rattle.apply.proofs.Distances.{back, within}
 
 -- ---- stores
 
-put_front : (x : ℕ) (xs : List ℕ) (p : ℕ) (bs : List ℕ) → put (x ∷ xs) (suc p) bs ≡ x ∷ put xs p bs
-unfolding put
-put_front x xs p [] = refl
-put_front x xs p (b ∷ bs) = let e : suc p + 1 ≡ suc (p + 1) = omega arith in rw e (put_front x (set xs p b) (p + 1) bs)
-
 put_first : (mid post bs : List ℕ) → length mid ≡ length bs → put (mid ++ post) 0 bs ≡ bs ++ post
 unfolding put
 put_first [] post [] h = refl
 put_first [] post (b ∷ bs) h = absurd (omega arith)
 put_first (a ∷ mid) post [] h = absurd (omega arith)
-put_first (a ∷ mid) post (b ∷ bs) h = put_front b (mid ++ post) 0 bs ∙ ap (λ (l : List ℕ). b ∷ l) (put_first mid post bs (omega arith))
+put_first (a ∷ mid) post (b ∷ bs) h = put-behind b (mid ++ post) 0 bs ∙ ap (λ (l : List ℕ). b ∷ l) (put_first mid post bs (omega arith))
 
 -- as many bytes as the stretch has
 pub put_at : (pre mid post bs : List ℕ) → length mid ≡ length bs → put (pre ++ (mid ++ post)) (length pre) bs ≡ pre ++ (bs ++ post)
 put_at [] mid post bs h = put_first mid post bs h
-put_at (x ∷ pre) mid post bs h = put_front x (pre ++ (mid ++ post)) (length pre) bs ∙ ap (λ (l : List ℕ). x ∷ l) (put_at pre mid post bs h)
+put_at (x ∷ pre) mid post bs h = put-behind x (pre ++ (mid ++ post)) (length pre) bs ∙ ap (λ (l : List ℕ). x ∷ l) (put_at pre mid post bs h)
 
 -- ---- numbers
 

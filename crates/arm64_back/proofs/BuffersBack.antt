@@ -4,13 +4,13 @@ use mathlib.Core.Option.{none}
 use mathlib.Core.List.{List, [], ◌∷◌, ◌++◌}
 use Prim.Native.Nat.{ℕ, suc, ◌+◌, ◌≤◌}
 use native.Mathlib.Omega.{arith}
-use lib.ListN.{length, get_or, set, drop, get_or-append}
+use lib.ListN.{length, get_or, drop, get_or-append}
 use lib.Dec.{leb→le}
-use Rattle.format.specs.Put.{put}
 use Rattle.format.specs.Lists.{count}
 use Rattle.format.specs.Writer.{Written}
 use Rattle.format.specs.Questions.{Room, room_in, room_asks}
 use Rattle.format.specs.Answers.{afterwards}
+use Rattle.format.proofs.Copied.{put_front}
 use Rattle.format.proofs.Accepted.{asked, both}
 use Rattle.format.proofs.ListLaws.{each-length}
 use Rattle.arm64.specs.Lists.{Function, function_stride, numbered_function, functions_of}
@@ -18,17 +18,6 @@ use Rattle.arm64.specs.Reader.{read_arm64}
 use Rattle.arm64.specs.Writer.{markers_from, info_of, arm64, arm64_answer}
 use Rattle.arm64_back.specs.Back.{given, ReadBack, EntryWord, second_word, BuffersBack}
 use Rattle.arm64_back.proofs.Arm64Back.{wrote, second_behind, arm64_read}
-
-put-behind : (x : ℕ) (xs : List ℕ) (p : ℕ) (bs : List ℕ) → put (x ∷ xs) (suc p) bs ≡ x ∷ put xs p bs
-unfolding put
-put-behind x xs p [] = refl
-put-behind x xs p (b ∷ bs) = let e : suc p + 1 ≡ suc (p + 1) = omega arith in rw e (put-behind x (set xs p b) (p + 1) bs)
-
-put_front : (xs bs : List ℕ) → length bs ≤ length xs → put xs 0 bs ≡ bs ++ drop (length bs) xs
-unfolding put
-put_front xs [] h = refl
-put_front [] (b ∷ bs) h = absurd (omega arith)
-put_front (x ∷ xs) (b ∷ bs) h = put-behind b xs 0 bs ∙ ap (λ l. b ∷ l) (put_front xs bs (omega arith))
 
 markers_length : (at : ℕ) (fs : List Function) → length (markers_from at fs) ≡ length fs
 unfolding markers_from

@@ -12,7 +12,6 @@ use Rattle.format.proofs.Storing.{Storing, stored_next}
 use Rattle.format.proofs.Storing as storing
 use Rattle.arm64.specs.declared.Code.{Code}
 use Rattle.arm64.specs.Runs.{no_pair, simplify, backwards, run_bytes, leads, is_in, runs_bytes}
-use Rattle.arm64_simple.specs.declared.Run.{Run}
 use Rattle.arm64_simple.specs.Saves.{saves}
 use Rattle.arm64_function.specs.declared.Parts.{Parts}
 use Rattle.arm64_function.specs.Own.{prologue_in, run_at, seen_at, own_at, own_in, later_at, codes_in, epilogue_at}
@@ -33,15 +32,15 @@ unfolding pick
 cases true r n e h = absurd (omega (arith, e, h, none_size refl))
 cases false r n e h = (omega (arith, e, ap length (one_bytes r), size_is r, run_size_lem r), sym (one_bytes r))
 
-module _ (es cs : List ℕ) (p : Parts) (i : ℕ) {n : ℕ} {r : Run} (g : r ≡ epilogue_at es i) (e : n ≡ length (runs_bytes (own_at es cs p i))) (h : 0 < n) where
+module _ (es cs : List ℕ) (p : Parts) (i : ℕ) {n : ℕ} {s : List Code} (g : s ≡ saves cs (epilogue_at es i)) (e : n ≡ length (runs_bytes (own_at es cs p i))) (h : 0 < n) where
   both : (n - 1 ≡ length (backwards (run_at es cs i))) × (run_bytes (run_at es cs i) ≡ runs_bytes (own_at es cs p i))
   unfolding own_at
   both = cases (leads (run_at es cs i) (prologue_in cs p) || is_in (run_at es cs i) (seen_at es cs p i)) (run_at es cs i) n e h
 
-  pub own_length : n - 1 ≡ length (backwards (simplify no_pair (saves cs r)))
+  pub own_length : n - 1 ≡ length (backwards (simplify no_pair s))
   own_length = both.0 ∙ ap (λ x. length (backwards x)) (sym (run_is es cs i g))
 
-  pub own_bytes : run_bytes (simplify no_pair (saves cs r)) ≡ runs_bytes (own_at es cs p i)
+  pub own_bytes : run_bytes (simplify no_pair s) ≡ runs_bytes (own_at es cs p i)
   own_bytes = ap run_bytes (run_is es cs i g) ∙ both.1
 
 -- ---- all of them
@@ -71,19 +70,19 @@ module _ {xs₀ xs : List ℕ} {at q : ℕ} {es cs : List ℕ} {p : Parts} {i : 
   codes_room h =
       omega (arith, s.left.room, ap length (bytes_own es cs p i s.low h) ∙ length-append (runs_bytes (own_at es cs p i)) (runs_bytes (later_at es cs p (i + 1))))
 
-pub codes_parts : (es cs : List ℕ) (p : Parts) → run_bytes (simplify no_pair (saves cs p.prologue)) ++ runs_bytes (own_in es cs p) ≡ codes_in es cs p
-unfolding codes_in prologue_in
+pub codes_parts : (es cs : List ℕ) (p : Parts) → run_bytes (prologue_in cs p) ++ runs_bytes (own_in es cs p) ≡ codes_in es cs p
+unfolding codes_in
 codes_parts es cs p = refl
 
-pub codes_length : {n : ℕ} (es cs : List ℕ) (p : Parts) → n ≡ length (backwards (simplify no_pair (saves cs p.prologue)))
+pub codes_length : {n : ℕ} (es cs : List ℕ) (p : Parts) → n ≡ length (backwards (prologue_in cs p))
     → length (codes_in es cs p) ≡ n + 1 + length (runs_bytes (own_in es cs p))
 codes_length es cs p e =
-    let r = simplify no_pair (saves cs p.prologue) in
+    let r = prologue_in cs p in
     omega (arith, ap length (sym (codes_parts es cs p)) ∙ length-append (run_bytes r) (runs_bytes (own_in es cs p)), size_is r, run_size_lem r, e)
 
 pub put_room : {xs ys : List ℕ} {at q n : ℕ} (es cs : List ℕ) (p : Parts) → at + length (codes_in es cs p) ≤ length xs
-    → Wrote xs ys at q (run_bytes (simplify no_pair (saves cs p.prologue))) → n ≡ length (backwards (simplify no_pair (saves cs p.prologue)))
+    → Wrote xs ys at q (run_bytes (prologue_in cs p)) → n ≡ length (backwards (prologue_in cs p))
     → q + length (runs_bytes (own_in es cs p)) ≤ length ys
 put_room {xs} {ys} {at} {q} {n} es cs p h w e =
-    let r = simplify no_pair (saves cs p.prologue) in
+    let r = prologue_in cs p in
     omega (arith, h, kept w, w.past, codes_length es cs p e, size_is r, run_size_lem r, e)

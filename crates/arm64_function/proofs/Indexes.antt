@@ -8,8 +8,7 @@ use lib.ListN.{length, length-append}
 use borrow.Author.Tests.{le-ltb}
 use Rattle.format.specs.Prelude.{pick}
 use Rattle.arm64.specs.declared.Code.{Code}
-use Rattle.arm64.specs.Runs.{no_pair, same_codes, simplify, backwards, run_bytes, run_size, leads, is_in, runs_bytes, place_in, index_of}
-use Rattle.arm64_simple.specs.Saves.{saves}
+use Rattle.arm64.specs.Runs.{same_codes, backwards, run_bytes, run_size, leads, is_in, runs_bytes, place_in, index_of}
 use Rattle.arm64_function.specs.declared.Parts.{Parts}
 use Rattle.arm64_function.specs.Own.{prologue_in, run_at, seen_at, own_at, own_in, later_at, Ahead, codes_in, index_at, Nearest}
 use Rattle.arm64_function.proofs.Own.{both_false, is_in_first, runs_self, leading, run_size_lem, later_all, later_own, seen_next, own_alone, one_bytes, size_is, prologue_size}
@@ -29,7 +28,7 @@ place_same r l = ap (λ (x : Bool). pick x 0 (run_size r + place_in r l)) (runs_
 place_first : (r : List Code) (o l : List (List Code)) → o ≡ r ∷ [] → place_in r (o ++ l) ≡ 0
 place_first r o l e = ap (λ q. place_in r (q ++ l)) e ∙ place_same r l
 
-pub ahead_start : {es cs : List ℕ} {p : Parts} {n : ℕ} → n ≡ length (backwards (simplify no_pair (saves cs p.prologue))) → Ahead es cs p (n + 1) p.first
+pub ahead_start : {es cs : List ℕ} {p : Parts} {n : ℕ} → n ≡ length (backwards (prologue_in cs p)) → Ahead es cs p (n + 1) p.first
 ahead_start {es} {cs} {p} {n} e =
     record { ahead = λ r h. omega (arith, ap (place_in r) (later_all es cs p), prologue_size cs p e) }
 
@@ -68,7 +67,7 @@ unfolding index_at
 index_shared {es} {cs} {p} {i} {j} n h = ap (index_of (prologue_in cs p) (own_in es cs p)) (sym (n.same h))
 
 pub index_leading : (es cs : List ℕ) (p : Parts) (i : ℕ) {a b : ℕ} → leads (run_at es cs i) (prologue_in cs p) ≡ true
-    → a ≡ length (backwards (simplify no_pair (saves cs p.prologue))) → b ≡ length (backwards (run_at es cs i)) → a - b ≡ index_at es cs p i
+    → a ≡ length (backwards (prologue_in cs p)) → b ≡ length (backwards (run_at es cs i)) → a - b ≡ index_at es cs p i
 unfolding index_at
 index_leading es cs p i {a} {b} e g h =
     let z = index_yes (prologue_in cs p) (own_in es cs p) (run_at es cs i) e in
@@ -76,7 +75,7 @@ index_leading es cs p i {a} {b} e g h =
 
 -- no bytes are below none
 pub leading_low : (es cs : List ℕ) (p : Parts) (i : ℕ) {a b : ℕ} → leads (run_at es cs i) (prologue_in cs p) ≡ true
-    → a ≡ length (backwards (simplify no_pair (saves cs p.prologue))) → b ≡ length (backwards (run_at es cs i)) → b ≤ a
+    → a ≡ length (backwards (prologue_in cs p)) → b ≡ length (backwards (run_at es cs i)) → b ≤ a
 leading_low es cs p i {a} {b} e g h =
     let z = prologue_size cs p g in omega (arith, leading (run_at es cs i) (prologue_in cs p) e, run_size_lem (prologue_in cs p), z, h)
 

@@ -7,3 +7,4 @@ pub mod Indexes
 pub mod Codes
 pub mod Scopes
 pub mod Record
+pub mod Taken

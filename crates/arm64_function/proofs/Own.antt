@@ -1,8 +1,8 @@
 -- Runs of their own: what loops over a function's epilogues know.
-use mathlib.Core.Path.{◌≡◌, refl, subst, sym, ap, ◌∙◌}
+use mathlib.Core.Path.{◌≡◌, refl, sym, ap, ◌∙◌}
 use mathlib.Core.Bool.{Bool, true, false, ◌&&◌, ◌||◌}
 use mathlib.Core.List.{List, [], ◌∷◌, ◌++◌, append-nil, append_assoc}
-use Prim.Native.Nat.{ℕ, suc, ◌+◌, ◌-◌, ◌^◌, ◌≤◌, ◌<◌}
+use Prim.Native.Nat.{ℕ, suc, ◌+◌, ◌-◌, ◌≤◌, ◌<◌}
 use native.Mathlib.Omega.{arith}
 use lib.ListN.{length, length-append}
 use borrow.Author.Tests.{lt-ltb, le-ltb, eq-eqb}
@@ -13,8 +13,7 @@ use Rattle.format.proofs.Choice.{if-gt}
 use Rattle.arm64.specs.declared.Code.{Code}
 use Rattle.arm64.specs.Codes.{code_bytes}
 use Rattle.arm64.specs.Runs.{no_pair, same_code, same_codes, simplify, run_fits, backwards, run_bytes, run_size, leads, is_in, own_runs, runs_bytes}
-use Rattle.arm64_simple.specs.declared.Run.{Run}
-use Rattle.arm64_simple.specs.Saves.{saves, Inside}
+use Rattle.arm64_simple.specs.Saves.{saves}
 use Rattle.arm64_function.specs.declared.Parts.{Parts}
 use Rattle.arm64.proofs.MeaningLaws.{both_true, no_yes, equal}
 use Rattle.arm64.proofs.PackingLaws.{equal_all}
@@ -112,9 +111,14 @@ is_in_none : (R : ℕ → List Code) (r : List Code) (at : ℕ) → is_in r (see
 unfolding is_in seen_from
 is_in_none R r at = refl
 
-pub run_is : (es cs : List ℕ) (i : ℕ) {r : Run} → r ≡ epilogue_at es i → simplify no_pair (saves cs r) ≡ run_at es cs i
+-- the codes that are saved, as they are written
+pub run_is : (es cs : List ℕ) (i : ℕ) {s : List Code} → s ≡ saves cs (epilogue_at es i) → simplify no_pair s ≡ run_at es cs i
 unfolding run_at
-run_is es cs i e = ap (λ x. simplify no_pair (saves cs x)) e
+run_is es cs i e = ap (simplify no_pair) e
+
+pub prologue_is : (cs : List ℕ) (p : Parts) {s : List Code} → s ≡ saves cs p.prologue → simplify no_pair s ≡ prologue_in cs p
+unfolding prologue_in
+prologue_is cs p e = ap (simplify no_pair) e
 
 module _ {es cs : List ℕ} {p : Parts} {i j : ℕ} (s : Searching es cs p i j) (h : p.first < j) where
   here : is_in (run_at es cs i) (seen_at es cs p i) ≡ (same_codes (run_at es cs i) (run_at es cs (j - 1)) || is_in (run_at es cs i) (seen_at es cs p (j - 1)))
@@ -124,11 +128,11 @@ module _ {es cs : List ℕ} {p : Parts} {i j : ℕ} (s : Searching es cs p i j) 
       ∙ ap (is_in (run_at es cs i)) (seen_next [] (run_at es cs) p.first 0 (j - 1) (omega (arith, h)))
       ∙ is_in_first (run_at es cs i) (run_at es cs (j - 1)) (seen_at es cs p (j - 1))
 
-  module _ {run other : Run} {b : Bool} (e : run ≡ epilogue_at es i) (g : other ≡ epilogue_at es (j - 1))
-      (k : b ≡ same_codes (simplify no_pair (saves cs run)) (simplify no_pair (saves cs other))) where
+  module _ {run other : List Code} {b : Bool} (e : run ≡ saves cs (epilogue_at es i)) (g : other ≡ saves cs (epilogue_at es (j - 1)))
+      (k : b ≡ same_codes (simplify no_pair run) (simplify no_pair other)) where
     answered : b ≡ same_codes (run_at es cs i) (run_at es cs (j - 1))
     answered =
-        k ∙ ap (λ x. same_codes x (simplify no_pair (saves cs other))) (run_is es cs i e) ∙ ap (same_codes (run_at es cs i)) (run_is es cs (j - 1) g)
+        k ∙ ap (λ x. same_codes x (simplify no_pair other)) (run_is es cs i e) ∙ ap (same_codes (run_at es cs i)) (run_is es cs (j - 1) g)
 
     pub searching_turn : b ≡ false → Searching es cs p i (j - 1)
     searching_turn n =
@@ -204,9 +208,9 @@ pub one_size : {q : List (List Code)} {r : List Code} → q ≡ r ∷ [] → len
 unfolding run_size
 one_size {q} {r} e = sym (ap (λ x. length (runs_bytes x)) e ∙ ap length (one_bytes r) ∙ run_size_lem r)
 
-pub fits_is : (es cs : List ℕ) (i : ℕ) {r : Run} → r ≡ epilogue_at es i → run_fits no_pair (saves cs r) ≡ fits_at es cs i
+pub fits_is : (es cs : List ℕ) (i : ℕ) {s : List Code} → s ≡ saves cs (epilogue_at es i) → run_fits no_pair s ≡ fits_at es cs i
 unfolding fits_at
-fits_is es cs i e = ap (λ x. run_fits no_pair (saves cs x)) e
+fits_is es cs i e = ap (run_fits no_pair) e
 
 -- ---- the sum of the runs
 
@@ -241,15 +245,14 @@ pub record Summing (es cs : List ℕ) (p : Parts) (size i : ℕ) : Type 0 where
   pub low : p.first ≤ i
   pub rest : length (codes_in es cs p) ≡ size + length (runs_bytes (later_at es cs p i))
 
-pub prologue_size : (cs : List ℕ) (p : Parts) {n : ℕ} → n ≡ length (backwards (simplify no_pair (saves cs p.prologue))) → n + 1 ≡ run_size (prologue_in cs p)
-unfolding prologue_in
-prologue_size cs p {n} e = ap (λ (k : ℕ). k + 1) e ∙ sym (run_size_lem (simplify no_pair (saves cs p.prologue)))
+pub prologue_size : (cs : List ℕ) (p : Parts) {n : ℕ} → n ≡ length (backwards (prologue_in cs p)) → n + 1 ≡ run_size (prologue_in cs p)
+prologue_size cs p {n} e = ap (λ (k : ℕ). k + 1) e ∙ sym (run_size_lem (prologue_in cs p))
 
 pub size_is : (r : List Code) → length (run_bytes r) ≡ run_size r
 unfolding run_size
 size_is r = refl
 
-pub summing_start : {es cs : List ℕ} {p : Parts} {n : ℕ} → n ≡ length (backwards (simplify no_pair (saves cs p.prologue))) → Summing es cs p (n + 1) p.first
+pub summing_start : {es cs : List ℕ} {p : Parts} {n : ℕ} → n ≡ length (backwards (prologue_in cs p)) → Summing es cs p (n + 1) p.first
 summing_start {es} {cs} {p} {n} e =
     let g = ap length (codes_all es cs p) ∙ length-append (run_bytes (prologue_in cs p)) (runs_bytes (later_at es cs p p.first)) in
     record { low = omega arith; rest = omega (arith, g, prologue_size cs p e, size_is (prologue_in cs p)) }
@@ -270,14 +273,6 @@ summing_high {es} {cs} {p} s h = held_high (length (codes_in es cs p)) (omega (a
 pub summing_all : {es cs : List ℕ} {p : Parts} {size i : ℕ} → Summing es cs p size i → p.end ≤ i → size ≡ length (codes_in es cs p)
 summing_all {es} {cs} {p} {size} {i} s h = omega (arith, s.rest, ap length (bytes_end es cs p i h))
 
-pub leads_is : (es cs : List ℕ) (p : Parts) (i : ℕ) {r : Run} {b : Bool} → r ≡ epilogue_at es i
-    → b ≡ leads (simplify no_pair (saves cs r)) (simplify no_pair (saves cs p.prologue)) → b ≡ leads (run_at es cs i) (prologue_in cs p)
-unfolding prologue_in
-leads_is es cs p i e k = k ∙ ap (λ x. leads x (simplify no_pair (saves cs p.prologue))) (run_is es cs i e)
-
-pub size_of : (es cs : List ℕ) (i : ℕ) {r : Run} {n : ℕ} → r ≡ epilogue_at es i → n ≡ length (backwards (simplify no_pair (saves cs r)))
-    → n ≡ length (backwards (run_at es cs i))
-size_of es cs i e k = k ∙ ap (λ x. length (backwards x)) (run_is es cs i e)
-
-pub own_count : (es : List ℕ) {cs : List ℕ} (i : ℕ) {r : Run} → Inside cs (epilogue_at es i) → r ≡ epilogue_at es i → r.count < 2 ^ 60
-own_count es {cs} i {r} h e = let g : Inside cs r = subst (Inside cs) (sym e) h in omega (arith, g.low)
+pub leads_is : (es cs : List ℕ) (p : Parts) (i : ℕ) {r s : List Code} {b : Bool} → r ≡ saves cs (epilogue_at es i) → s ≡ saves cs p.prologue
+    → b ≡ leads (simplify no_pair r) (simplify no_pair s) → b ≡ leads (run_at es cs i) (prologue_in cs p)
+leads_is es cs p i {r} {s} e g k = k ∙ ap (λ x. leads x (simplify no_pair s)) (run_is es cs i e) ∙ ap (leads (run_at es cs i)) (prologue_is cs p g)

@@ -19,7 +19,7 @@ use Rattle.arm64.specs.Packing.{candidate, packed_word, stands_for}
 use Rattle.arm64.specs.Runs.{no_pair, simplify, run_fits, backwards, run_bytes, run_size, leads, is_in, own_runs, runs_bytes, place_in, index_of}
 use Rattle.arm64.specs.Writer.{codes_in as codesOfLists, prologue_run, epilogue_run, codes_of, index_in, instructions, longest, ends_with, only_one, packed_for, is_packed, size_ok}
 use Rattle.arm64_simple.specs.declared.Run.{Run}
-use Rattle.arm64_simple.specs.Saves.{saves, Inside}
+use Rattle.arm64_simple.specs.Saves.{saves}
 use Rattle.arm64_function.specs.declared.Parts.{Parts}
 use Rattle.arm64_function.specs.Listed.{Fine}
 use Rattle.arm64_function.specs.Own.{prologue_at, epilogue_at, parts_at, Fitted, prologue_in, run_at, own_in, codes_in, index_at, start_ok_at, fits_at, parts_ok, most_codes}
@@ -187,16 +187,16 @@ module _ (cs : List ℕ) (left : ℕ) (p e : Run) where
 
 -- ---- the word of an only epilogue
 
-module _ (es cs : List ℕ) (p : Parts) (size : ℕ) {e : Run} (h : e ≡ epilogue_at es p.first) where
+module _ (es cs : List ℕ) (p : Parts) (size : ℕ) where
+  abbrev e : Run
+  e = epilogue_at es p.first
+
   abbrev code_left : ℕ
   code_left = (size - get_or es (3 * p.first) 0) / 4
 
-  shared_is : shared_in cs code_left p.prologue e
-      ≡ shared_in cs (instructions (size - field epilogue_stride es p.first 0)) p.prologue (epilogue_at es p.first)
+  shared_is : shared_in cs code_left p.prologue e ≡ shared_in cs (instructions (size - field epilogue_stride es p.first 0)) p.prologue e
   unfolding instructions
-  shared_is =
-      ap (λ (n : ℕ). shared_in cs ((size - get_or es n 0) / 4) p.prologue e) (sym (add-zero (3 * p.first)))
-      ∙ ap (shared_in cs ((size - field epilogue_stride es p.first 0) / 4) p.prologue) h
+  shared_is = ap (λ (n : ℕ). shared_in cs ((size - get_or es n 0) / 4) p.prologue e) (sym (add-zero (3 * p.first)))
 
   abbrev stands : Bool
   stands = stands_for (candidate (instructions size) (prologue_in cs p)) (prologue_in cs p) (run_at es cs p.first)
@@ -208,19 +208,18 @@ module _ (es cs : List ℕ) (p : Parts) (size : ℕ) {e : Run} (h : e ≡ epilog
   abbrev P₁ : List Code
   P₁ = simplify no_pair (saves cs p.prologue)
 
-  pub shared : shared_in cs code_left p.prologue e ≡ true → {n : Option ℕ}
-      → n ≡ pick (stands_for (candidate (size / 4) P₁) P₁ (simplify no_pair (saves cs e))) (Some (packed_word (candidate (size / 4) P₁))) None → n ≡ packed_at es cs p size
+  pub shared : shared_in cs code_left p.prologue e ≡ true → {s t : List Code} → s ≡ saves cs p.prologue → t ≡ saves cs e → {n : Option ℕ}
+      → n ≡ pick (stands_for (candidate (size / 4) (simplify no_pair s)) (simplify no_pair s) (simplify no_pair t)) (Some (packed_word (candidate (size / 4) (simplify no_pair s)))) None
+      → n ≡ packed_at es cs p size
   unfolding packed_at prologue_in run_at instructions
-  shared g k =
-      k ∙ ap (λ x. pick (stands_for (candidate (size / 4) P₁) P₁ (simplify no_pair (saves cs x))) (Some (packed_word (candidate (size / 4) P₁))) None) h
+  shared g {s} {t} a b k =
+      k
+      ∙ ap (λ x. pick (stands_for (candidate (size / 4) (simplify no_pair x)) (simplify no_pair x) (simplify no_pair t)) (Some (packed_word (candidate (size / 4) (simplify no_pair x)))) None) a
+      ∙ ap (λ x. pick (stands_for (candidate (size / 4) P₁) P₁ (simplify no_pair x)) (Some (packed_word (candidate (size / 4) P₁))) None) b
       ∙ sym (ap (λ b. pick (b && stands) (Some (packed_word (candidate (size / 4) P₁))) None) (sym shared_is ∙ g))
 
-  module _ (o : Only es cs p size) where
-    pub only_inside : Inside cs e
-    only_inside = subst (Inside cs) (sym h) (o.ready.inside p.first (omega arith) o.one)
-
-    pub only_start : get_or es (3 * p.first) 0 ≤ size
-    only_start = subst (λ (n : ℕ). get_or es n 0 ≤ size) (add-zero (3 * p.first)) o.start
+  pub only_start : Only es cs p size → get_or es (3 * p.first) 0 ≤ size
+  only_start o = subst (λ (n : ℕ). get_or es n 0 ≤ size) (add-zero (3 * p.first)) o.start
 
 -- ---- what the questions have answered
 
@@ -266,7 +265,7 @@ module _ {fs es cs : List ℕ} {k : ℕ} (h : Fine fs es cs k) where
       ltb-true (field epilogue_stride es i 0) size b.1
 
   module _ (short : length cs * 8 < 2 ^ 63) where
-    only_of : parts.end - parts.first ≡ 1 → Only es cs parts (field function_stride fs k 1)
+    pub only_of : parts.end - parts.first ≡ 1 → Only es cs parts (field function_stride fs k 1)
     unfolding parts_at prologue_at epilogue_at codesOfLists
     only_of one =
         let at = field function_stride fs k 4 in
@@ -278,6 +277,3 @@ module _ {fs es cs : List ℕ} {k : ℕ} (h : Fine fs es cs k) where
           prologue = fitted.prologue;
           few_prologue = omega (arith, h.listed.few_codes);
         }
-
-    pub only : {q : Parts} → q ≡ parts → q.end - q.first ≡ 1 → Only es cs q (field function_stride fs k 1)
-    only e one = subst (λ x. Only es cs x (field function_stride fs k 1)) (sym e) (only_of (sym (ap (λ x. x.end - x.first) e) ∙ one))

@@ -15,7 +15,7 @@ use Rattle.format.proofs.Wrote.{Wrote}
 use Rattle.format.proofs.PutLaws.{kept}
 use Rattle.format.proofs.ListLaws.{each-length}
 use Rattle.arm64.specs.Lists.{Function, function_stride, epilogue_stride, numbered_epilogue, numbered_function}
-use Rattle.arm64.specs.Runs.{no_pair, simplify, backwards, leads, run_fits}
+use Rattle.arm64.specs.Runs.{no_pair, backwards, leads, run_fits}
 use Rattle.arm64.specs.Writer.{codes_of, instructions, ends_with, only_one, single, first_index, count_of, words_of, header_bytes, scope_bytes, scopes_of, record_bytes, info_of, is_packed, nop_byte}
 use Rattle.arm64_simple.specs.Saves.{saves}
 use Rattle.arm64_header.specs.Header.{only_in, count_in, header_of}
@@ -79,7 +79,7 @@ whole {fs} {es} {cs} {k} h short =
 -- ---- the only epilogue
 
 pub index_only : (es cs : List ℕ) (p : Parts) {n : ℕ} → p.end - p.first ≡ 1 → leads (run_at es cs p.first) (prologue_in cs p) ≡ false
-    → n ≡ length (backwards (simplify no_pair (saves cs p.prologue))) → n + 1 ≡ index_at es cs p p.first
+    → n ≡ length (backwards (prologue_in cs p)) → n + 1 ≡ index_at es cs p p.first
 index_only es cs p {n} one e s =
     index_own (ahead_start s) (omega arith) (omega (arith, one)) (searching_ended (searching_start (omega arith)) (omega arith)) e (omega arith)
 
@@ -334,7 +334,3 @@ module _ (fs es cs : List ℕ) (k : ℕ) where
         by : (b : Bool) → w ≡ pick b (Some c) None → record_at es cs p size ≡ pick b [] (record_bytes f)
         by true g = absurd (no_yes (sym h ∙ ap is_some (g ∙ yes_pick (Some c) None)))
         by false g = sym (no_pick (List ℕ) [] (record_bytes f) ∙ record_same)
-
-pub whole_for : {fs es cs : List ℕ} {k : ℕ} → Fine fs es cs k → length cs * 8 < 2 ^ 63 → {q : Parts} → q ≡ parts_at fs k
-    → Whole es cs q (field function_stride fs k 1)
-whole_for {fs} {es} {cs} {k} h short e = subst (λ x. Whole es cs x (field function_stride fs k 1)) (sym e) (whole h short)

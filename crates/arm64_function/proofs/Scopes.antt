@@ -12,14 +12,13 @@ use Rattle.format.proofs.Wrote.{Wrote}
 use Rattle.format.proofs.Storing.{Storing, stored_next}
 use Rattle.format.proofs.Storing as storing
 use Rattle.format.proofs.Choice.{either}
-use Rattle.arm64.specs.Runs.{no_pair, simplify, backwards, runs_bytes}
+use Rattle.arm64.specs.Runs.{backwards, runs_bytes}
 use Rattle.arm64.specs.Lists.{epilogue_stride}
 use Rattle.arm64.specs.Writer.{instructions}
 use Rattle.format.specs.Lists.{field}
-use Rattle.arm64_simple.specs.Saves.{saves}
 use Rattle.arm64_function.specs.declared.Parts.{Parts}
 use Rattle.arm64_function.specs.declared.Scope.{Scope}
-use Rattle.arm64_function.specs.Own.{own_at, codes_in, index_at, word_at, words_from, index_in, Known, Ahead, Started}
+use Rattle.arm64_function.specs.Own.{prologue_in, own_at, codes_in, index_at, word_at, words_from, index_in, Known, Ahead, Started}
 use Rattle.arm64_function.proofs.Own.{Summing, summing_start, summing_turn}
 use Rattle.arm64_function.proofs.Indexes.{ahead_start, ahead_turn}
 
@@ -97,7 +96,7 @@ pub record Scoping (xs₀ xs : List ℕ) (to q : ℕ) (es cs : List ℕ) (p : Pa
   pub left : Storing xs₀ xs to q (words_from es cs p p.first (p.end - p.first)) (words_from es cs p i (p.end - i))
 
 pub scoping_start : {xs : List ℕ} {to n : ℕ} (es cs : List ℕ) (p : Parts) → to + 4 * (p.end - p.first) ≤ length xs
-    → n ≡ length (backwards (simplify no_pair (saves cs p.prologue))) → Scoping xs xs to to es cs p (n + 1) p.first
+    → n ≡ length (backwards (prologue_in cs p)) → Scoping xs xs to to es cs p (n + 1) p.first
 scoping_start {xs} {to} {n} es cs p h e =
     record {
       sum = summing_start e;

@@ -3,3 +3,4 @@ pub mod Listed
 pub mod Own
 pub mod PackedWord
 pub mod Record
+pub mod Function

@@ -21,3 +21,10 @@ pub record Listed (fs es cs : List ℕ) (k : ℕ) : Type 0 where
 pub record Fine (fs es cs : List ℕ) (k : ℕ) : Type 0 where
   pub listed : Listed fs es cs k
   pub asked : function_asks k (numbered_function fs es cs k) ≡ none
+
+-- both of the lists as they are lent
+abbrev pub ListedIn : Lists → ℕ → Type 0
+ListedIn x k = Listed x.functions.now x.epilogues.now x.codes.now k
+
+abbrev pub FineIn : Lists → ℕ → Type 0
+FineIn x k = Fine x.functions.now x.epilogues.now x.codes.now k

@@ -79,6 +79,7 @@ impl Header {
     }
 }
 
+// Kept: the list and the place stand side by side, as in each writer: the next one begins at the end that this one gives.
 // Codes are padded to words with nop.
 pub fn pad(out: &mut [u8], at: usize, n: usize) -> usize
     requires { (n ≤ 3) × (at + n ≤ length out.old) }

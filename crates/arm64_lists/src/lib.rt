@@ -17,94 +17,153 @@ pub struct Lists<'a> {
     pub codes: &'a [u64],
 }
 
-fn code_ok(cs: &[u64], i: usize) -> bool
-    requires { 3 * i + 3 ≤ length cs.now }
-    ensures { result ≡ code_ok_at cs.now i }
-{
-    let kind = cs[fields::CODE_STRIDE * i];
-    if arm64::PAC_SIGN_LR < kind {
-        return false;
-    }
-    if kind <= arm64::FREG_X {
-        if arm64::REGP <= kind {
+impl Lists<'_> {
+    fn code_ok(&self, i: usize) -> bool
+        requires { 3 * i + 3 ≤ length self.now.codes.now }
+        ensures { result ≡ code_ok_at self.now.codes.now i }
+    {
+        let kind = self.codes[fields::CODE_STRIDE * i];
+        if arm64::PAC_SIGN_LR < kind {
+            return false;
+        }
+        if kind <= arm64::FREG_X {
+            if arm64::REGP <= kind {
+                return true;
+            }
+            return self.codes[fields::CODE_STRIDE * i + fields::REGISTER] == 0;
+        }
+        if self.codes[fields::CODE_STRIDE * i + fields::REGISTER] != 0 {
+            return false;
+        }
+        if kind == arm64::ADD_FP {
             return true;
         }
-        return cs[fields::CODE_STRIDE * i + fields::REGISTER] == 0;
+        self.codes[fields::CODE_STRIDE * i + fields::OFFSET] == 0
     }
-    if cs[fields::CODE_STRIDE * i + fields::REGISTER] != 0 {
-        return false;
+
+    fn codes_in(&self, at: usize, n: usize) -> bool
+        requires { at + n ≤ count code_stride self.now.codes.now }
+        ensures { result ≡ all_in (code_ok_at self.now.codes.now) at n }
+    {
+        (at..at + n).all(|i| self.code_ok(i))
     }
-    if kind == arm64::ADD_FP {
-        return true;
+
+    // A range of codes, and each of them.
+    fn codes_ok_in(&self, at: u64, n: u64) -> bool
+        ensures { result ≡ codes_ok_in self.now.codes.now at n }
+    {
+        if !lists::inside(at, n, (self.codes.len() / fields::CODE_STRIDE) as u64) {
+            return false;
+        }
+        self.codes_in(at as usize, n as usize)
     }
-    cs[fields::CODE_STRIDE * i + fields::OFFSET] == 0
-}
 
-fn codes_in(cs: &[u64], at: usize, n: usize) -> bool
-    requires { at + n ≤ count code_stride cs.now }
-    ensures { result ≡ all_in (code_ok_at cs.now) at n }
-{
-    (at..at + n).all(|i| code_ok(cs, i))
-}
-
-// A range of codes, and each of them.
-fn codes_ok_in(cs: &[u64], at: u64, n: u64) -> bool
-    ensures { result ≡ codes_ok_in cs.now at n }
-{
-    if !lists::inside(at, n, (cs.len() / fields::CODE_STRIDE) as u64) {
-        return false;
+    fn epilogue_ok(&self, i: usize) -> bool
+        requires { 3 * i + 3 ≤ length self.now.epilogues.now }
+        ensures { result ≡ epilogue_ok_at self.now.epilogues.now self.now.codes.now i }
+    {
+        self.codes_ok_in(
+            self.epilogues[fields::EPILOGUE_STRIDE * i + fields::CODES_AT],
+            self.epilogues[fields::EPILOGUE_STRIDE * i + fields::CODES],
+        )
     }
-    codes_in(cs, at as usize, n as usize)
-}
 
-fn epilogue_ok(es: &[u64], cs: &[u64], i: usize) -> bool
-    requires { 3 * i + 3 ≤ length es.now }
-    ensures { result ≡ epilogue_ok_at es.now cs.now i }
-{
-    codes_ok_in(
-        cs,
-        es[fields::EPILOGUE_STRIDE * i + fields::CODES_AT],
-        es[fields::EPILOGUE_STRIDE * i + fields::CODES],
-    )
-}
-
-fn epilogues_in(es: &[u64], cs: &[u64], at: usize, n: usize) -> bool
-    requires { at + n ≤ count epilogue_stride es.now }
-    ensures { result ≡ all_in (epilogue_ok_at es.now cs.now) at n }
-{
-    (at..at + n).all(|i| epilogue_ok(es, cs, i))
-}
-
-fn function_ok(x: &Lists, k: usize) -> bool
-    requires { 6 * k + 6 ≤ length x.now.functions.now }
-    ensures { result ≡ function_ok_at x.now.functions.now x.now.epilogues.now x.now.codes.now k }
-{
-    if !lists::symbol_ok(x.functions[fields::FUNCTION_STRIDE * k]) {
-        return false;
+    fn epilogues_in(&self, at: usize, n: usize) -> bool
+        requires { at + n ≤ count epilogue_stride self.now.epilogues.now }
+        ensures { result ≡ all_in (epilogue_ok_at self.now.epilogues.now self.now.codes.now) at n }
+    {
+        (at..at + n).all(|i| self.epilogue_ok(i))
     }
-    if !codes_ok_in(
-        x.codes,
-        x.functions[fields::FUNCTION_STRIDE * k + fields::PROLOGUE_AT],
-        x.functions[fields::FUNCTION_STRIDE * k + fields::PROLOGUE],
-    ) {
-        return false;
-    }
-    let at = x.functions[fields::FUNCTION_STRIDE * k + fields::EPILOGUES_AT];
-    let n = x.functions[fields::FUNCTION_STRIDE * k + fields::EPILOGUES];
-    if !lists::inside(at, n, (x.epilogues.len() / fields::EPILOGUE_STRIDE) as u64) {
-        return false;
-    }
-    epilogues_in(x.epilogues, x.codes, at as usize, n as usize)
-}
 
-pub fn functions_ok(x: &Lists, n: usize) -> bool
-    requires { 6 * n ≤ length x.now.functions.now }
-    ensures { result ≡ all_in (function_ok_at x.now.functions.now x.now.epilogues.now x.now.codes.now) 0 n }
-{
-    (0..n).all(|k| function_ok(x, k))
-}
+    fn function_ok(&self, k: usize) -> bool
+        requires { 6 * k + 6 ≤ length self.now.functions.now }
+        ensures { result ≡ function_ok_at self.now.functions.now self.now.epilogues.now self.now.codes.now k }
+    {
+        if !lists::symbol_ok(self.functions[fields::FUNCTION_STRIDE * k]) {
+            return false;
+        }
+        if !self.codes_ok_in(
+            self.functions[fields::FUNCTION_STRIDE * k + fields::PROLOGUE_AT],
+            self.functions[fields::FUNCTION_STRIDE * k + fields::PROLOGUE],
+        ) {
+            return false;
+        }
+        let at = self.functions[fields::FUNCTION_STRIDE * k + fields::EPILOGUES_AT];
+        let n = self.functions[fields::FUNCTION_STRIDE * k + fields::EPILOGUES];
+        if !lists::inside(
+            at,
+            n,
+            (self.epilogues.len() / fields::EPILOGUE_STRIDE) as u64,
+        ) {
+            return false;
+        }
+        self.epilogues_in(at as usize, n as usize)
+    }
 
-// ---- sums
+    pub fn functions_ok(&self, n: usize) -> bool
+        requires { 6 * n ≤ length self.now.functions.now }
+        ensures { result ≡ all_in (function_ok_at self.now.functions.now self.now.epilogues.now self.now.codes.now) 0 n }
+    {
+        (0..n).all(|k| self.function_ok(k))
+    }
+
+    // ---- sums
+
+    // The codes of function k, added to a sum.
+    fn add_function(&self, k: usize, sum: u64) -> Option<u64>
+        requires { (6 * k + 6 ≤ length self.now.functions.now) × (field function_stride self.now.functions.now k 4 + field function_stride self.now.functions.now k 5 ≤ count epilogue_stride self.now.epilogues.now) × (sum ≤ most_records) }
+        ensures { result ≡ up_to (sum + codes_in self.now.functions.now self.now.epilogues.now k) }
+    {
+        let at = self.functions[fields::FUNCTION_STRIDE * k + fields::EPILOGUES_AT] as usize;
+        let n = self.functions[fields::FUNCTION_STRIDE * k + fields::EPILOGUES] as usize;
+        let start = add(
+            sum,
+            self.functions[fields::FUNCTION_STRIDE * k + fields::PROLOGUE],
+        )?;
+        let mut total = start;
+        for i in at..at + n {
+            total = add(
+                total,
+                self.epilogues[fields::EPILOGUE_STRIDE * i + fields::CODES],
+            )?;
+        }
+        Some(total)
+    }
+
+    // The codes of n functions.
+    fn codes_sum(&self, n: usize) -> Option<u64>
+        requires { (6 * n ≤ length self.now.functions.now) × ((k : ℕ) → k < n → field function_stride self.now.functions.now k 4 + field function_stride self.now.functions.now k 5 ≤ count epilogue_stride self.now.epilogues.now) }
+        ensures { result ≡ up_to (sum_of (codes_in self.now.functions.now self.now.epilogues.now) 0 n) }
+    {
+        let mut sum = 0;
+        for k in 0..n {
+            sum = self.add_function(k, sum)?;
+        }
+        Some(sum)
+    }
+
+    // Question 13.
+    pub fn ok(&self) -> bool
+        ensures { result ≡ lists_ok self.now.functions.now self.now.epilogues.now self.now.codes.now }
+    {
+        let n = self.functions.len() / fields::FUNCTION_STRIDE;
+        if lists::MOST_FUNCTIONS < n {
+            return false;
+        }
+        if !lists::sum_ok(
+            self.functions,
+            fields::FUNCTION_STRIDE,
+            fields::EPILOGUES,
+            n,
+        ) {
+            return false;
+        }
+        if !self.functions_ok(n) {
+            return false;
+        }
+        self.codes_sum(n).is_some()
+    }
+}
 
 // A sum, where it is not above the most of records.
 fn add(sum: u64, more: u64) -> Option<u64>
@@ -112,58 +171,4 @@ fn add(sum: u64, more: u64) -> Option<u64>
 {
     let total = sum.checked_add(more)?;
     (total <= lists::MOST_RECORDS).then_some(total)
-}
-
-// The codes of epilogues, added to a sum.
-fn add_epilogues(es: &[u64], at: usize, n: usize, sum: u64) -> Option<u64>
-    requires { (at + n ≤ count epilogue_stride es.now) × (sum ≤ most_records) }
-    ensures { result ≡ up_to (sum + sum_of (λ i. field epilogue_stride es.now i 2) at n) }
-{
-    let mut total = sum;
-    for i in at..at + n {
-        total = add(total, es[fields::EPILOGUE_STRIDE * i + fields::CODES])?;
-    }
-    Some(total)
-}
-
-// The codes of function k, added to a sum.
-fn add_function(fs: &[u64], es: &[u64], k: usize, sum: u64) -> Option<u64>
-    requires { (6 * k + 6 ≤ length fs.now) × (field function_stride fs.now k 4 + field function_stride fs.now k 5 ≤ count epilogue_stride es.now) × (sum ≤ most_records) }
-    ensures { result ≡ up_to (sum + codes_in fs.now es.now k) }
-{
-    add_epilogues(
-        es,
-        fs[fields::FUNCTION_STRIDE * k + fields::EPILOGUES_AT] as usize,
-        fs[fields::FUNCTION_STRIDE * k + fields::EPILOGUES] as usize,
-        add(sum, fs[fields::FUNCTION_STRIDE * k + fields::PROLOGUE])?,
-    )
-}
-
-// The codes of n functions.
-fn codes_sum(fs: &[u64], es: &[u64], n: usize) -> Option<u64>
-    requires { (6 * n ≤ length fs.now) × ((k : ℕ) → k < n → field function_stride fs.now k 4 + field function_stride fs.now k 5 ≤ count epilogue_stride es.now) }
-    ensures { result ≡ up_to (sum_of (codes_in fs.now es.now) 0 n) }
-{
-    let mut sum = 0;
-    for k in 0..n {
-        sum = add_function(fs, es, k, sum)?;
-    }
-    Some(sum)
-}
-
-// Question 13.
-pub fn lists_ok(x: &Lists) -> bool
-    ensures { result ≡ lists_ok x.now.functions.now x.now.epilogues.now x.now.codes.now }
-{
-    let n = x.functions.len() / fields::FUNCTION_STRIDE;
-    if lists::MOST_FUNCTIONS < n {
-        return false;
-    }
-    if !lists::sum_ok(x.functions, fields::FUNCTION_STRIDE, fields::EPILOGUES, n) {
-        return false;
-    }
-    if !functions_ok(x, n) {
-        return false;
-    }
-    codes_sum(x.functions, x.epilogues, n).is_some()
 }

@@ -1,7 +1,7 @@
 -- A run compared with the places of a packed word: what the loop knows at each turn, and the epilogue's places backwards.
 use mathlib.Core.Path.{◌≡◌, refl, sym, ap, ◌∙◌}
 use mathlib.Core.Bool.{Bool, true, false, not, ◌&&◌}
-use Rattle.arm64_simple.proofs.Codes.{not_yes, not_no}
+use Rattle.arm64_simple.proofs.OneCode.{not_yes, not_no}
 use mathlib.Core.List.{List, [], ◌∷◌, ◌++◌, append-nil}
 use Prim.Native.Nat.{ℕ, zero, suc, ◌+◌, ◌-◌, ◌≤◌, ◌<◌}
 use native.Mathlib.Omega.{arith}

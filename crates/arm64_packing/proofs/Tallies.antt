@@ -17,7 +17,7 @@ use Rattle.arm64.proofs.MeaningLaws.{both_true, by_pick}
 use Rattle.arm64_spelled.proofs.FitLaws.{fits_low}
 use Rattle.arm64_simple.specs.declared.Run.{Run}
 use Rattle.arm64_simple.specs.Saves.{saves}
-use Rattle.arm64_simple.proofs.Codes.{next_low}
+use Rattle.arm64_simple.proofs.OneCode.{next_low}
 use Rattle.arm64_simple.specs.declared.Step.{Step}
 use Rattle.arm64_simple.specs.Steps.{steps, step_fits}
 use Rattle.arm64_simple.proofs.Loops.{steps-length, saves-length, resolves, resolves_all, fits_all, fits_code}

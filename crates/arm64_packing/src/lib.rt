@@ -7,14 +7,14 @@ ghost use Rattle.format.proofs.Asked.{option_of};
 ghost use Rattle.format.specs.Prelude.{pick};
 ghost use Rattle.format.specs.Lists.{most_records};
 ghost use Rattle.arm64.specs.Packed.{packed_ok, slots_from};
-ghost use Rattle.arm64.specs.Runs.{no_pair, simplify, run_fits, same_codes};
+ghost use Rattle.arm64.specs.Runs.{no_pair, run_fits, same_codes};
 ghost use Rattle.arm64.specs.Packing.{integers_in, vectors_in, down_in, chain_behind, tally, as_fields, candidate, packed_word, fields_hold, stands_for};
 ghost use Rattle.arm64_packed.specs.Fields.{Small, Sound};
-ghost use Rattle.arm64_simple.specs.Saves.{saves, Inside};
+ghost use Rattle.arm64_simple.specs.Written.{saved_in, written_in};
 ghost use Rattle.arm64_packing.specs.Places.{stores_one, stores_lr, placed, given, Low, Counted};
 
 use arm64::{Code, Packed, packed_bits};
-use arm64_simple::{Run, Steps};
+use arm64_simple::Codes;
 
 // ---- what a code counts
 
@@ -127,9 +127,9 @@ fn as_fields(p: Packed) -> Packed
 }
 
 // One pair goes before a code both as it is written and with its SaveNext resolved.
-fn candidate(cs: &[u64], size: u64, run: Run) -> Packed
-    requires { Inside cs.now run × (run_fits no_pair (saves cs.now run) ≡ true) × (run.count ≤ most_records) }
-    ensures { (result ≡ candidate size (simplify no_pair (saves cs.now run))) × (result.flag ≡ 1) × (result.homes ≡ 0) × (result.chain < 4) }
+fn candidate(run: &Codes, size: u64) -> Packed
+    requires { (run_fits no_pair (saved_in run.now) ≡ true) × (run.now.run.count ≤ most_records) }
+    ensures { (result ≡ candidate size (written_in run.now)) × (result.flag ≡ 1) × (result.homes ≡ 0) × (result.chain < 4) }
 {
     let mut p = Packed {
         flag: 1,
@@ -140,7 +140,7 @@ fn candidate(cs: &[u64], size: u64, run: Run) -> Packed
         chain: 0,
         frame: 0,
     };
-    for s in Steps::of(cs, run) {
+    for s in run.steps() {
         p = tally(p, s.resolved());
     }
     as_fields(p)
@@ -179,12 +179,13 @@ fn place(undone: bool, p: Packed, i: u64) -> Option<Code>
     arm64_packed::slot_at(false, p, i)
 }
 
+// Kept: a loop over the places. Tried by the iterators' `eq`: a list of packed functions took a tenth longer to write.
 // Whether a run's instructions are those of the word's prologue or, undone, of its epilogue.
-fn same_places(cs: &[u64], run: Run, undone: bool, p: Packed) -> bool
-    requires { Inside cs.now run × Sound p }
-    ensures { result ≡ same_codes (given cs.now run) (slots_from (placed undone p) 0 19) }
+fn same_places(run: &Codes, undone: bool, p: Packed) -> bool
+    requires { Sound p }
+    ensures { result ≡ same_codes (given run.now.list.now run.now.run) (slots_from (placed undone p) 0 19) }
 {
-    let mut steps = Steps::of(cs, run);
+    let mut steps = run.steps();
     'places: for i in 0..19 {
         let Some(d) = place(undone, p, i) else {
             continue 'places;
@@ -213,18 +214,18 @@ fn packed_word(p: Packed) -> u64
 }
 
 // The packed word that stands for a function of `size` instructions.
-pub fn packed(cs: &[u64], size: u64, prologue: Run, epilogue: Run) -> Option<u64>
-    requires { Inside cs.now prologue × Inside cs.now epilogue × (run_fits no_pair (saves cs.now prologue) ≡ true) × (prologue.count ≤ most_records) }
-    ensures { result ≡ pick (stands_for (candidate size (simplify no_pair (saves cs.now prologue))) (simplify no_pair (saves cs.now prologue)) (simplify no_pair (saves cs.now epilogue))) (Some (packed_word (candidate size (simplify no_pair (saves cs.now prologue))))) None }
+pub fn packed(size: u64, prologue: &Codes, epilogue: &Codes) -> Option<u64>
+    requires { (run_fits no_pair (saved_in prologue.now) ≡ true) × (prologue.now.run.count ≤ most_records) }
+    ensures { result ≡ pick (stands_for (candidate size (written_in prologue.now)) (written_in prologue.now) (written_in epilogue.now)) (Some (packed_word (candidate size (written_in prologue.now)))) None }
 {
-    let p = candidate(cs, size, prologue);
+    let p = candidate(prologue, size);
     if !defined(p) {
         return None;
     }
-    if !same_places(cs, prologue, false, p) {
+    if !same_places(prologue, false, p) {
         return None;
     }
-    if !same_places(cs, epilogue, true, p) {
+    if !same_places(epilogue, true, p) {
         return None;
     }
     Some(packed_word(p))

@@ -6,7 +6,7 @@ use mathlib.Core.Option.{Option, none, some}
 use mathlib.Core.List.{List, [], ◌∷◌, ◌++◌, append-nil}
 use Prim.Native.Nat.{ℕ, suc, ◌+◌, ◌-◌, ◌*◌, ◌/◌, ◌%◌, ◌≤◌, ◌<◌}
 use native.Mathlib.Omega.{arith}
-use lib.ListN.{length, take, drop, length-append}
+use lib.ListN.{length, length-append}
 use Rattle.std.specs.Prelude.{Ok, Err, MatchResult}
 use Rattle.std.specs.Prelude as code
 use Rattle.format.specs.Prelude.{pick, after, Result, good, bad, onward, or_else}
@@ -21,7 +21,7 @@ use Rattle.arm64.specs.declared.Packed.{Packed}
 use Rattle.arm64.specs.declared.Arm64Reading.{Arm64Reading}
 use Rattle.arm64.specs.Lists.{Epilogue, code_numbers, epilogue_numbers}
 use Rattle.arm64.specs.Meaning.{reverse}
-use Rattle.arm64.specs.Records.{codes_from, codes_of}
+use Rattle.arm64.specs.Records.{codes_of}
 use Rattle.arm64.specs.Packed.{packed_of, packed_ok, slot_at, slots_from, packed_prologue, packed_epilogue}
 use Rattle.arm64.specs.Reader.{Unwound, run_at, epilogue, at_end, record_epilogues, unwound, record_unwound, full_record, packed_epilogues, packed_unwound, unwound_by, epilogue_codes, all_codes, fits_in, read_arm64, reading_of, epilogues_after, codes_after}
 use Rattle.arm64.proofs.PackingLaws.{reverse-length}
@@ -206,11 +206,6 @@ module _ (s : List ℕ) (place : ℕ) (es cs : List ℕ) where
   pub by_header : {h : Header} → headed_at s place ≡ some h → onward (full_record s place) (fits_in es cs) ≡ found (record_unwound h s) es cs
   unfolding headed_at full_record found pick
   by_header e = grind arith
-
--- the bytes that the code takes
-pub codes_taken : (h : Header) (s : List ℕ) {from : ℕ} → from ≡ codes_from h → take (from + 4 * h.words - from) (drop from s) ≡ codes_of h s
-unfolding codes_of
-codes_taken h s {from} e = let z : from + 4 * h.words - from ≡ 4 * h.words = omega arith in rw (z, e)
 
 -- ---- by the word
 

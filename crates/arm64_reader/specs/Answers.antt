@@ -7,6 +7,8 @@ use Rattle.format.specs.Coded.{result_of}
 use Rattle.format.specs.Lists.{count}
 use Rattle.arm64.specs.declared.Arm64Reading.{Arm64Reading}
 use Rattle.arm64.specs.Lists.{epilogue_stride, code_stride}
+use Rattle.arm64_records.specs.declared.Output.{Output}
+use Rattle.arm64_records.specs.Lent.{SameLists}
 use Rattle.arm64.specs.Reader.{Unwound, fits_in, reading_of, epilogues_after, codes_after}
 
 -- the reading where n codes of the prologue were found, and epilogues of m codes
@@ -30,3 +32,14 @@ pub record Answered (u : Result Unwound) (r : code.Result Arm64Reading ℕ) (es 
 -- what was found, or 77; then 54
 unfoldable pub found : Option Unwound → (es cs : List ℕ) → Result Unwound
 found x es cs = onward (or_else x 77) (fits_in es cs)
+
+-- ---- of the lists as they are lent
+
+abbrev pub room_of : Output → (epilogues codes : ℕ) → Bool
+room_of to epilogues codes = roomy to.epilogues.now to.codes.now epilogues codes
+
+abbrev pub found_in : Option Unwound → Output → Result Unwound
+found_in x to = found x to.epilogues.now to.codes.now
+
+abbrev pub AnsweredIn : Result Unwound → code.Result Arm64Reading ℕ → (old new : Output) → Type 0
+AnsweredIn u r old new = Answered u r old.epilogues.now new.epilogues.now old.codes.now new.codes.now × SameLists old new

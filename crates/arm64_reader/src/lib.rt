@@ -3,14 +3,13 @@
 
 ghost use Rattle.std.specs.Prelude.{◌≡◌, true, false, ◌≢◌, ◌+◌, ◌*◌, ◌<◌, length, MatchResult};
 ghost use Rattle.format.specs.Prelude.{bad, onward};
-ghost use Rattle.arm64.specs.Records.{codes_from, codes_of};
 ghost use Rattle.arm64.specs.Packed.{packed_of, packed_ok};
 ghost use Rattle.arm64.specs.Reader.{record_unwound, full_record, fits_in, packed_unwound, read_arm64, reading_of, epilogues_after, codes_after};
-ghost use Rattle.arm64_records.specs.Parts.{Inside};
 ghost use Rattle.arm64_packed.specs.Fields.{Sound};
-ghost use Rattle.arm64_reader.specs.Answers.{roomy, told, Answered, found};
+ghost use Rattle.arm64_reader.specs.Answers.{told, AnsweredIn, found_in, room_of};
 
-use arm64::{Arm64Reading, Header, Packed, fields};
+use arm64::{Arm64Reading, Packed, fields};
+use arm64_records::{Output, Record};
 
 // What the reader answers where n codes of the prologue were found, and epilogues of m codes.
 fn reading(length: u64, n: usize, epilogues: u64, m: usize) -> Arm64Reading
@@ -41,115 +40,100 @@ fn refused(number: u64) -> Arm64Reading
 
 // 54: a lent list is too short.
 #[tactic(auto, unfolding(crate::specs::Answers::roomy))]
-fn room(es: &[u64], cs: &[u64], epilogues: u64, codes: usize) -> Result<(), u64>
-    ensures { MatchResult result (λ x. roomy es.now cs.now epilogues codes ≡ true) (λ e. (e ≡ 54) × (roomy es.now cs.now epilogues codes ≡ false)) }
+fn room(to: &Output, epilogues: u64, codes: usize) -> Result<(), u64>
+    ensures { MatchResult result (λ x. room_of to.now epilogues codes ≡ true) (λ e. (e ≡ 54) × (room_of to.now epilogues codes ≡ false)) }
 {
-    let most = (es.len() / fields::EPILOGUE_STRIDE) as u64;
-    if epilogues <= most && codes <= cs.len() / fields::CODE_STRIDE {
+    let most = (to.epilogues.len() / fields::EPILOGUE_STRIDE) as u64;
+    if epilogues <= most && codes <= to.codes.len() / fields::CODE_STRIDE {
         return Ok(());
     }
     Err(54)
 }
 
 // A record with its header and the bytes of its codes.
-fn record_with(
-    s: &[u8],
-    h: Header,
-    codes: &[u8],
-    es: &mut [u64],
-    cs: &mut [u64],
-) -> Result<Arm64Reading, u64>
-    requires { Inside s.now h × (codes.now ≡ codes_of h s.now) }
-    ensures { Answered (found (record_unwound h s.now) es.old cs.old) result es.old es.new cs.old cs.new }
+fn record_with(x: &Record, to: &mut Output) -> Result<Arm64Reading, u64>
+    ensures { AnsweredIn (found_in (record_unwound x.now.header x.now.section.now) to.old) result to.old to.new }
 {
-    let Some(n) = arm64_runs::count_run(codes, 0) else {
+    let Some(n) = arm64_runs::count_run(x.codes, 0) else {
         return Err(77);
     };
-    let Some(m) = arm64_records::count_epilogues(s, h, codes) else {
+    let Some(m) = x.count_epilogues() else {
         return Err(77);
     };
-    let k = arm64_records::epilogues_in(h);
-    room(es, cs, k, n + m)?;
-    arm64_runs::put_back(cs, fields::CODE_STRIDE * n, codes);
-    arm64_records::put_epilogues(es, cs, n, m, s, h, codes);
-    Ok(reading(4 * h.length, n, k, m))
+    let k = x.epilogues();
+    room(to, k, n + m)?;
+    arm64_runs::put_back(to.codes, fields::CODE_STRIDE * n, x.codes);
+    x.put_epilogues(n, m, to);
+    Ok(reading(4 * x.header.length, n, k, m))
 }
 
 // A packed fragment, which has no epilogue.
 #[tactic(auto, using(crate::proofs::Answers::has_room))]
-fn fragment(p: Packed, es: &mut [u64], cs: &mut [u64]) -> Result<Arm64Reading, u64>
+fn fragment(p: Packed, to: &mut Output) -> Result<Arm64Reading, u64>
     requires { Sound p × (p.flag ≡ 2) × (packed_ok p ≡ true) }
-    ensures { Answered (found (packed_unwound p) es.old cs.old) result es.old es.new cs.old cs.new }
+    ensures { AnsweredIn (found_in (packed_unwound p) to.old) result to.old to.new }
 {
     let n = arm64_packed::count_slots(false, p);
-    room(es, cs, 0, n)?;
-    arm64_packed::put_slots(cs, 0, false, p);
+    room(to, 0, n)?;
+    arm64_packed::put_slots(to.codes, 0, false, p);
     Ok(reading(4 * p.length, n, 0, 0))
 }
 
 // A packed function, whose epilogue is its last instructions.
 #[tactic(auto, using(crate::proofs::Answers::has_room, format::proofs::PutLaws::kept))]
-fn function(p: Packed, es: &mut [u64], cs: &mut [u64]) -> Result<Arm64Reading, u64>
+fn function(p: Packed, to: &mut Output) -> Result<Arm64Reading, u64>
     requires { Sound p × (p.flag ≢ 2) × (packed_ok p ≡ true) }
-    ensures { Answered (found (packed_unwound p) es.old cs.old) result es.old es.new cs.old cs.new }
+    ensures { AnsweredIn (found_in (packed_unwound p) to.old) result to.old to.new }
 {
     let n = arm64_packed::count_slots(false, p);
     let m = arm64_packed::count_slots(true, p);
     if p.length <= m as u64 {
         return Err(77);
     }
-    room(es, cs, 1, n + m)?;
-    arm64_packed::put_slots(cs, 0, false, p);
-    arm64_packed::put_slots(cs, fields::CODE_STRIDE * n, true, p);
-    arm64_runs::put_three(es, 0, [4 * (p.length - 1 - m as u64), n as u64, m as u64]);
+    room(to, 1, n + m)?;
+    arm64_packed::put_slots(to.codes, 0, false, p);
+    arm64_packed::put_slots(to.codes, fields::CODE_STRIDE * n, true, p);
+    let start = 4 * (p.length - 1 - m as u64);
+    arm64_runs::put_three(to.epilogues, 0, [start, n as u64, m as u64]);
     Ok(reading(4 * p.length, n, 1, m))
 }
 
 // A packed word.
-fn packed(w: u64, es: &mut [u64], cs: &mut [u64]) -> Result<Arm64Reading, u64>
+fn packed(w: u64, to: &mut Output) -> Result<Arm64Reading, u64>
     requires { w < 4294967296 }
-    ensures { Answered (found (packed_unwound (packed_of w)) es.old cs.old) result es.old es.new cs.old cs.new }
+    ensures { AnsweredIn (found_in (packed_unwound (packed_of w)) to.old) result to.old to.new }
 {
     let p = arm64_packed::packed_of(w);
     if !arm64_packed::packed_ok(p) {
         return Err(77);
     }
     if p.flag == 2 {
-        return fragment(p, es, cs);
+        return fragment(p, to);
     }
-    function(p, es, cs)
+    function(p, to)
 }
 
 // The record at a place.
-#[tactic(auto, unfolding(arm64::specs::Records::codes_to, arm64::specs::Records::codes_from))]
-fn record(s: &[u8], place: u64, es: &mut [u64], cs: &mut [u64]) -> Result<Arm64Reading, u64>
-    ensures { Answered (onward (full_record s.now place) (fits_in es.old cs.old)) result es.old es.new cs.old cs.new }
+fn record(s: &[u8], place: u64, to: &mut Output) -> Result<Arm64Reading, u64>
+    ensures { AnsweredIn (onward (full_record s.now place) (fits_in to.old.epilogues.now to.old.codes.now)) result to.old to.new }
 {
     let Some(h) = arm64_records::header(s, place) else {
         return Err(76);
     };
-    let from = (h.past + 4 * arm64_records::scopes_in(h)) as usize;
-    let to = from + 4 * h.words as usize;
-    record_with(s, h, &s[from..to], es, cs)
+    record_with(&Record::of(s, h), to)
 }
 
 // A word, and the record at a place where the word is not packed.
-fn read(
-    word: u64,
-    info: &[u8],
-    place: u64,
-    es: &mut [u64],
-    cs: &mut [u64],
-) -> Result<Arm64Reading, u64>
-    ensures { Answered (read_arm64 word info.now place es.old cs.old) result es.old es.new cs.old cs.new }
+fn read(word: u64, info: &[u8], place: u64, to: &mut Output) -> Result<Arm64Reading, u64>
+    ensures { AnsweredIn (read_arm64 word info.now place to.old.epilogues.now to.old.codes.now) result to.old to.new }
 {
     if word % 4 == 0 {
-        return record(info, place, es, cs);
+        return record(info, place, to);
     }
     if word % 4 == 3 || 4294967296 <= word {
         return Err(77);
     }
-    packed(word, es, cs)
+    packed(word, to)
 }
 
 // The second word of an entry, and the record at a place of the info bytes where the word is not packed: the function's length, and how many codes
@@ -167,5 +151,6 @@ pub extern "C" fn unwind_read_arm64(
     ensures epilogues_after { epilogues.new ≡ epilogues_after epilogues.old (read_arm64 word info.now place epilogues.old codes.old) }
     ensures codes_after { codes.new ≡ codes_after codes.old (read_arm64 word info.now place epilogues.old codes.old) }
 {
-    read(word, info, place, epilogues, codes).unwrap_or_else(refused)
+    let mut to = Output { epilogues, codes };
+    read(word, info, place, &mut to).unwrap_or_else(refused)
 }

@@ -11,7 +11,7 @@ use Rattle.format.proofs.Storing.{Storing, stored_next}
 use Rattle.format.proofs.Storing as storing
 use Rattle.arm64.specs.declared.Code.{Code}
 use Rattle.arm64.specs.Lists.{Epilogue, code_numbers, epilogue_numbers}
-use Rattle.arm64.specs.Records.{word_at, scope_start, scope_index}
+use Rattle.arm64.specs.Records.{scope_start, scope_index}
 use Rattle.arm64.specs.Reader.{in_front, run_at, epilogue, scoped, epilogue_codes}
 use Rattle.arm64_runs.specs.Runs.{count_of, codes_in}
 use Rattle.arm64_runs.proofs.Stores.{code_numbers-length, code_numbers-append}
@@ -214,11 +214,11 @@ module _ (word : ℕ → ℕ) (codes : List ℕ) where
 
 -- ---- the fields of a word that was read
 
-module _ (past k : ℕ) (s : List ℕ) {w : ℕ} (e : w ≡ word_at s (past + 4 * k)) where
+module _ (past k : ℕ) (s : List ℕ) {w : ℕ} (e : w ≡ words_from past s k) where
   pub index_is : w / 4194304 ≡ scope_index (words_from past s k)
-  unfolding scope_index words_from
+  unfolding scope_index
   index_is = rw e
 
   pub start_is : 4 * (w % 262144) ≡ 4 * scope_start (words_from past s k)
-  unfolding scope_start words_from
+  unfolding scope_start
   start_is = rw e

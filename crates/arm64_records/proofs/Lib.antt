@@ -2,3 +2,4 @@
 pub mod Headers
 pub mod Epilogues
 pub mod Whole
+pub mod Lent

@@ -5,7 +5,7 @@ use mathlib.Core.Option.{Option, none, some}
 use mathlib.Core.List.{List, [], ◌∷◌, append-nil}
 use Prim.Native.Nat.{ℕ, suc, ◌+◌, ◌-◌, ◌*◌, ◌≤◌, ◌<◌}
 use native.Mathlib.Omega.{arith}
-use lib.ListN.{length, drop, length-drop}
+use lib.ListN.{length, take, drop, length-drop}
 use lib.Seq.{length-take-le}
 use Rattle.format.specs.Prelude.{after}
 use Rattle.format.proofs.Choice.{if-le, if-gt, either}
@@ -32,6 +32,11 @@ module _ (h : Header) where
   pub many_one : h.single ≡ true → how_many h ≡ 1
   unfolding how_many
   many_one e = when_true h.single 1 h.count e
+
+-- the bytes that the code takes
+pub codes_taken : (h : Header) (s : List ℕ) {from : ℕ} → from ≡ codes_from h → take (from + 4 * h.words - from) (drop from s) ≡ codes_of h s
+unfolding codes_of
+codes_taken h s {from} e = let z : from + 4 * h.words - from ≡ 4 * h.words = omega arith in rw (z, e)
 
 module _ (s : List ℕ) (h : Header) (i : Inside s h) where
   pub codes_short : length (codes_of h s) ≡ 4 * h.words

@@ -1,16 +1,17 @@
 // The full record of Windows' unwind data on ARM64: its header in both forms, and its epilogues' codes counted and stored.
 #![tactic(auto)]
 
-ghost use Rattle.std.specs.Prelude.{◌≡◌, [], ◌∷◌, ◌+◌, ◌*◌, ◌≤◌, ◌<◌, length, Some, IfSome};
+ghost use Rattle.std.specs.Prelude.{◌≡◌, false, [], ◌∷◌, ◌+◌, ◌*◌, ◌≤◌, ◌<◌, length, Some, IfSome};
 ghost use Rattle.std.proofs.Math.Option.{some};
 ghost use Rattle.format.proofs.Asked.{option_of};
 ghost use Rattle.format.specs.Put.{put};
 ghost use Rattle.format.proofs.Wrote.{Wrote};
 ghost use Rattle.arm64.specs.Lists.{code_numbers, epilogue_numbers};
-ghost use Rattle.arm64.specs.Records.{word_at, header_with, scope_at, scopes_in, codes_from, codes_to, codes_of};
-ghost use Rattle.arm64.specs.Reader.{run_at, scoped, at_end, record_epilogues, epilogue_codes};
+ghost use Rattle.arm64.specs.Records.{word_at, header_with, scopes_in, codes_from, codes_to, codes_of};
+ghost use Rattle.arm64.specs.Reader.{run_at, scoped, epilogue_codes};
 ghost use Rattle.arm64_runs.specs.Runs.{codes_in};
-ghost use Rattle.arm64_records.specs.Parts.{word_there, fitting, headed_at, Narrow, Inside, words_from, total_of, epilogues_in, how_many, Listed, Placed};
+ghost use Rattle.arm64_records.specs.Parts.{word_there, fitting, headed_at, Narrow, Inside, total_of, epilogues_in, how_many};
+ghost use Rattle.arm64_records.specs.Lent.{PlacedIn, ListedIn};
 
 use arm64::{Header, fields, header_bits};
 
@@ -102,108 +103,131 @@ pub fn header(s: &[u8], at: u64) -> Option<Header>
 
 // ---- the epilogues
 
-// How many codes `count` epilogues have, for each of which a word stands, from `past` on.
-fn count_scoped(s: &[u8], past: usize, count: usize, codes: &[u8]) -> Option<usize>
-    requires { (count < 65536) × (past + 4 * count ≤ length s.now) × (length codes.now ≤ 1020) }
-    ensures { (result ≡ option_of (total_of (scoped (words_from past s.now) codes.now 0 count))) × IfSome result (λ m. m ≤ 66846720) }
-{
-    let mut n = 0;
-    for k in 0..count {
-        let w = word_at(s, past + 4 * k);
-        n += arm64_runs::count_run(codes, (w / header_bits::INDEX) as usize)?;
-    }
-    Some(n)
+// The lists that are lent for what is read.
+#[derive(Drop)]
+pub struct Output<'a> {
+    pub epilogues: &'a mut [u64],
+    pub codes: &'a mut [u64],
 }
 
-// An epilogue in place k: its start, where its codes stand and how many there are, and the codes. This gives the place past them.
-pub fn put_one(
-    es: &mut [u64],
-    k: usize,
-    cs: &mut [u64],
-    at: usize,
-    codes: &[u8],
-    start: u64,
-    index: usize,
-) -> usize
-    requires { (run_at codes.now index ≡ some (codes_in (run_at codes.now index))) × (3 * (k + 1) ≤ length es.old) × (3 * (at + length (codes_in (run_at codes.now index))) ≤ length cs.old) }
-    ensures { Placed es.old es.new cs.old cs.new k at result start (codes_in (run_at codes.now index)) }
-{
-    let past = arm64_runs::put_run(cs, fields::CODE_STRIDE * at, codes, index)
-        / fields::CODE_STRIDE;
-    arm64_runs::put_three(
-        es,
-        fields::EPILOGUE_STRIDE * k,
-        [start, at as u64, (past - at) as u64],
-    );
-    past
-}
-
-// The epilogues for each of which a word stands, from `past` on; n codes stand before theirs.
-fn put_scoped(
-    es: &mut [u64],
-    cs: &mut [u64],
-    n: usize,
-    s: &[u8],
-    past: usize,
-    count: usize,
-    codes: &[u8],
-)
-    requires { (count < 65536) × (past + 4 * count ≤ length s.now) × (scoped (words_from past s.now) codes.now 0 count ≡ some (epilogues_in (scoped (words_from past s.now) codes.now 0 count))) × (3 * count ≤ length es.old) × (3 * (n + length (epilogue_codes (epilogues_in (scoped (words_from past s.now) codes.now 0 count)))) ≤ length cs.old) }
-    ensures { Listed es.old es.new cs.old cs.new n (epilogues_in (scoped (words_from past s.now) codes.now 0 count)) }
-{
-    let mut at = n;
-    for k in 0..count {
-        let w = word_at(s, past + 4 * k);
-        at = put_one(
-            es,
-            k,
-            cs,
-            at,
-            codes,
-            4 * (w % header_bits::RESERVED),
-            (w / header_bits::INDEX) as usize,
+impl Output<'_> {
+    // An epilogue in place k: its start, where its codes stand and how many there are, and the codes. This gives the place past them.
+    pub fn put_one(&mut self, k: usize, at: usize, codes: &[u8], start: u64, index: usize) -> usize
+        requires { (run_at codes.now index ≡ some (codes_in (run_at codes.now index))) × (3 * (k + 1) ≤ length self.old.epilogues.now) × (3 * (at + length (codes_in (run_at codes.now index))) ≤ length self.old.codes.now) }
+        ensures { PlacedIn self.old self.new k at result start (codes_in (run_at codes.now index)) }
+    {
+        let past = arm64_runs::put_run(self.codes, fields::CODE_STRIDE * at, codes, index)
+            / fields::CODE_STRIDE;
+        arm64_runs::put_three(
+            self.epilogues,
+            fields::EPILOGUE_STRIDE * k,
+            [start, at as u64, (past - at) as u64],
         );
+        past
     }
 }
 
-// How many codes a record's epilogues have.
-#[tactic(auto, using(arm64::proofs::Coded::is_none, crate::proofs::Whole::one_none, crate::proofs::Whole::codes_short, crate::proofs::Whole::words_inside, crate::proofs::Whole::by_words))]
-pub fn count_epilogues(s: &[u8], h: Header, codes: &[u8]) -> Option<usize>
-    requires { Inside s.now h × (codes.now ≡ codes_of h s.now) }
-    ensures { (result ≡ option_of (total_of (record_epilogues h s.now))) × IfSome result (λ m. m ≤ 66846720) }
-{
-    if h.single {
-        let m = arm64_runs::count_run(codes, h.count as usize)?;
-        return ((m as u64) < h.length).then_some(m);
+// A record in its section: the header, and the bytes of its codes.
+#[derive(Clone, Copy)]
+pub struct Record<'a> {
+    pub section: &'a [u8],
+    pub header: Header,
+    pub codes: &'a [u8],
+    pub ghost inside: { Inside section.now header },
+    pub ghost spelled: { codes.now ≡ codes_of header section.now },
+}
+
+impl<'a> Record<'a> {
+    ghost use Rattle.arm64_records.specs.Record.{epilogues_of, word_of};
+
+    #[tactic(auto, unfolding(arm64::specs::Records::codes_to, arm64::specs::Records::codes_from))]
+    pub fn of(section: &'a [u8], header: Header) -> Record<'a>
+        requires { Inside section.now header }
+        ensures { (result.section.now ≡ section.now) × (result.header ≡ header) }
+    {
+        let from = (header.past + 4 * scopes_in(header)) as usize;
+        let to = from + 4 * header.words as usize;
+        Record {
+            section,
+            header,
+            codes: &section[from..to],
+        }
     }
-    count_scoped(s, h.past as usize, h.count as usize, codes)
-}
 
-// How many epilogues a record has: one where E is set.
-#[tactic(auto, unfolding(crate::specs::Parts::how_many, format::specs::Prelude::pick))]
-pub fn epilogues_in(h: Header) -> u64
-    ensures { result ≡ how_many h }
-{
-    if h.single { 1 } else { h.count }
-}
+    // How many epilogues it has: one where E is set.
+    #[tactic(auto, unfolding(crate::specs::Parts::how_many, format::specs::Prelude::pick))]
+    pub fn epilogues(&self) -> u64
+        ensures { result ≡ how_many self.now.header }
+    {
+        if self.header.single {
+            1
+        } else {
+            self.header.count
+        }
+    }
 
-// A record's epilogues, behind n codes of the prologue; their codes are m.
-pub fn put_epilogues(
-    es: &mut [u64],
-    cs: &mut [u64],
-    n: usize,
-    m: usize,
-    s: &[u8],
-    h: Header,
-    codes: &[u8],
-)
-    requires { Inside s.now h × (codes.now ≡ codes_of h s.now) × (total_of (record_epilogues h s.now) ≡ some m) × (3 * how_many h ≤ length es.old) × (3 * (n + m) ≤ length cs.old) }
-    ensures { Listed es.old es.new cs.old cs.new n (epilogues_in (record_epilogues h s.now)) }
-{
-    if h.single {
-        let start = 4 * (h.length - 1 - m as u64);
-        put_one(es, 0, cs, n, codes, start, h.count as usize);
-    } else {
-        put_scoped(es, cs, n, s, h.past as usize, h.count as usize, codes);
+    // The word of epilogue k.
+    fn word(&self, k: usize) -> u64
+        requires { (self.now.header.single ≡ false) × (k < self.now.header.count) }
+        ensures { result ≡ word_of self.now k }
+    {
+        word_at(self.section, self.header.past as usize + 4 * k)
+    }
+
+    // How many codes the epilogues have, where a word stands for each.
+    fn count_scoped(&self) -> Option<usize>
+        requires { self.now.header.single ≡ false }
+        ensures { (result ≡ option_of (total_of (scoped (word_of self.now) self.now.codes.now 0 self.now.header.count))) × IfSome result (λ m. m ≤ 66846720) }
+    {
+        let mut n = 0;
+        for k in 0..self.header.count as usize {
+            n += arm64_runs::count_run(self.codes, (self.word(k) / header_bits::INDEX) as usize)?;
+        }
+        Some(n)
+    }
+
+    // How many codes the epilogues have.
+    #[tactic(auto, using(arm64::proofs::Coded::is_none, crate::proofs::Whole::one_none, crate::proofs::Whole::by_words))]
+    pub fn count_epilogues(&self) -> Option<usize>
+        ensures { (result ≡ option_of (total_of (epilogues_of self.now))) × IfSome result (λ m. m ≤ 66846720) }
+    {
+        let h = self.header;
+        if h.single {
+            let m = arm64_runs::count_run(self.codes, h.count as usize)?;
+            return ((m as u64) < h.length).then_some(m);
+        }
+        self.count_scoped()
+    }
+
+    // The epilogues for each of which a word stands; n codes stand before theirs.
+    fn put_scoped(&self, n: usize, to: &mut Output)
+        requires { (self.now.header.single ≡ false) × (scoped (word_of self.now) self.now.codes.now 0 self.now.header.count ≡ some (epilogues_in (scoped (word_of self.now) self.now.codes.now 0 self.now.header.count))) × (3 * self.now.header.count ≤ length to.old.epilogues.now) × (3 * (n + length (epilogue_codes (epilogues_in (scoped (word_of self.now) self.now.codes.now 0 self.now.header.count)))) ≤ length to.old.codes.now) }
+        ensures { ListedIn to.old to.new n (epilogues_in (scoped (word_of self.now) self.now.codes.now 0 self.now.header.count)) }
+    {
+        let mut at = n;
+        for k in 0..self.header.count as usize {
+            let w = self.word(k);
+            at = to.put_one(
+                k,
+                at,
+                self.codes,
+                4 * (w % header_bits::RESERVED),
+                (w / header_bits::INDEX) as usize,
+            );
+        }
+    }
+
+    // The epilogues, behind n codes of the prologue; their codes are m.
+    pub fn put_epilogues(&self, n: usize, m: usize, to: &mut Output)
+        requires { (total_of (epilogues_of self.now) ≡ some m) × (3 * how_many self.now.header ≤ length to.old.epilogues.now) × (3 * (n + m) ≤ length to.old.codes.now) }
+        ensures { ListedIn to.old to.new n (epilogues_in (epilogues_of self.now)) }
+    {
+        let h = self.header;
+        if h.single {
+            let start = 4 * (h.length - 1 - m as u64);
+            to.put_one(0, n, self.codes, start, h.count as usize);
+        } else {
+            self.put_scoped(n, to);
+        }
     }
 }

@@ -2,19 +2,13 @@
 use mathlib.Core.Path.{◌≡◌, refl, sym, ap, ◌∙◌}
 use mathlib.Core.Logic.{◌≢◌}
 use mathlib.Core.Option.{Option, none, some}
-use mathlib.Core.List.{List, [], ◌∷◌, ◌++◌, append_assoc}
-use Prim.Native.Nat.{ℕ, suc, ◌+◌, ◌-◌, ◌*◌, ◌≤◌}
+use mathlib.Core.List.{List, [], ◌∷◌, ◌++◌}
+use Prim.Native.Nat.{ℕ, ◌+◌, ◌-◌, ◌*◌, ◌≤◌}
 use native.Mathlib.Omega.{arith}
-use native.Mathlib.Numerals.{add-one}
-use lib.ListN.{length, take, drop, set, length-set}
-use lib.Seq.{paste, take-suc-set}
-use borrow.Rule.Slice.PartMut.{put_mid}
-use Rattle.std.proofs.lemmas.List.Edits.{paste_none}
-use Rattle.std.proofs.lemmas.List.{drop-set-lt}
-use Rattle.std.proofs.lemmas.Slice.{put_mid-paste}
+use lib.ListN.{length}
 use Rattle.format.specs.Put.{put}
 use Rattle.format.proofs.Wrote.{Wrote}
-use Rattle.format.proofs.PutLaws.{put_none, put_cons, put-append, kept, put-in_front}
+use Rattle.format.proofs.PutLaws.{put-append, kept, put-in_front}
 use Rattle.format.proofs.Storing.{Storing, stored_next}
 use Rattle.format.proofs.Storing as storing
 use Rattle.arm64.specs.declared.Code.{Code}
@@ -25,22 +19,6 @@ use Rattle.arm64.specs.Reader.{in_front, run_at}
 use Rattle.arm64.proofs.PackingLaws.{reverse-length}
 use Rattle.arm64_runs.specs.Runs.{count_of, codes_in}
 use Rattle.arm64_runs.proofs.Ahead.{run_none, run_on, run_out}
-
--- ---- numbers copied
-
-stored : (xs : List ℕ) (p : ℕ) (bs : List ℕ) → p + length bs ≤ length xs → put xs p bs ≡ paste xs p bs (length bs)
-stored xs p [] h = rw put_none (paste_none xs p [])
-stored xs p (b ∷ bs) h =
-    let e : p + length (b ∷ bs) ≡ suc p + length bs = omega arith in
-    rw (put_cons, stored (set xs p b) (p + 1) bs (omega (arith, length-set xs p b)), add-one p, take-suc-set xs p b (omega arith), drop-set-lt (suc p + length bs) xs p b (omega arith), e)
-    (ap (λ l. l ++ drop (suc p + length bs) xs) (append_assoc (take p xs) (b ∷ []) (take (length bs) bs)))
-
--- bs, by the library's `copy_from_slice` of a part of the buffer
-pub copied : {xs ys bs : List ℕ} {p n j : ℕ} → ys ≡ bs → n ≡ length bs → j ≡ n → p + n ≤ length xs → Wrote xs (put_mid p j xs ys) p (p + n) bs
-copied {xs} {ys} {bs} {p} {n} {j} e l d h = record {
-  past = omega arith;
-  stored = put_mid-paste p j xs ys bs n e (sym d) l ∙ sym (rw (sym l) at (stored xs p bs (omega arith)));
-}
 
 -- ---- codes as numbers
 

@@ -13,7 +13,7 @@ use Rattle.arm64_simple.specs.declared.Run.{Run}
 use Rattle.arm64_simple.specs.declared.Step.{Step}
 use Rattle.arm64_simple.specs.Saves.{saves}
 use Rattle.arm64_simple.specs.Steps.{steps}
-use Rattle.arm64_simple.proofs.Codes.{same_is}
+use Rattle.arm64_simple.proofs.OneCode.{same_is}
 use Rattle.arm64_simple.proofs.Loops.{written, written_all, steps-length, saves-length}
 
 -- ---- step by step
@@ -29,13 +29,13 @@ leads_zip (s ∷ ss) (t ∷ ts) h =
     ap (λ b. b && list_all same_written (zip ss ts)) (same_is s.written t.written)
     ∙ ap (λ b. same_code s.written t.written && b) (leads_zip ss ts (omega arith))
 
-pub leads_all : (cs : List ℕ) (r o : Run) → r.count ≤ o.count
-    → list_all same_written (zip (steps no_pair (saves cs r)) (steps no_pair (saves cs o))) ≡ leads (simplify no_pair (saves cs r)) (simplify no_pair (saves cs o))
-leads_all cs r o h =
-    leads_zip (steps no_pair (saves cs r)) (steps no_pair (saves cs o))
-    (omega (arith, h, steps-length no_pair (saves cs r), saves-length cs r, steps-length no_pair (saves cs o), saves-length cs o))
-    ∙ ap (λ x. leads x (written (steps no_pair (saves cs o)))) (written_all no_pair (saves cs r))
-    ∙ ap (leads (simplify no_pair (saves cs r))) (written_all no_pair (saves cs o))
+pub leads_all : (cs ds : List ℕ) (r o : Run) → r.count ≤ o.count
+    → list_all same_written (zip (steps no_pair (saves cs r)) (steps no_pair (saves ds o))) ≡ leads (simplify no_pair (saves cs r)) (simplify no_pair (saves ds o))
+leads_all cs ds r o h =
+    leads_zip (steps no_pair (saves cs r)) (steps no_pair (saves ds o))
+    (omega (arith, h, steps-length no_pair (saves cs r), saves-length cs r, steps-length no_pair (saves ds o), saves-length ds o))
+    ∙ ap (λ x. leads x (written (steps no_pair (saves ds o)))) (written_all no_pair (saves cs r))
+    ∙ ap (leads (simplify no_pair (saves cs r))) (written_all no_pair (saves ds o))
 
 -- ---- by lengths
 
@@ -57,8 +57,8 @@ long_no [] ys h = absurd (omega arith)
 long_no (x ∷ xs) [] h = refl
 long_no (x ∷ xs) (y ∷ ys) h = false_and (same_code x y) (leads xs ys) (long_no xs ys (omega arith))
 
-pub longer : (cs : List ℕ) (r o : Run) → o.count < r.count → false ≡ leads (simplify no_pair (saves cs r)) (simplify no_pair (saves cs o))
-longer cs r o h = sym (long_no _ _ (omega (arith, written_length cs r, written_length cs o)))
+pub longer : (cs ds : List ℕ) (r o : Run) → o.count < r.count → false ≡ leads (simplify no_pair (saves cs r)) (simplify no_pair (saves ds o))
+longer cs ds r o h = sym (long_no _ _ (omega (arith, written_length cs r, written_length ds o)))
 
 equal_length : (xs ys : List Code) → length xs ≡ length ys → leads xs ys ≡ same_codes xs ys
 unfolding leads same_codes
@@ -74,10 +74,10 @@ other_length [] (y ∷ ys) h = refl
 other_length (x ∷ xs) [] h = refl
 other_length (x ∷ xs) (y ∷ ys) h = false_and (same_code x y) (same_codes xs ys) (other_length xs ys (λ e. h (ap suc e)))
 
-pub counts_equal : (cs : List ℕ) (r o : Run) → r.count ≡ o.count
-    → leads (simplify no_pair (saves cs r)) (simplify no_pair (saves cs o)) ≡ same_codes (simplify no_pair (saves cs r)) (simplify no_pair (saves cs o))
-counts_equal cs r o e = equal_length _ _ (written_length cs r ∙ e ∙ sym (written_length cs o))
+pub counts_equal : (cs ds : List ℕ) (r o : Run) → r.count ≡ o.count
+    → leads (simplify no_pair (saves cs r)) (simplify no_pair (saves ds o)) ≡ same_codes (simplify no_pair (saves cs r)) (simplify no_pair (saves ds o))
+counts_equal cs ds r o e = equal_length _ _ (written_length cs r ∙ e ∙ sym (written_length ds o))
 
-pub counts_differ : (cs : List ℕ) (r o : Run) → (r.count ≡ o.count → ⊥)
-    → false ≡ same_codes (simplify no_pair (saves cs r)) (simplify no_pair (saves cs o))
-counts_differ cs r o n = sym (other_length _ _ (λ e. n (sym (written_length cs r) ∙ e ∙ written_length cs o)))
+pub counts_differ : (cs ds : List ℕ) (r o : Run) → (r.count ≡ o.count → ⊥)
+    → false ≡ same_codes (simplify no_pair (saves cs r)) (simplify no_pair (saves ds o))
+counts_differ cs ds r o n = sym (other_length _ _ (λ e. n (sym (written_length cs r) ∙ e ∙ written_length ds o)))

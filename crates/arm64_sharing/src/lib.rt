@@ -2,20 +2,20 @@
 // rucc-asm/src/xdata.rs (describe, in_prologue) of tamnd/rucc, changed: see NOTICE.
 #![tactic(auto)]
 
-ghost use Rattle.std.specs.Prelude.{◌≡◌, true, [], ◌∷◌, ◌+◌, ◌*◌, ◌≤◌, ◌<◌, length};
+ghost use Rattle.std.specs.Prelude.{◌≡◌, true, ◌+◌, ◌*◌, ◌≤◌, ◌<◌, length};
 ghost use Rattle.format.proofs.Wrote.{Wrote};
-ghost use Rattle.arm64.specs.Runs.{simplify, run_fits, backwards, run_bytes, no_pair, leads, same_codes};
-ghost use Rattle.arm64_simple.specs.Saves.{saves, Inside};
+ghost use Rattle.arm64.specs.Runs.{run_fits, backwards, run_bytes, no_pair, leads, same_codes};
+ghost use Rattle.arm64_simple.specs.Written.{saved_in, written_in};
 
-use arm64_simple::{Run, Steps};
+use arm64_simple::Codes;
 
 // A run's bytes: its codes, which have `size` of them, the last saved first, and its end.
-pub fn put_run(out: &mut [u8], at: usize, size: usize, cs: &[u64], run: Run) -> usize
-    requires { Inside cs.now run × (run_fits no_pair (saves cs.now run) ≡ true) × (size ≡ length (backwards (simplify no_pair (saves cs.now run)))) × (at + size + 1 ≤ length out.old) }
-    ensures { Wrote out.old out.new at result (run_bytes (simplify no_pair (saves cs.now run))) }
+pub fn put_run(out: &mut [u8], at: usize, size: usize, run: &Codes) -> usize
+    requires { (run_fits no_pair (saved_in run.now) ≡ true) × (size ≡ length (backwards (written_in run.now))) × (at + size + 1 ≤ length out.old) }
+    ensures { Wrote out.old out.new at result (run_bytes (written_in run.now)) }
 {
     let mut to = at + size;
-    for s in Steps::of(cs, run) {
+    for s in run.steps() {
         to -= arm64_spelled::code_size(s.written);
         let _past = arm64_spelled::put_code(out, to, s.written);
     }
@@ -23,25 +23,24 @@ pub fn put_run(out: &mut [u8], at: usize, size: usize, cs: &[u64], run: Run) -> 
 }
 
 // Whether a run is the first part of another, which is as long or longer.
-fn leads_long(cs: &[u64], run: Run, other: Run) -> bool
-    requires { Inside cs.now run × Inside cs.now other × (run.count ≤ other.count) }
-    ensures { result ≡ leads (simplify no_pair (saves cs.now run)) (simplify no_pair (saves cs.now other)) }
+fn leads_long(run: &Codes, other: &Codes) -> bool
+    requires { run.now.run.count ≤ other.now.run.count }
+    ensures { result ≡ leads (written_in run.now) (written_in other.now) }
 {
-    Steps::of(cs, run)
-        .zip(Steps::of(cs, other))
+    run.steps()
+        .zip(other.steps())
         .all(|(s, t)| s.written == t.written)
 }
 
-pub fn leads(cs: &[u64], run: Run, other: Run) -> bool
-    requires { Inside cs.now run × Inside cs.now other }
-    ensures { result ≡ leads (simplify no_pair (saves cs.now run)) (simplify no_pair (saves cs.now other)) }
+pub fn leads(run: &Codes, other: &Codes) -> bool
+    ensures { result ≡ leads (written_in run.now) (written_in other.now) }
 {
-    run.count <= other.count && leads_long(cs, run, other)
+    run.run.count <= other.run.count && leads_long(run, other)
 }
 
-pub fn same_run(cs: &[u64], run: Run, other: Run) -> bool
-    requires { Inside cs.now run × Inside cs.now other }
-    ensures { result ≡ same_codes (simplify no_pair (saves cs.now run)) (simplify no_pair (saves cs.now other)) }
+// Kept: code by code, and no derived equality: runs at two places of the list are the same where their codes are as they are written.
+pub fn same_run(run: &Codes, other: &Codes) -> bool
+    ensures { result ≡ same_codes (written_in run.now) (written_in other.now) }
 {
-    run.count == other.count && leads_long(cs, run, other)
+    run.run.count == other.run.count && leads_long(run, other)
 }

@@ -1,3 +1,3 @@
 -- Laws of codes and runs as they are written.
-pub mod Codes
+pub mod OneCode
 pub mod Loops

@@ -14,7 +14,7 @@ steps b (c ∷ cs) = record { before = b; given = c; written = simple b c } ∷ 
 
 -- those from the next on
 abbrev pub steps_left : Steps → List Step
-steps_left s = steps s.before (each (saved_at s.codes.now s.run) s.next (s.run.count - s.next))
+steps_left s = steps s.before (each (saved_at s.codes.list.now s.codes.run) s.next (s.codes.run.count - s.next))
 
 -- question 83
 unfoldable pub step_fits : Step → Bool

@@ -17,6 +17,14 @@ pub struct Run {
     pub back: bool,
 }
 
+// A run in the list that holds its codes.
+#[derive(Clone, Copy)]
+pub struct Codes<'a> {
+    pub list: &'a [u64],
+    pub run: Run,
+    pub ghost inside: { Inside list.now run },
+}
+
 // What stands before a run's first code: no pair.
 pub const NO_PAIR: Code = Code {
     kind: arm64::NOP,
@@ -154,18 +162,6 @@ fn place_of(run: Run, j: usize) -> usize
     run.at + j
 }
 
-pub fn saved_at(cs: &[u64], run: Run, j: usize) -> Code
-    requires { Inside cs.now run × (j < run.count) }
-    ensures { result ≡ saved_at cs.now run j }
-{
-    let i = place_of(run, j);
-    Code::new(
-        cs[fields::CODE_STRIDE * i],
-        cs[fields::CODE_STRIDE * i + fields::REGISTER],
-        cs[fields::CODE_STRIDE * i + fields::OFFSET],
-    )
-}
-
 // A code of a run: what stands before it, how it is given and how it is written.
 #[derive(Clone, Copy)]
 pub struct Step {
@@ -195,27 +191,55 @@ impl Step {
 // The codes of a run from the next on, in the order in which they save.
 #[derive(Drop)]
 pub struct Steps<'a> {
-    codes: &'a [u64],
-    run: Run,
+    codes: Codes<'a>,
     next: usize,
     before: Code,
-    ghost inside: { Inside codes.now run },
-    ghost within: { next ≤ run.count },
+    ghost within: { next ≤ codes.run.count },
 }
 
-impl<'a> Steps<'a> {
+impl<'a> Codes<'a> {
     ghost use Rattle.arm64_simple.specs.Steps.{steps, steps_left};
+    ghost use Rattle.arm64_simple.specs.Written.{saved_in, written_in};
 
-    pub fn of(codes: &'a [u64], run: Run) -> Steps<'a>
-        requires { Inside codes.now run }
-        ensures { steps_left result ≡ steps no_pair (saves codes.now run) }
+    // The j-th code that the run saves.
+    pub fn saved_at(&self, j: usize) -> Code
+        requires { j < self.now.run.count }
+        ensures { result ≡ saved_at self.now.list.now self.now.run j }
+    {
+        let i = place_of(self.run, j);
+        Code::new(
+            self.list[fields::CODE_STRIDE * i],
+            self.list[fields::CODE_STRIDE * i + fields::REGISTER],
+            self.list[fields::CODE_STRIDE * i + fields::OFFSET],
+        )
+    }
+
+    pub fn steps(&self) -> Steps<'a>
+        ensures { steps_left result ≡ steps no_pair (saved_in self.now) }
     {
         Steps {
-            codes,
-            run,
+            codes: *self,
             next: 0,
             before: NO_PAIR,
         }
+    }
+
+    // Question 83.
+    pub fn fit(&self) -> bool
+        ensures { result ≡ run_fits no_pair (saved_in self.now) }
+    {
+        self.steps().all(|s| s.fits())
+    }
+
+    // How many bytes the codes have, without the run's end.
+    pub fn size(&self) -> usize
+        ensures { (result ≡ length (backwards (written_in self.now))) × (result ≤ 4 * self.now.run.count) }
+    {
+        let mut size = 0;
+        for s in self.steps() {
+            size += arm64_spelled::code_size(s.written);
+        }
+        size
     }
 }
 
@@ -230,11 +254,11 @@ impl Iterator for Steps<'_> {
     ghost remaining = { item_count steps_left };
 
     fn next(&mut self) -> Option<Step> {
-        if self.next == self.run.count {
+        if self.next == self.codes.run.count {
             return None;
         }
         let before = self.before;
-        let given = saved_at(self.codes, self.run, self.next);
+        let given = self.codes.saved_at(self.next);
         let written = simple(before, given);
         self.before = pair_behind(before, written);
         self.next += 1;
@@ -244,23 +268,4 @@ impl Iterator for Steps<'_> {
             written,
         })
     }
-}
-
-pub fn run_fits(cs: &[u64], run: Run) -> bool
-    requires { Inside cs.now run }
-    ensures { result ≡ run_fits no_pair (saves cs.now run) }
-{
-    Steps::of(cs, run).all(|s| s.fits())
-}
-
-// How many bytes the codes of a run have, without its end.
-pub fn run_size(cs: &[u64], run: Run) -> usize
-    requires { Inside cs.now run }
-    ensures { (result ≡ length (backwards (simplify no_pair (saves cs.now run)))) × (result ≤ 4 * run.count) }
-{
-    let mut size = 0;
-    for s in Steps::of(cs, run) {
-        size += arm64_spelled::code_size(s.written);
-    }
-    size
 }

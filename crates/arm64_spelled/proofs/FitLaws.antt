@@ -1,5 +1,5 @@
 -- Question 83 of a code, and its bytes.
-use mathlib.Core.Path.{◌≡◌, refl, subst, sym, ap, ◌∙◌}
+use mathlib.Core.Path.{◌≡◌, refl, subst, sym, ap, ap₂, ◌∙◌}
 use mathlib.Core.Bool.{Bool, true, false, ◌&&◌, ◌||◌}
 use mathlib.Core.List.{[], ◌∷◌}
 use Prim.Native.Nat.{ℕ, zero, suc, ◌+◌, ◌-◌, ◌*◌, ◌/◌, ◌%◌, ◌≤◌, ◌<◌, ◌^◌}
@@ -9,6 +9,8 @@ use lib.Dec.{T, leb, ltb, eqb}
 use lib.ListN.{length, get_or, length-append}
 use mir.Facts.{leb_yes}
 use borrow.Author.Tests.{lt-leb, le-leb, ne_eqb, eq-eqb, leb-true, ltb-true}
+use Rattle.std.proofs.Common.{w16, w32}
+use Rattle.std.specs.Int.{to_be_bytes}
 use Rattle.format.specs.Prelude.{each, all}
 use Rattle.format.specs.Lists.{all_in}
 use Rattle.format.proofs.ListLaws.{in_range}
@@ -161,6 +163,20 @@ big_2 size n e = ap (λ (k : ℕ). big k n) e
 pub big_4 : (size n : ℕ) → size ≡ 4 → big size n ≡ n / 256 / 256 / 256 % 256 ∷ n / 256 / 256 % 256 ∷ n / 256 % 256 ∷ n % 256 ∷ []
 unfolding big
 big_4 size n e = ap (λ (k : ℕ). big k n) e
+
+-- the same bytes by the library's `to_be_bytes`
+pub high_2 : (n : ℕ) → n / 256 % 256 ∷ n % 256 ∷ [] ≡ to_be_bytes w16 (n % 65536)
+high_2 n =
+    let a : n / 256 % 256 ≡ n % 65536 / 256 % 256 = omega arith in
+    let b : n % 256 ≡ n % 65536 % 256 = omega arith in ap₂ (λ (x y : ℕ). x ∷ y ∷ []) a b
+
+pub high_4 : (n : ℕ) → n / 256 / 256 / 256 % 256 ∷ n / 256 / 256 % 256 ∷ n / 256 % 256 ∷ n % 256 ∷ [] ≡ to_be_bytes w32 (n % 4294967296)
+high_4 n =
+    let m = n % 4294967296 in
+    let a : n / 256 / 256 / 256 % 256 ≡ m / 16777216 % 256 = omega arith in
+    let b : n / 256 / 256 % 256 ≡ m / 65536 % 256 = omega arith in
+    let d : n / 256 % 256 ≡ m / 256 % 256 = omega arith in
+    let e : n % 256 ≡ m % 256 = omega arith in rw (a, b, d, e) refl
 
 big-length : (k n : ℕ) → length (big k n) ≡ k
 unfolding big

@@ -146,13 +146,11 @@ fn put_big(out: &mut [u8], at: usize, size: u64, n: u64) -> usize
         return leb::byte(out, at, (n % 256) as u8);
     }
     if size == 2 {
-        let a = leb::byte(out, at, (n / 256 % 256) as u8);
-        return leb::byte(out, a, (n % 256) as u8);
+        out[at..at + 2].copy_from_slice(&((n % 65536) as u16).to_be_bytes());
+        return at + 2;
     }
-    let a = leb::byte(out, at, (n / 256 / 256 / 256 % 256) as u8);
-    let b = leb::byte(out, a, (n / 256 / 256 % 256) as u8);
-    let c = leb::byte(out, b, (n / 256 % 256) as u8);
-    leb::byte(out, c, (n % 256) as u8)
+    out[at..at + 4].copy_from_slice(&((n % 4294967296) as u32).to_be_bytes());
+    at + 4
 }
 
 pub fn put_code(out: &mut [u8], at: usize, c: Code) -> usize

@@ -1,2 +1,4 @@
 -- What the functions of this crate answer, where the definitions have no name for it.
 pub mod Tables
+pub mod Lent
+pub mod Functions

@@ -1,6 +1,7 @@
 -- A function's part of the table by its word and by its record's place, and what is known of the functions of the lists.
-use Rattle.std.specs.Prelude.{ℕ, ◌+◌, ◌<◌, ◌≤◌, List, [], ◌∷◌, eqb, Option}
+use Rattle.std.specs.Prelude.{ℕ, ◌+◌, ◌<◌, ◌≤◌, List, [], ◌∷◌, eqb, length, Option}
 use Rattle.std.specs.Option.{is_some}
+use Rattle.format.specs.declared.Counts.{Counts}
 use Rattle.format.specs.Prelude.{pick, each}
 use Rattle.format.specs.Constants.{image_reloc}
 use Rattle.format.specs.Lists.{Relocation, most_functions}
@@ -26,6 +27,11 @@ reloc_count size = pick (eqb size 0) 1 2
 unfoldable pub mark_by : (at past : ℕ) → ℕ
 mark_by at past = pick (eqb past at) no_record at
 
+-- how many elements the lent lists have
+abbrev pub lent_in : (markers bytes relocations info : List ℕ) → Counts
+lent_in markers bytes relocations info =
+    record { places = length markers; bytes = length bytes; relocations = length relocations; sites = length info }
+
 -- ---- all functions
 
 -- the first n functions of the lists
@@ -45,3 +51,7 @@ pub record AllListed (fs es cs : List ℕ) (n : ℕ) : Type 0 where
 pub record AllFine (fs es cs : List ℕ) (n : ℕ) : Type 0 where
   pub most : n ≤ most_functions
   pub each_one : (k : ℕ) → k < n → Fine fs es cs k
+
+-- of the lists as they are lent
+abbrev pub AllFineIn : Lists → ℕ → Type 0
+AllFineIn x n = AllFine x.functions.now x.epilogues.now x.codes.now n

@@ -12,17 +12,42 @@ ghost use Rattle.format.proofs.Asked.{question_of};
 ghost use Rattle.format.proofs.Wrote.{Wrote};
 ghost use Rattle.unwind.specs.Entries.{Exports};
 ghost use Rattle.arm64.specs.Writer.{function_asks, markers_from, rows_of, relocs_from, infos_of, arm64, arm64_answer};
-ghost use Rattle.arm64_table.specs.Tables.{relocs_by, reloc_count, mark_by, first_in, AllListed, AllFine};
+ghost use Rattle.arm64_table.specs.Tables.{relocs_by, reloc_count, mark_by, AllListed, lent_in};
+ghost use Rattle.arm64_table.specs.Lent.{room_of, WritesTo};
 
 use arm64::fields;
 use arm64_function::{function_asks, info_size, packed_word, put_info};
-use arm64_lists::{Lists, lists_ok};
+use arm64_lists::Lists;
 use format::{Counts, Refusal};
 use relocs::{number, relocation};
 use unwind::{Written, written_of};
 
+// The lists that are lent for what is written: markers, the rows of .pdata, their relocations, and the records of .xdata.
+#[derive(Drop)]
+pub struct Output<'a> {
+    pub markers: &'a mut [u64],
+    pub bytes: &'a mut [u8],
+    pub relocations: &'a mut [u64],
+    pub info: &'a mut [u8],
+}
+
+impl Output<'_> {
+    // How many elements the lists have.
+    fn lent(&self) -> Counts
+        ensures { result ≡ lent_in self.now.markers.now self.now.bytes.now self.now.relocations.now self.now.info.now }
+    {
+        Counts {
+            places: self.markers.len() as u64,
+            bytes: self.bytes.len() as u64,
+            relocations: self.relocations.len() as u64,
+            sites: self.info.len() as u64,
+        }
+    }
+}
+
 // ---- one function
 
+// Kept: the list and the place stand side by side here, as in each writer: the next one begins at the end that this one gives.
 // A row's eight bytes: the blank of the function's start, and its word.
 fn put_row(out: &mut [u8], at: usize, word: u64) -> usize
     requires { at + 8 ≤ length out.old }
@@ -76,20 +101,7 @@ fn mark(at: usize, past: usize) -> u64
     at as u64
 }
 
-// ---- the questions of all functions
-
-// 81 to 83 of n functions: the position is 0.
-fn first_no(x: &Lists, n: usize) -> Result<(), Refusal>
-    requires { AllListed x.now.functions.now x.now.epilogues.now x.now.codes.now n }
-    ensures { result ≡ question_of (per_function function_asks 0 (first_in x.now n)) }
-{
-    for k in 0..n {
-        function_asks(x, k)?;
-    }
-    Ok(())
-}
-
-// ---- the results
+// ---- all functions
 
 // How many bytes the records have, and how many relocations the rows.
 #[derive(Clone, Copy)]
@@ -98,124 +110,118 @@ struct Needed {
     relocations: usize,
 }
 
-fn sizes(x: &Lists, n: usize) -> Needed
-    requires { AllFine x.now.functions.now x.now.epilogues.now x.now.codes.now n }
-    ensures { (result.info ≡ length (infos_of (first_in x.now n))) × (result.relocations ≡ length (relocs_from 0 (first_in x.now n))) × (result.relocations ≤ 2 * most_functions) }
-{
-    let mut info = 0;
-    let mut relocations = 0;
-    for k in 0..n {
-        let size = info_size(x, k);
-        info += size;
-        relocations += row_relocs(size);
+// The functions of the lists, each of which can be read.
+#[derive(Clone, Copy)]
+struct Functions<'a> {
+    lists: Lists<'a>,
+    count: usize,
+    ghost listed: { AllListed lists.functions.now lists.epilogues.now lists.codes.now count },
+}
+
+impl Functions<'_> {
+    ghost use Rattle.arm64_table.specs.Functions.{functions_of, AllFineOf};
+
+    // 81 to 83 of each function: the position is 0.
+    fn first_no(&self) -> Result<(), Refusal>
+        ensures { result ≡ question_of (per_function function_asks 0 (functions_of self.now)) }
+    {
+        for k in 0..self.count {
+            function_asks(&self.lists, k)?;
+        }
+        Ok(())
     }
-    Needed { info, relocations }
-}
 
-// The rows of n functions, and their relocations.
-fn put_rows(bytes: &mut [u8], relocations: &mut [u64], x: &Lists, n: usize) -> usize
-    requires { AllFine x.now.functions.now x.now.epilogues.now x.now.codes.now n × (8 * n ≤ length bytes.old) × (5 * length (relocs_from 0 (first_in x.now n)) ≤ length relocations.old) }
-    ensures { (bytes.new ≡ put bytes.old 0 (rows_of (first_in x.now n))) × (relocations.new ≡ put relocations.old 0 (numbers_of (relocs_from 0 (first_in x.now n)))) }
-{
-    let mut to = 0;
-    for k in 0..n {
-        let word = packed_word(x, k);
-        put_row(bytes, 8 * k, word.unwrap_or(0));
-        to = put_row_relocs(
-            relocations,
-            to,
-            (8 * k) as u64,
-            x.functions[fields::FUNCTION_STRIDE * k],
-            word,
-        );
+    // ---- the results
+
+    fn sizes(&self) -> Needed
+        requires { AllFineOf self.now }
+        ensures { (result.info ≡ length (infos_of (functions_of self.now))) × (result.relocations ≡ length (relocs_from 0 (functions_of self.now))) × (result.relocations ≤ 2 * most_functions) }
+    {
+        let mut info = 0;
+        let mut relocations = 0;
+        for k in 0..self.count {
+            let size = info_size(&self.lists, k);
+            info += size;
+            relocations += row_relocs(size);
+        }
+        Needed { info, relocations }
     }
-    to
-}
 
-// The records of n functions, and where each stands.
-fn put_infos(markers: &mut [u64], info: &mut [u8], x: &Lists, n: usize) -> usize
-    requires { AllFine x.now.functions.now x.now.epilogues.now x.now.codes.now n × (n ≤ length markers.old) × (length (infos_of (first_in x.now n)) ≤ length info.old) }
-    ensures { (markers.new ≡ put markers.old 0 (markers_from 0 (first_in x.now n))) × (info.new ≡ put info.old 0 (infos_of (first_in x.now n))) }
-{
-    let mut at = 0;
-    for k in 0..n {
-        let past = put_info(info, at, x, k);
-        number(markers, k, mark(at, past));
-        at = past;
+    // The rows of the functions, and their relocations.
+    fn put_rows(&self, bytes: &mut [u8], relocations: &mut [u64]) -> usize
+        requires { AllFineOf self.now × (8 * self.now.count ≤ length bytes.old) × (5 * length (relocs_from 0 (functions_of self.now)) ≤ length relocations.old) }
+        ensures { (bytes.new ≡ put bytes.old 0 (rows_of (functions_of self.now))) × (relocations.new ≡ put relocations.old 0 (numbers_of (relocs_from 0 (functions_of self.now)))) }
+    {
+        let mut to = 0;
+        for k in 0..self.count {
+            let word = packed_word(&self.lists, k);
+            put_row(bytes, 8 * k, word.unwrap_or(0));
+            to = put_row_relocs(
+                relocations,
+                to,
+                (8 * k) as u64,
+                self.lists.functions[fields::FUNCTION_STRIDE * k],
+                word,
+            );
+        }
+        to
     }
-    at
+
+    // The records of the functions, and where each stands.
+    fn put_infos(&self, markers: &mut [u64], info: &mut [u8]) -> usize
+        requires { AllFineOf self.now × (self.now.count ≤ length markers.old) × (length (infos_of (functions_of self.now)) ≤ length info.old) }
+        ensures { (markers.new ≡ put markers.old 0 (markers_from 0 (functions_of self.now))) × (info.new ≡ put info.old 0 (infos_of (functions_of self.now))) }
+    {
+        let mut at = 0;
+        for k in 0..self.count {
+            let past = put_info(info, at, &self.lists, k);
+            number(markers, k, mark(at, past));
+            at = past;
+        }
+        at
+    }
+
+    // All results, where they have room.
+    fn put_all(&self, needed: Needed, to: &mut Output) -> Result<Option<Counts>, Refusal>
+        requires { AllFineOf self.now × (needed.info ≡ length (infos_of (functions_of self.now))) × (needed.relocations ≡ length (relocs_from 0 (functions_of self.now))) × (self.now.count ≤ length to.old.markers.now) × (8 * self.now.count ≤ length to.old.bytes.now) × (5 * needed.relocations ≤ length to.old.relocations.now) × (needed.info ≤ length to.old.info.now) }
+        ensures { WritesTo (accepted (arm64 (functions_of self.now))) result to.old to.new }
+    {
+        self.put_rows(to.bytes, to.relocations);
+        self.put_infos(to.markers, to.info);
+        Ok(Some(Counts {
+            places: self.count as u64,
+            bytes: (8 * self.count) as u64,
+            relocations: needed.relocations as u64,
+            sites: needed.info as u64,
+        }))
+    }
+
+    // The results, where they have room.
+    fn write(&self, to: &mut Output) -> Result<Option<Counts>, Refusal>
+        requires { AllFineOf self.now }
+        ensures { WritesTo (fitting (room_of to.old) (arm64 (functions_of self.now))) result to.old to.new }
+    {
+        let needed = self.sizes();
+        let counts = Counts {
+            places: self.count as u64,
+            bytes: (8 * self.count) as u64,
+            relocations: (5 * needed.relocations) as u64,
+            sites: needed.info as u64,
+        };
+        lists::room(counts, to.lent())?;
+        self.put_all(needed, to)
+    }
+
+    // The questions of the functions, and the results.
+    fn answer(&self, to: &mut Output) -> Result<Option<Counts>, Refusal>
+        ensures { WritesTo (unless (per_function function_asks 0 (functions_of self.now)) (fitting (room_of to.old) (arm64 (functions_of self.now)))) result to.old to.new }
+    {
+        self.first_no()?;
+        self.write(to)
+    }
 }
 
-// All results of n functions, where they have room.
-fn put_all(
-    x: &Lists,
-    n: usize,
-    needed: Needed,
-    markers: &mut [u64],
-    bytes: &mut [u8],
-    relocations: &mut [u64],
-    info: &mut [u8],
-) -> Result<Option<Counts>, Refusal>
-    requires { AllFine x.now.functions.now x.now.epilogues.now x.now.codes.now n × (needed.info ≡ length (infos_of (first_in x.now n))) × (needed.relocations ≡ length (relocs_from 0 (first_in x.now n))) × (n ≤ length markers.old) × (8 * n ≤ length bytes.old) × (5 * needed.relocations ≤ length relocations.old) × (needed.info ≤ length info.old) }
-    ensures { Writes (accepted (arm64 (first_in x.now n))) result markers.old markers.new bytes.old bytes.new relocations.old relocations.new info.old info.new }
-{
-    put_rows(bytes, relocations, x, n);
-    put_infos(markers, info, x, n);
-    Ok(Some(Counts {
-        places: n as u64,
-        bytes: (8 * n) as u64,
-        relocations: needed.relocations as u64,
-        sites: needed.info as u64,
-    }))
-}
-
-// ---- the answer
-
-// The results, where they have room.
-fn write(
-    x: &Lists,
-    n: usize,
-    markers: &mut [u64],
-    bytes: &mut [u8],
-    relocations: &mut [u64],
-    info: &mut [u8],
-) -> Result<Option<Counts>, Refusal>
-    requires { AllFine x.now.functions.now x.now.epilogues.now x.now.codes.now n }
-    ensures { Writes (fitting (room_in markers.old bytes.old relocations.old info.old) (arm64 (first_in x.now n))) result markers.old markers.new bytes.old bytes.new relocations.old relocations.new info.old info.new }
-{
-    let needed = sizes(x, n);
-    let counts = Counts {
-        places: n as u64,
-        bytes: (8 * n) as u64,
-        relocations: (5 * needed.relocations) as u64,
-        sites: needed.info as u64,
-    };
-    let lent = Counts {
-        places: markers.len() as u64,
-        bytes: bytes.len() as u64,
-        relocations: relocations.len() as u64,
-        sites: info.len() as u64,
-    };
-    lists::room(counts, lent)?;
-    put_all(x, n, needed, markers, bytes, relocations, info)
-}
-
-// The questions of n functions, and the results.
-fn answer(
-    x: &Lists,
-    n: usize,
-    markers: &mut [u64],
-    bytes: &mut [u8],
-    relocations: &mut [u64],
-    info: &mut [u8],
-) -> Result<Option<Counts>, Refusal>
-    requires { AllListed x.now.functions.now x.now.epilogues.now x.now.codes.now n }
-    ensures { Writes (unless (per_function function_asks 0 (first_in x.now n)) (fitting (room_in markers.old bytes.old relocations.old info.old) (arm64 (first_in x.now n)))) result markers.old markers.new bytes.old bytes.new relocations.old relocations.new info.old info.new }
-{
-    first_no(x, n)?;
-    write(x, n, markers, bytes, relocations, info)
-}
-
+// Kept: here and in the export the lists stand one by one, as C lends them.
 // The table of the functions in three lists: functions of 6 numbers (symbol, length, prologue_at, prologue, epilogues_at, epilogues), epilogues of 3
 // (start, codes_at, codes) and codes of 3 (kind, register, offset). At the fronts of the lent lists stand a marker for each function, the place of its
 // record or 2^64 - 1 where it is packed; the rows of .pdata; their relocations; and the records. It refuses by 13, 81 to 83 and 51 to 54, and then the
@@ -235,18 +241,24 @@ pub fn table(
     if n == 0 {
         return Ok(None);
     }
-    let x = Lists {
+    let lists = Lists {
         functions,
         epilogues,
         codes,
     };
-    if !lists_ok(&x) {
+    if !lists.ok() {
         return Err(Refusal {
             number: 13,
             position: 0,
         });
     }
-    answer(&x, n, markers, bytes, relocations, info)
+    let mut to = Output {
+        markers,
+        bytes,
+        relocations,
+        info,
+    };
+    Functions { lists, count: n }.answer(&mut to)
 }
 
 // ---- the C interface

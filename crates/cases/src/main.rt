@@ -111,30 +111,36 @@ fn kind_of(said: Result<Option<Counts>, Refusal>) -> Kind {
     }
 }
 
-// Whether these are the counts of the fixed results.
-fn same_counts(c: Counts, answer: &[u64]) -> bool {
+// The counts of the fixed results; none where the relocations' numbers are not five each.
+fn counts_of(answer: &[u64]) -> Option<Counts> {
     let relocations = list(answer, 2).len() as u64;
-    let fixed = [
-        list(answer, 0).len() as u64,
-        list(answer, 1).len() as u64,
-        relocations / 5,
-        list(answer, 3).len() as u64,
-    ];
-    relocations % 5 == 0 && fixed == [c.places, c.bytes, c.relocations, c.sites]
+    if relocations % 5 != 0 {
+        return None;
+    }
+    Some(Counts {
+        places: list(answer, 0).len() as u64,
+        bytes: list(answer, 1).len() as u64,
+        relocations: relocations / 5,
+        sites: list(answer, 3).len() as u64,
+    })
 }
 
-// Whether this is the fixed answer: two numbers, and four results, of which only an acceptance has an element. Its number is not 0 in a
-// refusal.
-fn same_outcome(said: Result<Option<Counts>, Refusal>, answer: &[u64]) -> bool {
-    let fixed = Refusal {
-        number: element(answer, 0, 0),
-        position: element(answer, 1, 0),
-    };
-    match said {
-        Ok(Some(c)) => 6 < answer.len() && fixed.number == 0 && same_counts(c, answer),
-        Ok(None) => answer.len() == 6 && fixed.number == 0,
-        Err(r) => answer.len() == 6 && r.number != 0 && r == fixed,
+// The fixed answer: two numbers, and four results, of which only an acceptance has an element. Its number is not 0 in a refusal.
+fn outcome_of(answer: &[u64]) -> Option<Result<Option<Counts>, Refusal>> {
+    let number = element(answer, 0, 0);
+    if number == 0 && 6 < answer.len() {
+        return Some(Ok(Some(counts_of(answer)?)));
     }
+    if answer.len() != 6 {
+        return None;
+    }
+    if number == 0 {
+        return Some(Ok(None));
+    }
+    Some(Err(Refusal {
+        number,
+        position: element(answer, 1, 0),
+    }))
 }
 
 // Whether the library answers as the fixed answer says, with nothing stored past its results and nothing at all where it refuses. Says
@@ -147,7 +153,7 @@ fn compare(
     stored: &Buffers,
 ) -> io::Result<bool> {
     let compared = [
-        ("another outcome", same_outcome(said, answer)),
+        ("another outcome", outcome_of(answer) == Some(said)),
         (
             "other places",
             same(&stored.places, list(answer, 0), NUMBER),

@@ -4,15 +4,18 @@ use Prim.Native.Nat.{ℕ, zero, suc, ◌+◌, ◌-◌}
 use mathlib.Core.Bool.{Bool, true, false}
 use mathlib.Core.Option.{Option, none, some}
 use mathlib.Core.List.{List, []}
-use Rattle.format.specs.Prelude.{pick, each}
+use Rattle.std.specs.Prelude as code
+use Rattle.std.specs.Prelude.{Some, None}
+use Rattle.format.specs.Prelude.{each}
 use Rattle.format.specs.declared.Machine.{Machine}
 use Rattle.format.specs.Lists.{Landing, Named, Relaxed, landing_at}
 use Rattle.format.specs.Headers.{key_of, kind_for, leading}
 use Rattle.format.specs.Records.{lsda_blank, lsda_reloc, size_field, sum_pair, record_fields, record_bytes, record_relocs}
 use Rattle.format.specs.declared.Section.{Section}
 use Rattle.format.specs.Questions.{encodings_ok, dwarf_asks}
+use Rattle.lists.specs.declared.Labels.{Labels}
 use Rattle.lists.specs.declared.Extent.{Extent}
-use Rattle.lists.specs.Extents.{meant}
+use Rattle.lists.specs.Extents.{meant_labels, meant}
 use Rattle.header_keys.specs.Functions.{body_of, key_in}
 
 -- ---- landings
@@ -38,10 +41,10 @@ module _ (f g : ℕ → Landing) (at : ℕ) where
   reloc_any word place table zero o = refl
   reloc_any word place table (suc n) o = refl
 
-size_any : (size : ℕ) (b : Bool) (r r' : Relaxed) → size_field size (pick b (some r) none) ≡ size_field size (pick b (some r') none)
-unfolding size_field pick
-size_any size true r r' = refl
-size_any size false r r' = refl
+size_any : (size : ℕ) (o : code.Option Labels) (ps qs : List ℕ) → size_field size (meant_labels o ps) ≡ size_field size (meant_labels o qs)
+unfolding size_field meant_labels
+size_any size (Some l) ps qs = refl
+size_any size None ps qs = refl
 
 -- ---- a function's header and record
 
@@ -56,7 +59,7 @@ module _ (e : Extent) (rows landings pairs : List ℕ) where
 
   size_body : size_field e.length (meant e rows landings pairs).relaxed ≡ size_field e.length (body_of e rows).relaxed
   unfolding meant
-  size_body = size_any e.length e.relaxed _ _
+  size_body = size_any e.length e.relaxed pairs []
 
   blank_body : (word : ℕ) → lsda_blank word (meant e rows landings pairs).landings (meant e rows landings pairs).named
       ≡ lsda_blank word (body_of e rows).landings (body_of e rows).named

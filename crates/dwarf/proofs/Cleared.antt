@@ -4,14 +4,14 @@ use Prim.Native.Nat.{ℕ, zero, suc, ◌+◌, ◌*◌, ◌≤◌, ◌<◌}
 use native.Mathlib.Omega.{arith}
 use native.Mathlib.Nat.{add-zero}
 use mathlib.Core.Bool.{Bool, true, false}
-use mathlib.Core.Option.{none, some}
 use mathlib.Core.List.{List}
 use lib.Dec.{T}
 use lib.ListN.{length, length-append}
+use Rattle.std.specs.Prelude.{Some, None}
 use Rattle.format.specs.Prelude.{pick}
 use Rattle.format.specs.declared.Section.{Section}
 use Rattle.format.specs.declared.Section.TheVariants.{Elf, Debug}
-use Rattle.format.specs.Lists.{Relaxed, function_stride, field, row_ok_at, all_in, sum_of}
+use Rattle.format.specs.Lists.{function_stride, field, mark, row_ok_at, all_in, sum_of}
 use Rattle.format.specs.Writer.{joined}
 use Rattle.format.proofs.Accepted.{function_fits}
 use Rattle.format.proofs.Accepted as accepted
@@ -20,10 +20,12 @@ use Rattle.format.proofs.ListLaws.{each-length, numbers_length}
 use Rattle.format.proofs.Parts.{Spot, part_with_lem}
 use Rattle.format.proofs.SectionSize.{part_short}
 use Rattle.header_keys.specs.Functions.{taken_in, without}
+use Rattle.lists.specs.declared.Labels.{Labels}
 use Rattle.lists.specs.declared.Extent.{Extent}
-use Rattle.lists.specs.Extents.{extent_at, meant}
+use Rattle.lists.specs.Extents.{marked, labels_at, extent_at, meant_labels, meant}
 use Rattle.lists.specs.Parts.{outline_ok_at}
-use Rattle.dwarf.specs.Parts.{Inputs, count_in, extent_in, function_in, align_in, earlier_in, bytes_in, relocs_in, sites_in, part_behind, parts_to}
+use Rattle.header_keys.specs.Inputs.{Inputs, count_in, extent_in, function_in}
+use Rattle.dwarf.specs.Parts.{align_in, earlier_in, bytes_in, relocs_in, sites_in, part_behind, parts_to}
 use Rattle.dwarf.specs.Tables.{labelled_rows, most_in}
 use Rattle.dwarf.specs.Writable.{Writable, Cleared}
 use Rattle.dwarf.specs.Surveys.{PassedAt}
@@ -42,16 +44,16 @@ unfolding taken_in without
 taken_counts Elf e = (refl, omega arith)
 taken_counts Debug e = (refl, omega arith)
 
-labelled_pick : (b : Bool) (r : Relaxed) (n : ℕ) → labelled (pick b (some r) none) n ≡ pick b n 0
-unfolding labelled pick
-labelled_pick true r n = refl
-labelled_pick false r n = refl
+labelled_marked : (b : Bool) (l : Labels) (pairs : List ℕ) (n : ℕ) → labelled (meant_labels (pick b (Some l) None) pairs) n ≡ pick b n 0
+unfolding labelled meant_labels pick
+labelled_marked true l pairs n = refl
+labelled_marked false l pairs n = refl
 
 labelled_taken : (s : Section) (e : Extent) (rows landings pairs : List ℕ)
-    → labelled (meant (taken_in s e) rows landings pairs).relaxed (length (meant (taken_in s e) rows landings pairs).rows) ≡ pick e.relaxed e.rows 0
+    → labelled (meant (taken_in s e) rows landings pairs).relaxed (length (meant (taken_in s e) rows landings pairs).rows) ≡ labelled (meant_labels e.relaxed pairs) e.rows
 unfolding meant taken_in without
-labelled_taken Elf e rows landings pairs = labelled_pick e.relaxed _ _ ∙ rw each-length
-labelled_taken Debug e rows landings pairs = labelled_pick e.relaxed _ _ ∙ rw each-length
+labelled_taken Elf e rows landings pairs = rw each-length
+labelled_taken Debug e rows landings pairs = rw each-length
 
 module _ (x : Inputs) (k : ℕ) where
   rows_at : length (function_in x k).rows ≡ field function_stride x.functions k 3
@@ -63,8 +65,11 @@ module _ (x : Inputs) (k : ℕ) where
   landings_at = rw each-length (taken_counts x.section (extent_at x.functions k)).1
 
   labelled_at : labelled (function_in x k).relaxed (length (function_in x k).rows) ≡ labelled_rows x.functions k
-  unfolding labelled_rows extent_at
-  labelled_at = labelled_taken x.section (extent_at x.functions k) x.rows x.landings x.pairs
+  unfolding labelled_rows extent_at labels_at marked
+  labelled_at =
+      let f : ℕ → ℕ = λ j. field function_stride x.functions k j in
+      labelled_taken x.section (extent_at x.functions k) x.rows x.landings x.pairs
+      ∙ labelled_marked (mark (f 14)) (record { end = f 15; pairs_at = f 16; pairs = f 17 }) x.pairs (f 3)
 
   abbrev spot : Spot
   spot = record { align = align_in x k; start = length (bytes_in (parts_to x k)); earlier = earlier_in x k (parts_to x k) }

@@ -14,7 +14,8 @@ use Rattle.format.specs.Writer.{Part, taken, part_of, is_empty, parts_from, part
 use Rattle.lists.specs.Extents.{extent_at}
 use Rattle.lists.proofs.Extents.{means}
 use Rattle.header_keys.proofs.Functions.{taken_means}
-use Rattle.dwarf.specs.Parts.{Inputs, count_in, function_in, places_in, bytes_in, relocs_in, sites_in, seen_from, earlier_in, part_behind, parts_to, written_in}
+use Rattle.header_keys.specs.Inputs.{Inputs, count_in, function_in}
+use Rattle.dwarf.specs.Parts.{places_in, bytes_in, relocs_in, sites_in, seen_from, earlier_in, part_behind, parts_to, written_in}
 
 -- ---- lists one behind the other
 

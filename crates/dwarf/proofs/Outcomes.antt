@@ -24,7 +24,8 @@ use Rattle.format.proofs.Accepted.{asked, both}
 use Rattle.format.proofs.ListLaws.{numbers_length}
 use Rattle.dwarf.specs.declared.Table.{Table}
 use Rattle.dwarf.specs.Asks.{asked_in, listed_answer}
-use Rattle.dwarf.specs.Parts.{Inputs, count_in, extent_in, function_in, places_in, bytes_in, relocs_in, sites_in, written_in, parts_to}
+use Rattle.header_keys.specs.Inputs.{Inputs, inputs, count_in, extent_in, function_in}
+use Rattle.dwarf.specs.Parts.{places_in, bytes_in, relocs_in, sites_in, written_in, parts_to}
 use Rattle.lists.specs.Room.{room_for}
 use Rattle.dwarf.specs.Tables.{totals_in, counts_of, Covers, Written, Holds}
 use Rattle.dwarf.proofs.Bodies.{asks_body}
@@ -131,7 +132,7 @@ per_same ask f g at (suc n) h = rw (h at, per_same ask f g (suc at) n h)
 
 module _ (x : Inputs) where
   asks_are : per_function (dwarf_asks x.section x.machine.word) 0 (map (taken x.section) (functions_of x.functions x.rows x.landings x.pairs))
-      ≡ per_function (dwarf_asks x.section x.machine.word) 0 (each (asked_in x.section x.functions x.rows x.pairs) 0 (count_in x))
+      ≡ per_function (dwarf_asks x.section x.machine.word) 0 (each (asked_in x) 0 (count_in x))
   asks_are =
       rw (functions_each x)
       (per_same (dwarf_asks x.section x.machine.word) (function_in x) _ 0 (count_in x)
@@ -139,14 +140,14 @@ module _ (x : Inputs) where
 
   module _ (r : Room) where
     abbrev listed : Answer
-    listed = listed_answer x.section x.machine x.functions x.rows x.landings x.pairs r
+    listed = listed_answer x r
 
     pub no_lists : lists_ok x.functions x.rows x.landings x.pairs ≡ false → listed ≡ refused 13 0
     unfolding listed_answer ask unless pick
     no_lists l = rw l
 
     module _ (l : lists_ok x.functions x.rows x.landings x.pairs ≡ true) {q : Asked}
-        (k : q ≡ question_of (per_function (dwarf_asks x.section x.machine.word) 0 (each (asked_in x.section x.functions x.rows x.pairs) 0 (count_in x)))) where
+        (k : q ≡ question_of (per_function (dwarf_asks x.section x.machine.word) 0 (each (asked_in x) 0 (count_in x)))) where
       pub no_function : {r : Refusal} → q ≡ Err r → listed ≡ refused r.number r.position
       unfolding listed_answer dwarf_answer ask unless pick
       no_function n = rw (l, asks_are) (no_decides _ _ (sym k ∙ n))
@@ -161,6 +162,6 @@ module _ (s : Section) (g : Given) (r : Room) where
   no_machine m = rw m
 
   pub machine_yes : machine_ok g.machine ≡ true
-      → dwarf_given s g r ≡ listed_answer s (machine_of g.machine) g.functions g.rows g.landings g.pairs r
+      → dwarf_given s g r ≡ listed_answer (inputs s (machine_of g.machine) g.functions g.rows g.landings g.pairs) r
   unfolding dwarf_given given_asks given_functions listed_answer ask and_then pick
   machine_yes m = rw m

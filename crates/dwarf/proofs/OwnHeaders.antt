@@ -9,11 +9,9 @@ use Rattle.format.proofs.Wrote.{Wrote}
 use Rattle.format.specs.declared.Machine.{Machine}
 use Rattle.format.specs.Lists.{numbers_of}
 use Rattle.format.specs.Headers.{header_bytes, header_relocs}
-use Rattle.format.proofs.Fits.{MachineFits}
 use Rattle.format.proofs.PutLaws.{idle}
-use Rattle.format.proofs.SectionSize.{Aligned}
 use Rattle.lists.specs.declared.Extent.{Extent}
-use Rattle.header_keys.specs.Functions.{key_in, Sound}
+use Rattle.header_keys.specs.Functions.{key_in}
 use Rattle.headers.specs.Kinds.{EncodingFits, header_reloc_count}
 use Rattle.headers.proofs.Personalities.{header_relocs_count}
 use Rattle.dwarf.specs.declared.Table.{Table}
@@ -29,13 +27,12 @@ module _ {own debug : Bool} {m : Machine} {align : ℕ} {e : Extent} {t : Table}
       record { bytes_stored = rw (no_front debug m align t.bytes e rows o) idle; relocs_stored = rw (no_relocs debug m align t.bytes e rows o) idle }
 
   module _ (o : own ≡ true) where
-    pub header_room : Sound m e rows × EncodingFits e × Aligned align × (t.bytes + length (header_bytes debug m align t.bytes (key_in m e rows)) ≤ length bytes)
-    header_room = (r.sound, r.encoding_fits, r.aligned, rw (own_front debug m align t.bytes e rows o) at r.bytes_fit)
+    pub header_room : EncodingFits e × (t.bytes + length (header_bytes debug m align t.bytes (key_in m e rows)) ≤ length bytes)
+    header_room = (r.encoding_fits, rw (own_front debug m align t.bytes e rows o) at r.bytes_fit)
 
-    pub relocs_room : MachineFits m × (t.bytes < 2 ^ 32) × (t.relocations + 5 * header_reloc_count debug e ≤ length relocs)
+    pub relocs_room : (t.bytes < 2 ^ 32) × (t.relocations + 5 * header_reloc_count debug e ≤ length relocs)
     relocs_room =
         let fit = rw (own_relocs debug m align t.bytes e rows o) at r.relocs_fit in (
-          r.sound.machine,
           r.near,
           omega (arith, numbers_length (header_relocs debug m t.bytes (key_in m e [])), header_relocs_count debug m t.bytes e []),
         )

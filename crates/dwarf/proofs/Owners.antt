@@ -10,7 +10,8 @@ use Rattle.format.specs.Headers.{Key, key_of, same_key}
 use Rattle.format.specs.Writer.{place_in}
 use Rattle.format.proofs.Choice.{pick_yes, pick_no, tested}
 use Rattle.owners.specs.Owners.{first_from, owner, key_at}
-use Rattle.dwarf.specs.Parts.{Inputs, function_in, extent_in, places_in, seen_from, earlier_in, parts_to}
+use Rattle.header_keys.specs.Inputs.{Inputs, function_in, extent_in}
+use Rattle.dwarf.specs.Parts.{places_in, seen_from, earlier_in, parts_to}
 use Rattle.dwarf.proofs.Fronts.{places_length}
 use Rattle.dwarf.proofs.Bodies.{key_body}
 
@@ -53,27 +54,27 @@ same_first f g j (suc n) h = rw (h j, same_first f g (suc j) n h)
 -- ---- function k
 
 module _ (x : Inputs) (k : ℕ) where
-  keys : (j : ℕ) → key_of x.machine (function_in x j) ≡ key_at x.section x.machine x.functions x.rows j
+  keys : (j : ℕ) → key_of x.machine (function_in x j) ≡ key_at x j
   keys j = key_body (extent_in x j) x.rows x.landings x.pairs x.machine
 
-  owns : owner x.section x.machine x.functions x.rows k
+  owns : owner x k
       ≡ first_from (λ j. same_key (key_of x.machine (function_in x j)) (key_of x.machine (function_in x k))) 0 (length (places_in (parts_to x k)))
   unfolding owner
   owns = rw (places_length x k) (same_first _ _ 0 k (λ i. rw (keys i, keys k)))
 
-  pub owner_bound : owner x.section x.machine x.functions x.rows k ≤ k
+  pub owner_bound : owner x k ≤ k
   owner_bound =
       let h = (first_bounds (λ j. same_key (key_of x.machine (function_in x j)) (key_of x.machine (function_in x k))) 0 (length (places_in (parts_to x k)))).1 in
       omega (arith, owns, places_length x k)
 
-  pub own_header : owner x.section x.machine x.functions x.rows k ≡ k → earlier_in x k (parts_to x k) ≡ none
+  pub own_header : owner x k ≡ k → earlier_in x k (parts_to x k) ≡ none
   unfolding earlier_in
   own_header e =
       none_before (λ j. key_of x.machine (function_in x j)) (key_of x.machine (function_in x k)) 0 (places_in (parts_to x k))
       (sym owns ∙ omega (arith, places_length x k))
 
-  pub found_header : owner x.section x.machine x.functions x.rows k < k
-      → earlier_in x k (parts_to x k) ≡ some (get_or (places_in (parts_to x k)) (owner x.section x.machine x.functions x.rows k) 0)
+  pub found_header : owner x k < k
+      → earlier_in x k (parts_to x k) ≡ some (get_or (places_in (parts_to x k)) (owner x k) 0)
   unfolding earlier_in
   found_header h =
       some_before (λ j. key_of x.machine (function_in x j)) (key_of x.machine (function_in x k)) 0 (places_in (parts_to x k))

@@ -2,7 +2,7 @@
 use mathlib.Core.Path.{◌≡◌, refl}
 use Prim.Native.Nat.{ℕ, ◌+◌, ◌*◌, ◌^◌, ◌≤◌, ◌<◌}
 use native.Mathlib.Omega.{arith}
-use mathlib.Core.Bool.{Bool, true}
+use mathlib.Core.Bool.{Bool}
 use mathlib.Core.List.{List, [], ◌++◌}
 use lib.ListN.{length, length-append}
 use Rattle.format.proofs.Wrote.{Wrote}
@@ -14,10 +14,9 @@ use Rattle.format.specs.CallSites.{site_pad, site_added}
 use Rattle.format.specs.Writer.{Part}
 use Rattle.format.proofs.EntryBack.{padding_small}
 use Rattle.format.proofs.PutLaws.{◌then◌, kept}
-use Rattle.format.proofs.SectionSize.{Aligned}
 use Rattle.lists.specs.declared.Extent.{Extent}
 use Rattle.lists.specs.Extents.{meant}
-use Rattle.header_keys.specs.Functions.{body_of, Sound, LandingsReady, PairsReady}
+use Rattle.header_keys.specs.Functions.{body_of, LandingsReady, LabelsReady}
 use Rattle.format.proofs.ListLaws.{numbers_length, numbers_append}
 use Rattle.records.proofs.RelocLaws.{relocs_count}
 use Rattle.dwarf.specs.declared.Table.{Table}
@@ -84,19 +83,16 @@ module _ {own debug : Bool} {m : Machine} {align cie : ℕ} {e : Extent} {t : Ta
     behind : u.bytes ≡ t.bytes + length front
     behind = f.bytes_stored.past
 
-    pub record_ready : Sound m e rows × Aligned align × (cie ≤ u.bytes + 4)
+    pub record_ready : (cie ≤ u.bytes + 4)
         × (u.bytes + length (record_bytes debug m align u.bytes cie (body_of e rows)) ≤ length bytes₁)
     record_ready = (
-      r.sound,
-      r.aligned,
       omega (arith, behind, r.near),
       rw behind (omega (arith, bytes_long, r.bytes_fit, kept f.bytes_stored)),
     )
 
-    pub relocs_ready : (table : ℕ) → Sound m e rows × (e.relaxed ≡ true → PairsReady e pairs) × (u.bytes < 2 ^ 32)
+    pub relocs_ready : (table : ℕ) → LabelsReady e pairs × (u.bytes < 2 ^ 32)
         × (u.relocations + 5 * length (relocs_at u.bytes table) ≤ length relocs₁)
     relocs_ready table = (
-      r.sound,
       r.pairs_ready,
       omega (arith, behind, ends, bytes_long),
       rw behind

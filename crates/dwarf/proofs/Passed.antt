@@ -1,5 +1,5 @@
 -- What questions 11 to 25, answered by yes, say of each function.
-use mathlib.Core.Path.{◌≡◌, refl, sym, ap, subst}
+use mathlib.Core.Path.{◌≡◌, refl, ap, subst}
 use Prim.Native.Nat.{ℕ, zero, suc, ◌+◌, ◌≤◌, ◌<◌}
 use native.Mathlib.Omega.{arith}
 use mathlib.Core.Bool.{Bool, true, false, ◌&&◌}
@@ -7,18 +7,22 @@ use mathlib.Core.List.{List, [], ◌∷◌}
 use lib.Dec.{T, leb, eqb, leb→le}
 use mir.Facts.{and_yes, or_yes, eqb_yes, eqb_no}
 use mathlib.Core.Logic.{⊎_elim}
+use Rattle.std.specs.Prelude.{Some, None, IfSome}
+use Rattle.format.specs.Prelude.{pick}
 use Rattle.format.specs.Lists.{field, function_stride, row_stride, landing_stride, pair_stride, count, mark, inside, symbol_ok, mark_ok, when_marked, row_ok_at, pair_ok_at, pointer_ok, all_in, function_ok_at, sum_of, pairs_in, lists_ok, most_functions, most_records}
 use Rattle.format.specs.declared.Section.{Section}
 use Rattle.format.specs.declared.Section.TheVariants.{Elf, Debug}
 use Rattle.format.proofs.Choice.{pick_yes}
 use Rattle.format.proofs.ListLaws.{chained, in_range}
+use Rattle.lists.specs.declared.Personality.{Personality}
+use Rattle.lists.specs.declared.Labels.{Labels}
 use Rattle.lists.specs.declared.Extent.{Extent}
-use Rattle.lists.specs.Extents.{extent_at}
+use Rattle.lists.specs.Extents.{marked, lsda_at, personality_at, labels_at, extent_at}
 use Rattle.lists.specs.Parts.{ranges_ok_at, named_ok_at, relaxed_ok_at, outline_ok_at, sums_ok}
 use Rattle.lists.proofs.Outlines.{function_is, lists_is}
-use Rattle.header_keys.specs.Functions.{taken_in, without, RowsReady, LandingsReady, PairsReady, Listed}
+use Rattle.header_keys.specs.Functions.{taken_in, without, RowsReady, LandingsReady, PairsReady, LabelsReady, Listed}
 use Rattle.headers.specs.Kinds.{EncodingFits}
-use Rattle.dwarf.specs.Asks.{AllAskable}
+use Rattle.dwarf.specs.Asks.{Askable}
 
 -- ---- sums and marks
 
@@ -38,16 +42,22 @@ in_total f n k h =
     let e : 0 + k ≡ k = omega arith in
     rw e at (in_sum f 0 n k h)
 
-marked : (n : ℕ) (b : Bool) → T (when_marked n b) → T (mark n) → T b
+tested : (n : ℕ) (b : Bool) → T (when_marked n b) → T (mark n) → T b
 unfolding when_marked mark
-marked n b t m = ⊎_elim (λ z. absurd (eqb_no {a = n} {b = 0} m (eqb_yes z))) (λ y. y) (or_yes (eqb n 0) b t)
+tested n b t m = ⊎_elim (λ z. absurd (eqb_no {a = n} {b = 0} m (eqb_yes z))) (λ y. y) (or_yes (eqb n 0) b t)
+
+-- a fact of what a mark makes optional
+if_marked : {A : Type 0} (b : Bool) (a : A) (P : A → Type 0) → (T b → P a) → IfSome (pick b (Some a) None) P
+unfolding pick
+if_marked true a P h = h tt
+if_marked false a P h = tt
 
 -- ---- what a section takes of a function
 
-taken_pairs : (s : Section) (e : Extent) (pairs : List ℕ) → (e.relaxed ≡ true → PairsReady e pairs) → (taken_in s e).relaxed ≡ true → PairsReady (taken_in s e) pairs
+taken_pairs : (s : Section) (e : Extent) (pairs : List ℕ) → LabelsReady e pairs → LabelsReady (taken_in s e) pairs
 unfolding taken_in without
 taken_pairs Elf e pairs a = a
-taken_pairs Debug e pairs a = λ t. record { inside = (a t).inside; few = (a t).few }
+taken_pairs Debug e pairs a = a
 
 taken_landings : (s : Section) (e : Extent) (landings : List ℕ) → LandingsReady e landings → LandingsReady (taken_in s e) landings
 unfolding taken_in without
@@ -57,7 +67,7 @@ taken_landings Debug e landings a = record { inside = omega (arith, a.inside); f
 taken_encoding : (s : Section) (e : Extent) → EncodingFits e → EncodingFits (taken_in s e)
 unfolding taken_in without
 taken_encoding Elf e h = h
-taken_encoding Debug e h = λ (p : false ≡ true). let z : ◌≡◌ {A = ℕ} 0 1 = cc in absurd (omega arith)
+taken_encoding Debug e h = tt
 
 pub taken_range : (s : Section) (e : Extent) → ((taken_in s e).rows_at ≡ e.rows_at) × ((taken_in s e).rows ≡ e.rows)
 unfolding taken_in without
@@ -89,10 +99,10 @@ module _ (fs rows landings pairs : List ℕ) where
         landings_inside = says 2 t;
         named =
             λ m. chained (pointer_ok (f 9) (f 10)) (mark_ok (f 11) ∷ when_marked (f 11) (pointer_ok (f 12) (f 13)) ∷ []) 0
-            (marked (f 8) named (says 6 t) m);
+            (tested (f 8) named (says 6 t) m);
         relaxed =
             λ m. chained (symbol_ok (f 15)) (inside (f 16) (f 17) (count pair_stride pairs) ∷ all_in (pair_ok_at pairs) (f 16) (f 17) ∷ []) 1
-            (marked (f 14) labels (says 8 t) m);
+            (tested (f 14) labels (says 8 t) m);
       }
 
   -- of a function as a whole, and of all of them
@@ -159,17 +169,20 @@ module _ (fs rows landings pairs : List ℕ) (few : Counted fs) (k : ℕ) (h : k
     pub landings_taken : (s : Section) → LandingsReady (taken_in s (extent_at fs k)) landings
     landings_taken s = taken_landings s (extent_at fs k) landings landings_ready
 
-    pairs_ready : (extent_at fs k).relaxed ≡ true → PairsReady (extent_at fs k) pairs
-    unfolding extent_at pairs_in
-    pairs_ready e =
-        let m : T (mark (field function_stride fs k 14)) = subst T (sym e) tt in
-        let p : pairs_in fs k ≡ field function_stride fs k 17 = pick_yes (mark (field function_stride fs k 14)) _ 0 m in
+    pairs_ready : LabelsReady (extent_at fs k) pairs
+    unfolding extent_at labels_at marked pairs_in
+    pairs_ready =
+        let f : ℕ → ℕ = λ j. field function_stride fs k j in
+        let l : Labels = record { end = f 15; pairs_at = f 16; pairs = f 17 } in
+        if_marked (mark (f 14)) l (λ l. PairsReady l pairs)
+        (λ m.
+        let p : pairs_in fs k ≡ f 17 = pick_yes (mark (f 14)) _ 0 m in
         record {
           inside = within fs rows landings pairs _ _ _ (one.relaxed m);
           few = omega (arith, in_total (pairs_in fs) (count function_stride fs) k h, few.pairs_few);
-        }
+        })
 
-    pub pairs_taken : (s : Section) → (taken_in s (extent_at fs k)).relaxed ≡ true → PairsReady (taken_in s (extent_at fs k)) pairs
+    pub pairs_taken : (s : Section) → LabelsReady (taken_in s (extent_at fs k)) pairs
     pairs_taken s = taken_pairs s (extent_at fs k) pairs pairs_ready
 
     byte : (encoding symbol : ℕ) → T (pointer_ok encoding symbol) → encoding < 256
@@ -177,8 +190,11 @@ module _ (fs rows landings pairs : List ℕ) (few : Counted fs) (k : ℕ) (h : k
     byte encoding symbol p = omega (arith, leb→le encoding 255 (and_yes (leb encoding 255) (symbol_ok symbol) p).0)
 
     encoding_at : EncodingFits (extent_at fs k)
-    unfolding extent_at
-    encoding_at e = byte (field function_stride fs k 9) (field function_stride fs k 10) (one.named (subst T (sym e) tt))
+    unfolding extent_at personality_at marked
+    encoding_at =
+        let f : ℕ → ℕ = λ j. field function_stride fs k j in
+        let p : Personality = record { encoding = f 9; routine = f 10; lsda = lsda_at fs k } in
+        if_marked (mark (f 8)) p (λ p. p.encoding < 256) (λ m. byte (f 9) (f 10) (one.named m))
 
     pub encoding_taken : (s : Section) → EncodingFits (taken_in s (extent_at fs k))
     encoding_taken s = taken_encoding s (extent_at fs k) encoding_at
@@ -205,12 +221,10 @@ module _ (fs rows landings pairs : List ℕ) (t : T (lists_ok fs rows landings p
       of_function fs rows landings pairs k
       (rw e at (in_range (function_ok_at fs rows landings pairs) 0 (count function_stride fs) k (of_lists fs rows landings pairs t).1 h))
 
-  pub all_askable : (s : Section) → AllAskable s fs rows pairs
-  all_askable s = record {
-    each_one = λ k h.
-        let o = function_listed k h in
-        record { ready = ready_taken fs rows landings pairs all_counted k h o.0 o.1 s; paired = pairs_taken fs rows landings pairs all_counted k h o.0 s };
-  }
+  pub all_askable : (s : Section) (k : ℕ) → k < count function_stride fs → Askable (taken_in s (extent_at fs k)) rows pairs
+  all_askable s k h =
+      let o = function_listed k h in
+      record { ready = ready_taken fs rows landings pairs all_counted k h o.0 o.1 s; paired = pairs_taken fs rows landings pairs all_counted k h o.0 s }
 
   pub listed : (n : ℕ) → n ≤ count function_stride fs → Listed fs rows n
   listed n h = record {

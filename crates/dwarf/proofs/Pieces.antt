@@ -17,7 +17,8 @@ use Rattle.header_keys.specs.Functions.{key_in}
 use Rattle.owners.specs.Owners.{owner}
 use Rattle.headers.specs.Kinds.{header_reloc_count}
 use Rattle.headers.proofs.Personalities.{header_relocs_count, header_relocs_any}
-use Rattle.dwarf.specs.Parts.{Inputs, extent_in, align_in, places_in, bytes_in, sites_in, part_behind, parts_to}
+use Rattle.header_keys.specs.Inputs.{Inputs, extent_in}
+use Rattle.dwarf.specs.Parts.{align_in, places_in, bytes_in, sites_in, part_behind, parts_to}
 use Rattle.dwarf.specs.Pieces.{front_in, front_relocs, part_in}
 use Rattle.dwarf.proofs.Bodies.{key_body, record_body, relocs_body}
 use Rattle.dwarf.proofs.Owners.{own_header, found_header}
@@ -71,11 +72,11 @@ module _ (x : Inputs) (k : ℕ) where
       part_in own (is_debug x.section) x.machine (align_in x k) (length (bytes_in (parts_to x k))) cie (length (sites_in (parts_to x k))) (extent_in x k)
       x.rows x.landings x.pairs
 
-  pub own_part : owner x.section x.machine x.functions x.rows k ≡ k → part_behind x k (parts_to x k) ≡ at_piece true (length (bytes_in (parts_to x k)))
+  pub own_part : owner x k ≡ k → part_behind x k (parts_to x k) ≡ at_piece true (length (bytes_in (parts_to x k)))
   unfolding part_behind
   own_part e = rw (own_header x k e) (with_own x.section x.machine (align_in x k) _ _ (extent_in x k) x.rows x.landings x.pairs)
 
-  pub found_part : owner x.section x.machine x.functions x.rows k < k
-      → part_behind x k (parts_to x k) ≡ at_piece false (get_or (places_in (parts_to x k)) (owner x.section x.machine x.functions x.rows k) 0)
+  pub found_part : owner x k < k
+      → part_behind x k (parts_to x k) ≡ at_piece false (get_or (places_in (parts_to x k)) (owner x k) 0)
   unfolding part_behind
   found_part h = rw (found_header x k h) (with_earlier x.section x.machine (align_in x k) _ _ (extent_in x k) x.rows x.landings x.pairs _)

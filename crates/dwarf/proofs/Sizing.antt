@@ -7,7 +7,6 @@ use mathlib.Core.Bool.{Bool}
 use mathlib.Core.List.{List}
 use lib.Dec.{eqb}
 use Rattle.format.specs.declared.Machine.{Machine}
-use Rattle.format.specs.declared.Section.{Section}
 use Rattle.format.specs.Writer.{is_debug, align_for, joined}
 use Rattle.format.specs.Lists.{numbers_of}
 use Rattle.format.proofs.FieldsBack.{word_small}
@@ -19,7 +18,8 @@ use Rattle.records.specs.Stepped.{SteppedReady}
 use Rattle.owners.specs.Owners.{owner}
 use Rattle.owners.specs.Chains.{Owned}
 use Rattle.dwarf.specs.declared.Table.{Table}
-use Rattle.dwarf.specs.Parts.{Inputs, count_in, extent_in, align_in, bytes_in, relocs_in, sites_in, parts_to}
+use Rattle.header_keys.specs.Inputs.{Inputs, count_in, extent_in}
+use Rattle.dwarf.specs.Parts.{align_in, bytes_in, relocs_in, sites_in, parts_to}
 use Rattle.dwarf.specs.Pieces.{part_in}
 use Rattle.dwarf.specs.Tables.{nothing, totals_in, grown_by, Small, SizeReady}
 use Rattle.dwarf.specs.Writable.{Cleared, Next}
@@ -52,7 +52,7 @@ module _ {x : Inputs} {k n : ℕ} {t : Table} (c : Next x k n t) where
     sites = omega (arith, c.writable.sites_few);
   })
 
-  module _ {i align : ℕ} {debug : Bool} {e : Extent} (o : i ≡ owner x.section x.machine x.functions x.rows k) (d : debug ≡ is_debug x.section)
+  module _ {i align : ℕ} {debug : Bool} {e : Extent} (o : i ≡ owner x k) (d : debug ≡ is_debug x.section)
       (a : align ≡ align_for x.section x.machine.word (eqb (k + 1) n)) (q : e ≡ extent_in x k) where
     abbrev after : Table
     after = grown_by t (part_in (eqb i k) debug x.machine align t.bytes 0 t.sites e x.rows x.landings x.pairs)
@@ -75,7 +75,7 @@ module _ {x : Inputs} {k n : ℕ} {t : Table} (c : Next x k n t) where
 -- ---- all of them
 
 -- the owners of all, and of the first k + 1
-pub owned_to : {s : Section} {m : Machine} {fs rows owners : List ℕ} {n k : ℕ} → k < n → Owned s m fs rows n owners → Owned s m fs rows (k + 1) owners
+pub owned_to : {x : Inputs} {owners : List ℕ} {n k : ℕ} → k < n → Owned x n owners → Owned x (k + 1) owners
 owned_to h o = record { long = omega (arith, o.long); each_one = λ j l. o.each_one j (omega arith) }
 
 pub record Sizing (x : Inputs) (n k : ℕ) (t : Table) : Type 0 where

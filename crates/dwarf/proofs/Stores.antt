@@ -17,7 +17,8 @@ use Rattle.format.proofs.PutLaws.{◌then◌, idle, kept}
 use Rattle.owners.specs.Owners.{owner}
 use Rattle.dwarf.specs.declared.Table.{Table}
 use Rattle.dwarf.specs.declared.Chosen.{Chosen}
-use Rattle.dwarf.specs.Parts.{Inputs, extent_in, align_in, places_in, bytes_in, relocs_in, sites_in, part_behind, parts_to}
+use Rattle.header_keys.specs.Inputs.{Inputs, extent_in}
+use Rattle.dwarf.specs.Parts.{align_in, places_in, bytes_in, relocs_in, sites_in, part_behind, parts_to}
 use Rattle.dwarf.specs.Pieces.{part_in}
 use Rattle.dwarf.specs.Tables.{nothing, totals_in, chosen_by, Added, Written, Holds}
 use Rattle.format.proofs.ListLaws.{numbers_length, numbers_append}
@@ -50,7 +51,7 @@ place_near : (x : Inputs) (k : ℕ) → ((j : ℕ) → j < k → get_or (places_
     → (part_behind x k (parts_to x k)).place ≤ length (bytes_in (parts_to x k))
 unfolding part_in
 place_near x k h =
-    let o : ℕ = owner x.section x.machine x.functions x.rows k in
+    let o : ℕ = owner x k in
     either k o (λ l. rw (own_part x k (omega (arith, owner_bound x k))) (omega arith)) (λ l. rw (found_part x k l) (h o l))
 
 places_below : (x : Inputs) (k j : ℕ) → j < k → get_or (places_in (parts_to x k)) j 0 ≤ length (bytes_in (parts_to x k))
@@ -76,7 +77,7 @@ module _ {i o k : ℕ} (e : i ≡ o) (at : ℕ) (places : List ℕ) where
 
 module _ (x : Inputs) (k : ℕ) where
   abbrev chosen : List ℕ → Chosen
-  chosen places = chosen_by (owner x.section x.machine x.functions x.rows k) k (length (bytes_in (parts_to x k))) places
+  chosen places = chosen_by (owner x k) k (length (bytes_in (parts_to x k))) places
 
   module _ (places : List ℕ) (held : (j : ℕ) → j < k → get_or places j 0 ≡ get_or (places_in (parts_to x k)) j 0) where
     pub chosen_part : part_behind x k (parts_to x k)
@@ -84,7 +85,7 @@ module _ (x : Inputs) (k : ℕ) where
         (length (sites_in (parts_to x k))) (extent_in x k) x.rows x.landings x.pairs
     unfolding chosen_by pick
     chosen_part =
-        let o : ℕ = owner x.section x.machine x.functions x.rows k in
+        let o : ℕ = owner x k in
         either k o
         (λ l.
         let e : o ≡ k = omega (arith, owner_bound x k) in
@@ -94,7 +95,7 @@ module _ (x : Inputs) (k : ℕ) where
     pub chosen_near : (chosen places).cie ≤ length (bytes_in (parts_to x k))
     unfolding chosen_by pick
     chosen_near =
-        let o : ℕ = owner x.section x.machine x.functions x.rows k in
+        let o : ℕ = owner x k in
         either k o
         (λ l.
         let e : o ≡ k = omega (arith, owner_bound x k) in

@@ -23,7 +23,8 @@ use Rattle.owners.specs.Chains.{OwnersFound, Enough, Unused}
 use Rattle.owners.proofs.OwnerLoop.{Going}
 use Rattle.owners.proofs.OwnerLoop as owning
 use Rattle.dwarf.specs.declared.Table.{Table}
-use Rattle.dwarf.specs.Parts.{Inputs, count_in, extent_in, parts_to}
+use Rattle.header_keys.specs.Inputs.{Inputs, count_in, extent_in}
+use Rattle.dwarf.specs.Parts.{parts_to}
 use Rattle.dwarf.specs.Tables.{nothing, totals_in, Few}
 use Rattle.dwarf.specs.Writable.{Writable, Next}
 use Rattle.dwarf.specs.Surveys.{PassedAt, rows_size, FunctionSurveyed, AllSurveyed}
@@ -68,14 +69,14 @@ few_of fs t = let c = counted fs t in record { functions = c.functions_at_most; 
 pub record Surveying (x : Inputs) (n k : ℕ) (t : Table) (heads₀ links₀ owners₀ heads links owners : List ℕ) : Type 0 where
   pub sizes : Sizing x n k t
   pub passed : (j : ℕ) → j < k → PassedAt x j
-  pub owned : Going x.section x.machine x.functions x.rows n k heads₀ links₀ owners₀ heads links owners
+  pub owned : Going x n k heads₀ links₀ owners₀ heads links owners
 
 pub start : (x : Inputs) {heads links owners : List ℕ} → Unused (count_in x) heads links owners
     → Surveying x (count_in x) 0 nothing heads links owners heads links owners
 start x u = record {
   sizes = sizing.start x;
   passed = λ j l. absurd (omega arith);
-  owned = owning.start x.section x.machine x.functions x.rows u;
+  owned = owning.start x u;
 }
 
 module _ {x : Inputs} {n k : ℕ} {t : Table} {heads₀ links₀ owners₀ heads links owners : List ℕ}
@@ -95,12 +96,12 @@ module _ {x : Inputs} {n k : ℕ} {t : Table} {heads₀ links₀ owners₀ heads
       pub next : Next x k n t
       next = record { writable = can_be_written; counted = g.sizes.counted; behind = g.sizes.behind }
 
-      pub owner_ready : MachineFits x.machine × Listed x.functions x.rows (k + 1) × Enough (k + 1) (length heads) links owners
-          × OwnersFound x.section x.machine x.functions x.rows (length heads) k heads links owners
-      owner_ready = (fit, rw (add-one k) can_be_written.listed, owning.room g.owned h, owning.so_far g.owned h)
+      pub owner_ready : Listed x.functions x.rows (k + 1) × Enough (k + 1) (length heads) links owners
+          × OwnersFound x (length heads) k heads links owners
+      owner_ready = (rw (add-one k) can_be_written.listed, owning.room g.owned h, owning.so_far g.owned h)
 
     pub turn : {u : Table} {heads' links' owners' : List ℕ} → u ≡ totals_in (parts_to x (k + 1))
-        → OwnersFound x.section x.machine x.functions x.rows (length heads) (k + 1) heads' links' owners' × (length links' ≡ length links) × (length owners' ≡ length owners)
+        → OwnersFound x (length heads) (k + 1) heads' links' owners' × (length links' ≡ length links) × (length owners' ≡ length owners)
         → Surveying x n (k + 1) u heads₀ links₀ owners₀ heads' links' owners'
     turn e c = record { sizes = sizing.turn g.sizes h e; passed = λ j l. all_passed j (omega arith); owned = owning.turn g.owned h c }
 

@@ -23,7 +23,8 @@ use Rattle.format.proofs.ListLaws.{numbers_length, numbers_append}
 use Rattle.records.proofs.RecordLaws.{record_length}
 use Rattle.records.proofs.RelocLaws.{relocs_count}
 use Rattle.dwarf.specs.declared.Table.{Table}
-use Rattle.dwarf.specs.Parts.{Inputs, extent_in, align_in, places_in, bytes_in, sites_in, part_behind, parts_to}
+use Rattle.header_keys.specs.Inputs.{Inputs, extent_in}
+use Rattle.dwarf.specs.Parts.{align_in, places_in, bytes_in, sites_in, part_behind, parts_to}
 use Rattle.dwarf.specs.Pieces.{front_in, front_relocs, reloc_numbers, part_in}
 use Rattle.headers.specs.Kinds.{header_reloc_count}
 use Rattle.headers.proofs.Personalities.{header_relocs_count}
@@ -85,11 +86,11 @@ from_totals x k own cie = sym (same_size own (is_debug x.section) x.machine (ali
 -- by whether it owns its header
 pub sized_next : (x : Inputs) (k : ℕ) (t : Table) → t ≡ totals_in (parts_to x k)
     → grown_by t
-    (part_in (eqb (owner x.section x.machine x.functions x.rows k) k) (is_debug x.section) x.machine (align_in x k) t.bytes 0 t.sites
+    (part_in (eqb (owner x k) k) (is_debug x.section) x.machine (align_in x k) t.bytes 0 t.sites
     (extent_in x k) x.rows x.landings x.pairs)
     ≡ totals_in (parts_to x (k + 1))
 sized_next x k t e =
-    let o : ℕ = owner x.section x.machine x.functions x.rows k in
+    let o : ℕ = owner x k in
     let d : Bool = is_debug x.section in
     let at : ℕ = length (bytes_in (parts_to x k)) in
     let sites : ℕ = length (sites_in (parts_to x k)) in

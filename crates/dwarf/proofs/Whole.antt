@@ -15,7 +15,7 @@ use Rattle.std.specs.Prelude.{Ok, Err}
 use Rattle.format.specs.Coded.{refusal}
 use Rattle.format.proofs.Asked.{Asked, question_of, said_yes}
 use Rattle.format.specs.declared.Refusal.{Refusal}
-use Rattle.format.specs.Machine.{machine_of, machine_ok, is_word_size}
+use Rattle.format.specs.Machine.{machine_of, machine_ok}
 use Rattle.format.specs.Lists.{function_ok_at, all_in, lists_ok}
 use Rattle.format.specs.Questions.{Question, and_then, dwarf_asks, per_function, Given, Room, fitting, dwarf_given, room_in}
 use Rattle.format.specs.Answers.{Writes}
@@ -26,7 +26,8 @@ use Rattle.format.proofs.Choice.{is_true, is_yes_lem}
 use Rattle.lists.specs.Parts.{sums_ok}
 use Rattle.lists.proofs.Outlines.{lists_is}
 use Rattle.dwarf.specs.Asks.{asked_in, AllAskable, listed_answer}
-use Rattle.dwarf.specs.Parts.{Inputs, count_in, written_in, parts_to}
+use Rattle.header_keys.specs.Inputs.{Inputs, inputs, count_in}
+use Rattle.dwarf.specs.Parts.{written_in, parts_to}
 use Rattle.dwarf.specs.Writable.{Cleared}
 use Rattle.dwarf.specs.Surveys.{PassedAt}
 use Rattle.dwarf.proofs.Cleared.{cleared}
@@ -59,10 +60,10 @@ module _ {A : Type 0} (ask : ℕ → A → Question) (f : ℕ → A) where
 -- ---- what the questions make sure of
 
 module _ (x : Inputs) (fit : MachineFits x.machine) (b : lists_ok x.functions x.rows x.landings x.pairs ≡ true) where
-  pub askable_is : T (is_word_size x.machine.word) × AllAskable x.section x.functions x.rows x.pairs
-  askable_is = (fit.is_word, all_askable x.functions x.rows x.landings x.pairs (is_yes_lem b) x.section)
+  pub askable_is : AllAskable x
+  askable_is = record { each_one = all_askable x.functions x.rows x.landings x.pairs (is_yes_lem b) x.section }
 
-  passed : per_function (dwarf_asks x.section x.machine.word) 0 (each (asked_in x.section x.functions x.rows x.pairs) 0 (count_in x)) ≡ none
+  passed : per_function (dwarf_asks x.section x.machine.word) 0 (each (asked_in x) 0 (count_in x)) ≡ none
       → (k : ℕ) → k < count_in x → PassedAt x k
   passed e k h =
       let z : 0 + k ≡ k = omega arith in
@@ -71,11 +72,11 @@ module _ (x : Inputs) (fit : MachineFits x.machine) (b : lists_ok x.functions x.
             rw z at
             (in_range (function_ok_at x.functions x.rows x.landings x.pairs) 0 (count_in x) k
             (of_lists x.functions x.rows x.landings x.pairs (is_yes_lem b)).1 h);
-        asked = rw z at (per_at (dwarf_asks x.section x.machine.word) (asked_in x.section x.functions x.rows x.pairs) 0 (count_in x) k h e);
+        asked = rw z at (per_at (dwarf_asks x.section x.machine.word) (asked_in x) 0 (count_in x) k h e);
       }
 
   pub cleared_is : {q : Asked}
-      → q ≡ question_of (per_function (dwarf_asks x.section x.machine.word) 0 (each (asked_in x.section x.functions x.rows x.pairs) 0 (count_in x)))
+      → q ≡ question_of (per_function (dwarf_asks x.section x.machine.word) 0 (each (asked_in x) 0 (count_in x)))
       → q ≡ Ok tt → Cleared x
   cleared_is k y = cleared x fit (all_counted x.functions x.rows x.landings x.pairs (is_yes_lem b)) (passed (said_yes _ (sym k ∙ y)))
 
@@ -99,10 +100,10 @@ module _ (x : Inputs) (few : T (sums_ok x.functions)) (p : (k : ℕ) → k < cou
       lists_is x.functions x.rows x.landings x.pairs
       ∙ is_true _ (yes_and (sums_ok x.functions) _ few (all_held (function_ok_at x.functions x.rows x.landings x.pairs) 0 (count_in x) (λ k h. let z : k ≡ 0 + k = omega arith in rw z at (p k h).listed)))
 
-  pub asked_passed : Ok tt ≡ question_of (per_function (dwarf_asks x.section x.machine.word) 0 (each (asked_in x.section x.functions x.rows x.pairs) 0 (count_in x)))
+  pub asked_passed : Ok tt ≡ question_of (per_function (dwarf_asks x.section x.machine.word) 0 (each (asked_in x) 0 (count_in x)))
   unfolding question_of
   asked_passed =
-      rw (per_all (dwarf_asks x.section x.machine.word) (asked_in x.section x.functions x.rows x.pairs) 0 (count_in x)
+      rw (per_all (dwarf_asks x.section x.machine.word) (asked_in x) 0 (count_in x)
       (λ k h. let z : k ≡ 0 + k = omega arith in rw z at (p k h).asked))
 
 -- ---- the answers
@@ -114,7 +115,7 @@ module _ (s : Section) (g : Given) (places bytes relocs sites : List ℕ) where
 
   pub says_listed : machine_ok g.machine ≡ true → {m : Machine} → m ≡ machine_of g.machine
       → {r : Outcome} {places' bytes' relocs' sites' : List ℕ}
-      → Writes (listed_answer s m g.functions g.rows g.landings g.pairs (room_in places bytes relocs sites)) r places places' bytes bytes' relocs relocs' sites sites'
+      → Writes (listed_answer (inputs s m g.functions g.rows g.landings g.pairs) (room_in places bytes relocs sites)) r places places' bytes bytes' relocs relocs' sites sites'
       → Writes (dwarf_given s g (room_in places bytes relocs sites)) r places places' bytes bytes' relocs relocs' sites sites'
   says_listed a e d = rw (machine_yes s g (room_in places bytes relocs sites) a) (rw e at d)
 
@@ -124,7 +125,7 @@ module _ (x : Inputs) (places bytes relocs sites : List ℕ) where
 
   abbrev Answers : Outcome → (places' bytes' relocs' sites' : List ℕ) → Type 0
   Answers r places' bytes' relocs' sites' =
-      Writes (listed_answer x.section x.machine x.functions x.rows x.landings x.pairs room) r places places' bytes bytes' relocs relocs' sites sites'
+      Writes (listed_answer x room) r places places' bytes bytes' relocs relocs' sites sites'
 
   pub says_13 : lists_ok x.functions x.rows x.landings x.pairs ≡ false → Answers (Err (refusal 13 0)) places bytes relocs sites
   says_13 n = rw (no_lists x room n) (unchanged 13 0 places bytes relocs sites)
@@ -133,7 +134,7 @@ module _ (x : Inputs) (places bytes relocs sites : List ℕ) where
   no_sums n = says_13 (lists_is x.functions x.rows x.landings x.pairs ∙ rw n)
 
   module _ (b : lists_ok x.functions x.rows x.landings x.pairs ≡ true) {q : Asked}
-      (k : q ≡ question_of (per_function (dwarf_asks x.section x.machine.word) 0 (each (asked_in x.section x.functions x.rows x.pairs) 0 (count_in x)))) where
+      (k : q ≡ question_of (per_function (dwarf_asks x.section x.machine.word) 0 (each (asked_in x) 0 (count_in x)))) where
     pub says_no : {r : Refusal} → q ≡ Err r → Answers (Err r) places bytes relocs sites
     says_no {r} n = rw (no_function x room b k n) (unchanged r.number r.position places bytes relocs sites)
 

@@ -16,7 +16,8 @@ use Rattle.owners.specs.Owners.{owner}
 use Rattle.owners.specs.Chains.{Owned}
 use Rattle.dwarf.specs.declared.Table.{Table}
 use Rattle.dwarf.specs.declared.Chosen.{Chosen}
-use Rattle.dwarf.specs.Parts.{Inputs, count_in, extent_in, bytes_in, relocs_in, sites_in, part_behind, parts_to}
+use Rattle.header_keys.specs.Inputs.{Inputs, count_in, extent_in}
+use Rattle.dwarf.specs.Parts.{bytes_in, relocs_in, sites_in, part_behind, parts_to}
 use Rattle.dwarf.specs.Pieces.{part_in}
 use Rattle.dwarf.specs.Tables.{totals_in, chosen_by, PieceReady, nothing, Stored, Added, Written, Holds}
 use Rattle.dwarf.specs.Writable.{Cleared, PartReady}
@@ -29,12 +30,12 @@ use Rattle.dwarf.proofs.Stores.{chosen_part, chosen_near}
 use Rattle.dwarf.proofs.Stores as stores
 
 module _ {x : Inputs} {k n : ℕ} {t : Table} {places bytes relocs sites : List ℕ} (r : PartReady x k n t places bytes relocs sites) where
-  module _ {owners : List ℕ} (o : Owned x.section x.machine x.functions x.rows (k + 1) owners) where
+  module _ {owners : List ℕ} (o : Owned x (k + 1) owners) where
     pub choosable : (k < length owners) × (get_or owners k 0 ≤ k) × (k ≤ length places)
     choosable = (omega (arith, o.long), omega (arith, o.each_one k (omega arith), owner_bound x k), omega (arith, r.fit.places_fit))
 
     pub chosen_by_lem : (at : ℕ) {c : Chosen} → c ≡ chosen_by (get_or owners k 0) k at places
-        → c ≡ chosen_by (owner x.section x.machine x.functions x.rows k) k at places
+        → c ≡ chosen_by (owner x k) k at places
     chosen_by_lem at e = e ∙ ap (λ (i : ℕ). chosen_by i k at places) (o.each_one k (omega arith))
 
   bytes_behind : t.bytes ≡ length (bytes_in (parts_to x k))
@@ -50,7 +51,7 @@ module _ {x : Inputs} {k n : ℕ} {t : Table} {places bytes relocs sites : List 
   sites_behind = ap (λ (u : Table). u.sites) r.coming.behind
 
   module _ {c : Chosen} {debug : Bool} {align : ℕ} {e : Extent}
-      (h : c ≡ chosen_by (owner x.section x.machine x.functions x.rows k) k t.bytes places) (d : debug ≡ is_debug x.section)
+      (h : c ≡ chosen_by (owner x k) k t.bytes places) (d : debug ≡ is_debug x.section)
       (a : align ≡ align_for x.section x.machine.word (eqb (k + 1) n)) (q : e ≡ extent_in x k) where
     abbrev piece : Part
     piece = part_in c.own debug x.machine align t.bytes c.cie t.sites e x.rows x.landings x.pairs

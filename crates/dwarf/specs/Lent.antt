@@ -1,9 +1,14 @@
 -- The lists that are lent for what is written, and what a writer does with them.
-use Rattle.std.specs.Prelude.{◌≡◌}
+use Rattle.std.specs.Prelude.{◌≡◌, ℕ, length}
+use Rattle.format.specs.declared.Counts.{Counts}
 use Rattle.format.specs.Coded.{Outcome}
 use Rattle.format.specs.Questions.{Room, room_in, Answer}
 use Rattle.format.specs.Answers.{Writes}
+use Rattle.header_keys.specs.Inputs.{Inputs}
 use Rattle.dwarf.specs.declared.Output.{Output}
+use Rattle.dwarf.specs.declared.Table.{Table}
+use Rattle.dwarf.specs.Tables.{Added, Written, Holds}
+use Rattle.dwarf.specs.Writable.{PartReady}
 
 -- the same lists are lent, whatever they hold
 pub record SameLists (old new : Output) : Type 0 where
@@ -15,7 +20,30 @@ pub record SameLists (old new : Output) : Type 0 where
 abbrev pub room_of : Output → Room
 room_of to = room_in to.places.now to.bytes.now to.relocations.now to.sites.now
 
+-- how many elements they have
+abbrev pub lent_in : Output → Counts
+lent_in to =
+    record { places = length to.places.now; bytes = length to.bytes.now; relocations = length to.relocations.now; sites = length to.sites.now }
+
 abbrev pub WritesTo : Answer → Outcome → (old new : Output) → Type 0
 WritesTo a o old new =
     Writes a o old.places.now new.places.now old.bytes.now new.bytes.now old.relocations.now new.relocations.now old.sites.now new.sites.now
+    × SameLists old new
+
+-- there is room for the first k functions; for function k of n, behind t
+abbrev pub HasRoom : Inputs → (k : ℕ) → Output → Type 0
+HasRoom x k to = Holds x k to.places.now to.bytes.now to.relocations.now to.sites.now
+
+abbrev pub ReadyFor : Inputs → (k n : ℕ) → Table → Output → Type 0
+ReadyFor x k n t to = PartReady x k n t to.places.now to.bytes.now to.relocations.now to.sites.now
+
+-- function k is written behind t, up to u; the first k functions, up to t
+abbrev pub AddsTo : Inputs → (k : ℕ) → (t u : Table) → (old new : Output) → Type 0
+AddsTo x k t u old new =
+    Added x k t u old.places.now new.places.now old.bytes.now new.bytes.now old.relocations.now new.relocations.now old.sites.now new.sites.now
+    × SameLists old new
+
+abbrev pub FillsTo : Inputs → (k : ℕ) → Table → (old new : Output) → Type 0
+FillsTo x k t old new =
+    Written x k t old.places.now new.places.now old.bytes.now new.bytes.now old.relocations.now new.relocations.now old.sites.now new.sites.now
     × SameLists old new

@@ -6,3 +6,4 @@ pub mod Writable
 pub mod Tables
 pub mod Surveys
 pub mod Lent
+pub mod Functions

@@ -1,41 +1,10 @@
 -- The parts of a section from the front: those of the functions behind a pass decide the next one.
 use Rattle.std.specs.Prelude.{ℕ, zero, suc, List, [], ◌∷◌, ◌++◌, map, length, eqb}
 use Rattle.std.proofs.Math.Option.{Option}
-use Rattle.format.specs.declared.Machine.{Machine}
-use Rattle.format.specs.declared.Section.{Section}
-use Rattle.format.specs.Lists.{Function, Relocation, count, function_stride}
+use Rattle.format.specs.Lists.{Relocation}
 use Rattle.format.specs.Headers.{Key, key_of}
 use Rattle.format.specs.Writer.{Part, Seen, Written, place_in, part_with, align_for, joined}
-use Rattle.lists.specs.declared.Extent.{Extent}
-use Rattle.dwarf.specs.declared.Input.{Input}
-use Rattle.lists.specs.Extents.{extent_at, meant}
-use Rattle.header_keys.specs.Functions.{taken_in}
-
--- what a pass goes over: a section of a machine's functions
-pub record Inputs : Type 0 where
-  pub section : Section
-  pub machine : Machine
-  pub functions : List ℕ
-  pub rows : List ℕ
-  pub landings : List ℕ
-  pub pairs : List ℕ
-
-abbrev pub inputs : Section → Machine → (functions rows landings pairs : List ℕ) → Inputs
-inputs s m functions rows landings pairs =
-    record { section = s; machine = m; functions = functions; rows = rows; landings = landings; pairs = pairs }
-
-abbrev pub inputs_of : Input → Inputs
-inputs_of x = inputs x.section x.machine x.functions.now x.rows.now x.landings.now x.pairs.now
-
-abbrev pub count_in : Inputs → ℕ
-count_in x = count function_stride x.functions
-
--- the record of function k as the section takes it, and the function that it means
-abbrev pub extent_in : Inputs → ℕ → Extent
-extent_in x k = taken_in x.section (extent_at x.functions k)
-
-abbrev pub function_in : Inputs → ℕ → Function
-function_in x k = meant (extent_in x k) x.rows x.landings x.pairs
+use Rattle.header_keys.specs.Inputs.{Inputs, count_in, function_in}
 
 -- ---- what parts add up to
 
@@ -77,3 +46,7 @@ part_behind x k ps = part_with (earlier_in x k ps) x.section x.machine (align_in
 unfoldable pub parts_to : Inputs → ℕ → List Part
 parts_to x zero = []
 parts_to x (suc k) = parts_to x k ++ (part_behind x k (parts_to x k) ∷ [])
+
+-- all of them, as a section
+abbrev pub section_in : Inputs → Written
+section_in x = written_in (parts_to x (count_in x))

@@ -7,13 +7,14 @@ use Rattle.owners.specs.Chains.{Owned}
 use Rattle.records.specs.Stepped.{rows_in}
 use Rattle.dwarf.specs.declared.Table.{Table}
 use Rattle.dwarf.specs.Asks.{asked_in}
-use Rattle.dwarf.specs.Parts.{Inputs, count_in, extent_in, parts_to}
+use Rattle.header_keys.specs.Inputs.{Inputs, count_in, extent_in}
+use Rattle.dwarf.specs.Parts.{parts_to}
 use Rattle.dwarf.specs.Tables.{totals_in}
 
 -- function k passes questions 13 and 21 to 25
 pub record PassedAt (x : Inputs) (k : ℕ) : Type 0 where
   pub listed : T (function_ok_at x.functions x.rows x.landings x.pairs k)
-  pub asked : dwarf_asks x.section x.machine.word k (asked_in x.section x.functions x.rows x.pairs k) ≡ none
+  pub asked : dwarf_asks x.section x.machine.word k (asked_in x k) ≡ none
 
 -- the bytes of its rows with the steps between them
 abbrev pub rows_size : Inputs → ℕ → ℕ
@@ -27,5 +28,5 @@ FunctionSurveyed x k None = Unit {0}
 abbrev pub AllSurveyed : (x : Inputs) (owners : List ℕ) → Option Table → Type 0
 AllSurveyed x owners (Some t) =
     ((k : ℕ) → k < count_in x → PassedAt x k) × (t ≡ totals_in (parts_to x (count_in x)))
-    × Owned x.section x.machine x.functions x.rows (count_in x) owners
+    × Owned x (count_in x) owners
 AllSurveyed x owners None = Unit {0}

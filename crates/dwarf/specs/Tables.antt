@@ -1,5 +1,5 @@
 -- How much stands in the lent lists behind a pass, whether there is room, and what a function adds to them.
-use Rattle.std.specs.Prelude.{◌≡◌, ℕ, ◌+◌, ◌*◌, ◌^◌, ◌≤◌, ◌<◌, Bool, true, false, List, [], ◌∷◌, length, get_or, eqb}
+use Rattle.std.specs.Prelude.{ℕ, ◌+◌, ◌*◌, ◌^◌, ◌≤◌, ◌<◌, Bool, true, false, List, [], ◌∷◌, length, get_or, eqb}
 use Rattle.format.specs.Prelude.{pick}
 use Rattle.format.proofs.Wrote.{Wrote}
 use Rattle.format.specs.Lists.{numbers_of, field, function_stride, count, mark, sum_of, most_functions, most_records}
@@ -8,12 +8,13 @@ use Rattle.format.specs.declared.Counts.{Counts}
 use Rattle.format.specs.Writer.{Part}
 use Rattle.format.proofs.SectionSize.{Aligned}
 use Rattle.lists.specs.declared.Extent.{Extent}
-use Rattle.header_keys.specs.Functions.{Sound, LandingsReady, PairsReady}
+use Rattle.header_keys.specs.Functions.{Sound, LandingsReady, LabelsReady}
 use Rattle.headers.specs.Kinds.{EncodingFits}
 use Rattle.dwarf.specs.declared.Table.{Table}
 use Rattle.dwarf.specs.declared.Chosen.{Chosen}
 use Rattle.dwarf.specs.Pieces.{front_in, front_relocs, part_in}
-use Rattle.dwarf.specs.Parts.{Inputs, count_in, places_in, bytes_in, relocs_in, sites_in, part_behind, parts_to}
+use Rattle.header_keys.specs.Inputs.{Inputs, count_in}
+use Rattle.dwarf.specs.Parts.{places_in, bytes_in, relocs_in, sites_in, part_behind, parts_to}
 
 -- ---- sizes
 
@@ -45,14 +46,10 @@ pub record SizeReady (own debug : Bool) (m : Machine) (align : ℕ) (e : Extent)
   pub sound : Sound m e rows
   pub aligned : Aligned align
   pub landings_ready : LandingsReady e landings
-  pub pairs_ready : e.relaxed ≡ true → PairsReady e pairs
+  pub pairs_ready : LabelsReady e pairs
   pub small : Small (grown_by t (part_in own debug m align t.bytes 0 t.sites e rows landings pairs))
 
 -- a table's counts behind n header places, in the elements of the lent lists
--- the elements of the lent lists
-abbrev pub lent_in : (bytes relocs sites : List ℕ) → Table
-lent_in bytes relocs sites = record { bytes = length bytes; relocations = length relocs; sites = length sites }
-
 abbrev pub counts_of : (n : ℕ) → Table → Counts
 counts_of n t = record { places = n; bytes = t.bytes; relocations = t.relocations; sites = t.sites }
 
@@ -115,7 +112,7 @@ pub record PieceReady (own debug : Bool) (m : Machine) (align cie : ℕ) (e : Ex
   pub encoding_fits : EncodingFits e
   pub aligned : Aligned align
   pub landings_ready : LandingsReady e landings
-  pub pairs_ready : e.relaxed ≡ true → PairsReady e pairs
+  pub pairs_ready : LabelsReady e pairs
   pub near : cie ≤ t.bytes
   pub small : Small (grown_by t (part_in own debug m align t.bytes cie t.sites e rows landings pairs))
   pub bytes_fit : t.bytes + length (part_in own debug m align t.bytes cie t.sites e rows landings pairs).bytes ≤ length bytes

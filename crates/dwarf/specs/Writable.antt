@@ -1,18 +1,19 @@
 -- What the questions have made sure of before the passes: of each function, and of the whole.
-use Rattle.std.specs.Prelude.{◌≡◌, true, ℕ, suc, ◌^◌, ◌≤◌, ◌<◌, List, length, get_or}
+use Rattle.std.specs.Prelude.{◌≡◌, ℕ, suc, ◌^◌, ◌≤◌, ◌<◌, List, length, get_or}
 use Rattle.format.specs.Lists.{numbers_of, most_functions}
-use Rattle.header_keys.specs.Functions.{Sound, LandingsReady, PairsReady, Listed}
+use Rattle.header_keys.specs.Functions.{Sound, LandingsReady, LabelsReady, Listed}
 use Rattle.headers.specs.Kinds.{EncodingFits}
 use Rattle.dwarf.specs.declared.Table.{Table}
 use Rattle.dwarf.specs.Tables.{totals_in, most_in, Few, Covers, Holds}
-use Rattle.dwarf.specs.Parts.{Inputs, count_in, extent_in, places_in, bytes_in, relocs_in, sites_in, parts_to}
+use Rattle.header_keys.specs.Inputs.{Inputs, count_in, extent_in}
+use Rattle.dwarf.specs.Parts.{places_in, bytes_in, relocs_in, sites_in, parts_to}
 
 -- function k can be written, and what stands behind it is small
 pub record Writable (x : Inputs) (k : ℕ) : Type 0 where
   pub sound : Sound x.machine (extent_in x k) x.rows
   pub encoding_fits : EncodingFits (extent_in x k)
   pub landings_ready : LandingsReady (extent_in x k) x.landings
-  pub pairs_ready : (extent_in x k).relaxed ≡ true → PairsReady (extent_in x k) x.pairs
+  pub pairs_ready : LabelsReady (extent_in x k) x.pairs
   pub listed : Listed x.functions x.rows (suc k)
   pub bytes_few : length (bytes_in (parts_to x (suc k))) < 2 ^ 25
   pub relocs_few : length (numbers_of (relocs_in (parts_to x (suc k)))) < 2 ^ 25

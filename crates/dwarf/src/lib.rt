@@ -4,51 +4,38 @@
 ghost use Rattle.std.specs.Prelude.{◌≡◌, ℕ, ◌+◌, ◌*◌, ◌^◌, ◌≤◌, ◌<◌, true, not, [], T, ltb, eqb, length, get_or};
 ghost use Rattle.format.specs.Prelude.{all, each};
 ghost use Rattle.format.specs.Machine.{is_word_size};
-ghost use Rattle.format.specs.Rows.{row_whole};
-ghost use Rattle.format.specs.Lists.{field, pair_stride, function_stride, count, sum_of, most_records, row_at, pair_at};
+ghost use Rattle.format.specs.Lists.{field, function_stride, sum_of, most_functions, most_records, pair_at};
 ghost use Rattle.format.specs.Questions.{size_bytes, encodings_ok, steps_ok, pairs_ok, dwarf_asks, per_function, fitting, dwarf_given, given_of, room_in};
 ghost use Rattle.format.specs.Writer.{is_debug, align_for};
 ghost use Rattle.format.specs.Answers.{Writes};
 ghost use Rattle.format.proofs.Asked.{question_of};
-ghost use Rattle.format.proofs.Fits.{MachineFits};
-ghost use Rattle.lists.specs.Extents.{extent_at, meant};
+ghost use Rattle.lists.specs.Extents.{meant};
 ghost use Rattle.lists.specs.Parts.{sums_ok};
 ghost use Rattle.lists.specs.Room.{room_for};
-ghost use Rattle.format.proofs.SectionSize.{Aligned};
-ghost use Rattle.header_keys.specs.Functions.{taken_in, body_of, Sound, RowsReady, PairsReady};
-ghost use Rattle.dwarf.specs.Asks.{Askable, AllAskable, asked_in, listed_answer};
-ghost use Rattle.dwarf.specs.Parts.{inputs_of, extent_in, written_in, parts_to};
-ghost use Rattle.dwarf.specs.Writable.{Cleared, Next, PartReady};
-ghost use Rattle.dwarf.specs.Tables.{totals_in, grown_by, SizeReady, labelled_rows, most_in, Few, lent_in, counts_of, FrontReady, FrontStored, PieceReady, Stored, Added, Written, Holds, chosen_by};
-ghost use Rattle.owners.specs.Chains.{Owned, Enough, Unused};
-ghost use Rattle.records.specs.Stepped.{rows_in};
+ghost use Rattle.header_keys.specs.Functions.{body_of, Sound, PairsReady, LabelsReady};
+ghost use Rattle.header_keys.specs.Inputs.{inputs_of, count_in, extent_in, RowsIn, rows_of};
+ghost use Rattle.dwarf.specs.Asks.{Askable, AllAskable, whole_in, asked_in, listed_answer};
+ghost use Rattle.dwarf.specs.Parts.{parts_to, section_in};
+ghost use Rattle.dwarf.specs.Writable.{Writable, Cleared, Next};
+ghost use Rattle.dwarf.specs.Tables.{totals_in, grown_by, labelled_rows, most_in, Few, counts_of, chosen_by};
+ghost use Rattle.owners.specs.Lent.{LongFor, EmptyFor, OwnedIn};
 ghost use Rattle.dwarf.specs.Surveys.{rows_size, FunctionSurveyed, AllSurveyed};
-ghost use Rattle.dwarf.specs.Lent.{SameLists, room_of, WritesTo};
-ghost use Rattle.dwarf.specs.Pieces.{front_in, reloc_numbers, part_in};
+ghost use Rattle.dwarf.specs.Lent.{SameLists, room_of, lent_in, WritesTo, HasRoom, ReadyFor, AddsTo, FillsTo};
+ghost use Rattle.dwarf.specs.Functions.{WrittenAs, front_of, numbers_for, part_for, rows_bytes_of, CanSize, FrontFits, FrontWritten, PieceFits, PieceWritten};
 
 use format::{Counts, Machine, Refusal, Section};
-use header_keys::{Kind, kind_of, taken};
+use header_keys::written::{Function, Run};
+use header_keys::{Input, Kind, kind_of};
 use headers::{header, header_relocs, header_relocs_count, header_size, padding};
-use lists::{
-    Extent, MOST_FUNCTIONS, extent_at, functions_ok, machine_of, machine_ok, outline_ok, sums_ok,
-};
+use lists::{Extent, Labels, Lists, MOST_FUNCTIONS, machine_of, machine_ok, sums_ok};
 use numbers::pointer_size;
+use owners::Chains;
 use records::{
-    call_sites, call_sites_size, record, record_relocs, record_relocs_count, record_size,
+    Places, call_sites, call_sites_size, record, record_relocs, record_relocs_count, record_size,
     surveyed_rows,
 };
-use rows::{offset_at, row_at, row_surely_whole, row_whole};
-
-// What a section is written from: its kind, the machine, and the lists of functions, rows, landings and pairs.
-#[derive(Clone, Copy)]
-pub struct Input<'a> {
-    pub section: Section,
-    pub machine: Machine,
-    pub functions: &'a [u64],
-    pub rows: &'a [u64],
-    pub landings: &'a [u64],
-    pub pairs: &'a [u64],
-}
+use rows::row_numbers::RowNumbers;
+use rows::{offset_at, row_at, row_whole};
 
 // The lists that are lent for what is written: header places, bytes, relocations and call sites.
 #[derive(Drop)]
@@ -60,24 +47,17 @@ pub struct Output<'a> {
 }
 
 impl Output<'_> {
-    // How many elements the lists have, but for the header places.
-    fn lent(&self) -> Table
-        ensures { result ≡ lent_in self.now.bytes.now self.now.relocations.now self.now.sites.now }
+    // How many elements the lists have.
+    fn lent(&self) -> Counts
+        ensures { result ≡ lent_in self.now }
     {
-        Table {
-            bytes: self.bytes.len(),
-            relocations: self.relocations.len(),
-            sites: self.sites.len(),
+        Counts {
+            places: self.places.len() as u64,
+            bytes: self.bytes.len() as u64,
+            relocations: self.relocations.len() as u64,
+            sites: self.sites.len() as u64,
         }
     }
-}
-
-// The lists that the functions' owners are found in.
-#[derive(Drop)]
-pub struct Chains<'a> {
-    pub heads: &'a mut [u16],
-    pub links: &'a mut [u16],
-    pub owners: &'a mut [u16],
 }
 
 // ---- questions 21 to 25
@@ -97,44 +77,42 @@ fn word_holds(word: u64, size: u64) -> bool
 }
 
 // Question 21: a length fits its field.
-fn size_ok(s: Section, word: u64, size: u64) -> bool
-    requires { T (is_word_size word) }
-    ensures { result ≡ ltb size (256 ^ size_bytes s word) }
+fn size_ok(x: &Input, e: &Extent) -> bool
+    ensures { result ≡ ltb e.now.length (256 ^ size_bytes x.now.section x.now.machine.word) }
 {
-    match s {
-        Section::Elf => size < 4294967296,
-        Section::Debug => word_holds(word, size),
+    match x.section {
+        Section::Elf => e.length < 4294967296,
+        Section::Debug => word_holds(x.machine.word, e.length),
     }
 }
 
 // Question 22: the encodings that are used are written.
-fn encodings_ok(word: u64, e: Extent) -> bool
-    requires { 0 < word }
-    ensures { result ≡ encodings_ok word (body_of e []).landings (body_of e []).named }
+fn encodings_ok(x: &Input, e: &Extent) -> bool
+    ensures { result ≡ encodings_ok x.now.machine.word (body_of e.now []).landings (body_of e.now []).named }
 {
     match kind_of(e) {
         Kind::Plain => true,
         Kind::Personal => true,
-        Kind::Named => {
-            if pointer_size(true, word, e.encoding).is_none() {
+        Kind::Named(p) => {
+            if pointer_size(true, x.machine.word, p.encoding).is_none() {
                 return false;
             }
-            if !e.lsda {
-                return true;
+            match p.lsda {
+                Some(l) => pointer_size(false, x.machine.word, l.encoding).is_some(),
+                None => true,
             }
-            pointer_size(false, word, e.lsda_encoding).is_some()
         }
     }
 }
 
 // Question 23: no row goes back, nor steps above 2^32 - 1.
-fn steps_ok(rows: &[u64], at: usize, n: usize) -> bool
-    requires { RowsReady rows.now at n }
-    ensures { result ≡ steps_ok 0 (each (row_at rows.now) at n) }
+fn steps_ok(x: &Input, e: &Extent) -> bool
+    requires { RowsIn (inputs_of x.now) e.now }
+    ensures { result ≡ steps_ok 0 (rows_of (inputs_of x.now) e.now) }
 {
     let mut from = 0;
-    for i in at..at + n {
-        let to = offset_at(rows, i);
+    for i in e.rows_at..e.rows_at + e.rows {
+        let to = offset_at(x.lists.rows, i);
         if to < from {
             return false;
         }
@@ -147,25 +125,27 @@ fn steps_ok(rows: &[u64], at: usize, n: usize) -> bool
 }
 
 // Question 24: each offset that is written factored is a multiple of the word.
-fn rows_whole(word: u64, rows: &[u64], at: usize, n: usize) -> bool
-    requires { (0 < word) × RowsReady rows.now at n }
-    ensures { result ≡ all (λ x. row_whole word x.1) (each (row_at rows.now) at n) }
+fn rows_whole(x: &Input, e: &Extent) -> bool
+    requires { RowsIn (inputs_of x.now) e.now }
+    ensures { result ≡ whole_in (inputs_of x.now) e.now }
 {
-    for i in at..at + n {
-        if !row_whole(word, row_at(rows, i)) {
+    for i in e.rows_at..e.rows_at + e.rows {
+        if !row_whole(x.machine.word, row_at(x.lists.rows, i)) {
             return false;
         }
     }
     true
 }
 
-// Questions 23 and 24 in one pass, asked for more. A no says nothing.
-fn lines_fine(word: u64, rows: &[u64], at: usize, n: usize) -> bool
-    requires { T (is_word_size word) × RowsReady rows.now at n }
-    ensures { result ≡ true → (steps_ok 0 (each (row_at rows.now) at n) ≡ true) × (all (λ x. row_whole word x.1) (each (row_at rows.now) at n) ≡ true) }
+// Questions 23 and 24 in one pass, asked for more. A no says nothing. With the word in a local the compiler tests it once.
+fn lines_fine(x: &Input, e: &Extent) -> bool
+    requires { RowsIn (inputs_of x.now) e.now }
+    ensures { result ≡ true → (steps_ok 0 (rows_of (inputs_of x.now) e.now) ≡ true) × (whole_in (inputs_of x.now) e.now ≡ true) }
 {
+    let word = x.machine.word;
+    let rows = x.lists.rows;
     let mut from = 0;
-    for i in at..at + n {
+    for i in e.rows_at..e.rows_at + e.rows {
         let to = offset_at(rows, i);
         if to < from {
             return false;
@@ -173,7 +153,7 @@ fn lines_fine(word: u64, rows: &[u64], at: usize, n: usize) -> bool
         if rows::STEPS <= to - from {
             return false;
         }
-        if !row_surely_whole(word, rows, i) {
+        if !RowNumbers::at(rows, i).surely_whole(word) {
             return false;
         }
         from = to;
@@ -182,18 +162,18 @@ fn lines_fine(word: u64, rows: &[u64], at: usize, n: usize) -> bool
 }
 
 // Question 23, asked where it is not known that all is fine; and question 24.
-fn steps_asked(fine: bool, rows: &[u64], at: usize, n: usize) -> bool
-    requires { RowsReady rows.now at n × (fine ≡ true → steps_ok 0 (each (row_at rows.now) at n) ≡ true) }
-    ensures { result ≡ steps_ok 0 (each (row_at rows.now) at n) }
+fn steps_asked(fine: bool, x: &Input, e: &Extent) -> bool
+    requires { RowsIn (inputs_of x.now) e.now × (fine ≡ true → steps_ok 0 (rows_of (inputs_of x.now) e.now) ≡ true) }
+    ensures { result ≡ steps_ok 0 (rows_of (inputs_of x.now) e.now) }
 {
-    fine || steps_ok(rows, at, n)
+    fine || steps_ok(x, e)
 }
 
-fn whole_asked(fine: bool, word: u64, rows: &[u64], at: usize, n: usize) -> bool
-    requires { (0 < word) × RowsReady rows.now at n × (fine ≡ true → all (λ x. row_whole word x.1) (each (row_at rows.now) at n) ≡ true) }
-    ensures { result ≡ all (λ x. row_whole word x.1) (each (row_at rows.now) at n) }
+fn whole_asked(fine: bool, x: &Input, e: &Extent) -> bool
+    requires { RowsIn (inputs_of x.now) e.now × (fine ≡ true → whole_in (inputs_of x.now) e.now ≡ true) }
+    ensures { result ≡ whole_in (inputs_of x.now) e.now }
 {
-    fine || rows_whole(word, rows, at, n)
+    fine || rows_whole(x, e)
 }
 
 // The two places of pair i are different.
@@ -205,62 +185,55 @@ fn pair_differs(pairs: &[u64], i: usize) -> bool
 }
 
 // Question 25: the two places of each pair are different.
-fn pairs_differ(pairs: &[u64], at: usize, n: usize) -> bool
-    requires { at + n ≤ count pair_stride pairs.now }
-    ensures { result ≡ all (λ p. not (eqb p.place1 p.place2)) (each (pair_at pairs.now) at n) }
+fn pairs_differ(x: &Input, l: &Labels) -> bool
+    requires { PairsReady l.now x.now.lists.pairs.now }
+    ensures { result ≡ all (λ p. not (eqb p.place1 p.place2)) (each (pair_at x.now.lists.pairs.now) l.now.pairs_at l.now.pairs) }
 {
-    (at..at + n).all(|i| pair_differs(pairs, i))
+    (l.pairs_at..l.pairs_at + l.pairs).all(|i| pair_differs(x.lists.pairs, i))
 }
 
 // Question 25 of a function, where it has relaxing labels.
-fn pairs_ok(e: Extent, pairs: &[u64]) -> bool
-    requires { e.relaxed ≡ true → PairsReady e pairs.now }
-    ensures { result ≡ pairs_ok (meant e [] [] pairs.now).relaxed }
+fn pairs_ok(x: &Input, e: &Extent) -> bool
+    requires { LabelsReady e.now x.now.lists.pairs.now }
+    ensures { result ≡ pairs_ok (meant e.now [] [] x.now.lists.pairs.now).relaxed }
 {
-    if !e.relaxed {
-        return true;
+    match e.relaxed {
+        Some(l) => pairs_differ(x, &l),
+        None => true,
     }
-    pairs_differ(pairs, e.pairs_at, e.pairs)
 }
 
 // Questions 21 to 25 of function k, as the section takes it.
-fn dwarf_asks(
-    s: Section,
-    word: u64,
-    k: usize,
-    e: Extent,
-    rows: &[u64],
-    pairs: &[u64],
-) -> Result<(), Refusal>
-    requires { T (is_word_size word) × Askable e rows.now pairs.now }
-    ensures { result ≡ question_of (dwarf_asks s word k (meant e rows.now [] pairs.now)) }
+fn dwarf_asks(x: &Input, k: usize, e: &Extent) -> Result<(), Refusal>
+    requires { Askable e.now x.now.lists.rows.now x.now.lists.pairs.now }
+    ensures { result ≡ question_of (dwarf_asks x.now.section x.now.machine.word k (meant e.now x.now.lists.rows.now [] x.now.lists.pairs.now)) }
 {
-    if !size_ok(s, word, e.length) {
+    if !size_ok(x, e) {
         return Err(Refusal {
             number: 21,
             position: k as u64,
         });
     }
-    if !encodings_ok(word, e) {
+    if !encodings_ok(x, e) {
         return Err(Refusal {
             number: 22,
             position: k as u64,
         });
     }
-    let fine = lines_fine(word, rows, e.rows_at, e.rows);
-    if !steps_asked(fine, rows, e.rows_at, e.rows) {
+    let fine = lines_fine(x, e);
+    if !steps_asked(fine, x, e) {
         return Err(Refusal {
             number: 23,
             position: k as u64,
         });
     }
-    if !whole_asked(fine, word, rows, e.rows_at, e.rows) {
+    if !whole_asked(fine, x, e) {
         return Err(Refusal {
             number: 24,
             position: k as u64,
         });
     }
-    if !pairs_ok(e, pairs) {
+    if !pairs_ok(x, e) {
         return Err(Refusal {
             number: 25,
             position: k as u64,
@@ -271,13 +244,13 @@ fn dwarf_asks(
 
 // Questions 21 to 25, function by function.
 fn all_asks(x: &Input) -> Result<(), Refusal>
-    requires { T (is_word_size x.now.machine.word) × AllAskable x.now.section x.now.functions.now x.now.rows.now x.now.pairs.now }
-    ensures { result ≡ question_of (per_function (dwarf_asks x.now.section x.now.machine.word) 0 (each (asked_in x.now.section x.now.functions.now x.now.rows.now x.now.pairs.now) 0 (count function_stride x.now.functions.now))) }
+    requires { AllAskable (inputs_of x.now) }
+    ensures { result ≡ question_of (per_function (dwarf_asks x.now.section x.now.machine.word) 0 (each (asked_in (inputs_of x.now)) 0 (count_in (inputs_of x.now)))) }
 {
-    let n = x.functions.len() / lists::FUNCTION_STRIDE;
+    let n = x.lists.count();
     for k in 0..n {
-        let e = taken(x.section, extent_at(x.functions, k));
-        dwarf_asks(x.section, x.machine.word, k, e, x.rows, x.pairs)?;
+        let e = x.function(k);
+        dwarf_asks(x, k, &e)?;
     }
     Ok(())
 }
@@ -330,79 +303,88 @@ fn align_for(s: Section, word: u64, last: bool) -> usize
     }
 }
 
+// Function k as the section writes it, the last one or not.
+fn written<'a>(x: &'a Input, k: usize, last: bool) -> Function<'a>
+    requires { Writable (inputs_of x.now) k }
+    ensures { WrittenAs (inputs_of x.now) k last result }
+{
+    Function {
+        debug: is_debug(x.section),
+        machine: &x.machine,
+        align: align_for(x.section, x.machine.word, last),
+        extent: x.function(k),
+        rows: x.lists.rows,
+    }
+}
+
 // The bytes of a function's own header, where it has one.
-fn front_size(
-    own: bool,
-    debug: bool,
-    m: Machine,
-    align: usize,
-    at: usize,
-    e: Extent,
-    rows: &[u64],
-) -> usize
-    requires { Sound m e rows.now × Aligned align × (at < 2 ^ 32) }
-    ensures { result ≡ length (front_in own debug m align at e rows.now) }
+fn front_size(own: bool, f: &Function, at: usize) -> usize
+    requires { at < 2 ^ 32 }
+    ensures { result ≡ length (front_of own f.now at) }
 {
     if own {
-        return header_size(debug, m, align, at, e, rows);
+        return header_size(f, at);
     }
     0
 }
 
 // The numbers of a function's relocations, five each.
-fn relocs_size(own: bool, debug: bool, m: Machine, e: Extent, rows: &[u64], pairs: &[u64]) -> usize
-    requires { Sound m e rows.now × (e.relaxed ≡ true → PairsReady e pairs.now) }
-    ensures { result ≡ reloc_numbers own debug m e rows.now pairs.now }
+fn relocs_size(own: bool, f: &Function, pairs: &[u64]) -> usize
+    requires { LabelsReady f.now.extent pairs.now }
+    ensures { result ≡ numbers_for own f.now pairs.now }
 {
-    let n = record_relocs_count(debug, m, e, rows, pairs);
+    let n = record_relocs_count(f, pairs);
     if own {
-        return relocs::RELOCATION_STRIDE * (header_relocs_count(debug, e) + n);
+        return relocs::RELOCATION_STRIDE * (header_relocs_count(f.debug, &f.extent) + n);
     }
     relocs::RELOCATION_STRIDE * n
 }
 
 // What stands behind a function that is behind t and whose rows have `size` bytes. The place of a header that it does not own
 // does not matter.
-fn sized(x: &Input, size: usize, own: bool, align: usize, e: Extent, t: Table) -> Table
-    requires { SizeReady own (is_debug x.now.section) x.now.machine align e t x.now.rows.now x.now.landings.now x.now.pairs.now × (size ≡ length (rows_in x.now.machine.word 0 x.now.rows.now e.rows_at e.rows)) }
-    ensures { result ≡ grown_by t (part_in own (is_debug x.now.section) x.now.machine align t.bytes 0 t.sites e x.now.rows.now x.now.landings.now x.now.pairs.now) }
+fn sized(lists: &Lists, size: usize, own: bool, f: &Function, t: Table) -> Table
+    requires { CanSize own f.now lists.now t × (size ≡ length (rows_bytes_of f.now)) }
+    ensures { result ≡ grown_by t (part_for own f.now lists.now t 0) }
 {
-    let debug = is_debug(x.section);
-    let m = x.machine;
-    let behind = t.bytes + front_size(own, debug, m, align, t.bytes, e, x.rows);
+    let behind = t.bytes + front_size(own, f, t.bytes);
     Table {
-        bytes: behind + record_size(debug, m, align, behind, e, x.rows, size),
-        relocations: t.relocations + relocs_size(own, debug, m, e, x.rows, x.pairs),
-        sites: t.sites + call_sites_size(t.sites, e, x.landings),
+        bytes: behind + record_size(f, behind, size),
+        relocations: t.relocations + relocs_size(own, f, lists.pairs),
+        sites: t.sites + call_sites_size(t.sites, &f.extent, lists.landings),
     }
 }
 
 // What stands behind function k of n, behind t, where its rows have `size` bytes.
 fn size_next(x: &Input, chains: &Chains, k: usize, n: usize, size: usize, t: Table) -> Table
-    requires { Next (inputs_of x.now) k n t × Owned x.now.section x.now.machine x.now.functions.now x.now.rows.now (k + 1) chains.now.owners.now × (size ≡ rows_size (inputs_of x.now) k) }
+    requires { Next (inputs_of x.now) k n t × OwnedIn (inputs_of x.now) (k + 1) chains.now × (size ≡ rows_size (inputs_of x.now) k) }
     ensures { result ≡ totals_in (parts_to (inputs_of x.now) (k + 1)) }
 {
-    let e = taken(x.section, extent_at(x.functions, k));
     let own = usize::from(chains.owners[k]) == k;
-    let align = align_for(x.section, x.machine.word, k + 1 == n);
-    sized(x, size, own, align, e, t)
+    let f = written(x, k, k + 1 == n);
+    sized(&x.lists, size, own, &f, t)
 }
 
 // The bytes of function k's rows, with the steps between them.
 fn rows_size(x: &Input, k: usize) -> usize
-    requires { (18 * k + 18 ≤ length x.now.functions.now) × Sound x.now.machine (extent_in (inputs_of x.now) k) x.now.rows.now }
+    requires { (18 * k + 18 ≤ length x.now.lists.functions.now) × Sound x.now.machine (extent_in (inputs_of x.now) k) x.now.lists.rows.now }
     ensures { result ≡ rows_size (inputs_of x.now) k }
 {
-    let e = taken(x.section, extent_at(x.functions, k));
-    records::stepped_rows_size(x.machine.word, x.rows, e.rows_at, e.rows)
+    let e = x.function(k);
+    let run = Run {
+        word: x.machine.word,
+        rows: x.lists.rows,
+        at: e.rows_at,
+        n: e.rows,
+    };
+    records::stepped_rows_size(&run)
 }
 
 // What stands behind all functions.
 fn sizes(x: &Input, chains: &Chains) -> Table
-    requires { Cleared (inputs_of x.now) × Owned x.now.section x.now.machine x.now.functions.now x.now.rows.now (count function_stride x.now.functions.now) chains.now.owners.now }
-    ensures { result ≡ totals_in (parts_to (inputs_of x.now) (count function_stride x.now.functions.now)) }
+    requires { Cleared (inputs_of x.now) × OwnedIn (inputs_of x.now) (count_in (inputs_of x.now)) chains.now }
+    ensures { result ≡ totals_in (parts_to (inputs_of x.now) (count_in (inputs_of x.now))) }
 {
-    let n = x.functions.len() / lists::FUNCTION_STRIDE;
+    let n = x.lists.count();
     let mut t = Table::NOTHING;
     for k in 0..n {
         let size = rows_size(x, k);
@@ -414,53 +396,44 @@ fn sizes(x: &Input, chains: &Chains) -> Table
 // ---- questions, owners and sizes in one pass
 
 // Questions 21, 22 and 25 of a function, as the section takes it.
-fn fields_ok(s: Section, word: u64, e: Extent, pairs: &[u64]) -> bool
-    requires { T (is_word_size word) × (e.relaxed ≡ true → PairsReady e pairs.now) }
-    ensures { result ≡ true → (ltb e.length (256 ^ size_bytes s word) ≡ true) × (encodings_ok word (body_of e []).landings (body_of e []).named ≡ true) × (pairs_ok (meant e [] [] pairs.now).relaxed ≡ true) }
+fn fields_ok(x: &Input, e: &Extent) -> bool
+    requires { LabelsReady e.now x.now.lists.pairs.now }
+    ensures { result ≡ true → (ltb e.now.length (256 ^ size_bytes x.now.section x.now.machine.word) ≡ true) × (encodings_ok x.now.machine.word (body_of e.now []).landings (body_of e.now []).named ≡ true) × (pairs_ok (meant e.now [] [] x.now.lists.pairs.now).relaxed ≡ true) }
 {
-    if !size_ok(s, word, e.length) {
+    if !size_ok(x, e) {
         return false;
     }
-    if !encodings_ok(word, e) {
+    if !encodings_ok(x, e) {
         return false;
     }
-    pairs_ok(e, pairs)
+    pairs_ok(x, e)
 }
 
 // The bytes of function k's rows, where it passes questions 13 and 21 to 25. None says nothing.
 fn function_surveyed(x: &Input, k: usize) -> Option<usize>
-    requires { MachineFits x.now.machine × T (sums_ok x.now.functions.now) × (k < count function_stride x.now.functions.now) }
+    requires { T (sums_ok x.now.lists.functions.now) × (k < count_in (inputs_of x.now)) }
     ensures { FunctionSurveyed (inputs_of x.now) k result }
 {
-    if !outline_ok(x.functions, x.rows, x.landings, x.pairs, k) {
+    if !x.lists.outline_ok(k) {
         return None;
     }
-    let e = taken(x.section, extent_at(x.functions, k));
-    if !fields_ok(x.section, x.machine.word, e, x.pairs) {
+    let e = x.function(k);
+    if !fields_ok(x, &e) {
         return None;
     }
-    surveyed_rows(x.machine.word, x.rows, e.rows_at, e.rows)
+    surveyed_rows(x.machine.word, x.lists.rows, e.rows_at, e.rows)
 }
 
 // The functions' owners, and what stands behind the functions, where all pass questions 13 and 21 to 25. None says nothing.
 fn survey(x: &Input, chains: &mut Chains) -> Option<Table>
-    requires { MachineFits x.now.machine × T (sums_ok x.now.functions.now) × Unused (count function_stride x.now.functions.now) chains.old.heads.now chains.old.links.now chains.old.owners.now }
-    ensures { AllSurveyed (inputs_of x.now) chains.new.owners.now result × Enough (count function_stride x.now.functions.now) (length chains.new.heads.now) chains.new.links.now chains.new.owners.now }
+    requires { T (sums_ok x.now.lists.functions.now) × EmptyFor (count_in (inputs_of x.now)) chains.old }
+    ensures { AllSurveyed (inputs_of x.now) chains.new.owners.now result × LongFor (count_in (inputs_of x.now)) chains.new }
 {
-    let n = x.functions.len() / lists::FUNCTION_STRIDE;
+    let n = x.lists.count();
     let mut t = Table::NOTHING;
     for k in 0..n {
         let size = function_surveyed(x, k)?;
-        owners::find_owner(
-            x.section,
-            x.machine,
-            x.functions,
-            x.rows,
-            k,
-            chains.heads,
-            chains.links,
-            chains.owners,
-        );
+        owners::find_owner(x, k, chains);
         t = size_next(x, chains, k, n, size, t);
     }
     Some(t)
@@ -468,16 +441,24 @@ fn survey(x: &Input, chains: &mut Chains) -> Option<Table>
 
 // ---- what the functions can be at most
 
-// Number j of n functions, summed.
-fn total(fs: &[u64], j: usize, n: usize) -> u64
-    requires { (j < 18) × (18 * n ≤ length fs.now) × (sum_of (λ k. field function_stride fs.now k j) 0 n ≤ most_records) }
-    ensures { result ≡ sum_of (λ k. field function_stride fs.now k j) 0 n }
+// What `number` says of each of n functions, summed.
+fn summed<F: Fn(usize) -> u64>(number: F, n: usize) -> u64
+    requires { (n ≤ most_functions) × ((k : ℕ) → k < n → F.pre number k) × ((k v : ℕ) → k < n → F.post number k v → v ≤ most_records) }
+    ensures { (of : ℕ → ℕ) → ((k v : ℕ) → k < n → F.post number k v → v ≡ of k) → result ≡ sum_of of 0 n }
 {
     let mut sum = 0;
     for k in 0..n {
-        sum += fs[lists::FUNCTION_STRIDE * k + j];
+        sum += number(k);
     }
     sum
+}
+
+// Number j of n functions, summed.
+fn total(fs: &[u64], j: usize, n: usize) -> u64
+    requires { (j < 18) × (18 * n ≤ length fs.now) × (n ≤ most_functions) × (sum_of (λ k. field function_stride fs.now k j) 0 n ≤ most_records) }
+    ensures { result ≡ sum_of (λ k. field function_stride fs.now k j) 0 n }
+{
+    summed(|k| fs[lists::FUNCTION_STRIDE * k + j], n)
 }
 
 // The rows of function k, where it has relaxing labels.
@@ -493,14 +474,10 @@ fn labelled_rows(fs: &[u64], k: usize) -> u64
 
 // Those of n functions, summed.
 fn labelled_total(fs: &[u64], n: usize) -> u64
-    requires { (18 * n ≤ length fs.now) × (sum_of (labelled_rows fs.now) 0 n ≤ most_records) }
+    requires { (18 * n ≤ length fs.now) × (n ≤ most_functions) × (sum_of (labelled_rows fs.now) 0 n ≤ most_records) }
     ensures { result ≡ sum_of (labelled_rows fs.now) 0 n }
 {
-    let mut sum = 0;
-    for k in 0..n {
-        sum += labelled_rows(fs, k);
-    }
-    sum
+    summed(|k| labelled_rows(fs, k), n)
 }
 
 // What stands behind all functions, at most.
@@ -528,19 +505,19 @@ fn counts(n: usize, t: Table) -> Counts
     }
 }
 
-// Questions 51 to 54: n header places and t fit the lists that are lent, of `places` elements and as many as `lent` says.
-fn room(n: usize, t: Table, places: usize, lent: Table) -> Result<(), Refusal>
-    ensures { result ≡ question_of (room_for (counts_of n t) (counts_of places lent)) }
+// Questions 51 to 54: n header places and t fit the lists that are lent.
+fn room(n: usize, t: Table, lent: Counts) -> Result<(), Refusal>
+    ensures { result ≡ question_of (room_for (counts_of n t) lent) }
 {
-    lists::room(counts(n, t), counts(places, lent))
+    lists::room(counts(n, t), lent)
 }
 
 // ---- the writing pass
 
 // A function's own header with its relocation, where it has one.
-fn front(x: &Input, own: bool, align: usize, e: Extent, t: Table, to: &mut Output) -> Table
-    requires { FrontReady own (is_debug x.now.section) x.now.machine align e t x.now.rows.now to.old.bytes.now to.old.relocations.now }
-    ensures stored { FrontStored own (is_debug x.now.section) x.now.machine align e t result x.now.rows.now to.old.bytes.now to.new.bytes.now to.old.relocations.now to.new.relocations.now }
+fn front(own: bool, f: &Function, t: Table, to: &mut Output) -> Table
+    requires { FrontFits own f.now t to.old }
+    ensures stored { FrontWritten own f.now t result to.old to.new }
     ensures sites_kept { to.new.sites.now ≡ to.old.sites.now }
     ensures places_kept { to.new.places.now ≡ to.old.places.now }
     ensures same { SameLists to.old to.new }
@@ -548,9 +525,15 @@ fn front(x: &Input, own: bool, align: usize, e: Extent, t: Table, to: &mut Outpu
     if !own {
         return t;
     }
-    let debug = is_debug(x.section);
-    let at = header(to.bytes, t.bytes, debug, x.machine, align, e, x.rows);
-    let i = header_relocs(to.relocations, t.relocations, debug, x.machine, t.bytes, e);
+    let at = header(to.bytes, t.bytes, f);
+    let i = header_relocs(
+        to.relocations,
+        t.relocations,
+        f.debug,
+        f.machine,
+        t.bytes,
+        &f.extent,
+    );
     Table {
         bytes: at,
         relocations: i,
@@ -559,29 +542,21 @@ fn front(x: &Input, own: bool, align: usize, e: Extent, t: Table, to: &mut Outpu
 }
 
 // A function's part behind t: its own header, where it has one, its record and its call sites.
-fn piece(x: &Input, c: Chosen, align: usize, e: Extent, t: Table, to: &mut Output) -> Table
-    requires { PieceReady c.own (is_debug x.now.section) x.now.machine align c.cie e t x.now.rows.now x.now.landings.now x.now.pairs.now to.old.bytes.now to.old.relocations.now to.old.sites.now }
-    ensures stored { Stored (part_in c.own (is_debug x.now.section) x.now.machine align t.bytes c.cie t.sites e x.now.rows.now x.now.landings.now x.now.pairs.now) t result to.old.bytes.now to.new.bytes.now to.old.relocations.now to.new.relocations.now to.old.sites.now to.new.sites.now }
+fn piece(lists: &Lists, c: Chosen, f: &Function, t: Table, to: &mut Output) -> Table
+    requires { PieceFits c f.now lists.now t to.old }
+    ensures stored { PieceWritten c f.now lists.now t result to.old to.new }
     ensures places_kept { to.new.places.now ≡ to.old.places.now }
     ensures same { SameLists to.old to.new }
 {
-    let debug = is_debug(x.section);
-    let u = front(x, c.own, align, e, t, to);
-    let at = record(to.bytes, u.bytes, debug, x.machine, align, c.cie, e, x.rows);
-    let table = t.sites + padding(4, t.sites);
-    let i = record_relocs(
-        to.relocations,
-        u.relocations,
-        debug,
-        x.machine,
-        u.bytes,
-        c.cie,
-        table,
-        e,
-        x.rows,
-        x.pairs,
-    );
-    let end = call_sites(to.sites, t.sites, e, x.landings);
+    let u = front(c.own, f, t, to);
+    let at = record(to.bytes, u.bytes, f, c.cie);
+    let p = Places {
+        at: u.bytes,
+        cie: c.cie,
+        table: t.sites + padding(4, t.sites),
+    };
+    let i = record_relocs(to.relocations, u.relocations, f, &p, lists.pairs);
+    let end = call_sites(to.sites, t.sites, &f.extent, lists.landings);
     Table {
         bytes: at,
         relocations: i,
@@ -606,22 +581,21 @@ fn header_for(k: usize, at: usize, chains: &Chains, to: &Output) -> Chosen
 
 // Function k of n, behind t.
 fn part(x: &Input, chains: &Chains, k: usize, n: usize, t: Table, to: &mut Output) -> Table
-    requires { PartReady (inputs_of x.now) k n t to.old.places.now to.old.bytes.now to.old.relocations.now to.old.sites.now × Owned x.now.section x.now.machine x.now.functions.now x.now.rows.now (k + 1) chains.now.owners.now }
-    ensures { Added (inputs_of x.now) k t result to.old.places.now to.new.places.now to.old.bytes.now to.new.bytes.now to.old.relocations.now to.new.relocations.now to.old.sites.now to.new.sites.now × SameLists to.old to.new }
+    requires { ReadyFor (inputs_of x.now) k n t to.old × OwnedIn (inputs_of x.now) (k + 1) chains.now }
+    ensures { AddsTo (inputs_of x.now) k t result to.old to.new }
 {
-    let e = taken(x.section, extent_at(x.functions, k));
     let c = header_for(k, t.bytes, chains, to);
-    let align = align_for(x.section, x.machine.word, k + 1 == n);
     to.places[k] = c.cie as u64;
-    piece(x, c, align, e, t, to)
+    let f = written(x, k, k + 1 == n);
+    piece(&x.lists, c, &f, t, to)
 }
 
 // All functions.
 fn store(x: &Input, chains: &Chains, to: &mut Output) -> Table
-    requires { Cleared (inputs_of x.now) × Holds (inputs_of x.now) (count function_stride x.now.functions.now) to.old.places.now to.old.bytes.now to.old.relocations.now to.old.sites.now × Owned x.now.section x.now.machine x.now.functions.now x.now.rows.now (count function_stride x.now.functions.now) chains.now.owners.now }
-    ensures { Written (inputs_of x.now) (count function_stride x.now.functions.now) result to.old.places.now to.new.places.now to.old.bytes.now to.new.bytes.now to.old.relocations.now to.new.relocations.now to.old.sites.now to.new.sites.now × SameLists to.old to.new }
+    requires { Cleared (inputs_of x.now) × HasRoom (inputs_of x.now) (count_in (inputs_of x.now)) to.old × OwnedIn (inputs_of x.now) (count_in (inputs_of x.now)) chains.now }
+    ensures { FillsTo (inputs_of x.now) (count_in (inputs_of x.now)) result to.old to.new }
 {
-    let functions = x.functions.len() / lists::FUNCTION_STRIDE;
+    let functions = x.lists.count();
     let mut t = Table::NOTHING;
     for k in 0..functions {
         t = part(x, chains, k, functions, t, to);
@@ -633,10 +607,10 @@ fn store(x: &Input, chains: &Chains, to: &mut Output) -> Table
 
 // The functions written into lists that have room for them.
 fn stored(x: &Input, chains: &Chains, to: &mut Output) -> Result<Option<Counts>, Refusal>
-    requires { Cleared (inputs_of x.now) × Holds (inputs_of x.now) (count function_stride x.now.functions.now) to.old.places.now to.old.bytes.now to.old.relocations.now to.old.sites.now × Owned x.now.section x.now.machine x.now.functions.now x.now.rows.now (count function_stride x.now.functions.now) chains.now.owners.now }
-    ensures { WritesTo (fitting (room_of to.old) (written_in (parts_to (inputs_of x.now) (count function_stride x.now.functions.now)))) result to.old to.new }
+    requires { Cleared (inputs_of x.now) × HasRoom (inputs_of x.now) (count_in (inputs_of x.now)) to.old × OwnedIn (inputs_of x.now) (count_in (inputs_of x.now)) chains.now }
+    ensures { WritesTo (fitting (room_of to.old) (section_in (inputs_of x.now))) result to.old to.new }
 {
-    let n = x.functions.len() / lists::FUNCTION_STRIDE;
+    let n = x.lists.count();
     let t = store(x, chains, to);
     Ok(Some(Counts {
         places: n as u64,
@@ -648,52 +622,12 @@ fn stored(x: &Input, chains: &Chains, to: &mut Output) -> Result<Option<Counts>,
 
 // The functions written where there is room for t, which stands behind them.
 fn roomed(x: &Input, chains: &Chains, t: Table, to: &mut Output) -> Result<Option<Counts>, Refusal>
-    requires { Cleared (inputs_of x.now) × Owned x.now.section x.now.machine x.now.functions.now x.now.rows.now (count function_stride x.now.functions.now) chains.now.owners.now × (t ≡ totals_in (parts_to (inputs_of x.now) (count function_stride x.now.functions.now))) }
-    ensures { WritesTo (fitting (room_of to.old) (written_in (parts_to (inputs_of x.now) (count function_stride x.now.functions.now)))) result to.old to.new }
+    requires { Cleared (inputs_of x.now) × OwnedIn (inputs_of x.now) (count_in (inputs_of x.now)) chains.now × (t ≡ totals_in (parts_to (inputs_of x.now) (count_in (inputs_of x.now)))) }
+    ensures { WritesTo (fitting (room_of to.old) (section_in (inputs_of x.now))) result to.old to.new }
 {
-    let n = x.functions.len() / lists::FUNCTION_STRIDE;
-    room(n, t, to.places.len(), to.lent())?;
+    let n = x.lists.count();
+    room(n, t, to.lent())?;
     stored(x, chains, to)
-}
-
-// The functions written where there is room; their owners are found first, in the lists lent for that. Lists that hold all
-// that functions like these can be save the pass that sizes them.
-fn fitted(x: &Input, chains: &mut Chains, to: &mut Output) -> Result<Option<Counts>, Refusal>
-    requires { Cleared (inputs_of x.now) × Unused (count function_stride x.now.functions.now) chains.old.heads.now chains.old.links.now chains.old.owners.now }
-    ensures { WritesTo (fitting (room_of to.old) (written_in (parts_to (inputs_of x.now) (count function_stride x.now.functions.now)))) result to.old to.new }
-{
-    let n = x.functions.len() / lists::FUNCTION_STRIDE;
-    owners::owners(
-        x.section,
-        x.machine,
-        x.functions,
-        x.rows,
-        n,
-        chains.heads,
-        chains.links,
-        chains.owners,
-    );
-    if room(n, most(x.functions), to.places.len(), to.lent()).is_err() {
-        let t = sizes(x, chains);
-        return roomed(x, chains, t, to);
-    }
-    stored(x, chains, to)
-}
-
-// Every question asked by itself, and the functions written where there is room.
-fn asked(x: &Input, chains: &mut Chains, to: &mut Output) -> Result<Option<Counts>, Refusal>
-    requires { MachineFits x.now.machine × T (sums_ok x.now.functions.now) × Unused (count function_stride x.now.functions.now) chains.old.heads.now chains.old.links.now chains.old.owners.now }
-    ensures { WritesTo (listed_answer x.now.section x.now.machine x.now.functions.now x.now.rows.now x.now.landings.now x.now.pairs.now (room_of to.old)) result to.old to.new }
-{
-    let n = x.functions.len() / lists::FUNCTION_STRIDE;
-    if !functions_ok(x.functions, x.rows, x.landings, x.pairs, n) {
-        return Err(Refusal {
-            number: 13,
-            position: 0,
-        });
-    }
-    all_asks(x)?;
-    fitted(x, chains, to)
 }
 
 // The chains of owners empty again.
@@ -704,29 +638,62 @@ fn unchain(heads: &mut [u16])
 }
 
 // The lists that are lent hold whatever such functions can be, so that sizes are not needed.
-fn ample(fs: &[u64], places: usize, lent: Table) -> bool
+fn ample(fs: &[u64], lent: Counts) -> bool
     requires { Few fs.now }
 {
-    room(fs.len() / lists::FUNCTION_STRIDE, most(fs), places, lent).is_ok()
+    room(fs.len() / lists::FUNCTION_STRIDE, most(fs), lent).is_ok()
 }
 
 // The one pass, where sizes are needed.
-fn tried(x: &Input, places: usize, lent: Table, chains: &mut Chains) -> Option<Table>
-    requires { MachineFits x.now.machine × T (sums_ok x.now.functions.now) × Unused (count function_stride x.now.functions.now) chains.old.heads.now chains.old.links.now chains.old.owners.now }
-    ensures { AllSurveyed (inputs_of x.now) chains.new.owners.now result × Enough (count function_stride x.now.functions.now) (length chains.new.heads.now) chains.new.links.now chains.new.owners.now }
+fn tried(x: &Input, lent: Counts, chains: &mut Chains) -> Option<Table>
+    requires { T (sums_ok x.now.lists.functions.now) × EmptyFor (count_in (inputs_of x.now)) chains.old }
+    ensures { AllSurveyed (inputs_of x.now) chains.new.owners.now result × LongFor (count_in (inputs_of x.now)) chains.new }
 {
-    if ample(x.functions, places, lent) {
+    if ample(x.lists.functions, lent) {
         return None;
     }
     survey(x, chains)
 }
 
+// The functions written where there is room; their owners are found first, in the lists lent for that. Lists that hold all
+// that functions like these can be save the pass that sizes them.
+// Kept: what is read, what is worked in and what is written, here and in the next two. One struct of them would be lent to be
+// written as a whole, and each contract would have to say that the input stays.
+fn fitted(x: &Input, chains: &mut Chains, to: &mut Output) -> Result<Option<Counts>, Refusal>
+    requires { Cleared (inputs_of x.now) × EmptyFor (count_in (inputs_of x.now)) chains.old }
+    ensures { WritesTo (fitting (room_of to.old) (section_in (inputs_of x.now))) result to.old to.new }
+{
+    let n = x.lists.count();
+    owners::owners(x, n, chains);
+    if room(n, most(x.lists.functions), to.lent()).is_err() {
+        let t = sizes(x, chains);
+        return roomed(x, chains, t, to);
+    }
+    stored(x, chains, to)
+}
+
+// Every question asked by itself, and the functions written where there is room.
+fn asked(x: &Input, chains: &mut Chains, to: &mut Output) -> Result<Option<Counts>, Refusal>
+    requires { T (sums_ok x.now.lists.functions.now) × EmptyFor (count_in (inputs_of x.now)) chains.old }
+    ensures { WritesTo (listed_answer (inputs_of x.now) (room_of to.old)) result to.old to.new }
+{
+    let n = x.lists.count();
+    if !x.lists.functions_ok(n) {
+        return Err(Refusal {
+            number: 13,
+            position: 0,
+        });
+    }
+    all_asks(x)?;
+    fitted(x, chains, to)
+}
+
 // One pass where it is enough, and every question by itself where it is not.
 fn answered(x: &Input, chains: &mut Chains, to: &mut Output) -> Result<Option<Counts>, Refusal>
-    requires { MachineFits x.now.machine × T (sums_ok x.now.functions.now) × Unused (count function_stride x.now.functions.now) chains.old.heads.now chains.old.links.now chains.old.owners.now }
-    ensures { WritesTo (listed_answer x.now.section x.now.machine x.now.functions.now x.now.rows.now x.now.landings.now x.now.pairs.now (room_of to.old)) result to.old to.new }
+    requires { T (sums_ok x.now.lists.functions.now) × EmptyFor (count_in (inputs_of x.now)) chains.old }
+    ensures { WritesTo (listed_answer (inputs_of x.now) (room_of to.old)) result to.old to.new }
 {
-    if let Some(t) = tried(x, to.places.len(), to.lent(), chains) {
+    if let Some(t) = tried(x, to.lent(), chains) {
         return roomed(x, chains, t, to);
     }
     unchain(chains.heads);
@@ -738,8 +705,8 @@ fn answered_with<const HEADS: usize, const FUNCTIONS: usize>(
     x: &Input,
     to: &mut Output,
 ) -> Result<Option<Counts>, Refusal>
-    requires { MachineFits x.now.machine × T (sums_ok x.now.functions.now) × (count function_stride x.now.functions.now ≤ FUNCTIONS) × (FUNCTIONS ≤ 65536) × (0 < HEADS) × (HEADS ≤ 65536) }
-    ensures { WritesTo (listed_answer x.now.section x.now.machine x.now.functions.now x.now.rows.now x.now.landings.now x.now.pairs.now (room_of to.old)) result to.old to.new }
+    requires { T (sums_ok x.now.lists.functions.now) × (count_in (inputs_of x.now) ≤ FUNCTIONS) × (FUNCTIONS ≤ 65536) × (0 < HEADS) × (HEADS ≤ 65536) }
+    ensures { WritesTo (listed_answer (inputs_of x.now) (room_of to.old)) result to.old to.new }
 {
     let mut heads = [0u16; HEADS];
     let mut links = [0u16; FUNCTIONS];
@@ -755,10 +722,10 @@ fn answered_with<const HEADS: usize, const FUNCTIONS: usize>(
 // The functions asked, sized and, where there is room, written. Clearing the lists for their owners is to cost little for a few
 // functions: there are three sizes of them.
 fn deliver(x: &Input, to: &mut Output) -> Result<Option<Counts>, Refusal>
-    requires { MachineFits x.now.machine × T (sums_ok x.now.functions.now) }
-    ensures { WritesTo (listed_answer x.now.section x.now.machine x.now.functions.now x.now.rows.now x.now.landings.now x.now.pairs.now (room_of to.old)) result to.old to.new }
+    requires { T (sums_ok x.now.lists.functions.now) }
+    ensures { WritesTo (listed_answer (inputs_of x.now) (room_of to.old)) result to.old to.new }
 {
-    let n = x.functions.len() / lists::FUNCTION_STRIDE;
+    let n = x.lists.count();
     if n <= 64 {
         return answered_with::<61, 64>(x, to);
     }
@@ -770,6 +737,7 @@ fn deliver(x: &Input, to: &mut Output) -> Result<Option<Counts>, Refusal>
 
 // A DWARF section of functions: headers and records, their relocations, the call sites, and each function's header place. A
 // refusal writes nothing.
+// Kept: C lends the lists one by one.
 pub fn dwarf(
     s: Section,
     machine: &[u64],
@@ -799,10 +767,12 @@ pub fn dwarf(
     let x = Input {
         section: s,
         machine: machine_of(machine),
-        functions,
-        rows,
-        landings,
-        pairs,
+        lists: Lists {
+            functions,
+            rows,
+            landings,
+            pairs,
+        },
     };
     let mut to = Output {
         places,

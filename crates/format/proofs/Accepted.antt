@@ -22,6 +22,7 @@ use Rattle.format.specs.declared.Section.{Section}
 use Rattle.format.specs.declared.Section.TheVariants.{Elf, Debug}
 use Rattle.format.specs.Writer.{Written, without_exceptions, taken, dwarf}
 use Rattle.format.specs.Headers.{leading}
+use Rattle.format.proofs.SectionBack.{fits_at}
 use Rattle.format.proofs.RowsRun.{run_rows}
 use Rattle.format.specs.RowCheck.{row_check, row_check_at}
 use Rattle.format.specs.Questions.{Question, ask, and_then, per_function, size_bytes, steps_ok, dwarf_asks, Room, Answer, empty, accepted, unless, fitting, dwarf_answer, Given, given_functions, given_function, no_functions, given_asks, dwarf_given, format_answer, relaxed_table, relaxed_debug_frame}
@@ -283,11 +284,6 @@ function_at_lem g k h =
 pub taken_at : (s : Section) (g : Given) (k : ℕ) → k < count function_stride g.functions
     → get_elem? (map (taken s) (given_functions g)) k ≡ some (taken s (given_function g k))
 taken_at s g k h = get_map (taken s) (given_functions g) k (given_function g k) (function_at_lem g k h)
-
-pub fits_at : (s : Section) (m : Machine) (fs : List Function) (k : ℕ) (f : Function) → AllFit s m fs → get_elem? fs k ≡ some f → FunctionFits s m f
-fits_at s m [] k f a e = let z : ◌≡◌ {A = ℕ} 0 1 = cc in absurd (omega arith)
-fits_at s m (x ∷ xs) zero f a e = let z : x ≡ f = cc in rw z at a.0
-fits_at s m (x ∷ xs) (suc k) f a e = fits_at s m xs k f a.1 e
 
 -- lines that are in order go forward
 rows_at_forward : (word from : ℕ) (xs : List RowAt) → RowsAtOk word from xs → T (steps_ok from xs)

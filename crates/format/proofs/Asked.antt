@@ -8,6 +8,7 @@ use Rattle.std.specs.Prelude.{Some, None, Ok, Err, is_err}
 use Rattle.std.specs.Prelude as code
 use mathlib.Core.Bool.{false}
 use Rattle.format.specs.Coded.{refusal}
+use Rattle.format.specs.Questions.{is_some}
 
 -- a value, where there is one, as the code has it
 abbrev pub option_of : {A : Type 0} → Option A → code.Option A
@@ -37,3 +38,8 @@ said_no (some x) e = (x, (refl, cc))
 pub no_error : (q : Asked) → is_err q ≡ false → q ≡ Ok tt
 no_error (Ok u) e = refl
 no_error (Err r) e = let z : ◌≡◌ {A = ℕ} 0 1 = cc in absurd (omega arith)
+
+pub some_is : (o : Option ℕ) → code.is_some (option_of o) ≡ is_some o
+unfolding is_some
+some_is none = refl
+some_is (some n) = refl

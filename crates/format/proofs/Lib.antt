@@ -28,6 +28,7 @@ pub mod Asking
 pub mod Accepted
 pub mod Wrote
 pub mod PutLaws
+pub mod Copied
 pub mod Storing
 pub mod SameKey
 pub mod Leading

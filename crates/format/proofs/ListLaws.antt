@@ -162,3 +162,9 @@ row_numbers kind reg off t =
       off_low = second_low kind off (says 2 t);
       other_low = λ e. second_register off (subst (λ (k : ℕ). T (ltb off (second_operands k))) e (says 2 t));
     }
+
+-- what a list has at a place stands inside it
+pub found_inside : {A : Type 0} (xs : List A) (k : ℕ) {a : A} → get_elem? xs k ≡ some a → k < length xs
+found_inside [] k e = let z : ◌≡◌ {A = ℕ} 0 1 = cc in absurd (omega arith)
+found_inside (x ∷ xs) zero e = omega arith
+found_inside (x ∷ xs) (suc k) e = omega (arith, found_inside xs k e)

@@ -40,7 +40,7 @@ size_bytes_lem Elf word = refl
 size_bytes_lem Debug word = refl
 
 -- without relaxing labels the length field is the function's length
-size_said : (n : ℕ) (r : Option Relaxed) → r ≡ none → size_field n r ≡ n
+pub size_said : (n : ℕ) (r : Option Relaxed) → r ≡ none → size_field n r ≡ n
 unfolding size_field
 size_said n none e = refl
 size_said n (some r) e = cc
@@ -51,7 +51,7 @@ unfolding header_place
 place_found true rs e place a b = a tt
 place_found false rs e place a b = b tt
 
-fits_at : (s : Section) (m : Machine) (fs : List Function) (k : ℕ) (f : Function) → AllFit s m fs → get_elem? fs k ≡ some f → FunctionFits s m f
+pub fits_at : (s : Section) (m : Machine) (fs : List Function) (k : ℕ) (f : Function) → AllFit s m fs → get_elem? fs k ≡ some f → FunctionFits s m f
 fits_at s m [] k f ok e = let z : ◌≡◌ {A = ℕ} 0 1 = cc in absurd (omega arith)
 fits_at s m (g ∷ fs) zero f ok e = let g≡ : g ≡ f = cc in rw (← g≡) ok.0
 fits_at s m (g ∷ fs) (suc k) f ok e = fits_at s m fs k f ok.1 e

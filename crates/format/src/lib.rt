@@ -133,7 +133,7 @@ pub struct Refusal {
 }
 
 // Elements of header places (or markers), bytes, relocations (of five numbers), bytes of call sites (or x64 info).
-#[derive(Clone, Copy)]
+#[derive(Clone, Copy, PartialEq, Eq)]
 pub struct Counts {
     pub places: u64,
     pub bytes: u64,

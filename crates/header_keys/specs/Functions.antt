@@ -1,5 +1,5 @@
 -- A function's record as a section takes it, and what the questions have made sure of before anything of it is written.
-use Rattle.std.specs.Prelude.{ℕ, ◌+◌, ◌*◌, ◌≤◌, ◌<◌, false, List, [], T, length}
+use Rattle.std.specs.Prelude.{ℕ, ◌+◌, ◌*◌, ◌≤◌, ◌<◌, List, [], T, length, None, IfSome}
 use Rattle.format.specs.declared.Machine.{Machine}
 use Rattle.format.specs.declared.Section.{Section}
 use Rattle.format.specs.declared.Section.TheVariants.{Elf, Debug}
@@ -8,6 +8,7 @@ use Rattle.format.specs.Headers.{Key, key_of}
 use Rattle.format.specs.Questions.{encodings_ok}
 use Rattle.format.proofs.Fits.{MachineFits}
 use Rattle.format.proofs.WalkBack.{RowsAtOk}
+use Rattle.lists.specs.declared.Labels.{Labels}
 use Rattle.lists.specs.declared.Extent.{Extent}
 use Rattle.lists.specs.Extents.{meant}
 
@@ -23,16 +24,8 @@ without e =
       landings = 0;
       simple = e.simple;
       signal = e.signal;
-      personality = false;
-      encoding = e.encoding;
-      routine = e.routine;
-      lsda = e.lsda;
-      lsda_encoding = e.lsda_encoding;
-      lsda_symbol = e.lsda_symbol;
+      personality = None;
       relaxed = e.relaxed;
-      end = e.end;
-      pairs_at = e.pairs_at;
-      pairs = e.pairs;
     }
 
 -- what a section takes of a function's record (`taken` of the definitions)
@@ -60,14 +53,18 @@ pub record Sound (m : Machine) (e : Extent) (rows : List ℕ) : Type 0 where
   pub lines : RowsAtOk m.word 0 (body_of e rows).rows
   pub encodings : T (encodings_ok m.word (body_of e rows).landings (body_of e rows).named)
 
--- as far as its call sites and its relaxing labels go
+-- as far as its call sites go
 pub record LandingsReady (e : Extent) (landings : List ℕ) : Type 0 where
   pub inside : e.landings_at + e.landings ≤ count landing_stride landings
   pub few : e.landings ≤ most_records
 
-pub record PairsReady (e : Extent) (pairs : List ℕ) : Type 0 where
-  pub inside : e.pairs_at + e.pairs ≤ count pair_stride pairs
-  pub few : e.pairs ≤ most_records
+-- as far as relaxing labels go, and where a function has them
+pub record PairsReady (l : Labels) (pairs : List ℕ) : Type 0 where
+  pub inside : l.pairs_at + l.pairs ≤ count pair_stride pairs
+  pub few : l.pairs ≤ most_records
+
+abbrev pub LabelsReady : Extent → (pairs : List ℕ) → Type 0
+LabelsReady e pairs = IfSome e.relaxed (λ l. PairsReady l pairs)
 
 -- the first n records of a list of functions can be read, and their rows
 pub record Listed (fs rows : List ℕ) (n : ℕ) : Type 0 where

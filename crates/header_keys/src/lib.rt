@@ -8,10 +8,15 @@ ghost use Rattle.format.specs.Headers.{implied, leads, ahead, leading};
 ghost use Rattle.format.specs.Lists.{row_at};
 ghost use Rattle.format.proofs.Fits.{MachineFits};
 ghost use Rattle.header_keys.specs.Functions.{taken_in, body_of, RowsReady};
-ghost use Rattle.header_keys.specs.Kinds.{Decides};
+ghost use Rattle.header_keys.specs.Kinds.{asked_kind};
 
 use format::{Machine, Row, Section};
-use lists::Extent;
+use lists::{Extent, Personality};
+
+pub mod input;
+pub mod written;
+
+pub use input::Input;
 
 // What a section takes of a function: debug_frame has no landings and no personality.
 #[tactic(auto, unfolding(crate::specs::Functions::taken_in, crate::specs::Functions::without))]
@@ -22,7 +27,7 @@ pub fn taken(s: Section, e: Extent) -> Extent
         Section::Elf => e,
         Section::Debug => Extent {
             landings: 0,
-            personality: false,
+            personality: None,
             ..e
         },
     }
@@ -35,20 +40,21 @@ pub fn taken(s: Section, e: Extent) -> Extent
 pub enum Kind {
     Plain,
     Personal,
-    Named,
+    Named(Personality),
 }
 
 // The kind of header that a function asks for. Landings beat a named personality.
-pub fn kind_of(e: Extent) -> Kind
-    ensures { Decides e result }
+#[tactic(auto, unfolding(crate::specs::Kinds::asked_kind, crate::specs::Kinds::by_personality, format::specs::Prelude::pick))]
+pub fn kind_of(e: &Extent) -> Kind
+    ensures { result ≡ asked_kind e.now }
 {
     if e.landings != 0 {
         return Kind::Personal;
     }
-    if e.personality {
-        return Kind::Named;
+    match e.personality {
+        Some(p) => Kind::Named(p),
+        None => Kind::Plain,
     }
-    Kind::Plain
 }
 
 // ---- leading rows
@@ -64,23 +70,23 @@ fn leads_at(rows: &[u64], i: usize) -> bool
     rows[rows::ROW_STRIDE * i + rows::ROW_KIND] != numbers::kinds::REMEMBER_STATE
 }
 
-// How many of the n rows from `at` on lead.
-pub fn ahead(rows: &[u64], at: usize, n: usize) -> usize
-    requires { RowsReady rows.now at n }
-    ensures { (result ≡ length (ahead (each (row_at rows.now) at n))) × (result ≤ n) }
+// How many of a function's rows lead.
+pub fn ahead(e: &Extent, rows: &[u64]) -> usize
+    requires { RowsReady rows.now e.now.rows_at e.now.rows }
+    ensures { (result ≡ length (ahead (each (row_at rows.now) e.now.rows_at e.now.rows))) × (result ≤ e.now.rows) }
 {
-    for i in 0..n {
-        if !leads_at(rows, at + i) {
+    for i in 0..e.rows {
+        if !leads_at(rows, e.rows_at + i) {
             return i;
         }
     }
-    n
+    e.rows
 }
 
 // How many rows a call implies: none where the function is simple, and the second only where the call pushes bytes.
 #[tactic(auto, unfolding(format::specs::Headers::implied, format::specs::Prelude::pick))]
-fn implied_count(m: Machine, simple: bool) -> usize
-    ensures { (result ≡ length (pick simple [] (implied m))) × (result ≤ 2) }
+fn implied_count(m: &Machine, simple: bool) -> usize
+    ensures { (result ≡ length (pick simple [] (implied m.now))) × (result ≤ 2) }
 {
     if simple {
         return 0;
@@ -92,9 +98,9 @@ fn implied_count(m: Machine, simple: bool) -> usize
 }
 
 // Row i of those that a call implies.
-fn implied_at(m: Machine, i: usize) -> Row
-    requires { MachineFits m × (i < length (implied m)) }
-    ensures { result ≡ get_or (implied m) i RememberState }
+fn implied_at(m: &Machine, i: usize) -> Row
+    requires { MachineFits m.now × (i < length (implied m.now)) }
+    ensures { result ≡ get_or (implied m.now) i RememberState }
 {
     let pushed = m.pushed as i64;
     if i == 0 {
@@ -104,17 +110,17 @@ fn implied_at(m: Machine, i: usize) -> Row
 }
 
 // How many leading rows a function has.
-pub fn leading_count(m: Machine, e: Extent, rows: &[u64]) -> usize
-    requires { RowsReady rows.now e.rows_at e.rows }
-    ensures { result ≡ length (leading m (body_of e rows.now)) }
+pub fn leading_count(m: &Machine, e: &Extent, rows: &[u64]) -> usize
+    requires { RowsReady rows.now e.now.rows_at e.now.rows }
+    ensures { result ≡ length (leading m.now (body_of e.now rows.now)) }
 {
-    implied_count(m, e.simple) + ahead(rows, e.rows_at, e.rows)
+    implied_count(m, e.simple) + ahead(e, rows)
 }
 
 // Leading row i.
-pub fn leading_at(m: Machine, e: Extent, rows: &[u64], i: usize) -> Row
-    requires { MachineFits m × RowsReady rows.now e.rows_at e.rows × (i < length (leading m (body_of e rows.now))) }
-    ensures { result ≡ get_or (leading m (body_of e rows.now)) i RememberState }
+pub fn leading_at(m: &Machine, e: &Extent, rows: &[u64], i: usize) -> Row
+    requires { MachineFits m.now × RowsReady rows.now e.now.rows_at e.now.rows × (i < length (leading m.now (body_of e.now rows.now))) }
+    ensures { result ≡ get_or (leading m.now (body_of e.now rows.now)) i RememberState }
 {
     let n = implied_count(m, e.simple);
     if i < n {

@@ -1,24 +1,22 @@
 -- How many bytes the parts of a header's fields have.
 use mathlib.Core.Path.{◌≡◌, refl}
 use mathlib.Core.Bool.{Bool, true, false}
-use Prim.Native.Nat.{ℕ, suc, ◌+◌, ◌<◌}
+use Prim.Native.Nat.{ℕ, ◌+◌, ◌<◌}
 use native.Mathlib.Omega.{arith}
 use lib.ListN.{length, length-append}
+use Rattle.std.specs.Prelude.{is_some}
 use Rattle.format.specs.Prelude.{pick}
-use Rattle.format.specs.Leb.{uleb_f, uleb, sleb}
+use Rattle.format.specs.Leb.{uleb, sleb}
 use Rattle.format.specs.declared.Machine.{Machine}
-use Rattle.format.specs.Headers.{named, Key, pointer_bytes, letters, augmentation_data, counted, data_factor, header_fields}
-use Rattle.format.proofs.Choice.{if-le}
+use Rattle.format.specs.Headers.{Key, pointer_bytes, letters, augmentation_data, counted, data_factor, header_fields}
 use Rattle.format.proofs.LebBack.{little-length}
-use Rattle.header_keys.specs.Kinds.{lsda_of}
-use Rattle.headers.specs.Kinds.{ending, middle, flag, named_data, tail_of}
-use Rattle.headers.proofs.Tails.{named_length, fields_debug, fields_eh}
+use Rattle.rows.proofs.ShortSizes.{uleb_one}
+use Rattle.lists.specs.declared.Personality.{Personality}
+use Rattle.header_keys.specs.Kinds.{named_by}
+use Rattle.headers.specs.Kinds.{ending, middle, flag, named_letters, named_data, tail_of}
+use Rattle.headers.proofs.Tails.{named_letters_lem, named_length, fields_debug, fields_eh}
 
 -- a number below 128 is one byte
-uleb_one : (n : ℕ) → n < 128 → length (uleb n) ≡ 1
-unfolding uleb uleb_f
-uleb_one n h = rw (if-le (suc n) 128)
-
 ending-length : (signal : Bool) → length (ending signal) ≡ 1 + flag signal
 unfolding ending flag pick
 ending-length true = refl
@@ -29,14 +27,17 @@ pub middle_length : (word ret : ℕ) (signal : Bool)
 unfolding middle
 middle_length word ret signal = simp length-append (omega (arith, ending-length signal, uleb_one 1 (omega arith)))
 
-pub letters-length : (e s l : ℕ) (lsda : Bool) → length (letters (named e s (lsda_of lsda l))) ≡ 3 + flag lsda
-unfolding letters lsda_of flag pick
-letters-length e s l true = refl
-letters-length e s l false = refl
+letters_count : (b : Bool) → length (named_letters b) ≡ 3 + flag b
+unfolding named_letters flag pick
+letters_count true = refl
+letters_count false = refl
 
-pub data_length : (word e s l : ℕ) (lsda : Bool) → length (augmentation_data word (named e s (lsda_of lsda l))) ≡ 2 + pointer_bytes word e + flag lsda
+pub letters-length : (p : Personality) → length (letters (named_by p)) ≡ 3 + flag (is_some p.lsda)
+letters-length p = rw (named_letters_lem p.encoding p.routine p.lsda) (letters_count (is_some p.lsda))
+
+pub data_length : (word : ℕ) (p : Personality) → length (augmentation_data word (named_by p)) ≡ 2 + pointer_bytes word p.encoding + flag (is_some p.lsda)
 unfolding augmentation_data named_data
-data_length word e s l lsda = named_length e (pointer_bytes word e) l lsda
+data_length word p = named_length p.encoding (pointer_bytes word p.encoding) p.lsda
 
 pub debug_length : (m : Machine) (k : Key) → length (header_fields true m k) ≡ 5 + length (middle m.word m.ret k.signal)
 debug_length m k = simp (fields_debug m k, length-append, little-length) (omega arith)

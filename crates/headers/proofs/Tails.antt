@@ -1,6 +1,5 @@
 -- The parts of a header's fields.
-use mathlib.Core.Path.{◌≡◌, refl, sym, ◌∙◌}
-use mathlib.Core.Logic.{◌≢◌}
+use mathlib.Core.Path.{◌≡◌, refl}
 use mathlib.Core.Bool.{Bool, true, false}
 use mathlib.Core.List.{[], ◌∷◌, ◌++◌, append_assoc, append-nil}
 use Prim.Native.Nat.{ℕ, zero, suc, ◌+◌, ◌^◌, ◌≤◌, ◌<◌}
@@ -11,15 +10,17 @@ use lib.Signed.{mag}
 use mir.Syntax.{w64}
 use mir.Val.{SFits, to_z}
 use mir.Facts.{to_z_pos}
+use Rattle.std.specs.Prelude as code
+use Rattle.std.specs.Prelude.{Some, None, is_some}
 use Rattle.format.specs.Prelude.{pick}
 use Rattle.format.specs.Leb.{little, uleb_f, uleb}
 use Rattle.format.specs.declared.Machine.{Machine}
-use Rattle.format.specs.Constants.{pcrel_sdata4, indirect_pcrel_sdata4, personality_symbol}
+use Rattle.format.specs.Constants.{pcrel_sdata4, indirect_pcrel_sdata4, personality_symbol, except_table}
 use Rattle.format.specs.Headers.{plain, personal, named, Key, size_of, size_or0, pointer_bytes, letters, augmentation, lsda_letter, augmentation_data, counted, header_data, header_id, data_factor, header_fields}
-use Rattle.format.proofs.Choice.{if-eq, if-ne}
 use Rattle.format.proofs.LebBack.{little-length}
-use Rattle.lists.specs.declared.Extent.{Extent}
-use Rattle.header_keys.specs.Kinds.{lsda_of, lsda_in, kind_in}
+use Rattle.lists.specs.declared.Lsda.{Lsda}
+use Rattle.lists.specs.declared.Personality.{Personality}
+use Rattle.header_keys.specs.Kinds.{lsda_of, named_by}
 use Rattle.headers.specs.Kinds.{ending, middle, flag, named_letters, named_data, tail_of}
 
 -- ---- the data alignment factor as the machine computes it
@@ -43,51 +44,31 @@ pub plain_tail : (word ret : ℕ) (signal : Bool) → tail_of word ret signal pl
 unfolding tail_of letters augmentation_data counted uleb uleb_f pick
 plain_tail word ret signal = refl
 
-pub named_letters_lem : (e s l : ℕ) (lsda : Bool) → letters (named e s (lsda_of lsda l)) ≡ named_letters lsda
+pub named_letters_lem : (e s : ℕ) (lsda : code.Option Lsda) → letters (named e s (lsda_of lsda)) ≡ named_letters (is_some lsda)
 unfolding letters lsda_of named_letters pick
-named_letters_lem e s l true = refl
-named_letters_lem e s l false = refl
+named_letters_lem e s (Some l) = refl
+named_letters_lem e s None = refl
 
 -- how many bytes of augmentation data a named personality has
-pub named_length : (e size l : ℕ) (lsda : Bool) → length (named_data e size lsda l) ≡ 2 + size + flag lsda
+pub named_length : (e size : ℕ) (lsda : code.Option Lsda) → length (named_data e size (lsda_of lsda)) ≡ 2 + size + flag (is_some lsda)
 unfolding named_data lsda_letter lsda_of flag pick
-named_length e size l true = simp (length-append, length-replicate {A = ℕ} size 0) (omega arith)
-named_length e size l false = simp (length-append, length-replicate {A = ℕ} size 0) (omega arith)
+named_length e size (Some l) = simp (length-append, length-replicate {A = ℕ} size 0) (omega arith)
+named_length e size None = simp (length-append, length-replicate {A = ℕ} size 0) (omega arith)
 
-pub named_tail : (word ret e s l : ℕ) (signal lsda : Bool) → tail_of word ret signal (named e s (lsda_of lsda l))
-    ≡ named_letters lsda ++ (middle word ret signal ++ (uleb (2 + pointer_bytes word e + flag lsda) ++ named_data e (pointer_bytes word e) lsda l))
+pub named_tail : (word ret : ℕ) (signal : Bool) (p : Personality) → tail_of word ret signal (named_by p)
+    ≡ named_letters (is_some p.lsda)
+    ++ (middle word ret signal
+    ++ (uleb (2 + pointer_bytes word p.encoding + flag (is_some p.lsda)) ++ named_data p.encoding (pointer_bytes word p.encoding) (lsda_of p.lsda)))
 unfolding tail_of augmentation_data counted named_data
-named_tail word ret e s l signal lsda = rw (named_letters_lem e s l lsda, named_length e (pointer_bytes word e) l lsda)
+named_tail word ret signal p =
+    rw (named_letters_lem p.encoding p.routine p.lsda, named_length p.encoding (pointer_bytes word p.encoding) p.lsda)
 
 -- landings have a personality of their own
-pub personal_tail : (word ret : ℕ) (signal : Bool)
-    → tail_of word ret signal personal ≡ tail_of word ret signal (named indirect_pcrel_sdata4 personality_symbol (lsda_of true pcrel_sdata4))
+pub personal_tail : (word ret : ℕ) (signal : Bool) {p : Personality}
+    → p ≡ record { encoding = indirect_pcrel_sdata4; routine = personality_symbol; lsda = Some (record { encoding = pcrel_sdata4; symbol = except_table }) }
+    → tail_of word ret signal personal ≡ tail_of word ret signal (named_by p)
 unfolding tail_of letters augmentation_data lsda_letter lsda_of pointer_bytes size_of size_or0 pick
-personal_tail word ret signal = refl
-
--- ---- by a function's record
-
-module _ (e : Extent) where
-  pub kind_personal : e.landings ≢ 0 → kind_in e ≡ personal
-  unfolding kind_in
-  kind_personal h = rw (if-ne e.landings 0)
-
-  module _ (h : e.landings ≡ 0) where
-    pub kind_named : e.personality ≡ true → kind_in e ≡ named e.encoding e.routine (lsda_of e.lsda e.lsda_encoding)
-    unfolding kind_in lsda_in pick
-    kind_named t = rw (if-eq e.landings 0, t)
-
-    pub kind_plain : e.personality ≡ false → kind_in e ≡ plain
-    unfolding kind_in pick
-    kind_plain t = rw (if-eq e.landings 0, t)
-
-    -- the tail has no symbol
-    pub tail_named : (word ret : ℕ) (signal : Bool) → e.personality ≡ true
-        → tail_of word ret signal (kind_in e) ≡ tail_of word ret signal (named e.encoding 0 (lsda_of e.lsda e.lsda_encoding))
-    tail_named word ret signal t =
-        rw (kind_named t)
-        (named_tail word ret e.encoding e.routine e.lsda_encoding signal e.lsda
-        ∙ sym (named_tail word ret e.encoding 0 e.lsda_encoding signal e.lsda))
+personal_tail word ret signal h = rw h
 
 -- ---- the fields
 

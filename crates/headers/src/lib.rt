@@ -1,21 +1,22 @@
 // Headers (CIE): their bytes, sizes and relocations. Ported from rucc-asm/src/unwind.rs (header, personal_header, named_header, pointer, starts, pad) of tamnd/rucc, changed: see NOTICE.
 #![tactic(auto)]
 
-ghost use Rattle.std.specs.Prelude.{◌≡◌, true, [], ◌∷◌, ◌+◌, ◌*◌, ◌^◌, ◌≤◌, ◌<◌, length};
+ghost use Rattle.std.specs.Prelude.{◌≡◌, [], ◌∷◌, ◌+◌, ◌*◌, ◌^◌, ◌≤◌, ◌<◌, length, IfSome};
 ghost use Rattle.format.proofs.Wrote.{Wrote};
-ghost use Rattle.format.specs.Rows.{rows_bytes};
 ghost use Rattle.format.specs.Lists.{numbers_of};
-ghost use Rattle.format.specs.Headers.{leading, padding, pointer_reloc, plain, personal, named, letters, lsda_letter, augmentation_data, data_factor, header_fields, header_bytes, pointer_place, header_relocs};
+ghost use Rattle.format.specs.Headers.{padding, pointer_reloc, plain, personal, letters, lsda_letter, augmentation_data, data_factor, header_fields, pointer_place, header_relocs};
 ghost use Rattle.format.proofs.Fits.{MachineFits};
+ghost use Rattle.header_keys.specs.Functions.{key_in};
 ghost use Rattle.format.proofs.SectionSize.{Aligned};
-ghost use Rattle.header_keys.specs.Functions.{body_of, key_in, Sound};
 ghost use Rattle.headers.specs.Entries.{Closed};
-ghost use Rattle.header_keys.specs.Kinds.{lsda_of, kind_in};
-ghost use Rattle.headers.specs.Kinds.{head_in, EncodingFits, NamedFits, ending, middle, flag, named_letters, named_data, tail_of, header_reloc_count};
+ghost use Rattle.header_keys.specs.Kinds.{lsda_of, named_by, asked_kind, kind_in};
+ghost use Rattle.headers.specs.Kinds.{head_in, EncodingFits, NamedFits, KindFits, ending, middle, flag, named_letters, named_data, header_reloc_count};
+ghost use Rattle.headers.specs.Written.{middle_of, tail_by, fields_of, starts_of, header_of, header_relocs_of};
 
 use format::Machine;
+use header_keys::written::Function;
 use header_keys::{Kind, kind_of};
-use lists::Extent;
+use lists::{Extent, Lsda, Personality};
 use numbers::encodings;
 
 // ---- the end of an entry
@@ -78,6 +79,8 @@ pub fn pointer(out: &mut [u64], i: usize, word: u64, place: u64, symbol: u64, e:
 
 // ---- the fields
 
+// Kept: in all that write a part of a header, a writer's buffer and place, as in leb; what is written is the function.
+
 // The end of the augmentation string: S for a signal frame, and a 0.
 fn ending(out: &mut [u8], at: usize, signal: bool) -> usize
     requires { at + length (ending signal) ≤ length out.old }
@@ -99,23 +102,23 @@ fn data_factor(word: u64) -> i64
 }
 
 // The string's end, the factors and the return address register.
-fn middle(out: &mut [u8], at: usize, word: u64, ret: u64, signal: bool) -> usize
-    requires { (word ≤ 8) × (at + length (middle word ret signal) ≤ length out.old) }
-    ensures { Wrote out.old out.new at result (middle word ret signal) }
+fn middle(out: &mut [u8], at: usize, f: &Function) -> usize
+    requires { at + length (middle_of f.now) ≤ length out.old }
+    ensures { Wrote out.old out.new at result (middle_of f.now) }
 {
-    let a = ending(out, at, signal);
+    let a = ending(out, at, f.extent.signal);
     let b = leb::uleb(out, a, 1);
-    let c = leb::sleb(out, b, data_factor(word));
-    leb::uleb(out, c, ret)
+    let c = leb::sleb(out, b, data_factor(f.machine.word));
+    leb::uleb(out, c, f.machine.ret)
 }
 
 // z, R; the middle; one byte of data, the records' encoding.
-fn plain_header(out: &mut [u8], at: usize, word: u64, ret: u64, signal: bool) -> usize
-    requires { (word ≤ 8) × (at + length (tail_of word ret signal plain) ≤ length out.old) }
-    ensures { Wrote out.old out.new at result (tail_of word ret signal plain) }
+fn plain_header(out: &mut [u8], at: usize, f: &Function) -> usize
+    requires { at + length (tail_by f.now plain) ≤ length out.old }
+    ensures { Wrote out.old out.new at result (tail_by f.now plain) }
 {
     let a = leb::le(out, at, 2, 0x527a);
-    let b = middle(out, a, word, ret, signal);
+    let b = middle(out, a, f);
     leb::le(out, b, 2, 0x1b01)
 }
 
@@ -137,124 +140,108 @@ fn named_letters(out: &mut [u8], at: usize, lsda: bool) -> usize
     leb::le(out, at, 3, 0x52507a)
 }
 
-// The LSDA's encoding.
-fn lsda_letter(out: &mut [u8], at: usize, lsda: bool, l: u64) -> usize
-    requires { (lsda ≡ true → l < 256) × (at + length (lsda_letter (lsda_of lsda l)) ≤ length out.old) }
-    ensures { Wrote out.old out.new at result (lsda_letter (lsda_of lsda l)) }
+// The LSDA's encoding, where there is an LSDA.
+fn lsda_letter(out: &mut [u8], at: usize, lsda: Option<Lsda>) -> usize
+    requires { IfSome lsda (λ l. l.encoding < 256) × (at + length (lsda_letter (lsda_of lsda)) ≤ length out.old) }
+    ensures { Wrote out.old out.new at result (lsda_letter (lsda_of lsda)) }
 {
-    if lsda {
-        return leb::byte(out, at, l as u8);
+    match lsda {
+        Some(l) => leb::byte(out, at, l.encoding as u8),
+        None => at,
     }
-    at
 }
 
 // The personality's encoding and blank pointer, the LSDA's encoding, the records' encoding.
-fn named_data(out: &mut [u8], at: usize, e: u64, size: usize, lsda: bool, l: u64) -> usize
-    requires { (e < 256) × (lsda ≡ true → l < 256) × (at + length (named_data e size lsda l) ≤ length out.old) }
-    ensures { Wrote out.old out.new at result (named_data e size lsda l) }
+fn named_data(out: &mut [u8], at: usize, p: &Personality, size: usize) -> usize
+    requires { NamedFits p.now × (at + length (named_data p.now.encoding size (lsda_of p.now.lsda)) ≤ length out.old) }
+    ensures { Wrote out.old out.new at result (named_data p.now.encoding size (lsda_of p.now.lsda)) }
 {
-    let a = leb::byte(out, at, e as u8);
+    let a = leb::byte(out, at, p.encoding as u8);
     let b = leb::fill(out, a, size);
-    let c = lsda_letter(out, b, lsda, l);
+    let c = lsda_letter(out, b, p.lsda);
     leb::byte(out, c, encodings::PCREL_SDATA4 as u8)
 }
 
 // A personality by its encoding, and an LSDA by its.
-fn named_header(
-    out: &mut [u8],
-    at: usize,
-    word: u64,
-    ret: u64,
-    signal: bool,
-    e: u64,
-    lsda: bool,
-    l: u64,
-) -> usize
-    requires { (word ≤ 8) × (e < 256) × (lsda ≡ true → l < 256) × (at + length (tail_of word ret signal (named e 0 (lsda_of lsda l))) ≤ length out.old) }
-    ensures { Wrote out.old out.new at result (tail_of word ret signal (named e 0 (lsda_of lsda l))) }
+fn named_header(out: &mut [u8], at: usize, f: &Function, p: &Personality) -> usize
+    requires { NamedFits p.now × (at + length (tail_by f.now (named_by p.now)) ≤ length out.old) }
+    ensures { Wrote out.old out.new at result (tail_by f.now (named_by p.now)) }
 {
-    let a = named_letters(out, at, lsda);
-    let b = middle(out, a, word, ret, signal);
-    let size = numbers::pointer_bytes(word, e);
-    let c = leb::uleb(out, b, 2 + size + flag(lsda));
-    named_data(out, c, e, size as usize, lsda, l)
+    let has_lsda = p.lsda.is_some();
+    let a = named_letters(out, at, has_lsda);
+    let b = middle(out, a, f);
+    let size = numbers::pointer_bytes(f.machine.word, p.encoding);
+    let c = leb::uleb(out, b, 2 + size + flag(has_lsda));
+    named_data(out, c, p, size as usize)
 }
 
-// The personality of functions with landings: indirect, relative, 4 bytes, and so is the LSDA.
-fn personal_header(out: &mut [u8], at: usize, word: u64, ret: u64, signal: bool) -> usize
-    requires { (word ≤ 8) × (at + length (tail_of word ret signal personal) ≤ length out.old) }
-    ensures { Wrote out.old out.new at result (tail_of word ret signal personal) }
+// The personality of functions with landings: indirect, relative, 4 bytes, and so is the pointer to their call sites.
+fn personal_header(out: &mut [u8], at: usize, f: &Function) -> usize
+    requires { at + length (tail_by f.now personal) ≤ length out.old }
+    ensures { Wrote out.old out.new at result (tail_by f.now personal) }
 {
-    named_header(
-        out,
-        at,
-        word,
-        ret,
-        signal,
-        encodings::INDIRECT_PCREL_SDATA4,
-        true,
-        encodings::PCREL_SDATA4,
-    )
+    let call_sites = Lsda {
+        encoding: encodings::PCREL_SDATA4,
+        symbol: relocs::EXCEPT_TABLE,
+    };
+    let of_landings = Personality {
+        encoding: encodings::INDIRECT_PCREL_SDATA4,
+        routine: relocs::PERSONALITY,
+        lsda: Some(call_sites),
+    };
+    named_header(out, at, f, &of_landings)
 }
 
 // What follows the version, by the function's record.
-fn tail(out: &mut [u8], at: usize, m: Machine, e: Extent) -> usize
-    requires { (m.word ≤ 8) × NamedFits e × (at + length (tail_of m.word m.ret e.signal (kind_in e)) ≤ length out.old) }
-    ensures { Wrote out.old out.new at result (tail_of m.word m.ret e.signal (kind_in e)) }
+fn tail(out: &mut [u8], at: usize, f: &Function) -> usize
+    requires { KindFits (asked_kind f.now.extent) × (at + length (tail_by f.now (kind_in f.now.extent)) ≤ length out.old) }
+    ensures { Wrote out.old out.new at result (tail_by f.now (kind_in f.now.extent)) }
 {
-    match kind_of(e) {
-        Kind::Plain => plain_header(out, at, m.word, m.ret, e.signal),
-        Kind::Personal => personal_header(out, at, m.word, m.ret, e.signal),
-        Kind::Named => named_header(
-            out,
-            at,
-            m.word,
-            m.ret,
-            e.signal,
-            e.encoding,
-            e.lsda,
-            e.lsda_encoding,
-        ),
+    match kind_of(&f.extent) {
+        Kind::Plain => plain_header(out, at, f),
+        Kind::Personal => personal_header(out, at, f),
+        Kind::Named(p) => named_header(out, at, f, &p),
     }
 }
 
 // The fields in front of the rows. In debug_frame there is no augmentation but the signal mark.
-fn fields(out: &mut [u8], at: usize, debug: bool, m: Machine, e: Extent) -> usize
-    requires { (m.word ≤ 8) × NamedFits e × (at + length (header_fields debug m (head_in e)) ≤ length out.old) }
-    ensures { Wrote out.old out.new at result (header_fields debug m (head_in e)) }
+fn fields(out: &mut [u8], at: usize, f: &Function) -> usize
+    requires { KindFits (asked_kind f.now.extent) × (at + length (fields_of f.now) ≤ length out.old) }
+    ensures { Wrote out.old out.new at result (fields_of f.now) }
 {
-    let a = leb::le(out, at, 4, numbers::header_id(debug));
+    let a = leb::le(out, at, 4, numbers::header_id(f.debug));
     let b = leb::byte(out, a, 1);
-    if debug {
-        return middle(out, b, m.word, m.ret, e.signal);
+    if f.debug {
+        return middle(out, b, f);
     }
-    tail(out, b, m, e)
+    tail(out, b, f)
 }
 
 // ---- the leading rows
 
 // The leading rows, one after the other.
-fn starts(out: &mut [u8], at: usize, m: Machine, e: Extent, rows: &[u64]) -> usize
-    requires { Sound m e rows.now × (at + length (rows_bytes m.word (leading m (body_of e rows.now))) ≤ length out.old) }
-    ensures { Wrote out.old out.new at result (rows_bytes m.word (leading m (body_of e rows.now))) }
+fn starts(out: &mut [u8], at: usize, f: &Function) -> usize
+    requires { at + length (starts_of f.now) ≤ length out.old }
+    ensures { Wrote out.old out.new at result (starts_of f.now) }
 {
-    let n = header_keys::leading_count(m, e, rows);
+    let n = header_keys::leading_count(f.machine, &f.extent, f.rows);
     let mut p = at;
     for i in 0..n {
-        p = rows::row(out, p, m.word, header_keys::leading_at(m, e, rows, i));
+        let row = header_keys::leading_at(f.machine, &f.extent, f.rows, i);
+        p = rows::row(out, p, f.machine.word, row);
     }
     p
 }
 
 // How many bytes they have.
-fn starts_size(m: Machine, e: Extent, rows: &[u64]) -> usize
-    requires { Sound m e rows.now }
-    ensures { result ≡ length (rows_bytes m.word (leading m (body_of e rows.now))) }
+fn starts_size(f: &Function) -> usize
+    ensures { result ≡ length (starts_of f.now) }
 {
-    let n = header_keys::leading_count(m, e, rows);
+    let n = header_keys::leading_count(f.machine, &f.extent, f.rows);
     let mut size = 0;
     for i in 0..n {
-        size += rows::row_size(m.word, header_keys::leading_at(m, e, rows, i));
+        let row = header_keys::leading_at(f.machine, &f.extent, f.rows, i);
+        size += rows::row_size(f.machine.word, row);
     }
     size
 }
@@ -270,34 +257,35 @@ fn middle_size(word: u64, ret: u64, signal: bool) -> usize
 }
 
 // How many letters the augmentation string has.
-fn letters_size(e: Extent) -> usize
-    ensures { (result ≡ length (letters (kind_in e))) × (result ≤ 4) }
+fn letters_size(e: &Extent) -> usize
+    ensures { (result ≡ length (letters (kind_in e.now))) × (result ≤ 4) }
 {
     match kind_of(e) {
         Kind::Plain => 2,
         Kind::Personal => 4,
-        Kind::Named => 3 + flag(e.lsda) as usize,
+        Kind::Named(p) => 3 + flag(p.lsda.is_some()) as usize,
     }
 }
 
 // How many bytes the augmentation data has.
-fn data_size(word: u64, e: Extent) -> usize
+fn data_size(word: u64, e: &Extent) -> usize
     requires { word ≤ 8 }
-    ensures { (result ≡ length (augmentation_data word (kind_in e))) × (result ≤ 11) }
+    ensures { (result ≡ length (augmentation_data word (kind_in e.now))) × (result ≤ 11) }
 {
     match kind_of(e) {
         Kind::Plain => 1,
         Kind::Personal => 7,
-        Kind::Named => {
-            2 + numbers::pointer_bytes(word, e.encoding) as usize + flag(e.lsda) as usize
+        Kind::Named(p) => {
+            let pointer = numbers::pointer_bytes(word, p.encoding);
+            2 + pointer as usize + flag(p.lsda.is_some()) as usize
         }
     }
 }
 
 // How many bytes `fields` stores; the data's length is one of them.
-fn fields_size(debug: bool, m: Machine, e: Extent) -> usize
-    requires { m.word ≤ 8 }
-    ensures { (result ≡ length (header_fields debug m (head_in e))) × (result ≤ 44) }
+fn fields_size(debug: bool, m: &Machine, e: &Extent) -> usize
+    requires { m.now.word ≤ 8 }
+    ensures { (result ≡ length (header_fields debug m.now (head_in e.now))) × (result ≤ 44) }
 {
     let n = 5 + middle_size(m.word, m.ret, e.signal);
     if debug {
@@ -308,46 +296,31 @@ fn fields_size(debug: bool, m: Machine, e: Extent) -> usize
 
 // ---- a header
 
-pub fn header_size(
-    debug: bool,
-    m: Machine,
-    align: usize,
-    at: usize,
-    e: Extent,
-    rows: &[u64],
-) -> usize
-    requires { Sound m e rows.now × Aligned align × (at < 2 ^ 32) }
-    ensures { result ≡ length (header_bytes debug m align at (key_in m e rows.now)) }
+pub fn header_size(f: &Function, at: usize) -> usize
+    requires { at < 2 ^ 32 }
+    ensures { result ≡ length (header_of f.now at) }
 {
-    let n = 4 + fields_size(debug, m, e) + starts_size(m, e, rows);
-    n + padding(align, at + n)
+    let n = 4 + fields_size(f.debug, f.machine, &f.extent) + starts_size(f);
+    n + padding(f.align, at + n)
 }
 
 // The bytes of a header: a blank length, the fields and the leading rows, and what `pad` adds.
-pub fn header(
-    out: &mut [u8],
-    at: usize,
-    debug: bool,
-    m: Machine,
-    align: usize,
-    e: Extent,
-    rows: &[u64],
-) -> usize
-    requires { Sound m e rows.now × EncodingFits e × Aligned align × (at + length (header_bytes debug m align at (key_in m e rows.now)) ≤ length out.old) }
-    ensures { Wrote out.old out.new at result (header_bytes debug m align at (key_in m e rows.now)) }
+pub fn header(out: &mut [u8], at: usize, f: &Function) -> usize
+    requires { EncodingFits f.now.extent × (at + length (header_of f.now at) ≤ length out.old) }
+    ensures { Wrote out.old out.new at result (header_of f.now at) }
 {
     let a = leb::fill(out, at, 4);
-    let b = fields(out, a, debug, m, e);
-    let c = starts(out, b, m, e, rows);
-    pad(out, at, c, align)
+    let b = fields(out, a, f);
+    let c = starts(out, b, f);
+    pad(out, at, c, f.align)
 }
 
 // ---- its relocation
 
 // How many relocations a header has: one where it names a personality, none in debug_frame.
-#[tactic(auto, unfolding(crate::specs::Kinds::header_reloc_count, crate::specs::Kinds::flag, format::specs::Prelude::pick))]
-pub fn header_relocs_count(debug: bool, e: Extent) -> usize
-    ensures { result ≡ header_reloc_count debug e }
+#[tactic(auto, unfolding(crate::specs::Kinds::header_reloc_count, crate::specs::Kinds::kind_reloc_count, format::specs::Prelude::pick))]
+pub fn header_relocs_count(debug: bool, e: &Extent) -> usize
+    ensures { result ≡ header_reloc_count debug e.now }
 {
     if debug {
         return 0;
@@ -355,29 +328,29 @@ pub fn header_relocs_count(debug: bool, e: Extent) -> usize
     match kind_of(e) {
         Kind::Plain => 0,
         Kind::Personal => 1,
-        Kind::Named => 1,
+        Kind::Named(_) => 1,
     }
 }
 
 // The place of the personality's pointer, behind its encoding, the first byte of the augmentation data.
-fn pointer_place(m: Machine, at: usize, e: Extent) -> u64
-    requires { (m.word ≤ 8) × (at < 2 ^ 32) }
-    ensures { result ≡ pointer_place m at (head_in e) }
+fn pointer_place(m: &Machine, at: usize, e: &Extent) -> u64
+    requires { (m.now.word ≤ 8) × (at < 2 ^ 32) }
+    ensures { result ≡ pointer_place m.now at (head_in e.now) }
 {
     (at + 4 + fields_size(false, m, e) - data_size(m.word, e) + 1) as u64
 }
 
-// The relocation of a header's personality.
+// The relocation of a header's personality. It asks no more of the function than its kind and the machine, so it takes no `Function`.
 pub fn header_relocs(
     out: &mut [u64],
     i: usize,
     debug: bool,
-    m: Machine,
+    m: &Machine,
     at: usize,
-    e: Extent,
+    e: &Extent,
 ) -> usize
-    requires { MachineFits m × (at < 2 ^ 32) × (i + 5 * header_reloc_count debug e ≤ length out.old) }
-    ensures { Wrote out.old out.new i result (numbers_of (header_relocs debug m at (key_in m e []))) }
+    requires { MachineFits m.now × (at < 2 ^ 32) × (i + 5 * header_reloc_count debug e.now ≤ length out.old) }
+    ensures { Wrote out.old out.new i result (numbers_of (header_relocs debug m.now at (key_in m.now e.now []))) }
 {
     if debug {
         return i;
@@ -392,13 +365,13 @@ pub fn header_relocs(
             relocs::PERSONALITY,
             encodings::INDIRECT_PCREL_SDATA4,
         ),
-        Kind::Named => pointer(
+        Kind::Named(p) => pointer(
             out,
             i,
             m.word,
             pointer_place(m, at, e),
-            e.routine,
-            e.encoding,
+            p.routine,
+            p.encoding,
         ),
     }
 }

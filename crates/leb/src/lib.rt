@@ -8,6 +8,8 @@ ghost use Rattle.format.specs.Leb.{little, uleb, bits7, sleb_f, sleb};
 ghost use Rattle.leb.specs.Signs.{is_negative};
 
 // A byte at `at`. This and every other writer gives the place past what it stored.
+// Kept: the list and the place stand apart in every writer. In a struct of both the list would be lent through it, and each contract would
+// say besides that it is the same list still (D122).
 // Kept: `relocs::number` is its twin at u64. `Wrote` speaks of lists of numbers, and the elements of a type parameter are none: one
 // generic function would promise less, and each of the two would be proved over it, in more lines than their two.
 pub fn byte(out: &mut [u8], at: usize, b: u8) -> usize

@@ -7,7 +7,6 @@ use mathlib.Core.List.{List}
 use lib.ListN.{length}
 use lib.Dec.{T, leb}
 use Rattle.format.specs.Prelude.{pick, good, bad}
-use Rattle.format.specs.Machine.{is_word_size}
 use Rattle.format.proofs.Choice.{if-le, if-gt, if-eq, if-ne}
 use Rattle.reader.specs.Spans.{part}
 use Rattle.reader.specs.Finds.{in_section}
@@ -59,18 +58,8 @@ module _ (s : List ℕ) (l : Located) (q : ℕ) (old : List ℕ) where
       short h = no (room_asked ∙ if-gt (7 * (l.record_end - l.record + 1)) (length old) (good (lines_at s l)) (bad 54) (omega arith))
 
       pub asked : l.record_end - l.record < length old / 7
-          → T (is_word_size l.word) × (l.header ≤ l.header_end) × (l.header_end ≤ length s) × (l.record ≤ l.record_end) × (l.record_end ≤ length s)
-          × (7 * (l.record_end - l.record + 1) ≤ length old)
-      unfolding reader_places
-      asked h =
-          let f = fits s (reader_places l) e in (
-            f.0,
-            f.1,
-            f.2,
-            f.3,
-            f.4,
-            omega arith,
-          )
+          → T (in_section s (reader_places l)) × (7 * (l.record_end - l.record + 1) ≤ length old)
+      asked h = (rw e tt, omega arith)
 
       pub listed : l.record_end - l.record < length old / 7 → {r : Listed} {new : List ℕ} → Lists q (good (lines_at s l)) r old new
           → Lists q (along s l (length old)) r old new

@@ -1,10 +1,11 @@
 -- The run that lists, operation by operation: what is left of the entry gives the lines that are left.
 use Rattle.std.specs.Prelude.{Some, None}
+use Rattle.std.specs.Prelude as std
 use mathlib.Core.Path.{◌≡◌, refl, sym, ap, ◌∙◌}
 use Prim.Native.Nat.{ℕ, zero, suc, ◌+◌, ◌-◌, ◌*◌, ◌≤◌, ◌<◌}
 use native.Mathlib.Omega.{arith}
 use native.Mathlib.Nat.{le_refl}
-use mathlib.Core.Bool.{Bool, true, false}
+use mathlib.Core.Bool.{Bool, true, false, not}
 use mathlib.Core.Option.{none, some}
 use mathlib.Core.List.{List, [], ◌∷◌}
 use lib.ListN.{length, drop, length-drop, drop_of_length-le}
@@ -24,6 +25,8 @@ use Rattle.format.proofs.Wrote.{Wrote}
 use Rattle.reader.specs.OneRegister as one
 use Rattle.reader.specs.States.{run_of}
 use Rattle.reader.specs.declared.run.State as code
+use Rattle.std.specs.Option.{is_some}
+use Rattle.reader.proofs.Operations.{none_where}
 use Rattle.reader.proofs.Seen.{SeenAs, answered, refused, seen_row}
 use Rattle.listing.specs.Lines.{Lines, line, last, ended, highest, when_read, when_acted, stepping, doing, lines_f, line_numbers}
 use Rattle.listing.proofs.StoredLines.{LinesStored, stored_line, line_length}
@@ -83,21 +86,25 @@ unfolding pick
 less_room true more a b h = le_refl _
 less_room false more a b h = h
 
-pub record Inside (whole : Lines) (header : Bool) (word q : ℕ) (initial : Rule) (ops : List ℕ) (k : ℕ → State → Lines) (more : ℕ) (old out : List ℕ) (state : code.State) (i loc : ℕ) (at : Position) : Type 0 where
+pub record Inside (whole : Lines) (header : Bool) (word q : ℕ) (initial : std.Option Rule) (ops : List ℕ) (k : ℕ → State → Lines) (more : ℕ) (old out : List ℕ) (state : code.State) (i loc : ℕ) (at : Position) : Type 0 where
   pub near : loc ≤ highest
   pub first : ℕ → Rule
-  pub first_is : first q ≡ initial
+  pub first_is : one.initial_of header (first q) ≡ initial
   pub all : State
   pub seen : one.at q all ≡ run_of state
   pub lines : LinesStored q whole (listing header word first k loc all (drop at.at ops)) old out i
   pub room : i + 7 * (pick header more (length ops - at.at) + 1) ≤ length out
 
-module _ {whole : Lines} {header : Bool} {word q : ℕ} {initial : Rule} {ops : List ℕ} {k : ℕ → State → Lines} {more : ℕ} {old out : List ℕ} {state : code.State} {i loc : ℕ} {at : Position}
+module _ {whole : Lines} {header : Bool} {word q : ℕ} {initial : std.Option Rule} {ops : List ℕ} {k : ℕ → State → Lines} {more : ℕ} {old out : List ℕ} {state : code.State} {i loc : ℕ} {at : Position}
     (n : Inside whole header word q initial ops k more old out state i loc at) where
   -- the rules that hold are those that the code keeps
   rules_kept : rules_for q n.all.current ≡ state.rules
   unfolding one.at run_of
   rules_kept = ap (λ (r : one.Run). r.current) n.seen
+
+  -- a header's operations have no initial rule, a record's have one
+  pub which : {b : Bool} → is_some initial ≡ not b → header ≡ b
+  which e = none_where header (n.first q) n.first_is e
 
   -- 66: an operation that cannot be read
   pub bad_operation : at.at < length ops → operation_at word ops at ≡ None → LinesStored q whole (ended loc 66) old out i
@@ -191,23 +198,23 @@ module _ {whole : Lines} {header : Bool} {word q : ℕ} {initial : Rule} {ops : 
               }
 
     module _ {row : Row} (o : op ≡ Does row) where
-      row_seen : SeenAs q (act header n.first row n.all) (one.act header q initial row (run_of state))
+      row_seen : SeenAs q (act header n.first row n.all) (one.act q initial row (run_of state))
       row_seen = rw (← n.first_is, ← n.seen) (seen_row header q n.first n.all row)
 
-      pub bad_row : {m : ℕ} → one.act header q initial row (run_of state) ≡ bad m → LinesStored q whole (ended loc m) old out i
+      pub bad_row : {m : ℕ} → one.act q initial row (run_of state) ≡ bad m → LinesStored q whole (ended loc m) old out i
       unfolding doing when_acted
       bad_row {m} a = by row_seen
         where
-          by : SeenAs q (act header n.first row n.all) (one.act header q initial row (run_of state)) → LinesStored q whole (ended loc m) old out i
+          by : SeenAs q (act header n.first row n.all) (one.act q initial row (run_of state)) → LinesStored q whole (ended loc m) old out i
           by (answered s x y) = let w = sym a ∙ y in let z : ◌≡◌ {A = ℕ} 0 1 = cc in absurd (omega arith)
           by (refused l x y) = let w = sym a ∙ y in let z : l ≡ m = cc in rw (← z) (rw (o, x) at opened)
 
-      pub good_row : {after : code.State} → one.act header q initial row (run_of state) ≡ good (run_of after)
+      pub good_row : {after : code.State} → one.act q initial row (run_of state) ≡ good (run_of after)
           → Inside whole header word q initial ops k more old out after i loc next
       unfolding doing when_acted
       good_row {after} a = by row_seen
         where
-          by : SeenAs q (act header n.first row n.all) (one.act header q initial row (run_of state))
+          by : SeenAs q (act header n.first row n.all) (one.act q initial row (run_of state))
               → Inside whole header word q initial ops k more old out after i loc next
           by (answered s x y) =
               let w = sym a ∙ y in

@@ -2,8 +2,6 @@
 #![tactic(auto)]
 
 ghost use Rattle.std.specs.Prelude.{◌≡◌, length};
-ghost use Rattle.reader.specs.Finds.{in_section};
-ghost use Rattle.reads.specs.Places.{reader_places};
 ghost use Rattle.listing.specs.Lines.{along, Lists};
 
 use reads::Located;
@@ -32,12 +30,6 @@ pub fn unlisted(number: u64) -> Listed
     }
 }
 
-fn in_section(section: &[u8], l: Located) -> bool
-    ensures { result ≡ in_section section.now (reader_places l) }
-{
-    reader::in_section(section, reads::reader_places(l))
-}
-
 #[unsafe(no_mangle)]
 pub extern "C" fn unwind_rules_along(
     section: &[u8],
@@ -50,20 +42,12 @@ pub extern "C" fn unwind_rules_along(
     if located.number != 0 {
         return unlisted(located.number);
     }
-    if !in_section(section, located) {
+    let l = reads::reader_places(located);
+    if !reader::in_section(section, l) {
         return unlisted(64);
     }
     if (lines.len() / 7) as u64 <= located.record_end - located.record {
         return unlisted(54);
     }
-    run::fill(
-        section,
-        located.header as usize,
-        located.header_end as usize,
-        located.record as usize,
-        located.record_end as usize,
-        located.word,
-        q,
-        lines,
-    )
+    run::fill(section, &l, q, lines)
 }

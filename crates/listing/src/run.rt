@@ -1,14 +1,15 @@
 // The run over the operations of a header and a record, with a line stored at each step.
 ghost use Rattle.std.specs.Prelude.{◌≡◌, ◌+◌, ◌-◌, ◌*◌, ◌/◌, ◌≤◌, length, T};
 ghost use Rattle.format.specs.Prelude.{good};
-ghost use Rattle.format.specs.Machine.{is_word_size};
 ghost use Rattle.format.proofs.Wrote.{Wrote};
 ghost use Rattle.reader.specs.Spans.{part};
+ghost use Rattle.reader.specs.Finds.{in_section};
 ghost use Rattle.listing.specs.Lines.{lines_of, line_numbers, Lists};
 
 use crate::Listed;
 use format::{Operation, Rules};
 use operations::fields::Position;
+use reader::location::Located;
 use reader::run;
 
 // The largest offset.
@@ -44,44 +45,30 @@ fn listed(end: usize, ending: u64, from: u64) -> Listed
 }
 
 // The header's operations and then the record's, for register q. The state stays in place: passed by value its 16 stored rules would be the run's cost.
-pub fn fill(
-    s: &[u8],
-    header: usize,
-    header_end: usize,
-    record: usize,
-    record_end: usize,
-    word: u64,
-    q: u16,
-    out: &mut [u64],
-) -> Listed
-    requires { T (is_word_size word) × (header ≤ header_end) × (header_end ≤ length s.now) × («record» ≤ record_end) × (record_end ≤ length s.now) × (7 * (record_end - «record» + 1) ≤ length out.old) }
-    ensures { Lists q (good (lines_of word (part s.now header header_end) (part s.now «record» record_end))) result out.old out.new }
+pub fn fill(s: &[u8], l: &Located, q: u16, out: &mut [u64]) -> Listed
+    requires { T (in_section s.now l.now) × (7 * (l.now.record_end - l.now.«record» + 1) ≤ length out.old) }
+    ensures { Lists q (good (lines_of l.now.word (part s.now l.now.header l.now.header_end) (part s.now l.now.«record» l.now.record_end))) result out.old out.new }
 {
     let mut state = run::start();
     let mut i = 0;
     let mut loc = 0;
-    // The entries that are left, and where the next one is.
-    let mut left: usize = 2;
-    let mut from = header;
-    let mut to = header_end;
-    'entries: while left != 0 {
+    // The followed register's rule after the header, which a header's operations do not have.
+    let mut initial = None;
+    'entries: for span in l.operations() {
+        let from = span.at;
+        let to = span.end;
         let ops = &s[from..to];
-        let first = left == 2;
-        let initial = state.rules.rule;
-        left -= 1;
-        from = record;
-        to = record_end;
         let mut at = Position::START;
         // Kept: a `while`, which moves by each operation's length.
         'operations: while at.at < ops.len() {
-            let Some((op, next)) = operations::operation(ops, at, word) else {
+            let Some((op, next)) = operations::operation(ops, at, l.word) else {
                 return listed(i, 66, loc);
             };
             at = next;
             match op {
                 Operation::Nop => continue 'operations,
                 Operation::Step(n) => {
-                    if first {
+                    if initial.is_none() {
                         return listed(i, 66, loc);
                     }
                     if n == 0 {
@@ -95,12 +82,13 @@ pub fn fill(
                     continue 'operations;
                 }
                 Operation::Does(row) => {
-                    if let Err(number) = run::act(&mut state, first, q, initial, row) {
+                    if let Err(number) = run::act(&mut state, q, initial, row) {
                         return listed(i, number, loc);
                     }
                 }
             }
         }
+        initial = Some(state.rules.rule);
     }
     i = line(out, i, loc, state.rules);
     listed(i, 0, 0)

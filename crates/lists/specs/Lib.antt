@@ -2,3 +2,4 @@
 pub mod Parts
 pub mod Extents
 pub mod Room
+pub mod Given

@@ -6,11 +6,12 @@ ghost use Rattle.std.specs.Int.{w64};
 ghost use Rattle.std.proofs.Common.{to_z};
 ghost use Rattle.format.specs.Prelude.{all};
 ghost use Rattle.format.specs.Machine.{machine_ok, machine_of};
-ghost use Rattle.format.specs.Lists.{count, field, row_stride, pair_stride, code_stride, most_records, inside, symbol_ok, pointer_ok, row_ok_at, pair_ok_at, code_ok_at, all_in, sum_of, pairs_in, function_ok_at, prologue_ok_at, lists_ok, codes_ok, code_at};
+ghost use Rattle.format.specs.Lists.{count, field, row_stride, pair_stride, code_stride, most_records, inside, symbol_ok, pointer_ok, row_ok_at, pair_ok_at, code_ok_at, all_in, sum_of, pairs_in, prologue_ok_at, codes_ok, code_at};
 ghost use Rattle.format.proofs.Asked.{question_of};
 ghost use Rattle.lists.specs.Room.{room_for};
-ghost use Rattle.lists.specs.Parts.{ranges_ok_at, named_ok_at, relaxed_ok_at, outline_ok_at, sums_ok};
-ghost use Rattle.lists.specs.Extents.{extent_at, landing_in, pair_in, prologue_in};
+ghost use Rattle.lists.specs.Parts.{ranges_ok_at, named_ok_at, relaxed_ok_at, sums_ok};
+ghost use Rattle.lists.specs.Given.{count_of, outline_of, function_of, listed_of};
+ghost use Rattle.lists.specs.Extents.{lsda_at, personality_at, labels_at, extent_at, landing_in, pair_in, prologue_in};
 
 use format::{Counts, Machine, Refusal, Seh};
 use numbers::{codes, machine};
@@ -42,6 +43,15 @@ const PAST_SYMBOLS: u64 = 4294967296;
 
 // A call pushes fewer bytes than this.
 const PUSHED_BYTES: u64 = 2147483648;
+
+// The lists that functions are read from.
+#[derive(Clone, Copy)]
+pub struct Lists<'a> {
+    pub functions: &'a [u64],
+    pub rows: &'a [u64],
+    pub landings: &'a [u64],
+    pub pairs: &'a [u64],
+}
 
 // ---- the machine, questions 11 and 12
 
@@ -113,6 +123,29 @@ pub fn machine_of(ms: &[u64]) -> Machine
 
 // ---- records out of the lists
 
+// The data of a function's exceptions, by the encoding and the symbol of the pointer to it.
+#[derive(Clone, Copy)]
+pub struct Lsda {
+    pub encoding: u64,
+    pub symbol: u64,
+}
+
+// A personality that the caller names, by the encoding and the symbol of the pointer to its routine.
+#[derive(Clone, Copy)]
+pub struct Personality {
+    pub encoding: u64,
+    pub routine: u64,
+    pub lsda: Option<Lsda>,
+}
+
+// Relaxing labels: that of the function's end, and those of pairs of places.
+#[derive(Clone, Copy)]
+pub struct Labels {
+    pub end: u64,
+    pub pairs_at: usize,
+    pub pairs: usize,
+}
+
 // Function k of the list: its numbers, with the marks as answers. What they say is function_at of the definitions.
 #[derive(Clone, Copy)]
 pub struct Extent {
@@ -124,16 +157,55 @@ pub struct Extent {
     pub landings: usize,
     pub simple: bool,
     pub signal: bool,
-    pub personality: bool,
-    pub encoding: u64,
-    pub routine: u64,
-    pub lsda: bool,
-    pub lsda_encoding: u64,
-    pub lsda_symbol: u64,
-    pub relaxed: bool,
-    pub end: u64,
-    pub pairs_at: usize,
-    pub pairs: usize,
+    pub personality: Option<Personality>,
+    pub relaxed: Option<Labels>,
+}
+
+#[tactic(auto, unfolding(crate::specs::Extents::lsda_at, crate::specs::Extents::marked, format::specs::Lists::mark, format::specs::Prelude::pick))]
+fn lsda_at(fs: &[u64], k: usize) -> Option<Lsda>
+    requires { 18 * k + 18 ≤ length fs.now }
+    ensures { result ≡ lsda_at fs.now k }
+{
+    let b = FUNCTION_STRIDE * k;
+    if fs[b + function::LSDA] == 0 {
+        return None;
+    }
+    Some(Lsda {
+        encoding: fs[b + function::LSDA_ENCODING],
+        symbol: fs[b + function::LSDA_SYMBOL],
+    })
+}
+
+#[tactic(auto, unfolding(crate::specs::Extents::personality_at, crate::specs::Extents::marked, format::specs::Lists::mark, format::specs::Prelude::pick))]
+fn personality_at(fs: &[u64], k: usize) -> Option<Personality>
+    requires { 18 * k + 18 ≤ length fs.now }
+    ensures { result ≡ personality_at fs.now k }
+{
+    let b = FUNCTION_STRIDE * k;
+    if fs[b + function::PERSONALITY] == 0 {
+        return None;
+    }
+    Some(Personality {
+        encoding: fs[b + function::ENCODING],
+        routine: fs[b + function::ROUTINE],
+        lsda: lsda_at(fs, k),
+    })
+}
+
+#[tactic(auto, unfolding(crate::specs::Extents::labels_at, crate::specs::Extents::marked, format::specs::Lists::mark, format::specs::Prelude::pick))]
+fn labels_at(fs: &[u64], k: usize) -> Option<Labels>
+    requires { 18 * k + 18 ≤ length fs.now }
+    ensures { result ≡ labels_at fs.now k }
+{
+    let b = FUNCTION_STRIDE * k;
+    if fs[b + function::RELAXED] == 0 {
+        return None;
+    }
+    Some(Labels {
+        end: fs[b + function::END],
+        pairs_at: fs[b + function::PAIRS_AT] as usize,
+        pairs: fs[b + function::PAIRS] as usize,
+    })
 }
 
 #[tactic(auto, unfolding(crate::specs::Extents::extent_at, format::specs::Lists::mark))]
@@ -151,16 +223,8 @@ pub fn extent_at(fs: &[u64], k: usize) -> Extent
         landings: fs[b + function::LANDINGS] as usize,
         simple: fs[b + function::SIMPLE] != 0,
         signal: fs[b + function::SIGNAL] != 0,
-        personality: fs[b + function::PERSONALITY] != 0,
-        encoding: fs[b + function::ENCODING],
-        routine: fs[b + function::ROUTINE],
-        lsda: fs[b + function::LSDA] != 0,
-        lsda_encoding: fs[b + function::LSDA_ENCODING],
-        lsda_symbol: fs[b + function::LSDA_SYMBOL],
-        relaxed: fs[b + function::RELAXED] != 0,
-        end: fs[b + function::END],
-        pairs_at: fs[b + function::PAIRS_AT] as usize,
-        pairs: fs[b + function::PAIRS] as usize,
+        personality: personality_at(fs, k),
+        relaxed: labels_at(fs, k),
     }
 }
 
@@ -331,6 +395,8 @@ fn code_ok(cs: &[u64], i: usize) -> bool
 // ---- question 13 of the records that a function reaches
 
 // The n rows from `at` on.
+// Kept: these three ask lists of other strides over a range, each by its own test. A struct of a list and a range would be made
+// for one call, and be no plainer.
 pub fn rows_ok(rows: &[u64], at: usize, n: usize) -> bool
     requires { at + n ≤ count row_stride rows.now }
     ensures { result ≡ all_in (row_ok_at rows.now) at n }
@@ -352,27 +418,6 @@ fn codes_in(cs: &[u64], at: usize, n: usize) -> bool
     ensures { result ≡ all_in (code_ok_at cs.now) at n }
 {
     (at..at + n).all(|i| code_ok(cs, i))
-}
-
-// The symbol of function k, and where its rows and landings are.
-#[tactic(auto, unfolding(crate::specs::Parts::ranges_ok_at))]
-fn ranges_ok(fs: &[u64], rows: &[u64], landings: &[u64], k: usize) -> bool
-    requires { 18 * k + 18 ≤ length fs.now }
-    ensures { result ≡ ranges_ok_at fs.now rows.now landings.now k }
-{
-    if !symbol_ok(fs[FUNCTION_STRIDE * k]) {
-        return false;
-    }
-    let at = fs[FUNCTION_STRIDE * k + function::ROWS_AT];
-    let n = fs[FUNCTION_STRIDE * k + function::ROWS];
-    if !inside(at, n, (rows.len() / ROW_STRIDE) as u64) {
-        return false;
-    }
-    inside(
-        fs[FUNCTION_STRIDE * k + function::LANDINGS_AT],
-        fs[FUNCTION_STRIDE * k + function::LANDINGS],
-        (landings.len() / LANDING_STRIDE) as u64,
-    )
 }
 
 // The named personality of function k, where it has one.
@@ -399,67 +444,6 @@ fn named_ok(fs: &[u64], k: usize) -> bool
     pointer_ok(
         fs[FUNCTION_STRIDE * k + function::LSDA_ENCODING],
         fs[FUNCTION_STRIDE * k + function::LSDA_SYMBOL],
-    )
-}
-
-// The relaxing labels of function k, where it has them, and the pairs that they reach.
-fn relaxed_ok(fs: &[u64], pairs: &[u64], k: usize) -> bool
-    requires { 18 * k + 18 ≤ length fs.now }
-    ensures { result ≡ relaxed_ok_at fs.now pairs.now k }
-{
-    if fs[FUNCTION_STRIDE * k + function::RELAXED] == 0 {
-        return true;
-    }
-    if !symbol_ok(fs[FUNCTION_STRIDE * k + function::END]) {
-        return false;
-    }
-    let at = fs[FUNCTION_STRIDE * k + function::PAIRS_AT];
-    let n = fs[FUNCTION_STRIDE * k + function::PAIRS];
-    if !inside(at, n, (pairs.len() / PAIR_STRIDE) as u64) {
-        return false;
-    }
-    pairs_ok(pairs, at as usize, n as usize)
-}
-
-// Function k, and the records that it reaches but its rows.
-#[tactic(auto, unfolding(crate::specs::Parts::outline_ok_at, format::specs::Lists::mark_ok))]
-pub fn outline_ok(fs: &[u64], rows: &[u64], landings: &[u64], pairs: &[u64], k: usize) -> bool
-    requires { 18 * k + 18 ≤ length fs.now }
-    ensures { result ≡ outline_ok_at fs.now rows.now landings.now pairs.now k }
-{
-    if !ranges_ok(fs, rows, landings, k) {
-        return false;
-    }
-    if 1 < fs[FUNCTION_STRIDE * k + function::SIMPLE] {
-        return false;
-    }
-    if 1 < fs[FUNCTION_STRIDE * k + function::SIGNAL] {
-        return false;
-    }
-    if 1 < fs[FUNCTION_STRIDE * k + function::PERSONALITY] {
-        return false;
-    }
-    if !named_ok(fs, k) {
-        return false;
-    }
-    if 1 < fs[FUNCTION_STRIDE * k + function::RELAXED] {
-        return false;
-    }
-    relaxed_ok(fs, pairs, k)
-}
-
-// Function k, and the records that it reaches.
-fn function_ok(fs: &[u64], rows: &[u64], landings: &[u64], pairs: &[u64], k: usize) -> bool
-    requires { 18 * k + 18 ≤ length fs.now }
-    ensures { result ≡ function_ok_at fs.now rows.now landings.now pairs.now k }
-{
-    if !outline_ok(fs, rows, landings, pairs, k) {
-        return false;
-    }
-    rows_ok(
-        rows,
-        fs[FUNCTION_STRIDE * k + function::ROWS_AT] as usize,
-        fs[FUNCTION_STRIDE * k + function::ROWS] as usize,
     )
 }
 
@@ -525,14 +509,6 @@ fn pairs_sum_ok(fs: &[u64], n: usize) -> bool
     sum_fits(|k| pairs_in(fs, k), n)
 }
 
-// The first n functions.
-pub fn functions_ok(fs: &[u64], rows: &[u64], landings: &[u64], pairs: &[u64], n: usize) -> bool
-    requires { 18 * n ≤ length fs.now }
-    ensures { result ≡ all_in (function_ok_at fs.now rows.now landings.now pairs.now) 0 n }
-{
-    (0..n).all(|k| function_ok(fs, rows, landings, pairs, k))
-}
-
 // Question 13, as far as the functions are counted, and what they reach.
 #[tactic(auto, unfolding(crate::specs::Parts::sums_ok))]
 pub fn sums_ok(fs: &[u64]) -> bool
@@ -551,15 +527,114 @@ pub fn sums_ok(fs: &[u64]) -> bool
     pairs_sum_ok(fs, n)
 }
 
-// Question 13 of the lists of functions.
-#[tactic(auto, unfolding(format::specs::Lists::lists_ok, crate::specs::Parts::sums_ok))]
-pub fn lists_ok(fs: &[u64], rows: &[u64], landings: &[u64], pairs: &[u64]) -> bool
-    ensures { result ≡ lists_ok fs.now rows.now landings.now pairs.now }
-{
-    if !sums_ok(fs) {
-        return false;
+impl Lists<'_> {
+    // How many functions there are.
+    pub fn count(&self) -> usize
+        ensures { result ≡ count_of self.now }
+    {
+        self.functions.len() / FUNCTION_STRIDE
     }
-    functions_ok(fs, rows, landings, pairs, fs.len() / FUNCTION_STRIDE)
+
+    // The symbol of function k, and where its rows and landings are.
+    #[tactic(auto, unfolding(crate::specs::Parts::ranges_ok_at))]
+    fn ranges_ok(&self, k: usize) -> bool
+        requires { 18 * k + 18 ≤ length self.now.functions.now }
+        ensures { result ≡ ranges_ok_at self.now.functions.now self.now.rows.now self.now.landings.now k }
+    {
+        if !symbol_ok(self.functions[FUNCTION_STRIDE * k]) {
+            return false;
+        }
+        let at = self.functions[FUNCTION_STRIDE * k + function::ROWS_AT];
+        let n = self.functions[FUNCTION_STRIDE * k + function::ROWS];
+        if !inside(at, n, (self.rows.len() / ROW_STRIDE) as u64) {
+            return false;
+        }
+        inside(
+            self.functions[FUNCTION_STRIDE * k + function::LANDINGS_AT],
+            self.functions[FUNCTION_STRIDE * k + function::LANDINGS],
+            (self.landings.len() / LANDING_STRIDE) as u64,
+        )
+    }
+
+    // The relaxing labels of function k, where it has them, and the pairs that they reach.
+    fn relaxed_ok(&self, k: usize) -> bool
+        requires { 18 * k + 18 ≤ length self.now.functions.now }
+        ensures { result ≡ relaxed_ok_at self.now.functions.now self.now.pairs.now k }
+    {
+        if self.functions[FUNCTION_STRIDE * k + function::RELAXED] == 0 {
+            return true;
+        }
+        if !symbol_ok(self.functions[FUNCTION_STRIDE * k + function::END]) {
+            return false;
+        }
+        let at = self.functions[FUNCTION_STRIDE * k + function::PAIRS_AT];
+        let n = self.functions[FUNCTION_STRIDE * k + function::PAIRS];
+        if !inside(at, n, (self.pairs.len() / PAIR_STRIDE) as u64) {
+            return false;
+        }
+        pairs_ok(self.pairs, at as usize, n as usize)
+    }
+
+    // Function k, and the records that it reaches but its rows.
+    #[tactic(auto, unfolding(crate::specs::Parts::outline_ok_at, format::specs::Lists::mark_ok))]
+    pub fn outline_ok(&self, k: usize) -> bool
+        requires { 18 * k + 18 ≤ length self.now.functions.now }
+        ensures { result ≡ outline_of self.now k }
+    {
+        if !self.ranges_ok(k) {
+            return false;
+        }
+        if 1 < self.functions[FUNCTION_STRIDE * k + function::SIMPLE] {
+            return false;
+        }
+        if 1 < self.functions[FUNCTION_STRIDE * k + function::SIGNAL] {
+            return false;
+        }
+        if 1 < self.functions[FUNCTION_STRIDE * k + function::PERSONALITY] {
+            return false;
+        }
+        if !named_ok(self.functions, k) {
+            return false;
+        }
+        if 1 < self.functions[FUNCTION_STRIDE * k + function::RELAXED] {
+            return false;
+        }
+        self.relaxed_ok(k)
+    }
+
+    // Function k, and the records that it reaches.
+    fn function_ok(&self, k: usize) -> bool
+        requires { 18 * k + 18 ≤ length self.now.functions.now }
+        ensures { result ≡ function_of self.now k }
+    {
+        if !self.outline_ok(k) {
+            return false;
+        }
+        rows_ok(
+            self.rows,
+            self.functions[FUNCTION_STRIDE * k + function::ROWS_AT] as usize,
+            self.functions[FUNCTION_STRIDE * k + function::ROWS] as usize,
+        )
+    }
+
+    // The first n functions.
+    pub fn functions_ok(&self, n: usize) -> bool
+        requires { 18 * n ≤ length self.now.functions.now }
+        ensures { result ≡ all_in (function_of self.now) 0 n }
+    {
+        (0..n).all(|k| self.function_ok(k))
+    }
+
+    // Question 13 of the lists of functions.
+    #[tactic(auto, unfolding(format::specs::Lists::lists_ok, crate::specs::Parts::sums_ok))]
+    pub fn ok(&self) -> bool
+        ensures { result ≡ listed_of self.now }
+    {
+        if !sums_ok(self.functions) {
+            return false;
+        }
+        self.functions_ok(self.count())
+    }
 }
 
 // The first n records of direct codes.

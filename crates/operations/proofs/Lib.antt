@@ -6,4 +6,4 @@ pub mod GroupLoop
 pub mod Readings
 pub mod FieldLoop
 pub mod Products
-pub mod Operations
+pub mod OperandLaws

@@ -13,29 +13,15 @@ use numbers::opcodes;
 
 pub mod fields;
 
+// The bytes that operations stand in, and the word that their offsets are factored by.
+#[derive(Clone, Copy)]
+struct Operations<'a> {
+    bytes: &'a [u8],
+    word: u64,
+    ghost factored: { 0 < word },
+}
+
 // ---- an operand read
-
-// A register, to 65,535.
-fn register_at(s: &[u8], at: Position) -> Option<(u16, Position)>
-    ensures { result ≡ register_at s.now at }
-{
-    let (v, past) = read_uleb(s, at)?;
-    if v <= 0xffff {
-        return Some((v as u16, past));
-    }
-    None
-}
-
-// An offset as it stands.
-fn plain_at(s: &[u8], at: Position) -> Option<(i64, Position)>
-    ensures { result ≡ plain_at s.now at }
-{
-    let (v, past) = read_uleb(s, at)?;
-    if v < 9223372036854775808 {
-        return Some((v as i64, past));
-    }
-    None
-}
 
 // An offset v words below the frame address, where 64 bits hold it.
 fn words_below(word: u64, v: u64, past: Position) -> Option<(i64, Position)>
@@ -62,40 +48,6 @@ fn words_above(word: u64, m: u64, past: Position) -> Option<(i64, Position)>
     Some(((m * word) as i64, past))
 }
 
-// A factored offset, unsigned.
-fn factored_at(s: &[u8], at: Position, word: u64) -> Option<(i64, Position)>
-    requires { 0 < word }
-    ensures { result ≡ factored_at word s.now at }
-{
-    let (v, past) = read_uleb(s, at)?;
-    words_below(word, v, past)
-}
-
-// A factored offset, signed.
-fn signed_at(s: &[u8], at: Position, word: u64) -> Option<(i64, Position)>
-    requires { 0 < word }
-    ensures { result ≡ signed_at word s.now at }
-{
-    let (z, past) = read_sleb(s, at)?;
-    if z < 0 {
-        return words_above(word, rows::size(z), past);
-    }
-    words_below(word, z as u64, past)
-}
-
-// The offset behind opcode b.
-fn operand_at(s: &[u8], at: Position, word: u64, b: u8) -> Option<(i64, Position)>
-    requires { 0 < word }
-    ensures { result ≡ operand_at word b s.now at }
-{
-    match b {
-        opcodes::DW_CFA_OFFSET_EXTENDED => factored_at(s, at, word),
-        opcodes::DW_CFA_DEF_CFA => plain_at(s, at),
-        opcodes::DW_CFA_DEF_CFA_OFFSET => plain_at(s, at),
-        _ => signed_at(s, at, word),
-    }
-}
-
 // ---- an operation read
 
 // The row of opcode b with a register, and with a register and an offset.
@@ -120,85 +72,141 @@ fn pair_row(b: u8, reg: u16, z: i64) -> Row
     }
 }
 
-// A step whose operand has n bytes.
-fn step_at(s: &[u8], at: Position, n: usize) -> Option<(Operation, Position)>
-    requires { (0 < n) × (n ≤ 8) }
-    ensures { result ≡ step_at n s.now at }
-{
-    let (v, past) = read_le(s, at, n)?;
-    Some((Operation::Step(v), past))
-}
+impl Operations<'_> {
+    // A register, to 65,535.
+    fn register_at(&self, at: Position) -> Option<(u16, Position)>
+        ensures { result ≡ register_at self.now.bytes.now at }
+    {
+        let (v, past) = read_uleb(self.bytes, at)?;
+        if v <= 0xffff {
+            return Some((v as u16, past));
+        }
+        None
+    }
 
-// Opcode b with a register.
-fn register_row_at(s: &[u8], at: Position, b: u8) -> Option<(Operation, Position)>
-    ensures { result ≡ register_row_at b s.now at }
-{
-    let (reg, past) = register_at(s, at)?;
-    Some((Operation::Does(register_row(b, reg)), past))
-}
+    // An offset as it stands.
+    fn plain_at(&self, at: Position) -> Option<(i64, Position)>
+        ensures { result ≡ plain_at self.now.bytes.now at }
+    {
+        let (v, past) = read_uleb(self.bytes, at)?;
+        if v < 9223372036854775808 {
+            return Some((v as i64, past));
+        }
+        None
+    }
 
-// Opcode b with an offset.
-fn offset_row_at(s: &[u8], at: Position, word: u64, b: u8) -> Option<(Operation, Position)>
-    requires { 0 < word }
-    ensures { result ≡ offset_row_at word b s.now at }
-{
-    let (z, past) = operand_at(s, at, word, b)?;
-    Some((Operation::Does(Row::DefCfaOffset(z)), past))
-}
+    // A factored offset, unsigned.
+    fn factored_at(&self, at: Position) -> Option<(i64, Position)>
+        ensures { result ≡ factored_at self.now.word self.now.bytes.now at }
+    {
+        let (v, past) = read_uleb(self.bytes, at)?;
+        words_below(self.word, v, past)
+    }
 
-// Opcode b with a register and an offset.
-fn pair_row_at(s: &[u8], at: Position, word: u64, b: u8) -> Option<(Operation, Position)>
-    requires { 0 < word }
-    ensures { result ≡ pair_row_at word b s.now at }
-{
-    let (reg, next) = register_at(s, at)?;
-    let (z, past) = operand_at(s, next, word, b)?;
-    Some((Operation::Does(pair_row(b, reg, z)), past))
-}
+    // A factored offset, signed.
+    fn signed_at(&self, at: Position) -> Option<(i64, Position)>
+        ensures { result ≡ signed_at self.now.word self.now.bytes.now at }
+    {
+        let (z, past) = read_sleb(self.bytes, at)?;
+        if z < 0 {
+            return words_above(self.word, rows::size(z), past);
+        }
+        words_below(self.word, z as u64, past)
+    }
 
-// Two registers: the second holds the value of the first.
-fn in_register_at(s: &[u8], at: Position) -> Option<(Operation, Position)>
-    ensures { result ≡ in_register_at s.now at }
-{
-    let (reg, next) = register_at(s, at)?;
-    let (other, past) = register_at(s, next)?;
-    Some((Operation::Does(Row::InRegister(reg, other)), past))
-}
+    // The offset behind opcode b.
+    // Kept: a position and an opcode, here and below, are two numbers of one call; a struct of them would be made for it alone.
+    fn operand_at(&self, at: Position, b: u8) -> Option<(i64, Position)>
+        ensures { result ≡ operand_at self.now.word b self.now.bytes.now at }
+    {
+        match b {
+            opcodes::DW_CFA_OFFSET_EXTENDED => self.factored_at(at),
+            opcodes::DW_CFA_DEF_CFA => self.plain_at(at),
+            opcodes::DW_CFA_DEF_CFA_OFFSET => self.plain_at(at),
+            _ => self.signed_at(at),
+        }
+    }
 
-// A saved register whose number was in the opcode.
-fn saved_at(s: &[u8], at: Position, word: u64, reg: u16) -> Option<(Operation, Position)>
-    requires { 0 < word }
-    ensures { result ≡ saved_at word reg s.now at }
-{
-    let (z, past) = factored_at(s, at, word)?;
-    Some((Operation::Does(Row::Offset(reg, z)), past))
-}
+    // A step whose operand has n bytes.
+    fn step_at(&self, at: Position, n: usize) -> Option<(Operation, Position)>
+        requires { (0 < n) × (n ≤ 8) }
+        ensures { result ≡ step_at n self.now.bytes.now at }
+    {
+        let (v, past) = read_le(self.bytes, at, n)?;
+        Some((Operation::Step(v), past))
+    }
 
-// The operations whose opcode b holds no number, behind it.
-fn extended_at(s: &[u8], at: Position, word: u64, b: u8) -> Option<(Operation, Position)>
-    requires { (0 < word) × (at.at ≤ length s.now) }
-    ensures { result ≡ extended_at word b s.now at }
-{
-    match b {
-        opcodes::DW_CFA_NOP => Some((Operation::Nop, at)),
-        opcodes::DW_CFA_ADVANCE_LOC1 => step_at(s, at, 1),
-        opcodes::DW_CFA_ADVANCE_LOC2 => step_at(s, at, 2),
-        opcodes::DW_CFA_ADVANCE_LOC4 => step_at(s, at, 4),
-        opcodes::DW_CFA_OFFSET_EXTENDED => pair_row_at(s, at, word, b),
-        opcodes::DW_CFA_RESTORE_EXTENDED => register_row_at(s, at, b),
-        opcodes::DW_CFA_UNDEFINED => register_row_at(s, at, b),
-        opcodes::DW_CFA_SAME_VALUE => register_row_at(s, at, b),
-        opcodes::DW_CFA_REGISTER => in_register_at(s, at),
-        opcodes::DW_CFA_REMEMBER_STATE => Some((Operation::Does(Row::RememberState), at)),
-        opcodes::DW_CFA_RESTORE_STATE => Some((Operation::Does(Row::RestoreState), at)),
-        opcodes::DW_CFA_DEF_CFA => pair_row_at(s, at, word, b),
-        opcodes::DW_CFA_DEF_CFA_REGISTER => register_row_at(s, at, b),
-        opcodes::DW_CFA_DEF_CFA_OFFSET => offset_row_at(s, at, word, b),
-        opcodes::DW_CFA_OFFSET_EXTENDED_SF => pair_row_at(s, at, word, b),
-        opcodes::DW_CFA_DEF_CFA_SF => pair_row_at(s, at, word, b),
-        opcodes::DW_CFA_DEF_CFA_OFFSET_SF => offset_row_at(s, at, word, b),
-        opcodes::DW_CFA_AARCH64_NEGATE_RA_STATE => Some((Operation::Does(Row::NegateRaState), at)),
-        _ => None,
+    // Opcode b with a register.
+    fn register_row_at(&self, at: Position, b: u8) -> Option<(Operation, Position)>
+        ensures { result ≡ register_row_at b self.now.bytes.now at }
+    {
+        let (reg, past) = self.register_at(at)?;
+        Some((Operation::Does(register_row(b, reg)), past))
+    }
+
+    // Opcode b with an offset.
+    fn offset_row_at(&self, at: Position, b: u8) -> Option<(Operation, Position)>
+        ensures { result ≡ offset_row_at self.now.word b self.now.bytes.now at }
+    {
+        let (z, past) = self.operand_at(at, b)?;
+        Some((Operation::Does(Row::DefCfaOffset(z)), past))
+    }
+
+    // Opcode b with a register and an offset.
+    fn pair_row_at(&self, at: Position, b: u8) -> Option<(Operation, Position)>
+        ensures { result ≡ pair_row_at self.now.word b self.now.bytes.now at }
+    {
+        let (reg, next) = self.register_at(at)?;
+        let (z, past) = self.operand_at(next, b)?;
+        Some((Operation::Does(pair_row(b, reg, z)), past))
+    }
+
+    // Two registers: the second holds the value of the first.
+    fn in_register_at(&self, at: Position) -> Option<(Operation, Position)>
+        ensures { result ≡ in_register_at self.now.bytes.now at }
+    {
+        let (reg, next) = self.register_at(at)?;
+        let (other, past) = self.register_at(next)?;
+        Some((Operation::Does(Row::InRegister(reg, other)), past))
+    }
+
+    // A saved register whose number was in the opcode.
+    fn saved_at(&self, at: Position, reg: u16) -> Option<(Operation, Position)>
+        ensures { result ≡ saved_at self.now.word reg self.now.bytes.now at }
+    {
+        let (z, past) = self.factored_at(at)?;
+        Some((Operation::Does(Row::Offset(reg, z)), past))
+    }
+
+    // The operations whose opcode b holds no number, behind it.
+    fn extended_at(&self, at: Position, b: u8) -> Option<(Operation, Position)>
+        requires { at.at ≤ length self.now.bytes.now }
+        ensures { result ≡ extended_at self.now.word b self.now.bytes.now at }
+    {
+        match b {
+            opcodes::DW_CFA_NOP => Some((Operation::Nop, at)),
+            opcodes::DW_CFA_ADVANCE_LOC1 => self.step_at(at, 1),
+            opcodes::DW_CFA_ADVANCE_LOC2 => self.step_at(at, 2),
+            opcodes::DW_CFA_ADVANCE_LOC4 => self.step_at(at, 4),
+            opcodes::DW_CFA_OFFSET_EXTENDED => self.pair_row_at(at, b),
+            opcodes::DW_CFA_RESTORE_EXTENDED => self.register_row_at(at, b),
+            opcodes::DW_CFA_UNDEFINED => self.register_row_at(at, b),
+            opcodes::DW_CFA_SAME_VALUE => self.register_row_at(at, b),
+            opcodes::DW_CFA_REGISTER => self.in_register_at(at),
+            opcodes::DW_CFA_REMEMBER_STATE => Some((Operation::Does(Row::RememberState), at)),
+            opcodes::DW_CFA_RESTORE_STATE => Some((Operation::Does(Row::RestoreState), at)),
+            opcodes::DW_CFA_DEF_CFA => self.pair_row_at(at, b),
+            opcodes::DW_CFA_DEF_CFA_REGISTER => self.register_row_at(at, b),
+            opcodes::DW_CFA_DEF_CFA_OFFSET => self.offset_row_at(at, b),
+            opcodes::DW_CFA_OFFSET_EXTENDED_SF => self.pair_row_at(at, b),
+            opcodes::DW_CFA_DEF_CFA_SF => self.pair_row_at(at, b),
+            opcodes::DW_CFA_DEF_CFA_OFFSET_SF => self.offset_row_at(at, b),
+            opcodes::DW_CFA_AARCH64_NEGATE_RA_STATE => Some((
+                Operation::Does(Row::NegateRaState),
+                at,
+            )),
+            _ => None,
+        }
     }
 }
 
@@ -211,13 +219,14 @@ pub fn operation(s: &[u8], at: Position, word: u64) -> Option<(Operation, Positi
     if s.len() <= from {
         return None;
     }
+    let x = Operations { bytes: s, word };
     let b = s[from];
     let behind = Position {
         at: from + 1,
         shortest: at.shortest,
     };
     if b < opcodes::DW_CFA_ADVANCE_LOC {
-        return extended_at(s, behind, word, b);
+        return x.extended_at(behind, b);
     }
     if b < opcodes::DW_CFA_OFFSET {
         return Some((
@@ -226,7 +235,7 @@ pub fn operation(s: &[u8], at: Position, word: u64) -> Option<(Operation, Positi
         ));
     }
     if b < opcodes::DW_CFA_RESTORE {
-        return saved_at(s, behind, word, (b - opcodes::DW_CFA_OFFSET) as u16);
+        return x.saved_at(behind, (b - opcodes::DW_CFA_OFFSET) as u16);
     }
     Some((
         Operation::Does(Row::Restore((b - opcodes::DW_CFA_RESTORE) as u16)),

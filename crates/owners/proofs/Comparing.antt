@@ -22,6 +22,7 @@ use Rattle.lists.specs.Extents.{extent_at, meant}
 use Rattle.header_keys.specs.Functions.{without, taken_in, key_in, RowsReady}
 use Rattle.header_keys.specs.Kinds.{kind_in}
 use Rattle.header_keys.proofs.KindMeans.{kind_means}
+use Rattle.header_keys.specs.Inputs.{Inputs, extent_in}
 use Rattle.owners.specs.Owners.{leading_in, same_at}
 use Rattle.owners.proofs.Finding.{shares}
 
@@ -81,21 +82,21 @@ unfolding same_key key_of meant
 key_parts m a b rows = rw (kind_means m a rows, kind_means m b rows)
 
 -- functions j and k, as the section takes them, were asked for their kinds and signal marks
-pub record Asked (s : Section) (m : Machine) (fs rows : List ℕ) (j k : ℕ) (a b : Extent) (r : Bool) : Type 0 where
-  pub first : a ≡ taken_in s (extent_at fs j)
-  pub second : b ≡ taken_in s (extent_at fs k)
+pub record Asked (x : Inputs) (j k : ℕ) (a b : Extent) (r : Bool) : Type 0 where
+  pub first : a ≡ extent_in x j
+  pub second : b ≡ extent_in x k
   pub answer : r ≡ same_kind (kind_in a) (kind_in b) && beq a.signal b.signal
 
-module _ {s : Section} {m : Machine} {fs rows : List ℕ} {j k : ℕ} {a b : Extent} {r : Bool} (q : Asked s m fs rows j k a b r) where
-  by_parts : shares s m fs rows k j ≡ r && same_rows (leading_in m a rows) (leading_in m b rows)
-  by_parts = rw (← q.first, ← q.second, q.answer) (key_parts m a b rows)
+module _ {x : Inputs} {j k : ℕ} {a b : Extent} {r : Bool} (q : Asked x j k a b r) where
+  by_parts : shares x k j ≡ r && same_rows (leading_in x.machine a x.rows) (leading_in x.machine b x.rows)
+  by_parts = rw (← q.first, ← q.second, q.answer) (key_parts x.machine a b x.rows)
 
-  pub unlike : not r ≡ true → shares s m fs rows k j ≡ false
+  pub unlike : not r ≡ true → shares x k j ≡ false
   unlike t = by_parts ∙ simp (not-true r t)
 
   module _ (t : not r ≡ false) where
-    pub by_rows_lem : {d : Bool} → same_rows (leading_in m a rows) (leading_in m b rows) ≡ d → shares s m fs rows k j ≡ d
+    pub by_rows_lem : {d : Bool} → same_rows (leading_in x.machine a x.rows) (leading_in x.machine b x.rows) ≡ d → shares x k j ≡ d
     by_rows_lem f = by_parts ∙ simp (not-false r t, f)
 
-    pub by_counts : {x n : ℕ} → x ≡ length (leading_in m a rows) → n ≡ length (leading_in m b rows) → (x ≡ n → ⊥) → shares s m fs rows k j ≡ false
-    by_counts p o h = by_rows_lem (uneven (leading_in m a rows) (leading_in m b rows) (λ e. h (p ∙ e ∙ sym o)))
+    pub by_counts : {l n : ℕ} → l ≡ length (leading_in x.machine a x.rows) → n ≡ length (leading_in x.machine b x.rows) → (l ≡ n → ⊥) → shares x k j ≡ false
+    by_counts p o h = by_rows_lem (uneven (leading_in x.machine a x.rows) (leading_in x.machine b x.rows) (λ e. h (p ∙ e ∙ sym o)))

@@ -4,17 +4,15 @@ use Prim.Native.Nat.{ℕ, zero, suc, ◌+◌, ◌-◌, ◌≤◌, ◌<◌}
 use native.Mathlib.Omega.{arith}
 use native.Mathlib.Numerals.{add-one}
 use mathlib.Core.Bool.{Bool, true, false}
-use mathlib.Core.List.{List}
 use Rattle.format.specs.Prelude.{pick}
-use Rattle.format.specs.declared.Machine.{Machine}
-use Rattle.format.specs.declared.Section.{Section}
 use Rattle.format.specs.Headers.{same_key}
 use Rattle.format.proofs.Choice.{pick_yes, pick_no, tested}
+use Rattle.header_keys.specs.Inputs.{Inputs}
 use Rattle.owners.specs.Owners.{key_at, first_from, owner}
 
 -- function j has the key of function k
-abbrev pub shares : Section → Machine → (fs rows : List ℕ) → (k j : ℕ) → Bool
-shares s m fs rows k j = same_key (key_at s m fs rows j) (key_at s m fs rows k)
+abbrev pub shares : Inputs → (k j : ℕ) → Bool
+shares x k j = same_key (key_at x j) (key_at x k)
 
 -- below number j of k, none passes
 pub record Finding (test : ℕ → Bool) (k j : ℕ) : Type 0 where
@@ -57,6 +55,6 @@ first_low test j (suc n) =
     (λ t. rw (pick_no (test j) j (first_from test (suc j) n) t) (omega (arith, first_low test (suc j) n)))
 
 -- it is no later function
-pub owner_low : (s : Section) (m : Machine) (fs rows : List ℕ) (k : ℕ) → owner s m fs rows k ≤ k
+pub owner_low : (x : Inputs) (k : ℕ) → owner x k ≤ k
 unfolding owner
-owner_low s m fs rows k = omega (arith, first_low (shares s m fs rows k) 0 k)
+owner_low x k = omega (arith, first_low (shares x k) 0 k)

@@ -4,16 +4,14 @@ use Prim.Native.Nat.{ℕ, zero, suc, ◌+◌, ◌≤◌, ◌<◌}
 use native.Mathlib.Omega.{arith}
 use native.Mathlib.Numerals.{add-one}
 use mathlib.Core.Bool.{Bool, true, false, not, and-false}
-use mathlib.Core.List.{List}
 use borrow.Author.Tests.{eq-eqb, ne_eqb}
 use lib.Dec.{T, eqb}
 use mir.Facts.{and_yes, eqb_yes}
 use Rattle.format.specs.Prelude.{pick}
-use Rattle.format.specs.declared.Machine.{Machine}
-use Rattle.format.specs.declared.Section.{Section}
 use Rattle.format.specs.Headers.{Key, same_key}
 use Rattle.format.proofs.Choice.{pick_yes, pick_no, tested, either, is_true, is_false, is_yes_lem}
 use Rattle.format.proofs.SameKey.{same_key_lem}
+use Rattle.header_keys.specs.Inputs.{Inputs}
 use Rattle.owners.specs.Owners.{key_at, first_from, owner}
 use Rattle.owners.specs.Chains.{slot_at, last_in, held_in, last_held}
 use Rattle.owners.proofs.Finding.{shares, Finding, start, missed, found, ended, owner_low}
@@ -94,58 +92,58 @@ last_below test (suc k) h = omega (arith, last_low test k)
 
 -- ---- owners
 
-module _ (s : Section) (m : Machine) (fs rows : List ℕ) where
+module _ (x : Inputs) where
   abbrev key : ℕ → Key
-  key = key_at s m fs rows
+  key = key_at x
 
   -- to share a key is to have it
-  same : (k j : ℕ) → shares s m fs rows k j ≡ true → key j ≡ key k
+  same : (k j : ℕ) → shares x k j ≡ true → key j ≡ key k
   same k j e = same_key_lem (key j) (key k) (is_yes_lem e)
 
-  same_test : (k j i : ℕ) → shares s m fs rows k j ≡ true → shares s m fs rows j i ≡ shares s m fs rows k i
+  same_test : (k j i : ℕ) → shares x k j ≡ true → shares x j i ≡ shares x k i
   same_test k j i e = ap (same_key (key i)) (same k j e)
 
-  pub one_slot : (size k j : ℕ) → shares s m fs rows k j ≡ true → slot_at s m fs rows size j ≡ slot_at s m fs rows size k
+  pub one_slot : (size k j : ℕ) → shares x k j ≡ true → slot_at x size j ≡ slot_at x size k
   unfolding slot_at
   one_slot size k j e = rw (same k j e)
 
   -- an owner with the key of function k is function k's
-  pub owner_hit : (k j : ℕ) → j ≤ k → owner s m fs rows j ≡ j → shares s m fs rows k j ≡ true → j ≡ owner s m fs rows k
+  pub owner_hit : (k j : ℕ) → j ≤ k → owner x j ≡ j → shares x k j ≡ true → j ≡ owner x k
   unfolding owner
   owner_hit k j l o e =
-      let f : (i : ℕ) → i < j → shares s m fs rows k i ≡ false =
-      λ i h. sym (same_test k j i e) ∙ before (shares s m fs rows j) 0 j i (omega arith) (omega arith) in
+      let f : (i : ℕ) → i < j → shares x k i ≡ false =
+      λ i h. sym (same_test k j i e) ∙ before (shares x j) 0 j i (omega arith) (omega arith) in
       either k j
       (λ q.
       let same_one : k ≡ j = omega arith in
       rw same_one (sym o))
-      (λ q. found (reached (shares s m fs rows k) k j l f) q e)
+      (λ q. found (reached (shares x k) k j l f) q e)
 
   -- where no owner in front of function k has its key, it has a header of its own
-  pub owner_none : (k : ℕ) → ((i : ℕ) → i < k → owner s m fs rows i ≡ i → shares s m fs rows k i ≡ false) → k ≡ owner s m fs rows k
+  pub owner_none : (k : ℕ) → ((i : ℕ) → i < k → owner x i ≡ i → shares x k i ≡ false) → k ≡ owner x k
   unfolding owner
   owner_none k f =
-      let test : ℕ → Bool = shares s m fs rows k in
+      let test : ℕ → Bool = shares x k in
       let o : ℕ = first_from test 0 k in
       either k o
       (λ q. none_first test k (λ i h. before test 0 k i (omega arith) (omega arith)))
       (λ q.
       let e : test o ≡ true = passes test 0 k (omega arith) in
-      let own : first_from (shares s m fs rows o) 0 o ≡ o =
-      sym (none_first (shares s m fs rows o) o (λ i h. same_test k o i e ∙ before test 0 k i (omega arith) h)) in
+      let own : first_from (shares x o) 0 o ≡ o =
+      sym (none_first (shares x o) o (λ i h. same_test k o i e ∙ before test 0 k i (omega arith) h)) in
       absurd (both (test o) e (f o q own)))
 
   -- an owner has a header of its own
-  pub owner_owns : (k : ℕ) → owner s m fs rows (owner s m fs rows k) ≡ owner s m fs rows k
+  pub owner_owns : (k : ℕ) → owner x (owner x k) ≡ owner x k
   unfolding owner
   owner_owns k =
-      let test : ℕ → Bool = shares s m fs rows k in
+      let test : ℕ → Bool = shares x k in
       let o : ℕ = first_from test 0 k in
       either k o
-      (λ q. let e : o ≡ k = omega (arith, owner_low s m fs rows k) in ap (owner s m fs rows) e)
-      (λ q. sym (none_first (shares s m fs rows o) o (λ i h. same_test k o i (passes test 0 k (omega arith)) ∙ before test 0 k i (omega arith) h)))
+      (λ q. let e : o ≡ k = omega (arith, owner_low x k) in ap (owner x) e)
+      (λ q. sym (none_first (shares x o) o (λ i h. same_test k o i (passes test 0 k (omega arith)) ∙ before test 0 k i (omega arith) h)))
 
-  pub owner_zero : owner s m fs rows 0 ≡ 0
+  pub owner_zero : owner x 0 ≡ 0
   unfolding owner first_from
   owner_zero = refl
 
@@ -153,38 +151,38 @@ module _ (s : Section) (m : Machine) (fs rows : List ℕ) where
 
   module _ (size h : ℕ) where
     -- the last one of a slot has a header of its own
-    pub held_owns : (k : ℕ) → owner s m fs rows (last_held s m fs rows size h k) ≡ last_held s m fs rows size h k
+    pub held_owns : (k : ℕ) → owner x (last_held x size h k) ≡ last_held x size h k
     unfolding held_in
     held_owns k =
-        last_holds (held_in s m fs rows size h) (λ i. owner s m fs rows i ≡ i) owner_zero
-        (λ i t. eqb_yes (and_yes (eqb (owner s m fs rows i) i) (eqb (slot_at s m fs rows size i) h) t).0) k
+        last_holds (held_in x size h) (λ i. owner x i ≡ i) owner_zero
+        (λ i t. eqb_yes (and_yes (eqb (owner x i) i) (eqb (slot_at x size i) h) t).0) k
 
     -- and the slot, unless it is function 0
-    pub held_slot : (k : ℕ) → 0 < last_held s m fs rows size h k → slot_at s m fs rows size (last_held s m fs rows size h k) ≡ h
+    pub held_slot : (k : ℕ) → 0 < last_held x size h k → slot_at x size (last_held x size h k) ≡ h
     unfolding held_in
     held_slot k =
-        last_holds (held_in s m fs rows size h) (λ i. 0 < i → slot_at s m fs rows size i ≡ h) (λ l. absurd (omega arith))
-        (λ i t l. eqb_yes (and_yes (eqb (owner s m fs rows i) i) (eqb (slot_at s m fs rows size i) h) t).1) k
+        last_holds (held_in x size h) (λ i. 0 < i → slot_at x size i ≡ h) (λ l. absurd (omega arith))
+        (λ i t l. eqb_yes (and_yes (eqb (owner x i) i) (eqb (slot_at x size i) h) t).1) k
 
-  pub held_here : (size h j : ℕ) → owner s m fs rows j ≡ j → slot_at s m fs rows size j ≡ h → held_in s m fs rows size h j ≡ true
+  pub held_here : (size h j : ℕ) → owner x j ≡ j → slot_at x size j ≡ h → held_in x size h j ≡ true
   unfolding held_in
   held_here size h j o e = simp (eq-eqb _ _ o, eq-eqb _ _ e)
 
-  pub held_not : (size h j : ℕ) → (slot_at s m fs rows size j ≡ h → ⊥) → held_in s m fs rows size h j ≡ false
+  pub held_not : (size h j : ℕ) → (slot_at x size j ≡ h → ⊥) → held_in x size h j ≡ false
   unfolding held_in
-  held_not size h j e = rw (ne_eqb _ _ e) (and-false (eqb (owner s m fs rows j) j))
+  held_not size h j e = rw (ne_eqb _ _ e) (and-false (eqb (owner x j) j))
 
-  pub not_owner : (size h j : ℕ) → (owner s m fs rows j ≡ j → ⊥) → held_in s m fs rows size h j ≡ false
+  pub not_owner : (size h j : ℕ) → (owner x j ≡ j → ⊥) → held_in x size h j ≡ false
   unfolding held_in
   not_owner size h j o = simp (ne_eqb _ _ o)
 
   -- between the last one of function k's slot and function i, no owner has function k's key
-  pub none_between : (size k i j : ℕ) → last_held s m fs rows size (slot_at s m fs rows size k) i < j → j < i → owner s m fs rows j ≡ j → shares s m fs rows k j ≡ false
+  pub none_between : (size k i j : ℕ) → last_held x size (slot_at x size k) i < j → j < i → owner x j ≡ j → shares x k j ≡ false
   unfolding held_in
   none_between size k i j l h o =
-      tested (shares s m fs rows k j)
+      tested (shares x k j)
       (λ t.
-      let e : slot_at s m fs rows size j ≡ slot_at s m fs rows size k = one_slot size k j (is_true _ t) in
-      let f : held_in s m fs rows size (slot_at s m fs rows size k) j ≡ false = last_none (held_in s m fs rows size (slot_at s m fs rows size k)) i j l h in
-      absurd (both _ (held_here size (slot_at s m fs rows size k) j o e) f))
+      let e : slot_at x size j ≡ slot_at x size k = one_slot size k j (is_true _ t) in
+      let f : held_in x size (slot_at x size k) j ≡ false = last_none (held_in x size (slot_at x size k)) i j l h in
+      absurd (both _ (held_here size (slot_at x size k) j o e) f))
       (λ t. is_false _ t)

@@ -6,3 +6,4 @@ pub mod Walking
 pub mod Digests
 pub mod OwnerLoop
 pub mod Sharing
+pub mod Lent

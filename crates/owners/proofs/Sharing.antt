@@ -9,8 +9,6 @@ use lib.Dec.{eqb}
 use lib.IntN.{ℤ, pos, negsuc}
 use lib.ListN.{length, get_or}
 use Rattle.format.specs.Prelude.{each}
-use Rattle.format.specs.declared.Machine.{Machine}
-use Rattle.format.specs.declared.Section.{Section}
 use Rattle.format.specs.declared.Row.{Row}
 use Rattle.format.specs.Rows.{kind_of, reg_of, offset_of, same_offset, same_row}
 use Rattle.format.specs.Headers.{ahead, leading, same_rows}
@@ -18,6 +16,7 @@ use Rattle.format.specs.Lists.{row_at}
 use Rattle.lists.specs.declared.Extent.{Extent}
 use Rattle.lists.specs.Extents.{meant}
 use Rattle.rows.proofs.WholeNumbers.{never}
+use Rattle.header_keys.specs.Inputs.{Inputs}
 use Rattle.owners.specs.Owners.{leading_in, owner}
 use Rattle.owners.specs.Chains.{Owned}
 use Rattle.owners.proofs.Finding.{shares, owner_low}
@@ -55,27 +54,27 @@ marks_same true false h = never (sym h)
 marks_same false true h = never (sym h)
 marks_same false false h = refl
 
-module _ {s : Section} {m : Machine} {fs rows : List ℕ} {j k : ℕ} {a b : Extent} {r : Bool} (q : Asked s m fs rows j k a b r) (t : not r ≡ false)
+module _ {x : Inputs} {j k : ℕ} {a b : Extent} {r : Bool} (q : Asked x j k a b r) (t : not r ≡ false)
     (e : not (beq a.simple b.simple) ≡ false) where
-  leading_same : length (ahead (each (row_at rows) a.rows_at a.rows)) ≡ 0 → length (ahead (each (row_at rows) b.rows_at b.rows)) ≡ 0
-      → leading_in m a rows ≡ leading_in m b rows
+  leading_same : length (ahead (each (row_at x.rows) a.rows_at a.rows)) ≡ 0 → length (ahead (each (row_at x.rows) b.rows_at b.rows)) ≡ 0
+      → leading_in x.machine a x.rows ≡ leading_in x.machine b x.rows
   unfolding leading meant
-  leading_same f g = rw (none (ahead (each (row_at rows) a.rows_at a.rows)) f, none (ahead (each (row_at rows) b.rows_at b.rows)) g, marks_same a.simple b.simple e)
+  leading_same f g = rw (none (ahead (each (row_at x.rows) a.rows_at a.rows)) f, none (ahead (each (row_at x.rows) b.rows_at b.rows)) g, marks_same a.simple b.simple e)
 
-  pub sharing : length (ahead (each (row_at rows) a.rows_at a.rows)) ≡ 0 → length (ahead (each (row_at rows) b.rows_at b.rows)) ≡ 0
-      → shares s m fs rows k j ≡ true
-  sharing f g = by_rows_lem q t (rw (leading_same f g) (rows_self (leading_in m b rows)))
+  pub sharing : length (ahead (each (row_at x.rows) a.rows_at a.rows)) ≡ 0 → length (ahead (each (row_at x.rows) b.rows_at b.rows)) ≡ 0
+      → shares x k j ≡ true
+  sharing f g = by_rows_lem q t (rw (leading_same f g) (rows_self (leading_in x.machine b x.rows)))
 
 -- ---- the owner of the function in front
 
-module _ {s : Section} {m : Machine} {fs rows owners : List ℕ} {k : ℕ} (w : Owned s m fs rows k owners) (z : 0 < k) where
-  last_is : get_or owners (k - 1) 0 ≡ owner s m fs rows (k - 1)
+module _ {x : Inputs} {owners : List ℕ} {k : ℕ} (w : Owned x k owners) (z : 0 < k) where
+  last_is : get_or owners (k - 1) 0 ≡ owner x (k - 1)
   last_is = w.each_one (k - 1) (omega arith)
 
   pub last_low : {o : ℕ} → o ≡ get_or owners (k - 1) 0 → o ≤ k
-  last_low d = omega (arith, d, last_is, owner_low s m fs rows (k - 1))
+  last_low d = omega (arith, d, last_is, owner_low x (k - 1))
 
-  pub last_owns : {o : ℕ} → o ≡ get_or owners (k - 1) 0 → shares s m fs rows k o ≡ true → o ≡ owner s m fs rows k
+  pub last_owns : {o : ℕ} → o ≡ get_or owners (k - 1) 0 → shares x k o ≡ true → o ≡ owner x k
   last_owns {o} d e =
-      let f : owner s m fs rows o ≡ o = rw (← (d ∙ last_is)) at (owner_owns s m fs rows (k - 1)) in
-      owner_hit s m fs rows k o (last_low d) f e
+      let f : owner x o ≡ o = rw (← (d ∙ last_is)) at (owner_owns x (k - 1)) in
+      owner_hit x k o (last_low d) f e

@@ -1,3 +1,4 @@
 -- Owners of headers, and the chains that they are found in.
 pub mod Owners
 pub mod Chains
+pub mod Lent

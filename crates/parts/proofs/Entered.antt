@@ -1,6 +1,6 @@
 -- What stands at a position, by the code's tests.
-use mathlib.Core.Path.{◌≡◌, ◌∙◌}
-use mathlib.Core.Bool.{true, false, ◌&&◌}
+use mathlib.Core.Path.{◌≡◌, sym, ◌∙◌}
+use mathlib.Core.Bool.{Bool, true, false, ◌&&◌}
 use Prim.Native.Nat.{ℕ, ◌+◌, ◌-◌, ◌≤◌, ◌<◌}
 use native.Mathlib.Omega.{arith}
 use mathlib.Core.List.{List}
@@ -14,6 +14,10 @@ use Rattle.reader.specs.Spans.{part}
 use Rattle.reader.specs.Listing.{entry_at}
 use Rattle.reader.specs.declared.cursor.Entry.{Entry}
 use Rattle.reader.proofs.Steps.{Fits, entry_fits}
+use Rattle.reader.proofs.Seeking.{answer_is, answer_no}
+use Rattle.format.specs.Coded.{result_of}
+use Rattle.std.specs.Prelude.{Ok, Err}
+use Rattle.std.specs.Prelude as code
 use Rattle.parts.specs.Entries.{stopped, standing, next_entry}
 
 module _ (section : List ℕ) (kind at : ℕ) where
@@ -37,6 +41,9 @@ module _ (section : List ℕ) {p : ℕ} {e : Entry} (f : Fits section p e) where
 pub left : (s : List ℕ) (base q : ℕ) → q ≤ length s → base + length s - length (drop q s) ≡ base + q
 left s base q h = omega (arith, length-drop q s)
 
+pub laid : (kind word : ℕ) → is_word_size word ≡ true → kind ≤ 1 → is_word_size word && leb kind 1 ≡ true
+laid kind word w k = rw (w, le-leb kind 1 k)
+
 -- ---- a reader of the entry at a position, by its tests: the word and the kind, an entry, a header or a record
 
 abbrev pub body : List ℕ → Entry → List ℕ
@@ -52,25 +59,36 @@ pub record ByEntry {A : Type 0} (section : List ℕ) (kind word place : ℕ) (he
 
 module _ {A : Type 0} {section : List ℕ} {kind word place : ℕ} {here no none : A} {onHeader onRecord : ℕ → List ℕ → A} (c : ByEntry section kind word place here no none onHeader onRecord)
   where
-    pub wordless : is_word_size word ≡ false → here ≡ no
+    pub unlaid : is_word_size word && leb kind 1 ≡ false → here ≡ no
     unfolding pick
-    wordless w = c.says ∙ rw w
+    unlaid w = c.says ∙ rw w
 
-    module _ (w : is_word_size word ≡ true) where
-      pub kindless : 1 < kind → here ≡ no
-      unfolding pick
-      kindless h = c.says ∙ rw (w, lt-leb kind 1 h)
+    module _ (w : is_word_size word && leb kind 1 ≡ true) where
+      pub entryless : {n : ℕ} → entry_at (eqb kind 1) section place ≡ bad n → here ≡ none
+      unfolding by_header pick
+      entryless e = c.says ∙ rw (w, e)
 
-      module _ (k : kind ≤ 1) where
-        pub entryless : {n : ℕ} → entry_at (eqb kind 1) section place ≡ bad n → here ≡ none
+      module _ {e : Entry} (same : entry_at (eqb kind 1) section place ≡ good e) where
+        pub at_header : e.header ≡ true → here ≡ onHeader (e.place + 4 + length (body section e)) (body section e)
         unfolding by_header pick
-        entryless e = c.says ∙ rw (w, le-leb kind 1 k, e)
+        at_header h = c.says ∙ rw (w, same, h, body_ends section (entry_fits (eqb kind 1) section place same))
 
-        module _ {e : Entry} (same : entry_at (eqb kind 1) section place ≡ good e) where
-          pub at_header : e.header ≡ true → here ≡ onHeader (e.place + 4 + length (body section e)) (body section e)
-          unfolding by_header pick
-          at_header h = c.says ∙ rw (w, le-leb kind 1 k, same, h, body_ends section (entry_fits (eqb kind 1) section place same))
+        pub at_record : e.header ≡ false → here ≡ onRecord (e.place + 4 + length (body section e)) (body section e)
+        unfolding by_header pick
+        at_record h = c.says ∙ rw (w, same, h, body_ends section (entry_fits (eqb kind 1) section place same))
 
-          pub at_record : e.header ≡ false → here ≡ onRecord (e.place + 4 + length (body section e)) (body section e)
-          unfolding by_header pick
-          at_record h = c.says ∙ rw (w, le-leb kind 1 k, same, h, body_ends section (entry_fits (eqb kind 1) section place same))
+-- ---- what was read with a layout
+
+module _ (section : List ℕ) (debug : Bool) (place : ℕ) {r : code.Result Entry ℕ} (m : r ≡ result_of (entry_at debug section place)) where
+  pub no_entry : {d : Bool} → debug ≡ d → {n : ℕ} → r ≡ Err n → entry_at d section place ≡ bad n
+  no_entry f e = rw f at (answer_no _ (sym m ∙ e))
+
+  module _ {e : Entry} (q : r ≡ Ok e) where
+    pub an_entry : {d : Bool} → debug ≡ d → entry_at d section place ≡ good e
+    an_entry f = rw f at (answer_is _ (sym m ∙ q))
+
+    -- its bytes lie in the section
+    pub lies : (e.place + 4 ≤ e.next) × (e.next ≤ length section)
+    lies =
+        let f = entry_fits debug section place (answer_is _ (sym m ∙ q)) in
+        (omega (arith, f.here, f.past), f.inside)

@@ -20,7 +20,7 @@ use Rattle.parts.specs.Headers.{header_parts, header_numbers, read_header_at}
 use Rattle.parts.specs.Records.{record_parts, record_numbers, read_record_at}
 use Rattle.parts.specs.declared.headers.HeaderRead.{HeaderRead}
 use Rattle.parts.specs.declared.records.RecordRead.{RecordRead}
-use Rattle.parts.proofs.Entered.{body_ends, at_header, at_record}
+use Rattle.parts.proofs.Entered.{laid, body_ends, at_header, at_record}
 use Rattle.parts.proofs.Headed.{header_entry_lem}
 use Rattle.parts.proofs.Recorded.{record_entry_lem}
 use Rattle.parts.proofs.Agrees.{Faulty, HeaderAgrees, header_agrees, RecordAgrees, record_agrees}
@@ -74,7 +74,7 @@ module _ (section : List ℕ) (kind word place : ℕ) (w : is_word_size word ≡
 
   pub header_at : is_header debug (entry_in section place q) ≡ true → HeaderReading section (read_header_at section kind word place) (parse_header debug word bytes)
   header_at t =
-      rw (at_header (header_entry_lem section kind word place) w k there t, ends)
+      rw (at_header (header_entry_lem section kind word place) (laid kind word w k) there t, ends)
       (header_reads (header_numbers q (header_parts debug word bytes)) (parse_header debug word bytes) refl (header_agrees debug word q bytes))
 
   module _ (pointer : ℕ) where
@@ -90,5 +90,5 @@ module _ (section : List ℕ) (kind word place : ℕ) (w : is_word_size word ≡
     pub record_at : is_header debug (entry_in section place q) ≡ false
         → RecordReading section (read_record_at section kind word pointer place) (parse_record debug word pointer bytes)
     record_at t =
-        rw (at_record (record_entry_lem section kind word pointer place) w k there t, ends)
+        rw (at_record (record_entry_lem section kind word pointer place) (laid kind word w k) there t, ends)
         (record_reads (record_numbers debug pointer q (record_parts debug word pointer bytes)) (parse_record debug word pointer bytes) refl (record_agrees debug word pointer q bytes))

@@ -1,10 +1,10 @@
 // The fields of a header (CIE), by its place.
-ghost use Rattle.std.specs.Prelude.{◌≡◌, ◌+◌, ◌^◌, ◌≤◌, ◌<◌, T, length, drop};
-ghost use Rattle.format.specs.Machine.{is_word_size};
+ghost use Rattle.std.specs.Prelude.{◌≡◌, ◌+◌, ◌≤◌, length, drop};
 ghost use Rattle.reader.specs.Fields.{letters_of};
 ghost use Rattle.parts.specs.Headers.{no_header, header_rest, header_from, header_parts, header_numbers, header_answer, read_header_at};
 
-use crate::bit;
+use crate::body::Placed;
+use crate::{bit, placed};
 use operations::fields::{Position, read_le, read_sleb, read_uleb};
 use reader::fields::{Augmentation, Header};
 
@@ -40,18 +40,10 @@ fn refused(number: u64, field: u64) -> HeaderRead
     }
 }
 
-// From the augmentation data on, or the field at fault. `base` is the section's place of the body.
-fn rest(
-    body: &[u8],
-    base: u64,
-    at: Position,
-    debug: bool,
-    word: u64,
-    p: Augmentation,
-    reg: u64,
-) -> Result<HeaderRead, u64>
-    requires { T (is_word_size word) × (at.at ≤ length body.now) × (base + length body.now < 2 ^ 64) }
-    ensures { header_answer result ≡ header_numbers (base + length body.now) (header_rest debug (letters_of p) word reg (drop at.at body.now)) }
+// From the augmentation data on, or the field at fault.
+fn rest(e: &Placed, at: Position, p: Augmentation, reg: u64) -> Result<HeaderRead, u64>
+    requires { at.at ≤ length e.now.body.bytes.now }
+    ensures { header_answer result ≡ header_numbers (e.now.base + length e.now.body.bytes.now) (header_rest e.now.body.layout.debug (letters_of p) e.now.body.layout.word reg (drop at.at e.now.body.bytes.now)) }
 {
     let Some(
         Header {
@@ -59,7 +51,7 @@ fn rest(
             pointer,
             signal,
         },
-    ) = reader::fields::header_tail(body, at, debug, word, p)
+    ) = reader::fields::header_tail(&e.body, at, p)
     else {
         return Err(6);
     };
@@ -72,23 +64,16 @@ fn rest(
         signal: bit(signal),
         return_register: reg,
         pointer,
-        operations: base + start as u64,
-        end: base + body.len() as u64,
+        operations: e.base + start as u64,
+        end: e.base + e.body.bytes.len() as u64,
     })
 }
 
 // From the code alignment factor on.
-fn factors(
-    body: &[u8],
-    base: u64,
-    at: Position,
-    debug: bool,
-    word: u64,
-    p: Augmentation,
-) -> Result<HeaderRead, u64>
-    requires { T (is_word_size word) × (base + length body.now < 2 ^ 64) }
-    ensures { header_answer result ≡ header_numbers (base + length body.now) (header_from debug (letters_of p) word (drop at.at body.now)) }
+fn factors(e: &Placed, at: Position, p: Augmentation) -> Result<HeaderRead, u64>
+    ensures { header_answer result ≡ header_numbers (e.now.base + length e.now.body.bytes.now) (header_from e.now.body.layout.debug (letters_of p) e.now.body.layout.word (drop at.at e.now.body.bytes.now)) }
 {
+    let body = e.body.bytes;
     let Some((code, a)) = read_uleb(body, at) else {
         return Err(3);
     };
@@ -98,7 +83,7 @@ fn factors(
     let Some((z, b)) = read_sleb(body, a) else {
         return Err(4);
     };
-    if !reader::fields::factor_ok(z, word) {
+    if !reader::fields::factor_ok(z, e.body.layout.word) {
         return Err(4);
     }
     let Some((reg, c)) = read_uleb(body, b) else {
@@ -107,14 +92,14 @@ fn factors(
     if 0xffff < reg {
         return Err(5);
     }
-    rest(body, base, c, debug, word, p, reg)
+    rest(e, c, p, reg)
 }
 
 // The fields in the bytes behind a header's length.
-fn fields(body: &[u8], base: u64, debug: bool, word: u64) -> Result<HeaderRead, u64>
-    requires { T (is_word_size word) × (base + length body.now < 2 ^ 64) }
-    ensures { header_answer result ≡ header_numbers (base + length body.now) (header_parts debug word body.now) }
+fn fields(e: &Placed) -> Result<HeaderRead, u64>
+    ensures { header_answer result ≡ header_numbers (e.now.base + length e.now.body.bytes.now) (header_parts e.now.body.layout.debug e.now.body.layout.word e.now.body.bytes.now) }
 {
+    let body = e.body.bytes;
     let Some((_, version)) = read_le(body, Position::START, 4) else {
         return Err(1);
     };
@@ -129,32 +114,28 @@ fn fields(body: &[u8], base: u64, debug: bool, word: u64) -> Result<HeaderRead, 
         at: from + 1,
         shortest: version.shortest,
     };
-    let Some((p, past)) = reader::fields::letters(body, string, debug) else {
+    let Some((p, past)) = reader::fields::letters(&e.body, string) else {
         return Err(2);
     };
-    factors(body, base, past, debug, word, p)
+    factors(e, past, p)
 }
 
+// Kept: its parameters one by one, as C passes them.
 // The header at a place: 0; 11, 61, 63 where it is a record, 64 and the field at fault.
 #[unsafe(no_mangle)]
 pub extern "C" fn unwind_read_header(section: &[u8], kind: u64, word: u64, place: u64) -> HeaderRead
     ensures { result ≡ read_header_at section.now kind word place }
 {
-    if !numbers::is_word(word) {
+    let Some(layout) = reader::layout_of(kind, word) else {
         return refused(11, 0);
-    }
-    if 1 < kind {
-        return refused(11, 0);
-    }
-    let Ok(e) = reader::cursor::next_entry(section, kind == 1, place as usize) else {
+    };
+    let Ok(e) = reader::cursor::next_entry(section, layout.debug, place as usize) else {
         return refused(61, 0);
     };
     if !e.header {
         return refused(63, 0);
     }
-    let from = e.place + 4;
-    let to = e.next;
-    match fields(&section[from..to], from as u64, kind == 1, word) {
+    match fields(&placed(section, layout, e)) {
         Ok(header) => header,
         Err(field) => refused(64, field),
     }

@@ -1,10 +1,16 @@
 // A section taken apart, as numbers for C: what stands at a position, the fields of a header and of a record, and their operations.
 #![tactic(auto)]
 
-ghost use Rattle.std.specs.Prelude.{◌≡◌};
+ghost use Rattle.std.specs.Prelude.{◌≡◌, ◌+◌, ◌≤◌, length};
 ghost use Rattle.format.specs.Answers.{bit};
+ghost use Rattle.reader.specs.Spans.{part};
 ghost use Rattle.parts.specs.Entries.{stopped, next_entry};
 
+use crate::body::Placed;
+use reader::cursor::Entry;
+use reader::section::{Body, Layout};
+
+pub mod body;
 pub mod headers;
 pub mod operation;
 pub mod records;
@@ -40,6 +46,22 @@ fn stopped(number: u64, at: u64) -> EntryRead
         place: at,
         length: 0,
         next: at,
+    }
+}
+
+// An entry's bytes.
+pub fn placed<'a>(section: &'a [u8], layout: Layout, e: Entry) -> Placed<'a>
+    requires { (e.place + 4 ≤ e.next) × (e.next ≤ length section.now) }
+    ensures { (result.base ≡ e.place + 4) × (result.body.bytes.now ≡ part section.now (e.place + 4) e.next) × (result.body.layout ≡ layout) }
+{
+    let from = e.place + 4;
+    let to = e.next;
+    Placed {
+        body: Body {
+            bytes: &section[from..to],
+            layout,
+        },
+        base: from as u64,
     }
 }
 

@@ -1,8 +1,9 @@
 // The fields of a record (FDE), by its place.
-ghost use Rattle.std.specs.Prelude.{◌≡◌, ◌+◌, ◌^◌, ◌≤◌, ◌<◌, T, length, drop};
-ghost use Rattle.format.specs.Machine.{is_word_size};
+ghost use Rattle.std.specs.Prelude.{◌≡◌, ◌+◌, ◌≤◌, length, drop};
 ghost use Rattle.parts.specs.Records.{call_site_bytes, no_record, record_rest, record_parts, record_numbers, record_answer, read_record_at};
 
+use crate::body::Placed;
+use crate::placed;
 use operations::fields::{Position, read_le, read_uleb};
 use reader::fields::Record;
 
@@ -36,22 +37,21 @@ fn refused(number: u64, field: u64) -> RecordRead
     }
 }
 
-// Where the pointer to call sites stands, by the place of the augmentation data. `base` is the section's place of the body.
-fn call_sites(body: &[u8], base: u64, at: Position, debug: bool, pointer: u64) -> u64
-    requires { base + length body.now < 2 ^ 64 }
-    ensures { result ≡ call_site_bytes debug pointer (base + length body.now) (drop at.at body.now) }
+// Where the pointer to call sites stands, by the place of the augmentation data.
+fn call_sites(e: &Placed, at: Position, pointer: u64) -> u64
+    ensures { result ≡ call_site_bytes e.now.body.layout.debug pointer (e.now.base + length e.now.body.bytes.now) (drop at.at e.now.body.bytes.now) }
 {
-    if debug {
+    if e.body.layout.debug {
         return 0;
     }
     if pointer == 0 {
         return 0;
     }
-    let Some((_, past)) = read_uleb(body, at) else {
+    let Some((_, past)) = read_uleb(e.body.bytes, at) else {
         return 0;
     };
     let data = past.at;
-    base + data as u64
+    e.base + data as u64
 }
 
 // The fields in front of the augmentation data.
@@ -63,19 +63,12 @@ struct Front {
 }
 
 // From the augmentation data on, or the field at fault.
-fn rest(
-    body: &[u8],
-    base: u64,
-    at: Position,
-    debug: bool,
-    pointer: u64,
-    f: Front,
-) -> Result<RecordRead, u64>
-    requires { (at.at ≤ length body.now) × (base + length body.now < 2 ^ 64) }
-    ensures { record_answer result ≡ record_numbers debug pointer (base + length body.now) (record_rest debug pointer f.header f.function f.length (drop at.at body.now)) }
+fn rest(e: &Placed, at: Position, pointer: u64, f: Front) -> Result<RecordRead, u64>
+    requires { at.at ≤ length e.now.body.bytes.now }
+    ensures { record_answer result ≡ record_numbers e.now.body.layout.debug pointer (e.now.base + length e.now.body.bytes.now) (record_rest e.now.body.layout.debug pointer f.header f.function f.length (drop at.at e.now.body.bytes.now)) }
 {
     let Some(Record { operations, size }) = reader::fields::record_tail(
-        body, at, debug, pointer, f.length,
+        &e.body, at, pointer, f.length,
     ) else {
         return Err(9);
     };
@@ -86,18 +79,18 @@ fn rest(
         header: f.header,
         function: f.function,
         length: size,
-        call_sites: call_sites(body, base, at, debug, pointer),
-        operations: base + start as u64,
-        end: base + body.len() as u64,
+        call_sites: call_sites(e, at, pointer),
+        operations: e.base + start as u64,
+        end: e.base + e.body.bytes.len() as u64,
     })
 }
 
 // The fields in the bytes behind a record's length.
-fn fields(body: &[u8], base: u64, debug: bool, word: u64, pointer: u64) -> Result<RecordRead, u64>
-    requires { T (is_word_size word) × (base + length body.now < 2 ^ 64) }
-    ensures { record_answer result ≡ record_numbers debug pointer (base + length body.now) (record_parts debug word pointer body.now) }
+fn fields(e: &Placed, pointer: u64) -> Result<RecordRead, u64>
+    ensures { record_answer result ≡ record_numbers e.now.body.layout.debug pointer (e.now.base + length e.now.body.bytes.now) (record_parts e.now.body.layout.debug e.now.body.layout.word pointer e.now.body.bytes.now) }
 {
-    let n = reader::fields::field_size(debug, word) as usize;
+    let body = e.body.bytes;
+    let n = reader::fields::field_size(e.body.layout.debug, e.body.layout.word) as usize;
     let Some((header, a)) = read_le(body, Position::START, 4) else {
         return Err(7);
     };
@@ -112,9 +105,10 @@ fn fields(body: &[u8], base: u64, debug: bool, word: u64, pointer: u64) -> Resul
         function,
         length,
     };
-    rest(body, base, at, debug, pointer, f)
+    rest(e, at, pointer, f)
 }
 
+// Kept: its parameters one by one, as C passes them.
 // The record at a place, with its header's pointer size: 0; 11, 61, 62 where it is a header, 64 and the field at fault.
 #[unsafe(no_mangle)]
 pub extern "C" fn unwind_read_record(
@@ -126,21 +120,16 @@ pub extern "C" fn unwind_read_record(
 ) -> RecordRead
     ensures { result ≡ read_record_at section.now kind word pointer place }
 {
-    if !numbers::is_word(word) {
+    let Some(layout) = reader::layout_of(kind, word) else {
         return refused(11, 0);
-    }
-    if 1 < kind {
-        return refused(11, 0);
-    }
-    let Ok(e) = reader::cursor::next_entry(section, kind == 1, place as usize) else {
+    };
+    let Ok(e) = reader::cursor::next_entry(section, layout.debug, place as usize) else {
         return refused(61, 0);
     };
     if e.header {
         return refused(62, 0);
     }
-    let from = e.place + 4;
-    let to = e.next;
-    match fields(&section[from..to], from as u64, kind == 1, word, pointer) {
+    match fields(&placed(section, layout, e), pointer) {
         Ok(record) => record,
         Err(field) => refused(64, field),
     }

@@ -29,6 +29,13 @@ ready rows at n end r h =
           subst (λ (i : ℕ). T (row_ok_at rows i)) e (in_range (row_ok_at rows) at n (k - at) r.ok (omega arith));
     }
 
+-- and so those that lead them
+pub leading : {rows : List ℕ} {at last end : ℕ} → Ready rows at last → end ≤ last → Ready rows at end
+leading r h = record { inside = omega (arith, r.inside); ok = λ k l u. r.ok k l (omega arith) }
+
+pub within : {at last end : ℕ} → at ≤ last → end ≤ last → end ≤ at + (last - at)
+within h k = omega arith
+
 one_short : (b : Bool) (x y : Row) → Short (offset_of x) → Short (offset_of y) → Short (offset_of (pick b x y))
 unfolding pick
 one_short true x y h k = h

@@ -124,10 +124,10 @@ before_is rows at i (suc n) h l other one =
     rw (e, other at (omega arith) s) (ap (λ rs. row_at rows at ∷ rs) (before_is rows (suc at) i n (omega arith) (omega arith) (λ k g m. other k (omega arith) m) (λ m. one (omega arith)))))
 
 -- the first row that `find` found, or none
-pub first_is : (rows : List ℕ) (at n : ℕ) (r : Option ℕ)
-    → MatchOption r ((k : ℕ) → at ≤ k → k < at + n → eqb (kind_of (row_at rows k).1) 6 ≡ false)
-    (λ i. (at ≤ i) × (i < at + n) × (eqb (kind_of (row_at rows i).1) 6 ≡ true) × ((k : ℕ) → at ≤ k → k < i → eqb (kind_of (row_at rows k).1) 6 ≡ false))
-    → (at ≤ unwrap_or r (at + n)) × (unwrap_or r (at + n) ≤ at + n)
-    × (before_remember (each (row_at rows) at n) ≡ each (row_at rows) at (unwrap_or r (at + n) - at))
-first_is rows at n None h = (omega arith, omega arith, before_is rows at (at + n) n (omega arith) (omega arith) h (λ l. absurd (omega arith)))
-first_is rows at n (Some i) h = (h.0, omega (arith, h.1), before_is rows at i n h.0 (omega (arith, h.1)) h.3 (λ l. h.2))
+pub first_is : (rows : List ℕ) (at end : ℕ) (r : Option ℕ) → at ≤ end
+    → MatchOption r ((k : ℕ) → at ≤ k → k < end → eqb (kind_of (row_at rows k).1) 6 ≡ false)
+    (λ i. (at ≤ i) × (i < end) × (eqb (kind_of (row_at rows i).1) 6 ≡ true) × ((k : ℕ) → at ≤ k → k < i → eqb (kind_of (row_at rows k).1) 6 ≡ false))
+    → (at ≤ unwrap_or r end) × (unwrap_or r end ≤ end)
+    × (before_remember (each (row_at rows) at (end - at)) ≡ each (row_at rows) at (unwrap_or r end - at))
+first_is rows at end None l h = (l, omega arith, before_is rows at end (end - at) l (omega arith) h (λ k. absurd (omega arith)))
+first_is rows at end (Some i) l h = (h.0, omega (arith, h.1), before_is rows at i (end - at) h.0 (omega (arith, h.1)) h.3 (λ k. h.2))

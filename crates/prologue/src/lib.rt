@@ -1,80 +1,95 @@
 // From a function's rows to x64 codes: questions 31 to 34, and the codes one by one. Ported from rucc-asm/src/unwind.rs (prologue, machine) of tamnd/rucc, changed: see NOTICE.
 #![tactic(auto)]
 
-ghost use Rattle.std.specs.Prelude.{IfOk, ◌≡◌, false, ◌&&◌, [], ◌∷◌, ◌+◌, ◌-◌, ◌*◌, ◌^◌, ◌≤◌, ◌<◌, pos, ◌+ℤ◌, ◌-ℤ◌, length, T, eqb};
-ghost use Rattle.format.specs.Lists.{row_stride, count, most_records, row_at, row_ok_at};
+ghost use Rattle.std.specs.Prelude.{IfOk, ◌≡◌, false, [], ◌∷◌, ◌+◌, ◌-◌, ◌*◌, ◌≤◌, ◌<◌, pos, ◌+ℤ◌, ◌-ℤ◌, length, T, eqb};
+ghost use Rattle.format.specs.Lists.{row_at, row_ok_at};
 ghost use Rattle.format.specs.Prelude.{pick, each};
 ghost use Rattle.format.specs.Machine.{register_of};
-ghost use Rattle.format.specs.Rows.{kind_of, offset_of, same_offset};
+ghost use Rattle.format.specs.Rows.{kind_of, offset_of};
 ghost use Rattle.format.specs.X64.{low16, frame, before_remember};
 ghost use Rattle.format.specs.Coded.{result_of};
 ghost use Rattle.format.specs.declared.Row.TheVariants.{DefCfa, DefCfaOffset, DefCfaRegister, Offset};
 ghost use Rattle.format.specs.declared.Seh.TheVariants.{Push, Alloc, Frame, Save};
-ghost use Rattle.format.proofs.Fits.{MachineFits};
-ghost use Rattle.header_keys.specs.Functions.{RowsReady};
-ghost use Rattle.prologue.specs.Groups.{found_of, knows, joined, joins, third, counted, stepped, added, lone_in, push_in, last_in, row_in, walk_from, start};
-ghost use Rattle.prologue.specs.Pieces.{Short, Ready, Shaped, piece_of, named_code, moved_in, piece_in, end_in};
+ghost use Rattle.prologue.specs.Groups.{found_of, knows, joined, joins, third, counted, stepped, added, lone_in, push_in};
+ghost use Rattle.prologue.specs.Pieces.{Short, Shaped, piece_of, named_code, moved_in, end_in};
+ghost use Rattle.prologue.specs.Given.{IsRow, rows_of, last_of, row_of, walk_of, piece_at};
 
-use format::{Machine, Row, Seh};
+use format::{Row, Seh};
+use given::{FunctionRows, Registers, X64Machine};
 use leb::wide;
 use rows::{offset_at, row_at};
 
+pub mod given;
+
 // ---- registers
 
-// What register of the machine DWARF's number `reg` is: its number, below 16, and whether it is a vector register; or none.
-// Question 34 is about those that are none.
-fn machine(m: Machine, reg: u64) -> Option<(u64, bool)>
-    requires { length m.map ≡ 64 }
-    ensures { result ≡ found_of (low16 (register_of m reg)) }
-{
-    if 64 <= reg {
-        return None;
+impl<'m> X64Machine<'m> {
+    // Its registers alone.
+    pub fn registers(&self) -> Registers<'m>
+        ensures { result.machine.now ≡ self.now.machine.now }
+    {
+        Registers {
+            machine: self.machine,
+        }
     }
-    let n = wide(m.map[reg as usize]);
-    if n < 16 {
-        return Some((n, false));
-    }
-    if n < 128 {
-        return None;
-    }
-    if n < 144 {
-        return Some((n - 128, true));
-    }
-    None
 }
 
-// The machine has a number below 16 for it.
-fn knows(m: Machine, reg: u64) -> bool
-    requires { length m.map ≡ 64 }
-    ensures { result ≡ knows m reg }
-{
-    machine(m, reg).is_some()
+impl Registers<'_> {
+    // What register of the machine DWARF's number `reg` is: its number, below 16, and whether it is a vector register; or none.
+    // Question 34 is about those that are none.
+    fn register(&self, reg: u64) -> Option<(u64, bool)>
+        ensures { result ≡ found_of (low16 (register_of self.now.machine.now reg)) }
+    {
+        if 64 <= reg {
+            return None;
+        }
+        let n = wide(self.machine.map[reg as usize]);
+        if n < 16 {
+            return Some((n, false));
+        }
+        if n < 128 {
+            return None;
+        }
+        if n < 144 {
+            return Some((n - 128, true));
+        }
+        None
+    }
+
+    // The machine has a number below 16 for it.
+    fn knows(&self, reg: u64) -> bool
+        ensures { result ≡ knows self.now.machine.now reg }
+    {
+        self.register(reg).is_some()
+    }
 }
 
 // ---- the rows of one instruction
 
-// Row i is of the instruction of the row before it, where that is one of the function's rows, which start at `at`.
-fn joined(rows: &[u64], at: usize, i: usize) -> bool
-    requires { 4 * i + 4 ≤ length rows.now }
-    ensures { result ≡ joined rows.now at i }
-{
-    at < i && offset_at(rows, i - 1) == offset_at(rows, i)
-}
+impl FunctionRows<'_> {
+    // Row i is of the instruction of the row before it, where that is one of these rows.
+    fn joined(&self, i: usize) -> bool
+        requires { i < self.now.end }
+        ensures { result ≡ joined self.now.list.now self.now.at i }
+    {
+        self.at < i && offset_at(self.list, i - 1) == offset_at(self.list, i)
+    }
 
-// Row i + 1 is of the instruction of row i, where that is one of the prologue's rows, which stop at `end`.
-fn joins(rows: &[u64], i: usize, end: usize) -> bool
-    requires { (4 * i + 4 ≤ length rows.now) × (4 * end ≤ length rows.now) }
-    ensures { result ≡ joins rows.now i end }
-{
-    i + 1 < end && offset_at(rows, i) == offset_at(rows, i + 1)
-}
+    // Row i + 1 is of the instruction of row i, where that is one of these rows.
+    fn joins(&self, i: usize) -> bool
+        requires { i < self.now.end }
+        ensures { result ≡ joins self.now.list.now i self.now.end }
+    {
+        i + 1 < self.end && offset_at(self.list, i) == offset_at(self.list, i + 1)
+    }
 
-// Row i is of the instruction of the two rows before it.
-fn third(rows: &[u64], at: usize, i: usize) -> bool
-    requires { 4 * i + 4 ≤ length rows.now }
-    ensures { result ≡ third rows.now at i }
-{
-    joined(rows, at, i) && joined(rows, at, i - 1)
+    // Row i is of the instruction of the two rows before it.
+    fn third(&self, i: usize) -> bool
+        requires { i < self.now.end }
+        ensures { result ≡ third self.now.list.now self.now.at i }
+    {
+        self.joined(i) && self.joined(i - 1)
+    }
 }
 
 // ---- what is known so far
@@ -90,6 +105,7 @@ enum Steps {
 
 // What is known of the rows so far: the distance of the frame address above the stack pointer, the steps, and whether the machine
 // has a number below 16 for each register.
+// Kept: a ghost field for the distance's 32 bits is no plainer, since the definitions make walks of any distance.
 #[derive(Clone, Copy)]
 struct Walk {
     below: i64,
@@ -120,164 +136,140 @@ fn stepped(w: Walk, pushes: bool, knows: bool, below: i64) -> Walk
 
 // ---- what an instruction did
 
-// The frame pointer is set to the stack pointer.
-fn framed(m: Machine, w: Walk) -> Walk
-    requires { length m.map ≡ 64 }
-    ensures { result ≡ added m w frame w.below }
-{
-    stepped(w, false, knows(m, m.frame), w.below)
-}
+impl X64Machine<'_> {
+    // The frame pointer is set to the stack pointer.
+    fn framed(&self, w: Walk) -> Walk
+        ensures { result ≡ added self.now.machine.now w frame w.below }
+    {
+        let known = self.registers().knows(self.machine.frame);
+        stepped(w, false, known, w.below)
+    }
 
-// DefCfa alone: the frame pointer at the present distance, or a frame that is counted from another register (32).
-fn frame_set(m: Machine, reg: u64, z: i64, w: Walk) -> Result<Walk, u64>
-    requires { length m.map ≡ 64 }
-    ensures { result ≡ result_of (lone_in m false (DefCfa reg z) w) }
-{
-    if reg != m.frame {
-        return Err(32);
-    }
-    if z != w.below {
-        return Err(32);
-    }
-    Ok(framed(m, w))
-}
-
-// DefCfaRegister alone: the frame pointer, pushed by the only step before, and nothing behind it; else it is set before the frame
-// is taken (31).
-fn frame_early(m: Machine, last: bool, reg: u64, w: Walk) -> Result<Walk, u64>
-    requires { (length m.map ≡ 64) × (m.word ≡ 8) }
-    ensures { result ≡ result_of (lone_in m last (DefCfaRegister reg) w) }
-{
-    if reg != m.frame {
-        return Err(31);
-    }
-    if !last {
-        return Err(31);
-    }
-    if w.below != (2 * m.word) as i64 {
-        return Err(31);
-    }
-    if w.steps != Steps::PointerPushed {
-        return Err(31);
-    }
-    Ok(framed(m, w))
-}
-
-// DefCfaOffset, then Offset: a register that is put into the word by which the frame address moved, or no push (33).
-fn pushed(m: Machine, reg: u64, z: i64, y: i64, w: Walk) -> Result<Walk, u64>
-    requires { (length m.map ≡ 64) × (m.word ≡ 8) × Short z × Short w.below }
-    ensures { result ≡ result_of (push_in m (DefCfaOffset z) (Offset reg y) w) }
-{
-    if z - w.below != m.word as i64 {
-        return Err(33);
-    }
-    if y != -z {
-        return Err(33);
-    }
-    let known = knows(m, reg);
-    Ok(stepped(w, reg == m.frame, known, z))
-}
-
-// An instruction of two rows.
-fn push_rows(m: Machine, a: Row, b: Row, w: Walk) -> Result<Walk, u64>
-    requires { (length m.map ≡ 64) × (m.word ≡ 8) × Short (offset_of a) × Short w.below }
-    ensures { result ≡ result_of (push_in m a b w) }
-{
-    let Row::DefCfaOffset(z) = a else {
-        return Err(33);
-    };
-    let Row::Offset(reg, y) = b else {
-        return Err(33);
-    };
-    pushed(m, reg as u64, z, y, w)
-}
-
-// An instruction of one row; it is the last of the prologue, or not.
-fn lone_row(m: Machine, last: bool, r: Row, w: Walk) -> Result<Walk, u64>
-    requires { (length m.map ≡ 64) × (m.word ≡ 8) }
-    ensures { result ≡ result_of (lone_in m last r w) }
-{
-    match r {
-        Row::DefCfa(reg, z) => frame_set(m, reg as u64, z, w),
-        Row::DefCfaOffset(z) => Ok(stepped(w, false, true, z)),
-        Row::DefCfaRegister(reg) => frame_early(m, last, reg as u64, w),
-        Row::Offset(reg, _) => {
-            let known = knows(m, reg as u64);
-            Ok(stepped(w, false, known, w.below))
+    // DefCfa alone: the frame pointer at the present distance, or a frame that is counted from another register (32).
+    fn frame_set(&self, reg: u64, z: i64, w: Walk) -> Result<Walk, u64>
+        ensures { result ≡ result_of (lone_in self.now.machine.now false (DefCfa reg z) w) }
+    {
+        if reg != self.machine.frame {
+            return Err(32);
         }
-        _ => Err(33),
+        if z != w.below {
+            return Err(32);
+        }
+        Ok(self.framed(w))
+    }
+
+    // DefCfaRegister alone: the frame pointer, pushed by the only step before, and nothing behind it; else it is set before the frame
+    // is taken (31).
+    fn frame_early(&self, last: bool, reg: u64, w: Walk) -> Result<Walk, u64>
+        ensures { result ≡ result_of (lone_in self.now.machine.now last (DefCfaRegister reg) w) }
+    {
+        if reg != self.machine.frame {
+            return Err(31);
+        }
+        if !last {
+            return Err(31);
+        }
+        if w.below != (2 * self.machine.word) as i64 {
+            return Err(31);
+        }
+        if w.steps != Steps::PointerPushed {
+            return Err(31);
+        }
+        Ok(self.framed(w))
+    }
+
+    // DefCfaOffset, then Offset: a register that is put into the word by which the frame address moved, or no push (33).
+    fn pushed(&self, reg: u64, z: i64, y: i64, w: Walk) -> Result<Walk, u64>
+        requires { Short z × Short w.below }
+        ensures { result ≡ result_of (push_in self.now.machine.now (DefCfaOffset z) (Offset reg y) w) }
+    {
+        if z - w.below != self.machine.word as i64 {
+            return Err(33);
+        }
+        if y != -z {
+            return Err(33);
+        }
+        let known = self.registers().knows(reg);
+        Ok(stepped(w, reg == self.machine.frame, known, z))
+    }
+
+    // An instruction of two rows.
+    fn push_rows(&self, a: Row, b: Row, w: Walk) -> Result<Walk, u64>
+        requires { Short (offset_of a) × Short w.below }
+        ensures { result ≡ result_of (push_in self.now.machine.now a b w) }
+    {
+        let Row::DefCfaOffset(z) = a else {
+            return Err(33);
+        };
+        let Row::Offset(reg, y) = b else {
+            return Err(33);
+        };
+        self.pushed(reg as u64, z, y, w)
+    }
+
+    // An instruction of one row; it is the last of the prologue, or not.
+    fn lone_row(&self, last: bool, r: Row, w: Walk) -> Result<Walk, u64>
+        ensures { result ≡ result_of (lone_in self.now.machine.now last r w) }
+    {
+        match r {
+            Row::DefCfa(reg, z) => self.frame_set(reg as u64, z, w),
+            Row::DefCfaOffset(z) => Ok(stepped(w, false, true, z)),
+            Row::DefCfaRegister(reg) => self.frame_early(last, reg as u64, w),
+            Row::Offset(reg, _) => {
+                let known = self.registers().knows(reg as u64);
+                Ok(stepped(w, false, known, w.below))
+            }
+            _ => Err(33),
+        }
     }
 }
 
 // ---- row by row
 
-// Row i of the rows from `at` to `end`, the last of its instruction's.
-fn read_last(
-    m: Machine,
-    rows: &[u64],
-    at: usize,
-    end: usize,
-    i: usize,
-    w: Walk,
-) -> Result<Walk, u64>
-    requires { (length m.map ≡ 64) × (m.word ≡ 8) × Ready rows.now at end × (at ≤ i) × (i < end) × Short w.below }
-    ensures { result ≡ result_of (last_in m rows.now at end i w) }
-{
-    let r = row_at(rows, i);
-    if joined(rows, at, i) {
-        return push_rows(m, row_at(rows, i - 1), r, w);
+impl FunctionRows<'_> {
+    // Row i, the last of its instruction's.
+    fn read_last(&self, m: &X64Machine, i: usize, w: Walk) -> Result<Walk, u64>
+        requires { IsRow self.now i × Short w.below }
+        ensures { result ≡ result_of (last_of m.now self.now i w) }
+    {
+        let r = row_at(self.list, i);
+        if self.joined(i) {
+            return m.push_rows(row_at(self.list, i - 1), r, w);
+        }
+        m.lone_row(i + 1 == self.end, r, w)
     }
-    lone_row(m, i + 1 == end, r, w)
-}
 
-// Row i: an instruction is read at its last row, and refused at its third.
-fn read_row(m: Machine, rows: &[u64], at: usize, end: usize, i: usize, w: Walk) -> Result<Walk, u64>
-    requires { (length m.map ≡ 64) × (m.word ≡ 8) × Ready rows.now at end × (at ≤ i) × (i < end) × Short w.below }
-    ensures { result ≡ result_of (row_in m rows.now at end i w) }
-{
-    if third(rows, at, i) {
-        return Err(33);
+    // Row i: an instruction is read at its last row, and refused at its third.
+    fn read_row(&self, m: &X64Machine, i: usize, w: Walk) -> Result<Walk, u64>
+        requires { IsRow self.now i × Short w.below }
+        ensures { result ≡ result_of (row_of m.now self.now i w) }
+    {
+        if self.third(i) {
+            return Err(33);
+        }
+        if self.joins(i) {
+            return Ok(w);
+        }
+        self.read_last(m, i, w)
     }
-    if joins(rows, i, end) {
-        return Ok(w);
-    }
-    read_last(m, rows, at, end, i, w)
-}
 
-// The rows from `at` to `end`, to the first no.
-fn read_rows(m: Machine, rows: &[u64], at: usize, end: usize) -> Result<Walk, u64>
-    requires { (length m.map ≡ 64) × (m.word ≡ 8) × (m.pushed < 2 ^ 31) × Ready rows.now at end × (at ≤ end) }
-    ensures { (result ≡ result_of (walk_from m rows.now at end at (end - at) (start m))) × IfOk result (λ w. Short w.below) }
-{
-    let mut w = Walk {
-        below: m.pushed as i64,
-        steps: Steps::NoStep,
-        named: true,
-    };
-    for i in at..end {
-        w = read_row(m, rows, at, end, i, w)?;
+    // All of the rows, to the first no.
+    fn read_rows(&self, m: &X64Machine) -> Result<Walk, u64>
+        ensures { (result ≡ result_of (walk_of m.now self.now)) × IfOk result (λ w. Short w.below) }
+    {
+        let mut w = Walk {
+            below: m.machine.pushed as i64,
+            steps: Steps::NoStep,
+            named: true,
+        };
+        for i in self.at..self.end {
+            w = self.read_row(m, i, w)?;
+        }
+        Ok(w)
     }
-    Ok(w)
 }
 
 // ---- the prologue
-
-// Row i keeps the rules for the epilogues.
-fn remembers(rows: &[u64], i: usize) -> bool
-    requires { 4 * i + 4 ≤ length rows.now }
-    ensures { result ≡ eqb (kind_of (row_at rows.now i).1) 6 }
-{
-    rows[rows::ROW_STRIDE * i + rows::ROW_KIND] == numbers::kinds::REMEMBER_STATE
-}
-
-// The index past the last row before the first RememberState, of the n rows from `at` on.
-fn before_remember(rows: &[u64], at: usize, n: usize) -> usize
-    requires { at + n ≤ count row_stride rows.now }
-    ensures { (at ≤ result) × (result ≤ at + n) × (before_remember (each (row_at rows.now) at n) ≡ each (row_at rows.now) at (result - at)) }
-{
-    let end = at + n;
-    (at..end).find(|i| remembers(rows, *i)).unwrap_or(end)
-}
 
 // What the rows of a function say: the distance of the frame address above the stack pointer behind the prologue, and the index
 // past the prologue's last row.
@@ -287,109 +279,117 @@ pub struct Shape {
     pub end: usize,
 }
 
-// A function's codes, from the n rows from `at` on. The questions are those of the instructions, then 34.
-pub fn prologue(m: Machine, rows: &[u64], at: usize, n: usize) -> Result<Shape, u64>
-    requires { MachineFits m × (m.word ≡ 8) × (length m.map ≡ 64) × RowsReady rows.now at n × (n ≤ most_records) }
-    ensures { Shaped m rows.now at n result }
-{
-    let end = before_remember(rows, at, n);
-    let w = read_rows(m, rows, at, end)?;
-    if !w.named {
-        return Err(34);
+impl FunctionRows<'_> {
+    // Row i keeps the rules for the epilogues.
+    fn remembers(&self, i: usize) -> bool
+        requires { i < self.now.end }
+        ensures { result ≡ eqb (kind_of (row_at self.now.list.now i).1) 6 }
+    {
+        self.list[rows::ROW_STRIDE * i + rows::ROW_KIND] == numbers::kinds::REMEMBER_STATE
     }
-    let below = w.below;
-    Ok(Shape { below, end })
+
+    // The index past the last row before the first RememberState.
+    fn before_remember(&self) -> usize
+        ensures { (self.now.at ≤ result) × (result ≤ self.now.end) × (before_remember (rows_of self.now) ≡ each (row_at self.now.list.now) self.now.at (result - self.now.at)) }
+    {
+        (self.at..self.end)
+            .find(|i| self.remembers(*i))
+            .unwrap_or(self.end)
+    }
+
+    // A function's codes. The questions are those of the instructions, then 34.
+    pub fn prologue(&self, m: &X64Machine) -> Result<Shape, u64>
+        ensures { Shaped m.now.machine.now self.now.list.now self.now.at (self.now.end - self.now.at) result }
+    {
+        let end = self.before_remember();
+        let leading = FunctionRows {
+            list: self.list,
+            at: self.at,
+            end,
+        };
+        let w = leading.read_rows(m)?;
+        if !w.named {
+            return Err(34);
+        }
+        let below = w.below;
+        Ok(Shape { below, end })
+    }
 }
 
 // ---- the codes one by one
 
 // A code stands behind the offset where its instruction ends.
 
-// The code of a push, of a frame and of a save, where the machine has the register.
-fn push_code(m: Machine, off: u64, reg: u64) -> Option<(u64, Seh)>
-    requires { length m.map ≡ 64 }
-    ensures { piece_of result ≡ named_code m off reg (λ x. Push x.number) }
-{
-    let (n, _) = machine(m, reg)?;
-    Some((off, Seh::Push(n)))
-}
-
-fn frame_code(m: Machine, off: u64) -> Option<(u64, Seh)>
-    requires { length m.map ≡ 64 }
-    ensures { piece_of result ≡ named_code m off m.frame (λ x. Frame x.number (pos 0)) }
-{
-    let (n, _) = machine(m, m.frame)?;
-    Some((off, Seh::Frame(n, 0)))
-}
-
-fn save_code(m: Machine, off: u64, reg: u64, above: i64) -> Option<(u64, Seh)>
-    requires { length m.map ≡ 64 }
-    ensures { piece_of result ≡ named_code m off reg (λ x. Save x.number x.vector above) }
-{
-    let (n, vector) = machine(m, reg)?;
-    Some((off, Seh::Save(n, vector, above)))
-}
-
-// DefCfaOffset: an allocation, or the first row of a push.
-fn alloc_code(
-    rows: &[u64],
-    i: usize,
-    end: usize,
-    off: u64,
-    sofar: i64,
-    z: i64,
-) -> Option<(u64, Seh)>
-    requires { (4 * i + 4 ≤ length rows.now) × (4 * end ≤ length rows.now) × Short sofar × Short z }
-    ensures { piece_of result ≡ pick (joins rows.now i end) [] ((off, Alloc (z -ℤ sofar)) ∷ []) }
-{
-    if joins(rows, i, end) {
-        return None;
+impl Registers<'_> {
+    // The code of a push, of a frame and of a save, where the machine has the register.
+    fn push_code(&self, off: u64, reg: u64) -> Option<(u64, Seh)>
+        ensures { piece_of result ≡ named_code self.now.machine.now off reg (λ x. Push x.number) }
+    {
+        let (n, _) = self.register(reg)?;
+        Some((off, Seh::Push(n)))
     }
-    Some((off, Seh::Alloc(z - sofar)))
-}
 
-// Offset: the second row of a push, or a save. A save counts from the stack pointer at the prologue's end.
-fn slot_code(
-    m: Machine,
-    rows: &[u64],
-    at: usize,
-    i: usize,
-    off: u64,
-    reg: u64,
-    below: i64,
-    z: i64,
-) -> Option<(u64, Seh)>
-    requires { (length m.map ≡ 64) × (4 * i + 4 ≤ length rows.now) × Short below × Short z }
-    ensures { piece_of result ≡ pick (joined rows.now at i) (named_code m off reg (λ x. Push x.number)) (named_code m off reg (λ x. Save x.number x.vector (below +ℤ z))) }
-{
-    if joined(rows, at, i) {
-        return push_code(m, off, reg);
+    fn frame_code(&self, off: u64) -> Option<(u64, Seh)>
+        ensures { piece_of result ≡ named_code self.now.machine.now off self.now.machine.now.frame (λ x. Frame x.number (pos 0)) }
+    {
+        let (n, _) = self.register(self.machine.frame)?;
+        Some((off, Seh::Frame(n, 0)))
     }
-    save_code(m, off, reg, below + z)
+
+    fn save_code(&self, off: u64, reg: u64, above: i64) -> Option<(u64, Seh)>
+        ensures { piece_of result ≡ named_code self.now.machine.now off reg (λ x. Save x.number x.vector above) }
+    {
+        let (n, vector) = self.register(reg)?;
+        Some((off, Seh::Save(n, vector, above)))
+    }
 }
 
-// Row i of a prologue's rows from `at` to `end`, with the distance `sofar` in front of it and `below` behind all of them: the
-// code of the instruction that it ends, or none.
-pub fn piece_at(
-    m: Machine,
-    below: i64,
-    sofar: i64,
-    rows: &[u64],
-    at: usize,
-    i: usize,
-    end: usize,
-) -> Option<(u64, Seh)>
-    requires { (length m.map ≡ 64) × Ready rows.now at end × (at ≤ i) × (i < end) × Short below × Short sofar }
-    ensures { piece_of result ≡ piece_in m below sofar rows.now at i end }
-{
-    let off = offset_at(rows, i);
-    let r = row_at(rows, i);
-    match r {
-        Row::DefCfa(_, _) => frame_code(m, off),
-        Row::DefCfaOffset(z) => alloc_code(rows, i, end, off, sofar, z),
-        Row::DefCfaRegister(_) => frame_code(m, off),
-        Row::Offset(reg, z) => slot_code(m, rows, at, i, off, reg as u64, below, z),
-        _ => None,
+impl FunctionRows<'_> {
+    // DefCfaOffset: an allocation, or the first row of a push.
+    fn alloc_code(&self, i: usize, off: u64, sofar: i64, z: i64) -> Option<(u64, Seh)>
+        requires { (i < self.now.end) × Short sofar × Short z }
+        ensures { piece_of result ≡ pick (joins self.now.list.now i self.now.end) [] ((off, Alloc (z -ℤ sofar)) ∷ []) }
+    {
+        if self.joins(i) {
+            return None;
+        }
+        Some((off, Seh::Alloc(z - sofar)))
+    }
+
+    // Offset: the second row of a push, or a save. A save counts from the stack pointer at the prologue's end.
+    fn slot_code(
+        &self,
+        m: &Registers,
+        i: usize,
+        off: u64,
+        reg: u64,
+        below: i64,
+        z: i64,
+    ) -> Option<(u64, Seh)>
+        requires { (i < self.now.end) × Short below × Short z }
+        ensures { piece_of result ≡ pick (joined self.now.list.now self.now.at i) (named_code m.now.machine.now off reg (λ x. Push x.number)) (named_code m.now.machine.now off reg (λ x. Save x.number x.vector (below +ℤ z))) }
+    {
+        if self.joined(i) {
+            return m.push_code(off, reg);
+        }
+        m.save_code(off, reg, below + z)
+    }
+
+    // Row i of a prologue's rows, with the distance `sofar` in front of it and `below` behind all of them: the code of the
+    // instruction that it ends, or none.
+    pub fn piece_at(&self, m: &Registers, i: usize, below: i64, sofar: i64) -> Option<(u64, Seh)>
+        requires { IsRow self.now i × Short below × Short sofar }
+        ensures { piece_of result ≡ piece_at m.now self.now i below sofar }
+    {
+        let off = offset_at(self.list, i);
+        let r = row_at(self.list, i);
+        match r {
+            Row::DefCfa(_, _) => m.frame_code(off),
+            Row::DefCfaOffset(z) => self.alloc_code(i, off, sofar, z),
+            Row::DefCfaRegister(_) => m.frame_code(off),
+            Row::Offset(reg, z) => self.slot_code(m, i, off, reg as u64, below, z),
+            _ => None,
+        }
     }
 }
 

@@ -2,7 +2,7 @@
 use mathlib.Core.Path.{◌≡◌, refl, sym, ap, subst, ◌∙◌}
 use Prim.Native.Nat.{ℕ, suc, ◌≤◌, ◌<◌}
 use native.Mathlib.Omega.{arith}
-use mathlib.Core.Bool.{Bool, true, false, ◌&&◌, and-false}
+use mathlib.Core.Bool.{Bool, true, false, ◌&&◌}
 use mathlib.Core.List.{List}
 use lib.Dec.{T, leb, eqb, leb→le}
 use lib.ListN.{length}
@@ -24,17 +24,13 @@ use Rattle.format.proofs.Choice.{if-le, if-gt, is_true}
 -- ---- 11
 
 module _ (section relocations : List ℕ) (kind word k : ℕ) where
-  pub no_word : is_word_size word ≡ false → locate_in section relocations kind word k ≡ bad 11
+  pub not_laid : is_word_size word && leb kind 1 ≡ false → locate_in section relocations kind word k ≡ bad 11
   unfolding locate_in pick
-  no_word e = rw e refl
+  not_laid e = rw e refl
 
-  pub no_kind : 1 < kind → locate_in section relocations kind word k ≡ bad 11
+  pub laid : is_word_size word && leb kind 1 ≡ true → locate_in section relocations kind word k ≡ locate (eqb kind 1) (relocations_of relocations) word k section
   unfolding locate_in pick
-  no_kind h = rw (lt-leb kind 1 h, and-false (is_word_size word)) refl
-
-  pub kind_and_word : is_word_size word ≡ true → kind ≤ 1 → locate_in section relocations kind word k ≡ locate (eqb kind 1) (relocations_of relocations) word k section
-  unfolding locate_in pick
-  kind_and_word e h = rw (e, le-leb kind 1 h) refl
+  laid e = rw e refl
 
 -- ---- numbers that lie in a section, and those that do not
 
@@ -70,11 +66,10 @@ module _ (s : List ℕ) (l : Located) where
             refl
 
   -- what the run asks for
-  pub fits : in_section s l ≡ true
+  pub places : T (in_section s l)
       → T (is_word_size l.word) × (l.header ≤ l.header_end) × (l.header_end ≤ length s) × (l.«record» ≤ l.record_end) × (l.record_end ≤ length s)
   unfolding in_section
-  fits e =
-      let t : T (in_section s l) = rw e tt in
+  places t =
       let a = and_yes (leb l.header l.header_end) _ t in
       let b = and_yes (leb l.header_end (length s)) _ a.1 in
       let c = and_yes (leb l.«record» l.record_end) _ b.1 in
@@ -85,6 +80,10 @@ module _ (s : List ℕ) (l : Located) where
         leb→le l.«record» l.record_end c.0,
         leb→le l.record_end (length s) d.0,
       )
+
+  pub fits : in_section s l ≡ true
+      → T (is_word_size l.word) × (l.header ≤ l.header_end) × (l.header_end ≤ length s) × (l.«record» ≤ l.record_end) × (l.record_end ≤ length s)
+  fits e = places (rw e tt)
 
   -- 64, 65, and the run
   module _ (q p : ℕ) where

@@ -1,10 +1,11 @@
 -- The run of the operations of one entry: at each operation, what is left of the entry decides.
 use Rattle.std.specs.Prelude.{Some, None}
-use mathlib.Core.Path.{◌≡◌, refl, sym, ◌∙◌}
+use Rattle.std.specs.Option.{is_some}
+use mathlib.Core.Path.{◌≡◌, refl, sym, ap, ◌∙◌}
 use Prim.Native.Nat.{ℕ, zero, suc, ◌+◌, ◌-◌, ◌≤◌, ◌<◌}
 use native.Mathlib.Omega.{arith}
 use native.Mathlib.Nat.{le_refl}
-use mathlib.Core.Bool.{Bool, true, false}
+use mathlib.Core.Bool.{Bool, true, false, not}
 use mathlib.Core.Option.{none, some}
 use mathlib.Core.List.{List, [], ◌∷◌}
 use lib.ListN.{length, drop, length-drop, drop_of_length-le}
@@ -25,9 +26,23 @@ use Rattle.operations.proofs.PositionLaws.{Takes, nothing, taken}
 use Rattle.operations.proofs.OperationLaws.{takes_operation, operation_ahead, operation_rest, operation_none}
 use Rattle.format.proofs.WalkBack.{onward_ext}
 use Rattle.reader.specs.declared.run.State as code
+use Rattle.std.specs.Prelude as std
 use Rattle.reader.specs.OneRegister as one
 use Rattle.reader.specs.States.{run_of}
 use Rattle.reader.proofs.Seen.{SeenAs, answered, refused, seen_row}
+
+-- the header's operations are those that have no initial rule
+pub none_where : (header : Bool) (r : Rule) {o : std.Option Rule} → one.initial_of header r ≡ o → {b : Bool} → is_some o ≡ not b → header ≡ b
+unfolding one.initial_of
+none_where header r {o} e {b} f = by header e ∙ ap not f ∙ twice b
+  where
+    twice : (b : Bool) → not (not b) ≡ b
+    twice true = refl
+    twice false = refl
+
+    by : (h : Bool) → one.initial_of h r ≡ o → h ≡ not (is_some o)
+    by true e = rw (← e)
+    by false e = rw (← e)
 
 module _ (header : Bool) (word p : ℕ) (initial : ℕ → Rule) where
   -- the run of what is left, with its length as fuel
@@ -77,16 +92,20 @@ module _ (header : Bool) (word p : ℕ) (initial : ℕ → Rule) where
 
 -- ---- the loop: `whole` is what the run of what is left, and then `k`, answers; `all` are the rules of all registers, of which the code keeps register q's
 
-pub record Inside (whole : Reading) (header : Bool) (word p q : ℕ) (initial : Rule) (ops : List ℕ) (k : State → Result State) (at : Position) (loc : ℕ) (state : code.State) : Type 0 where
+pub record Inside (whole : Reading) (header : Bool) (word p q : ℕ) (initial : std.Option Rule) (ops : List ℕ) (k : State → Result State) (at : Position) (loc : ℕ) (state : code.State) : Type 0 where
   pub near : loc ≤ p
   pub first : ℕ → Rule
-  pub first_is : first q ≡ initial
+  pub first_is : one.initial_of header (first q) ≡ initial
   pub all : State
   pub seen : one.at q all ≡ run_of state
   pub rest : whole ≡ answer q (onward (running header word p first loc all (drop at.at ops)) k)
 
-module _ {whole : Reading} {header : Bool} {word p q : ℕ} {initial : Rule} {ops : List ℕ} {k : State → Result State} {at : Position} {loc : ℕ} {state : code.State}
+module _ {whole : Reading} {header : Bool} {word p q : ℕ} {initial : std.Option Rule} {ops : List ℕ} {k : State → Result State} {at : Position} {loc : ℕ} {state : code.State}
     (i : Inside whole header word p q initial ops k at loc state) where
+  -- a header's operations have no initial rule, a record's have one
+  pub which : {b : Bool} → is_some initial ≡ not b → header ≡ b
+  which e = none_where header (i.first q) i.first_is e
+
   -- 66: an operation that cannot be read
   pub bad_operation : at.at < length ops → operation_at word ops at ≡ None → Err 66 ≡ whole
   unfolding onward answer
@@ -143,23 +162,23 @@ module _ {whole : Reading} {header : Bool} {word p q : ℕ} {initial : Rule} {op
 
     module _ {row : Row} (o : op ≡ Does row) where
       -- what the row does to the rules of all registers
-      row_seen : SeenAs q (act header i.first row i.all) (one.act header q initial row (run_of state))
+      row_seen : SeenAs q (act header i.first row i.all) (one.act q initial row (run_of state))
       row_seen = rw (← i.first_is, ← i.seen) (seen_row header q i.first i.all row)
 
-      pub bad_row : {n : ℕ} → one.act header q initial row (run_of state) ≡ bad n → Err n ≡ whole
+      pub bad_row : {n : ℕ} → one.act q initial row (run_of state) ≡ bad n → Err n ≡ whole
       unfolding perform onward answer
       bad_row {n} a = by row_seen
         where
-          by : SeenAs q (act header i.first row i.all) (one.act header q initial row (run_of state)) → Err n ≡ whole
+          by : SeenAs q (act header i.first row i.all) (one.act q initial row (run_of state)) → Err n ≡ whole
           by (answered s x y) = let w = sym a ∙ y in let z : ◌≡◌ {A = ℕ} 0 1 = cc in absurd (omega arith)
           by (refused m x y) = let w = sym a ∙ y in let z : m ≡ n = cc in sym (opened ∙ rw (o, x, z))
 
-      pub good_row : {after : code.State} → one.act header q initial row (run_of state) ≡ good (run_of after)
+      pub good_row : {after : code.State} → one.act q initial row (run_of state) ≡ good (run_of after)
           → Inside whole header word p q initial ops k next loc after
       unfolding perform onward
       good_row {after} a = by row_seen
         where
-          by : SeenAs q (act header i.first row i.all) (one.act header q initial row (run_of state)) → Inside whole header word p q initial ops k next loc after
+          by : SeenAs q (act header i.first row i.all) (one.act q initial row (run_of state)) → Inside whole header word p q initial ops k next loc after
           by (answered s x y) =
               let w = sym a ∙ y in
               record { near = i.near; first = i.first; first_is = i.first_is; all = s; seen = cc; rest = opened ∙ rw (o, x) }

@@ -17,7 +17,7 @@ use Rattle.format.specs.Lists.{relocation_at, relocations_of}
 use Rattle.format.specs.Coded.{result_of}
 use Rattle.format.proofs.Asked.{option_of}
 use Rattle.reader.specs.Finds.{Searching}
-use Rattle.reader.specs.Spans.{part, entry_in, entries_from, listed, Ends, Stands}
+use Rattle.reader.specs.Spans.{part, entry_in, entries_from, listed, Ends, Ahead, Stands}
 use Rattle.std.specs.Prelude.{Some, None, Ok, Err}
 use Rattle.std.specs.Prelude as code
 use Rattle.std.specs.Option.{SomeIff}
@@ -91,6 +91,14 @@ module _ (debug : Bool) (place before : ℕ) (e : Entry) (es : List Entry) where
 pub header_none : (debug : Bool) (place before : ℕ) → header_at debug place before [] ≡ none
 unfolding header_at first
 header_none debug place before = refl
+
+pub first_ahead : (s : List ℕ) → T (is_some (entries s)) → Ahead s 0
+unfolding entries entries_from
+first_ahead s t = record { inside = omega arith; tiled = t; found = λ debug place before h. refl }
+
+pub seeking : {s : List ℕ} {from place : ℕ} (debug : Bool) (before : ℕ) → Ahead s from → from ≤ place
+    → Seeking s (header_at debug place before) (header_at debug place before) from
+seeking {s} {from} {place} debug before a h = record { inside = a.inside; tiled = a.tiled; rest = a.found debug place before h }
 
 -- ---- the first relocation at a place
 

@@ -31,8 +31,8 @@ module _ (header : Bool) (q : ℕ) (init : ℕ → Rule) (s : State) where
   changed result to e h Unset = refused 69 refl e
   changed result to e h (Register reg z) = answered _ refl (h reg z)
 
-  pub seen_row : (r : Row) → SeenAs q (act header init r s) (one.act header q (init q) r (one.at q s))
-  unfolding act refusal unless_refused apply with_cfa with_rule reoffset reregister restored negated rules_for without_stored pick one.at one.act one.set_cfa one.set_rule one.change_offset one.change_register one.remember one.recall one.negated
+  pub seen_row : (r : Row) → SeenAs q (act header init r s) (one.act q (one.initial_of header (init q)) r (one.at q s))
+  unfolding act refusal unless_refused apply with_cfa with_rule reoffset reregister restored negated rules_for without_stored pick one.at one.act one.set_cfa one.set_rule one.change_offset one.change_register one.remember one.recall one.negated one.restored one.initial_of
   seen_row (DefCfa reg z) = answered _ refl refl
   seen_row (DefCfaOffset z) = changed (λ c. one.change_offset z c (one.at q s)) (reoffset z) refl (λ r y. refl) s.current.cfa
   seen_row (DefCfaRegister reg) = changed (λ c. one.change_register reg c (one.at q s)) (reregister reg) refl (λ r y. refl) s.current.cfa
@@ -43,7 +43,7 @@ module _ (header : Bool) (q : ℕ) (init : ℕ → Rule) (s : State) where
       same = tested (eqb q reg) (λ t. rw (eqb→eq q reg t)) (λ t. simp pick_no)
 
       by : (b : Bool)
-          → SeenAs q (unless_refused (pick b (some 67) none) (with_rule reg (init reg) s)) (pick b (bad 67) (good (one.set_rule q reg (init q) (one.at q s))))
+          → SeenAs q (unless_refused (pick b (some 67) none) (with_rule reg (init reg) s)) (one.restored q reg (one.initial_of b (init q)) (one.at q s))
       by true = refused 67 refl refl
       by false = answered _ refl (rw same)
   seen_row (Undefined reg) = answered _ refl refl

@@ -13,8 +13,8 @@ use Rattle.format.specs.Machine.{is_word_size}
 use Rattle.format.specs.Questions.{is_some}
 use Rattle.format.specs.Lists.{Relocation}
 use Rattle.format.specs.Reader.{Entry, entries, records, header_place, header_at, parse_header, parse_record, header_short, record_short, Found, parsed, locate}
-use Rattle.operations.specs.declared.fields.Position.{Position}
-use Rattle.reader.specs.Spans.{part, entry_in, listed, Stands, Spans}
+use Rattle.reader.specs.Spans.{part, entry_in, entry_of, listed, Stands, Spans}
+use Rattle.reader.specs.declared.section.Span.{Span}
 use Rattle.reader.specs.Fields.{Heading, Heads, Recording, Records}
 use Rattle.reader.specs.Finds.{Stated}
 use Rattle.std.specs.Prelude.{Some, None}
@@ -51,34 +51,34 @@ module _ (s : List ℕ) (debug : Bool) (word cie past at end : ℕ) where
     unfolding parsed onward or_else
     fields_header e = rw (subst (λ (h : code.Option Header). Heads cie_body (header_short debug cie_body) h (parse_header debug word cie_body)) e m)
 
-    module _ {q : Position} {n : ℕ} {g : Bool} (e : h ≡ Some (record { operations = q; pointer = n; signal = g })) where
-      heading : Heading cie_body (header_short debug cie_body) q n g (parse_header debug word cie_body)
+    module _ {head : Header} (e : h ≡ Some head) where
+      heading : Heading cie_body (header_short debug cie_body) head.operations head.pointer head.signal (parse_header debug word cie_body)
       heading = subst (λ (h : code.Option Header). Heads cie_body (header_short debug cie_body) h (parse_header debug word cie_body)) e m
 
-      pub header_held : cie + 8 ≤ past → past ≤ length s → cie + 4 + q.at ≤ past
+      pub header_held : cie + 8 ≤ past → past ≤ length s → cie + 4 + head.operations.at ≤ past
       header_held l i = omega (arith, heading.inside, length-take-le (past - (cie + 4)) (drop (cie + 4) s) (omega (arith, length-drop (cie + 4) s)))
 
-      module _ {r : code.Option Record} (k : Records fde_body (q.shortest && record_short debug fde_body) r (parse_record debug word n fde_body)) where
+      module _ {r : code.Option Record} (k : Records fde_body (head.operations.shortest && record_short debug fde_body) r (parse_record debug word head.pointer fde_body)) where
         pub fields_record : r ≡ None → fields_of s debug word cie past at end ≡ bad 64
         unfolding parsed onward or_else
-        fields_record f = rw (heading.read, subst (λ (r : code.Option Record). Records fde_body (q.shortest && record_short debug fde_body) r (parse_record debug word n fde_body)) f k)
+        fields_record f = rw (heading.read, subst (λ (r : code.Option Record). Records fde_body (head.operations.shortest && record_short debug fde_body) r (parse_record debug word head.pointer fde_body)) f k)
 
-        module _ {t : Position} {z : ℕ} (f : r ≡ Some (record { operations = t; size = z })) where
-          recording : Recording fde_body (q.shortest && record_short debug fde_body) t z (parse_record debug word n fde_body)
-          recording = subst (λ (r : code.Option Record). Records fde_body (q.shortest && record_short debug fde_body) r (parse_record debug word n fde_body)) f k
+        module _ {tail : Record} (f : r ≡ Some tail) where
+          recording : Recording fde_body (head.operations.shortest && record_short debug fde_body) tail.operations tail.size (parse_record debug word head.pointer fde_body)
+          recording = subst (λ (r : code.Option Record). Records fde_body (head.operations.shortest && record_short debug fde_body) r (parse_record debug word head.pointer fde_body)) f k
 
-          pub record_held : at + 8 ≤ end → end ≤ length s → at + 4 + t.at ≤ end
+          pub record_held : at + 8 ≤ end → end ≤ length s → at + 4 + tail.operations.at ≤ end
           record_held l i = omega (arith, recording.inside, length-take-le (end - (at + 4)) (drop (at + 4) s) (omega (arith, length-drop (at + 4) s)))
 
-          marks : t.shortest ≡ (header_short debug cie_body && record_short debug fde_body)
+          marks : tail.operations.shortest ≡ (header_short debug cie_body && record_short debug fde_body)
           marks = recording.mark ∙ ap (λ (b : Bool). b && record_short debug fde_body) heading.mark
 
           pub fields_there : T (is_word_size word) → cie + 8 ≤ past → past ≤ length s → at + 8 ≤ end → end ≤ length s
-              → Stated s word (record { header = cie + 4 + q.at; header_end = past; «record» = at + 4 + t.at; record_end = end; size = z; pointer = n; signal = g; word = word; shortest = t.shortest }) (fields_of s debug word cie past at end)
+              → Stated s word (record { header = cie + 4 + head.operations.at; header_end = past; «record» = at + 4 + tail.operations.at; record_end = end; size = tail.size; pointer = head.pointer; signal = head.signal; word = word; shortest = tail.operations.shortest }) (fields_of s debug word cie past at end)
           unfolding parsed onward or_else
           fields_there is l i l' i' =
               record {
-                answer = rw (heading.read, recording.read, drop-part s (cie + 4) past q.at, drop-part s (at + 4) end t.at, marks);
+                answer = rw (heading.read, recording.read, drop-part s (cie + 4) past head.operations.at, drop-part s (at + 4) end tail.operations.at, marks);
                 header_ordered = header_held l i;
                 header_inside = i;
                 record_ordered = record_held l' i';
@@ -89,12 +89,12 @@ module _ (s : List ℕ) (debug : Bool) (word cie past at end : ℕ) where
 
 -- ---- 61, 62 and 63
 
-module _ (s : List ℕ) (x : Option Entry) {r : code.Option (ℕ × ℕ)} (m : Spans s r x) where
-  pub spans : {a e : ℕ} → r ≡ Some (a, e) → Stands s a e x
-  spans q = subst (λ (r : code.Option (ℕ × ℕ)). Spans s r x) q m
+module _ (s : List ℕ) (x : Option Entry) {r : code.Option Span} (m : Spans s r x) where
+  pub spans : {e : Span} → r ≡ Some e → Stands s e.at e.end x
+  spans q = subst (λ (r : code.Option Span). Spans s r x) q m
 
   pub spans_none : r ≡ None → x ≡ none
-  spans_none q = subst (λ (r : code.Option (ℕ × ℕ)). Spans s r x) q m
+  spans_none q = subst (λ (r : code.Option Span). Spans s r x) q m
 
 pub tiled : (o : Option (List Entry)) → is_some o ≡ true → o ≡ some (listed o)
 unfolding is_some listed
@@ -112,27 +112,27 @@ module _ (s : List ℕ) (rs : List Relocation) (debug : Bool) (word k : ℕ) whe
   abbrev es : List Entry
   es = listed (entries s)
 
-  module _ (t : is_some (entries s) ≡ true) {r : code.Option (ℕ × ℕ)} (m : Spans s r (get_elem? (records debug es) k)) where
+  module _ (t : is_some (entries s) ≡ true) {r : code.Option Span} (m : Spans s r (get_elem? (records debug es) k)) where
     pub locate_missing : r ≡ None → whole ≡ bad 62
     unfolding locate onward or_else
     locate_missing q = rw (tiled (entries s) t, spans_none s (get_elem? (records debug es) k) m q)
 
-    module _ {a e : ℕ} (q : r ≡ Some (a, e)) where
-      pub record_stands : Stands s a e (get_elem? (records debug es) k)
+    module _ {e : Span} (q : r ≡ Some e) where
+      pub record_stands : Stands s e.at e.end (get_elem? (records debug es) k)
       record_stands = spans s (get_elem? (records debug es) k) m q
 
       abbrev cie_at : Option Entry
-      cie_at = after (header_place debug rs (entry_in s a e)) λ place. header_at debug place a es
+      cie_at = after (header_place debug rs (entry_of s e)) λ place. header_at debug place e.at es
 
-      module _ {r' : code.Option (ℕ × ℕ)} (m' : Spans s r' cie_at) where
+      module _ {r' : code.Option Span} (m' : Spans s r' cie_at) where
         pub locate_headless : r' ≡ None → whole ≡ bad 63
         unfolding locate onward or_else
         locate_headless q' = rw (tiled (entries s) t, record_stands.found, spans_none s cie_at m' q')
 
-        module _ {c p : ℕ} (q' : r' ≡ Some (c, p)) where
-          pub header_stands : Stands s c p cie_at
+        module _ {h : Span} (q' : r' ≡ Some h) where
+          pub header_stands : Stands s h.at h.end cie_at
           header_stands = spans s cie_at m' q'
 
-          pub locate_rest : whole ≡ parsed debug word (entry_in s c p) (entry_in s a e)
+          pub locate_rest : whole ≡ parsed debug word (entry_of s h) (entry_of s e)
           unfolding locate onward or_else
           locate_rest = rw (tiled (entries s) t, record_stands.found, header_stands.found)

@@ -1,19 +1,36 @@
 -- What is found of record k: where its operations and its header's are, the few numbers that go with them, and the rules from there on.
-use Rattle.std.specs.Prelude.{◌≡◌, Bool, ◌&&◌, ℕ, ◌-◌, ◌/◌, ◌≤◌, List, length, T, leb, eqb, Ok, Err}
+use Rattle.std.specs.Prelude.{◌≡◌, Bool, true, false, ◌&&◌, ℕ, ◌-◌, ◌/◌, ◌≤◌, List, [], ◌∷◌, length, T, leb, eqb, Ok, Err, Some, None}
 use Rattle.std.specs.Prelude as code
-use Rattle.format.specs.Prelude.{pick, each, Result, good, bad}
+use Rattle.format.specs.Prelude.{pick, each, Result, good, bad, onward}
 use Rattle.format.specs.Machine.{is_word_size}
 use Rattle.format.specs.Lists.{relocation_at, relocations_of}
-use Rattle.format.specs.Rules.{answer}
-use Rattle.format.specs.Reader.{first_addend, Found, locate, run_to, shortest_to}
+use Rattle.format.specs.Rules.{State, blank, answer}
+use Rattle.format.specs.Reader.{first_addend, Found, locate, run, run_to, shortest_to}
 use Rattle.format.specs.Coded.{Reading}
 use Rattle.reader.specs.Spans.{part}
 use Rattle.reader.specs.declared.location.Located.{Located}
+use Rattle.reader.specs.declared.section.Layout.{Layout}
+use Rattle.reader.specs.declared.section.Section.{Section}
+use Rattle.reader.specs.declared.section.Span.{Span}
+
+-- 11: word 2, 4 or 8, and kind 0 (eh) or 1 (debug); then the fields are laid out by these
+abbrev pub LaidOut : (kind word : ℕ) → code.Option Layout → Type 0
+LaidOut kind word (Some l) = (is_word_size word && leb kind 1 ≡ true) × (l.debug ≡ eqb kind 1) × (l.word ≡ word)
+LaidOut kind word None = is_word_size word && leb kind 1 ≡ false
+
+-- a section of these bytes and relocations, whose fields are laid out so
+abbrev pub SectionOf : (bytes relocations : List ℕ) (kind word : ℕ) → code.Option Section → Type 0
+SectionOf bs rs kind word (Some s) = (s.bytes.now ≡ bs) × (s.relocations.now ≡ rs) × LaidOut kind word (Some s.layout)
+SectionOf bs rs kind word None = LaidOut kind word None
 
 -- the first relocation at a place is one of those from the i-th on
 pub record Searching (xs : List ℕ) (place i : ℕ) : Type 0 where
   pub inside : i ≤ length xs / 5
   pub rest : first_addend place (relocations_of xs) ≡ first_addend place (each (relocation_at xs) i (length xs / 5 - i))
+
+-- where the operations of the header are, and those of the record
+unfoldable pub spans_of : Located → List Span
+spans_of l = record { at = l.header; end = l.header_end } ∷ record { at = l.«record»; end = l.record_end } ∷ []
 
 -- the fields of the record and of its header, by positions of the section
 abbrev pub found : List ℕ → Located → Found
@@ -23,6 +40,11 @@ found s l =
       found = record { size = l.size; operations = part s l.«record» l.record_end };
       shortest = l.shortest;
     }
+
+-- the header's operations and then the record's, up to a step that would pass p
+abbrev pub run_both : (word p : ℕ) → Found → Result State
+run_both word p x =
+    onward (run true word p blank.current.rules blank x.header.operations) λ t. run false word p t.current.rules t x.found.operations
 
 -- an answer, that its positions lie in the section, and its word
 pub record Stated (s : List ℕ) (word : ℕ) (l : Located) (x : Result Found) : Type 0 where

@@ -1,5 +1,6 @@
 -- The reader's state as far as one register goes: what the code keeps of the rules of all.
-use Rattle.std.specs.Prelude.{ℕ, Bool, false, not, List, [], ◌∷◌, map, length, ltb, eqb, ℤ}
+use Rattle.std.specs.Prelude.{ℕ, Bool, true, false, not, List, [], ◌∷◌, map, length, ltb, eqb, ℤ, Some, None, Ok, Err}
+use Rattle.std.specs.Prelude as code
 use Rattle.format.specs.Prelude.{pick, Result, good, bad}
 use Rattle.format.specs.declared.Row.{Row}
 use Rattle.format.specs.declared.Row.TheVariants.{DefCfa, DefCfaOffset, DefCfaRegister, Offset, Restore, Undefined, RememberState, RestoreState, NegateRaState, SameValue, InRegister}
@@ -32,6 +33,11 @@ set_rule q reg r s =
       stored = s.stored;
     }
 
+-- 69: a CFA rule has a register and an offset
+unfoldable pub register_rule : CfaRule → code.Result (ℕ × ℤ) ℕ
+register_rule Unset = Err 69
+register_rule (Register reg off) = Ok (reg, off)
+
 unfoldable pub change_offset : ℤ → CfaRule → Run → Result Run
 change_offset z Unset s = bad 69
 change_offset z (Register reg off) s = good (set_cfa (Register reg z) s)
@@ -51,16 +57,26 @@ unfoldable pub negated : Run → Run
 negated s =
     record { current = record { cfa = s.current.cfa; rule = s.current.rule; signing = not s.current.signing }; stored = s.stored }
 
+-- q's rule after the header, which a header's operations do not have
+unfoldable pub initial_of : (header : Bool) → Rule → code.Option Rule
+initial_of true r = None
+initial_of false r = Some r
+
+-- 67: no initial rule is there to be restored
+unfoldable pub restored : (q reg : ℕ) (initial : code.Option Rule) → Run → Result Run
+restored q reg None s = bad 67
+restored q reg (Some r) s = good (set_rule q reg r s)
+
 -- a row, where `initial` is q's rule after the header
-unfoldable pub act : (header : Bool) (q : ℕ) (initial : Rule) → Row → Run → Result Run
-act header q initial (DefCfa reg z) s = good (set_cfa (Register reg z) s)
-act header q initial (DefCfaOffset z) s = change_offset z s.current.cfa s
-act header q initial (DefCfaRegister reg) s = change_register reg s.current.cfa s
-act header q initial (Offset reg z) s = good (set_rule q reg (rule.Saved z) s)
-act header q initial (Restore reg) s = pick header (bad 67) (good (set_rule q reg initial s))
-act header q initial (Undefined reg) s = good (set_rule q reg rule.Undefined s)
-act header q initial RememberState s = remember s
-act header q initial RestoreState s = recall s.stored s
-act header q initial NegateRaState s = good (negated s)
-act header q initial (SameValue reg) s = good (set_rule q reg rule.SameValue s)
-act header q initial (InRegister reg other) s = good (set_rule q reg (rule.InRegister other) s)
+unfoldable pub act : (q : ℕ) (initial : code.Option Rule) → Row → Run → Result Run
+act q initial (DefCfa reg z) s = good (set_cfa (Register reg z) s)
+act q initial (DefCfaOffset z) s = change_offset z s.current.cfa s
+act q initial (DefCfaRegister reg) s = change_register reg s.current.cfa s
+act q initial (Offset reg z) s = good (set_rule q reg (rule.Saved z) s)
+act q initial (Restore reg) s = restored q reg initial s
+act q initial (Undefined reg) s = good (set_rule q reg rule.Undefined s)
+act q initial RememberState s = remember s
+act q initial RestoreState s = recall s.stored s
+act q initial NegateRaState s = good (negated s)
+act q initial (SameValue reg) s = good (set_rule q reg rule.SameValue s)
+act q initial (InRegister reg other) s = good (set_rule q reg (rule.InRegister other) s)

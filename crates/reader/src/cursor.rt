@@ -4,6 +4,7 @@ ghost use Rattle.format.specs.Coded.{result_of};
 ghost use Rattle.reader.specs.Listing.{entry_at};
 
 use crate::entries;
+use crate::section::Span;
 
 // An entry: whether it is a header, where it stands, the value of its length field and where the next one stands.
 #[derive(Clone, Copy)]
@@ -25,7 +26,7 @@ pub fn entry_at(section: &[u8], debug: bool, at: usize) -> Result<Entry, u64>
     let Some(end) = entries::entry_end(section, at) else {
         return Err(61);
     };
-    let header = entries::is_header(section, at, end, debug);
+    let header = Span { at, end }.is_header(section, debug);
     Ok(Entry {
         header,
         place: at,

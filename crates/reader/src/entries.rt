@@ -3,8 +3,9 @@ ghost use Rattle.std.specs.Prelude.{◌≡◌, ◌+◌, ◌≤◌, ◌<◌, leng
 ghost use Rattle.std.proofs.Math.ListN.{get_elem?};
 ghost use Rattle.format.specs.Questions.{is_some};
 ghost use Rattle.format.specs.Reader.{second, is_header, records, entries};
-ghost use Rattle.reader.specs.Spans.{part, entry_in, entries_from, listed, end_at, Ends, Spans};
+ghost use Rattle.reader.specs.Spans.{part, entry_of, entries_from, listed, end_at, Holds, Ends, Spans};
 
+use crate::section::Span;
 use operations::fields::{Position, read_le};
 
 // Where the entry at `at` ends: a 4-byte length, at least 4, and as many bytes.
@@ -59,24 +60,27 @@ fn id_of(body: &[u8]) -> u64
     v
 }
 
-// The second field of the entry from `at` to `end`, whose first is its length.
-pub fn second(s: &[u8], at: usize, end: usize) -> u64
-    requires { (at + 8 ≤ end) × (end ≤ length s.now) }
-    ensures { result ≡ second (part s.now (at + 4) end) }
-{
-    let body = at + 4;
-    id_of(&s[body..end])
+impl Span {
+    // The second field, which stands behind the length.
+    pub fn second(self, s: &[u8]) -> u64
+        requires { Holds s.now self }
+        ensures { result ≡ second (part s.now (self.at + 4) self.end) }
+    {
+        let body = self.at + 4;
+        let end = self.end;
+        id_of(&s[body..end])
+    }
+
+    pub fn is_header(self, s: &[u8], debug: bool) -> bool
+        requires { Holds s.now self }
+        ensures { result ≡ is_header debug (entry_of s.now self) }
+    {
+        self.second(s) == numbers::header_id(debug)
+    }
 }
 
-pub fn is_header(s: &[u8], at: usize, end: usize, debug: bool) -> bool
-    requires { (at + 8 ≤ end) × (end ≤ length s.now) }
-    ensures { result ≡ is_header debug (entry_in s.now at end) }
-{
-    second(s, at, end) == numbers::header_id(debug)
-}
-
-// Question 62: where record k starts and ends.
-pub fn record_span(s: &[u8], debug: bool, k: u64) -> Option<(usize, usize)>
+// Question 62: where record k stands.
+pub fn record_span(s: &[u8], debug: bool, k: u64) -> Option<Span>
     requires { T (is_some (entries s.now)) }
     ensures { Spans s.now result (get_elem? (records debug (listed (entries s.now))) k) }
 {
@@ -84,13 +88,16 @@ pub fn record_span(s: &[u8], debug: bool, k: u64) -> Option<(usize, usize)>
     let mut next = 0;
     // Kept: a `while`, which moves by each entry's length.
     'entries: while next < s.len() {
-        let at = next;
-        next = past(s, at);
-        if is_header(s, at, next, debug) {
+        let entry = Span {
+            at: next,
+            end: past(s, next),
+        };
+        next = entry.end;
+        if entry.is_header(s, debug) {
             continue 'entries;
         }
         if left == 0 {
-            return Some((at, next));
+            return Some(entry);
         }
         left -= 1;
     }

@@ -10,6 +10,7 @@ ghost use Rattle.format.specs.Headers.{pointer_size, data_factor};
 ghost use Rattle.format.proofs.Asked.{option_of};
 ghost use Rattle.reader.specs.Fields.{letters_of, two_of, ReadsAugmentation, CountsIn, SkipsTo, Numbers, Heads, tail_mark, header_factors, Records};
 
+use crate::section::{Body, Layout};
 use operations::fields::{Position, read_le, read_sleb, read_uleb};
 
 // ---- the augmentation string of a header
@@ -66,11 +67,12 @@ fn marked(
 }
 
 // The string at `at`, one of the source's.
-pub fn letters(s: &[u8], at: Position, debug: bool) -> Option<(Augmentation, Position)>
-    requires { at.at ≤ length s.now }
-    ensures { ReadsAugmentation s.now at.shortest result (read_letters (spellings debug) (drop at.at s.now)) }
+pub fn letters(b: &Body, at: Position) -> Option<(Augmentation, Position)>
+    requires { at.at ≤ length b.now.bytes.now }
+    ensures { ReadsAugmentation b.now.bytes.now at.shortest result (read_letters (spellings b.now.layout.debug) (drop at.at b.now.bytes.now)) }
 {
-    if debug {
+    let s = b.bytes;
+    if b.layout.debug {
         return marked(s, at, b"\0", b"S\0", false, false);
     }
     if let Some(read) = marked(s, at, b"zR\0", b"zRS\0", false, false) {
@@ -176,17 +178,12 @@ pub struct Header {
 }
 
 // The augmentation data, of which debug_frame has none; the operations follow it.
-pub fn header_tail(
-    s: &[u8],
-    at: Position,
-    debug: bool,
-    word: u64,
-    p: Augmentation,
-) -> Option<Header>
-    requires { T (is_word_size word) × (at.at ≤ length s.now) }
-    ensures { Heads s.now (tail_mark debug s.now at) result (header_tail debug (letters_of p) word (drop at.at s.now)) }
+pub fn header_tail(b: &Body, at: Position, p: Augmentation) -> Option<Header>
+    requires { at.at ≤ length b.now.bytes.now }
+    ensures { Heads b.now.bytes.now (tail_mark b.now.layout.debug b.now.bytes.now at) result (header_tail b.now.layout.debug (letters_of p) b.now.layout.word (drop at.at b.now.bytes.now)) }
 {
-    if debug {
+    let s = b.bytes;
+    if b.layout.debug {
         return Some(Header {
             operations: at,
             pointer: 0,
@@ -195,7 +192,7 @@ pub fn header_tail(
     }
     let (start, end) = counted(s, at)?;
     let from = start.at;
-    let n = letters_in(&s[from..end], word, p)?;
+    let n = letters_in(&s[from..end], b.layout.word, p)?;
     let past = Position {
         at: end,
         shortest: start.shortest,
@@ -216,30 +213,30 @@ pub fn factor_ok(z: i64, word: u64) -> bool
 }
 
 // From the code alignment factor on.
-fn header_factors(s: &[u8], at: Position, debug: bool, word: u64, p: Augmentation) -> Option<Header>
-    requires { T (is_word_size word) }
-    ensures { Heads s.now (at.shortest && numbers_short (header_numbers debug) (drop at.at s.now)) result (header_factors debug (letters_of p) word (drop at.at s.now)) }
+fn header_factors(b: &Body, at: Position, p: Augmentation) -> Option<Header>
+    ensures { Heads b.now.bytes.now (at.shortest && numbers_short (header_numbers b.now.layout.debug) (drop at.at b.now.bytes.now)) result (header_factors b.now.layout.debug (letters_of p) b.now.layout.word (drop at.at b.now.bytes.now)) }
 {
+    let s = b.bytes;
     let (code, data) = read_uleb(s, at)?;
     if code != 1 {
         return None;
     }
     let (z, ret) = read_sleb(s, data)?;
-    if !factor_ok(z, word) {
+    if !factor_ok(z, b.layout.word) {
         return None;
     }
     let (reg, tail) = read_uleb(s, ret)?;
     if 0xffff < reg {
         return None;
     }
-    header_tail(s, tail, debug, word, p)
+    header_tail(b, tail, p)
 }
 
 // Question 64 of a header, by the bytes behind its length.
-pub fn parse_header(s: &[u8], debug: bool, word: u64) -> Option<Header>
-    requires { T (is_word_size word) }
-    ensures { Heads s.now (header_short debug s.now) result (parse_header debug word s.now) }
+pub fn parse_header(b: &Body) -> Option<Header>
+    ensures { Heads b.now.bytes.now (header_short b.now.layout.debug b.now.bytes.now) result (parse_header b.now.layout.debug b.now.layout.word b.now.bytes.now) }
 {
+    let s = b.bytes;
     let (_, version) = read_le(s, Position::START, 4)?;
     let from = version.at;
     if s.len() <= from {
@@ -252,8 +249,8 @@ pub fn parse_header(s: &[u8], debug: bool, word: u64) -> Option<Header>
         at: from + 1,
         shortest: version.shortest,
     };
-    let (p, past) = letters(s, string, debug)?;
-    header_factors(s, past, debug, word, p)
+    let (p, past) = letters(b, string)?;
+    header_factors(b, past, p)
 }
 
 // ---- the fields of a record
@@ -266,17 +263,17 @@ pub struct Record {
 }
 
 // The augmentation of a record holds its pointer to call sites.
-pub fn record_tail(s: &[u8], at: Position, debug: bool, pointer: u64, size: u64) -> Option<Record>
-    requires { at.at ≤ length s.now }
-    ensures { Records s.now (tail_mark debug s.now at) result (record_tail debug pointer size (drop at.at s.now)) }
+pub fn record_tail(b: &Body, at: Position, pointer: u64, size: u64) -> Option<Record>
+    requires { at.at ≤ length b.now.bytes.now }
+    ensures { Records b.now.bytes.now (tail_mark b.now.layout.debug b.now.bytes.now at) result (record_tail b.now.layout.debug pointer size (drop at.at b.now.bytes.now)) }
 {
-    if debug {
+    if b.layout.debug {
         return Some(Record {
             operations: at,
             size,
         });
     }
-    let (start, end) = counted(s, at)?;
+    let (start, end) = counted(b.bytes, at)?;
     let from = start.at;
     if ((end - from) as u64) < pointer {
         return None;
@@ -298,21 +295,15 @@ pub fn field_size(debug: bool, word: u64) -> u64
     if debug { word } else { 4 }
 }
 
-// Question 64 of a record, by the bytes behind its length; `shortest` is the mark of what was read before.
-pub fn parse_record(
-    s: &[u8],
-    debug: bool,
-    word: u64,
-    pointer: u64,
-    shortest: bool,
-) -> Option<Record>
-    requires { T (is_word_size word) }
-    ensures { Records s.now (shortest && record_short debug s.now) result (parse_record debug word pointer s.now) }
+// Question 64 of a record; `shortest` is the mark of what was read before.
+pub fn parse_record(b: &Body, pointer: u64, shortest: bool) -> Option<Record>
+    ensures { Records b.now.bytes.now (shortest && record_short b.now.layout.debug b.now.bytes.now) result (parse_record b.now.layout.debug b.now.layout.word pointer b.now.bytes.now) }
 {
-    let n = field_size(debug, word) as usize;
+    let s = b.bytes;
+    let n = field_size(b.layout.debug, b.layout.word) as usize;
     let start = Position { at: 0, shortest };
     let (_, place) = read_le(s, start, 4)?;
     let (_, length) = read_le(s, place, n)?;
     let (size, tail) = read_le(s, length, n)?;
-    record_tail(s, tail, debug, pointer, size)
+    record_tail(b, tail, pointer, size)
 }

@@ -5,9 +5,10 @@
 
 ghost use Rattle.std.specs.Prelude.{◌≡◌};
 ghost use Rattle.format.specs.Reader.{read};
-ghost use Rattle.reader.specs.Finds.{Locates, locate_in, in_section, rules_from, shortest_from};
+ghost use Rattle.reader.specs.Finds.{LaidOut, SectionOf, Locates, locate_in, in_section, rules_from, shortest_from};
 
 use crate::location::Located;
+use crate::section::{Layout, Section};
 use format::Rules;
 
 pub mod cursor;
@@ -15,8 +16,40 @@ pub mod entries;
 pub mod fields;
 pub mod location;
 pub mod run;
+pub mod section;
 pub mod shortest;
 
+// Question 11.
+pub fn layout_of(kind: u64, word: u64) -> Option<Layout>
+    ensures { LaidOut kind word result }
+{
+    if numbers::is_word(word) && kind <= 1 {
+        return Some(Layout {
+            debug: kind == 1,
+            word,
+        });
+    }
+    None
+}
+
+// A section, where its fields are laid out by a kind and a word.
+pub fn section_of<'a>(
+    bytes: &'a [u8],
+    relocations: &'a [u64],
+    kind: u64,
+    word: u64,
+) -> Option<Section<'a>>
+    ensures { SectionOf bytes.now relocations.now kind word result }
+{
+    let layout = layout_of(kind, word)?;
+    Some(Section {
+        bytes,
+        relocations,
+        layout,
+    })
+}
+
+// Kept: the parameters of `locate` and `read` one by one, as `unwind` has them from C.
 // Where the operations of record k and of its header are: questions 11 and 61 to 64. A caller who asks for several registers or offsets of
 // one record passes over the section once.
 pub fn locate(
@@ -28,13 +61,10 @@ pub fn locate(
 ) -> Result<Located, u64>
     ensures { Locates section.now word result (locate_in section.now relocations.now kind word k) }
 {
-    if !numbers::is_word(word) {
+    let Some(section) = section_of(section, relocations, kind, word) else {
         return Err(11);
-    }
-    if 1 < kind {
-        return Err(11);
-    }
-    location::locate(section, relocations, kind == 1, word, k)
+    };
+    section.locate(k)
 }
 
 // Numbers whose positions lie in the section, and whose word is one.
@@ -60,16 +90,7 @@ pub fn rules_at(section: &[u8], l: Located, q: u16, p: u64) -> Result<Rules, u64
     if l.size <= p {
         return Err(65);
     }
-    run::run(
-        section,
-        l.header,
-        l.header_end,
-        l.record,
-        l.record_end,
-        l.word,
-        p,
-        q,
-    )
+    run::run(section, &l, p, q)
 }
 
 // Whether every number that `rules_at` reads is spelled shortest; those of the fields were looked at by `locate`.

@@ -6,10 +6,10 @@ ghost use Rattle.format.specs.Lists.{relocations_of};
 ghost use Rattle.format.specs.Prelude.{after};
 ghost use Rattle.format.specs.Machine.{is_word_size};
 ghost use Rattle.format.proofs.Asked.{option_of};
-ghost use Rattle.reader.specs.Spans.{entry_in, listed, Spans};
-ghost use Rattle.reader.specs.Finds.{Searching, Locates};
+ghost use Rattle.reader.specs.Spans.{part, entry_of, listed, Holds, Ahead, Spans};
+ghost use Rattle.reader.specs.Finds.{Searching, spans_of, Locates};
 
-use crate::fields::{Header, Record};
+use crate::section::{Body, Section, Span};
 use crate::{entries, fields};
 
 // ---- the header of a record
@@ -36,64 +36,73 @@ pub fn first_addend(relocs: &[u64], place: u64) -> Option<usize>
     addend_from(relocs, place, 0)
 }
 
-// The place that lies the entry's second field before that field.
-pub fn distance_back(s: &[u8], at: usize, end: usize) -> Option<usize>
-    requires { (at + 8 ≤ end) × (end ≤ length s.now) }
-    ensures { result ≡ option_of (distance_back (entry_in s.now at end)) }
-{
-    let distance = entries::second(s, at, end) as usize;
-    (at + 4).checked_sub(distance)
-}
-
-// Where the header of the record from `at` to `end` starts, as its second field says or, in debug_frame, that field's relocation.
-pub fn header_place(s: &[u8], relocs: &[u64], debug: bool, at: usize, end: usize) -> Option<usize>
-    requires { (at + 8 ≤ end) × (end ≤ length s.now) }
-    ensures { result ≡ option_of (header_place debug (relocations_of relocs.now) (entry_in s.now at end)) }
-{
-    if debug {
-        return first_addend(relocs, (at + 4) as u64);
+impl Span {
+    // The place that lies the second field before that field.
+    pub fn distance_back(self, s: &[u8]) -> Option<usize>
+        requires { Holds s.now self }
+        ensures { result ≡ option_of (distance_back (entry_of s.now self)) }
+    {
+        let distance = self.second(s) as usize;
+        (self.at + 4).checked_sub(distance)
     }
-    distance_back(s, at, end)
 }
 
-// The entry from `at` to `end` is a header, starts at a place, and that place is earlier than `before`.
-pub fn starts(s: &[u8], at: usize, end: usize, debug: bool, place: usize, before: usize) -> bool
-    requires { (at + 8 ≤ end) × (end ≤ length s.now) }
-    ensures { result ≡ eqb at place && ltb place before && is_header debug (entry_in s.now at end) }
-{
-    at == place && place < before && entries::is_header(s, at, end, debug)
-}
-
-// The header that starts at a place earlier than `before`.
-pub fn header_span(s: &[u8], debug: bool, place: usize, before: usize) -> Option<(usize, usize)>
-    requires { T (is_some (entries s.now)) }
-    ensures { Spans s.now result (header_at debug place before (listed (entries s.now))) }
-{
-    let mut next = 0;
-    // Kept: a `while`, which moves by each entry's length.
-    while next < s.len() {
-        let at = next;
-        next = entries::past(s, at);
-        if starts(s, at, next, debug, place, before) {
-            return Some((at, next));
+impl<'a> Section<'a> {
+    // Where the header of a record starts, as its second field says or, in debug_frame, that field's relocation.
+    pub fn header_place(&self, record: Span) -> Option<usize>
+        requires { Holds self.now.bytes.now «record» }
+        ensures { result ≡ option_of (header_place self.now.layout.debug (relocations_of self.now.relocations.now) (entry_of self.now.bytes.now «record»)) }
+    {
+        if self.layout.debug {
+            return first_addend(self.relocations, (record.at + 4) as u64);
         }
+        record.distance_back(self.bytes)
     }
-    None
-}
 
-// Question 63: the header of the record from `at` to `end`.
-pub fn header_of(
-    s: &[u8],
-    relocs: &[u64],
-    debug: bool,
-    at: usize,
-    end: usize,
-) -> Option<(usize, usize)>
-    requires { (at + 8 ≤ end) × (end ≤ length s.now) × T (is_some (entries s.now)) }
-    ensures { Spans s.now result (after (header_place debug (relocations_of relocs.now) (entry_in s.now at end)) λ place. header_at debug place at (listed (entries s.now))) }
-{
-    let place = header_place(s, relocs, debug, at, end)?;
-    header_span(s, debug, place, at)
+    // An entry is a header, starts at a place, and that place is earlier than `before`.
+    pub fn starts(&self, entry: Span, place: usize, before: usize) -> bool
+        requires { Holds self.now.bytes.now entry }
+        ensures { result ≡ eqb entry.at place && ltb place before && is_header self.now.layout.debug (entry_of self.now.bytes.now entry) }
+    {
+        entry.at == place && place < before && entry.is_header(self.bytes, self.layout.debug)
+    }
+
+    // The header that starts at a place earlier than `before`, searched for from an entry in front of it.
+    pub fn header_from(&self, from: usize, place: usize, before: usize) -> Option<Span>
+        requires { Ahead self.now.bytes.now from × (from ≤ place) }
+        ensures { Spans self.now.bytes.now result (header_at self.now.layout.debug place before (listed (entries self.now.bytes.now))) }
+    {
+        let mut next = from;
+        // Kept: a `while`, which moves by each entry's length.
+        while next < self.bytes.len() {
+            let entry = Span {
+                at: next,
+                end: entries::past(self.bytes, next),
+            };
+            next = entry.end;
+            if self.starts(entry, place, before) {
+                return Some(entry);
+            }
+        }
+        None
+    }
+
+    // The same, searched for from the first entry.
+    pub fn header_span(&self, place: usize, before: usize) -> Option<Span>
+        requires { T (is_some (entries self.now.bytes.now)) }
+        ensures { Spans self.now.bytes.now result (header_at self.now.layout.debug place before (listed (entries self.now.bytes.now))) }
+    {
+        self.header_from(0, place, before)
+    }
+
+    // Question 63: the header of a record.
+    pub fn header_of(&self, record: Span) -> Option<Span>
+        requires { Holds self.now.bytes.now «record» × T (is_some (entries self.now.bytes.now)) }
+        ensures { Spans self.now.bytes.now result (after (header_place self.now.layout.debug (relocations_of self.now.relocations.now) (entry_of self.now.bytes.now «record»)) λ place. header_at self.now.layout.debug place «record».at (listed (entries self.now.bytes.now))) }
+    {
+        let place = self.header_place(record)?;
+        self.header_span(place, record.at)
+    }
 }
 
 // ---- the fields of both
@@ -113,69 +122,80 @@ pub struct Located {
     pub shortest: bool,
 }
 
-// Question 64 of the header from `cie` to `past`, and then of the record from `at` to `end`: what is found, or the question's number.
-pub fn parse(
-    s: &[u8],
-    debug: bool,
-    word: u64,
-    cie: usize,
-    past: usize,
-    at: usize,
-    end: usize,
-) -> Result<Located, u64>
-    requires { T (is_word_size word) × (cie + 8 ≤ past) × (past ≤ length s.now) × (at + 8 ≤ end) × (end ≤ length s.now) }
-    ensures located { Locates s.now word result (parsed debug word (entry_in s.now cie past) (entry_in s.now at end)) }
-    ensures ends { IfOk result (λ l. (l.header_end ≡ past) × (l.record_end ≡ end)) }
-{
-    let header = cie + 4;
-    let Some(
-        Header {
-            operations: rules,
-            pointer,
-            signal,
-        },
-    ) = fields::parse_header(&s[header..past], debug, word)
-    else {
-        return Err(64);
-    };
-    let record = at + 4;
-    let Some(
-        Record {
-            operations: rows,
-            size,
-        },
-    ) = fields::parse_record(&s[record..end], debug, word, pointer, rules.shortest)
-    else {
-        return Err(64);
-    };
-    let rules_at = rules.at;
-    let rows_at = rows.at;
-    Ok(Located {
-        header: header + rules_at,
-        header_end: past,
-        record: record + rows_at,
-        record_end: end,
-        size,
-        pointer,
-        signal,
-        word,
-        shortest: rows.shortest,
-    })
+impl Located {
+    // Where the operations of the header are, and those of the record.
+    #[tactic(auto, unfolding(crate::specs::Finds::spans_of))]
+    pub fn operations(&self) -> [Span; 2]
+        ensures { result ≡ spans_of self.now }
+    {
+        [
+            Span {
+                at: self.header,
+                end: self.header_end,
+            },
+            Span {
+                at: self.record,
+                end: self.record_end,
+            },
+        ]
+    }
 }
 
-// Questions 61 to 64, in this order.
-pub fn locate(s: &[u8], relocs: &[u64], debug: bool, word: u64, k: u64) -> Result<Located, u64>
-    requires { T (is_word_size word) }
-    ensures { Locates s.now word result (locate debug (relocations_of relocs.now) word k s.now) }
-{
-    if !entries::tiles(s) {
-        return Err(61);
+impl<'a> Section<'a> {
+    // The bytes behind an entry's length.
+    pub fn body(&self, e: Span) -> Body<'a>
+        requires { Holds self.now.bytes.now e }
+        ensures { (result.bytes.now ≡ part self.now.bytes.now (e.at + 4) e.end) × (result.layout ≡ self.now.layout) }
+    {
+        let from = e.at + 4;
+        let to = e.end;
+        Body {
+            bytes: &self.bytes[from..to],
+            layout: self.layout,
+        }
     }
-    let Some((at, end)) = entries::record_span(s, debug, k) else {
-        return Err(62);
-    };
-    let Some((cie, past)) = header_of(s, relocs, debug, at, end) else {
-        return Err(63);
-    };
-    parse(s, debug, word, cie, past, at, end)
+
+    // Question 64 of a header, and then of a record: what is found, or the question's number.
+    pub fn parse(&self, cie: Span, fde: Span) -> Result<Located, u64>
+        requires { Holds self.now.bytes.now cie × Holds self.now.bytes.now fde }
+        ensures located { Locates self.now.bytes.now self.now.layout.word result (parsed self.now.layout.debug self.now.layout.word (entry_of self.now.bytes.now cie) (entry_of self.now.bytes.now fde)) }
+        ensures ends { IfOk result (λ l. (l.header_end ≡ cie.end) × (l.record_end ≡ fde.end)) }
+    {
+        let Some(header) = fields::parse_header(&self.body(cie)) else {
+            return Err(64);
+        };
+        let rules = header.operations;
+        let Some(record) = fields::parse_record(&self.body(fde), header.pointer, rules.shortest)
+        else {
+            return Err(64);
+        };
+        let rows = record.operations;
+        Ok(Located {
+            header: cie.at + 4 + rules.at,
+            header_end: cie.end,
+            record: fde.at + 4 + rows.at,
+            record_end: fde.end,
+            size: record.size,
+            pointer: header.pointer,
+            signal: header.signal,
+            word: self.layout.word,
+            shortest: rows.shortest,
+        })
+    }
+
+    // Questions 61 to 64, in this order.
+    pub fn locate(&self, k: u64) -> Result<Located, u64>
+        ensures { Locates self.now.bytes.now self.now.layout.word result (locate self.now.layout.debug (relocations_of self.now.relocations.now) self.now.layout.word k self.now.bytes.now) }
+    {
+        if !entries::tiles(self.bytes) {
+            return Err(61);
+        }
+        let Some(record) = entries::record_span(self.bytes, self.layout.debug, k) else {
+            return Err(62);
+        };
+        let Some(header) = self.header_of(record) else {
+            return Err(63);
+        };
+        self.parse(header, record)
+    }
 }

@@ -1,13 +1,12 @@
 // The run of the operations of a header and a record: questions 66 to 69 of the reader, which rucc-asm/src/unwind.rs of tamnd/rucc does not have.
 ghost use Rattle.std.specs.Prelude.{◌≡◌, true, false, ◌∷◌, ◌≤◌, ◌<◌, leb, length, T};
-ghost use Rattle.format.specs.Prelude.{pick, good, bad, onward};
-ghost use Rattle.format.specs.Machine.{is_word_size};
-ghost use Rattle.format.specs.Reader.{run};
-ghost use Rattle.format.specs.Rules.{blank, answer};
-ghost use Rattle.reader.specs.Spans.{part};
-ghost use Rattle.reader.specs.OneRegister.{start, set_cfa, set_rule, change_offset, change_register, remember, recall, negated, act};
+ghost use Rattle.format.specs.Prelude.{good, bad};
+ghost use Rattle.format.specs.Rules.{answer};
+ghost use Rattle.reader.specs.Finds.{in_section, found, run_both};
+ghost use Rattle.reader.specs.OneRegister.{start, set_cfa, set_rule, register_rule, restored, remember, recall, negated, act};
 ghost use Rattle.reader.specs.States.{Pops, run_of, Acts};
 
+use crate::location::Located;
 use format::{CfaRule, Operation, Row, Rule, Rules};
 use operations::fields::Position;
 use std::marker::Model;
@@ -15,6 +14,7 @@ use std::marker::Model;
 // ---- the state
 
 // The rules stored, at most 16. A clause sees them as a list, the last first.
+// Kept: an array and a depth; an `ArrayVec` wants a `Default` of `Rules`, which means nothing elsewhere, and clauses would reverse its items.
 #[derive(Drop)]
 pub struct Stored {
     places: [Rules; 16],
@@ -103,35 +103,24 @@ fn set_rule(s: &mut State, q: u16, reg: u16, rule: Rule)
     }
 }
 
-// Question 69: a CFA rule whose offset, or register, is another now.
-fn change_offset(s: &mut State, z: i64) -> Result<(), u64>
-    ensures { Acts result (run_of s.new) (change_offset z s.old.rules.cfa (run_of s.old)) }
+// Question 69: the register and the offset of a CFA rule that is changed.
+fn register_rule(cfa: CfaRule) -> Result<(u16, i64), u64>
+    ensures { result ≡ register_rule cfa }
 {
-    let CfaRule::Register(reg, _) = s.rules.cfa else {
-        return Err(69);
-    };
-    set_cfa(s, CfaRule::Register(reg, z));
-    Ok(())
-}
-
-fn change_register(s: &mut State, reg: u16) -> Result<(), u64>
-    ensures { Acts result (run_of s.new) (change_register reg s.old.rules.cfa (run_of s.old)) }
-{
-    let CfaRule::Register(_, z) = s.rules.cfa else {
-        return Err(69);
-    };
-    set_cfa(s, CfaRule::Register(reg, z));
-    Ok(())
+    match cfa {
+        CfaRule::Register(reg, z) => Ok((reg, z)),
+        CfaRule::Unset => Err(69),
+    }
 }
 
 // Question 67: no Restore in a header.
-fn restore(s: &mut State, header: bool, q: u16, reg: u16, initial: Rule) -> Result<(), u64>
-    ensures { Acts result (run_of s.new) (pick header (bad 67) (good (set_rule q reg initial (run_of s.old)))) }
+fn restore(s: &mut State, q: u16, reg: u16, initial: Option<Rule>) -> Result<(), u64>
+    ensures { Acts result (run_of s.new) (restored q reg initial (run_of s.old)) }
 {
-    if header {
+    let Some(rule) = initial else {
         return Err(67);
-    }
-    set_rule(s, q, reg, initial);
+    };
+    set_rule(s, q, reg, rule);
     Ok(())
 }
 
@@ -167,15 +156,21 @@ fn negate(s: &mut State)
 }
 
 // A row, or the number of the question that it is refused by; `initial` is the followed register's rule after the header.
-pub fn act(s: &mut State, header: bool, q: u16, initial: Rule, row: Row) -> Result<(), u64>
-    ensures { Acts result (run_of s.new) (act header q initial row (run_of s.old)) }
+pub fn act(s: &mut State, q: u16, initial: Option<Rule>, row: Row) -> Result<(), u64>
+    ensures { Acts result (run_of s.new) (act q initial row (run_of s.old)) }
 {
     match row {
         Row::DefCfa(reg, z) => set_cfa(s, CfaRule::Register(reg, z)),
-        Row::DefCfaOffset(z) => return change_offset(s, z),
-        Row::DefCfaRegister(reg) => return change_register(s, reg),
+        Row::DefCfaOffset(z) => {
+            let (reg, _) = register_rule(s.rules.cfa)?;
+            set_cfa(s, CfaRule::Register(reg, z));
+        }
+        Row::DefCfaRegister(reg) => {
+            let (_, z) = register_rule(s.rules.cfa)?;
+            set_cfa(s, CfaRule::Register(reg, z));
+        }
         Row::Offset(reg, z) => set_rule(s, q, reg, Rule::Saved(z)),
-        Row::Restore(reg) => return restore(s, header, q, reg, initial),
+        Row::Restore(reg) => return restore(s, q, reg, initial),
         Row::Undefined(reg) => set_rule(s, q, reg, Rule::Undefined),
         Row::RememberState => return remember(s),
         Row::RestoreState => return recall(s),
@@ -189,43 +184,29 @@ pub fn act(s: &mut State, header: bool, q: u16, initial: Rule, row: Row) -> Resu
 // ---- the operations of two entries
 
 // The header's operations and then the record's, for register q, until a step would pass p.
-pub fn run(
-    s: &[u8],
-    header: usize,
-    header_end: usize,
-    record: usize,
-    record_end: usize,
-    word: u64,
-    p: u64,
-    q: u16,
-) -> Result<Rules, u64>
-    requires { T (is_word_size word) × (header ≤ header_end) × (header_end ≤ length s.now) × («record» ≤ record_end) × (record_end ≤ length s.now) }
-    ensures { result ≡ answer q (onward (run true word p blank.current.rules blank (part s.now header header_end)) λ t. run false word p t.current.rules t (part s.now «record» record_end)) }
+pub fn run(s: &[u8], l: &Located, p: u64, q: u16) -> Result<Rules, u64>
+    requires { T (in_section s.now l.now) }
+    ensures { result ≡ answer q (run_both l.now.word p (found s.now l.now)) }
 {
     let mut state = start();
-    // The entries that are left, and where the next one is.
-    let mut left: usize = 2;
-    let mut from = header;
-    let mut to = header_end;
-    'entries: while left != 0 {
+    // The followed register's rule after the header, which a header's operations do not have.
+    let mut initial = None;
+    'entries: for span in l.operations() {
+        let from = span.at;
+        let to = span.end;
         let ops = &s[from..to];
-        let first = left == 2;
-        let initial = state.rules.rule;
-        left -= 1;
-        from = record;
-        to = record_end;
         let mut loc = 0;
         let mut at = Position::START;
         // Kept: a `while`, which moves by each operation's length.
         'operations: while at.at < ops.len() {
-            let Some((op, next)) = operations::operation(ops, at, word) else {
+            let Some((op, next)) = operations::operation(ops, at, l.word) else {
                 return Err(66);
             };
             at = next;
             match op {
                 Operation::Nop => continue 'operations,
                 Operation::Step(n) => {
-                    if first {
+                    if initial.is_none() {
                         return Err(66);
                     }
                     if p - loc < n {
@@ -235,10 +216,11 @@ pub fn run(
                     continue 'operations;
                 }
                 Operation::Does(row) => {
-                    act(&mut state, first, q, initial, row)?;
+                    act(&mut state, q, initial, row)?;
                 }
             }
         }
+        initial = Some(state.rules.rule);
     }
     Ok(state.rules)
 }

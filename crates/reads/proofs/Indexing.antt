@@ -14,6 +14,7 @@ use Rattle.format.specs.Lists.{Relocation, relocations_of}
 use Rattle.format.specs.Reader.{Entry, is_header, records, entries, header_place, header_at}
 use Rattle.format.proofs.Choice.{if-le, if-gt}
 use Rattle.reader.specs.Spans.{entry_in, entries_from, listed, Ends, Spans}
+use Rattle.reader.specs.declared.section.Span.{Span}
 use Rattle.reader.proofs.Seeking.{search_start, search_turn, number_is, number_none, absent, header_here_lem, header_later}
 use Rattle.reader.proofs.Tiling.{tiled_end}
 use Rattle.reader.proofs.Whole.{spans, spans_none}
@@ -122,17 +123,17 @@ module _ (s : List ℕ) (rs : List Relocation) (debug : Bool) (es : List Entry) 
     pub start_last : {last : ℕ} → Headed debug es last → place ≡ last → place < at → at < 2 ^ 64 → place ≡ start
     start_last {last} k q h l = sym (at_place ∙ rw q (k.starts at (omega arith) l))
 
-    module _ {t : code.Option (ℕ × ℕ)} (k : Spans s t (header_at debug place at es)) where
+    module _ {t : code.Option Span} (k : Spans s t (header_at debug place at es)) where
       pub start_missing : t ≡ None → nowhere ≡ start
       unfolding place_or
       start_missing q = sym (at_place ∙ rw (spans_none s (header_at debug place at es) k q) refl)
 
-      module _ {c p : ℕ} (q : t ≡ Some (c, p)) where
-        pub start_found : c ≡ start
+      module _ {h : Span} (q : t ≡ Some h) where
+        pub start_found : h.at ≡ start
         unfolding place_or
         start_found = sym (at_place ∙ rw (spans s (header_at debug place at es) k q).found refl)
 
-        pub found_headed : place < at → Headed debug es c
+        pub found_headed : place < at → Headed debug es h.at
         found_headed l = headed_found debug es l (spans s (header_at debug place at es) k q).found
 
 pub last_is : (o : code.Option ℕ) {p : ℕ} → option_eq eqb o (Some p) ≡ true → o ≡ Some p

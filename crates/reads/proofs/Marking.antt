@@ -4,8 +4,10 @@ use lib.ListN.{length-replicate}
 use Rattle.format.specs.Questions.{is_some}
 use Rattle.format.specs.Reader.{entries}
 use Rattle.reader.specs.Spans.{Ends}
-use Rattle.section_check.specs.Places.{Ahead, Marks, marked}
-use Rattle.section_check.proofs.Pass.{first_ahead, no_marks, marked_ahead, marked_long, ahead_on}
+use Rattle.reader.specs.Spans.{Ahead}
+use Rattle.reader.proofs.Seeking.{first_ahead}
+use Rattle.section_check.specs.Places.{Marks, marked}
+use Rattle.section_check.proofs.Pass.{no_marks, marked_ahead, marked_long, ahead_on}
 
 pub record Marking (s marks : List ℕ) (at : ℕ) : Type 0 where
   pub ahead : Ahead s at

@@ -8,9 +8,10 @@ use Rattle.format.specs.Machine.{is_word_size}
 use Rattle.format.specs.Questions.{is_some}
 use Rattle.format.specs.Lists.{Relocation, relocations_of}
 use Rattle.format.specs.Reader.{Entry, Found, read_entry, entries, records, parsed}
-use Rattle.reader.specs.Spans.{part, entry_in, listed, Stands, Spans}
+use Rattle.reader.specs.Spans.{part, entry_in, entry_of, listed, Stands, Spans}
 use Rattle.reader.specs.Finds.{Stated}
 use Rattle.reader.specs.declared.location.Located as reader
+use Rattle.reader.specs.declared.section.Span.{Span}
 use Rattle.reader.proofs.Whole.{tiled, spans, spans_none}
 use Rattle.reader.proofs.Seeking.{absent}
 use Rattle.std.specs.Prelude.{Some, None, Ok, Err}
@@ -28,14 +29,6 @@ use Rattle.reads.specs.declared.Located.{Located}
 -- ---- 11
 
 module _ (kind word : ℕ) where
-  pub no_word : is_word_size word ≡ false → false ≡ asked kind word
-  unfolding asked
-  no_word e = rw e refl
-
-  pub a_word : is_word_size word ≡ true → leb kind 1 ≡ asked kind word
-  unfolding asked
-  a_word e = rw e refl
-
   pub asked_word : asked kind word ≡ true → T (is_word_size word)
   unfolding asked
   asked_word e = let t : T (is_word_size word && leb kind 1) = rw e tt in (and_yes (is_word_size word) (leb kind 1) t).0
@@ -122,25 +115,25 @@ module _ (s : List ℕ) (rs : List Relocation) (debug : Bool) (word k : ℕ) whe
   abbrev es : List Entry
   es = listed (entries s)
 
-  module _ (t : is_some (entries s) ≡ true) {r : code.Option (ℕ × ℕ)} (m : Spans s r (get_elem? (records debug es) k)) where
+  module _ (t : is_some (entries s) ≡ true) {r : code.Option Span} (m : Spans s r (get_elem? (records debug es) k)) where
     pub nth_missing : r ≡ None → Err 62 ≡ located
     unfolding locate_nth onward or_else
     nth_missing q = rw (tiled (entries s) t, spans_none s (get_elem? (records debug es) k) m q) refl
 
-    module _ {a e : ℕ} (q : r ≡ Some (a, e)) where
-      pub record_stands : Stands s a e (get_elem? (records debug es) k)
+    module _ {e : Span} (q : r ≡ Some e) where
+      pub record_stands : Stands s e.at e.end (get_elem? (records debug es) k)
       record_stands = spans s (get_elem? (records debug es) k) m q
 
-      module _ {r' : code.Option (ℕ × ℕ)} (m' : Spans s r' (header_of debug rs es (entry_in s a e))) where
+      module _ {r' : code.Option Span} (m' : Spans s r' (header_of debug rs es (entry_of s e))) where
         pub nth_headless : r' ≡ None → Err 63 ≡ located
         unfolding locate_nth onward or_else
-        nth_headless q' = rw (tiled (entries s) t, record_stands.found, spans_none s (header_of debug rs es (entry_in s a e)) m' q') refl
+        nth_headless q' = rw (tiled (entries s) t, record_stands.found, spans_none s (header_of debug rs es (entry_of s e)) m' q') refl
 
-        module _ {c p : ℕ} (q' : r' ≡ Some (c, p)) where
-          pub header_stands : Stands s c p (header_of debug rs es (entry_in s a e))
-          header_stands = spans s (header_of debug rs es (entry_in s a e)) m' q'
+        module _ {h : Span} (q' : r' ≡ Some h) where
+          pub header_stands : Stands s h.at h.end (header_of debug rs es (entry_of s e))
+          header_stands = spans s (header_of debug rs es (entry_of s e)) m' q'
 
-          pub nth_rest : result_of (locate_entries debug word (entry_in s c p) (entry_in s a e)) ≡ located
+          pub nth_rest : result_of (locate_entries debug word (entry_of s h) (entry_of s e)) ≡ located
           unfolding locate_nth onward or_else
           nth_rest = rw (tiled (entries s) t, record_stands.found, header_stands.found) refl
 

@@ -6,12 +6,13 @@ ghost use Rattle.std.specs.Prelude.{◌≡◌, length};
 ghost use Rattle.format.specs.Answers.{marked_numbers};
 ghost use Rattle.format.specs.Reader.{read};
 ghost use Rattle.unwind.specs.Entries.{read_numbers};
-ghost use Rattle.reads.specs.Places.{asked, located_as, locate_record, reader_places, rules_of};
+ghost use Rattle.reads.specs.Places.{located_as, locate_record, reader_places, rules_of};
 ghost use Rattle.reader.specs.Finds.{shortest_from};
 ghost use Rattle.reads.specs.Addresses.{placed_as, function_at, holder_as, record_of};
 ghost use Rattle.reads.specs.Index.{index, indexed_as, locate_at};
 ghost use Rattle.reads.specs.Standing.{Indexes};
 
+use crate::addresses::Loaded;
 use format::Rules;
 use unwind::Numbers;
 
@@ -137,14 +138,7 @@ fn answer_indexed(found: Result<usize, u64>) -> Indexed
 
 // ---- the exports
 
-// Question 11.
-#[tactic(auto, unfolding(crate::specs::Places::asked))]
-fn asked(kind: u64, word: u64) -> bool
-    ensures { result ≡ asked kind word }
-{
-    numbers::is_word(word) && kind <= 1
-}
-
+// Kept: their parameters one by one, as C passes them; so for `read_located`, which is asked as `unwind_read` is.
 #[unsafe(no_mangle)]
 pub extern "C" fn unwind_locate(
     section: &[u8],
@@ -155,10 +149,10 @@ pub extern "C" fn unwind_locate(
 ) -> Located
     ensures { result ≡ locate_record section.now relocations.now kind word k }
 {
-    if !asked(kind, word) {
+    let Some(section) = reader::section_of(section, relocations, kind, word) else {
         return answer_located(Err(11));
-    }
-    answer_located(places::locate_nth(section, relocations, kind == 1, word, k))
+    };
+    answer_located(places::locate_nth(&section, k))
 }
 
 // The numbers as the reader takes them.
@@ -230,10 +224,11 @@ pub extern "C" fn unwind_function_at(
 ) -> Placed
     ensures { result ≡ function_at section.now kind word address «record» }
 {
-    if !asked(kind, word) {
+    let none = [];
+    let Some(section) = reader::section_of(section, &none, kind, word) else {
         return answer_placed(Err(11));
-    }
-    answer_placed(addresses::function_at(section, kind == 1, word, address, record as usize))
+    };
+    answer_placed(Loaded { section, address }.function_at(record as usize))
 }
 
 #[unsafe(no_mangle)]
@@ -246,10 +241,11 @@ pub extern "C" fn unwind_record_of(
 ) -> Holder
     ensures { result ≡ record_of section.now kind word address pc }
 {
-    if !asked(kind, word) {
+    let none = [];
+    let Some(section) = reader::section_of(section, &none, kind, word) else {
         return answer_holder(Err(11));
-    }
-    answer_holder(addresses::holder_in(section, kind == 1, word, address, pc))
+    };
+    answer_holder(Loaded { section, address }.holder_in(pc))
 }
 
 #[unsafe(no_mangle)]
@@ -262,10 +258,10 @@ pub extern "C" fn unwind_index(
 ) -> Indexed
     ensures { Indexes (index section.now relocations.now kind word (length places.old)) result places.old places.new }
 {
-    if !asked(kind, word) {
+    let Some(section) = reader::section_of(section, relocations, kind, word) else {
         return answer_indexed(Err(11));
-    }
-    answer_indexed(index::index_in(section, relocations, kind == 1, places))
+    };
+    answer_indexed(index::index_in(&section, places))
 }
 
 #[unsafe(no_mangle)]
@@ -278,8 +274,9 @@ pub extern "C" fn unwind_locate_at(
 ) -> Located
     ensures { result ≡ locate_at section.now kind word «record» header }
 {
-    if !asked(kind, word) {
+    let none = [];
+    let Some(section) = reader::section_of(section, &none, kind, word) else {
         return answer_located(Err(11));
-    }
-    answer_located(places::locate_at(section, kind == 1, word, record as usize, header as usize))
+    };
+    answer_located(places::locate_at(&section, record as usize, header as usize))
 }

@@ -2,70 +2,58 @@
 use mathlib.Core.Path.{◌≡◌, refl}
 use Prim.Native.Nat.{ℕ, zero, suc, ◌+◌, ◌*◌}
 use native.Mathlib.Omega.{arith}
-use mathlib.Core.Bool.{Bool, true, false, not}
+use mathlib.Core.Bool.{Bool, true, false}
 use mathlib.Core.Logic.{◌≢◌}
-use mathlib.Core.Option.{none, some}
 use mathlib.Core.List.{List, ◌++◌}
 use lib.ListN.{length, replicate, length-append, length-replicate}
 use lib.Dec.{eqb}
-use borrow.Author.Tests.{eq-eqb, ne_eqb, not-true, not-false}
+use Rattle.std.specs.Prelude as code
+use Rattle.std.specs.Prelude.{Some, None}
 use Rattle.format.specs.Prelude.{pick, each}
 use Rattle.format.specs.Leb.{uleb}
-use Rattle.format.specs.Lists.{Landing, Pointer, Relaxed}
+use Rattle.format.specs.Lists.{Landing}
 use Rattle.format.specs.Headers.{pointer_bytes, counted}
 use Rattle.format.specs.Records.{pointer_blank, named_blank, lsda_blank, size_field, record_fields}
 use Rattle.format.proofs.Choice.{if-eq, if-ne}
 use Rattle.format.proofs.LebBack.{little-length}
+use Rattle.lists.specs.declared.Lsda.{Lsda}
+use Rattle.lists.specs.declared.Personality.{Personality}
+use Rattle.lists.specs.declared.Labels.{Labels}
 use Rattle.lists.specs.declared.Extent.{Extent}
-use Rattle.lists.specs.Extents.{meant}
-use Rattle.records.specs.Fields.{size_in, pointed, blank_in, fields_in}
+use Rattle.lists.specs.Extents.{meant_lsda, meant_personality, meant_labels, meant}
+use Rattle.header_keys.specs.declared.Kind.TheVariants.{Personal}
+use Rattle.header_keys.specs.Kinds.{by_personality, asked_kind}
+use Rattle.records.specs.Fields.{labelled, size_in, lsda_by, pointed, blank_in, fields_in}
 
 -- ---- the fields of a function and those of its record
 
-size_is : (b : Bool) (size : ℕ) (r : Relaxed) → size_field size (pick b (some r) none) ≡ pick b 0 size
-unfolding size_field pick
-size_is true size r = refl
-size_is false size r = refl
+size_is : (o : code.Option Labels) (size : ℕ) (pairs : List ℕ) → size_field size (meant_labels o pairs) ≡ labelled o size (λ l. 0)
+unfolding size_field meant_labels labelled
+size_is (Some l) size pairs = refl
+size_is None size pairs = refl
 
-named_is : (b c : Bool) (word : ℕ) (p q : Pointer)
-    → named_blank word (pick b (some (record { personality = p; lsda = pick c (some q) none })) none) ≡ pick b (pick c (pointer_bytes word q.encoding) 0) 0
-unfolding named_blank pointer_blank pick
-named_is true true word p q = refl
-named_is true false word p q = refl
-named_is false c word p q = refl
+pointer_is : (o : code.Option Lsda) (word : ℕ) → pointer_blank word (meant_lsda o) ≡ lsda_by o 0 (λ l. pointer_bytes word l.encoding)
+unfolding pointer_blank meant_lsda lsda_by
+pointer_is (Some l) word = refl
+pointer_is None word = refl
 
-blank_is : (f : ℕ → Landing) (at n : ℕ) (b c : Bool) (word : ℕ) (p q : Pointer)
-    → lsda_blank word (each f at n) (pick b (some (record { personality = p; lsda = pick c (some q) none })) none)
-    ≡ pick (eqb n 0) (pick b (pick c (pointer_bytes word q.encoding) 0) 0) 4
-unfolding lsda_blank each
-blank_is f at zero b c word p q = rw (if-eq 0 0 _ _ refl) (named_is b c word p q)
-blank_is f at (suc n) b c word p q = let h : suc n ≢ 0 = λ e. omega arith in rw (if-ne (suc n) 0)
+named_is : (o : code.Option Personality) (word : ℕ)
+    → named_blank word (meant_personality o) ≡ pointed (by_personality o) 0 (λ l. pointer_bytes word l.encoding) 4
+unfolding named_blank meant_personality by_personality pointed
+named_is (Some p) word = pointer_is p.lsda word
+named_is None word = refl
+
+blank_is : (f : ℕ → Landing) (at n : ℕ) (o : code.Option Personality) (word : ℕ)
+    → lsda_blank word (each f at n) (meant_personality o) ≡ pointed (pick (eqb n 0) (by_personality o) Personal) 0 (λ l. pointer_bytes word l.encoding) 4
+unfolding lsda_blank each pointed
+blank_is f at zero o word = rw (if-eq 0 0 (by_personality o) Personal refl) (named_is o word)
+blank_is f at (suc n) o word = let h : suc n ≢ 0 = λ e. omega arith in rw (if-ne (suc n) 0 (by_personality o) Personal h)
 
 pub fields_are : (debug : Bool) (word distance : ℕ) (e : Extent) (rows landings pairs : List ℕ)
     → record_fields debug word distance (meant e rows landings pairs) ≡ fields_in debug word distance e
-unfolding record_fields fields_in meant size_in blank_in pointed
+unfolding record_fields fields_in meant size_in blank_in asked_kind
 fields_are true word distance e rows landings pairs = simp size_is
 fields_are false word distance e rows landings pairs = simp (size_is, blank_is)
-
--- ---- the tests of the pointer to the call sites
-
-module _ {X : Type 0} (e : Extent) (without named table : X) where
-  pub by_landings : e.landings ≢ 0 → pointed e without named table ≡ table
-  unfolding pointed pick
-  by_landings h = simp (ne_eqb _ _ h)
-
-  module _ (h : e.landings ≡ 0) where
-    pub by_none : e.personality ≡ false → pointed e without named table ≡ without
-    unfolding pointed pick
-    by_none t = simp (eq-eqb _ _ h, t)
-
-    pub by_no_lsda : e.personality ≡ true → not e.lsda ≡ true → pointed e without named table ≡ without
-    unfolding pointed pick
-    by_no_lsda t u = simp (eq-eqb _ _ h, t, not-true e.lsda u)
-
-    pub by_lsda : e.personality ≡ true → not e.lsda ≡ false → pointed e without named table ≡ named
-    unfolding pointed pick
-    by_lsda t u = simp (eq-eqb _ _ h, t, not-false e.lsda u)
 
 -- ---- how long they are
 

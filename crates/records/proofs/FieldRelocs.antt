@@ -4,42 +4,54 @@ use Prim.Native.Nat.{ℕ, zero, suc, ◌+◌}
 use native.Mathlib.Omega.{arith}
 use mathlib.Core.Bool.{Bool, true, false}
 use mathlib.Core.Logic.{◌≢◌}
-use mathlib.Core.Option.{none, some}
-use mathlib.Core.List.{[], ◌∷◌, ◌++◌}
+use mathlib.Core.List.{List, [], ◌∷◌, ◌++◌}
 use lib.ListN.{length, length-append}
 use lib.Dec.{eqb}
+use Rattle.std.specs.Prelude as code
+use Rattle.std.specs.Prelude.{Some, None}
 use Rattle.format.specs.Prelude.{pick, each}
-use Rattle.format.specs.Lists.{Function, Landing, Pointer, Relaxed, Relocation, numbers_of}
+use Rattle.format.specs.Lists.{Function, Landing, Relocation, numbers_of}
 use Rattle.format.specs.Constants.{except_table}
 use Rattle.format.specs.Headers.{pointer_reloc, reloc}
 use Rattle.format.specs.Records.{pointer_to, named_reloc, lsda_reloc, sum_pair}
 use Rattle.format.proofs.Choice.{if-eq, if-ne}
 use Rattle.format.proofs.ListLaws.{numbers_append}
+use Rattle.lists.specs.declared.Lsda.{Lsda}
+use Rattle.lists.specs.declared.Personality.{Personality}
+use Rattle.lists.specs.declared.Labels.{Labels}
 use Rattle.lists.specs.declared.Extent.{Extent}
-use Rattle.records.specs.Fields.{pointed, sum_in, lsda_in, debug_relocs, eh_relocs, field_relocs}
+use Rattle.lists.specs.Extents.{meant_lsda, meant_personality, meant_labels}
+use Rattle.header_keys.specs.declared.Kind.{Kind}
+use Rattle.header_keys.specs.declared.Kind.TheVariants.{Plain, Personal, Named}
+use Rattle.header_keys.specs.Kinds.{by_personality, asked_kind}
+use Rattle.records.specs.Fields.{labelled, lsda_by, pointed, sum_in, lsda_in, debug_relocs, eh_relocs, field_relocs}
 
 -- ---- the parts of a function's relocations by what its record has
 
-pub sum_is : (b : Bool) (place bytes : ℕ) (f : Function) (r : Relaxed) → sum_pair place bytes f (pick b (some r) none)
-    ≡ pick b (reloc place r.end 2 bytes 0 ∷ reloc place f.symbol 3 bytes 0 ∷ []) []
-unfolding sum_pair pick
-sum_is true place bytes f r = refl
-sum_is false place bytes f r = refl
+pub sum_is : (o : code.Option Labels) (place bytes : ℕ) (f : Function) (pairs : List ℕ) → sum_pair place bytes f (meant_labels o pairs)
+    ≡ labelled o [] (λ l. reloc place l.end 2 bytes 0 ∷ reloc place f.symbol 3 bytes 0 ∷ [])
+unfolding sum_pair meant_labels labelled
+sum_is (Some l) place bytes f pairs = refl
+sum_is None place bytes f pairs = refl
 
-named_is : (b c : Bool) (word place : ℕ) (p q : Pointer)
-    → named_reloc word place (pick b (some (record { personality = p; lsda = pick c (some q) none })) none)
-    ≡ pick b (pick c (pointer_reloc word place q.symbol q.encoding ∷ []) []) []
-unfolding named_reloc pointer_to pick
-named_is true true word place p q = refl
-named_is true false word place p q = refl
-named_is false c word place p q = refl
+pointer_is : (o : code.Option Lsda) (word place : ℕ)
+    → pointer_to word place (meant_lsda o) ≡ lsda_by o [] (λ l. pointer_reloc word place l.symbol l.encoding ∷ [])
+unfolding pointer_to meant_lsda lsda_by
+pointer_is (Some l) word place = refl
+pointer_is None word place = refl
 
-pub lsda_is : (f : ℕ → Landing) (at n : ℕ) (b c : Bool) (word place table : ℕ) (p q : Pointer)
-    → lsda_reloc word place table (each f at n) (pick b (some (record { personality = p; lsda = pick c (some q) none })) none)
-    ≡ pick (eqb n 0) (pick b (pick c (pointer_reloc word place q.symbol q.encoding ∷ []) []) []) (reloc place except_table 0 4 table ∷ [])
-unfolding lsda_reloc each
-lsda_is f at zero b c word place table p q = rw (if-eq 0 0 _ _ refl) (named_is b c word place p q)
-lsda_is f at (suc n) b c word place table p q = let h : suc n ≢ 0 = λ e. omega arith in rw (if-ne (suc n) 0)
+named_is : (o : code.Option Personality) (word place : ℕ) (table : List Relocation)
+    → named_reloc word place (meant_personality o) ≡ pointed (by_personality o) [] (λ l. pointer_reloc word place l.symbol l.encoding ∷ []) table
+unfolding named_reloc meant_personality by_personality pointed
+named_is (Some p) word place table = pointer_is p.lsda word place
+named_is None word place table = refl
+
+pub lsda_is : (f : ℕ → Landing) (at n : ℕ) (o : code.Option Personality) (word place table : ℕ)
+    → lsda_reloc word place table (each f at n) (meant_personality o)
+    ≡ pointed (pick (eqb n 0) (by_personality o) Personal) [] (λ l. pointer_reloc word place l.symbol l.encoding ∷ []) (reloc place except_table 0 4 table ∷ [])
+unfolding lsda_reloc each pointed
+lsda_is f at zero o word place table = rw (if-eq 0 0 (by_personality o) Personal refl) (named_is o word place _)
+lsda_is f at (suc n) o word place table = let h : suc n ≢ 0 = λ e. omega arith in rw (if-ne (suc n) 0 (by_personality o) Personal h)
 
 -- ---- the numbers of the fields' relocations
 
@@ -59,30 +71,36 @@ one_length r = refl
 
 -- ---- how many there are
 
-sum_picked : (b : Bool) (x y : Relocation) (u v : Relocation) → length (pick b (x ∷ y ∷ []) []) ≡ length (pick b (u ∷ v ∷ []) [])
-unfolding pick
-sum_picked true x y u v = refl
-sum_picked false x y u v = refl
+labelled_length : (o : code.Option Labels) (f g : Labels → List Relocation) → ((l : Labels) → length (f l) ≡ length (g l))
+    → length (labelled o [] f) ≡ length (labelled o [] g)
+unfolding labelled
+labelled_length (Some l) f g h = h l
+labelled_length None f g h = refl
 
 sum_counted : (place bytes : ℕ) (e : Extent) → length (sum_in place bytes e) ≡ length (sum_in 0 0 e)
 unfolding sum_in
-sum_counted place bytes e = sum_picked e.relaxed _ _ _ _
+sum_counted place bytes e = labelled_length e.relaxed _ _ (λ l. refl)
 
 pub debug_count : (word at cie : ℕ) (e : Extent) → length (debug_relocs word at cie e) ≡ 2 + length (sum_in 0 0 e)
 unfolding debug_relocs
 debug_count word at cie e = omega (arith, sum_counted (at + 8 + word) word e)
 
-lsda_picked : (a b c : Bool) (x y u v : Relocation)
-    → length (pick a (pick b (pick c (x ∷ []) []) []) (y ∷ [])) ≡ length (pick a (pick b (pick c (u ∷ []) []) []) (v ∷ []))
-unfolding pick
-lsda_picked false b c x y u v = refl
-lsda_picked true false c x y u v = refl
-lsda_picked true true false x y u v = refl
-lsda_picked true true true x y u v = refl
+lsda_length : (o : code.Option Lsda) (f g : Lsda → List Relocation) → ((l : Lsda) → length (f l) ≡ length (g l))
+    → length (lsda_by o [] f) ≡ length (lsda_by o [] g)
+unfolding lsda_by
+lsda_length (Some l) f g h = h l
+lsda_length None f g h = refl
+
+pointed_length : (k : Kind) (f g : Lsda → List Relocation) (t u : Relocation) → ((l : Lsda) → length (f l) ≡ length (g l))
+    → length (pointed k [] f (t ∷ [])) ≡ length (pointed k [] g (u ∷ []))
+unfolding pointed
+pointed_length Plain f g t u h = refl
+pointed_length Personal f g t u h = refl
+pointed_length (Named p) f g t u h = lsda_length p.lsda f g h
 
 lsda_counted : (word place table : ℕ) (e : Extent) → length (lsda_in word place table e) ≡ length (lsda_in 0 0 0 e)
-unfolding lsda_in pointed
-lsda_counted word place table e = lsda_picked (eqb e.landings 0) e.personality e.lsda _ _ _ _
+unfolding lsda_in
+lsda_counted word place table e = pointed_length (asked_kind e) _ _ _ _ (λ l. refl)
 
 pub eh_count : (word at table : ℕ) (e : Extent) → length (eh_relocs word at table e) ≡ 1 + length (lsda_in 0 0 0 e) + length (sum_in 0 0 e)
 unfolding eh_relocs

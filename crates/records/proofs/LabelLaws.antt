@@ -11,7 +11,6 @@ use Rattle.format.specs.Prelude.{pick, first, each}
 use Rattle.format.specs.Rows.{RowAt, row_bytes, step_bytes, step_form}
 use Rattle.format.specs.Lists.{Pair, pair_at}
 use Rattle.format.specs.Records.{pair_for, set_pair, step_relocs}
-use Rattle.lists.specs.declared.Extent.{Extent}
 use Rattle.records.specs.Labels.{is_for, pair_between, step_pair}
 
 -- ---- the search
@@ -55,15 +54,15 @@ module _ {from to : ℕ} {pairs : List ℕ} {at n i : ℕ} (s : Seeking from to 
 
 -- ---- the relocations of one step
 
-pub pair_absent : (place from to : ℕ) (e : Extent) (pairs : List ℕ) → none ≡ pair_between from to pairs e.pairs_at e.pairs
-    → step_pair place from to e pairs ≡ []
+pub pair_absent : (place from to : ℕ) (ps : List Pair) → none ≡ pair_for from to ps
+    → step_pair place from to ps ≡ []
 unfolding step_pair set_pair
-pair_absent place from to e pairs h = rw (← h)
+pair_absent place from to ps h = rw (← h)
 
-pub pair_found : (place from to : ℕ) (e : Extent) (pairs : List ℕ) (p : Pair) → some p ≡ pair_between from to pairs e.pairs_at e.pairs
-    → step_pair place from to e pairs ≡ set_pair place (step_form (to - from)) (some p)
+pub pair_found : (place from to : ℕ) (ps : List Pair) (p : Pair) → some p ≡ pair_for from to ps
+    → step_pair place from to ps ≡ set_pair place (step_form (to - from)) (some p)
 unfolding step_pair
-pair_found place from to e pairs p h = rw (← h)
+pair_found place from to ps p h = rw (← h)
 
 -- how many there are does not depend on the place and the form
 set_count : (place form : ℕ) (o : Option Pair) → length (set_pair place form o) ≡ length (set_pair 0 0 o)

@@ -6,17 +6,20 @@ use mathlib.Core.Bool.{Bool, true, false}
 use mathlib.Core.Option.{Option, none, some}
 use mathlib.Core.List.{List, [], ◌∷◌, ◌++◌, append-nil}
 use lib.ListN.{length, length-append}
+use Rattle.std.specs.Prelude.{Some, None}
 use Rattle.format.specs.Prelude.{pick, each}
 use Rattle.format.specs.declared.Machine.{Machine}
 use Rattle.format.specs.Rows.{RowAt}
-use Rattle.format.specs.Lists.{Function, Landing, Named, Pointer, Relaxed, row_at, numbers_of}
+use Rattle.format.specs.Lists.{Function, Landing, Named, Pointer, Relaxed, row_at, numbers_of, pair_at}
 use Rattle.format.specs.Headers.{ahead, others}
 use Rattle.format.proofs.ListLaws.{numbers_length, numbers_append}
 use Rattle.format.specs.Records.{pointer_to, named_reloc, lsda_reloc, record_fields, sum_pair, row_relocs, record_relocs}
 use Rattle.lists.specs.declared.Extent.{Extent}
-use Rattle.lists.specs.Extents.{meant}
+use Rattle.lists.specs.declared.Labels.{Labels}
+use Rattle.lists.specs.Extents.{meant_labels, meant}
+use Rattle.header_keys.specs.Kinds.{asked_kind}
 use Rattle.header_keys.specs.Functions.{body_of}
-use Rattle.records.specs.Fields.{fields_in, pointed, sum_in, lsda_in, debug_relocs, eh_relocs, field_relocs}
+use Rattle.records.specs.Fields.{fields_in, sum_in, lsda_in, debug_relocs, eh_relocs, field_relocs}
 use Rattle.records.specs.Labels.{steps_in}
 use Rattle.records.proofs.OtherRows.{others_are}
 use Rattle.records.proofs.LabelLaws.{steps_count}
@@ -76,7 +79,7 @@ relocs_count false m at cie table f =
 module _ (debug : Bool) (m : Machine) (at cie table : ℕ) (e : Extent) (rows pairs : List ℕ) where
   relocs_are : record_relocs debug m at cie table (meant e rows [] pairs) ≡ field_relocs debug m.word at cie table e
       ++ row_relocs m.word (at + 4 + length (fields_in debug m.word 0 e)) (others (body_of e rows).rows) (meant e rows [] pairs).relaxed
-  unfolding record_relocs field_relocs debug_relocs eh_relocs sum_in lsda_in pointed meant
+  unfolding record_relocs field_relocs debug_relocs eh_relocs sum_in lsda_in asked_kind meant
   relocs_are =
       rw (fields_are debug m.word (at + 4 - cie) e rows [] pairs, fields_length debug m.word (at + 4 - cie) e) (simp (sum_is, lsda_is))
 
@@ -84,33 +87,33 @@ module _ (debug : Bool) (m : Machine) (at cie table : ℕ) (e : Extent) (rows pa
   pub field_room : length (numbers_of (field_relocs debug m.word at cie table e)) ≤ 5 * length (record_relocs debug m at cie table (meant e rows [] pairs))
   field_room = rw (relocs_are, length-append, numbers_length) (omega arith)
 
-  pub relocs_plain : e.relaxed ≡ false → record_relocs debug m at cie table (meant e rows [] pairs) ≡ field_relocs debug m.word at cie table e
-  unfolding meant row_relocs pick
+  pub relocs_plain : e.relaxed ≡ None → record_relocs debug m at cie table (meant e rows [] pairs) ≡ field_relocs debug m.word at cie table e
+  unfolding meant meant_labels row_relocs
   relocs_plain h = relocs_are ∙ simp (h, append-nil)
 
-  module _ {k : ℕ} (q : (k ≡ length (ahead (each (row_at rows) e.rows_at e.rows))) × (k ≤ e.rows)) (h : e.relaxed ≡ true) where
+  module _ {k : ℕ} (q : (k ≡ length (ahead (each (row_at rows) e.rows_at e.rows))) × (k ≤ e.rows)) {l : Labels} (h : e.relaxed ≡ Some l) where
     relocs_relaxed : record_relocs debug m at cie table (meant e rows [] pairs) ≡ field_relocs debug m.word at cie table e
-        ++ steps_in m.word (at + 4 + length (fields_in debug m.word 0 e)) 0 rows (e.rows_at + k) (e.rows - k) e pairs
-    unfolding meant row_relocs steps_in pick
+        ++ steps_in m.word (at + 4 + length (fields_in debug m.word 0 e)) 0 rows (e.rows_at + k) (e.rows - k) (each (pair_at pairs) l.pairs_at l.pairs)
+    unfolding meant meant_labels row_relocs steps_in
     relocs_relaxed = relocs_are ∙ simp (h, others_are e rows q)
 
     pub relaxed_numbers : numbers_of (record_relocs debug m at cie table (meant e rows [] pairs)) ≡ numbers_of (field_relocs debug m.word at cie table e)
-        ++ numbers_of (steps_in m.word (at + 4 + length (fields_in debug m.word 0 e)) 0 rows (e.rows_at + k) (e.rows - k) e pairs)
+        ++ numbers_of (steps_in m.word (at + 4 + length (fields_in debug m.word 0 e)) 0 rows (e.rows_at + k) (e.rows - k) (each (pair_at pairs) l.pairs_at l.pairs))
     relaxed_numbers = rw (relocs_relaxed, numbers_append)
 
     pub relaxed_room : 5 * length (record_relocs debug m at cie table (meant e rows [] pairs)) ≡ length (numbers_of (field_relocs debug m.word at cie table e))
-        + length (numbers_of (steps_in m.word (at + 4 + length (fields_in debug m.word 0 e)) 0 rows (e.rows_at + k) (e.rows - k) e pairs))
+        + length (numbers_of (steps_in m.word (at + 4 + length (fields_in debug m.word 0 e)) 0 rows (e.rows_at + k) (e.rows - k) (each (pair_at pairs) l.pairs_at l.pairs)))
     relaxed_room = rw (← numbers_length, relaxed_numbers, length-append)
 
     pub relaxed_count : length (record_relocs debug m at cie table (meant e rows [] pairs))
-        ≡ length (field_relocs debug 0 0 0 0 e) + length (steps_in 0 0 0 rows (e.rows_at + k) (e.rows - k) e pairs)
+        ≡ length (field_relocs debug 0 0 0 0 e) + length (steps_in 0 0 0 rows (e.rows_at + k) (e.rows - k) (each (pair_at pairs) l.pairs_at l.pairs))
     relaxed_count =
         rw (relocs_relaxed, length-append)
         (omega (
           arith,
           field_count debug m.word at cie table e,
-          steps_counted m.word (at + 4 + length (fields_in debug m.word 0 e)) 0 rows (e.rows_at + k) (e.rows - k) e pairs,
+          steps_counted m.word (at + 4 + length (fields_in debug m.word 0 e)) 0 rows (e.rows_at + k) (e.rows - k) (each (pair_at pairs) l.pairs_at l.pairs),
         ))
 
-  pub plain_count : e.relaxed ≡ false → length (record_relocs debug m at cie table (meant e rows [] pairs)) ≡ length (field_relocs debug 0 0 0 0 e)
+  pub plain_count : e.relaxed ≡ None → length (record_relocs debug m at cie table (meant e rows [] pairs)) ≡ length (field_relocs debug 0 0 0 0 e)
   plain_count h = rw (relocs_plain h) (field_count debug m.word at cie table e)

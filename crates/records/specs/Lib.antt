@@ -3,3 +3,4 @@ pub mod Sites
 pub mod Stepped
 pub mod Fields
 pub mod Labels
+pub mod Written

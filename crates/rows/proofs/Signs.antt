@@ -29,7 +29,7 @@ module _ (z : ℤ) (f : SFits w64 z) where
 
 -- ---- equal bits are equal numbers
 
-eqb_both : (x y a b : ℕ) → (x ≡ y → a ≡ b) → (a ≡ b → x ≡ y) → eqb x y ≡ eqb a b
+pub eqb_both : (x y a b : ℕ) → (x ≡ y → a ≡ b) → (a ≡ b → x ≡ y) → eqb x y ≡ eqb a b
 eqb_both x y a b f g =
     tested (eqb a b) (λ t. let e = eqb→eq a b t in rw (eq-eqb a b e) (eq-eqb x y (g e)))
     (λ t. let n : a ≡ b → ⊥ = λ e. absurd (rw (eq-eqb a b e) at t) in rw (ne_eqb a b n) (ne_eqb x y (λ e. n (f e))))

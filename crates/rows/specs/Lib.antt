@@ -1,3 +1,4 @@
 -- What the helpers of rows and operations do.
 pub mod Operands
 pub mod Sizes
+pub mod Meanings

@@ -16,6 +16,9 @@ ghost use Rattle.rows.specs.Sizes.{short_size, scaled, second_byte, StepSurveyed
 
 use format::Row;
 use numbers::{kinds, opcodes};
+use row_numbers::RowNumbers;
+
+pub mod row_numbers;
 
 // A row in a list: how many numbers it has, and where its kind, register and second operand stand behind its offset.
 pub const ROW_STRIDE: usize = 4;
@@ -64,39 +67,12 @@ fn signed32(x: u64) -> i64
     i64::from((x as u32).cast_signed())
 }
 
-#[tactic(auto, unfolding(format::specs::Lists::row_of, format::specs::Prelude::pick))]
-fn row_of(kind: u64, reg: u64, off: u64) -> Row
-    requires { T (row_ok kind reg off) }
-    ensures { result ≡ row_of kind reg off }
-{
-    let g = reg as u16;
-    let z = signed32(off);
-    match kind {
-        kinds::DEF_CFA => Row::DefCfa(g, z),
-        kinds::DEF_CFA_OFFSET => Row::DefCfaOffset(z),
-        kinds::DEF_CFA_REGISTER => Row::DefCfaRegister(g),
-        kinds::OFFSET => Row::Offset(g, z),
-        kinds::RESTORE => Row::Restore(g),
-        kinds::UNDEFINED => Row::Undefined(g),
-        kinds::REMEMBER_STATE => Row::RememberState,
-        kinds::RESTORE_STATE => Row::RestoreState,
-        kinds::SAME_VALUE => Row::SameValue(g),
-        kinds::IN_REGISTER => Row::InRegister(g, off as u16),
-        _ => Row::NegateRaState,
-    }
-}
-
 // Row i.
-#[tactic(auto, unfolding(format::specs::Lists::row_at, format::specs::Lists::row_ok_at))]
 pub fn row_at(rows: &[u64], i: usize) -> Row
     requires { (4 * i + 4 ≤ length rows.now) × T (row_ok_at rows.now i) }
     ensures { result ≡ (row_at rows.now i).1 }
 {
-    row_of(
-        rows[ROW_STRIDE * i + ROW_KIND],
-        rows[ROW_STRIDE * i + ROW_REGISTER],
-        rows[ROW_STRIDE * i + ROW_OPERAND],
-    )
+    RowNumbers::at(rows, i).row()
 }
 
 // How many registers and how many second operands a kind may name.
@@ -138,31 +114,20 @@ fn second_operands(kind: u64) -> u64
     }
 }
 
-// Three numbers are a row.
-#[tactic(auto, unfolding(format::specs::Lists::row_ok))]
-fn row_shape(kind: u64, reg: u64, off: u64) -> bool
-    ensures { result ≡ row_ok kind reg off }
-{
-    if kinds::IN_REGISTER < kind {
-        return false;
-    }
-    if registers(kind) <= reg {
-        return false;
-    }
-    off < second_operands(kind)
-}
-
-// Row i is one.
-#[tactic(auto, unfolding(format::specs::Lists::row_ok_at))]
+// The three numbers behind the offset of row i are a row.
+#[tactic(auto, unfolding(format::specs::Lists::row_ok_at, format::specs::Lists::row_ok))]
 pub fn row_ok(rows: &[u64], i: usize) -> bool
     requires { 4 * i + 4 ≤ length rows.now }
     ensures { result ≡ row_ok_at rows.now i }
 {
-    row_shape(
-        rows[ROW_STRIDE * i + ROW_KIND],
-        rows[ROW_STRIDE * i + ROW_REGISTER],
-        rows[ROW_STRIDE * i + ROW_OPERAND],
-    )
+    let kind = rows[ROW_STRIDE * i + ROW_KIND];
+    if kinds::IN_REGISTER < kind {
+        return false;
+    }
+    if registers(kind) <= rows[ROW_STRIDE * i + ROW_REGISTER] {
+        return false;
+    }
+    rows[ROW_STRIDE * i + ROW_OPERAND] < second_operands(kind)
 }
 
 // ---- questions of one row
@@ -241,34 +206,6 @@ fn in_words(word: u64, off: u64) -> bool
     off % 2 == 0
 }
 
-// Question 24 of a row's numbers, asked for more: a multiple of the word, or a small offset that is not factored. A no says nothing.
-fn numbers_whole(word: u64, kind: u64, reg: u64, off: u64) -> bool
-    requires { T (is_word_size word) × T (row_ok kind reg off) }
-    ensures { result ≡ true → row_whole word (row_of kind reg off) ≡ true }
-{
-    if in_words(word, off) {
-        return true;
-    }
-    if kind == kinds::OFFSET {
-        return false;
-    }
-    off < NEGATIVE
-}
-
-// The same of row i.
-#[tactic(auto, unfolding(format::specs::Lists::row_at, format::specs::Lists::row_ok_at))]
-pub fn row_surely_whole(word: u64, rows: &[u64], i: usize) -> bool
-    requires { T (is_word_size word) × (4 * i + 4 ≤ length rows.now) × T (row_ok_at rows.now i) }
-    ensures { result ≡ true → row_whole word (row_at rows.now i).1 ≡ true }
-{
-    numbers_whole(
-        word,
-        rows[ROW_STRIDE * i + ROW_KIND],
-        rows[ROW_STRIDE * i + ROW_REGISTER],
-        rows[ROW_STRIDE * i + ROW_OPERAND],
-    )
-}
-
 // A row's kind, register (or 0) and second operand (or 0).
 #[tactic(auto, unfolding(format::specs::Rows::kind_of))]
 pub fn kind(r: Row) -> u64
@@ -328,6 +265,9 @@ pub fn offset(r: Row) -> i64
 }
 
 // ---- a row written, and its size
+
+// Kept: a writer's buffer and place stand as in leb, and the word beside them is one number of the machine. A struct of the three
+// would be made anew for each row.
 
 // An offset divided by minus the word.
 fn factored(word: u64, z: i64) -> i64
@@ -514,6 +454,7 @@ pub fn row_size(word: u64, r: Row) -> usize
 }
 
 // DW_CFA_def_cfa and DW_CFA_def_cfa_offset out of a row's numbers; an offset that is not negative is written as it stands.
+// Kept: both, beside `def_cfa` and `def_cfa_offset`; without them the writing takes 2.5 instructions a row more (tried).
 fn def_cfa_in(out: &mut [u8], at: usize, word: u64, reg: u16, off: u64) -> usize
     requires { (2 ≤ word) × (word ≤ 8) × (off < 2 ^ 32) × (at + length (cfa_bytes word 0x0c 0x12 (uleb reg) (to_z w32 off)) ≤ length out.old) }
     ensures { Wrote out.old out.new at result (cfa_bytes word 0x0c 0x12 (uleb reg) (to_z w32 off)) }
@@ -534,70 +475,6 @@ fn def_cfa_offset_in(out: &mut [u8], at: usize, word: u64, off: u64) -> usize
     }
     let a = leb::byte(out, at, opcodes::DW_CFA_DEF_CFA_OFFSET);
     leb::uleb(out, a, off)
-}
-
-// The operation of a row that its numbers say, without the row between.
-fn operation_of(out: &mut [u8], at: usize, word: u64, kind: u64, reg: u64, off: u64) -> usize
-    requires { (2 ≤ word) × (word ≤ 8) × T (row_ok kind reg off) × (at + length (row_bytes word (row_of kind reg off)) ≤ length out.old) }
-    ensures { Wrote out.old out.new at result (row_bytes word (row_of kind reg off)) }
-{
-    let g = reg as u16;
-    match kind {
-        kinds::DEF_CFA => def_cfa_in(out, at, word, g, off),
-        kinds::DEF_CFA_OFFSET => def_cfa_offset_in(out, at, word, off),
-        kinds::DEF_CFA_REGISTER => named(out, at, opcodes::DW_CFA_DEF_CFA_REGISTER, g),
-        kinds::OFFSET => saved(out, at, g, factored(word, signed32(off))),
-        kinds::RESTORE => opcode(
-            out,
-            at,
-            opcodes::DW_CFA_RESTORE,
-            opcodes::DW_CFA_RESTORE_EXTENDED,
-            g,
-        ),
-        kinds::UNDEFINED => named(out, at, opcodes::DW_CFA_UNDEFINED, g),
-        kinds::REMEMBER_STATE => leb::byte(out, at, opcodes::DW_CFA_REMEMBER_STATE),
-        kinds::RESTORE_STATE => leb::byte(out, at, opcodes::DW_CFA_RESTORE_STATE),
-        kinds::SAME_VALUE => named(out, at, opcodes::DW_CFA_SAME_VALUE, g),
-        kinds::IN_REGISTER => in_register(out, at, g, off as u16),
-        _ => leb::byte(out, at, opcodes::DW_CFA_AARCH64_NEGATE_RA_STATE),
-    }
-}
-
-// The operation of row i.
-#[tactic(auto, unfolding(format::specs::Lists::row_at, format::specs::Lists::row_ok_at))]
-pub fn row_in(out: &mut [u8], at: usize, word: u64, rows: &[u64], i: usize) -> usize
-    requires { (2 ≤ word) × (word ≤ 8) × (4 * i + 4 ≤ length rows.now) × T (row_ok_at rows.now i) × (at + length (row_bytes word (row_at rows.now i).1) ≤ length out.old) }
-    ensures { Wrote out.old out.new at result (row_bytes word (row_at rows.now i).1) }
-{
-    operation_of(
-        out,
-        at,
-        word,
-        rows[ROW_STRIDE * i + ROW_KIND],
-        rows[ROW_STRIDE * i + ROW_REGISTER],
-        rows[ROW_STRIDE * i + ROW_OPERAND],
-    )
-}
-
-// The size of the operation of a row that its numbers say, by kind.
-fn operation_size(word: u64, kind: u64, reg: u64, off: u64) -> usize
-    requires { (2 ≤ word) × (word ≤ 8) × T (row_ok kind reg off) }
-    ensures { result ≡ length (row_bytes word (row_of kind reg off)) }
-{
-    let z = signed32(off);
-    match kind {
-        kinds::DEF_CFA => 1 + leb::uleb_size(reg) + frame_offset_size(word, z),
-        kinds::DEF_CFA_OFFSET => 1 + frame_offset_size(word, z),
-        kinds::DEF_CFA_REGISTER => 1 + leb::uleb_size(reg),
-        kinds::OFFSET => saved_size(reg as u16, factored(word, z)),
-        kinds::RESTORE => opcode_size(reg as u16),
-        kinds::UNDEFINED => 1 + leb::uleb_size(reg),
-        kinds::REMEMBER_STATE => 1,
-        kinds::RESTORE_STATE => 1,
-        kinds::SAME_VALUE => 1 + leb::uleb_size(reg),
-        kinds::IN_REGISTER => 1 + leb::uleb_size(reg) + leb::uleb_size(off),
-        _ => 1,
-    }
 }
 
 // The size of an operation whose operands are a byte each, by kind. The arms are as those of `second_operands`.
@@ -646,36 +523,6 @@ fn second_byte(word: u64, y: u64) -> usize
     1
 }
 
-// The size of the operation of a row that its numbers say; without a jump by kind where the register has a byte at most and the
-// second operand two.
-fn numbers_size(word: u64, kind: u64, reg: u64, off: u64) -> usize
-    requires { (2 ≤ word) × (word ≤ 8) × T (row_ok kind reg off) }
-    ensures { result ≡ length (row_bytes word (row_of kind reg off)) }
-{
-    let y = scaled(word, kind, off);
-    if MOST_IN_OPCODE < reg {
-        return operation_size(word, kind, reg, off);
-    }
-    if TWO_BYTES * word <= y {
-        return operation_size(word, kind, reg, off);
-    }
-    short_size(kind) + second_byte(word, y)
-}
-
-// That of row i.
-#[tactic(auto, unfolding(format::specs::Lists::row_at, format::specs::Lists::row_ok_at))]
-pub fn row_in_size(word: u64, rows: &[u64], i: usize) -> usize
-    requires { (2 ≤ word) × (word ≤ 8) × (4 * i + 4 ≤ length rows.now) × T (row_ok_at rows.now i) }
-    ensures { result ≡ length (row_bytes word (row_at rows.now i).1) }
-{
-    numbers_size(
-        word,
-        rows[ROW_STRIDE * i + ROW_KIND],
-        rows[ROW_STRIDE * i + ROW_REGISTER],
-        rows[ROW_STRIDE * i + ROW_OPERAND],
-    )
-}
-
 // ---- a row asked and sized at once
 
 // The size of row i's operation, where the row passes questions 13 and 24. None says nothing.
@@ -686,10 +533,11 @@ pub fn surveyed(word: u64, rows: &[u64], i: usize) -> Option<usize>
     if !row_ok(rows, i) {
         return None;
     }
-    if !row_surely_whole(word, rows, i) {
+    let numbers = RowNumbers::at(rows, i);
+    if !numbers.surely_whole(word) {
         return None;
     }
-    Some(row_in_size(word, rows, i))
+    Some(numbers.size(word))
 }
 
 // ---- a step written, and its size

@@ -21,9 +21,10 @@ use Rattle.format.specs.Coded.{Reading}
 use Rattle.operations.specs.declared.fields.Position.{Position}
 use Rattle.format.proofs.Choice.{pick_yes, is_true}
 use Rattle.operations.specs.Positions.{little_at, read_from, from}
-use Rattle.reader.specs.Spans.{part, entry_in, listed, Stands, Spans}
+use Rattle.reader.specs.Spans.{part, entry_in, entry_of, listed, Stands, Spans}
 use Rattle.reader.specs.Finds.{found, Stated, Locates, in_section, rules_from}
 use Rattle.reader.specs.declared.location.Located.{Located}
+use Rattle.reader.specs.declared.section.Span.{Span}
 use Rattle.reader.proofs.Seeking.{number_is, number_none}
 use Rattle.operations.proofs.PositionLaws.{both_are}
 use Rattle.reader.proofs.Asked.{place_found, place_refused, all_inside}
@@ -90,20 +91,20 @@ module _ (s : List ℕ) (word at end p : ℕ) where
   abbrev entry : Entry
   entry = entry_in s at end
 
-  module _ {r : code.Option (ℕ × ℕ)} (m : Spans s r (header_of s at end)) where
+  module _ {r : code.Option Span} (m : Spans s r (header_of s at end)) where
     pub headless : r ≡ None → false ≡ answers_in s word entry p
     unfolding answers_in read_in onward or_else answer answers
-    headless e = let n : header_of s at end ≡ none = subst (λ (r : code.Option (ℕ × ℕ)). Spans s r (header_of s at end)) e m in rw n
+    headless e = let n : header_of s at end ≡ none = subst (λ (r : code.Option Span). Spans s r (header_of s at end)) e m in rw n
 
-    module _ {c z : ℕ} (e : r ≡ Some (c, z)) where
-      pub header_stands : Stands s c z (header_of s at end)
-      header_stands = subst (λ (r : code.Option (ℕ × ℕ)). Spans s r (header_of s at end)) e m
+    module _ {h : Span} (e : r ≡ Some h) where
+      pub header_stands : Stands s h.at h.end (header_of s at end)
+      header_stands = subst (λ (r : code.Option Span). Spans s r (header_of s at end)) e m
 
-      behind_header : read_in s word entry p ≡ onward (parsed false word (entry_in s c z) entry) (run_to word p)
+      behind_header : read_in s word entry p ≡ onward (parsed false word (entry_of s h) entry) (run_to word p)
       unfolding read_in onward or_else
       behind_header = rw header_stands.found
 
-      module _ {l : code.Result Located ℕ} (k : Locates s word l (parsed false word (entry_in s c z) entry)) where
+      module _ {l : code.Result Located ℕ} (k : Locates s word l (parsed false word (entry_of s h) entry)) where
         pub unparsed : {n : ℕ} → l ≡ Err n → false ≡ answers_in s word entry p
         unfolding answers_in onward answer answers
         unparsed f = rw (behind_header, place_refused s word f k)

@@ -22,11 +22,12 @@ use Rattle.format.specs.RowCheck.{row_check_at}
 use Rattle.format.specs.Reader.{Entry, is_header, records, entries, header_place, locate, read_section, read}
 use Rattle.format.proofs.Choice.{pick_yes}
 use Rattle.format.proofs.LebBack.{little_back}
-use Rattle.format.proofs.ListLaws.{each-length}
+use Rattle.format.proofs.ListLaws.{each-length, found_inside}
 use Rattle.format.proofs.EntryBack.{padded_behind}
 use Rattle.format.proofs.HeaderBack.{header_is}
 use Rattle.format.proofs.Parts.{header_body, record_body, Spot, spot_of, next_at, next_seen, place_of, cie_of}
 use Rattle.format.proofs.SectionTiles.{header_entry, front_entries, record_entry, entries_of, Holds, section_tiles}
+use Rattle.format.proofs.SectionBack.{size_said}
 use Rattle.format.proofs.SectionFinds.{spot_at, record_holds, record_found}
 use Rattle.format.proofs.Accepted.{dwarf_written, Accepted, accepted_is, taken_at, taken_size, taken_plain}
 use Rattle.format.proofs.ReadBack.{read_written, rules_given}
@@ -54,11 +55,6 @@ few_records m at seen (f ∷ fs) =
     rw (front_none m x.earlier x.align x.start (key_of m f))
     (omega (arith, one_at_most (is_header false (record_entry Elf m x f)) (record_entry Elf m x f) (records false more), few_records m (next_at Elf m at seen f fs) (next_seen Elf m at seen f fs) fs))
 
-found_inside : {A : Type 0} (xs : List A) (k : ℕ) {a : A} → get_elem? xs k ≡ some a → k < length xs
-found_inside [] k e = let z : ◌≡◌ {A = ℕ} 0 1 = cc in absurd (omega arith)
-found_inside (x ∷ xs) zero e = omega arith
-found_inside (x ∷ xs) (suc k) e = omega (arith, found_inside xs k e)
-
 -- ---- a record's length
 
 eight_on : (d : ℕ) (xs : List ℕ) → drop 8 (little 4 d ++ (replicate 4 0 ++ xs)) ≡ xs
@@ -70,15 +66,10 @@ length_back : (word d : ℕ) (f : Function) (bs : List ℕ) → size_field f.siz
 unfolding record_fields next
 length_back word d f bs h = simp append_assoc (rw (eight_on d, little_back 4 (size_field f.size f.relaxed) _ h))
 
-plain_size : (n : ℕ) (r : Option Relaxed) → r ≡ none → size_field n r ≡ n
-unfolding size_field
-plain_size n none e = refl
-plain_size n (some r) e = cc
-
 record_length : (m : Machine) (x : Spot) (f : Function) → Holds Elf m x f → f.relaxed ≡ none → length_of (record_entry Elf m x f) ≡ some f.size
 unfolding length_of record_entry record_body is_debug size_bytes
 record_length m x f h plain =
-    rw padded_behind (length_back m.word (place_of Elf m x f + 4 - cie_of x) f _ h.size ∙ ap (λ (n : ℕ). some n) (plain_size f.size f.relaxed plain))
+    rw padded_behind (length_back m.word (place_of Elf m x f + 4 - cie_of x) f _ h.size ∙ ap (λ (n : ℕ). some n) (size_said f.size f.relaxed plain))
 
 -- ---- the section
 

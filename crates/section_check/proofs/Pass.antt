@@ -17,11 +17,11 @@ use Rattle.format.proofs.Choice.{if-le, if-gt, either}
 use Rattle.format.specs.Machine.{is_word_size}
 use Rattle.format.specs.Questions.{is_some}
 use Rattle.format.specs.Reader.{Entry, entries, is_header, records, header_at}
-use Rattle.reader.specs.Spans.{entry_in, entries_from, listed, Ends}
+use Rattle.reader.specs.Spans.{entry_in, entries_from, listed, Ends, Ahead}
 use Rattle.reader.proofs.Tiling.{tiled_end}
-use Rattle.reader.proofs.Seeking.{Seeking, header_later, kth_header}
+use Rattle.reader.proofs.Seeking.{first_ahead, header_later, kth_header}
 use Rattle.section_check.specs.Check.{passes, saying, check_from}
-use Rattle.section_check.specs.Places.{Ahead, Marks, marked, mark_before, passes_in}
+use Rattle.section_check.specs.Places.{Marks, marked, mark_before, passes_in}
 use Rattle.section_check.proofs.Entries.{passes_same}
 
 -- the records of a section, and of what stands from a position on
@@ -42,10 +42,6 @@ pub record Passing (s : List ℕ) (word : ℕ) (marks : List ℕ) (k at : ℕ) :
   pub long : length marks ≡ 2048
 
 -- ---- the marks
-
-pub first_ahead : (s : List ℕ) → T (is_some (entries s)) → Ahead s 0
-unfolding entries entries_from
-first_ahead s t = record { inside = omega arith; tiled = t; found = λ debug place before h. refl }
 
 zeros : (n i : ℕ) → ◌≡◌ {A = ℕ} (get_or (replicate n 0) i 0) 0
 zeros n i = either (suc i) n (λ h. get_or-replicate {A = ℕ} n i 0 0 h) (λ h. get_or-eq_default (replicate n 0) 0 {n = i} (omega (arith, length-replicate {A = ℕ} n 0)))
@@ -129,10 +125,6 @@ module _ (marks : List ℕ) (step at : ℕ) where
     mark_set z = rw (lt-ltb (at / step) (length marks) h, eq-eqb (get_or marks (at / step) 0) 0 z)
 
 -- a search from such a position
-pub seeking : {s : List ℕ} {from place : ℕ} (debug : Bool) (before : ℕ) → Ahead s from → from ≤ place
-    → Seeking s (header_at debug place before) (header_at debug place before) from
-seeking {s} {from} {place} debug before a h = record { inside = a.inside; tiled = a.tiled; rest = a.found debug place before h }
-
 -- a header further on is not the entry at `at`
 pub ahead_on : {s : List ℕ} {at end : ℕ} → Ahead s at → Ends s at end → Ahead s end
 ahead_on {s} {at} {end} a e =

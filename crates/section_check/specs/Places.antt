@@ -5,19 +5,12 @@ use Rattle.format.specs.Prelude.{pick, after, Result, onward, or_else}
 use Rattle.format.specs.Questions.{is_some}
 use Rattle.format.specs.Rules.{State, answer}
 use Rattle.format.specs.Reader.{Entry, entries, distance_back, header_at, parsed, run_to}
-use Rattle.reader.specs.Spans.{entries_from, listed}
+use Rattle.reader.specs.Spans.{listed, Ahead}
 use Rattle.section_check.specs.Check.{length_of, answers}
 
 -- ---- marks: where entries of the section start, one for each stretch of `step` bytes
 
--- entries tile the section from a position on, and a header there or further on is found by a search from there
-pub record Ahead (s : List ℕ) (from : ℕ) : Type 0 where
-  pub inside : from ≤ length s
-  pub tiled : T (is_some (entries_from s from))
-  pub found : (debug : Bool) (place before : ℕ) → from ≤ place
-      → header_at debug place before (listed (entries s)) ≡ header_at debug place before (listed (entries_from s from))
-
--- each mark is such a position
+-- from each mark on a header is found that stands there or further on
 abbrev pub Marks : List ℕ → List ℕ → Type 0
 Marks s marks = (i : ℕ) → Ahead s (get_or marks i 0)
 

@@ -4,14 +4,17 @@
 ghost use Rattle.std.specs.Prelude.{◌≡◌, false, ◌+◌, ◌≤◌, ◌<◌, length, T};
 ghost use Rattle.format.proofs.Asked.{option_of};
 ghost use Rattle.format.specs.Prelude.{after};
-ghost use Rattle.format.specs.Machine.{is_word_size};
 ghost use Rattle.format.specs.Questions.{is_some};
 ghost use Rattle.format.specs.Reader.{distance_back, header_at, records, entries};
-ghost use Rattle.reader.specs.Spans.{entry_in, listed, Spans};
+ghost use Rattle.reader.specs.Spans.{entry_of, listed, Holds, Spans};
 ghost use Rattle.section_check.specs.Check.{length_of, check_from, check_section, Means};
-ghost use Rattle.section_check.specs.Places.{Ahead, Marks, marked, mark_before, answers_in, passes_in};
+ghost use Rattle.section_check.specs.Places.{Marks, marked, mark_before, answers_in, passes_in};
 
+use crate::marks::Passed;
 use operations::fields::{Position, read_le};
+use reader::section::{Layout, Section, Span};
+
+pub mod marks;
 
 // What is answered: 0, or 11, 61 or 84; with 84 the first record that does not pass, counted from 0.
 #[repr(C)]
@@ -45,52 +48,15 @@ pub fn mark_before(marks: &[usize], step: usize, place: usize) -> usize
     }
 }
 
-// The header that starts at a place earlier than `before`, searched for from an entry in front of it.
-pub fn header_from(
-    s: &[u8],
-    debug: bool,
-    from: usize,
-    place: usize,
-    before: usize,
-) -> Option<(usize, usize)>
-    requires { Ahead s.now from × (from ≤ place) }
-    ensures { Spans s.now result (header_at debug place before (listed (entries s.now))) }
-{
-    let mut next = from;
-    // Kept: a `while`, which moves by each entry's length.
-    while next < s.len() {
-        let at = next;
-        next = reader::entries::past(s, at);
-        if reader::location::starts(s, at, next, debug, place, before) {
-            return Some((at, next));
-        }
-    }
-    None
-}
-
-// The header of the record from `at` to `end`.
-fn header_of(
-    s: &[u8],
-    marks: &[usize],
-    step: usize,
-    at: usize,
-    end: usize,
-) -> Option<(usize, usize)>
-    requires { (at + 8 ≤ end) × (end ≤ length s.now) × (0 < step) × Marks s.now marks.now }
-    ensures { Spans s.now result (after (distance_back (entry_in s.now at end)) λ place. header_at false place at (listed (entries s.now))) }
-{
-    let place = reader::location::distance_back(s, at, end)?;
-    header_from(s, false, mark_before(marks, step, place), place, at)
-}
-
 // ---- a record
 
-// The length of the record from `at` to `end`.
-fn size_of(s: &[u8], at: usize, end: usize) -> Option<u64>
-    requires { (at + 8 ≤ end) × (end ≤ length s.now) }
-    ensures { result ≡ option_of (length_of (entry_in s.now at end)) }
+// The length of a record.
+fn size_of(s: &[u8], fde: Span) -> Option<u64>
+    requires { Holds s.now fde }
+    ensures { result ≡ option_of (length_of (entry_of s.now fde)) }
 {
-    let body = at + 4;
+    let body = fde.at + 4;
+    let end = fde.end;
     let length = Position {
         at: 8,
         shortest: true,
@@ -99,49 +65,54 @@ fn size_of(s: &[u8], at: usize, end: usize) -> Option<u64>
     Some(n)
 }
 
-// Whether the reader answers for register 0 at offset p of the record from `at` to `end`.
-fn answers_at(
-    s: &[u8],
-    word: u64,
-    marks: &[usize],
-    step: usize,
-    at: usize,
-    end: usize,
-    p: u64,
-) -> bool
-    requires { T (is_word_size word) × (at + 8 ≤ end) × (end ≤ length s.now) × (0 < step) × Marks s.now marks.now }
-    ensures { result ≡ answers_in s.now word (entry_in s.now at end) p }
-{
-    let Some((cie, past)) = header_of(s, marks, step, at, end) else {
-        return false;
-    };
-    let Ok(l) = reader::location::parse(s, false, word, cie, past, at, end) else {
-        return false;
-    };
-    reader::rules_at(s, l, 0, p).is_ok()
-}
-
-// Whether the record from `at` to `end` passes: one read, at the last offset.
-fn passes(s: &[u8], word: u64, marks: &[usize], step: usize, at: usize, end: usize) -> bool
-    requires { T (is_word_size word) × (at + 8 ≤ end) × (end ≤ length s.now) × (0 < step) × Marks s.now marks.now }
-    ensures { result ≡ passes_in s.now word (entry_in s.now at end) }
-{
-    let Some(n) = size_of(s, at, end) else {
-        return false;
-    };
-    if n == 0 {
-        return true;
+impl<'a> Passed<'a> {
+    // The header of a record.
+    fn header_of(&self, fde: Span) -> Option<Span>
+        requires { Holds self.now.section.now.bytes.now fde × Marks self.now.section.now.bytes.now self.now.marks.now }
+        ensures { Spans self.now.section.now.bytes.now result (after (distance_back (entry_of self.now.section.now.bytes.now fde)) λ place. header_at false place fde.at (listed (entries self.now.section.now.bytes.now))) }
+    {
+        let place = fde.distance_back(self.section.bytes)?;
+        let from = mark_before(self.marks, self.step, place);
+        self.section.header_from(from, place, fde.at)
     }
-    answers_at(s, word, marks, step, at, end, n - 1)
+
+    // Whether the reader answers for register 0 at offset p of a record.
+    fn answers_at(&self, fde: Span, p: u64) -> bool
+        requires { Holds self.now.section.now.bytes.now fde × Marks self.now.section.now.bytes.now self.now.marks.now }
+        ensures { result ≡ answers_in self.now.section.now.bytes.now self.now.section.now.layout.word (entry_of self.now.section.now.bytes.now fde) p }
+    {
+        let Some(cie) = self.header_of(fde) else {
+            return false;
+        };
+        let Ok(l) = self.section.parse(cie, fde) else {
+            return false;
+        };
+        reader::rules_at(self.section.bytes, l, 0, p).is_ok()
+    }
+
+    // Whether a record passes: one read, at the last offset.
+    fn passes(&self, fde: Span) -> bool
+        requires { Holds self.now.section.now.bytes.now fde × Marks self.now.section.now.bytes.now self.now.marks.now }
+        ensures { result ≡ passes_in self.now.section.now.bytes.now self.now.section.now.layout.word (entry_of self.now.section.now.bytes.now fde) }
+    {
+        let Some(n) = size_of(self.section.bytes, fde) else {
+            return false;
+        };
+        if n == 0 {
+            return true;
+        }
+        self.answers_at(fde, n - 1)
+    }
 }
 
 // ---- the section
 
 // The records, one after the other: 84 with the first that does not pass.
-fn check_records(s: &[u8], word: u64) -> Checked
-    requires { T (is_word_size word) × T (is_some (entries s.now)) }
-    ensures { result ≡ check_from s.now word 0 (records false (listed (entries s.now))) }
+fn check_records(section: &Section) -> Checked
+    requires { (section.now.layout.debug ≡ false) × T (is_some (entries section.now.bytes.now)) }
+    ensures { result ≡ check_from section.now.bytes.now section.now.layout.word 0 (records false (listed (entries section.now.bytes.now))) }
 {
+    let s = section.bytes;
     // A frame above 32 KiB is probed in a loop, for which the compiler takes a register that may be in use; with 2,048 marks it stays below.
     let step = s.len() / 2048 + 1;
     let mut marks = [0usize; 2048];
@@ -149,13 +120,21 @@ fn check_records(s: &[u8], word: u64) -> Checked
     let mut next = 0;
     // Kept: a `while`, which moves by each entry's length.
     'entries: while next < s.len() {
-        let at = next;
-        next = reader::entries::past(s, at);
-        mark(&mut marks, step, at);
-        if reader::entries::is_header(s, at, next, false) {
+        let entry = Span {
+            at: next,
+            end: reader::entries::past(s, next),
+        };
+        next = entry.end;
+        mark(&mut marks, step, entry.at);
+        if entry.is_header(s, false) {
             continue 'entries;
         }
-        if !passes(s, word, &marks, step, at, next) {
+        let passed = Passed {
+            section: &*section,
+            marks: &marks,
+            step,
+        };
+        if !passed.passes(entry) {
             return Checked {
                 number: 84,
                 record: k,
@@ -187,5 +166,11 @@ pub extern "C" fn unwind_check_section(section: &[u8], word: u64) -> Checked
             record: 0,
         };
     }
-    check_records(section, word)
+    let none = [];
+    let section = Section {
+        bytes: section,
+        relocations: &none,
+        layout: Layout { debug: false, word },
+    };
+    check_records(&section)
 }

@@ -25,8 +25,8 @@ fn table_place(section: &[u8], relocations: &[u64], k: u64) -> Option<u64>
     if !entries::tiles(section) {
         return None;
     }
-    let (at, _) = entries::record_span(section, false, k)?;
-    let place = location::first_addend(relocations, (at + POINTER_FIELD) as u64)?;
+    let record = entries::record_span(section, false, k)?;
+    let place = location::first_addend(relocations, (record.at + POINTER_FIELD) as u64)?;
     Some(place as u64)
 }
 
@@ -40,6 +40,7 @@ pub struct WrittenAndRead {
 // eh_frame's writer, and then the reader of call sites on what it wrote, at the place that the relocation of function k's record names. Where
 // the list was accepted and function k has landings whose ends fit 64 bits, the site is the first of them that covers the offset, or
 // none where none does, and the table's numbers are spelled shortest.
+// Kept: the lists one by one, as the entries that it calls take them.
 pub fn write_and_read_site(
     machine: &[u64],
     functions: &[u64],

@@ -1,18 +1,18 @@
 -- Laws of what is stored where it fits, for one struct and for a list of them.
 use mathlib.Core.Path.{◌≡◌, refl, sym, ap, ◌∙◌}
 use mathlib.Core.Bool.{Bool, true, false, not}
-use mathlib.Core.List.{List, [], ◌∷◌, ◌++◌, append_assoc}
+use mathlib.Core.List.{List, [], ◌∷◌}
 use borrow.Rule.Slice.PartMut.{put_mid}
-use lib.Seq.{take-suc-set, drop-set-lt, drop-drop}
 use Prim.Native.Nat.{ℕ, zero, suc, ◌+◌, ◌*◌, ◌≤◌, ◌<◌}
 use native.Mathlib.Nat.{mul-suc, mul-zero}
 use native.Mathlib.Omega.{arith}
 use borrow.Author.Tests.{leb-true, leb-false}
 use lib.Dec.{T, leb}
-use lib.ListN.{length, get_or, take, drop, set, length-set, length-append, take-append-drop}
+use lib.ListN.{length, get_or, take, length-append}
 use Rattle.format.specs.Put.{put}
 use Rattle.format.proofs.Wrote.{Wrote}
 use Rattle.format.proofs.Choice.{if-le, if-gt, either}
+use Rattle.format.proofs.Copied as part
 use Rattle.format.proofs.PutLaws.{put_none, put-append, length-put}
 use Rattle.struct_entries.specs.Structs.{numbers_of}
 use Rattle.struct_entries.specs.Packed.{stored, stored_all, Packs}
@@ -37,20 +37,9 @@ module _ (xs : List ℕ) (p : ℕ) (ns : List ℕ) where
 pub room : {xs ys : List ℕ} {p q : ℕ} {ns : List ℕ} → leb (p + length ns) (length xs) ≡ true → Wrote xs ys p q ns → ys ≡ stored xs p ns
 room {xs} {ys} {p} {q} {ns} e w = w.stored ∙ sym (fitting xs p ns (leb-true _ _ e))
 
--- a list stored, by the parts of the buffer
-put_from : (xs : List ℕ) (p : ℕ) (bs : List ℕ) → p + length bs ≤ length xs → put xs p bs ≡ take p xs ++ (bs ++ drop (p + length bs) xs)
-unfolding put
-put_from xs p [] h = let e : p + 0 ≡ p = omega arith in rw e (sym (take-append-drop p xs))
-put_from xs p (b ∷ bs) h =
-    let e : p + 1 + length bs ≡ p + length (b ∷ bs) = omega arith in
-    let a : p + 1 ≡ suc p = omega arith in
-    put_from (set xs p b) (p + 1) bs (omega (arith, length-set xs p b))
-    ∙ rw (e, a, take-suc-set xs p b (omega arith), drop-set-lt (p + length (b ∷ bs)) xs p b (omega arith)) (append_assoc (take p xs) (b ∷ []) (bs ++ drop (p + length (b ∷ bs)) xs))
-
 -- ns copied over the k numbers from p on
 pub copied : (xs : List ℕ) (p : ℕ) {ns ys : List ℕ} {k : ℕ} → p + length ns ≤ length xs → k ≡ length ns → ys ≡ ns → put_mid p k xs ys ≡ stored xs p ns
-copied xs p {ns} {ys} {k} h e g =
-    rw (fitting xs p ns h, put_from xs p ns h, e, g, drop-drop (length ns) p xs)
+copied xs p {ns} h e g = (part.copied g refl e h).stored ∙ sym (fitting xs p ns h)
 
 -- ---- a list of structs
 

@@ -14,6 +14,8 @@ ghost use Rattle.struct_entries.specs.Checks.{check_of, CheckedRow};
 ghost use Rattle.struct_entries.specs.Entries.{needed, is_zero, ready_for, cleared, packed, once_ready, table_is_empty, table_asks, debug_frame_is_empty, debug_frame_asks, numbers_in, relaxed_table_of, relaxed_debug_frame_of};
 
 use format::{Counts, Refusal};
+use lists::FUNCTION_STRIDE;
+use rows::ROW_STRIDE;
 use rules::Order;
 use unwind::Written;
 
@@ -185,10 +187,10 @@ fn rows_checked(simple: u64, rows: &[RowAt]) -> bool
 fn long_enough(n: usize, functions: usize, rows: usize) -> bool
     ensures { result ≡ leb (needed functions rows) n }
 {
-    if n / 18 < functions {
+    if n / FUNCTION_STRIDE < functions {
         return false;
     }
-    rows <= (n - 18 * functions) / 4
+    rows <= (n - FUNCTION_STRIDE * functions) / ROW_STRIDE
 }
 
 fn all_zero(numbers: &[u64]) -> bool
@@ -204,7 +206,7 @@ fn ready(numbers: &[u64], functions: usize, rows: usize) -> bool
     if !long_enough(numbers.len(), functions, rows) {
         return false;
     }
-    all_zero(&numbers[..18 * functions + 4 * rows])
+    all_zero(&numbers[..FUNCTION_STRIDE * functions + ROW_STRIDE * rows])
 }
 
 // The first n numbers are 0 again.
@@ -217,33 +219,40 @@ fn clear(numbers: &mut [u64], n: usize)
 
 // ---- the writers, on the two lists that stand in the lent one
 
-fn packed_table(
-    numbers: &mut [u64],
+// What the entries are given beside the structs, and how many functions and rows those are.
+#[derive(Clone, Copy)]
+struct Given<'a> {
+    machine: &'a [u64],
+    format: u64,
+    landings: &'a [u64],
+    pairs: &'a [u64],
     functions: usize,
     rows: usize,
-    machine: &[u64],
-    format: u64,
-    landings: &[u64],
-    pairs: &[u64],
+}
+
+// Kept: the lent lists one by one in what follows, as C lends them and as unwind's entries take them.
+fn packed_table(
+    x: &Given,
+    numbers: &mut [u64],
     places: &mut [u64],
     bytes: &mut [u8],
     relocations: &mut [u64],
     sites: &mut [u8],
 ) -> Written
-    requires { needed functions rows ≤ length numbers.old }
-    ensures exports { Exports (relaxed_table format (packed machine.now numbers.old functions rows landings.now pairs.now) (room_in places.old bytes.old relocations.old sites.old)) result places.old places.new bytes.old bytes.new relocations.old relocations.new sites.old sites.new }
-    ensures numbers_after { numbers.new ≡ cleared numbers.old (needed functions rows) }
+    requires { needed x.now.functions x.now.rows ≤ length numbers.old }
+    ensures exports { Exports (relaxed_table x.now.format (packed x.now.machine.now numbers.old x.now.functions x.now.rows x.now.landings.now x.now.pairs.now) (room_in places.old bytes.old relocations.old sites.old)) result places.old places.new bytes.old bytes.new relocations.old relocations.new sites.old sites.new }
+    ensures numbers_after { numbers.new ≡ cleared numbers.old (needed x.now.functions x.now.rows) }
 {
-    let a = 18 * functions;
-    let b = a + 4 * rows;
+    let a = FUNCTION_STRIDE * x.functions;
+    let b = a + ROW_STRIDE * x.rows;
     let t = &numbers[..];
     let outcome = unwind::relaxed_table(
-        machine,
-        format,
+        x.machine,
+        x.format,
         &t[..a],
         &t[a..b],
-        landings,
-        pairs,
+        x.landings,
+        x.pairs,
         places,
         bytes,
         relocations,
@@ -254,31 +263,26 @@ fn packed_table(
 }
 
 fn packed_debug_frame(
+    x: &Given,
     numbers: &mut [u64],
-    functions: usize,
-    rows: usize,
-    machine: &[u64],
-    format: u64,
-    landings: &[u64],
-    pairs: &[u64],
     places: &mut [u64],
     bytes: &mut [u8],
     relocations: &mut [u64],
 ) -> Written
-    requires { needed functions rows ≤ length numbers.old }
-    ensures exports { Exports (relaxed_debug_frame format (packed machine.now numbers.old functions rows landings.now pairs.now) (room_in places.old bytes.old relocations.old [])) result places.old places.new bytes.old bytes.new relocations.old relocations.new [] [] }
-    ensures numbers_after { numbers.new ≡ cleared numbers.old (needed functions rows) }
+    requires { needed x.now.functions x.now.rows ≤ length numbers.old }
+    ensures exports { Exports (relaxed_debug_frame x.now.format (packed x.now.machine.now numbers.old x.now.functions x.now.rows x.now.landings.now x.now.pairs.now) (room_in places.old bytes.old relocations.old [])) result places.old places.new bytes.old bytes.new relocations.old relocations.new [] [] }
+    ensures numbers_after { numbers.new ≡ cleared numbers.old (needed x.now.functions x.now.rows) }
 {
-    let a = 18 * functions;
-    let b = a + 4 * rows;
+    let a = FUNCTION_STRIDE * x.functions;
+    let b = a + ROW_STRIDE * x.rows;
     let t = &numbers[..];
     let outcome = unwind::relaxed_debug_frame(
-        machine,
-        format,
+        x.machine,
+        x.format,
         &t[..a],
         &t[a..b],
-        landings,
-        pairs,
+        x.landings,
+        x.pairs,
         places,
         bytes,
         relocations,
@@ -288,39 +292,35 @@ fn packed_debug_frame(
 }
 
 // What a writer answers where the list is not ready: an empty result, 78, 11 or 12, else 54.
-fn table_without_numbers(
-    functions: usize,
-    machine: &[u64],
-    format: u64,
-) -> Result<Option<Counts>, Refusal>
-    ensures { result ≡ outcome_of (once_ready (table_is_empty format functions) (table_asks format machine.now) false empty) }
+fn table_without_numbers(x: &Given) -> Result<Option<Counts>, Refusal>
+    ensures { result ≡ outcome_of (once_ready (table_is_empty x.now.format x.now.functions) (table_asks x.now.format x.now.machine.now) false empty) }
 {
-    if functions == 0 {
+    if x.functions == 0 {
         return Ok(None);
     }
-    if 4 < format {
+    if 4 < x.format {
         return Err(Refusal {
             number: 11,
             position: 0,
         });
     }
-    if 3 <= format {
+    if 3 <= x.format {
         return Ok(None);
     }
-    if format == 2 {
+    if x.format == 2 {
         return Err(Refusal {
             number: 78,
             position: 0,
         });
     }
-    if !lists::machine_ok(machine) {
+    if !lists::machine_ok(x.machine) {
         return Err(Refusal {
             number: 11,
             position: 0,
         });
     }
-    if format == 1 {
-        if !lists::word_ok(lists::machine_of(machine)) {
+    if x.format == 1 {
+        if !lists::word_ok(lists::machine_of(x.machine)) {
             return Err(Refusal {
                 number: 12,
                 position: 0,
@@ -333,20 +333,16 @@ fn table_without_numbers(
     })
 }
 
-fn debug_frame_without_numbers(
-    functions: usize,
-    machine: &[u64],
-    format: u64,
-) -> Result<Option<Counts>, Refusal>
-    ensures { result ≡ outcome_of (once_ready (debug_frame_is_empty format functions) (debug_frame_asks machine.now) false empty) }
+fn debug_frame_without_numbers(x: &Given) -> Result<Option<Counts>, Refusal>
+    ensures { result ≡ outcome_of (once_ready (debug_frame_is_empty x.now.format x.now.functions) (debug_frame_asks x.now.machine.now) false empty) }
 {
-    if functions == 0 {
+    if x.functions == 0 {
         return Ok(None);
     }
-    if format != 0 {
+    if x.format != 0 {
         return Ok(None);
     }
-    if !lists::machine_ok(machine) {
+    if !lists::machine_ok(x.machine) {
         return Err(Refusal {
             number: 11,
             position: 0,
@@ -361,70 +357,37 @@ fn debug_frame_without_numbers(
 // A writer on the list, which was ready or not; where it was not nothing is changed.
 fn table_in(
     ok: bool,
+    x: &Given,
     numbers: &mut [u64],
-    functions: usize,
-    rows: usize,
-    machine: &[u64],
-    format: u64,
-    landings: &[u64],
-    pairs: &[u64],
     places: &mut [u64],
     bytes: &mut [u8],
     relocations: &mut [u64],
     sites: &mut [u8],
 ) -> Written
-    requires { ok ≡ true → needed functions rows ≤ length numbers.old }
-    ensures { Exports (once_ready (table_is_empty format functions) (table_asks format machine.now) ok (relaxed_table format (packed machine.now numbers.old functions rows landings.now pairs.now) (room_in places.old bytes.old relocations.old sites.old))) result places.old places.new bytes.old bytes.new relocations.old relocations.new sites.old sites.new × (numbers.new ≡ pick ok (cleared numbers.old (needed functions rows)) numbers.old) }
+    requires { ok ≡ true → needed x.now.functions x.now.rows ≤ length numbers.old }
+    ensures { Exports (once_ready (table_is_empty x.now.format x.now.functions) (table_asks x.now.format x.now.machine.now) ok (relaxed_table x.now.format (packed x.now.machine.now numbers.old x.now.functions x.now.rows x.now.landings.now x.now.pairs.now) (room_in places.old bytes.old relocations.old sites.old))) result places.old places.new bytes.old bytes.new relocations.old relocations.new sites.old sites.new × (numbers.new ≡ pick ok (cleared numbers.old (needed x.now.functions x.now.rows)) numbers.old) }
 {
     if !ok {
-        return unwind::written_of(table_without_numbers(functions, machine, format));
+        return unwind::written_of(table_without_numbers(x));
     }
-    packed_table(
-        numbers,
-        functions,
-        rows,
-        machine,
-        format,
-        landings,
-        pairs,
-        places,
-        bytes,
-        relocations,
-        sites,
-    )
+    packed_table(x, numbers, places, bytes, relocations, sites)
 }
 
 fn debug_frame_in(
     ok: bool,
+    x: &Given,
     numbers: &mut [u64],
-    functions: usize,
-    rows: usize,
-    machine: &[u64],
-    format: u64,
-    landings: &[u64],
-    pairs: &[u64],
     places: &mut [u64],
     bytes: &mut [u8],
     relocations: &mut [u64],
 ) -> Written
-    requires { ok ≡ true → needed functions rows ≤ length numbers.old }
-    ensures { Exports (once_ready (debug_frame_is_empty format functions) (debug_frame_asks machine.now) ok (relaxed_debug_frame format (packed machine.now numbers.old functions rows landings.now pairs.now) (room_in places.old bytes.old relocations.old []))) result places.old places.new bytes.old bytes.new relocations.old relocations.new [] [] × (numbers.new ≡ pick ok (cleared numbers.old (needed functions rows)) numbers.old) }
+    requires { ok ≡ true → needed x.now.functions x.now.rows ≤ length numbers.old }
+    ensures { Exports (once_ready (debug_frame_is_empty x.now.format x.now.functions) (debug_frame_asks x.now.machine.now) ok (relaxed_debug_frame x.now.format (packed x.now.machine.now numbers.old x.now.functions x.now.rows x.now.landings.now x.now.pairs.now) (room_in places.old bytes.old relocations.old []))) result places.old places.new bytes.old bytes.new relocations.old relocations.new [] [] × (numbers.new ≡ pick ok (cleared numbers.old (needed x.now.functions x.now.rows)) numbers.old) }
 {
     if !ok {
-        return unwind::written_of(debug_frame_without_numbers(functions, machine, format));
+        return unwind::written_of(debug_frame_without_numbers(x));
     }
-    packed_debug_frame(
-        numbers,
-        functions,
-        rows,
-        machine,
-        format,
-        landings,
-        pairs,
-        places,
-        bytes,
-        relocations,
-    )
+    packed_debug_frame(x, numbers, places, bytes, relocations)
 }
 
 // ---- lists of structs
@@ -437,7 +400,7 @@ fn pack(functions: &[Function], rows: &[RowAt], numbers: &mut [u64]) -> bool
     if !ready(numbers, f, rows.len()) {
         return false;
     }
-    let a = 18 * f;
+    let a = FUNCTION_STRIDE * f;
     put_functions(functions, numbers, 0);
     put_rows(rows, numbers, a);
     true
@@ -448,7 +411,7 @@ fn pack(functions: &[Function], rows: &[RowAt], numbers: &mut [u64]) -> bool
 pub extern "C" fn unwind_pack_rows(rows: &[RowAt], numbers: &mut [u64]) -> u64
     ensures { Packs (numbers_of row_numbers rows.now) numbers.old numbers.new result }
 {
-    if !fits(rows.len(), 4, numbers.len()) {
+    if !fits(rows.len(), ROW_STRIDE, numbers.len()) {
         return 54;
     }
     put_rows(rows, numbers, 0);
@@ -459,7 +422,7 @@ pub extern "C" fn unwind_pack_rows(rows: &[RowAt], numbers: &mut [u64]) -> u64
 pub extern "C" fn unwind_pack_functions(functions: &[Function], numbers: &mut [u64]) -> u64
     ensures { Packs (numbers_of function_numbers functions.now) numbers.old numbers.new result }
 {
-    if !fits(functions.len(), 18, numbers.len()) {
+    if !fits(functions.len(), FUNCTION_STRIDE, numbers.len()) {
         return 54;
     }
     put_functions(functions, numbers, 0);
@@ -474,6 +437,7 @@ pub extern "C" fn unwind_row_check_of(simple: u64, rows: &[RowAt]) -> u64
     u64::from(rows_checked(simple, rows))
 }
 
+// Kept: here and in the next one the lists one by one, as C lends them.
 // unwind_relaxed_table over lists of structs; landings and pairs are lists of numbers. `numbers` is room for 18 numbers a function and 4 a row, all
 // zero, else 54, asked behind 11 and 12. It goes back as it came.
 #[unsafe(no_mangle)]
@@ -493,20 +457,15 @@ pub extern "C" fn unwind_relaxed_table_of(
     ensures { Exports (relaxed_table_of format machine.now numbers.old functions.now rows.now landings.now pairs.now (room_in places.old bytes.old relocations.old sites.old)) result places.old places.new bytes.old bytes.new relocations.old relocations.new sites.old sites.new × (numbers.new ≡ numbers.old) }
 {
     let ok = pack(functions, rows, numbers);
-    table_in(
-        ok,
-        numbers,
-        functions.len(),
-        rows.len(),
+    let x = Given {
         machine,
         format,
         landings,
         pairs,
-        places,
-        bytes,
-        relocations,
-        sites,
-    )
+        functions: functions.len(),
+        rows: rows.len(),
+    };
+    table_in(ok, &x, numbers, places, bytes, relocations, sites)
 }
 
 // unwind_relaxed_debug_frame in the same way.
@@ -526,17 +485,13 @@ pub extern "C" fn unwind_relaxed_debug_frame_of(
     ensures { Exports (relaxed_debug_frame_of format machine.now numbers.old functions.now rows.now landings.now pairs.now (room_in places.old bytes.old relocations.old [])) result places.old places.new bytes.old bytes.new relocations.old relocations.new [] [] × (numbers.new ≡ numbers.old) }
 {
     let ok = pack(functions, rows, numbers);
-    debug_frame_in(
-        ok,
-        numbers,
-        functions.len(),
-        rows.len(),
+    let x = Given {
         machine,
         format,
         landings,
         pairs,
-        places,
-        bytes,
-        relocations,
-    )
+        functions: functions.len(),
+        rows: rows.len(),
+    };
+    debug_frame_in(ok, &x, numbers, places, bytes, relocations)
 }

@@ -17,6 +17,7 @@ use format::{CfaRule, Counts, Refusal, Rule, Rules, Section};
 // The table of a list of functions: eh_frame of ELF (0), x64 unwind data of COFF (1); an empty result of Wasm (3), Plan 9 (4) and an
 // empty list. Mach-O (2) is not written any more. It refuses by document 01's numbers, and then no buffer is changed; else the results stand at the buffers' fronts and
 // the rest is as it was. `places` takes the header places, in COFF the markers; `sites` the call sites, in COFF the x64 info.
+// Kept: the lists one by one, as C lends them, here and in what follows.
 pub fn relaxed_table(
     machine: &[u64],
     format: u64,
@@ -222,7 +223,7 @@ pub fn numbers_in(o: Result<Option<Counts>, Refusal>, room: usize) -> usize
     ensures { result ≡ 5 * relocs_in o }
 {
     match o {
-        Ok(Some(c)) => 5 * (c.relocations as usize),
+        Ok(Some(c)) => relocs::RELOCATION_STRIDE * (c.relocations as usize),
         Ok(None) => 0,
         Err(_) => 0,
     }
@@ -239,6 +240,7 @@ pub fn word_in(machine: &[u64]) -> u64
 }
 
 // debug_frame's writer, or the other.
+// Kept: here and below the lists one by one, as the writers and the reader take them.
 pub fn write(
     debug: bool,
     machine: &[u64],
@@ -495,6 +497,7 @@ pub fn written_of(o: Result<Option<Counts>, Refusal>) -> Written
     }
 }
 
+// Kept: in the exports the lists one by one, as C lends them.
 #[unsafe(no_mangle)]
 pub extern "C" fn unwind_relaxed_table(
     machine: &[u64],

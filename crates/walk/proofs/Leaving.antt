@@ -3,13 +3,9 @@ use mathlib.Core.Path.{◌≡◌, refl, sym}
 use mathlib.Core.Bool.{Bool}
 use mathlib.Core.Option.{Option, none, some}
 use mathlib.Core.List.{List}
-use Prim.Native.Nat.{ℕ, ◌^◌, ◌<◌}
+use Prim.Native.Nat.{ℕ}
 use lib.ListN.{get_or}
 use lib.IntN.{ℤ}
-use lib.Signed.{mag}
-use mir.Syntax.{w64}
-use mir.Val.{to_z, of_z}
-use mir.Facts.{to_z-of_z}
 use Rattle.std.specs.Prelude.{Some, None, Err}
 use Rattle.std.specs.Prelude as code
 use Rattle.std.specs.Option.{ok_or}
@@ -21,10 +17,6 @@ use Rattle.format.specs.declared.CfaRule.TheVariants.{Unset, Register}
 use Rattle.walk.specs.Recorded.{Slot}
 use Rattle.walk.specs.Walk.{Memory, sum_of, load, saved, frame_address, unsigned, returned_to}
 use Rattle.walk.proofs.Leaves.{number_is, number_none}
-
--- a signed number that was passed on: the bound that a call or a variant hands over
-pub passed : (z : ℤ) → mag z < 2 ^ 63 → to_z w64 (of_z w64 z) ≡ z
-passed z h = to_z-of_z {w = w64} (record { sfits = h })
 
 module _ (m : Memory) (cfa : ℕ) (z : ℤ) where
   pub saved_none : None ≡ option_of (after (sum_of cfa z) (load m)) → bad 74 ≡ saved m cfa z

@@ -7,8 +7,7 @@ use Prim.Native.Nat.{ℕ, ◌+◌, ◌-◌, ◌*◌, ◌<◌, ◌≤◌}
 use native.Mathlib.Omega.{arith}
 use borrow.Author.Tests.{lt-leb, le-leb, eq-eqb, ne_eqb}
 use lib.ListN.{length, drop}
-use lib.Dec.{eqb, eqb→eq}
-use Rattle.format.proofs.Choice.{tested}
+use lib.Dec.{eqb}
 use Rattle.std.specs.Prelude.{Some, None}
 use Rattle.format.specs.Prelude.{pick, next}
 use Rattle.format.specs.Leb.{read_little}
@@ -16,15 +15,10 @@ use Rattle.format.specs.Reader.{require}
 use Rattle.operations.specs.declared.fields.Position.{Position}
 use Rattle.operations.specs.Positions.{little_at}
 use Rattle.operations.proofs.PositionLaws.{little_rest, little_none}
+use Rattle.rows.proofs.Signs.{eqb_both}
 use Rattle.walk.specs.Recorded.{matches, read_trailer}
 use Rattle.walk.specs.Standing.{trailer_of}
 use Rattle.walk.proofs.Leaves.{from}
-
--- two tests of equal meaning
-eqb_both : (x y a b : ℕ) → (x ≡ y → a ≡ b) → (a ≡ b → x ≡ y) → eqb x y ≡ eqb a b
-eqb_both x y a b f g =
-    tested (eqb a b) (λ t. let e = eqb→eq a b t in rw (eq-eqb a b e) (eq-eqb x y (g e)))
-    (λ t. let n : a ≡ b → ⊥ = λ e. absurd (rw (eq-eqb a b e) at t) in rw (ne_eqb a b n) (ne_eqb x y (λ e. n (f e))))
 
 module _ (file distance count size : ℕ) where
   pub too_many : 128 < count → false ≡ matches file distance count size

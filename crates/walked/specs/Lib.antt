@@ -2,3 +2,4 @@
 pub mod Standing
 pub mod Named
 pub mod Entry
+pub mod Faults

@@ -2,7 +2,7 @@
 #![tactic(auto)]
 
 ghost use Rattle.std.specs.Prelude.{◌≡◌, true, false, [], ◌∷◌, ◌<◌, ◌≤◌, T, eqb, length, take, drop};
-ghost use Rattle.format.specs.Prelude.{pick, good, bad, onward};
+ghost use Rattle.format.specs.Prelude.{pick, bad, onward};
 ghost use Rattle.format.specs.Machine.{is_word_size, machine_ok, machine_of};
 ghost use Rattle.format.specs.Rules.{rules_for};
 ghost use Rattle.format.specs.declared.Rule.TheVariants.{Unstated};
@@ -11,15 +11,20 @@ ghost use Rattle.walk.specs.Walk.{left_by, left_from, left, returned_to, caller_
 ghost use Rattle.walk.specs.Standing.{memory_of, slots, left_of, caller_as, step_of};
 ghost use Rattle.walked.specs.Entry.{numbers_of, chain_numbers, chain_stored};
 ghost use Rattle.walked.specs.Named.{names, operation_names, Marked, MarkedAll, MarksIn};
-ghost use Rattle.walked.specs.Standing.{is_good, state_at, rules_at, ruled_at, source_at, section_of, all_left, walked_of, fault_of};
+ghost use Rattle.walked.specs.Standing.{rules_at, ruled_at, source_at, section_of, all_left, walked_of, fault_of};
+ghost use Rattle.walked.specs.Faults.{fault_by};
 
 use crate::chain::Chain;
+use crate::fault::Fault;
+use crate::leaving::Leaving;
 use format::{Machine, Operation, Row, Rules};
 use operations::fields::Position;
 use reader::location::Located;
 use walk::{Caller, Frame, Memory};
 
 pub mod chain;
+pub mod fault;
+pub mod leaving;
 
 // An offset of a record that was located.
 #[derive(Clone, Copy)]
@@ -105,106 +110,62 @@ fn named(section: &[u8], l: Located) -> Marks
     mark_all(&section[l.record..l.record_end], l.word, m)
 }
 
-// ---- the registers of a frame that is left
+// ---- a frame that is left
 
-// One register: kept where no operation names it, and else by the rule that the reader gives.
-fn one(
-    registers: &[Option<u64>],
-    named: bool,
-    at: Place,
-    reg: usize,
-    m: Memory,
-    cfa: u64,
-) -> Result<Option<u64>, u64>
-    requires { (reg < 128) × T (is_good (state_at at)) × (named ≡ false → (rules_at at).rules reg ≡ Unstated) }
-    ensures { left_of result ≡ left_by (memory_of m.entry) cfa (slots registers.now) reg ((rules_at at.entry).rules reg) }
-{
-    if !named {
-        return Ok(walk::slot(registers, reg));
+impl Leaving<'_, '_> {
+    // One register: kept where no operation names it, and else by the rule that the reader gives.
+    fn one(&self, named: bool, reg: usize, cfa: u64) -> Result<Option<u64>, u64>
+        requires { (reg < 128) × (named ≡ false → (rules_at self.now.at).rules reg ≡ Unstated) }
+        ensures { left_of result ≡ left_by (memory_of self.now.memory) cfa (slots self.now.registers) reg ((rules_at self.now.at).rules reg) }
+    {
+        if !named {
+            return Ok(walk::slot(&self.registers, reg));
+        }
+        let rules = reader::rules_at(self.at.section, self.at.located, reg as u16, self.at.p)?;
+        walk::left_by(&self.registers, rules.rule, reg, self.memory, cfa)
     }
-    let rules = reader::rules_at(at.section, at.located, reg as u16, at.p)?;
-    walk::left_by(registers, rules.rule, reg, m, cfa)
-}
 
-fn all_left(
-    before: [Option<u64>; 128],
-    at: Place,
-    m: Memory,
-    cfa: u64,
-) -> Result<[Option<u64>; 128], u64>
-    requires { T (is_good (state_at at)) }
-    ensures { all_left result ≡ left_from (λ reg. left_by (memory_of m.entry) cfa (slots before) reg ((rules_at at.entry).rules reg)) 0 128 }
-{
-    let marks = named(at.section, at.located);
-    let mut registers = before;
-    for i in 0..128 {
-        registers[i] = one(&before, marks.named[i], at, i, m, cfa)?;
+    // All of them.
+    fn all_left(&self, cfa: u64) -> Result<[Option<u64>; 128], u64>
+        ensures { all_left result ≡ left_from (λ reg. left_by (memory_of self.now.memory) cfa (slots self.now.registers) reg ((rules_at self.now.at).rules reg)) 0 128 }
+    {
+        let marks = named(self.at.section, self.at.located);
+        let mut registers = self.registers;
+        for i in 0..128 {
+            registers[i] = self.one(marks.named[i], i, cfa)?;
+        }
+        Ok(registers)
     }
-    Ok(registers)
-}
 
-fn left(
-    before: [Option<u64>; 128],
-    at: Place,
-    m: Memory,
-    reg: u64,
-    cfa: u64,
-) -> Result<[Option<u64>; 128], u64>
-    requires { T (is_good (state_at at)) }
-    ensures { all_left result ≡ left (memory_of m.entry) reg cfa (rules_at at.entry) (slots before) }
-{
-    let registers = all_left(before, at, m, cfa)?;
-    Ok(walk::with_stack(registers, reg, cfa))
-}
-
-// ---- a caller
-
-// From the frame address on: the registers, and the return address in them.
-fn resumed(
-    machine: Machine,
-    before: [Option<u64>; 128],
-    signing: bool,
-    cfa: u64,
-    at: Place,
-    m: Memory,
-) -> Result<Option<Caller>, u64>
-    requires { T (is_good (state_at at)) }
-    ensures { step_of result ≡ onward (left (memory_of m.entry) machine.stack cfa (rules_at at.entry) (slots before)) (λ ss. returned_to ss machine.ret signing at.entry.located.signal) }
-{
-    let registers = left(before, at, m, machine.stack, cfa)?;
-    walk::returned(registers, machine.ret, signing, at.located.signal)
-}
-
-// By the rules of the return address's register.
-fn left_by_rules(
-    machine: Machine,
-    before: [Option<u64>; 128],
-    rules: Rules,
-    at: Place,
-    m: Memory,
-) -> Result<Option<Caller>, u64>
-    requires { T (is_good (state_at at)) × (rules ≡ rules_for machine.ret (rules_at at)) }
-    ensures { step_of result ≡ caller_of machine (memory_of m.entry) (ruled_at at.entry) (slots before) }
-{
-    if walk::undefined(rules.rule) {
-        return Ok(None);
+    // And the stack pointer, which is the frame address.
+    fn left(&self, cfa: u64) -> Result<[Option<u64>; 128], u64>
+        ensures { all_left result ≡ left (memory_of self.now.memory) self.now.machine.stack cfa (rules_at self.now.at) (slots self.now.registers) }
+    {
+        let registers = self.all_left(cfa)?;
+        Ok(walk::with_stack(registers, self.machine.stack, cfa))
     }
-    let cfa = walk::frame_address(rules.cfa, &before)?;
-    resumed(machine, before, rules.signing, cfa, at, m)
-}
 
-// The caller of a frame at an offset of a record that was located.
-fn caller(
-    machine: Machine,
-    before: [Option<u64>; 128],
-    at: Place,
-    m: Memory,
-) -> Result<Option<Caller>, u64>
-    requires { machine.ret < 65536 }
-    ensures { step_of result ≡ onward (source_at at.entry) (λ u. caller_of machine (memory_of m.entry) u (slots before)) }
-{
-    let rules = reader::rules_at(at.section, at.located, machine.ret as u16, at.p)?;
-    left_by_rules(machine, before, rules, at, m)
+    // ---- its caller
+
+    // From the frame address on: the registers, and the return address in them.
+    fn resumed(&self, signing: bool, cfa: u64) -> Result<Option<Caller>, u64>
+        ensures { step_of result ≡ onward (left (memory_of self.now.memory) self.now.machine.stack cfa (rules_at self.now.at) (slots self.now.registers)) (λ ss. returned_to ss self.now.machine.ret signing self.now.at.located.signal) }
+    {
+        let registers = self.left(cfa)?;
+        walk::returned(registers, self.machine.ret, signing, self.at.located.signal)
+    }
+
+    // By the rules of the return address's register.
+    fn left_by_rules(&self, rules: Rules) -> Result<Option<Caller>, u64>
+        requires { rules ≡ rules_for self.now.machine.ret (rules_at self.now.at) }
+        ensures { step_of result ≡ caller_of self.now.machine (memory_of self.now.memory) (ruled_at self.now.at) (slots self.now.registers) }
+    {
+        if walk::undefined(rules.rule) {
+            return Ok(None);
+        }
+        let cfa = walk::frame_address(rules.cfa, &self.registers)?;
+        self.resumed(rules.signing, cfa)
+    }
 }
 
 // The section that the rules come from, its relocations and its kind.
@@ -215,72 +176,81 @@ pub struct Section<'a> {
     pub kind: u64,
 }
 
-// The caller of a frame at an offset of record k: one pass over the section.
-fn caller_by(
-    machine: Machine,
-    before: [Option<u64>; 128],
-    section: Section,
-    k: u64,
-    p: u64,
-    m: Memory,
-) -> Result<Option<Caller>, u64>
-    requires { machine.ret < 65536 }
-    ensures { step_of result ≡ onward (section_of section.entry k p) (λ u. caller_of machine (memory_of m.entry) u (slots before)) }
-{
-    let located = reader::locate(section.bytes, section.relocations, section.kind, 8, k)?;
-    let at = Place {
-        section: section.bytes,
-        located,
-        p,
-    };
-    caller(machine, before, at, m)
-}
-
-// ---- the frames
-
-// Up to 64 frames, by the section. Behind them no function holds the address, or a 65th frame would follow.
-pub fn frames(
-    machine: Machine,
-    start: Caller,
-    section: Section,
-    m: Memory,
-    functions: &[u64],
-) -> Result<Chain, u64>
-    requires { machine.ret < 65536 }
-    ensures { walked_of result ≡ frames_f (section_of section.entry) (fault_of machine (memory_of m.entry) functions.now) 64 (caller_as start) }
-{
-    let mut caller = start;
-    let mut frames = [Frame { position: 0, pc: 0 }; 64];
-    for k in 0..64 {
-        let Some((position, offset)) = walk::held(functions, caller.exact, caller.pc) else {
-            return Ok(Chain {
-                frames,
-                count: k,
-                ending: 2,
-            });
+impl Fault<'_, '_, '_> {
+    // The caller of a frame at an offset of a record that was located.
+    fn caller(&self, registers: [Option<u64>; 128], at: Place) -> Result<Option<Caller>, u64>
+        ensures { step_of result ≡ onward (source_at at.entry) (λ u. caller_of self.now.machine (memory_of self.now.memory) u (slots registers)) }
+    {
+        let ret = self.machine.ret as u16;
+        let rules = reader::rules_at(at.section, at.located, ret, at.p)?;
+        let frame = Leaving {
+            machine: self.machine,
+            registers,
+            at,
+            memory: self.memory,
         };
-        frames[k] = Frame {
-            position,
-            pc: caller.pc,
-        };
-        let Some(next) = caller_by(machine, caller.registers, section, position, offset, m)? else {
-            return Ok(Chain {
-                frames,
-                count: k + 1,
-                ending: 1,
-            });
-        };
-        caller = next;
+        frame.left_by_rules(rules)
     }
-    let ending = match walk::held(functions, caller.exact, caller.pc) {
-        None => 2,
-        Some(_) => 3,
-    };
-    Ok(Chain {
-        frames,
-        count: 64,
-        ending,
-    })
+
+    // The caller of a frame at an offset of record k: one pass over the section.
+    fn caller_by(
+        &self,
+        registers: [Option<u64>; 128],
+        k: u64,
+        p: u64,
+    ) -> Result<Option<Caller>, u64>
+        ensures { step_of result ≡ onward (section_of self.now.section k p) (λ u. caller_of self.now.machine (memory_of self.now.memory) u (slots registers)) }
+    {
+        let s = self.section;
+        let located = reader::locate(s.bytes, s.relocations, s.kind, 8, k)?;
+        let at = Place {
+            section: s.bytes,
+            located,
+            p,
+        };
+        self.caller(registers, at)
+    }
+
+    // ---- the frames
+
+    // Up to 64 frames, by the section. Behind them no function holds the address, or a 65th frame would follow.
+    pub fn frames(&self, start: Caller) -> Result<Chain, u64>
+        ensures { walked_of result ≡ frames_f (section_of self.now.section) (fault_by self.now) 64 (caller_as start) }
+    {
+        let mut caller = start;
+        let mut frames = [Frame { position: 0, pc: 0 }; 64];
+        for k in 0..64 {
+            let Some((position, offset)) = walk::held(self.functions, caller.exact, caller.pc)
+            else {
+                return Ok(Chain {
+                    frames,
+                    count: k,
+                    ending: 2,
+                });
+            };
+            frames[k] = Frame {
+                position,
+                pc: caller.pc,
+            };
+            let Some(next) = self.caller_by(caller.registers, position, offset)? else {
+                return Ok(Chain {
+                    frames,
+                    count: k + 1,
+                    ending: 1,
+                });
+            };
+            caller = next;
+        }
+        let ending = match walk::held(self.functions, caller.exact, caller.pc) {
+            None => 2,
+            Some(_) => 3,
+        };
+        Ok(Chain {
+            frames,
+            count: 64,
+            ending,
+        })
+    }
 }
 
 // ---- the entry
@@ -311,11 +281,17 @@ fn recorded(
         pc,
         exact: true,
     };
-    let m = Memory {
+    let memory = Memory {
         address: stack,
         bytes: &file[..size],
     };
-    frames(known, start, section, m, functions)
+    let fault = Fault {
+        machine: known,
+        section,
+        memory,
+        functions,
+    };
+    fault.frames(start)
 }
 
 // What `unwind_walk` answers: 0 or a refusal's number, the count of frames that are stored, and why the walk ended.
@@ -360,6 +336,7 @@ fn stored(r: Result<Chain, u64>, out: &mut [u64]) -> Answer
 
 // The frames of a recorded fault, by the section: 73 for the record file, 11 and 12 for the machine, what a frame is refused by, and 54 last.
 // Of an accepted walk the frames, two numbers each, stand at the front of the lent list; on a refusal it is as it was.
+// Kept: the C interface passes the lists and numbers one by one.
 #[unsafe(no_mangle)]
 pub extern "C" fn unwind_walk(
     machine: &[u64],

@@ -17,7 +17,7 @@ use Rattle.format.specs.Writer.{Written}
 use Rattle.format.specs.Questions.{Given, Room, Answer, accepted, no_functions, given_asks, dwarf_given, format_answer, relaxed_table, relaxed_debug_frame}
 use Rattle.format.specs.Answers.{bit, outcome_of, relocation_numbers}
 use Rattle.format.proofs.Accepted.{asked, both, dwarf_written, passed, not_empty}
-use Rattle.format.proofs.ListLaws.{each_get, each-length}
+use Rattle.format.proofs.ListLaws.{each_get, each-length, found_inside}
 use Rattle.format.proofs.ReadBack.{kind_of}
 use Rattle.format.proofs.Choice.{is_true}
 use Rattle.unwind.specs.Together.{answer_for, bytes_in, relocs_in}
@@ -34,15 +34,10 @@ use Rattle.walked_back.specs.Together.{walk_for, Placing, not_readers, ByRows, W
 
 -- ---- what is placed is what was written
 
-past : {A : Type 0} (xs : List A) (k : ℕ) {a : A} → get_elem? xs k ≡ some a → k < length xs
-past [] k e = let z : ◌≡◌ {A = ℕ} 0 1 = cc in absurd (omega arith)
-past (x ∷ xs) zero e = omega arith
-past (x ∷ xs) (suc k) e = omega (arith, past xs k e)
-
 module _ (g : Given) (placed : List ℕ) (all : (k : ℕ) → k < count 2 placed → Placing g placed k) where
   placed_in : (k : ℕ) (f : Placed) → get_elem? (placed_of placed) k ≡ some f → k < count 2 placed
   unfolding placed_of
-  placed_in k f e = omega (arith, past (placed_of placed) k e, each-length (placed_at placed) 0 (count 2 placed))
+  placed_in k f e = omega (arith, found_inside (placed_of placed) k e, each-length (placed_at placed) 0 (count 2 placed))
 
   placed_size : (k : ℕ) (f : Placed) → get_elem? (placed_of placed) k ≡ some f → field 2 placed k 1 ≡ f.size
   unfolding placed_of placed_at

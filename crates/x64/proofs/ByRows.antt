@@ -1,29 +1,32 @@
 -- The definitions' answer for rows by the passes over the functions, and what questions 11 to 13 say.
 use mathlib.Core.Path.{◌≡◌, refl, sym, ap, ◌∙◌}
-use Prim.Native.Nat.{ℕ, zero, suc, ◌<◌}
+use Prim.Native.Nat.{ℕ, zero, suc, ◌^◌, ◌<◌}
 use native.Mathlib.Omega.{arith}
 use mathlib.Core.Bool.{true, false, ◌&&◌}
 use mathlib.Core.Option.{none, some}
 use mathlib.Core.List.{List, [], ◌∷◌}
-use lib.Dec.{T, leb, eqb, leb→le}
+use lib.Dec.{T, leb, eqb, leb→le, eqb→eq}
 use lib.ListN.{length, get_or, drop, length-drop}
 use lib.Seq.{length-take-le}
 use Rattle.format.specs.Prelude.{pick, Result, good, bad, each}
 use Rattle.format.specs.declared.Machine.{Machine}
 use Rattle.std.specs.Prelude.{Err}
-use Rattle.format.specs.Coded.{refusal}
+use Rattle.format.specs.Coded.{refusal, Outcome}
 use Rattle.format.specs.Machine.{machine_of, machine_ok}
 use Rattle.format.specs.Lists.{Function, Prologue, field, count, function_stride, row_stride, landing_stride, pair_stride, most_functions, most_records, sum_of, pairs_in, inside, symbol_ok, pointer_ok, mark_ok, when_marked, all_in, row_ok_at, pair_ok_at, function_ok_at, lists_ok, function_at, functions_of}
 use Rattle.format.specs.X64.{codes_of, prologue_of, prologue_no}
 use Rattle.format.specs.Questions.{Question, Room, Answer, Prologues, made, stopped, made_one, prologues_for, prologues_answer, windows_answer, windows_asks, Given, given_functions, ask, and_then, no_at, unless, fitting, code_asks, codes_answer, short_ones}
 use Rattle.format.specs.Answers.{outcome_of, afterwards, Writes}
 use Rattle.format.proofs.Accepted.{machine_fits}
+use Rattle.format.proofs.Choice.{is_yes_lem}
 use Rattle.format.proofs.ListLaws.{chained, part_of, at_each, symbol_small}
 use Rattle.lists.proofs.Machines.{long}
-use Rattle.x64.specs.declared.Source.{Source}
-use Rattle.x64.specs.declared.Source.TheVariants.{Rows}
+use Rattle.prologue.specs.declared.given.X64Machine.{X64Machine}
+use Rattle.x64.specs.declared.given.Source.{Source}
+use Rattle.x64.specs.declared.given.Source.TheVariants.{Rows}
 use Rattle.x64.specs.Answers.{ask_each}
-use Rattle.x64.specs.Sources.{by_rows, result_at, stride_of, Listed, pushed_by, ListedAt, rows_no, codes_no, length_at, rows_at, codes_at, or_none, found_at, asks_of, table_of}
+use Rattle.x64.specs.Listed.{stride_of, Listed, ListedAt}
+use Rattle.x64.specs.Sources.{by_rows, result_at, rows_no, codes_no, length_at, rows_at, codes_at, or_none, found_at, asks_of, table_of}
 use Rattle.x64.proofs.Asked.{each_yes}
 use Rattle.x64.proofs.Entries.{unless_then, per_each, ask_long, within_of}
 
@@ -55,40 +58,43 @@ unfolding unless
 unless_same none a b x h = rw (h refl)
 unless_same (some r) a b x h = refl
 
-module _ (m : Machine) (fs rows landings pairs : List ℕ) where
+module _ (x : X64Machine) (fs rows landings pairs : List ℕ) where
+  abbrev m : Machine
+  m = x.machine.now
+
   abbrev n : ℕ
   n = count function_stride fs
 
   abbrev f : ℕ → Function
   f k = function_at fs rows landings pairs k
 
-  result_same : (k : ℕ) → by_rows m (f k) ≡ result_at (Rows m) fs rows k
+  result_same : (k : ℕ) → by_rows m (f k) ≡ result_at (Rows x) fs rows k
   unfolding result_at function_at codes_of prologue_of
   result_same k = refl
 
-  rows_long : short_ones (λ g. g.size) (functions_of fs rows landings pairs) ≡ ask_each (length_at (Rows m) fs) 0 n
+  rows_long : short_ones (λ g. g.size) (functions_of fs rows landings pairs) ≡ ask_each (length_at (Rows x) fs) 0 n
   unfolding short_ones functions_of stride_of function_at
-  rows_long = per_each _ f (length_at (Rows m) fs) 0 n (λ k l. ask_long (field function_stride fs k 1) k)
+  rows_long = per_each _ f (length_at (Rows x) fs) 0 n (λ k l. ask_long (field function_stride fs k 1) k)
 
-  made_each : (at d : ℕ) → prologues_for m at (each f at d) ≡ gather (ask_each (rows_at (Rows m) fs rows) at d) (each (found_at (Rows m) fs rows) at d)
+  made_each : (at d : ℕ) → prologues_for m at (each f at d) ≡ gather (ask_each (rows_at (Rows x) fs rows) at d) (each (found_at (Rows x) fs rows) at d)
   unfolding prologues_for each ask_each gather
   made_each at zero = refl
   made_each at (suc d) =
       rw (made_each (suc at) d, result_same at)
-      (gather_one at (result_at (Rows m) fs rows at) (ask_each (rows_at (Rows m) fs rows) (suc at) d) (each (found_at (Rows m) fs rows) (suc at) d))
+      (gather_one at (result_at (Rows x) fs rows at) (ask_each (rows_at (Rows x) fs rows) (suc at) d) (each (found_at (Rows x) fs rows) (suc at) d))
 
-  rows_codes : ask_each (rows_at (Rows m) fs rows) 0 n ≡ none
-      → code_asks (each (found_at (Rows m) fs rows) 0 n) ≡ ask_each (codes_at (Rows m) fs rows) 0 n
+  rows_codes : ask_each (rows_at (Rows x) fs rows) 0 n ≡ none
+      → code_asks (each (found_at (Rows x) fs rows) 0 n) ≡ ask_each (codes_at (Rows x) fs rows) 0 n
   unfolding code_asks
   rows_codes e =
-      per_each _ (found_at (Rows m) fs rows) (codes_at (Rows m) fs rows) 0 n
-      (λ k l. ap (no_at k) (codes_same (result_at (Rows m) fs rows k) (each_yes (rows_at (Rows m) fs rows) n e k (omega arith))))
+      per_each _ (found_at (Rows x) fs rows) (codes_at (Rows x) fs rows) 0 n
+      (λ k l. ap (no_at k) (codes_same (result_at (Rows x) fs rows k) (each_yes (rows_at (Rows x) fs rows) n e k (omega arith))))
 
   pub rows_answer : (r : Room) → windows_answer m (functions_of fs rows landings pairs) r
-      ≡ unless (asks_of (Rows m) fs rows n) (fitting r (table_of (Rows m) fs rows n))
+      ≡ unless (asks_of (Rows x) fs rows n) (fitting r (table_of (Rows x) fs rows n))
   unfolding windows_answer functions_of asks_of codes_answer
   rows_answer r =
-      let s : Source = Rows m in
+      let s : Source = Rows x in
       let w : Answer = fitting r (table_of s fs rows n) in
       let a : Question = ask_each (length_at s fs) 0 n in
       let b : Question = ask_each (rows_at s fs rows) 0 n in
@@ -105,7 +111,14 @@ map_long : (ms : List ℕ) → T (machine_ok ms) → length (machine_of ms).map 
 unfolding machine_of
 map_long ms t = length-take-le 64 (drop 6 ms) (simp length-drop (omega (arith, long ms t)))
 
-module _ (ms fs rows landings pairs : List ℕ) (t : T (machine_ok ms)) (w : (machine_of ms).word ≡ 8) (l : T (lists_ok fs rows landings pairs)) where
+-- what the struct of a machine of eight bytes holds
+pub machine_known : (ms : List ℕ) {m : Machine} → machine_ok ms ≡ true → m ≡ machine_of ms → eqb m.word 8 ≡ true
+    → (length m.map ≡ 64) × (m.word ≡ 8) × (m.pushed < 2 ^ 31)
+machine_known ms {m} k e w =
+    let t = is_yes_lem k in
+    (rw e (map_long ms t), eqb→eq m.word 8 (is_yes_lem w), rw e (machine_fits ms t).pushed_small)
+
+module _ (x : X64Machine) (fs rows landings pairs : List ℕ) (l : T (lists_ok fs rows landings pairs)) where
   abbrev total : ℕ
   total = count function_stride fs
 
@@ -126,19 +139,15 @@ module _ (ms fs rows landings pairs : List ℕ) (t : T (machine_ok ms)) (w : (ma
       let u = at_each (function_ok_at fs rows landings pairs) total k (says 4) h in
       (tell 0 u, tell 1 u, tell 2 u)
 
-  pub rows_listed : Listed (Rows (machine_of ms)) fs rows total
-  unfolding stride_of pushed_by ListedAt
+  pub rows_listed : Listed (Rows x) fs rows total
+  unfolding stride_of ListedAt
   rows_listed = record {
     most = leb→le total most_functions (says 0);
     whole = omega arith;
     each_one = λ k h. record {
       within = omega arith;
       symbol = symbol_small (field function_stride fs k 0) (tells k h).0;
-      pushed = (machine_fits ms t).pushed_small;
       records = (
-        machine_fits ms t,
-        w,
-        map_long ms t,
         record { inside = within_of (field function_stride fs k 2) (field function_stride fs k 3) (count row_stride rows) (tells k h).1; ok = (tells k h).2 },
         omega (arith, part_of (λ i. field function_stride fs i 3) total k h, leb→le (sum_of (λ i. field function_stride fs i 3) 0 total) most_records (says 1)),
       );
@@ -166,7 +175,13 @@ module _ (g : Given) (r : Room) where
     unfolding windows_asks unless ask and_then pick outcome_of afterwards
     no_lists e d b = rw (e, d, b) (record { outcome = refl; placed = refl; stored = refl; related = refl; sited = refl })
 
-  pub rows_answers : machine_ok g.machine ≡ true → eqb (machine_of g.machine).word 8 ≡ true → lists_ok g.functions g.rows g.landings g.pairs ≡ true
-      → unless (asks_of (Rows (machine_of g.machine)) g.functions g.rows (count function_stride g.functions)) (fitting r (table_of (Rows (machine_of g.machine)) g.functions g.rows (count function_stride g.functions))) ≡ whole
+  rows_answers : (x : X64Machine) → x.machine.now ≡ machine_of g.machine → machine_ok g.machine ≡ true → eqb (machine_of g.machine).word 8 ≡ true → lists_ok g.functions g.rows g.landings g.pairs ≡ true
+      → unless (asks_of (Rows x) g.functions g.rows (count function_stride g.functions)) (fitting r (table_of (Rows x) g.functions g.rows (count function_stride g.functions))) ≡ whole
   unfolding windows_asks unless ask and_then pick given_functions
-  rows_answers e d b = sym (rw (e, d, b) (rows_answer (machine_of g.machine) g.functions g.rows g.landings g.pairs r))
+  rows_answers x same e d b = sym (rw (e, d, b, ← same) (rows_answer x g.functions g.rows g.landings g.pairs r))
+
+  pub rows_written : (x : X64Machine) {o : Outcome} {places places' bytes bytes' relocations relocations' sites sites' : List ℕ}
+      → Writes (unless (asks_of (Rows x) g.functions g.rows (count function_stride g.functions)) (fitting r (table_of (Rows x) g.functions g.rows (count function_stride g.functions)))) o places places' bytes bytes' relocations relocations' sites sites'
+      → x.machine.now ≡ machine_of g.machine → machine_ok g.machine ≡ true → eqb (machine_of g.machine).word 8 ≡ true → lists_ok g.functions g.rows g.landings g.pairs ≡ true
+      → Writes whole o places places' bytes bytes' relocations relocations' sites sites'
+  rows_written x w same e d b = rw (rows_answers x same e d b) at w

@@ -16,9 +16,10 @@ use Rattle.std.specs.Prelude.{None, Ok, Err}
 use Rattle.format.specs.Coded.{refusal}
 use Rattle.format.specs.Answers.{outcome_of, afterwards, Writes}
 use Rattle.format.proofs.ListLaws.{chained, part_of, at_each, symbol_small}
-use Rattle.x64.specs.declared.Source.TheVariants.{Direct}
+use Rattle.x64.specs.declared.given.Source.TheVariants.{Direct}
 use Rattle.x64.specs.Answers.{ask_each}
-use Rattle.x64.specs.Sources.{result_at, stride_of, Listed, pushed_by, ListedAt, long_no, rows_no, codes_no, length_at, rows_at, codes_at, or_none, asks_of, table_of}
+use Rattle.x64.specs.Listed.{stride_of, Listed, ListedAt}
+use Rattle.x64.specs.Sources.{result_at, long_no, rows_no, codes_no, length_at, rows_at, codes_at, or_none, asks_of, table_of}
 
 -- ---- questions
 
@@ -92,14 +93,13 @@ module _ (fs codes : List ℕ) (t : T (codes_ok fs codes)) where
   tells k h j = chained (symbol_ok (field prologue_stride fs k 0)) (inside (field prologue_stride fs k 3) (field prologue_stride fs k 4) (count code_stride codes) ∷ all_in (code_ok_at codes) (field prologue_stride fs k 3) (field prologue_stride fs k 4) ∷ []) j (at_each (prologue_ok_at fs codes) (count prologue_stride fs) k (says 2) h)
 
   pub direct_listed : Listed Direct fs codes (count prologue_stride fs)
-  unfolding stride_of pushed_by ListedAt
+  unfolding stride_of ListedAt
   direct_listed = record {
     most = leb→le (count prologue_stride fs) most_functions (says 0);
     whole = omega arith;
     each_one = λ k h. record {
       within = omega arith;
       symbol = symbol_small (field prologue_stride fs k 0) (tells k h 0);
-      pushed = omega arith;
       records = (within_of (field prologue_stride fs k 3) (field prologue_stride fs k 4) (count code_stride codes) (tells k h 1), omega (arith, part_of (λ i. field prologue_stride fs i 4) (count prologue_stride fs) k h, leb→le (sum_of (λ i. field prologue_stride fs i 4) 0 (count prologue_stride fs)) most_records (says 1)));
     };
   }

@@ -12,10 +12,10 @@ use Rattle.format.specs.X64.{or_no, first_no, slots}
 use Rattle.codes.proofs.Sizes.{slots_most}
 use Rattle.std.specs.Prelude.{Some, None}
 use Rattle.std.specs.Prelude as code
-use Rattle.format.specs.declared.Machine.{Machine}
+use Rattle.prologue.specs.declared.given.X64Machine.{X64Machine}
 use Rattle.prologue.specs.Pieces.{piece_of, moved_in, pieces_from}
-use Rattle.x64.specs.declared.Source.TheVariants.{Direct, Rows}
-use Rattle.x64.specs.declared.Span.{Span}
+use Rattle.x64.specs.declared.given.Source.TheVariants.{Direct, Rows}
+use Rattle.x64.specs.declared.given.Span.{Span}
 use Rattle.x64.specs.Sources.{piece_at, moved_at, codes_from}
 
 -- the codes of a function
@@ -25,7 +25,7 @@ module _ (list : List ℕ) (p : Span) where
   direct_codes sofar i zero = refl
   direct_codes sofar i (suc n) = rw (direct_codes sofar (suc i) n)
 
-  pub rows_codes : (m : Machine) (sofar : ℤ) (i n : ℕ) → pieces_from m p.below sofar list p.first i p.past n ≡ codes_from (Rows m) list p sofar i n
+  pub rows_codes : (m : X64Machine) (sofar : ℤ) (i n : ℕ) → pieces_from m.machine.now p.below sofar list p.first i p.past n ≡ codes_from (Rows m) list p sofar i n
   unfolding pieces_from codes_from piece_at moved_at
   rows_codes m sofar i zero = refl
   rows_codes m sofar i (suc n) = rw (rows_codes m (moved_in sofar list i) (suc i) n)

@@ -2,6 +2,8 @@
 pub mod Stored
 pub mod Walks
 pub mod Leaves
+pub mod Held
+pub mod Lent
 pub mod Asked
 pub mod Infos
 pub mod Spans

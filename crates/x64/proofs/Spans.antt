@@ -8,17 +8,17 @@ use lib.IntN.{pos}
 use Rattle.format.specs.Prelude.{good, bad, onward}
 use Rattle.format.specs.Lists.{Function, field, function_stride, prologue_stride, function_at, prologue_at}
 use Rattle.format.specs.X64.{codes_of, end_of, prologue_of, prologue_no, info_bytes}
-use Rattle.prologue.specs.Pieces.{Says, Shaped, pieces_of}
-use Rattle.prologue.proofs.Rows.{ready}
+use Rattle.prologue.specs.Pieces.{Ready, Says, Shaped, pieces_of}
 use Rattle.codes.specs.Codes.{yes_or_no}
 use Rattle.std.specs.Prelude.{Ok, Err, IsOk}
 use Rattle.std.specs.Prelude as code
-use Rattle.format.specs.declared.Machine.{Machine}
-use Rattle.x64.specs.declared.Source.TheVariants.{Direct, Rows}
-use Rattle.x64.specs.declared.Source.{Source}
-use Rattle.x64.specs.declared.Span.{Span}
-use Rattle.x64.specs.Sources.{pushed_by, codes_in, HeldBy, Readable, meant_by, result_at, direct_span, RowsSpan, RowsFound, stride_of, FoundAt, Found, ListedAt, Askable, rows_no, codes_no, or_none, found_at}
-use Rattle.format.proofs.Fits.{MachineFits}
+use Rattle.prologue.specs.declared.given.X64Machine.{X64Machine}
+use Rattle.x64.specs.declared.given.Source.TheVariants.{Direct, Rows}
+use Rattle.x64.specs.declared.given.Source.{Source}
+use Rattle.x64.specs.declared.given.Span.{Span}
+use Rattle.x64.specs.Listed.{HeldBy, stride_of, ListedAt, Askable}
+use Rattle.x64.specs.Sources.{pushed_by, codes_in, meant_by, meant, result_at, DirectSpan, RowsSpan, RowsFound, FoundAt, Found, rows_no, codes_no, or_none, found_at}
+use Rattle.x64.specs.Given.{codes_by, info_by}
 use Rattle.header_keys.specs.Functions.{RowsReady}
 use Rattle.format.specs.Lists.{most_records, count, code_stride}
 use lib.ListN.{length}
@@ -31,62 +31,53 @@ stride_most (Rows m) = omega arith
 
 -- ---- direct codes
 
+pub direct_askable : {s : Source} {fs list : List ℕ} {k : ℕ} → s ≡ Direct → Askable s fs list k → Askable Direct fs list k
+direct_askable e a = rw e at a
+
+pub direct_held : {s : Source} (list : List ℕ) (first past : ℕ) → s ≡ Direct → 5 * past ≤ length list → HeldBy s list first past
+unfolding HeldBy
+direct_held list first past e h = rw e h
+
 module _ {fs list : List ℕ} {k : ℕ} (a : Askable Direct fs list k) where
-  direct_readable : Readable Direct list (direct_span fs k)
-  unfolding HeldBy ListedAt
-  direct_readable = record {
-    order = omega arith;
-    few = omega (arith, a.records.1);
-    pushed = a.pushed;
-    held = omega (arith, a.records.0);
-    below = omega arith;
-  }
-
-  direct_said : result_at Direct fs list k ≡ good (meant_by Direct list (direct_span fs k))
-  unfolding result_at prologue_at pushed_by
-  direct_said =
-      let f : ℕ → ℕ = λ j. field prologue_stride fs k j in
-      let e : f 3 + f 4 - f 3 ≡ f 4 = omega arith in
-      rw (e, direct_codes list (direct_span fs k) (pos 0) (f 3) (f 4))
-
-  pub direct_found : FoundAt Direct fs list k (direct_span fs k)
-  direct_found = record { readable = direct_readable; said = direct_said }
-
-  pub direct_bounds : (5 * k + 5 ≤ length fs) × (field prologue_stride fs k 3 + field prologue_stride fs k 4 ≤ count code_stride list)
+  pub direct_bounds : (5 * k + 5 ≤ length fs) × (field prologue_stride fs k 3 + field prologue_stride fs k 4 ≤ count code_stride list) × (field prologue_stride fs k 4 ≤ most_records)
   unfolding stride_of ListedAt
-  direct_bounds = (a.within, a.records.0)
+  direct_bounds = (a.within, a.records.0, a.records.1)
+
+pub direct_found : {fs list : List ℕ} {k : ℕ} {p : Span} → DirectSpan fs list k p → FoundAt Direct fs list k p
+unfolding result_at prologue_at pushed_by
+direct_found {fs} {list} {k} {p} h =
+    let f : ℕ → ℕ = λ j. field prologue_stride fs k j in
+    let e : f 3 + f 4 - f 3 ≡ f 4 = omega arith in
+    record { said = simp (h.source, h.given, h.symbol, h.size, h.end, h.first, h.past, e, direct_codes list p (pos 0) (f 3) (f 4)) }
 
 -- ---- rows
 
-module _ {m : Machine} {fs list : List ℕ} {k : ℕ} (a : Askable (Rows m) fs list k) where
+pub rows_askable : {s : Source} {m : X64Machine} {fs list : List ℕ} {k : ℕ} → s ≡ Rows m → Askable s fs list k → Askable (Rows m) fs list k
+rows_askable e a = rw e at a
+
+pub rows_held : {s : Source} {m : X64Machine} (list : List ℕ) (first past : ℕ) → s ≡ Rows m → Ready list first past → HeldBy s list first past
+unfolding HeldBy
+rows_held list first past e h = rw e h
+
+module _ (m : X64Machine) (fs list : List ℕ) (k : ℕ) where
   f : Function
   f = function_at fs list [] [] k
 
-  pub rows_refused : {n : ℕ} → Shaped m list (field function_stride fs k 2) (field function_stride fs k 3) (Err n) → result_at (Rows m) fs list k ≡ bad n
+  rows_refused : {n : ℕ} → Shaped m.machine.now list (field function_stride fs k 2) (field function_stride fs k 3) (Err n) → result_at (Rows m) fs list k ≡ bad n
   unfolding result_at function_at onward
   rows_refused h = rw (h (function_at fs list [] [] k) refl)
 
   module _ {p : Span} (h : RowsSpan m fs list k p) where
-    rows_pieces : pieces_of m list p.first (record { below = p.below; end = p.past }) ≡ codes_in (Rows m) list p
+    rows_pieces : pieces_of m.machine.now list p.first (record { below = p.below; end = p.past }) ≡ codes_in (Rows m) list p
     unfolding pushed_by
-    rows_pieces = rows_codes list p m (pos m.pushed) p.first (p.past - p.first)
+    rows_pieces = rows_codes list p m (pos m.machine.now.pushed) p.first (p.past - p.first)
 
-    says : Says m list p.first (field function_stride fs k 3) (record { below = p.below; end = p.past })
+    says : Says m.machine.now list p.first (field function_stride fs k 3) (record { below = p.below; end = p.past })
     says = rw h.first h.says
 
-    rows_are : codes_of m f ≡ good (codes_in (Rows m) list p)
+    rows_are : codes_of m.machine.now f ≡ good (codes_in (Rows m) list p)
     unfolding f function_at
     rows_are = rw (← rows_pieces) (says.codes f (rw h.first))
-
-    rows_readable : Readable (Rows m) list p
-    unfolding HeldBy ListedAt
-    rows_readable = record {
-      order = says.low;
-      few = omega (arith, says.high, a.records.4, h.first);
-      pushed = a.pushed;
-      held = (a.records.2, ready list p.first (field function_stride fs k 3) p.past (rw h.first a.records.3) says.high);
-      below = says.short;
-    }
 
     ends : end_of 0 (codes_in (Rows m) list p) ≡ p.end
     ends = rw (← rows_pieces) (says.last ∙ sym h.end)
@@ -95,21 +86,18 @@ module _ {m : Machine} {fs list : List ℕ} {k : ℕ} (a : Askable (Rows m) fs l
     unfolding f function_at prologue_of
     means = rw (ends, h.symbol, h.size)
 
-    rows_said : result_at (Rows m) fs list k ≡ good (meant_by (Rows m) list p)
+    rows_found : FoundAt (Rows m) fs list k p
     unfolding result_at onward f
-    rows_said = rw rows_are (ap good means)
-
-    pub rows_found : FoundAt (Rows m) fs list k p
-    rows_found = record { readable = rows_readable; said = rows_said }
-
-  pub rows_bounds : (18 * k + 18 ≤ length fs) × MachineFits m × (m.word ≡ 8) × (length m.map ≡ 64)
-      × RowsReady list (field function_stride fs k 2) (field function_stride fs k 3) × (field function_stride fs k 3 ≤ most_records)
-  unfolding stride_of ListedAt
-  rows_bounds = (a.within, a.records.0, a.records.1, a.records.2, a.records.3, a.records.4)
+    rows_found = record { said = rw rows_are (simp (h.source, h.given) (ap good means)) }
 
   pub found_rows : (r : code.Result Span ℕ) → RowsFound m fs list k r → Found (Rows m) fs list k r
   found_rows (Ok p) h = rows_found h
   found_rows (Err n) h = rows_refused h
+
+module _ {m : X64Machine} {fs list : List ℕ} {k : ℕ} (a : Askable (Rows m) fs list k) where
+  pub rows_bounds : (18 * k + 18 ≤ length fs) × RowsReady list (field function_stride fs k 2) (field function_stride fs k 3) × (field function_stride fs k 3 ≤ most_records)
+  unfolding stride_of ListedAt
+  rows_bounds = (a.within, a.records.0, a.records.1)
 
 -- ---- what a function's answers say
 
@@ -132,17 +120,17 @@ module _ {s : Source} {fs list : List ℕ} {k : ℕ} {p : Span} (h : FoundAt s f
   unfolding rows_no yes_or_no
   rows_yes = rw h.said
 
-  pub codes_are : codes_no (result_at s fs list k) ≡ prologue_no p.end (codes_in s list p)
+  pub codes_are : codes_no (result_at s fs list k) ≡ prologue_no p.end (codes_by p)
   unfolding codes_no
   codes_are = rw h.said
 
-  found_is : found_at s fs list k ≡ meant_by s list p
+  found_is : found_at s fs list k ≡ meant p
   unfolding or_none
   found_is = rw h.said
 
-  pub info_is : info_bytes p.end (codes_in s list p) ≡ info_bytes (found_at s fs list k).end (found_at s fs list k).codes
+  pub info_is : info_by p ≡ info_bytes (found_at s fs list k).end (found_at s fs list k).codes
   info_is = rw found_is
 
   -- every question is answered by yes
-  pub codes_yes : codes_no (result_at s fs list k) ≡ none → prologue_no p.end (codes_in s list p) ≡ none
+  pub codes_yes : codes_no (result_at s fs list k) ≡ none → prologue_no p.end (codes_by p) ≡ none
   codes_yes y = sym codes_are ∙ y

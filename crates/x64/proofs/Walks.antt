@@ -1,6 +1,6 @@
 -- Loops over a function's records: what is known of the codes that are left. A record yields a code or none.
 use mathlib.Core.Path.{◌≡◌, refl, sym, ap, ◌∙◌}
-use Prim.Native.Nat.{ℕ, suc, ◌+◌, ◌-◌, ◌*◌, ◌/◌, ◌≤◌, ◌<◌}
+use Prim.Native.Nat.{ℕ, suc, ◌+◌, ◌-◌, ◌*◌, ◌/◌, ◌^◌, ◌≤◌, ◌<◌}
 use native.Mathlib.Omega.{arith}
 use native.Mathlib.Numerals.{add-one}
 use mathlib.Core.Option.{Option, none, some}
@@ -23,18 +23,24 @@ use Rattle.std.specs.Result.{result_and}
 use Rattle.codes.proofs.Sizes.{reversed-length}
 use Rattle.prologue.specs.Pieces.{Short}
 use Rattle.prologue.proofs.Distances.{short_passed}
-use Rattle.x64.specs.declared.Source.{Source}
-use Rattle.x64.specs.declared.Span.{Span}
+use Rattle.x64.specs.declared.given.Source.{Source}
+use Rattle.x64.specs.declared.given.Source.TheVariants.{Direct, Rows}
+use Rattle.x64.specs.declared.given.Span.{Span}
 use Rattle.x64.specs.declared.Summary.{Summary}
 use Rattle.x64.specs.Answers.{summed, summary_of}
 use Rattle.x64.proofs.Leaves.{no_of_one}
-use Rattle.x64.specs.Sources.{pushed_by, piece_at, moved_at, codes_from, codes_in, Readable}
+use Rattle.x64.specs.Sources.{pushed_by, piece_at, moved_at, codes_from, codes_in}
 
 -- what is known of a record's codes and those behind it
 pub record Front {A : Type 0} (P : List A → Type 0) (ps rest : List A) : Type 0 where
   pub whole : P (ps ++ rest)
 
 -- ---- the records from i on
+
+pub pushed_small : (s : Source) → pushed_by s < 2 ^ 31
+unfolding pushed_by
+pushed_small Direct = omega arith
+pushed_small (Rows m) = m.pushed
 
 pub record Going (P : List (ℕ × Seh) → Type 0) (s : Source) (list : List ℕ) (p : Span) (sofar : ℤ) (i : ℕ) : Type 0 where
   pub low : p.first ≤ i
@@ -43,10 +49,10 @@ pub record Going (P : List (ℕ × Seh) → Type 0) (s : Source) (list : List �
   pub here : P (codes_from s list p sofar i (p.past - i))
 
 module _ {s : Source} {list : List ℕ} {p : Span} where
-  pub start : {P : List (ℕ × Seh) → Type 0} {z : ℤ} → Readable s list p → z ≡ pos (pushed_by s) → P (codes_in s list p) → Going P s list p (to_z w64 (of_z w64 z)) p.first
-  start {P} {z} r e h =
-      let k : Short z = rw e r.pushed in
-      rw (short_passed z k) (record { low = omega arith; high = r.order; short = k; here = rw e h })
+  pub start : {P : List (ℕ × Seh) → Type 0} {z : ℤ} → z ≡ pos (pushed_by s) → P (codes_in s list p) → Going P s list p (to_z w64 (of_z w64 z)) p.first
+  start {P} {z} e h =
+      let k : Short z = rw e (pushed_small s) in
+      rw (short_passed z k) (record { low = omega arith; high = p.order; short = k; here = rw e h })
 
   module _ {P : List (ℕ × Seh) → Type 0} {sofar : ℤ} {i : ℕ} (g : Going P s list p sofar i) where
     module _ {ps : List (ℕ × Seh)} (h : i < p.past) (e : ps ≡ piece_at s list p sofar i) where

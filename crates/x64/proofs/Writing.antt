@@ -17,11 +17,12 @@ use Rattle.format.specs.Questions.{Question, Room, accepted, and_then, room_asks
 use Rattle.format.specs.Answers.{outcome_of, afterwards, relocation_numbers, Writes}
 use Rattle.format.proofs.Asked.{question_of, said_yes}
 use Rattle.format.proofs.ListLaws.{each-length}
-use Rattle.x64.specs.declared.Source.{Source}
-use Rattle.x64.specs.declared.Source.TheVariants.{Direct, Rows}
+use Rattle.x64.specs.declared.given.Source.{Source}
+use Rattle.x64.specs.declared.given.Source.TheVariants.{Direct, Rows}
 use Rattle.lists.specs.Room.{room_for}
 use Rattle.x64.specs.Answers.{named_at, ask_each, infos_of}
-use Rattle.x64.specs.Sources.{result_at, stride_of, Listed, Writable, codes_no, length_at, rows_at, codes_at, or_none, found_at, asks_of, table_of}
+use Rattle.x64.specs.Listed.{stride_of, Listed}
+use Rattle.x64.specs.Sources.{result_at, Agreed, codes_no, length_at, rows_at, codes_at, or_none, found_at, asks_of, table_of}
 use Rattle.x64.proofs.Asked.{each_yes}
 use Rattle.x64.proofs.Results.{markers_length}
 
@@ -33,12 +34,10 @@ last_of none none c e = e
 last_of none (some x) c e = let w : ◌≡◌ {A = ℕ} 0 1 = cc in absurd (omega arith)
 last_of (some x) b c e = let w : ◌≡◌ {A = ℕ} 0 1 = cc in absurd (omega arith)
 
-pub writable : {s : Source} {fs list : List ℕ} {n : ℕ} → Listed s fs list n → question_of (asks_of s fs list n) ≡ Ok tt → Writable s fs list n
+pub agreed : (s : Source) (fs list : List ℕ) (n : ℕ) → question_of (asks_of s fs list n) ≡ Ok tt → Agreed s fs list n
 unfolding asks_of
-writable {s} {fs} {list} {n} l e = record {
-  listed = l;
-  agreed = each_yes (codes_at s fs list) n (last_of (ask_each (length_at s fs) 0 n) (ask_each (rows_at s fs list) 0 n) (ask_each (codes_at s fs list) 0 n) (said_yes (asks_of s fs list n) e));
-}
+agreed s fs list n e =
+    each_yes (codes_at s fs list) n (last_of (ask_each (length_at s fs) 0 n) (ask_each (rows_at s fs list) 0 n) (ask_each (codes_at s fs list) 0 n) (said_yes (asks_of s fs list n) e))
 
 -- ---- counts
 
@@ -99,7 +98,7 @@ named_as : (s : Source) (fs list : List ℕ) (k : ℕ) → codes_no (result_at s
     → ((found_at s fs list k).symbol ≡ field (stride_of s) fs k 0) × ((found_at s fs list k).size ≡ field (stride_of s) fs k 1)
 unfolding result_at stride_of or_none prologue_at function_at
 named_as Direct fs list k e = (refl, refl)
-named_as (Rows m) fs list k e = by_codes (function_at fs list [] [] k) (codes_of m (function_at fs list [] [] k)) e
+named_as (Rows m) fs list k e = by_codes (function_at fs list [] [] k) (codes_of m.machine.now (function_at fs list [] [] k)) e
 
 runtime_same : (f g : ℕ → Prologue) (at k n : ℕ) → ((j : ℕ) → j < k + n → ((f j).symbol ≡ (g j).symbol) × ((f j).size ≡ (g j).size))
     → runtime_from at (each f k n) ≡ runtime_from at (each g k n)
@@ -108,14 +107,11 @@ runtime_same f g at k zero h = refl
 runtime_same f g at k (suc n) h =
     rw ((h k (omega arith)).0, (h k (omega arith)).1, runtime_same f g (at + 12) (suc k) n (λ j l. h j (omega arith)))
 
-module _ {s : Source} {fs list : List ℕ} {n : ℕ} (a : Writable s fs list n) where
+module _ {s : Source} {fs list : List ℕ} {n : ℕ} (l : Listed s fs list n) (a : Agreed s fs list n) where
   relocations_are : numbers_of (runtime_from 0 (each (named_at (stride_of s) fs) 0 n)) ≡ relocation_numbers (table_of s fs list n)
   unfolding relocation_numbers x64
   relocations_are =
-      ap numbers_of (sym (runtime_same (found_at s fs list) (named_at (stride_of s) fs) 0 0 n (λ j l. named_as s fs list j (a.agreed j (omega arith)))))
-
-  pub symbols_small : (k : ℕ) → k < n → field (stride_of s) fs k 0 < 4294967296
-  symbols_small k h = (a.listed.each_one k h).symbol
+      ap numbers_of (sym (runtime_same (found_at s fs list) (named_at (stride_of s) fs) 0 0 n (λ j h. named_as s fs list j (a j (omega arith)))))
 
   -- everything is stored
   pub all_stored : {places places' bytes bytes' relocations relocations' sites sites' : List ℕ} {q r total : ℕ}

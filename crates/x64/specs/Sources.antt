@@ -1,28 +1,28 @@
 -- Where the codes of a function come from: direct codes, or the rows of its prologue.
-use Rattle.std.specs.Prelude.{◌≡◌, ℕ, zero, suc, ◌+◌, ◌-◌, ◌*◌, ◌^◌, ◌≤◌, ◌<◌, List, [], ◌∷◌, ◌++◌, length, ltb, Ok, Err, ℤ, pos}
+use Rattle.std.specs.Prelude.{◌≡◌, ℕ, zero, suc, ◌+◌, ◌-◌, ◌^◌, ◌<◌, List, [], ◌∷◌, ◌++◌, ltb, Ok, Err, ℤ, pos}
 use Rattle.std.specs.Prelude as code
 use Rattle.std.proofs.Math.Option.{Option, none, some}
 use Rattle.format.specs.Prelude.{pick, Result, good, bad, onward, each}
 use Rattle.format.specs.declared.Machine.{Machine}
 use Rattle.format.specs.declared.Seh.{Seh}
-use Rattle.format.specs.Lists.{Function, Prologue, field, function_stride, prologue_stride, code_stride, count, most_records, most_functions, code_at, function_at, prologue_at}
+use Rattle.format.specs.Lists.{Function, Prologue, field, function_stride, prologue_stride, code_at, function_at, prologue_at}
 use Rattle.format.specs.X64.{codes_of, prologue_of, prologue_no, x64}
 use Rattle.format.specs.Questions.{Question, and_then}
 use Rattle.format.specs.Writer.{Written}
-use Rattle.format.proofs.Fits.{MachineFits}
-use Rattle.header_keys.specs.Functions.{RowsReady}
-use Rattle.prologue.specs.Pieces.{Short, Ready, piece_in, moved_in, end_in, Says, Shaped}
+use Rattle.prologue.specs.declared.given.X64Machine.{X64Machine}
+use Rattle.prologue.specs.Pieces.{piece_in, moved_in, end_in, Says, Shaped}
 use Rattle.x64.specs.Answers.{ask_each}
-use Rattle.x64.specs.declared.Source.{Source}
-use Rattle.x64.specs.declared.Source.TheVariants.{Direct, Rows}
-use Rattle.x64.specs.declared.Span.{Span}
+use Rattle.x64.specs.Listed.{stride_of}
+use Rattle.x64.specs.declared.given.Source.{Source}
+use Rattle.x64.specs.declared.given.Source.TheVariants.{Direct, Rows}
+use Rattle.x64.specs.declared.given.Span.{Span}
 
 -- ---- a function's codes
 
 -- record i of those of a function, with the distance `sofar` in front of it: a code at its offset, or none
 unfoldable pub piece_at : Source → (list : List ℕ) → Span → (sofar : ℤ) → ℕ → List (ℕ × Seh)
 piece_at Direct list p sofar i = code_at list i ∷ []
-piece_at (Rows m) list p sofar i = piece_in m p.below sofar list p.first i p.past
+piece_at (Rows m) list p sofar i = piece_in m.machine.now p.below sofar list p.first i p.past
 
 -- the distance behind it
 unfoldable pub moved_at : Source → (list : List ℕ) → (sofar : ℤ) → ℕ → ℤ
@@ -32,7 +32,7 @@ moved_at (Rows m) list sofar i = moved_in sofar list i
 -- the distance in front of the first; direct codes pass none on
 unfoldable pub pushed_by : Source → ℕ
 pushed_by Direct = 0
-pushed_by (Rows m) = m.pushed
+pushed_by (Rows m) = m.machine.now.pushed
 
 -- n records from i on
 unfoldable pub codes_from : Source → (list : List ℕ) → Span → (sofar : ℤ) → (i n : ℕ) → List (ℕ × Seh)
@@ -43,24 +43,14 @@ codes_from s list p sofar i (suc n) = piece_at s list p sofar i ++ codes_from s 
 abbrev pub codes_in : Source → (list : List ℕ) → Span → List (ℕ × Seh)
 codes_in s list p = codes_from s list p (pos (pushed_by s)) p.first (p.past - p.first)
 
--- the records of a function are there
-unfoldable pub HeldBy : Source → (list : List ℕ) → Span → Type 0
-HeldBy Direct list p = 5 * p.past ≤ length list
-HeldBy (Rows m) list p = (length m.map ≡ 64) × Ready list p.first p.past
-
--- and can be read
-pub record Readable (s : Source) (list : List ℕ) (p : Span) : Type 0 where
-  pub order : p.first ≤ p.past
-  pub few : p.past ≤ p.first + most_records
-  pub pushed : pushed_by s < 2 ^ 31
-  pub held : HeldBy s list p
-  pub below : Short p.below
-
 -- ---- a function
 
 -- the function that a span means
 abbrev pub meant_by : Source → (list : List ℕ) → Span → Prologue
 meant_by s list p = record { symbol = p.symbol; size = p.length; end = p.end; codes = codes_in s list p }
+
+abbrev pub meant : Span → Prologue
+meant p = meant_by p.source p.list.now p
 
 -- a function's prologue by its rows, or the number of a no
 abbrev pub by_rows : Machine → Function → Result Prologue
@@ -69,58 +59,39 @@ by_rows m f = onward (codes_of m f) λ cs. good (prologue_of f cs)
 -- function k's prologue
 unfoldable pub result_at : Source → (fs list : List ℕ) → ℕ → Result Prologue
 result_at Direct fs list k = good (prologue_at fs list k)
-result_at (Rows m) fs list k = by_rows m (function_at fs list [] [] k)
+result_at (Rows m) fs list k = by_rows m.machine.now (function_at fs list [] [] k)
 
 -- function k of direct codes
-abbrev pub direct_span : (fs : List ℕ) → ℕ → Span
-direct_span fs k =
-    let f : ℕ → ℕ = λ j. field prologue_stride fs k j in
-    record { symbol = f 0; length = f 1; end = f 2; first = f 3; past = f 3 + f 4; below = pos 0 }
+pub record DirectSpan (fs list : List ℕ) (k : ℕ) (p : Span) : Type 0 where
+  pub source : p.source ≡ Direct
+  pub given : p.list.now ≡ list
+  pub symbol : p.symbol ≡ field prologue_stride fs k 0
+  pub size : p.length ≡ field prologue_stride fs k 1
+  pub end : p.end ≡ field prologue_stride fs k 2
+  pub first : p.first ≡ field prologue_stride fs k 3
+  pub past : p.past ≡ field prologue_stride fs k 3 + field prologue_stride fs k 4
 
 -- function k by its rows
-pub record RowsSpan (m : Machine) (fs rows : List ℕ) (k : ℕ) (p : Span) : Type 0 where
+pub record RowsSpan (m : X64Machine) (fs list : List ℕ) (k : ℕ) (p : Span) : Type 0 where
+  pub source : p.source ≡ Rows m
+  pub given : p.list.now ≡ list
   pub symbol : p.symbol ≡ field function_stride fs k 0
   pub size : p.length ≡ field function_stride fs k 1
   pub first : p.first ≡ field function_stride fs k 2
-  pub end : p.end ≡ end_in rows p.first p.past
-  pub says : Says m rows (field function_stride fs k 2) (field function_stride fs k 3) (record { below = p.below; end = p.past })
+  pub end : p.end ≡ end_in list p.first p.past
+  pub says : Says m.machine.now list (field function_stride fs k 2) (field function_stride fs k 3) (record { below = p.below; end = p.past })
 
-abbrev pub RowsFound : Machine → (fs rows : List ℕ) → ℕ → code.Result Span ℕ → Type 0
-RowsFound m fs rows k (Ok p) = RowsSpan m fs rows k p
-RowsFound m fs rows k (Err n) = Shaped m rows (field function_stride fs k 2) (field function_stride fs k 3) (Err n)
-
-unfoldable pub stride_of : Source → ℕ
-stride_of Direct = prologue_stride
-stride_of (Rows m) = function_stride
+abbrev pub RowsFound : X64Machine → (fs list : List ℕ) → ℕ → code.Result Span ℕ → Type 0
+RowsFound m fs list k (Ok p) = RowsSpan m fs list k p
+RowsFound m fs list k (Err n) = Shaped m.machine.now list (field function_stride fs k 2) (field function_stride fs k 3) (Err n)
 
 -- what is found for function k
 pub record FoundAt (s : Source) (fs list : List ℕ) (k : ℕ) (p : Span) : Type 0 where
-  pub readable : Readable s list p
-  pub said : result_at s fs list k ≡ good (meant_by s list p)
+  pub said : result_at s fs list k ≡ good (meant p)
 
 abbrev pub Found : Source → (fs list : List ℕ) → ℕ → code.Result Span ℕ → Type 0
 Found s fs list k (Ok p) = FoundAt s fs list k p
 Found s fs list k (Err n) = result_at s fs list k ≡ bad n
-
--- the records of function k of the lists are there
-unfoldable pub ListedAt : Source → (fs list : List ℕ) → ℕ → Type 0
-ListedAt Direct fs list k = (field prologue_stride fs k 3 + field prologue_stride fs k 4 ≤ count code_stride list) × (field prologue_stride fs k 4 ≤ most_records)
-ListedAt (Rows m) fs list k =
-    MachineFits m × (m.word ≡ 8) × (length m.map ≡ 64) × RowsReady list (field function_stride fs k 2) (field function_stride fs k 3)
-    × (field function_stride fs k 3 ≤ most_records)
-
--- function k of the lists can be read
-pub record Askable (s : Source) (fs list : List ℕ) (k : ℕ) : Type 0 where
-  pub within : stride_of s * k + stride_of s ≤ length fs
-  pub symbol : field (stride_of s) fs k 0 < 2 ^ 32
-  pub pushed : pushed_by s < 2 ^ 31
-  pub records : ListedAt s fs list k
-
--- and the first n
-pub record Listed (s : Source) (fs list : List ℕ) (n : ℕ) : Type 0 where
-  pub most : n ≤ most_functions
-  pub whole : stride_of s * n ≤ length fs
-  pub each_one : (k : ℕ) → k < n → Askable s fs list k
 
 -- ---- the questions of a function
 
@@ -146,9 +117,8 @@ abbrev pub found_at : Source → (fs list : List ℕ) → ℕ → Prologue
 found_at s fs list k = or_none (result_at s fs list k)
 
 -- every question of the first n functions is answered by yes
-pub record Writable (s : Source) (fs list : List ℕ) (n : ℕ) : Type 0 where
-  pub listed : Listed s fs list n
-  pub agreed : (k : ℕ) → k < n → codes_no (result_at s fs list k) ≡ none
+abbrev pub Agreed : Source → (fs list : List ℕ) → ℕ → Type 0
+Agreed s fs list n = (k : ℕ) → k < n → codes_no (result_at s fs list k) ≡ none
 
 -- all questions but those of the room, in three passes over the functions: the lengths, the rows, the codes
 abbrev pub length_at : Source → (fs : List ℕ) → ℕ → Option ℕ

@@ -1,97 +1,111 @@
 // Windows x64 unwind data, from direct codes and from rows. Ported from rucc-asm/src/unwind.rs (windows, seh, describe) of tamnd/rucc, changed: see NOTICE.
 #![tactic(auto)]
 
-ghost use Rattle.std.specs.Prelude.{◌≡◌, ℕ, ◌+◌, ◌*◌, ◌^◌, ◌≤◌, ◌<◌, pos, length};
+ghost use Rattle.std.specs.Prelude.{◌≡◌, ◌+◌, ◌*◌, ◌^◌, ◌≤◌, ◌<◌, pos, length};
 ghost use Rattle.std.proofs.Math.Option.{none};
 ghost use Rattle.format.specs.Prelude.{each};
 ghost use Rattle.format.specs.Put.{put};
 ghost use Rattle.format.proofs.Wrote.{Wrote};
-ghost use Rattle.format.specs.Lists.{field, numbers_of, function_stride, prologue_stride, most_functions, most_records};
+ghost use Rattle.format.specs.Lists.{field, numbers_of};
 ghost use Rattle.format.specs.Answers.{Writes};
 ghost use Rattle.format.proofs.Asked.{question_of};
-ghost use Rattle.format.specs.X64.{runtime_relocs, runtime_from, markers_from, code_no, first_no, slots, prologue_no, frame_byte, reversed, info_bytes};
+ghost use Rattle.format.specs.X64.{runtime_relocs, runtime_from, markers_from, code_no, first_no, slots, prologue_no, frame_byte, reversed};
 ghost use Rattle.format.specs.Questions.{accepted, unless, fitting, given_functions, windows_asks, windows_answer, seh, given_of, room_in};
 ghost use Rattle.format.specs.Machine.{machine_of};
-ghost use Rattle.format.proofs.Fits.{MachineFits};
-ghost use Rattle.header_keys.specs.Functions.{RowsReady};
 ghost use Rattle.codes.specs.Codes.{Holds, yes_or_no, frame_ask};
 ghost use Rattle.prologue.specs.Pieces.{Short, piece_of};
-ghost use Rattle.x64.specs.Sources.{pushed_by, Readable, piece_at, moved_at, codes_in, direct_span, RowsFound, Askable, Found, Listed, Writable, stride_of, result_at, long_no, rows_no, codes_no, found_at, asks_of, table_of};
-ghost use Rattle.x64.specs.Answers.{named, named_at, summed, summary_of, refused_at, infos_of};
+ghost use Rattle.x64.specs.declared.given.Source.TheVariants.{Direct, Rows};
+ghost use Rattle.x64.specs.Listed.{stride_of};
+ghost use Rattle.x64.specs.Sources.{pushed_by, DirectSpan, RowsFound, long_no, rows_no, codes_no};
+ghost use Rattle.x64.specs.Given.{IsRecord, piece_of_record, moved_past, codes_by, info_by, result_of, FoundIn, named_in, AllAgreed, functions_of, infos_in, asks_in, table_in};
+ghost use Rattle.x64.specs.Lent.{room_of, WritesTo};
+ghost use Rattle.x64.specs.Answers.{summed, summary_of, refused_at};
 
 use codes::{Code, code_no, frame_no, frame_or, head, nodes, nodes_size, put_nodes};
-use format::{Counts, Machine, Refusal, Seh};
+use format::{Counts, Refusal, Seh};
+use given::{Input, Output, Source, Span};
 use leb::fill;
 use lists::{
-    code_at, code_offset_at, codes_ok, extent_at, lists_ok, machine_of, machine_ok, prologue_at,
-    room, word_ok,
+    Lists, code_at, code_offset_at, codes_ok, extent_at, machine_of, machine_ok, prologue_at, room,
+    word_ok,
 };
-use prologue::{moved, piece_at, prologue, prologue_end};
+use prologue::given::{FunctionRows, X64Machine};
+use prologue::{moved, prologue_end};
 use relocs::{number, relocation};
+
+mod given;
+
+impl Source<'_> {
+    // How many numbers the record of a function has.
+    fn stride(&self) -> usize
+        ensures { result ≡ stride_of self.now }
+    {
+        match self {
+            Source::Direct => lists::PROLOGUE_STRIDE,
+            Source::Rows(_) => lists::FUNCTION_STRIDE,
+        }
+    }
+
+    // The distance in front of the first code or row.
+    fn start(&self) -> i64
+        ensures { result ≡ pos (pushed_by self.now) }
+    {
+        match self {
+            Source::Direct => 0,
+            Source::Rows(m) => m.machine.pushed as i64,
+        }
+    }
+}
+
+impl Input<'_, '_, '_> {
+    // Number j of function k's record.
+    // Kept: the stride is a function's or a prologue's, so no array type has the record; written out, each read owes its product and sum.
+    fn number_at(&self, k: usize, j: usize) -> u64
+        requires { (k < self.now.count) × (j < 2) }
+        ensures { result ≡ field (stride_of self.now.source) self.now.functions.now k j }
+    {
+        self.functions[self.source.stride() * k + j]
+    }
+}
 
 // ---- RUNTIME_FUNCTION
 
-// The relocations of one function's row at `place`: its start, its end and its record.
-fn runtime(out: &mut [u64], at: usize, place: u64, symbol: u64, size: u64) -> usize
-    requires { (at + 15 ≤ length out.old) × (place < 2 ^ 32) × (symbol < 2 ^ 32) }
-    ensures { Wrote out.old out.new at result (numbers_of (runtime_relocs place (named symbol size))) }
-{
-    let a = relocation(out, at, place, symbol, relocs::IMAGE, 4, 0);
-    let b = relocation(out, a, place + 4, symbol, relocs::IMAGE, 4, size);
-    relocation(
-        out,
-        b,
-        place + 8,
-        relocs::MARKER + symbol,
-        relocs::IMAGE,
-        4,
-        0,
-    )
-}
-
-// Number j of record k, whose stride is `stride`.
-// Kept: the stride is a function's or a prologue's, so no array type has the record; written out, each read owes its product and sum.
-fn number_at(xs: &[u64], stride: usize, k: usize, j: usize) -> u64
-    requires { stride * k + j < length xs.now }
-    ensures { result ≡ field stride xs.now k j }
-{
-    xs[stride * k + j]
-}
-
-// The relocations of n functions, whose records have `stride` numbers.
-fn put_runtime(out: &mut [u64], fs: &[u64], stride: usize, n: usize) -> usize
-    requires { (1 < stride) × (stride * n ≤ length fs.now) × (n ≤ most_functions) × (15 * n ≤ length out.old) × ((k : ℕ) → k < n → field stride fs.now k 0 < 2 ^ 32) }
-    ensures { Wrote out.old out.new 0 result (numbers_of (runtime_from 0 (each (named_at stride fs.now) 0 n))) }
-{
-    let mut to = 0;
-    for k in 0..n {
-        let symbol = number_at(fs, stride, k, 0);
-        let size = number_at(fs, stride, k, 1);
-        to = runtime(out, to, (12 * k) as u64, symbol, size);
+impl Input<'_, '_, '_> {
+    // The relocations of function k's row: its start, its end and its record.
+    fn runtime(&self, k: usize, out: &mut [u64], at: usize) -> usize
+        requires { (k < self.now.count) × (at + 15 ≤ length out.old) }
+        ensures { Wrote out.old out.new at result (numbers_of (runtime_relocs (12 * k) (named_in self.now k))) }
+    {
+        let place = (12 * k) as u64;
+        let symbol = self.number_at(k, 0);
+        let size = self.number_at(k, 1);
+        let a = relocation(out, at, place, symbol, relocs::IMAGE, 4, 0);
+        let b = relocation(out, a, place + 4, symbol, relocs::IMAGE, 4, size);
+        relocation(
+            out,
+            b,
+            place + 8,
+            relocs::MARKER + symbol,
+            relocs::IMAGE,
+            4,
+            0,
+        )
     }
-    to
+
+    // The relocations of all functions.
+    fn put_runtime(&self, out: &mut [u64]) -> usize
+        requires { 15 * self.now.count ≤ length out.old }
+        ensures { Wrote out.old out.new 0 result (numbers_of (runtime_from 0 (each (named_in self.now) 0 self.now.count))) }
+    {
+        let mut to = 0;
+        for k in 0..self.count {
+            to = self.runtime(k, out, to);
+        }
+        to
+    }
 }
 
 // ---- codes
-
-// Direct codes, or the rows of functions for a machine.
-#[derive(Clone, Copy)]
-enum Source {
-    Direct,
-    Rows(Machine),
-}
-
-// A function: its symbol and its length, where its prologue ends, its codes or the rows of its prologue, from `first` to `past`, and
-// the distance of the frame address behind them.
-#[derive(Clone, Copy)]
-struct Span {
-    symbol: u64,
-    length: u64,
-    end: u64,
-    first: usize,
-    past: usize,
-    below: i64,
-}
 
 // What some codes say: 34 to 39, how many slots of two bytes they have, and 41.
 #[derive(Clone, Copy)]
@@ -101,35 +115,34 @@ struct Summary {
     frames: Result<(), u64>,
 }
 
-// What record i of a function yields, with the distance `sofar` in front of it: a code at its offset, or none.
-fn piece_in(s: Source, list: &[u64], p: Span, sofar: i64, i: usize) -> Option<(u64, Seh)>
-    requires { Readable s list.now p × (p.first ≤ i) × (i < p.past) × Short sofar }
-    ensures { piece_of result ≡ piece_at s list.now p sofar i }
-{
-    match s {
-        Source::Direct => Some((code_offset_at(list, i), code_at(list, i))),
-        Source::Rows(m) => piece_at(m, p.below, sofar, list, p.first, i, p.past),
+impl Span<'_, '_> {
+    // What record i yields, with the distance `sofar` in front of it: a code at its offset, or none.
+    fn piece_in(&self, sofar: i64, i: usize) -> Option<(u64, Seh)>
+        requires { IsRecord self.now i × Short sofar }
+        ensures { piece_of result ≡ piece_of_record self.now sofar i }
+    {
+        match self.source {
+            Source::Direct => Some((code_offset_at(self.list, i), code_at(self.list, i))),
+            Source::Rows(machine) => {
+                let rows = FunctionRows {
+                    list: self.list,
+                    at: self.first,
+                    end: self.past,
+                };
+                rows.piece_at(&machine.registers(), i, self.below, sofar)
+            }
+        }
     }
-}
 
-// The distance in front of the first record, and behind record i.
-fn start(s: Source) -> i64
-    requires { pushed_by s < 2 ^ 31 }
-    ensures { result ≡ pos (pushed_by s) }
-{
-    match s {
-        Source::Direct => 0,
-        Source::Rows(m) => m.pushed as i64,
-    }
-}
-
-fn moved_in(s: Source, list: &[u64], p: Span, sofar: i64, i: usize) -> i64
-    requires { Readable s list.now p × (p.first ≤ i) × (i < p.past) × Short sofar }
-    ensures { (result ≡ moved_at s list.now sofar i) × Short result }
-{
-    match s {
-        Source::Direct => sofar,
-        Source::Rows(_) => moved(sofar, list, i),
+    // The distance behind record i.
+    fn moved_in(&self, sofar: i64, i: usize) -> i64
+        requires { IsRecord self.now i × Short sofar }
+        ensures { (result ≡ moved_past self.now sofar i) × Short result }
+    {
+        match self.source {
+            Source::Direct => sofar,
+            Source::Rows(_) => moved(sofar, self.list, i),
+        }
     }
 }
 
@@ -175,149 +188,153 @@ fn piece_nodes(c: Option<(u64, Seh)>) -> Code
 
 // ---- the codes of a function
 
-// Kept: the three loops over the codes stand apart. What each asks of a code holds only of the codes that are left, one of them stores,
-// and a fold's closure may be called with any: with that and the distance to pass on, the fold is longer than a loop.
-fn codes_summary(s: Source, list: &[u64], p: Span) -> Summary
-    requires { Readable s list.now p }
-    ensures { result ≡ summary_of (codes_in s list.now p) }
-{
-    let mut t = Summary {
-        codes: Ok(()),
-        slots: 0,
-        frames: Ok(()),
-    };
-    let mut sofar = start(s);
-    for i in p.first..p.past {
-        t = with_piece(t, piece_in(s, list, p, sofar, i));
-        sofar = moved_in(s, list, p, sofar, i);
+impl Span<'_, '_> {
+    // Kept: the three loops over the codes stand apart. What each asks of a code holds only of the codes that are left, one of them
+    // stores, and a fold's closure may be called with any: with that and the distance to pass on, the fold is longer than a loop.
+    fn codes_summary(&self) -> Summary
+        ensures { result ≡ summary_of (codes_by self.now) }
+    {
+        let mut t = Summary {
+            codes: Ok(()),
+            slots: 0,
+            frames: Ok(()),
+        };
+        let mut sofar = self.source.start();
+        for i in self.first..self.past {
+            t = with_piece(t, self.piece_in(sofar, i));
+            sofar = self.moved_in(sofar, i);
+        }
+        t
     }
-    t
-}
 
-// The header's byte of the frame register.
-fn frame_byte(s: Source, list: &[u64], p: Span) -> u8
-    requires { Readable s list.now p × (first_no code_no (codes_in s list.now p) ≡ none) × (first_no frame_ask (codes_in s list.now p) ≡ none) }
-    ensures { result ≡ frame_byte 0 (codes_in s list.now p) }
-{
-    let mut b = 0;
-    let mut sofar = start(s);
-    for i in p.first..p.past {
-        b = piece_frame(b, piece_in(s, list, p, sofar, i));
-        sofar = moved_in(s, list, p, sofar, i);
+    // The header's byte of the frame register.
+    fn frame_byte(&self) -> u8
+        requires { (first_no code_no (codes_by self.now) ≡ none) × (first_no frame_ask (codes_by self.now) ≡ none) }
+        ensures { result ≡ frame_byte 0 (codes_by self.now) }
+    {
+        let mut b = 0;
+        let mut sofar = self.source.start();
+        for i in self.first..self.past {
+            b = piece_frame(b, self.piece_in(sofar, i));
+            sofar = self.moved_in(sofar, i);
+        }
+        b
     }
-    b
-}
 
-// The codes in reverse: the first stands last, `held` slots up from `at`, and each other one before it.
-fn put_codes(out: &mut [u8], at: usize, held: usize, s: Source, list: &[u64], p: Span) -> usize
-    requires { Readable s list.now p × (first_no code_no (codes_in s list.now p) ≡ none) × (held ≡ slots (codes_in s list.now p)) × (at + 2 * held ≤ length out.old) }
-    ensures { Wrote out.old out.new at result (reversed (codes_in s list.now p)) }
-{
-    let mut to = at + 2 * held;
-    let mut sofar = start(s);
-    for i in p.first..p.past {
-        let c = piece_nodes(piece_in(s, list, p, sofar, i));
-        to -= c.count;
-        put_nodes(out, to, c);
-        sofar = moved_in(s, list, p, sofar, i);
+    // Kept: the list and the place stand apart here and in `describe`, as in leb.
+    // The codes in reverse: the first stands last, `held` slots up from `at`, and each other one before it.
+    fn put_codes(&self, out: &mut [u8], at: usize, held: usize) -> usize
+        requires { (first_no code_no (codes_by self.now) ≡ none) × (held ≡ slots (codes_by self.now)) × (at + 2 * held ≤ length out.old) }
+        ensures { Wrote out.old out.new at result (reversed (codes_by self.now)) }
+    {
+        let mut to = at + 2 * held;
+        let mut sofar = self.source.start();
+        for i in self.first..self.past {
+            let c = piece_nodes(self.piece_in(sofar, i));
+            to -= c.count;
+            put_nodes(out, to, c);
+            sofar = self.moved_in(sofar, i);
+        }
+        at + 2 * held
     }
-    at + 2 * held
-}
 
-// The questions of a function's codes: 34 to 39 of each, 35 of the prologue's end, 40, and 41 of each.
-fn prologue_no(s: Source, list: &[u64], p: Span) -> Result<(), u64>
-    requires { Readable s list.now p }
-    ensures { result ≡ yes_or_no (prologue_no p.end (codes_in s list.now p)) }
-{
-    let t = codes_summary(s, list, p);
-    t.codes?;
-    if 255 < p.end {
-        return Err(35);
+    // The questions of its codes: 34 to 39 of each, 35 of the prologue's end, 40, and 41 of each.
+    fn prologue_no(&self) -> Result<(), u64>
+        ensures { result ≡ yes_or_no (prologue_no self.now.end (codes_by self.now)) }
+    {
+        let t = self.codes_summary();
+        t.codes?;
+        if 255 < self.end {
+            return Err(35);
+        }
+        if 255 < t.slots {
+            return Err(40);
+        }
+        t.frames
     }
-    if 255 < t.slots {
-        return Err(40);
-    }
-    t.frames
 }
 
 // ---- UNWIND_INFO
 
-// How many bytes the record of a function's codes has.
-fn info_size(s: Source, list: &[u64], p: Span) -> usize
-    requires { Readable s list.now p × (prologue_no p.end (codes_in s list.now p) ≡ none) }
-    ensures { result ≡ length (info_bytes p.end (codes_in s list.now p)) }
-{
-    let t = codes_summary(s, list, p);
-    let held = t.slots;
-    4 + 2 * held + 2 * (held % 2)
-}
+impl Span<'_, '_> {
+    // How many bytes the record of its codes has.
+    fn info_size(&self) -> usize
+        requires { prologue_no self.now.end (codes_by self.now) ≡ none }
+        ensures { result ≡ length (info_by self.now) }
+    {
+        let t = self.codes_summary();
+        let held = t.slots;
+        4 + 2 * held + 2 * (held % 2)
+    }
 
-// The record of a function's codes.
-fn describe(out: &mut [u8], at: usize, s: Source, list: &[u64], p: Span) -> usize
-    requires { Readable s list.now p × (prologue_no p.end (codes_in s list.now p) ≡ none) × (at + length (info_bytes p.end (codes_in s list.now p)) ≤ length out.old) }
-    ensures { Wrote out.old out.new at result (info_bytes p.end (codes_in s list.now p)) }
-{
-    let t = codes_summary(s, list, p);
-    let held = t.slots;
-    let frame = frame_byte(s, list, p);
-    let a = head(out, at, p.end as u8, held as u8, frame);
-    let b = put_codes(out, a, held, s, list, p);
-    fill(out, b, 2 * (held % 2))
+    // The record of its codes.
+    fn describe(&self, out: &mut [u8], at: usize) -> usize
+        requires { (prologue_no self.now.end (codes_by self.now) ≡ none) × (at + length (info_by self.now) ≤ length out.old) }
+        ensures { Wrote out.old out.new at result (info_by self.now) }
+    {
+        let t = self.codes_summary();
+        let held = t.slots;
+        let frame = self.frame_byte();
+        let a = head(out, at, self.end as u8, held as u8, frame);
+        let b = self.put_codes(out, a, held);
+        fill(out, b, 2 * (held % 2))
+    }
 }
 
 // ---- functions
 
-// Function k of direct codes.
-fn direct_span(fs: &[u64], k: usize) -> Span
-    requires { (5 * k + 5 ≤ length fs.now) × (field prologue_stride fs.now k 3 + field prologue_stride fs.now k 4 < 2 ^ 64) }
-    ensures { result ≡ direct_span fs.now k }
-{
-    let p = prologue_at(fs, k);
-    Span {
-        symbol: p.symbol,
-        length: p.length,
-        end: p.end,
-        first: p.codes_at,
-        past: p.codes_at + p.codes,
-        below: 0,
+impl<'m, 'l> Input<'m, '_, 'l> {
+    // Function k of direct codes.
+    fn direct_span(&self, k: usize) -> Span<'m, 'l>
+        requires { (k < self.now.count) × (self.now.source ≡ Direct) }
+        ensures { DirectSpan self.now.functions.now self.now.list.now k result }
+    {
+        let p = prologue_at(self.functions, k);
+        Span {
+            source: self.source,
+            list: self.list,
+            symbol: p.symbol,
+            length: p.length,
+            end: p.end,
+            first: p.codes_at,
+            past: p.codes_at + p.codes,
+            below: 0,
+        }
     }
-}
 
-// Function k by its rows.
-fn rows_span(m: Machine, fs: &[u64], rows: &[u64], k: usize) -> Result<Span, u64>
-    requires { (18 * k + 18 ≤ length fs.now) × MachineFits m × (m.word ≡ 8) × (length m.map ≡ 64) × RowsReady rows.now (field function_stride fs.now k 2) (field function_stride fs.now k 3) × (field function_stride fs.now k 3 ≤ most_records) }
-    ensures { RowsFound m fs.now rows.now k result }
-{
-    let e = extent_at(fs, k);
-    let r = prologue(m, rows, e.rows_at, e.rows)?;
-    Ok(Span {
-        symbol: e.symbol,
-        length: e.length,
-        end: prologue_end(rows, e.rows_at, r.end),
-        first: e.rows_at,
-        past: r.end,
-        below: r.below,
-    })
-}
-
-// Function k, or the question that its rows do not answer by yes.
-fn span_at(s: Source, fs: &[u64], list: &[u64], k: usize) -> Result<Span, u64>
-    requires { Askable s fs.now list.now k }
-    ensures { Found s fs.now list.now k result }
-{
-    match s {
-        Source::Direct => Ok(direct_span(fs, k)),
-        Source::Rows(m) => rows_span(m, fs, list, k),
+    // Function k by its rows, for that machine.
+    fn rows_span(&self, machine: X64Machine<'m>, k: usize) -> Result<Span<'m, 'l>, u64>
+        requires { (k < self.now.count) × (self.now.source ≡ Rows machine) }
+        ensures { RowsFound machine.entry self.now.functions.now self.now.list.now k result }
+    {
+        let e = extent_at(self.functions, k);
+        let rows = FunctionRows {
+            list: self.list,
+            at: e.rows_at,
+            end: e.rows_at + e.rows,
+        };
+        let r = rows.prologue(&machine)?;
+        Ok(Span {
+            source: self.source,
+            list: self.list,
+            symbol: e.symbol,
+            length: e.length,
+            end: prologue_end(self.list, e.rows_at, r.end),
+            first: e.rows_at,
+            past: r.end,
+            below: r.below,
+        })
     }
-}
 
-// How many numbers the record of a function has.
-fn stride(s: Source) -> usize
-    ensures { result ≡ stride_of s }
-{
-    match s {
-        Source::Direct => lists::PROLOGUE_STRIDE,
-        Source::Rows(_) => lists::FUNCTION_STRIDE,
+    // Function k, or the question that its rows do not answer by yes.
+    fn span_at(&self, k: usize) -> Result<Span<'m, 'l>, u64>
+        requires { k < self.now.count }
+        ensures { FoundIn self.now k result }
+    {
+        match self.source {
+            Source::Direct => Ok(self.direct_span(k)),
+            Source::Rows(machine) => self.rows_span(machine, k),
+        }
     }
 }
 
@@ -333,30 +350,6 @@ fn long_no(size: u64) -> Result<(), u64>
     Err(21)
 }
 
-// The questions of function k in the three passes: of its length, of its rows, and of its codes.
-fn length_asked(s: Source, fs: &[u64], k: usize) -> Result<(), u64>
-    requires { stride_of s * k + stride_of s ≤ length fs.now }
-    ensures { result ≡ yes_or_no (long_no (field (stride_of s) fs.now k 1)) }
-{
-    long_no(number_at(fs, stride(s), k, 1))
-}
-
-fn rows_asked(s: Source, fs: &[u64], list: &[u64], k: usize) -> Result<(), u64>
-    requires { Askable s fs.now list.now k }
-    ensures { result ≡ yes_or_no (rows_no (result_at s fs.now list.now k)) }
-{
-    span_at(s, fs, list, k)?;
-    Ok(())
-}
-
-fn codes_asked(s: Source, fs: &[u64], list: &[u64], k: usize) -> Result<(), u64>
-    requires { Askable s fs.now list.now k }
-    ensures { result ≡ yes_or_no (codes_no (result_at s fs.now list.now k)) }
-{
-    let p = span_at(s, fs, list, k)?;
-    prologue_no(s, list, p)
-}
-
 // A no with the function's position.
 fn refused_at(k: usize, asked: Result<(), u64>) -> Result<(), Refusal>
     ensures { result ≡ refused_at k asked }
@@ -370,136 +363,130 @@ fn refused_at(k: usize, asked: Result<(), u64>) -> Result<(), Refusal>
     }
 }
 
+impl Input<'_, '_, '_> {
+    // The questions of function k in the three passes: of its length, of its rows, and of its codes.
+    fn length_asked(&self, k: usize) -> Result<(), u64>
+        requires { k < self.now.count }
+        ensures { result ≡ yes_or_no (long_no (field (stride_of self.now.source) self.now.functions.now k 1)) }
+    {
+        long_no(self.number_at(k, 1))
+    }
+
+    fn rows_asked(&self, k: usize) -> Result<(), u64>
+        requires { k < self.now.count }
+        ensures { result ≡ yes_or_no (rows_no (result_of self.now k)) }
+    {
+        self.span_at(k)?;
+        Ok(())
+    }
+
+    fn codes_asked(&self, k: usize) -> Result<(), u64>
+        requires { k < self.now.count }
+        ensures { result ≡ yes_or_no (codes_no (result_of self.now k)) }
+    {
+        let p = self.span_at(k)?;
+        p.prologue_no()
+    }
+
+    // The passes over the functions.
+    fn asks(&self) -> Result<(), Refusal>
+        ensures { result ≡ question_of (asks_in self.now) }
+    {
+        for k in 0..self.count {
+            refused_at(k, self.length_asked(k))?;
+        }
+        for k in 0..self.count {
+            refused_at(k, self.rows_asked(k))?;
+        }
+        for k in 0..self.count {
+            refused_at(k, self.codes_asked(k))?;
+        }
+        Ok(())
+    }
+}
+
 // ---- the results
 
-// How many bytes the records of n functions have.
-fn total(s: Source, fs: &[u64], list: &[u64], n: usize) -> usize
-    requires { Writable s fs.now list.now n }
-    ensures { result ≡ length (infos_of (each (found_at s fs.now list.now) 0 n)) }
-{
-    let mut sum = 0;
-    for k in 0..n {
-        sum += info_size(s, list, span_at(s, fs, list, k).unwrap());
+impl Input<'_, '_, '_> {
+    // How many bytes the records of the functions have.
+    fn total(&self) -> usize
+        requires { AllAgreed self.now }
+        ensures { result ≡ length (infos_in self.now) }
+    {
+        let mut sum = 0;
+        for k in 0..self.count {
+            sum += self.span_at(k).unwrap().info_size();
+        }
+        sum
     }
-    sum
-}
 
-// The records of n functions, and where each stands.
-fn put_infos(
-    markers: &mut [u64],
-    info: &mut [u8],
-    s: Source,
-    fs: &[u64],
-    list: &[u64],
-    n: usize,
-) -> usize
-    requires { Writable s fs.now list.now n × (n ≤ length markers.old) × (length (infos_of (each (found_at s fs.now list.now) 0 n)) ≤ length info.old) }
-    ensures { (markers.new ≡ put markers.old 0 (markers_from 0 (each (found_at s fs.now list.now) 0 n))) × (info.new ≡ put info.old 0 (infos_of (each (found_at s fs.now list.now) 0 n))) }
-{
-    let mut at = 0;
-    for k in 0..n {
-        let p = span_at(s, fs, list, k).unwrap();
-        number(markers, k, at as u64);
-        at = describe(info, at, s, list, p);
+    // The records of the functions, and where each stands.
+    fn put_infos(&self, markers: &mut [u64], info: &mut [u8]) -> usize
+        requires { AllAgreed self.now × (self.now.count ≤ length markers.old) × (length (infos_in self.now) ≤ length info.old) }
+        ensures { (markers.new ≡ put markers.old 0 (markers_from 0 (functions_of self.now))) × (info.new ≡ put info.old 0 (infos_in self.now)) }
+    {
+        let mut at = 0;
+        for k in 0..self.count {
+            let p = self.span_at(k).unwrap();
+            number(markers, k, at as u64);
+            at = p.describe(info, at);
+        }
+        at
     }
-    at
-}
 
-// All results of n functions, where they have room.
-fn put_all(
-    s: Source,
-    fs: &[u64],
-    list: &[u64],
-    n: usize,
-    sites: usize,
-    markers: &mut [u64],
-    bytes: &mut [u8],
-    relocations: &mut [u64],
-    info: &mut [u8],
-) -> Result<Option<Counts>, Refusal>
-    requires { Writable s fs.now list.now n × (sites ≡ length (infos_of (each (found_at s fs.now list.now) 0 n))) × (n ≤ length markers.old) × (12 * n ≤ length bytes.old) × (15 * n ≤ length relocations.old) × (sites ≤ length info.old) }
-    ensures { Writes (accepted (table_of s fs.now list.now n)) result markers.old markers.new bytes.old bytes.new relocations.old relocations.new info.old info.new }
-{
-    fill(bytes, 0, 12 * n);
-    put_runtime(relocations, fs, stride(s), n);
-    put_infos(markers, info, s, fs, list, n);
-    Ok(Some(Counts {
-        places: n as u64,
-        bytes: (12 * n) as u64,
-        relocations: (3 * n) as u64,
-        sites: sites as u64,
-    }))
-}
-
-// ---- the answer
-
-// The passes over n functions.
-fn asks(s: Source, fs: &[u64], list: &[u64], n: usize) -> Result<(), Refusal>
-    requires { Listed s fs.now list.now n }
-    ensures { result ≡ question_of (asks_of s fs.now list.now n) }
-{
-    for k in 0..n {
-        refused_at(k, length_asked(s, fs, k))?;
+    // All results, where they have room.
+    fn put_all(&self, sites: usize, to: &mut Output) -> Result<Option<Counts>, Refusal>
+        requires { AllAgreed self.now × (sites ≡ length (infos_in self.now)) × (self.now.count ≤ length to.old.markers.now) × (12 * self.now.count ≤ length to.old.bytes.now) × (15 * self.now.count ≤ length to.old.relocations.now) × (sites ≤ length to.old.info.now) }
+        ensures { WritesTo (accepted (table_in self.now)) result to.old to.new }
+    {
+        let n = self.count;
+        fill(to.bytes, 0, 12 * n);
+        self.put_runtime(to.relocations);
+        self.put_infos(to.markers, to.info);
+        Ok(Some(Counts {
+            places: n as u64,
+            bytes: (12 * n) as u64,
+            relocations: (3 * n) as u64,
+            sites: sites as u64,
+        }))
     }
-    for k in 0..n {
-        refused_at(k, rows_asked(s, fs, list, k))?;
+
+    // The results, where they have room.
+    fn write(&self, to: &mut Output) -> Result<Option<Counts>, Refusal>
+        requires { AllAgreed self.now }
+        ensures { WritesTo (fitting (room_of to.old) (table_in self.now)) result to.old to.new }
+    {
+        let n = self.count;
+        let sites = self.total();
+        let needed = Counts {
+            places: n as u64,
+            bytes: (12 * n) as u64,
+            relocations: (15 * n) as u64,
+            sites: sites as u64,
+        };
+        let lent = Counts {
+            places: to.markers.len() as u64,
+            bytes: to.bytes.len() as u64,
+            relocations: to.relocations.len() as u64,
+            sites: to.info.len() as u64,
+        };
+        room(needed, lent)?;
+        self.put_all(sites, to)
     }
-    for k in 0..n {
-        refused_at(k, codes_asked(s, fs, list, k))?;
+
+    // The questions of the functions, and the results.
+    fn answer(&self, to: &mut Output) -> Result<Option<Counts>, Refusal>
+        ensures { WritesTo (unless (asks_in self.now) (fitting (room_of to.old) (table_in self.now))) result to.old to.new }
+    {
+        self.asks()?;
+        self.write(to)
     }
-    Ok(())
 }
 
-// The results, where they have room.
-fn write(
-    s: Source,
-    fs: &[u64],
-    list: &[u64],
-    n: usize,
-    markers: &mut [u64],
-    bytes: &mut [u8],
-    relocations: &mut [u64],
-    info: &mut [u8],
-) -> Result<Option<Counts>, Refusal>
-    requires { Writable s fs.now list.now n }
-    ensures { Writes (fitting (room_in markers.old bytes.old relocations.old info.old) (table_of s fs.now list.now n)) result markers.old markers.new bytes.old bytes.new relocations.old relocations.new info.old info.new }
-{
-    let sites = total(s, fs, list, n);
-    let needed = Counts {
-        places: n as u64,
-        bytes: (12 * n) as u64,
-        relocations: (15 * n) as u64,
-        sites: sites as u64,
-    };
-    let lent = Counts {
-        places: markers.len() as u64,
-        bytes: bytes.len() as u64,
-        relocations: relocations.len() as u64,
-        sites: info.len() as u64,
-    };
-    room(needed, lent)?;
-    put_all(s, fs, list, n, sites, markers, bytes, relocations, info)
-}
-
-// The questions of n functions, and the results.
-fn answer(
-    s: Source,
-    fs: &[u64],
-    list: &[u64],
-    n: usize,
-    markers: &mut [u64],
-    bytes: &mut [u8],
-    relocations: &mut [u64],
-    info: &mut [u8],
-) -> Result<Option<Counts>, Refusal>
-    requires { Listed s fs.now list.now n }
-    ensures { Writes (unless (asks_of s fs.now list.now n) (fitting (room_in markers.old bytes.old relocations.old info.old) (table_of s fs.now list.now n))) result markers.old markers.new bytes.old bytes.new relocations.old relocations.new info.old info.new }
-{
-    asks(s, fs, list, n)?;
-    write(s, fs, list, n, markers, bytes, relocations, info)
-}
+// ---- the entries
 
 // x64 unwind data from direct codes.
+// Kept: the C interface lends the lists one by one.
 pub fn seh(
     functions: &[u64],
     codes: &[u64],
@@ -520,19 +507,23 @@ pub fn seh(
             position: 0,
         });
     }
-    answer(
-        Source::Direct,
+    let x = Input {
+        source: Source::Direct,
         functions,
-        codes,
-        n,
+        list: codes,
+        count: n,
+    };
+    let mut to = Output {
         markers,
         bytes,
         relocations,
         info,
-    )
+    };
+    x.answer(&mut to)
 }
 
 // x64 unwind data from rows.
+// Kept: the C interface lends the lists one by one.
 pub fn windows(
     machine: &[u64],
     functions: &[u64],
@@ -559,20 +550,30 @@ pub fn windows(
             position: 0,
         });
     }
-    if !lists_ok(functions, rows, landings, pairs) {
+    let given = Lists {
+        functions,
+        rows,
+        landings,
+        pairs,
+    };
+    if !given.ok() {
         return Err(Refusal {
             number: 13,
             position: 0,
         });
     }
-    answer(
-        Source::Rows(m),
+    let known = X64Machine { machine: &m };
+    let x = Input {
+        source: Source::Rows(known),
         functions,
-        rows,
-        functions.len() / lists::FUNCTION_STRIDE,
+        list: rows,
+        count: functions.len() / lists::FUNCTION_STRIDE,
+    };
+    let mut to = Output {
         markers,
         bytes,
         relocations,
         info,
-    )
+    };
+    x.answer(&mut to)
 }

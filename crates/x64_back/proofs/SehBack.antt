@@ -1,12 +1,12 @@
 -- What `seh` and COFF's writer wrote, read at its markers.
-use mathlib.Core.Path.{◌≡◌, refl, sym, ap, ◌∙◌}
+use mathlib.Core.Path.{◌≡◌, refl, ap, ◌∙◌}
 use Prim.Native.Nat.{ℕ, zero, suc, ◌+◌, ◌*◌, ◌≤◌, ◌<◌}
 use native.Mathlib.Omega.{arith}
 use mathlib.Core.Option.{Option, none, some}
 use mathlib.Core.List.{List, [], ◌∷◌, ◌++◌, map, append_assoc, append-nil}
 use lib.Dec.{eqb, leb→le}
-use lib.ListN.{length, get_or, get_elem?, take, drop, set, length-append, length-drop, length-set, take-append-drop, get_or-append}
-use lib.Seq.{drop_at, drop-append-le, take-suc-set, drop-set-lt}
+use lib.ListN.{length, get_or, get_elem?, drop, length-append, length-drop, get_or-append}
+use lib.Seq.{drop_at, drop-append-le}
 use Rattle.format.specs.Prelude.{pick, Result, good, bad, onward, each}
 use Rattle.format.specs.declared.Machine.{Machine}
 use Rattle.format.specs.declared.Seh.{Seh}
@@ -16,14 +16,13 @@ use Rattle.format.specs.Writer.{Written, joined}
 use Rattle.format.specs.X64.{codes_of, prologue_of, prologue_no, info_bytes, markers_from, x64}
 use Rattle.format.specs.X64Reader.{read_info, read_x64, info_numbers, codes_stored}
 use Rattle.format.specs.Questions.{per_function, no_at, code_asks, Room, room_in, room_asks, accepted, fitting, codes_answer, Prologues, made, stopped, made_one, prologues_for, prologues_answer, windows_answer, Given, given_functions, given_function, no_functions, format_answer, relaxed_table, seh}
-use Rattle.format.specs.Put.{put}
 use Rattle.format.specs.Answers.{Writes, afterwards}
 use Rattle.format.specs.Coded.{Outcome}
 use Rattle.x64.proofs.Results.{markers_length}
 use Rattle.format.proofs.Choice.{if-le}
 use Rattle.format.proofs.Accepted.{asked, both, function_at_lem, passed, not_empty}
 use Rattle.format.proofs.ListLaws.{each_get, each-length}
-use Rattle.codes.proofs.Copies.{put_from}
+use Rattle.format.proofs.Copied.{put_front}
 use Rattle.x64_back.specs.Given.{frame_codes, given, ReadBack}
 use Rattle.x64_back.proofs.InfoBack.{info_back}
 
@@ -106,9 +105,6 @@ seh_back fs codes r w e k h one room l =
     rw (append-nil w.sites) at (seh_before fs codes r w e k h [] one room l)
 
 -- ---- the buffers that `seh` was lent
-
-put_front : (xs bs : List ℕ) → length bs ≤ length xs → put xs 0 bs ≡ bs ++ drop (length bs) xs
-put_front xs bs h = let e : 0 + length bs ≡ length bs = omega arith in rw e at (put_from xs 0 bs (omega arith))
 
 record Fits (r : Room) (w : Written) : Type 0 where
   places : length w.places ≤ r.places

@@ -26,6 +26,7 @@ pub struct WrittenAndRead {
 
 // `seh`, and then the reader on the info that it wrote, at the marker of function k: where the list was accepted and at most one code of
 // function k sets the frame register, the reading and the codes are as they were given.
+// Kept: the lists stand one by one, as `x64::seh` and the reader take them from C.
 pub fn seh_and_read(
     functions: &[u64],
     codes: &[u64],

@@ -1,13 +1,12 @@
 // x64 unwind data read: an UNWIND_INFO's header and its codes (Microsoft, "x64 exception handling"), which rucc-asm/src/unwind.rs of tamnd/rucc does not have.
 #![tactic(auto)]
 
-ghost use Rattle.std.specs.Prelude.{◌≡◌, ◌+◌, ◌*◌, ◌^◌, ◌≤◌, ◌<◌, [], ◌∷◌, ◌||◌, length, drop};
+ghost use Rattle.std.specs.Prelude.{◌≡◌, ◌+◌, ◌*◌, ◌^◌, ◌≤◌, ◌<◌, [], ◌∷◌, ◌||◌, length};
 ghost use Rattle.format.proofs.Asked.{option_of};
 ghost use Rattle.format.specs.Put.{put};
-ghost use Rattle.operations.specs.Positions.{little_at};
 ghost use Rattle.format.specs.Answers.{bit};
 ghost use Rattle.format.specs.X64Reader.{operand_bytes, large_size, meaning, fields_of, frame_register, frame_offset, read_codes, read_x64, info_numbers, codes_stored};
-ghost use Rattle.x64_reader.specs.Reads.{Small, field_numbers, CodeSays, or_frame, counted_of, Held, stored_of, HeaderSays, read_numbers};
+ghost use Rattle.x64_reader.specs.Reads.{field_numbers, CodeSays, or_frame, counted_of, Held, stored_of, HeaderSays, read_numbers};
 
 use numbers::{codes, uwop};
 use operations::fields::{Position, read_le};
@@ -85,14 +84,6 @@ fn meaning(frame: u64, op: u64, info: u64, v: u64) -> Fields
     }
 }
 
-// The operand of n bytes behind a code.
-fn operand_at(s: &[u8], at: Position, n: usize) -> Option<(u64, Position)>
-    requires { n ≤ 4 }
-    ensures { (result ≡ little_at n s.now at) × Small result }
-{
-    read_le(s, at, n)
-}
-
 // A code: its offset in the prologue, what it says, and the position past it.
 #[derive(Clone, Copy)]
 pub struct Code {
@@ -117,7 +108,7 @@ fn code_at(s: &[u8], at: Position, frame: u64) -> Option<Code>
         at: from + 2,
         shortest: at.shortest,
     };
-    let (v, past) = operand_at(s, behind, n)?;
+    let (v, past) = read_le(s, behind, n)?;
     Some(Code {
         offset: leb::wide(s[from]),
         fields: meaning(frame, op, info, v),

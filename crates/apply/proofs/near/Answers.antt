@@ -7,7 +7,7 @@ use Rattle.apply.specs.Apply.{near_as}
 use Rattle.apply.specs.Standing.{meant, beside}
 use Rattle.format.proofs.Asked.{option_of}
 use Rattle.std.specs.Prelude as code
-use Rattle.apply.proofs.Tests.{is_some_lem}
+use Rattle.format.proofs.Asked.{some_is}
 use Rattle.apply.proofs.near.Goals as goal
 
 pub returns-in-Data : goal.returns-in-Data
@@ -39,8 +39,8 @@ returns-in-Set c =
     (c.is_some.ensures
     ∙ ap code.is_some
     (c.apart.ensures
-    ∙ ap (λ (m : ℕ). option_of (after (apart ss (meant a.r) (beside a.behind)) (λ z. up_to (m - 1) z))) c.modulus.ensures.0)
-    ∙ is_some_lem _)
+    ∙ ap (λ (m : ℕ). option_of (after (apart ss (meant a.x.now.reloc) (beside a.x.now.behind)) (λ z. up_to (m - 1) z))) c.modulus.ensures.0)
+    ∙ some_is _)
 
 pub returns-in-Sub : goal.returns-in-Sub
 unfolding near_as

@@ -19,7 +19,7 @@ store-requires c =
     let a = c.args in
     let h = here_sound a.relocs.now k.invariant c.loop-i-test.true in
     let x = sound_store (placed a.l) (length a.copy.now) _ (relocation_at a.relocs.now k.i) _ h in
-    let y = subst (λ (r : Relocation). (r.place + r.bytes ≤ length a.copy.now) × T (size_ok (kind_of r.kind) r.bytes)) (sym c.reloc_at-r.ensures) x in
+    let y = subst (λ (r : Relocation). (r.place + r.bytes ≤ length a.copy.now) × T (size_ok (kind_of r.kind) r.bytes)) (sym c.with_next-x.ensures.0) x in
     (omega (arith, y.0, k.invariant.kept), y.1)
 
 pub loop-i-preserved : goal.loop-i-preserved
@@ -29,8 +29,8 @@ loop-i-preserved c =
     let l = placed a.l in
     place_turn a.relocs.now k.invariant c.loop-i-test.true c.store.new.copy (search rules)
     (c.store.ensures
-    ∙ ap (λ (r : Relocation). store_of l k.copy r (beside c.behind_at-behind.result)) c.reloc_at-r.ensures
-    ∙ ap (store_of l k.copy (relocation_at a.relocs.now k.i)) c.behind_at-behind.ensures)
+    ∙ ap (λ (r : Relocation). store_of l k.copy r (beside c.with_next-x.result.behind)) c.with_next-x.ensures.0
+    ∙ ap (store_of l k.copy (relocation_at a.relocs.now k.i)) c.with_next-x.ensures.1)
 
 pub returns : goal.returns
 returns c = place_ended c.args.relocs.now c.loop-i.invariant c.loop-i-test.false

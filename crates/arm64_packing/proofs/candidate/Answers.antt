@@ -7,10 +7,10 @@ use Rattle.arm64_packing.proofs.candidate.Goals as goal
 
 pub loop-s-init : goal.loop-s-init
 unfolding nothing_yet
-loop-s-init c = tallying_start c.args.cs.now c.args.size c.args.run (ap steps_left c.into_iter-s-iterator.ensures.into_iter_gives ∙ c.of-s-items.ensures) c.requires.1
+loop-s-init c = tallying_start c.args.run.now.list.now c.args.size c.args.run.now.run (ap steps_left c.into_iter-s-iterator.ensures.into_iter_gives ∙ c.steps-s-items.ensures) c.requires.0
 
 pub tally-p-requires : goal.tally-p-requires
-tally-p-requires c = (tallying_low c.loop-s.invariant c.requires.2, tallying_down c.loop-s.invariant c.in-Some.ensures.steps c.resolved.ensures)
+tally-p-requires c = (tallying_low c.loop-s.invariant c.requires.1, tallying_down c.loop-s.invariant c.in-Some.ensures.steps c.resolved.ensures)
 
 pub loop-s-preserved : goal.loop-s-preserved
 loop-s-preserved c = tallying_turn c.loop-s.invariant c.in-Some.ensures.steps c.resolved.ensures c.tally-p.ensures.0 c.tally-p.ensures.1

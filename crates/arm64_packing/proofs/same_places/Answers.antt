@@ -1,13 +1,13 @@
 -- `arm64_packing::same_places` meets its contract.
 use mathlib.Core.Path.{sym, ◌∙◌}
 use Rattle.arm64.proofs.Coded.{is_none, is_some}
-use Rattle.arm64_simple.proofs.Codes.{differing, agreeing}
+use Rattle.arm64_simple.proofs.OneCode.{differing, agreeing}
 use Rattle.arm64_packing.specs.Places.{placed}
 use Rattle.arm64_packing.proofs.Comparing.{matching_start, matching_empty, matching_short, matching_stopped, matching_turn, matching_ended}
 use Rattle.arm64_packing.proofs.same_places.Goals as goal
 
 pub places-init : goal.places-init
-places-init c = matching_start c.args.cs.now c.args.run (placed c.args.undone c.args.p) c.of-steps.ensures
+places-init c = matching_start c.args.run.now.list.now c.args.run.now.run (placed c.args.undone c.args.p) c.steps-steps.ensures
 
 pub places-preserved-in_default-whole : goal.places-preserved-in_default-whole
 places-preserved-in_default-whole c = ((tt, tt), matching_empty c.places.invariant c.places-test.true (is_none _ (sym c.place.ensures ∙ c.in_default.is)))

@@ -1,7 +1,7 @@
 -- `arm64_runs::put_three` meets its contract.
 use native.Mathlib.Omega.{arith}
 use Rattle.std.proofs.lemmas.Grind.{common_steps}
-use Rattle.arm64_runs.proofs.Stores.{copied}
+use Rattle.format.proofs.Copied.{copied}
 use Rattle.arm64_runs.proofs.put_three.Goals as goal
 
 pub returns : goal.returns

@@ -11,6 +11,6 @@ use Rattle.arm64_sharing.proofs.leads_long.Goals as goal
 pub returns : goal.returns
 returns c =
     all_from_yields_List same_written c.all.new.self _ _ c.all.ensures.ran
-    (YieldsList-from_zip (YieldsList-from_first (λ x. x) steps_left {s = c.zip.result.a} _ (ap steps_left c.zip.ensures.first ∙ c.of.ensures)) (YieldsList-from_first (λ x. x) steps_left {s = c.zip.result.b} _ (ap steps_left c.zip.ensures.second ∙ c.of-2.ensures)))
+    (YieldsList-from_zip (YieldsList-from_first (λ x. x) steps_left {s = c.zip.result.a} _ (ap steps_left c.zip.ensures.first ∙ c.steps.ensures)) (YieldsList-from_first (λ x. x) steps_left {s = c.zip.result.b} _ (ap steps_left c.zip.ensures.second ∙ c.steps-2.ensures)))
     (λ x b q k. search (rules, tests))
-    ∙ leads_all c.args.cs.now c.args.run c.args.other c.requires.2
+    ∙ leads_all c.args.run.now.list.now c.args.other.now.list.now c.args.run.now.run c.args.other.now.run c.requires

@@ -9,7 +9,7 @@ use Rattle.arm64_sharing.proofs.Storing.{put_start, put_low, put_fits, put_turn,
 use Rattle.arm64_sharing.proofs.put_run.Goals as goal
 
 pub loop-s-init : goal.loop-s-init
-loop-s-init c = put_start c.args.cs.now c.args.run (ap steps_left c.into_iter-s-iterator.ensures.into_iter_gives ∙ c.of-s-items.ensures) c.requires.1 c.requires.2 c.requires.3
+loop-s-init c = put_start c.args.run.now.list.now c.args.run.now.run (ap steps_left c.into_iter-s-iterator.ensures.into_iter_gives ∙ c.steps-s-items.ensures) c.requires.0 c.requires.1 c.requires.2
 
 pub overflow_sub-to : goal.overflow_sub-to
 overflow_sub-to c = omega (arith, put_low c.loop-s.invariant c.in-Some.ensures.steps, c.code_size-to.ensures.0)
@@ -21,10 +21,10 @@ pub loop-s-preserved : goal.loop-s-preserved
 loop-s-preserved c = put_turn c.loop-s.invariant c.in-Some.ensures.steps c.code_size-to.ensures.0 c.put_code-past.ensures
 
 pub byte-requires : goal.byte-requires
-byte-requires c = omega (arith, c.requires.3, c.loop-s.invariant.same_length)
+byte-requires c = omega (arith, c.requires.2, c.loop-s.invariant.same_length)
 
 pub shape_of-out : goal.shape_of-out
 shape_of-out c = kept c.byte.ensures ∙ c.loop-s.invariant.same_length
 
 pub returns : goal.returns
-returns c = rw (sym (run_bytes_lem (simplify no_pair (saves c.args.cs.now c.args.run)))) (put_ended c.loop-s.invariant c.in-None.ensures.steps.0 c.requires.2 then c.byte.ensures)
+returns c = rw (sym (run_bytes_lem (simplify no_pair (saves c.args.run.now.list.now c.args.run.now.run)))) (put_ended c.loop-s.invariant c.in-None.ensures.steps.0 c.requires.1 then c.byte.ensures)

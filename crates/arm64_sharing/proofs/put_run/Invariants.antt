@@ -5,4 +5,4 @@ use Rattle.arm64_sharing.proofs.Storing.{Putting}
 use Rattle.arm64_sharing.proofs.put_run.Given as goal
 
 abbrev pub invariant-loop-s : goal.invariant-loop-s
-invariant-loop-s l = Putting (backwards (simplify no_pair (saves l.cs l.fn.run))) l.initial.out l.out l.at l.to (steps_left l.s-iterator)
+invariant-loop-s l = Putting (backwards (simplify no_pair (saves l.run.list.now l.run.run))) l.initial.out l.out l.at l.to (steps_left l.s-iterator)

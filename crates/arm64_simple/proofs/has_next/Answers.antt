@@ -1,6 +1,6 @@
 -- `arm64_simple::has_next` meets its contract.
 use native.Mathlib.Omega.{arith}
-use Rattle.arm64_simple.proofs.Codes.{next_past, next_far, next_4, next_9}
+use Rattle.arm64_simple.proofs.OneCode.{next_past, next_far, next_4, next_9}
 use Rattle.arm64_simple.proofs.has_next.Goals as goal
 
 pub returns-then-b-gt28 : goal.returns-then-b-gt28

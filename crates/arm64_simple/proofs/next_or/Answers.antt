@@ -1,7 +1,7 @@
 -- `arm64_simple::next_or` meets its contract.
 use mathlib.Core.Path.{sym, ap, ◌∙◌}
 use Rattle.arm64.specs.Runs.{same_code}
-use Rattle.arm64_simple.proofs.Codes.{same_is, or_other, or_next, or_same}
+use Rattle.arm64_simple.proofs.OneCode.{same_is, or_other, or_next, or_same}
 use Rattle.arm64_simple.proofs.next_or.Goals as goal
 
 pub returns-then-c-ne-REGP : goal.returns-then-c-ne-REGP

@@ -1,7 +1,7 @@
 -- `arm64_simple::next_pair` meets its contract.
 use mathlib.Core.Path.{sym, ◌∙◌}
 use native.Mathlib.Omega.{arith}
-use Rattle.arm64_simple.proofs.Codes.{next_low, next_there, next_none}
+use Rattle.arm64_simple.proofs.OneCode.{next_low, next_there, next_none}
 use Rattle.arm64_simple.proofs.next_pair.Goals as goal
 
 pub overflow_add-b : goal.overflow_add-b

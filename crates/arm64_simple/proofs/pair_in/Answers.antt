@@ -1,6 +1,6 @@
 -- `arm64_simple::pair_in` meets its contract.
 use mathlib.Core.Path.{◌∙◌}
-use Rattle.arm64_simple.proofs.Codes.{pair_4, pair_9, pair_1, pair_5, pair_10, pair_none}
+use Rattle.arm64_simple.proofs.OneCode.{pair_4, pair_9, pair_1, pair_5, pair_10, pair_none}
 use Rattle.arm64_simple.proofs.pair_in.Goals as goal
 
 pub returns-then-c-eq-REGP : goal.returns-then-c-eq-REGP

@@ -1,6 +1,6 @@
 -- `arm64_simple::resolved` meets its contract.
 use mathlib.Core.Path.{◌∙◌}
-use Rattle.arm64_simple.proofs.Codes.{resolved_next, resolved_same}
+use Rattle.arm64_simple.proofs.OneCode.{resolved_next, resolved_same}
 use Rattle.arm64_simple.proofs.resolved.Goals as goal
 
 pub returns-then-c-eq-SAVE_NEXT : goal.returns-then-c-eq-SAVE_NEXT

@@ -1,6 +1,6 @@
 -- `arm64_simple::shorter` meets its contract.
 use mathlib.Core.Path.{◌∙◌}
-use Rattle.arm64_simple.proofs.Codes.{pair_frame, pair_other, add_none, add_some, any_other}
+use Rattle.arm64_simple.proofs.OneCode.{pair_frame, pair_other, add_none, add_some, any_other}
 use Rattle.arm64_simple.proofs.shorter.Goals as goal
 
 pub returns-then-c-eq29 : goal.returns-then-c-eq29

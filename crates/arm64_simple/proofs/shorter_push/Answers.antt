@@ -1,7 +1,7 @@
 -- `arm64_simple::shorter_push` meets its contract.
 use mathlib.Core.Path.{◌∙◌}
 use native.Mathlib.Omega.{arith}
-use Rattle.arm64_simple.proofs.Codes.{push_frame, push_other, push_far, push_first}
+use Rattle.arm64_simple.proofs.OneCode.{push_frame, push_other, push_far, push_first}
 use Rattle.arm64_simple.proofs.shorter_push.Goals as goal
 
 pub returns-then-c-eq29 : goal.returns-then-c-eq29

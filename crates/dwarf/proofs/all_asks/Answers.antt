@@ -8,16 +8,16 @@ pub loop-k-init : goal.loop-k-init
 loop-k-init c = start _ _ _
 
 pub dwarf_asks-requires : goal.dwarf_asks-requires
-dwarf_asks-requires c = (c.requires.0, rw (c.taken-e.ensures, c.extent_at.ensures) (c.requires.1.each_one _ c.loop-k-test.true))
+dwarf_asks-requires c = rw c.function-e.ensures (c.requires.each_one _ (rw c.count-n.ensures at c.loop-k-test.true))
 
 pub returns-in_err-dwarf_asks : goal.returns-in_err-dwarf_asks
 returns-in_err-dwarf_asks c =
     let p = err_from_is_err_and c.from_residual.result c.from_residual.ensures.1 in
     rw (p.1, p.2)
-    (sym c.in_err-dwarf_asks.was ∙ stopped c.loop-k.invariant c.loop-k-test.true (rw (c.taken-e.ensures, c.extent_at.ensures) at c.dwarf_asks.ensures) c.in_err-dwarf_asks.was)
+    (sym c.in_err-dwarf_asks.was ∙ rw c.count-n.ensures at (stopped c.loop-k.invariant c.loop-k-test.true (rw c.function-e.ensures at c.dwarf_asks.ensures) c.in_err-dwarf_asks.was))
 
 pub loop-k-preserved : goal.loop-k-preserved
-loop-k-preserved c = turn c.loop-k.invariant c.loop-k-test.true (rw (c.taken-e.ensures, c.extent_at.ensures) at c.dwarf_asks.ensures) c.in_ok-dwarf_asks.was
+loop-k-preserved c = turn c.loop-k.invariant c.loop-k-test.true (rw c.function-e.ensures at c.dwarf_asks.ensures) c.in_ok-dwarf_asks.was
 
 pub returns : goal.returns
-returns c = ended c.loop-k.invariant c.loop-k-test.false
+returns c = rw c.count-n.ensures at (ended c.loop-k.invariant c.loop-k-test.false)

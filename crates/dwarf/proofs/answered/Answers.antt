@@ -1,6 +1,6 @@
 -- `dwarf::answered` meets its contract.
 use mathlib.Core.Path.{refl}
-use Rattle.dwarf.specs.Parts.{inputs_of}
+use Rattle.header_keys.specs.Inputs.{inputs_of}
 use Rattle.dwarf.proofs.Passed.{counted}
 use Rattle.dwarf.proofs.Cleared.{cleared}
 use Rattle.dwarf.proofs.Whole.{lists_passed, asked_passed, says_all}
@@ -15,17 +15,17 @@ pub roomed-requires : goal.roomed-requires
 roomed-requires c =
     let s = (goal.at.roomed-requires c).Start in
     let b = behind_say (inputs_of s.args.x.now) c.tried.ensures.0 c.in-Some.is in
-    (cleared (inputs_of s.args.x.now) s.requires.0 (counted s.args.x.now.functions.now s.requires.1) b.0, b.2, b.1)
+    (cleared (inputs_of s.args.x.now) s.args.x.now.fits (counted s.args.x.now.lists.functions.now s.requires.0) b.0, b.2, b.1)
 
 pub returns-in-Some : goal.returns-in-Some
 returns-in-Some c =
     let s = (goal.at.returns-in-Some c).Start in
     let b = behind_say (inputs_of s.args.x.now) c.tried.ensures.0 c.in-Some.is in
-    (says_all (inputs_of s.args.x.now) s.args.to.now.places.now s.args.to.now.bytes.now s.args.to.now.relocations.now s.args.to.now.sites.now (lists_passed (inputs_of s.args.x.now) s.requires.1 b.0) (asked_passed (inputs_of s.args.x.now) s.requires.1 b.0) refl c.roomed.ensures.0, c.roomed.ensures.1)
+    (says_all (inputs_of s.args.x.now) s.args.to.now.places.now s.args.to.now.bytes.now s.args.to.now.relocations.now s.args.to.now.sites.now (lists_passed (inputs_of s.args.x.now) s.requires.0 b.0) (asked_passed (inputs_of s.args.x.now) s.requires.0 b.0) refl c.roomed.ensures.0, c.roomed.ensures.1)
 
 pub asked-requires : goal.asked-requires
 asked-requires c =
-    (c.requires.0, c.requires.1, record { enough = rw c.unchain.ensures.0 c.tried.ensures.1; clear = c.unchain.ensures.1 })
+    (c.requires.0, record { enough = rw c.unchain.ensures.0 c.tried.ensures.1; clear = c.unchain.ensures.1 })
 
 pub returns : goal.returns
 returns c = c.asked.ensures

@@ -5,4 +5,4 @@ use Rattle.dwarf.proofs.answered_with.Goals as goal
 
 pub answered-requires : goal.answered-requires
 answered-requires g c =
-    (c.requires.0, c.requires.1, unused _ _ _ (counted _ c.requires.1).functions_at_most c.requires.4 c.requires.2)
+    (c.requires.0, unused _ _ _ (counted _ c.requires.0).functions_at_most c.requires.3 c.requires.1)

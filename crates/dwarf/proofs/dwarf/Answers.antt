@@ -16,8 +16,11 @@ returns-then-not-sums_ok c = says_listed _ _ _ _ _ _ (accepted c.machine_ok.ensu
 pub machine_of-requires : goal.machine_of-requires
 machine_of-requires c = is_yes_lem (accepted c.machine_ok.ensures (ap not c.if-not-machine_ok.false))
 
+pub invariant_of-x : goal.invariant_of-x
+invariant_of-x c = record { fits = rw c.machine_of.ensures (machine_fits _ (is_yes_lem (accepted c.machine_ok.ensures (ap not c.if-not-machine_ok.false)))) }
+
 pub deliver-requires : goal.deliver-requires
-deliver-requires c = (rw c.machine_of.ensures (machine_fits _ (is_yes_lem (accepted c.machine_ok.ensures (ap not c.if-not-machine_ok.false)))), is_yes_lem (accepted c.sums_ok.ensures (ap not c.if-not-sums_ok.false)))
+deliver-requires c = is_yes_lem (accepted c.sums_ok.ensures (ap not c.if-not-sums_ok.false))
 
 pub returns : goal.returns
 returns c =

@@ -4,7 +4,6 @@ use mathlib.Core.Path.{ap}
 use Rattle.format.specs.Prelude.{pick}
 use Rattle.format.proofs.Asked.{question_of}
 use Rattle.format.specs.Questions.{ask, and_then, dwarf_asks}
-use Rattle.format.proofs.FieldsBack.{word_small}
 use Rattle.lists.specs.Extents.{meant}
 use Rattle.lists.proofs.Answers.{accepted, refused}
 use Rattle.dwarf.proofs.dwarf_asks.Goals as goal
@@ -13,25 +12,22 @@ pub returns-then-not-size_ok : goal.returns-then-not-size_ok
 unfolding dwarf_asks meant ask and_then question_of pick
 returns-then-not-size_ok c = simp (refused c.size_ok.ensures (ap not c.if-not-size_ok.true))
 
-pub encodings_ok-requires : goal.encodings_ok-requires
-encodings_ok-requires c = (word_small _ c.requires.0).0
-
 pub returns-then-not-encodings_ok : goal.returns-then-not-encodings_ok
 unfolding dwarf_asks meant ask and_then question_of pick
 returns-then-not-encodings_ok c = simp (accepted c.size_ok.ensures (ap not c.if-not-size_ok.false), refused c.encodings_ok.ensures (ap not c.if-not-encodings_ok.true))
 
 pub lines_fine-fine-requires : goal.lines_fine-fine-requires
-lines_fine-fine-requires c = (c.requires.0, c.requires.1.ready)
+lines_fine-fine-requires c = c.requires.ready
 
 pub steps_asked-requires : goal.steps_asked-requires
-steps_asked-requires c = (c.requires.1.ready, λ p. (c.lines_fine-fine.ensures p).0)
+steps_asked-requires c = (c.requires.ready, λ p. (c.lines_fine-fine.ensures p).0)
 
 pub returns-then-not-steps_asked : goal.returns-then-not-steps_asked
 unfolding dwarf_asks meant ask and_then question_of pick
 returns-then-not-steps_asked c = simp (accepted c.size_ok.ensures (ap not c.if-not-size_ok.false), accepted c.encodings_ok.ensures (ap not c.if-not-encodings_ok.false), refused c.steps_asked.ensures (ap not c.if-not-steps_asked.true))
 
 pub whole_asked-requires : goal.whole_asked-requires
-whole_asked-requires c = ((word_small _ c.requires.0).0, c.requires.1.ready, λ p. (c.lines_fine-fine.ensures p).1)
+whole_asked-requires c = (c.requires.ready, λ p. (c.lines_fine-fine.ensures p).1)
 
 pub returns-then-not-whole_asked : goal.returns-then-not-whole_asked
 unfolding dwarf_asks meant ask and_then question_of pick

@@ -1,5 +1,5 @@
 -- `dwarf::fitted` meets its contract.
-use Rattle.dwarf.specs.Parts.{inputs_of}
+use Rattle.header_keys.specs.Inputs.{inputs_of}
 use Rattle.std.proofs.Common.{sym, ◌∙◌}
 use Rattle.dwarf.proofs.Outcomes.{room_for_lem}
 use Rattle.format.proofs.Asked.{no_error}
@@ -8,16 +8,16 @@ use Rattle.dwarf.proofs.fitted.Goals.{Start}
 
 pub owners-requires : goal.owners-requires
 owners-requires c =
-    (c.requires.0.listed, c.requires.1, λ h. (c.requires.0.each_one 0 h).sound.machine)
+    rw c.count-n.ensures (c.requires.0.listed, c.requires.1)
 
 pub most-requires : goal.most-requires
 most-requires c = c.requires.0.sums
 
 pub sizes-t-requires : goal.sizes-t-requires
-sizes-t-requires c = (c.requires.0, c.owners.ensures)
+sizes-t-requires c = (c.requires.0, rw c.count-n.ensures at c.owners.ensures.0)
 
 pub roomed-requires : goal.roomed-requires
-roomed-requires c = (c.requires.0, c.owners.ensures, c.sizes-t.ensures)
+roomed-requires c = (c.requires.0, rw c.count-n.ensures at c.owners.ensures.0, c.sizes-t.ensures)
 
 pub returns-then-is_err : goal.returns-then-is_err
 returns-then-is_err c = c.roomed.ensures
@@ -25,7 +25,7 @@ returns-then-is_err c = c.roomed.ensures
 pub stored-requires : goal.stored-requires
 stored-requires c =
     let s = (goal.at.stored-requires c).Start in
-    (s.requires.0, room_for_lem (inputs_of s.args.x.now) s.args.to.now.places.now s.args.to.now.bytes.now s.args.to.now.relocations.now s.args.to.now.sites.now (rw c.lent.ensures at c.room.ensures) (no_error _ (sym c.is_err.ensures.value ∙ c.if-is_err.false)) (rw c.most.ensures s.requires.0.covered), c.owners.ensures)
+    (s.requires.0, room_for_lem (inputs_of s.args.x.now) s.args.to.now.places.now s.args.to.now.bytes.now s.args.to.now.relocations.now s.args.to.now.sites.now (rw (c.lent.ensures, c.count-n.ensures) at c.room.ensures) (no_error _ (sym c.is_err.ensures.value ∙ c.if-is_err.false)) (rw c.most.ensures s.requires.0.covered), rw c.count-n.ensures at c.owners.ensures.0)
 
 pub returns : goal.returns
 returns c = c.stored.ensures

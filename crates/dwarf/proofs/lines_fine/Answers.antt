@@ -17,16 +17,19 @@ returns-then-to-from c = λ p. never p
 pub returns-then-to-from-ge-STEPS : goal.returns-then-to-from-ge-STEPS
 returns-then-to-from-ge-STEPS c = λ p. never p
 
-pub row_surely_whole-requires : goal.row_surely_whole-requires
-row_surely_whole-requires c =
+pub at-requires : goal.at-requires
+at-requires c =
     let l = c.loop-i.invariant.stepping in
-    (c.requires.0, search rules, row_ready c.requires.1 _ (search rules) (search rules))
+    (search rules, row_ready c.requires _ (search rules) (search rules))
 
-pub returns-then-not-row_surely_whole : goal.returns-then-not-row_surely_whole
-returns-then-not-row_surely_whole c = λ p. never p
+pub surely_whole-requires : goal.surely_whole-requires
+surely_whole-requires c = c.args.x.now.fits.is_word
+
+pub returns-then-not-surely_whole : goal.returns-then-not-surely_whole
+returns-then-not-surely_whole c = λ p. never p
 
 pub loop-i-preserved : goal.loop-i-preserved
-loop-i-preserved c = turn c.loop-i.invariant c.loop-i-test.true c.offset_at-to.ensures c.if-to-from.false c.if-to-from-ge-STEPS.false (c.row_surely_whole.ensures c.if-not-row_surely_whole.false)
+loop-i-preserved c = turn c.loop-i.invariant c.loop-i-test.true c.offset_at-to.ensures c.if-to-from.false c.if-to-from-ge-STEPS.false (rw c.at.ensures at (c.surely_whole.ensures c.if-not-surely_whole.false))
 
 pub returns : goal.returns
 returns c = λ p. ended c.loop-i.invariant c.loop-i-test.false

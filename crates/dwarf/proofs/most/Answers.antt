@@ -7,7 +7,7 @@ use Rattle.dwarf.proofs.AtMost.{labelled_few}
 use Rattle.dwarf.proofs.most.Goals as goal
 
 pub labelled_total-requires : goal.labelled_total-requires
-labelled_total-requires c = (search rules, omega (arith, labelled_few c.args.fs.now 0 (count function_stride c.args.fs.now), c.requires.rows))
+labelled_total-requires c = (search rules, c.requires.functions, omega (arith, labelled_few c.args.fs.now 0 (count function_stride c.args.fs.now), c.requires.rows))
 
 pub overflow_mul-result-4 : goal.overflow_mul-result-4
 overflow_mul-result-4 c = omega (arith, c.labelled_total.ensures, labelled_few c.args.fs.now 0 (count function_stride c.args.fs.now), c.requires.rows)

@@ -9,5 +9,5 @@ use Rattle.dwarf.proofs.pairs_differ.Goals as goal
 
 pub returns : goal.returns
 returns c =
-    all_from_yields_List (λ i. not (eqb (pair_at c.args.pairs.now i).place1 (pair_at c.args.pairs.now i).place2)) _ _ _ c.all.ensures.ran (YieldsList-from_range _ _ c.args.n refl (omega arith)) (λ x b q k. search (rules, tests))
-    ∙ all_each_range (λ p. not (eqb p.place1 p.place2)) (pair_at c.args.pairs.now) c.args.at c.args.n
+    all_from_yields_List (λ i. not (eqb (pair_at c.args.x.now.lists.pairs.now i).place1 (pair_at c.args.x.now.lists.pairs.now i).place2)) _ _ _ c.all.ensures.ran (YieldsList-from_range _ _ c.args.l.now.pairs refl (omega arith)) (λ i b q k. search (rules, tests))
+    ∙ all_each_range (λ p. not (eqb p.place1 p.place2)) (pair_at c.args.x.now.lists.pairs.now) c.args.l.now.pairs_at c.args.l.now.pairs

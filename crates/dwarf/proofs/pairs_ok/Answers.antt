@@ -1,17 +1,15 @@
 -- `dwarf::pairs_ok` meets its contract.
-use borrow.Author.Tests.{not-true, not-false}
-use Rattle.format.specs.Prelude.{pick}
 use Rattle.format.specs.Questions.{pairs_ok}
-use Rattle.lists.specs.Extents.{meant}
+use Rattle.lists.specs.Extents.{meant_labels, meant}
 use Rattle.dwarf.proofs.pairs_ok.Goals as goal
 
-pub returns-then-not-e : goal.returns-then-not-e
-unfolding pairs_ok meant pick
-returns-then-not-e c = simp (not-true c.args.e.relaxed c.if-not-e.true)
-
 pub pairs_differ-requires : goal.pairs_differ-requires
-pairs_differ-requires c = (c.requires (not-false c.args.e.relaxed c.if-not-e.false)).inside
+pairs_differ-requires c = rw c.in-Some.is at c.requires
 
-pub returns : goal.returns
-unfolding pairs_ok meant pick
-returns c = simp (not-false c.args.e.relaxed c.if-not-e.false) c.pairs_differ.ensures
+pub returns-in-Some : goal.returns-in-Some
+unfolding pairs_ok meant meant_labels
+returns-in-Some c = rw c.in-Some.is c.pairs_differ.ensures
+
+pub returns-in-None : goal.returns-in-None
+unfolding pairs_ok meant meant_labels
+returns-in-None c = rw c.in-None.is

@@ -4,4 +4,4 @@ use Rattle.lists.proofs.Ranges.{Asking}
 use Rattle.dwarf.proofs.rows_whole.Given as goal
 
 abbrev pub invariant-loop-i : goal.invariant-loop-i
-invariant-loop-i l = Asking (λ j. row_whole l.word (row_at l.rows j).1) l.at l.n l.i
+invariant-loop-i l = Asking (λ j. row_whole l.x.machine.word (row_at l.x.lists.rows.now j).1) l.e.rows_at l.e.rows l.i

@@ -4,20 +4,20 @@ use Rattle.dwarf.proofs.Totals.{near, sites_near, behind_near, end_near, relocs_
 use Rattle.dwarf.proofs.sized.Goals as goal
 
 pub front_size-requires : goal.front_size-requires
-front_size-requires c = (c.requires.0.sound, c.requires.0.aligned, near c.requires.0)
+front_size-requires c = near c.requires.0
 
 pub overflow_add-behind : goal.overflow_add-behind
-overflow_add-behind c = omega (arith, behind_near c.requires.0 (rw c.is_debug-debug.ensures at c.front_size.ensures))
+overflow_add-behind c = omega (arith, behind_near c.requires.0 c.front_size.ensures)
 
 pub record_size-requires : goal.record_size-requires
 record_size-requires c =
-    (c.requires.0.sound, c.requires.0.aligned, behind_near c.requires.0 (rw c.is_debug-debug.ensures at c.front_size.ensures), c.requires.1)
+    (behind_near c.requires.0 c.front_size.ensures, c.requires.1)
 
 pub overflow_add-result : goal.overflow_add-result
-overflow_add-result c = omega (arith, end_near c.requires.0 (rw c.is_debug-debug.ensures at c.front_size.ensures) (rw c.is_debug-debug.ensures at c.record_size.ensures))
+overflow_add-result c = omega (arith, end_near c.requires.0 c.front_size.ensures c.record_size.ensures)
 
 pub overflow_add-result-2 : goal.overflow_add-result-2
-overflow_add-result-2 c = omega (arith, relocs_near c.requires.0 (rw c.is_debug-debug.ensures at c.relocs_size.ensures))
+overflow_add-result-2 c = omega (arith, relocs_near c.requires.0 c.relocs_size.ensures)
 
 pub call_sites_size-requires : goal.call_sites_size-requires
 call_sites_size-requires c = (c.requires.0.landings_ready, sites_near c.requires.0)
@@ -26,4 +26,4 @@ pub overflow_add-result-3 : goal.overflow_add-result-3
 overflow_add-result-3 c = omega (arith, sites_end c.requires.0 c.call_sites_size.ensures)
 
 pub returns : goal.returns
-returns c = sized_is c.requires.0 (rw c.is_debug-debug.ensures at c.front_size.ensures) (rw c.is_debug-debug.ensures at c.record_size.ensures) (rw c.is_debug-debug.ensures at c.relocs_size.ensures) c.call_sites_size.ensures
+returns c = sized_is c.requires.0 c.front_size.ensures c.record_size.ensures c.relocs_size.ensures c.call_sites_size.ensures

@@ -4,7 +4,7 @@ use Rattle.dwarf.proofs.Sizing.{start, next, turn, ended, owned_to}
 use Rattle.dwarf.proofs.sizes.Goals as goal
 
 pub loop-k-init : goal.loop-k-init
-loop-k-init c = start _
+loop-k-init c = rw c.count-n.ensures (start _)
 
 pub rows_size-size-requires : goal.rows_size-size-requires
 rows_size-size-requires c =

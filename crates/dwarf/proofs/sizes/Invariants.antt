@@ -1,4 +1,4 @@
-use Rattle.dwarf.specs.Parts.{inputs_of}
+use Rattle.header_keys.specs.Inputs.{inputs_of}
 use Rattle.dwarf.proofs.Sizing.{Sizing}
 use Rattle.dwarf.proofs.sizes.Given as goal
 

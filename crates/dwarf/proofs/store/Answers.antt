@@ -6,7 +6,7 @@ use Rattle.dwarf.proofs.Writing.{start, ready, turn, ended}
 use Rattle.dwarf.proofs.store.Goals as goal
 
 pub loop-k-init : goal.loop-k-init
-loop-k-init c = (start _ c.requires.1, same)
+loop-k-init c = (rw c.count-functions.ensures (start _ c.requires.1), same)
 
 pub part-t-requires : goal.part-t-requires
 part-t-requires c =

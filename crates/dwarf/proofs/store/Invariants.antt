@@ -1,4 +1,4 @@
-use Rattle.dwarf.specs.Parts.{inputs_of}
+use Rattle.header_keys.specs.Inputs.{inputs_of}
 use Rattle.dwarf.proofs.Writing.{Going}
 use Rattle.dwarf.specs.Lent.{SameLists}
 use Rattle.dwarf.proofs.store.Given as goal

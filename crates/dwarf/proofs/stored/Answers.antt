@@ -3,4 +3,4 @@ use Rattle.dwarf.proofs.Outcomes.{delivers}
 use Rattle.dwarf.proofs.stored.Goals as goal
 
 pub returns : goal.returns
-returns c = (delivers _ _ _ _ _ c.requires.1 c.store-t.ensures.0, c.store-t.ensures.1)
+returns c = (rw c.count-n.ensures (delivers _ _ _ _ _ c.requires.1 c.store-t.ensures.0), c.store-t.ensures.1)

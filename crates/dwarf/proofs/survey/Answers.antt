@@ -4,25 +4,25 @@ use Rattle.dwarf.proofs.Surveying.{start, owner_ready, next, turn, enough, ended
 use Rattle.dwarf.proofs.survey.Goals as goal
 
 pub loop-k-init : goal.loop-k-init
-loop-k-init c = start _ c.requires.2
+loop-k-init c = rw c.count-n.ensures (start _ c.requires.1)
 
 pub function_surveyed-requires : goal.function_surveyed-requires
 function_surveyed-requires c =
-    (c.requires.0, c.requires.1, omega (arith, c.loop-k-test.true, c.loop-k.invariant.sizes.counted))
+    (c.requires.0, omega (arith, c.loop-k-test.true, c.loop-k.invariant.sizes.counted))
 
 pub returns-in_err-size : goal.returns-in_err-size
 returns-in_err-size c = (rw c.from_residual.ensures tt, enough c.loop-k.invariant)
 
 pub find_owner-requires : goal.find_owner-requires
-find_owner-requires c = owner_ready c.loop-k.invariant c.loop-k-test.true c.in_ok-size.ensures.0 c.requires.0 c.requires.1
+find_owner-requires c = owner_ready c.loop-k.invariant c.loop-k-test.true c.in_ok-size.ensures.0 c.args.x.now.fits c.requires.0
 
 pub size_next-t-requires : goal.size_next-t-requires
 size_next-t-requires c =
     let b = c.in_ok-size.ensures in
-    (next c.loop-k.invariant c.loop-k-test.true b.0 c.requires.0 c.requires.1, c.find_owner.ensures.0.owned, b.1)
+    (next c.loop-k.invariant c.loop-k-test.true b.0 c.args.x.now.fits c.requires.0, c.find_owner.ensures.0.owned, b.1)
 
 pub loop-k-preserved : goal.loop-k-preserved
-loop-k-preserved c = turn c.loop-k.invariant c.loop-k-test.true c.in_ok-size.ensures.0 c.size_next-t.ensures c.find_owner.ensures
+loop-k-preserved c = turn c.loop-k.invariant c.loop-k-test.true c.in_ok-size.ensures.0 c.size_next-t.ensures (c.find_owner.ensures.0, c.find_owner.ensures.1.links_long, c.find_owner.ensures.1.owners_long)
 
 pub returns : goal.returns
 returns c = (ended c.loop-k.invariant c.loop-k-test.false, enough c.loop-k.invariant)

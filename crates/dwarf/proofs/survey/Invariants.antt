@@ -1,4 +1,4 @@
-use Rattle.dwarf.specs.Parts.{inputs_of}
+use Rattle.header_keys.specs.Inputs.{inputs_of}
 use Rattle.dwarf.proofs.Surveying.{Surveying}
 use Rattle.dwarf.proofs.survey.Given as goal
 

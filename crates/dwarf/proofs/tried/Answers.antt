@@ -3,10 +3,10 @@ use Rattle.dwarf.proofs.Surveying.{few_of}
 use Rattle.dwarf.proofs.tried.Goals as goal
 
 pub ample-requires : goal.ample-requires
-ample-requires c = few_of _ c.requires.1
+ample-requires c = few_of _ c.requires.0
 
 pub returns-then-ample : goal.returns-then-ample
-returns-then-ample c = (tt, c.requires.2.enough)
+returns-then-ample c = (tt, c.requires.1.enough)
 
 pub survey-requires : goal.survey-requires
 survey-requires c = c.requires

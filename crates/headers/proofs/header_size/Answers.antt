@@ -8,26 +8,26 @@ use Rattle.headers.proofs.Keys.{header_length}
 use Rattle.headers.proofs.header_size.Goals as goal
 
 pub fields_size-requires : goal.fields_size-requires
-fields_size-requires c = (word_bounds c.args.m.word c.requires.0.machine.is_word).1
+fields_size-requires c = (word_bounds c.args.f.now.machine.now.word c.args.f.now.sound.machine.is_word).1
 
 pub overflow_add-n-2 : goal.overflow_add-n-2
-overflow_add-n-2 c = omega (arith, c.starts_size.ensures, starts_short c.args.m c.args.e c.args.rows.now c.requires.0, c.fields_size.ensures.1)
+overflow_add-n-2 c = omega (arith, c.starts_size.ensures, starts_short c.args.f.now.machine.now c.args.f.now.extent c.args.f.now.rows.now c.args.f.now.sound, c.fields_size.ensures.1)
 
 pub overflow_add-at : goal.overflow_add-at
-overflow_add-at c = omega (arith, c.starts_size.ensures, starts_short c.args.m c.args.e c.args.rows.now c.requires.0, c.fields_size.ensures.1, c.requires.2)
+overflow_add-at c = omega (arith, c.starts_size.ensures, starts_short c.args.f.now.machine.now c.args.f.now.extent c.args.f.now.rows.now c.args.f.now.sound, c.fields_size.ensures.1, c.requires)
 
 pub overflow_add-result : goal.overflow_add-result
 overflow_add-result c =
     omega (
       arith,
       c.starts_size.ensures,
-      starts_short c.args.m c.args.e c.args.rows.now c.requires.0,
+      starts_short c.args.f.now.machine.now c.args.f.now.extent c.args.f.now.rows.now c.args.f.now.sound,
       c.fields_size.ensures.1,
       c.padding.ensures,
-      padding_small c.args.align (c.args.at + (4 + c.fields_size.result + c.starts_size.result)) c.requires.1.some_bytes,
-      c.requires.1.at_most_8,
+      padding_small c.args.f.now.align (c.args.at + (4 + c.fields_size.result + c.starts_size.result)) c.args.f.now.aligned.some_bytes,
+      c.args.f.now.aligned.at_most_8,
     )
 
 pub returns : goal.returns
 returns c =
-    rw (header_length c.args.m c.args.e c.args.rows.now c.args.debug c.args.align c.args.at, ← c.fields_size.ensures.0, ← c.starts_size.ensures, ← c.padding.ensures)
+    rw (header_length c.args.f.now.machine.now c.args.f.now.extent c.args.f.now.rows.now c.args.f.now.debug c.args.f.now.align c.args.at, ← c.fields_size.ensures.0, ← c.starts_size.ensures, ← c.padding.ensures)

@@ -9,21 +9,21 @@ use Rattle.headers.proofs.named_data.Goals as goal
 
 pub byte-a-requires : goal.byte-a-requires
 unfolding named_data
-byte-a-requires c = omega (arith, c.requires.2)
+byte-a-requires c = omega (arith, c.requires.1)
 
 pub fill-b-requires : goal.fill-b-requires
 unfolding named_data
-fill-b-requires c = let h = simp (length-append, length-replicate {A = ℕ} c.args.size 0) at c.requires.2 in search rules
+fill-b-requires c = let h = simp (length-append, length-replicate {A = ℕ} c.args.size 0) at c.requires.1 in search rules
 
 pub lsda_letter-c-requires : goal.lsda_letter-c-requires
 unfolding named_data
 lsda_letter-c-requires c =
-    let h = simp length-append at c.requires.2 in
-    (c.requires.1, search rules)
+    let h = simp length-append at c.requires.1 in
+    (c.requires.0.1, search rules)
 
 pub byte-requires : goal.byte-requires
 unfolding named_data
-byte-requires c = let h = simp length-append at c.requires.2 in search rules
+byte-requires c = let h = simp length-append at c.requires.1 in search rules
 
 pub returns : goal.returns
 unfolding named_data

@@ -1,11 +1,12 @@
 -- `personal_header` is a named one with its own encodings.
+use mathlib.Core.Path.{refl}
 use native.Mathlib.Omega.{arith}
 use Rattle.headers.proofs.Tails.{personal_tail}
 use Rattle.headers.proofs.personal_header.Goals as goal
 
 pub named_header-requires : goal.named_header-requires
 named_header-requires c =
-    (c.requires.0, omega arith, (λ q. omega arith), rw (personal_tail c.args.word c.args.ret c.args.signal) at c.requires.1)
+    ((omega arith, omega arith), rw (personal_tail c.args.f.now.machine.now.word c.args.f.now.machine.now.ret c.args.f.now.extent.signal refl) at c.requires)
 
 pub returns : goal.returns
-returns c = rw (personal_tail c.args.word c.args.ret c.args.signal) c.named_header.ensures
+returns c = rw (personal_tail c.args.f.now.machine.now.word c.args.f.now.machine.now.ret c.args.f.now.extent.signal refl) c.named_header.ensures

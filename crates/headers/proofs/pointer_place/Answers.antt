@@ -8,7 +8,7 @@ use Rattle.headers.proofs.pointer_place.Goals as goal
 pub overflow_sub-result : goal.overflow_sub-result
 unfolding head_in
 overflow_sub-result c =
-    omega (arith, eh_length c.args.m (head_in c.args.e) (omega (arith, c.data_size.ensures)), c.fields_size.ensures.0, c.data_size.ensures.0)
+    omega (arith, eh_length c.args.m.now (head_in c.args.e.now) (omega (arith, c.data_size.ensures)), c.fields_size.ensures.0, c.data_size.ensures.0)
 
 pub returns : goal.returns
 unfolding pointer_place head_in

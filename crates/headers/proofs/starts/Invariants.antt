@@ -4,4 +4,4 @@ use Rattle.headers.proofs.Turns.{Rowing}
 use Rattle.headers.proofs.starts.Given as goal
 
 abbrev pub invariant-loop-i : goal.invariant-loop-i
-invariant-loop-i l = Rowing l.m.word (leading l.m (body_of l.e l.rows)) l.initial.out l.out l.at l.p l.i
+invariant-loop-i l = Rowing l.f.machine.now.word (leading l.f.machine.now (body_of l.f.extent l.f.rows.now)) l.initial.out l.out l.at l.p l.i

@@ -1,7 +1,7 @@
 -- `operations::operation` meets its contract.
 use mathlib.Core.Path.{sym, ◌∙◌}
 use native.Mathlib.Omega.{arith}
-use Rattle.operations.proofs.Operations.{past_end, op_extended, op_step, op_saved, op_restore}
+use Rattle.operations.proofs.OperandLaws.{past_end, op_extended, op_step, op_saved, op_restore}
 use Rattle.operations.proofs.operation.Goals as goal
 
 pub returns-then-s-from : goal.returns-then-s-from

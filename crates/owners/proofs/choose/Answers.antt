@@ -3,61 +3,63 @@ use mathlib.Core.Path.{ap, ◌≡◌, ◌∙◌, sym}
 use mathlib.Core.Bool.{not, false}
 use Prim.Native.Nat.{◌-◌, ◌<◌}
 use native.Mathlib.Omega.{arith}
+use lib.ListN.{length}
 use borrow.Author.Rules.{rules}
 use Rattle.header_keys.specs.Functions.{RowsReady}
+use Rattle.header_keys.specs.Inputs.{inputs_of}
 use Rattle.owners.proofs.Finding.{shares}
 use Rattle.owners.proofs.Walking.{Walking, first_low, near, found, lower}
 use Rattle.owners.proofs.Walking as walking
 use Rattle.owners.proofs.Comparing.{rows_taken, Asked, turn, differ, unlike, by_rows_lem, by_counts}
 use Rattle.owners.proofs.Comparing as comparing
 use Rattle.owners.proofs.choose.Goals as goal
-use Rattle.owners.proofs.choose.Goals.{After-behind-next, After-same_kind_and_signal, After-taken_at-other, After-taken_at-own}
+use Rattle.owners.proofs.choose.Goals.{After-behind-next, After-same_kind_and_signal, After-function-other, After-function-own}
 
 -- the rows of function k, and those of the function that is looked at, are ready
-own-ready : (c : After-taken_at-own) → RowsReady c.args.rows.now c.taken_at-own.result.rows_at c.taken_at-own.result.rows
+own-ready : (c : After-function-own) → RowsReady c.args.x.now.lists.rows.now c.function-own.result.rows_at c.function-own.result.rows
 own-ready c =
-    rows_taken c.args.s c.args.fs.now c.args.rows.now c.args.k c.taken_at-own.result c.taken_at-own.ensures (c.requires.1.rows_ready c.args.k (omega arith))
+    rows_taken c.args.x.now.section c.args.x.now.lists.functions.now c.args.x.now.lists.rows.now c.args.k c.function-own.result c.function-own.ensures (c.requires.0.rows_ready c.args.k (omega arith))
 
-other-ready : (c : After-taken_at-other)
-    → RowsReady c.args.rows.now c.taken_at-other.result.rows_at c.taken_at-other.result.rows
+other-ready : (c : After-function-other)
+    → RowsReady c.args.x.now.lists.rows.now c.function-other.result.rows_at c.function-other.result.rows
 other-ready c =
     let next = c.functions.next in
-    rows_taken c.args.s c.args.fs.now c.args.rows.now (next - 1) c.taken_at-other.result c.taken_at-other.ensures
-    (c.requires.1.rows_ready (next - 1) (omega (arith, near c.requires.2 c.functions.invariant c.functions-test.true)))
+    rows_taken c.args.x.now.section c.args.x.now.lists.functions.now c.args.x.now.lists.rows.now (next - 1) c.function-other.result c.function-other.ensures
+    (c.requires.0.rows_ready (next - 1) (omega (arith, near c.requires.1 c.functions.invariant c.functions-test.true)))
 
 asked : (c : After-same_kind_and_signal)
-    → Asked c.args.s c.args.m c.args.fs.now c.args.rows.now (c.functions.next - 1) c.args.k c.taken_at-other.result c.taken_at-own.result c.same_kind_and_signal.result
-asked c = record { first = c.taken_at-other.ensures; second = c.taken_at-own.ensures; answer = c.same_kind_and_signal.ensures }
+    → Asked (inputs_of c.args.x.now) (c.functions.next - 1) c.args.k c.function-other.result c.function-own.result c.same_kind_and_signal.result
+asked c = record { first = c.function-other.ensures; second = c.function-own.ensures; answer = c.same_kind_and_signal.ensures }
 
 -- the next turn, where the function has another key
 on-next : (c : After-same_kind_and_signal)
-    → shares c.args.s c.args.m c.args.fs.now c.args.rows.now c.args.k (c.functions.next - 1) ≡ false
-    → Walking c.args.s c.args.m c.args.fs.now c.args.rows.now c.args.size c.args.k c.behind-next.result c.args.links.now
+    → shares (inputs_of c.args.x.now) c.args.k (c.functions.next - 1) ≡ false
+    → Walking (inputs_of c.args.x.now) (length c.args.chains.now.heads.now) c.args.k c.behind-next.result c.args.chains.now.links.now
 on-next c e =
-    rw c.behind-next.ensures (walking.turn c.requires.2 c.functions.invariant c.functions-test.true e)
+    rw c.behind-next.ensures (walking.turn c.requires.1 c.functions.invariant c.functions-test.true e)
 
 -- which is behind the one that is looked at
 goes_down : (c : After-behind-next) → c.behind-next.result < c.functions.next
 goes_down c =
-    omega (arith, c.behind-next.ensures, lower c.requires.2 c.functions.invariant c.functions-test.true)
+    omega (arith, c.behind-next.ensures, lower c.requires.1 c.functions.invariant c.functions-test.true)
 
 pub leading_count-count-requires : goal.leading_count-count-requires
-leading_count-count-requires c = own-ready c
+leading_count-count-requires c = own-ready (goal.at.leading_count-count-requires c).After-function-own
 
 pub overflow_add-next : goal.overflow_add-next
 overflow_add-next c =
-    search (rules, first_low c.requires.2, c.requires.2.long)
+    search (rules, first_low c.requires.1, c.requires.1.long)
 
 pub functions-init : goal.functions-init
-functions-init c = walking.start c.requires.2
+functions-init c = walking.start c.requires.1
 
 pub behind-next-requires : goal.behind-next-requires
 behind-next-requires c =
-    omega (arith, near c.requires.2 c.functions.invariant c.functions-test.true, c.requires.2.long)
+    omega (arith, near c.requires.1 c.functions.invariant c.functions-test.true, c.requires.1.long)
 
-pub taken_at-other-requires : goal.taken_at-other-requires
-taken_at-other-requires c =
-    omega (arith, near c.requires.2 c.functions.invariant c.functions-test.true, c.requires.1.within)
+pub function-other-requires : goal.function-other-requires
+function-other-requires c =
+    omega (arith, near c.requires.1 c.functions.invariant c.functions-test.true, c.requires.0.within)
 
 pub functions-smaller-then-not-same_kind_and_signal : goal.functions-smaller-then-not-same_kind_and_signal
 functions-smaller-then-not-same_kind_and_signal c = goes_down (goal.at.functions-smaller-then-not-same_kind_and_signal c).After-behind-next
@@ -67,7 +69,7 @@ functions-preserved-then-not-same_kind_and_signal c =
     on-next (goal.at.functions-preserved-then-not-same_kind_and_signal c).After-same_kind_and_signal (unlike (asked (goal.at.functions-preserved-then-not-same_kind_and_signal c).After-same_kind_and_signal) (ap not c.if-not-same_kind_and_signal.true))
 
 pub leading_count-requires : goal.leading_count-requires
-leading_count-requires c = other-ready (goal.at.leading_count-requires c).After-taken_at-other
+leading_count-requires c = other-ready (goal.at.leading_count-requires c).After-function-other
 
 pub functions-smaller-then-leading_count-count : goal.functions-smaller-then-leading_count-count
 functions-smaller-then-leading_count-count c = goes_down (goal.at.functions-smaller-then-leading_count-count c).After-behind-next
@@ -83,9 +85,8 @@ rows-init c =
 
 pub same_leading-requires : goal.same_leading-requires
 same_leading-requires c = (
-  c.requires.0,
-  other-ready (goal.at.same_leading-requires c).After-taken_at-other,
-  own-ready (goal.at.same_leading-requires c).After-taken_at-own,
+  other-ready (goal.at.same_leading-requires c).After-function-other,
+  own-ready (goal.at.same_leading-requires c).After-function-own,
   omega (arith, c.rows-test.true, c.rows.invariant.first_count),
   omega (arith, c.rows-test.true, c.rows.invariant.second_count),
 )
@@ -105,8 +106,8 @@ rows-preserved c =
 
 pub returns-in-functions : goal.returns-in-functions
 returns-in-functions c =
-    found c.requires.2 c.functions.invariant c.functions-test.true
+    found c.requires.1 c.functions.invariant c.functions-test.true
     (by_rows_lem (asked (goal.at.returns-in-functions c).After-same_kind_and_signal) (ap not c.if-not-same_kind_and_signal.false) (comparing.ended c.rows.invariant c.rows-test.false))
 
 pub returns : goal.returns
-returns c = walking.ended c.requires.2 c.functions.invariant c.functions-test.false
+returns c = walking.ended c.requires.1 c.functions.invariant c.functions-test.false

@@ -1,20 +1,12 @@
 -- `reader::locate` meets its contract.
-use mathlib.Core.Path.{sym, ◌∙◌}
-use native.Mathlib.Omega.{arith}
-use Rattle.reader.proofs.Asked.{no_word, no_kind, kind_and_word}
+use Rattle.reader.proofs.Asked.{not_laid, laid}
 use Rattle.reader.proofs.locate.Goals as goal
 
-pub returns-then-not-is_word : goal.returns-then-not-is_word
-returns-then-not-is_word c = no_word _ _ _ _ _ (sym c.is_word.ensures ∙ c.if-not-is_word.true)
-
-pub returns-then-kind-gt1 : goal.returns-then-kind-gt1
-returns-then-kind-gt1 c = no_kind _ _ _ _ _ (omega (arith, c.if-kind-gt1.true))
-
-pub locate-requires : goal.locate-requires
-locate-requires c = rw (sym c.is_word.ensures ∙ c.if-not-is_word.false) tt
+pub returns-in_default : goal.returns-in_default
+returns-in_default c = not_laid _ _ _ _ _ (rw c.in_default.is at c.section_of.ensures)
 
 pub returns : goal.returns
 returns c =
     let a = c.args in
-    rw (kind_and_word a.section.now a.relocations.now a.kind a.word a.k (sym c.is_word.ensures ∙ c.if-not-is_word.false) (omega (arith, c.if-kind-gt1.false)))
-    c.locate.ensures
+    let d = rw c.in-Some.is at c.section_of.ensures in
+    rw (laid a.section.now a.relocations.now a.kind a.word a.k d.2.0) (rw (d.0, d.1, d.2.1, d.2.2) at c.locate.ensures)

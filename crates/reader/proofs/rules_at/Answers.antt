@@ -1,7 +1,7 @@
 -- `reader::rules_at` meets its contract.
 use mathlib.Core.Path.{sym, ◌∙◌}
 use native.Mathlib.Omega.{arith}
-use Rattle.reader.proofs.Asked.{fits, not_in_section, past_the_end, within}
+use Rattle.reader.proofs.Asked.{not_in_section, past_the_end, within}
 use Rattle.reader.proofs.rules_at.Goals as goal
 
 pub returns-then-not-in_section : goal.returns-then-not-in_section
@@ -11,7 +11,7 @@ pub returns-then-l-p : goal.returns-then-l-p
 returns-then-l-p c = past_the_end _ _ _ _ (sym c.in_section.ensures ∙ c.if-not-in_section.false) c.if-l-p.true
 
 pub run-requires : goal.run-requires
-run-requires c = fits _ _ (sym c.in_section.ensures ∙ c.if-not-in_section.false)
+run-requires c = rw (sym c.in_section.ensures ∙ c.if-not-in_section.false) tt
 
 pub returns : goal.returns
 returns c =

@@ -1,15 +1,16 @@
 -- `reads::unwind_function_at` meets its contract.
 use Rattle.reads.specs.Addresses.{placed_as}
 use Rattle.reads.proofs.Addressing.{function_unasked, function_asked}
-use Rattle.reads.proofs.Placing.{asked_word}
-use Rattle.std.proofs.Common.{ap, sym, ◌∙◌}
+use Rattle.std.proofs.Common.{ap, ◌∙◌}
+use Rattle.reads.specs.Places.{asked}
 use Rattle.reads.proofs.unwind_function_at.Goals as goal
 
-pub returns-then-not-asked : goal.returns-then-not-asked
-returns-then-not-asked c = c.answer_placed.ensures ∙ function_unasked _ _ _ _ _ (sym c.asked.ensures ∙ c.if-not-asked.true)
-
-pub function_at-requires : goal.function_at-requires
-function_at-requires c = asked_word _ _ (sym c.asked.ensures ∙ c.if-not-asked.false)
+pub returns-in_default : goal.returns-in_default
+unfolding asked
+returns-in_default c = c.answer_placed.ensures ∙ function_unasked _ _ _ _ _ (rw c.in_default.is at c.section_of.ensures)
 
 pub returns : goal.returns
-returns c = c.answer_placed-2.ensures ∙ ap placed_as c.function_at.ensures ∙ function_asked _ _ _ _ _ (sym c.asked.ensures ∙ c.if-not-asked.false)
+unfolding asked
+returns c =
+    let d = rw c.in-Some.is at c.section_of.ensures in
+    c.answer_placed-2.ensures ∙ ap placed_as (rw (d.0, d.2.1, d.2.2) at c.function_at.ensures) ∙ function_asked _ _ _ _ _ d.2.0

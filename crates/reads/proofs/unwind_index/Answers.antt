@@ -1,14 +1,17 @@
 -- `reads::unwind_index` meets its contract.
 use Rattle.reads.proofs.Indexing.{index_unasked, index_asked}
-use Rattle.std.proofs.Common.{sym, ◌∙◌}
+use Rattle.reads.specs.Places.{asked}
 use Rattle.reads.proofs.unwind_index.Goals as goal
 
-pub returns-then-not-asked : goal.returns-then-not-asked
-returns-then-not-asked c =
+pub returns-in_default : goal.returns-in_default
+unfolding asked
+returns-in_default c =
     let a = c.args in
-    index_unasked a.section.now a.relocations.now a.kind a.word a.places.now (sym c.asked.ensures ∙ c.if-not-asked.true) c.answer_indexed.ensures
+    index_unasked a.section.now a.relocations.now a.kind a.word a.places.now (rw c.in_default.is at c.section_of.ensures) c.answer_indexed.ensures
 
 pub returns : goal.returns
+unfolding asked
 returns c =
     let a = c.args in
-    index_asked a.section.now a.relocations.now a.kind a.word a.places.now (sym c.asked.ensures ∙ c.if-not-asked.false) c.answer_indexed-2.ensures c.index_in.ensures
+    let d = rw c.in-Some.is at c.section_of.ensures in
+    index_asked a.section.now a.relocations.now a.kind a.word a.places.now d.2.0 c.answer_indexed-2.ensures (rw (d.0, d.1, d.2.1) at c.index_in.ensures)

@@ -12,8 +12,8 @@ returns-then-e-eq0 c = let h = c.if-e-eq0.true in rw added_none idle
 pub fill-a-requires : goal.fill-a-requires
 fill-a-requires c = let n = c.if-e-eq0.false in let h = rw added_length at c.requires.1 in rw c.padding.ensures (search rules)
 
-pub site_table-requires : goal.site_table-requires
-site_table-requires c = (c.requires.0.inside, c.requires.0.few, let n = c.if-e-eq0.false in let h = rw added_length at c.requires.1 in let l = length-replicate {A = ℕ} c.padding.result 0 in search rules)
+pub put_table-requires : goal.put_table-requires
+put_table-requires c = (let n = c.if-e-eq0.false in let h = rw added_length at c.requires.1 in let l = length-replicate {A = ℕ} c.padding.result 0 in search rules)
 
 pub returns : goal.returns
-returns c = let n = c.if-e-eq0.false in rw added_some ((rw c.padding.ensures at c.fill-a.ensures) then c.site_table.ensures)
+returns c = let n = c.if-e-eq0.false in rw added_some ((rw c.padding.ensures at c.fill-a.ensures) then c.put_table.ensures)

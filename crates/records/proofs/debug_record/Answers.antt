@@ -8,7 +8,7 @@ use borrow.Author.Rules.{rules}
 use Rattle.records.proofs.debug_record.Goals as goal
 
 pub le-requires : goal.le-requires
-le-requires c = let k = length-replicate {A = ℕ} c.args.word 0 in search rules
+le-requires c = let k = length-replicate {A = ℕ} c.args.f.now.machine.now.word 0 in search rules
 
 pub returns : goal.returns
 unfolding fields_in

@@ -5,16 +5,16 @@ use Rattle.records.proofs.field_relocs.Goals as goal
 
 pub debug_relocs-requires : goal.debug_relocs-requires
 unfolding field_relocs pick
-debug_relocs-requires c = (c.requires.0, c.requires.1, rw c.if-debug.true at c.requires.2)
+debug_relocs-requires c = (c.requires.0, rw c.if-f.true at c.requires.1)
 
-pub returns-then-debug : goal.returns-then-debug
+pub returns-then-f : goal.returns-then-f
 unfolding field_relocs pick
-returns-then-debug c = rw c.if-debug.true c.debug_relocs.ensures
+returns-then-f c = rw c.if-f.true c.debug_relocs.ensures
 
 pub eh_relocs-requires : goal.eh_relocs-requires
 unfolding field_relocs pick
-eh_relocs-requires c = (c.requires.1, rw c.if-debug.false at c.requires.2)
+eh_relocs-requires c = (c.requires.0, rw c.if-f.false at c.requires.1)
 
 pub returns : goal.returns
 unfolding field_relocs pick
-returns c = rw c.if-debug.false c.eh_relocs.ensures
+returns c = rw c.if-f.false c.eh_relocs.ensures

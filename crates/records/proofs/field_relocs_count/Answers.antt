@@ -5,10 +5,10 @@ use Rattle.records.specs.Fields.{field_relocs}
 use Rattle.records.proofs.FieldRelocs.{debug_count, eh_count}
 use Rattle.records.proofs.field_relocs_count.Goals as goal
 
-pub returns-then-debug : goal.returns-then-debug
+pub returns-then-f : goal.returns-then-f
 unfolding field_relocs pick
-returns-then-debug c = (rw (c.if-debug.true, debug_count) (omega (arith, c.sum_count.ensures.0)), omega (arith, c.sum_count.ensures.1))
+returns-then-f c = (rw (c.if-f.true, debug_count) (omega (arith, c.sum_count.ensures.0)), omega (arith, c.sum_count.ensures.1))
 
 pub returns : goal.returns
 unfolding field_relocs pick
-returns c = (rw (c.if-debug.false, eh_count) (omega (arith, c.lsda_count.ensures.0, c.sum_count-2.ensures.0)), omega (arith, c.lsda_count.ensures.1, c.sum_count-2.ensures.1))
+returns c = (rw (c.if-f.false, eh_count) (omega (arith, c.lsda_count.ensures.0, c.sum_count-2.ensures.0)), omega (arith, c.lsda_count.ensures.1, c.sum_count-2.ensures.1))

@@ -2,31 +2,30 @@
 use borrow.Author.Rules.{rules}
 use Rattle.format.specs.Lists.{numbers_of}
 use Rattle.format.proofs.PutLaws.{idle}
-use Rattle.header_keys.proofs.KindMeans.{decides_plain, decides_personal, decides_named}
-use Rattle.records.specs.Fields.{lsda_in}
-use Rattle.records.proofs.FieldLaws.{by_landings, by_none, by_no_lsda, by_lsda}
+use Rattle.header_keys.proofs.KindMeans.{decides}
+use Rattle.records.specs.Fields.{lsda_by, pointed, lsda_in}
 use Rattle.records.proofs.lsda_reloc.Goals as goal
 
 pub relocation-requires : goal.relocation-requires
-unfolding lsda_in numbers_of
-relocation-requires c = let e = c.args.e in let h = rw (by_landings e _ _ _ (decides_personal (e) c.kind_of.ensures c.in-Personal.is)) at c.requires in search rules
-
-pub returns-then-not-e : goal.returns-then-not-e
-unfolding lsda_in numbers_of
-returns-then-not-e c = let e = c.args.e in let d = decides_named (e) c.kind_of.ensures c.in-Named.is in rw (by_no_lsda e _ _ _ d.0 d.1 c.if-not-e.true) idle
+unfolding lsda_in pointed numbers_of
+relocation-requires c = let h = rw (decides c.args.f.now.extent c.kind_of.ensures c.in-Personal.is) at c.requires in search rules
 
 pub pointer-requires : goal.pointer-requires
-unfolding lsda_in numbers_of
-pointer-requires c = let e = c.args.e in let d = decides_named (e) c.kind_of.ensures c.in-Named.is in let h = rw (by_lsda e _ _ _ d.0 d.1 c.if-not-e.false) at c.requires in search rules
+unfolding lsda_in pointed lsda_by numbers_of
+pointer-requires c = let h = rw (decides c.args.f.now.extent c.kind_of.ensures c.in-Named.is, c.in-Some.is) at c.requires in search rules
 
 pub returns-in-Plain : goal.returns-in-Plain
-unfolding lsda_in numbers_of
-returns-in-Plain c = let e = c.args.e in let d = decides_plain (e) c.kind_of.ensures c.in-Plain.is in rw (by_none e _ _ _ d.0 d.1) idle
+unfolding lsda_in pointed numbers_of
+returns-in-Plain c = rw (decides c.args.f.now.extent c.kind_of.ensures c.in-Plain.is) idle
 
 pub returns-in-Personal : goal.returns-in-Personal
-unfolding lsda_in numbers_of
-returns-in-Personal c = let e = c.args.e in rw (by_landings e _ _ _ (decides_personal (e) c.kind_of.ensures c.in-Personal.is)) c.relocation.ensures
+unfolding lsda_in pointed numbers_of
+returns-in-Personal c = rw (decides c.args.f.now.extent c.kind_of.ensures c.in-Personal.is) c.relocation.ensures
 
-pub returns-else-not-e : goal.returns-else-not-e
-unfolding lsda_in numbers_of
-returns-else-not-e c = let e = c.args.e in let d = decides_named (e) c.kind_of.ensures c.in-Named.is in rw (by_lsda e _ _ _ d.0 d.1 c.if-not-e.false) c.pointer.ensures
+pub returns-in-Some : goal.returns-in-Some
+unfolding lsda_in pointed lsda_by numbers_of
+returns-in-Some c = rw (decides c.args.f.now.extent c.kind_of.ensures c.in-Named.is, c.in-Some.is) c.pointer.ensures
+
+pub returns-in-None : goal.returns-in-None
+unfolding lsda_in pointed lsda_by numbers_of
+returns-in-None c = rw (decides c.args.f.now.extent c.kind_of.ensures c.in-Named.is, c.in-None.is) idle

@@ -4,7 +4,6 @@ use Prim.Native.Nat.{◌+◌, ◌-◌, ◌*◌, ◌≤◌}
 use native.Mathlib.Omega.{arith}
 use lib.ListN.{length}
 use Rattle.format.proofs.EntryBack.{padding_small}
-use Rattle.format.proofs.FieldsBack.{word_small}
 use Rattle.records.specs.Stepped.{rows_in}
 use Rattle.records.proofs.RowLoops.{rows_at_most}
 use Rattle.records.proofs.OtherRows.{ahead_ready, others_ready, size_parted}
@@ -13,52 +12,53 @@ use Rattle.records.proofs.record_size.Goals as goal
 use Rattle.records.proofs.record_size.Goals.{After-stepped_rows_size}
 
 pub ahead-k-requires : goal.ahead-k-requires
-ahead-k-requires c = c.requires.0.ready
+ahead-k-requires c = c.args.f.now.sound.ready
 
-pub fields_size-requires : goal.fields_size-requires
-fields_size-requires c = (word_small _ c.requires.0.machine.is_word).1
+pub invariant_of-leading : goal.invariant_of-leading
+invariant_of-leading c =
+    record { ready = (ahead_ready c.args.f.now.extent c.args.f.now.rows.now c.ahead-k.ensures c.args.f.now.sound).ready }
 
 pub stepped_rows_size-requires : goal.stepped_rows_size-requires
 stepped_rows_size-requires c =
-    ahead_ready c.args.e c.args.rows.now c.ahead-k.ensures c.requires.0
+    ahead_ready c.args.f.now.extent c.args.f.now.rows.now c.ahead-k.ensures c.args.f.now.sound
 
 -- what is left of the size is that of the rows that do not lead
-left : (c : After-stepped_rows_size) → (c.stepped_rows_size.result ≤ c.args.size) × (c.args.size - c.stepped_rows_size.result ≤ 14 * c.args.e.rows)
+left : (c : After-stepped_rows_size) → (c.stepped_rows_size.result ≤ c.args.size) × (c.args.size - c.stepped_rows_size.result ≤ 14 * c.args.f.now.extent.rows)
 left c =
     let q = c.ahead-k.ensures in
-    let p = size_parted c.args.e c.args.rows.now q c.args.m.word in
-    let l = rows_at_most (others_ready c.args.e c.args.rows.now q c.requires.0) in
-    (omega (arith, p, c.requires.3, c.stepped_rows_size.ensures), omega (arith, p, l, c.requires.3, c.stepped_rows_size.ensures))
+    let p = size_parted c.args.f.now.extent c.args.f.now.rows.now q c.args.f.now.machine.now.word in
+    let l = rows_at_most (others_ready c.args.f.now.extent c.args.f.now.rows.now q c.args.f.now.sound) in
+    (omega (arith, p, c.requires.1, c.stepped_rows_size.ensures), omega (arith, p, l, c.requires.1, c.stepped_rows_size.ensures))
 
 pub overflow_sub-body : goal.overflow_sub-body
 overflow_sub-body c = omega (arith, (left c).0)
 
 pub overflow_add-body : goal.overflow_add-body
-overflow_add-body c = omega (arith, (left c).1, c.fields_size.ensures.1, c.requires.0.few)
+overflow_add-body c = omega (arith, (left c).1, c.fields_size.ensures.1, c.args.f.now.sound.few)
 
 pub overflow_add-result : goal.overflow_add-result
-overflow_add-result c = omega (arith, (left c).1, c.fields_size.ensures.1, c.requires.0.few)
+overflow_add-result c = omega (arith, (left c).1, c.fields_size.ensures.1, c.args.f.now.sound.few)
 
 pub overflow_add-at : goal.overflow_add-at
-overflow_add-at c = omega (arith, c.requires.2)
+overflow_add-at c = omega (arith, c.requires.0)
 
 pub overflow_add-at-2 : goal.overflow_add-at-2
-overflow_add-at-2 c = omega (arith, (left c).1, c.fields_size.ensures.1, c.requires.0.few, c.requires.2)
+overflow_add-at-2 c = omega (arith, (left (goal.at.overflow_add-at-2 c).After-stepped_rows_size).1, c.fields_size.ensures.1, c.args.f.now.sound.few, c.requires.0)
 
 pub padding-requires : goal.padding-requires
-padding-requires c = c.requires.1.some_bytes
+padding-requires c = c.args.f.now.aligned.some_bytes
 
 pub overflow_add-result-2 : goal.overflow_add-result-2
 overflow_add-result-2 c =
     let body = c.fields_size.result + (c.args.size - c.stepped_rows_size.result) in
-    omega (arith, (left (goal.at.overflow_add-result-2 c).After-stepped_rows_size).1, c.fields_size.ensures.1, c.requires.0.few, c.padding.ensures, padding_small c.args.align (c.args.at + 4 + body) c.requires.1.some_bytes, c.requires.1.at_most_8)
+    omega (arith, (left (goal.at.overflow_add-result-2 c).After-stepped_rows_size).1, c.fields_size.ensures.1, c.args.f.now.sound.few, c.padding.ensures, padding_small c.args.f.now.align (c.args.at + 4 + body) c.args.f.now.aligned.some_bytes, c.args.f.now.aligned.at_most_8)
 
 pub returns : goal.returns
 returns c =
     let q = c.ahead-k.ensures in
-    let e = c.args.e in
-    let rows = c.args.rows.now in
-    let p = size_parted e rows q c.args.m.word in
-    let o : c.args.size - c.stepped_rows_size.result ≡ length (rows_in c.args.m.word 0 rows (e.rows_at + c.ahead-k.result) (e.rows - c.ahead-k.result)) = omega (arith, p, c.requires.3, c.stepped_rows_size.ensures) in
-    rw (record_long c.args.debug c.args.m c.args.align c.args.at 0 e rows q, ← c.fields_size.ensures.0, ← o)
+    let e = c.args.f.now.extent in
+    let rows = c.args.f.now.rows.now in
+    let p = size_parted e rows q c.args.f.now.machine.now.word in
+    let o : c.args.size - c.stepped_rows_size.result ≡ length (rows_in c.args.f.now.machine.now.word 0 rows (e.rows_at + c.ahead-k.result) (e.rows - c.ahead-k.result)) = omega (arith, p, c.requires.1, c.stepped_rows_size.ensures) in
+    rw (record_long c.args.f.now.debug c.args.f.now.machine.now c.args.f.now.align c.args.at 0 e rows q, ← c.fields_size.ensures.0, ← o)
     (omega (arith, c.padding.ensures))

@@ -11,16 +11,16 @@ pub offset_at-requires : goal.offset_at-requires
 offset_at-requires c = c.requires.0.inside
 
 pub overflow_sub-offset_at : goal.overflow_sub-offset_at
-overflow_sub-offset_at c = omega (arith, c.offset_at.ensures, offset_of c.args.rows.now c.args.i, c.requires.0.forward)
+overflow_sub-offset_at c = omega (arith, c.offset_at.ensures, offset_of c.args.run.now.rows.now c.args.i, c.requires.0.forward)
 
 pub advance-a-requires : goal.advance-a-requires
 advance-a-requires c = let h = rw (row_at-length, offset_of, ← c.offset_at.ensures) at c.requires.1 in search rules
 
-pub row_in-requires : goal.row_in-requires
-row_in-requires c =
+pub put-requires : goal.put-requires
+put-requires c =
     let h = rw (row_at-length, offset_of, ← c.offset_at.ensures) at c.requires.1 in
-    (c.requires.0.word_low, c.requires.0.word_high, c.requires.0.inside, c.requires.0.ok, search rules)
+    (c.requires.0.word_low, c.requires.0.word_high, rw c.at.ensures (search rules))
 
 pub returns : goal.returns
 unfolding stepped_row_bytes row_at
-returns c = (rw c.offset_at.ensures at c.advance-a.ensures) then c.row_in.ensures
+returns c = (rw c.offset_at.ensures at c.advance-a.ensures) then (rw c.at.ensures at c.put.ensures)

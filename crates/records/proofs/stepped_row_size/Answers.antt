@@ -8,16 +8,16 @@ pub offset_at-requires : goal.offset_at-requires
 offset_at-requires c = c.requires.inside
 
 pub overflow_sub-offset_at : goal.overflow_sub-offset_at
-overflow_sub-offset_at c = omega (arith, c.offset_at.ensures, offset_of c.args.rows.now c.args.i, c.requires.forward)
+overflow_sub-offset_at c = omega (arith, c.offset_at.ensures, offset_of c.args.run.now.rows.now c.args.i, c.requires.forward)
 
-pub row_in_size-requires : goal.row_in_size-requires
-row_in_size-requires c = let p = c.requires in (p.word_low, p.word_high, p.inside, p.ok)
+pub size-requires : goal.size-requires
+size-requires c = let p = c.requires in (p.word_low, p.word_high)
 
 pub returns : goal.returns
 returns c =
-    let e = row_at-length c.args.word c.args.from (row_at c.args.rows.now c.args.i) in
-    let a = rw (c.offset_at.ensures, ← offset_of c.args.rows.now c.args.i) at c.advance_size.ensures in
-    let b = c.row_in_size.ensures in
+    let e = row_at-length c.args.run.now.word c.args.from (row_at c.args.run.now.rows.now c.args.i) in
+    let a = rw (c.offset_at.ensures, ← offset_of c.args.run.now.rows.now c.args.i) at c.advance_size-step.ensures in
+    let b = rw c.at.ensures at c.size.ensures in
     let l = row_at_short c.requires in
     (omega arith, omega arith)
 

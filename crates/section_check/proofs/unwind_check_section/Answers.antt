@@ -1,5 +1,5 @@
 -- `section_check::unwind_check_section` meets its contract.
-use mathlib.Core.Path.{sym, ◌∙◌}
+use mathlib.Core.Path.{refl, sym, ◌∙◌}
 use Rattle.section_check.specs.Check.{saying}
 use Rattle.section_check.proofs.Says.{no_word, untiled, gone_over, with_meaning}
 use Rattle.section_check.proofs.unwind_check_section.Goals as goal
@@ -17,7 +17,7 @@ returns-then-not-tiles c =
     record { value = m.0; means = m.1 }
 
 pub check_records-requires : goal.check_records-requires
-check_records-requires c = (rw (sym c.is_word.ensures ∙ c.if-not-is_word.false) tt, rw (sym c.tiles.ensures ∙ c.if-not-tiles.false) tt)
+check_records-requires c = (refl, rw (sym c.tiles.ensures ∙ c.if-not-tiles.false) tt)
 
 pub returns : goal.returns
 returns c =

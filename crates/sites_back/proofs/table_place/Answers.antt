@@ -10,14 +10,14 @@ returns-then-not-tiles c = let a = c.args in untiled a.section.now _ a.k (sym c.
 pub record_span-requires : goal.record_span-requires
 record_span-requires c = rw (sym c.tiles.ensures ∙ c.if-not-tiles.false) tt
 
-pub returns-in_err-at : goal.returns-in_err-at
-returns-in_err-at c = rw c.from_residual.ensures (no_record _ _ _ c.in_err-at.ensures)
+pub returns-in_err-record : goal.returns-in_err-record
+returns-in_err-record c = rw c.from_residual.ensures (no_record _ _ _ c.in_err-record.ensures)
 
-pub overflow_add-at : goal.overflow_add-at
-overflow_add-at c = let t = c.in_ok-at.ensures in record { fits = omega (arith, t.long, t.inside) }
+pub overflow_add-record : goal.overflow_add-record
+overflow_add-record c = let t = c.in_ok-record.ensures in record { fits = omega (arith, t.long, t.inside) }
 
 pub returns-in_err-place : goal.returns-in_err-place
-returns-in_err-place c = rw c.from_residual-in_err-place.ensures (sym c.in_err-place.was ∙ pointer _ _ _ c.in_ok-at.ensures c.first_addend.ensures)
+returns-in_err-place c = rw c.from_residual-in_err-place.ensures (sym c.in_err-place.was ∙ pointer _ _ _ c.in_ok-record.ensures c.first_addend.ensures)
 
 pub returns : goal.returns
-returns c = sym c.in_ok-place.was ∙ pointer _ _ _ c.in_ok-at.ensures c.first_addend.ensures
+returns c = sym c.in_ok-place.was ∙ pointer _ _ _ c.in_ok-record.ensures c.first_addend.ensures

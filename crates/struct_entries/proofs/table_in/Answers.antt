@@ -14,5 +14,5 @@ pub returns : goal.returns
 returns c =
     let a = c.args in
     accepts _ _ _ _ _ a.ok (ap not c.if-not-ok.false)
-    (table_ready a.format a.machine.now a.numbers.now a.functions a.rows a.landings.now a.pairs.now _ (c.requires c.if-not-ok.false))
+    (table_ready a.x.now.format a.x.now.machine.now a.numbers.now a.x.now.functions a.x.now.rows a.x.now.landings.now a.x.now.pairs.now _ (c.requires c.if-not-ok.false))
     (c.packed_table.ensures.exports, c.packed_table.ensures.numbers_after)

@@ -1,6 +1,7 @@
 -- `walk::frame_address` meets its contract.
 use mathlib.Core.Path.{◌∙◌}
-use Rattle.walk.proofs.Leaving.{passed, address_unset, address_absent, address_at}
+use Rattle.rows.proofs.Signs.{passed}
+use Rattle.walk.proofs.Leaving.{address_unset, address_absent, address_at}
 use Rattle.walk.proofs.frame_address.Goals as goal
 
 pub returns-in_default : goal.returns-in_default

@@ -2,7 +2,8 @@
 use mathlib.Core.Path.{ap}
 use Rattle.format.specs.Prelude.{good}
 use Rattle.walk.specs.Walk.{left_by}
-use Rattle.walk.proofs.Leaving.{passed, saved_none, saved_is}
+use Rattle.rows.proofs.Signs.{passed}
+use Rattle.walk.proofs.Leaving.{saved_none, saved_is}
 use Rattle.walk.proofs.left_by.Goals as goal
 
 pub returns-in-Unstated : goal.returns-in-Unstated

@@ -15,10 +15,10 @@ machine_of-known-requires c = rw (sym c.machine_ok.ensures ∙ c.if-not-machine_
 pub returns-then-known-ne8 : goal.returns-then-known-ne8
 returns-then-known-ne8 c = other_word c.args.machine.now _ (sym c.machine_ok.ensures ∙ c.if-not-machine_ok.false) c.machine_of-known.result c.machine_of-known.ensures c.if-known-ne8.true
 
-pub frames-requires : goal.frames-requires
-frames-requires c =
+pub invariant_of-fault : goal.invariant_of-fault
+invariant_of-fault c =
     let t : T (machine_ok c.args.machine.now) = rw (sym c.machine_ok.ensures ∙ c.if-not-machine_ok.false) tt in
-    rw c.machine_of-known.ensures (machine_fits _ t).ret_small
+    record { named = rw c.machine_of-known.ensures (machine_fits _ t).ret_small }
 
 pub returns : goal.returns
 returns c =

@@ -1,13 +1,11 @@
 -- `x64::windows` meets its contract.
 use mathlib.Core.Bool.{not}
-use mathlib.Core.Path.{ap}
-use Rattle.x64.proofs.ByRows.{no_machine, no_word, no_lists, rows_answers, rows_listed}
+use mathlib.Core.Path.{ap, sym}
+use Rattle.x64.proofs.ByRows.{no_machine, no_word, no_lists, rows_written, rows_listed, machine_known}
 use Rattle.format.specs.Questions.{room_in}
 use Rattle.lists.proofs.Answers.{accepted, refused}
 use Rattle.format.specs.Questions.{Given, Room}
-use Rattle.format.specs.Machine.{machine_of}
 use Rattle.format.proofs.Choice.{is_yes_lem}
-use lib.Dec.{eqb→eq}
 use Rattle.x64.proofs.windows.Goals as goal
 use Rattle.x64.proofs.windows.Goals.{Start}
 
@@ -28,11 +26,20 @@ machine_of-m-requires c = is_yes_lem (accepted c.machine_ok.ensures (ap not c.if
 pub returns-then-not-word_ok : goal.returns-then-not-word_ok
 returns-then-not-word_ok c = no_word (given (goal.at.returns-then-not-word_ok c).Start) (room (goal.at.returns-then-not-word_ok c).Start) (accepted c.machine_ok.ensures (ap not c.if-not-machine_ok.false)) (rw c.machine_of-m.ensures at (refused c.word_ok.ensures (ap not c.if-not-word_ok.true)))
 
-pub returns-then-not-lists_ok : goal.returns-then-not-lists_ok
-returns-then-not-lists_ok c = no_lists (given (goal.at.returns-then-not-lists_ok c).Start) (room (goal.at.returns-then-not-lists_ok c).Start) (accepted c.machine_ok.ensures (ap not c.if-not-machine_ok.false)) (rw c.machine_of-m.ensures at (accepted c.word_ok.ensures (ap not c.if-not-word_ok.false))) (refused c.lists_ok.ensures (ap not c.if-not-lists_ok.true))
+pub returns-then-not-ok : goal.returns-then-not-ok
+returns-then-not-ok c = no_lists (given (goal.at.returns-then-not-ok c).Start) (room (goal.at.returns-then-not-ok c).Start) (accepted c.machine_ok.ensures (ap not c.if-not-machine_ok.false)) (rw c.machine_of-m.ensures at (accepted c.word_ok.ensures (ap not c.if-not-word_ok.false))) (refused c.ok.ensures (ap not c.if-not-ok.true))
 
-pub answer-requires : goal.answer-requires
-answer-requires c = let a = c.args in rw c.machine_of-m.ensures (rows_listed a.machine.now a.functions.now a.rows.now a.landings.now a.pairs.now (is_yes_lem (accepted c.machine_ok.ensures (ap not c.if-not-machine_ok.false))) (eqb→eq (machine_of a.machine.now).word 8 (is_yes_lem (rw c.machine_of-m.ensures at (accepted c.word_ok.ensures (ap not c.if-not-word_ok.false))))) (is_yes_lem (accepted c.lists_ok.ensures (ap not c.if-not-lists_ok.false))))
+pub invariant_of-known : goal.invariant_of-known
+invariant_of-known c =
+    let h = machine_known c.args.machine.now (accepted c.machine_ok.ensures (ap not c.if-not-machine_ok.false)) c.machine_of-m.ensures (accepted c.word_ok.ensures (ap not c.if-not-word_ok.false)) in
+    record { registers = h.0; word = h.1; pushed = h.2 }
+
+pub invariant_of-x : goal.invariant_of-x
+invariant_of-x c = let a = c.args in record { listed = rows_listed _ a.functions.now a.rows.now a.landings.now a.pairs.now (is_yes_lem (accepted c.ok.ensures (ap not c.if-not-ok.false))) }
 
 pub returns : goal.returns
-returns c = let e = rw c.machine_of-m.ensures at c.answer.ensures in rw (rows_answers (given (goal.at.returns c).Start) (room (goal.at.returns c).Start) (accepted c.machine_ok.ensures (ap not c.if-not-machine_ok.false)) (rw c.machine_of-m.ensures at (accepted c.word_ok.ensures (ap not c.if-not-word_ok.false))) (accepted c.lists_ok.ensures (ap not c.if-not-lists_ok.false))) at e
+returns c =
+    let s = c.answer.ensures.1 in
+    let y = rw c.machine_of-m.ensures at (accepted c.word_ok.ensures (ap not c.if-not-word_ok.false)) in
+    rw (c.markers-1.given.1.1 (sym s.markers), c.bytes-1.given.1.1 (sym s.bytes), c.relocations-1.given.1.1 (sym s.relocations), c.info-1.given.1.1 (sym s.info))
+    (rows_written (given (goal.at.returns c).Start) (room (goal.at.returns c).Start) _ c.answer.ensures.0 c.machine_of-m.ensures (accepted c.machine_ok.ensures (ap not c.if-not-machine_ok.false)) y (accepted c.ok.ensures (ap not c.if-not-ok.false)))

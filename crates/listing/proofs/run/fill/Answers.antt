@@ -1,24 +1,35 @@
 -- `listing::run::fill` meets its contract.
 use mathlib.Core.Path.{sym, ◌∙◌}
-use borrow.Author.Tests.{eq-eqb, ne_eqb}
 use Rattle.format.proofs.FieldsBack.{word_small}
 use Rattle.format.proofs.PutLaws.{kept}
 use Rattle.listing.proofs.StoredLines.{stored_joined}
-use Rattle.listing.proofs.Doing.{bad_operation, all_done, shorter, padding, bad_step, no_step, far_step, line_room, near_step, bad_row, good_row}
+use Rattle.listing.proofs.Doing.{which, bad_operation, all_done, shorter, padding, bad_step, no_step, far_step, line_room, near_step, bad_row, good_row}
 use Rattle.listing.proofs.Both.{begin, enter, again, cut, refuses, end_room, ended_all}
+use native.Mathlib.Omega.{arith}
+use Rattle.reader.proofs.Asked.{places}
+use Rattle.reader.proofs.Both.{lies}
 use Rattle.listing.proofs.run.fill.Goals as goal
 
 pub entries-init : goal.entries-init
-entries-init c = begin c.requires.1 c.requires.2 c.start-state.ensures c.requires.5
+entries-init c = begin c.start-state.ensures c.requires.1
+
+pub slice_bounds-ops-start : goal.slice_bounds-ops-start
+slice_bounds-ops-start c = let f = lies c.args.s.now c.args.l.now (record { at = 0; end = 0 }) c.operations-span-items.ensures c.requires.0 _ c.entries-test.true in omega (arith, f.0, f.1)
+
+pub slice_bounds-ops-count : goal.slice_bounds-ops-count
+slice_bounds-ops-count c = let f = lies c.args.s.now c.args.l.now (record { at = 0; end = 0 }) c.operations-span-items.ensures c.requires.0 _ c.entries-test.true in omega (arith, f.0, f.1)
+
+pub slice_bounds-ops-end : goal.slice_bounds-ops-end
+slice_bounds-ops-end c = let f = lies c.args.s.now c.args.l.now (record { at = 0; end = 0 }) c.operations-span-items.ensures c.requires.0 _ c.entries-test.true in omega (arith, f.0, f.1)
 
 pub operations-init : goal.operations-init
-operations-init c = enter c.entries.invariant c.entries-test.true
+operations-init c = enter c.entries.invariant c.entries-test.true _ c.operations-span-items.ensures
 
 pub entries-preserved : goal.entries-preserved
-entries-preserved c = again c.entries.invariant c.operations.invariant c.entries-test.true c.requires.3 c.requires.4 (all_done c.operations.invariant c.operations-test.false)
+entries-preserved c = again c.entries.invariant c.operations.invariant c.entries-test.true (all_done c.operations.invariant c.operations-test.false)
 
 pub operation-requires : goal.operation-requires
-operation-requires c = (word_small c.args.word c.requires.0).0
+operation-requires c = (word_small c.args.l.now.word (places c.args.s.now c.args.l.now c.requires.0).0).0
 
 pub shape_of-out-in_default : goal.shape_of-out-in_default
 shape_of-out-in_default c = (stored_joined c.entries.invariant.lines c.operations.invariant.lines).long
@@ -32,29 +43,29 @@ operations-smaller-in-Nop c = shorter c.operations.invariant (sym c.operation.en
 pub operations-preserved-in-Nop : goal.operations-preserved-in-Nop
 operations-preserved-in-Nop c = padding c.operations.invariant (sym c.operation.ensures ∙ c.in-Some.is) c.in-Nop.is
 
-pub shape_of-out-then-first : goal.shape_of-out-then-first
-shape_of-out-then-first c = (stored_joined c.entries.invariant.lines c.operations.invariant.lines).long
+pub shape_of-out-then-is_none : goal.shape_of-out-then-is_none
+shape_of-out-then-is_none c = (stored_joined c.entries.invariant.lines c.operations.invariant.lines).long
 
-pub returns-then-first : goal.returns-then-first
-returns-then-first c = rw c.listed-then-first.ensures (refuses c.entries.invariant (bad_step c.operations.invariant (sym c.operation.ensures ∙ c.in-Some.is) c.in-Step.is (eq-eqb _ _ c.if-first.true)))
+pub returns-then-is_none : goal.returns-then-is_none
+returns-then-is_none c = rw c.listed-then-is_none.ensures (refuses c.entries.invariant (bad_step c.operations.invariant (sym c.operation.ensures ∙ c.in-Some.is) c.in-Step.is (which c.operations.invariant c.is_none.ensures ∙ c.if-is_none.true)))
 
 pub operations-smaller-then-n-eq0 : goal.operations-smaller-then-n-eq0
 operations-smaller-then-n-eq0 c = shorter c.operations.invariant (sym c.operation.ensures ∙ c.in-Some.is)
 
 pub operations-preserved-then-n-eq0 : goal.operations-preserved-then-n-eq0
-operations-preserved-then-n-eq0 c = no_step c.operations.invariant (sym c.operation.ensures ∙ c.in-Some.is) c.in-Step.is (ne_eqb _ _ c.if-first.false) c.if-n-eq0.true
+operations-preserved-then-n-eq0 c = no_step c.operations.invariant (sym c.operation.ensures ∙ c.in-Some.is) c.in-Step.is (which c.operations.invariant c.is_none.ensures ∙ c.if-is_none.false) c.if-n-eq0.true
 
 pub entries-preserved-then-loc-n : goal.entries-preserved-then-loc-n
-entries-preserved-then-loc-n c = cut c.entries.invariant c.operations.invariant c.entries-test.true c.requires.3 c.requires.4 (ne_eqb _ _ c.if-first.false) (far_step c.operations.invariant (sym c.operation.ensures ∙ c.in-Some.is) c.in-Step.is (ne_eqb _ _ c.if-first.false) c.if-n-eq0.false c.if-loc-n.true)
+entries-preserved-then-loc-n c = cut c.entries.invariant c.operations.invariant c.entries-test.true (which c.operations.invariant c.is_none.ensures ∙ c.if-is_none.false) (far_step c.operations.invariant (sym c.operation.ensures ∙ c.in-Some.is) c.in-Step.is (which c.operations.invariant c.is_none.ensures ∙ c.if-is_none.false) c.if-n-eq0.false c.if-loc-n.true)
 
 pub line-i-requires : goal.line-i-requires
-line-i-requires c = line_room c.operations.invariant (sym c.operation.ensures ∙ c.in-Some.is) c.in-Step.is (ne_eqb _ _ c.if-first.false) c.if-n-eq0.false
+line-i-requires c = line_room c.operations.invariant (sym c.operation.ensures ∙ c.in-Some.is) c.in-Step.is (which c.operations.invariant c.is_none.ensures ∙ c.if-is_none.false) c.if-n-eq0.false
 
 pub operations-smaller-in-Step : goal.operations-smaller-in-Step
 operations-smaller-in-Step c = shorter c.operations.invariant (sym c.operation.ensures ∙ c.in-Some.is)
 
 pub operations-preserved-in-Step : goal.operations-preserved-in-Step
-operations-preserved-in-Step c = near_step c.operations.invariant (sym c.operation.ensures ∙ c.in-Some.is) c.in-Step.is (ne_eqb _ _ c.if-first.false) c.if-n-eq0.false c.if-loc-n.false c.line-i.ensures (kept c.line-i.ensures)
+operations-preserved-in-Step c = near_step c.operations.invariant (sym c.operation.ensures ∙ c.in-Some.is) c.in-Step.is (which c.operations.invariant c.is_none.ensures ∙ c.if-is_none.false) c.if-n-eq0.false c.if-loc-n.false c.line-i.ensures (kept c.line-i.ensures)
 
 pub shape_of-out-in-Err : goal.shape_of-out-in-Err
 shape_of-out-in-Err c = (stored_joined c.entries.invariant.lines c.operations.invariant.lines).long
@@ -69,7 +80,7 @@ pub operations-preserved : goal.operations-preserved
 operations-preserved c = good_row c.operations.invariant (sym c.operation.ensures ∙ c.in-Some.is) c.in-Does.is c.in_default-act.ensures
 
 pub line-i-requires-2 : goal.line-i-requires-2
-line-i-requires-2 c = end_room c.entries.invariant c.entries-test.false
+line-i-requires-2 c = end_room c.entries.invariant
 
 pub shape_of-out : goal.shape_of-out
 shape_of-out c = kept c.line-i-2.ensures ∙ c.entries.invariant.lines.long

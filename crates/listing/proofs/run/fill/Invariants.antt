@@ -1,24 +1,16 @@
-use Prim.Native.Nat.{◌-◌}
+use Prim.Native.Nat.{◌+◌, ◌-◌}
+use lib.Dec.{eqb}
 use lib.ListN.{length}
-use Rattle.reader.specs.Spans.{part}
-use Rattle.listing.specs.Lines.{lines_of}
 use Rattle.listing.proofs.Doing.{Inside}
-use Rattle.listing.proofs.Both.{remaining, Between}
+use Rattle.listing.proofs.Both.{left, all_lines, more_in, Between}
 use Rattle.listing.proofs.run.fill.Given as goal
 
 abbrev pub invariant-operations : goal.invariant-operations
 invariant-operations l =
-    Inside (lines_of l.word (part l.s l.header l.header_end) (part l.s l.record l.record_end)) l.first l.word l.q l.initial' l.ops
-    (remaining l.word (part l.s l.header l.header_end) (part l.s l.record l.record_end) l.left) (l.record_end - l.record) l.initial.out l.out l.state l.i l.loc l.at
+    Inside (all_lines l.s l.l) (eqb l.span-index 0) l.l.word l.q l.initial' l.ops (left l.s l.l (l.span-index + 1)) (more_in l.l) l.initial.out l.out l.state l.i l.loc l.at
 
 abbrev pub decreases-operations : goal.decreases-operations
-decreases-operations l =
-    length l.ops - l.at.at
+decreases-operations l = length l.ops - l.at.at
 
 abbrev pub invariant-entries : goal.invariant-entries
-invariant-entries l =
-    Between (lines_of l.word (part l.s l.header l.header_end) (part l.s l.record l.record_end)) l.word l.q l.s l.header l.header_end l.record l.record_end l.initial.out l.out l.state l.i l.loc l.left l.from l.to
-
-abbrev pub decreases-entries : goal.decreases-entries
-decreases-entries l =
-    l.left
+invariant-entries l = Between (all_lines l.s l.l) l.q l.s l.l l.initial.out l.out l.initial' l.state l.i l.loc l.span-index

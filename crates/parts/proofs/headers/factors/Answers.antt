@@ -12,35 +12,35 @@ use Rattle.parts.proofs.headers.factors.Goals as goal
 use Rattle.parts.proofs.headers.factors.Goals.{After-factor_ok}
 
 -- what the test of the data alignment factor says of the number that was read
-same : (c : After-factor_ok) → c.factor_ok.result ≡ same_offset c.in-Some-read_sleb.z (data_factor c.args.word)
+same : (c : After-factor_ok) → c.factor_ok.result ≡ same_offset c.in-Some-read_sleb.z (data_factor c.args.e.now.body.layout.word)
 same c = rw (passed c.in-Some-read_sleb.z (omega arith)) at c.factor_ok.ensures
 
 pub returns-in_default : goal.returns-in_default
 unfolding header_numbers
-returns-in_default c = rw (codeless c.args.body.now c.args.at c.args.debug (letters_of c.args.p) c.args.word (sym c.read_uleb.ensures ∙ c.in_default.is)) refl
+returns-in_default c = rw (codeless c.args.e.now.body.bytes.now c.args.at c.args.e.now.body.layout.debug (letters_of c.args.p) c.args.e.now.body.layout.word (sym c.read_uleb.ensures ∙ c.in_default.is)) refl
 
 pub returns-then-code-ne1 : goal.returns-then-code-ne1
 unfolding header_numbers
-returns-then-code-ne1 c = rw (code_other c.args.body.now c.args.at c.args.debug (letters_of c.args.p) c.args.word (sym c.read_uleb.ensures ∙ c.in-Some.is) c.if-code-ne1.true) refl
+returns-then-code-ne1 c = rw (code_other c.args.e.now.body.bytes.now c.args.at c.args.e.now.body.layout.debug (letters_of c.args.p) c.args.e.now.body.layout.word (sym c.read_uleb.ensures ∙ c.in-Some.is) c.if-code-ne1.true) refl
 
 pub returns-in_default-read_sleb : goal.returns-in_default-read_sleb
 unfolding header_numbers
-returns-in_default-read_sleb c = rw (dataless c.args.body.now c.args.at c.args.debug (letters_of c.args.p) c.args.word (sym c.read_uleb.ensures ∙ c.in-Some.is) c.if-code-ne1.false (sym c.read_sleb.ensures ∙ c.in_default-read_sleb.is)) refl
+returns-in_default-read_sleb c = rw (dataless c.args.e.now.body.bytes.now c.args.at c.args.e.now.body.layout.debug (letters_of c.args.p) c.args.e.now.body.layout.word (sym c.read_uleb.ensures ∙ c.in-Some.is) c.if-code-ne1.false (sym c.read_sleb.ensures ∙ c.in_default-read_sleb.is)) refl
 
 pub returns-then-not-factor_ok : goal.returns-then-not-factor_ok
 unfolding header_numbers
-returns-then-not-factor_ok c = rw (data_other c.args.body.now c.args.at c.args.debug (letters_of c.args.p) c.args.word (sym c.read_uleb.ensures ∙ c.in-Some.is) c.if-code-ne1.false (sym c.read_sleb.ensures ∙ c.in-Some-read_sleb.is) (sym (same (goal.at.returns-then-not-factor_ok c).After-factor_ok) ∙ c.if-not-factor_ok.true)) refl
+returns-then-not-factor_ok c = rw (data_other c.args.e.now.body.bytes.now c.args.at c.args.e.now.body.layout.debug (letters_of c.args.p) c.args.e.now.body.layout.word (sym c.read_uleb.ensures ∙ c.in-Some.is) c.if-code-ne1.false (sym c.read_sleb.ensures ∙ c.in-Some-read_sleb.is) (sym (same (goal.at.returns-then-not-factor_ok c).After-factor_ok) ∙ c.if-not-factor_ok.true)) refl
 
 pub returns-in_default-read_uleb : goal.returns-in_default-read_uleb
 unfolding header_numbers
-returns-in_default-read_uleb c = rw (retless c.args.body.now c.args.at c.args.debug (letters_of c.args.p) c.args.word (sym c.read_uleb.ensures ∙ c.in-Some.is) c.if-code-ne1.false (sym c.read_sleb.ensures ∙ c.in-Some-read_sleb.is) (sym (same (goal.at.returns-in_default-read_uleb c).After-factor_ok) ∙ c.if-not-factor_ok.false) (sym c.read_uleb-2.ensures ∙ c.in_default-read_uleb.is)) refl
+returns-in_default-read_uleb c = rw (retless c.args.e.now.body.bytes.now c.args.at c.args.e.now.body.layout.debug (letters_of c.args.p) c.args.e.now.body.layout.word (sym c.read_uleb.ensures ∙ c.in-Some.is) c.if-code-ne1.false (sym c.read_sleb.ensures ∙ c.in-Some-read_sleb.is) (sym (same (goal.at.returns-in_default-read_uleb c).After-factor_ok) ∙ c.if-not-factor_ok.false) (sym c.read_uleb-2.ensures ∙ c.in_default-read_uleb.is)) refl
 
 pub returns-then-reg-gt65535 : goal.returns-then-reg-gt65535
 unfolding header_numbers
-returns-then-reg-gt65535 c = rw (ret_over c.args.body.now c.args.at c.args.debug (letters_of c.args.p) c.args.word (sym c.read_uleb.ensures ∙ c.in-Some.is) c.if-code-ne1.false (sym c.read_sleb.ensures ∙ c.in-Some-read_sleb.is) (sym (same (goal.at.returns-then-reg-gt65535 c).After-factor_ok) ∙ c.if-not-factor_ok.false) (sym c.read_uleb-2.ensures ∙ c.in-Some-read_uleb.is) c.if-reg-gt65535.true) refl
+returns-then-reg-gt65535 c = rw (ret_over c.args.e.now.body.bytes.now c.args.at c.args.e.now.body.layout.debug (letters_of c.args.p) c.args.e.now.body.layout.word (sym c.read_uleb.ensures ∙ c.in-Some.is) c.if-code-ne1.false (sym c.read_sleb.ensures ∙ c.in-Some-read_sleb.is) (sym (same (goal.at.returns-then-reg-gt65535 c).After-factor_ok) ∙ c.if-not-factor_ok.false) (sym c.read_uleb-2.ensures ∙ c.in-Some-read_uleb.is) c.if-reg-gt65535.true) refl
 
 pub rest-requires : goal.rest-requires
-rest-requires c = (c.requires.0, (uleb_ahead c.args.body.now c.in-Some-read_sleb.b (sym c.read_uleb-2.ensures ∙ c.in-Some-read_uleb.is)).1, c.requires.1)
+rest-requires c = (uleb_ahead c.args.e.now.body.bytes.now c.in-Some-read_sleb.b (sym c.read_uleb-2.ensures ∙ c.in-Some-read_uleb.is)).1
 
 pub returns : goal.returns
-returns c = rw (ret_there c.args.body.now c.args.at c.args.debug (letters_of c.args.p) c.args.word (sym c.read_uleb.ensures ∙ c.in-Some.is) c.if-code-ne1.false (sym c.read_sleb.ensures ∙ c.in-Some-read_sleb.is) (sym (same (goal.at.returns c).After-factor_ok) ∙ c.if-not-factor_ok.false) (sym c.read_uleb-2.ensures ∙ c.in-Some-read_uleb.is) c.if-reg-gt65535.false) c.rest.ensures
+returns c = rw (ret_there c.args.e.now.body.bytes.now c.args.at c.args.e.now.body.layout.debug (letters_of c.args.p) c.args.e.now.body.layout.word (sym c.read_uleb.ensures ∙ c.in-Some.is) c.if-code-ne1.false (sym c.read_sleb.ensures ∙ c.in-Some-read_sleb.is) (sym (same (goal.at.returns c).After-factor_ok) ∙ c.if-not-factor_ok.false) (sym c.read_uleb-2.ensures ∙ c.in-Some-read_uleb.is) c.if-reg-gt65535.false) c.rest.ensures

@@ -5,17 +5,17 @@ use Rattle.operations.proofs.PositionLaws.{uleb_ahead}
 use Rattle.parts.proofs.Recorded.{sites_debug, sites_none, sites_bad, sites_there}
 use Rattle.parts.proofs.records.call_sites.Goals as goal
 
-pub returns-then-debug : goal.returns-then-debug
-returns-then-debug c = sym (sites_debug c.args.body.now c.args.base c.args.at c.args.debug c.args.pointer c.if-debug.true)
+pub returns-then-e : goal.returns-then-e
+returns-then-e c = sym (sites_debug c.args.e.now.body.bytes.now c.args.e.now.base c.args.at c.args.e.now.body.layout.debug c.args.pointer c.if-e.true)
 
 pub returns-then-pointer-eq0 : goal.returns-then-pointer-eq0
-returns-then-pointer-eq0 c = sym (sites_none c.args.body.now c.args.base c.args.at c.args.debug c.args.pointer c.if-debug.false c.if-pointer-eq0.true)
+returns-then-pointer-eq0 c = sym (sites_none c.args.e.now.body.bytes.now c.args.e.now.base c.args.at c.args.e.now.body.layout.debug c.args.pointer c.if-e.false c.if-pointer-eq0.true)
 
 pub returns-in_default : goal.returns-in_default
-returns-in_default c = sym (sites_bad c.args.body.now c.args.base c.args.at c.args.debug c.args.pointer c.if-debug.false c.if-pointer-eq0.false (sym c.read_uleb.ensures ∙ c.in_default.is))
+returns-in_default c = sym (sites_bad c.args.e.now.body.bytes.now c.args.e.now.base c.args.at c.args.e.now.body.layout.debug c.args.pointer c.if-e.false c.if-pointer-eq0.false (sym c.read_uleb.ensures ∙ c.in_default.is))
 
 pub overflow_add-result : goal.overflow_add-result
-overflow_add-result c = omega (arith, (uleb_ahead c.args.body.now c.args.at (sym c.read_uleb.ensures ∙ c.in-Some.is)).1)
+overflow_add-result c = omega (arith, (uleb_ahead c.args.e.now.body.bytes.now c.args.at (sym c.read_uleb.ensures ∙ c.in-Some.is)).1)
 
 pub returns : goal.returns
-returns c = sym (sites_there c.args.body.now c.args.base c.args.at c.args.debug c.args.pointer c.if-debug.false c.if-pointer-eq0.false (sym c.read_uleb.ensures ∙ c.in-Some.is))
+returns c = sym (sites_there c.args.e.now.body.bytes.now c.args.e.now.base c.args.at c.args.e.now.body.layout.debug c.args.pointer c.if-e.false c.if-pointer-eq0.false (sym c.read_uleb.ensures ∙ c.in-Some.is))

@@ -8,24 +8,24 @@ use Rattle.parts.proofs.records.fields.Goals as goal
 
 pub returns-in_default : goal.returns-in_default
 unfolding record_numbers
-returns-in_default c = rw (parts_none c.args.body.now c.args.debug c.args.word c.args.pointer (sym c.read_le.ensures ∙ c.in_default.is)) refl
+returns-in_default c = rw (parts_none c.args.e.now.body.bytes.now c.args.e.now.body.layout.debug c.args.e.now.body.layout.word c.args.pointer (sym c.read_le.ensures ∙ c.in_default.is)) refl
 
 pub read_le-requires-2 : goal.read_le-requires-2
-read_le-requires-2 c = omega (arith, c.field_size-n.ensures, (field_small c.args.debug c.args.word c.requires.0).1)
+read_le-requires-2 c = omega (arith, c.field_size-n.ensures, (field_small c.args.e.now.body.layout.debug c.args.e.now.body.layout.word c.args.e.now.body.layout.is_word).1)
 
 pub returns-in_default-read_le : goal.returns-in_default-read_le
 unfolding record_numbers
-returns-in_default-read_le c = rw (parts_placeless c.args.body.now c.args.debug c.args.word c.args.pointer c.requires.0 (sym c.read_le.ensures ∙ c.in-Some.is) c.field_size-n.ensures (sym c.read_le-2.ensures ∙ c.in_default-read_le.is)) refl
+returns-in_default-read_le c = rw (parts_placeless c.args.e.now.body.bytes.now c.args.e.now.body.layout.debug c.args.e.now.body.layout.word c.args.pointer c.args.e.now.body.layout.is_word (sym c.read_le.ensures ∙ c.in-Some.is) c.field_size-n.ensures (sym c.read_le-2.ensures ∙ c.in_default-read_le.is)) refl
 
 pub read_le-requires-3 : goal.read_le-requires-3
-read_le-requires-3 c = omega (arith, c.field_size-n.ensures, (field_small c.args.debug c.args.word c.requires.0).1)
+read_le-requires-3 c = omega (arith, c.field_size-n.ensures, (field_small c.args.e.now.body.layout.debug c.args.e.now.body.layout.word c.args.e.now.body.layout.is_word).1)
 
 pub returns-in_default-read_le-2 : goal.returns-in_default-read_le-2
 unfolding record_numbers
-returns-in_default-read_le-2 c = rw (parts_sizeless c.args.body.now c.args.debug c.args.word c.args.pointer c.requires.0 (sym c.read_le.ensures ∙ c.in-Some.is) c.field_size-n.ensures (sym c.read_le-2.ensures ∙ c.in-Some-read_le.is) (sym c.read_le-3.ensures ∙ c.in_default-read_le-2.is)) refl
+returns-in_default-read_le-2 c = rw (parts_sizeless c.args.e.now.body.bytes.now c.args.e.now.body.layout.debug c.args.e.now.body.layout.word c.args.pointer c.args.e.now.body.layout.is_word (sym c.read_le.ensures ∙ c.in-Some.is) c.field_size-n.ensures (sym c.read_le-2.ensures ∙ c.in-Some-read_le.is) (sym c.read_le-3.ensures ∙ c.in_default-read_le-2.is)) refl
 
 pub rest-requires : goal.rest-requires
-rest-requires c = (rest_inside c.args.body.now c.args.debug c.args.word c.args.pointer c.requires.0 (sym c.read_le.ensures ∙ c.in-Some.is) c.field_size-n.ensures (sym c.read_le-2.ensures ∙ c.in-Some-read_le.is) (sym c.read_le-3.ensures ∙ c.in-Some-read_le-2.is), c.requires.1)
+rest-requires c = rest_inside c.args.e.now.body.bytes.now c.args.e.now.body.layout.debug c.args.e.now.body.layout.word c.args.pointer c.args.e.now.body.layout.is_word (sym c.read_le.ensures ∙ c.in-Some.is) c.field_size-n.ensures (sym c.read_le-2.ensures ∙ c.in-Some-read_le.is) (sym c.read_le-3.ensures ∙ c.in-Some-read_le-2.is)
 
 pub returns : goal.returns
-returns c = rw (parts_rest c.args.body.now c.args.debug c.args.word c.args.pointer c.requires.0 (sym c.read_le.ensures ∙ c.in-Some.is) c.field_size-n.ensures (sym c.read_le-2.ensures ∙ c.in-Some-read_le.is) (sym c.read_le-3.ensures ∙ c.in-Some-read_le-2.is)) c.rest.ensures
+returns c = rw (parts_rest c.args.e.now.body.bytes.now c.args.e.now.body.layout.debug c.args.e.now.body.layout.word c.args.pointer c.args.e.now.body.layout.is_word (sym c.read_le.ensures ∙ c.in-Some.is) c.field_size-n.ensures (sym c.read_le-2.ensures ∙ c.in-Some-read_le.is) (sym c.read_le-3.ensures ∙ c.in-Some-read_le-2.is)) c.rest.ensures

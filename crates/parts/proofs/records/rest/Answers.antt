@@ -5,10 +5,10 @@ use Rattle.parts.proofs.Recorded.{rest_bad, recording, rest_there}
 use Rattle.parts.proofs.records.rest.Goals as goal
 
 pub returns-in_default : goal.returns-in_default
-returns-in_default c = sym (rest_bad c.args.body.now c.args.base c.args.at c.args.debug c.args.pointer c.args.f.header c.args.f.function c.args.f.length _ c.record_tail.ensures c.in_default.is)
+returns-in_default c = sym (rest_bad c.args.e.now.body.bytes.now c.args.e.now.base c.args.at c.args.e.now.body.layout.debug c.args.pointer c.args.f.header c.args.f.function c.args.f.length _ c.record_tail.ensures c.in_default.is)
 
 pub overflow_add-result : goal.overflow_add-result
-overflow_add-result c = omega (arith, (recording c.args.body.now c.args.base c.args.at c.args.debug c.args.pointer c.args.f.header c.args.f.function c.args.f.length _ c.record_tail.ensures c.in-Some.is).inside)
+overflow_add-result c = omega (arith, (recording c.args.e.now.body.bytes.now c.args.e.now.base c.args.at c.args.e.now.body.layout.debug c.args.pointer c.args.f.header c.args.f.function c.args.f.length _ c.record_tail.ensures c.in-Some.is).inside)
 
 pub returns : goal.returns
-returns c = rw c.call_sites.ensures (sym (rest_there c.args.body.now c.args.base c.args.at c.args.debug c.args.pointer c.args.f.header c.args.f.function c.args.f.length _ c.record_tail.ensures c.in-Some.is))
+returns c = rw c.call_sites.ensures (sym (rest_there c.args.e.now.body.bytes.now c.args.e.now.base c.args.at c.args.e.now.body.layout.debug c.args.pointer c.args.f.header c.args.f.function c.args.f.length _ c.record_tail.ensures c.in-Some.is))

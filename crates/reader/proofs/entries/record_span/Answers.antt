@@ -8,26 +8,26 @@ use Rattle.reader.proofs.entries.record_span.Goals as goal
 pub entries-init : goal.entries-init
 entries-init c = start c.args.s.now (kth c.args.debug c.args.k) c.requires
 
-pub past-next-requires : goal.past-next-requires
-past-next-requires c = (c.entries-test.true, c.entries.invariant.tiled)
+pub past-requires : goal.past-requires
+past-requires c = (c.entries-test.true, c.entries.invariant.tiled)
 
 pub is_header-requires : goal.is_header-requires
-is_header-requires c = (c.past-next.ensures.long, c.past-next.ensures.inside)
+is_header-requires c = (c.past.ensures.long, c.past.ensures.inside)
 
 pub entries-smaller-then-is_header : goal.entries-smaller-then-is_header
-entries-smaller-then-is_header c = omega (arith, c.past-next.ensures.long)
+entries-smaller-then-is_header c = omega (arith, c.past.ensures.long)
 
 pub entries-preserved-then-is_header : goal.entries-preserved-then-is_header
-entries-preserved-then-is_header c = turn c.entries.invariant c.past-next.ensures (kth c.args.debug c.entries.left) (λ es. kth_header c.args.debug _ es c.entries.left (sym c.is_header.ensures ∙ c.if-is_header.true))
+entries-preserved-then-is_header c = turn c.entries.invariant c.past.ensures (kth c.args.debug c.entries.left) (λ es. kth_header c.args.debug _ es c.entries.left (sym c.is_header.ensures ∙ c.if-is_header.true))
 
 pub returns-then-left-eq0 : goal.returns-then-left-eq0
-returns-then-left-eq0 c = met c.entries.invariant c.past-next.ensures (λ es. kth_here c.args.debug _ es c.entries.left (sym c.is_header.ensures ∙ c.if-is_header.false) c.if-left-eq0.true)
+returns-then-left-eq0 c = met c.entries.invariant c.past.ensures (λ es. kth_here c.args.debug _ es c.entries.left (sym c.is_header.ensures ∙ c.if-is_header.false) c.if-left-eq0.true)
 
 pub entries-smaller : goal.entries-smaller
-entries-smaller c = omega (arith, c.past-next.ensures.long)
+entries-smaller c = omega (arith, c.past.ensures.long)
 
 pub entries-preserved : goal.entries-preserved
-entries-preserved c = turn c.entries.invariant c.past-next.ensures (kth c.args.debug (c.entries.left - 1)) (λ es. kth_later c.args.debug _ es c.entries.left (sym c.is_header.ensures ∙ c.if-is_header.false) c.if-left-eq0.false)
+entries-preserved c = turn c.entries.invariant c.past.ensures (kth c.args.debug (c.entries.left - 1)) (λ es. kth_later c.args.debug _ es c.entries.left (sym c.is_header.ensures ∙ c.if-is_header.false) c.if-left-eq0.false)
 
 pub returns : goal.returns
 returns c = ended c.entries.invariant (kth_none c.args.debug c.entries.left) c.entries-test.false

@@ -5,27 +5,27 @@ use Rattle.reader.proofs.Recorded.{field_small, parse_none, parse_placeless, par
 use Rattle.reader.proofs.fields.parse_record.Goals as goal
 
 pub returns-in_err-place : goal.returns-in_err-place
-returns-in_err-place c = rw c.from_residual.ensures (parse_none c.args.s.now c.args.debug c.args.word c.args.pointer c.args.shortest (sym c.read_le.ensures ∙ c.in_err-place.was))
+returns-in_err-place c = rw c.from_residual.ensures (parse_none c.args.b.now.bytes.now c.args.b.now.layout.debug c.args.b.now.layout.word c.args.pointer c.args.shortest (sym c.read_le.ensures ∙ c.in_err-place.was))
 
 pub read_le-requires-2 : goal.read_le-requires-2
-read_le-requires-2 c = omega (arith, c.field_size-n.ensures, (field_small c.args.debug c.args.word c.requires).1)
+read_le-requires-2 c = omega (arith, c.field_size-n.ensures, (field_small c.args.b.now.layout.debug c.args.b.now.layout.word c.args.b.now.layout.is_word).1)
 
 pub returns-in_err-length : goal.returns-in_err-length
-returns-in_err-length c = rw c.from_residual-in_err-length.ensures (parse_placeless c.args.s.now c.args.debug c.args.word c.args.pointer c.args.shortest c.requires (sym c.read_le.ensures ∙ c.in_ok-place.was) c.field_size-n.ensures (sym c.read_le-2.ensures ∙ c.in_err-length.was))
+returns-in_err-length c = rw c.from_residual-in_err-length.ensures (parse_placeless c.args.b.now.bytes.now c.args.b.now.layout.debug c.args.b.now.layout.word c.args.pointer c.args.shortest c.args.b.now.layout.is_word (sym c.read_le.ensures ∙ c.in_ok-place.was) c.field_size-n.ensures (sym c.read_le-2.ensures ∙ c.in_err-length.was))
 
 pub read_le-requires-3 : goal.read_le-requires-3
-read_le-requires-3 c = omega (arith, c.field_size-n.ensures, (field_small c.args.debug c.args.word c.requires).1)
+read_le-requires-3 c = omega (arith, c.field_size-n.ensures, (field_small c.args.b.now.layout.debug c.args.b.now.layout.word c.args.b.now.layout.is_word).1)
 
 pub returns-in_err-size : goal.returns-in_err-size
-returns-in_err-size c = rw c.from_residual-in_err-size.ensures (parse_sizeless c.args.s.now c.args.debug c.args.word c.args.pointer c.args.shortest c.requires (sym c.read_le.ensures ∙ c.in_ok-place.was) c.field_size-n.ensures (sym c.read_le-2.ensures ∙ c.in_ok-length.was) (sym c.read_le-3.ensures ∙ c.in_err-size.was))
+returns-in_err-size c = rw c.from_residual-in_err-size.ensures (parse_sizeless c.args.b.now.bytes.now c.args.b.now.layout.debug c.args.b.now.layout.word c.args.pointer c.args.shortest c.args.b.now.layout.is_word (sym c.read_le.ensures ∙ c.in_ok-place.was) c.field_size-n.ensures (sym c.read_le-2.ensures ∙ c.in_ok-length.was) (sym c.read_le-3.ensures ∙ c.in_err-size.was))
 
 pub record_tail-requires : goal.record_tail-requires
-record_tail-requires c = tail_inside c.args.s.now c.args.debug c.args.word c.args.pointer c.args.shortest c.requires (sym c.read_le.ensures ∙ c.in_ok-place.was) c.field_size-n.ensures (sym c.read_le-2.ensures ∙ c.in_ok-length.was) (sym c.read_le-3.ensures ∙ c.in_ok-size.was)
+record_tail-requires c = tail_inside c.args.b.now.bytes.now c.args.b.now.layout.debug c.args.b.now.layout.word c.args.pointer c.args.shortest c.args.b.now.layout.is_word (sym c.read_le.ensures ∙ c.in_ok-place.was) c.field_size-n.ensures (sym c.read_le-2.ensures ∙ c.in_ok-length.was) (sym c.read_le-3.ensures ∙ c.in_ok-size.was)
 
 pub returns : goal.returns
 returns c =
     rw (
-      parse_rest c.args.s.now c.args.debug c.args.word c.args.pointer c.args.shortest c.requires (sym c.read_le.ensures ∙ c.in_ok-place.was) c.field_size-n.ensures (sym c.read_le-2.ensures ∙ c.in_ok-length.was) (sym c.read_le-3.ensures ∙ c.in_ok-size.was),
-      parse_mark c.args.s.now c.args.debug c.args.word c.args.pointer c.args.shortest c.requires (sym c.read_le.ensures ∙ c.in_ok-place.was) c.field_size-n.ensures (sym c.read_le-2.ensures ∙ c.in_ok-length.was) (sym c.read_le-3.ensures ∙ c.in_ok-size.was),
+      parse_rest c.args.b.now.bytes.now c.args.b.now.layout.debug c.args.b.now.layout.word c.args.pointer c.args.shortest c.args.b.now.layout.is_word (sym c.read_le.ensures ∙ c.in_ok-place.was) c.field_size-n.ensures (sym c.read_le-2.ensures ∙ c.in_ok-length.was) (sym c.read_le-3.ensures ∙ c.in_ok-size.was),
+      parse_mark c.args.b.now.bytes.now c.args.b.now.layout.debug c.args.b.now.layout.word c.args.pointer c.args.shortest c.args.b.now.layout.is_word (sym c.read_le.ensures ∙ c.in_ok-place.was) c.field_size-n.ensures (sym c.read_le-2.ensures ∙ c.in_ok-length.was) (sym c.read_le-3.ensures ∙ c.in_ok-size.was),
     )
     c.record_tail.ensures

@@ -1,12 +1,13 @@
 -- `reader::run::restore` meets its contract.
 use mathlib.Core.Path.{sym, ap}
-use Rattle.format.specs.Prelude.{pick, good}
+use Rattle.format.specs.Prelude.{good}
+use Rattle.reader.specs.OneRegister.{restored}
 use Rattle.reader.proofs.run.restore.Goals as goal
 
-pub returns-then-header : goal.returns-then-header
-unfolding pick
-returns-then-header c = rw c.if-header.true
+pub returns-in_default : goal.returns-in_default
+unfolding restored
+returns-in_default c = rw c.in_default.is
 
 pub returns : goal.returns
-unfolding pick
-returns c = rw c.if-header.false (ap good (sym c.set_rule.ensures))
+unfolding restored
+returns c = rw c.in-Some.is (ap good (sym c.set_rule.ensures))

@@ -3,17 +3,17 @@ use Rattle.reads.proofs.Addressing.{start_above, start_below}
 use Rattle.reads.specs.Addresses.{start_of}
 use Rattle.reads.proofs.addresses.start_of.Goals as goal
 
-pub returns-then-debug : goal.returns-then-debug
+pub returns-then-l : goal.returns-then-l
 unfolding start_of
-returns-then-debug c = simp c.if-debug.true
+returns-then-l c = simp c.if-l.true
 
 pub returns-then-field-lt-NEGATIVE : goal.returns-then-field-lt-NEGATIVE
 returns-then-field-lt-NEGATIVE c =
     let a = c.args in
-    rw c.if-debug.false (start_above a.word c.requires.0 a.address a.at a.field c.wrapping_add_u64-here.ensures.value c.wrapping_add_u64-sum.ensures.value c.if-field-lt-NEGATIVE.true c.address_of.ensures)
+    rw c.if-l.false (start_above a.l.word a.l.is_word a.address a.at a.field c.wrapping_add_u64-here.ensures.value c.wrapping_add_u64-sum.ensures.value c.if-field-lt-NEGATIVE.true c.address_of.ensures)
 
 pub returns : goal.returns
 returns c =
     let a = c.args in
-    rw c.if-debug.false
-    (start_below a.word c.requires.0 a.address a.at a.field c.wrapping_add_u64-here.ensures.value c.wrapping_add_u64-sum.ensures.value c.if-field-lt-NEGATIVE.false c.wrapping_add_u64.ensures.value c.address_of-2.ensures)
+    rw c.if-l.false
+    (start_below a.l.word a.l.is_word a.address a.at a.field c.wrapping_add_u64-here.ensures.value c.wrapping_add_u64-sum.ensures.value c.if-field-lt-NEGATIVE.false c.wrapping_add_u64.ensures.value c.address_of-2.ensures)

@@ -2,6 +2,6 @@
 use Rattle.format.specs.Reader.{header_place}
 use Rattle.reads.proofs.index.header_place.Goals as goal
 
-pub returns-then-debug : goal.returns-then-debug
+pub returns-then-section : goal.returns-then-section
 unfolding header_place
-returns-then-debug c = simp c.if-debug.true c.addend_from.ensures
+returns-then-section c = simp c.if-section.true c.addend_from.ensures

@@ -12,5 +12,5 @@ loop-i-preserved c = skipped_one _ c.loop-i.invariant c.loop-i-test.true (omega 
 pub returns : goal.returns
 returns c =
     let k = c.loop-i.invariant in
-    let e : c.loop-i.i ≡ length c.args.relocs.now / 5 = omega (arith, (k.searching c.args.place (omega arith)).inside) in
+    let e : c.loop-i.i ≡ length c.args.section.now.relocations.now / 5 = omega (arith, (k.searching c.args.place (omega arith)).inside) in
     rw e at k

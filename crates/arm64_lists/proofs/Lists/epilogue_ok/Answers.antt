@@ -1,0 +1,7 @@
+-- `Lists::epilogue_ok` meets its contract.
+use Rattle.arm64.specs.Writer.{epilogue_ok_at}
+use Rattle.arm64_lists.proofs.Lists.epilogue_ok.Goals as goal
+
+pub returns : goal.returns
+unfolding epilogue_ok_at
+returns c = c.codes_ok_in.ensures

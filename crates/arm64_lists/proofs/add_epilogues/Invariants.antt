@@ -1,8 +1,0 @@
-use Prim.Native.Nat.{ℕ}
-use Rattle.format.specs.Lists.{field}
-use Rattle.arm64.specs.Lists.{epilogue_stride}
-use Rattle.arm64_lists.proofs.Totals.{Adding}
-use Rattle.arm64_lists.proofs.add_epilogues.Given as goal
-
-abbrev pub invariant-loop-i : goal.invariant-loop-i
-invariant-loop-i l = Adding (λ (i : ℕ). field epilogue_stride l.es i 2) l.at l.n l.sum l.i l.total

@@ -1,7 +1,0 @@
--- `arm64_lists::epilogue_ok` meets its contract.
-use Rattle.arm64.specs.Writer.{epilogue_ok_at}
-use Rattle.arm64_lists.proofs.epilogue_ok.Goals as goal
-
-pub returns : goal.returns
-unfolding epilogue_ok_at
-returns c = c.codes_ok_in.ensures

@@ -1,0 +1,12 @@
+-- The functions that the code has taken out of the lists.
+use Rattle.std.specs.Prelude.{List}
+use Rattle.arm64.specs.Lists.{Function}
+use Rattle.arm64_table.specs.declared.Functions.{Functions}
+use Rattle.arm64_table.specs.Tables.{first_in, AllFineIn}
+
+abbrev pub functions_of : Functions → List Function
+functions_of f = first_in f.lists f.count
+
+-- every question of theirs is answered by yes
+abbrev pub AllFineOf : Functions → Type 0
+AllFineOf f = AllFineIn f.lists f.count

@@ -1,0 +1,31 @@
+// What a prologue is read from: a machine, its registers, and rows of a list.
+ghost use Rattle.std.specs.Prelude.{◌≡◌, ◌^◌, ◌≤◌, ◌<◌, length};
+ghost use Rattle.prologue.specs.Pieces.{Ready};
+
+use format::Machine;
+
+// The registers of a machine: its map has an entry for each of DWARF's numbers below 64.
+#[derive(Clone, Copy)]
+pub struct Registers<'m> {
+    pub machine: &'m Machine,
+    pub ghost registers: { length machine.now.map ≡ 64 },
+}
+
+// A machine whose word has eight bytes, as x64 unwind data takes it.
+#[derive(Clone, Copy)]
+pub struct X64Machine<'m> {
+    pub machine: &'m Machine,
+    pub ghost registers: { length machine.now.map ≡ 64 },
+    pub ghost word: { machine.now.word ≡ 8 },
+    pub ghost pushed: { machine.now.pushed < 2 ^ 31 },
+}
+
+// The rows of a function or of its prologue, from `at` to `end` of a list.
+#[derive(Clone, Copy)]
+pub struct FunctionRows<'r> {
+    pub list: &'r [u64],
+    pub at: usize,
+    pub end: usize,
+    pub ghost order: { at ≤ end },
+    pub ghost ready: { Ready list.now at end },
+}

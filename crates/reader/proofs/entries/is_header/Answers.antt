@@ -1,7 +1,0 @@
--- `reader::entries::is_header` meets its contract.
-use Rattle.format.specs.Reader.{is_header}
-use Rattle.reader.proofs.entries.is_header.Goals as goal
-
-pub returns : goal.returns
-unfolding is_header
-returns c = rw (c.second.ensures, c.header_id.ensures)

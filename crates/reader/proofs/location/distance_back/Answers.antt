@@ -1,6 +1,0 @@
--- `reader::location::distance_back` meets its contract.
-use Rattle.reader.proofs.Seeking.{less_by}
-use Rattle.reader.proofs.location.distance_back.Goals as goal
-
-pub returns : goal.returns
-returns c = less_by c.args.s.now c.args.at c.args.end c.second-distance.ensures _ c.checked_sub.ensures

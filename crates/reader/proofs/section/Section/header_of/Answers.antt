@@ -1,0 +1,13 @@
+-- `reader::section::Section::header_of` meets its contract.
+use mathlib.Core.Path.{sym, ◌∙◌}
+use Rattle.format.specs.Prelude.{after}
+use Rattle.reader.proofs.Seeking.{number_is, number_none}
+use Rattle.reader.proofs.section.Section.header_of.Goals as goal
+
+pub returns-in_err-place : goal.returns-in_err-place
+unfolding after
+returns-in_err-place c = rw (c.from_residual.ensures, number_none _ (sym c.header_place.ensures ∙ c.in_err-place.was))
+
+pub returns : goal.returns
+unfolding after
+returns c = rw (number_is _ (sym c.header_place.ensures ∙ c.in_ok-place.was)) c.header_span.ensures

@@ -1,0 +1,33 @@
+// What is read: a section and how its fields are laid out, and of an entry where it stands and its bytes.
+ghost use Rattle.std.specs.Prelude.{T};
+ghost use Rattle.format.specs.Machine.{is_word_size};
+
+// How fields are laid out: those of debug_frame or of eh_frame, and how many bytes a word has.
+#[derive(Clone, Copy)]
+pub struct Layout {
+    pub debug: bool,
+    pub word: u64,
+    pub ghost is_word: { T (is_word_size word) },
+}
+
+// A section, and its relocations, which only a debug_frame asks.
+#[derive(Clone, Copy)]
+pub struct Section<'a> {
+    pub bytes: &'a [u8],
+    pub relocations: &'a [u64],
+    pub layout: Layout,
+}
+
+// Where an entry of a section starts and ends, or an entry's operations.
+#[derive(Clone, Copy)]
+pub struct Span {
+    pub at: usize,
+    pub end: usize,
+}
+
+// The bytes behind an entry's length.
+#[derive(Clone, Copy)]
+pub struct Body<'a> {
+    pub bytes: &'a [u8],
+    pub layout: Layout,
+}

@@ -1,8 +1,0 @@
-use Rattle.walk.specs.Walk.{left_by}
-use Rattle.walk.specs.Standing.{memory_of, slots}
-use Rattle.walk.proofs.Turns.{Turning}
-use Rattle.walked.specs.Standing.{rules_at}
-use Rattle.walked.proofs.all_left.Given as goal
-
-abbrev pub invariant-loop-i : goal.invariant-loop-i
-invariant-loop-i l = Turning (λ reg. left_by (memory_of l.fn.m) l.fn.cfa (slots l.fn.before) reg ((rules_at l.fn.at).rules reg)) l.registers l.i

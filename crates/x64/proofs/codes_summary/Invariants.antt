@@ -1,9 +1,0 @@
-use Rattle.x64.proofs.Walks.{Going, Summing}
-use Rattle.x64.specs.Sources.{codes_in}
-use Rattle.format.specs.declared.Seh.{Seh}
-use Prim.Native.Nat.{ℕ, ◌-◌, ◌*◌, ◌≤◌}
-use mathlib.Core.List.{List}
-use Rattle.x64.proofs.codes_summary.Given as goal
-
-abbrev pub invariant-loop-i : goal.invariant-loop-i
-invariant-loop-i l = Going (λ (cs : List (ℕ × Seh)). Summing (codes_in l.s l.list l.p) cs l.t) l.s l.list l.p l.sofar l.i × (l.t.slots ≤ 3 * (l.i - l.p.first))

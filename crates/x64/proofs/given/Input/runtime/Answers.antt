@@ -1,0 +1,21 @@
+-- `given::Input::runtime` meets its contract.
+use native.Mathlib.Omega.{arith}
+use Rattle.format.specs.Lists.{numbers_of}
+use Rattle.format.specs.X64.{runtime_relocs}
+use Rattle.format.proofs.PutLaws.{◌then◌, kept}
+use Rattle.x64.proofs.given.Input.runtime.Goals as goal
+
+pub relocation-a-requires : goal.relocation-a-requires
+relocation-a-requires c = omega (arith, c.requires.1)
+
+pub relocation-b-requires : goal.relocation-b-requires
+unfolding numbers_of
+relocation-b-requires c = omega (arith, c.requires.1, c.relocation-a.ensures.past, kept c.relocation-a.ensures)
+
+pub relocation-requires : goal.relocation-requires
+unfolding numbers_of
+relocation-requires c = omega (arith, c.requires.1, c.relocation-b.ensures.past, kept c.relocation-b.ensures, c.relocation-a.ensures.past, kept c.relocation-a.ensures)
+
+pub returns : goal.returns
+unfolding numbers_of runtime_relocs
+returns c = rw (← c.number_at-symbol.ensures, ← c.number_at-size.ensures) (c.relocation-a.ensures then c.relocation-b.ensures then c.relocation.ensures)

@@ -1,0 +1,66 @@
+-- What is asked and found of the functions that are given, by the definitions of sources.
+use Rattle.std.specs.Prelude.{ℕ, ◌≤◌, ◌<◌, List, ℤ}
+use Rattle.std.specs.Prelude as code
+use Rattle.format.specs.Prelude.{Result, each}
+use Rattle.format.specs.declared.Seh.{Seh}
+use Rattle.format.specs.Lists.{Prologue}
+use Rattle.format.specs.X64.{info_bytes}
+use Rattle.format.specs.Questions.{Question}
+use Rattle.format.specs.Writer.{Written}
+use Rattle.x64.specs.Answers.{infos_of, named_at}
+use Rattle.x64.specs.Listed.{stride_of}
+use Rattle.x64.specs.Sources.{piece_at, moved_at, codes_in, result_at, Found, Agreed, found_at, asks_of, table_of}
+use Rattle.x64.specs.declared.given.Input.{Input}
+use Rattle.x64.specs.declared.given.Span.{Span}
+
+-- ---- a function
+
+-- record i is one of its records
+abbrev pub IsRecord : Span → ℕ → Type 0
+IsRecord p i = (p.first ≤ i) × (i < p.past)
+
+-- what record i yields, and the distance behind it
+abbrev pub piece_of_record : Span → (sofar : ℤ) → ℕ → List (ℕ × Seh)
+piece_of_record p sofar i = piece_at p.source p.list.now p sofar i
+
+abbrev pub moved_past : Span → (sofar : ℤ) → ℕ → ℤ
+moved_past p sofar i = moved_at p.source p.list.now sofar i
+
+-- its codes, and the bytes of its record
+abbrev pub codes_by : Span → List (ℕ × Seh)
+codes_by p = codes_in p.source p.list.now p
+
+abbrev pub info_by : Span → List ℕ
+info_by p = info_bytes p.end (codes_by p)
+
+-- ---- function k of those that are given
+
+abbrev pub result_of : Input → ℕ → Result Prologue
+result_of x k = result_at x.source x.functions.now x.list.now k
+
+abbrev pub FoundIn : Input → ℕ → code.Result Span ℕ → Type 0
+FoundIn x k r = Found x.source x.functions.now x.list.now k r
+
+-- the symbol and the length of function k
+abbrev pub named_in : Input → ℕ → Prologue
+named_in x k = named_at (stride_of x.source) x.functions.now k
+
+-- ---- all of them
+
+-- every question is answered by yes
+abbrev pub AllAgreed : Input → Type 0
+AllAgreed x = Agreed x.source x.functions.now x.list.now x.count
+
+abbrev pub functions_of : Input → List Prologue
+functions_of x = each (found_at x.source x.functions.now x.list.now) 0 x.count
+
+-- their records, one behind the other
+abbrev pub infos_in : Input → List ℕ
+infos_in x = infos_of (functions_of x)
+
+-- the questions, and the table where each is answered by yes
+abbrev pub asks_in : Input → Question
+asks_in x = asks_of x.source x.functions.now x.list.now x.count
+
+abbrev pub table_in : Input → Written
+table_in x = table_of x.source x.functions.now x.list.now x.count
