@@ -59,15 +59,6 @@ all-reverse f (x ∷ xs) a =
 
 -- ---- runs behind the prologue's
 
-same_code_lem : (c : Code) → same_code c c ≡ true
-unfolding same_code
-same_code_lem c = both_yes (both_yes (eq-eqb c.kind c.kind refl) (eq-eqb c.register c.register refl)) (eq-eqb c.offset c.offset refl)
-
-pub same_codes_lem : (r : List Code) → same_codes r r ≡ true
-unfolding same_codes
-same_codes_lem [] = refl
-same_codes_lem (c ∷ cs) = both_yes (same_code_lem c) (same_codes_lem cs)
-
 pub or_first : {a : Bool} (b : Bool) → a ≡ true → (a || b) ≡ true
 or_first b e = ap (λ x. x || b) e
 
