@@ -6,7 +6,6 @@ use mathlib.Core.List.{List, [], ◌∷◌, ◌++◌}
 use Prim.Native.Nat.{ℕ, ◌+◌}
 use lib.Dec.{leb, eqb}
 use lib.ListN.{length}
-use borrow.Author.Tests.{eq-eqb}
 use Rattle.format.specs.Prelude.{pick, all}
 use Rattle.arm64.specs.declared.Code.{Code}
 use Rattle.arm64.specs.Codes.{code, fp, k_regp, k_regp_x, k_add_fp, k_fplr, k_fplr_x, k_r19_r20_x, k_set_fp, k_save_next, form_for, register_fits, code_fits}

@@ -2,20 +2,19 @@
 use mathlib.Core.Path.{◌≡◌, refl, sym, ◌∙◌}
 use mathlib.Core.Bool.{Bool, true, false}
 use mathlib.Core.Option.{Option, none, some}
-use mathlib.Core.List.{List, [], ◌∷◌}
-use Prim.Native.Nat.{ℕ, suc, ◌+◌, ◌-◌, ◌≤◌}
+use mathlib.Core.List.{List}
+use Prim.Native.Nat.{ℕ, ◌+◌, ◌-◌, ◌≤◌}
 use native.Mathlib.Omega.{arith}
-use lib.Dec.{eqb, leb, leb→le}
-use lib.ListN.{length, take, drop, length-drop}
+use lib.Dec.{eqb, leb}
+use lib.ListN.{length, drop, length-drop}
 use lib.Seq.{drop-drop, length-take-le}
 use Rattle.format.specs.Prelude.{pick, Read, next, after}
-use Rattle.format.specs.Rows.{read_register, same_offset}
+use Rattle.format.specs.Rows.{same_offset}
 use Rattle.format.specs.Headers.{data_factor}
-use Rattle.format.specs.Reader.{strip, Letters, Spelling, spellings, spell_or, read_letters, read_byte, read_many, read_counted, letters_in, require, HeaderFields, header_tail, parse_header, RecordFields, record_tail, parse_record}
-use Rattle.format.proofs.Choice.{pick_yes, pick_no, tested}
-use Rattle.operations.proofs.PositionLaws.{Takes, nothing, taken, takes_next, takes_pick, gives, takes_little, takes_uleb, takes_sleb}
+use Rattle.format.specs.Reader.{Letters, spellings, letters_in, require, HeaderFields, header_tail, parse_header, RecordFields, record_tail, parse_record}
+use Rattle.operations.proofs.PositionLaws.{takes_little, takes_uleb, takes_sleb}
 use Rattle.reader.specs.Spans.{part}
-use Rattle.reader.proofs.Suffixes.{Leaves, unread, leaves, of_takes, leaves_past, leaves_next, leaves_register, leaves_byte, leaves_many, leaves_counted, leaves_letters}
+use Rattle.reader.proofs.Suffixes.{Leaves, unread, leaves, of_takes, leaves_register, leaves_byte, leaves_counted, leaves_letters}
 use Rattle.reader.proofs.Whole.{drop-part}
 
 -- ---- what is taken ends with the operations

@@ -1,20 +1,20 @@
 -- The operations of an entry are its last bytes, so the rules from what was located are what is read.
-use Rattle.std.proofs.Common.{◌≡◌, ℕ, suc, ◌+◌, ◌-◌, ◌≤◌, Bool, true, false, ◌&&◌, T, eqb, leb, List, [], ◌∷◌, length, take, drop, sym, refl, ap, ◌∙◌, subst, arith, leb→le, length-drop, length-take-le, drop-drop, eq-eqb, ne_eqb, le-leb}
+use Rattle.std.proofs.Common.{◌≡◌, ℕ, ◌+◌, ◌-◌, ◌≤◌, Bool, true, false, ◌&&◌, T, eqb, leb, List, length, drop, sym, refl, ap, ◌∙◌, subst, arith, length-drop, length-take-le, drop-drop, eq-eqb, ne_eqb, le-leb}
 use mathlib.Core.Option.{Option, none, some}
 use lib.ListN.{get_elem?}
 use Rattle.format.specs.Prelude.{pick, Read, next, after, Result, good, bad, onward, or_else}
-use Rattle.format.specs.Rows.{read_register, same_offset}
+use Rattle.format.specs.Rows.{same_offset}
 use Rattle.format.specs.Headers.{data_factor}
 use Rattle.format.specs.Machine.{is_word_size}
 use Rattle.format.specs.Answers.{bit}
 use Rattle.format.specs.Lists.{Relocation, relocations_of}
-use Rattle.format.specs.Reader.{Entry, entries, records, header_place, header_at, strip, Letters, Spelling, spellings, spell_or, read_letters, read_byte, read_many, read_counted, letters_in, HeaderFields, header_tail, require, parse_header, RecordFields, record_tail, parse_record, header_short, record_short, Found, parsed, locate, read, shortest_at}
-use Rattle.operations.proofs.PositionLaws.{Takes, nothing, taken, takes_little, takes_uleb, takes_sleb}
+use Rattle.format.specs.Reader.{Entry, entries, records, header_place, header_at, Letters, spellings, letters_in, HeaderFields, header_tail, require, parse_header, RecordFields, record_tail, parse_record, header_short, record_short, Found, parsed, locate, read, shortest_at}
+use Rattle.operations.proofs.PositionLaws.{takes_little, takes_uleb, takes_sleb}
 use Rattle.reader.specs.Spans.{part, entry_in}
 use Rattle.reader.specs.Finds.{found, Stated}
 use Rattle.reader.specs.Finds as reader
 use Rattle.reader.proofs.Tiling.{Entered}
-use Rattle.reader.proofs.Suffixes.{Leaves, unread, leaves, of_takes, leaves_next, leaves_register, leaves_byte, leaves_counted, leaves_letters}
+use Rattle.reader.proofs.Suffixes.{Leaves, unread, leaves, of_takes, leaves_register, leaves_byte, leaves_counted, leaves_letters}
 use Rattle.reader.proofs.Whole.{drop-part}
 use Rattle.reader.proofs.Asked.{located_read, located_shortest, refused_read, refused_mark}
 use Rattle.reads.specs.Places.{asked, end_of, operations_at, places_of, refused, located_as, locate_entries, header_of, locate_nth, locate_record, reader_places, rules_of}
