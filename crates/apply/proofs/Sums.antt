@@ -74,6 +74,14 @@ module _ (ss : List (ℕ × ℕ)) (r : Relocation) where
   unfolding sum_of after
   is_sum s e = rw e
 
+  -- what Set and Sub do with the sum, by the address that the code found, or by none
+  pub by_address : {A : Type 0} {o : code.Option ℕ} {s : ℕ} (put : Option ℤ → A) → o ≡ option_of (address_of ss r.symbol) → o ≡ Some s
+      → put (some (pos s +ℤ to_z w64 r.addend)) ≡ put (sum_of ss r)
+  by_address put e f = ap put (sym (is_sum _ (some_of _ (sym f ∙ e))))
+
+  pub by_none : {A : Type 0} {o : code.Option ℕ} (put : Option ℤ → A) → o ≡ option_of (address_of ss r.symbol) → o ≡ None → put none ≡ put (sum_of ss r)
+  by_none put e f = ap put (sym (no_sum (none_of _ (sym f ∙ e))))
+
   -- none of the values is there without the symbol's address
   pub no_value : {A : Type 0} (f : ℤ → Option A) → address_of ss r.symbol ≡ none → none ≡ after (sum_of ss r) f
   unfolding after

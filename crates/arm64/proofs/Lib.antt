@@ -5,3 +5,4 @@ pub mod WriterExamples
 pub mod MeaningLaws
 pub mod PackingLaws
 pub mod PackedBack
+pub mod WriterLaws

@@ -7,7 +7,7 @@ use Prim.Native.Nat.{ℕ, zero, suc, ◌+◌, ◌-◌, ◌*◌}
 use native.Mathlib.Omega.{arith}
 use lib.Dec.{leb, ltb, eqb}
 use lib.ListN.{length, length-append}
-use borrow.Author.Tests.{eqb-true, ne_eqb}
+use borrow.Author.Tests.{eq-eqb, eqb-true, ne_eqb}
 use Rattle.format.specs.Prelude.{pick}
 use Rattle.arm64.specs.declared.Code.{Code}
 use Rattle.arm64.specs.declared.Packed.{Packed}
@@ -261,3 +261,14 @@ module _ (p : Packed) (ps r : List Code) (t : stands_for p ps r ≡ true) where
       let n : NoNext (resolve no_pair r) = subst NoNext e (reverse-plain (packed_epilogue p) (epilogue_plain p)) in
       ap (λ cs. reverse (effects none cs)) e ∙ ap reverse (resolve_effects no_pair none none (no_next none) r n)
       ∙ ap (λ cs. reverse (effects none cs)) (sym (reverse_twice r))
+
+-- ---- codes are the same as themselves
+
+same_one : (c : Code) → same_code c c ≡ true
+unfolding same_code
+same_one c = simp (eq-eqb c.kind c.kind refl, eq-eqb c.register c.register refl, eq-eqb c.offset c.offset refl)
+
+pub same_all : (cs : List Code) → same_codes cs cs ≡ true
+unfolding same_codes
+same_all [] = refl
+same_all (c ∷ cs) = simp (same_one c, same_all cs)

@@ -21,6 +21,7 @@ use Rattle.arm64.specs.Lists.{Function, function_stride, epilogue_stride, code_s
 use Rattle.arm64.specs.Reader.{Unwound, all_codes, full_record, unwound_by, fits_in, read_arm64}
 use Rattle.arm64.specs.Writer.{code_ok_at, codes_ok_in, epilogue_ok_at, function_ok_at, codes_in, lists_ok, is_packed, record_bytes, function_asks, row_bytes, info_of, markers_from, rows_of, infos_of, arm64, arm64_answer}
 use Rattle.arm64.proofs.MeaningLaws.{both_true}
+use Rattle.arm64.proofs.WriterLaws.{row_length}
 use Rattle.arm64_back.specs.Back.{whole_code, whole_codes, SameUnwound, given, written, ReadBack, second_word, EntryWord, SameReading, BytesAt}
 use Rattle.arm64_back.proofs.CodeBack.{either_way}
 use Rattle.arm64_back.proofs.RunBack.{stands_behind, stands_before, stands_first, stands_right}
@@ -120,13 +121,6 @@ marker_in at (x ∷ xs) zero f h g n =
     let same : x ≡ f = cc in
     let m : is_packed x ≡ false = ap is_packed same ∙ n in rw m h
 marker_in at (x ∷ xs) (suc k) f h g n = marker_in (at + length (info_of x)) xs k f (omega (arith, info_whole x)) g n
-
-row_length : (f : Function) → length (row_bytes f) ≡ 8
-unfolding row_bytes
-row_length f =
-    let w : ℕ = pick (is_packed f) (word_for f) 0 in
-    length-append (little 4 0) (little 4 w) ∙ (let a : length (little 4 0) ≡ 4 = little-length 4 0 in
-    let b : length (little 4 (pick (is_packed f) (word_for f) 0)) ≡ 4 = little-length 4 w in omega arith)
 
 row_stands : (fs : List Function) (k : ℕ) (f : Function) → get_elem? fs k ≡ some f → BytesAt (rows_of fs) (8 * k) (row_bytes f)
 unfolding rows_of

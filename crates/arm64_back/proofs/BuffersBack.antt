@@ -1,8 +1,8 @@
 -- The buffers that were lent to the writer, and what the reader says of them.
-use mathlib.Core.Path.{◌≡◌, refl, subst, sym, ap, ◌∙◌}
+use mathlib.Core.Path.{◌≡◌, subst, sym, ap, ◌∙◌}
 use mathlib.Core.Option.{none}
-use mathlib.Core.List.{List, [], ◌∷◌, ◌++◌}
-use Prim.Native.Nat.{ℕ, suc, ◌+◌, ◌≤◌}
+use mathlib.Core.List.{List, ◌++◌}
+use Prim.Native.Nat.{ℕ, ◌≤◌}
 use native.Mathlib.Omega.{arith}
 use lib.ListN.{length, get_or, drop, get_or-append}
 use lib.Dec.{leb→le}
@@ -13,16 +13,12 @@ use Rattle.format.specs.Answers.{afterwards}
 use Rattle.format.proofs.Copied.{put_front}
 use Rattle.format.proofs.Accepted.{asked, both}
 use Rattle.format.proofs.ListLaws.{each-length}
-use Rattle.arm64.specs.Lists.{Function, function_stride, numbered_function, functions_of}
+use Rattle.arm64.specs.Lists.{function_stride, numbered_function, functions_of}
 use Rattle.arm64.specs.Reader.{read_arm64}
-use Rattle.arm64.specs.Writer.{markers_from, info_of, arm64, arm64_answer}
+use Rattle.arm64.specs.Writer.{arm64, arm64_answer}
+use Rattle.arm64.proofs.WriterLaws.{markers_length}
 use Rattle.arm64_back.specs.Back.{given, ReadBack, EntryWord, second_word, BuffersBack}
 use Rattle.arm64_back.proofs.Arm64Back.{wrote, second_behind, arm64_read}
-
-markers_length : (at : ℕ) (fs : List Function) → length (markers_from at fs) ≡ length fs
-unfolding markers_from
-markers_length at [] = refl
-markers_length at (f ∷ fs) = ap suc (markers_length (at + length (info_of f)) fs)
 
 record Rooms (r : Room) (w : Written) : Type 0 where
   places : length w.places ≤ r.places

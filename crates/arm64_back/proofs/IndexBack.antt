@@ -6,7 +6,6 @@ use mathlib.Core.List.{List, [], ◌∷◌, ◌++◌}
 use Prim.Native.Nat.{ℕ, ◌+◌}
 use lib.Dec.{leb, eqb}
 use lib.ListN.{length}
-use borrow.Author.Tests.{eq-eqb}
 use Rattle.format.specs.Prelude.{pick, all}
 use Rattle.arm64.specs.declared.Code.{Code}
 use Rattle.arm64.specs.Codes.{code, fp, k_regp, k_regp_x, k_add_fp, k_fplr, k_fplr_x, k_r19_r20_x, k_set_fp, k_save_next, form_for, register_fits, code_fits}
@@ -58,15 +57,6 @@ all-reverse f (x ∷ xs) a =
     let p = both_true (f x) (all f xs) a in all_append f (reverse xs) (x ∷ []) (all-reverse f xs p.1) (both_yes p.0 refl)
 
 -- ---- runs behind the prologue's
-
-same_code_lem : (c : Code) → same_code c c ≡ true
-unfolding same_code
-same_code_lem c = both_yes (both_yes (eq-eqb c.kind c.kind refl) (eq-eqb c.register c.register refl)) (eq-eqb c.offset c.offset refl)
-
-pub same_codes_lem : (r : List Code) → same_codes r r ≡ true
-unfolding same_codes
-same_codes_lem [] = refl
-same_codes_lem (c ∷ cs) = both_yes (same_code_lem c) (same_codes_lem cs)
 
 pub or_first : {a : Bool} (b : Bool) → a ≡ true → (a || b) ≡ true
 or_first b e = ap (λ x. x || b) e

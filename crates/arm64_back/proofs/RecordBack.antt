@@ -28,7 +28,8 @@ use Rattle.arm64.proofs.PackingLaws.{reverse_twice}
 use Rattle.arm64_back.specs.Back.{AllFine, whole_code, whole_codes, written_epilogue, written, BytesAt}
 use Rattle.arm64_back.proofs.CodeBack.{either_way}
 use Rattle.arm64_back.proofs.RunBack.{stands_left, stands_right, stands_inside}
-use Rattle.arm64_back.proofs.IndexBack.{runs_fine, all-reverse, same_codes_lem, or_first, or_second, both_yes, index_read, prologue_back}
+use Rattle.arm64.proofs.PackingLaws.{same_all}
+use Rattle.arm64_back.proofs.IndexBack.{runs_fine, all-reverse, or_first, or_second, both_yes, index_read, prologue_back}
 use Rattle.arm64_back.proofs.HeaderBack.{Held, Headed, header_for, header_back}
 use Rattle.arm64_back.proofs.ScopeBack.{Placed, AllPlaced, whole_instructions, scope_length, scopes_back, end_back}
 
@@ -55,7 +56,7 @@ module _ (f : Function) where
         record {
           whole = eqb-true (e.start % 4) 0 o.0;
           low = ltb-true e.start f.size o.1;
-          known = up (epilogue_run e) (or_first (is_in (epilogue_run e) (map epilogue_run es)) (same_codes_lem (epilogue_run e)));
+          known = up (epilogue_run e) (or_first (is_in (epilogue_run e) (map epilogue_run es)) (same_all (epilogue_run e)));
           fine = runs_fine no_pair (reverse e.codes) (all-reverse whole_code e.codes r.0) q.0;
         },
         placed_from es (λ r t. up r (or_second (same_codes r (epilogue_run e)) t)) p.1 q.1 r.1,

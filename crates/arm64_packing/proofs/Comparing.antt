@@ -5,7 +5,6 @@ use Rattle.arm64_simple.proofs.OneCode.{not_yes, not_no}
 use mathlib.Core.List.{List, [], ◌∷◌, ◌++◌, append-nil}
 use Prim.Native.Nat.{ℕ, zero, suc, ◌+◌, ◌-◌, ◌≤◌, ◌<◌}
 use native.Mathlib.Omega.{arith}
-use borrow.Author.Tests.{eq-eqb}
 use Rattle.arm64.specs.declared.Code.{Code}
 use Rattle.arm64.specs.declared.Packed.{Packed}
 use mathlib.Core.Option.{Option, none, some}
@@ -15,7 +14,7 @@ use Rattle.std.specs.Option.{MatchOption, is_some}
 use Rattle.arm64.specs.Packed.{with_slot, slots_from, slot_at, packed_prologue, packed_epilogue}
 use Rattle.arm64.specs.Meaning.{reverse}
 use Rattle.arm64.specs.Runs.{no_pair, same_code, same_codes, resolved}
-use Rattle.arm64.proofs.PackingLaws.{equal_all, reverse_twice}
+use Rattle.arm64.proofs.PackingLaws.{equal_all, reverse_twice, same_all}
 use Rattle.arm64_packed.proofs.Places.{next_slot, last_slot}
 use Rattle.arm64_simple.specs.declared.Run.{Run}
 use Rattle.arm64_simple.specs.Saves.{saves}
@@ -138,15 +137,6 @@ agree : (a b : Bool) → (a ≡ true → b ≡ true) → (b ≡ true → a ≡ t
 agree true b f g = sym (f refl)
 agree false true f g = g refl
 agree false false f g = refl
-
-same_one : (c : Code) → same_code c c ≡ true
-unfolding same_code
-same_one c = simp (eq-eqb c.kind c.kind refl, eq-eqb c.register c.register refl, eq-eqb c.offset c.offset refl)
-
-same_all : (cs : List Code) → same_codes cs cs ≡ true
-unfolding same_codes
-same_all [] = refl
-same_all (c ∷ cs) = simp (same_one c, same_all cs)
 
 of_equal : {xs ys : List Code} → xs ≡ ys → same_codes xs ys ≡ true
 of_equal {xs} e = ap (same_codes xs) (sym e) ∙ same_all xs

@@ -60,7 +60,7 @@ fn record_with(x: &Record, to: &mut Output) -> Result<Arm64Reading, u64>
     let Some(m) = x.count_epilogues() else {
         return Err(77);
     };
-    let k = x.epilogues();
+    let k = arm64_records::epilogues_in(x.header);
     room(to, k, n + m)?;
     arm64_runs::put_back(to.codes, fields::CODE_STRIDE * n, x.codes);
     x.put_epilogues(n, m, to);

@@ -137,6 +137,14 @@ pub struct Record<'a> {
     pub ghost spelled: { codes.now ≡ codes_of header section.now },
 }
 
+// How many epilogues a record has: one where E is set.
+#[tactic(auto, unfolding(crate::specs::Parts::how_many, format::specs::Prelude::pick))]
+pub fn epilogues_in(h: Header) -> u64
+    ensures { result ≡ how_many h }
+{
+    if h.single { 1 } else { h.count }
+}
+
 impl<'a> Record<'a> {
     ghost use Rattle.arm64_records.specs.Record.{epilogues_of, word_of};
 
@@ -151,18 +159,6 @@ impl<'a> Record<'a> {
             section,
             header,
             codes: &section[from..to],
-        }
-    }
-
-    // How many epilogues it has: one where E is set.
-    #[tactic(auto, unfolding(crate::specs::Parts::how_many, format::specs::Prelude::pick))]
-    pub fn epilogues(&self) -> u64
-        ensures { result ≡ how_many self.now.header }
-    {
-        if self.header.single {
-            1
-        } else {
-            self.header.count
         }
     }
 

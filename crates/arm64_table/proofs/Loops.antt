@@ -20,7 +20,8 @@ use Rattle.format.proofs.Wrote.{Wrote}
 use Rattle.arm64.specs.Lists.{Function}
 use Rattle.arm64.specs.Writer.{function_asks, is_packed, row_bytes, row_relocs, info_of, no_record, markers_from, rows_of, relocs_from, infos_of}
 use Rattle.arm64_table.specs.Tables.{reloc_count, mark_by}
-use Rattle.arm64_table.proofs.Rows.{row_length, mark_is, relocs_count}
+use Rattle.arm64.proofs.WriterLaws.{row_length, markers_length}
+use Rattle.arm64_table.proofs.Rows.{mark_is, relocs_count}
 use Rattle.arm64_table.proofs.Parts.{Counted, counted, count_next, all_counted, Filled, filled, room_for_lem, fill_next, all_filled}
 
 -- ---- the questions
@@ -187,11 +188,6 @@ module _ {f : ℕ → Function} {n : ℕ} {bytes₀ bytes relocs₀ relocs : Lis
   all_relocs h = all_filled d.relocs_in h ∙ ap (put relocs₀ 0) (relocs_are f 0 n)
 
 -- ---- records and markers
-
-pub markers_length : (at : ℕ) (fs : List Function) → length (markers_from at fs) ≡ length fs
-unfolding markers_from
-markers_length at [] = refl
-markers_length at (f ∷ fs) = ap suc (markers_length (at + length (info_of f)) fs)
 
 pub record Describing (f : ℕ → Function) (n : ℕ) (marks₀ marks infos₀ infos : List ℕ) (k at : ℕ) : Type 0 where
   pub place : at ≡ place_of f k

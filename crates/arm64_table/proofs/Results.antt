@@ -16,7 +16,8 @@ use Rattle.lists.specs.Room.{room_for}
 use Rattle.arm64.specs.Lists.{Function, numbered_function}
 use Rattle.arm64.specs.Writer.{function_asks, markers_from, rows_of, relocs_from, infos_of, arm64}
 use Rattle.arm64_table.specs.Tables.{first_of, AllListed, AllFine}
-use Rattle.arm64_table.proofs.Loops.{each_yes, rows-length, markers_length}
+use Rattle.arm64.proofs.WriterLaws.{markers_length}
+use Rattle.arm64_table.proofs.Loops.{each_yes, rows-length}
 
 pub all_fine : {fs es cs : List ℕ} {n : ℕ} → AllListed fs es cs n → question_of (per_function function_asks 0 (first_of fs es cs n)) ≡ Ok tt
     → AllFine fs es cs n

@@ -55,10 +55,6 @@ module _ (f : Function) {word : Option ℕ} (e : word ≡ pick (is_packed f) (So
       ap (λ b. reloc place f.symbol image_reloc 4 0 ∷ pick b [] (reloc (place + 4) (marker f.symbol) image_reloc 4 0 ∷ []))
       (ap is_some e ∙ there (is_packed f) (packed_word (candidate (instructions f.size) (prologue_run f))))
 
-pub row_length : (f : Function) → length (row_bytes f) ≡ 8
-unfolding row_bytes little
-row_length f = refl
-
 -- ---- by the bytes of the record
 
 header_some : (b : Bool) (x y z : ℕ) → 0 < length (pick b (little 4 x ++ little 4 y) (little 4 z))

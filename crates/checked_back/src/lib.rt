@@ -18,7 +18,7 @@ pub struct WrittenAndChecked {
 
 // `relaxed_table`, and then the check of exactly what was written, with the machine's word: where the list was accepted for ELF, every
 // function passes the row check and none is relaxed, the section passes. Where the writer refused, the check is handed nothing.
-// Kept: the lists one by one, as the entries that it calls take them.
+// Kept: the lists one by one, since the promises of the entries that it calls name each of them.
 pub fn write_and_check(
     machine: &[u64],
     format: u64,

@@ -1,6 +1,6 @@
 -- What questions 11 to 25, answered by yes, say of each function.
-use mathlib.Core.Path.{◌≡◌, refl, ap, subst}
-use Prim.Native.Nat.{ℕ, zero, suc, ◌+◌, ◌≤◌, ◌<◌}
+use mathlib.Core.Path.{◌≡◌, refl, subst}
+use Prim.Native.Nat.{ℕ, ◌+◌, ◌≤◌, ◌<◌}
 use native.Mathlib.Omega.{arith}
 use mathlib.Core.Bool.{Bool, true, false, ◌&&◌}
 use mathlib.Core.List.{List, [], ◌∷◌}
@@ -13,7 +13,7 @@ use Rattle.format.specs.Lists.{field, function_stride, row_stride, landing_strid
 use Rattle.format.specs.declared.Section.{Section}
 use Rattle.format.specs.declared.Section.TheVariants.{Elf, Debug}
 use Rattle.format.proofs.Choice.{pick_yes}
-use Rattle.format.proofs.ListLaws.{chained, in_range}
+use Rattle.format.proofs.ListLaws.{chained, in_range, part_of}
 use Rattle.lists.specs.declared.Personality.{Personality}
 use Rattle.lists.specs.declared.Labels.{Labels}
 use Rattle.lists.specs.declared.Extent.{Extent}
@@ -25,22 +25,6 @@ use Rattle.headers.specs.Kinds.{EncodingFits}
 use Rattle.dwarf.specs.Asks.{Askable}
 
 -- ---- sums and marks
-
--- one of the numbers of a sum
-in_sum : (f : ℕ → ℕ) (at n k : ℕ) → k < n → f (at + k) ≤ sum_of f at n
-unfolding sum_of
-in_sum f at zero k h = absurd (omega arith)
-in_sum f at (suc n) zero h =
-    let e : f (at + 0) ≡ f at = ap f (omega arith) in
-    omega arith
-in_sum f at (suc n) (suc k) h =
-    let e : f (at + suc k) ≡ f (suc at + k) = ap f (omega arith) in
-    omega (arith, in_sum f (suc at) n k (omega arith))
-
-pub in_total : (f : ℕ → ℕ) (n k : ℕ) → k < n → f k ≤ sum_of f 0 n
-in_total f n k h =
-    let e : 0 + k ≡ k = omega arith in
-    rw e at (in_sum f 0 n k h)
 
 tested : (n : ℕ) (b : Bool) → T (when_marked n b) → T (mark n) → T b
 unfolding when_marked mark
@@ -142,7 +126,7 @@ counted fs t =
 
 module _ (fs rows landings pairs : List ℕ) (few : Counted fs) (k : ℕ) (h : k < count function_stride fs) where
   rows_short : field function_stride fs k 3 ≤ most_records
-  rows_short = omega (arith, in_total (λ j. field function_stride fs j 3) (count function_stride fs) k h, few.rows_few)
+  rows_short = omega (arith, part_of (λ j. field function_stride fs j 3) (count function_stride fs) k h, few.rows_few)
 
   pub rows_few_at : (s : Section) → (taken_in s (extent_at fs k)).rows ≤ most_records
   unfolding extent_at
@@ -163,7 +147,7 @@ module _ (fs rows landings pairs : List ℕ) (few : Counted fs) (k : ℕ) (h : k
     unfolding extent_at
     landings_ready = record {
       inside = within fs rows landings pairs _ _ _ one.landings_inside;
-      few = omega (arith, in_total (λ j. field function_stride fs j 5) (count function_stride fs) k h, few.landings_few);
+      few = omega (arith, part_of (λ j. field function_stride fs j 5) (count function_stride fs) k h, few.landings_few);
     }
 
     pub landings_taken : (s : Section) → LandingsReady (taken_in s (extent_at fs k)) landings
@@ -179,7 +163,7 @@ module _ (fs rows landings pairs : List ℕ) (few : Counted fs) (k : ℕ) (h : k
         let p : pairs_in fs k ≡ f 17 = pick_yes (mark (f 14)) _ 0 m in
         record {
           inside = within fs rows landings pairs _ _ _ (one.relaxed m);
-          few = omega (arith, in_total (pairs_in fs) (count function_stride fs) k h, few.pairs_few);
+          few = omega (arith, part_of (pairs_in fs) (count function_stride fs) k h, few.pairs_few);
         })
 
     pub pairs_taken : (s : Section) → LabelsReady (taken_in s (extent_at fs k)) pairs

@@ -637,7 +637,7 @@ fn unchain(heads: &mut [u16])
     heads.fill(0);
 }
 
-// The lists that are lent hold whatever such functions can be, so that sizes are not needed.
+// The lists that are lent hold the most that such functions can need, so that they need not be sized.
 fn ample(fs: &[u64], lent: Counts) -> bool
     requires { Few fs.now }
 {
@@ -655,8 +655,8 @@ fn tried(x: &Input, lent: Counts, chains: &mut Chains) -> Option<Table>
     survey(x, chains)
 }
 
-// The functions written where there is room; their owners are found first, in the lists lent for that. Lists that hold all
-// that functions like these can be save the pass that sizes them.
+// The functions written where there is room; their owners are found first, in the lists lent for that. Where the lists hold the most
+// that such functions can need, the pass that sizes them is left out.
 // Kept: what is read, what is worked in and what is written, here and in the next two. One struct of them would be lent to be
 // written as a whole, and each contract would have to say that the input stays.
 fn fitted(x: &Input, chains: &mut Chains, to: &mut Output) -> Result<Option<Counts>, Refusal>

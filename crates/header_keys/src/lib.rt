@@ -23,14 +23,12 @@ pub use input::Input;
 pub fn taken(s: Section, e: Extent) -> Extent
     ensures { result ≡ taken_in s e }
 {
-    match s {
-        Section::Elf => e,
-        Section::Debug => Extent {
-            landings: 0,
-            personality: None,
-            ..e
-        },
+    let mut t = e;
+    if matches!(s, Section::Debug) {
+        t.landings = 0;
+        t.personality = None;
     }
+    t
 }
 
 // ---- the kind of a header

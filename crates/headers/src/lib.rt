@@ -79,7 +79,7 @@ pub fn pointer(out: &mut [u64], i: usize, word: u64, place: u64, symbol: u64, e:
 
 // ---- the fields
 
-// Kept: in all that write a part of a header, a writer's buffer and place, as in leb; what is written is the function.
+// Kept: in all that write a part of a header the list and the place stand apart, as in leb; what is written is the function.
 
 // The end of the augmentation string: S for a signal frame, and a 0.
 fn ending(out: &mut [u8], at: usize, signal: bool) -> usize

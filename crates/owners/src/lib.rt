@@ -45,6 +45,7 @@ fn same_named(a: &Personality, b: &Personality) -> bool
 }
 
 // Two functions ask for one kind of header.
+// Kept: here and in the next the records are passed by value. By reference was tried, and the writer was slower.
 #[tactic(auto, unfolding(header_keys::specs::Kinds::kind_meant, format::specs::Headers::same_kind))]
 fn same_kind(a: Extent, b: Extent) -> bool
     ensures { result ≡ same_kind (kind_in a) (kind_in b) }

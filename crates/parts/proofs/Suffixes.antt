@@ -2,89 +2,20 @@
 use mathlib.Core.Path.{◌≡◌, refl, sym, ◌∙◌}
 use mathlib.Core.Bool.{Bool, true, false}
 use mathlib.Core.Option.{Option, none, some}
-use mathlib.Core.List.{List, [], ◌∷◌}
-use Prim.Native.Nat.{ℕ, suc, ◌+◌, ◌-◌, ◌≤◌}
+use mathlib.Core.List.{List}
+use Prim.Native.Nat.{ℕ, ◌+◌, ◌-◌, ◌≤◌}
 use native.Mathlib.Omega.{arith}
-use lib.Dec.{eqb, leb, leb→le}
-use lib.ListN.{length, take, drop, length-drop}
+use lib.Dec.{eqb, leb}
+use lib.ListN.{length, drop, length-drop}
 use lib.Seq.{drop-drop, length-take-le}
 use Rattle.format.specs.Prelude.{pick, Read, next, after}
-use Rattle.format.specs.Rows.{read_register, same_offset}
+use Rattle.format.specs.Rows.{same_offset}
 use Rattle.format.specs.Headers.{data_factor}
-use Rattle.format.specs.Reader.{strip, Letters, Spelling, spellings, spell_or, read_letters, read_byte, read_many, read_counted, letters_in, require, HeaderFields, header_tail, parse_header, RecordFields, record_tail, parse_record}
-use Rattle.format.proofs.Choice.{pick_yes, pick_no, tested}
-use Rattle.operations.proofs.PositionLaws.{Takes, nothing, taken, takes_next, takes_pick, gives, takes_little, takes_uleb, takes_sleb}
+use Rattle.format.specs.Reader.{Letters, spellings, letters_in, require, HeaderFields, header_tail, parse_header, RecordFields, record_tail, parse_record}
+use Rattle.operations.proofs.PositionLaws.{takes_little, takes_uleb, takes_sleb}
 use Rattle.reader.specs.Spans.{part}
+use Rattle.reader.proofs.Suffixes.{Leaves, unread, leaves, of_takes, leaves_register, leaves_byte, leaves_counted, leaves_letters}
 use Rattle.reader.proofs.Whole.{drop-part}
-
--- ---- readers leave a suffix
-
-pub data Leaves {A : Type 0} (bs : List ℕ) : Read A → Type 0 where
-  refused : Leaves bs none
-  left : (n : ℕ) (v : A) → n ≤ length bs → Leaves bs (some (v, drop n bs))
-
-of_takes : {A : Type 0} {lo hi : ℕ} {bs : List ℕ} {r : Read A} → Takes lo hi bs r → Leaves bs r
-of_takes nothing = refused
-of_takes (taken n v l h m) = left n v m
-
-leaves_past : {A : Type 0} (n : ℕ) (bs : List ℕ) {r : Read A} → n ≤ length bs → Leaves (drop n bs) r → Leaves bs r
-leaves_past n bs h refused = refused
-leaves_past n bs h (left k v m) = rw drop-drop (left (n + k) v (omega (arith, length-drop n bs)))
-
-leaves_next : {A B : Type 0} {bs : List ℕ} {r : Read A} {k : A → List ℕ → Read B} → Leaves bs r → ((a : A) (rest : List ℕ) → Leaves rest (k a rest)) → Leaves bs (next r k)
-unfolding next
-leaves_next refused u = refused
-leaves_next {bs = bs} (left n v m) u = leaves_past n bs m (u v (drop n bs))
-
-leaves_register : (bs : List ℕ) → Leaves bs (read_register bs)
-unfolding read_register
-leaves_register bs = of_takes (takes_next (takes_uleb bs) (λ v r. takes_pick (leb v 0xffff) (gives v r) nothing))
-
-leaves_byte : (bs : List ℕ) → Leaves bs (read_byte bs)
-unfolding read_byte
-leaves_byte [] = refused
-leaves_byte (b ∷ bs) = left 1 b (omega arith)
-
-leaves_many : (n : ℕ) (bs : List ℕ) → Leaves bs (read_many n bs)
-unfolding read_many
-leaves_many n bs =
-    tested (leb n (length bs)) (λ t. rw (pick_yes {X = Read (List ℕ)} (leb n (length bs)) _ _ t) (left n (take n bs) (leb→le n (length bs) t)))
-    (λ t. rw (pick_no {X = Read (List ℕ)} (leb n (length bs)) _ _ t) refused)
-
-leaves_counted : (bs : List ℕ) → Leaves bs (read_counted bs)
-unfolding read_counted
-leaves_counted bs = leaves_next (of_takes (takes_uleb bs)) leaves_many
-
--- ---- a string
-
-data Strips (bs : List ℕ) : Option (List ℕ) → Type 0 where
-  other : Strips bs none
-  same : (n : ℕ) → n ≤ length bs → Strips bs (some (drop n bs))
-
-strips_byte : (b : ℕ) (bs : List ℕ) {o : Option (List ℕ)} → Strips bs o → Strips (b ∷ bs) o
-strips_byte b bs other = other
-strips_byte b bs (same n h) = same (suc n) (omega arith)
-
-strips_pick : {bs : List ℕ} (test : Bool) {o : Option (List ℕ)} → Strips bs o → Strips bs (pick test o none)
-unfolding pick
-strips_pick true s = s
-strips_pick false s = other
-
-strips : (xs bs : List ℕ) → Strips bs (strip xs bs)
-unfolding strip
-strips [] bs = same 0 (omega arith)
-strips (a ∷ xs) [] = other
-strips (a ∷ xs) (b ∷ bs) = strips_pick (eqb a b) (strips_byte b bs (strips xs bs))
-
-leaves_spelled : (bs : List ℕ) (l : Letters) {o : Option (List ℕ)} {r : Read Letters} → Strips bs o → Leaves bs r → Leaves bs (spell_or o l r)
-unfolding spell_or
-leaves_spelled bs l other x = x
-leaves_spelled bs l (same n h) x = left n l h
-
-leaves_letters : (ss : List Spelling) (bs : List ℕ) → Leaves bs (read_letters ss bs)
-unfolding read_letters
-leaves_letters [] bs = refused
-leaves_letters (s ∷ ss) bs = leaves_spelled bs s.letters (strips s.text bs) (leaves_letters ss bs)
 
 -- ---- what is taken ends with the operations
 
@@ -99,8 +30,8 @@ module _ {F : Type 0} {operations : F → List ℕ} where
 
   ends_next : {A : Type 0} {bs : List ℕ} {r : Read A} {k : A → List ℕ → Option F} → Leaves bs r → ((a : A) (rest : List ℕ) → Ends operations rest (k a rest)) → Ends operations bs (next r k)
   unfolding next
-  ends_next refused u = refused
-  ends_next {bs = bs} (left n v m) u = ends_past n bs m (u v (drop n bs))
+  ends_next unread u = refused
+  ends_next {bs = bs} (leaves n v m) u = ends_past n bs m (u v (drop n bs))
 
   ends_after : {A : Type 0} {bs : List ℕ} (o : Option A) {k : A → Option F} → ((a : A) → Ends operations bs (k a)) → Ends operations bs (after o k)
   unfolding after

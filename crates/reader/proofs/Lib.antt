@@ -15,3 +15,4 @@ pub mod Marks
 pub mod Steps
 pub mod Tiles
 pub mod Listed
+pub mod Suffixes

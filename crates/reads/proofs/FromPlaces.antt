@@ -1,19 +1,20 @@
 -- The operations of an entry are its last bytes, so the rules from what was located are what is read.
-use Rattle.std.proofs.Common.{◌≡◌, ℕ, suc, ◌+◌, ◌-◌, ◌≤◌, Bool, true, false, ◌&&◌, T, eqb, leb, List, [], ◌∷◌, length, take, drop, sym, refl, ap, ◌∙◌, subst, arith, leb→le, length-drop, length-take-le, drop-drop, eq-eqb, ne_eqb, le-leb}
+use Rattle.std.proofs.Common.{◌≡◌, ℕ, ◌+◌, ◌-◌, ◌≤◌, Bool, true, false, ◌&&◌, T, eqb, leb, List, length, drop, sym, refl, ap, ◌∙◌, subst, arith, length-drop, length-take-le, drop-drop, eq-eqb, ne_eqb, le-leb}
 use mathlib.Core.Option.{Option, none, some}
 use lib.ListN.{get_elem?}
 use Rattle.format.specs.Prelude.{pick, Read, next, after, Result, good, bad, onward, or_else}
-use Rattle.format.specs.Rows.{read_register, same_offset}
+use Rattle.format.specs.Rows.{same_offset}
 use Rattle.format.specs.Headers.{data_factor}
 use Rattle.format.specs.Machine.{is_word_size}
 use Rattle.format.specs.Answers.{bit}
 use Rattle.format.specs.Lists.{Relocation, relocations_of}
-use Rattle.format.specs.Reader.{Entry, entries, records, header_place, header_at, strip, Letters, Spelling, spellings, spell_or, read_letters, read_byte, read_many, read_counted, letters_in, HeaderFields, header_tail, require, parse_header, RecordFields, record_tail, parse_record, header_short, record_short, Found, parsed, locate, read, shortest_at}
-use Rattle.operations.proofs.PositionLaws.{Takes, nothing, taken, takes_little, takes_uleb, takes_sleb}
+use Rattle.format.specs.Reader.{Entry, entries, records, header_place, header_at, Letters, spellings, letters_in, HeaderFields, header_tail, require, parse_header, RecordFields, record_tail, parse_record, header_short, record_short, Found, parsed, locate, read, shortest_at}
+use Rattle.operations.proofs.PositionLaws.{takes_little, takes_uleb, takes_sleb}
 use Rattle.reader.specs.Spans.{part, entry_in}
 use Rattle.reader.specs.Finds.{found, Stated}
 use Rattle.reader.specs.Finds as reader
 use Rattle.reader.proofs.Tiling.{Entered}
+use Rattle.reader.proofs.Suffixes.{Leaves, unread, leaves, of_takes, leaves_register, leaves_byte, leaves_counted, leaves_letters}
 use Rattle.reader.proofs.Whole.{drop-part}
 use Rattle.reader.proofs.Asked.{located_read, located_shortest, refused_read, refused_mark}
 use Rattle.reads.specs.Places.{asked, end_of, operations_at, places_of, refused, located_as, locate_entries, header_of, locate_nth, locate_record, reader_places, rules_of}
@@ -24,36 +25,10 @@ use Rattle.reads.proofs.Standing.{Standing, entries_stand, records_stand, nth_st
 
 -- ---- what a reader leaves: the last bytes
 
-data Leaves {A : Type 0} (bs : List ℕ) : Read A → Type 0 where
-  unread : Leaves bs none
-  leaves : (n : ℕ) (v : A) → n ≤ length bs → Leaves bs (some (v, drop n bs))
-
 -- a value whose operations are the last bytes
 data Ends {A : Type 0} (operations : A → List ℕ) (bs : List ℕ) : Option A → Type 0 where
   missing : Ends operations bs none
   ending : (n : ℕ) (v : A) → n ≤ length bs → operations v ≡ drop n bs → Ends operations bs (some v)
-
-takes_leaves : {A : Type 0} {lo hi : ℕ} {bs : List ℕ} {r : Read A} → Takes lo hi bs r → Leaves bs r
-takes_leaves nothing = unread
-takes_leaves (taken n v l h m) = leaves n v m
-
-leaves_on : {A : Type 0} (n : ℕ) (bs : List ℕ) {r : Read A} → n ≤ length bs → Leaves (drop n bs) r → Leaves bs r
-leaves_on n bs m unread = unread
-leaves_on n bs m (leaves j w l) = rw drop-drop (leaves (n + j) w (omega (arith, length-drop n bs)))
-
-leaves_next : {A B : Type 0} {bs : List ℕ} {r : Read A} {k : A → List ℕ → Read B}
-    → Leaves bs r → ((a : A) (rest : List ℕ) → Leaves rest (k a rest)) → Leaves bs (next r k)
-unfolding next
-leaves_next unread u = unread
-leaves_next {bs = bs} (leaves n v m) u = leaves_on n bs m (u v (drop n bs))
-
-leaves_pick : {A : Type 0} {bs : List ℕ} (t : Bool) {a b : Read A} → Leaves bs a → Leaves bs b → Leaves bs (pick t a b)
-unfolding pick
-leaves_pick true x y = x
-leaves_pick false x y = y
-
-leaves_all : {A : Type 0} (v : A) (bs : List ℕ) → Leaves bs (some (v, bs))
-leaves_all v bs = leaves 0 v (omega arith)
 
 module _ {A : Type 0} (operations : A → List ℕ) where
   ends_on : (n : ℕ) (bs : List ℕ) {r : Option A} → n ≤ length bs → Ends operations (drop n bs) r → Ends operations bs r
@@ -70,52 +45,6 @@ module _ {A : Type 0} (operations : A → List ℕ) where
   unfolding require pick
   ends_require true x = x
   ends_require false x = missing
-
--- ---- the readers of the fields
-
-leaves_byte : (bs : List ℕ) → Leaves bs (read_byte bs)
-unfolding read_byte
-leaves_byte [] = unread
-leaves_byte (b ∷ bs) = leaves 1 b (omega arith)
-
-leaves_spelled : {bs : List ℕ} (l : Letters) (o : Option (List ℕ)) {other : Read Letters} → Leaves bs (after o λ r. some (l, r)) → Leaves bs other → Leaves bs (spell_or o l other)
-unfolding spell_or after
-leaves_spelled l none x y = y
-leaves_spelled l (some r) x y = x
-
-leaves_cons : {A : Type 0} (b : ℕ) {bs : List ℕ} {r : Read A} → Leaves bs r → Leaves (b ∷ bs) r
-leaves_cons b unread = unread
-leaves_cons b (leaves n v m) = leaves (suc n) v (omega arith)
-
-stripped : {A : Type 0} (l : A) (b : ℕ) (bs : List ℕ) (t : Bool) (o : Option (List ℕ)) → Leaves bs (after o λ r. some (l, r))
-    → Leaves (b ∷ bs) (after (pick t o none) λ r. some (l, r))
-unfolding pick after
-stripped l b bs true o k = leaves_cons b k
-stripped l b bs false o k = unread
-
-leaves_strip : {A : Type 0} (l : A) (xs bs : List ℕ) → Leaves bs (after (strip xs bs) λ r. some (l, r))
-unfolding strip after
-leaves_strip l [] bs = leaves_all l bs
-leaves_strip l (a ∷ xs) [] = unread
-leaves_strip l (a ∷ xs) (b ∷ bs) = stripped l b bs (eqb a b) (strip xs bs) (leaves_strip l xs bs)
-
-leaves_letters : (ss : List Spelling) (bs : List ℕ) → Leaves bs (read_letters ss bs)
-unfolding read_letters
-leaves_letters [] bs = unread
-leaves_letters (s ∷ ss) bs = leaves_spelled s.letters (strip s.text bs) (leaves_strip s.letters s.text bs) (leaves_letters ss bs)
-
-many : (n : ℕ) (bs : List ℕ) (t : Bool) → (T t → n ≤ length bs) → Leaves bs (pick t (some (take n bs, drop n bs)) none)
-unfolding pick
-many n bs true h = leaves n (take n bs) (h tt)
-many n bs false h = unread
-
-leaves_counted : (bs : List ℕ) → Leaves bs (read_counted bs)
-unfolding read_counted read_many
-leaves_counted bs = leaves_next (takes_leaves (takes_uleb bs)) (λ n r. many n r (leb n (length r)) (leb→le n (length r)))
-
-leaves_register : (bs : List ℕ) → Leaves bs (read_register bs)
-unfolding read_register
-leaves_register bs = leaves_next (takes_leaves (takes_uleb bs)) (λ v r. leaves_pick (leb v 0xffff) (leaves_all v r) unread)
 
 -- ---- a header and a record end in their operations
 
@@ -141,9 +70,9 @@ header_tail_lem false l word bs = ends_next of_header (leaves_counted bs) (λ au
 header_ends : (debug : Bool) (word : ℕ) (bs : List ℕ) → Ends of_header bs (parse_header debug word bs)
 unfolding parse_header
 header_ends debug word bs =
-    ends_next of_header (takes_leaves (takes_little 4 bs)) λ id r₀. ends_next of_header (leaves_byte r₀) λ version r₁. ends_require of_header (eqb version 1)
-    (ends_next of_header (leaves_letters (spellings debug) r₁) λ l r₂. ends_next of_header (takes_leaves (takes_uleb r₂)) λ code r₃. ends_require of_header (eqb code 1)
-    (ends_next of_header (takes_leaves (takes_sleb r₃)) λ z r₄. ends_require of_header (same_offset z (data_factor word))
+    ends_next of_header (of_takes (takes_little 4 bs)) λ id r₀. ends_next of_header (leaves_byte r₀) λ version r₁. ends_require of_header (eqb version 1)
+    (ends_next of_header (leaves_letters (spellings debug) r₁) λ l r₂. ends_next of_header (of_takes (takes_uleb r₂)) λ code r₃. ends_require of_header (eqb code 1)
+    (ends_next of_header (of_takes (takes_sleb r₃)) λ z r₄. ends_require of_header (same_offset z (data_factor word))
     (ends_next of_header (leaves_register r₄) λ ra r₅. header_tail_lem debug l word r₅)))
 
 record_tail_lem : (debug : Bool) (pointer size : ℕ) (bs : List ℕ) → Ends of_record bs (record_tail debug pointer size bs)
@@ -155,8 +84,8 @@ record_tail_lem false pointer size bs =
 record_ends : (debug : Bool) (word pointer : ℕ) (bs : List ℕ) → Ends of_record bs (parse_record debug word pointer bs)
 unfolding parse_record
 record_ends debug word pointer bs =
-    ends_next of_record (takes_leaves (takes_little 4 bs)) λ id r₀. ends_next of_record (takes_leaves (takes_little (pick debug word 4) r₀)) λ place r₁.
-    ends_next of_record (takes_leaves (takes_little (pick debug word 4) r₁)) λ size r₂. record_tail_lem debug pointer size r₂
+    ends_next of_record (of_takes (takes_little 4 bs)) λ id r₀. ends_next of_record (of_takes (takes_little (pick debug word 4) r₀)) λ place r₁.
+    ends_next of_record (of_takes (takes_little (pick debug word 4) r₁)) λ size r₂. record_tail_lem debug pointer size r₂
 
 -- ---- where these operations are
 

@@ -159,7 +159,7 @@ pub fn surveyed_rows(word: u64, rows: &[u64], first: usize, n: usize) -> Option<
 
 // ---- a record's fields
 
-// Kept: in all that write bytes of a record, a writer's buffer and place, as in leb; what is written is the function.
+// Kept: in all that write bytes of a record the list and the place stand apart, as in leb; what is written is the function.
 
 // The length: a linker fills in that of a function with relaxing labels.
 #[tactic(auto, unfolding(crate::specs::Fields::size_in, crate::specs::Fields::labelled))]
@@ -277,7 +277,7 @@ pub fn record(out: &mut [u8], at: usize, f: &Function, cie: usize) -> usize
 
 // ---- the relocations of steps
 
-// Kept: in all that write relocations from here on, the list and the place in it, as in relocs, before the place that is relocated or
+// Kept: in all that write relocations from here on the list and the place in it stand apart, as in leb, from the place that is relocated or
 // the function; what else each needs differs.
 
 // Where a linker writes a step of a form: on the opcode, or behind it.

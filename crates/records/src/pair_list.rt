@@ -64,7 +64,9 @@ impl<'a> Pairs<'a> {
     }
 
     // Where a search starts.
-    pub fn first(&self) -> usize {
+    pub fn first(&self) -> usize
+        ensures { result ≡ self.now.at }
+    {
         self.at
     }
 

@@ -24,6 +24,7 @@ use Rattle.format.specs.Questions.{Given, Room, accepted, given_functions, given
 use Rattle.format.specs.Reader.{entries, records}
 use Rattle.format.proofs.Each.{Each, each_join, each_then, first_behind}
 use Rattle.format.proofs.ListLaws.{each-length}
+use Rattle.format.proofs.ListLaws as sums
 use Rattle.format.proofs.Fits.{MachineFits, FunctionFits, AllFit}
 use Rattle.format.proofs.SectionSize.{header_ok}
 use Rattle.format.proofs.Parts.{Spot, cie_of, spot_of, front_for, relocs_for, front_of, place_of, part_bytes, part_relocs, relocs_of, place_from, next_at, next_sites, next_seen, relocs_more}
@@ -32,7 +33,7 @@ use Rattle.format.proofs.SectionFinds.{spot_at, record_found}
 use Rattle.format.proofs.RelocsInside.{Inside, header_inside, relocations_inside}
 use Rattle.format.proofs.Accepted.{dwarf_written, Accepted, accepted_is, taken_at}
 use Rattle.dwarf.proofs.Bounds.{sites_most}
-use Rattle.dwarf.proofs.Passed.{in_total, all_counted}
+use Rattle.dwarf.proofs.Passed.{all_counted}
 use Rattle.reader.specs.Spans.{listed}
 use Rattle.sites_back.specs.Back.{SiteFits, pointer_field, TableOf}
 use Rattle.sites_back.proofs.TableBack.{place_back, place_shortest}
@@ -199,7 +200,7 @@ unfolding function_at
 few_landings g k h t =
     let fs : List ℕ = g.functions in
     rw (each-length (landing_at g.landings) (field function_stride fs k 4) (field function_stride fs k 5))
-    (omega (arith, in_total (λ i. field function_stride fs i 5) (count function_stride fs) k h, (all_counted fs g.rows g.landings g.pairs t).landings_few))
+    (omega (arith, sums.part_of (λ i. field function_stride fs i 5) (count function_stride fs) k h, (all_counted fs g.rows g.landings g.pairs t).landings_few))
 
 -- what stands somewhere stands there with anything behind
 with_tail : (s table rest tail : List ℕ) (place : ℕ) → drop place s ≡ table ++ rest → 0 < length table → drop place (s ++ tail) ≡ table ++ (rest ++ tail)

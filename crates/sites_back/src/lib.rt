@@ -40,7 +40,7 @@ pub struct WrittenAndRead {
 // eh_frame's writer, and then the reader of call sites on what it wrote, at the place that the relocation of function k's record names. Where
 // the list was accepted and function k has landings whose ends fit 64 bits, the site is the first of them that covers the offset, or
 // none where none does, and the table's numbers are spelled shortest.
-// Kept: the lists one by one, as the entries that it calls take them.
+// Kept: the lists one by one, since the promises of the entries that it calls name each of them.
 pub fn write_and_read_site(
     machine: &[u64],
     functions: &[u64],

@@ -230,7 +230,7 @@ struct Given<'a> {
     rows: usize,
 }
 
-// Kept: the lent lists one by one in what follows, as C lends them and as unwind's entries take them.
+// Kept: the lent lists stand one by one in what follows, since the contracts of unwind's entries, which they hand on, name each of them.
 fn packed_table(
     x: &Given,
     numbers: &mut [u64],

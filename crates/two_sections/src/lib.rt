@@ -20,7 +20,7 @@ pub struct TwoSections {
 
 // The list as ELF's eh_frame and as debug_frame, and the reader on exactly what was written of each: where both were accepted, and function
 // k has no relaxing labels and p is below its length, both readings are the same.
-// Kept: the lists one by one, as the entries that it calls take them.
+// Kept: the lists one by one, since the promises of the entries that it calls name each of them.
 pub fn write_two_and_read(
     machine: &[u64],
     functions: &[u64],

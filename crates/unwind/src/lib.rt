@@ -240,7 +240,7 @@ pub fn word_in(machine: &[u64]) -> u64
 }
 
 // debug_frame's writer, or the other.
-// Kept: here and below the lists one by one, as the writers and the reader take them.
+// Kept: here and below the lists and numbers one by one, since the promises of the writers and of the reader name each of them.
 pub fn write(
     debug: bool,
     machine: &[u64],

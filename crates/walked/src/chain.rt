@@ -10,5 +10,5 @@ pub struct Chain {
     pub frames: [Frame; 64],
     pub count: usize,
     pub ending: u64,
-    ghost few: { count ≤ 64 },
+    pub ghost few: { count ≤ 64 },
 }

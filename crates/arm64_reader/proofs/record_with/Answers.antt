@@ -49,7 +49,7 @@ returns-in_default-count_epilogues c =
 pub returns-in_err-room : goal.returns-in_err-room
 returns-in_err-room c =
     let w = (goal.at.returns-in_err-room c).In-Some-count_epilogues in
-    (no_room c.args.to.now.epilogues.now c.args.to.now.codes.now (found_it w) (counts w c.epilogues-k.ensures) c.in_err-room.ensures.1 (grind (arith, c.from_residual.ensures, c.in_err-room.ensures.0)), same)
+    (no_room c.args.to.now.epilogues.now c.args.to.now.codes.now (found_it w) (counts w c.epilogues_in-k.ensures) c.in_err-room.ensures.1 (grind (arith, c.from_residual.ensures, c.in_err-room.ensures.0)), same)
 
 pub overflow_mul-n : goal.overflow_mul-n
 overflow_mul-n c = omega (arith, (few (goal.at.overflow_mul-n c).In-Some-count_epilogues).0)
@@ -63,7 +63,7 @@ pub put_epilogues-requires : goal.put_epilogues-requires
 put_epilogues-requires c =
     let r = has_room c.args.to.now.epilogues.now c.args.to.now.codes.now c.in_ok-room.ensures in (
       all_counted (goal.at.put_epilogues-requires c).In-Some-count_epilogues,
-      omega (arith, r.0, c.epilogues-k.ensures),
+      omega (arith, r.0, c.epilogues_in-k.ensures),
       omega (arith, r.1, ap length c.put_back.ensures, length-put c.args.to.now.codes.now 0 (code_numbers (reverse (codes_in (run_at c.args.x.now.codes.now 0))))),
     )
 
@@ -71,7 +71,7 @@ pub returns : goal.returns
 unfolding recorded unwound
 returns c =
     let w = (goal.at.returns c).In-Some-count_epilogues in (
-      stored c.args.to.now.epilogues.now c.args.to.now.codes.now (found_it w) (counts w c.epilogues-k.ensures) c.in_ok-room.ensures (ap Ok c.reading.ensures)
+      stored c.args.to.now.epilogues.now c.args.to.now.codes.now (found_it w) (counts w c.epilogues_in-k.ensures) c.in_ok-room.ensures (ap Ok c.reading.ensures)
           (record { numbers = c.put_epilogues.ensures.0.numbers; codes = c.put_epilogues.ensures.0.codes ∙ rw c.put_back.ensures refl }),
       let s = c.put_epilogues.ensures.1 in record { epilogues = s.epilogues; codes = s.codes },
     )

@@ -1,10 +1,10 @@
 -- `Placement::store` meets its contract.
-use Rattle.std.proofs.Common.{sym, refl, ap, ◌∙◌, arith}
+use Rattle.std.proofs.Common.{refl, ◌∙◌, arith}
 use Rattle.apply.specs.Fields.{set_in, sub_in}
 use Rattle.apply.specs.Values.{symbols_of, store_as}
 use Rattle.apply.specs.Standing.{placed, meant, beside}
 use Rattle.apply.proofs.Tests.{stored_as, value_as_lem, sized_as, step_size, step_size_2}
-use Rattle.apply.proofs.Sums.{some_of, none_of, is_sum, no_sum}
+use Rattle.apply.proofs.Sums.{by_address, by_none}
 use Rattle.apply.proofs.Placement.store.Goals as goal
 
 pub set-requires : goal.set-requires
@@ -53,29 +53,29 @@ pub returns-in-Some : goal.returns-in-Some
 unfolding store_as set_in
 returns-in-Some c =
     let a = c.args in
-    let e = is_sum (symbols_of a.self.now.addresses.now) (meant a.x.now.reloc) _ (some_of _ (sym c.in-Some.is ∙ c.address_of.ensures)) in
-    c.set.ensures ∙ ap (set_in c.in-Set.width a.copy.now a.x.now.reloc.place) (sym e) ∙ stored_as (placed a.self.now) a.copy.now (meant a.x.now.reloc) (beside a.x.now.behind) c.kind_of-k.ensures c.in-Set.is
+    c.set.ensures ∙ by_address (symbols_of a.self.now.addresses.now) (meant a.x.now.reloc) (set_in c.in-Set.width a.copy.now a.x.now.reloc.place) c.address_of.ensures c.in-Some.is
+    ∙ stored_as (placed a.self.now) a.copy.now (meant a.x.now.reloc) (beside a.x.now.behind) c.kind_of-k.ensures c.in-Set.is
 
 pub returns-in_default : goal.returns-in_default
 unfolding store_as set_in
 returns-in_default c =
     let a = c.args in
-    let e = no_sum (symbols_of a.self.now.addresses.now) (meant a.x.now.reloc) (none_of _ (sym c.in_default.is ∙ c.address_of.ensures)) in
-    ap (set_in c.in-Set.width a.copy.now a.x.now.reloc.place) (sym e) ∙ stored_as (placed a.self.now) a.copy.now (meant a.x.now.reloc) (beside a.x.now.behind) c.kind_of-k.ensures c.in-Set.is
+    by_none (symbols_of a.self.now.addresses.now) (meant a.x.now.reloc) (set_in c.in-Set.width a.copy.now a.x.now.reloc.place) c.address_of.ensures c.in_default.is
+    ∙ stored_as (placed a.self.now) a.copy.now (meant a.x.now.reloc) (beside a.x.now.behind) c.kind_of-k.ensures c.in-Set.is
 
 pub returns-in-Some-address_of : goal.returns-in-Some-address_of
 unfolding store_as sub_in
 returns-in-Some-address_of c =
     let a = c.args in
-    let e = is_sum (symbols_of a.self.now.addresses.now) (meant a.x.now.reloc) _ (some_of _ (sym c.in-Some-address_of.is ∙ c.address_of-in-Sub.ensures)) in
-    c.sub.ensures ∙ ap (sub_in c.in-Sub.width a.copy.now a.x.now.reloc.place) (sym e) ∙ stored_as (placed a.self.now) a.copy.now (meant a.x.now.reloc) (beside a.x.now.behind) c.kind_of-k.ensures c.in-Sub.is
+    c.sub.ensures ∙ by_address (symbols_of a.self.now.addresses.now) (meant a.x.now.reloc) (sub_in c.in-Sub.width a.copy.now a.x.now.reloc.place) c.address_of-in-Sub.ensures c.in-Some-address_of.is
+    ∙ stored_as (placed a.self.now) a.copy.now (meant a.x.now.reloc) (beside a.x.now.behind) c.kind_of-k.ensures c.in-Sub.is
 
 pub returns-in_default-address_of : goal.returns-in_default-address_of
 unfolding store_as sub_in
 returns-in_default-address_of c =
     let a = c.args in
-    let e = no_sum (symbols_of a.self.now.addresses.now) (meant a.x.now.reloc) (none_of _ (sym c.in_default-address_of.is ∙ c.address_of-in-Sub.ensures)) in
-    ap (sub_in c.in-Sub.width a.copy.now a.x.now.reloc.place) (sym e) ∙ stored_as (placed a.self.now) a.copy.now (meant a.x.now.reloc) (beside a.x.now.behind) c.kind_of-k.ensures c.in-Sub.is
+    by_none (symbols_of a.self.now.addresses.now) (meant a.x.now.reloc) (sub_in c.in-Sub.width a.copy.now a.x.now.reloc.place) c.address_of-in-Sub.ensures c.in_default-address_of.is
+    ∙ stored_as (placed a.self.now) a.copy.now (meant a.x.now.reloc) (beside a.x.now.behind) c.kind_of-k.ensures c.in-Sub.is
 
 pub returns-in-Unknown : goal.returns-in-Unknown
 unfolding store_as
