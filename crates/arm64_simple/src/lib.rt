@@ -4,8 +4,8 @@
 
 ghost use Rattle.std.specs.Prelude.{◌≡◌, true, ◌+◌, ◌*◌, ◌^◌, ◌≤◌, ◌<◌, length};
 ghost use Rattle.format.proofs.Wrote.{Wrote};
-ghost use Rattle.arm64.specs.Runs.{shorter, pair_in, has_next, next_pair, resolved, next_or, simple, pair_behind, simplify, run_fits, backwards, no_pair, leads};
-ghost use Rattle.arm64_simple.specs.Saves.{place_of, saved_at, saves, Inside};
+ghost use Rattle.arm64.specs.Runs.{shorter, pair_in, has_next, next_pair, resolved, next_or, simple, pair_behind, run_fits, backwards, no_pair, leads};
+ghost use Rattle.arm64_simple.specs.Saves.{place_of, saved_at, Inside};
 
 use arm64::{Code, fields};
 

@@ -4,7 +4,6 @@ use Rattle.format.specs.Writer.{Part, is_debug, align_for}
 use Rattle.lists.specs.declared.Lists.{Lists}
 use Rattle.header_keys.specs.declared.written.Function.{Function}
 use Rattle.header_keys.specs.Inputs.{Inputs, extent_in}
-use Rattle.records.specs.Stepped.{rows_in}
 use Rattle.dwarf.specs.declared.Chosen.{Chosen}
 use Rattle.dwarf.specs.declared.Output.{Output}
 use Rattle.dwarf.specs.declared.Table.{Table}
@@ -18,10 +17,6 @@ pub record WrittenAs (x : Inputs) (k : ℕ) (last : Bool) (f : Function) : Type 
   pub align : f.align ≡ align_for x.section x.machine.word last
   pub extent : f.extent ≡ extent_in x k
   pub rows : f.rows.now ≡ x.rows
-
--- its rows with the steps between them
-abbrev pub rows_bytes_of : Function → List ℕ
-rows_bytes_of f = rows_in f.machine.now.word 0 f.rows.now f.extent.rows_at f.extent.rows
 
 -- its own header at a place, where it has one
 abbrev pub front_of : (own : Bool) → Function → (at : ℕ) → List ℕ

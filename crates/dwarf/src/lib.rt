@@ -21,7 +21,8 @@ ghost use Rattle.dwarf.specs.Tables.{totals_in, grown_by, labelled_rows, most_in
 ghost use Rattle.owners.specs.Lent.{LongFor, EmptyFor, OwnedIn};
 ghost use Rattle.dwarf.specs.Surveys.{rows_size, FunctionSurveyed, AllSurveyed};
 ghost use Rattle.dwarf.specs.Lent.{SameLists, room_of, lent_in, WritesTo, HasRoom, ReadyFor, AddsTo, FillsTo};
-ghost use Rattle.dwarf.specs.Functions.{WrittenAs, front_of, numbers_for, part_for, rows_bytes_of, CanSize, FrontFits, FrontWritten, PieceFits, PieceWritten};
+ghost use Rattle.records.specs.Written as record_parts;
+ghost use Rattle.dwarf.specs.Functions.{WrittenAs, front_of, numbers_for, part_for, CanSize, FrontFits, FrontWritten, PieceFits, PieceWritten};
 
 use format::{Counts, Machine, Refusal, Section};
 use header_keys::written::{Function, Run};
@@ -343,7 +344,7 @@ fn relocs_size(own: bool, f: &Function, pairs: &[u64]) -> usize
 // What stands behind a function that is behind t and whose rows have `size` bytes. The place of a header that it does not own
 // does not matter.
 fn sized(lists: &Lists, size: usize, own: bool, f: &Function, t: Table) -> Table
-    requires { CanSize own f.now lists.now t × (size ≡ length (rows_bytes_of f.now)) }
+    requires { CanSize own f.now lists.now t × (size ≡ length (record_parts.rows_of f.now)) }
     ensures { result ≡ grown_by t (part_for own f.now lists.now t 0) }
 {
     let behind = t.bytes + front_size(own, f, t.bytes);

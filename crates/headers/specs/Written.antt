@@ -1,8 +1,7 @@
 -- The bytes of a function's header and of its parts.
-use Rattle.std.specs.Prelude.{ℕ, List, []}
-use Rattle.format.specs.Lists.{Relocation}
+use Rattle.std.specs.Prelude.{ℕ, List}
 use Rattle.format.specs.Rows.{rows_bytes}
-use Rattle.format.specs.Headers.{Kind, leading, header_fields, header_bytes, header_relocs}
+use Rattle.format.specs.Headers.{Kind, leading, header_fields, header_bytes}
 use Rattle.header_keys.specs.declared.written.Function.{Function}
 use Rattle.header_keys.specs.Functions.{body_of, key_in}
 use Rattle.headers.specs.Kinds.{head_in, middle, tail_of}
@@ -22,9 +21,6 @@ fields_of f = header_fields f.debug f.machine.now (head_in f.extent)
 abbrev pub starts_of : Function → List ℕ
 starts_of f = rows_bytes f.machine.now.word (leading f.machine.now (body_of f.extent f.rows.now))
 
--- the header at a place, and its relocations, which do not depend on the rows
+-- the header at a place
 abbrev pub header_of : Function → (at : ℕ) → List ℕ
 header_of f at = header_bytes f.debug f.machine.now f.align at (key_in f.machine.now f.extent f.rows.now)
-
-abbrev pub header_relocs_of : Function → (at : ℕ) → List Relocation
-header_relocs_of f at = header_relocs f.debug f.machine.now at (key_in f.machine.now f.extent [])

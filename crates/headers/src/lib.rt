@@ -11,7 +11,7 @@ ghost use Rattle.format.proofs.SectionSize.{Aligned};
 ghost use Rattle.headers.specs.Entries.{Closed};
 ghost use Rattle.header_keys.specs.Kinds.{lsda_of, named_by, asked_kind, kind_in};
 ghost use Rattle.headers.specs.Kinds.{head_in, EncodingFits, NamedFits, KindFits, ending, middle, flag, named_letters, named_data, header_reloc_count};
-ghost use Rattle.headers.specs.Written.{middle_of, tail_by, fields_of, starts_of, header_of, header_relocs_of};
+ghost use Rattle.headers.specs.Written.{middle_of, tail_by, fields_of, starts_of, header_of};
 
 use format::Machine;
 use header_keys::written::Function;

@@ -1,5 +1,5 @@
 // The reader: from the bytes of a section to the rules at an offset of a record's function. entries, fields and location find the record
-// and its header (61 to 64), run goes over their operations (65 to 69), shortest tells how their numbers are spelled,
+// and its header (61 to 64), run goes over their operations (66 to 69), shortest tells how their numbers are spelled,
 // and cursor goes from entry to entry.
 #![tactic(auto)]
 

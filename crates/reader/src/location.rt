@@ -1,10 +1,9 @@
 // Where the operations of record k and of its header are: questions 61 to 64, in this order.
-ghost use Rattle.std.specs.Prelude.{◌≡◌, ◌&&◌, ◌+◌, ◌≤◌, length, T, eqb, ltb, IfOk};
+ghost use Rattle.std.specs.Prelude.{◌≡◌, ◌&&◌, ◌+◌, ◌≤◌, T, eqb, ltb, IfOk};
 ghost use Rattle.format.specs.Questions.{is_some};
 ghost use Rattle.format.specs.Reader.{is_header, distance_back, first_addend, header_place, header_at, entries, parsed, locate};
 ghost use Rattle.format.specs.Lists.{relocations_of};
 ghost use Rattle.format.specs.Prelude.{after};
-ghost use Rattle.format.specs.Machine.{is_word_size};
 ghost use Rattle.format.proofs.Asked.{option_of};
 ghost use Rattle.reader.specs.Spans.{part, entry_of, listed, Holds, Ahead, Spans};
 ghost use Rattle.reader.specs.Finds.{Searching, spans_of, Locates};

@@ -1,6 +1,5 @@
 // The run of the operations of a header and a record: questions 66 to 69 of the reader, which rucc-asm/src/unwind.rs of tamnd/rucc does not have.
-ghost use Rattle.std.specs.Prelude.{◌≡◌, true, false, ◌∷◌, ◌≤◌, ◌<◌, leb, length, T};
-ghost use Rattle.format.specs.Prelude.{good, bad};
+ghost use Rattle.std.specs.Prelude.{◌≡◌, false, ◌∷◌, ◌≤◌, ◌<◌, leb, length, T};
 ghost use Rattle.format.specs.Rules.{answer};
 ghost use Rattle.reader.specs.Finds.{in_section, found, run_both};
 ghost use Rattle.reader.specs.OneRegister.{start, set_cfa, set_rule, register_rule, restored, remember, recall, negated, act};

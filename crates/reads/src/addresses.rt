@@ -1,5 +1,5 @@
 // The function of a record by the record's own fields, and the record that holds an address.
-ghost use Rattle.std.specs.Prelude.{◌≡◌, ◌+◌, ◌*◌, ◌%◌, ◌^◌, ◌<◌, ◌≤◌, T, length};
+ghost use Rattle.std.specs.Prelude.{◌≡◌, ◌+◌, ◌*◌, ◌%◌, ◌^◌, ◌<◌, ◌≤◌, length};
 ghost use Rattle.format.specs.Coded.{result_of};
 ghost use Rattle.format.proofs.Asked.{option_of};
 ghost use Rattle.reader.specs.Spans.{entry_of, Holds};

@@ -14,7 +14,7 @@ ghost use Rattle.reads.specs.Standing.{stored_as, Skipped, Headed, Stores};
 
 use reader::section::{Section, Span};
 
-// A section has so many marks: half of those of section_check, since a frame above some 32 KiB is compiled wrong (docs/DECISIONS.md, D86).
+// As many marks as a section has here: half of those of section_check, since a frame above some 32 KiB is compiled wrong (docs/DECISIONS.md, D86).
 const MARKS: usize = 1024;
 
 // The place of no header.

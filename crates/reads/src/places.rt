@@ -1,5 +1,5 @@
 // Where the operations of a record and of its header are, by numbers.
-ghost use Rattle.std.specs.Prelude.{◌≡◌, ◌+◌, ◌≤◌, T, length};
+ghost use Rattle.std.specs.Prelude.{◌≡◌, ◌+◌, ◌≤◌, length};
 ghost use Rattle.format.specs.Coded.{result_of};
 ghost use Rattle.format.specs.Lists.{relocations_of};
 ghost use Rattle.reader.specs.Spans.{entry_of, Holds};

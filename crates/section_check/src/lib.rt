@@ -50,7 +50,7 @@ pub fn mark_before(marks: &[usize], step: usize, place: usize) -> usize
 
 // ---- a record
 
-// The length of a record.
+// The length of a record's function.
 fn size_of(s: &[u8], fde: Span) -> Option<u64>
     requires { Holds s.now fde }
     ensures { result ≡ option_of (length_of (entry_of s.now fde)) }
