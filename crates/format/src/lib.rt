@@ -5,6 +5,10 @@
 ghost use Rattle.std.specs.Prelude.{◌≡◌};
 ghost use Rattle.format.specs.Machine.{x8664, machine_with};
 
+pub use question::Question;
+
+pub mod question;
+
 // A machine as the tables see it: the pointer width in bytes, the bytes that a call pushes, DWARF's numbers of the stack
 // pointer, the return address and the frame pointer (65,536: none), and what register of the machine a DWARF number is.
 #[derive(Clone, Copy)]
