@@ -1,6 +1,5 @@
 -- The number of each question (document 01, "Questions, in order, and the number for a no", and the change requests).
-use Rattle.std.specs.Prelude.{ℕ, Ok, Err}
-use Rattle.std.specs.Prelude as code
+use Rattle.std.specs.Prelude.{ℕ}
 use Rattle.format.specs.declared.question.Question.{Question}
 use Rattle.format.specs.declared.question.Question.TheVariants.{Interface, X64Word, Lists, Length, Encodings, Order, Multiples, Pairs, FrameFirst, Scratch, Group, Registers, CodeOffset, Allocation, AllocationSize, SaveBelow, SaveSize, Slots, FrameOffset, PlacesRoom, BytesRoom, RelocationsRoom, OtherRoom, Tiling, Record, Header, Fields, Offset, Operations, States, StatesRoom, FrameRule, CallSiteTable, CallSites, Recorded, Stack, Reached, X64Header, X64Codes, MachO, Relocations, Distance, Arm64Length, Arm64Epilogues, Arm64Values, EveryOffset}
 
@@ -51,8 +50,3 @@ number_of Arm64Length = 81
 number_of Arm64Epilogues = 82
 number_of Arm64Values = 83
 number_of EveryOffset = 84
-
--- an answer, with the number of the question in place of its name
-abbrev pub numbered : {A : Type 0} → code.Result A Question → code.Result A ℕ
-numbered (Ok a) = Ok a
-numbered (Err q) = Err (number_of q)

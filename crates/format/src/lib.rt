@@ -128,11 +128,11 @@ pub enum Operation {
     Does(Row),
 }
 
-// A question answered by no: its number and the function's position. A writer answers `Result<Option<Counts>, Refusal>`: what it
+// A question answered by no, and the function's position. A writer answers `Result<Option<Counts>, Refusal>`: what it
 // wrote, by the counts of its results, or nothing, in a format that has no table.
 #[derive(Clone, Copy, PartialEq, Eq)]
 pub struct Refusal {
-    pub number: u64,
+    pub question: Question,
     pub position: u64,
 }
 

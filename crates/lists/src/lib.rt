@@ -7,13 +7,14 @@ ghost use Rattle.std.proofs.Common.{to_z};
 ghost use Rattle.format.specs.Prelude.{all};
 ghost use Rattle.format.specs.Machine.{machine_ok, machine_of};
 ghost use Rattle.format.specs.Lists.{count, field, row_stride, pair_stride, code_stride, most_records, inside, symbol_ok, pointer_ok, row_ok_at, pair_ok_at, code_ok_at, all_in, sum_of, pairs_in, prologue_ok_at, codes_ok, code_at};
+ghost use Rattle.format.specs.Coded.{numbered_at};
 ghost use Rattle.format.proofs.Asked.{question_of};
 ghost use Rattle.lists.specs.Room.{room_for};
 ghost use Rattle.lists.specs.Parts.{ranges_ok_at, named_ok_at, relaxed_ok_at, sums_ok};
 ghost use Rattle.lists.specs.Given.{count_of, outline_of, function_of, listed_of};
 ghost use Rattle.lists.specs.Extents.{lsda_at, personality_at, labels_at, extent_at, landing_in, pair_in, prologue_in};
 
-use format::{Counts, Machine, Refusal, Seh};
+use format::{Counts, Machine, Question, Refusal, Seh};
 use numbers::{codes, machine};
 use rows::{ROW_STRIDE, row_ok};
 
@@ -664,29 +665,29 @@ pub fn codes_ok(fs: &[u64], codes: &[u64]) -> bool
 
 // Questions 51 to 54: what is needed fits what is lent, in the elements of the lent lists.
 pub fn room(needed: Counts, lent: Counts) -> Result<(), Refusal>
-    ensures { result ≡ question_of (room_for needed lent) }
+    ensures { numbered_at result ≡ question_of (room_for needed lent) }
 {
     if lent.places < needed.places {
         return Err(Refusal {
-            number: 51,
+            question: Question::PlacesRoom,
             position: 0,
         });
     }
     if lent.bytes < needed.bytes {
         return Err(Refusal {
-            number: 52,
+            question: Question::BytesRoom,
             position: 0,
         });
     }
     if lent.relocations < needed.relocations {
         return Err(Refusal {
-            number: 53,
+            question: Question::RelocationsRoom,
             position: 0,
         });
     }
     if lent.sites < needed.sites {
         return Err(Refusal {
-            number: 54,
+            question: Question::OtherRoom,
             position: 0,
         });
     }
