@@ -3,7 +3,7 @@ use Rattle.std.specs.Prelude.{ℕ}
 use Rattle.format.specs.declared.question.Question.{Question}
 use Rattle.format.specs.declared.question.Question.TheVariants.{Interface, X64Word, Lists, Length, Encodings, Order, Multiples, Pairs, FrameFirst, Scratch, Group, Registers, CodeOffset, Allocation, AllocationSize, SaveBelow, SaveSize, Slots, FrameOffset, PlacesRoom, BytesRoom, RelocationsRoom, OtherRoom, Tiling, Record, Header, Fields, Offset, Operations, States, StatesRoom, FrameRule, CallSiteTable, CallSites, Recorded, Stack, Reached, X64Header, X64Codes, MachO, Relocations, Distance, Arm64Length, Arm64Epilogues, Arm64Values, EveryOffset}
 
-unfoldable pub number_of : Question → ℕ
+abbrev pub number_of : Question → ℕ
 number_of Interface = 11
 number_of X64Word = 12
 number_of Lists = 13

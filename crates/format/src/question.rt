@@ -101,7 +101,6 @@ pub enum Question {
 
 impl Question {
     // What C reads.
-    #[tactic(auto, unfolding(crate::specs::Numbers::number_of))]
     pub fn number(self) -> u64
         ensures { result ≡ number_of self }
     {
