@@ -20,6 +20,7 @@ use rows::{ROW_STRIDE, row_ok};
 
 pub mod direct;
 pub mod function;
+pub mod output;
 
 // How many numbers a record of each list has.
 pub const FUNCTION_STRIDE: usize = 18;
