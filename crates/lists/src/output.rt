@@ -2,7 +2,7 @@
 ghost use Rattle.std.specs.Prelude.{◌≡◌};
 ghost use Rattle.lists.specs.Lent.{lent_in};
 
-use format::Counts;
+use format::{Counts, Refusal};
 
 // Header places (or markers), bytes, relocations, and call sites (or Windows info).
 #[derive(Drop)]
@@ -25,4 +25,11 @@ impl Output<'_> {
             sites: self.sites.len() as u64,
         }
     }
+}
+
+// What a writer answered, and what was answered of what it wrote by the function that is called behind it.
+#[derive(Clone, Copy)]
+pub struct WrittenAnd<A> {
+    pub outcome: Result<Option<Counts>, Refusal>,
+    pub answer: A,
 }
