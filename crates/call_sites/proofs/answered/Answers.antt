@@ -13,7 +13,7 @@ mark false = refl
 
 pub returns-in-Err : goal.returns-in-Err
 unfolding answer_of
-returns-in-Err c = rw c.in-Err.is
+returns-in-Err c = rw (c.in-Err.is, c.number.ensures)
 
 pub returns-in-None : goal.returns-in-None
 unfolding answer_of
