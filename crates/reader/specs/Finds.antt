@@ -7,6 +7,8 @@ use Rattle.format.specs.Lists.{relocation_at, relocations_of}
 use Rattle.format.specs.Rules.{State, blank, answer}
 use Rattle.format.specs.Reader.{first_addend, Found, locate, run, run_to, shortest_to}
 use Rattle.format.specs.Coded.{Reading}
+use Rattle.format.specs.Numbers.{number_of}
+use Rattle.format.specs.declared.question.Question.{Question}
 use Rattle.reader.specs.Spans.{part}
 use Rattle.reader.specs.declared.location.Located.{Located}
 use Rattle.reader.specs.declared.section.Layout.{Layout}
@@ -56,10 +58,10 @@ pub record Stated (s : List ℕ) (word : ℕ) (l : Located) (x : Result Found) :
   pub same_word : l.word ≡ word
   pub is_word : T (is_word_size word)
 
--- 61 to 64: what is found, or the question's number
-abbrev pub Locates : List ℕ → ℕ → code.Result Located ℕ → Result Found → Type 0
+-- 61 to 64: what is found, or the question
+abbrev pub Locates : List ℕ → ℕ → code.Result Located Question → Result Found → Type 0
 Locates s word (Ok l) x = Stated s word l x
-Locates s word (Err n) x = x ≡ bad n
+Locates s word (Err q) x = x ≡ bad (number_of q)
 
 -- 11, and then 61 to 64
 unfoldable pub locate_in : (section relocations : List ℕ) (kind word k : ℕ) → Result Found

@@ -2,6 +2,8 @@
 use Rattle.std.specs.Prelude.{◌≡◌, ℕ, List, [], ◌∷◌, Some, None, Ok, Err}
 use Rattle.std.specs.Prelude as code
 use Rattle.format.specs.Prelude.{Result, good, bad}
+use Rattle.format.specs.Numbers.{number_of}
+use Rattle.format.specs.declared.question.Question.{Question}
 use Rattle.format.specs.declared.Rules.{Rules}
 use Rattle.reader.specs.OneRegister.{Run}
 use Rattle.reader.specs.declared.run.State.{State}
@@ -15,7 +17,7 @@ Pops old None new = (old ≡ []) × (new ≡ [])
 unfoldable pub run_of : State → Run
 run_of s = record { current = s.rules; stored = s.stored }
 
--- a row is answered as the definition answers it: the run after it, or the question's number
-abbrev pub Acts : code.Result Unit ℕ → Run → Result Run → Type 0
+-- a row is answered as the definition answers it: the run after it, or the question
+abbrev pub Acts : code.Result Unit Question → Run → Result Run → Type 0
 Acts (Ok u) s a = a ≡ good s
-Acts (Err n) s a = a ≡ bad n
+Acts (Err q) s a = a ≡ bad (number_of q)

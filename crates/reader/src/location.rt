@@ -10,6 +10,7 @@ ghost use Rattle.reader.specs.Finds.{Searching, spans_of, Locates};
 
 use crate::section::{Body, Section, Span};
 use crate::{entries, fields};
+use format::Question;
 
 // ---- the header of a record
 
@@ -154,19 +155,19 @@ impl<'a> Section<'a> {
         }
     }
 
-    // Question 64 of a header, and then of a record: what is found, or the question's number.
-    pub fn parse(&self, cie: Span, fde: Span) -> Result<Located, u64>
+    // Question 64 of a header, and then of a record: what is found, or that question.
+    pub fn parse(&self, cie: Span, fde: Span) -> Result<Located, Question>
         requires { Holds self.now.bytes.now cie × Holds self.now.bytes.now fde }
         ensures located { Locates self.now.bytes.now self.now.layout.word result (parsed self.now.layout.debug self.now.layout.word (entry_of self.now.bytes.now cie) (entry_of self.now.bytes.now fde)) }
         ensures ends { IfOk result (λ l. (l.header_end ≡ cie.end) × (l.record_end ≡ fde.end)) }
     {
         let Some(header) = fields::parse_header(&self.body(cie)) else {
-            return Err(64);
+            return Err(Question::Fields);
         };
         let rules = header.operations;
         let Some(record) = fields::parse_record(&self.body(fde), header.pointer, rules.shortest)
         else {
-            return Err(64);
+            return Err(Question::Fields);
         };
         let rows = record.operations;
         Ok(Located {
@@ -183,17 +184,17 @@ impl<'a> Section<'a> {
     }
 
     // Questions 61 to 64, in this order.
-    pub fn locate(&self, k: u64) -> Result<Located, u64>
+    pub fn locate(&self, k: u64) -> Result<Located, Question>
         ensures { Locates self.now.bytes.now self.now.layout.word result (locate self.now.layout.debug (relocations_of self.now.relocations.now) self.now.layout.word k self.now.bytes.now) }
     {
         if !entries::tiles(self.bytes) {
-            return Err(61);
+            return Err(Question::Tiling);
         }
         let Some(record) = entries::record_span(self.bytes, self.layout.debug, k) else {
-            return Err(62);
+            return Err(Question::Record);
         };
         let Some(header) = self.header_of(record) else {
-            return Err(63);
+            return Err(Question::Header);
         };
         self.parse(header, record)
     }

@@ -1,12 +1,13 @@
 // The run of the operations of a header and a record: questions 66 to 69 of the reader, which rucc-asm/src/unwind.rs of tamnd/rucc does not have.
 ghost use Rattle.std.specs.Prelude.{◌≡◌, false, ◌∷◌, ◌≤◌, ◌<◌, leb, length, T};
+ghost use Rattle.format.specs.Coded.{numbered};
 ghost use Rattle.format.specs.Rules.{answer};
 ghost use Rattle.reader.specs.Finds.{in_section, found, run_both};
 ghost use Rattle.reader.specs.OneRegister.{start, set_cfa, set_rule, register_rule, restored, remember, recall, negated, act};
 ghost use Rattle.reader.specs.States.{Pops, run_of, Acts};
 
 use crate::location::Located;
-use format::{CfaRule, Operation, Row, Rule, Rules};
+use format::{CfaRule, Operation, Question, Row, Rule, Rules};
 use operations::fields::Position;
 use std::marker::Model;
 
@@ -103,32 +104,32 @@ fn set_rule(s: &mut State, q: u16, reg: u16, rule: Rule)
 }
 
 // Question 69: the register and the offset of a CFA rule that is changed.
-fn register_rule(cfa: CfaRule) -> Result<(u16, i64), u64>
-    ensures { result ≡ register_rule cfa }
+fn register_rule(cfa: CfaRule) -> Result<(u16, i64), Question>
+    ensures { numbered result ≡ register_rule cfa }
 {
     match cfa {
         CfaRule::Register(reg, z) => Ok((reg, z)),
-        CfaRule::Unset => Err(69),
+        CfaRule::Unset => Err(Question::FrameRule),
     }
 }
 
 // Question 67: no Restore in a header.
-fn restore(s: &mut State, q: u16, reg: u16, initial: Option<Rule>) -> Result<(), u64>
+fn restore(s: &mut State, q: u16, reg: u16, initial: Option<Rule>) -> Result<(), Question>
     ensures { Acts result (run_of s.new) (restored q reg initial (run_of s.old)) }
 {
     let Some(rule) = initial else {
-        return Err(67);
+        return Err(Question::States);
     };
     set_rule(s, q, reg, rule);
     Ok(())
 }
 
 // Question 68: at most 16 stored.
-fn remember(s: &mut State) -> Result<(), u64>
+fn remember(s: &mut State) -> Result<(), Question>
     ensures { Acts result (run_of s.new) (remember (run_of s.old)) }
 {
     if s.stored.is_full() {
-        return Err(68);
+        return Err(Question::StatesRoom);
     }
     let rules = s.rules;
     s.stored.push(rules);
@@ -136,11 +137,11 @@ fn remember(s: &mut State) -> Result<(), u64>
 }
 
 // Question 67: stored rules for a RestoreState.
-fn recall(s: &mut State) -> Result<(), u64>
+fn recall(s: &mut State) -> Result<(), Question>
     ensures { Acts result (run_of s.new) (recall (run_of s.old).stored (run_of s.old)) }
 {
     let Some(rules) = s.stored.pop() else {
-        return Err(67);
+        return Err(Question::States);
     };
     s.rules = rules;
     Ok(())
@@ -154,8 +155,8 @@ fn negate(s: &mut State)
     s.rules.signing = !s.rules.signing;
 }
 
-// A row, or the number of the question that it is refused by; `initial` is the followed register's rule after the header.
-pub fn act(s: &mut State, q: u16, initial: Option<Rule>, row: Row) -> Result<(), u64>
+// A row, or the question that it is refused by; `initial` is the followed register's rule after the header.
+pub fn act(s: &mut State, q: u16, initial: Option<Rule>, row: Row) -> Result<(), Question>
     ensures { Acts result (run_of s.new) (act q initial row (run_of s.old)) }
 {
     match row {
@@ -183,9 +184,9 @@ pub fn act(s: &mut State, q: u16, initial: Option<Rule>, row: Row) -> Result<(),
 // ---- the operations of two entries
 
 // The header's operations and then the record's, for register q, until a step would pass p.
-pub fn run(s: &[u8], l: &Located, p: u64, q: u16) -> Result<Rules, u64>
+pub fn run(s: &[u8], l: &Located, p: u64, q: u16) -> Result<Rules, Question>
     requires { T (in_section s.now l.now) }
-    ensures { result ≡ answer q (run_both l.now.word p (found s.now l.now)) }
+    ensures { numbered result ≡ answer q (run_both l.now.word p (found s.now l.now)) }
 {
     let mut state = start();
     // The followed register's rule after the header, which a header's operations do not have.
@@ -199,14 +200,14 @@ pub fn run(s: &[u8], l: &Located, p: u64, q: u16) -> Result<Rules, u64>
         // Kept: a `while`, which moves by each operation's length.
         'operations: while at.at < ops.len() {
             let Some((op, next)) = operations::operation(ops, at, l.word) else {
-                return Err(66);
+                return Err(Question::Operations);
             };
             at = next;
             match op {
                 Operation::Nop => continue 'operations,
                 Operation::Step(n) => {
                     if initial.is_none() {
-                        return Err(66);
+                        return Err(Question::Operations);
                     }
                     if p - loc < n {
                         continue 'entries;
