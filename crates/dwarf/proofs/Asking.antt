@@ -9,12 +9,11 @@ use Rattle.std.specs.List.{range_with_len, list_all}
 use Rattle.format.specs.Prelude.{all, each}
 use Rattle.format.proofs.Asked.{question_of, said_yes, Asked}
 use Rattle.std.specs.Prelude.{Ok, Err}
-use Rattle.format.specs.declared.Refusal.{Refusal}
 use Rattle.format.specs.Questions.{Question, and_then, per_function}
 
 -- ---- one answer
 
-pub said_no : (o p : Question) {r : Refusal} → question_of o ≡ Err r → question_of (and_then o p) ≡ question_of o
+pub said_no : (o p : Question) {r : ℕ × ℕ} → question_of o ≡ Err r → question_of (and_then o p) ≡ question_of o
 unfolding question_of and_then
 said_no none p e = let z : ◌≡◌ {A = ℕ} 0 1 = cc in absurd (omega arith)
 said_no (some r) p e = refl
@@ -45,7 +44,7 @@ module _ {A : Type 0} where
       pub turn : q ≡ Ok tt → Asking ask f n (k + 1)
       turn y = record { high = omega arith; rest = here h ∙ rw (said_yes (ask k (f k)) (sym e ∙ y)) then_none }
 
-      pub stopped : {r : Refusal} → q ≡ Err r → q ≡ question_of (per_function ask 0 (each f 0 n))
+      pub stopped : {r : ℕ × ℕ} → q ≡ Err r → q ≡ question_of (per_function ask 0 (each f 0 n))
       stopped y = e ∙ (sym (said_no (ask k (f k)) _ (sym e ∙ y)) ∙ sym (ap question_of (here h)))
 
     pub ended : n ≤ k → Ok tt ≡ question_of (per_function ask 0 (each f 0 n))

@@ -5,7 +5,7 @@ use Rattle.lists.specs.declared.Lists.{Lists}
 use Rattle.header_keys.specs.declared.written.Function.{Function}
 use Rattle.header_keys.specs.Inputs.{Inputs, extent_in}
 use Rattle.dwarf.specs.declared.Chosen.{Chosen}
-use Rattle.dwarf.specs.declared.Output.{Output}
+use Rattle.lists.specs.declared.output.Output.{Output}
 use Rattle.dwarf.specs.declared.Table.{Table}
 use Rattle.dwarf.specs.Pieces.{front_in, reloc_numbers, part_in}
 use Rattle.dwarf.specs.Tables.{SizeReady, FrontReady, FrontStored, PieceReady, Stored}

@@ -8,10 +8,12 @@ ghost use Rattle.format.specs.Lists.{field, function_stride, sum_of, most_functi
 ghost use Rattle.format.specs.Questions.{size_bytes, encodings_ok, steps_ok, pairs_ok, dwarf_asks, per_function, fitting, dwarf_given, given_of, room_in};
 ghost use Rattle.format.specs.Writer.{is_debug, align_for};
 ghost use Rattle.format.specs.Answers.{Writes};
+ghost use Rattle.format.specs.Coded.{numbered_at};
 ghost use Rattle.format.proofs.Asked.{question_of};
 ghost use Rattle.lists.specs.Extents.{meant};
 ghost use Rattle.lists.specs.Parts.{sums_ok};
 ghost use Rattle.lists.specs.Room.{room_for};
+ghost use Rattle.lists.specs.Lent.{SameLists, room_of, WritesTo};
 ghost use Rattle.header_keys.specs.Functions.{body_of, Sound, PairsReady, LabelsReady};
 ghost use Rattle.header_keys.specs.Inputs.{inputs_of, count_in, extent_in, RowsIn, rows_of};
 ghost use Rattle.dwarf.specs.Asks.{Askable, AllAskable, whole_in, asked_in, listed_answer};
@@ -20,14 +22,15 @@ ghost use Rattle.dwarf.specs.Writable.{Writable, Cleared, Next};
 ghost use Rattle.dwarf.specs.Tables.{totals_in, grown_by, labelled_rows, most_in, Few, counts_of, chosen_by};
 ghost use Rattle.owners.specs.Lent.{LongFor, EmptyFor, OwnedIn};
 ghost use Rattle.dwarf.specs.Surveys.{rows_size, FunctionSurveyed, AllSurveyed};
-ghost use Rattle.dwarf.specs.Lent.{SameLists, room_of, lent_in, WritesTo, HasRoom, ReadyFor, AddsTo, FillsTo};
+ghost use Rattle.dwarf.specs.Lent.{HasRoom, ReadyFor, AddsTo, FillsTo};
 ghost use Rattle.records.specs.Written as record_parts;
 ghost use Rattle.dwarf.specs.Functions.{WrittenAs, front_of, numbers_for, part_for, CanSize, FrontFits, FrontWritten, PieceFits, PieceWritten};
 
-use format::{Counts, Machine, Refusal, Section};
+use format::{Counts, Machine, Question, Refusal, Section};
 use header_keys::written::{Function, Run};
 use header_keys::{Input, Kind, kind_of};
 use headers::{header, header_relocs, header_relocs_count, header_size, padding};
+use lists::output::Output;
 use lists::{Extent, Labels, Lists, MOST_FUNCTIONS, machine_of, machine_ok, sums_ok};
 use numbers::pointer_size;
 use owners::Chains;
@@ -37,29 +40,6 @@ use records::{
 };
 use rows::row_numbers::RowNumbers;
 use rows::{offset_at, row_at, row_whole};
-
-// The lists that are lent for what is written: header places, bytes, relocations and call sites.
-#[derive(Drop)]
-pub struct Output<'a> {
-    pub places: &'a mut [u64],
-    pub bytes: &'a mut [u8],
-    pub relocations: &'a mut [u64],
-    pub sites: &'a mut [u8],
-}
-
-impl Output<'_> {
-    // How many elements the lists have.
-    fn lent(&self) -> Counts
-        ensures { result ≡ lent_in self.now }
-    {
-        Counts {
-            places: self.places.len() as u64,
-            bytes: self.bytes.len() as u64,
-            relocations: self.relocations.len() as u64,
-            sites: self.sites.len() as u64,
-        }
-    }
-}
 
 // ---- questions 21 to 25
 
@@ -207,36 +187,36 @@ fn pairs_ok(x: &Input, e: &Extent) -> bool
 // Questions 21 to 25 of function k, as the section takes it.
 fn dwarf_asks(x: &Input, k: usize, e: &Extent) -> Result<(), Refusal>
     requires { Askable e.now x.now.lists.rows.now x.now.lists.pairs.now }
-    ensures { result ≡ question_of (dwarf_asks x.now.section x.now.machine.word k (meant e.now x.now.lists.rows.now [] x.now.lists.pairs.now)) }
+    ensures { numbered_at result ≡ question_of (dwarf_asks x.now.section x.now.machine.word k (meant e.now x.now.lists.rows.now [] x.now.lists.pairs.now)) }
 {
     if !size_ok(x, e) {
         return Err(Refusal {
-            number: 21,
+            question: Question::Length,
             position: k as u64,
         });
     }
     if !encodings_ok(x, e) {
         return Err(Refusal {
-            number: 22,
+            question: Question::Encodings,
             position: k as u64,
         });
     }
     let fine = lines_fine(x, e);
     if !steps_asked(fine, x, e) {
         return Err(Refusal {
-            number: 23,
+            question: Question::Order,
             position: k as u64,
         });
     }
     if !whole_asked(fine, x, e) {
         return Err(Refusal {
-            number: 24,
+            question: Question::Multiples,
             position: k as u64,
         });
     }
     if !pairs_ok(x, e) {
         return Err(Refusal {
-            number: 25,
+            question: Question::Pairs,
             position: k as u64,
         });
     }
@@ -246,7 +226,7 @@ fn dwarf_asks(x: &Input, k: usize, e: &Extent) -> Result<(), Refusal>
 // Questions 21 to 25, function by function.
 fn all_asks(x: &Input) -> Result<(), Refusal>
     requires { AllAskable (inputs_of x.now) }
-    ensures { result ≡ question_of (per_function (dwarf_asks x.now.section x.now.machine.word) 0 (each (asked_in (inputs_of x.now)) 0 (count_in (inputs_of x.now)))) }
+    ensures { numbered_at result ≡ question_of (per_function (dwarf_asks x.now.section x.now.machine.word) 0 (each (asked_in (inputs_of x.now)) 0 (count_in (inputs_of x.now)))) }
 {
     let n = x.lists.count();
     for k in 0..n {
@@ -508,7 +488,7 @@ fn counts(n: usize, t: Table) -> Counts
 
 // Questions 51 to 54: n header places and t fit the lists that are lent.
 fn room(n: usize, t: Table, lent: Counts) -> Result<(), Refusal>
-    ensures { result ≡ question_of (room_for (counts_of n t) lent) }
+    ensures { numbered_at result ≡ question_of (room_for (counts_of n t) lent) }
 {
     lists::room(counts(n, t), lent)
 }
@@ -609,7 +589,7 @@ fn store(x: &Input, chains: &Chains, to: &mut Output) -> Table
 // The functions written into lists that have room for them.
 fn stored(x: &Input, chains: &Chains, to: &mut Output) -> Result<Option<Counts>, Refusal>
     requires { Cleared (inputs_of x.now) × HasRoom (inputs_of x.now) (count_in (inputs_of x.now)) to.old × OwnedIn (inputs_of x.now) (count_in (inputs_of x.now)) chains.now }
-    ensures { WritesTo (fitting (room_of to.old) (section_in (inputs_of x.now))) result to.old to.new }
+    ensures { WritesTo (fitting (room_of to.old) (section_in (inputs_of x.now))) (numbered_at result) to.old to.new }
 {
     let n = x.lists.count();
     let t = store(x, chains, to);
@@ -624,7 +604,7 @@ fn stored(x: &Input, chains: &Chains, to: &mut Output) -> Result<Option<Counts>,
 // The functions written where there is room for t, which stands behind them.
 fn roomed(x: &Input, chains: &Chains, t: Table, to: &mut Output) -> Result<Option<Counts>, Refusal>
     requires { Cleared (inputs_of x.now) × OwnedIn (inputs_of x.now) (count_in (inputs_of x.now)) chains.now × (t ≡ totals_in (parts_to (inputs_of x.now) (count_in (inputs_of x.now)))) }
-    ensures { WritesTo (fitting (room_of to.old) (section_in (inputs_of x.now))) result to.old to.new }
+    ensures { WritesTo (fitting (room_of to.old) (section_in (inputs_of x.now))) (numbered_at result) to.old to.new }
 {
     let n = x.lists.count();
     room(n, t, to.lent())?;
@@ -662,7 +642,7 @@ fn tried(x: &Input, lent: Counts, chains: &mut Chains) -> Option<Table>
 // written as a whole, and each contract would have to say that the input stays.
 fn fitted(x: &Input, chains: &mut Chains, to: &mut Output) -> Result<Option<Counts>, Refusal>
     requires { Cleared (inputs_of x.now) × EmptyFor (count_in (inputs_of x.now)) chains.old }
-    ensures { WritesTo (fitting (room_of to.old) (section_in (inputs_of x.now))) result to.old to.new }
+    ensures { WritesTo (fitting (room_of to.old) (section_in (inputs_of x.now))) (numbered_at result) to.old to.new }
 {
     let n = x.lists.count();
     owners::owners(x, n, chains);
@@ -676,12 +656,12 @@ fn fitted(x: &Input, chains: &mut Chains, to: &mut Output) -> Result<Option<Coun
 // Every question asked by itself, and the functions written where there is room.
 fn asked(x: &Input, chains: &mut Chains, to: &mut Output) -> Result<Option<Counts>, Refusal>
     requires { T (sums_ok x.now.lists.functions.now) × EmptyFor (count_in (inputs_of x.now)) chains.old }
-    ensures { WritesTo (listed_answer (inputs_of x.now) (room_of to.old)) result to.old to.new }
+    ensures { WritesTo (listed_answer (inputs_of x.now) (room_of to.old)) (numbered_at result) to.old to.new }
 {
     let n = x.lists.count();
     if !x.lists.functions_ok(n) {
         return Err(Refusal {
-            number: 13,
+            question: Question::Lists,
             position: 0,
         });
     }
@@ -692,7 +672,7 @@ fn asked(x: &Input, chains: &mut Chains, to: &mut Output) -> Result<Option<Count
 // One pass where it is enough, and every question by itself where it is not.
 fn answered(x: &Input, chains: &mut Chains, to: &mut Output) -> Result<Option<Counts>, Refusal>
     requires { T (sums_ok x.now.lists.functions.now) × EmptyFor (count_in (inputs_of x.now)) chains.old }
-    ensures { WritesTo (listed_answer (inputs_of x.now) (room_of to.old)) result to.old to.new }
+    ensures { WritesTo (listed_answer (inputs_of x.now) (room_of to.old)) (numbered_at result) to.old to.new }
 {
     if let Some(t) = tried(x, to.lent(), chains) {
         return roomed(x, chains, t, to);
@@ -707,7 +687,7 @@ fn answered_with<const HEADS: usize, const FUNCTIONS: usize>(
     to: &mut Output,
 ) -> Result<Option<Counts>, Refusal>
     requires { T (sums_ok x.now.lists.functions.now) × (count_in (inputs_of x.now) ≤ FUNCTIONS) × (FUNCTIONS ≤ 65536) × (0 < HEADS) × (HEADS ≤ 65536) }
-    ensures { WritesTo (listed_answer (inputs_of x.now) (room_of to.old)) result to.old to.new }
+    ensures { WritesTo (listed_answer (inputs_of x.now) (room_of to.old)) (numbered_at result) to.old to.new }
 {
     let mut heads = [0u16; HEADS];
     let mut links = [0u16; FUNCTIONS];
@@ -724,7 +704,7 @@ fn answered_with<const HEADS: usize, const FUNCTIONS: usize>(
 // functions: there are three sizes of them.
 fn deliver(x: &Input, to: &mut Output) -> Result<Option<Counts>, Refusal>
     requires { T (sums_ok x.now.lists.functions.now) }
-    ensures { WritesTo (listed_answer (inputs_of x.now) (room_of to.old)) result to.old to.new }
+    ensures { WritesTo (listed_answer (inputs_of x.now) (room_of to.old)) (numbered_at result) to.old to.new }
 {
     let n = x.lists.count();
     if n <= 64 {
@@ -751,17 +731,17 @@ pub fn dwarf(
     relocations: &mut [u64],
     sites: &mut [u8],
 ) -> Result<Option<Counts>, Refusal>
-    ensures { Writes (dwarf_given s (given_of machine.now functions.now rows.now landings.now pairs.now) (room_in places.old bytes.old relocations.old sites.old)) result places.old places.new bytes.old bytes.new relocations.old relocations.new sites.old sites.new }
+    ensures { Writes (dwarf_given s (given_of machine.now functions.now rows.now landings.now pairs.now) (room_in places.old bytes.old relocations.old sites.old)) (numbered_at result) places.old places.new bytes.old bytes.new relocations.old relocations.new sites.old sites.new }
 {
     if !machine_ok(machine) {
         return Err(Refusal {
-            number: 11,
+            question: Question::Interface,
             position: 0,
         });
     }
     if !sums_ok(functions) {
         return Err(Refusal {
-            number: 13,
+            question: Question::Lists,
             position: 0,
         });
     }

@@ -1,8 +1,7 @@
 -- `dwarf::fitted` meets its contract.
 use Rattle.header_keys.specs.Inputs.{inputs_of}
 use Rattle.std.proofs.Common.{sym, ◌∙◌}
-use Rattle.dwarf.proofs.Outcomes.{room_for_lem}
-use Rattle.format.proofs.Asked.{no_error}
+use Rattle.dwarf.proofs.Outcomes.{no_error, room_for_lem}
 use Rattle.dwarf.proofs.fitted.Goals as goal
 use Rattle.dwarf.proofs.fitted.Goals.{Start}
 

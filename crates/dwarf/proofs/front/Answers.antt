@@ -1,6 +1,6 @@
 -- `dwarf::front` meets its contract.
 use Rattle.std.proofs.Common.{refl}
-use Rattle.dwarf.proofs.Lent.{same}
+use Rattle.lists.proofs.Lent.{same}
 use Rattle.dwarf.proofs.OwnHeaders.{without_own, header_room, relocs_room, with_own}
 use Rattle.dwarf.proofs.front.Goals as goal
 

@@ -1,6 +1,6 @@
 -- `dwarf::store` meets its contract.
 use native.Mathlib.Omega.{arith}
-use Rattle.dwarf.proofs.Lent.{same, then}
+use Rattle.lists.proofs.Lent.{same, then}
 use Rattle.dwarf.proofs.Sizing.{owned_to}
 use Rattle.dwarf.proofs.Writing.{start, ready, turn, ended}
 use Rattle.dwarf.proofs.store.Goals as goal

@@ -1,6 +1,6 @@
 use Rattle.header_keys.specs.Inputs.{inputs_of}
 use Rattle.dwarf.proofs.Writing.{Going}
-use Rattle.dwarf.specs.Lent.{SameLists}
+use Rattle.lists.specs.Lent.{SameLists}
 use Rattle.dwarf.proofs.store.Given as goal
 
 abbrev pub invariant-loop-k : goal.invariant-loop-k
