@@ -6,6 +6,7 @@ ghost use Rattle.std.specs.Prelude.{◌≡◌, true, ◌&&◌, ◌||◌, ◌+◌
 ghost use Rattle.format.specs.Prelude.{pick};
 ghost use Rattle.format.specs.Lists.{field, all_in};
 ghost use Rattle.std.specs.Option.{unwrap_or};
+ghost use Rattle.format.specs.Coded.{numbered_at};
 ghost use Rattle.format.proofs.Asked.{question_of};
 ghost use Rattle.format.proofs.Wrote.{Wrote};
 ghost use Rattle.arm64.specs.Lists.{function_stride, epilogue_stride};
@@ -22,7 +23,7 @@ use arm64::{fields, header_bits, limits};
 use arm64_header::{Epilogues, Header};
 use arm64_lists::Lists;
 use arm64_simple::{Codes, Run};
-use format::Refusal;
+use format::{Question, Refusal};
 
 // A function's codes: its prologue's, and its epilogues from `first` to `end`.
 #[derive(Clone, Copy)]
@@ -495,24 +496,24 @@ pub fn packed_word(x: &Lists, k: usize) -> Option<u64>
 // Questions 81 to 83: the position is 0.
 pub fn function_asks(x: &Lists, k: usize) -> Result<(), Refusal>
     requires { ListedIn x.now k }
-    ensures { result ≡ question_of (function_asks k (function_in x.now k)) }
+    ensures { numbered_at result ≡ question_of (function_asks k (function_in x.now k)) }
 {
     let f = Function::of(x, k);
     if !length_ok(f.size) {
         return Err(Refusal {
-            number: 81,
+            question: Question::Arm64Length,
             position: 0,
         });
     }
     if !f.starts_ok() {
         return Err(Refusal {
-            number: 82,
+            question: Question::Arm64Epilogues,
             position: 0,
         });
     }
     if !f.values_ok() {
         return Err(Refusal {
-            number: 83,
+            question: Question::Arm64Values,
             position: 0,
         });
     }
