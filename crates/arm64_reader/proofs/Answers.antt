@@ -10,7 +10,10 @@ use lib.ListN.{length, length-append}
 use Rattle.std.specs.Prelude.{Ok, Err, MatchResult}
 use Rattle.std.specs.Prelude as code
 use Rattle.format.specs.Prelude.{pick, after, Result, good, bad, onward, or_else}
-use Rattle.format.specs.Coded.{result_of}
+use Rattle.format.specs.declared.question.Question.{Question}
+use Rattle.format.specs.declared.question.Question.TheVariants.{OtherRoom}
+use Rattle.format.specs.Coded.{result_of, numbered}
+use Rattle.format.specs.Numbers.{number_of}
 use Rattle.format.specs.Put.{put}
 use Rattle.format.proofs.Wrote.{Wrote}
 use Rattle.format.proofs.Choice.{if-le, if-gt, if-eq, if-ne}
@@ -35,9 +38,9 @@ use Rattle.arm64_reader.specs.Answers.{told, roomy, answer_of, Answered, found}
 
 -- ---- refusals
 
-pub refuses : {x : Result Unwound} {n : ℕ} {r : code.Result Arm64Reading ℕ} {es cs : List ℕ} → x ≡ bad n → r ≡ Err n → Answered x r es es cs cs
+pub refuses : {x : Result Unwound} {q : Question} {r : code.Result Arm64Reading Question} {es cs : List ℕ} → x ≡ bad (number_of q) → r ≡ Err q → Answered x r es es cs cs
 unfolding answer_of epilogues_after codes_after
-refuses {x} {n} {r} {es} {cs} e q = rw e (record { reading = q; epilogues = refl; codes = refl })
+refuses {x} {q} {r} {es} {cs} e a = rw e (record { reading = ap numbered a; epilogues = refl; codes = refl })
 
 pub found_none : {x : Option Unwound} (es cs : List ℕ) → x ≡ none → found x es cs ≡ bad 77
 unfolding found onward or_else
@@ -60,7 +63,7 @@ pub record Stored (u : Unwound) (es es' cs cs' : List ℕ) (n : ℕ) : Type 0 wh
   pub numbers : es' ≡ put es 0 (epilogue_numbers n u.epilogues)
   pub codes : cs' ≡ put (put cs 0 (code_numbers u.prologue)) (3 * n) (code_numbers (epilogue_codes u.epilogues))
 
-stored_answer : {x : Result Unwound} {u : Unwound} {r : code.Result Arm64Reading ℕ} {es es' cs cs' : List ℕ} {n m k : ℕ} → x ≡ good u → Counts u n m k
+stored_answer : {x : Result Unwound} {u : Unwound} {r : code.Result Arm64Reading Question} {es es' cs cs' : List ℕ} {n m k : ℕ} → x ≡ good u → Counts u n m k
     → r ≡ Ok (told u.size n k m) → Stored u es es' cs cs' n → Answered x r es es' cs cs'
 unfolding answer_of reading_of epilogues_after codes_after all_codes
 stored_answer {x} {u} {r} {es} {es'} {cs} {cs'} {n} {m} {k} e d a w =
@@ -68,7 +71,7 @@ stored_answer {x} {u} {r} {es} {es'} {cs} {cs'} {n} {m} {k} e d a w =
     let t : length (u.prologue ++ epilogue_codes u.epilogues) ≡ n + m = all-length d in
     rw e
     (record {
-      reading = a ∙ rw (t, d.prologue, d.many) refl;
+      reading = ap numbered a ∙ rw (t, d.prologue, d.many) refl;
       epilogues = w.numbers ∙ rw d.prologue refl;
       codes =
           w.codes
@@ -87,10 +90,10 @@ module _ {x : Option Unwound} {u : Unwound} {n m k : ℕ} (es cs : List ℕ) (e 
   unfolding found onward or_else fits_in roomy
   by_room = rw e (rw (d.many, all-length d))
 
-  pub no_room : {r : code.Result Arm64Reading ℕ} → roomy es cs k (n + m) ≡ false → r ≡ Err 54 → Answered (found x es cs) r es es cs cs
+  pub no_room : {r : code.Result Arm64Reading Question} → roomy es cs k (n + m) ≡ false → r ≡ Err OtherRoom → Answered (found x es cs) r es es cs cs
   no_room f q = refuses (by_room ∙ when_false (roomy es cs k (n + m)) (good u) (bad 54) f) q
 
-  pub stored : {r : code.Result Arm64Reading ℕ} {es' cs' : List ℕ} → roomy es cs k (n + m) ≡ true → r ≡ Ok (told u.size n k m) → Stored u es es' cs cs' n → Answered (found x es cs) r es es' cs cs'
+  pub stored : {r : code.Result Arm64Reading Question} {es' cs' : List ℕ} → roomy es cs k (n + m) ≡ true → r ≡ Ok (told u.size n k m) → Stored u es es' cs cs' n → Answered (found x es cs) r es es' cs cs'
   stored t a w = stored_answer (by_room ∙ when_true (roomy es cs k (n + m)) (good u) (bad 54) t) d a w
 
 -- ---- the record
@@ -225,7 +228,9 @@ module _ (word : ℕ) (s : List ℕ) (place : ℕ) (es cs : List ℕ) where
 
 -- ---- the answer to C
 
-pub answered : (u : Result Unwound) {r : code.Result Arm64Reading ℕ} {x : Arm64Reading} → r ≡ result_of (answer_of u) → MatchResult r (λ y. x ≡ y) (λ n. x ≡ reading_of (bad n)) → x ≡ reading_of u
+pub answered : (u : Result Unwound) (r : code.Result Arm64Reading Question) {x : Arm64Reading} → numbered r ≡ result_of (answer_of u) → MatchResult r (λ y. x ≡ y) (λ q. x ≡ reading_of (bad (number_of q))) → x ≡ reading_of u
 unfolding answer_of
-answered (bad n) e m = rw e at m
-answered (good u) e m = rw e at m
+answered (bad n) (Ok y) e m = absurd cc
+answered (bad n) (Err q) e m = cc
+answered (good u) (Ok y) e m = cc
+answered (good u) (Err q) e m = absurd cc

@@ -3,6 +3,8 @@
 
 ghost use Rattle.std.specs.Prelude.{◌≡◌, true, false, ◌≢◌, ◌+◌, ◌*◌, ◌<◌, length, MatchResult};
 ghost use Rattle.format.specs.Prelude.{bad, onward};
+ghost use Rattle.format.specs.Numbers.{number_of};
+ghost use Rattle.format.specs.declared.question.Question.TheVariants.{OtherRoom};
 ghost use Rattle.arm64.specs.Packed.{packed_of, packed_ok};
 ghost use Rattle.arm64.specs.Reader.{record_unwound, full_record, fits_in, packed_unwound, read_arm64, reading_of, epilogues_after, codes_after};
 ghost use Rattle.arm64_packed.specs.Fields.{Sound};
@@ -10,6 +12,7 @@ ghost use Rattle.arm64_reader.specs.Answers.{told, AnsweredIn, found_in, room_of
 
 use arm64::{Arm64Reading, Packed, fields};
 use arm64_records::{Output, Record};
+use format::Question;
 
 // What the reader answers where n codes of the prologue were found, and epilogues of m codes.
 fn reading(length: u64, n: usize, epilogues: u64, m: usize) -> Arm64Reading
@@ -26,11 +29,11 @@ fn reading(length: u64, n: usize, epilogues: u64, m: usize) -> Arm64Reading
 }
 
 #[tactic(auto, unfolding(arm64::specs::Reader::reading_of))]
-fn refused(number: u64) -> Arm64Reading
-    ensures { result ≡ reading_of (bad number) }
+fn refused(question: Question) -> Arm64Reading
+    ensures { result ≡ reading_of (bad (number_of question)) }
 {
     Arm64Reading {
-        number,
+        number: question.number(),
         length: 0,
         prologue: 0,
         epilogues: 0,
@@ -40,25 +43,25 @@ fn refused(number: u64) -> Arm64Reading
 
 // 54: a lent list is too short.
 #[tactic(auto, unfolding(crate::specs::Answers::roomy))]
-fn room(to: &Output, epilogues: u64, codes: usize) -> Result<(), u64>
-    ensures { MatchResult result (λ x. room_of to.now epilogues codes ≡ true) (λ e. (e ≡ 54) × (room_of to.now epilogues codes ≡ false)) }
+fn room(to: &Output, epilogues: u64, codes: usize) -> Result<(), Question>
+    ensures { MatchResult result (λ x. room_of to.now epilogues codes ≡ true) (λ e. (e ≡ OtherRoom) × (room_of to.now epilogues codes ≡ false)) }
 {
     let most = (to.epilogues.len() / fields::EPILOGUE_STRIDE) as u64;
     if epilogues <= most && codes <= to.codes.len() / fields::CODE_STRIDE {
         return Ok(());
     }
-    Err(54)
+    Err(Question::OtherRoom)
 }
 
 // A record with its header and the bytes of its codes.
-fn record_with(x: &Record, to: &mut Output) -> Result<Arm64Reading, u64>
+fn record_with(x: &Record, to: &mut Output) -> Result<Arm64Reading, Question>
     ensures { AnsweredIn (found_in (record_unwound x.now.header x.now.section.now) to.old) result to.old to.new }
 {
     let Some(n) = arm64_runs::count_run(x.codes, 0) else {
-        return Err(77);
+        return Err(Question::X64Codes);
     };
     let Some(m) = x.count_epilogues() else {
-        return Err(77);
+        return Err(Question::X64Codes);
     };
     let k = arm64_records::epilogues_in(x.header);
     room(to, k, n + m)?;
@@ -69,7 +72,7 @@ fn record_with(x: &Record, to: &mut Output) -> Result<Arm64Reading, u64>
 
 // A packed fragment, which has no epilogue.
 #[tactic(auto, using(crate::proofs::Answers::has_room))]
-fn fragment(p: Packed, to: &mut Output) -> Result<Arm64Reading, u64>
+fn fragment(p: Packed, to: &mut Output) -> Result<Arm64Reading, Question>
     requires { Sound p × (p.flag ≡ 2) × (packed_ok p ≡ true) }
     ensures { AnsweredIn (found_in (packed_unwound p) to.old) result to.old to.new }
 {
@@ -81,14 +84,14 @@ fn fragment(p: Packed, to: &mut Output) -> Result<Arm64Reading, u64>
 
 // A packed function, whose epilogue is its last instructions.
 #[tactic(auto, using(crate::proofs::Answers::has_room, format::proofs::PutLaws::kept))]
-fn function(p: Packed, to: &mut Output) -> Result<Arm64Reading, u64>
+fn function(p: Packed, to: &mut Output) -> Result<Arm64Reading, Question>
     requires { Sound p × (p.flag ≢ 2) × (packed_ok p ≡ true) }
     ensures { AnsweredIn (found_in (packed_unwound p) to.old) result to.old to.new }
 {
     let n = arm64_packed::count_slots(false, p);
     let m = arm64_packed::count_slots(true, p);
     if p.length <= m as u64 {
-        return Err(77);
+        return Err(Question::X64Codes);
     }
     room(to, 1, n + m)?;
     arm64_packed::put_slots(to.codes, 0, false, p);
@@ -99,13 +102,13 @@ fn function(p: Packed, to: &mut Output) -> Result<Arm64Reading, u64>
 }
 
 // A packed word.
-fn packed(w: u64, to: &mut Output) -> Result<Arm64Reading, u64>
+fn packed(w: u64, to: &mut Output) -> Result<Arm64Reading, Question>
     requires { w < 4294967296 }
     ensures { AnsweredIn (found_in (packed_unwound (packed_of w)) to.old) result to.old to.new }
 {
     let p = arm64_packed::packed_of(w);
     if !arm64_packed::packed_ok(p) {
-        return Err(77);
+        return Err(Question::X64Codes);
     }
     if p.flag == 2 {
         return fragment(p, to);
@@ -114,24 +117,24 @@ fn packed(w: u64, to: &mut Output) -> Result<Arm64Reading, u64>
 }
 
 // The record at a place.
-fn record(s: &[u8], place: u64, to: &mut Output) -> Result<Arm64Reading, u64>
+fn record(s: &[u8], place: u64, to: &mut Output) -> Result<Arm64Reading, Question>
     ensures { AnsweredIn (onward (full_record s.now place) (fits_in to.old.epilogues.now to.old.codes.now)) result to.old to.new }
 {
     let Some(h) = arm64_records::header(s, place) else {
-        return Err(76);
+        return Err(Question::X64Header);
     };
     record_with(&Record::of(s, h), to)
 }
 
 // A word, and the record at a place where the word is not packed.
-fn read(word: u64, info: &[u8], place: u64, to: &mut Output) -> Result<Arm64Reading, u64>
+fn read(word: u64, info: &[u8], place: u64, to: &mut Output) -> Result<Arm64Reading, Question>
     ensures { AnsweredIn (read_arm64 word info.now place to.old.epilogues.now to.old.codes.now) result to.old to.new }
 {
     if word % 4 == 0 {
         return record(info, place, to);
     }
     if word % 4 == 3 || 4294967296 <= word {
-        return Err(77);
+        return Err(Question::X64Codes);
     }
     packed(word, to)
 }
