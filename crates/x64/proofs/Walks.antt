@@ -9,7 +9,9 @@ use lib.ListN.{length, take, set, length-append}
 use lib.IntN.{ℤ, pos}
 use mir.Syntax.{w64}
 use mir.Val.{to_z, of_z}
-use native.Mathlib.Nat.{zero-add, add-zero}
+use native.Mathlib.Nat.{add-zero}
+use Rattle.format.specs.Coded.{numbered}
+use Rattle.format.specs.declared.question.Question.{Question}
 use Rattle.format.specs.Put.{put}
 use Rattle.format.proofs.Wrote.{Wrote}
 use Rattle.format.specs.declared.Seh.{Seh}
@@ -27,7 +29,7 @@ use Rattle.x64.specs.declared.given.Source.{Source}
 use Rattle.x64.specs.declared.given.Source.TheVariants.{Direct, Rows}
 use Rattle.x64.specs.declared.given.Span.{Span}
 use Rattle.x64.specs.declared.Summary.{Summary}
-use Rattle.x64.specs.Answers.{summed, summary_of}
+use Rattle.x64.specs.Answers.{Summed, SummaryOf}
 use Rattle.x64.proofs.Leaves.{no_of_one}
 use Rattle.x64.specs.Sources.{pushed_by, piece_at, moved_at, codes_from, codes_in}
 
@@ -122,29 +124,43 @@ slots-append (x ∷ xs) ys = omega (arith, slots-append xs ys)
 
 -- ---- the summary
 
-pub summed_none : (t : Summary) → t ≡ summed t []
+pub summed_none : (t : Summary) → Summed t [] t
 unfolding first_no yes_or_no slots
-summed_none t = rw (and_yes t.codes, and_yes t.frames, add-zero)
+summed_none t = record { codes = sym (and_yes (numbered t.codes)); slots = omega arith; frames = sym (and_yes (numbered t.frames)) }
 
-pub summed_one : (t : Summary) (x : ℕ × Seh) {a b : code.Result Unit ℕ} {n : ℕ} → a ≡ result_and t.codes (yes_or_no (code_no x)) → n ≡ length (code_bytes x.0 x.1) → b ≡ result_and t.frames (yes_or_no (frame_ask x))
-    → record { codes = a; slots = t.slots + n / 2; frames = b } ≡ summed t (x ∷ [])
+-- two answers joined, by the questions' numbers
+numbered_and : (a b : code.Result Unit Question) → numbered (result_and a b) ≡ result_and (numbered a) (numbered b)
+numbered_and (Ok u) b = refl
+numbered_and (Err q) b = refl
+
+pub joined : (a b : code.Result Unit Question) {r : code.Result Unit Question} (o : Option ℕ) → r ≡ result_and a b → numbered b ≡ yes_or_no o → numbered r ≡ result_and (numbered a) (yes_or_no o)
+joined a b o e f = ap numbered e ∙ numbered_and a b ∙ ap (result_and (numbered a)) f
+
+pub summed_one : (t : Summary) (x : ℕ × Seh) {r : Summary} → numbered r.codes ≡ result_and (numbered t.codes) (yes_or_no (code_no x)) → r.slots ≡ t.slots + length (code_bytes x.0 x.1) / 2
+    → numbered r.frames ≡ result_and (numbered t.frames) (yes_or_no (frame_ask x)) → Summed t (x ∷ []) r
 unfolding slots
-summed_one t x e h k = rw (e, h, k, no_of_one code_no x, no_of_one frame_ask x, add-zero)
+summed_one t x e h k = record { codes = rw (← no_of_one code_no x) e; slots = rw add-zero h; frames = rw (← no_of_one frame_ask x) k }
 
+-- what some codes say, by the summary of the first of them
 pub record Summing (all rest : List (ℕ × Seh)) (t : Summary) : Type 0 where
-  same : summary_of all ≡ summed t rest
+  codes : yes_or_no (first_no code_no all) ≡ result_and (numbered t.codes) (yes_or_no (first_no code_no rest))
+  slots : slots all ≡ t.slots + slots rest
+  frames : yes_or_no (first_no frame_ask all) ≡ result_and (numbered t.frames) (yes_or_no (first_no frame_ask rest))
 
 pub summing : (all : List (ℕ × Seh)) → Summing all all (record { codes = Ok tt; slots = 0; frames = Ok tt })
-summing all = record { same = rw zero-add }
+summing all = record { codes = refl; slots = omega arith; frames = refl }
 
-pub summed_on : {all ps rest : List (ℕ × Seh)} {t r : Summary} → Front (λ (l : List (ℕ × Seh)). Summing all l t) ps rest → r ≡ summed t ps → Summing all rest r
+pub summed_on : {all ps rest : List (ℕ × Seh)} {t r : Summary} → Front (λ (l : List (ℕ × Seh)). Summing all l t) ps rest → Summed t ps r → Summing all rest r
 summed_on {all} {ps} {rest} {t} w e =
     record {
-      same = w.whole.same ∙ rw (e, answer_append code_no t.codes ps rest, slots-append ps rest, answer_append frame_ask t.frames ps rest) (let z : t.slots + (slots ps + slots rest) ≡ t.slots + slots ps + slots rest = omega arith in rw z);
+      codes = w.whole.codes ∙ answer_append code_no (numbered t.codes) ps rest ∙ rw e.codes;
+      slots = omega (arith, w.whole.slots, slots-append ps rest, e.slots);
+      frames = w.whole.frames ∙ answer_append frame_ask (numbered t.frames) ps rest ∙ rw e.frames;
     }
 
-pub all_summed : {all : List (ℕ × Seh)} {t : Summary} → Summing all [] t → t ≡ summary_of all
-all_summed {all} {t} w = summed_none t ∙ sym w.same
+pub all_summed : {all : List (ℕ × Seh)} {t : Summary} → Summing all [] t → SummaryOf all t
+unfolding first_no yes_or_no slots
+all_summed {all} {t} w = record { codes = sym (w.codes ∙ and_yes (numbered t.codes)); slots = omega (arith, w.slots); frames = sym (w.frames ∙ and_yes (numbered t.frames)) }
 
 -- ---- the frame byte
 

@@ -2,6 +2,7 @@
 use Rattle.std.specs.Prelude.{ℕ, ◌≤◌, ◌<◌, List, ℤ}
 use Rattle.std.specs.Prelude as code
 use Rattle.format.specs.Prelude.{Result, each}
+use Rattle.format.specs.declared.question.Question as question
 use Rattle.format.specs.declared.Seh.{Seh}
 use Rattle.format.specs.Lists.{Prologue}
 use Rattle.format.specs.X64.{info_bytes}
@@ -38,7 +39,7 @@ info_by p = info_bytes p.end (codes_by p)
 abbrev pub result_of : Input → ℕ → Result Prologue
 result_of x k = result_at x.source x.functions.now x.list.now k
 
-abbrev pub FoundIn : Input → ℕ → code.Result Span ℕ → Type 0
+abbrev pub FoundIn : Input → ℕ → code.Result Span question.Question → Type 0
 FoundIn x k r = Found x.source x.functions.now x.list.now k r
 
 -- the symbol and the length of function k

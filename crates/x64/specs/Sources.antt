@@ -3,6 +3,8 @@ use Rattle.std.specs.Prelude.{◌≡◌, ℕ, zero, suc, ◌+◌, ◌-◌, ◌^�
 use Rattle.std.specs.Prelude as code
 use Rattle.std.proofs.Math.Option.{Option, none, some}
 use Rattle.format.specs.Prelude.{pick, Result, good, bad, onward, each}
+use Rattle.format.specs.Numbers.{number_of}
+use Rattle.format.specs.declared.question.Question as question
 use Rattle.format.specs.declared.Machine.{Machine}
 use Rattle.format.specs.declared.Seh.{Seh}
 use Rattle.format.specs.Lists.{Function, Prologue, field, function_stride, prologue_stride, code_at, function_at, prologue_at}
@@ -81,17 +83,17 @@ pub record RowsSpan (m : X64Machine) (fs list : List ℕ) (k : ℕ) (p : Span) :
   pub end : p.end ≡ end_in list p.first p.past
   pub says : Says m.machine.now list (field function_stride fs k 2) (field function_stride fs k 3) (record { below = p.below; end = p.past })
 
-abbrev pub RowsFound : X64Machine → (fs list : List ℕ) → ℕ → code.Result Span ℕ → Type 0
+abbrev pub RowsFound : X64Machine → (fs list : List ℕ) → ℕ → code.Result Span question.Question → Type 0
 RowsFound m fs list k (Ok p) = RowsSpan m fs list k p
-RowsFound m fs list k (Err n) = Shaped m.machine.now list (field function_stride fs k 2) (field function_stride fs k 3) (Err n)
+RowsFound m fs list k (Err q) = Shaped m.machine.now list (field function_stride fs k 2) (field function_stride fs k 3) (Err q)
 
 -- what is found for function k
 pub record FoundAt (s : Source) (fs list : List ℕ) (k : ℕ) (p : Span) : Type 0 where
   pub said : result_at s fs list k ≡ good (meant p)
 
-abbrev pub Found : Source → (fs list : List ℕ) → ℕ → code.Result Span ℕ → Type 0
+abbrev pub Found : Source → (fs list : List ℕ) → ℕ → code.Result Span question.Question → Type 0
 Found s fs list k (Ok p) = FoundAt s fs list k p
-Found s fs list k (Err n) = result_at s fs list k ≡ bad n
+Found s fs list k (Err q) = result_at s fs list k ≡ bad (number_of q)
 
 -- ---- the questions of a function
 

@@ -1,4 +1,4 @@
-// What x64 unwind data is written from, and the lists that are lent for it.
+// What x64 unwind data is written from.
 ghost use Rattle.std.specs.Prelude.{◌+◌, ◌≤◌};
 ghost use Rattle.format.specs.Lists.{most_records};
 ghost use Rattle.prologue.specs.Pieces.{Short};
@@ -39,13 +39,4 @@ pub struct Span<'m, 'l> {
     pub ghost few: { past ≤ first + most_records },
     pub ghost short: { Short below },
     pub ghost held: { HeldBy source list.now first past } by { HeldBy-prop source list.now first past },
-}
-
-// The lists that are lent for what is written: where each function's record stands, bytes, relocations, and the records.
-#[derive(Drop)]
-pub struct Output<'a> {
-    pub markers: &'a mut [u64],
-    pub bytes: &'a mut [u8],
-    pub relocations: &'a mut [u64],
-    pub info: &'a mut [u8],
 }

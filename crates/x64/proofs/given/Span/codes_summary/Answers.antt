@@ -1,10 +1,8 @@
 -- `given::Span::codes_summary` meets its contract.
 use Rattle.x64.proofs.Walks.{start, turn, ended, summing, summed_on, all_summed}
 use Rattle.x64.proofs.Leaves.{slots_few}
-use Rattle.x64.specs.declared.Summary.{Summary}
 use Rattle.x64.specs.Sources.{codes_in}
 use native.Mathlib.Omega.{arith}
-use mathlib.Core.Path.{ap}
 use Rattle.x64.proofs.given.Span.codes_summary.Goals as goal
 
 pub loop-i-init : goal.loop-i-init
@@ -20,7 +18,7 @@ pub moved_in-sofar-requires : goal.moved_in-sofar-requires
 moved_in-sofar-requires c = let g = c.loop-i.invariant.0 in ((g.low, c.loop-i-test.true), g.short)
 
 pub loop-i-preserved : goal.loop-i-preserved
-loop-i-preserved c = let g = c.loop-i.invariant in let e = c.with_piece-t.ensures in (turn g.0 c.loop-i-test.true c.piece_in.ensures c.moved_in-sofar.ensures.0 c.moved_in-sofar.ensures.1 (λ w. summed_on w e), omega (arith, slots_few c.piece_in.result, ap (λ (t : Summary). t.slots) e, g.1, g.0.low))
+loop-i-preserved c = let g = c.loop-i.invariant in let e = c.with_piece-t.ensures in (turn g.0 c.loop-i-test.true c.piece_in.ensures c.moved_in-sofar.ensures.0 c.moved_in-sofar.ensures.1 (λ w. summed_on w e), omega (arith, slots_few c.piece_in.result, e.slots, g.1, g.0.low))
 
 pub returns : goal.returns
 returns c = all_summed (ended c.loop-i.invariant.0 c.loop-i-test.false)
