@@ -6,7 +6,7 @@ ghost use Rattle.std.specs.Int.{w64};
 ghost use Rattle.std.proofs.Common.{to_z};
 ghost use Rattle.format.specs.Prelude.{all};
 ghost use Rattle.format.specs.Machine.{machine_ok, machine_of};
-ghost use Rattle.format.specs.Lists.{count, field, row_stride, pair_stride, code_stride, most_records, inside, symbol_ok, pointer_ok, row_ok_at, pair_ok_at, code_ok_at, all_in, sum_of, pairs_in, prologue_ok_at, codes_ok, code_at};
+ghost use Rattle.format.specs.Lists.{count, field, row_stride, pair_stride, code_stride, most_records, symbol_ok, pointer_ok, row_ok_at, pair_ok_at, code_ok_at, all_in, sum_of, pairs_in, prologue_ok_at, codes_ok, code_at};
 ghost use Rattle.format.specs.Coded.{numbered_at};
 ghost use Rattle.format.proofs.Asked.{question_of};
 ghost use Rattle.lists.specs.Room.{room_for};
@@ -15,6 +15,7 @@ ghost use Rattle.lists.specs.Given.{count_of, outline_of, function_of, listed_of
 ghost use Rattle.lists.specs.Extents.{lsda_at, personality_at, labels_at, extent_at, landing_in, pair_in, prologue_in};
 
 use format::{Counts, Machine, Question, Refusal, Seh};
+pub use numbers::inside;
 use numbers::{codes, machine};
 use rows::{ROW_STRIDE, row_ok};
 
@@ -323,17 +324,6 @@ pub fn code_at(cs: &[u64], i: usize) -> Seh
 }
 
 // ---- question 13 of one record
-
-// A range of n records from `at` lies inside a list of `size` records.
-#[tactic(auto, unfolding(format::specs::Lists::inside))]
-pub fn inside(at: u64, n: u64, size: u64) -> bool
-    ensures { result ≡ inside at n size }
-{
-    if size < at {
-        return false;
-    }
-    n <= size - at
-}
 
 // A caller's symbol.
 #[tactic(auto, unfolding(format::specs::Lists::symbol_ok))]
