@@ -32,7 +32,7 @@ pub const PAIR_STRIDE: usize = 4;
 
 pub const PROLOGUE_STRIDE: usize = 5;
 
-pub const CODE_STRIDE: usize = 5;
+pub const CODE_STRIDE: usize = codes::STRIDE;
 
 // What question 13 takes at most (document 01): functions of a list, and records of each kind that they reach.
 pub const MOST_FUNCTIONS: usize = 65536;
