@@ -148,15 +148,6 @@ put_before xs p q (u ∷ us) bs e =
     let l : p < q = omega arith in
     rw (set-put xs p u q bs l) (put_before (set xs p u) (p + 1) q us bs (omega arith))
 
-pub five_stores : (xs : List ℕ) (p a b c d e : ℕ)
-    → set (set (set (set (set xs p a) (p + 1) b) (p + 2) c) (p + 3) d) (p + 4) e ≡ put xs p (a ∷ b ∷ c ∷ d ∷ e ∷ [])
-unfolding put
-five_stores xs p a b c d e =
-    let e₂ : p + 2 ≡ p + 1 + 1 = omega arith in
-    let e₃ : p + 3 ≡ p + 1 + 1 + 1 = omega arith in
-    let e₄ : p + 4 ≡ p + 1 + 1 + 1 + 1 = omega arith in
-    rw (e₄, e₃, e₂)
-
 pub record Storing (n left : ℕ) (old new : List ℕ) (cs : List (ℕ × Seh)) : Type 0 where
   pub many : left + length cs ≡ n
   pub stored : new ≡ put old (5 * left) (code_numbers cs)

@@ -3,11 +3,14 @@
 
 ghost use Rattle.std.specs.Prelude.{◌≡◌, ◌+◌, ◌*◌, ◌^◌, ◌≤◌, ◌<◌, [], ◌∷◌, ◌||◌, length};
 ghost use Rattle.format.proofs.Asked.{option_of};
+ghost use Rattle.format.specs.Lists.{code_stride};
+ghost use Rattle.format.specs.Numbers.{number_of};
 ghost use Rattle.format.specs.Put.{put};
 ghost use Rattle.format.specs.Answers.{bit};
 ghost use Rattle.format.specs.X64Reader.{operand_bytes, large_size, meaning, fields_of, frame_register, frame_offset, read_codes, read_x64, info_numbers, codes_stored};
 ghost use Rattle.x64_reader.specs.Reads.{field_numbers, CodeSays, or_frame, counted_of, Held, stored_of, HeaderSays, read_numbers};
 
+use format::Question;
 use numbers::{codes, uwop};
 use operations::fields::{Position, read_le};
 
@@ -142,19 +145,16 @@ fn count(s: &[u8], frame: u64) -> Option<(usize, bool)>
 }
 
 fn put_code(codes: &mut [u64], at: usize, offset: u64, f: Fields)
-    requires { at + 5 ≤ length codes.old }
+    requires { at + code_stride ≤ length codes.old }
     ensures { codes.new ≡ put codes.old at (offset ∷ field_numbers f) }
 {
-    codes[at] = offset;
-    codes[at + 1] = f.kind;
-    codes[at + 2] = f.register;
-    codes[at + 3] = f.vector;
-    codes[at + 4] = f.value;
+    let numbers = [offset, f.kind, f.register, f.vector, f.value];
+    codes[at..at + codes::STRIDE].copy_from_slice(&numbers);
 }
 
 // The n codes, five numbers each, from the last to the first, since they stand in reverse.
 fn store(s: &[u8], frame: u64, n: usize, codes: &mut [u64])
-    requires { (5 * n ≤ length codes.old) × Held (read_codes frame s.now) n }
+    requires { (code_stride * n ≤ length codes.old) × Held (read_codes frame s.now) n }
     ensures { codes.new ≡ stored_of (read_codes frame s.now) codes.old }
 {
     let mut at = Position::START;
@@ -165,7 +165,7 @@ fn store(s: &[u8], frame: u64, n: usize, codes: &mut [u64])
             return;
         };
         left -= 1;
-        put_code(codes, 5 * left, code.offset, code.fields);
+        put_code(codes, codes::STRIDE * left, code.offset, code.fields);
         at = code.past;
     }
 }
@@ -214,11 +214,11 @@ pub struct X64Reading {
     pub codes: u64,
 }
 
-fn refused(number: u64) -> X64Reading
-    ensures { read_numbers result ≡ number ∷ 0 ∷ 0 ∷ 0 ∷ 0 ∷ 0 ∷ [] }
+fn refused(question: Question) -> X64Reading
+    ensures { read_numbers result ≡ number_of question ∷ 0 ∷ 0 ∷ 0 ∷ 0 ∷ 0 ∷ [] }
 {
     X64Reading {
-        number,
+        number: question.number(),
         end: 0,
         frame: 0,
         frame_register: 0,
@@ -249,14 +249,14 @@ pub extern "C" fn unwind_read_x64(info: &[u8], place: u64, codes: &mut [u64]) ->
     ensures codes_after { codes.new ≡ codes_stored (read_x64 info.now place (length codes.old)) codes.old }
 {
     let Some(header) = header_at(info, place) else {
-        return refused(76);
+        return refused(Question::X64Header);
     };
     let slots = &info[header.at..header.past];
     let Some((n, framed)) = count(slots, header.frame) else {
-        return refused(77);
+        return refused(Question::X64Codes);
     };
-    if codes.len() / 5 < n {
-        return refused(54);
+    if codes.len() / codes::STRIDE < n {
+        return refused(Question::OtherRoom);
     }
     store(slots, header.frame, n, codes);
     read_as(header, framed, n)

@@ -1,6 +1,8 @@
 -- `x64_reader::put_code` meets its contract.
-use Rattle.x64_reader.proofs.Runs.{five_stores}
+use mathlib.Core.Path.{refl}
+use native.Mathlib.Omega.{arith}
+use Rattle.format.proofs.Copied.{copied}
 use Rattle.x64_reader.proofs.put_code.Goals as goal
 
 pub returns : goal.returns
-returns c = five_stores _ _ _ _ _ _ _
+returns c = (copied c.copy_from_slice.ensures.after refl (omega arith) c.requires).stored
