@@ -24,6 +24,7 @@ pub mod GoesBack
 pub mod SigningRemembered
 pub mod ListLaws
 pub mod Asked
+pub mod Bits
 pub mod Asking
 pub mod Accepted
 pub mod Wrote
