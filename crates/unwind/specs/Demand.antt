@@ -5,7 +5,6 @@ use Rattle.format.specs.Constants.{elf}
 use Rattle.format.specs.declared.Counts.{Counts}
 use Rattle.format.specs.Coded.{Outcome}
 use Rattle.std.specs.Prelude.{Some, None, Ok, Err}
-use Rattle.format.specs.Coded.{refusal}
 use Rattle.format.specs.Coded.{Reading}
 use Rattle.format.specs.Machine.{machine_of}
 use Rattle.format.specs.Questions.{Given, given_function}

@@ -2,6 +2,7 @@
 #![tactic(auto)]
 
 ghost use Rattle.std.specs.Prelude.{◌≡◌, ◌*◌, ◌≤◌, [], ◌∷◌, get_or};
+ghost use Rattle.format.specs.Coded.{numbered, numbered_at};
 ghost use Rattle.format.specs.Questions.{relaxed_table, relaxed_debug_frame, seh, given_of, room_in};
 ghost use Rattle.format.specs.RowCheck.{row_check_at};
 ghost use Rattle.format.specs.Reader.{read, shortest_at};
@@ -10,7 +11,8 @@ ghost use Rattle.unwind.specs.Demand.{Demanded};
 ghost use Rattle.unwind.specs.Together.{answer_for, bytes_in, relocs_in, reading_for};
 ghost use Rattle.unwind.specs.Entries.{read_numbers, written_numbers, Exports};
 
-use format::{CfaRule, Counts, Refusal, Rule, Rules, Section};
+use format::{CfaRule, Counts, Question, Refusal, Rule, Rules, Section};
+use lists::output::WrittenAnd;
 
 // ---- the writers
 
@@ -30,7 +32,7 @@ pub fn relaxed_table(
     relocations: &mut [u64],
     sites: &mut [u8],
 ) -> Result<Option<Counts>, Refusal>
-    ensures { Writes (relaxed_table format (given_of machine.now functions.now rows.now landings.now pairs.now) (room_in places.old bytes.old relocations.old sites.old)) result places.old places.new bytes.old bytes.new relocations.old relocations.new sites.old sites.new }
+    ensures { Writes (relaxed_table format (given_of machine.now functions.now rows.now landings.now pairs.now) (room_in places.old bytes.old relocations.old sites.old)) (numbered_at result) places.old places.new bytes.old bytes.new relocations.old relocations.new sites.old sites.new }
 {
     let listed = functions.len() / lists::FUNCTION_STRIDE;
     if listed == 0 {
@@ -61,13 +63,13 @@ pub fn relaxed_table(
             sites,
         ),
         2 => Err(Refusal {
-            number: 78,
+            question: Question::MachO,
             position: 0,
         }),
         3 => Ok(None),
         4 => Ok(None),
         _ => Err(Refusal {
-            number: 11,
+            question: Question::Interface,
             position: 0,
         }),
     }
@@ -85,7 +87,7 @@ pub fn table(
     relocations: &mut [u64],
     sites: &mut [u8],
 ) -> Result<Option<Counts>, Refusal>
-    ensures { Writes (relaxed_table format (given_of machine.now functions.now rows.now landings.now []) (room_in places.old bytes.old relocations.old sites.old)) result places.old places.new bytes.old bytes.new relocations.old relocations.new sites.old sites.new }
+    ensures { Writes (relaxed_table format (given_of machine.now functions.now rows.now landings.now []) (room_in places.old bytes.old relocations.old sites.old)) (numbered_at result) places.old places.new bytes.old bytes.new relocations.old relocations.new sites.old sites.new }
 {
     relaxed_table(
         machine,
@@ -110,7 +112,7 @@ pub fn seh(
     relocations: &mut [u64],
     info: &mut [u8],
 ) -> Result<Option<Counts>, Refusal>
-    ensures { Writes (seh functions.now codes.now (room_in markers.old bytes.old relocations.old info.old)) result markers.old markers.new bytes.old bytes.new relocations.old relocations.new info.old info.new }
+    ensures { Writes (seh functions.now codes.now (room_in markers.old bytes.old relocations.old info.old)) (numbered_at result) markers.old markers.new bytes.old bytes.new relocations.old relocations.new info.old info.new }
 {
     x64::seh(functions, codes, markers, bytes, relocations, info)
 }
@@ -128,7 +130,7 @@ pub fn relaxed_debug_frame(
     bytes: &mut [u8],
     relocations: &mut [u64],
 ) -> Result<Option<Counts>, Refusal>
-    ensures { Writes (relaxed_debug_frame format (given_of machine.now functions.now rows.now landings.now pairs.now) (room_in places.old bytes.old relocations.old [])) result places.old places.new bytes.old bytes.new relocations.old relocations.new [] [] }
+    ensures { Writes (relaxed_debug_frame format (given_of machine.now functions.now rows.now landings.now pairs.now) (room_in places.old bytes.old relocations.old [])) (numbered_at result) places.old places.new bytes.old bytes.new relocations.old relocations.new [] [] }
 {
     if functions.len() / lists::FUNCTION_STRIDE == 0 {
         return Ok(None);
@@ -163,7 +165,7 @@ pub fn debug_frame(
     bytes: &mut [u8],
     relocations: &mut [u64],
 ) -> Result<Option<Counts>, Refusal>
-    ensures { Writes (relaxed_debug_frame format (given_of machine.now functions.now rows.now landings.now []) (room_in places.old bytes.old relocations.old [])) result places.old places.new bytes.old bytes.new relocations.old relocations.new [] [] }
+    ensures { Writes (relaxed_debug_frame format (given_of machine.now functions.now rows.now landings.now []) (room_in places.old bytes.old relocations.old [])) (numbered_at result) places.old places.new bytes.old bytes.new relocations.old relocations.new [] [] }
 {
     relaxed_debug_frame(
         machine,
@@ -197,8 +199,8 @@ pub fn read(
     k: u64,
     q: u16,
     p: u64,
-) -> Result<Rules, u64>
-    ensures { result ≡ read section.now relocations.now kind word k q p }
+) -> Result<Rules, Question>
+    ensures { numbered result ≡ read section.now relocations.now kind word k q p }
 {
     reader::read(section, relocations, kind, word, k, q, p)
 }
@@ -208,7 +210,7 @@ pub fn read(
 // How many bytes, and how many numbers of relocations, were written.
 #[tactic(auto, unfolding(crate::specs::Together::bytes_in))]
 pub fn bytes_in(o: Result<Option<Counts>, Refusal>) -> usize
-    ensures { result ≡ bytes_in o }
+    ensures { result ≡ bytes_in (numbered_at o) }
 {
     match o {
         Ok(Some(c)) => c.bytes as usize,
@@ -219,8 +221,8 @@ pub fn bytes_in(o: Result<Option<Counts>, Refusal>) -> usize
 
 #[tactic(auto, unfolding(crate::specs::Together::relocs_in))]
 pub fn numbers_in(o: Result<Option<Counts>, Refusal>, room: usize) -> usize
-    requires { 5 * relocs_in o ≤ room }
-    ensures { result ≡ 5 * relocs_in o }
+    requires { 5 * relocs_in (numbered_at o) ≤ room }
+    ensures { result ≡ 5 * relocs_in (numbered_at o) }
 {
     match o {
         Ok(Some(c)) => relocs::RELOCATION_STRIDE * (c.relocations as usize),
@@ -254,7 +256,7 @@ pub fn write(
     relocations: &mut [u64],
     sites: &mut [u8],
 ) -> Result<Option<Counts>, Refusal>
-    ensures { Writes (answer_for debug format (given_of machine.now functions.now rows.now landings.now pairs.now) (room_in places.old bytes.old relocations.old sites.old)) result places.old places.new bytes.old bytes.new relocations.old relocations.new sites.old sites.new }
+    ensures { Writes (answer_for debug format (given_of machine.now functions.now rows.now landings.now pairs.now) (room_in places.old bytes.old relocations.old sites.old)) (numbered_at result) places.old places.new bytes.old bytes.new relocations.old relocations.new sites.old sites.new }
 {
     if debug {
         return relaxed_debug_frame(
@@ -283,13 +285,6 @@ pub fn write(
     )
 }
 
-// What a writer answered, and what the reader answered of what it wrote.
-#[derive(Clone, Copy)]
-pub struct WrittenAndRead {
-    pub outcome: Result<Option<Counts>, Refusal>,
-    pub reading: Result<Rules, u64>,
-}
-
 // A writer, debug_frame's or the other, and then the reader on exactly what was written, with the writer's kind and word: demand 3 on running
 // code. Where the list was accepted the entries tile; and where function k has no relaxing labels and passes the row check and p is below its
 // length, the reading is what the function's rows give at p for register q. Where the writer refused, the reader is handed nothing.
@@ -308,10 +303,10 @@ pub fn write_and_read(
     k: u64,
     q: u16,
     p: u64,
-) -> WrittenAndRead
-    ensures writes { Writes (answer_for debug format (given_of machine.now functions.now rows.now landings.now pairs.now) (room_in places.old bytes.old relocations.old sites.old)) result.outcome places.old places.new bytes.old bytes.new relocations.old relocations.new sites.old sites.new }
-    ensures reading_value { result.reading ≡ reading_for debug machine.now result.outcome bytes.new relocations.new k q p }
-    ensures demanded { Demanded format (given_of machine.now functions.now rows.now landings.now pairs.now) result.outcome bytes.new k q p result.reading }
+) -> WrittenAnd<Result<Rules, Question>>
+    ensures writes { Writes (answer_for debug format (given_of machine.now functions.now rows.now landings.now pairs.now) (room_in places.old bytes.old relocations.old sites.old)) (numbered_at result.outcome) places.old places.new bytes.old bytes.new relocations.old relocations.new sites.old sites.new }
+    ensures reading_value { numbered result.answer ≡ reading_for debug machine.now (numbered_at result.outcome) bytes.new relocations.new k q p }
+    ensures demanded { Demanded format (given_of machine.now functions.now rows.now landings.now pairs.now) (numbered_at result.outcome) bytes.new k q p (numbered result.answer) }
 {
     let outcome = write(
         debug,
@@ -330,7 +325,7 @@ pub fn write_and_read(
     let m = numbers_in(outcome, relocations.len());
     let written = &bytes[..];
     let related = &relocations[..];
-    let reading = read(
+    let answer = read(
         &written[..n],
         &related[..m],
         number(debug),
@@ -339,7 +334,7 @@ pub fn write_and_read(
         q,
         p,
     );
-    WrittenAndRead { outcome, reading }
+    WrittenAnd { outcome, answer }
 }
 
 // ---- the C interface
@@ -443,8 +438,8 @@ fn rules_numbers(c: CfaRule, r: Rule, signing: bool, shortest: bool) -> Numbers
     }
 }
 
-pub fn numbers_of(r: Result<Rules, u64>, shortest: bool) -> Numbers
-    ensures { read_numbers result ≡ marked_numbers r shortest }
+pub fn numbers_of(r: Result<Rules, Question>, shortest: bool) -> Numbers
+    ensures { read_numbers result ≡ marked_numbers (numbered r) shortest }
 {
     match r {
         Ok(rules) => {
@@ -452,8 +447,8 @@ pub fn numbers_of(r: Result<Rules, u64>, shortest: bool) -> Numbers
             let rule = rules.rule;
             rules_numbers(cfa, rule, rules.signing, shortest)
         }
-        Err(n) => Numbers {
-            number: n,
+        Err(question) => Numbers {
+            number: question.number(),
             frame: 0,
             frame_register: 0,
             frame_offset: 0,
@@ -467,7 +462,7 @@ pub fn numbers_of(r: Result<Rules, u64>, shortest: bool) -> Numbers
 
 #[tactic(auto, unfolding(format::specs::Answers::outcome_numbers))]
 pub fn written_of(o: Result<Option<Counts>, Refusal>) -> Written
-    ensures { written_numbers result ≡ outcome_numbers o }
+    ensures { written_numbers result ≡ outcome_numbers (numbered_at o) }
 {
     match o {
         Ok(Some(c)) => Written {
@@ -487,7 +482,7 @@ pub fn written_of(o: Result<Option<Counts>, Refusal>) -> Written
             sites: 0,
         },
         Err(r) => Written {
-            number: r.number,
+            number: r.question.number(),
             position: r.position,
             places: 0,
             bytes: 0,
@@ -593,6 +588,6 @@ pub extern "C" fn unwind_read(
             let shortest = reader::shortest_at(section, l, p);
             numbers_of(rules, shortest)
         }
-        Err(n) => numbers_of(Err(n), false),
+        Err(question) => numbers_of(Err(question), false),
     }
 }
