@@ -3,7 +3,7 @@ use mathlib.Core.Path.{◌≡◌}
 use Prim.Native.Nat.{ℕ}
 use mathlib.Core.Bool.{Bool, false}
 use Rattle.format.specs.Coded.{Reading}
-use Rattle.std.specs.Prelude.{Ok, Err}
+use Rattle.std.specs.Prelude.{Err}
 use Rattle.format.specs.Answers.{mark_of, marked_numbers}
 
 pub both_marked : {r t : Reading} {a b : Bool} → r ≡ t → a ≡ b → marked_numbers r a ≡ marked_numbers t b
