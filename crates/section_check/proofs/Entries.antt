@@ -17,7 +17,9 @@ use Rattle.format.specs.Machine.{is_word_size}
 use Rattle.format.specs.Lists.{relocations_of}
 use Rattle.format.specs.Rules.{State, answer}
 use Rattle.format.specs.Reader.{Entry, Found, entries, records, distance_back, header_place, header_at, parsed, locate, run_to, read_section, read}
-use Rattle.format.specs.Coded.{Reading}
+use Rattle.format.specs.Coded.{Reading, numbered}
+use Rattle.format.specs.declared.Rules.{Rules}
+use Rattle.format.specs.declared.question.Question.{Question}
 use Rattle.operations.specs.declared.fields.Position.{Position}
 use Rattle.format.proofs.Choice.{pick_yes, is_true}
 use Rattle.operations.specs.Positions.{little_at, read_from, from}
@@ -74,7 +76,7 @@ module _ (s : List ℕ) (at end : ℕ) where
 -- ---- the rules at an offset
 
 -- the reader answers where its result is a value
-pub ok_answers : (r : Reading) → is_ok r ≡ answers r
+pub ok_answers : (r : code.Result Rules Question) → is_ok r ≡ answers (numbered r)
 unfolding answers
 ok_answers (Ok rules) = refl
 ok_answers (Err n) = refl
@@ -104,8 +106,8 @@ module _ (s : List ℕ) (word at end p : ℕ) where
       unfolding read_in onward or_else
       behind_header = rw header_stands.found
 
-      module _ {l : code.Result Located ℕ} (k : Locates s word l (parsed false word (entry_of s h) entry)) where
-        pub unparsed : {n : ℕ} → l ≡ Err n → false ≡ answers_in s word entry p
+      module _ {l : code.Result Located Question} (k : Locates s word l (parsed false word (entry_of s h) entry)) where
+        pub unparsed : {n : Question} → l ≡ Err n → false ≡ answers_in s word entry p
         unfolding answers_in onward answer answers
         unparsed f = rw (behind_header, place_refused s word f k)
 

@@ -16,7 +16,7 @@ use Rattle.format.specs.Prelude.{pick}
 use Rattle.format.proofs.Choice.{if-le, if-gt, either}
 use Rattle.format.specs.Machine.{is_word_size}
 use Rattle.format.specs.Questions.{is_some}
-use Rattle.format.specs.Reader.{Entry, entries, is_header, records, header_at}
+use Rattle.format.specs.Reader.{Entry, entries, is_header, records}
 use Rattle.reader.specs.Spans.{entry_in, entries_from, listed, Ends, Ahead}
 use Rattle.reader.proofs.Tiling.{tiled_end}
 use Rattle.reader.proofs.Seeking.{first_ahead, header_later, kth_header}

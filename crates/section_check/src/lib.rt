@@ -8,15 +8,18 @@ ghost use Rattle.format.specs.Questions.{is_some};
 ghost use Rattle.format.specs.Reader.{distance_back, header_at, records, entries};
 ghost use Rattle.reader.specs.Spans.{entry_of, listed, Holds, Spans};
 ghost use Rattle.section_check.specs.Check.{length_of, check_from, check_section, Means};
+ghost use Rattle.section_check.specs.Answered.{checked_of};
 ghost use Rattle.section_check.specs.Places.{Marks, marked, mark_before, answers_in, passes_in};
 
 use crate::marks::Passed;
+use format::{Question, Refusal};
 use operations::fields::{Position, read_le};
 use reader::section::{Layout, Section, Span};
 
 pub mod marks;
 
 // What is answered: 0, or 11, 61 or 84; with 84 the first record that does not pass, counted from 0.
+// Kept: a number beside the record's, since C reads it.
 #[repr(C)]
 #[derive(Clone, Copy)]
 pub struct Checked {
@@ -108,9 +111,9 @@ impl<'a> Passed<'a> {
 // ---- the section
 
 // The records, one after the other: 84 with the first that does not pass.
-fn check_records(section: &Section) -> Checked
+fn check_records(section: &Section) -> Result<(), Refusal>
     requires { (section.now.layout.debug ≡ false) × T (is_some (entries section.now.bytes.now)) }
-    ensures { result ≡ check_from section.now.bytes.now section.now.layout.word 0 (records false (listed (entries section.now.bytes.now))) }
+    ensures { checked_of result ≡ check_from section.now.bytes.now section.now.layout.word 0 (records false (listed (entries section.now.bytes.now))) }
 {
     let s = section.bytes;
     // A frame above 32 KiB is probed in a loop, for which the compiler takes a register that may be in use; with 2,048 marks it stays below.
@@ -135,36 +138,31 @@ fn check_records(section: &Section) -> Checked
             step,
         };
         if !passed.passes(entry) {
-            return Checked {
-                number: 84,
-                record: k,
-            };
+            return Err(Refusal {
+                question: Question::EveryOffset,
+                position: k,
+            });
         }
         k += 1;
     }
-    Checked {
-        number: 0,
-        record: 0,
-    }
+    Ok(())
 }
 
-// Whether an eh_frame section tiles and the reader answers at every offset below each record's length, with this word.
-#[unsafe(no_mangle)]
-pub extern "C" fn unwind_check_section(section: &[u8], word: u64) -> Checked
-    ensures value { result ≡ check_section section.now word }
-    ensures means { Means section.now word result }
+// The questions in order: the word, the entries, and the records.
+fn check(section: &[u8], word: u64) -> Result<(), Refusal>
+    ensures { checked_of result ≡ check_section section.now word }
 {
     if !numbers::is_word(word) {
-        return Checked {
-            number: 11,
-            record: 0,
-        };
+        return Err(Refusal {
+            question: Question::Interface,
+            position: 0,
+        });
     }
     if !reader::entries::tiles(section) {
-        return Checked {
-            number: 61,
-            record: 0,
-        };
+        return Err(Refusal {
+            question: Question::Tiling,
+            position: 0,
+        });
     }
     let none = [];
     let section = Section {
@@ -173,4 +171,22 @@ pub extern "C" fn unwind_check_section(section: &[u8], word: u64) -> Checked
         layout: Layout { debug: false, word },
     };
     check_records(&section)
+}
+
+// Whether an eh_frame section tiles and the reader answers at every offset below each record's length, with this word.
+#[unsafe(no_mangle)]
+pub extern "C" fn unwind_check_section(section: &[u8], word: u64) -> Checked
+    ensures value { result ≡ check_section section.now word }
+    ensures means { Means section.now word result }
+{
+    match check(section, word) {
+        Ok(()) => Checked {
+            number: 0,
+            record: 0,
+        },
+        Err(refusal) => Checked {
+            number: refusal.question.number(),
+            record: refusal.position,
+        },
+    }
 }

@@ -1,7 +1,6 @@
 -- `section_check::check_records` meets its contract.
 use mathlib.Core.Path.{sym, ◌∙◌}
 use native.Mathlib.Omega.{arith}
-use Rattle.section_check.specs.Check.{saying}
 use Rattle.section_check.proofs.Pass.{start, marks_on, past_header, fails_here, past_record, ended}
 use Rattle.section_check.proofs.check_records.Goals as goal
 
@@ -27,7 +26,6 @@ pub passes-requires : goal.passes-requires
 passes-requires c = ((c.past.ensures.long, c.past.ensures.inside), marks_on c.entries.invariant c.past.ensures _ c.mark.ensures)
 
 pub returns-then-not-passes : goal.returns-then-not-passes
-unfolding saying
 returns-then-not-passes c = fails_here c.entries.invariant c.past.ensures (sym c.is_header.ensures ∙ c.if-is_header.false) c.args.section.now.layout.is_word (sym c.passes.ensures ∙ c.if-not-passes.true)
 
 pub overflow_add-k : goal.overflow_add-k
@@ -40,5 +38,4 @@ pub entries-preserved : goal.entries-preserved
 entries-preserved c = past_record c.entries.invariant c.past.ensures (sym c.is_header.ensures ∙ c.if-is_header.false) c.args.section.now.layout.is_word _ c.mark.ensures (sym c.passes.ensures ∙ c.if-not-passes.false)
 
 pub returns : goal.returns
-unfolding saying
 returns c = ended c.entries.invariant c.entries-test.false
