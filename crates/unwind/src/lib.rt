@@ -328,7 +328,7 @@ pub fn write_and_read(
     let answer = read(
         &written[..n],
         &related[..m],
-        number(debug),
+        u64::from(debug),
         word_in(machine),
         k,
         q,
@@ -379,53 +379,50 @@ struct Saving {
     value: u64,
 }
 
-#[tactic(auto, unfolding(format::specs::Answers::bit))]
-pub fn number(b: bool) -> u64
-    ensures { result ≡ bit b }
-{
-    u64::from(b)
-}
+impl From<CfaRule> for Address {
+    ghost from_gives = { λ c a. a.kind ∷ a.register ∷ a.offset ∷ [] ≡ cfa_numbers c };
 
-fn address_of(c: CfaRule) -> Address
-    ensures { result.kind ∷ result.register ∷ result.offset ∷ [] ≡ cfa_numbers c }
-{
-    match c {
-        CfaRule::Unset => Address {
-            kind: 0,
-            register: 0,
-            offset: 0,
-        },
-        CfaRule::Register(reg, z) => Address {
-            kind: 1,
-            register: reg as u64,
-            offset: numbers::bits(z),
-        },
+    fn from(rule: CfaRule) -> Address {
+        match rule {
+            CfaRule::Unset => Address {
+                kind: 0,
+                register: 0,
+                offset: 0,
+            },
+            CfaRule::Register(reg, z) => Address {
+                kind: 1,
+                register: u64::from(reg),
+                offset: numbers::bits(z),
+            },
+        }
     }
 }
 
-fn saving_of(r: Rule) -> Saving
-    ensures { result.kind ∷ result.value ∷ [] ≡ rule_numbers r }
-{
-    match r {
-        Rule::Unstated => Saving { kind: 0, value: 0 },
-        Rule::Undefined => Saving { kind: 1, value: 0 },
-        Rule::Saved(z) => Saving {
-            kind: 2,
-            value: numbers::bits(z),
-        },
-        Rule::SameValue => Saving { kind: 3, value: 0 },
-        Rule::InRegister(reg) => Saving {
-            kind: 4,
-            value: reg as u64,
-        },
+impl From<Rule> for Saving {
+    ghost from_gives = { λ r a. a.kind ∷ a.value ∷ [] ≡ rule_numbers r };
+
+    fn from(rule: Rule) -> Saving {
+        match rule {
+            Rule::Unstated => Saving { kind: 0, value: 0 },
+            Rule::Undefined => Saving { kind: 1, value: 0 },
+            Rule::Saved(z) => Saving {
+                kind: 2,
+                value: numbers::bits(z),
+            },
+            Rule::SameValue => Saving { kind: 3, value: 0 },
+            Rule::InRegister(reg) => Saving {
+                kind: 4,
+                value: u64::from(reg),
+            },
+        }
     }
 }
 
 fn rules_numbers(c: CfaRule, r: Rule, signing: bool, shortest: bool) -> Numbers
     ensures { read_numbers result ≡ marked_numbers (Ok (record { cfa = c; rule = r; signing = signing })) shortest }
 {
-    let a = address_of(c);
-    let b = saving_of(r);
+    let a = Address::from(c);
+    let b = Saving::from(r);
     Numbers {
         number: 0,
         frame: a.kind,
@@ -433,8 +430,8 @@ fn rules_numbers(c: CfaRule, r: Rule, signing: bool, shortest: bool) -> Numbers
         frame_offset: a.offset,
         rule: b.kind,
         rule_value: b.value,
-        signing: number(signing),
-        shortest: number(shortest),
+        signing: u64::from(signing),
+        shortest: u64::from(shortest),
     }
 }
 
@@ -567,7 +564,7 @@ pub extern "C" fn unwind_seh(
 pub extern "C" fn unwind_row_check(functions: &[u64], rows: &[u64], k: u64) -> u64
     ensures { result ≡ bit (row_check_at functions.now rows.now k) }
 {
-    number(row_check(functions, rows, k))
+    u64::from(row_check(functions, rows, k))
 }
 
 #[unsafe(no_mangle)]

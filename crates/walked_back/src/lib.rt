@@ -61,7 +61,7 @@ pub fn write_and_walk(
         file,
         &written[..n],
         &related[..m],
-        unwind::number(debug),
+        u64::from(debug),
         pc,
         stack,
         placed,

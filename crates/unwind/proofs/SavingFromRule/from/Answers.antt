@@ -1,9 +1,9 @@
--- `unwind::saving_of` meets its contract.
+-- `unwind::SavingFromRule::from` meets its contract.
 use mathlib.Core.Path.{refl}
 use native.Mathlib.Omega.{arith}
 use Rattle.rows.proofs.Signs.{passed}
 use Rattle.format.specs.Answers.{rule_numbers}
-use Rattle.unwind.proofs.saving_of.Goals as goal
+use Rattle.unwind.proofs.SavingFromRule.from.Goals as goal
 
 pub returns-in-Unstated : goal.returns-in-Unstated
 unfolding rule_numbers
@@ -25,4 +25,4 @@ returns-in-SameValue c = rw c.in-SameValue.is refl
 
 pub returns-in-InRegister : goal.returns-in-InRegister
 unfolding rule_numbers
-returns-in-InRegister c = rw c.in-InRegister.is refl
+returns-in-InRegister c = rw (c.in-InRegister.is, c.from.ensures) refl
