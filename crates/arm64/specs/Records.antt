@@ -28,13 +28,16 @@ version_of w = w / 2 ^ 18 % 4
 unfoldable pub is_long : ℕ → Bool
 is_long w = eqb (w / 2 ^ 22) 0
 
+abbrev pub epilogues_with : (w count : ℕ) → Epilogues
+epilogues_with w count = pick (eqb (w / 2 ^ 21 % 2) 1) (Single count) (Scoped count)
+
 -- the first word in both forms: length 18 bits, version 2, X 1, E 1
 unfoldable pub header_with : (w count words past : ℕ) → Header
 header_with w count words past =
     record {
       length = w % 2 ^ 18;
       handler = eqb (w / 2 ^ 20 % 2) 1;
-      epilogues = pick (eqb (w / 2 ^ 21 % 2) 1) (Single count) (Scoped count);
+      epilogues = epilogues_with w count;
       words = words;
       past = past;
     }
