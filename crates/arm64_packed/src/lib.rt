@@ -8,7 +8,7 @@ ghost use Rattle.arm64.specs.Lists.{code_numbers};
 ghost use Rattle.arm64.specs.Packed.{packed_of, integer_size, vector_count, saved_size, local_size, chain_ok, packed_ok, lone, integer_pair, integer_odd, integer_slot, vector_pair, vector_slot, alloc_slot, rest_slot, chain_slot, local_slot, slot, slots_from, undone, slot_at};
 ghost use Rattle.arm64_packed.specs.Fields.{Small, Sound};
 
-use arm64::{Code, Packed, packed_bits};
+use arm64::{Code, Packed, Part, packed_bits};
 
 // ---- the fields
 
@@ -204,33 +204,35 @@ fn slot(p: Packed, i: u64) -> Option<Code>
 
 // ---- the prologue and the epilogue
 
-// Place i of the prologue or, backwards, of the epilogue: homing and the setting of the frame pointer are not undone.
+// Place i of the prologue or of the epilogue, which undoes it backwards but for homing and the setting of the frame pointer.
 #[tactic(auto, unfolding(arm64::specs::Packed::slot_at, arm64::specs::Packed::undone, format::specs::Prelude::pick))]
-pub fn slot_at(back: bool, p: Packed, i: u64) -> Option<Code>
+pub fn slot_at(part: Part, p: Packed, i: u64) -> Option<Code>
     requires { Sound p × (i < 19) }
-    ensures { result ≡ option_of (slot_at back p i) }
+    ensures { result ≡ option_of (slot_at part p i) }
 {
-    if back {
-        return slot(p, 18 - i).filter(|c| c.kind != arm64::NOP && c.kind != arm64::SET_FP);
+    match part {
+        Part::Prologue => slot(p, i),
+        Part::Epilogue => {
+            slot(p, 18 - i).filter(|c| c.kind != arm64::NOP && c.kind != arm64::SET_FP)
+        }
     }
-    slot(p, i)
 }
 
-// How many codes the prologue has or, backwards, the epilogue.
-pub fn count_slots(back: bool, p: Packed) -> usize
+// How many codes the prologue has or the epilogue.
+pub fn count_slots(part: Part, p: Packed) -> usize
     requires { Sound p }
-    ensures { (result ≡ length (slots_from (slot_at back p) 0 19)) × (result ≤ 19) }
+    ensures { (result ≡ length (slots_from (slot_at part p) 0 19)) × (result ≤ 19) }
 {
-    (0..19).filter_map(|i| slot_at(back, p, i)).count()
+    (0..19).filter_map(|i| slot_at(part, p, i)).count()
 }
 
-// The prologue's codes or, backwards, the epilogue's.
-pub fn put_slots(out: &mut [u64], at: usize, back: bool, p: Packed) -> usize
-    requires { Sound p × (at + 3 * length (slots_from (slot_at back p) 0 19) ≤ length out.old) }
-    ensures { Wrote out.old out.new at result (code_numbers (slots_from (slot_at back p) 0 19)) }
+// The prologue's codes or the epilogue's.
+pub fn put_slots(out: &mut [u64], at: usize, part: Part, p: Packed) -> usize
+    requires { Sound p × (at + 3 * length (slots_from (slot_at part p) 0 19) ≤ length out.old) }
+    ensures { Wrote out.old out.new at result (code_numbers (slots_from (slot_at part p) 0 19)) }
 {
     let mut to = at;
-    for c in (0..19).filter_map(|i| slot_at(back, p, i)) {
+    for c in (0..19).filter_map(|i| slot_at(part, p, i)) {
         to = arm64_runs::put_code(out, to, c);
     }
     to

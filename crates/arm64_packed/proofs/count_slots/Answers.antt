@@ -13,6 +13,6 @@ use Rattle.arm64_packed.proofs.count_slots.Goals as goal
 
 pub returns : goal.returns
 returns c =
-    let at = slot_at c.args.back c.args.p in
+    let at = slot_at c.args.part c.args.p in
     let e = count_from_yields_List c.filter_map.result c.count.result c.count.ensures.ran (YieldsList-from_filter_map _ (λ i. option_of (at i)) (YieldsList-at c.filter_map.ensures.source (YieldsList-from_range 0 19 19 refl (omega arith))) c.filter_map.ensures.closure (λ x r q k. search (rules, tests))) ∙ ap length (slots_mapped at 0 19) in
     (e, omega (arith, slots_few at 0 19))
