@@ -13,7 +13,7 @@ ghost use Rattle.arm64_packed.specs.Fields.{Small, Sound};
 ghost use Rattle.arm64_simple.specs.Written.{saved_in, written_in};
 ghost use Rattle.arm64_packing.specs.Places.{stores_one, stores_lr, placed, given, Low, Counted};
 
-use arm64::{Code, Packed, packed_bits};
+use arm64::{Code, Packed, Part, packed_bits};
 use arm64_simple::Codes;
 
 // ---- what a code counts
@@ -169,25 +169,26 @@ fn defined(p: Packed) -> bool
 }
 
 // A place in the order in which it saves: the prologue's, or what the epilogue undoes of it.
-fn place(undone: bool, p: Packed, i: u64) -> Option<Code>
+#[tactic(auto, unfolding(crate::specs::Places::placed))]
+fn place(part: Part, p: Packed, i: u64) -> Option<Code>
     requires { Sound p × (i < 19) }
-    ensures { result ≡ option_of (placed undone p i) }
+    ensures { result ≡ option_of (placed part p i) }
 {
-    if undone {
-        return arm64_packed::slot_at(true, p, 18 - i);
+    match part {
+        Part::Prologue => arm64_packed::slot_at(part, p, i),
+        Part::Epilogue => arm64_packed::slot_at(part, p, 18 - i),
     }
-    arm64_packed::slot_at(false, p, i)
 }
 
 // Kept: a loop over the places. Tried by the iterators' `eq`: a list of packed functions took a tenth longer to write.
-// Whether a run's instructions are those of the word's prologue or, undone, of its epilogue.
-fn same_places(run: &Codes, undone: bool, p: Packed) -> bool
+// Whether a run's instructions are those of the word's prologue or of its epilogue.
+fn same_places(run: &Codes, part: Part, p: Packed) -> bool
     requires { Sound p }
-    ensures { result ≡ same_codes (given run.now.list.now run.now.run) (slots_from (placed undone p) 0 19) }
+    ensures { result ≡ same_codes (given run.now.list.now run.now.run) (slots_from (placed part p) 0 19) }
 {
     let mut steps = run.steps();
     'places: for i in 0..19 {
-        let Some(d) = place(undone, p, i) else {
+        let Some(d) = place(part, p, i) else {
             continue 'places;
         };
         let Some(s) = steps.next() else {
@@ -222,10 +223,10 @@ pub fn packed(size: u64, prologue: &Codes, epilogue: &Codes) -> Option<u64>
     if !defined(p) {
         return None;
     }
-    if !same_places(prologue, false, p) {
+    if !same_places(prologue, Part::Prologue, p) {
         return None;
     }
-    if !same_places(epilogue, true, p) {
+    if !same_places(epilogue, Part::Epilogue, p) {
         return None;
     }
     Some(packed_word(p))
