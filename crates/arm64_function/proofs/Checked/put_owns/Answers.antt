@@ -1,13 +1,13 @@
--- `Function::put_owns` meets its contract.
+-- `Checked::put_owns` meets its contract.
 use native.Mathlib.Omega.{arith}
 use Rattle.arm64_function.proofs.Codes.{codes_start, codes_turn, codes_ended, codes_room}
-use Rattle.arm64_function.proofs.Function.put_owns.Goals as goal
+use Rattle.arm64_function.proofs.Checked.put_owns.Goals as goal
 
 pub loop-i-init : goal.loop-i-init
-loop-i-init c = codes_start c.args.self.now.epilogues.now c.args.self.now.codes.now c.args.self.now.parts c.requires.1
+loop-i-init c = codes_start c.args.self.now.function.epilogues.now c.args.self.now.function.codes.now c.args.self.now.function.parts c.requires
 
 pub put_own-q-requires : goal.put_own-q-requires
-put_own-q-requires c = (c.requires.0, (c.loop-i.invariant.low, c.loop-i-test.true), codes_room c.loop-i.invariant c.loop-i-test.true)
+put_own-q-requires c = ((c.loop-i.invariant.low, c.loop-i-test.true), codes_room c.loop-i.invariant c.loop-i-test.true)
 
 pub loop-i-smaller : goal.loop-i-smaller
 loop-i-smaller c = omega (arith, c.loop-i-test.true)
