@@ -19,6 +19,9 @@ use Rattle.format.proofs.Wrote.{Wrote}
 use Rattle.format.proofs.Choice.{if-le, if-gt, if-eq, if-ne}
 use Rattle.format.proofs.PutLaws.{put-append}
 use Rattle.arm64.specs.declared.Code.{Code}
+use Rattle.arm64.specs.declared.Epilogues.{Epilogues}
+use Rattle.arm64.specs.declared.Epilogues.TheVariants.{Single, Scoped}
+use Rattle.arm64.specs.declared.Part.TheVariants as part
 use Rattle.arm64.specs.declared.Header.{Header}
 use Rattle.arm64.specs.declared.Packed.{Packed}
 use Rattle.arm64.specs.declared.Arm64Reading.{Arm64Reading}
@@ -142,29 +145,29 @@ module _ (p : Packed) where
       unfolding packed_unwound packed_epilogues at_end after packed_whole
       packed_function l = let g : suc (length (packed_epilogue p)) ≤ p.length = omega arith in rw (when_true (packed_ok p), if-ne p.flag 2, if-le (suc (length (packed_epilogue p))) p.length)
 
-module _ (p : Packed) {n : ℕ} (a : n ≡ length (slots_from (slot_at false p) 0 19)) where
+module _ (p : Packed) {n : ℕ} (a : n ≡ length (slots_from (slot_at part.Prologue p) 0 19)) where
   pub part_counts : Counts (packed_part p) n 0 0
   unfolding packed_part unwound packed_prologue epilogue_codes
   part_counts = record { prologue = sym a; behind = refl; many = refl }
 
-  pub part_stored : {es cs cs' : List ℕ} → cs' ≡ put cs 0 (code_numbers (slots_from (slot_at false p) 0 19)) → Stored (packed_part p) es es cs cs' n
+  pub part_stored : {es cs cs' : List ℕ} → cs' ≡ put cs 0 (code_numbers (slots_from (slot_at part.Prologue p) 0 19)) → Stored (packed_part p) es es cs cs' n
   unfolding packed_part unwound packed_prologue epilogue_codes epilogue_numbers code_numbers put
   part_stored d = record { numbers = refl; codes = d }
 
-  module _ {m : ℕ} (b : m ≡ length (slots_from (slot_at true p) 0 19)) where
+  module _ {m : ℕ} (b : m ≡ length (slots_from (slot_at part.Epilogue p) 0 19)) where
     pub whole_counts : Counts (packed_whole p) n m 1
     unfolding packed_whole unwound packed_prologue packed_epilogue epilogue_codes epilogue
-    whole_counts = record { prologue = sym a; behind = rw (append-nil (slots_from (slot_at true p) 0 19)) (sym b); many = refl }
+    whole_counts = record { prologue = sym a; behind = rw (append-nil (slots_from (slot_at part.Epilogue p) 0 19)) (sym b); many = refl }
 
     pub whole_stored : {es es' cs cs₁ cs' : List ℕ} {q t q' : ℕ} → Wrote es es' 0 q (4 * (p.length - 1 - m) ∷ n ∷ m ∷ [])
-        → Wrote cs cs₁ 0 t (code_numbers (slots_from (slot_at false p) 0 19)) → Wrote cs₁ cs' (3 * n) q' (code_numbers (slots_from (slot_at true p) 0 19))
+        → Wrote cs cs₁ 0 t (code_numbers (slots_from (slot_at part.Prologue p) 0 19)) → Wrote cs₁ cs' (3 * n) q' (code_numbers (slots_from (slot_at part.Epilogue p) 0 19))
         → Stored (packed_whole p) es es' cs cs' n
     unfolding packed_whole unwound packed_prologue packed_epilogue epilogue_codes epilogue_numbers epilogue
     whole_stored e f g =
         let z : p.length - 1 - m ≡ p.length - suc m = omega arith in
         record {
           numbers = e.stored ∙ rw (z, b) refl;
-          codes = g.stored ∙ rw (f.stored, append-nil (slots_from (slot_at true p) 0 19)) refl;
+          codes = g.stored ∙ rw (f.stored, append-nil (slots_from (slot_at part.Epilogue p) 0 19)) refl;
         }
 
 -- ---- records whose epilogues were counted
@@ -175,11 +178,11 @@ total_none none e = refl
 total_none (some es) e = absurd cc
 
 -- as many epilogues as the header says
-many_by : (s : List ℕ) (h : Header) {all : List Epilogue} {m : ℕ} (b : Bool) → h.single ≡ b → total_of (record_epilogues h s) ≡ some m → record_epilogues h s ≡ some all → length all ≡ how_many h
+many_by : (s : List ℕ) (h : Header) {all : List Epilogue} {m : ℕ} (x : Epilogues) → h.epilogues ≡ x → total_of (record_epilogues h s) ≡ some m → record_epilogues h s ≡ some all → length all ≡ how_many h
 unfolding epilogue
-many_by s h {all} false l t e = scoped-length (words_from h.past s) (codes_of h s) 0 h.count all (sym (by_words s h refl l) ∙ e) ∙ sym (many_all h l)
-many_by s h {all} {m} true l t e =
-    let y : all ≡ epilogue (4 * (h.length - suc m)) (codes_in (run_at (codes_of h s) h.count)) ∷ [] = cc ((one s h refl l t).same, e) in
+many_by s h {all} (Scoped count) l t e = scoped-length (words_from h.past s) (codes_of h s) 0 count all (sym (by_words s h refl l) ∙ e) ∙ sym (many_all h l)
+many_by s h {all} {m} (Single index) l t e =
+    let y : all ≡ epilogue (4 * (h.length - suc m)) (codes_in (run_at (codes_of h s) index)) ∷ [] = cc ((one s h refl l t).same, e) in
     ap length y ∙ sym (many_one h l)
 
 -- what a record with codes says, where it says something
@@ -196,7 +199,7 @@ module _ (s : List ℕ) (h : Header) {codes : List ℕ} (c : codes ≡ codes_of 
   record_counts d = record {
     prologue = reverse-length (codes_in (run_at codes 0)) ∙ (counted_run (run_at codes 0) a).1;
     behind = (total_some (record_epilogues h s) b).1;
-    many = many_by s h h.single refl b (total_some (record_epilogues h s) b).0 ∙ sym d;
+    many = many_by s h h.epilogues refl b (total_some (record_epilogues h s) b).0 ∙ sym d;
   }
 
 -- ---- the record at a place

@@ -10,7 +10,7 @@ ghost use Rattle.arm64.specs.Reader.{record_unwound, full_record, fits_in, packe
 ghost use Rattle.arm64_packed.specs.Fields.{Sound};
 ghost use Rattle.arm64_reader.specs.Answers.{told, AnsweredIn, found_in, room_of};
 
-use arm64::{Arm64Reading, Packed, fields};
+use arm64::{Arm64Reading, Packed, Part, fields};
 use arm64_records::{Output, Record};
 use format::Question;
 
@@ -76,9 +76,9 @@ fn fragment(p: Packed, to: &mut Output) -> Result<Arm64Reading, Question>
     requires { Sound p × (p.flag ≡ 2) × (packed_ok p ≡ true) }
     ensures { AnsweredIn (found_in (packed_unwound p) to.old) result to.old to.new }
 {
-    let n = arm64_packed::count_slots(false, p);
+    let n = arm64_packed::count_slots(Part::Prologue, p);
     room(to, 0, n)?;
-    arm64_packed::put_slots(to.codes, 0, false, p);
+    arm64_packed::put_slots(to.codes, 0, Part::Prologue, p);
     Ok(reading(4 * p.length, n, 0, 0))
 }
 
@@ -88,14 +88,14 @@ fn function(p: Packed, to: &mut Output) -> Result<Arm64Reading, Question>
     requires { Sound p × (p.flag ≢ 2) × (packed_ok p ≡ true) }
     ensures { AnsweredIn (found_in (packed_unwound p) to.old) result to.old to.new }
 {
-    let n = arm64_packed::count_slots(false, p);
-    let m = arm64_packed::count_slots(true, p);
+    let n = arm64_packed::count_slots(Part::Prologue, p);
+    let m = arm64_packed::count_slots(Part::Epilogue, p);
     if p.length <= m as u64 {
         return Err(Question::X64Codes);
     }
     room(to, 1, n + m)?;
-    arm64_packed::put_slots(to.codes, 0, false, p);
-    arm64_packed::put_slots(to.codes, fields::CODE_STRIDE * n, true, p);
+    arm64_packed::put_slots(to.codes, 0, Part::Prologue, p);
+    arm64_packed::put_slots(to.codes, fields::CODE_STRIDE * n, Part::Epilogue, p);
     let start = 4 * (p.length - 1 - m as u64);
     arm64_runs::put_three(to.epilogues, 0, [start, n as u64, m as u64]);
     Ok(reading(4 * p.length, n, 1, m))
