@@ -10,7 +10,7 @@ use Rattle.format.specs.declared.Seh.{Seh}
 use Rattle.format.specs.Lists.{Function, Prologue, field, function_stride, prologue_stride, code_at, function_at, prologue_at}
 use Rattle.format.specs.X64.{codes_of, prologue_of, prologue_no, x64}
 use Rattle.format.specs.Questions.{Question, and_then}
-use Rattle.format.specs.Writer.{Written}
+use Rattle.format.specs.Writer.{Written, joined}
 use Rattle.prologue.specs.declared.given.X64Machine.{X64Machine}
 use Rattle.prologue.specs.Pieces.{piece_in, moved_in, end_in, Says, Shaped}
 use Rattle.x64.specs.Answers.{ask_each}
@@ -36,14 +36,17 @@ unfoldable pub pushed_by : Source → ℕ
 pushed_by Direct = 0
 pushed_by (Rows m) = m.machine.now.pushed
 
--- n records from i on
-unfoldable pub codes_from : Source → (list : List ℕ) → Span → (sofar : ℤ) → (i n : ℕ) → List (ℕ × Seh)
-codes_from s list p sofar i zero = []
-codes_from s list p sofar i (suc n) = piece_at s list p sofar i ++ codes_from s list p (moved_at s list sofar i) (suc i) n
+-- what n records from i on yield
+unfoldable pub each_piece : Source → (list : List ℕ) → Span → (sofar : ℤ) → (i n : ℕ) → List (List (ℕ × Seh))
+each_piece s list p sofar i zero = []
+each_piece s list p sofar i (suc n) = piece_at s list p sofar i ∷ each_piece s list p (moved_at s list sofar i) (suc i) n
 
--- all of them
+-- what all of them yield, and their codes
+abbrev pub pieces_in : Source → (list : List ℕ) → Span → List (List (ℕ × Seh))
+pieces_in s list p = each_piece s list p (pos (pushed_by s)) p.first (p.past - p.first)
+
 abbrev pub codes_in : Source → (list : List ℕ) → Span → List (ℕ × Seh)
-codes_in s list p = codes_from s list p (pos (pushed_by s)) p.first (p.past - p.first)
+codes_in s list p = joined (pieces_in s list p)
 
 -- ---- a function
 

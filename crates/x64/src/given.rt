@@ -40,3 +40,14 @@ pub struct Span<'m, 'l> {
     pub ghost short: { Short below },
     pub ghost held: { HeldBy source list.now first past } by { HeldBy-prop source list.now first past },
 }
+
+// The records of a function's codes from the next on, and the distance in front of it.
+#[derive(Drop)]
+pub struct Pieces<'m, 'l> {
+    pub span: Span<'m, 'l>,
+    pub next: usize,
+    pub sofar: i64,
+    pub ghost low: { span.first ≤ next },
+    pub ghost high: { next ≤ span.past },
+    pub ghost short: { Short sofar },
+}

@@ -19,12 +19,12 @@ ghost use Rattle.prologue.specs.Pieces.{Short, piece_of};
 ghost use Rattle.x64.specs.declared.given.Source.TheVariants.{Direct, Rows};
 ghost use Rattle.x64.specs.Listed.{stride_of};
 ghost use Rattle.x64.specs.Sources.{pushed_by, DirectSpan, RowsFound, long_no, rows_no, codes_no};
-ghost use Rattle.x64.specs.Given.{IsRecord, piece_of_record, moved_past, codes_by, info_by, result_of, FoundIn, named_in, AllAgreed, functions_of, infos_in, asks_in, table_in};
+ghost use Rattle.x64.specs.Given.{next_piece, next_moved, pieces_left, pieces_by, codes_by, info_by, result_of, FoundIn, named_in, AllAgreed, functions_of, infos_in, asks_in, table_in};
 ghost use Rattle.x64.specs.Answers.{Summed, SummaryOf, refused_at};
 
 use codes::{Code, code_no, frame_no, frame_or, head, nodes, nodes_size, put_nodes};
 use format::{Counts, Question, Refusal, Seh};
-use given::{Input, Source, Span};
+use given::{Input, Pieces, Source, Span};
 use leb::fill;
 use lists::output::Output;
 use lists::{
@@ -117,34 +117,73 @@ struct Summary {
     frames: Result<(), Question>,
 }
 
-impl Span<'_, '_> {
-    // What record i yields, with the distance `sofar` in front of it: a code at its offset, or none.
-    fn piece_in(&self, sofar: i64, i: usize) -> Option<(u64, Seh)>
-        requires { IsRecord self.now i × Short sofar }
-        ensures { piece_of result ≡ piece_of_record self.now sofar i }
+impl<'m, 'l> Span<'m, 'l> {
+    // Its records.
+    fn pieces(&self) -> Pieces<'m, 'l>
+        ensures { pieces_left result ≡ pieces_by self.now }
     {
-        match self.source {
-            Source::Direct => Some((code_offset_at(self.list, i), code_at(self.list, i))),
+        Pieces {
+            span: *self,
+            next: self.first,
+            sofar: self.source.start(),
+        }
+    }
+}
+
+impl Pieces<'_, '_> {
+    // What the next record yields: a code at its offset, or none.
+    fn piece(&self) -> Option<(u64, Seh)>
+        requires { self.now.next < self.now.span.past }
+        ensures { piece_of result ≡ next_piece self.now }
+    {
+        let span = self.span;
+        match span.source {
+            Source::Direct => Some((
+                code_offset_at(span.list, self.next),
+                code_at(span.list, self.next),
+            )),
             Source::Rows(machine) => {
                 let rows = FunctionRows {
-                    list: self.list,
-                    at: self.first,
-                    end: self.past,
+                    list: span.list,
+                    at: span.first,
+                    end: span.past,
                 };
-                rows.piece_at(&machine.registers(), i, self.below, sofar)
+                rows.piece_at(&machine.registers(), self.next, span.below, self.sofar)
             }
         }
     }
 
-    // The distance behind record i.
-    fn moved_in(&self, sofar: i64, i: usize) -> i64
-        requires { IsRecord self.now i × Short sofar }
-        ensures { (result ≡ moved_past self.now sofar i) × Short result }
+    // The distance behind it.
+    fn moved(&self) -> i64
+        requires { self.now.next < self.now.span.past }
+        ensures { (result ≡ next_moved self.now) × Short result }
     {
-        match self.source {
-            Source::Direct => sofar,
-            Source::Rows(_) => moved(sofar, self.list, i),
+        match self.span.source {
+            Source::Direct => self.sofar,
+            Source::Rows(_) => moved(self.sofar, self.span.list, self.next),
         }
+    }
+}
+
+impl Iterator for Pieces<'_, '_> {
+    ghost use Rattle.std.specs.Iterator.{YieldsFirstBy, item_count};
+    ghost use Rattle.prologue.specs.Pieces.{piece_of};
+    ghost use Rattle.x64.specs.Given.{pieces_left};
+
+    type Item = Option<(u64, Seh)>;
+
+    ghost next_gives = { YieldsFirstBy piece_of pieces_left };
+
+    ghost remaining = { item_count pieces_left };
+
+    fn next(&mut self) -> Option<Option<(u64, Seh)>> {
+        if self.next == self.span.past {
+            return None;
+        }
+        let piece = self.piece();
+        self.sofar = self.moved();
+        self.next += 1;
+        Some(piece)
     }
 }
 
@@ -191,8 +230,7 @@ fn piece_nodes(c: Option<(u64, Seh)>) -> Code
 // ---- the codes of a function
 
 impl Span<'_, '_> {
-    // Kept: the three loops over the codes stand apart. What each asks of a code holds only of the codes that are left, one of them
-    // stores, and a fold's closure may be called with any: with that and the distance to pass on, the fold is longer than a loop.
+    // What they say.
     fn codes_summary(&self) -> Summary
         ensures { SummaryOf (codes_by self.now) result }
     {
@@ -201,10 +239,8 @@ impl Span<'_, '_> {
             slots: 0,
             frames: Ok(()),
         };
-        let mut sofar = self.source.start();
-        for i in self.first..self.past {
-            t = with_piece(t, self.piece_in(sofar, i));
-            sofar = self.moved_in(sofar, i);
+        for c in self.pieces() {
+            t = with_piece(t, c);
         }
         t
     }
@@ -215,10 +251,8 @@ impl Span<'_, '_> {
         ensures { result ≡ frame_byte 0 (codes_by self.now) }
     {
         let mut b = 0;
-        let mut sofar = self.source.start();
-        for i in self.first..self.past {
-            b = piece_frame(b, self.piece_in(sofar, i));
-            sofar = self.moved_in(sofar, i);
+        for c in self.pieces() {
+            b = piece_frame(b, c);
         }
         b
     }
@@ -230,12 +264,10 @@ impl Span<'_, '_> {
         ensures { Wrote out.old out.new at result (reversed (codes_by self.now)) }
     {
         let mut to = at + 2 * held;
-        let mut sofar = self.source.start();
-        for i in self.first..self.past {
-            let c = piece_nodes(self.piece_in(sofar, i));
-            to -= c.count;
-            put_nodes(out, to, c);
-            sofar = self.moved_in(sofar, i);
+        for c in self.pieces() {
+            let n = piece_nodes(c);
+            to -= n.count;
+            put_nodes(out, to, n);
         }
         at + 2 * held
     }
