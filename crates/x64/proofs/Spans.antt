@@ -36,12 +36,12 @@ stride_most (Rows m) = omega arith
 pub direct_askable : {s : Source} {fs list : List ℕ} {k : ℕ} → s ≡ Direct → Askable s fs list k → Askable Direct fs list k
 direct_askable e a = rw e at a
 
-pub direct_held : {s : Source} (list : List ℕ) (first past : ℕ) → s ≡ Direct → 5 * past ≤ length list → HeldBy s list first past
+pub direct_held : {s : Source} (list : List ℕ) (first past : ℕ) → s ≡ Direct → code_stride * past ≤ length list → HeldBy s list first past
 unfolding HeldBy
 direct_held list first past e h = rw e h
 
 module _ {fs list : List ℕ} {k : ℕ} (a : Askable Direct fs list k) where
-  pub direct_bounds : (5 * k + 5 ≤ length fs) × (field prologue_stride fs k 3 + field prologue_stride fs k 4 ≤ count code_stride list) × (field prologue_stride fs k 4 ≤ most_records)
+  pub direct_bounds : (prologue_stride * k + prologue_stride ≤ length fs) × (field prologue_stride fs k 3 + field prologue_stride fs k 4 ≤ count code_stride list) × (field prologue_stride fs k 4 ≤ most_records)
   unfolding stride_of ListedAt
   direct_bounds = (a.within, a.records.0, a.records.1)
 
@@ -97,7 +97,7 @@ module _ (m : X64Machine) (fs list : List ℕ) (k : ℕ) where
   found_rows (Err q) h = rows_refused q h
 
 module _ {m : X64Machine} {fs list : List ℕ} {k : ℕ} (a : Askable (Rows m) fs list k) where
-  pub rows_bounds : (18 * k + 18 ≤ length fs) × RowsReady list (field function_stride fs k 2) (field function_stride fs k 3) × (field function_stride fs k 3 ≤ most_records)
+  pub rows_bounds : (function_stride * k + function_stride ≤ length fs) × RowsReady list (field function_stride fs k 2) (field function_stride fs k 3) × (field function_stride fs k 3 ≤ most_records)
   unfolding stride_of ListedAt
   rows_bounds = (a.within, a.records.0, a.records.1)
 

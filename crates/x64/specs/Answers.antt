@@ -1,7 +1,7 @@
 -- Both writers' answers by the numbers of functions one after another.
-use Rattle.std.specs.Prelude.{◌≡◌, ℕ, zero, suc, ◌+◌, List, [], map}
+use Rattle.std.specs.Prelude.{◌≡◌, ℕ, zero, suc, ◌+◌, ◌*◌, List, [], map}
 use Rattle.std.proofs.Math.Option.{Option, none}
-use Rattle.format.specs.Lists.{Prologue, field}
+use Rattle.format.specs.Lists.{Prologue, field, relocation_stride}
 use Rattle.format.specs.Questions.{Question, and_then, no_at}
 use Rattle.format.specs.Writer.{joined}
 use Rattle.format.specs.X64.{code_no, first_no, slots, info_bytes}
@@ -12,6 +12,16 @@ use Rattle.format.specs.Coded.{numbered}
 use Rattle.format.proofs.Asked.{Asked}
 use Rattle.std.specs.Prelude.{Result, Ok, Err}
 use Rattle.std.specs.Result.{result_and}
+
+-- a RUNTIME_FUNCTION: its bytes, its relocations and their numbers
+abbrev pub runtime_bytes : ℕ
+runtime_bytes = 12
+
+abbrev pub runtime_relocations : ℕ
+runtime_relocations = 3
+
+abbrev pub runtime_numbers : ℕ
+runtime_numbers = runtime_relocations * relocation_stride
 
 -- what a RUNTIME_FUNCTION names: a symbol and a length; and those of function k
 abbrev pub named : (symbol size : ℕ) → Prologue

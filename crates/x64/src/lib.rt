@@ -20,7 +20,7 @@ ghost use Rattle.x64.specs.declared.given.Source.TheVariants.{Direct, Rows};
 ghost use Rattle.x64.specs.Listed.{stride_of};
 ghost use Rattle.x64.specs.Sources.{pushed_by, DirectSpan, RowsFound, long_no, rows_no, codes_no};
 ghost use Rattle.x64.specs.Given.{next_piece, next_moved, pieces_left, pieces_by, codes_by, info_by, result_of, FoundIn, named_in, AllAgreed, functions_of, infos_in, asks_in, table_in};
-ghost use Rattle.x64.specs.Answers.{Summed, SummaryOf, refused_at};
+ghost use Rattle.x64.specs.Answers.{runtime_bytes, runtime_numbers, Summed, SummaryOf, refused_at};
 
 use codes::{Code, code_no, frame_no, frame_or, head, nodes, nodes_size, put_nodes};
 use format::{Counts, Question, Refusal, Seh};
@@ -72,13 +72,20 @@ impl Input<'_, '_, '_> {
 
 // ---- RUNTIME_FUNCTION
 
+// Its bytes, its relocations and their numbers.
+const RUNTIME_BYTES: usize = 12;
+
+const RUNTIME_RELOCATIONS: usize = 3;
+
+const RUNTIME_NUMBERS: usize = RUNTIME_RELOCATIONS * relocs::RELOCATION_STRIDE;
+
 impl Input<'_, '_, '_> {
     // The relocations of function k's row: its start, its end and its record.
     fn runtime(&self, k: usize, out: &mut [u64], at: usize) -> usize
-        requires { (k < self.now.count) × (at + 15 ≤ length out.old) }
-        ensures { Wrote out.old out.new at result (numbers_of (runtime_relocs (12 * k) (named_in self.now k))) }
+        requires { (k < self.now.count) × (at + runtime_numbers ≤ length out.old) }
+        ensures { Wrote out.old out.new at result (numbers_of (runtime_relocs (runtime_bytes * k) (named_in self.now k))) }
     {
-        let place = (12 * k) as u64;
+        let place = (RUNTIME_BYTES * k) as u64;
         let symbol = self.number_at(k, 0);
         let size = self.number_at(k, 1);
         let a = relocation(out, at, place, symbol, relocs::IMAGE, 4, 0);
@@ -96,7 +103,7 @@ impl Input<'_, '_, '_> {
 
     // The relocations of all functions.
     fn put_runtime(&self, out: &mut [u64]) -> usize
-        requires { 15 * self.now.count ≤ length out.old }
+        requires { runtime_numbers * self.now.count ≤ length out.old }
         ensures { Wrote out.old out.new 0 result (numbers_of (runtime_from 0 (each (named_in self.now) 0 self.now.count))) }
     {
         let mut to = 0;
@@ -470,17 +477,17 @@ impl Input<'_, '_, '_> {
 
     // All results, where they have room.
     fn put_all(&self, sites: usize, to: &mut Output) -> Result<Option<Counts>, Refusal>
-        requires { AllAgreed self.now × (sites ≡ length (infos_in self.now)) × (self.now.count ≤ length to.old.places.now) × (12 * self.now.count ≤ length to.old.bytes.now) × (15 * self.now.count ≤ length to.old.relocations.now) × (sites ≤ length to.old.sites.now) }
+        requires { AllAgreed self.now × (sites ≡ length (infos_in self.now)) × (self.now.count ≤ length to.old.places.now) × (runtime_bytes * self.now.count ≤ length to.old.bytes.now) × (runtime_numbers * self.now.count ≤ length to.old.relocations.now) × (sites ≤ length to.old.sites.now) }
         ensures { WritesTo (accepted (table_in self.now)) (numbered_at result) to.old to.new }
     {
         let n = self.count;
-        fill(to.bytes, 0, 12 * n);
+        fill(to.bytes, 0, RUNTIME_BYTES * n);
         self.put_runtime(to.relocations);
         self.put_infos(to.places, to.sites);
         Ok(Some(Counts {
             places: n as u64,
-            bytes: (12 * n) as u64,
-            relocations: (3 * n) as u64,
+            bytes: (RUNTIME_BYTES * n) as u64,
+            relocations: (RUNTIME_RELOCATIONS * n) as u64,
             sites: sites as u64,
         }))
     }
@@ -494,8 +501,8 @@ impl Input<'_, '_, '_> {
         let sites = self.total();
         let needed = Counts {
             places: n as u64,
-            bytes: (12 * n) as u64,
-            relocations: (15 * n) as u64,
+            bytes: (RUNTIME_BYTES * n) as u64,
+            relocations: (RUNTIME_NUMBERS * n) as u64,
             sites: sites as u64,
         };
         room(needed, to.lent())?;
