@@ -60,13 +60,13 @@ impl Source<'_> {
 }
 
 impl Input<'_, '_, '_> {
-    // Number j of function k's record.
-    // Kept: the stride is a function's or a prologue's, so no array type has the record; written out, each read owes its product and sum.
-    fn number_at(&self, k: usize, j: usize) -> u64
-        requires { (k < self.now.count) × (j < 2) }
-        ensures { result ≡ field (stride_of self.now.source) self.now.functions.now k j }
+    // The symbol and the length of function k, which both kinds of record begin with.
+    fn named(&self, k: usize) -> (u64, u64)
+        requires { k < self.now.count }
+        ensures { result ≡ (field (stride_of self.now.source) self.now.functions.now k 0, field (stride_of self.now.source) self.now.functions.now k 1) }
     {
-        self.functions[self.source.stride() * k + j]
+        let at = self.source.stride() * k;
+        (self.functions[at], self.functions[at + 1])
     }
 }
 
@@ -86,8 +86,7 @@ impl Input<'_, '_, '_> {
         ensures { Wrote out.old out.new at result (numbers_of (runtime_relocs (runtime_bytes * k) (named_in self.now k))) }
     {
         let place = (RUNTIME_BYTES * k) as u64;
-        let symbol = self.number_at(k, 0);
-        let size = self.number_at(k, 1);
+        let (symbol, size) = self.named(k);
         let a = relocation(out, at, place, symbol, relocs::IMAGE, 4, 0);
         let b = relocation(out, a, place + 4, symbol, relocs::IMAGE, 4, size);
         relocation(
@@ -395,13 +394,10 @@ fn long_no(size: u64) -> Result<(), Question>
 fn refused_at(k: usize, asked: Result<(), Question>) -> Result<(), Refusal>
     ensures { numbered_at result ≡ refused_at k (numbered asked) }
 {
-    match asked {
-        Ok(()) => Ok(()),
-        Err(question) => Err(Refusal {
-            question,
-            position: k as u64,
-        }),
-    }
+    asked.map_err(|question| Refusal {
+        question,
+        position: k as u64,
+    })
 }
 
 impl Input<'_, '_, '_> {
@@ -410,7 +406,8 @@ impl Input<'_, '_, '_> {
         requires { k < self.now.count }
         ensures { numbered result ≡ yes_or_no (long_no (field (stride_of self.now.source) self.now.functions.now k 1)) }
     {
-        long_no(self.number_at(k, 1))
+        let (_, size) = self.named(k);
+        long_no(size)
     }
 
     fn rows_asked(&self, k: usize) -> Result<(), Question>
