@@ -247,18 +247,18 @@ pub fn returned(
 // ---- the frames
 
 // The position of its function in the list, and the pc or return address.
-#[derive(Clone, Copy)]
+#[derive(Clone, Copy, Default)]
 pub struct Frame {
     pub position: u64,
     pub pc: u64,
 }
 
-// The first n frames stored, two numbers each.
-pub fn store(frames: &[Frame], n: usize, out: &mut [u64])
-    requires { (n ≤ length frames.now) × (2 * n ≤ length out.old) }
-    ensures { out.new ≡ put out.old 0 (frame_numbers (take n frames.now)) }
+// The frames stored, two numbers each.
+pub fn store(frames: &[Frame], out: &mut [u64])
+    requires { 2 * length frames.now ≤ length out.old }
+    ensures { out.new ≡ put out.old 0 (frame_numbers frames.now) }
 {
-    for i in 0..n {
+    for i in 0..frames.len() {
         out[2 * i] = frames[i].position;
         out[2 * i + 1] = frames[i].pc;
     }
