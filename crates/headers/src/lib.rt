@@ -10,7 +10,7 @@ ghost use Rattle.header_keys.specs.Functions.{key_in};
 ghost use Rattle.format.proofs.SectionSize.{Aligned};
 ghost use Rattle.headers.specs.Entries.{Closed};
 ghost use Rattle.header_keys.specs.Kinds.{lsda_of, named_by, asked_kind, kind_in};
-ghost use Rattle.headers.specs.Kinds.{head_in, EncodingFits, NamedFits, KindFits, ending, middle, flag, named_letters, named_data, header_reloc_count};
+ghost use Rattle.headers.specs.Kinds.{head_in, EncodingFits, NamedFits, KindFits, ending, middle, named_letters, named_data, header_reloc_count};
 ghost use Rattle.headers.specs.Written.{middle_of, tail_by, fields_of, starts_of, header_of};
 
 use format::Machine;
@@ -122,13 +122,6 @@ fn plain_header(out: &mut [u8], at: usize, f: &Function) -> usize
     leb::le(out, b, 2, 0x1b01)
 }
 
-#[tactic(auto, unfolding(crate::specs::Kinds::flag, format::specs::Prelude::pick))]
-fn flag(b: bool) -> u64
-    ensures { (result ≡ flag b) × (result ≤ 1) }
-{
-    u64::from(b)
-}
-
 // z, P, L where there is an LSDA, R.
 fn named_letters(out: &mut [u8], at: usize, lsda: bool) -> usize
     requires { at + length (named_letters lsda) ≤ length out.old }
@@ -171,7 +164,7 @@ fn named_header(out: &mut [u8], at: usize, f: &Function, p: &Personality) -> usi
     let a = named_letters(out, at, has_lsda);
     let b = middle(out, a, f);
     let size = numbers::pointer_bytes(f.machine.word, p.encoding);
-    let c = leb::uleb(out, b, 2 + size + flag(has_lsda));
+    let c = leb::uleb(out, b, 2 + size + u64::from(has_lsda));
     named_data(out, c, p, size as usize)
 }
 
@@ -253,7 +246,7 @@ fn middle_size(word: u64, ret: u64, signal: bool) -> usize
     requires { word ≤ 8 }
     ensures { (result ≡ length (middle word ret signal)) × (result ≤ 23) }
 {
-    2 + flag(signal) as usize + leb::sleb_size(data_factor(word)) + leb::uleb_size(ret)
+    2 + usize::from(signal) + leb::sleb_size(data_factor(word)) + leb::uleb_size(ret)
 }
 
 // How many letters the augmentation string has.
@@ -263,7 +256,7 @@ fn letters_size(e: &Extent) -> usize
     match kind_of(e) {
         Kind::Plain => 2,
         Kind::Personal => 4,
-        Kind::Named(p) => 3 + flag(p.lsda.is_some()) as usize,
+        Kind::Named(p) => 3 + usize::from(p.lsda.is_some()),
     }
 }
 
@@ -277,7 +270,7 @@ fn data_size(word: u64, e: &Extent) -> usize
         Kind::Personal => 7,
         Kind::Named(p) => {
             let pointer = numbers::pointer_bytes(word, p.encoding);
-            2 + pointer as usize + flag(p.lsda.is_some()) as usize
+            2 + pointer as usize + usize::from(p.lsda.is_some())
         }
     }
 }

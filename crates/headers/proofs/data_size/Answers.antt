@@ -2,14 +2,14 @@
 use native.Mathlib.Omega.{arith}
 use Rattle.format.specs.Headers.{augmentation_data}
 use Rattle.header_keys.proofs.KindMeans.{decides_plain, decides_personal, decides_named}
-use Rattle.headers.proofs.Lengths.{data_length}
+use Rattle.headers.proofs.Lengths.{bit_low, data_length}
 use Rattle.headers.proofs.data_size.Goals as goal
 
 pub overflow_add-result : goal.overflow_add-result
 overflow_add-result c = omega (arith, c.pointer_bytes-pointer.ensures.1 c.requires)
 
 pub overflow_add-result-in-Named : goal.overflow_add-result-in-Named
-overflow_add-result-in-Named c = omega (arith, c.pointer_bytes-pointer.ensures.1 c.requires, c.flag.ensures.1)
+overflow_add-result-in-Named c = omega (arith, c.pointer_bytes-pointer.ensures.1 c.requires, c.from.ensures, bit_low c.is_some.result)
 
 pub returns-in-Plain : goal.returns-in-Plain
 unfolding augmentation_data
@@ -22,6 +22,6 @@ returns-in-Personal c = (rw (decides_personal c.args.e.now c.kind_of.ensures c.i
 pub returns-in-Named : goal.returns-in-Named
 returns-in-Named c = (
   rw (decides_named c.args.e.now c.kind_of.ensures c.in-Named.is, data_length c.args.word c.in-Named.p)
-      (omega (arith, rw c.is_some.ensures at c.flag.ensures.0, c.pointer_bytes-pointer.ensures.0)),
-  omega (arith, c.flag.ensures.1, c.pointer_bytes-pointer.ensures.1 c.requires),
+      (omega (arith, rw c.is_some.ensures at c.from.ensures, c.pointer_bytes-pointer.ensures.0)),
+  omega (arith, c.from.ensures, bit_low c.is_some.result, c.pointer_bytes-pointer.ensures.1 c.requires),
 )

@@ -2,7 +2,7 @@
 use native.Mathlib.Omega.{arith}
 use Rattle.format.specs.Headers.{letters}
 use Rattle.header_keys.proofs.KindMeans.{decides_plain, decides_personal, decides_named}
-use Rattle.headers.proofs.Lengths.{letters-length}
+use Rattle.headers.proofs.Lengths.{bit_low, letters-length}
 use Rattle.headers.proofs.letters_size.Goals as goal
 
 pub returns-in-Plain : goal.returns-in-Plain
@@ -16,6 +16,6 @@ returns-in-Personal c = (rw (decides_personal c.args.e.now c.kind_of.ensures c.i
 pub returns-in-Named : goal.returns-in-Named
 returns-in-Named c = (
   rw (decides_named c.args.e.now c.kind_of.ensures c.in-Named.is, letters-length c.in-Named.p)
-      (omega (arith, rw c.is_some.ensures at c.flag.ensures.0)),
-  omega (arith, c.flag.ensures.1),
+      (omega (arith, rw c.is_some.ensures at c.from.ensures)),
+  omega (arith, c.from.ensures, bit_low c.is_some.result),
 )
