@@ -1,32 +1,13 @@
 -- Steps part by part, as the code writes them, and how long they are.
-use mathlib.Core.Path.{◌≡◌, refl}
-use mathlib.Core.List.{[], ◌∷◌, ◌++◌}
+use mathlib.Core.Path.{◌≡◌}
+use mathlib.Core.List.{[]}
 use mathlib.Core.Logic.{◌≢◌}
-use Prim.Native.Nat.{ℕ, zero, suc, ◌+◌, ◌≤◌, ◌<◌}
+use Prim.Native.Nat.{ℕ, ◌+◌, ◌≤◌, ◌<◌}
 use native.Mathlib.Omega.{arith}
 use lib.ListN.{length}
-use Rattle.format.specs.Prelude.{pick}
-use Rattle.format.specs.Leb.{little}
 use Rattle.format.specs.Rows.{step_in, step_form, step_bytes}
 use Rattle.format.proofs.Choice.{if-le, if-gt, if-eq, if-ne, either}
 use Rattle.format.proofs.LebBack.{little-length}
-use Rattle.rows.specs.Operands.{step_opcode, step_width}
-
--- ---- a step in a form
-
-pub step_short : {form : ℕ} (by : ℕ) → form ≡ 0 → step_in form by ≡ (0x40 + by) ∷ []
-unfolding step_in
-step_short by e = rw e
-
-pub step_long : (form by : ℕ) → form ≢ 0 → step_in form by ≡ (step_opcode form ∷ []) ++ little (step_width form) by
-unfolding step_in step_opcode step_width pick
-step_long zero by h = absurd (h refl)
-step_long (suc zero) by h = refl
-step_long (suc (suc zero)) by h = refl
-step_long (suc (suc (suc k))) by h =
-    let n : suc (suc (suc k)) ≢ 1 = λ e. omega arith in
-    let m : suc (suc (suc k)) ≢ 2 = λ e. omega arith in
-    rw (if-ne {X = ℕ} _ _ 0x02 _ n, if-ne {X = ℕ} _ _ 0x03 _ m, if-ne {X = ℕ} _ _ 1 _ n, if-ne {X = ℕ} _ _ 2 _ m)
 
 -- ---- the shortest form
 

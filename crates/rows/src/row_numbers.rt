@@ -99,16 +99,12 @@ impl RowNumbers {
         ensures { Wrote out.old out.new at result (row_bytes word (means self)) }
     {
         let g = self.register as u16;
+        let z = crate::signed32(self.operand);
         match self.kind {
-            kinds::DEF_CFA => crate::def_cfa_in(out, at, word, g, self.operand),
-            kinds::DEF_CFA_OFFSET => crate::def_cfa_offset_in(out, at, word, self.operand),
+            kinds::DEF_CFA => crate::def_cfa(out, at, word, g, z),
+            kinds::DEF_CFA_OFFSET => crate::def_cfa_offset(out, at, word, z),
             kinds::DEF_CFA_REGISTER => crate::named(out, at, opcodes::DW_CFA_DEF_CFA_REGISTER, g),
-            kinds::OFFSET => crate::saved(
-                out,
-                at,
-                g,
-                crate::factored(word, crate::signed32(self.operand)),
-            ),
+            kinds::OFFSET => crate::saved(out, at, g, crate::factored(word, z)),
             kinds::RESTORE => crate::opcode(
                 out,
                 at,

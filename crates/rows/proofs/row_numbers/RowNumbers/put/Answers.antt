@@ -12,20 +12,14 @@ use Rattle.rows.proofs.row_numbers.RowNumbers.put.Goals as goal
 pub overflow_cast-g : goal.overflow_cast-g
 overflow_cast-g c = record { fits = (row_numbers c.args.self.kind c.args.self.register c.args.self.operand c.args.self.ok).reg_low }
 
-pub signed32-requires : goal.signed32-requires
-signed32-requires c = (row_numbers c.args.self.kind c.args.self.register c.args.self.operand c.args.self.ok).off_low
-
-pub def_cfa_in-requires : goal.def_cfa_in-requires
-def_cfa_in-requires c = (c.requires.0, c.requires.1, (row_numbers c.args.self.kind c.args.self.register c.args.self.operand c.args.self.ok).off_low, rw (bytes_0 c.args.word c.args.self.register c.args.self.operand c.in-0.is) at c.requires.2)
-
-pub def_cfa_offset_in-requires : goal.def_cfa_offset_in-requires
-def_cfa_offset_in-requires c = (c.requires.0, c.requires.1, (row_numbers c.args.self.kind c.args.self.register c.args.self.operand c.args.self.ok).off_low, rw (bytes_1 c.args.word c.args.self.register c.args.self.operand c.in-1.is) at c.requires.2)
+pub signed32-z-requires : goal.signed32-z-requires
+signed32-z-requires c = (row_numbers c.args.self.kind c.args.self.register c.args.self.operand c.args.self.ok).off_low
 
 pub named-requires : goal.named-requires
 named-requires c = let h = rw (bytes_2 c.args.word c.args.self.register c.args.self.operand c.in-2.is) at c.requires.2 in search rules
 
 pub saved-requires : goal.saved-requires
-saved-requires c = rw (passed c.factored.result c.factored.type_inv ∙ c.factored.ensures ∙ ap (factor c.args.word) (passed c.signed32.result c.signed32.type_inv ∙ c.signed32.ensures)) (rw (bytes_3 c.args.word c.args.self.register c.args.self.operand c.in-3.is) at c.requires.2)
+saved-requires c = rw (passed c.factored.result c.factored.type_inv ∙ c.factored.ensures ∙ ap (factor c.args.word) (passed c.signed32-z.result c.signed32-z.type_inv ∙ c.signed32-z.ensures)) (rw (bytes_3 c.args.word c.args.self.register c.args.self.operand c.in-3.is) at c.requires.2)
 
 pub opcode-requires : goal.opcode-requires
 opcode-requires c = (omega arith, rw (bytes_4 c.args.word c.args.self.register c.args.self.operand c.in-4.is) at c.requires.2)
@@ -51,17 +45,11 @@ in_register-requires c = let h = simp length-append at (rw (bytes_10 c.args.word
 pub byte-requires-in_default : goal.byte-requires-in_default
 byte-requires-in_default c = let h = rw (bytes_rest c.args.word c.args.self.register c.args.self.operand c.in_default.in_default-own.rest.0.0.0.0.0.0.0.0.0.1 c.in_default.in_default-own.rest.0.0.0.0.0.0.0.0.1 c.in_default.in_default-own.rest.0.0.0.0.0.0.0.1 c.in_default.in_default-own.rest.0.0.0.0.0.0.1 c.in_default.in_default-own.rest.0.0.0.0.0.1 c.in_default.in_default-own.rest.0.0.0.0.1 c.in_default.in_default-own.rest.0.0.0.1 c.in_default.in_default-own.rest.0.0.1 c.in_default.in_default-own.rest.0.1 c.in_default.in_default-own.rest.1) at c.requires.2 in search rules
 
-pub returns-in-0 : goal.returns-in-0
-returns-in-0 c = rw (bytes_0 c.args.word c.args.self.register c.args.self.operand c.in-0.is) c.def_cfa_in.ensures
-
-pub returns-in-1 : goal.returns-in-1
-returns-in-1 c = rw (bytes_1 c.args.word c.args.self.register c.args.self.operand c.in-1.is) c.def_cfa_offset_in.ensures
-
 pub returns-in-2 : goal.returns-in-2
 returns-in-2 c = rw (bytes_2 c.args.word c.args.self.register c.args.self.operand c.in-2.is) c.named.ensures
 
 pub returns-in-3 : goal.returns-in-3
-returns-in-3 c = rw (bytes_3 c.args.word c.args.self.register c.args.self.operand c.in-3.is) (rw (passed c.factored.result c.factored.type_inv ∙ c.factored.ensures ∙ ap (factor c.args.word) (passed c.signed32.result c.signed32.type_inv ∙ c.signed32.ensures)) at c.saved.ensures)
+returns-in-3 c = rw (bytes_3 c.args.word c.args.self.register c.args.self.operand c.in-3.is) (rw (passed c.factored.result c.factored.type_inv ∙ c.factored.ensures ∙ ap (factor c.args.word) (passed c.signed32-z.result c.signed32-z.type_inv ∙ c.signed32-z.ensures)) at c.saved.ensures)
 
 pub returns-in-4 : goal.returns-in-4
 returns-in-4 c = rw (bytes_4 c.args.word c.args.self.register c.args.self.operand c.in-4.is) c.opcode.ensures
@@ -83,3 +71,15 @@ returns-in-10 c = rw (bytes_10 c.args.word c.args.self.register c.args.self.oper
 
 pub returns-in_default : goal.returns-in_default
 returns-in_default c = rw (bytes_rest c.args.word c.args.self.register c.args.self.operand c.in_default.in_default-own.rest.0.0.0.0.0.0.0.0.0.1 c.in_default.in_default-own.rest.0.0.0.0.0.0.0.0.1 c.in_default.in_default-own.rest.0.0.0.0.0.0.0.1 c.in_default.in_default-own.rest.0.0.0.0.0.0.1 c.in_default.in_default-own.rest.0.0.0.0.0.1 c.in_default.in_default-own.rest.0.0.0.0.1 c.in_default.in_default-own.rest.0.0.0.1 c.in_default.in_default-own.rest.0.0.1 c.in_default.in_default-own.rest.0.1 c.in_default.in_default-own.rest.1) c.byte-in_default.ensures
+
+pub def_cfa-requires : goal.def_cfa-requires
+def_cfa-requires c = (c.requires.0, c.requires.1, rw (passed c.signed32-z.result c.signed32-z.type_inv ∙ c.signed32-z.ensures) (rw (bytes_0 c.args.word c.args.self.register c.args.self.operand c.in-0.is) at c.requires.2))
+
+pub def_cfa_offset-requires : goal.def_cfa_offset-requires
+def_cfa_offset-requires c = (c.requires.0, c.requires.1, rw (passed c.signed32-z.result c.signed32-z.type_inv ∙ c.signed32-z.ensures) (rw (bytes_1 c.args.word c.args.self.register c.args.self.operand c.in-1.is) at c.requires.2))
+
+pub returns-in-0 : goal.returns-in-0
+returns-in-0 c = rw (bytes_0 c.args.word c.args.self.register c.args.self.operand c.in-0.is) (rw (passed c.signed32-z.result c.signed32-z.type_inv ∙ c.signed32-z.ensures) at c.def_cfa.ensures)
+
+pub returns-in-1 : goal.returns-in-1
+returns-in-1 c = rw (bytes_1 c.args.word c.args.self.register c.args.self.operand c.in-1.is) (rw (passed c.signed32-z.result c.signed32-z.type_inv ∙ c.signed32-z.ensures) at c.def_cfa_offset.ensures)
