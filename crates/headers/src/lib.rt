@@ -18,6 +18,7 @@ use header_keys::written::Function;
 use header_keys::{Kind, kind_of};
 use lists::{Extent, Lsda, Personality};
 use numbers::encodings;
+use rows::Word;
 
 // ---- the end of an entry
 
@@ -218,10 +219,13 @@ fn starts(out: &mut [u8], at: usize, f: &Function) -> usize
     ensures { Wrote out.old out.new at result (starts_of f.now) }
 {
     let n = header_keys::leading_count(f.machine, &f.extent, f.rows);
+    let word = Word {
+        bytes: f.machine.word,
+    };
     let mut p = at;
     for i in 0..n {
         let row = header_keys::leading_at(f.machine, &f.extent, f.rows, i);
-        p = rows::row(out, p, f.machine.word, row);
+        p = rows::row(out, p, word, row);
     }
     p
 }
@@ -231,10 +235,13 @@ fn starts_size(f: &Function) -> usize
     ensures { result ≡ length (starts_of f.now) }
 {
     let n = header_keys::leading_count(f.machine, &f.extent, f.rows);
+    let word = Word {
+        bytes: f.machine.word,
+    };
     let mut size = 0;
     for i in 0..n {
         let row = header_keys::leading_at(f.machine, &f.extent, f.rows, i);
-        size += rows::row_size(f.machine.word, row);
+        size += rows::row_size(word, row);
     }
     size
 }

@@ -267,15 +267,20 @@ pub fn offset(r: Row) -> i64
 
 // ---- a row written, and its size
 
-// Kept: a writer's buffer and place stand as in leb, and the word beside them is one number of the machine. A struct of the three
-// would be made anew for each row.
+// A machine's word, by its bytes.
+#[derive(Clone, Copy)]
+pub struct Word {
+    pub bytes: u64,
+    pub ghost small: { (2 ≤ bytes) × (bytes ≤ 8) },
+}
+
+// Kept: a writer's buffer and place stand as in leb.
 
 // An offset divided by minus the word.
-fn factored(word: u64, z: i64) -> i64
-    requires { (2 ≤ word) × (word ≤ 8) }
-    ensures { result ≡ factor word z }
+fn factored(word: Word, z: i64) -> i64
+    ensures { result ≡ factor word.bytes z }
 {
-    z / (0 - word as i64)
+    z / (0 - word.bytes as i64)
 }
 
 // One opcode or the other, by the offset's sign.
@@ -290,9 +295,9 @@ fn by_sign(plain: u8, signed: u8, z: i64) -> u8
 }
 
 // The offset of a frame address: plain, or signed and factored where it is negative.
-fn frame_offset(out: &mut [u8], at: usize, word: u64, z: i64) -> usize
-    requires { (2 ≤ word) × (word ≤ 8) × (at + length (offset_bytes word z) ≤ length out.old) }
-    ensures { Wrote out.old out.new at result (offset_bytes word z) }
+fn frame_offset(out: &mut [u8], at: usize, word: Word, z: i64) -> usize
+    requires { at + length (offset_bytes word.bytes z) ≤ length out.old }
+    ensures { Wrote out.old out.new at result (offset_bytes word.bytes z) }
 {
     if z < 0 {
         return leb::sleb(out, at, factored(word, z));
@@ -300,9 +305,8 @@ fn frame_offset(out: &mut [u8], at: usize, word: u64, z: i64) -> usize
     leb::uleb(out, at, z as u64)
 }
 
-fn frame_offset_size(word: u64, z: i64) -> usize
-    requires { (2 ≤ word) × (word ≤ 8) }
-    ensures { result ≡ length (offset_bytes word z) }
+fn frame_offset_size(word: Word, z: i64) -> usize
+    ensures { result ≡ length (offset_bytes word.bytes z) }
 {
     if z < 0 {
         return leb::sleb_size(factored(word, z));
@@ -311,9 +315,9 @@ fn frame_offset_size(word: u64, z: i64) -> usize
 }
 
 // DW_CFA_def_cfa and DW_CFA_def_cfa_offset.
-fn def_cfa(out: &mut [u8], at: usize, word: u64, reg: u16, z: i64) -> usize
-    requires { (2 ≤ word) × (word ≤ 8) × (at + length (cfa_bytes word 0x0c 0x12 (uleb reg) z) ≤ length out.old) }
-    ensures { Wrote out.old out.new at result (cfa_bytes word 0x0c 0x12 (uleb reg) z) }
+fn def_cfa(out: &mut [u8], at: usize, word: Word, reg: u16, z: i64) -> usize
+    requires { at + length (cfa_bytes word.bytes 0x0c 0x12 (uleb reg) z) ≤ length out.old }
+    ensures { Wrote out.old out.new at result (cfa_bytes word.bytes 0x0c 0x12 (uleb reg) z) }
 {
     let a = leb::byte(
         out,
@@ -324,9 +328,9 @@ fn def_cfa(out: &mut [u8], at: usize, word: u64, reg: u16, z: i64) -> usize
     frame_offset(out, b, word, z)
 }
 
-fn def_cfa_offset(out: &mut [u8], at: usize, word: u64, z: i64) -> usize
-    requires { (2 ≤ word) × (word ≤ 8) × (at + length (cfa_bytes word 0x0e 0x13 [] z) ≤ length out.old) }
-    ensures { Wrote out.old out.new at result (cfa_bytes word 0x0e 0x13 [] z) }
+fn def_cfa_offset(out: &mut [u8], at: usize, word: Word, z: i64) -> usize
+    requires { at + length (cfa_bytes word.bytes 0x0e 0x13 [] z) ≤ length out.old }
+    ensures { Wrote out.old out.new at result (cfa_bytes word.bytes 0x0e 0x13 [] z) }
 {
     let a = leb::byte(
         out,
@@ -408,9 +412,9 @@ pub fn saved_size(reg: u16, z: i64) -> usize
 }
 
 // A row's operation.
-pub fn row(out: &mut [u8], at: usize, word: u64, r: Row) -> usize
-    requires { (2 ≤ word) × (word ≤ 8) × (at + length (row_bytes word r) ≤ length out.old) }
-    ensures { Wrote out.old out.new at result (row_bytes word r) }
+pub fn row(out: &mut [u8], at: usize, word: Word, r: Row) -> usize
+    requires { at + length (row_bytes word.bytes r) ≤ length out.old }
+    ensures { Wrote out.old out.new at result (row_bytes word.bytes r) }
 {
     match r {
         Row::DefCfa(reg, z) => def_cfa(out, at, word, reg, z),
@@ -433,9 +437,8 @@ pub fn row(out: &mut [u8], at: usize, word: u64, r: Row) -> usize
     }
 }
 
-pub fn row_size(word: u64, r: Row) -> usize
-    requires { (2 ≤ word) × (word ≤ 8) }
-    ensures { result ≡ length (row_bytes word r) }
+pub fn row_size(word: Word, r: Row) -> usize
+    ensures { result ≡ length (row_bytes word.bytes r) }
 {
     match r {
         Row::DefCfa(reg, z) => 1 + leb::uleb_size(reg as u64) + frame_offset_size(word, z),
@@ -514,7 +517,7 @@ pub fn surveyed(word: u64, rows: &[u64], i: usize) -> Option<usize>
     if !numbers.surely_whole(word) {
         return None;
     }
-    Some(numbers.size(word))
+    Some(numbers.size(Word { bytes: word }))
 }
 
 // ---- a step written, and its size
