@@ -4,6 +4,7 @@
 
 use format::{Operation, Row};
 use operations::fields::{Position, read_sleb, read_uleb};
+use rows::Word;
 use std::io;
 
 const UNSIGNED: [u64; 12] = [
@@ -219,12 +220,13 @@ fn signed(rt: &impl Print, i: usize, v: i64) -> io::Result<()> {
 
 // Nine bytes hold a row whose offset has 32 bits.
 fn write_row(rt: &impl Print, r: Row) -> io::Result<()> {
-    let size = rows::row_size(WORD, r);
+    let word = Word { bytes: WORD };
+    let size = rows::row_size(word, r);
     if 9 < size {
         return println!(rt; " long");
     }
     let mut out = [0u8; 9];
-    let n = rows::row(&mut out, 0, WORD, r);
+    let n = rows::row(&mut out, 0, word, r);
     let s = &out[..n];
     rest(rt, s, size, operations::operation(s, Position::START, WORD))
 }

@@ -10,6 +10,7 @@ ghost use Rattle.format.specs.Headers.{counted};
 ghost use Rattle.format.specs.Lists.{row_stride, row_at, numbers_of, count, most_records};
 ghost use Rattle.format.specs.CallSites.{site_bytes, site_added};
 ghost use Rattle.format.specs.Records.{record_relocs, set_kind, set_bytes, set_place, set_pair};
+ghost use Rattle.rows.specs.Forms.{operand_bytes};
 ghost use Rattle.lists.specs.Extents.{meant, meant_landing, meant_pair};
 ghost use Rattle.header_keys.specs.Functions.{LandingsReady, LabelsReady};
 ghost use Rattle.records.specs.Stepped.{stepped_row_bytes, SteppedRowReady, SurveyedRow, Surveyed};
@@ -24,6 +25,7 @@ use lists::{Extent, Landing, Pair};
 use numbers::encodings;
 use pair_list::Pairs;
 use rows::row_numbers::RowNumbers;
+use rows::{StepForm, Word};
 
 pub mod landing_list;
 pub mod pair_list;
@@ -88,7 +90,7 @@ fn stepped_row(out: &mut [u8], at: usize, run: &Run, from: u64, i: usize) -> usi
     ensures { Wrote out.old out.new at result (stepped_row_bytes run.now.word from (row_at run.now.rows.now i)) }
 {
     let a = rows::advance(out, at, rows::offset_at(run.rows, i) - from);
-    RowNumbers::at(run.rows, i).put(out, a, run.word)
+    RowNumbers::at(run.rows, i).put(out, a, Word { bytes: run.word })
 }
 
 fn stepped_row_size(run: &Run, from: u64, i: usize) -> usize
@@ -96,7 +98,7 @@ fn stepped_row_size(run: &Run, from: u64, i: usize) -> usize
     ensures { (result ≡ length (stepped_row_bytes run.now.word from (row_at run.now.rows.now i))) × (result ≤ 14) }
 {
     let step = rows::advance_size(rows::offset_at(run.rows, i) - from);
-    step + RowNumbers::at(run.rows, i).size(run.word)
+    step + RowNumbers::at(run.rows, i).size(Word { bytes: run.word })
 }
 
 // The rows of a run, with the steps between them.
@@ -282,43 +284,44 @@ pub fn record(out: &mut [u8], at: usize, f: &Function, cie: usize) -> usize
 
 // Where a linker writes a step of a form: on the opcode, or behind it.
 #[tactic(auto, unfolding(format::specs::Records::set_place))]
-fn set_place(place: u64, form: u64) -> u64
+fn set_place(place: u64, form: StepForm) -> u64
     requires { place < 2 ^ 63 }
-    ensures { result ≡ set_place place form }
+    ensures { result ≡ set_place place (operand_bytes form) }
 {
-    if form == 0 {
-        return place;
+    match form {
+        StepForm::InOpcode => place,
+        _ => place + 1,
     }
-    place + 1
 }
 
 // The kind of Set for a form; Sub's is one more.
 #[tactic(auto, unfolding(format::specs::Records::set_kind))]
-fn set_kind(form: u64) -> u64
-    ensures { (result ≡ set_kind form) × (result ≤ 11) }
+fn set_kind(form: StepForm) -> u64
+    ensures { (result ≡ set_kind (operand_bytes form)) × (result ≤ 11) }
 {
     match form {
-        0 => relocs::SET6,
-        1 => relocs::SET8,
-        2 => relocs::SET16,
-        _ => relocs::SET32,
+        StepForm::InOpcode => relocs::SET6,
+        StepForm::OneByte => relocs::SET8,
+        StepForm::TwoBytes => relocs::SET16,
+        StepForm::FourBytes => relocs::SET32,
     }
 }
 
+// The bytes of the opcode, or of the operand.
 #[tactic(auto, unfolding(format::specs::Records::set_bytes))]
-fn set_bytes(form: u64) -> u64
-    ensures { result ≡ set_bytes form }
+fn set_bytes(form: StepForm) -> u64
+    ensures { result ≡ set_bytes (operand_bytes form) }
 {
-    if form == 0 {
-        return 1;
+    match form {
+        StepForm::InOpcode => 1,
+        _ => form.operand_bytes() as u64,
     }
-    form
 }
 
 // The relocations of a step of a form between the two places of a pair: Set takes the second symbol, Sub the first.
-fn relaxed_advance(out: &mut [u64], i: usize, place: u64, form: u64, p: Pair) -> usize
+fn relaxed_advance(out: &mut [u64], i: usize, place: u64, form: StepForm, p: Pair) -> usize
     requires { (place < 2 ^ 63) × (i + 10 ≤ length out.old) }
-    ensures { Wrote out.old out.new i result (numbers_of (set_pair place form (some (meant_pair p)))) }
+    ensures { Wrote out.old out.new i result (numbers_of (set_pair place (operand_bytes form) (some (meant_pair p)))) }
 {
     let at = set_place(place, form);
     let kind = set_kind(form);

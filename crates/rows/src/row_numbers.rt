@@ -20,7 +20,9 @@ pub struct RowNumbers {
 }
 
 // The size of the operation of a row that its numbers say, by kind.
-// Kept: the numbers one by one. As a struct they would be stored for each row that is sized, though few rows come here (tried).
+// Kept: beside `row_size`, and the numbers one by one. `row_size(word, self.row())` in its place takes 3 instructions more for each row that is
+// sized: the row's place on the stack is made ready in front of the tests (tried). The writer's bar is 0.7 of the Rust's time, and it takes 0.92
+// (docs/PERFORMANCE.md).
 fn size_by_kind(word: Word, kind: u64, register: u64, operand: u64) -> usize
     requires { T (row_ok kind register operand) }
     ensures { result ≡ length (row_bytes word.bytes (row_of kind register operand)) }
@@ -93,7 +95,9 @@ impl RowNumbers {
     }
 
     // The row's operation.
-    // Kept: a writer's buffer and place, as in leb, and the word, one number of the machine.
+    // Kept: beside `row`. By `row(out, at, word, self.row())` a row is stored, passed on and matched again, 29 instructions more of some 115 for each
+    // row (tried); the writer takes 0.92 of the Rust's time (docs/PERFORMANCE.md), and would take more than all of it.
+    // Kept: a writer's buffer and place, as in leb.
     pub fn put(self, out: &mut [u8], at: usize, word: Word) -> usize
         requires { at + length (row_bytes word.bytes (means self)) ≤ length out.old }
         ensures { Wrote out.old out.new at result (row_bytes word.bytes (means self)) }

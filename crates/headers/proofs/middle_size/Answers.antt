@@ -15,7 +15,8 @@ overflow_add-result-3 c =
       arith,
       rw (passed c.data_factor.result c.data_factor.type_inv) at c.sleb_size.ensures,
       sleb_ten c.data_factor.result c.data_factor.type_inv,
-      c.from.ensures, bit_low c.args.signal,
+      c.from.ensures,
+      bit_low c.args.signal,
       c.uleb_size.ensures,
       uleb_ten c.args.ret (omega (arith, c.ranges)),
     )
