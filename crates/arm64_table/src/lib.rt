@@ -8,46 +8,26 @@ ghost use Rattle.format.specs.Leb.{little};
 ghost use Rattle.format.specs.Lists.{numbers_of, most_functions};
 ghost use Rattle.format.specs.Questions.{accepted, unless, fitting, per_function, room_in};
 ghost use Rattle.format.specs.Answers.{Writes};
+ghost use Rattle.format.specs.Coded.{numbered_at};
 ghost use Rattle.format.proofs.Asked.{question_of};
+ghost use Rattle.lists.specs.Lent.{room_of, WritesTo};
 ghost use Rattle.format.proofs.Wrote.{Wrote};
 ghost use Rattle.unwind.specs.Entries.{Exports};
 ghost use Rattle.arm64.specs.Writer.{function_asks, markers_from, rows_of, relocs_from, infos_of, arm64, arm64_answer};
-ghost use Rattle.arm64_table.specs.Tables.{relocs_by, reloc_count, mark_by, AllListed, lent_in};
-ghost use Rattle.arm64_table.specs.Lent.{room_of, WritesTo};
+ghost use Rattle.arm64_table.specs.Tables.{relocs_by, reloc_count, mark_by, AllListed};
 
 use arm64::fields;
 use arm64_function::{function_asks, info_size, packed_word, put_info};
 use arm64_lists::Lists;
-use format::{Counts, Refusal};
+use format::{Counts, Question, Refusal};
+use lists::output::Output;
 use relocs::{number, relocation};
 use unwind::{Written, written_of};
 
-// The lists that are lent for what is written: markers, the rows of .pdata, their relocations, and the records of .xdata.
-#[derive(Drop)]
-pub struct Output<'a> {
-    pub markers: &'a mut [u64],
-    pub bytes: &'a mut [u8],
-    pub relocations: &'a mut [u64],
-    pub info: &'a mut [u8],
-}
-
-impl Output<'_> {
-    // How many elements the lists have.
-    fn lent(&self) -> Counts
-        ensures { result ≡ lent_in self.now.markers.now self.now.bytes.now self.now.relocations.now self.now.info.now }
-    {
-        Counts {
-            places: self.markers.len() as u64,
-            bytes: self.bytes.len() as u64,
-            relocations: self.relocations.len() as u64,
-            sites: self.info.len() as u64,
-        }
-    }
-}
-
 // ---- one function
 
-// Kept: the list and the place stand side by side here, as in each writer: the next one begins at the end that this one gives.
+// Kept: the list and the place stand side by side here: a struct that lends the list would ask each contract to say that it is the same list still,
+// which a slice needs not say.
 // A row's eight bytes: the blank of the function's start, and its word.
 fn put_row(out: &mut [u8], at: usize, word: u64) -> usize
     requires { at + 8 ≤ length out.old }
@@ -123,7 +103,7 @@ impl Functions<'_> {
 
     // 81 to 83 of each function: the position is 0.
     fn first_no(&self) -> Result<(), Refusal>
-        ensures { result ≡ question_of (per_function function_asks 0 (functions_of self.now)) }
+        ensures { numbered_at result ≡ question_of (per_function function_asks 0 (functions_of self.now)) }
     {
         for k in 0..self.count {
             function_asks(&self.lists, k)?;
@@ -183,11 +163,11 @@ impl Functions<'_> {
 
     // All results, where they have room.
     fn put_all(&self, needed: Needed, to: &mut Output) -> Result<Option<Counts>, Refusal>
-        requires { AllFineOf self.now × (needed.info ≡ length (infos_of (functions_of self.now))) × (needed.relocations ≡ length (relocs_from 0 (functions_of self.now))) × (self.now.count ≤ length to.old.markers.now) × (8 * self.now.count ≤ length to.old.bytes.now) × (5 * needed.relocations ≤ length to.old.relocations.now) × (needed.info ≤ length to.old.info.now) }
-        ensures { WritesTo (accepted (arm64 (functions_of self.now))) result to.old to.new }
+        requires { AllFineOf self.now × (needed.info ≡ length (infos_of (functions_of self.now))) × (needed.relocations ≡ length (relocs_from 0 (functions_of self.now))) × (self.now.count ≤ length to.old.places.now) × (8 * self.now.count ≤ length to.old.bytes.now) × (5 * needed.relocations ≤ length to.old.relocations.now) × (needed.info ≤ length to.old.sites.now) }
+        ensures { WritesTo (accepted (arm64 (functions_of self.now))) (numbered_at result) to.old to.new }
     {
         self.put_rows(to.bytes, to.relocations);
-        self.put_infos(to.markers, to.info);
+        self.put_infos(to.places, to.sites);
         Ok(Some(Counts {
             places: self.count as u64,
             bytes: (8 * self.count) as u64,
@@ -199,7 +179,7 @@ impl Functions<'_> {
     // The results, where they have room.
     fn write(&self, to: &mut Output) -> Result<Option<Counts>, Refusal>
         requires { AllFineOf self.now }
-        ensures { WritesTo (fitting (room_of to.old) (arm64 (functions_of self.now))) result to.old to.new }
+        ensures { WritesTo (fitting (room_of to.old) (arm64 (functions_of self.now))) (numbered_at result) to.old to.new }
     {
         let needed = self.sizes();
         let counts = Counts {
@@ -214,7 +194,7 @@ impl Functions<'_> {
 
     // The questions of the functions, and the results.
     fn answer(&self, to: &mut Output) -> Result<Option<Counts>, Refusal>
-        ensures { WritesTo (unless (per_function function_asks 0 (functions_of self.now)) (fitting (room_of to.old) (arm64 (functions_of self.now)))) result to.old to.new }
+        ensures { WritesTo (unless (per_function function_asks 0 (functions_of self.now)) (fitting (room_of to.old) (arm64 (functions_of self.now)))) (numbered_at result) to.old to.new }
     {
         self.first_no()?;
         self.write(to)
@@ -235,7 +215,7 @@ pub fn table(
     relocations: &mut [u64],
     info: &mut [u8],
 ) -> Result<Option<Counts>, Refusal>
-    ensures { Writes (arm64_answer functions.now epilogues.now codes.now (room_in markers.old bytes.old relocations.old info.old)) result markers.old markers.new bytes.old bytes.new relocations.old relocations.new info.old info.new }
+    ensures { Writes (arm64_answer functions.now epilogues.now codes.now (room_in markers.old bytes.old relocations.old info.old)) (numbered_at result) markers.old markers.new bytes.old bytes.new relocations.old relocations.new info.old info.new }
 {
     let n = functions.len() / fields::FUNCTION_STRIDE;
     if n == 0 {
@@ -248,15 +228,15 @@ pub fn table(
     };
     if !lists.ok() {
         return Err(Refusal {
-            number: 13,
+            question: Question::Lists,
             position: 0,
         });
     }
     let mut to = Output {
-        markers,
+        places: markers,
         bytes,
         relocations,
-        info,
+        sites: info,
     };
     Functions { lists, count: n }.answer(&mut to)
 }

@@ -12,4 +12,4 @@ pub put_infos-requires : goal.put_infos-requires
 put_infos-requires c = let p = c.requires in (p.0, p.3, omega (arith, p.1, p.6))
 
 pub returns : goal.returns
-returns c = let a = c.args in let p = c.requires in (all_stored (function_in a.self.now.lists) a.self.now.count p.1 p.2 c.put_rows.ensures.0 c.put_rows.ensures.1 c.put_infos.ensures.0 c.put_infos.ensures.1, record { markers = refl; bytes = refl; relocations = refl; info = refl })
+returns c = let a = c.args in let p = c.requires in (all_stored (function_in a.self.now.lists) a.self.now.count p.1 p.2 c.put_rows.ensures.0 c.put_rows.ensures.1 c.put_infos.ensures.0 c.put_infos.ensures.1, record { places = refl; bytes = refl; relocations = refl; sites = refl })
