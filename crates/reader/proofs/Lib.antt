@@ -1,5 +1,6 @@
 -- The lemmas of this crate's functions.
 pub mod Tiling
+pub mod Giving
 pub mod Seeking
 pub mod Strings
 pub mod Augmentation

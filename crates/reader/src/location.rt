@@ -8,8 +8,9 @@ ghost use Rattle.format.proofs.Asked.{option_of};
 ghost use Rattle.reader.specs.Spans.{part, entry_of, listed, Holds, Ahead, Spans};
 ghost use Rattle.reader.specs.Finds.{Searching, spans_of, Locates};
 
+use crate::entries::{self, Entries};
+use crate::fields;
 use crate::section::{Body, Section, Span};
-use crate::{entries, fields};
 use format::Question;
 
 // ---- the header of a record
@@ -72,14 +73,7 @@ impl<'a> Section<'a> {
         requires { Ahead self.now.bytes.now from × (from ≤ place) }
         ensures { Spans self.now.bytes.now result (header_at self.now.layout.debug place before (listed (entries self.now.bytes.now))) }
     {
-        let mut next = from;
-        // Kept: a `while`, which moves by each entry's length.
-        while next < self.bytes.len() {
-            let entry = Span {
-                at: next,
-                end: entries::past(self.bytes, next),
-            };
-            next = entry.end;
+        for entry in Entries::starting(self.bytes, from) {
             if self.starts(entry, place, before) {
                 return Some(entry);
             }
