@@ -1,4 +1,4 @@
--- The loops over an iterator of entries.
+-- The loops over an iterator of a section's entries.
 use mathlib.Core.Path.{◌≡◌, subst, ap, ◌∙◌}
 use mathlib.Core.List.{List}
 use Prim.Native.Nat.{ℕ, ◌≤◌}

@@ -16,6 +16,7 @@ pub mod cursor;
 pub mod entries;
 pub mod fields;
 pub mod location;
+pub mod operation;
 pub mod run;
 pub mod section;
 pub mod shortest;
