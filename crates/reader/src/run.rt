@@ -7,8 +7,8 @@ ghost use Rattle.reader.specs.OneRegister.{start, set_cfa, set_rule, register_ru
 ghost use Rattle.reader.specs.States.{Pops, run_of, Acts};
 
 use crate::location::Located;
+use crate::operation::Operations;
 use format::{CfaRule, Operation, Question, Row, Rule, Rules};
-use operations::fields::Position;
 use std::marker::Model;
 
 // ---- the state
@@ -196,13 +196,10 @@ pub fn run(s: &[u8], l: &Located, p: u64, q: u16) -> Result<Rules, Question>
         let to = span.end;
         let ops = &s[from..to];
         let mut loc = 0;
-        let mut at = Position::START;
-        // Kept: a `while`, which moves by each operation's length.
-        'operations: while at.at < ops.len() {
-            let Some((op, next)) = operations::operation(ops, at, l.word) else {
+        'operations: for read in Operations::new(ops, l.word) {
+            let Some((op, _)) = read else {
                 return Err(Question::Operations);
             };
-            at = next;
             match op {
                 Operation::Nop => continue 'operations,
                 Operation::Step(n) => {
