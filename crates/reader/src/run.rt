@@ -1,68 +1,23 @@
 // The run of the operations of a header and a record: questions 66 to 69 of the reader, which rucc-asm/src/unwind.rs of tamnd/rucc does not have.
-ghost use Rattle.std.specs.Prelude.{◌≡◌, false, ◌∷◌, ◌≤◌, ◌<◌, leb, length, T};
+ghost use Rattle.std.specs.Prelude.{◌≡◌, false, T};
 ghost use Rattle.format.specs.Coded.{numbered};
 ghost use Rattle.format.specs.Rules.{answer};
 ghost use Rattle.reader.specs.Finds.{in_section, found, run_both};
 ghost use Rattle.reader.specs.OneRegister.{start, set_cfa, set_rule, register_rule, restored, remember, recall, negated, act};
-ghost use Rattle.reader.specs.States.{Pops, run_of, Acts};
+ghost use Rattle.reader.specs.States.{run_of, Acts};
 
 use crate::location::Located;
 use crate::operation::Operations;
+use arrayvec::ArrayVec;
 use format::{CfaRule, Operation, Question, Row, Rule, Rules};
-use std::marker::Model;
 
 // ---- the state
 
-// The rules stored, at most 16. A clause sees them as a list, the last first.
-// Kept: an array and a depth; an `ArrayVec` wants a `Default` of `Rules`, which means nothing elsewhere, and clauses would reverse its items.
-#[derive(Drop)]
-pub struct Stored {
-    places: [Rules; 16],
-    depth: usize,
-}
-
-impl Model for Stored {
-    ghost use Rattle.std.specs.Prelude.{◌≡◌, ◌≤◌, List, length, reverse, take};
-    ghost use Rattle.format.specs.declared.Rules.{Rules};
-
-    ghost Value = { List Rules };
-
-    ghost view = { λ s. reverse (take s.depth s.places) };
-
-    ghost invariant = { λ s. (s.depth ≤ 16) × (length s.places ≡ 16) };
-}
-
-impl Stored {
-    fn is_full(&self) -> bool
-        ensures { result ≡ leb 16 (length self.now) }
-    {
-        16 <= self.depth
-    }
-
-    fn push(&mut self, rules: Rules)
-        requires { length self.old < 16 }
-        ensures { self.new ≡ rules ∷ self.old }
-    {
-        self.places[self.depth] = rules;
-        self.depth += 1;
-    }
-
-    fn pop(&mut self) -> Option<Rules>
-        ensures { Pops self.old result self.new }
-    {
-        if self.depth == 0 {
-            return None;
-        }
-        self.depth -= 1;
-        Some(self.places[self.depth])
-    }
-}
-
-// The rules that hold, and those stored.
+// The rules that hold, and those stored, the last at the end.
 #[derive(Drop)]
 pub struct State {
     pub rules: Rules,
-    pub stored: Stored,
+    pub stored: ArrayVec<Rules, 16>,
 }
 
 // The state in front of a header's operations.
@@ -70,17 +25,9 @@ pub struct State {
 pub fn start() -> State
     ensures { run_of result ≡ start }
 {
-    let rules = Rules {
-        cfa: CfaRule::Unset,
-        rule: Rule::Unstated,
-        signing: false,
-    };
     State {
-        rules,
-        stored: Stored {
-            places: [rules; 16],
-            depth: 0,
-        },
+        rules: Rules::default(),
+        stored: ArrayVec::new(),
     }
 }
 
@@ -128,11 +75,10 @@ fn restore(s: &mut State, q: u16, reg: u16, initial: Option<Rule>) -> Result<(),
 fn remember(s: &mut State) -> Result<(), Question>
     ensures { Acts result (run_of s.new) (remember (run_of s.old)) }
 {
-    if s.stored.is_full() {
-        return Err(Question::StatesRoom);
-    }
     let rules = s.rules;
-    s.stored.push(rules);
+    let Ok(()) = s.stored.try_push(rules) else {
+        return Err(Question::StatesRoom);
+    };
     Ok(())
 }
 
