@@ -1,5 +1,5 @@
 -- `reader::entries::record_span` meets its contract.
-use mathlib.Core.Path.{sym, ap, ◌∙◌}
+use mathlib.Core.Path.{sym, ◌∙◌}
 use Prim.Native.Nat.{◌-◌}
 use Rattle.reader.proofs.Giving.{begin, at, ends, held, past, stopped}
 use Rattle.reader.proofs.Seeking.{start, turn, met, ended, kth, kth_header, kth_here, kth_later, kth_none}
