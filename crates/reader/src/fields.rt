@@ -144,15 +144,17 @@ fn lsda_in(s: &[u8], at: Position, word: u64) -> Option<(u64, Position)>
 fn letters_in(s: &[u8], word: u64, p: Augmentation) -> Option<usize>
     ensures { result ≡ option_of (letters_in (letters_of p) word s.now) }
 {
-    let mut at = 0;
-    if p.personality {
-        at = personality_in(s, word)?;
-    }
-    let mut size = 0;
-    let mut last = Position { at, shortest: true };
-    if p.lsda {
-        (size, last) = lsda_in(s, last, word)?;
-    }
+    let at = if p.personality {
+        personality_in(s, word)?
+    } else {
+        0
+    };
+    let start = Position { at, shortest: true };
+    let (size, last) = if p.lsda {
+        lsda_in(s, start, word)?
+    } else {
+        (0, start)
+    };
     let end = last.at;
     if s.len() <= end {
         return None;
