@@ -29,7 +29,8 @@ pub fn tiles(s: &[u8]) -> bool
     ensures { result ≡ is_some (entries s.now) }
 {
     let mut at = 0;
-    // Kept: a `while`, which moves by each entry's length.
+    // Kept: a `while`. An iterator whose last item may be no entry would have these lines in its `next`, and a test of each item here besides;
+    // `Entries` goes over a section that has passed this test.
     while at < s.len() {
         let Some(end) = entry_end(s, at) else {
             return false;
