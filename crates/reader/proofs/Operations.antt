@@ -125,10 +125,6 @@ module _ {whole : Reading} {header : Bool} {word p q : ℕ} {initial : std.Optio
         (reading header word p i.first (drop at.at ops) (drop next.at ops) op loc i.all (operation_rest word ops at e)
         (omega (arith, length-drop at.at ops, length-drop next.at ops, operation_ahead word ops at e)))
 
-    -- less is left
-    pub shorter : length ops - next.at < length ops - at.at
-    shorter = omega (arith, operation_ahead word ops at e)
-
     pub padding : op ≡ Nop → Inside whole header word p q initial ops k next loc state
     unfolding perform
     padding o =
