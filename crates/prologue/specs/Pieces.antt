@@ -8,7 +8,7 @@ use Rattle.format.specs.Machine.{Register, register_of}
 use Rattle.format.specs.declared.Row.{Row}
 use Rattle.format.specs.declared.Seh.{Seh}
 use Rattle.format.specs.Rows.{kind_of, reg_of, offset_of}
-use Rattle.format.specs.Lists.{Function, row_at, row_ok_at}
+use Rattle.format.specs.Lists.{Function, row_stride, row_at, row_ok_at}
 use Rattle.format.specs.Numbers.{number_of}
 use Rattle.format.specs.declared.question.Question.{Question}
 use Rattle.format.specs.X64.{Step, push, alloc, frame, save, low16, code_for, codes_of, end_of}
@@ -23,7 +23,7 @@ Short z = mag z < 2 ^ 31
 
 -- the rows from `at` to `end` can be read
 pub record Ready (rows : List ℕ) (at end : ℕ) : Type 0 where
-  pub inside : 4 * end ≤ length rows
+  pub inside : row_stride * end ≤ length rows
   pub ok : (k : ℕ) → at ≤ k → k < end → T (row_ok_at rows k)
 
 -- ---- a row

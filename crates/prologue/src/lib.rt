@@ -2,7 +2,7 @@
 #![tactic(auto)]
 
 ghost use Rattle.std.specs.Prelude.{IfOk, ◌≡◌, false, [], ◌∷◌, ◌+◌, ◌-◌, ◌*◌, ◌≤◌, ◌<◌, pos, ◌+ℤ◌, ◌-ℤ◌, length, T, eqb};
-ghost use Rattle.format.specs.Lists.{row_at, row_ok_at};
+ghost use Rattle.format.specs.Lists.{row_stride, row_at, row_ok_at};
 ghost use Rattle.format.specs.Prelude.{pick, each};
 ghost use Rattle.format.specs.Machine.{register_of};
 ghost use Rattle.format.specs.Rows.{kind_of, offset_of};
@@ -105,7 +105,6 @@ enum Steps {
 
 // What is known of the rows so far: the distance of the frame address above the stack pointer, the steps, and whether the machine
 // has a number below 16 for each register.
-// Kept: a ghost field for the distance's 32 bits is no plainer, since the definitions make walks of any distance.
 #[derive(Clone, Copy)]
 struct Walk {
     below: i64,
@@ -180,13 +179,12 @@ impl X64Machine<'_> {
 
     // DefCfaOffset, then Offset: a register that is put into the word by which the frame address moved, or no push (33).
     fn pushed(&self, reg: u64, z: i64, y: i64, w: Walk) -> Result<Walk, Question>
-        requires { Short z × Short w.below }
         ensures { numbered result ≡ result_of (push_in self.now.machine.now (DefCfaOffset z) (Offset reg y) w) }
     {
-        if z - w.below != self.machine.word as i64 {
+        if z.checked_sub(w.below) != Some(self.machine.word as i64) {
             return Err(Question::Group);
         }
-        if y != -z {
+        if z.checked_neg() != Some(y) {
             return Err(Question::Group);
         }
         let known = self.registers().knows(reg);
@@ -195,7 +193,6 @@ impl X64Machine<'_> {
 
     // An instruction of two rows.
     fn push_rows(&self, a: Row, b: Row, w: Walk) -> Result<Walk, Question>
-        requires { Short (offset_of a) × Short w.below }
         ensures { numbered result ≡ result_of (push_in self.now.machine.now a b w) }
     {
         let Row::DefCfaOffset(z) = a else {
@@ -229,7 +226,7 @@ impl X64Machine<'_> {
 impl FunctionRows<'_> {
     // Row i, the last of its instruction's.
     fn read_last(&self, m: &X64Machine, i: usize, w: Walk) -> Result<Walk, Question>
-        requires { IsRow self.now i × Short w.below }
+        requires { IsRow self.now i }
         ensures { numbered result ≡ result_of (last_of m.now self.now i w) }
     {
         let r = row_at(self.list, i);
@@ -241,7 +238,7 @@ impl FunctionRows<'_> {
 
     // Row i: an instruction is read at its last row, and refused at its third.
     fn read_row(&self, m: &X64Machine, i: usize, w: Walk) -> Result<Walk, Question>
-        requires { IsRow self.now i × Short w.below }
+        requires { IsRow self.now i }
         ensures { numbered result ≡ result_of (row_of m.now self.now i w) }
     {
         if self.third(i) {
@@ -395,7 +392,7 @@ impl FunctionRows<'_> {
 
 // The distance behind row i.
 pub fn moved(sofar: i64, rows: &[u64], i: usize) -> i64
-    requires { (4 * i + 4 ≤ length rows.now) × T (row_ok_at rows.now i) }
+    requires { (row_stride * i + row_stride ≤ length rows.now) × T (row_ok_at rows.now i) }
     ensures { result ≡ moved_in sofar rows.now i }
 {
     let Row::DefCfaOffset(z) = row_at(rows, i) else {
@@ -406,7 +403,7 @@ pub fn moved(sofar: i64, rows: &[u64], i: usize) -> i64
 
 // Where the prologue of the rows from `at` to `end` ends: at the last one's offset, which is the last code's.
 pub fn prologue_end(rows: &[u64], at: usize, end: usize) -> u64
-    requires { 4 * end ≤ length rows.now }
+    requires { row_stride * end ≤ length rows.now }
     ensures { result ≡ end_in rows.now at end }
 {
     if end <= at {
