@@ -124,10 +124,10 @@ impl Shown for i64 {
     fn show(self, rt: &impl Print) -> io::Result<()> {
         if self < 0 {
             print!(rt; " -")?;
-            ((-1 - self) as u64).show(rt)
+            (-1 - self).cast_unsigned().show(rt)
         } else {
             print!(rt; " +")?;
-            (self as u64).show(rt)
+            self.cast_unsigned().show(rt)
         }
     }
 }
@@ -145,7 +145,7 @@ impl Shown for Row {
             Row::RestoreState => row_parts(rt, 7, 0, 0),
             Row::NegateRaState => row_parts(rt, 8, 0, 0),
             Row::SameValue(reg) => row_parts(rt, 9, reg, 0),
-            Row::InRegister(reg, other) => row_parts(rt, 10, reg, other as i64),
+            Row::InRegister(reg, other) => row_parts(rt, 10, reg, i64::from(other)),
         }
     }
 }
@@ -258,11 +258,11 @@ fn step(rt: &impl Print, i: usize, by: u64) -> io::Result<()> {
 fn all_rows(rt: &impl Print) -> io::Result<()> {
     for (i, reg) in REGISTERS.iter().enumerate() {
         for (k, (kind, off)) in NAMING.iter().enumerate() {
-            row(rt, 7 * i + k, *kind, *reg, *off)?;
+            row(rt, NAMING.len() * i + k, *kind, *reg, *off)?;
         }
     }
     for (i, (kind, reg, off)) in ROWS.iter().enumerate() {
-        row(rt, 42 + i, *kind, *reg, *off)?;
+        row(rt, REGISTERS.len() * NAMING.len() + i, *kind, *reg, *off)?;
     }
     Ok(())
 }
