@@ -17,7 +17,7 @@ use Rattle.reader.proofs.Seeking.{absent}
 use Rattle.std.specs.Prelude.{Some, None, Ok, Err}
 use Rattle.std.specs.Prelude as code
 use Rattle.format.specs.Coded.{result_of}
-use Rattle.reads.specs.Standing.{numbered}
+use Rattle.reads.specs.Standing.{located_numbers}
 use Rattle.reader.specs.Spans.{end_at}
 use Rattle.reader.specs.Finds.{rules_from, shortest_from}
 use Rattle.reader.proofs.Tiling.{entered, none_read}
@@ -87,8 +87,8 @@ module _ (s : List ℕ) (debug : Bool) (word cie past at end : ℕ) where
   entries_refused e = rw e refl
 
   pub entries_located : cie + 8 ≤ past → past ≤ length s → at + 8 ≤ end → end ≤ length s → {l : reader.Located} → Stated s word l fields
-      → l.header_end ≡ past → l.record_end ≡ end → Ok (numbered l) ≡ result_of whole
-  unfolding locate_entries onward places_of numbered
+      → l.header_end ≡ past → l.record_end ≡ end → Ok (located_numbers l) ≡ result_of whole
+  unfolding locate_entries onward places_of located_numbers
   entries_located h₁ h₂ h₃ h₄ {l} x e f =
       rw (
         x.answer,

@@ -12,6 +12,7 @@ ghost use Rattle.reads.specs.Places.{header_of};
 ghost use Rattle.reads.specs.Index.{place_or, index_of, index_in};
 ghost use Rattle.reads.specs.Standing.{stored_as, Skipped, Headed, Stores};
 
+use format::Question;
 use reader::section::{Section, Span};
 
 // As many marks as a section has here: half of those of section_check, since a frame above some 32 KiB is compiled wrong (docs/DECISIONS.md, D86).
@@ -142,15 +143,15 @@ fn fill(section: &Section, places: &mut [u64])
 }
 
 // Questions 61 and 54, and the index: how many records there are.
-pub fn index_in(section: &Section, places: &mut [u64]) -> Result<usize, u64>
+pub fn index_in(section: &Section, places: &mut [u64]) -> Result<usize, Question>
     ensures { Stores (index_in section.now.layout.debug (relocations_of section.now.relocations.now) (length places.old) section.now.bytes.now) result places.old places.new }
 {
     if !reader::entries::tiles(section.bytes) {
-        return Err(61);
+        return Err(Question::Tiling);
     }
     let n = count(section);
     if places.len() / 2 < n {
-        return Err(54);
+        return Err(Question::OtherRoom);
     }
     fill(section, places);
     Ok(n)
