@@ -16,15 +16,15 @@ ghost use Rattle.lists.specs.Room.{room_for};
 ghost use Rattle.lists.specs.Lent.{SameLists, room_of, WritesTo};
 ghost use Rattle.header_keys.specs.Functions.{body_of, Sound, PairsReady, LabelsReady};
 ghost use Rattle.header_keys.specs.Inputs.{inputs_of, count_in, extent_in, RowsIn, rows_of};
-ghost use Rattle.dwarf.specs.Asks.{Askable, AllAskable, whole_in, asked_in, listed_answer};
+ghost use Rattle.dwarf.specs.Asks.{Askable, AllAskable, whole_in, asked_in, lines_asks, listed_answer};
 ghost use Rattle.dwarf.specs.Parts.{parts_to, section_in};
 ghost use Rattle.dwarf.specs.Writable.{Writable, Cleared, Next};
-ghost use Rattle.dwarf.specs.Tables.{totals_in, grown_by, labelled_rows, most_in, Few, counts_of, chosen_by};
+ghost use Rattle.dwarf.specs.Tables.{totals_in, grown_by, Small, labelled_rows, most_in, Few, counts_of};
 ghost use Rattle.owners.specs.Lent.{LongFor, EmptyFor, OwnedIn};
 ghost use Rattle.dwarf.specs.Surveys.{rows_size, FunctionSurveyed, AllSurveyed};
 ghost use Rattle.dwarf.specs.Lent.{HasRoom, ReadyFor, AddsTo, FillsTo};
 ghost use Rattle.records.specs.Written as record_parts;
-ghost use Rattle.dwarf.specs.Functions.{WrittenAs, front_of, numbers_for, part_for, CanSize, FrontFits, FrontWritten, PieceFits, PieceWritten};
+ghost use Rattle.dwarf.specs.Functions.{WrittenAs, front_end, part_for, CanSize, FrontFits, FrontWritten, PieceFits, PieceWritten};
 
 use format::{Counts, Machine, Question, Refusal, Section};
 use header_keys::written::{Function, Run};
@@ -142,19 +142,27 @@ fn lines_fine(x: &Input, e: &Extent) -> bool
     true
 }
 
-// Question 23, asked where it is not known that all is fine; and question 24.
-fn steps_asked(fine: bool, x: &Input, e: &Extent) -> bool
-    requires { RowsIn (inputs_of x.now) e.now × (fine ≡ true → steps_ok 0 (rows_of (inputs_of x.now) e.now) ≡ true) }
-    ensures { result ≡ steps_ok 0 (rows_of (inputs_of x.now) e.now) }
+// Questions 23 and 24 of function k.
+fn lines_ask(x: &Input, k: usize, e: &Extent) -> Result<(), Refusal>
+    requires { RowsIn (inputs_of x.now) e.now }
+    ensures { numbered_at result ≡ question_of (lines_asks (inputs_of x.now) k e.now) }
 {
-    fine || steps_ok(x, e)
-}
-
-fn whole_asked(fine: bool, x: &Input, e: &Extent) -> bool
-    requires { RowsIn (inputs_of x.now) e.now × (fine ≡ true → whole_in (inputs_of x.now) e.now ≡ true) }
-    ensures { result ≡ whole_in (inputs_of x.now) e.now }
-{
-    fine || rows_whole(x, e)
+    if lines_fine(x, e) {
+        return Ok(());
+    }
+    if !steps_ok(x, e) {
+        return Err(Refusal {
+            question: Question::Order,
+            position: k as u64,
+        });
+    }
+    if !rows_whole(x, e) {
+        return Err(Refusal {
+            question: Question::Multiples,
+            position: k as u64,
+        });
+    }
+    Ok(())
 }
 
 // The two places of pair i are different.
@@ -201,19 +209,7 @@ fn dwarf_asks(x: &Input, k: usize, e: &Extent) -> Result<(), Refusal>
             position: k as u64,
         });
     }
-    let fine = lines_fine(x, e);
-    if !steps_asked(fine, x, e) {
-        return Err(Refusal {
-            question: Question::Order,
-            position: k as u64,
-        });
-    }
-    if !whole_asked(fine, x, e) {
-        return Err(Refusal {
-            question: Question::Multiples,
-            position: k as u64,
-        });
-    }
+    lines_ask(x, k, e)?;
     if !pairs_ok(x, e) {
         return Err(Refusal {
             question: Question::Pairs,
@@ -254,13 +250,6 @@ impl Table {
     };
 }
 
-// A function's header: whether it has one of its own, and the header's place.
-#[derive(Clone, Copy)]
-pub struct Chosen {
-    pub own: bool,
-    pub cie: usize,
-}
-
 #[tactic(auto, unfolding(format::specs::Writer::is_debug))]
 fn is_debug(s: Section) -> bool
     ensures { result ≡ is_debug s }
@@ -298,39 +287,28 @@ fn written<'a>(x: &'a Input, k: usize, last: bool) -> Function<'a>
     }
 }
 
-// The bytes of a function's own header, where it has one.
-fn front_size(own: bool, f: &Function, at: usize) -> usize
-    requires { at < 2 ^ 32 }
-    ensures { result ≡ length (front_of own f.now at) }
+// What stands behind a function's own header, behind t.
+fn front_sized(f: &Function, t: Table) -> Table
+    requires { Small (front_end f.now t) }
+    ensures { result ≡ front_end f.now t }
 {
-    if own {
-        return header_size(f, at);
-    }
-    0
-}
-
-// The numbers of a function's relocations, five each.
-fn relocs_size(own: bool, f: &Function, pairs: &[u64]) -> usize
-    requires { LabelsReady f.now.extent pairs.now }
-    ensures { result ≡ numbers_for own f.now pairs.now }
-{
-    let n = record_relocs_count(f, pairs);
-    if own {
-        return relocs::RELOCATION_STRIDE * (header_relocs_count(f.debug, &f.extent) + n);
-    }
-    relocs::RELOCATION_STRIDE * n
-}
-
-// What stands behind a function that is behind t and whose rows have `size` bytes. The place of a header that it does not own
-// does not matter.
-fn sized(lists: &Lists, size: usize, own: bool, f: &Function, t: Table) -> Table
-    requires { CanSize own f.now lists.now t × (size ≡ length (record_parts.rows_of f.now)) }
-    ensures { result ≡ grown_by t (part_for own f.now lists.now t 0) }
-{
-    let behind = t.bytes + front_size(own, f, t.bytes);
+    let n = header_relocs_count(f.debug, &f.extent);
     Table {
-        bytes: behind + record_size(f, behind, size),
-        relocations: t.relocations + relocs_size(own, f, lists.pairs),
+        bytes: t.bytes + header_size(f, t.bytes),
+        relocations: t.relocations + relocs::RELOCATION_STRIDE * n,
+        sites: t.sites,
+    }
+}
+
+// What stands behind a function that is behind t and whose rows have `size` bytes. Its header's place does not matter.
+fn sized(lists: &Lists, size: usize, f: &Function, t: Table) -> Table
+    requires { CanSize f.now lists.now t × (size ≡ length (record_parts.rows_of f.now)) }
+    ensures { result ≡ grown_by t (part_for f.now lists.now t 0) }
+{
+    let n = record_relocs_count(f, lists.pairs);
+    Table {
+        bytes: t.bytes + record_size(f, t.bytes, size),
+        relocations: t.relocations + relocs::RELOCATION_STRIDE * n,
         sites: t.sites + call_sites_size(t.sites, &f.extent, lists.landings),
     }
 }
@@ -340,9 +318,12 @@ fn size_next(x: &Input, chains: &Chains, k: usize, n: usize, size: usize, t: Tab
     requires { Next (inputs_of x.now) k n t × OwnedIn (inputs_of x.now) (k + 1) chains.now × (size ≡ rows_size (inputs_of x.now) k) }
     ensures { result ≡ totals_in (parts_to (inputs_of x.now) (k + 1)) }
 {
-    let own = usize::from(chains.owners[k]) == k;
     let f = written(x, k, k + 1 == n);
-    sized(&x.lists, size, own, &f, t)
+    if usize::from(chains.owners[k]) == k {
+        let u = front_sized(&f, t);
+        return sized(&x.lists, size, &f, u);
+    }
+    sized(&x.lists, size, &f, t)
 }
 
 // The bytes of function k's rows, with the steps between them.
@@ -495,17 +476,14 @@ fn room(n: usize, t: Table, lent: Counts) -> Result<(), Refusal>
 
 // ---- the writing pass
 
-// A function's own header with its relocation, where it has one.
-fn front(own: bool, f: &Function, t: Table, to: &mut Output) -> Table
-    requires { FrontFits own f.now t to.old }
-    ensures stored { FrontWritten own f.now t result to.old to.new }
+// A function's own header with its relocation, behind t.
+fn front(f: &Function, t: Table, to: &mut Output) -> Table
+    requires { FrontFits f.now t to.old }
+    ensures stored { FrontWritten f.now t result to.old to.new }
     ensures sites_kept { to.new.sites.now ≡ to.old.sites.now }
     ensures places_kept { to.new.places.now ≡ to.old.places.now }
     ensures same { SameLists to.old to.new }
 {
-    if !own {
-        return t;
-    }
     let at = header(to.bytes, t.bytes, f);
     let i = header_relocs(
         to.relocations,
@@ -522,21 +500,20 @@ fn front(own: bool, f: &Function, t: Table, to: &mut Output) -> Table
     }
 }
 
-// A function's part behind t: its own header, where it has one, its record and its call sites.
-fn piece(lists: &Lists, c: Chosen, f: &Function, t: Table, to: &mut Output) -> Table
-    requires { PieceFits c f.now lists.now t to.old }
-    ensures stored { PieceWritten c f.now lists.now t result to.old to.new }
+// A function's record and its call sites behind t, with its header at `cie`.
+fn piece(lists: &Lists, cie: usize, f: &Function, t: Table, to: &mut Output) -> Table
+    requires { PieceFits cie f.now lists.now t to.old }
+    ensures stored { PieceWritten cie f.now lists.now t result to.old to.new }
     ensures places_kept { to.new.places.now ≡ to.old.places.now }
     ensures same { SameLists to.old to.new }
 {
-    let u = front(c.own, f, t, to);
-    let at = record(to.bytes, u.bytes, f, c.cie);
+    let at = record(to.bytes, t.bytes, f, cie);
     let p = Places {
-        at: u.bytes,
-        cie: c.cie,
+        at: t.bytes,
+        cie,
         table: t.sites + padding(4, t.sites),
     };
-    let i = record_relocs(to.relocations, u.relocations, f, &p, lists.pairs);
+    let i = record_relocs(to.relocations, t.relocations, f, &p, lists.pairs);
     let end = call_sites(to.sites, t.sites, &f.extent, lists.landings);
     Table {
         bytes: at,
@@ -545,30 +522,21 @@ fn piece(lists: &Lists, c: Chosen, f: &Function, t: Table, to: &mut Output) -> T
     }
 }
 
-// The header of function k, behind `at` bytes: its own, or that of its owner.
-fn header_for(k: usize, at: usize, chains: &Chains, to: &Output) -> Chosen
-    requires { (k < length chains.now.owners.now) × (get_or chains.now.owners.now k 0 ≤ k) × (k ≤ length to.now.places.now) }
-    ensures { result ≡ chosen_by (get_or chains.now.owners.now k 0) k at to.now.places.now }
-{
-    let o = usize::from(chains.owners[k]);
-    if o == k {
-        return Chosen { own: true, cie: at };
-    }
-    Chosen {
-        own: false,
-        cie: to.places[o] as usize,
-    }
-}
-
-// Function k of n, behind t.
+// Function k of n behind t, with a header of its own or that of its owner.
 fn part(x: &Input, chains: &Chains, k: usize, n: usize, t: Table, to: &mut Output) -> Table
     requires { ReadyFor (inputs_of x.now) k n t to.old × OwnedIn (inputs_of x.now) (k + 1) chains.now }
     ensures { AddsTo (inputs_of x.now) k t result to.old to.new }
 {
-    let c = header_for(k, t.bytes, chains, to);
-    to.places[k] = c.cie as u64;
+    let o = usize::from(chains.owners[k]);
     let f = written(x, k, k + 1 == n);
-    piece(&x.lists, c, &f, t, to)
+    if o == k {
+        to.places[k] = t.bytes as u64;
+        let u = front(&f, t, to);
+        return piece(&x.lists, t.bytes, &f, u, to);
+    }
+    let cie = to.places[o];
+    to.places[k] = cie;
+    piece(&x.lists, cie as usize, &f, t, to)
 }
 
 // All functions.

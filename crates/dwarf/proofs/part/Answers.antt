@@ -1,27 +1,58 @@
 -- `dwarf::part` meets its contract.
-use Rattle.dwarf.proofs.Writing.{choosable, chosen_by_lem, piece_ready, added}
+use Rattle.std.proofs.Common.{◌∙◌}
+use native.Mathlib.Omega.{arith}
+use Rattle.dwarf.proofs.Owners.{looked, own_looked, found_looked}
+use Rattle.dwarf.proofs.Writing.{found_ready, found_added, front_ready, own_ready, own_added}
 use Rattle.dwarf.proofs.part.Goals as goal
 use Rattle.dwarf.proofs.part.Goals.{Start}
 
-pub header_for-c-requires : goal.header_for-c-requires
-header_for-c-requires c = choosable c.requires.0 c.requires.1
-
 pub written-f-requires : goal.written-f-requires
 written-f-requires c = c.requires.0.coming.writable
+
+pub front-u-requires : goal.front-u-requires
+front-u-requires c =
+    let s = (goal.at.front-u-requires c).Start in
+    let w = c.written-f.ensures in
+    rw (w.machine, w.rows) (front_ready s.requires.0 w.debug w.align w.extent (own_looked _ c.from-o.ensures s.requires.1 c.if-o-k.true))
 
 pub piece-requires : goal.piece-requires
 piece-requires c =
     let s = (goal.at.piece-requires c).Start in
     let w = c.written-f.ensures in
-    rw (w.machine, w.rows)
-    (piece_ready s.requires.0 (chosen_by_lem s.requires.0 s.requires.1 s.args.t.bytes c.header_for-c.ensures) w.debug w.align w.extent)
+    let o = own_looked _ c.from-o.ensures s.requires.1 c.if-o-k.true in
+    rw (w.machine, w.rows, c.front-u.ensures.sites_kept)
+    (own_ready s.requires.0 w.debug w.align w.extent o (rw (w.machine, w.rows) at c.front-u.ensures.stored))
+
+pub returns-then-o-k : goal.returns-then-o-k
+returns-then-o-k c =
+    let s = (goal.at.returns-then-o-k c).Start in
+    let w = c.written-f.ensures in
+    let o = own_looked _ c.from-o.ensures s.requires.1 c.if-o-k.true in
+    let f = rw (w.machine, w.rows) at c.front-u.ensures.stored in
+    let p = rw (w.machine, w.rows, c.front-u.ensures.sites_kept) at c.piece.ensures.stored in (
+      rw (c.piece.ensures.places_kept, c.front-u.ensures.places_kept) (own_added s.requires.0 w.debug w.align w.extent o f p),
+      let g = c.front-u.ensures.same in
+          let h = c.piece.ensures.same in
+          record { places = h.places ∙ g.places; bytes = h.bytes ∙ g.bytes; relocations = h.relocations ∙ g.relocations; sites = h.sites ∙ g.sites },
+    )
+
+pub bounds-to-o : goal.bounds-to-o
+bounds-to-o c =
+    omega (arith, looked _ c.from-o.ensures c.requires.1, found_looked _ c.from-o.ensures c.requires.1 c.if-o-k.false, c.requires.0.fit.places_fit)
+
+pub piece-requires-2 : goal.piece-requires-2
+piece-requires-2 c =
+    let s = (goal.at.piece-requires-2 c).Start in
+    let w = c.written-f.ensures in
+    rw (w.machine, w.rows, looked _ c.from-o.ensures s.requires.1)
+    (found_ready s.requires.0 w.debug w.align w.extent (found_looked _ c.from-o.ensures s.requires.1 c.if-o-k.false))
 
 pub returns : goal.returns
 returns c =
     let s = (goal.at.returns c).Start in
     let w = c.written-f.ensures in
-    let p = rw (w.machine, w.rows) at c.piece.ensures.stored in (
-      rw c.piece.ensures.places_kept
-          (added s.requires.0 (chosen_by_lem s.requires.0 s.requires.1 s.args.t.bytes c.header_for-c.ensures) w.debug w.align w.extent p),
-      let s = c.piece.ensures.same in record { places = s.places; bytes = s.bytes; relocations = s.relocations; sites = s.sites },
+    let p = rw (w.machine, w.rows, looked _ c.from-o.ensures s.requires.1) at c.piece-2.ensures.stored in (
+      rw (c.piece-2.ensures.places_kept, looked _ c.from-o.ensures s.requires.1)
+          (found_added s.requires.0 w.debug w.align w.extent (found_looked _ c.from-o.ensures s.requires.1 c.if-o-k.false) p),
+      let g = c.piece-2.ensures.same in record { places = g.places; bytes = g.bytes; relocations = g.relocations; sites = g.sites },
     )
