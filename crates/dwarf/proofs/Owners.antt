@@ -82,14 +82,15 @@ module _ (x : Inputs) (k : ℕ) where
       (omega (arith, owns, places_length x k))
       ∙ ap (λ (i : ℕ). some (get_or (places_in (parts_to x k)) i 0)) (omega (arith, owns))
 
--- ---- an owner that was looked up, by whether it is the function itself
+-- ---- an owner that was looked up
 
-module _ {x : Inputs} (k : ℕ) {i : ℕ} {owners : List ℕ} (e : i ≡ get_or owners k 0) (o : Owned x (k + 1) owners) where
-  pub looked : i ≡ owner x k
-  looked = e ∙ o.each_one k (omega arith)
+pub looked : {x : Inputs} (k : ℕ) {i : ℕ} {owners : List ℕ} → i ≡ get_or owners k 0 → Owned x (k + 1) owners → i ≡ owner x k
+looked k e o = e ∙ o.each_one k (omega arith)
 
+-- by whether it is the function itself
+module _ (x : Inputs) {k i : ℕ} (e : i ≡ owner x k) where
   pub own_looked : i ≡ k → owner x k ≡ k
-  own_looked h = sym looked ∙ h
+  own_looked h = sym e ∙ h
 
   pub found_looked : (i ≡ k → ⊥) → owner x k < k
-  found_looked h = omega (arith, looked, h, owner_bound x k)
+  found_looked h = omega (arith, e, h, owner_bound x k)

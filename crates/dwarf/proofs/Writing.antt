@@ -23,13 +23,17 @@ use Rattle.dwarf.proofs.Pieces.{own_part, found_part}
 use Rattle.dwarf.proofs.OwnHeaders.{headed_stored}
 use Rattle.dwarf.proofs.Fronts.{bytes_next, relocs_next, sites_next}
 use Rattle.dwarf.proofs.Totals.{totals_next, headed_whole}
-use Rattle.dwarf.proofs.Sizing.{align_is, small_next}
+use Rattle.owners.specs.Chains.{Owned}
+use Rattle.dwarf.proofs.Sizing.{align_is, small_next, owned_to}
 use Rattle.dwarf.proofs.Stores.{places_below}
 use Rattle.dwarf.proofs.Stores as stores
 
 module _ {x : Inputs} {k n : ℕ} {t : Table} {places bytes relocs sites : List ℕ} (r : PartReady x k n t places bytes relocs sites) where
   abbrev part : Part
   part = part_behind x k (parts_to x k)
+
+  pub owned_next : {owners : List ℕ} → Owned x (count_in x) owners → Owned x (k + 1) owners
+  owned_next o = owned_to (omega (arith, r.coming.writable.listed.within)) o
 
   bytes_behind : t.bytes ≡ length (bytes_in (parts_to x k))
   unfolding totals_in

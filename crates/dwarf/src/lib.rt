@@ -19,8 +19,11 @@ ghost use Rattle.header_keys.specs.Inputs.{inputs_of, count_in, extent_in, RowsI
 ghost use Rattle.dwarf.specs.Asks.{Askable, AllAskable, whole_in, asked_in, lines_asks, listed_answer};
 ghost use Rattle.dwarf.specs.Parts.{parts_to, section_in};
 ghost use Rattle.dwarf.specs.Writable.{Writable, Cleared, Next};
+ghost use Rattle.dwarf.specs.OneProof.{Cleared-prop, Owned-prop};
 ghost use Rattle.dwarf.specs.Tables.{totals_in, grown_by, Small, labelled_rows, most_in, Few, counts_of};
-ghost use Rattle.owners.specs.Lent.{LongFor, EmptyFor, OwnedIn};
+ghost use Rattle.owners.specs.Owners.{owner};
+ghost use Rattle.owners.specs.Chains.{Owned};
+ghost use Rattle.owners.specs.Lent.{LongFor, EmptyFor};
 ghost use Rattle.dwarf.specs.Surveys.{rows_size, FunctionSurveyed, AllSurveyed};
 ghost use Rattle.dwarf.specs.Lent.{HasRoom, ReadyFor, AddsTo, FillsTo};
 ghost use Rattle.records.specs.Written as record_parts;
@@ -313,13 +316,13 @@ fn sized(lists: &Lists, size: usize, f: &Function, t: Table) -> Table
     }
 }
 
-// What stands behind function k of n, behind t, where its rows have `size` bytes.
-fn size_next(x: &Input, chains: &Chains, k: usize, n: usize, size: usize, t: Table) -> Table
-    requires { Next (inputs_of x.now) k n t × OwnedIn (inputs_of x.now) (k + 1) chains.now × (size ≡ rows_size (inputs_of x.now) k) }
+// What stands behind function k of n, behind t, where its header is function o's and its rows have `size` bytes.
+fn size_next(x: &Input, o: usize, k: usize, n: usize, size: usize, t: Table) -> Table
+    requires { Next (inputs_of x.now) k n t × (o ≡ owner (inputs_of x.now) k) × (size ≡ rows_size (inputs_of x.now) k) }
     ensures { result ≡ totals_in (parts_to (inputs_of x.now) (k + 1)) }
 {
     let f = written(x, k, k + 1 == n);
-    if usize::from(chains.owners[k]) == k {
+    if o == k {
         let u = front_sized(&f, t);
         return sized(&x.lists, size, &f, u);
     }
@@ -339,20 +342,6 @@ fn rows_size(x: &Input, k: usize) -> usize
         n: e.rows,
     };
     records::stepped_rows_size(&run)
-}
-
-// What stands behind all functions.
-fn sizes(x: &Input, chains: &Chains) -> Table
-    requires { Cleared (inputs_of x.now) × OwnedIn (inputs_of x.now) (count_in (inputs_of x.now)) chains.now }
-    ensures { result ≡ totals_in (parts_to (inputs_of x.now) (count_in (inputs_of x.now))) }
-{
-    let n = x.lists.count();
-    let mut t = Table::NOTHING;
-    for k in 0..n {
-        let size = rows_size(x, k);
-        t = size_next(x, chains, k, n, size, t);
-    }
-    t
 }
 
 // ---- questions, owners and sizes in one pass
@@ -396,7 +385,8 @@ fn survey(x: &Input, chains: &mut Chains) -> Option<Table>
     for k in 0..n {
         let size = function_surveyed(x, k)?;
         owners::find_owner(x, k, chains);
-        t = size_next(x, chains, k, n, size, t);
+        let o = usize::from(chains.owners[k]);
+        t = size_next(x, o, k, n, size, t);
     }
     Some(t)
 }
@@ -522,61 +512,86 @@ fn piece(lists: &Lists, cie: usize, f: &Function, t: Table, to: &mut Output) -> 
     }
 }
 
-// Function k of n behind t, with a header of its own or that of its owner.
-fn part(x: &Input, chains: &Chains, k: usize, n: usize, t: Table, to: &mut Output) -> Table
-    requires { ReadyFor (inputs_of x.now) k n t to.old × OwnedIn (inputs_of x.now) (k + 1) chains.now }
-    ensures { AddsTo (inputs_of x.now) k t result to.old to.new }
-{
-    let o = usize::from(chains.owners[k]);
-    let f = written(x, k, k + 1 == n);
-    if o == k {
-        to.places[k] = t.bytes as u64;
-        let u = front(&f, t, to);
-        return piece(&x.lists, t.bytes, &f, u, to);
-    }
-    let cie = to.places[o];
-    to.places[k] = cie;
-    piece(&x.lists, cie as usize, &f, t, to)
-}
-
-// All functions.
-fn store(x: &Input, chains: &Chains, to: &mut Output) -> Table
-    requires { Cleared (inputs_of x.now) × HasRoom (inputs_of x.now) (count_in (inputs_of x.now)) to.old × OwnedIn (inputs_of x.now) (count_in (inputs_of x.now)) chains.now }
-    ensures { FillsTo (inputs_of x.now) (count_in (inputs_of x.now)) result to.old to.new }
-{
-    let functions = x.lists.count();
-    let mut t = Table::NOTHING;
-    for k in 0..functions {
-        t = part(x, chains, k, functions, t, to);
-    }
-    t
-}
-
 // ---- the whole
 
-// The functions written into lists that have room for them.
-fn stored(x: &Input, chains: &Chains, to: &mut Output) -> Result<Option<Counts>, Refusal>
-    requires { Cleared (inputs_of x.now) × HasRoom (inputs_of x.now) (count_in (inputs_of x.now)) to.old × OwnedIn (inputs_of x.now) (count_in (inputs_of x.now)) chains.now }
-    ensures { WritesTo (fitting (room_of to.old) (section_in (inputs_of x.now))) (numbered_at result) to.old to.new }
-{
-    let n = x.lists.count();
-    let t = store(x, chains, to);
-    Ok(Some(Counts {
-        places: n as u64,
-        bytes: t.bytes as u64,
-        relocations: (t.relocations / relocs::RELOCATION_STRIDE) as u64,
-        sites: t.sites as u64,
-    }))
+// Functions that have passed all questions, and the owners of their headers.
+#[derive(Clone, Copy)]
+struct Entries<'a> {
+    input: &'a Input<'a>,
+    owners: &'a [u16],
+    ghost cleared: { Cleared (inputs_of input.now) } by { Cleared-prop (inputs_of input.now) },
+    ghost owned: { Owned (inputs_of input.now) (count_in (inputs_of input.now)) owners.now } by { Owned-prop (inputs_of input.now) (count_in (inputs_of input.now)) owners.now },
 }
 
-// The functions written where there is room for t, which stands behind them.
-fn roomed(x: &Input, chains: &Chains, t: Table, to: &mut Output) -> Result<Option<Counts>, Refusal>
-    requires { Cleared (inputs_of x.now) × OwnedIn (inputs_of x.now) (count_in (inputs_of x.now)) chains.now × (t ≡ totals_in (parts_to (inputs_of x.now) (count_in (inputs_of x.now)))) }
-    ensures { WritesTo (fitting (room_of to.old) (section_in (inputs_of x.now))) (numbered_at result) to.old to.new }
-{
-    let n = x.lists.count();
-    room(n, t, to.lent())?;
-    stored(x, chains, to)
+impl Entries<'_> {
+    // What stands behind all of them.
+    fn sizes(&self) -> Table
+        ensures { result ≡ totals_in (parts_to (inputs_of self.now.input.now) (count_in (inputs_of self.now.input.now))) }
+    {
+        let n = self.input.lists.count();
+        let mut t = Table::NOTHING;
+        for k in 0..n {
+            let size = rows_size(self.input, k);
+            let o = usize::from(self.owners[k]);
+            t = size_next(self.input, o, k, n, size, t);
+        }
+        t
+    }
+
+    // Function k of n behind t, with a header of its own or that of its owner.
+    fn part(&self, k: usize, n: usize, t: Table, to: &mut Output) -> Table
+        requires { ReadyFor (inputs_of self.now.input.now) k n t to.old }
+        ensures { AddsTo (inputs_of self.now.input.now) k t result to.old to.new }
+    {
+        let o = usize::from(self.owners[k]);
+        let f = written(self.input, k, k + 1 == n);
+        if o == k {
+            to.places[k] = t.bytes as u64;
+            let u = front(&f, t, to);
+            return piece(&self.input.lists, t.bytes, &f, u, to);
+        }
+        let cie = to.places[o];
+        to.places[k] = cie;
+        piece(&self.input.lists, cie as usize, &f, t, to)
+    }
+
+    // All of them.
+    fn store(&self, to: &mut Output) -> Table
+        requires { HasRoom (inputs_of self.now.input.now) (count_in (inputs_of self.now.input.now)) to.old }
+        ensures { FillsTo (inputs_of self.now.input.now) (count_in (inputs_of self.now.input.now)) result to.old to.new }
+    {
+        let functions = self.input.lists.count();
+        let mut t = Table::NOTHING;
+        for k in 0..functions {
+            t = self.part(k, functions, t, to);
+        }
+        t
+    }
+
+    // They are written into lists that have room for them.
+    fn stored(&self, to: &mut Output) -> Result<Option<Counts>, Refusal>
+        requires { HasRoom (inputs_of self.now.input.now) (count_in (inputs_of self.now.input.now)) to.old }
+        ensures { WritesTo (fitting (room_of to.old) (section_in (inputs_of self.now.input.now))) (numbered_at result) to.old to.new }
+    {
+        let n = self.input.lists.count();
+        let t = self.store(to);
+        Ok(Some(Counts {
+            places: n as u64,
+            bytes: t.bytes as u64,
+            relocations: (t.relocations / relocs::RELOCATION_STRIDE) as u64,
+            sites: t.sites as u64,
+        }))
+    }
+
+    // They are written where there is room for t, which stands behind them.
+    fn roomed(&self, t: Table, to: &mut Output) -> Result<Option<Counts>, Refusal>
+        requires { t ≡ totals_in (parts_to (inputs_of self.now.input.now) (count_in (inputs_of self.now.input.now))) }
+        ensures { WritesTo (fitting (room_of to.old) (section_in (inputs_of self.now.input.now))) (numbered_at result) to.old to.new }
+    {
+        let n = self.input.lists.count();
+        room(n, t, to.lent())?;
+        self.stored(to)
+    }
 }
 
 // The chains of owners empty again.
@@ -614,11 +629,15 @@ fn fitted(x: &Input, chains: &mut Chains, to: &mut Output) -> Result<Option<Coun
 {
     let n = x.lists.count();
     owners::owners(x, n, chains);
+    let entries = Entries {
+        input: x,
+        owners: chains.owners,
+    };
     if room(n, most(x.lists.functions), to.lent()).is_err() {
-        let t = sizes(x, chains);
-        return roomed(x, chains, t, to);
+        let t = entries.sizes();
+        return entries.roomed(t, to);
     }
-    stored(x, chains, to)
+    entries.stored(to)
 }
 
 // Every question asked by itself, and the functions written where there is room.
@@ -643,7 +662,11 @@ fn answered(x: &Input, chains: &mut Chains, to: &mut Output) -> Result<Option<Co
     ensures { WritesTo (listed_answer (inputs_of x.now) (room_of to.old)) (numbered_at result) to.old to.new }
 {
     if let Some(t) = tried(x, to.lent(), chains) {
-        return roomed(x, chains, t, to);
+        let entries = Entries {
+            input: x,
+            owners: chains.owners,
+        };
+        return entries.roomed(t, to);
     }
     unchain(chains.heads);
     asked(x, chains, to)

@@ -11,11 +11,16 @@ use Rattle.dwarf.proofs.answered.Goals.{Start}
 pub tried-requires : goal.tried-requires
 tried-requires c = c.requires
 
+pub invariant_of-entries : goal.invariant_of-entries
+invariant_of-entries c =
+    let s = (goal.at.invariant_of-entries c).Start in
+    let b = behind_say (inputs_of s.args.x.now) c.tried.ensures.0 c.in-Some.is in
+    record { cleared = cleared (inputs_of s.args.x.now) s.args.x.now.fits (counted s.args.x.now.lists.functions.now s.requires.0) b.0; owned = b.2 }
+
 pub roomed-requires : goal.roomed-requires
 roomed-requires c =
     let s = (goal.at.roomed-requires c).Start in
-    let b = behind_say (inputs_of s.args.x.now) c.tried.ensures.0 c.in-Some.is in
-    (cleared (inputs_of s.args.x.now) s.args.x.now.fits (counted s.args.x.now.lists.functions.now s.requires.0) b.0, b.2, b.1)
+    (behind_say (inputs_of s.args.x.now) c.tried.ensures.0 c.in-Some.is).1
 
 pub returns-in-Some : goal.returns-in-Some
 returns-in-Some c =

@@ -1,6 +1,7 @@
 -- `dwarf::survey` meets its contract.
 use native.Mathlib.Omega.{arith}
 use Rattle.dwarf.proofs.Surveying.{start, owner_ready, next, turn, enough, ended}
+use Rattle.dwarf.proofs.Owners.{looked}
 use Rattle.dwarf.proofs.survey.Goals as goal
 
 pub loop-k-init : goal.loop-k-init
@@ -19,7 +20,7 @@ find_owner-requires c = owner_ready c.loop-k.invariant c.loop-k-test.true c.in_o
 pub size_next-t-requires : goal.size_next-t-requires
 size_next-t-requires c =
     let b = c.in_ok-size.ensures in
-    (next c.loop-k.invariant c.loop-k-test.true b.0 c.args.x.now.fits c.requires.0, c.find_owner.ensures.0.owned, b.1)
+    (next c.loop-k.invariant c.loop-k-test.true b.0 c.args.x.now.fits c.requires.0, looked _ c.from-o.ensures c.find_owner.ensures.0.owned, b.1)
 
 pub loop-k-preserved : goal.loop-k-preserved
 loop-k-preserved c = turn c.loop-k.invariant c.loop-k-test.true c.in_ok-size.ensures.0 c.size_next-t.ensures (c.find_owner.ensures.0, c.find_owner.ensures.1.links_long, c.find_owner.ensures.1.owners_long)

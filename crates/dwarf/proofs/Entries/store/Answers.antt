@@ -1,17 +1,16 @@
--- `dwarf::store` meets its contract.
+-- `dwarf::Entries::store` meets its contract.
 use native.Mathlib.Omega.{arith}
 use Rattle.lists.proofs.Lent.{same, then}
-use Rattle.dwarf.proofs.Sizing.{owned_to}
 use Rattle.dwarf.proofs.Writing.{start, ready, turn, ended}
-use Rattle.dwarf.proofs.store.Goals as goal
+use Rattle.dwarf.proofs.Entries.store.Goals as goal
 
 pub loop-k-init : goal.loop-k-init
-loop-k-init c = (rw c.count-functions.ensures (start _ c.requires.1), same)
+loop-k-init c = (rw c.count-functions.ensures (start _ c.requires), same)
 
 pub part-t-requires : goal.part-t-requires
 part-t-requires c =
     let g = c.loop-k.invariant.0 in
-    (ready g c.requires.0 c.loop-k-test.true, owned_to (omega (arith, c.loop-k-test.true, g.counted)) c.requires.2)
+    ready g c.args.self.now.cleared c.loop-k-test.true
 
 pub loop-k-preserved : goal.loop-k-preserved
 loop-k-preserved c =
