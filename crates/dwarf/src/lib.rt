@@ -360,37 +360,6 @@ fn fields_ok(x: &Input, e: &Extent) -> bool
     pairs_ok(x, e)
 }
 
-// The bytes of function k's rows, where it passes questions 13 and 21 to 25. None says nothing.
-fn function_surveyed(x: &Input, k: usize) -> Option<usize>
-    requires { T (sums_ok x.now.lists.functions.now) × (k < count_in (inputs_of x.now)) }
-    ensures { FunctionSurveyed (inputs_of x.now) k result }
-{
-    if !x.lists.outline_ok(k) {
-        return None;
-    }
-    let e = x.function(k);
-    if !fields_ok(x, &e) {
-        return None;
-    }
-    surveyed_rows(x.machine.word, x.lists.rows, e.rows_at, e.rows)
-}
-
-// The functions' owners, and what stands behind the functions, where all pass questions 13 and 21 to 25. None says nothing.
-fn survey(x: &Input, chains: &mut Chains) -> Option<Table>
-    requires { T (sums_ok x.now.lists.functions.now) × EmptyFor (count_in (inputs_of x.now)) chains.old }
-    ensures { AllSurveyed (inputs_of x.now) chains.new.owners.now result × LongFor (count_in (inputs_of x.now)) chains.new }
-{
-    let n = x.lists.count();
-    let mut t = Table::NOTHING;
-    for k in 0..n {
-        let size = function_surveyed(x, k)?;
-        owners::find_owner(x, k, chains);
-        let o = usize::from(chains.owners[k]);
-        t = size_next(x, o, k, n, size, t);
-    }
-    Some(t)
-}
-
 // ---- what the functions can be at most
 
 // What `number` says of each of n functions, summed.
@@ -608,21 +577,11 @@ fn ample(fs: &[u64], lent: Counts) -> bool
     room(fs.len() / lists::FUNCTION_STRIDE, most(fs), lent).is_ok()
 }
 
-// The one pass, where sizes are needed.
-fn tried(x: &Input, lent: Counts, chains: &mut Chains) -> Option<Table>
-    requires { T (sums_ok x.now.lists.functions.now) × EmptyFor (count_in (inputs_of x.now)) chains.old }
-    ensures { AllSurveyed (inputs_of x.now) chains.new.owners.now result × LongFor (count_in (inputs_of x.now)) chains.new }
-{
-    if ample(x.lists.functions, lent) {
-        return None;
-    }
-    survey(x, chains)
-}
-
 // The functions written where there is room; their owners are found first, in the lists lent for that. Where the lists hold the most
 // that such functions can need, the pass that sizes them is left out.
-// Kept: what is read, what is worked in and what is written, here and in the next two. One struct of them would be lent to be
-// written as a whole, and each contract would have to say that the input stays.
+// Kept: the lists that owners are found in are lent, here and in what calls it, beside the lists that are written. In one struct with
+// the input they would be lent to be written as a whole, and each contract would have to say that the input stays; and that they
+// are empty is true at the start only, so that no struct can hold it.
 fn fitted(x: &Input, chains: &mut Chains, to: &mut Output) -> Result<Option<Counts>, Refusal>
     requires { Cleared (inputs_of x.now) × EmptyFor (count_in (inputs_of x.now)) chains.old }
     ensures { WritesTo (fitting (room_of to.old) (section_in (inputs_of x.now))) (numbered_at result) to.old to.new }
@@ -640,71 +599,123 @@ fn fitted(x: &Input, chains: &mut Chains, to: &mut Output) -> Result<Option<Coun
     entries.stored(to)
 }
 
-// Every question asked by itself, and the functions written where there is room.
-fn asked(x: &Input, chains: &mut Chains, to: &mut Output) -> Result<Option<Counts>, Refusal>
-    requires { T (sums_ok x.now.lists.functions.now) × EmptyFor (count_in (inputs_of x.now)) chains.old }
-    ensures { WritesTo (listed_answer (inputs_of x.now) (room_of to.old)) (numbered_at result) to.old to.new }
-{
-    let n = x.lists.count();
-    if !x.lists.functions_ok(n) {
-        return Err(Refusal {
-            question: Question::Lists,
-            position: 0,
-        });
-    }
-    all_asks(x)?;
-    fitted(x, chains, to)
+// Functions whose sums have passed question 13.
+#[derive(Clone, Copy)]
+struct Counted<'a> {
+    input: &'a Input<'a>,
+    ghost sums: { T (sums_ok input.now.lists.functions.now) },
 }
 
-// One pass where it is enough, and every question by itself where it is not.
-fn answered(x: &Input, chains: &mut Chains, to: &mut Output) -> Result<Option<Counts>, Refusal>
-    requires { T (sums_ok x.now.lists.functions.now) × EmptyFor (count_in (inputs_of x.now)) chains.old }
-    ensures { WritesTo (listed_answer (inputs_of x.now) (room_of to.old)) (numbered_at result) to.old to.new }
-{
-    if let Some(t) = tried(x, to.lent(), chains) {
-        let entries = Entries {
-            input: x,
-            owners: chains.owners,
+impl Counted<'_> {
+    // The bytes of function k's rows, where it passes questions 13 and 21 to 25. None says nothing.
+    fn function_surveyed(&self, k: usize) -> Option<usize>
+        requires { k < count_in (inputs_of self.now.input.now) }
+        ensures { FunctionSurveyed (inputs_of self.now.input.now) k result }
+    {
+        let x = self.input;
+        if !x.lists.outline_ok(k) {
+            return None;
+        }
+        let e = x.function(k);
+        if !fields_ok(x, &e) {
+            return None;
+        }
+        surveyed_rows(x.machine.word, x.lists.rows, e.rows_at, e.rows)
+    }
+
+    // The functions' owners, and what stands behind the functions, where all pass questions 13 and 21 to 25. None says nothing.
+    fn survey(&self, chains: &mut Chains) -> Option<Table>
+        requires { EmptyFor (count_in (inputs_of self.now.input.now)) chains.old }
+        ensures { AllSurveyed (inputs_of self.now.input.now) chains.new.owners.now result × LongFor (count_in (inputs_of self.now.input.now)) chains.new }
+    {
+        let n = self.input.lists.count();
+        let mut t = Table::NOTHING;
+        for k in 0..n {
+            let size = self.function_surveyed(k)?;
+            owners::find_owner(self.input, k, chains);
+            let o = usize::from(chains.owners[k]);
+            t = size_next(self.input, o, k, n, size, t);
+        }
+        Some(t)
+    }
+
+    // The one pass, where sizes are needed.
+    fn tried(&self, lent: Counts, chains: &mut Chains) -> Option<Table>
+        requires { EmptyFor (count_in (inputs_of self.now.input.now)) chains.old }
+        ensures { AllSurveyed (inputs_of self.now.input.now) chains.new.owners.now result × LongFor (count_in (inputs_of self.now.input.now)) chains.new }
+    {
+        let x = self.input;
+        if ample(x.lists.functions, lent) {
+            return None;
+        }
+        self.survey(chains)
+    }
+
+    // Every question asked by itself, and the functions written where there is room.
+    fn asked(&self, chains: &mut Chains, to: &mut Output) -> Result<Option<Counts>, Refusal>
+        requires { EmptyFor (count_in (inputs_of self.now.input.now)) chains.old }
+        ensures { WritesTo (listed_answer (inputs_of self.now.input.now) (room_of to.old)) (numbered_at result) to.old to.new }
+    {
+        let n = self.input.lists.count();
+        if !self.input.lists.functions_ok(n) {
+            return Err(Refusal {
+                question: Question::Lists,
+                position: 0,
+            });
+        }
+        all_asks(self.input)?;
+        fitted(self.input, chains, to)
+    }
+
+    // One pass where it is enough, and every question by itself where it is not.
+    fn answered(&self, chains: &mut Chains, to: &mut Output) -> Result<Option<Counts>, Refusal>
+        requires { EmptyFor (count_in (inputs_of self.now.input.now)) chains.old }
+        ensures { WritesTo (listed_answer (inputs_of self.now.input.now) (room_of to.old)) (numbered_at result) to.old to.new }
+    {
+        if let Some(t) = self.tried(to.lent(), chains) {
+            let entries = Entries {
+                input: self.input,
+                owners: chains.owners,
+            };
+            return entries.roomed(t, to);
+        }
+        unchain(chains.heads);
+        self.asked(chains, to)
+    }
+
+    // The same with the lists that the functions' owners are found in, which lie on the stack.
+    fn answered_with<const HEADS: usize, const FUNCTIONS: usize>(
+        &self,
+        to: &mut Output,
+    ) -> Result<Option<Counts>, Refusal>
+        requires { (count_in (inputs_of self.now.input.now) ≤ FUNCTIONS) × (FUNCTIONS ≤ 65536) × (0 < HEADS) × (HEADS ≤ 65536) }
+        ensures { WritesTo (listed_answer (inputs_of self.now.input.now) (room_of to.old)) (numbered_at result) to.old to.new }
+    {
+        let mut heads = [0u16; HEADS];
+        let mut links = [0u16; FUNCTIONS];
+        let mut owners = [0u16; FUNCTIONS];
+        let mut chains = Chains {
+            heads: &mut heads,
+            links: &mut links,
+            owners: &mut owners,
         };
-        return entries.roomed(t, to);
+        self.answered(&mut chains, to)
     }
-    unchain(chains.heads);
-    asked(x, chains, to)
-}
 
-// The same with the lists that the functions' owners are found in, which lie on the stack.
-fn answered_with<const HEADS: usize, const FUNCTIONS: usize>(
-    x: &Input,
-    to: &mut Output,
-) -> Result<Option<Counts>, Refusal>
-    requires { T (sums_ok x.now.lists.functions.now) × (count_in (inputs_of x.now) ≤ FUNCTIONS) × (FUNCTIONS ≤ 65536) × (0 < HEADS) × (HEADS ≤ 65536) }
-    ensures { WritesTo (listed_answer (inputs_of x.now) (room_of to.old)) (numbered_at result) to.old to.new }
-{
-    let mut heads = [0u16; HEADS];
-    let mut links = [0u16; FUNCTIONS];
-    let mut owners = [0u16; FUNCTIONS];
-    let mut chains = Chains {
-        heads: &mut heads,
-        links: &mut links,
-        owners: &mut owners,
-    };
-    answered(x, &mut chains, to)
-}
-
-// The functions asked, sized and, where there is room, written. Clearing the lists for their owners is to cost little for a few
-// functions: there are three sizes of them.
-fn deliver(x: &Input, to: &mut Output) -> Result<Option<Counts>, Refusal>
-    requires { T (sums_ok x.now.lists.functions.now) }
-    ensures { WritesTo (listed_answer (inputs_of x.now) (room_of to.old)) (numbered_at result) to.old to.new }
-{
-    let n = x.lists.count();
-    if n <= 64 {
-        return answered_with::<61, 64>(x, to);
+    // The functions asked, sized and, where there is room, written. Clearing the lists for their owners is to cost little for a few
+    // functions: there are three sizes of them.
+    fn deliver(&self, to: &mut Output) -> Result<Option<Counts>, Refusal>
+        ensures { WritesTo (listed_answer (inputs_of self.now.input.now) (room_of to.old)) (numbered_at result) to.old to.new }
+    {
+        let n = self.input.lists.count();
+        if n <= 64 {
+            return self.answered_with::<61, 64>(to);
+        }
+        if n <= 2048 {
+            return self.answered_with::<2039, 2048>(to);
+        }
+        self.answered_with::<16381, MOST_FUNCTIONS>(to)
     }
-    if n <= 2048 {
-        return answered_with::<2039, 2048>(x, to);
-    }
-    answered_with::<16381, MOST_FUNCTIONS>(x, to)
 }
 
 // A DWARF section of functions: headers and records, their relocations, the call sites, and each function's header place. A
@@ -752,5 +763,5 @@ pub fn dwarf(
         relocations,
         sites,
     };
-    deliver(&x, &mut to)
+    Counted { input: &x }.deliver(&mut to)
 }

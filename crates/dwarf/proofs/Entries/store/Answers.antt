@@ -1,5 +1,4 @@
 -- `dwarf::Entries::store` meets its contract.
-use native.Mathlib.Omega.{arith}
 use Rattle.lists.proofs.Lent.{same, then}
 use Rattle.dwarf.proofs.Writing.{start, ready, turn, ended}
 use Rattle.dwarf.proofs.Entries.store.Goals as goal

@@ -1,12 +1,12 @@
--- `dwarf::tried` meets its contract.
+-- `dwarf::Counted::tried` meets its contract.
 use Rattle.dwarf.proofs.Surveying.{few_of}
-use Rattle.dwarf.proofs.tried.Goals as goal
+use Rattle.dwarf.proofs.Counted.tried.Goals as goal
 
 pub ample-requires : goal.ample-requires
-ample-requires c = few_of _ c.requires.0
+ample-requires c = few_of _ c.args.self.now.sums
 
 pub returns-then-ample : goal.returns-then-ample
-returns-then-ample c = (tt, c.requires.1.enough)
+returns-then-ample c = (tt, c.requires.enough)
 
 pub survey-requires : goal.survey-requires
 survey-requires c = c.requires
