@@ -1,4 +1,4 @@
--- `arm64_packed::put_slots` meets its contract.
+-- `Word::put_slots` meets its contract.
 use mathlib.Core.Path.{refl}
 use native.Mathlib.Omega.{arith}
 use borrow.Author.Tests.{tests}
@@ -9,26 +9,26 @@ use Rattle.std.proofs.lemmas.Iterator.Consumers.{YieldsList-at, YieldsList-from_
 use Rattle.format.proofs.Asked.{option_of}
 use Rattle.arm64.specs.Packed.{slot_at, slots_from}
 use Rattle.arm64_packed.proofs.Places.{slots_mapped, put_start, put_room, put_turn, put_ended}
-use Rattle.arm64_packed.proofs.put_slots.Goals as goal
+use Rattle.arm64_packed.proofs.Word.put_slots.Goals as goal
 
 pub loop-c-init : goal.loop-c-init
-loop-c-init c = put_start (slots_from (slot_at c.args.part c.args.p) 0 19) c.requires.1
+loop-c-init c = put_start (slots_from (slot_at c.args.part c.args.self.fields) 0 19) c.requires
 
 pub put_code-to-requires : goal.put_code-to-requires
 put_code-to-requires c =
-    let at = slot_at c.args.part c.args.p in
+    let at = slot_at c.args.part c.args.self.fields in
     put_room (slots_from at 0 19) c.loop-c.invariant
     (rw (slots_mapped at 0 19) at (YieldsList-turn (YieldsList-at c.into_iter-c-iterator.ensures.into_iter_gives (YieldsList-from_filter_map _ (λ i. option_of (at i)) (YieldsList-at c.filter_map-c-items.ensures.source (YieldsList-from_range 0 19 19 refl (omega arith))) c.filter_map-c-items.ensures.closure (λ x r q k. search (rules, tests)))) c.loop-c.yielded _ c.loop-c.yielded_by _ _ c.in-Some.c c.in-Some.is c.next.ensures.steps))
 
 pub loop-c-preserved : goal.loop-c-preserved
 loop-c-preserved c =
-    let at = slot_at c.args.part c.args.p in
+    let at = slot_at c.args.part c.args.self.fields in
     put_turn (slots_from at 0 19) c.loop-c.invariant
     (rw (slots_mapped at 0 19) at (YieldsList-turn (YieldsList-at c.into_iter-c-iterator.ensures.into_iter_gives (YieldsList-from_filter_map _ (λ i. option_of (at i)) (YieldsList-at c.filter_map-c-items.ensures.source (YieldsList-from_range 0 19 19 refl (omega arith))) c.filter_map-c-items.ensures.closure (λ x r q k. search (rules, tests)))) c.loop-c.yielded _ c.loop-c.yielded_by _ _ c.in-Some.c c.in-Some.is c.next.ensures.steps))
     (length_push c.loop-c.yielded c.in-Some.c) c.put_code-to.ensures
 
 pub returns : goal.returns
 returns c =
-    let at = slot_at c.args.part c.args.p in
+    let at = slot_at c.args.part c.args.self.fields in
     put_ended (slots_from at 0 19) c.loop-c.invariant
     (rw (slots_mapped at 0 19) at (YieldsList-end (YieldsList-at c.into_iter-c-iterator.ensures.into_iter_gives (YieldsList-from_filter_map _ (λ i. option_of (at i)) (YieldsList-at c.filter_map-c-items.ensures.source (YieldsList-from_range 0 19 19 refl (omega arith))) c.filter_map-c-items.ensures.closure (λ x r q k. search (rules, tests)))) c.loop-c.yielded _ c.loop-c.yielded_by _ _ c.in-None.is c.next.ensures.steps).1)
