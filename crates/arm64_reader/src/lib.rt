@@ -7,10 +7,10 @@ ghost use Rattle.format.specs.Numbers.{number_of};
 ghost use Rattle.format.specs.declared.question.Question.TheVariants.{OtherRoom};
 ghost use Rattle.arm64.specs.Packed.{packed_of, packed_ok};
 ghost use Rattle.arm64.specs.Reader.{record_unwound, full_record, fits_in, packed_unwound, read_arm64, reading_of, epilogues_after, codes_after};
-ghost use Rattle.arm64_packed.specs.Fields.{Sound};
 ghost use Rattle.arm64_reader.specs.Answers.{told, AnsweredIn, found_in, room_of};
 
-use arm64::{Arm64Reading, Packed, Part, fields};
+use arm64::{Arm64Reading, Part, fields};
+use arm64_packed::Word;
 use arm64_records::{Output, Record};
 use format::Question;
 
@@ -72,48 +72,48 @@ fn record_with(x: &Record, to: &mut Output) -> Result<Arm64Reading, Question>
 
 // A packed fragment, which has no epilogue.
 #[tactic(auto, using(crate::proofs::Answers::has_room))]
-fn fragment(p: Packed, to: &mut Output) -> Result<Arm64Reading, Question>
-    requires { Sound p × (p.flag ≡ 2) × (packed_ok p ≡ true) }
-    ensures { AnsweredIn (found_in (packed_unwound p) to.old) result to.old to.new }
+fn fragment(w: Word, to: &mut Output) -> Result<Arm64Reading, Question>
+    requires { (w.fields.flag ≡ 2) × (packed_ok w.fields ≡ true) }
+    ensures { AnsweredIn (found_in (packed_unwound w.fields) to.old) result to.old to.new }
 {
-    let n = arm64_packed::count_slots(Part::Prologue, p);
+    let n = w.count_slots(Part::Prologue);
     room(to, 0, n)?;
-    arm64_packed::put_slots(to.codes, 0, Part::Prologue, p);
-    Ok(reading(4 * p.length, n, 0, 0))
+    w.put_slots(to.codes, 0, Part::Prologue);
+    Ok(reading(4 * w.fields.length, n, 0, 0))
 }
 
 // A packed function, whose epilogue is its last instructions.
 #[tactic(auto, using(crate::proofs::Answers::has_room, format::proofs::PutLaws::kept))]
-fn function(p: Packed, to: &mut Output) -> Result<Arm64Reading, Question>
-    requires { Sound p × (p.flag ≢ 2) × (packed_ok p ≡ true) }
-    ensures { AnsweredIn (found_in (packed_unwound p) to.old) result to.old to.new }
+fn function(w: Word, to: &mut Output) -> Result<Arm64Reading, Question>
+    requires { (w.fields.flag ≢ 2) × (packed_ok w.fields ≡ true) }
+    ensures { AnsweredIn (found_in (packed_unwound w.fields) to.old) result to.old to.new }
 {
-    let n = arm64_packed::count_slots(Part::Prologue, p);
-    let m = arm64_packed::count_slots(Part::Epilogue, p);
-    if p.length <= m as u64 {
+    let n = w.count_slots(Part::Prologue);
+    let m = w.count_slots(Part::Epilogue);
+    if w.fields.length <= m as u64 {
         return Err(Question::X64Codes);
     }
     room(to, 1, n + m)?;
-    arm64_packed::put_slots(to.codes, 0, Part::Prologue, p);
-    arm64_packed::put_slots(to.codes, fields::CODE_STRIDE * n, Part::Epilogue, p);
-    let start = 4 * (p.length - 1 - m as u64);
+    w.put_slots(to.codes, 0, Part::Prologue);
+    w.put_slots(to.codes, fields::CODE_STRIDE * n, Part::Epilogue);
+    let start = 4 * (w.fields.length - 1 - m as u64);
     arm64_runs::put_three(to.epilogues, 0, [start, n as u64, m as u64]);
-    Ok(reading(4 * p.length, n, 1, m))
+    Ok(reading(4 * w.fields.length, n, 1, m))
 }
 
 // A packed word.
-fn packed(w: u64, to: &mut Output) -> Result<Arm64Reading, Question>
-    requires { w < 4294967296 }
-    ensures { AnsweredIn (found_in (packed_unwound (packed_of w)) to.old) result to.old to.new }
+fn packed(word: u64, to: &mut Output) -> Result<Arm64Reading, Question>
+    requires { word < 4294967296 }
+    ensures { AnsweredIn (found_in (packed_unwound (packed_of word)) to.old) result to.old to.new }
 {
-    let p = arm64_packed::packed_of(w);
-    if !arm64_packed::packed_ok(p) {
+    let w = Word::of(word);
+    if !w.ok() {
         return Err(Question::X64Codes);
     }
-    if p.flag == 2 {
-        return fragment(p, to);
+    if w.fields.flag == 2 {
+        return fragment(w, to);
     }
-    function(p, to)
+    function(w, to)
 }
 
 // The record at a place.
