@@ -5,7 +5,7 @@ use native.Mathlib.Omega.{arith}
 use native.Mathlib.Numerals.{add-one}
 use mathlib.Core.Option.{Option, none, some}
 use mathlib.Core.List.{List, [], ◌∷◌, ◌++◌, append-nil, append_assoc}
-use lib.ListN.{length, take, set, length-append}
+use lib.ListN.{length, take, length-append}
 use lib.IntN.{ℤ}
 use native.Mathlib.Nat.{add-zero}
 use Rattle.format.specs.Coded.{numbered}
@@ -15,7 +15,7 @@ use Rattle.format.specs.Writer.{joined}
 use Rattle.format.proofs.Wrote.{Wrote}
 use Rattle.format.specs.declared.Seh.{Seh}
 use Rattle.format.specs.X64.{code_bytes, code_no, or_no, first_no, slots, frame_or, frame_byte, reversed}
-use Rattle.format.proofs.PutLaws.{put_none, set-put, length-put}
+use Rattle.format.proofs.PutLaws.{put_none, put-append, put-in_front, length-put}
 use Rattle.codes.specs.declared.Code.{Code}
 use Rattle.codes.specs.Codes.{yes_or_no, frame_ask, Holds}
 use Rattle.std.specs.Prelude.{Ok, Err}
@@ -184,14 +184,6 @@ unfolding reversed
 reversed-append [] ys = sym (append-nil (reversed ys))
 reversed-append (x ∷ xs) ys = rw (reversed-append xs ys, append_assoc)
 
--- what stands behind may be stored first
-put-behind : (xs : List ℕ) (p : ℕ) (us bs : List ℕ) → put (put xs (p + length us) bs) p us ≡ put xs p (us ++ bs)
-unfolding put
-put-behind xs p [] bs = rw add-zero
-put-behind xs p (u ∷ us) bs =
-    let e : p + length (u ∷ us) ≡ p + 1 + length us = omega arith in
-    rw (set-put xs p u (p + length (u ∷ us)) bs (omega arith), e) (put-behind (set xs p u) (p + 1) us bs)
-
 -- out₀ is out by now, and the codes of rest are still to be put, from `at` to `to`
 pub record Putting (out₀ out : List ℕ) (at to : ℕ) (all rest : List (ℕ × Seh)) : Type 0 where
   pub kept : length out ≡ length out₀
@@ -232,7 +224,7 @@ module _ {out₀ out : List ℕ} {at to : ℕ} {all ps : List (ℕ × Seh)} {lef
           place = e;
           room = rw (ap length n ∙ length-put out _ _) (omega (arith, still.room));
           codes = (first_none code_no ps (joined later) still.codes).1;
-          same = rw n (put-behind out at (reversed (joined later)) (reversed ps) ∙ (rw (reversed-append ps (joined later)) at still.same));
+          same = rw n (put-in_front out at _ (reversed (joined later)) (reversed ps) (omega arith) ∙ sym (put-append out at (reversed (joined later)) (reversed ps)) ∙ (rw (reversed-append ps (joined later)) at still.same));
         }
 
 pub all-put : {out₀ out : List ℕ} {at to : ℕ} {all : List (ℕ × Seh)} {left : List (List (ℕ × Seh))} → Putting out₀ out at to all (joined left) → left ≡ [] → Wrote out₀ out at (at + 2 * slots all) (reversed all)

@@ -6,14 +6,14 @@ use mathlib.Core.Bool.{Bool, false}
 use mathlib.Core.Option.{Option, none, some}
 use mathlib.Core.List.{List, [], ◌∷◌, ◌++◌}
 use lib.Dec.{eqb}
-use lib.ListN.{length, set, drop, length-drop, drop_of_length-le}
+use lib.ListN.{length, drop, length-drop, drop_of_length-le}
 use Rattle.std.specs.Prelude.{Some, None}
 use Rattle.format.specs.Prelude.{Read, next}
 use Rattle.format.specs.Put.{put}
 use Rattle.format.specs.declared.Seh.{Seh}
 use Rattle.format.specs.declared.Seh.TheVariants.{Push, Alloc, Frame, Save}
 use Rattle.format.specs.X64Reader.{fields_of, code_numbers, is_frame, has_frame, read_code, read_codes_f, read_codes}
-use Rattle.format.proofs.PutLaws.{set-put, length-put}
+use Rattle.format.proofs.PutLaws.{put-append, put-in_front, length-put}
 use Rattle.operations.specs.declared.fields.Position.{Position}
 use Rattle.operations.specs.Positions.{from}
 use Rattle.x64_reader.specs.declared.Fields.{Fields}
@@ -140,14 +140,6 @@ none_counted g h e = rw (unread g h e)
 
 -- ---- stored
 
--- a run of stores in front of another
-put_before : (xs : List ℕ) (p q : ℕ) (us bs : List ℕ) → q ≡ p + length us → put (put xs q bs) p us ≡ put xs p (us ++ bs)
-unfolding put
-put_before xs p q [] bs e = let z : q ≡ p = omega arith in rw z
-put_before xs p q (u ∷ us) bs e =
-    let l : p < q = omega arith in
-    rw (set-put xs p u q bs l) (put_before (set xs p u) (p + 1) q us bs (omega arith))
-
 pub record Storing (n left : ℕ) (old new : List ℕ) (cs : List (ℕ × Seh)) : Type 0 where
   pub many : left + length cs ≡ n
   pub stored : new ≡ put old (5 * left) (code_numbers cs)
@@ -168,7 +160,7 @@ store_turn {left = left} {old = old} {offset = offset} {f = f} c l e cs w =
     let seam : 5 * left ≡ 5 * (left - 1) + length five = omega arith in
     record {
       many = omega (arith, w.many);
-      stored = e ∙ rw w.stored (put_before old (5 * (left - 1)) (5 * left) five (code_numbers cs) seam ∙ ap (λ l. put old (5 * (left - 1)) ((offset ∷ l) ++ code_numbers cs)) c.fields);
+      stored = e ∙ rw (w.stored, seam) (put-in_front old (5 * (left - 1)) _ five (code_numbers cs) (omega arith) ∙ sym (put-append old (5 * (left - 1)) five (code_numbers cs)) ∙ ap (λ l. put old (5 * (left - 1)) ((offset ∷ l) ++ code_numbers cs)) c.fields);
     }
 
 -- there is room for a code that stands there
