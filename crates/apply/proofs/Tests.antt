@@ -1,12 +1,12 @@
 -- What the tests of a relocation say of it, and its value in two steps.
-use Rattle.std.proofs.Common.{◌≡◌, ℕ, ◌+◌, ◌-◌, ◌*◌, ◌^◌, ◌<◌, ◌≤◌, ◌&&◌, ◌||◌, T, eqb, leb, ℤ, pos, ◌-ℤ◌, refl, ap, ⊎_elim, arith}
+use Rattle.std.proofs.Common.{◌≡◌, ℕ, ◌+◌, ◌-◌, ◌*◌, ◌^◌, ◌<◌, ◌≤◌, ◌&&◌, T, eqb, leb, ℤ, pos, ◌-ℤ◌, refl, ap, arith}
 use mathlib.Core.Option.{Option, none, some}
-use mir.Facts.{or_yes, eqb_yes, and_yes, leb_yes}
+use mir.Facts.{eqb_yes, and_yes, leb_yes}
 use Rattle.std.specs.Prelude as code
 use Rattle.std.specs.Prelude.{Some, None}
 use Rattle.format.specs.Prelude.{after}
 use Rattle.format.proofs.Asked.{option_of}
-use Rattle.format.specs.Machine.{is_word_size}
+use Rattle.format.proofs.FieldsBack.{word_small}
 use Rattle.format.specs.Lists.{Relocation}
 use Rattle.format.specs.Questions.{is_some}
 use Rattle.apply.specs.declared.Width.{Width}
@@ -34,14 +34,6 @@ none_of (some m) e = cc
 abbrev pub OneToEight : ℕ → Type 0
 OneToEight n = (0 < n) × (n ≤ 8)
 
-word_size : (n : ℕ) → T (is_word_size n) → OneToEight n
-unfolding is_word_size
-word_size n t =
-    ⊎_elim
-    (λ u. ⊎_elim (λ v. omega (arith, eqb_yes v)) (λ v. omega (arith, eqb_yes v)) (or_yes (eqb n 2) (eqb n 4) u))
-    (λ u. omega (arith, eqb_yes u))
-    (or_yes (eqb n 2 || eqb n 4) (eqb n 8) t)
-
 four : (n : ℕ) → T (eqb n 4) → OneToEight n
 four n t = omega (arith, eqb_yes t)
 
@@ -54,9 +46,9 @@ of_width W32 n t = omega (arith, eqb_yes t)
 pub sized : (k : Kind) (n : ℕ) → T (size_ok k n) → OneToEight n
 unfolding size_ok
 sized Data n t = four n t
-sized Address n t = word_size n t
-sized SumPlus n t = word_size n t
-sized SumMinus n t = word_size n t
+sized Address n t = word_small n t
+sized SumPlus n t = word_small n t
+sized SumMinus n t = word_small n t
 sized Image n t = four n t
 sized (Set w) n t = of_width w n t
 sized (Sub w) n t = of_width w n t

@@ -46,27 +46,13 @@ use rows::{offset_at, row_at, row_whole};
 
 // ---- questions 21 to 25
 
-// A length fits a word.
-fn word_holds(word: u64, size: u64) -> bool
-    requires { T (is_word_size word) }
-    ensures { result ≡ ltb size (256 ^ word) }
-{
-    if word == 2 {
-        return size < 65536;
-    }
-    if word == 4 {
-        return size < 4294967296;
-    }
-    true
-}
-
 // Question 21: a length fits its field.
 fn size_ok(x: &Input, e: &Extent) -> bool
     ensures { result ≡ ltb e.now.length (256 ^ size_bytes x.now.section x.now.machine.word) }
 {
     match x.section {
-        Section::Elf => e.length < 4294967296,
-        Section::Debug => word_holds(x.machine.word, e.length),
+        Section::Elf => e.length <= numbers::largest(4),
+        Section::Debug => e.length <= numbers::largest(x.machine.word),
     }
 }
 
