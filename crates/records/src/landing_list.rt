@@ -5,8 +5,10 @@ ghost use Rattle.format.specs.Prelude.{each};
 ghost use Rattle.format.specs.Leb.{uleb};
 ghost use Rattle.format.specs.Lists.{landing_stride, landing_at, count, most_records};
 ghost use Rattle.format.specs.CallSites.{site_table};
+ghost use Rattle.header_keys.specs.Functions.{LandingsReady};
 ghost use Rattle.records.specs.Sites.{sites_in};
 
+use lists::Extent;
 use numbers::encodings;
 
 // n landings of a list from `at` on.
@@ -19,7 +21,19 @@ pub struct Landings<'a> {
     pub ghost few: { n ≤ most_records },
 }
 
-impl Landings<'_> {
+impl<'a> Landings<'a> {
+    // A function's landings.
+    pub fn of(e: &Extent, list: &'a [u64]) -> Landings<'a>
+        requires { LandingsReady e.now list.now }
+        ensures { (result.list.now ≡ list.now) × (result.at ≡ e.now.landings_at) × (result.n ≡ e.now.landings) }
+    {
+        Landings {
+            list,
+            at: e.landings_at,
+            n: e.landings,
+        }
+    }
+
     // Their entries.
     // Kept: the list and the place stand apart here and below, as in leb.
     fn put(&self, out: &mut [u8], at: usize) -> usize

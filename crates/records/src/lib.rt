@@ -16,7 +16,7 @@ ghost use Rattle.header_keys.specs.Functions.{LandingsReady, LabelsReady};
 ghost use Rattle.records.specs.Stepped.{stepped_row_bytes, SteppedRowReady, SurveyedRow, Surveyed};
 ghost use Rattle.records.specs.Fields.{size_in, blank_in, fields_in, sum_in, lsda_in, debug_relocs, eh_relocs, field_relocs};
 ghost use Rattle.records.specs.Labels.{step_pair, steps_in};
-ghost use Rattle.records.specs.Written.{RunReady, run_bytes, steps_of, pairs_of, rows_of, fields_of, record_of, function_meant, record_relocs_of};
+ghost use Rattle.records.specs.Written.{RunReady, Leading, Others, run_bytes, steps_of, pairs_of, rows_of, fields_of, record_of, function_meant, record_relocs_of};
 
 use header_keys::written::{Function, Run};
 use header_keys::{Kind, kind_of};
@@ -58,11 +58,7 @@ pub fn call_sites(out: &mut [u8], at: usize, e: &Extent, landings: &[u64]) -> us
         return at;
     }
     let a = leb::fill(out, at, headers::padding(4, at));
-    let of_function = Landings {
-        list: landings,
-        at: e.landings_at,
-        n: e.landings,
-    };
+    let of_function = Landings::of(e, landings);
     of_function.put_table(out, a)
 }
 
@@ -73,11 +69,7 @@ pub fn call_sites_size(at: usize, e: &Extent, landings: &[u64]) -> usize
     if e.landings == 0 {
         return 0;
     }
-    let of_function = Landings {
-        list: landings,
-        at: e.landings_at,
-        n: e.landings,
-    };
+    let of_function = Landings::of(e, landings);
     let n = of_function.size();
     headers::padding(4, at) + 3 + leb::uleb_size(n as u64) + n
 }
@@ -242,19 +234,38 @@ fn fields_size(f: &Function) -> usize
 
 // ---- a record
 
+// The rows of a function that lead.
+fn leading<'a>(f: &Function<'a>) -> Run<'a>
+    ensures { Leading f.now result }
+{
+    Run {
+        word: f.machine.word,
+        rows: f.rows,
+        at: f.extent.rows_at,
+        n: header_keys::ahead(&f.extent, f.rows),
+    }
+}
+
+// The others.
+fn others<'a>(f: &Function<'a>) -> Run<'a>
+    ensures { Others f.now result }
+{
+    let k = header_keys::ahead(&f.extent, f.rows);
+    let left = f.extent.rows - k;
+    Run {
+        word: f.machine.word,
+        rows: f.rows,
+        at: f.extent.rows_at + k,
+        n: left,
+    }
+}
+
 // How many bytes a record at `at` has, whose function's rows have `size` bytes, those that lead too.
 pub fn record_size(f: &Function, at: usize, size: usize) -> usize
     requires { (at < 2 ^ 32) × (size ≡ length (rows_of f.now)) }
     ensures { result ≡ length (record_of f.now at 0) }
 {
-    let k = header_keys::ahead(&f.extent, f.rows);
-    let leading = Run {
-        word: f.machine.word,
-        rows: f.rows,
-        at: f.extent.rows_at,
-        n: k,
-    };
-    let body = fields_size(f) + (size - stepped_rows_size(&leading));
+    let body = fields_size(f) + (size - stepped_rows_size(&leading(f)));
     4 + body + headers::padding(f.align, at + 4 + body)
 }
 
@@ -263,17 +274,10 @@ pub fn record(out: &mut [u8], at: usize, f: &Function, cie: usize) -> usize
     requires { (cie ≤ at + 4) × (at + length (record_of f.now at cie) ≤ length out.old) }
     ensures { Wrote out.old out.new at result (record_of f.now at cie) }
 {
-    let k = header_keys::ahead(&f.extent, f.rows);
-    let left = f.extent.rows - k;
-    let others = Run {
-        word: f.machine.word,
-        rows: f.rows,
-        at: f.extent.rows_at + k,
-        n: left,
-    };
+    let run = others(f);
     let a = leb::fill(out, at, 4);
     let b = fields(out, a, f, (at + 4 - cie) as u64);
-    let c = stepped_rows(out, b, &others);
+    let c = stepped_rows(out, b, &run);
     headers::pad(out, at, c, f.align)
 }
 
@@ -505,14 +509,7 @@ pub fn record_relocs_count(f: &Function, pairs: &[u64]) -> usize
     let Some(labels) = f.extent.relaxed else {
         return n;
     };
-    let k = header_keys::ahead(&f.extent, f.rows);
-    let others = Run {
-        word: f.machine.word,
-        rows: f.rows,
-        at: f.extent.rows_at + k,
-        n: f.extent.rows - k,
-    };
-    n + step_relocs_count(&others, &Pairs::of(&labels, pairs))
+    n + step_relocs_count(&others(f), &Pairs::of(&labels, pairs))
 }
 
 // Those of a record: of the fields, then of the steps.
@@ -524,13 +521,6 @@ pub fn record_relocs(out: &mut [u64], i: usize, f: &Function, p: &Places, pairs:
     let Some(labels) = f.extent.relaxed else {
         return a;
     };
-    let k = header_keys::ahead(&f.extent, f.rows);
-    let others = Run {
-        word: f.machine.word,
-        rows: f.rows,
-        at: f.extent.rows_at + k,
-        n: f.extent.rows - k,
-    };
     let place = p.at + 4 + fields_size(f);
-    step_relocs(out, a, place as u64, &others, &Pairs::of(&labels, pairs))
+    step_relocs(out, a, place as u64, &others(f), &Pairs::of(&labels, pairs))
 }

@@ -15,7 +15,7 @@ pub overflow_add-result-2 : goal.overflow_add-result-2
 overflow_add-result-2 c = omega (arith, padding_small 4 c.args.at (omega arith), c.padding.ensures, uleb_most c.size-n.result)
 
 pub overflow_add-result-3 : goal.overflow_add-result-3
-overflow_add-result-3 c = omega (arith, padding_small 4 c.args.at (omega arith), c.padding.ensures, uleb_most c.size-n.result, sites_most c.args.landings.now c.args.e.now.landings_at c.args.e.now.landings)
+overflow_add-result-3 c = let s = rw (c.of-of_function.ensures.0, c.of-of_function.ensures.1, c.of-of_function.ensures.2) at c.size-n.ensures in omega (arith, padding_small 4 c.args.at (omega arith), c.padding.ensures, uleb_most c.size-n.result, sites_most c.args.landings.now c.args.e.now.landings_at c.args.e.now.landings)
 
 pub returns : goal.returns
-returns c = let n = c.if-e-eq0.false in rw (added_length, ← c.size-n.ensures) (search rules)
+returns c = let n = c.if-e-eq0.false in let s = rw (c.of-of_function.ensures.0, c.of-of_function.ensures.1, c.of-of_function.ensures.2) at c.size-n.ensures in rw (added_length, ← s) (search rules)
