@@ -9,7 +9,7 @@ use Rattle.lists.specs.Extents.{meant}
 use Rattle.header_keys.specs.declared.written.Function as written
 use Rattle.header_keys.specs.declared.written.Run.{Run}
 use Rattle.header_keys.specs.Functions.{body_of}
-use Rattle.records.specs.declared.Places.{Places}
+use Rattle.records.specs.declared.places.Places.{Places}
 use Rattle.records.specs.declared.pair_list.Pairs.{Pairs}
 use Rattle.records.specs.Stepped.{rows_in, SteppedReady}
 use Rattle.records.specs.Fields.{fields_in}

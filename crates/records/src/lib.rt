@@ -29,6 +29,9 @@ use rows::{StepForm, Word};
 
 pub mod landing_list;
 pub mod pair_list;
+pub mod places;
+
+pub use places::Places;
 
 // ---- call sites
 
@@ -449,17 +452,9 @@ fn lsda_count(f: &Function) -> usize
     }
 }
 
-// Where a record, its header and the function's call sites start.
-#[derive(Clone, Copy)]
-pub struct Places {
-    pub at: usize,
-    pub cie: usize,
-    pub table: usize,
-}
-
 // In debug_frame the header's place in the section, the function and its length.
 fn debug_relocs(out: &mut [u64], i: usize, f: &Function, p: &Places) -> usize
-    requires { (p.now.at < 2 ^ 32) × (i + length (numbers_of (debug_relocs f.now.machine.now.word p.now.at p.now.cie f.now.extent)) ≤ length out.old) }
+    requires { i + length (numbers_of (debug_relocs f.now.machine.now.word p.now.at p.now.cie f.now.extent)) ≤ length out.old }
     ensures { Wrote out.old out.new i result (numbers_of (debug_relocs f.now.machine.now.word p.now.at p.now.cie f.now.extent)) }
 {
     let word = f.machine.word;
@@ -472,7 +467,7 @@ fn debug_relocs(out: &mut [u64], i: usize, f: &Function, p: &Places) -> usize
 
 // In eh_frame the function, the call sites and the length.
 fn eh_relocs(out: &mut [u64], i: usize, f: &Function, p: &Places) -> usize
-    requires { (p.now.at < 2 ^ 32) × (i + length (numbers_of (eh_relocs f.now.machine.now.word p.now.at p.now.table f.now.extent)) ≤ length out.old) }
+    requires { i + length (numbers_of (eh_relocs f.now.machine.now.word p.now.at p.now.table f.now.extent)) ≤ length out.old }
     ensures { Wrote out.old out.new i result (numbers_of (eh_relocs f.now.machine.now.word p.now.at p.now.table f.now.extent)) }
 {
     let at = p.at as u64;
@@ -482,7 +477,7 @@ fn eh_relocs(out: &mut [u64], i: usize, f: &Function, p: &Places) -> usize
 }
 
 fn field_relocs(out: &mut [u64], i: usize, f: &Function, p: &Places) -> usize
-    requires { (p.now.at < 2 ^ 32) × (i + length (numbers_of (field_relocs f.now.debug f.now.machine.now.word p.now.at p.now.cie p.now.table f.now.extent)) ≤ length out.old) }
+    requires { i + length (numbers_of (field_relocs f.now.debug f.now.machine.now.word p.now.at p.now.cie p.now.table f.now.extent)) ≤ length out.old }
     ensures { Wrote out.old out.new i result (numbers_of (field_relocs f.now.debug f.now.machine.now.word p.now.at p.now.cie p.now.table f.now.extent)) }
 {
     if f.debug {
@@ -514,7 +509,7 @@ pub fn record_relocs_count(f: &Function, pairs: &[u64]) -> usize
 
 // Those of a record: of the fields, then of the steps.
 pub fn record_relocs(out: &mut [u64], i: usize, f: &Function, p: &Places, pairs: &[u64]) -> usize
-    requires { LabelsReady f.now.extent pairs.now × (p.now.at < 2 ^ 32) × (i + 5 * length (record_relocs_of f.now p.now pairs.now) ≤ length out.old) }
+    requires { LabelsReady f.now.extent pairs.now × (i + 5 * length (record_relocs_of f.now p.now pairs.now) ≤ length out.old) }
     ensures { Wrote out.old out.new i result (numbers_of (record_relocs_of f.now p.now pairs.now)) }
 {
     let a = field_relocs(out, i, f, p);

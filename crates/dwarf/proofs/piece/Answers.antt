@@ -11,7 +11,10 @@ pub overflow_add-p : goal.overflow_add-p
 overflow_add-p c = omega (arith, table_fits c.requires c.padding.ensures)
 
 pub record_relocs-i-requires : goal.record_relocs-i-requires
-record_relocs-i-requires c = relocs_ready c.requires _
+record_relocs-i-requires c = let r = relocs_ready c.requires _ in (r.0, r.2)
+
+pub invariant_of-p : goal.invariant_of-p
+invariant_of-p c = record { low = (relocs_ready c.requires 0).1 }
 
 pub call_sites-end-requires : goal.call_sites-end-requires
 call_sites-end-requires c = sites_ready c.requires
