@@ -128,7 +128,7 @@ pub fn stepped_rows_size(run: &Run) -> usize
 
 // The size of row i and its step, from the offset `from` on, where the row passes questions 13, 23 and 24. None says nothing.
 fn surveyed_row(word: u64, from: u64, rows: &[u64], i: usize) -> Option<usize>
-    requires { T (is_word_size word) × (4 * i + 4 ≤ length rows.now) }
+    requires { T (is_word_size word) × (row_stride * i + row_stride ≤ length rows.now) }
     ensures { IfSome result (λ n. (n ≤ 14) × SurveyedRow word from rows.now i n) }
 {
     let to = rows::offset_at(rows, i);
