@@ -118,8 +118,8 @@ impl Epilogues {
 
 // A full record's header: the length in instructions, the handler's mark X, the epilogues, the words of codes, and the place past the header, where
 // the epilogues' words start.
-// Kept: no invariant on the fields' widths, here and in Packed: `tally` and `as_fields` of the definitions make a Packed out of any counts, and
-// `header_with` a Header out of any numbers, so each would ask for widths that it does not need.
+// Kept: no invariant on the fields' widths, here and in Packed: the definitions make a Header of any numbers (`header_with`) and a Packed of any counts
+// (`tally`), so each would ask for widths that it does not need. A word whose fields are read or checked is arm64_packed's `Word`, which has them.
 #[derive(Clone, Copy)]
 pub struct Header {
     pub length: u64,
