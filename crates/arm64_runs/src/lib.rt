@@ -6,12 +6,12 @@ ghost use Rattle.std.proofs.Math.Option.{some};
 ghost use Rattle.format.proofs.Asked.{option_of};
 ghost use Rattle.format.specs.Put.{put};
 ghost use Rattle.format.proofs.Wrote.{Wrote};
-ghost use Rattle.arm64.specs.Lists.{code_numbers};
+ghost use Rattle.arm64.specs.Lists.{code_stride, code_numbers};
 ghost use Rattle.arm64.specs.Meaning.{reverse};
 ghost use Rattle.arm64.specs.Reader.{run_at};
 ghost use Rattle.arm64_runs.specs.Runs.{count_of, codes_in};
 
-use arm64::Code;
+use arm64::{Code, fields};
 
 // How many codes the run from a place on has, up to its end code; nothing where there is no run.
 // Kept: a `while let` by places here and below, and no iterator of codes: its None would tell the run's end and a place without a code alike.
@@ -42,7 +42,7 @@ pub fn put_three(out: &mut [u64], at: usize, numbers: [u64; 3]) -> usize
 
 #[tactic(auto, unfolding(arm64::specs::Lists::code_numbers))]
 pub fn put_code(out: &mut [u64], at: usize, c: Code) -> usize
-    requires { at + 3 ≤ length out.old }
+    requires { at + code_stride ≤ length out.old }
     ensures { Wrote out.old out.new at result (code_numbers (c ∷ [])) }
 {
     put_three(out, at, [c.kind, c.register, c.offset])
@@ -51,7 +51,7 @@ pub fn put_code(out: &mut [u64], at: usize, c: Code) -> usize
 // A run's codes, in its order.
 #[tactic(auto, using(arm64::proofs::Coded::is_none, arm64::proofs::Coded::is_some, arm64_codes::proofs::Formed::ahead, crate::proofs::Stores::put_room, crate::proofs::Stores::put_ended, crate::proofs::Stores::never_none))]
 pub fn put_run(out: &mut [u64], at: usize, s: &[u8], from: usize) -> usize
-    requires { (run_at s.now from ≡ some (codes_in (run_at s.now from))) × (at + 3 * length (codes_in (run_at s.now from)) ≤ length out.old) }
+    requires { (run_at s.now from ≡ some (codes_in (run_at s.now from))) × (at + code_stride * length (codes_in (run_at s.now from)) ≤ length out.old) }
     ensures { Wrote out.old out.new at result (code_numbers (codes_in (run_at s.now from))) }
 {
     let mut p = from;
@@ -69,7 +69,7 @@ pub fn put_run(out: &mut [u64], at: usize, s: &[u8], from: usize) -> usize
 // The codes of the run at 0, the last of them first, at the list's front, up to `end`.
 #[tactic(auto, using(arm64::proofs::Coded::is_none, arm64::proofs::Coded::is_some, arm64_codes::proofs::Formed::ahead, crate::proofs::Stores::never_none))]
 pub fn put_back(out: &mut [u64], end: usize, s: &[u8])
-    requires { (run_at s.now 0 ≡ some (codes_in (run_at s.now 0))) × (end ≡ 3 * length (codes_in (run_at s.now 0))) × (end ≤ length out.old) }
+    requires { (run_at s.now 0 ≡ some (codes_in (run_at s.now 0))) × (end ≡ code_stride * length (codes_in (run_at s.now 0))) × (end ≤ length out.old) }
     ensures { out.new ≡ put out.old 0 (code_numbers (reverse (codes_in (run_at s.now 0)))) }
 {
     let mut p = 0;
@@ -78,7 +78,7 @@ pub fn put_back(out: &mut [u64], end: usize, s: &[u8])
         if c.kind == arm64::END {
             break;
         }
-        i -= 3;
+        i -= fields::CODE_STRIDE;
         put_code(out, i, c);
         p = q;
     }
