@@ -6,7 +6,7 @@ ghost use Rattle.std.proofs.Math.Option.{some};
 ghost use Rattle.format.proofs.Asked.{option_of};
 ghost use Rattle.format.specs.Put.{put};
 ghost use Rattle.format.proofs.Wrote.{Wrote};
-ghost use Rattle.arm64.specs.Lists.{code_numbers, epilogue_numbers};
+ghost use Rattle.arm64.specs.Lists.{epilogue_stride, code_stride, code_numbers, epilogue_numbers};
 ghost use Rattle.arm64.specs.declared.Epilogues.TheVariants.{Scoped};
 ghost use Rattle.arm64.specs.Records.{word_at, epilogues_with, header_with, scopes_in, codes_from, codes_to, codes_of};
 ghost use Rattle.arm64.specs.Reader.{run_at, scoped, epilogue_codes};
@@ -127,7 +127,7 @@ pub struct Output<'a> {
 impl Output<'_> {
     // An epilogue in place k: its start, where its codes stand and how many there are, and the codes. This gives the place past them.
     pub fn put_one(&mut self, k: usize, at: usize, codes: &[u8], start: u64, index: usize) -> usize
-        requires { (run_at codes.now index ≡ some (codes_in (run_at codes.now index))) × (3 * (k + 1) ≤ length self.old.epilogues.now) × (3 * (at + length (codes_in (run_at codes.now index))) ≤ length self.old.codes.now) }
+        requires { (run_at codes.now index ≡ some (codes_in (run_at codes.now index))) × (epilogue_stride * (k + 1) ≤ length self.old.epilogues.now) × (code_stride * (at + length (codes_in (run_at codes.now index))) ≤ length self.old.codes.now) }
         ensures { PlacedIn self.old self.new k at result start (codes_in (run_at codes.now index)) }
     {
         let past = arm64_runs::put_run(self.codes, fields::CODE_STRIDE * at, codes, index)
@@ -216,7 +216,7 @@ impl<'a> Record<'a> {
 
     // The epilogues for each of which a word stands; n codes stand before theirs.
     fn put_scoped(&self, count: u64, n: usize, to: &mut Output)
-        requires { (self.now.header.epilogues ≡ Scoped count) × (scoped (word_of self.now) self.now.codes.now 0 count ≡ some (epilogues_in (scoped (word_of self.now) self.now.codes.now 0 count))) × (3 * count ≤ length to.old.epilogues.now) × (3 * (n + length (epilogue_codes (epilogues_in (scoped (word_of self.now) self.now.codes.now 0 count)))) ≤ length to.old.codes.now) }
+        requires { (self.now.header.epilogues ≡ Scoped count) × (scoped (word_of self.now) self.now.codes.now 0 count ≡ some (epilogues_in (scoped (word_of self.now) self.now.codes.now 0 count))) × (epilogue_stride * count ≤ length to.old.epilogues.now) × (code_stride * (n + length (epilogue_codes (epilogues_in (scoped (word_of self.now) self.now.codes.now 0 count)))) ≤ length to.old.codes.now) }
         ensures { ListedIn to.old to.new n (epilogues_in (scoped (word_of self.now) self.now.codes.now 0 count)) }
     {
         let mut at = n;
@@ -234,7 +234,7 @@ impl<'a> Record<'a> {
 
     // The epilogues, behind n codes of the prologue; their codes are m.
     pub fn put_epilogues(&self, n: usize, m: usize, to: &mut Output)
-        requires { (total_of (epilogues_of self.now) ≡ some m) × (3 * how_many self.now.header ≤ length to.old.epilogues.now) × (3 * (n + m) ≤ length to.old.codes.now) }
+        requires { (total_of (epilogues_of self.now) ≡ some m) × (epilogue_stride * how_many self.now.header ≤ length to.old.epilogues.now) × (code_stride * (n + m) ≤ length to.old.codes.now) }
         ensures { ListedIn to.old to.new n (epilogues_in (epilogues_of self.now)) }
     {
         match self.header.epilogues {
