@@ -4,7 +4,7 @@
 ghost use Rattle.std.specs.Prelude.{◌≡◌, [], ◌∷◌, ◌+◌, ◌*◌, ◌≤◌, ◌<◌, length};
 ghost use Rattle.format.proofs.Asked.{option_of};
 ghost use Rattle.format.proofs.Wrote.{Wrote};
-ghost use Rattle.arm64.specs.Lists.{code_numbers};
+ghost use Rattle.arm64.specs.Lists.{code_stride, code_numbers};
 ghost use Rattle.arm64.specs.Packed.{packed_of, integer_size, vector_count, saved_size, local_size, chain_ok, packed_ok, lone, integer_pair, integer_odd, integer_slot, vector_pair, vector_slot, alloc_slot, rest_slot, chain_slot, local_slot, slot, slots_from, undone, slot_at};
 ghost use Rattle.arm64_packed.specs.Fields.{Small};
 
@@ -233,7 +233,7 @@ impl Word {
 
     // The prologue's codes or the epilogue's.
     pub fn put_slots(self, out: &mut [u64], at: usize, part: Part) -> usize
-        requires { at + 3 * length (slots_from (slot_at part self.fields) 0 19) ≤ length out.old }
+        requires { at + code_stride * length (slots_from (slot_at part self.fields) 0 19) ≤ length out.old }
         ensures { Wrote out.old out.new at result (code_numbers (slots_from (slot_at part self.fields) 0 19)) }
     {
         let mut to = at;
