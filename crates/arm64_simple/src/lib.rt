@@ -4,6 +4,7 @@
 
 ghost use Rattle.std.specs.Prelude.{◌≡◌, true, ◌+◌, ◌*◌, ◌^◌, ◌≤◌, ◌<◌, length};
 ghost use Rattle.format.proofs.Wrote.{Wrote};
+ghost use Rattle.arm64.specs.Codes.{k_regp_x};
 ghost use Rattle.arm64.specs.Runs.{shorter, pair_in, has_next, next_pair, resolved, next_or, simple, pair_behind, run_fits, backwards, no_pair, leads};
 ghost use Rattle.arm64_simple.specs.Saves.{place_of, saved_at, Inside};
 
@@ -35,7 +36,7 @@ pub const NO_PAIR: Code = Code {
 // ---- one code
 
 fn shorter_push(c: Code) -> Code
-    requires { c.kind ≡ 5 }
+    requires { c.kind ≡ k_regp_x }
     ensures { result ≡ shorter c }
 {
     if c.register == 29 {
