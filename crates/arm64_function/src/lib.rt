@@ -35,7 +35,7 @@ pub struct Parts {
 }
 
 fn prologue_at(fs: &[u64], k: usize) -> Run
-    requires { 6 * k + 6 ≤ length fs.now }
+    requires { function_stride * k + function_stride ≤ length fs.now }
     ensures { result ≡ prologue_at fs.now k }
 {
     Run {
@@ -46,7 +46,7 @@ fn prologue_at(fs: &[u64], k: usize) -> Run
 }
 
 fn epilogue_at(es: &[u64], i: usize) -> Run
-    requires { 3 * i + 3 ≤ length es.now }
+    requires { epilogue_stride * i + epilogue_stride ≤ length es.now }
     ensures { result ≡ epilogue_at es.now i }
 {
     Run {
@@ -57,7 +57,7 @@ fn epilogue_at(es: &[u64], i: usize) -> Run
 }
 
 fn parts_at(fs: &[u64], k: usize) -> Parts
-    requires { (6 * k + 6 ≤ length fs.now) × (field function_stride fs.now k 4 + field function_stride fs.now k 5 < 2 ^ 64) }
+    requires { (function_stride * k + function_stride ≤ length fs.now) × (field function_stride fs.now k 4 + field function_stride fs.now k 5 < 2 ^ 64) }
     ensures { result ≡ parts_at fs.now k }
 {
     let prologue = prologue_at(fs, k);
