@@ -13,6 +13,13 @@ use Rattle.arm64_function.specs.Listed.{Listed, Fine}
 
 -- ---- one function
 
+-- the bytes of a row of .pdata, and the numbers of a relocation
+abbrev pub row_size : ℕ
+row_size = 8
+
+abbrev pub relocation_stride : ℕ
+relocation_stride = 5
+
 -- the relocations of a row at `place`: that of the function's start, and that of its record where there is no packed word
 unfoldable pub relocs_by : (place symbol : ℕ) → Option ℕ → List Relocation
 relocs_by place symbol word =

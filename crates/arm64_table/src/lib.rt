@@ -14,23 +14,29 @@ ghost use Rattle.lists.specs.Lent.{room_of, WritesTo};
 ghost use Rattle.format.proofs.Wrote.{Wrote};
 ghost use Rattle.unwind.specs.Entries.{Exports};
 ghost use Rattle.arm64.specs.Writer.{function_asks, markers_from, rows_of, relocs_from, infos_of, arm64, arm64_answer};
-ghost use Rattle.arm64_table.specs.Tables.{relocs_by, reloc_count, mark_by, AllListed};
+ghost use Rattle.arm64_table.specs.Tables.{row_size, relocation_stride, relocs_by, reloc_count, mark_by, AllListed};
 
 use arm64::fields;
 use arm64_function::{function_asks, info_size, packed_word, put_info};
 use arm64_lists::Lists;
 use format::{Counts, Question, Refusal};
 use lists::output::Output;
-use relocs::{number, relocation};
+use relocs::{RELOCATION_STRIDE, number, relocation};
 use unwind::{Written, written_of};
 
 // ---- one function
 
 // Kept: the list and the place stand side by side here: a struct that lends the list would ask each contract to say that it is the same list still,
 // which a slice needs not say.
-// A row's eight bytes: the blank of the function's start, and its word.
+// The bytes of a row of .pdata.
+const ROW: usize = 8;
+
+// Where the word stands in it.
+const WORD: u64 = 4;
+
+// A row's bytes: the blank of the function's start, and its word.
 fn put_row(out: &mut [u8], at: usize, word: u64) -> usize
-    requires { at + 8 ≤ length out.old }
+    requires { at + row_size ≤ length out.old }
     ensures { Wrote out.old out.new at result (little 4 0 ++ little 4 word) }
 {
     let a = leb::le(out, at, 4, 0);
@@ -39,7 +45,7 @@ fn put_row(out: &mut [u8], at: usize, word: u64) -> usize
 
 // The relocations of the row at `place`.
 fn put_row_relocs(out: &mut [u64], at: usize, place: u64, symbol: u64, word: Option<u64>) -> usize
-    requires { (at + 5 * length (relocs_by place symbol word) ≤ length out.old) × (place < 2 ^ 32) × (symbol < 2 ^ 32) }
+    requires { (at + relocation_stride * length (relocs_by place symbol word) ≤ length out.old) × (place < 2 ^ 32) × (symbol < 2 ^ 32) }
     ensures { Wrote out.old out.new at result (numbers_of (relocs_by place symbol word)) }
 {
     let a = relocation(out, at, place, symbol, relocs::IMAGE, 4, 0);
@@ -49,7 +55,7 @@ fn put_row_relocs(out: &mut [u64], at: usize, place: u64, symbol: u64, word: Opt
     relocation(
         out,
         a,
-        place + 4,
+        place + WORD,
         relocs::MARKER + symbol,
         relocs::IMAGE,
         4,
@@ -129,17 +135,17 @@ impl Functions<'_> {
 
     // The rows of the functions, and their relocations.
     fn put_rows(&self, bytes: &mut [u8], relocations: &mut [u64]) -> usize
-        requires { AllFineOf self.now × (8 * self.now.count ≤ length bytes.old) × (5 * length (relocs_from 0 (functions_of self.now)) ≤ length relocations.old) }
+        requires { AllFineOf self.now × (row_size * self.now.count ≤ length bytes.old) × (relocation_stride * length (relocs_from 0 (functions_of self.now)) ≤ length relocations.old) }
         ensures { (bytes.new ≡ put bytes.old 0 (rows_of (functions_of self.now))) × (relocations.new ≡ put relocations.old 0 (numbers_of (relocs_from 0 (functions_of self.now)))) }
     {
         let mut to = 0;
         for k in 0..self.count {
             let word = packed_word(&self.lists, k);
-            put_row(bytes, 8 * k, word.unwrap_or(0));
+            put_row(bytes, ROW * k, word.unwrap_or(0));
             to = put_row_relocs(
                 relocations,
                 to,
-                (8 * k) as u64,
+                (ROW * k) as u64,
                 self.lists.functions[fields::FUNCTION_STRIDE * k],
                 word,
             );
@@ -163,14 +169,14 @@ impl Functions<'_> {
 
     // All results, where they have room.
     fn put_all(&self, needed: Needed, to: &mut Output) -> Result<Option<Counts>, Refusal>
-        requires { AllFineOf self.now × (needed.info ≡ length (infos_of (functions_of self.now))) × (needed.relocations ≡ length (relocs_from 0 (functions_of self.now))) × (self.now.count ≤ length to.old.places.now) × (8 * self.now.count ≤ length to.old.bytes.now) × (5 * needed.relocations ≤ length to.old.relocations.now) × (needed.info ≤ length to.old.sites.now) }
+        requires { AllFineOf self.now × (needed.info ≡ length (infos_of (functions_of self.now))) × (needed.relocations ≡ length (relocs_from 0 (functions_of self.now))) × (self.now.count ≤ length to.old.places.now) × (row_size * self.now.count ≤ length to.old.bytes.now) × (relocation_stride * needed.relocations ≤ length to.old.relocations.now) × (needed.info ≤ length to.old.sites.now) }
         ensures { WritesTo (accepted (arm64 (functions_of self.now))) (numbered_at result) to.old to.new }
     {
         self.put_rows(to.bytes, to.relocations);
         self.put_infos(to.places, to.sites);
         Ok(Some(Counts {
             places: self.count as u64,
-            bytes: (8 * self.count) as u64,
+            bytes: (ROW * self.count) as u64,
             relocations: needed.relocations as u64,
             sites: needed.info as u64,
         }))
@@ -184,8 +190,8 @@ impl Functions<'_> {
         let needed = self.sizes();
         let counts = Counts {
             places: self.count as u64,
-            bytes: (8 * self.count) as u64,
-            relocations: (5 * needed.relocations) as u64,
+            bytes: (ROW * self.count) as u64,
+            relocations: (RELOCATION_STRIDE * needed.relocations) as u64,
             sites: needed.info as u64,
         };
         lists::room(counts, to.lent())?;
