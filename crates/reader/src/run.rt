@@ -3,8 +3,8 @@ ghost use Rattle.std.specs.Prelude.{◌≡◌, false, T};
 ghost use Rattle.format.specs.Coded.{numbered};
 ghost use Rattle.format.specs.Rules.{answer};
 ghost use Rattle.reader.specs.Finds.{in_section, found, run_both};
-ghost use Rattle.reader.specs.OneRegister.{start, set_cfa, set_rule, register_rule, restored, remember, recall, negated, act};
-ghost use Rattle.reader.specs.States.{run_of, Acts};
+ghost use Rattle.reader.specs.OneRegister.{start, set_cfa, set_rule, register_rule, restored, remember, recall, negated, act, perform};
+ghost use Rattle.reader.specs.States.{run_of, Acts, Performs};
 
 use crate::location::Located;
 use crate::operation::Operations;
@@ -127,8 +127,34 @@ pub fn act(s: &mut State, q: u16, initial: Option<Rule>, row: Row) -> Result<(),
     Ok(())
 }
 
+// An operation, or the question that it is refused by: a row is done, and a step is handed on. Question 66: no step in a header.
+pub fn perform(
+    s: &mut State,
+    q: u16,
+    initial: Option<Rule>,
+    op: Operation,
+) -> Result<Option<u64>, Question>
+    ensures { Performs result (run_of s.new) (perform q initial op (run_of s.old)) }
+{
+    match op {
+        Operation::Nop => Ok(None),
+        Operation::Step(n) => {
+            if initial.is_none() {
+                return Err(Question::Operations);
+            }
+            Ok(Some(n))
+        }
+        Operation::Does(row) => {
+            act(s, q, initial, row)?;
+            Ok(None)
+        }
+    }
+}
+
 // ---- the operations of two entries
 
+// Kept: a loop like that of `listing::run::fill`. Both have their operations from the iterator and `perform`, and differ in what is left: what a
+// step does, what a refusal is (an error here; there the end of the lines so far) and what is answered in the end.
 // The header's operations and then the record's, for register q, until a step would pass p.
 pub fn run(s: &[u8], l: &Located, p: u64, q: u16) -> Result<Rules, Question>
     requires { T (in_section s.now l.now) }
@@ -140,28 +166,18 @@ pub fn run(s: &[u8], l: &Located, p: u64, q: u16) -> Result<Rules, Question>
     'entries: for span in l.operations() {
         let from = span.at;
         let to = span.end;
-        let ops = &s[from..to];
         let mut loc = 0;
-        'operations: for read in Operations::new(ops, l.word) {
+        'operations: for read in Operations::new(&s[from..to], l.word) {
             let Some((op, _)) = read else {
                 return Err(Question::Operations);
             };
-            match op {
-                Operation::Nop => continue 'operations,
-                Operation::Step(n) => {
-                    if initial.is_none() {
-                        return Err(Question::Operations);
-                    }
-                    if p - loc < n {
-                        continue 'entries;
-                    }
-                    loc += n;
-                    continue 'operations;
-                }
-                Operation::Does(row) => {
-                    act(&mut state, q, initial, row)?;
-                }
+            let Some(n) = perform(&mut state, q, initial, op)? else {
+                continue 'operations;
+            };
+            if p - loc < n {
+                continue 'entries;
             }
+            loc += n;
         }
         initial = Some(state.rules.rule);
     }
