@@ -17,6 +17,7 @@ use Rattle.format.proofs.PutLaws.{put-append, put-in_front, length-put}
 use Rattle.operations.specs.declared.fields.Position.{Position}
 use Rattle.operations.specs.Positions.{from}
 use Rattle.x64_reader.specs.declared.Fields.{Fields}
+use Rattle.x64_reader.specs.declared.Slots.{Slots}
 use Rattle.x64_reader.specs.Reads.{field_numbers, CodeThere, or_frame, counted_of, Held, stored_of}
 
 -- ---- one step of the definition
@@ -100,6 +101,31 @@ module _ {P : List (ℕ × Seh) → Type 0} {frame : ℕ} {s : List ℕ} {p : Po
   -- at most as many codes as there are
   pub few : {ds : List (ℕ × Seh)} → read_codes frame s ≡ some ds → length g.codes ≤ length ds
   few e = rw (g.same ∙ e) at (codes_hold g.fuel frame g.codes (drop p.at s))
+
+-- ---- by the slots that are left
+
+pub record Reading (P : List (ℕ × Seh) → Type 0) (frame : ℕ) (s : List ℕ) (x : Slots) : Type 0 where
+  pub bytes : x.bytes.now ≡ s
+  pub mark : x.frame ≡ frame
+  pub going : Going P frame s x.at
+
+module _ {P : List (ℕ × Seh) → Type 0} {frame : ℕ} {s : List ℕ} {x : Slots} (r : Reading P frame s x) where
+  pub more : x.at.at < length x.bytes.now → x.at.at < length s
+  more h = rw r.bytes at h
+
+  pub at_end : length x.bytes.now ≤ x.at.at → length s ≤ x.at.at
+  at_end h = rw r.bytes at h
+
+  pub there : {offset : ℕ} {f : Fields} {q : Position} → CodeThere x.frame x.bytes.now x.at offset f q → CodeThere frame s x.at offset f q
+  there t = rw (r.bytes, r.mark) at t
+
+  pub none_there : read_code x.frame (drop x.at.at x.bytes.now) ≡ none → read_code frame (drop x.at.at s) ≡ none
+  none_there e = rw (r.bytes, r.mark) at e
+
+  pub onward : (Q : Position → List (ℕ × Seh) → Type 0) {y : Slots} {offset : ℕ} {f : Fields} {q : Position} → x.at.at < length x.bytes.now
+      → (t : CodeThere x.frame x.bytes.now x.at offset f q) → y.bytes.now ≡ x.bytes.now → y.frame ≡ x.frame → y.at ≡ q
+      → ((cs : List (ℕ × Seh)) → P cs → Q q ((offset, (there t).said) ∷ cs)) → Reading (Q y.at) frame s y
+  onward Q h t e f g k = record { bytes = e ∙ r.bytes; mark = f ∙ r.mark; going = rw g (turn r.going (more h) (there t) k) }
 
 -- ---- counted
 

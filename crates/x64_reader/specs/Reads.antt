@@ -8,6 +8,7 @@ use Rattle.operations.specs.declared.fields.Position.{Position}
 use Rattle.format.specs.X64Reader.{read_code, fields_of, code_numbers, has_frame, header_ok}
 use Rattle.x64_reader.specs.declared.Fields.{Fields}
 use Rattle.x64_reader.specs.declared.Code.{Code}
+use Rattle.x64_reader.specs.declared.Slots.{Slots}
 use Rattle.x64_reader.specs.declared.Header.{Header}
 use Rattle.x64_reader.specs.declared.X64Reading.{X64Reading}
 
@@ -34,6 +35,15 @@ CodeSays frame s p (Some c) = CodeThere frame s p c.offset c.fields c.past
 CodeSays frame s p None = read_code frame (drop p.at s) ≡ none
 
 -- ---- the codes
+
+-- what `next` gives of some slots: what stands at the position, and then the position past it; none at the slots' end
+abbrev pub Behind : Slots → code.Option Code → Slots → Type 0
+Behind x None y = Unit
+Behind x (Some c) y = (y.bytes.now ≡ x.bytes.now) × (y.frame ≡ x.frame) × (y.at ≡ c.past)
+
+abbrev pub GivesCode : Slots → code.Option (code.Option Code) → Slots → Type 0
+GivesCode x None y = length x.bytes.now ≤ x.at.at
+GivesCode x (Some r) y = (x.at.at < length x.bytes.now) × CodeSays x.frame x.bytes.now x.at r × Behind x r y
 
 -- a code of kind 2 sets the frame register
 unfoldable pub or_frame : Bool → ℕ → Bool

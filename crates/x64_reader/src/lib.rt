@@ -8,6 +8,7 @@ ghost use Rattle.format.specs.Numbers.{number_of};
 ghost use Rattle.format.specs.Put.{put};
 ghost use Rattle.format.specs.Answers.{bit};
 ghost use Rattle.format.specs.X64Reader.{operand_bytes, large_size, meaning, fields_of, frame_register, frame_offset, read_codes, read_x64, info_numbers, codes_stored};
+ghost use Rattle.operations.specs.Positions.{from};
 ghost use Rattle.x64_reader.specs.Reads.{field_numbers, CodeSays, or_frame, counted_of, Held, stored_of, HeaderSays, read_numbers};
 
 use format::Question;
@@ -121,6 +122,48 @@ fn code_at(s: &[u8], at: Position, frame: u64) -> Option<Code>
 
 // ---- the codes of a record: first counted, then stored
 
+// A record's slots from a position on, code by code. One that cannot be read is None, and the last.
+#[derive(Drop)]
+struct Slots<'a> {
+    bytes: &'a [u8],
+    frame: u64,
+    at: Position,
+}
+
+impl Iterator for Slots<'_> {
+    ghost use Rattle.std.specs.Prelude.{◌-◌, length};
+    ghost use Rattle.std.specs.Iterator.{at_most};
+    ghost use Rattle.x64_reader.specs.Reads.{GivesCode};
+
+    type Item = Option<Code>;
+
+    ghost next_gives = { GivesCode };
+
+    ghost remaining = { λ s. at_most (length s.bytes.now - s.at.at) };
+
+    fn next(&mut self) -> Option<Option<Code>> {
+        if self.bytes.len() <= self.at.at {
+            return None;
+        }
+        let Some(code) = code_at(self.bytes, self.at, self.frame) else {
+            self.at.at = self.bytes.len();
+            return Some(None);
+        };
+        self.at = code.past;
+        Some(Some(code))
+    }
+}
+
+fn slots_in(bytes: &[u8], frame: u64) -> Slots
+    ensures { (result.bytes.now ≡ bytes.now) × (result.frame ≡ frame) × (result.at ≡ from 0) }
+{
+    Slots {
+        bytes,
+        frame,
+        at: Position::START,
+    }
+}
+
 fn or_frame(framed: bool, kind: u64) -> bool
     ensures { result ≡ or_frame framed kind }
 {
@@ -131,15 +174,11 @@ fn or_frame(framed: bool, kind: u64) -> bool
 fn count(s: &[u8], frame: u64) -> Option<(usize, bool)>
     ensures { result ≡ counted_of (read_codes frame s.now) }
 {
-    let mut at = Position::START;
     let mut n = 0usize;
     let mut framed = false;
-    // Kept: a while, since what was read says where the next stands; the position is the cursor.
-    while at.at < s.len() {
-        let code = code_at(s, at, frame)?;
-        framed = or_frame(framed, code.fields.kind);
+    for code in slots_in(s, frame) {
+        framed = or_frame(framed, code?.fields.kind);
         n += 1;
-        at = code.past;
     }
     Some((n, framed))
 }
@@ -157,16 +196,13 @@ fn store(s: &[u8], frame: u64, n: usize, codes: &mut [u64])
     requires { (code_stride * n ≤ length codes.old) × Held (read_codes frame s.now) n }
     ensures { codes.new ≡ stored_of (read_codes frame s.now) codes.old }
 {
-    let mut at = Position::START;
     let mut left = n;
-    // Kept: a while, since what was read says where the next stands; the position is the cursor.
-    while at.at < s.len() {
-        let Some(code) = code_at(s, at, frame) else {
+    for code in slots_in(s, frame) {
+        let Some(code) = code else {
             return;
         };
         left -= 1;
         put_code(codes, codes::STRIDE * left, code.offset, code.fields);
-        at = code.past;
     }
 }
 
