@@ -20,16 +20,16 @@ module _ (l : Layout) (bs : List ℕ) (r : Relocation) (behind : Option Relocati
   unfolding store_of
   by_kind k' t = ap (λ (x : Kind). store_as x l bs r behind) (sym t ∙ e)
 
-  module _ (h : (r.place + r.bytes ≤ length bs) × T (size_ok (kind_of r.kind) r.bytes)) (w : Width) where
+  module _ (h : r.place + r.bytes ≤ length bs) (sized : T (size_ok k r.bytes)) (w : Width) where
     pub set_inside : k ≡ Set w → r.place + bytes_of w ≤ length bs
     set_inside t =
-        let n = step_size w r.bytes (subst (λ (y : Kind). T (size_ok y r.bytes)) (sym e ∙ t) h.1) in
-        omega (arith, n, h.0)
+        let n = step_size w r.bytes (subst (λ (y : Kind). T (size_ok y r.bytes)) t sized) in
+        omega (arith, n)
 
     pub sub_inside : k ≡ Sub w → r.place + bytes_of w ≤ length bs
     sub_inside t =
-        let n = step_size_2 w r.bytes (subst (λ (y : Kind). T (size_ok y r.bytes)) (sym e ∙ t) h.1) in
-        omega (arith, n, h.0)
+        let n = step_size_2 w r.bytes (subst (λ (y : Kind). T (size_ok y r.bytes)) t sized) in
+        omega (arith, n)
 
   pub set_stored : (w : Width) → k ≡ Set w → set_in w bs r.place (sum_of l.symbols r) ≡ store_of l bs r behind
   unfolding store_as

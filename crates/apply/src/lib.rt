@@ -28,6 +28,7 @@ pub enum Width {
 }
 
 // What a relocation is by its number.
+// Kept: Unknown is a case of the definitions too (specs/Kinds.antt), each of which has a line for it; an Option would be one more case in each.
 #[derive(Clone, Copy)]
 pub enum Kind {
     Data,
@@ -146,12 +147,14 @@ fn reloc_at(relocs: &[u64], i: usize) -> Reloc
     }
 }
 
-// A relocation in its list, with those right before and right behind it.
+// A relocation in its list: its kind, and those right before and right behind it.
 #[derive(Clone, Copy)]
 pub struct InList {
     pub before: Option<Reloc>,
     pub reloc: Reloc,
+    pub kind: Kind,
     pub behind: Option<Reloc>,
+    pub ghost named: { kind ≡ kind_of reloc.kind },
 }
 
 #[tactic(auto, unfolding(crate::specs::Standing::beside, crate::specs::Standing::before_at, crate::specs::Standing::behind_at, format::specs::Prelude::pick))]
@@ -159,11 +162,20 @@ fn in_list(relocs: &[u64], i: usize) -> InList
     requires { i < count relocation_stride relocs.now }
     ensures { (beside result.before ≡ before_at relocs.now i) × (meant result.reloc ≡ relocation_at relocs.now i) × (beside result.behind ≡ behind_at relocs.now i) }
 {
+    let reloc = reloc_at(relocs, i);
     InList {
         before: i.checked_sub(1).map(|j| reloc_at(relocs, j)),
-        reloc: reloc_at(relocs, i),
+        reloc,
+        kind: Kind::from(reloc.kind),
         behind: (i + 1 < count(relocs)).then(|| reloc_at(relocs, i + 1)),
     }
+}
+
+// A relocation whose field has a size that the writers give its kind.
+#[derive(Clone, Copy)]
+pub struct Field<'a> {
+    pub of: &'a InList,
+    pub ghost sized: { T (size_ok of.now.kind of.now.reloc.bytes) },
 }
 
 // Whether s is the second of a pair that r is the first of.
@@ -175,10 +187,10 @@ fn partners(r: Reloc, s: Reloc) -> bool
 }
 
 #[tactic(auto, unfolding(crate::specs::Apply::paired, crate::specs::Apply::leads, crate::specs::Apply::follows, crate::specs::Standing::beside))]
-fn paired(k: Kind, x: &InList) -> bool
-    ensures { result ≡ paired k (beside x.now.before) (meant x.now.reloc) (beside x.now.behind) }
+fn paired(x: &InList) -> bool
+    ensures { result ≡ paired x.now.kind (beside x.now.before) (meant x.now.reloc) (beside x.now.behind) }
 {
-    match k {
+    match x.kind {
         Kind::SumPlus | Kind::Set(_) => x.behind.is_some_and(|s| partners(x.reloc, s)),
         Kind::SumMinus | Kind::Sub(_) => x.before.is_some_and(|s| partners(s, x.reloc)),
         Kind::Data | Kind::Address | Kind::Image | Kind::Unknown => true,
@@ -275,10 +287,10 @@ impl Placement<'_> {
 
     // The value of a relocation.
     #[tactic(auto, unfolding(crate::specs::Standing::true_value))]
-    fn true_value(&self, k: Kind, x: &InList) -> Option<i128>
-        ensures { result ≡ option_of (true_value k (placed self.now) (meant x.now.reloc) (beside x.now.behind)) }
+    fn true_value(&self, x: &InList) -> Option<i128>
+        ensures { result ≡ option_of (true_value x.now.kind (placed self.now) (meant x.now.reloc) (beside x.now.behind)) }
     {
-        match k {
+        match x.kind {
             Kind::Data => self.less(x.reloc, self.field(x.reloc)),
             Kind::Address => self.sum(x.reloc),
             Kind::SumPlus => self.apart(x),
@@ -289,11 +301,11 @@ impl Placement<'_> {
 
     // The value as it stands in its field, where it fits.
     #[tactic(auto, using(crate::proofs::Tests::no_value))]
-    fn value(&self, k: Kind, x: &InList) -> Option<u64>
-        requires { T (size_ok k x.now.reloc.bytes) }
-        ensures { result ≡ option_of (value_as k (placed self.now) (meant x.now.reloc) (beside x.now.behind)) }
+    fn value(&self, f: &Field) -> Option<u64>
+        ensures { result ≡ option_of (value_as f.now.of.now.kind (placed self.now) (meant f.now.of.now.reloc) (beside f.now.of.now.behind)) }
     {
-        fitted(k, x.reloc.bytes, self.true_value(k, x)?)
+        let x = f.of;
+        fitted(x.kind, x.reloc.bytes, self.true_value(x)?)
     }
 
     // The true distance of a Set and Sub pair, where its field holds it.
@@ -308,12 +320,11 @@ impl Placement<'_> {
 
     // The value fits, where there is one that has to.
     #[tactic(auto, using(format::proofs::Asked::some_is), unfolding(crate::specs::Apply::value_ok, crate::specs::Apply::measured))]
-    fn value_ok(&self, k: Kind, x: &InList) -> bool
-        requires { T (size_ok k x.now.reloc.bytes) }
-        ensures { result ≡ value_ok k (placed self.now) (meant x.now.reloc) (beside x.now.behind) }
+    fn value_ok(&self, f: &Field) -> bool
+        ensures { result ≡ value_ok f.now.of.now.kind (placed self.now) (meant f.now.of.now.reloc) (beside f.now.of.now.behind) }
     {
-        match k {
-            Kind::Data | Kind::Address | Kind::SumPlus | Kind::Image => self.value(k, x).is_some(),
+        match f.of.kind {
+            Kind::Data | Kind::Address | Kind::SumPlus | Kind::Image => self.value(f).is_some(),
             Kind::SumMinus | Kind::Set(_) | Kind::Sub(_) | Kind::Unknown => true,
         }
     }
@@ -323,12 +334,11 @@ impl Placement<'_> {
     fn sound(&self, size: usize, x: &InList) -> bool
         ensures { result ≡ sound (placed self.now) size (beside x.now.before) (meant x.now.reloc) (beside x.now.behind) }
     {
-        let k = Kind::from(x.reloc.kind);
-        size_ok(k, x.reloc.bytes)
-            && paired(k, x)
+        size_ok(x.kind, x.reloc.bytes)
+            && paired(x)
             && self.address_of(x.reloc.symbol).is_some()
             && numbers::inside(x.reloc.place, x.reloc.bytes, size as u64)
-            && self.value_ok(k, x)
+            && self.value_ok(&Field { of: x })
     }
 
     // Question 80 of one relocation.
@@ -336,7 +346,7 @@ impl Placement<'_> {
     fn near(&self, x: &InList) -> bool
         ensures { result ≡ near_as (kind_of x.now.reloc.kind) (symbols_of self.now.addresses.now) (meant x.now.reloc) (beside x.now.behind) }
     {
-        match Kind::from(x.reloc.kind) {
+        match x.kind {
             Kind::Set(w) => self.distance(w, x).is_some(),
             _ => true,
         }
@@ -394,17 +404,17 @@ impl Placement<'_> {
     }
 
     // The store of one relocation.
-    fn store(&self, copy: &mut [u8], x: &InList)
-        requires { (x.now.reloc.place + x.now.reloc.bytes ≤ length copy.old) × T (size_ok (kind_of x.now.reloc.kind) x.now.reloc.bytes) }
-        ensures { copy.new ≡ store_of (placed self.now) copy.old (meant x.now.reloc) (beside x.now.behind) }
+    fn store(&self, copy: &mut [u8], f: &Field)
+        requires { f.now.of.now.reloc.place + f.now.of.now.reloc.bytes ≤ length copy.old }
+        ensures { copy.new ≡ store_of (placed self.now) copy.old (meant f.now.of.now.reloc) (beside f.now.of.now.behind) }
     {
-        let k = Kind::from(x.reloc.kind);
-        match k {
-            Kind::Set(w) => self.patch(copy, x.reloc, w, |_, sum| sum),
-            Kind::Sub(w) => self.patch(copy, x.reloc, w, |held, sum| held.wrapping_sub(sum)),
+        let r = f.of.reloc;
+        match f.of.kind {
+            Kind::Set(w) => self.patch(copy, r, w, |_, sum| sum),
+            Kind::Sub(w) => self.patch(copy, r, w, |held, sum| held.wrapping_sub(sum)),
             _ => {
-                if let Some(v) = self.value(k, x) {
-                    leb::le(copy, x.reloc.place as usize, x.reloc.bytes as usize, v);
+                if let Some(v) = self.value(f) {
+                    leb::le(copy, r.place as usize, r.bytes as usize, v);
                 }
             }
         }
@@ -416,7 +426,8 @@ impl Placement<'_> {
         ensures { copy.new ≡ stores (placed self.now) copy.old (relocations_of relocs.now) }
     {
         for i in 0..count(relocs) {
-            self.store(copy, &in_list(relocs, i));
+            let x = in_list(relocs, i);
+            self.store(copy, &Field { of: &x });
         }
     }
 

@@ -10,6 +10,7 @@ use Rattle.apply.proofs.Placement.value.Goals as goal
 pub returns : goal.returns
 returns c =
     let a = c.args in
+    let x = a.f.now.of.now in
     let z = c.in_ok-true_value.field-0 in
     let f : SFits w128 z = search rules in
-    (rw (to_z-of_z w128 z f) at c.fitted.ensures) ∙ value_fitted a.k (placed a.self.now) (meant a.x.now.reloc) (beside a.x.now.behind) z (sym c.in_ok-true_value.was ∙ c.true_value.ensures)
+    (rw (to_z-of_z w128 z f) at c.fitted.ensures) ∙ value_fitted x.kind (placed a.self.now) (meant x.reloc) (beside x.behind) z (sym c.in_ok-true_value.was ∙ c.true_value.ensures)
