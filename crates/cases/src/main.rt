@@ -76,20 +76,15 @@ fn decode(s: &[u8], numbers: &mut [u64]) -> Option<usize>
     ensures { IfSome result (λ k. k ≤ length numbers.new) }
 {
     let mut at = Position::START;
-    let mut k = 0;
-    // Kept: a while, since what was read says where the next stands; the position is the cursor.
-    while at.at < s.len() {
-        if numbers.len() <= k {
-            return None;
+    for k in 0..numbers.len() {
+        if s.len() <= at.at {
+            return Some(k);
         }
-        let Some((v, past)) = read_uleb(s, at) else {
-            return None;
-        };
+        let (v, past) = read_uleb(s, at)?;
         numbers[k] = v;
         at = past;
-        k += 1;
     }
-    Some(k)
+    (s.len() <= at.at).then_some(numbers.len())
 }
 
 // Element i of a list, or the other number behind its end.
