@@ -30,7 +30,7 @@ before_at rs i = pick (i == 0) none (some (relocation_at rs (i - 1)))
 unfoldable pub behind_at : List ℕ → ℕ → Option Relocation
 behind_at rs i = pick (nat_lt (i + 1) (count relocation_stride rs)) (some (relocation_at rs (i + 1))) none
 
--- an address plus an addend of 64 bits, or the difference of one and an address
+-- the bounds of an address plus an addend, which have 64 bits each
 abbrev pub SumRange : ℤ → Type 0
 SumRange z = (neg_ℤ (pos (2 ^ 63)) ≤ℤ z) × (z <ℤ pos (2 ^ 65))
 

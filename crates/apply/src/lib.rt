@@ -1,14 +1,13 @@
 // Relocations applied: a section put in place (request W-211). `Reloc` is ported from rucc-asm/src/unwind.rs of tamnd/rucc, changed: see NOTICE; the rest is added.
 #![tactic(auto)]
 
-ghost use Rattle.std.specs.Prelude.{◌≡◌, ℕ, ◌+◌, ◌-◌, ◌*◌, ◌/◌, ◌^◌, ◌<◌, ◌≤◌, T, length, pos, ◌+ℤ◌, ◌-ℤ◌, ◌≤ℤ◌, ◌<ℤ◌, nat_le, IfSome};
+ghost use Rattle.std.specs.Prelude.{◌≡◌, ℕ, ◌+◌, ◌^◌, ◌<◌, ◌≤◌, T, length, pos, ◌+ℤ◌, ◌-ℤ◌, ◌≤ℤ◌, ◌<ℤ◌, IfSome};
 ghost use Rattle.std.proofs.Math.Option.{none, some};
 ghost use Rattle.std.specs.Int.{w64};
 ghost use Rattle.std.proofs.Common.{to_z};
 ghost use Rattle.format.specs.Prelude.{after};
 ghost use Rattle.format.specs.Coded.{numbered};
 ghost use Rattle.format.specs.Lists.{count, relocation_stride, relocation_at, relocations_of};
-ghost use Rattle.format.specs.Questions.{is_some};
 ghost use Rattle.format.proofs.Asked.{option_of};
 ghost use Rattle.apply.specs.Kinds.{kind_of, bits_of, bytes_of, size_ok};
 ghost use Rattle.apply.specs.Fields.{up_to, signed32, low_of, number_at};
