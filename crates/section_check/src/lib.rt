@@ -9,11 +9,12 @@ ghost use Rattle.format.specs.Reader.{distance_back, header_at, records, entries
 ghost use Rattle.reader.specs.Spans.{entry_of, listed, Holds, Spans};
 ghost use Rattle.section_check.specs.Check.{length_of, check_from, check_section, Means};
 ghost use Rattle.section_check.specs.Answered.{checked_of};
-ghost use Rattle.section_check.specs.Places.{Marks, marked, mark_before, answers_in, passes_in};
+ghost use Rattle.section_check.specs.Places.{marked, mark_before, answers_in, passes_in};
 
-use crate::marks::Passed;
+use crate::marks::{Passed, Stretches};
 use format::{Question, Refusal};
 use operations::fields::{Position, read_le};
+use reader::entries::Entries;
 use reader::section::{Layout, Section, Span};
 
 pub mod marks;
@@ -29,25 +30,25 @@ pub struct Checked {
 
 // ---- the header of a record
 
-// A section has a mark for each stretch of `step` bytes: the first entry that starts in it.
-pub fn mark(marks: &mut [usize], step: usize, at: usize)
-    requires { 0 < step }
-    ensures { marks.new ≡ marked step at marks.old }
-{
-    let i = at / step;
-    if i < marks.len() && marks[i] == 0 {
-        marks[i] = at;
+impl<const N: usize> Stretches<N> {
+    // The entry at a place was passed.
+    pub fn mark(&mut self, at: usize)
+        ensures { (self.new.marks ≡ marked self.old.step at self.old.marks) × (self.new.step ≡ self.old.step) }
+    {
+        let i = at / self.step;
+        if i < N && self.marks[i] == 0 {
+            self.marks[i] = at;
+        }
     }
-}
 
-// Where the search for the entry at a place starts.
-pub fn mark_before(marks: &[usize], step: usize, place: usize) -> usize
-    requires { 0 < step }
-    ensures { result ≡ mark_before step place marks.now }
-{
-    match marks.get(place / step) {
-        Some(at) if *at <= place => *at,
-        _ => 0,
+    // Where the search for the entry at a place starts.
+    pub fn before(&self, place: usize) -> usize
+        ensures { result ≡ mark_before self.now.step place self.now.marks }
+    {
+        match self.marks.get(place / self.step) {
+            Some(at) if *at <= place => *at,
+            _ => 0,
+        }
     }
 }
 
@@ -71,17 +72,17 @@ fn size_of(s: &[u8], fde: Span) -> Option<u64>
 impl<'a> Passed<'a> {
     // The header of a record.
     fn header_of(&self, fde: Span) -> Option<Span>
-        requires { Holds self.now.section.now.bytes.now fde × Marks self.now.section.now.bytes.now self.now.marks.now }
+        requires { Holds self.now.section.now.bytes.now fde }
         ensures { Spans self.now.section.now.bytes.now result (after (distance_back (entry_of self.now.section.now.bytes.now fde)) λ place. header_at false place fde.at (listed (entries self.now.section.now.bytes.now))) }
     {
         let place = fde.distance_back(self.section.bytes)?;
-        let from = mark_before(self.marks, self.step, place);
+        let from = self.stretches.before(place);
         self.section.header_from(from, place, fde.at)
     }
 
     // Whether the reader answers for register 0 at offset p of a record.
     fn answers_at(&self, fde: Span, p: u64) -> bool
-        requires { Holds self.now.section.now.bytes.now fde × Marks self.now.section.now.bytes.now self.now.marks.now }
+        requires { Holds self.now.section.now.bytes.now fde }
         ensures { result ≡ answers_in self.now.section.now.bytes.now self.now.section.now.layout.word (entry_of self.now.section.now.bytes.now fde) p }
     {
         let Some(cie) = self.header_of(fde) else {
@@ -95,7 +96,7 @@ impl<'a> Passed<'a> {
 
     // Whether a record passes: one read, at the last offset.
     fn passes(&self, fde: Span) -> bool
-        requires { Holds self.now.section.now.bytes.now fde × Marks self.now.section.now.bytes.now self.now.marks.now }
+        requires { Holds self.now.section.now.bytes.now fde }
         ensures { result ≡ passes_in self.now.section.now.bytes.now self.now.section.now.layout.word (entry_of self.now.section.now.bytes.now fde) }
     {
         let Some(n) = size_of(self.section.bytes, fde) else {
@@ -117,25 +118,19 @@ fn check_records(section: &Section) -> Result<(), Refusal>
 {
     let s = section.bytes;
     // A frame above 32 KiB is probed in a loop, for which the compiler takes a register that may be in use; with 2,048 marks it stays below.
-    let step = s.len() / 2048 + 1;
-    let mut marks = [0usize; 2048];
+    let mut stretches = Stretches {
+        marks: [0; 2048],
+        step: s.len() / 2048 + 1,
+    };
     let mut k = 0;
-    let mut next = 0;
-    // Kept: a `while`, which moves by each entry's length.
-    'entries: while next < s.len() {
-        let entry = Span {
-            at: next,
-            end: reader::entries::past(s, next),
-        };
-        next = entry.end;
-        mark(&mut marks, step, entry.at);
+    'entries: for entry in Entries::new(s) {
+        stretches.mark(entry.at);
         if entry.is_header(s, false) {
             continue 'entries;
         }
         let passed = Passed {
             section: &*section,
-            marks: &marks,
-            step,
+            stretches: &stretches,
         };
         if !passed.passes(entry) {
             return Err(Refusal {
