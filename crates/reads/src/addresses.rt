@@ -7,7 +7,7 @@ ghost use Rattle.reads.specs.Addresses.{function_fields, start_of, function_of, 
 
 use format::Question;
 use operations::fields::{Position, read_le};
-use reader::entries;
+use reader::entries::{self, Entries};
 use reader::section::{Body, Layout, Section, Span};
 
 // 2^31, and what a signed number of 4 bytes from there on lacks to 2^64.
@@ -110,14 +110,7 @@ impl<'a> Loaded<'a> {
             return Err(Question::Tiling);
         }
         let mut k: u64 = 0;
-        let mut next = 0;
-        // Kept: a `while`, which moves by each entry's length.
-        'entries: while next < s.len() {
-            let entry = Span {
-                at: next,
-                end: entries::past(s, next),
-            };
-            next = entry.end;
+        'entries: for entry in Entries::new(s) {
             if entry.is_header(s, self.section.layout.debug) {
                 continue 'entries;
             }

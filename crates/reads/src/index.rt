@@ -13,7 +13,9 @@ ghost use Rattle.reads.specs.Index.{place_or, index_of, index_in};
 ghost use Rattle.reads.specs.Standing.{stored_as, Skipped, Headed, Stores};
 
 use format::Question;
+use reader::entries::Entries;
 use reader::section::{Section, Span};
+use section_check::marks::Stretches;
 
 // As many marks as a section has here: half of those of section_check, since a frame above some 32 KiB is compiled wrong (docs/DECISIONS.md, D86).
 const MARKS: usize = 1024;
@@ -39,14 +41,7 @@ fn count(section: &Section) -> usize
 {
     let s = section.bytes;
     let mut n = 0;
-    let mut next = 0;
-    // Kept: a `while`, which moves by each entry's length.
-    'entries: while next < s.len() {
-        let entry = Span {
-            at: next,
-            end: reader::entries::past(s, next),
-        };
-        next = entry.end;
+    'entries: for entry in Entries::new(s) {
         if entry.is_header(s, section.layout.debug) {
             continue 'entries;
         }
@@ -92,10 +87,9 @@ fn header_start(
     fde: Span,
     from: usize,
     last: Option<usize>,
-    marks: &[usize],
-    step: usize,
+    stretches: &Stretches<MARKS>,
 ) -> Option<usize>
-    requires { Holds section.now.bytes.now fde × T (is_some (entries section.now.bytes.now)) × Headed section.now.layout.debug (listed (entries section.now.bytes.now)) (stored_as last) × Searching section.now.relocations.now (fde.at + 4) from × (0 < step) × Marks section.now.bytes.now marks.now }
+    requires { Holds section.now.bytes.now fde × T (is_some (entries section.now.bytes.now)) × Headed section.now.layout.debug (listed (entries section.now.bytes.now)) (stored_as last) × Searching section.now.relocations.now (fde.at + 4) from × Marks section.now.bytes.now stretches.now.marks }
     ensures { (stored_as result ≡ place_or (header_of section.now.layout.debug (relocations_of section.now.relocations.now) (listed (entries section.now.bytes.now)) (entry_of section.now.bytes.now fde))) × Headed section.now.layout.debug (listed (entries section.now.bytes.now)) (stored_as result) }
 {
     let place = header_place(section, fde, from)?;
@@ -105,7 +99,7 @@ fn header_start(
     if last == Some(place) {
         return last;
     }
-    let mark = section_check::mark_before(marks, step, place);
+    let mark = stretches.before(place);
     let cie = section.header_from(mark, place, fde.at)?;
     Some(cie.at)
 }
@@ -116,26 +110,21 @@ fn fill(section: &Section, places: &mut [u64])
     ensures { places.new ≡ put places.old 0 (index_of section.now.layout.debug (relocations_of section.now.relocations.now) (listed (entries section.now.bytes.now))) }
 {
     let s = section.bytes;
-    let step = s.len() / MARKS + 1;
-    let mut marks = [0usize; MARKS];
+    let mut stretches = Stretches {
+        marks: [0; MARKS],
+        step: s.len() / MARKS + 1,
+    };
     let mut from = 0;
     let mut last = None;
     let mut i = 0;
-    let mut next = 0;
-    // Kept: a `while`, which moves by each entry's length.
-    'entries: while next < s.len() {
-        let entry = Span {
-            at: next,
-            end: reader::entries::past(s, next),
-        };
-        next = entry.end;
-        section_check::mark(&mut marks, step, entry.at);
+    'entries: for entry in Entries::new(s) {
+        stretches.mark(entry.at);
         if entry.is_header(s, section.layout.debug) {
             last = Some(entry.at);
             continue 'entries;
         }
         from = skipped(section, (entry.at + 4) as u64, from);
-        last = header_start(section, entry, from, last, &marks, step);
+        last = header_start(section, entry, from, last, &stretches);
         places[i] = entry.at as u64;
         places[i + 1] = place_of(last);
         i += 2;
