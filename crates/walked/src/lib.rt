@@ -20,8 +20,8 @@ use crate::fault::Fault;
 use crate::leaving::Leaving;
 use arrayvec::ArrayVec;
 use format::{Machine, Operation, Question, Row, Rules};
-use operations::fields::Position;
 use reader::location::Located;
+use reader::operation::Operations;
 use walk::{Caller, Frame, Memory};
 
 pub mod chain;
@@ -88,14 +88,11 @@ fn mark_all(ops: &[u8], word: u64, start: Marks) -> Marks
     ensures { MarkedAll start.named result.named word ops.now }
 {
     let mut m = start;
-    let mut at = Position::START;
-    // Kept: a while, since what was read says where the next stands; the position is the cursor.
-    while at.at < ops.len() {
-        let Some((op, next)) = operations::operation(ops, at, word) else {
+    for read in Operations::new(ops, word) {
+        let Some((op, _)) = read else {
             return m;
         };
         m = mark_operation(m, op);
-        at = next;
     }
     m
 }
