@@ -2,10 +2,9 @@
 use mathlib.Core.Path.{◌≡◌, refl, sym, ap, ◌∙◌}
 use Prim.Native.Nat.{ℕ, zero, suc, ◌+◌, ◌-◌, ◌*◌, ◌≤◌, ◌<◌}
 use native.Mathlib.Omega.{arith}
-use mathlib.Core.Bool.{Bool, false}
+use mathlib.Core.Bool.{Bool, false, ◌||◌}
 use mathlib.Core.Option.{Option, none, some}
-use mathlib.Core.List.{List, [], ◌∷◌, ◌++◌}
-use lib.Dec.{eqb}
+use mathlib.Core.List.{List, [], ◌∷◌}
 use lib.ListN.{length, drop, length-drop, drop_of_length-le}
 use Rattle.std.specs.Prelude.{Some, None}
 use Rattle.format.specs.Prelude.{Read, next}
@@ -16,9 +15,8 @@ use Rattle.format.specs.X64Reader.{fields_of, code_numbers, is_frame, has_frame,
 use Rattle.format.proofs.PutLaws.{put-append, put-in_front, length-put}
 use Rattle.operations.specs.declared.fields.Position.{Position}
 use Rattle.operations.specs.Positions.{from}
-use Rattle.x64_reader.specs.declared.Fields.{Fields}
 use Rattle.x64_reader.specs.declared.Slots.{Slots}
-use Rattle.x64_reader.specs.Reads.{field_numbers, CodeThere, or_frame, counted_of, Held, stored_of}
+use Rattle.x64_reader.specs.Reads.{CodeThere, counted_of, Held, stored_of}
 
 -- ---- one step of the definition
 
@@ -77,15 +75,15 @@ module _ {P : List (ℕ × Seh) → Type 0} {frame : ℕ} {s : List ℕ} {p : Po
     step : read_codes frame s ≡ next (read_code frame (drop p.at s)) (λ c rest. read_codes_f (g.fuel - 1) frame (c ∷ g.codes) rest)
     step = sym g.same ∙ codes_step frame g.fuel g.codes (drop p.at s) (omega (arith, g.enough)) (omega (arith, length-drop p.at s))
 
-    pub turn : {Q : List (ℕ × Seh) → Type 0} {offset : ℕ} {f : Fields} {q : Position} (c : CodeThere frame s p offset f q)
-        → ((cs : List (ℕ × Seh)) → P cs → Q ((offset, c.said) ∷ cs)) → Going Q frame s q
+    pub turn : {Q : List (ℕ × Seh) → Type 0} {offset : ℕ} {c : Seh} {q : Position} → CodeThere frame s p offset c q
+        → ((cs : List (ℕ × Seh)) → P cs → Q ((offset, c) ∷ cs)) → Going Q frame s q
     unfolding next
-    turn {offset = offset} c k = record {
+    turn {offset = offset} {c = c} t k = record {
       fuel = g.fuel - 1;
-      codes = (offset, c.said) ∷ g.codes;
-      enough = omega (arith, g.enough, c.ahead);
-      inside = c.inside;
-      same = sym (rw c.reads at step);
+      codes = (offset, c) ∷ g.codes;
+      enough = omega (arith, g.enough, t.ahead);
+      inside = t.inside;
+      same = sym (rw t.reads at step);
       here = k g.codes g.here;
     }
 
@@ -116,15 +114,15 @@ module _ {P : List (ℕ × Seh) → Type 0} {frame : ℕ} {s : List ℕ} {x : Sl
   pub at_end : length x.bytes.now ≤ x.at.at → length s ≤ x.at.at
   at_end h = rw r.bytes at h
 
-  pub there : {offset : ℕ} {f : Fields} {q : Position} → CodeThere x.frame x.bytes.now x.at offset f q → CodeThere frame s x.at offset f q
+  pub there : {offset : ℕ} {c : Seh} {q : Position} → CodeThere x.frame x.bytes.now x.at offset c q → CodeThere frame s x.at offset c q
   there t = rw (r.bytes, r.mark) at t
 
   pub none_there : read_code x.frame (drop x.at.at x.bytes.now) ≡ none → read_code frame (drop x.at.at s) ≡ none
   none_there e = rw (r.bytes, r.mark) at e
 
-  pub onward : (Q : Position → List (ℕ × Seh) → Type 0) {y : Slots} {offset : ℕ} {f : Fields} {q : Position} → x.at.at < length x.bytes.now
-      → (t : CodeThere x.frame x.bytes.now x.at offset f q) → y.bytes.now ≡ x.bytes.now → y.frame ≡ x.frame → y.at ≡ q
-      → ((cs : List (ℕ × Seh)) → P cs → Q q ((offset, (there t).said) ∷ cs)) → Reading (Q y.at) frame s y
+  pub onward : (Q : Position → List (ℕ × Seh) → Type 0) {y : Slots} {offset : ℕ} {c : Seh} {q : Position} → x.at.at < length x.bytes.now
+      → CodeThere x.frame x.bytes.now x.at offset c q → y.bytes.now ≡ x.bytes.now → y.frame ≡ x.frame → y.at ≡ q
+      → ((cs : List (ℕ × Seh)) → P cs → Q q ((offset, c) ∷ cs)) → Reading (Q y.at) frame s y
   onward Q h t e f g k = record { bytes = e ∙ r.bytes; mark = f ∙ r.mark; going = rw g (turn r.going (more h) (there t) k) }
 
 -- ---- counted
@@ -134,24 +132,17 @@ pub record Counting (n : ℕ) (framed : Bool) (i : ℕ) (cs : List (ℕ × Seh))
   pub frames : framed ≡ has_frame cs
   pub least : n ≤ i
 
-frame_kind : (f : Fields) (c : Seh) → field_numbers f ≡ fields_of c → eqb f.kind 2 ≡ is_frame c
-unfolding fields_of is_frame
-frame_kind f (Push reg) e = let k : f.kind ≡ 0 = cc in rw k
-frame_kind f (Alloc z) e = let k : f.kind ≡ 1 = cc in rw k
-frame_kind f (Frame reg z) e = let k : f.kind ≡ 2 = cc in rw k
-frame_kind f (Save reg vector z) e = let k : f.kind ≡ 3 = cc in rw k
-
 pub counting : Counting 0 false 0 []
 unfolding has_frame
 counting = record { many = refl; frames = refl; least = omega arith }
 
-pub count_turn : {frame : ℕ} {s : List ℕ} {n : ℕ} {framed now : Bool} {p q : Position} {offset : ℕ} {f : Fields} (c : CodeThere frame s p offset f q)
-    → now ≡ or_frame framed f.kind → (cs : List (ℕ × Seh)) → Counting n framed p.at cs → Counting (n + 1) now q.at ((offset, c.said) ∷ cs)
-unfolding has_frame or_frame
-count_turn {f = f} c e cs h = record {
+pub count_turn : {frame : ℕ} {s : List ℕ} {n : ℕ} {framed now : Bool} {p q : Position} {offset : ℕ} {c : Seh} → CodeThere frame s p offset c q
+    → now ≡ (is_frame c || framed) → (cs : List (ℕ × Seh)) → Counting n framed p.at cs → Counting (n + 1) now q.at ((offset, c) ∷ cs)
+unfolding has_frame
+count_turn {c = c} t e cs h = record {
   many = omega (arith, h.many);
-  frames = e ∙ rw (frame_kind f c.said c.fields, h.frames);
-  least = omega (arith, h.least, c.ahead);
+  frames = e ∙ rw h.frames;
+  least = omega (arith, h.least, t.ahead);
 }
 
 pub all_counted : {frame : ℕ} {s : List ℕ} {n : ℕ} {framed : Bool} {p : Position} → Going (Counting n framed p.at) frame s p → length s ≤ p.at
@@ -166,6 +157,13 @@ none_counted g h e = rw (unread g h e)
 
 -- ---- stored
 
+pub fields-length : (c : Seh) → length (fields_of c) ≡ 4
+unfolding fields_of
+fields-length (Push reg) = refl
+fields-length (Alloc z) = refl
+fields-length (Frame reg z) = refl
+fields-length (Save reg vector z) = refl
+
 pub record Storing (n left : ℕ) (old new : List ℕ) (cs : List (ℕ × Seh)) : Type 0 where
   pub many : left + length cs ≡ n
   pub stored : new ≡ put old (5 * left) (code_numbers cs)
@@ -177,24 +175,24 @@ pub storing : {n : ℕ} {old : List ℕ} → Storing n n old old []
 unfolding code_numbers put
 storing = record { many = omega arith; stored = refl }
 
-pub store_turn : {frame : ℕ} {s : List ℕ} {n left : ℕ} {old new newer : List ℕ} {p q : Position} {offset : ℕ} {f : Fields} (c : CodeThere frame s p offset f q)
-    → 0 < left → newer ≡ put new (5 * (left - 1)) (offset ∷ field_numbers f) → (cs : List (ℕ × Seh)) → Storing n left old new cs
-    → Storing n (left - 1) old newer ((offset, c.said) ∷ cs)
+pub store_turn : {n left : ℕ} {old new newer : List ℕ} {offset : ℕ} {c : Seh}
+    → 0 < left → newer ≡ put new (5 * (left - 1)) (offset ∷ fields_of c) → (cs : List (ℕ × Seh)) → Storing n left old new cs
+    → Storing n (left - 1) old newer ((offset, c) ∷ cs)
 unfolding code_numbers
-store_turn {left = left} {old = old} {offset = offset} {f = f} c l e cs w =
-    let five : List ℕ = offset ∷ field_numbers f in
-    let seam : 5 * left ≡ 5 * (left - 1) + length five = omega arith in
+store_turn {left = left} {old = old} {offset = offset} {c = c} l e cs w =
+    let five : List ℕ = offset ∷ fields_of c in
+    let seam : 5 * left ≡ 5 * (left - 1) + length five = omega (arith, fields-length c) in
     record {
       many = omega (arith, w.many);
-      stored = e ∙ rw (w.stored, seam) (put-in_front old (5 * (left - 1)) _ five (code_numbers cs) (omega arith) ∙ sym (put-append old (5 * (left - 1)) five (code_numbers cs)) ∙ ap (λ l. put old (5 * (left - 1)) ((offset ∷ l) ++ code_numbers cs)) c.fields);
+      stored = e ∙ rw (w.stored, seam) (put-in_front old (5 * (left - 1)) _ five (code_numbers cs) (omega arith) ∙ sym (put-append old (5 * (left - 1)) five (code_numbers cs)));
     }
 
 -- there is room for a code that stands there
 module _ {frame : ℕ} {s : List ℕ} {n left : ℕ} {p : Position} {old new : List ℕ} (g : Going (Storing n left old new) frame s p) (held : Held (read_codes frame s) n) where
-  pub some_left : {offset : ℕ} {f : Fields} {q : Position} → p.at < length s → CodeThere frame s p offset f q → 0 < left
+  pub some_left : {offset : ℕ} {c : Seh} {q : Position} → p.at < length s → CodeThere frame s p offset c q → 0 < left
   unfolding turn
-  some_left h c =
-      let next : Going (λ cs. 0 < length cs) frame s _ = turn g h c (λ cs w. omega arith) in
+  some_left h t =
+      let next : Going (λ cs. 0 < length cs) frame s _ = turn g h t (λ cs w. omega arith) in
       let l : length next.codes ≤ length held.codes = few next held.are in
       let m : length next.codes ≡ suc (length g.codes) = refl in
       omega (arith, g.here.many, held.many)
