@@ -1,12 +1,12 @@
 -- How much stands in the lent lists behind a pass, whether there is room, and what a function adds to them.
 use Rattle.std.specs.Prelude.{◌≡◌, ℕ, ◌+◌, ◌*◌, ◌^◌, ◌≤◌, ◌<◌, Bool, List, [], ◌∷◌, length}
-use Rattle.format.specs.Prelude.{pick}
 use Rattle.format.proofs.Wrote.{Wrote}
-use Rattle.format.specs.Lists.{numbers_of, field, function_stride, count, mark, sum_of, most_functions, most_records}
+use Rattle.format.specs.Lists.{numbers_of, field, function_stride, count, sum_of, most_functions, most_records}
 use Rattle.format.specs.declared.Machine.{Machine}
 use Rattle.format.specs.declared.Counts.{Counts}
 use Rattle.format.specs.Writer.{Part}
 use Rattle.lists.specs.declared.Extent.{Extent}
+use Rattle.lists.specs.Parts.{where_labelled}
 use Rattle.header_keys.specs.Functions.{LandingsReady, LabelsReady}
 use Rattle.headers.specs.Kinds.{EncodingFits}
 use Rattle.dwarf.specs.declared.Table.{Table}
@@ -61,8 +61,8 @@ counts_of n t = record { places = n; bytes = t.bytes; relocations = t.relocation
 -- ---- what a list of functions can be at most
 
 -- the rows of function k, where it has relaxing labels
-unfoldable pub labelled_rows : (fs : List ℕ) → ℕ → ℕ
-labelled_rows fs k = pick (mark (field function_stride fs k 14)) (field function_stride fs k 3) 0
+abbrev pub labelled_rows : (fs : List ℕ) → ℕ → ℕ
+labelled_rows fs k = where_labelled fs k 3
 
 -- number j of all functions, summed; and their labelled rows
 abbrev pub total_of : (fs : List ℕ) → (j : ℕ) → ℕ

@@ -4,7 +4,7 @@
 ghost use Rattle.std.specs.Prelude.{◌≡◌, ℕ, ◌+◌, ◌*◌, ◌^◌, ◌≤◌, ◌<◌, true, not, [], T, ltb, eqb, length, get_or};
 ghost use Rattle.format.specs.Prelude.{all, each};
 ghost use Rattle.format.specs.Machine.{is_word_size};
-ghost use Rattle.format.specs.Lists.{field, function_stride, sum_of, most_functions, most_records, pair_at};
+ghost use Rattle.format.specs.Lists.{field, function_stride, pair_stride, sum_of, most_functions, most_records, pair_at};
 ghost use Rattle.format.specs.Questions.{size_bytes, encodings_ok, steps_ok, pairs_ok, dwarf_asks, per_function, fitting, dwarf_given, given_of, room_in};
 ghost use Rattle.format.specs.Writer.{is_debug, align_for};
 ghost use Rattle.format.specs.Answers.{Writes};
@@ -156,7 +156,7 @@ fn lines_ask(x: &Input, k: usize, e: &Extent) -> Result<(), Refusal>
 
 // The two places of pair i are different.
 fn pair_differs(pairs: &[u64], i: usize) -> bool
-    requires { 4 * i + 4 ≤ length pairs.now }
+    requires { pair_stride * i + pair_stride ≤ length pairs.now }
     ensures { result ≡ not (eqb (pair_at pairs.now i).place1 (pair_at pairs.now i).place2) }
 {
     pairs[lists::PAIR_STRIDE * i] != pairs[lists::PAIR_STRIDE * i + 1]
@@ -317,7 +317,7 @@ fn size_next(x: &Input, o: usize, k: usize, n: usize, size: usize, t: Table) -> 
 
 // The bytes of function k's rows, with the steps between them.
 fn rows_size(x: &Input, k: usize) -> usize
-    requires { (18 * k + 18 ≤ length x.now.lists.functions.now) × Sound x.now.machine (extent_in (inputs_of x.now) k) x.now.lists.rows.now }
+    requires { (function_stride * k + function_stride ≤ length x.now.lists.functions.now) × Sound x.now.machine (extent_in (inputs_of x.now) k) x.now.lists.rows.now }
     ensures { result ≡ rows_size (inputs_of x.now) k }
 {
     let e = x.function(k);
@@ -362,29 +362,18 @@ fn summed<F: Fn(usize) -> u64>(number: F, n: usize) -> u64
 
 // Number j of n functions, summed.
 fn total(fs: &[u64], j: usize, n: usize) -> u64
-    requires { (j < 18) × (18 * n ≤ length fs.now) × (n ≤ most_functions) × (sum_of (λ k. field function_stride fs.now k j) 0 n ≤ most_records) }
+    requires { (j < function_stride) × (function_stride * n ≤ length fs.now) × (n ≤ most_functions) × (sum_of (λ k. field function_stride fs.now k j) 0 n ≤ most_records) }
     ensures { result ≡ sum_of (λ k. field function_stride fs.now k j) 0 n }
 {
     summed(|k| fs[lists::FUNCTION_STRIDE * k + j], n)
 }
 
-// The rows of function k, where it has relaxing labels.
-fn labelled_rows(fs: &[u64], k: usize) -> u64
-    requires { 18 * k + 18 ≤ length fs.now }
-    ensures { result ≡ labelled_rows fs.now k }
-{
-    if fs[lists::FUNCTION_STRIDE * k + lists::function::RELAXED] == 0 {
-        return 0;
-    }
-    fs[lists::FUNCTION_STRIDE * k + lists::function::ROWS]
-}
-
-// Those of n functions, summed.
+// The rows of those of n functions that have relaxing labels, summed.
 fn labelled_total(fs: &[u64], n: usize) -> u64
-    requires { (18 * n ≤ length fs.now) × (n ≤ most_functions) × (sum_of (labelled_rows fs.now) 0 n ≤ most_records) }
+    requires { (function_stride * n ≤ length fs.now) × (n ≤ most_functions) × (sum_of (labelled_rows fs.now) 0 n ≤ most_records) }
     ensures { result ≡ sum_of (labelled_rows fs.now) 0 n }
 {
-    summed(|k| labelled_rows(fs, k), n)
+    summed(|k| lists::where_labelled(fs, k, lists::function::ROWS), n)
 }
 
 // What stands behind all functions, at most.
