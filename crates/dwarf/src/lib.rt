@@ -3,7 +3,6 @@
 
 ghost use Rattle.std.specs.Prelude.{◌≡◌, ℕ, ◌+◌, ◌*◌, ◌^◌, ◌≤◌, ◌<◌, true, not, [], T, ltb, eqb, length, get_or};
 ghost use Rattle.format.specs.Prelude.{all, each};
-ghost use Rattle.format.specs.Machine.{is_word_size};
 ghost use Rattle.format.specs.Lists.{field, function_stride, pair_stride, sum_of, most_functions, most_records, pair_at};
 ghost use Rattle.format.specs.Questions.{size_bytes, encodings_ok, steps_ok, pairs_ok, dwarf_asks, per_function, fitting, dwarf_given, given_of, room_in};
 ghost use Rattle.format.specs.Writer.{is_debug, align_for};

@@ -134,7 +134,8 @@ fn put_record(numbers: &mut [u64], at: usize, i: usize, ns: &[u64])
 
 // The structs of a list, one after the other from `at` on, each where it fits.
 // Kept: put_rows and put_functions, and their exports, are three lines each over arrays of two lengths. One function over both, with
-// a closure that gives the array, was tried: the prover does not cover a bound `Fn` whose answer's length is a const parameter.
+// a closure that gives the array, was tried: the prover does not cover a bound `Fn` whose answer's length is a const parameter. A trait
+// would need a ghost member and a law for each of the two, and be longer than the twin.
 fn put_rows(rows: &[RowAt], numbers: &mut [u64], at: usize)
     ensures { numbers.new ≡ stored_all row_numbers numbers.old at rows.now }
 {
@@ -232,6 +233,8 @@ struct Given<'a> {
 }
 
 // Kept: the lent lists stand one by one in what follows, since the contracts of unwind's entries, which they hand on, name each of them.
+// Kept: this one and the next differ in the entry that they call, and the entries take different lists. One function for both, by an
+// enum, would have to ask that the entry without call sites is lent none.
 fn packed_table(
     x: &Given,
     numbers: &mut [u64],
