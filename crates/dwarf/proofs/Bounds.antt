@@ -17,7 +17,7 @@ use Rattle.format.specs.Writer.{is_debug}
 use Rattle.format.proofs.EntryBack.{padding_small}
 use Rattle.format.proofs.Leading.{others_count}
 use Rattle.format.proofs.Parts.{Spot, cie_of, relocs_for, place_of, part_relocs}
-use Rattle.records.proofs.CallSites.{uleb_most}
+use Rattle.headers.proofs.Lengths.{uleb_most}
 use Rattle.records.proofs.LabelLaws.{steps_most}
 
 -- ---- relocations

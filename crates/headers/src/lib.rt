@@ -248,50 +248,66 @@ fn starts_size(f: &Function) -> usize
 
 // ---- sizes
 
-// How many bytes `middle` stores.
-fn middle_size(word: u64, ret: u64, signal: bool) -> usize
-    requires { word ≤ 8 }
-    ensures { (result ≡ length (middle word ret signal)) × (result ≤ 23) }
-{
-    2 + usize::from(signal) + leb::sleb_size(data_factor(word)) + leb::uleb_size(ret)
+// What the fields of a header depend on.
+#[derive(Drop)]
+struct Head<'a> {
+    machine: &'a Machine,
+    extent: &'a Extent,
+    ghost small: { machine.now.word ≤ 8 },
 }
 
-// How many letters the augmentation string has.
-fn letters_size(e: &Extent) -> usize
-    ensures { (result ≡ length (letters (kind_in e.now))) × (result ≤ 4) }
-{
-    match kind_of(e) {
-        Kind::Plain => 2,
-        Kind::Personal => 4,
-        Kind::Named(p) => 3 + usize::from(p.lsda.is_some()),
+impl Head<'_> {
+    // How many bytes `middle` stores.
+    fn middle_size(&self) -> usize
+        ensures { (result ≡ length (middle self.now.machine.now.word self.now.machine.now.ret self.now.extent.now.signal)) × (result ≤ 23) }
+    {
+        let factor = leb::sleb_size(data_factor(self.machine.word));
+        2 + usize::from(self.extent.signal) + factor + leb::uleb_size(self.machine.ret)
     }
-}
 
-// How many bytes the augmentation data has.
-fn data_size(word: u64, e: &Extent) -> usize
-    requires { word ≤ 8 }
-    ensures { (result ≡ length (augmentation_data word (kind_in e.now))) × (result ≤ 11) }
-{
-    match kind_of(e) {
-        Kind::Plain => 1,
-        Kind::Personal => 7,
-        Kind::Named(p) => {
-            let pointer = numbers::pointer_bytes(word, p.encoding);
-            2 + pointer as usize + usize::from(p.lsda.is_some())
+    // How many letters the augmentation string has.
+    fn letters_size(&self) -> usize
+        ensures { (result ≡ length (letters (kind_in self.now.extent.now))) × (result ≤ 4) }
+    {
+        match kind_of(self.extent) {
+            Kind::Plain => 2,
+            Kind::Personal => 4,
+            Kind::Named(p) => 3 + usize::from(p.lsda.is_some()),
         }
     }
-}
 
-// How many bytes `fields` stores; the data's length is one of them.
-fn fields_size(debug: bool, m: &Machine, e: &Extent) -> usize
-    requires { m.now.word ≤ 8 }
-    ensures { (result ≡ length (header_fields debug m.now (head_in e.now))) × (result ≤ 44) }
-{
-    let n = 5 + middle_size(m.word, m.ret, e.signal);
-    if debug {
-        return n;
+    // How many bytes the augmentation data has.
+    fn data_size(&self) -> usize
+        ensures { (result ≡ length (augmentation_data self.now.machine.now.word (kind_in self.now.extent.now))) × (result ≤ 11) }
+    {
+        match kind_of(self.extent) {
+            Kind::Plain => 1,
+            Kind::Personal => 7,
+            Kind::Named(p) => {
+                let pointer = numbers::pointer_bytes(self.machine.word, p.encoding);
+                2 + pointer as usize + usize::from(p.lsda.is_some())
+            }
+        }
     }
-    n + letters_size(e) + 1 + data_size(m.word, e)
+
+    // How many bytes `fields` stores; the data's length is one of them.
+    fn fields_size(&self, debug: bool) -> usize
+        ensures { (result ≡ length (header_fields debug self.now.machine.now (head_in self.now.extent.now))) × (result ≤ 44) }
+    {
+        let n = 5 + self.middle_size();
+        if debug {
+            return n;
+        }
+        n + self.letters_size() + 1 + self.data_size()
+    }
+
+    // The place of the personality's pointer, behind its encoding, the first byte of the augmentation data.
+    fn pointer_place(&self, at: usize) -> u64
+        requires { at < 2 ^ 32 }
+        ensures { result ≡ pointer_place self.now.machine.now at (head_in self.now.extent.now) }
+    {
+        (at + 4 + self.fields_size(false) - self.data_size() + 1) as u64
+    }
 }
 
 // ---- a header
@@ -300,7 +316,11 @@ pub fn header_size(f: &Function, at: usize) -> usize
     requires { at < 2 ^ 32 }
     ensures { result ≡ length (header_of f.now at) }
 {
-    let n = 4 + fields_size(f.debug, f.machine, &f.extent) + starts_size(f);
+    let head = Head {
+        machine: f.machine,
+        extent: &f.extent,
+    };
+    let n = 4 + head.fields_size(f.debug) + starts_size(f);
     n + padding(f.align, at + n)
 }
 
@@ -332,14 +352,6 @@ pub fn header_relocs_count(debug: bool, e: &Extent) -> usize
     }
 }
 
-// The place of the personality's pointer, behind its encoding, the first byte of the augmentation data.
-fn pointer_place(m: &Machine, at: usize, e: &Extent) -> u64
-    requires { (m.now.word ≤ 8) × (at < 2 ^ 32) }
-    ensures { result ≡ pointer_place m.now at (head_in e.now) }
-{
-    (at + 4 + fields_size(false, m, e) - data_size(m.word, e) + 1) as u64
-}
-
 // The relocation of a header's personality. It asks no more of the function than its kind and the machine, so it takes no `Function`.
 pub fn header_relocs(
     out: &mut [u64],
@@ -355,13 +367,17 @@ pub fn header_relocs(
     if debug {
         return i;
     }
+    let head = Head {
+        machine: m,
+        extent: e,
+    };
     match kind_of(e) {
         Kind::Plain => i,
         Kind::Personal => pointer(
             out,
             i,
             m.word,
-            pointer_place(m, at, e),
+            head.pointer_place(at),
             relocs::PERSONALITY,
             encodings::INDIRECT_PCREL_SDATA4,
         ),
@@ -369,7 +385,7 @@ pub fn header_relocs(
             out,
             i,
             m.word,
-            pointer_place(m, at, e),
+            head.pointer_place(at),
             p.routine,
             p.encoding,
         ),

@@ -9,30 +9,20 @@ use lib.ListN.{length, replicate, get_or, length-append, length-replicate}
 use Rattle.std.specs.Prelude.{take, drop}
 use Rattle.std.proofs.lemmas.List.{length-drop, length-take-le, get_or-take, get_or-drop}
 use Rattle.format.specs.Prelude.{each}
-use Rattle.format.specs.Leb.{uleb_f, uleb}
+use Rattle.format.specs.Leb.{uleb}
 use Rattle.format.specs.Lists.{Landing, landing_stride, landing_at, count}
 use Rattle.format.specs.Headers.{padding}
 use Rattle.format.specs.CallSites.{site_bytes, sites_bytes, site_table, site_pad, site_added}
 use Rattle.format.proofs.Wrote.{Wrote}
-use Rattle.format.proofs.Choice.{if-le, if-gt, either}
 use Rattle.format.proofs.Storing as storing
 use Rattle.format.proofs.Storing.{Storing}
 use Rattle.lists.specs.declared.Extent.{Extent}
 use Rattle.lists.specs.Extents.{meant}
+use Rattle.headers.proofs.Lengths.{uleb_most}
 use Rattle.records.specs.Sites.{sites_in}
 use Rattle.records.proofs.Chunks.{stored}
 
 -- ---- one entry
-
-uleb_most_f : (f n : ℕ) → length (uleb_f f n) ≤ suc f
-unfolding uleb_f
-uleb_most_f zero n = omega arith
-uleb_most_f (suc f) n =
-    either (suc n) 128 (λ l. rw (if-le (suc n) 128) (omega arith)) (λ g. rw (if-gt (suc n) 128) (omega (arith, uleb_most_f f (n / 128))))
-
-pub uleb_most : (n : ℕ) → length (uleb n) ≤ 10
-unfolding uleb
-uleb_most n = uleb_most_f 9 n
 
 pub site_length : (l : Landing) → length (site_bytes l) ≡ length (uleb l.start) + length (uleb l.size) + length (uleb l.pad) + length (uleb 0)
 unfolding site_bytes

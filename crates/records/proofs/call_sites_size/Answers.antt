@@ -1,8 +1,9 @@
 -- `records::call_sites_size` meets its contract.
 use native.Mathlib.Omega.{arith}
 use Rattle.format.proofs.EntryBack.{padding_small}
+use Rattle.headers.proofs.Lengths.{uleb_most}
 use Rattle.records.specs.Sites.{sites_in}
-use Rattle.records.proofs.CallSites.{uleb_most, sites_most, added_none, added_length}
+use Rattle.records.proofs.CallSites.{sites_most, added_none, added_length}
 use borrow.Author.Rules.{rules}
 use Rattle.records.proofs.call_sites_size.Goals as goal
 

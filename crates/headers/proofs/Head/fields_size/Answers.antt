@@ -2,12 +2,12 @@
 use native.Mathlib.Omega.{arith}
 use Rattle.headers.specs.Kinds.{head_in}
 use Rattle.headers.proofs.Lengths.{debug_length, eh_length}
-use Rattle.headers.proofs.fields_size.Goals as goal
+use Rattle.headers.proofs.Head.fields_size.Goals as goal
 
 pub returns-then-debug : goal.returns-then-debug
 unfolding head_in
 returns-then-debug c = (
-  rw c.if-debug.true (omega (arith, debug_length c.args.m.now (head_in c.args.e.now), c.middle_size-n.ensures.0)),
+  rw c.if-debug.true (omega (arith, debug_length c.args.self.now.machine.now (head_in c.args.self.now.extent.now), c.middle_size-n.ensures.0)),
   omega (arith, c.middle_size-n.ensures.1),
 )
 
@@ -17,7 +17,7 @@ returns c = (
   rw c.if-debug.false
       (omega (
         arith,
-        eh_length c.args.m.now (head_in c.args.e.now) (omega (arith, c.data_size.ensures)),
+        eh_length c.args.self.now.machine.now (head_in c.args.self.now.extent.now) (omega (arith, c.data_size.ensures)),
         c.middle_size-n.ensures.0,
         c.letters_size.ensures.0,
         c.data_size.ensures.0,
