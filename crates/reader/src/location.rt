@@ -6,7 +6,7 @@ ghost use Rattle.format.specs.Lists.{relocations_of};
 ghost use Rattle.format.specs.Prelude.{after};
 ghost use Rattle.format.proofs.Asked.{option_of};
 ghost use Rattle.reader.specs.Spans.{part, entry_of, listed, Holds, Ahead, Spans};
-ghost use Rattle.reader.specs.Finds.{Searching, spans_of, Locates};
+ghost use Rattle.reader.specs.Finds.{Searching, spans_of, Locates, two_entries, Stand};
 
 use crate::entries::{self, Entries};
 use crate::fields;
@@ -177,9 +177,9 @@ impl<'a> Section<'a> {
         })
     }
 
-    // Questions 61 to 64, in this order.
-    pub fn locate(&self, k: u64) -> Result<Located, Question>
-        ensures { Locates self.now.bytes.now self.now.layout.word result (locate self.now.layout.debug (relocations_of self.now.relocations.now) self.now.layout.word k self.now.bytes.now) }
+    // Questions 61 to 63, in this order: where the header of record k and the record stand.
+    pub fn header_and_record(&self, k: u64) -> Result<(Span, Span), Question>
+        ensures { Stand self.now.bytes.now result (two_entries self.now.layout.debug (relocations_of self.now.relocations.now) k self.now.bytes.now) }
     {
         if !entries::tiles(self.bytes) {
             return Err(Question::Tiling);
@@ -190,6 +190,14 @@ impl<'a> Section<'a> {
         let Some(header) = self.header_of(record) else {
             return Err(Question::Header);
         };
+        Ok((header, record))
+    }
+
+    // Questions 61 to 64, in this order.
+    pub fn locate(&self, k: u64) -> Result<Located, Question>
+        ensures { Locates self.now.bytes.now self.now.layout.word result (locate self.now.layout.debug (relocations_of self.now.relocations.now) self.now.layout.word k self.now.bytes.now) }
+    {
+        let (header, record) = self.header_and_record(k)?;
         self.parse(header, record)
     }
 }
