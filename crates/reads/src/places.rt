@@ -64,16 +64,7 @@ pub fn locate_entries(section: &Section, cie: Span, fde: Span) -> Result<Located
 pub fn locate_nth(section: &Section, k: u64) -> Result<Located, Question>
     ensures { numbered result ≡ result_of (locate_nth section.now.layout.debug (relocations_of section.now.relocations.now) section.now.layout.word k section.now.bytes.now) }
 {
-    let s = section.bytes;
-    if !entries::tiles(s) {
-        return Err(Question::Tiling);
-    }
-    let Some(fde) = entries::record_span(s, section.layout.debug, k) else {
-        return Err(Question::Record);
-    };
-    let Some(cie) = section.header_of(fde) else {
-        return Err(Question::Header);
-    };
+    let (cie, fde) = section.header_and_record(k)?;
     locate_entries(section, cie, fde)
 }
 
