@@ -20,10 +20,7 @@ use numbers::uwop;
 fn size(z: i64) -> u64
     ensures { result ≡ size64 z }
 {
-    if z < 0 {
-        return 0;
-    }
-    z as u64
+    u64::try_from(z).unwrap_or(0)
 }
 
 fn register_in(code: Seh) -> u64
