@@ -139,6 +139,8 @@ impl<'a> Function<'a> {
         }
     }
 
+    // Kept: a clause that i is one of the function's epilogues, and no struct of the two: each turn of a loop over them would make it anew for the one call
+    // behind, and its maker would ask the same clause.
     fn epilogue(&self, i: usize) -> Codes<'a>
         requires { Among self.now i }
         ensures { (saved_in result ≡ saves self.now.codes.now (epilogue_at self.now.epilogues.now i)) × (result.run.count ≡ field epilogue_stride self.now.epilogues.now i 2) }
