@@ -14,7 +14,7 @@ ghost use Rattle.lists.specs.Lent.{room_of, WritesTo};
 ghost use Rattle.format.proofs.Wrote.{Wrote};
 ghost use Rattle.unwind.specs.Entries.{Exports};
 ghost use Rattle.arm64.specs.Writer.{function_asks, markers_from, rows_of, relocs_from, infos_of, arm64, arm64_answer};
-ghost use Rattle.arm64_table.specs.Tables.{row_size, relocation_stride, relocs_by, reloc_count, mark_by, AllListed};
+ghost use Rattle.arm64_table.specs.Tables.{row_size, relocation_stride, relocs_by, reloc_count, mark_by, AllListed, AllFineIn};
 
 use arm64::fields;
 use arm64_function::{function_asks, info_size, packed_word, put_info};
@@ -105,7 +105,7 @@ struct Functions<'a> {
 }
 
 impl Functions<'_> {
-    ghost use Rattle.arm64_table.specs.Functions.{functions_of, AllFineOf};
+    ghost use Rattle.arm64_table.specs.Functions.{functions_of};
 
     // 81 to 83 of each function: the position is 0.
     fn first_no(&self) -> Result<(), Refusal>
@@ -117,16 +117,35 @@ impl Functions<'_> {
         Ok(())
     }
 
-    // ---- the results
+    // The questions of the functions, and the results.
+    fn answer(&self, to: &mut Output) -> Result<Option<Counts>, Refusal>
+        ensures { WritesTo (unless (per_function function_asks 0 (functions_of self.now)) (fitting (room_of to.old) (arm64 (functions_of self.now)))) (numbered_at result) to.old to.new }
+    {
+        self.first_no()?;
+        let all = Checked { functions: *self };
+        all.write(to)
+    }
+}
+
+// ---- the results
+
+// The functions of the lists, every question of which is answered by yes.
+#[derive(Clone, Copy)]
+struct Checked<'a> {
+    functions: Functions<'a>,
+    ghost fine: { AllFineIn functions.lists functions.count },
+}
+
+impl Checked<'_> {
+    ghost use Rattle.arm64_table.specs.Functions.{functions_of};
 
     fn sizes(&self) -> Needed
-        requires { AllFineOf self.now }
-        ensures { (result.info ≡ length (infos_of (functions_of self.now))) × (result.relocations ≡ length (relocs_from 0 (functions_of self.now))) × (result.relocations ≤ 2 * most_functions) }
+        ensures { (result.info ≡ length (infos_of (functions_of self.now.functions))) × (result.relocations ≡ length (relocs_from 0 (functions_of self.now.functions))) × (result.relocations ≤ 2 * most_functions) }
     {
         let mut info = 0;
         let mut relocations = 0;
-        for k in 0..self.count {
-            let size = info_size(&self.lists, k);
+        for k in 0..self.functions.count {
+            let size = info_size(&self.functions.lists, k);
             info += size;
             relocations += row_relocs(size);
         }
@@ -135,18 +154,18 @@ impl Functions<'_> {
 
     // The rows of the functions, and their relocations.
     fn put_rows(&self, bytes: &mut [u8], relocations: &mut [u64]) -> usize
-        requires { AllFineOf self.now × (row_size * self.now.count ≤ length bytes.old) × (relocation_stride * length (relocs_from 0 (functions_of self.now)) ≤ length relocations.old) }
-        ensures { (bytes.new ≡ put bytes.old 0 (rows_of (functions_of self.now))) × (relocations.new ≡ put relocations.old 0 (numbers_of (relocs_from 0 (functions_of self.now)))) }
+        requires { (row_size * self.now.functions.count ≤ length bytes.old) × (relocation_stride * length (relocs_from 0 (functions_of self.now.functions)) ≤ length relocations.old) }
+        ensures { (bytes.new ≡ put bytes.old 0 (rows_of (functions_of self.now.functions))) × (relocations.new ≡ put relocations.old 0 (numbers_of (relocs_from 0 (functions_of self.now.functions)))) }
     {
         let mut to = 0;
-        for k in 0..self.count {
-            let word = packed_word(&self.lists, k);
+        for k in 0..self.functions.count {
+            let word = packed_word(&self.functions.lists, k);
             put_row(bytes, ROW * k, word.unwrap_or(0));
             to = put_row_relocs(
                 relocations,
                 to,
                 (ROW * k) as u64,
-                self.lists.functions[fields::FUNCTION_STRIDE * k],
+                self.functions.lists.functions[fields::FUNCTION_STRIDE * k],
                 word,
             );
         }
@@ -155,12 +174,12 @@ impl Functions<'_> {
 
     // The records of the functions, and where each stands.
     fn put_infos(&self, markers: &mut [u64], info: &mut [u8]) -> usize
-        requires { AllFineOf self.now × (self.now.count ≤ length markers.old) × (length (infos_of (functions_of self.now)) ≤ length info.old) }
-        ensures { (markers.new ≡ put markers.old 0 (markers_from 0 (functions_of self.now))) × (info.new ≡ put info.old 0 (infos_of (functions_of self.now))) }
+        requires { (self.now.functions.count ≤ length markers.old) × (length (infos_of (functions_of self.now.functions)) ≤ length info.old) }
+        ensures { (markers.new ≡ put markers.old 0 (markers_from 0 (functions_of self.now.functions))) × (info.new ≡ put info.old 0 (infos_of (functions_of self.now.functions))) }
     {
         let mut at = 0;
-        for k in 0..self.count {
-            let past = put_info(info, at, &self.lists, k);
+        for k in 0..self.functions.count {
+            let past = put_info(info, at, &self.functions.lists, k);
             number(markers, k, mark(at, past));
             at = past;
         }
@@ -169,14 +188,14 @@ impl Functions<'_> {
 
     // All results, where they have room.
     fn put_all(&self, needed: Needed, to: &mut Output) -> Result<Option<Counts>, Refusal>
-        requires { AllFineOf self.now × (needed.info ≡ length (infos_of (functions_of self.now))) × (needed.relocations ≡ length (relocs_from 0 (functions_of self.now))) × (self.now.count ≤ length to.old.places.now) × (row_size * self.now.count ≤ length to.old.bytes.now) × (relocation_stride * needed.relocations ≤ length to.old.relocations.now) × (needed.info ≤ length to.old.sites.now) }
-        ensures { WritesTo (accepted (arm64 (functions_of self.now))) (numbered_at result) to.old to.new }
+        requires { (needed.info ≡ length (infos_of (functions_of self.now.functions))) × (needed.relocations ≡ length (relocs_from 0 (functions_of self.now.functions))) × (self.now.functions.count ≤ length to.old.places.now) × (row_size * self.now.functions.count ≤ length to.old.bytes.now) × (relocation_stride * needed.relocations ≤ length to.old.relocations.now) × (needed.info ≤ length to.old.sites.now) }
+        ensures { WritesTo (accepted (arm64 (functions_of self.now.functions))) (numbered_at result) to.old to.new }
     {
         self.put_rows(to.bytes, to.relocations);
         self.put_infos(to.places, to.sites);
         Ok(Some(Counts {
-            places: self.count as u64,
-            bytes: (ROW * self.count) as u64,
+            places: self.functions.count as u64,
+            bytes: (ROW * self.functions.count) as u64,
             relocations: needed.relocations as u64,
             sites: needed.info as u64,
         }))
@@ -184,26 +203,17 @@ impl Functions<'_> {
 
     // The results, where they have room.
     fn write(&self, to: &mut Output) -> Result<Option<Counts>, Refusal>
-        requires { AllFineOf self.now }
-        ensures { WritesTo (fitting (room_of to.old) (arm64 (functions_of self.now))) (numbered_at result) to.old to.new }
+        ensures { WritesTo (fitting (room_of to.old) (arm64 (functions_of self.now.functions))) (numbered_at result) to.old to.new }
     {
         let needed = self.sizes();
         let counts = Counts {
-            places: self.count as u64,
-            bytes: (ROW * self.count) as u64,
+            places: self.functions.count as u64,
+            bytes: (ROW * self.functions.count) as u64,
             relocations: (RELOCATION_STRIDE * needed.relocations) as u64,
             sites: needed.info as u64,
         };
         lists::room(counts, to.lent())?;
         self.put_all(needed, to)
-    }
-
-    // The questions of the functions, and the results.
-    fn answer(&self, to: &mut Output) -> Result<Option<Counts>, Refusal>
-        ensures { WritesTo (unless (per_function function_asks 0 (functions_of self.now)) (fitting (room_of to.old) (arm64 (functions_of self.now)))) (numbered_at result) to.old to.new }
-    {
-        self.first_no()?;
-        self.write(to)
     }
 }
 

@@ -7,8 +7,8 @@ use Rattle.lists.proofs.Lent.{same}
 use Rattle.arm64_table.proofs.Results.{all_fine}
 use Rattle.arm64_table.proofs.Functions.answer.Goals as goal
 
-pub write-requires : goal.write-requires
-write-requires c = all_fine c.args.self.now.listed (sym c.first_no.ensures ∙ ap numbered_at c.in_ok-first_no.was)
+pub invariant_of-all : goal.invariant_of-all
+invariant_of-all c = record { fine = all_fine c.args.self.now.listed (sym c.first_no.ensures ∙ ap numbered_at c.in_ok-first_no.was) }
 
 pub returns-in_err-first_no : goal.returns-in_err-first_no
 returns-in_err-first_no c = let p = err_from_is_err_and c.from_residual.result c.from_residual.ensures.1 in (rw (p.1, p.2) (stays _ _ (sym c.first_no.ensures ∙ ap numbered_at c.in_err-first_no.was)), same)

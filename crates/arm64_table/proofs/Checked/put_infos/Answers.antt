@@ -1,12 +1,12 @@
--- `Functions::put_infos` meets its contract.
+-- `Checked::put_infos` meets its contract.
 use Rattle.arm64_table.proofs.Loops.{describing, mark_room, info_room, described, all_marked, all_described}
-use Rattle.arm64_table.proofs.Functions.put_infos.Goals as goal
+use Rattle.arm64_table.proofs.Checked.put_infos.Goals as goal
 
 pub loop-k-init : goal.loop-k-init
-loop-k-init c = describing _ _ c.requires.1 c.requires.2
+loop-k-init c = describing _ _ c.requires.0 c.requires.1
 
 pub put_info-past-requires : goal.put_info-past-requires
-put_info-past-requires c = (c.requires.0.each_one _ c.loop-k-test.true, info_room c.loop-k.invariant c.loop-k-test.true)
+put_info-past-requires c = (c.args.self.now.fine.each_one _ c.loop-k-test.true, info_room c.loop-k.invariant c.loop-k-test.true)
 
 pub number-requires : goal.number-requires
 number-requires c = mark_room c.loop-k.invariant c.loop-k-test.true
