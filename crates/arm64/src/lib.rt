@@ -13,8 +13,8 @@ pub mod packed_bits;
 
 // A code: its kind, 0 to 17 in the source's order, its register by number (x19 is 19, d8 is 8) and its offset or size in bytes. An operand that the
 // kind does not have is 0.
-// Kept: the kinds are numbers, and no enum: the definitions have the kinds of C's lists, forms and operands go by their order, and every function of
-// a code promises what it does of any number. An enum would add a conversion that can fail where a code is read, and one back where it is put.
+// Kept: the kinds are numbers, and no enum: a code is read out of C's list anew wherever one is wanted, as there is no buffer to decode a list into, so
+// each reading would convert and could fail, and each store convert back. The definitions have these numbers and order forms and operands by them.
 #[derive(Clone, Copy, PartialEq, Eq)]
 pub struct Code {
     pub kind: u64,
