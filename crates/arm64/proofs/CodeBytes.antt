@@ -5,7 +5,6 @@ use Prim.Native.Nat.{ℕ, zero, suc, ◌/◌, ◌%◌}
 use native.Mathlib.Omega.{arith}
 use lib.ListN.{length, length-append}
 use Rattle.arm64.specs.declared.Code.{Code}
-use Rattle.arm64.specs.declared.Form.{Form}
 use Rattle.arm64.specs.Codes.{big, form_for, spelled, code_bytes}
 
 pub big-length : (k n : ℕ) → length (big k n) ≡ k
