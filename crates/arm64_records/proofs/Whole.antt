@@ -1,6 +1,5 @@
 -- A record's epilogues, in both forms.
 use mathlib.Core.Path.{◌≡◌, refl, ap, ◌∙◌}
-use mathlib.Core.Bool.{true, false}
 use mathlib.Core.Option.{Option, none, some}
 use mathlib.Core.List.{List, [], ◌∷◌, append-nil}
 use Prim.Native.Nat.{ℕ, suc, ◌+◌, ◌-◌, ◌*◌, ◌≤◌, ◌<◌}
@@ -17,7 +16,7 @@ use Rattle.arm64.specs.Records.{codes_from, codes_to, codes_of, scope_at}
 use Rattle.arm64.specs.Reader.{run_at, epilogue, at_end, scoped, epilogues_by, record_epilogues, epilogue_codes}
 use Rattle.arm64_runs.specs.Runs.{codes_in, count_of}
 use Rattle.arm64_records.specs.Parts.{words_from, total_of, epilogues_in, how_many, Inside, Listed, Placed}
-use Rattle.arm64_records.proofs.Headers.{when_true, when_false, scopes_all}
+use Rattle.arm64_records.proofs.Headers.{scopes_all}
 use Rattle.arm64_records.proofs.Epilogues.{scoped_same, counted_run, no_run}
 
 pub total_some : (x : Option (List Epilogue)) {m : ℕ} → total_of x ≡ some m → (x ≡ some (epilogues_in x)) × (length (epilogue_codes (epilogues_in x)) ≡ m)
