@@ -1,5 +1,5 @@
 -- `arm64_packing::packed` meets its contract.
-use mathlib.Core.Path.{refl, sym, ap, ◌∙◌}
+use mathlib.Core.Path.{sym, ap, ◌∙◌}
 use Rattle.std.specs.Prelude.{Some}
 use Rattle.arm64_simple.specs.Written.{written_in}
 use Rattle.arm64_packing.proofs.Answers.{not_defined, other_prologue, other_epilogue, stood}
