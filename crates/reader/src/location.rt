@@ -81,21 +81,13 @@ impl<'a> Section<'a> {
         None
     }
 
-    // The same, searched for from the first entry.
-    pub fn header_span(&self, place: usize, before: usize) -> Option<Span>
-        requires { T (is_some (entries self.now.bytes.now)) }
-        ensures { Spans self.now.bytes.now result (header_at self.now.layout.debug place before (listed (entries self.now.bytes.now))) }
-    {
-        self.header_from(0, place, before)
-    }
-
     // Question 63: the header of a record.
     pub fn header_of(&self, record: Span) -> Option<Span>
         requires { Holds self.now.bytes.now «record» × T (is_some (entries self.now.bytes.now)) }
         ensures { Spans self.now.bytes.now result (after (header_place self.now.layout.debug (relocations_of self.now.relocations.now) (entry_of self.now.bytes.now «record»)) λ place. header_at self.now.layout.debug place «record».at (listed (entries self.now.bytes.now))) }
     {
         let place = self.header_place(record)?;
-        self.header_span(place, record.at)
+        self.header_from(0, place, record.at)
     }
 }
 
