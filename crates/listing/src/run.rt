@@ -5,7 +5,7 @@ ghost use Rattle.format.specs.Prelude.{good};
 ghost use Rattle.format.proofs.Wrote.{Wrote};
 ghost use Rattle.reader.specs.Spans.{part};
 ghost use Rattle.reader.specs.Finds.{in_section};
-ghost use Rattle.listing.specs.Lines.{lines_of, line_numbers, Lists};
+ghost use Rattle.listing.specs.Lines.{line_stride, lines_of, line_numbers, Lists};
 
 use crate::{LINE_STRIDE, Listed};
 use format::{Question, Rules};
@@ -20,7 +20,7 @@ const HIGHEST: u64 = 0xffffffffffffffff;
 
 // A line at `at`: its offset and six numbers.
 fn line(out: &mut [u64], at: usize, offset: u64, rules: Rules) -> usize
-    requires { at + 7 ≤ length out.old }
+    requires { at + line_stride ≤ length out.old }
     ensures { Wrote out.old out.new at result (line_numbers offset rules) }
 {
     let n = unwind::numbers_of(Ok(rules), false);
@@ -35,7 +35,7 @@ fn line(out: &mut [u64], at: usize, offset: u64, rules: Rules) -> usize
 
 // The answer where the lines go up to `end` and no question ends them.
 fn listed(end: usize) -> Listed
-    ensures { result ≡ record { number = 0; lines = end / 7; ending = 0; from = 0 } }
+    ensures { result ≡ record { number = 0; lines = end / line_stride; ending = 0; from = 0 } }
 {
     Listed {
         number: 0,
@@ -47,7 +47,7 @@ fn listed(end: usize) -> Listed
 
 // The answer where the question ends them.
 fn ended(end: usize, question: Question, from: u64) -> Listed
-    ensures { result ≡ record { number = 0; lines = end / 7; ending = number_of question; from = from } }
+    ensures { result ≡ record { number = 0; lines = end / line_stride; ending = number_of question; from = from } }
 {
     Listed {
         ending: question.number(),
@@ -59,7 +59,7 @@ fn ended(end: usize, question: Question, from: u64) -> Listed
 // Kept: a loop like that of `reader::run::run`, which says what the two share and what they do not.
 // The header's operations and then the record's, for register q. The state stays in place: passed by value its 16 stored rules would be the run's cost.
 pub fn fill(s: &[u8], l: &Located, q: u16, out: &mut [u64]) -> Listed
-    requires { T (in_section s.now l.now) × (7 * (l.now.record_end - l.now.«record» + 1) ≤ length out.old) }
+    requires { T (in_section s.now l.now) × (line_stride * (l.now.record_end - l.now.«record» + 1) ≤ length out.old) }
     ensures { Lists q (good (lines_of l.now.word (part s.now l.now.header l.now.header_end) (part s.now l.now.«record» l.now.record_end))) result out.old out.new }
 {
     let mut state = run::start();
