@@ -1,7 +1,7 @@
 // The packed word of Windows' unwind data on ARM64: its fields, whether the page defines it, and the codes of the prologue and epilogue that it stands for.
 #![tactic(auto)]
 
-ghost use Rattle.std.specs.Prelude.{◌≡◌, [], ◌∷◌, ◌+◌, ◌*◌, ◌≤◌, ◌<◌, length};
+ghost use Rattle.std.specs.Prelude.{◌≡◌, true, [], ◌∷◌, ◌+◌, ◌*◌, ◌≤◌, ◌<◌, length};
 ghost use Rattle.format.proofs.Asked.{option_of};
 ghost use Rattle.format.proofs.Wrote.{Wrote};
 ghost use Rattle.arm64.specs.Lists.{code_stride, code_numbers};
@@ -254,7 +254,7 @@ impl Word {
 
     #[tactic(auto, unfolding(arm64::specs::Packed::packed_ok, format::specs::Prelude::pick))]
     pub fn ok(self) -> bool
-        ensures { result ≡ packed_ok self.fields }
+        ensures { (result ≡ packed_ok self.fields) × (result ≡ true → saved_size self.fields ≤ 16 * self.fields.frame) }
     {
         if 10 < self.fields.registers || 16 * self.fields.frame < self.saved_size() {
             return false;
