@@ -20,7 +20,7 @@ pub invariant_of-w : goal.invariant_of-w
 invariant_of-w c = record { small = record { low_length = omega (arith, c.if-p-gt2047.false); low_vectors = omega (arith, c.if-p-gt7.false); low_registers = omega (arith, c.if-p-gt10.false); low_homes = omega (arith, c.requires.0); low_chain = c.requires.1; low_frame = omega (arith, c.if-p-gt511.false) } }
 
 pub returns-then-not-ok : goal.returns-then-not-ok
-returns-then-not-ok c = sym (fields_held c.args.p (omega (arith, c.if-p-gt2047.false)) (omega (arith, c.if-p-gt7.false)) (omega (arith, c.if-p-gt511.false))) ∙ sym c.ok.ensures ∙ c.if-not-ok.true
+returns-then-not-ok c = sym (fields_held c.args.p (omega (arith, c.if-p-gt2047.false)) (omega (arith, c.if-p-gt7.false)) (omega (arith, c.if-p-gt511.false))) ∙ sym c.ok.ensures.0 ∙ c.if-not-ok.true
 
 pub returns : goal.returns
-returns c = (refl, sym (fields_held c.args.p (omega (arith, c.if-p-gt2047.false)) (omega (arith, c.if-p-gt7.false)) (omega (arith, c.if-p-gt511.false))) ∙ sym c.ok.ensures ∙ c.if-not-ok.false)
+returns c = (refl, sym (fields_held c.args.p (omega (arith, c.if-p-gt2047.false)) (omega (arith, c.if-p-gt7.false)) (omega (arith, c.if-p-gt511.false))) ∙ sym c.ok.ensures.0 ∙ c.if-not-ok.false)
