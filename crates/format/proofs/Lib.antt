@@ -25,6 +25,7 @@ pub mod SigningRemembered
 pub mod ListLaws
 pub mod Asked
 pub mod Bits
+pub mod Onward
 pub mod Asking
 pub mod Accepted
 pub mod Wrote
