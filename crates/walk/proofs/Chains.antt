@@ -6,6 +6,7 @@ use Prim.Native.Nat.{ℕ, suc, ◌+◌, ◌-◌, ◌<◌, ◌≤◌}
 use native.Mathlib.Omega.{arith}
 use lib.ListN.{length, length-append}
 use Rattle.format.specs.Prelude.{Result, good, bad, onward}
+use Rattle.format.proofs.Onward.{onward_assoc}
 use Rattle.walk.specs.declared.Frame.{Frame}
 use Rattle.walk.specs.Walk.{Source, Fault, Chain, Caller, Held, caller_of, ended, behind, or_ended, held_at, frames_f, return_undefined, held_by_none, too_many}
 
@@ -25,11 +26,6 @@ onto_behind fs f (bad n) = refl
 onto_ended : (fs : List Frame) (n : ℕ) → onto fs (ended n) ≡ good (record { frames = fs; ending = n })
 unfolding onto ended onward
 onto_ended fs n = ap (λ (l : List Frame). good (record { frames = l; ending = n })) (append-nil fs)
-
-onward_assoc : {A B C : Type 0} (a : Result A) (f : A → Result B) (g : B → Result C) → onward a (λ x. onward (f x) g) ≡ onward (onward a f) g
-unfolding onward
-onward_assoc (good a) f g = refl
-onward_assoc (bad n) f g = refl
 
 -- ---- the loop
 

@@ -63,6 +63,9 @@ pub fn looked_up(exact: bool, a: u64) -> Option<u64>
 
 // ---- the function that holds an address
 
+// Its numbers in the list: where it starts, and its length.
+pub const FUNCTION_STRIDE: usize = 2;
+
 fn holds(start: u64, size: u64, a: u64) -> bool
     ensures { result ≡ holds a (record { start = start; size = size }) }
 {
@@ -73,9 +76,9 @@ fn holds(start: u64, size: u64, a: u64) -> bool
 fn holder_of(functions: &[u64], a: u64) -> Option<(u64, u64)>
     ensures { result ≡ holder_of (held_from a 0 (placed_of functions.now)) }
 {
-    for i in 0..functions.len() / 2 {
-        let start = functions[2 * i];
-        if holds(start, functions[2 * i + 1], a) {
+    for i in 0..functions.len() / FUNCTION_STRIDE {
+        let start = functions[FUNCTION_STRIDE * i];
+        if holds(start, functions[FUNCTION_STRIDE * i + 1], a) {
             return Some((i as u64, a - start));
         }
     }
@@ -246,6 +249,9 @@ pub fn returned(
 
 // ---- the frames
 
+// Its numbers in a list.
+pub const FRAME_STRIDE: usize = 2;
+
 // The position of its function in the list, and the pc or return address.
 #[derive(Clone, Copy, Default)]
 pub struct Frame {
@@ -259,7 +265,7 @@ pub fn store(frames: &[Frame], out: &mut [u64])
     ensures { out.new ≡ put out.old 0 (frame_numbers frames.now) }
 {
     for i in 0..frames.len() {
-        out[2 * i] = frames[i].position;
-        out[2 * i + 1] = frames[i].pc;
+        out[FRAME_STRIDE * i] = frames[i].position;
+        out[FRAME_STRIDE * i + 1] = frames[i].pc;
     }
 }
