@@ -201,7 +201,7 @@ module _ {s : List ℕ} {word : ℕ} {marks : List ℕ} {k at : ℕ} (i : Passin
           numbered = λ n. let m : k + 1 + n ≡ k + suc n = omega arith in rw m (i.numbered (suc n) ∙ rw listed_first);
           ahead = ahead_on i.ahead e;
           marks_ahead = marks_on step same;
-          }
+        }
 
 pub ended : {s : List ℕ} {word : ℕ} {marks : List ℕ} {k at : ℕ} → Passing s word marks k at → length s ≤ at → saying 0 0 ≡ check_from s word 0 (records_in s)
 unfolding check_from records listed
