@@ -316,7 +316,7 @@ fn stored(r: Result<Chain, Question>, out: &mut [u64]) -> Answer
         Ok(chain) => chain,
         Err(question) => return refusing(question),
     };
-    if out.len() / 2 < chain.frames.len() {
+    if out.len() / walk::FRAME_STRIDE < chain.frames.len() {
         return refusing(Question::OtherRoom);
     }
     walk::store(chain.frames.as_slice(), out);
