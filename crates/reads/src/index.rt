@@ -20,6 +20,9 @@ use section_check::marks::Stretches;
 // As many marks as a section has here: half of those of section_check, since a frame above some 32 KiB is compiled wrong (docs/DECISIONS.md, D86).
 const MARKS: usize = 1024;
 
+// The numbers of a record in the index: its place, and its header's.
+const STRIDE: usize = 2;
+
 // The place of no header.
 const NOWHERE: u64 = 0xffffffffffffffff;
 
@@ -127,7 +130,7 @@ fn fill(section: &Section, places: &mut [u64])
         last = header_start(section, entry, from, last, &stretches);
         places[i] = entry.at as u64;
         places[i + 1] = place_of(last);
-        i += 2;
+        i += STRIDE;
     }
 }
 
@@ -139,7 +142,7 @@ pub fn index_in(section: &Section, places: &mut [u64]) -> Result<usize, Question
         return Err(Question::Tiling);
     }
     let n = count(section);
-    if places.len() / 2 < n {
+    if places.len() / STRIDE < n {
         return Err(Question::OtherRoom);
     }
     fill(section, places);
