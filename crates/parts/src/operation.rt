@@ -6,6 +6,11 @@ ghost use Rattle.parts.specs.Operations.{no_operation, operation_numbers, operat
 use format::{Operation, Question};
 use operations::fields::Position;
 
+// The kinds that are no row's.
+const NOP: u64 = 16;
+
+const STEP: u64 = 17;
+
 // What unwind_read_operation answers.
 // Kept: a number beside the fields, and a kind by its number, since C reads it.
 #[repr(C)]
@@ -50,8 +55,8 @@ fn numbers_of(op: Operation, next: u64, opcode: u64) -> OperationRead
     ensures { result ≡ operation_numbers op next opcode }
 {
     match op {
-        Operation::Nop => numbers(16, 0, 0, next, opcode),
-        Operation::Step(n) => numbers(17, 0, n, next, opcode),
+        Operation::Nop => numbers(NOP, 0, 0, next, opcode),
+        Operation::Step(n) => numbers(STEP, 0, n, next, opcode),
         Operation::Does(row) => numbers(
             rows::kind(row),
             u64::from(rows::register(row)),

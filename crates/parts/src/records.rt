@@ -91,6 +91,8 @@ fn rest(e: &Placed, at: Position, pointer: u64, f: Front) -> Result<RecordRead, 
 }
 
 // The fields in the bytes behind a record's length.
+// Kept: `reader::fields::parse_record` and `reads::addresses::fields_of` read these three numbers too. One function would answer them with the
+// position past them in a struct, and for this one alone which of them is at fault: taking both apart again is more than the three reads.
 fn fields(e: &Placed, pointer: u64) -> Result<RecordRead, Field>
     ensures { record_answer result ≡ record_numbers e.now.body.layout.debug pointer (e.now.base + length e.now.body.bytes.now) (record_parts e.now.body.layout.debug e.now.body.layout.word pointer e.now.body.bytes.now) }
 {
