@@ -49,7 +49,8 @@ fn search(s: &[u8], offset: u64) -> Result<Option<Entry>, Question>
 {
     let mut at = Position::START;
     let mut found = None;
-    // Kept: a while, since what was read says where the next stands; the position is the cursor.
+    // Kept: a `while`. An iterator whose last item may be no entry would have these lines in its `next`, and a test of each item here besides;
+    // no other loop goes over a table's entries.
     while at.at < s.len() {
         let Some((entry, past)) = entry_at(s, at) else {
             return Err(Question::CallSites);
@@ -108,7 +109,7 @@ fn every_short(s: &[u8]) -> bool
     ensures { result ≡ every_short s.now }
 {
     let mut at = Position::START;
-    // Kept: a while, since what was read says where the next stands; the position is the cursor.
+    // Kept: a `while`, as in `search`: no other loop goes over numbers one by one.
     while at.at < s.len() {
         let Some((_, past)) = read_uleb(s, at) else {
             return false;
