@@ -22,7 +22,7 @@ use arm64_lists::Lists;
 use format::{Counts, Question, Refusal};
 use lists::output::Output;
 use relocs::{RELOCATION_STRIDE, number, relocation};
-use unwind::{Written, written_of};
+use unwind::Written;
 
 // ---- one function
 
@@ -271,7 +271,7 @@ pub extern "C" fn unwind_arm64(
 ) -> Written
     ensures { Exports (arm64_answer functions.now epilogues.now codes.now (room_in markers.old bytes.old relocations.old info.old)) result markers.old markers.new bytes.old bytes.new relocations.old relocations.new info.old info.new }
 {
-    written_of(table(
+    Written::from(table(
         functions,
         epilogues,
         codes,

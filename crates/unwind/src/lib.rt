@@ -435,8 +435,17 @@ fn rules_numbers(c: CfaRule, r: Rule, signing: bool, shortest: bool) -> Numbers
     }
 }
 
-pub fn numbers_of(r: Result<Rules, Question>, shortest: bool) -> Numbers
-    ensures { read_numbers result ≡ marked_numbers (numbered r) shortest }
+// A reading with the number of its question.
+fn with_number(r: Result<Rules, Question>) -> Result<Rules, u64>
+    ensures { result ≡ numbered r }
+{
+    let rules = r?;
+    Ok(rules)
+}
+
+// A question's number is any number here, since C may hand one on that the reader did not give.
+pub fn numbers_of(r: Result<Rules, u64>, shortest: bool) -> Numbers
+    ensures { read_numbers result ≡ marked_numbers r shortest }
 {
     match r {
         Ok(rules) => {
@@ -444,8 +453,8 @@ pub fn numbers_of(r: Result<Rules, Question>, shortest: bool) -> Numbers
             let rule = rules.rule;
             rules_numbers(cfa, rule, rules.signing, shortest)
         }
-        Err(question) => Numbers {
-            number: question.number(),
+        Err(number) => Numbers {
+            number,
             frame: 0,
             frame_register: 0,
             frame_offset: 0,
@@ -457,35 +466,37 @@ pub fn numbers_of(r: Result<Rules, Question>, shortest: bool) -> Numbers
     }
 }
 
-#[tactic(auto, unfolding(format::specs::Answers::outcome_numbers))]
-pub fn written_of(o: Result<Option<Counts>, Refusal>) -> Written
-    ensures { written_numbers result ≡ outcome_numbers (numbered_at o) }
-{
-    match o {
-        Ok(Some(c)) => Written {
-            number: 0,
-            position: 0,
-            places: c.places,
-            bytes: c.bytes,
-            relocations: c.relocations,
-            sites: c.sites,
-        },
-        Ok(None) => Written {
-            number: 0,
-            position: 0,
-            places: 0,
-            bytes: 0,
-            relocations: 0,
-            sites: 0,
-        },
-        Err(r) => Written {
-            number: r.question.number(),
-            position: r.position,
-            places: 0,
-            bytes: 0,
-            relocations: 0,
-            sites: 0,
-        },
+impl From<Result<Option<Counts>, Refusal>> for Written {
+    ghost from_gives = { λ o w. written_numbers w ≡ outcome_numbers (numbered_at o) };
+
+    #[tactic(auto, unfolding(format::specs::Answers::outcome_numbers))]
+    fn from(outcome: Result<Option<Counts>, Refusal>) -> Written {
+        match outcome {
+            Ok(Some(c)) => Written {
+                number: 0,
+                position: 0,
+                places: c.places,
+                bytes: c.bytes,
+                relocations: c.relocations,
+                sites: c.sites,
+            },
+            Ok(None) => Written {
+                number: 0,
+                position: 0,
+                places: 0,
+                bytes: 0,
+                relocations: 0,
+                sites: 0,
+            },
+            Err(r) => Written {
+                number: r.question.number(),
+                position: r.position,
+                places: 0,
+                bytes: 0,
+                relocations: 0,
+                sites: 0,
+            },
+        }
     }
 }
 
@@ -505,7 +516,7 @@ pub extern "C" fn unwind_relaxed_table(
 ) -> Written
     ensures { Exports (relaxed_table format (given_of machine.now functions.now rows.now landings.now pairs.now) (room_in places.old bytes.old relocations.old sites.old)) result places.old places.new bytes.old bytes.new relocations.old relocations.new sites.old sites.new }
 {
-    written_of(relaxed_table(
+    Written::from(relaxed_table(
         machine,
         format,
         functions,
@@ -533,7 +544,7 @@ pub extern "C" fn unwind_relaxed_debug_frame(
 ) -> Written
     ensures { Exports (relaxed_debug_frame format (given_of machine.now functions.now rows.now landings.now pairs.now) (room_in places.old bytes.old relocations.old [])) result places.old places.new bytes.old bytes.new relocations.old relocations.new [] [] }
 {
-    written_of(relaxed_debug_frame(
+    Written::from(relaxed_debug_frame(
         machine,
         format,
         functions,
@@ -557,7 +568,7 @@ pub extern "C" fn unwind_seh(
 ) -> Written
     ensures { Exports (seh functions.now codes.now (room_in markers.old bytes.old relocations.old info.old)) result markers.old markers.new bytes.old bytes.new relocations.old relocations.new info.old info.new }
 {
-    written_of(seh(functions, codes, markers, bytes, relocations, info))
+    Written::from(seh(functions, codes, markers, bytes, relocations, info))
 }
 
 #[unsafe(no_mangle)]
@@ -581,10 +592,10 @@ pub extern "C" fn unwind_read(
 {
     match reader::locate(section, relocations, kind, word, k) {
         Ok(l) => {
-            let rules = reader::rules_at(section, l, q, p);
+            let rules = with_number(reader::rules_at(section, l, q, p));
             let shortest = reader::shortest_at(section, l, p);
             numbers_of(rules, shortest)
         }
-        Err(question) => numbers_of(Err(question), false),
+        Err(question) => numbers_of(Err(question.number()), false),
     }
 }

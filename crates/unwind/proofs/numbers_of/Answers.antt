@@ -8,4 +8,4 @@ returns-in-Ok c = rw c.in-Ok.is c.rules_numbers.ensures
 
 pub returns-in-Err : goal.returns-in-Err
 unfolding reading_numbers mark_of marked_numbers
-returns-in-Err c = rw (c.in-Err.is, c.number.ensures) refl
+returns-in-Err c = rw c.in-Err.is refl
