@@ -1,13 +1,25 @@
 -- Steps part by part, as the code writes them, and how long they are.
-use mathlib.Core.Path.{◌≡◌}
+use mathlib.Core.Path.{◌≡◌, refl}
 use mathlib.Core.List.{[]}
 use mathlib.Core.Logic.{◌≢◌}
-use Prim.Native.Nat.{ℕ, ◌+◌, ◌≤◌, ◌<◌}
+use Prim.Native.Nat.{ℕ, zero, suc, ◌+◌, ◌≤◌, ◌<◌}
 use native.Mathlib.Omega.{arith}
 use lib.ListN.{length}
 use Rattle.format.specs.Rows.{step_in, step_form, step_bytes}
+use Rattle.rows.specs.Forms.{Meant}
+use Rattle.rows.specs.declared.StepForm.TheVariants.{FourBytes}
 use Rattle.format.proofs.Choice.{if-le, if-gt, if-eq, if-ne, either}
 use Rattle.format.proofs.LebBack.{little-length}
+
+-- ---- a form by a number
+
+-- any number but the first three means four bytes
+pub meant_four : (n : ℕ) → n ≢ 0 → n ≢ 1 → n ≢ 2 → Meant n FourBytes
+unfolding step_in
+meant_four zero a b c = absurd (a refl)
+meant_four (suc zero) a b c = absurd (b refl)
+meant_four (suc (suc zero)) a b c = absurd (c refl)
+meant_four (suc (suc (suc n))) a b c = record { same = λ by. refl; in_opcode = λ e. absurd (omega (arith, e)) }
 
 -- ---- the shortest form
 

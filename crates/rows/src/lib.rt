@@ -547,6 +547,24 @@ impl StepForm {
     }
 }
 
+// Of any other number than 0, 1 and 2 the form is that of four bytes.
+impl From<u64> for StepForm {
+    ghost use Rattle.std.specs.Prelude.{◌≡◌};
+    ghost use Rattle.format.specs.Rows.{step_in};
+    ghost use Rattle.rows.specs.Forms.{operand_bytes, Meant};
+
+    ghost from_gives = { Meant };
+
+    fn from(form: u64) -> StepForm {
+        match form {
+            0 => StepForm::InOpcode,
+            1 => StepForm::OneByte,
+            2 => StepForm::TwoBytes,
+            _ => StepForm::FourBytes,
+        }
+    }
+}
+
 // The shortest form of a step.
 #[tactic(auto, unfolding(format::specs::Rows::step_form, format::specs::Prelude::pick))]
 pub fn step_form(by: u64) -> StepForm
@@ -575,7 +593,7 @@ fn step_behind(out: &mut [u8], at: usize, opcode: u8, n: usize, by: u64) -> usiz
 
 // A step in a given form. The form without operand holds 63 at most.
 #[tactic(auto, unfolding(format::specs::Rows::step_in))]
-pub fn step_in(out: &mut [u8], at: usize, form: StepForm, by: u64) -> usize
+fn step_as(out: &mut [u8], at: usize, form: StepForm, by: u64) -> usize
     requires { (operand_bytes form ≡ 0 → by ≤ 0x3f) × (at + length (step_in (operand_bytes form) by) ≤ length out.old) }
     ensures { Wrote out.old out.new at result (step_in (operand_bytes form) by) }
 {
@@ -587,6 +605,15 @@ pub fn step_in(out: &mut [u8], at: usize, form: StepForm, by: u64) -> usize
     }
 }
 
+// The same of a form by how many bytes of operand it has.
+// Kept: a number, and no StepForm, since a public function asks no more than it did.
+pub fn step_in(out: &mut [u8], at: usize, form: u64, by: u64) -> usize
+    requires { (form ≡ 0 → by ≤ 0x3f) × (at + length (step_in form by) ≤ length out.old) }
+    ensures { Wrote out.old out.new at result (step_in form by) }
+{
+    step_as(out, at, StepForm::from(form), by)
+}
+
 // A step in its shortest form; a step of 0 is nothing.
 pub fn advance(out: &mut [u8], at: usize, by: u64) -> usize
     requires { at + length (step_bytes by) ≤ length out.old }
@@ -595,7 +622,7 @@ pub fn advance(out: &mut [u8], at: usize, by: u64) -> usize
     if by == 0 {
         return at;
     }
-    step_in(out, at, step_form(by), by)
+    step_as(out, at, step_form(by), by)
 }
 
 pub fn advance_size(by: u64) -> usize

@@ -1,8 +1,8 @@
--- `rows::step_in` meets its contract.
+-- `rows::step_as` meets its contract.
 use borrow.Author.Rules.{rules}
 use Rattle.format.specs.Rows.{step_in}
 use Rattle.format.proofs.LebBack.{little-length}
-use Rattle.rows.proofs.step_in.Goals as goal
+use Rattle.rows.proofs.step_as.Goals as goal
 
 pub step_behind-requires : goal.step_behind-requires
 unfolding step_in
