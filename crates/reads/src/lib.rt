@@ -193,21 +193,8 @@ pub fn read_located(
 pub extern "C" fn unwind_rules_at(section: &[u8], located: Located, q: u16, p: u64) -> Numbers
     ensures { read_numbers result ≡ marked_numbers (rules_of section.now located q p) (shortest_from section.now (reader_places located) p) }
 {
-    if located.number != 0 {
-        return Numbers {
-            number: located.number,
-            frame: 0,
-            frame_register: 0,
-            frame_offset: 0,
-            rule: 0,
-            rule_value: 0,
-            signing: 0,
-            shortest: 0,
-        };
-    }
-    let places = location::Located::from(located);
-    let rules = reader::rules_at(section, places, q, p);
-    let shortest = reader::shortest_at(section, places, p);
+    let rules = rules_of(section, located, q, p);
+    let shortest = reader::shortest_at(section, location::Located::from(located), p);
     unwind::numbers_of(rules, shortest)
 }
 
