@@ -263,7 +263,7 @@ fn packed_table(
         sites,
     );
     clear(numbers, b);
-    unwind::written_of(outcome)
+    Written::from(outcome)
 }
 
 fn packed_debug_frame(
@@ -292,7 +292,7 @@ fn packed_debug_frame(
         relocations,
     );
     clear(numbers, b);
-    unwind::written_of(outcome)
+    Written::from(outcome)
 }
 
 // What a writer answers where the list is not ready: an empty result, 78, 11 or 12, else 54.
@@ -433,7 +433,7 @@ pub extern "C" fn unwind_relaxed_table_of(
         rows: rows.len(),
     };
     if !pack(functions, rows, numbers) {
-        return unwind::written_of(table_without_numbers(&x));
+        return Written::from(table_without_numbers(&x));
     }
     packed_table(&x, numbers, places, bytes, relocations, sites)
 }
@@ -463,7 +463,7 @@ pub extern "C" fn unwind_relaxed_debug_frame_of(
         rows: rows.len(),
     };
     if !pack(functions, rows, numbers) {
-        return unwind::written_of(debug_frame_without_numbers(&x));
+        return Written::from(debug_frame_without_numbers(&x));
     }
     packed_debug_frame(&x, numbers, places, bytes, relocations)
 }

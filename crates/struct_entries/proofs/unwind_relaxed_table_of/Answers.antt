@@ -11,7 +11,7 @@ returns-then-not-pack c =
     let a = c.args in
     table_finished a.numbers.now a.functions.now a.rows.now c.pack.result c.pack.ensures.0 a.format a.machine.now a.landings.now a.pairs.now
     (room_in a.places.now a.bytes.now a.relocations.now c.args.sites.now) c.pack.ensures.1
-    (refuses _ _ _ _ _ c.pack.result (ap not c.if-not-pack.true) c.table_without_numbers.ensures c.written_of.ensures)
+    (refuses _ _ _ _ _ c.pack.result (ap not c.if-not-pack.true) c.table_without_numbers.ensures c.from.ensures)
 
 pub packed_table-requires : goal.packed_table-requires
 packed_table-requires c = rw c.pack.ensures.1 (there c.args.numbers.now c.args.functions.now c.args.rows.now c.pack.result c.pack.ensures.0 c.if-not-pack.false)
