@@ -177,9 +177,6 @@ module _ {whole : Lines} {header : Bool} {word q : ℕ} {initial : std.Option Ru
               let g : loc + d ≤ highest = omega (arith, n.near) in
               rw (if-ne d 0 (listing header word n.first k loc n.all (drop next.at ops)) _ z, if-le (loc + d) highest _ (last loc n.all) g) at stepped
 
-          line_room : i + 7 ≤ length out
-          line_room = omega (arith, n.room)
-
           room_behind : {out' : List ℕ} {j : ℕ} → Wrote out out' i j (line_numbers loc state.rules) → length out' ≡ length out
               → j + 7 * (pick header more (length ops - next.at) + 1) ≤ length out'
           unfolding pick
@@ -272,9 +269,6 @@ module _ {whole : Lines} {header : Bool} {word q : ℕ} {initial : std.Option Ru
         pub stops : highest - loc < d → LinesStored q whole (last loc stays.all) old out i
         unfolding stays moved
         stops l = far_step e step.0 in_record z l
-
-        pub line_fits : i + 7 ≤ length out
-        line_fits = line_room e step.0 in_record z
 
         rules_same : after.rules ≡ state.rules
         unfolding run_of
