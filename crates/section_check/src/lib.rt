@@ -30,25 +30,40 @@ pub struct Checked {
 
 // ---- the header of a record
 
+// A section has a mark for each stretch of `step` bytes: the first entry that starts in it.
+pub fn mark(marks: &mut [usize], step: usize, at: usize)
+    requires { 0 < step }
+    ensures { marks.new ≡ marked step at marks.old }
+{
+    let i = at / step;
+    if i < marks.len() && marks[i] == 0 {
+        marks[i] = at;
+    }
+}
+
+// Where the search for the entry at a place starts.
+pub fn mark_before(marks: &[usize], step: usize, place: usize) -> usize
+    requires { 0 < step }
+    ensures { result ≡ mark_before step place marks.now }
+{
+    match marks.get(place / step) {
+        Some(at) if *at <= place => *at,
+        _ => 0,
+    }
+}
+
 impl<const N: usize> Stretches<N> {
     // The entry at a place was passed.
     pub fn mark(&mut self, at: usize)
         ensures { (self.new.marks ≡ marked self.old.step at self.old.marks) × (self.new.step ≡ self.old.step) }
     {
-        let i = at / self.step;
-        if i < N && self.marks[i] == 0 {
-            self.marks[i] = at;
-        }
+        mark(&mut self.marks, self.step, at);
     }
 
-    // Where the search for the entry at a place starts.
     pub fn before(&self, place: usize) -> usize
         ensures { result ≡ mark_before self.now.step place self.now.marks }
     {
-        match self.marks.get(place / self.step) {
-            Some(at) if *at <= place => *at,
-            _ => 0,
-        }
+        mark_before(&self.marks, self.step, place)
     }
 }
 
