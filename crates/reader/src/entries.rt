@@ -41,7 +41,7 @@ pub fn tiles(s: &[u8]) -> bool
 }
 
 // Where the entry at `at` ends, in a section that is tiled from there on.
-fn past(s: &[u8], at: usize) -> usize
+pub fn past(s: &[u8], at: usize) -> usize
     requires { (at < length s.now) × T (is_some (entries_from s.now at)) }
     ensures { Ends s.now at result }
 {
