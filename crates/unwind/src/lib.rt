@@ -235,10 +235,7 @@ pub fn numbers_in(o: Result<Option<Counts>, Refusal>, room: usize) -> usize
 pub fn word_in(machine: &[u64]) -> u64
     ensures { result ≡ get_or machine.now 0 0 }
 {
-    if machine.len() == 0 {
-        return 0;
-    }
-    machine[0]
+    machine.first().copied().unwrap_or(0)
 }
 
 // debug_frame's writer, or the other.
@@ -418,11 +415,11 @@ impl From<Rule> for Saving {
     }
 }
 
-fn rules_numbers(c: CfaRule, r: Rule, signing: bool, shortest: bool) -> Numbers
-    ensures { read_numbers result ≡ marked_numbers (Ok (record { cfa = c; rule = r; signing = signing })) shortest }
+fn rules_numbers(rules: Rules, shortest: bool) -> Numbers
+    ensures { read_numbers result ≡ marked_numbers (Ok rules) shortest }
 {
-    let a = Address::from(c);
-    let b = Saving::from(r);
+    let a = Address::from(rules.cfa);
+    let b = Saving::from(rules.rule);
     Numbers {
         number: 0,
         frame: a.kind,
@@ -430,7 +427,7 @@ fn rules_numbers(c: CfaRule, r: Rule, signing: bool, shortest: bool) -> Numbers
         frame_offset: a.offset,
         rule: b.kind,
         rule_value: b.value,
-        signing: u64::from(signing),
+        signing: u64::from(rules.signing),
         shortest: u64::from(shortest),
     }
 }
@@ -448,11 +445,7 @@ pub fn numbers_of(r: Result<Rules, u64>, shortest: bool) -> Numbers
     ensures { read_numbers result ≡ marked_numbers r shortest }
 {
     match r {
-        Ok(rules) => {
-            let cfa = rules.cfa;
-            let rule = rules.rule;
-            rules_numbers(cfa, rule, rules.signing, shortest)
-        }
+        Ok(rules) => rules_numbers(rules, shortest),
         Err(number) => Numbers {
             number,
             frame: 0,
