@@ -4,6 +4,7 @@ pub mod Tests
 pub mod Sums
 pub mod Wrap
 pub mod Patches
+pub mod Stores
 pub mod Loops
 pub mod Distances
 pub mod Outside

@@ -115,6 +115,3 @@ module _ (rs : List ℕ) where
             ∙ ap (stores l bs) (sym (rest_more i h))
             ∙ k.rest;
       }
-
-pub same_test : (test : Test) {b b' : Option Relocation} {r r' : Relocation} {h h' : Option Relocation} → b ≡ b' → r ≡ r' → h ≡ h' → test b r h ≡ test b' r' h'
-same_test test e f g = cc

@@ -1,20 +1,21 @@
 // Relocations applied: a section put in place (request W-211). `Reloc` is ported from rucc-asm/src/unwind.rs of tamnd/rucc, changed: see NOTICE; the rest is added.
 #![tactic(auto)]
 
-ghost use Rattle.std.specs.Prelude.{◌≡◌, ◌+◌, ◌-◌, ◌*◌, ◌/◌, ◌^◌, ◌<◌, ◌≤◌, T, length, pos, ◌+ℤ◌, ◌-ℤ◌, nat_le};
+ghost use Rattle.std.specs.Prelude.{◌≡◌, ℕ, ◌+◌, ◌^◌, ◌<◌, ◌≤◌, T, length, pos, ◌+ℤ◌, ◌-ℤ◌, ◌≤ℤ◌, ◌<ℤ◌, IfSome};
 ghost use Rattle.std.proofs.Math.Option.{none, some};
-ghost use Rattle.format.specs.Questions.{is_some};
 ghost use Rattle.std.specs.Int.{w64};
 ghost use Rattle.std.proofs.Common.{to_z};
 ghost use Rattle.format.specs.Prelude.{after};
-ghost use Rattle.format.specs.Machine.{is_word_size};
-ghost use Rattle.format.specs.Lists.{relocation_at, relocations_of};
-ghost use Rattle.apply.specs.Kinds.{kind_of, bits_of, bytes_of, size_ok};
+ghost use Rattle.format.specs.Coded.{numbered};
+ghost use Rattle.format.specs.Lists.{count, relocation_stride, relocation_at, relocations_of};
 ghost use Rattle.format.proofs.Asked.{option_of};
-ghost use Rattle.apply.specs.Fields.{up_to, signed32, number_at, in_field, set_in, sub_in, whole_in};
-ghost use Rattle.apply.specs.Values.{symbols_of, address_of, sum_of, apart, value_as, store_of};
-ghost use Rattle.apply.specs.Apply.{partners, paired, measured, value_ok, near_as, sound, near, everywhere, stores, apply, Applies};
-ghost use Rattle.apply.specs.Standing.{meant, placed, beside, before_at, behind_at, total_of, FieldSize, LiesIn};
+ghost use Rattle.apply.specs.Kinds.{kind_of, bits_of, bytes_of, size_ok};
+ghost use Rattle.apply.specs.Fields.{up_to, signed32, low_of, number_at};
+ghost use Rattle.apply.specs.Values.{symbols_of, address_of, sum_of, apart, value_as, distance_of, store_of};
+ghost use Rattle.apply.specs.Apply.{partners, paired, value_ok, near_as, sound, near, everywhere, stores, apply, Applies};
+ghost use Rattle.apply.specs.Standing.{meant, placed, beside, before_at, behind_at, FieldSize, SumRange, true_value, fitted, patched, answer_of};
+
+use format::Question;
 
 // The width of a field that Set and Sub patch, in bits.
 #[derive(Clone, Copy)]
@@ -26,6 +27,7 @@ pub enum Width {
 }
 
 // What a relocation is by its number.
+// Kept: Unknown is a case of the definitions too (specs/Kinds.antt), each of which has a line for it; an Option would be one more case in each.
 #[derive(Clone, Copy)]
 pub enum Kind {
     Data,
@@ -56,162 +58,172 @@ const SUB16: u64 = relocs::SET16 + 1;
 
 const SUB32: u64 = relocs::SET32 + 1;
 
-fn kind_of(n: u64) -> Kind
-    ensures { result ≡ kind_of n }
-{
-    match n {
-        relocs::DATA => Kind::Data,
-        relocs::ADDRESS => Kind::Address,
-        relocs::SUM_PLUS => Kind::SumPlus,
-        relocs::SUM_MINUS => Kind::SumMinus,
-        relocs::IMAGE => Kind::Image,
-        relocs::SET6 => Kind::Set(Width::W6),
-        SUB6 => Kind::Sub(Width::W6),
-        relocs::SET8 => Kind::Set(Width::W8),
-        SUB8 => Kind::Sub(Width::W8),
-        relocs::SET16 => Kind::Set(Width::W16),
-        SUB16 => Kind::Sub(Width::W16),
-        relocs::SET32 => Kind::Set(Width::W32),
-        SUB32 => Kind::Sub(Width::W32),
-        _ => Kind::Unknown,
+impl From<u64> for Kind {
+    ghost from_gives = { λ n k. k ≡ kind_of n };
+
+    #[tactic(auto, unfolding(crate::specs::Kinds::kind_of, format::specs::Prelude::pick))]
+    fn from(n: u64) -> Kind {
+        match n {
+            relocs::DATA => Kind::Data,
+            relocs::ADDRESS => Kind::Address,
+            relocs::SUM_PLUS => Kind::SumPlus,
+            relocs::SUM_MINUS => Kind::SumMinus,
+            relocs::IMAGE => Kind::Image,
+            relocs::SET6 => Kind::Set(Width::W6),
+            SUB6 => Kind::Sub(Width::W6),
+            relocs::SET8 => Kind::Set(Width::W8),
+            SUB8 => Kind::Sub(Width::W8),
+            relocs::SET16 => Kind::Set(Width::W16),
+            SUB16 => Kind::Sub(Width::W16),
+            relocs::SET32 => Kind::Set(Width::W32),
+            SUB32 => Kind::Sub(Width::W32),
+            _ => Kind::Unknown,
+        }
     }
 }
 
-fn bits_of(w: Width) -> u64
-    ensures { result ≡ bits_of w }
-{
-    match w {
-        Width::W6 => 6,
-        Width::W8 => 8,
-        Width::W16 => 16,
-        Width::W32 => 32,
+impl Width {
+    fn bits(self) -> u64
+        ensures { result ≡ bits_of self }
+    {
+        match self {
+            Width::W6 => 6,
+            Width::W8 => 8,
+            Width::W16 => 16,
+            Width::W32 => 32,
+        }
     }
-}
 
-// 2 to the bits of a width.
-fn modulus(w: Width) -> u64
-    ensures { (result ≡ 2 ^ bits_of w) × (0 < result) × (result ≤ 4294967296) }
-{
-    1 << bits_of(w)
-}
+    // 2 to the bits.
+    fn modulus(self) -> u64
+        ensures { (result ≡ 2 ^ bits_of self) × (0 < result) × (result ≤ 4294967296) }
+    {
+        1 << self.bits()
+    }
 
-// The bytes that hold a field of that width.
-fn bytes_of(w: Width) -> u64
-    ensures { result ≡ bytes_of w }
-{
-    bits_of(w).div_ceil(8)
+    // The bytes that hold a field of that width.
+    fn bytes(self) -> u64
+        ensures { result ≡ bytes_of self }
+    {
+        self.bits().div_ceil(8)
+    }
 }
 
 // The sizes that the writers give each kind.
+#[tactic(auto, unfolding(crate::specs::Kinds::size_ok))]
 fn size_ok(k: Kind, n: u64) -> bool
     ensures { result ≡ size_ok k n }
 {
     match k {
-        Kind::Data => n == 4,
-        Kind::Address => numbers::is_word(n),
-        Kind::SumPlus => numbers::is_word(n),
-        Kind::SumMinus => numbers::is_word(n),
-        Kind::Image => n == 4,
-        Kind::Set(w) => n == bytes_of(w),
-        Kind::Sub(w) => n == bytes_of(w),
+        Kind::Data | Kind::Image => n == 4,
+        Kind::Address | Kind::SumPlus | Kind::SumMinus => numbers::is_word(n),
+        Kind::Set(w) | Kind::Sub(w) => n == w.bytes(),
         Kind::Unknown => false,
     }
 }
 
-// The largest number of a word.
-fn most(n: u64) -> u64
-    requires { T (is_word_size n) }
-    ensures { result ≡ 2 ^ (8 * n) - 1 }
-{
-    if n == 2 {
-        return 65535;
-    }
-    if n == 4 {
-        return 4294967295;
-    }
-    18446744073709551615
-}
-
 // ---- relocations in a list
 
+// How many there are.
+fn count(relocs: &[u64]) -> usize
+    ensures { result ≡ count relocation_stride relocs.now }
+{
+    relocs.len() / relocs::RELOCATION_STRIDE
+}
+
+#[tactic(auto, unfolding(format::specs::Lists::relocation_at))]
 fn reloc_at(relocs: &[u64], i: usize) -> Reloc
-    requires { i < length relocs.now / 5 }
+    requires { i < count relocation_stride relocs.now }
     ensures { meant result ≡ relocation_at relocs.now i }
 {
+    let at = relocs::RELOCATION_STRIDE * i;
     Reloc {
-        place: relocs[relocs::RELOCATION_STRIDE * i],
-        symbol: relocs[relocs::RELOCATION_STRIDE * i + relocs::RELOCATION_SYMBOL],
-        kind: relocs[relocs::RELOCATION_STRIDE * i + relocs::RELOCATION_KIND],
-        bytes: relocs[relocs::RELOCATION_STRIDE * i + relocs::RELOCATION_BYTES],
-        addend: relocs[relocs::RELOCATION_STRIDE * i + relocs::RELOCATION_ADDEND],
+        place: relocs[at],
+        symbol: relocs[at + relocs::RELOCATION_SYMBOL],
+        kind: relocs[at + relocs::RELOCATION_KIND],
+        bytes: relocs[at + relocs::RELOCATION_BYTES],
+        addend: relocs[at + relocs::RELOCATION_ADDEND],
     }
 }
 
-fn before_at(relocs: &[u64], i: usize) -> Option<Reloc>
-    requires { i < length relocs.now / 5 }
-    ensures { beside result ≡ before_at relocs.now i }
-{
-    if i == 0 {
-        return None;
-    }
-    Some(reloc_at(relocs, i - 1))
-}
-
-fn behind_at(relocs: &[u64], i: usize) -> Option<Reloc>
-    requires { i < length relocs.now / 5 }
-    ensures { beside result ≡ behind_at relocs.now i }
-{
-    if i + 1 < relocs.len() / relocs::RELOCATION_STRIDE {
-        return Some(reloc_at(relocs, i + 1));
-    }
-    None
-}
-
-// A relocation of a list, and the one behind it.
+// A relocation in its list: its kind, and those right before and right behind it.
 #[derive(Clone, Copy)]
-pub struct WithNext {
+pub struct InList {
+    pub before: Option<Reloc>,
     pub reloc: Reloc,
+    pub kind: Kind,
     pub behind: Option<Reloc>,
+    pub ghost named: { kind ≡ kind_of reloc.kind },
 }
 
-fn with_next(relocs: &[u64], i: usize) -> WithNext
-    requires { i < length relocs.now / 5 }
-    ensures { (meant result.reloc ≡ relocation_at relocs.now i) × (beside result.behind ≡ behind_at relocs.now i) }
+#[tactic(auto, unfolding(crate::specs::Standing::beside, crate::specs::Standing::before_at, crate::specs::Standing::behind_at, format::specs::Prelude::pick))]
+fn in_list(relocs: &[u64], i: usize) -> InList
+    requires { i < count relocation_stride relocs.now }
+    ensures { (beside result.before ≡ before_at relocs.now i) × (meant result.reloc ≡ relocation_at relocs.now i) × (beside result.behind ≡ behind_at relocs.now i) }
 {
-    WithNext {
-        reloc: reloc_at(relocs, i),
-        behind: behind_at(relocs, i),
+    let reloc = reloc_at(relocs, i);
+    InList {
+        before: i.checked_sub(1).map(|j| reloc_at(relocs, j)),
+        reloc,
+        kind: Kind::from(reloc.kind),
+        behind: (i + 1 < count(relocs)).then(|| reloc_at(relocs, i + 1)),
     }
+}
+
+// A relocation whose field has a size that the writers give its kind.
+#[derive(Clone, Copy)]
+pub struct Field<'a> {
+    pub of: &'a InList,
+    pub ghost sized: { T (size_ok of.now.kind of.now.reloc.bytes) },
 }
 
 // Whether s is the second of a pair that r is the first of.
+#[tactic(auto, unfolding(crate::specs::Apply::partners))]
 fn partners(r: Reloc, s: Reloc) -> bool
     ensures { result ≡ partners (meant r) (meant s) }
 {
-    if s.kind == 0 {
-        return false;
-    }
-    if s.kind - 1 != r.kind {
-        return false;
-    }
-    if s.place != r.place {
-        return false;
-    }
-    s.bytes == r.bytes
+    s.kind.checked_sub(1) == Some(r.kind) && s.place == r.place && s.bytes == r.bytes
 }
 
-fn paired(k: Kind, before: Option<Reloc>, x: &WithNext) -> bool
-    ensures { result ≡ paired k (beside before) (meant x.now.reloc) (beside x.now.behind) }
+#[tactic(auto, unfolding(crate::specs::Apply::paired, crate::specs::Apply::leads, crate::specs::Apply::follows, crate::specs::Standing::beside))]
+fn paired(x: &InList) -> bool
+    ensures { result ≡ paired x.now.kind (beside x.now.before) (meant x.now.reloc) (beside x.now.behind) }
+{
+    match x.kind {
+        Kind::SumPlus | Kind::Set(_) => x.behind.is_some_and(|s| partners(x.reloc, s)),
+        Kind::SumMinus | Kind::Sub(_) => x.before.is_some_and(|s| partners(s, x.reloc)),
+        Kind::Data | Kind::Address | Kind::Image | Kind::Unknown => true,
+    }
+}
+
+// ---- values that have to fit
+
+// A value from 0 to `most`.
+#[tactic(auto, unfolding(crate::specs::Fields::up_to, format::specs::Prelude::pick))]
+fn up_to(most: u64, z: i128) -> Option<u64>
+    ensures { result ≡ option_of (up_to most z) }
+{
+    u64::try_from(z).ok().filter(|n| *n <= most)
+}
+
+// A value of 32 bits with a sign, in two's complement.
+#[tactic(auto, unfolding(crate::specs::Fields::signed32, format::specs::Prelude::pick))]
+fn signed32(z: i128) -> Option<u64>
+    ensures { result ≡ option_of (signed32 z) }
+{
+    let v = i32::try_from(z).ok()?;
+    Some(u64::from(v.cast_unsigned()))
+}
+
+// A value as it stands in a field of n bytes.
+#[tactic(auto, using(crate::proofs::Tests::sized), unfolding(crate::specs::Standing::fitted))]
+fn fitted(k: Kind, n: u64, z: i128) -> Option<u64>
+    requires { T (size_ok k n) }
+    ensures { result ≡ option_of (fitted k n z) }
 {
     match k {
-        Kind::Data => true,
-        Kind::Address => true,
-        Kind::SumPlus => x.behind.is_some_and(|s| partners(x.reloc, s)),
-        Kind::SumMinus => before.is_some_and(|s| partners(s, x.reloc)),
-        Kind::Image => true,
-        Kind::Set(_) => x.behind.is_some_and(|s| partners(x.reloc, s)),
-        Kind::Sub(_) => before.is_some_and(|s| partners(s, x.reloc)),
-        Kind::Unknown => true,
+        Kind::Data => signed32(z),
+        _ => up_to(numbers::largest(n), z),
     }
 }
 
@@ -225,248 +237,131 @@ pub struct Placement<'a> {
     pub image: u64,
 }
 
-// The address of a symbol: the first one listed.
-fn address_of(addresses: &[u64], symbol: u64) -> Option<u64>
-    ensures { result ≡ option_of (address_of (symbols_of addresses.now) symbol) }
-{
-    let n = addresses.len() / 2;
-    let i = (0..n).find(|i| addresses[2 * *i] == symbol)?;
-    Some(addresses[2 * i + 1])
-}
-
-// An addend plus 2^63, which is not negative.
-fn biased(addend: u64) -> u64
-    ensures { to_z w64 addend +ℤ pos (2 ^ 63) ≡ pos result }
-{
-    if addend < 9223372036854775808 {
-        return addend + 9223372036854775808;
-    }
-    addend - 9223372036854775808
-}
-
-// A sum of a few numbers: high times 2^64, and low.
-#[derive(Clone, Copy)]
-pub struct Sum {
-    pub high: u64,
-    pub low: u64,
-}
-
-fn plus(s: Sum, x: u64) -> Sum
-    requires { s.high < 2 }
-    ensures { (total_of result ≡ total_of s + x) × (result.high ≤ s.high + 1) }
-{
-    if s.low <= 18446744073709551615 - x {
-        return Sum {
-            high: s.high,
-            low: s.low + x,
-        };
-    }
-    Sum {
-        high: s.high + 1,
-        low: s.low - (18446744073709551615 - x) - 1,
-    }
-}
-
-fn total(x: u64, y: u64, z: u64) -> Sum
-    ensures { total_of result ≡ x + y + z }
-{
-    plus(plus(Sum { high: 0, low: x }, y), z)
-}
-
-// A number, where it is at most `most`.
-fn up_to(d: u64, most: u64) -> Option<u64>
-    ensures { result ≡ option_of (up_to most (pos d)) }
-{
-    if d <= most {
-        return Some(d);
-    }
-    None
-}
-
-// One sum less another, where it is from 0 to `most`.
-fn less_by(p: Sum, n: Sum, most: u64) -> Option<u64>
-    ensures { result ≡ option_of (up_to most (pos (total_of p) -ℤ pos (total_of n))) }
-{
-    if p.high < n.high {
-        return None;
-    }
-    let carry = p.high - n.high;
-    if carry == 0 {
-        if p.low < n.low {
-            return None;
-        }
-        return up_to(p.low - n.low, most);
-    }
-    if carry == 1 {
-        if p.low < n.low {
-            return up_to(18446744073709551615 - n.low + p.low + 1, most);
-        }
-        return None;
-    }
-    None
-}
-
-// Symbol plus addend less a base, where it is from 0 to `most`.
-fn less_base(addresses: &[u64], r: Reloc, base: u64, most: u64) -> Option<u64>
-    ensures { result ≡ option_of (after (sum_of (symbols_of addresses.now) (meant r)) λ z. up_to most (z -ℤ pos base)) }
-{
-    let s = address_of(addresses, r.symbol)?;
-    less_by(
-        total(s, biased(r.addend), 0),
-        total(base, 9223372036854775808, 0),
-        most,
-    )
-}
-
-// Symbol plus addend less the field's address, in signed 32 bits: 2^31 more is from 0 to 2^32 - 1.
-fn data_value(addresses: &[u64], r: Reloc, section: u64) -> Option<u64>
-    ensures { result ≡ option_of (after (sum_of (symbols_of addresses.now) (meant r)) λ z. signed32 (z -ℤ pos (section + r.place))) }
-{
-    let s = address_of(addresses, r.symbol)?;
-    let d = less_by(
-        total(s, biased(r.addend), 2147483648),
-        total(section, r.place, 9223372036854775808),
-        4294967295,
-    )?;
-    Some((d + 2147483648) % 4294967296)
-}
-
-// Symbol plus addend less that of the relocation behind, where it is from 0 to `most`.
-fn apart(addresses: &[u64], x: &WithNext, most: u64) -> Option<u64>
-    ensures { result ≡ option_of (after (apart (symbols_of addresses.now) (meant x.now.reloc) (beside x.now.behind)) λ z. up_to most z) }
-{
-    let s = address_of(addresses, x.reloc.symbol)?;
-    let b = x.behind?;
-    let t = address_of(addresses, b.symbol)?;
-    less_by(
-        total(s, biased(x.reloc.addend), 0),
-        total(t, biased(b.addend), 0),
-        most,
-    )
-}
+// The numbers of a symbol with its address.
+const ADDRESS_STRIDE: usize = 2;
 
 impl Placement<'_> {
+    // The address of a symbol: the first one listed.
+    fn address_of(&self, symbol: u64) -> Option<u64>
+        ensures { result ≡ option_of (address_of (symbols_of self.now.addresses.now) symbol) }
+    {
+        let n = self.addresses.len() / ADDRESS_STRIDE;
+        let i = (0..n).find(|i| self.addresses[ADDRESS_STRIDE * *i] == symbol)?;
+        Some(self.addresses[ADDRESS_STRIDE * i + 1])
+    }
+
+    // Symbol plus addend.
+    #[tactic(auto, unfolding(crate::specs::Values::sum_of, format::specs::Prelude::after))]
+    fn sum(&self, r: Reloc) -> Option<i128>
+        ensures { (result ≡ option_of (sum_of (symbols_of self.now.addresses.now) (meant r))) × IfSome result SumRange }
+    {
+        let s = self.address_of(r.symbol)?;
+        Some(i128::from(s) + i128::from(r.addend.cast_signed()))
+    }
+
+    // The address of a relocation's field.
+    fn field(&self, r: Reloc) -> i128
+        ensures { (result ≡ pos (self.now.section + r.place)) × (result <ℤ pos (2 ^ 65)) }
+    {
+        i128::from(self.section) + i128::from(r.place)
+    }
+
+    // Symbol plus addend less a base.
+    #[tactic(auto, unfolding(format::specs::Prelude::after))]
+    fn less(&self, r: Reloc, base: i128) -> Option<i128>
+        requires { (pos 0 ≤ℤ base) × (base <ℤ pos (2 ^ 65)) }
+        ensures { result ≡ option_of (after (sum_of (symbols_of self.now.addresses.now) (meant r)) λ z. some (z -ℤ base)) }
+    {
+        Some(self.sum(r)? - base)
+    }
+
+    // Symbol plus addend less that of the relocation behind.
+    #[tactic(auto, unfolding(crate::specs::Values::apart, crate::specs::Standing::beside, format::specs::Prelude::after))]
+    fn apart(&self, x: &InList) -> Option<i128>
+        ensures { result ≡ option_of (apart (symbols_of self.now.addresses.now) (meant x.now.reloc) (beside x.now.behind)) }
+    {
+        let s = self.sum(x.reloc)?;
+        Some(s - self.sum(x.behind?)?)
+    }
+
+    // The value of a relocation.
+    #[tactic(auto, unfolding(crate::specs::Standing::true_value))]
+    fn true_value(&self, x: &InList) -> Option<i128>
+        ensures { result ≡ option_of (true_value x.now.kind (placed self.now) (meant x.now.reloc) (beside x.now.behind)) }
+    {
+        match x.kind {
+            Kind::Data => self.less(x.reloc, self.field(x.reloc)),
+            Kind::Address => self.sum(x.reloc),
+            Kind::SumPlus => self.apart(x),
+            Kind::Image => self.less(x.reloc, i128::from(self.image)),
+            Kind::SumMinus | Kind::Set(_) | Kind::Sub(_) | Kind::Unknown => None,
+        }
+    }
+
     // The value as it stands in its field, where it fits.
-    fn value(&self, k: Kind, x: &WithNext) -> Option<u64>
-        requires { T (size_ok k x.now.reloc.bytes) }
-        ensures { result ≡ option_of (value_as k (placed self.now) (meant x.now.reloc) (beside x.now.behind)) }
+    #[tactic(auto, using(crate::proofs::Tests::no_value))]
+    fn value(&self, f: &Field) -> Option<u64>
+        ensures { result ≡ option_of (value_as f.now.of.now.kind (placed self.now) (meant f.now.of.now.reloc) (beside f.now.of.now.behind)) }
     {
-        match k {
-            Kind::Data => data_value(self.addresses, x.reloc, self.section),
-            Kind::Address => less_base(self.addresses, x.reloc, 0, most(x.reloc.bytes)),
-            Kind::SumPlus => apart(self.addresses, x, most(x.reloc.bytes)),
-            Kind::SumMinus => None,
-            Kind::Image => less_base(self.addresses, x.reloc, self.image, 4294967295),
-            Kind::Set(_) => None,
-            Kind::Sub(_) => None,
-            Kind::Unknown => None,
-        }
+        let x = f.of;
+        fitted(x.kind, x.reloc.bytes, self.true_value(x)?)
     }
-}
 
-// ---- questions 79 and 80
-
-// Whether a kind has a value that has to fit.
-fn measured(k: Kind) -> bool
-    ensures { result ≡ measured k }
-{
-    match k {
-        Kind::Data => true,
-        Kind::Address => true,
-        Kind::SumPlus => true,
-        Kind::SumMinus => false,
-        Kind::Image => true,
-        Kind::Set(_) => false,
-        Kind::Sub(_) => false,
-        Kind::Unknown => false,
-    }
-}
-
-fn known(addresses: &[u64], symbol: u64) -> bool
-    ensures { result ≡ is_some (address_of (symbols_of addresses.now) symbol) }
-{
-    address_of(addresses, symbol).is_some()
-}
-
-// The field lies inside a section of `size` bytes.
-fn inside(place: u64, bytes: u64, size: usize) -> bool
-    ensures { result ≡ nat_le (place + bytes) size }
-{
-    let n = size as u64;
-    if n < place {
-        return false;
-    }
-    bytes <= n - place
-}
-
-impl Placement<'_> {
-    fn value_ok(&self, k: Kind, x: &WithNext) -> bool
-        requires { T (size_ok k x.now.reloc.bytes) }
-        ensures { result ≡ value_ok k (placed self.now) (meant x.now.reloc) (beside x.now.behind) }
+    // The true distance of a Set and Sub pair, where its field holds it.
+    #[tactic(auto, unfolding(crate::specs::Values::distance_of, format::specs::Prelude::after))]
+    fn distance(&self, w: Width, x: &InList) -> Option<u64>
+        ensures { result ≡ option_of (distance_of w (symbols_of self.now.addresses.now) (meant x.now.reloc) (beside x.now.behind)) }
     {
-        if !measured(k) {
-            return true;
+        up_to(w.modulus() - 1, self.apart(x)?)
+    }
+
+    // ---- questions 79 and 80
+
+    // The value fits, where there is one that has to.
+    #[tactic(auto, using(format::proofs::Asked::some_is), unfolding(crate::specs::Apply::value_ok, crate::specs::Apply::measured))]
+    fn value_ok(&self, f: &Field) -> bool
+        ensures { result ≡ value_ok f.now.of.now.kind (placed self.now) (meant f.now.of.now.reloc) (beside f.now.of.now.behind) }
+    {
+        match f.of.kind {
+            Kind::Data | Kind::Address | Kind::SumPlus | Kind::Image => self.value(f).is_some(),
+            Kind::SumMinus | Kind::Set(_) | Kind::Sub(_) | Kind::Unknown => true,
         }
-        self.value(k, x).is_some()
     }
 
     // Question 79 of one relocation.
-    fn sound(&self, size: usize, before: Option<Reloc>, x: &WithNext) -> bool
-        ensures { result ≡ sound (placed self.now) size (beside before) (meant x.now.reloc) (beside x.now.behind) }
+    #[tactic(auto, using(format::proofs::Asked::some_is), unfolding(crate::specs::Apply::sound, format::specs::Lists::inside))]
+    fn sound(&self, size: usize, x: &InList) -> bool
+        ensures { result ≡ sound (placed self.now) size (beside x.now.before) (meant x.now.reloc) (beside x.now.behind) }
     {
-        let k = kind_of(x.reloc.kind);
-        if !size_ok(k, x.reloc.bytes) {
-            return false;
-        }
-        if !paired(k, before, x) {
-            return false;
-        }
-        if !known(self.addresses, x.reloc.symbol) {
-            return false;
-        }
-        if !inside(x.reloc.place, x.reloc.bytes, size) {
-            return false;
-        }
-        self.value_ok(k, x)
+        size_ok(x.kind, x.reloc.bytes)
+            && paired(x)
+            && self.address_of(x.reloc.symbol).is_some()
+            && numbers::inside(x.reloc.place, x.reloc.bytes, size as u64)
+            && self.value_ok(&Field { of: x })
     }
-}
 
-// Question 80 of one relocation.
-fn near(addresses: &[u64], x: &WithNext) -> bool
-    ensures { result ≡ near_as (kind_of x.now.reloc.kind) (symbols_of addresses.now) (meant x.now.reloc) (beside x.now.behind) }
-{
-    let k = kind_of(x.reloc.kind);
-    match k {
-        Kind::Data => true,
-        Kind::Address => true,
-        Kind::SumPlus => true,
-        Kind::SumMinus => true,
-        Kind::Image => true,
-        Kind::Set(w) => apart(addresses, x, modulus(w) - 1).is_some(),
-        Kind::Sub(_) => true,
-        Kind::Unknown => true,
+    // Question 80 of one relocation.
+    #[tactic(auto, using(format::proofs::Asked::some_is), unfolding(crate::specs::Apply::near_as))]
+    fn near(&self, x: &InList) -> bool
+        ensures { result ≡ near_as (kind_of x.now.reloc.kind) (symbols_of self.now.addresses.now) (meant x.now.reloc) (beside x.now.behind) }
+    {
+        match x.kind {
+            Kind::Set(w) => self.distance(w, x).is_some(),
+            _ => true,
+        }
     }
-}
 
-fn all_sound(relocs: &[u64], l: Placement, size: usize) -> bool
-    ensures { result ≡ everywhere (sound (placed l.entry) size) none (relocations_of relocs.now) }
-{
-    let n = relocs.len() / relocs::RELOCATION_STRIDE;
-    (0..n).all(|i| {
-        let before = before_at(relocs, i);
-        let x = with_next(relocs, i);
-        l.sound(size, before, &x)
-    })
-}
+    fn all_sound(&self, relocs: &[u64], size: usize) -> bool
+        ensures { result ≡ everywhere (sound (placed self.now) size) none (relocations_of relocs.now) }
+    {
+        (0..count(relocs)).all(|i| self.sound(size, &in_list(relocs, i)))
+    }
 
-fn all_near(relocs: &[u64], addresses: &[u64]) -> bool
-    ensures { result ≡ everywhere (near (symbols_of addresses.now)) none (relocations_of relocs.now) }
-{
-    let n = relocs.len() / relocs::RELOCATION_STRIDE;
-    (0..n).all(|i| {
-        let x = with_next(relocs, i);
-        near(addresses, &x)
-    })
+    fn all_near(&self, relocs: &[u64]) -> bool
+        ensures { result ≡ everywhere (near (symbols_of self.now.addresses.now)) none (relocations_of relocs.now) }
+    {
+        (0..count(relocs)).all(|i| self.near(&in_list(relocs, i)))
+    }
 }
 
 // ---- stores
@@ -476,114 +371,84 @@ fn number_at(copy: &[u8], p: usize, n: u64) -> u64
     requires { (p + n ≤ length copy.now) × FieldSize n }
     ensures { (result ≡ number_at copy.now p n) × (result < 4294967296) }
 {
-    if n == 1 {
-        return leb::wide(copy[p]);
+    match n {
+        1 => u64::from(copy[p]),
+        2 => u64::from(u16::from_le_bytes([copy[p], copy[p + 1]])),
+        _ => u64::from(u32::from_le_bytes([copy[p], copy[p + 1], copy[p + 2], copy[p + 3]])),
     }
-    let x = leb::wide(copy[p]);
-    let y = leb::wide(copy[p + 1]);
-    if n == 2 {
-        return x + 256 * y;
-    }
-    let z = leb::wide(copy[p + 2]);
-    let t = leb::wide(copy[p + 3]);
-    x + 256 * (y + 256 * (z + 256 * t))
 }
 
-// A field that Set and Sub patch.
-#[derive(Clone, Copy)]
-pub struct Field {
-    pub place: usize,
-    pub width: Width,
-}
-
-impl Field {
-    // A number in its low bits, and the bits above it as they were.
-    fn put_low(&self, copy: &mut [u8], v: u64)
-        requires { LiesIn self.now copy.old × (v < 2 ^ bits_of self.now.width) }
-        ensures { copy.new ≡ in_field self.now.width copy.old self.now.place v }
-    {
-        let m = modulus(self.width);
-        let n = bytes_of(self.width);
-        let old = number_at(copy, self.place, n);
-        leb::le(copy, self.place, n as usize, old / m * m + v);
-    }
-
-    // Set: the low bits of a symbol's address plus an addend.
-    fn set(&self, copy: &mut [u8], s: u64, a: u64)
-        requires { LiesIn self.now copy.old }
-        ensures { copy.new ≡ set_in self.now.width copy.old self.now.place (some (pos s +ℤ to_z w64 a)) }
-    {
-        let v = std::num::wrapping_add_u64(s, a) % modulus(self.width);
-        self.put_low(copy, v);
-    }
-
-    // Sub: what stands there less a symbol's address plus an addend, wrapping at the field's width.
-    fn sub(&self, copy: &mut [u8], s: u64, a: u64)
-        requires { LiesIn self.now copy.old }
-        ensures { copy.new ≡ sub_in self.now.width copy.old self.now.place (some (pos s +ℤ to_z w64 a)) }
-    {
-        let m = modulus(self.width);
-        let old = number_at(copy, self.place, bytes_of(self.width));
-        let v = std::num::wrapping_sub_u64(old % m, std::num::wrapping_add_u64(s, a)) % m;
-        self.put_low(copy, v);
-    }
+// The low 64 bits of an address plus an addend.
+fn low_sum(address: u64, addend: u64) -> u64
+    ensures { result ≡ low_of 64 (pos address +ℤ to_z w64 addend) }
+{
+    std::num::wrapping_add_u64(address, addend)
 }
 
 impl Placement<'_> {
-    // The value of a relocation that a field holds whole.
-    fn store_value(&self, copy: &mut [u8], k: Kind, x: &WithNext)
-        requires { (x.now.reloc.place + x.now.reloc.bytes ≤ length copy.old) × T (size_ok k x.now.reloc.bytes) }
-        ensures { copy.new ≡ whole_in x.now.reloc.bytes copy.old x.now.reloc.place (value_as k (placed self.now) (meant x.now.reloc) (beside x.now.behind)) }
+    // What `made` makes of what a field of Set and Sub holds and of symbol plus addend, both as 64 bits: its low bits are stored, and the
+    // bits above the field stay.
+    fn patch<F: Fn(u64, u64) -> u64>(&self, copy: &mut [u8], r: Reloc, w: Width, made: F)
+        requires { (r.place + bytes_of w ≤ length copy.old) × ((x y : ℕ) → F.pre made x y) }
+        ensures { (of : ℕ → ℕ → ℕ) → ((x y v : ℕ) → F.post made x y v → v ≡ of x y) → copy.new ≡ patched w of copy.old r.place (sum_of (symbols_of self.now.addresses.now) (meant r)) }
     {
-        if let Some(v) = self.value(k, x) {
-            leb::le(copy, x.reloc.place as usize, x.reloc.bytes as usize, v);
-        }
+        let Some(s) = self.address_of(r.symbol) else {
+            return;
+        };
+        let m = w.modulus();
+        let place = r.place as usize;
+        let old = number_at(copy, place, w.bytes());
+        let v = made(old % m, low_sum(s, r.addend)) % m;
+        leb::le(copy, place, w.bytes() as usize, old / m * m + v);
     }
 
     // The store of one relocation.
-    fn store(&self, copy: &mut [u8], x: &WithNext)
-        requires { (x.now.reloc.place + x.now.reloc.bytes ≤ length copy.old) × T (size_ok (kind_of x.now.reloc.kind) x.now.reloc.bytes) }
-        ensures { copy.new ≡ store_of (placed self.now) copy.old (meant x.now.reloc) (beside x.now.behind) }
+    fn store(&self, copy: &mut [u8], f: &Field)
+        requires { f.now.of.now.reloc.place + f.now.of.now.reloc.bytes ≤ length copy.old }
+        ensures { copy.new ≡ store_of (placed self.now) copy.old (meant f.now.of.now.reloc) (beside f.now.of.now.behind) }
     {
-        let k = kind_of(x.reloc.kind);
-        match k {
-            Kind::Data => self.store_value(copy, k, x),
-            Kind::Address => self.store_value(copy, k, x),
-            Kind::SumPlus => self.store_value(copy, k, x),
-            Kind::SumMinus => {}
-            Kind::Image => self.store_value(copy, k, x),
-            Kind::Set(width) => {
-                if let Some(s) = address_of(self.addresses, x.reloc.symbol) {
-                    let field = Field {
-                        place: x.reloc.place as usize,
-                        width,
-                    };
-                    field.set(copy, s, x.reloc.addend);
+        let r = f.of.reloc;
+        match f.of.kind {
+            Kind::Set(w) => self.patch(copy, r, w, |_, sum| sum),
+            Kind::Sub(w) => self.patch(copy, r, w, |held, sum| held.wrapping_sub(sum)),
+            _ => {
+                if let Some(v) = self.value(f) {
+                    leb::le(copy, r.place as usize, r.bytes as usize, v);
                 }
             }
-            Kind::Sub(width) => {
-                if let Some(s) = address_of(self.addresses, x.reloc.symbol) {
-                    let field = Field {
-                        place: x.reloc.place as usize,
-                        width,
-                    };
-                    field.sub(copy, s, x.reloc.addend);
-                }
-            }
-            Kind::Unknown => {}
         }
     }
-}
 
-// The stores of all relocations, in list order.
-fn store_all(copy: &mut [u8], relocs: &[u64], l: Placement)
-    requires { T (everywhere (sound (placed l) (length copy.old)) none (relocations_of relocs.now)) }
-    ensures { copy.new ≡ stores (placed l.entry) copy.old (relocations_of relocs.now) }
-{
-    let n = relocs.len() / relocs::RELOCATION_STRIDE;
-    for i in 0..n {
-        let x = with_next(relocs, i);
-        l.store(copy, &x);
+    // The stores of all relocations, in list order.
+    fn store_all(&self, copy: &mut [u8], relocs: &[u64])
+        requires { T (everywhere (sound (placed self.now) (length copy.old)) none (relocations_of relocs.now)) }
+        ensures { copy.new ≡ stores (placed self.now) copy.old (relocations_of relocs.now) }
+    {
+        for i in 0..count(relocs) {
+            let x = in_list(relocs, i);
+            self.store(copy, &Field { of: &x });
+        }
+    }
+
+    // ---- the whole
+
+    // A section's bytes with its relocations applied, at the front of `out`. Where a question is answered by no, `out` is as it was.
+    fn apply(&self, bytes: &[u8], relocs: &[u64], out: &mut [u8]) -> Result<(), Question>
+        ensures { Applies (apply bytes.now relocs.now self.now.addresses.now self.now.section self.now.image (length out.old)) (answer_of (numbered result)) out.old out.new }
+    {
+        let n = bytes.len();
+        if out.len() < n {
+            return Err(Question::BytesRoom);
+        }
+        if !self.all_sound(relocs, n) {
+            return Err(Question::Relocations);
+        }
+        if !self.all_near(relocs) {
+            return Err(Question::Distance);
+        }
+        out[..n].copy_from_slice(bytes);
+        self.store_all(&mut out[..n], relocs);
+        Ok(())
     }
 }
 
@@ -602,22 +467,13 @@ pub extern "C" fn unwind_apply(
 ) -> u64
     ensures { Applies (apply bytes.now relocations.now addresses.now section image (length out.old)) result out.old out.new }
 {
-    let n = bytes.len();
-    if out.len() < n {
-        return 52;
-    }
-    let l = Placement {
+    let placement = Placement {
         addresses,
         section,
         image,
     };
-    if !all_sound(relocations, l, n) {
-        return 79;
+    match placement.apply(bytes, relocations, out) {
+        Ok(()) => 0,
+        Err(question) => question.number(),
     }
-    if !all_near(relocations, addresses) {
-        return 80;
-    }
-    out[..n].copy_from_slice(bytes);
-    store_all(&mut out[..n], relocations, l);
-    0
 }

@@ -1,5 +1,6 @@
 -- Worked examples of the definitions.
 pub mod Coded
+pub mod CodeBytes
 pub mod Examples
 pub mod WriterExamples
 pub mod MeaningLaws

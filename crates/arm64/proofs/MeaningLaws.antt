@@ -20,6 +20,10 @@ pub both_true : (a b : Bool) → a && b ≡ true → (a ≡ true) × (b ≡ true
 both_true true b e = (refl, e)
 both_true false b e = absurd (no_yes e)
 
+pub or-false : (a b : Bool) → a ≡ false → a || b ≡ true → b ≡ true
+or-false true b n e = absurd (no_yes (sym n))
+or-false false b n e = e
+
 pub equal : (a b : Code) → same_code a b ≡ true → a ≡ b
 unfolding same_code
 equal a b e =

@@ -11,6 +11,8 @@ use borrow.Author.Tests.{eq-eqb, eqb-true, ne_eqb}
 use Rattle.format.specs.Prelude.{pick}
 use Rattle.arm64.specs.declared.Code.{Code}
 use Rattle.arm64.specs.declared.Packed.{Packed}
+use Rattle.arm64.specs.declared.Part.{Part}
+use Rattle.arm64.specs.declared.Part.TheVariants.{Prologue, Epilogue}
 use Rattle.arm64.specs.Codes.{code, k_regp, k_fregp, k_save_next, fp, lr}
 use Rattle.arm64.specs.Packed.{packed_ok, sign_slot, lone, integer_pair, integer_odd, integer_slot, vector_pair, vector_slot, home_slot, alloc_slot, rest_slot, chain_slot, frame_slot, local_slot, slot, with_slot, slots_from, undone, slot_at, packed_prologue, packed_epilogue, local_size, integer_size, vector_count}
 use Rattle.arm64.specs.Meaning.{Pair, only, save_two, save_pair, pair_step, integer_step, vector_step, frame_step, or_step, step_of, pair_of, effect_of, effects, reverse, prologue_means, epilogue_means}
@@ -187,10 +189,10 @@ module _ (p : Packed) where
   undone_plain (some c) h =
       by_pick SlotPlain (eqb c.kind 15) none _ (λ t. tt) λ t. by_pick SlotPlain (eqb c.kind 13) none (some c) (λ u. tt) λ u. h
 
-  at_plain : (back : Bool) (i : ℕ) → SlotPlain (slot_at back p i)
+  at_plain : (part : Part) (i : ℕ) → SlotPlain (slot_at part p i)
   unfolding slot_at
-  at_plain false i = slot_plain i
-  at_plain true i = undone_plain (slot p (18 - i)) (slot_plain (18 - i))
+  at_plain Prologue i = slot_plain i
+  at_plain Epilogue i = undone_plain (slot p (18 - i)) (slot_plain (18 - i))
 
 with_plain : (s : Option Code) (cs : List Code) → SlotPlain s → NoNext cs → NoNext (with_slot s cs)
 unfolding with_slot
@@ -204,11 +206,11 @@ slots_plain f h k (suc n) = with_plain (f k) (slots_from f (suc k) n) (h k) (slo
 
 prologue_plain : (p : Packed) → NoNext (packed_prologue p)
 unfolding packed_prologue
-prologue_plain p = slots_plain (slot_at false p) (at_plain p false) 0 19
+prologue_plain p = slots_plain (slot_at Prologue p) (at_plain p Prologue) 0 19
 
 epilogue_plain : (p : Packed) → NoNext (packed_epilogue p)
 unfolding packed_epilogue
-epilogue_plain p = slots_plain (slot_at true p) (at_plain p true) 0 19
+epilogue_plain p = slots_plain (slot_at Epilogue p) (at_plain p Epilogue) 0 19
 
 -- ---- backwards
 

@@ -4,6 +4,8 @@ use Rattle.std.proofs.Math.Option.{Option, none, some}
 use Rattle.format.specs.Prelude.{pick}
 use Rattle.arm64.specs.declared.Code.{Code}
 use Rattle.arm64.specs.declared.Packed.{Packed}
+use Rattle.arm64.specs.declared.Part.{Part}
+use Rattle.arm64.specs.declared.Part.TheVariants.{Prologue, Epilogue}
 use Rattle.arm64.specs.Codes.{code, lr, k_alloc, k_r19_r20_x, k_fplr, k_fplr_x, k_regp, k_reg, k_reg_x, k_lrpair, k_fregp, k_fregp_x, k_freg, k_set_fp, k_nop, k_pac_sign_lr}
 
 -- flag 2 bits, length 11, RegF 3, RegI 4, H 1, CR 2, FrameSize 9
@@ -129,12 +131,12 @@ unfoldable pub undone : Option Code → Option Code
 undone none = none
 undone (some c) = pick (eqb c.kind k_nop) none (pick (eqb c.kind k_set_fp) none (some c))
 
-unfoldable pub slot_at : (back : Bool) → Packed → (i : ℕ) → Option Code
-slot_at false p i = slot p i
-slot_at true p i = undone (slot p (18 - i))
+unfoldable pub slot_at : Part → Packed → (i : ℕ) → Option Code
+slot_at Prologue p i = slot p i
+slot_at Epilogue p i = undone (slot p (18 - i))
 
 unfoldable pub packed_prologue : Packed → List Code
-packed_prologue p = slots_from (slot_at false p) 0 19
+packed_prologue p = slots_from (slot_at Prologue p) 0 19
 
 unfoldable pub packed_epilogue : Packed → List Code
-packed_epilogue p = slots_from (slot_at true p) 0 19
+packed_epilogue p = slots_from (slot_at Epilogue p) 0 19

@@ -7,6 +7,8 @@ use Rattle.format.specs.Prelude.{pick, after, Result, good, bad, onward, or_else
 use Rattle.format.specs.Lists.{count}
 use Rattle.format.specs.Put.{put}
 use Rattle.arm64.specs.declared.Code.{Code}
+use Rattle.arm64.specs.declared.Epilogues.{Epilogues}
+use Rattle.arm64.specs.declared.Epilogues.TheVariants.{Single, Scoped}
 use Rattle.arm64.specs.declared.Header.{Header}
 use Rattle.arm64.specs.declared.Packed.{Packed}
 use Rattle.arm64.specs.declared.Arm64Reading.{Arm64Reading}
@@ -51,9 +53,13 @@ scoped word codes k zero = some []
 scoped word codes k (suc n) =
     after (run_at codes (scope_index (word k))) λ cs. in_front (epilogue (4 * scope_start (word k)) cs) (scoped word codes (suc k) n)
 
+-- one at the end, where E is set, or as many as the count says
+abbrev pub epilogues_by : Epilogues → Header → List ℕ → Option (List Epilogue)
+epilogues_by (Single index) h s = after (run_at (codes_of h s) index) (at_end h.length)
+epilogues_by (Scoped count) h s = scoped (scope_at h s) (codes_of h s) 0 count
+
 unfoldable pub record_epilogues : Header → List ℕ → Option (List Epilogue)
-record_epilogues h s =
-    pick h.single (after (run_at (codes_of h s) h.count) (at_end h.length)) (scoped (scope_at h s) (codes_of h s) 0 h.count)
+record_epilogues h s = epilogues_by h.epilogues h s
 
 -- ---- the two forms
 

@@ -1,6 +1,8 @@
 -- The full record in .xdata (Microsoft, "ARM64 exception handling", ".xdata records"): its header in both forms, the epilogues' words, the codes.
-use Rattle.std.specs.Prelude.{ℕ, ◌+◌, ◌*◌, ◌/◌, ◌%◌, ◌^◌, Bool, ◌&&◌, List, length, get_or, take, drop, leb, eqb}
+use Rattle.std.specs.Prelude.{ℕ, ◌+◌, ◌*◌, ◌/◌, ◌%◌, ◌^◌, Bool, true, false, ◌&&◌, List, length, get_or, take, drop, leb, eqb}
 use Rattle.format.specs.Prelude.{pick}
+use Rattle.arm64.specs.declared.Epilogues.{Epilogues}
+use Rattle.arm64.specs.declared.Epilogues.TheVariants.{Single, Scoped}
 use Rattle.arm64.specs.declared.Header.{Header}
 
 -- the word at p, the lowest byte first
@@ -8,6 +10,15 @@ unfoldable pub word_at : List ℕ → ℕ → ℕ
 word_at s p = get_or s p 0 + 256 * get_or s (p + 1) 0 + 65536 * get_or s (p + 2) 0 + 16777216 * get_or s (p + 3) 0
 
 -- ---- the header
+
+-- E, and the count's field, which is with E the index of the only epilogue's codes
+abbrev pub only_in : Epilogues → Bool
+only_in (Single index) = true
+only_in (Scoped count) = false
+
+abbrev pub count_in : Epilogues → ℕ
+count_in (Single index) = index
+count_in (Scoped count) = count
 
 -- version, 2 bits behind the length's 18
 unfoldable pub version_of : ℕ → ℕ
@@ -17,14 +28,16 @@ version_of w = w / 2 ^ 18 % 4
 unfoldable pub is_long : ℕ → Bool
 is_long w = eqb (w / 2 ^ 22) 0
 
+abbrev pub epilogues_with : (w count : ℕ) → Epilogues
+epilogues_with w count = pick (eqb (w / 2 ^ 21 % 2) 1) (Single count) (Scoped count)
+
 -- the first word in both forms: length 18 bits, version 2, X 1, E 1
 unfoldable pub header_with : (w count words past : ℕ) → Header
 header_with w count words past =
     record {
       length = w % 2 ^ 18;
       handler = eqb (w / 2 ^ 20 % 2) 1;
-      single = eqb (w / 2 ^ 21 % 2) 1;
-      count = count;
+      epilogues = epilogues_with w count;
       words = words;
       past = past;
     }
@@ -43,8 +56,12 @@ header_at s p = pick (is_long (word_at s p)) (long_header (word_at s p) (word_at
 -- ---- behind the header
 
 -- the epilogues' words: none where E is set
+abbrev pub words_for : Epilogues → ℕ
+words_for (Single index) = 0
+words_for (Scoped count) = count
+
 unfoldable pub scopes_in : Header → ℕ
-scopes_in h = pick h.single 0 h.count
+scopes_in h = words_for h.epilogues
 
 -- where the codes start and end; behind them the handler's word, where X is set
 unfoldable pub codes_from : Header → ℕ

@@ -4,6 +4,7 @@
 
 ghost use Rattle.std.specs.Prelude.{◌≡◌};
 ghost use Rattle.arm64.specs.Codes.{code};
+ghost use Rattle.arm64.specs.Records.{count_in};
 
 pub mod fields;
 pub mod header_bits;
@@ -12,7 +13,8 @@ pub mod packed_bits;
 
 // A code: its kind, 0 to 17 in the source's order, its register by number (x19 is 19, d8 is 8) and its offset or size in bytes. An operand that the
 // kind does not have is 0.
-// Kept: the kinds are numbers, and no enum: C's lists hold them as such, and which kinds have operands is told by their order.
+// Kept: the kinds are numbers, and no enum: a code is read out of C's list anew wherever one is wanted, as there is no buffer to decode a list into, so
+// each reading would convert and could fail, and each store convert back. The definitions have these numbers and order forms and operands by them.
 #[derive(Clone, Copy, PartialEq, Eq)]
 pub struct Code {
     pub kind: u64,
@@ -70,7 +72,8 @@ pub const PAC_SIGN_LR: u64 = 17;
 // The code that ends a run of codes: a form has this kind, a list of codes never.
 pub const END: u64 = 18;
 // A first byte that `describe` never writes.
-// Kept: a form of this kind, and no None: the writer asks for the form of any code, also of one whose kind is no kind.
+// Kept: a form of this kind, and no None: `code_fits` and `code_size` of arm64_spelled answer by this form for a code whose kind is no kind, and would
+// each have a case of its own for None that says the same.
 pub const RESERVED: u64 = 19;
 
 // How a code is spelled: `size` bytes, of which the first is `op` where every field is 0. Behind op stands one number, first byte highest: the
@@ -87,15 +90,41 @@ pub struct Form {
     pub more: u64,
 }
 
-// A full record's header: the length in instructions, the handler's mark X, the mark E of one epilogue at the end, the count of epilogues (with E the
-// index of its codes), the words of codes, and the place past the header, where the epilogues' words start.
-// Kept: no invariant on the fields' widths, here and in Packed: the definitions make both of any numbers, so it would be no plainer.
+// Where a function's instructions are that a list of codes stands for.
+#[derive(Clone, Copy)]
+pub enum Part {
+    Prologue,
+    Epilogue,
+}
+
+// What a header says of the epilogues: one at the function's end (E is set), by the index of its codes, or how many have a word each.
+#[derive(Clone, Copy)]
+pub enum Epilogues {
+    Single(u64),
+    Scoped(u64),
+}
+
+impl Epilogues {
+    // The count's field.
+    pub fn count(self) -> u64
+        ensures { result ≡ count_in self }
+    {
+        match self {
+            Epilogues::Single(index) => index,
+            Epilogues::Scoped(count) => count,
+        }
+    }
+}
+
+// A full record's header: the length in instructions, the handler's mark X, the epilogues, the words of codes, and the place past the header, where
+// the epilogues' words start.
+// Kept: no invariant on the fields' widths, here and in Packed: the definitions make a Header of any numbers (`header_with`) and a Packed of any counts
+// (`tally`), so each would ask for widths that it does not need. A word whose fields are read or checked is arm64_packed's `Word`, which has them.
 #[derive(Clone, Copy)]
 pub struct Header {
     pub length: u64,
     pub handler: bool,
-    pub single: bool,
-    pub count: u64,
+    pub epilogues: Epilogues,
     pub words: u64,
     pub past: u64,
 }

@@ -21,7 +21,8 @@ use Rattle.arm64.specs.declared.Code.{Code}
 use Rattle.arm64.specs.declared.Form.{Form}
 use Rattle.arm64.specs.Codes.{code, form, form_of, short_form, integer_form, vector_form, other_form, field_at, code_in, code_as, code_at, big, register_field, offset_field, spelled, alloc_form, kind_forms, reserved, f_alloc_s, f_alloc_m, f_alloc_l, form_for, code_bytes, last_registers, register_fits, offset_fits, code_fits}
 use Rattle.arm64.specs.Writer.{has_register, has_offset, code_ok}
-use Rattle.arm64.proofs.MeaningLaws.{both_true, no_yes}
+use Rattle.arm64.proofs.CodeBytes.{big-length, code-length}
+use Rattle.arm64.proofs.MeaningLaws.{both_true, no_yes, or-false}
 use Rattle.arm64_back.specs.Back.{whole_code}
 
 -- ---- forms by a computed test
@@ -115,11 +116,6 @@ unfolding all_in all each form_of short_form integer_form vector_form other_form
 alloc_tests = (tt, tt, tt)
 
 -- ---- the bytes of a number behind an opcode
-
-big-length : (k n : ℕ) → length (big k n) ≡ k
-unfolding big
-big-length zero n = refl
-big-length (suc k) n = length-append (big k (n / 256)) (n % 256 ∷ []) ∙ (let e : length (big k (n / 256)) ≡ k = big-length k (n / 256) in omega (arith, e))
 
 -- what is read where a form's opcode, and the number v behind it, stand
 module _ (f : Form) (v : ℕ) (us vs : List ℕ) where
@@ -222,10 +218,6 @@ module _ (f : Form) (v : ℕ) (us vs : List ℕ) where
 pub either_way {ℓ} : {X : Type ℓ} (b : Bool) → (b ≡ true → X) → (b ≡ false → X) → X
 either_way true f g = f refl
 either_way false f g = g refl
-
-pub or-false : (a b : Bool) → a ≡ false → a || b ≡ true → b ≡ true
-or-false true b n e = absurd (no_yes (sym n))
-or-false false b n e = e
 
 -- a register of a kind that has one: in the form's range, in its steps
 record InRange (k : ℕ) (f : Form) (c : Code) : Type 0 where
@@ -376,12 +368,8 @@ module _ (c : Code) (ok : whole_code c ≡ true) where
       let n : c.kind ≢ 0 = eqb_no t in
       rw (if-ne c.kind 0 (alloc_form c.offset) (get_or kind_forms c.kind reserved) n) (other_reads c.kind known_kind n)
 
-  pub code-length : length (code_bytes c) ≡ (form_for c).size
-  unfolding code_bytes spelled
-  code-length = big-length (form_for c).size _
-
   pub code_some : 0 < length (code_bytes c)
-  code_some = omega (arith, code-length, form_reads.some_bytes)
+  code_some = omega (arith, code-length c, form_reads.some_bytes)
 
   -- A code whose fields hold its values, with anything in front and behind, is read as itself: the same kind, register and offset.
   pub code_back : code_fits c ≡ true → (us vs : List ℕ) → code_at (us ++ (code_bytes c ++ vs)) (length us) ≡ some (c, length us + length (code_bytes c))
@@ -389,4 +377,4 @@ module _ (c : Code) (ok : whole_code c ≡ true) where
   code_back fits us vs =
       let p = both_true (register_fits (form_for c) c) (offset_fits (form_for c) c) fits in
       form_back c.kind (form_for c) c form_reads refl ok p.0 p.1 us vs
-      ∙ ap (λ (n : ℕ). some (c, length us + n)) (sym code-length)
+      ∙ ap (λ (n : ℕ). some (c, length us + n)) (sym (code-length c))

@@ -11,6 +11,7 @@ use borrow.Author.Tests.{leb-false, ltb-false, eq-eqb, ne_eqb}
 use Rattle.format.specs.Prelude.{pick}
 use Rattle.format.specs.Leb.{little}
 use Rattle.format.proofs.LebBack.{little-length}
+use Rattle.arm64.specs.declared.Epilogues.TheVariants.{Single, Scoped}
 use Rattle.arm64.specs.declared.Header.{Header}
 use Rattle.arm64.specs.Lists.{Function}
 use Rattle.arm64.specs.Records.{word_at, version_of, is_long, header_with, short_header, long_header, header_at}
@@ -41,11 +42,12 @@ module _ (n : ℕ) {s : List ℕ} {p : ℕ} (t : BytesAt s p (little 4 n)) where
 
 -- a header by its fields
 abbrev pub header : (size : ℕ) → (single : Bool) → (count words past : ℕ) → Header
-header size single count words past = record { length = size; handler = false; single = single; count = count; words = words; past = past }
+header size single count words past =
+    record { length = size; handler = false; epilogues = pick single (Single count) (Scoped count); words = words; past = past }
 
 header_by : {l l' h e e' c c' w w' : ℕ} (past : ℕ) → l ≡ l' → h ≡ 0 → e ≡ e' → c ≡ c' → w ≡ w'
-    → (let x : Header = record { length = l; handler = eqb h 1; single = eqb e 1; count = c; words = w; past = past } in x) ≡ header l' (eqb e' 1) c' w' past
-header_by past a b c d e = λ i. record { length = a i; handler = eqb (b i) 1; single = eqb (c i) 1; count = d i; words = e i; past = past }
+    → (let x : Header = record { length = l; handler = eqb h 1; epilogues = pick (eqb e 1) (Single c) (Scoped c); words = w; past = past } in x) ≡ header l' (eqb e' 1) c' w' past
+header_by past a b c d e = λ i. record { length = a i; handler = eqb (b i) 1; epilogues = pick (eqb (c i) 1) (Single (d i)) (Scoped (d i)); words = e i; past = past }
 
 module _ (l e c w past : ℕ) (length-low : l < 2 ^ 18) (single-low : e ≤ 1) where
   module _ (count_low : c < 32) (words-low : w < 32) where

@@ -14,10 +14,10 @@ use Rattle.arm64.specs.Meaning.{reverse}
 use Rattle.arm64.specs.Runs.{same_code, same_codes, shorter, next_pair, next_or, simple, pair_behind, simplify, simple_fits, run_fits, run_bytes, run_size, leads, is_in, own_runs, runs_bytes, place_in, index_of}
 use Rattle.arm64.specs.Reader.{run_at}
 use Rattle.arm64.specs.Writer.{has_register, has_offset, code_ok, prologue_run, epilogue_run, epilogue_runs, own_of, codes_of, index_in}
-use Rattle.arm64.proofs.MeaningLaws.{both_true, no_yes, by_pick}
+use Rattle.arm64.proofs.MeaningLaws.{both_true, no_yes, or-false, by_pick}
 use Rattle.arm64.proofs.PackingLaws.{equal_all}
 use Rattle.arm64_back.specs.Back.{AllFine, whole_code, BytesAt}
-use Rattle.arm64_back.proofs.CodeBack.{either_way, or-false}
+use Rattle.arm64_back.proofs.CodeBack.{either_way}
 use Rattle.arm64_back.proofs.RunBack.{stands_behind, stands_before, stands_first, run_back, run_inside}
 
 -- ---- what is written of a code that was asked 13 is such a code too

@@ -15,13 +15,14 @@ use Rattle.format.specs.Questions.{ask, and_then}
 use Rattle.format.proofs.LebBack.{little-length}
 use Rattle.format.proofs.Accepted.{asked, both}
 use Rattle.format.proofs.Choice.{is_true}
+use Rattle.arm64.specs.declared.Epilogues.TheVariants.{Single, Scoped}
 use Rattle.arm64.specs.declared.Code.{Code}
 use Rattle.arm64.specs.Lists.{Epilogue, Function}
 use Rattle.arm64.specs.Meaning.{reverse}
 use Rattle.arm64.specs.Records.{word_at, version_of, header_at, scopes_in, codes_from, codes_to, header_fits, record_ok, scope_at}
 use Rattle.arm64.specs.Records as records
 use Rattle.arm64.specs.Runs.{no_pair, same_codes, run_fits, is_in}
-use Rattle.arm64.specs.Reader.{run_at, at_end, record_epilogues, unwound, record_unwound, full_record}
+use Rattle.arm64.specs.Reader.{run_at, at_end, epilogues_by, record_epilogues, unwound, record_unwound, full_record}
 use Rattle.arm64.specs.Writer.{instructions, prologue_run, epilogue_run, epilogue_runs, codes_of, index_in, ends_with, only_one, single, first_index, count_of, words_of, is_long_for, header_word, header_bytes, scope_bytes, scopes_of, nop_byte, record_bytes, longest, size_ok, start_ok, values_ok, function_asks}
 use Rattle.arm64.proofs.MeaningLaws.{both_true, no_yes}
 use Rattle.arm64.proofs.PackingLaws.{reverse_twice}
@@ -124,9 +125,10 @@ module _ (f : Function) where
       by_words t =
           let first : past + 4 * 0 ≡ past = omega arith in
           let u : BytesAt s past (scope_bytes f f.epilogues) = subst (λ (b : Bool). BytesAt s past (pick b [] (scope_bytes f f.epilogues))) t scopes in
-          rw c
-          (rw t
-          (scopes_back f a.held s past padding 0 f.epilogues a.epilogues (subst (λ (n : ℕ). BytesAt s n (scope_bytes f f.epilogues)) (sym first) u)))
+          let e : (header_for f past).epilogues ≡ Scoped (length f.epilogues) = rw t refl in
+          ap (λ x. epilogues_by x (header_for f past) s) e
+          ∙ rw c
+          (scopes_back f a.held s past padding 0 f.epilogues a.epilogues (subst (λ (n : ℕ). BytesAt s n (scope_bytes f f.epilogues)) (sym first) u))
 
       by_end : single f ≡ true → record_epilogues (header_for f past) s ≡ some (map written_epilogue f.epilogues)
       unfolding record_epilogues count_of single first_index after pick
@@ -136,7 +138,9 @@ module _ (f : Function) where
           let p : Placed f e = (subst (AllPlaced f) o.are a.epilogues).0 in
           let P : List Epilogue → Type 0 =
           λ es. after (run_at (codes_of f ++ padding) (first_index f es)) (at_end (instructions f.size)) ≡ some (map written_epilogue es) in
-          rw c (rw t (subst P (sym o.are) (rw (index_read f e p.known padding p.fine) (end_back f a.held e p o.passes))))
+          let d : (header_for f past).epilogues ≡ Single (first_index f f.epilogues) = rw t refl in
+          ap (λ x. epilogues_by x (header_for f past) s) d
+          ∙ rw c (subst P (sym o.are) (rw (index_read f e p.known padding p.fine) (end_back f a.held e p o.passes)))
 
       epilogues_back : record_epilogues (header_for f past) s ≡ some (map written_epilogue f.epilogues)
       epilogues_back = either_way (single f) by_end by_words

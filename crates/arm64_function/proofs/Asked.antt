@@ -12,7 +12,6 @@ use Rattle.format.specs.Prelude.{pick, all}
 use Rattle.format.specs.Lists.{all_in, field}
 use Rattle.std.specs.Prelude.{Option, Ok, Err}
 use Rattle.std.specs.Option.{is_some}
-use Rattle.format.specs.Coded.{refusal}
 use Rattle.format.proofs.Asked.{question_of}
 use Rattle.format.specs.Questions.{ask, and_then}
 use Rattle.format.proofs.Choice.{either}
@@ -28,17 +27,17 @@ use Rattle.arm64_function.proofs.Given.{prologue_saves, epilogues_same, codes_sa
 
 -- ---- the first no
 
-pub no_length : (k : ℕ) (f : Function) → size_ok f ≡ false → Err (refusal 81 0) ≡ question_of (function_asks k f)
+pub no_length : (k : ℕ) (f : Function) → size_ok f ≡ false → Err (81, 0) ≡ question_of (function_asks k f)
 unfolding function_asks ask and_then question_of pick
 no_length k f e = simp e
 
 module _ (k : ℕ) (f : Function) (e : size_ok f ≡ true) where
-  pub no_start : all (start_ok f) f.epilogues ≡ false → Err (refusal 82 0) ≡ question_of (function_asks k f)
+  pub no_start : all (start_ok f) f.epilogues ≡ false → Err (82, 0) ≡ question_of (function_asks k f)
   unfolding function_asks ask and_then question_of pick
   no_start g = simp (e, g)
 
   module _ (g : all (start_ok f) f.epilogues ≡ true) where
-    pub no_value : values_ok f ≡ false → Err (refusal 83 0) ≡ question_of (function_asks k f)
+    pub no_value : values_ok f ≡ false → Err (83, 0) ≡ question_of (function_asks k f)
     unfolding function_asks ask and_then question_of pick
     no_value h = simp (e, g, h)
 

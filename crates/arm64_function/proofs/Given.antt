@@ -1,6 +1,6 @@
 -- Function k of the lists as the definitions have it, and as the code goes over it.
 use mathlib.Core.Path.{◌≡◌, refl, subst, sym, ap, ◌∙◌}
-use mathlib.Core.Bool.{Bool, true, false, ◌&&◌}
+use mathlib.Core.Bool.{Bool, true, ◌&&◌}
 use mathlib.Core.List.{List, [], ◌∷◌, ◌++◌, map}
 use Prim.Native.Nat.{ℕ, zero, suc, ◌+◌, ◌-◌, ◌*◌, ◌/◌, ◌^◌, ◌≤◌, ◌<◌}
 use native.Mathlib.Omega.{arith}
@@ -18,6 +18,8 @@ use Rattle.arm64.specs.Writer.{codes_ok_in, code_ok_at, epilogue_ok_at, function
 use Rattle.arm64.proofs.MeaningLaws.{both_true}
 use Rattle.arm64_simple.specs.Saves.{place_of, saved_at, saves, Inside}
 use Rattle.arm64_function.specs.declared.Parts.{Parts}
+use Rattle.arm64.specs.declared.Part.{Part}
+use Rattle.arm64.specs.declared.Part.TheVariants as part
 use Rattle.arm64_function.specs.Listed.{Listed}
 use Rattle.arm64_function.specs.Own.{prologue_at, epilogue_at, parts_at, Ready, prologue_in, run_at, own_in, codes_in, index_at, start_ok_at, fits_at}
 
@@ -69,13 +71,13 @@ all_each test at_test f at (suc n) h =
 
 -- ---- runs
 
-pub saves_forward : (cs : List ℕ) (at count : ℕ) → saves cs (record { at = at; count = count; back = false }) ≡ each (numbered_code cs) at count
+pub saves_forward : (cs : List ℕ) (at count : ℕ) → saves cs (record { at = at; count = count; part = part.Prologue }) ≡ each (numbered_code cs) at count
 unfolding saves saved_at place_of pick
 saves_forward cs at count =
     let e : at + 0 ≡ at = omega arith in
     each_moved (λ j. numbered_code cs (at + j)) (numbered_code cs) at 0 count (λ j. refl) ∙ ap (λ (i : ℕ). each (numbered_code cs) i count) e
 
-pub saves_back : (cs : List ℕ) (at count : ℕ) → saves cs (record { at = at; count = count; back = true }) ≡ reverse (each (numbered_code cs) at count)
+pub saves_back : (cs : List ℕ) (at count : ℕ) → saves cs (record { at = at; count = count; part = part.Epilogue }) ≡ reverse (each (numbered_code cs) at count)
 unfolding saves saved_at place_of pick
 saves_back cs at count = each_back (numbered_code cs) at count
 
@@ -149,7 +151,7 @@ module _ {fs es cs : List ℕ} {k : ℕ} (l : Listed fs es cs k) (short : length
   unfolding codes_ok_in inside
   codes_inside at n e = leb-true (at + n) (length cs / 3) (both_true (leb (at + n) (length cs / 3)) (all_in (code_ok_at cs) at n) e).0
 
-  inside_of : (at n : ℕ) (b : Bool) → codes_ok_in cs at n ≡ true → Inside cs (record { at = at; count = n; back = b })
+  inside_of : (at n : ℕ) (b : Part) → codes_ok_in cs at n ≡ true → Inside cs (record { at = at; count = n; part = b })
   inside_of at n b e = let h = codes_inside at n e in record { room = omega (arith, h); low = omega (arith, h) }
 
   record Says : Type 0 where
@@ -175,13 +177,13 @@ module _ {fs es cs : List ℕ} {k : ℕ} (l : Listed fs es cs k) (short : length
       let at = field function_stride fs k 4 in
       let e : at + (i - at) ≡ i = omega (arith, a) in
       let t = in_range (epilogue_ok_at es cs) at (field function_stride fs k 5) (i - at) (subst T (sym says.epilogues) tt) (omega (arith, a, b)) in
-      inside_of (field epilogue_stride es i 1) (field epilogue_stride es i 2) true (is_true (epilogue_ok_at es cs i) (subst (λ (j : ℕ). T (epilogue_ok_at es cs j)) e t))
+      inside_of (field epilogue_stride es i 1) (field epilogue_stride es i 2) part.Epilogue (is_true (epilogue_ok_at es cs i) (subst (λ (j : ℕ). T (epilogue_ok_at es cs j)) e t))
 
   pub ready : Ready es cs (parts_at fs k)
   unfolding parts_at prologue_at
   ready =
       record {
-        prologue = inside_of (field function_stride fs k 2) (field function_stride fs k 3) false says.prologue;
+        prologue = inside_of (field function_stride fs k 2) (field function_stride fs k 3) part.Prologue says.prologue;
         order = omega arith;
         room = omega (arith, says.range);
         inside = epilogue_inside;

@@ -18,8 +18,10 @@ use Rattle.arm64.specs.Lists.{Function, function_stride, epilogue_stride, number
 use Rattle.arm64.specs.Runs.{no_pair, backwards, leads, run_fits}
 use Rattle.arm64.specs.Writer.{codes_of, instructions, ends_with, only_one, single, first_index, count_of, words_of, header_bytes, scope_bytes, scopes_of, record_bytes, info_of, is_packed, nop_byte}
 use Rattle.arm64_simple.specs.Saves.{saves}
-use Rattle.arm64_header.specs.Header.{only_in, count_in, header_of}
-use Rattle.arm64_header.specs.declared.Epilogues.TheVariants.{Only, Many}
+use Rattle.arm64.specs.Records.{only_in, count_in}
+use Rattle.arm64_header.specs.declared.Header.{Header}
+use Rattle.arm64_header.specs.Header.{header_of, header_by}
+use Rattle.arm64.specs.declared.Epilogues.TheVariants.{Single, Scoped}
 use Rattle.arm64_header.proofs.Forms.{header_is}
 use Rattle.arm64_function.specs.declared.Parts.{Parts}
 use Rattle.arm64_function.specs.declared.Shape.{Shape}
@@ -139,7 +141,7 @@ module _ {es cs : List ℕ} {p : Parts} {size : ℕ} (w : Whole es cs p size) {c
   shape_codes = (picked_some (leb (length (codes_in es cs p)) 1020) g).1
 
   module _ {r : Option ℕ} (e : r ≡ pick (single_at es cs p size) (Some (index_at es cs p p.first)) None) where
-    pub shape_only : {i : ℕ} → r ≡ Some i → Shaped es cs p size (record { epilogues = Only i; codes = codes })
+    pub shape_only : {i : ℕ} → r ≡ Some i → Shaped es cs p size (record { epilogues = Single i; codes = codes })
     unfolding count_at pick
     shape_only {i} y =
         let h = picked_some (single_at es cs p size) (sym e ∙ y) in
@@ -151,7 +153,7 @@ module _ {es cs : List ℕ} {p : Parts} {size : ℕ} (w : Whole es cs p size) {c
           small = omega (arith, shape_codes, w.small);
         }
 
-    pub shape_many : r ≡ None → Shaped es cs p size (record { epilogues = Many (p.end - p.first); codes = codes })
+    pub shape_many : r ≡ None → Shaped es cs p size (record { epilogues = Scoped (p.end - p.first); codes = codes })
     unfolding count_at pick
     shape_many y =
         let h = picked_none (single_at es cs p size) _ (sym e ∙ y) in
@@ -222,6 +224,9 @@ module _ {es cs : List ℕ} {p : Parts} {size : ℕ} {s : Shape} (h : Shaped es 
 
       pub pad_room : {vs : List ℕ} {c : ℕ} → Wrote zs vs b c (codes_in es cs p) → c + (4 * ((s.codes + 3) / 4) - s.codes) ≤ length vs
       pad_room w = omega (arith, room, record_length h, u.past, kept u, v.past, kept v, w.past, kept w)
+
+pub header_wrote : {h g : Header} {xs ys : List ℕ} {p q : ℕ} → h ≡ g → Wrote xs ys p q (header_by h) → Wrote xs ys p q (header_by g)
+header_wrote {xs = xs} {ys = ys} {p = p} {q = q} e w = subst (λ h. Wrote xs ys p q (header_by h)) e w
 
 pub short_is : {es cs : List ℕ} {p : Parts} {size : ℕ} → Whole es cs p size → size / 4 < 2 ^ 18
 unfolding instructions

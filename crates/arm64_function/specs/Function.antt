@@ -1,7 +1,8 @@
 -- A function that the code has taken out of the lists, and what the other definitions here say of it.
-use Rattle.std.specs.Prelude.{◌≡◌, Bool, List, ℕ, ◌-◌, ◌≤◌, ◌<◌, Option}
+use Rattle.std.specs.Prelude.{◌≡◌, Bool, List, ℕ, ◌+◌, ◌-◌, ◌/◌, ◌≤◌, ◌<◌, Option}
 use Rattle.format.specs.Lists.{field}
 use Rattle.arm64.specs.declared.Code.{Code}
+use Rattle.arm64_header.specs.declared.Header.{Header}
 use Rattle.arm64.specs.Lists.{function_stride}
 use Rattle.arm64_lists.specs.declared.Lists.{Lists}
 use Rattle.arm64_function.specs.declared.Function.{Function}
@@ -77,6 +78,10 @@ single_of f = single_at f.epilogues.now f.codes.now f.parts f.size
 
 abbrev pub ShapedOf : Function → Shape → Type 0
 ShapedOf f s = Shaped f.epilogues.now f.codes.now f.parts f.size s
+
+-- the header of a record of that shape
+abbrev pub header_of : Function → Shape → Header
+header_of f s = record { length = f.size / 4; epilogues = s.epilogues; words = (s.codes + 3) / 4 }
 
 abbrev pub scopes_of : Function → (single : Bool) → List ℕ
 scopes_of f single = scopes_at f.epilogues.now f.codes.now f.parts single

@@ -4,6 +4,7 @@ use Rattle.format.specs.Prelude.{pick, each}
 use Rattle.format.specs.Leb.{little}
 use Rattle.format.specs.Lists.{field, all_in}
 use Rattle.arm64.specs.declared.Code.{Code}
+use Rattle.arm64.specs.declared.Part.TheVariants.{Prologue, Epilogue}
 use Rattle.arm64.specs.Lists.{function_stride, epilogue_stride}
 use Rattle.arm64.specs.Runs.{no_pair, simplify, run_fits, leads, is_in, own_runs, run_bytes, run_size, runs_bytes, place_in, index_of}
 use Rattle.arm64.specs.Writer.{instructions, longest}
@@ -13,10 +14,10 @@ use Rattle.arm64_function.specs.declared.Parts.{Parts}
 
 -- the codes of function k's prologue, and of epilogue i
 unfoldable pub prologue_at : List ℕ → ℕ → Run
-prologue_at fs k = record { at = field function_stride fs k 2; count = field function_stride fs k 3; back = false }
+prologue_at fs k = record { at = field function_stride fs k 2; count = field function_stride fs k 3; part = Prologue }
 
 unfoldable pub epilogue_at : List ℕ → ℕ → Run
-epilogue_at es i = record { at = field epilogue_stride es i 1; count = field epilogue_stride es i 2; back = true }
+epilogue_at es i = record { at = field epilogue_stride es i 1; count = field epilogue_stride es i 2; part = Epilogue }
 
 unfoldable pub parts_at : List ℕ → ℕ → Parts
 parts_at fs k =

@@ -4,7 +4,8 @@ use Rattle.format.specs.Prelude.{pick}
 use Rattle.format.specs.Lists.{field}
 use Rattle.arm64.specs.Lists.{epilogue_stride}
 use Rattle.arm64.specs.Writer.{instructions, nop_byte}
-use Rattle.arm64_header.specs.Header.{only_in, count_in, header_of}
+use Rattle.arm64.specs.Records.{only_in, count_in}
+use Rattle.arm64_header.specs.Header.{header_of}
 use Rattle.arm64_function.specs.declared.Parts.{Parts}
 use Rattle.arm64_function.specs.declared.Shape.{Shape}
 use Rattle.arm64_function.specs.Own.{Ready, Fitted, Started, codes_in, index_at, words_from, most_codes}

@@ -6,23 +6,25 @@ ghost use Rattle.std.specs.Prelude.{◌≡◌, true, ◌&&◌, ◌||◌, ◌+◌
 ghost use Rattle.format.specs.Prelude.{pick};
 ghost use Rattle.format.specs.Lists.{field, all_in};
 ghost use Rattle.std.specs.Option.{unwrap_or};
+ghost use Rattle.format.specs.Coded.{numbered_at};
 ghost use Rattle.format.proofs.Asked.{question_of};
 ghost use Rattle.format.proofs.Wrote.{Wrote};
 ghost use Rattle.arm64.specs.Lists.{function_stride, epilogue_stride};
+ghost use Rattle.arm64.specs.Records.{only_in};
 ghost use Rattle.arm64.specs.Packing.{candidate, packed_word};
 ghost use Rattle.arm64.specs.Runs.{backwards, leads, runs_bytes};
 ghost use Rattle.arm64.specs.Writer.{prologue_run, instructions, is_packed, info_of, function_asks};
 ghost use Rattle.arm64_simple.specs.Saves.{saves};
 ghost use Rattle.arm64_simple.specs.Written.{saved_in};
-ghost use Rattle.arm64_header.specs.Header.{only_in};
 ghost use Rattle.arm64_function.specs.Listed.{function_in, ListedIn, FineIn};
+ghost use Rattle.arm64_function.specs.Record.{Whole};
 ghost use Rattle.arm64_function.specs.Own.{prologue_at, epilogue_at, parts_at, Ready, start_ok_at, fits_at, length_ok, held_to, index_in};
 
-use arm64::{fields, header_bits, limits};
-use arm64_header::{Epilogues, Header};
+use arm64::{Epilogues, Part, fields, header_bits, limits};
+use arm64_header::Header;
 use arm64_lists::Lists;
 use arm64_simple::{Codes, Run};
-use format::Refusal;
+use format::{Question, Refusal};
 
 // A function's codes: its prologue's, and its epilogues from `first` to `end`.
 #[derive(Clone, Copy)]
@@ -33,29 +35,29 @@ pub struct Parts {
 }
 
 fn prologue_at(fs: &[u64], k: usize) -> Run
-    requires { 6 * k + 6 ≤ length fs.now }
+    requires { function_stride * k + function_stride ≤ length fs.now }
     ensures { result ≡ prologue_at fs.now k }
 {
     Run {
         at: fs[fields::FUNCTION_STRIDE * k + fields::PROLOGUE_AT] as usize,
         count: fs[fields::FUNCTION_STRIDE * k + fields::PROLOGUE] as usize,
-        back: false,
+        part: Part::Prologue,
     }
 }
 
 fn epilogue_at(es: &[u64], i: usize) -> Run
-    requires { 3 * i + 3 ≤ length es.now }
+    requires { epilogue_stride * i + epilogue_stride ≤ length es.now }
     ensures { result ≡ epilogue_at es.now i }
 {
     Run {
         at: es[fields::EPILOGUE_STRIDE * i + fields::CODES_AT] as usize,
         count: es[fields::EPILOGUE_STRIDE * i + fields::CODES] as usize,
-        back: true,
+        part: Part::Epilogue,
     }
 }
 
 fn parts_at(fs: &[u64], k: usize) -> Parts
-    requires { (6 * k + 6 ≤ length fs.now) × (field function_stride fs.now k 4 + field function_stride fs.now k 5 < 2 ^ 64) }
+    requires { (function_stride * k + function_stride ≤ length fs.now) × (field function_stride fs.now k 4 + field function_stride fs.now k 5 < 2 ^ 64) }
     ensures { result ≡ parts_at fs.now k }
 {
     let prologue = prologue_at(fs, k);
@@ -111,7 +113,7 @@ struct Function<'a> {
 }
 
 impl<'a> Function<'a> {
-    ghost use Rattle.arm64_function.specs.Function.{Taken, Among, OnlyOne, WholeOf, prologue_of, run_of, own_of, owns_of, codes_of, index_of, words_of, scopes_of, single_of, packed_of, record_of, values_ok_of, NearestOf, KnownOf, AheadOf, ShapedOf, shared_of};
+    ghost use Rattle.arm64_function.specs.Function.{Taken, Among, OnlyOne, prologue_of, run_of, own_of, codes_of, index_of, packed_of, values_ok_of, NearestOf, KnownOf, AheadOf, shared_of};
 
     // Function k of the lists.
     fn of(x: &Lists<'a>, k: usize) -> Function<'a>
@@ -137,6 +139,8 @@ impl<'a> Function<'a> {
         }
     }
 
+    // Kept: a clause that i is one of the function's epilogues, and no struct of the two: each turn of a loop over them would make it anew for the one call
+    // behind, and its maker would ask the same clause.
     fn epilogue(&self, i: usize) -> Codes<'a>
         requires { Among self.now i }
         ensures { (saved_in result ≡ saves self.now.codes.now (epilogue_at self.now.epilogues.now i)) × (result.run.count ≡ field epilogue_stride self.now.epilogues.now i 2) }
@@ -333,87 +337,118 @@ impl<'a> Function<'a> {
         }
         self.prologue_size() + 1
     }
+}
+
+// A function of which every question has been asked.
+#[derive(Clone, Copy)]
+struct Checked<'a> {
+    function: Function<'a>,
+    ghost whole: { Whole function.epilogues.now function.codes.now function.parts function.size },
+}
+
+impl<'a> Checked<'a> {
+    ghost use Rattle.arm64_function.specs.Function.{Taken, Among, own_of, owns_of, codes_of, index_of, words_of, scopes_of, single_of, record_of, ShapedOf, header_of};
+
+    // Function k of the lists.
+    fn of(x: &Lists<'a>, k: usize) -> Checked<'a>
+        requires { FineIn x.now k }
+        ensures { Taken x.now k result.function }
+    {
+        Checked {
+            function: Function::of(x, k),
+        }
+    }
 
     // E: the index of an only epilogue at the function's end, where the short header holds it and the codes.
     fn single_index(&self, codes: usize) -> Option<u64>
-        requires { WholeOf self.now × (codes ≡ length (codes_of self.now)) }
-        ensures { result ≡ pick (single_of self.now) (Some (index_of self.now self.now.parts.first)) None }
+        requires { (codes ≡ length (codes_of self.now.function)) }
+        ensures { result ≡ pick (single_of self.now.function) (Some (index_of self.now.function self.now.function.parts.first)) None }
     {
-        let p = self.parts;
+        let p = self.function.parts;
         if p.end - p.first != 1 {
             return None;
         }
         if limits::SHORT_CODES < codes {
             return None;
         }
-        let index = self.only_index();
+        let index = self.function.only_index();
         if limits::SHORT_INDEX < index {
             return None;
         }
-        let left = (self.size - self.epilogues[fields::EPILOGUE_STRIDE * p.first]) / 4;
-        if left != self.epilogues[fields::EPILOGUE_STRIDE * p.first + fields::CODES] + 1 {
+        let left = (self.function.size - self.function.epilogues[fields::EPILOGUE_STRIDE * p.first])
+            / 4;
+        if left != self.function.epilogues[fields::EPILOGUE_STRIDE * p.first + fields::CODES] + 1 {
             return None;
         }
         Some(index as u64)
     }
 
     fn shape(&self) -> Shape
-        requires { WholeOf self.now }
-        ensures { ShapedOf self.now result }
+        ensures { ShapedOf self.now.function result }
     {
-        let codes = self.codes_size().unwrap();
+        let codes = self.function.codes_size().unwrap();
         match self.single_index(codes) {
             Some(index) => Shape {
-                epilogues: Epilogues::Only(index),
+                epilogues: Epilogues::Single(index),
                 codes,
             },
             None => Shape {
-                epilogues: Epilogues::Many((self.parts.end - self.parts.first) as u64),
+                epilogues: Epilogues::Scoped(
+                    (self.function.parts.end - self.function.parts.first) as u64,
+                ),
                 codes,
             },
         }
     }
 
+    // A record's header.
+    fn header(&self, s: Shape) -> Header
+        requires { s.codes ≤ 1020 }
+        ensures { result ≡ header_of self.now.function s }
+    {
+        Header {
+            length: self.function.size / 4,
+            epilogues: s.epilogues,
+            words: ((s.codes + 3) / 4) as u64,
+        }
+    }
+
     fn record_size(&self) -> usize
-        requires { WholeOf self.now }
-        ensures { (result ≡ length (record_of self.now)) × (result ≤ 300000) }
+        ensures { (result ≡ length (record_of self.now.function)) × (result ≤ 300000) }
     {
         let s = self.shape();
-        let words = (s.codes + 3) / 4;
-        let header = Header {
-            length: self.size / 4,
-            epilogues: s.epilogues,
-            words: words as u64,
-        };
-        let head = header.size();
+        let header = self.header(s);
+        let size = header.size() + 4 * header.words as usize;
         match s.epilogues {
-            Epilogues::Only(_) => head + 4 * words,
-            Epilogues::Many(_) => head + 4 * (self.parts.end - self.parts.first) + 4 * words,
+            Epilogues::Single(_) => size,
+            Epilogues::Scoped(_) => size
+                + 4 * (self.function.parts.end - self.function.parts.first),
         }
     }
 
     // ---- what is written
 
-    // Kept: the list and the place stand side by side in each writer here, as in leb: the next one begins at the end that this one gives.
+    // Kept: the list and the place stand side by side in each writer here: a struct that lends the list would ask each contract to say that it is the
+    // same list still, which a slice needs not say.
     // The run of epilogue i, where it is its own.
     fn put_own(&self, out: &mut [u8], at: usize, i: usize) -> usize
-        requires { WholeOf self.now × Among self.now i × (at + length (runs_bytes (own_of self.now i)) ≤ length out.old) }
-        ensures { Wrote out.old out.new at result (runs_bytes (own_of self.now i)) }
+        requires { Among self.now.function i × (at + length (runs_bytes (own_of self.now.function i)) ≤ length out.old) }
+        ensures { Wrote out.old out.new at result (runs_bytes (own_of self.now.function i)) }
     {
-        let size = self.own_size(i);
+        let size = self.function.own_size(i);
         if size == 0 {
             return at;
         }
-        arm64_sharing::put_run(out, at, size - 1, &self.epilogue(i))
+        arm64_sharing::put_run(out, at, size - 1, &self.function.epilogue(i))
     }
 
     // The runs of the epilogues that have their own.
     fn put_owns(&self, out: &mut [u8], at: usize) -> usize
-        requires { WholeOf self.now × (at + length (runs_bytes (owns_of self.now)) ≤ length out.old) }
-        ensures { Wrote out.old out.new at result (runs_bytes (owns_of self.now)) }
+        requires { (at + length (runs_bytes (owns_of self.now.function)) ≤ length out.old) }
+        ensures { Wrote out.old out.new at result (runs_bytes (owns_of self.now.function)) }
     {
         let mut q = at;
-        for i in self.parts.first..self.parts.end {
+        for i in self.function.parts.first..self.function.parts.end {
             q = self.put_own(out, q, i);
         }
         q
@@ -421,27 +456,32 @@ impl<'a> Function<'a> {
 
     // The prologue's codes, and those.
     fn put_codes(&self, out: &mut [u8], at: usize) -> usize
-        requires { WholeOf self.now × (at + length (codes_of self.now) ≤ length out.old) }
-        ensures { Wrote out.old out.new at result (codes_of self.now) }
+        requires { (at + length (codes_of self.now.function) ≤ length out.old) }
+        ensures { Wrote out.old out.new at result (codes_of self.now.function) }
     {
-        let q = arm64_sharing::put_run(out, at, self.prologue_size(), &self.prologue());
+        let q = arm64_sharing::put_run(
+            out,
+            at,
+            self.function.prologue_size(),
+            &self.function.prologue(),
+        );
         self.put_owns(out, q)
     }
 
     // The words of the epilogues.
     fn put_scopes(&self, out: &mut [u8], to: usize) -> usize
-        requires { WholeOf self.now × (to + 4 * (self.now.parts.end - self.now.parts.first) ≤ length out.old) }
-        ensures { Wrote out.old out.new to result (words_of self.now) }
+        requires { (to + 4 * (self.now.function.parts.end - self.now.function.parts.first) ≤ length out.old) }
+        ensures { Wrote out.old out.new to result (words_of self.now.function) }
     {
-        let mut next = self.prologue_size() + 1;
+        let mut next = self.function.prologue_size() + 1;
         let mut q = to;
-        for i in self.parts.first..self.parts.end {
-            let s = self.scope_of(out, to, i, next);
+        for i in self.function.parts.first..self.function.parts.end {
+            let s = self.function.scope_of(out, to, i, next);
             q = leb::le(
                 out,
                 q,
                 4,
-                self.epilogues[fields::EPILOGUE_STRIDE * i] / 4
+                self.function.epilogues[fields::EPILOGUE_STRIDE * i] / 4
                     + header_bits::INDEX * s.index as u64,
             );
             next = s.next;
@@ -451,30 +491,25 @@ impl<'a> Function<'a> {
 
     // The epilogues' words, where E is not set.
     fn put_words(&self, out: &mut [u8], at: usize, epilogues: Epilogues) -> usize
-        requires { WholeOf self.now × (at + length (scopes_of self.now (only_in epilogues)) ≤ length out.old) }
-        ensures { Wrote out.old out.new at result (scopes_of self.now (only_in epilogues)) }
+        requires { (at + length (scopes_of self.now.function (only_in epilogues)) ≤ length out.old) }
+        ensures { Wrote out.old out.new at result (scopes_of self.now.function (only_in epilogues)) }
     {
         match epilogues {
-            Epilogues::Only(_) => at,
-            Epilogues::Many(_) => self.put_scopes(out, at),
+            Epilogues::Single(_) => at,
+            Epilogues::Scoped(_) => self.put_scopes(out, at),
         }
     }
 
     fn put_record(&self, out: &mut [u8], at: usize) -> usize
-        requires { WholeOf self.now × (at + length (record_of self.now) ≤ length out.old) }
-        ensures { Wrote out.old out.new at result (record_of self.now) }
+        requires { (at + length (record_of self.now.function) ≤ length out.old) }
+        ensures { Wrote out.old out.new at result (record_of self.now.function) }
     {
         let s = self.shape();
-        let words = (s.codes + 3) / 4;
-        let header = Header {
-            length: self.size / 4,
-            epilogues: s.epilogues,
-            words: words as u64,
-        };
+        let header = self.header(s);
         let a = header.put(out, at);
         let b = self.put_words(out, a, s.epilogues);
         let c = self.put_codes(out, b);
-        arm64_header::pad(out, c, 4 * words - s.codes)
+        arm64_header::pad(out, c, 4 * header.words as usize - s.codes)
     }
 }
 
@@ -495,24 +530,24 @@ pub fn packed_word(x: &Lists, k: usize) -> Option<u64>
 // Questions 81 to 83: the position is 0.
 pub fn function_asks(x: &Lists, k: usize) -> Result<(), Refusal>
     requires { ListedIn x.now k }
-    ensures { result ≡ question_of (function_asks k (function_in x.now k)) }
+    ensures { numbered_at result ≡ question_of (function_asks k (function_in x.now k)) }
 {
     let f = Function::of(x, k);
     if !length_ok(f.size) {
         return Err(Refusal {
-            number: 81,
+            question: Question::Arm64Length,
             position: 0,
         });
     }
     if !f.starts_ok() {
         return Err(Refusal {
-            number: 82,
+            question: Question::Arm64Epilogues,
             position: 0,
         });
     }
     if !f.values_ok() {
         return Err(Refusal {
-            number: 83,
+            question: Question::Arm64Values,
             position: 0,
         });
     }
@@ -527,7 +562,7 @@ pub fn info_size(x: &Lists, k: usize) -> usize
     if packed_word(x, k).is_some() {
         return 0;
     }
-    Function::of(x, k).record_size()
+    Checked::of(x, k).record_size()
 }
 
 // A function's record.
@@ -538,5 +573,5 @@ pub fn put_info(out: &mut [u8], at: usize, x: &Lists, k: usize) -> usize
     if packed_word(x, k).is_some() {
         return at;
     }
-    Function::of(x, k).put_record(out, at)
+    Checked::of(x, k).put_record(out, at)
 }

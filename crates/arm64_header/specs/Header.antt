@@ -1,9 +1,8 @@
 -- The header of a full record by its numbers (Microsoft, "ARM64 exception handling", ".xdata records").
-use Rattle.std.specs.Prelude.{ℕ, ◌+◌, ◌*◌, ◌^◌, Bool, true, false, ◌||◌, List, ◌++◌, leb, ltb}
+use Rattle.std.specs.Prelude.{ℕ, ◌+◌, ◌*◌, ◌^◌, Bool, ◌||◌, List, ◌++◌, leb, ltb}
 use Rattle.format.specs.Prelude.{pick}
 use Rattle.format.specs.Leb.{little}
-use Rattle.arm64_header.specs.declared.Epilogues.{Epilogues}
-use Rattle.arm64_header.specs.declared.Epilogues.TheVariants.{Only, Many}
+use Rattle.arm64.specs.Records.{only_in, count_in}
 use Rattle.arm64_header.specs.declared.Header.{Header}
 
 -- the short form holds counts below 32 and 31 words of codes
@@ -20,14 +19,6 @@ header_of size single count words =
     pick (is_long_of count words) (little 4 (first_word size single) ++ little 4 (count + 2 ^ 16 * words))
     (little 4 (first_word size single + 2 ^ 22 * count + 2 ^ 27 * words))
 
--- E, and the count's field
-abbrev pub only_in : Epilogues → Bool
-only_in (Only i) = true
-only_in (Many n) = false
-
-abbrev pub count_in : Epilogues → ℕ
-count_in (Only i) = i
-count_in (Many n) = n
-
+-- by the struct
 abbrev pub header_by : Header → List ℕ
 header_by h = header_of h.length (only_in h.epilogues) (count_in h.epilogues) h.words

@@ -4,28 +4,11 @@
 
 ghost use Rattle.std.specs.Prelude.{◌≡◌, ◌+◌, ◌*◌, ◌^◌, ◌≤◌, ◌<◌, length, replicate};
 ghost use Rattle.format.proofs.Wrote.{Wrote};
+ghost use Rattle.arm64.specs.Records.{only_in, count_in};
 ghost use Rattle.arm64.specs.Writer.{nop_byte};
-ghost use Rattle.arm64_header.specs.Header.{only_in, count_in, is_long_of, first_word, header_by};
+ghost use Rattle.arm64_header.specs.Header.{is_long_of, first_word, header_by};
 
-use arm64::{header_bits, limits};
-
-// What the count's field tells: the index of an only epilogue's codes, where the mark E is set, or how many epilogues have words of their own.
-#[derive(Clone, Copy)]
-pub enum Epilogues {
-    Only(u64),
-    Many(u64),
-}
-
-impl Epilogues {
-    fn count(self) -> u64
-        ensures { result ≡ count_in self }
-    {
-        match self {
-            Epilogues::Only(index) => index,
-            Epilogues::Many(count) => count,
-        }
-    }
-}
+use arm64::{Epilogues, header_bits, limits};
 
 // A full record's header: the length in instructions, the count's field, and the words of codes.
 #[derive(Clone, Copy)]
@@ -49,8 +32,8 @@ impl Header {
         ensures { (result ≡ first_word self.length (only_in self.epilogues)) × (result < 2 ^ 22) }
     {
         match self.epilogues {
-            Epilogues::Only(_) => self.length + header_bits::SINGLE,
-            Epilogues::Many(_) => self.length,
+            Epilogues::Single(_) => self.length + header_bits::SINGLE,
+            Epilogues::Scoped(_) => self.length,
         }
     }
 
@@ -79,7 +62,8 @@ impl Header {
     }
 }
 
-// Kept: the list and the place stand side by side, as in each writer: the next one begins at the end that this one gives.
+// Kept: the list and the place stand side by side here and in `put`: a struct that lends the list would ask each contract to say that it is the same
+// list still, which a slice needs not say.
 // Codes are padded to words with nop.
 pub fn pad(out: &mut [u8], at: usize, n: usize) -> usize
     requires { (n ≤ 3) × (at + n ≤ length out.old) }

@@ -19,7 +19,7 @@ pub struct Lists<'a> {
 
 impl Lists<'_> {
     fn code_ok(&self, i: usize) -> bool
-        requires { 3 * i + 3 ≤ length self.now.codes.now }
+        requires { code_stride * i + code_stride ≤ length self.now.codes.now }
         ensures { result ≡ code_ok_at self.now.codes.now i }
     {
         let kind = self.codes[fields::CODE_STRIDE * i];
@@ -59,7 +59,7 @@ impl Lists<'_> {
     }
 
     fn epilogue_ok(&self, i: usize) -> bool
-        requires { 3 * i + 3 ≤ length self.now.epilogues.now }
+        requires { epilogue_stride * i + epilogue_stride ≤ length self.now.epilogues.now }
         ensures { result ≡ epilogue_ok_at self.now.epilogues.now self.now.codes.now i }
     {
         self.codes_ok_in(
@@ -76,7 +76,7 @@ impl Lists<'_> {
     }
 
     fn function_ok(&self, k: usize) -> bool
-        requires { 6 * k + 6 ≤ length self.now.functions.now }
+        requires { function_stride * k + function_stride ≤ length self.now.functions.now }
         ensures { result ≡ function_ok_at self.now.functions.now self.now.epilogues.now self.now.codes.now k }
     {
         if !lists::symbol_ok(self.functions[fields::FUNCTION_STRIDE * k]) {
@@ -101,7 +101,7 @@ impl Lists<'_> {
     }
 
     pub fn functions_ok(&self, n: usize) -> bool
-        requires { 6 * n ≤ length self.now.functions.now }
+        requires { function_stride * n ≤ length self.now.functions.now }
         ensures { result ≡ all_in (function_ok_at self.now.functions.now self.now.epilogues.now self.now.codes.now) 0 n }
     {
         (0..n).all(|k| self.function_ok(k))
@@ -111,7 +111,7 @@ impl Lists<'_> {
 
     // The codes of function k, added to a sum.
     fn add_function(&self, k: usize, sum: u64) -> Option<u64>
-        requires { (6 * k + 6 ≤ length self.now.functions.now) × (field function_stride self.now.functions.now k 4 + field function_stride self.now.functions.now k 5 ≤ count epilogue_stride self.now.epilogues.now) × (sum ≤ most_records) }
+        requires { (function_stride * k + function_stride ≤ length self.now.functions.now) × (field function_stride self.now.functions.now k 4 + field function_stride self.now.functions.now k 5 ≤ count epilogue_stride self.now.epilogues.now) × (sum ≤ most_records) }
         ensures { result ≡ up_to (sum + codes_in self.now.functions.now self.now.epilogues.now k) }
     {
         let at = self.functions[fields::FUNCTION_STRIDE * k + fields::EPILOGUES_AT] as usize;
@@ -132,7 +132,7 @@ impl Lists<'_> {
 
     // The codes of n functions.
     fn codes_sum(&self, n: usize) -> Option<u64>
-        requires { (6 * n ≤ length self.now.functions.now) × ((k : ℕ) → k < n → field function_stride self.now.functions.now k 4 + field function_stride self.now.functions.now k 5 ≤ count epilogue_stride self.now.epilogues.now) }
+        requires { (function_stride * n ≤ length self.now.functions.now) × ((k : ℕ) → k < n → field function_stride self.now.functions.now k 4 + field function_stride self.now.functions.now k 5 ≤ count epilogue_stride self.now.epilogues.now) }
         ensures { result ≡ up_to (sum_of (codes_in self.now.functions.now self.now.epilogues.now) 0 n) }
     {
         let mut sum = 0;

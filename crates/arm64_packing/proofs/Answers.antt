@@ -9,6 +9,7 @@ use Rattle.std.specs.Prelude.{Option, Some, None}
 use Rattle.format.specs.Prelude.{pick}
 use Rattle.arm64.specs.declared.Code.{Code}
 use Rattle.arm64.specs.declared.Packed.{Packed}
+use Rattle.arm64.specs.declared.Part.TheVariants.{Prologue, Epilogue}
 use Rattle.arm64.specs.Packed.{packed_ok, slots_from}
 use Rattle.arm64.specs.Runs.{no_pair, resolve, same_codes}
 use Rattle.arm64.specs.Packing.{packed_word, fields_hold, stands_for}
@@ -55,15 +56,15 @@ module _ {p q : Packed} (ps r : List Code) (e : p ≡ q) where
   not_defined d = moved (simp d)
 
   module _ (d : (fields_hold p && packed_ok p) ≡ true) where
-    pub other_prologue : same_codes (resolve no_pair ps) (slots_from (placed false p) 0 19) ≡ false → None ≡ answered q ps r
+    pub other_prologue : same_codes (resolve no_pair ps) (slots_from (placed Prologue p) 0 19) ≡ false → None ≡ answered q ps r
     unfolding stands_for pick
     other_prologue f = moved (simp (d, sym (prologue_same (resolve no_pair ps) p) ∙ f))
 
-    module _ (f : same_codes (resolve no_pair ps) (slots_from (placed false p) 0 19) ≡ true) where
-      pub other_epilogue : same_codes (resolve no_pair r) (slots_from (placed true p) 0 19) ≡ false → None ≡ answered q ps r
+    module _ (f : same_codes (resolve no_pair ps) (slots_from (placed Prologue p) 0 19) ≡ true) where
+      pub other_epilogue : same_codes (resolve no_pair r) (slots_from (placed Epilogue p) 0 19) ≡ false → None ≡ answered q ps r
       unfolding stands_for pick
       other_epilogue g = moved (simp (d, sym (prologue_same (resolve no_pair ps) p) ∙ f, sym (epilogue_same (resolve no_pair r) p) ∙ g))
 
-      pub stood : same_codes (resolve no_pair r) (slots_from (placed true p) 0 19) ≡ true → Some (packed_word p) ≡ answered q ps r
+      pub stood : same_codes (resolve no_pair r) (slots_from (placed Epilogue p) 0 19) ≡ true → Some (packed_word p) ≡ answered q ps r
       unfolding stands_for pick
       stood g = moved (simp (d, sym (prologue_same (resolve no_pair ps) p) ∙ f, sym (epilogue_same (resolve no_pair r) p) ∙ g))

@@ -7,6 +7,7 @@ use Prim.Native.Nat.{ℕ, zero, suc, ◌+◌, ◌-◌, ◌≤◌, ◌<◌}
 use native.Mathlib.Omega.{arith}
 use Rattle.arm64.specs.declared.Code.{Code}
 use Rattle.arm64.specs.declared.Packed.{Packed}
+use Rattle.arm64.specs.declared.Part.TheVariants.{Prologue, Epilogue}
 use mathlib.Core.Option.{Option, none, some}
 use Rattle.std.specs.Prelude.{Some, None}
 use Rattle.std.specs.Prelude as code
@@ -22,16 +23,6 @@ use Rattle.arm64_simple.specs.declared.Step.{Step}
 use Rattle.arm64_simple.specs.Steps.{steps}
 use Rattle.arm64_simple.proofs.Loops.{resolves, resolves_all}
 use Rattle.arm64_packing.specs.Places.{placed, given}
-
--- ---- one place
-
-pub place_undone : {undone : Bool} (p : Packed) (i : ℕ) → undone ≡ true → slot_at true p (18 - i) ≡ placed undone p i
-unfolding placed
-place_undone p i e = rw e
-
-pub place_forth : {undone : Bool} (p : Packed) (i : ℕ) → undone ≡ false → slot_at false p i ≡ placed undone p i
-unfolding placed
-place_forth p i e = rw e
 
 -- ---- the loop
 
@@ -127,9 +118,9 @@ places_back f (suc n) k m e =
     ∙ ap (λ cs. cs ++ with_slot (f (18 - k)) []) (places_back f n (suc k) m g) ∙ ap (λ (i : ℕ). slots_from f m n ++ with_slot (f i) []) h
     ∙ sym (slots_last f m n)
 
-epilogue_places : (p : Packed) → reverse (slots_from (placed true p) 0 19) ≡ packed_epilogue p
+epilogue_places : (p : Packed) → reverse (slots_from (placed Epilogue p) 0 19) ≡ packed_epilogue p
 unfolding placed packed_epilogue
-epilogue_places p = places_back (slot_at true p) 19 0 0 refl
+epilogue_places p = places_back (slot_at Epilogue p) 19 0 0 refl
 
 -- ---- lists that are the same backwards
 
@@ -141,13 +132,13 @@ agree false false f g = refl
 of_equal : {xs ys : List Code} → xs ≡ ys → same_codes xs ys ≡ true
 of_equal {xs} e = ap (same_codes xs) (sym e) ∙ same_all xs
 
-pub prologue_same : (xs : List Code) (p : Packed) → same_codes xs (slots_from (placed false p) 0 19) ≡ same_codes xs (packed_prologue p)
+pub prologue_same : (xs : List Code) (p : Packed) → same_codes xs (slots_from (placed Prologue p) 0 19) ≡ same_codes xs (packed_prologue p)
 unfolding placed packed_prologue
 prologue_same xs p = refl
 
-pub epilogue_same : (xs : List Code) (p : Packed) → same_codes xs (slots_from (placed true p) 0 19) ≡ same_codes (reverse xs) (packed_epilogue p)
+pub epilogue_same : (xs : List Code) (p : Packed) → same_codes xs (slots_from (placed Epilogue p) 0 19) ≡ same_codes (reverse xs) (packed_epilogue p)
 epilogue_same xs p =
-    agree _ _ (λ t. of_equal (ap reverse (equal_all xs (slots_from (placed true p) 0 19) t) ∙ epilogue_places p)) λ t.
+    agree _ _ (λ t. of_equal (ap reverse (equal_all xs (slots_from (placed Epilogue p) 0 19) t) ∙ epilogue_places p)) λ t.
     of_equal
     (sym (reverse_twice xs) ∙ ap reverse (equal_all (reverse xs) (packed_epilogue p) t ∙ sym (epilogue_places p))
-    ∙ reverse_twice (slots_from (placed true p) 0 19))
+    ∙ reverse_twice (slots_from (placed Epilogue p) 0 19))

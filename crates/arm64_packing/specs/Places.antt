@@ -1,8 +1,10 @@
 -- The places of a packed word in the order in which they save, the run that is compared with them, and what holds of the counts of a prologue.
-use Rattle.std.specs.Prelude.{◌≡◌, Bool, true, false, ◌&&◌, ◌||◌, List, ℕ, ◌+◌, ◌-◌, ◌^◌, ◌≤◌, ◌<◌, eqb}
+use Rattle.std.specs.Prelude.{◌≡◌, Bool, ◌&&◌, ◌||◌, List, ℕ, ◌+◌, ◌-◌, ◌^◌, ◌≤◌, ◌<◌, eqb}
 use Rattle.std.proofs.Math.Option.{Option}
 use Rattle.arm64.specs.declared.Code.{Code}
 use Rattle.arm64.specs.declared.Packed.{Packed}
+use Rattle.arm64.specs.declared.Part.{Part}
+use Rattle.arm64.specs.declared.Part.TheVariants.{Prologue, Epilogue}
 use Rattle.arm64.specs.Codes.{lr, k_reg, k_reg_x, k_lrpair}
 use Rattle.arm64.specs.Packed.{slot_at}
 use Rattle.arm64.specs.Runs.{no_pair, simplify, resolve}
@@ -16,10 +18,10 @@ stores_one c = eqb c.kind k_reg || eqb c.kind k_reg_x
 abbrev pub stores_lr : Code → Bool
 stores_lr c = eqb c.kind k_lrpair || (stores_one c && eqb c.register lr)
 
--- place i of the prologue or, undone, what the epilogue has of it: the epilogue's places are the prologue's backwards
-unfoldable pub placed : (undone : Bool) → Packed → (i : ℕ) → Option Code
-placed false p i = slot_at false p i
-placed true p i = slot_at true p (18 - i)
+-- place i of the prologue, or what the epilogue has of it: the epilogue's places are the prologue's backwards
+unfoldable pub placed : Part → Packed → (i : ℕ) → Option Code
+placed Prologue p i = slot_at Prologue p i
+placed Epilogue p i = slot_at Epilogue p (18 - i)
 
 -- a run as it is written, its SaveNexts as the pairs that they save
 abbrev pub given : List ℕ → Run → List Code

@@ -2,18 +2,19 @@
 // rucc-asm/src/xdata.rs (pack) of tamnd/rucc, changed: see NOTICE.
 #![tactic(auto)]
 
-ghost use Rattle.std.specs.Prelude.{◌≡◌, true, ◌&&◌, ◌*◌, ◌^◌, ◌≤◌, ◌<◌, eqb, Some, None};
+ghost use Rattle.std.specs.Prelude.{◌≡◌, true, false, ◌&&◌, ◌*◌, ◌^◌, ◌≤◌, ◌<◌, eqb, Some, None};
+ghost use Rattle.std.specs.Option.{MatchOption};
 ghost use Rattle.format.proofs.Asked.{option_of};
 ghost use Rattle.format.specs.Prelude.{pick};
 ghost use Rattle.format.specs.Lists.{most_records};
 ghost use Rattle.arm64.specs.Packed.{packed_ok, slots_from};
 ghost use Rattle.arm64.specs.Runs.{no_pair, run_fits, same_codes};
 ghost use Rattle.arm64.specs.Packing.{integers_in, vectors_in, down_in, chain_behind, tally, as_fields, candidate, packed_word, fields_hold, stands_for};
-ghost use Rattle.arm64_packed.specs.Fields.{Small, Sound};
 ghost use Rattle.arm64_simple.specs.Written.{saved_in, written_in};
 ghost use Rattle.arm64_packing.specs.Places.{stores_one, stores_lr, placed, given, Low, Counted};
 
-use arm64::{Code, Packed, packed_bits};
+use arm64::{Code, Packed, Part, packed_bits};
+use arm64_packed::Word;
 use arm64_simple::Codes;
 
 // ---- what a code counts
@@ -148,46 +149,51 @@ fn candidate(run: &Codes, size: u64) -> Packed
 
 // ---- whether it does
 
-// The fields hold it, and the page defines it.
-fn defined(p: Packed) -> bool
+// A word that holds the fields, where the page defines it.
+fn defined(p: Packed) -> Option<Word>
     requires { (p.homes ≡ 0) × (p.chain < 4) }
-    ensures { (result ≡ (fields_hold p && packed_ok p)) × (result ≡ true → Sound p) }
+    ensures { MatchOption result ((fields_hold p && packed_ok p) ≡ false) (λ w. (w.fields ≡ p) × ((fields_hold w.fields && packed_ok w.fields) ≡ true)) }
 {
     if 2047 < p.length {
-        return false;
+        return None;
     }
     if 7 < p.vectors {
-        return false;
+        return None;
     }
     if 511 < p.frame {
-        return false;
+        return None;
     }
     if 10 < p.registers {
-        return false;
+        return None;
     }
-    arm64_packed::packed_ok(p)
+    let w = Word { fields: p };
+    if !w.ok() {
+        return None;
+    }
+    Some(w)
 }
 
 // A place in the order in which it saves: the prologue's, or what the epilogue undoes of it.
-fn place(undone: bool, p: Packed, i: u64) -> Option<Code>
-    requires { Sound p × (i < 19) }
-    ensures { result ≡ option_of (placed undone p i) }
+#[tactic(auto, unfolding(crate::specs::Places::placed))]
+fn place(part: Part, w: Word, i: u64) -> Option<Code>
+    requires { i < 19 }
+    ensures { result ≡ option_of (placed part w.fields i) }
 {
-    if undone {
-        return arm64_packed::slot_at(true, p, 18 - i);
+    match part {
+        Part::Prologue => w.slot_at(part, i),
+        Part::Epilogue => w.slot_at(part, 18 - i),
     }
-    arm64_packed::slot_at(false, p, i)
 }
 
-// Kept: a loop over the places. Tried by the iterators' `eq`: a list of packed functions took a tenth longer to write.
-// Whether a run's instructions are those of the word's prologue or, undone, of its epilogue.
-fn same_places(run: &Codes, undone: bool, p: Packed) -> bool
-    requires { Sound p }
-    ensures { result ≡ same_codes (given run.now.list.now run.now.run) (slots_from (placed undone p) 0 19) }
+// Kept: a loop over the places. Tried by the iterators' `eq`: a list of packed functions took 10 to 15 % longer to write, where docs/PERFORMANCE.md ("Windows
+// on ARM64") has 2.3 times the Rust's time already.
+// Whether a run's instructions are those of the word's prologue or of its epilogue.
+fn same_places(run: &Codes, part: Part, w: Word) -> bool
+    ensures { result ≡ same_codes (given run.now.list.now run.now.run) (slots_from (placed part w.fields) 0 19) }
 {
     let mut steps = run.steps();
     'places: for i in 0..19 {
-        let Some(d) = place(undone, p, i) else {
+        let Some(d) = place(part, w, i) else {
             continue 'places;
         };
         let Some(s) = steps.next() else {
@@ -200,10 +206,11 @@ fn same_places(run: &Codes, undone: bool, p: Packed) -> bool
     steps.next().is_none()
 }
 
-fn packed_word(p: Packed) -> u64
-    requires { Small p × (p.flag ≡ 1) }
-    ensures { result ≡ packed_word p }
+fn packed_word(w: Word) -> u64
+    requires { w.fields.flag ≡ 1 }
+    ensures { result ≡ packed_word w.fields }
 {
+    let p = w.fields;
     p.flag
         + packed_bits::LENGTH * p.length
         + packed_bits::VECTORS * p.vectors
@@ -218,15 +225,12 @@ pub fn packed(size: u64, prologue: &Codes, epilogue: &Codes) -> Option<u64>
     requires { (run_fits no_pair (saved_in prologue.now) ≡ true) × (prologue.now.run.count ≤ most_records) }
     ensures { result ≡ pick (stands_for (candidate size (written_in prologue.now)) (written_in prologue.now) (written_in epilogue.now)) (Some (packed_word (candidate size (written_in prologue.now)))) None }
 {
-    let p = candidate(prologue, size);
-    if !defined(p) {
+    let w = defined(candidate(prologue, size))?;
+    if !same_places(prologue, Part::Prologue, w) {
         return None;
     }
-    if !same_places(prologue, false, p) {
+    if !same_places(epilogue, Part::Epilogue, w) {
         return None;
     }
-    if !same_places(epilogue, true, p) {
-        return None;
-    }
-    Some(packed_word(p))
+    Some(packed_word(w))
 }

@@ -1,7 +1,7 @@
 -- What a reader answers, by what it found and whether the lent lists hold it.
 use mathlib.Core.Path.{◌≡◌, refl, sym, ap, ◌∙◌}
 use mathlib.Core.Logic.{◌≢◌}
-use mathlib.Core.Bool.{Bool, true, false}
+use mathlib.Core.Bool.{true, false}
 use mathlib.Core.Option.{Option, none, some}
 use mathlib.Core.List.{List, [], ◌∷◌, ◌++◌, append-nil}
 use Prim.Native.Nat.{ℕ, suc, ◌+◌, ◌-◌, ◌*◌, ◌/◌, ◌%◌, ◌≤◌, ◌<◌}
@@ -10,12 +10,18 @@ use lib.ListN.{length, length-append}
 use Rattle.std.specs.Prelude.{Ok, Err, MatchResult}
 use Rattle.std.specs.Prelude as code
 use Rattle.format.specs.Prelude.{pick, after, Result, good, bad, onward, or_else}
-use Rattle.format.specs.Coded.{result_of}
+use Rattle.format.specs.declared.question.Question.{Question}
+use Rattle.format.specs.declared.question.Question.TheVariants.{OtherRoom}
+use Rattle.format.specs.Coded.{result_of, numbered}
+use Rattle.format.specs.Numbers.{number_of}
 use Rattle.format.specs.Put.{put}
 use Rattle.format.proofs.Wrote.{Wrote}
 use Rattle.format.proofs.Choice.{if-le, if-gt, if-eq, if-ne}
 use Rattle.format.proofs.PutLaws.{put-append}
 use Rattle.arm64.specs.declared.Code.{Code}
+use Rattle.arm64.specs.declared.Epilogues.{Epilogues}
+use Rattle.arm64.specs.declared.Epilogues.TheVariants.{Single, Scoped}
+use Rattle.arm64.specs.declared.Part.TheVariants as part
 use Rattle.arm64.specs.declared.Header.{Header}
 use Rattle.arm64.specs.declared.Packed.{Packed}
 use Rattle.arm64.specs.declared.Arm64Reading.{Arm64Reading}
@@ -35,9 +41,9 @@ use Rattle.arm64_reader.specs.Answers.{told, roomy, answer_of, Answered, found}
 
 -- ---- refusals
 
-pub refuses : {x : Result Unwound} {n : ℕ} {r : code.Result Arm64Reading ℕ} {es cs : List ℕ} → x ≡ bad n → r ≡ Err n → Answered x r es es cs cs
+pub refuses : {x : Result Unwound} {q : Question} {r : code.Result Arm64Reading Question} {es cs : List ℕ} → x ≡ bad (number_of q) → r ≡ Err q → Answered x r es es cs cs
 unfolding answer_of epilogues_after codes_after
-refuses {x} {n} {r} {es} {cs} e q = rw e (record { reading = q; epilogues = refl; codes = refl })
+refuses {x} {q} {r} {es} {cs} e a = rw e (record { reading = ap numbered a; epilogues = refl; codes = refl })
 
 pub found_none : {x : Option Unwound} (es cs : List ℕ) → x ≡ none → found x es cs ≡ bad 77
 unfolding found onward or_else
@@ -60,7 +66,7 @@ pub record Stored (u : Unwound) (es es' cs cs' : List ℕ) (n : ℕ) : Type 0 wh
   pub numbers : es' ≡ put es 0 (epilogue_numbers n u.epilogues)
   pub codes : cs' ≡ put (put cs 0 (code_numbers u.prologue)) (3 * n) (code_numbers (epilogue_codes u.epilogues))
 
-stored_answer : {x : Result Unwound} {u : Unwound} {r : code.Result Arm64Reading ℕ} {es es' cs cs' : List ℕ} {n m k : ℕ} → x ≡ good u → Counts u n m k
+stored_answer : {x : Result Unwound} {u : Unwound} {r : code.Result Arm64Reading Question} {es es' cs cs' : List ℕ} {n m k : ℕ} → x ≡ good u → Counts u n m k
     → r ≡ Ok (told u.size n k m) → Stored u es es' cs cs' n → Answered x r es es' cs cs'
 unfolding answer_of reading_of epilogues_after codes_after all_codes
 stored_answer {x} {u} {r} {es} {es'} {cs} {cs'} {n} {m} {k} e d a w =
@@ -68,7 +74,7 @@ stored_answer {x} {u} {r} {es} {es'} {cs} {cs'} {n} {m} {k} e d a w =
     let t : length (u.prologue ++ epilogue_codes u.epilogues) ≡ n + m = all-length d in
     rw e
     (record {
-      reading = a ∙ rw (t, d.prologue, d.many) refl;
+      reading = ap numbered a ∙ rw (t, d.prologue, d.many) refl;
       epilogues = w.numbers ∙ rw d.prologue refl;
       codes =
           w.codes
@@ -87,10 +93,10 @@ module _ {x : Option Unwound} {u : Unwound} {n m k : ℕ} (es cs : List ℕ) (e 
   unfolding found onward or_else fits_in roomy
   by_room = rw e (rw (d.many, all-length d))
 
-  pub no_room : {r : code.Result Arm64Reading ℕ} → roomy es cs k (n + m) ≡ false → r ≡ Err 54 → Answered (found x es cs) r es es cs cs
+  pub no_room : {r : code.Result Arm64Reading Question} → roomy es cs k (n + m) ≡ false → r ≡ Err OtherRoom → Answered (found x es cs) r es es cs cs
   no_room f q = refuses (by_room ∙ when_false (roomy es cs k (n + m)) (good u) (bad 54) f) q
 
-  pub stored : {r : code.Result Arm64Reading ℕ} {es' cs' : List ℕ} → roomy es cs k (n + m) ≡ true → r ≡ Ok (told u.size n k m) → Stored u es es' cs cs' n → Answered (found x es cs) r es es' cs cs'
+  pub stored : {r : code.Result Arm64Reading Question} {es' cs' : List ℕ} → roomy es cs k (n + m) ≡ true → r ≡ Ok (told u.size n k m) → Stored u es es' cs cs' n → Answered (found x es cs) r es es' cs cs'
   stored t a w = stored_answer (by_room ∙ when_true (roomy es cs k (n + m)) (good u) (bad 54) t) d a w
 
 -- ---- the record
@@ -139,29 +145,29 @@ module _ (p : Packed) where
       unfolding packed_unwound packed_epilogues at_end after packed_whole
       packed_function l = let g : suc (length (packed_epilogue p)) ≤ p.length = omega arith in rw (when_true (packed_ok p), if-ne p.flag 2, if-le (suc (length (packed_epilogue p))) p.length)
 
-module _ (p : Packed) {n : ℕ} (a : n ≡ length (slots_from (slot_at false p) 0 19)) where
+module _ (p : Packed) {n : ℕ} (a : n ≡ length (slots_from (slot_at part.Prologue p) 0 19)) where
   pub part_counts : Counts (packed_part p) n 0 0
   unfolding packed_part unwound packed_prologue epilogue_codes
   part_counts = record { prologue = sym a; behind = refl; many = refl }
 
-  pub part_stored : {es cs cs' : List ℕ} → cs' ≡ put cs 0 (code_numbers (slots_from (slot_at false p) 0 19)) → Stored (packed_part p) es es cs cs' n
+  pub part_stored : {es cs cs' : List ℕ} → cs' ≡ put cs 0 (code_numbers (slots_from (slot_at part.Prologue p) 0 19)) → Stored (packed_part p) es es cs cs' n
   unfolding packed_part unwound packed_prologue epilogue_codes epilogue_numbers code_numbers put
   part_stored d = record { numbers = refl; codes = d }
 
-  module _ {m : ℕ} (b : m ≡ length (slots_from (slot_at true p) 0 19)) where
+  module _ {m : ℕ} (b : m ≡ length (slots_from (slot_at part.Epilogue p) 0 19)) where
     pub whole_counts : Counts (packed_whole p) n m 1
     unfolding packed_whole unwound packed_prologue packed_epilogue epilogue_codes epilogue
-    whole_counts = record { prologue = sym a; behind = rw (append-nil (slots_from (slot_at true p) 0 19)) (sym b); many = refl }
+    whole_counts = record { prologue = sym a; behind = rw (append-nil (slots_from (slot_at part.Epilogue p) 0 19)) (sym b); many = refl }
 
     pub whole_stored : {es es' cs cs₁ cs' : List ℕ} {q t q' : ℕ} → Wrote es es' 0 q (4 * (p.length - 1 - m) ∷ n ∷ m ∷ [])
-        → Wrote cs cs₁ 0 t (code_numbers (slots_from (slot_at false p) 0 19)) → Wrote cs₁ cs' (3 * n) q' (code_numbers (slots_from (slot_at true p) 0 19))
+        → Wrote cs cs₁ 0 t (code_numbers (slots_from (slot_at part.Prologue p) 0 19)) → Wrote cs₁ cs' (3 * n) q' (code_numbers (slots_from (slot_at part.Epilogue p) 0 19))
         → Stored (packed_whole p) es es' cs cs' n
     unfolding packed_whole unwound packed_prologue packed_epilogue epilogue_codes epilogue_numbers epilogue
     whole_stored e f g =
         let z : p.length - 1 - m ≡ p.length - suc m = omega arith in
         record {
           numbers = e.stored ∙ rw (z, b) refl;
-          codes = g.stored ∙ rw (f.stored, append-nil (slots_from (slot_at true p) 0 19)) refl;
+          codes = g.stored ∙ rw (f.stored, append-nil (slots_from (slot_at part.Epilogue p) 0 19)) refl;
         }
 
 -- ---- records whose epilogues were counted
@@ -172,11 +178,11 @@ total_none none e = refl
 total_none (some es) e = absurd cc
 
 -- as many epilogues as the header says
-many_by : (s : List ℕ) (h : Header) {all : List Epilogue} {m : ℕ} (b : Bool) → h.single ≡ b → total_of (record_epilogues h s) ≡ some m → record_epilogues h s ≡ some all → length all ≡ how_many h
+many_by : (s : List ℕ) (h : Header) {all : List Epilogue} {m : ℕ} (x : Epilogues) → h.epilogues ≡ x → total_of (record_epilogues h s) ≡ some m → record_epilogues h s ≡ some all → length all ≡ how_many h
 unfolding epilogue
-many_by s h {all} false l t e = scoped-length (words_from h.past s) (codes_of h s) 0 h.count all (sym (by_words s h refl l) ∙ e) ∙ sym (many_all h l)
-many_by s h {all} {m} true l t e =
-    let y : all ≡ epilogue (4 * (h.length - suc m)) (codes_in (run_at (codes_of h s) h.count)) ∷ [] = cc ((one s h refl l t).same, e) in
+many_by s h {all} (Scoped count) l t e = scoped-length (words_from h.past s) (codes_of h s) 0 count all (sym (by_words s h refl l) ∙ e) ∙ sym (many_all h l)
+many_by s h {all} {m} (Single index) l t e =
+    let y : all ≡ epilogue (4 * (h.length - suc m)) (codes_in (run_at (codes_of h s) index)) ∷ [] = cc ((one s h refl l t).same, e) in
     ap length y ∙ sym (many_one h l)
 
 -- what a record with codes says, where it says something
@@ -193,7 +199,7 @@ module _ (s : List ℕ) (h : Header) {codes : List ℕ} (c : codes ≡ codes_of 
   record_counts d = record {
     prologue = reverse-length (codes_in (run_at codes 0)) ∙ (counted_run (run_at codes 0) a).1;
     behind = (total_some (record_epilogues h s) b).1;
-    many = many_by s h h.single refl b (total_some (record_epilogues h s) b).0 ∙ sym d;
+    many = many_by s h h.epilogues refl b (total_some (record_epilogues h s) b).0 ∙ sym d;
   }
 
 -- ---- the record at a place
@@ -225,7 +231,9 @@ module _ (word : ℕ) (s : List ℕ) (place : ℕ) (es cs : List ℕ) where
 
 -- ---- the answer to C
 
-pub answered : (u : Result Unwound) {r : code.Result Arm64Reading ℕ} {x : Arm64Reading} → r ≡ result_of (answer_of u) → MatchResult r (λ y. x ≡ y) (λ n. x ≡ reading_of (bad n)) → x ≡ reading_of u
+pub answered : (u : Result Unwound) (r : code.Result Arm64Reading Question) {x : Arm64Reading} → numbered r ≡ result_of (answer_of u) → MatchResult r (λ y. x ≡ y) (λ q. x ≡ reading_of (bad (number_of q))) → x ≡ reading_of u
 unfolding answer_of
-answered (bad n) e m = rw e at m
-answered (good u) e m = rw e at m
+answered (bad n) (Ok y) e m = absurd cc
+answered (bad n) (Err q) e m = cc
+answered (good u) (Ok y) e m = cc
+answered (good u) (Err q) e m = absurd cc

@@ -3,7 +3,8 @@ use Rattle.std.specs.Prelude.{◌≡◌, List, ℕ, ◌+◌, Bool, ◌&&◌, leb
 use Rattle.std.specs.Prelude as code
 use Rattle.std.proofs.Math.Option.{Option}
 use Rattle.format.specs.Prelude.{Result, good, bad, onward, or_else}
-use Rattle.format.specs.Coded.{result_of}
+use Rattle.format.specs.declared.question.Question.{Question}
+use Rattle.format.specs.Coded.{result_of, numbered}
 use Rattle.format.specs.Lists.{count}
 use Rattle.arm64.specs.declared.Arm64Reading.{Arm64Reading}
 use Rattle.arm64.specs.Lists.{epilogue_stride, code_stride}
@@ -24,8 +25,8 @@ unfoldable pub answer_of : Result Unwound → Result Arm64Reading
 answer_of (bad n) = bad n
 answer_of (good u) = good (reading_of (good u))
 
-pub record Answered (u : Result Unwound) (r : code.Result Arm64Reading ℕ) (es es' cs cs' : List ℕ) : Type 0 where
-  pub reading : r ≡ result_of (answer_of u)
+pub record Answered (u : Result Unwound) (r : code.Result Arm64Reading Question) (es es' cs cs' : List ℕ) : Type 0 where
+  pub reading : numbered r ≡ result_of (answer_of u)
   pub epilogues : es' ≡ epilogues_after es u
   pub codes : cs' ≡ codes_after cs u
 
@@ -41,5 +42,5 @@ room_of to epilogues codes = roomy to.epilogues.now to.codes.now epilogues codes
 abbrev pub found_in : Option Unwound → Output → Result Unwound
 found_in x to = found x to.epilogues.now to.codes.now
 
-abbrev pub AnsweredIn : Result Unwound → code.Result Arm64Reading ℕ → (old new : Output) → Type 0
+abbrev pub AnsweredIn : Result Unwound → code.Result Arm64Reading Question → (old new : Output) → Type 0
 AnsweredIn u r old new = Answered u r old.epilogues.now new.epilogues.now old.codes.now new.codes.now × SameLists old new

@@ -3,13 +3,16 @@
 
 ghost use Rattle.std.specs.Prelude.{◌≡◌, true, false, ◌≢◌, ◌+◌, ◌*◌, ◌<◌, length, MatchResult};
 ghost use Rattle.format.specs.Prelude.{bad, onward};
+ghost use Rattle.format.specs.Numbers.{number_of};
+ghost use Rattle.format.specs.declared.question.Question.TheVariants.{OtherRoom};
 ghost use Rattle.arm64.specs.Packed.{packed_of, packed_ok};
 ghost use Rattle.arm64.specs.Reader.{record_unwound, full_record, fits_in, packed_unwound, read_arm64, reading_of, epilogues_after, codes_after};
-ghost use Rattle.arm64_packed.specs.Fields.{Sound};
 ghost use Rattle.arm64_reader.specs.Answers.{told, AnsweredIn, found_in, room_of};
 
-use arm64::{Arm64Reading, Packed, fields};
+use arm64::{Arm64Reading, Part, fields};
+use arm64_packed::Word;
 use arm64_records::{Output, Record};
+use format::Question;
 
 // What the reader answers where n codes of the prologue were found, and epilogues of m codes.
 fn reading(length: u64, n: usize, epilogues: u64, m: usize) -> Arm64Reading
@@ -26,11 +29,11 @@ fn reading(length: u64, n: usize, epilogues: u64, m: usize) -> Arm64Reading
 }
 
 #[tactic(auto, unfolding(arm64::specs::Reader::reading_of))]
-fn refused(number: u64) -> Arm64Reading
-    ensures { result ≡ reading_of (bad number) }
+fn refused(question: Question) -> Arm64Reading
+    ensures { result ≡ reading_of (bad (number_of question)) }
 {
     Arm64Reading {
-        number,
+        number: question.number(),
         length: 0,
         prologue: 0,
         epilogues: 0,
@@ -40,25 +43,25 @@ fn refused(number: u64) -> Arm64Reading
 
 // 54: a lent list is too short.
 #[tactic(auto, unfolding(crate::specs::Answers::roomy))]
-fn room(to: &Output, epilogues: u64, codes: usize) -> Result<(), u64>
-    ensures { MatchResult result (λ x. room_of to.now epilogues codes ≡ true) (λ e. (e ≡ 54) × (room_of to.now epilogues codes ≡ false)) }
+fn room(to: &Output, epilogues: u64, codes: usize) -> Result<(), Question>
+    ensures { MatchResult result (λ x. room_of to.now epilogues codes ≡ true) (λ e. (e ≡ OtherRoom) × (room_of to.now epilogues codes ≡ false)) }
 {
     let most = (to.epilogues.len() / fields::EPILOGUE_STRIDE) as u64;
     if epilogues <= most && codes <= to.codes.len() / fields::CODE_STRIDE {
         return Ok(());
     }
-    Err(54)
+    Err(Question::OtherRoom)
 }
 
 // A record with its header and the bytes of its codes.
-fn record_with(x: &Record, to: &mut Output) -> Result<Arm64Reading, u64>
+fn record_with(x: &Record, to: &mut Output) -> Result<Arm64Reading, Question>
     ensures { AnsweredIn (found_in (record_unwound x.now.header x.now.section.now) to.old) result to.old to.new }
 {
     let Some(n) = arm64_runs::count_run(x.codes, 0) else {
-        return Err(77);
+        return Err(Question::X64Codes);
     };
     let Some(m) = x.count_epilogues() else {
-        return Err(77);
+        return Err(Question::X64Codes);
     };
     let k = arm64_records::epilogues_in(x.header);
     room(to, k, n + m)?;
@@ -69,69 +72,69 @@ fn record_with(x: &Record, to: &mut Output) -> Result<Arm64Reading, u64>
 
 // A packed fragment, which has no epilogue.
 #[tactic(auto, using(crate::proofs::Answers::has_room))]
-fn fragment(p: Packed, to: &mut Output) -> Result<Arm64Reading, u64>
-    requires { Sound p × (p.flag ≡ 2) × (packed_ok p ≡ true) }
-    ensures { AnsweredIn (found_in (packed_unwound p) to.old) result to.old to.new }
+fn fragment(w: Word, to: &mut Output) -> Result<Arm64Reading, Question>
+    requires { (w.fields.flag ≡ 2) × (packed_ok w.fields ≡ true) }
+    ensures { AnsweredIn (found_in (packed_unwound w.fields) to.old) result to.old to.new }
 {
-    let n = arm64_packed::count_slots(false, p);
+    let n = w.count_slots(Part::Prologue);
     room(to, 0, n)?;
-    arm64_packed::put_slots(to.codes, 0, false, p);
-    Ok(reading(4 * p.length, n, 0, 0))
+    w.put_slots(to.codes, 0, Part::Prologue);
+    Ok(reading(4 * w.fields.length, n, 0, 0))
 }
 
 // A packed function, whose epilogue is its last instructions.
 #[tactic(auto, using(crate::proofs::Answers::has_room, format::proofs::PutLaws::kept))]
-fn function(p: Packed, to: &mut Output) -> Result<Arm64Reading, u64>
-    requires { Sound p × (p.flag ≢ 2) × (packed_ok p ≡ true) }
-    ensures { AnsweredIn (found_in (packed_unwound p) to.old) result to.old to.new }
+fn function(w: Word, to: &mut Output) -> Result<Arm64Reading, Question>
+    requires { (w.fields.flag ≢ 2) × (packed_ok w.fields ≡ true) }
+    ensures { AnsweredIn (found_in (packed_unwound w.fields) to.old) result to.old to.new }
 {
-    let n = arm64_packed::count_slots(false, p);
-    let m = arm64_packed::count_slots(true, p);
-    if p.length <= m as u64 {
-        return Err(77);
+    let n = w.count_slots(Part::Prologue);
+    let m = w.count_slots(Part::Epilogue);
+    if w.fields.length <= m as u64 {
+        return Err(Question::X64Codes);
     }
     room(to, 1, n + m)?;
-    arm64_packed::put_slots(to.codes, 0, false, p);
-    arm64_packed::put_slots(to.codes, fields::CODE_STRIDE * n, true, p);
-    let start = 4 * (p.length - 1 - m as u64);
+    w.put_slots(to.codes, 0, Part::Prologue);
+    w.put_slots(to.codes, fields::CODE_STRIDE * n, Part::Epilogue);
+    let start = 4 * (w.fields.length - 1 - m as u64);
     arm64_runs::put_three(to.epilogues, 0, [start, n as u64, m as u64]);
-    Ok(reading(4 * p.length, n, 1, m))
+    Ok(reading(4 * w.fields.length, n, 1, m))
 }
 
 // A packed word.
-fn packed(w: u64, to: &mut Output) -> Result<Arm64Reading, u64>
-    requires { w < 4294967296 }
-    ensures { AnsweredIn (found_in (packed_unwound (packed_of w)) to.old) result to.old to.new }
+fn packed(word: u64, to: &mut Output) -> Result<Arm64Reading, Question>
+    requires { word < 4294967296 }
+    ensures { AnsweredIn (found_in (packed_unwound (packed_of word)) to.old) result to.old to.new }
 {
-    let p = arm64_packed::packed_of(w);
-    if !arm64_packed::packed_ok(p) {
-        return Err(77);
+    let w = Word::of(word);
+    if !w.ok() {
+        return Err(Question::X64Codes);
     }
-    if p.flag == 2 {
-        return fragment(p, to);
+    if w.fields.flag == 2 {
+        return fragment(w, to);
     }
-    function(p, to)
+    function(w, to)
 }
 
 // The record at a place.
-fn record(s: &[u8], place: u64, to: &mut Output) -> Result<Arm64Reading, u64>
+fn record(s: &[u8], place: u64, to: &mut Output) -> Result<Arm64Reading, Question>
     ensures { AnsweredIn (onward (full_record s.now place) (fits_in to.old.epilogues.now to.old.codes.now)) result to.old to.new }
 {
     let Some(h) = arm64_records::header(s, place) else {
-        return Err(76);
+        return Err(Question::X64Header);
     };
     record_with(&Record::of(s, h), to)
 }
 
 // A word, and the record at a place where the word is not packed.
-fn read(word: u64, info: &[u8], place: u64, to: &mut Output) -> Result<Arm64Reading, u64>
+fn read(word: u64, info: &[u8], place: u64, to: &mut Output) -> Result<Arm64Reading, Question>
     ensures { AnsweredIn (read_arm64 word info.now place to.old.epilogues.now to.old.codes.now) result to.old to.new }
 {
     if word % 4 == 0 {
         return record(info, place, to);
     }
     if word % 4 == 3 || 4294967296 <= word {
-        return Err(77);
+        return Err(Question::X64Codes);
     }
     packed(word, to)
 }

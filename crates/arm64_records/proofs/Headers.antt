@@ -1,7 +1,9 @@
 -- The header of a record: a choice by its marks, and the words of epilogues behind it.
 use mathlib.Core.Path.{◌≡◌}
+use Prim.Native.Nat.{ℕ}
 use mathlib.Core.Bool.{Bool, true, false}
 use Rattle.format.specs.Prelude.{pick}
+use Rattle.arm64.specs.declared.Epilogues.TheVariants.{Scoped}
 use Rattle.arm64.specs.declared.Header.{Header}
 use Rattle.arm64.specs.Records.{scopes_in}
 
@@ -14,6 +16,6 @@ unfolding pick
 when_false b x y e = rw e
 
 module _ (h : Header) where
-  pub scopes_all : h.single ≡ false → scopes_in h ≡ h.count
+  pub scopes_all : {count : ℕ} → h.epilogues ≡ Scoped count → scopes_in h ≡ count
   unfolding scopes_in
-  scopes_all e = when_false h.single 0 h.count e
+  scopes_all e = rw e

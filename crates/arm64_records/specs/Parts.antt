@@ -2,12 +2,14 @@
 use Rattle.std.specs.Prelude.{◌≡◌, ℕ, ◌+◌, ◌*◌, ◌≤◌, ◌<◌, List, [], ◌∷◌, length, leb}
 use Rattle.std.proofs.Math.Option.{Option, none, some}
 use Rattle.format.specs.Prelude.{pick}
+use Rattle.arm64.specs.declared.Epilogues.{Epilogues}
+use Rattle.arm64.specs.declared.Epilogues.TheVariants.{Single, Scoped}
 use Rattle.arm64.specs.declared.Header.{Header}
 use Rattle.format.specs.Put.{put}
 use Rattle.format.proofs.Wrote.{Wrote}
 use Rattle.arm64.specs.declared.Code.{Code}
 use Rattle.arm64.specs.Lists.{Epilogue, epilogue_numbers, code_numbers}
-use Rattle.arm64.specs.Records.{word_at, record_ok, header_fits, header_at, codes_to}
+use Rattle.arm64.specs.Records.{count_in, word_at, record_ok, header_fits, header_at, codes_to}
 use Rattle.arm64.specs.Reader.{epilogue_codes}
 
 -- the word at p, where it lies inside
@@ -25,7 +27,7 @@ headed_at s p = pick (record_ok s p) (some (header_at s p)) none
 -- the numbers of a header are those of its fields
 pub record Narrow (h : Header) : Type 0 where
   pub low_length : h.length < 262144
-  pub low_count : h.count < 65536
+  pub low_count : count_in h.epilogues < 65536
   pub low_words : h.words < 256
 
 -- a header that was read: its fields, and its parts inside
@@ -47,8 +49,12 @@ epilogues_in none = []
 epilogues_in (some es) = es
 
 -- how many epilogues a record has
+abbrev pub many_in : Epilogues → ℕ
+many_in (Single index) = 1
+many_in (Scoped count) = count
+
 unfoldable pub how_many : Header → ℕ
-how_many h = pick h.single 1 h.count
+how_many h = many_in h.epilogues
 
 -- what a writer of epilogues does: their numbers at the front of one list, and their codes behind n codes of the other
 pub record Listed (es es' cs cs' : List ℕ) (n : ℕ) (all : List Epilogue) : Type 0 where

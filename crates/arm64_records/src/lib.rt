@@ -6,14 +6,15 @@ ghost use Rattle.std.proofs.Math.Option.{some};
 ghost use Rattle.format.proofs.Asked.{option_of};
 ghost use Rattle.format.specs.Put.{put};
 ghost use Rattle.format.proofs.Wrote.{Wrote};
-ghost use Rattle.arm64.specs.Lists.{code_numbers, epilogue_numbers};
-ghost use Rattle.arm64.specs.Records.{word_at, header_with, scopes_in, codes_from, codes_to, codes_of};
+ghost use Rattle.arm64.specs.Lists.{epilogue_stride, code_stride, code_numbers, epilogue_numbers};
+ghost use Rattle.arm64.specs.declared.Epilogues.TheVariants.{Scoped};
+ghost use Rattle.arm64.specs.Records.{word_at, epilogues_with, header_with, scopes_in, codes_from, codes_to, codes_of};
 ghost use Rattle.arm64.specs.Reader.{run_at, scoped, epilogue_codes};
 ghost use Rattle.arm64_runs.specs.Runs.{codes_in};
 ghost use Rattle.arm64_records.specs.Parts.{word_there, fitting, headed_at, Narrow, Inside, total_of, epilogues_in, how_many};
 ghost use Rattle.arm64_records.specs.Lent.{PlacedIn, ListedIn};
 
-use arm64::{Header, fields, header_bits};
+use arm64::{Epilogues, Header, fields, header_bits};
 
 // ---- the header
 
@@ -38,6 +39,17 @@ fn word_there(s: &[u8], at: u64) -> Option<u64>
     Some(word_at(s, at as usize))
 }
 
+// E says what the count's field is.
+#[tactic(auto, unfolding(format::specs::Prelude::pick))]
+fn epilogues_with(w: u64, count: u64) -> Epilogues
+    ensures { result ≡ epilogues_with w count }
+{
+    if w / header_bits::SINGLE % 2 == 1 {
+        return Epilogues::Single(count);
+    }
+    Epilogues::Scoped(count)
+}
+
 // A header by its first word, and what its form says of the epilogues and the words of codes.
 #[tactic(auto, unfolding(arm64::specs::Records::header_with))]
 fn header_with(w: u64, count: u64, words: u64, past: u64) -> Header
@@ -46,8 +58,7 @@ fn header_with(w: u64, count: u64, words: u64, past: u64) -> Header
     Header {
         length: w % header_bits::VERSION,
         handler: w / header_bits::HANDLER % 2 == 1,
-        single: w / header_bits::SINGLE % 2 == 1,
-        count,
+        epilogues: epilogues_with(w, count),
         words,
         past,
     }
@@ -58,7 +69,10 @@ fn header_with(w: u64, count: u64, words: u64, past: u64) -> Header
 pub fn scopes_in(h: Header) -> u64
     ensures { result ≡ scopes_in h }
 {
-    if h.single { 0 } else { h.count }
+    match h.epilogues {
+        Epilogues::Single(_) => 0,
+        Epilogues::Scoped(count) => count,
+    }
 }
 
 // Whether the parts that a header names lie inside.
@@ -113,7 +127,7 @@ pub struct Output<'a> {
 impl Output<'_> {
     // An epilogue in place k: its start, where its codes stand and how many there are, and the codes. This gives the place past them.
     pub fn put_one(&mut self, k: usize, at: usize, codes: &[u8], start: u64, index: usize) -> usize
-        requires { (run_at codes.now index ≡ some (codes_in (run_at codes.now index))) × (3 * (k + 1) ≤ length self.old.epilogues.now) × (3 * (at + length (codes_in (run_at codes.now index))) ≤ length self.old.codes.now) }
+        requires { (run_at codes.now index ≡ some (codes_in (run_at codes.now index))) × (epilogue_stride * (k + 1) ≤ length self.old.epilogues.now) × (code_stride * (at + length (codes_in (run_at codes.now index))) ≤ length self.old.codes.now) }
         ensures { PlacedIn self.old self.new k at result start (codes_in (run_at codes.now index)) }
     {
         let past = arm64_runs::put_run(self.codes, fields::CODE_STRIDE * at, codes, index)
@@ -142,7 +156,10 @@ pub struct Record<'a> {
 pub fn epilogues_in(h: Header) -> u64
     ensures { result ≡ how_many h }
 {
-    if h.single { 1 } else { h.count }
+    match h.epilogues {
+        Epilogues::Single(_) => 1,
+        Epilogues::Scoped(count) => count,
+    }
 }
 
 impl<'a> Record<'a> {
@@ -162,22 +179,23 @@ impl<'a> Record<'a> {
         }
     }
 
-    // The word of epilogue k.
-    fn word(&self, k: usize) -> u64
-        requires { (self.now.header.single ≡ false) × (k < self.now.header.count) }
+    // The word of epilogue k, where a word stands for each.
+    fn word(&self, count: u64, k: usize) -> u64
+        requires { (self.now.header.epilogues ≡ Scoped count) × (k < count) }
         ensures { result ≡ word_of self.now k }
     {
         word_at(self.section, self.header.past as usize + 4 * k)
     }
 
     // How many codes the epilogues have, where a word stands for each.
-    fn count_scoped(&self) -> Option<usize>
-        requires { self.now.header.single ≡ false }
-        ensures { (result ≡ option_of (total_of (scoped (word_of self.now) self.now.codes.now 0 self.now.header.count))) × IfSome result (λ m. m ≤ 66846720) }
+    fn count_scoped(&self, count: u64) -> Option<usize>
+        requires { self.now.header.epilogues ≡ Scoped count }
+        ensures { (result ≡ option_of (total_of (scoped (word_of self.now) self.now.codes.now 0 count))) × IfSome result (λ m. m ≤ 66846720) }
     {
         let mut n = 0;
-        for k in 0..self.header.count as usize {
-            n += arm64_runs::count_run(self.codes, (self.word(k) / header_bits::INDEX) as usize)?;
+        for k in 0..count as usize {
+            let w = self.word(count, k);
+            n += arm64_runs::count_run(self.codes, (w / header_bits::INDEX) as usize)?;
         }
         Some(n)
     }
@@ -187,22 +205,23 @@ impl<'a> Record<'a> {
     pub fn count_epilogues(&self) -> Option<usize>
         ensures { (result ≡ option_of (total_of (epilogues_of self.now))) × IfSome result (λ m. m ≤ 66846720) }
     {
-        let h = self.header;
-        if h.single {
-            let m = arm64_runs::count_run(self.codes, h.count as usize)?;
-            return ((m as u64) < h.length).then_some(m);
+        match self.header.epilogues {
+            Epilogues::Single(index) => {
+                let m = arm64_runs::count_run(self.codes, index as usize)?;
+                ((m as u64) < self.header.length).then_some(m)
+            }
+            Epilogues::Scoped(count) => self.count_scoped(count),
         }
-        self.count_scoped()
     }
 
     // The epilogues for each of which a word stands; n codes stand before theirs.
-    fn put_scoped(&self, n: usize, to: &mut Output)
-        requires { (self.now.header.single ≡ false) × (scoped (word_of self.now) self.now.codes.now 0 self.now.header.count ≡ some (epilogues_in (scoped (word_of self.now) self.now.codes.now 0 self.now.header.count))) × (3 * self.now.header.count ≤ length to.old.epilogues.now) × (3 * (n + length (epilogue_codes (epilogues_in (scoped (word_of self.now) self.now.codes.now 0 self.now.header.count)))) ≤ length to.old.codes.now) }
-        ensures { ListedIn to.old to.new n (epilogues_in (scoped (word_of self.now) self.now.codes.now 0 self.now.header.count)) }
+    fn put_scoped(&self, count: u64, n: usize, to: &mut Output)
+        requires { (self.now.header.epilogues ≡ Scoped count) × (scoped (word_of self.now) self.now.codes.now 0 count ≡ some (epilogues_in (scoped (word_of self.now) self.now.codes.now 0 count))) × (epilogue_stride * count ≤ length to.old.epilogues.now) × (code_stride * (n + length (epilogue_codes (epilogues_in (scoped (word_of self.now) self.now.codes.now 0 count)))) ≤ length to.old.codes.now) }
+        ensures { ListedIn to.old to.new n (epilogues_in (scoped (word_of self.now) self.now.codes.now 0 count)) }
     {
         let mut at = n;
-        for k in 0..self.header.count as usize {
-            let w = self.word(k);
+        for k in 0..count as usize {
+            let w = self.word(count, k);
             at = to.put_one(
                 k,
                 at,
@@ -215,15 +234,15 @@ impl<'a> Record<'a> {
 
     // The epilogues, behind n codes of the prologue; their codes are m.
     pub fn put_epilogues(&self, n: usize, m: usize, to: &mut Output)
-        requires { (total_of (epilogues_of self.now) ≡ some m) × (3 * how_many self.now.header ≤ length to.old.epilogues.now) × (3 * (n + m) ≤ length to.old.codes.now) }
+        requires { (total_of (epilogues_of self.now) ≡ some m) × (epilogue_stride * how_many self.now.header ≤ length to.old.epilogues.now) × (code_stride * (n + m) ≤ length to.old.codes.now) }
         ensures { ListedIn to.old to.new n (epilogues_in (epilogues_of self.now)) }
     {
-        let h = self.header;
-        if h.single {
-            let start = 4 * (h.length - 1 - m as u64);
-            to.put_one(0, n, self.codes, start, h.count as usize);
-        } else {
-            self.put_scoped(n, to);
+        match self.header.epilogues {
+            Epilogues::Single(index) => {
+                let start = 4 * (self.header.length - 1 - m as u64);
+                to.put_one(0, n, self.codes, start, index as usize);
+            }
+            Epilogues::Scoped(count) => self.put_scoped(count, n, to),
         }
     }
 }

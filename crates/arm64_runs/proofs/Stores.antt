@@ -65,21 +65,21 @@ module _ (s : List ℕ) (p n : ℕ) where
 -- ---- a run that is there, turn by turn
 
 -- there is a run at p
-pub record Runs (s : List ℕ) (p : ℕ) : Type 0 where
-  pub there : run_at s p ≡ some (codes_in (run_at s p))
+abbrev pub There : List ℕ → ℕ → Type 0
+There s p = run_at s p ≡ some (codes_in (run_at s p))
 
 split_front : {c : Code} {y : Option (List Code)} (x : Option (List Code)) → y ≡ in_front c x → y ≡ some (codes_in y) → (x ≡ some (codes_in x)) × (codes_in y ≡ c ∷ codes_in x)
 unfolding in_front codes_in
 split_front none e h = absurd cc
 split_front (some cs) e h = (refl, rw e)
 
-module _ {s : List ℕ} {p : ℕ} (r : Runs s p) where
+module _ (s : List ℕ) (p : ℕ) (r : There s p) where
   pub never_none : code_at s p ≡ none → ⊥
-  never_none e = cc (run_none s p e, r.there)
+  never_none e = cc (run_none s p e, r)
 
   module _ {c : Code} {q : ℕ} (e : code_at s p ≡ some (c, q)) where
-    pub run_next : c.kind ≢ 18 → Runs s q × (codes_in (run_at s p) ≡ c ∷ codes_in (run_at s q))
-    run_next k = let t = split_front (run_at s q) (run_on s p e k) r.there in (record { there = t.0 }, t.1)
+    pub run_next : c.kind ≢ 18 → There s q × (codes_in (run_at s p) ≡ c ∷ codes_in (run_at s q))
+    run_next k = split_front (run_at s q) (run_on s p e k) r
 
     pub run_ended : c.kind ≡ 18 → codes_in (run_at s p) ≡ []
     unfolding codes_in
@@ -87,41 +87,37 @@ module _ {s : List ℕ} {p : ℕ} (r : Runs s p) where
 
 -- ---- forwards
 
--- xs₀ is xs by now, and the codes from p on go to i
-pub record Putting (s xs₀ xs : List ℕ) (at from p i : ℕ) : Type 0 where
-  pub runs : Runs s p
-  pub storing : Storing xs₀ xs at i (code_numbers (codes_in (run_at s from))) (code_numbers (codes_in (run_at s p)))
-
-pub put_start : {s xs : List ℕ} {at from : ℕ} → run_at s from ≡ some (codes_in (run_at s from)) → at + 3 * length (codes_in (run_at s from)) ≤ length xs → Putting s xs xs at from from at
-put_start {s} {xs} {at} {from} r h = record { runs = record { there = r }; storing = storing.start (omega (arith, code_numbers-length (codes_in (run_at s from)))) }
-
-module _ {s xs₀ xs : List ℕ} {at from p i : ℕ} (d : Putting s xs₀ xs at from p i) {c : Code} {q : ℕ} (e : code_at s p ≡ some (c, q)) where
-  module _ (k : c.kind ≢ 18) where
-    first_numbers : code_numbers (codes_in (run_at s p)) ≡ code_numbers (c ∷ []) ++ code_numbers (codes_in (run_at s q))
-    unfolding code_numbers
-    first_numbers = ap code_numbers (run_next d.runs e k).1
-
-    pub put_room : i + 3 ≤ length xs
-    put_room = omega (arith, d.storing.room, code_numbers-length (codes_in (run_at s p)), ap length (run_next d.runs e k).1)
-
-    pub put_turn : {ys : List ℕ} {j : ℕ} → Wrote xs ys i j (code_numbers (c ∷ [])) → Putting s xs₀ ys at from q j
-    put_turn w = record { runs = (run_next d.runs e k).0; storing = stored_next (code_numbers (c ∷ [])) (rw first_numbers at d.storing) w }
-
-  pub put_ended : c.kind ≡ 18 → Wrote xs₀ xs at i (code_numbers (codes_in (run_at s from)))
+-- the first of the codes that are left
+module _ (all : List Code) {xs₀ xs : List ℕ} {at i : ℕ} {left rest : List Code} {c : Code} (d : Storing xs₀ xs at i (code_numbers all) (code_numbers left)) (e : left ≡ c ∷ rest) where
+  first_numbers : code_numbers left ≡ code_numbers (c ∷ []) ++ code_numbers rest
   unfolding code_numbers
-  put_ended k = storing.ended (rw (run_ended d.runs e k) at d.storing)
+  first_numbers = ap code_numbers e
+
+  pub put_room : i + 3 ≤ length xs
+  put_room = omega (arith, d.room, code_numbers-length left, ap length e)
+
+  pub put_turn : {ys : List ℕ} {j : ℕ} → Wrote xs ys i j (code_numbers (c ∷ [])) → Storing xs₀ ys at j (code_numbers all) (code_numbers rest)
+  put_turn w = stored_next (code_numbers (c ∷ [])) (rw first_numbers at d) w
+
+pub put_start : {xs : List ℕ} {at : ℕ} {all left : List Code} → left ≡ all → at + 3 * length all ≤ length xs
+    → Storing xs xs at at (code_numbers all) (code_numbers left)
+put_start {all = all} e h = rw e (storing.start (omega (arith, code_numbers-length all)))
+
+pub put_ended : (all : List Code) {xs₀ xs : List ℕ} {at i : ℕ} {left : List Code} → Storing xs₀ xs at i (code_numbers all) (code_numbers left) → left ≡ []
+    → Wrote xs₀ xs at i (code_numbers all)
+unfolding code_numbers
+put_ended all d e = storing.ended (rw e at d)
 
 -- ---- backwards
 
-pub record Backing (s xs₀ xs : List ℕ) (p i : ℕ) : Type 0 where
-  pub runs : Runs s p
-  pub place : i ≡ 3 * length (codes_in (run_at s p))
+pub record Backing (all left : List Code) (xs₀ xs : List ℕ) (i : ℕ) : Type 0 where
+  pub place : i ≡ 3 * length left
   pub room : i ≤ length xs
   pub same_length : length xs ≡ length xs₀
-  same : put xs 0 (code_numbers (reverse (codes_in (run_at s p)))) ≡ put xs₀ 0 (code_numbers (reverse (codes_in (run_at s 0))))
+  same : put xs 0 (code_numbers (reverse left)) ≡ put xs₀ 0 (code_numbers (reverse all))
 
-pub back_start : {s xs : List ℕ} {end : ℕ} → run_at s 0 ≡ some (codes_in (run_at s 0)) → end ≡ 3 * length (codes_in (run_at s 0)) → end ≤ length xs → Backing s xs xs 0 end
-back_start r n h = record { runs = record { there = r }; place = n; room = h; same_length = refl; same = refl }
+pub back_start : {all left : List Code} {xs : List ℕ} {end : ℕ} → left ≡ all → end ≡ 3 * length all → end ≤ length xs → Backing all left xs xs end
+back_start {xs = xs} e n h = record { place = n ∙ ap (λ cs. 3 * length cs) (sym e); room = h; same_length = refl; same = ap (λ cs. put xs 0 (code_numbers (reverse cs))) e }
 
 -- the last code of a reversed list may be stored first
 back_put : (xs : List ℕ) (c : Code) (cs : List Code) (i : ℕ) → i ≡ 3 * length cs
@@ -134,22 +130,20 @@ back_put xs c cs i n =
     ∙ sym (put-append xs 0 (code_numbers (reverse cs)) (code_numbers (c ∷ [])))
     ∙ ap (put xs 0) (sym (code_numbers-append (reverse cs) (c ∷ [])))
 
-module _ {s xs₀ xs : List ℕ} {p i : ℕ} (d : Backing s xs₀ xs p i) {c : Code} {q : ℕ} (e : code_at s p ≡ some (c, q)) where
-  module _ (k : c.kind ≢ 18) where
-    pub back_room : 3 ≤ i
-    back_room = omega (arith, d.place, ap length (run_next d.runs e k).1)
+module _ {all left rest : List Code} {xs₀ xs : List ℕ} {i : ℕ} (d : Backing all left xs₀ xs i) {c : Code} (e : left ≡ c ∷ rest) where
+  pub back_room : 3 ≤ i
+  back_room = omega (arith, d.place, ap length e)
 
-    pub back_turn : {ys : List ℕ} {j : ℕ} → Wrote xs ys (i - 3) j (code_numbers (c ∷ [])) → Backing s xs₀ ys q (i - 3)
-    back_turn {ys} w =
-        let n : i - 3 ≡ 3 * length (codes_in (run_at s q)) = omega (arith, d.place, ap length (run_next d.runs e k).1) in
-        record {
-          runs = (run_next d.runs e k).0;
-          place = n;
-          room = omega (arith, kept w, d.room);
-          same_length = kept w ∙ d.same_length;
-          same = rw w.stored (back_put xs c (codes_in (run_at s q)) (i - 3) n ∙ rw (run_next d.runs e k).1 at d.same);
-        }
+  pub back_turn : {ys : List ℕ} {j : ℕ} → Wrote xs ys (i - 3) j (code_numbers (c ∷ [])) → Backing all rest xs₀ ys (i - 3)
+  back_turn {ys} w =
+      let n : i - 3 ≡ 3 * length rest = omega (arith, d.place, ap length e) in
+      record {
+        place = n;
+        room = omega (arith, kept w, d.room);
+        same_length = kept w ∙ d.same_length;
+        same = rw w.stored (back_put xs c rest (i - 3) n ∙ rw e at d.same);
+      }
 
-  pub back_ended : c.kind ≡ 18 → xs ≡ put xs₀ 0 (code_numbers (reverse (codes_in (run_at s 0))))
-  unfolding code_numbers reverse put
-  back_ended k = rw (run_ended d.runs e k) at d.same
+pub back_ended : {all left : List Code} {xs₀ xs : List ℕ} {i : ℕ} → Backing all left xs₀ xs i → left ≡ [] → xs ≡ put xs₀ 0 (code_numbers (reverse all))
+unfolding code_numbers reverse put
+back_ended d e = rw e at d.same

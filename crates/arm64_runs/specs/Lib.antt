@@ -1,2 +1,3 @@
 -- Runs as the code answers them.
 pub mod Runs
+pub mod Left

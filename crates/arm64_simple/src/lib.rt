@@ -4,17 +4,18 @@
 
 ghost use Rattle.std.specs.Prelude.{◌≡◌, true, ◌+◌, ◌*◌, ◌^◌, ◌≤◌, ◌<◌, length};
 ghost use Rattle.format.proofs.Wrote.{Wrote};
+ghost use Rattle.arm64.specs.Codes.{k_regp_x};
 ghost use Rattle.arm64.specs.Runs.{shorter, pair_in, has_next, next_pair, resolved, next_or, simple, pair_behind, run_fits, backwards, no_pair, leads};
 ghost use Rattle.arm64_simple.specs.Saves.{place_of, saved_at, Inside};
 
-use arm64::{Code, fields};
+use arm64::{Code, Part, fields};
 
 // Where the codes of a run stand in a list: an epilogue's save backwards.
 #[derive(Clone, Copy)]
 pub struct Run {
     pub at: usize,
     pub count: usize,
-    pub back: bool,
+    pub part: Part,
 }
 
 // A run in the list that holds its codes.
@@ -35,7 +36,7 @@ pub const NO_PAIR: Code = Code {
 // ---- one code
 
 fn shorter_push(c: Code) -> Code
-    requires { c.kind ≡ 5 }
+    requires { c.kind ≡ k_regp_x }
     ensures { result ≡ shorter c }
 {
     if c.register == 29 {
@@ -156,10 +157,10 @@ fn place_of(run: Run, j: usize) -> usize
     requires { (j < run.count) × (run.at + run.count < 2 ^ 64) }
     ensures { (result ≡ place_of run j) × (result < run.at + run.count) }
 {
-    if run.back {
-        return run.at + (run.count - (j + 1));
+    match run.part {
+        Part::Prologue => run.at + j,
+        Part::Epilogue => run.at + (run.count - (j + 1)),
     }
-    run.at + j
 }
 
 // A code of a run: what stands before it, how it is given and how it is written.

@@ -1,12 +1,12 @@
 -- Question 83 of a code, and its bytes.
 use mathlib.Core.Path.{◌≡◌, refl, subst, sym, ap, ap₂, ◌∙◌}
-use mathlib.Core.Bool.{Bool, true, false, ◌&&◌, ◌||◌}
+use mathlib.Core.Bool.{true, false, ◌&&◌}
 use mathlib.Core.List.{[], ◌∷◌}
-use Prim.Native.Nat.{ℕ, zero, suc, ◌+◌, ◌-◌, ◌*◌, ◌/◌, ◌%◌, ◌≤◌, ◌<◌, ◌^◌}
+use Prim.Native.Nat.{ℕ, suc, ◌+◌, ◌-◌, ◌*◌, ◌/◌, ◌%◌, ◌≤◌, ◌<◌, ◌^◌}
 use native.Mathlib.Nat.{div-le_self, div-lt_iff_lt-mul, mul-le-mul, zero-add}
 use native.Mathlib.Omega.{arith}
 use lib.Dec.{T, leb, ltb, eqb}
-use lib.ListN.{length, get_or, length-append}
+use lib.ListN.{get_or}
 use mir.Facts.{leb_yes}
 use borrow.Author.Tests.{lt-leb, le-leb, ne_eqb, eq-eqb, leb-true, ltb-true}
 use Rattle.std.proofs.Common.{w16, w32}
@@ -19,12 +19,8 @@ use Rattle.arm64_spelled.proofs.FormLaws.{past_last, form_good}
 use Rattle.arm64.specs.declared.Form.{Form}
 use Rattle.arm64.specs.declared.Code.{Code}
 use Rattle.arm64.specs.Codes.{last_registers, form_for, register_field, offset_field, register_fits, offset_fits, code_fits, spelled, code_bytes, big}
-use Rattle.arm64.proofs.MeaningLaws.{both_true, no_yes}
+use Rattle.arm64.proofs.MeaningLaws.{both_true, or-false}
 use Rattle.arm64_spelled.specs.Forms.{FormGood, InRanges, word_of}
-
-or_left : (a b : Bool) → a ≡ false → a || b ≡ true → b ≡ true
-or_left true b n e = absurd (no_yes (sym n))
-or_left false b n e = e
 
 module _ (f : Form) (c : Code) where
   pub register_free : f.step ≡ 0 → true ≡ register_fits f c
@@ -76,7 +72,7 @@ module _ (f : Form) (c : Code) (r : register_fits f c ≡ true) (o : offset_fits
   in_registers_lem : (f.step ≡ 0 → ⊥)
       → (leb f.first c.register && leb c.register (get_or last_registers c.kind 0) && eqb ((c.register - f.first) % f.step) 0) ≡ true
   unfolding register_fits
-  in_registers_lem n = or_left (eqb f.step 0) _ (ne_eqb f.step 0 n) r
+  in_registers_lem n = or-false (eqb f.step 0) _ (ne_eqb f.step 0 n) r
 
   in_offsets : (leb f.more c.offset && eqb (c.offset % f.scale) 0 && ltb (offset_field f c) f.unit) ≡ true
   unfolding offset_fits
@@ -177,15 +173,6 @@ high_4 n =
     let b : n / 256 / 256 % 256 ≡ m / 65536 % 256 = omega arith in
     let d : n / 256 % 256 ≡ m / 256 % 256 = omega arith in
     let e : n % 256 ≡ m % 256 = omega arith in rw (a, b, d, e) refl
-
-big-length : (k n : ℕ) → length (big k n) ≡ k
-unfolding big
-big-length zero n = refl
-big-length (suc k) n = length-append (big k (n / 256)) (n % 256 ∷ []) ∙ (let e : length (big k (n / 256)) ≡ k = big-length k (n / 256) in omega (arith, e))
-
-pub code-length : (c : Code) → length (code_bytes c) ≡ (form_for c).size
-unfolding code_bytes spelled
-code-length c = big-length (form_for c).size _
 
 pub code_bytes_lem : (c : Code) → big (form_for c).size (word_of (form_for c) c) ≡ code_bytes c
 unfolding code_bytes spelled word_of

@@ -8,7 +8,6 @@ use lib.Dec.{T, leb, leb→le}
 use lib.ListN.{get_or}
 use borrow.Author.Tests.{eq-eqb, ne_eqb}
 use Rattle.std.specs.Prelude.{None, Ok, Err}
-use Rattle.format.specs.Coded.{refusal}
 use Rattle.format.specs.Prelude.{pick}
 use Rattle.format.specs.Lists.{field, count, most_functions, most_records, sum_of, inside, symbol_ok, all_in}
 use Rattle.format.specs.Questions.{Room, ask, unless, fitting, per_function}
@@ -69,7 +68,7 @@ module _ (fs es cs : List ℕ) (r : Room) where
 
   module _ (some-there : count function_stride fs ≡ 0 → ⊥) where
     pub table_refused : {places bytes relocations sites : List ℕ} → lists_ok fs es cs ≡ false
-        → Writes (arm64_answer fs es cs r) (Err (refusal 13 0)) places places bytes bytes relocations relocations sites sites
+        → Writes (arm64_answer fs es cs r) (Err (13, 0)) places places bytes bytes relocations relocations sites sites
     unfolding arm64_answer outcome_of afterwards pick ask unless
     table_refused e =
         rw (ne_eqb (count function_stride fs) 0 some-there, e)

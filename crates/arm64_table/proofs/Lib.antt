@@ -4,4 +4,3 @@ pub mod Parts
 pub mod Loops
 pub mod Results
 pub mod Entries
-pub mod Lent

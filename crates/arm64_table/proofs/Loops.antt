@@ -7,7 +7,6 @@ use mathlib.Core.Option.{Option, none, some}
 use mathlib.Core.List.{List, [], ◌∷◌}
 use lib.ListN.{length, length-append}
 use Rattle.std.specs.Prelude.{Ok, Err}
-use Rattle.format.specs.declared.Refusal.{Refusal}
 use Rattle.format.specs.Prelude.{pick, each}
 use Rattle.format.specs.Put.{put}
 use Rattle.format.specs.Lists.{numbers_of}
@@ -38,7 +37,7 @@ asking f n =
       rest = let e : n ≡ n - 0 = omega arith in ap (λ (i : ℕ). per_function function_asks 0 (each f 0 i)) e;
     }
 
-first_stops : (o p : Option (ℕ × ℕ)) {r : Refusal} → question_of o ≡ Err r → question_of (and_then o p) ≡ Err r
+first_stops : (o p : Option (ℕ × ℕ)) {r : ℕ × ℕ} → question_of o ≡ Err r → question_of (and_then o p) ≡ Err r
 unfolding question_of and_then
 first_stops none p e = let z : ◌≡◌ {A = ℕ} 0 1 = cc in absurd (omega arith)
 first_stops (some x) p e = e
@@ -53,7 +52,7 @@ module _ {f : ℕ → Function} {n k : ℕ} (a : Asking f n k) where
   unfolding and_then
   answered h e = record { high = omega arith; rest = asked_here h ∙ rw (said_yes (function_asks k (f k)) e) refl }
 
-  pub stopped : {r : Refusal} → k < n → question_of (function_asks k (f k)) ≡ Err r → Err r ≡ question_of (per_function function_asks 0 (each f 0 n))
+  pub stopped : {r : ℕ × ℕ} → k < n → question_of (function_asks k (f k)) ≡ Err r → Err r ≡ question_of (per_function function_asks 0 (each f 0 n))
   stopped {r} h e =
       sym (ap question_of (asked_here h) ∙ first_stops (function_asks k (f k)) (per_function function_asks (k + 1) (each f (k + 1) (n - (k + 1)))) e)
 

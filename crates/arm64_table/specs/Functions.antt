@@ -2,11 +2,7 @@
 use Rattle.std.specs.Prelude.{List}
 use Rattle.arm64.specs.Lists.{Function}
 use Rattle.arm64_table.specs.declared.Functions.{Functions}
-use Rattle.arm64_table.specs.Tables.{first_in, AllFineIn}
+use Rattle.arm64_table.specs.Tables.{first_in}
 
 abbrev pub functions_of : Functions → List Function
 functions_of f = first_in f.lists f.count
-
--- every question of theirs is answered by yes
-abbrev pub AllFineOf : Functions → Type 0
-AllFineOf f = AllFineIn f.lists f.count

@@ -1,7 +1,6 @@
 -- A function's part of the table by its word and by its record's place, and what is known of the functions of the lists.
-use Rattle.std.specs.Prelude.{ℕ, ◌+◌, ◌<◌, ◌≤◌, List, [], ◌∷◌, eqb, length, Option}
+use Rattle.std.specs.Prelude.{ℕ, ◌+◌, ◌<◌, ◌≤◌, List, [], ◌∷◌, eqb, Option}
 use Rattle.std.specs.Option.{is_some}
-use Rattle.format.specs.declared.Counts.{Counts}
 use Rattle.format.specs.Prelude.{pick, each}
 use Rattle.format.specs.Constants.{image_reloc}
 use Rattle.format.specs.Lists.{Relocation, most_functions}
@@ -13,6 +12,13 @@ use Rattle.arm64_lists.specs.declared.Lists.{Lists}
 use Rattle.arm64_function.specs.Listed.{Listed, Fine}
 
 -- ---- one function
+
+-- the bytes of a row of .pdata, and the numbers of a relocation
+abbrev pub row_size : ℕ
+row_size = 8
+
+abbrev pub relocation_stride : ℕ
+relocation_stride = 5
 
 -- the relocations of a row at `place`: that of the function's start, and that of its record where there is no packed word
 unfoldable pub relocs_by : (place symbol : ℕ) → Option ℕ → List Relocation
@@ -26,11 +32,6 @@ reloc_count size = pick (eqb size 0) 1 2
 -- the marker of a function whose record stands from `at` to `past`
 unfoldable pub mark_by : (at past : ℕ) → ℕ
 mark_by at past = pick (eqb past at) no_record at
-
--- how many elements the lent lists have
-abbrev pub lent_in : (markers bytes relocations info : List ℕ) → Counts
-lent_in markers bytes relocations info =
-    record { places = length markers; bytes = length bytes; relocations = length relocations; sites = length info }
 
 -- ---- all functions
 

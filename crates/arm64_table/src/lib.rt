@@ -8,49 +8,35 @@ ghost use Rattle.format.specs.Leb.{little};
 ghost use Rattle.format.specs.Lists.{numbers_of, most_functions};
 ghost use Rattle.format.specs.Questions.{accepted, unless, fitting, per_function, room_in};
 ghost use Rattle.format.specs.Answers.{Writes};
+ghost use Rattle.format.specs.Coded.{numbered_at};
 ghost use Rattle.format.proofs.Asked.{question_of};
+ghost use Rattle.lists.specs.Lent.{room_of, WritesTo};
 ghost use Rattle.format.proofs.Wrote.{Wrote};
 ghost use Rattle.unwind.specs.Entries.{Exports};
 ghost use Rattle.arm64.specs.Writer.{function_asks, markers_from, rows_of, relocs_from, infos_of, arm64, arm64_answer};
-ghost use Rattle.arm64_table.specs.Tables.{relocs_by, reloc_count, mark_by, AllListed, lent_in};
-ghost use Rattle.arm64_table.specs.Lent.{room_of, WritesTo};
+ghost use Rattle.arm64_table.specs.Tables.{row_size, relocation_stride, relocs_by, reloc_count, mark_by, AllListed, AllFineIn};
 
 use arm64::fields;
 use arm64_function::{function_asks, info_size, packed_word, put_info};
 use arm64_lists::Lists;
-use format::{Counts, Refusal};
-use relocs::{number, relocation};
-use unwind::{Written, written_of};
-
-// The lists that are lent for what is written: markers, the rows of .pdata, their relocations, and the records of .xdata.
-#[derive(Drop)]
-pub struct Output<'a> {
-    pub markers: &'a mut [u64],
-    pub bytes: &'a mut [u8],
-    pub relocations: &'a mut [u64],
-    pub info: &'a mut [u8],
-}
-
-impl Output<'_> {
-    // How many elements the lists have.
-    fn lent(&self) -> Counts
-        ensures { result ≡ lent_in self.now.markers.now self.now.bytes.now self.now.relocations.now self.now.info.now }
-    {
-        Counts {
-            places: self.markers.len() as u64,
-            bytes: self.bytes.len() as u64,
-            relocations: self.relocations.len() as u64,
-            sites: self.info.len() as u64,
-        }
-    }
-}
+use format::{Counts, Question, Refusal};
+use lists::output::Output;
+use relocs::{RELOCATION_STRIDE, number, relocation};
+use unwind::Written;
 
 // ---- one function
 
-// Kept: the list and the place stand side by side here, as in each writer: the next one begins at the end that this one gives.
-// A row's eight bytes: the blank of the function's start, and its word.
+// Kept: the list and the place stand side by side here: a struct that lends the list would ask each contract to say that it is the same list still,
+// which a slice needs not say.
+// The bytes of a row of .pdata.
+const ROW: usize = 8;
+
+// Where the word stands in it.
+const WORD: u64 = 4;
+
+// A row's bytes: the blank of the function's start, and its word.
 fn put_row(out: &mut [u8], at: usize, word: u64) -> usize
-    requires { at + 8 ≤ length out.old }
+    requires { at + row_size ≤ length out.old }
     ensures { Wrote out.old out.new at result (little 4 0 ++ little 4 word) }
 {
     let a = leb::le(out, at, 4, 0);
@@ -59,7 +45,7 @@ fn put_row(out: &mut [u8], at: usize, word: u64) -> usize
 
 // The relocations of the row at `place`.
 fn put_row_relocs(out: &mut [u64], at: usize, place: u64, symbol: u64, word: Option<u64>) -> usize
-    requires { (at + 5 * length (relocs_by place symbol word) ≤ length out.old) × (place < 2 ^ 32) × (symbol < 2 ^ 32) }
+    requires { (at + relocation_stride * length (relocs_by place symbol word) ≤ length out.old) × (place < 2 ^ 32) × (symbol < 2 ^ 32) }
     ensures { Wrote out.old out.new at result (numbers_of (relocs_by place symbol word)) }
 {
     let a = relocation(out, at, place, symbol, relocs::IMAGE, 4, 0);
@@ -69,7 +55,7 @@ fn put_row_relocs(out: &mut [u64], at: usize, place: u64, symbol: u64, word: Opt
     relocation(
         out,
         a,
-        place + 4,
+        place + WORD,
         relocs::MARKER + symbol,
         relocs::IMAGE,
         4,
@@ -119,11 +105,11 @@ struct Functions<'a> {
 }
 
 impl Functions<'_> {
-    ghost use Rattle.arm64_table.specs.Functions.{functions_of, AllFineOf};
+    ghost use Rattle.arm64_table.specs.Functions.{functions_of};
 
     // 81 to 83 of each function: the position is 0.
     fn first_no(&self) -> Result<(), Refusal>
-        ensures { result ≡ question_of (per_function function_asks 0 (functions_of self.now)) }
+        ensures { numbered_at result ≡ question_of (per_function function_asks 0 (functions_of self.now)) }
     {
         for k in 0..self.count {
             function_asks(&self.lists, k)?;
@@ -131,16 +117,35 @@ impl Functions<'_> {
         Ok(())
     }
 
-    // ---- the results
+    // The questions of the functions, and the results.
+    fn answer(&self, to: &mut Output) -> Result<Option<Counts>, Refusal>
+        ensures { WritesTo (unless (per_function function_asks 0 (functions_of self.now)) (fitting (room_of to.old) (arm64 (functions_of self.now)))) (numbered_at result) to.old to.new }
+    {
+        self.first_no()?;
+        let all = Checked { functions: *self };
+        all.write(to)
+    }
+}
+
+// ---- the results
+
+// The functions of the lists, every question of which is answered by yes.
+#[derive(Clone, Copy)]
+struct Checked<'a> {
+    functions: Functions<'a>,
+    ghost fine: { AllFineIn functions.lists functions.count },
+}
+
+impl Checked<'_> {
+    ghost use Rattle.arm64_table.specs.Functions.{functions_of};
 
     fn sizes(&self) -> Needed
-        requires { AllFineOf self.now }
-        ensures { (result.info ≡ length (infos_of (functions_of self.now))) × (result.relocations ≡ length (relocs_from 0 (functions_of self.now))) × (result.relocations ≤ 2 * most_functions) }
+        ensures { (result.info ≡ length (infos_of (functions_of self.now.functions))) × (result.relocations ≡ length (relocs_from 0 (functions_of self.now.functions))) × (result.relocations ≤ 2 * most_functions) }
     {
         let mut info = 0;
         let mut relocations = 0;
-        for k in 0..self.count {
-            let size = info_size(&self.lists, k);
+        for k in 0..self.functions.count {
+            let size = info_size(&self.functions.lists, k);
             info += size;
             relocations += row_relocs(size);
         }
@@ -149,18 +154,18 @@ impl Functions<'_> {
 
     // The rows of the functions, and their relocations.
     fn put_rows(&self, bytes: &mut [u8], relocations: &mut [u64]) -> usize
-        requires { AllFineOf self.now × (8 * self.now.count ≤ length bytes.old) × (5 * length (relocs_from 0 (functions_of self.now)) ≤ length relocations.old) }
-        ensures { (bytes.new ≡ put bytes.old 0 (rows_of (functions_of self.now))) × (relocations.new ≡ put relocations.old 0 (numbers_of (relocs_from 0 (functions_of self.now)))) }
+        requires { (row_size * self.now.functions.count ≤ length bytes.old) × (relocation_stride * length (relocs_from 0 (functions_of self.now.functions)) ≤ length relocations.old) }
+        ensures { (bytes.new ≡ put bytes.old 0 (rows_of (functions_of self.now.functions))) × (relocations.new ≡ put relocations.old 0 (numbers_of (relocs_from 0 (functions_of self.now.functions)))) }
     {
         let mut to = 0;
-        for k in 0..self.count {
-            let word = packed_word(&self.lists, k);
-            put_row(bytes, 8 * k, word.unwrap_or(0));
+        for k in 0..self.functions.count {
+            let word = packed_word(&self.functions.lists, k);
+            put_row(bytes, ROW * k, word.unwrap_or(0));
             to = put_row_relocs(
                 relocations,
                 to,
-                (8 * k) as u64,
-                self.lists.functions[fields::FUNCTION_STRIDE * k],
+                (ROW * k) as u64,
+                self.functions.lists.functions[fields::FUNCTION_STRIDE * k],
                 word,
             );
         }
@@ -169,12 +174,12 @@ impl Functions<'_> {
 
     // The records of the functions, and where each stands.
     fn put_infos(&self, markers: &mut [u64], info: &mut [u8]) -> usize
-        requires { AllFineOf self.now × (self.now.count ≤ length markers.old) × (length (infos_of (functions_of self.now)) ≤ length info.old) }
-        ensures { (markers.new ≡ put markers.old 0 (markers_from 0 (functions_of self.now))) × (info.new ≡ put info.old 0 (infos_of (functions_of self.now))) }
+        requires { (self.now.functions.count ≤ length markers.old) × (length (infos_of (functions_of self.now.functions)) ≤ length info.old) }
+        ensures { (markers.new ≡ put markers.old 0 (markers_from 0 (functions_of self.now.functions))) × (info.new ≡ put info.old 0 (infos_of (functions_of self.now.functions))) }
     {
         let mut at = 0;
-        for k in 0..self.count {
-            let past = put_info(info, at, &self.lists, k);
+        for k in 0..self.functions.count {
+            let past = put_info(info, at, &self.functions.lists, k);
             number(markers, k, mark(at, past));
             at = past;
         }
@@ -183,14 +188,14 @@ impl Functions<'_> {
 
     // All results, where they have room.
     fn put_all(&self, needed: Needed, to: &mut Output) -> Result<Option<Counts>, Refusal>
-        requires { AllFineOf self.now × (needed.info ≡ length (infos_of (functions_of self.now))) × (needed.relocations ≡ length (relocs_from 0 (functions_of self.now))) × (self.now.count ≤ length to.old.markers.now) × (8 * self.now.count ≤ length to.old.bytes.now) × (5 * needed.relocations ≤ length to.old.relocations.now) × (needed.info ≤ length to.old.info.now) }
-        ensures { WritesTo (accepted (arm64 (functions_of self.now))) result to.old to.new }
+        requires { (needed.info ≡ length (infos_of (functions_of self.now.functions))) × (needed.relocations ≡ length (relocs_from 0 (functions_of self.now.functions))) × (self.now.functions.count ≤ length to.old.places.now) × (row_size * self.now.functions.count ≤ length to.old.bytes.now) × (relocation_stride * needed.relocations ≤ length to.old.relocations.now) × (needed.info ≤ length to.old.sites.now) }
+        ensures { WritesTo (accepted (arm64 (functions_of self.now.functions))) (numbered_at result) to.old to.new }
     {
         self.put_rows(to.bytes, to.relocations);
-        self.put_infos(to.markers, to.info);
+        self.put_infos(to.places, to.sites);
         Ok(Some(Counts {
-            places: self.count as u64,
-            bytes: (8 * self.count) as u64,
+            places: self.functions.count as u64,
+            bytes: (ROW * self.functions.count) as u64,
             relocations: needed.relocations as u64,
             sites: needed.info as u64,
         }))
@@ -198,26 +203,17 @@ impl Functions<'_> {
 
     // The results, where they have room.
     fn write(&self, to: &mut Output) -> Result<Option<Counts>, Refusal>
-        requires { AllFineOf self.now }
-        ensures { WritesTo (fitting (room_of to.old) (arm64 (functions_of self.now))) result to.old to.new }
+        ensures { WritesTo (fitting (room_of to.old) (arm64 (functions_of self.now.functions))) (numbered_at result) to.old to.new }
     {
         let needed = self.sizes();
         let counts = Counts {
-            places: self.count as u64,
-            bytes: (8 * self.count) as u64,
-            relocations: (5 * needed.relocations) as u64,
+            places: self.functions.count as u64,
+            bytes: (ROW * self.functions.count) as u64,
+            relocations: (RELOCATION_STRIDE * needed.relocations) as u64,
             sites: needed.info as u64,
         };
         lists::room(counts, to.lent())?;
         self.put_all(needed, to)
-    }
-
-    // The questions of the functions, and the results.
-    fn answer(&self, to: &mut Output) -> Result<Option<Counts>, Refusal>
-        ensures { WritesTo (unless (per_function function_asks 0 (functions_of self.now)) (fitting (room_of to.old) (arm64 (functions_of self.now)))) result to.old to.new }
-    {
-        self.first_no()?;
-        self.write(to)
     }
 }
 
@@ -235,7 +231,7 @@ pub fn table(
     relocations: &mut [u64],
     info: &mut [u8],
 ) -> Result<Option<Counts>, Refusal>
-    ensures { Writes (arm64_answer functions.now epilogues.now codes.now (room_in markers.old bytes.old relocations.old info.old)) result markers.old markers.new bytes.old bytes.new relocations.old relocations.new info.old info.new }
+    ensures { Writes (arm64_answer functions.now epilogues.now codes.now (room_in markers.old bytes.old relocations.old info.old)) (numbered_at result) markers.old markers.new bytes.old bytes.new relocations.old relocations.new info.old info.new }
 {
     let n = functions.len() / fields::FUNCTION_STRIDE;
     if n == 0 {
@@ -248,15 +244,15 @@ pub fn table(
     };
     if !lists.ok() {
         return Err(Refusal {
-            number: 13,
+            question: Question::Lists,
             position: 0,
         });
     }
     let mut to = Output {
-        markers,
+        places: markers,
         bytes,
         relocations,
-        info,
+        sites: info,
     };
     Functions { lists, count: n }.answer(&mut to)
 }
@@ -275,7 +271,7 @@ pub extern "C" fn unwind_arm64(
 ) -> Written
     ensures { Exports (arm64_answer functions.now epilogues.now codes.now (room_in markers.old bytes.old relocations.old info.old)) result markers.old markers.new bytes.old bytes.new relocations.old relocations.new info.old info.new }
 {
-    written_of(table(
+    Written::from(table(
         functions,
         epilogues,
         codes,

@@ -3,10 +3,12 @@
 #![tactic(auto)]
 
 ghost use Rattle.std.specs.Prelude.{◌≡◌};
+ghost use Rattle.format.specs.Coded.{numbered};
 ghost use Rattle.format.specs.Shortest.{every_short};
 ghost use Rattle.format.specs.CallSiteReader.{covers, head_ok, site_at, sites_short, marked_site};
 ghost use Rattle.call_sites.specs.Reads.{landing_of, EntrySays, TableThere, TableSays, first_covering, answer_of, marked_of};
 
+use format::Question;
 use numbers::encodings;
 use operations::fields::{Position, read_uleb};
 
@@ -42,15 +44,16 @@ fn covers(entry: Entry, offset: u64) -> bool
 // ---- a table
 
 // The entries of a table, all read, and the first of them that covers the offset.
-fn search(s: &[u8], offset: u64) -> Result<Option<Entry>, u64>
-    ensures { result ≡ first_covering offset s.now }
+fn search(s: &[u8], offset: u64) -> Result<Option<Entry>, Question>
+    ensures { numbered result ≡ first_covering offset s.now }
 {
     let mut at = Position::START;
     let mut found = None;
-    // Kept: a while, since what was read says where the next stands; the position is the cursor.
+    // Kept: a `while`. An iterator whose last item may be no entry would have these lines in its `next`, and a test of each item here besides;
+    // no other loop goes over a table's entries.
     while at.at < s.len() {
         let Some((entry, past)) = entry_at(s, at) else {
-            return Err(72);
+            return Err(Question::CallSites);
         };
         found = found.or(covers(entry, offset).then_some(entry));
         at = past;
@@ -106,7 +109,7 @@ fn every_short(s: &[u8]) -> bool
     ensures { result ≡ every_short s.now }
 {
     let mut at = Position::START;
-    // Kept: a while, since what was read says where the next stands; the position is the cursor.
+    // Kept: a `while`, as in `search`: no other loop goes over numbers one by one.
     while at.at < s.len() {
         let Some((_, past)) = read_uleb(s, at) else {
             return false;
@@ -162,12 +165,12 @@ impl Site {
 }
 
 // The answer in C's form. A refusal has no mark.
-fn answered(read: Result<Option<Entry>, u64>, shortest: bool) -> Site
-    ensures { marked_of result ≡ answer_of read shortest }
+fn answered(read: Result<Option<Entry>, Question>, shortest: bool) -> Site
+    ensures { marked_of result ≡ answer_of (numbered read) shortest }
 {
     let found = match read {
-        Err(number) => return Site {
-            number,
+        Err(question) => return Site {
+            number: question.number(),
             ..Site::NONE
         },
         Ok(found) => found,
@@ -196,7 +199,7 @@ pub extern "C" fn unwind_call_site(sites: &[u8], place: u64, offset: u64) -> Sit
     ensures { marked_of result ≡ marked_site (site_at sites.now place offset) (sites_short sites.now place) }
 {
     let Some(table) = table_at(sites, place) else {
-        return answered(Err(71), false);
+        return answered(Err(Question::CallSiteTable), false);
     };
     let read = search(&sites[table.at..table.past], offset);
     answered(read, table_short(sites, place, table))

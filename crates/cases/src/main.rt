@@ -7,6 +7,7 @@ ghost use Rattle.cases.specs.Total.{total};
 
 use format::{Counts, Refusal};
 use operations::fields::{Position, read_uleb};
+use relocs::RELOCATION_STRIDE;
 use std::io;
 use std::io::Read;
 
@@ -14,6 +15,9 @@ use std::io::Read;
 const NUMBER: u64 = 11936128518282651045;
 
 const BYTE: u8 = 165;
+
+// How many elements each of them has.
+const LENT: usize = 4000;
 
 // What a list turned out to be, or that it cannot be read.
 #[derive(Clone, Copy, PartialEq, Eq)]
@@ -28,10 +32,10 @@ enum Kind {
 // The buffers that are lent to the library.
 #[derive(Drop)]
 struct Buffers {
-    places: [u64; 4000],
-    bytes: [u8; 4000],
-    relocations: [u64; 4000],
-    sites: [u8; 4000],
+    places: [u64; LENT],
+    bytes: [u8; LENT],
+    relocations: [u64; LENT],
+    sites: [u8; LENT],
 }
 
 // How many lists of each kind there were.
@@ -72,20 +76,15 @@ fn decode(s: &[u8], numbers: &mut [u64]) -> Option<usize>
     ensures { IfSome result (λ k. k ≤ length numbers.new) }
 {
     let mut at = Position::START;
-    let mut k = 0;
-    // Kept: a while, since what was read says where the next stands; the position is the cursor.
-    while at.at < s.len() {
-        if numbers.len() <= k {
-            return None;
+    for k in 0..numbers.len() {
+        if s.len() <= at.at {
+            return Some(k);
         }
-        let Some((v, past)) = read_uleb(s, at) else {
-            return None;
-        };
+        let (v, past) = read_uleb(s, at)?;
         numbers[k] = v;
         at = past;
-        k += 1;
     }
-    Some(k)
+    (s.len() <= at.at).then_some(numbers.len())
 }
 
 // Element i of a list, or the other number behind its end.
@@ -94,8 +93,8 @@ fn element(list: &[u64], i: usize, other: u64) -> u64 {
 }
 
 // Whether a buffer holds these numbers, and behind them what it held before.
-fn same<T: Copy + Into<u64>>(found: &[T; 4000], list: &[u64], before: T) -> bool {
-    list.len() <= 4000
+fn same<T: Copy + Into<u64>>(found: &[T; LENT], list: &[u64], before: T) -> bool {
+    list.len() <= LENT
         && found
             .iter()
             .enumerate()
@@ -113,20 +112,21 @@ fn kind_of(said: Result<Option<Counts>, Refusal>) -> Kind {
 
 // The counts of the fixed results; none where the relocations' numbers are not five each.
 fn counts_of(answer: &[u64]) -> Option<Counts> {
-    let relocations = list(answer, 2).len() as u64;
-    if relocations % 5 != 0 {
+    let numbers = list(answer, 2).len();
+    if numbers % RELOCATION_STRIDE != 0 {
         return None;
     }
     Some(Counts {
         places: list(answer, 0).len() as u64,
         bytes: list(answer, 1).len() as u64,
-        relocations: relocations / 5,
+        relocations: (numbers / RELOCATION_STRIDE) as u64,
         sites: list(answer, 3).len() as u64,
     })
 }
 
-// The fixed answer: two numbers, and four results, of which only an acceptance has an element. Its number is not 0 in a refusal.
-fn outcome_of(answer: &[u64]) -> Option<Result<Option<Counts>, Refusal>> {
+// The fixed answer, a refusal by the question's number and the position. It is two numbers, and four results, of which only an
+// acceptance has an element. Its number is not 0 in a refusal.
+fn outcome_of(answer: &[u64]) -> Option<Result<Option<Counts>, (u64, u64)>> {
     let number = element(answer, 0, 0);
     if number == 0 && 6 < answer.len() {
         return Some(Ok(Some(counts_of(answer)?)));
@@ -137,10 +137,12 @@ fn outcome_of(answer: &[u64]) -> Option<Result<Option<Counts>, Refusal>> {
     if number == 0 {
         return Some(Ok(None));
     }
-    Some(Err(Refusal {
-        number,
-        position: element(answer, 1, 0),
-    }))
+    Some(Err((number, element(answer, 1, 0))))
+}
+
+// What the library said, a refusal by numbers.
+fn by_numbers(said: Result<Option<Counts>, Refusal>) -> Result<Option<Counts>, (u64, u64)> {
+    said.map_err(|r| (r.question.number(), r.position))
 }
 
 // Whether the library answers as the fixed answer says, with nothing stored past its results and nothing at all where it refuses. Says
@@ -153,7 +155,10 @@ fn compare(
     stored: &Buffers,
 ) -> io::Result<bool> {
     let compared = [
-        ("another outcome", outcome_of(answer) == Some(said)),
+        (
+            "another outcome",
+            outcome_of(answer) == Some(by_numbers(said)),
+        ),
         (
             "other places",
             same(&stored.places, list(answer, 0), NUMBER),
@@ -220,10 +225,10 @@ fn ask(numbers: &[u64], out: &mut Buffers) -> Result<Option<Counts>, Refusal> {
 
 fn replay(rt: &impl Print, index: u64, numbers: &[u64]) -> io::Result<Kind> {
     let mut out = Buffers {
-        places: [NUMBER; 4000],
-        bytes: [BYTE; 4000],
-        relocations: [NUMBER; 4000],
-        sites: [BYTE; 4000],
+        places: [NUMBER; LENT],
+        bytes: [BYTE; LENT],
+        relocations: [NUMBER; LENT],
+        sites: [BYTE; LENT],
     };
     let said = ask(numbers, &mut out);
     if compare(rt, index, behind(numbers, 6), said, &out)? {

@@ -2,19 +2,13 @@
 #![tactic(auto)]
 
 ghost use Rattle.std.specs.Prelude.{◌≡◌};
+ghost use Rattle.format.specs.Coded.{numbered_at};
 ghost use Rattle.format.specs.Answers.{Writes};
 ghost use Rattle.format.specs.Questions.{relaxed_table, given_of, room_in};
 ghost use Rattle.checked_back.specs.Together.{check_for, PassesBack};
 
-use format::{Counts, Refusal};
+use lists::output::WrittenAnd;
 use section_check::Checked;
-
-// What the writer answered, and what the check answered of what it wrote.
-#[derive(Clone, Copy)]
-pub struct WrittenAndChecked {
-    pub outcome: Result<Option<Counts>, Refusal>,
-    pub checked: Checked,
-}
 
 // `relaxed_table`, and then the check of exactly what was written, with the machine's word: where the list was accepted for ELF, every
 // function passes the row check and none is relaxed, the section passes. Where the writer refused, the check is handed nothing.
@@ -30,10 +24,10 @@ pub fn write_and_check(
     bytes: &mut [u8],
     relocations: &mut [u64],
     sites: &mut [u8],
-) -> WrittenAndChecked
-    ensures writes { Writes (relaxed_table format (given_of machine.now functions.now rows.now landings.now pairs.now) (room_in places.old bytes.old relocations.old sites.old)) result.outcome places.old places.new bytes.old bytes.new relocations.old relocations.new sites.old sites.new }
-    ensures checked_value { result.checked ≡ check_for machine.now result.outcome bytes.new }
-    ensures passes_back { PassesBack format (given_of machine.now functions.now rows.now landings.now pairs.now) result.outcome result.checked }
+) -> WrittenAnd<Checked>
+    ensures writes { Writes (relaxed_table format (given_of machine.now functions.now rows.now landings.now pairs.now) (room_in places.old bytes.old relocations.old sites.old)) (numbered_at result.outcome) places.old places.new bytes.old bytes.new relocations.old relocations.new sites.old sites.new }
+    ensures checked_value { result.answer ≡ check_for machine.now (numbered_at result.outcome) bytes.new }
+    ensures passes_back { PassesBack format (given_of machine.now functions.now rows.now landings.now pairs.now) (numbered_at result.outcome) result.answer }
 {
     let outcome = unwind::relaxed_table(
         machine,
@@ -50,6 +44,6 @@ pub fn write_and_check(
     let n = unwind::bytes_in(outcome);
     let word = unwind::word_in(machine);
     let written = &bytes[..];
-    let checked = section_check::unwind_check_section(&written[..n], word);
-    WrittenAndChecked { outcome, checked }
+    let answer = section_check::unwind_check_section(&written[..n], word);
+    WrittenAnd { outcome, answer }
 }

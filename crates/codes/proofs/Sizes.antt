@@ -1,10 +1,15 @@
 -- How long a code's nodes are: 2, 4 or 6 bytes, and so how many slots some codes have and how long they and their record are.
 use mathlib.Core.Path.{◌≡◌, refl}
-use Prim.Native.Nat.{ℕ, ◌+◌, ◌*◌, ◌/◌, ◌%◌, ◌≤◌}
+use Prim.Native.Nat.{ℕ, ◌+◌, ◌*◌, ◌/◌, ◌%◌, ◌^◌, ◌≤◌, ◌<◌}
 use native.Mathlib.Omega.{arith}
 use mathlib.Core.Bool.{Bool, true, false}
 use mathlib.Core.List.{List, [], ◌∷◌}
 use lib.Dec.{leb, ltb}
+use lib.IntN.{ℤ, pos, negsuc, nat_abs}
+use lib.Signed.{mag}
+use Rattle.std.specs.Prelude.{Result, Ok, Err}
+use Rattle.std.specs.Result.{OkIff, result_unwrap_or}
+use Rattle.std.specs.Int.{FitsUnsignedBits}
 use lib.ListN.{length, length-append, replicate, length-replicate}
 use Rattle.format.specs.Prelude.{pick}
 use Rattle.format.specs.declared.Seh.{Seh}
@@ -12,6 +17,14 @@ use Rattle.format.specs.declared.Seh.TheVariants.{Push, Alloc, Frame, Save}
 use Rattle.format.specs.X64.{node, size64, code_bytes, slots, reversed, info_bytes}
 use Rattle.codes.specs.Codes.{is_near, alloc_size, save_size}
 use Rattle.codes.proofs.Forms.{alloc_length, save-length}
+
+-- a size by the library's conversion
+pub converted : {E : Type 0} (z : ℤ) (r : Result ℕ E) → mag z < 2 ^ 63 → OkIff r (FitsUnsignedBits 64 z) (nat_abs z) → result_unwrap_or r 0 ≡ size64 z
+unfolding size64
+converted (pos n) (Ok m) k h = h.1
+converted (pos n) (Err e) k h = absurd (h (omega arith))
+converted (negsuc n) (Ok m) k h = absurd h.0
+converted (negsuc n) (Err e) k h = refl
 
 -- 2, 4 or 6
 pub record Few (n : ℕ) : Type 0 where

@@ -8,21 +8,19 @@ ghost use Rattle.format.specs.Lists.{count};
 ghost use Rattle.format.proofs.Wrote.{Wrote};
 ghost use Rattle.format.specs.Leb.{little};
 ghost use Rattle.format.specs.X64.{size64, register_in, alloc_no, save_no, operand_no, code_no, frame_ok, frame_no, frame_or, node, alloc_bytes, slot_bytes, save_bytes, code_bytes};
+ghost use Rattle.format.specs.Coded.{numbered};
 ghost use Rattle.codes.specs.Codes.{Holds, yes_or_no, is_near, alloc_size, save_size};
 
-use format::Seh;
+use format::{Question, Seh};
 use numbers::uwop;
 
-// ---- the questions of a code: the number of a no is the error
+// ---- the questions of a code: the error is the one that was answered by no
 
 // A size or an offset without its sign; 0 where it is negative.
 fn size(z: i64) -> u64
     ensures { result ≡ size64 z }
 {
-    if z < 0 {
-        return 0;
-    }
-    z as u64
+    u64::try_from(z).unwrap_or(0)
 }
 
 fn register_in(code: Seh) -> u64
@@ -37,37 +35,37 @@ fn register_in(code: Seh) -> u64
 }
 
 // 36 and 37.
-fn alloc_no(z: i64) -> Result<(), u64>
-    ensures { result ≡ yes_or_no (alloc_no z) }
+fn alloc_no(z: i64) -> Result<(), Question>
+    ensures { numbered result ≡ yes_or_no (alloc_no z) }
 {
     let n = size(z);
     if n == 0 {
-        return Err(36);
+        return Err(Question::Allocation);
     }
     if n % 8 != 0 {
-        return Err(36);
+        return Err(Question::Allocation);
     }
     if n < 4294967296 {
         return Ok(());
     }
-    Err(37)
+    Err(Question::AllocationSize)
 }
 
 // 38 and 39.
-fn save_no(z: i64) -> Result<(), u64>
-    ensures { result ≡ yes_or_no (save_no z) }
+fn save_no(z: i64) -> Result<(), Question>
+    ensures { numbered result ≡ yes_or_no (save_no z) }
 {
     if z < 0 {
-        return Err(38);
+        return Err(Question::SaveBelow);
     }
     if size(z) < 4294967296 {
         return Ok(());
     }
-    Err(39)
+    Err(Question::SaveSize)
 }
 
-fn operand_no(code: Seh) -> Result<(), u64>
-    ensures { result ≡ yes_or_no (operand_no code) }
+fn operand_no(code: Seh) -> Result<(), Question>
+    ensures { numbered result ≡ yes_or_no (operand_no code) }
 {
     match code {
         Seh::Push(_) => Ok(()),
@@ -78,38 +76,38 @@ fn operand_no(code: Seh) -> Result<(), u64>
 }
 
 // 34 to 39.
-pub fn code_no(at: u64, code: Seh) -> Result<(), u64>
-    ensures { result ≡ yes_or_no (code_no (at, code)) }
+pub fn code_no(at: u64, code: Seh) -> Result<(), Question>
+    ensures { numbered result ≡ yes_or_no (code_no (at, code)) }
 {
     if 15 < register_in(code) {
-        return Err(34);
+        return Err(Question::Registers);
     }
     if 255 < at {
-        return Err(35);
+        return Err(Question::CodeOffset);
     }
     operand_no(code)
 }
 
 // 41 of a frame code's offset.
-fn frame_offset_no(z: i64) -> Result<(), u64>
-    ensures { result ≡ yes_or_no (pick (frame_ok z) none (some 41)) }
+fn frame_offset_no(z: i64) -> Result<(), Question>
+    ensures { numbered result ≡ yes_or_no (pick (frame_ok z) none (some 41)) }
 {
     if z < 0 {
-        return Err(41);
+        return Err(Question::FrameOffset);
     }
     let n = size(z);
     if 240 < n {
-        return Err(41);
+        return Err(Question::FrameOffset);
     }
     if n % 16 != 0 {
-        return Err(41);
+        return Err(Question::FrameOffset);
     }
     Ok(())
 }
 
 // 41.
-pub fn frame_no(code: Seh) -> Result<(), u64>
-    ensures { result ≡ yes_or_no (frame_no code) }
+pub fn frame_no(code: Seh) -> Result<(), Question>
+    ensures { numbered result ≡ yes_or_no (frame_no code) }
 {
     match code {
         Seh::Push(_) => Ok(()),

@@ -8,6 +8,7 @@ use mathlib.Core.List.{List}
 use Rattle.format.specs.Prelude.{pick}
 use Rattle.format.proofs.Choice.{either}
 use Rattle.format.specs.Lists.{field, function_stride, mark, sum_of}
+use Rattle.lists.specs.Parts.{where_labelled}
 use Rattle.dwarf.specs.Tables.{labelled_rows}
 
 -- at function k of n, the sum so far and that of what is left are the whole
@@ -51,6 +52,6 @@ picked_low true n = omega arith
 picked_low false n = omega arith
 
 pub labelled_few : (fs : List ℕ) (at n : ℕ) → sum_of (labelled_rows fs) at n ≤ sum_of (λ k. field function_stride fs k 3) at n
-unfolding sum_of labelled_rows
+unfolding sum_of where_labelled
 labelled_few fs at zero = omega arith
 labelled_few fs at (suc n) = omega (arith, picked_low (mark (field function_stride fs at 14)) (field function_stride fs at 3), labelled_few fs (suc at) n)

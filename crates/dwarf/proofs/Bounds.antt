@@ -17,7 +17,7 @@ use Rattle.format.specs.Writer.{is_debug}
 use Rattle.format.proofs.EntryBack.{padding_small}
 use Rattle.format.proofs.Leading.{others_count}
 use Rattle.format.proofs.Parts.{Spot, cie_of, relocs_for, place_of, part_relocs}
-use Rattle.records.proofs.CallSites.{uleb_most}
+use Rattle.headers.proofs.Lengths.{uleb_most}
 use Rattle.records.proofs.LabelLaws.{steps_most}
 
 -- ---- relocations
@@ -28,7 +28,7 @@ kind_few word place plain = omega arith
 kind_few word place personal = omega arith
 kind_few word place (named e s l) = omega arith
 
-pub header_few : (debug : Bool) (m : Machine) (at : ℕ) (k : Key) → length (header_relocs debug m at k) ≤ 1
+header_few : (debug : Bool) (m : Machine) (at : ℕ) (k : Key) → length (header_relocs debug m at k) ≤ 1
 unfolding header_relocs pick
 header_few true m at k = omega arith
 header_few false m at k = kind_few m.word _ k.kind
@@ -68,17 +68,12 @@ unfolding labelled
 labelled_more none a b h = omega arith
 labelled_more (some r) a b h = h
 
-pub labelled_low : (o : Option Relaxed) (n : ℕ) → labelled o n ≤ n
-unfolding labelled
-labelled_low none n = omega arith
-labelled_low (some r) n = omega arith
-
 rows_few : (w place : ℕ) (xs : List RowAt) (o : Option Relaxed) → length (row_relocs w place xs o) ≤ 2 * labelled o (length xs)
 unfolding row_relocs labelled
 rows_few w place xs none = omega arith
 rows_few w place xs (some r) = steps_most w place 0 r.pairs xs
 
-pub record_few : (debug : Bool) (m : Machine) (at cie table : ℕ) (f : Function) → length (record_relocs debug m at cie table f) ≤ 4 + 2 * labelled f.relaxed (length f.rows)
+record_few : (debug : Bool) (m : Machine) (at cie table : ℕ) (f : Function) → length (record_relocs debug m at cie table f) ≤ 4 + 2 * labelled f.relaxed (length f.rows)
 unfolding record_relocs pick
 record_few true m at cie table f =
     let ops : ℕ = at + 4 + length (record_fields true m.word (at + 4 - cie) f) in

@@ -26,6 +26,7 @@ use Rattle.lists.specs.Extents.{marked, labels_at, extent_at, meant_labels, mean
 use Rattle.lists.specs.Parts.{outline_ok_at}
 use Rattle.header_keys.specs.Inputs.{Inputs, count_in, extent_in, function_in}
 use Rattle.dwarf.specs.Parts.{align_in, earlier_in, bytes_in, relocs_in, sites_in, part_behind, parts_to}
+use Rattle.lists.specs.Parts.{where_labelled}
 use Rattle.dwarf.specs.Tables.{labelled_rows, most_in}
 use Rattle.dwarf.specs.Writable.{Writable, Cleared}
 use Rattle.dwarf.specs.Surveys.{PassedAt}
@@ -65,7 +66,7 @@ module _ (x : Inputs) (k : ℕ) where
   landings_at = rw each-length (taken_counts x.section (extent_at x.functions k)).1
 
   labelled_at : labelled (function_in x k).relaxed (length (function_in x k).rows) ≡ labelled_rows x.functions k
-  unfolding labelled_rows extent_at labels_at marked
+  unfolding where_labelled extent_at labels_at marked
   labelled_at =
       let f : ℕ → ℕ = λ j. field function_stride x.functions k j in
       labelled_taken x.section (extent_at x.functions k) x.rows x.landings x.pairs

@@ -23,4 +23,3 @@ pub mod Outcomes
 pub mod Whole
 pub mod Working
 pub mod Surveying
-pub mod Lent

@@ -11,10 +11,11 @@ use lib.ListN.{length}
 use Rattle.format.specs.Prelude.{pick, each}
 use Rattle.format.specs.declared.Section.{Section}
 use Rattle.format.specs.declared.Counts.{Counts}
-use Rattle.std.specs.Prelude.{Some, Ok, Err}
-use Rattle.format.specs.Coded.{refusal}
-use Rattle.format.proofs.Asked.{Asked, question_of, said_yes}
+use Rattle.std.specs.Prelude.{Some, Ok, Err, is_err}
+use Rattle.std.specs.Prelude as code
 use Rattle.format.specs.declared.Refusal.{Refusal}
+use Rattle.format.specs.Coded.{numbered_at}
+use Rattle.format.proofs.Asked.{Asked, question_of, said_yes}
 use Rattle.format.specs.Machine.{machine_of, machine_ok}
 use Rattle.format.specs.Lists.{numbers_of, functions_of, lists_ok}
 use Rattle.format.specs.Questions.{Question, ask, and_then, per_function, dwarf_asks, Given, Room, room_in, Answer, refused, accepted, unless, fitting, room_asks, given_asks, given_functions, dwarf_answer, dwarf_given}
@@ -34,19 +35,23 @@ use Rattle.dwarf.proofs.Fronts.{places_length, functions_each, written_parts}
 -- ---- refusals
 
 pub unchanged : (n k : ℕ) (places bytes relocs sites : List ℕ)
-    → Writes (refused n k) (Err (refusal n k)) places places bytes bytes relocs relocs sites sites
+    → Writes (refused n k) (Err (n, k)) places places bytes bytes relocs relocs sites sites
 unfolding outcome_of afterwards
 unchanged n k places bytes relocs sites = record { outcome = refl; placed = refl; stored = refl; related = refl; sited = refl }
 
 -- a question that says no decides
-pub no_decides : (o : Question) (a : Answer) {r : Refusal} → question_of o ≡ Err r → unless o a ≡ refused r.number r.position
+pub no_decides : (o : Question) (a : Answer) {r : ℕ × ℕ} → question_of o ≡ Err r → unless o a ≡ refused r.0 r.1
 unfolding question_of unless
 no_decides none a e = let z : ◌≡◌ {A = ℕ} 0 1 = cc in absurd (omega arith)
 no_decides (some x) a {r} e =
-    let h : r ≡ refusal x.0 x.1 = cc in
+    let h : r ≡ x = cc in
     rw h refl
 
 -- ---- room
+
+pub no_error : (q : code.Result Unit Refusal) → is_err q ≡ false → numbered_at q ≡ Ok tt
+no_error (Ok u) e = refl
+no_error (Err r) e = let z : ◌≡◌ {A = ℕ} 0 1 = cc in absurd (omega arith)
 
 module _ (x : Inputs) {t : Table} (e : t ≡ totals_in (parts_to x (count_in x))) (places bytes relocs sites : List ℕ) where
   abbrev lent : Table
@@ -60,9 +65,9 @@ module _ (x : Inputs) {t : Table} (e : t ≡ totals_in (parts_to x (count_in x))
   answer = fitting (room_in places bytes relocs sites) (written_in (parts_to x (count_in x)))
 
   module _ {q : Asked} (k : q ≡ question_of (room_for (counts_of (count_in x) t) (counts_of (length places) lent))) where
-    pub refuses : {r : Refusal} → q ≡ Err r → Writes answer (Err r) places places bytes bytes relocs relocs sites sites
+    pub refuses : {r : ℕ × ℕ} → q ≡ Err r → Writes answer (Err r) places places bytes bytes relocs relocs sites sites
     unfolding fitting
-    refuses {r} n = rw (no_decides _ (accepted (written_in (parts_to x (count_in x)))) (sym (ap question_of room_is) ∙ (sym k ∙ n))) (unchanged r.number r.position places bytes relocs sites)
+    refuses {r} n = rw (no_decides _ (accepted (written_in (parts_to x (count_in x)))) (sym (ap question_of room_is) ∙ (sym k ∙ n))) (unchanged r.0 r.1 places bytes relocs sites)
 
 -- a yes to t is room for what t covers
 module _ (x : Inputs) {t : Table} (places bytes relocs sites : List ℕ) {q : Asked}
@@ -148,7 +153,7 @@ module _ (x : Inputs) where
 
     module _ (l : lists_ok x.functions x.rows x.landings x.pairs ≡ true) {q : Asked}
         (k : q ≡ question_of (per_function (dwarf_asks x.section x.machine.word) 0 (each (asked_in x) 0 (count_in x)))) where
-      pub no_function : {r : Refusal} → q ≡ Err r → listed ≡ refused r.number r.position
+      pub no_function : {r : ℕ × ℕ} → q ≡ Err r → listed ≡ refused r.0 r.1
       unfolding listed_answer dwarf_answer ask unless pick
       no_function n = rw (l, asks_are) (no_decides _ _ (sym k ∙ n))
 

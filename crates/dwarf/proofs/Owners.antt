@@ -10,6 +10,7 @@ use Rattle.format.specs.Headers.{Key, key_of, same_key}
 use Rattle.format.specs.Writer.{place_in}
 use Rattle.format.proofs.Choice.{pick_yes, pick_no, tested}
 use Rattle.owners.specs.Owners.{first_from, owner, key_at}
+use Rattle.owners.specs.Chains.{Owned}
 use Rattle.header_keys.specs.Inputs.{Inputs, function_in, extent_in}
 use Rattle.dwarf.specs.Parts.{places_in, seen_from, earlier_in, parts_to}
 use Rattle.dwarf.proofs.Fronts.{places_length}
@@ -80,3 +81,16 @@ module _ (x : Inputs) (k : ℕ) where
       some_before (λ j. key_of x.machine (function_in x j)) (key_of x.machine (function_in x k)) 0 (places_in (parts_to x k))
       (omega (arith, owns, places_length x k))
       ∙ ap (λ (i : ℕ). some (get_or (places_in (parts_to x k)) i 0)) (omega (arith, owns))
+
+-- ---- an owner that was looked up
+
+pub looked : {x : Inputs} (k : ℕ) {i : ℕ} {owners : List ℕ} → i ≡ get_or owners k 0 → Owned x (k + 1) owners → i ≡ owner x k
+looked k e o = e ∙ o.each_one k (omega arith)
+
+-- by whether it is the function itself
+module _ (x : Inputs) {k i : ℕ} (e : i ≡ owner x k) where
+  pub own_looked : i ≡ k → owner x k ≡ k
+  own_looked h = sym e ∙ h
+
+  pub found_looked : (i ≡ k → ⊥) → owner x k < k
+  found_looked h = omega (arith, e, h, owner_bound x k)

@@ -21,10 +21,9 @@ use Rattle.dwarf.specs.declared.Table.{Table}
 use Rattle.header_keys.specs.Inputs.{Inputs, count_in, extent_in}
 use Rattle.dwarf.specs.Parts.{align_in, bytes_in, relocs_in, sites_in, parts_to}
 use Rattle.dwarf.specs.Pieces.{part_in}
-use Rattle.dwarf.specs.Tables.{nothing, totals_in, grown_by, Small, SizeReady}
+use Rattle.dwarf.specs.Tables.{nothing, totals_in, grown_by, behind_header, Small, SizeReady}
 use Rattle.dwarf.specs.Writable.{Cleared, Next}
-use Rattle.dwarf.proofs.Alignment.{align_ok}
-use Rattle.dwarf.proofs.Totals.{sized_next}
+use Rattle.dwarf.proofs.Totals.{headed_size, headed_next, found_next}
 
 -- ---- a function's rows
 
@@ -52,25 +51,31 @@ module _ {x : Inputs} {k n : ℕ} {t : Table} (c : Next x k n t) where
     sites = omega (arith, c.writable.sites_few);
   })
 
-  module _ {i align : ℕ} {debug : Bool} {e : Extent} (o : i ≡ owner x k) (d : debug ≡ is_debug x.section)
-      (a : align ≡ align_for x.section x.machine.word (eqb (k + 1) n)) (q : e ≡ extent_in x k) where
-    abbrev after : Table
-    after = grown_by t (part_in (eqb i k) debug x.machine align t.bytes 0 t.sites e x.rows x.landings x.pairs)
+  module _ {align : ℕ} {debug : Bool} {e : Extent} (d : debug ≡ is_debug x.section) (a : align ≡ align_for x.section x.machine.word (eqb (k + 1) n))
+      (q : e ≡ extent_in x k) where
+    abbrev after : Table → Table
+    after u = grown_by u (part_in debug x.machine align u.bytes 0 u.sites e x.rows x.landings x.pairs)
 
-    grown_is : after ≡ totals_in (parts_to x (k + 1))
-    grown_is = rw (o, d, align_is a, q) (sized_next x k t c.behind)
+    module _ (u : Table) (h : after u ≡ totals_in (parts_to x (k + 1))) where
+      after_small : Small (after u)
+      after_small = rw h small_next
 
-    pub size_ready : SizeReady (eqb i k) debug x.machine align e t x.rows x.landings x.pairs
-    size_ready = record {
-      sound = rw q c.writable.sound;
-      aligned = rw a (align_ok x.section x.machine c.writable.sound.machine _);
-      landings_ready = rw q c.writable.landings_ready;
-      pairs_ready = rw q c.writable.pairs_ready;
-      small = rw grown_is small_next;
-    }
+      pub size_ready : SizeReady debug x.machine align e u x.rows x.landings x.pairs
+      size_ready = record { landings_ready = rw q c.writable.landings_ready; pairs_ready = rw q c.writable.pairs_ready; small = after_small }
 
-    pub size_done : {r : Table} → r ≡ after → r ≡ totals_in (parts_to x (k + 1))
-    size_done h = h ∙ grown_is
+      pub low : Small u
+      unfolding grown_by
+      low = record {
+        bytes = omega (arith, after_small.bytes);
+        relocations = omega (arith, after_small.relocations);
+        sites = omega (arith, after_small.sites);
+      }
+
+    pub own_next : owner x k ≡ k → after (behind_header debug x.machine align e t x.rows) ≡ totals_in (parts_to x (k + 1))
+    own_next o = headed_size debug x.machine align e t x.rows x.landings x.pairs ∙ rw (d, align_is a, q) (headed_next x k t c.behind o)
+
+    pub other_next : owner x k < k → after t ≡ totals_in (parts_to x (k + 1))
+    other_next o = rw (d, align_is a, q) (found_next x k t c.behind o)
 
 -- ---- all of them
 

@@ -1,26 +1,22 @@
 -- The writing pass: what each function stores behind those in front of it.
-use mathlib.Core.Path.{◌≡◌, refl, sym, ◌∙◌}
+use mathlib.Core.Path.{◌≡◌, refl, ◌∙◌}
 use Prim.Native.Nat.{ℕ, zero, suc, ◌+◌, ◌≤◌, ◌<◌}
 use native.Mathlib.Omega.{arith}
 use native.Mathlib.Numerals.{add-one}
-use mathlib.Core.Bool.{true, false}
 use mathlib.Core.List.{List, [], ◌∷◌, ◌++◌}
-use borrow.Author.Tests.{eq-eqb, ne_eqb}
 use lib.ListN.{length, get_or, set, length-set, get_or-append}
 use lib.Seq.{get_or-append-add, get_or-set_same, get_or-set_other}
-use Rattle.format.specs.Prelude.{pick}
 use Rattle.format.specs.Put.{put}
 use Rattle.format.specs.Lists.{numbers_of}
-use Rattle.format.specs.Writer.{Part, is_debug, joined}
+use Rattle.format.specs.Writer.{Part, joined}
 use Rattle.format.proofs.Choice.{either}
 use Rattle.format.proofs.PutLaws.{◌then◌, idle, kept}
 use Rattle.owners.specs.Owners.{owner}
 use Rattle.dwarf.specs.declared.Table.{Table}
-use Rattle.dwarf.specs.declared.Chosen.{Chosen}
-use Rattle.header_keys.specs.Inputs.{Inputs, extent_in}
-use Rattle.dwarf.specs.Parts.{align_in, places_in, bytes_in, relocs_in, sites_in, part_behind, parts_to}
-use Rattle.dwarf.specs.Pieces.{part_in}
-use Rattle.dwarf.specs.Tables.{nothing, totals_in, chosen_by, Added, Written, Holds}
+use Rattle.header_keys.specs.Inputs.{Inputs}
+use Rattle.dwarf.specs.Parts.{places_in, bytes_in, relocs_in, sites_in, part_behind, parts_to}
+use Rattle.dwarf.specs.Pieces.{part_in, headed_in}
+use Rattle.dwarf.specs.Tables.{nothing, totals_in, Added, Written, Holds}
 use Rattle.format.proofs.ListLaws.{numbers_length, numbers_append}
 use Rattle.dwarf.proofs.Fronts.{bytes_next, relocs_next, sites_next, places_next, places_length, bytes_grow, relocs_grow, sites_grow}
 use Rattle.dwarf.proofs.Owners.{owner_bound}
@@ -49,12 +45,12 @@ put-read xs p (y ∷ ys) (suc j) l h =
 -- a header stands in front of what is behind it
 place_near : (x : Inputs) (k : ℕ) → ((j : ℕ) → j < k → get_or (places_in (parts_to x k)) j 0 ≤ length (bytes_in (parts_to x k)))
     → (part_behind x k (parts_to x k)).place ≤ length (bytes_in (parts_to x k))
-unfolding part_in
+unfolding part_in headed_in
 place_near x k h =
     let o : ℕ = owner x k in
     either k o (λ l. rw (own_part x k (omega (arith, owner_bound x k))) (omega arith)) (λ l. rw (found_part x k l) (h o l))
 
-places_below : (x : Inputs) (k j : ℕ) → j < k → get_or (places_in (parts_to x k)) j 0 ≤ length (bytes_in (parts_to x k))
+pub places_below : (x : Inputs) (k j : ℕ) → j < k → get_or (places_in (parts_to x k)) j 0 ≤ length (bytes_in (parts_to x k))
 places_below x zero j h = absurd (omega arith)
 places_below x (suc k) j h =
     let more : length (bytes_in (parts_to x k)) ≤ length (bytes_in (parts_to x (suc k))) = bytes_grow x k (suc k) (omega arith) in
@@ -65,42 +61,6 @@ places_below x (suc k) j h =
     (λ l.
     let e : j < length (places_in (parts_to x k)) = omega (arith, places_length x k) in
     rw (places_next x k, get_or-append) (omega (arith, places_below x k j l)))
-
-module _ {i o k : ℕ} (e : i ≡ o) (at : ℕ) (places : List ℕ) where
-  pub chosen_own : i ≡ k → record { own = true; cie = at } ≡ chosen_by o k at places
-  unfolding chosen_by pick
-  chosen_own h = rw (eq-eqb o k (sym e ∙ h))
-
-  pub chosen_other : (i ≡ k → ⊥) → record { own = false; cie = get_or places i 0 } ≡ chosen_by o k at places
-  unfolding chosen_by pick
-  chosen_other h = rw (e, ne_eqb o k (λ q. h (e ∙ q)))
-
-module _ (x : Inputs) (k : ℕ) where
-  abbrev chosen : List ℕ → Chosen
-  chosen places = chosen_by (owner x k) k (length (bytes_in (parts_to x k))) places
-
-  module _ (places : List ℕ) (held : (j : ℕ) → j < k → get_or places j 0 ≡ get_or (places_in (parts_to x k)) j 0) where
-    pub chosen_part : part_behind x k (parts_to x k)
-        ≡ part_in (chosen places).own (is_debug x.section) x.machine (align_in x k) (length (bytes_in (parts_to x k))) (chosen places).cie
-        (length (sites_in (parts_to x k))) (extent_in x k) x.rows x.landings x.pairs
-    unfolding chosen_by pick
-    chosen_part =
-        let o : ℕ = owner x k in
-        either k o
-        (λ l.
-        let e : o ≡ k = omega (arith, owner_bound x k) in
-        rw (eq-eqb o k e) (own_part x k e))
-        (λ l. rw (ne_eqb o k (λ e. omega arith), held o l) (found_part x k l))
-
-    pub chosen_near : (chosen places).cie ≤ length (bytes_in (parts_to x k))
-    unfolding chosen_by pick
-    chosen_near =
-        let o : ℕ = owner x k in
-        either k o
-        (λ l.
-        let e : o ≡ k = omega (arith, owner_bound x k) in
-        rw (eq-eqb o k e) (omega arith))
-        (λ l. rw (ne_eqb o k (λ e. omega arith), held o l) (places_below x k o l))
 
 -- ---- function by function
 

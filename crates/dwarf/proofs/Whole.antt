@@ -12,9 +12,7 @@ use Rattle.format.specs.declared.Machine.{Machine}
 use Rattle.format.specs.declared.Section.{Section}
 use Rattle.format.specs.Coded.{Outcome}
 use Rattle.std.specs.Prelude.{Ok, Err}
-use Rattle.format.specs.Coded.{refusal}
 use Rattle.format.proofs.Asked.{Asked, question_of, said_yes}
-use Rattle.format.specs.declared.Refusal.{Refusal}
 use Rattle.format.specs.Machine.{machine_of, machine_ok}
 use Rattle.format.specs.Lists.{function_ok_at, all_in, lists_ok}
 use Rattle.format.specs.Questions.{Question, and_then, dwarf_asks, per_function, Given, Room, fitting, dwarf_given, room_in}
@@ -110,7 +108,7 @@ module _ (x : Inputs) (few : T (sums_ok x.functions)) (p : (k : ℕ) → k < cou
 
 module _ (s : Section) (g : Given) (places bytes relocs sites : List ℕ) where
   pub says_11 : machine_ok g.machine ≡ false
-      → Writes (dwarf_given s g (room_in places bytes relocs sites)) (Err (refusal 11 0)) places places bytes bytes relocs relocs sites sites
+      → Writes (dwarf_given s g (room_in places bytes relocs sites)) (Err (11, 0)) places places bytes bytes relocs relocs sites sites
   says_11 n = rw (no_machine s g (room_in places bytes relocs sites) n) (unchanged 11 0 places bytes relocs sites)
 
   pub says_listed : machine_ok g.machine ≡ true → {m : Machine} → m ≡ machine_of g.machine
@@ -127,16 +125,16 @@ module _ (x : Inputs) (places bytes relocs sites : List ℕ) where
   Answers r places' bytes' relocs' sites' =
       Writes (listed_answer x room) r places places' bytes bytes' relocs relocs' sites sites'
 
-  pub says_13 : lists_ok x.functions x.rows x.landings x.pairs ≡ false → Answers (Err (refusal 13 0)) places bytes relocs sites
+  pub says_13 : lists_ok x.functions x.rows x.landings x.pairs ≡ false → Answers (Err (13, 0)) places bytes relocs sites
   says_13 n = rw (no_lists x room n) (unchanged 13 0 places bytes relocs sites)
 
-  pub no_sums : sums_ok x.functions ≡ false → Answers (Err (refusal 13 0)) places bytes relocs sites
+  pub no_sums : sums_ok x.functions ≡ false → Answers (Err (13, 0)) places bytes relocs sites
   no_sums n = says_13 (lists_is x.functions x.rows x.landings x.pairs ∙ rw n)
 
   module _ (b : lists_ok x.functions x.rows x.landings x.pairs ≡ true) {q : Asked}
       (k : q ≡ question_of (per_function (dwarf_asks x.section x.machine.word) 0 (each (asked_in x) 0 (count_in x)))) where
-    pub says_no : {r : Refusal} → q ≡ Err r → Answers (Err r) places bytes relocs sites
-    says_no {r} n = rw (no_function x room b k n) (unchanged r.number r.position places bytes relocs sites)
+    pub says_no : {r : ℕ × ℕ} → q ≡ Err r → Answers (Err r) places bytes relocs sites
+    says_no {r} n = rw (no_function x room b k n) (unchanged r.0 r.1 places bytes relocs sites)
 
     pub says_all : q ≡ Ok tt → {r : Outcome} {places' bytes' relocs' sites' : List ℕ}
         → Writes (fitting room (written_in (parts_to x (count_in x)))) r places places' bytes bytes' relocs relocs' sites sites'

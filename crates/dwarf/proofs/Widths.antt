@@ -1,17 +1,15 @@
--- Question 21: a word of 8 bytes holds every length.
-use mathlib.Core.Path.{◌≡◌, sym}
-use Prim.Native.Nat.{ℕ, suc, ◌^◌, ◌<◌}
-use mathlib.Core.Bool.{true, ◌||◌}
-use mathlib.Core.Logic.{⊎_elim}
-use borrow.Author.Tests.{le-leb}
-use lib.Dec.{T, ltb, eqb}
-use mir.Facts.{or_yes, eqb_yes}
-use Rattle.format.specs.Machine.{is_word_size}
+-- Question 21: a length fits so many bytes.
+use Rattle.std.proofs.Common.{◌≡◌, ℕ, zero, suc, ◌+◌, ◌-◌, ◌*◌, ◌^◌, leb, ltb, sym, refl, ap, ◌∙◌, pow-suc, pow-add, arith, pow_pos, le-leb}
+use borrow.Author.Tests.{lt-leb}
+use Rattle.format.proofs.Choice.{either}
 
-pub all_hold : (word size : ℕ) → T (is_word_size word) → (word ≡ 2 → ⊥) → (word ≡ 4 → ⊥) → size < 2 ^ 64 → true ≡ ltb size (256 ^ word)
-unfolding is_word_size
-all_hold word size t a b h =
-    let e : word ≡ 8 =
-    ⊎_elim (λ u. ⊎_elim (λ v. absurd (a (eqb_yes v))) (λ v. absurd (b (eqb_yes v))) (or_yes (eqb word 2) (eqb word 4) u)) (λ u. eqb_yes u)
-    (or_yes (eqb word 2 || eqb word 4) (eqb word 8) t) in
-    rw e (sym (le-leb (suc size) (256 ^ 8) h))
+in_bits : (w : ℕ) → 256 ^ w ≡ 2 ^ (8 * w)
+in_bits zero = refl
+in_bits (suc w) =
+    let e : 8 * suc w ≡ 8 * w + 8 = omega arith in
+    omega (arith, pow-suc 256 w, in_bits w, pow-add 2 (8 * w) 8, ap (λ (n : ℕ). 2 ^ n) e)
+
+pub held : (w size n : ℕ) → n ≡ 2 ^ (8 * w) - 1 → leb size n ≡ ltb size (256 ^ w)
+held w size n e =
+    let p : 256 ^ w ≡ suc n = omega (arith, in_bits w, pow_pos (8 * w), e) in
+    either size n (λ h. le-leb size n h ∙ sym (le-leb (suc size) (256 ^ w) (omega (arith, p)))) (λ g. lt-leb size n g ∙ sym (lt-leb (suc size) (256 ^ w) (omega (arith, p))))

@@ -1,5 +1,5 @@
 -- The writing pass: function k from what is ready to what it adds.
-use mathlib.Core.Path.{◌≡◌, refl, sym, ap, ◌∙◌}
+use mathlib.Core.Path.{◌≡◌, refl, sym, ap}
 use Prim.Native.Nat.{ℕ, ◌+◌, ◌≤◌, ◌<◌}
 use native.Mathlib.Omega.{arith}
 use native.Mathlib.Numerals.{add-one}
@@ -7,36 +7,33 @@ use mathlib.Core.Bool.{Bool}
 use mathlib.Core.List.{List}
 use lib.Dec.{eqb}
 use lib.ListN.{length, get_or, set, length-append}
-use Rattle.format.specs.Lists.{numbers_of}
+use Rattle.format.specs.Lists.{Relocation, numbers_of}
 use Rattle.format.specs.Writer.{Part, is_debug, align_for}
-use Rattle.format.proofs.PutLaws.{put_one}
+use Rattle.format.proofs.PutLaws.{put_one, kept}
 use Rattle.format.proofs.ListLaws.{numbers_append}
 use Rattle.lists.specs.declared.Extent.{Extent}
 use Rattle.owners.specs.Owners.{owner}
-use Rattle.owners.specs.Chains.{Owned}
 use Rattle.dwarf.specs.declared.Table.{Table}
-use Rattle.dwarf.specs.declared.Chosen.{Chosen}
 use Rattle.header_keys.specs.Inputs.{Inputs, count_in, extent_in}
 use Rattle.dwarf.specs.Parts.{bytes_in, relocs_in, sites_in, part_behind, parts_to}
-use Rattle.dwarf.specs.Pieces.{part_in}
-use Rattle.dwarf.specs.Tables.{totals_in, chosen_by, PieceReady, nothing, Stored, Added, Written, Holds}
+use Rattle.dwarf.specs.Pieces.{part_in, header_in, header_relocs_in, headed_in}
+use Rattle.dwarf.specs.Tables.{totals_in, grown_by, behind_header, Small, FrontReady, FrontStored, PieceReady, nothing, Stored, Added, Written, Holds}
 use Rattle.dwarf.specs.Writable.{Cleared, PartReady}
-use Rattle.dwarf.proofs.Owners.{owner_bound}
-use Rattle.dwarf.proofs.Alignment.{align_ok}
+use Rattle.dwarf.proofs.Pieces.{own_part, found_part}
+use Rattle.dwarf.proofs.OwnHeaders.{headed_stored}
 use Rattle.dwarf.proofs.Fronts.{bytes_next, relocs_next, sites_next}
-use Rattle.dwarf.proofs.Totals.{totals_next}
-use Rattle.dwarf.proofs.Sizing.{align_is, small_next}
-use Rattle.dwarf.proofs.Stores.{chosen_part, chosen_near}
+use Rattle.dwarf.proofs.Totals.{totals_next, headed_whole}
+use Rattle.owners.specs.Chains.{Owned}
+use Rattle.dwarf.proofs.Sizing.{align_is, small_next, owned_to}
+use Rattle.dwarf.proofs.Stores.{places_below}
 use Rattle.dwarf.proofs.Stores as stores
 
 module _ {x : Inputs} {k n : ℕ} {t : Table} {places bytes relocs sites : List ℕ} (r : PartReady x k n t places bytes relocs sites) where
-  module _ {owners : List ℕ} (o : Owned x (k + 1) owners) where
-    pub choosable : (k < length owners) × (get_or owners k 0 ≤ k) × (k ≤ length places)
-    choosable = (omega (arith, o.long), omega (arith, o.each_one k (omega arith), owner_bound x k), omega (arith, r.fit.places_fit))
+  abbrev part : Part
+  part = part_behind x k (parts_to x k)
 
-    pub chosen_by_lem : (at : ℕ) {c : Chosen} → c ≡ chosen_by (get_or owners k 0) k at places
-        → c ≡ chosen_by (owner x k) k at places
-    chosen_by_lem at e = e ∙ ap (λ (i : ℕ). chosen_by i k at places) (o.each_one k (omega arith))
+  pub owned_next : {owners : List ℕ} → Owned x (count_in x) owners → Owned x (k + 1) owners
+  owned_next o = owned_to (omega (arith, r.coming.writable.listed.within)) o
 
   bytes_behind : t.bytes ≡ length (bytes_in (parts_to x k))
   unfolding totals_in
@@ -50,57 +47,117 @@ module _ {x : Inputs} {k n : ℕ} {t : Table} {places bytes relocs sites : List 
   unfolding totals_in
   sites_behind = ap (λ (u : Table). u.sites) r.coming.behind
 
-  module _ {c : Chosen} {debug : Bool} {align : ℕ} {e : Extent}
-      (h : c ≡ chosen_by (owner x k) k t.bytes places) (d : debug ≡ is_debug x.section)
-      (a : align ≡ align_for x.section x.machine.word (eqb (k + 1) n)) (q : e ≡ extent_in x k) where
-    abbrev piece : Part
-    piece = part_in c.own debug x.machine align t.bytes c.cie t.sites e x.rows x.landings x.pairs
+  -- a part that is function k's is small and has room
+  module _ {p : Part} (i : p ≡ part) where
+    small : Small (grown_by t p)
+    small = rw (i, r.coming.behind, totals_next x k, ← add-one k) (small_next r.coming)
 
-    piece_is : piece ≡ part_behind x k (parts_to x k)
-    piece_is = rw (h, d, align_is r.coming a, q, bytes_behind, sites_behind) (sym (chosen_part x k places r.held))
+    bytes_fit : t.bytes + length p.bytes ≤ length bytes
+    bytes_fit = rw i (omega (arith, bytes_behind, r.fit.bytes_fit, ap length (bytes_next x k), length-append (bytes_in (parts_to x k)) part.bytes))
 
-    near : c.cie ≤ t.bytes
-    near = rw (h, bytes_behind) (chosen_near x k places r.held)
+    relocs_fit : t.relocations + length (numbers_of p.relocations) ≤ length relocs
+    relocs_fit =
+        rw i
+        (omega (
+          arith,
+          relocs_behind,
+          r.fit.relocs_fit,
+          ap (λ rs. length (numbers_of rs)) (relocs_next x k),
+          ap length (numbers_append (relocs_in (parts_to x k)) part.relocations),
+          length-append (numbers_of (relocs_in (parts_to x k))) (numbers_of part.relocations),
+        ))
 
-    pub piece_ready : PieceReady c.own debug x.machine align c.cie e t x.rows x.landings x.pairs bytes relocs sites
-    piece_ready =
-        let p : Part = part_behind x k (parts_to x k) in
-        record {
-          sound = rw q r.coming.writable.sound;
-          encoding_fits = rw q r.coming.writable.encoding_fits;
-          aligned = rw a (align_ok x.section x.machine r.coming.writable.sound.machine _);
-          landings_ready = rw q r.coming.writable.landings_ready;
-          pairs_ready = rw q r.coming.writable.pairs_ready;
-          near = near;
-          small = rw (piece_is, r.coming.behind, totals_next x k, ← add-one k) (small_next r.coming);
-          bytes_fit =
-              rw piece_is
-              (omega (arith, bytes_behind, r.fit.bytes_fit, ap length (bytes_next x k), length-append (bytes_in (parts_to x k)) p.bytes));
-          relocs_fit =
-              rw piece_is
-              (omega (
-                arith,
-                relocs_behind,
-                r.fit.relocs_fit,
-                ap (λ rs. length (numbers_of rs)) (relocs_next x k),
-                ap length (numbers_append (relocs_in (parts_to x k)) p.relocations),
-                length-append (numbers_of (relocs_in (parts_to x k))) (numbers_of p.relocations),
-              ));
-          sites_fit =
-              rw piece_is
-              (omega (arith, sites_behind, r.fit.sites_fit, ap length (sites_next x k), length-append (sites_in (parts_to x k)) p.sites));
-        }
+    sites_fit : t.sites + length p.sites ≤ length sites
+    sites_fit = rw i (omega (arith, sites_behind, r.fit.sites_fit, ap length (sites_next x k), length-append (sites_in (parts_to x k)) part.sites))
 
-    place_is : (part_behind x k (parts_to x k)).place ≡ c.cie
-    unfolding part_in
-    place_is = ap (λ (p : Part). p.place) (sym piece_is)
-
-    pub added : {u : Table} {bytes' relocs' sites' : List ℕ} → Stored piece t u bytes bytes' relocs relocs' sites sites'
-        → Added x k t u places (set places k c.cie) bytes bytes' relocs relocs' sites sites'
+    added : {u : Table} {bytes' relocs' sites' : List ℕ} → Stored p t u bytes bytes' relocs relocs' sites sites'
+        → Added x k t u places (set places k p.place) bytes bytes' relocs relocs' sites sites'
     added s = record {
-      place_stored = record { past = refl; stored = rw place_is (sym (put_one places k c.cie)) };
-      rest_stored = rw piece_is at s;
+      place_stored = record { past = refl; stored = rw (sym i) (sym (put_one places k p.place)) };
+      rest_stored = rw i at s;
     }
+
+  module _ {debug : Bool} {align : ℕ} {e : Extent} (d : debug ≡ is_debug x.section)
+      (a : align ≡ align_for x.section x.machine.word (eqb (k + 1) n)) (q : e ≡ extent_in x k) where
+    abbrev piece : (cie : ℕ) → Table → Part
+    piece cie u = part_in debug x.machine align u.bytes cie u.sites e x.rows x.landings x.pairs
+
+    -- with the header of an earlier function
+    module _ (o : owner x k < k) where
+      abbrev cie : ℕ
+      cie = get_or places (owner x k) 0
+
+      found_is : piece cie t ≡ part
+      found_is = rw (d, align_is r.coming a, q, bytes_behind, sites_behind, r.held (owner x k) o) (sym (found_part x k o))
+
+      pub found_ready : PieceReady debug x.machine align cie e t x.rows x.landings x.pairs bytes relocs sites
+      found_ready = record {
+        landings_ready = rw q r.coming.writable.landings_ready;
+        pairs_ready = rw q r.coming.writable.pairs_ready;
+        near = rw (bytes_behind, r.held (owner x k) o) (places_below x k (owner x k) o);
+        small = small found_is;
+        bytes_fit = bytes_fit found_is;
+        relocs_fit = relocs_fit found_is;
+        sites_fit = sites_fit found_is;
+      }
+
+      pub found_added : {u : Table} {bytes' relocs' sites' : List ℕ} → Stored (piece cie t) t u bytes bytes' relocs relocs' sites sites'
+          → Added x k t u places (set places k cie) bytes bytes' relocs relocs' sites sites'
+      unfolding part_in
+      found_added = added found_is
+
+    -- with a header of its own
+    module _ (o : owner x k ≡ k) where
+      abbrev headed : Part
+      headed = headed_in debug x.machine align t.bytes t.sites e x.rows x.landings x.pairs
+
+      headed_is : headed ≡ part
+      headed_is = rw (d, align_is r.coming a, q, bytes_behind, sites_behind) (sym (own_part x k o))
+
+      pub front_ready : FrontReady debug x.machine align e t x.rows bytes relocs
+      unfolding headed_in grown_by
+      front_ready =
+          let f : List ℕ = header_in debug x.machine align t.bytes e x.rows in
+          let h : Table = behind_header debug x.machine align e t x.rows in
+          let g : List Relocation = header_relocs_in debug x.machine t.bytes e in
+          record {
+            encoding_fits = rw q r.coming.writable.encoding_fits;
+            near = omega (arith, (small headed_is).bytes);
+            bytes_fit = omega (arith, bytes_fit headed_is, length-append f (piece t.bytes h).bytes);
+            relocs_fit =
+                omega (
+                  arith,
+                  relocs_fit headed_is,
+                  ap length (numbers_append g (piece t.bytes h).relocations),
+                  length-append (numbers_of g) (numbers_of (piece t.bytes h).relocations),
+                );
+          }
+
+      module _ {u : Table} {bytes₁ relocs₁ : List ℕ} (f : FrontStored debug x.machine align e t u x.rows bytes bytes₁ relocs relocs₁) where
+        grown_is : grown_by u (piece t.bytes u) ≡ grown_by t headed
+        grown_is = rw f.behind (headed_whole debug x.machine align e t x.rows x.landings x.pairs)
+
+        pub own_ready : PieceReady debug x.machine align t.bytes e u x.rows x.landings x.pairs bytes₁ relocs₁ sites
+        unfolding grown_by
+        own_ready =
+            let b : u.bytes + length (piece t.bytes u).bytes ≡ t.bytes + length headed.bytes = ap (λ (v : Table). v.bytes) grown_is in
+            let i : u.relocations + length (numbers_of (piece t.bytes u).relocations) ≡ t.relocations + length (numbers_of headed.relocations) =
+            ap (λ (v : Table). v.relocations) grown_is in
+            let s : u.sites + length (piece t.bytes u).sites ≡ t.sites + length headed.sites = ap (λ (v : Table). v.sites) grown_is in
+            record {
+              landings_ready = rw q r.coming.writable.landings_ready;
+              pairs_ready = rw q r.coming.writable.pairs_ready;
+              near = omega (arith, f.bytes_stored.past);
+              small = rw grown_is (small headed_is);
+              bytes_fit = omega (arith, b, bytes_fit headed_is, kept f.bytes_stored);
+              relocs_fit = omega (arith, i, relocs_fit headed_is, kept f.relocs_stored);
+              sites_fit = omega (arith, s, sites_fit headed_is);
+            }
+
+        pub own_added : {v : Table} {bytes' relocs' sites' : List ℕ} → Stored (piece t.bytes u) u v bytes₁ bytes' relocs₁ relocs' sites sites'
+            → Added x k t v places (set places k t.bytes) bytes bytes' relocs relocs' sites sites'
+        unfolding headed_in
+        own_added s = added headed_is (headed_stored x.rows x.landings x.pairs f s)
 
 -- ---- all of them
 

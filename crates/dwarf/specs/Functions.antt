@@ -1,14 +1,13 @@
 -- A function as a section writes it: its bytes and relocations behind a table, and whether they fit.
-use Rattle.std.specs.Prelude.{◌≡◌, ℕ, Bool, List}
+use Rattle.std.specs.Prelude.{◌≡◌, ℕ, Bool}
 use Rattle.format.specs.Writer.{Part, is_debug, align_for}
 use Rattle.lists.specs.declared.Lists.{Lists}
 use Rattle.header_keys.specs.declared.written.Function.{Function}
 use Rattle.header_keys.specs.Inputs.{Inputs, extent_in}
-use Rattle.dwarf.specs.declared.Chosen.{Chosen}
-use Rattle.dwarf.specs.declared.Output.{Output}
+use Rattle.lists.specs.declared.output.Output.{Output}
 use Rattle.dwarf.specs.declared.Table.{Table}
-use Rattle.dwarf.specs.Pieces.{front_in, reloc_numbers, part_in}
-use Rattle.dwarf.specs.Tables.{SizeReady, FrontReady, FrontStored, PieceReady, Stored}
+use Rattle.dwarf.specs.Pieces.{part_in}
+use Rattle.dwarf.specs.Tables.{behind_header, SizeReady, FrontReady, FrontStored, PieceReady, Stored}
 
 -- f is function k, the last one or not
 pub record WrittenAs (x : Inputs) (k : ℕ) (last : Bool) (f : Function) : Type 0 where
@@ -18,37 +17,32 @@ pub record WrittenAs (x : Inputs) (k : ℕ) (last : Bool) (f : Function) : Type 
   pub extent : f.extent ≡ extent_in x k
   pub rows : f.rows.now ≡ x.rows
 
--- its own header at a place, where it has one
-abbrev pub front_of : (own : Bool) → Function → (at : ℕ) → List ℕ
-front_of own f at = front_in own f.debug f.machine.now f.align at f.extent f.rows.now
-
--- how many numbers its relocations are
-abbrev pub numbers_for : (own : Bool) → Function → (pairs : List ℕ) → ℕ
-numbers_for own f pairs = reloc_numbers own f.debug f.machine.now f.extent f.rows.now pairs
+-- what stands behind its own header, where that is behind t
+abbrev pub front_end : Function → Table → Table
+front_end f t = behind_header f.debug f.machine.now f.align f.extent t f.rows.now
 
 -- its part behind t, with its header at `cie`
-abbrev pub part_for : (own : Bool) → Function → Lists → Table → (cie : ℕ) → Part
-part_for own f lists t cie =
-    part_in own f.debug f.machine.now f.align t.bytes cie t.sites f.extent f.rows.now lists.landings.now lists.pairs.now
+abbrev pub part_for : Function → Lists → Table → (cie : ℕ) → Part
+part_for f lists t cie =
+    part_in f.debug f.machine.now f.align t.bytes cie t.sites f.extent f.rows.now lists.landings.now lists.pairs.now
 
 -- it can be sized behind t
-abbrev pub CanSize : (own : Bool) → Function → Lists → Table → Type 0
-CanSize own f lists t = SizeReady own f.debug f.machine.now f.align f.extent t f.rows.now lists.landings.now lists.pairs.now
+abbrev pub CanSize : Function → Lists → Table → Type 0
+CanSize f lists t = SizeReady f.debug f.machine.now f.align f.extent t f.rows.now lists.landings.now lists.pairs.now
 
 -- its own header can be written behind t, and is written there
-abbrev pub FrontFits : (own : Bool) → Function → Table → Output → Type 0
-FrontFits own f t to = FrontReady own f.debug f.machine.now f.align f.extent t f.rows.now to.bytes.now to.relocations.now
+abbrev pub FrontFits : Function → Table → Output → Type 0
+FrontFits f t to = FrontReady f.debug f.machine.now f.align f.extent t f.rows.now to.bytes.now to.relocations.now
 
-abbrev pub FrontWritten : (own : Bool) → Function → (t u : Table) → (old new : Output) → Type 0
-FrontWritten own f t u old new =
-    FrontStored own f.debug f.machine.now f.align f.extent t u f.rows.now old.bytes.now new.bytes.now old.relocations.now new.relocations.now
+abbrev pub FrontWritten : Function → (t u : Table) → (old new : Output) → Type 0
+FrontWritten f t u old new =
+    FrontStored f.debug f.machine.now f.align f.extent t u f.rows.now old.bytes.now new.bytes.now old.relocations.now new.relocations.now
 
 -- and its part
-abbrev pub PieceFits : Chosen → Function → Lists → Table → Output → Type 0
-PieceFits c f lists t to =
-    PieceReady c.own f.debug f.machine.now f.align c.cie f.extent t f.rows.now lists.landings.now lists.pairs.now to.bytes.now to.relocations.now
-    to.sites.now
+abbrev pub PieceFits : (cie : ℕ) → Function → Lists → Table → Output → Type 0
+PieceFits cie f lists t to =
+    PieceReady f.debug f.machine.now f.align cie f.extent t f.rows.now lists.landings.now lists.pairs.now to.bytes.now to.relocations.now to.sites.now
 
-abbrev pub PieceWritten : Chosen → Function → Lists → (t u : Table) → (old new : Output) → Type 0
-PieceWritten c f lists t u old new =
-    Stored (part_for c.own f lists t c.cie) t u old.bytes.now new.bytes.now old.relocations.now new.relocations.now old.sites.now new.sites.now
+abbrev pub PieceWritten : (cie : ℕ) → Function → Lists → (t u : Table) → (old new : Output) → Type 0
+PieceWritten cie f lists t u old new =
+    Stored (part_for f lists t cie) t u old.bytes.now new.bytes.now old.relocations.now new.relocations.now old.sites.now new.sites.now

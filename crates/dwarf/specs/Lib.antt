@@ -3,6 +3,7 @@ pub mod Asks
 pub mod Parts
 pub mod Pieces
 pub mod Writable
+pub mod OneProof
 pub mod Tables
 pub mod Surveys
 pub mod Lent

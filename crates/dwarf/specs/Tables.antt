@@ -1,18 +1,16 @@
 -- How much stands in the lent lists behind a pass, whether there is room, and what a function adds to them.
-use Rattle.std.specs.Prelude.{ℕ, ◌+◌, ◌*◌, ◌^◌, ◌≤◌, ◌<◌, Bool, true, false, List, [], ◌∷◌, length, get_or, eqb}
-use Rattle.format.specs.Prelude.{pick}
+use Rattle.std.specs.Prelude.{◌≡◌, ℕ, ◌+◌, ◌*◌, ◌^◌, ◌≤◌, ◌<◌, Bool, List, [], ◌∷◌, length}
 use Rattle.format.proofs.Wrote.{Wrote}
-use Rattle.format.specs.Lists.{numbers_of, field, function_stride, count, mark, sum_of, most_functions, most_records}
+use Rattle.format.specs.Lists.{numbers_of, field, function_stride, count, sum_of, most_functions, most_records}
 use Rattle.format.specs.declared.Machine.{Machine}
 use Rattle.format.specs.declared.Counts.{Counts}
 use Rattle.format.specs.Writer.{Part}
-use Rattle.format.proofs.SectionSize.{Aligned}
 use Rattle.lists.specs.declared.Extent.{Extent}
-use Rattle.header_keys.specs.Functions.{Sound, LandingsReady, LabelsReady}
+use Rattle.lists.specs.Parts.{where_labelled}
+use Rattle.header_keys.specs.Functions.{LandingsReady, LabelsReady}
 use Rattle.headers.specs.Kinds.{EncodingFits}
 use Rattle.dwarf.specs.declared.Table.{Table}
-use Rattle.dwarf.specs.declared.Chosen.{Chosen}
-use Rattle.dwarf.specs.Pieces.{front_in, front_relocs, part_in}
+use Rattle.dwarf.specs.Pieces.{part_in, header_in, header_relocs_in}
 use Rattle.header_keys.specs.Inputs.{Inputs, count_in}
 use Rattle.dwarf.specs.Parts.{places_in, bytes_in, relocs_in, sites_in, part_behind, parts_to}
 
@@ -35,6 +33,15 @@ grown_by t p =
       sites = t.sites + length p.sites;
     }
 
+-- and behind a function's own header
+abbrev pub behind_header : (debug : Bool) → Machine → (align : ℕ) → Extent → Table → (rows : List ℕ) → Table
+behind_header debug m align e t rows =
+    record {
+      bytes = t.bytes + length (header_in debug m align t.bytes e rows);
+      relocations = t.relocations + length (numbers_of (header_relocs_in debug m t.bytes e));
+      sites = t.sites;
+    }
+
 -- far from what a machine number holds
 pub record Small (t : Table) : Type 0 where
   pub bytes : t.bytes < 2 ^ 32
@@ -42,12 +49,10 @@ pub record Small (t : Table) : Type 0 where
   pub sites : t.sites < 2 ^ 32
 
 -- a function behind t can be sized
-pub record SizeReady (own debug : Bool) (m : Machine) (align : ℕ) (e : Extent) (t : Table) (rows landings pairs : List ℕ) : Type 0 where
-  pub sound : Sound m e rows
-  pub aligned : Aligned align
+pub record SizeReady (debug : Bool) (m : Machine) (align : ℕ) (e : Extent) (t : Table) (rows landings pairs : List ℕ) : Type 0 where
   pub landings_ready : LandingsReady e landings
   pub pairs_ready : LabelsReady e pairs
-  pub small : Small (grown_by t (part_in own debug m align t.bytes 0 t.sites e rows landings pairs))
+  pub small : Small (grown_by t (part_in debug m align t.bytes 0 t.sites e rows landings pairs))
 
 -- a table's counts behind n header places, in the elements of the lent lists
 abbrev pub counts_of : (n : ℕ) → Table → Counts
@@ -56,8 +61,8 @@ counts_of n t = record { places = n; bytes = t.bytes; relocations = t.relocation
 -- ---- what a list of functions can be at most
 
 -- the rows of function k, where it has relaxing labels
-unfoldable pub labelled_rows : (fs : List ℕ) → ℕ → ℕ
-labelled_rows fs k = pick (mark (field function_stride fs k 14)) (field function_stride fs k 3) 0
+abbrev pub labelled_rows : (fs : List ℕ) → ℕ → ℕ
+labelled_rows fs k = where_labelled fs k 3
 
 -- number j of all functions, summed; and their labelled rows
 abbrev pub total_of : (fs : List ℕ) → (j : ℕ) → ℕ
@@ -89,35 +94,27 @@ pub record Covers (x : Inputs) (t : Table) : Type 0 where
 
 -- ---- stores
 
--- function k's header by its owner o: its own at `at`, or the one whose place stands in the list of places
-unfoldable pub chosen_by : (o k at : ℕ) → (places : List ℕ) → Chosen
-chosen_by o k at places = pick (eqb o k) (record { own = true; cie = at }) (record { own = false; cie = get_or places o 0 })
-
--- a function's own header, where it has one, can be stored behind t, and what is stored then
-pub record FrontReady (own debug : Bool) (m : Machine) (align : ℕ) (e : Extent) (t : Table) (rows bytes relocs : List ℕ) : Type 0 where
-  pub sound : Sound m e rows
+-- a function's own header can be stored behind t, and what is stored then
+pub record FrontReady (debug : Bool) (m : Machine) (align : ℕ) (e : Extent) (t : Table) (rows bytes relocs : List ℕ) : Type 0 where
   pub encoding_fits : EncodingFits e
-  pub aligned : Aligned align
   pub near : t.bytes < 2 ^ 32
-  pub bytes_fit : t.bytes + length (front_in own debug m align t.bytes e rows) ≤ length bytes
-  pub relocs_fit : t.relocations + length (numbers_of (front_relocs own debug m t.bytes e rows)) ≤ length relocs
+  pub bytes_fit : t.bytes + length (header_in debug m align t.bytes e rows) ≤ length bytes
+  pub relocs_fit : t.relocations + length (numbers_of (header_relocs_in debug m t.bytes e)) ≤ length relocs
 
-pub record FrontStored (own debug : Bool) (m : Machine) (align : ℕ) (e : Extent) (t u : Table) (rows bytes bytes' relocs relocs' : List ℕ) : Type 0 where
-  pub bytes_stored : Wrote bytes bytes' t.bytes u.bytes (front_in own debug m align t.bytes e rows)
-  pub relocs_stored : Wrote relocs relocs' t.relocations u.relocations (numbers_of (front_relocs own debug m t.bytes e rows))
+pub record FrontStored (debug : Bool) (m : Machine) (align : ℕ) (e : Extent) (t u : Table) (rows bytes bytes' relocs relocs' : List ℕ) : Type 0 where
+  pub bytes_stored : Wrote bytes bytes' t.bytes u.bytes (header_in debug m align t.bytes e rows)
+  pub relocs_stored : Wrote relocs relocs' t.relocations u.relocations (numbers_of (header_relocs_in debug m t.bytes e))
+  pub behind : u ≡ behind_header debug m align e t rows
 
--- a function's part, with its header at `cie`, can be stored behind t
-pub record PieceReady (own debug : Bool) (m : Machine) (align cie : ℕ) (e : Extent) (t : Table) (rows landings pairs bytes relocs sites : List ℕ) : Type 0 where
-  pub sound : Sound m e rows
-  pub encoding_fits : EncodingFits e
-  pub aligned : Aligned align
+-- a function, with its header at `cie`, can be stored behind t
+pub record PieceReady (debug : Bool) (m : Machine) (align cie : ℕ) (e : Extent) (t : Table) (rows landings pairs bytes relocs sites : List ℕ) : Type 0 where
   pub landings_ready : LandingsReady e landings
   pub pairs_ready : LabelsReady e pairs
   pub near : cie ≤ t.bytes
-  pub small : Small (grown_by t (part_in own debug m align t.bytes cie t.sites e rows landings pairs))
-  pub bytes_fit : t.bytes + length (part_in own debug m align t.bytes cie t.sites e rows landings pairs).bytes ≤ length bytes
-  pub relocs_fit : t.relocations + length (numbers_of (part_in own debug m align t.bytes cie t.sites e rows landings pairs).relocations) ≤ length relocs
-  pub sites_fit : t.sites + length (part_in own debug m align t.bytes cie t.sites e rows landings pairs).sites ≤ length sites
+  pub small : Small (grown_by t (part_in debug m align t.bytes cie t.sites e rows landings pairs))
+  pub bytes_fit : t.bytes + length (part_in debug m align t.bytes cie t.sites e rows landings pairs).bytes ≤ length bytes
+  pub relocs_fit : t.relocations + length (numbers_of (part_in debug m align t.bytes cie t.sites e rows landings pairs).relocations) ≤ length relocs
+  pub sites_fit : t.sites + length (part_in debug m align t.bytes cie t.sites e rows landings pairs).sites ≤ length sites
 
 -- what a function stores of its part behind t: bytes, relocations and call sites
 pub record Stored (p : Part) (t u : Table) (bytes bytes' relocs relocs' sites sites' : List ℕ) : Type 0 where

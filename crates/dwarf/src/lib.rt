@@ -3,31 +3,36 @@
 
 ghost use Rattle.std.specs.Prelude.{◌≡◌, ℕ, ◌+◌, ◌*◌, ◌^◌, ◌≤◌, ◌<◌, true, not, [], T, ltb, eqb, length, get_or};
 ghost use Rattle.format.specs.Prelude.{all, each};
-ghost use Rattle.format.specs.Machine.{is_word_size};
-ghost use Rattle.format.specs.Lists.{field, function_stride, sum_of, most_functions, most_records, pair_at};
+ghost use Rattle.format.specs.Lists.{field, function_stride, pair_stride, sum_of, most_functions, most_records, pair_at};
 ghost use Rattle.format.specs.Questions.{size_bytes, encodings_ok, steps_ok, pairs_ok, dwarf_asks, per_function, fitting, dwarf_given, given_of, room_in};
 ghost use Rattle.format.specs.Writer.{is_debug, align_for};
 ghost use Rattle.format.specs.Answers.{Writes};
+ghost use Rattle.format.specs.Coded.{numbered_at};
 ghost use Rattle.format.proofs.Asked.{question_of};
 ghost use Rattle.lists.specs.Extents.{meant};
 ghost use Rattle.lists.specs.Parts.{sums_ok};
 ghost use Rattle.lists.specs.Room.{room_for};
+ghost use Rattle.lists.specs.Lent.{SameLists, room_of, WritesTo};
 ghost use Rattle.header_keys.specs.Functions.{body_of, Sound, PairsReady, LabelsReady};
 ghost use Rattle.header_keys.specs.Inputs.{inputs_of, count_in, extent_in, RowsIn, rows_of};
-ghost use Rattle.dwarf.specs.Asks.{Askable, AllAskable, whole_in, asked_in, listed_answer};
+ghost use Rattle.dwarf.specs.Asks.{Askable, AllAskable, whole_in, asked_in, lines_asks, listed_answer};
 ghost use Rattle.dwarf.specs.Parts.{parts_to, section_in};
 ghost use Rattle.dwarf.specs.Writable.{Writable, Cleared, Next};
-ghost use Rattle.dwarf.specs.Tables.{totals_in, grown_by, labelled_rows, most_in, Few, counts_of, chosen_by};
-ghost use Rattle.owners.specs.Lent.{LongFor, EmptyFor, OwnedIn};
+ghost use Rattle.dwarf.specs.OneProof.{Cleared-prop, Owned-prop};
+ghost use Rattle.dwarf.specs.Tables.{totals_in, grown_by, Small, labelled_rows, most_in, Few, counts_of};
+ghost use Rattle.owners.specs.Owners.{owner};
+ghost use Rattle.owners.specs.Chains.{Owned};
+ghost use Rattle.owners.specs.Lent.{LongFor, EmptyFor};
 ghost use Rattle.dwarf.specs.Surveys.{rows_size, FunctionSurveyed, AllSurveyed};
-ghost use Rattle.dwarf.specs.Lent.{SameLists, room_of, lent_in, WritesTo, HasRoom, ReadyFor, AddsTo, FillsTo};
+ghost use Rattle.dwarf.specs.Lent.{HasRoom, ReadyFor, AddsTo, FillsTo};
 ghost use Rattle.records.specs.Written as record_parts;
-ghost use Rattle.dwarf.specs.Functions.{WrittenAs, front_of, numbers_for, part_for, CanSize, FrontFits, FrontWritten, PieceFits, PieceWritten};
+ghost use Rattle.dwarf.specs.Functions.{WrittenAs, front_end, part_for, CanSize, FrontFits, FrontWritten, PieceFits, PieceWritten};
 
-use format::{Counts, Machine, Refusal, Section};
+use format::{Counts, Machine, Question, Refusal, Section};
 use header_keys::written::{Function, Run};
 use header_keys::{Input, Kind, kind_of};
 use headers::{header, header_relocs, header_relocs_count, header_size, padding};
+use lists::output::Output;
 use lists::{Extent, Labels, Lists, MOST_FUNCTIONS, machine_of, machine_ok, sums_ok};
 use numbers::pointer_size;
 use owners::Chains;
@@ -38,52 +43,15 @@ use records::{
 use rows::row_numbers::RowNumbers;
 use rows::{offset_at, row_at, row_whole};
 
-// The lists that are lent for what is written: header places, bytes, relocations and call sites.
-#[derive(Drop)]
-pub struct Output<'a> {
-    pub places: &'a mut [u64],
-    pub bytes: &'a mut [u8],
-    pub relocations: &'a mut [u64],
-    pub sites: &'a mut [u8],
-}
-
-impl Output<'_> {
-    // How many elements the lists have.
-    fn lent(&self) -> Counts
-        ensures { result ≡ lent_in self.now }
-    {
-        Counts {
-            places: self.places.len() as u64,
-            bytes: self.bytes.len() as u64,
-            relocations: self.relocations.len() as u64,
-            sites: self.sites.len() as u64,
-        }
-    }
-}
-
 // ---- questions 21 to 25
-
-// A length fits a word.
-fn word_holds(word: u64, size: u64) -> bool
-    requires { T (is_word_size word) }
-    ensures { result ≡ ltb size (256 ^ word) }
-{
-    if word == 2 {
-        return size < 65536;
-    }
-    if word == 4 {
-        return size < 4294967296;
-    }
-    true
-}
 
 // Question 21: a length fits its field.
 fn size_ok(x: &Input, e: &Extent) -> bool
     ensures { result ≡ ltb e.now.length (256 ^ size_bytes x.now.section x.now.machine.word) }
 {
     match x.section {
-        Section::Elf => e.length < 4294967296,
-        Section::Debug => word_holds(x.machine.word, e.length),
+        Section::Elf => e.length <= numbers::largest(4),
+        Section::Debug => e.length <= numbers::largest(x.machine.word),
     }
 }
 
@@ -162,24 +130,32 @@ fn lines_fine(x: &Input, e: &Extent) -> bool
     true
 }
 
-// Question 23, asked where it is not known that all is fine; and question 24.
-fn steps_asked(fine: bool, x: &Input, e: &Extent) -> bool
-    requires { RowsIn (inputs_of x.now) e.now × (fine ≡ true → steps_ok 0 (rows_of (inputs_of x.now) e.now) ≡ true) }
-    ensures { result ≡ steps_ok 0 (rows_of (inputs_of x.now) e.now) }
+// Questions 23 and 24 of function k.
+fn lines_ask(x: &Input, k: usize, e: &Extent) -> Result<(), Refusal>
+    requires { RowsIn (inputs_of x.now) e.now }
+    ensures { numbered_at result ≡ question_of (lines_asks (inputs_of x.now) k e.now) }
 {
-    fine || steps_ok(x, e)
-}
-
-fn whole_asked(fine: bool, x: &Input, e: &Extent) -> bool
-    requires { RowsIn (inputs_of x.now) e.now × (fine ≡ true → whole_in (inputs_of x.now) e.now ≡ true) }
-    ensures { result ≡ whole_in (inputs_of x.now) e.now }
-{
-    fine || rows_whole(x, e)
+    if lines_fine(x, e) {
+        return Ok(());
+    }
+    if !steps_ok(x, e) {
+        return Err(Refusal {
+            question: Question::Order,
+            position: k as u64,
+        });
+    }
+    if !rows_whole(x, e) {
+        return Err(Refusal {
+            question: Question::Multiples,
+            position: k as u64,
+        });
+    }
+    Ok(())
 }
 
 // The two places of pair i are different.
 fn pair_differs(pairs: &[u64], i: usize) -> bool
-    requires { 4 * i + 4 ≤ length pairs.now }
+    requires { pair_stride * i + pair_stride ≤ length pairs.now }
     ensures { result ≡ not (eqb (pair_at pairs.now i).place1 (pair_at pairs.now i).place2) }
 {
     pairs[lists::PAIR_STRIDE * i] != pairs[lists::PAIR_STRIDE * i + 1]
@@ -207,36 +183,24 @@ fn pairs_ok(x: &Input, e: &Extent) -> bool
 // Questions 21 to 25 of function k, as the section takes it.
 fn dwarf_asks(x: &Input, k: usize, e: &Extent) -> Result<(), Refusal>
     requires { Askable e.now x.now.lists.rows.now x.now.lists.pairs.now }
-    ensures { result ≡ question_of (dwarf_asks x.now.section x.now.machine.word k (meant e.now x.now.lists.rows.now [] x.now.lists.pairs.now)) }
+    ensures { numbered_at result ≡ question_of (dwarf_asks x.now.section x.now.machine.word k (meant e.now x.now.lists.rows.now [] x.now.lists.pairs.now)) }
 {
     if !size_ok(x, e) {
         return Err(Refusal {
-            number: 21,
+            question: Question::Length,
             position: k as u64,
         });
     }
     if !encodings_ok(x, e) {
         return Err(Refusal {
-            number: 22,
+            question: Question::Encodings,
             position: k as u64,
         });
     }
-    let fine = lines_fine(x, e);
-    if !steps_asked(fine, x, e) {
-        return Err(Refusal {
-            number: 23,
-            position: k as u64,
-        });
-    }
-    if !whole_asked(fine, x, e) {
-        return Err(Refusal {
-            number: 24,
-            position: k as u64,
-        });
-    }
+    lines_ask(x, k, e)?;
     if !pairs_ok(x, e) {
         return Err(Refusal {
-            number: 25,
+            question: Question::Pairs,
             position: k as u64,
         });
     }
@@ -246,7 +210,7 @@ fn dwarf_asks(x: &Input, k: usize, e: &Extent) -> Result<(), Refusal>
 // Questions 21 to 25, function by function.
 fn all_asks(x: &Input) -> Result<(), Refusal>
     requires { AllAskable (inputs_of x.now) }
-    ensures { result ≡ question_of (per_function (dwarf_asks x.now.section x.now.machine.word) 0 (each (asked_in (inputs_of x.now)) 0 (count_in (inputs_of x.now)))) }
+    ensures { numbered_at result ≡ question_of (per_function (dwarf_asks x.now.section x.now.machine.word) 0 (each (asked_in (inputs_of x.now)) 0 (count_in (inputs_of x.now)))) }
 {
     let n = x.lists.count();
     for k in 0..n {
@@ -272,13 +236,6 @@ impl Table {
         relocations: 0,
         sites: 0,
     };
-}
-
-// A function's header: whether it has one of its own, and the header's place.
-#[derive(Clone, Copy)]
-pub struct Chosen {
-    pub own: bool,
-    pub cie: usize,
 }
 
 #[tactic(auto, unfolding(format::specs::Writer::is_debug))]
@@ -318,56 +275,48 @@ fn written<'a>(x: &'a Input, k: usize, last: bool) -> Function<'a>
     }
 }
 
-// The bytes of a function's own header, where it has one.
-fn front_size(own: bool, f: &Function, at: usize) -> usize
-    requires { at < 2 ^ 32 }
-    ensures { result ≡ length (front_of own f.now at) }
+// What stands behind a function's own header, behind t.
+fn front_sized(f: &Function, t: Table) -> Table
+    requires { Small (front_end f.now t) }
+    ensures { result ≡ front_end f.now t }
 {
-    if own {
-        return header_size(f, at);
-    }
-    0
-}
-
-// The numbers of a function's relocations, five each.
-fn relocs_size(own: bool, f: &Function, pairs: &[u64]) -> usize
-    requires { LabelsReady f.now.extent pairs.now }
-    ensures { result ≡ numbers_for own f.now pairs.now }
-{
-    let n = record_relocs_count(f, pairs);
-    if own {
-        return relocs::RELOCATION_STRIDE * (header_relocs_count(f.debug, &f.extent) + n);
-    }
-    relocs::RELOCATION_STRIDE * n
-}
-
-// What stands behind a function that is behind t and whose rows have `size` bytes. The place of a header that it does not own
-// does not matter.
-fn sized(lists: &Lists, size: usize, own: bool, f: &Function, t: Table) -> Table
-    requires { CanSize own f.now lists.now t × (size ≡ length (record_parts.rows_of f.now)) }
-    ensures { result ≡ grown_by t (part_for own f.now lists.now t 0) }
-{
-    let behind = t.bytes + front_size(own, f, t.bytes);
+    let n = header_relocs_count(f.debug, &f.extent);
     Table {
-        bytes: behind + record_size(f, behind, size),
-        relocations: t.relocations + relocs_size(own, f, lists.pairs),
+        bytes: t.bytes + header_size(f, t.bytes),
+        relocations: t.relocations + relocs::RELOCATION_STRIDE * n,
+        sites: t.sites,
+    }
+}
+
+// What stands behind a function that is behind t and whose rows have `size` bytes. Its header's place does not matter.
+fn sized(lists: &Lists, size: usize, f: &Function, t: Table) -> Table
+    requires { CanSize f.now lists.now t × (size ≡ length (record_parts.rows_of f.now)) }
+    ensures { result ≡ grown_by t (part_for f.now lists.now t 0) }
+{
+    let n = record_relocs_count(f, lists.pairs);
+    Table {
+        bytes: t.bytes + record_size(f, t.bytes, size),
+        relocations: t.relocations + relocs::RELOCATION_STRIDE * n,
         sites: t.sites + call_sites_size(t.sites, &f.extent, lists.landings),
     }
 }
 
-// What stands behind function k of n, behind t, where its rows have `size` bytes.
-fn size_next(x: &Input, chains: &Chains, k: usize, n: usize, size: usize, t: Table) -> Table
-    requires { Next (inputs_of x.now) k n t × OwnedIn (inputs_of x.now) (k + 1) chains.now × (size ≡ rows_size (inputs_of x.now) k) }
+// What stands behind function k of n, behind t, where its header is function o's and its rows have `size` bytes.
+fn size_next(x: &Input, o: usize, k: usize, n: usize, size: usize, t: Table) -> Table
+    requires { Next (inputs_of x.now) k n t × (o ≡ owner (inputs_of x.now) k) × (size ≡ rows_size (inputs_of x.now) k) }
     ensures { result ≡ totals_in (parts_to (inputs_of x.now) (k + 1)) }
 {
-    let own = usize::from(chains.owners[k]) == k;
     let f = written(x, k, k + 1 == n);
-    sized(&x.lists, size, own, &f, t)
+    if o == k {
+        let u = front_sized(&f, t);
+        return sized(&x.lists, size, &f, u);
+    }
+    sized(&x.lists, size, &f, t)
 }
 
 // The bytes of function k's rows, with the steps between them.
 fn rows_size(x: &Input, k: usize) -> usize
-    requires { (18 * k + 18 ≤ length x.now.lists.functions.now) × Sound x.now.machine (extent_in (inputs_of x.now) k) x.now.lists.rows.now }
+    requires { (function_stride * k + function_stride ≤ length x.now.lists.functions.now) × Sound x.now.machine (extent_in (inputs_of x.now) k) x.now.lists.rows.now }
     ensures { result ≡ rows_size (inputs_of x.now) k }
 {
     let e = x.function(k);
@@ -378,20 +327,6 @@ fn rows_size(x: &Input, k: usize) -> usize
         n: e.rows,
     };
     records::stepped_rows_size(&run)
-}
-
-// What stands behind all functions.
-fn sizes(x: &Input, chains: &Chains) -> Table
-    requires { Cleared (inputs_of x.now) × OwnedIn (inputs_of x.now) (count_in (inputs_of x.now)) chains.now }
-    ensures { result ≡ totals_in (parts_to (inputs_of x.now) (count_in (inputs_of x.now))) }
-{
-    let n = x.lists.count();
-    let mut t = Table::NOTHING;
-    for k in 0..n {
-        let size = rows_size(x, k);
-        t = size_next(x, chains, k, n, size, t);
-    }
-    t
 }
 
 // ---- questions, owners and sizes in one pass
@@ -410,36 +345,6 @@ fn fields_ok(x: &Input, e: &Extent) -> bool
     pairs_ok(x, e)
 }
 
-// The bytes of function k's rows, where it passes questions 13 and 21 to 25. None says nothing.
-fn function_surveyed(x: &Input, k: usize) -> Option<usize>
-    requires { T (sums_ok x.now.lists.functions.now) × (k < count_in (inputs_of x.now)) }
-    ensures { FunctionSurveyed (inputs_of x.now) k result }
-{
-    if !x.lists.outline_ok(k) {
-        return None;
-    }
-    let e = x.function(k);
-    if !fields_ok(x, &e) {
-        return None;
-    }
-    surveyed_rows(x.machine.word, x.lists.rows, e.rows_at, e.rows)
-}
-
-// The functions' owners, and what stands behind the functions, where all pass questions 13 and 21 to 25. None says nothing.
-fn survey(x: &Input, chains: &mut Chains) -> Option<Table>
-    requires { T (sums_ok x.now.lists.functions.now) × EmptyFor (count_in (inputs_of x.now)) chains.old }
-    ensures { AllSurveyed (inputs_of x.now) chains.new.owners.now result × LongFor (count_in (inputs_of x.now)) chains.new }
-{
-    let n = x.lists.count();
-    let mut t = Table::NOTHING;
-    for k in 0..n {
-        let size = function_surveyed(x, k)?;
-        owners::find_owner(x, k, chains);
-        t = size_next(x, chains, k, n, size, t);
-    }
-    Some(t)
-}
-
 // ---- what the functions can be at most
 
 // What `number` says of each of n functions, summed.
@@ -456,29 +361,18 @@ fn summed<F: Fn(usize) -> u64>(number: F, n: usize) -> u64
 
 // Number j of n functions, summed.
 fn total(fs: &[u64], j: usize, n: usize) -> u64
-    requires { (j < 18) × (18 * n ≤ length fs.now) × (n ≤ most_functions) × (sum_of (λ k. field function_stride fs.now k j) 0 n ≤ most_records) }
+    requires { (j < function_stride) × (function_stride * n ≤ length fs.now) × (n ≤ most_functions) × (sum_of (λ k. field function_stride fs.now k j) 0 n ≤ most_records) }
     ensures { result ≡ sum_of (λ k. field function_stride fs.now k j) 0 n }
 {
     summed(|k| fs[lists::FUNCTION_STRIDE * k + j], n)
 }
 
-// The rows of function k, where it has relaxing labels.
-fn labelled_rows(fs: &[u64], k: usize) -> u64
-    requires { 18 * k + 18 ≤ length fs.now }
-    ensures { result ≡ labelled_rows fs.now k }
-{
-    if fs[lists::FUNCTION_STRIDE * k + lists::function::RELAXED] == 0 {
-        return 0;
-    }
-    fs[lists::FUNCTION_STRIDE * k + lists::function::ROWS]
-}
-
-// Those of n functions, summed.
+// The rows of those of n functions that have relaxing labels, summed.
 fn labelled_total(fs: &[u64], n: usize) -> u64
-    requires { (18 * n ≤ length fs.now) × (n ≤ most_functions) × (sum_of (labelled_rows fs.now) 0 n ≤ most_records) }
+    requires { (function_stride * n ≤ length fs.now) × (n ≤ most_functions) × (sum_of (labelled_rows fs.now) 0 n ≤ most_records) }
     ensures { result ≡ sum_of (labelled_rows fs.now) 0 n }
 {
-    summed(|k| labelled_rows(fs, k), n)
+    summed(|k| lists::where_labelled(fs, k, lists::function::ROWS), n)
 }
 
 // What stands behind all functions, at most.
@@ -508,24 +402,21 @@ fn counts(n: usize, t: Table) -> Counts
 
 // Questions 51 to 54: n header places and t fit the lists that are lent.
 fn room(n: usize, t: Table, lent: Counts) -> Result<(), Refusal>
-    ensures { result ≡ question_of (room_for (counts_of n t) lent) }
+    ensures { numbered_at result ≡ question_of (room_for (counts_of n t) lent) }
 {
     lists::room(counts(n, t), lent)
 }
 
 // ---- the writing pass
 
-// A function's own header with its relocation, where it has one.
-fn front(own: bool, f: &Function, t: Table, to: &mut Output) -> Table
-    requires { FrontFits own f.now t to.old }
-    ensures stored { FrontWritten own f.now t result to.old to.new }
+// A function's own header with its relocation, behind t.
+fn front(f: &Function, t: Table, to: &mut Output) -> Table
+    requires { FrontFits f.now t to.old }
+    ensures stored { FrontWritten f.now t result to.old to.new }
     ensures sites_kept { to.new.sites.now ≡ to.old.sites.now }
     ensures places_kept { to.new.places.now ≡ to.old.places.now }
     ensures same { SameLists to.old to.new }
 {
-    if !own {
-        return t;
-    }
     let at = header(to.bytes, t.bytes, f);
     let i = header_relocs(
         to.relocations,
@@ -542,21 +433,20 @@ fn front(own: bool, f: &Function, t: Table, to: &mut Output) -> Table
     }
 }
 
-// A function's part behind t: its own header, where it has one, its record and its call sites.
-fn piece(lists: &Lists, c: Chosen, f: &Function, t: Table, to: &mut Output) -> Table
-    requires { PieceFits c f.now lists.now t to.old }
-    ensures stored { PieceWritten c f.now lists.now t result to.old to.new }
+// A function's record and its call sites behind t, with its header at `cie`.
+fn piece(lists: &Lists, cie: usize, f: &Function, t: Table, to: &mut Output) -> Table
+    requires { PieceFits cie f.now lists.now t to.old }
+    ensures stored { PieceWritten cie f.now lists.now t result to.old to.new }
     ensures places_kept { to.new.places.now ≡ to.old.places.now }
     ensures same { SameLists to.old to.new }
 {
-    let u = front(c.own, f, t, to);
-    let at = record(to.bytes, u.bytes, f, c.cie);
+    let at = record(to.bytes, t.bytes, f, cie);
     let p = Places {
-        at: u.bytes,
-        cie: c.cie,
+        at: t.bytes,
+        cie,
         table: t.sites + padding(4, t.sites),
     };
-    let i = record_relocs(to.relocations, u.relocations, f, &p, lists.pairs);
+    let i = record_relocs(to.relocations, t.relocations, f, &p, lists.pairs);
     let end = call_sites(to.sites, t.sites, &f.extent, lists.landings);
     Table {
         bytes: at,
@@ -565,70 +455,86 @@ fn piece(lists: &Lists, c: Chosen, f: &Function, t: Table, to: &mut Output) -> T
     }
 }
 
-// The header of function k, behind `at` bytes: its own, or that of its owner.
-fn header_for(k: usize, at: usize, chains: &Chains, to: &Output) -> Chosen
-    requires { (k < length chains.now.owners.now) × (get_or chains.now.owners.now k 0 ≤ k) × (k ≤ length to.now.places.now) }
-    ensures { result ≡ chosen_by (get_or chains.now.owners.now k 0) k at to.now.places.now }
-{
-    let o = usize::from(chains.owners[k]);
-    if o == k {
-        return Chosen { own: true, cie: at };
-    }
-    Chosen {
-        own: false,
-        cie: to.places[o] as usize,
-    }
-}
-
-// Function k of n, behind t.
-fn part(x: &Input, chains: &Chains, k: usize, n: usize, t: Table, to: &mut Output) -> Table
-    requires { ReadyFor (inputs_of x.now) k n t to.old × OwnedIn (inputs_of x.now) (k + 1) chains.now }
-    ensures { AddsTo (inputs_of x.now) k t result to.old to.new }
-{
-    let c = header_for(k, t.bytes, chains, to);
-    to.places[k] = c.cie as u64;
-    let f = written(x, k, k + 1 == n);
-    piece(&x.lists, c, &f, t, to)
-}
-
-// All functions.
-fn store(x: &Input, chains: &Chains, to: &mut Output) -> Table
-    requires { Cleared (inputs_of x.now) × HasRoom (inputs_of x.now) (count_in (inputs_of x.now)) to.old × OwnedIn (inputs_of x.now) (count_in (inputs_of x.now)) chains.now }
-    ensures { FillsTo (inputs_of x.now) (count_in (inputs_of x.now)) result to.old to.new }
-{
-    let functions = x.lists.count();
-    let mut t = Table::NOTHING;
-    for k in 0..functions {
-        t = part(x, chains, k, functions, t, to);
-    }
-    t
-}
-
 // ---- the whole
 
-// The functions written into lists that have room for them.
-fn stored(x: &Input, chains: &Chains, to: &mut Output) -> Result<Option<Counts>, Refusal>
-    requires { Cleared (inputs_of x.now) × HasRoom (inputs_of x.now) (count_in (inputs_of x.now)) to.old × OwnedIn (inputs_of x.now) (count_in (inputs_of x.now)) chains.now }
-    ensures { WritesTo (fitting (room_of to.old) (section_in (inputs_of x.now))) result to.old to.new }
-{
-    let n = x.lists.count();
-    let t = store(x, chains, to);
-    Ok(Some(Counts {
-        places: n as u64,
-        bytes: t.bytes as u64,
-        relocations: (t.relocations / relocs::RELOCATION_STRIDE) as u64,
-        sites: t.sites as u64,
-    }))
+// Functions that have passed all questions, and the owners of their headers.
+#[derive(Clone, Copy)]
+struct Entries<'a> {
+    input: &'a Input<'a>,
+    owners: &'a [u16],
+    ghost cleared: { Cleared (inputs_of input.now) } by { Cleared-prop (inputs_of input.now) },
+    ghost owned: { Owned (inputs_of input.now) (count_in (inputs_of input.now)) owners.now } by { Owned-prop (inputs_of input.now) (count_in (inputs_of input.now)) owners.now },
 }
 
-// The functions written where there is room for t, which stands behind them.
-fn roomed(x: &Input, chains: &Chains, t: Table, to: &mut Output) -> Result<Option<Counts>, Refusal>
-    requires { Cleared (inputs_of x.now) × OwnedIn (inputs_of x.now) (count_in (inputs_of x.now)) chains.now × (t ≡ totals_in (parts_to (inputs_of x.now) (count_in (inputs_of x.now)))) }
-    ensures { WritesTo (fitting (room_of to.old) (section_in (inputs_of x.now))) result to.old to.new }
-{
-    let n = x.lists.count();
-    room(n, t, to.lent())?;
-    stored(x, chains, to)
+impl Entries<'_> {
+    // What stands behind all of them.
+    fn sizes(&self) -> Table
+        ensures { result ≡ totals_in (parts_to (inputs_of self.now.input.now) (count_in (inputs_of self.now.input.now))) }
+    {
+        let n = self.input.lists.count();
+        let mut t = Table::NOTHING;
+        for k in 0..n {
+            let size = rows_size(self.input, k);
+            let o = usize::from(self.owners[k]);
+            t = size_next(self.input, o, k, n, size, t);
+        }
+        t
+    }
+
+    // Function k of n behind t, with a header of its own or that of its owner.
+    fn part(&self, k: usize, n: usize, t: Table, to: &mut Output) -> Table
+        requires { ReadyFor (inputs_of self.now.input.now) k n t to.old }
+        ensures { AddsTo (inputs_of self.now.input.now) k t result to.old to.new }
+    {
+        let o = usize::from(self.owners[k]);
+        let f = written(self.input, k, k + 1 == n);
+        if o == k {
+            to.places[k] = t.bytes as u64;
+            let u = front(&f, t, to);
+            return piece(&self.input.lists, t.bytes, &f, u, to);
+        }
+        let cie = to.places[o];
+        to.places[k] = cie;
+        piece(&self.input.lists, cie as usize, &f, t, to)
+    }
+
+    // All of them.
+    fn store(&self, to: &mut Output) -> Table
+        requires { HasRoom (inputs_of self.now.input.now) (count_in (inputs_of self.now.input.now)) to.old }
+        ensures { FillsTo (inputs_of self.now.input.now) (count_in (inputs_of self.now.input.now)) result to.old to.new }
+    {
+        let functions = self.input.lists.count();
+        let mut t = Table::NOTHING;
+        for k in 0..functions {
+            t = self.part(k, functions, t, to);
+        }
+        t
+    }
+
+    // They are written into lists that have room for them.
+    fn stored(&self, to: &mut Output) -> Result<Option<Counts>, Refusal>
+        requires { HasRoom (inputs_of self.now.input.now) (count_in (inputs_of self.now.input.now)) to.old }
+        ensures { WritesTo (fitting (room_of to.old) (section_in (inputs_of self.now.input.now))) (numbered_at result) to.old to.new }
+    {
+        let n = self.input.lists.count();
+        let t = self.store(to);
+        Ok(Some(Counts {
+            places: n as u64,
+            bytes: t.bytes as u64,
+            relocations: (t.relocations / relocs::RELOCATION_STRIDE) as u64,
+            sites: t.sites as u64,
+        }))
+    }
+
+    // They are written where there is room for t, which stands behind them.
+    fn roomed(&self, t: Table, to: &mut Output) -> Result<Option<Counts>, Refusal>
+        requires { t ≡ totals_in (parts_to (inputs_of self.now.input.now) (count_in (inputs_of self.now.input.now))) }
+        ensures { WritesTo (fitting (room_of to.old) (section_in (inputs_of self.now.input.now))) (numbered_at result) to.old to.new }
+    {
+        let n = self.input.lists.count();
+        room(n, t, to.lent())?;
+        self.stored(to)
+    }
 }
 
 // The chains of owners empty again.
@@ -645,95 +551,145 @@ fn ample(fs: &[u64], lent: Counts) -> bool
     room(fs.len() / lists::FUNCTION_STRIDE, most(fs), lent).is_ok()
 }
 
-// The one pass, where sizes are needed.
-fn tried(x: &Input, lent: Counts, chains: &mut Chains) -> Option<Table>
-    requires { T (sums_ok x.now.lists.functions.now) × EmptyFor (count_in (inputs_of x.now)) chains.old }
-    ensures { AllSurveyed (inputs_of x.now) chains.new.owners.now result × LongFor (count_in (inputs_of x.now)) chains.new }
-{
-    if ample(x.lists.functions, lent) {
-        return None;
-    }
-    survey(x, chains)
-}
-
 // The functions written where there is room; their owners are found first, in the lists lent for that. Where the lists hold the most
 // that such functions can need, the pass that sizes them is left out.
-// Kept: what is read, what is worked in and what is written, here and in the next two. One struct of them would be lent to be
-// written as a whole, and each contract would have to say that the input stays.
+// Kept: the lists that owners are found in are lent, here and in what calls it, beside the lists that are written. In one struct with
+// the input they would be lent to be written as a whole, and each contract would have to say that the input stays; and that they
+// are empty is true at the start only, so that no struct can hold it.
 fn fitted(x: &Input, chains: &mut Chains, to: &mut Output) -> Result<Option<Counts>, Refusal>
     requires { Cleared (inputs_of x.now) × EmptyFor (count_in (inputs_of x.now)) chains.old }
-    ensures { WritesTo (fitting (room_of to.old) (section_in (inputs_of x.now))) result to.old to.new }
+    ensures { WritesTo (fitting (room_of to.old) (section_in (inputs_of x.now))) (numbered_at result) to.old to.new }
 {
     let n = x.lists.count();
     owners::owners(x, n, chains);
-    if room(n, most(x.lists.functions), to.lent()).is_err() {
-        let t = sizes(x, chains);
-        return roomed(x, chains, t, to);
-    }
-    stored(x, chains, to)
-}
-
-// Every question asked by itself, and the functions written where there is room.
-fn asked(x: &Input, chains: &mut Chains, to: &mut Output) -> Result<Option<Counts>, Refusal>
-    requires { T (sums_ok x.now.lists.functions.now) × EmptyFor (count_in (inputs_of x.now)) chains.old }
-    ensures { WritesTo (listed_answer (inputs_of x.now) (room_of to.old)) result to.old to.new }
-{
-    let n = x.lists.count();
-    if !x.lists.functions_ok(n) {
-        return Err(Refusal {
-            number: 13,
-            position: 0,
-        });
-    }
-    all_asks(x)?;
-    fitted(x, chains, to)
-}
-
-// One pass where it is enough, and every question by itself where it is not.
-fn answered(x: &Input, chains: &mut Chains, to: &mut Output) -> Result<Option<Counts>, Refusal>
-    requires { T (sums_ok x.now.lists.functions.now) × EmptyFor (count_in (inputs_of x.now)) chains.old }
-    ensures { WritesTo (listed_answer (inputs_of x.now) (room_of to.old)) result to.old to.new }
-{
-    if let Some(t) = tried(x, to.lent(), chains) {
-        return roomed(x, chains, t, to);
-    }
-    unchain(chains.heads);
-    asked(x, chains, to)
-}
-
-// The same with the lists that the functions' owners are found in, which lie on the stack.
-fn answered_with<const HEADS: usize, const FUNCTIONS: usize>(
-    x: &Input,
-    to: &mut Output,
-) -> Result<Option<Counts>, Refusal>
-    requires { T (sums_ok x.now.lists.functions.now) × (count_in (inputs_of x.now) ≤ FUNCTIONS) × (FUNCTIONS ≤ 65536) × (0 < HEADS) × (HEADS ≤ 65536) }
-    ensures { WritesTo (listed_answer (inputs_of x.now) (room_of to.old)) result to.old to.new }
-{
-    let mut heads = [0u16; HEADS];
-    let mut links = [0u16; FUNCTIONS];
-    let mut owners = [0u16; FUNCTIONS];
-    let mut chains = Chains {
-        heads: &mut heads,
-        links: &mut links,
-        owners: &mut owners,
+    let entries = Entries {
+        input: x,
+        owners: chains.owners,
     };
-    answered(x, &mut chains, to)
+    if room(n, most(x.lists.functions), to.lent()).is_err() {
+        let t = entries.sizes();
+        return entries.roomed(t, to);
+    }
+    entries.stored(to)
 }
 
-// The functions asked, sized and, where there is room, written. Clearing the lists for their owners is to cost little for a few
-// functions: there are three sizes of them.
-fn deliver(x: &Input, to: &mut Output) -> Result<Option<Counts>, Refusal>
-    requires { T (sums_ok x.now.lists.functions.now) }
-    ensures { WritesTo (listed_answer (inputs_of x.now) (room_of to.old)) result to.old to.new }
-{
-    let n = x.lists.count();
-    if n <= 64 {
-        return answered_with::<61, 64>(x, to);
+// Functions whose sums have passed question 13.
+#[derive(Clone, Copy)]
+struct Counted<'a> {
+    input: &'a Input<'a>,
+    ghost sums: { T (sums_ok input.now.lists.functions.now) },
+}
+
+impl Counted<'_> {
+    // The bytes of function k's rows, where it passes questions 13 and 21 to 25. None says nothing.
+    fn function_surveyed(&self, k: usize) -> Option<usize>
+        requires { k < count_in (inputs_of self.now.input.now) }
+        ensures { FunctionSurveyed (inputs_of self.now.input.now) k result }
+    {
+        let x = self.input;
+        if !x.lists.outline_ok(k) {
+            return None;
+        }
+        let e = x.function(k);
+        if !fields_ok(x, &e) {
+            return None;
+        }
+        surveyed_rows(x.machine.word, x.lists.rows, e.rows_at, e.rows)
     }
-    if n <= 2048 {
-        return answered_with::<2039, 2048>(x, to);
+
+    // The functions' owners, and what stands behind the functions, where all pass questions 13 and 21 to 25. None says nothing.
+    fn survey(&self, chains: &mut Chains) -> Option<Table>
+        requires { EmptyFor (count_in (inputs_of self.now.input.now)) chains.old }
+        ensures { AllSurveyed (inputs_of self.now.input.now) chains.new.owners.now result × LongFor (count_in (inputs_of self.now.input.now)) chains.new }
+    {
+        let n = self.input.lists.count();
+        let mut t = Table::NOTHING;
+        for k in 0..n {
+            let size = self.function_surveyed(k)?;
+            owners::find_owner(self.input, k, chains);
+            let o = usize::from(chains.owners[k]);
+            t = size_next(self.input, o, k, n, size, t);
+        }
+        Some(t)
     }
-    answered_with::<16381, MOST_FUNCTIONS>(x, to)
+
+    // The one pass, where sizes are needed.
+    fn tried(&self, lent: Counts, chains: &mut Chains) -> Option<Table>
+        requires { EmptyFor (count_in (inputs_of self.now.input.now)) chains.old }
+        ensures { AllSurveyed (inputs_of self.now.input.now) chains.new.owners.now result × LongFor (count_in (inputs_of self.now.input.now)) chains.new }
+    {
+        let x = self.input;
+        if ample(x.lists.functions, lent) {
+            return None;
+        }
+        self.survey(chains)
+    }
+
+    // Every question asked by itself, and the functions written where there is room.
+    fn asked(&self, chains: &mut Chains, to: &mut Output) -> Result<Option<Counts>, Refusal>
+        requires { EmptyFor (count_in (inputs_of self.now.input.now)) chains.old }
+        ensures { WritesTo (listed_answer (inputs_of self.now.input.now) (room_of to.old)) (numbered_at result) to.old to.new }
+    {
+        let n = self.input.lists.count();
+        if !self.input.lists.functions_ok(n) {
+            return Err(Refusal {
+                question: Question::Lists,
+                position: 0,
+            });
+        }
+        all_asks(self.input)?;
+        fitted(self.input, chains, to)
+    }
+
+    // One pass where it is enough, and every question by itself where it is not.
+    fn answered(&self, chains: &mut Chains, to: &mut Output) -> Result<Option<Counts>, Refusal>
+        requires { EmptyFor (count_in (inputs_of self.now.input.now)) chains.old }
+        ensures { WritesTo (listed_answer (inputs_of self.now.input.now) (room_of to.old)) (numbered_at result) to.old to.new }
+    {
+        if let Some(t) = self.tried(to.lent(), chains) {
+            let entries = Entries {
+                input: self.input,
+                owners: chains.owners,
+            };
+            return entries.roomed(t, to);
+        }
+        unchain(chains.heads);
+        self.asked(chains, to)
+    }
+
+    // The same with the lists that the functions' owners are found in, which lie on the stack.
+    fn answered_with<const HEADS: usize, const FUNCTIONS: usize>(
+        &self,
+        to: &mut Output,
+    ) -> Result<Option<Counts>, Refusal>
+        requires { (count_in (inputs_of self.now.input.now) ≤ FUNCTIONS) × (FUNCTIONS ≤ 65536) × (0 < HEADS) × (HEADS ≤ 65536) }
+        ensures { WritesTo (listed_answer (inputs_of self.now.input.now) (room_of to.old)) (numbered_at result) to.old to.new }
+    {
+        let mut heads = [0u16; HEADS];
+        let mut links = [0u16; FUNCTIONS];
+        let mut owners = [0u16; FUNCTIONS];
+        let mut chains = Chains {
+            heads: &mut heads,
+            links: &mut links,
+            owners: &mut owners,
+        };
+        self.answered(&mut chains, to)
+    }
+
+    // The functions asked, sized and, where there is room, written. Clearing the lists for their owners is to cost little for a few
+    // functions: there are three sizes of them.
+    fn deliver(&self, to: &mut Output) -> Result<Option<Counts>, Refusal>
+        ensures { WritesTo (listed_answer (inputs_of self.now.input.now) (room_of to.old)) (numbered_at result) to.old to.new }
+    {
+        let n = self.input.lists.count();
+        if n <= 64 {
+            return self.answered_with::<61, 64>(to);
+        }
+        if n <= 2048 {
+            return self.answered_with::<2039, 2048>(to);
+        }
+        self.answered_with::<16381, MOST_FUNCTIONS>(to)
+    }
 }
 
 // A DWARF section of functions: headers and records, their relocations, the call sites, and each function's header place. A
@@ -751,17 +707,17 @@ pub fn dwarf(
     relocations: &mut [u64],
     sites: &mut [u8],
 ) -> Result<Option<Counts>, Refusal>
-    ensures { Writes (dwarf_given s (given_of machine.now functions.now rows.now landings.now pairs.now) (room_in places.old bytes.old relocations.old sites.old)) result places.old places.new bytes.old bytes.new relocations.old relocations.new sites.old sites.new }
+    ensures { Writes (dwarf_given s (given_of machine.now functions.now rows.now landings.now pairs.now) (room_in places.old bytes.old relocations.old sites.old)) (numbered_at result) places.old places.new bytes.old bytes.new relocations.old relocations.new sites.old sites.new }
 {
     if !machine_ok(machine) {
         return Err(Refusal {
-            number: 11,
+            question: Question::Interface,
             position: 0,
         });
     }
     if !sums_ok(functions) {
         return Err(Refusal {
-            number: 13,
+            question: Question::Lists,
             position: 0,
         });
     }
@@ -781,5 +737,5 @@ pub fn dwarf(
         relocations,
         sites,
     };
-    deliver(&x, &mut to)
+    Counted { input: &x }.deliver(&mut to)
 }

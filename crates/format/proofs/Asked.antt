@@ -3,11 +3,9 @@ use mathlib.Core.Path.{◌≡◌, refl}
 use Prim.Native.Nat.{ℕ}
 use native.Mathlib.Omega.{arith}
 use mathlib.Core.Option.{Option, none, some}
-use Rattle.format.specs.declared.Refusal.{Refusal}
 use Rattle.std.specs.Prelude.{Some, None, Ok, Err, is_err}
 use Rattle.std.specs.Prelude as code
 use mathlib.Core.Bool.{false}
-use Rattle.format.specs.Coded.{refusal}
 use Rattle.format.specs.Questions.{is_some}
 
 -- a value, where there is one, as the code has it
@@ -17,12 +15,12 @@ option_of (some a) = Some a
 
 -- what a function that asks questions answers
 abbrev pub Asked : Type 0
-Asked = code.Result Unit Refusal
+Asked = code.Result Unit (ℕ × ℕ)
 
 -- what a function that asks answers, by what the definition answers: yes, or the number and the position of the first no
 unfoldable pub question_of : Option (ℕ × ℕ) → Asked
 question_of none = Ok tt
-question_of (some x) = Err (refusal x.0 x.1)
+question_of (some x) = Err x
 
 pub said_yes : (o : Option (ℕ × ℕ)) → question_of o ≡ Ok tt → o ≡ none
 unfolding question_of
@@ -30,10 +28,10 @@ said_yes none e = refl
 said_yes (some r) e = let z : ◌≡◌ {A = ℕ} 0 1 = cc in absurd (omega arith)
 
 -- a no is the question's
-pub said_no : (o : Option (ℕ × ℕ)) {r : Refusal} → question_of o ≡ Err r → (x : ℕ × ℕ) × ((o ≡ some x) × (r ≡ refusal x.0 x.1))
+pub said_no : (o : Option (ℕ × ℕ)) {r : ℕ × ℕ} → question_of o ≡ Err r → o ≡ some r
 unfolding question_of
 said_no none e = let z : ◌≡◌ {A = ℕ} 0 1 = cc in absurd (omega arith)
-said_no (some x) e = (x, (refl, cc))
+said_no (some x) e = cc
 
 pub no_error : (q : Asked) → is_err q ≡ false → q ≡ Ok tt
 no_error (Ok u) e = refl

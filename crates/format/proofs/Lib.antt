@@ -24,6 +24,8 @@ pub mod GoesBack
 pub mod SigningRemembered
 pub mod ListLaws
 pub mod Asked
+pub mod Bits
+pub mod Onward
 pub mod Asking
 pub mod Accepted
 pub mod Wrote

@@ -10,7 +10,6 @@ use Rattle.format.specs.Coded.{Reading}
 use Rattle.std.specs.Prelude.{Ok, Err}
 use Rattle.format.specs.Coded.{Outcome}
 use Rattle.std.specs.Prelude.{Some, None, Ok, Err}
-use Rattle.format.specs.Coded.{refusal}
 use Rattle.format.specs.Writer.{Written}
 use Rattle.format.specs.Lists.{numbers_of}
 use Rattle.format.specs.Put.{put}
@@ -51,11 +50,11 @@ marked_numbers r shortest = reading_numbers r ++ (mark_of r shortest ∷ [])
 unfoldable pub outcome_numbers : Outcome → List ℕ
 outcome_numbers (Ok (Some c)) = 0 ∷ 0 ∷ c.places ∷ c.bytes ∷ c.relocations ∷ c.sites ∷ []
 outcome_numbers (Ok None) = 0 ∷ 0 ∷ 0 ∷ 0 ∷ 0 ∷ 0 ∷ []
-outcome_numbers (Err r) = r.number ∷ r.position ∷ 0 ∷ 0 ∷ 0 ∷ 0 ∷ []
+outcome_numbers (Err r) = r.0 ∷ r.1 ∷ 0 ∷ 0 ∷ 0 ∷ 0 ∷ []
 
 -- what a writer's function answers, by what the definition answers
 unfoldable pub outcome_of : Answer → Outcome
-outcome_of (refused n k) = Err (refusal n k)
+outcome_of (refused n k) = Err (n, k)
 outcome_of empty = Ok None
 outcome_of (accepted w) =
     Ok (Some (record { places = length w.places; bytes = length w.bytes; relocations = length w.relocations; sites = length w.sites }))

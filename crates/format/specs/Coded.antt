@@ -3,6 +3,8 @@ use Rattle.std.specs.Prelude.{ℕ, Ok, Err}
 use Rattle.std.specs.Prelude as code
 use Rattle.format.specs.declared.Counts.{Counts}
 use Rattle.format.specs.declared.Refusal.{Refusal}
+use Rattle.format.specs.declared.question.Question.{Question}
+use Rattle.format.specs.Numbers.{number_of}
 use Rattle.format.specs.declared.Rules.{Rules}
 use Rattle.format.specs.Prelude.{Result, good, bad}
 
@@ -11,13 +13,19 @@ abbrev pub result_of : {A : Type 0} → Result A → code.Result A ℕ
 result_of (good a) = Ok a
 result_of (bad n) = Err n
 
--- a question answered by no: its number and the function's position
-abbrev pub refusal : (number position : ℕ) → Refusal
-refusal number position = record { number = number; position = position }
+-- a reader's answer, with the number of the question in place of its name
+abbrev pub numbered : {A : Type 0} → code.Result A Question → code.Result A ℕ
+numbered (Ok a) = Ok a
+numbered (Err q) = Err (number_of q)
 
--- what a writer answers: the counts of what it wrote; nothing, in a format that has no table; or a refusal
+-- a writer's answer, with the number of the question beside the function's position
+abbrev pub numbered_at : {A : Type 0} → code.Result A Refusal → code.Result A (ℕ × ℕ)
+numbered_at (Ok a) = Ok a
+numbered_at (Err r) = Err (number_of r.question, r.position)
+
+-- what a writer answers: the counts of what it wrote; nothing, in a format that has no table; or a question's number and a position
 abbrev pub Outcome : Type 0
-Outcome = code.Result (code.Option Counts) Refusal
+Outcome = code.Result (code.Option Counts) (ℕ × ℕ)
 
 -- what the reader answers: the rules, or a question's number
 abbrev pub Reading : Type 0

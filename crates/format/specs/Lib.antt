@@ -1,5 +1,6 @@
 -- The definitions that every contract and law of the library speaks of, written from the documents. Read them in this order; README.md, "What is to be believed", says what each file holds and how long it is.
 pub mod Prelude
+pub mod Numbers
 pub mod Coded
 pub mod Constants
 pub mod Put

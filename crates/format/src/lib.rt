@@ -5,6 +5,10 @@
 ghost use Rattle.std.specs.Prelude.{◌≡◌};
 ghost use Rattle.format.specs.Machine.{x8664, machine_with};
 
+pub use question::Question;
+
+pub mod question;
+
 // A machine as the tables see it: the pointer width in bytes, the bytes that a call pushes, DWARF's numbers of the stack
 // pointer, the return address and the frame pointer (65,536: none), and what register of the machine a DWARF number is.
 #[derive(Clone, Copy)]
@@ -84,16 +88,19 @@ pub enum Seh {
 }
 
 // The rule of the canonical frame address (CFA): none, or a register plus an offset.
-// Kept: an enum, and no Option of a pair: unset is a state as unstated is one of Rule, and the two numbers have a name.
-#[derive(Clone, Copy)]
+// Kept: an enum, and no Option of a pair: that makes one of the three functions which take it apart shorter (reader's `register_rule`, an `ok_or`),
+// leaves those of unwind and walk as they are, and puts a None for `Unset` in 14 lines of the definitions.
+#[derive(Clone, Copy, Default)]
 pub enum CfaRule {
+    #[default]
     Unset,
     Register(u16, i64),
 }
 
 // A register's rule: where the caller's value is.
-#[derive(Clone, Copy)]
+#[derive(Clone, Copy, Default)]
 pub enum Rule {
+    #[default]
     Unstated,
     Undefined,
     Saved(i64),
@@ -101,8 +108,9 @@ pub enum Rule {
     InRegister(u16),
 }
 
-// What holds at a place, for one register: the CFA rule, the register's rule and the signing state.
-#[derive(Clone, Copy)]
+// What holds at a place, for one register: the CFA rule, the register's rule and the signing state. In front of a header's operations it is
+// the default.
+#[derive(Clone, Copy, Default)]
 pub struct Rules {
     pub cfa: CfaRule,
     pub rule: Rule,
@@ -124,11 +132,11 @@ pub enum Operation {
     Does(Row),
 }
 
-// A question answered by no: its number and the function's position. A writer answers `Result<Option<Counts>, Refusal>`: what it
+// A question answered by no, and the function's position. A writer answers `Result<Option<Counts>, Refusal>`: what it
 // wrote, by the counts of its results, or nothing, in a format that has no table.
 #[derive(Clone, Copy, PartialEq, Eq)]
 pub struct Refusal {
-    pub number: u64,
+    pub question: Question,
     pub position: u64,
 }
 

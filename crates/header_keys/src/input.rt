@@ -16,11 +16,12 @@ pub struct Input<'a> {
 
 impl Input<'_> {
     ghost use Rattle.std.specs.Prelude.{◌≡◌, ◌+◌, ◌*◌, ◌≤◌, length};
+    ghost use Rattle.format.specs.Lists.{function_stride};
     ghost use Rattle.header_keys.specs.Inputs.{inputs_of, extent_in};
 
     // Function k as the section takes it.
     pub fn function(&self, k: usize) -> Extent
-        requires { 18 * k + 18 ≤ length self.now.lists.functions.now }
+        requires { function_stride * k + function_stride ≤ length self.now.lists.functions.now }
         ensures { result ≡ extent_in (inputs_of self.now) k }
     {
         crate::taken(self.section, lists::extent_at(self.lists.functions, k))

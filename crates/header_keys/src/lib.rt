@@ -5,7 +5,7 @@ ghost use Rattle.std.specs.Prelude.{◌≡◌, [], ◌+◌, ◌*◌, ◌≤◌, 
 ghost use Rattle.format.specs.Prelude.{pick, each};
 ghost use Rattle.format.specs.declared.Row.TheVariants.{RememberState};
 ghost use Rattle.format.specs.Headers.{implied, leads, ahead, leading};
-ghost use Rattle.format.specs.Lists.{row_at};
+ghost use Rattle.format.specs.Lists.{row_stride, row_at};
 ghost use Rattle.format.proofs.Fits.{MachineFits};
 ghost use Rattle.header_keys.specs.Functions.{taken_in, body_of, RowsReady};
 ghost use Rattle.header_keys.specs.Kinds.{asked_kind};
@@ -42,6 +42,7 @@ pub enum Kind {
 }
 
 // The kind of header that a function asks for. Landings beat a named personality.
+// Kept: a name of its own and no `From`: it is an answer about a record, and not the record in another form.
 #[tactic(auto, unfolding(crate::specs::Kinds::asked_kind, crate::specs::Kinds::by_personality, format::specs::Prelude::pick))]
 pub fn kind_of(e: &Extent) -> Kind
     ensures { result ≡ asked_kind e.now }
@@ -59,7 +60,7 @@ pub fn kind_of(e: &Extent) -> Kind
 
 // Row i is at offset 0 and no RememberState.
 fn leads_at(rows: &[u64], i: usize) -> bool
-    requires { 4 * i + 4 ≤ length rows.now }
+    requires { row_stride * i + row_stride ≤ length rows.now }
     ensures { result ≡ leads (row_at rows.now i) }
 {
     if rows::offset_at(rows, i) != 0 {

@@ -8,7 +8,7 @@ use lib.ListN.{length, length-append, length-replicate}
 use lib.IntN.{pos, neg_ℤ, ◌-ℤ◌, +ℤ_idl}
 use lib.Signed.{mag}
 use mir.Syntax.{w64}
-use mir.Val.{SFits, to_z}
+use mir.Val.{SFits, to_z, bool_byte}
 use mir.Facts.{to_z_pos}
 use Rattle.std.specs.Prelude as code
 use Rattle.std.specs.Prelude.{Some, None, is_some}
@@ -21,7 +21,7 @@ use Rattle.format.proofs.LebBack.{little-length}
 use Rattle.lists.specs.declared.Lsda.{Lsda}
 use Rattle.lists.specs.declared.Personality.{Personality}
 use Rattle.header_keys.specs.Kinds.{lsda_of, named_by}
-use Rattle.headers.specs.Kinds.{ending, middle, flag, named_letters, named_data, tail_of}
+use Rattle.headers.specs.Kinds.{ending, middle, named_letters, named_data, tail_of}
 
 -- ---- the data alignment factor as the machine computes it
 
@@ -50,15 +50,15 @@ named_letters_lem e s (Some l) = refl
 named_letters_lem e s None = refl
 
 -- how many bytes of augmentation data a named personality has
-pub named_length : (e size : ℕ) (lsda : code.Option Lsda) → length (named_data e size (lsda_of lsda)) ≡ 2 + size + flag (is_some lsda)
-unfolding named_data lsda_letter lsda_of flag pick
+pub named_length : (e size : ℕ) (lsda : code.Option Lsda) → length (named_data e size (lsda_of lsda)) ≡ 2 + size + bool_byte (is_some lsda)
+unfolding named_data lsda_letter lsda_of pick
 named_length e size (Some l) = simp (length-append, length-replicate {A = ℕ} size 0) (omega arith)
 named_length e size None = simp (length-append, length-replicate {A = ℕ} size 0) (omega arith)
 
 pub named_tail : (word ret : ℕ) (signal : Bool) (p : Personality) → tail_of word ret signal (named_by p)
     ≡ named_letters (is_some p.lsda)
     ++ (middle word ret signal
-    ++ (uleb (2 + pointer_bytes word p.encoding + flag (is_some p.lsda)) ++ named_data p.encoding (pointer_bytes word p.encoding) (lsda_of p.lsda)))
+    ++ (uleb (2 + pointer_bytes word p.encoding + bool_byte (is_some p.lsda)) ++ named_data p.encoding (pointer_bytes word p.encoding) (lsda_of p.lsda)))
 unfolding tail_of augmentation_data counted named_data
 named_tail word ret signal p =
     rw (named_letters_lem p.encoding p.routine p.lsda, named_length p.encoding (pointer_bytes word p.encoding) p.lsda)

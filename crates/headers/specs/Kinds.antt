@@ -37,10 +37,6 @@ ending signal = pick signal (0x53 ∷ 0 ∷ []) (0 ∷ [])
 unfoldable pub middle : (word ret : ℕ) → Bool → List ℕ
 middle word ret signal = ending signal ++ (uleb 1 ++ (sleb (data_factor word) ++ uleb ret))
 
--- 1 where there is an LSDA
-unfoldable pub flag : Bool → ℕ
-flag lsda = pick lsda 1 0
-
 -- the letters and the augmentation data of a named personality, whose pointer has `size` bytes
 unfoldable pub named_letters : Bool → List ℕ
 named_letters lsda = pick lsda (0x7a ∷ 0x50 ∷ 0x4c ∷ 0x52 ∷ []) (0x7a ∷ 0x50 ∷ 0x52 ∷ [])

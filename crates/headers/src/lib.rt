@@ -10,7 +10,7 @@ ghost use Rattle.header_keys.specs.Functions.{key_in};
 ghost use Rattle.format.proofs.SectionSize.{Aligned};
 ghost use Rattle.headers.specs.Entries.{Closed};
 ghost use Rattle.header_keys.specs.Kinds.{lsda_of, named_by, asked_kind, kind_in};
-ghost use Rattle.headers.specs.Kinds.{head_in, EncodingFits, NamedFits, KindFits, ending, middle, flag, named_letters, named_data, header_reloc_count};
+ghost use Rattle.headers.specs.Kinds.{head_in, EncodingFits, NamedFits, KindFits, ending, middle, named_letters, named_data, header_reloc_count};
 ghost use Rattle.headers.specs.Written.{middle_of, tail_by, fields_of, starts_of, header_of};
 
 use format::Machine;
@@ -18,6 +18,7 @@ use header_keys::written::Function;
 use header_keys::{Kind, kind_of};
 use lists::{Extent, Lsda, Personality};
 use numbers::encodings;
+use rows::Word;
 
 // ---- the end of an entry
 
@@ -122,13 +123,6 @@ fn plain_header(out: &mut [u8], at: usize, f: &Function) -> usize
     leb::le(out, b, 2, 0x1b01)
 }
 
-#[tactic(auto, unfolding(crate::specs::Kinds::flag, format::specs::Prelude::pick))]
-fn flag(b: bool) -> u64
-    ensures { (result ≡ flag b) × (result ≤ 1) }
-{
-    u64::from(b)
-}
-
 // z, P, L where there is an LSDA, R.
 fn named_letters(out: &mut [u8], at: usize, lsda: bool) -> usize
     requires { at + length (named_letters lsda) ≤ length out.old }
@@ -171,7 +165,7 @@ fn named_header(out: &mut [u8], at: usize, f: &Function, p: &Personality) -> usi
     let a = named_letters(out, at, has_lsda);
     let b = middle(out, a, f);
     let size = numbers::pointer_bytes(f.machine.word, p.encoding);
-    let c = leb::uleb(out, b, 2 + size + flag(has_lsda));
+    let c = leb::uleb(out, b, 2 + size + u64::from(has_lsda));
     named_data(out, c, p, size as usize)
 }
 
@@ -225,10 +219,13 @@ fn starts(out: &mut [u8], at: usize, f: &Function) -> usize
     ensures { Wrote out.old out.new at result (starts_of f.now) }
 {
     let n = header_keys::leading_count(f.machine, &f.extent, f.rows);
+    let word = Word {
+        bytes: f.machine.word,
+    };
     let mut p = at;
     for i in 0..n {
         let row = header_keys::leading_at(f.machine, &f.extent, f.rows, i);
-        p = rows::row(out, p, f.machine.word, row);
+        p = rows::row(out, p, word, row);
     }
     p
 }
@@ -238,60 +235,79 @@ fn starts_size(f: &Function) -> usize
     ensures { result ≡ length (starts_of f.now) }
 {
     let n = header_keys::leading_count(f.machine, &f.extent, f.rows);
+    let word = Word {
+        bytes: f.machine.word,
+    };
     let mut size = 0;
     for i in 0..n {
         let row = header_keys::leading_at(f.machine, &f.extent, f.rows, i);
-        size += rows::row_size(f.machine.word, row);
+        size += rows::row_size(word, row);
     }
     size
 }
 
 // ---- sizes
 
-// How many bytes `middle` stores.
-fn middle_size(word: u64, ret: u64, signal: bool) -> usize
-    requires { word ≤ 8 }
-    ensures { (result ≡ length (middle word ret signal)) × (result ≤ 23) }
-{
-    2 + flag(signal) as usize + leb::sleb_size(data_factor(word)) + leb::uleb_size(ret)
+// What the fields of a header depend on.
+#[derive(Drop)]
+struct Head<'a> {
+    machine: &'a Machine,
+    extent: &'a Extent,
+    ghost small: { machine.now.word ≤ 8 },
 }
 
-// How many letters the augmentation string has.
-fn letters_size(e: &Extent) -> usize
-    ensures { (result ≡ length (letters (kind_in e.now))) × (result ≤ 4) }
-{
-    match kind_of(e) {
-        Kind::Plain => 2,
-        Kind::Personal => 4,
-        Kind::Named(p) => 3 + flag(p.lsda.is_some()) as usize,
+impl Head<'_> {
+    // How many bytes `middle` stores.
+    fn middle_size(&self) -> usize
+        ensures { (result ≡ length (middle self.now.machine.now.word self.now.machine.now.ret self.now.extent.now.signal)) × (result ≤ 23) }
+    {
+        let factor = leb::sleb_size(data_factor(self.machine.word));
+        2 + usize::from(self.extent.signal) + factor + leb::uleb_size(self.machine.ret)
     }
-}
 
-// How many bytes the augmentation data has.
-fn data_size(word: u64, e: &Extent) -> usize
-    requires { word ≤ 8 }
-    ensures { (result ≡ length (augmentation_data word (kind_in e.now))) × (result ≤ 11) }
-{
-    match kind_of(e) {
-        Kind::Plain => 1,
-        Kind::Personal => 7,
-        Kind::Named(p) => {
-            let pointer = numbers::pointer_bytes(word, p.encoding);
-            2 + pointer as usize + flag(p.lsda.is_some()) as usize
+    // How many letters the augmentation string has.
+    fn letters_size(&self) -> usize
+        ensures { (result ≡ length (letters (kind_in self.now.extent.now))) × (result ≤ 4) }
+    {
+        match kind_of(self.extent) {
+            Kind::Plain => 2,
+            Kind::Personal => 4,
+            Kind::Named(p) => 3 + usize::from(p.lsda.is_some()),
         }
     }
-}
 
-// How many bytes `fields` stores; the data's length is one of them.
-fn fields_size(debug: bool, m: &Machine, e: &Extent) -> usize
-    requires { m.now.word ≤ 8 }
-    ensures { (result ≡ length (header_fields debug m.now (head_in e.now))) × (result ≤ 44) }
-{
-    let n = 5 + middle_size(m.word, m.ret, e.signal);
-    if debug {
-        return n;
+    // How many bytes the augmentation data has.
+    fn data_size(&self) -> usize
+        ensures { (result ≡ length (augmentation_data self.now.machine.now.word (kind_in self.now.extent.now))) × (result ≤ 11) }
+    {
+        match kind_of(self.extent) {
+            Kind::Plain => 1,
+            Kind::Personal => 7,
+            Kind::Named(p) => {
+                let pointer = numbers::pointer_bytes(self.machine.word, p.encoding);
+                2 + pointer as usize + usize::from(p.lsda.is_some())
+            }
+        }
     }
-    n + letters_size(e) + 1 + data_size(m.word, e)
+
+    // How many bytes `fields` stores; the data's length is one of them.
+    fn fields_size(&self, debug: bool) -> usize
+        ensures { (result ≡ length (header_fields debug self.now.machine.now (head_in self.now.extent.now))) × (result ≤ 44) }
+    {
+        let n = 5 + self.middle_size();
+        if debug {
+            return n;
+        }
+        n + self.letters_size() + 1 + self.data_size()
+    }
+
+    // The place of the personality's pointer, behind its encoding, the first byte of the augmentation data.
+    fn pointer_place(&self, at: usize) -> u64
+        requires { at < 2 ^ 32 }
+        ensures { result ≡ pointer_place self.now.machine.now at (head_in self.now.extent.now) }
+    {
+        (at + 4 + self.fields_size(false) - self.data_size() + 1) as u64
+    }
 }
 
 // ---- a header
@@ -300,7 +316,11 @@ pub fn header_size(f: &Function, at: usize) -> usize
     requires { at < 2 ^ 32 }
     ensures { result ≡ length (header_of f.now at) }
 {
-    let n = 4 + fields_size(f.debug, f.machine, &f.extent) + starts_size(f);
+    let head = Head {
+        machine: f.machine,
+        extent: &f.extent,
+    };
+    let n = 4 + head.fields_size(f.debug) + starts_size(f);
     n + padding(f.align, at + n)
 }
 
@@ -332,14 +352,6 @@ pub fn header_relocs_count(debug: bool, e: &Extent) -> usize
     }
 }
 
-// The place of the personality's pointer, behind its encoding, the first byte of the augmentation data.
-fn pointer_place(m: &Machine, at: usize, e: &Extent) -> u64
-    requires { (m.now.word ≤ 8) × (at < 2 ^ 32) }
-    ensures { result ≡ pointer_place m.now at (head_in e.now) }
-{
-    (at + 4 + fields_size(false, m, e) - data_size(m.word, e) + 1) as u64
-}
-
 // The relocation of a header's personality. It asks no more of the function than its kind and the machine, so it takes no `Function`.
 pub fn header_relocs(
     out: &mut [u64],
@@ -355,13 +367,17 @@ pub fn header_relocs(
     if debug {
         return i;
     }
+    let head = Head {
+        machine: m,
+        extent: e,
+    };
     match kind_of(e) {
         Kind::Plain => i,
         Kind::Personal => pointer(
             out,
             i,
             m.word,
-            pointer_place(m, at, e),
+            head.pointer_place(at),
             relocs::PERSONALITY,
             encodings::INDIRECT_PCREL_SDATA4,
         ),
@@ -369,7 +385,7 @@ pub fn header_relocs(
             out,
             i,
             m.word,
-            pointer_place(m, at, e),
+            head.pointer_place(at),
             p.routine,
             p.encoding,
         ),

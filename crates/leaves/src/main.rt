@@ -4,6 +4,7 @@
 
 use format::{Operation, Row};
 use operations::fields::{Position, read_sleb, read_uleb};
+use rows::Word;
 use std::io;
 
 const UNSIGNED: [u64; 12] = [
@@ -123,10 +124,10 @@ impl Shown for i64 {
     fn show(self, rt: &impl Print) -> io::Result<()> {
         if self < 0 {
             print!(rt; " -")?;
-            ((-1 - self) as u64).show(rt)
+            (-1 - self).cast_unsigned().show(rt)
         } else {
             print!(rt; " +")?;
-            (self as u64).show(rt)
+            self.cast_unsigned().show(rt)
         }
     }
 }
@@ -144,7 +145,7 @@ impl Shown for Row {
             Row::RestoreState => row_parts(rt, 7, 0, 0),
             Row::NegateRaState => row_parts(rt, 8, 0, 0),
             Row::SameValue(reg) => row_parts(rt, 9, reg, 0),
-            Row::InRegister(reg, other) => row_parts(rt, 10, reg, other as i64),
+            Row::InRegister(reg, other) => row_parts(rt, 10, reg, i64::from(other)),
         }
     }
 }
@@ -219,12 +220,13 @@ fn signed(rt: &impl Print, i: usize, v: i64) -> io::Result<()> {
 
 // Nine bytes hold a row whose offset has 32 bits.
 fn write_row(rt: &impl Print, r: Row) -> io::Result<()> {
-    let size = rows::row_size(WORD, r);
+    let word = Word { bytes: WORD };
+    let size = rows::row_size(word, r);
     if 9 < size {
         return println!(rt; " long");
     }
     let mut out = [0u8; 9];
-    let n = rows::row(&mut out, 0, WORD, r);
+    let n = rows::row(&mut out, 0, word, r);
     let s = &out[..n];
     rest(rt, s, size, operations::operation(s, Position::START, WORD))
 }
@@ -256,11 +258,11 @@ fn step(rt: &impl Print, i: usize, by: u64) -> io::Result<()> {
 fn all_rows(rt: &impl Print) -> io::Result<()> {
     for (i, reg) in REGISTERS.iter().enumerate() {
         for (k, (kind, off)) in NAMING.iter().enumerate() {
-            row(rt, 7 * i + k, *kind, *reg, *off)?;
+            row(rt, NAMING.len() * i + k, *kind, *reg, *off)?;
         }
     }
     for (i, (kind, reg, off)) in ROWS.iter().enumerate() {
-        row(rt, 42 + i, *kind, *reg, *off)?;
+        row(rt, REGISTERS.len() * NAMING.len() + i, *kind, *reg, *off)?;
     }
     Ok(())
 }

@@ -10,14 +10,11 @@ use lib.Signed.{lt_z, mag, non_neg}
 use mir.Syntax.{w64}
 use mir.Val.{SFits, Fits, of_z, to_z}
 use mir.Facts.{to_z-of_z}
-use Rattle.format.specs.Leb.{sleb_f, sleb}
+use Rattle.format.specs.Leb.{sleb}
 use Rattle.format.proofs.Complements.{above_zero}
+use Rattle.leb.specs.Groups.{groups}
 use Rattle.leb.specs.Signs.{is_negative}
-
-by_sign : (v : ℤ) → sleb v ≡ sleb_f (is_negative v) 9 (mag v)
-unfolding sleb is_negative
-by_sign (pos n) = refl
-by_sign (negsuc n) = refl
+use Rattle.leb.proofs.SevenBits.{signed}
 
 below_zero : (v : ℤ) → lt_z v (pos 0) ≡ is_negative v
 unfolding is_negative
@@ -34,8 +31,8 @@ cast : {z : ℤ} {n : ℕ} → z ≡ pos n → n < 2 ^ 63 → T (non_neg z) × F
 cast e h = rw e (tt, record { fits = omega arith })
 
 module _ (v : ℤ) (f : SFits w64 v) where
-  pub bytes_of : {neg : Bool} {m : ℕ} → neg ≡ is_negative (to_z w64 (of_z w64 v)) → m ≡ mag (to_z w64 (of_z w64 v)) → sleb_f neg 9 m ≡ sleb v
-  bytes_of a b = rw (a, b, to_z-of_z f, by_sign)
+  pub bytes_of : {neg : Bool} {m : ℕ} → neg ≡ is_negative (to_z w64 (of_z w64 v)) → m ≡ mag (to_z w64 (of_z w64 v)) → groups 64 neg m ≡ sleb v
+  bytes_of a b = rw (a, b, to_z-of_z f, signed)
 
   pub sign : lt_z (to_z w64 (of_z w64 v)) (pos 0) ≡ is_negative v
   sign = rw (to_z-of_z f) (below_zero v)

@@ -1,2 +1,3 @@
 -- What the helpers of the LEB numbers do.
+pub mod Groups
 pub mod Signs

@@ -4,14 +4,15 @@
 ghost use Rattle.std.specs.Prelude.{◌≡◌, [], ◌∷◌, ◌+◌, ◌*◌, ◌/◌, ◌%◌, ◌^◌, ◌≤◌, ◌<◌, length, replicate};
 ghost use Rattle.std.specs.Int.Signed.{mag};
 ghost use Rattle.format.proofs.Wrote.{Wrote};
-ghost use Rattle.format.specs.Leb.{little, uleb, bits7, sleb_f, sleb};
+ghost use Rattle.format.specs.Leb.{little, uleb, bits7, sleb};
 ghost use Rattle.leb.specs.Signs.{is_negative};
+ghost use Rattle.leb.specs.Groups.{groups};
 
 // A byte at `at`. This and every other writer gives the place past what it stored.
 // Kept: the list and the place stand apart in every writer. In a struct of both the list would be lent through it, and each contract would
 // say besides that it is the same list still (D122).
-// Kept: `relocs::number` is its twin at u64. `Wrote` speaks of lists of numbers, and the elements of a type parameter are none: one
-// generic function would promise less, and each of the two would be proved over it, in more lines than their two.
+// Kept: `relocs::number` is its twin at u64. `Wrote` speaks of a list of numbers, which a `[T]` is not, so a generic function could promise no
+// more than `result ≡ at + 1` and `out.new ≡ set out.old at v`; `byte` and `number` would stay, each with a call of it for these two lines.
 pub fn byte(out: &mut [u8], at: usize, b: u8) -> usize
     requires { at + 1 ≤ length out.old }
     ensures { Wrote out.old out.new at result (b ∷ []) }
@@ -20,23 +21,7 @@ pub fn byte(out: &mut [u8], at: usize, b: u8) -> usize
     at + 1
 }
 
-// v as an unsigned LEB number.
-pub fn uleb(out: &mut [u8], at: usize, v: u64) -> usize
-    requires { at + length (uleb v) ≤ length out.old }
-    ensures { Wrote out.old out.new at result (uleb v) }
-{
-    let mut i = at;
-    let mut x = v;
-    while 128 <= x {
-        out[i] = (x % 128 + 128) as u8;
-        x = x / 128;
-        i += 1;
-    }
-    out[i] = x as u8;
-    i + 1
-}
-
-// Seven bits of a signed number, turned where it is negative.
+// Seven bits of a number, turned where it is negative.
 fn group(neg: bool, d: u8) -> u8
     requires { d < 128 }
     ensures { (result ≡ bits7 neg d) × (result < 128) }
@@ -44,20 +29,28 @@ fn group(neg: bool, d: u8) -> u8
     if neg { 127 - d } else { d }
 }
 
-// m, or -(m + 1) where neg is true, as a signed LEB number.
-fn sleb_bits(out: &mut [u8], at: usize, neg: bool, m: u64) -> usize
-    requires { (m < 2 ^ 63) × (at + length (sleb_f neg 9 m) ≤ length out.old) }
-    ensures { Wrote out.old out.new at result (sleb_f neg 9 m) }
+// The groups of m, each turned where neg is true, in a byte each: the last is the first that is below END.
+fn groups<const END: u64>(out: &mut [u8], at: usize, neg: bool, m: u64) -> usize
+    requires { (64 ≤ END) × (END ≤ 128) × (at + length (groups END neg m) ≤ length out.old) }
+    ensures { Wrote out.old out.new at result (groups END neg m) }
 {
     let mut i = at;
     let mut x = m;
-    while 64 <= x {
+    while END <= x {
         out[i] = group(neg, (x % 128) as u8) + 128;
         x = x / 128;
         i += 1;
     }
     out[i] = group(neg, x as u8);
     i + 1
+}
+
+// v as an unsigned LEB number.
+pub fn uleb(out: &mut [u8], at: usize, v: u64) -> usize
+    requires { at + length (uleb v) ≤ length out.old }
+    ensures { Wrote out.old out.new at result (uleb v) }
+{
+    groups::<128>(out, at, false, v)
 }
 
 fn negative(v: i64) -> bool
@@ -73,12 +66,12 @@ fn magnitude(v: i64) -> u64
     if v < 0 { (-1 - v) as u64 } else { v as u64 }
 }
 
-// v as a signed LEB number.
+// v as a signed LEB number: bit 6 of the last byte is the sign.
 pub fn sleb(out: &mut [u8], at: usize, v: i64) -> usize
     requires { at + length (sleb v) ≤ length out.old }
     ensures { Wrote out.old out.new at result (sleb v) }
 {
-    sleb_bits(out, at, negative(v), magnitude(v))
+    groups::<64>(out, at, negative(v), magnitude(v))
 }
 
 // v as a field of n bytes, the lowest first.
@@ -86,14 +79,12 @@ pub fn le(out: &mut [u8], at: usize, n: usize, v: u64) -> usize
     requires { at + n ≤ length out.old }
     ensures { Wrote out.old out.new at result (little n v) }
 {
-    let mut i = at;
     let mut x = v;
-    for _ in 0..n {
+    for i in at..at + n {
         out[i] = (x % 256) as u8;
         x = x / 256;
-        i += 1;
     }
-    i
+    at + n
 }
 
 // Zeros, N in a turn, while N or more of n are left. It answers its turns.
@@ -101,12 +92,10 @@ fn fill_by<const N: usize>(out: &mut [u8], at: usize, n: usize) -> usize
     requires { (0 < N) × (at + n ≤ length out.old) }
     ensures { (result ≡ n / N) × Wrote out.old out.new at (at + N * result) (replicate (N * result) 0) }
 {
-    let mut i = at;
-    let mut turns = 0;
-    for _ in 0..n / N {
+    let turns = n / N;
+    for turn in 0..turns {
+        let i = at + N * turn;
         out[i..i + N].fill(0);
-        i += N;
-        turns += 1;
     }
     turns
 }

@@ -150,9 +150,6 @@ module _ {q : ℕ} {s : List ℕ} {l : Located} {old : List ℕ} where
     pub refuses : {out' : List ℕ} {j at m : ℕ} → LinesStored q whole (ended at m) out out' j → Lists q (good whole) (record { number = 0; lines = j / 7; ending = m; from = at }) old out'
     refuses t = stored_ended (stored_joined b.lines t)
 
-    pub end_room : i + 7 ≤ length out
-    end_room = omega (arith, b.room)
-
     pub ended_all : 2 ≤ done → {out' : List ℕ} {j : ℕ} → Wrote out out' i j (line_numbers loc state.rules) → Lists q (good whole) (record { number = 0; lines = j / 7; ending = 0; from = 0 }) old out'
     unfolding one.at run_of
     ended_all e w = stored_last (rw (all_run l.word (part s l.header l.header_end) (part s l.«record» l.record_end) loc b.all done e) at b.lines) (rw (ap (λ (r : one.Run). r.current) b.seen) w)

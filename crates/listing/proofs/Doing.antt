@@ -27,7 +27,9 @@ use Rattle.reader.specs.States.{run_of}
 use Rattle.reader.specs.declared.run.State as code
 use Rattle.std.specs.Option.{is_some}
 use Rattle.reader.proofs.Operations.{none_where}
-use Rattle.reader.proofs.Seen.{SeenAs, answered, refused, seen_row}
+use Rattle.reader.proofs.Seen.{SeenAs, answered, seen_row}
+use Rattle.reader.proofs.Seen as seen
+use Rattle.reader.proofs.Acting.{Done, padded, acted, Refused, header_step, row_refused, done, refused, handed}
 use Rattle.listing.specs.Lines.{Lines, line, last, ended, highest, when_read, when_acted, stepping, doing, lines_f, line_numbers}
 use Rattle.listing.proofs.StoredLines.{LinesStored, stored_line, line_length}
 
@@ -103,7 +105,7 @@ module _ {whole : Lines} {header : Bool} {word q : ℕ} {initial : std.Option Ru
   rules_kept = ap (λ (r : one.Run). r.current) n.seen
 
   -- a header's operations have no initial rule, a record's have one
-  pub which : {b : Bool} → is_some initial ≡ not b → header ≡ b
+  which : {b : Bool} → is_some initial ≡ not b → header ≡ b
   which e = none_where header (n.first q) n.first_is e
 
   -- 66: an operation that cannot be read
@@ -126,20 +128,20 @@ module _ {whole : Lines} {header : Bool} {word q : ℕ} {initial : std.Option Ru
         n.lines
 
     -- less is left
-    pub shorter : length ops - next.at < length ops - at.at
+    shorter : length ops - next.at < length ops - at.at
     shorter = omega (arith, operation_ahead word ops at e)
 
     room_left : i + 7 * (pick header more (length ops - next.at) + 1) ≤ length out
     room_left = omega (arith, n.room, less_room header more (length ops - next.at) (length ops - at.at) (omega (arith, shorter)))
 
-    pub padding : op ≡ Nop → Inside whole header word q initial ops k more old out state i loc next
+    padding : op ≡ Nop → Inside whole header word q initial ops k more old out state i loc next
     unfolding doing
     padding o =
         record { near = n.near; first = n.first; first_is = n.first_is; all = n.all; seen = n.seen; lines = rw o at opened; room = room_left }
 
     module _ {d : ℕ} (o : op ≡ Step d) where
       -- 66: a step in a header
-      pub bad_step : header ≡ true → LinesStored q whole (ended loc 66) old out i
+      bad_step : header ≡ true → LinesStored q whole (ended loc 66) old out i
       unfolding doing stepping pick
       bad_step h = rw (o, h) at opened
 
@@ -148,7 +150,7 @@ module _ {whole : Lines} {header : Bool} {word q : ℕ} {initial : std.Option Ru
         unfolding doing
         stepped = rw (ap (λ (b : Bool). stepping b d loc n.all λ m u. listing header word n.first k m u (drop next.at ops)) (sym h)) (rw o at opened)
 
-        pub no_step : d ≡ 0 → Inside whole header word q initial ops k more old out state i loc next
+        no_step : d ≡ 0 → Inside whole header word q initial ops k more old out state i loc next
         unfolding stepping pick
         no_step z =
             record {
@@ -163,7 +165,7 @@ module _ {whole : Lines} {header : Bool} {word q : ℕ} {initial : std.Option Ru
 
         module _ (z : d ≡ 0 → ⊥) where
           -- a step past every offset
-          pub far_step : highest - loc < d → LinesStored q whole (last loc n.all) old out i
+          far_step : highest - loc < d → LinesStored q whole (last loc n.all) old out i
           unfolding stepping pick
           far_step l =
               let g : highest < loc + d = omega (arith, n.near) in
@@ -175,16 +177,13 @@ module _ {whole : Lines} {header : Bool} {word q : ℕ} {initial : std.Option Ru
               let g : loc + d ≤ highest = omega (arith, n.near) in
               rw (if-ne d 0 (listing header word n.first k loc n.all (drop next.at ops)) _ z, if-le (loc + d) highest _ (last loc n.all) g) at stepped
 
-          pub line_room : i + 7 ≤ length out
-          line_room = omega (arith, n.room)
-
           room_behind : {out' : List ℕ} {j : ℕ} → Wrote out out' i j (line_numbers loc state.rules) → length out' ≡ length out
               → j + 7 * (pick header more (length ops - next.at) + 1) ≤ length out'
           unfolding pick
           room_behind w g =
               let a : i + 7 * (length ops - at.at + 1) ≤ length out = rw h at n.room in rw h (omega (arith, a, g, w.past, line_length loc state.rules, shorter))
 
-          pub near_step : d ≤ highest - loc → {out' : List ℕ} {j : ℕ} → Wrote out out' i j (line_numbers loc state.rules) → length out' ≡ length out
+          near_step : d ≤ highest - loc → {out' : List ℕ} {j : ℕ} → Wrote out out' i j (line_numbers loc state.rules) → length out' ≡ length out
               → Inside whole header word q initial ops k more old out' state j (loc + d) next
           near_step l w g =
               record {
@@ -201,15 +200,15 @@ module _ {whole : Lines} {header : Bool} {word q : ℕ} {initial : std.Option Ru
       row_seen : SeenAs q (act header n.first row n.all) (one.act q initial row (run_of state))
       row_seen = rw (← n.first_is, ← n.seen) (seen_row header q n.first n.all row)
 
-      pub bad_row : {m : ℕ} → one.act q initial row (run_of state) ≡ bad m → LinesStored q whole (ended loc m) old out i
+      bad_row : {m : ℕ} → one.act q initial row (run_of state) ≡ bad m → LinesStored q whole (ended loc m) old out i
       unfolding doing when_acted
       bad_row {m} a = by row_seen
         where
           by : SeenAs q (act header n.first row n.all) (one.act q initial row (run_of state)) → LinesStored q whole (ended loc m) old out i
           by (answered s x y) = let w = sym a ∙ y in let z : ◌≡◌ {A = ℕ} 0 1 = cc in absurd (omega arith)
-          by (refused l x y) = let w = sym a ∙ y in let z : l ≡ m = cc in rw (← z) (rw (o, x) at opened)
+          by (seen.refused l x y) = let w = sym a ∙ y in let z : l ≡ m = cc in rw (← z) (rw (o, x) at opened)
 
-      pub good_row : {after : code.State} → one.act q initial row (run_of state) ≡ good (run_of after)
+      good_row : {after : code.State} → one.act q initial row (run_of state) ≡ good (run_of after)
           → Inside whole header word q initial ops k more old out after i loc next
       unfolding doing when_acted
       good_row {after} a = by row_seen
@@ -227,4 +226,54 @@ module _ {whole : Lines} {header : Bool} {word q : ℕ} {initial : std.Option Ru
                 lines = rw (o, x) at opened;
                 room = room_left;
               }
-          by (refused l x y) = let w = sym a ∙ y in let z : ◌≡◌ {A = ℕ} 0 1 = cc in absurd (omega arith)
+          by (seen.refused l x y) = let w = sym a ∙ y in let z : ◌≡◌ {A = ℕ} 0 1 = cc in absurd (omega arith)
+
+  -- ---- by what `perform` says of an operation
+
+  pub moved : {next : Position} {out' : List ℕ} {j loc' : ℕ} {after : code.State} → run_of after ≡ run_of state
+      → Inside whole header word q initial ops k more old out' state j loc' next → Inside whole header word q initial ops k more old out' after j loc' next
+  moved r m =
+      record { near = m.near; first = m.first; first_is = m.first_is; all = m.all; seen = m.seen ∙ sym r; lines = m.lines; room = m.room }
+
+  module _ {op : Operation} {next : Position} (e : operation_at word ops at ≡ Some (op, next)) where
+    pub goes_on : {after : code.State} → one.perform q initial op (run_of state) ≡ good (None, run_of after)
+        → Inside whole header word q initial ops k more old out after i loc next
+    goes_on {after} h = by (done q initial (run_of state) op h)
+      where
+        by : Done q initial (run_of state) op (run_of after) → Inside whole header word q initial ops k more old out after i loc next
+        by (padded o r) = moved r (padding e o)
+        by (acted row o a) = good_row e o a
+
+    pub refused_by : {m : ℕ} → one.perform q initial op (run_of state) ≡ bad m → LinesStored q whole (ended loc m) old out i
+    refused_by {m} h = by (refused q initial (run_of state) op h)
+      where
+        by : Refused q initial (run_of state) op m → LinesStored q whole (ended loc m) old out i
+        by (header_step d o r z) = rw z (bad_step e o (which (ap is_some r)))
+        by (row_refused row o a) = bad_row e o a
+
+    module _ {d : ℕ} (after : code.State) (h : one.perform q initial op (run_of state) ≡ good (Some d, run_of after)) where
+      step : (op ≡ Step d) × (is_some initial ≡ true) × (run_of after ≡ run_of state)
+      step = handed q initial (run_of state) op h
+
+      pub in_record : header ≡ false
+      in_record = which step.1
+
+      -- the state is what it was
+      pub stays : Inside whole header word q initial ops k more old out after i loc at
+      stays = moved step.2 n
+
+      pub stands : d ≡ 0 → Inside whole header word q initial ops k more old out after i loc next
+      stands z = moved step.2 (no_step e step.0 in_record z)
+
+      module _ (z : d ≡ 0 → ⊥) where
+        pub stops : highest - loc < d → LinesStored q whole (last loc stays.all) old out i
+        unfolding stays moved
+        stops l = far_step e step.0 in_record z l
+
+        rules_same : after.rules ≡ state.rules
+        unfolding run_of
+        rules_same = ap (λ (r : one.Run). r.current) step.2
+
+        pub steps_on : d ≤ highest - loc → {out' : List ℕ} {j : ℕ} → Wrote out out' i j (line_numbers loc after.rules) → length out' ≡ length out
+            → Inside whole header word q initial ops k more old out' after j (loc + d) next
+        steps_on l w g = moved step.2 (near_step e step.0 in_record z l (rw (← rules_same) w) g)

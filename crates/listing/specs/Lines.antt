@@ -64,7 +64,11 @@ lines_of word h r = lines_f true word blank.current.rules (record_lines word r) 
 
 -- ---- as numbers
 
--- 7 for each line: its offset, and the numbers of a reading behind the question's
+-- how many numbers a line has
+abbrev pub line_stride : ℕ
+line_stride = 7
+
+-- its offset, and the numbers of a reading behind the question's
 unfoldable pub line_numbers : ℕ → Rules → List ℕ
 line_numbers at a = at ∷ (cfa_numbers a.cfa ++ (rule_numbers a.rule ++ (bit a.signing ∷ [])))
 
@@ -91,7 +95,7 @@ unfoldable pub along : (section : List ℕ) → Located → (room : ℕ) → Res
 along s l room =
     pick (eqb l.number 0)
     (pick (in_section s (reader_places l))
-    (pick (leb (7 * (l.record_end - l.«record» + 1)) room)
+    (pick (leb (line_stride * (l.record_end - l.«record» + 1)) room)
     (good (lines_of l.word (part s l.header l.header_end) (part s l.«record» l.record_end)))
     (bad 54))
     (bad 64))

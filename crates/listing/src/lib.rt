@@ -4,12 +4,18 @@
 ghost use Rattle.std.specs.Prelude.{◌≡◌, length};
 ghost use Rattle.listing.specs.Lines.{along, Lists};
 
+use format::Question;
+use reader::location;
 use reads::Located;
 
 pub mod run;
 
+// How many numbers a line has.
+pub const LINE_STRIDE: usize = 7;
+
 // What unwind_rules_along answers: the lines, and the question by which the reader refuses from the offset `from` on. On a refusal all but the
 // question's number is 0.
+// Kept: the questions' numbers, which C reads.
 #[repr(C)]
 #[derive(Clone, Copy)]
 pub struct Listed {
@@ -19,6 +25,7 @@ pub struct Listed {
     pub from: u64,
 }
 
+// A refusal, by its number, which C gives for a refused locating.
 pub fn unlisted(number: u64) -> Listed
     ensures { result ≡ record { number = number; lines = 0; ending = 0; from = 0 } }
 {
@@ -42,12 +49,12 @@ pub extern "C" fn unwind_rules_along(
     if located.number != 0 {
         return unlisted(located.number);
     }
-    let l = reads::reader_places(located);
+    let l = location::Located::from(located);
     if !reader::in_section(section, l) {
-        return unlisted(64);
+        return unlisted(Question::Fields.number());
     }
-    if (lines.len() / 7) as u64 <= located.record_end - located.record {
-        return unlisted(54);
+    if (lines.len() / LINE_STRIDE) as u64 <= located.record_end - located.record {
+        return unlisted(Question::OtherRoom.number());
     }
     run::fill(section, &l, q, lines)
 }

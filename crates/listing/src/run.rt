@@ -1,15 +1,16 @@
 // The run over the operations of a header and a record, with a line stored at each step.
 ghost use Rattle.std.specs.Prelude.{◌≡◌, ◌+◌, ◌-◌, ◌*◌, ◌/◌, ◌≤◌, length, T};
+ghost use Rattle.format.specs.Numbers.{number_of};
 ghost use Rattle.format.specs.Prelude.{good};
 ghost use Rattle.format.proofs.Wrote.{Wrote};
 ghost use Rattle.reader.specs.Spans.{part};
 ghost use Rattle.reader.specs.Finds.{in_section};
-ghost use Rattle.listing.specs.Lines.{lines_of, line_numbers, Lists};
+ghost use Rattle.listing.specs.Lines.{line_stride, lines_of, line_numbers, Lists};
 
-use crate::Listed;
-use format::{Operation, Rules};
-use operations::fields::Position;
+use crate::{LINE_STRIDE, Listed};
+use format::{Question, Rules};
 use reader::location::Located;
+use reader::operation::Operations;
 use reader::run;
 
 // The largest offset.
@@ -19,7 +20,7 @@ const HIGHEST: u64 = 0xffffffffffffffff;
 
 // A line at `at`: its offset and six numbers.
 fn line(out: &mut [u64], at: usize, offset: u64, rules: Rules) -> usize
-    requires { at + 7 ≤ length out.old }
+    requires { at + line_stride ≤ length out.old }
     ensures { Wrote out.old out.new at result (line_numbers offset rules) }
 {
     let n = unwind::numbers_of(Ok(rules), false);
@@ -32,21 +33,33 @@ fn line(out: &mut [u64], at: usize, offset: u64, rules: Rules) -> usize
     relocs::number(out, f, n.signing)
 }
 
-// The answer where the lines go up to `end`.
-fn listed(end: usize, ending: u64, from: u64) -> Listed
-    ensures { result ≡ record { number = 0; lines = end / 7; ending = ending; from = from } }
+// The answer where the lines go up to `end` and no question ends them.
+fn listed(end: usize) -> Listed
+    ensures { result ≡ record { number = 0; lines = end / line_stride; ending = 0; from = 0 } }
 {
     Listed {
         number: 0,
-        lines: (end / 7) as u64,
-        ending,
-        from,
+        lines: (end / LINE_STRIDE) as u64,
+        ending: 0,
+        from: 0,
     }
 }
 
+// The answer where the question ends them.
+fn ended(end: usize, question: Question, from: u64) -> Listed
+    ensures { result ≡ record { number = 0; lines = end / line_stride; ending = number_of question; from = from } }
+{
+    Listed {
+        ending: question.number(),
+        from,
+        ..listed(end)
+    }
+}
+
+// Kept: a loop like that of `reader::run::run`, which says what the two share and what they do not.
 // The header's operations and then the record's, for register q. The state stays in place: passed by value its 16 stored rules would be the run's cost.
 pub fn fill(s: &[u8], l: &Located, q: u16, out: &mut [u64]) -> Listed
-    requires { T (in_section s.now l.now) × (7 * (l.now.record_end - l.now.«record» + 1) ≤ length out.old) }
+    requires { T (in_section s.now l.now) × (line_stride * (l.now.record_end - l.now.«record» + 1) ≤ length out.old) }
     ensures { Lists q (good (lines_of l.now.word (part s.now l.now.header l.now.header_end) (part s.now l.now.«record» l.now.record_end))) result out.old out.new }
 {
     let mut state = run::start();
@@ -57,20 +70,14 @@ pub fn fill(s: &[u8], l: &Located, q: u16, out: &mut [u64]) -> Listed
     'entries: for span in l.operations() {
         let from = span.at;
         let to = span.end;
-        let ops = &s[from..to];
-        let mut at = Position::START;
-        // Kept: a `while`, which moves by each operation's length.
-        'operations: while at.at < ops.len() {
-            let Some((op, next)) = operations::operation(ops, at, l.word) else {
-                return listed(i, 66, loc);
+        'operations: for read in Operations::new(&s[from..to], l.word) {
+            let Some((op, _)) = read else {
+                return ended(i, Question::Operations, loc);
             };
-            at = next;
-            match op {
-                Operation::Nop => continue 'operations,
-                Operation::Step(n) => {
-                    if initial.is_none() {
-                        return listed(i, 66, loc);
-                    }
+            match run::perform(&mut state, q, initial, op) {
+                Err(question) => return ended(i, question, loc),
+                Ok(None) => continue 'operations,
+                Ok(Some(n)) => {
                     if n == 0 {
                         continue 'operations;
                     }
@@ -79,17 +86,11 @@ pub fn fill(s: &[u8], l: &Located, q: u16, out: &mut [u64]) -> Listed
                     }
                     i = line(out, i, loc, state.rules);
                     loc += n;
-                    continue 'operations;
-                }
-                Operation::Does(row) => {
-                    if let Err(number) = run::act(&mut state, q, initial, row) {
-                        return listed(i, number, loc);
-                    }
                 }
             }
         }
         initial = Some(state.rules.rule);
     }
     i = line(out, i, loc, state.rules);
-    listed(i, 0, 0)
+    listed(i)
 }

@@ -6,3 +6,4 @@ pub mod Machines
 pub mod Extents
 pub mod Outlines
 pub mod Rooms
+pub mod Lent

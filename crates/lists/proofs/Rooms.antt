@@ -7,8 +7,7 @@ use mathlib.Core.List.{List}
 use lib.Dec.{leb, leb→le}
 use Rattle.format.specs.declared.Counts.{Counts}
 use Rattle.std.specs.Prelude.{Ok, Err}
-use Rattle.format.specs.declared.Refusal.{Refusal}
-use Rattle.format.specs.Coded.{refusal, Outcome}
+use Rattle.format.specs.Coded.{Outcome}
 use Rattle.format.specs.Questions.{Question, Answer, unless, ask, and_then}
 use Rattle.format.specs.Answers.{outcome_of, afterwards, Writes}
 use Rattle.format.proofs.Accepted.{asked as said, both}
@@ -18,12 +17,12 @@ use Rattle.lists.specs.Room.{room_for}
 -- ---- a question
 
 module _ {places bytes relocations sites : List ℕ} where
-  pub stays : (q : Question) (x : Answer) {r : Refusal} → question_of q ≡ Err r
+  pub stays : (q : Question) (x : Answer) {r : ℕ × ℕ} → question_of q ≡ Err r
       → Writes (unless q x) (Err r) places places bytes bytes relocations relocations sites sites
   unfolding unless question_of outcome_of afterwards
   stays none x e = let z : ◌≡◌ {A = ℕ} 0 1 = cc in absurd (omega arith)
   stays (some q) x {r} e =
-      let h : r ≡ refusal q.0 q.1 = cc in
+      let h : r ≡ q = cc in
       record { outcome = rw h refl; placed = refl; stored = refl; related = refl; sited = refl }
 
 pub goes : {x : Answer} {o : Outcome} {places places' bytes bytes' relocations relocations' sites sites' : List ℕ} (q : Question) → question_of q ≡ Ok tt

@@ -3,3 +3,4 @@ pub mod Parts
 pub mod Extents
 pub mod Room
 pub mod Given
+pub mod Lent

@@ -1,6 +1,7 @@
 -- The parts of question 13 that functions of their own ask.
 use Rattle.std.specs.Prelude.{ℕ, Bool, ◌&&◌, List, leb}
-use Rattle.format.specs.Lists.{field, function_stride, row_stride, landing_stride, pair_stride, count, inside, symbol_ok, pointer_ok, mark_ok, when_marked, pair_ok_at, all_in, sum_of, pairs_in, most_functions, most_records}
+use Rattle.format.specs.Prelude.{pick}
+use Rattle.format.specs.Lists.{field, function_stride, row_stride, landing_stride, pair_stride, count, inside, symbol_ok, pointer_ok, mark, mark_ok, when_marked, pair_ok_at, all_in, sum_of, pairs_in, most_functions, most_records}
 
 -- function k's symbol, and where its rows and landings are
 unfoldable pub ranges_ok_at : (fs rows landings : List ℕ) → ℕ → Bool
@@ -25,6 +26,10 @@ unfoldable pub outline_ok_at : (fs rows landings pairs : List ℕ) → ℕ → B
 outline_ok_at fs rows landings pairs k =
     let f : ℕ → ℕ = λ j. field function_stride fs k j in
     ranges_ok_at fs rows landings k && mark_ok (f 6) && mark_ok (f 7) && mark_ok (f 8) && named_ok_at fs k && mark_ok (f 14) && relaxed_ok_at fs pairs k
+
+-- number j of function k, where it has relaxing labels
+unfoldable pub where_labelled : (fs : List ℕ) → (k j : ℕ) → ℕ
+where_labelled fs k j = pick (mark (field function_stride fs k 14)) (field function_stride fs k j) 0
 
 -- the counts of functions, and of what they reach
 unfoldable pub sums_ok : (fs : List ℕ) → Bool

@@ -6,19 +6,22 @@ ghost use Rattle.std.specs.Int.{w64};
 ghost use Rattle.std.proofs.Common.{to_z};
 ghost use Rattle.format.specs.Prelude.{all};
 ghost use Rattle.format.specs.Machine.{machine_ok, machine_of};
-ghost use Rattle.format.specs.Lists.{count, field, row_stride, pair_stride, code_stride, most_records, inside, symbol_ok, pointer_ok, row_ok_at, pair_ok_at, code_ok_at, all_in, sum_of, pairs_in, prologue_ok_at, codes_ok, code_at};
+ghost use Rattle.format.specs.Lists.{count, field, function_stride, row_stride, landing_stride, pair_stride, prologue_stride, code_stride, most_records, symbol_ok, pointer_ok, row_ok_at, pair_ok_at, code_ok_at, all_in, sum_of, pairs_in, prologue_ok_at, codes_ok, code_at};
+ghost use Rattle.format.specs.Coded.{numbered_at};
 ghost use Rattle.format.proofs.Asked.{question_of};
 ghost use Rattle.lists.specs.Room.{room_for};
-ghost use Rattle.lists.specs.Parts.{ranges_ok_at, named_ok_at, relaxed_ok_at, sums_ok};
+ghost use Rattle.lists.specs.Parts.{ranges_ok_at, named_ok_at, relaxed_ok_at, where_labelled, sums_ok};
 ghost use Rattle.lists.specs.Given.{count_of, outline_of, function_of, listed_of};
 ghost use Rattle.lists.specs.Extents.{lsda_at, personality_at, labels_at, extent_at, landing_in, pair_in, prologue_in};
 
-use format::{Counts, Machine, Refusal, Seh};
+use format::{Counts, Machine, Question, Refusal, Seh};
+pub use numbers::inside;
 use numbers::{codes, machine};
 use rows::{ROW_STRIDE, row_ok};
 
 pub mod direct;
 pub mod function;
+pub mod output;
 
 // How many numbers a record of each list has.
 pub const FUNCTION_STRIDE: usize = 18;
@@ -29,7 +32,7 @@ pub const PAIR_STRIDE: usize = 4;
 
 pub const PROLOGUE_STRIDE: usize = 5;
 
-pub const CODE_STRIDE: usize = 5;
+pub const CODE_STRIDE: usize = codes::STRIDE;
 
 // What question 13 takes at most (document 01): functions of a list, and records of each kind that they reach.
 pub const MOST_FUNCTIONS: usize = 65536;
@@ -163,7 +166,7 @@ pub struct Extent {
 
 #[tactic(auto, unfolding(crate::specs::Extents::lsda_at, crate::specs::Extents::marked, format::specs::Lists::mark, format::specs::Prelude::pick))]
 fn lsda_at(fs: &[u64], k: usize) -> Option<Lsda>
-    requires { 18 * k + 18 ≤ length fs.now }
+    requires { function_stride * k + function_stride ≤ length fs.now }
     ensures { result ≡ lsda_at fs.now k }
 {
     let b = FUNCTION_STRIDE * k;
@@ -178,7 +181,7 @@ fn lsda_at(fs: &[u64], k: usize) -> Option<Lsda>
 
 #[tactic(auto, unfolding(crate::specs::Extents::personality_at, crate::specs::Extents::marked, format::specs::Lists::mark, format::specs::Prelude::pick))]
 fn personality_at(fs: &[u64], k: usize) -> Option<Personality>
-    requires { 18 * k + 18 ≤ length fs.now }
+    requires { function_stride * k + function_stride ≤ length fs.now }
     ensures { result ≡ personality_at fs.now k }
 {
     let b = FUNCTION_STRIDE * k;
@@ -194,7 +197,7 @@ fn personality_at(fs: &[u64], k: usize) -> Option<Personality>
 
 #[tactic(auto, unfolding(crate::specs::Extents::labels_at, crate::specs::Extents::marked, format::specs::Lists::mark, format::specs::Prelude::pick))]
 fn labels_at(fs: &[u64], k: usize) -> Option<Labels>
-    requires { 18 * k + 18 ≤ length fs.now }
+    requires { function_stride * k + function_stride ≤ length fs.now }
     ensures { result ≡ labels_at fs.now k }
 {
     let b = FUNCTION_STRIDE * k;
@@ -210,7 +213,7 @@ fn labels_at(fs: &[u64], k: usize) -> Option<Labels>
 
 #[tactic(auto, unfolding(crate::specs::Extents::extent_at, format::specs::Lists::mark))]
 pub fn extent_at(fs: &[u64], k: usize) -> Extent
-    requires { 18 * k + 18 ≤ length fs.now }
+    requires { function_stride * k + function_stride ≤ length fs.now }
     ensures { result ≡ extent_at fs.now k }
 {
     let b = FUNCTION_STRIDE * k;
@@ -237,7 +240,7 @@ pub struct Landing {
 }
 
 pub fn landing_at(ls: &[u64], i: usize) -> Landing
-    requires { 3 * i + 3 ≤ length ls.now }
+    requires { landing_stride * i + landing_stride ≤ length ls.now }
     ensures { result ≡ landing_in ls.now i }
 {
     Landing {
@@ -257,7 +260,7 @@ pub struct Pair {
 }
 
 pub fn pair_at(ps: &[u64], i: usize) -> Pair
-    requires { 4 * i + 4 ≤ length ps.now }
+    requires { pair_stride * i + pair_stride ≤ length ps.now }
     ensures { result ≡ pair_in ps.now i }
 {
     Pair {
@@ -279,7 +282,7 @@ pub struct Prologue {
 }
 
 pub fn prologue_at(fs: &[u64], k: usize) -> Prologue
-    requires { 5 * k + 5 ≤ length fs.now }
+    requires { prologue_stride * k + prologue_stride ≤ length fs.now }
     ensures { result ≡ prologue_in fs.now k }
 {
     Prologue {
@@ -293,7 +296,7 @@ pub fn prologue_at(fs: &[u64], k: usize) -> Prologue
 
 // The offset where the instruction of code i ends.
 pub fn code_offset_at(cs: &[u64], i: usize) -> u64
-    requires { 5 * i + 5 ≤ length cs.now }
+    requires { code_stride * i + code_stride ≤ length cs.now }
     ensures { result ≡ (code_at cs.now i).0 }
 {
     cs[CODE_STRIDE * i]
@@ -302,7 +305,7 @@ pub fn code_offset_at(cs: &[u64], i: usize) -> u64
 // Code i.
 #[tactic(auto, unfolding(format::specs::Lists::code_at, format::specs::Lists::code_of, format::specs::Lists::mark, format::specs::Prelude::pick))]
 pub fn code_at(cs: &[u64], i: usize) -> Seh
-    requires { 5 * i + 5 ≤ length cs.now }
+    requires { code_stride * i + code_stride ≤ length cs.now }
     ensures { result ≡ (code_at cs.now i).1 }
 {
     let kind = cs[CODE_STRIDE * i + direct::CODE_KIND];
@@ -321,17 +324,6 @@ pub fn code_at(cs: &[u64], i: usize) -> Seh
 }
 
 // ---- question 13 of one record
-
-// A range of n records from `at` lies inside a list of `size` records.
-#[tactic(auto, unfolding(format::specs::Lists::inside))]
-pub fn inside(at: u64, n: u64, size: u64) -> bool
-    ensures { result ≡ inside at n size }
-{
-    if size < at {
-        return false;
-    }
-    n <= size - at
-}
 
 // A caller's symbol.
 #[tactic(auto, unfolding(format::specs::Lists::symbol_ok))]
@@ -358,7 +350,7 @@ fn pointer_ok(encoding: u64, symbol: u64) -> bool
 // Both symbols of pair i.
 #[tactic(auto, unfolding(format::specs::Lists::pair_ok_at))]
 fn pair_ok(ps: &[u64], i: usize) -> bool
-    requires { 4 * i + 4 ≤ length ps.now }
+    requires { pair_stride * i + pair_stride ≤ length ps.now }
     ensures { result ≡ pair_ok_at ps.now i }
 {
     if !symbol_ok(ps[PAIR_STRIDE * i + 2]) {
@@ -370,7 +362,7 @@ fn pair_ok(ps: &[u64], i: usize) -> bool
 // The operands of code i: only those that its kind has.
 #[tactic(auto, unfolding(format::specs::Lists::code_ok_at, format::specs::Lists::code_ok, format::specs::Prelude::pick))]
 fn code_ok(cs: &[u64], i: usize) -> bool
-    requires { 5 * i + 5 ≤ length cs.now }
+    requires { code_stride * i + code_stride ≤ length cs.now }
     ensures { result ≡ code_ok_at cs.now i }
 {
     let kind = cs[CODE_STRIDE * i + direct::CODE_KIND];
@@ -395,8 +387,6 @@ fn code_ok(cs: &[u64], i: usize) -> bool
 // ---- question 13 of the records that a function reaches
 
 // The n rows from `at` on.
-// Kept: these three ask lists of other strides over a range, each by its own test. A struct of a list and a range would be made
-// for one call, and be no plainer.
 pub fn rows_ok(rows: &[u64], at: usize, n: usize) -> bool
     requires { at + n ≤ count row_stride rows.now }
     ensures { result ≡ all_in (row_ok_at rows.now) at n }
@@ -404,26 +394,10 @@ pub fn rows_ok(rows: &[u64], at: usize, n: usize) -> bool
     (at..at + n).all(|i| row_ok(rows, i))
 }
 
-// The n pairs from `at` on.
-fn pairs_ok(ps: &[u64], at: usize, n: usize) -> bool
-    requires { at + n ≤ count pair_stride ps.now }
-    ensures { result ≡ all_in (pair_ok_at ps.now) at n }
-{
-    (at..at + n).all(|i| pair_ok(ps, i))
-}
-
-// The n codes from `at` on.
-fn codes_in(cs: &[u64], at: usize, n: usize) -> bool
-    requires { at + n ≤ count code_stride cs.now }
-    ensures { result ≡ all_in (code_ok_at cs.now) at n }
-{
-    (at..at + n).all(|i| code_ok(cs, i))
-}
-
 // The named personality of function k, where it has one.
 #[tactic(auto, unfolding(crate::specs::Parts::named_ok_at, format::specs::Lists::mark_ok, format::specs::Lists::when_marked))]
 fn named_ok(fs: &[u64], k: usize) -> bool
-    requires { 18 * k + 18 ≤ length fs.now }
+    requires { function_stride * k + function_stride ≤ length fs.now }
     ensures { result ≡ named_ok_at fs.now k }
 {
     if fs[FUNCTION_STRIDE * k + function::PERSONALITY] == 0 {
@@ -449,7 +423,7 @@ fn named_ok(fs: &[u64], k: usize) -> bool
 
 // The record of direct codes k, and the codes that it reaches.
 fn prologue_ok(fs: &[u64], codes: &[u64], k: usize) -> bool
-    requires { 5 * k + 5 ≤ length fs.now }
+    requires { prologue_stride * k + prologue_stride ≤ length fs.now }
     ensures { result ≡ prologue_ok_at fs.now codes.now k }
 {
     if !symbol_ok(fs[PROLOGUE_STRIDE * k]) {
@@ -460,7 +434,7 @@ fn prologue_ok(fs: &[u64], codes: &[u64], k: usize) -> bool
     if !inside(at, n, (codes.len() / CODE_STRIDE) as u64) {
         return false;
     }
-    codes_in(codes, at as usize, n as usize)
+    (at as usize..(at + n) as usize).all(|i| code_ok(codes, i))
 }
 
 // ---- question 13 of the lists
@@ -489,24 +463,25 @@ pub fn sum_ok(xs: &[u64], stride: usize, j: usize, n: usize) -> bool
     sum_fits(|k| xs[stride * k + j], n)
 }
 
-// How many pairs function k has.
-#[tactic(auto, unfolding(format::specs::Lists::pairs_in, format::specs::Lists::mark, format::specs::Prelude::pick))]
-fn pairs_in(fs: &[u64], k: usize) -> u64
-    requires { 18 * k + 18 ≤ length fs.now }
-    ensures { result ≡ pairs_in fs.now k }
+// Number j of function k, where it has relaxing labels.
+#[tactic(auto, unfolding(crate::specs::Parts::where_labelled, format::specs::Lists::mark, format::specs::Prelude::pick))]
+pub fn where_labelled(fs: &[u64], k: usize, j: usize) -> u64
+    requires { (j < function_stride) × (function_stride * k + function_stride ≤ length fs.now) }
+    ensures { result ≡ where_labelled fs.now k j }
 {
     if fs[FUNCTION_STRIDE * k + function::RELAXED] == 0 {
         return 0;
     }
-    fs[FUNCTION_STRIDE * k + function::PAIRS]
+    fs[FUNCTION_STRIDE * k + j]
 }
 
 // The pairs of n functions, summed, are at most the most of records.
+#[tactic(auto, unfolding(crate::specs::Parts::where_labelled, format::specs::Lists::pairs_in))]
 fn pairs_sum_ok(fs: &[u64], n: usize) -> bool
-    requires { 18 * n ≤ length fs.now }
+    requires { function_stride * n ≤ length fs.now }
     ensures { result ≡ leb (sum_of (pairs_in fs.now) 0 n) most_records }
 {
-    sum_fits(|k| pairs_in(fs, k), n)
+    sum_fits(|k| where_labelled(fs, k, function::PAIRS), n)
 }
 
 // Question 13, as far as the functions are counted, and what they reach.
@@ -538,7 +513,7 @@ impl Lists<'_> {
     // The symbol of function k, and where its rows and landings are.
     #[tactic(auto, unfolding(crate::specs::Parts::ranges_ok_at))]
     fn ranges_ok(&self, k: usize) -> bool
-        requires { 18 * k + 18 ≤ length self.now.functions.now }
+        requires { function_stride * k + function_stride ≤ length self.now.functions.now }
         ensures { result ≡ ranges_ok_at self.now.functions.now self.now.rows.now self.now.landings.now k }
     {
         if !symbol_ok(self.functions[FUNCTION_STRIDE * k]) {
@@ -558,7 +533,7 @@ impl Lists<'_> {
 
     // The relaxing labels of function k, where it has them, and the pairs that they reach.
     fn relaxed_ok(&self, k: usize) -> bool
-        requires { 18 * k + 18 ≤ length self.now.functions.now }
+        requires { function_stride * k + function_stride ≤ length self.now.functions.now }
         ensures { result ≡ relaxed_ok_at self.now.functions.now self.now.pairs.now k }
     {
         if self.functions[FUNCTION_STRIDE * k + function::RELAXED] == 0 {
@@ -572,13 +547,13 @@ impl Lists<'_> {
         if !inside(at, n, (self.pairs.len() / PAIR_STRIDE) as u64) {
             return false;
         }
-        pairs_ok(self.pairs, at as usize, n as usize)
+        (at as usize..(at + n) as usize).all(|i| pair_ok(self.pairs, i))
     }
 
     // Function k, and the records that it reaches but its rows.
     #[tactic(auto, unfolding(crate::specs::Parts::outline_ok_at, format::specs::Lists::mark_ok))]
     pub fn outline_ok(&self, k: usize) -> bool
-        requires { 18 * k + 18 ≤ length self.now.functions.now }
+        requires { function_stride * k + function_stride ≤ length self.now.functions.now }
         ensures { result ≡ outline_of self.now k }
     {
         if !self.ranges_ok(k) {
@@ -604,7 +579,7 @@ impl Lists<'_> {
 
     // Function k, and the records that it reaches.
     fn function_ok(&self, k: usize) -> bool
-        requires { 18 * k + 18 ≤ length self.now.functions.now }
+        requires { function_stride * k + function_stride ≤ length self.now.functions.now }
         ensures { result ≡ function_of self.now k }
     {
         if !self.outline_ok(k) {
@@ -619,7 +594,7 @@ impl Lists<'_> {
 
     // The first n functions.
     pub fn functions_ok(&self, n: usize) -> bool
-        requires { 18 * n ≤ length self.now.functions.now }
+        requires { function_stride * n ≤ length self.now.functions.now }
         ensures { result ≡ all_in (function_of self.now) 0 n }
     {
         (0..n).all(|k| self.function_ok(k))
@@ -639,7 +614,7 @@ impl Lists<'_> {
 
 // The first n records of direct codes.
 fn prologues_ok(fs: &[u64], codes: &[u64], n: usize) -> bool
-    requires { 5 * n ≤ length fs.now }
+    requires { prologue_stride * n ≤ length fs.now }
     ensures { result ≡ all_in (prologue_ok_at fs.now codes.now) 0 n }
 {
     (0..n).all(|k| prologue_ok(fs, codes, k))
@@ -664,29 +639,29 @@ pub fn codes_ok(fs: &[u64], codes: &[u64]) -> bool
 
 // Questions 51 to 54: what is needed fits what is lent, in the elements of the lent lists.
 pub fn room(needed: Counts, lent: Counts) -> Result<(), Refusal>
-    ensures { result ≡ question_of (room_for needed lent) }
+    ensures { numbered_at result ≡ question_of (room_for needed lent) }
 {
     if lent.places < needed.places {
         return Err(Refusal {
-            number: 51,
+            question: Question::PlacesRoom,
             position: 0,
         });
     }
     if lent.bytes < needed.bytes {
         return Err(Refusal {
-            number: 52,
+            question: Question::BytesRoom,
             position: 0,
         });
     }
     if lent.relocations < needed.relocations {
         return Err(Refusal {
-            number: 53,
+            question: Question::RelocationsRoom,
             position: 0,
         });
     }
     if lent.sites < needed.sites {
         return Err(Refusal {
-            number: 54,
+            question: Question::OtherRoom,
             position: 0,
         });
     }

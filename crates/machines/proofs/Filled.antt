@@ -17,9 +17,9 @@ long : length (machine_numbers x8664) ≡ 70
 unfolding machine_numbers
 long = refl
 
-pub short : (old : List ℕ) → length old < 70 → (54, old) ≡ stored (machine_numbers x8664) old
+pub short : (old : List ℕ) {n : ℕ} → n ≡ 54 → length old < 70 → (n, old) ≡ stored (machine_numbers x8664) old
 unfolding stored
-short old h = let e : length old < length (machine_numbers x8664) = omega (arith, long) in rw (if-gt (length (machine_numbers x8664)) (length old))
+short old e h = let l : length old < length (machine_numbers x8664) = omega (arith, long) in rw (e, if-gt (length (machine_numbers x8664)) (length old))
 
 pub filled : {old mid new : List ℕ} {a q : ℕ} (m : Machine) → m ≡ x8664 → 70 ≤ length old
     → Wrote old mid 0 a (m.word ∷ m.pushed ∷ m.stack ∷ m.ret ∷ m.frame ∷ 0 ∷ []) → Wrote mid new a q m.map

@@ -1,2 +1,3 @@
 -- The lemmas of this crate's functions.
 pub mod Pointers
+mod Powers

@@ -1,4 +1,6 @@
-// Kinds of an x64 unwind code in a list (document 01).
+// An x64 unwind code in a list (document 01): how many numbers it has, and its kinds.
+pub const STRIDE: usize = 5;
+
 pub const PUSH: u64 = 0;
 
 pub const ALLOC: u64 = 1;

@@ -1,11 +1,12 @@
 // Numbers that the writers and the readers share: sizes of words and of pointers by their encodings, what marks a header, signed numbers as 64 bits; and the constants of the formats and of the lists. Ported from rucc-asm/src/unwind.rs (pointer_size) of tamnd/rucc, changed: see NOTICE.
 #![tactic(auto)]
 
-ghost use Rattle.std.specs.Prelude.{◌≡◌, ◌≤◌};
+ghost use Rattle.std.specs.Prelude.{◌≡◌, ◌-◌, ◌*◌, ◌^◌, ◌<◌, ◌≤◌};
 ghost use Rattle.std.specs.Int.{w64};
 ghost use Rattle.std.proofs.Common.{of_z};
 ghost use Rattle.format.proofs.Asked.{option_of};
 ghost use Rattle.format.specs.Machine.{is_word_size};
+ghost use Rattle.format.specs.Lists.{inside};
 ghost use Rattle.format.specs.Headers.{size_of, pointer_size, pointer_bytes, header_id};
 
 pub mod codes;
@@ -21,6 +22,25 @@ pub fn is_word(w: u64) -> bool
     ensures { result ≡ is_word_size w }
 {
     matches!(w, 2 | 4 | 8)
+}
+
+// A range of n from `at` lies inside `size`: bytes of a section, or records of a list.
+#[tactic(auto, unfolding(format::specs::Lists::inside))]
+pub fn inside(at: u64, n: u64, size: u64) -> bool
+    ensures { result ≡ inside at n size }
+{
+    if size < at {
+        return false;
+    }
+    n <= size - at
+}
+
+// The largest number that so many bytes hold.
+pub fn largest(bytes: u64) -> u64
+    requires { (0 < bytes) × (bytes ≤ 8) }
+    ensures { result ≡ 2 ^ (8 * bytes) - 1 }
+{
+    u64::MAX >> (64 - 8 * bytes)
 }
 
 // What marks a header, in the field where a record has the place of its header.

@@ -38,7 +38,7 @@ fn last_byte(s: &[u8], at: usize) -> Option<Groups>
     let mut acc = 0u64;
     for i in at..s.len() {
         let k = i - at;
-        let b = leb::wide(s[i]);
+        let b = u64::from(s[i]);
         if b < 128 {
             return Some(Groups {
                 top: b,
@@ -147,7 +147,7 @@ pub fn read_le(s: &[u8], at: Position, n: usize) -> Option<(u64, Position)>
     }
     let mut acc = 0u64;
     for i in (0..n).rev() {
-        let b = leb::wide(s[from + i]);
+        let b = u64::from(s[from + i]);
         acc = acc * 256 + b;
     }
     Some((

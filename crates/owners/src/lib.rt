@@ -16,6 +16,8 @@ use header_keys::{Input, Kind, kind_of};
 use lists::{Extent, Lsda, Personality};
 
 // The lists that the functions' owners are found in: the last owner of each slot, the one behind each owner, and the owners.
+// Kept: three lists. The first has an entry for each slot, the others one for each function, and these two are not read together: a chain is followed
+// by `links` alone, and an owner is looked up in `owners` alone, also after all chains are done with.
 #[derive(Drop)]
 pub struct Chains<'a> {
     pub heads: &'a mut [u16],

@@ -1,5 +1,5 @@
 -- What stands at a position, by the code's tests.
-use mathlib.Core.Path.{◌≡◌, sym, ◌∙◌}
+use mathlib.Core.Path.{◌≡◌, sym, ap, ◌∙◌}
 use mathlib.Core.Bool.{Bool, true, false, ◌&&◌}
 use Prim.Native.Nat.{ℕ, ◌+◌, ◌-◌, ◌≤◌, ◌<◌}
 use native.Mathlib.Omega.{arith}
@@ -15,7 +15,9 @@ use Rattle.reader.specs.Listing.{entry_at}
 use Rattle.reader.specs.declared.cursor.Entry.{Entry}
 use Rattle.reader.proofs.Steps.{Fits, entry_fits}
 use Rattle.reader.proofs.Seeking.{answer_is, answer_no}
-use Rattle.format.specs.Coded.{result_of}
+use Rattle.format.specs.Coded.{result_of, numbered}
+use Rattle.format.specs.Numbers.{number_of}
+use Rattle.format.specs.declared.question.Question.{Question}
 use Rattle.std.specs.Prelude.{Ok, Err}
 use Rattle.std.specs.Prelude as code
 use Rattle.parts.specs.Entries.{stopped, standing, next_entry}
@@ -79,16 +81,16 @@ module _ {A : Type 0} {section : List ℕ} {kind word place : ℕ} {here no none
 
 -- ---- what was read with a layout
 
-module _ (section : List ℕ) (debug : Bool) (place : ℕ) {r : code.Result Entry ℕ} (m : r ≡ result_of (entry_at debug section place)) where
-  pub no_entry : {d : Bool} → debug ≡ d → {n : ℕ} → r ≡ Err n → entry_at d section place ≡ bad n
-  no_entry f e = rw f at (answer_no _ (sym m ∙ e))
+module _ (section : List ℕ) (debug : Bool) (place : ℕ) {r : code.Result Entry Question} (m : numbered r ≡ result_of (entry_at debug section place)) where
+  pub no_entry : {d : Bool} → debug ≡ d → {q : Question} → r ≡ Err q → entry_at d section place ≡ bad (number_of q)
+  no_entry f e = rw f at (answer_no _ (sym m ∙ ap numbered e))
 
   module _ {e : Entry} (q : r ≡ Ok e) where
     pub an_entry : {d : Bool} → debug ≡ d → entry_at d section place ≡ good e
-    an_entry f = rw f at (answer_is _ (sym m ∙ q))
+    an_entry f = rw f at (answer_is _ (sym m ∙ ap numbered q))
 
     -- its bytes lie in the section
     pub lies : (e.place + 4 ≤ e.next) × (e.next ≤ length section)
     lies =
-        let f = entry_fits debug section place (answer_is _ (sym m ∙ q)) in
+        let f = entry_fits debug section place (answer_is _ (sym m ∙ ap numbered q)) in
         (omega (arith, f.here, f.past), f.inside)

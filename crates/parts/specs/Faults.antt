@@ -1,7 +1,10 @@
 -- The fields of an entry by numbers, and which one is at fault (question 64): the first that cannot be read, or that says what no header of ours does.
-use Rattle.std.specs.Prelude.{ℕ, Bool, List}
+use Rattle.std.specs.Prelude.{ℕ, Bool, List, Some, None}
+use Rattle.std.specs.Prelude as code
 use Rattle.std.proofs.Math.Option.{none, some}
 use Rattle.format.specs.Prelude.{pick, Read, Result, bad}
+use Rattle.parts.specs.declared.field.Field.{Field}
+use Rattle.parts.specs.declared.field.Field.TheVariants.{Version, Letters, CodeFactor, DataFactor, Return, HeaderData, Function, Length, RecordData}
 
 -- of a header
 abbrev pub version_field : ℕ
@@ -31,6 +34,22 @@ length_field = 8
 
 abbrev pub record_data_field : ℕ
 record_data_field = 9
+
+abbrev pub field_number : Field → ℕ
+field_number Version = version_field
+field_number Letters = string_field
+field_number CodeFactor = code_factor_field
+field_number DataFactor = data_factor_field
+field_number Return = return_field
+field_number HeaderData = header_data_field
+field_number Function = function_field
+field_number Length = length_field
+field_number RecordData = record_data_field
+
+-- the field at fault, and 0 where there is none
+abbrev pub fault_number : code.Option Field → ℕ
+fault_number None = 0
+fault_number (Some f) = field_number f
 
 -- what follows from a field that was read; else it is at fault
 unfoldable pub reading : {A B : Type 0} → (number : ℕ) → Read A → (A → List ℕ → Result B) → Result B

@@ -11,7 +11,8 @@ use Rattle.format.specs.Reader.{Letters, spellings, read_letters, read_byte, Hea
 use Rattle.reader.specs.Listing.{entry_at}
 use Rattle.reader.specs.declared.cursor.Entry.{Entry}
 use Rattle.reader.specs.Spans.{part}
-use Rattle.parts.specs.Faults.{version_field, string_field, code_factor_field, data_factor_field, return_field, header_data_field, reading, testing}
+use Rattle.parts.specs.Faults.{version_field, string_field, code_factor_field, data_factor_field, return_field, header_data_field, field_number, reading, testing}
+use Rattle.parts.specs.declared.field.Field.{Field}
 use Rattle.parts.specs.declared.headers.HeaderRead.{HeaderRead}
 
 -- what the string promises, the return address register, and what the reader takes: the size of a record's pointer, the signal mark and the operations
@@ -70,9 +71,9 @@ header_numbers end (good x) =
     }
 
 -- what was read, or 64 with the field at fault
-abbrev pub header_answer : code.Result HeaderRead ℕ → HeaderRead
+abbrev pub header_answer : code.Result HeaderRead Field → HeaderRead
 header_answer (Ok r) = r
-header_answer (Err n) = no_header 64 n
+header_answer (Err f) = no_header 64 (field_number f)
 
 -- 61: an entry stands at the place; 63: it is no record
 unfoldable pub header_of : (debug : Bool) → (word : ℕ) → List ℕ → Result Entry → HeaderRead

@@ -9,7 +9,8 @@ use Rattle.format.specs.Reader.{RecordFields, record_tail}
 use Rattle.reader.specs.Listing.{entry_at}
 use Rattle.reader.specs.declared.cursor.Entry.{Entry}
 use Rattle.reader.specs.Spans.{part}
-use Rattle.parts.specs.Faults.{function_field, length_field, record_data_field, reading}
+use Rattle.parts.specs.Faults.{function_field, length_field, record_data_field, field_number, reading}
+use Rattle.parts.specs.declared.field.Field.{Field}
 use Rattle.parts.specs.declared.records.RecordRead.{RecordRead}
 
 -- the second field, the function's place, what stands behind its length, and what the reader takes: the length and the operations
@@ -61,9 +62,9 @@ record_numbers debug pointer end (good x) =
     }
 
 -- what was read, or 64 with the field at fault
-abbrev pub record_answer : code.Result RecordRead ℕ → RecordRead
+abbrev pub record_answer : code.Result RecordRead Field → RecordRead
 record_answer (Ok r) = r
-record_answer (Err n) = no_record 64 n
+record_answer (Err f) = no_record 64 (field_number f)
 
 -- 61: an entry stands at the place; 62: it is no header
 unfoldable pub record_of : (debug : Bool) → (word pointer : ℕ) → List ℕ → Result Entry → RecordRead

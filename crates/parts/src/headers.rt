@@ -1,14 +1,19 @@
 // The fields of a header (CIE), by its place.
 ghost use Rattle.std.specs.Prelude.{◌≡◌, ◌+◌, ◌≤◌, length, drop};
+ghost use Rattle.format.specs.Numbers.{number_of};
 ghost use Rattle.reader.specs.Fields.{letters_of};
+ghost use Rattle.parts.specs.Faults.{fault_number};
 ghost use Rattle.parts.specs.Headers.{no_header, header_rest, header_from, header_parts, header_numbers, header_answer, read_header_at};
 
 use crate::body::Placed;
-use crate::{bit, placed};
+use crate::field::{self, Field};
+use crate::placed;
+use format::Question;
 use operations::fields::{Position, read_le, read_sleb, read_uleb};
 use reader::fields::{Augmentation, Header};
 
 // What unwind_read_header answers.
+// Kept: a number beside the fields, which are 0 where it refuses, since C reads it.
 #[repr(C)]
 #[derive(Clone, Copy)]
 pub struct HeaderRead {
@@ -24,12 +29,12 @@ pub struct HeaderRead {
 }
 
 #[tactic(auto, unfolding(crate::specs::Headers::no_header))]
-fn refused(number: u64, field: u64) -> HeaderRead
-    ensures { result ≡ no_header number field }
+fn refused(question: Question, at_fault: Option<Field>) -> HeaderRead
+    ensures { result ≡ no_header (number_of question) (fault_number at_fault) }
 {
     HeaderRead {
-        number,
-        field,
+        number: question.number(),
+        field: field::fault(at_fault),
         personality: 0,
         lsda: 0,
         signal: 0,
@@ -41,7 +46,7 @@ fn refused(number: u64, field: u64) -> HeaderRead
 }
 
 // From the augmentation data on, or the field at fault.
-fn rest(e: &Placed, at: Position, p: Augmentation, reg: u64) -> Result<HeaderRead, u64>
+fn rest(e: &Placed, at: Position, p: Augmentation, reg: u64) -> Result<HeaderRead, Field>
     requires { at.at ≤ length e.now.body.bytes.now }
     ensures { header_answer result ≡ header_numbers (e.now.base + length e.now.body.bytes.now) (header_rest e.now.body.layout.debug (letters_of p) e.now.body.layout.word reg (drop at.at e.now.body.bytes.now)) }
 {
@@ -53,15 +58,15 @@ fn rest(e: &Placed, at: Position, p: Augmentation, reg: u64) -> Result<HeaderRea
         },
     ) = reader::fields::header_tail(&e.body, at, p)
     else {
-        return Err(6);
+        return Err(Field::HeaderData);
     };
     let start = operations.at;
     Ok(HeaderRead {
         number: 0,
         field: 0,
-        personality: bit(p.personality),
-        lsda: bit(p.lsda),
-        signal: bit(signal),
+        personality: u64::from(p.personality),
+        lsda: u64::from(p.lsda),
+        signal: u64::from(signal),
         return_register: reg,
         pointer,
         operations: e.base + start as u64,
@@ -70,52 +75,52 @@ fn rest(e: &Placed, at: Position, p: Augmentation, reg: u64) -> Result<HeaderRea
 }
 
 // From the code alignment factor on.
-fn factors(e: &Placed, at: Position, p: Augmentation) -> Result<HeaderRead, u64>
+fn factors(e: &Placed, at: Position, p: Augmentation) -> Result<HeaderRead, Field>
     ensures { header_answer result ≡ header_numbers (e.now.base + length e.now.body.bytes.now) (header_from e.now.body.layout.debug (letters_of p) e.now.body.layout.word (drop at.at e.now.body.bytes.now)) }
 {
     let body = e.body.bytes;
     let Some((code, a)) = read_uleb(body, at) else {
-        return Err(3);
+        return Err(Field::CodeFactor);
     };
     if code != 1 {
-        return Err(3);
+        return Err(Field::CodeFactor);
     }
     let Some((z, b)) = read_sleb(body, a) else {
-        return Err(4);
+        return Err(Field::DataFactor);
     };
     if !reader::fields::factor_ok(z, e.body.layout.word) {
-        return Err(4);
+        return Err(Field::DataFactor);
     }
     let Some((reg, c)) = read_uleb(body, b) else {
-        return Err(5);
+        return Err(Field::Return);
     };
     if 0xffff < reg {
-        return Err(5);
+        return Err(Field::Return);
     }
     rest(e, c, p, reg)
 }
 
 // The fields in the bytes behind a header's length.
-fn fields(e: &Placed) -> Result<HeaderRead, u64>
+fn fields(e: &Placed) -> Result<HeaderRead, Field>
     ensures { header_answer result ≡ header_numbers (e.now.base + length e.now.body.bytes.now) (header_parts e.now.body.layout.debug e.now.body.layout.word e.now.body.bytes.now) }
 {
     let body = e.body.bytes;
     let Some((_, version)) = read_le(body, Position::START, 4) else {
-        return Err(1);
+        return Err(Field::Version);
     };
     let from = version.at;
     if body.len() <= from {
-        return Err(1);
+        return Err(Field::Version);
     }
     if body[from] != 1 {
-        return Err(1);
+        return Err(Field::Version);
     }
     let string = Position {
         at: from + 1,
         shortest: version.shortest,
     };
     let Some((p, past)) = reader::fields::letters(&e.body, string) else {
-        return Err(2);
+        return Err(Field::Letters);
     };
     factors(e, past, p)
 }
@@ -127,16 +132,16 @@ pub extern "C" fn unwind_read_header(section: &[u8], kind: u64, word: u64, place
     ensures { result ≡ read_header_at section.now kind word place }
 {
     let Some(layout) = reader::layout_of(kind, word) else {
-        return refused(11, 0);
+        return refused(Question::Interface, None);
     };
     let Ok(e) = reader::cursor::next_entry(section, layout.debug, place as usize) else {
-        return refused(61, 0);
+        return refused(Question::Tiling, None);
     };
     if !e.header {
-        return refused(63, 0);
+        return refused(Question::Header, None);
     }
     match fields(&placed(section, layout, e)) {
         Ok(header) => header,
-        Err(field) => refused(64, field),
+        Err(field) => refused(Question::Fields, Some(field)),
     }
 }

@@ -2,15 +2,17 @@
 #![tactic(auto)]
 
 ghost use Rattle.std.specs.Prelude.{◌≡◌, ◌+◌, ◌≤◌, length};
-ghost use Rattle.format.specs.Answers.{bit};
+ghost use Rattle.format.specs.Numbers.{number_of};
 ghost use Rattle.reader.specs.Spans.{part};
 ghost use Rattle.parts.specs.Entries.{stopped, next_entry};
 
 use crate::body::Placed;
+use format::Question;
 use reader::cursor::Entry;
 use reader::section::{Body, Layout};
 
 pub mod body;
+pub mod field;
 pub mod headers;
 pub mod operation;
 pub mod records;
@@ -18,6 +20,7 @@ pub mod records;
 // ---- an entry
 
 // What unwind_next_entry answers.
+// Kept: a number beside the fields, since C reads it.
 #[repr(C)]
 #[derive(Clone, Copy)]
 pub struct EntryRead {
@@ -28,20 +31,13 @@ pub struct EntryRead {
     pub next: u64,
 }
 
-#[tactic(auto, unfolding(format::specs::Answers::bit))]
-pub fn bit(b: bool) -> u64
-    ensures { result ≡ bit b }
-{
-    u64::from(b)
-}
-
 // No entry; the position stays.
 #[tactic(auto, unfolding(crate::specs::Entries::stopped))]
-fn stopped(number: u64, at: u64) -> EntryRead
-    ensures { result ≡ stopped number at }
+fn stopped(question: Question, at: u64) -> EntryRead
+    ensures { result ≡ stopped (number_of question) at }
 {
     EntryRead {
-        number,
+        number: question.number(),
         header: 0,
         place: at,
         length: 0,
@@ -71,16 +67,16 @@ pub extern "C" fn unwind_next_entry(section: &[u8], kind: u64, at: u64) -> Entry
     ensures { result ≡ next_entry section.now kind at }
 {
     if 1 < kind {
-        return stopped(11, at);
+        return stopped(Question::Interface, at);
     }
     match reader::cursor::next_entry(section, kind == 1, at as usize) {
         Ok(e) => EntryRead {
             number: 0,
-            header: bit(e.header),
+            header: u64::from(e.header),
             place: e.place as u64,
             length: e.length as u64,
             next: e.next as u64,
         },
-        Err(number) => stopped(number, at),
+        Err(question) => stopped(question, at),
     }
 }

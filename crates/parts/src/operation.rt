@@ -1,11 +1,18 @@
 // One operation of an entry's.
 ghost use Rattle.std.specs.Prelude.{◌≡◌, ◌+◌, ◌^◌, ◌<◌, length};
+ghost use Rattle.format.specs.Numbers.{number_of};
 ghost use Rattle.parts.specs.Operations.{no_operation, operation_numbers, operation_from, read_operation_at};
 
-use format::Operation;
+use format::{Operation, Question};
 use operations::fields::Position;
 
+// The kinds that are no row's.
+const NOP: u64 = 16;
+
+const STEP: u64 = 17;
+
 // What unwind_read_operation answers.
+// Kept: a number beside the fields, and a kind by its number, since C reads it.
 #[repr(C)]
 #[derive(Clone, Copy)]
 pub struct OperationRead {
@@ -18,11 +25,11 @@ pub struct OperationRead {
 }
 
 #[tactic(auto, unfolding(crate::specs::Operations::no_operation))]
-fn refused(number: u64, at: u64, opcode: u64) -> OperationRead
-    ensures { result ≡ no_operation number at opcode }
+fn refused(question: Question, at: u64, opcode: u64) -> OperationRead
+    ensures { result ≡ no_operation (number_of question) at opcode }
 {
     OperationRead {
-        number,
+        number: question.number(),
         kind: 0,
         reg: 0,
         value: 0,
@@ -48,11 +55,11 @@ fn numbers_of(op: Operation, next: u64, opcode: u64) -> OperationRead
     ensures { result ≡ operation_numbers op next opcode }
 {
     match op {
-        Operation::Nop => numbers(16, 0, 0, next, opcode),
-        Operation::Step(n) => numbers(17, 0, n, next, opcode),
+        Operation::Nop => numbers(NOP, 0, 0, next, opcode),
+        Operation::Step(n) => numbers(STEP, 0, n, next, opcode),
         Operation::Does(row) => numbers(
             rows::kind(row),
-            rows::register(row) as u64,
+            u64::from(rows::register(row)),
             numbers::bits(rows::offset(row)),
             next,
             opcode,
@@ -65,9 +72,9 @@ fn first(bytes: &[u8], at: u64, word: u64) -> OperationRead
     requires { (0 < word) × (0 < length bytes.now) × (at + length bytes.now < 2 ^ 64) }
     ensures { result ≡ operation_from word at bytes.now }
 {
-    let opcode = leb::wide(bytes[0]);
+    let opcode = u64::from(bytes[0]);
     let Some((op, past)) = operations::operation(bytes, Position::START, word) else {
-        return refused(66, at, opcode);
+        return refused(Question::Operations, at, opcode);
     };
     let size = past.at;
     numbers_of(op, at + size as u64, opcode)
@@ -84,18 +91,18 @@ pub extern "C" fn unwind_read_operation(
     ensures { result ≡ read_operation_at section.now at end word }
 {
     if !numbers::is_word(word) {
-        return refused(11, at, 0);
+        return refused(Question::Interface, at, 0);
     }
     if at == end {
-        return refused(62, at, 0);
+        return refused(Question::Record, at, 0);
     }
     if end < at {
-        return refused(66, at, 0);
+        return refused(Question::Operations, at, 0);
     }
     let from = at as usize;
     let to = end as usize;
     if section.len() < to {
-        return refused(66, at, 0);
+        return refused(Question::Operations, at, 0);
     }
     first(&section[from..to], at, word)
 }

@@ -1,13 +1,18 @@
 // The fields of a record (FDE), by its place.
 ghost use Rattle.std.specs.Prelude.{◌≡◌, ◌+◌, ◌≤◌, length, drop};
+ghost use Rattle.format.specs.Numbers.{number_of};
+ghost use Rattle.parts.specs.Faults.{fault_number};
 ghost use Rattle.parts.specs.Records.{call_site_bytes, no_record, record_rest, record_parts, record_numbers, record_answer, read_record_at};
 
 use crate::body::Placed;
+use crate::field::{self, Field};
 use crate::placed;
+use format::Question;
 use operations::fields::{Position, read_le, read_uleb};
 use reader::fields::Record;
 
 // What unwind_read_record answers.
+// Kept: a number beside the fields, which are 0 where it refuses, since C reads it.
 #[repr(C)]
 #[derive(Clone, Copy)]
 pub struct RecordRead {
@@ -22,12 +27,12 @@ pub struct RecordRead {
 }
 
 #[tactic(auto, unfolding(crate::specs::Records::no_record))]
-fn refused(number: u64, field: u64) -> RecordRead
-    ensures { result ≡ no_record number field }
+fn refused(question: Question, at_fault: Option<Field>) -> RecordRead
+    ensures { result ≡ no_record (number_of question) (fault_number at_fault) }
 {
     RecordRead {
-        number,
-        field,
+        number: question.number(),
+        field: field::fault(at_fault),
         header: 0,
         function: 0,
         length: 0,
@@ -63,14 +68,14 @@ struct Front {
 }
 
 // From the augmentation data on, or the field at fault.
-fn rest(e: &Placed, at: Position, pointer: u64, f: Front) -> Result<RecordRead, u64>
+fn rest(e: &Placed, at: Position, pointer: u64, f: Front) -> Result<RecordRead, Field>
     requires { at.at ≤ length e.now.body.bytes.now }
     ensures { record_answer result ≡ record_numbers e.now.body.layout.debug pointer (e.now.base + length e.now.body.bytes.now) (record_rest e.now.body.layout.debug pointer f.header f.function f.length (drop at.at e.now.body.bytes.now)) }
 {
     let Some(Record { operations, size }) = reader::fields::record_tail(
         &e.body, at, pointer, f.length,
     ) else {
-        return Err(9);
+        return Err(Field::RecordData);
     };
     let start = operations.at;
     Ok(RecordRead {
@@ -86,19 +91,21 @@ fn rest(e: &Placed, at: Position, pointer: u64, f: Front) -> Result<RecordRead, 
 }
 
 // The fields in the bytes behind a record's length.
-fn fields(e: &Placed, pointer: u64) -> Result<RecordRead, u64>
+// Kept: `reader::fields::parse_record` and `reads::addresses::fields_of` read these three numbers too. One function would answer them with the
+// position past them in a struct, and for this one alone which of them is at fault: taking both apart again is more than the three reads.
+fn fields(e: &Placed, pointer: u64) -> Result<RecordRead, Field>
     ensures { record_answer result ≡ record_numbers e.now.body.layout.debug pointer (e.now.base + length e.now.body.bytes.now) (record_parts e.now.body.layout.debug e.now.body.layout.word pointer e.now.body.bytes.now) }
 {
     let body = e.body.bytes;
     let n = reader::fields::field_size(e.body.layout.debug, e.body.layout.word) as usize;
     let Some((header, a)) = read_le(body, Position::START, 4) else {
-        return Err(7);
+        return Err(Field::Function);
     };
     let Some((function, b)) = read_le(body, a, n) else {
-        return Err(7);
+        return Err(Field::Function);
     };
     let Some((length, at)) = read_le(body, b, n) else {
-        return Err(8);
+        return Err(Field::Length);
     };
     let f = Front {
         header,
@@ -121,16 +128,16 @@ pub extern "C" fn unwind_read_record(
     ensures { result ≡ read_record_at section.now kind word pointer place }
 {
     let Some(layout) = reader::layout_of(kind, word) else {
-        return refused(11, 0);
+        return refused(Question::Interface, None);
     };
     let Ok(e) = reader::cursor::next_entry(section, layout.debug, place as usize) else {
-        return refused(61, 0);
+        return refused(Question::Tiling, None);
     };
     if e.header {
-        return refused(62, 0);
+        return refused(Question::Record, None);
     }
     match fields(&placed(section, layout, e), pointer) {
         Ok(record) => record,
-        Err(field) => refused(64, field),
+        Err(field) => refused(Question::Fields, Some(field)),
     }
 }

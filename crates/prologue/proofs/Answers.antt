@@ -9,6 +9,9 @@ use lib.Dec.{T, ltb}
 use lib.IntN.{ℤ, pos, ◌+ℤ◌}
 use mir.Facts.{and_yes}
 use Rattle.std.specs.Prelude.{Ok, Err}
+use Rattle.format.specs.Numbers.{number_of}
+use Rattle.format.specs.declared.question.Question.{Question}
+use Rattle.format.specs.declared.question.Question.TheVariants.{Registers}
 use Rattle.format.specs.Prelude.{pick, Result, good, bad, onward, all, each}
 use Rattle.format.specs.declared.Machine.{Machine}
 use Rattle.format.specs.Machine.{Register, register_of}
@@ -148,10 +151,10 @@ module _ (m : Machine) (rows : List ℕ) (at n end : ℕ) (low : at ≤ end) (hi
           last = rw (← pieces_all v.below) (ends whole g z);
         }
 
-    pub unnamed : v.named ≡ false → Shaped m rows at n (Err 34)
+    pub unnamed : v.named ≡ false → Shaped m rows at n (Err Registers)
     unfolding onward pick
     unnamed z f e = codes f e ∙ rw (g, z)
 
-  pub stopped : {k : ℕ} → walked ≡ bad k → Shaped m rows at n (Err k)
+  pub stopped : (q : Question) → walked ≡ bad (number_of q) → Shaped m rows at n (Err q)
   unfolding onward
-  stopped g f e = codes f e ∙ rw g
+  stopped q g f e = codes f e ∙ rw g

@@ -1,16 +1,22 @@
 -- Distances of 32 bits added and subtracted in 64, as the machine passes them on.
-use mathlib.Core.Path.{◌≡◌, ◌∙◌}
+use mathlib.Core.Path.{◌≡◌, sym, ap, ◌∙◌}
 use mathlib.Core.Bool.{Bool, true, false, cond}
-use Prim.Native.Nat.{ℕ, zero, suc, ◌+◌, ◌^◌, ◌≤◌, ◌<◌}
+use Prim.Native.Nat.{ℕ, zero, suc, ◌+◌, ◌≤◌}
 use native.Mathlib.Omega.{arith}
-use lib.IntN.{ℤ, pos, negsuc, neg_ℤ, sub_ℕ, ◌+ℤ◌, ◌-ℤ◌, +ℤ_idl}
-use lib.Dec.{ltb, eqb}
+use lib.IntN.{ℤ, pos, negsuc, neg_ℤ, sub_ℕ, ◌+ℤ◌, ◌-ℤ◌}
+use lib.Dec.{ltb, eqb→eq}
 use lib.Signed.{mag}
 use mir.Syntax.{w64}
 use mir.Val.{SFits, of_z, to_z}
 use mir.Facts.{to_z-of_z}
+use Rattle.std.specs.Prelude.{Some, None}
+use Rattle.std.specs.Prelude as code
+use Rattle.std.specs.Bool.{Decides, one_answer}
+use Rattle.std.specs.Cmp.{signed_Decides}
+use Rattle.std.specs.Option.{SomeIff, option_eq}
+use Rattle.std.specs.Ordering.{int_eq}
+use borrow.Author.Tests.{eq-eqb}
 use Rattle.format.specs.Rows.{same_offset}
-use Rattle.rows.proofs.Signs.{same_bits}
 use Rattle.prologue.specs.Pieces.{Short}
 
 -- ---- how large they get
@@ -52,19 +58,21 @@ module _ (a b : ℤ) (h : Short a) (k : Short b) where
   pub difference_fits : SFits w64 (to_z w64 (of_z w64 a) -ℤ to_z w64 (of_z w64 b))
   difference_fits = rw (short_passed a h, short_passed b k) (record { sfits = omega (arith, mag_sum a (neg_ℤ b), mag_opposite b) })
 
-  -- and compared
-  pub difference_same : (x : ℤ) → mag x < 2 ^ 63 → eqb (of_z w64 (to_z w64 (of_z w64 a) -ℤ to_z w64 (of_z w64 b))) (of_z w64 x) ≡ same_offset (a -ℤ b) x
-  difference_same x k' = rw (short_passed a h, short_passed b k) (same_bits (a -ℤ b) x (omega (arith, mag_sum a (neg_ℤ b), mag_opposite b)) k')
-
   pub difference_is : to_z w64 (of_z w64 (to_z w64 (of_z w64 a) -ℤ to_z w64 (of_z w64 b))) ≡ a -ℤ b
   difference_is = to_z-of_z difference_fits ∙ rw (short_passed a h, short_passed b k)
 
-module _ (z : ℤ) (h : Short z) where
-  pub opposite_fits : SFits w64 (pos 0 -ℤ to_z w64 (of_z w64 z))
-  opposite_fits = rw (short_passed z h, +ℤ_idl) (record { sfits = omega (arith, mag_opposite z) })
+-- ---- as the code compares them, where the computed one has 64 bits
 
-  pub opposite_same : (x : ℤ) → mag x < 2 ^ 63 → eqb (of_z w64 x) (of_z w64 (pos 0 -ℤ to_z w64 (of_z w64 z))) ≡ same_offset x (neg_ℤ z)
-  opposite_same x k = rw (short_passed z h, +ℤ_idl) (same_bits x (neg_ℤ z) k (omega (arith, mag_opposite z)))
+same_decides : (a b : ℤ) → Decides (same_offset a b) (a ≡ b)
+unfolding same_offset
+same_decides (pos a) (pos b) = (λ e. ap pos (eqb→eq a b (rw e tt)), λ e. eq-eqb a b cc)
+same_decides (pos a) (negsuc b) = (λ e. cc, λ e. cc)
+same_decides (negsuc a) (pos b) = (λ e. cc, λ e. cc)
+same_decides (negsuc a) (negsuc b) = (λ e. ap negsuc (eqb→eq a b (rw e tt)), λ e. eq-eqb a b cc)
 
-  pub opposite_is : to_z w64 (of_z w64 (pos 0 -ℤ to_z w64 (of_z w64 z))) ≡ neg_ℤ z
-  opposite_is = to_z-of_z opposite_fits ∙ rw (short_passed z h) (+ℤ_idl (neg_ℤ z))
+pub same_flip : (a b : ℤ) → same_offset a b ≡ same_offset b a
+same_flip a b = let h = same_decides b a in one_answer (same_offset a b) (same_offset b a) (same_decides a b) ((λ e. sym (h.0 e)), (λ e. h.1 (sym e)))
+
+pub checked_same : (r : code.Option ℤ) (d x : ℤ) → SomeIff r (SFits w64 d) d → SFits w64 x → option_eq int_eq r (Some x) ≡ same_offset d x
+checked_same None d x h k = one_answer false (same_offset d x) ((λ e. cc), (λ e. absurd (h (rw e k)))) (same_decides d x)
+checked_same (Some y) d x h k = rw h.1 (one_answer (int_eq d x) (same_offset d x) (signed_Decides d x) (same_decides d x))

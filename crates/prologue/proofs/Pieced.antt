@@ -18,7 +18,7 @@ use Rattle.format.specs.Lists.{field, row_stride, row_at, row_ok_at}
 use Rattle.format.specs.X64.{Step, push, alloc, frame, save, code_for}
 use Rattle.prologue.specs.Groups.{joined, joins}
 use Rattle.prologue.specs.Pieces.{Short, row_step, step_in, moved_by, moved_in, code_in, codes_in, piece_in, pieces_from, named_code}
-use Rattle.prologue.proofs.Rows.{row_at_short}
+use Rattle.prologue.proofs.Rows.{picked, row_at_short}
 
 -- ---- one row
 
@@ -90,14 +90,9 @@ pub stays : (sofar : ℤ) (rows : List ℕ) (i : ℕ) {r : Row} → r ≡ (row_a
 unfolding moved_in moved_by pick
 stays sofar rows i {r} e n = rw (← e, ne_eqb (kind_of r) 1 n)
 
-either_moved : (b : Bool) (y z : ℤ) → Short y → Short z → Short (pick b y z)
-unfolding pick
-either_moved true y z h k = h
-either_moved false y z h k = k
-
 pub moved_short : (sofar : ℤ) (rows : List ℕ) (i : ℕ) → T (row_ok_at rows i) → Short sofar → Short (moved_in sofar rows i)
 unfolding moved_in moved_by
-moved_short sofar rows i t h = either_moved _ _ _ (row_at_short rows i t) h
+moved_short sofar rows i t h = picked Short _ (row_at_short rows i t) h
 
 -- ---- the pieces from row i on
 

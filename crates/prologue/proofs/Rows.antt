@@ -10,7 +10,6 @@ use mir.Syntax.{w32}
 use mir.Val.{to_z}
 use mir.Facts.{sfits_to_z}
 use Rattle.format.specs.Prelude.{pick}
-use Rattle.format.specs.declared.Row.{Row}
 use Rattle.format.specs.Rows.{offset_of}
 use Rattle.format.specs.Lists.{field, row_stride, row_of, row_ok, row_ok_at, row_at}
 use Rattle.format.proofs.Choice.{pick_yes, pick_no, tested}
@@ -36,25 +35,26 @@ leading r h = record { inside = omega (arith, r.inside); ok = λ k l u. r.ok k l
 pub within : {at last end : ℕ} → at ≤ last → end ≤ last → end ≤ at + (last - at)
 within h k = omega arith
 
-one_short : (b : Bool) (x y : Row) → Short (offset_of x) → Short (offset_of y) → Short (offset_of (pick b x y))
+-- what holds of both holds of the one that is picked
+pub picked : {X : Type 0} (P : X → Type 0) (b : Bool) {x y : X} → P x → P y → P (pick b x y)
 unfolding pick
-one_short true x y h k = h
-one_short false x y h k = k
+picked P true h k = h
+picked P false h k = k
 
 row_short : (kind reg off : ℕ) → T (row_ok kind reg off) → Short (offset_of (row_of kind reg off))
 unfolding row_of offset_of
 row_short kind reg off t =
     let h : Short (to_z w32 off) = (sfits_to_z {w = w32} {n = off} (record { fits = (row_numbers kind reg off t).off_low })).sfits in
     let o : Short (pos 0) = omega arith in
-    one_short (eqb kind 0) _ _ h
-    (one_short (eqb kind 1) _ _ h
-    (one_short (eqb kind 2) _ _ o
-    (one_short (eqb kind 3) _ _ h
-    (one_short (eqb kind 4) _ _ o
-    (one_short (eqb kind 5) _ _ o
-    (one_short (eqb kind 6) _ _ o
-    (one_short (eqb kind 7) _ _ o
-    (one_short (eqb kind 9) _ _ o
+    picked (λ r. Short (offset_of r)) (eqb kind 0) h
+    (picked (λ r. Short (offset_of r)) (eqb kind 1) h
+    (picked (λ r. Short (offset_of r)) (eqb kind 2) o
+    (picked (λ r. Short (offset_of r)) (eqb kind 3) h
+    (picked (λ r. Short (offset_of r)) (eqb kind 4) o
+    (picked (λ r. Short (offset_of r)) (eqb kind 5) o
+    (picked (λ r. Short (offset_of r)) (eqb kind 6) o
+    (picked (λ r. Short (offset_of r)) (eqb kind 7) o
+    (picked (λ r. Short (offset_of r)) (eqb kind 9) o
     (tested (eqb kind 10)
     (λ u. let l : off < 65536 = (row_numbers kind reg off t).other_low (eqb→eq kind 10 u) in rw (pick_yes (eqb kind 10)) (omega arith))
     (λ u. rw (pick_no (eqb kind 10)) o))))))))))

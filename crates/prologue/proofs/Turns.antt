@@ -20,7 +20,7 @@ use Rattle.prologue.specs.declared.Walk.{Walk}
 use Rattle.prologue.specs.Groups.{joined, joins, third, stepped, added, lone_in, push_in, last_in, row_in, walk_from, start}
 use Rattle.prologue.specs.Pieces.{Short, Ready}
 use Rattle.prologue.proofs.Neighbours.{joined_above}
-use Rattle.prologue.proofs.Rows.{row_at_short}
+use Rattle.prologue.proofs.Rows.{picked, row_at_short}
 use Rattle.prologue.proofs.Walked.{at_push, at_lone, turned}
 
 -- ---- the distance keeps to 32 bits
@@ -30,17 +30,12 @@ abbrev IfShort : Result Walk → Type 0
 IfShort (good w) = Short w.below
 IfShort (bad n) = Unit {0}
 
-either_short : (b : Bool) (v w : Result Walk) → IfShort v → IfShort w → IfShort (pick b v w)
-unfolding pick
-either_short true v w h k = h
-either_short false v w h k = k
-
 module _ (m : Machine) (w : Walk) (h : Short w.below) where
   lone_short : (last : Bool) (r : Row) → Short (offset_of r) → IfShort (lone_in m last r w)
   unfolding lone_in added stepped offset_of
-  lone_short last (DefCfa reg z) k = either_short _ _ _ h tt
+  lone_short last (DefCfa reg z) k = picked IfShort _ h tt
   lone_short last (DefCfaOffset z) k = k
-  lone_short last (DefCfaRegister reg) k = either_short _ _ _ h tt
+  lone_short last (DefCfaRegister reg) k = picked IfShort _ h tt
   lone_short last (Offset reg z) k = h
   lone_short last (Restore reg) k = tt
   lone_short last (Undefined reg) k = tt
@@ -52,7 +47,7 @@ module _ (m : Machine) (w : Walk) (h : Short w.below) where
 
   push_short : (a b : Row) → Short (offset_of a) → IfShort (push_in m a b w)
   unfolding push_in added stepped
-  push_short a b k = either_short _ _ _ k tt
+  push_short a b k = picked IfShort _ k tt
 
   module _ (rows : List ℕ) (at end i : ℕ) (r : Ready rows at end) (low : at ≤ i) (high : i < end) where
     last_short : IfShort (last_in m rows at end i w)
@@ -67,7 +62,7 @@ module _ (m : Machine) (w : Walk) (h : Short w.below) where
 
     row_in_short : IfShort (row_in m rows at end i w)
     unfolding row_in
-    row_in_short = either_short (third rows at i) _ _ tt (either_short (joins rows i end) _ _ h last_short)
+    row_in_short = picked IfShort (third rows at i) tt (picked IfShort (joins rows i end) h last_short)
 
 -- ---- the rows read
 

@@ -8,7 +8,9 @@ use Rattle.format.specs.Machine.{Register, register_of}
 use Rattle.format.specs.declared.Row.{Row}
 use Rattle.format.specs.declared.Seh.{Seh}
 use Rattle.format.specs.Rows.{kind_of, reg_of, offset_of}
-use Rattle.format.specs.Lists.{Function, row_at, row_ok_at}
+use Rattle.format.specs.Lists.{Function, row_stride, row_at, row_ok_at}
+use Rattle.format.specs.Numbers.{number_of}
+use Rattle.format.specs.declared.question.Question.{Question}
 use Rattle.format.specs.X64.{Step, push, alloc, frame, save, low16, code_for, codes_of, end_of}
 use Rattle.prologue.specs.declared.Shape.{Shape}
 use Rattle.prologue.specs.Groups.{joined, joins}
@@ -21,7 +23,7 @@ Short z = mag z < 2 ^ 31
 
 -- the rows from `at` to `end` can be read
 pub record Ready (rows : List ℕ) (at end : ℕ) : Type 0 where
-  pub inside : 4 * end ≤ length rows
+  pub inside : row_stride * end ≤ length rows
   pub ok : (k : ℕ) → at ≤ k → k < end → T (row_ok_at rows k)
 
 -- ---- a row
@@ -89,7 +91,7 @@ pub record Says (m : Machine) (rows : List ℕ) (at n : ℕ) (r : Shape) : Type 
   pub codes : (f : Function) → f.rows ≡ each (row_at rows) at n → codes_of m f ≡ good (pieces_of m rows at r)
   pub last : end_of 0 (pieces_of m rows at r) ≡ end_in rows at r.end
 
--- or the number of the question that was answered by no
-abbrev pub Shaped : Machine → (rows : List ℕ) (at n : ℕ) → code.Result Shape ℕ → Type 0
+-- or the question that was answered by no
+abbrev pub Shaped : Machine → (rows : List ℕ) (at n : ℕ) → code.Result Shape Question → Type 0
 Shaped m rows at n (Ok r) = Says m rows at n r
-Shaped m rows at n (Err k) = (f : Function) → f.rows ≡ each (row_at rows) at n → codes_of m f ≡ bad k
+Shaped m rows at n (Err q) = (f : Function) → f.rows ≡ each (row_at rows) at n → codes_of m f ≡ bad (number_of q)

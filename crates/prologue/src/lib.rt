@@ -2,19 +2,19 @@
 #![tactic(auto)]
 
 ghost use Rattle.std.specs.Prelude.{IfOk, ◌≡◌, false, [], ◌∷◌, ◌+◌, ◌-◌, ◌*◌, ◌≤◌, ◌<◌, pos, ◌+ℤ◌, ◌-ℤ◌, length, T, eqb};
-ghost use Rattle.format.specs.Lists.{row_at, row_ok_at};
+ghost use Rattle.format.specs.Lists.{row_stride, row_at, row_ok_at};
 ghost use Rattle.format.specs.Prelude.{pick, each};
 ghost use Rattle.format.specs.Machine.{register_of};
 ghost use Rattle.format.specs.Rows.{kind_of, offset_of};
 ghost use Rattle.format.specs.X64.{low16, frame, before_remember};
-ghost use Rattle.format.specs.Coded.{result_of};
+ghost use Rattle.format.specs.Coded.{result_of, numbered};
 ghost use Rattle.format.specs.declared.Row.TheVariants.{DefCfa, DefCfaOffset, DefCfaRegister, Offset};
 ghost use Rattle.format.specs.declared.Seh.TheVariants.{Push, Alloc, Frame, Save};
 ghost use Rattle.prologue.specs.Groups.{found_of, knows, joined, joins, third, counted, stepped, added, lone_in, push_in};
 ghost use Rattle.prologue.specs.Pieces.{Short, Shaped, piece_of, named_code, moved_in, end_in};
 ghost use Rattle.prologue.specs.Given.{IsRow, rows_of, last_of, row_of, walk_of, piece_at};
 
-use format::{Row, Seh};
+use format::{Question, Row, Seh};
 use given::{FunctionRows, Registers, X64Machine};
 use leb::wide;
 use rows::{offset_at, row_at};
@@ -105,7 +105,6 @@ enum Steps {
 
 // What is known of the rows so far: the distance of the frame address above the stack pointer, the steps, and whether the machine
 // has a number below 16 for each register.
-// Kept: a ghost field for the distance's 32 bits is no plainer, since the definitions make walks of any distance.
 #[derive(Clone, Copy)]
 struct Walk {
     below: i64,
@@ -146,70 +145,68 @@ impl X64Machine<'_> {
     }
 
     // DefCfa alone: the frame pointer at the present distance, or a frame that is counted from another register (32).
-    fn frame_set(&self, reg: u64, z: i64, w: Walk) -> Result<Walk, u64>
-        ensures { result ≡ result_of (lone_in self.now.machine.now false (DefCfa reg z) w) }
+    fn frame_set(&self, reg: u64, z: i64, w: Walk) -> Result<Walk, Question>
+        ensures { numbered result ≡ result_of (lone_in self.now.machine.now false (DefCfa reg z) w) }
     {
         if reg != self.machine.frame {
-            return Err(32);
+            return Err(Question::Scratch);
         }
         if z != w.below {
-            return Err(32);
+            return Err(Question::Scratch);
         }
         Ok(self.framed(w))
     }
 
     // DefCfaRegister alone: the frame pointer, pushed by the only step before, and nothing behind it; else it is set before the frame
     // is taken (31).
-    fn frame_early(&self, last: bool, reg: u64, w: Walk) -> Result<Walk, u64>
-        ensures { result ≡ result_of (lone_in self.now.machine.now last (DefCfaRegister reg) w) }
+    fn frame_early(&self, last: bool, reg: u64, w: Walk) -> Result<Walk, Question>
+        ensures { numbered result ≡ result_of (lone_in self.now.machine.now last (DefCfaRegister reg) w) }
     {
         if reg != self.machine.frame {
-            return Err(31);
+            return Err(Question::FrameFirst);
         }
         if !last {
-            return Err(31);
+            return Err(Question::FrameFirst);
         }
         if w.below != (2 * self.machine.word) as i64 {
-            return Err(31);
+            return Err(Question::FrameFirst);
         }
         if w.steps != Steps::PointerPushed {
-            return Err(31);
+            return Err(Question::FrameFirst);
         }
         Ok(self.framed(w))
     }
 
     // DefCfaOffset, then Offset: a register that is put into the word by which the frame address moved, or no push (33).
-    fn pushed(&self, reg: u64, z: i64, y: i64, w: Walk) -> Result<Walk, u64>
-        requires { Short z × Short w.below }
-        ensures { result ≡ result_of (push_in self.now.machine.now (DefCfaOffset z) (Offset reg y) w) }
+    fn pushed(&self, reg: u64, z: i64, y: i64, w: Walk) -> Result<Walk, Question>
+        ensures { numbered result ≡ result_of (push_in self.now.machine.now (DefCfaOffset z) (Offset reg y) w) }
     {
-        if z - w.below != self.machine.word as i64 {
-            return Err(33);
+        if z.checked_sub(w.below) != Some(self.machine.word as i64) {
+            return Err(Question::Group);
         }
-        if y != -z {
-            return Err(33);
+        if z.checked_neg() != Some(y) {
+            return Err(Question::Group);
         }
         let known = self.registers().knows(reg);
         Ok(stepped(w, reg == self.machine.frame, known, z))
     }
 
     // An instruction of two rows.
-    fn push_rows(&self, a: Row, b: Row, w: Walk) -> Result<Walk, u64>
-        requires { Short (offset_of a) × Short w.below }
-        ensures { result ≡ result_of (push_in self.now.machine.now a b w) }
+    fn push_rows(&self, a: Row, b: Row, w: Walk) -> Result<Walk, Question>
+        ensures { numbered result ≡ result_of (push_in self.now.machine.now a b w) }
     {
         let Row::DefCfaOffset(z) = a else {
-            return Err(33);
+            return Err(Question::Group);
         };
         let Row::Offset(reg, y) = b else {
-            return Err(33);
+            return Err(Question::Group);
         };
         self.pushed(reg as u64, z, y, w)
     }
 
     // An instruction of one row; it is the last of the prologue, or not.
-    fn lone_row(&self, last: bool, r: Row, w: Walk) -> Result<Walk, u64>
-        ensures { result ≡ result_of (lone_in self.now.machine.now last r w) }
+    fn lone_row(&self, last: bool, r: Row, w: Walk) -> Result<Walk, Question>
+        ensures { numbered result ≡ result_of (lone_in self.now.machine.now last r w) }
     {
         match r {
             Row::DefCfa(reg, z) => self.frame_set(reg as u64, z, w),
@@ -219,7 +216,7 @@ impl X64Machine<'_> {
                 let known = self.registers().knows(reg as u64);
                 Ok(stepped(w, false, known, w.below))
             }
-            _ => Err(33),
+            _ => Err(Question::Group),
         }
     }
 }
@@ -228,9 +225,9 @@ impl X64Machine<'_> {
 
 impl FunctionRows<'_> {
     // Row i, the last of its instruction's.
-    fn read_last(&self, m: &X64Machine, i: usize, w: Walk) -> Result<Walk, u64>
-        requires { IsRow self.now i × Short w.below }
-        ensures { result ≡ result_of (last_of m.now self.now i w) }
+    fn read_last(&self, m: &X64Machine, i: usize, w: Walk) -> Result<Walk, Question>
+        requires { IsRow self.now i }
+        ensures { numbered result ≡ result_of (last_of m.now self.now i w) }
     {
         let r = row_at(self.list, i);
         if self.joined(i) {
@@ -240,12 +237,12 @@ impl FunctionRows<'_> {
     }
 
     // Row i: an instruction is read at its last row, and refused at its third.
-    fn read_row(&self, m: &X64Machine, i: usize, w: Walk) -> Result<Walk, u64>
-        requires { IsRow self.now i × Short w.below }
-        ensures { result ≡ result_of (row_of m.now self.now i w) }
+    fn read_row(&self, m: &X64Machine, i: usize, w: Walk) -> Result<Walk, Question>
+        requires { IsRow self.now i }
+        ensures { numbered result ≡ result_of (row_of m.now self.now i w) }
     {
         if self.third(i) {
-            return Err(33);
+            return Err(Question::Group);
         }
         if self.joins(i) {
             return Ok(w);
@@ -254,8 +251,8 @@ impl FunctionRows<'_> {
     }
 
     // All of the rows, to the first no.
-    fn read_rows(&self, m: &X64Machine) -> Result<Walk, u64>
-        ensures { (result ≡ result_of (walk_of m.now self.now)) × IfOk result (λ w. Short w.below) }
+    fn read_rows(&self, m: &X64Machine) -> Result<Walk, Question>
+        ensures { (numbered result ≡ result_of (walk_of m.now self.now)) × IfOk result (λ w. Short w.below) }
     {
         let mut w = Walk {
             below: m.machine.pushed as i64,
@@ -298,7 +295,7 @@ impl FunctionRows<'_> {
     }
 
     // A function's codes. The questions are those of the instructions, then 34.
-    pub fn prologue(&self, m: &X64Machine) -> Result<Shape, u64>
+    pub fn prologue(&self, m: &X64Machine) -> Result<Shape, Question>
         ensures { Shaped m.now.machine.now self.now.list.now self.now.at (self.now.end - self.now.at) result }
     {
         let end = self.before_remember();
@@ -309,7 +306,7 @@ impl FunctionRows<'_> {
         };
         let w = leading.read_rows(m)?;
         if !w.named {
-            return Err(34);
+            return Err(Question::Registers);
         }
         let below = w.below;
         Ok(Shape { below, end })
@@ -395,7 +392,7 @@ impl FunctionRows<'_> {
 
 // The distance behind row i.
 pub fn moved(sofar: i64, rows: &[u64], i: usize) -> i64
-    requires { (4 * i + 4 ≤ length rows.now) × T (row_ok_at rows.now i) }
+    requires { (row_stride * i + row_stride ≤ length rows.now) × T (row_ok_at rows.now i) }
     ensures { result ≡ moved_in sofar rows.now i }
 {
     let Row::DefCfaOffset(z) = row_at(rows, i) else {
@@ -406,7 +403,7 @@ pub fn moved(sofar: i64, rows: &[u64], i: usize) -> i64
 
 // Where the prologue of the rows from `at` to `end` ends: at the last one's offset, which is the last code's.
 pub fn prologue_end(rows: &[u64], at: usize, end: usize) -> u64
-    requires { 4 * end ≤ length rows.now }
+    requires { row_stride * end ≤ length rows.now }
     ensures { result ≡ end_in rows.now at end }
 {
     if end <= at {

@@ -1,28 +1,28 @@
 -- What a row does to the rules stored.
-use mathlib.Core.Path.{◌≡◌, sym, ap, subst, ◌∙◌}
-use mathlib.Core.Bool.{true, false}
-use Prim.Native.Nat.{ℕ, suc, ◌≤◌, ◌<◌}
+use mathlib.Core.Path.{◌≡◌, refl, sym, ap, subst}
+use Prim.Native.Nat.{ℕ, suc, ◌<◌}
 use native.Mathlib.Omega.{arith}
-use mathlib.Core.List.{List, [], ◌∷◌}
-use borrow.Author.Tests.{le-leb}
-use lib.Dec.{T, leb}
-use mir.Facts.{leb_yes}
-use lib.ListN.{length}
+use mathlib.Core.List.{List, [], ◌∷◌, ◌++◌, reverse, reverse-append}
+use lib.ListN.{length, length-reverse}
 use lib.IntN.{ℤ}
-use Rattle.std.specs.Prelude.{Ok, Err}
-use Rattle.format.specs.Prelude.{good, bad}
+use Rattle.std.specs.Prelude.{Ok, Err, Some, None}
+use Rattle.arrayvec.specs.ArrayVec.{ArrayVec}
+use mathlib.Core.Bool.{true, false}
+use lib.Dec.{T}
+use Rattle.std.specs.Prelude as code
+use Rattle.std.specs.Option.{is_some}
+use Rattle.format.specs.declared.Operation.{Operation}
+use Rattle.format.specs.declared.Operation.TheVariants.{Nop, Step, Does}
+use Rattle.format.specs.declared.Row.{Row}
+use Rattle.format.specs.declared.Rule.{Rule}
+use Rattle.format.specs.Prelude.{Result, good, bad, onward}
 use Rattle.format.specs.declared.CfaRule.{CfaRule}
 use Rattle.format.specs.declared.CfaRule.TheVariants.{Unset, Register}
-use Rattle.format.specs.declared.Rule.TheVariants.{Unstated}
 use Rattle.format.specs.declared.Rules.{Rules}
-use Rattle.format.proofs.Choice.{if-le, if-gt, either, is_yes_lem}
-use Rattle.reader.specs.OneRegister.{Run, set_cfa, register_rule, change_offset, change_register, remember, recall}
+use Rattle.format.proofs.Choice.{if-le, if-gt}
+use Rattle.reader.specs.OneRegister.{Run, set_cfa, register_rule, change_offset, change_register, remember, recall, act, stepped, perform}
 use Rattle.reader.specs.declared.run.State.{State}
 use Rattle.reader.specs.States.{run_of}
-
--- what stands in a place where nothing is stored
-abbrev pub nothing : Rules
-nothing = record { cfa = Unset; rule = Unstated; signing = false }
 
 -- a CFA rule that has no register, or no offset, to be kept; and one that has both
 module _ (z : ℤ) (reg : ℕ) (s : Run) where
@@ -39,24 +39,114 @@ module _ (z : ℤ) (reg : ℕ) (s : Run) where
       let p : ◌≡◌ {A = ℕ × ℤ} (r', x') (r, x) = cc in
       (ap (λ (u : ℕ × ℤ). good (set_cfa (Register u.0 z) s)) p, ap (λ (u : ℕ × ℤ). good (set_cfa (Register reg u.1) s)) p)
 
+none_stored : (xs : List Rules) → (0 < length xs → ⊥) → xs ≡ []
+none_stored [] n = refl
+none_stored (x ∷ xs) n = absurd (n (omega arith))
+
 module _ (s : State) where
-  pub full : leb 16 (length s.stored) ≡ true → remember (run_of s) ≡ bad 68
+  pub full : length s.stored.items ≡ 16 → remember (run_of s) ≡ bad 68
   unfolding remember run_of
-  full h = let l : 16 ≤ length s.stored = leb_yes (is_yes_lem h) in if-gt (suc (length s.stored)) 16 _ _ (omega arith)
+  full l = if-gt (suc (length (reverse s.stored.items))) 16 _ _ (omega (arith, l, length-reverse s.stored.items))
 
-  pub room : leb 16 (length s.stored) ≡ false → length s.stored < 16
-  room h = either 16 (length s.stored) (λ l. let z : true ≡ false = sym (le-leb 16 (length s.stored) l) ∙ h in absurd (subst T z tt)) (λ l. l)
-
-  pub remembered : leb 16 (length s.stored) ≡ false → {new : List Rules} → new ≡ s.rules ∷ s.stored
+  pub remembered : {new : ArrayVec Rules} → length s.stored.items < 16 → new.items ≡ s.stored.items ++ (s.rules ∷ [])
       → remember (run_of s) ≡ good (run_of (record { rules = s.rules; stored = new }))
   unfolding remember run_of
-  remembered h e = rw e (if-le (suc (length s.stored)) 16 _ _ (room h))
+  remembered l e =
+      rw (e, reverse-append) (if-le (suc (length (reverse s.stored.items))) 16 _ _ (omega (arith, l, length-reverse s.stored.items)))
 
-  pub empty : s.stored ≡ [] → recall (run_of s).stored (run_of s) ≡ bad 67
+  pub empty : (0 < length s.stored.items → ⊥) → recall (run_of s).stored (run_of s) ≡ bad 67
   unfolding recall run_of
-  empty e = rw e
+  empty n = rw (none_stored s.stored.items n)
 
-  pub recalled : {k : Rules} {new : List Rules} → s.stored ≡ k ∷ new
+  pub recalled : (k : Rules) (new : ArrayVec Rules) → s.stored.items ≡ new.items ++ (k ∷ [])
       → recall (run_of s).stored (run_of s) ≡ good (run_of (record { rules = k; stored = new }))
   unfolding recall run_of
-  recalled e = rw e
+  recalled k new e = rw (e, reverse-append)
+
+-- ---- an operation
+
+-- a step or none, and the run after it
+abbrev Handed : Type 0
+Handed = code.Option ℕ × Run
+
+same : {x y : Handed} → good x ≡ good y → x ≡ y
+same e = cc
+
+not_both : {n : ℕ} → ◌≡◌ {A = code.Option ℕ} None (Some n) → ⊥
+not_both e = let z : ◌≡◌ {A = ℕ} 0 1 = cc in absurd (omega arith)
+
+step_of : {m n : ℕ} → ◌≡◌ {A = code.Option ℕ} (Some m) (Some n) → m ≡ n
+step_of e = cc
+
+module _ (q : ℕ) (initial : code.Option Rule) (s : Run) where
+  -- where none is handed on it is padding or a row
+  pub data Done (op : Operation) (t : Run) : Type 0 where
+    padded : op ≡ Nop → t ≡ s → Done op t
+    acted : (row : Row) → op ≡ Does row → act q initial row s ≡ good t → Done op t
+
+  -- where it is refused, a step in a header or a row
+  pub data Refused (op : Operation) (m : ℕ) : Type 0 where
+    header_step : (n : ℕ) → op ≡ Step n → initial ≡ None → m ≡ 66 → Refused op m
+    row_refused : (row : Row) → op ≡ Does row → act q initial row s ≡ bad m → Refused op m
+
+  -- a step is handed on where there is an initial rule
+  pub no_initial : (n : ℕ) (o : code.Option Rule) → is_some o ≡ false → stepped n o s ≡ bad 66
+  unfolding stepped
+  no_initial n None e = refl
+  no_initial n (Some r) e = absurd (subst T e tt)
+
+  pub with_initial : (n : ℕ) (o : code.Option Rule) → is_some o ≡ true → stepped n o s ≡ good (Some n, s)
+  unfolding stepped
+  with_initial n None e = absurd (subst T (sym e) tt)
+  with_initial n (Some r) e = refl
+
+  no_step : (n : ℕ) (o : code.Option Rule) {t : Run} → stepped n o s ≡ good (None, t) → ⊥
+  unfolding stepped
+  no_step n None e = let z : ◌≡◌ {A = ℕ} 0 1 = cc in absurd (omega arith)
+  no_step n (Some r) {t} e = not_both (ap (λ (u : Handed). u.0) (sym (same {x = (Some n, s)} {y = (None, t)} e)))
+
+  acted_by : (a : Result Run) {t : Run} → onward {B = Handed} a (λ t. good (None, t)) ≡ good (None, t) → a ≡ good t
+  unfolding onward
+  acted_by (good r) {t} e = ap good (ap (λ (u : Handed). u.1) (same {x = (None, r)} {y = (None, t)} e))
+  acted_by (bad n) e = let z : ◌≡◌ {A = ℕ} 0 1 = cc in absurd (omega arith)
+
+  pub done : (op : Operation) {t : Run} → perform q initial op s ≡ good (None, t) → Done op t
+  unfolding perform
+  done Nop {t} e = padded refl (sym (ap (λ (u : Handed). u.1) (same {x = (None, s)} {y = (None, t)} e)))
+  done (Step n) e = absurd (no_step n initial e)
+  done (Does row) e = acted row refl (acted_by (act q initial row s) e)
+
+  refused_step : (n : ℕ) (o : code.Option Rule) {m : ℕ} → stepped n o s ≡ bad m → (o ≡ None) × (m ≡ 66)
+  unfolding stepped
+  refused_step n None e = (refl, cc)
+  refused_step n (Some r) e = let z : ◌≡◌ {A = ℕ} 0 1 = cc in absurd (omega arith)
+
+  refused_by : (a : Result Run) {m : ℕ} → onward {B = Handed} a (λ t. good (None, t)) ≡ bad m → a ≡ bad m
+  unfolding onward
+  refused_by (good r) e = let z : ◌≡◌ {A = ℕ} 0 1 = cc in absurd (omega arith)
+  refused_by (bad n) e = cc
+
+  pub refused : (op : Operation) {m : ℕ} → perform q initial op s ≡ bad m → Refused op m
+  unfolding perform
+  refused Nop e = let z : ◌≡◌ {A = ℕ} 0 1 = cc in absurd (omega arith)
+  refused (Step n) e = let r = refused_step n initial e in header_step n refl r.0 r.1
+  refused (Does row) e = row_refused row refl (refused_by (act q initial row s) e)
+
+  handed_step : (n : ℕ) (o : code.Option Rule) {m : ℕ} {t : Run} → stepped n o s ≡ good (Some m, t) → (n ≡ m) × (is_some o ≡ true) × (t ≡ s)
+  unfolding stepped
+  handed_step n None e = let z : ◌≡◌ {A = ℕ} 0 1 = cc in absurd (omega arith)
+  handed_step n (Some r) {m} {t} e =
+      let p = same {x = (Some n, s)} {y = (Some m, t)} e in
+      (step_of (ap (λ (u : Handed). u.0) p), refl, sym (ap (λ (u : Handed). u.1) p))
+
+  not_handed : (a : Result Run) {m : ℕ} {t : Run} → onward {B = Handed} a (λ t. good (None, t)) ≡ good (Some m, t) → ⊥
+  unfolding onward
+  not_handed (good r) {m} {t} e = not_both (ap (λ (u : Handed). u.0) (same {x = (None, r)} {y = (Some m, t)} e))
+  not_handed (bad n) e = let z : ◌≡◌ {A = ℕ} 0 1 = cc in absurd (omega arith)
+
+  -- what is handed on is a step, of a record
+  pub handed : (op : Operation) {m : ℕ} {t : Run} → perform q initial op s ≡ good (Some m, t) → (op ≡ Step m) × (is_some initial ≡ true) × (t ≡ s)
+  unfolding perform
+  handed Nop {m} {t} e = absurd (not_both (ap (λ (u : Handed). u.0) (same {x = (None, s)} {y = (Some m, t)} e)))
+  handed (Step n) e = let r = handed_step n initial e in (ap Step r.0, r.1, r.2)
+  handed (Does row) e = absurd (not_handed (act q initial row s) e)

@@ -13,6 +13,8 @@ use Rattle.format.specs.Machine.{is_word_size}
 use Rattle.std.specs.Prelude.{Ok, Err}
 use Rattle.format.specs.Lists.{relocations_of}
 use Rattle.format.specs.Rules.{State, blank, answer}
+use Rattle.format.specs.Numbers.{number_of}
+use Rattle.format.specs.declared.question.Question.{Question}
 use Rattle.format.specs.Shortest.{run_short}
 use Rattle.format.specs.Reader.{Found, run, run_to, shortest_to, shortest_of, shortest_at, locate, read_section, read}
 use Rattle.reader.specs.declared.location.Located.{Located}
@@ -136,11 +138,11 @@ module _ (s : List ℕ) (l : Located) where
 -- ---- the two in a row
 
 -- what `locate` said of the place that it found, and of the question that it refused by
-pub place_found : {s : List ℕ} {word : ℕ} {r : code.Result Located ℕ} {l : Located} {x : Result Found} → r ≡ Ok l → Locates s word r x → Stated s word l x
-place_found {s} {word} {r} {l} {x} e h = subst (λ (t : code.Result Located ℕ). Locates s word t x) e h
+pub place_found : {s : List ℕ} {word : ℕ} {r : code.Result Located Question} {l : Located} {x : Result Found} → r ≡ Ok l → Locates s word r x → Stated s word l x
+place_found {s} {word} {r} {l} {x} e h = subst (λ (t : code.Result Located Question). Locates s word t x) e h
 
-pub place_refused : (s : List ℕ) (word : ℕ) {r : code.Result Located ℕ} {n : ℕ} {x : Result Found} → r ≡ Err n → Locates s word r x → x ≡ bad n
-place_refused s word {r} {n} {x} e h = subst (λ (t : code.Result Located ℕ). Locates s word t x) e h
+pub place_refused : (s : List ℕ) (word : ℕ) {r : code.Result Located Question} {q : Question} {x : Result Found} → r ≡ Err q → Locates s word r x → x ≡ bad (number_of q)
+place_refused s word {r} {q} {x} e h = subst (λ (t : code.Result Located Question). Locates s word t x) e h
 
 onward_pick : (b : Bool) (x : Result Found) (k : Found → Result State) → pick b (onward x k) (bad 11) ≡ onward (pick b x (bad 11)) k
 unfolding pick onward

@@ -1,12 +1,12 @@
 -- Augmentation data at positions: bytes with their length in front, encodings, and the pointers that they promise.
 use mathlib.Core.Path.{◌≡◌, refl, subst}
-use mathlib.Core.Bool.{Bool, true, false, not}
+use mathlib.Core.Bool.{Bool, true, false}
 use mathlib.Core.Option.{none, some}
 use mathlib.Core.List.{List}
 use Prim.Native.Nat.{ℕ, ◌+◌, ◌-◌, ◌≤◌, ◌<◌}
 use native.Mathlib.Omega.{arith}
 use native.Mathlib.Numerals.{add-one}
-use borrow.Author.Tests.{eq-eqb, ne_eqb, le-leb, lt-leb, not-true, not-false}
+use borrow.Author.Tests.{eq-eqb, ne_eqb, le-leb, lt-leb}
 use lib.ListN.{length, take, drop, get_or, length-drop, drop_of_length-le}
 use lib.Seq.{drop-cons, drop-drop}
 use Rattle.format.specs.Prelude.{pick, Read, next, after}
@@ -18,7 +18,7 @@ use Rattle.operations.proofs.PositionLaws.{past_mark, uleb_ahead, uleb_rest, ule
 use Rattle.std.specs.Prelude.{Some, None}
 use Rattle.std.specs.Prelude as code
 use Rattle.format.proofs.Asked.{option_of}
-use Rattle.reader.specs.Fields.{Rests, letters_of, Counts, CountsIn, tail_mark, Skips, SkipsTo, Numbers}
+use Rattle.reader.specs.Fields.{Rests, letters_of, Counts, CountsIn, tail_mark, Skips}
 use Rattle.reader.specs.declared.fields.Augmentation.{Augmentation}
 use Rattle.reader.proofs.Seeking.{number_is, number_none}
 
@@ -79,86 +79,85 @@ module _ (s : List ℕ) (b : Bool) (x : Read (List ℕ)) {r : code.Option (Posit
 first_byte : (s : List ℕ) → (length s ≡ 0 → ⊥) → read_byte s ≡ some (get_or s 0 0, drop 1 s)
 first_byte s l = byte_there s 0 (omega arith)
 
-module _ (s : List ℕ) (here : Bool) (word : ℕ) where
-  pub personality_absent : not here ≡ true → Skips s 0 (personality_in here word s)
-  unfolding personality_in
-  personality_absent e = record { inside = omega arith; rest = rw (not-true here e) }
+module _ (s : List ℕ) (word : ℕ) where
+  pub personality_empty : length s ≡ 0 → personality_in true word s ≡ none
+  unfolding personality_in next
+  personality_empty h = rw (byte_none s 0 (omega arith))
 
-  module _ (y : not here ≡ false) where
-    pub personality_empty : length s ≡ 0 → personality_in here word s ≡ none
-    unfolding personality_in next
-    personality_empty h = rw (not-false here y, byte_none s 0 (omega arith))
+  module _ (l : length s ≡ 0 → ⊥) where
+    pub personality_unknown : option_of (pointer_size true word (get_or s 0 0)) ≡ None → personality_in true word s ≡ none
+    unfolding personality_in next after
+    personality_unknown e = rw (first_byte s l, number_none _ e)
 
-    module _ (l : length s ≡ 0 → ⊥) where
-      pub personality_unknown : option_of (pointer_size true word (get_or s 0 0)) ≡ None → personality_in here word s ≡ none
+    module _ {n : ℕ} (e : option_of (pointer_size true word (get_or s 0 0)) ≡ Some n) where
+      pub personality_over : length s - 1 < n → personality_in true word s ≡ none
       unfolding personality_in next after
-      personality_unknown e = rw (not-false here y, first_byte s l, number_none _ e)
+      personality_over h = rw (first_byte s l, number_is _ e, many_none s 1 n h)
 
-      module _ {n : ℕ} (e : option_of (pointer_size true word (get_or s 0 0)) ≡ Some n) where
-        pub personality_over : length s - 1 < n → personality_in here word s ≡ none
-        unfolding personality_in next after
-        personality_over h = rw (not-false here y, first_byte s l, number_is _ e, many_none s 1 n h)
-
-        pub personality_there : n ≤ length s - 1 → Skips s (1 + n) (personality_in here word s)
-        unfolding personality_in next after
-        personality_there h =
-            let k : 1 + n ≤ length s = omega arith in
-            record { inside = k; rest = rw (not-false here y, first_byte s l, number_is _ e, many_there s 1 n k) }
+      pub personality_there : n ≤ length s - 1 → Skips s (1 + n) (personality_in true word s)
+      unfolding personality_in next after
+      personality_there h =
+          let k : 1 + n ≤ length s = omega arith in
+          record { inside = k; rest = rw (first_byte s l, number_is _ e, many_there s 1 n k) }
 
 -- ---- the pointer to call sites
 
-module _ (s : List ℕ) (p : Position) (here : Bool) (word : ℕ) where
-  pub lsda_absent : p.at ≤ length s → not here ≡ true → Rests s p.shortest 0 p (lsda_in here word (drop p.at s))
-  unfolding lsda_in
-  lsda_absent h e = record { inside = h; read = rw (not-true here e); mark = refl }
+module _ (s : List ℕ) (p : Position) (word : ℕ) where
+  pub lsda_empty : length s ≤ p.at → lsda_in true word (drop p.at s) ≡ none
+  unfolding lsda_in next
+  lsda_empty h = rw (byte_none s p.at h)
 
-  module _ (y : not here ≡ false) where
-    pub lsda_empty : length s ≤ p.at → lsda_in here word (drop p.at s) ≡ none
-    unfolding lsda_in next
-    lsda_empty h = rw (not-false here y, byte_none s p.at h)
+  module _ (l : p.at < length s) where
+    pub lsda_unknown : option_of (pointer_size false word (get_or s p.at 0)) ≡ None → lsda_in true word (drop p.at s) ≡ none
+    unfolding lsda_in next after
+    lsda_unknown e = rw (byte_there s p.at l, number_none _ e)
 
-    module _ (l : p.at < length s) where
-      pub lsda_unknown : option_of (pointer_size false word (get_or s p.at 0)) ≡ None → lsda_in here word (drop p.at s) ≡ none
-      unfolding lsda_in next after
-      lsda_unknown e = rw (not-false here y, byte_there s p.at l, number_none _ e)
-
-      pub lsda_there : {n : ℕ} → option_of (pointer_size false word (get_or s p.at 0)) ≡ Some n
-          → Rests s p.shortest n (record { at = p.at + 1; shortest = p.shortest }) (lsda_in here word (drop p.at s))
-      unfolding lsda_in next after
-      lsda_there e = record { inside = omega arith; read = rw (not-false here y, byte_there s p.at l, number_is _ e); mark = refl }
+    pub lsda_there : {n : ℕ} → option_of (pointer_size false word (get_or s p.at 0)) ≡ Some n
+        → Rests s p.shortest n (record { at = p.at + 1; shortest = p.shortest }) (lsda_in true word (drop p.at s))
+    unfolding lsda_in next after
+    lsda_there e = record { inside = omega arith; read = rw (byte_there s p.at l, number_is _ e); mark = refl }
 
 -- ---- all of them, and the records' encoding
 
-module _ (s : List ℕ) (word : ℕ) (p : Augmentation) {r : code.Option ℕ} (m : SkipsTo s r (personality_in p.personality word s)) where
-  pub letters_first : r ≡ None → None ≡ option_of (letters_in (letters_of p) word s)
+module _ (s : List ℕ) (word : ℕ) (p : Augmentation) where
+  abbrev all_letters : code.Option ℕ
+  all_letters = option_of (letters_in (letters_of p) word s)
+
+  pub letters_first : p.personality ≡ true → personality_in true word s ≡ none → None ≡ all_letters
   unfolding letters_in after
-  letters_first e = rw (subst (λ (r : code.Option ℕ). SkipsTo s r (personality_in p.personality word s)) e m)
+  letters_first y e = rw (y, e)
 
-  module _ {a : ℕ} (e : r ≡ Some a) where
-    skipped : Skips s a (personality_in p.personality word s)
-    skipped = subst (λ (r : code.Option ℕ). SkipsTo s r (personality_in p.personality word s)) e m
+  -- behind the personality, where there is one
+  pub skipped_none : p.personality ≡ false → Skips s 0 (personality_in p.personality word s)
+  unfolding personality_in
+  skipped_none y = record { inside = omega arith; rest = rw y }
 
-    pub letters_inside : a ≤ length s
-    letters_inside = skipped.inside
+  pub skipped_one : {a : ℕ} → p.personality ≡ true → Skips s a (personality_in true word s) → Skips s a (personality_in p.personality word s)
+  skipped_one y k = rw y k
 
-    module _ (b : Bool) {v : code.Option (ℕ × Position)} (k : Numbers s b v (lsda_in p.lsda word (drop a s))) where
-      pub letters_second : v ≡ None → None ≡ option_of (letters_in (letters_of p) word s)
+  module _ {a : ℕ} (k : Skips s a (personality_in p.personality word s)) where
+    pub letters_second : p.lsda ≡ true → lsda_in true word (drop a s) ≡ none → None ≡ all_letters
+    unfolding letters_in after next
+    letters_second y e = rw (k.rest, y, e)
+
+    -- behind the encoding of the pointer to call sites, where there is one
+    pub found_none : (b : Bool) → p.lsda ≡ false → Rests s b 0 (record { at = a; shortest = b }) (lsda_in p.lsda word (drop a s))
+    unfolding lsda_in
+    found_none b y = record { inside = k.inside; read = rw y; mark = refl }
+
+    pub found_one : {b : Bool} {n : ℕ} {q : Position} → p.lsda ≡ true → Rests s b n q (lsda_in true word (drop a s)) → Rests s b n q (lsda_in p.lsda word (drop a s))
+    found_one y r = rw y r
+
+    module _ {b : Bool} {n : ℕ} {q : Position} (r : Rests s b n q (lsda_in p.lsda word (drop a s))) where
+      pub letters_ended : length s ≤ q.at → None ≡ all_letters
       unfolding letters_in after next
-      letters_second f = rw (skipped.rest, subst (λ (v : code.Option (ℕ × Position)). Numbers s b v (lsda_in p.lsda word (drop a s))) f k)
+      letters_ended h = rw (k.rest, r.read, byte_none s q.at h)
 
-      module _ {n : ℕ} {q : Position} (f : v ≡ Some (n, q)) where
-        lsda_read : Rests s b n q (lsda_in p.lsda word (drop a s))
-        lsda_read = subst (λ (v : code.Option (ℕ × Position)). Numbers s b v (lsda_in p.lsda word (drop a s))) f k
+      module _ (h : q.at < length s) where
+        pub letters_other : (get_or s q.at 0 ≡ 0x1b → ⊥) → None ≡ all_letters
+        unfolding letters_in after next pick
+        letters_other d = rw (k.rest, r.read, byte_there s q.at h) (simp (ne_eqb _ _ d))
 
-        pub letters_ended : length s ≤ q.at → None ≡ option_of (letters_in (letters_of p) word s)
-        unfolding letters_in after next
-        letters_ended h = rw (skipped.rest, lsda_read.read, byte_none s q.at h)
-
-        module _ (h : q.at < length s) where
-          pub letters_other : (get_or s q.at 0 ≡ 0x1b → ⊥) → None ≡ option_of (letters_in (letters_of p) word s)
-          unfolding letters_in after next pick
-          letters_other d = rw (skipped.rest, lsda_read.read, byte_there s q.at h) (simp (ne_eqb _ _ d))
-
-          pub letters_there : get_or s q.at 0 ≡ 0x1b → Some n ≡ option_of (letters_in (letters_of p) word s)
-          unfolding letters_in after next pick
-          letters_there d = rw (skipped.rest, lsda_read.read, byte_there s q.at h) (simp (eq-eqb _ _ d))
+        pub letters_there : get_or s q.at 0 ≡ 0x1b → Some n ≡ all_letters
+        unfolding letters_in after next pick
+        letters_there d = rw (k.rest, r.read, byte_there s q.at h) (simp (eq-eqb _ _ d))

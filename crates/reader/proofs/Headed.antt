@@ -1,5 +1,5 @@
 -- A header's fields at positions, from the augmentation data back to the id.
-use mathlib.Core.Path.{◌≡◌, subst, ◌∙◌}
+use mathlib.Core.Path.{◌≡◌, refl, sym, subst, ◌∙◌}
 use mathlib.Core.Bool.{Bool, true, false, ◌&&◌, and-true}
 use mathlib.Core.Option.{Option, none}
 use mathlib.Core.List.{List, [], ◌∷◌}
@@ -7,23 +7,18 @@ use Prim.Native.Nat.{ℕ, zero, suc, ◌+◌, ◌≤◌, ◌<◌}
 use native.Mathlib.Omega.{arith}
 use borrow.Author.Tests.{ne_eqb, le-leb, lt-leb}
 use lib.ListN.{length, drop, get_or}
-use lib.IntN.{ℤ, pos, neg_ℤ, ◌-ℤ◌, +ℤ_idl}
-use lib.Signed.{mag}
+use lib.IntN.{ℤ, pos, negsuc, nat_abs}
+use lib.Signed.{lt_z}
 use lib.Dec.{T, eqb}
-use mir.Syntax.{w64}
-use mir.Val.{SFits, of_z, to_z}
-use mir.Facts.{to_z_pos}
 use Rattle.format.specs.Prelude.{pick, next, after}
 use Rattle.operations.specs.Positions.{uleb_at, sleb_at, little_at, from}
-use Rattle.format.specs.Machine.{is_word_size}
 use Rattle.format.specs.Rows.{read_register, same_offset}
 use Rattle.format.specs.Headers.{data_factor}
 use Rattle.format.specs.Reader.{spellings, read_letters, read_counted, letters_in, HeaderFields, header_tail, require, parse_header, header_numbers, mark_after, header_short}
 use Rattle.format.specs.Shortest.{unsigned as unsignedNumber, signed as signedNumber, numbers_short}
 use Rattle.operations.specs.declared.fields.Position.{Position}
-use Rattle.format.proofs.FieldsBack.{word_small}
 use Rattle.operations.proofs.PositionLaws.{past_mark, uleb_rest, uleb_none, uleb_on, sleb_rest, sleb_none, sleb_on, little_ahead, little_rest, little_past, little_none}
-use Rattle.rows.proofs.Signs.{same_bits}
+use Rattle.rows.proofs.Signs.{eqb_both}
 use Rattle.std.specs.Prelude.{Some, None}
 use Rattle.std.specs.Prelude as code
 use Rattle.format.proofs.Asked.{option_of}
@@ -63,24 +58,20 @@ module _ (s : List ℕ) (p : Position) (debug : Bool) (word : ℕ) (l : Augmenta
 
 -- ---- the factors and the return address register
 
-module _ (w : ℕ) (t : T (is_word_size w)) where
-  small : (0 < w) × (w ≤ 8)
-  small = word_small w t
+pub factor_above : (w : ℕ) (z : ℤ) → lt_z (pos 0) z ≡ true → false ≡ same_offset z (data_factor w)
+unfolding data_factor same_offset
+factor_above w (pos zero) h = absurd (subst T (sym h) tt)
+factor_above zero (pos (suc a)) h = sym (ne_eqb (suc a) 0 (λ e. omega arith))
+factor_above (suc w) (pos (suc a)) h = refl
+factor_above w (negsuc a) h = absurd (subst T (sym h) tt)
 
-  minus : pos 0 -ℤ to_z w64 w ≡ data_factor w
-  unfolding data_factor
-  minus = rw (to_z_pos w64 {n = w} (omega (arith, small.1))) (+ℤ_idl (neg_ℤ (pos w)))
-
-  factor_mag : (w : ℕ) → w ≤ 8 → mag (data_factor w) < 8
-  unfolding data_factor
-  factor_mag zero h = omega arith
-  factor_mag (suc w) h = omega arith
-
-  pub factor_fits : SFits w64 (pos 0 -ℤ to_z w64 w)
-  factor_fits = rw minus (record { sfits = omega (arith, factor_mag w small.1) })
-
-  pub factor_same : (z : ℤ) → SFits w64 z → eqb (of_z w64 z) (of_z w64 (pos 0 -ℤ to_z w64 w)) ≡ same_offset z (data_factor w)
-  factor_same z f = rw minus (same_bits z (data_factor w) f.sfits (omega (arith, factor_mag w small.1)))
+pub factor_size : (w : ℕ) (z : ℤ) → lt_z (pos 0) z ≡ false → eqb (nat_abs z) w ≡ same_offset z (data_factor w)
+unfolding data_factor same_offset
+factor_size zero (pos zero) h = refl
+factor_size (suc w) (pos zero) h = ne_eqb 0 (suc w) (λ e. omega arith)
+factor_size w (pos (suc a)) h = absurd (subst T (sym (le-leb 1 (suc a) (omega arith)) ∙ h) tt)
+factor_size zero (negsuc a) h = ne_eqb (suc a) 0 (λ e. omega arith)
+factor_size (suc w) (negsuc a) h = eqb_both (suc a) (suc w) a w (λ e. omega arith) (λ e. omega arith)
 
 module _ (s : List ℕ) (p : Position) (debug : Bool) (word : ℕ) (l : Augmentation) where
   abbrev factors : Option HeaderFields

@@ -1,5 +1,7 @@
 -- The lemmas of this crate's functions.
 pub mod Tiling
+pub mod Giving
+pub mod Reading
 pub mod Seeking
 pub mod Strings
 pub mod Augmentation

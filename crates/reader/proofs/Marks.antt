@@ -58,10 +58,6 @@ module _ {s : List ℕ} {word p : ℕ} {at : Position} {loc : ℕ} (i : Left s w
     unread e = sym (opened ∙ rw (operation_none word s at e))
 
     module _ {op : Operation} {next : Position} (e : operation_at word s at ≡ Some (op, next)) where
-      -- less is left
-      pub shorter : length s - next.at < length s - at.at
-      shorter = omega (arith, operation_ahead word s at e)
-
       -- the mark of the operation is that of the position past it
       mark : operation_short (drop at.at s) ≡ next.shortest
       mark = sym (past_mark (operation_past word s at e) ∙ rw i.marked)

@@ -29,7 +29,9 @@ use Rattle.reader.specs.declared.run.State as code
 use Rattle.std.specs.Prelude as std
 use Rattle.reader.specs.OneRegister as one
 use Rattle.reader.specs.States.{run_of}
-use Rattle.reader.proofs.Seen.{SeenAs, answered, refused, seen_row}
+use Rattle.reader.proofs.Seen.{SeenAs, answered, seen_row}
+use Rattle.reader.proofs.Seen as seen
+use Rattle.reader.proofs.Acting.{Done, padded, acted, Refused, header_step, row_refused, done, refused, handed}
 
 -- the header's operations are those that have no initial rule
 pub none_where : (header : Bool) (r : Rule) {o : std.Option Rule} → one.initial_of header r ≡ o → {b : Bool} → is_some o ≡ not b → header ≡ b
@@ -103,7 +105,7 @@ pub record Inside (whole : Reading) (header : Bool) (word p q : ℕ) (initial : 
 module _ {whole : Reading} {header : Bool} {word p q : ℕ} {initial : std.Option Rule} {ops : List ℕ} {k : State → Result State} {at : Position} {loc : ℕ} {state : code.State}
     (i : Inside whole header word p q initial ops k at loc state) where
   -- a header's operations have no initial rule, a record's have one
-  pub which : {b : Bool} → is_some initial ≡ not b → header ≡ b
+  which : {b : Bool} → is_some initial ≡ not b → header ≡ b
   which e = none_where header (i.first q) i.first_is e
 
   -- 66: an operation that cannot be read
@@ -125,29 +127,25 @@ module _ {whole : Reading} {header : Bool} {word p q : ℕ} {initial : std.Optio
         (reading header word p i.first (drop at.at ops) (drop next.at ops) op loc i.all (operation_rest word ops at e)
         (omega (arith, length-drop at.at ops, length-drop next.at ops, operation_ahead word ops at e)))
 
-    -- less is left
-    pub shorter : length ops - next.at < length ops - at.at
-    shorter = omega (arith, operation_ahead word ops at e)
-
-    pub padding : op ≡ Nop → Inside whole header word p q initial ops k next loc state
+    padding : op ≡ Nop → Inside whole header word p q initial ops k next loc state
     unfolding perform
     padding o =
         record { near = i.near; first = i.first; first_is = i.first_is; all = i.all; seen = i.seen; rest = rw o at opened }
 
     -- 66: a step in a header
     module _ {n : ℕ} (o : op ≡ Step n) where
-      pub bad_step : header ≡ true → Err 66 ≡ whole
+      bad_step : header ≡ true → Err 66 ≡ whole
       unfolding perform pick onward answer
       bad_step h = sym (rw (o, h) at opened)
 
       -- a step that would pass p, and one that does not
-      pub far_step : header ≡ false → p - loc < n → whole ≡ answer q (k i.all)
+      far_step : header ≡ false → p - loc < n → whole ≡ answer q (k i.all)
       unfolding perform pick onward
       far_step h l =
           let g : p < loc + n = omega (arith, i.near) in
           opened ∙ rw (o, h, if-gt (loc + n) p (running false word p i.first (loc + n) i.all (drop next.at ops)) (good i.all) g)
 
-      pub near_step : header ≡ false → n ≤ p - loc → Inside whole header word p q initial ops k next (loc + n) state
+      near_step : header ≡ false → n ≤ p - loc → Inside whole header word p q initial ops k next (loc + n) state
       unfolding perform pick
       near_step h l =
           let g : loc + n ≤ p = omega (arith, i.near) in
@@ -165,15 +163,15 @@ module _ {whole : Reading} {header : Bool} {word p q : ℕ} {initial : std.Optio
       row_seen : SeenAs q (act header i.first row i.all) (one.act q initial row (run_of state))
       row_seen = rw (← i.first_is, ← i.seen) (seen_row header q i.first i.all row)
 
-      pub bad_row : {n : ℕ} → one.act q initial row (run_of state) ≡ bad n → Err n ≡ whole
+      bad_row : {n : ℕ} → one.act q initial row (run_of state) ≡ bad n → Err n ≡ whole
       unfolding perform onward answer
       bad_row {n} a = by row_seen
         where
           by : SeenAs q (act header i.first row i.all) (one.act q initial row (run_of state)) → Err n ≡ whole
           by (answered s x y) = let w = sym a ∙ y in let z : ◌≡◌ {A = ℕ} 0 1 = cc in absurd (omega arith)
-          by (refused m x y) = let w = sym a ∙ y in let z : m ≡ n = cc in sym (opened ∙ rw (o, x, z))
+          by (seen.refused m x y) = let w = sym a ∙ y in let z : m ≡ n = cc in sym (opened ∙ rw (o, x, z))
 
-      pub good_row : {after : code.State} → one.act q initial row (run_of state) ≡ good (run_of after)
+      good_row : {after : code.State} → one.act q initial row (run_of state) ≡ good (run_of after)
           → Inside whole header word p q initial ops k next loc after
       unfolding perform onward
       good_row {after} a = by row_seen
@@ -182,4 +180,43 @@ module _ {whole : Reading} {header : Bool} {word p q : ℕ} {initial : std.Optio
           by (answered s x y) =
               let w = sym a ∙ y in
               record { near = i.near; first = i.first; first_is = i.first_is; all = s; seen = cc; rest = opened ∙ rw (o, x) }
-          by (refused n x y) = let w = sym a ∙ y in let z : ◌≡◌ {A = ℕ} 0 1 = cc in absurd (omega arith)
+          by (seen.refused n x y) = let w = sym a ∙ y in let z : ◌≡◌ {A = ℕ} 0 1 = cc in absurd (omega arith)
+
+  -- ---- by what `perform` says of an operation
+
+  moved : {next : Position} {loc' : ℕ} {after : code.State} → run_of after ≡ run_of state → Inside whole header word p q initial ops k next loc' state
+      → Inside whole header word p q initial ops k next loc' after
+  moved r n =
+      record { near = n.near; first = n.first; first_is = n.first_is; all = n.all; seen = n.seen ∙ sym r; rest = n.rest }
+
+  module _ {op : Operation} {next : Position} (e : operation_at word ops at ≡ Some (op, next)) where
+    pub goes_on : {after : code.State} → one.perform q initial op (run_of state) ≡ good (None, run_of after)
+        → Inside whole header word p q initial ops k next loc after
+    goes_on {after} h = by (done q initial (run_of state) op h)
+      where
+        by : Done q initial (run_of state) op (run_of after) → Inside whole header word p q initial ops k next loc after
+        by (padded o r) = moved r (padding e o)
+        by (acted row o a) = good_row e o a
+
+    pub refuses : {n : ℕ} → one.perform q initial op (run_of state) ≡ bad n → Err n ≡ whole
+    refuses {n} h = by (refused q initial (run_of state) op h)
+      where
+        by : Refused q initial (run_of state) op n → Err n ≡ whole
+        by (header_step d o r z) = rw z (bad_step e o (which (ap is_some r)))
+        by (row_refused row o a) = bad_row e o a
+
+    module _ {n : ℕ} (after : code.State) (h : one.perform q initial op (run_of state) ≡ good (Some n, run_of after)) where
+      step : (op ≡ Step n) × (is_some initial ≡ true) × (run_of after ≡ run_of state)
+      step = handed q initial (run_of state) op h
+
+      pub in_record : header ≡ false
+      in_record = which step.1
+
+      pub still_seen : one.at q i.all ≡ run_of after
+      still_seen = i.seen ∙ sym step.2
+
+      pub stops : p - loc < n → whole ≡ answer q (k i.all)
+      stops l = far_step e step.0 in_record l
+
+      pub steps_on : n ≤ p - loc → Inside whole header word p q initial ops k next (loc + n) after
+      steps_on l = moved step.2 (near_step e step.0 in_record l)

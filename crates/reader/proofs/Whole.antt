@@ -8,15 +8,15 @@ use native.Mathlib.Omega.{arith}
 use lib.Dec.{T}
 use lib.ListN.{length, take, drop, length-drop, get_elem?}
 use lib.Seq.{drop-drop, take-nil, length-take-le}
-use Rattle.format.specs.Prelude.{after, Result, bad, onward, or_else}
+use Rattle.format.specs.Prelude.{after, Result, good, bad, onward, or_else}
 use Rattle.format.specs.Machine.{is_word_size}
 use Rattle.format.specs.Questions.{is_some}
 use Rattle.format.specs.Lists.{Relocation}
 use Rattle.format.specs.Reader.{Entry, entries, records, header_place, header_at, parse_header, parse_record, header_short, record_short, Found, parsed, locate}
-use Rattle.reader.specs.Spans.{part, entry_in, entry_of, listed, Stands, Spans}
+use Rattle.reader.specs.Spans.{part, entry_in, entry_of, listed, Holds, Stands, Spans}
 use Rattle.reader.specs.declared.section.Span.{Span}
 use Rattle.reader.specs.Fields.{Heading, Heads, Recording, Records}
-use Rattle.reader.specs.Finds.{Stated}
+use Rattle.reader.specs.Finds.{two_entries, Stated}
 use Rattle.std.specs.Prelude.{Some, None}
 use Rattle.std.specs.Prelude as code
 use Rattle.reader.specs.declared.fields.Header.{Header}
@@ -101,21 +101,21 @@ unfolding is_some listed
 tiled none e = let z : ◌≡◌ {A = ℕ} 0 1 = cc in absurd (omega arith)
 tiled (some es) e = refl
 
-module _ (s : List ℕ) (rs : List Relocation) (debug : Bool) (word k : ℕ) where
-  abbrev whole : Result Found
-  whole = locate debug rs word k s
+module _ (s : List ℕ) (rs : List Relocation) (debug : Bool) (k : ℕ) where
+  abbrev two : Result (Entry × Entry)
+  two = two_entries debug rs k s
 
-  pub locate_untiled : is_some (entries s) ≡ false → whole ≡ bad 61
-  unfolding locate onward or_else
-  locate_untiled e = rw (absent (entries s) e)
+  pub untiled : is_some (entries s) ≡ false → two ≡ bad 61
+  unfolding two_entries onward or_else
+  untiled e = rw (absent (entries s) e)
 
   abbrev es : List Entry
   es = listed (entries s)
 
   module _ (t : is_some (entries s) ≡ true) {r : code.Option Span} (m : Spans s r (get_elem? (records debug es) k)) where
-    pub locate_missing : r ≡ None → whole ≡ bad 62
-    unfolding locate onward or_else
-    locate_missing q = rw (tiled (entries s) t, spans_none s (get_elem? (records debug es) k) m q)
+    pub missing : r ≡ None → two ≡ bad 62
+    unfolding two_entries onward or_else
+    missing q = rw (tiled (entries s) t, spans_none s (get_elem? (records debug es) k) m q)
 
     module _ {e : Span} (q : r ≡ Some e) where
       pub record_stands : Stands s e.at e.end (get_elem? (records debug es) k)
@@ -125,14 +125,42 @@ module _ (s : List ℕ) (rs : List Relocation) (debug : Bool) (word k : ℕ) whe
       cie_at = after (header_place debug rs (entry_of s e)) λ place. header_at debug place e.at es
 
       module _ {r' : code.Option Span} (m' : Spans s r' cie_at) where
-        pub locate_headless : r' ≡ None → whole ≡ bad 63
-        unfolding locate onward or_else
-        locate_headless q' = rw (tiled (entries s) t, record_stands.found, spans_none s cie_at m' q')
+        pub headless : r' ≡ None → two ≡ bad 63
+        unfolding two_entries onward or_else
+        headless q' = rw (tiled (entries s) t, record_stands.found, spans_none s cie_at m' q')
 
-        module _ {h : Span} (q' : r' ≡ Some h) where
-          pub header_stands : Stands s h.at h.end cie_at
-          header_stands = spans s cie_at m' q'
+        pub both_stand : {h : Span} → r' ≡ Some h → Holds s h × Holds s e × (two ≡ good (entry_of s h, entry_of s e))
+        unfolding two_entries onward or_else
+        both_stand q' =
+            let h = spans s cie_at m' q' in
+            ((h.long, h.inside), (record_stands.long, record_stands.inside), rw (tiled (entries s) t, record_stands.found, h.found))
 
-          pub locate_rest : whole ≡ parsed debug word (entry_of s h) (entry_of s e)
-          unfolding locate onward or_else
-          locate_rest = rw (tiled (entries s) t, record_stands.found, header_stands.found)
+-- what is made of both
+module _ {A : Type 0} (made : Entry → Entry → Result A) where
+  abbrev of_both : Entry × Entry → Result A
+  of_both x = made x.0 x.1
+
+  of_header : (e : Entry) (o : Option Entry) → onward (or_else o 63) (λ h. made h e) ≡ onward (onward (or_else o 63) λ h. good (h, e)) of_both
+  unfolding onward or_else
+  of_header e none = refl
+  of_header e (some h) = refl
+
+  of_record : (o : Option Entry) (header : Entry → Option Entry)
+      → onward (or_else o 62) (λ e. onward (or_else (header e) 63) λ h. made h e)
+      ≡ onward (onward (or_else o 62) λ e. onward (or_else (header e) 63) λ h. good (h, e)) of_both
+  unfolding onward or_else
+  of_record none header = refl
+  of_record (some e) header = of_header e (header e)
+
+  pub of_entries : (o : Option (List Entry)) (one : List Entry → Option Entry) (header : List Entry → Entry → Option Entry)
+      → onward (or_else o 61) (λ es. onward (or_else (one es) 62) λ e. onward (or_else (header es e) 63) λ h. made h e)
+      ≡ onward (onward (or_else o 61) λ es. onward (or_else (one es) 62) λ e. onward (or_else (header es e) 63) λ h. good (h, e)) of_both
+  unfolding onward or_else
+  of_entries none one header = refl
+  of_entries (some es) one header = of_record (one es) (header es)
+
+pub locate_both : (s : List ℕ) (rs : List Relocation) (debug : Bool) (word k : ℕ)
+    → locate debug rs word k s ≡ onward (two_entries debug rs k s) (λ x. parsed debug word x.0 x.1)
+unfolding locate two_entries
+locate_both s rs debug word k =
+    of_entries (parsed debug word) (entries s) (λ es. get_elem? (records debug es) k) (λ es e. after (header_place debug rs e) λ place. header_at debug place e.at es)

@@ -1,13 +1,16 @@
 -- What is found of record k: where its operations and its header's are, the few numbers that go with them, and the rules from there on.
 use Rattle.std.specs.Prelude.{◌≡◌, Bool, true, false, ◌&&◌, ℕ, ◌-◌, ◌/◌, ◌≤◌, List, [], ◌∷◌, length, T, leb, eqb, Ok, Err, Some, None}
 use Rattle.std.specs.Prelude as code
-use Rattle.format.specs.Prelude.{pick, each, Result, good, bad, onward}
+use Rattle.std.proofs.Math.ListN.{get_elem?}
+use Rattle.format.specs.Prelude.{pick, after, each, Result, good, bad, onward, or_else}
 use Rattle.format.specs.Machine.{is_word_size}
-use Rattle.format.specs.Lists.{relocation_at, relocations_of}
+use Rattle.format.specs.Lists.{Relocation, relocation_at, relocations_of}
 use Rattle.format.specs.Rules.{State, blank, answer}
-use Rattle.format.specs.Reader.{first_addend, Found, locate, run, run_to, shortest_to}
+use Rattle.format.specs.Reader.{Entry, entries, records, header_place, header_at, first_addend, Found, locate, run, run_to, shortest_to}
 use Rattle.format.specs.Coded.{Reading}
-use Rattle.reader.specs.Spans.{part}
+use Rattle.format.specs.Numbers.{number_of}
+use Rattle.format.specs.declared.question.Question.{Question}
+use Rattle.reader.specs.Spans.{part, entry_of, Holds}
 use Rattle.reader.specs.declared.location.Located.{Located}
 use Rattle.reader.specs.declared.section.Layout.{Layout}
 use Rattle.reader.specs.declared.section.Section.{Section}
@@ -46,6 +49,19 @@ abbrev pub run_both : (word p : ℕ) → Found → Result State
 run_both word p x =
     onward (run true word p blank.current.rules blank x.header.operations) λ t. run false word p t.current.rules t x.found.operations
 
+-- 61 to 63: the header of record k, and the record
+unfoldable pub two_entries : (debug : Bool) → List Relocation → (k : ℕ) → List ℕ → Result (Entry × Entry)
+two_entries debug rs k section =
+    onward (or_else (entries section) 61) λ es.
+    onward (or_else (get_elem? (records debug es) k) 62) λ e.
+    onward (or_else (after (header_place debug rs e) λ place. header_at debug place e.at es) 63) λ h.
+    good (h, e)
+
+-- where they stand, or the question
+abbrev pub Stand : List ℕ → code.Result (Span × Span) Question → Result (Entry × Entry) → Type 0
+Stand s (Ok x) r = Holds s x.0 × Holds s x.1 × (r ≡ good (entry_of s x.0, entry_of s x.1))
+Stand s (Err q) r = r ≡ bad (number_of q)
+
 -- an answer, that its positions lie in the section, and its word
 pub record Stated (s : List ℕ) (word : ℕ) (l : Located) (x : Result Found) : Type 0 where
   pub answer : x ≡ good (found s l)
@@ -56,10 +72,10 @@ pub record Stated (s : List ℕ) (word : ℕ) (l : Located) (x : Result Found) :
   pub same_word : l.word ≡ word
   pub is_word : T (is_word_size word)
 
--- 61 to 64: what is found, or the question's number
-abbrev pub Locates : List ℕ → ℕ → code.Result Located ℕ → Result Found → Type 0
+-- 61 to 64: what is found, or the question
+abbrev pub Locates : List ℕ → ℕ → code.Result Located Question → Result Found → Type 0
 Locates s word (Ok l) x = Stated s word l x
-Locates s word (Err n) x = x ≡ bad n
+Locates s word (Err q) x = x ≡ bad (number_of q)
 
 -- 11, and then 61 to 64
 unfoldable pub locate_in : (section relocations : List ℕ) (kind word k : ℕ) → Result Found

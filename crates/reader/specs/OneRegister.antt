@@ -1,7 +1,9 @@
 -- The reader's state as far as one register goes: what the code keeps of the rules of all.
 use Rattle.std.specs.Prelude.{ℕ, Bool, true, false, not, List, [], ◌∷◌, map, length, ltb, eqb, ℤ, Some, None, Ok, Err}
 use Rattle.std.specs.Prelude as code
-use Rattle.format.specs.Prelude.{pick, Result, good, bad}
+use Rattle.format.specs.Prelude.{pick, Result, good, bad, onward}
+use Rattle.format.specs.declared.Operation.{Operation}
+use Rattle.format.specs.declared.Operation.TheVariants.{Nop, Step, Does}
 use Rattle.format.specs.declared.Row.{Row}
 use Rattle.format.specs.declared.Row.TheVariants.{DefCfa, DefCfaOffset, DefCfaRegister, Offset, Restore, Undefined, RememberState, RestoreState, NegateRaState, SameValue, InRegister}
 use Rattle.format.specs.declared.CfaRule.{CfaRule}
@@ -80,3 +82,14 @@ act q initial RestoreState s = recall s.stored s
 act q initial NegateRaState s = good (negated s)
 act q initial (SameValue reg) s = good (set_rule q reg rule.SameValue s)
 act q initial (InRegister reg other) s = good (set_rule q reg (rule.InRegister other) s)
+
+-- a step is handed on; 66: a header's operations, for which there is no initial rule, have none
+unfoldable pub stepped : (n : ℕ) (initial : code.Option Rule) → Run → Result (code.Option ℕ × Run)
+stepped n None s = bad 66
+stepped n (Some r) s = good (Some n, s)
+
+-- an operation: what holds behind it, and the step that it is
+unfoldable pub perform : (q : ℕ) (initial : code.Option Rule) → Operation → Run → Result (code.Option ℕ × Run)
+perform q initial Nop s = good (None, s)
+perform q initial (Step n) s = stepped n initial s
+perform q initial (Does row) s = onward (act q initial row s) λ t. good (None, t)

@@ -1,10 +1,11 @@
 // The reader's cursor: a section and a position in one record, and the entry that stands there.
 ghost use Rattle.std.specs.Prelude.{◌≡◌};
-ghost use Rattle.format.specs.Coded.{result_of};
+ghost use Rattle.format.specs.Coded.{numbered, result_of};
 ghost use Rattle.reader.specs.Listing.{entry_at};
 
 use crate::entries;
 use crate::section::Span;
+use format::Question;
 
 // An entry: whether it is a header, where it stands, the value of its length field and where the next one stands.
 #[derive(Clone, Copy)]
@@ -15,16 +16,16 @@ pub struct Entry {
     pub next: usize,
 }
 
-// The entry at a position of a slice, or a question's number: 61 says that no entry fits the rest of the section, 62 that the section ends here.
+// The entry at a position of a slice. Question 61 says that no entry fits the rest of the section, 62 that the section ends here.
 // On a refusal a position stays what it was.
-pub fn entry_at(section: &[u8], debug: bool, at: usize) -> Result<Entry, u64>
-    ensures { result ≡ result_of (entry_at debug section.now at) }
+pub fn entry_at(section: &[u8], debug: bool, at: usize) -> Result<Entry, Question>
+    ensures { numbered result ≡ result_of (entry_at debug section.now at) }
 {
     if section.len() <= at {
-        return Err(62);
+        return Err(Question::Record);
     }
     let Some(end) = entries::entry_end(section, at) else {
-        return Err(61);
+        return Err(Question::Tiling);
     };
     let header = Span { at, end }.is_header(section, debug);
     Ok(Entry {
@@ -52,15 +53,15 @@ pub fn new<'a>(section: &'a [u8]) -> Cursor<'a>
 }
 
 // What stands at the cursor; the answer says where the next entry stands.
-pub fn next<'a>(c: Cursor<'a>, debug: bool) -> Result<Entry, u64>
-    ensures { result ≡ result_of (entry_at debug c.entry.section.now c.entry.at) }
+pub fn next<'a>(c: Cursor<'a>, debug: bool) -> Result<Entry, Question>
+    ensures { numbered result ≡ result_of (entry_at debug c.entry.section.now c.entry.at) }
 {
     entry_at(c.section, debug, c.at)
 }
 
 // What stands at a position, by a cursor made for it.
-pub fn next_entry(section: &[u8], debug: bool, at: usize) -> Result<Entry, u64>
-    ensures { result ≡ result_of (entry_at debug section.now at) }
+pub fn next_entry(section: &[u8], debug: bool, at: usize) -> Result<Entry, Question>
+    ensures { numbered result ≡ result_of (entry_at debug section.now at) }
 {
     next(Cursor { section, at }, debug)
 }

@@ -1,5 +1,5 @@
 // The entries of a section, one behind the other: question 61, which are headers, and record k.
-ghost use Rattle.std.specs.Prelude.{◌≡◌, ◌+◌, ◌≤◌, ◌<◌, length, T};
+ghost use Rattle.std.specs.Prelude.{◌≡◌, ◌+◌, ◌-◌, ◌≤◌, ◌<◌, length, T};
 ghost use Rattle.std.proofs.Math.ListN.{get_elem?};
 ghost use Rattle.format.specs.Questions.{is_some};
 ghost use Rattle.format.specs.Reader.{second, is_header, records, entries};
@@ -29,7 +29,8 @@ pub fn tiles(s: &[u8]) -> bool
     ensures { result ≡ is_some (entries s.now) }
 {
     let mut at = 0;
-    // Kept: a `while`, which moves by each entry's length.
+    // Kept: a `while`. An iterator whose last item may be no entry would have these lines in its `next`, and a test of each item here besides;
+    // `Entries` goes over a section that has passed this test.
     while at < s.len() {
         let Some(end) = entry_end(s, at) else {
             return false;
@@ -79,20 +80,60 @@ impl Span {
     }
 }
 
+// The entries of a section, which they tile, from a position on.
+#[derive(Drop)]
+pub struct Entries<'a> {
+    section: &'a [u8],
+    at: usize,
+    ghost tiled: { T (is_some (entries_from section.now at)) },
+}
+
+impl<'a> Entries<'a> {
+    #[tactic(auto, unfolding(crate::specs::Spans::entries_from, format::specs::Reader::entries))]
+    pub fn new(section: &'a [u8]) -> Entries<'a>
+        requires { T (is_some (entries section.now)) }
+        ensures { (result.section ≡ section.entry) × (result.at ≡ 0) }
+    {
+        Entries { section, at: 0 }
+    }
+
+    // From where an entry starts.
+    pub fn starting(section: &'a [u8], at: usize) -> Entries<'a>
+        requires { T (is_some (entries_from section.now at)) }
+        ensures { (result.section ≡ section.entry) × (result.at ≡ at) }
+    {
+        Entries { section, at }
+    }
+}
+
+impl Iterator for Entries<'_> {
+    ghost use Rattle.std.specs.Iterator.{at_most};
+    ghost use Rattle.reader.specs.Entries.{Gives};
+
+    type Item = Span;
+
+    ghost next_gives = { Gives };
+
+    ghost remaining = { λ s. at_most (length s.section.now - s.at) };
+
+    fn next(&mut self) -> Option<Span> {
+        let at = self.at;
+        if self.section.len() <= at {
+            return None;
+        }
+        let end = past(self.section, at);
+        self.at = end;
+        Some(Span { at, end })
+    }
+}
+
 // Question 62: where record k stands.
 pub fn record_span(s: &[u8], debug: bool, k: u64) -> Option<Span>
     requires { T (is_some (entries s.now)) }
     ensures { Spans s.now result (get_elem? (records debug (listed (entries s.now))) k) }
 {
     let mut left = k;
-    let mut next = 0;
-    // Kept: a `while`, which moves by each entry's length.
-    'entries: while next < s.len() {
-        let entry = Span {
-            at: next,
-            end: past(s, next),
-        };
-        next = entry.end;
+    'entries: for entry in Entries::new(s) {
         if entry.is_header(s, debug) {
             continue 'entries;
         }

@@ -1,10 +1,9 @@
 // The fields of headers and records: question 64.
-ghost use Rattle.std.specs.Prelude.{◌≡◌, false, ◌&&◌, ◌≤◌, length, drop, T};
+ghost use Rattle.std.specs.Prelude.{◌≡◌, true, false, ◌&&◌, ◌≤◌, length, drop};
 ghost use Rattle.format.specs.Questions.{is_some};
 ghost use Rattle.format.specs.Reader.{strip, spellings, read_letters, read_counted, personality_in, lsda_in, letters_in, header_tail, parse_header, record_tail, parse_record, header_numbers, header_short, record_short};
 ghost use Rattle.format.specs.Prelude.{pick};
 ghost use Rattle.format.specs.Shortest.{numbers_short};
-ghost use Rattle.format.specs.Machine.{is_word_size};
 ghost use Rattle.format.specs.Rows.{same_offset};
 ghost use Rattle.format.specs.Headers.{pointer_size, data_factor};
 ghost use Rattle.format.proofs.Asked.{option_of};
@@ -88,7 +87,6 @@ pub fn letters(b: &Body, at: Position) -> Option<(Augmentation, Position)>
 
 // How many bytes a pointer has, where its encoding is accepted. The indirect bit is taken for a personality only.
 fn pointer_size(indirect: bool, word: u64, e: u8) -> Option<usize>
-    requires { T (is_word_size word) }
     ensures { result ≡ option_of (pointer_size indirect word e) }
 {
     let n = numbers::pointer_size(indirect, word, u64::from(e))?;
@@ -109,14 +107,10 @@ fn counted(s: &[u8], at: Position) -> Option<(Position, usize)>
     Some((start, from + n as usize))
 }
 
-// The position past the personality's encoding and pointer, where there is one `here`.
-fn personality_in(s: &[u8], here: bool, word: u64) -> Option<usize>
-    requires { T (is_word_size word) }
-    ensures { SkipsTo s.now result (personality_in here word s.now) }
+// The position past a personality's encoding and pointer.
+fn personality_in(s: &[u8], word: u64) -> Option<usize>
+    ensures { SkipsTo s.now result (personality_in true word s.now) }
 {
-    if !here {
-        return Some(0);
-    }
     if s.len() == 0 {
         return None;
     }
@@ -127,14 +121,11 @@ fn personality_in(s: &[u8], here: bool, word: u64) -> Option<usize>
     Some(1 + n)
 }
 
-// The bytes of a record's pointer to call sites by the encoding at `at`, none where there is no encoding `here`.
-fn lsda_in(s: &[u8], at: Position, here: bool, word: u64) -> Option<(u64, Position)>
-    requires { T (is_word_size word) × (at.at ≤ length s.now) }
-    ensures { Numbers s.now at.shortest result (lsda_in here word (drop at.at s.now)) }
+// The bytes of a record's pointer to call sites by the encoding at `at`.
+fn lsda_in(s: &[u8], at: Position, word: u64) -> Option<(u64, Position)>
+    requires { at.at ≤ length s.now }
+    ensures { Numbers s.now at.shortest result (lsda_in true word (drop at.at s.now)) }
 {
-    if !here {
-        return Some((0, at));
-    }
     let from = at.at;
     if s.len() <= from {
         return None;
@@ -151,12 +142,19 @@ fn lsda_in(s: &[u8], at: Position, here: bool, word: u64) -> Option<(u64, Positi
 
 // The data that the string promises, the records' own encoding last: the bytes of a record's pointer to call sites.
 fn letters_in(s: &[u8], word: u64, p: Augmentation) -> Option<usize>
-    requires { T (is_word_size word) }
     ensures { result ≡ option_of (letters_in (letters_of p) word s.now) }
 {
-    let at = personality_in(s, p.personality, word)?;
+    let at = if p.personality {
+        personality_in(s, word)?
+    } else {
+        0
+    };
     let start = Position { at, shortest: true };
-    let (n, last) = lsda_in(s, start, p.lsda, word)?;
+    let (size, last) = if p.lsda {
+        lsda_in(s, start, word)?
+    } else {
+        (0, start)
+    };
     let end = last.at;
     if s.len() <= end {
         return None;
@@ -164,7 +162,7 @@ fn letters_in(s: &[u8], word: u64, p: Augmentation) -> Option<usize>
     if s[end] != 0x1b {
         return None;
     }
-    Some(n as usize)
+    Some(size as usize)
 }
 
 // ---- the fields of a header
@@ -206,10 +204,12 @@ pub fn header_tail(b: &Body, at: Position, p: Augmentation) -> Option<Header>
 
 // The data alignment factor is minus the word.
 pub fn factor_ok(z: i64, word: u64) -> bool
-    requires { T (is_word_size word) }
     ensures { result ≡ same_offset z (data_factor word) }
 {
-    z == 0 - word as i64
+    if 0 < z {
+        return false;
+    }
+    z.unsigned_abs() == word
 }
 
 // From the code alignment factor on.

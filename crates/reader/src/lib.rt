@@ -4,17 +4,19 @@
 #![tactic(auto)]
 
 ghost use Rattle.std.specs.Prelude.{◌≡◌};
+ghost use Rattle.format.specs.Coded.{numbered};
 ghost use Rattle.format.specs.Reader.{read};
 ghost use Rattle.reader.specs.Finds.{LaidOut, SectionOf, Locates, locate_in, in_section, rules_from, shortest_from};
 
 use crate::location::Located;
 use crate::section::{Layout, Section};
-use format::Rules;
+use format::{Question, Rules};
 
 pub mod cursor;
 pub mod entries;
 pub mod fields;
 pub mod location;
+pub mod operation;
 pub mod run;
 pub mod section;
 pub mod shortest;
@@ -58,11 +60,11 @@ pub fn locate(
     kind: u64,
     word: u64,
     k: u64,
-) -> Result<Located, u64>
+) -> Result<Located, Question>
     ensures { Locates section.now word result (locate_in section.now relocations.now kind word k) }
 {
     let Some(section) = section_of(section, relocations, kind, word) else {
-        return Err(11);
+        return Err(Question::Interface);
     };
     section.locate(k)
 }
@@ -81,14 +83,14 @@ pub fn in_section(section: &[u8], l: Located) -> bool
 
 // The CFA rule, register q's rule and the signing state at offset p from what `locate` found: questions 65 to 69. Other numbers than its
 // answers are taken too; those that lie in no section are 64.
-pub fn rules_at(section: &[u8], l: Located, q: u16, p: u64) -> Result<Rules, u64>
-    ensures { result ≡ rules_from section.now l q p }
+pub fn rules_at(section: &[u8], l: Located, q: u16, p: u64) -> Result<Rules, Question>
+    ensures { numbered result ≡ rules_from section.now l q p }
 {
     if !in_section(section, l) {
-        return Err(64);
+        return Err(Question::Fields);
     }
     if l.size <= p {
-        return Err(65);
+        return Err(Question::Offset);
     }
     run::run(section, &l, p, q)
 }
@@ -113,7 +115,7 @@ pub fn shortest_at(section: &[u8], l: Located, p: u64) -> bool
     shortest::run(&section[record..record_end], l.word, p)
 }
 
-// The rules of record k at offset p, or the number of the question answered by no.
+// The rules of record k at offset p, or the question answered by no.
 pub fn read(
     section: &[u8],
     relocations: &[u64],
@@ -122,8 +124,8 @@ pub fn read(
     k: u64,
     q: u16,
     p: u64,
-) -> Result<Rules, u64>
-    ensures { result ≡ read section.now relocations.now kind word k q p }
+) -> Result<Rules, Question>
+    ensures { numbered result ≡ read section.now relocations.now kind word k q p }
 {
     let l = locate(section, relocations, kind, word, k)?;
     rules_at(section, l, q, p)

@@ -6,10 +6,12 @@ ghost use Rattle.format.specs.Lists.{relocations_of};
 ghost use Rattle.format.specs.Prelude.{after};
 ghost use Rattle.format.proofs.Asked.{option_of};
 ghost use Rattle.reader.specs.Spans.{part, entry_of, listed, Holds, Ahead, Spans};
-ghost use Rattle.reader.specs.Finds.{Searching, spans_of, Locates};
+ghost use Rattle.reader.specs.Finds.{Searching, spans_of, Locates, two_entries, Stand};
 
+use crate::entries::{self, Entries};
+use crate::fields;
 use crate::section::{Body, Section, Span};
-use crate::{entries, fields};
+use format::Question;
 
 // ---- the header of a record
 
@@ -71,27 +73,12 @@ impl<'a> Section<'a> {
         requires { Ahead self.now.bytes.now from × (from ≤ place) }
         ensures { Spans self.now.bytes.now result (header_at self.now.layout.debug place before (listed (entries self.now.bytes.now))) }
     {
-        let mut next = from;
-        // Kept: a `while`, which moves by each entry's length.
-        while next < self.bytes.len() {
-            let entry = Span {
-                at: next,
-                end: entries::past(self.bytes, next),
-            };
-            next = entry.end;
+        for entry in Entries::starting(self.bytes, from) {
             if self.starts(entry, place, before) {
                 return Some(entry);
             }
         }
         None
-    }
-
-    // The same, searched for from the first entry.
-    pub fn header_span(&self, place: usize, before: usize) -> Option<Span>
-        requires { T (is_some (entries self.now.bytes.now)) }
-        ensures { Spans self.now.bytes.now result (header_at self.now.layout.debug place before (listed (entries self.now.bytes.now))) }
-    {
-        self.header_from(0, place, before)
     }
 
     // Question 63: the header of a record.
@@ -100,7 +87,7 @@ impl<'a> Section<'a> {
         ensures { Spans self.now.bytes.now result (after (header_place self.now.layout.debug (relocations_of self.now.relocations.now) (entry_of self.now.bytes.now «record»)) λ place. header_at self.now.layout.debug place «record».at (listed (entries self.now.bytes.now))) }
     {
         let place = self.header_place(record)?;
-        self.header_span(place, record.at)
+        self.header_from(0, place, record.at)
     }
 }
 
@@ -154,19 +141,19 @@ impl<'a> Section<'a> {
         }
     }
 
-    // Question 64 of a header, and then of a record: what is found, or the question's number.
-    pub fn parse(&self, cie: Span, fde: Span) -> Result<Located, u64>
+    // Question 64 of a header, and then of a record: what is found, or that question.
+    pub fn parse(&self, cie: Span, fde: Span) -> Result<Located, Question>
         requires { Holds self.now.bytes.now cie × Holds self.now.bytes.now fde }
         ensures located { Locates self.now.bytes.now self.now.layout.word result (parsed self.now.layout.debug self.now.layout.word (entry_of self.now.bytes.now cie) (entry_of self.now.bytes.now fde)) }
         ensures ends { IfOk result (λ l. (l.header_end ≡ cie.end) × (l.record_end ≡ fde.end)) }
     {
         let Some(header) = fields::parse_header(&self.body(cie)) else {
-            return Err(64);
+            return Err(Question::Fields);
         };
         let rules = header.operations;
         let Some(record) = fields::parse_record(&self.body(fde), header.pointer, rules.shortest)
         else {
-            return Err(64);
+            return Err(Question::Fields);
         };
         let rows = record.operations;
         Ok(Located {
@@ -182,19 +169,27 @@ impl<'a> Section<'a> {
         })
     }
 
-    // Questions 61 to 64, in this order.
-    pub fn locate(&self, k: u64) -> Result<Located, u64>
-        ensures { Locates self.now.bytes.now self.now.layout.word result (locate self.now.layout.debug (relocations_of self.now.relocations.now) self.now.layout.word k self.now.bytes.now) }
+    // Questions 61 to 63, in this order: where the header of record k and the record stand.
+    pub fn header_and_record(&self, k: u64) -> Result<(Span, Span), Question>
+        ensures { Stand self.now.bytes.now result (two_entries self.now.layout.debug (relocations_of self.now.relocations.now) k self.now.bytes.now) }
     {
         if !entries::tiles(self.bytes) {
-            return Err(61);
+            return Err(Question::Tiling);
         }
         let Some(record) = entries::record_span(self.bytes, self.layout.debug, k) else {
-            return Err(62);
+            return Err(Question::Record);
         };
         let Some(header) = self.header_of(record) else {
-            return Err(63);
+            return Err(Question::Header);
         };
+        Ok((header, record))
+    }
+
+    // Questions 61 to 64, in this order.
+    pub fn locate(&self, k: u64) -> Result<Located, Question>
+        ensures { Locates self.now.bytes.now self.now.layout.word result (locate self.now.layout.debug (relocations_of self.now.relocations.now) self.now.layout.word k self.now.bytes.now) }
+    {
+        let (header, record) = self.header_and_record(k)?;
         self.parse(header, record)
     }
 }

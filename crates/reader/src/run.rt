@@ -1,67 +1,23 @@
 // The run of the operations of a header and a record: questions 66 to 69 of the reader, which rucc-asm/src/unwind.rs of tamnd/rucc does not have.
-ghost use Rattle.std.specs.Prelude.{◌≡◌, false, ◌∷◌, ◌≤◌, ◌<◌, leb, length, T};
+ghost use Rattle.std.specs.Prelude.{◌≡◌, false, T};
+ghost use Rattle.format.specs.Coded.{numbered};
 ghost use Rattle.format.specs.Rules.{answer};
 ghost use Rattle.reader.specs.Finds.{in_section, found, run_both};
-ghost use Rattle.reader.specs.OneRegister.{start, set_cfa, set_rule, register_rule, restored, remember, recall, negated, act};
-ghost use Rattle.reader.specs.States.{Pops, run_of, Acts};
+ghost use Rattle.reader.specs.OneRegister.{start, set_cfa, set_rule, register_rule, restored, remember, recall, negated, act, perform};
+ghost use Rattle.reader.specs.States.{run_of, Acts, Performs};
 
 use crate::location::Located;
-use format::{CfaRule, Operation, Row, Rule, Rules};
-use operations::fields::Position;
-use std::marker::Model;
+use crate::operation::Operations;
+use arrayvec::ArrayVec;
+use format::{CfaRule, Operation, Question, Row, Rule, Rules};
 
 // ---- the state
 
-// The rules stored, at most 16. A clause sees them as a list, the last first.
-// Kept: an array and a depth; an `ArrayVec` wants a `Default` of `Rules`, which means nothing elsewhere, and clauses would reverse its items.
-#[derive(Drop)]
-pub struct Stored {
-    places: [Rules; 16],
-    depth: usize,
-}
-
-impl Model for Stored {
-    ghost use Rattle.std.specs.Prelude.{◌≡◌, ◌≤◌, List, length, reverse, take};
-    ghost use Rattle.format.specs.declared.Rules.{Rules};
-
-    ghost Value = { List Rules };
-
-    ghost view = { λ s. reverse (take s.depth s.places) };
-
-    ghost invariant = { λ s. (s.depth ≤ 16) × (length s.places ≡ 16) };
-}
-
-impl Stored {
-    fn is_full(&self) -> bool
-        ensures { result ≡ leb 16 (length self.now) }
-    {
-        16 <= self.depth
-    }
-
-    fn push(&mut self, rules: Rules)
-        requires { length self.old < 16 }
-        ensures { self.new ≡ rules ∷ self.old }
-    {
-        self.places[self.depth] = rules;
-        self.depth += 1;
-    }
-
-    fn pop(&mut self) -> Option<Rules>
-        ensures { Pops self.old result self.new }
-    {
-        if self.depth == 0 {
-            return None;
-        }
-        self.depth -= 1;
-        Some(self.places[self.depth])
-    }
-}
-
-// The rules that hold, and those stored.
+// The rules that hold, and those stored, the last at the end.
 #[derive(Drop)]
 pub struct State {
     pub rules: Rules,
-    pub stored: Stored,
+    pub stored: ArrayVec<Rules, 16>,
 }
 
 // The state in front of a header's operations.
@@ -69,17 +25,9 @@ pub struct State {
 pub fn start() -> State
     ensures { run_of result ≡ start }
 {
-    let rules = Rules {
-        cfa: CfaRule::Unset,
-        rule: Rule::Unstated,
-        signing: false,
-    };
     State {
-        rules,
-        stored: Stored {
-            places: [rules; 16],
-            depth: 0,
-        },
+        rules: Rules::default(),
+        stored: ArrayVec::new(),
     }
 }
 
@@ -103,44 +51,43 @@ fn set_rule(s: &mut State, q: u16, reg: u16, rule: Rule)
 }
 
 // Question 69: the register and the offset of a CFA rule that is changed.
-fn register_rule(cfa: CfaRule) -> Result<(u16, i64), u64>
-    ensures { result ≡ register_rule cfa }
+fn register_rule(cfa: CfaRule) -> Result<(u16, i64), Question>
+    ensures { numbered result ≡ register_rule cfa }
 {
     match cfa {
         CfaRule::Register(reg, z) => Ok((reg, z)),
-        CfaRule::Unset => Err(69),
+        CfaRule::Unset => Err(Question::FrameRule),
     }
 }
 
 // Question 67: no Restore in a header.
-fn restore(s: &mut State, q: u16, reg: u16, initial: Option<Rule>) -> Result<(), u64>
+fn restore(s: &mut State, q: u16, reg: u16, initial: Option<Rule>) -> Result<(), Question>
     ensures { Acts result (run_of s.new) (restored q reg initial (run_of s.old)) }
 {
     let Some(rule) = initial else {
-        return Err(67);
+        return Err(Question::States);
     };
     set_rule(s, q, reg, rule);
     Ok(())
 }
 
 // Question 68: at most 16 stored.
-fn remember(s: &mut State) -> Result<(), u64>
+fn remember(s: &mut State) -> Result<(), Question>
     ensures { Acts result (run_of s.new) (remember (run_of s.old)) }
 {
-    if s.stored.is_full() {
-        return Err(68);
-    }
     let rules = s.rules;
-    s.stored.push(rules);
+    let Ok(()) = s.stored.try_push(rules) else {
+        return Err(Question::StatesRoom);
+    };
     Ok(())
 }
 
 // Question 67: stored rules for a RestoreState.
-fn recall(s: &mut State) -> Result<(), u64>
+fn recall(s: &mut State) -> Result<(), Question>
     ensures { Acts result (run_of s.new) (recall (run_of s.old).stored (run_of s.old)) }
 {
     let Some(rules) = s.stored.pop() else {
-        return Err(67);
+        return Err(Question::States);
     };
     s.rules = rules;
     Ok(())
@@ -154,8 +101,8 @@ fn negate(s: &mut State)
     s.rules.signing = !s.rules.signing;
 }
 
-// A row, or the number of the question that it is refused by; `initial` is the followed register's rule after the header.
-pub fn act(s: &mut State, q: u16, initial: Option<Rule>, row: Row) -> Result<(), u64>
+// A row, or the question that it is refused by; `initial` is the followed register's rule after the header.
+pub fn act(s: &mut State, q: u16, initial: Option<Rule>, row: Row) -> Result<(), Question>
     ensures { Acts result (run_of s.new) (act q initial row (run_of s.old)) }
 {
     match row {
@@ -180,12 +127,38 @@ pub fn act(s: &mut State, q: u16, initial: Option<Rule>, row: Row) -> Result<(),
     Ok(())
 }
 
+// An operation, or the question that it is refused by: a row is done, and a step is handed on. Question 66: no step in a header.
+pub fn perform(
+    s: &mut State,
+    q: u16,
+    initial: Option<Rule>,
+    op: Operation,
+) -> Result<Option<u64>, Question>
+    ensures { Performs result (run_of s.new) (perform q initial op (run_of s.old)) }
+{
+    match op {
+        Operation::Nop => Ok(None),
+        Operation::Step(n) => {
+            if initial.is_none() {
+                return Err(Question::Operations);
+            }
+            Ok(Some(n))
+        }
+        Operation::Does(row) => {
+            act(s, q, initial, row)?;
+            Ok(None)
+        }
+    }
+}
+
 // ---- the operations of two entries
 
+// Kept: a loop like that of `listing::run::fill`. Both have their operations from the iterator and `perform`, and differ in what is left: what a
+// step does, what a refusal is (an error here; there the end of the lines so far) and what is answered in the end.
 // The header's operations and then the record's, for register q, until a step would pass p.
-pub fn run(s: &[u8], l: &Located, p: u64, q: u16) -> Result<Rules, u64>
+pub fn run(s: &[u8], l: &Located, p: u64, q: u16) -> Result<Rules, Question>
     requires { T (in_section s.now l.now) }
-    ensures { result ≡ answer q (run_both l.now.word p (found s.now l.now)) }
+    ensures { numbered result ≡ answer q (run_both l.now.word p (found s.now l.now)) }
 {
     let mut state = start();
     // The followed register's rule after the header, which a header's operations do not have.
@@ -193,31 +166,18 @@ pub fn run(s: &[u8], l: &Located, p: u64, q: u16) -> Result<Rules, u64>
     'entries: for span in l.operations() {
         let from = span.at;
         let to = span.end;
-        let ops = &s[from..to];
         let mut loc = 0;
-        let mut at = Position::START;
-        // Kept: a `while`, which moves by each operation's length.
-        'operations: while at.at < ops.len() {
-            let Some((op, next)) = operations::operation(ops, at, l.word) else {
-                return Err(66);
+        'operations: for read in Operations::new(&s[from..to], l.word) {
+            let Some((op, _)) = read else {
+                return Err(Question::Operations);
             };
-            at = next;
-            match op {
-                Operation::Nop => continue 'operations,
-                Operation::Step(n) => {
-                    if initial.is_none() {
-                        return Err(66);
-                    }
-                    if p - loc < n {
-                        continue 'entries;
-                    }
-                    loc += n;
-                    continue 'operations;
-                }
-                Operation::Does(row) => {
-                    act(&mut state, q, initial, row)?;
-                }
+            let Some(n) = perform(&mut state, q, initial, op)? else {
+                continue 'operations;
+            };
+            if p - loc < n {
+                continue 'entries;
             }
+            loc += n;
         }
         initial = Some(state.rules.rule);
     }

@@ -2,25 +2,22 @@
 ghost use Rattle.std.specs.Prelude.{◌≡◌, ◌<◌};
 ghost use Rattle.format.specs.Shortest.{run_short};
 
+use crate::operation::Operations;
 use format::Operation;
-use operations::fields::Position;
 
 // All operations, or those up to the step that would pass p.
 pub fn run(s: &[u8], word: u64, p: u64) -> bool
     requires { 0 < word }
     ensures { result ≡ run_short word p s.now }
 {
-    let mut at = Position::START;
     let mut loc = 0;
-    // Kept: a `while`, which moves by each operation's length.
-    'operations: while at.at < s.len() {
-        let Some((op, next)) = operations::operation(s, at, word) else {
+    'operations: for read in Operations::new(s, word) {
+        let Some((op, next)) = read else {
             return false;
         };
         if !next.shortest {
             return false;
         }
-        at = next;
         match op {
             Operation::Nop => continue 'operations,
             Operation::Does(_) => continue 'operations,

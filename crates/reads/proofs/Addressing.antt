@@ -24,6 +24,8 @@ use Rattle.format.proofs.Asked.{option_of}
 use Rattle.std.specs.Prelude.{Some, None, Ok, Err}
 use Rattle.std.specs.Prelude as code
 use Rattle.std.specs.Option.{ok_or}
+use Rattle.format.specs.Coded.{numbered}
+use Rattle.format.specs.declared.question.Question.TheVariants.{Fields}
 use Rattle.reader.proofs.Seeking.{number_is, number_none}
 
 -- ---- the fields
@@ -155,7 +157,7 @@ module _ (s : List ℕ) (debug : Bool) (word address place : ℕ) where
       unfolding function_found after require pick or_else
       function_record n = rw (entry_here s place e, y, number_is (function_of debug word address (entry_in s place end)) n) refl
 
-      pub function_given : (o : code.Option (ℕ × ℕ)) → o ≡ of_entry → ok_or o 64 ≡ wanted
+      pub function_given : (o : code.Option (ℕ × ℕ)) → o ≡ of_entry → numbered (ok_or o Fields) ≡ wanted
       function_given None n = function_short (sym n)
       function_given (Some f) n = function_record (sym n)
 

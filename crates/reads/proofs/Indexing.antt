@@ -20,6 +20,9 @@ use Rattle.reader.proofs.Tiling.{tiled_end}
 use Rattle.reader.proofs.Whole.{spans, spans_none}
 use Rattle.reads.specs.Places.{asked, header_of}
 use Rattle.reads.specs.Index.{nowhere, place_or, index_from, index_of, index_in, index, records_of, indexed_as, list_after}
+use Rattle.format.specs.declared.question.Question.{Question}
+use Rattle.format.specs.declared.question.Question.TheVariants.{Tiling, OtherRoom}
+use Rattle.format.specs.Coded.{numbered}
 use Rattle.reads.specs.Standing.{Skipped, Headed, Stores, Indexes}
 use Rattle.reads.specs.declared.Indexed.{Indexed}
 use Rattle.reads.proofs.Passing.{Passing, begun, passed, all_passed, records_header, records_record}
@@ -277,7 +280,7 @@ module _ (section relocations : List ℕ) (kind word : ℕ) (old : List ℕ) whe
   unfolding index pick records_of list_after
   index_unasked e x = rw e (record { answered = x; stored = refl })
 
-  pub index_asked : asked kind word ≡ true → {n : code.Result ℕ ℕ} {r : Indexed} {new : List ℕ} → r ≡ indexed_as n
+  pub index_asked : asked kind word ≡ true → {n : code.Result ℕ Question} {r : Indexed} {new : List ℕ} → r ≡ indexed_as (numbered n)
       → Stores (index_in (eqb kind 1) (relocations_of relocations) (length old) section) n old new
       → Indexes (index section relocations kind word (length old)) r old new
   unfolding index pick
@@ -289,7 +292,7 @@ module _ (s : List ℕ) (rs : List Relocation) (debug : Bool) (old : List ℕ) w
   abbrev whole : Result (List ℕ)
   whole = index_in debug rs (length old) s
 
-  pub index_untiled : is_some (entries s) ≡ false → Stores whole (Err 61) old old
+  pub index_untiled : is_some (entries s) ≡ false → Stores whole (Err Tiling) old old
   unfolding index_in onward or_else records_of list_after
   index_untiled e = let q : whole ≡ bad 61 = rw (absent (entries s) e) refl in record { answered = rw q refl; stored = rw q refl }
 
@@ -310,7 +313,7 @@ module _ (s : List ℕ) (rs : List Relocation) (debug : Bool) (old : List ℕ) w
     unfolding index_in room_asked
     opened = room_first (entries s) t
 
-    pub index_short : length old / 2 < n → Stores whole (Err 54) old old
+    pub index_short : length old / 2 < n → Stores whole (Err OtherRoom) old old
     unfolding index_in onward or_else records_of list_after
     index_short h =
         let q : whole ≡ bad 54 =

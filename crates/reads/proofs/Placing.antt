@@ -3,21 +3,18 @@ use Rattle.std.proofs.Common.{◌≡◌, ℕ, ◌+◌, ◌-◌, ◌<◌, ◌≤�
 use mathlib.Core.Option.{none, some}
 use mir.Facts.{and_yes}
 use lib.ListN.{get_elem?}
-use Rattle.format.specs.Prelude.{pick, next, Result, bad, onward, or_else}
+use Rattle.format.specs.Prelude.{pick, next, after, Result, bad, onward, or_else}
 use Rattle.format.specs.Machine.{is_word_size}
-use Rattle.format.specs.Questions.{is_some}
 use Rattle.format.specs.Lists.{Relocation, relocations_of}
-use Rattle.format.specs.Reader.{Entry, Found, read_entry, entries, records, parsed}
-use Rattle.reader.specs.Spans.{part, entry_in, entry_of, listed, Stands, Spans}
-use Rattle.reader.specs.Finds.{Stated}
+use Rattle.format.specs.Reader.{Found, read_entry, entries, records, header_place, header_at, parsed}
+use Rattle.reader.specs.Spans.{part, entry_in}
+use Rattle.reader.specs.Finds.{Stated, two_entries}
 use Rattle.reader.specs.declared.location.Located as reader
-use Rattle.reader.specs.declared.section.Span.{Span}
-use Rattle.reader.proofs.Whole.{tiled, spans, spans_none}
-use Rattle.reader.proofs.Seeking.{absent}
+use Rattle.reader.proofs.Whole.{of_entries}
 use Rattle.std.specs.Prelude.{Some, None, Ok, Err}
 use Rattle.std.specs.Prelude as code
 use Rattle.format.specs.Coded.{result_of}
-use Rattle.reads.specs.Standing.{numbered}
+use Rattle.reads.specs.Standing.{located_numbers}
 use Rattle.reader.specs.Spans.{end_at}
 use Rattle.reader.specs.Finds.{rules_from, shortest_from}
 use Rattle.reader.proofs.Tiling.{entered, none_read}
@@ -87,8 +84,8 @@ module _ (s : List ℕ) (debug : Bool) (word cie past at end : ℕ) where
   entries_refused e = rw e refl
 
   pub entries_located : cie + 8 ≤ past → past ≤ length s → at + 8 ≤ end → end ≤ length s → {l : reader.Located} → Stated s word l fields
-      → l.header_end ≡ past → l.record_end ≡ end → Ok (numbered l) ≡ result_of whole
-  unfolding locate_entries onward places_of numbered
+      → l.header_end ≡ past → l.record_end ≡ end → Ok (located_numbers l) ≡ result_of whole
+  unfolding locate_entries onward places_of located_numbers
   entries_located h₁ h₂ h₃ h₄ {l} x e f =
       rw (
         x.answer,
@@ -104,38 +101,11 @@ module _ (s : List ℕ) (debug : Bool) (word cie past at end : ℕ) where
 
 -- ---- 61, 62 and 63
 
-module _ (s : List ℕ) (rs : List Relocation) (debug : Bool) (word k : ℕ) where
-  abbrev located : code.Result Located ℕ
-  located = result_of (locate_nth debug rs word k s)
-
-  pub nth_untiled : is_some (entries s) ≡ false → Err 61 ≡ located
-  unfolding locate_nth onward or_else
-  nth_untiled e = rw (absent (entries s) e) refl
-
-  abbrev es : List Entry
-  es = listed (entries s)
-
-  module _ (t : is_some (entries s) ≡ true) {r : code.Option Span} (m : Spans s r (get_elem? (records debug es) k)) where
-    pub nth_missing : r ≡ None → Err 62 ≡ located
-    unfolding locate_nth onward or_else
-    nth_missing q = rw (tiled (entries s) t, spans_none s (get_elem? (records debug es) k) m q) refl
-
-    module _ {e : Span} (q : r ≡ Some e) where
-      pub record_stands : Stands s e.at e.end (get_elem? (records debug es) k)
-      record_stands = spans s (get_elem? (records debug es) k) m q
-
-      module _ {r' : code.Option Span} (m' : Spans s r' (header_of debug rs es (entry_of s e))) where
-        pub nth_headless : r' ≡ None → Err 63 ≡ located
-        unfolding locate_nth onward or_else
-        nth_headless q' = rw (tiled (entries s) t, record_stands.found, spans_none s (header_of debug rs es (entry_of s e)) m' q') refl
-
-        module _ {h : Span} (q' : r' ≡ Some h) where
-          pub header_stands : Stands s h.at h.end (header_of debug rs es (entry_of s e))
-          header_stands = spans s (header_of debug rs es (entry_of s e)) m' q'
-
-          pub nth_rest : result_of (locate_entries debug word (entry_of s h) (entry_of s e)) ≡ located
-          unfolding locate_nth onward or_else
-          nth_rest = rw (tiled (entries s) t, record_stands.found, header_stands.found) refl
+pub nth_both : (s : List ℕ) (rs : List Relocation) (debug : Bool) (word k : ℕ)
+    → locate_nth debug rs word k s ≡ onward (two_entries debug rs k s) (λ x. locate_entries debug word x.0 x.1)
+unfolding locate_nth header_of two_entries
+nth_both s rs debug word k =
+    of_entries (locate_entries debug word) (entries s) (λ es. get_elem? (records debug es) k) (λ es e. after (header_place debug rs e) λ place. header_at debug place e.at es)
 
 -- ---- by places
 

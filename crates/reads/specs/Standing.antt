@@ -2,7 +2,8 @@
 use Rattle.std.specs.Prelude.{◌≡◌, ℕ, ◌^◌, ◌<◌, ◌≤◌, Bool, List, Some, None}
 use Rattle.std.specs.Prelude as code
 use Rattle.format.specs.Prelude.{Result}
-use Rattle.format.specs.Coded.{result_of}
+use Rattle.format.specs.Coded.{result_of, numbered}
+use Rattle.format.specs.declared.question.Question.{Question}
 use Rattle.format.specs.Answers.{bit}
 use Rattle.format.specs.Reader.{Entry, header_at}
 use Rattle.reader.specs.declared.location.Located as reader
@@ -12,8 +13,8 @@ use Rattle.reads.specs.declared.Indexed.{Indexed}
 use Rattle.reads.specs.declared.Located.{Located}
 
 -- the numbers of what the reader located
-unfoldable pub numbered : reader.Located → Located
-numbered l =
+unfoldable pub located_numbers : reader.Located → Located
+located_numbers l =
     record {
       number = 0;
       header = l.header;
@@ -41,8 +42,8 @@ pub record Skipped (xs : List ℕ) (place i : ℕ) : Type 0 where
   pub searching : (q : ℕ) → place ≤ q → Searching xs q i
 
 -- the count of an index's records is answered, and the index is stored in a lent list
-pub record Stores (a : Result (List ℕ)) (r : code.Result ℕ ℕ) (old new : List ℕ) : Type 0 where
-  pub answered : r ≡ result_of (records_of a)
+pub record Stores (a : Result (List ℕ)) (r : code.Result ℕ Question) (old new : List ℕ) : Type 0 where
+  pub answered : numbered r ≡ result_of (records_of a)
   pub stored : new ≡ list_after a old
 
 -- the same of what the export answers

@@ -1,12 +1,13 @@
 // The function of a record by the record's own fields, and the record that holds an address.
 ghost use Rattle.std.specs.Prelude.{◌≡◌, ◌+◌, ◌*◌, ◌%◌, ◌^◌, ◌<◌, ◌≤◌, length};
-ghost use Rattle.format.specs.Coded.{result_of};
+ghost use Rattle.format.specs.Coded.{result_of, numbered};
 ghost use Rattle.format.proofs.Asked.{option_of};
 ghost use Rattle.reader.specs.Spans.{entry_of, Holds};
 ghost use Rattle.reads.specs.Addresses.{function_fields, start_of, function_of, function_found, holds, holder_in};
 
+use format::Question;
 use operations::fields::{Position, read_le};
-use reader::entries;
+use reader::entries::{self, Entries};
 use reader::section::{Body, Layout, Section, Span};
 
 // 2^31, and what a signed number of 4 bytes from there on lacks to 2^64.
@@ -74,19 +75,19 @@ impl<'a> Loaded<'a> {
     }
 
     // Question 64: the function of the record at a place.
-    pub fn function_at(&self, at: usize) -> Result<(u64, u64), u64>
-        ensures { result ≡ result_of (function_found self.now.section.layout.debug self.now.section.layout.word self.now.address at self.now.section.bytes.now) }
+    pub fn function_at(&self, at: usize) -> Result<(u64, u64), Question>
+        ensures { numbered result ≡ result_of (function_found self.now.section.layout.debug self.now.section.layout.word self.now.address at self.now.section.bytes.now) }
     {
         let s = self.section.bytes;
         let Some(end) = entries::entry_end(s, at) else {
-            return Err(64);
+            return Err(Question::Fields);
         };
         let entry = Span { at, end };
         let debug = self.section.layout.debug;
         if entry.is_header(s, debug) {
-            return Err(64);
+            return Err(Question::Fields);
         }
-        self.function_of(entry).ok_or(64)
+        self.function_of(entry).ok_or(Question::Fields)
     }
 
     // A record holds the address.
@@ -101,22 +102,15 @@ impl<'a> Loaded<'a> {
     }
 
     // Question 61, and the first record that holds the address, by its number and its place: 62 where none does.
-    pub fn holder_in(&self, pc: u64) -> Result<(u64, u64), u64>
-        ensures { result ≡ result_of (holder_in self.now.section.layout.debug self.now.section.layout.word self.now.address pc self.now.section.bytes.now) }
+    pub fn holder_in(&self, pc: u64) -> Result<(u64, u64), Question>
+        ensures { numbered result ≡ result_of (holder_in self.now.section.layout.debug self.now.section.layout.word self.now.address pc self.now.section.bytes.now) }
     {
         let s = self.section.bytes;
         if !entries::tiles(s) {
-            return Err(61);
+            return Err(Question::Tiling);
         }
         let mut k: u64 = 0;
-        let mut next = 0;
-        // Kept: a `while`, which moves by each entry's length.
-        'entries: while next < s.len() {
-            let entry = Span {
-                at: next,
-                end: entries::past(s, next),
-            };
-            next = entry.end;
+        'entries: for entry in Entries::new(s) {
             if entry.is_header(s, self.section.layout.debug) {
                 continue 'entries;
             }
@@ -125,6 +119,6 @@ impl<'a> Loaded<'a> {
             }
             k += 1;
         }
-        Err(62)
+        Err(Question::Record)
     }
 }

@@ -12,10 +12,16 @@ ghost use Rattle.reads.specs.Places.{header_of};
 ghost use Rattle.reads.specs.Index.{place_or, index_of, index_in};
 ghost use Rattle.reads.specs.Standing.{stored_as, Skipped, Headed, Stores};
 
+use format::Question;
+use reader::entries::Entries;
 use reader::section::{Section, Span};
+use section_check::marks::Stretches;
 
 // As many marks as a section has here: half of those of section_check, since a frame above some 32 KiB is compiled wrong (docs/DECISIONS.md, D86).
 const MARKS: usize = 1024;
+
+// The numbers of a record in the index: its place, and its header's.
+const STRIDE: usize = 2;
 
 // The place of no header.
 const NOWHERE: u64 = 0xffffffffffffffff;
@@ -38,14 +44,7 @@ fn count(section: &Section) -> usize
 {
     let s = section.bytes;
     let mut n = 0;
-    let mut next = 0;
-    // Kept: a `while`, which moves by each entry's length.
-    'entries: while next < s.len() {
-        let entry = Span {
-            at: next,
-            end: reader::entries::past(s, next),
-        };
-        next = entry.end;
+    'entries: for entry in Entries::new(s) {
         if entry.is_header(s, section.layout.debug) {
             continue 'entries;
         }
@@ -91,10 +90,9 @@ fn header_start(
     fde: Span,
     from: usize,
     last: Option<usize>,
-    marks: &[usize],
-    step: usize,
+    stretches: &Stretches<MARKS>,
 ) -> Option<usize>
-    requires { Holds section.now.bytes.now fde × T (is_some (entries section.now.bytes.now)) × Headed section.now.layout.debug (listed (entries section.now.bytes.now)) (stored_as last) × Searching section.now.relocations.now (fde.at + 4) from × (0 < step) × Marks section.now.bytes.now marks.now }
+    requires { Holds section.now.bytes.now fde × T (is_some (entries section.now.bytes.now)) × Headed section.now.layout.debug (listed (entries section.now.bytes.now)) (stored_as last) × Searching section.now.relocations.now (fde.at + 4) from × Marks section.now.bytes.now stretches.now.marks }
     ensures { (stored_as result ≡ place_or (header_of section.now.layout.debug (relocations_of section.now.relocations.now) (listed (entries section.now.bytes.now)) (entry_of section.now.bytes.now fde))) × Headed section.now.layout.debug (listed (entries section.now.bytes.now)) (stored_as result) }
 {
     let place = header_place(section, fde, from)?;
@@ -104,7 +102,7 @@ fn header_start(
     if last == Some(place) {
         return last;
     }
-    let mark = section_check::mark_before(marks, step, place);
+    let mark = stretches.before(place);
     let cie = section.header_from(mark, place, fde.at)?;
     Some(cie.at)
 }
@@ -115,42 +113,37 @@ fn fill(section: &Section, places: &mut [u64])
     ensures { places.new ≡ put places.old 0 (index_of section.now.layout.debug (relocations_of section.now.relocations.now) (listed (entries section.now.bytes.now))) }
 {
     let s = section.bytes;
-    let step = s.len() / MARKS + 1;
-    let mut marks = [0usize; MARKS];
+    let mut stretches = Stretches {
+        marks: [0; MARKS],
+        step: s.len() / MARKS + 1,
+    };
     let mut from = 0;
     let mut last = None;
     let mut i = 0;
-    let mut next = 0;
-    // Kept: a `while`, which moves by each entry's length.
-    'entries: while next < s.len() {
-        let entry = Span {
-            at: next,
-            end: reader::entries::past(s, next),
-        };
-        next = entry.end;
-        section_check::mark(&mut marks, step, entry.at);
+    'entries: for entry in Entries::new(s) {
+        stretches.mark(entry.at);
         if entry.is_header(s, section.layout.debug) {
             last = Some(entry.at);
             continue 'entries;
         }
         from = skipped(section, (entry.at + 4) as u64, from);
-        last = header_start(section, entry, from, last, &marks, step);
+        last = header_start(section, entry, from, last, &stretches);
         places[i] = entry.at as u64;
         places[i + 1] = place_of(last);
-        i += 2;
+        i += STRIDE;
     }
 }
 
 // Questions 61 and 54, and the index: how many records there are.
-pub fn index_in(section: &Section, places: &mut [u64]) -> Result<usize, u64>
+pub fn index_in(section: &Section, places: &mut [u64]) -> Result<usize, Question>
     ensures { Stores (index_in section.now.layout.debug (relocations_of section.now.relocations.now) (length places.old) section.now.bytes.now) result places.old places.new }
 {
     if !reader::entries::tiles(section.bytes) {
-        return Err(61);
+        return Err(Question::Tiling);
     }
     let n = count(section);
-    if places.len() / 2 < n {
-        return Err(54);
+    if places.len() / STRIDE < n {
+        return Err(Question::OtherRoom);
     }
     fill(section, places);
     Ok(n)

@@ -4,6 +4,7 @@
 
 ghost use Rattle.std.specs.Prelude.{◌≡◌, length};
 ghost use Rattle.format.specs.Answers.{marked_numbers};
+ghost use Rattle.format.specs.Coded.{numbered};
 ghost use Rattle.format.specs.Reader.{read};
 ghost use Rattle.unwind.specs.Entries.{read_numbers};
 ghost use Rattle.reads.specs.Places.{located_as, locate_record, reader_places, rules_of};
@@ -13,7 +14,8 @@ ghost use Rattle.reads.specs.Index.{index, indexed_as, locate_at};
 ghost use Rattle.reads.specs.Standing.{Indexes};
 
 use crate::addresses::Loaded;
-use format::Rules;
+use format::{Question, Rules};
+use reader::location;
 use unwind::Numbers;
 
 pub mod addresses;
@@ -23,6 +25,7 @@ pub mod places;
 // What unwind_locate answers: where the operations of a record and of its header are, the function's length, the bytes of a record's pointer
 // to call sites, the header's signal mark, the word, and whether the numbers among the fields of both are spelled shortest. On a refusal all
 // but the question's number is 0.
+// Kept: these four have a number beside their fields, and 0 or 1 for a mark, since C reads them.
 #[repr(C)]
 #[derive(Clone, Copy)]
 pub struct Located {
@@ -67,13 +70,13 @@ pub struct Indexed {
 // ---- the exports' answers, by what was found
 
 #[tactic(auto, unfolding(crate::specs::Places::located_as, crate::specs::Places::refused))]
-fn answer_located(found: Result<Located, u64>) -> Located
-    ensures { result ≡ located_as found }
+fn answer_located(found: Result<Located, Question>) -> Located
+    ensures { result ≡ located_as (numbered found) }
 {
     match found {
         Ok(l) => l,
-        Err(number) => Located {
-            number,
+        Err(question) => Located {
+            number: question.number(),
             header: 0,
             header_end: 0,
             record: 0,
@@ -88,8 +91,8 @@ fn answer_located(found: Result<Located, u64>) -> Located
 }
 
 #[tactic(auto, unfolding(crate::specs::Addresses::placed_as))]
-fn answer_placed(found: Result<(u64, u64), u64>) -> Placed
-    ensures { result ≡ placed_as found }
+fn answer_placed(found: Result<(u64, u64), Question>) -> Placed
+    ensures { result ≡ placed_as (numbered found) }
 {
     match found {
         Ok((address, length)) => Placed {
@@ -97,8 +100,8 @@ fn answer_placed(found: Result<(u64, u64), u64>) -> Placed
             address,
             length,
         },
-        Err(number) => Placed {
-            number,
+        Err(question) => Placed {
+            number: question.number(),
             address: 0,
             length: 0,
         },
@@ -106,8 +109,8 @@ fn answer_placed(found: Result<(u64, u64), u64>) -> Placed
 }
 
 #[tactic(auto, unfolding(crate::specs::Addresses::holder_as))]
-fn answer_holder(found: Result<(u64, u64), u64>) -> Holder
-    ensures { result ≡ holder_as found }
+fn answer_holder(found: Result<(u64, u64), Question>) -> Holder
+    ensures { result ≡ holder_as (numbered found) }
 {
     match found {
         Ok((k, place)) => Holder {
@@ -115,8 +118,8 @@ fn answer_holder(found: Result<(u64, u64), u64>) -> Holder
             k,
             place,
         },
-        Err(number) => Holder {
-            number,
+        Err(question) => Holder {
+            number: question.number(),
             k: 0,
             place: 0,
         },
@@ -124,15 +127,18 @@ fn answer_holder(found: Result<(u64, u64), u64>) -> Holder
 }
 
 #[tactic(auto, unfolding(crate::specs::Index::indexed_as))]
-fn answer_indexed(found: Result<usize, u64>) -> Indexed
-    ensures { result ≡ indexed_as found }
+fn answer_indexed(found: Result<usize, Question>) -> Indexed
+    ensures { result ≡ indexed_as (numbered found) }
 {
     match found {
         Ok(n) => Indexed {
             number: 0,
             records: n as u64,
         },
-        Err(number) => Indexed { number, records: 0 },
+        Err(question) => Indexed {
+            number: question.number(),
+            records: 0,
+        },
     }
 }
 
@@ -150,43 +156,21 @@ pub extern "C" fn unwind_locate(
     ensures { result ≡ locate_record section.now relocations.now kind word k }
 {
     let Some(section) = reader::section_of(section, relocations, kind, word) else {
-        return answer_located(Err(11));
+        return answer_located(Err(Question::Interface));
     };
     answer_located(places::locate_nth(&section, k))
 }
 
-// The numbers as the reader takes them.
-pub fn reader_places(l: Located) -> reader::location::Located
-    ensures { result ≡ reader_places l }
-{
-    reader::location::Located {
-        header: l.header as usize,
-        header_end: l.header_end as usize,
-        record: l.record as usize,
-        record_end: l.record_end as usize,
-        size: l.length,
-        pointer: l.pointer,
-        signal: l.signal == 1,
-        word: l.word,
-        shortest: l.shortest == 1,
-    }
-}
-
 // The rules from any numbers; a refusal of the locating is answered as it is.
+// Kept: a number and no question, here and in `read_located`, since C may pass any number in `l`.
 pub fn rules_of(section: &[u8], l: Located, q: u16, p: u64) -> Result<Rules, u64>
     ensures { result ≡ rules_of section.now l q p }
 {
     if l.number != 0 {
         return Err(l.number);
     }
-    reader::rules_at(section, reader_places(l), q, p)
-}
-
-// Whether every number that was read for these rules is spelled shortest.
-fn shortest_of(section: &[u8], l: Located, p: u64) -> bool
-    ensures { result ≡ shortest_from section.now (reader_places l) p }
-{
-    reader::shortest_at(section, reader_places(l), p)
+    let rules = reader::rules_at(section, location::Located::from(l), q, p)?;
+    Ok(rules)
 }
 
 // Locating and then the rules, which is what `read` answers.
@@ -210,7 +194,7 @@ pub extern "C" fn unwind_rules_at(section: &[u8], located: Located, q: u16, p: u
     ensures { read_numbers result ≡ marked_numbers (rules_of section.now located q p) (shortest_from section.now (reader_places located) p) }
 {
     let rules = rules_of(section, located, q, p);
-    let shortest = shortest_of(section, located, p);
+    let shortest = reader::shortest_at(section, location::Located::from(located), p);
     unwind::numbers_of(rules, shortest)
 }
 
@@ -226,7 +210,7 @@ pub extern "C" fn unwind_function_at(
 {
     let none = [];
     let Some(section) = reader::section_of(section, &none, kind, word) else {
-        return answer_placed(Err(11));
+        return answer_placed(Err(Question::Interface));
     };
     answer_placed(Loaded { section, address }.function_at(record as usize))
 }
@@ -243,7 +227,7 @@ pub extern "C" fn unwind_record_of(
 {
     let none = [];
     let Some(section) = reader::section_of(section, &none, kind, word) else {
-        return answer_holder(Err(11));
+        return answer_holder(Err(Question::Interface));
     };
     answer_holder(Loaded { section, address }.holder_in(pc))
 }
@@ -259,7 +243,7 @@ pub extern "C" fn unwind_index(
     ensures { Indexes (index section.now relocations.now kind word (length places.old)) result places.old places.new }
 {
     let Some(section) = reader::section_of(section, relocations, kind, word) else {
-        return answer_indexed(Err(11));
+        return answer_indexed(Err(Question::Interface));
     };
     answer_indexed(index::index_in(&section, places))
 }
@@ -276,7 +260,7 @@ pub extern "C" fn unwind_locate_at(
 {
     let none = [];
     let Some(section) = reader::section_of(section, &none, kind, word) else {
-        return answer_located(Err(11));
+        return answer_located(Err(Question::Interface));
     };
     answer_located(places::locate_at(&section, record as usize, header as usize))
 }

@@ -1,5 +1,5 @@
 -- The rows that lead and those that do not: the first and the last of a function's rows, and ready to be written where the function is sound.
-use mathlib.Core.Path.{◌≡◌, ap, ◌∙◌}
+use mathlib.Core.Path.{◌≡◌, refl, ap, ◌∙◌}
 use Prim.Native.Nat.{ℕ, zero, suc, ◌+◌, ◌-◌, ◌≤◌}
 use native.Mathlib.Omega.{arith}
 use mathlib.Core.Bool.{Bool, not}
@@ -21,7 +21,10 @@ use Rattle.lists.specs.declared.Extent.{Extent}
 use Rattle.lists.specs.Extents.{meant}
 use Rattle.lists.proofs.Ranges.{one_more}
 use Rattle.header_keys.specs.Functions.{body_of, Sound}
+use Rattle.header_keys.specs.declared.written.Function as written
+use Rattle.header_keys.specs.declared.written.Run.{Run}
 use Rattle.records.specs.Stepped.{rows_in, SteppedReady}
+use Rattle.records.specs.Written.{RunReady, ahead_in, Leading, Others}
 
 -- they start behind those that lead
 others_from : (f : ℕ → RowAt) (at n k : ℕ) → k ≡ length (ahead (each f at n)) → others (each f at n) ≡ each f (at + k) (n - k)
@@ -131,3 +134,17 @@ module _ (e : Extent) (rows : List ℕ) {k : ℕ} (q : (k ≡ length (ahead (eac
   size_parted w =
       rw (parted w (row_at rows) e.rows_at e.rows k q.0, others_from (row_at rows) e.rows_at e.rows k q.0)
       (length-append (stepped_bytes w 0 (each (row_at rows) e.rows_at k)) (stepped_bytes w 0 (each (row_at rows) (e.rows_at + k) (e.rows - k))))
+
+-- ---- the runs of a function's rows
+
+pub ahead_few : {f : written.Function} {x : Run} → Leading f x → (ahead_in f ≡ ahead_in f) × (ahead_in f ≤ f.extent.rows)
+ahead_few l = (refl, l.few)
+
+pub leading_ready : {f : written.Function} {x : Run} → Sound f.machine.now f.extent f.rows.now → Leading f x → RunReady x
+leading_ready {f} {x} s l = rw (l.word, l.list, l.from, l.count) (ahead_ready f.extent f.rows.now (refl, l.few) s)
+
+pub behind_few : {f : written.Function} {x : Run} → Others f x → (ahead_in f ≡ ahead_in f) × (ahead_in f ≤ f.extent.rows)
+behind_few o = (refl, o.few)
+
+pub behind_ready : {f : written.Function} {x : Run} → Sound f.machine.now f.extent f.rows.now → Others f x → RunReady x
+behind_ready {f} {x} s o = rw (o.word, o.list, o.from, o.count) (others_ready f.extent f.rows.now (refl, o.few) s)

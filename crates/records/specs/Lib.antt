@@ -3,4 +3,5 @@ pub mod Sites
 pub mod Stepped
 pub mod Fields
 pub mod Labels
+pub mod Landings
 pub mod Written

@@ -2,7 +2,7 @@
 use Rattle.std.specs.Prelude.{◌≡◌, ℕ, ◌+◌, ◌-◌, ◌*◌, ◌^◌, ◌≤◌, ◌<◌, true, List, ◌++◌, T, length, Option, Some, None}
 use Rattle.format.specs.Prelude.{all, each}
 use Rattle.format.specs.Rows.{RowAt, row_bytes, step_bytes, stepped_bytes, row_whole}
-use Rattle.format.specs.Lists.{row_at, row_ok_at, most_records}
+use Rattle.format.specs.Lists.{row_stride, row_at, row_ok_at, most_records}
 use Rattle.format.specs.Questions.{steps_ok}
 use Rattle.format.proofs.RowBack.{RowFits}
 use Rattle.format.proofs.WalkBack.{RowsAtOk}
@@ -20,7 +20,7 @@ rows_in w from rows at n = stepped_bytes w from (each (row_at rows) at n)
 pub record SteppedRowReady (w from : ℕ) (rows : List ℕ) (i : ℕ) : Type 0 where
   pub word_low : 2 ≤ w
   pub word_high : w ≤ 8
-  pub inside : 4 * i + 4 ≤ length rows
+  pub inside : row_stride * i + row_stride ≤ length rows
   pub ok : T (row_ok_at rows i)
   pub forward : from ≤ (row_at rows i).0
   pub fits : RowFits w (row_at rows i).1

@@ -1,14 +1,15 @@
 -- What a record of a function is made of, by the structs that its writers go by.
-use Rattle.std.specs.Prelude.{ℕ, List, []}
+use Rattle.std.specs.Prelude.{◌≡◌, ℕ, ◌+◌, ◌-◌, ◌≤◌, List, [], length}
 use Rattle.format.specs.Prelude.{each}
-use Rattle.format.specs.Lists.{Function, Pair, Relocation, pair_at}
+use Rattle.format.specs.Headers.{ahead}
+use Rattle.format.specs.Lists.{Function, Pair, Relocation, row_at, pair_at}
 use Rattle.format.specs.Records.{record_bytes, record_relocs}
 use Rattle.lists.specs.declared.Labels.{Labels}
 use Rattle.lists.specs.Extents.{meant}
 use Rattle.header_keys.specs.declared.written.Function as written
 use Rattle.header_keys.specs.declared.written.Run.{Run}
 use Rattle.header_keys.specs.Functions.{body_of}
-use Rattle.records.specs.declared.Places.{Places}
+use Rattle.records.specs.declared.places.Places.{Places}
 use Rattle.records.specs.declared.pair_list.Pairs.{Pairs}
 use Rattle.records.specs.Stepped.{rows_in, SteppedReady}
 use Rattle.records.specs.Fields.{fields_in}
@@ -17,6 +18,24 @@ use Rattle.records.specs.Labels.{steps_in}
 -- the rows of a run can be written, and their bytes with the steps between them
 abbrev pub RunReady : Run → Type 0
 RunReady x = SteppedReady x.word x.rows.now x.at x.n
+
+-- how many rows of a function lead; and the run of them, and that of the others
+abbrev pub ahead_in : written.Function → ℕ
+ahead_in f = length (ahead (each (row_at f.rows.now) f.extent.rows_at f.extent.rows))
+
+pub record Leading (f : written.Function) (x : Run) : Type 0 where
+  pub word : x.word ≡ f.machine.now.word
+  pub list : x.rows.now ≡ f.rows.now
+  pub from : x.at ≡ f.extent.rows_at
+  pub count : x.n ≡ ahead_in f
+  pub few : ahead_in f ≤ f.extent.rows
+
+pub record Others (f : written.Function) (x : Run) : Type 0 where
+  pub word : x.word ≡ f.machine.now.word
+  pub list : x.rows.now ≡ f.rows.now
+  pub from : x.at ≡ f.extent.rows_at + ahead_in f
+  pub count : x.n ≡ f.extent.rows - ahead_in f
+  pub few : ahead_in f ≤ f.extent.rows
 
 abbrev pub run_bytes : Run → List ℕ
 run_bytes x = rows_in x.word 0 x.rows.now x.at x.n

@@ -10,12 +10,13 @@ ghost use Rattle.format.specs.Headers.{counted};
 ghost use Rattle.format.specs.Lists.{row_stride, row_at, numbers_of, count, most_records};
 ghost use Rattle.format.specs.CallSites.{site_bytes, site_added};
 ghost use Rattle.format.specs.Records.{record_relocs, set_kind, set_bytes, set_place, set_pair};
+ghost use Rattle.rows.specs.Forms.{operand_bytes};
 ghost use Rattle.lists.specs.Extents.{meant, meant_landing, meant_pair};
 ghost use Rattle.header_keys.specs.Functions.{LandingsReady, LabelsReady};
 ghost use Rattle.records.specs.Stepped.{stepped_row_bytes, SteppedRowReady, SurveyedRow, Surveyed};
 ghost use Rattle.records.specs.Fields.{size_in, blank_in, fields_in, sum_in, lsda_in, debug_relocs, eh_relocs, field_relocs};
 ghost use Rattle.records.specs.Labels.{step_pair, steps_in};
-ghost use Rattle.records.specs.Written.{RunReady, run_bytes, steps_of, pairs_of, rows_of, fields_of, record_of, function_meant, record_relocs_of};
+ghost use Rattle.records.specs.Written.{RunReady, Leading, Others, run_bytes, steps_of, pairs_of, rows_of, fields_of, record_of, function_meant, record_relocs_of};
 
 use header_keys::written::{Function, Run};
 use header_keys::{Kind, kind_of};
@@ -24,9 +25,13 @@ use lists::{Extent, Landing, Pair};
 use numbers::encodings;
 use pair_list::Pairs;
 use rows::row_numbers::RowNumbers;
+use rows::{StepForm, Word};
 
 pub mod landing_list;
 pub mod pair_list;
+pub mod places;
+
+pub use places::Places;
 
 // ---- call sites
 
@@ -56,11 +61,7 @@ pub fn call_sites(out: &mut [u8], at: usize, e: &Extent, landings: &[u64]) -> us
         return at;
     }
     let a = leb::fill(out, at, headers::padding(4, at));
-    let of_function = Landings {
-        list: landings,
-        at: e.landings_at,
-        n: e.landings,
-    };
+    let of_function = Landings::of(e, landings);
     of_function.put_table(out, a)
 }
 
@@ -71,11 +72,7 @@ pub fn call_sites_size(at: usize, e: &Extent, landings: &[u64]) -> usize
     if e.landings == 0 {
         return 0;
     }
-    let of_function = Landings {
-        list: landings,
-        at: e.landings_at,
-        n: e.landings,
-    };
+    let of_function = Landings::of(e, landings);
     let n = of_function.size();
     headers::padding(4, at) + 3 + leb::uleb_size(n as u64) + n
 }
@@ -88,7 +85,7 @@ fn stepped_row(out: &mut [u8], at: usize, run: &Run, from: u64, i: usize) -> usi
     ensures { Wrote out.old out.new at result (stepped_row_bytes run.now.word from (row_at run.now.rows.now i)) }
 {
     let a = rows::advance(out, at, rows::offset_at(run.rows, i) - from);
-    RowNumbers::at(run.rows, i).put(out, a, run.word)
+    RowNumbers::at(run.rows, i).put(out, a, Word { bytes: run.word })
 }
 
 fn stepped_row_size(run: &Run, from: u64, i: usize) -> usize
@@ -96,7 +93,7 @@ fn stepped_row_size(run: &Run, from: u64, i: usize) -> usize
     ensures { (result ≡ length (stepped_row_bytes run.now.word from (row_at run.now.rows.now i))) × (result ≤ 14) }
 {
     let step = rows::advance_size(rows::offset_at(run.rows, i) - from);
-    step + RowNumbers::at(run.rows, i).size(run.word)
+    step + RowNumbers::at(run.rows, i).size(Word { bytes: run.word })
 }
 
 // The rows of a run, with the steps between them.
@@ -131,7 +128,7 @@ pub fn stepped_rows_size(run: &Run) -> usize
 
 // The size of row i and its step, from the offset `from` on, where the row passes questions 13, 23 and 24. None says nothing.
 fn surveyed_row(word: u64, from: u64, rows: &[u64], i: usize) -> Option<usize>
-    requires { T (is_word_size word) × (4 * i + 4 ≤ length rows.now) }
+    requires { T (is_word_size word) × (row_stride * i + row_stride ≤ length rows.now) }
     ensures { IfSome result (λ n. (n ≤ 14) × SurveyedRow word from rows.now i n) }
 {
     let to = rows::offset_at(rows, i);
@@ -240,19 +237,38 @@ fn fields_size(f: &Function) -> usize
 
 // ---- a record
 
+// The rows of a function that lead.
+fn leading<'a>(f: &Function<'a>) -> Run<'a>
+    ensures { Leading f.now result }
+{
+    Run {
+        word: f.machine.word,
+        rows: f.rows,
+        at: f.extent.rows_at,
+        n: header_keys::ahead(&f.extent, f.rows),
+    }
+}
+
+// The others.
+fn others<'a>(f: &Function<'a>) -> Run<'a>
+    ensures { Others f.now result }
+{
+    let k = header_keys::ahead(&f.extent, f.rows);
+    let left = f.extent.rows - k;
+    Run {
+        word: f.machine.word,
+        rows: f.rows,
+        at: f.extent.rows_at + k,
+        n: left,
+    }
+}
+
 // How many bytes a record at `at` has, whose function's rows have `size` bytes, those that lead too.
 pub fn record_size(f: &Function, at: usize, size: usize) -> usize
     requires { (at < 2 ^ 32) × (size ≡ length (rows_of f.now)) }
     ensures { result ≡ length (record_of f.now at 0) }
 {
-    let k = header_keys::ahead(&f.extent, f.rows);
-    let leading = Run {
-        word: f.machine.word,
-        rows: f.rows,
-        at: f.extent.rows_at,
-        n: k,
-    };
-    let body = fields_size(f) + (size - stepped_rows_size(&leading));
+    let body = fields_size(f) + (size - stepped_rows_size(&leading(f)));
     4 + body + headers::padding(f.align, at + 4 + body)
 }
 
@@ -261,17 +277,10 @@ pub fn record(out: &mut [u8], at: usize, f: &Function, cie: usize) -> usize
     requires { (cie ≤ at + 4) × (at + length (record_of f.now at cie) ≤ length out.old) }
     ensures { Wrote out.old out.new at result (record_of f.now at cie) }
 {
-    let k = header_keys::ahead(&f.extent, f.rows);
-    let left = f.extent.rows - k;
-    let others = Run {
-        word: f.machine.word,
-        rows: f.rows,
-        at: f.extent.rows_at + k,
-        n: left,
-    };
+    let run = others(f);
     let a = leb::fill(out, at, 4);
     let b = fields(out, a, f, (at + 4 - cie) as u64);
-    let c = stepped_rows(out, b, &others);
+    let c = stepped_rows(out, b, &run);
     headers::pad(out, at, c, f.align)
 }
 
@@ -282,43 +291,44 @@ pub fn record(out: &mut [u8], at: usize, f: &Function, cie: usize) -> usize
 
 // Where a linker writes a step of a form: on the opcode, or behind it.
 #[tactic(auto, unfolding(format::specs::Records::set_place))]
-fn set_place(place: u64, form: u64) -> u64
+fn set_place(place: u64, form: StepForm) -> u64
     requires { place < 2 ^ 63 }
-    ensures { result ≡ set_place place form }
+    ensures { result ≡ set_place place (operand_bytes form) }
 {
-    if form == 0 {
-        return place;
+    match form {
+        StepForm::InOpcode => place,
+        _ => place + 1,
     }
-    place + 1
 }
 
 // The kind of Set for a form; Sub's is one more.
 #[tactic(auto, unfolding(format::specs::Records::set_kind))]
-fn set_kind(form: u64) -> u64
-    ensures { (result ≡ set_kind form) × (result ≤ 11) }
+fn set_kind(form: StepForm) -> u64
+    ensures { (result ≡ set_kind (operand_bytes form)) × (result ≤ 11) }
 {
     match form {
-        0 => relocs::SET6,
-        1 => relocs::SET8,
-        2 => relocs::SET16,
-        _ => relocs::SET32,
+        StepForm::InOpcode => relocs::SET6,
+        StepForm::OneByte => relocs::SET8,
+        StepForm::TwoBytes => relocs::SET16,
+        StepForm::FourBytes => relocs::SET32,
     }
 }
 
+// The bytes of the opcode, or of the operand.
 #[tactic(auto, unfolding(format::specs::Records::set_bytes))]
-fn set_bytes(form: u64) -> u64
-    ensures { result ≡ set_bytes form }
+fn set_bytes(form: StepForm) -> u64
+    ensures { result ≡ set_bytes (operand_bytes form) }
 {
-    if form == 0 {
-        return 1;
+    match form {
+        StepForm::InOpcode => 1,
+        _ => form.operand_bytes() as u64,
     }
-    form
 }
 
 // The relocations of a step of a form between the two places of a pair: Set takes the second symbol, Sub the first.
-fn relaxed_advance(out: &mut [u64], i: usize, place: u64, form: u64, p: Pair) -> usize
+fn relaxed_advance(out: &mut [u64], i: usize, place: u64, form: StepForm, p: Pair) -> usize
     requires { (place < 2 ^ 63) × (i + 10 ≤ length out.old) }
-    ensures { Wrote out.old out.new i result (numbers_of (set_pair place form (some (meant_pair p)))) }
+    ensures { Wrote out.old out.new i result (numbers_of (set_pair place (operand_bytes form) (some (meant_pair p)))) }
 {
     let at = set_place(place, form);
     let kind = set_kind(form);
@@ -442,17 +452,9 @@ fn lsda_count(f: &Function) -> usize
     }
 }
 
-// Where a record, its header and the function's call sites start.
-#[derive(Clone, Copy)]
-pub struct Places {
-    pub at: usize,
-    pub cie: usize,
-    pub table: usize,
-}
-
 // In debug_frame the header's place in the section, the function and its length.
 fn debug_relocs(out: &mut [u64], i: usize, f: &Function, p: &Places) -> usize
-    requires { (p.now.at < 2 ^ 32) × (i + length (numbers_of (debug_relocs f.now.machine.now.word p.now.at p.now.cie f.now.extent)) ≤ length out.old) }
+    requires { i + length (numbers_of (debug_relocs f.now.machine.now.word p.now.at p.now.cie f.now.extent)) ≤ length out.old }
     ensures { Wrote out.old out.new i result (numbers_of (debug_relocs f.now.machine.now.word p.now.at p.now.cie f.now.extent)) }
 {
     let word = f.machine.word;
@@ -465,7 +467,7 @@ fn debug_relocs(out: &mut [u64], i: usize, f: &Function, p: &Places) -> usize
 
 // In eh_frame the function, the call sites and the length.
 fn eh_relocs(out: &mut [u64], i: usize, f: &Function, p: &Places) -> usize
-    requires { (p.now.at < 2 ^ 32) × (i + length (numbers_of (eh_relocs f.now.machine.now.word p.now.at p.now.table f.now.extent)) ≤ length out.old) }
+    requires { i + length (numbers_of (eh_relocs f.now.machine.now.word p.now.at p.now.table f.now.extent)) ≤ length out.old }
     ensures { Wrote out.old out.new i result (numbers_of (eh_relocs f.now.machine.now.word p.now.at p.now.table f.now.extent)) }
 {
     let at = p.at as u64;
@@ -475,7 +477,7 @@ fn eh_relocs(out: &mut [u64], i: usize, f: &Function, p: &Places) -> usize
 }
 
 fn field_relocs(out: &mut [u64], i: usize, f: &Function, p: &Places) -> usize
-    requires { (p.now.at < 2 ^ 32) × (i + length (numbers_of (field_relocs f.now.debug f.now.machine.now.word p.now.at p.now.cie p.now.table f.now.extent)) ≤ length out.old) }
+    requires { i + length (numbers_of (field_relocs f.now.debug f.now.machine.now.word p.now.at p.now.cie p.now.table f.now.extent)) ≤ length out.old }
     ensures { Wrote out.old out.new i result (numbers_of (field_relocs f.now.debug f.now.machine.now.word p.now.at p.now.cie p.now.table f.now.extent)) }
 {
     if f.debug {
@@ -502,32 +504,18 @@ pub fn record_relocs_count(f: &Function, pairs: &[u64]) -> usize
     let Some(labels) = f.extent.relaxed else {
         return n;
     };
-    let k = header_keys::ahead(&f.extent, f.rows);
-    let others = Run {
-        word: f.machine.word,
-        rows: f.rows,
-        at: f.extent.rows_at + k,
-        n: f.extent.rows - k,
-    };
-    n + step_relocs_count(&others, &Pairs::of(&labels, pairs))
+    n + step_relocs_count(&others(f), &Pairs::of(&labels, pairs))
 }
 
 // Those of a record: of the fields, then of the steps.
 pub fn record_relocs(out: &mut [u64], i: usize, f: &Function, p: &Places, pairs: &[u64]) -> usize
-    requires { LabelsReady f.now.extent pairs.now × (p.now.at < 2 ^ 32) × (i + 5 * length (record_relocs_of f.now p.now pairs.now) ≤ length out.old) }
+    requires { LabelsReady f.now.extent pairs.now × (i + 5 * length (record_relocs_of f.now p.now pairs.now) ≤ length out.old) }
     ensures { Wrote out.old out.new i result (numbers_of (record_relocs_of f.now p.now pairs.now)) }
 {
     let a = field_relocs(out, i, f, p);
     let Some(labels) = f.extent.relaxed else {
         return a;
     };
-    let k = header_keys::ahead(&f.extent, f.rows);
-    let others = Run {
-        word: f.machine.word,
-        rows: f.rows,
-        at: f.extent.rows_at + k,
-        n: f.extent.rows - k,
-    };
     let place = p.at + 4 + fields_size(f);
-    step_relocs(out, a, place as u64, &others, &Pairs::of(&labels, pairs))
+    step_relocs(out, a, place as u64, &others(f), &Pairs::of(&labels, pairs))
 }

@@ -17,7 +17,7 @@ fn is_for(p: Pair, from: u64, to: u64) -> bool
 
 // The first place of pair i.
 fn place_of(pairs: &[u64], i: usize) -> u64
-    requires { 4 * i + 4 ≤ length pairs.now }
+    requires { pair_stride * i + pair_stride ≤ length pairs.now }
     ensures { result ≡ (pair_at pairs.now i).place1 }
 {
     pairs[lists::PAIR_STRIDE * i]

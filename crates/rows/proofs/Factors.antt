@@ -8,7 +8,7 @@ use native.Mathlib.Nat.{div-add-mod', mul-le-mul_left}
 use lib.IntN.{ℤ, pos, negsuc, neg_ℤ, ◌-ℤ◌, +ℤ_idl, nat_abs}
 use lib.ListN.{length}
 use lib.Signed.{lt_z, mag, quot_z}
-use mir.Syntax.{w32, w64}
+use mir.Syntax.{w64}
 use mir.Val.{SFits, of_z, to_z}
 use mir.Facts.{to_z-of_z, to_z_pos}
 use Rattle.format.specs.Leb.{uleb, sleb}
@@ -72,11 +72,6 @@ pub frame_bytes : (w plain sf : ℕ) (reg : List ℕ) (z : ℤ) → cfa_bytes w 
 unfolding cfa_bytes by_sign offset_bytes
 frame_bytes w plain sf reg (pos n) = refl
 frame_bytes w plain sf reg (negsuc n) = refl
-
--- an offset of 32 bits that is not negative
-pub plain_frame : (w plain sf off : ℕ) (reg : List ℕ) → off < 2147483648 → cfa_bytes w plain sf reg (to_z w32 off) ≡ (plain ∷ reg) ++ uleb off
-unfolding cfa_bytes
-plain_frame w plain sf off reg h = rw (to_z_pos w32 {n = off} h)
 
 pub offset_ten : (w : ℕ) (z : ℤ) → 2 ≤ w → mag z < 2 ^ 63 → length (offset_bytes w z) ≤ 10
 unfolding offset_bytes

@@ -1,32 +1,25 @@
 -- Steps part by part, as the code writes them, and how long they are.
 use mathlib.Core.Path.{◌≡◌, refl}
-use mathlib.Core.List.{[], ◌∷◌, ◌++◌}
+use mathlib.Core.List.{[]}
 use mathlib.Core.Logic.{◌≢◌}
 use Prim.Native.Nat.{ℕ, zero, suc, ◌+◌, ◌≤◌, ◌<◌}
 use native.Mathlib.Omega.{arith}
 use lib.ListN.{length}
-use Rattle.format.specs.Prelude.{pick}
-use Rattle.format.specs.Leb.{little}
 use Rattle.format.specs.Rows.{step_in, step_form, step_bytes}
+use Rattle.rows.specs.Forms.{Meant}
+use Rattle.rows.specs.declared.StepForm.TheVariants.{FourBytes}
 use Rattle.format.proofs.Choice.{if-le, if-gt, if-eq, if-ne, either}
 use Rattle.format.proofs.LebBack.{little-length}
-use Rattle.rows.specs.Operands.{step_opcode, step_width}
 
--- ---- a step in a form
+-- ---- a form by a number
 
-pub step_short : {form : ℕ} (by : ℕ) → form ≡ 0 → step_in form by ≡ (0x40 + by) ∷ []
+-- any number but the first three means four bytes
+pub meant_four : (n : ℕ) → n ≢ 0 → n ≢ 1 → n ≢ 2 → Meant n FourBytes
 unfolding step_in
-step_short by e = rw e
-
-pub step_long : (form by : ℕ) → form ≢ 0 → step_in form by ≡ (step_opcode form ∷ []) ++ little (step_width form) by
-unfolding step_in step_opcode step_width pick
-step_long zero by h = absurd (h refl)
-step_long (suc zero) by h = refl
-step_long (suc (suc zero)) by h = refl
-step_long (suc (suc (suc k))) by h =
-    let n : suc (suc (suc k)) ≢ 1 = λ e. omega arith in
-    let m : suc (suc (suc k)) ≢ 2 = λ e. omega arith in
-    rw (if-ne {X = ℕ} _ _ 0x02 _ n, if-ne {X = ℕ} _ _ 0x03 _ m, if-ne {X = ℕ} _ _ 1 _ n, if-ne {X = ℕ} _ _ 2 _ m)
+meant_four zero a b c = absurd (a refl)
+meant_four (suc zero) a b c = absurd (b refl)
+meant_four (suc (suc zero)) a b c = absurd (c refl)
+meant_four (suc (suc (suc n))) a b c = record { same = λ by. refl; in_opcode = λ e. absurd (omega (arith, e)) }
 
 -- ---- the shortest form
 

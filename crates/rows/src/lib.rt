@@ -8,10 +8,11 @@ ghost use Rattle.std.proofs.Common.{to_z};
 ghost use Rattle.format.specs.Machine.{is_word_size};
 ghost use Rattle.format.specs.Lists.{row_stride, field, has_register, second_operands, row_of, row_ok, row_at, row_ok_at};
 ghost use Rattle.format.proofs.Wrote.{Wrote};
-ghost use Rattle.format.specs.Leb.{uleb};
+ghost use Rattle.format.specs.Leb.{little, uleb};
 ghost use Rattle.format.specs.Rows.{factor, cfa_bytes, with_register, saved_bytes, row_bytes, step_in, step_form, step_bytes, whole, whole_below, row_whole, kind_of, reg_of, offset_of, same_row};
 ghost use Rattle.format.specs.Prelude.{pick};
-ghost use Rattle.rows.specs.Operands.{by_sign, offset_bytes, step_opcode, step_width};
+ghost use Rattle.rows.specs.Forms.{operand_bytes};
+ghost use Rattle.rows.specs.Operands.{by_sign, offset_bytes};
 ghost use Rattle.rows.specs.Sizes.{short_size, scaled, second_byte, StepSurveyed};
 
 use format::Row;
@@ -266,15 +267,20 @@ pub fn offset(r: Row) -> i64
 
 // ---- a row written, and its size
 
-// Kept: a writer's buffer and place stand as in leb, and the word beside them is one number of the machine. A struct of the three
-// would be made anew for each row.
+// A machine's word, by its bytes.
+#[derive(Clone, Copy)]
+pub struct Word {
+    pub bytes: u64,
+    pub ghost small: { (2 ≤ bytes) × (bytes ≤ 8) },
+}
+
+// Kept: a writer's buffer and place stand as in leb.
 
 // An offset divided by minus the word.
-fn factored(word: u64, z: i64) -> i64
-    requires { (2 ≤ word) × (word ≤ 8) }
-    ensures { result ≡ factor word z }
+fn factored(word: Word, z: i64) -> i64
+    ensures { result ≡ factor word.bytes z }
 {
-    z / (0 - word as i64)
+    z / (0 - word.bytes as i64)
 }
 
 // One opcode or the other, by the offset's sign.
@@ -289,9 +295,9 @@ fn by_sign(plain: u8, signed: u8, z: i64) -> u8
 }
 
 // The offset of a frame address: plain, or signed and factored where it is negative.
-fn frame_offset(out: &mut [u8], at: usize, word: u64, z: i64) -> usize
-    requires { (2 ≤ word) × (word ≤ 8) × (at + length (offset_bytes word z) ≤ length out.old) }
-    ensures { Wrote out.old out.new at result (offset_bytes word z) }
+fn frame_offset(out: &mut [u8], at: usize, word: Word, z: i64) -> usize
+    requires { at + length (offset_bytes word.bytes z) ≤ length out.old }
+    ensures { Wrote out.old out.new at result (offset_bytes word.bytes z) }
 {
     if z < 0 {
         return leb::sleb(out, at, factored(word, z));
@@ -299,9 +305,8 @@ fn frame_offset(out: &mut [u8], at: usize, word: u64, z: i64) -> usize
     leb::uleb(out, at, z as u64)
 }
 
-fn frame_offset_size(word: u64, z: i64) -> usize
-    requires { (2 ≤ word) × (word ≤ 8) }
-    ensures { result ≡ length (offset_bytes word z) }
+fn frame_offset_size(word: Word, z: i64) -> usize
+    ensures { result ≡ length (offset_bytes word.bytes z) }
 {
     if z < 0 {
         return leb::sleb_size(factored(word, z));
@@ -310,9 +315,9 @@ fn frame_offset_size(word: u64, z: i64) -> usize
 }
 
 // DW_CFA_def_cfa and DW_CFA_def_cfa_offset.
-fn def_cfa(out: &mut [u8], at: usize, word: u64, reg: u16, z: i64) -> usize
-    requires { (2 ≤ word) × (word ≤ 8) × (at + length (cfa_bytes word 0x0c 0x12 (uleb reg) z) ≤ length out.old) }
-    ensures { Wrote out.old out.new at result (cfa_bytes word 0x0c 0x12 (uleb reg) z) }
+fn def_cfa(out: &mut [u8], at: usize, word: Word, reg: u16, z: i64) -> usize
+    requires { at + length (cfa_bytes word.bytes 0x0c 0x12 (uleb reg) z) ≤ length out.old }
+    ensures { Wrote out.old out.new at result (cfa_bytes word.bytes 0x0c 0x12 (uleb reg) z) }
 {
     let a = leb::byte(
         out,
@@ -323,9 +328,9 @@ fn def_cfa(out: &mut [u8], at: usize, word: u64, reg: u16, z: i64) -> usize
     frame_offset(out, b, word, z)
 }
 
-fn def_cfa_offset(out: &mut [u8], at: usize, word: u64, z: i64) -> usize
-    requires { (2 ≤ word) × (word ≤ 8) × (at + length (cfa_bytes word 0x0e 0x13 [] z) ≤ length out.old) }
-    ensures { Wrote out.old out.new at result (cfa_bytes word 0x0e 0x13 [] z) }
+fn def_cfa_offset(out: &mut [u8], at: usize, word: Word, z: i64) -> usize
+    requires { at + length (cfa_bytes word.bytes 0x0e 0x13 [] z) ≤ length out.old }
+    ensures { Wrote out.old out.new at result (cfa_bytes word.bytes 0x0e 0x13 [] z) }
 {
     let a = leb::byte(
         out,
@@ -407,9 +412,9 @@ pub fn saved_size(reg: u16, z: i64) -> usize
 }
 
 // A row's operation.
-pub fn row(out: &mut [u8], at: usize, word: u64, r: Row) -> usize
-    requires { (2 ≤ word) × (word ≤ 8) × (at + length (row_bytes word r) ≤ length out.old) }
-    ensures { Wrote out.old out.new at result (row_bytes word r) }
+pub fn row(out: &mut [u8], at: usize, word: Word, r: Row) -> usize
+    requires { at + length (row_bytes word.bytes r) ≤ length out.old }
+    ensures { Wrote out.old out.new at result (row_bytes word.bytes r) }
 {
     match r {
         Row::DefCfa(reg, z) => def_cfa(out, at, word, reg, z),
@@ -432,9 +437,8 @@ pub fn row(out: &mut [u8], at: usize, word: u64, r: Row) -> usize
     }
 }
 
-pub fn row_size(word: u64, r: Row) -> usize
-    requires { (2 ≤ word) × (word ≤ 8) }
-    ensures { result ≡ length (row_bytes word r) }
+pub fn row_size(word: Word, r: Row) -> usize
+    ensures { result ≡ length (row_bytes word.bytes r) }
 {
     match r {
         Row::DefCfa(reg, z) => 1 + leb::uleb_size(reg as u64) + frame_offset_size(word, z),
@@ -451,30 +455,6 @@ pub fn row_size(word: u64, r: Row) -> usize
             + leb::uleb_size(reg as u64)
             + leb::uleb_size(other as u64),
     }
-}
-
-// DW_CFA_def_cfa and DW_CFA_def_cfa_offset out of a row's numbers; an offset that is not negative is written as it stands.
-// Kept: both, beside `def_cfa` and `def_cfa_offset`; without them the writing takes 2.5 instructions a row more (tried).
-fn def_cfa_in(out: &mut [u8], at: usize, word: u64, reg: u16, off: u64) -> usize
-    requires { (2 ≤ word) × (word ≤ 8) × (off < 2 ^ 32) × (at + length (cfa_bytes word 0x0c 0x12 (uleb reg) (to_z w32 off)) ≤ length out.old) }
-    ensures { Wrote out.old out.new at result (cfa_bytes word 0x0c 0x12 (uleb reg) (to_z w32 off)) }
-{
-    if NEGATIVE <= off {
-        return def_cfa(out, at, word, reg, signed32(off));
-    }
-    let a = named(out, at, opcodes::DW_CFA_DEF_CFA, reg);
-    leb::uleb(out, a, off)
-}
-
-fn def_cfa_offset_in(out: &mut [u8], at: usize, word: u64, off: u64) -> usize
-    requires { (2 ≤ word) × (word ≤ 8) × (off < 2 ^ 32) × (at + length (cfa_bytes word 0x0e 0x13 [] (to_z w32 off)) ≤ length out.old) }
-    ensures { Wrote out.old out.new at result (cfa_bytes word 0x0e 0x13 [] (to_z w32 off)) }
-{
-    if NEGATIVE <= off {
-        return def_cfa_offset(out, at, word, signed32(off));
-    }
-    let a = leb::byte(out, at, opcodes::DW_CFA_DEF_CFA_OFFSET);
-    leb::uleb(out, a, off)
 }
 
 // The size of an operation whose operands are a byte each, by kind. The arms are as those of `second_operands`.
@@ -537,65 +517,101 @@ pub fn surveyed(word: u64, rows: &[u64], i: usize) -> Option<usize>
     if !numbers.surely_whole(word) {
         return None;
     }
-    Some(numbers.size(word))
+    Some(numbers.size(Word { bytes: word }))
 }
 
 // ---- a step written, and its size
 
-// How many bytes of operand the shortest form of a step has.
+// The forms of a step: inside the opcode, or as an operand behind it.
+#[derive(Clone, Copy, PartialEq, Eq)]
+pub enum StepForm {
+    InOpcode,
+    OneByte,
+    TwoBytes,
+    FourBytes,
+}
+
+impl StepForm {
+    ghost use Rattle.rows.specs.Forms.{operand_bytes};
+
+    // How many bytes of operand it has.
+    pub fn operand_bytes(self) -> usize
+        ensures { result ≡ operand_bytes self }
+    {
+        match self {
+            StepForm::InOpcode => 0,
+            StepForm::OneByte => 1,
+            StepForm::TwoBytes => 2,
+            StepForm::FourBytes => 4,
+        }
+    }
+}
+
+// Of any other number than 0, 1 and 2 the form is that of four bytes.
+impl From<u64> for StepForm {
+    ghost use Rattle.std.specs.Prelude.{◌≡◌};
+    ghost use Rattle.format.specs.Rows.{step_in};
+    ghost use Rattle.rows.specs.Forms.{operand_bytes, Meant};
+
+    ghost from_gives = { Meant };
+
+    fn from(form: u64) -> StepForm {
+        match form {
+            0 => StepForm::InOpcode,
+            1 => StepForm::OneByte,
+            2 => StepForm::TwoBytes,
+            _ => StepForm::FourBytes,
+        }
+    }
+}
+
+// The shortest form of a step.
 #[tactic(auto, unfolding(format::specs::Rows::step_form, format::specs::Prelude::pick))]
-pub fn step_form(by: u64) -> u64
-    ensures { result ≡ step_form by }
+pub fn step_form(by: u64) -> StepForm
+    ensures { operand_bytes result ≡ step_form by }
 {
     if by <= MOST_IN_OPCODE {
-        return 0;
+        return StepForm::InOpcode;
     }
     if by <= 0xff {
-        return 1;
+        return StepForm::OneByte;
     }
     if by <= 0xffff {
-        return 2;
+        return StepForm::TwoBytes;
     }
-    4
+    StepForm::FourBytes
 }
 
-// The opcode of a form that has an operand, and how long the operand is.
-#[tactic(auto, unfolding(crate::specs::Operands::step_opcode, format::specs::Prelude::pick))]
-fn step_opcode(form: u64) -> u8
-    ensures { result ≡ step_opcode form }
+// A step behind its opcode, as an operand of n bytes.
+fn step_behind(out: &mut [u8], at: usize, opcode: u8, n: usize, by: u64) -> usize
+    requires { at + 1 + n ≤ length out.old }
+    ensures { Wrote out.old out.new at result (opcode ∷ little n by) }
 {
-    if form == 1 {
-        return opcodes::DW_CFA_ADVANCE_LOC1;
-    }
-    if form == 2 {
-        return opcodes::DW_CFA_ADVANCE_LOC2;
-    }
-    opcodes::DW_CFA_ADVANCE_LOC4
-}
-
-#[tactic(auto, unfolding(crate::specs::Operands::step_width, format::specs::Prelude::pick))]
-fn step_width(form: u64) -> usize
-    ensures { result ≡ step_width form }
-{
-    if form == 1 {
-        return 1;
-    }
-    if form == 2 {
-        return 2;
-    }
-    4
+    let a = leb::byte(out, at, opcode);
+    leb::le(out, a, n, by)
 }
 
 // A step in a given form. The form without operand holds 63 at most.
+#[tactic(auto, unfolding(format::specs::Rows::step_in))]
+fn step_as(out: &mut [u8], at: usize, form: StepForm, by: u64) -> usize
+    requires { (operand_bytes form ≡ 0 → by ≤ 0x3f) × (at + length (step_in (operand_bytes form) by) ≤ length out.old) }
+    ensures { Wrote out.old out.new at result (step_in (operand_bytes form) by) }
+{
+    match form {
+        StepForm::InOpcode => leb::byte(out, at, opcodes::DW_CFA_ADVANCE_LOC + by as u8),
+        StepForm::OneByte => step_behind(out, at, opcodes::DW_CFA_ADVANCE_LOC1, 1, by),
+        StepForm::TwoBytes => step_behind(out, at, opcodes::DW_CFA_ADVANCE_LOC2, 2, by),
+        StepForm::FourBytes => step_behind(out, at, opcodes::DW_CFA_ADVANCE_LOC4, 4, by),
+    }
+}
+
+// The same of a form by how many bytes of operand it has.
+// Kept: a number, and no StepForm, since a public function asks no more than it did.
 pub fn step_in(out: &mut [u8], at: usize, form: u64, by: u64) -> usize
     requires { (form ≡ 0 → by ≤ 0x3f) × (at + length (step_in form by) ≤ length out.old) }
     ensures { Wrote out.old out.new at result (step_in form by) }
 {
-    if form == 0 {
-        return leb::byte(out, at, opcodes::DW_CFA_ADVANCE_LOC + by as u8);
-    }
-    let a = leb::byte(out, at, step_opcode(form));
-    leb::le(out, a, step_width(form), by)
+    step_as(out, at, StepForm::from(form), by)
 }
 
 // A step in its shortest form; a step of 0 is nothing.
@@ -606,7 +622,7 @@ pub fn advance(out: &mut [u8], at: usize, by: u64) -> usize
     if by == 0 {
         return at;
     }
-    step_in(out, at, step_form(by), by)
+    step_as(out, at, step_form(by), by)
 }
 
 pub fn advance_size(by: u64) -> usize
@@ -615,7 +631,7 @@ pub fn advance_size(by: u64) -> usize
     if by == 0 {
         return 0;
     }
-    1 + step_form(by) as usize
+    1 + step_form(by).operand_bytes()
 }
 
 // The size of a step that passes question 23. Most steps have a byte.

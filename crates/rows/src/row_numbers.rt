@@ -6,7 +6,7 @@ ghost use Rattle.format.specs.Lists.{row_ok, row_of, row_at, row_ok_at};
 ghost use Rattle.format.specs.Rows.{row_bytes, row_whole};
 ghost use Rattle.format.proofs.Wrote.{Wrote};
 
-use crate::{ROW_KIND, ROW_OPERAND, ROW_REGISTER, ROW_STRIDE};
+use crate::{ROW_KIND, ROW_OPERAND, ROW_REGISTER, ROW_STRIDE, Word};
 use format::Row;
 use numbers::{kinds, opcodes};
 
@@ -20,10 +20,12 @@ pub struct RowNumbers {
 }
 
 // The size of the operation of a row that its numbers say, by kind.
-// Kept: the numbers one by one. As a struct they would be stored for each row that is sized, though few rows come here (tried).
-fn size_by_kind(word: u64, kind: u64, register: u64, operand: u64) -> usize
-    requires { (2 ≤ word) × (word ≤ 8) × T (row_ok kind register operand) }
-    ensures { result ≡ length (row_bytes word (row_of kind register operand)) }
+// Kept: beside `row_size`, and the numbers one by one. `row_size(word, self.row())` in its place takes 3 instructions more for each row that is
+// sized: the row's place on the stack is made ready in front of the tests (tried). The writer's bar is 0.7 of the Rust's time, and it takes 0.92
+// (docs/PERFORMANCE.md).
+fn size_by_kind(word: Word, kind: u64, register: u64, operand: u64) -> usize
+    requires { T (row_ok kind register operand) }
+    ensures { result ≡ length (row_bytes word.bytes (row_of kind register operand)) }
 {
     let z = crate::signed32(operand);
     match kind {
@@ -93,22 +95,20 @@ impl RowNumbers {
     }
 
     // The row's operation.
-    // Kept: a writer's buffer and place, as in leb, and the word, one number of the machine.
-    pub fn put(self, out: &mut [u8], at: usize, word: u64) -> usize
-        requires { (2 ≤ word) × (word ≤ 8) × (at + length (row_bytes word (means self)) ≤ length out.old) }
-        ensures { Wrote out.old out.new at result (row_bytes word (means self)) }
+    // Kept: beside `row`. By `row(out, at, word, self.row())` a row is stored, passed on and matched again, 29 instructions more of some 115 for each
+    // row (tried); the writer takes 0.92 of the Rust's time (docs/PERFORMANCE.md), and would take more than all of it.
+    // Kept: a writer's buffer and place, as in leb.
+    pub fn put(self, out: &mut [u8], at: usize, word: Word) -> usize
+        requires { at + length (row_bytes word.bytes (means self)) ≤ length out.old }
+        ensures { Wrote out.old out.new at result (row_bytes word.bytes (means self)) }
     {
         let g = self.register as u16;
+        let z = crate::signed32(self.operand);
         match self.kind {
-            kinds::DEF_CFA => crate::def_cfa_in(out, at, word, g, self.operand),
-            kinds::DEF_CFA_OFFSET => crate::def_cfa_offset_in(out, at, word, self.operand),
+            kinds::DEF_CFA => crate::def_cfa(out, at, word, g, z),
+            kinds::DEF_CFA_OFFSET => crate::def_cfa_offset(out, at, word, z),
             kinds::DEF_CFA_REGISTER => crate::named(out, at, opcodes::DW_CFA_DEF_CFA_REGISTER, g),
-            kinds::OFFSET => crate::saved(
-                out,
-                at,
-                g,
-                crate::factored(word, crate::signed32(self.operand)),
-            ),
+            kinds::OFFSET => crate::saved(out, at, g, crate::factored(word, z)),
             kinds::RESTORE => crate::opcode(
                 out,
                 at,
@@ -126,17 +126,16 @@ impl RowNumbers {
     }
 
     // Its size; without a jump by kind where the register has a byte at most and the second operand two.
-    pub fn size(self, word: u64) -> usize
-        requires { (2 ≤ word) × (word ≤ 8) }
-        ensures { result ≡ length (row_bytes word (means self)) }
+    pub fn size(self, word: Word) -> usize
+        ensures { result ≡ length (row_bytes word.bytes (means self)) }
     {
-        let y = crate::scaled(word, self.kind, self.operand);
+        let y = crate::scaled(word.bytes, self.kind, self.operand);
         if crate::MOST_IN_OPCODE < self.register {
             return size_by_kind(word, self.kind, self.register, self.operand);
         }
-        if crate::TWO_BYTES * word <= y {
+        if crate::TWO_BYTES * word.bytes <= y {
             return size_by_kind(word, self.kind, self.register, self.operand);
         }
-        crate::short_size(self.kind) + crate::second_byte(word, y)
+        crate::short_size(self.kind) + crate::second_byte(word.bytes, y)
     }
 }

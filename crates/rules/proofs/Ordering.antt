@@ -15,6 +15,7 @@ use Rattle.format.specs.Headers.{leads, ahead}
 use Rattle.format.specs.RowCheck.{may_lead, in_order, rows_of}
 use Rattle.rules.specs.declared.Order.{Order}
 use Rattle.std.specs.Prelude.{Some, None}
+use Rattle.std.specs.Bool.{then_some}
 use Rattle.arrayvec.specs.ArrayVec.{ArrayVec}
 use Rattle.rules.specs.Orders.{leaders_ok, follow, follow_some, passing, Steps}
 
@@ -121,10 +122,14 @@ module _ (o : Order) (first : Bool) where
     unfolding kind_of may_lead in_order
     closed = decided o first RestoreState _ (not first) true (sym (and-true first)) (barred first) (λ rs. rw (m, reverse-append))
 
-    pub in_front : first ≡ true → Steps o first RestoreState None
+    in_front : first ≡ true → Steps o first RestoreState None
     unfolding pick
     in_front t = rw t (rw t at closed)
 
-    pub restored : first ≡ false → Steps o first RestoreState (Some (record { leading = false; framed = framed; marks = marks }))
+    restored : first ≡ false → Steps o first RestoreState (Some (record { leading = false; framed = framed; marks = marks }))
     unfolding pick
     restored t = rw t (rw t at closed)
+
+    pub popped : (b : Bool) → b ≡ first → Steps o first RestoreState (then_some (not b) (record { leading = false; framed = framed; marks = marks }))
+    popped true e = in_front (sym e)
+    popped false e = restored (sym e)

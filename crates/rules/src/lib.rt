@@ -43,10 +43,7 @@ pub fn at_start(leading: bool, offset: u64) -> bool
 fn passes(ok: bool, o: Order, first: bool, framed: bool) -> Option<Order>
     ensures { result ≡ passing ok o first framed }
 {
-    if !ok {
-        return None;
-    }
-    Some(Order {
+    ok.then_some(Order {
         leading: first,
         framed,
         ..o
@@ -73,13 +70,8 @@ fn closes(o: Order, first: bool) -> Option<Order>
     ensures { Steps o first row.RestoreState result }
 {
     let mut marks = o.marks;
-    let Some(framed) = marks.pop() else {
-        return None;
-    };
-    if first {
-        return None;
-    }
-    Some(Order {
+    let framed = marks.pop()?;
+    (!first).then_some(Order {
         leading: false,
         framed,
         marks,
@@ -92,17 +84,16 @@ pub fn step(o: Order, first: bool, row: Row) -> Option<Order>
 {
     let framed = o.framed;
     match row {
-        Row::DefCfa(_, _) => passes(true, o, first, true),
-        Row::DefCfaOffset(_) => passes(framed, o, first, framed),
-        Row::DefCfaRegister(_) => passes(framed, o, first, framed),
-        Row::Offset(_, _) => passes(true, o, first, framed),
-        Row::Restore(_) => passes(!first, o, first, framed),
-        Row::Undefined(_) => passes(true, o, first, framed),
         Row::RememberState => opens(o),
         Row::RestoreState => closes(o, first),
-        Row::NegateRaState => passes(true, o, first, framed),
-        Row::SameValue(_) => passes(true, o, first, framed),
-        Row::InRegister(_, _) => passes(true, o, first, framed),
+        Row::DefCfa(_, _) => passes(true, o, first, true),
+        Row::DefCfaOffset(_) | Row::DefCfaRegister(_) => passes(framed, o, first, framed),
+        Row::Restore(_) => passes(!first, o, first, framed),
+        Row::Offset(_, _)
+        | Row::Undefined(_)
+        | Row::NegateRaState
+        | Row::SameValue(_)
+        | Row::InRegister(_, _) => passes(true, o, first, framed),
     }
 }
 

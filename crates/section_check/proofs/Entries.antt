@@ -7,9 +7,10 @@ use Prim.Native.Nat.{ℕ, zero, suc, ◌+◌, ◌-◌}
 use native.Mathlib.Omega.{arith}
 use lib.Dec.{T}
 use lib.ListN.{drop, get_elem?}
-use Rattle.format.specs.Prelude.{pick, Read, next, after, Result, good, bad, onward, or_else}
+use Rattle.format.specs.Prelude.{pick, Read, next, after, Result, bad, onward, or_else}
 use Rattle.format.specs.Leb.{read_little}
 use Rattle.format.proofs.Asked.{option_of}
+use Rattle.format.proofs.Onward.{onward_assoc}
 use Rattle.std.specs.Prelude.{Some, None, Ok, Err}
 use Rattle.std.specs.Prelude as code
 use Rattle.std.specs.Result.{is_ok}
@@ -17,7 +18,9 @@ use Rattle.format.specs.Machine.{is_word_size}
 use Rattle.format.specs.Lists.{relocations_of}
 use Rattle.format.specs.Rules.{State, answer}
 use Rattle.format.specs.Reader.{Entry, Found, entries, records, distance_back, header_place, header_at, parsed, locate, run_to, read_section, read}
-use Rattle.format.specs.Coded.{Reading}
+use Rattle.format.specs.Coded.{Reading, numbered}
+use Rattle.format.specs.declared.Rules.{Rules}
+use Rattle.format.specs.declared.question.Question.{Question}
 use Rattle.operations.specs.declared.fields.Position.{Position}
 use Rattle.format.proofs.Choice.{pick_yes, is_true}
 use Rattle.operations.specs.Positions.{little_at, read_from, from}
@@ -74,7 +77,7 @@ module _ (s : List ℕ) (at end : ℕ) where
 -- ---- the rules at an offset
 
 -- the reader answers where its result is a value
-pub ok_answers : (r : Reading) → is_ok r ≡ answers r
+pub ok_answers : (r : code.Result Rules Question) → is_ok r ≡ answers (numbered r)
 unfolding answers
 ok_answers (Ok rules) = refl
 ok_answers (Err n) = refl
@@ -104,8 +107,8 @@ module _ (s : List ℕ) (word at end p : ℕ) where
       unfolding read_in onward or_else
       behind_header = rw header_stands.found
 
-      module _ {l : code.Result Located ℕ} (k : Locates s word l (parsed false word (entry_of s h) entry)) where
-        pub unparsed : {n : ℕ} → l ≡ Err n → false ≡ answers_in s word entry p
+      module _ {l : code.Result Located Question} (k : Locates s word l (parsed false word (entry_of s h) entry)) where
+        pub unparsed : {n : Question} → l ≡ Err n → false ≡ answers_in s word entry p
         unfolding answers_in onward answer answers
         unparsed f = rw (behind_header, place_refused s word f k)
 
@@ -147,15 +150,10 @@ and-true : (b : Bool) → T b → T (b && true)
 and-true true t = tt
 and-true false t = absurd t
 
-associated : {A B C : Type 0} (a : Result A) (f : A → Result B) (g : B → Result C) → onward (onward a f) g ≡ onward a (λ x. onward (f x) g)
-unfolding onward
-associated (good a) f g = refl
-associated (bad n) f g = refl
-
 module _ (s : List ℕ) (word k : ℕ) (w : T (is_word_size word)) (es : List Entry) (t : entries s ≡ some es) (e : Entry) (h : get_elem? (records false es) k ≡ some e) where
   read_entry : (p : ℕ) → read_section false (relocations_of []) word k p s ≡ read_in s word e p
   unfolding read_section locate read_in header_place or_else listed onward
-  read_entry p = rw (t, h) (associated (or_else (after (distance_back e) λ place. header_at false place e.at es) 63) (λ x. parsed false word x e) (run_to word p))
+  read_entry p = rw (t, h) (sym (onward_assoc (or_else (after (distance_back e) λ place. header_at false place e.at es) 63) (λ x. parsed false word x e) (run_to word p)))
 
   read_answers : (p : ℕ) → answers (read_at s word k 0 p) ≡ answers_in s word e p
   unfolding read answers_in

@@ -1,6 +1,6 @@
 -- Every eh_frame section of our writer passes, read with its word, where all functions pass the row check and none is relaxed.
 use mathlib.Core.Path.{◌≡◌, refl, ap, ◌∙◌}
-use Prim.Native.Nat.{ℕ, zero, suc, ◌+◌, ◌-◌, ◌^◌, ◌≤◌, ◌<◌}
+use Prim.Native.Nat.{ℕ, suc, ◌+◌, ◌-◌, ◌^◌, ◌≤◌, ◌<◌}
 use native.Mathlib.Omega.{arith}
 use mathlib.Core.Bool.{Bool, true, false}
 use mathlib.Core.Option.{Option, none, some}
@@ -11,7 +11,7 @@ use Rattle.format.specs.Prelude.{pick, next}
 use Rattle.format.specs.Leb.{little, read_little}
 use Rattle.format.specs.declared.Machine.{Machine}
 use Rattle.format.specs.Machine.{machine_of}
-use Rattle.format.specs.Lists.{Function, Relaxed, function_stride, count, functions_of, numbers_of}
+use Rattle.format.specs.Lists.{Function, function_stride, count, functions_of, numbers_of}
 use Rattle.format.specs.Headers.{Key, key_of}
 use Rattle.format.specs.Records.{size_field, record_fields}
 use Rattle.format.specs.declared.Section.TheVariants.{Elf}

@@ -10,13 +10,13 @@ use native.Mathlib.Decide.{ℕ_discrete}
 use native.Mathlib.Numerals.{add-one}
 use borrow.Author.Tests.{eq-eqb, ne_eqb, lt-ltb, le-ltb}
 use lib.Dec.{T, ltb, eqb}
-use lib.ListN.{length, get_or, set, get_elem?, replicate, length-set, get_or-replicate, length-replicate, get_or-eq_default}
+use lib.ListN.{length, get_or, set, get_elem?, replicate, get_or-replicate, length-replicate, get_or-eq_default}
 use lib.Seq.{set_out, get_or-set_same, get_or-set_other}
 use Rattle.format.specs.Prelude.{pick}
 use Rattle.format.proofs.Choice.{if-le, if-gt, either}
 use Rattle.format.specs.Machine.{is_word_size}
 use Rattle.format.specs.Questions.{is_some}
-use Rattle.format.specs.Reader.{Entry, entries, is_header, records, header_at}
+use Rattle.format.specs.Reader.{Entry, entries, is_header, records}
 use Rattle.reader.specs.Spans.{entry_in, entries_from, listed, Ends, Ahead}
 use Rattle.reader.proofs.Tiling.{tiled_end}
 use Rattle.reader.proofs.Seeking.{first_ahead, header_later, kth_header}
@@ -39,7 +39,6 @@ pub record Passing (s : List ℕ) (word : ℕ) (marks : List ℕ) (k at : ℕ) :
   pub numbered : (j : ℕ) → get_elem? (records_in s) (k + j) ≡ get_elem? (records_from s at) j
   pub ahead : Ahead s at
   pub marks_ahead : Marks s marks
-  pub long : length marks ≡ 2048
 
 -- ---- the marks
 
@@ -68,15 +67,6 @@ pub marked_ahead : (s marks : List ℕ) (step at : ℕ) → Ahead s at → Marks
 unfolding marked
 marked_ahead s marks step at a m =
     chosen s (ltb (at / step) (length marks) && eqb (get_or marks (at / step) 0) 0) (set marks (at / step) at) marks (stored s marks at (at / step) a m) m
-
-as_long : (b : Bool) (xs ys : List ℕ) → length xs ≡ length ys → length (pick b xs ys) ≡ length ys
-unfolding pick
-as_long true xs ys e = e
-as_long false xs ys e = refl
-
-pub marked_long : (marks : List ℕ) (step at : ℕ) → length (marked step at marks) ≡ length marks
-unfolding marked
-marked_long marks step at = as_long _ (set marks (at / step) at) marks (length-set marks (at / step) at)
 
 -- where the search for a place starts
 module _ (marks : List ℕ) (step place : ℕ) where
@@ -163,7 +153,6 @@ start s word t =
       numbered = λ j. let m : 0 + j ≡ j = omega arith in rw m;
       ahead = first_ahead s t;
       marks_ahead = no_marks s 2048 t;
-      long = length-replicate {A = ℕ} 2048 0;
     }
 
 module _ {s : List ℕ} {word : ℕ} {marks : List ℕ} {k at : ℕ} (i : Passing s word marks k at) {end : ℕ} (e : Ends s at end) where
@@ -181,7 +170,6 @@ module _ {s : List ℕ} {word : ℕ} {marks : List ℕ} {k at : ℕ} (i : Passin
         numbered = λ n. i.numbered n ∙ rw e.rest (kth_header false (entry_in s at end) (listed (entries_from s end)) n t);
         ahead = ahead_on i.ahead e;
         marks_ahead = marks_on step same;
-        long = rw (same, marked_long marks step at) i.long;
       }
 
   -- a record
@@ -213,7 +201,6 @@ module _ {s : List ℕ} {word : ℕ} {marks : List ℕ} {k at : ℕ} (i : Passin
           numbered = λ n. let m : k + 1 + n ≡ k + suc n = omega arith in rw m (i.numbered (suc n) ∙ rw listed_first);
           ahead = ahead_on i.ahead e;
           marks_ahead = marks_on step same;
-          long = rw (same, marked_long marks step at) i.long;
         }
 
 pub ended : {s : List ℕ} {word : ℕ} {marks : List ℕ} {k at : ℕ} → Passing s word marks k at → length s ≤ at → saying 0 0 ≡ check_from s word 0 (records_in s)

@@ -1,8 +1,7 @@
 -- What the pass over a section keeps of the entries behind it, and the test of a record by the entry that stands there.
-use Rattle.std.specs.Prelude.{◌≡◌, Bool, true, false, ◌&&◌, List, ℕ, zero, suc, ◌/◌, ◌≤◌, T, leb, ltb, eqb, length, get_or, set}
+use Rattle.std.specs.Prelude.{Bool, true, false, ◌&&◌, List, ℕ, zero, suc, ◌/◌, leb, ltb, eqb, length, get_or, set}
 use Rattle.std.proofs.Math.Option.{Option, none, some}
 use Rattle.format.specs.Prelude.{pick, after, Result, onward, or_else}
-use Rattle.format.specs.Questions.{is_some}
 use Rattle.format.specs.Rules.{State, answer}
 use Rattle.format.specs.Reader.{Entry, entries, distance_back, header_at, parsed, run_to}
 use Rattle.reader.specs.Spans.{listed, Ahead}

@@ -8,15 +8,19 @@ ghost use Rattle.format.specs.Questions.{is_some};
 ghost use Rattle.format.specs.Reader.{distance_back, header_at, records, entries};
 ghost use Rattle.reader.specs.Spans.{entry_of, listed, Holds, Spans};
 ghost use Rattle.section_check.specs.Check.{length_of, check_from, check_section, Means};
-ghost use Rattle.section_check.specs.Places.{Marks, marked, mark_before, answers_in, passes_in};
+ghost use Rattle.section_check.specs.Answered.{checked_of};
+ghost use Rattle.section_check.specs.Places.{marked, mark_before, answers_in, passes_in};
 
-use crate::marks::Passed;
+use crate::marks::{Passed, Stretches};
+use format::{Question, Refusal};
 use operations::fields::{Position, read_le};
+use reader::entries::Entries;
 use reader::section::{Layout, Section, Span};
 
 pub mod marks;
 
 // What is answered: 0, or 11, 61 or 84; with 84 the first record that does not pass, counted from 0.
+// Kept: a number beside the record's, since C reads it.
 #[repr(C)]
 #[derive(Clone, Copy)]
 pub struct Checked {
@@ -48,6 +52,21 @@ pub fn mark_before(marks: &[usize], step: usize, place: usize) -> usize
     }
 }
 
+impl<const N: usize> Stretches<N> {
+    // The entry at a place was passed.
+    pub fn mark(&mut self, at: usize)
+        ensures { (self.new.marks ≡ marked self.old.step at self.old.marks) × (self.new.step ≡ self.old.step) }
+    {
+        mark(&mut self.marks, self.step, at);
+    }
+
+    pub fn before(&self, place: usize) -> usize
+        ensures { result ≡ mark_before self.now.step place self.now.marks }
+    {
+        mark_before(&self.marks, self.step, place)
+    }
+}
+
 // ---- a record
 
 // The length of a record's function.
@@ -68,17 +87,17 @@ fn size_of(s: &[u8], fde: Span) -> Option<u64>
 impl<'a> Passed<'a> {
     // The header of a record.
     fn header_of(&self, fde: Span) -> Option<Span>
-        requires { Holds self.now.section.now.bytes.now fde × Marks self.now.section.now.bytes.now self.now.marks.now }
+        requires { Holds self.now.section.now.bytes.now fde }
         ensures { Spans self.now.section.now.bytes.now result (after (distance_back (entry_of self.now.section.now.bytes.now fde)) λ place. header_at false place fde.at (listed (entries self.now.section.now.bytes.now))) }
     {
         let place = fde.distance_back(self.section.bytes)?;
-        let from = mark_before(self.marks, self.step, place);
+        let from = self.stretches.before(place);
         self.section.header_from(from, place, fde.at)
     }
 
     // Whether the reader answers for register 0 at offset p of a record.
     fn answers_at(&self, fde: Span, p: u64) -> bool
-        requires { Holds self.now.section.now.bytes.now fde × Marks self.now.section.now.bytes.now self.now.marks.now }
+        requires { Holds self.now.section.now.bytes.now fde }
         ensures { result ≡ answers_in self.now.section.now.bytes.now self.now.section.now.layout.word (entry_of self.now.section.now.bytes.now fde) p }
     {
         let Some(cie) = self.header_of(fde) else {
@@ -92,7 +111,7 @@ impl<'a> Passed<'a> {
 
     // Whether a record passes: one read, at the last offset.
     fn passes(&self, fde: Span) -> bool
-        requires { Holds self.now.section.now.bytes.now fde × Marks self.now.section.now.bytes.now self.now.marks.now }
+        requires { Holds self.now.section.now.bytes.now fde }
         ensures { result ≡ passes_in self.now.section.now.bytes.now self.now.section.now.layout.word (entry_of self.now.section.now.bytes.now fde) }
     {
         let Some(n) = size_of(self.section.bytes, fde) else {
@@ -108,63 +127,52 @@ impl<'a> Passed<'a> {
 // ---- the section
 
 // The records, one after the other: 84 with the first that does not pass.
-fn check_records(section: &Section) -> Checked
+fn check_records(section: &Section) -> Result<(), Refusal>
     requires { (section.now.layout.debug ≡ false) × T (is_some (entries section.now.bytes.now)) }
-    ensures { result ≡ check_from section.now.bytes.now section.now.layout.word 0 (records false (listed (entries section.now.bytes.now))) }
+    ensures { checked_of result ≡ check_from section.now.bytes.now section.now.layout.word 0 (records false (listed (entries section.now.bytes.now))) }
 {
     let s = section.bytes;
     // A frame above 32 KiB is probed in a loop, for which the compiler takes a register that may be in use; with 2,048 marks it stays below.
-    let step = s.len() / 2048 + 1;
-    let mut marks = [0usize; 2048];
+    let mut stretches = Stretches {
+        marks: [0; 2048],
+        step: s.len() / 2048 + 1,
+    };
     let mut k = 0;
-    let mut next = 0;
-    // Kept: a `while`, which moves by each entry's length.
-    'entries: while next < s.len() {
-        let entry = Span {
-            at: next,
-            end: reader::entries::past(s, next),
-        };
-        next = entry.end;
-        mark(&mut marks, step, entry.at);
+    'entries: for entry in Entries::new(s) {
+        stretches.mark(entry.at);
         if entry.is_header(s, false) {
             continue 'entries;
         }
         let passed = Passed {
             section: &*section,
-            marks: &marks,
-            step,
+            stretches: &stretches,
         };
         if !passed.passes(entry) {
-            return Checked {
-                number: 84,
-                record: k,
-            };
+            return Err(Refusal {
+                question: Question::EveryOffset,
+                position: k,
+            });
         }
         k += 1;
     }
-    Checked {
-        number: 0,
-        record: 0,
-    }
+    Ok(())
 }
 
-// Whether an eh_frame section tiles and the reader answers at every offset below each record's length, with this word.
-#[unsafe(no_mangle)]
-pub extern "C" fn unwind_check_section(section: &[u8], word: u64) -> Checked
-    ensures value { result ≡ check_section section.now word }
-    ensures means { Means section.now word result }
+// The questions in order: the word, the entries, and the records.
+fn check(section: &[u8], word: u64) -> Result<(), Refusal>
+    ensures { checked_of result ≡ check_section section.now word }
 {
     if !numbers::is_word(word) {
-        return Checked {
-            number: 11,
-            record: 0,
-        };
+        return Err(Refusal {
+            question: Question::Interface,
+            position: 0,
+        });
     }
     if !reader::entries::tiles(section) {
-        return Checked {
-            number: 61,
-            record: 0,
-        };
+        return Err(Refusal {
+            question: Question::Tiling,
+            position: 0,
+        });
     }
     let none = [];
     let section = Section {
@@ -173,4 +181,22 @@ pub extern "C" fn unwind_check_section(section: &[u8], word: u64) -> Checked
         layout: Layout { debug: false, word },
     };
     check_records(&section)
+}
+
+// Whether an eh_frame section tiles and the reader answers at every offset below each record's length, with this word.
+#[unsafe(no_mangle)]
+pub extern "C" fn unwind_check_section(section: &[u8], word: u64) -> Checked
+    ensures value { result ≡ check_section section.now word }
+    ensures means { Means section.now word result }
+{
+    match check(section, word) {
+        Ok(()) => Checked {
+            number: 0,
+            record: 0,
+        },
+        Err(refusal) => Checked {
+            number: refusal.question.number(),
+            record: refusal.position,
+        },
+    }
 }

@@ -5,12 +5,13 @@ ghost use Rattle.std.specs.Prelude.{◌≡◌};
 ghost use Rattle.format.proofs.Asked.{option_of};
 ghost use Rattle.format.specs.Lists.{relocations_of};
 ghost use Rattle.format.specs.Questions.{relaxed_table, given_of, room_in};
+ghost use Rattle.format.specs.Coded.{numbered_at};
 ghost use Rattle.format.specs.Answers.{Writes};
 ghost use Rattle.call_sites.specs.Reads.{marked_of};
 ghost use Rattle.sites_back.specs.Back.{table_place, ReadBack};
 
 use call_sites::Site;
-use format::{Counts, Refusal};
+use lists::output::WrittenAnd;
 use reader::{entries, location};
 
 const ELF: u64 = 0;
@@ -30,13 +31,6 @@ fn table_place(section: &[u8], relocations: &[u64], k: u64) -> Option<u64>
     Some(place as u64)
 }
 
-// What the writer answered, and the site that was read.
-#[derive(Clone, Copy)]
-pub struct WrittenAndRead {
-    pub outcome: Result<Option<Counts>, Refusal>,
-    pub site: Site,
-}
-
 // eh_frame's writer, and then the reader of call sites on what it wrote, at the place that the relocation of function k's record names. Where
 // the list was accepted and function k has landings whose ends fit 64 bits, the site is the first of them that covers the offset, or
 // none where none does, and the table's numbers are spelled shortest.
@@ -53,9 +47,9 @@ pub fn write_and_read_site(
     sites: &mut [u8],
     k: u64,
     offset: u64,
-) -> WrittenAndRead
-    ensures writes { Writes (relaxed_table 0 (given_of machine.now functions.now rows.now landings.now pairs.now) (room_in places.old bytes.old relocations.old sites.old)) result.outcome places.old places.new bytes.old bytes.new relocations.old relocations.new sites.old sites.new }
-    ensures read_back { ReadBack (given_of machine.now functions.now rows.now landings.now pairs.now) (relaxed_table 0 (given_of machine.now functions.now rows.now landings.now pairs.now) (room_in places.old bytes.old relocations.old sites.old)) k offset (marked_of result.site) }
+) -> WrittenAnd<Site>
+    ensures writes { Writes (relaxed_table 0 (given_of machine.now functions.now rows.now landings.now pairs.now) (room_in places.old bytes.old relocations.old sites.old)) (numbered_at result.outcome) places.old places.new bytes.old bytes.new relocations.old relocations.new sites.old sites.new }
+    ensures read_back { ReadBack (given_of machine.now functions.now rows.now landings.now pairs.now) (relaxed_table 0 (given_of machine.now functions.now rows.now landings.now pairs.now) (room_in places.old bytes.old relocations.old sites.old)) k offset (marked_of result.answer) }
 {
     let outcome = unwind::relaxed_table(
         machine,
@@ -75,6 +69,6 @@ pub fn write_and_read_site(
     let related = &relocations[..];
     // Where there is no table, a place outside all bytes.
     let place = table_place(&written[..n], &related[..m], k).unwrap_or(u64::MAX);
-    let site = call_sites::unwind_call_site(sites, place, offset);
-    WrittenAndRead { outcome, site }
+    let answer = call_sites::unwind_call_site(sites, place, offset);
+    WrittenAnd { outcome, answer }
 }

@@ -11,7 +11,6 @@ use borrow.Author.Tests.{eq-eqb, ne_eqb, le-leb, lt-leb}
 use Rattle.format.specs.Prelude.{pick}
 use Rattle.format.specs.Coded.{Outcome}
 use Rattle.std.specs.Prelude.{None, Ok, Err}
-use Rattle.format.specs.Coded.{refusal}
 use Rattle.format.specs.declared.Section.TheVariants.{Elf, Debug}
 use Rattle.format.specs.Machine.{machine_of, machine_ok}
 use Rattle.format.specs.Lists.{count, function_stride, lists_ok}
@@ -39,7 +38,7 @@ module _ (format f : ℕ) (machine : List ℕ) where
   debug_frame_no_functions e = rw (eq-eqb f 0 e) refl
 
   module _ (h : f ≢ 0) where
-    pub table_no_format : 4 < format → Err (refusal 11 0) ≡ table
+    pub table_no_format : 4 < format → Err (11, 0) ≡ table
     unfolding once_ready table_is_empty table_asks unless and_then ask pick outcome_of
     table_no_format l = rw (ne_eqb f 0 h, lt-leb format 4 l, le-leb 3 format (omega arith), ne_eqb format 2 (λ e. omega arith)) refl
 
@@ -47,25 +46,25 @@ module _ (format f : ℕ) (machine : List ℕ) where
     unfolding once_ready table_is_empty pick outcome_of
     table_no_table l m = rw (ne_eqb f 0 h, le-leb format 4 l, le-leb 3 format m) refl
 
-    pub table_no_mach_o : format ≡ 2 → Err (refusal 78 0) ≡ table
+    pub table_no_mach_o : format ≡ 2 → Err (78, 0) ≡ table
     unfolding once_ready table_is_empty table_asks unless and_then ask pick outcome_of
     table_no_mach_o e = rw (ne_eqb f 0 h, lt-leb 3 format (omega arith), eq-eqb format 2 e) refl
 
     module _ (l : format < 3) (m : format ≢ 2) where
-      pub table_no_machine : machine_ok machine ≡ false → Err (refusal 11 0) ≡ table
+      pub table_no_machine : machine_ok machine ≡ false → Err (11, 0) ≡ table
       unfolding once_ready table_is_empty table_asks unless and_then ask pick outcome_of
       table_no_machine e = rw (ne_eqb f 0 h, lt-leb 3 format l, ne_eqb format 2 m, le-leb format 4 (omega arith), e) refl
 
       module _ (ok : machine_ok machine ≡ true) where
-        pub table_no_word : format ≡ 1 → eqb (machine_of machine).word 8 ≡ false → Err (refusal 12 0) ≡ table
+        pub table_no_word : format ≡ 1 → eqb (machine_of machine).word 8 ≡ false → Err (12, 0) ≡ table
         unfolding once_ready table_is_empty table_asks unless and_then ask pick outcome_of
         table_no_word e w = rw (ne_eqb f 0 h, lt-leb 3 format l, ne_eqb format 2 m, le-leb format 4 (omega arith), ok, eq-eqb format 1 e, w) refl
 
-        pub table_unready_coff : format ≡ 1 → eqb (machine_of machine).word 8 ≡ true → Err (refusal 54 0) ≡ table
+        pub table_unready_coff : format ≡ 1 → eqb (machine_of machine).word 8 ≡ true → Err (54, 0) ≡ table
         unfolding once_ready table_is_empty table_asks unless and_then ask pick outcome_of
         table_unready_coff e w = rw (ne_eqb f 0 h, lt-leb 3 format l, ne_eqb format 2 m, le-leb format 4 (omega arith), ok, eq-eqb format 1 e, w) refl
 
-        pub table_unready : format ≢ 1 → Err (refusal 54 0) ≡ table
+        pub table_unready : format ≢ 1 → Err (54, 0) ≡ table
         unfolding once_ready table_is_empty table_asks unless and_then ask pick outcome_of
         table_unready e = rw (ne_eqb f 0 h, lt-leb 3 format l, ne_eqb format 2 m, le-leb format 4 (omega arith), ok, ne_eqb format 1 e) refl
 
@@ -74,11 +73,11 @@ module _ (format f : ℕ) (machine : List ℕ) where
     debug_frame_other e = rw (ne_eqb f 0 h, ne_eqb format 0 e) refl
 
     module _ (e : format ≡ 0) where
-      pub debug_frame_no_machine : machine_ok machine ≡ false → Err (refusal 11 0) ≡ debug_frame
+      pub debug_frame_no_machine : machine_ok machine ≡ false → Err (11, 0) ≡ debug_frame
       unfolding once_ready debug_frame_is_empty debug_frame_asks unless and_then ask pick outcome_of
       debug_frame_no_machine ok = rw (ne_eqb f 0 h, eq-eqb format 0 e, ok) refl
 
-      pub debug_frame_unready : machine_ok machine ≡ true → Err (refusal 54 0) ≡ debug_frame
+      pub debug_frame_unready : machine_ok machine ≡ true → Err (54, 0) ≡ debug_frame
       unfolding once_ready debug_frame_is_empty debug_frame_asks unless and_then ask pick outcome_of
       debug_frame_unready ok = rw (ne_eqb f 0 h, eq-eqb format 0 e, ok) refl
 

@@ -5,6 +5,7 @@
 ghost use Rattle.std.specs.Prelude.{◌≡◌, true, false, [], ◌+◌, ◌*◌, ◌≤◌, length, leb};
 ghost use Rattle.format.specs.Put.{put};
 ghost use Rattle.format.specs.Prelude.{all, pick};
+ghost use Rattle.format.specs.Coded.{numbered_at};
 ghost use Rattle.format.specs.Questions.{relaxed_table, relaxed_debug_frame, room_in, empty};
 ghost use Rattle.format.specs.Answers.{bit, outcome_of};
 ghost use Rattle.unwind.specs.Entries.{Exports};
@@ -13,7 +14,7 @@ ghost use Rattle.struct_entries.specs.Packed.{stored, stored_all, Packs};
 ghost use Rattle.struct_entries.specs.Checks.{check_of, CheckedRow};
 ghost use Rattle.struct_entries.specs.Entries.{needed, is_zero, ready_for, cleared, packed, once_ready, table_is_empty, table_asks, debug_frame_is_empty, debug_frame_asks, numbers_in, relaxed_table_of, relaxed_debug_frame_of};
 
-use format::{Counts, Refusal};
+use format::{Counts, Question, Refusal};
 use lists::FUNCTION_STRIDE;
 use rows::ROW_STRIDE;
 use rules::Order;
@@ -57,7 +58,7 @@ pub struct Function {
 // ---- the numbers that a struct means
 
 // A row's four.
-fn row_numbers(x: RowAt) -> [u64; 4]
+fn row_numbers(x: RowAt) -> [u64; ROW_STRIDE]
     ensures { result ≡ row_numbers x }
 {
     [
@@ -69,7 +70,7 @@ fn row_numbers(x: RowAt) -> [u64; 4]
 }
 
 // A function's eighteen.
-fn function_numbers(x: Function) -> [u64; 18]
+fn function_numbers(x: Function) -> [u64; FUNCTION_STRIDE]
     ensures { result ≡ function_numbers x }
 {
     [
@@ -132,8 +133,9 @@ fn put_record(numbers: &mut [u64], at: usize, i: usize, ns: &[u64])
 }
 
 // The structs of a list, one after the other from `at` on, each where it fits.
-// Kept: put_rows and put_functions, and their exports, are three lines each over arrays of two lengths; a trait that gives such an array would
-// need a const parameter and a law of its own, and be longer than the twin.
+// Kept: put_rows and put_functions, and their exports, are three lines each over arrays of two lengths. One function over both, with
+// a closure that gives the array, was tried: the prover does not cover a bound `Fn` whose answer's length is a const parameter. A trait
+// would need a ghost member and a law for each of the two, and be longer than the twin.
 fn put_rows(rows: &[RowAt], numbers: &mut [u64], at: usize)
     ensures { numbers.new ≡ stored_all row_numbers numbers.old at rows.now }
 {
@@ -231,6 +233,8 @@ struct Given<'a> {
 }
 
 // Kept: the lent lists stand one by one in what follows, since the contracts of unwind's entries, which they hand on, name each of them.
+// Kept: this one and the next differ in the entry that they call, and the entries take different lists. One function for both, by an
+// enum, would have to ask that the entry without call sites is lent none.
 fn packed_table(
     x: &Given,
     numbers: &mut [u64],
@@ -259,7 +263,7 @@ fn packed_table(
         sites,
     );
     clear(numbers, b);
-    unwind::written_of(outcome)
+    Written::from(outcome)
 }
 
 fn packed_debug_frame(
@@ -288,19 +292,19 @@ fn packed_debug_frame(
         relocations,
     );
     clear(numbers, b);
-    unwind::written_of(outcome)
+    Written::from(outcome)
 }
 
 // What a writer answers where the list is not ready: an empty result, 78, 11 or 12, else 54.
 fn table_without_numbers(x: &Given) -> Result<Option<Counts>, Refusal>
-    ensures { result ≡ outcome_of (once_ready (table_is_empty x.now.format x.now.functions) (table_asks x.now.format x.now.machine.now) false empty) }
+    ensures { numbered_at result ≡ outcome_of (once_ready (table_is_empty x.now.format x.now.functions) (table_asks x.now.format x.now.machine.now) false empty) }
 {
     if x.functions == 0 {
         return Ok(None);
     }
     if 4 < x.format {
         return Err(Refusal {
-            number: 11,
+            question: Question::Interface,
             position: 0,
         });
     }
@@ -309,32 +313,32 @@ fn table_without_numbers(x: &Given) -> Result<Option<Counts>, Refusal>
     }
     if x.format == 2 {
         return Err(Refusal {
-            number: 78,
+            question: Question::MachO,
             position: 0,
         });
     }
     if !lists::machine_ok(x.machine) {
         return Err(Refusal {
-            number: 11,
+            question: Question::Interface,
             position: 0,
         });
     }
     if x.format == 1 {
         if !lists::word_ok(lists::machine_of(x.machine)) {
             return Err(Refusal {
-                number: 12,
+                question: Question::X64Word,
                 position: 0,
             });
         }
     }
     Err(Refusal {
-        number: 54,
+        question: Question::OtherRoom,
         position: 0,
     })
 }
 
 fn debug_frame_without_numbers(x: &Given) -> Result<Option<Counts>, Refusal>
-    ensures { result ≡ outcome_of (once_ready (debug_frame_is_empty x.now.format x.now.functions) (debug_frame_asks x.now.machine.now) false empty) }
+    ensures { numbered_at result ≡ outcome_of (once_ready (debug_frame_is_empty x.now.format x.now.functions) (debug_frame_asks x.now.machine.now) false empty) }
 {
     if x.functions == 0 {
         return Ok(None);
@@ -344,50 +348,14 @@ fn debug_frame_without_numbers(x: &Given) -> Result<Option<Counts>, Refusal>
     }
     if !lists::machine_ok(x.machine) {
         return Err(Refusal {
-            number: 11,
+            question: Question::Interface,
             position: 0,
         });
     }
     Err(Refusal {
-        number: 54,
+        question: Question::OtherRoom,
         position: 0,
     })
-}
-
-// A writer on the list, which was ready or not; where it was not nothing is changed.
-fn table_in(
-    ok: bool,
-    x: &Given,
-    numbers: &mut [u64],
-    places: &mut [u64],
-    bytes: &mut [u8],
-    relocations: &mut [u64],
-    sites: &mut [u8],
-) -> Written
-    requires { ok ≡ true → needed x.now.functions x.now.rows ≤ length numbers.old }
-    ensures { Exports (once_ready (table_is_empty x.now.format x.now.functions) (table_asks x.now.format x.now.machine.now) ok (relaxed_table x.now.format (packed x.now.machine.now numbers.old x.now.functions x.now.rows x.now.landings.now x.now.pairs.now) (room_in places.old bytes.old relocations.old sites.old))) result places.old places.new bytes.old bytes.new relocations.old relocations.new sites.old sites.new × (numbers.new ≡ pick ok (cleared numbers.old (needed x.now.functions x.now.rows)) numbers.old) }
-{
-    if !ok {
-        return unwind::written_of(table_without_numbers(x));
-    }
-    packed_table(x, numbers, places, bytes, relocations, sites)
-}
-
-fn debug_frame_in(
-    ok: bool,
-    x: &Given,
-    numbers: &mut [u64],
-    places: &mut [u64],
-    bytes: &mut [u8],
-    relocations: &mut [u64],
-) -> Written
-    requires { ok ≡ true → needed x.now.functions x.now.rows ≤ length numbers.old }
-    ensures { Exports (once_ready (debug_frame_is_empty x.now.format x.now.functions) (debug_frame_asks x.now.machine.now) ok (relaxed_debug_frame x.now.format (packed x.now.machine.now numbers.old x.now.functions x.now.rows x.now.landings.now x.now.pairs.now) (room_in places.old bytes.old relocations.old []))) result places.old places.new bytes.old bytes.new relocations.old relocations.new [] [] × (numbers.new ≡ pick ok (cleared numbers.old (needed x.now.functions x.now.rows)) numbers.old) }
-{
-    if !ok {
-        return unwind::written_of(debug_frame_without_numbers(x));
-    }
-    packed_debug_frame(x, numbers, places, bytes, relocations)
 }
 
 // ---- lists of structs
@@ -412,7 +380,7 @@ pub extern "C" fn unwind_pack_rows(rows: &[RowAt], numbers: &mut [u64]) -> u64
     ensures { Packs (numbers_of row_numbers rows.now) numbers.old numbers.new result }
 {
     if !fits(rows.len(), ROW_STRIDE, numbers.len()) {
-        return 54;
+        return Question::OtherRoom.number();
     }
     put_rows(rows, numbers, 0);
     0
@@ -423,7 +391,7 @@ pub extern "C" fn unwind_pack_functions(functions: &[Function], numbers: &mut [u
     ensures { Packs (numbers_of function_numbers functions.now) numbers.old numbers.new result }
 {
     if !fits(functions.len(), FUNCTION_STRIDE, numbers.len()) {
-        return 54;
+        return Question::OtherRoom.number();
     }
     put_functions(functions, numbers, 0);
     0
@@ -456,7 +424,6 @@ pub extern "C" fn unwind_relaxed_table_of(
 ) -> Written
     ensures { Exports (relaxed_table_of format machine.now numbers.old functions.now rows.now landings.now pairs.now (room_in places.old bytes.old relocations.old sites.old)) result places.old places.new bytes.old bytes.new relocations.old relocations.new sites.old sites.new × (numbers.new ≡ numbers.old) }
 {
-    let ok = pack(functions, rows, numbers);
     let x = Given {
         machine,
         format,
@@ -465,7 +432,10 @@ pub extern "C" fn unwind_relaxed_table_of(
         functions: functions.len(),
         rows: rows.len(),
     };
-    table_in(ok, &x, numbers, places, bytes, relocations, sites)
+    if !pack(functions, rows, numbers) {
+        return Written::from(table_without_numbers(&x));
+    }
+    packed_table(&x, numbers, places, bytes, relocations, sites)
 }
 
 // unwind_relaxed_debug_frame in the same way.
@@ -484,7 +454,6 @@ pub extern "C" fn unwind_relaxed_debug_frame_of(
 ) -> Written
     ensures { Exports (relaxed_debug_frame_of format machine.now numbers.old functions.now rows.now landings.now pairs.now (room_in places.old bytes.old relocations.old [])) result places.old places.new bytes.old bytes.new relocations.old relocations.new [] [] × (numbers.new ≡ numbers.old) }
 {
-    let ok = pack(functions, rows, numbers);
     let x = Given {
         machine,
         format,
@@ -493,5 +462,8 @@ pub extern "C" fn unwind_relaxed_debug_frame_of(
         functions: functions.len(),
         rows: rows.len(),
     };
-    debug_frame_in(ok, &x, numbers, places, bytes, relocations)
+    if !pack(functions, rows, numbers) {
+        return Written::from(debug_frame_without_numbers(&x));
+    }
+    packed_debug_frame(&x, numbers, places, bytes, relocations)
 }

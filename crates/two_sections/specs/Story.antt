@@ -3,8 +3,7 @@ use Rattle.std.specs.Prelude.{◌≡◌, ℕ, ◌<◌}
 use Rattle.std.proofs.Math.Option.{none}
 use Rattle.format.specs.declared.Counts.{Counts}
 use Rattle.format.specs.Coded.{Outcome}
-use Rattle.std.specs.Prelude.{Some, None, Ok, Err}
-use Rattle.format.specs.Coded.{refusal}
+use Rattle.std.specs.Prelude.{Some, Ok}
 use Rattle.format.specs.Coded.{Reading}
 use Rattle.format.specs.Lists.{function_stride, count}
 use Rattle.format.specs.Questions.{Given, given_function}

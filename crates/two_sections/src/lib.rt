@@ -2,20 +2,20 @@
 #![tactic(auto)]
 
 ghost use Rattle.std.specs.Prelude.{◌≡◌, [], true, false};
+ghost use Rattle.format.specs.Coded.{numbered, numbered_at};
 ghost use Rattle.format.specs.Answers.{Writes};
 ghost use Rattle.format.specs.Questions.{given_of, room_in, relaxed_table, relaxed_debug_frame};
 ghost use Rattle.unwind.specs.Together.{reading_for};
 ghost use Rattle.two_sections.specs.Story.{OneStory};
 
-use format::{Counts, Refusal, Rules};
+use format::{Question, Rules};
+use lists::output::WrittenAnd;
 
 // What the writers of both sections answered, and what the reader answered of each.
 #[derive(Clone, Copy)]
 pub struct TwoSections {
-    pub eh: Result<Option<Counts>, Refusal>,
-    pub debug: Result<Option<Counts>, Refusal>,
-    pub of_eh: Result<Rules, u64>,
-    pub of_debug: Result<Rules, u64>,
+    pub eh: WrittenAnd<Result<Rules, Question>>,
+    pub debug: WrittenAnd<Result<Rules, Question>>,
 }
 
 // The list as ELF's eh_frame and as debug_frame, and the reader on exactly what was written of each: where both were accepted, and function
@@ -38,13 +38,13 @@ pub fn write_two_and_read(
     q: u16,
     p: u64,
 ) -> TwoSections
-    ensures writes { Writes (relaxed_table 0 (given_of machine.now functions.now rows.now landings.now pairs.now) (room_in places.old bytes.old relocations.old sites.old)) result.eh places.old places.new bytes.old bytes.new relocations.old relocations.new sites.old sites.new }
-    ensures writes_2 { Writes (relaxed_debug_frame 0 (given_of machine.now functions.now rows.now landings.now pairs.now) (room_in debug_places.old debug_bytes.old debug_relocations.old [])) result.debug debug_places.old debug_places.new debug_bytes.old debug_bytes.new debug_relocations.old debug_relocations.new [] [] }
-    ensures of_eh_value { result.of_eh ≡ reading_for false machine.now result.eh bytes.new relocations.new k q p }
-    ensures of_debug_value { result.of_debug ≡ reading_for true machine.now result.debug debug_bytes.new debug_relocations.new k q p }
-    ensures one_story { OneStory (given_of machine.now functions.now rows.now landings.now pairs.now) result.eh result.debug k p result.of_eh result.of_debug }
+    ensures writes { Writes (relaxed_table 0 (given_of machine.now functions.now rows.now landings.now pairs.now) (room_in places.old bytes.old relocations.old sites.old)) (numbered_at result.eh.outcome) places.old places.new bytes.old bytes.new relocations.old relocations.new sites.old sites.new }
+    ensures writes_2 { Writes (relaxed_debug_frame 0 (given_of machine.now functions.now rows.now landings.now pairs.now) (room_in debug_places.old debug_bytes.old debug_relocations.old [])) (numbered_at result.debug.outcome) debug_places.old debug_places.new debug_bytes.old debug_bytes.new debug_relocations.old debug_relocations.new [] [] }
+    ensures of_eh_value { numbered result.eh.answer ≡ reading_for false machine.now (numbered_at result.eh.outcome) bytes.new relocations.new k q p }
+    ensures of_debug_value { numbered result.debug.answer ≡ reading_for true machine.now (numbered_at result.debug.outcome) debug_bytes.new debug_relocations.new k q p }
+    ensures one_story { OneStory (given_of machine.now functions.now rows.now landings.now pairs.now) (numbered_at result.eh.outcome) (numbered_at result.debug.outcome) k p (numbered result.eh.answer) (numbered result.debug.answer) }
 {
-    let table = unwind::write_and_read(
+    let eh = unwind::write_and_read(
         false,
         machine,
         0,
@@ -60,7 +60,7 @@ pub fn write_two_and_read(
         q,
         p,
     );
-    let frame = unwind::write_and_read(
+    let debug = unwind::write_and_read(
         true,
         machine,
         0,
@@ -76,14 +76,5 @@ pub fn write_two_and_read(
         q,
         p,
     );
-    let eh = table.outcome;
-    let debug = frame.outcome;
-    let of_eh = table.reading;
-    let of_debug = frame.reading;
-    TwoSections {
-        eh,
-        debug,
-        of_eh,
-        of_debug,
-    }
+    TwoSections { eh, debug }
 }

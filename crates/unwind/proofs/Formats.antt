@@ -7,8 +7,7 @@ use mathlib.Core.List.{List}
 use borrow.Author.Tests.{eq-eqb, ne_eqb, le-leb, lt-leb}
 use Rattle.format.specs.Prelude.{pick}
 use Rattle.format.specs.Coded.{Outcome}
-use Rattle.std.specs.Prelude.{Some, None, Ok, Err}
-use Rattle.format.specs.Coded.{refusal}
+use Rattle.std.specs.Prelude.{None, Ok, Err}
 use Rattle.format.specs.declared.Section.TheVariants.{Elf, Debug}
 use Rattle.format.specs.Machine.{machine_of}
 use Rattle.format.specs.Lists.{count, function_stride}
@@ -22,7 +21,7 @@ module _ {p b r s : List ℕ} where
   unfolding outcome_of afterwards
   writes_empty a e = rw e (record { outcome = refl; placed = refl; stored = refl; related = refl; sited = refl })
 
-  pub writes_refused : (a : Answer) (n k : ℕ) → a ≡ refused n k → Writes a (Err (refusal n k)) p p b b r r s s
+  pub writes_refused : (a : Answer) (n k : ℕ) → a ≡ refused n k → Writes a (Err (n, k)) p p b b r r s s
   unfolding outcome_of afterwards
   writes_refused a n k e = rw e (record { outcome = refl; placed = refl; stored = refl; related = refl; sited = refl })
 

@@ -7,8 +7,7 @@ use mathlib.Core.List.{List, [], ◌∷◌}
 use lib.ListN.{length, take, get_or}
 use Rattle.format.specs.declared.Counts.{Counts}
 use Rattle.format.specs.Coded.{Outcome}
-use Rattle.std.specs.Prelude.{Some, None, Ok, Err}
-use Rattle.format.specs.Coded.{refusal}
+use Rattle.std.specs.Prelude.{Some, Ok}
 use Rattle.format.specs.Lists.{numbers_of}
 use Rattle.format.specs.Reader.{read}
 use Rattle.format.specs.Questions.{room_in, Answer, refused, empty, accepted}

@@ -4,8 +4,7 @@ use Rattle.std.proofs.Math.Option.{none, some}
 use Rattle.format.specs.Constants.{elf}
 use Rattle.format.specs.declared.Counts.{Counts}
 use Rattle.format.specs.Coded.{Outcome}
-use Rattle.std.specs.Prelude.{Some, None, Ok, Err}
-use Rattle.format.specs.Coded.{refusal}
+use Rattle.std.specs.Prelude.{Some, Ok}
 use Rattle.format.specs.Coded.{Reading}
 use Rattle.format.specs.Machine.{machine_of}
 use Rattle.format.specs.Questions.{Given, given_function}

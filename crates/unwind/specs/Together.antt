@@ -3,7 +3,6 @@ use Rattle.std.specs.Prelude.{ℕ, ◌*◌, Bool, List, get_or, take}
 use Rattle.format.specs.Prelude.{pick}
 use Rattle.format.specs.Coded.{Outcome}
 use Rattle.std.specs.Prelude.{Some, None, Ok, Err}
-use Rattle.format.specs.Coded.{refusal}
 use Rattle.format.specs.Coded.{Reading}
 use Rattle.format.specs.Lists.{relocation_stride}
 use Rattle.format.specs.Questions.{Given, Room, Answer, relaxed_table, relaxed_debug_frame}

@@ -2,6 +2,7 @@
 #![tactic(auto)]
 
 ghost use Rattle.std.specs.Prelude.{◌≡◌, ◌*◌, ◌≤◌, [], ◌∷◌, get_or};
+ghost use Rattle.format.specs.Coded.{numbered, numbered_at};
 ghost use Rattle.format.specs.Questions.{relaxed_table, relaxed_debug_frame, seh, given_of, room_in};
 ghost use Rattle.format.specs.RowCheck.{row_check_at};
 ghost use Rattle.format.specs.Reader.{read, shortest_at};
@@ -10,7 +11,8 @@ ghost use Rattle.unwind.specs.Demand.{Demanded};
 ghost use Rattle.unwind.specs.Together.{answer_for, bytes_in, relocs_in, reading_for};
 ghost use Rattle.unwind.specs.Entries.{read_numbers, written_numbers, Exports};
 
-use format::{CfaRule, Counts, Refusal, Rule, Rules, Section};
+use format::{CfaRule, Counts, Question, Refusal, Rule, Rules, Section};
+use lists::output::WrittenAnd;
 
 // ---- the writers
 
@@ -30,7 +32,7 @@ pub fn relaxed_table(
     relocations: &mut [u64],
     sites: &mut [u8],
 ) -> Result<Option<Counts>, Refusal>
-    ensures { Writes (relaxed_table format (given_of machine.now functions.now rows.now landings.now pairs.now) (room_in places.old bytes.old relocations.old sites.old)) result places.old places.new bytes.old bytes.new relocations.old relocations.new sites.old sites.new }
+    ensures { Writes (relaxed_table format (given_of machine.now functions.now rows.now landings.now pairs.now) (room_in places.old bytes.old relocations.old sites.old)) (numbered_at result) places.old places.new bytes.old bytes.new relocations.old relocations.new sites.old sites.new }
 {
     let listed = functions.len() / lists::FUNCTION_STRIDE;
     if listed == 0 {
@@ -61,13 +63,13 @@ pub fn relaxed_table(
             sites,
         ),
         2 => Err(Refusal {
-            number: 78,
+            question: Question::MachO,
             position: 0,
         }),
         3 => Ok(None),
         4 => Ok(None),
         _ => Err(Refusal {
-            number: 11,
+            question: Question::Interface,
             position: 0,
         }),
     }
@@ -85,7 +87,7 @@ pub fn table(
     relocations: &mut [u64],
     sites: &mut [u8],
 ) -> Result<Option<Counts>, Refusal>
-    ensures { Writes (relaxed_table format (given_of machine.now functions.now rows.now landings.now []) (room_in places.old bytes.old relocations.old sites.old)) result places.old places.new bytes.old bytes.new relocations.old relocations.new sites.old sites.new }
+    ensures { Writes (relaxed_table format (given_of machine.now functions.now rows.now landings.now []) (room_in places.old bytes.old relocations.old sites.old)) (numbered_at result) places.old places.new bytes.old bytes.new relocations.old relocations.new sites.old sites.new }
 {
     relaxed_table(
         machine,
@@ -110,7 +112,7 @@ pub fn seh(
     relocations: &mut [u64],
     info: &mut [u8],
 ) -> Result<Option<Counts>, Refusal>
-    ensures { Writes (seh functions.now codes.now (room_in markers.old bytes.old relocations.old info.old)) result markers.old markers.new bytes.old bytes.new relocations.old relocations.new info.old info.new }
+    ensures { Writes (seh functions.now codes.now (room_in markers.old bytes.old relocations.old info.old)) (numbered_at result) markers.old markers.new bytes.old bytes.new relocations.old relocations.new info.old info.new }
 {
     x64::seh(functions, codes, markers, bytes, relocations, info)
 }
@@ -128,7 +130,7 @@ pub fn relaxed_debug_frame(
     bytes: &mut [u8],
     relocations: &mut [u64],
 ) -> Result<Option<Counts>, Refusal>
-    ensures { Writes (relaxed_debug_frame format (given_of machine.now functions.now rows.now landings.now pairs.now) (room_in places.old bytes.old relocations.old [])) result places.old places.new bytes.old bytes.new relocations.old relocations.new [] [] }
+    ensures { Writes (relaxed_debug_frame format (given_of machine.now functions.now rows.now landings.now pairs.now) (room_in places.old bytes.old relocations.old [])) (numbered_at result) places.old places.new bytes.old bytes.new relocations.old relocations.new [] [] }
 {
     if functions.len() / lists::FUNCTION_STRIDE == 0 {
         return Ok(None);
@@ -163,7 +165,7 @@ pub fn debug_frame(
     bytes: &mut [u8],
     relocations: &mut [u64],
 ) -> Result<Option<Counts>, Refusal>
-    ensures { Writes (relaxed_debug_frame format (given_of machine.now functions.now rows.now landings.now []) (room_in places.old bytes.old relocations.old [])) result places.old places.new bytes.old bytes.new relocations.old relocations.new [] [] }
+    ensures { Writes (relaxed_debug_frame format (given_of machine.now functions.now rows.now landings.now []) (room_in places.old bytes.old relocations.old [])) (numbered_at result) places.old places.new bytes.old bytes.new relocations.old relocations.new [] [] }
 {
     relaxed_debug_frame(
         machine,
@@ -197,8 +199,8 @@ pub fn read(
     k: u64,
     q: u16,
     p: u64,
-) -> Result<Rules, u64>
-    ensures { result ≡ read section.now relocations.now kind word k q p }
+) -> Result<Rules, Question>
+    ensures { numbered result ≡ read section.now relocations.now kind word k q p }
 {
     reader::read(section, relocations, kind, word, k, q, p)
 }
@@ -208,7 +210,7 @@ pub fn read(
 // How many bytes, and how many numbers of relocations, were written.
 #[tactic(auto, unfolding(crate::specs::Together::bytes_in))]
 pub fn bytes_in(o: Result<Option<Counts>, Refusal>) -> usize
-    ensures { result ≡ bytes_in o }
+    ensures { result ≡ bytes_in (numbered_at o) }
 {
     match o {
         Ok(Some(c)) => c.bytes as usize,
@@ -219,8 +221,8 @@ pub fn bytes_in(o: Result<Option<Counts>, Refusal>) -> usize
 
 #[tactic(auto, unfolding(crate::specs::Together::relocs_in))]
 pub fn numbers_in(o: Result<Option<Counts>, Refusal>, room: usize) -> usize
-    requires { 5 * relocs_in o ≤ room }
-    ensures { result ≡ 5 * relocs_in o }
+    requires { 5 * relocs_in (numbered_at o) ≤ room }
+    ensures { result ≡ 5 * relocs_in (numbered_at o) }
 {
     match o {
         Ok(Some(c)) => relocs::RELOCATION_STRIDE * (c.relocations as usize),
@@ -233,10 +235,7 @@ pub fn numbers_in(o: Result<Option<Counts>, Refusal>, room: usize) -> usize
 pub fn word_in(machine: &[u64]) -> u64
     ensures { result ≡ get_or machine.now 0 0 }
 {
-    if machine.len() == 0 {
-        return 0;
-    }
-    machine[0]
+    machine.first().copied().unwrap_or(0)
 }
 
 // debug_frame's writer, or the other.
@@ -254,7 +253,7 @@ pub fn write(
     relocations: &mut [u64],
     sites: &mut [u8],
 ) -> Result<Option<Counts>, Refusal>
-    ensures { Writes (answer_for debug format (given_of machine.now functions.now rows.now landings.now pairs.now) (room_in places.old bytes.old relocations.old sites.old)) result places.old places.new bytes.old bytes.new relocations.old relocations.new sites.old sites.new }
+    ensures { Writes (answer_for debug format (given_of machine.now functions.now rows.now landings.now pairs.now) (room_in places.old bytes.old relocations.old sites.old)) (numbered_at result) places.old places.new bytes.old bytes.new relocations.old relocations.new sites.old sites.new }
 {
     if debug {
         return relaxed_debug_frame(
@@ -283,13 +282,6 @@ pub fn write(
     )
 }
 
-// What a writer answered, and what the reader answered of what it wrote.
-#[derive(Clone, Copy)]
-pub struct WrittenAndRead {
-    pub outcome: Result<Option<Counts>, Refusal>,
-    pub reading: Result<Rules, u64>,
-}
-
 // A writer, debug_frame's or the other, and then the reader on exactly what was written, with the writer's kind and word: demand 3 on running
 // code. Where the list was accepted the entries tile; and where function k has no relaxing labels and passes the row check and p is below its
 // length, the reading is what the function's rows give at p for register q. Where the writer refused, the reader is handed nothing.
@@ -308,10 +300,10 @@ pub fn write_and_read(
     k: u64,
     q: u16,
     p: u64,
-) -> WrittenAndRead
-    ensures writes { Writes (answer_for debug format (given_of machine.now functions.now rows.now landings.now pairs.now) (room_in places.old bytes.old relocations.old sites.old)) result.outcome places.old places.new bytes.old bytes.new relocations.old relocations.new sites.old sites.new }
-    ensures reading_value { result.reading ≡ reading_for debug machine.now result.outcome bytes.new relocations.new k q p }
-    ensures demanded { Demanded format (given_of machine.now functions.now rows.now landings.now pairs.now) result.outcome bytes.new k q p result.reading }
+) -> WrittenAnd<Result<Rules, Question>>
+    ensures writes { Writes (answer_for debug format (given_of machine.now functions.now rows.now landings.now pairs.now) (room_in places.old bytes.old relocations.old sites.old)) (numbered_at result.outcome) places.old places.new bytes.old bytes.new relocations.old relocations.new sites.old sites.new }
+    ensures reading_value { numbered result.answer ≡ reading_for debug machine.now (numbered_at result.outcome) bytes.new relocations.new k q p }
+    ensures demanded { Demanded format (given_of machine.now functions.now rows.now landings.now pairs.now) (numbered_at result.outcome) bytes.new k q p (numbered result.answer) }
 {
     let outcome = write(
         debug,
@@ -330,16 +322,16 @@ pub fn write_and_read(
     let m = numbers_in(outcome, relocations.len());
     let written = &bytes[..];
     let related = &relocations[..];
-    let reading = read(
+    let answer = read(
         &written[..n],
         &related[..m],
-        number(debug),
+        u64::from(debug),
         word_in(machine),
         k,
         q,
         p,
     );
-    WrittenAndRead { outcome, reading }
+    WrittenAnd { outcome, answer }
 }
 
 // ---- the C interface
@@ -384,53 +376,50 @@ struct Saving {
     value: u64,
 }
 
-#[tactic(auto, unfolding(format::specs::Answers::bit))]
-pub fn number(b: bool) -> u64
-    ensures { result ≡ bit b }
-{
-    u64::from(b)
-}
+impl From<CfaRule> for Address {
+    ghost from_gives = { λ c a. a.kind ∷ a.register ∷ a.offset ∷ [] ≡ cfa_numbers c };
 
-fn address_of(c: CfaRule) -> Address
-    ensures { result.kind ∷ result.register ∷ result.offset ∷ [] ≡ cfa_numbers c }
-{
-    match c {
-        CfaRule::Unset => Address {
-            kind: 0,
-            register: 0,
-            offset: 0,
-        },
-        CfaRule::Register(reg, z) => Address {
-            kind: 1,
-            register: reg as u64,
-            offset: numbers::bits(z),
-        },
+    fn from(rule: CfaRule) -> Address {
+        match rule {
+            CfaRule::Unset => Address {
+                kind: 0,
+                register: 0,
+                offset: 0,
+            },
+            CfaRule::Register(reg, z) => Address {
+                kind: 1,
+                register: u64::from(reg),
+                offset: numbers::bits(z),
+            },
+        }
     }
 }
 
-fn saving_of(r: Rule) -> Saving
-    ensures { result.kind ∷ result.value ∷ [] ≡ rule_numbers r }
-{
-    match r {
-        Rule::Unstated => Saving { kind: 0, value: 0 },
-        Rule::Undefined => Saving { kind: 1, value: 0 },
-        Rule::Saved(z) => Saving {
-            kind: 2,
-            value: numbers::bits(z),
-        },
-        Rule::SameValue => Saving { kind: 3, value: 0 },
-        Rule::InRegister(reg) => Saving {
-            kind: 4,
-            value: reg as u64,
-        },
+impl From<Rule> for Saving {
+    ghost from_gives = { λ r a. a.kind ∷ a.value ∷ [] ≡ rule_numbers r };
+
+    fn from(rule: Rule) -> Saving {
+        match rule {
+            Rule::Unstated => Saving { kind: 0, value: 0 },
+            Rule::Undefined => Saving { kind: 1, value: 0 },
+            Rule::Saved(z) => Saving {
+                kind: 2,
+                value: numbers::bits(z),
+            },
+            Rule::SameValue => Saving { kind: 3, value: 0 },
+            Rule::InRegister(reg) => Saving {
+                kind: 4,
+                value: u64::from(reg),
+            },
+        }
     }
 }
 
-fn rules_numbers(c: CfaRule, r: Rule, signing: bool, shortest: bool) -> Numbers
-    ensures { read_numbers result ≡ marked_numbers (Ok (record { cfa = c; rule = r; signing = signing })) shortest }
+fn rules_numbers(rules: Rules, shortest: bool) -> Numbers
+    ensures { read_numbers result ≡ marked_numbers (Ok rules) shortest }
 {
-    let a = address_of(c);
-    let b = saving_of(r);
+    let a = Address::from(rules.cfa);
+    let b = Saving::from(rules.rule);
     Numbers {
         number: 0,
         frame: a.kind,
@@ -438,22 +427,27 @@ fn rules_numbers(c: CfaRule, r: Rule, signing: bool, shortest: bool) -> Numbers
         frame_offset: a.offset,
         rule: b.kind,
         rule_value: b.value,
-        signing: number(signing),
-        shortest: number(shortest),
+        signing: u64::from(rules.signing),
+        shortest: u64::from(shortest),
     }
 }
 
+// A reading with the number of its question.
+fn with_number(r: Result<Rules, Question>) -> Result<Rules, u64>
+    ensures { result ≡ numbered r }
+{
+    let rules = r?;
+    Ok(rules)
+}
+
+// A question's number is any number here, since C may hand one on that the reader did not give.
 pub fn numbers_of(r: Result<Rules, u64>, shortest: bool) -> Numbers
     ensures { read_numbers result ≡ marked_numbers r shortest }
 {
     match r {
-        Ok(rules) => {
-            let cfa = rules.cfa;
-            let rule = rules.rule;
-            rules_numbers(cfa, rule, rules.signing, shortest)
-        }
-        Err(n) => Numbers {
-            number: n,
+        Ok(rules) => rules_numbers(rules, shortest),
+        Err(number) => Numbers {
+            number,
             frame: 0,
             frame_register: 0,
             frame_offset: 0,
@@ -465,35 +459,37 @@ pub fn numbers_of(r: Result<Rules, u64>, shortest: bool) -> Numbers
     }
 }
 
-#[tactic(auto, unfolding(format::specs::Answers::outcome_numbers))]
-pub fn written_of(o: Result<Option<Counts>, Refusal>) -> Written
-    ensures { written_numbers result ≡ outcome_numbers o }
-{
-    match o {
-        Ok(Some(c)) => Written {
-            number: 0,
-            position: 0,
-            places: c.places,
-            bytes: c.bytes,
-            relocations: c.relocations,
-            sites: c.sites,
-        },
-        Ok(None) => Written {
-            number: 0,
-            position: 0,
-            places: 0,
-            bytes: 0,
-            relocations: 0,
-            sites: 0,
-        },
-        Err(r) => Written {
-            number: r.number,
-            position: r.position,
-            places: 0,
-            bytes: 0,
-            relocations: 0,
-            sites: 0,
-        },
+impl From<Result<Option<Counts>, Refusal>> for Written {
+    ghost from_gives = { λ o w. written_numbers w ≡ outcome_numbers (numbered_at o) };
+
+    #[tactic(auto, unfolding(format::specs::Answers::outcome_numbers))]
+    fn from(outcome: Result<Option<Counts>, Refusal>) -> Written {
+        match outcome {
+            Ok(Some(c)) => Written {
+                number: 0,
+                position: 0,
+                places: c.places,
+                bytes: c.bytes,
+                relocations: c.relocations,
+                sites: c.sites,
+            },
+            Ok(None) => Written {
+                number: 0,
+                position: 0,
+                places: 0,
+                bytes: 0,
+                relocations: 0,
+                sites: 0,
+            },
+            Err(r) => Written {
+                number: r.question.number(),
+                position: r.position,
+                places: 0,
+                bytes: 0,
+                relocations: 0,
+                sites: 0,
+            },
+        }
     }
 }
 
@@ -513,7 +509,7 @@ pub extern "C" fn unwind_relaxed_table(
 ) -> Written
     ensures { Exports (relaxed_table format (given_of machine.now functions.now rows.now landings.now pairs.now) (room_in places.old bytes.old relocations.old sites.old)) result places.old places.new bytes.old bytes.new relocations.old relocations.new sites.old sites.new }
 {
-    written_of(relaxed_table(
+    Written::from(relaxed_table(
         machine,
         format,
         functions,
@@ -541,7 +537,7 @@ pub extern "C" fn unwind_relaxed_debug_frame(
 ) -> Written
     ensures { Exports (relaxed_debug_frame format (given_of machine.now functions.now rows.now landings.now pairs.now) (room_in places.old bytes.old relocations.old [])) result places.old places.new bytes.old bytes.new relocations.old relocations.new [] [] }
 {
-    written_of(relaxed_debug_frame(
+    Written::from(relaxed_debug_frame(
         machine,
         format,
         functions,
@@ -565,14 +561,14 @@ pub extern "C" fn unwind_seh(
 ) -> Written
     ensures { Exports (seh functions.now codes.now (room_in markers.old bytes.old relocations.old info.old)) result markers.old markers.new bytes.old bytes.new relocations.old relocations.new info.old info.new }
 {
-    written_of(seh(functions, codes, markers, bytes, relocations, info))
+    Written::from(seh(functions, codes, markers, bytes, relocations, info))
 }
 
 #[unsafe(no_mangle)]
 pub extern "C" fn unwind_row_check(functions: &[u64], rows: &[u64], k: u64) -> u64
     ensures { result ≡ bit (row_check_at functions.now rows.now k) }
 {
-    number(row_check(functions, rows, k))
+    u64::from(row_check(functions, rows, k))
 }
 
 #[unsafe(no_mangle)]
@@ -589,10 +585,10 @@ pub extern "C" fn unwind_read(
 {
     match reader::locate(section, relocations, kind, word, k) {
         Ok(l) => {
-            let rules = reader::rules_at(section, l, q, p);
+            let rules = with_number(reader::rules_at(section, l, q, p));
             let shortest = reader::shortest_at(section, l, p);
             numbers_of(rules, shortest)
         }
-        Err(n) => numbers_of(Err(n), false),
+        Err(question) => numbers_of(Err(question.number()), false),
     }
 }

@@ -4,10 +4,9 @@ use mathlib.Core.Option.{Option, none, some}
 use mathlib.Core.List.{List, [], ◌∷◌, ◌++◌, append_assoc, append-nil}
 use Prim.Native.Nat.{ℕ, suc, ◌+◌, ◌-◌, ◌<◌, ◌≤◌}
 use native.Mathlib.Omega.{arith}
-use native.Mathlib.Numerals.{add-one}
-use lib.ListN.{length, set, take}
-use lib.Seq.{take-suc-set}
+use lib.ListN.{length, length-append}
 use Rattle.format.specs.Prelude.{Result, good, bad, onward}
+use Rattle.format.proofs.Onward.{onward_assoc}
 use Rattle.walk.specs.declared.Frame.{Frame}
 use Rattle.walk.specs.Walk.{Source, Fault, Chain, Caller, Held, caller_of, ended, behind, or_ended, held_at, frames_f, return_undefined, held_by_none, too_many}
 
@@ -28,84 +27,67 @@ onto_ended : (fs : List Frame) (n : ℕ) → onto fs (ended n) ≡ good (record 
 unfolding onto ended onward
 onto_ended fs n = ap (λ (l : List Frame). good (record { frames = l; ending = n })) (append-nil fs)
 
-onward_assoc : {A B C : Type 0} (a : Result A) (f : A → Result B) (g : B → Result C) → onward a (λ x. onward (f x) g) ≡ onward (onward a f) g
-unfolding onward
-onward_assoc (good a) f g = refl
-onward_assoc (bad n) f g = refl
-
--- ---- a frame listed behind others
-
-listed_last : (fs : List Frame) (k : ℕ) (f : Frame) → length fs ≡ 64 → k < 64 → take (k + 1) (set fs k f) ≡ take k fs ++ (f ∷ [])
-listed_last fs k f l h = ap (λ (n : ℕ). take n (set fs k f)) (add-one k) ∙ take-suc-set fs k f (omega arith)
-
 -- ---- the loop
 
-pub record Going (src : Source) (e : Fault) (c₀ : Caller) (fs : List Frame) (k : ℕ) (c : Caller) : Type 0 where
-  pub inside : k ≤ 64
-  pub full : length fs ≡ 64
-  pub rest : onto (take k fs) (frames_f src e (64 - k) c) ≡ frames_f src e 64 c₀
+pub record Going (src : Source) (e : Fault) (c₀ : Caller) (fs : List Frame) (c : Caller) : Type 0 where
+  pub few : length fs ≤ 64
+  pub rest : onto fs (frames_f src e (64 - length fs) c) ≡ frames_f src e 64 c₀
 
-pub go_start : (src : Source) (e : Fault) (c : Caller) (fs : List Frame) → length fs ≡ 64 → Going src e c fs 0 c
-go_start src e c fs l = record { inside = omega arith; full = l; rest = onto_none (frames_f src e 64 c) }
+pub go_start : (src : Source) (e : Fault) (c : Caller) → Going src e c [] c
+go_start src e c = record { few = omega arith; rest = onto_none (frames_f src e 64 c) }
 
 -- the caller of a frame, and what follows
 abbrev pub step_by : Source → Fault → Held → Caller → Result (Option Caller)
 step_by src e h c = onward (src h.position h.offset) λ u. caller_of e.machine e.memory u c.slots
 
-module _ {src : Source} {e : Fault} {c₀ : Caller} {fs : List Frame} {k : ℕ} {c : Caller} (g : Going src e c₀ fs k c) where
-  module _ (below : k < 64) where
-    fuel : 64 - k ≡ suc (64 - (k + 1))
+module _ {src : Source} {e : Fault} {c₀ : Caller} {fs : List Frame} {c : Caller} (g : Going src e c₀ fs c) where
+  module _ (below : length fs < 64) where
+    fuel : 64 - length fs ≡ suc (64 - (length fs + 1))
     fuel = omega arith
 
-    pub go_unheld : held_at e c ≡ none → good (record { frames = take k fs; ending = held_by_none }) ≡ frames_f src e 64 c₀
+    pub go_unheld : held_at e c ≡ none → good (record { frames = fs; ending = held_by_none }) ≡ frames_f src e 64 c₀
     unfolding frames_f or_ended
-    go_unheld n = sym (onto_ended (take k fs) held_by_none) ∙ sym (ap (onto (take k fs)) (rw (fuel, n))) ∙ g.rest
+    go_unheld n = sym (onto_ended fs held_by_none) ∙ sym (ap (onto fs) (rw (fuel, n))) ∙ g.rest
 
     module _ (h : Held) (held : held_at e c ≡ some h) where
+      abbrev this : Frame
+      this = record { position = h.position; pc = c.pc }
+
       more : Option Caller → Result Chain
-      more o = or_ended return_undefined o (frames_f src e (64 - (k + 1)))
+      more o = or_ended return_undefined o (frames_f src e (64 - (length fs + 1)))
 
-      frame : frames_f src e (64 - k) c ≡ behind (record { position = h.position; pc = c.pc }) (onward (step_by src e h c) more)
+      frame : frames_f src e (64 - length fs) c ≡ behind this (onward (step_by src e h c) more)
       unfolding frames_f or_ended more
-      frame =
-          rw (fuel, held)
-          (ap (behind (record { position = h.position; pc = c.pc })) (onward_assoc (src h.position h.offset) (λ u. caller_of e.machine e.memory u c.slots) more))
+      frame = rw (fuel, held) (ap (behind this) (onward_assoc (src h.position h.offset) (λ u. caller_of e.machine e.memory u c.slots) more))
 
-      gone : onto (take (k + 1) (set fs k (record { position = h.position; pc = c.pc }))) (onward (step_by src e h c) more) ≡ frames_f src e 64 c₀
-      gone =
-          ap (λ (l : List Frame). onto l (onward (step_by src e h c) more)) (listed_last fs k (record { position = h.position; pc = c.pc }) g.full below)
-          ∙ sym (onto_behind (take k fs) (record { position = h.position; pc = c.pc }) (onward (step_by src e h c) more))
-          ∙ ap (onto (take k fs)) (sym frame) ∙ g.rest
+      gone : onto (fs ++ (this ∷ [])) (onward (step_by src e h c) more) ≡ frames_f src e 64 c₀
+      gone = sym (onto_behind fs this (onward (step_by src e h c) more)) ∙ ap (onto fs) (sym frame) ∙ g.rest
+
+      gone_by : {r : Result (Option Caller)} → step_by src e h c ≡ r → onto (fs ++ (this ∷ [])) (onward r more) ≡ frames_f src e 64 c₀
+      gone_by s = sym (ap (λ (r : Result (Option Caller)). onto (fs ++ (this ∷ [])) (onward r more)) s) ∙ gone
 
       pub go_refused : {n : ℕ} → step_by src e h c ≡ bad n → bad n ≡ frames_f src e 64 c₀
       unfolding onto onward
-      go_refused s = sym (ap (λ (r : Result (Option Caller)). onto (take (k + 1) (set fs k (record { position = h.position; pc = c.pc }))) (onward r more)) s) ∙ gone
+      go_refused s = gone_by s
 
-      pub go_undefined : step_by src e h c ≡ good none
-          → good (record { frames = take (k + 1) (set fs k (record { position = h.position; pc = c.pc })); ending = return_undefined }) ≡ frames_f src e 64 c₀
+      pub go_undefined : step_by src e h c ≡ good none → good (record { frames = fs ++ (this ∷ []); ending = return_undefined }) ≡ frames_f src e 64 c₀
       unfolding onward or_ended more
-      go_undefined s =
-          sym (onto_ended (take (k + 1) (set fs k (record { position = h.position; pc = c.pc }))) return_undefined)
-          ∙ sym (ap (λ (r : Result (Option Caller)). onto (take (k + 1) (set fs k (record { position = h.position; pc = c.pc }))) (onward r more)) s) ∙ gone
+      go_undefined s = sym (onto_ended (fs ++ (this ∷ [])) return_undefined) ∙ gone_by s
 
-      pub go_on : {d : Caller} → step_by src e h c ≡ good (some d) → length (set fs k (record { position = h.position; pc = c.pc })) ≡ 64
-          → Going src e c₀ (set fs k (record { position = h.position; pc = c.pc })) (k + 1) d
+      pub go_on : {d : Caller} → step_by src e h c ≡ good (some d) → Going src e c₀ (fs ++ (this ∷ [])) d
       unfolding onward or_ended more
-      go_on s l = record {
-        inside = omega arith;
-        full = l;
-        rest = sym (ap (λ (r : Result (Option Caller)). onto (take (k + 1) (set fs k (record { position = h.position; pc = c.pc }))) (onward r more)) s) ∙ gone;
-      }
+      go_on s =
+          let l : length (fs ++ (this ∷ [])) ≡ length fs + 1 = length-append fs (this ∷ []) in
+          record { few = omega (arith, l); rest = rw l (gone_by s) }
 
-  module _ (all : 64 ≤ k) where
-    pub full_unheld : held_at e c ≡ none → good (record { frames = take k fs; ending = held_by_none }) ≡ frames_f src e 64 c₀
-    unfolding frames_f or_ended
-    full_unheld n =
-        let z : 64 - k ≡ 0 = omega arith in
-        sym (onto_ended (take k fs) held_by_none) ∙ sym (ap (onto (take k fs)) (rw (z, n))) ∙ g.rest
+  module _ (all : 64 ≤ length fs) where
+    none_left : 64 - length fs ≡ 0
+    none_left = omega arith
 
-    pub full_held : (h : Held) → held_at e c ≡ some h → good (record { frames = take k fs; ending = too_many }) ≡ frames_f src e 64 c₀
+    pub full_unheld : held_at e c ≡ none → good (record { frames = fs; ending = held_by_none }) ≡ frames_f src e 64 c₀
     unfolding frames_f or_ended
-    full_held h s =
-        let z : 64 - k ≡ 0 = omega arith in
-        sym (onto_ended (take k fs) too_many) ∙ sym (ap (onto (take k fs)) (rw (z, s))) ∙ g.rest
+    full_unheld n = sym (onto_ended fs held_by_none) ∙ sym (ap (onto fs) (rw (none_left, n))) ∙ g.rest
+
+    pub full_held : (h : Held) → held_at e c ≡ some h → good (record { frames = fs; ending = too_many }) ≡ frames_f src e 64 c₀
+    unfolding frames_f or_ended
+    full_held h s = sym (onto_ended fs too_many) ∙ sym (ap (onto fs) (rw (none_left, s))) ∙ g.rest

@@ -9,7 +9,10 @@ use native.Mathlib.Numerals.{add-one}
 use lib.ListN.{length, get_or, set, take, drop, get_or-eq_default}
 use lib.Seq.{take-suc-set, take_all, drop-drop, set_out}
 use lib.Dec.{ltb}
-use Rattle.std.specs.Prelude.{None}
+use Rattle.std.specs.Prelude.{None, Some}
+use Rattle.std.specs.Borrow.{Bor}
+use Rattle.std.specs.Slice.{IsItemAt}
+use Rattle.std.specs.Option.{option_flatten, option_copied}
 use Rattle.std.specs.Prelude as code
 use Rattle.std.specs.Bool.{then_some}
 use Rattle.format.specs.Prelude.{pick, each}
@@ -31,6 +34,11 @@ slots_at (r ∷ rs) (suc j) = slots_at rs j
 
 pub slots_past : (rs : List (code.Option ℕ)) (j : ℕ) → length rs ≤ j → none ≡ get_or (slots rs) j none
 slots_past rs j h = sym (get_or-eq_default (slots rs) none (omega (arith, slots_length rs)))
+
+-- the register that `get` lends
+pub slots_get : (rs : List (code.Option ℕ)) (j : ℕ) (r : code.Option (Bor (code.Option ℕ))) → IsItemAt rs j r → slot_of (option_flatten (option_copied r)) ≡ get_or (slots rs) j none
+slots_get rs j None h = slots_past rs j h.3
+slots_get rs j (Some x) h = rw (h.3.1 None) (slots_at rs j)
 
 pub slots_set : (rs : List (code.Option ℕ)) (j : ℕ) (r : code.Option ℕ) → slots (set rs j r) ≡ set (slots rs) j (slot_of r)
 unfolding slots

@@ -5,21 +5,23 @@ use mathlib.Core.Option.{Option, none, some}
 use mathlib.Core.List.{List}
 use Prim.Native.Nat.{ℕ, zero, suc, ◌+◌, ◌-◌, ◌^◌, ◌<◌, ◌≤◌}
 use native.Mathlib.Omega.{arith}
-use borrow.Author.Tests.{le-ltb}
+use borrow.Author.Tests.{le-ltb, lt-ltb}
 use lib.ListN.{drop}
-use lib.Dec.{ltb}
-use lib.IntN.{ℤ, pos, negsuc}
-use lib.Signed.{lt_z, mag}
+use lib.Dec.{lt→ltb, ltb→lt}
+use lib.IntN.{ℤ, pos, negsuc, ◌+ℤ◌}
+use lib.Signed.{le_z_yes, lt_z_yes}
 use mir.Syntax.{w64}
-use mir.Val.{SFits, to_z, of_z}
-use mir.Facts.{to_z-of_z}
-use Rattle.std.specs.Prelude.{Some, None}
+use Rattle.std.specs.Prelude.{Some, None, unsigned_abs}
+use Rattle.std.specs.Prelude as code
+use Rattle.std.specs.Int.{FitsUnsigned}
+use Rattle.std.specs.Option.{SomeIff}
 use Rattle.format.proofs.Asked.{option_of}
-use Rattle.format.specs.Prelude.{pick, next, after}
+use Rattle.format.specs.Prelude.{next, after}
 use Rattle.format.specs.Leb.{read_little}
 use Rattle.format.specs.Reader.{require, value_or0}
 use Rattle.operations.specs.declared.fields.Position.{Position}
-use Rattle.format.proofs.Choice.{if-le, if-gt}
+use Rattle.format.proofs.Choice.{if-le, if-gt, either}
+use mir.Facts.{yes_leb}
 use Rattle.operations.specs.Positions.{little_at}
 use Rattle.operations.proofs.PositionLaws.{little_rest, little_none}
 use Rattle.walk.specs.Walk.{Memory, sum_of, load, looked_up}
@@ -34,44 +36,29 @@ pub number_none : (o : Option ℕ) → option_of o ≡ None → o ≡ none
 number_none none e = refl
 number_none (some n) e = let z : ◌≡◌ {A = ℕ} 0 1 = cc in absurd (omega arith)
 
--- ---- an address and an offset, as the code holds it: its bits, read back
+-- ---- an address and an offset
 
-neg_sum : (a : ℕ) (z : ℤ) → lt_z z (pos 0) ≡ true → sum_of a z ≡ pick (ltb (mag z) a) (some (a - suc (mag z))) none
+module _ (a n : ℕ) where
+  taken : suc n ≤ a → pos a +ℤ negsuc n ≡ pos (a - suc n)
+  taken h = rw (le-ltb a (suc n) h)
+
+  short : a < suc n → pos a +ℤ negsuc n ≡ negsuc (suc n - suc a)
+  short h = rw (lt-ltb a (suc n) h)
+
+small : (a n : ℕ) → a < 2 ^ 64 → FitsUnsigned w64 (pos (a - n))
+small a n h = (le_z_yes (yes_leb (omega arith)), lt_z_yes (lt→ltb (a - n) (2 ^ 64) (omega arith)))
+
+-- what `checked_add_signed` answers
+pub summed : (a : ℕ) (z : ℤ) (r : code.Option ℕ) → a < 2 ^ 64 → SomeIff r (FitsUnsigned w64 (pos a +ℤ z)) (unsigned_abs (pos a +ℤ z))
+    → r ≡ option_of (sum_of a z)
 unfolding sum_of require
-neg_sum a (pos n) h = let z : ◌≡◌ {A = ℕ} 0 1 = cc (le-ltb n 0 (omega arith)) in absurd (omega arith)
-neg_sum a (negsuc n) h = refl
-
-pos_sum : (a : ℕ) (z : ℤ) → lt_z z (pos 0) ≡ false → sum_of a z ≡ pick (ltb (a + mag z) (2 ^ 64)) (some (a + mag z)) none
-unfolding sum_of require
-pos_sum a (pos n) h = refl
-pos_sum a (negsuc n) h = let z : ◌≡◌ {A = ℕ} 0 1 = cc in absurd (omega arith)
-
-module _ (a : ℕ) (z : ℤ) (f : SFits w64 z) {m : ℕ} (same : m ≡ mag z) where
-  module _ (h : lt_z (to_z w64 (of_z w64 z)) (pos 0) ≡ true) where
-    down : sum_of a z ≡ pick (ltb (mag z) a) (some (a - suc (mag z))) none
-    down = neg_sum a z (rw (to_z-of_z f) at h)
-
-    pub below : m < a → Some (a - 1 - m) ≡ option_of (sum_of a z)
-    below l =
-        let k : suc (mag z) ≤ a = omega arith in
-        let d : a - 1 - m ≡ a - suc (mag z) = omega arith in
-        rw (down, d, if-le (suc (mag z)) a)
-
-    pub below_out : a ≤ m → None ≡ option_of (sum_of a z)
-    below_out l = let k : a < suc (mag z) = omega arith in rw (down, if-gt (suc (mag z)) a)
-
-  module _ (h : lt_z (to_z w64 (of_z w64 z)) (pos 0) ≡ false) where
-    up : sum_of a z ≡ pick (ltb (a + mag z) (2 ^ 64)) (some (a + mag z)) none
-    up = pos_sum a z (rw (to_z-of_z f) at h)
-
-    pub above : a + m < 2 ^ 64 → Some (a + m) ≡ option_of (sum_of a z)
-    above l =
-        let k : suc (a + mag z) ≤ 2 ^ 64 = omega arith in
-        let d : a + m ≡ a + mag z = omega arith in
-        rw (up, d, if-le (suc (a + mag z)) (2 ^ 64))
-
-    pub above_out : 2 ^ 64 ≤ a + m → None ≡ option_of (sum_of a z)
-    above_out l = let k : 2 ^ 64 < suc (a + mag z) = omega arith in rw (up, if-gt (suc (a + mag z)) (2 ^ 64))
+summed a (pos n) None l out =
+    either (suc (a + n)) (2 ^ 64) (λ h. absurd (out (le_z_yes (yes_leb (omega arith)), lt_z_yes (lt→ltb (a + n) (2 ^ 64) h)))) (λ h. rw (if-gt (suc (a + n)) (2 ^ 64)))
+summed a (pos n) (Some x) l given = let h : suc (a + n) ≤ 2 ^ 64 = ltb→lt (a + n) (2 ^ 64) given.0.1.lt in rw (if-le (suc (a + n)) (2 ^ 64), given.1)
+summed a (negsuc n) None l out =
+    either (suc n) a (λ h. absurd (out (rw (taken a n h) (small a (suc n) l)))) (λ h. rw (if-gt (suc n) a))
+summed a (negsuc n) (Some x) l given =
+    either (suc n) a (λ h. rw (if-le (suc n) a, given.1, le-ltb a (suc n) h)) (λ h. let f = rw (lt-ltb a (suc n) h) at given.0.0.le in absurd f)
 
 -- ---- words
 
@@ -112,12 +99,9 @@ after_is o k e = rw (number_is o e)
 
 -- ---- where a caller is looked up
 
-pub up_zero : {signal : Bool} (a : ℕ) → signal ≡ false → a ≡ 0 → None ≡ option_of (looked_up signal a)
+pub up_by : {signal : Bool} (a : ℕ) (r : code.Option ℕ) → signal ≡ false → SomeIff r (1 ≤ a) (a - 1) → r ≡ option_of (looked_up signal a)
 unfolding looked_up
-up_zero zero e h = rw e
-up_zero (suc a) e h = absurd (omega arith)
-
-pub up_before : {signal : Bool} (a : ℕ) → signal ≡ false → (a ≡ 0 → ⊥) → Some (a - 1) ≡ option_of (looked_up signal a)
-unfolding looked_up
-up_before zero e h = absurd (h refl)
-up_before (suc a) e h = let d : suc a - 1 ≡ a = omega arith in rw (e, d)
+up_by zero None e h = rw e
+up_by zero (Some x) e h = absurd (omega (arith, h.0))
+up_by (suc a) None e h = absurd (h (omega arith))
+up_by (suc a) (Some x) e h = let d : suc a - 1 ≡ a = omega arith in rw (e, h.1, d)

@@ -9,7 +9,8 @@ use lib.IntN.{ℤ}
 use Rattle.std.specs.Prelude.{Some, None, Err}
 use Rattle.std.specs.Prelude as code
 use Rattle.std.specs.Option.{ok_or}
-use Rattle.format.specs.Coded.{result_of}
+use Rattle.format.specs.Coded.{result_of, numbered}
+use Rattle.format.specs.declared.question.Question.TheVariants.{Stack}
 use Rattle.format.proofs.Asked.{option_of}
 use Rattle.format.specs.Prelude.{after, good, bad, onward, or_else}
 use Rattle.format.specs.declared.CfaRule.{CfaRule}
@@ -27,7 +28,7 @@ module _ (m : Memory) (cfa : ℕ) (z : ℤ) where
   unfolding saved onward or_else
   saved_is e = rw (number_is (after (sum_of cfa z) (load m)) (sym e))
 
-in_range : (o : Option ℕ) → ok_or (option_of o) 74 ≡ result_of (or_else o 74)
+in_range : (o : Option ℕ) → numbered (ok_or (option_of o) Stack) ≡ result_of (or_else o 74)
 unfolding or_else
 in_range none = refl
 in_range (some n) = refl
@@ -42,7 +43,7 @@ module _ (before : List Slot) {rule : CfaRule} where
     unfolding frame_address onward or_else
     address_absent f = rw (e, ← f)
 
-    pub address_at : {a : ℕ} → some a ≡ get_or before reg none → {r : code.Option ℕ} → r ≡ option_of (sum_of a z) → ok_or r 74 ≡ result_of (frame_address rule before)
+    pub address_at : {a : ℕ} → some a ≡ get_or before reg none → {r : code.Option ℕ} → r ≡ option_of (sum_of a z) → numbered (ok_or r Stack) ≡ result_of (frame_address rule before)
     unfolding frame_address onward or_else
     address_at {a} f g = rw (e, ← f, g) (in_range (sum_of a z))
 

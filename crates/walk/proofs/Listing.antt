@@ -4,9 +4,8 @@ use mathlib.Core.List.{List, [], ◌∷◌}
 use Prim.Native.Nat.{ℕ, ◌+◌, ◌*◌, ◌<◌, ◌≤◌}
 use native.Mathlib.Omega.{arith}
 use native.Mathlib.Numerals.{add-one}
-use lib.ListN.{length, get_or, set, take, drop, drop_of_length-le}
-use lib.Seq.{drop-cons, length-take-le}
-use Rattle.std.proofs.lemmas.List.{get_or-take}
+use lib.ListN.{length, get_or, set, drop, drop_of_length-le}
+use lib.Seq.{drop-cons}
 use Rattle.format.specs.Put.{put}
 use Rattle.format.proofs.Storing.{Storing}
 use Rattle.format.proofs.Storing as storing
@@ -21,46 +20,40 @@ frames_length (f ∷ fs) = omega (arith, frames_length fs)
 abbrev no_frame : Frame
 no_frame = record { position = 0; pc = 0 }
 
-pub record Listing (fs : List Frame) (n : ℕ) (xs₀ xs : List ℕ) (i : ℕ) : Type 0 where
-  pub inside : i ≤ n
-  pub few : n ≤ length fs
-  pub room : 2 * n ≤ length xs
+pub record Listing (fs : List Frame) (xs₀ xs : List ℕ) (i : ℕ) : Type 0 where
+  pub inside : i ≤ length fs
+  pub room : 2 * length fs ≤ length xs
   pub same_length : length xs ≡ length xs₀
-  pub storing : Storing xs₀ xs 0 (2 * i) (frame_numbers (take n fs)) (frame_numbers (drop i (take n fs)))
+  pub storing : Storing xs₀ xs 0 (2 * i) (frame_numbers fs) (frame_numbers (drop i fs))
 
-pub list_start : (fs : List Frame) (n : ℕ) (xs : List ℕ) → n ≤ length fs → 2 * n ≤ length xs → Listing fs n xs xs 0
-list_start fs n xs few h = record {
+pub list_start : (fs : List Frame) (xs : List ℕ) → 2 * length fs ≤ length xs → Listing fs xs xs 0
+list_start fs xs h = record {
   inside = omega arith;
-  few = few;
   room = h;
   same_length = refl;
-  storing = storing.start (omega (arith, frames_length (take n fs), length-take-le n fs few));
+  storing = storing.start (omega (arith, frames_length fs));
 }
 
-module _ {fs : List Frame} {n : ℕ} {xs₀ xs : List ℕ} {i : ℕ} (k : Listing fs n xs₀ xs i) where
-  all_listed : length (take n fs) ≡ n
-  all_listed = length-take-le n fs k.few
-
-  module _ (h : i < n) where
-    one_more : frame_numbers (drop i (take n fs)) ≡ (get_or fs i no_frame).position ∷ (get_or fs i no_frame).pc ∷ frame_numbers (drop (i + 1) (take n fs))
+module _ {fs : List Frame} {xs₀ xs : List ℕ} {i : ℕ} (k : Listing fs xs₀ xs i) where
+  module _ (h : i < length fs) where
+    one_more : frame_numbers (drop i fs) ≡ (get_or fs i no_frame).position ∷ (get_or fs i no_frame).pc ∷ frame_numbers (drop (i + 1) fs)
     unfolding frame_numbers
-    one_more = rw (drop-cons (take n fs) i no_frame (omega (arith, all_listed)), get_or-take n fs i no_frame h, add-one i)
+    one_more = rw (drop-cons fs i no_frame h, add-one i)
 
-    both_stored : Storing xs₀ (set (set xs (2 * i) (get_or fs i no_frame).position) (2 * i + 1) (get_or fs i no_frame).pc) 0 (2 * i + 1 + 1) (frame_numbers (take n fs))
-        (frame_numbers (drop (i + 1) (take n fs)))
-    both_stored = storing.turn (storing.turn (subst (λ (l : List ℕ). Storing xs₀ xs 0 (2 * i) (frame_numbers (take n fs)) l) one_more k.storing))
+    both_stored : Storing xs₀ (set (set xs (2 * i) (get_or fs i no_frame).position) (2 * i + 1) (get_or fs i no_frame).pc) 0 (2 * i + 1 + 1) (frame_numbers fs)
+        (frame_numbers (drop (i + 1) fs))
+    both_stored = storing.turn (storing.turn (subst (λ (l : List ℕ). Storing xs₀ xs 0 (2 * i) (frame_numbers fs) l) one_more k.storing))
 
-    pub list_turn : Listing fs n xs₀ (set (set xs (2 * i) (get_or fs i no_frame).position) (2 * i + 1) (get_or fs i no_frame).pc) (i + 1)
+    pub list_turn : Listing fs xs₀ (set (set xs (2 * i) (get_or fs i no_frame).position) (2 * i + 1) (get_or fs i no_frame).pc) (i + 1)
     list_turn =
         let e : 2 * i + 1 + 1 ≡ 2 * (i + 1) = omega arith in
         record {
           inside = omega arith;
-          few = k.few;
           room = omega (arith, both_stored.kept, k.same_length, k.room);
           same_length = both_stored.kept;
-          storing = subst (λ (q : ℕ). Storing xs₀ (set (set xs (2 * i) (get_or fs i no_frame).position) (2 * i + 1) (get_or fs i no_frame).pc) 0 q (frame_numbers (take n fs)) (frame_numbers (drop (i + 1) (take n fs)))) e both_stored;
+          storing = subst (λ (q : ℕ). Storing xs₀ (set (set xs (2 * i) (get_or fs i no_frame).position) (2 * i + 1) (get_or fs i no_frame).pc) 0 q (frame_numbers fs) (frame_numbers (drop (i + 1) fs))) e both_stored;
         }
 
-  pub list_ended : n ≤ i → xs ≡ put xs₀ 0 (frame_numbers (take n fs))
+  pub list_ended : length fs ≤ i → xs ≡ put xs₀ 0 (frame_numbers fs)
   unfolding frame_numbers put
-  list_ended h = subst (λ (l : List Frame). put xs (2 * i) (frame_numbers l) ≡ put xs₀ 0 (frame_numbers (take n fs))) (drop_of_length-le (take n fs) (omega (arith, all_listed))) k.storing.same
+  list_ended h = subst (λ (l : List Frame). put xs (2 * i) (frame_numbers l) ≡ put xs₀ 0 (frame_numbers fs)) (drop_of_length-le fs h) k.storing.same

@@ -3,6 +3,8 @@ use Rattle.std.specs.Prelude.{ℕ, List, [], ◌∷◌, Some, None, Ok, Err}
 use Rattle.std.specs.Prelude as code
 use Rattle.std.proofs.Math.Option.{Option, none, some}
 use Rattle.format.specs.Prelude.{Result, good, bad}
+use Rattle.format.specs.Numbers.{number_of}
+use Rattle.format.specs.declared.question.Question.{Question}
 use Rattle.walk.specs.Recorded.{Slot, Trailer}
 use Rattle.walk.specs.Walk.{Held}
 use Rattle.walk.specs.Walk as walk
@@ -30,14 +32,14 @@ unfoldable pub slots : List (code.Option ℕ) → List Slot
 slots [] = []
 slots (r ∷ rs) = slot_of r ∷ slots rs
 
-abbrev pub left_of : code.Result (code.Option ℕ) ℕ → Result Slot
+abbrev pub left_of : code.Result (code.Option ℕ) Question → Result Slot
 left_of (Ok o) = good (slot_of o)
-left_of (Err n) = bad n
+left_of (Err q) = bad (number_of q)
 
 abbrev pub caller_as : Caller → walk.Caller
 caller_as c = record { slots = slots c.registers; pc = c.pc; exact = c.exact }
 
-abbrev pub step_of : code.Result (code.Option Caller) ℕ → Result (Option walk.Caller)
+abbrev pub step_of : code.Result (code.Option Caller) Question → Result (Option walk.Caller)
 step_of (Ok (Some c)) = good (some (caller_as c))
 step_of (Ok None) = good none
-step_of (Err n) = bad n
+step_of (Err q) = bad (number_of q)

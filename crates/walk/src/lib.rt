@@ -5,7 +5,7 @@
 ghost use Rattle.std.specs.Prelude.{◌≡◌, ◌+◌, ◌*◌, ◌≤◌, ◌<◌, length, take, drop, get_or, set};
 ghost use Rattle.std.proofs.Math.Option.{none, some};
 ghost use Rattle.format.specs.Prelude.{after};
-ghost use Rattle.format.specs.Coded.{result_of};
+ghost use Rattle.format.specs.Coded.{result_of, numbered};
 ghost use Rattle.format.proofs.Asked.{option_of};
 ghost use Rattle.format.specs.Put.{put};
 ghost use Rattle.format.specs.Leb.{read_little};
@@ -14,7 +14,7 @@ ghost use Rattle.walk.specs.Recorded.{matches, read_trailer, slots_of};
 ghost use Rattle.walk.specs.Walk.{sum_of, load, saved, left_by, frame_address, unsigned, looked_up, undefined, returned_to, holds, held_from, placed_of, frame_numbers};
 ghost use Rattle.walk.specs.Standing.{holder_of, trailer_of, memory_of, slot_of, slots, left_of, step_of};
 
-use format::{CfaRule, Rule};
+use format::{CfaRule, Question, Rule};
 use operations::fields::{Position, read_le};
 
 // ---- addresses
@@ -24,24 +24,6 @@ use operations::fields::{Position, read_le};
 pub struct Memory<'a> {
     pub address: u64,
     pub bytes: &'a [u8],
-}
-
-// An address and an offset, where 64 bits hold the sum.
-pub fn sum(a: u64, o: i64) -> Option<u64>
-    ensures { result ≡ option_of (sum_of a o) }
-{
-    if o < 0 {
-        let m = (-1 - o) as u64;
-        if m < a {
-            return Some(a - 1 - m);
-        }
-        return None;
-    }
-    let n = o as u64;
-    if n <= u64::MAX - a {
-        return Some(a + n);
-    }
-    None
 }
 
 // The 8 bytes at an address, where all of them are the stack's.
@@ -62,7 +44,7 @@ pub fn load(m: Memory, a: u64) -> Option<u64>
 fn saved(m: Memory, cfa: u64, o: i64) -> Option<u64>
     ensures { result ≡ option_of (after (sum_of cfa o) (load (memory_of m.entry))) }
 {
-    load(m, sum(cfa, o)?)
+    load(m, cfa.checked_add_signed(o)?)
 }
 
 // A return address: with signing on, the low 48 bits.
@@ -76,16 +58,13 @@ pub fn unsigned(signing: bool, a: u64) -> u64
 pub fn looked_up(exact: bool, a: u64) -> Option<u64>
     ensures { result ≡ option_of (looked_up exact a) }
 {
-    if exact {
-        return Some(a);
-    }
-    if a == 0 {
-        return None;
-    }
-    Some(a - 1)
+    if exact { Some(a) } else { a.checked_sub(1) }
 }
 
 // ---- the function that holds an address
+
+// Its numbers in the list: where it starts, and its length.
+pub const FUNCTION_STRIDE: usize = 2;
 
 fn holds(start: u64, size: u64, a: u64) -> bool
     ensures { result ≡ holds a (record { start = start; size = size }) }
@@ -97,9 +76,9 @@ fn holds(start: u64, size: u64, a: u64) -> bool
 fn holder_of(functions: &[u64], a: u64) -> Option<(u64, u64)>
     ensures { result ≡ holder_of (held_from a 0 (placed_of functions.now)) }
 {
-    for i in 0..functions.len() / 2 {
-        let start = functions[2 * i];
-        if holds(start, functions[2 * i + 1], a) {
+    for i in 0..functions.len() / FUNCTION_STRIDE {
+        let start = functions[FUNCTION_STRIDE * i];
+        if holds(start, functions[FUNCTION_STRIDE * i + 1], a) {
             return Some((i as u64, a - start));
         }
     }
@@ -183,23 +162,20 @@ pub fn registers(file: &[u8], at: usize, count: usize) -> [Option<u64>; 128]
 pub fn slot(registers: &[Option<u64>], reg: usize) -> Option<u64>
     ensures { slot_of result ≡ get_or (slots registers.now) reg none }
 {
-    if reg < registers.len() {
-        return registers[reg];
-    }
-    None
+    registers.get(reg).copied().flatten()
 }
 
-// The frame address, or 75 or 74.
-pub fn frame_address(rule: CfaRule, registers: &[Option<u64>]) -> Result<u64, u64>
-    ensures { result ≡ result_of (frame_address rule (slots registers.now)) }
+// The frame address.
+pub fn frame_address(rule: CfaRule, registers: &[Option<u64>]) -> Result<u64, Question>
+    ensures { numbered result ≡ result_of (frame_address rule (slots registers.now)) }
 {
     let CfaRule::Register(reg, o) = rule else {
-        return Err(75);
+        return Err(Question::Reached);
     };
-    let Some(a) = slot(registers, reg as usize) else {
-        return Err(75);
+    let Some(a) = slot(registers, usize::from(reg)) else {
+        return Err(Question::Reached);
     };
-    sum(a, o).ok_or(74)
+    a.checked_add_signed(o).ok_or(Question::Stack)
 }
 
 pub fn undefined(rule: Rule) -> bool
@@ -215,7 +191,7 @@ pub fn left_by(
     reg: usize,
     m: Memory,
     cfa: u64,
-) -> Result<Option<u64>, u64>
+) -> Result<Option<u64>, Question>
     ensures { left_of result ≡ left_by (memory_of m.entry) cfa (slots registers.now) reg rule }
 {
     match rule {
@@ -225,7 +201,7 @@ pub fn left_by(
         Rule::InRegister(other) => Ok(slot(registers, other as usize)),
         Rule::Saved(o) => {
             let Some(v) = saved(m, cfa, o) else {
-                return Err(74);
+                return Err(Question::Stack);
             };
             Ok(Some(v))
         }
@@ -252,17 +228,17 @@ pub struct Caller {
     pub exact: bool,
 }
 
-// The return address is what its register holds: 75 where that is absent.
+// The return address is what its register holds.
 pub fn returned(
     registers: [Option<u64>; 128],
     ret: u64,
     signing: bool,
     exact: bool,
-) -> Result<Option<Caller>, u64>
+) -> Result<Option<Caller>, Question>
     ensures { step_of result ≡ returned_to (slots registers) ret signing exact }
 {
     let Some(a) = slot(&registers, ret as usize) else {
-        return Err(75);
+        return Err(Question::Reached);
     };
     Ok(Some(Caller {
         registers,
@@ -273,20 +249,23 @@ pub fn returned(
 
 // ---- the frames
 
+// Its numbers in a list.
+pub const FRAME_STRIDE: usize = 2;
+
 // The position of its function in the list, and the pc or return address.
-#[derive(Clone, Copy)]
+#[derive(Clone, Copy, Default)]
 pub struct Frame {
     pub position: u64,
     pub pc: u64,
 }
 
-// The first n frames stored, two numbers each.
-pub fn store(frames: &[Frame], n: usize, out: &mut [u64])
-    requires { (n ≤ length frames.now) × (2 * n ≤ length out.old) }
-    ensures { out.new ≡ put out.old 0 (frame_numbers (take n frames.now)) }
+// The frames stored, two numbers each.
+pub fn store(frames: &[Frame], out: &mut [u64])
+    requires { 2 * length frames.now ≤ length out.old }
+    ensures { out.new ≡ put out.old 0 (frame_numbers frames.now) }
 {
-    for i in 0..n {
-        out[2 * i] = frames[i].position;
-        out[2 * i + 1] = frames[i].pc;
+    for i in 0..frames.len() {
+        out[FRAME_STRIDE * i] = frames[i].position;
+        out[FRAME_STRIDE * i + 1] = frames[i].pc;
     }
 }

@@ -7,7 +7,6 @@ use mathlib.Core.Option.{Option, none, some}
 use mathlib.Core.List.{List, [], ◌∷◌}
 use lib.Dec.{T, leb, eqb, leb→le, eqb→eq}
 use lib.ListN.{length, take, drop}
-use lib.Seq.{length-take-le}
 use mir.Facts.{and_yes}
 use Rattle.format.specs.Prelude.{pick, Read, next, after, Result, good, bad, onward, or_else}
 use Rattle.std.specs.Prelude.{Some, None, Ok, Err}
@@ -22,6 +21,9 @@ use Rattle.walk.specs.Recorded.{Slot, Trailer, matches, read_trailer, read_recor
 use Rattle.walk.specs.Walk.{Source, Memory, frame_numbers, frames_f, fitting, walk_by}
 use Rattle.walk.specs.Walk as walk
 use Rattle.walk.specs.Standing.{trailer_of}
+use Rattle.format.specs.Numbers.{number_of}
+use Rattle.format.specs.declared.question.Question.{Question}
+use Rattle.walked.specs.Endings.{ending_number}
 use Rattle.walked.specs.declared.chain.Chain.{Chain}
 use Rattle.walked.specs.Standing.{walked_of, fault_of}
 use Rattle.walked.specs.Entry.{chain_numbers, chain_stored}
@@ -123,29 +125,26 @@ pub refuses : {r : Result walk.Chain} {n : ℕ} {ns old : List ℕ} → r ≡ ba
 unfolding chain_numbers chain_stored
 refuses e h = (h ∙ rw e, rw e)
 
-module _ {r : code.Result Chain ℕ} (old : List ℕ) where
-  pub refused : {n : ℕ} {ns : List ℕ} → r ≡ Err n → ns ≡ n ∷ 0 ∷ 0 ∷ [] → Answers (onward (walked_of r) (fitting (length old))) ns old old
+module _ {r : code.Result Chain Question} (old : List ℕ) where
+  pub refused : {q : Question} {ns : List ℕ} → r ≡ Err q → ns ≡ number_of q ∷ 0 ∷ 0 ∷ [] → Answers (onward (walked_of r) (fitting (length old))) ns old old
   unfolding onward
   refused e h = refuses (rw e) h
 
-  module _ {c : Chain} (e : r ≡ Ok c) (few : c.count ≤ length c.frames) where
-    as_chain : onward (walked_of r) (fitting (length old)) ≡ fitting (length old) (record { frames = take c.count c.frames; ending = c.ending })
+  module _ {c : Chain} (e : r ≡ Ok c) where
+    as_chain : onward (walked_of r) (fitting (length old)) ≡ fitting (length old) (record { frames = c.frames.items; ending = ending_number c.ending })
     unfolding onward
     as_chain = rw e
 
-    counted : length (take c.count c.frames) ≡ c.count
-    counted = length-take-le c.count c.frames few
-
-    pub no_room : {ns : List ℕ} → length old / 2 < c.count → ns ≡ 54 ∷ 0 ∷ 0 ∷ [] → Answers (onward (walked_of r) (fitting (length old))) ns old old
+    pub no_room : {ns : List ℕ} → length old / 2 < length c.frames.items → ns ≡ 54 ∷ 0 ∷ 0 ∷ [] → Answers (onward (walked_of r) (fitting (length old))) ns old old
     unfolding fitting
-    no_room h k = refuses (as_chain ∙ if-gt (length (take c.count c.frames)) (length old / 2) _ (bad 54) (rw counted h)) k
+    no_room h k = refuses (as_chain ∙ if-gt (length c.frames.items) (length old / 2) _ (bad 54) h) k
 
-    pub stored : {new : List ℕ} → c.count ≤ length old / 2 → new ≡ put old 0 (frame_numbers (take c.count c.frames))
-        → Answers (onward (walked_of r) (fitting (length old))) (0 ∷ c.count ∷ c.ending ∷ []) old new
+    pub stored : {new : List ℕ} → length c.frames.items ≤ length old / 2 → new ≡ put old 0 (frame_numbers c.frames.items)
+        → Answers (onward (walked_of r) (fitting (length old))) (0 ∷ length c.frames.items ∷ ending_number c.ending ∷ []) old new
     unfolding fitting chain_numbers chain_stored
     stored h q =
-        let d = as_chain ∙ if-le (length (take c.count c.frames)) (length old / 2) (good _) (bad 54) (rw counted h) in
-        (rw (d, counted), rw d q)
+        let d = as_chain ∙ if-le (length c.frames.items) (length old / 2) (good _) (bad 54) h in
+        (rw d, rw d q)
 
 -- the answer of the walk that was made, as the walk of the definition
 pub answers_as : {x y r : Result walk.Chain} (f : walk.Chain → Result walk.Chain) (old : List ℕ) {ns new : List ℕ} → x ≡ y → r ≡ onward y f → Answers (onward x f) ns old new → Answers r ns old new

@@ -1,17 +1,20 @@
 -- The function that holds a frame, as the loop over frames meets it.
-use mathlib.Core.Path.{◌≡◌, refl, sym, ap, ap₂, ◌∙◌}
+use mathlib.Core.Path.{◌≡◌, refl, sym, ap₂}
 use mathlib.Core.Option.{Option, none, some}
 use mathlib.Core.List.{List}
-use Prim.Native.Nat.{ℕ, ◌≤◌}
+use Prim.Native.Nat.{ℕ, ◌≤◌, ◌<◌}
+use mathlib.Core.Bool.{true, false}
+use borrow.Author.Tests.{eqb-true, eqb-false}
+use lib.Dec.{eqb}
 use native.Mathlib.Omega.{arith}
-use lib.ListN.{take}
+use lib.ListN.{length}
 use Rattle.std.specs.Prelude.{Some, None}
-use Rattle.format.specs.Prelude.{after, good}
+use Rattle.format.specs.Prelude.{after}
 use Rattle.operations.proofs.PositionLaws.{both_are}
 use Rattle.walk.specs.declared.Frame.{Frame}
-use Rattle.walk.specs.Walk.{Source, Fault, Held, Caller, looked_up, held_from, held_at, frames_f}
+use Rattle.walk.specs.Walk.{Source, Fault, Held, Caller, looked_up, held_from, held_at}
 use Rattle.walk.specs.Standing.{holder_of}
-use Rattle.walk.proofs.Chains.{Going, full_unheld, full_held}
+use Rattle.walk.proofs.Chains.{Going}
 
 nobody : (o : Option Held) → None ≡ holder_of o → o ≡ none
 nobody none e = refl
@@ -31,13 +34,10 @@ module _ (e : Fault) (c : Caller) where
   unfolding held_at
   held_by h = holding _ h
 
--- behind 64 frames
-module _ {src : Source} {e : Fault} {c₀ : Caller} {fs : List Frame} {k : ℕ} {c : Caller} (g : Going src e c₀ fs k c) (h : 64 ≤ k) where
-  sixty_four : k ≡ 64
-  sixty_four = omega (arith, g.inside)
+-- the frames so far, by the loop's test
+module _ {src : Source} {e : Fault} {c₀ : Caller} {fs : List Frame} {c : Caller} (g : Going src e c₀ fs c) where
+  pub room : eqb (length fs) 64 ≡ false → length fs < 64
+  room t = let n = eqb-false (length fs) 64 t in omega (arith, g.few)
 
-  pub last_unheld : held_at e c ≡ none → good (record { frames = take 64 fs; ending = 2 }) ≡ frames_f src e 64 c₀
-  last_unheld d = ap (λ (n : ℕ). good (record { frames = take n fs; ending = 2 })) (sym sixty_four) ∙ full_unheld g h d
-
-  pub last_held : {k p : ℕ} → held_at e c ≡ some (record { position = k; offset = p }) → good (record { frames = take 64 fs; ending = 3 }) ≡ frames_f src e 64 c₀
-  last_held d = ap (λ (n : ℕ). good (record { frames = take n fs; ending = 3 })) (sym sixty_four) ∙ full_held g h _ d
+  pub no_room : eqb (length fs) 64 ≡ true → 64 ≤ length fs
+  no_room t = omega (arith, eqb-true (length fs) 64 t)

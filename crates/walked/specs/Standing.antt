@@ -1,5 +1,5 @@
 -- What the types of the code stand for, and the rules at an offset of a record that was located.
-use Rattle.std.specs.Prelude.{ℕ, Bool, true, false, List, take, Ok, Err}
+use Rattle.std.specs.Prelude.{ℕ, Bool, true, false, List, Ok, Err}
 use Rattle.std.specs.Prelude as code
 use Rattle.format.specs.Prelude.{pick, Result, good, bad, onward}
 use Rattle.format.specs.Rules.{AllRules, State, blank}
@@ -13,6 +13,9 @@ use Rattle.walk.specs.Standing.{slots}
 use Rattle.format.specs.declared.Machine.{Machine}
 use Rattle.walked.specs.declared.Place.{Place}
 use Rattle.walked.specs.declared.Section.{Section}
+use Rattle.format.specs.Numbers.{number_of}
+use Rattle.format.specs.declared.question.Question.{Question}
+use Rattle.walked.specs.Endings.{ending_number}
 use Rattle.walked.specs.declared.chain.Chain.{Chain}
 
 unfoldable pub state_in : List ℕ → Located → (p : ℕ) → Result State
@@ -54,15 +57,15 @@ source_at x = source_in x.section.now x.located x.p
 abbrev pub section_of : Section → Source
 section_of x = by_section x.bytes.now x.relocations.now x.kind
 
-abbrev pub all_left : code.Result (List (code.Option ℕ)) ℕ → Result (List Slot)
+abbrev pub all_left : code.Result (List (code.Option ℕ)) Question → Result (List Slot)
 all_left (Ok rs) = good (slots rs)
-all_left (Err n) = bad n
+all_left (Err q) = bad (number_of q)
 
 -- ---- the frames
 
-abbrev pub walked_of : code.Result Chain ℕ → Result walk.Chain
-walked_of (Ok c) = good (record { frames = take c.count c.frames; ending = c.ending })
-walked_of (Err n) = bad n
+abbrev pub walked_of : code.Result Chain Question → Result walk.Chain
+walked_of (Ok c) = good (record { frames = c.frames.items; ending = ending_number c.ending })
+walked_of (Err q) = bad (number_of q)
 
 abbrev pub fault_of : Machine → Memory → (functions : List ℕ) → Fault
 fault_of m memory functions = record { machine = m; memory = memory; functions = placed_of functions }

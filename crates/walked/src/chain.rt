@@ -1,14 +1,37 @@
-// The frames of a walk.
-ghost use Rattle.std.specs.Prelude.{◌≤◌};
+// The frames of a walk, and why it ended.
+ghost use Rattle.std.specs.Prelude.{◌≡◌};
+ghost use Rattle.walked.specs.Endings.{ending_number};
 
+use arrayvec::ArrayVec;
 use walk::Frame;
 
-// Up to 64 frames and why the walk ended.
-// Kept: a count beside the array, since a chain is Copy. Tried with arrayvec::ArrayVec<Frame, 64>: it is not Copy, and the derive is refused.
+// Why a walk ended.
 #[derive(Clone, Copy)]
+pub enum Ending {
+    // the return address is undefined
+    Undefined,
+    // no function holds the address
+    Unheld,
+    // a 65th frame would follow
+    TooMany,
+}
+
+impl Ending {
+    // What C reads.
+    pub fn number(self) -> u64
+        ensures { result ≡ ending_number self }
+    {
+        match self {
+            Ending::Undefined => 1,
+            Ending::Unheld => 2,
+            Ending::TooMany => 3,
+        }
+    }
+}
+
+// Up to 64 frames.
+#[derive(Drop)]
 pub struct Chain {
-    pub frames: [Frame; 64],
-    pub count: usize,
-    pub ending: u64,
-    pub ghost few: { count ≤ 64 },
+    pub frames: ArrayVec<Frame, 64>,
+    pub ending: Ending,
 }

@@ -3,6 +3,7 @@
 
 ghost use Rattle.std.specs.Prelude.{◌≡◌, true, false, [], ◌∷◌, ◌<◌, ◌≤◌, T, eqb, length, take, drop};
 ghost use Rattle.format.specs.Prelude.{pick, bad, onward};
+ghost use Rattle.format.specs.Numbers.{number_of};
 ghost use Rattle.format.specs.Machine.{is_word_size, machine_ok, machine_of};
 ghost use Rattle.format.specs.Rules.{rules_for};
 ghost use Rattle.format.specs.declared.Rule.TheVariants.{Unstated};
@@ -14,12 +15,13 @@ ghost use Rattle.walked.specs.Named.{names, operation_names, Marked, MarkedAll, 
 ghost use Rattle.walked.specs.Standing.{rules_at, ruled_at, source_at, section_of, all_left, walked_of, fault_of};
 ghost use Rattle.walked.specs.Faults.{fault_by};
 
-use crate::chain::Chain;
+use crate::chain::{Chain, Ending};
 use crate::fault::Fault;
 use crate::leaving::Leaving;
-use format::{Machine, Operation, Row, Rules};
-use operations::fields::Position;
+use arrayvec::ArrayVec;
+use format::{Machine, Operation, Question, Row, Rules};
 use reader::location::Located;
+use reader::operation::Operations;
 use walk::{Caller, Frame, Memory};
 
 pub mod chain;
@@ -86,14 +88,11 @@ fn mark_all(ops: &[u8], word: u64, start: Marks) -> Marks
     ensures { MarkedAll start.named result.named word ops.now }
 {
     let mut m = start;
-    let mut at = Position::START;
-    // Kept: a while, since what was read says where the next stands; the position is the cursor.
-    while at.at < ops.len() {
-        let Some((op, next)) = operations::operation(ops, at, word) else {
+    for read in Operations::new(ops, word) {
+        let Some((op, _)) = read else {
             return m;
         };
         m = mark_operation(m, op);
-        at = next;
     }
     m
 }
@@ -114,7 +113,7 @@ fn named(section: &[u8], l: Located) -> Marks
 
 impl Leaving<'_, '_> {
     // One register: kept where no operation names it, and else by the rule that the reader gives.
-    fn one(&self, named: bool, reg: usize, cfa: u64) -> Result<Option<u64>, u64>
+    fn one(&self, named: bool, reg: usize, cfa: u64) -> Result<Option<u64>, Question>
         requires { (reg < 128) × (named ≡ false → (rules_at self.now.at).rules reg ≡ Unstated) }
         ensures { left_of result ≡ left_by (memory_of self.now.memory) cfa (slots self.now.registers) reg ((rules_at self.now.at).rules reg) }
     {
@@ -126,7 +125,7 @@ impl Leaving<'_, '_> {
     }
 
     // All of them.
-    fn all_left(&self, cfa: u64) -> Result<[Option<u64>; 128], u64>
+    fn all_left(&self, cfa: u64) -> Result<[Option<u64>; 128], Question>
         ensures { all_left result ≡ left_from (λ reg. left_by (memory_of self.now.memory) cfa (slots self.now.registers) reg ((rules_at self.now.at).rules reg)) 0 128 }
     {
         let marks = named(self.at.section, self.at.located);
@@ -138,7 +137,7 @@ impl Leaving<'_, '_> {
     }
 
     // And the stack pointer, which is the frame address.
-    fn left(&self, cfa: u64) -> Result<[Option<u64>; 128], u64>
+    fn left(&self, cfa: u64) -> Result<[Option<u64>; 128], Question>
         ensures { all_left result ≡ left (memory_of self.now.memory) self.now.machine.stack cfa (rules_at self.now.at) (slots self.now.registers) }
     {
         let registers = self.all_left(cfa)?;
@@ -148,7 +147,7 @@ impl Leaving<'_, '_> {
     // ---- its caller
 
     // From the frame address on: the registers, and the return address in them.
-    fn resumed(&self, signing: bool, cfa: u64) -> Result<Option<Caller>, u64>
+    fn resumed(&self, signing: bool, cfa: u64) -> Result<Option<Caller>, Question>
         ensures { step_of result ≡ onward (left (memory_of self.now.memory) self.now.machine.stack cfa (rules_at self.now.at) (slots self.now.registers)) (λ ss. returned_to ss self.now.machine.ret signing self.now.at.located.signal) }
     {
         let registers = self.left(cfa)?;
@@ -156,7 +155,7 @@ impl Leaving<'_, '_> {
     }
 
     // By the rules of the return address's register.
-    fn left_by_rules(&self, rules: Rules) -> Result<Option<Caller>, u64>
+    fn left_by_rules(&self, rules: Rules) -> Result<Option<Caller>, Question>
         requires { rules ≡ rules_for self.now.machine.ret (rules_at self.now.at) }
         ensures { step_of result ≡ caller_of self.now.machine (memory_of self.now.memory) (ruled_at self.now.at) (slots self.now.registers) }
     {
@@ -178,7 +177,7 @@ pub struct Section<'a> {
 
 impl Fault<'_, '_, '_> {
     // The caller of a frame at an offset of a record that was located.
-    fn caller(&self, registers: [Option<u64>; 128], at: Place) -> Result<Option<Caller>, u64>
+    fn caller(&self, registers: [Option<u64>; 128], at: Place) -> Result<Option<Caller>, Question>
         ensures { step_of result ≡ onward (source_at at.entry) (λ u. caller_of self.now.machine (memory_of self.now.memory) u (slots registers)) }
     {
         let ret = self.machine.ret as u16;
@@ -198,7 +197,7 @@ impl Fault<'_, '_, '_> {
         registers: [Option<u64>; 128],
         k: u64,
         p: u64,
-    ) -> Result<Option<Caller>, u64>
+    ) -> Result<Option<Caller>, Question>
         ensures { step_of result ≡ onward (section_of self.now.section k p) (λ u. caller_of self.now.machine (memory_of self.now.memory) u (slots registers)) }
     {
         let s = self.section;
@@ -214,42 +213,36 @@ impl Fault<'_, '_, '_> {
     // ---- the frames
 
     // Up to 64 frames, by the section. Behind them no function holds the address, or a 65th frame would follow.
-    pub fn frames(&self, start: Caller) -> Result<Chain, u64>
+    pub fn frames(&self, start: Caller) -> Result<Chain, Question>
         ensures { walked_of result ≡ frames_f (section_of self.now.section) (fault_by self.now) 64 (caller_as start) }
     {
         let mut caller = start;
-        let mut frames = [Frame { position: 0, pc: 0 }; 64];
-        for k in 0..64 {
+        let mut frames = ArrayVec::new();
+        'callers: while !frames.is_full() {
             let Some((position, offset)) = walk::held(self.functions, caller.exact, caller.pc)
             else {
                 return Ok(Chain {
                     frames,
-                    count: k,
-                    ending: 2,
+                    ending: Ending::Unheld,
                 });
             };
-            frames[k] = Frame {
+            frames.push(Frame {
                 position,
                 pc: caller.pc,
-            };
+            });
             let Some(next) = self.caller_by(caller.registers, position, offset)? else {
                 return Ok(Chain {
                     frames,
-                    count: k + 1,
-                    ending: 1,
+                    ending: Ending::Undefined,
                 });
             };
             caller = next;
         }
         let ending = match walk::held(self.functions, caller.exact, caller.pc) {
-            None => 2,
-            Some(_) => 3,
+            None => Ending::Unheld,
+            Some(_) => Ending::TooMany,
         };
-        Ok(Chain {
-            frames,
-            count: 64,
-            ending,
-        })
+        Ok(Chain { frames, ending })
     }
 }
 
@@ -265,16 +258,16 @@ fn recorded(
     pc: u64,
     stack: u64,
     functions: &[u64],
-) -> Result<Chain, u64>
+) -> Result<Chain, Question>
     requires { (size ≤ length file.now) × (size ≤ 65536) }
     ensures { walked_of result ≡ pick (machine_ok machine.now) (pick (eqb (machine_of machine.now).word 8) (frames_f (section_of section.entry) (fault_of (machine_of machine.now) (record { address = stack; bytes = take size file.now }) functions.now) 64 (record { slots = slots_of count (drop size file.now); pc = pc; exact = true })) (bad 12)) (bad 11) }
 {
     if !lists::machine_ok(machine) {
-        return Err(11);
+        return Err(Question::Interface);
     }
     let known = lists::machine_of(machine);
     if known.word != 8 {
-        return Err(12);
+        return Err(Question::X64Word);
     }
     let start = Caller {
         registers: walk::registers(file, size, count),
@@ -304,33 +297,33 @@ pub struct Answer {
     pub ending: u64,
 }
 
-fn refusing(number: u64) -> Answer
-    ensures { numbers_of result ≡ number ∷ 0 ∷ 0 ∷ [] }
+fn refusing(question: Question) -> Answer
+    ensures { numbers_of result ≡ number_of question ∷ 0 ∷ 0 ∷ [] }
 {
     Answer {
-        number,
+        number: question.number(),
         frames: 0,
         ending: 0,
     }
 }
 
 // The frames at the front of a lent list, or 54.
-fn stored(r: Result<Chain, u64>, out: &mut [u64]) -> Answer
+fn stored(r: Result<Chain, Question>, out: &mut [u64]) -> Answer
     ensures result_value { numbers_of result ≡ chain_numbers (onward (walked_of r) (fitting (length out.old))) }
     ensures out_after { out.new ≡ chain_stored (onward (walked_of r) (fitting (length out.old))) out.old }
 {
     let chain = match r {
         Ok(chain) => chain,
-        Err(number) => return refusing(number),
+        Err(question) => return refusing(question),
     };
-    if out.len() / 2 < chain.count {
-        return refusing(54);
+    if out.len() / walk::FRAME_STRIDE < chain.frames.len() {
+        return refusing(Question::OtherRoom);
     }
-    walk::store(&chain.frames, chain.count, out);
+    walk::store(chain.frames.as_slice(), out);
     Answer {
         number: 0,
-        frames: chain.count as u64,
-        ending: chain.ending,
+        frames: chain.frames.len() as u64,
+        ending: chain.ending.number(),
     }
 }
 
@@ -353,7 +346,7 @@ pub extern "C" fn unwind_walk(
     ensures frames_after { frames.new ≡ chain_stored (walk_by (by_section section.now relocations.now kind) machine.now file.now pc stack functions.now (length frames.old)) frames.old }
 {
     let Some((size, count)) = walk::read_trailer(file) else {
-        return refusing(73);
+        return refusing(Question::Recorded);
     };
     let from = Section {
         bytes: section,

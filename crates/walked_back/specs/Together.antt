@@ -5,7 +5,6 @@ use Rattle.format.specs.Prelude.{Result}
 use Rattle.format.specs.declared.Counts.{Counts}
 use Rattle.format.specs.Coded.{Outcome}
 use Rattle.std.specs.Prelude.{Some, None, Ok, Err}
-use Rattle.format.specs.Coded.{refusal}
 use Rattle.format.specs.Lists.{function_stride, relocation_stride, count, field}
 use Rattle.format.specs.Questions.{Given, given_function}
 use Rattle.format.specs.Answers.{bit}

@@ -2,21 +2,15 @@
 #![tactic(auto)]
 
 ghost use Rattle.std.specs.Prelude.{◌≡◌, length};
+ghost use Rattle.format.specs.Coded.{numbered_at};
 ghost use Rattle.format.specs.Answers.{Writes};
 ghost use Rattle.format.specs.Questions.{given_of, room_in};
 ghost use Rattle.unwind.specs.Together.{answer_for};
 ghost use Rattle.walked.specs.Entry.{numbers_of, chain_numbers, chain_stored};
 ghost use Rattle.walked_back.specs.Together.{walk_for, WalksBack};
 
-use format::{Counts, Refusal};
+use lists::output::WrittenAnd;
 use walked::Answer;
-
-// What the writer answered, and what the walk by what it wrote answered.
-#[derive(Clone, Copy)]
-pub struct WrittenAndWalked {
-    pub outcome: Result<Option<Counts>, Refusal>,
-    pub answer: Answer,
-}
 
 // A writer, debug_frame's or the other, and then the walk over a recorded fault by exactly what was written, with the writer's kind and
 // machine. Where the list was accepted for DWARF output, and each function that is placed is one of the list, without relaxing labels,
@@ -39,11 +33,11 @@ pub fn write_and_walk(
     stack: u64,
     placed: &[u64],
     frames: &mut [u64],
-) -> WrittenAndWalked
-    ensures writes { Writes (answer_for debug format (given_of machine.now functions.now rows.now landings.now pairs.now) (room_in places.old bytes.old relocations.old sites.old)) result.outcome places.old places.new bytes.old bytes.new relocations.old relocations.new sites.old sites.new }
-    ensures answer_value { numbers_of result.answer ≡ chain_numbers (walk_for debug machine.now result.outcome bytes.new relocations.new file.now pc stack placed.now (length frames.old)) }
-    ensures frames_after { frames.new ≡ chain_stored (walk_for debug machine.now result.outcome bytes.new relocations.new file.now pc stack placed.now (length frames.old)) frames.old }
-    ensures walks_back { WalksBack format (given_of machine.now functions.now rows.now landings.now pairs.now) result.outcome file.now pc stack placed.now frames.old result.answer frames.new }
+) -> WrittenAnd<Answer>
+    ensures writes { Writes (answer_for debug format (given_of machine.now functions.now rows.now landings.now pairs.now) (room_in places.old bytes.old relocations.old sites.old)) (numbered_at result.outcome) places.old places.new bytes.old bytes.new relocations.old relocations.new sites.old sites.new }
+    ensures answer_value { numbers_of result.answer ≡ chain_numbers (walk_for debug machine.now (numbered_at result.outcome) bytes.new relocations.new file.now pc stack placed.now (length frames.old)) }
+    ensures frames_after { frames.new ≡ chain_stored (walk_for debug machine.now (numbered_at result.outcome) bytes.new relocations.new file.now pc stack placed.now (length frames.old)) frames.old }
+    ensures walks_back { WalksBack format (given_of machine.now functions.now rows.now landings.now pairs.now) (numbered_at result.outcome) file.now pc stack placed.now frames.old result.answer frames.new }
 {
     let outcome = unwind::write(
         debug,
@@ -67,11 +61,11 @@ pub fn write_and_walk(
         file,
         &written[..n],
         &related[..m],
-        unwind::number(debug),
+        u64::from(debug),
         pc,
         stack,
         placed,
         frames,
     );
-    WrittenAndWalked { outcome, answer }
+    WrittenAnd { outcome, answer }
 }

@@ -9,12 +9,11 @@ use Rattle.std.specs.Prelude.{Ok, Err}
 use Rattle.format.specs.Questions.{Question, and_then, no_at}
 use Rattle.codes.specs.Codes.{yes_or_no}
 use Rattle.std.specs.Prelude as code
-use Rattle.format.specs.declared.Refusal.{Refusal}
 use Rattle.x64.specs.Answers.{refused_at, ask_each}
 
 -- ---- one answer
 
-pub then_err : (q p : Question) {x : Asked} {r : Refusal} → x ≡ question_of q → x ≡ Err r → Err r ≡ question_of (and_then q p)
+pub then_err : (q p : Question) {x : Asked} {r : ℕ × ℕ} → x ≡ question_of q → x ≡ Err r → Err r ≡ question_of (and_then q p)
 unfolding question_of and_then
 then_err none p {x} {r} e y = let z : ◌≡◌ {A = Asked} (Ok tt) (Err r) = sym e ∙ y in cc
 then_err (some x) p e y = sym y ∙ e
@@ -52,7 +51,7 @@ module _ {f : ℕ → Option ℕ} {n k : ℕ} (a : Passing f n k) where
     unfolding no_at and_then
     turn z = record { high = omega arith; rest = here h ∙ rw (no_none (f k) k (sym e ∙ z)) }
 
-    pub stopped : {r : Refusal} → x ≡ Err r → Err r ≡ question_of (ask_each f 0 n)
+    pub stopped : {r : ℕ × ℕ} → x ≡ Err r → Err r ≡ question_of (ask_each f 0 n)
     stopped z = rw (here h) (then_err _ _ e z)
 
   pub ended : n ≤ k → ask_each f 0 n ≡ none
@@ -64,16 +63,16 @@ module _ {f : ℕ → Option ℕ} {n k : ℕ} (a : Passing f n k) where
 -- ---- pass by pass
 
 module _ (a b c : Question) where
-  pub first_err : {r : Refusal} → Err r ≡ question_of a → Err r ≡ question_of (and_then a (and_then b c))
+  pub first_err : {r : ℕ × ℕ} → Err r ≡ question_of a → Err r ≡ question_of (and_then a (and_then b c))
   first_err e = then_err a (and_then b c) refl (sym e)
 
   module _ (h : a ≡ none) where
-    pub second_err : {r : Refusal} → Err r ≡ question_of b → Err r ≡ question_of (and_then a (and_then b c))
+    pub second_err : {r : ℕ × ℕ} → Err r ≡ question_of b → Err r ≡ question_of (and_then a (and_then b c))
     unfolding and_then
     second_err e = rw h (then_err b c refl (sym e))
 
     module _ (g : b ≡ none) where
-      pub third_err : {r : Refusal} → Err r ≡ question_of c → Err r ≡ question_of (and_then a (and_then b c))
+      pub third_err : {r : ℕ × ℕ} → Err r ≡ question_of c → Err r ≡ question_of (and_then a (and_then b c))
       unfolding and_then
       third_err e = rw (h, g) e
 

@@ -11,7 +11,7 @@ use lib.Seq.{length-take-le}
 use Rattle.format.specs.Prelude.{pick, Result, good, bad, each}
 use Rattle.format.specs.declared.Machine.{Machine}
 use Rattle.std.specs.Prelude.{Err}
-use Rattle.format.specs.Coded.{refusal, Outcome}
+use Rattle.format.specs.Coded.{Outcome}
 use Rattle.format.specs.Machine.{machine_of, machine_ok}
 use Rattle.format.specs.Lists.{Function, Prologue, field, count, function_stride, row_stride, landing_stride, pair_stride, most_functions, most_records, sum_of, pairs_in, inside, symbol_ok, pointer_ok, mark_ok, when_marked, all_in, row_ok_at, pair_ok_at, function_ok_at, lists_ok, function_at, functions_of}
 use Rattle.format.specs.X64.{codes_of, prologue_of, prologue_no}
@@ -161,17 +161,17 @@ module _ (g : Given) (r : Room) where
   whole = unless (windows_asks g) (windows_answer (machine_of g.machine) (given_functions g) r)
 
   module _ {places bytes relocations sites : List ℕ} where
-    pub no_machine : machine_ok g.machine ≡ false → Writes whole (Err (refusal 11 0)) places places bytes bytes relocations relocations sites sites
+    pub no_machine : machine_ok g.machine ≡ false → Writes whole (Err (11, 0)) places places bytes bytes relocations relocations sites sites
     unfolding windows_asks unless ask and_then pick outcome_of afterwards
     no_machine e = rw e (record { outcome = refl; placed = refl; stored = refl; related = refl; sited = refl })
 
     pub no_word : machine_ok g.machine ≡ true → eqb (machine_of g.machine).word 8 ≡ false
-        → Writes whole (Err (refusal 12 0)) places places bytes bytes relocations relocations sites sites
+        → Writes whole (Err (12, 0)) places places bytes bytes relocations relocations sites sites
     unfolding windows_asks unless ask and_then pick outcome_of afterwards
     no_word e d = rw (e, d) (record { outcome = refl; placed = refl; stored = refl; related = refl; sited = refl })
 
     pub no_lists : machine_ok g.machine ≡ true → eqb (machine_of g.machine).word 8 ≡ true → lists_ok g.functions g.rows g.landings g.pairs ≡ false
-        → Writes whole (Err (refusal 13 0)) places places bytes bytes relocations relocations sites sites
+        → Writes whole (Err (13, 0)) places places bytes bytes relocations relocations sites sites
     unfolding windows_asks unless ask and_then pick outcome_of afterwards
     no_lists e d b = rw (e, d, b) (record { outcome = refl; placed = refl; stored = refl; related = refl; sited = refl })
 

@@ -13,7 +13,6 @@ use Rattle.format.specs.Lists.{field, count, prologue_stride, code_stride, most_
 use Rattle.format.specs.X64.{x64}
 use Rattle.format.specs.Questions.{Question, Room, Answer, ask, and_then, no_at, unless, fitting, per_function, code_asks, codes_answer, short_ones, seh}
 use Rattle.std.specs.Prelude.{None, Ok, Err}
-use Rattle.format.specs.Coded.{refusal}
 use Rattle.format.specs.Answers.{outcome_of, afterwards, Writes}
 use Rattle.format.proofs.ListLaws.{chained, part_of, at_each, symbol_small}
 use Rattle.x64.specs.declared.given.Source.TheVariants.{Direct}
@@ -112,7 +111,7 @@ module _ (fs codes : List ℕ) (r : Room) where
 
   module _ (some-there : count prologue_stride fs ≡ 0 → ⊥) where
     pub seh_refused : {places bytes relocations sites : List ℕ} → codes_ok fs codes ≡ false
-        → Writes (seh fs codes r) (Err (refusal 13 0)) places places bytes bytes relocations relocations sites sites
+        → Writes (seh fs codes r) (Err (13, 0)) places places bytes bytes relocations relocations sites sites
     unfolding seh outcome_of afterwards pick ask unless
     seh_refused e =
         rw (ne_eqb (count prologue_stride fs) 0 some-there, e) (record { outcome = refl; placed = refl; stored = refl; related = refl; sited = refl })

@@ -1,5 +1,5 @@
 -- The record of a function's codes: its questions by the code's tests, what a yes to all says, and its bytes part by part.
-use mathlib.Core.Path.{◌≡◌, sym, ap, ◌∙◌}
+use mathlib.Core.Path.{◌≡◌}
 use Prim.Native.Nat.{ℕ, ◌*◌, ◌%◌, ◌≤◌, ◌<◌}
 use native.Mathlib.Omega.{arith}
 use mathlib.Core.Option.{none, some}
@@ -7,6 +7,9 @@ use mathlib.Core.List.{List, [], ◌∷◌}
 use lib.Dec.{leb, leb→le}
 use lib.ListN.{length, replicate}
 use Rattle.format.specs.Prelude.{pick}
+use Rattle.format.specs.Coded.{numbered}
+use Rattle.format.specs.Numbers.{number_of}
+use Rattle.format.specs.declared.question.Question.{Question}
 use Rattle.format.proofs.Wrote.{Wrote}
 use Rattle.format.specs.declared.Seh.{Seh}
 use Rattle.format.specs.X64.{code_no, or_no, first_no, slots, prologue_no, frame_byte, reversed, info_bytes}
@@ -17,25 +20,19 @@ use Rattle.codes.specs.Codes.{yes_or_no, frame_ask}
 use Rattle.codes.proofs.Questions.{none_of, some_of, yes_of}
 use Rattle.codes.proofs.Sizes.{info_length}
 use Rattle.x64.specs.declared.Summary.{Summary}
-use Rattle.x64.specs.Answers.{summary_of}
+use Rattle.x64.specs.Answers.{SummaryOf}
 use Rattle.x64.proofs.Walks.{ors}
 
 -- ---- the questions
 
-pub counted : (cs : List (ℕ × Seh)) {t : Summary} → t ≡ summary_of cs → t.slots ≡ slots cs
-counted cs e = ap (λ (t : Summary). t.slots) e
-
-module _ (end : ℕ) (cs : List (ℕ × Seh)) {t : Summary} (e : t ≡ summary_of cs) where
-  asked : t.codes ≡ yes_or_no (first_no code_no cs)
-  asked = ap (λ (t : Summary). t.codes) e
-
-  pub no_code : {n : ℕ} → t.codes ≡ Err n → Err n ≡ yes_or_no (prologue_no end cs)
+module _ (end : ℕ) (cs : List (ℕ × Seh)) {t : Summary} (e : SummaryOf cs t) where
+  pub no_code : {q : Question} → t.codes ≡ Err q → Err (number_of q) ≡ yes_or_no (prologue_no end cs)
   unfolding prologue_no or_no yes_or_no
-  no_code {n} h = rw (some_of (first_no code_no cs) n (sym h ∙ asked))
+  no_code {q} h = rw (some_of (first_no code_no cs) (number_of q) (rw h at e.codes))
 
   module _ (z : t.codes ≡ Ok tt) where
     every : first_no code_no cs ≡ none
-    every = none_of (first_no code_no cs) (sym z ∙ asked)
+    every = none_of (first_no code_no cs) (rw z at e.codes)
 
     pub no_end : 255 < end → Err 35 ≡ yes_or_no (prologue_no end cs)
     unfolding prologue_no or_no yes_or_no
@@ -44,11 +41,11 @@ module _ (end : ℕ) (cs : List (ℕ × Seh)) {t : Summary} (e : t ≡ summary_o
     module _ (h : end ≤ 255) where
       pub no_slots : 255 < t.slots → Err 40 ≡ yes_or_no (prologue_no end cs)
       unfolding prologue_no or_no yes_or_no
-      no_slots l = rw (every, if-le end 255, ← counted cs e, if-gt t.slots 255)
+      no_slots l = rw (every, if-le end 255, ← e.slots, if-gt t.slots 255)
 
-      pub no_frame : t.slots ≤ 255 → t.frames ≡ yes_or_no (prologue_no end cs)
+      pub no_frame : t.slots ≤ 255 → numbered t.frames ≡ yes_or_no (prologue_no end cs)
       unfolding prologue_no or_no
-      no_frame l = rw (every, if-le end 255, ← counted cs e, if-le t.slots 255) (ap (λ (t : Summary). t.frames) e)
+      no_frame l = rw (every, if-le end 255, ← e.slots, if-le t.slots 255) e.frames
 
 pub record Agreed (end : ℕ) (cs : List (ℕ × Seh)) : Type 0 where
   pub codes : first_no code_no cs ≡ none

@@ -8,6 +8,7 @@ use lib.IntN.{ℤ}
 use Rattle.format.specs.Prelude.{each}
 use Rattle.format.specs.declared.Seh.{Seh}
 use Rattle.format.specs.Lists.{code_at}
+use Rattle.format.specs.Writer.{joined}
 use Rattle.format.specs.X64.{or_no, first_no, slots}
 use Rattle.codes.proofs.Sizes.{slots_most}
 use Rattle.std.specs.Prelude.{Some, None}
@@ -16,17 +17,17 @@ use Rattle.prologue.specs.declared.given.X64Machine.{X64Machine}
 use Rattle.prologue.specs.Pieces.{piece_of, moved_in, pieces_from}
 use Rattle.x64.specs.declared.given.Source.TheVariants.{Direct, Rows}
 use Rattle.x64.specs.declared.given.Span.{Span}
-use Rattle.x64.specs.Sources.{piece_at, moved_at, codes_from}
+use Rattle.x64.specs.Sources.{piece_at, moved_at, each_piece}
 
 -- the codes of a function
 module _ (list : List ℕ) (p : Span) where
-  pub direct_codes : (sofar : ℤ) (i n : ℕ) → each (code_at list) i n ≡ codes_from Direct list p sofar i n
-  unfolding each codes_from piece_at moved_at
+  pub direct_codes : (sofar : ℤ) (i n : ℕ) → each (code_at list) i n ≡ joined (each_piece Direct list p sofar i n)
+  unfolding each joined each_piece piece_at moved_at
   direct_codes sofar i zero = refl
   direct_codes sofar i (suc n) = rw (direct_codes sofar (suc i) n)
 
-  pub rows_codes : (m : X64Machine) (sofar : ℤ) (i n : ℕ) → pieces_from m.machine.now p.below sofar list p.first i p.past n ≡ codes_from (Rows m) list p sofar i n
-  unfolding pieces_from codes_from piece_at moved_at
+  pub rows_codes : (m : X64Machine) (sofar : ℤ) (i n : ℕ) → pieces_from m.machine.now p.below sofar list p.first i p.past n ≡ joined (each_piece (Rows m) list p sofar i n)
+  unfolding pieces_from joined each_piece piece_at moved_at
   rows_codes m sofar i zero = refl
   rows_codes m sofar i (suc n) = rw (rows_codes m (moved_in sofar list i) (suc i) n)
 

@@ -3,7 +3,6 @@ pub mod Stored
 pub mod Walks
 pub mod Leaves
 pub mod Held
-pub mod Lent
 pub mod Asked
 pub mod Infos
 pub mod Spans

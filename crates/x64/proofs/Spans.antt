@@ -5,6 +5,8 @@ use native.Mathlib.Omega.{arith}
 use mathlib.Core.Option.{Option, none, some}
 use mathlib.Core.List.{List, []}
 use lib.IntN.{pos}
+use Rattle.format.specs.Numbers.{number_of}
+use Rattle.format.specs.declared.question.Question.{Question}
 use Rattle.format.specs.Prelude.{good, bad, onward}
 use Rattle.format.specs.Lists.{Function, field, function_stride, prologue_stride, function_at, prologue_at}
 use Rattle.format.specs.X64.{codes_of, end_of, prologue_of, prologue_no, info_bytes}
@@ -34,12 +36,12 @@ stride_most (Rows m) = omega arith
 pub direct_askable : {s : Source} {fs list : List ℕ} {k : ℕ} → s ≡ Direct → Askable s fs list k → Askable Direct fs list k
 direct_askable e a = rw e at a
 
-pub direct_held : {s : Source} (list : List ℕ) (first past : ℕ) → s ≡ Direct → 5 * past ≤ length list → HeldBy s list first past
+pub direct_held : {s : Source} (list : List ℕ) (first past : ℕ) → s ≡ Direct → code_stride * past ≤ length list → HeldBy s list first past
 unfolding HeldBy
 direct_held list first past e h = rw e h
 
 module _ {fs list : List ℕ} {k : ℕ} (a : Askable Direct fs list k) where
-  pub direct_bounds : (5 * k + 5 ≤ length fs) × (field prologue_stride fs k 3 + field prologue_stride fs k 4 ≤ count code_stride list) × (field prologue_stride fs k 4 ≤ most_records)
+  pub direct_bounds : (prologue_stride * k + prologue_stride ≤ length fs) × (field prologue_stride fs k 3 + field prologue_stride fs k 4 ≤ count code_stride list) × (field prologue_stride fs k 4 ≤ most_records)
   unfolding stride_of ListedAt
   direct_bounds = (a.within, a.records.0, a.records.1)
 
@@ -63,9 +65,9 @@ module _ (m : X64Machine) (fs list : List ℕ) (k : ℕ) where
   f : Function
   f = function_at fs list [] [] k
 
-  rows_refused : {n : ℕ} → Shaped m.machine.now list (field function_stride fs k 2) (field function_stride fs k 3) (Err n) → result_at (Rows m) fs list k ≡ bad n
+  rows_refused : (q : Question) → Shaped m.machine.now list (field function_stride fs k 2) (field function_stride fs k 3) (Err q) → result_at (Rows m) fs list k ≡ bad (number_of q)
   unfolding result_at function_at onward
-  rows_refused h = rw (h (function_at fs list [] [] k) refl)
+  rows_refused q h = rw (h (function_at fs list [] [] k) refl)
 
   module _ {p : Span} (h : RowsSpan m fs list k p) where
     rows_pieces : pieces_of m.machine.now list p.first (record { below = p.below; end = p.past }) ≡ codes_in (Rows m) list p
@@ -90,12 +92,12 @@ module _ (m : X64Machine) (fs list : List ℕ) (k : ℕ) where
     unfolding result_at onward f
     rows_found = record { said = rw rows_are (simp (h.source, h.given) (ap good means)) }
 
-  pub found_rows : (r : code.Result Span ℕ) → RowsFound m fs list k r → Found (Rows m) fs list k r
+  pub found_rows : (r : code.Result Span Question) → RowsFound m fs list k r → Found (Rows m) fs list k r
   found_rows (Ok p) h = rows_found h
-  found_rows (Err n) h = rows_refused h
+  found_rows (Err q) h = rows_refused q h
 
 module _ {m : X64Machine} {fs list : List ℕ} {k : ℕ} (a : Askable (Rows m) fs list k) where
-  pub rows_bounds : (18 * k + 18 ≤ length fs) × RowsReady list (field function_stride fs k 2) (field function_stride fs k 3) × (field function_stride fs k 3 ≤ most_records)
+  pub rows_bounds : (function_stride * k + function_stride ≤ length fs) × RowsReady list (field function_stride fs k 2) (field function_stride fs k 3) × (field function_stride fs k 3 ≤ most_records)
   unfolding stride_of ListedAt
   rows_bounds = (a.within, a.records.0, a.records.1)
 
@@ -110,10 +112,10 @@ module _ (s : Source) (fs list : List ℕ) (k : ℕ) where
   unfolding codes_no yes_or_no
   codes_no_is e = rw e
 
-  pub is_there : (r : code.Result Span ℕ) → Found s fs list k r → codes_no (result_at s fs list k) ≡ none → IsOk r
+  pub is_there : (r : code.Result Span Question) → Found s fs list k r → codes_no (result_at s fs list k) ≡ none → IsOk r
   unfolding codes_no
   is_there (Ok p) h y = refl
-  is_there (Err n) h y = let z : ◌≡◌ {A = Option ℕ} (some n) none = rw h at y in cc
+  is_there (Err q) h y = let z : ◌≡◌ {A = Option ℕ} (some (number_of q)) none = rw h at y in cc
 
 module _ {s : Source} {fs list : List ℕ} {k : ℕ} {p : Span} (h : FoundAt s fs list k p) where
   pub rows_yes : Ok tt ≡ yes_or_no (rows_no (result_at s fs list k))

@@ -1,77 +1,56 @@
 -- Loops over a function's records: what is known of the codes that are left. A record yields a code or none.
 use mathlib.Core.Path.{◌≡◌, refl, sym, ap, ◌∙◌}
-use Prim.Native.Nat.{ℕ, suc, ◌+◌, ◌-◌, ◌*◌, ◌/◌, ◌^◌, ◌≤◌, ◌<◌}
+use Prim.Native.Nat.{ℕ, zero, suc, ◌+◌, ◌-◌, ◌*◌, ◌/◌, ◌^◌, ◌≤◌, ◌<◌}
 use native.Mathlib.Omega.{arith}
 use native.Mathlib.Numerals.{add-one}
 use mathlib.Core.Option.{Option, none, some}
 use mathlib.Core.List.{List, [], ◌∷◌, ◌++◌, append-nil, append_assoc}
-use lib.ListN.{length, take, set, length-append}
-use lib.IntN.{ℤ, pos}
-use mir.Syntax.{w64}
-use mir.Val.{to_z, of_z}
-use native.Mathlib.Nat.{zero-add, add-zero}
+use lib.ListN.{length, take, length-append}
+use lib.IntN.{ℤ}
+use native.Mathlib.Nat.{add-zero}
+use Rattle.format.specs.Coded.{numbered}
+use Rattle.format.specs.declared.question.Question.{Question}
 use Rattle.format.specs.Put.{put}
+use Rattle.format.specs.Writer.{joined}
 use Rattle.format.proofs.Wrote.{Wrote}
 use Rattle.format.specs.declared.Seh.{Seh}
 use Rattle.format.specs.X64.{code_bytes, code_no, or_no, first_no, slots, frame_or, frame_byte, reversed}
-use Rattle.format.proofs.PutLaws.{put_none, set-put, length-put}
+use Rattle.format.proofs.PutLaws.{put_none, put-append, put-in_front, length-put}
 use Rattle.codes.specs.declared.Code.{Code}
 use Rattle.codes.specs.Codes.{yes_or_no, frame_ask, Holds}
 use Rattle.std.specs.Prelude.{Ok, Err}
 use Rattle.std.specs.Prelude as code
 use Rattle.std.specs.Result.{result_and}
 use Rattle.codes.proofs.Sizes.{reversed-length}
-use Rattle.prologue.specs.Pieces.{Short}
-use Rattle.prologue.proofs.Distances.{short_passed}
 use Rattle.x64.specs.declared.given.Source.{Source}
 use Rattle.x64.specs.declared.given.Source.TheVariants.{Direct, Rows}
 use Rattle.x64.specs.declared.given.Span.{Span}
 use Rattle.x64.specs.declared.Summary.{Summary}
-use Rattle.x64.specs.Answers.{summed, summary_of}
+use Rattle.x64.specs.Answers.{Summed, SummaryOf}
 use Rattle.x64.proofs.Leaves.{no_of_one}
-use Rattle.x64.specs.Sources.{pushed_by, piece_at, moved_at, codes_from, codes_in}
+use Rattle.x64.specs.Sources.{pushed_by, piece_at, moved_at, each_piece}
 
--- what is known of a record's codes and those behind it
-pub record Front {A : Type 0} (P : List A → Type 0) (ps rest : List A) : Type 0 where
-  pub whole : P (ps ++ rest)
-
--- ---- the records from i on
+-- ---- the records from the next on
 
 pub pushed_small : (s : Source) → pushed_by s < 2 ^ 31
 unfolding pushed_by
 pushed_small Direct = omega arith
 pushed_small (Rows m) = m.pushed
 
-pub record Going (P : List (ℕ × Seh) → Type 0) (s : Source) (list : List ℕ) (p : Span) (sofar : ℤ) (i : ℕ) : Type 0 where
-  pub low : p.first ≤ i
-  pub high : i ≤ p.past
-  pub short : Short sofar
-  pub here : P (codes_from s list p sofar i (p.past - i))
+module _ (s : Source) (list : List ℕ) (p : Span) (sofar : ℤ) {i : ℕ} where
+  pub none_left : i ≡ p.past → each_piece s list p sofar i (p.past - i) ≡ []
+  unfolding each_piece
+  none_left e = let n : p.past - i ≡ 0 = omega (arith, e) in rw n
 
-module _ {s : Source} {list : List ℕ} {p : Span} where
-  pub start : {P : List (ℕ × Seh) → Type 0} {z : ℤ} → z ≡ pos (pushed_by s) → P (codes_in s list p) → Going P s list p (to_z w64 (of_z w64 z)) p.first
-  start {P} {z} e h =
-      let k : Short z = rw e (pushed_small s) in
-      rw (short_passed z k) (record { low = omega arith; high = p.order; short = k; here = rw e h })
+  pub some_left : {ps : List (ℕ × Seh)} {z : ℤ} → i ≤ p.past → (i ≡ p.past → ⊥) → ps ≡ piece_at s list p sofar i → z ≡ moved_at s list sofar i
+      → each_piece s list p sofar i (p.past - i) ≡ ps ∷ each_piece s list p z (i + 1) (p.past - (i + 1))
+  unfolding each_piece
+  some_left h n e f = let k : p.past - i ≡ suc (p.past - suc i) = omega (arith, h, n) in rw (e, f, add-one i, k)
 
-  module _ {P : List (ℕ × Seh) → Type 0} {sofar : ℤ} {i : ℕ} (g : Going P s list p sofar i) where
-    module _ {ps : List (ℕ × Seh)} (h : i < p.past) (e : ps ≡ piece_at s list p sofar i) where
-      pub taken : Front P ps (codes_from s list p (moved_at s list sofar i) (i + 1) (p.past - (i + 1)))
-      unfolding codes_from
-      taken =
-          let n : p.past - i ≡ suc (p.past - suc i) = omega arith in
-          record { whole = rw (e, add-one i) (rw n at g.here) }
-
-      -- a step that leads from what is known in front of a record to what is known behind it
-      pub turn : {Q : List (ℕ × Seh) → Type 0} {z : ℤ} → z ≡ moved_at s list sofar i → Short z
-          → (Front P ps (codes_from s list p (moved_at s list sofar i) (i + 1) (p.past - (i + 1))) → Q (codes_from s list p (moved_at s list sofar i) (i + 1) (p.past - (i + 1))))
-          → Going Q s list p (to_z w64 (of_z w64 z)) (i + 1)
-      turn {Q} {z} m k step =
-          rw (short_passed z k) (record { low = omega (arith, g.low); high = omega arith; short = k; here = rw m (step taken) })
-
-    pub ended : p.past ≤ i → P []
-    unfolding codes_from
-    ended h = let e : p.past - i ≡ 0 = omega arith in rw e at g.here
+pub pieces-length : (s : Source) (list : List ℕ) (p : Span) (sofar : ℤ) (i n : ℕ) → length (each_piece s list p sofar i n) ≡ n
+unfolding each_piece
+pieces-length s list p sofar i zero = refl
+pieces-length s list p sofar i (suc n) = ap suc (pieces-length s list p (moved_at s list sofar i) (suc i) n)
 
 -- ---- the first no
 
@@ -122,29 +101,46 @@ slots-append (x ∷ xs) ys = omega (arith, slots-append xs ys)
 
 -- ---- the summary
 
-pub summed_none : (t : Summary) → t ≡ summed t []
+pub summed_none : (t : Summary) → Summed t [] t
 unfolding first_no yes_or_no slots
-summed_none t = rw (and_yes t.codes, and_yes t.frames, add-zero)
+summed_none t = record { codes = sym (and_yes (numbered t.codes)); slots = omega arith; frames = sym (and_yes (numbered t.frames)) }
 
-pub summed_one : (t : Summary) (x : ℕ × Seh) {a b : code.Result Unit ℕ} {n : ℕ} → a ≡ result_and t.codes (yes_or_no (code_no x)) → n ≡ length (code_bytes x.0 x.1) → b ≡ result_and t.frames (yes_or_no (frame_ask x))
-    → record { codes = a; slots = t.slots + n / 2; frames = b } ≡ summed t (x ∷ [])
+-- two answers joined, by the questions' numbers
+numbered_and : (a b : code.Result Unit Question) → numbered (result_and a b) ≡ result_and (numbered a) (numbered b)
+numbered_and (Ok u) b = refl
+numbered_and (Err q) b = refl
+
+pub answered : (a b : code.Result Unit Question) {r : code.Result Unit Question} (o : Option ℕ) → r ≡ result_and a b → numbered b ≡ yes_or_no o → numbered r ≡ result_and (numbered a) (yes_or_no o)
+answered a b o e f = ap numbered e ∙ numbered_and a b ∙ ap (result_and (numbered a)) f
+
+pub summed_one : (t : Summary) (x : ℕ × Seh) {r : Summary} → numbered r.codes ≡ result_and (numbered t.codes) (yes_or_no (code_no x)) → r.slots ≡ t.slots + length (code_bytes x.0 x.1) / 2
+    → numbered r.frames ≡ result_and (numbered t.frames) (yes_or_no (frame_ask x)) → Summed t (x ∷ []) r
 unfolding slots
-summed_one t x e h k = rw (e, h, k, no_of_one code_no x, no_of_one frame_ask x, add-zero)
+summed_one t x e h k = record { codes = rw (← no_of_one code_no x) e; slots = rw add-zero h; frames = rw (← no_of_one frame_ask x) k }
 
+-- what some codes say, by the summary of the first of them
 pub record Summing (all rest : List (ℕ × Seh)) (t : Summary) : Type 0 where
-  same : summary_of all ≡ summed t rest
+  codes : yes_or_no (first_no code_no all) ≡ result_and (numbered t.codes) (yes_or_no (first_no code_no rest))
+  slots : slots all ≡ t.slots + slots rest
+  frames : yes_or_no (first_no frame_ask all) ≡ result_and (numbered t.frames) (yes_or_no (first_no frame_ask rest))
 
-pub summing : (all : List (ℕ × Seh)) → Summing all all (record { codes = Ok tt; slots = 0; frames = Ok tt })
-summing all = record { same = rw zero-add }
+pub summing : {left pieces : List (List (ℕ × Seh))} → left ≡ pieces → Summing (joined pieces) (joined left) (record { codes = Ok tt; slots = 0; frames = Ok tt })
+summing e = rw e (record { codes = refl; slots = omega arith; frames = refl })
 
-pub summed_on : {all ps rest : List (ℕ × Seh)} {t r : Summary} → Front (λ (l : List (ℕ × Seh)). Summing all l t) ps rest → r ≡ summed t ps → Summing all rest r
-summed_on {all} {ps} {rest} {t} w e =
+pub summed_on : {all ps : List (ℕ × Seh)} {left later : List (List (ℕ × Seh))} {t r : Summary} → Summing all (joined left) t → left ≡ ps ∷ later → Summed t ps r
+    → Summing all (joined later) r
+unfolding joined
+summed_on {all} {ps} {left} {later} {t} w l e =
+    let v : Summing all (ps ++ joined later) t = rw l at w in
     record {
-      same = w.whole.same ∙ rw (e, answer_append code_no t.codes ps rest, slots-append ps rest, answer_append frame_ask t.frames ps rest) (let z : t.slots + (slots ps + slots rest) ≡ t.slots + slots ps + slots rest = omega arith in rw z);
+      codes = v.codes ∙ answer_append code_no (numbered t.codes) ps (joined later) ∙ rw e.codes;
+      slots = omega (arith, v.slots, slots-append ps (joined later), e.slots);
+      frames = v.frames ∙ answer_append frame_ask (numbered t.frames) ps (joined later) ∙ rw e.frames;
     }
 
-pub all_summed : {all : List (ℕ × Seh)} {t : Summary} → Summing all [] t → t ≡ summary_of all
-all_summed {all} {t} w = summed_none t ∙ sym w.same
+pub all_summed : {all : List (ℕ × Seh)} {left : List (List (ℕ × Seh))} {t : Summary} → Summing all (joined left) t → left ≡ [] → SummaryOf all t
+unfolding joined first_no yes_or_no slots
+all_summed {all} {left} {t} v l = let w : Summing all [] t = rw l at v in record { codes = sym (w.codes ∙ and_yes (numbered t.codes)); slots = omega (arith, w.slots); frames = sym (w.frames ∙ and_yes (numbered t.frames)) }
 
 -- ---- the frame byte
 
@@ -158,23 +154,28 @@ pub record Framing (all rest : List (ℕ × Seh)) (b : ℕ) : Type 0 where
   codes : first_no code_no rest ≡ none
   frames : first_no frame_ask rest ≡ none
 
-pub framing : {all : List (ℕ × Seh)} → first_no code_no all ≡ none → first_no frame_ask all ≡ none → Framing all all 0
-framing h k = record { same = refl; codes = h; frames = k }
+pub framing : {left pieces : List (List (ℕ × Seh))} → left ≡ pieces → first_no code_no (joined pieces) ≡ none → first_no frame_ask (joined pieces) ≡ none
+    → Framing (joined pieces) (joined left) 0
+framing e h k = rw e (record { same = refl; codes = h; frames = k })
 
-module _ {all ps rest : List (ℕ × Seh)} {b : ℕ} (w : Front (λ (l : List (ℕ × Seh)). Framing all l b) ps rest) where
+module _ {all ps : List (ℕ × Seh)} {left later : List (List (ℕ × Seh))} {b : ℕ} (w : Framing all (joined left) b) (l : left ≡ ps ∷ later) where
+  here : Framing all (ps ++ joined later) b
+  unfolding joined
+  here = rw l at w
+
   pub frame_asked : (first_no code_no ps ≡ none) × (first_no frame_ask ps ≡ none)
-  frame_asked = ((first_none code_no ps rest w.whole.codes).0, (first_none frame_ask ps rest w.whole.frames).0)
+  frame_asked = ((first_none code_no ps (joined later) here.codes).0, (first_none frame_ask ps (joined later) here.frames).0)
 
-  pub framed : {r : ℕ} → r ≡ frame_byte b ps → Framing all rest r
+  pub framed : {r : ℕ} → r ≡ frame_byte b ps → Framing all (joined later) r
   framed e = record {
-    same = w.whole.same ∙ rw (frames_append b ps rest, ← e);
-    codes = (first_none code_no ps rest w.whole.codes).1;
-    frames = (first_none frame_ask ps rest w.whole.frames).1;
+    same = here.same ∙ rw (frames_append b ps (joined later), ← e);
+    codes = (first_none code_no ps (joined later) here.codes).1;
+    frames = (first_none frame_ask ps (joined later) here.frames).1;
   }
 
-pub all_framed : {all : List (ℕ × Seh)} {b : ℕ} → Framing all [] b → b ≡ frame_byte 0 all
-unfolding frame_byte
-all_framed w = sym w.same
+pub all_framed : {all : List (ℕ × Seh)} {left : List (List (ℕ × Seh))} {b : ℕ} → Framing all (joined left) b → left ≡ [] → b ≡ frame_byte 0 all
+unfolding joined frame_byte
+all_framed w l = sym (rw l at w.same)
 
 -- ---- the codes, put from the end to the front
 
@@ -182,14 +183,6 @@ reversed-append : (xs ys : List (ℕ × Seh)) → reversed (xs ++ ys) ≡ revers
 unfolding reversed
 reversed-append [] ys = sym (append-nil (reversed ys))
 reversed-append (x ∷ xs) ys = rw (reversed-append xs ys, append_assoc)
-
--- what stands behind may be stored first
-put-behind : (xs : List ℕ) (p : ℕ) (us bs : List ℕ) → put (put xs (p + length us) bs) p us ≡ put xs p (us ++ bs)
-unfolding put
-put-behind xs p [] bs = rw add-zero
-put-behind xs p (u ∷ us) bs =
-    let e : p + length (u ∷ us) ≡ p + 1 + length us = omega arith in
-    rw (set-put xs p u (p + length (u ∷ us)) bs (omega arith), e) (put-behind (set xs p u) (p + 1) us bs)
 
 -- out₀ is out by now, and the codes of rest are still to be put, from `at` to `to`
 pub record Putting (out₀ out : List ℕ) (at to : ℕ) (all rest : List (ℕ × Seh)) : Type 0 where
@@ -199,37 +192,41 @@ pub record Putting (out₀ out : List ℕ) (at to : ℕ) (all rest : List (ℕ �
   codes : first_no code_no rest ≡ none
   same : put out at (reversed rest) ≡ put out₀ at (reversed all)
 
-pub putting : {out : List ℕ} {at to : ℕ} {all : List (ℕ × Seh)} → to ≡ at + 2 * slots all → to ≤ length out → first_no code_no all ≡ none
-    → Putting out out at to all all
-putting {out} {at} {to} {all} e h k = record { kept = refl; place = omega (arith, reversed-length all); room = h; codes = k; same = refl }
+pub putting : {out : List ℕ} {at to : ℕ} {left pieces : List (List (ℕ × Seh))} → left ≡ pieces → to ≡ at + 2 * slots (joined pieces) → to ≤ length out
+    → first_no code_no (joined pieces) ≡ none → Putting out out at to (joined pieces) (joined left)
+putting {pieces = pieces} l e h k = rw l (record { kept = refl; place = omega (arith, reversed-length (joined pieces)); room = h; codes = k; same = refl })
 
-module _ {out₀ out : List ℕ} {at to : ℕ} {all ps rest : List (ℕ × Seh)} (w : Front (Putting out₀ out at to all) ps rest) where
+module _ {out₀ out : List ℕ} {at to : ℕ} {all ps : List (ℕ × Seh)} {left later : List (List (ℕ × Seh))} (w : Putting out₀ out at to all (joined left)) (l : left ≡ ps ∷ later) where
+  still : Putting out₀ out at to all (ps ++ joined later)
+  unfolding joined
+  still = rw l at w
+
   pub put_asked : first_no code_no ps ≡ none
-  put_asked = (first_none code_no ps rest w.whole.codes).0
+  put_asked = (first_none code_no ps (joined later) still.codes).0
 
   module _ {c : Code} (h : Holds c (reversed ps)) where
     -- the place of the code
-    placed : to ≡ at + length (reversed rest) + c.count
-    placed = omega (arith, w.whole.place, ap length (reversed-append ps rest), length-append (reversed rest) (reversed ps), h.counted)
+    placed : to ≡ at + length (reversed (joined later)) + c.count
+    placed = omega (arith, still.place, ap length (reversed-append ps (joined later)), length-append (reversed (joined later)) (reversed ps), h.counted)
 
     pub put_low : c.count ≤ to
     put_low = omega (arith, placed)
 
     pub put_room : to - c.count + c.count ≤ length out
-    put_room = omega (arith, placed, w.whole.room)
+    put_room = omega (arith, placed, still.room)
 
-    pub put_turn : {new : List ℕ} {q : ℕ} → Wrote out new (to - c.count) q (take c.count c.bytes) → Putting out₀ new at (to - c.count) all rest
+    pub put_turn : {new : List ℕ} {q : ℕ} → Wrote out new (to - c.count) q (take c.count c.bytes) → Putting out₀ new at (to - c.count) all (joined later)
     put_turn {new} {q} s =
-        let e : to - c.count ≡ at + length (reversed rest) = omega (arith, placed) in
-        let n : new ≡ put out (at + length (reversed rest)) (reversed ps) = s.stored ∙ rw (e, h.bytes) in
+        let e : to - c.count ≡ at + length (reversed (joined later)) = omega (arith, placed) in
+        let n : new ≡ put out (at + length (reversed (joined later))) (reversed ps) = s.stored ∙ rw (e, h.bytes) in
         record {
-          kept = ap length n ∙ length-put out _ _ ∙ w.whole.kept;
+          kept = ap length n ∙ length-put out _ _ ∙ still.kept;
           place = e;
-          room = rw (ap length n ∙ length-put out _ _) (omega (arith, w.whole.room));
-          codes = (first_none code_no ps rest w.whole.codes).1;
-          same = rw n (put-behind out at (reversed rest) (reversed ps) ∙ (rw (reversed-append ps rest) at w.whole.same));
+          room = rw (ap length n ∙ length-put out _ _) (omega (arith, still.room));
+          codes = (first_none code_no ps (joined later) still.codes).1;
+          same = rw n (put-in_front out at _ (reversed (joined later)) (reversed ps) (omega arith) ∙ sym (put-append out at (reversed (joined later)) (reversed ps)) ∙ (rw (reversed-append ps (joined later)) at still.same));
         }
 
-pub all-put : {out₀ out : List ℕ} {at to : ℕ} {all : List (ℕ × Seh)} → Putting out₀ out at to all [] → Wrote out₀ out at (at + 2 * slots all) (reversed all)
-unfolding reversed
-all-put {out₀} {out} {at} {to} {all} w = record { past = omega (arith, reversed-length all); stored = sym (put_none out at) ∙ w.same }
+pub all-put : {out₀ out : List ℕ} {at to : ℕ} {all : List (ℕ × Seh)} {left : List (List (ℕ × Seh))} → Putting out₀ out at to all (joined left) → left ≡ [] → Wrote out₀ out at (at + 2 * slots all) (reversed all)
+unfolding joined reversed
+all-put {out₀} {out} {at} {to} {all} w l = record { past = omega (arith, reversed-length all); stored = sym (put_none out at) ∙ (rw l at w.same) }

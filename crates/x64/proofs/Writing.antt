@@ -11,7 +11,7 @@ use Rattle.format.specs.declared.Counts.{Counts}
 use Rattle.std.specs.Prelude.{Some, Ok}
 use Rattle.format.specs.Put.{put}
 use Rattle.format.proofs.Wrote.{Wrote}
-use Rattle.format.specs.Lists.{Function, Prologue, field, function_at, prologue_at, numbers_of}
+use Rattle.format.specs.Lists.{relocation_stride, Function, Prologue, field, function_at, prologue_at, numbers_of}
 use Rattle.format.specs.X64.{codes_of, prologue_of, markers_from, runtime_relocs, runtime_from, x64}
 use Rattle.format.specs.Questions.{Question, Room, accepted, and_then, room_asks}
 use Rattle.format.specs.Answers.{outcome_of, afterwards, relocation_numbers, Writes}
@@ -20,7 +20,7 @@ use Rattle.format.proofs.ListLaws.{each-length}
 use Rattle.x64.specs.declared.given.Source.{Source}
 use Rattle.x64.specs.declared.given.Source.TheVariants.{Direct, Rows}
 use Rattle.lists.specs.Room.{room_for}
-use Rattle.x64.specs.Answers.{named_at, ask_each, infos_of}
+use Rattle.x64.specs.Answers.{runtime_bytes, runtime_relocations, runtime_numbers, named_at, ask_each, infos_of}
 use Rattle.x64.specs.Listed.{stride_of, Listed}
 use Rattle.x64.specs.Sources.{result_at, Agreed, codes_no, length_at, rows_at, codes_at, or_none, found_at, asks_of, table_of}
 use Rattle.x64.proofs.Asked.{each_yes}
@@ -41,10 +41,10 @@ agreed s fs list n e =
 
 -- ---- counts
 
-runtime_count : (at : ℕ) (ps : List Prologue) → length (runtime_from at ps) ≡ 3 * length ps
+runtime_count : (at : ℕ) (ps : List Prologue) → length (runtime_from at ps) ≡ runtime_relocations * length ps
 unfolding runtime_from runtime_relocs
 runtime_count at [] = refl
-runtime_count at (p ∷ ps) = omega (arith, runtime_count (at + 12) ps)
+runtime_count at (p ∷ ps) = omega (arith, runtime_count (at + runtime_bytes) ps)
 
 module _ (s : Source) (fs list : List ℕ) (n : ℕ) where
   markers_count : length (table_of s fs list n).places ≡ n
@@ -55,16 +55,16 @@ module _ (s : Source) (fs list : List ℕ) (n : ℕ) where
   unfolding x64
   marks_are = refl
 
-  bytes_are : (table_of s fs list n).bytes ≡ replicate (12 * n) 0
+  bytes_are : (table_of s fs list n).bytes ≡ replicate (runtime_bytes * n) 0
   unfolding x64
   bytes_are = rw (each-length (found_at s fs list) 0 n)
 
-  bytes_count : length (table_of s fs list n).bytes ≡ 12 * n
-  bytes_count = ap length bytes_are ∙ length-replicate {A = ℕ} (12 * n) 0
+  bytes_count : length (table_of s fs list n).bytes ≡ runtime_bytes * n
+  bytes_count = ap length bytes_are ∙ length-replicate {A = ℕ} (runtime_bytes * n) 0
 
-  relocs_count : length (table_of s fs list n).relocations ≡ 3 * n
+  relocs_count : length (table_of s fs list n).relocations ≡ runtime_relocations * n
   unfolding x64
-  relocs_count = runtime_count 0 (each (found_at s fs list) 0 n) ∙ ap (λ (i : ℕ). 3 * i) (each-length (found_at s fs list) 0 n)
+  relocs_count = runtime_count 0 (each (found_at s fs list) 0 n) ∙ ap (λ (i : ℕ). runtime_relocations * i) (each-length (found_at s fs list) 0 n)
 
   sites_are : (table_of s fs list n).sites ≡ infos_of (each (found_at s fs list) 0 n)
   unfolding x64 infos_of
@@ -72,16 +72,16 @@ module _ (s : Source) (fs list : List ℕ) (n : ℕ) where
 
   -- what is needed, by the counts
   abbrev pub needed : Counts
-  needed = record { places = n; bytes = 12 * n; relocations = 15 * n; sites = length (infos_of (each (found_at s fs list) 0 n)) }
+  needed = record { places = n; bytes = runtime_bytes * n; relocations = runtime_numbers * n; sites = length (infos_of (each (found_at s fs list) 0 n)) }
 
   pub room_same : (r : Room) → room_for needed (record { places = r.places; bytes = r.bytes; relocations = r.relocations; sites = r.sites }) ≡ room_asks r (table_of s fs list n)
   unfolding room_for room_asks
   room_same r =
-      let five : 5 * length (table_of s fs list n).relocations ≡ 15 * n = omega (arith, relocs_count) in
+      let five : relocation_stride * length (table_of s fs list n).relocations ≡ runtime_numbers * n = omega (arith, relocs_count) in
       rw (markers_count, bytes_count, five, sites_are)
 
   pub accepted_as : {total : ℕ} → total ≡ length (infos_of (each (found_at s fs list) 0 n))
-      → Ok (Some (record { places = n; bytes = 12 * n; relocations = 3 * n; sites = total })) ≡ outcome_of (accepted (table_of s fs list n))
+      → Ok (Some (record { places = n; bytes = runtime_bytes * n; relocations = runtime_relocations * n; sites = total })) ≡ outcome_of (accepted (table_of s fs list n))
   unfolding outcome_of
   accepted_as e = rw (markers_count, bytes_count, relocs_count, sites_are, e)
 
@@ -105,7 +105,7 @@ runtime_same : (f g : ℕ → Prologue) (at k n : ℕ) → ((j : ℕ) → j < k 
 unfolding runtime_from runtime_relocs each
 runtime_same f g at k zero h = refl
 runtime_same f g at k (suc n) h =
-    rw ((h k (omega arith)).0, (h k (omega arith)).1, runtime_same f g (at + 12) (suc k) n (λ j l. h j (omega arith)))
+    rw ((h k (omega arith)).0, (h k (omega arith)).1, runtime_same f g (at + runtime_bytes) (suc k) n (λ j l. h j (omega arith)))
 
 module _ {s : Source} {fs list : List ℕ} {n : ℕ} (l : Listed s fs list n) (a : Agreed s fs list n) where
   relocations_are : numbers_of (runtime_from 0 (each (named_at (stride_of s) fs) 0 n)) ≡ relocation_numbers (table_of s fs list n)
@@ -116,11 +116,11 @@ module _ {s : Source} {fs list : List ℕ} {n : ℕ} (l : Listed s fs list n) (a
   -- everything is stored
   pub all_stored : {places places' bytes bytes' relocations relocations' sites sites' : List ℕ} {q r total : ℕ}
       → total ≡ length (infos_of (each (found_at s fs list) 0 n))
-      → Wrote bytes bytes' 0 q (replicate (12 * n) 0)
+      → Wrote bytes bytes' 0 q (replicate (runtime_bytes * n) 0)
       → Wrote relocations relocations' 0 r (numbers_of (runtime_from 0 (each (named_at (stride_of s) fs) 0 n)))
       → places' ≡ put places 0 (markers_from 0 (each (found_at s fs list) 0 n))
       → sites' ≡ put sites 0 (infos_of (each (found_at s fs list) 0 n))
-      → Writes (accepted (table_of s fs list n)) (Ok (Some (record { places = n; bytes = 12 * n; relocations = 3 * n; sites = total })))
+      → Writes (accepted (table_of s fs list n)) (Ok (Some (record { places = n; bytes = runtime_bytes * n; relocations = runtime_relocations * n; sites = total })))
       places places' bytes bytes' relocations relocations' sites sites'
   unfolding afterwards
   all_stored {places} {places'} {bytes} {bytes'} {relocations} {relocations'} {sites} {sites'} t b w m i = record {

@@ -1,7 +1,8 @@
 -- What is asked and found of the functions that are given, by the definitions of sources.
-use Rattle.std.specs.Prelude.{ℕ, ◌≤◌, ◌<◌, List, ℤ}
+use Rattle.std.specs.Prelude.{ℕ, ◌-◌, List, ℤ}
 use Rattle.std.specs.Prelude as code
 use Rattle.format.specs.Prelude.{Result, each}
+use Rattle.format.specs.declared.question.Question as question
 use Rattle.format.specs.declared.Seh.{Seh}
 use Rattle.format.specs.Lists.{Prologue}
 use Rattle.format.specs.X64.{info_bytes}
@@ -9,22 +10,26 @@ use Rattle.format.specs.Questions.{Question}
 use Rattle.format.specs.Writer.{Written}
 use Rattle.x64.specs.Answers.{infos_of, named_at}
 use Rattle.x64.specs.Listed.{stride_of}
-use Rattle.x64.specs.Sources.{piece_at, moved_at, codes_in, result_at, Found, Agreed, found_at, asks_of, table_of}
+use Rattle.x64.specs.Sources.{piece_at, moved_at, each_piece, pieces_in, codes_in, result_at, Found, Agreed, found_at, asks_of, table_of}
 use Rattle.x64.specs.declared.given.Input.{Input}
+use Rattle.x64.specs.declared.given.Pieces.{Pieces}
 use Rattle.x64.specs.declared.given.Span.{Span}
 
 -- ---- a function
 
--- record i is one of its records
-abbrev pub IsRecord : Span → ℕ → Type 0
-IsRecord p i = (p.first ≤ i) × (i < p.past)
+-- what its records yield
+abbrev pub pieces_by : Span → List (List (ℕ × Seh))
+pieces_by p = pieces_in p.source p.list.now p
 
--- what record i yields, and the distance behind it
-abbrev pub piece_of_record : Span → (sofar : ℤ) → ℕ → List (ℕ × Seh)
-piece_of_record p sofar i = piece_at p.source p.list.now p sofar i
+-- what the next record yields, the distance behind it, and what the records from it on yield
+abbrev pub next_piece : Pieces → List (ℕ × Seh)
+next_piece x = piece_at x.span.source x.span.list.now x.span x.sofar x.next
 
-abbrev pub moved_past : Span → (sofar : ℤ) → ℕ → ℤ
-moved_past p sofar i = moved_at p.source p.list.now sofar i
+abbrev pub next_moved : Pieces → ℤ
+next_moved x = moved_at x.span.source x.span.list.now x.sofar x.next
+
+abbrev pub pieces_left : Pieces → List (List (ℕ × Seh))
+pieces_left x = each_piece x.span.source x.span.list.now x.span x.sofar x.next (x.span.past - x.next)
 
 -- its codes, and the bytes of its record
 abbrev pub codes_by : Span → List (ℕ × Seh)
@@ -38,7 +43,7 @@ info_by p = info_bytes p.end (codes_by p)
 abbrev pub result_of : Input → ℕ → Result Prologue
 result_of x k = result_at x.source x.functions.now x.list.now k
 
-abbrev pub FoundIn : Input → ℕ → code.Result Span ℕ → Type 0
+abbrev pub FoundIn : Input → ℕ → code.Result Span question.Question → Type 0
 FoundIn x k r = Found x.source x.functions.now x.list.now k r
 
 -- the symbol and the length of function k

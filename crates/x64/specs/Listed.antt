@@ -10,7 +10,7 @@ use Rattle.x64.specs.declared.given.Source.TheVariants.{Direct, Rows}
 
 -- the records from `first` to `past` are there
 unfoldable pub HeldBy : Source → (list : List ℕ) → (first past : ℕ) → Type 0
-HeldBy Direct list first past = 5 * past ≤ length list
+HeldBy Direct list first past = code_stride * past ≤ length list
 HeldBy (Rows m) list first past = Ready list first past
 
 pub HeldBy-prop : (s : Source) (list : List ℕ) (first past : ℕ) → IsProp (HeldBy s list first past)

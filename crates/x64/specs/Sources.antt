@@ -3,12 +3,14 @@ use Rattle.std.specs.Prelude.{◌≡◌, ℕ, zero, suc, ◌+◌, ◌-◌, ◌^�
 use Rattle.std.specs.Prelude as code
 use Rattle.std.proofs.Math.Option.{Option, none, some}
 use Rattle.format.specs.Prelude.{pick, Result, good, bad, onward, each}
+use Rattle.format.specs.Numbers.{number_of}
+use Rattle.format.specs.declared.question.Question as question
 use Rattle.format.specs.declared.Machine.{Machine}
 use Rattle.format.specs.declared.Seh.{Seh}
 use Rattle.format.specs.Lists.{Function, Prologue, field, function_stride, prologue_stride, code_at, function_at, prologue_at}
 use Rattle.format.specs.X64.{codes_of, prologue_of, prologue_no, x64}
 use Rattle.format.specs.Questions.{Question, and_then}
-use Rattle.format.specs.Writer.{Written}
+use Rattle.format.specs.Writer.{Written, joined}
 use Rattle.prologue.specs.declared.given.X64Machine.{X64Machine}
 use Rattle.prologue.specs.Pieces.{piece_in, moved_in, end_in, Says, Shaped}
 use Rattle.x64.specs.Answers.{ask_each}
@@ -34,14 +36,17 @@ unfoldable pub pushed_by : Source → ℕ
 pushed_by Direct = 0
 pushed_by (Rows m) = m.machine.now.pushed
 
--- n records from i on
-unfoldable pub codes_from : Source → (list : List ℕ) → Span → (sofar : ℤ) → (i n : ℕ) → List (ℕ × Seh)
-codes_from s list p sofar i zero = []
-codes_from s list p sofar i (suc n) = piece_at s list p sofar i ++ codes_from s list p (moved_at s list sofar i) (suc i) n
+-- what n records from i on yield
+unfoldable pub each_piece : Source → (list : List ℕ) → Span → (sofar : ℤ) → (i n : ℕ) → List (List (ℕ × Seh))
+each_piece s list p sofar i zero = []
+each_piece s list p sofar i (suc n) = piece_at s list p sofar i ∷ each_piece s list p (moved_at s list sofar i) (suc i) n
 
--- all of them
+-- what all of them yield, and their codes
+abbrev pub pieces_in : Source → (list : List ℕ) → Span → List (List (ℕ × Seh))
+pieces_in s list p = each_piece s list p (pos (pushed_by s)) p.first (p.past - p.first)
+
 abbrev pub codes_in : Source → (list : List ℕ) → Span → List (ℕ × Seh)
-codes_in s list p = codes_from s list p (pos (pushed_by s)) p.first (p.past - p.first)
+codes_in s list p = joined (pieces_in s list p)
 
 -- ---- a function
 
@@ -81,17 +86,17 @@ pub record RowsSpan (m : X64Machine) (fs list : List ℕ) (k : ℕ) (p : Span) :
   pub end : p.end ≡ end_in list p.first p.past
   pub says : Says m.machine.now list (field function_stride fs k 2) (field function_stride fs k 3) (record { below = p.below; end = p.past })
 
-abbrev pub RowsFound : X64Machine → (fs list : List ℕ) → ℕ → code.Result Span ℕ → Type 0
+abbrev pub RowsFound : X64Machine → (fs list : List ℕ) → ℕ → code.Result Span question.Question → Type 0
 RowsFound m fs list k (Ok p) = RowsSpan m fs list k p
-RowsFound m fs list k (Err n) = Shaped m.machine.now list (field function_stride fs k 2) (field function_stride fs k 3) (Err n)
+RowsFound m fs list k (Err q) = Shaped m.machine.now list (field function_stride fs k 2) (field function_stride fs k 3) (Err q)
 
 -- what is found for function k
 pub record FoundAt (s : Source) (fs list : List ℕ) (k : ℕ) (p : Span) : Type 0 where
   pub said : result_at s fs list k ≡ good (meant p)
 
-abbrev pub Found : Source → (fs list : List ℕ) → ℕ → code.Result Span ℕ → Type 0
+abbrev pub Found : Source → (fs list : List ℕ) → ℕ → code.Result Span question.Question → Type 0
 Found s fs list k (Ok p) = FoundAt s fs list k p
-Found s fs list k (Err n) = result_at s fs list k ≡ bad n
+Found s fs list k (Err q) = result_at s fs list k ≡ bad (number_of q)
 
 -- ---- the questions of a function
 

@@ -1,4 +1,4 @@
-// What x64 unwind data is written from, and the lists that are lent for it.
+// What x64 unwind data is written from.
 ghost use Rattle.std.specs.Prelude.{◌+◌, ◌≤◌};
 ghost use Rattle.format.specs.Lists.{most_records};
 ghost use Rattle.prologue.specs.Pieces.{Short};
@@ -41,11 +41,13 @@ pub struct Span<'m, 'l> {
     pub ghost held: { HeldBy source list.now first past } by { HeldBy-prop source list.now first past },
 }
 
-// The lists that are lent for what is written: where each function's record stands, bytes, relocations, and the records.
+// The records of a function's codes from the next on, and the distance in front of it.
 #[derive(Drop)]
-pub struct Output<'a> {
-    pub markers: &'a mut [u64],
-    pub bytes: &'a mut [u8],
-    pub relocations: &'a mut [u64],
-    pub info: &'a mut [u8],
+pub struct Pieces<'m, 'l> {
+    pub span: Span<'m, 'l>,
+    pub next: usize,
+    pub sofar: i64,
+    pub ghost low: { span.first ≤ next },
+    pub ghost high: { next ≤ span.past },
+    pub ghost short: { Short sofar },
 }

@@ -8,7 +8,9 @@ ghost use Rattle.format.specs.Put.{put};
 ghost use Rattle.format.proofs.Wrote.{Wrote};
 ghost use Rattle.format.specs.Lists.{field, numbers_of};
 ghost use Rattle.format.specs.Answers.{Writes};
+ghost use Rattle.format.specs.Coded.{numbered, numbered_at};
 ghost use Rattle.format.proofs.Asked.{question_of};
+ghost use Rattle.lists.specs.Lent.{room_of, WritesTo};
 ghost use Rattle.format.specs.X64.{runtime_relocs, runtime_from, markers_from, code_no, first_no, slots, prologue_no, frame_byte, reversed};
 ghost use Rattle.format.specs.Questions.{accepted, unless, fitting, given_functions, windows_asks, windows_answer, seh, given_of, room_in};
 ghost use Rattle.format.specs.Machine.{machine_of};
@@ -17,14 +19,14 @@ ghost use Rattle.prologue.specs.Pieces.{Short, piece_of};
 ghost use Rattle.x64.specs.declared.given.Source.TheVariants.{Direct, Rows};
 ghost use Rattle.x64.specs.Listed.{stride_of};
 ghost use Rattle.x64.specs.Sources.{pushed_by, DirectSpan, RowsFound, long_no, rows_no, codes_no};
-ghost use Rattle.x64.specs.Given.{IsRecord, piece_of_record, moved_past, codes_by, info_by, result_of, FoundIn, named_in, AllAgreed, functions_of, infos_in, asks_in, table_in};
-ghost use Rattle.x64.specs.Lent.{room_of, WritesTo};
-ghost use Rattle.x64.specs.Answers.{summed, summary_of, refused_at};
+ghost use Rattle.x64.specs.Given.{next_piece, next_moved, pieces_left, pieces_by, codes_by, info_by, result_of, FoundIn, named_in, AllAgreed, functions_of, infos_in, asks_in, table_in};
+ghost use Rattle.x64.specs.Answers.{runtime_bytes, runtime_numbers, Summed, SummaryOf, refused_at};
 
 use codes::{Code, code_no, frame_no, frame_or, head, nodes, nodes_size, put_nodes};
-use format::{Counts, Refusal, Seh};
-use given::{Input, Output, Source, Span};
+use format::{Counts, Question, Refusal, Seh};
+use given::{Input, Pieces, Source, Span};
 use leb::fill;
+use lists::output::Output;
 use lists::{
     Lists, code_at, code_offset_at, codes_ok, extent_at, machine_of, machine_ok, prologue_at, room,
     word_ok,
@@ -58,27 +60,33 @@ impl Source<'_> {
 }
 
 impl Input<'_, '_, '_> {
-    // Number j of function k's record.
-    // Kept: the stride is a function's or a prologue's, so no array type has the record; written out, each read owes its product and sum.
-    fn number_at(&self, k: usize, j: usize) -> u64
-        requires { (k < self.now.count) × (j < 2) }
-        ensures { result ≡ field (stride_of self.now.source) self.now.functions.now k j }
+    // The symbol and the length of function k, which both kinds of record begin with.
+    fn named(&self, k: usize) -> (u64, u64)
+        requires { k < self.now.count }
+        ensures { result ≡ (field (stride_of self.now.source) self.now.functions.now k 0, field (stride_of self.now.source) self.now.functions.now k 1) }
     {
-        self.functions[self.source.stride() * k + j]
+        let at = self.source.stride() * k;
+        (self.functions[at], self.functions[at + 1])
     }
 }
 
 // ---- RUNTIME_FUNCTION
 
+// Its bytes, its relocations and their numbers.
+const RUNTIME_BYTES: usize = 12;
+
+const RUNTIME_RELOCATIONS: usize = 3;
+
+const RUNTIME_NUMBERS: usize = RUNTIME_RELOCATIONS * relocs::RELOCATION_STRIDE;
+
 impl Input<'_, '_, '_> {
     // The relocations of function k's row: its start, its end and its record.
     fn runtime(&self, k: usize, out: &mut [u64], at: usize) -> usize
-        requires { (k < self.now.count) × (at + 15 ≤ length out.old) }
-        ensures { Wrote out.old out.new at result (numbers_of (runtime_relocs (12 * k) (named_in self.now k))) }
+        requires { (k < self.now.count) × (at + runtime_numbers ≤ length out.old) }
+        ensures { Wrote out.old out.new at result (numbers_of (runtime_relocs (runtime_bytes * k) (named_in self.now k))) }
     {
-        let place = (12 * k) as u64;
-        let symbol = self.number_at(k, 0);
-        let size = self.number_at(k, 1);
+        let place = (RUNTIME_BYTES * k) as u64;
+        let (symbol, size) = self.named(k);
         let a = relocation(out, at, place, symbol, relocs::IMAGE, 4, 0);
         let b = relocation(out, a, place + 4, symbol, relocs::IMAGE, 4, size);
         relocation(
@@ -94,7 +102,7 @@ impl Input<'_, '_, '_> {
 
     // The relocations of all functions.
     fn put_runtime(&self, out: &mut [u64]) -> usize
-        requires { 15 * self.now.count ≤ length out.old }
+        requires { runtime_numbers * self.now.count ≤ length out.old }
         ensures { Wrote out.old out.new 0 result (numbers_of (runtime_from 0 (each (named_in self.now) 0 self.now.count))) }
     {
         let mut to = 0;
@@ -110,39 +118,78 @@ impl Input<'_, '_, '_> {
 // What some codes say: 34 to 39, how many slots of two bytes they have, and 41.
 #[derive(Clone, Copy)]
 struct Summary {
-    codes: Result<(), u64>,
+    codes: Result<(), Question>,
     slots: usize,
-    frames: Result<(), u64>,
+    frames: Result<(), Question>,
 }
 
-impl Span<'_, '_> {
-    // What record i yields, with the distance `sofar` in front of it: a code at its offset, or none.
-    fn piece_in(&self, sofar: i64, i: usize) -> Option<(u64, Seh)>
-        requires { IsRecord self.now i × Short sofar }
-        ensures { piece_of result ≡ piece_of_record self.now sofar i }
+impl<'m, 'l> Span<'m, 'l> {
+    // Its records.
+    fn pieces(&self) -> Pieces<'m, 'l>
+        ensures { pieces_left result ≡ pieces_by self.now }
     {
-        match self.source {
-            Source::Direct => Some((code_offset_at(self.list, i), code_at(self.list, i))),
+        Pieces {
+            span: *self,
+            next: self.first,
+            sofar: self.source.start(),
+        }
+    }
+}
+
+impl Pieces<'_, '_> {
+    // What the next record yields: a code at its offset, or none.
+    fn piece(&self) -> Option<(u64, Seh)>
+        requires { self.now.next < self.now.span.past }
+        ensures { piece_of result ≡ next_piece self.now }
+    {
+        let span = self.span;
+        match span.source {
+            Source::Direct => Some((
+                code_offset_at(span.list, self.next),
+                code_at(span.list, self.next),
+            )),
             Source::Rows(machine) => {
                 let rows = FunctionRows {
-                    list: self.list,
-                    at: self.first,
-                    end: self.past,
+                    list: span.list,
+                    at: span.first,
+                    end: span.past,
                 };
-                rows.piece_at(&machine.registers(), i, self.below, sofar)
+                rows.piece_at(&machine.registers(), self.next, span.below, self.sofar)
             }
         }
     }
 
-    // The distance behind record i.
-    fn moved_in(&self, sofar: i64, i: usize) -> i64
-        requires { IsRecord self.now i × Short sofar }
-        ensures { (result ≡ moved_past self.now sofar i) × Short result }
+    // The distance behind it.
+    fn moved(&self) -> i64
+        requires { self.now.next < self.now.span.past }
+        ensures { (result ≡ next_moved self.now) × Short result }
     {
-        match self.source {
-            Source::Direct => sofar,
-            Source::Rows(_) => moved(sofar, self.list, i),
+        match self.span.source {
+            Source::Direct => self.sofar,
+            Source::Rows(_) => moved(self.sofar, self.span.list, self.next),
         }
+    }
+}
+
+impl Iterator for Pieces<'_, '_> {
+    ghost use Rattle.std.specs.Iterator.{YieldsFirstBy, item_count};
+    ghost use Rattle.prologue.specs.Pieces.{piece_of};
+    ghost use Rattle.x64.specs.Given.{pieces_left};
+
+    type Item = Option<(u64, Seh)>;
+
+    ghost next_gives = { YieldsFirstBy piece_of pieces_left };
+
+    ghost remaining = { item_count pieces_left };
+
+    fn next(&mut self) -> Option<Option<(u64, Seh)>> {
+        if self.next == self.span.past {
+            return None;
+        }
+        let piece = self.piece();
+        self.sofar = self.moved();
+        self.next += 1;
+        Some(piece)
     }
 }
 
@@ -151,7 +198,7 @@ impl Span<'_, '_> {
 // The summary of the codes in front and of a piece behind them.
 fn with_piece(t: Summary, c: Option<(u64, Seh)>) -> Summary
     requires { t.slots < 2 ^ 32 }
-    ensures { result ≡ summed t (piece_of c) }
+    ensures { Summed t (piece_of c) result }
 {
     let Some((at, code)) = c else {
         return t;
@@ -189,20 +236,17 @@ fn piece_nodes(c: Option<(u64, Seh)>) -> Code
 // ---- the codes of a function
 
 impl Span<'_, '_> {
-    // Kept: the three loops over the codes stand apart. What each asks of a code holds only of the codes that are left, one of them
-    // stores, and a fold's closure may be called with any: with that and the distance to pass on, the fold is longer than a loop.
+    // What they say.
     fn codes_summary(&self) -> Summary
-        ensures { result ≡ summary_of (codes_by self.now) }
+        ensures { SummaryOf (codes_by self.now) result }
     {
         let mut t = Summary {
             codes: Ok(()),
             slots: 0,
             frames: Ok(()),
         };
-        let mut sofar = self.source.start();
-        for i in self.first..self.past {
-            t = with_piece(t, self.piece_in(sofar, i));
-            sofar = self.moved_in(sofar, i);
+        for c in self.pieces() {
+            t = with_piece(t, c);
         }
         t
     }
@@ -213,10 +257,8 @@ impl Span<'_, '_> {
         ensures { result ≡ frame_byte 0 (codes_by self.now) }
     {
         let mut b = 0;
-        let mut sofar = self.source.start();
-        for i in self.first..self.past {
-            b = piece_frame(b, self.piece_in(sofar, i));
-            sofar = self.moved_in(sofar, i);
+        for c in self.pieces() {
+            b = piece_frame(b, c);
         }
         b
     }
@@ -228,27 +270,25 @@ impl Span<'_, '_> {
         ensures { Wrote out.old out.new at result (reversed (codes_by self.now)) }
     {
         let mut to = at + 2 * held;
-        let mut sofar = self.source.start();
-        for i in self.first..self.past {
-            let c = piece_nodes(self.piece_in(sofar, i));
-            to -= c.count;
-            put_nodes(out, to, c);
-            sofar = self.moved_in(sofar, i);
+        for c in self.pieces() {
+            let n = piece_nodes(c);
+            to -= n.count;
+            put_nodes(out, to, n);
         }
         at + 2 * held
     }
 
     // The questions of its codes: 34 to 39 of each, 35 of the prologue's end, 40, and 41 of each.
-    fn prologue_no(&self) -> Result<(), u64>
-        ensures { result ≡ yes_or_no (prologue_no self.now.end (codes_by self.now)) }
+    fn prologue_no(&self) -> Result<(), Question>
+        ensures { numbered result ≡ yes_or_no (prologue_no self.now.end (codes_by self.now)) }
     {
         let t = self.codes_summary();
         t.codes?;
         if 255 < self.end {
-            return Err(35);
+            return Err(Question::CodeOffset);
         }
         if 255 < t.slots {
-            return Err(40);
+            return Err(Question::Slots);
         }
         t.frames
     }
@@ -303,7 +343,7 @@ impl<'m, 'l> Input<'m, '_, 'l> {
     }
 
     // Function k by its rows, for that machine.
-    fn rows_span(&self, machine: X64Machine<'m>, k: usize) -> Result<Span<'m, 'l>, u64>
+    fn rows_span(&self, machine: X64Machine<'m>, k: usize) -> Result<Span<'m, 'l>, Question>
         requires { (k < self.now.count) × (self.now.source ≡ Rows machine) }
         ensures { RowsFound machine.entry self.now.functions.now self.now.list.now k result }
     {
@@ -327,7 +367,7 @@ impl<'m, 'l> Input<'m, '_, 'l> {
     }
 
     // Function k, or the question that its rows do not answer by yes.
-    fn span_at(&self, k: usize) -> Result<Span<'m, 'l>, u64>
+    fn span_at(&self, k: usize) -> Result<Span<'m, 'l>, Question>
         requires { k < self.now.count }
         ensures { FoundIn self.now k result }
     {
@@ -341,48 +381,46 @@ impl<'m, 'l> Input<'m, '_, 'l> {
 // ---- the questions of all functions
 
 // 21.
-fn long_no(size: u64) -> Result<(), u64>
-    ensures { result ≡ yes_or_no (long_no size) }
+fn long_no(size: u64) -> Result<(), Question>
+    ensures { numbered result ≡ yes_or_no (long_no size) }
 {
     if size < 4294967296 {
         return Ok(());
     }
-    Err(21)
+    Err(Question::Length)
 }
 
 // A no with the function's position.
-fn refused_at(k: usize, asked: Result<(), u64>) -> Result<(), Refusal>
-    ensures { result ≡ refused_at k asked }
+fn refused_at(k: usize, asked: Result<(), Question>) -> Result<(), Refusal>
+    ensures { numbered_at result ≡ refused_at k (numbered asked) }
 {
-    match asked {
-        Ok(()) => Ok(()),
-        Err(number) => Err(Refusal {
-            number,
-            position: k as u64,
-        }),
-    }
+    asked.map_err(|question| Refusal {
+        question,
+        position: k as u64,
+    })
 }
 
 impl Input<'_, '_, '_> {
     // The questions of function k in the three passes: of its length, of its rows, and of its codes.
-    fn length_asked(&self, k: usize) -> Result<(), u64>
+    fn length_asked(&self, k: usize) -> Result<(), Question>
         requires { k < self.now.count }
-        ensures { result ≡ yes_or_no (long_no (field (stride_of self.now.source) self.now.functions.now k 1)) }
+        ensures { numbered result ≡ yes_or_no (long_no (field (stride_of self.now.source) self.now.functions.now k 1)) }
     {
-        long_no(self.number_at(k, 1))
+        let (_, size) = self.named(k);
+        long_no(size)
     }
 
-    fn rows_asked(&self, k: usize) -> Result<(), u64>
+    fn rows_asked(&self, k: usize) -> Result<(), Question>
         requires { k < self.now.count }
-        ensures { result ≡ yes_or_no (rows_no (result_of self.now k)) }
+        ensures { numbered result ≡ yes_or_no (rows_no (result_of self.now k)) }
     {
         self.span_at(k)?;
         Ok(())
     }
 
-    fn codes_asked(&self, k: usize) -> Result<(), u64>
+    fn codes_asked(&self, k: usize) -> Result<(), Question>
         requires { k < self.now.count }
-        ensures { result ≡ yes_or_no (codes_no (result_of self.now k)) }
+        ensures { numbered result ≡ yes_or_no (codes_no (result_of self.now k)) }
     {
         let p = self.span_at(k)?;
         p.prologue_no()
@@ -390,7 +428,7 @@ impl Input<'_, '_, '_> {
 
     // The passes over the functions.
     fn asks(&self) -> Result<(), Refusal>
-        ensures { result ≡ question_of (asks_in self.now) }
+        ensures { numbered_at result ≡ question_of (asks_in self.now) }
     {
         for k in 0..self.count {
             refused_at(k, self.length_asked(k))?;
@@ -436,17 +474,17 @@ impl Input<'_, '_, '_> {
 
     // All results, where they have room.
     fn put_all(&self, sites: usize, to: &mut Output) -> Result<Option<Counts>, Refusal>
-        requires { AllAgreed self.now × (sites ≡ length (infos_in self.now)) × (self.now.count ≤ length to.old.markers.now) × (12 * self.now.count ≤ length to.old.bytes.now) × (15 * self.now.count ≤ length to.old.relocations.now) × (sites ≤ length to.old.info.now) }
-        ensures { WritesTo (accepted (table_in self.now)) result to.old to.new }
+        requires { AllAgreed self.now × (sites ≡ length (infos_in self.now)) × (self.now.count ≤ length to.old.places.now) × (runtime_bytes * self.now.count ≤ length to.old.bytes.now) × (runtime_numbers * self.now.count ≤ length to.old.relocations.now) × (sites ≤ length to.old.sites.now) }
+        ensures { WritesTo (accepted (table_in self.now)) (numbered_at result) to.old to.new }
     {
         let n = self.count;
-        fill(to.bytes, 0, 12 * n);
+        fill(to.bytes, 0, RUNTIME_BYTES * n);
         self.put_runtime(to.relocations);
-        self.put_infos(to.markers, to.info);
+        self.put_infos(to.places, to.sites);
         Ok(Some(Counts {
             places: n as u64,
-            bytes: (12 * n) as u64,
-            relocations: (3 * n) as u64,
+            bytes: (RUNTIME_BYTES * n) as u64,
+            relocations: (RUNTIME_RELOCATIONS * n) as u64,
             sites: sites as u64,
         }))
     }
@@ -454,29 +492,23 @@ impl Input<'_, '_, '_> {
     // The results, where they have room.
     fn write(&self, to: &mut Output) -> Result<Option<Counts>, Refusal>
         requires { AllAgreed self.now }
-        ensures { WritesTo (fitting (room_of to.old) (table_in self.now)) result to.old to.new }
+        ensures { WritesTo (fitting (room_of to.old) (table_in self.now)) (numbered_at result) to.old to.new }
     {
         let n = self.count;
         let sites = self.total();
         let needed = Counts {
             places: n as u64,
-            bytes: (12 * n) as u64,
-            relocations: (15 * n) as u64,
+            bytes: (RUNTIME_BYTES * n) as u64,
+            relocations: (RUNTIME_NUMBERS * n) as u64,
             sites: sites as u64,
         };
-        let lent = Counts {
-            places: to.markers.len() as u64,
-            bytes: to.bytes.len() as u64,
-            relocations: to.relocations.len() as u64,
-            sites: to.info.len() as u64,
-        };
-        room(needed, lent)?;
+        room(needed, to.lent())?;
         self.put_all(sites, to)
     }
 
     // The questions of the functions, and the results.
     fn answer(&self, to: &mut Output) -> Result<Option<Counts>, Refusal>
-        ensures { WritesTo (unless (asks_in self.now) (fitting (room_of to.old) (table_in self.now))) result to.old to.new }
+        ensures { WritesTo (unless (asks_in self.now) (fitting (room_of to.old) (table_in self.now))) (numbered_at result) to.old to.new }
     {
         self.asks()?;
         self.write(to)
@@ -495,7 +527,7 @@ pub fn seh(
     relocations: &mut [u64],
     info: &mut [u8],
 ) -> Result<Option<Counts>, Refusal>
-    ensures { Writes (seh functions.now codes.now (room_in markers.old bytes.old relocations.old info.old)) result markers.old markers.new bytes.old bytes.new relocations.old relocations.new info.old info.new }
+    ensures { Writes (seh functions.now codes.now (room_in markers.old bytes.old relocations.old info.old)) (numbered_at result) markers.old markers.new bytes.old bytes.new relocations.old relocations.new info.old info.new }
 {
     let n = functions.len() / lists::PROLOGUE_STRIDE;
     if n == 0 {
@@ -503,7 +535,7 @@ pub fn seh(
     }
     if !codes_ok(functions, codes) {
         return Err(Refusal {
-            number: 13,
+            question: Question::Lists,
             position: 0,
         });
     }
@@ -514,10 +546,10 @@ pub fn seh(
         count: n,
     };
     let mut to = Output {
-        markers,
+        places: markers,
         bytes,
         relocations,
-        info,
+        sites: info,
     };
     x.answer(&mut to)
 }
@@ -535,18 +567,18 @@ pub fn windows(
     relocations: &mut [u64],
     info: &mut [u8],
 ) -> Result<Option<Counts>, Refusal>
-    ensures { Writes (unless (windows_asks (given_of machine.now functions.now rows.now landings.now pairs.now)) (windows_answer (machine_of machine.now) (given_functions (given_of machine.now functions.now rows.now landings.now pairs.now)) (room_in markers.old bytes.old relocations.old info.old))) result markers.old markers.new bytes.old bytes.new relocations.old relocations.new info.old info.new }
+    ensures { Writes (unless (windows_asks (given_of machine.now functions.now rows.now landings.now pairs.now)) (windows_answer (machine_of machine.now) (given_functions (given_of machine.now functions.now rows.now landings.now pairs.now)) (room_in markers.old bytes.old relocations.old info.old))) (numbered_at result) markers.old markers.new bytes.old bytes.new relocations.old relocations.new info.old info.new }
 {
     if !machine_ok(machine) {
         return Err(Refusal {
-            number: 11,
+            question: Question::Interface,
             position: 0,
         });
     }
     let m = machine_of(machine);
     if !word_ok(m) {
         return Err(Refusal {
-            number: 12,
+            question: Question::X64Word,
             position: 0,
         });
     }
@@ -558,7 +590,7 @@ pub fn windows(
     };
     if !given.ok() {
         return Err(Refusal {
-            number: 13,
+            question: Question::Lists,
             position: 0,
         });
     }
@@ -570,10 +602,10 @@ pub fn windows(
         count: functions.len() / lists::FUNCTION_STRIDE,
     };
     let mut to = Output {
-        markers,
+        places: markers,
         bytes,
         relocations,
-        info,
+        sites: info,
     };
     x.answer(&mut to)
 }

@@ -11,7 +11,7 @@ use Rattle.format.specs.Prelude.{pick, Result, good, bad, onward, each}
 use Rattle.format.specs.declared.Machine.{Machine}
 use Rattle.format.specs.declared.Seh.{Seh}
 use Rattle.format.specs.Machine.{machine_of}
-use Rattle.format.specs.Lists.{Function, Prologue, prologue_stride, function_stride, count, prologue_at, prologues_of}
+use Rattle.format.specs.Lists.{Function, Prologue, prologue_stride, code_stride, function_stride, count, prologue_at, prologues_of}
 use Rattle.format.specs.Writer.{Written, joined}
 use Rattle.format.specs.X64.{codes_of, prologue_of, prologue_no, info_bytes, markers_from, x64}
 use Rattle.format.specs.X64Reader.{read_info, read_x64, info_numbers, codes_stored}
@@ -68,7 +68,7 @@ stands before at (x ∷ xs) (suc k) p l g =
 
 module _ (ps : List Prologue) (r : Room) (w : Written) (e : codes_answer ps r ≡ accepted w) (k : ℕ) (p : Prologue) (g : get_elem? ps k ≡ some p) where
   -- also where something stands behind the infos
-  pub record_back : (tail : List ℕ) → frame_codes p.codes ≤ 1 → (room : ℕ) → 5 * length p.codes ≤ room
+  pub record_back : (tail : List ℕ) → frame_codes p.codes ≤ 1 → (room : ℕ) → code_stride * length p.codes ≤ room
       → read_x64 (w.sites ++ tail) (get_or w.places k 0) room ≡ good (given p)
   unfolding codes_answer code_asks fitting x64 read_x64 onward info_of given
   record_back tail one room h =
@@ -84,10 +84,10 @@ module _ (ps : List Prologue) (r : Room) (w : Written) (e : codes_answer ps r �
       drop-append-le place infos tail l ∙ rw s.there (append_assoc (info_of p) s.rest tail) in
       let i : read_info (drop (get_or w.places k 0) (w.sites ++ tail)) ≡ good (given p) =
       rw (← is) (rw d (info_back p (s.rest ++ tail) (asked_at 0 ps k p a.0 g) one)) in
-      rw i (if-le (5 * length p.codes) room (good (given p)) (bad 54) h)
+      rw i (if-le (code_stride * length p.codes) room (good (given p)) (bad 54) h)
 
 seh_before : (fs codes : List ℕ) (r : Room) (w : Written) → seh fs codes r ≡ accepted w → (k : ℕ) → k < count prologue_stride fs → (tail : List ℕ)
-    → frame_codes (prologue_at fs codes k).codes ≤ 1 → (room : ℕ) → 5 * length (prologue_at fs codes k).codes ≤ room
+    → frame_codes (prologue_at fs codes k).codes ≤ 1 → (room : ℕ) → code_stride * length (prologue_at fs codes k).codes ≤ room
     → read_x64 (w.sites ++ tail) (get_or w.places k 0) room ≡ good (given (prologue_at fs codes k))
 unfolding seh prologues_of
 seh_before fs codes r w e k h =
@@ -99,7 +99,7 @@ seh_before fs codes r w e k h =
 
 -- Law 1: what `seh` wrote of function k, with at most one frame code, reads at its marker as it was given.
 pub seh_back : (fs codes : List ℕ) (r : Room) (w : Written) → seh fs codes r ≡ accepted w → (k : ℕ) → k < count prologue_stride fs
-    → frame_codes (prologue_at fs codes k).codes ≤ 1 → (room : ℕ) → 5 * length (prologue_at fs codes k).codes ≤ room
+    → frame_codes (prologue_at fs codes k).codes ≤ 1 → (room : ℕ) → code_stride * length (prologue_at fs codes k).codes ≤ room
     → read_x64 w.sites (get_or w.places k 0) room ≡ good (given (prologue_at fs codes k))
 seh_back fs codes r w e k h one room l =
     rw (append-nil w.sites) at (seh_before fs codes r w e k h [] one room l)
@@ -202,7 +202,7 @@ answered (stopped n k) r w e = let z : ◌≡◌ {A = ℕ} 0 1 = cc in absurd (o
 pub record CoffBack (g : Given) (w : Written) (k : ℕ) : Type 0 where
   pub codes : List (ℕ × Seh)
   pub are : codes_of (machine_of g.machine) (given_function g k) ≡ good codes
-  pub back : frame_codes codes ≤ 1 → (room : ℕ) → 5 * length codes ≤ room
+  pub back : frame_codes codes ≤ 1 → (room : ℕ) → code_stride * length codes ≤ room
       → read_x64 w.sites (get_or w.places k 0) room ≡ good (given (prologue_of (given_function g k) codes))
 
 pub coff_back : (g : Given) (r : Room) (w : Written) → relaxed_table 1 g r ≡ accepted w → (k : ℕ) → k < count function_stride g.functions

@@ -2,7 +2,7 @@
 use Rattle.std.specs.Prelude.{◌≡◌, ℕ, ◌+◌, ◌*◌, ◌≤◌, ◌<◌, List, [], ◌∷◌, length}
 use Rattle.format.specs.Answers.{bit}
 use Rattle.format.specs.Prelude.{good}
-use Rattle.format.specs.Lists.{Prologue, prologue_stride, count, prologue_at}
+use Rattle.format.specs.Lists.{Prologue, prologue_stride, code_stride, count, prologue_at}
 use Rattle.format.specs.Questions.{Answer, accepted}
 use Rattle.format.specs.Writer.{Written}
 use Rattle.format.specs.X64.{size64}
@@ -33,5 +33,5 @@ given p = record { end = p.end; register = (frame_of p.codes).0; offset = (frame
 abbrev pub ReadBack : (fs codes : List ℕ) → Answer → (k : ℕ) → (numbers old new : List ℕ) → Type 0
 ReadBack fs codes a k ns old new =
     (w : Written) → a ≡ accepted w → k < count prologue_stride fs → frame_codes (prologue_at fs codes k).codes ≤ 1
-    → 5 * length (prologue_at fs codes k).codes ≤ length old
+    → code_stride * length (prologue_at fs codes k).codes ≤ length old
     → (ns ≡ info_numbers (good (given (prologue_at fs codes k)))) × (new ≡ codes_stored (good (given (prologue_at fs codes k))) old)

@@ -2,12 +2,13 @@
 #![tactic(auto)]
 
 ghost use Rattle.std.specs.Prelude.{◌≡◌, get_or};
+ghost use Rattle.format.specs.Coded.{numbered_at};
 ghost use Rattle.format.specs.Answers.{Writes};
 ghost use Rattle.format.specs.Questions.{seh, room_in};
 ghost use Rattle.x64_reader.specs.Reads.{read_numbers};
 ghost use Rattle.x64_back.specs.Given.{ReadBack};
 
-use format::{Counts, Refusal};
+use lists::output::WrittenAnd;
 use x64_reader::X64Reading;
 
 // Number k of a list; 0 past its end.
@@ -15,13 +16,6 @@ fn marker_at(markers: &[u64], k: usize) -> u64
     ensures { result ≡ get_or markers.now k 0 }
 {
     markers.get(k).copied().unwrap_or(0)
-}
-
-// What `seh` answered, and what the reader answered at function k's marker.
-#[derive(Clone, Copy)]
-pub struct WrittenAndRead {
-    pub outcome: Result<Option<Counts>, Refusal>,
-    pub reading: X64Reading,
 }
 
 // `seh`, and then the reader on the info that it wrote, at the marker of function k: where the list was accepted and at most one code of
@@ -36,12 +30,12 @@ pub fn seh_and_read(
     info: &mut [u8],
     k: u64,
     held: &mut [u64],
-) -> WrittenAndRead
-    ensures writes { Writes (seh functions.now codes.now (room_in markers.old bytes.old relocations.old info.old)) result.outcome markers.old markers.new bytes.old bytes.new relocations.old relocations.new info.old info.new }
-    ensures read_back { ReadBack functions.now codes.now (seh functions.now codes.now (room_in markers.old bytes.old relocations.old info.old)) k (read_numbers result.reading) held.old held.new }
+) -> WrittenAnd<X64Reading>
+    ensures writes { Writes (seh functions.now codes.now (room_in markers.old bytes.old relocations.old info.old)) (numbered_at result.outcome) markers.old markers.new bytes.old bytes.new relocations.old relocations.new info.old info.new }
+    ensures read_back { ReadBack functions.now codes.now (seh functions.now codes.now (room_in markers.old bytes.old relocations.old info.old)) k (read_numbers result.answer) held.old held.new }
 {
     let outcome = x64::seh(functions, codes, markers, bytes, relocations, info);
     let place = marker_at(markers, k as usize);
-    let reading = x64_reader::unwind_read_x64(info, place, held);
-    WrittenAndRead { outcome, reading }
+    let answer = x64_reader::unwind_read_x64(info, place, held);
+    WrittenAnd { outcome, answer }
 }

@@ -15,10 +15,10 @@ use Rattle.format.specs.Prelude.{pick, Read, next, after}
 use Rattle.format.specs.Leb.{read_little}
 use Rattle.operations.specs.Positions.{read_from, little_at}
 use Rattle.operations.specs.declared.fields.Position.{Position}
-use Rattle.format.specs.X64Reader.{operand_bytes, meaning, fields_of, read_operand, read_code}
+use Rattle.format.specs.X64Reader.{operand_bytes, meaning, read_operand, read_code}
 use Rattle.operations.proofs.PositionLaws.{Takes, nothing, taken, takes_little, past_at, both_are, little_none}
-use Rattle.x64_reader.specs.declared.Fields.{Fields}
-use Rattle.x64_reader.specs.Reads.{Small, field_numbers, CodeThere}
+use Rattle.format.specs.declared.Seh.{Seh}
+use Rattle.x64_reader.specs.Reads.{Small, CodeThere}
 
 -- ---- a field of bytes
 
@@ -138,15 +138,13 @@ module _ (frame : ℕ) (s : List ℕ) (p : Position) {offset b : ℕ} (room : p.
   unfolding read_operand after next
   no_operand {n} z l = rw (two_bytes, z, little_none s (behind p) n l)
 
-  pub one_code : {n v : ℕ} {q : Position} {f : Fields} → operand_bytes (b % 16) (b / 16) ≡ some n → little_at n s (behind p) ≡ Some (v, q)
-      → field_numbers f ≡ fields_of (meaning frame (b % 16) (b / 16) v) → CodeThere frame s p offset f q
+  pub one_code : {n v : ℕ} {c : Seh} {q : Position} → operand_bytes (b % 16) (b / 16) ≡ some n → little_at n s (behind p) ≡ Some (v, q)
+      → c ≡ meaning frame (b % 16) (b / 16) v → CodeThere frame s p offset c q
   unfolding read_operand after next
-  one_code {n} {v} {q} z l m =
+  one_code {n} {v} {c} {q} z l m =
       let t : Field n s (p.at + 2) v q.at (read_little n (drop (p.at + 2) s)) = field_there s (behind p) room l in
       record {
-        said = meaning frame (b % 16) (b / 16) v;
-        fields = m;
         ahead = omega (arith, t.past);
         inside = t.inside;
-        reads = rw (two_bytes, z, t.reads);
+        reads = rw (two_bytes, z, t.reads, m);
       }

@@ -2,22 +2,21 @@
 use mathlib.Core.Path.{◌≡◌, refl, sym, ap, ◌∙◌}
 use Prim.Native.Nat.{ℕ, zero, suc, ◌+◌, ◌-◌, ◌*◌, ◌≤◌, ◌<◌}
 use native.Mathlib.Omega.{arith}
-use mathlib.Core.Bool.{Bool, false}
+use mathlib.Core.Bool.{Bool, false, ◌||◌}
 use mathlib.Core.Option.{Option, none, some}
-use mathlib.Core.List.{List, [], ◌∷◌, ◌++◌}
-use lib.Dec.{eqb}
-use lib.ListN.{length, set, drop, length-drop, drop_of_length-le}
+use mathlib.Core.List.{List, [], ◌∷◌}
+use lib.ListN.{length, drop, length-drop, drop_of_length-le}
 use Rattle.std.specs.Prelude.{Some, None}
 use Rattle.format.specs.Prelude.{Read, next}
 use Rattle.format.specs.Put.{put}
 use Rattle.format.specs.declared.Seh.{Seh}
 use Rattle.format.specs.declared.Seh.TheVariants.{Push, Alloc, Frame, Save}
 use Rattle.format.specs.X64Reader.{fields_of, code_numbers, is_frame, has_frame, read_code, read_codes_f, read_codes}
-use Rattle.format.proofs.PutLaws.{set-put, length-put}
+use Rattle.format.proofs.PutLaws.{put-append, put-in_front, length-put}
 use Rattle.operations.specs.declared.fields.Position.{Position}
 use Rattle.operations.specs.Positions.{from}
-use Rattle.x64_reader.specs.declared.Fields.{Fields}
-use Rattle.x64_reader.specs.Reads.{field_numbers, CodeThere, or_frame, counted_of, Held, stored_of}
+use Rattle.x64_reader.specs.declared.Slots.{Slots}
+use Rattle.x64_reader.specs.Reads.{CodeThere, counted_of, Held, stored_of}
 
 -- ---- one step of the definition
 
@@ -76,15 +75,15 @@ module _ {P : List (ℕ × Seh) → Type 0} {frame : ℕ} {s : List ℕ} {p : Po
     step : read_codes frame s ≡ next (read_code frame (drop p.at s)) (λ c rest. read_codes_f (g.fuel - 1) frame (c ∷ g.codes) rest)
     step = sym g.same ∙ codes_step frame g.fuel g.codes (drop p.at s) (omega (arith, g.enough)) (omega (arith, length-drop p.at s))
 
-    pub turn : {Q : List (ℕ × Seh) → Type 0} {offset : ℕ} {f : Fields} {q : Position} (c : CodeThere frame s p offset f q)
-        → ((cs : List (ℕ × Seh)) → P cs → Q ((offset, c.said) ∷ cs)) → Going Q frame s q
+    pub turn : {Q : List (ℕ × Seh) → Type 0} {offset : ℕ} {c : Seh} {q : Position} → CodeThere frame s p offset c q
+        → ((cs : List (ℕ × Seh)) → P cs → Q ((offset, c) ∷ cs)) → Going Q frame s q
     unfolding next
-    turn {offset = offset} c k = record {
+    turn {offset = offset} {c = c} t k = record {
       fuel = g.fuel - 1;
-      codes = (offset, c.said) ∷ g.codes;
-      enough = omega (arith, g.enough, c.ahead);
-      inside = c.inside;
-      same = sym (rw c.reads at step);
+      codes = (offset, c) ∷ g.codes;
+      enough = omega (arith, g.enough, t.ahead);
+      inside = t.inside;
+      same = sym (rw t.reads at step);
       here = k g.codes g.here;
     }
 
@@ -101,6 +100,31 @@ module _ {P : List (ℕ × Seh) → Type 0} {frame : ℕ} {s : List ℕ} {p : Po
   pub few : {ds : List (ℕ × Seh)} → read_codes frame s ≡ some ds → length g.codes ≤ length ds
   few e = rw (g.same ∙ e) at (codes_hold g.fuel frame g.codes (drop p.at s))
 
+-- ---- by the slots that are left
+
+pub record Reading (P : List (ℕ × Seh) → Type 0) (frame : ℕ) (s : List ℕ) (x : Slots) : Type 0 where
+  pub bytes : x.bytes.now ≡ s
+  pub mark : x.frame ≡ frame
+  pub going : Going P frame s x.at
+
+module _ {P : List (ℕ × Seh) → Type 0} {frame : ℕ} {s : List ℕ} {x : Slots} (r : Reading P frame s x) where
+  pub more : x.at.at < length x.bytes.now → x.at.at < length s
+  more h = rw r.bytes at h
+
+  pub at_end : length x.bytes.now ≤ x.at.at → length s ≤ x.at.at
+  at_end h = rw r.bytes at h
+
+  pub there : {offset : ℕ} {c : Seh} {q : Position} → CodeThere x.frame x.bytes.now x.at offset c q → CodeThere frame s x.at offset c q
+  there t = rw (r.bytes, r.mark) at t
+
+  pub none_there : read_code x.frame (drop x.at.at x.bytes.now) ≡ none → read_code frame (drop x.at.at s) ≡ none
+  none_there e = rw (r.bytes, r.mark) at e
+
+  pub onward : (Q : Position → List (ℕ × Seh) → Type 0) {y : Slots} {offset : ℕ} {c : Seh} {q : Position} → x.at.at < length x.bytes.now
+      → CodeThere x.frame x.bytes.now x.at offset c q → y.bytes.now ≡ x.bytes.now → y.frame ≡ x.frame → y.at ≡ q
+      → ((cs : List (ℕ × Seh)) → P cs → Q q ((offset, c) ∷ cs)) → Reading (Q y.at) frame s y
+  onward Q h t e f g k = record { bytes = e ∙ r.bytes; mark = f ∙ r.mark; going = rw g (turn r.going (more h) (there t) k) }
+
 -- ---- counted
 
 pub record Counting (n : ℕ) (framed : Bool) (i : ℕ) (cs : List (ℕ × Seh)) : Type 0 where
@@ -108,24 +132,17 @@ pub record Counting (n : ℕ) (framed : Bool) (i : ℕ) (cs : List (ℕ × Seh))
   pub frames : framed ≡ has_frame cs
   pub least : n ≤ i
 
-frame_kind : (f : Fields) (c : Seh) → field_numbers f ≡ fields_of c → eqb f.kind 2 ≡ is_frame c
-unfolding fields_of is_frame
-frame_kind f (Push reg) e = let k : f.kind ≡ 0 = cc in rw k
-frame_kind f (Alloc z) e = let k : f.kind ≡ 1 = cc in rw k
-frame_kind f (Frame reg z) e = let k : f.kind ≡ 2 = cc in rw k
-frame_kind f (Save reg vector z) e = let k : f.kind ≡ 3 = cc in rw k
-
 pub counting : Counting 0 false 0 []
 unfolding has_frame
 counting = record { many = refl; frames = refl; least = omega arith }
 
-pub count_turn : {frame : ℕ} {s : List ℕ} {n : ℕ} {framed now : Bool} {p q : Position} {offset : ℕ} {f : Fields} (c : CodeThere frame s p offset f q)
-    → now ≡ or_frame framed f.kind → (cs : List (ℕ × Seh)) → Counting n framed p.at cs → Counting (n + 1) now q.at ((offset, c.said) ∷ cs)
-unfolding has_frame or_frame
-count_turn {f = f} c e cs h = record {
+pub count_turn : {frame : ℕ} {s : List ℕ} {n : ℕ} {framed now : Bool} {p q : Position} {offset : ℕ} {c : Seh} → CodeThere frame s p offset c q
+    → now ≡ (is_frame c || framed) → (cs : List (ℕ × Seh)) → Counting n framed p.at cs → Counting (n + 1) now q.at ((offset, c) ∷ cs)
+unfolding has_frame
+count_turn {c = c} t e cs h = record {
   many = omega (arith, h.many);
-  frames = e ∙ rw (frame_kind f c.said c.fields, h.frames);
-  least = omega (arith, h.least, c.ahead);
+  frames = e ∙ rw h.frames;
+  least = omega (arith, h.least, t.ahead);
 }
 
 pub all_counted : {frame : ℕ} {s : List ℕ} {n : ℕ} {framed : Bool} {p : Position} → Going (Counting n framed p.at) frame s p → length s ≤ p.at
@@ -140,22 +157,12 @@ none_counted g h e = rw (unread g h e)
 
 -- ---- stored
 
--- a run of stores in front of another
-put_before : (xs : List ℕ) (p q : ℕ) (us bs : List ℕ) → q ≡ p + length us → put (put xs q bs) p us ≡ put xs p (us ++ bs)
-unfolding put
-put_before xs p q [] bs e = let z : q ≡ p = omega arith in rw z
-put_before xs p q (u ∷ us) bs e =
-    let l : p < q = omega arith in
-    rw (set-put xs p u q bs l) (put_before (set xs p u) (p + 1) q us bs (omega arith))
-
-pub five_stores : (xs : List ℕ) (p a b c d e : ℕ)
-    → set (set (set (set (set xs p a) (p + 1) b) (p + 2) c) (p + 3) d) (p + 4) e ≡ put xs p (a ∷ b ∷ c ∷ d ∷ e ∷ [])
-unfolding put
-five_stores xs p a b c d e =
-    let e₂ : p + 2 ≡ p + 1 + 1 = omega arith in
-    let e₃ : p + 3 ≡ p + 1 + 1 + 1 = omega arith in
-    let e₄ : p + 4 ≡ p + 1 + 1 + 1 + 1 = omega arith in
-    rw (e₄, e₃, e₂)
+pub fields-length : (c : Seh) → length (fields_of c) ≡ 4
+unfolding fields_of
+fields-length (Push reg) = refl
+fields-length (Alloc z) = refl
+fields-length (Frame reg z) = refl
+fields-length (Save reg vector z) = refl
 
 pub record Storing (n left : ℕ) (old new : List ℕ) (cs : List (ℕ × Seh)) : Type 0 where
   pub many : left + length cs ≡ n
@@ -168,24 +175,24 @@ pub storing : {n : ℕ} {old : List ℕ} → Storing n n old old []
 unfolding code_numbers put
 storing = record { many = omega arith; stored = refl }
 
-pub store_turn : {frame : ℕ} {s : List ℕ} {n left : ℕ} {old new newer : List ℕ} {p q : Position} {offset : ℕ} {f : Fields} (c : CodeThere frame s p offset f q)
-    → 0 < left → newer ≡ put new (5 * (left - 1)) (offset ∷ field_numbers f) → (cs : List (ℕ × Seh)) → Storing n left old new cs
-    → Storing n (left - 1) old newer ((offset, c.said) ∷ cs)
+pub store_turn : {n left : ℕ} {old new newer : List ℕ} {offset : ℕ} {c : Seh}
+    → 0 < left → newer ≡ put new (5 * (left - 1)) (offset ∷ fields_of c) → (cs : List (ℕ × Seh)) → Storing n left old new cs
+    → Storing n (left - 1) old newer ((offset, c) ∷ cs)
 unfolding code_numbers
-store_turn {left = left} {old = old} {offset = offset} {f = f} c l e cs w =
-    let five : List ℕ = offset ∷ field_numbers f in
-    let seam : 5 * left ≡ 5 * (left - 1) + length five = omega arith in
+store_turn {left = left} {old = old} {offset = offset} {c = c} l e cs w =
+    let five : List ℕ = offset ∷ fields_of c in
+    let seam : 5 * left ≡ 5 * (left - 1) + length five = omega (arith, fields-length c) in
     record {
       many = omega (arith, w.many);
-      stored = e ∙ rw w.stored (put_before old (5 * (left - 1)) (5 * left) five (code_numbers cs) seam ∙ ap (λ l. put old (5 * (left - 1)) ((offset ∷ l) ++ code_numbers cs)) c.fields);
+      stored = e ∙ rw (w.stored, seam) (put-in_front old (5 * (left - 1)) _ five (code_numbers cs) (omega arith) ∙ sym (put-append old (5 * (left - 1)) five (code_numbers cs)));
     }
 
 -- there is room for a code that stands there
 module _ {frame : ℕ} {s : List ℕ} {n left : ℕ} {p : Position} {old new : List ℕ} (g : Going (Storing n left old new) frame s p) (held : Held (read_codes frame s) n) where
-  pub some_left : {offset : ℕ} {f : Fields} {q : Position} → p.at < length s → CodeThere frame s p offset f q → 0 < left
+  pub some_left : {offset : ℕ} {c : Seh} {q : Position} → p.at < length s → CodeThere frame s p offset c q → 0 < left
   unfolding turn
-  some_left h c =
-      let next : Going (λ cs. 0 < length cs) frame s _ = turn g h c (λ cs w. omega arith) in
+  some_left h t =
+      let next : Going (λ cs. 0 < length cs) frame s _ = turn g h t (λ cs w. omega arith) in
       let l : length next.codes ≤ length held.codes = few next held.are in
       let m : length next.codes ≡ suc (length g.codes) = refl in
       omega (arith, g.here.many, held.many)

@@ -5,9 +5,9 @@ use Rattle.std.proofs.Math.Option.{Option, none, some}
 use Rattle.format.specs.Put.{put}
 use Rattle.format.specs.declared.Seh.{Seh}
 use Rattle.operations.specs.declared.fields.Position.{Position}
-use Rattle.format.specs.X64Reader.{read_code, fields_of, code_numbers, has_frame, header_ok}
-use Rattle.x64_reader.specs.declared.Fields.{Fields}
+use Rattle.format.specs.X64Reader.{read_code, code_numbers, has_frame, header_ok}
 use Rattle.x64_reader.specs.declared.Code.{Code}
+use Rattle.x64_reader.specs.declared.Slots.{Slots}
 use Rattle.x64_reader.specs.declared.Header.{Header}
 use Rattle.x64_reader.specs.declared.X64Reading.{X64Reading}
 
@@ -18,26 +18,26 @@ abbrev pub Small : code.Option (ℕ × Position) → Type 0
 Small (Some v) = v.0 < 2 ^ 32
 Small None = Unit
 
-abbrev pub field_numbers : Fields → List ℕ
-field_numbers f = f.kind ∷ f.register ∷ f.vector ∷ f.value ∷ []
-
--- what stands at p is a code at `offset`, and q is the position past it
-pub record CodeThere (frame : ℕ) (s : List ℕ) (p : Position) (offset : ℕ) (f : Fields) (q : Position) : Type 0 where
-  pub said : Seh
-  pub fields : field_numbers f ≡ fields_of said
+-- what stands at p is the code c at `offset`, and q is the position past it
+pub record CodeThere (frame : ℕ) (s : List ℕ) (p : Position) (offset : ℕ) (c : Seh) (q : Position) : Type 0 where
   pub ahead : p.at < q.at
   pub inside : q.at ≤ length s
-  pub reads : read_code frame (drop p.at s) ≡ some ((offset, said), drop q.at s)
+  pub reads : read_code frame (drop p.at s) ≡ some ((offset, c), drop q.at s)
 
 abbrev pub CodeSays : (frame : ℕ) → List ℕ → Position → code.Option Code → Type 0
-CodeSays frame s p (Some c) = CodeThere frame s p c.offset c.fields c.past
+CodeSays frame s p (Some c) = CodeThere frame s p c.offset c.says c.past
 CodeSays frame s p None = read_code frame (drop p.at s) ≡ none
 
 -- ---- the codes
 
--- a code of kind 2 sets the frame register
-unfoldable pub or_frame : Bool → ℕ → Bool
-or_frame framed kind = eqb kind 2 || framed
+-- what `next` gives of some slots: what stands at the position, and then the position past it; none at the slots' end
+abbrev pub Behind : Slots → code.Option Code → Slots → Type 0
+Behind x None y = Unit
+Behind x (Some c) y = (y.bytes.now ≡ x.bytes.now) × (y.frame ≡ x.frame) × (y.at ≡ c.past)
+
+abbrev pub GivesCode : Slots → code.Option (code.Option Code) → Slots → Type 0
+GivesCode x None y = length x.bytes.now ≤ x.at.at
+GivesCode x (Some r) y = (x.at.at < length x.bytes.now) × CodeSays x.frame x.bytes.now x.at r × Behind x r y
 
 unfoldable pub counted_of : Option (List (ℕ × Seh)) → code.Option (ℕ × Bool)
 counted_of none = None

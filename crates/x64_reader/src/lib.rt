@@ -3,11 +3,15 @@
 
 ghost use Rattle.std.specs.Prelude.{◌≡◌, ◌+◌, ◌*◌, ◌^◌, ◌≤◌, ◌<◌, [], ◌∷◌, ◌||◌, length};
 ghost use Rattle.format.proofs.Asked.{option_of};
+ghost use Rattle.format.specs.Lists.{code_stride};
+ghost use Rattle.format.specs.Numbers.{number_of};
 ghost use Rattle.format.specs.Put.{put};
 ghost use Rattle.format.specs.Answers.{bit};
-ghost use Rattle.format.specs.X64Reader.{operand_bytes, large_size, meaning, fields_of, frame_register, frame_offset, read_codes, read_x64, info_numbers, codes_stored};
-ghost use Rattle.x64_reader.specs.Reads.{field_numbers, CodeSays, or_frame, counted_of, Held, stored_of, HeaderSays, read_numbers};
+ghost use Rattle.format.specs.X64Reader.{operand_bytes, large_size, meaning, fields_of, is_frame, frame_register, frame_offset, read_codes, read_x64, info_numbers, codes_stored};
+ghost use Rattle.operations.specs.Positions.{from};
+ghost use Rattle.x64_reader.specs.Reads.{CodeSays, counted_of, Held, stored_of, HeaderSays, read_numbers};
 
+use format::{Question, Seh};
 use numbers::{codes, uwop};
 use operations::fields::{Position, read_le};
 
@@ -40,26 +44,6 @@ fn operand_bytes(op: u64, info: u64) -> Option<usize>
     }
 }
 
-// A code behind its offset, as `seh` takes it.
-#[derive(Clone, Copy)]
-pub struct Fields {
-    pub kind: u64,
-    pub register: u64,
-    pub vector: u64,
-    pub value: u64,
-}
-
-fn fields_with(kind: u64, register: u64, vector: u64, value: u64) -> Fields
-    ensures { field_numbers result ≡ kind ∷ register ∷ vector ∷ value ∷ [] }
-{
-    Fields {
-        kind,
-        register,
-        vector,
-        value,
-    }
-}
-
 fn large_size(info: u64, v: u64) -> u64
     requires { v < 2 ^ 32 }
     ensures { (result ≡ large_size info v) × (result < 2 ^ 36) }
@@ -68,19 +52,19 @@ fn large_size(info: u64, v: u64) -> u64
 }
 
 // What an operation says, by the header's frame byte, its info and its operand.
-fn meaning(frame: u64, op: u64, info: u64, v: u64) -> Fields
+fn meaning(frame: u8, op: u64, info: u64, v: u64) -> Seh
     requires { (info < 16) × (v < 2 ^ 32) }
-    ensures { field_numbers result ≡ fields_of (meaning frame op info v) }
+    ensures { result ≡ meaning frame op info v }
 {
     match op {
-        uwop::UWOP_PUSH_NONVOL => fields_with(codes::PUSH, info, 0, 0),
-        uwop::UWOP_ALLOC_LARGE => fields_with(codes::ALLOC, 0, 0, large_size(info, v)),
-        uwop::UWOP_ALLOC_SMALL => fields_with(codes::ALLOC, 0, 0, 8 * info + 8),
-        uwop::UWOP_SET_FPREG => fields_with(codes::FRAME, frame % 16, 0, 16 * (frame / 16)),
-        uwop::UWOP_SAVE_NONVOL => fields_with(codes::SAVE, info, 0, 8 * v),
-        uwop::UWOP_SAVE_NONVOL_FAR => fields_with(codes::SAVE, info, 0, v),
-        uwop::UWOP_SAVE_XMM128 => fields_with(codes::SAVE, info, 1, 16 * v),
-        _ => fields_with(codes::SAVE, info, 1, v),
+        uwop::UWOP_PUSH_NONVOL => Seh::Push(info),
+        uwop::UWOP_ALLOC_LARGE => Seh::Alloc(large_size(info, v) as i64),
+        uwop::UWOP_ALLOC_SMALL => Seh::Alloc((8 * info + 8) as i64),
+        uwop::UWOP_SET_FPREG => Seh::Frame(u64::from(frame % 16), i64::from(16 * (frame / 16))),
+        uwop::UWOP_SAVE_NONVOL => Seh::Save(info, false, (8 * v) as i64),
+        uwop::UWOP_SAVE_NONVOL_FAR => Seh::Save(info, false, v as i64),
+        uwop::UWOP_SAVE_XMM128 => Seh::Save(info, true, (16 * v) as i64),
+        _ => Seh::Save(info, true, v as i64),
     }
 }
 
@@ -88,12 +72,12 @@ fn meaning(frame: u64, op: u64, info: u64, v: u64) -> Fields
 #[derive(Clone, Copy)]
 pub struct Code {
     pub offset: u64,
-    pub fields: Fields,
+    pub says: Seh,
     pub past: Position,
 }
 
 // The code at a position of a record's slots.
-fn code_at(s: &[u8], at: Position, frame: u64) -> Option<Code>
+fn code_at(s: &[u8], at: Position, frame: u8) -> Option<Code>
     ensures { CodeSays frame s.now at result }
 {
     let from = at.at;
@@ -111,62 +95,118 @@ fn code_at(s: &[u8], at: Position, frame: u64) -> Option<Code>
     let (v, past) = read_le(s, behind, n)?;
     Some(Code {
         offset: leb::wide(s[from]),
-        fields: meaning(frame, op, info, v),
+        says: meaning(frame, op, info, v),
         past,
     })
 }
 
 // ---- the codes of a record: first counted, then stored
 
-fn or_frame(framed: bool, kind: u64) -> bool
-    ensures { result ≡ or_frame framed kind }
+// A record's slots from a position on, code by code. One that cannot be read is None, and the last.
+#[derive(Drop)]
+struct Slots<'a> {
+    bytes: &'a [u8],
+    frame: u8,
+    at: Position,
+}
+
+impl Iterator for Slots<'_> {
+    ghost use Rattle.std.specs.Prelude.{◌-◌, length};
+    ghost use Rattle.std.specs.Iterator.{at_most};
+    ghost use Rattle.x64_reader.specs.Reads.{GivesCode};
+
+    type Item = Option<Code>;
+
+    ghost next_gives = { GivesCode };
+
+    ghost remaining = { λ s. at_most (length s.bytes.now - s.at.at) };
+
+    fn next(&mut self) -> Option<Option<Code>> {
+        if self.bytes.len() <= self.at.at {
+            return None;
+        }
+        let Some(code) = code_at(self.bytes, self.at, self.frame) else {
+            self.at.at = self.bytes.len();
+            return Some(None);
+        };
+        self.at = code.past;
+        Some(Some(code))
+    }
+}
+
+fn slots_in(bytes: &[u8], frame: u8) -> Slots
+    ensures { (result.bytes.now ≡ bytes.now) × (result.frame ≡ frame) × (result.at ≡ from 0) }
 {
-    kind == codes::FRAME || framed
+    Slots {
+        bytes,
+        frame,
+        at: Position::START,
+    }
+}
+
+// Whether this code or one before it sets the frame register.
+fn or_frame(framed: bool, code: Seh) -> bool
+    ensures { result ≡ (is_frame code || framed) }
+{
+    match code {
+        Seh::Push(_) => framed,
+        Seh::Alloc(_) => framed,
+        Seh::Frame(_, _) => true,
+        Seh::Save(_, _, _) => framed,
+    }
 }
 
 // How many codes there are, and whether one sets the frame register, where each can be read.
-fn count(s: &[u8], frame: u64) -> Option<(usize, bool)>
+fn count(s: &[u8], frame: u8) -> Option<(usize, bool)>
     ensures { result ≡ counted_of (read_codes frame s.now) }
 {
-    let mut at = Position::START;
     let mut n = 0usize;
     let mut framed = false;
-    // Kept: a while, since what was read says where the next stands; the position is the cursor.
-    while at.at < s.len() {
-        let code = code_at(s, at, frame)?;
-        framed = or_frame(framed, code.fields.kind);
+    for code in slots_in(s, frame) {
+        framed = or_frame(framed, code?.says);
         n += 1;
-        at = code.past;
     }
     Some((n, framed))
 }
 
-fn put_code(codes: &mut [u64], at: usize, offset: u64, f: Fields)
-    requires { at + 5 ≤ length codes.old }
-    ensures { codes.new ≡ put codes.old at (offset ∷ field_numbers f) }
+// A code's numbers, as `seh` takes them.
+fn numbers_of(offset: u64, code: Seh) -> [u64; codes::STRIDE]
+    ensures { result ≡ offset ∷ fields_of code }
 {
-    codes[at] = offset;
-    codes[at + 1] = f.kind;
-    codes[at + 2] = f.register;
-    codes[at + 3] = f.vector;
-    codes[at + 4] = f.value;
+    match code {
+        Seh::Push(reg) => [offset, codes::PUSH, reg, 0, 0],
+        Seh::Alloc(z) => [offset, codes::ALLOC, 0, 0, z.cast_unsigned()],
+        Seh::Frame(reg, z) => [offset, codes::FRAME, reg, 0, z.cast_unsigned()],
+        Seh::Save(reg, vector, z) => [
+            offset,
+            codes::SAVE,
+            reg,
+            u64::from(vector),
+            z.cast_unsigned(),
+        ],
+    }
+}
+
+fn put_code(codes: &mut [u64], at: usize, offset: u64, code: Seh)
+    requires { at + code_stride ≤ length codes.old }
+    ensures { codes.new ≡ put codes.old at (offset ∷ fields_of code) }
+{
+    let n = numbers_of(offset, code);
+    codes[at..at + codes::STRIDE].copy_from_slice(&n);
 }
 
 // The n codes, five numbers each, from the last to the first, since they stand in reverse.
-fn store(s: &[u8], frame: u64, n: usize, codes: &mut [u64])
-    requires { (5 * n ≤ length codes.old) × Held (read_codes frame s.now) n }
+fn store(s: &[u8], frame: u8, n: usize, codes: &mut [u64])
+    requires { (code_stride * n ≤ length codes.old) × Held (read_codes frame s.now) n }
     ensures { codes.new ≡ stored_of (read_codes frame s.now) codes.old }
 {
-    let mut at = Position::START;
     let mut left = n;
-    // Kept: a while, since what was read says where the next stands; the position is the cursor.
-    while at.at < s.len() {
-        let Some(code) = code_at(s, at, frame) else {
+    for code in slots_in(s, frame) {
+        let Some(code) = code else {
             return;
         };
         left -= 1;
-        put_code(codes, 5 * left, code.offset, code.fields);
-        at = code.past;
+        put_code(codes, codes::STRIDE * left, code.offset, code.says);
     }
 }
 
@@ -176,7 +216,7 @@ fn store(s: &[u8], frame: u64, n: usize, codes: &mut [u64])
 #[derive(Clone, Copy)]
 pub struct Header {
     pub end: u64,
-    pub frame: u64,
+    pub frame: u8,
     pub at: usize,
     pub past: usize,
 }
@@ -195,7 +235,7 @@ fn header_at(info: &[u8], place: u64) -> Option<Header>
     }
     Some(Header {
         end: leb::wide(info[p + 1]),
-        frame: leb::wide(info[p + 3]),
+        frame: info[p + 3],
         at: p + 4,
         past: p + 4 + 2 * slots,
     })
@@ -214,11 +254,11 @@ pub struct X64Reading {
     pub codes: u64,
 }
 
-fn refused(number: u64) -> X64Reading
-    ensures { read_numbers result ≡ number ∷ 0 ∷ 0 ∷ 0 ∷ 0 ∷ 0 ∷ [] }
+fn refused(question: Question) -> X64Reading
+    ensures { read_numbers result ≡ number_of question ∷ 0 ∷ 0 ∷ 0 ∷ 0 ∷ 0 ∷ [] }
 {
     X64Reading {
-        number,
+        number: question.number(),
         end: 0,
         frame: 0,
         frame_register: 0,
@@ -234,8 +274,8 @@ fn read_as(header: Header, framed: bool, n: usize) -> X64Reading
         number: 0,
         end: header.end,
         frame: u64::from(framed),
-        frame_register: header.frame % 16,
-        frame_offset: 16 * (header.frame / 16),
+        frame_register: u64::from(header.frame % 16),
+        frame_offset: u64::from(16 * (header.frame / 16)),
         codes: n as u64,
     }
 }
@@ -249,14 +289,14 @@ pub extern "C" fn unwind_read_x64(info: &[u8], place: u64, codes: &mut [u64]) ->
     ensures codes_after { codes.new ≡ codes_stored (read_x64 info.now place (length codes.old)) codes.old }
 {
     let Some(header) = header_at(info, place) else {
-        return refused(76);
+        return refused(Question::X64Header);
     };
     let slots = &info[header.at..header.past];
     let Some((n, framed)) = count(slots, header.frame) else {
-        return refused(77);
+        return refused(Question::X64Codes);
     };
-    if codes.len() / 5 < n {
-        return refused(54);
+    if codes.len() / codes::STRIDE < n {
+        return refused(Question::OtherRoom);
     }
     store(slots, header.frame, n, codes);
     read_as(header, framed, n)

@@ -7,7 +7,7 @@ use Rattle.arm64_packing.proofs.Comparing.{matching_start, matching_empty, match
 use Rattle.arm64_packing.proofs.same_places.Goals as goal
 
 pub places-init : goal.places-init
-places-init c = matching_start c.args.run.now.list.now c.args.run.now.run (placed c.args.undone c.args.p) c.steps-steps.ensures
+places-init c = matching_start c.args.run.now.list.now c.args.run.now.run (placed c.args.part c.args.w.fields) c.steps-steps.ensures
 
 pub places-preserved-in_default-whole : goal.places-preserved-in_default-whole
 places-preserved-in_default-whole c = ((tt, tt), matching_empty c.places.invariant c.places-test.true (is_none _ (sym c.place.ensures ∙ c.in_default.is)))

@@ -4,4 +4,4 @@ use Rattle.arm64_packing.proofs.Comparing.{Matching}
 use Rattle.arm64_packing.proofs.same_places.Given as goal
 
 abbrev pub invariant-places : goal.invariant-places
-invariant-places l = Matching (given l.run.list.now l.run.run) (placed l.undone l.p) (steps_left l.steps) l.i
+invariant-places l = Matching (given l.run.list.now l.run.run) (placed l.part l.w.fields) (steps_left l.steps) l.i

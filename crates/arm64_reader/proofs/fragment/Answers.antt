@@ -12,10 +12,10 @@ use Rattle.arm64_reader.proofs.fragment.Goals as goal
 pub returns-in_err-room : goal.returns-in_err-room
 returns-in_err-room c =
     let z : c.count_slots-n.result + 0 ≡ c.count_slots-n.result = omega arith in
-    (no_room c.args.to.now.epilogues.now c.args.to.now.codes.now (packed_fragment c.args.p c.requires.2 c.requires.1) (part_counts c.args.p c.count_slots-n.ensures.0) (ap (roomy c.args.to.now.epilogues.now c.args.to.now.codes.now 0) z ∙ c.in_err-room.ensures.1) (grind (arith, c.from_residual.ensures, c.in_err-room.ensures.0)), same)
+    (no_room c.args.to.now.epilogues.now c.args.to.now.codes.now (packed_fragment c.args.w.fields c.requires.1 c.requires.0) (part_counts c.args.w.fields c.count_slots-n.ensures.0) (ap (roomy c.args.to.now.epilogues.now c.args.to.now.codes.now 0) z ∙ c.in_err-room.ensures.1) (grind (arith, c.from_residual.ensures, c.in_err-room.ensures.0)), same)
 
 pub returns : goal.returns
 unfolding packed_part unwound
 returns c =
     let z : c.count_slots-n.result + 0 ≡ c.count_slots-n.result = omega arith in
-    (stored c.args.to.now.epilogues.now c.args.to.now.codes.now (packed_fragment c.args.p c.requires.2 c.requires.1) (part_counts c.args.p c.count_slots-n.ensures.0) (ap (roomy c.args.to.now.epilogues.now c.args.to.now.codes.now 0) z ∙ c.in_ok-room.ensures) (ap Ok c.reading.ensures) (part_stored c.args.p c.count_slots-n.ensures.0 c.put_slots.ensures.stored), record { epilogues = refl; codes = refl })
+    (stored c.args.to.now.epilogues.now c.args.to.now.codes.now (packed_fragment c.args.w.fields c.requires.1 c.requires.0) (part_counts c.args.w.fields c.count_slots-n.ensures.0) (ap (roomy c.args.to.now.epilogues.now c.args.to.now.codes.now 0) z ∙ c.in_ok-room.ensures) (ap Ok c.reading.ensures) (part_stored c.args.w.fields c.count_slots-n.ensures.0 c.put_slots.ensures.stored), record { epilogues = refl; codes = refl })

@@ -1,12 +1,17 @@
 -- `arm64_runs::put_run` meets its contract.
-use mathlib.Core.Path.{sym, ◌∙◌}
-use Rattle.arm64.proofs.Coded.{is_some}
-use Rattle.arm64.specs.Codes.{code_at}
-use Rattle.arm64_runs.proofs.Stores.{put_start, put_turn}
+use mathlib.Core.Path.{ap, ◌∙◌}
+use Rattle.arm64_runs.specs.Left.{codes_left}
+use Rattle.arm64_runs.proofs.Stores.{put_start, put_room, put_turn, put_ended}
 use Rattle.arm64_runs.proofs.put_run.Goals as goal
 
 pub loop-c-init : goal.loop-c-init
-loop-c-init c = put_start c.requires.0 c.requires.1
+loop-c-init c = put_start (ap codes_left c.into_iter-c-iterator.ensures.into_iter_gives ∙ c.at-c-items.ensures) c.requires.1
+
+pub put_code-i-requires : goal.put_code-i-requires
+put_code-i-requires c = put_room _ c.loop-c.invariant c.in-Some.ensures.steps
 
 pub loop-c-preserved : goal.loop-c-preserved
-loop-c-preserved c = put_turn c.loop-c.invariant (is_some (code_at c.args.s.now c.loop-c.p) (sym c.code_at.ensures ∙ c.in-Some.is)) c.if-c-eq-END.false c.put_code-i.ensures
+loop-c-preserved c = put_turn _ c.loop-c.invariant c.in-Some.ensures.steps c.put_code-i.ensures
+
+pub returns : goal.returns
+returns c = put_ended _ c.loop-c.invariant c.in-None.ensures.steps.0

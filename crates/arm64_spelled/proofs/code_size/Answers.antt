@@ -1,6 +1,6 @@
 -- `arm64_spelled::code_size` meets its contract.
 use mathlib.Core.Path.{sym, ap, ◌∙◌}
-use Rattle.arm64_spelled.proofs.FitLaws.{code-length}
+use Rattle.arm64.proofs.CodeBytes.{code-length}
 use Rattle.arm64_spelled.proofs.code_size.Goals as goal
 
 pub returns : goal.returns

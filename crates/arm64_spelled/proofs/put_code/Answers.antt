@@ -1,6 +1,7 @@
 -- `arm64_spelled::put_code` meets its contract.
 use native.Mathlib.Omega.{arith}
-use Rattle.arm64_spelled.proofs.FitLaws.{fits_told, code-length, code_bytes_lem}
+use Rattle.arm64.proofs.CodeBytes.{code-length}
+use Rattle.arm64_spelled.proofs.FitLaws.{fits_told, code_bytes_lem}
 use Rattle.arm64_spelled.proofs.put_code.Goals as goal
 
 pub word-requires : goal.word-requires

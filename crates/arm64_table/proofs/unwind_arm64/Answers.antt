@@ -3,4 +3,4 @@ use Rattle.unwind.proofs.Delivering.{exports}
 use Rattle.arm64_table.proofs.unwind_arm64.Goals as goal
 
 pub returns : goal.returns
-returns c = exports c.written_of.ensures c.table.ensures
+returns c = exports c.from.ensures c.table.ensures

@@ -14,7 +14,7 @@ pub returns : goal.returns
 returns c =
     let w = c.relaxed_table-outcome.ensures in
     let f = fronts _ _ _ _ _ _ _ _ _ _ w (table_fits _ _ _) in
-    let e = check_of _ _ _ c.bytes_in-n.ensures c.word_in-word.ensures c.unwind_check_section-checked.ensures.value in
+    let e = check_of _ _ _ c.bytes_in-n.ensures c.word_in-word.ensures c.unwind_check_section-answer.ensures.value in
     record {
       writes = w;
       checked_value = e;

@@ -19,9 +19,6 @@ machine_of-requires c = is_yes_lem (accepted c.machine_ok.ensures (ap not c.if-n
 pub invariant_of-x : goal.invariant_of-x
 invariant_of-x c = record { fits = rw c.machine_of.ensures (machine_fits _ (is_yes_lem (accepted c.machine_ok.ensures (ap not c.if-not-machine_ok.false)))) }
 
-pub deliver-requires : goal.deliver-requires
-deliver-requires c = is_yes_lem (accepted c.sums_ok.ensures (ap not c.if-not-sums_ok.false))
-
 pub returns : goal.returns
 returns c =
     let s = c.deliver.ensures.1 in

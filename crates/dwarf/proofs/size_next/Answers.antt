@@ -1,27 +1,46 @@
 -- `dwarf::size_next` meets its contract.
-use mathlib.Core.Path.{◌≡◌, ◌∙◌}
-use native.Mathlib.Omega.{arith}
-use Rattle.header_keys.specs.Inputs.{inputs_of}
-use Rattle.owners.specs.Owners.{owner}
-use Rattle.dwarf.proofs.Sizing.{size_ready, size_done}
+use Rattle.std.proofs.Common.{◌∙◌}
+use Rattle.dwarf.proofs.Owners.{own_looked, found_looked}
+use Rattle.dwarf.proofs.Sizing.{own_next, other_next, size_ready, low}
 use Rattle.dwarf.proofs.size_next.Goals as goal
-use Rattle.dwarf.proofs.size_next.Goals.{After-from}
-
--- the owner that was looked up is function k's
-owner-is : (c : After-from) → c.from.result ≡ owner (inputs_of c.args.x.now) c.args.k
-owner-is c =
-    c.from.ensures ∙ c.requires.1.each_one c.args.k (omega arith)
+use Rattle.dwarf.proofs.size_next.Goals.{Start}
 
 pub written-f-requires : goal.written-f-requires
 written-f-requires c = c.requires.0.writable
 
+pub front_sized-u-requires : goal.front_sized-u-requires
+front_sized-u-requires c =
+    let s = (goal.at.front_sized-u-requires c).Start in
+    let w = c.written-f.ensures in
+    let o = own_looked _ s.requires.1 c.if-o-k.true in
+    rw (w.machine, w.rows) (low s.requires.0 w.debug w.align w.extent _ (own_next s.requires.0 w.debug w.align w.extent o))
+
 pub sized-requires : goal.sized-requires
 sized-requires c =
+    let s = (goal.at.sized-requires c).Start in
     let w = c.written-f.ensures in
-    let o = owner-is (goal.at.sized-requires c).After-from in
-    rw (w.machine, w.rows) (size_ready c.requires.0 o w.debug w.align w.extent, rw w.extent c.requires.2)
+    let o = own_looked _ s.requires.1 c.if-o-k.true in
+    rw (c.front_sized-u.ensures, w.machine, w.rows)
+    (size_ready s.requires.0 w.debug w.align w.extent _ (own_next s.requires.0 w.debug w.align w.extent o), rw w.extent s.requires.2)
+
+pub returns-then-o-k : goal.returns-then-o-k
+returns-then-o-k c =
+    let s = (goal.at.returns-then-o-k c).Start in
+    let w = c.written-f.ensures in
+    let o = own_looked _ s.requires.1 c.if-o-k.true in
+    (rw (c.front_sized-u.ensures, w.machine, w.rows) at c.sized.ensures) ∙ own_next s.requires.0 w.debug w.align w.extent o
+
+pub sized-requires-2 : goal.sized-requires-2
+sized-requires-2 c =
+    let s = (goal.at.sized-requires-2 c).Start in
+    let w = c.written-f.ensures in
+    let o = found_looked _ s.requires.1 c.if-o-k.false in
+    rw (w.machine, w.rows)
+    (size_ready s.requires.0 w.debug w.align w.extent _ (other_next s.requires.0 w.debug w.align w.extent o), rw w.extent s.requires.2)
 
 pub returns : goal.returns
 returns c =
+    let s = (goal.at.returns c).Start in
     let w = c.written-f.ensures in
-    size_done c.requires.0 (owner-is (goal.at.returns c).After-from) w.debug w.align w.extent (rw (w.machine, w.rows) at c.sized.ensures)
+    let o = found_looked _ s.requires.1 c.if-o-k.false in
+    (rw (w.machine, w.rows) at c.sized-2.ensures) ∙ other_next s.requires.0 w.debug w.align w.extent o

@@ -11,14 +11,11 @@ pub returns-then-debug : goal.returns-then-debug
 unfolding numbers_of
 returns-then-debug c = rw (relocs_debug c.args.debug c.args.m.now c.args.at c.args.e.now c.if-debug.true) idle
 
-pub pointer_place-requires : goal.pointer_place-requires
-pointer_place-requires c = ((word_bounds c.args.m.now.word c.requires.0.is_word).1, c.requires.1)
+pub invariant_of-head : goal.invariant_of-head
+invariant_of-head c = record { small = (word_bounds c.args.m.now.word c.requires.0.is_word).1 }
 
 pub pointer-requires : goal.pointer-requires
 pointer-requires c = let h = rw (count_personal c.args.debug c.args.e.now c.if-debug.false (decides c.args.e.now c.kind_of.ensures c.in-Personal.is)) at c.requires.2 in search rules
-
-pub pointer_place-requires-in-Named : goal.pointer_place-requires-in-Named
-pointer_place-requires-in-Named c = ((word_bounds c.args.m.now.word c.requires.0.is_word).1, c.requires.1)
 
 pub pointer-requires-in-Named : goal.pointer-requires-in-Named
 pointer-requires-in-Named c = let h = rw (count_named c.args.debug c.args.e.now c.if-debug.false (decides c.args.e.now c.kind_of.ensures c.in-Named.is)) at c.requires.2 in search rules
@@ -32,3 +29,6 @@ returns-in-Personal c = rw (relocs_personal c.args.debug c.args.m.now c.args.at 
 
 pub returns-in-Named : goal.returns-in-Named
 returns-in-Named c = rw (relocs_named c.args.debug c.args.m.now c.args.at c.args.e.now c.if-debug.false c.in-Named.p (decides_named c.args.e.now c.kind_of.ensures c.in-Named.is), ← c.pointer_place-in-Named.ensures) c.pointer-in-Named.ensures
+
+pub invariant_of-head-in-Named : goal.invariant_of-head-in-Named
+invariant_of-head-in-Named c = record { small = (word_bounds c.args.m.now.word c.requires.0.is_word).1 }

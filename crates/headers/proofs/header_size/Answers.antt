@@ -7,8 +7,8 @@ use Rattle.headers.proofs.Turns.{starts_short}
 use Rattle.headers.proofs.Keys.{header_length}
 use Rattle.headers.proofs.header_size.Goals as goal
 
-pub fields_size-requires : goal.fields_size-requires
-fields_size-requires c = (word_bounds c.args.f.now.machine.now.word c.args.f.now.sound.machine.is_word).1
+pub invariant_of-head : goal.invariant_of-head
+invariant_of-head c = record { small = (word_bounds c.args.f.now.machine.now.word c.args.f.now.sound.machine.is_word).1 }
 
 pub overflow_add-n-2 : goal.overflow_add-n-2
 overflow_add-n-2 c = omega (arith, c.starts_size.ensures, starts_short c.args.f.now.machine.now c.args.f.now.extent c.args.f.now.rows.now c.args.f.now.sound, c.fields_size.ensures.1)

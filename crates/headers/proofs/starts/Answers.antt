@@ -13,10 +13,11 @@ loop-i-init c = start c.requires
 pub leading_at-row-requires : goal.leading_at-row-requires
 leading_at-row-requires c = (c.args.f.now.sound.machine, c.args.f.now.sound.ready, omega (arith, c.leading_count-n.ensures, c.loop-i-test.true))
 
+pub invariant_of-word : goal.invariant_of-word
+invariant_of-word c = record { small = word_bounds c.args.f.now.machine.now.word c.args.f.now.sound.machine.is_word }
+
 pub row-p-requires : goal.row-p-requires
-row-p-requires c =
-    let w = word_bounds c.args.f.now.machine.now.word c.args.f.now.sound.machine.is_word in
-    (w.0, w.1, room c.loop-i.invariant (omega (arith, c.leading_count-n.ensures, c.loop-i-test.true)) c.leading_at-row.ensures)
+row-p-requires c = room c.loop-i.invariant (omega (arith, c.leading_count-n.ensures, c.loop-i-test.true)) c.leading_at-row.ensures
 
 pub loop-i-preserved : goal.loop-i-preserved
 loop-i-preserved c = turn c.loop-i.invariant (omega (arith, c.leading_count-n.ensures, c.loop-i-test.true)) c.leading_at-row.ensures c.row-p.ensures

@@ -13,8 +13,8 @@ loop-i-init c = size_start _ _
 pub leading_at-row-requires : goal.leading_at-row-requires
 leading_at-row-requires c = (c.args.f.now.sound.machine, c.args.f.now.sound.ready, omega (arith, c.leading_count-n.ensures, c.loop-i-test.true))
 
-pub row_size-size-requires : goal.row_size-size-requires
-row_size-size-requires c = word_bounds c.args.f.now.machine.now.word c.args.f.now.sound.machine.is_word
+pub invariant_of-word : goal.invariant_of-word
+invariant_of-word c = record { small = word_bounds c.args.f.now.machine.now.word c.args.f.now.sound.machine.is_word }
 
 pub loop-i-preserved : goal.loop-i-preserved
 loop-i-preserved c =

@@ -7,20 +7,19 @@ use Rattle.format.proofs.Storing.{start, turn, ended}
 use Rattle.leb.proofs.Fields.{little_done, little_more}
 use Rattle.leb.proofs.le.Goals as goal
 
-pub loop-init : goal.loop-init
-loop-init c =
-    let e : c.args.n - 0 ≡ c.args.n = omega arith in
+pub loop-i-init : goal.loop-i-init
+loop-i-init c =
+    let e : c.args.at + c.args.n - c.args.at ≡ c.args.n = omega arith in
     rw e (start (omega (arith, little-length c.args.n c.args.v)))
 
-pub loop-preserved : goal.loop-preserved
-loop-preserved c =
-    turn (rw (little_more (c.args.n - c.loop.counter) (c.args.n - (c.loop.counter + 1)) c.loop.x (omega arith)) at c.loop.invariant)
+pub loop-i-preserved : goal.loop-i-preserved
+loop-i-preserved c =
+    turn (rw (little_more (c.args.at + c.args.n - c.loop-i.i) (c.args.at + c.args.n - (c.loop-i.i + 1)) c.loop-i.x (omega arith)) at c.loop-i.invariant)
 
 pub bounds-out-i : goal.bounds-out-i
-bounds-out-i c = omega (arith, (loop-preserved c).kept, (loop-preserved c).room)
-
-pub overflow_add-i : goal.overflow_add-i
-overflow_add-i c = omega (arith, (loop-preserved c).kept, (loop-preserved c).room)
+bounds-out-i c = omega (arith, c.loop-i.invariant.kept)
 
 pub returns : goal.returns
-returns c = ended (rw (little_done (c.args.n - c.loop.counter) c.loop.x (omega arith)) at c.loop.invariant)
+returns c =
+    let e : c.args.at + c.args.n ≡ c.loop-i.i = omega arith in
+    rw e (ended (rw (little_done (c.args.at + c.args.n - c.loop-i.i) c.loop-i.x (omega arith)) at c.loop-i.invariant))

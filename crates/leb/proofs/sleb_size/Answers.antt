@@ -21,4 +21,4 @@ returns c =
     let m = c.magnitude.result in
     let t = leading_length 64 m (omega arith) in
     rw (← bytes_of v c.ranges.v refl c.magnitude.ensures.0)
-    (omega (arith, sleb_size (is_negative (to_z w64 (of_z w64 v))) 9 t.0 m t.3 t.2 (omega (arith, t.1)), t.1))
+    (omega (arith, sleb_size (is_negative (to_z w64 (of_z w64 v))) t.0 m t.3 t.2 (omega (arith, t.1)), t.1))

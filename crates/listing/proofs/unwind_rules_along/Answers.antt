@@ -8,18 +8,18 @@ pub returns-then-located-ne0 : goal.returns-then-located-ne0
 returns-then-located-ne0 c = rw c.unlisted.ensures (unlocated c.args.section.now c.args.located c.args.q c.args.lines.now c.if-located-ne0.true)
 
 pub returns-then-not-in_section : goal.returns-then-not-in_section
-returns-then-not-in_section c = rw c.unlisted-then-not-in_section.ensures (outside c.args.section.now c.args.located c.args.q c.args.lines.now c.if-located-ne0.false (rw c.reader_places-l.ensures at (sym c.in_section.ensures ∙ c.if-not-in_section.true)))
+returns-then-not-in_section c = rw (c.unlisted-then-not-in_section.ensures, c.number.ensures) (outside c.args.section.now c.args.located c.args.q c.args.lines.now c.if-located-ne0.false (rw c.from-l.ensures at (sym c.in_section.ensures ∙ c.if-not-in_section.true)))
 
 pub overflow_sub-located : goal.overflow_sub-located
-overflow_sub-located c = in_order c.args.section.now c.args.located c.args.q c.args.lines.now c.if-located-ne0.false (rw c.reader_places-l.ensures at (sym c.in_section.ensures ∙ c.if-not-in_section.false))
+overflow_sub-located c = in_order c.args.section.now c.args.located c.args.q c.args.lines.now c.if-located-ne0.false (rw c.from-l.ensures at (sym c.in_section.ensures ∙ c.if-not-in_section.false))
 
 pub returns-then-lines-located : goal.returns-then-lines-located
-returns-then-lines-located c = rw c.unlisted-then-lines-located.ensures (short c.args.section.now c.args.located c.args.q c.args.lines.now c.if-located-ne0.false (rw c.reader_places-l.ensures at (sym c.in_section.ensures ∙ c.if-not-in_section.false)) c.if-lines-located.true)
+returns-then-lines-located c = rw (c.unlisted-then-lines-located.ensures, c.number-then-lines-located.ensures) (short c.args.section.now c.args.located c.args.q c.args.lines.now c.if-located-ne0.false (rw c.from-l.ensures at (sym c.in_section.ensures ∙ c.if-not-in_section.false)) c.if-lines-located.true)
 
 pub fill-requires : goal.fill-requires
 unfolding reader_places
-fill-requires c = rw c.reader_places-l.ensures (asked c.args.section.now c.args.located c.args.q c.args.lines.now c.if-located-ne0.false (rw c.reader_places-l.ensures at (sym c.in_section.ensures ∙ c.if-not-in_section.false)) c.if-lines-located.false)
+fill-requires c = rw c.from-l.ensures (asked c.args.section.now c.args.located c.args.q c.args.lines.now c.if-located-ne0.false (rw c.from-l.ensures at (sym c.in_section.ensures ∙ c.if-not-in_section.false)) c.if-lines-located.false)
 
 pub returns : goal.returns
 unfolding reader_places
-returns c = listed c.args.section.now c.args.located c.args.q c.args.lines.now c.if-located-ne0.false (rw c.reader_places-l.ensures at (sym c.in_section.ensures ∙ c.if-not-in_section.false)) c.if-lines-located.false (rw c.reader_places-l.ensures at c.fill.ensures)
+returns c = listed c.args.section.now c.args.located c.args.q c.args.lines.now c.if-located-ne0.false (rw c.from-l.ensures at (sym c.in_section.ensures ∙ c.if-not-in_section.false)) c.if-lines-located.false (rw c.from-l.ensures at c.fill.ensures)

@@ -1,7 +1,13 @@
 -- `machines::fields` meets its contract.
-use Rattle.format.proofs.PutLaws.{◌then◌}
+use mathlib.Core.Path.{refl, sym}
+use Prim.Native.Nat.{ℕ}
+use mathlib.Core.List.{List, [], ◌∷◌}
+use Rattle.format.proofs.Copied.{put_front}
 use Rattle.machines.proofs.fields.Goals as goal
 
 pub returns : goal.returns
 returns c =
-    c.number-a.ensures then c.number-b.ensures then c.number-c.ensures then c.number-d.ensures then c.number-e.ensures then c.number.ensures
+    let a = c.args in
+    let m = a.m.now in
+    let ns : List ℕ = m.word ∷ m.pushed ∷ m.stack ∷ m.ret ∷ m.frame ∷ 0 ∷ [] in
+    record { past = refl; stored = rw c.copy_from_slice.ensures.after (sym (put_front a.out.now ns c.requires)) }

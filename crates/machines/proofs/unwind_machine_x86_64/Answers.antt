@@ -5,7 +5,7 @@ use borrow.Author.Rules.{rules}
 use Rattle.machines.proofs.unwind_machine_x86_64.Goals as goal
 
 pub returns-then-machine-lt-STRIDE : goal.returns-then-machine-lt-STRIDE
-returns-then-machine-lt-STRIDE c = short _ (search rules)
+returns-then-machine-lt-STRIDE c = short _ c.number.ensures (search rules)
 
 pub returns : goal.returns
 returns c =

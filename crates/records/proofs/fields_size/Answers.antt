@@ -1,6 +1,6 @@
 -- `records::fields_size` meets its contract.
 use native.Mathlib.Omega.{arith}
-use Rattle.records.proofs.CallSites.{uleb_most}
+use Rattle.headers.proofs.Lengths.{uleb_most}
 use Rattle.records.proofs.FieldLaws.{debug_length, eh_length}
 use Rattle.format.proofs.FieldsBack.{word_small}
 use Rattle.records.proofs.fields_size.Goals as goal

@@ -1,44 +1,31 @@
 -- `records::record_relocs` meets its contract.
 use native.Mathlib.Omega.{arith}
 use Rattle.format.proofs.PutLaws.{◌then◌}
-use Rattle.records.proofs.OtherRows.{others_ready}
+use Rattle.records.proofs.OtherRows.{behind_few, behind_ready}
 use Rattle.records.proofs.RelocLaws.{field_room, relocs_plain, relaxed_numbers, relaxed_room}
 use Rattle.records.proofs.record_relocs.Goals as goal
 
 pub field_relocs-a-requires : goal.field_relocs-a-requires
-field_relocs-a-requires c = (c.requires.1, omega (arith, field_room c.args.f.now.debug c.args.f.now.machine.now c.args.p.now.at c.args.p.now.cie c.args.p.now.table c.args.f.now.extent c.args.f.now.rows.now c.args.pairs.now, c.requires.2))
+field_relocs-a-requires c = omega (arith, field_room c.args.f.now.debug c.args.f.now.machine.now c.args.p.now.at c.args.p.now.cie c.args.p.now.table c.args.f.now.extent c.args.f.now.rows.now c.args.pairs.now, c.requires.1)
 
 pub returns-in_default : goal.returns-in_default
 returns-in_default c = rw (relocs_plain c.args.f.now.debug c.args.f.now.machine.now c.args.p.now.at c.args.p.now.cie c.args.p.now.table c.args.f.now.extent c.args.f.now.rows.now c.args.pairs.now c.in_default.is) c.field_relocs-a.ensures
 
-pub ahead-k-requires : goal.ahead-k-requires
-ahead-k-requires c = c.args.f.now.sound.ready
-
 pub overflow_add-place : goal.overflow_add-place
-overflow_add-place c = omega (arith, c.requires.1)
+overflow_add-place c = omega (arith, c.args.p.now.low)
 
 pub overflow_add-place-2 : goal.overflow_add-place-2
-overflow_add-place-2 c = omega (arith, c.requires.1, c.fields_size.ensures.1)
-
-pub overflow_add-others : goal.overflow_add-others
-overflow_add-others c = omega (arith, c.args.f.now.sound.ready.inside, c.ahead-k.ensures.1, c.well_formed)
-
-pub overflow_sub-others : goal.overflow_sub-others
-overflow_sub-others c = omega (arith, c.ahead-k.ensures.1)
+overflow_add-place-2 c = omega (arith, c.args.p.now.low, c.fields_size.ensures.1)
 
 pub step_relocs-requires : goal.step_relocs-requires
 step_relocs-requires c = (
-  others_ready c.args.f.now.extent c.args.f.now.rows.now c.ahead-k.ensures c.args.f.now.sound,
-  omega (arith, c.requires.1, c.fields_size.ensures.1),
-  let room = relaxed_room c.args.f.now.debug c.args.f.now.machine.now c.args.p.now.at c.args.p.now.cie c.args.p.now.table c.args.f.now.extent c.args.f.now.rows.now c.args.pairs.now c.ahead-k.ensures c.in-Some.is in
-      rw (c.fields_size.ensures.0, c.of.ensures) (omega (arith, c.requires.2, c.field_relocs-a.ensures.past)),
+  behind_ready c.args.f.now.sound c.others.ensures,
+  omega (arith, c.args.p.now.low, c.fields_size.ensures.1),
+  let room = relaxed_room c.args.f.now.debug c.args.f.now.machine.now c.args.p.now.at c.args.p.now.cie c.args.p.now.table c.args.f.now.extent c.args.f.now.rows.now c.args.pairs.now (behind_few c.others.ensures) c.in-Some.is in
+      rw (c.others.ensures.word, c.others.ensures.list, c.others.ensures.from, c.others.ensures.count, c.fields_size.ensures.0, c.of.ensures) (omega (arith, c.requires.1, c.field_relocs-a.ensures.past)),
 )
 
 pub returns : goal.returns
 returns c =
-    rw (relaxed_numbers c.args.f.now.debug c.args.f.now.machine.now c.args.p.now.at c.args.p.now.cie c.args.p.now.table c.args.f.now.extent c.args.f.now.rows.now c.args.pairs.now c.ahead-k.ensures c.in-Some.is)
-    (c.field_relocs-a.ensures then (rw (c.fields_size.ensures.0, c.of.ensures) at c.step_relocs.ensures))
-
-pub invariant_of-others : goal.invariant_of-others
-invariant_of-others c =
-    record { ready = (others_ready c.args.f.now.extent c.args.f.now.rows.now c.ahead-k.ensures c.args.f.now.sound).ready }
+    rw (relaxed_numbers c.args.f.now.debug c.args.f.now.machine.now c.args.p.now.at c.args.p.now.cie c.args.p.now.table c.args.f.now.extent c.args.f.now.rows.now c.args.pairs.now (behind_few c.others.ensures) c.in-Some.is)
+    (c.field_relocs-a.ensures then (rw (c.others.ensures.word, c.others.ensures.list, c.others.ensures.from, c.others.ensures.count, c.fields_size.ensures.0, c.of.ensures) at c.step_relocs.ensures))

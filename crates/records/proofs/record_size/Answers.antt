@@ -6,29 +6,23 @@ use lib.ListN.{length}
 use Rattle.format.proofs.EntryBack.{padding_small}
 use Rattle.records.specs.Stepped.{rows_in}
 use Rattle.records.proofs.RowLoops.{rows_at_most}
-use Rattle.records.proofs.OtherRows.{ahead_ready, others_ready, size_parted}
+use Rattle.records.specs.Written.{ahead_in}
+use Rattle.records.proofs.OtherRows.{others_ready, size_parted, leading_ready, ahead_few}
 use Rattle.records.proofs.RecordLaws.{record_long}
 use Rattle.records.proofs.record_size.Goals as goal
 use Rattle.records.proofs.record_size.Goals.{After-stepped_rows_size}
 
-pub ahead-k-requires : goal.ahead-k-requires
-ahead-k-requires c = c.args.f.now.sound.ready
-
-pub invariant_of-leading : goal.invariant_of-leading
-invariant_of-leading c =
-    record { ready = (ahead_ready c.args.f.now.extent c.args.f.now.rows.now c.ahead-k.ensures c.args.f.now.sound).ready }
-
 pub stepped_rows_size-requires : goal.stepped_rows_size-requires
-stepped_rows_size-requires c =
-    ahead_ready c.args.f.now.extent c.args.f.now.rows.now c.ahead-k.ensures c.args.f.now.sound
+stepped_rows_size-requires c = leading_ready c.args.f.now.sound c.leading.ensures
 
 -- what is left of the size is that of the rows that do not lead
 left : (c : After-stepped_rows_size) → (c.stepped_rows_size.result ≤ c.args.size) × (c.args.size - c.stepped_rows_size.result ≤ 14 * c.args.f.now.extent.rows)
 left c =
-    let q = c.ahead-k.ensures in
+    let q = ahead_few c.leading.ensures in
     let p = size_parted c.args.f.now.extent c.args.f.now.rows.now q c.args.f.now.machine.now.word in
     let l = rows_at_most (others_ready c.args.f.now.extent c.args.f.now.rows.now q c.args.f.now.sound) in
-    (omega (arith, p, c.requires.1, c.stepped_rows_size.ensures), omega (arith, p, l, c.requires.1, c.stepped_rows_size.ensures))
+    let s = rw (c.leading.ensures.word, c.leading.ensures.list, c.leading.ensures.from, c.leading.ensures.count) at c.stepped_rows_size.ensures in
+    (omega (arith, p, c.requires.1, s), omega (arith, p, l, c.requires.1, s))
 
 pub overflow_sub-body : goal.overflow_sub-body
 overflow_sub-body c = omega (arith, (left c).0)
@@ -55,10 +49,10 @@ overflow_add-result-2 c =
 
 pub returns : goal.returns
 returns c =
-    let q = c.ahead-k.ensures in
-    let e = c.args.f.now.extent in
-    let rows = c.args.f.now.rows.now in
-    let p = size_parted e rows q c.args.f.now.machine.now.word in
-    let o : c.args.size - c.stepped_rows_size.result ≡ length (rows_in c.args.f.now.machine.now.word 0 rows (e.rows_at + c.ahead-k.result) (e.rows - c.ahead-k.result)) = omega (arith, p, c.requires.1, c.stepped_rows_size.ensures) in
-    rw (record_long c.args.f.now.debug c.args.f.now.machine.now c.args.f.now.align c.args.at 0 e rows q, ← c.fields_size.ensures.0, ← o)
+    let f = c.args.f.now in
+    let q = ahead_few c.leading.ensures in
+    let p = size_parted f.extent f.rows.now q f.machine.now.word in
+    let s = rw (c.leading.ensures.word, c.leading.ensures.list, c.leading.ensures.from, c.leading.ensures.count) at c.stepped_rows_size.ensures in
+    let o : c.args.size - c.stepped_rows_size.result ≡ length (rows_in f.machine.now.word 0 f.rows.now (f.extent.rows_at + ahead_in f) (f.extent.rows - ahead_in f)) = omega (arith, p, c.requires.1, s) in
+    rw (record_long f.debug f.machine.now f.align c.args.at 0 f.extent f.rows.now q, ← c.fields_size.ensures.0, ← o)
     (omega (arith, c.padding.ensures))

@@ -1,6 +1,7 @@
 -- `records::site_size` meets its contract.
 use native.Mathlib.Omega.{arith}
-use Rattle.records.proofs.CallSites.{uleb_most, site_length}
+use Rattle.headers.proofs.Lengths.{uleb_most}
+use Rattle.records.proofs.CallSites.{site_length}
 use borrow.Author.Rules.{rules}
 use Rattle.records.proofs.site_size.Goals as goal
 

@@ -16,10 +16,13 @@ overflow_sub-offset_at c = omega (arith, c.offset_at.ensures, offset_of c.args.r
 pub advance-a-requires : goal.advance-a-requires
 advance-a-requires c = let h = rw (row_at-length, offset_of, ← c.offset_at.ensures) at c.requires.1 in search rules
 
+pub invariant_of-put : goal.invariant_of-put
+invariant_of-put c = record { small = (c.requires.0.word_low, c.requires.0.word_high) }
+
 pub put-requires : goal.put-requires
 put-requires c =
     let h = rw (row_at-length, offset_of, ← c.offset_at.ensures) at c.requires.1 in
-    (c.requires.0.word_low, c.requires.0.word_high, rw c.at.ensures (search rules))
+    rw c.at.ensures (search rules)
 
 pub returns : goal.returns
 unfolding stepped_row_bytes row_at

@@ -10,8 +10,8 @@ offset_at-requires c = c.requires.inside
 pub overflow_sub-offset_at : goal.overflow_sub-offset_at
 overflow_sub-offset_at c = omega (arith, c.offset_at.ensures, offset_of c.args.run.now.rows.now c.args.i, c.requires.forward)
 
-pub size-requires : goal.size-requires
-size-requires c = let p = c.requires in (p.word_low, p.word_high)
+pub invariant_of-size : goal.invariant_of-size
+invariant_of-size c = let p = c.requires in record { small = (p.word_low, p.word_high) }
 
 pub returns : goal.returns
 returns c =

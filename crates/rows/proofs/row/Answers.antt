@@ -17,39 +17,39 @@ def_cfa_offset-requires c = rw (passed c.in-DefCfaOffset.z (omega (arith, c.in-D
 
 pub named-requires : goal.named-requires
 unfolding row_bytes
-named-requires c = let h = rw c.in-DefCfaRegister.is at c.requires.2 in search rules
+named-requires c = let h = rw c.in-DefCfaRegister.is at c.requires in search rules
 
 pub saved-requires : goal.saved-requires
 unfolding row_bytes
-saved-requires c = rw (passed c.factored.result c.factored.type_inv ∙ c.factored.ensures ∙ ap (factor c.args.word) (passed c.in-Offset.z (omega (arith, c.in-Offset.known_told-in-Offset-1-own.given)))) (rw c.in-Offset.is at c.requires.2)
+saved-requires c = rw (passed c.factored.result c.factored.type_inv ∙ c.factored.ensures ∙ ap (factor c.args.word.bytes) (passed c.in-Offset.z (omega (arith, c.in-Offset.known_told-in-Offset-1-own.given)))) (rw c.in-Offset.is at c.requires)
 
 pub opcode-requires : goal.opcode-requires
 unfolding row_bytes
-opcode-requires c = (omega arith, rw c.in-Restore.is at c.requires.2)
+opcode-requires c = (omega arith, rw c.in-Restore.is at c.requires)
 
 pub named-requires-in-Undefined : goal.named-requires-in-Undefined
 unfolding row_bytes
-named-requires-in-Undefined c = let h = rw c.in-Undefined.is at c.requires.2 in search rules
+named-requires-in-Undefined c = let h = rw c.in-Undefined.is at c.requires in search rules
 
 pub byte-requires : goal.byte-requires
 unfolding row_bytes
-byte-requires c = let h = rw c.in-RememberState.is at c.requires.2 in search rules
+byte-requires c = let h = rw c.in-RememberState.is at c.requires in search rules
 
 pub byte-requires-in-RestoreState : goal.byte-requires-in-RestoreState
 unfolding row_bytes
-byte-requires-in-RestoreState c = let h = rw c.in-RestoreState.is at c.requires.2 in search rules
+byte-requires-in-RestoreState c = let h = rw c.in-RestoreState.is at c.requires in search rules
 
 pub byte-requires-in-NegateRaState : goal.byte-requires-in-NegateRaState
 unfolding row_bytes
-byte-requires-in-NegateRaState c = let h = rw c.in-NegateRaState.is at c.requires.2 in search rules
+byte-requires-in-NegateRaState c = let h = rw c.in-NegateRaState.is at c.requires in search rules
 
 pub named-requires-in-SameValue : goal.named-requires-in-SameValue
 unfolding row_bytes
-named-requires-in-SameValue c = let h = rw c.in-SameValue.is at c.requires.2 in search rules
+named-requires-in-SameValue c = let h = rw c.in-SameValue.is at c.requires in search rules
 
 pub in_register-requires : goal.in_register-requires
 unfolding row_bytes
-in_register-requires c = let h = simp length-append at (rw c.in-InRegister.is at c.requires.2) in search rules
+in_register-requires c = let h = simp length-append at (rw c.in-InRegister.is at c.requires) in search rules
 
 pub returns-in-DefCfa : goal.returns-in-DefCfa
 unfolding row_bytes
@@ -65,7 +65,7 @@ returns-in-DefCfaRegister c = rw c.in-DefCfaRegister.is c.named.ensures
 
 pub returns-in-Offset : goal.returns-in-Offset
 unfolding row_bytes
-returns-in-Offset c = rw c.in-Offset.is (rw (passed c.factored.result c.factored.type_inv ∙ c.factored.ensures ∙ ap (factor c.args.word) (passed c.in-Offset.z (omega (arith, c.in-Offset.known_told-in-Offset-1-own.given)))) at c.saved.ensures)
+returns-in-Offset c = rw c.in-Offset.is (rw (passed c.factored.result c.factored.type_inv ∙ c.factored.ensures ∙ ap (factor c.args.word.bytes) (passed c.in-Offset.z (omega (arith, c.in-Offset.known_told-in-Offset-1-own.given)))) at c.saved.ensures)
 
 pub returns-in-Restore : goal.returns-in-Restore
 unfolding row_bytes

@@ -17,12 +17,12 @@ overflow_add-result c = omega (arith, uleb_ten c.in-DefCfa.reg (omega (arith, c.
 pub overflow_add-result-in-DefCfa : goal.overflow_add-result-in-DefCfa
 overflow_add-result-in-DefCfa c =
     let h = rw (passed c.in-DefCfa.z (omega (arith, c.in-DefCfa.known_told-1-own.given))) at c.frame_offset_size.ensures in
-    omega (arith, uleb_ten c.in-DefCfa.reg (omega (arith, c.in-DefCfa.known_told-1-own.given)), offset_ten c.args.word c.in-DefCfa.z c.requires.0 (omega (arith, c.in-DefCfa.known_told-1-own.given)))
+    omega (arith, uleb_ten c.in-DefCfa.reg (omega (arith, c.in-DefCfa.known_told-1-own.given)), offset_ten c.args.word.bytes c.in-DefCfa.z c.args.word.small.0 (omega (arith, c.in-DefCfa.known_told-1-own.given)))
 
 pub overflow_add-result-in-DefCfaOffset : goal.overflow_add-result-in-DefCfaOffset
 overflow_add-result-in-DefCfaOffset c =
     let h = rw (passed c.in-DefCfaOffset.z (omega (arith, c.in-DefCfaOffset.known_told-in-DefCfaOffset-1-own.given))) at c.frame_offset_size-in-DefCfaOffset.ensures in
-    omega (arith, offset_ten c.args.word c.in-DefCfaOffset.z c.requires.0 (omega (arith, c.in-DefCfaOffset.known_told-in-DefCfaOffset-1-own.given)))
+    omega (arith, offset_ten c.args.word.bytes c.in-DefCfaOffset.z c.args.word.small.0 (omega (arith, c.in-DefCfaOffset.known_told-in-DefCfaOffset-1-own.given)))
 
 pub overflow_add-result-in-DefCfaRegister : goal.overflow_add-result-in-DefCfaRegister
 overflow_add-result-in-DefCfaRegister c = omega (arith, uleb_ten c.in-DefCfaRegister.reg (omega (arith, c.in-DefCfaRegister.known_told-in-DefCfaRegister-1-own.given)))
@@ -46,13 +46,13 @@ pub returns-in-DefCfa : goal.returns-in-DefCfa
 unfolding row_bytes
 returns-in-DefCfa c =
     let h = rw (passed c.in-DefCfa.z (omega (arith, c.in-DefCfa.known_told-1-own.given))) at c.frame_offset_size.ensures in
-    rw c.in-DefCfa.is (simp (frame_bytes c.args.word 0x0c 0x12 (uleb c.in-DefCfa.reg) c.in-DefCfa.z, length-append) (search rules))
+    rw c.in-DefCfa.is (simp (frame_bytes c.args.word.bytes 0x0c 0x12 (uleb c.in-DefCfa.reg) c.in-DefCfa.z, length-append) (search rules))
 
 pub returns-in-DefCfaOffset : goal.returns-in-DefCfaOffset
 unfolding row_bytes
 returns-in-DefCfaOffset c =
     let h = rw (passed c.in-DefCfaOffset.z (omega (arith, c.in-DefCfaOffset.known_told-in-DefCfaOffset-1-own.given))) at c.frame_offset_size-in-DefCfaOffset.ensures in
-    rw c.in-DefCfaOffset.is (rw (frame_bytes c.args.word 0x0e 0x13 [] c.in-DefCfaOffset.z) (search rules))
+    rw c.in-DefCfaOffset.is (rw (frame_bytes c.args.word.bytes 0x0e 0x13 [] c.in-DefCfaOffset.z) (search rules))
 
 pub returns-in-DefCfaRegister : goal.returns-in-DefCfaRegister
 unfolding row_bytes
@@ -60,7 +60,7 @@ returns-in-DefCfaRegister c = rw c.in-DefCfaRegister.is (search rules)
 
 pub returns-in-Offset : goal.returns-in-Offset
 unfolding row_bytes
-returns-in-Offset c = rw c.in-Offset.is (rw (passed c.factored.result c.factored.type_inv ∙ c.factored.ensures ∙ ap (factor c.args.word) (passed c.in-Offset.z (omega (arith, c.in-Offset.known_told-in-Offset-1-own.given)))) at c.saved_size.ensures)
+returns-in-Offset c = rw c.in-Offset.is (rw (passed c.factored.result c.factored.type_inv ∙ c.factored.ensures ∙ ap (factor c.args.word.bytes) (passed c.in-Offset.z (omega (arith, c.in-Offset.known_told-in-Offset-1-own.given)))) at c.saved_size.ensures)
 
 pub returns-in-Restore : goal.returns-in-Restore
 unfolding row_bytes

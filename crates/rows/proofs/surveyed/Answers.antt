@@ -9,9 +9,9 @@ pub at-numbers-requires : goal.at-numbers-requires
 at-numbers-requires c =
     (c.requires.1, is_yes_lem (sym c.row_ok.ensures ∙ c.if-not-row_ok.false))
 
-pub size-requires : goal.size-requires
-size-requires c =
-    (word_least c.args.word c.requires.0, (word_small c.args.word c.requires.0).1)
+pub invariant_of-size : goal.invariant_of-size
+invariant_of-size c =
+    record { small = (word_least c.args.word c.requires.0, (word_small c.args.word c.requires.0).1) }
 
 pub returns : goal.returns
 returns c =

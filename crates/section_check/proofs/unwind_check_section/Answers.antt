@@ -1,25 +1,18 @@
 -- `section_check::unwind_check_section` meets its contract.
-use mathlib.Core.Path.{refl, sym, ◌∙◌}
+use mathlib.Core.Path.{sym, ap, ◌∙◌}
 use Rattle.section_check.specs.Check.{saying}
-use Rattle.section_check.proofs.Says.{no_word, untiled, gone_over, with_meaning}
+use Rattle.section_check.specs.Answered.{checked_of}
+use Rattle.section_check.proofs.Says.{with_meaning}
 use Rattle.section_check.proofs.unwind_check_section.Goals as goal
 
-pub returns-then-not-is_word : goal.returns-then-not-is_word
+pub returns-in-Ok : goal.returns-in-Ok
 unfolding saying
-returns-then-not-is_word c =
-    let m = with_meaning c.args.section.now c.args.word (no_word _ _ (sym c.is_word.ensures ∙ c.if-not-is_word.true)) in
+returns-in-Ok c =
+    let m = with_meaning c.args.section.now c.args.word (ap checked_of (sym c.in-Ok.is) ∙ c.check.ensures) in
     record { value = m.0; means = m.1 }
 
-pub returns-then-not-tiles : goal.returns-then-not-tiles
+pub returns-in-Err : goal.returns-in-Err
 unfolding saying
-returns-then-not-tiles c =
-    let m = with_meaning c.args.section.now c.args.word (untiled _ _ (sym c.is_word.ensures ∙ c.if-not-is_word.false) (sym c.tiles.ensures ∙ c.if-not-tiles.true)) in
-    record { value = m.0; means = m.1 }
-
-pub check_records-requires : goal.check_records-requires
-check_records-requires c = (refl, rw (sym c.tiles.ensures ∙ c.if-not-tiles.false) tt)
-
-pub returns : goal.returns
-returns c =
-    let m = with_meaning c.args.section.now c.args.word (c.check_records.ensures ∙ gone_over _ _ (sym c.is_word.ensures ∙ c.if-not-is_word.false) (rw (sym c.tiles.ensures ∙ c.if-not-tiles.false) tt)) in
+returns-in-Err c =
+    let m = with_meaning c.args.section.now c.args.word (rw c.number.ensures (ap checked_of (sym c.in-Err.is) ∙ c.check.ensures)) in
     record { value = m.0; means = m.1 }

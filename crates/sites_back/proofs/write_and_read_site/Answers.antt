@@ -21,5 +21,5 @@ returns c =
     let w = c.relaxed_table-outcome.ensures in
     record {
       writes = w;
-      read_back = together _ _ _ _ _ w _ _ c.bytes_in-n.ensures c.numbers_in-m.ensures (c.unwrap_or-place.ensures ∙ (ap (λ o. unwrap_or o (2 ^ 64 - 1)) c.table_place.ensures ∙ place_or _)) c.unwind_call_site-site.ensures;
+      read_back = together _ _ _ _ _ w _ _ c.bytes_in-n.ensures c.numbers_in-m.ensures (c.unwrap_or-place.ensures ∙ (ap (λ o. unwrap_or o (2 ^ 64 - 1)) c.table_place.ensures ∙ place_or _)) c.unwind_call_site-answer.ensures;
     }

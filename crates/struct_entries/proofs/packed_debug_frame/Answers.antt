@@ -40,6 +40,6 @@ unfolding needed
 returns c =
     let a = c.args in
     record {
-      exports = handed a.x.now.machine.now a.numbers.now a.x.now.functions a.x.now.rows a.x.now.landings.now a.x.now.pairs.now (relaxed_debug_frame a.x.now.format) _ c.written_of.ensures c.relaxed_debug_frame-outcome.ensures;
+      exports = handed a.x.now.machine.now a.numbers.now a.x.now.functions a.x.now.rows a.x.now.landings.now a.x.now.pairs.now (relaxed_debug_frame a.x.now.format) _ c.from.ensures c.relaxed_debug_frame-outcome.ensures;
       numbers_after = c.clear.ensures;
     }

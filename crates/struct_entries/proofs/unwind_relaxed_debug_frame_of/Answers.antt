@@ -1,14 +1,28 @@
 -- `struct_entries::unwind_relaxed_debug_frame_of` meets its contract.
 use mathlib.Core.List.{[]}
+use mathlib.Core.Bool.{not}
+use mathlib.Core.Path.{ap}
 use Rattle.format.specs.Questions.{room_in}
 use Rattle.struct_entries.proofs.Packing.{there, debug_frame_finished}
+use Rattle.struct_entries.proofs.Parts.{refuses, accepts, debug_frame_ready}
 use Rattle.struct_entries.proofs.unwind_relaxed_debug_frame_of.Goals as goal
 
-pub debug_frame_in-requires : goal.debug_frame_in-requires
-debug_frame_in-requires c = rw c.pack-ok.ensures.1 (there c.args.numbers.now c.args.functions.now c.args.rows.now c.pack-ok.result c.pack-ok.ensures.0)
+pub returns-then-not-pack : goal.returns-then-not-pack
+returns-then-not-pack c =
+    let a = c.args in
+    debug_frame_finished a.numbers.now a.functions.now a.rows.now c.pack.result c.pack.ensures.0 a.format a.machine.now a.landings.now a.pairs.now
+    (room_in a.places.now a.bytes.now a.relocations.now []) c.pack.ensures.1
+    (refuses _ _ _ _ _ c.pack.result (ap not c.if-not-pack.true) c.debug_frame_without_numbers.ensures c.from.ensures)
+
+pub packed_debug_frame-requires : goal.packed_debug_frame-requires
+packed_debug_frame-requires c = rw c.pack.ensures.1 (there c.args.numbers.now c.args.functions.now c.args.rows.now c.pack.result c.pack.ensures.0 c.if-not-pack.false)
 
 pub returns : goal.returns
 returns c =
     let a = c.args in
-    debug_frame_finished a.numbers.now a.functions.now a.rows.now c.pack-ok.result c.pack-ok.ensures.0 a.format a.machine.now a.landings.now a.pairs.now
-    (room_in a.places.now a.bytes.now a.relocations.now []) c.pack-ok.ensures.1 c.debug_frame_in.ensures
+    let h = there a.numbers.now a.functions.now a.rows.now c.pack.result c.pack.ensures.0 c.if-not-pack.false in
+    debug_frame_finished a.numbers.now a.functions.now a.rows.now c.pack.result c.pack.ensures.0 a.format a.machine.now a.landings.now a.pairs.now
+    (room_in a.places.now a.bytes.now a.relocations.now []) c.pack.ensures.1
+    (accepts _ _ _ _ _ c.pack.result (ap not c.if-not-pack.false)
+    (debug_frame_ready a.format a.machine.now _ _ _ a.landings.now a.pairs.now _ (rw c.pack.ensures.1 h))
+    (c.packed_debug_frame.ensures.exports, c.packed_debug_frame.ensures.numbers_after))

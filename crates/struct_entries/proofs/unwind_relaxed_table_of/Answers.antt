@@ -1,13 +1,27 @@
 -- `struct_entries::unwind_relaxed_table_of` meets its contract.
+use mathlib.Core.Bool.{not}
+use mathlib.Core.Path.{ap}
 use Rattle.format.specs.Questions.{room_in}
 use Rattle.struct_entries.proofs.Packing.{there, table_finished}
+use Rattle.struct_entries.proofs.Parts.{refuses, accepts, table_ready}
 use Rattle.struct_entries.proofs.unwind_relaxed_table_of.Goals as goal
 
-pub table_in-requires : goal.table_in-requires
-table_in-requires c = rw c.pack-ok.ensures.1 (there c.args.numbers.now c.args.functions.now c.args.rows.now c.pack-ok.result c.pack-ok.ensures.0)
+pub returns-then-not-pack : goal.returns-then-not-pack
+returns-then-not-pack c =
+    let a = c.args in
+    table_finished a.numbers.now a.functions.now a.rows.now c.pack.result c.pack.ensures.0 a.format a.machine.now a.landings.now a.pairs.now
+    (room_in a.places.now a.bytes.now a.relocations.now c.args.sites.now) c.pack.ensures.1
+    (refuses _ _ _ _ _ c.pack.result (ap not c.if-not-pack.true) c.table_without_numbers.ensures c.from.ensures)
+
+pub packed_table-requires : goal.packed_table-requires
+packed_table-requires c = rw c.pack.ensures.1 (there c.args.numbers.now c.args.functions.now c.args.rows.now c.pack.result c.pack.ensures.0 c.if-not-pack.false)
 
 pub returns : goal.returns
 returns c =
     let a = c.args in
-    table_finished a.numbers.now a.functions.now a.rows.now c.pack-ok.result c.pack-ok.ensures.0 a.format a.machine.now a.landings.now a.pairs.now
-    (room_in a.places.now a.bytes.now a.relocations.now c.args.sites.now) c.pack-ok.ensures.1 c.table_in.ensures
+    let h = there a.numbers.now a.functions.now a.rows.now c.pack.result c.pack.ensures.0 c.if-not-pack.false in
+    table_finished a.numbers.now a.functions.now a.rows.now c.pack.result c.pack.ensures.0 a.format a.machine.now a.landings.now a.pairs.now
+    (room_in a.places.now a.bytes.now a.relocations.now c.args.sites.now) c.pack.ensures.1
+    (accepts _ _ _ _ _ c.pack.result (ap not c.if-not-pack.false)
+    (table_ready a.format a.machine.now _ _ _ a.landings.now a.pairs.now _ (rw c.pack.ensures.1 h))
+    (c.packed_table.ensures.exports, c.packed_table.ensures.numbers_after))

@@ -8,9 +8,9 @@ pub returns-in-Ok : goal.returns-in-Ok
 returns-in-Ok c =
     let x = place_found c.in-Ok.is c.locate.ensures in
     c.numbers_of.ensures
-    ∙ both_marked (c.rules_at-rules.ensures ∙ located_read _ _ _ _ _ _ _ x) (c.shortest_at-shortest.ensures ∙ located_shortest _ _ _ _ _ _ x)
+    ∙ both_marked (c.with_number-rules.ensures ∙ (c.rules_at.ensures ∙ located_read _ _ _ _ _ _ _ x)) (c.shortest_at-shortest.ensures ∙ located_shortest _ _ _ _ _ _ x)
 
 pub returns-in-Err : goal.returns-in-Err
 returns-in-Err c =
     c.numbers_of-in-Err.ensures
-    ∙ refused_marked _ (refused_read _ _ _ _ _ _ _ (place_refused _ _ c.in-Err.is c.locate.ensures))
+    ∙ refused_marked _ c.number.ensures (refused_read _ _ _ _ _ _ _ (place_refused _ _ c.in-Err.is c.locate.ensures))

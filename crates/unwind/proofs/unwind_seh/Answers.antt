@@ -3,4 +3,4 @@ use Rattle.unwind.proofs.Delivering.{exports}
 use Rattle.unwind.proofs.unwind_seh.Goals as goal
 
 pub returns : goal.returns
-returns c = exports c.written_of.ensures c.seh.ensures
+returns c = exports c.from.ensures c.seh.ensures

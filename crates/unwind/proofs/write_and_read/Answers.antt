@@ -2,6 +2,7 @@
 use mathlib.Core.Path.{sym, ◌∙◌}
 use native.Mathlib.Omega.{arith}
 use lib.Seq.{length-take-le}
+use Rattle.format.proofs.Bits.{flag_number}
 use Rattle.unwind.proofs.Fitting.{answer_fits}
 use Rattle.unwind.proofs.Fronts.{fronts, reading_of}
 use Rattle.unwind.proofs.Demands.{demanded}
@@ -26,5 +27,5 @@ pub returns : goal.returns
 returns c =
     let w = c.write-outcome.ensures in
     let f = fronts _ _ _ _ _ _ _ _ _ _ w (answer_fits _ _ _ _) in
-    let e = c.read-reading.ensures ∙ reading_of _ _ _ _ _ _ _ _ _ _ _ _ c.bytes_in-n.ensures c.numbers_in-m.ensures c.number.ensures c.word_in.ensures in
+    let e = c.read-answer.ensures ∙ reading_of _ _ _ _ _ _ _ _ _ _ _ _ c.bytes_in-n.ensures c.numbers_in-m.ensures (c.from.ensures ∙ flag_number _) c.word_in.ensures in
     record { writes = w; reading_value = e; demanded = demanded _ _ _ _ _ _ _ _ _ _ _ (omega (arith, c.ranges.q.fits)) w.outcome f e }

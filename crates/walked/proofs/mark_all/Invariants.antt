@@ -1,10 +1,6 @@
-use Prim.Native.Nat.{◌-◌}
-use lib.ListN.{length}
+use Rattle.reader.proofs.Reading.{Along}
 use Rattle.walked.proofs.Marking.{Marking}
 use Rattle.walked.proofs.mark_all.Given as goal
 
-abbrev pub invariant-loop-at : goal.invariant-loop-at
-invariant-loop-at l = Marking l.word l.ops l.initial.m.named l.m.named l.at
-
-abbrev pub decreases-loop-at : goal.decreases-loop-at
-decreases-loop-at l = length l.ops - l.at.at
+abbrev pub invariant-loop-read : goal.invariant-loop-read
+invariant-loop-read l = Along l.ops l.word (λ at. Marking l.word l.ops l.initial.m.named l.m.named at) l.read-iterator

@@ -5,6 +5,7 @@ use Rattle.format.specs.Prelude.{Result}
 use Rattle.unwind.proofs.Fitting.{answer_fits}
 use Rattle.unwind.proofs.Fronts.{fronts}
 use Rattle.walk.specs.Walk.{Chain}
+use Rattle.format.proofs.Bits.{flag_number}
 use Rattle.walked.specs.Entry.{chain_numbers, chain_stored}
 use Rattle.walked_back.proofs.Back.{walk_of, walks_back}
 use Rattle.walked_back.proofs.write_and_walk.Goals as goal
@@ -27,7 +28,7 @@ returns c =
     let w = c.write-outcome.ensures in
     let f = fronts _ _ _ _ _ _ _ _ _ _ w (answer_fits _ _ _ _) in
     let a = c.args in
-    let s = walk_of _ _ _ _ _ a.file.now a.pc a.stack a.placed.now _ _ _ _ c.bytes_in-n.ensures c.numbers_in-m.ensures c.number.ensures in
+    let s = walk_of _ _ _ _ _ a.file.now a.pc a.stack a.placed.now _ _ _ _ c.bytes_in-n.ensures c.numbers_in-m.ensures (c.from.ensures ∙ flag_number _) in
     let u = c.unwind_walk-answer.ensures in
     let n = u.result_value ∙ ap chain_numbers s in
     let q = u.frames_after ∙ ap (λ (x : Result Chain). chain_stored x a.frames.now) s in

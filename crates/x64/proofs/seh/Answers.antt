@@ -20,5 +20,5 @@ pub returns : goal.returns
 returns c =
     let a = c.args in
     let s = c.answer.ensures.1 in
-    rw (c.markers-1.given.1.1 (sym s.markers), c.bytes-1.given.1.1 (sym s.bytes), c.relocations-1.given.1.1 (sym s.relocations), c.info-1.given.1.1 (sym s.info))
+    rw (c.markers-1.given.1.1 (sym s.places), c.bytes-1.given.1.1 (sym s.bytes), c.relocations-1.given.1.1 (sym s.relocations), c.info-1.given.1.1 (sym s.sites))
     (rw (seh_answers a.functions.now a.codes.now (room_in a.markers.now a.bytes.now a.relocations.now a.info.now) c.if-n-eq0.false (accepted c.codes_ok.ensures (ap not c.if-not-codes_ok.false))) at c.answer.ensures.0)

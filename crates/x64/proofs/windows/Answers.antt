@@ -41,5 +41,5 @@ pub returns : goal.returns
 returns c =
     let s = c.answer.ensures.1 in
     let y = rw c.machine_of-m.ensures at (accepted c.word_ok.ensures (ap not c.if-not-word_ok.false)) in
-    rw (c.markers-1.given.1.1 (sym s.markers), c.bytes-1.given.1.1 (sym s.bytes), c.relocations-1.given.1.1 (sym s.relocations), c.info-1.given.1.1 (sym s.info))
+    rw (c.markers-1.given.1.1 (sym s.places), c.bytes-1.given.1.1 (sym s.bytes), c.relocations-1.given.1.1 (sym s.relocations), c.info-1.given.1.1 (sym s.sites))
     (rows_written (given (goal.at.returns c).Start) (room (goal.at.returns c).Start) _ c.answer.ensures.0 c.machine_of-m.ensures (accepted c.machine_ok.ensures (ap not c.if-not-machine_ok.false)) y (accepted c.ok.ensures (ap not c.if-not-ok.false)))

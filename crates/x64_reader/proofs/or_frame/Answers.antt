@@ -1,12 +1,19 @@
 -- `x64_reader::or_frame` meets its contract.
-use Rattle.x64_reader.specs.Reads.{or_frame}
-use borrow.Author.Tests.{ne_eqb}
+use Rattle.format.specs.X64Reader.{is_frame}
 use Rattle.x64_reader.proofs.or_frame.Goals as goal
 
-pub returns-then-kind-eq-FRAME : goal.returns-then-kind-eq-FRAME
-unfolding or_frame
-returns-then-kind-eq-FRAME c = rw c.if-kind-eq-FRAME.true
+pub returns-in-Push : goal.returns-in-Push
+unfolding is_frame
+returns-in-Push c = rw c.in-Push.is
 
-pub returns-else-kind-eq-FRAME : goal.returns-else-kind-eq-FRAME
-unfolding or_frame
-returns-else-kind-eq-FRAME c = rw (ne_eqb c.args.kind 2 c.if-kind-eq-FRAME.false)
+pub returns-in-Alloc : goal.returns-in-Alloc
+unfolding is_frame
+returns-in-Alloc c = rw c.in-Alloc.is
+
+pub returns-in-Frame : goal.returns-in-Frame
+unfolding is_frame
+returns-in-Frame c = rw c.in-Frame.is
+
+pub returns-in-Save : goal.returns-in-Save
+unfolding is_frame
+returns-in-Save c = rw c.in-Save.is

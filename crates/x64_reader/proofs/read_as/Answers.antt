@@ -1,14 +1,7 @@
 -- `x64_reader::read_as` meets its contract.
-use mathlib.Core.Path.{◌≡◌, refl, ◌∙◌}
-use mathlib.Core.Bool.{Bool, true, false}
-use mir.Val.{bool_byte}
-use Rattle.format.specs.Answers.{bit}
+use mathlib.Core.Path.{◌∙◌}
+use Rattle.x64_reader.proofs.Entry.{marked}
 use Rattle.x64_reader.proofs.read_as.Goals as goal
 
-marked : (b : Bool) → bool_byte b ≡ bit b
-unfolding bit
-marked true = refl
-marked false = refl
-
 pub returns : goal.returns
-returns c = rw (c.from.ensures ∙ marked c.args.framed)
+returns c = rw (c.from.ensures ∙ marked c.args.framed, c.from-2.ensures, c.from-3.ensures)

@@ -1,10 +1,5 @@
-use Prim.Native.Nat.{◌-◌}
-use lib.ListN.{length}
-use Rattle.x64_reader.proofs.Runs.{Going, Storing}
+use Rattle.x64_reader.proofs.Runs.{Reading, Storing}
 use Rattle.x64_reader.proofs.store.Given as goal
 
-abbrev pub invariant-loop-at : goal.invariant-loop-at
-invariant-loop-at l = Going (Storing l.n l.left l.initial.codes l.codes) l.frame l.s l.at
-
-abbrev pub decreases-loop-at : goal.decreases-loop-at
-decreases-loop-at l = length l.s - l.at.at
+abbrev pub invariant-loop-code : goal.invariant-loop-code
+invariant-loop-code l = Reading (Storing l.n l.left l.initial.codes l.codes) l.frame l.s l.code-iterator

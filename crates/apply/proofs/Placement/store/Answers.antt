@@ -1,84 +1,44 @@
 -- `Placement::store` meets its contract.
-use Rattle.std.proofs.Common.{refl, ◌∙◌, arith}
-use Rattle.apply.specs.Fields.{set_in, sub_in}
-use Rattle.apply.specs.Values.{symbols_of, store_as}
+use Rattle.std.proofs.Common.{◌+◌, ◌-◌, ◌%◌, ◌^◌, rules, sym, ◌∙◌}
+use Rattle.apply.specs.Values.{symbols_of, sum_of}
 use Rattle.apply.specs.Standing.{placed, meant, beside}
-use Rattle.apply.proofs.Tests.{stored_as, value_as_lem, sized_as, step_size, step_size_2}
-use Rattle.apply.proofs.Sums.{by_address, by_none}
+use Rattle.apply.proofs.Patches.{set_is, sub_is}
+use Rattle.apply.proofs.Stores.{set_inside, sub_inside, set_stored, sub_stored, whole_stored, none_stored}
 use Rattle.apply.proofs.Placement.store.Goals as goal
 
-pub set-requires : goal.set-requires
-set-requires c =
+pub patch-requires : goal.patch-requires
+patch-requires c =
     let a = c.args in
-    let e = step_size _ a.x.now.reloc.bytes (sized_as (placed a.self.now) a.copy.now (meant a.x.now.reloc) (beside a.x.now.behind) c.kind_of-k.ensures c.in-Set.is c.requires.1) in
-    omega (arith, e, c.requires.0)
+    (set_inside (placed a.self.now) a.copy.now (meant a.f.now.of.now.reloc) (beside a.f.now.of.now.behind) a.f.now.of.now.named c.requires a.f.now.sized c.in-Set.w c.in-Set.is, λ x y. tt)
 
-pub sub-requires : goal.sub-requires
-sub-requires c =
+pub patch-requires-in-Sub : goal.patch-requires-in-Sub
+patch-requires-in-Sub c =
     let a = c.args in
-    let e = step_size_2 _ a.x.now.reloc.bytes (sized_as (placed a.self.now) a.copy.now (meant a.x.now.reloc) (beside a.x.now.behind) c.kind_of-k.ensures c.in-Sub.is c.requires.1) in
-    omega (arith, e, c.requires.0)
+    (sub_inside (placed a.self.now) a.copy.now (meant a.f.now.of.now.reloc) (beside a.f.now.of.now.behind) a.f.now.of.now.named c.requires a.f.now.sized c.in-Sub.w c.in-Sub.is, λ x y. tt)
 
-pub returns-in-Data : goal.returns-in-Data
-unfolding store_as
-returns-in-Data c =
+pub returns-in-Set : goal.returns-in-Set
+returns-in-Set c =
     let a = c.args in
-    value_as_lem (placed a.self.now) a.copy.now (meant a.x.now.reloc) (beside a.x.now.behind) c.kind_of-k.ensures c.in-Data.is c.store_value.ensures refl
+    let r = meant a.f.now.of.now.reloc in
+    c.patch.ensures (λ x y. y) (λ x y v e. search rules)
+    ∙ set_is c.in-Set.w a.copy.now r.place (sum_of (symbols_of a.self.now.addresses.now) r)
+    ∙ set_stored (placed a.self.now) a.copy.now r (beside a.f.now.of.now.behind) a.f.now.of.now.named c.in-Set.w c.in-Set.is
 
-pub returns-in-Address : goal.returns-in-Address
-unfolding store_as
-returns-in-Address c =
+pub returns-in-Sub : goal.returns-in-Sub
+returns-in-Sub c =
     let a = c.args in
-    value_as_lem (placed a.self.now) a.copy.now (meant a.x.now.reloc) (beside a.x.now.behind) c.kind_of-k.ensures c.in-Address.is c.store_value-in-Address.ensures refl
-
-pub returns-in-SumPlus : goal.returns-in-SumPlus
-unfolding store_as
-returns-in-SumPlus c =
-    let a = c.args in
-    value_as_lem (placed a.self.now) a.copy.now (meant a.x.now.reloc) (beside a.x.now.behind) c.kind_of-k.ensures c.in-SumPlus.is c.store_value-in-SumPlus.ensures refl
-
-pub returns-in-SumMinus : goal.returns-in-SumMinus
-unfolding store_as
-returns-in-SumMinus c =
-    let a = c.args in
-    stored_as (placed a.self.now) a.copy.now (meant a.x.now.reloc) (beside a.x.now.behind) c.kind_of-k.ensures c.in-SumMinus.is
-
-pub returns-in-Image : goal.returns-in-Image
-unfolding store_as
-returns-in-Image c =
-    let a = c.args in
-    value_as_lem (placed a.self.now) a.copy.now (meant a.x.now.reloc) (beside a.x.now.behind) c.kind_of-k.ensures c.in-Image.is c.store_value-in-Image.ensures refl
+    let r = meant a.f.now.of.now.reloc in
+    c.patch-in-Sub.ensures (λ x y. (x + (2 ^ 64 - y)) % 2 ^ 64) (λ x y v e. search rules)
+    ∙ sub_is c.in-Sub.w a.copy.now r.place (sum_of (symbols_of a.self.now.addresses.now) r)
+    ∙ sub_stored (placed a.self.now) a.copy.now r (beside a.f.now.of.now.behind) a.f.now.of.now.named c.in-Sub.w c.in-Sub.is
 
 pub returns-in-Some : goal.returns-in-Some
-unfolding store_as set_in
 returns-in-Some c =
     let a = c.args in
-    c.set.ensures ∙ by_address (symbols_of a.self.now.addresses.now) (meant a.x.now.reloc) (set_in c.in-Set.width a.copy.now a.x.now.reloc.place) c.address_of.ensures c.in-Some.is
-    ∙ stored_as (placed a.self.now) a.copy.now (meant a.x.now.reloc) (beside a.x.now.behind) c.kind_of-k.ensures c.in-Set.is
+    c.le.ensures.stored
+    ∙ whole_stored (placed a.self.now) a.copy.now (meant a.f.now.of.now.reloc) (beside a.f.now.of.now.behind) a.f.now.of.now.named c.in_default.not-Set c.in_default.not-Sub (sym c.in-Some.is ∙ c.value.ensures)
 
-pub returns-in_default : goal.returns-in_default
-unfolding store_as set_in
-returns-in_default c =
+pub returns-in_default-value : goal.returns-in_default-value
+returns-in_default-value c =
     let a = c.args in
-    by_none (symbols_of a.self.now.addresses.now) (meant a.x.now.reloc) (set_in c.in-Set.width a.copy.now a.x.now.reloc.place) c.address_of.ensures c.in_default.is
-    ∙ stored_as (placed a.self.now) a.copy.now (meant a.x.now.reloc) (beside a.x.now.behind) c.kind_of-k.ensures c.in-Set.is
-
-pub returns-in-Some-address_of : goal.returns-in-Some-address_of
-unfolding store_as sub_in
-returns-in-Some-address_of c =
-    let a = c.args in
-    c.sub.ensures ∙ by_address (symbols_of a.self.now.addresses.now) (meant a.x.now.reloc) (sub_in c.in-Sub.width a.copy.now a.x.now.reloc.place) c.address_of-in-Sub.ensures c.in-Some-address_of.is
-    ∙ stored_as (placed a.self.now) a.copy.now (meant a.x.now.reloc) (beside a.x.now.behind) c.kind_of-k.ensures c.in-Sub.is
-
-pub returns-in_default-address_of : goal.returns-in_default-address_of
-unfolding store_as sub_in
-returns-in_default-address_of c =
-    let a = c.args in
-    by_none (symbols_of a.self.now.addresses.now) (meant a.x.now.reloc) (sub_in c.in-Sub.width a.copy.now a.x.now.reloc.place) c.address_of-in-Sub.ensures c.in_default-address_of.is
-    ∙ stored_as (placed a.self.now) a.copy.now (meant a.x.now.reloc) (beside a.x.now.behind) c.kind_of-k.ensures c.in-Sub.is
-
-pub returns-in-Unknown : goal.returns-in-Unknown
-unfolding store_as
-returns-in-Unknown c =
-    let a = c.args in
-    stored_as (placed a.self.now) a.copy.now (meant a.x.now.reloc) (beside a.x.now.behind) c.kind_of-k.ensures c.in-Unknown.is
+    none_stored (placed a.self.now) a.copy.now (meant a.f.now.of.now.reloc) (beside a.f.now.of.now.behind) a.f.now.of.now.named c.in_default.not-Set c.in_default.not-Sub (sym c.in_default-value.is ∙ c.value.ensures)

@@ -1,7 +1,7 @@
 -- `Header::put` meets its contract.
 use Rattle.format.proofs.LebBack.{little-length}
 use mathlib.Core.Path.{sym, ◌∙◌}
-use Rattle.arm64_header.specs.Header.{only_in, count_in}
+use Rattle.arm64.specs.Records.{only_in, count_in}
 use Rattle.arm64_header.proofs.Forms.{long_size, short_size, wrote_long, wrote_short}
 use native.Mathlib.Omega.{arith}
 use Rattle.arm64_header.proofs.Header.put.Goals as goal

@@ -8,11 +8,11 @@ use Rattle.arm64_runs.specs.Runs.{count_of}
 use Rattle.arm64_records.proofs.Whole.{codes_short, one_late, one_there}
 use Rattle.arm64_records.proofs.Record.count_epilogues.Goals as goal
 
-pub returns-then-h : goal.returns-then-h
-returns-then-h c =
-    let e = is_some (count_of (run_at c.args.self.now.codes.now c.args.self.now.header.count)) (sym c.in_ok-m.ensures.0) in
-    let late = one_late c.args.self.now.section.now c.args.self.now.header c.args.self.now.spelled c.if-h.true e in
-    let there = one_there c.args.self.now.section.now c.args.self.now.header c.args.self.now.spelled c.if-h.true e in
+pub returns-in_ok-m-in-Single : goal.returns-in_ok-m-in-Single
+returns-in_ok-m-in-Single c =
+    let e = is_some (count_of (run_at c.args.self.now.codes.now c.in-Single.index)) (sym c.in_ok-m-in-Single.ensures.0) in
+    let late = one_late c.args.self.now.section.now c.args.self.now.header c.args.self.now.spelled c.in-Single.is e in
+    let there = one_there c.args.self.now.section.now c.args.self.now.header c.args.self.now.spelled c.in-Single.is e in
     let l = codes_short c.args.self.now.section.now c.args.self.now.header c.args.self.now.inside in
     let w = c.args.self.now.inside.narrow.low_words in
-    (grind (arith, late, there, c.then_some.ensures), grind (arith, c.then_some.ensures, c.in_ok-m.ensures.1, ap length c.args.self.now.spelled, l, w))
+    (grind (arith, late, there, c.then_some.ensures), grind (arith, c.then_some.ensures, c.in_ok-m-in-Single.ensures.1, ap length c.args.self.now.spelled, l, w))

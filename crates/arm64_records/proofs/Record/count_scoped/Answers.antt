@@ -6,6 +6,7 @@ use Prim.Native.Nat.{ℕ}
 use native.Mathlib.Omega.{arith}
 use Rattle.format.proofs.Asked.{option_of}
 use Rattle.arm64.proofs.Coded.{is_none, is_some}
+use Rattle.arm64.specs.Records.{count_in}
 use Rattle.arm64.specs.Reader.{run_at}
 use Rattle.arm64_runs.specs.Runs.{count_of}
 use Rattle.arm64_records.specs.Parts.{words_from}
@@ -18,21 +19,21 @@ counted : List ℕ → ℕ → Option ℕ
 counted codes j = count_of (run_at codes j)
 
 pub loop-k-init : goal.loop-k-init
-loop-k-init c = total_start (words_from c.args.self.now.header.past c.args.self.now.section.now) c.args.self.now.codes.now c.args.self.now.header.count
+loop-k-init c = total_start (words_from c.args.self.now.header.past c.args.self.now.section.now) c.args.self.now.codes.now c.args.count
 
 pub returns-in_err-n : goal.returns-in_err-n
 unfolding counted
 returns-in_err-n c =
-    let e = ap (counted c.args.self.now.codes.now) (sym (index_is c.args.self.now.header.past c.loop-k.k c.args.self.now.section.now c.«word».ensures)) in
+    let e = ap (counted c.args.self.now.codes.now) (sym (index_is c.args.self.now.header.past c.loop-k.k c.args.self.now.section.now c.word-w.ensures)) in
     rw c.from_residual.ensures
     (ap option_of (sym (total_refused (words_from c.args.self.now.header.past c.args.self.now.section.now) c.args.self.now.codes.now c.loop-k.invariant c.loop-k-test.true (e ∙ is_none (counted c.args.self.now.codes.now _) (sym c.in_err-n.ensures.0)))), tt)
 
 pub loop-k-preserved : goal.loop-k-preserved
 unfolding counted
 loop-k-preserved c =
-    let e = ap (counted c.args.self.now.codes.now) (sym (index_is c.args.self.now.header.past c.loop-k.k c.args.self.now.section.now c.«word».ensures)) in
+    let e = ap (counted c.args.self.now.codes.now) (sym (index_is c.args.self.now.header.past c.loop-k.k c.args.self.now.section.now c.word-w.ensures)) in
     total_turn (words_from c.args.self.now.header.past c.args.self.now.section.now) c.args.self.now.codes.now c.loop-k.invariant c.loop-k-test.true (e ∙ is_some (counted c.args.self.now.codes.now _) (sym c.in_ok-n.ensures.0)) (omega (arith, c.in_ok-n.ensures.1, ap length c.args.self.now.spelled, codes_short c.args.self.now.section.now c.args.self.now.header c.args.self.now.inside, c.args.self.now.inside.narrow.low_words))
 
 pub returns : goal.returns
 returns c =
-    (ap option_of (sym (total_ended (words_from c.args.self.now.header.past c.args.self.now.section.now) c.args.self.now.codes.now c.loop-k.invariant (omega arith))), omega (arith, c.loop-k.invariant.small, c.loop-k.auto.k-end))
+    (ap option_of (sym (total_ended (words_from c.args.self.now.header.past c.args.self.now.section.now) c.args.self.now.codes.now c.loop-k.invariant (omega arith))), omega (arith, c.loop-k.invariant.small, c.loop-k.auto.k-end, ap count_in c.requires, c.args.self.now.inside.narrow.low_count))

@@ -5,5 +5,5 @@ use Rattle.arm64_records.proofs.Record.put_scoped.Given as goal
 
 abbrev pub invariant-loop-k : goal.invariant-loop-k
 invariant-loop-k l =
-    Listing (words_from l.self.header.past l.self.section.now) l.self.codes.now l.initial.to.epilogues.now l.to.epilogues.now l.initial.to.codes.now l.to.codes.now l.n l.self.header.count l.k l.at
+    Listing (words_from l.self.header.past l.self.section.now) l.self.codes.now l.initial.to.epilogues.now l.to.epilogues.now l.initial.to.codes.now l.to.codes.now l.n l.count l.k l.at
     × SameLists l.initial.to l.to

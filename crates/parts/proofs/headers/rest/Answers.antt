@@ -1,6 +1,7 @@
 -- `parts::headers::rest` meets its contract.
 use mathlib.Core.Path.{sym}
 use native.Mathlib.Omega.{arith}
+use Rattle.format.proofs.Bits.{flag_number}
 use Rattle.reader.specs.Fields.{letters_of}
 use Rattle.parts.proofs.Headed.{rest_bad, heading, rest_there}
 use Rattle.parts.proofs.headers.rest.Goals as goal
@@ -12,4 +13,4 @@ pub overflow_add-result : goal.overflow_add-result
 overflow_add-result c = omega (arith, (heading c.args.e.now.body.bytes.now c.args.e.now.base c.args.at c.args.e.now.body.layout.debug (letters_of c.args.p) c.args.e.now.body.layout.word c.args.reg _ c.header_tail.ensures c.in-Some.is).inside)
 
 pub returns : goal.returns
-returns c = rw (c.bit.ensures, c.bit-2.ensures, c.bit-3.ensures) (sym (rest_there c.args.e.now.body.bytes.now c.args.e.now.base c.args.at c.args.e.now.body.layout.debug (letters_of c.args.p) c.args.e.now.body.layout.word c.args.reg _ c.header_tail.ensures c.in-Some.is))
+returns c = rw (c.from.ensures, c.from-2.ensures, c.from-3.ensures, flag_number c.args.p.personality, flag_number c.args.p.lsda, flag_number c.in-Some.field-0.signal) (sym (rest_there c.args.e.now.body.bytes.now c.args.e.now.base c.args.at c.args.e.now.body.layout.debug (letters_of c.args.p) c.args.e.now.body.layout.word c.args.reg _ c.header_tail.ensures c.in-Some.is))

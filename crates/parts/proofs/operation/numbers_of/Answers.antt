@@ -16,4 +16,4 @@ pub returns-in-Does : goal.returns-in-Does
 unfolding operation_numbers
 returns-in-Does c =
     let e = passed c.offset.result c.offset.type_inv in
-    rw (c.in-Does.is, c.numbers-in-Does.ensures, c.kind.ensures, c.register.ensures, c.bits.ensures, e, c.offset.ensures) refl
+    rw (c.in-Does.is, c.numbers-in-Does.ensures, c.kind.ensures, c.from.ensures, c.register.ensures, c.bits.ensures, e, c.offset.ensures) refl

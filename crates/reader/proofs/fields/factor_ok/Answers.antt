@@ -1,14 +1,15 @@
 -- `reader::fields::factor_ok` meets its contract.
-use native.Mathlib.Omega.{arith}
-use Rattle.format.proofs.FieldsBack.{word_small}
-use Rattle.reader.proofs.Headed.{factor_fits, factor_same}
+use mathlib.Core.Path.{◌∙◌, ap}
+use lib.Dec.{eqb}
+use lib.IntN.{nat_abs}
+use mir.Facts.{to_z-of_z}
+use Rattle.reader.proofs.Headed.{factor_above, factor_size}
 use Rattle.reader.proofs.fields.factor_ok.Goals as goal
 
-pub overflow_cast-result : goal.overflow_cast-result
-overflow_cast-result c = record { sfits = omega (arith, (word_small c.args.word c.requires).1) }
-
-pub overflow_sub-result : goal.overflow_sub-result
-overflow_sub-result c = factor_fits c.args.word c.requires
+pub returns-then-z-gt0 : goal.returns-then-z-gt0
+returns-then-z-gt0 c = factor_above c.args.word c.args.z (rw (to_z-of_z c.ranges.z) at c.if-z-gt0.true)
 
 pub returns : goal.returns
-returns c = factor_same c.args.word c.requires c.args.z c.ranges.z
+returns c =
+    let e = to_z-of_z c.ranges.z in
+    ap (λ n. eqb n c.args.word) (c.unsigned_abs.ensures.value ∙ ap nat_abs e) ∙ factor_size c.args.word c.args.z (rw e at c.if-z-gt0.false)

@@ -1,17 +1,13 @@
 -- `reader::fields::lsda_in` meets its contract.
-use mathlib.Core.Bool.{not}
-use mathlib.Core.Path.{ap, sym, ◌∙◌}
-use Rattle.reader.proofs.Augmentation.{lsda_absent, lsda_empty, lsda_unknown, lsda_there}
+use mathlib.Core.Path.{sym, ◌∙◌}
+use Rattle.reader.proofs.Augmentation.{lsda_empty, lsda_unknown, lsda_there}
 use Rattle.reader.proofs.fields.lsda_in.Goals as goal
 
-pub returns-then-not-here : goal.returns-then-not-here
-returns-then-not-here c = lsda_absent c.args.s.now c.args.at c.args.here c.args.word c.requires.1 (ap not c.if-not-here.true)
-
 pub returns-then-s-from : goal.returns-then-s-from
-returns-then-s-from c = lsda_empty c.args.s.now c.args.at c.args.here c.args.word (ap not c.if-not-here.false) c.if-s-from.true
+returns-then-s-from c = lsda_empty c.args.s.now c.args.at c.args.word c.if-s-from.true
 
 pub returns-in_err-n : goal.returns-in_err-n
-returns-in_err-n c = rw c.from_residual.ensures (lsda_unknown c.args.s.now c.args.at c.args.here c.args.word (ap not c.if-not-here.false) c.if-s-from.false (sym c.pointer_size.ensures ∙ c.in_err-n.was))
+returns-in_err-n c = rw c.from_residual.ensures (lsda_unknown c.args.s.now c.args.at c.args.word c.if-s-from.false (sym c.pointer_size.ensures ∙ c.in_err-n.was))
 
 pub returns : goal.returns
-returns c = lsda_there c.args.s.now c.args.at c.args.here c.args.word (ap not c.if-not-here.false) c.if-s-from.false (sym c.pointer_size.ensures ∙ c.in_ok-n.was)
+returns c = lsda_there c.args.s.now c.args.at c.args.word c.if-s-from.false (sym c.pointer_size.ensures ∙ c.in_ok-n.was)

@@ -5,6 +5,7 @@ use Rattle.std.proofs.lemmas.Result.{err_from_is_err_and}
 use Rattle.reader.proofs.Acting.{no_change, change}
 use native.Mathlib.Omega.{arith}
 use Rattle.rows.proofs.Signs.{passed}
+use Rattle.format.specs.Coded.{numbered}
 use Rattle.format.specs.Prelude.{good}
 use Rattle.reader.specs.OneRegister.{act}
 use Rattle.reader.specs.States.{run_of}
@@ -18,25 +19,25 @@ pub returns-in_err-reg-in-DefCfaOffset : goal.returns-in_err-reg-in-DefCfaOffset
 unfolding act run_of
 returns-in_err-reg-in-DefCfaOffset c =
     let p = err_from_is_err_and c.from_residual.result c.from_residual.ensures.1 in
-    rw (p.1, p.2, c.in-DefCfaOffset.is) (no_change _ 0 _ _ (sym c.register_rule.ensures ∙ c.in_err-reg-in-DefCfaOffset.was)).0
+    rw (p.1, p.2, c.in-DefCfaOffset.is) (no_change _ 0 _ _ (sym c.register_rule.ensures ∙ ap numbered c.in_err-reg-in-DefCfaOffset.was)).0
 
 pub returns-in_ok-reg-in-DefCfaOffset : goal.returns-in_ok-reg-in-DefCfaOffset
 unfolding act run_of
 returns-in_ok-reg-in-DefCfaOffset c =
     rw (c.in-DefCfaOffset.is, rw (passed c.in-DefCfaOffset.z (omega arith)) at c.set_cfa-in-DefCfaOffset.ensures)
-    (change _ 0 _ _ (sym c.register_rule.ensures ∙ c.in_ok-reg-in-DefCfaOffset.was)).0
+    (change _ 0 _ _ (sym c.register_rule.ensures ∙ ap numbered c.in_ok-reg-in-DefCfaOffset.was)).0
 
 pub returns-in_err-z-in-DefCfaRegister : goal.returns-in_err-z-in-DefCfaRegister
 unfolding act run_of
 returns-in_err-z-in-DefCfaRegister c =
     let p = err_from_is_err_and c.from_residual-in_err-z-in-DefCfaRegister.result c.from_residual-in_err-z-in-DefCfaRegister.ensures.1 in
-    rw (p.1, p.2, c.in-DefCfaRegister.is) (no_change (pos 0) _ _ _ (sym c.register_rule-in-DefCfaRegister.ensures ∙ c.in_err-z-in-DefCfaRegister.was)).1
+    rw (p.1, p.2, c.in-DefCfaRegister.is) (no_change (pos 0) _ _ _ (sym c.register_rule-in-DefCfaRegister.ensures ∙ ap numbered c.in_err-z-in-DefCfaRegister.was)).1
 
 pub returns-in_ok-z-in-DefCfaRegister : goal.returns-in_ok-z-in-DefCfaRegister
 unfolding act run_of
 returns-in_ok-z-in-DefCfaRegister c =
     rw (c.in-DefCfaRegister.is, rw (passed c.in_ok-z-in-DefCfaRegister.z (omega arith)) at c.set_cfa-in-DefCfaRegister.ensures)
-    (change (pos 0) _ _ _ (sym c.register_rule-in-DefCfaRegister.ensures ∙ c.in_ok-z-in-DefCfaRegister.was)).1
+    (change (pos 0) _ _ _ (sym c.register_rule-in-DefCfaRegister.ensures ∙ ap numbered c.in_ok-z-in-DefCfaRegister.was)).1
 
 pub returns-in-Offset : goal.returns-in-Offset
 unfolding act run_of

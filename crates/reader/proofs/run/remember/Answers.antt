@@ -1,13 +1,10 @@
 -- `reader::run::remember` meets its contract.
-use mathlib.Core.Path.{sym, ◌∙◌}
-use Rattle.reader.proofs.Acting.{full, remembered, room}
+use mathlib.Core.Path.{refl}
+use Rattle.reader.proofs.Acting.{full, remembered}
 use Rattle.reader.proofs.run.remember.Goals as goal
 
-pub returns-then-is_full : goal.returns-then-is_full
-returns-then-is_full c = full c.args.s.now (sym c.is_full.ensures ∙ c.if-is_full.true)
-
-pub push-requires : goal.push-requires
-push-requires c = room c.args.s.now (sym c.is_full.ensures ∙ c.if-is_full.false)
+pub returns-in_default : goal.returns-in_default
+returns-in_default c = full c.args.s.now c.in_default.ensures.full
 
 pub returns : goal.returns
-returns c = remembered c.args.s.now (sym c.is_full.ensures ∙ c.if-is_full.false) c.push.ensures
+returns c = remembered c.args.s.now (c.in-Ok.ensures.variant.0 refl) c.in-Ok.ensures.ok

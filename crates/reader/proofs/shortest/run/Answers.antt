@@ -1,41 +1,50 @@
 -- `reader::shortest::run` meets its contract.
-use mathlib.Core.Path.{sym, ◌∙◌}
+use mathlib.Core.Path.{◌∙◌}
 use borrow.Author.Tests.{not-true, not-false}
-use Rattle.reader.proofs.Marks.{start, ended, unread, shorter, long_operand, far_step, near_step, pad_passed, row_passed}
+use Rattle.reader.proofs.Reading.{along, read, inside, onward, all_read}
+use Rattle.reader.proofs.Marks.{start, ended, unread, long_operand, far_step, near_step, pad_passed, row_passed}
 use Rattle.reader.proofs.shortest.run.Goals as goal
 
 pub operations-init : goal.operations-init
-operations-init c = start _ _ _
+operations-init c =
+    let e = c.new-read-items.ensures in
+    rw (c.into_iter-read-iterator.ensures.into_iter_gives) (along e.0 e.1 e.2 (start c.args.s.now c.args.word c.args.p))
 
 pub returns-in_default : goal.returns-in_default
-returns-in_default c = unread c.operations.invariant c.operations-test.true (sym c.operation.ensures ∙ c.in_default.is)
+returns-in_default c =
+    let i = c.operations.invariant in
+    let g = c.in-Some.ensures.steps in
+    unread i.here (inside i g) (read i g ∙ c.in_default.is)
 
 pub returns-then-not-next : goal.returns-then-not-next
-returns-then-not-next c = long_operand c.operations.invariant c.operations-test.true (sym c.operation.ensures ∙ c.in-Some.is) (not-true _ c.if-not-next.true)
-
-pub operations-smaller-in-Nop : goal.operations-smaller-in-Nop
-operations-smaller-in-Nop c = shorter c.operations.invariant c.operations-test.true (sym c.operation.ensures ∙ c.in-Some.is)
+returns-then-not-next c =
+    let i = c.operations.invariant in
+    let g = c.in-Some.ensures.steps in
+    long_operand i.here (inside i g) (read i g ∙ c.in-Some-read.is) (not-true _ c.if-not-next.true)
 
 pub operations-preserved-in-Nop : goal.operations-preserved-in-Nop
-operations-preserved-in-Nop c = pad_passed c.operations.invariant c.operations-test.true (sym c.operation.ensures ∙ c.in-Some.is) (not-false _ c.if-not-next.false) c.in-Nop.is
-
-pub operations-smaller-in-Does : goal.operations-smaller-in-Does
-operations-smaller-in-Does c = shorter c.operations.invariant c.operations-test.true (sym c.operation.ensures ∙ c.in-Some.is)
+operations-preserved-in-Nop c =
+    let i = c.operations.invariant in
+    let g = c.in-Some.ensures.steps in
+    onward i g c.in-Some-read.is (pad_passed i.here (inside i g) (read i g ∙ c.in-Some-read.is) (not-false _ c.if-not-next.false) c.in-Nop.is)
 
 pub operations-preserved-in-Does : goal.operations-preserved-in-Does
-operations-preserved-in-Does c = row_passed c.operations.invariant c.operations-test.true (sym c.operation.ensures ∙ c.in-Some.is) (not-false _ c.if-not-next.false) c.in-Does.is
-
-pub overflow_sub-p : goal.overflow_sub-p
-overflow_sub-p c = c.operations.invariant.near
+operations-preserved-in-Does c =
+    let i = c.operations.invariant in
+    let g = c.in-Some.ensures.steps in
+    onward i g c.in-Some-read.is (row_passed i.here (inside i g) (read i g ∙ c.in-Some-read.is) (not-false _ c.if-not-next.false) c.in-Does.is)
 
 pub returns-then-p-loc : goal.returns-then-p-loc
-returns-then-p-loc c = far_step c.operations.invariant c.operations-test.true (sym c.operation.ensures ∙ c.in-Some.is) (not-false _ c.if-not-next.false) c.in-Step.is c.if-p-loc.true
-
-pub operations-smaller : goal.operations-smaller
-operations-smaller c = shorter c.operations.invariant c.operations-test.true (sym c.operation.ensures ∙ c.in-Some.is)
+returns-then-p-loc c =
+    let i = c.operations.invariant in
+    let g = c.in-Some.ensures.steps in
+    far_step i.here (inside i g) (read i g ∙ c.in-Some-read.is) (not-false _ c.if-not-next.false) c.in-Step.is c.if-p-loc.true
 
 pub operations-preserved : goal.operations-preserved
-operations-preserved c = near_step c.operations.invariant c.operations-test.true (sym c.operation.ensures ∙ c.in-Some.is) (not-false _ c.if-not-next.false) c.in-Step.is c.if-p-loc.false
+operations-preserved c =
+    let i = c.operations.invariant in
+    let g = c.in-Some.ensures.steps in
+    onward i g c.in-Some-read.is (near_step i.here (inside i g) (read i g ∙ c.in-Some-read.is) (not-false _ c.if-not-next.false) c.in-Step.is c.if-p-loc.false)
 
 pub returns : goal.returns
-returns c = ended c.operations.invariant c.operations-test.false
+returns c = ended c.operations.invariant.here (all_read c.operations.invariant c.in-None.ensures.steps)

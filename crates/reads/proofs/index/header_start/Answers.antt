@@ -31,8 +31,8 @@ returns-then-eq c =
 pub header_from-requires : goal.header_from-requires
 header_from-requires c =
     let a = c.args in
-    rw c.mark_before-mark.ensures
-    (before_ahead a.marks.now a.step _ a.section.now.bytes.now c.requires.5, before_place a.marks.now a.step _)
+    rw c.before-mark.ensures
+    (before_ahead a.stretches.now.marks a.stretches.now.step _ a.section.now.bytes.now c.requires.4, before_place a.stretches.now.marks a.stretches.now.step _)
 
 pub returns-in_err-cie : goal.returns-in_err-cie
 unfolding stored_as

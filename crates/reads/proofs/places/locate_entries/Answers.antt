@@ -17,5 +17,5 @@ returns c =
     let a = c.args in
     let h = c.requires in
     let e = rw c.in_ok-l.was at c.parse.ensures.ends in
-    ap Ok c.numbers_of.ensures
+    ap Ok c.from.ensures
     ∙ entries_located a.section.now.bytes.now a.section.now.layout.debug a.section.now.layout.word a.cie.at a.cie.end a.fde.at a.fde.end h.0.0 h.0.1 h.1.0 h.1.1 (place_found c.in_ok-l.was c.parse.ensures.located) e.0 e.1

@@ -3,12 +3,11 @@ use mathlib.Core.Path.{sym, ◌∙◌}
 use native.Mathlib.Omega.{arith}
 use native.Mathlib.Numerals.{add-one}
 use Rattle.prologue.proofs.Neighbours.{joined_above}
-use Rattle.prologue.proofs.Rows.{row_at_short}
 use Rattle.prologue.proofs.Walked.{at_push, at_lone}
 use Rattle.prologue.proofs.given.FunctionRows.read_last.Goals as goal
 
 pub row_at-r-requires : goal.row_at-r-requires
-row_at-r-requires c = (omega arith, c.args.self.now.ready.ok c.args.i c.requires.0.0 c.requires.0.1)
+row_at-r-requires c = (omega arith, c.args.self.now.ready.ok c.args.i c.requires.0 c.requires.1)
 
 pub overflow_sub-i : goal.overflow_sub-i
 overflow_sub-i c = omega (arith, joined_above _ c.args.self.now.at c.args.i (sym c.joined.ensures ∙ c.if-joined.true))
@@ -17,11 +16,6 @@ pub row_at-requires : goal.row_at-requires
 row_at-requires c =
     let l = joined_above _ c.args.self.now.at c.args.i (sym c.joined.ensures ∙ c.if-joined.true) in
     (omega arith, c.args.self.now.ready.ok _ (omega arith) (omega arith))
-
-pub push_rows-requires : goal.push_rows-requires
-push_rows-requires c =
-    let l = joined_above _ c.args.self.now.at c.args.i (sym c.joined.ensures ∙ c.if-joined.true) in
-    (rw c.row_at.ensures (row_at_short _ _ (c.args.self.now.ready.ok _ (omega arith) (omega arith))), c.requires.1)
 
 pub returns-then-joined : goal.returns-then-joined
 returns-then-joined c =

@@ -1,5 +1,5 @@
 -- `given::FunctionRows::read_rows` meets its contract.
-use mathlib.Core.Path.{refl, ◌∙◌, sym}
+use mathlib.Core.Path.{refl}
 use native.Mathlib.Omega.{arith}
 use mir.Syntax.{w64}
 use mir.Facts.{to_z_pos}
@@ -16,11 +16,11 @@ loop-i-init c = rw (to_z_pos w64 {n = c.args.m.now.machine.now.pushed} (omega ar
 pub returns-in_err-w : goal.returns-in_err-w
 returns-in_err-w c =
     let p = err_from_is_err_and c.from_residual.result c.from_residual.ensures.1 in
-    rw (p.1, p.2) (rw (walk_stopped c.loop-i.invariant c.loop-i-test.true (err_of _ _ (sym c.in_err-w.was ∙ c.read_row.ensures))) (refl, tt))
+    rw (p.1, p.2) (rw (walk_stopped c.loop-i.invariant c.loop-i-test.true (err_of _ c.in_err-w.was c.read_row.ensures)) (refl, tt))
 
 pub loop-i-preserved : goal.loop-i-preserved
 loop-i-preserved c =
-    walk_turn c.loop-i.invariant c.loop-i-test.true (ok_of _ _ (sym c.in_ok-w.was ∙ c.read_row.ensures)) c.args.self.now.ready
+    walk_turn c.loop-i.invariant c.loop-i-test.true (ok_of _ c.in_ok-w.was c.read_row.ensures) c.args.self.now.ready
 
 pub returns : goal.returns
 returns c = rw (walk_ended c.loop-i.invariant c.loop-i-test.false) (refl, c.loop-i.invariant.short)

@@ -1,7 +1,6 @@
 -- `given::X64Machine::push_rows` meets its contract.
 use borrow.Enum.Refused.{opened}
 use native.Mathlib.Omega.{arith}
-use Rattle.format.specs.Rows.{offset_of}
 use Rattle.rows.proofs.Signs.{passed}
 use Rattle.prologue.proofs.Frames.{push_first, push_second}
 use Rattle.prologue.proofs.given.X64Machine.push_rows.Goals as goal
@@ -11,12 +10,6 @@ returns-in_default c = rw (← push_first c.args.self.now.machine.now c.args.a c
 
 pub returns-in_default-b : goal.returns-in_default-b
 returns-in_default-b c = rw (← push_second c.args.self.now.machine.now c.args.a c.args.b c.args.w (opened c.in_default-b.in_default-b-own.keys2))
-
-pub pushed-requires : goal.pushed-requires
-unfolding offset_of
-pushed-requires c =
-    let e = passed c.in-DefCfaOffset.z (omega (arith, c.in-DefCfaOffset.known_told-1-own.given)) in
-    (rw e (rw c.in-DefCfaOffset.is at c.requires.0), c.requires.1)
 
 pub returns : goal.returns
 returns c =

@@ -1,11 +1,7 @@
-use Prim.Native.Nat.{◌-◌}
-use lib.ListN.{length}
 use Rattle.format.specs.Reader.{header_at}
+use Rattle.reader.proofs.Giving.{Over}
 use Rattle.reader.proofs.Seeking.{Seeking}
 use Rattle.reader.proofs.section.Section.header_from.Given as goal
 
-abbrev pub invariant-loop-next : goal.invariant-loop-next
-invariant-loop-next l = Seeking l.self.bytes.now (header_at l.self.layout.debug l.place l.before) (header_at l.self.layout.debug l.place l.before) l.next
-
-abbrev pub decreases-loop-next : goal.decreases-loop-next
-decreases-loop-next l = length l.self.bytes.now - l.next
+abbrev pub invariant-loop-entry : goal.invariant-loop-entry
+invariant-loop-entry l = Over l.self.bytes.now (Seeking l.self.bytes.now (header_at l.self.layout.debug l.place l.before) (header_at l.self.layout.debug l.place l.before)) l.entry-iterator

@@ -1,7 +1,8 @@
 -- `reader::section::Section::header_of` meets its contract.
 use mathlib.Core.Path.{sym, ◌∙◌}
+use native.Mathlib.Omega.{arith}
 use Rattle.format.specs.Prelude.{after}
-use Rattle.reader.proofs.Seeking.{number_is, number_none}
+use Rattle.reader.proofs.Seeking.{first_ahead, number_is, number_none}
 use Rattle.reader.proofs.section.Section.header_of.Goals as goal
 
 pub returns-in_err-place : goal.returns-in_err-place
@@ -10,4 +11,7 @@ returns-in_err-place c = rw (c.from_residual.ensures, number_none _ (sym c.heade
 
 pub returns : goal.returns
 unfolding after
-returns c = rw (number_is _ (sym c.header_place.ensures ∙ c.in_ok-place.was)) c.header_span.ensures
+returns c = rw (number_is _ (sym c.header_place.ensures ∙ c.in_ok-place.was)) c.header_from.ensures
+
+pub header_from-requires : goal.header_from-requires
+header_from-requires c = (first_ahead c.args.self.now.bytes.now c.requires.1, omega arith)

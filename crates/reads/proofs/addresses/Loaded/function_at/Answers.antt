@@ -21,5 +21,4 @@ function_of-requires c = let e = entered c.args.self.now.section.bytes.now c.arg
 pub returns : goal.returns
 returns c =
     let a = c.args in
-    c.ok_or.ensures.value
-    ∙ function_given a.self.now.section.bytes.now a.self.now.section.layout.debug a.self.now.section.layout.word a.self.now.address a.at (sym c.entry_end.ensures ∙ c.in-Some.is) (sym c.is_header.ensures ∙ c.if-is_header.false) _ c.function_of.ensures
+    rw c.ok_or.ensures.value (function_given a.self.now.section.bytes.now a.self.now.section.layout.debug a.self.now.section.layout.word a.self.now.address a.at (sym c.entry_end.ensures ∙ c.in-Some.is) (sym c.is_header.ensures ∙ c.if-is_header.false) _ c.function_of.ensures)

@@ -5,7 +5,7 @@ use Rattle.rows.proofs.ShortSizes.{sized}
 use Rattle.rows.proofs.row_numbers.RowNumbers.size.Goals as goal
 
 pub scaled-y-requires : goal.scaled-y-requires
-scaled-y-requires c = (c.requires.1, (row_numbers c.args.self.kind c.args.self.register c.args.self.operand c.args.self.ok).off_low)
+scaled-y-requires c = (c.args.word.small.1, (row_numbers c.args.self.kind c.args.self.register c.args.self.operand c.args.self.ok).off_low)
 
 pub short_size-requires : goal.short_size-requires
 short_size-requires c =
@@ -16,4 +16,4 @@ overflow_add-result c = omega (arith, c.short_size.ensures.1, c.second_byte.ensu
 
 pub returns : goal.returns
 returns c =
-    sized c.args.word c.args.self.register c.args.self.operand c.requires.0 c.requires.1 c.if-self-gt-MOST_IN_OPCODE.false c.args.self.kind c.args.self.ok c.scaled-y.ensures c.if-word-y.false c.short_size.ensures.0 c.second_byte.ensures.0
+    sized c.args.word.bytes c.args.self.register c.args.self.operand c.args.word.small.0 c.args.word.small.1 c.if-self-gt-MOST_IN_OPCODE.false c.args.self.kind c.args.self.ok c.scaled-y.ensures c.if-word-y.false c.short_size.ensures.0 c.second_byte.ensures.0

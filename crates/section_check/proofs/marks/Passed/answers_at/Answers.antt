@@ -9,7 +9,7 @@ returns-in_default c = headless c.args.self.now.section.now.bytes.now c.args.sel
 pub parse-requires : goal.parse-requires
 parse-requires c =
     let h = header_stands c.args.self.now.section.now.bytes.now c.args.self.now.section.now.layout.word c.args.fde.at c.args.fde.end c.args.p c.header_of.ensures c.in-Some.is in
-    ((h.long, h.inside), c.requires.0)
+    ((h.long, h.inside), c.requires)
 
 pub returns-in_default-parse : goal.returns-in_default-parse
 returns-in_default-parse c = unparsed c.args.self.now.section.now.bytes.now c.args.self.now.section.now.layout.word c.args.fde.at c.args.fde.end c.args.p c.header_of.ensures c.in-Some.is (rw c.args.self.now.eh at c.parse.ensures.located) c.in_default-parse.is

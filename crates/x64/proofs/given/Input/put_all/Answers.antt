@@ -10,5 +10,5 @@ overflow_mul-result c = record { fits = omega (arith, c.args.self.now.listed.mos
 pub returns : goal.returns
 returns c = (
   all_stored c.args.self.now.listed c.requires.0 c.requires.1 c.fill.ensures c.put_runtime.ensures c.put_infos.ensures.0 c.put_infos.ensures.1,
-  record { markers = refl; bytes = refl; relocations = refl; info = refl },
+  record { places = refl; bytes = refl; relocations = refl; sites = refl },
 )

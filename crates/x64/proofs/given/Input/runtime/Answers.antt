@@ -1,4 +1,6 @@
 -- `given::Input::runtime` meets its contract.
+use mathlib.Core.Path.{ap}
+use Prim.Native.Nat.{ℕ}
 use native.Mathlib.Omega.{arith}
 use Rattle.format.specs.Lists.{numbers_of}
 use Rattle.format.specs.X64.{runtime_relocs}
@@ -18,4 +20,6 @@ relocation-requires c = omega (arith, c.requires.1, c.relocation-b.ensures.past,
 
 pub returns : goal.returns
 unfolding numbers_of runtime_relocs
-returns c = rw (← c.number_at-symbol.ensures, ← c.number_at-size.ensures) (c.relocation-a.ensures then c.relocation-b.ensures then c.relocation.ensures)
+returns c =
+    rw (← ap (λ (x : ℕ × ℕ). x.0) c.named-symbol.ensures, ← ap (λ (x : ℕ × ℕ). x.1) c.named-symbol.ensures)
+    (c.relocation-a.ensures then c.relocation-b.ensures then c.relocation.ensures)

@@ -1,9 +1,11 @@
-use Rattle.x64.proofs.Walks.{Going, Summing}
-use Rattle.x64.specs.Sources.{codes_in}
-use Rattle.format.specs.declared.Seh.{Seh}
-use Prim.Native.Nat.{ℕ, ◌-◌, ◌*◌, ◌≤◌}
-use mathlib.Core.List.{List}
+use Prim.Native.Nat.{◌+◌, ◌*◌, ◌≤◌}
+use lib.ListN.{length}
+use Rattle.format.specs.Lists.{most_records}
+use Rattle.format.specs.Writer.{joined}
+use Rattle.x64.specs.Given.{codes_by, pieces_left}
+use Rattle.x64.proofs.Walks.{Summing}
 use Rattle.x64.proofs.given.Span.codes_summary.Given as goal
 
-abbrev pub invariant-loop-i : goal.invariant-loop-i
-invariant-loop-i l = Going (λ (cs : List (ℕ × Seh)). Summing (codes_in l.self.source l.self.list.now l.self) cs l.t) l.self.source l.self.list.now l.self l.sofar l.i × (l.t.slots ≤ 3 * (l.i - l.self.first))
+abbrev pub invariant-loop-c : goal.invariant-loop-c
+invariant-loop-c l =
+    Summing (codes_by l.self) (joined (pieces_left l.c-iterator)) l.t × (l.t.slots + 3 * length (pieces_left l.c-iterator) ≤ 3 * most_records)

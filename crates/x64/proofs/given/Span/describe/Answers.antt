@@ -1,5 +1,5 @@
 -- `given::Span::describe` meets its contract.
-use Rattle.x64.proofs.Infos.{Agreed, agreed, counted, described}
+use Rattle.x64.proofs.Infos.{Agreed, agreed, described}
 use Rattle.codes.proofs.Sizes.{info_parts}
 use Rattle.format.proofs.PutLaws.{kept}
 use Rattle.x64.specs.Sources.{codes_in}
@@ -20,7 +20,7 @@ answered : (s : Start) → Agreed s.args.self.now.end (cs s)
 answered s = agreed s.args.self.now.end (cs s) s.requires.0
 
 held : (c : After-codes_summary-t) → c.codes_summary-t.result.slots ≡ slots (codes_in c.args.self.now.source c.args.self.now.list.now c.args.self.now)
-held c = counted _ c.codes_summary-t.ensures
+held c = c.codes_summary-t.ensures.slots
 
 pub frame_byte-frame-requires : goal.frame_byte-frame-requires
 frame_byte-frame-requires c = let a = answered (goal.at.frame_byte-frame-requires c).Start in (a.codes, a.frames)

@@ -1,9 +1,7 @@
-use Rattle.x64.proofs.Walks.{Going, Framing}
-use Rattle.x64.specs.Sources.{codes_in}
-use Rattle.format.specs.declared.Seh.{Seh}
-use Prim.Native.Nat.{ℕ}
-use mathlib.Core.List.{List}
+use Rattle.format.specs.Writer.{joined}
+use Rattle.x64.specs.Given.{codes_by, pieces_left}
+use Rattle.x64.proofs.Walks.{Framing}
 use Rattle.x64.proofs.given.Span.frame_byte.Given as goal
 
-abbrev pub invariant-loop-i : goal.invariant-loop-i
-invariant-loop-i l = Going (λ (cs : List (ℕ × Seh)). Framing (codes_in l.self.source l.self.list.now l.self) cs l.b) l.self.source l.self.list.now l.self l.sofar l.i
+abbrev pub invariant-loop-c : goal.invariant-loop-c
+invariant-loop-c l = Framing (codes_by l.self) (joined (pieces_left l.c-iterator)) l.b

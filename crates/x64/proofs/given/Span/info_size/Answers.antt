@@ -1,5 +1,5 @@
 -- `given::Span::info_size` meets its contract.
-use Rattle.x64.proofs.Infos.{Agreed, agreed, counted}
+use Rattle.x64.proofs.Infos.{Agreed, agreed}
 use Rattle.codes.proofs.Sizes.{info_parts}
 use Rattle.x64.specs.Sources.{codes_in}
 use Rattle.format.specs.X64.{slots}
@@ -13,7 +13,7 @@ few : (s : Start) → Agreed s.args.self.now.end (codes_in s.args.self.now.sourc
 few s = agreed s.args.self.now.end (codes_in s.args.self.now.source s.args.self.now.list.now s.args.self.now) s.requires
 
 held : (c : After-codes_summary-t) → c.codes_summary-t.result.slots ≡ slots (codes_in c.args.self.now.source c.args.self.now.list.now c.args.self.now)
-held c = counted _ c.codes_summary-t.ensures
+held c = c.codes_summary-t.ensures.slots
 
 pub overflow_mul-result : goal.overflow_mul-result
 overflow_mul-result c = let a = few (goal.at.overflow_mul-result c).Start in let e = held c in search rules

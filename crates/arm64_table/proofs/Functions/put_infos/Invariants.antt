@@ -1,6 +1,0 @@
-use Rattle.arm64_function.specs.Listed.{function_in}
-use Rattle.arm64_table.proofs.Loops.{Describing}
-use Rattle.arm64_table.proofs.Functions.put_infos.Given as goal
-
-abbrev pub invariant-loop-k : goal.invariant-loop-k
-invariant-loop-k l = Describing (function_in l.self.lists) l.self.count l.initial.markers l.markers l.initial.info l.info l.k l.at

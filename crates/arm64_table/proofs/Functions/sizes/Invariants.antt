@@ -1,6 +1,0 @@
-use Rattle.arm64_function.specs.Listed.{function_in}
-use Rattle.arm64_table.proofs.Loops.{Summing}
-use Rattle.arm64_table.proofs.Functions.sizes.Given as goal
-
-abbrev pub invariant-loop-k : goal.invariant-loop-k
-invariant-loop-k l = Summing (function_in l.self.lists) l.self.count l.k l.info l.relocations
