@@ -39,6 +39,8 @@ impl Machine {
     };
 
     // A machine of the given numbers. Whether it is one is question 11, asked where it is used.
+    // Kept: beside the struct's public fields, and `x86_64` beside `X86_64`: a constructor and a ready machine are asked for (document 01), and a
+    // constant has no contract.
     pub fn new(word: u64, pushed: u64, stack: u64, ret: u64, frame: u64, map: [u8; 64]) -> Machine
         ensures { result ≡ machine_with word pushed stack ret frame map }
     {
@@ -138,6 +140,18 @@ pub enum Operation {
 pub struct Refusal {
     pub question: Question,
     pub position: u64,
+}
+
+// A question that is asked of no function: its position is 0.
+impl From<Question> for Refusal {
+    ghost from_gives = { λ q r. r ≡ record { question = q; position = 0 } };
+
+    fn from(question: Question) -> Refusal {
+        Refusal {
+            question,
+            position: 0,
+        }
+    }
 }
 
 // Elements of header places (or markers), bytes, relocations (of five numbers), bytes of call sites (or x64 info).
