@@ -30,6 +30,8 @@ fn group(neg: bool, d: u8) -> u8
 }
 
 // The groups of m, each turned where neg is true, in a byte each: the last is the first that is below END.
+// Kept: `i` by hand. How many bytes there are shows as x is divided, so no range is there for a `for`: over `out[at..].iter_mut()` the loop would
+// break at the last group and the place behind it be counted still.
 fn groups<const END: u64>(out: &mut [u8], at: usize, neg: bool, m: u64) -> usize
     requires { (64 ≤ END) × (END ≤ 128) × (at + length (groups END neg m) ≤ length out.old) }
     ensures { Wrote out.old out.new at result (groups END neg m) }
@@ -75,6 +77,8 @@ pub fn sleb(out: &mut [u8], at: usize, v: i64) -> usize
 }
 
 // v as a field of n bytes, the lowest first.
+// Kept: by division. n may be any number and `v.to_le_bytes()` has eight bytes, so a copy of its first n would be one of two cases, with zeros behind
+// the eighth in the other.
 pub fn le(out: &mut [u8], at: usize, n: usize, v: u64) -> usize
     requires { at + n ≤ length out.old }
     ensures { Wrote out.old out.new at result (little n v) }
@@ -138,6 +142,8 @@ pub fn sleb_size(v: i64) -> usize
     (71 - u64::leading_zeros(magnitude(v)) as usize) / 7
 }
 
+// A byte as a number of 64 bits.
+// Kept: `u64::from` promises the value alone; that it is below 256 x64_reader takes from here.
 pub fn wide(x: u8) -> u64
     ensures { (result ≡ x) × (result < 256) }
 {

@@ -56,6 +56,8 @@ pub fn number(out: &mut [u64], at: usize, v: u64) -> usize
 }
 
 // A relocation: five numbers.
+// Kept: one by one, and no struct. No function keeps or passes on a relocation: each of the calls, in headers, records, x64 and arm64_table, would
+// build one for this call alone, in seven lines for one.
 pub fn relocation(
     out: &mut [u64],
     at: usize,
