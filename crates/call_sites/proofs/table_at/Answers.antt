@@ -21,6 +21,9 @@ returns-in_err-n c = let a = c.args in rw c.from_residual.ensures (no_size a.sit
 pub overflow_sub-size-2 : goal.overflow_sub-size-2
 overflow_sub-size-2 c = omega (arith, (uleb_ahead _ _ (sym c.in_ok-n.ensures)).1)
 
+pub slice_bounds-result-end : goal.slice_bounds-result-end
+slice_bounds-result-end c = omega (arith, c.if-size-at.false, (uleb_ahead _ _ (sym c.in_ok-n.ensures)).1)
+
 pub returns-then-size-at : goal.returns-then-size-at
 returns-then-size-at c = let a = c.args in past_end a.sites.now a.place (omega arith) c.head_ok.ensures c.if-not-head_ok.false (sym c.in_ok-n.ensures) c.if-size-at.true
 

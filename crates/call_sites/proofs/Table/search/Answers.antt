@@ -1,7 +1,7 @@
--- `call_sites::search` meets its contract.
+-- `call_sites::Table::search` meets its contract.
 use native.Mathlib.Omega.{arith}
 use Rattle.call_sites.proofs.Runs.{start, turn, unread, ended}
-use Rattle.call_sites.proofs.search.Goals as goal
+use Rattle.call_sites.proofs.Table.search.Goals as goal
 
 pub loop-at-init : goal.loop-at-init
 loop-at-init c = start
