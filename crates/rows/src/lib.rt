@@ -1,7 +1,7 @@
 // A row out of the lists, written and sized as an operation. Ported from rucc-asm/src/unwind.rs (row, saved, advance) of tamnd/rucc, changed: see NOTICE.
 #![tactic(auto)]
 
-ghost use Rattle.std.specs.Prelude.{◌≡◌, [], ◌∷◌, ◌++◌, true, ◌+◌, ◌*◌, ◌%◌, ◌^◌, ◌≤◌, ◌<◌, length, T, eqb, nat_abs};
+ghost use Rattle.std.specs.Prelude.{◌≡◌, [], ◌∷◌, ◌++◌, true, ◌+◌, ◌*◌, ◌%◌, ◌^◌, ◌≤◌, ◌<◌, length, T, eqb, ltb, nat_abs};
 ghost use Rattle.std.specs.Int.{w32};
 ghost use Rattle.std.specs.Option.{IfSome};
 ghost use Rattle.std.proofs.Common.{to_z};
@@ -54,7 +54,7 @@ const TWO_BYTES: u64 = 16384;
 
 // The offset of row i.
 pub fn offset_at(rows: &[u64], i: usize) -> u64
-    requires { 4 * i + 4 ≤ length rows.now }
+    requires { row_stride * i + row_stride ≤ length rows.now }
     ensures { result ≡ field row_stride rows.now i 0 }
 {
     rows[ROW_STRIDE * i]
@@ -70,7 +70,7 @@ fn signed32(x: u64) -> i64
 
 // Row i.
 pub fn row_at(rows: &[u64], i: usize) -> Row
-    requires { (4 * i + 4 ≤ length rows.now) × T (row_ok_at rows.now i) }
+    requires { (row_stride * i + row_stride ≤ length rows.now) × T (row_ok_at rows.now i) }
     ensures { result ≡ (row_at rows.now i).1 }
 {
     RowNumbers::at(rows, i).row()
@@ -118,7 +118,7 @@ fn second_operands(kind: u64) -> u64
 // The three numbers behind the offset of row i are a row.
 #[tactic(auto, unfolding(format::specs::Lists::row_ok_at, format::specs::Lists::row_ok))]
 pub fn row_ok(rows: &[u64], i: usize) -> bool
-    requires { 4 * i + 4 ≤ length rows.now }
+    requires { row_stride * i + row_stride ≤ length rows.now }
     ensures { result ≡ row_ok_at rows.now i }
 {
     let kind = rows[ROW_STRIDE * i + ROW_KIND];
@@ -507,7 +507,7 @@ fn second_byte(word: u64, y: u64) -> usize
 
 // The size of row i's operation, where the row passes questions 13 and 24. None says nothing.
 pub fn surveyed(word: u64, rows: &[u64], i: usize) -> Option<usize>
-    requires { T (is_word_size word) × (4 * i + 4 ≤ length rows.now) }
+    requires { T (is_word_size word) × (row_stride * i + row_stride ≤ length rows.now) }
     ensures { IfSome result (λ n. T (row_ok_at rows.now i) × (row_whole word (row_at rows.now i).1 ≡ true) × (n ≡ length (row_bytes word (row_at rows.now i).1))) }
 {
     if !row_ok(rows, i) {
@@ -522,13 +522,13 @@ pub fn surveyed(word: u64, rows: &[u64], i: usize) -> Option<usize>
 
 // ---- a step written, and its size
 
-// The forms of a step: inside the opcode, or as an operand behind it.
+// The forms of a step: inside the opcode, or as an operand of so many bytes behind it.
 #[derive(Clone, Copy, PartialEq, Eq)]
 pub enum StepForm {
-    InOpcode,
-    OneByte,
-    TwoBytes,
-    FourBytes,
+    InOpcode = 0,
+    OneByte = 1,
+    TwoBytes = 2,
+    FourBytes = 4,
 }
 
 impl StepForm {
@@ -538,12 +538,7 @@ impl StepForm {
     pub fn operand_bytes(self) -> usize
         ensures { result ≡ operand_bytes self }
     {
-        match self {
-            StepForm::InOpcode => 0,
-            StepForm::OneByte => 1,
-            StepForm::TwoBytes => 2,
-            StepForm::FourBytes => 4,
-        }
+        self as usize
     }
 }
 
@@ -634,6 +629,13 @@ pub fn advance_size(by: u64) -> usize
     1 + step_form(by).operand_bytes()
 }
 
+// A step of so many bytes has 32 bits.
+pub fn step_ok(by: u64) -> bool
+    ensures { result ≡ ltb by (2 ^ 32) }
+{
+    by < STEPS
+}
+
 // The size of a step that passes question 23. Most steps have a byte.
 pub fn step_surveyed(by: u64) -> Option<usize>
     ensures { StepSurveyed by result }
@@ -644,7 +646,7 @@ pub fn step_surveyed(by: u64) -> Option<usize>
         }
         return Some(1);
     }
-    if STEPS <= by {
+    if !step_ok(by) {
         return None;
     }
     Some(advance_size(by))
