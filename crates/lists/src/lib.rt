@@ -1,8 +1,9 @@
 // The machine, functions and codes out of the lists of numbers, and questions 11, 12 and 13. Ported from rucc-asm/src/unwind.rs (Extent, Named, Relaxed) of tamnd/rucc, changed: see NOTICE.
 #![tactic(auto)]
 
-ghost use Rattle.std.specs.Prelude.{◌≡◌, ℕ, ◌+◌, ◌*◌, ◌≤◌, ◌<◌, length, take, drop, T, leb, eqb};
-ghost use Rattle.format.specs.Prelude.{all};
+ghost use Rattle.std.specs.Prelude.{◌≡◌, ℕ, Ok, Err, ◌+◌, ◌*◌, ◌≤◌, ◌<◌, length, take, drop, T, leb, eqb};
+ghost use Rattle.format.specs.Prelude.{all, pick};
+ghost use Rattle.format.specs.declared.question.Question.TheVariants.{Interface};
 ghost use Rattle.format.specs.Machine.{machine_ok, machine_of};
 ghost use Rattle.format.specs.Lists.{count, field, function_stride, row_stride, landing_stride, pair_stride, prologue_stride, code_stride, most_records, symbol_ok, mark_ok, pointer_ok, row_ok_at, pair_ok_at, code_ok_at, all_in, sum_of, pairs_in, prologue_ok_at, codes_ok, code_at};
 ghost use Rattle.format.specs.Coded.{numbered_at};
@@ -124,7 +125,21 @@ pub fn machine_of(ms: &[u64]) -> Machine
     }
 }
 
+// The machine of a list that question 11 accepts.
+#[tactic(auto, unfolding(format::specs::Prelude::pick))]
+pub fn read_machine(ms: &[u64]) -> Result<Machine, Question>
+    ensures { result ≡ pick (machine_ok ms.now) (Ok (machine_of ms.now)) (Err Interface) }
+{
+    if !machine_ok(ms) {
+        return Err(Question::Interface);
+    }
+    Ok(machine_of(ms))
+}
+
 // ---- records out of the lists
+
+// Kept: a public function takes a list and a record's place, and says itself that the record lies in the list: to take a `Record` would ask more of
+// its caller by type. A test that a closure calls says it too, since the closure's `requires` comes from there.
 
 // The data of a function's exceptions, by the encoding and the symbol of the pointer to it.
 #[derive(Clone, Copy)]
