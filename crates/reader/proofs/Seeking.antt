@@ -1,78 +1,26 @@
--- The loops over the entries of a section that is tiled: what is looked for is found in the rest.
+-- Searches: for a header, which is found in the rest of the entries, and for a relocation.
 use mathlib.Core.Path.{◌≡◌, refl, sym, ap, ◌∙◌}
 use mathlib.Core.Bool.{Bool, true, false, ◌&&◌}
 use mathlib.Core.Option.{Option, none, some}
 use mathlib.Core.List.{List, [], ◌∷◌}
-use Prim.Native.Nat.{ℕ, zero, suc, ◌+◌, ◌-◌, ◌*◌, ◌/◌, ◌≤◌, ◌<◌}
+use Prim.Native.Nat.{ℕ, suc, ◌+◌, ◌-◌, ◌*◌, ◌/◌, ◌≤◌, ◌<◌}
 use native.Mathlib.Omega.{arith}
 use native.Mathlib.Nat.{add-zero}
 use native.Mathlib.Numerals.{add-one}
 use borrow.Author.Tests.{eq-eqb, ne_eqb, le-leb, lt-leb}
 use lib.Dec.{T, eqb, ltb}
-use lib.ListN.{length, get_or, get_elem?}
+use lib.ListN.{length, get_or}
 use Rattle.format.specs.Prelude.{pick, after, first, each, Result, good, bad}
 use Rattle.format.specs.Questions.{is_some}
-use Rattle.format.specs.Reader.{Entry, second, distance_back, is_header, records, first_addend, header_at, entries}
+use Rattle.format.specs.Reader.{Entry, second, distance_back, is_header, first_addend, header_at, entries}
 use Rattle.format.specs.Lists.{relocation_at, relocations_of}
 use Rattle.format.specs.Coded.{result_of}
 use Rattle.format.proofs.Asked.{option_of}
 use Rattle.reader.specs.Finds.{Searching}
-use Rattle.reader.specs.Spans.{part, entry_in, entries_from, listed, Ends, Ahead, Stands}
+use Rattle.reader.specs.Spans.{part, entry_in, entries_from, Ahead}
 use Rattle.std.specs.Prelude.{Some, None, Ok, Err}
 use Rattle.std.specs.Prelude as code
 use Rattle.std.specs.Option.{SomeIff}
-use Rattle.reader.proofs.Tiling.{tiled_end}
-
--- a search of the entries, `find`, goes on in those from `at` on as `find'`
-pub record Seeking (s : List ℕ) (find find' : List Entry → Option Entry) (at : ℕ) : Type 0 where
-  pub inside : at ≤ length s
-  pub tiled : T (is_some (entries_from s at))
-  pub rest : find (listed (entries s)) ≡ find' (listed (entries_from s at))
-
-pub start : (s : List ℕ) (find : List Entry → Option Entry) → T (is_some (entries s)) → Seeking s find find 0
-unfolding entries entries_from
-start s find t = record { inside = omega arith; tiled = t; rest = refl }
-
-module _ {s : List ℕ} {find find' : List Entry → Option Entry} {at : ℕ} (k : Seeking s find find' at) where
-  module _ {end : ℕ} (e : Ends s at end) where
-    -- past an entry that is not the one
-    pub turn : (find'' : List Entry → Option Entry) → ((es : List Entry) → find' (entry_in s at end ∷ es) ≡ find'' es) → Seeking s find find'' end
-    turn find'' f =
-        record { inside = e.inside; tiled = e.tiled; rest = k.rest ∙ rw e.rest (f (listed (entries_from s end))) }
-
-    pub met : ((es : List Entry) → find' (entry_in s at end ∷ es) ≡ some (entry_in s at end)) → Stands s at end (find (listed (entries s)))
-    met f = record { long = e.long; inside = e.inside; found = k.rest ∙ rw e.rest (f (listed (entries_from s end))) }
-
-  pub ended : find' [] ≡ none → length s ≤ at → find (listed (entries s)) ≡ none
-  unfolding listed
-  ended f h = k.rest ∙ rw (tiled_end s at h) f
-
--- ---- record k
-
-abbrev pub kth : (debug : Bool) → ℕ → List Entry → Option Entry
-kth debug k es = get_elem? (records debug es) k
-
-behind : (x : Entry) (xs : List Entry) (k : ℕ) → (k ≡ 0 → ⊥) → get_elem? (x ∷ xs) k ≡ get_elem? xs (k - 1)
-behind x xs zero n = absurd (n refl)
-behind x xs (suc k) n = let e : k ≡ suc k - 1 = omega arith in ap (get_elem? xs) e
-
-module _ (debug : Bool) (e : Entry) (es : List Entry) (k : ℕ) where
-  pub kth_header : is_header debug e ≡ true → kth debug k (e ∷ es) ≡ kth debug k es
-  unfolding records pick
-  kth_header h = simp h
-
-  module _ (h : is_header debug e ≡ false) where
-    pub kth_here : k ≡ 0 → kth debug k (e ∷ es) ≡ some e
-    unfolding records pick
-    kth_here z = simp (h, z)
-
-    pub kth_later : (k ≡ 0 → ⊥) → kth debug k (e ∷ es) ≡ kth debug (k - 1) es
-    unfolding records pick
-    kth_later n = simp h (behind e (records debug es) k n)
-
-pub kth_none : (debug : Bool) (k : ℕ) → kth debug k [] ≡ none
-unfolding records
-kth_none debug k = refl
 
 -- ---- the header at a place
 
@@ -95,10 +43,6 @@ header_none debug place before = refl
 pub first_ahead : (s : List ℕ) → T (is_some (entries s)) → Ahead s 0
 unfolding entries entries_from
 first_ahead s t = record { inside = omega arith; tiled = t; found = λ debug place before h. refl }
-
-pub seeking : {s : List ℕ} {from place : ℕ} (debug : Bool) (before : ℕ) → Ahead s from → from ≤ place
-    → Seeking s (header_at debug place before) (header_at debug place before) from
-seeking {s} {from} {place} debug before a h = record { inside = a.inside; tiled = a.tiled; rest = a.found debug place before h }
 
 -- ---- the first relocation at a place
 

@@ -5,6 +5,7 @@ ghost use Rattle.format.specs.Questions.{is_some};
 ghost use Rattle.format.specs.Reader.{second, is_header, records, entries};
 ghost use Rattle.reader.specs.Spans.{part, entry_of, entries_from, listed, end_at, Holds, Ends, Spans};
 
+use crate::records::Records;
 use crate::section::Span;
 use operations::fields::{Position, read_le};
 
@@ -83,7 +84,7 @@ impl Span {
 // The entries of a section, which they tile, from a position on.
 #[derive(Drop)]
 pub struct Entries<'a> {
-    section: &'a [u8],
+    pub(crate) section: &'a [u8],
     at: usize,
     ghost tiled: { T (is_some (entries_from section.now at)) },
 }
@@ -132,15 +133,5 @@ pub fn record_span(s: &[u8], debug: bool, k: u64) -> Option<Span>
     requires { T (is_some (entries s.now)) }
     ensures { Spans s.now result (get_elem? (records debug (listed (entries s.now))) k) }
 {
-    let mut left = k;
-    'entries: for entry in Entries::new(s) {
-        if entry.is_header(s, debug) {
-            continue 'entries;
-        }
-        if left == 0 {
-            return Some(entry);
-        }
-        left -= 1;
-    }
-    None
+    Records::new(s, debug).nth(k as usize)
 }

@@ -17,6 +17,7 @@ pub mod entries;
 pub mod fields;
 pub mod location;
 pub mod operation;
+pub mod records;
 pub mod run;
 pub mod section;
 pub mod shortest;

@@ -73,12 +73,7 @@ impl<'a> Section<'a> {
         requires { Ahead self.now.bytes.now from × (from ≤ place) }
         ensures { Spans self.now.bytes.now result (header_at self.now.layout.debug place before (listed (entries self.now.bytes.now))) }
     {
-        for entry in Entries::starting(self.bytes, from) {
-            if self.starts(entry, place, before) {
-                return Some(entry);
-            }
-        }
-        None
+        Entries::starting(self.bytes, from).find(|entry| self.starts(*entry, place, before))
     }
 
     // Question 63: the header of a record.
