@@ -1,7 +1,6 @@
 -- `lists::room` meets its contract.
 use borrow.Author.Tests.{le-leb, lt-leb}
 use mathlib.Core.Path.{◌≡◌, refl, ap}
-use Prim.Native.Nat.{ℕ}
 use Rattle.std.specs.Prelude.{Err}
 use Rattle.format.specs.declared.Refusal.{Refusal}
 use Rattle.format.specs.declared.question.Question.{Question}
