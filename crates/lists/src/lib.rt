@@ -107,6 +107,8 @@ pub fn word_ok(m: Machine) -> bool
 }
 
 // The machine of a list.
+// Kept: the loop, and no `array::from_fn(|i| ms[machine::MAP + i] as u8)`. What that ensures is a chain of calls (`CallableAtEachTurn`), out of which
+// the bytes come by an induction of their own; the loop's invariant is an equation of two `take`s.
 pub fn machine_of(ms: &[u64]) -> Machine
     requires { T (machine_ok ms.now) }
     ensures { result ≡ machine_of ms.now }
@@ -280,6 +282,8 @@ impl Record<'_, FUNCTION_STRIDE> {
     }
 
     // Question 13 of the relaxing labels, where there are some, and of the pairs that they reach.
+    // Kept: indexed, as `prologue_ok` is, and not by `number`: then the tests speak of what the calls gave and the definition of the list's fields,
+    // and the answers did not close (tried).
     fn relaxed_ok(&self, pairs: &[u64]) -> bool
         ensures { result ≡ relaxed_ok_at self.now.list.now pairs.now self.now.k }
     {
