@@ -3,7 +3,7 @@ use mathlib.Core.Path.{◌≡◌, refl, sym, ap, ◌∙◌}
 use mathlib.Core.Bool.{Bool, true, false, ◌&&◌}
 use mathlib.Core.Option.{Option, none, some}
 use mathlib.Core.List.{List, [], ◌∷◌}
-use Prim.Native.Nat.{ℕ, suc, ◌+◌, ◌-◌, ◌*◌, ◌/◌, ◌≤◌, ◌<◌}
+use Prim.Native.Nat.{ℕ, zero, suc, ◌+◌, ◌-◌, ◌*◌, ◌/◌, ◌≤◌, ◌<◌}
 use native.Mathlib.Omega.{arith}
 use native.Mathlib.Nat.{add-zero}
 use native.Mathlib.Numerals.{add-one}
@@ -20,7 +20,16 @@ use Rattle.reader.specs.Finds.{Searching}
 use Rattle.reader.specs.Spans.{part, entry_in, entries_from, Ahead}
 use Rattle.std.specs.Prelude.{Some, None, Ok, Err}
 use Rattle.std.specs.Prelude as code
-use Rattle.std.specs.Option.{SomeIff}
+use Rattle.std.specs.Option.{SomeIff, MatchOption}
+use Rattle.std.specs.Fn.{CalledAt}
+use Rattle.std.specs.Iterator.{FindsItem}
+use Rattle.std.proofs.Common.{subst}
+use Rattle.std.proofs.lemmas.Bool.{eqb-true, eqb-false}
+use Rattle.std.proofs.lemmas.Iterator.{first_from_Range}
+use Rattle.std.proofs.iter.Yields.{nat_range_steps}
+use Rattle.std.specs.declared.ops.Range.{Range}
+use denote.Param.Members.{Mut}
+use denote.Ref.{Bor}
 
 -- ---- the header at a place
 
@@ -72,6 +81,44 @@ module _ {xs : List ℕ} {place i : ℕ} (k : Searching xs place i) where
   pub search_ended : length xs / 5 ≤ i → None ≡ option_of (first_addend place (relocations_of xs))
   unfolding first_addend first each after
   search_ended h = let e : length xs / 5 - i ≡ 0 = omega arith in sym (rw (k.rest, e))
+
+-- past relocations that are none of that place
+pub search_past : {xs : List ℕ} {place : ℕ} (d i : ℕ) → Searching xs place i → i + d ≤ length xs / 5
+    → ((k : ℕ) → i ≤ k → k < i + d → get_or xs (5 * k) 0 ≡ place → ⊥) → Searching xs place (i + d)
+search_past {xs} {place} zero i k l n = let e : i + 0 ≡ i = omega arith in rw e k
+search_past {xs} {place} (suc d) i k l n =
+    let e : i + suc d ≡ i + 1 + d = omega arith in
+    rw e (search_past d (i + 1) (search_turn k (omega arith) (n i (omega arith) (omega arith))) (omega arith) (λ j a b. n j (omega arith) (omega arith)))
+
+-- the first of that place, by a search from `from` on
+module _ {F : Type 0} {g : Mut F (Bor ℕ × Unit {0}) Bool} {f : F} (xs : List ℕ) (place from : ℕ) (u : Range ℕ) (r : code.Option ℕ)
+    (answers : (i : ℕ) (b : Bool) (q : F) → CalledAt g f i b q → (q ≡ f) × (b ≡ eqb (get_or xs (5 * i) 0) place)) (k : Searching xs place from)
+    (h : FindsItem nat_range_steps g (record { start = from; end = length xs / 5 }) f r u) where
+  told : MatchOption r ((k : ℕ) → from ≤ k → k < length xs / 5 → get_or xs (5 * k) 0 ≡ place → ⊥)
+      (λ i. (from ≤ i) × (i < length xs / 5) × (get_or xs (5 * i) 0 ≡ place) × ((k : ℕ) → from ≤ k → k < i → get_or xs (5 * k) 0 ≡ place → ⊥))
+  told =
+      first_from_Range (record { start = from; end = length xs / 5 }) u f r (λ i. get_or xs (5 * i) 0 ≡ place) (λ i. get_or xs (5 * i) 0 ≡ place → ⊥) h
+      (λ i q c. eqb-true _ _ (sym (answers i true q c).1))
+      (λ i q c. let a = answers i false q c in (a.0, eqb-false _ _ (sym a.1)))
+
+  pub addend_none : r ≡ None → None ≡ option_of (first_addend place (relocations_of xs))
+  addend_none e =
+      let t = subst (λ (r : code.Option ℕ). MatchOption r ((k : ℕ) → from ≤ k → k < length xs / 5 → get_or xs (5 * k) 0 ≡ place → ⊥) (λ i. (from ≤ i) × (i < length xs / 5) × (get_or xs (5 * i) 0 ≡ place) × ((k : ℕ) → from ≤ k → k < i → get_or xs (5 * k) 0 ≡ place → ⊥))) e told in
+      let p : Searching xs place (from + (length xs / 5 - from)) = search_past (length xs / 5 - from) from k (omega (arith, k.inside)) (λ j a b. t j a (omega (arith, k.inside))) in
+      search_ended p (omega (arith, k.inside))
+
+  module _ {i : ℕ} (e : r ≡ Some i) where
+    there : (from ≤ i) × (i < length xs / 5) × (get_or xs (5 * i) 0 ≡ place) × ((k : ℕ) → from ≤ k → k < i → get_or xs (5 * k) 0 ≡ place → ⊥)
+    there = subst (λ (r : code.Option ℕ). MatchOption r ((k : ℕ) → from ≤ k → k < length xs / 5 → get_or xs (5 * k) 0 ≡ place → ⊥) (λ i. (from ≤ i) × (i < length xs / 5) × (get_or xs (5 * i) 0 ≡ place) × ((k : ℕ) → from ≤ k → k < i → get_or xs (5 * k) 0 ≡ place → ⊥))) e told
+
+    pub addend_inside : i < length xs / 5
+    addend_inside = there.1
+
+    pub addend_found : Some (get_or xs (5 * i + 4) 0) ≡ option_of (first_addend place (relocations_of xs))
+    addend_found =
+        let d : i ≡ from + (i - from) = omega (arith, there.0) in
+        let p : Searching xs place (from + (i - from)) = search_past (i - from) from k (omega (arith, there.0, there.1)) (λ j a b. there.3 j a (omega (arith, there.0))) in
+        search_met (subst (Searching xs place) (sym d) p) there.1 there.2
 
 -- ---- the place that lies a distance before another
 

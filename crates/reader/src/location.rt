@@ -9,7 +9,6 @@ ghost use Rattle.reader.specs.Spans.{part, entry_of, listed, Holds, Ahead, Spans
 ghost use Rattle.reader.specs.Finds.{Searching, spans_of, Locates, two_entries, Stand};
 
 use crate::entries::{self, Entries};
-use crate::fields;
 use crate::section::{Body, Section, Span};
 use format::Question;
 
@@ -22,12 +21,8 @@ pub fn addend_from(relocs: &[u64], place: u64, from: usize) -> Option<usize>
     ensures { result ≡ option_of (first_addend place (relocations_of relocs.now)) }
 {
     let n = relocs.len() / relocs::RELOCATION_STRIDE;
-    for i in from..n {
-        if relocs[relocs::RELOCATION_STRIDE * i] == place {
-            return Some(relocs[relocs::RELOCATION_STRIDE * i + relocs::RELOCATION_ADDEND] as usize);
-        }
-    }
-    None
+    let i = (from..n).find(|i| relocs[relocs::RELOCATION_STRIDE * *i] == place)?;
+    Some(relocs[relocs::RELOCATION_STRIDE * i + relocs::RELOCATION_ADDEND] as usize)
 }
 
 // The same of all relocations.
@@ -142,12 +137,11 @@ impl<'a> Section<'a> {
         ensures located { Locates self.now.bytes.now self.now.layout.word result (parsed self.now.layout.debug self.now.layout.word (entry_of self.now.bytes.now cie) (entry_of self.now.bytes.now fde)) }
         ensures ends { IfOk result (λ l. (l.header_end ≡ cie.end) × (l.record_end ≡ fde.end)) }
     {
-        let Some(header) = fields::parse_header(&self.body(cie)) else {
+        let Some(header) = self.body(cie).parse_header() else {
             return Err(Question::Fields);
         };
         let rules = header.operations;
-        let Some(record) = fields::parse_record(&self.body(fde), header.pointer, rules.shortest)
-        else {
+        let Some(record) = self.body(fde).parse_record(header.pointer, rules.shortest) else {
             return Err(Question::Fields);
         };
         let rows = record.operations;

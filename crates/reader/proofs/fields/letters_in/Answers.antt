@@ -26,12 +26,12 @@ returns-then-s-end c =
     let j = goal.at.returns-then-s-end c in
     letters_ended c.args.s.now c.args.word c.args.p (skipped j.Joined-p) (encoded j.Joined-p-2 (skipped j.Joined-p)) c.if-s-end.true
 
-pub returns-then-s-end-ne27 : goal.returns-then-s-end-ne27
-returns-then-s-end-ne27 c =
-    let j = goal.at.returns-then-s-end-ne27 c in
-    letters_other c.args.s.now c.args.word c.args.p (skipped j.Joined-p) (encoded j.Joined-p-2 (skipped j.Joined-p)) c.if-s-end.false c.if-s-end-ne27.true
+pub returns-then-from-ne-PCREL_SDATA4 : goal.returns-then-from-ne-PCREL_SDATA4
+returns-then-from-ne-PCREL_SDATA4 c =
+    let j = goal.at.returns-then-from-ne-PCREL_SDATA4 c in
+    letters_other c.args.s.now c.args.word c.args.p (skipped j.Joined-p) (encoded j.Joined-p-2 (skipped j.Joined-p)) c.if-s-end.false (rw c.from.ensures at c.if-from-ne-PCREL_SDATA4.true)
 
 pub returns : goal.returns
 returns c =
     let j = goal.at.returns c in
-    letters_there c.args.s.now c.args.word c.args.p (skipped j.Joined-p) (encoded j.Joined-p-2 (skipped j.Joined-p)) c.if-s-end.false c.if-s-end-ne27.false
+    letters_there c.args.s.now c.args.word c.args.p (skipped j.Joined-p) (encoded j.Joined-p-2 (skipped j.Joined-p)) c.if-s-end.false (rw c.from.ensures at c.if-from-ne-PCREL_SDATA4.false)
