@@ -14,7 +14,7 @@ const STEP: u64 = 17;
 // What unwind_read_operation answers.
 // Kept: a number beside the fields, and a kind by its number, since C reads it.
 #[repr(C)]
-#[derive(Clone, Copy)]
+#[derive(Clone, Copy, Default)]
 pub struct OperationRead {
     pub number: u64,
     pub kind: u64,
@@ -30,11 +30,9 @@ fn refused(question: Question, at: u64, opcode: u64) -> OperationRead
 {
     OperationRead {
         number: question.number(),
-        kind: 0,
-        reg: 0,
-        value: 0,
         next: at,
         opcode,
+        ..OperationRead::default()
     }
 }
 

@@ -237,9 +237,7 @@ impl Body<'_> {
         }
         self.header_tail(tail, p)
     }
-}
 
-impl Body<'_> {
     // Question 64 of a header, by the bytes behind its length.
     pub fn parse_header(&self) -> Option<Header>
         ensures { Heads self.now.bytes.now (header_short self.now.layout.debug self.now.bytes.now) result (parse_header self.now.layout.debug self.now.layout.word self.now.bytes.now) }
