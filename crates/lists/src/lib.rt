@@ -283,7 +283,7 @@ impl Record<'_, FUNCTION_STRIDE> {
 
     // Question 13 of the relaxing labels, where there are some, and of the pairs that they reach.
     // Kept: indexed, as `prologue_ok` is, and not by `number`: then the tests speak of what the calls gave and the definition of the list's fields,
-    // and the answers did not close (tried).
+    // and the answers of `prologue_ok` did not close (tried there).
     fn relaxed_ok(&self, pairs: &[u64]) -> bool
         ensures { result ≡ relaxed_ok_at self.now.list.now pairs.now self.now.k }
     {
