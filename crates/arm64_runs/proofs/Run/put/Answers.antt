@@ -1,11 +1,11 @@
--- `arm64_runs::put_run` meets its contract.
-use mathlib.Core.Path.{ap, ◌∙◌}
+-- `Run::put` meets its contract.
+use mathlib.Core.Path.{ap}
 use Rattle.arm64_runs.specs.Left.{codes_left}
 use Rattle.arm64_runs.proofs.Stores.{put_start, put_room, put_turn, put_ended}
-use Rattle.arm64_runs.proofs.put_run.Goals as goal
+use Rattle.arm64_runs.proofs.Run.put.Goals as goal
 
 pub loop-c-init : goal.loop-c-init
-loop-c-init c = put_start (ap codes_left c.into_iter-c-iterator.ensures.into_iter_gives ∙ c.at-c-items.ensures) c.requires.1
+loop-c-init c = put_start (ap codes_left c.into_iter-c-iterator.ensures.into_iter_gives) c.requires
 
 pub put_code-i-requires : goal.put_code-i-requires
 put_code-i-requires c = put_room _ c.loop-c.invariant c.in-Some.ensures.steps

@@ -1,12 +1,12 @@
--- `arm64_runs::put_back` meets its contract.
+-- `Run::put_back` meets its contract.
 use native.Mathlib.Omega.{arith}
-use mathlib.Core.Path.{ap, ◌∙◌}
+use mathlib.Core.Path.{ap}
 use Rattle.arm64_runs.specs.Left.{codes_left}
 use Rattle.arm64_runs.proofs.Stores.{back_start, back_room, back_turn, back_ended}
-use Rattle.arm64_runs.proofs.put_back.Goals as goal
+use Rattle.arm64_runs.proofs.Run.put_back.Goals as goal
 
 pub loop-c-init : goal.loop-c-init
-loop-c-init c = back_start (ap codes_left c.into_iter-c-iterator.ensures.into_iter_gives ∙ c.at-c-items.ensures) c.requires.1 c.requires.2
+loop-c-init c = back_start (ap codes_left c.into_iter-c-iterator.ensures.into_iter_gives) c.requires.0 c.requires.1
 
 pub overflow_sub-i : goal.overflow_sub-i
 overflow_sub-i c = back_room c.loop-c.invariant c.in-Some.ensures.steps
