@@ -10,11 +10,12 @@ ghost use Rattle.arm64.specs.Lists.{epilogue_stride, code_stride, code_numbers, 
 ghost use Rattle.arm64.specs.declared.Epilogues.TheVariants.{Scoped};
 ghost use Rattle.arm64.specs.Records.{word_at, epilogues_with, header_with, scopes_in, codes_from, codes_to, codes_of};
 ghost use Rattle.arm64.specs.Reader.{run_at, scoped, epilogue_codes};
-ghost use Rattle.arm64_runs.specs.Runs.{codes_in};
+ghost use Rattle.arm64_runs.specs.Left.{codes_left};
 ghost use Rattle.arm64_records.specs.Parts.{word_there, fitting, headed_at, Narrow, Inside, total_of, epilogues_in, how_many};
 ghost use Rattle.arm64_records.specs.Lent.{PlacedIn, ListedIn};
 
 use arm64::{Epilogues, Header, fields, header_bits};
+use arm64_runs::Run;
 
 // ---- the header
 
@@ -126,12 +127,11 @@ pub struct Output<'a> {
 
 impl Output<'_> {
     // An epilogue in place k: its start, where its codes stand and how many there are, and the codes. This gives the place past them.
-    pub fn put_one(&mut self, k: usize, at: usize, codes: &[u8], start: u64, index: usize) -> usize
-        requires { (run_at codes.now index ≡ some (codes_in (run_at codes.now index))) × (epilogue_stride * (k + 1) ≤ length self.old.epilogues.now) × (code_stride * (at + length (codes_in (run_at codes.now index))) ≤ length self.old.codes.now) }
-        ensures { PlacedIn self.old self.new k at result start (codes_in (run_at codes.now index)) }
+    pub fn put_one(&mut self, k: usize, at: usize, start: u64, run: Run) -> usize
+        requires { (epilogue_stride * (k + 1) ≤ length self.old.epilogues.now) × (code_stride * (at + length (codes_left run)) ≤ length self.old.codes.now) }
+        ensures { PlacedIn self.old self.new k at result start (codes_left run.entry) }
     {
-        let past = arm64_runs::put_run(self.codes, fields::CODE_STRIDE * at, codes, index)
-            / fields::CODE_STRIDE;
+        let past = run.put(self.codes, fields::CODE_STRIDE * at) / fields::CODE_STRIDE;
         arm64_runs::put_three(
             self.epilogues,
             fields::EPILOGUE_STRIDE * k,
@@ -201,7 +201,7 @@ impl<'a> Record<'a> {
     }
 
     // How many codes the epilogues have.
-    #[tactic(auto, using(arm64::proofs::Coded::is_none, crate::proofs::Whole::one_none, crate::proofs::Whole::by_words))]
+    #[tactic(auto, using(format::proofs::Asked::none_is, crate::proofs::Whole::one_none, crate::proofs::Whole::by_words))]
     pub fn count_epilogues(&self) -> Option<usize>
         ensures { (result ≡ option_of (total_of (epilogues_of self.now))) × IfSome result (λ m. m ≤ 66846720) }
     {
@@ -222,13 +222,8 @@ impl<'a> Record<'a> {
         let mut at = n;
         for k in 0..count as usize {
             let w = self.word(count, k);
-            at = to.put_one(
-                k,
-                at,
-                self.codes,
-                4 * (w % header_bits::RESERVED),
-                (w / header_bits::INDEX) as usize,
-            );
+            let run = Run::at(self.codes, (w / header_bits::INDEX) as usize);
+            at = to.put_one(k, at, 4 * (w % header_bits::RESERVED), run);
         }
     }
 
@@ -240,7 +235,7 @@ impl<'a> Record<'a> {
         match self.header.epilogues {
             Epilogues::Single(index) => {
                 let start = 4 * (self.header.length - 1 - m as u64);
-                to.put_one(0, n, self.codes, start, index as usize);
+                to.put_one(0, n, start, Run::at(self.codes, index as usize));
             }
             Epilogues::Scoped(count) => self.put_scoped(count, n, to),
         }

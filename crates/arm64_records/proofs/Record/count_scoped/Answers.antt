@@ -5,7 +5,7 @@ use mathlib.Core.List.{List}
 use Prim.Native.Nat.{ℕ}
 use native.Mathlib.Omega.{arith}
 use Rattle.format.proofs.Asked.{option_of}
-use Rattle.arm64.proofs.Coded.{is_none, is_some}
+use Rattle.format.proofs.Asked.{none_is, value_is}
 use Rattle.arm64.specs.Records.{count_in}
 use Rattle.arm64.specs.Reader.{run_at}
 use Rattle.arm64_runs.specs.Runs.{count_of}
@@ -26,13 +26,13 @@ unfolding counted
 returns-in_err-n c =
     let e = ap (counted c.args.self.now.codes.now) (sym (index_is c.args.self.now.header.past c.loop-k.k c.args.self.now.section.now c.word-w.ensures)) in
     rw c.from_residual.ensures
-    (ap option_of (sym (total_refused (words_from c.args.self.now.header.past c.args.self.now.section.now) c.args.self.now.codes.now c.loop-k.invariant c.loop-k-test.true (e ∙ is_none (counted c.args.self.now.codes.now _) (sym c.in_err-n.ensures.0)))), tt)
+    (ap option_of (sym (total_refused (words_from c.args.self.now.header.past c.args.self.now.section.now) c.args.self.now.codes.now c.loop-k.invariant c.loop-k-test.true (e ∙ none_is (counted c.args.self.now.codes.now _) (sym c.in_err-n.ensures.0)))), tt)
 
 pub loop-k-preserved : goal.loop-k-preserved
 unfolding counted
 loop-k-preserved c =
     let e = ap (counted c.args.self.now.codes.now) (sym (index_is c.args.self.now.header.past c.loop-k.k c.args.self.now.section.now c.word-w.ensures)) in
-    total_turn (words_from c.args.self.now.header.past c.args.self.now.section.now) c.args.self.now.codes.now c.loop-k.invariant c.loop-k-test.true (e ∙ is_some (counted c.args.self.now.codes.now _) (sym c.in_ok-n.ensures.0)) (omega (arith, c.in_ok-n.ensures.1, ap length c.args.self.now.spelled, codes_short c.args.self.now.section.now c.args.self.now.header c.args.self.now.inside, c.args.self.now.inside.narrow.low_words))
+    total_turn (words_from c.args.self.now.header.past c.args.self.now.section.now) c.args.self.now.codes.now c.loop-k.invariant c.loop-k-test.true (e ∙ value_is (counted c.args.self.now.codes.now _) (sym c.in_ok-n.ensures.0)) (omega (arith, c.in_ok-n.ensures.1, ap length c.args.self.now.spelled, codes_short c.args.self.now.section.now c.args.self.now.header c.args.self.now.inside, c.args.self.now.inside.narrow.low_words))
 
 pub returns : goal.returns
 returns c =
