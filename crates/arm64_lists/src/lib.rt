@@ -17,35 +17,61 @@ pub struct Lists<'a> {
     pub codes: &'a [u64],
 }
 
-impl Lists<'_> {
-    fn code_ok(&self, i: usize) -> bool
-        requires { code_stride * i + code_stride ≤ length self.now.codes.now }
-        ensures { result ≡ code_ok_at self.now.codes.now i }
+// A record of a list: STRIDE numbers.
+#[derive(Clone, Copy)]
+pub struct Record<'a, const STRIDE: usize> {
+    list: &'a [u64],
+    k: usize,
+    ghost there: { STRIDE * k + STRIDE ≤ length list.now },
+}
+
+impl<'a, const STRIDE: usize> Record<'a, STRIDE> {
+    // Record k of a list.
+    pub fn of(list: &'a [u64], k: usize) -> Record<'a, STRIDE>
+        requires { STRIDE * k + STRIDE ≤ length list.now }
+        ensures { (result.list.now ≡ list.now) × (result.k ≡ k) }
     {
-        let kind = self.codes[fields::CODE_STRIDE * i];
-        if arm64::PAC_SIGN_LR < kind {
-            return false;
-        }
-        if kind <= arm64::FREG_X {
-            if arm64::REGP <= kind {
-                return true;
-            }
-            return self.codes[fields::CODE_STRIDE * i + fields::REGISTER] == 0;
-        }
-        if self.codes[fields::CODE_STRIDE * i + fields::REGISTER] != 0 {
-            return false;
-        }
-        if kind == arm64::ADD_FP {
-            return true;
-        }
-        self.codes[fields::CODE_STRIDE * i + fields::OFFSET] == 0
+        Record { list, k }
     }
 
+    // Its j-th number.
+    pub fn field(&self, j: usize) -> u64
+        requires { j < STRIDE }
+        ensures { result ≡ field STRIDE self.now.list.now self.now.k j }
+    {
+        self.list[STRIDE * self.k + j]
+    }
+}
+
+// Question 13 of a code.
+fn code_ok(code: Record<3>) -> bool
+    ensures { result ≡ code_ok_at code.entry.list.now code.entry.k }
+{
+    let kind = code.field(0);
+    if arm64::PAC_SIGN_LR < kind {
+        return false;
+    }
+    if kind <= arm64::FREG_X {
+        if arm64::REGP <= kind {
+            return true;
+        }
+        return code.field(fields::REGISTER) == 0;
+    }
+    if code.field(fields::REGISTER) != 0 {
+        return false;
+    }
+    if kind == arm64::ADD_FP {
+        return true;
+    }
+    code.field(fields::OFFSET) == 0
+}
+
+impl Lists<'_> {
     fn codes_in(&self, at: usize, n: usize) -> bool
         requires { at + n ≤ count code_stride self.now.codes.now }
         ensures { result ≡ all_in (code_ok_at self.now.codes.now) at n }
     {
-        (at..at + n).all(|i| self.code_ok(i))
+        (at..at + n).all(|i| code_ok(Record::of(self.codes, i)))
     }
 
     // A range of codes, and each of them.
@@ -58,13 +84,12 @@ impl Lists<'_> {
         self.codes_in(at as usize, n as usize)
     }
 
-    fn epilogue_ok(&self, i: usize) -> bool
-        requires { epilogue_stride * i + epilogue_stride ≤ length self.now.epilogues.now }
-        ensures { result ≡ epilogue_ok_at self.now.epilogues.now self.now.codes.now i }
+    fn epilogue_ok(&self, epilogue: Record<3>) -> bool
+        ensures { result ≡ epilogue_ok_at epilogue.entry.list.now self.now.codes.now epilogue.entry.k }
     {
         self.codes_ok_in(
-            self.epilogues[fields::EPILOGUE_STRIDE * i + fields::CODES_AT],
-            self.epilogues[fields::EPILOGUE_STRIDE * i + fields::CODES],
+            epilogue.field(fields::CODES_AT),
+            epilogue.field(fields::CODES),
         )
     }
 
@@ -72,24 +97,23 @@ impl Lists<'_> {
         requires { at + n ≤ count epilogue_stride self.now.epilogues.now }
         ensures { result ≡ all_in (epilogue_ok_at self.now.epilogues.now self.now.codes.now) at n }
     {
-        (at..at + n).all(|i| self.epilogue_ok(i))
+        (at..at + n).all(|i| self.epilogue_ok(Record::of(self.epilogues, i)))
     }
 
-    fn function_ok(&self, k: usize) -> bool
-        requires { function_stride * k + function_stride ≤ length self.now.functions.now }
-        ensures { result ≡ function_ok_at self.now.functions.now self.now.epilogues.now self.now.codes.now k }
+    fn function_ok(&self, function: Record<6>) -> bool
+        ensures { result ≡ function_ok_at function.entry.list.now self.now.epilogues.now self.now.codes.now function.entry.k }
     {
-        if !lists::symbol_ok(self.functions[fields::FUNCTION_STRIDE * k]) {
+        if !lists::symbol_ok(function.field(0)) {
             return false;
         }
         if !self.codes_ok_in(
-            self.functions[fields::FUNCTION_STRIDE * k + fields::PROLOGUE_AT],
-            self.functions[fields::FUNCTION_STRIDE * k + fields::PROLOGUE],
+            function.field(fields::PROLOGUE_AT),
+            function.field(fields::PROLOGUE),
         ) {
             return false;
         }
-        let at = self.functions[fields::FUNCTION_STRIDE * k + fields::EPILOGUES_AT];
-        let n = self.functions[fields::FUNCTION_STRIDE * k + fields::EPILOGUES];
+        let at = function.field(fields::EPILOGUES_AT);
+        let n = function.field(fields::EPILOGUES);
         if !lists::inside(
             at,
             n,
@@ -104,28 +128,23 @@ impl Lists<'_> {
         requires { function_stride * n ≤ length self.now.functions.now }
         ensures { result ≡ all_in (function_ok_at self.now.functions.now self.now.epilogues.now self.now.codes.now) 0 n }
     {
-        (0..n).all(|k| self.function_ok(k))
+        (0..n).all(|k| self.function_ok(Record::of(self.functions, k)))
     }
 
     // ---- sums
 
-    // The codes of function k, added to a sum.
-    fn add_function(&self, k: usize, sum: u64) -> Option<u64>
-        requires { (function_stride * k + function_stride ≤ length self.now.functions.now) × (field function_stride self.now.functions.now k 4 + field function_stride self.now.functions.now k 5 ≤ count epilogue_stride self.now.epilogues.now) × (sum ≤ most_records) }
-        ensures { result ≡ up_to (sum + codes_in self.now.functions.now self.now.epilogues.now k) }
+    // The codes of a function, added to a sum.
+    fn add_function(&self, function: Record<6>, sum: u64) -> Option<u64>
+        requires { (field function_stride function.list.now function.k 4 + field function_stride function.list.now function.k 5 ≤ count epilogue_stride self.now.epilogues.now) × (sum ≤ most_records) }
+        ensures { result ≡ up_to (sum + codes_in function.entry.list.now self.now.epilogues.now function.entry.k) }
     {
-        let at = self.functions[fields::FUNCTION_STRIDE * k + fields::EPILOGUES_AT] as usize;
-        let n = self.functions[fields::FUNCTION_STRIDE * k + fields::EPILOGUES] as usize;
-        let start = add(
-            sum,
-            self.functions[fields::FUNCTION_STRIDE * k + fields::PROLOGUE],
-        )?;
+        let at = function.field(fields::EPILOGUES_AT) as usize;
+        let n = function.field(fields::EPILOGUES) as usize;
+        let start = add(sum, function.field(fields::PROLOGUE))?;
         let mut total = start;
         for i in at..at + n {
-            total = add(
-                total,
-                self.epilogues[fields::EPILOGUE_STRIDE * i + fields::CODES],
-            )?;
+            let epilogue: Record<3> = Record::of(self.epilogues, i);
+            total = add(total, epilogue.field(fields::CODES))?;
         }
         Some(total)
     }
@@ -137,7 +156,7 @@ impl Lists<'_> {
     {
         let mut sum = 0;
         for k in 0..n {
-            sum = self.add_function(k, sum)?;
+            sum = self.add_function(Record::of(self.functions, k), sum)?;
         }
         Some(sum)
     }
