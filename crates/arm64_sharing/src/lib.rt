@@ -38,7 +38,8 @@ pub fn leads(run: &Codes, other: &Codes) -> bool
     run.run.count <= other.run.count && leads_long(run, other)
 }
 
-// Kept: code by code, and no derived equality: runs at two places of the list are the same where their codes are as they are written.
+// Kept: the counts and then the codes by `Code`'s derived equality. `Codes` derives none: two runs of one list are the same at different places. `eq` of the
+// iterators would compare codes of runs whose counts differ, once for each pair of epilogues.
 pub fn same_run(run: &Codes, other: &Codes) -> bool
     ensures { result ≡ same_codes (written_in run.now) (written_in other.now) }
 {
