@@ -76,9 +76,9 @@ module _ (s : List ℕ) (p : ℕ) where
   word_is e = rw (little_rest s (from p) (omega arith) e)
 
 module _ (m : Memory) (a : ℕ) where
-  pub load_low : a < m.address → None ≡ option_of (load m a)
+  pub load_under : (m.address ≤ a → ⊥) → None ≡ option_of (load m a)
   unfolding load require
-  load_low h = rw (if-gt m.address a)
+  load_under n = either m.address a (λ h. absurd (n h)) (λ h. rw (if-gt m.address a))
 
   pub load_none : m.address ≤ a → little_at 8 m.bytes (from (a - m.address)) ≡ None → None ≡ option_of (load m a)
   unfolding load require next

@@ -10,12 +10,13 @@ ghost use Rattle.format.proofs.Asked.{option_of};
 ghost use Rattle.format.specs.Put.{put};
 ghost use Rattle.format.specs.Leb.{read_little};
 ghost use Rattle.format.specs.Reader.{value_or0};
-ghost use Rattle.walk.specs.Recorded.{matches, read_trailer, slots_of};
+ghost use Rattle.walk.specs.Recorded.{matches, read_trailer, slots_of, read_recorded};
 ghost use Rattle.walk.specs.Walk.{sum_of, load, saved, left_by, frame_address, unsigned, looked_up, undefined, returned_to, holds, held_from, placed_of, frame_numbers};
-ghost use Rattle.walk.specs.Standing.{holder_of, trailer_of, memory_of, slot_of, slots, left_of, step_of};
+ghost use Rattle.walk.specs.Standing.{holder_of, trailer_of, recorded_of, memory_of, slot_of, slots, left_of, step_of};
 
 use format::{CfaRule, Question, Rule};
 use operations::fields::{Position, read_le};
+use std::array;
 
 // ---- addresses
 
@@ -26,25 +27,25 @@ pub struct Memory<'a> {
     pub bytes: &'a [u8],
 }
 
-// The 8 bytes at an address, where all of them are the stack's.
-pub fn load(m: Memory, a: u64) -> Option<u64>
-    ensures { result ≡ option_of (load (memory_of m.entry) a) }
-{
-    if a < m.address {
-        return None;
+impl Memory<'_> {
+    // The 8 bytes at an address, where all of them are the stack's.
+    pub fn load(&self, a: u64) -> Option<u64>
+        ensures { result ≡ option_of (load (memory_of self.now) a) }
+    {
+        let place = Position {
+            at: a.checked_sub(self.address)? as usize,
+            shortest: true,
+        };
+        let (v, _) = read_le(self.bytes, place, 8)?;
+        Some(v)
     }
-    let place = Position {
-        at: (a - m.address) as usize,
-        shortest: true,
-    };
-    let (v, _) = read_le(m.bytes, place, 8)?;
-    Some(v)
-}
 
-fn saved(m: Memory, cfa: u64, o: i64) -> Option<u64>
-    ensures { result ≡ option_of (after (sum_of cfa o) (load (memory_of m.entry))) }
-{
-    load(m, cfa.checked_add_signed(o)?)
+    // The word at an offset from the frame address.
+    fn saved(&self, cfa: u64, o: i64) -> Option<u64>
+        ensures { result ≡ option_of (after (sum_of cfa o) (load (memory_of self.now))) }
+    {
+        self.load(cfa.checked_add_signed(o)?)
+    }
 }
 
 // A return address: with signing on, the low 48 bits.
@@ -66,27 +67,41 @@ pub fn looked_up(exact: bool, a: u64) -> Option<u64>
 // Its numbers in the list: where it starts, and its length.
 pub const FUNCTION_STRIDE: usize = 2;
 
+// Kept: beside `covers` of call_sites, which is the same test. They meet two definitions, over two structs; the crates below both read numbers out
+// of bytes and know of no ranges, and one function there needs a third definition and two laws.
 fn holds(start: u64, size: u64, a: u64) -> bool
     ensures { result ≡ holds a (record { start = start; size = size }) }
 {
     start <= a && a - start < size
 }
 
-// The first function in list order: its position in the list, and the offset from its start.
-fn holder_of(functions: &[u64], a: u64) -> Option<(u64, u64)>
+// A function by its position in the list, and the offset of an address in it.
+#[derive(Clone, Copy)]
+pub struct Holder {
+    pub position: u64,
+    pub offset: u64,
+}
+
+// The first function in list order.
+fn holder_of(functions: &[u64], a: u64) -> Option<Holder>
     ensures { result ≡ holder_of (held_from a 0 (placed_of functions.now)) }
 {
-    for i in 0..functions.len() / FUNCTION_STRIDE {
-        let start = functions[FUNCTION_STRIDE * i];
-        if holds(start, functions[FUNCTION_STRIDE * i + 1], a) {
-            return Some((i as u64, a - start));
-        }
-    }
-    None
+    let n = functions.len() / FUNCTION_STRIDE;
+    let i = (0..n).find(|i| {
+        holds(
+            functions[FUNCTION_STRIDE * *i],
+            functions[FUNCTION_STRIDE * *i + 1],
+            a,
+        )
+    })?;
+    Some(Holder {
+        position: i as u64,
+        offset: a - functions[FUNCTION_STRIDE * i],
+    })
 }
 
 // The function that holds the address where a caller is looked up.
-pub fn held(functions: &[u64], exact: bool, pc: u64) -> Option<(u64, u64)>
+pub fn held(functions: &[u64], exact: bool, pc: u64) -> Option<Holder>
     ensures { result ≡ holder_of (after (looked_up exact pc) (λ a. held_from a 0 (placed_of functions.now))) }
 {
     holder_of(functions, looked_up(exact, pc)?)
@@ -110,8 +125,15 @@ fn matches(file: u64, distance: u64, count: u64, size: u64) -> bool
     size == file - 16 - distance
 }
 
-// 73: the trailer, where it matches the file: the stack's length and the count of registers.
-pub fn read_trailer(file: &[u8]) -> Option<(usize, usize)>
+// What the end of a record file says: the stack's length and the count of registers.
+#[derive(Clone, Copy)]
+pub struct Trailer {
+    pub size: usize,
+    pub count: usize,
+}
+
+// 73: the trailer, where it matches the file.
+pub fn read_trailer(file: &[u8]) -> Option<Trailer>
     ensures { result ≡ trailer_of (read_trailer file.now) }
 {
     let n = file.len();
@@ -131,7 +153,10 @@ pub fn read_trailer(file: &[u8]) -> Option<(usize, usize)>
     if !matches(n as u64, distance, count, size) {
         return None;
     }
-    Some((size as usize, count as usize))
+    Some(Trailer {
+        size: size as usize,
+        count: count as usize,
+    })
 }
 
 fn word_at(s: &[u8], at: usize) -> u64
@@ -149,11 +174,24 @@ pub fn registers(file: &[u8], at: usize, count: usize) -> [Option<u64>; 128]
     requires { at ≤ 65536 }
     ensures { slots result ≡ slots_of count (drop at file.now) }
 {
-    let mut registers = [None; 128];
-    for i in 0..128 {
-        registers[i] = (i < count).then_some(word_at(file, at + 8 * i));
-    }
-    registers
+    array::from_fn(|i| (i < count).then_some(word_at(file, at + 8 * i)))
+}
+
+// A record file: the stack's bytes, and the registers behind them.
+#[derive(Clone, Copy)]
+pub struct Recorded<'a> {
+    pub stack: &'a [u8],
+    pub registers: [Option<u64>; 128],
+}
+
+pub fn read_recorded(file: &[u8]) -> Option<Recorded>
+    ensures { recorded_of result ≡ read_recorded file.now }
+{
+    let trailer = read_trailer(file)?;
+    Some(Recorded {
+        stack: &file[..trailer.size],
+        registers: registers(file, trailer.size, trailer.count),
+    })
 }
 
 // ---- a frame left
@@ -184,26 +222,27 @@ pub fn undefined(rule: Rule) -> bool
     matches!(rule, Rule::Undefined)
 }
 
-// A register after a frame is left, by its rule and the registers before.
-pub fn left_by(
-    registers: &[Option<u64>],
-    rule: Rule,
-    reg: usize,
-    m: Memory,
-    cfa: u64,
-) -> Result<Option<u64>, Question>
-    ensures { left_of result ≡ left_by (memory_of m.entry) cfa (slots registers.now) reg rule }
-{
-    match rule {
-        Rule::Unstated => Ok(slot(registers, reg)),
-        Rule::SameValue => Ok(slot(registers, reg)),
-        Rule::Undefined => Ok(None),
-        Rule::InRegister(other) => Ok(slot(registers, other as usize)),
-        Rule::Saved(o) => {
-            let Some(v) = saved(m, cfa, o) else {
-                return Err(Question::Stack);
-            };
-            Ok(Some(v))
+impl Memory<'_> {
+    // A register after a frame is left, by its rule and the registers before.
+    pub fn left_by(
+        &self,
+        registers: &[Option<u64>],
+        rule: Rule,
+        reg: usize,
+        cfa: u64,
+    ) -> Result<Option<u64>, Question>
+        ensures { left_of result ≡ left_by (memory_of self.now) cfa (slots registers.now) reg rule }
+    {
+        match rule {
+            Rule::Unstated | Rule::SameValue => Ok(slot(registers, reg)),
+            Rule::Undefined => Ok(None),
+            Rule::InRegister(other) => Ok(slot(registers, usize::from(other))),
+            Rule::Saved(o) => {
+                let Some(v) = self.saved(cfa, o) else {
+                    return Err(Question::Stack);
+                };
+                Ok(Some(v))
+            }
         }
     }
 }

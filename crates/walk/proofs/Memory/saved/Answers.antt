@@ -1,4 +1,4 @@
--- `walk::saved` meets its contract.
+-- `walk::Memory::saved` meets its contract.
 use mathlib.Core.Path.{sym, ap, ◌∙◌}
 use borrow.Author.Rules.{rules}
 use mir.Facts.{to_z-of_z}
@@ -6,7 +6,7 @@ use Rattle.std.specs.Prelude.{Some, None}
 use Rattle.format.proofs.Asked.{option_of}
 use Rattle.walk.proofs.Leaves.{summed, after_none, after_is}
 use Rattle.walk.specs.Walk.{sum_of}
-use Rattle.walk.proofs.saved.Goals as goal
+use Rattle.walk.proofs.Memory.saved.Goals as goal
 
 pub returns-in_err-checked_add_signed : goal.returns-in_err-checked_add_signed
 returns-in_err-checked_add_signed c =
