@@ -1,10 +1,10 @@
--- `walked::recorded` meets its contract.
+-- `walked::chain_of` meets its contract.
 use mathlib.Core.Path.{sym, ◌∙◌}
 use lib.Dec.{T}
 use Rattle.format.specs.Machine.{machine_ok}
 use Rattle.format.proofs.Accepted.{machine_fits}
 use Rattle.walked.proofs.Entering.{no_machine, other_word, right_word, frames_of_lem}
-use Rattle.walked.proofs.recorded.Goals as goal
+use Rattle.walked.proofs.chain_of.Goals as goal
 
 pub returns-then-not-machine_ok : goal.returns-then-not-machine_ok
 returns-then-not-machine_ok c = no_machine c.args.machine.now _ (sym c.machine_ok.ensures ∙ c.if-not-machine_ok.true)
@@ -24,4 +24,4 @@ pub returns : goal.returns
 returns c =
     let ok = sym c.machine_ok.ensures ∙ c.if-not-machine_ok.false in
     let m = c.machine_of-known in
-    c.frames.ensures ∙ frames_of_lem _ _ _ _ m.ensures c.registers.ensures ∙ right_word _ _ ok m.result m.ensures c.if-known-ne8.false
+    c.frames.ensures ∙ frames_of_lem _ _ _ _ m.ensures ∙ right_word _ _ ok m.result m.ensures c.if-known-ne8.false
