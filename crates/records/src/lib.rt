@@ -11,11 +11,11 @@ ghost use Rattle.format.specs.Lists.{row_stride, row_at, numbers_of, count, most
 ghost use Rattle.format.specs.CallSites.{site_bytes, site_added};
 ghost use Rattle.format.specs.Records.{record_relocs, set_kind, set_bytes, set_place, set_pair};
 ghost use Rattle.rows.specs.Forms.{operand_bytes};
-ghost use Rattle.lists.specs.Extents.{meant, meant_landing, meant_pair};
+ghost use Rattle.lists.specs.Extents.{meant, meant_landing};
 ghost use Rattle.header_keys.specs.Functions.{LandingsReady, LabelsReady};
 ghost use Rattle.records.specs.Stepped.{stepped_row_bytes, SteppedRowReady, SurveyedRow, Surveyed};
 ghost use Rattle.records.specs.Fields.{size_in, blank_in, fields_in, sum_in, lsda_in, debug_relocs, eh_relocs, field_relocs};
-ghost use Rattle.records.specs.Labels.{step_pair, steps_in};
+ghost use Rattle.records.specs.Labels.{found_pair, steps_in};
 ghost use Rattle.records.specs.Written.{RunReady, Leading, Others, run_bytes, steps_of, pairs_of, rows_of, fields_of, record_of, function_meant, record_relocs_of};
 
 use header_keys::written::{Function, Run};
@@ -302,6 +302,8 @@ fn set_place(place: u64, form: StepForm) -> u64
 }
 
 // The kind of Set for a form; Sub's is one more.
+// Kept: a kind is the number that the list of relocations takes. The enum of kinds is `apply`'s, which reads such lists and stands above
+// the writer; here it would be made to be turned into its number at once.
 #[tactic(auto, unfolding(format::specs::Records::set_kind))]
 fn set_kind(form: StepForm) -> u64
     ensures { (result ≡ set_kind (operand_bytes form)) × (result ≤ 11) }
@@ -325,11 +327,20 @@ fn set_bytes(form: StepForm) -> u64
     }
 }
 
-// The relocations of a step of a form between the two places of a pair: Set takes the second symbol, Sub the first.
-fn relaxed_advance(out: &mut [u64], i: usize, place: u64, form: StepForm, p: Pair) -> usize
-    requires { (place < 2 ^ 63) × (i + 10 ≤ length out.old) }
-    ensures { Wrote out.old out.new i result (numbers_of (set_pair place (operand_bytes form) (some (meant_pair p)))) }
+// The relocations of a step of a form between the two places of a pair, where there is one: Set takes the second symbol, Sub the first.
+fn relaxed_advance(
+    out: &mut [u64],
+    i: usize,
+    place: u64,
+    form: StepForm,
+    pair: Option<Pair>,
+) -> usize
+    requires { (place < 2 ^ 63) × (i + length (numbers_of (set_pair place (operand_bytes form) (found_pair pair))) ≤ length out.old) }
+    ensures { Wrote out.old out.new i result (numbers_of (set_pair place (operand_bytes form) (found_pair pair))) }
 {
+    let Some(p) = pair else {
+        return i;
+    };
     let at = set_place(place, form);
     let kind = set_kind(form);
     let bytes = set_bytes(form);
@@ -337,64 +348,44 @@ fn relaxed_advance(out: &mut [u64], i: usize, place: u64, form: StepForm, p: Pai
     relocs::relocation(out, a, at, p.symbol1, kind + 1, bytes, 0)
 }
 
-// The relocations of the step from one place to another, whose pair is to be looked for at pair `near`.
-fn step_pair(
-    out: &mut [u64],
-    i: usize,
-    place: u64,
-    from: u64,
-    to: u64,
-    pairs: &Pairs,
-    near: usize,
-) -> usize
-    requires { (place < 2 ^ 63) × (from ≤ to) × (i + length (numbers_of (step_pair place from to (pairs_of pairs.now))) ≤ length out.old) }
-    ensures { Wrote out.old out.new i result (numbers_of (step_pair place from to (pairs_of pairs.now))) }
+#[tactic(auto, unfolding(crate::specs::Labels::found_pair, format::specs::Records::set_pair))]
+fn relaxed_advance_count(pair: Option<Pair>) -> usize
+    ensures { (result ≡ length (set_pair 0 0 (found_pair pair))) × (result ≤ 2) }
 {
-    let Some(p) = pairs.near(near, from, to) else {
-        return i;
-    };
-    relaxed_advance(out, i, place, rows::step_form(to - from), p)
-}
-
-fn step_pair_count(from: u64, to: u64, pairs: &Pairs, near: usize) -> usize
-    ensures { result ≡ length (step_pair 0 from to (pairs_of pairs.now)) }
-{
-    let Some(_) = pairs.near(near, from, to) else {
-        return 0;
-    };
-    2
+    match pair {
+        Some(_) => 2,
+        None => 0,
+    }
 }
 
 // Those of the rows of a run, whose bytes start at `place`.
-fn step_relocs(out: &mut [u64], i: usize, place: u64, run: &Run, pairs: &Pairs) -> usize
-    requires { RunReady run.now × (place < 2 ^ 62) × (i + length (numbers_of (steps_of run.now place (pairs_of pairs.now))) ≤ length out.old) }
-    ensures { Wrote out.old out.new i result (numbers_of (steps_of run.now place (pairs_of pairs.now))) }
+fn step_relocs(out: &mut [u64], i: usize, place: u64, run: &Run, mut pairs: Pairs) -> usize
+    requires { RunReady run.now × (place < 2 ^ 62) × (i + length (numbers_of (steps_of run.now place (pairs_of pairs))) ≤ length out.old) }
+    ensures { Wrote out.old out.new i result (numbers_of (steps_of run.now place (pairs_of pairs.entry))) }
 {
     let mut from = 0;
     let mut p = place;
     let mut q = i;
-    let mut near = pairs.first();
     for k in run.at..run.at + run.n {
         let to = rows::offset_at(run.rows, k);
-        q = step_pair(out, q, p, from, to, pairs, near);
-        near = pairs.next_near(near, to);
+        let pair = pairs.step(from, to);
+        q = relaxed_advance(out, q, p, rows::step_form(to - from), pair);
         p += stepped_row_size(run, from, k) as u64;
         from = to;
     }
     q
 }
 
-fn step_relocs_count(run: &Run, pairs: &Pairs) -> usize
+fn step_relocs_count(run: &Run, mut pairs: Pairs) -> usize
     requires { run.now.n ≤ most_records }
-    ensures { (result ≡ length (steps_in 0 0 0 run.now.rows.now run.now.at run.now.n (pairs_of pairs.now))) × (result ≤ 2 * run.now.n) }
+    ensures { (result ≡ length (steps_in 0 0 0 run.now.rows.now run.now.at run.now.n (pairs_of pairs.entry))) × (result ≤ 2 * run.now.n) }
 {
     let mut from = 0;
     let mut size = 0;
-    let mut near = pairs.first();
     for k in run.at..run.at + run.n {
         let to = rows::offset_at(run.rows, k);
-        size += step_pair_count(from, to, pairs, near);
-        near = pairs.next_near(near, to);
+        let pair = pairs.step(from, to);
+        size += relaxed_advance_count(pair);
         from = to;
     }
     size
@@ -504,7 +495,7 @@ pub fn record_relocs_count(f: &Function, pairs: &[u64]) -> usize
     let Some(labels) = f.extent.relaxed else {
         return n;
     };
-    n + step_relocs_count(&others(f), &Pairs::of(&labels, pairs))
+    n + step_relocs_count(&others(f), Pairs::of(&labels, pairs))
 }
 
 // Those of a record: of the fields, then of the steps.
@@ -517,5 +508,5 @@ pub fn record_relocs(out: &mut [u64], i: usize, f: &Function, p: &Places, pairs:
         return a;
     };
     let place = p.at + 4 + fields_size(f);
-    step_relocs(out, a, place as u64, &others(f), &Pairs::of(&labels, pairs))
+    step_relocs(out, a, place as u64, &others(f), Pairs::of(&labels, pairs))
 }
