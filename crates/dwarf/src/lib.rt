@@ -3,7 +3,7 @@
 
 ghost use Rattle.std.specs.Prelude.{◌≡◌, ℕ, ◌+◌, ◌*◌, ◌^◌, ◌≤◌, ◌<◌, true, not, [], T, ltb, eqb, length, get_or};
 ghost use Rattle.format.specs.Prelude.{all, each};
-ghost use Rattle.format.specs.Lists.{field, function_stride, pair_stride, sum_of, most_functions, most_records, pair_at};
+ghost use Rattle.format.specs.Lists.{field, function_stride, pair_stride, sum_of, most_functions, most_records, pair_at, row_at};
 ghost use Rattle.format.specs.Questions.{size_bytes, encodings_ok, steps_ok, pairs_ok, dwarf_asks, per_function, fitting, dwarf_given, given_of, room_in};
 ghost use Rattle.format.specs.Writer.{is_debug, align_for};
 ghost use Rattle.format.specs.Answers.{Writes};
@@ -13,12 +13,15 @@ ghost use Rattle.lists.specs.Extents.{meant};
 ghost use Rattle.lists.specs.Parts.{sums_ok};
 ghost use Rattle.lists.specs.Room.{room_for};
 ghost use Rattle.lists.specs.Lent.{SameLists, room_of, WritesTo};
-ghost use Rattle.header_keys.specs.Functions.{body_of, Sound, PairsReady, LabelsReady};
-ghost use Rattle.header_keys.specs.Inputs.{inputs_of, count_in, extent_in, RowsIn, rows_of};
-ghost use Rattle.dwarf.specs.Asks.{Askable, AllAskable, whole_in, asked_in, lines_asks, listed_answer};
+ghost use Rattle.header_keys.specs.Functions.{body_of, RowsReady, Sound, PairsReady, LabelsReady};
+ghost use Rattle.header_keys.specs.Inputs.{inputs_of, count_in, extent_in, RowsIn};
+ghost use Rattle.dwarf.specs.Asks.{Askable, AllAskable, asked_in, lines_asks, listed_answer};
 ghost use Rattle.dwarf.specs.Parts.{parts_to, section_in};
 ghost use Rattle.dwarf.specs.Writable.{Writable, Cleared, Next};
 ghost use Rattle.dwarf.specs.OneProof.{Cleared-prop, Owned-prop};
+ghost use Rattle.format.specs.Machine.{is_word_size};
+ghost use Rattle.header_keys.specs.OneProof.{RowsReady-prop};
+ghost use Rattle.format.specs.Rows.{row_whole};
 ghost use Rattle.dwarf.specs.Tables.{totals_in, grown_by, Small, labelled_rows, most_in, Few, counts_of};
 ghost use Rattle.owners.specs.Owners.{owner};
 ghost use Rattle.owners.specs.Chains.{Owned};
@@ -41,7 +44,7 @@ use records::{
     surveyed_rows,
 };
 use rows::row_numbers::RowNumbers;
-use rows::{offset_at, row_at, row_whole};
+use rows::{offset_at, row_at, row_whole, step_ok};
 
 // ---- questions 21 to 25
 
@@ -74,60 +77,75 @@ fn encodings_ok(x: &Input, e: &Extent) -> bool
     }
 }
 
-// Question 23: no row goes back, nor steps above 2^32 - 1.
-fn steps_ok(x: &Input, e: &Extent) -> bool
-    requires { RowsIn (inputs_of x.now) e.now }
-    ensures { result ≡ steps_ok 0 (rows_of (inputs_of x.now) e.now) }
-{
-    let mut from = 0;
-    for i in e.rows_at..e.rows_at + e.rows {
-        let to = offset_at(x.lists.rows, i);
-        if to < from {
-            return false;
-        }
-        if rows::STEPS <= to - from {
-            return false;
-        }
-        from = to;
-    }
-    true
+// A function's rows, which can be read, and the word that they are asked for.
+#[derive(Clone, Copy)]
+struct Lines<'a> {
+    word: u64,
+    rows: &'a [u64],
+    at: usize,
+    n: usize,
+    ghost is_word: { T (is_word_size word) },
+    ghost ready: { RowsReady rows.now at n } by { RowsReady-prop rows.now at n },
 }
 
-// Question 24: each offset that is written factored is a multiple of the word.
-fn rows_whole(x: &Input, e: &Extent) -> bool
-    requires { RowsIn (inputs_of x.now) e.now }
-    ensures { result ≡ whole_in (inputs_of x.now) e.now }
-{
-    for i in e.rows_at..e.rows_at + e.rows {
-        if !row_whole(x.machine.word, row_at(x.lists.rows, i)) {
-            return false;
+// Kept: three passes ask questions 23 and 24. `fine` asks both at once, for more than they do, and is what most functions need; where it says no, the
+// two plain ones tell which question it is (D107 of docs/DECISIONS.md).
+impl Lines<'_> {
+    // Question 23: no row goes back, nor steps above 2^32 - 1.
+    // Kept: a loop, and no `all`: each row is set beside the one in front of it, and its offset is read once.
+    fn steps_ok(&self) -> bool
+        ensures { result ≡ steps_ok 0 (each (row_at self.now.rows.now) self.now.at self.now.n) }
+    {
+        let mut from = 0;
+        for i in self.at..self.at + self.n {
+            let to = offset_at(self.rows, i);
+            if to < from {
+                return false;
+            }
+            if !step_ok(to - from) {
+                return false;
+            }
+            from = to;
         }
+        true
     }
-    true
-}
 
-// Questions 23 and 24 in one pass, asked for more. A no says nothing. With the word in a local the compiler tests it once.
-fn lines_fine(x: &Input, e: &Extent) -> bool
-    requires { RowsIn (inputs_of x.now) e.now }
-    ensures { result ≡ true → (steps_ok 0 (rows_of (inputs_of x.now) e.now) ≡ true) × (whole_in (inputs_of x.now) e.now ≡ true) }
-{
-    let word = x.machine.word;
-    let rows = x.lists.rows;
-    let mut from = 0;
-    for i in e.rows_at..e.rows_at + e.rows {
-        let to = offset_at(rows, i);
-        if to < from {
-            return false;
-        }
-        if rows::STEPS <= to - from {
-            return false;
-        }
-        if !RowNumbers::at(rows, i).surely_whole(word) {
-            return false;
-        }
-        from = to;
+    // Row i's offset, where it is written factored, is a multiple of the word.
+    fn row_whole(&self, i: usize) -> bool
+        requires { (self.now.at ≤ i) × (i < self.now.at + self.now.n) }
+        ensures { result ≡ row_whole self.now.word (row_at self.now.rows.now i).1 }
+    {
+        row_whole(self.word, row_at(self.rows, i))
     }
-    true
+
+    // Question 24: each offset that is written factored is a multiple of the word.
+    fn whole(&self) -> bool
+        ensures { result ≡ all (λ r. row_whole self.now.word r.1) (each (row_at self.now.rows.now) self.now.at self.now.n) }
+    {
+        (self.at..self.at + self.n).all(|i| self.row_whole(i))
+    }
+
+    // Questions 23 and 24 in one pass, asked for more. A no says nothing. With the word in a local the compiler tests it once.
+    fn fine(&self) -> bool
+        ensures { result ≡ true → (steps_ok 0 (each (row_at self.now.rows.now) self.now.at self.now.n) ≡ true) × (all (λ r. row_whole self.now.word r.1) (each (row_at self.now.rows.now) self.now.at self.now.n) ≡ true) }
+    {
+        let word = self.word;
+        let mut from = 0;
+        for i in self.at..self.at + self.n {
+            let to = offset_at(self.rows, i);
+            if to < from {
+                return false;
+            }
+            if !step_ok(to - from) {
+                return false;
+            }
+            if !RowNumbers::at(self.rows, i).surely_whole(word) {
+                return false;
+            }
+            from = to;
+        }
+        true
+    }
 }
 
 // Questions 23 and 24 of function k.
@@ -135,16 +153,22 @@ fn lines_ask(x: &Input, k: usize, e: &Extent) -> Result<(), Refusal>
     requires { RowsIn (inputs_of x.now) e.now }
     ensures { numbered_at result ≡ question_of (lines_asks (inputs_of x.now) k e.now) }
 {
-    if lines_fine(x, e) {
+    let lines = Lines {
+        word: x.machine.word,
+        rows: x.lists.rows,
+        at: e.rows_at,
+        n: e.rows,
+    };
+    if lines.fine() {
         return Ok(());
     }
-    if !steps_ok(x, e) {
+    if !lines.steps_ok() {
         return Err(Refusal {
             question: Question::Order,
             position: k as u64,
         });
     }
-    if !rows_whole(x, e) {
+    if !lines.whole() {
         return Err(Refusal {
             question: Question::Multiples,
             position: k as u64,
@@ -238,6 +262,7 @@ impl Table {
     };
 }
 
+// Kept: a `bool`, here and in what is written of a function: the definitions of an entry's bytes take a Bool, and not the section.
 #[tactic(auto, unfolding(format::specs::Writer::is_debug))]
 fn is_debug(s: Section) -> bool
     ensures { result ≡ is_debug s }
@@ -632,10 +657,7 @@ impl Counted<'_> {
     {
         let n = self.input.lists.count();
         if !self.input.lists.functions_ok(n) {
-            return Err(Refusal {
-                question: Question::Lists,
-                position: 0,
-            });
+            return Err(Question::Lists.into());
         }
         all_asks(self.input)?;
         fitted(self.input, chains, to)
@@ -710,16 +732,10 @@ pub fn dwarf(
     ensures { Writes (dwarf_given s (given_of machine.now functions.now rows.now landings.now pairs.now) (room_in places.old bytes.old relocations.old sites.old)) (numbered_at result) places.old places.new bytes.old bytes.new relocations.old relocations.new sites.old sites.new }
 {
     if !machine_ok(machine) {
-        return Err(Refusal {
-            question: Question::Interface,
-            position: 0,
-        });
+        return Err(Question::Interface.into());
     }
     if !sums_ok(functions) {
-        return Err(Refusal {
-            question: Question::Lists,
-            position: 0,
-        });
+        return Err(Question::Lists.into());
     }
     let x = Input {
         section: s,

@@ -8,10 +8,10 @@ use Rattle.dwarf.proofs.Whole.{says_11, says_listed, no_sums}
 use Rattle.dwarf.proofs.dwarf.Goals as goal
 
 pub returns-then-not-machine_ok : goal.returns-then-not-machine_ok
-returns-then-not-machine_ok c = says_11 _ _ _ _ _ _ (refused c.machine_ok.ensures (ap not c.if-not-machine_ok.true))
+returns-then-not-machine_ok c = rw c.into.ensures (says_11 _ _ _ _ _ _ (refused c.machine_ok.ensures (ap not c.if-not-machine_ok.true)))
 
 pub returns-then-not-sums_ok : goal.returns-then-not-sums_ok
-returns-then-not-sums_ok c = says_listed _ _ _ _ _ _ (accepted c.machine_ok.ensures (ap not c.if-not-machine_ok.false)) refl (no_sums _ _ _ _ _ (refused c.sums_ok.ensures (ap not c.if-not-sums_ok.true)))
+returns-then-not-sums_ok c = rw c.into-then-not-sums_ok.ensures (says_listed _ _ _ _ _ _ (accepted c.machine_ok.ensures (ap not c.if-not-machine_ok.false)) refl (no_sums _ _ _ _ _ (refused c.sums_ok.ensures (ap not c.if-not-sums_ok.true))))
 
 pub machine_of-requires : goal.machine_of-requires
 machine_of-requires c = is_yes_lem (accepted c.machine_ok.ensures (ap not c.if-not-machine_ok.false))
