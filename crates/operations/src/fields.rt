@@ -20,6 +20,21 @@ impl Position {
     };
 }
 
+// A place with nothing read in front of it.
+impl From<usize> for Position {
+    ghost use Rattle.std.specs.Prelude.{◌≡◌};
+    ghost use Rattle.operations.specs.Positions.{from};
+
+    ghost from_gives = { λ p at. at ≡ from p };
+
+    fn from(at: usize) -> Position {
+        Position {
+            at,
+            ..Position::START
+        }
+    }
+}
+
 // A LEB number's last byte, the count of the groups before it, the scale that they stand below, what they make, and the place past the number.
 #[derive(Clone, Copy)]
 struct Groups {
@@ -129,16 +144,9 @@ pub fn read_le(s: &[u8], at: Position, n: usize) -> Option<(u64, Position)>
     ensures { result ≡ little_at n s.now at }
 {
     let from = at.at;
-    let shortest = at.shortest;
     if s.len() < from {
         if n == 0 {
-            return Some((
-                0,
-                Position {
-                    at: s.len(),
-                    shortest,
-                },
-            ));
+            return Some((0, Position { at: s.len(), ..at }));
         }
         return None;
     }
@@ -150,11 +158,5 @@ pub fn read_le(s: &[u8], at: Position, n: usize) -> Option<(u64, Position)>
         let b = u64::from(s[from + i]);
         acc = acc * 256 + b;
     }
-    Some((
-        acc,
-        Position {
-            at: from + n,
-            shortest,
-        },
-    ))
+    Some((acc, Position { at: from + n, ..at }))
 }

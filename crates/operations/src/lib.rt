@@ -18,34 +18,6 @@ pub mod fields;
 struct Operations<'a> {
     bytes: &'a [u8],
     word: u64,
-    ghost factored: { 0 < word },
-}
-
-// ---- an operand read
-
-// An offset v words below the frame address, where 64 bits hold it.
-fn words_below(word: u64, v: u64, past: Position) -> Option<(i64, Position)>
-    requires { 0 < word }
-    ensures { result ≡ held (unfactor word (pos v)) past }
-{
-    if v == 0 {
-        return Some((0, past));
-    }
-    if 9223372036854775808 / word < v {
-        return None;
-    }
-    Some((-1 - ((v * word - 1) as i64), past))
-}
-
-// An offset m words above it.
-fn words_above(word: u64, m: u64, past: Position) -> Option<(i64, Position)>
-    requires { 0 < word }
-    ensures { result ≡ held (pos (m * word)) past }
-{
-    if 9223372036854775807 / word < m {
-        return None;
-    }
-    Some(((m * word) as i64, past))
 }
 
 // ---- an operation read
@@ -78,10 +50,7 @@ impl Operations<'_> {
         ensures { result ≡ register_at self.now.bytes.now at }
     {
         let (v, past) = read_uleb(self.bytes, at)?;
-        if v <= 0xffff {
-            return Some((v as u16, past));
-        }
-        None
+        Some((u16::try_from(v).ok()?, past))
     }
 
     // An offset as it stands.
@@ -89,10 +58,23 @@ impl Operations<'_> {
         ensures { result ≡ plain_at self.now.bytes.now at }
     {
         let (v, past) = read_uleb(self.bytes, at)?;
-        if v < 9223372036854775808 {
-            return Some((v as i64, past));
-        }
-        None
+        Some((i64::try_from(v).ok()?, past))
+    }
+
+    // An offset v words below the frame address, where 64 bits hold it.
+    fn words_below(&self, v: u64, past: Position) -> Option<(i64, Position)>
+        ensures { result ≡ held (unfactor self.now.word (pos v)) past }
+    {
+        let n = v.checked_mul(self.word)?;
+        Some((0i64.checked_sub_unsigned(n)?, past))
+    }
+
+    // An offset m words above it.
+    fn words_above(&self, m: u64, past: Position) -> Option<(i64, Position)>
+        ensures { result ≡ held (pos (m * self.now.word)) past }
+    {
+        let n = m.checked_mul(self.word)?;
+        Some((i64::try_from(n).ok()?, past))
     }
 
     // A factored offset, unsigned.
@@ -100,7 +82,7 @@ impl Operations<'_> {
         ensures { result ≡ factored_at self.now.word self.now.bytes.now at }
     {
         let (v, past) = read_uleb(self.bytes, at)?;
-        words_below(self.word, v, past)
+        self.words_below(v, past)
     }
 
     // A factored offset, signed.
@@ -109,9 +91,9 @@ impl Operations<'_> {
     {
         let (z, past) = read_sleb(self.bytes, at)?;
         if z < 0 {
-            return words_above(self.word, rows::size(z), past);
+            return self.words_above(z.unsigned_abs(), past);
         }
-        words_below(self.word, z as u64, past)
+        self.words_below(z.unsigned_abs(), past)
     }
 
     // The offset behind opcode b.
@@ -221,10 +203,7 @@ pub fn operation(s: &[u8], at: Position, word: u64) -> Option<(Operation, Positi
     }
     let x = Operations { bytes: s, word };
     let b = s[from];
-    let behind = Position {
-        at: from + 1,
-        shortest: at.shortest,
-    };
+    let behind = Position { at: from + 1, ..at };
     if b < opcodes::DW_CFA_ADVANCE_LOC {
         return x.extended_at(behind, b);
     }
