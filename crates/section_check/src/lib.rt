@@ -28,6 +28,24 @@ pub struct Checked {
     pub record: u64,
 }
 
+impl From<Result<(), Refusal>> for Checked {
+    ghost from_gives = { λ r c. c ≡ checked_of r };
+
+    #[tactic(auto, unfolding(crate::specs::Check::saying))]
+    fn from(answer: Result<(), Refusal>) -> Checked {
+        match answer {
+            Ok(()) => Checked {
+                number: 0,
+                record: 0,
+            },
+            Err(refusal) => Checked {
+                number: refusal.question.number(),
+                record: refusal.position,
+            },
+        }
+    }
+}
+
 // ---- the header of a record
 
 // A section has a mark for each stretch of `step` bytes: the first entry that starts in it.
@@ -127,6 +145,8 @@ impl<'a> Passed<'a> {
 // ---- the section
 
 // The records, one after the other: 84 with the first that does not pass.
+// Kept: over the entries, and not over `Records`. A header is marked too: where it is the first entry of its stretch, which in a section of many headers
+// most are, the search for it would start at 0 else.
 fn check_records(section: &Section) -> Result<(), Refusal>
     requires { (section.now.layout.debug ≡ false) × T (is_some (entries section.now.bytes.now)) }
     ensures { checked_of result ≡ check_from section.now.bytes.now section.now.layout.word 0 (records false (listed (entries section.now.bytes.now))) }
@@ -189,14 +209,5 @@ pub extern "C" fn unwind_check_section(section: &[u8], word: u64) -> Checked
     ensures value { result ≡ check_section section.now word }
     ensures means { Means section.now word result }
 {
-    match check(section, word) {
-        Ok(()) => Checked {
-            number: 0,
-            record: 0,
-        },
-        Err(refusal) => Checked {
-            number: refusal.question.number(),
-            record: refusal.position,
-        },
-    }
+    Checked::from(check(section, word))
 }
