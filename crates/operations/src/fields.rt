@@ -154,6 +154,8 @@ pub fn read_le(s: &[u8], at: Position, n: usize) -> Option<(u64, Position)>
         return None;
     }
     let mut acc = 0u64;
+    // Kept: from the last byte to the first. In a `fold` over the bytes the bound of the product is a clause of the closure, by how many bytes came
+    // before; `from_le_bytes` takes arrays of one size, and n is any number to 8.
     for i in (0..n).rev() {
         let b = u64::from(s[from + i]);
         acc = acc * 256 + b;

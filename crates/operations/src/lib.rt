@@ -97,7 +97,8 @@ impl Operations<'_> {
     }
 
     // The offset behind opcode b.
-    // Kept: a position and an opcode, here and below, are two numbers of one call; a struct of them would be made for it alone.
+    // Kept: a position and an opcode go together to five methods. `Operations` has what is the same in all calls; in a struct with the opcode the
+    // position, which each method hands on alone, to `register_at` or `read_uleb`, would be taken out again in each.
     fn operand_at(&self, at: Position, b: u8) -> Option<(i64, Position)>
         ensures { result ≡ operand_at self.now.word b self.now.bytes.now at }
     {
@@ -161,6 +162,8 @@ impl Operations<'_> {
     }
 
     // The operations whose opcode b holds no number, behind it.
+    // Kept: an opcode with operands is matched once more behind them. One match would have, for each of the ten such opcodes, a method of its own of
+    // three or four lines, in place of three methods; with a reader and a row passed as functions the contracts of the three would speak of what those give.
     fn extended_at(&self, at: Position, b: u8) -> Option<(Operation, Position)>
         requires { at.at ≤ length self.now.bytes.now }
         ensures { result ≡ extended_at self.now.word b self.now.bytes.now at }
