@@ -87,8 +87,9 @@ impl Placed<'_> {
     }
 
     // The fields in the bytes behind a record's length.
-    // Kept: `reader::fields::parse_record` and `reads::addresses::fields_of` read these three numbers too. One function would answer them with the
-    // position past them in a struct, and for this one alone which of them is at fault: taking both apart again is more than the three reads.
+    // Kept: `Body::parse_record` and `reads::addresses::fields_of` read these three numbers too, and want other parts of them: the length, behind a mark
+    // that is handed on; the place and the length of the function; and here all three and, at a fault, which it is. One function would answer all with
+    // `Result<(u64, u64, u64, Position), Field>` and a clause by cases, which each caller takes apart in place of three calls of `read_le`.
     fn record_fields(&self, pointer: u64) -> Result<RecordRead, Field>
         ensures { record_answer result ≡ record_numbers self.now.body.layout.debug pointer (self.now.base + length self.now.body.bytes.now) (record_parts self.now.body.layout.debug self.now.body.layout.word pointer self.now.body.bytes.now) }
     {

@@ -83,6 +83,8 @@ impl Span {
 }
 
 // The entries of a section, which they tile, from a position on.
+// Kept: that they tile it is a clause of `new`, `record_span`, `Records::new` and `Section::header_of`, which are public and take the bytes of a section:
+// with a struct that has it as a field they would ask for more by its type.
 #[derive(Drop)]
 pub struct Entries<'a> {
     pub(crate) section: &'a [u8],

@@ -16,6 +16,8 @@ use format::Question;
 
 // The addend of the first relocation at a place, which none in front of the i-th has; a relocation is five numbers, the place first and the
 // addend last.
+// Kept: that none in front has it is a clause (`Searching`) here and of reads' `header_place` and `header_start`, which have another place in each
+// call: a struct of list, place and index would be made for one call.
 pub fn addend_from(relocs: &[u64], place: u64, from: usize) -> Option<usize>
     requires { Searching relocs.now place from }
     ensures { result ≡ option_of (first_addend place (relocations_of relocs.now)) }
