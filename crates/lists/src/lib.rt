@@ -307,17 +307,16 @@ pub fn extent_at(fs: &[u64], k: usize) -> Extent
     requires { function_stride * k + function_stride ≤ length fs.now }
     ensures { result ≡ extent_at fs.now k }
 {
-    let b = FUNCTION_STRIDE * k;
     let f = Record::<FUNCTION_STRIDE> { list: fs, k };
     Extent {
-        symbol: fs[b],
-        length: fs[b + function::LENGTH],
-        rows_at: fs[b + function::ROWS_AT] as usize,
-        rows: fs[b + function::ROWS] as usize,
-        landings_at: fs[b + function::LANDINGS_AT] as usize,
-        landings: fs[b + function::LANDINGS] as usize,
-        simple: fs[b + function::SIMPLE] != 0,
-        signal: fs[b + function::SIGNAL] != 0,
+        symbol: f.number(0),
+        length: f.number(function::LENGTH),
+        rows_at: f.number(function::ROWS_AT) as usize,
+        rows: f.number(function::ROWS) as usize,
+        landings_at: f.number(function::LANDINGS_AT) as usize,
+        landings: f.number(function::LANDINGS) as usize,
+        simple: f.number(function::SIMPLE) != 0,
+        signal: f.number(function::SIGNAL) != 0,
         personality: f.personality(),
         relaxed: f.labels(),
     }
@@ -408,16 +407,12 @@ pub fn code_at(cs: &[u64], i: usize) -> Seh
     let kind = c.number(direct::CODE_KIND);
     let reg = c.number(direct::CODE_REGISTER);
     let value = c.number(direct::CODE_VALUE).cast_signed();
-    if kind == codes::PUSH {
-        return Seh::Push(reg);
+    match kind {
+        codes::PUSH => Seh::Push(reg),
+        codes::ALLOC => Seh::Alloc(value),
+        codes::FRAME => Seh::Frame(reg, value),
+        _ => Seh::Save(reg, c.number(direct::CODE_VECTOR) != 0, value),
     }
-    if kind == codes::ALLOC {
-        return Seh::Alloc(value);
-    }
-    if kind == codes::FRAME {
-        return Seh::Frame(reg, value);
-    }
-    Seh::Save(reg, c.number(direct::CODE_VECTOR) != 0, value)
 }
 
 // ---- question 13 of one record
