@@ -282,19 +282,17 @@ impl Record<'_, FUNCTION_STRIDE> {
     }
 
     // Question 13 of the relaxing labels, where there are some, and of the pairs that they reach.
-    // Kept: indexed, as `prologue_ok` is, and not by `number`: then the tests speak of what the calls gave and the definition of the list's fields,
-    // and the answers of `prologue_ok` did not close (tried there).
     fn relaxed_ok(&self, pairs: &[u64]) -> bool
         ensures { result ≡ relaxed_ok_at self.now.list.now pairs.now self.now.k }
     {
-        if self.list[FUNCTION_STRIDE * self.k + function::RELAXED] == 0 {
+        if self.number(function::RELAXED) == 0 {
             return true;
         }
-        if !symbol_ok(self.list[FUNCTION_STRIDE * self.k + function::END]) {
+        if !symbol_ok(self.number(function::END)) {
             return false;
         }
-        let at = self.list[FUNCTION_STRIDE * self.k + function::PAIRS_AT];
-        let n = self.list[FUNCTION_STRIDE * self.k + function::PAIRS];
+        let at = self.number(function::PAIRS_AT);
+        let n = self.number(function::PAIRS);
         if !inside(at, n, (pairs.len() / PAIR_STRIDE) as u64) {
             return false;
         }
@@ -467,23 +465,14 @@ fn code_ok(cs: &[u64], i: usize) -> bool
     ensures { result ≡ code_ok_at cs.now i }
 {
     let c = Record::<CODE_STRIDE> { list: cs, k: i };
-    let kind = c.number(direct::CODE_KIND);
-    if codes::SAVE < kind {
-        return false;
+    let vector = c.number(direct::CODE_VECTOR);
+    match c.number(direct::CODE_KIND) {
+        codes::PUSH => vector == 0 && c.number(direct::CODE_VALUE) == 0,
+        codes::ALLOC => vector == 0 && c.number(direct::CODE_REGISTER) == 0,
+        codes::FRAME => vector == 0,
+        codes::SAVE => vector <= 1,
+        _ => false,
     }
-    if kind == codes::SAVE {
-        return c.number(direct::CODE_VECTOR) <= 1;
-    }
-    if c.number(direct::CODE_VECTOR) != 0 {
-        return false;
-    }
-    if kind == codes::FRAME {
-        return true;
-    }
-    if kind == codes::ALLOC {
-        return c.number(direct::CODE_REGISTER) == 0;
-    }
-    c.number(direct::CODE_VALUE) == 0
 }
 
 // ---- question 13 of the records that a function reaches
@@ -501,11 +490,12 @@ fn prologue_ok(fs: &[u64], codes: &[u64], k: usize) -> bool
     requires { prologue_stride * k + prologue_stride ≤ length fs.now }
     ensures { result ≡ prologue_ok_at fs.now codes.now k }
 {
-    if !symbol_ok(fs[PROLOGUE_STRIDE * k]) {
+    let f = Record::<PROLOGUE_STRIDE> { list: fs, k };
+    if !symbol_ok(f.number(0)) {
         return false;
     }
-    let at = fs[PROLOGUE_STRIDE * k + direct::CODES_AT];
-    let n = fs[PROLOGUE_STRIDE * k + direct::CODES];
+    let at = f.number(direct::CODES_AT);
+    let n = f.number(direct::CODES);
     if !inside(at, n, (codes.len() / CODE_STRIDE) as u64) {
         return false;
     }
@@ -620,10 +610,14 @@ impl Lists<'_> {
         if !self.outline_ok(k) {
             return false;
         }
+        let f = Record::<FUNCTION_STRIDE> {
+            list: self.functions,
+            k,
+        };
         rows_ok(
             self.rows,
-            self.functions[FUNCTION_STRIDE * k + function::ROWS_AT] as usize,
-            self.functions[FUNCTION_STRIDE * k + function::ROWS] as usize,
+            f.number(function::ROWS_AT) as usize,
+            f.number(function::ROWS) as usize,
         )
     }
 
