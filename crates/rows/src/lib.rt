@@ -146,7 +146,7 @@ fn multiple(word: u64, z: i64) -> bool
     requires { 0 < word }
     ensures { result ≡ whole word z }
 {
-    size(z) % word == 0
+    z.unsigned_abs() % word == 0
 }
 
 // The same; by 8 without a division.
@@ -261,7 +261,7 @@ pub fn offset(r: Row) -> i64
         Row::RestoreState => 0,
         Row::NegateRaState => 0,
         Row::SameValue(_) => 0,
-        Row::InRegister(_, other) => other as i64,
+        Row::InRegister(_, other) => i64::from(other),
     }
 }
 
@@ -324,7 +324,7 @@ fn def_cfa(out: &mut [u8], at: usize, word: Word, reg: u16, z: i64) -> usize
         at,
         by_sign(opcodes::DW_CFA_DEF_CFA, opcodes::DW_CFA_DEF_CFA_SF, z),
     );
-    let b = leb::uleb(out, a, reg as u64);
+    let b = leb::uleb(out, a, u64::from(reg));
     frame_offset(out, b, word, z)
 }
 
@@ -353,14 +353,14 @@ fn opcode(out: &mut [u8], at: usize, short: u8, long: u8, reg: u16) -> usize
         return leb::byte(out, at, short + reg as u8);
     }
     let a = leb::byte(out, at, long);
-    leb::uleb(out, a, reg as u64)
+    leb::uleb(out, a, u64::from(reg))
 }
 
 fn opcode_size(reg: u16) -> usize
     ensures { result ≡ length (with_register 0 0 reg []) }
 {
     if MOST_REGISTER_IN_OPCODE < reg {
-        return 1 + leb::uleb_size(reg as u64);
+        return 1 + leb::uleb_size(u64::from(reg));
     }
     1
 }
@@ -371,7 +371,7 @@ fn named(out: &mut [u8], at: usize, code: u8, reg: u16) -> usize
     ensures { Wrote out.old out.new at result (code ∷ uleb reg) }
 {
     let a = leb::byte(out, at, code);
-    leb::uleb(out, a, reg as u64)
+    leb::uleb(out, a, u64::from(reg))
 }
 
 // A register whose value is in another one.
@@ -380,7 +380,7 @@ fn in_register(out: &mut [u8], at: usize, reg: u16, other: u16) -> usize
     ensures { Wrote out.old out.new at result (0x09 ∷ (uleb reg ++ uleb other)) }
 {
     let a = named(out, at, opcodes::DW_CFA_REGISTER, reg);
-    leb::uleb(out, a, other as u64)
+    leb::uleb(out, a, u64::from(other))
 }
 
 // A register saved at an offset that is factored already.
@@ -406,7 +406,7 @@ pub fn saved_size(reg: u16, z: i64) -> usize
     ensures { result ≡ length (saved_bytes reg z) }
 {
     if z < 0 {
-        return 1 + leb::uleb_size(reg as u64) + leb::sleb_size(z);
+        return 1 + leb::uleb_size(u64::from(reg)) + leb::sleb_size(z);
     }
     opcode_size(reg) + leb::uleb_size(z as u64)
 }
@@ -441,19 +441,19 @@ pub fn row_size(word: Word, r: Row) -> usize
     ensures { result ≡ length (row_bytes word.bytes r) }
 {
     match r {
-        Row::DefCfa(reg, z) => 1 + leb::uleb_size(reg as u64) + frame_offset_size(word, z),
+        Row::DefCfa(reg, z) => 1 + leb::uleb_size(u64::from(reg)) + frame_offset_size(word, z),
         Row::DefCfaOffset(z) => 1 + frame_offset_size(word, z),
-        Row::DefCfaRegister(reg) => 1 + leb::uleb_size(reg as u64),
+        Row::DefCfaRegister(reg) => 1 + leb::uleb_size(u64::from(reg)),
         Row::Offset(reg, z) => saved_size(reg, factored(word, z)),
         Row::Restore(reg) => opcode_size(reg),
-        Row::Undefined(reg) => 1 + leb::uleb_size(reg as u64),
+        Row::Undefined(reg) => 1 + leb::uleb_size(u64::from(reg)),
         Row::RememberState => 1,
         Row::RestoreState => 1,
         Row::NegateRaState => 1,
-        Row::SameValue(reg) => 1 + leb::uleb_size(reg as u64),
+        Row::SameValue(reg) => 1 + leb::uleb_size(u64::from(reg)),
         Row::InRegister(reg, other) => 1
-            + leb::uleb_size(reg as u64)
-            + leb::uleb_size(other as u64),
+            + leb::uleb_size(u64::from(reg))
+            + leb::uleb_size(u64::from(other)),
     }
 }
 
