@@ -11,6 +11,7 @@ pub mod question;
 
 // A machine as the tables see it: the pointer width in bytes, the bytes that a call pushes, DWARF's numbers of the stack
 // pointer, the return address and the frame pointer (65,536: none), and what register of the machine a DWARF number is.
+// Kept: 65,536 and 255 for none, as document 01 and the list of a machine have them; prologue compares a register of a row with `frame` without a case.
 #[derive(Clone, Copy)]
 pub struct Machine {
     pub word: u64,
@@ -91,7 +92,7 @@ pub enum Seh {
 
 // The rule of the canonical frame address (CFA): none, or a register plus an offset.
 // Kept: an enum, and no Option of a pair: that makes one of the three functions which take it apart shorter (reader's `register_rule`, an `ok_or`),
-// leaves those of unwind and walk as they are, and puts a None for `Unset` in 14 lines of the definitions.
+// leaves those of unwind and walk as they are, and writes None for `Unset` and a Some of a pair for `Register` in ten lines of the definitions.
 #[derive(Clone, Copy, Default)]
 pub enum CfaRule {
     #[default]

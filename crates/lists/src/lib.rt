@@ -167,6 +167,8 @@ pub struct Labels {
 }
 
 // Function k of the list: its numbers, with the marks as answers. What they say is function_at of the definitions.
+// Kept: place and count, and no range, here, in Labels and in Prologue: nothing is asked of what the list says, so the sum may pass what a number
+// holds.
 #[derive(Clone, Copy)]
 pub struct Extent {
     pub symbol: u64,

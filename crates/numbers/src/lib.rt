@@ -89,8 +89,7 @@ pub fn pointer_size(indirect: bool, word: u64, e: u64) -> Option<u64>
 
 // ---- signed numbers
 
-// The 64 bits of a number, in two's complement.
-// Kept: `z.cast_unsigned()` at its callers is as long, and does not say that it is for C.
+// The 64 bits of a number, in two's complement: `cast_unsigned`, for callers in other crates.
 pub fn bits(z: i64) -> u64
     ensures { result ≡ of_z w64 z }
 {

@@ -18,6 +18,8 @@ pub const RELOCATION_BYTES: usize = 3;
 pub const RELOCATION_ADDEND: usize = 4;
 
 // The kinds of relocation (document 01, "Record"). The kind of a Sub is one more than that of its Set.
+// Kept: kinds by number: `relocation` is public and stores any; of a pair of Set and Sub the second is the first's plus 1 (records). Only apply tells
+// them apart, by its Kind.
 pub const DATA: u64 = 0;
 
 pub const ADDRESS: u64 = 1;

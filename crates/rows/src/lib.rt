@@ -52,6 +52,9 @@ const TWO_BYTES: u64 = 16384;
 
 // ---- a row out of the lists
 
+// Kept: each public function here takes a list and a row's place and says itself that the row lies in the list: a struct of both would ask more of
+// its callers by type.
+
 // The offset of row i.
 pub fn offset_at(rows: &[u64], i: usize) -> u64
     requires { row_stride * i + row_stride ≤ length rows.now }
@@ -77,6 +80,8 @@ pub fn row_at(rows: &[u64], i: usize) -> Row
 }
 
 // How many registers and how many second operands a kind may name.
+// Kept: kinds by number, here and in `short_size` and `RowNumbers`. One test against the last kind bounds it; an enum would be made by a match of
+// eleven arms for each row that is asked, and matched again where it is used.
 #[tactic(auto, unfolding(format::specs::Lists::has_register, format::specs::Prelude::pick))]
 fn registers(kind: u64) -> u64
     ensures { result ≡ pick (has_register kind) 65536 1 }
@@ -134,6 +139,7 @@ pub fn row_ok(rows: &[u64], i: usize) -> bool
 // ---- questions of one row
 
 // z without its sign.
+// Kept: `unsigned_abs` by a name of this crate, since the function is public (operations and owners call it); the rows' own question calls the method.
 pub fn size(z: i64) -> u64
     ensures { (result ≡ nat_abs z) × (result ≤ 2 ^ 63) }
 {
@@ -141,6 +147,7 @@ pub fn size(z: i64) -> u64
 }
 
 // A multiple of the word.
+// Kept: a number, and no Word, in the four functions up to `row_whole`: that is public and takes any word but 0, where a Word has 2 to 8 bytes (D124).
 #[tactic(auto, unfolding(format::specs::Rows::whole))]
 fn multiple(word: u64, z: i64) -> bool
     requires { 0 < word }
