@@ -306,12 +306,10 @@ impl<'a> Epilogue<'a> {
         ensures { NearestOf self.now.function self.now.i (unwrap_or result self.now.i) × IfSome result (λ j. j < self.now.i) }
     {
         let run = self.run();
-        for j in (self.function.parts.first..self.i).rev() {
-            if arm64_sharing::same_run(&run, &self.function.epilogue(j).run()) {
-                return Some(j);
-            }
-        }
-        None
+        (self.function.parts.first..self.i).rev().find(|j| arm64_sharing::same_run(
+            &run,
+            &self.function.epilogue(*j).run(),
+        ))
     }
 
     // How many bytes its run adds to the codes: none where it is not its own.

@@ -1,19 +1,21 @@
 -- `Epilogue::nearest` meets its contract.
+use mathlib.Core.Path.{refl, ap, ◌∙◌}
+use Prim.Native.Nat.{◌-◌}
 use native.Mathlib.Omega.{arith}
-use Rattle.arm64_function.proofs.Own.{searching_start, searching_turn, searching_found, searching_ended}
+use Rattle.std.proofs.Common.{rules}
+use borrow.Author.Tests.{tests}
+use Rattle.arm64_function.specs.Own.{run_at}
+use Rattle.std.proofs.lemmas.Iterator.Search.{find_from_yields_List}
+use Rattle.arm64_function.proofs.Backwards.{range_back}
+use Rattle.arm64_function.proofs.Own.{same_at, near_found}
 use Rattle.arm64_function.proofs.Epilogue.nearest.Goals as goal
 
-pub loop-j-init : goal.loop-j-init
-loop-j-init c = (c.run-run.ensures.0, searching_start c.args.self.now.among.0)
-
-pub epilogue-requires : goal.epilogue-requires
-epilogue-requires c = (omega (arith, c.loop-j-test.true), omega (arith, c.loop-j-test.true, c.loop-j.invariant.1.high, c.args.self.now.among.1))
-
-pub returns-then-same_run : goal.returns-then-same_run
-returns-then-same_run c = (searching_found c.loop-j.invariant.1 c.loop-j-test.true c.loop-j.invariant.0 (rw (c.epilogue.ensures.0, c.epilogue.ensures.1) at c.run.ensures.0) c.same_run.ensures c.if-same_run.true, omega (arith, c.loop-j-test.true, c.loop-j.invariant.1.high))
-
-pub loop-j-preserved : goal.loop-j-preserved
-loop-j-preserved c = (c.loop-j.invariant.0, searching_turn c.loop-j.invariant.1 c.loop-j-test.true c.loop-j.invariant.0 (rw (c.epilogue.ensures.0, c.epilogue.ensures.1) at c.run.ensures.0) c.same_run.ensures c.if-same_run.false)
-
 pub returns : goal.returns
-returns c = (searching_ended c.loop-j.invariant.1 (omega (arith, c.loop-j-test.false)), tt)
+unfolding run_at
+returns c =
+    let p = c.args.self.now.function.parts in
+    let i = c.args.self.now.i in
+    near_found c.args.self.now.function.epilogues.now c.args.self.now.function.codes.now p i c.args.self.now.among.0 c.find.result
+    (find_from_yields_List (same_at c.args.self.now.function.epilogues.now c.args.self.now.function.codes.now p i) _ _ _ c.find.ensures.ran
+    (range_back (λ a b. refl) (λ a b h. h) p.first (i - p.first) (ap (λ r. r.start) c.rev.ensures.source) (ap (λ r. r.end) c.rev.ensures.source ∙ omega (arith, c.args.self.now.among.0)))
+    (λ x b q k. let e = c.run-run.ensures.0 in search (rules, tests, e)))
