@@ -238,8 +238,8 @@ pub fn find_owner(x: &Input, k: usize, chains: &mut Chains)
     requires { ListedTo (inputs_of x.now) (k + 1) × LongFor (k + 1) chains.old × FoundIn (inputs_of x.now) (length chains.old.heads.now) k chains.old }
     ensures { FoundIn (inputs_of x.now) (length chains.old.heads.now) (k + 1) chains.new × SameChains chains.old chains.new }
 {
-    if let Some(o) = inherited(x, k, chains) {
-        chains.owners[k] = o as u16;
+    if let Some(owner) = inherited(x, k, chains) {
+        chains.owners[k] = owner as u16;
         return;
     }
     seek(x, k, chains);
