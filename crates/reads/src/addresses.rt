@@ -11,6 +11,8 @@ use reader::entries::{self, Entries};
 use reader::section::{Body, Layout, Section, Span};
 
 // 2^31, and what a signed number of 4 bytes from there on lacks to 2^64.
+// Kept: a sum. The library's casts would be `u32::try_from(field)`, `cast_signed`, `i64::from` and `cast_unsigned`, with a case for a field of more
+// bytes, which eh_frame does not have.
 const NEGATIVE: u64 = 0x80000000;
 
 const EXTENSION: u64 = 0xffffffff00000000;
@@ -55,12 +57,12 @@ fn start_of(l: Layout, address: u64, at: usize, field: u64) -> u64
     if l.debug {
         return field;
     }
-    let here = std::num::wrapping_add_u64(address, (at + 8) as u64);
-    let sum = std::num::wrapping_add_u64(here, field);
+    let here = address.wrapping_add((at + 8) as u64);
+    let sum = here.wrapping_add(field);
     if field < NEGATIVE {
         return address_of(l, sum);
     }
-    address_of(l, std::num::wrapping_add_u64(sum, EXTENSION))
+    address_of(l, sum.wrapping_add(EXTENSION))
 }
 
 impl<'a> Loaded<'a> {
@@ -109,6 +111,8 @@ impl<'a> Loaded<'a> {
         if !entries::tiles(s) {
             return Err(Question::Tiling);
         }
+        // Kept: a count beside the entries. Tried with `enumerate` over the reader's records: what the loop then knows did not close at the two ends,
+        // a record that holds the address and none that does.
         let mut k: u64 = 0;
         'entries: for entry in Entries::new(s) {
             if entry.is_header(s, self.section.layout.debug) {
