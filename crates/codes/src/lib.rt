@@ -1,7 +1,7 @@
 // One x64 unwind code: its questions and its bytes. Ported from rucc-asm/src/unwind.rs (nodes, large, slot) of tamnd/rucc, changed: see NOTICE.
 #![tactic(auto)]
 
-ghost use Rattle.std.specs.Prelude.{◌≡◌, [], ◌∷◌, ◌++◌, ◌+◌, ◌*◌, ◌≤◌, ◌<◌, length, take};
+ghost use Rattle.std.specs.Prelude.{◌≡◌, [], ◌∷◌, ◌++◌, ◌+◌, ◌*◌, ◌/◌, ◌^◌, ◌≤◌, ◌<◌, Some, None, leb, length, take};
 ghost use Rattle.std.proofs.Math.Option.{none, some};
 ghost use Rattle.format.specs.Prelude.{pick};
 ghost use Rattle.format.specs.Lists.{count};
@@ -23,14 +23,15 @@ fn size(z: i64) -> u64
     u64::try_from(z).unwrap_or(0)
 }
 
-fn register_in(code: Seh) -> u64
-    ensures { result ≡ register_in code }
+// The register that it names, if any, is below 16.
+fn register_ok(code: Seh) -> bool
+    ensures { result ≡ leb (register_in code) 15 }
 {
     match code {
-        Seh::Push(reg) => reg,
-        Seh::Alloc(_) => 0,
-        Seh::Frame(reg, _) => reg,
-        Seh::Save(reg, _, _) => reg,
+        Seh::Push(reg) => reg <= 15,
+        Seh::Alloc(_) => true,
+        Seh::Frame(reg, _) => reg <= 15,
+        Seh::Save(reg, _, _) => reg <= 15,
     }
 }
 
@@ -39,10 +40,7 @@ fn alloc_no(z: i64) -> Result<(), Question>
     ensures { numbered result ≡ yes_or_no (alloc_no z) }
 {
     let n = size(z);
-    if n == 0 {
-        return Err(Question::Allocation);
-    }
-    if n % 8 != 0 {
+    if n == 0 || n % 8 != 0 {
         return Err(Question::Allocation);
     }
     if n < 4294967296 {
@@ -79,7 +77,7 @@ fn operand_no(code: Seh) -> Result<(), Question>
 pub fn code_no(at: u64, code: Seh) -> Result<(), Question>
     ensures { numbered result ≡ yes_or_no (code_no (at, code)) }
 {
-    if 15 < register_in(code) {
+    if !register_ok(code) {
         return Err(Question::Registers);
     }
     if 255 < at {
@@ -96,10 +94,7 @@ fn frame_offset_no(z: i64) -> Result<(), Question>
         return Err(Question::FrameOffset);
     }
     let n = size(z);
-    if 240 < n {
-        return Err(Question::FrameOffset);
-    }
-    if n % 16 != 0 {
+    if 240 < n || n % 16 != 0 {
         return Err(Question::FrameOffset);
     }
     Ok(())
@@ -141,39 +136,43 @@ pub struct Code {
 }
 
 // An operation with its info, and v behind it as a field of n bytes.
-fn form(at: u8, op: u64, info: u8, n: usize, v: u64) -> Code
+// Kept: the operation is its number, and no enum: nothing here asks which one it is, each is named where it is written, and the number is what is
+// written. An enum would come to this by a function of eight arms, and `slot_in` would take the far form beside the near one.
+fn form(at: u8, op: u64, info: u8, n: usize, v: u32) -> Code
     requires { (op < 16) × (info < 16) × (n ≤ 4) }
     ensures { Holds result (node at op info ++ little n v) }
 {
-    let b = v / 256;
-    let c = b / 256;
-    let d = c / 256;
+    let b = v.to_le_bytes();
     Code {
-        bytes: [
-            at,
-            op as u8 + 16 * info,
-            (v % 256) as u8,
-            (b % 256) as u8,
-            (c % 256) as u8,
-            (d % 256) as u8,
-        ],
+        bytes: [at, op as u8 + 16 * info, b[0], b[1], b[2], b[3]],
         count: 2 + n,
     }
 }
 
+// A distance or a size in units, where 16 bits hold it.
+fn units(unit: u64, size: u64) -> Option<u16>
+    requires { 0 < unit }
+    ensures { result ≡ pick (is_near unit size) (Some (size / unit)) None }
+{
+    if size % unit != 0 {
+        return None;
+    }
+    u16::try_from(size / unit).ok()
+}
+
 // An allocation above 128 bytes.
 fn large(at: u8, size: u64) -> Code
-    requires { 128 < size }
+    requires { (128 < size) × (size < 2 ^ 32) }
     ensures { Holds result (alloc_bytes at size) }
 {
-    if size / 8 < 65536 {
-        return form(at, uwop::UWOP_ALLOC_LARGE, 0, 2, size / 8);
+    if let Ok(eights) = u16::try_from(size / 8) {
+        return form(at, uwop::UWOP_ALLOC_LARGE, 0, 2, u32::from(eights));
     }
-    form(at, uwop::UWOP_ALLOC_LARGE, 1, 4, size)
+    form(at, uwop::UWOP_ALLOC_LARGE, 1, 4, size as u32)
 }
 
 fn alloc(at: u8, size: u64) -> Code
-    requires { 8 ≤ size }
+    requires { (8 ≤ size) × (size < 2 ^ 32) }
     ensures { Holds result (alloc_bytes at size) }
 {
     if size <= 128 {
@@ -182,30 +181,19 @@ fn alloc(at: u8, size: u64) -> Code
     large(at, size)
 }
 
-// A distance that the near form of a save counts, in units.
-fn is_near(unit: u64, above: u64) -> bool
-    requires { 0 < unit }
-    ensures { result ≡ is_near unit above }
-{
-    if above % unit != 0 {
-        return false;
-    }
-    above / unit < 65536
-}
-
 // A save by its near operation, or by the far one, which is the next.
 fn slot_in(near: u64, unit: u64, at: u8, reg: u8, above: u64) -> Code
-    requires { (near < 15) × (0 < unit) × (reg < 16) }
+    requires { (near < 15) × (0 < unit) × (reg < 16) × (above < 2 ^ 32) }
     ensures { Holds result (slot_bytes near unit at reg above) }
 {
-    if is_near(unit, above) {
-        return form(at, near, reg, 2, above / unit);
+    if let Some(n) = units(unit, above) {
+        return form(at, near, reg, 2, u32::from(n));
     }
-    form(at, near + 1, reg, 4, above)
+    form(at, near + 1, reg, 4, above as u32)
 }
 
 fn slot(at: u8, reg: u8, vector: bool, above: u64) -> Code
-    requires { reg < 16 }
+    requires { (reg < 16) × (above < 2 ^ 32) }
     ensures { Holds result (save_bytes vector at reg above) }
 {
     if vector {
@@ -245,7 +233,7 @@ fn slot_size(unit: u64, above: u64) -> usize
     requires { 0 < unit }
     ensures { result ≡ pick (is_near unit above) 4 6 }
 {
-    if is_near(unit, above) {
+    if units(unit, above).is_some() {
         return 4;
     }
     6
@@ -288,8 +276,6 @@ pub fn head(out: &mut [u8], at: usize, end: u8, held: u8, frame: u8) -> usize
     requires { at + 4 ≤ length out.old }
     ensures { Wrote out.old out.new at result (1 ∷ end ∷ held ∷ frame ∷ []) }
 {
-    let a = leb::byte(out, at, 1);
-    let b = leb::byte(out, a, end);
-    let c = leb::byte(out, b, held);
-    leb::byte(out, c, frame)
+    out[at..at + 4].copy_from_slice(&[1, end, held, frame]);
+    at + 4
 }

@@ -15,7 +15,7 @@ returns-in-Alloc c = rw c.in-Alloc.is
 
 pub returns-in-Frame : goal.returns-in-Frame
 unfolding frame_no
-returns-in-Frame c = rw c.in-Frame.is (rw (passed c.in-Frame.z (omega (arith, c.in-Frame.known_told-1-own.given))) at c.frame_offset_no.ensures)
+returns-in-Frame c = rw c.in-Frame.is (rw (passed c.in-Frame.z (omega arith)) at c.frame_offset_no.ensures)
 
 pub returns-in-Save : goal.returns-in-Save
 unfolding yes_or_no frame_no

@@ -10,7 +10,7 @@ use Rattle.codes.proofs.frame_or.Goals.{After-size}
 
 -- the size of a frame code's offset, and the bounds of its numbers
 sized : (c : After-size) → c.size.result ≡ size64 c.in-Frame.z
-sized c = c.size.ensures ∙ ap size64 (passed c.in-Frame.z (omega (arith, c.in-Frame.known_told-1-own.given)))
+sized c = c.size.ensures ∙ ap size64 (passed c.in-Frame.z (omega arith))
 
 held : (c : After-size) → (c.in-Frame.reg ≤ 15) × (c.size.result ≤ 240)
 held c = rw (sized c) (frame_said c.in-Frame.is c.requires)

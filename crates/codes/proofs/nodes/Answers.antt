@@ -4,7 +4,7 @@ use native.Mathlib.Omega.{arith}
 use Rattle.format.specs.Leb.{little}
 use Rattle.format.specs.X64.{node, code_bytes, register_in, operand_no, size64}
 use Rattle.rows.proofs.Signs.{passed}
-use Rattle.codes.proofs.Questions.{Said, said, alloc_said}
+use Rattle.codes.proofs.Questions.{Said, said, alloc_said, save_said}
 use Rattle.codes.proofs.nodes.Goals as goal
 use Rattle.codes.proofs.nodes.Goals.{Start}
 
@@ -26,17 +26,22 @@ form-requires c = let h = rw c.in-Push.is at (agreed (goal.at.form-requires c).S
 pub alloc-requires : goal.alloc-requires
 unfolding operand_no
 alloc-requires c =
-    let e = c.size.ensures ∙ ap size64 (passed c.in-Alloc.z (omega (arith, c.in-Alloc.known_told-in-Alloc-1-own.given))) in
+    let e = c.size.ensures ∙ ap size64 (passed c.in-Alloc.z (omega arith)) in
     let h = alloc_said c.in-Alloc.z (rw c.in-Alloc.is at (agreed (goal.at.alloc-requires c).Start).operand) in
-    omega (arith, e, h)
+    (omega (arith, e, h.0), omega (arith, e, h.1))
 
 pub overflow_cast-reg-in-Save : goal.overflow_cast-reg-in-Save
 unfolding register_in
 overflow_cast-reg-in-Save c = let h = rw c.in-Save.is at (agreed (goal.at.overflow_cast-reg-in-Save c).Start).register in omega (arith, h)
 
 pub slot-requires : goal.slot-requires
-unfolding register_in
-slot-requires c = let h = rw c.in-Save.is at (agreed (goal.at.slot-requires c).Start).register in omega (arith, h)
+unfolding register_in operand_no
+slot-requires c =
+    let a = agreed (goal.at.slot-requires c).Start in
+    let e = c.size-in-Save.ensures ∙ ap size64 (passed c.in-Save.z (omega arith)) in
+    let r = rw c.in-Save.is at a.register in
+    let h = save_said c.in-Save.z (rw c.in-Save.is at a.operand) in
+    (omega (arith, r), omega (arith, e, h))
 
 pub returns-in-Push : goal.returns-in-Push
 unfolding code_bytes node little
@@ -44,7 +49,7 @@ returns-in-Push c = rw c.in-Push.is c.form.ensures
 
 pub returns-in-Alloc : goal.returns-in-Alloc
 unfolding code_bytes
-returns-in-Alloc c = rw c.in-Alloc.is (rw (c.size.ensures ∙ ap size64 (passed c.in-Alloc.z (omega (arith, c.in-Alloc.known_told-in-Alloc-1-own.given)))) at c.alloc.ensures)
+returns-in-Alloc c = rw c.in-Alloc.is (rw (c.size.ensures ∙ ap size64 (passed c.in-Alloc.z (omega arith))) at c.alloc.ensures)
 
 pub returns-in-Frame : goal.returns-in-Frame
 unfolding code_bytes node little
@@ -52,4 +57,4 @@ returns-in-Frame c = rw c.in-Frame.is c.form-in-Frame.ensures
 
 pub returns-in-Save : goal.returns-in-Save
 unfolding code_bytes
-returns-in-Save c = rw c.in-Save.is (rw (c.size-in-Save.ensures ∙ ap size64 (passed c.in-Save.z (omega (arith, c.in-Save.known_told-in-Save-1-own.given)))) at c.slot.ensures)
+returns-in-Save c = rw c.in-Save.is (rw (c.size-in-Save.ensures ∙ ap size64 (passed c.in-Save.z (omega arith))) at c.slot.ensures)

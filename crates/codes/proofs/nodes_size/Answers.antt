@@ -14,7 +14,7 @@ returns-in-Push c = rw c.in-Push.is
 pub returns-in-Alloc : goal.returns-in-Alloc
 unfolding code_bytes
 returns-in-Alloc c =
-    let e = c.size.ensures ∙ ap size64 (passed c.in-Alloc.z (omega (arith, c.in-Alloc.known_told-1-own.given))) in
+    let e = c.size.ensures ∙ ap size64 (passed c.in-Alloc.z (omega arith)) in
     rw c.in-Alloc.is (c.alloc_size.ensures ∙ ap alloc_size e ∙ sym (alloc_length c.args.at (size64 c.in-Alloc.z)))
 
 pub returns-in-Frame : goal.returns-in-Frame
@@ -24,5 +24,5 @@ returns-in-Frame c = rw c.in-Frame.is
 pub returns-in-Save : goal.returns-in-Save
 unfolding code_bytes
 returns-in-Save c =
-    let e = c.size-in-Save.ensures ∙ ap size64 (passed c.in-Save.z (omega (arith, c.in-Save.known_told-in-Save-1-own.given))) in
+    let e = c.size-in-Save.ensures ∙ ap size64 (passed c.in-Save.z (omega arith)) in
     rw c.in-Save.is (c.save_size.ensures ∙ ap (save_size c.in-Save.vector) e ∙ sym (save-length c.in-Save.vector c.args.at c.in-Save.field-0 (size64 c.in-Save.z)))

@@ -1,6 +1,6 @@
--- `codes::register_in` meets its contract.
+-- `codes::register_ok` meets its contract.
 use Rattle.format.specs.X64.{register_in}
-use Rattle.codes.proofs.register_in.Goals as goal
+use Rattle.codes.proofs.register_ok.Goals as goal
 
 pub returns-in-Push : goal.returns-in-Push
 unfolding register_in
