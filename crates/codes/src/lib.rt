@@ -24,6 +24,7 @@ fn size(z: i64) -> u64
 }
 
 // The register that it names, if any, is below 16.
+#[tactic(auto, unfolding(format::specs::X64::register_in))]
 fn register_ok(code: Seh) -> bool
     ensures { result ≡ leb (register_in code) 15 }
 {
@@ -192,6 +193,7 @@ fn slot_in(near: u64, unit: u64, at: u8, reg: u8, above: u64) -> Code
     form(at, near + 1, reg, 4, above as u32)
 }
 
+#[tactic(auto, unfolding(format::specs::X64::save_bytes))]
 fn slot(at: u8, reg: u8, vector: bool, above: u64) -> Code
     requires { (reg < 16) × (above < 2 ^ 32) }
     ensures { Holds result (save_bytes vector at reg above) }
