@@ -74,17 +74,26 @@ fn operand_no(code: Seh) -> Result<(), Question>
     }
 }
 
-// 34 to 39.
-pub fn code_no(at: u64, code: Seh) -> Result<(), Question>
-    ensures { numbered result ≡ yes_or_no (code_no (at, code)) }
-{
-    if !register_ok(code) {
-        return Err(Question::Registers);
+// A code, and its offset in the prologue: where its instruction ends.
+#[derive(Clone, Copy)]
+pub struct UnwindCode {
+    pub offset: u64,
+    pub code: Seh,
+}
+
+impl UnwindCode {
+    // 34 to 39.
+    pub fn code_no(self) -> Result<(), Question>
+        ensures { numbered result ≡ yes_or_no (code_no (self.offset, self.code)) }
+    {
+        if !register_ok(self.code) {
+            return Err(Question::Registers);
+        }
+        if 255 < self.offset {
+            return Err(Question::CodeOffset);
+        }
+        operand_no(self.code)
     }
-    if 255 < at {
-        return Err(Question::CodeOffset);
-    }
-    operand_no(code)
 }
 
 // 41 of a frame code's offset.
@@ -204,17 +213,19 @@ fn slot(at: u8, reg: u8, vector: bool, above: u64) -> Code
     slot_in(uwop::UWOP_SAVE_NONVOL, 8, at, reg, above)
 }
 
-// One code, as the nodes that say it.
-pub fn nodes(at: u64, code: Seh) -> Code
-    requires { code_no (at, code) ≡ none }
-    ensures { Holds result (code_bytes at code) }
-{
-    let a = at as u8;
-    match code {
-        Seh::Push(reg) => form(a, uwop::UWOP_PUSH_NONVOL, reg as u8, 0, 0),
-        Seh::Alloc(z) => alloc(a, size(z)),
-        Seh::Frame(_, _) => form(a, uwop::UWOP_SET_FPREG, 0, 0, 0),
-        Seh::Save(reg, vector, z) => slot(a, reg as u8, vector, size(z)),
+impl UnwindCode {
+    // The nodes that say it.
+    pub fn nodes(self) -> Code
+        requires { code_no (self.offset, self.code) ≡ none }
+        ensures { Holds result (code_bytes self.offset self.code) }
+    {
+        let at = self.offset as u8;
+        match self.code {
+            Seh::Push(reg) => form(at, uwop::UWOP_PUSH_NONVOL, reg as u8, 0, 0),
+            Seh::Alloc(z) => alloc(at, size(z)),
+            Seh::Frame(_, _) => form(at, uwop::UWOP_SET_FPREG, 0, 0, 0),
+            Seh::Save(reg, vector, z) => slot(at, reg as u8, vector, size(z)),
+        }
     }
 }
 
@@ -250,14 +261,16 @@ fn save_size(vector: bool, above: u64) -> usize
     slot_size(8, above)
 }
 
-pub fn nodes_size(at: u64, code: Seh) -> usize
-    ensures { result ≡ length (code_bytes at code) }
-{
-    match code {
-        Seh::Push(_) => 2,
-        Seh::Alloc(z) => alloc_size(size(z)),
-        Seh::Frame(_, _) => 2,
-        Seh::Save(_, vector, z) => save_size(vector, size(z)),
+impl UnwindCode {
+    pub fn nodes_size(self) -> usize
+        ensures { result ≡ length (code_bytes self.offset self.code) }
+    {
+        match self.code {
+            Seh::Push(_) => 2,
+            Seh::Alloc(z) => alloc_size(size(z)),
+            Seh::Frame(_, _) => 2,
+            Seh::Save(_, vector, z) => save_size(vector, size(z)),
+        }
     }
 }
 

@@ -1,19 +1,19 @@
--- `codes::nodes` meets its contract.
+-- `codes::UnwindCode::nodes` meets its contract.
 use mathlib.Core.Path.{ap, ◌∙◌}
 use native.Mathlib.Omega.{arith}
 use Rattle.format.specs.Leb.{little}
 use Rattle.format.specs.X64.{node, code_bytes, register_in, operand_no, size64}
 use Rattle.rows.proofs.Signs.{passed}
 use Rattle.codes.proofs.Questions.{Said, said, alloc_said, save_said}
-use Rattle.codes.proofs.nodes.Goals as goal
-use Rattle.codes.proofs.nodes.Goals.{Start}
+use Rattle.codes.proofs.UnwindCode.nodes.Goals as goal
+use Rattle.codes.proofs.UnwindCode.nodes.Goals.{Start}
 
 -- what the questions of the code say
-agreed : (c : Start) → Said c.args.at c.args.code
-agreed c = said c.args.at c.args.code c.requires
+agreed : (c : Start) → Said c.args.self.offset c.args.self.code
+agreed c = said c.args.self.offset c.args.self.code c.requires
 
-pub overflow_cast-a : goal.overflow_cast-a
-overflow_cast-a c = omega (arith, agreed c)
+pub overflow_cast-at : goal.overflow_cast-at
+overflow_cast-at c = omega (arith, agreed (goal.at.overflow_cast-at c).Start)
 
 pub overflow_cast-reg : goal.overflow_cast-reg
 unfolding register_in
