@@ -22,7 +22,8 @@ use Rattle.format.specs.X64.{Step, push, alloc, frame, save, Prefix, groups, rea
 use Rattle.format.proofs.Choice.{if-le, is_yes_lem}
 use Rattle.prologue.specs.declared.Walk.{Walk}
 use Rattle.prologue.specs.Groups.{is_good, knows, known, start, walk_from}
-use Rattle.prologue.specs.Pieces.{moved_in, step_in, code_in, codes_in, piece_in, pieces_from, pieces_of, end_in, Short, all_rows, Leads, Says, Shaped}
+use Rattle.prologue.specs.Pieces.{moved_in, step_in, code_in, codes_in, piece_in, pieces_from, pieces_of, end_in, all_rows, Leads, Says, Shaped}
+use Rattle.prologue.specs.Readable.{Short}
 use Rattle.prologue.proofs.Neighbours.{joined_first}
 use Rattle.prologue.proofs.Prefixes.{all_known, count_of, walk_of, last_of, Reads, reads, refuses, past}
 use Rattle.prologue.proofs.Walked.{past_row, past_rows, said}

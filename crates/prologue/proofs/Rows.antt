@@ -18,8 +18,8 @@ use Rattle.format.specs.Lists.{count, field, row_stride, row_of, row_ok, row_ok_
 use Rattle.format.proofs.Choice.{pick_yes, pick_no, tested}
 use Rattle.format.proofs.ListLaws.{in_range, row_numbers}
 use Rattle.header_keys.specs.Functions.{RowsReady}
-use Rattle.prologue.specs.Pieces.{Short, Leads, all_rows}
-use Rattle.prologue.specs.Readable.{AreRows}
+use Rattle.prologue.specs.Pieces.{Leads, all_rows}
+use Rattle.prologue.specs.Readable.{AreRows, Short}
 
 -- ---- a part of a list
 

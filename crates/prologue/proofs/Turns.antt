@@ -18,8 +18,7 @@ use Rattle.format.proofs.Choice.{either, tested, is_true, is_false}
 use Rattle.header_keys.proofs.Counting.{remembers}
 use Rattle.prologue.specs.declared.Walk.{Walk}
 use Rattle.prologue.specs.Groups.{joined, joins, third, stepped, added, lone_in, push_in, last_in, row_in, walk_from, start}
-use Rattle.prologue.specs.Pieces.{Short}
-use Rattle.prologue.specs.Readable.{Ready}
+use Rattle.prologue.specs.Readable.{Ready, Short}
 use Rattle.prologue.proofs.Neighbours.{joined_above}
 use Rattle.prologue.proofs.Rows.{picked, row_at_short}
 use Rattle.prologue.proofs.Walked.{at_push, at_lone, turned}

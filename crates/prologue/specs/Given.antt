@@ -8,6 +8,7 @@ use Rattle.prologue.specs.declared.Walk.{Walk}
 use Rattle.prologue.specs.declared.given.Registers.{Registers}
 use Rattle.prologue.specs.declared.given.X64Machine.{X64Machine}
 use Rattle.prologue.specs.declared.given.FunctionRows.{FunctionRows}
+use Rattle.prologue.specs.declared.given.Shape.{Shape}
 use Rattle.prologue.specs.Groups.{last_in, row_in, walk_from, start}
 use Rattle.prologue.specs.Pieces.{piece_in}
 
@@ -32,6 +33,6 @@ row_of m x i w = row_in m.machine.now x.rows.now 0 (rows_in x) i w
 abbrev pub walk_of : X64Machine → FunctionRows → Result Walk
 walk_of m x = walk_from m.machine.now x.rows.now 0 (rows_in x) 0 (rows_in x) (start m.machine.now)
 
--- the code of row i, or none
-abbrev pub piece_at : Registers → FunctionRows → (i : ℕ) → (below sofar : ℤ) → List (ℕ × Seh)
-piece_at m x i below sofar = piece_in m.machine.now below sofar x.rows.now 0 i (rows_in x)
+-- the code of row i of a prologue's, or none
+abbrev pub piece_at : Registers → Shape → (i : ℕ) → (sofar : ℤ) → List (ℕ × Seh)
+piece_at m x i sofar = piece_in m.machine.now x.below sofar x.rows.rows.now 0 i (rows_in x.rows)

@@ -1,7 +1,6 @@
 -- The codes of a prologue one by one: what a row that ends an instruction yields. Where a row is no prologue's, what it yields means nothing.
 use Rattle.std.specs.Prelude.{◌≡◌, ℕ, zero, suc, ◌+◌, ◌-◌, ◌*◌, ◌^◌, ◌≤◌, ◌<◌, Bool, List, [], ◌∷◌, ◌++◌, length, take, T, leb, eqb, Option, Some, None, Ok, Err, ℤ, pos, ◌-ℤ◌}
 use Rattle.std.specs.Prelude as code
-use Rattle.std.specs.Int.Signed.{mag}
 use Rattle.format.specs.Prelude.{pick, Result, good, bad, onward, each}
 use Rattle.format.specs.declared.Machine.{Machine}
 use Rattle.format.specs.Machine.{Register, register_of}
@@ -13,14 +12,11 @@ use Rattle.format.specs.Numbers.{number_of}
 use Rattle.format.specs.declared.question.Question.{Question}
 use Rattle.format.specs.X64.{Step, push, alloc, frame, save, low16, before_remember, code_for, codes_of, end_of}
 use Rattle.codes.specs.declared.UnwindCode.{UnwindCode}
-use Rattle.prologue.specs.declared.Shape.{Shape}
+use Rattle.prologue.specs.declared.given.Shape.{Shape}
+use Rattle.prologue.specs.Readable.{Short}
 use Rattle.prologue.specs.Groups.{joined, joins}
 
 -- ---- what the lists hold
-
--- an offset of a row
-abbrev pub Short : ℤ → Type 0
-Short z = mag z < 2 ^ 31
 
 -- the rows of a list, and those before the first RememberState, which lead it
 abbrev pub all_rows : List ℕ → List (ℕ × Row)

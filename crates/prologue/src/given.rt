@@ -1,6 +1,6 @@
 // What a prologue is read from: a machine, its registers, and rows of a list.
 ghost use Rattle.std.specs.Prelude.{◌≡◌, ◌^◌, ◌<◌, length};
-ghost use Rattle.prologue.specs.Readable.{AreRows};
+ghost use Rattle.prologue.specs.Readable.{Short, AreRows};
 
 use format::Machine;
 
@@ -25,4 +25,12 @@ pub struct X64Machine<'m> {
 pub struct FunctionRows<'r> {
     pub rows: &'r [u64],
     pub ghost ready: { AreRows rows.now },
+}
+
+// What the rows of a function say: the distance of the frame address above the stack pointer behind the prologue, and the prologue's rows.
+#[derive(Clone, Copy)]
+pub struct Shape<'r> {
+    pub below: i64,
+    pub rows: FunctionRows<'r>,
+    pub ghost short: { Short below },
 }

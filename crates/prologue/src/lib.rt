@@ -11,12 +11,13 @@ ghost use Rattle.format.specs.Coded.{result_of, numbered};
 ghost use Rattle.format.specs.declared.Row.TheVariants.{DefCfa, DefCfaOffset, DefCfaRegister, Offset};
 ghost use Rattle.format.specs.declared.Seh.TheVariants.{Push, Alloc, Frame, Save};
 ghost use Rattle.prologue.specs.Groups.{found_of, knows, joined, joins, third, counted, stepped, added, lone_in, push_in};
-ghost use Rattle.prologue.specs.Pieces.{Short, Leads, Shaped, piece_of, named_code, moved_in, end_in};
+ghost use Rattle.prologue.specs.Pieces.{Leads, Shaped, piece_of, named_code, moved_in, end_in};
+ghost use Rattle.prologue.specs.Readable.{Short};
 ghost use Rattle.prologue.specs.Given.{IsRow, rows_in, rows_of, last_of, row_of, walk_of, piece_at};
 
 use codes::UnwindCode;
 use format::{Question, Row, Seh};
-use given::{FunctionRows, Registers, X64Machine};
+use given::{FunctionRows, Registers, Shape, X64Machine};
 use leb::wide;
 use rows::{offset_at, row_at};
 
@@ -279,13 +280,6 @@ impl FunctionRows<'_> {
 
 // ---- the prologue
 
-// What the rows of a function say: the distance of the frame address above the stack pointer behind the prologue, and the prologue's rows.
-#[derive(Clone, Copy)]
-pub struct Shape<'r> {
-    pub below: i64,
-    pub rows: FunctionRows<'r>,
-}
-
 impl<'r> FunctionRows<'r> {
     // Row i keeps the rules for the epilogues.
     fn remembers(&self, i: usize) -> bool
@@ -396,20 +390,21 @@ impl FunctionRows<'_> {
         }
         m.save_code(off, reg, below + z)
     }
+}
 
-    // Row i of a prologue's rows, with the distance `sofar` in front of it and `below` behind all of them: the code of the
-    // instruction that it ends, or none.
-    pub fn piece_at(&self, m: &Registers, i: usize, below: i64, sofar: i64) -> Option<UnwindCode>
-        requires { IsRow self.now i × Short below × Short sofar }
-        ensures { piece_of result ≡ piece_at m.now self.now i below sofar }
+impl Shape<'_> {
+    // Row i of the prologue's rows, with the distance `sofar` in front of it: the code of the instruction that it ends, or none.
+    pub fn piece_at(&self, m: &Registers, i: usize, sofar: i64) -> Option<UnwindCode>
+        requires { IsRow self.now.rows i × Short sofar }
+        ensures { piece_of result ≡ piece_at m.now self.now i sofar }
     {
-        let off = offset_at(self.rows, i);
-        let r = row_at(self.rows, i);
-        match r {
+        let rows = self.rows;
+        let off = offset_at(rows.rows, i);
+        match row_at(rows.rows, i) {
             Row::DefCfa(_, _) => m.frame_code(off),
-            Row::DefCfaOffset(z) => self.alloc_code(i, off, sofar, z),
+            Row::DefCfaOffset(z) => rows.alloc_code(i, off, sofar, z),
             Row::DefCfaRegister(_) => m.frame_code(off),
-            Row::Offset(reg, z) => self.slot_code(m, i, off, reg as u64, below, z),
+            Row::Offset(reg, z) => rows.slot_code(m, i, off, reg as u64, self.below, z),
             _ => None,
         }
     }

@@ -16,6 +16,11 @@ pub returns-then-not-w : goal.returns-then-not-w
 returns-then-not-w c =
     unnamed c.args.m.now.machine.now _ _ c.leading-leading.ensures (ok_of _ c.in_ok-w.was c.read_rows.ensures.0) (not_true _ c.if-not-w.true)
 
+pub invariant_of-result : goal.invariant_of-result
+invariant_of-result c =
+    let h = rw c.in_ok-w.was at c.read_rows.ensures in
+    record { short = rw (passed c.in_ok-w.w.below (omega (arith, h.1))) h.1 }
+
 pub returns : goal.returns
 returns c =
     let h = rw c.in_ok-w.was at c.read_rows.ensures in
