@@ -3,7 +3,6 @@ use Rattle.format.specs.X64.{before_remember}
 use mathlib.Core.Path.{◌≡◌, refl, sym, subst, ap, ◌∙◌}
 use Prim.Native.Nat.{ℕ, zero, suc, ◌+◌, ◌-◌, ◌*◌, ◌≤◌, ◌<◌}
 use native.Mathlib.Omega.{arith}
-use mathlib.Core.Bool.{Bool, true, false}
 use mathlib.Core.List.{List}
 use lib.Dec.{T, eqb, eqb→eq}
 use lib.IntN.{pos}
@@ -12,10 +11,10 @@ use lib.Seq.{get_or-take, get_or-drop, length-take-le}
 use mir.Syntax.{w32}
 use mir.Val.{to_z}
 use mir.Facts.{sfits_to_z}
-use Rattle.format.specs.Prelude.{pick, each}
+use Rattle.format.specs.Prelude.{each}
 use Rattle.format.specs.Rows.{offset_of}
 use Rattle.format.specs.Lists.{count, field, row_stride, row_of, row_ok, row_ok_at, row_at}
-use Rattle.format.proofs.Choice.{pick_yes, pick_no, tested}
+use Rattle.format.proofs.Choice.{pick_yes, pick_no, tested, picked}
 use Rattle.format.proofs.ListLaws.{in_range, row_numbers}
 use Rattle.header_keys.specs.Functions.{RowsReady}
 use Rattle.prologue.specs.Pieces.{Leads, all_rows}
@@ -77,12 +76,6 @@ function_part {rows} {at} {n} r =
     (λ k l u.
     let e : at + (k - at) ≡ k = omega arith in
     subst (λ (i : ℕ). T (row_ok_at rows i)) e (in_range (row_ok_at rows) at n (k - at) r.ok (omega arith)))
-
--- what holds of both holds of the one that is picked
-pub picked : {X : Type 0} (P : X → Type 0) (b : Bool) {x y : X} → P x → P y → P (pick b x y)
-unfolding pick
-picked P true h k = h
-picked P false h k = k
 
 row_short : (kind reg off : ℕ) → T (row_ok kind reg off) → Short (offset_of (row_of kind reg off))
 unfolding row_of offset_of

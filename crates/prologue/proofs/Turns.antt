@@ -14,13 +14,13 @@ use Rattle.format.specs.declared.Row.TheVariants.{DefCfa, DefCfaOffset, DefCfaRe
 use Rattle.format.specs.Rows.{kind_of, offset_of}
 use Rattle.format.specs.Lists.{field, row_stride, row_at}
 use Rattle.format.specs.X64.{before_remember}
-use Rattle.format.proofs.Choice.{either, tested, is_true, is_false}
+use Rattle.format.proofs.Choice.{either, tested, is_true, is_false, picked}
 use Rattle.header_keys.proofs.Counting.{remembers}
 use Rattle.prologue.specs.declared.Walk.{Walk}
 use Rattle.prologue.specs.Groups.{joined, joins, third, stepped, added, lone_in, push_in, last_in, row_in, walk_from, start}
 use Rattle.prologue.specs.Readable.{Ready, Short}
 use Rattle.prologue.proofs.Neighbours.{joined_above}
-use Rattle.prologue.proofs.Rows.{picked, row_at_short}
+use Rattle.prologue.proofs.Rows.{row_at_short}
 use Rattle.prologue.proofs.Walked.{at_push, at_lone, turned}
 
 -- ---- the distance keeps to 32 bits

@@ -15,7 +15,7 @@ use Rattle.prologue.specs.declared.given.X64Machine.{X64Machine}
 use Rattle.prologue.specs.declared.given.Shape.{Shape}
 use Rattle.prologue.specs.Given.{rows_in}
 use Rattle.prologue.specs.Pieces.{code_in, codes_in, row_step, step_in, piece_in, moved_in, pieces_from}
-use Rattle.prologue.proofs.Rows.{picked}
+use Rattle.format.proofs.Choice.{picked}
 use Rattle.x64.specs.declared.given.Records.{Records}
 use Rattle.x64.specs.declared.given.Records.TheVariants.{Codes, ByRows}
 use Rattle.x64.specs.Sources.{piece_at, moved_at, codes_from}
