@@ -46,6 +46,8 @@ struct Groups {
 }
 
 // The bytes of a LEB number: ten at most, and the last is below 128.
+// Kept: by place. Over `s.get(at..)?.iter().enumerate()` a place past the end would be one more exit, and the place past the number the
+// sum `at + k + 1`.
 fn last_byte(s: &[u8], at: usize) -> Option<Groups>
     ensures { GroupsAt s.now at result }
 {

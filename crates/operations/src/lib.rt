@@ -2,10 +2,11 @@
 // make.
 #![tactic(auto)]
 
-ghost use Rattle.std.specs.Prelude.{◌≡◌, ◌*◌, ◌≤◌, ◌<◌, length, pos};
+ghost use Rattle.std.specs.Prelude.{ℕ, ◌≡◌, ◌*◌, ◌≤◌, ◌<◌, length, pos};
 ghost use Rattle.format.specs.Rows.{unfactor};
+ghost use Rattle.format.specs.declared.Row.{Row};
 ghost use Rattle.operations.specs.Positions.{operation_at};
-ghost use Rattle.operations.specs.Reads.{register_at, plain_at, factored_at, signed_at, held, operand_at, register_row, pair_row, step_at, register_row_at, offset_row_at, pair_row_at, in_register_at, saved_at, extended_at};
+ghost use Rattle.operations.specs.Reads.{register_at, plain_at, factored_at, signed_at, held, operand_at, pair_row, step_at, register_row_at, offset_row_at, pair_row_at, in_register_at, saved_at, extended_at};
 
 use crate::fields::{Position, read_le, read_sleb, read_uleb};
 use format::{Operation, Row};
@@ -22,18 +23,7 @@ struct Operations<'a> {
 
 // ---- an operation read
 
-// The row of opcode b with a register, and with a register and an offset.
-fn register_row(b: u8, reg: u16) -> Row
-    ensures { result ≡ register_row b reg }
-{
-    match b {
-        opcodes::DW_CFA_RESTORE_EXTENDED => Row::Restore(reg),
-        opcodes::DW_CFA_UNDEFINED => Row::Undefined(reg),
-        opcodes::DW_CFA_SAME_VALUE => Row::SameValue(reg),
-        _ => Row::DefCfaRegister(reg),
-    }
-}
-
+// The row of opcode b with a register and an offset.
 fn pair_row(b: u8, reg: u16, z: i64) -> Row
     ensures { result ≡ pair_row b reg z }
 {
@@ -97,7 +87,7 @@ impl Operations<'_> {
     }
 
     // The offset behind opcode b.
-    // Kept: a position and an opcode go together to five methods. `Operations` has what is the same in all calls; in a struct with the opcode the
+    // Kept: a position and an opcode go together to four methods. `Operations` has what is the same in all calls; in a struct with the opcode the
     // position, which each method hands on alone, to `register_at` or `read_uleb`, would be taken out again in each.
     fn operand_at(&self, at: Position, b: u8) -> Option<(i64, Position)>
         ensures { result ≡ operand_at self.now.word b self.now.bytes.now at }
@@ -119,12 +109,17 @@ impl Operations<'_> {
         Some((Operation::Step(v), past))
     }
 
-    // Opcode b with a register.
-    fn register_row_at(&self, at: Position, b: u8) -> Option<(Operation, Position)>
-        ensures { result ≡ register_row_at b self.now.bytes.now at }
+    // The row that `made` makes of a register.
+    fn register_row_at<F: Fn(u16) -> Row>(
+        &self,
+        at: Position,
+        made: F,
+    ) -> Option<(Operation, Position)>
+        requires { (x : ℕ) → F.pre made x }
+        ensures { (of : ℕ → Row) → ((x : ℕ) (v : Row) → F.post made x v → v ≡ of x) → result ≡ register_row_at of self.now.bytes.now at }
     {
         let (reg, past) = self.register_at(at)?;
-        Some((Operation::Does(register_row(b, reg)), past))
+        Some((Operation::Does(made(reg)), past))
     }
 
     // Opcode b with an offset.
@@ -162,8 +157,8 @@ impl Operations<'_> {
     }
 
     // The operations whose opcode b holds no number, behind it.
-    // Kept: an opcode with operands is matched once more behind them. One match would have, for each of the ten such opcodes, a method of its own of
-    // three or four lines, in place of three methods; with a reader and a row passed as functions the contracts of the three would speak of what those give.
+    // Kept: an opcode with an offset is matched once more behind it. With a reader of the offset passed as a function the contracts of
+    // offset_row_at and pair_row_at would say what it reads, its kind of number and how many bytes it takes at most.
     fn extended_at(&self, at: Position, b: u8) -> Option<(Operation, Position)>
         requires { at.at ≤ length self.now.bytes.now }
         ensures { result ≡ extended_at self.now.word b self.now.bytes.now at }
@@ -174,14 +169,17 @@ impl Operations<'_> {
             opcodes::DW_CFA_ADVANCE_LOC2 => self.step_at(at, 2),
             opcodes::DW_CFA_ADVANCE_LOC4 => self.step_at(at, 4),
             opcodes::DW_CFA_OFFSET_EXTENDED => self.pair_row_at(at, b),
-            opcodes::DW_CFA_RESTORE_EXTENDED => self.register_row_at(at, b),
-            opcodes::DW_CFA_UNDEFINED => self.register_row_at(at, b),
-            opcodes::DW_CFA_SAME_VALUE => self.register_row_at(at, b),
+            opcodes::DW_CFA_RESTORE_EXTENDED => self.register_row_at(at, |reg| Row::Restore(reg)),
+            opcodes::DW_CFA_UNDEFINED => self.register_row_at(at, |reg| Row::Undefined(reg)),
+            opcodes::DW_CFA_SAME_VALUE => self.register_row_at(at, |reg| Row::SameValue(reg)),
             opcodes::DW_CFA_REGISTER => self.in_register_at(at),
             opcodes::DW_CFA_REMEMBER_STATE => Some((Operation::Does(Row::RememberState), at)),
             opcodes::DW_CFA_RESTORE_STATE => Some((Operation::Does(Row::RestoreState), at)),
             opcodes::DW_CFA_DEF_CFA => self.pair_row_at(at, b),
-            opcodes::DW_CFA_DEF_CFA_REGISTER => self.register_row_at(at, b),
+            opcodes::DW_CFA_DEF_CFA_REGISTER => self.register_row_at(
+                at,
+                |reg| Row::DefCfaRegister(reg),
+            ),
             opcodes::DW_CFA_DEF_CFA_OFFSET => self.offset_row_at(at, b),
             opcodes::DW_CFA_OFFSET_EXTENDED_SF => self.pair_row_at(at, b),
             opcodes::DW_CFA_DEF_CFA_SF => self.pair_row_at(at, b),
