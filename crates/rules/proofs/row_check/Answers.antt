@@ -1,12 +1,23 @@
--- What `rules::row_check` asks for is there.
+-- `rules::row_check` meets its contract.
 use mathlib.Core.Bool.{not}
-use mathlib.Core.Path.{ap, sym, subst}
-use lib.Dec.{T}
+use mathlib.Core.Path.{ap}
+use native.Mathlib.Omega.{arith}
+use borrow.Author.Rules.{rules}
+use borrow.Author.Tests.{lt-ltb, le-leb}
 use Rattle.lists.proofs.Answers.{accepted, reached}
+use Rattle.format.specs.Lists.{row_ok_at, row_at, mark_ok, mark}
+use Rattle.format.specs.RowCheck.{row_check_at}
+use Rattle.rules.specs.Orders.{all_follow}
 use Rattle.rules.proofs.row_check.Goals as goal
 
-pub rows_ok-requires : goal.rows_ok-requires
-rows_ok-requires c = reached _ _ _ (accepted c.inside.ensures (ap not c.if-not-inside.false))
+pub rows_check-requires-clause-room : goal.rows_check-requires-clause-room
+rows_check-requires-clause-room c = search (reached _ _ _ (accepted c.inside.ensures (ap not c.if-not-inside.false)), rules)
 
-pub rows_check-requires : goal.rows_check-requires
-rows_check-requires c = (reached _ _ _ (accepted c.inside.ensures (ap not c.if-not-inside.false)), subst T (sym (accepted c.rows_ok.ensures (ap not c.if-not-rows_ok.false))) tt)
+pub rows_check-requires-clause-given : goal.rows_check-requires-clause-given
+rows_check-requires-clause-given c i l h = omega (arith, h, reached _ _ _ (accepted c.inside.ensures (ap not c.if-not-inside.false)))
+
+pub returns : goal.returns
+unfolding row_check_at mark_ok mark all_follow
+returns c =
+    let e = c.rows_check.ensures (row_ok_at c.args.rows.now) (row_at c.args.rows.now) (λ i r l h p. p) in
+    rw (lt-ltb _ _ c.if-fs-k.false, le-leb _ _ c.if-fs-b-gt1.false, accepted c.inside.ensures (ap not c.if-not-inside.false)) e
