@@ -20,7 +20,9 @@ pub struct TwoSections {
 
 // The list as ELF's eh_frame and as debug_frame, and the reader on exactly what was written of each: where both were accepted, and function
 // k has no relaxing labels and p is below its length, both readings are the same.
-// Kept: the lists one by one, since the promises of the entries that it calls name each of them.
+// Kept: the lists one by one. `Writes`, `reading_for` and `OneStory` of the theorem in README name each of them; in `lists::Lists` and two `lists::output::Output`
+// each clause would name a field of another value (`to.old.places.now`), and two more would say that the caller's own lists are lent in it
+// still (`SameLists`).
 pub fn write_two_and_read(
     machine: &[u64],
     functions: &[u64],
