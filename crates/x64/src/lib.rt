@@ -520,10 +520,7 @@ pub fn seh(
         return Ok(None);
     }
     if !codes_ok(functions, codes) {
-        return Err(Refusal {
-            question: Question::Lists,
-            position: 0,
-        });
+        return Err(Question::Lists.into());
     }
     let x = Input {
         source: Source::Direct,
@@ -556,17 +553,11 @@ pub fn windows(
     ensures { Writes (unless (windows_asks (given_of machine.now functions.now rows.now landings.now pairs.now)) (windows_answer (machine_of machine.now) (given_functions (given_of machine.now functions.now rows.now landings.now pairs.now)) (room_in markers.old bytes.old relocations.old info.old))) (numbered_at result) markers.old markers.new bytes.old bytes.new relocations.old relocations.new info.old info.new }
 {
     if !machine_ok(machine) {
-        return Err(Refusal {
-            question: Question::Interface,
-            position: 0,
-        });
+        return Err(Question::Interface.into());
     }
     let m = machine_of(machine);
     if !word_ok(m) {
-        return Err(Refusal {
-            question: Question::X64Word,
-            position: 0,
-        });
+        return Err(Question::X64Word.into());
     }
     let given = Lists {
         functions,
@@ -575,10 +566,7 @@ pub fn windows(
         pairs,
     };
     if !given.ok() {
-        return Err(Refusal {
-            question: Question::Lists,
-            position: 0,
-        });
+        return Err(Question::Lists.into());
     }
     let known = X64Machine { machine: &m };
     let x = Input {

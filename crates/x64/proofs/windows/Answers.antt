@@ -18,16 +18,16 @@ abbrev room : Start → Room
 room s = room_in s.args.markers.now s.args.bytes.now s.args.relocations.now s.args.info.now
 
 pub returns-then-not-machine_ok : goal.returns-then-not-machine_ok
-returns-then-not-machine_ok c = no_machine (given (goal.at.returns-then-not-machine_ok c).Start) (room (goal.at.returns-then-not-machine_ok c).Start) (refused c.machine_ok.ensures (ap not c.if-not-machine_ok.true))
+returns-then-not-machine_ok c = rw c.into.ensures (no_machine (given (goal.at.returns-then-not-machine_ok c).Start) (room (goal.at.returns-then-not-machine_ok c).Start) (refused c.machine_ok.ensures (ap not c.if-not-machine_ok.true)))
 
 pub machine_of-m-requires : goal.machine_of-m-requires
 machine_of-m-requires c = is_yes_lem (accepted c.machine_ok.ensures (ap not c.if-not-machine_ok.false))
 
 pub returns-then-not-word_ok : goal.returns-then-not-word_ok
-returns-then-not-word_ok c = no_word (given (goal.at.returns-then-not-word_ok c).Start) (room (goal.at.returns-then-not-word_ok c).Start) (accepted c.machine_ok.ensures (ap not c.if-not-machine_ok.false)) (rw c.machine_of-m.ensures at (refused c.word_ok.ensures (ap not c.if-not-word_ok.true)))
+returns-then-not-word_ok c = rw c.into-then-not-word_ok.ensures (no_word (given (goal.at.returns-then-not-word_ok c).Start) (room (goal.at.returns-then-not-word_ok c).Start) (accepted c.machine_ok.ensures (ap not c.if-not-machine_ok.false)) (rw c.machine_of-m.ensures at (refused c.word_ok.ensures (ap not c.if-not-word_ok.true))))
 
 pub returns-then-not-ok : goal.returns-then-not-ok
-returns-then-not-ok c = no_lists (given (goal.at.returns-then-not-ok c).Start) (room (goal.at.returns-then-not-ok c).Start) (accepted c.machine_ok.ensures (ap not c.if-not-machine_ok.false)) (rw c.machine_of-m.ensures at (accepted c.word_ok.ensures (ap not c.if-not-word_ok.false))) (refused c.ok.ensures (ap not c.if-not-ok.true))
+returns-then-not-ok c = rw c.into-then-not-ok.ensures (no_lists (given (goal.at.returns-then-not-ok c).Start) (room (goal.at.returns-then-not-ok c).Start) (accepted c.machine_ok.ensures (ap not c.if-not-machine_ok.false)) (rw c.machine_of-m.ensures at (accepted c.word_ok.ensures (ap not c.if-not-word_ok.false))) (refused c.ok.ensures (ap not c.if-not-ok.true)))
 
 pub invariant_of-known : goal.invariant_of-known
 invariant_of-known c =
