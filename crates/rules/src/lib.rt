@@ -11,6 +11,8 @@ ghost use Rattle.rules.specs.Orders.{Starts, passing, Steps, Follows, Gives, all
 
 use arrayvec::ArrayVec;
 use format::Row;
+use lists::record::Record;
+use lists::{FUNCTION_STRIDE, function};
 
 // Between two rows: whether all so far lead, whether there is a frame address rule, and of the RememberStates that are open,
 // the last at the end, whether there was one there.
@@ -141,25 +143,22 @@ pub fn rows_check<F: Fn(usize) -> Option<(u64, Row)>>(
     true
 }
 
-// Function k of the lists. k past the list, a simple mark above 1, rows outside their list and numbers that are no row are a no.
+// The rows of a function. A simple mark above 1, rows outside their list and numbers that are no row are a no.
 #[tactic(auto, unfolding(format::specs::RowCheck::row_check_at, format::specs::Lists::mark_ok, format::specs::Lists::mark))]
-pub fn row_check(fs: &[u64], rows: &[u64], k: u64) -> bool
-    ensures { result ≡ row_check_at fs.now rows.now k }
+fn function_check(f: Record<FUNCTION_STRIDE>, rows: &[u64]) -> bool
+    ensures { result ≡ row_check_at f.entry.list.now rows.now f.entry.k }
 {
-    if (fs.len() / lists::FUNCTION_STRIDE) as u64 <= k {
+    let simple = f.number(function::SIMPLE);
+    if 1 < simple {
         return false;
     }
-    let b = lists::FUNCTION_STRIDE * k as usize;
-    if 1 < fs[b + lists::function::SIMPLE] {
-        return false;
-    }
-    let at = fs[b + lists::function::ROWS_AT];
-    let n = fs[b + lists::function::ROWS];
+    let at = f.number(function::ROWS_AT);
+    let n = f.number(function::ROWS);
     if !lists::inside(at, n, (rows.len() / rows::ROW_STRIDE) as u64) {
         return false;
     }
     rows_check(
-        fs[b + lists::function::SIMPLE] != 0,
+        simple != 0,
         at as usize,
         n as usize,
         |i|
@@ -167,4 +166,19 @@ pub fn row_check(fs: &[u64], rows: &[u64], k: u64) -> bool
             ensures { result ≡ then_some (row_ok_at rows.entry.now i) (row_at rows.entry.now i) }
         { row_in(rows, i) },
     )
+}
+
+// Function k of the lists. k past the list is a no.
+#[tactic(auto, unfolding(format::specs::RowCheck::row_check_at))]
+pub fn row_check(fs: &[u64], rows: &[u64], k: u64) -> bool
+    ensures { result ≡ row_check_at fs.now rows.now k }
+{
+    if (fs.len() / FUNCTION_STRIDE) as u64 <= k {
+        return false;
+    }
+    let f = Record {
+        list: fs,
+        k: k as usize,
+    };
+    function_check(f, rows)
 }
