@@ -53,7 +53,8 @@ pub fn new<'a>(section: &'a [u8]) -> Cursor<'a>
 }
 
 // What stands at the cursor; the answer says where the next entry stands.
-// Kept: `next` and `next_entry` promise what `entry_at` does, of a cursor and of a slice with a position; they are public, and each is one call of it.
+// Kept: a struct of section and position with thin functions over one core is a form that document 01 names (docs/DECISIONS.md). `entry_at` is
+// the core, `next` is it of a cursor and `next_entry` of a slice (parts calls it): all three are public, and public functions keep their names.
 pub fn next<'a>(c: Cursor<'a>, debug: bool) -> Result<Entry, Question>
     ensures { numbered result ≡ result_of (entry_at debug c.entry.section.now c.entry.at) }
 {

@@ -13,8 +13,7 @@ use operations::fields::{Position, read_le};
 pub fn entry_end(s: &[u8], at: usize) -> Option<usize>
     ensures { result ≡ end_at s.now at }
 {
-    let place = Position { at, shortest: true };
-    let (n, body) = read_le(s, place, 4)?;
+    let (n, body) = read_le(s, Position::from(at), 4)?;
     if n < 4 {
         return None;
     }

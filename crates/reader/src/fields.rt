@@ -36,7 +36,6 @@ fn marked(
     ensures { ReadsAugmentation s.now at.shortest result (read_letters (two_of plain.now signal.now personality lsda) (drop at.at s.now)) }
 {
     let from = at.at;
-    let shortest = at.shortest;
     if s[from..].starts_with(plain) {
         return Some((
             Augmentation {
@@ -46,7 +45,7 @@ fn marked(
             },
             Position {
                 at: from + plain.len(),
-                shortest,
+                ..at
             },
         ));
     }
@@ -59,7 +58,7 @@ fn marked(
             },
             Position {
                 at: from + signal.len(),
-                shortest,
+                ..at
             },
         ));
     }
@@ -134,13 +133,7 @@ fn lsda_in(s: &[u8], at: Position, word: u64) -> Option<(u64, Position)>
         return None;
     }
     let n = pointer_size(false, word, s[from])?;
-    Some((
-        n as u64,
-        Position {
-            at: from + 1,
-            shortest: at.shortest,
-        },
-    ))
+    Some((n as u64, Position { at: from + 1, ..at }))
 }
 
 // The data that the string promises, the records' own encoding last: the bytes of a record's pointer to call sites.
@@ -152,7 +145,7 @@ fn letters_in(s: &[u8], word: u64, p: Augmentation) -> Option<usize>
     } else {
         0
     };
-    let start = Position { at, shortest: true };
+    let start = Position::from(at);
     let (size, last) = if p.lsda {
         lsda_in(s, start, word)?
     } else {
@@ -195,12 +188,8 @@ impl Body<'_> {
         let (start, end) = counted(s, at)?;
         let from = start.at;
         let n = letters_in(&s[from..end], self.layout.word, p)?;
-        let past = Position {
-            at: end,
-            shortest: start.shortest,
-        };
         Some(Header {
-            operations: past,
+            operations: Position { at: end, ..start },
             pointer: n as u64,
             signal: p.signal,
         })
@@ -253,7 +242,7 @@ impl Body<'_> {
         }
         let string = Position {
             at: from + 1,
-            shortest: version.shortest,
+            ..version
         };
         let (p, past) = self.letters(string)?;
         self.header_factors(past, p)
@@ -286,12 +275,8 @@ impl Body<'_> {
         if ((end - from) as u64) < pointer {
             return None;
         }
-        let past = Position {
-            at: end,
-            shortest: start.shortest,
-        };
         Some(Record {
-            operations: past,
+            operations: Position { at: end, ..start },
             size,
         })
     }

@@ -87,6 +87,7 @@ impl<'a> Section<'a> {
 
 // Where the operations of record k and of its header are, the function's length, the header's signal mark, the bytes of a record's pointer
 // to call sites, the word, and whether the numbers among the fields of both are spelled shortest.
+// Kept: four places, as C's struct has them (reads), from and into which From goes field by field; `operations` gives the spans.
 #[derive(Clone, Copy)]
 pub struct Located {
     pub header: usize,

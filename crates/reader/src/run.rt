@@ -66,9 +66,7 @@ fn register_rule(cfa: CfaRule) -> Result<(u16, i64), Question>
 fn restore(s: &mut State, q: u16, reg: u16, initial: Option<Rule>) -> Result<(), Question>
     ensures { Acts result (run_of s.new) (restored q reg initial (run_of s.old)) }
 {
-    let Some(rule) = initial else {
-        return Err(Question::States);
-    };
+    let rule = initial.ok_or(Question::States)?;
     set_rule(s, q, reg, rule);
     Ok(())
 }
@@ -88,9 +86,7 @@ fn remember(s: &mut State) -> Result<(), Question>
 fn recall(s: &mut State) -> Result<(), Question>
     ensures { Acts result (run_of s.new) (recall (run_of s.old).stored (run_of s.old)) }
 {
-    let Some(rules) = s.stored.pop() else {
-        return Err(Question::States);
-    };
+    let rules = s.stored.pop().ok_or(Question::States)?;
     s.rules = rules;
     Ok(())
 }

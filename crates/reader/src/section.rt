@@ -3,6 +3,8 @@ ghost use Rattle.std.specs.Prelude.{T};
 ghost use Rattle.format.specs.Machine.{is_word_size};
 
 // How fields are laid out: those of debug_frame or of eh_frame, and how many bytes a word has.
+// Kept: a bool, and not `format::Section`, here and in what takes it: the definitions (header_id, is_header, records, parse_header) take a Bool, and each
+// clause would name the test of the enum for it.
 #[derive(Clone, Copy)]
 pub struct Layout {
     pub debug: bool,

@@ -12,14 +12,14 @@ skipped : (c : Joined-p) → Skips c.args.s.now c.if-p.at (personality_in c.args
 skipped c = elim c.if-p.branch [ then-p+in_ok-at w ↦ rw w.at-is (skipped_one c.args.s.now c.args.word c.args.p w.if-p.true w.in_ok-at.ensures) | else-p w ↦ rw w.at-is (skipped_none c.args.s.now c.args.word c.args.p w.if-p.false) ]
 
 encoded : (c : Joined-p-2) → Skips c.args.s.now c.if-p.at (personality_in c.args.p.personality c.args.word c.args.s.now) → Rests c.args.s.now true c.if-p-2.size.0 c.if-p-2.size.1 (lsda_in c.args.p.lsda c.args.word (drop c.if-p.at c.args.s.now))
-encoded c k = elim c.if-p-2.branch [ then-p-2+in_ok-lsda_in w ↦ rw w.size-is (found_one c.args.s.now c.args.word c.args.p k w.if-p-2.true w.in_ok-lsda_in.ensures) | else-p-2 w ↦ rw w.size-is (found_none c.args.s.now c.args.word c.args.p k true w.if-p-2.false) ]
+encoded c k = elim c.if-p-2.branch [ then-p-2+in_ok-lsda_in w ↦ rw w.size-is (found_one c.args.s.now c.args.word c.args.p k w.if-p-2.true (rw c.from-start.ensures at w.in_ok-lsda_in.ensures)) | else-p-2 w ↦ rw (w.size-is, c.from-start.ensures) (found_none c.args.s.now c.args.word c.args.p k true w.if-p-2.false) ]
 
 pub returns-in_err-at : goal.returns-in_err-at
 returns-in_err-at c = rw c.from_residual.ensures (letters_first c.args.s.now c.args.word c.args.p c.if-p.true c.in_err-at.ensures)
 
 pub returns-in_err-lsda_in : goal.returns-in_err-lsda_in
 returns-in_err-lsda_in c =
-    rw c.from_residual-in_err-lsda_in.ensures (letters_second c.args.s.now c.args.word c.args.p (skipped (goal.at.returns-in_err-lsda_in c).Joined-p) c.if-p-2.true c.in_err-lsda_in.ensures)
+    rw c.from_residual-in_err-lsda_in.ensures (letters_second c.args.s.now c.args.word c.args.p (skipped (goal.at.returns-in_err-lsda_in c).Joined-p) c.if-p-2.true (rw c.from-start.ensures at c.in_err-lsda_in.ensures))
 
 pub returns-then-s-end : goal.returns-then-s-end
 returns-then-s-end c =
