@@ -78,6 +78,8 @@ fn encodings_ok(x: &Input, e: &Extent) -> bool
 }
 
 // A function's rows, which can be read, and the word that they are asked for.
+// Kept: beside `header_keys::written::Run`, which rows are written from: question 24 needs that the word is the size of a word, which a
+// `Run` does not know. Around a `Run` each clause below would name the rows, the place and the count as parts of a part.
 #[derive(Clone, Copy)]
 struct Lines<'a> {
     word: u64,
@@ -92,7 +94,8 @@ struct Lines<'a> {
 // two plain ones tell which question it is (D107 of docs/DECISIONS.md).
 impl Lines<'_> {
     // Question 23: no row goes back, nor steps above 2^32 - 1.
-    // Kept: a loop, and no `all`: each row is set beside the one in front of it, and its offset is read once.
+    // Kept: a loop, and no `all`: each row is set beside the one in front of it and the first one beside 0, so that `all` over the places
+    // would have a case of its own for the first one, and would read each offset twice.
     fn steps_ok(&self) -> bool
         ensures { result ≡ steps_ok 0 (each (row_at self.now.rows.now) self.now.at self.now.n) }
     {
@@ -126,6 +129,8 @@ impl Lines<'_> {
     }
 
     // Questions 23 and 24 in one pass, asked for more. A no says nothing. With the word in a local the compiler tests it once.
+    // Kept: `from` by hand. An iterator would hand out the place of a row and the offset in front of it: a struct, its `next` and its laws
+    // for one line in this loop.
     fn fine(&self) -> bool
         ensures { result ≡ true → (steps_ok 0 (each (row_at self.now.rows.now) self.now.at self.now.n) ≡ true) × (all (λ r. row_whole self.now.word r.1) (each (row_at self.now.rows.now) self.now.at self.now.n) ≡ true) }
     {
@@ -148,6 +153,16 @@ impl Lines<'_> {
     }
 }
 
+// Function k is refused by a question.
+fn function_refused(question: Question, k: usize) -> Refusal
+    ensures { result ≡ record { question = question; position = k } }
+{
+    Refusal {
+        question,
+        position: k as u64,
+    }
+}
+
 // Questions 23 and 24 of function k.
 fn lines_ask(x: &Input, k: usize, e: &Extent) -> Result<(), Refusal>
     requires { RowsIn (inputs_of x.now) e.now }
@@ -163,16 +178,10 @@ fn lines_ask(x: &Input, k: usize, e: &Extent) -> Result<(), Refusal>
         return Ok(());
     }
     if !lines.steps_ok() {
-        return Err(Refusal {
-            question: Question::Order,
-            position: k as u64,
-        });
+        return Err(function_refused(Question::Order, k));
     }
     if !lines.whole() {
-        return Err(Refusal {
-            question: Question::Multiples,
-            position: k as u64,
-        });
+        return Err(function_refused(Question::Multiples, k));
     }
     Ok(())
 }
@@ -210,23 +219,14 @@ fn dwarf_asks(x: &Input, k: usize, e: &Extent) -> Result<(), Refusal>
     ensures { numbered_at result ≡ question_of (dwarf_asks x.now.section x.now.machine.word k (meant e.now x.now.lists.rows.now [] x.now.lists.pairs.now)) }
 {
     if !size_ok(x, e) {
-        return Err(Refusal {
-            question: Question::Length,
-            position: k as u64,
-        });
+        return Err(function_refused(Question::Length, k));
     }
     if !encodings_ok(x, e) {
-        return Err(Refusal {
-            question: Question::Encodings,
-            position: k as u64,
-        });
+        return Err(function_refused(Question::Encodings, k));
     }
     lines_ask(x, k, e)?;
     if !pairs_ok(x, e) {
-        return Err(Refusal {
-            question: Question::Pairs,
-            position: k as u64,
-        });
+        return Err(function_refused(Question::Pairs, k));
     }
     Ok(())
 }
@@ -247,19 +247,13 @@ fn all_asks(x: &Input) -> Result<(), Refusal>
 // ---- the sizing pass
 
 // What stands in the lent lists of bytes, relocations and call sites by now, in their elements.
-#[derive(Clone, Copy)]
+// Kept: beside format::Counts. These are places in the lent lists, so of usize, and the relocations count numbers and not relocations; and
+// of header places there is one for each function, so that no pass carries their count.
+#[derive(Clone, Copy, Default)]
 pub struct Table {
     pub bytes: usize,
     pub relocations: usize,
     pub sites: usize,
-}
-
-impl Table {
-    const NOTHING: Table = Table {
-        bytes: 0,
-        relocations: 0,
-        sites: 0,
-    };
 }
 
 // Kept: a `bool`, here and in what is written of a function: the definitions of an entry's bytes take a Bool, and not the section.
@@ -497,7 +491,7 @@ impl Entries<'_> {
         ensures { result ≡ totals_in (parts_to (inputs_of self.now.input.now) (count_in (inputs_of self.now.input.now))) }
     {
         let n = self.input.lists.count();
-        let mut t = Table::NOTHING;
+        let mut t = Table::default();
         for k in 0..n {
             let size = rows_size(self.input, k);
             let o = usize::from(self.owners[k]);
@@ -529,7 +523,7 @@ impl Entries<'_> {
         ensures { FillsTo (inputs_of self.now.input.now) (count_in (inputs_of self.now.input.now)) result to.old to.new }
     {
         let functions = self.input.lists.count();
-        let mut t = Table::NOTHING;
+        let mut t = Table::default();
         for k in 0..functions {
             t = self.part(k, functions, t, to);
         }
@@ -628,7 +622,7 @@ impl Counted<'_> {
         ensures { AllSurveyed (inputs_of self.now.input.now) chains.new.owners.now result × LongFor (count_in (inputs_of self.now.input.now)) chains.new }
     {
         let n = self.input.lists.count();
-        let mut t = Table::NOTHING;
+        let mut t = Table::default();
         for k in 0..n {
             let size = self.function_surveyed(k)?;
             owners::find_owner(self.input, k, chains);

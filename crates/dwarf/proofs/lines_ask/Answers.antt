@@ -14,11 +14,11 @@ returns-then-fine c = let p = c.fine.ensures c.if-fine.true in simp (p.0, p.1) r
 
 pub returns-then-not-steps_ok : goal.returns-then-not-steps_ok
 unfolding lines_asks ask and_then question_of pick
-returns-then-not-steps_ok c = simp (refused c.steps_ok.ensures (ap not c.if-not-steps_ok.true)) refl
+returns-then-not-steps_ok c = rw c.function_refused.ensures (simp (refused c.steps_ok.ensures (ap not c.if-not-steps_ok.true)) refl)
 
 pub returns-then-not-whole : goal.returns-then-not-whole
 unfolding lines_asks ask and_then question_of pick
-returns-then-not-whole c = simp (accepted c.steps_ok.ensures (ap not c.if-not-steps_ok.false), refused c.whole.ensures (ap not c.if-not-whole.true)) refl
+returns-then-not-whole c = rw c.function_refused-then-not-whole.ensures (simp (accepted c.steps_ok.ensures (ap not c.if-not-steps_ok.false), refused c.whole.ensures (ap not c.if-not-whole.true)) refl)
 
 pub returns : goal.returns
 unfolding lines_asks ask and_then question_of pick
