@@ -20,19 +20,13 @@ use lists::{Extent, Lsda, Personality};
 use numbers::encodings;
 use rows::Word;
 
-// The letters of an augmentation string, the first of them in the lowest byte: z, P with a personality, L with an LSDA and R; S, behind
-// them, of a signal frame.
-const ZR: u64 = 0x527a;
-
-const ZPR: u64 = 0x52507a;
-
-const ZPLR: u64 = 0x524c507a;
-
-const S: u64 = 0x53;
+// Kept: sizes stand beside bytes, here and in records. As one function over a buffer or a counter each clause would speak of both, and a
+// size would have to be asked with the places and symbols that its bytes take.
 
 // ---- the end of an entry
 
 // Zeros after n bytes of a section, up to the alignment.
+// Kept: no `next_multiple_of`, which overflows near the top: public `padding` takes any n.
 #[tactic(auto, unfolding(format::specs::Headers::padding))]
 fn gap(align: usize, n: usize) -> usize
     requires { 0 < align }
@@ -93,7 +87,7 @@ pub fn pointer(out: &mut [u64], i: usize, word: u64, place: u64, symbol: u64, e:
 // The personality that a function's header names. That of functions with landings is indirect, relative and of 4 bytes, and so is the
 // pointer to their call sites.
 #[tactic(auto, unfolding(crate::specs::Kinds::personality_in, crate::specs::Kinds::personality_for))]
-fn personality(e: &Extent) -> Option<Personality>
+pub fn personality(e: &Extent) -> Option<Personality>
     ensures { result ≡ personality_in e.now }
 {
     match kind_of(e) {
@@ -114,15 +108,25 @@ fn personality(e: &Extent) -> Option<Personality>
 
 // Kept: in all that write a part of a header the list and the place stand apart, as in leb; what is written is the function.
 
+// Letters of the augmentation string.
+fn text(out: &mut [u8], at: usize, letters: &[u8]) -> usize
+    requires { at + length letters.now ≤ length out.old }
+    ensures { Wrote out.old out.new at result letters.now }
+{
+    let past = at + letters.len();
+    out[at..past].copy_from_slice(letters);
+    past
+}
+
 // The end of the augmentation string: S for a signal frame, and a 0.
 fn ending(out: &mut [u8], at: usize, signal: bool) -> usize
     requires { at + length (ending signal) ≤ length out.old }
     ensures { Wrote out.old out.new at result (ending signal) }
 {
     if signal {
-        return leb::le(out, at, 2, S);
+        return text(out, at, b"S\0");
     }
-    leb::byte(out, at, 0)
+    text(out, at, b"\0")
 }
 
 // The data alignment factor, minus the word.
@@ -150,9 +154,10 @@ fn plain_header(out: &mut [u8], at: usize, f: &Function) -> usize
     requires { at + length (tail_by f.now plain) ≤ length out.old }
     ensures { Wrote out.old out.new at result (tail_by f.now plain) }
 {
-    let a = leb::le(out, at, 2, ZR);
+    let a = text(out, at, b"zR");
     let b = middle(out, a, f);
-    leb::le(out, b, 2, 0x1b01)
+    let c = leb::byte(out, b, 1);
+    leb::byte(out, c, encodings::PCREL_SDATA4 as u8)
 }
 
 // z, P, L where there is an LSDA, R.
@@ -161,9 +166,9 @@ fn named_letters(out: &mut [u8], at: usize, lsda: bool) -> usize
     ensures { Wrote out.old out.new at result (named_letters lsda) }
 {
     if lsda {
-        return leb::le(out, at, 4, ZPLR);
+        return text(out, at, b"zPLR");
     }
-    leb::le(out, at, 3, ZPR)
+    text(out, at, b"zPR")
 }
 
 // The LSDA's encoding, where there is an LSDA.
@@ -303,7 +308,7 @@ impl Head<'_> {
     }
 
     // How many bytes `fields` stores; the data's length is one of them.
-    // Kept: `debug`, here and in what is below, is a `bool`, as the definitions of a header take it.
+    // Kept: `debug`, here and in what is below, is a `bool`, for the reason at `written::Function` of header_keys.
     fn fields_size(&self, debug: bool) -> usize
         ensures { (result ≡ length (header_fields debug self.now.machine.now (head_in self.now.extent.now))) × (result ≤ 44) }
     {
