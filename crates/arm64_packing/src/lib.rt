@@ -57,10 +57,10 @@ fn down_in(c: Code) -> u64
 // How a prologue saves lr: CR.
 #[derive(Clone, Copy, PartialEq, Eq)]
 enum Chain {
-    Unchained,
-    Saved,
-    Signed,
-    Recorded,
+    Unchained = 0,
+    Saved = 1,
+    Signed = 2,
+    Recorded = 3,
 }
 
 impl Chain {
@@ -69,12 +69,7 @@ impl Chain {
     fn number(self) -> u64
         ensures { (result ≡ chain_number self) × (result < 4) }
     {
-        match self {
-            Chain::Unchained => 0,
-            Chain::Saved => 1,
-            Chain::Signed => 2,
-            Chain::Recorded => 3,
-        }
+        self as u64
     }
 
     // Behind the frame record.
@@ -209,8 +204,8 @@ fn place(part: Part, w: Word, i: u64) -> Option<Code>
     }
 }
 
-// Kept: a loop over the places. Tried by the iterators' `eq`: a list of packed functions took 10 to 15 % longer to write, where docs/PERFORMANCE.md ("Windows
-// on ARM64") has 2.3 times the Rust's time already.
+// Kept: a loop over the places. Tried by the iterators' `eq`: a list of packed functions took 10 to 15 % longer to write than by this loop. The bar is this loop:
+// no list may take longer to write for its form (docs/PERFORMANCE.md, "Windows on ARM64").
 // Whether a run's instructions are those of the word's prologue or of its epilogue.
 fn same_places(run: &Codes, part: Part, w: Word) -> bool
     ensures { result ≡ same_codes (given run.now.list.now run.now.run) (slots_from (placed part w.fields) 0 19) }
