@@ -11,6 +11,7 @@ ghost use Rattle.arm64_header.specs.Header.{is_long_of, first_word, header_by};
 use arm64::{Epilogues, header_bits, limits};
 
 // A full record's header: the length in instructions, the count's field, and the words of codes.
+// Kept: beside arm64's `Header`, which is read: that has the handler's mark and the place past it besides, which the writer has not.
 #[derive(Clone, Copy)]
 pub struct Header {
     pub length: u64,

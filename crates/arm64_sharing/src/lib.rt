@@ -38,8 +38,8 @@ pub fn leads(run: &Codes, other: &Codes) -> bool
     run.run.count <= other.run.count && leads_long(run, other)
 }
 
-// Kept: the counts and then the codes by `Code`'s derived equality. `Codes` derives none: two runs of one list are the same at different places. `eq` of the
-// iterators would compare codes of runs whose counts differ, once for each pair of epilogues.
+// Kept: the counts and then the codes by `Code`'s derived equality. `Codes` derives none: two runs of one list are the same at different places. The codes
+// are compared by `leads_long`, which `leads` has too; `eq` of the iterators, over each step's code, would need a closure and laws of its own beside it.
 pub fn same_run(run: &Codes, other: &Codes) -> bool
     ensures { result ≡ same_codes (written_in run.now) (written_in other.now) }
 {
