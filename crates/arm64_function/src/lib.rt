@@ -2,7 +2,7 @@
 // rucc-asm/src/xdata.rs (describe) of tamnd/rucc, changed: see NOTICE.
 #![tactic(auto)]
 
-ghost use Rattle.std.specs.Prelude.{◌≡◌, true, ◌&&◌, ◌||◌, ◌+◌, ◌-◌, ◌*◌, ◌^◌, ◌≤◌, ◌<◌, length, Some, None, IfSome};
+ghost use Rattle.std.specs.Prelude.{◌≡◌, true, eqb, ◌&&◌, ◌||◌, ◌+◌, ◌-◌, ◌*◌, ◌^◌, ◌≤◌, ◌<◌, length, Some, None, IfSome};
 ghost use Rattle.format.specs.Prelude.{pick};
 ghost use Rattle.format.specs.Lists.{field, all_in};
 ghost use Rattle.std.specs.Option.{unwrap_or};
@@ -27,6 +27,9 @@ use arm64_lists::Lists;
 use arm64_simple::{Codes, Run};
 use format::{Question, Refusal};
 use lists::record::Record;
+
+// Where an epilogue's record has its start.
+const START: usize = 0;
 
 // A function's codes: its prologue's, and its epilogues from `first` to `end`.
 #[derive(Clone, Copy)]
@@ -71,11 +74,12 @@ fn parts_at(function: &Record<FUNCTION_STRIDE>) -> Parts
 }
 
 // The index in the word at `at`.
+#[tactic(auto, unfolding(crate::specs::Own::index_in))]
 fn index_in(out: &[u8], at: usize) -> usize
     requires { at + 4 ≤ length out.now }
     ensures { result ≡ index_in out.now at }
 {
-    (leb::wide(out[at + 2]) / 64 + 4 * leb::wide(out[at + 3])) as usize
+    usize::from(u16::from_le_bytes([out[at + 2], out[at + 3]]) / 64)
 }
 
 // An epilogue's index, and the bytes of codes once its run is written.
@@ -165,8 +169,7 @@ impl<'a> Function<'a> {
         ensures { result ≡ packed_of self.now }
     {
         let only = self.epilogue(self.parts.first);
-        let left = (self.size - self.epilogues[EPILOGUE_STRIDE * self.parts.first]) / 4;
-        if !only.shares(left) {
+        if !only.shares() {
             return None;
         }
         arm64_packing::packed(self.size / 4, &self.prologue(), &only.run())
@@ -243,17 +246,38 @@ struct Epilogue<'a> {
 impl<'a> Epilogue<'a> {
     ghost use Rattle.arm64_function.specs.Function.{prologue_of, run_of, own_of, index_of, NearestOf, KnownOf, AheadOf, shared_of};
 
+    // Its record in the list.
+    fn record(&self) -> Record<'a, EPILOGUE_STRIDE>
+        ensures { (result.list.now ≡ self.now.function.epilogues.now) × (result.k ≡ self.now.i) }
+    {
+        Record {
+            list: self.function.epilogues,
+            k: self.i,
+        }
+    }
+
+    // Where it starts, in bytes.
+    fn start(&self) -> u64
+        ensures { result ≡ field epilogue_stride self.now.function.epilogues.now self.now.i 0 }
+    {
+        self.record().number(START)
+    }
+
     fn run(&self) -> Codes<'a>
         ensures { (saved_in result ≡ saves self.now.function.codes.now (epilogue_at self.now.function.epilogues.now self.now.i)) × (result.run.count ≡ field epilogue_stride self.now.function.epilogues.now self.now.i 2) }
     {
-        let record = Record::<EPILOGUE_STRIDE> {
-            list: self.function.epilogues,
-            k: self.i,
-        };
         Codes {
             list: self.function.codes,
-            run: epilogue_at(&record),
+            run: epilogue_at(&self.record()),
         }
+    }
+
+    // Whether its instructions and a ret are the function's last.
+    fn ends(&self) -> bool
+        requires { field epilogue_stride self.now.function.epilogues.now self.now.i 0 ≤ self.now.function.size }
+        ensures { result ≡ eqb (instructions (self.now.function.size - field epilogue_stride self.now.function.epilogues.now self.now.i 0)) (field epilogue_stride self.now.function.epilogues.now self.now.i 2 + 1) }
+    {
+        (self.function.size - self.start()) / 4 == self.run().run.count as u64 + 1
     }
 
     // How many bytes its codes have, without their end.
@@ -270,12 +294,13 @@ impl<'a> Epilogue<'a> {
         arm64_sharing::leads(&self.run(), &self.function.prologue())
     }
 
-    // Whether it shares the prologue's codes and, where it is the first, E may be set: its instructions and a ret are the function's last `left`, and the
-    // short header holds its index and the words of codes, which are the prologue's alone.
-    fn shares(&self, left: u64) -> bool
-        ensures { result ≡ shared_of self.now.function self.now.i left }
+    // Whether it shares the prologue's codes and, where it is the first, E may be set: its instructions and a ret are the function's last, and the short
+    // header holds its index and the words of codes, which are the prologue's alone.
+    fn shares(&self) -> bool
+        requires { field epilogue_stride self.now.function.epilogues.now self.now.i 0 ≤ self.now.function.size }
+        ensures { result ≡ shared_of self.now.function self.now.i (instructions (self.now.function.size - field epilogue_stride self.now.function.epilogues.now self.now.i 0)) }
     {
-        if left != self.run().run.count as u64 + 1 {
+        if !self.ends() {
             return false;
         }
         if !self.leads() {
@@ -292,7 +317,7 @@ impl<'a> Epilogue<'a> {
     fn start_ok(&self) -> bool
         ensures { result ≡ start_ok_at self.now.function.epilogues.now self.now.function.size self.now.i }
     {
-        let start = self.function.epilogues[EPILOGUE_STRIDE * self.i];
+        let start = self.start();
         if start % 4 != 0 {
             return false;
         }
@@ -392,8 +417,7 @@ impl<'a> Checked<'a> {
         if limits::SHORT_INDEX < index {
             return None;
         }
-        let left = (self.function.size - self.function.epilogues[EPILOGUE_STRIDE * p.first]) / 4;
-        if left != self.function.epilogues[EPILOGUE_STRIDE * p.first + fields::CODES] + 1 {
+        if !self.function.epilogue(p.first).ends() {
             return None;
         }
         Some(index as u64)
@@ -494,13 +518,13 @@ impl<'a> Checked<'a> {
         let mut next = self.function.prologue_size() + 1;
         let mut q = to;
         for i in self.function.parts.first..self.function.parts.end {
-            let s = self.function.epilogue(i).scope_of(out, to, next);
+            let epilogue = self.function.epilogue(i);
+            let s = epilogue.scope_of(out, to, next);
             q = leb::le(
                 out,
                 q,
                 4,
-                self.function.epilogues[EPILOGUE_STRIDE * i] / 4
-                    + header_bits::INDEX * s.index as u64,
+                epilogue.start() / 4 + header_bits::INDEX * s.index as u64,
             );
             next = s.next;
         }

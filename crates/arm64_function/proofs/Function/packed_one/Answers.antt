@@ -1,14 +1,14 @@
 -- `Function::packed_one` meets its contract.
 use native.Mathlib.Omega.{arith}
 use mathlib.Core.Path.{sym, ◌∙◌}
-use Rattle.arm64_function.proofs.PackedWord.{only_start, unshared, shared}
+use Rattle.arm64_function.proofs.PackedWord.{unshared, shared}
 use Rattle.arm64_function.proofs.Function.packed_one.Goals as goal
 
 pub epilogue-only-requires : goal.epilogue-only-requires
 epilogue-only-requires c = (omega arith, c.requires.one)
 
-pub overflow_sub-left : goal.overflow_sub-left
-overflow_sub-left c = only_start c.args.self.now.epilogues.now c.args.self.now.codes.now c.args.self.now.parts c.args.self.now.size c.requires
+pub shares-requires : goal.shares-requires
+shares-requires c = rw (c.epilogue-only.ensures.0, c.epilogue-only.ensures.1) c.requires.start
 
 pub returns-then-not-shares : goal.returns-then-not-shares
 returns-then-not-shares c = unshared c.args.self.now.epilogues.now c.args.self.now.codes.now c.args.self.now.parts c.args.self.now.size (sym (rw (c.epilogue-only.ensures.0, c.epilogue-only.ensures.1) at c.shares.ensures) ∙ c.if-not-shares.true)
