@@ -66,6 +66,8 @@ fn header_with(w: u64, count: u64, words: u64, past: u64) -> Header
 }
 
 // How many words of epilogues stand behind the header: none where E is set.
+// Kept: this match and that of `epilogues_in`, and no methods beside `Epilogues::count`. Both functions are public and stay, so that each would hand on to a
+// method with the same match; `words` would have one caller more, arm64_function's `record_size`, and `how_many` none.
 #[tactic(auto, unfolding(arm64::specs::Records::scopes_in, format::specs::Prelude::pick))]
 pub fn scopes_in(h: Header) -> u64
     ensures { result ≡ scopes_in h }
@@ -162,8 +164,59 @@ pub fn epilogues_in(h: Header) -> u64
     }
 }
 
+// A record whose epilogues have a word each, and how many they are.
+#[derive(Clone, Copy)]
+struct Scopes<'a> {
+    record: Record<'a>,
+    count: u64,
+    ghost by_words: { «record».header.epilogues ≡ Scoped count },
+}
+
+impl Scopes<'_> {
+    ghost use Rattle.arm64_records.specs.Record.{word_of};
+
+    // The word of epilogue k.
+    fn word(&self, k: usize) -> u64
+        requires { k < self.now.count }
+        ensures { result ≡ word_of self.now.«record» k }
+    {
+        word_at(
+            self.record.section,
+            self.record.header.past as usize + 4 * k,
+        )
+    }
+
+    // How many codes the epilogues have.
+    fn count_codes(&self) -> Option<usize>
+        ensures { (result ≡ option_of (total_of (scoped (word_of self.now.«record») self.now.«record».codes.now 0 self.now.count))) × IfSome result (λ m. m ≤ 66846720) }
+    {
+        let mut n = 0;
+        for k in 0..self.count as usize {
+            let w = self.word(k);
+            n += arm64_runs::count_run(
+                self.record.codes,
+                (w / header_bits::INDEX) as usize,
+            )?;
+        }
+        Some(n)
+    }
+
+    // The epilogues; n codes stand before theirs.
+    fn put(&self, n: usize, to: &mut Output)
+        requires { (scoped (word_of self.now.«record») self.now.«record».codes.now 0 self.now.count ≡ some (epilogues_in (scoped (word_of self.now.«record») self.now.«record».codes.now 0 self.now.count))) × (epilogue_stride * self.now.count ≤ length to.old.epilogues.now) × (code_stride * (n + length (epilogue_codes (epilogues_in (scoped (word_of self.now.«record») self.now.«record».codes.now 0 self.now.count)))) ≤ length to.old.codes.now) }
+        ensures { ListedIn to.old to.new n (epilogues_in (scoped (word_of self.now.«record») self.now.«record».codes.now 0 self.now.count)) }
+    {
+        let mut at = n;
+        for k in 0..self.count as usize {
+            let w = self.word(k);
+            let run = Run::at(self.record.codes, (w / header_bits::INDEX) as usize);
+            at = to.put_one(k, at, 4 * (w % header_bits::RESERVED), run);
+        }
+    }
+}
+
 impl<'a> Record<'a> {
-    ghost use Rattle.arm64_records.specs.Record.{epilogues_of, word_of};
+    ghost use Rattle.arm64_records.specs.Record.{epilogues_of};
 
     #[tactic(auto, unfolding(arm64::specs::Records::codes_to, arm64::specs::Records::codes_from))]
     pub fn of(section: &'a [u8], header: Header) -> Record<'a>
@@ -179,27 +232,6 @@ impl<'a> Record<'a> {
         }
     }
 
-    // The word of epilogue k, where a word stands for each.
-    fn word(&self, count: u64, k: usize) -> u64
-        requires { (self.now.header.epilogues ≡ Scoped count) × (k < count) }
-        ensures { result ≡ word_of self.now k }
-    {
-        word_at(self.section, self.header.past as usize + 4 * k)
-    }
-
-    // How many codes the epilogues have, where a word stands for each.
-    fn count_scoped(&self, count: u64) -> Option<usize>
-        requires { self.now.header.epilogues ≡ Scoped count }
-        ensures { (result ≡ option_of (total_of (scoped (word_of self.now) self.now.codes.now 0 count))) × IfSome result (λ m. m ≤ 66846720) }
-    {
-        let mut n = 0;
-        for k in 0..count as usize {
-            let w = self.word(count, k);
-            n += arm64_runs::count_run(self.codes, (w / header_bits::INDEX) as usize)?;
-        }
-        Some(n)
-    }
-
     // How many codes the epilogues have.
     #[tactic(auto, using(format::proofs::Asked::none_is, crate::proofs::Whole::one_none, crate::proofs::Whole::by_words))]
     pub fn count_epilogues(&self) -> Option<usize>
@@ -210,20 +242,10 @@ impl<'a> Record<'a> {
                 let m = arm64_runs::count_run(self.codes, index as usize)?;
                 ((m as u64) < self.header.length).then_some(m)
             }
-            Epilogues::Scoped(count) => self.count_scoped(count),
-        }
-    }
-
-    // The epilogues for each of which a word stands; n codes stand before theirs.
-    fn put_scoped(&self, count: u64, n: usize, to: &mut Output)
-        requires { (self.now.header.epilogues ≡ Scoped count) × (scoped (word_of self.now) self.now.codes.now 0 count ≡ some (epilogues_in (scoped (word_of self.now) self.now.codes.now 0 count))) × (epilogue_stride * count ≤ length to.old.epilogues.now) × (code_stride * (n + length (epilogue_codes (epilogues_in (scoped (word_of self.now) self.now.codes.now 0 count)))) ≤ length to.old.codes.now) }
-        ensures { ListedIn to.old to.new n (epilogues_in (scoped (word_of self.now) self.now.codes.now 0 count)) }
-    {
-        let mut at = n;
-        for k in 0..count as usize {
-            let w = self.word(count, k);
-            let run = Run::at(self.codes, (w / header_bits::INDEX) as usize);
-            at = to.put_one(k, at, 4 * (w % header_bits::RESERVED), run);
+            Epilogues::Scoped(count) => Scopes {
+                record: *self,
+                count,
+            }.count_codes(),
         }
     }
 
@@ -237,7 +259,10 @@ impl<'a> Record<'a> {
                 let start = 4 * (self.header.length - 1 - m as u64);
                 to.put_one(0, n, start, Run::at(self.codes, index as usize));
             }
-            Epilogues::Scoped(count) => self.put_scoped(count, n, to),
+            Epilogues::Scoped(count) => Scopes {
+                record: *self,
+                count,
+            }.put(n, to),
         }
     }
 }

@@ -29,15 +29,14 @@ returns-in-Single c =
     let o = one c.args.self.now.section.now c.args.self.now.header c.args.self.now.spelled c.in-Single.is c.requires.0 in
     (listed_one c.args.self.now.section.now c.args.self.now.header c.args.self.now.spelled c.in-Single.is o (rw c.at.ensures at c.put_one.ensures.0), c.put_one.ensures.1)
 
-pub put_scoped-requires : goal.put_scoped-requires
-put_scoped-requires c =
+pub put-requires : goal.put-requires
+put-requires c =
     let w = by_words c.args.self.now.section.now c.args.self.now.header c.args.self.now.spelled c.in-Scoped.is in
     let t = total_some (record_epilogues c.args.self.now.header c.args.self.now.section.now) c.requires.0 in (
-      c.in-Scoped.is,
       rw w at t.0,
       omega (arith, many_all c.args.self.now.header c.in-Scoped.is, c.requires.1),
       omega (arith, ap (λ (x : Option (List Epilogue)). length (epilogue_codes (epilogues_in x))) w, t.1, c.requires.2),
     )
 
 pub returns-in-Scoped : goal.returns-in-Scoped
-returns-in-Scoped c = (rw (by_words c.args.self.now.section.now c.args.self.now.header c.args.self.now.spelled c.in-Scoped.is) c.put_scoped.ensures.0, c.put_scoped.ensures.1)
+returns-in-Scoped c = (rw (by_words c.args.self.now.section.now c.args.self.now.header c.args.self.now.spelled c.in-Scoped.is) c.put.ensures.0, c.put.ensures.1)
