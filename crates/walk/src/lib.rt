@@ -32,10 +32,7 @@ impl Memory<'_> {
     pub fn load(&self, a: u64) -> Option<u64>
         ensures { result ≡ option_of (load (memory_of self.now) a) }
     {
-        let place = Position {
-            at: a.checked_sub(self.address)? as usize,
-            shortest: true,
-        };
+        let place = Position::from(a.checked_sub(self.address)? as usize);
         let (v, _) = read_le(self.bytes, place, 8)?;
         Some(v)
     }
@@ -143,10 +140,7 @@ pub fn read_trailer(file: &[u8]) -> Option<Trailer>
     if 65536 < n {
         return None;
     }
-    let trailer = Position {
-        at: n - 16,
-        shortest: true,
-    };
+    let trailer = Position::from(n - 16);
     let (distance, counted) = read_le(file, trailer, 8)?;
     let (count, sized) = read_le(file, counted, 4)?;
     let (size, _) = read_le(file, sized, 4)?;
@@ -162,7 +156,7 @@ pub fn read_trailer(file: &[u8]) -> Option<Trailer>
 fn word_at(s: &[u8], at: usize) -> u64
     ensures { result ≡ value_or0 (read_little 8 (drop at s.now)) }
 {
-    let place = Position { at, shortest: true };
+    let place = Position::from(at);
     let Some((v, _)) = read_le(s, place, 8) else {
         return 0;
     };
@@ -210,9 +204,7 @@ pub fn frame_address(rule: CfaRule, registers: &[Option<u64>]) -> Result<u64, Qu
     let CfaRule::Register(reg, o) = rule else {
         return Err(Question::Reached);
     };
-    let Some(a) = slot(registers, usize::from(reg)) else {
-        return Err(Question::Reached);
-    };
+    let a = slot(registers, usize::from(reg)).ok_or(Question::Reached)?;
     a.checked_add_signed(o).ok_or(Question::Stack)
 }
 
@@ -238,9 +230,7 @@ impl Memory<'_> {
             Rule::Undefined => Ok(None),
             Rule::InRegister(other) => Ok(slot(registers, usize::from(other))),
             Rule::Saved(o) => {
-                let Some(v) = self.saved(cfa, o) else {
-                    return Err(Question::Stack);
-                };
+                let v = self.saved(cfa, o).ok_or(Question::Stack)?;
                 Ok(Some(v))
             }
         }
@@ -276,9 +266,7 @@ pub fn returned(
 ) -> Result<Option<Caller>, Question>
     ensures { step_of result ≡ returned_to (slots registers) ret signing exact }
 {
-    let Some(a) = slot(&registers, ret as usize) else {
-        return Err(Question::Reached);
-    };
+    let a = slot(&registers, ret as usize).ok_or(Question::Reached)?;
     Ok(Some(Caller {
         registers,
         pc: unsigned(signing, a),
@@ -299,6 +287,7 @@ pub struct Frame {
 }
 
 // The frames stored, two numbers each.
+// Kept: a loop over their numbers. `enumerate` would hand out the frame, and the two places in `out` would still be counted from its number.
 pub fn store(frames: &[Frame], out: &mut [u64])
     requires { 2 * length frames.now ≤ length out.old }
     ensures { out.new ≡ put out.old 0 (frame_numbers frames.now) }

@@ -10,7 +10,7 @@ returns-in_err-checked_sub c = c.from_residual.ensures ∙ load_under (memory_of
 pub returns-in_err-v : goal.returns-in_err-v
 returns-in_err-v c =
     let h = c.in_ok-checked_sub.ensures in
-    c.from_residual-in_err-v.ensures ∙ load_none (memory_of c.args.self.now) _ h.0 (rw h.1 at (sym c.in_err-v.ensures))
+    c.from_residual-in_err-v.ensures ∙ load_none (memory_of c.args.self.now) _ h.0 (rw (c.from-place.ensures, h.1) at (sym c.in_err-v.ensures))
 
 pub returns : goal.returns
-returns c = let h = c.in_ok-checked_sub.ensures in load_is (memory_of c.args.self.now) _ h.0 (rw h.1 at (sym c.in_ok-v.ensures))
+returns c = let h = c.in_ok-checked_sub.ensures in load_is (memory_of c.args.self.now) _ h.0 (rw (c.from-place.ensures, h.1) at (sym c.in_ok-v.ensures))
