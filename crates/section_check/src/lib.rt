@@ -49,6 +49,7 @@ impl From<Result<(), Refusal>> for Checked {
 // ---- the header of a record
 
 // A section has a mark for each stretch of `step` bytes: the first entry that starts in it.
+// Kept: `mark` and `mark_before` beside the methods of Stretches, which call them: public, for any slice (D127).
 pub fn mark(marks: &mut [usize], step: usize, at: usize)
     requires { 0 < step }
     ensures { marks.new ≡ marked step at marks.old }
@@ -94,11 +95,7 @@ fn size_of(s: &[u8], fde: Span) -> Option<u64>
 {
     let body = fde.at + 4;
     let end = fde.end;
-    let length = Position {
-        at: 8,
-        shortest: true,
-    };
-    let (n, _) = read_le(&s[body..end], length, 4)?;
+    let (n, _) = read_le(&s[body..end], Position::from(8), 4)?;
     Some(n)
 }
 
@@ -146,7 +143,7 @@ impl<'a> Passed<'a> {
 
 // The records, one after the other: 84 with the first that does not pass.
 // Kept: over the entries, and not over `Records`. A header is marked too: where it is the first entry of its stretch, which in a section of many headers
-// most are, the search for it would start at 0 else.
+// most are, the search for it would start at 0 else. So k is counted by hand: the loop goes over all entries, and `enumerate` would count the headers.
 fn check_records(section: &Section) -> Result<(), Refusal>
     requires { (section.now.layout.debug ≡ false) × T (is_some (entries section.now.bytes.now)) }
     ensures { checked_of result ≡ check_from section.now.bytes.now section.now.layout.word 0 (records false (listed (entries section.now.bytes.now))) }
@@ -183,16 +180,10 @@ fn check(section: &[u8], word: u64) -> Result<(), Refusal>
     ensures { checked_of result ≡ check_section section.now word }
 {
     if !numbers::is_word(word) {
-        return Err(Refusal {
-            question: Question::Interface,
-            position: 0,
-        });
+        return Err(Refusal::from(Question::Interface));
     }
     if !reader::entries::tiles(section) {
-        return Err(Refusal {
-            question: Question::Tiling,
-            position: 0,
-        });
+        return Err(Refusal::from(Question::Tiling));
     }
     let none = [];
     let section = Section {
