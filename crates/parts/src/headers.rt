@@ -70,6 +70,8 @@ impl Placed<'_> {
     }
 
     // From the code alignment factor on.
+    // Kept: beside the reader's `header_factors` and `parse_header`, which read these fields too. One function would answer, for this one alone, the return
+    // register, what the string announces and the field at fault, and would carry the mark of spelling, which is not asked here.
     fn header_factors(&self, at: Position, p: Augmentation) -> Result<HeaderRead, Field>
         ensures { header_answer result ≡ header_numbers (self.now.base + length self.now.body.bytes.now) (header_from self.now.body.layout.debug (letters_of p) self.now.body.layout.word (drop at.at self.now.body.bytes.now)) }
     {
@@ -112,7 +114,7 @@ impl Placed<'_> {
         }
         let string = Position {
             at: from + 1,
-            shortest: version.shortest,
+            ..version
         };
         let Some((p, past)) = self.body.letters(string) else {
             return Err(Field::Letters);
@@ -121,7 +123,9 @@ impl Placed<'_> {
     }
 }
 
-// Kept: its parameters one by one, as C passes them.
+// Kept: its parameters one by one, as C passes them. The layout, the entry and its kind are asked here and in `unwind_read_record`: one function for both
+// would have a clause by cases over what `layout_of` and `next_entry` answer, and each caller would still take its answer apart and ask the kind.
+// Kept: `let .. else` on these answers, here and in records, is a form that document 01 names (docs/DECISIONS.md).
 // The header at a place: 0; 11, 61, 63 where it is a record, 64 and the field at fault.
 #[unsafe(no_mangle)]
 pub extern "C" fn unwind_read_header(section: &[u8], kind: u64, word: u64, place: u64) -> HeaderRead
