@@ -22,7 +22,7 @@ ghost use Rattle.struct_entries.specs.Entries.{needed, is_zero, ready_for, clear
 use format::{Counts, Question, Refusal, Row};
 use lists::FUNCTION_STRIDE;
 use rows::ROW_STRIDE;
-use unwind::{Format, Written, refused};
+use unwind::{Format, Written};
 
 // A row of a function: its offset, its kind (0 to 10, in document 01's order and then W-207's) and its operands; one that the kind does not have
 // is 0. The value of an InRegister is the other register, 0 to 65,535.
@@ -343,12 +343,12 @@ fn table_without_numbers(x: &Given) -> Result<Option<Counts>, Refusal>
         return Ok(None);
     }
     match Format::try_from(x.format) {
-        Ok(Format::Elf) => Err(refused(elf_asks(x.machine))),
-        Ok(Format::Coff) => Err(refused(coff_asks(x.machine))),
-        Ok(Format::MachO) => Err(refused(Question::MachO)),
+        Ok(Format::Elf) => Err(elf_asks(x.machine).into()),
+        Ok(Format::Coff) => Err(coff_asks(x.machine).into()),
+        Ok(Format::MachO) => Err(Question::MachO.into()),
         Ok(Format::Wasm) => Ok(None),
         Ok(Format::Plan9) => Ok(None),
-        Err(question) => Err(refused(question)),
+        Err(question) => Err(question.into()),
     }
 }
 
@@ -362,7 +362,7 @@ fn debug_frame_without_numbers(x: &Given) -> Result<Option<Counts>, Refusal>
     if x.format != elf {
         return Ok(None);
     }
-    Err(refused(elf_asks(x.machine)))
+    Err(elf_asks(x.machine).into())
 }
 
 // ---- lists of structs

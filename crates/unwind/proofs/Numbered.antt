@@ -1,7 +1,6 @@
 -- A number and the format that it names.
 use mathlib.Core.Path.{◌≡◌}
 use Prim.Native.Nat.{ℕ, ◌<◌}
-use mathlib.Core.Logic.{◌≢◌}
 use Rattle.std.specs.Prelude.{Result, Ok, Err}
 use Rattle.std.proofs.lemmas.Result.{MatchResult-at_ok, MatchResult-at_err}
 use Rattle.format.specs.declared.question.Question.{Question}

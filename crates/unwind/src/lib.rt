@@ -13,7 +13,7 @@ ghost use Rattle.unwind.specs.Entries.{read_numbers, written_numbers, Exports};
 
 use format::{CfaRule, Counts, Question, Refusal, Rule, Rules, Section};
 use lists::output::WrittenAnd;
-pub use object::{Format, refused};
+pub use object::Format;
 
 pub mod object;
 
@@ -65,10 +65,10 @@ pub fn relaxed_table(
             relocations,
             sites,
         ),
-        Ok(Format::MachO) => Err(refused(Question::MachO)),
+        Ok(Format::MachO) => Err(Question::MachO.into()),
         Ok(Format::Wasm) => Ok(None),
         Ok(Format::Plan9) => Ok(None),
-        Err(question) => Err(refused(question)),
+        Err(question) => Err(question.into()),
     }
 }
 
@@ -206,6 +206,8 @@ pub fn read(
 // ---- a writer and then the reader
 
 // How many bytes, and how many numbers of relocations, were written.
+// Kept: two functions, each with its own match. Over a shared `written(o) -> Option<Counts>` each would be `written(o).map_or(0, |c| ..)`, and
+// `written` would need a definition, and a law to each of `bytes_in` and `relocs_in`.
 #[tactic(auto, unfolding(crate::specs::Together::bytes_in))]
 pub fn bytes_in(o: Result<Option<Counts>, Refusal>) -> usize
     ensures { result ≡ bytes_in (numbered_at o) }
@@ -387,7 +389,7 @@ impl From<CfaRule> for Address {
             CfaRule::Register(reg, z) => Address {
                 kind: 1,
                 register: u64::from(reg),
-                offset: numbers::bits(z),
+                offset: z.cast_unsigned(),
             },
         }
     }
@@ -402,7 +404,7 @@ impl From<Rule> for Saving {
             Rule::Undefined => Saving { kind: 1, value: 0 },
             Rule::Saved(z) => Saving {
                 kind: 2,
-                value: numbers::bits(z),
+                value: z.cast_unsigned(),
             },
             Rule::SameValue => Saving { kind: 3, value: 0 },
             Rule::InRegister(reg) => Saving {

@@ -2,7 +2,7 @@
 ghost use Rattle.std.specs.Prelude.{◌≡◌};
 ghost use Rattle.unwind.specs.Formats.{Named, format_number};
 
-use format::{Question, Refusal};
+use format::Question;
 
 #[derive(Clone, Copy, PartialEq, Eq)]
 pub enum Format {
@@ -36,14 +36,5 @@ impl From<Format> for u64 {
 
     fn from(format: Format) -> u64 {
         format as u64
-    }
-}
-
-pub fn refused(question: Question) -> Refusal
-    ensures { result ≡ record { question = question; position = 0 } }
-{
-    Refusal {
-        question,
-        position: 0,
     }
 }

@@ -10,4 +10,4 @@ pub returns-then-x-elf : goal.returns-then-x-elf
 returns-then-x-elf c = debug_frame_other _ _ _ c.if-x-eq0.false (rw c.from-elf.ensures at c.if-x-elf.true)
 
 pub returns : goal.returns
-returns c = rw (c.refused.ensures, c.elf_asks.ensures) (debug_frame_elf _ _ _ c.if-x-eq0.false (c.if-x-elf.false ∙ c.from-elf.ensures))
+returns c = rw (c.into.ensures, c.elf_asks.ensures) (debug_frame_elf _ _ _ c.if-x-eq0.false (c.if-x-elf.false ∙ c.from-elf.ensures))

@@ -11,15 +11,15 @@ returns-then-x-eq0 c = table_no_functions _ _ _ c.if-x-eq0.true
 
 pub returns-in-Ok-Elf : goal.returns-in-Ok-Elf
 returns-in-Ok-Elf c =
-    rw (c.refused.ensures, c.elf_asks.ensures) (table_elf _ _ _ c.if-x-eq0.false (named c.try_from.ensures (c.in-Ok-Elf.is ∙ ap Ok c.in-Ok-Elf.field-0-is)))
+    rw (c.into.ensures, c.elf_asks.ensures) (table_elf _ _ _ c.if-x-eq0.false (named c.try_from.ensures (c.in-Ok-Elf.is ∙ ap Ok c.in-Ok-Elf.field-0-is)))
 
 pub returns-in-Ok-Coff : goal.returns-in-Ok-Coff
 returns-in-Ok-Coff c =
-    rw (c.refused-in-Ok-Coff.ensures, c.coff_asks.ensures) (table_coff _ _ _ c.if-x-eq0.false (named c.try_from.ensures (c.in-Ok-Coff.is ∙ ap Ok c.in-Ok-Coff.field-0-is)))
+    rw (c.into-in-Ok-Coff.ensures, c.coff_asks.ensures) (table_coff _ _ _ c.if-x-eq0.false (named c.try_from.ensures (c.in-Ok-Coff.is ∙ ap Ok c.in-Ok-Coff.field-0-is)))
 
 pub returns-in-Ok-MachO : goal.returns-in-Ok-MachO
 returns-in-Ok-MachO c =
-    rw c.refused-in-Ok-MachO.ensures (table_no_mach_o _ _ _ c.if-x-eq0.false (named c.try_from.ensures (c.in-Ok-MachO.is ∙ ap Ok c.in-Ok-MachO.field-0-is)))
+    rw c.into-in-Ok-MachO.ensures (table_no_mach_o _ _ _ c.if-x-eq0.false (named c.try_from.ensures (c.in-Ok-MachO.is ∙ ap Ok c.in-Ok-MachO.field-0-is)))
 
 pub returns-in-Ok-Wasm : goal.returns-in-Ok-Wasm
 returns-in-Ok-Wasm c =
@@ -34,4 +34,4 @@ returns-in-Ok-Plan9 c =
 pub returns-in-Err : goal.returns-in-Err
 returns-in-Err c =
     let u = unnamed c.try_from.ensures c.in-Err.is in
-    rw (c.refused-in-Err.ensures, u.0) (table_no_format _ _ _ c.if-x-eq0.false u.1)
+    rw (c.into-in-Err.ensures, u.0) (table_no_format _ _ _ c.if-x-eq0.false u.1)

@@ -1,5 +1,5 @@
 -- `unwind::relaxed_debug_frame` meets its contract.
-use mathlib.Core.Path.{sym, ◌∙◌}
+use mathlib.Core.Path.{◌∙◌}
 use Rattle.unwind.proofs.Formats.{none_given_debug, other_debug, writes_empty}
 use Rattle.unwind.proofs.Delivering.{debug_writes}
 use Rattle.unwind.proofs.relaxed_debug_frame.Goals as goal

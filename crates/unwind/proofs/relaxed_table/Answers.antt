@@ -17,7 +17,7 @@ returns-in-Ok-Coff c = same_answer (coff_given _ _ _ c.if-listed-eq0.false (name
 
 pub returns-in-Ok-MachO : goal.returns-in-Ok-MachO
 returns-in-Ok-MachO c =
-    rw c.refused.ensures (writes_refused _ 78 0 (mach_o_given _ _ _ c.if-listed-eq0.false (named c.try_from.ensures (c.in-Ok-MachO.is ∙ ap Ok c.in-Ok-MachO.field-0-is))))
+    rw c.into.ensures (writes_refused _ 78 0 (mach_o_given _ _ _ c.if-listed-eq0.false (named c.try_from.ensures (c.in-Ok-MachO.is ∙ ap Ok c.in-Ok-MachO.field-0-is))))
 
 pub returns-in-Ok-Wasm : goal.returns-in-Ok-Wasm
 returns-in-Ok-Wasm c =
@@ -32,4 +32,4 @@ returns-in-Ok-Plan9 c =
 pub returns-in-Err : goal.returns-in-Err
 returns-in-Err c =
     let u = unnamed c.try_from.ensures c.in-Err.is in
-    rw (c.refused-in-Err.ensures, u.0) (writes_refused _ 11 0 (no_format _ _ _ c.if-listed-eq0.false u.1))
+    rw (c.into-in-Err.ensures, u.0) (writes_refused _ 11 0 (no_format _ _ _ c.if-listed-eq0.false u.1))
