@@ -13,15 +13,16 @@ ghost use Rattle.format.specs.Records.{record_relocs, set_kind, set_bytes, set_p
 ghost use Rattle.rows.specs.Forms.{operand_bytes};
 ghost use Rattle.lists.specs.Extents.{meant, meant_landing};
 ghost use Rattle.header_keys.specs.Functions.{LandingsReady, LabelsReady};
+ghost use Rattle.headers.specs.Kinds.{personality_in};
 ghost use Rattle.records.specs.Stepped.{stepped_row_bytes, SteppedRowReady, SurveyedRow, Surveyed};
-ghost use Rattle.records.specs.Fields.{size_in, blank_in, fields_in, sum_in, lsda_in, debug_relocs, eh_relocs, field_relocs};
+ghost use Rattle.records.specs.Fields.{size_in, lsda_named, blank_in, fields_in, sum_in, lsda_in, debug_relocs, eh_relocs, field_relocs};
 ghost use Rattle.records.specs.Labels.{found_pair, steps_in};
 ghost use Rattle.records.specs.Written.{RunReady, Leading, Others, run_bytes, steps_of, pairs_of, rows_of, fields_of, record_of, function_meant, record_relocs_of};
 
 use header_keys::written::{Function, Run};
 use header_keys::{Kind, kind_of};
 use landing_list::Landings;
-use lists::{Extent, Landing, Pair};
+use lists::{Extent, Landing, Lsda, Pair};
 use numbers::encodings;
 use pair_list::Pairs;
 use rows::row_numbers::RowNumbers;
@@ -34,6 +35,8 @@ pub mod places;
 pub use places::Places;
 
 // ---- call sites
+
+// Kept: sizes beside bytes, here and below, for the reason at the head of headers.
 
 // One entry: a call's start and length, its pad, and the action 0, a cleanup.
 fn site(out: &mut [u8], at: usize, l: Landing) -> usize
@@ -78,6 +81,10 @@ pub fn call_sites_size(at: usize, e: &Extent, landings: &[u64]) -> usize
 }
 
 // ---- rows and the steps between them
+
+// Kept: here and below a loop over rows carries the offset `from` by hand. An iterator would hand out (from, i), since a row is read by its
+// place in the list: a struct, its `next` and its laws for one line in each loop. `surveyed_rows` could not use it, whose rows are not yet
+// known to be rows as `Run` asks.
 
 // Row i and its step, from the offset `from` on.
 fn stepped_row(out: &mut [u8], at: usize, run: &Run, from: u64, i: usize) -> usize
@@ -169,18 +176,22 @@ fn size_field(f: &Function) -> u64
     f.extent.length
 }
 
+// The LSDA that a function's header names.
+#[tactic(auto, unfolding(crate::specs::Fields::lsda_named))]
+fn lsda(e: &Extent) -> Option<Lsda>
+    ensures { result ≡ lsda_named (personality_in e.now) }
+{
+    headers::personality(e)?.lsda
+}
+
 // The blank bytes of the pointer to the call sites.
-#[tactic(auto, unfolding(crate::specs::Fields::blank_in, crate::specs::Fields::pointed, crate::specs::Fields::lsda_by))]
+#[tactic(auto, unfolding(crate::specs::Fields::blank_in, crate::specs::Fields::lsda_by))]
 fn lsda_blank(f: &Function) -> usize
     ensures { (result ≡ blank_in f.now.machine.now.word f.now.extent) × (result ≤ 8) }
 {
-    match kind_of(&f.extent) {
-        Kind::Plain => 0,
-        Kind::Personal => 4,
-        Kind::Named(p) => match p.lsda {
-            Some(l) => numbers::pointer_bytes(f.machine.word, l.encoding) as usize,
-            None => 0,
-        },
+    match lsda(&f.extent) {
+        Some(l) => numbers::pointer_bytes(f.machine.word, l.encoding) as usize,
+        None => 0,
     }
 }
 
@@ -416,6 +427,7 @@ fn sum_count(f: &Function) -> usize
 }
 
 // The pointer to the call sites: to the function's table, or to what a named personality has.
+// Kept: by the kind, and not by `lsda`: with landings the addend is the place of the function's table, with a named personality it is 0.
 fn lsda_reloc(out: &mut [u64], i: usize, f: &Function, place: u64, table: u64) -> usize
     requires { i + length (numbers_of (lsda_in f.now.machine.now.word place table f.now.extent)) ≤ length out.old }
     ensures { Wrote out.old out.new i result (numbers_of (lsda_in f.now.machine.now.word place table f.now.extent)) }
@@ -432,15 +444,11 @@ fn lsda_reloc(out: &mut [u64], i: usize, f: &Function, place: u64, table: u64) -
     }
 }
 
-#[tactic(auto, unfolding(crate::specs::Fields::lsda_in, crate::specs::Fields::pointed, crate::specs::Fields::lsda_by))]
+#[tactic(auto, unfolding(crate::specs::Fields::lsda_in))]
 fn lsda_count(f: &Function) -> usize
     ensures { (result ≡ length (lsda_in 0 0 0 f.now.extent)) × (result ≤ 1) }
 {
-    match kind_of(&f.extent) {
-        Kind::Plain => 0,
-        Kind::Personal => 1,
-        Kind::Named(p) => usize::from(p.lsda.is_some()),
-    }
+    usize::from(lsda(&f.extent).is_some())
 }
 
 // In debug_frame the header's place in the section, the function and its length.

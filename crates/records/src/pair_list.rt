@@ -23,6 +23,8 @@ fn rises(pairs: &[u64]) -> bool
 }
 
 // A part of a list: its pairs, whether their first places are known to rise, and where the next step's pair is to be looked for.
+// Kept: a place by hand, and no `binary_search`: pairs need not rise, and then the first one that is for the step counts. Where they rise, the
+// pair of the next step is the next one or none.
 #[derive(Drop)]
 pub struct Pairs<'a> {
     part: &'a [u64],
