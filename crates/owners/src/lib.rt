@@ -40,7 +40,7 @@ enum KindKey {
     },
 }
 
-// Kept: no `From`: the record has ten numbers, of which this looks at two.
+// Kept: no `From`, which would be an impl with a ghost `from_gives` around these lines, for the calls in one function.
 #[tactic(auto, unfolding(header_keys::specs::Kinds::kind_meant, header_keys::specs::Kinds::lsda_of, crate::specs::Owners::key_meant, crate::specs::Owners::encoding_meant))]
 fn kind_key(e: &Extent) -> KindKey
     ensures { key_meant result ≡ kind_in e.now }
@@ -130,8 +130,9 @@ fn digest(x: &Input, e: Extent) -> u64
 }
 
 // The slot of function k's key among `size`.
-// Kept: that the first k + 1 functions can be read is asked here and in what follows, and no struct holds it. The pass that asks the
-// questions and finds the owners at once knows it at function k of no more than these, so that a struct would be made for each k.
+// Kept: that the first k + 1 functions can be read is asked here and in what follows, and no struct holds it. Public `find_owner` takes x and
+// k, so that it would make the struct for each k; and the contracts of `choose`, `surely_shares`, `inherited` and `seek`, which ask this
+// once, name x and k twice more, which would be the longer names of the struct's parts.
 fn slot(x: &Input, k: usize, size: usize) -> usize
     requires { ListedTo (inputs_of x.now) (k + 1) × (0 < size) }
     ensures { (result ≡ slot_at (inputs_of x.now) size k) × (result < size) }
@@ -154,8 +155,8 @@ fn behind(links: &[u16], j: usize) -> Option<usize>
 }
 
 // The first earlier function whose header function k can use, sought in the chain of its slot, which starts at `first`.
-// Kept: loops with labels, left when it is decided, as document 01 wants this search. As a `find` over the chain it would need an
-// iterator for the chain, and the rows a search of their own with five parameters.
+// Kept: loops with labels over functions and over leading rows, left by their label when it is decided, are a form that document 01 names
+// (docs/DECISIONS.md). As `find` over the chain and `all` over the rows neither loop would have its label.
 fn choose(x: &Input, k: usize, first: usize, chains: &Chains) -> Option<usize>
     requires { ListedTo (inputs_of x.now) (k + 1) × Chained (inputs_of x.now) (length chains.now.heads.now) k first chains.now.links.now }
     ensures { EarlierOwner (inputs_of x.now) k result }
