@@ -42,7 +42,7 @@ pub enum Kind {
 }
 
 // The kind of header that a function asks for. Landings beat a named personality.
-// Kept: a name of its own and no `From`: of the record's ten numbers it looks at two, and a record has other answers of such a kind.
+// Kept: no `From`. This is public and stays, so that `Kind::from` would be a second name for it: an impl and a ghost `from_gives` around a call.
 #[tactic(auto, unfolding(crate::specs::Kinds::asked_kind, crate::specs::Kinds::by_personality, format::specs::Prelude::pick))]
 pub fn kind_of(e: &Extent) -> Kind
     ensures { result ≡ asked_kind e.now }
@@ -106,6 +106,10 @@ fn implied_at(m: &Machine, i: usize) -> Row
     }
     Row::Offset(m.ret as u16, 0 - pushed)
 }
+
+// Kept: the leading rows by their count and place, and no iterator. It would be a struct of the machine, the record, the list and a place, with
+// its `next` and laws of what it yields, for a line in each of four loops: `starts` and `starts_size` of headers, `digest` of owners, and
+// `choose` there, which sets row i of one function beside row i of another and would need two of them.
 
 // How many leading rows a function has.
 pub fn leading_count(m: &Machine, e: &Extent, rows: &[u64]) -> usize
