@@ -11,17 +11,17 @@ ghost use Rattle.apply.specs.Kinds.{kind_of, bits_of, bytes_of, size_ok};
 ghost use Rattle.apply.specs.Fields.{up_to, signed32, number_at};
 ghost use Rattle.apply.specs.Values.{symbols_of, address_of, sum_of, apart, value_as, distance_of, store_of};
 ghost use Rattle.apply.specs.Apply.{partners, paired, value_ok, near_as, sound, near, everywhere, stores, apply, Applies};
-ghost use Rattle.apply.specs.Standing.{meant, placed, beside, before_at, behind_at, FieldSize, SumRange, true_value, fitted, patched, answer_of};
+ghost use Rattle.apply.specs.Standing.{meant, placed, beside, before_at, behind_at, SumRange, true_value, fitted, patched, answer_of};
 
 use format::Question;
 
 // The width of a field that Set and Sub patch, in bits.
 #[derive(Clone, Copy)]
 pub enum Width {
-    W6,
-    W8,
-    W16,
-    W32,
+    W6 = 6,
+    W8 = 8,
+    W16 = 16,
+    W32 = 32,
 }
 
 // What a relocation is by its number.
@@ -85,12 +85,7 @@ impl Width {
     fn bits(self) -> u64
         ensures { result ≡ bits_of self }
     {
-        match self {
-            Width::W6 => 6,
-            Width::W8 => 8,
-            Width::W16 => 16,
-            Width::W32 => 32,
-        }
+        self as u64
     }
 
     // 2 to the bits.
@@ -365,15 +360,17 @@ impl Placement<'_> {
 
 // ---- stores
 
-// The number in a field's bytes, which are 1, 2 or 4.
-fn number_at(copy: &[u8], p: usize, n: u64) -> u64
-    requires { (p + n ≤ length copy.now) × FieldSize n }
-    ensures { (result ≡ number_at copy.now p n) × (result < 4294967296) }
+// The number in the bytes of a field of that width.
+fn number_at(copy: &[u8], p: usize, w: Width) -> u64
+    requires { p + bytes_of w ≤ length copy.now }
+    ensures { (result ≡ number_at copy.now p (bytes_of w)) × (result < 4294967296) }
 {
-    match n {
-        1 => u64::from(copy[p]),
-        2 => u64::from(u16::from_le_bytes([copy[p], copy[p + 1]])),
-        _ => u64::from(u32::from_le_bytes([copy[p], copy[p + 1], copy[p + 2], copy[p + 3]])),
+    match w {
+        Width::W6 | Width::W8 => u64::from(copy[p]),
+        Width::W16 => u64::from(u16::from_le_bytes([copy[p], copy[p + 1]])),
+        Width::W32 => {
+            u64::from(u32::from_le_bytes([copy[p], copy[p + 1], copy[p + 2], copy[p + 3]]))
+        }
     }
 }
 
@@ -389,7 +386,7 @@ impl Placement<'_> {
         };
         let m = w.modulus();
         let place = r.place as usize;
-        let old = number_at(copy, place, w.bytes());
+        let old = number_at(copy, place, w);
         let v = made(old % m, s.wrapping_add(r.addend)) % m;
         leb::le(copy, place, w.bytes() as usize, old / m * m + v);
     }

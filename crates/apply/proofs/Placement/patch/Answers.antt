@@ -17,4 +17,4 @@ returns g c = λ of says.
     let a = c.args in
     c.le.ensures.stored
     ∙ patched_some a.w of a.copy.now a.r.place (symbols_of a.self.now.addresses.now) (meant a.r) (value_is _ (sym c.address_of.ensures ∙ c.in-Some.is))
-    c.bytes-2.ensures c.modulus-m.ensures.0 (rw c.bytes.ensures at c.number_at-old.ensures.0) (rw (sum_low c.in-Some.s a.r.addend (search rules)) at (says _ _ _ c.made.ensures))
+    c.bytes.ensures c.modulus-m.ensures.0 c.number_at-old.ensures.0 (rw (sum_low c.in-Some.s a.r.addend (search rules)) at (says _ _ _ c.made.ensures))
