@@ -36,8 +36,8 @@ fn entry_at(s: &[u8], at: Position) -> Option<(Entry, Position)>
 }
 
 impl Entry {
-    // Kept: beside walk's `holds`, which is the same test. They meet two definitions, over two structs; the crates below both read numbers out of
-    // bytes and know of no ranges, and one function there needs a third definition and two laws.
+    // Kept: the same line stands in walk (`holds`) and in reads (`record_holds`), which meet a definition each, over numbers, a struct and an Option of two
+    // numbers. One function would need a definition of its own, in a crate below all three, and a law to each of the three.
     fn covers(self, offset: u64) -> bool
         ensures { result ≡ covers offset (landing_of self) }
     {
@@ -73,10 +73,7 @@ fn table_at(sites: &[u8], place: u64) -> Option<Table>
     if !head_ok(sites[p], sites[p + 1], sites[p + 2]) {
         return None;
     }
-    let head = Position {
-        at: p + 3,
-        shortest: true,
-    };
+    let head = Position::from(p + 3);
     let (n, counted) = read_uleb(sites, head)?;
     let at = counted.at;
     if size - at < n as usize {
@@ -126,6 +123,7 @@ impl Table<'_> {
 fn look_up(sites: &[u8], place: u64, offset: u64) -> Result<Found, Question>
     ensures { numbered result ≡ with_mark (read_of (site_at sites.now place offset)) (sites_short sites.now place) }
 {
+    // Kept: `let .. else` on this answer and on `entry_at`'s is a form that document 01 names (docs/DECISIONS.md).
     let Some(table) = table_at(sites, place) else {
         return Err(Question::CallSiteTable);
     };
