@@ -58,17 +58,17 @@ fn mark_row(m: Marks, row: Row) -> Marks
     ensures { Marked m.named result.named (λ q. names q row) }
 {
     match row {
-        Row::DefCfa(_, _) => m,
-        Row::DefCfaOffset(_) => m,
-        Row::DefCfaRegister(_) => m,
-        Row::Offset(reg, _) => mark(m, reg),
-        Row::Restore(reg) => mark(m, reg),
-        Row::Undefined(reg) => mark(m, reg),
-        Row::RememberState => m,
-        Row::RestoreState => m,
-        Row::NegateRaState => m,
-        Row::SameValue(reg) => mark(m, reg),
-        Row::InRegister(reg, _) => mark(m, reg),
+        Row::Offset(reg, _)
+        | Row::Restore(reg)
+        | Row::Undefined(reg)
+        | Row::SameValue(reg)
+        | Row::InRegister(reg, _) => mark(m, reg),
+        Row::DefCfa(_, _)
+        | Row::DefCfaOffset(_)
+        | Row::DefCfaRegister(_)
+        | Row::RememberState
+        | Row::RestoreState
+        | Row::NegateRaState => m,
     }
 }
 
@@ -170,6 +170,7 @@ impl Leaving<'_, '_> {
 }
 
 // The section that the rules come from, its relocations and its kind.
+// Kept: `kind` is a number: C hands it in and `reader::locate` takes any.
 #[derive(Clone, Copy)]
 pub struct Section<'a> {
     pub bytes: &'a [u8],
@@ -249,6 +250,7 @@ impl Fault<'_, '_, '_> {
 // ---- the entry
 
 // 11 and 12 for the machine, and then the frames.
+// Kept: its parameters one by one: all but the start are `Fault`'s, which knows `ret` and is made once question 11 has passed.
 fn chain_of(
     machine: &[u64],
     section: Section,
