@@ -31,7 +31,7 @@ ghost use Rattle.dwarf.specs.Lent.{HasRoom, ReadyFor, AddsTo, FillsTo};
 ghost use Rattle.records.specs.Written as record_parts;
 ghost use Rattle.dwarf.specs.Functions.{WrittenAs, front_end, part_for, CanSize, FrontFits, FrontWritten, PieceFits, PieceWritten};
 
-use format::{Counts, Machine, Question, Refusal, Section};
+use format::{Counts, Question, Refusal, Section};
 use header_keys::written::{Function, Run};
 use header_keys::{Input, Kind, kind_of};
 use headers::{header, header_relocs, header_relocs_count, header_size, padding};
