@@ -323,6 +323,7 @@ fn elf_asks(machine: &[u64]) -> Question
 }
 
 // 12 of COFF's word stands between them.
+// Kept: two tests. By `lists::read_machine` it is a match of three arms, one of them with a guard on the word, and the tests stay in the clause.
 fn coff_asks(machine: &[u64]) -> Question
     ensures { result ≡ pick (machine_ok machine.now) (pick (eqb (machine_of machine.now).word 8) question.OtherRoom question.X64Word) question.Interface }
 {
