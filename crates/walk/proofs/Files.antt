@@ -1,12 +1,13 @@
 -- The registers as the code holds them, and those of a record file.
-use mathlib.Core.Path.{subst, ◌≡◌, refl, sym, ap, ap₂, ◌∙◌}
+use mathlib.Core.Path.{◌≡◌, refl, sym, ap, ap₂, ◌∙◌}
 use mathlib.Core.Bool.{Bool, true, false}
 use mathlib.Core.Option.{none, some}
-use mathlib.Core.List.{List, [], ◌∷◌}
-use Prim.Native.Nat.{ℕ, zero, suc, ◌+◌, ◌*◌, ◌<◌, ◌≤◌}
+use mathlib.Core.List.{List, [], ◌∷◌, ◌++◌, append_assoc, append-nil}
+use Prim.Native.Nat.{ℕ, zero, suc, ◌+◌, ◌-◌, ◌*◌, ◌<◌, ◌≤◌}
 use native.Mathlib.Omega.{arith}
-use lib.ListN.{length, get_or, set, drop, get_or-eq_default}
-use lib.Seq.{drop-drop, set_out}
+use native.Mathlib.Numerals.{add-one}
+use lib.ListN.{length, get_or, set, take, drop, get_or-eq_default}
+use lib.Seq.{take-suc-set, take_all, drop-drop, set_out}
 use lib.Dec.{ltb}
 use Rattle.std.specs.Prelude.{None, Some}
 use Rattle.std.specs.Borrow.{Bor}
@@ -14,9 +15,6 @@ use Rattle.std.specs.Slice.{IsItemAt}
 use Rattle.std.specs.Option.{option_flatten, option_copied}
 use Rattle.std.specs.Prelude as code
 use Rattle.std.specs.Bool.{then_some}
-use Rattle.std.specs.Array.{IsFromFnResultFrom}
-use denote.Param.Members.{Mut, Called}
-use Rattle.format.proofs.Choice.{either}
 use Rattle.format.specs.Prelude.{pick, each}
 use Rattle.format.specs.Leb.{read_little}
 use Rattle.format.specs.Reader.{value_or0}
@@ -51,35 +49,51 @@ slots_set (x ∷ rs) (suc j) r = ap (λ (l : List Slot). slot_of x ∷ l) (slots
 pub slots_out : (rs : List (code.Option ℕ)) (j : ℕ) (s : Slot) → length rs ≤ j → slots rs ≡ set (slots rs) j s
 slots_out rs j s h = sym (set_out (slots rs) j s (omega (arith, slots_length rs)))
 
--- ---- the registers of a record file
+-- ---- the registers of a record file, one in a turn
 
--- what an array is made of, where each call leaves the closure as it was
-pub made_each : {F B : Type 0} (g : Mut F (ℕ × Unit {0}) B) (P : ℕ → B → Type 0) (f : F)
-    → ((i : ℕ) (y : B) (q : F) → Called g f (i, tt) y q → (q ≡ f) × P i y) → (ys : List B) (i n : ℕ) → IsFromFnResultFrom g f ys i n
-    → (j : ℕ) (d : B) → i ≤ j → j < i + n → P j (get_or ys j d)
-made_each g P f learn ys i zero m j d l h = absurd (omega arith)
-made_each g P f learn ys i (suc n) m j d l h =
-    let a = learn i m.1 m.0 m.3 in
-    either j i (λ low. let e : i ≡ j = omega arith in subst (λ k. P k (get_or ys k d)) e (subst (P i) (sym (m.2.1 d)) a.1))
-    (λ high. made_each g P f learn ys (i + 1) n (subst (λ q. IsFromFnResultFrom g q ys (i + 1) n) a.0 m.4) j d (omega arith) (omega arith))
+pub record Filling (s : List ℕ) (p count : ℕ) (rs : List (code.Option ℕ)) (i : ℕ) : Type 0 where
+  pub inside : i ≤ 128
+  pub full : length rs ≡ 128
+  pub rest : take i (slots rs) ++ each (slot_at count (drop p s)) i (128 - i) ≡ slots_of count (drop p s)
 
--- slots that are each what f gives of their place
-slots_each : (f : ℕ → Slot) (rs : List (code.Option ℕ)) (k : ℕ) → ((i : ℕ) → i < length rs → slot_of (get_or rs i None) ≡ f (k + i)) → slots rs ≡ each f k (length rs)
-unfolding slots each
-slots_each f [] k h = refl
-slots_each f (r ∷ rs) k h =
-    let e : k + 0 ≡ k = omega arith in
-    ap₂ (λ (x : Slot) (xs : List Slot). x ∷ xs) (h 0 (omega arith) ∙ ap f e)
-    (slots_each f rs (suc k) (λ i l. let g : k + suc i ≡ suc k + i = omega arith in h (suc i) (omega arith) ∙ ap f g))
+pub fill_start : (s : List ℕ) (p count : ℕ) (rs : List (code.Option ℕ)) → length rs ≡ 128 → Filling s p count rs 0
+unfolding slots_of
+fill_start s p count rs l = record { inside = omega arith; full = l; rest = refl }
 
 then_slot : (b : Bool) (v : ℕ) → slot_of (then_some b v) ≡ pick b (some v) none
 unfolding pick
 then_slot true v = refl
 then_slot false v = refl
 
-pub registers_are : (s : List ℕ) (p count : ℕ) (rs : List (code.Option ℕ)) → length rs ≡ 128
-    → ((i : ℕ) → i < 128 → get_or rs i None ≡ then_some (ltb i count) (value_or0 (read_little 8 (drop (p + 8 * i) s)))) → slots rs ≡ slots_of count (drop p s)
-unfolding slots_of slot_at
-registers_are s p count rs l h =
-    slots_each (slot_at count (drop p s)) rs 0 (λ i below. ap slot_of (h i (omega (arith, l))) ∙ then_slot (ltb i count) _ ∙ (let e : 0 + i ≡ i = omega arith in rw (e, drop-drop)))
-    ∙ ap (each (slot_at count (drop p s)) 0) l
+module _ {s : List ℕ} {p count : ℕ} {rs : List (code.Option ℕ)} {i : ℕ} (k : Filling s p count rs i) where
+  long : length (slots rs) ≡ 128
+  long = slots_length rs ∙ k.full
+
+  word_slot : {v : ℕ} {r : code.Option ℕ} → v ≡ value_or0 (read_little 8 (drop (p + 8 * i) s)) → r ≡ then_some (ltb i count) v → slot_of r ≡ slot_at count (drop p s) i
+  unfolding slot_at
+  word_slot {v} e f = rw f (then_slot (ltb i count) v ∙ rw (e, drop-drop))
+
+  pub fill_turn : {v : ℕ} {r : code.Option ℕ} → i < 128 → v ≡ value_or0 (read_little 8 (drop (p + 8 * i) s)) → r ≡ then_some (ltb i count) v → length (set rs i r) ≡ 128
+      → Filling s p count (set rs i r) (i + 1)
+  unfolding each
+  fill_turn {v} {r} h e f l =
+      let d : 128 - i ≡ suc (128 - (i + 1)) = omega arith in
+      let more = each (slot_at count (drop p s)) (suc i) (128 - (i + 1)) in
+      record {
+        inside = omega arith;
+        full = l;
+        rest =
+            ap₂ (λ (xs : List Slot) (n : ℕ). xs ++ each (slot_at count (drop p s)) n (128 - (i + 1)))
+            (ap₂ (λ (n : ℕ) (xs : List Slot). take n xs) (add-one i) (slots_set rs i r) ∙ take-suc-set (slots rs) i (slot_of r) (omega (arith, long))) (add-one i)
+            ∙ append_assoc (take i (slots rs)) (slot_of r ∷ []) more
+            ∙ ap (λ (x : Slot). take i (slots rs) ++ (x ∷ more)) (word_slot e f)
+            ∙ ap (λ (n : ℕ). take i (slots rs) ++ each (slot_at count (drop p s)) i n) (sym d)
+            ∙ k.rest;
+      }
+
+  pub fill_ended : 128 ≤ i → slots rs ≡ slots_of count (drop p s)
+  unfolding each
+  fill_ended h =
+      let d : 128 - i ≡ 0 = omega arith in
+      sym (append-nil (take i (slots rs)) ∙ take_all i (slots rs) (omega (arith, long)))
+      ∙ ap (λ (n : ℕ). take i (slots rs) ++ each (slot_at count (drop p s)) i n) (sym d) ∙ k.rest

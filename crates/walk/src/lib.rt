@@ -16,7 +16,6 @@ ghost use Rattle.walk.specs.Standing.{holder_of, trailer_of, recorded_of, memory
 
 use format::{CfaRule, Question, Rule};
 use operations::fields::{Position, read_le};
-use std::array;
 
 // ---- addresses
 
@@ -168,7 +167,12 @@ pub fn registers(file: &[u8], at: usize, count: usize) -> [Option<u64>; 128]
     requires { at ≤ 65536 }
     ensures { slots result ≡ slots_of count (drop at file.now) }
 {
-    array::from_fn(|i| (i < count).then_some(word_at(file, at + 8 * i)))
+    // Kept: a loop. By `array::from_fn` it was proved, and `rt ci` then could not write what the crate states for the crates above it.
+    let mut registers = [None; 128];
+    for i in 0..128 {
+        registers[i] = (i < count).then_some(word_at(file, at + 8 * i));
+    }
+    registers
 }
 
 // A record file: the stack's bytes, and the registers behind them.

@@ -1,23 +1,14 @@
 -- `walk::registers` meets its contract.
-use Prim.Native.Nat.{◌+◌, ◌*◌}
-use native.Mathlib.Omega.{arith}
-use mathlib.Core.Path.{◌≡◌}
-use lib.Dec.{ltb}
-use lib.ListN.{drop}
 use borrow.Author.Rules.{rules}
-use borrow.Author.Tests.{tests}
-use Rattle.std.specs.Prelude.{None}
-use Rattle.std.specs.Bool.{then_some}
-use Rattle.format.specs.Leb.{read_little}
-use Rattle.format.specs.Reader.{value_or0}
-use Rattle.walk.proofs.Files.{made_each, registers_are}
+use lib.ListN.{length-set}
+use Rattle.walk.proofs.Files.{fill_start, fill_turn, fill_ended}
 use Rattle.walk.proofs.registers.Goals as goal
 
+pub loop-i-init : goal.loop-i-init
+loop-i-init c = fill_start _ _ _ _ (search rules)
+
+pub loop-i-preserved : goal.loop-i-preserved
+loop-i-preserved c = let l = c.loop-i in fill_turn l.invariant c.loop-i-test.true c.word_at.ensures c.then_some.ensures (simp length-set l.invariant.full)
+
 pub returns : goal.returns
-returns c =
-    let a = c.args in
-    let made = c.from_fn.ensures.items in
-    registers_are a.file.now a.at a.count _ made.long
-    (λ i h.
-    made_each _ (λ j y. y ≡ then_some (ltb j a.count) (value_or0 (read_little 8 (drop (a.at + 8 * j) a.file.now)))) _ (λ j y q k. (search rules, search (rules, tests))) _ 0 128
-    made.each i None (omega arith) h)
+returns c = fill_ended c.loop-i.invariant c.loop-i-test.false
