@@ -147,7 +147,7 @@ pub struct Packed {
 // many codes in all.
 // Kept: a number beside the fields, and no Result: C reads the fields.
 #[repr(C)]
-#[derive(Clone, Copy)]
+#[derive(Clone, Copy, Default)]
 pub struct Arm64Reading {
     pub number: u64,
     pub length: u64,

@@ -35,10 +35,7 @@ fn refused(question: Question) -> Arm64Reading
 {
     Arm64Reading {
         number: question.number(),
-        length: 0,
-        prologue: 0,
-        epilogues: 0,
-        codes: 0,
+        ..Arm64Reading::default()
     }
 }
 
