@@ -453,6 +453,8 @@ impl<'a> Checked<'a> {
         }
     }
 
+    // Kept: a match here and one in `put_words`, and no method beside `Epilogues::count`: `put_words` writes or not, by its answer's place, so that a method for
+    // the number of words would have this one caller, and its answer a case for each form as the two here.
     fn record_size(&self) -> usize
         ensures { (result ≡ length (record_of self.now.function)) × (result ≤ 300000) }
     {
