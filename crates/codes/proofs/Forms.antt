@@ -10,7 +10,7 @@ use lib.ListN.{length, take, get_or}
 use borrow.Author.Tests.{lt-ltb, le-ltb}
 use Rattle.std.specs.Int.{bytes_low_first}
 use Rattle.std.specs.Prelude.{Result, Ok, Err, Some, None}
-use Rattle.std.specs.Result.{OkIff, result_ok}
+use Rattle.std.specs.Result.{OkIff, result_ok, is_ok}
 use Rattle.std.specs.Option.{is_some}
 use Rattle.format.specs.Prelude.{pick}
 use Rattle.format.specs.Leb.{little}
@@ -87,6 +87,14 @@ ok_says r m v e h = rw e at h
 pub err_says : {E P : Type 0} (r : Result ℕ E) (v : ℕ) → ((x : ℕ) → r ≡ Ok x → ⊥) → OkIff r P v → P → ⊥
 err_says (Ok x) v n h p = n x refl
 err_says (Err e) v n h p = h p
+
+pub ok_holds : {E P : Type 0} (r : Result ℕ E) (v : ℕ) → true ≡ is_ok r → OkIff r P v → P
+ok_holds (Ok x) v e h = h.0
+ok_holds (Err x) v e h = cc
+
+pub not_ok : {E P : Type 0} (r : Result ℕ E) (v : ℕ) → false ≡ is_ok r → OkIff r P v → P → ⊥
+not_ok (Ok x) v e h p = cc
+not_ok (Err x) v e h p = h p
 
 pub in_units : {E : Type 0} (n unit : ℕ) (r : Result ℕ E) → OkIff r (n / unit < 65536) (n / unit) → n % unit ≡ 0 → result_ok r ≡ pick (is_near unit n) (Some (n / unit)) None
 unfolding is_near pick

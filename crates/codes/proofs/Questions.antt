@@ -14,8 +14,8 @@ use mir.Val.{SFits, of_z, to_z}
 use mir.Facts.{to_z-of_z, and_yes, or_no, eqb_no, T_not-not}
 use Rattle.format.specs.Prelude.{pick}
 use Rattle.format.specs.declared.Seh.{Seh}
-use Rattle.format.specs.declared.Seh.TheVariants.{Frame}
-use Rattle.format.specs.X64.{size64, register_in, alloc_no, save_no, operand_no, code_no, frame_ok, frame_no}
+use Rattle.format.specs.declared.Seh.TheVariants.{Push, Alloc, Frame, Save}
+use Rattle.format.specs.X64.{size64, register_in, alloc_no, save_no, operand_no, code_no, frame_ok, frame_no, frame_or}
 use Rattle.format.proofs.Choice.{pick_no}
 use Rattle.rows.proofs.Signs.{negative, positive}
 use Rattle.codes.specs.Codes.{yes_or_no}
@@ -170,3 +170,12 @@ unfolding register_in frame_no
 frame_said {code} {reg} {z} e h =
     let g = rw e at h in
     (g.0, frame_high z (yes_of 41 none (frame_ok z) g.1).0)
+
+-- ---- a code that is no frame code
+
+pub no_frame : (s : Seh) → ((reg : ℕ) (z : ℤ) → s ≡ Frame reg z → ⊥) → (Ok tt ≡ yes_or_no (frame_no s)) × ((b : ℕ) → b ≡ frame_or b s)
+unfolding yes_or_no frame_no frame_or
+no_frame (Push reg) n = (refl, λ b. refl)
+no_frame (Alloc z) n = (refl, λ b. refl)
+no_frame (Frame reg z) n = absurd (n reg z refl)
+no_frame (Save reg vector z) n = (refl, λ b. refl)

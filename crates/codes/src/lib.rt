@@ -114,12 +114,10 @@ fn frame_offset_no(z: i64) -> Result<(), Question>
 pub fn frame_no(code: Seh) -> Result<(), Question>
     ensures { numbered result ≡ yes_or_no (frame_no code) }
 {
-    match code {
-        Seh::Push(_) => Ok(()),
-        Seh::Alloc(_) => Ok(()),
-        Seh::Frame(_, z) => frame_offset_no(z),
-        Seh::Save(_, _, _) => Ok(()),
-    }
+    let Seh::Frame(_, z) = code else {
+        return Ok(());
+    };
+    frame_offset_no(z)
 }
 
 // The header's byte of the frame register after a code: b, or what a frame code says.
@@ -127,18 +125,16 @@ pub fn frame_or(b: u8, code: Seh) -> u8
     requires { (register_in code ≤ 15) × (frame_no code ≡ none) }
     ensures { result ≡ frame_or b code }
 {
-    match code {
-        Seh::Push(_) => b,
-        Seh::Alloc(_) => b,
-        Seh::Frame(reg, z) => (reg + 16 * (size(z) / 16)) as u8,
-        Seh::Save(_, _, _) => b,
-    }
+    let Seh::Frame(reg, z) = code else {
+        return b;
+    };
+    (reg + 16 * (size(z) / 16)) as u8
 }
 
 // ---- the bytes of a code
 
 // A code's bytes, the first `count` of six.
-// Kept: a project rule holds an x64 code as `[u8; 6]` by value beside its count.
+// Kept: an array by value beside its count is a form that document 01 names (docs/DECISIONS.md, "The forms that document 01 names").
 #[derive(Clone, Copy)]
 pub struct Code {
     pub bytes: [u8; 6],
@@ -146,8 +142,8 @@ pub struct Code {
 }
 
 // An operation with its info, and v behind it as a field of n bytes.
-// Kept: the operation is its number, and no enum: nothing here asks which one it is, each is named where it is written, and the number is what is
-// written. An enum would come to this by a function of eight arms, and `slot_in` would take the far form beside the near one.
+// Kept: the operation is its number, and no enum. The clauses here (`node`, `slot_bytes`) take the number, and the far form is the near one's plus 1:
+// with an enum `form` names its number by a definition, and `slot_in` takes two operations and a clause that the second follows the first.
 fn form(at: u8, op: u64, info: u8, n: usize, v: u32) -> Code
     requires { (op < 16) × (info < 16) × (n ≤ 4) }
     ensures { Holds result (node at op info ++ little n v) }
@@ -230,13 +226,15 @@ impl UnwindCode {
 }
 
 // How many bytes the nodes of a code have.
+// Kept: sizes beside the bytes. `nodes` asks that the code passed its questions; `nodes_size` asks nothing, and is taken of each code while they are
+// asked (D112).
 fn alloc_size(size: u64) -> usize
     ensures { result ≡ alloc_size size }
 {
     if size <= 128 {
         return 2;
     }
-    if size / 8 < 65536 {
+    if u16::try_from(size / 8).is_ok() {
         return 4;
     }
     6
