@@ -18,7 +18,6 @@ ghost use Rattle.prologue.specs.Given.{IsRow, rows_in, rows_of, last_of, row_of,
 use codes::UnwindCode;
 use format::{Question, Row, Seh};
 use given::{FunctionRows, Registers, Shape, X64Machine};
-use leb::wide;
 use rows::{offset_at, row_at};
 
 pub mod given;
@@ -45,7 +44,7 @@ impl Registers<'_> {
         if 64 <= reg {
             return None;
         }
-        let n = wide(self.machine.map[reg as usize]);
+        let n = u64::from(self.machine.map[reg as usize]);
         if n < 16 {
             return Some((n, false));
         }
@@ -68,12 +67,12 @@ impl Registers<'_> {
 
 // ---- the rows of one instruction
 
-// Kept: neighbours by their index, and no `chunk_by`: C lends the rows as one list of numbers, four to a row, so a slice's own grouping would
-// compare numbers and no rows, and a list of rows to group is a second list, for which there is no memory.
+// Kept: neighbours by their index, and no `chunk_by`. By `as_chunks::<4>()` a chain would group arrays, while `row_at`, `offset_at`, `joined` and
+// `joins` and their definitions speak of a place in the list; a law of `first_chunks` for `row_at` and one for the groups would come to it.
 
 impl FunctionRows<'_> {
     // How many they are.
-    fn len(&self) -> usize
+    pub fn len(&self) -> usize
         ensures { result ≡ rows_in self.now }
     {
         self.rows.len() / rows::ROW_STRIDE
@@ -213,7 +212,7 @@ impl X64Machine<'_> {
         let Row::Offset(reg, y) = b else {
             return Err(Question::Group);
         };
-        self.pushed(reg as u64, z, y, w)
+        self.pushed(u64::from(reg), z, y, w)
     }
 
     // An instruction of one row; it is the last of the prologue, or not.
@@ -221,11 +220,11 @@ impl X64Machine<'_> {
         ensures { numbered result ≡ result_of (lone_in self.now.machine.now last r w) }
     {
         match r {
-            Row::DefCfa(reg, z) => self.frame_set(reg as u64, z, w),
+            Row::DefCfa(reg, z) => self.frame_set(u64::from(reg), z, w),
             Row::DefCfaOffset(z) => Ok(stepped(w, false, true, z)),
-            Row::DefCfaRegister(reg) => self.frame_early(last, reg as u64, w),
+            Row::DefCfaRegister(reg) => self.frame_early(last, u64::from(reg), w),
             Row::Offset(reg, _) => {
-                let known = self.registers().knows(reg as u64);
+                let known = self.registers().knows(u64::from(reg));
                 Ok(stepped(w, false, known, w.below))
             }
             _ => Err(Question::Group),
@@ -282,6 +281,8 @@ impl FunctionRows<'_> {
 
 impl<'r> FunctionRows<'r> {
     // Row i keeps the rules for the epilogues.
+    // Kept: the kind's number alone. `row_at` would make the whole row, its register and its offset too, of each row in front of the first such one,
+    // and the answer would go from the derived `==` to `kind_of`, which the definition of the rows in front asks.
     fn remembers(&self, i: usize) -> bool
         requires { IsRow self.now i }
         ensures { result ≡ eqb (kind_of (row_at self.now.rows.now i).1) 6 }
@@ -404,12 +405,14 @@ impl Shape<'_> {
             Row::DefCfa(_, _) => m.frame_code(off),
             Row::DefCfaOffset(z) => rows.alloc_code(i, off, sofar, z),
             Row::DefCfaRegister(_) => m.frame_code(off),
-            Row::Offset(reg, z) => rows.slot_code(m, i, off, reg as u64, self.below, z),
+            Row::Offset(reg, z) => rows.slot_code(m, i, off, u64::from(reg), self.below, z),
             _ => None,
         }
     }
 }
 
+// Kept: `moved` and `prologue_end` are public, and of a list: of it `moved` asks row i alone to be a row, and `prologue_end` nothing. As methods of
+// FunctionRows they would ask by type that all are (D124).
 // The distance behind row i.
 pub fn moved(sofar: i64, rows: &[u64], i: usize) -> i64
     requires { (row_stride * i + row_stride ≤ length rows.now) × T (row_ok_at rows.now i) }

@@ -45,7 +45,7 @@ returns-in-DefCfaRegister c =
 pub returns-in-Offset : goal.returns-in-Offset
 returns-in-Offset c =
     let e = passed c.in-Offset.z (omega (arith, c.in-Offset.known_told-in-Offset-1-own.given)) in
-    rw (slot_piece c.args.m.now.machine.now c.args.self.now.below c.args.sofar _ 0 c.args.i (rows_in c.args.self.now.rows) c.row_at.ensures c.offset_at-off.ensures c.in-Offset.reg c.in-Offset.z c.in-Offset.is) (rw (short_passed c.args.self.now.below c.args.self.now.short, e) at c.slot_code.ensures)
+    rw (slot_piece c.args.m.now.machine.now c.args.self.now.below c.args.sofar _ 0 c.args.i (rows_in c.args.self.now.rows) c.row_at.ensures c.offset_at-off.ensures c.in-Offset.reg c.in-Offset.z c.in-Offset.is) (rw (short_passed c.args.self.now.below c.args.self.now.short, e, c.from.ensures) at c.slot_code.ensures)
 
 pub returns-in_default : goal.returns-in_default
 unfolding piece_of
