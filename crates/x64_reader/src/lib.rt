@@ -97,7 +97,7 @@ fn code_at(s: &[u8], at: Position, frame: u8) -> Option<Code>
     };
     let (v, past) = read_le(s, behind, n)?;
     Some(Code {
-        offset: leb::wide(s[from]),
+        offset: u64::from(s[from]),
         says: meaning(frame, op, info, v),
         past,
     })
@@ -151,14 +151,10 @@ fn slots_in(bytes: &[u8], frame: u8) -> Slots
 fn or_frame(framed: bool, code: Seh) -> bool
     ensures { result ≡ (is_frame code || framed) }
 {
-    match code {
-        Seh::Push(_) => framed,
-        Seh::Alloc(_) => framed,
-        Seh::Frame(_, _) => true,
-        Seh::Save(_, _, _) => framed,
-    }
+    framed || matches!(code, Seh::Frame(_, _))
 }
 
+// Kept: n beside framed: one pass gives both and stops at a code that cannot be read; `count` and `any` would be two passes.
 // How many codes there are, and whether one sets the frame register, where each can be read.
 fn count(s: &[u8], frame: u8) -> Option<(usize, bool)>
     ensures { result ≡ counted_of (read_codes frame s.now) }
@@ -201,6 +197,8 @@ impl Code {
     }
 }
 
+// Kept: `left` by hand. The codes go in from the last to the first; by `chunks_exact_mut(..).rev()` with `zip` the clause would say what the reversed
+// parts leave in the list.
 // The n codes, five numbers each, from the last to the first, since they stand in reverse.
 fn store(s: &[u8], frame: u8, n: usize, codes: &mut [u64])
     requires { (code_stride * n ≤ length codes.old) × Held (read_codes frame s.now) n }
@@ -234,12 +232,12 @@ fn header_at(info: &[u8], place: u64) -> Option<Header>
     if size < 4 || size - 4 < p || info[p] != 1 {
         return None;
     }
-    let slots = leb::wide(info[p + 2]) as usize;
+    let slots = usize::from(info[p + 2]);
     if size - 4 - p < 2 * slots {
         return None;
     }
     Some(Header {
-        end: leb::wide(info[p + 1]),
+        end: u64::from(info[p + 1]),
         frame: info[p + 3],
         slots: &info[p + 4..p + 4 + 2 * slots],
     })
@@ -248,7 +246,7 @@ fn header_at(info: &[u8], place: u64) -> Option<Header>
 // What unwind_read_x64 answers.
 // Kept: a number and fields that are 0 where it refuses, since C reads it.
 #[repr(C)]
-#[derive(Clone, Copy)]
+#[derive(Clone, Copy, Default)]
 pub struct X64Reading {
     pub number: u64,
     pub end: u64,
@@ -263,11 +261,7 @@ fn refused(question: Question) -> X64Reading
 {
     X64Reading {
         number: question.number(),
-        end: 0,
-        frame: 0,
-        frame_register: 0,
-        frame_offset: 0,
-        codes: 0,
+        ..X64Reading::default()
     }
 }
 
