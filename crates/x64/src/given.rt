@@ -13,6 +13,7 @@ pub enum Source<'m> {
     Rows(X64Machine<'m>),
 }
 
+// Kept: the count beside the list. 13 lines of clauses in lib.rt name it, and by a method each would name a division by the source's stride.
 // The functions, `count` of them, and the list of their codes or rows. Questions 11 to 13 were answered by yes.
 #[derive(Clone, Copy)]
 pub struct Input<'m, 'f, 'l> {

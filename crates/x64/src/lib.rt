@@ -29,13 +29,12 @@ use given::{Input, Records, Source, Span, UnwindCodes};
 use leb::fill;
 use lists::output::Output;
 use lists::{
-    Lists, code_at, code_offset_at, codes_ok, extent_at, machine_of, machine_ok, prologue_at, room,
-    word_ok,
+    Lists, code_at, code_offset_at, codes_ok, extent_at, prologue_at, read_machine, room, word_ok,
 };
 use passed::{Cleared, Passed};
 use prologue::given::{FunctionRows, X64Machine};
 use prologue::{moved, prologue_end};
-use relocs::{number, relocation};
+use relocs::relocation;
 
 mod given;
 mod passed;
@@ -115,7 +114,7 @@ impl Records<'_, '_> {
     {
         match self {
             Records::Codes(list) => list.len() / lists::CODE_STRIDE,
-            Records::ByRows(_, p) => p.rows.rows.len() / rows::ROW_STRIDE,
+            Records::ByRows(_, p) => p.rows.len(),
         }
     }
 
@@ -182,6 +181,8 @@ impl Iterator for UnwindCodes<'_, '_> {
     ghost remaining = { item_count codes_left };
 
     // A row that ends no instruction yields no code: the iterator goes on to the next.
+    // Kept: a while. It is the next of an iterator, whose place among the records is its state; a range there in place of the number gives the same
+    // loop by while let, and the ghost field would speak of the range's two ends.
     fn next(&mut self) -> Option<UnwindCode> {
         while self.next < self.records.len() {
             let piece = self.piece();
@@ -401,6 +402,8 @@ impl Input<'_, '_, '_> {
     }
 
     // The passes over the functions.
+    // Kept: three loops. One over a closure says in its contract what each call asks (k below the count) and what its answers are, by a definition of
+    // the pass; each loop here is three lines.
     fn asks(&self) -> Result<(), Refusal>
         ensures { numbered_at result ≡ question_of (asks_in self.now) }
     {
@@ -450,7 +453,7 @@ impl Cleared<'_, '_, '_> {
     {
         let mut at = 0;
         for k in 0..self.input.count {
-            number(markers, k, at as u64);
+            markers[k] = at as u64;
             at = self.passed(k).describe(info, at);
         }
         at
@@ -504,7 +507,8 @@ impl Input<'_, '_, '_> {
 // ---- the entries
 
 // x64 unwind data from direct codes.
-// Kept: the C interface lends the lists one by one.
+// Kept: the lists one by one. `Writes` names each list before and after; in `Lists` and `Output` each clause would name a field of another value, and
+// one more would say that the caller's own lists are lent in it still (D122).
 pub fn seh(
     functions: &[u64],
     codes: &[u64],
@@ -538,7 +542,8 @@ pub fn seh(
 }
 
 // x64 unwind data from rows.
-// Kept: the C interface lends the lists one by one.
+// Kept: the lists one by one. `Writes` names each list before and after; in `Lists` and `Output` each clause would name a field of another value, and
+// one more would say that the caller's own lists are lent in it still (D122).
 pub fn windows(
     machine: &[u64],
     functions: &[u64],
@@ -552,10 +557,7 @@ pub fn windows(
 ) -> Result<Option<Counts>, Refusal>
     ensures { Writes (unless (windows_asks (given_of machine.now functions.now rows.now landings.now pairs.now)) (windows_answer (machine_of machine.now) (given_functions (given_of machine.now functions.now rows.now landings.now pairs.now)) (room_in markers.old bytes.old relocations.old info.old))) (numbered_at result) markers.old markers.new bytes.old bytes.new relocations.old relocations.new info.old info.new }
 {
-    if !machine_ok(machine) {
-        return Err(Question::Interface.into());
-    }
-    let m = machine_of(machine);
+    let m = read_machine(machine)?;
     if !word_ok(m) {
         return Err(Question::X64Word.into());
     }

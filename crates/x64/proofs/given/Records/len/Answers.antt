@@ -8,4 +8,4 @@ returns-in-Codes c = rw c.in-Codes.is
 
 pub returns-in-ByRows : goal.returns-in-ByRows
 unfolding records_in
-returns-in-ByRows c = rw c.in-ByRows.is
+returns-in-ByRows c = rw c.in-ByRows.is c.len.ensures
