@@ -14,6 +14,8 @@ use reader::operation::Operations;
 use reader::run;
 
 // The largest offset.
+// Kept: by name, as the definition has it (`highest`). By `checked_add` the two cases of a step would be told by whether the sum fits 64 bits, and a
+// law would lead from there to `highest`.
 const HIGHEST: u64 = 0xffffffffffffffff;
 
 // ---- the lines

@@ -327,6 +327,8 @@ impl<'r> FunctionRows<'r> {
 
 impl Registers<'_> {
     // The code of a push, of a frame and of a save, where the machine has the register.
+    // Kept: three functions. One over a closure would promise its answer for each function that the closure's answers follow (as apply's `patch`), and
+    // each call would show that of its own closure; here each contract names its function.
     fn push_code(&self, off: u64, reg: u64) -> Option<UnwindCode>
         ensures { piece_of result ≡ named_code self.now.machine.now off reg (λ x. Push x.number) }
     {
