@@ -38,47 +38,45 @@ pub struct Place<'a> {
 // ---- the registers that a record and its header name
 
 // The registers 0 to 127 that an operation names.
-// Kept: a struct around the array. Tried with a bare `[bool; 128]` that each function takes and gives back: `m = mark_operation(m, op)`, in the loop of
-// `mark_all`, assigns a whole array to a local, and such a loop gets no proof.
 #[derive(Clone, Copy)]
 pub struct Marks {
     pub named: [bool; 128],
 }
 
-fn mark(mut m: Marks, reg: u16) -> Marks
-    ensures { Marked m.named result.named (λ q. eqb q reg) }
-{
-    if reg < 128 {
-        m.named[reg as usize] = true;
+impl Marks {
+    fn mark(&mut self, reg: u16)
+        ensures { Marked self.old.named self.new.named (λ q. eqb q reg) }
+    {
+        if reg < 128 {
+            self.named[reg as usize] = true;
+        }
     }
-    m
-}
 
-fn mark_row(m: Marks, row: Row) -> Marks
-    ensures { Marked m.named result.named (λ q. names q row) }
-{
-    match row {
-        Row::Offset(reg, _)
-        | Row::Restore(reg)
-        | Row::Undefined(reg)
-        | Row::SameValue(reg)
-        | Row::InRegister(reg, _) => mark(m, reg),
-        Row::DefCfa(_, _)
-        | Row::DefCfaOffset(_)
-        | Row::DefCfaRegister(_)
-        | Row::RememberState
-        | Row::RestoreState
-        | Row::NegateRaState => m,
+    fn mark_row(&mut self, row: Row)
+        ensures { Marked self.old.named self.new.named (λ q. names q row) }
+    {
+        match row {
+            Row::Offset(reg, _)
+            | Row::Restore(reg)
+            | Row::Undefined(reg)
+            | Row::SameValue(reg)
+            | Row::InRegister(reg, _) => self.mark(reg),
+            Row::DefCfa(_, _)
+            | Row::DefCfaOffset(_)
+            | Row::DefCfaRegister(_)
+            | Row::RememberState
+            | Row::RestoreState
+            | Row::NegateRaState => {}
+        }
     }
-}
 
-fn mark_operation(m: Marks, op: Operation) -> Marks
-    ensures { Marked m.named result.named (λ q. operation_names q op) }
-{
-    match op {
-        Operation::Nop => m,
-        Operation::Step(_) => m,
-        Operation::Does(row) => mark_row(m, row),
+    fn mark_operation(&mut self, op: Operation)
+        ensures { Marked self.old.named self.new.named (λ q. operation_names q op) }
+    {
+        match op {
+            Operation::Nop | Operation::Step(_) => {}
+            Operation::Does(row) => self.mark_row(row),
+        }
     }
 }
 
@@ -92,7 +90,7 @@ fn mark_all(ops: &[u8], word: u64, start: Marks) -> Marks
         let Some((op, _)) = read else {
             return m;
         };
-        m = mark_operation(m, op);
+        m.mark_operation(op);
     }
     m
 }

@@ -1,14 +1,11 @@
--- `walked::mark_operation` meets its contract.
+-- `walked::Marks::mark_operation` meets its contract.
+use mathlib.Core.Logic.{⊎_elim}
 use Rattle.walked.specs.Named.{operation_names}
-use Rattle.walked.proofs.mark_operation.Goals as goal
+use Rattle.walked.proofs.Marks.mark_operation.Goals as goal
 
 pub returns-in-Nop : goal.returns-in-Nop
 unfolding operation_names
-returns-in-Nop c = λ q b e. (e, rw c.in-Nop.is)
-
-pub returns-in-Step : goal.returns-in-Step
-unfolding operation_names
-returns-in-Step c = λ q b e. (e, rw c.in-Step.is)
+returns-in-Nop c = λ q b e. (e, ⊎_elim (λ x. rw x) (λ x. rw x.1) c.in-Nop.is)
 
 pub returns-in-Does : goal.returns-in-Does
 unfolding operation_names

@@ -1,7 +1,7 @@
--- `walked::mark_row` meets its contract.
+-- `walked::Marks::mark_row` meets its contract.
 use mathlib.Core.Logic.{⊎_elim}
 use Rattle.walked.specs.Named.{names}
-use Rattle.walked.proofs.mark_row.Goals as goal
+use Rattle.walked.proofs.Marks.mark_row.Goals as goal
 
 pub returns-in-Offset : goal.returns-in-Offset
 unfolding names
