@@ -111,8 +111,7 @@ impl<'a> Loaded<'a> {
         if !entries::tiles(s) {
             return Err(Question::Tiling);
         }
-        // Kept: a count beside the entries. Tried with `enumerate` over the reader's records: what the loop then knows did not close at the two ends,
-        // a record that holds the address and none that does.
+        // Kept: a count beside the entries. An earlier try by the reader's `Records` left its goals `returns` and `returns-in_default` open.
         let mut k: u64 = 0;
         'entries: for entry in Entries::new(s) {
             if entry.is_header(s, self.section.layout.debug) {
