@@ -141,4 +141,3 @@ module _ {xs₀ xs : List ℕ} {to q : ℕ} {es cs : List ℕ} {p : Parts} {next
 
   pub scoping_ended : p.end ≤ i → Wrote xs₀ xs to q (words_from es cs p p.first (p.end - p.first))
   scoping_ended h = storing.ended (subst (Storing xs₀ xs to q (words_from es cs p p.first (p.end - p.first))) (words_none es cs p i h) s.left)
-

@@ -193,10 +193,7 @@ impl Scopes<'_> {
         let mut n = 0;
         for k in 0..self.count as usize {
             let w = self.word(k);
-            n += arm64_runs::count_run(
-                self.record.codes,
-                (w / header_bits::INDEX) as usize,
-            )?;
+            n += arm64_runs::count_run(self.record.codes, (w / header_bits::INDEX) as usize)?;
         }
         Some(n)
     }
@@ -245,7 +242,8 @@ impl<'a> Record<'a> {
             Epilogues::Scoped(count) => Scopes {
                 record: *self,
                 count,
-            }.count_codes(),
+            }
+            .count_codes(),
         }
     }
 
@@ -262,7 +260,8 @@ impl<'a> Record<'a> {
             Epilogues::Scoped(count) => Scopes {
                 record: *self,
                 count,
-            }.put(n, to),
+            }
+            .put(n, to),
         }
     }
 }
