@@ -243,10 +243,7 @@ pub fn table(
         codes,
     };
     if !lists.ok() {
-        return Err(Refusal {
-            question: Question::Lists,
-            position: 0,
-        });
+        return Err(Question::Lists.into());
     }
     let mut to = Output {
         places: markers,
