@@ -37,6 +37,8 @@ fn fields_of(b: &Body) -> Option<(u64, u64)>
 }
 
 // An address of the target.
+// Kept: remainders. A cast by `as` asks that the value fits its type, so by way of `u32` and `u16` they would stand inside all the same:
+// `u64::from((n % 4294967296) as u32)`.
 fn address_of(l: Layout, n: u64) -> u64
     ensures { result ≡ n % 2 ^ (8 * l.word) }
 {
@@ -93,6 +95,7 @@ impl<'a> Loaded<'a> {
     }
 
     // A record holds the address.
+    // Kept: the test of walk's `holds` and call_sites' `covers`, over an Option here and by a definition of its own.
     fn record_holds(&self, fde: Span, pc: u64) -> bool
         requires { Holds self.now.section.bytes.now fde }
         ensures { result ≡ holds pc (function_of self.now.section.layout.debug self.now.section.layout.word self.now.address (entry_of self.now.section.bytes.now fde)) }

@@ -25,7 +25,7 @@ const MARKS: usize = 1024;
 const STRIDE: usize = 2;
 
 // The place of no header.
-const NOWHERE: u64 = 0xffffffffffffffff;
+const NOWHERE: u64 = u64::MAX;
 
 // The number that is stored for a header's place.
 #[tactic(auto, unfolding(crate::specs::Standing::stored_as))]
@@ -112,7 +112,8 @@ fn fill(section: &Section, places: &mut [u64])
     let mut from = 0;
     let mut last = None;
     let mut i = 0;
-    // Kept: over all entries, and not the records alone: a header that is passed is marked too, and is looked at first for the records behind it.
+    // Kept: over all entries, and not the records alone: a header that is passed is marked too, and is looked at first for the records behind it;
+    // and i by hand: a header among the entries moves it by none.
     'entries: for entry in Entries::new(s) {
         stretches.mark(entry.at);
         if entry.is_header(s, section.layout.debug) {

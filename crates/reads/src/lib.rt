@@ -84,6 +84,8 @@ impl From<Result<Located, Question>> for Located {
     }
 }
 
+// Kept: two impls of one form, for Placed and for Holder: each makes a struct of C with fields of its own names, and meets its own definition
+// (`placed_as`, `holder_as`).
 impl From<Result<(u64, u64), Question>> for Placed {
     ghost from_gives = { λ found a. a ≡ placed_as (numbered found) };
 
