@@ -13,8 +13,7 @@ ghost use Rattle.sites_back.specs.Back.{table_place, ReadBack};
 use call_sites::Site;
 use lists::output::WrittenAnd;
 use reader::{entries, location};
-
-const ELF: u64 = 0;
+use unwind::Format;
 
 // A record's pointer to call sites stands this far behind its start.
 const POINTER_FIELD: usize = 17;
@@ -55,7 +54,7 @@ pub fn write_and_read_site(
 {
     let outcome = unwind::relaxed_table(
         machine,
-        ELF,
+        u64::from(Format::Elf),
         functions,
         rows,
         landings,
