@@ -258,10 +258,7 @@ fn chain_of(
 ) -> Result<Chain, Question>
     ensures { walked_of result ≡ pick (machine_ok machine.now) (pick (eqb (machine_of machine.now).word 8) (frames_f (section_of section.entry) (fault_of (machine_of machine.now) (memory_of memory.entry) functions.now) 64 (caller_as start)) (bad 12)) (bad 11) }
 {
-    if !lists::machine_ok(machine) {
-        return Err(Question::Interface);
-    }
-    let known = lists::machine_of(machine);
+    let known = lists::read_machine(machine)?;
     if known.word != 8 {
         return Err(Question::X64Word);
     }
