@@ -36,7 +36,7 @@ use header_keys::written::{Function, Run};
 use header_keys::{Input, Kind, kind_of};
 use headers::{header, header_relocs, header_relocs_count, header_size, padding};
 use lists::output::Output;
-use lists::{Extent, Labels, Lists, MOST_FUNCTIONS, machine_of, machine_ok, sums_ok};
+use lists::{Extent, Labels, Lists, MOST_FUNCTIONS, read_machine, sums_ok};
 use numbers::pointer_size;
 use owners::Chains;
 use records::{
@@ -725,15 +725,13 @@ pub fn dwarf(
 ) -> Result<Option<Counts>, Refusal>
     ensures { Writes (dwarf_given s (given_of machine.now functions.now rows.now landings.now pairs.now) (room_in places.old bytes.old relocations.old sites.old)) (numbered_at result) places.old places.new bytes.old bytes.new relocations.old relocations.new sites.old sites.new }
 {
-    if !machine_ok(machine) {
-        return Err(Question::Interface.into());
-    }
+    let m = read_machine(machine)?;
     if !sums_ok(functions) {
         return Err(Question::Lists.into());
     }
     let x = Input {
         section: s,
-        machine: machine_of(machine),
+        machine: m,
         lists: Lists {
             functions,
             rows,
