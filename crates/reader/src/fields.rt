@@ -24,6 +24,8 @@ pub struct Augmentation {
 }
 
 // One string, or the one that marks a signal frame: what it announces, and the position past it.
+// Kept: called for each pair of strings, and no table of strings and what they announce that `find` searches: what a search promises is that no entry in
+// front matches, and a law would turn that into `read_letters`, which goes on from string to string as the calls do.
 fn marked(
     s: &[u8],
     at: Position,

@@ -125,6 +125,7 @@ fn has_room(at: usize, i: usize, stride: usize, room: usize) -> bool
 }
 
 // Record i of those that are stored from `at` on, where it fits.
+// Kept: it asks for room itself, though who packs has asked: `stored` has the test in it, and says of one record what it says of all.
 fn put_record(numbers: &mut [u64], at: usize, i: usize, ns: &[u64])
     ensures { numbers.new ≡ stored numbers.old (at + length ns.now * i) ns.now }
 {
@@ -278,7 +279,8 @@ struct Given<'a> {
 }
 
 // The table of ELF and of COFF or, for `debug`, debug_frame, of the lists that stand in the lent one, which is cleared then.
-// Kept: the lent lists one by one, as the exports are lent them and as unwind's entries take them; `debug` as `answer_for` has it.
+// Kept: the lent lists one by one. `Exports` names each before and after; in `lists::output::Output` each clause would name a field of another value, and one
+// more would say that the caller's own lists are lent in it still (D122). `debug` is a bool, as `answer_for` has it.
 fn packed(
     debug: bool,
     x: &Given,

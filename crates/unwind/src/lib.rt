@@ -441,6 +441,7 @@ fn with_number(r: Result<Rules, Question>) -> Result<Rules, u64>
 }
 
 // A question's number is any number here, since C may hand one on that the reader did not give.
+// Kept: the zeros of a refusal one by one. Of `..Numbers::default()` there was no equation by which `returns` could be rewritten (tried).
 pub fn numbers_of(r: Result<Rules, u64>, shortest: bool) -> Numbers
     ensures { read_numbers result ≡ marked_numbers r shortest }
 {
