@@ -10,6 +10,7 @@ ghost use Rattle.two_sections.specs.Story.{OneStory};
 
 use format::{Question, Rules};
 use lists::output::WrittenAnd;
+use unwind::Format;
 
 // What the writers of both sections answered, and what the reader answered of each.
 #[derive(Clone, Copy)]
@@ -46,10 +47,11 @@ pub fn write_two_and_read(
     ensures of_debug_value { numbered result.debug.answer ≡ reading_for true machine.now (numbered_at result.debug.outcome) debug_bytes.new debug_relocations.new k q p }
     ensures one_story { OneStory (given_of machine.now functions.now rows.now landings.now pairs.now) (numbered_at result.eh.outcome) (numbered_at result.debug.outcome) k p (numbered result.eh.answer) (numbered result.debug.answer) }
 {
+    let elf = u64::from(Format::Elf);
     let eh = unwind::write_and_read(
         false,
         machine,
-        0,
+        elf,
         functions,
         rows,
         landings,
@@ -65,7 +67,7 @@ pub fn write_two_and_read(
     let debug = unwind::write_and_read(
         true,
         machine,
-        0,
+        elf,
         functions,
         rows,
         landings,
