@@ -15,9 +15,13 @@ use crate::marks::{Passed, Stretches};
 use format::{Question, Refusal};
 use operations::fields::{Position, read_le};
 use reader::entries::Entries;
-use reader::section::{Layout, Section, Span};
+use reader::section::{Section, Span};
 
 pub mod marks;
+
+// The kind of an eh_frame section.
+// Kept: a number, since `reader::section_of` takes any that C hands in.
+const EH_FRAME: u64 = 0;
 
 // What is answered: 0, or 11, 61 or 84; with 84 the first record that does not pass, counted from 0.
 // Kept: a number beside the record's, since C reads it.
@@ -179,18 +183,13 @@ fn check_records(section: &Section) -> Result<(), Refusal>
 fn check(section: &[u8], word: u64) -> Result<(), Refusal>
     ensures { checked_of result ≡ check_section section.now word }
 {
-    if !numbers::is_word(word) {
+    let none = [];
+    let Some(section) = reader::section_of(section, &none, EH_FRAME, word) else {
         return Err(Refusal::from(Question::Interface));
-    }
-    if !reader::entries::tiles(section) {
+    };
+    if !reader::entries::tiles(section.bytes) {
         return Err(Refusal::from(Question::Tiling));
     }
-    let none = [];
-    let section = Section {
-        bytes: section,
-        relocations: &none,
-        layout: Layout { debug: false, word },
-    };
     check_records(&section)
 }
 
