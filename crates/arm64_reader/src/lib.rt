@@ -55,12 +55,8 @@ fn room(to: &Output, epilogues: u64, codes: usize) -> Result<(), Question>
 fn record_with(x: &Record, to: &mut Output) -> Result<Arm64Reading, Question>
     ensures { AnsweredIn (found_in (record_unwound x.now.header x.now.section.now) to.old) result to.old to.new }
 {
-    let Some(n) = arm64_runs::count_run(x.codes, 0) else {
-        return Err(Question::X64Codes);
-    };
-    let Some(m) = x.count_epilogues() else {
-        return Err(Question::X64Codes);
-    };
+    let n = arm64_runs::count_run(x.codes, 0).ok_or(Question::X64Codes)?;
+    let m = x.count_epilogues().ok_or(Question::X64Codes)?;
     let k = arm64_records::epilogues_in(x.header);
     room(to, k, n + m)?;
     Run::at(x.codes, 0).put_back(to.codes, fields::CODE_STRIDE * n);
@@ -118,9 +114,7 @@ fn packed(word: u64, to: &mut Output) -> Result<Arm64Reading, Question>
 fn record(s: &[u8], place: u64, to: &mut Output) -> Result<Arm64Reading, Question>
     ensures { AnsweredIn (onward (full_record s.now place) (fits_in to.old.epilogues.now to.old.codes.now)) result to.old to.new }
 {
-    let Some(h) = arm64_records::header(s, place) else {
-        return Err(Question::X64Header);
-    };
+    let h = arm64_records::header(s, place).ok_or(Question::X64Header)?;
     record_with(&Record::of(s, h), to)
 }
 
