@@ -470,8 +470,8 @@ impl<'a> Checked<'a> {
 
     // ---- what is written
 
-    // Kept: the list and the place stand side by side in the seven writers from here on and in the five that they call (put_run, Header::put, pad, le, byte): a
-    // struct of the two would make each of the twelve contracts say beside the bytes that the same list is lent still (its ghost_name), where `Wrote` of a
+    // Kept: the list and the place stand side by side in the seven writers from here on and in the four that they call (put_run, Header::put, pad, le): a
+    // struct of the two would make each of the eleven contracts say beside the bytes that the same list is lent still (its ghost_name), where `Wrote` of a
     // slice says all.
     // The run of epilogue i, where it is its own.
     fn put_own(&self, out: &mut [u8], at: usize, i: usize) -> usize

@@ -63,8 +63,8 @@ impl Header {
     }
 }
 
-// Kept: the list and the place stand side by side here and in `put`: a struct of the two would make both contracts, and those of leb's `le` and `byte` below,
-// say beside the bytes that the same list is lent still (its ghost_name), where `Wrote` of a slice says all.
+// Kept: the list and the place stand side by side here and in `put`: a struct of the two would make both contracts, and that of leb's `le` below, say
+// beside the bytes that the same list is lent still (its ghost_name), where `Wrote` of a slice says all.
 // Codes are padded to words with nop.
 pub fn pad(out: &mut [u8], at: usize, n: usize) -> usize
     requires { (n ≤ 3) × (at + n ≤ length out.old) }

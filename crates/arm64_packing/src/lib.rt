@@ -204,8 +204,8 @@ fn place(part: Part, w: Word, i: u64) -> Option<Code>
     }
 }
 
-// Kept: a loop over the places. Tried by the iterators' `eq`: a list of packed functions took 10 to 15 % longer to write than by this loop. The bar is this loop:
-// no list may take longer to write for its form (docs/PERFORMANCE.md, "Windows on ARM64").
+// Kept: a loop over the places. Tried by the iterators' `eq`: a list of packed functions (differential/arm64_speed.py) took 10 to 15 % longer to write than
+// by this loop, which is the bar.
 // Whether a run's instructions are those of the word's prologue or of its epilogue.
 fn same_places(run: &Codes, part: Part, w: Word) -> bool
     ensures { result ≡ same_codes (given run.now.list.now run.now.run) (slots_from (placed part w.fields) 0 19) }

@@ -12,7 +12,7 @@ use arm64::{Code, Part, fields};
 
 // Where the codes of a run stand in a list: an epilogue's save backwards.
 // Kept: places and no slice of the list: `place_of` is one function for both directions, where a slice would be gone over from its front or from its back
-// by two iterators of two types; and arm64_function's definitions of runs (`saves`, `epilogue_at` and those on them) have the place in the list.
+// by two iterators of two types; and the definitions of runs (`saves` here, `epilogue_at` of arm64_function and those on them) have the place in the list.
 #[derive(Clone, Copy)]
 pub struct Run {
     pub at: usize,

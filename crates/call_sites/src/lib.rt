@@ -123,7 +123,8 @@ impl Table<'_> {
 fn look_up(sites: &[u8], place: u64, offset: u64) -> Result<Found, Question>
     ensures { numbered result ≡ with_mark (read_of (site_at sites.now place offset)) (sites_short sites.now place) }
 {
-    // Kept: `let .. else` on this answer and on `entry_at`'s is a form that document 01 names (docs/DECISIONS.md).
+    // Kept: `let .. else`, here and on `entry_at`'s answer (D121). What `ok_or(..)?` answers is told by two laws (`given` and `lacking` of reader's
+    // proofs/Acting), which would stand here once more.
     let Some(table) = table_at(sites, place) else {
         return Err(Question::CallSiteTable);
     };

@@ -92,7 +92,7 @@ pub enum Seh {
 
 // The rule of the canonical frame address (CFA): none, or a register plus an offset.
 // Kept: an enum, and no Option of a pair: that makes one of the three functions which take it apart shorter (reader's `register_rule`, an `ok_or`),
-// leaves those of unwind and walk as they are, and writes None for `Unset` and a Some of a pair for `Register` in ten lines of the definitions.
+// leaves those of unwind and walk as they are, and writes None for `Unset` in ten lines of the definitions, and a Some of a pair for `Register` in ten more.
 #[derive(Clone, Copy, Default)]
 pub enum CfaRule {
     #[default]

@@ -88,7 +88,8 @@ impl Operations<'_> {
 
     // The offset behind opcode b.
     // Kept: a position and an opcode go together to four methods. `Operations` has what is the same in all calls; in a struct with the opcode the
-    // position, which each method hands on alone, to `register_at` or `read_uleb`, would be taken out again in each.
+    // position would be taken out again where it is handed on alone, in `operand_at`, `extended_at` and `pair_row_at`, which then makes a second struct
+    // for the position of the offset.
     fn operand_at(&self, at: Position, b: u8) -> Option<(i64, Position)>
         ensures { result ≡ operand_at self.now.word b self.now.bytes.now at }
     {

@@ -132,7 +132,7 @@ fn digest(x: &Input, e: Extent) -> u64
 // The slot of function k's key among `size`.
 // Kept: that the first k + 1 functions can be read is asked here and in what follows, and no struct holds it. Public `find_owner` takes x and
 // k, so that it would make the struct for each k; and the contracts of `choose`, `surely_shares`, `inherited` and `seek`, which ask this
-// once, name x and k twice more, which would be the longer names of the struct's parts.
+// once, name x twice more and k two or three times, which would be the longer names of the struct's parts.
 fn slot(x: &Input, k: usize, size: usize) -> usize
     requires { ListedTo (inputs_of x.now) (k + 1) × (0 < size) }
     ensures { (result ≡ slot_at (inputs_of x.now) size k) × (result < size) }

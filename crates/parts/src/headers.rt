@@ -125,7 +125,8 @@ impl Placed<'_> {
 
 // Kept: its parameters one by one, as C passes them. The layout, the entry and its kind are asked here and in `unwind_read_record`: one function for both
 // would have a clause by cases over what `layout_of` and `next_entry` answer, and each caller would still take its answer apart and ask the kind.
-// Kept: `let .. else` on these answers, here and in records, is a form that document 01 names (docs/DECISIONS.md).
+// Kept: `let .. else` on the answers of LEB numbers and headers, here and in records, is a form that document 01 names (docs/DECISIONS.md); on that of
+// `layout_of`, since the export answers C's struct, and `?` is of a Result.
 // The header at a place: 0; 11, 61, 63 where it is a record, 64 and the field at fault.
 #[unsafe(no_mangle)]
 pub extern "C" fn unwind_read_header(section: &[u8], kind: u64, word: u64, place: u64) -> HeaderRead

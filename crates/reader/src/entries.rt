@@ -29,7 +29,7 @@ pub fn tiles(s: &[u8]) -> bool
     ensures { result ≡ is_some (entries s.now) }
 {
     let mut at = 0;
-    // Kept: a `while` of five lines. `Entries` goes only over a section that has passed this test. An iterator for it would be a second struct, whose
+    // Kept: a `while` of six lines. `Entries` goes only over a section that has passed this test. An iterator for it would be a second struct, whose
     // `next` has the two tests here, whose items are `Option<usize>` with a state behind the first `None`, and whose clauses say what each gives; then
     // comes `all(|end| end.is_some())`.
     while at < s.len() {

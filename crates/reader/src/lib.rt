@@ -64,7 +64,8 @@ pub fn locate(
 ) -> Result<Located, Question>
     ensures { Locates section.now word result (locate_in section.now relocations.now kind word k) }
 {
-    // Kept: `let .. else` on these answers, here, in location and in `run::remember`, is a form that document 01 names (docs/DECISIONS.md).
+    // Kept: `let .. else`, which document 01 names for the answers of headers and LEB numbers (docs/DECISIONS.md), on the other answers here and in
+    // location too: each is asked once, and the refusal is named beside it. In `run::remember` `map_err` was tried, and the check did not prove it alone.
     let Some(section) = section_of(section, relocations, kind, word) else {
         return Err(Question::Interface);
     };

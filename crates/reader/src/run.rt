@@ -151,7 +151,7 @@ pub fn perform(
 
 // ---- the operations of two entries
 
-// Kept: a loop of 20 lines like that of `listing::run::fill`. Both have their operations from the iterator and `perform`. One loop for both would take
+// Kept: a loop of 18 lines like that of `listing::run::fill`. Both have their operations from the iterator and `perform`. One loop for both would take
 // two closures, for a step and for a refusal, that store lines there and nothing here, and its contract would say what the calls of both left behind.
 // The header's operations and then the record's, for register q, until a step would pass p.
 pub fn run(s: &[u8], l: &Located, p: u64, q: u16) -> Result<Rules, Question>

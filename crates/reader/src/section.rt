@@ -21,7 +21,7 @@ pub struct Section<'a> {
 }
 
 // Where an entry of a section starts and ends, or an entry's operations.
-// Kept: that a section holds the entry is a clause (`Holds`) of 17 functions here, in section_check and in reads, and no field. In a struct of an entry,
+// Kept: that a section holds the entry is a clause (`Holds`) of 17 functions, in entries and location, in section_check and in reads, and no field. In a struct of an entry,
 // its section and that fact, six of them (`parse`, reads' `locate_entries` and `header_start`, section_check's `header_of`, `answers_at` and `passes`)
 // have in its place the clause that two sections are one, and what `Entries` and `Records` give is four words in place of two.
 #[derive(Clone, Copy)]

@@ -36,10 +36,11 @@ pub struct Pairs<'a> {
 impl<'a> Pairs<'a> {
     ghost use Rattle.records.specs.Written.{pairs_of, pairs_in};
 
-    // A function's pairs.
+    // A function's pairs. A search starts at the first.
     pub fn of(l: &Labels, list: &'a [u64]) -> Pairs<'a>
         requires { PairsReady l.now list.now }
-        ensures { pairs_of result ≡ pairs_in l.now list.now }
+        ensures pairs { pairs_of result ≡ pairs_in l.now list.now }
+        ensures start { result.near ≡ 0 }
     {
         let from = lists::PAIR_STRIDE * l.pairs_at;
         let part = &list[from..from + lists::PAIR_STRIDE * l.pairs];

@@ -139,7 +139,7 @@ pub fn row_ok(rows: &[u64], i: usize) -> bool
 // ---- questions of one row
 
 // z without its sign.
-// Kept: `unsigned_abs` by a name of this crate, since the function is public (operations and owners call it); the rows' own question calls the method.
+// Kept: `unsigned_abs` by a name of this crate, since the function is public (owners calls it); the rows' own question calls the method.
 pub fn size(z: i64) -> u64
     ensures { (result ≡ nat_abs z) × (result ≤ 2 ^ 63) }
 {

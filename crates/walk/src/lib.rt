@@ -63,8 +63,8 @@ pub fn looked_up(exact: bool, a: u64) -> Option<u64>
 // Its numbers in the list: where it starts, and its length.
 pub const FUNCTION_STRIDE: usize = 2;
 
-// Kept: beside `covers` of call_sites, which is the same test. They meet two definitions, over two structs; the crates below both read numbers out
-// of bytes and know of no ranges, and one function there needs a third definition and two laws.
+// Kept: beside `covers` of call_sites and `record_holds` of reads, which are the same test. They meet a definition each, over a struct, a struct and an Option
+// of two numbers; one function, in a crate below all three, needs a definition of its own and three laws.
 fn holds(start: u64, size: u64, a: u64) -> bool
     ensures { result ≡ holds a (record { start = start; size = size }) }
 {

@@ -507,8 +507,8 @@ impl Input<'_, '_, '_> {
 // ---- the entries
 
 // x64 unwind data from direct codes.
-// Kept: the lists one by one. `Writes` names each list before and after; in `Lists` and `Output` each clause would name a field of another value, and
-// one more would say that the caller's own lists are lent in it still (D122).
+// Kept: the lists one by one. `Writes` names each list before and after; `lists::Lists` has no codes, and in `lists::output::Output` each clause would name a
+// field of another value, and one more would say that the caller's own lists are lent in it still (D122).
 pub fn seh(
     functions: &[u64],
     codes: &[u64],
